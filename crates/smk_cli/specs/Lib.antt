@@ -1,0 +1,5 @@
+pub mod Words
+pub mod Form
+pub mod Recipe
+pub mod Faults
+pub mod Lines
