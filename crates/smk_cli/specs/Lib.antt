@@ -3,3 +3,4 @@ pub mod Form
 pub mod Recipe
 pub mod Faults
 pub mod Lines
+pub mod Job
