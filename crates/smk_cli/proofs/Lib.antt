@@ -1,2 +1,4 @@
 pub mod Apart
 pub mod Carried
+pub mod Looking
+pub mod Served

@@ -4,3 +4,7 @@ pub mod Recipe
 pub mod Faults
 pub mod Lines
 pub mod Job
+pub mod Sources
+pub mod Looks
+pub mod Runs
+pub mod Clauses

@@ -6,8 +6,8 @@ mod form;
 mod job;
 mod lines;
 mod recipe;
-mod top;
+mod run;
+mod sight;
 mod words;
 
 pub use fault::{Fault, Outcome};
-pub use top::smk;
