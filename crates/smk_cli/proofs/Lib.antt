@@ -1,2 +1,4 @@
 pub mod Apart
 pub mod Carried
+pub mod JobSteps
+pub mod JobStates
