@@ -1,9 +1,9 @@
 -- The user's paths and the engine's own places are apart.
 use Rattle.std.proofs.Common.{◌≡◌, ◌⊎◌, inl, inr, ℕ, ◌==◌, Bool, true, false, ◌&&◌, ◌||◌, List, [], ◌∷◌, ◌++◌, refl, ap, sym, subst, ◌∙◌, bytes_eq}
-use Rattle.std.specs.Prelude.{IsTrue, not}
+use Rattle.std.specs.Prelude.{IsTrue, not, nat_le, length}
 use Rattle.std.specs.List.{list_any}
 use Rattle.std.proofs.lemmas.Bool.{eqb-true, eq-eqb}
-use Rattle.smk_base.specs.Path.{is_under, is_at_or_under, own_folder, is_path}
+use Rattle.smk_base.specs.Path.{is_under, is_at_or_under, own_folder, is_path, are_parts, parts, are_path_bytes}
 use Rattle.smk_base.specs.Place.{mark_place, record_place}
 use Rattle.smk_base.proofs.Places.{same_place, place_itself, and_first, and_second}
 
@@ -17,10 +17,6 @@ never_true false h = refl
 
 pub not_both : (b : Bool) → b ≡ true → b ≡ false → ⊥
 not_both b t f = true_false (sym t ∙ f)
-
-pub is_true : (b : Bool) → IsTrue b → b ≡ true
-is_true true h = refl
-is_true false h = absurd h
 
 pub or_first : (a b : Bool) → a ≡ true → (a || b) ≡ true
 or_first a b h = ap (λ v. v || b) h
@@ -120,7 +116,9 @@ not_false true h = absurd (true_false (sym h))
 not_false false h = refl
 
 pub path_not_own : (p : List ℕ) → IsTrue (is_path p) → is_at_or_under p own_folder ≡ false
-path_not_own p h = not_false _ (and_second _ _ (and_second _ _ (and_second _ _ (is_true (is_path p) h))))
+path_not_own p h =
+    not_false (is_at_or_under p own_folder)
+    (and_second (are_parts (parts p)) _ (and_second (are_path_bytes p) _ (and_second (nat_le (length p) 1000) _ h)))
 
 -- what is at or under a user's path is not the engine's own
 pub at_path : (p q : List ℕ) → IsTrue (is_path p) → is_at_or_under q p ≡ true → is_at_or_under q own_folder ≡ false

@@ -8,10 +8,13 @@ use Rattle.smk_world.specs.declared.event.Child.{Child}
 use Rattle.smk_world.specs.declared.event.Event.{Event}
 use Rattle.smk_world.specs.declared.recipe.Recipe.{Recipe}
 use Rattle.smk_world.specs.World.{World, run, numbers}
-use Rattle.smk_world.specs.Calls.{Acted, Lets, Happened, failed, IsUnused, any_overlap, used_now}
+use Rattle.smk_world.specs.Calls.{Acted, Lets, Happened, failed, is_failed, IsUnused, any_overlap, used_now}
 use Rattle.smk_world.specs.Runs.{Follows, Did}
 use Rattle.smk_world.specs.Requests.{Request, request, HasDone, IsCutShort, Carries}
 use Rattle.smk_world.proofs.Runs.{did_nothing, did_more, did_both}
+
+true_false : true ≡ false → ⊥
+true_false e = cc
 
 pub is_ok_err : {T E : Type 0} (r : Result T E) → IsErr r → is_ok r ≡ false
 is_ok_err (Ok t) h = cc
@@ -49,24 +52,33 @@ pub done_nothing : (act : Recipe → List Tree → Acted) (o : Option World) →
 done_nothing act o = did_nothing act (λ w es. HasDone [] es) o (λ w. tt)
 
 -- one more call, which didn't fail
-pub done_next : (act : Recipe → List Tree → Acted) (rs : List Request) (a b c : Option World) (call : Call)
-    → Did act a b (λ w es. HasDone rs es) → Happened act b c call → failed call ≡ false → Did act a c (λ w es. HasDone (rs ++ request call ∷ []) es)
-done_next act rs a b c call before now quiet =
-    did_more act (λ w es. HasDone rs es) (λ w es. HasDone (rs ++ request call ∷ []) es) a b c call before now
-    (λ w es left follows done lets. done_append rs (request call ∷ []) es (record { call = call; left = left } ∷ []) done (refl, quiet, tt))
+pub done_next : (act : Recipe → List Tree → Acted) (rs : List Request) (r : Request) (a b c : Option World) (call : Call)
+    → Did act a b (λ w es. HasDone rs es) → Happened act b c call → request call ≡ r → failed call ≡ false → Did act a c (λ w es. HasDone (rs ++ r ∷ []) es)
+done_next act rs r a b c call before now is quiet =
+    did_more act (λ w es. HasDone rs es) (λ w es. HasDone (rs ++ r ∷ []) es) a b c call before now
+    (λ w es left follows done lets. done_append rs (r ∷ []) es (record { call = call; left = left } ∷ []) done (is, quiet, tt))
+
+cut_call : (act : Recipe → List Tree → Acted) (rs : List Request) (r : Request) (qs : List Request) (a b c : Option World) (call : Call)
+    → Did act a b (λ w es. HasDone rs es) → Happened act b c call → request call ≡ r → failed call ≡ true → Did act a c (λ w es. IsCutShort (rs ++ r ∷ qs) es)
+cut_call act rs r qs a b c call before now is bad =
+    did_more act (λ w es. HasDone rs es) (λ w es. IsCutShort (rs ++ r ∷ qs) es) a b c call before now
+    (λ w es left follows done lets. cut_append rs (r ∷ qs) es (record { call = call; left = left } ∷ []) done (is, bad))
 
 -- one more call, which failed
-pub cut_next : (act : Recipe → List Tree → Acted) (rs qs : List Request) (a b c : Option World) (call : Call)
-    → Did act a b (λ w es. HasDone rs es) → Happened act b c call → failed call ≡ true → Did act a c (λ w es. IsCutShort (rs ++ request call ∷ qs) es)
-cut_next act rs qs a b c call before now bad =
-    did_more act (λ w es. HasDone rs es) (λ w es. IsCutShort (rs ++ request call ∷ qs) es) a b c call before now
-    (λ w es left follows done lets. cut_append rs (request call ∷ qs) es (record { call = call; left = left } ∷ []) done (refl, bad))
+pub cut_next : (act : Recipe → List Tree → Acted) (rs : List Request) (r : Request) (qs : List Request) (a b c : Option World) (call : Call) (ok : Bool)
+    → ok ≡ false → Did act a b (λ w es. HasDone rs es) → Happened act b c call → request call ≡ r → failed call ≡ true → Did act a c (λ w es. Carries (rs ++ r ∷ qs) ok es)
+cut_next act rs r qs a b c call true never before now is bad = absurd (true_false never)
+cut_next act rs r qs a b c call false never before now is bad = cut_call act rs r qs a b c call before now is bad
 
 -- the last call
-pub carried_last : (act : Recipe → List Tree → Acted) (rs : List Request) (a b c : Option World) (call : Call) (ok : Bool)
-    → Did act a b (λ w es. HasDone rs es) → Happened act b c call → failed call ≡ not ok → Did act a c (λ w es. Carries (rs ++ request call ∷ []) ok es)
-carried_last act rs a b c call true before now is = done_next act rs a b c call before now is
-carried_last act rs a b c call false before now is = cut_next act rs [] a b c call before now is
+pub carried_last : (act : Recipe → List Tree → Acted) (rs : List Request) (r : Request) (a b c : Option World) (call : Call) (ok : Bool)
+    → Did act a b (λ w es. HasDone rs es) → Happened act b c call → request call ≡ r → failed call ≡ not ok → Did act a c (λ w es. Carries (rs ++ r ∷ []) ok es)
+carried_last act rs r a b c call true before now is same = done_next act rs r a b c call before now is same
+carried_last act rs r a b c call false before now is same = cut_call act rs r [] a b c call before now is same
+
+pub failed_as : {T E : Type 0} (r : Result T E) → is_failed r ≡ not (is_ok r)
+failed_as (Ok t) = refl
+failed_as (Err e) = refl
 
 pub did_as : (act : Recipe → List Tree → Acted) (P Q : World → List Event → Type 0) (a b : Option World) → Did act a b P → ((w : World) (es : List Event) → P w es → Q w es) → Did act a b Q
 did_as act P Q a b h more = λ w1 e. let d = h w1 e in (d.0, d.1, (d.2.0, d.2.1, more d.0 d.2.0 d.2.2, d.2.3))
@@ -79,9 +91,18 @@ carried_then act rs qs ok a b c before now =
     (λ w es fs follows done follows2 carried. carries_append rs qs ok es fs done carried)
 
 -- a function that was cut short
-pub carried_cut : (act : Recipe → List Tree → Acted) (rs qs : List Request) (a b : Option World)
-    → Did act a b (λ w es. IsCutShort rs es) → Did act a b (λ w es. IsCutShort (rs ++ qs) es)
-carried_cut act rs qs a b h = did_as act (λ w es. IsCutShort rs es) (λ w es. IsCutShort (rs ++ qs) es) a b h (λ w es cut. cut_longer rs qs es cut)
+pub carried_cut : (act : Recipe → List Tree → Acted) (rs qs : List Request) (a b : Option World) (ok : Bool)
+    → ok ≡ false → Did act a b (λ w es. IsCutShort rs es) → Did act a b (λ w es. Carries (rs ++ qs) ok es)
+carried_cut act rs qs a b true never h = absurd (true_false never)
+carried_cut act rs qs a b false never h = did_as act (λ w es. IsCutShort rs es) (λ w es. IsCutShort (rs ++ qs) es) a b h (λ w es cut. cut_longer rs qs es cut)
+
+-- a function that was cut short after another one
+pub carried_cut_after : (act : Recipe → List Tree → Acted) (rs qs ps : List Request) (a b c : Option World) (ok : Bool)
+    → ok ≡ false → Did act a b (λ w es. HasDone rs es) → Did act b c (λ w es. IsCutShort qs es) → Did act a c (λ w es. Carries (rs ++ (qs ++ ps)) ok es)
+carried_cut_after act rs qs ps a b c true never before now = absurd (true_false never)
+carried_cut_after act rs qs ps a b c false never before now =
+    did_both act (λ w es. HasDone rs es) (λ w es. IsCutShort qs es) (λ w es. IsCutShort (rs ++ (qs ++ ps)) es) a b c before now
+    (λ w es fs follows done follows2 cut. cut_append rs (qs ++ ps) es fs done (cut_longer qs ps fs cut))
 
 -- without running numbers there are no children
 pub no_children : (cs : List Child) → numbers cs ≡ [] → cs ≡ []

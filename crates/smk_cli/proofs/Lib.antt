@@ -2,3 +2,5 @@ pub mod Apart
 pub mod Carried
 pub mod Looking
 pub mod Served
+pub mod JobSteps
+pub mod JobStates

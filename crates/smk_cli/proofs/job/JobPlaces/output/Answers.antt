@@ -1,0 +1,2 @@
+use Rattle.smk_cli.proofs.JobStates.{IsIdle}
+use Rattle.smk_cli.proofs.job.JobPlaces.output.Goals as goal
