@@ -18,6 +18,6 @@ pub returns-clause-did : goal.returns-clause-did
 returns-clause-did g c =
     let files = g.W.Files in
     let t = c.in_ok-look.field-0 in
-    seen_map files.act false (λ nodes. IsSight nodes c.in_ok-place.field-0 c.in_ok-record_place.field-0 c.in_ok-mark.field-0 c.in_ok-note.field-0 t) (λ nodes. t ≡ sight_of nodes c.args.path.now) _ _
-    (seen_well files.act c.look.result t (λ nodes sight. IsSight nodes c.in_ok-place.field-0 c.in_ok-record_place.field-0 c.in_ok-mark.field-0 c.in_ok-note.field-0 sight) _ _ c.in_ok-look.was c.look.ensures.did)
+    seen_map files.act false (λ nodes. IsSight nodes c.in_ok-place.place c.in_ok-record_place.record_place c.in_ok-mark.mark c.in_ok-note.note t) (λ nodes. t ≡ sight_of nodes c.args.path.now) _ _
+    (seen_well files.act c.look.result t (λ nodes sight. IsSight nodes c.in_ok-place.place c.in_ok-record_place.record_place c.in_ok-mark.mark c.in_ok-note.note sight) _ _ c.in_ok-look.was c.look.ensures.did)
     (λ nodes h. at_places nodes c.args.path.now _ _ _ _ t c.in_ok-place.ensures c.in_ok-record_place.ensures c.in_ok-mark.ensures c.in_ok-note.ensures h)

@@ -17,6 +17,6 @@ returns-clause-did g c =
     let files = g.W.Files in
     let p = c.args.place.now in
     let idle : IsEntry (files.world c.args.work.now) = λ w told. idle_of w _ (g.met.W.Files.same_numbers c.args.work.now w told) (g.met.W.Files.owned c.args.work.now w told) c.requires.none_runs in
-    seen_map files.act false (λ nodes. c.in_ok-stat.field-0 ≡ stat_of (at nodes p)) _ _ _
-    (seen_well files.act c.stat.result c.in_ok-stat.field-0 (λ nodes stat. stat ≡ stat_of (at nodes p)) _ _ c.in_ok-stat.was (seen_stat files.act _ _ p c.stat.result idle c.stat.ensures.world))
+    seen_map files.act false (λ nodes. c.in_ok-stat.stat ≡ stat_of (at nodes p)) _ _ _
+    (seen_well files.act c.stat.result c.in_ok-stat.stat (λ nodes stat. stat ≡ stat_of (at nodes p)) _ _ c.in_ok-stat.was (seen_stat files.act _ _ p c.stat.result idle c.stat.ensures.world))
     (λ nodes is. ?)
