@@ -334,7 +334,7 @@ ended_event ended left = record { call = Waited (Ok ended); left = left }
 
 -- What an answered wait says of the one child that runs, and of its output.
 pub record HasEnded (act : Recipe → List Tree → Acted) (p q : List ℕ) (recipe : Recipe) (number : ℕ) (ended : Ended) (before now : World) : Type 0 where
-  pub number : ended.number ≡ number
+  pub numbered : ended.number ≡ number
   pub children : now.children ≡ []
   pub outside : (x : List ℕ) → is_at_or_under x p ≡ false → now.nodes x ≡ before.nodes x
   pub contents : (bytes : List ℕ) → HoldsBytes bytes (before.nodes q) → ContentsAre before recipe (File bytes ∷ [])
@@ -366,7 +366,7 @@ has_ended act p q recipe number w ended left runs makes takes lets =
     let owned : owned_by ended.number w.children ≡ p ∷ [] =
         ap (owned_by ended.number) runs ∙ ap (λ b. owned_of (if b then Some child else None)) one.0 ∙ ap (λ l. l ++ []) makes in
     record {
-      number = sym (eqb-true number ended.number one.0);
+      numbered = sym (eqb-true number ended.number one.0);
       children = ap (λ cs. filter (λ c. not (nat_eq c.number ended.number)) cs) runs ∙ ap (λ b. if not b then child ∷ [] else []) one.0;
       outside = λ x off.
           ap (λ b. if b then Known (standing left x) Anything else w.nodes x)

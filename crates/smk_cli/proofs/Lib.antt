@@ -1,4 +1,5 @@
 pub mod Apart
+pub mod Begun
 pub mod Carried
-pub mod JobSteps
 pub mod JobStates
+pub mod JobSteps
