@@ -1,4 +1,4 @@
-use Rattle.std.proofs.Common.{◌≡◌, ℕ, true, false, [], ◌∷◌, ◌++◌, ap, ◌∙◌, refl, sym, subst, List}
+use Rattle.std.proofs.Common.{true, false, [], ◌∷◌, ◌++◌, ◌∙◌, refl, subst}
 use Rattle.std.specs.Prelude.{IsTrue}
 use Rattle.smk_base.specs.Path.{is_path}
 use Rattle.smk_world.specs.Requests.Request.{Start}
