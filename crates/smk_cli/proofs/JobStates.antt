@@ -1,34 +1,31 @@
 -- What the calls of one job leave.
-use Rattle.std.proofs.Common.{◌≡◌, ℕ, Bool, true, false, ◌||◌, List, [], ◌∷◌, ◌++◌, refl, ap, sym, subst, ◌∙◌, Option, Some, None, Result, Ok, Err, map, All, append_assoc}
+use Rattle.std.proofs.Common.{◌≡◌, ℕ, Bool, true, false, List, [], ◌∷◌, ◌++◌, refl, ap, sym, subst, ◌∙◌, Option, Some, None, Ok, All, append_assoc}
 use Rattle.std.specs.Prelude.{if◌then◌else◌, not, IsTrue, nat_eq, bytes_eq, slice_index_or}
 use Rattle.std.specs.List.{filter, AllZip}
-use Rattle.std.proofs.lemmas.Bool.{eqb-true, eq-eqb}
+use Rattle.std.proofs.lemmas.Bool.{eqb-true}
 use Rattle.std.proofs.lemmas.List.{append-nil}
 use Rattle.std.proofs.lemmas.List.Elements.{All-nil, All-cons, All-head, All-tail}
 use Rattle.smk_base.specs.Path.{is_path, is_under, is_at_or_under, own_folder}
 use Rattle.smk_base.specs.Place.{mark_place, record_place}
-use Rattle.smk_base.proofs.Places.{same_place, place_itself}
 use Rattle.smk_base.specs.declared.tree.Tree.{Tree}
 use Rattle.smk_base.specs.declared.tree.Tree.TheVariants.{File, Folder}
-use Rattle.smk_world.specs.declared.event.Node.{Node}
 use Rattle.smk_world.specs.declared.event.Node.TheVariants.{Regular, Directory}
 use Rattle.smk_world.specs.declared.event.Besides.TheVariants.{Anything}
 use Rattle.smk_world.specs.declared.event.NodeState.{NodeState}
 use Rattle.smk_world.specs.declared.event.NodeState.TheVariants.{Owned, Known}
-use Rattle.smk_world.specs.declared.event.Call.TheVariants.{Started, Waited}
+use Rattle.smk_world.specs.declared.event.Call.TheVariants.{Waited}
 use Rattle.smk_world.specs.declared.event.Change.{Change}
 use Rattle.smk_world.specs.declared.event.Child.{Child}
 use Rattle.smk_world.specs.declared.event.Ended.{Ended}
 use Rattle.smk_world.specs.declared.event.Event.{Event}
-use Rattle.smk_world.specs.declared.event.Failed.{Failed}
 use Rattle.smk_world.specs.declared.recipe.Recipe.{Recipe}
-use Rattle.smk_world.specs.World.{World, after, run, is_within, is_above, out_paths, in_paths, owned_paths, owned_by, owned_of, child_numbered, standing, firm, firmly, node_after}
+use Rattle.smk_world.specs.World.{World, after, run, is_within, out_paths, in_paths, owned_paths, owned_by, owned_of, child_numbered, standing, firm, firmly}
 use Rattle.smk_world.specs.Calls.{Acted, Lets, Reads, Stands, HoldsBytes, TreeAt, MaybeTreeAt, HasOwners, owned_now, used_now, any_overlap, are_apart, IsFirmlyMarked, MayStart, ContentsAre, OutputsAre, started_number, started_numbers, failed}
 use Rattle.smk_world.specs.Runs.{Follows}
 use Rattle.smk_world.specs.Requests.{Request, AreQuiet, HasDone, IsCutShort, Carries}
-use Rattle.smk_world.specs.Requests.Request.{Write, Create, Remove, MakeParents, Settle, Start}
-use Rattle.smk_cli.specs.Job.{mark_requests, clear_requests, begin_requests, record_requests, unmark_requests, finish_requests, drop_requests, abandon_requests}
-use Rattle.smk_cli.proofs.Apart.{never_true, not_both, or_first, or_second, or_none, or_cases, at_over, under_at, same_at, at_itself, has_slash, flat_under, IsOwn, mark_own, record_own, path_not_own, at_path, above_path, above_own}
+use Rattle.smk_world.specs.Requests.Request.{Remove, Settle, Start}
+use Rattle.smk_cli.specs.Job.{mark_requests, clear_requests, begin_requests, record_requests, unmark_requests, finish_requests, abandon_requests}
+use Rattle.smk_cli.proofs.Apart.{never_true, not_both, or_first, or_second, or_none, at_over, same_at, at_itself, has_slash, flat_under, IsOwn, mark_own, record_own, at_path, above_path, above_own}
 use Rattle.smk_cli.proofs.JobSteps.{touches, KeepsOff, kept_at, Stepped, Reaches, done_reaches, step_keeps, IsKnown, step_known, AreFiles, reached_children, start_by, number_none, children_by, is_start, is_wait, numbers_none, removed, settled_firm, written, created, firmly_none, firmly_some, firmly_file}
 
 -- no child runs
@@ -334,7 +331,7 @@ ended_event ended left = record { call = Waited (Ok ended); left = left }
 
 -- What an answered wait says of the one child that runs, and of its output.
 pub record HasEnded (act : Recipe → List Tree → Acted) (p q : List ℕ) (recipe : Recipe) (number : ℕ) (ended : Ended) (before now : World) : Type 0 where
-  pub number : ended.number ≡ number
+  pub numbered : ended.number ≡ number
   pub children : now.children ≡ []
   pub outside : (x : List ℕ) → is_at_or_under x p ≡ false → now.nodes x ≡ before.nodes x
   pub contents : (bytes : List ℕ) → HoldsBytes bytes (before.nodes q) → ContentsAre before recipe (File bytes ∷ [])
@@ -366,7 +363,7 @@ has_ended act p q recipe number w ended left runs makes takes lets =
     let owned : owned_by ended.number w.children ≡ p ∷ [] =
         ap (owned_by ended.number) runs ∙ ap (λ b. owned_of (if b then Some child else None)) one.0 ∙ ap (λ l. l ++ []) makes in
     record {
-      number = sym (eqb-true number ended.number one.0);
+      numbered = sym (eqb-true number ended.number one.0);
       children = ap (λ cs. filter (λ c. not (nat_eq c.number ended.number)) cs) runs ∙ ap (λ b. if not b then child ∷ [] else []) one.0;
       outside = λ x off.
           ap (λ b. if b then Known (standing left x) Anything else w.nodes x)

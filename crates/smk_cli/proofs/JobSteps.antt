@@ -1,13 +1,11 @@
 -- What one call, and a list of calls, makes of a node and of the children.
-use Rattle.std.proofs.Common.{◌≡◌, ◌⊎◌, inl, inr, ℕ, Bool, true, false, ◌&&◌, ◌||◌, List, [], ◌∷◌, ◌++◌, refl, ap, sym, subst, ◌∙◌, Option, Some, None, Result, Ok, Err, bytes_eq}
+use Rattle.std.proofs.Common.{◌≡◌, ℕ, Bool, true, false, ◌&&◌, ◌||◌, List, [], ◌∷◌, ◌++◌, refl, ap, sym, subst, ◌∙◌, Option, Some, None, Ok, Err, bytes_eq}
 use Rattle.std.specs.Prelude.{if◌then◌else◌, is_some}
-use Rattle.std.proofs.lemmas.List.{append-nil}
 use Rattle.smk_base.specs.Path.{is_under, is_at_or_under}
 use Rattle.smk_base.proofs.Places.{place_itself}
 use Rattle.smk_base.specs.declared.tree.Tree.{Tree}
 use Rattle.smk_world.specs.declared.event.Node.{Node}
 use Rattle.smk_world.specs.declared.event.Node.TheVariants.{Regular, Directory}
-use Rattle.smk_world.specs.declared.event.Besides.{Besides}
 use Rattle.smk_world.specs.declared.event.NodeState.{NodeState}
 use Rattle.smk_world.specs.declared.event.NodeState.TheVariants.{Owned, Known}
 use Rattle.smk_world.specs.declared.event.Call.{Call}
@@ -16,12 +14,12 @@ use Rattle.smk_world.specs.declared.event.Change.{Change}
 use Rattle.smk_world.specs.declared.event.Child.{Child}
 use Rattle.smk_world.specs.declared.event.Event.{Event}
 use Rattle.smk_world.specs.declared.recipe.Recipe.{Recipe}
-use Rattle.smk_world.specs.World.{World, after, run, node_after, children_after, is_within, is_above, owned_paths, standing, settled, firm, firmly, loose, going, with_folder, with_flag, reads_folder, reads_nothing}
+use Rattle.smk_world.specs.World.{World, after, run, node_after, children_after, is_within, is_above, owned_paths, standing, firm, firmly, loose, going, with_folder, with_flag, reads_folder, reads_nothing}
 use Rattle.smk_world.specs.Calls.{Acted, Lets, Reads, Stands, HoldsBytes, failed, started_number, started_numbers}
 use Rattle.smk_world.specs.Runs.{Follows}
-use Rattle.smk_world.specs.Requests.{Request, request, HasDone, IsCutShort, Carries}
+use Rattle.smk_world.specs.Requests.{Request, request, HasDone, Carries}
 use Rattle.smk_world.specs.Requests.Request.{Look, ReadUpTo, ListFolder, Write, Create, Remove, MakeParents, Settle, Protect, Start, Wait}
-use Rattle.smk_cli.proofs.Apart.{true_false, never_true, not_both, or_none, or_first}
+use Rattle.smk_cli.proofs.Apart.{true_false, or_first}
 
 -- ## Where a call may change a node
 
