@@ -6,3 +6,6 @@ pub mod Served
 pub mod JobSteps
 pub mod JobStates
 pub mod JobSteps
+pub mod Texts
+pub mod Fields
+pub mod Files

@@ -3,6 +3,8 @@ use Rattle.std.specs.Prelude.{◌≡◌, ℕ, zero, suc, Bool, true, false, ◌&
 use Rattle.std.specs.Str.{is_utf8}
 use Rattle.smk_base.specs.Path.{is_path}
 use Rattle.smk_cli.specs.declared.form.OneRule.{OneRule}
+use Rattle.smk_cli.specs.declared.form.Field.{Field}
+use Rattle.smk_cli.specs.declared.form.Field.TheVariants.{Nothing, Input, Output}
 
 -- ## What may stand in the lines
 
@@ -36,31 +38,26 @@ is_plain_path text = is_path text && are_plain_bytes text
 
 -- ## Commands
 
--- what begins at a place of a command
-pub data Field : Type 0 where
-  NoField : Field
-  InputField : Field
-  OutputField : Field
-
 abbrev pub begins_with : List ℕ → List ℕ → Bool
 begins_with [] text = true
 begins_with (f ∷ front) [] = false
-begins_with (f ∷ front) (b ∷ text) = f == b && begins_with front text
+begins_with (f ∷ front) (b ∷ text) = b == f && begins_with front text
 
+-- what begins at a place of a command
 abbrev pub field_at : List ℕ → Field
-field_at text = if begins_with (codes "{input}") text then InputField else (if begins_with (codes "{output}") text then OutputField else NoField)
+field_at text = if begins_with (codes "{input}") text then Input else (if begins_with (codes "{output}") text then Output else Nothing)
 
 -- how many bytes a field has after its first
 abbrev pub more_of : Field → ℕ
-more_of NoField = 0
-more_of InputField = 6
-more_of OutputField = 7
+more_of Nothing = 0
+more_of Input = 6
+more_of Output = 7
 
 -- printable ASCII other than `"` and `\`, and a brace only where a field begins
 abbrev pub may_stand : Field → ℕ → Bool
-may_stand NoField b = is_within 32 126 b && (not (b == 34) && (not (b == 92) && (not (b == 123) && not (b == 125))))
-may_stand InputField b = true
-may_stand OutputField b = true
+may_stand Nothing b = is_within 32 126 b && (not (b == 34) && (not (b == 92) && (not (b == 123) && not (b == 125))))
+may_stand Input b = true
+may_stand Output b = true
 
 -- the bytes after the first so many may stand in a command
 abbrev pub is_command_after : ℕ → List ℕ → Bool
@@ -84,12 +81,18 @@ abbrev pub after_line : List ℕ → List ℕ
 after_line [] = []
 after_line (b ∷ text) = if b == 10 then text else after_line text
 
-abbrev pub has_ends : List ℕ → List ℕ → List ℕ → Bool
-has_ends front back line = nat_le (length front + length back) (length line) && (bytes_eq (take (length front) line) front && bytes_eq (drop (length line - length back) line) back)
+-- what follows the front
+abbrev pub after_front : List ℕ → List ℕ → Option (List ℕ)
+after_front front line = if bytes_eq (take (length front) line) front then Some (drop (length front) line) else None
+
+-- what stands before the end
+abbrev pub before_back : List ℕ → Option (List ℕ) → Option (List ℕ)
+before_back back None = None
+before_back back (Some text) = if bytes_eq (drop (length text - length back) text) back then Some (take (length text - length back) text) else None
 
 -- the text between the front and the end of a line that has both
 abbrev pub inner : List ℕ → List ℕ → List ℕ → Option (List ℕ)
-inner front back line = if has_ends front back line then Some (take (length line - (length front + length back)) (drop (length front) line)) else None
+inner front back line = before_back back (after_front front line)
 
 abbrev pub allowed : (List ℕ → Bool) → Option (List ℕ) → Option (List ℕ)
 allowed is_good None = None

@@ -1,10 +1,12 @@
 -- What a rule of one input and one output runs, and the record of its job.
-use Rattle.std.specs.Prelude.{ℕ, zero, suc, List, [], ◌∷◌, ◌++◌, length, codes}
+use Rattle.std.specs.Prelude.{ℕ, zero, suc, List, [], ◌∷◌, ◌++◌, length, codes, ◌==◌, if◌then◌else◌}
 use Rattle.std.specs.Fmt.{decimal}
 use Rattle.smk_world.specs.declared.recipe.Recipe.{Recipe}
 use Rattle.smk_world.specs.declared.recipe.Kind.TheVariants.{Plain}
 use Rattle.smk_cli.specs.declared.form.OneRule.{OneRule}
-use Rattle.smk_cli.specs.Form.{Field, NoField, InputField, OutputField, field_at, more_of}
+use Rattle.smk_cli.specs.declared.form.Field.{Field}
+use Rattle.smk_cli.specs.declared.form.Field.TheVariants.{Nothing, Input, Output}
+use Rattle.smk_cli.specs.Form.{field_at, more_of}
 
 abbrev pub recipe_of : OneRule → Recipe
 recipe_of rule = record {
@@ -17,11 +19,16 @@ recipe_of rule = record {
 
 -- ## The command
 
+-- how many bytes stand before the first `{`
+abbrev pub first_brace : List ℕ → ℕ
+first_brace [] = 0
+first_brace (b ∷ text) = if b == 123 then 0 else suc (first_brace text)
+
 -- what a field stands for; where none begins, the byte stands for itself
 abbrev pub value_of : List ℕ → List ℕ → ℕ → Field → List ℕ
-value_of input output b NoField = b ∷ []
-value_of input output b InputField = input
-value_of input output b OutputField = output
+value_of input output b Nothing = b ∷ []
+value_of input output b Input = input
+value_of input output b Output = output
 
 -- the template after the first so many bytes, with its fields replaced
 abbrev pub filled_after : List ℕ → List ℕ → ℕ → List ℕ → List ℕ

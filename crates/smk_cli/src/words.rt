@@ -1,8 +1,8 @@
 //! The words of the command line.
 ghost use Rattle.std.specs.Prelude.{◌≡◌, IfOk, IsErrOf, Some, None, map, string_bytes};
-ghost use Rattle.smk_cli.specs.Words.{asked};
+ghost use Rattle.smk_cli.specs.Words.{asked, has_slash, begins_with_dash};
 
-use smk_base::PathText;
+use smk_base::{PathFault, PathText};
 use std::alloc::Global;
 
 #[derive(Clone, Copy, Debug, PartialEq, Eq)]
@@ -11,11 +11,41 @@ pub(crate) enum WordsFault {
     OutOfMemory,
 }
 
+fn has_slash(word: &[u8]) -> bool
+    ensures { result ≡ has_slash word.now }
+{
+    for b in word {
+        if *b == b'/' {
+            return true;
+        }
+    }
+    false
+}
+
+fn begins_with_dash(word: &[u8]) -> bool
+    ensures { result ≡ begins_with_dash word.now }
+{
+    matches!(word, [b'-', ..])
+}
+
 /// The path that the words ask for.
 /// BadWords: they aren't `--cores`, `1` and a path without folders that doesn't begin with a dash.
 pub(crate) fn target(alloc: Global, words: &[String]) -> Result<PathText, WordsFault>
     ensures ok { IfOk result (λ path. asked (map string_bytes words.now) ≡ Some path) }
     ensures bad_words { IsErrOf result WordsFault.BadWords → asked (map string_bytes words.now) ≡ None }
 {
-    Err(WordsFault::OutOfMemory)
+    let [option, count, word] = words else {
+        return Err(WordsFault::BadWords);
+    };
+    if option.as_str() != "--cores" || count.as_str() != "1" {
+        return Err(WordsFault::BadWords);
+    }
+    if has_slash(word.as_bytes()) || begins_with_dash(word.as_bytes()) {
+        return Err(WordsFault::BadWords);
+    }
+    match PathText::read(alloc, word.as_str()) {
+        Ok(path) => Ok(path),
+        Err(PathFault::BadPath) => Err(WordsFault::BadWords),
+        Err(PathFault::OutOfMemory) => Err(WordsFault::OutOfMemory),
+    }
 }
