@@ -9,3 +9,4 @@ pub mod JobSteps
 pub mod Texts
 pub mod Fields
 pub mod Files
+pub mod Choice

@@ -1,6 +1,6 @@
 -- Looks one after another.
 use Rattle.std.proofs.Common.{◌≡◌, ◌⊎◌, ℕ, Bool, true, false, List, [], ◌∷◌, ◌++◌, refl, ap, sym, subst, ◌∙◌, inl, inr, Option, Some, None, Result, Ok, Err, map}
-use Rattle.std.specs.Prelude.{is_some, IfOk, IsErr, not}
+use Rattle.std.specs.Prelude.{is_some, IfOk, IsErr}
 use Rattle.smk_base.specs.declared.tree.Tree.{Tree}
 use Rattle.smk_world.specs.declared.event.Call.{Call}
 use Rattle.smk_world.specs.declared.event.Call.TheVariants.{Looked, ReadFile, ReadFolder, Written, Created, Removed, MadeParents, Settled, Protected, Started, Waited}
@@ -16,27 +16,25 @@ use Rattle.smk_world.specs.declared.event.Node.TheVariants.{Regular, Directory}
 use Rattle.smk_world.specs.declared.event.NodeState.{NodeState}
 use Rattle.smk_world.specs.declared.event.NodeState.TheVariants.{Owned, Known}
 use Rattle.smk_world.specs.declared.event.Stat.{Stat}
-use Rattle.smk_world.specs.declared.event.Stat.TheVariants.{Nothing as NoStat, File as FileStat, Folder as FolderStat}
 use Rattle.smk_world.specs.declared.recipe.Recipe.{Recipe}
 use Rattle.smk_world.specs.World.{World, after, run, numbers, node_after, children_after, is_within, reading}
 use Rattle.smk_world.specs.Calls.{Acted, Lets, Happened, HasOwners, failed, is_failed, stat_of, found_of, owned_now, StatIs, FoundIs}
 use Rattle.smk_world.specs.Runs.{Follows, Did}
 use Rattle.smk_world.proofs.Runs.{run_append, did_both}
-use Rattle.smk_cli.specs.Sources.{at}
+use Rattle.smk_cli.specs.declared.form.OneRule.{OneRule}
+use Rattle.smk_cli.specs.Sources.{at, file_name, reading_of, workflow_at}
 use Rattle.smk_cli.specs.declared.fault.Fault.{Fault}
-use Rattle.smk_cli.specs.Looks.{is_look, EachCall, HasCall, AreQuiet, HasFailure, HasSeen, device_failed}
+use Rattle.smk_cli.specs.Looks.{is_look, EachCall, HasCall, AreQuiet, HasFailure, HasSeen, device_failed, IsRead, is_there}
 use Rattle.smk_cli.proofs.Apart.{true_false}
 use Rattle.smk_cli.proofs.Carried.{no_children}
-
--- no child runs, and so none owns a place
-pub record IsIdle (w : World) : Type 0 where
-  pub none_run : w.children ≡ []
-  pub known : (q : List ℕ) → w.nodes q ≡ Owned → ⊥
+use Rattle.smk_cli.proofs.JobStates.{IsIdle}
 
 pub idle_of : (w : World) (running : List ℕ) → numbers w.children ≡ running → HasOwners w → running ≡ [] → IsIdle w
-idle_of w running same owned none =
-    let alone : w.children ≡ [] = no_children w.children (same ∙ none) in
-    record { none_run = alone; known = λ q h. true_false (sym (owned q h) ∙ ap (λ cs. is_within q (owned_now cs)) alone) }
+idle_of w running same owned none = record { none_run = no_children w.children (same ∙ none); owners = owned }
+
+-- where no child runs none owns a place
+pub idle_known : (w : World) → IsIdle w → (q : List ℕ) → w.nodes q ≡ Owned → ⊥
+idle_known w idle q h = true_false (sym (idle.owners q h) ∙ ap (λ cs. is_within q (owned_now cs)) idle.none_run)
 
 -- the world of an entry at which no child runs
 abbrev pub IsEntry : Option World → Type 0
@@ -96,7 +94,7 @@ looks_children w (e ∷ es) h = looks_children (after w e) es h.1 ∙ look_child
 pub looks_idle : (w : World) (es : List Event) → EachCall (λ call. is_look call ≡ true) es → IsIdle w → IsIdle (run w es)
 looks_idle w es h idle = record {
   none_run = looks_children w es h ∙ idle.none_run;
-  known = λ q o. idle.known q (subst (λ (n : List ℕ → NodeState). n q ≡ Owned) (looks_nodes w es h) o);
+  owners = λ q o. subst (λ cs. is_within q (owned_now cs) ≡ true) (sym (looks_children w es h)) (idle.owners q (subst (λ (n : List ℕ → NodeState). n q ≡ Owned) (looks_nodes w es h) o));
 }
 
 -- ## Runs
@@ -160,7 +158,7 @@ seen_stat act a b p (Ok stat) idle now = did_one act (HasSeen false (λ nodes. s
       looks = (refl, tt);
       quiet = λ h. (refl, tt);
       failure = λ h. absurd (true_false (sym h));
-      seen = stat_at (w.nodes p) stat ((idle w e).known p) lets.1;
+      seen = stat_at (w.nodes p) stat (idle_known w (idle w e) p) lets.1;
     })
 seen_stat act a b p (Err f) idle now = did_one act (HasSeen true (λ nodes. Unit {0})) a b (Looked p (Err f)) now
     (λ w left e lets. record {
@@ -182,7 +180,7 @@ seen_file act a b p limit (Ok found) idle now = did_one act (HasSeen false (λ n
       looks = (refl, tt);
       quiet = λ h. (refl, tt);
       failure = λ h. absurd (true_false (sym h));
-      seen = found_at (w.nodes p) limit found ((idle w e).known p) lets.1;
+      seen = found_at (w.nodes p) limit found (idle_known w (idle w e) p) lets.1;
     })
 seen_file act a b p limit (Err FailedFault) idle now = did_one act (HasSeen true (λ nodes. Unit {0})) a b (ReadFile p limit (Err FailedFault)) now
     (λ w left e lets. record {
@@ -210,15 +208,10 @@ pub seen_well : (act : Recipe → List Tree → Acted) {A : Type 0} (r : Result 
     → r ≡ Ok t → Did act a b (HasSeen (is_failed r) (λ nodes. IfOk r (G nodes))) → Did act a b (HasSeen false (λ nodes. G nodes t))
 seen_well act r t G a b is did = subst (λ s. Did act a b (HasSeen (is_failed s) (λ nodes. IfOk s (G nodes)))) is did
 
-abbrev pub is_nothing : Stat → Bool
-is_nothing NoStat = true
-is_nothing (FileStat time read_only) = false
-is_nothing FolderStat = false
-
-pub there_is : (s : Stat) (n : Option Node) (there : Bool) → s ≡ stat_of n → there ≡ not (is_nothing s) → there ≡ is_some n
-there_is s None there is test = test ∙ ap (λ v. not (is_nothing v)) is
-there_is s (Some (Regular bytes time read_only)) there is test = test ∙ ap (λ v. not (is_nothing v)) is
-there_is s (Some Directory) there is test = test ∙ ap (λ v. not (is_nothing v)) is
+pub there_is : (n : Option Node) → is_there (stat_of n) ≡ is_some n
+there_is None = refl
+there_is (Some (Regular bytes time read_only)) = refl
+there_is (Some Directory) = refl
 
 -- ## One look after others
 
@@ -242,3 +235,27 @@ pub fault_then_well : (act : Recipe → List Tree → Acted) {A : Type 0} (r : R
     → r ≡ Ok t → Did act a b (HasSeen false F) → Did act b c (HasSeen (device_failed r) (λ nodes. G nodes r)) → Did act a c (HasSeen false (λ nodes. F nodes × G nodes (Ok t)))
 fault_then_well act r t F G a b c is first second =
     seen_both act false F (λ nodes. G nodes (Ok t)) (λ nodes. F nodes × G nodes (Ok t)) a b c first (subst (λ s. Did act b c (HasSeen (device_failed s) (λ nodes. G nodes s))) is second) (λ nodes f h. (f, h))
+
+-- ## What the workflow file says
+
+pub workflow_read : (act : Recipe → List Tree → Acted) (a b : Option World) (p : List ℕ) (found : Found) (result : Result OneRule Fault)
+    → p ≡ file_name → IsRead (reading_of found) result → device_failed result ≡ false → IsEntry a → Happened act a b (ReadFile p 1048576 (Ok found))
+    → Did act a b (HasSeen (device_failed result) (λ nodes. IsRead (workflow_at nodes) result))
+workflow_read act a b p found result is read well idle now =
+    seen_as act false (device_failed result) (λ nodes. found ≡ found_of 1048576 (at nodes p)) (λ nodes. IsRead (workflow_at nodes) result) a b (sym well)
+    (seen_file act a b p 1048576 (Ok found) idle now)
+    (λ nodes h. subst (λ f. IsRead (reading_of f) result) (h ∙ ap (λ q. found_of 1048576 (at nodes q)) is) read)
+
+pub workflow_failed : (act : Recipe → List Tree → Acted) (a b : Option World) (p : List ℕ) (e : WorkFault)
+    → e ≡ FailedFault → IsEntry a → Happened act a b (ReadFile p 1048576 (Err e))
+    → Did act a b (HasSeen true (λ nodes. Unit {0}))
+workflow_failed act a b p e is idle now = seen_as act (read_fails (Err e)) true (λ nodes. Unit {0}) (λ nodes. Unit {0}) a b (ap (λ f. read_fails (Err f)) is) (seen_file act a b p 1048576 (Err e) idle now) (λ nodes h. tt)
+
+pub workflow_unread : (act : Recipe → List Tree → Acted) (a b : Option World) (p : List ℕ) (e : WorkFault)
+    → e ≡ MemoryFault → IsEntry a → Happened act a b (ReadFile p 1048576 (Err e))
+    → Did act a b (HasSeen false (λ nodes. Unit {0}))
+workflow_unread act a b p e is idle now = seen_as act (read_fails (Err e)) false (λ nodes. Unit {0}) (λ nodes. Unit {0}) a b (ap (λ f. read_fails (Err f)) is) (seen_file act a b p 1048576 (Err e) idle now) (λ nodes h. tt)
+
+pub seen_well_fault : (act : Recipe → List Tree → Acted) {A : Type 0} (r : Result A Fault) (t : A) (G : (List ℕ → NodeState) → Result A Fault → Type 0) (a b : Option World)
+    → r ≡ Ok t → Did act a b (HasSeen (device_failed r) (λ nodes. G nodes r)) → Did act a b (HasSeen false (λ nodes. G nodes (Ok t)))
+seen_well_fault act r t G a b is did = subst (λ s. Did act a b (HasSeen (device_failed s) (λ nodes. G nodes s))) is did

@@ -89,6 +89,11 @@ is_of_looks OutOfMemory = true
 abbrev pub sight_of : (List ℕ → NodeState) → List ℕ → Sight
 sight_of nodes p = record { stat = stat_of (at nodes p); known = is_known nodes p }
 
+abbrev pub is_there : Stat → Bool
+is_there Nothing = false
+is_there (File time read_only) = true
+is_there Folder = true
+
 abbrev pub is_file_seen : Stat → Bool
 is_file_seen Nothing = false
 is_file_seen (File time read_only) = true

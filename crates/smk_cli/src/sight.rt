@@ -3,8 +3,8 @@ ghost use Rattle.std.specs.Prelude.{◌≡◌, ◌&&◌, ◌||◌, not, [], ℕ,
 ghost use Rattle.smk_world.specs.Calls.{HasCause, is_failed};
 ghost use Rattle.smk_world.specs.Runs.{Did};
 ghost use Rattle.smk_cli.specs.Form.{reading};
-ghost use Rattle.smk_cli.specs.Sources.{at, file_name, workflow_at};
-ghost use Rattle.smk_cli.specs.Looks.{HasSeen, device_failed, is_of_look, is_of_looks, sight_of, is_folder_seen, is_file_seen, file_time, IsRead, IsFlat, IsChosen, IsSight, IsUnexpected, admitted_time};
+ghost use Rattle.smk_cli.specs.Sources.{at, file_name, reading_of, workflow_at};
+ghost use Rattle.smk_cli.specs.Looks.{HasSeen, device_failed, is_of_look, is_of_looks, sight_of, is_there, is_folder_seen, is_file_seen, IsRead, IsFlat, IsChosen, IsSight, IsUnexpected, admitted_time};
 
 use crate::fault::Fault;
 use crate::form::{FormFault, OneRule, read_form};
@@ -57,6 +57,12 @@ pub(crate) struct Chosen {
     pub time: u64,
 }
 
+fn is_there(stat: Stat) -> bool
+    ensures { result ≡ is_there stat }
+{
+    !matches!(stat, Stat::Nothing)
+}
+
 /// Whether something stands at the place.
 fn stands<W: Files>(work: &mut W, place: &Place) -> Result<bool, Failed>
     requires none_runs { W.running work.old ≡ [] }
@@ -67,7 +73,7 @@ fn stands<W: Files>(work: &mut W, place: &Place) -> Result<bool, Failed>
     ensures running { W.running work.new ≡ W.running work.old }
 {
     let stat = work.stat(place)?;
-    Ok(stat != Stat::Nothing)
+    Ok(is_there(stat))
 }
 
 /// Looks at the places of one path.
@@ -130,7 +136,7 @@ fn unexpected(alloc: Global, line: u64) -> Fault
 }
 
 /// The rule that the bytes say.
-fn rule_in(alloc: Global, file: &[u8]) -> Result<OneRule, Fault>
+fn rule_of(alloc: Global, file: &[u8]) -> Result<OneRule, Fault>
     ensures read { IsRead (reading file.now) result }
     ensures no_device { device_failed result ≡ false }
     ensures faults { IfErr result (λ fault. IsTrue (is_of_looks fault)) }
@@ -140,6 +146,20 @@ fn rule_in(alloc: Global, file: &[u8]) -> Result<OneRule, Fault>
         Ok(rule) => Ok(rule),
         Err(FormFault::Unexpected(line)) => Err(unexpected(alloc, line)),
         Err(FormFault::OutOfMemory) => Err(Fault::OutOfMemory),
+    }
+}
+
+/// The rule that was found.
+fn rule_in(alloc: Global, found: Found) -> Result<OneRule, Fault>
+    ensures read { IsRead (reading_of found) result }
+    ensures no_device { device_failed result ≡ false }
+    ensures faults { IfErr result (λ fault. IsTrue (is_of_looks fault)) }
+    ensures flat { IfOk result (λ rule. IsFlat rule) }
+{
+    match found {
+        Found::Held(bytes) => rule_of(alloc, bytes.as_slice()),
+        Found::Nothing => Err(unexpected(alloc, 1)),
+        Found::TooBig(_) => Err(unexpected(alloc, 1)),
     }
 }
 
@@ -156,8 +176,7 @@ fn read_workflow<W: Files>(alloc: Global, work: &mut W) -> Result<OneRule, Fault
 {
     let place = workflow_place(alloc)?;
     match work.read(alloc, &place, FILE_LIMIT) {
-        Ok(Found::Held(bytes)) => rule_in(alloc, bytes.as_slice()),
-        Ok(Found::Nothing) | Ok(Found::TooBig(_)) => Err(unexpected(alloc, 1)),
+        Ok(found) => rule_in(alloc, found),
         Err(WorkFault::Failed) => Err(Fault::Device),
         Err(WorkFault::OutOfMemory) => Err(Fault::OutOfMemory),
     }
