@@ -10,3 +10,4 @@ pub mod Texts
 pub mod Fields
 pub mod Files
 pub mod Choice
+pub mod Came

@@ -11,7 +11,7 @@ use Rattle.smk_world.specs.declared.event.Stat.TheVariants.{File}
 use Rattle.smk_world.specs.declared.event.Stat.{Stat}
 use Rattle.smk_world.specs.declared.recipe.Recipe.{Recipe}
 use Rattle.smk_world.specs.World.{World, run, child_numbered}
-use Rattle.smk_world.specs.Calls.{Acted, ContentsAre, started_numbers, Rose}
+use Rattle.smk_world.specs.Calls.{Acted, ContentsAre, HasOwners, started_numbers}
 use Rattle.smk_world.specs.Runs.{Did}
 use Rattle.smk_world.specs.Requests.{Request, HasDone, IsCutShort, Carries}
 use Rattle.smk_cli.specs.declared.fault.Fault.{Fault}
@@ -47,15 +47,16 @@ abbrev pub settling : List ℕ → List ℕ → Option ℕ → List Request
 settling output bytes None = finish_requests output bytes
 settling output bytes (Some code) = abandon_requests output
 
--- The child ended, it was judged so, and the job was settled by that, or up to a call that failed.
-pub record HasSettled (output bytes : List ℕ) (failed : Option ℕ) (settled : Bool) (es : List Event) : Type 0 where
+-- The child ended, it was judged so, and the job was settled by that, or up to a call that failed. A place that was owned when that began was a running child's.
+pub record HasSettled (output bytes : List ℕ) (failed : Option ℕ) (settled : Bool) (w : World) (es : List Event) : Type 0 where
   pub ended : Ended
   pub left : List Change
   pub looks : List Event
   pub rest : List Event
   pub events : es ≡ record { call = Waited (Ok ended); left = left } ∷ (looks ++ rest)
   pub verdict : IsVerdict output ended.status (Ok failed) looks
-  pub settled : Carries (settling output bytes failed) settled rest
+  pub owners : HasOwners (run w (record { call = Waited (Ok ended); left = left } ∷ looks))
+  pub closed : Carries (settling output bytes failed) settled rest
 
 -- The child ended, and the look at its output failed.
 pub record IsUnjudged (output : List ℕ) (es : List Event) : Type 0 where
@@ -65,11 +66,11 @@ pub record IsUnjudged (output : List ℕ) (es : List Event) : Type 0 where
   pub events : es ≡ record { call = Waited (Ok ended); left = left } ∷ looks
   pub verdict : (e : Failed) × IsVerdict output ended.status (Err e) looks
 
-abbrev pub ClosesBy : List ℕ → List ℕ → Result (Option ℕ) Failed → List Event → Type 0
-ClosesBy output bytes (Ok failed) es = HasSettled output bytes failed true es
-ClosesBy output bytes (Err e) es =
+abbrev pub ClosesBy : List ℕ → List ℕ → Result (Option ℕ) Failed → World → List Event → Type 0
+ClosesBy output bytes (Ok failed) w es = HasSettled output bytes failed true w es
+ClosesBy output bytes (Err e) w es =
     (es ≡ record { call = Waited (Err e); left = [] } ∷ [])
-    ⊎ (IsUnjudged output es ⊎ ((failed : Option ℕ) × HasSettled output bytes failed false es))
+    ⊎ (IsUnjudged output es ⊎ ((failed : Option ℕ) × HasSettled output bytes failed false w es))
 
 -- the status of the child that ended first is that of its command, or the count rose
 abbrev pub HasTrueStatus : (Recipe → List Tree → Acted) → Type 0 → World → List Event → Type 0
@@ -81,7 +82,7 @@ HasTrueStatus act rose w es =
     ended.status ≢ (act child.recipe trees).status → rose
 
 pub record HasClosed (act : Recipe → List Tree → Acted) (output bytes : List ℕ) (rose : Type 0) (result : Result (Option ℕ) Failed) (w : World) (es : List Event) : Type 0 where
-  pub events : ClosesBy output bytes result es
+  pub events : ClosesBy output bytes result w es
   pub honest : HasTrueStatus act rose w es
 
 -- ## The whole
@@ -184,6 +185,6 @@ pub record HasRun (act : Recipe → List Tree → Acted) (rule : OneRule) (time 
   pub answer : IsAnswer rule course result
   pub did : Did act old new (IsCourse act rule time rose course)
   pub text : HasWritten put_old put_new (¬ out_rose ⊎ (is_whole result ≡ true)) (IsText rule course (is_whole result))
-  pub rose : is_closed course ≡ false → rose
+  pub open_rose : is_closed course ≡ false → rose
   pub stays : is_closed course ≡ true → IsSome old → IsSome new
   pub none_runs : is_closed course ≡ true → running ≡ []

@@ -1,6 +1,6 @@
 //! One job: its start, its end, and its report.
 ghost use Rattle.std.specs.Prelude.{◌≡◌, ◌≢◌, ◌⊎◌, ℕ, [], ◌∷◌, length, Option, Some, None, IfOk, OnOk, IfErr, IsErr, IsSome, IsTrue, is_ok, true, false};
-ghost use Rattle.smk_world.specs.Calls.{HasCause, HasPut, Rose};
+ghost use Rattle.smk_world.specs.Calls.{HasCause, HasOwners, HasPut, Rose};
 ghost use Rattle.smk_world.specs.Runs.{Did};
 ghost use Rattle.smk_world.specs.Requests.{Carries};
 ghost use Rattle.smk_cli.specs.Lines.{ending_of};
@@ -65,7 +65,7 @@ fn settle<W: Files>(
     failed: Option<u32>,
 ) -> Result<(), Failed>
     requires none_runs { W.running work.old ≡ [] }
-    ensures did { Did W.act (W.world work.old) (W.world work.new) (λ w es. Carries (settling places.now record_bytes.now failed) (is_ok result) es) }
+    ensures did { Did W.act (W.world work.old) (W.world work.new) (λ w es. HasOwners w × Carries (settling places.now record_bytes.now failed) (is_ok result) es) }
     ensures stays { OnOk result (IsSome (W.world work.old) → IsSome (W.world work.new)) }
     ensures cause { HasCause (W.faults work.old) (W.faults work.new) (IsErr result) }
     ensures running { W.running work.new ≡ W.running work.old }
