@@ -29,16 +29,15 @@ pub then_started : (act : Recipe → List Tree → Acted) (p : List ℕ) (recipe
 then_started act p recipe command (Ok n) a b c before now =
     did_more act (λ w es. HasDone (mark_requests p ++ clear_requests p) es) (λ w es. HasBegun p recipe command (Ok n) es) a b c (Started recipe [] command (Ok n)) before now
     (λ w es left follows done lets.
-        let e : Event = record { call = Started recipe [] command (Ok n); left = left } in
-        (
-          done_append (mark_requests p ++ clear_requests p) (Start recipe [] command ∷ []) es (e ∷ []) done (refl, refl, tt),
-          last_number (mark_requests p ++ clear_requests p) es e n (prepare_files p) done refl,
-        ))
+    let e : Event = record { call = Started recipe [] command (Ok n); left = left } in (
+      done_append (mark_requests p ++ clear_requests p) (Start recipe [] command ∷ []) es (e ∷ []) done (refl, refl, tt),
+      last_number (mark_requests p ++ clear_requests p) es e n (prepare_files p) done refl,
+    ))
 then_started act p recipe command (Err f) a b c before now =
     did_more act (λ w es. HasDone (mark_requests p ++ clear_requests p) es) (λ w es. HasBegun p recipe command (Err f) es) a b c (Started recipe [] command (Err f)) before now
     (λ w es left follows done lets.
-        let e : Event = record { call = Started recipe [] command (Err f); left = left } in
-        (cut_append (mark_requests p ++ clear_requests p) (Start recipe [] command ∷ []) es (e ∷ []) done (refl, refl), tt))
+    let e : Event = record { call = Started recipe [] command (Err f); left = left } in
+    (cut_append (mark_requests p ++ clear_requests p) (Start recipe [] command ∷ []) es (e ∷ []) done (refl, refl), tt))
 
 -- the same, with a list of logs that is empty
 pub then_started_without : (act : Recipe → List Tree → Acted) (p : List ℕ) (recipe : Recipe) (logs : List (List ℕ)) (command : List ℕ) (r : Result ℕ Failed) (a b c : Option World)

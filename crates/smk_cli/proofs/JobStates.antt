@@ -66,7 +66,6 @@ own_above m q own out = never_true _ (λ under. not_both _ (above_own m q own un
 own_settled : (m q : List ℕ) → IsOwn m → is_at_or_under q own_folder ≡ false → touches (Settle (m ∷ [])) q ≡ false
 own_settled m q own out = or_none _ _ (or_none _ _ (own_same m q own out) refl) (or_none _ _ (own_above m q own out) refl)
 
-
 keeps_append : (rs qs : List Request) (q : List ℕ) → KeepsOff rs q → KeepsOff qs q → KeepsOff (rs ++ qs) q
 keeps_append [] qs q h k = k
 keeps_append (r ∷ rs) qs q h k = (h.0, keeps_append rs qs q h.1 k)
@@ -96,8 +95,8 @@ abandon_off p q out = (
     own_same (record_place p) q (record_own p) out.own,
     (
       or_none _ _
-      (or_none (is_at_or_under q p) _ out.at (or_none _ false (own_same (record_place p) q (record_own p) out.own) refl))
-      (or_none (is_under p q) _ out.above (or_none _ false (own_above (record_place p) q (record_own p) out.own) refl)),
+          (or_none (is_at_or_under q p) _ out.at (or_none _ false (own_same (record_place p) q (record_own p) out.own) refl))
+          (or_none (is_under p q) _ out.above (or_none _ false (own_above (record_place p) q (record_own p) out.own) refl)),
       unmark_off p q out.own,
     ),
   ),
@@ -198,7 +197,7 @@ begun_mark act p recipe command w es path makes idle follows done =
     let parts = reaches_split act (mark_requests p) (clear_requests p ++ Start recipe [] command ∷ []) w (run w es) reached in
     let firm_there = marked act p w parts.0 parts.1 (known_idle w m idle) in
     let still = reaches_keeps act (clear_requests p ++ Start recipe [] command ∷ []) parts.0 (run w es) m parts.2
-        (path_at p m path (mark_own p), (path_above p m path (mark_own p), (ap (λ l. is_within m (l ++ [])) makes ∙ or_none (is_at_or_under m p) false (path_at p m path (mark_own p)) refl, tt))) in
+    (path_at p m path (mark_own p), (path_above p m path (mark_own p), (ap (λ l. is_within m (l ++ [])) makes ∙ or_none (is_at_or_under m p) false (path_at p m path (mark_own p)) refl, tt))) in
     (firm_there.0, still ∙ firm_there.1)
 
 -- files' calls, and then a start: the child with that number runs
@@ -361,7 +360,7 @@ has_ended act p q recipe number w ended left runs makes takes lets =
     let one = one_numbered child lets.0 ended.number (subst (λ cs. child_numbered ended.number cs ≡ Some lets.0) runs lets.1) in
     let same : recipe ≡ (lets.0).recipe = ap (λ (c : Child). c.recipe) one.1 in
     let owned : owned_by ended.number w.children ≡ p ∷ [] =
-        ap (owned_by ended.number) runs ∙ ap (λ b. owned_of (if b then Some child else None)) one.0 ∙ ap (λ l. l ++ []) makes in
+    ap (owned_by ended.number) runs ∙ ap (λ b. owned_of (if b then Some child else None)) one.0 ∙ ap (λ l. l ++ []) makes in
     record {
       numbered = sym (eqb-true number ended.number one.0);
       children = ap (λ cs. filter (λ c. not (nat_eq c.number ended.number)) cs) runs ∙ ap (λ b. if not b then child ∷ [] else []) one.0;

@@ -41,7 +41,7 @@ impl JobPlaces {
     pub(crate) fn of(alloc: Global, output: &PathText) -> Result<JobPlaces, OutOfMemory>
         ensures { IfOk result (λ places. places ≡ output.now) }
     {
-        // A path's text is known to be one.
+        // The call tells that the text is a path's, which the places rest on.
         let _text = output.as_str();
         let mut dropped = one(alloc, Place::user(alloc, output)?)?;
         dropped.push(Place::record_of(alloc, output)?)?;
@@ -179,4 +179,23 @@ pub(crate) fn abandon<W: Files>(work: &mut W, places: &JobPlaces) -> Result<(), 
 {
     drop_output(work, places)?;
     remove_mark(work, places)
+}
+
+#[cfg(test)]
+mod tests {
+    use super::*;
+    use std::test::Fail;
+
+    #[test]
+    fn places_of_an_output(rt: HostRuntime) -> Result<(), Fail> {
+        let path = PathText::read(rt.alloc(), "out.txt")?;
+        let places = JobPlaces::of(rt.alloc(), &path)?;
+        assert_eq!(rt; places.output().as_str(), "out.txt");
+        assert_eq!(rt; places.mark.as_str(), ".snakemake/smk/marks/=out.txt");
+        assert_eq!(rt;
+            places.record_place.as_str(),
+            ".snakemake/smk/records/=out.txt"
+        );
+        Ok(())
+    }
 }

@@ -18,8 +18,8 @@ start-requires g c =
       may = λ w told.
           let d = carried_then files.act (mark_requests p) (clear_requests p) true _ _ _ c.in_ok-make_mark.ensures.did c.in_ok-clear_output.ensures.did w told in
           let may_there = may_start files.act p c.args.recipe.now d.0 d.2.0 path c.requires.makes_it
-              (record { none_run = no_children d.0.children (g.met.W.Files.same_numbers c.args.work.now d.0 d.1 ∙ c.requires.none_runs); owners = g.met.W.Files.owned c.args.work.now d.0 d.1 })
-              d.2.1 d.2.2 in
+          (record { none_run = no_children d.0.children (g.met.W.Files.same_numbers c.args.work.now d.0 d.1 ∙ c.requires.none_runs); owners = g.met.W.Files.owned c.args.work.now d.0 d.1 })
+          d.2.1 d.2.2 in
           may_start_without c.args.recipe.now c.places.inside.no_logs (run d.0 d.2.0) w c.places.invariant.has_no_logs d.2.3 may_there;
     }
 
