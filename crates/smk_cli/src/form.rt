@@ -248,3 +248,99 @@ pub(crate) fn read_form(alloc: Global, file: &[u8]) -> Result<OneRule, FormFault
         [_, ..] => Err(FormFault::Unexpected(5)),
     }
 }
+
+#[cfg(test)]
+mod tests {
+    use super::*;
+    use std::test::Fail;
+
+    const NAME: &str = "rule copy:\n";
+    const INPUT: &str = "    input: \"in.txt\"\n";
+    const OUTPUT: &str = "    output: \"out.txt\"\n";
+    const SHELL: &str = "    shell: \"cat {input} > {output}\"\n";
+
+    // The line at fault in the file of these four parts, or 0.
+    fn fault(
+        alloc: Global,
+        name: &str,
+        input: &str,
+        output: &str,
+        shell: &str,
+    ) -> Result<u64, Fail> {
+        let mut file = String::from_str(alloc, name)?;
+        file.push_str(input)?;
+        file.push_str(output)?;
+        file.push_str(shell)?;
+        fault_of(alloc, file.as_bytes())
+    }
+
+    fn fault_of(alloc: Global, file: &[u8]) -> Result<u64, Fail> {
+        match read_form(alloc, file) {
+            Ok(_) => Ok(0),
+            Err(FormFault::Unexpected(line)) => Ok(line),
+            Err(FormFault::OutOfMemory) => Err(Fail::from("memory")),
+        }
+    }
+
+    #[test]
+    fn four_lines_are_read(rt: HostRuntime) -> Result<(), Fail> {
+        let file = b"rule _a1:\n    input: \"in\xc3\xa9\ttxt\"\n    output: \"o\"\n    shell: \"{input} {input}\"\n";
+        let rule = read_form(rt.alloc(), file)?;
+        assert_eq!(rt; rule.name.as_str(), "_a1");
+        assert_eq!(rt; rule.input.as_str(), "iné\ttxt");
+        assert_eq!(rt; rule.output.as_str(), "o");
+        assert_eq!(rt; rule.shell.as_str(), "{input} {input}");
+        Ok(())
+    }
+
+    #[test]
+    fn names(rt: HostRuntime) -> Result<(), Fail> {
+        let alloc = rt.alloc();
+        assert_eq!(rt; fault(alloc, NAME, INPUT, OUTPUT, SHELL)?, 0);
+        assert_eq!(rt; fault(alloc, "rule 1a:\n", INPUT, OUTPUT, SHELL)?, 1);
+        assert_eq!(rt; fault(alloc, "rule :\n", INPUT, OUTPUT, SHELL)?, 1);
+        assert_eq!(rt; fault(alloc, "rule a-b:\n", INPUT, OUTPUT, SHELL)?, 1);
+        assert_eq!(rt; fault(alloc, "rule  a:\n", INPUT, OUTPUT, SHELL)?, 1);
+        assert_eq!(rt; fault(alloc, "rule a:\r\n", INPUT, OUTPUT, SHELL)?, 1);
+        assert_eq!(rt; fault(alloc, "", "", "", "")?, 1);
+        Ok(())
+    }
+
+    #[test]
+    fn paths(rt: HostRuntime) -> Result<(), Fail> {
+        let alloc = rt.alloc();
+        assert_eq!(rt; fault(alloc, NAME, "    input: \"in.txt\", \"b\"\n", OUTPUT, SHELL)?, 2);
+        assert_eq!(rt; fault(alloc, NAME, "    input: \"a/b\"\n", OUTPUT, SHELL)?, 2);
+        assert_eq!(rt; fault(alloc, NAME, "    input: \"..\"\n", OUTPUT, SHELL)?, 2);
+        assert_eq!(rt; fault(alloc, NAME, "    input: \"\"\n", OUTPUT, SHELL)?, 2);
+        assert_eq!(rt; fault(alloc, NAME, INPUT, "    output: \"a\\b\"\n", SHELL)?, 3);
+        assert_eq!(rt; fault(alloc, NAME, INPUT, "    output: \"{s}\"\n", SHELL)?, 3);
+        assert_eq!(rt; fault(alloc, NAME, INPUT, "    output: \".snakemake\"\n", SHELL)?, 3);
+        assert_eq!(rt; fault(alloc, NAME, INPUT, "  output: \"b\"\n", SHELL)?, 3);
+        assert_eq!(rt; fault(alloc, NAME, OUTPUT, INPUT, SHELL)?, 2);
+        assert_eq!(rt; fault_of(alloc, b"rule a:\n    input: \"\xff\"\n")?, 2);
+        Ok(())
+    }
+
+    #[test]
+    fn commands(rt: HostRuntime) -> Result<(), Fail> {
+        let alloc = rt.alloc();
+        assert_eq!(rt; fault(alloc, NAME, INPUT, OUTPUT, "    shell: \"{{\"\n")?, 4);
+        assert_eq!(rt; fault(alloc, NAME, INPUT, OUTPUT, "    shell: \"{inputs}\"\n")?, 4);
+        assert_eq!(rt; fault(alloc, NAME, INPUT, OUTPUT, "    shell: \"a } b\"\n")?, 4);
+        assert_eq!(rt; fault(alloc, NAME, INPUT, OUTPUT, "    shell: \"a\tb\"\n")?, 4);
+        assert_eq!(rt; fault(alloc, NAME, INPUT, OUTPUT, "    shell: \"a\\n\"\n")?, 4);
+        assert_eq!(rt; fault(alloc, NAME, INPUT, OUTPUT, "    shell: \"\"\n")?, 0);
+        Ok(())
+    }
+
+    #[test]
+    fn ends(rt: HostRuntime) -> Result<(), Fail> {
+        let alloc = rt.alloc();
+        assert_eq!(rt; fault(alloc, NAME, INPUT, OUTPUT, "    shell: \"a\"")?, 4);
+        assert_eq!(rt; fault(alloc, NAME, INPUT, OUTPUT, "    shell: \"a\"\n\n")?, 5);
+        assert_eq!(rt; fault(alloc, NAME, INPUT, OUTPUT, "    shell: \"a\"\nrule")?, 5);
+        assert_eq!(rt; fault(alloc, NAME, INPUT, "", "")?, 3);
+        Ok(())
+    }
+}

@@ -49,3 +49,46 @@ pub(crate) fn target(alloc: Global, words: &[String]) -> Result<PathText, WordsF
         Err(PathFault::OutOfMemory) => Err(WordsFault::OutOfMemory),
     }
 }
+
+#[cfg(test)]
+mod tests {
+    use super::*;
+    use std::test::Fail;
+
+    // The target of these words, or `not read`.
+    fn asked(alloc: Global, words: &[&str]) -> Result<String, Fail> {
+        let mut list = Vec::new(alloc);
+        for word in words {
+            list.push(String::from_str(alloc, word)?)?;
+        }
+        match target(alloc, list.as_slice()) {
+            Ok(path) => Ok(String::from_str(alloc, path.as_str())?),
+            Err(WordsFault::BadWords) => Ok(String::from_str(alloc, "not read")?),
+            Err(WordsFault::OutOfMemory) => Err(Fail::from("memory")),
+        }
+    }
+
+    #[test]
+    fn one_form_is_read(rt: HostRuntime) -> Result<(), Fail> {
+        let alloc = rt.alloc();
+        assert_eq!(rt; asked(alloc, &["--cores", "1", "out.txt"])?.as_str(), "out.txt");
+        assert_eq!(rt; asked(alloc, &["--cores", "2", "a"])?.as_str(), "not read");
+        assert_eq!(rt; asked(alloc, &["--cores", "01", "a"])?.as_str(), "not read");
+        assert_eq!(rt; asked(alloc, &["--core", "1", "a"])?.as_str(), "not read");
+        assert_eq!(rt; asked(alloc, &["a", "--cores", "1"])?.as_str(), "not read");
+        Ok(())
+    }
+
+    #[test]
+    fn targets(rt: HostRuntime) -> Result<(), Fail> {
+        let alloc = rt.alloc();
+        assert_eq!(rt; asked(alloc, &["--cores", "1", "a/b"])?.as_str(), "not read");
+        assert_eq!(rt; asked(alloc, &["--cores", "1", "-n"])?.as_str(), "not read");
+        assert_eq!(rt; asked(alloc, &["--cores", "1", ".."])?.as_str(), "not read");
+        assert_eq!(rt; asked(alloc, &["--cores", "1", ""])?.as_str(), "not read");
+        assert_eq!(rt; asked(alloc, &["--cores", "1"])?.as_str(), "not read");
+        assert_eq!(rt; asked(alloc, &["--cores", "1", "a", "b"])?.as_str(), "not read");
+        assert_eq!(rt; asked(alloc, &[])?.as_str(), "not read");
+        Ok(())
+    }
+}
