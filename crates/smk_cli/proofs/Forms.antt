@@ -203,7 +203,7 @@ line_reads : (front m : List ℕ) (c : ℕ) (more : List ℕ) → no_feed front 
 line_reads front m c more p q n =
     let line = front ++ (m ++ c ∷ []) in
     let whole : line_of front m (c ∷ 10 ∷ []) ++ more ≡ line ++ 10 ∷ more =
-        append_assoc front (m ++ c ∷ 10 ∷ []) more ∙ ap (λ (l : List ℕ). front ++ l) (append_assoc m (c ∷ 10 ∷ []) more) ∙ sym (feed_apart front m c more) in
+    append_assoc front (m ++ c ∷ 10 ∷ []) more ∙ ap (λ (l : List ℕ). front ++ l) (append_assoc m (c ∷ 10 ∷ []) more) ∙ sym (feed_apart front m c more) in
     let end : no_feed (c ∷ []) ≡ true = and_both (not (c == 10)) true n refl in
     let clean : no_feed line ≡ true = no_feed_append front (m ++ c ∷ []) p (no_feed_append m (c ∷ []) q end) in
     let both = first_until line more clean in
@@ -227,7 +227,7 @@ name_bytes_clean : (text : List ℕ) → are_name_bytes text ≡ true → no_fee
 name_bytes_clean [] h = refl
 name_bytes_clean (b ∷ text) h =
     and_both (not (b == 10)) (no_feed text) (not_feed (λ c. is_letter c || is_within 48 57 c) b refl (and_left (is_letter b || is_within 48 57 b) (are_name_bytes text) h))
-      (name_bytes_clean text (and_right (is_letter b || is_within 48 57 b) (are_name_bytes text) h))
+    (name_bytes_clean text (and_right (is_letter b || is_within 48 57 b) (are_name_bytes text) h))
 
 name_clean : (text : List ℕ) → is_name text ≡ true → no_feed text ≡ true
 name_clean [] h = refl
@@ -278,13 +278,13 @@ form_is_read file rule h =
     let third_cut = line_reads output_front rule.output 34 fourth refl (path_clean rule.output (and_right (is_utf8 rule.output) (is_plain_path rule.output) h.output)) refl in
     let fourth_cut = line_reads shell_front rule.shell 34 [] refl (command_clean_after rule.shell 0 (and_right (is_utf8 rule.shell) (is_command rule.shell) h.shell)) refl in
     reads_rule file rule.name rule.input rule.output rule.shell [] second third fourth
-      (record {
-        name_is = ap (λ (l : List ℕ). name_in (first_line l)) h.printed ∙ ap name_in first_cut.0 ∙ part_of is_name rule_front rule.name rule_back h.name;
-        after_name = sym (ap after_line h.printed ∙ first_cut.1);
-        input_is = ap input_in second_cut.0 ∙ part_of is_plain_path input_front rule.input quote_back h.input;
-        after_input = sym second_cut.1;
-        output_is = ap output_in third_cut.0 ∙ part_of is_plain_path output_front rule.output quote_back h.output;
-        after_output = sym third_cut.1;
-        shell_is = ap (λ (l : List ℕ). command_in (first_line l)) (sym (append_nil fourth)) ∙ ap command_in fourth_cut.0 ∙ part_of is_command shell_front rule.shell quote_back h.shell;
-        after_shell = sym (ap after_line (sym (append_nil fourth)) ∙ fourth_cut.1);
-      }) (omega arith)
+    (record {
+      name_is = ap (λ (l : List ℕ). name_in (first_line l)) h.printed ∙ ap name_in first_cut.0 ∙ part_of is_name rule_front rule.name rule_back h.name;
+      after_name = sym (ap after_line h.printed ∙ first_cut.1);
+      input_is = ap input_in second_cut.0 ∙ part_of is_plain_path input_front rule.input quote_back h.input;
+      after_input = sym second_cut.1;
+      output_is = ap output_in third_cut.0 ∙ part_of is_plain_path output_front rule.output quote_back h.output;
+      after_output = sym third_cut.1;
+      shell_is = ap (λ (l : List ℕ). command_in (first_line l)) (sym (append_nil fourth)) ∙ ap command_in fourth_cut.0 ∙ part_of is_command shell_front rule.shell quote_back h.shell;
+      after_shell = sym (ap after_line (sym (append_nil fourth)) ∙ fourth_cut.1);
+    }) (omega arith)

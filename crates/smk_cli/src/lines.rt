@@ -153,20 +153,32 @@ mod tests {
         let alloc = rt.alloc();
         let rule = rule(alloc)?;
         assert_eq!(rt; starting(alloc, &rule)?.as_str(), "start copy out.txt\n");
-        assert_eq!(rt; ending(alloc, &rule, None)?.as_str(), "done copy out.txt\ncurrent out.txt\nsummary: 1 started, 1 done, 0 failed\n");
-        assert_eq!(rt; ending(alloc, &rule, Some(1))?.as_str(), "failed copy out.txt: status 1\nnot current out.txt\nsummary: 1 started, 0 done, 1 failed\n");
+        assert_eq!(rt;
+            ending(alloc, &rule, None)?.as_str(),
+            "done copy out.txt\ncurrent out.txt\nsummary: 1 started, 1 done, 0 failed\n"
+        );
+        assert_eq!(rt;
+            ending(alloc, &rule, Some(1))?.as_str(),
+            "failed copy out.txt: status 1\nnot current out.txt\nsummary: 1 started, 0 done, 1 failed\n"
+        );
         Ok(())
     }
 
     #[test]
     fn faults(rt: HostRuntime) -> Result<(), Fail> {
         let alloc = rt.alloc();
-        assert_eq!(rt; fault_line(alloc, &Fault::BadWords)?.as_str(), "smk: words not read\n");
+        assert_eq!(rt;
+            fault_line(alloc, &Fault::BadWords)?.as_str(),
+            "smk: words not read\n"
+        );
         let fault = Fault::Unexpected {
             file: Text::of(alloc, "Snakefile")?,
             line: 2,
         };
-        assert_eq!(rt; fault_line(alloc, &fault)?.as_str(), "smk: Snakefile:2: not expected here\n");
+        assert_eq!(rt;
+            fault_line(alloc, &fault)?.as_str(),
+            "smk: Snakefile:2: not expected here\n"
+        );
         let fault = Fault::NoRule {
             path: PathText::read(alloc, "z")?,
         };
@@ -176,7 +188,10 @@ mod tests {
             path: PathText::read(alloc, "out.txt")?,
             code: 1,
         };
-        assert_eq!(rt; fault_line(alloc, &fault)?.as_str(), "smk: job failed: copy out.txt: status 1\n");
+        assert_eq!(rt;
+            fault_line(alloc, &fault)?.as_str(),
+            "smk: job failed: copy out.txt: status 1\n"
+        );
         Ok(())
     }
 }

@@ -157,7 +157,10 @@ mod tests {
     fn a_record_has_these_bytes(rt: HostRuntime) -> Result<(), Fail> {
         let alloc = rt.alloc();
         let bytes = record(alloc, &rule(alloc, "cat {input} > {output}")?, 1000)?;
-        assert_eq!(rt; bytes.as_slice(), b"SMK1\n7:out.txt\n1\n22:cat {input} > {output}\n0\n0\n1\n0:\n1\n6:in.txt\nT1000\n1\n0:\n1\nF7:out.txt\n0\n".as_slice());
+        assert_eq!(rt;
+            bytes.as_slice(),
+            b"SMK1\n7:out.txt\n1\n22:cat {input} > {output}\n0\n0\n1\n0:\n1\n6:in.txt\nT1000\n1\n0:\n1\nF7:out.txt\n0\n".as_slice()
+        );
         assert_eq!(rt; bytes.as_slice().len(), 89);
         Ok(())
     }
@@ -165,17 +168,23 @@ mod tests {
     #[test]
     fn a_record_has_any_time(rt: HostRuntime) -> Result<(), Fail> {
         let alloc = rt.alloc();
-        let bytes = record(alloc, &rule(alloc, "")?, 0)?;
-        assert_eq!(rt; bytes.as_slice(), b"SMK1\n7:out.txt\n1\n0:\n0\n0\n1\n0:\n1\n6:in.txt\nT0\n1\n0:\n1\nF7:out.txt\n0\n".as_slice());
-        let bytes = record(alloc, &rule(alloc, "")?, u64::MAX)?;
-        assert_eq!(rt; bytes.as_slice(), b"SMK1\n7:out.txt\n1\n0:\n0\n0\n1\n0:\n1\n6:in.txt\nT18446744073709551615\n1\n0:\n1\nF7:out.txt\n0\n".as_slice());
+        for (time, digits) in [(0, "0"), (u64::MAX, "18446744073709551615")] {
+            let bytes = record(alloc, &rule(alloc, "")?, time)?;
+            let text = format!(in alloc;
+                "SMK1\n7:out.txt\n1\n0:\n0\n0\n1\n0:\n1\n6:in.txt\nT{digits}\n1\n0:\n1\nF7:out.txt\n0\n"
+            )?;
+            assert_eq!(rt; bytes.as_slice(), text.as_bytes());
+        }
         Ok(())
     }
 
     #[test]
     fn fields_are_filled_in(rt: HostRuntime) -> Result<(), Fail> {
         let alloc = rt.alloc();
-        let text = command(alloc, &rule(alloc, "cat {input} > {output} # {input}{input")?)?;
+        let text = command(
+            alloc,
+            &rule(alloc, "cat {input} > {output} # {input}{input")?,
+        )?;
         assert_eq!(rt; text.as_str(), "cat in.txt > out.txt # in.txt{input");
         Ok(())
     }

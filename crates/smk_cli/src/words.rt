@@ -55,40 +55,48 @@ mod tests {
     use super::*;
     use std::test::Fail;
 
-    // The target of these words, or `not read`.
-    fn asked(alloc: Global, words: &[&str]) -> Result<String, Fail> {
+    // Whether the words ask for a target.
+    fn is_read(alloc: Global, words: &[&str]) -> Result<bool, Fail> {
         let mut list = Vec::new(alloc);
         for word in words {
             list.push(String::from_str(alloc, word)?)?;
         }
         match target(alloc, list.as_slice()) {
-            Ok(path) => Ok(String::from_str(alloc, path.as_str())?),
-            Err(WordsFault::BadWords) => Ok(String::from_str(alloc, "not read")?),
+            Ok(_) => Ok(true),
+            Err(WordsFault::BadWords) => Ok(false),
             Err(WordsFault::OutOfMemory) => Err(Fail::from("memory")),
         }
     }
 
     #[test]
-    fn one_form_is_read(rt: HostRuntime) -> Result<(), Fail> {
+    fn three_words(rt: HostRuntime) -> Result<(), Fail> {
         let alloc = rt.alloc();
-        assert_eq!(rt; asked(alloc, &["--cores", "1", "out.txt"])?.as_str(), "out.txt");
-        assert_eq!(rt; asked(alloc, &["--cores", "2", "a"])?.as_str(), "not read");
-        assert_eq!(rt; asked(alloc, &["--cores", "01", "a"])?.as_str(), "not read");
-        assert_eq!(rt; asked(alloc, &["--core", "1", "a"])?.as_str(), "not read");
-        assert_eq!(rt; asked(alloc, &["a", "--cores", "1"])?.as_str(), "not read");
+        for (option, count, path, read) in [
+            ("--cores", "1", "out.txt", true),
+            ("--cores", "2", "a", false),
+            ("--cores", "01", "a", false),
+            ("--core", "1", "a", false),
+            ("a", "--cores", "1", false),
+            ("--cores", "1", "a/b", false),
+            ("--cores", "1", "-n", false),
+            ("--cores", "1", "..", false),
+            ("--cores", "1", "", false),
+        ] {
+            assert_eq!(rt;
+                is_read(alloc, &[option, count, path])?,
+                read,
+                "{option} {count} {path}"
+            );
+        }
         Ok(())
     }
 
     #[test]
-    fn targets(rt: HostRuntime) -> Result<(), Fail> {
+    fn other_numbers_of_words(rt: HostRuntime) -> Result<(), Fail> {
         let alloc = rt.alloc();
-        assert_eq!(rt; asked(alloc, &["--cores", "1", "a/b"])?.as_str(), "not read");
-        assert_eq!(rt; asked(alloc, &["--cores", "1", "-n"])?.as_str(), "not read");
-        assert_eq!(rt; asked(alloc, &["--cores", "1", ".."])?.as_str(), "not read");
-        assert_eq!(rt; asked(alloc, &["--cores", "1", ""])?.as_str(), "not read");
-        assert_eq!(rt; asked(alloc, &["--cores", "1"])?.as_str(), "not read");
-        assert_eq!(rt; asked(alloc, &["--cores", "1", "a", "b"])?.as_str(), "not read");
-        assert_eq!(rt; asked(alloc, &[])?.as_str(), "not read");
+        assert!(rt; !is_read(alloc, &[])?);
+        assert!(rt; !is_read(alloc, &["--cores", "1"])?);
+        assert!(rt; !is_read(alloc, &["--cores", "1", "a", "b"])?);
         Ok(())
     }
 }
