@@ -11,3 +11,4 @@ pub mod Fields
 pub mod Files
 pub mod Choice
 pub mod Came
+pub mod Forms

@@ -94,9 +94,13 @@ before_back back (Some text) = if bytes_eq (drop (length text - length back) tex
 abbrev pub inner : List ℕ → List ℕ → List ℕ → Option (List ℕ)
 inner front back line = before_back back (after_front front line)
 
+-- UTF-8 that passes the test
+abbrev pub stands : (List ℕ → Bool) → List ℕ → Bool
+stands is_good text = is_utf8 text && is_good text
+
 abbrev pub allowed : (List ℕ → Bool) → Option (List ℕ) → Option (List ℕ)
 allowed is_good None = None
-allowed is_good (Some text) = if is_utf8 text && is_good text then Some text else None
+allowed is_good (Some text) = if stands is_good text then Some text else None
 
 -- `rule NAME:`
 abbrev pub rule_front : List ℕ
@@ -164,13 +168,16 @@ reading file = from_name (name_in (first_line file)) (after_line file)
 
 -- ## The same, as printing
 
+abbrev pub line_of : List ℕ → List ℕ → List ℕ → List ℕ
+line_of front text back = front ++ (text ++ back)
+
 abbrev pub form_text : OneRule → List ℕ
-form_text rule = rule_front ++ rule.name ++ rule_back ++ input_front ++ rule.input ++ quote_back ++ output_front ++ rule.output ++ quote_back ++ shell_front ++ rule.shell ++ quote_back
+form_text rule = line_of rule_front rule.name rule_back ++ (line_of input_front rule.input quote_back ++ (line_of output_front rule.output quote_back ++ line_of shell_front rule.shell quote_back))
 
 -- The file is the print of the rule, each part of which may stand there.
 pub record IsForm (file : List ℕ) (rule : OneRule) : Type 0 where
   pub printed : file ≡ form_text rule
-  pub name : allowed is_name (Some rule.name) ≡ Some rule.name
-  pub input : allowed is_plain_path (Some rule.input) ≡ Some rule.input
-  pub output : allowed is_plain_path (Some rule.output) ≡ Some rule.output
-  pub shell : allowed is_command (Some rule.shell) ≡ Some rule.shell
+  pub name : stands is_name rule.name ≡ true
+  pub input : stands is_plain_path rule.input ≡ true
+  pub output : stands is_plain_path rule.output ≡ true
+  pub shell : stands is_command rule.shell ≡ true

@@ -248,3 +248,138 @@ pub(crate) fn read_form(alloc: Global, file: &[u8]) -> Result<OneRule, FormFault
         [_, ..] => Err(FormFault::Unexpected(5)),
     }
 }
+
+#[cfg(test)]
+mod tests {
+    use super::*;
+    use std::test::Fail;
+
+    const NAME: &str = "rule copy:\n";
+
+    const INPUT: &str = "    input: \"in.txt\"\n";
+
+    const OUTPUT: &str = "    output: \"out.txt\"\n";
+
+    const SHELL: &str = "    shell: \"cat {input} > {output}\"\n";
+
+    // The line at fault in the file of these four parts, or 0.
+    fn fault(
+        alloc: Global,
+        name: &str,
+        input: &str,
+        output: &str,
+        shell: &str,
+    ) -> Result<u64, Fail> {
+        let mut file = String::from_str(alloc, name)?;
+        file.push_str(input)?;
+        file.push_str(output)?;
+        file.push_str(shell)?;
+        fault_of(alloc, file.as_bytes())
+    }
+
+    fn fault_of(alloc: Global, file: &[u8]) -> Result<u64, Fail> {
+        match read_form(alloc, file) {
+            Ok(_) => Ok(0),
+            Err(FormFault::Unexpected(line)) => Ok(line),
+            Err(FormFault::OutOfMemory) => Err(Fail::from("memory")),
+        }
+    }
+
+    #[test]
+    fn four_lines_are_read(rt: HostRuntime) -> Result<(), Fail> {
+        let alloc = rt.alloc();
+        let file = "rule _a1:\n    input: \"é\t1\"\n    output: \"o\"\n    shell: \"\"\n";
+        let rule = read_form(alloc, file.as_bytes())?;
+        assert_eq!(rt; rule.name.as_str(), "_a1");
+        assert_eq!(rt; rule.input.as_str(), "é\t1");
+        assert_eq!(rt; rule.output.as_str(), "o");
+        assert!(rt; rule.shell.as_str().is_empty());
+        Ok(())
+    }
+
+    #[test]
+    fn names(rt: HostRuntime) -> Result<(), Fail> {
+        let alloc = rt.alloc();
+        assert_eq!(rt; fault(alloc, NAME, INPUT, OUTPUT, SHELL)?, 0);
+        for name in [
+            "rule 1a:\n",
+            "rule :\n",
+            "rule a-b:\n",
+            "rule  a:\n",
+            "rule a:\r\n",
+            "\n",
+            "",
+        ] {
+            assert_eq!(rt; fault(alloc, name, INPUT, OUTPUT, SHELL)?, 1, "{name}");
+        }
+        Ok(())
+    }
+
+    #[test]
+    fn paths(rt: HostRuntime) -> Result<(), Fail> {
+        let alloc = rt.alloc();
+        for path in [
+            "a\", \"b",
+            "a/b",
+            "..",
+            "",
+            "a\"b",
+            "a\\b",
+            "{s}",
+            ".snakemake",
+        ] {
+            let input = format!(in alloc; "    input: \"{path}\"\n")?;
+            let output = format!(in alloc; "    output: \"{path}\"\n")?;
+            assert_eq!(rt;
+                fault(alloc, NAME, input.as_str(), OUTPUT, SHELL)?,
+                2,
+                "{path}"
+            );
+            assert_eq!(rt;
+                fault(alloc, NAME, INPUT, output.as_str(), SHELL)?,
+                3,
+                "{path}"
+            );
+        }
+        assert_eq!(rt; fault(alloc, NAME, OUTPUT, INPUT, SHELL)?, 2);
+        assert_eq!(rt; fault_of(alloc, b"rule a:\n    input: \"\xff\"\n")?, 2);
+        Ok(())
+    }
+
+    #[test]
+    fn commands(rt: HostRuntime) -> Result<(), Fail> {
+        let alloc = rt.alloc();
+        for (command, line) in [
+            ("{input}{input}", 0),
+            ("{{", 4),
+            ("{inputs}", 4),
+            ("a } b", 4),
+            ("a\tb", 4),
+            ("a\\n", 4),
+        ] {
+            let shell = format!(in alloc; "    shell: \"{command}\"\n")?;
+            assert_eq!(rt;
+                fault(alloc, NAME, INPUT, OUTPUT, shell.as_str())?,
+                line,
+                "{command}"
+            );
+        }
+        Ok(())
+    }
+
+    #[test]
+    fn ends(rt: HostRuntime) -> Result<(), Fail> {
+        let alloc = rt.alloc();
+        for (end, line) in [
+            ("    shell: \"a\"", 4),
+            ("    shell: \"a\"\r\n", 4),
+            ("    shell: \"a\"\n\n", 5),
+            ("    shell: \"a\"\nrule", 5),
+            ("", 4),
+        ] {
+            assert_eq!(rt; fault(alloc, NAME, INPUT, OUTPUT, end)?, line, "{end}");
+        }
+        assert_eq!(rt; fault(alloc, NAME, INPUT, "", "")?, 3);
+        Ok(())
+    }
+}

@@ -132,3 +132,66 @@ pub(crate) fn fault_line(alloc: Global, fault: &Fault) -> Result<Text, OutOfMemo
     let line = format!(in alloc; "smk: {words}\n")?;
     Text::of(alloc, line.as_str())
 }
+
+#[cfg(test)]
+mod tests {
+    use super::*;
+    use smk_base::PathText;
+    use std::test::Fail;
+
+    fn rule(alloc: Global) -> Result<OneRule, Fail> {
+        Ok(OneRule {
+            name: Text::of(alloc, "copy")?,
+            input: PathText::read(alloc, "in.txt")?,
+            output: PathText::read(alloc, "out.txt")?,
+            shell: Text::of(alloc, "cat {input} > {output}")?,
+        })
+    }
+
+    #[test]
+    fn reports(rt: HostRuntime) -> Result<(), Fail> {
+        let alloc = rt.alloc();
+        let rule = rule(alloc)?;
+        assert_eq!(rt; starting(alloc, &rule)?.as_str(), "start copy out.txt\n");
+        assert_eq!(rt;
+            ending(alloc, &rule, None)?.as_str(),
+            "done copy out.txt\ncurrent out.txt\nsummary: 1 started, 1 done, 0 failed\n"
+        );
+        assert_eq!(rt;
+            ending(alloc, &rule, Some(1))?.as_str(),
+            "failed copy out.txt: status 1\nnot current out.txt\nsummary: 1 started, 0 done, 1 failed\n"
+        );
+        Ok(())
+    }
+
+    #[test]
+    fn faults(rt: HostRuntime) -> Result<(), Fail> {
+        let alloc = rt.alloc();
+        assert_eq!(rt;
+            fault_line(alloc, &Fault::BadWords)?.as_str(),
+            "smk: words not read\n"
+        );
+        let fault = Fault::Unexpected {
+            file: Text::of(alloc, "Snakefile")?,
+            line: 2,
+        };
+        assert_eq!(rt;
+            fault_line(alloc, &fault)?.as_str(),
+            "smk: Snakefile:2: not expected here\n"
+        );
+        let fault = Fault::NoRule {
+            path: PathText::read(alloc, "z")?,
+        };
+        assert_eq!(rt; fault_line(alloc, &fault)?.as_str(), "smk: no rule for z\n");
+        let fault = Fault::JobFailed {
+            rule: Text::of(alloc, "copy")?,
+            path: PathText::read(alloc, "out.txt")?,
+            code: 1,
+        };
+        assert_eq!(rt;
+            fault_line(alloc, &fault)?.as_str(),
+            "smk: job failed: copy out.txt: status 1\n"
+        );
+        Ok(())
+    }
+}

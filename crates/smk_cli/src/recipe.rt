@@ -137,3 +137,65 @@ pub(crate) fn record(alloc: Global, rule: &OneRule, time: u64) -> Result<Bytes, 
     push_number(&mut text, 0)?;
     Bytes::of(alloc, text.as_bytes())
 }
+
+#[cfg(test)]
+mod tests {
+    use super::*;
+    use smk_base::PathText;
+    use std::test::Fail;
+
+    fn rule(alloc: Global, shell: &str) -> Result<OneRule, Fail> {
+        Ok(OneRule {
+            name: Text::of(alloc, "copy")?,
+            input: PathText::read(alloc, "in.txt")?,
+            output: PathText::read(alloc, "out.txt")?,
+            shell: Text::of(alloc, shell)?,
+        })
+    }
+
+    #[test]
+    fn a_record_has_these_bytes(rt: HostRuntime) -> Result<(), Fail> {
+        let alloc = rt.alloc();
+        let bytes = record(alloc, &rule(alloc, "cat {input} > {output}")?, 1000)?;
+        assert_eq!(rt;
+            bytes.as_slice(),
+            b"SMK1\n7:out.txt\n1\n22:cat {input} > {output}\n0\n0\n1\n0:\n1\n6:in.txt\nT1000\n1\n0:\n1\nF7:out.txt\n0\n".as_slice()
+        );
+        assert_eq!(rt; bytes.as_slice().len(), 89);
+        Ok(())
+    }
+
+    #[test]
+    fn a_record_has_any_time(rt: HostRuntime) -> Result<(), Fail> {
+        let alloc = rt.alloc();
+        for (time, digits) in [(0, "0"), (u64::MAX, "18446744073709551615")] {
+            let bytes = record(alloc, &rule(alloc, "")?, time)?;
+            let text = format!(in alloc;
+                "SMK1\n7:out.txt\n1\n0:\n0\n0\n1\n0:\n1\n6:in.txt\nT{digits}\n1\n0:\n1\nF7:out.txt\n0\n"
+            )?;
+            assert_eq!(rt; bytes.as_slice(), text.as_bytes());
+        }
+        Ok(())
+    }
+
+    #[test]
+    fn fields_are_filled_in(rt: HostRuntime) -> Result<(), Fail> {
+        let alloc = rt.alloc();
+        let text = command(
+            alloc,
+            &rule(alloc, "cat {input} > {output} # {input}{input")?,
+        )?;
+        assert_eq!(rt; text.as_str(), "cat in.txt > out.txt # in.txt{input");
+        Ok(())
+    }
+
+    #[test]
+    fn a_recipe_has_both_paths(rt: HostRuntime) -> Result<(), Fail> {
+        let alloc = rt.alloc();
+        let recipe = recipe(alloc, &rule(alloc, "fail {input}")?)?;
+        assert_eq!(rt; recipe.template.as_str(), "fail {input}");
+        assert_eq!(rt; recipe.inputs.len(), 1);
+        assert_eq!(rt; recipe.outputs.len(), 1);
+        Ok(())
+    }
+}

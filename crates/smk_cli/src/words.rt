@@ -49,3 +49,54 @@ pub(crate) fn target(alloc: Global, words: &[String]) -> Result<PathText, WordsF
         Err(PathFault::OutOfMemory) => Err(WordsFault::OutOfMemory),
     }
 }
+
+#[cfg(test)]
+mod tests {
+    use super::*;
+    use std::test::Fail;
+
+    // Whether the words ask for a target.
+    fn is_read(alloc: Global, words: &[&str]) -> Result<bool, Fail> {
+        let mut list = Vec::new(alloc);
+        for word in words {
+            list.push(String::from_str(alloc, word)?)?;
+        }
+        match target(alloc, list.as_slice()) {
+            Ok(_) => Ok(true),
+            Err(WordsFault::BadWords) => Ok(false),
+            Err(WordsFault::OutOfMemory) => Err(Fail::from("memory")),
+        }
+    }
+
+    #[test]
+    fn three_words(rt: HostRuntime) -> Result<(), Fail> {
+        let alloc = rt.alloc();
+        for (option, count, path, read) in [
+            ("--cores", "1", "out.txt", true),
+            ("--cores", "2", "a", false),
+            ("--cores", "01", "a", false),
+            ("--core", "1", "a", false),
+            ("a", "--cores", "1", false),
+            ("--cores", "1", "a/b", false),
+            ("--cores", "1", "-n", false),
+            ("--cores", "1", "..", false),
+            ("--cores", "1", "", false),
+        ] {
+            assert_eq!(rt;
+                is_read(alloc, &[option, count, path])?,
+                read,
+                "{option} {count} {path}"
+            );
+        }
+        Ok(())
+    }
+
+    #[test]
+    fn other_numbers_of_words(rt: HostRuntime) -> Result<(), Fail> {
+        let alloc = rt.alloc();
+        assert!(rt; !is_read(alloc, &[])?);
+        assert!(rt; !is_read(alloc, &["--cores", "1"])?);
+        assert!(rt; !is_read(alloc, &["--cores", "1", "a", "b"])?);
+        Ok(())
+    }
+}
