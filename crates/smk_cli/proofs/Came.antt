@@ -103,7 +103,7 @@ started_among (r ∷ rs) recipe logs command number (e ∷ es) files h told =
 
 -- ## What is outside
 
-slash_any : (text : List ℕ) → has_slash text ≡ false → apart.has_slash text ≡ false
+pub slash_any : (text : List ℕ) → has_slash text ≡ false → apart.has_slash text ≡ false
 slash_any [] h = refl
 slash_any (b ∷ text) h =
     or_none (b == 47) (apart.has_slash text) (never_true (b == 47) (λ t. not_both _ (or_first (b == 47) (has_slash text) t) h))

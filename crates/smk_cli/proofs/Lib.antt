@@ -12,3 +12,5 @@ pub mod Files
 pub mod Choice
 pub mod Came
 pub mod Forms
+pub mod Closing
+pub mod Making

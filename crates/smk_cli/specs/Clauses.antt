@@ -1,5 +1,5 @@
 -- The clauses of the top call.
-use Rattle.std.specs.Prelude.{◌≡◌, ◌≢◌, ◌⊎◌, ◌≤◌, ℕ, Bool, true, false, List, [], ◌∷◌, ◌++◌, Option, Some, None, Result, Ok, Err}
+use Rattle.std.specs.Prelude.{◌≡◌, ◌≢◌, ◌⊎◌, ◌≤◌, ℕ, Bool, true, false, List, [], ◌∷◌, ◌++◌, Option, Some, None, Result, Ok, Err, IsSome}
 use Rattle.smk_base.specs.Path.{is_at_or_under, own_folder}
 use Rattle.smk_base.specs.Place.{mark_place, record_place}
 use Rattle.smk_base.specs.declared.tree.Tree.{Tree}
@@ -10,8 +10,8 @@ use Rattle.smk_world.specs.declared.event.Node.TheVariants.{Regular}
 use Rattle.smk_world.specs.declared.event.NodeState.{NodeState}
 use Rattle.smk_world.specs.declared.event.Stat.{Stat}
 use Rattle.smk_world.specs.declared.recipe.Recipe.{Recipe}
-use Rattle.smk_world.specs.World.{firmly, is_within}
-use Rattle.smk_world.specs.Calls.{Acted, HoldsBytes}
+use Rattle.smk_world.specs.World.{World, run, firmly, is_within}
+use Rattle.smk_world.specs.Calls.{Acted, HoldsBytes, HasCause, Rose}
 use Rattle.smk_cli.specs.declared.fault.Fault.{Fault}
 use Rattle.smk_cli.specs.declared.fault.Fault.TheVariants.{BadWords, Unexpected, NoRule, JobFailed, Device, Output, OutOfMemory}
 use Rattle.smk_cli.specs.declared.form.OneRule.{OneRule}
@@ -128,6 +128,36 @@ IsReport act fault rose before now es (Reads rule) text = IsTold act rule rose b
 abbrev pub HasReported : (Recipe → List Tree → Acted) → Option Fault → Type 0 → Option (List ℕ) → Option (List ℕ) → (List ℕ → NodeState) → (List ℕ → NodeState) → List Event → Type 0
 HasReported act fault rose put_old put_new before now es =
     (after : List ℕ) → put_new ≡ Some after → (start : List ℕ) × (put_old ≡ Some start) × ((text : List ℕ) × IsReport act fault rose before now es (workflow_at before) text × (after ≡ start ++ text))
+
+-- the same of the world at the entry and the events since
+abbrev pub Serves : (Recipe → List Tree → Acted) → ((List ℕ → NodeState) → Option Fault) → Option Fault → Type 0 → Type 0 → World → List Event → Type 0
+Serves act refusal fault rose out_rose w es = HasServed act refusal fault rose out_rose w.nodes (run w es).nodes es
+
+abbrev pub Reports : (Recipe → List Tree → Acted) → Option Fault → Type 0 → Option (List ℕ) → Option (List ℕ) → World → List Event → Type 0
+Reports act fault rose put_old put_new w es = HasReported act fault rose put_old put_new w.nodes (run w es).nodes es
+
+-- both
+pub record Leaves (act : Recipe → List Tree → Acted) (refusal : (List ℕ → NodeState) → Option Fault) (fault : Option Fault) (rose out_rose : Type 0) (put_old put_new : Option (List ℕ)) (w : World) (es : List Event) : Type 0 where
+  pub served : Serves act refusal fault rose out_rose w es
+  pub reported : Reports act fault rose put_old put_new w es
+
+-- ## Counts, children, and what is told
+
+-- What a call leaves that ends with this fault, if any: of the world and the children, of the counts of the workspace and the sink, and of the report.
+pub record IsEnding (fault : Option Fault) (old new : Option World) (running : List ℕ) (faults_old faults_new : ℕ) (put_old put_new : Option (List ℕ)) (out_old out_new : ℕ) : Type 0 where
+  pub children : (running ≡ []) ⊎ Rose faults_old faults_new
+  pub device : HasCause faults_old faults_new (fault ≡ Some Device)
+  pub output : HasCause out_old out_new (fault ≡ Some Output)
+  pub quiet : status_of fault ≤ 1 → out_new ≡ out_old
+  pub stays : (¬ Rose faults_old faults_new) ⊎ (status_of fault ≤ 3) → IsSome old → IsSome new
+  pub told : (¬ Rose out_old out_new) ⊎ (status_of fault ≤ 3) → IsSome put_old → IsSome put_new
+  pub silent : IsRefusal (status_of fault) → put_new ≡ put_old
+
+-- ## The fault's line
+
+-- the fault of the outcome: the answer's, or want of memory in place of it
+abbrev pub IsOutcome : Option Fault → Option Fault → Type 0
+IsOutcome fault told = (told ≡ fault) ⊎ (IsSome fault × (told ≡ Some OutOfMemory))
 
 -- the line of the fault, whole unless the sink fails
 abbrev pub IsFaultLine : Option Fault → Type 0 → List ℕ → Type 0

@@ -7,7 +7,7 @@ use Rattle.smk_world.specs.declared.event.Child.{Child}
 use Rattle.smk_world.specs.declared.event.Ended.{Ended}
 use Rattle.smk_world.specs.declared.event.Event.{Event}
 use Rattle.smk_world.specs.declared.event.Failed.{Failed}
-use Rattle.smk_world.specs.declared.event.Stat.TheVariants.{File}
+use Rattle.smk_world.specs.declared.event.Stat.TheVariants.{Nothing, File, Folder}
 use Rattle.smk_world.specs.declared.event.Stat.{Stat}
 use Rattle.smk_world.specs.declared.recipe.Recipe.{Recipe}
 use Rattle.smk_world.specs.World.{World, run, child_numbered}
@@ -42,6 +42,12 @@ IsVerdict output status (Ok (Some code)) es =
     × (((status ≢ 0) × (es ≡ []))
     ⊎ ((status ≡ 0) × ((stat : Stat) × (is_file_seen stat ≡ false) × (es ≡ record { call = Looked output (Ok stat); left = [] } ∷ []))))
 IsVerdict output status (Err e) es = es ≡ record { call = Looked output (Err e); left = [] } ∷ []
+
+-- without a file at the output, a command that ended with 0 failed too
+abbrev pub failure_of : Stat → Option ℕ
+failure_of Nothing = Some 0
+failure_of (File time read_only) = None
+failure_of Folder = Some 0
 
 abbrev pub settling : List ℕ → List ℕ → Option ℕ → List Request
 settling output bytes None = finish_requests output bytes

@@ -8,6 +8,8 @@ mod lines;
 mod recipe;
 mod run;
 mod sight;
+mod top;
 mod words;
 
 pub use fault::{Fault, Outcome};
+pub use top::smk;

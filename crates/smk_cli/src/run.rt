@@ -5,7 +5,7 @@ ghost use Rattle.smk_world.specs.Runs.{Did};
 ghost use Rattle.smk_world.specs.Requests.{Carries};
 ghost use Rattle.smk_cli.specs.Lines.{ending_of};
 ghost use Rattle.smk_cli.specs.Looks.{device_failed};
-ghost use Rattle.smk_cli.specs.Runs.{IsJob, IsVerdict, settling, HasClosed, HasRun, Closed, IsAnswer, answer_of, is_whole, output_failed, is_of_report};
+ghost use Rattle.smk_cli.specs.Runs.{IsJob, IsVerdict, failure_of, settling, HasClosed, HasRun, Closed, IsAnswer, answer_of, is_whole, output_failed, is_of_report};
 
 use crate::fault::Fault;
 use crate::form::OneRule;
@@ -41,6 +41,16 @@ impl Job {
     }
 }
 
+// The failure of a command that ended with 0, by what stands at its output.
+fn failure_of(stat: Stat) -> Option<u32>
+    ensures { result ≡ failure_of stat }
+{
+    match stat {
+        Stat::File { .. } => None,
+        Stat::Nothing | Stat::Folder => Some(0),
+    }
+}
+
 /// How a command fared that ended with the status: None is a success, and 0 a success without a file.
 fn verdict<W: Files>(work: &mut W, output: &Place, status: u32) -> Result<Option<u32>, Failed>
     ensures did { Did W.act (W.world work.old) (W.world work.new) (λ w es. IsVerdict output.now status result es) }
@@ -51,10 +61,8 @@ fn verdict<W: Files>(work: &mut W, output: &Place, status: u32) -> Result<Option
     if status != 0 {
         return Ok(Some(status));
     }
-    match work.stat(output)? {
-        Stat::File { .. } => Ok(None),
-        Stat::Nothing | Stat::Folder => Ok(Some(0)),
-    }
+    let stat = work.stat(output)?;
+    Ok(failure_of(stat))
 }
 
 /// Finishes a job that succeeded, and abandons one that failed.
