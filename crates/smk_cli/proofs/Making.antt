@@ -1,6 +1,6 @@
 -- From the choice of a rule and the run of its job to the whole call.
 use Rattle.std.proofs.Common.{◌≡◌, ◌⊎◌, ◌≤◌, ℕ, Bool, true, false, ◌||◌, List, [], ◌∷◌, ◌++◌, bytes_eq, take, drop, length, refl, ap, sym, subst, ◌∙◌, inl, inr, Option, Some, None, Result, Ok, Err, arith}
-use Rattle.std.specs.Prelude.{IsTrue, IsSome, not, if◌then◌else◌}
+use Rattle.std.specs.Prelude.{IsTrue, IsSome, IsErr, is_ok, not, if◌then◌else◌}
 use Rattle.std.proofs.lemmas.List.{append-nil, take_all, take-append-drop}
 use Rattle.smk_base.specs.Path.{is_at_or_under, is_under}
 use Rattle.smk_base.proofs.Places.{same_place}
@@ -503,3 +503,7 @@ early_status s t limit same h = omega arith
 pub early_as : (rose : Type 0) (s t : ℕ) → s ≡ t → (¬ rose) ⊎ (s ≤ 3) → (¬ rose) ⊎ (t ≤ 3)
 early_as rose s t same (inl never) = inl never
 early_as rose s t same (inr early) = inr (early_status s t 3 same early)
+
+pub not_ok : {A E : Type 0} (r : Result A E) → is_ok r ≡ false → IsErr r
+not_ok (Ok t) h = absurd (true_false h)
+not_ok (Err e) h = refl
