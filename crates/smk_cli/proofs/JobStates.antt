@@ -129,7 +129,7 @@ cut_not_quiet (r ∷ rs) (e ∷ (f ∷ es)) h quiet = cut_not_quiet rs (f ∷ es
 
 -- ## Before the command, and its start
 
-pub reaches_split : (act : Recipe → List Tree → Acted) (rs qs : List Request) (w v : World) → Reaches act (rs ++ qs) w v → (u : World) × Reaches act rs w u × Reaches act qs u v
+reaches_split : (act : Recipe → List Tree → Acted) (rs qs : List Request) (w v : World) → Reaches act (rs ++ qs) w v → (u : World) × Reaches act rs w u × Reaches act qs u v
 reaches_split act [] qs w v h = (w, refl, h)
 reaches_split act (r ∷ rs) qs w v (x, st, more) = let rest = reaches_split act rs qs x v more in (rest.0, (x, st, rest.1), rest.2)
 
@@ -137,7 +137,7 @@ reaches_keeps : (act : Recipe → List Tree → Acted) (rs : List Request) (w v 
 reaches_keeps act [] w v q h k = ap (λ x. x.nodes q) h
 reaches_keeps act (r ∷ rs) w v q (u, st, more) k = reaches_keeps act rs u v q more k.1 ∙ step_keeps act r w u q st k.0
 
-pub reaches_known : (act : Recipe → List Tree → Acted) (rs : List Request) (w v : World) (q : List ℕ) → Reaches act rs w v → AreFiles rs → IsKnown (w.nodes q) → IsKnown (v.nodes q)
+reaches_known : (act : Recipe → List Tree → Acted) (rs : List Request) (w v : World) (q : List ℕ) → Reaches act rs w v → AreFiles rs → IsKnown (w.nodes q) → IsKnown (v.nodes q)
 reaches_known act [] w v q h files known = subst (λ x. IsKnown (x.nodes q)) (sym h) known
 reaches_known act (r ∷ rs) w v q (u, st, more) files known = reaches_known act rs u v q more files.2 (step_known act r w u q st files.0 known)
 
@@ -337,7 +337,7 @@ pub record HasEnded (act : Recipe → List Tree → Acted) (p q : List ℕ) (rec
   pub success : ended.status ≡ 0 → (bytes : List ℕ) → HoldsBytes bytes (before.nodes q)
       → ((act recipe (File bytes ∷ [])).status ≡ 0) × ((tree : Option Tree) × ((act recipe (File bytes ∷ [])).outputs ≡ tree ∷ []) × MaybeTreeAt now p tree)
 
-pub one_numbered : (child other : Child) (n : ℕ) → child_numbered n (child ∷ []) ≡ Some other → (nat_eq child.number n ≡ true) × (child ≡ other)
+one_numbered : (child other : Child) (n : ℕ) → child_numbered n (child ∷ []) ≡ Some other → (nat_eq child.number n ≡ true) × (child ≡ other)
 one_numbered child other n h = go (nat_eq child.number n) refl h
   where
     go : (b : Bool) → nat_eq child.number n ≡ b → (if b then Some child else None) ≡ Some other → (nat_eq child.number n ≡ true) × (child ≡ other)
