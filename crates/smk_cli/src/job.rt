@@ -1,5 +1,5 @@
 //! The calls that one job makes: before its command runs, after a success, after a failure.
-ghost use Rattle.std.specs.Prelude.{◌≡◌, [], ◌∷◌, IsErr, IsOk, IfOk, OnOk, OnErr, IsTrue, IsSome, is_ok};
+ghost use Rattle.std.specs.Prelude.{◌≡◌, [], ◌∷◌, IsErr, IfOk, OnOk, OnErr, IsTrue, IsSome, is_ok};
 ghost use Rattle.smk_base.specs.Path.{is_path};
 ghost use Rattle.smk_world.specs.World.{out_paths};
 ghost use Rattle.smk_world.specs.Calls.{HasCause};
@@ -37,7 +37,7 @@ impl Model for JobPlaces {
 }
 
 impl JobPlaces {
-    /// The places that belong to the output.
+    /// The places that belong to the output. OutOfMemory: there is no memory for them.
     pub(crate) fn of(alloc: Global, output: &PathText) -> Result<JobPlaces, OutOfMemory>
         ensures { IfOk result (λ places. places ≡ output.now) }
     {
@@ -90,7 +90,8 @@ fn clear_output<W: Files>(work: &mut W, places: &JobPlaces) -> Result<(), Failed
     work.make_parents(&places.output)
 }
 
-/// Marks the output, clears it and starts the command. Answers the child's number, or the failure of the first call that failed.
+/// Marks the output, clears it and starts the command: the child's number.
+/// Failed: one of these calls failed, and none came after it.
 pub(crate) fn begin<W: Crew>(
     work: &mut W,
     places: &JobPlaces,
@@ -139,7 +140,8 @@ fn remove_mark<W: Files>(work: &mut W, places: &JobPlaces) -> Result<(), Failed>
     work.settle(&places.marks)
 }
 
-/// Keeps the output of a command that succeeded, with this record. A failure is that of the first call that failed.
+/// Keeps the output of a command that succeeded, with this record.
+/// Failed: one of these calls failed, and none came after it; the mark may still be there.
 pub(crate) fn finish<W: Files>(
     work: &mut W,
     places: &JobPlaces,
@@ -169,7 +171,8 @@ fn drop_output<W: Files>(work: &mut W, places: &JobPlaces) -> Result<(), Failed>
     work.settle(&places.dropped)
 }
 
-/// Gives up the output of a command that failed. A failure is that of the first call that failed.
+/// Gives up the output of a command that failed.
+/// Failed: one of these calls failed, and none came after it; the mark may still be there.
 pub(crate) fn abandon<W: Files>(work: &mut W, places: &JobPlaces) -> Result<(), Failed>
     requires none_runs { W.running work.old ≡ [] }
     ensures did { Did W.act (W.world work.old) (W.world work.new) (λ w es. Carries (abandon_requests places.now) (is_ok result) es) }
