@@ -1,7 +1,7 @@
 -- What a file says, line by line.
-use Rattle.std.proofs.Common.{◌≡◌, ℕ, ◌<◌, ◌≤◌, suc, List, [], ◌∷◌, length, Option, Some, None, refl, ap, sym, ◌∙◌, arith}
+use Rattle.std.proofs.Common.{◌≡◌, ℕ, ◌<◌, ◌≤◌, List, [], ◌∷◌, length, Option, Some, refl, ap, sym, ◌∙◌, arith}
 use Rattle.smk_cli.specs.declared.form.OneRule.{OneRule}
-use Rattle.smk_cli.specs.Form.{Reading, Reads, Faulty, reading, first_line, after_line, name_in, input_in, output_in, command_in, from_name, from_input, from_output, from_shell, if_last}
+use Rattle.smk_cli.specs.Form.{Reads, Faulty, reading, first_line, after_line, name_in, input_in, output_in, command_in, from_name, from_input, from_output, from_shell, if_last}
 
 -- The first four lines have their form, and the rest follows them.
 pub record FourLines (file name input output shell rest : List ℕ) (second third fourth : List ℕ) : Type 0 where

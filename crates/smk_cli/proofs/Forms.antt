@@ -9,7 +9,7 @@ use Rattle.smk_base.specs.Path.{is_path, is_path_byte, are_path_bytes}
 use Rattle.smk_cli.specs.declared.form.Field.{Field}
 use Rattle.smk_cli.specs.declared.form.Field.TheVariants.{Nothing, Input, Output}
 use Rattle.smk_cli.specs.declared.form.OneRule.{OneRule}
-use Rattle.smk_cli.specs.Form.{Reading, Reads, Faulty, reading, first_line, after_line, name_in, input_in, output_in, command_in, from_name, from_input, from_output, from_shell, if_last, inner, after_front, before_back, allowed, stands, line_of, form_text, IsForm, is_name, is_plain_path, is_command, begins_with, more_of, may_stand, is_command_after, is_letter, is_within, are_name_bytes, are_plain_bytes, rule_front, rule_back, input_front, output_front, shell_front, quote_back}
+use Rattle.smk_cli.specs.Form.{Reads, reading, first_line, after_line, name_in, input_in, output_in, command_in, from_name, from_input, from_output, from_shell, if_last, inner, before_back, allowed, stands, line_of, IsForm, is_name, is_plain_path, is_command, begins_with, more_of, may_stand, is_command_after, is_letter, is_within, are_name_bytes, are_plain_bytes, rule_front, rule_back, input_front, output_front, shell_front, quote_back}
 use Rattle.smk_cli.proofs.Files.{reads_rule}
 
 -- ## What is read is of the form

@@ -1,5 +1,5 @@
 -- The form of a workflow file of one rule, and what a file of that form says.
-use Rattle.std.specs.Prelude.{◌≡◌, ℕ, zero, suc, Bool, true, false, ◌&&◌, ◌||◌, not, List, [], ◌∷◌, ◌++◌, length, take, drop, ◌+◌, ◌-◌, Option, Some, None, ◌==◌, nat_le, bytes_eq, codes, if◌then◌else◌}
+use Rattle.std.specs.Prelude.{◌≡◌, ℕ, zero, suc, Bool, true, false, ◌&&◌, ◌||◌, not, List, [], ◌∷◌, ◌++◌, length, take, drop, ◌-◌, Option, Some, None, ◌==◌, nat_le, bytes_eq, codes, if◌then◌else◌}
 use Rattle.std.specs.Str.{is_utf8}
 use Rattle.smk_base.specs.Path.{is_path}
 use Rattle.smk_cli.specs.declared.form.OneRule.{OneRule}

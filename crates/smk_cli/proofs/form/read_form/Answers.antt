@@ -1,6 +1,6 @@
-use Rattle.std.proofs.Common.{◌≡◌, ◌<◌, ◌≤◌, length, ap, sym, ◌∙◌, arith, ℕ, subst}
+use Rattle.std.proofs.Common.{◌≡◌, ap, sym, ◌∙◌, arith, ℕ, subst}
 use Rattle.smk_cli.specs.Form.{Faulty, reading, name_in, input_in, output_in, command_in}
-use Rattle.smk_cli.proofs.Files.{FourLines, reads_rule, fifth_is_faulty}
+use Rattle.smk_cli.proofs.Files.{reads_rule, fifth_is_faulty}
 use Rattle.smk_cli.proofs.form.read_form.Goals as goal
 
 pub returns-in-empty-clause-ok : goal.returns-in-empty-clause-ok

@@ -1,4 +1,4 @@
-use Rattle.std.proofs.Common.{◌≡◌, ◌++◌, ◌-◌, ◌+◌, ◌<◌, ◌≤◌, ◌≢◌, ap, sym, ◌∙◌, string_bytes, take, drop, length, get_or, arith, subst}
+use Rattle.std.proofs.Common.{◌≡◌, ◌++◌, ◌-◌, ◌+◌, ◌<◌, ◌≤◌, ◌≢◌, ap, sym, ◌∙◌, string_bytes, take, length, get_or, arith, subst}
 use Rattle.std.specs.Str.{IsCharBoundary}
 use Rattle.smk_cli.specs.declared.form.Field.TheVariants.{Nothing}
 use Rattle.smk_cli.specs.Form.{field_at, more_of}
