@@ -1,5 +1,5 @@
 -- The world that steps lead to, and what a workspace keeps of it.
-use Rattle.std.specs.Prelude.{◌≡◌, ◌<◌, nat_eq, ℕ, Bool, true, false, List, [], ◌∷◌, Option, None, Some, if◌then◌else◌, bytes_eq}
+use Rattle.std.specs.Prelude.{◌≡◌, ◌<◌, ◌+◌, length, nat_eq, ℕ, Bool, true, false, List, [], ◌∷◌, Option, None, Some, if◌then◌else◌, bytes_eq}
 use Rattle.std.proofs.Props.{props}
 use Rattle.std.specs.Coded.{×_prop, Unit-prop, le_prop}
 use Rattle.smk_world.specs.declared.event.Child.{Child}
@@ -85,6 +85,7 @@ AllDistinct (n ∷ ns) = AllOther n ns × AllDistinct ns
 pub record IsOrderly (w : World) (children : List Child) (next : ℕ) : Type 0 where
   pub children_are : w.children ≡ children
   pub started_below : AllBelow next (started_numbers w.log)
+  pub started_counted : length (started_numbers w.log) + 1 ≡ next
   pub apart : AllApart children
   pub below : AllBelow next (numbers children)
   pub distinct : AllDistinct (numbers children)
@@ -104,6 +105,9 @@ AllApart-prop : (cs : List Child) → IsProp (AllApart cs)
 AllApart-prop [] = Unit-prop
 AllApart-prop (c ∷ cs) = ×_prop (hlevel props) (AllApart-prop cs)
 
+nat-set : IsSet ℕ
+nat-set = hlevel props
+
 Bool-set : IsSet Bool
 Bool-set = hlevel props
 
@@ -119,6 +123,7 @@ pub Orderly-prop : (told : Bool) (steps : List Step) (children : List Child) (ne
 Orderly-prop told steps children next = λ f g i told_is. record {
   children_are = ListChild-set _ _ (f told_is).children_are (g told_is).children_are i;
   started_below = AllBelow-prop next _ (f told_is).started_below (g told_is).started_below i;
+  started_counted = nat-set _ _ (f told_is).started_counted (g told_is).started_counted i;
   apart = AllApart-prop children (f told_is).apart (g told_is).apart i;
   below = AllBelow-prop next _ (f told_is).below (g told_is).below i;
   distinct = AllDistinct-prop _ (f told_is).distinct (g told_is).distinct i;
