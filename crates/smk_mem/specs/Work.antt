@@ -6,6 +6,7 @@ use Rattle.smk_world.specs.World.{World}
 use Rattle.smk_nodes.specs.Steps.{told_world, step_world}
 use Rattle.smk_nodes.specs.declared.step.Step.{Step}
 use Rattle.smk_mem.specs.declared.work.MemWork.{MemWork}
+use Rattle.smk_mem.specs.declared.work.Setup.{Setup}
 
 -- its world, where that is told
 abbrev pub world_in : MemWork → Option World
@@ -14,6 +15,10 @@ world_in work = told_world work.told work.steps
 -- how often its device has failed
 abbrev pub faults_in : MemWork → ℕ
 faults_in work = work.faults
+
+-- how its calls and children are to go
+abbrev pub setup_in : MemWork → Setup
+setup_in work = record { failing = work.failing; stop_after = work.stop_after; order = work.order; killed = work.killed }
 
 -- the world was told before, and this is where the step leads from it
 abbrev pub IsStepFrom : Option World → Step → World → Type 0
