@@ -1,9 +1,8 @@
 -- Each call is an event of a world that isn't told.
-use Rattle.std.proofs.Common.{◌≡◌, List, Option, None, true, false}
+use Rattle.std.proofs.Common.{List, None}
 use Rattle.smk_base.specs.declared.tree.Tree.{Tree}
 use Rattle.smk_world.specs.declared.recipe.Recipe.{Recipe}
 use Rattle.smk_world.specs.declared.event.Call.{Call}
-use Rattle.smk_world.specs.World.{World}
 use Rattle.smk_world.specs.Calls.{Acted, Happened}
 use Rattle.smk_real.specs.Untold.{untold}
 

@@ -1,5 +1,5 @@
 -- Where no world is told, whatever is said of it holds.
-use Rattle.std.specs.Prelude.{◌≡◌, Option, Some, None}
+use Rattle.std.specs.Prelude.{◌≡◌, Some, None}
 use Rattle.std.proofs.lemmas.Option.{none-some}
 use Rattle.smk_world.specs.World.{World}
 
