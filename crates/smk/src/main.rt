@@ -1,0 +1,68 @@
+//! The command `smk`: it makes the real devices, and ends with the status of the call on them.
+#![tactic(auto)]
+
+use smk_cli::smk;
+use smk_real::{RealSink, RealWork};
+use std::alloc::{AllocError, Global};
+use std::env;
+use std::io;
+use std::io::ErrorKind;
+use std::process::ExitCode;
+use std::rt::Env;
+
+const HELP: &str = "smk --cores 1 TARGET\n\nMakes the target by the rule in the file Snakefile of the working folder.\n\n--help and --version, alone, tell of the program.\n";
+const VERSION: &str = "smk 0.1.0\n";
+
+const BAD_WORDS: u8 = 2;
+const OUT_OF_MEMORY: u8 = 5;
+const OUTPUT: u8 = 6;
+
+fn main(rt: HostRuntime) -> ExitCode {
+    let alloc = rt.alloc();
+    let words = match words_of(&rt, alloc) {
+        Ok(words) => words,
+        Err(error) if error.kind() == ErrorKind::OutOfMemory => {
+            let _ = rt.eprintln("smk: out of memory");
+            return ExitCode::from(OUT_OF_MEMORY);
+        }
+        Err(_) => {
+            let _ = rt.eprintln("smk: words not read");
+            return ExitCode::from(BAD_WORDS);
+        }
+    };
+    if let [word] = words.as_slice() {
+        match word.as_str() {
+            "--help" => return told(&rt, HELP),
+            "--version" => return told(&rt, VERSION),
+            _ => {}
+        }
+    }
+    let mut work = RealWork::new(alloc, &rt);
+    let mut output = RealSink::output(rt.stdout());
+    let mut errors = RealSink::errors(rt.stderr());
+    let outcome = smk(
+        &rt,
+        alloc,
+        words.as_slice(),
+        &mut work,
+        &mut output,
+        &mut errors,
+    );
+    ExitCode::from(outcome.status)
+}
+
+// The words after the program's name.
+fn words_of<R: Env + AllocGlobal>(rt: &R, alloc: Global) -> io::Result<Vec<String>> {
+    let mut words = Vec::new(alloc);
+    for word in env::args(rt)?.skip(1) {
+        words.push(word)?;
+    }
+    Ok(words)
+}
+
+fn told(rt: &impl Print, text: &str) -> ExitCode {
+    match rt.print(text) {
+        Ok(()) => ExitCode::SUCCESS,
+        Err(_) => ExitCode::from(OUTPUT),
+    }
+}
