@@ -187,7 +187,7 @@ module _ (nodes : Nodes) (p : List ℕ) where
       go : (o : Option (List ℕ)) → name_under j p ≡ o → Above name (map (λ n. n.name) (names_of nodes p ks)) → Above name (map (λ n. n.name) (entry_of (is_folder_there (node_at nodes j)) o ++ names_of nodes p ks))
       go None e ih = ih
       go (Some other) e ih = with_text (is_text other) (is_folder_there (node_at nodes j)) name other (names_of nodes p ks)
-        (sym (in_order p name other) ∙ ap (λ x. slice_cmp nat_cmp x (in_folder p other)) (sym is) ∙ ap (slice_cmp nat_cmp k) (sym (key_is j p other e).0) ∙ all.0) ih
+          (sym (in_order p name other) ∙ ap (λ x. slice_cmp nat_cmp x (in_folder p other)) (sym is) ∙ ap (slice_cmp nat_cmp k) (sym (key_is j p other e).0) ∙ all.0) ih
 
   names_rising : (ks : List (List ℕ)) → IsRising ks → IsRising (map (λ n. n.name) (names_of nodes p ks))
   unfolding IsStrictlySortedBy

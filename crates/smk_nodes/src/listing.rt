@@ -83,12 +83,7 @@ fn push_entry(
 }
 
 // The listing of these keys.
-fn list_keys(
-    alloc: Global,
-    nodes: &Nodes,
-    p: &str,
-    keys: &[String],
-) -> Result<Listing, OutOfMemory>
+fn list_keys(alloc: Global, nodes: &Nodes, p: &str, keys: &[String]) -> Result<Listing, OutOfMemory>
     ensures { IfOk result (λ listing. listing ≡ record { there = true; names = names_of nodes.now p.now (map string_bytes keys.now); strange = strange_of p.now (map string_bytes keys.now) }) }
 {
     let mut names = List::new(alloc);

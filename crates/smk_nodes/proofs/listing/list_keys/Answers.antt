@@ -15,7 +15,7 @@ loop-key-preserved c =
     let name : option_map (λ n. n.now) c.name_in-name.result ≡ name_under (string_bytes k) c.args.p.now = search rules in
     let either : c.if-strange.strange ≡ (c.loop-key.strange || c.in_ok-other.other) = search rules in (
       names_step c.args.nodes.now c.args.p.now (map string_bytes (take i keys)) (map string_bytes (take (i + 1) keys)) (string_bytes k) c.is_folder-folder.result (option_map (λ n. n.now) c.name_in-name.result) c.loop-key.names c.push_entry.new.names
-      more folder name c.loop-key.invariant.0 c.in_ok-other.ensures.names,
+          more folder name c.loop-key.invariant.0 c.in_ok-other.ensures.names,
       strange_step c.args.p.now (map string_bytes (take i keys)) (map string_bytes (take (i + 1) keys)) (string_bytes k) (option_map (λ n. n.now) c.name_in-name.result) c.loop-key.strange c.in_ok-other.other c.if-strange.strange
-      more name c.loop-key.invariant.1 c.in_ok-other.ensures.strange either,
+          more name c.loop-key.invariant.1 c.in_ok-other.ensures.strange either,
     )
