@@ -5,7 +5,6 @@ pub mod Looking
 pub mod Served
 pub mod JobSteps
 pub mod JobStates
-pub mod JobSteps
 pub mod Texts
 pub mod Fields
 pub mod Files
