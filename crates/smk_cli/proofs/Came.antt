@@ -1,13 +1,12 @@
 -- What the course of a job leaves.
-use Rattle.std.proofs.Common.{◌≡◌, ◌⊎◌, ℕ, ◌==◌, Bool, true, false, ◌&&◌, ◌||◌, List, [], ◌∷◌, ◌++◌, refl, ap, sym, subst, ◌∙◌, inl, inr, Option, Some, None, Result, Ok, Err, arith}
-use Rattle.std.specs.Prelude.{IsTrue, nat_eq, if◌then◌else◌}
+use Rattle.std.proofs.Common.{◌≡◌, ◌⊎◌, ℕ, ◌==◌, Bool, true, false, ◌||◌, List, [], ◌∷◌, ◌++◌, refl, ap, sym, subst, ◌∙◌, inl, inr, Option, Some, None, Result, Ok, Err}
+use Rattle.std.specs.Prelude.{if◌then◌else◌}
 use Rattle.std.proofs.lemmas.Bool.{eq-eqb}
 use Rattle.std.proofs.lemmas.List.{append-nil}
-use Rattle.smk_base.specs.Path.{is_path, is_at_or_under, own_folder}
+use Rattle.smk_base.specs.Path.{is_at_or_under, own_folder}
 use Rattle.smk_base.specs.Place.{mark_place, record_place}
-use Rattle.smk_base.proofs.Places.{place_itself}
 use Rattle.smk_base.specs.declared.tree.Tree.{Tree}
-use Rattle.smk_base.specs.declared.tree.Tree.TheVariants.{File, Folder}
+use Rattle.smk_base.specs.declared.tree.Tree.TheVariants.{File}
 use Rattle.smk_world.specs.declared.event.Call.{Call}
 use Rattle.smk_world.specs.declared.event.Call.TheVariants.{Looked, ReadFile, ReadFolder, Written, Created, Removed, MadeParents, Settled, Protected, Started, Waited}
 use Rattle.smk_world.specs.declared.event.Change.{Change}
@@ -15,27 +14,25 @@ use Rattle.smk_world.specs.declared.event.Child.{Child}
 use Rattle.smk_world.specs.declared.event.Ended.{Ended}
 use Rattle.smk_world.specs.declared.event.Event.{Event}
 use Rattle.smk_world.specs.declared.event.Failed.{Failed}
-use Rattle.smk_world.specs.declared.event.Node.{Node}
 use Rattle.smk_world.specs.declared.event.Node.TheVariants.{Regular, Directory}
 use Rattle.smk_world.specs.declared.event.NodeState.{NodeState}
 use Rattle.smk_world.specs.declared.event.NodeState.TheVariants.{Owned, Known}
 use Rattle.smk_world.specs.declared.event.Stat.{Stat}
 use Rattle.smk_world.specs.declared.event.Stat.TheVariants as stat
 use Rattle.smk_world.specs.declared.recipe.Recipe.{Recipe}
-use Rattle.smk_world.specs.World.{World, after, run, is_within, child_numbered, firmly, reading}
-use Rattle.smk_world.specs.Calls.{Acted, Lets, HoldsBytes, StatIs, MaybeTreeAt, ContentsAre, HasOwners, started_number, started_numbers, failed, stat_of}
+use Rattle.smk_world.specs.World.{World, after, run, is_within, child_numbered, reading}
+use Rattle.smk_world.specs.Calls.{Acted, Lets, HoldsBytes, StatIs, MaybeTreeAt, started_number, started_numbers, failed}
 use Rattle.smk_world.specs.Runs.{Follows}
 use Rattle.smk_world.specs.Requests.{Request, request, HasDone, IsCutShort, Carries}
-use Rattle.smk_world.specs.Requests.Request.{Look, ReadUpTo, ListFolder, Write, Create, Remove, MakeParents, Settle, Protect, Start, Wait}
+use Rattle.smk_world.specs.Requests.Request.{Start}
 use Rattle.smk_world.proofs.Runs.{run_append}
 use Rattle.smk_cli.specs.declared.form.OneRule.{OneRule}
 use Rattle.smk_cli.specs.Recipe.{recipe_of, command_of, record_of}
-use Rattle.smk_cli.specs.Job.{mark_requests, clear_requests, begin_requests, finish_requests, abandon_requests}
+use Rattle.smk_cli.specs.Job.{mark_requests, clear_requests, begin_requests}
 use Rattle.smk_cli.specs.Words.{has_slash}
-use Rattle.smk_cli.specs.Sources.{at}
 use Rattle.smk_cli.specs.Looks.{is_look, EachCall, HasCall, AreQuiet, HasFailure, IsFlat, HadTime, is_file_seen}
-use Rattle.smk_cli.specs.Runs.{IsVerdict, settling, HasSettled, IsUnjudged, ClosesBy, HasTrueStatus, HasClosed, Course, Unbegun, Unclosed, Closed, is_closed, HasBegunAnd, IsCourse}
-use Rattle.smk_cli.specs.Clauses.{KeepsAllBut, HoldsFirmly, Makes, IsDone, HasFailed, HasEnded}
+use Rattle.smk_cli.specs.Runs.{IsVerdict, settling, HasSettled, ClosesBy, HasTrueStatus, HasClosed, Course, Unbegun, Unclosed, Closed, is_closed, HasBegunAnd, IsCourse}
+use Rattle.smk_cli.specs.Clauses.{KeepsAllBut, Makes, IsDone, HasFailed}
 use Rattle.smk_cli.proofs.Apart.{true_false, never_true, not_both, or_none, or_first, or_second, path_not_own}
 use Rattle.smk_cli.proofs.Apart as apart
 use Rattle.smk_cli.proofs.JobSteps.{is_start, AreFiles, number_none, IsKnown}
@@ -298,10 +295,10 @@ closed_failed act rule bytes code number rose before first w es way begun follow
     let end = abandoned act p u h.rest way.flat.output_path idle (follows_second act v h.looks h.rest told.1) h.closed in
     let now : run w es ≡ run u h.rest = ap (run w) h.events ∙ run_append v h.looks h.rest in
     let status : (input : List ℕ) → HoldsBytes input (before rule.input) → ((act (recipe_of rule) (File input ∷ [])).status ≡ code → ⊥) → rose =
-        λ input holds other. honest h.ended h.left (h.looks ++ h.rest) h.events child
-        (ap (child_numbered (h.ended).number) way.runs ∙ the_one (h.ended).number number child ended.numbered)
-        (File input ∷ []) (ended.contents input (subst (HoldsBytes input) (sym way.input) holds))
-        (λ same. other (sym same ∙ sym h.verdict.0)) in
+    λ input holds other. honest h.ended h.left (h.looks ++ h.rest) h.events child
+    (ap (child_numbered (h.ended).number) way.runs ∙ the_one (h.ended).number number child ended.numbered)
+    (File input ∷ []) (ended.contents input (subst (HoldsBytes input) (sym way.input) holds))
+    (λ same. other (sym same ∙ sym h.verdict.0)) in
     record {
       ended = record {
         number = number;
@@ -314,11 +311,11 @@ closed_failed act rule bytes code number rose before first w es way begun follow
       unmade = λ input made holds makes. elim h.verdict.1 [
         | inl other ↦ status input holds (λ same. other.0 (sym h.verdict.0 ∙ sym same ∙ ap (λ (a : Acted). a.status) makes))
         | inr none ↦ absurd (
-          let success = ended.success none.0 input (subst (HoldsBytes input) (sym way.input) holds) in
-          let tree : success.1.0 ≡ Some (File made) = one_tree success.1.0 made (sym success.1.1 ∙ ap (λ (a : Acted). a.outputs) makes) in
-          let there : HoldsBytes made (v.nodes p) = subst (λ t. MaybeTreeAt v p t) tree success.1.2 in
-          let looked = subst (Follows act v) none.1.2 (follows_first act v h.looks h.rest told.1) in
-          no_such_file (v.nodes p) none.1.0 made there looked.0.1 none.1.1)
+            let success = ended.success none.0 input (subst (HoldsBytes input) (sym way.input) holds) in
+            let tree : success.1.0 ≡ Some (File made) = one_tree success.1.0 made (sym success.1.1 ∙ ap (λ (a : Acted). a.outputs) makes) in
+            let there : HoldsBytes made (v.nodes p) = subst (λ t. MaybeTreeAt v p t) tree success.1.2 in
+            let looked = subst (Follows act v) none.1.2 (follows_first act v h.looks h.rest told.1) in
+            no_such_file (v.nodes p) none.1.0 made there looked.0.1 none.1.1)
       ];
       output = λ q at_or_under. ap (λ (x : World). x.nodes q) now ∙ end.output q at_or_under;
       kept = ap (λ (x : World). x.nodes (record_place p)) now ∙ end.kept;

@@ -1,12 +1,11 @@
 -- Which rule looks choose.
-use Rattle.std.proofs.Common.{◌≡◌, ◌⊎◌, ℕ, ◌==◌, Bool, true, false, ◌&&◌, ◌||◌, List, [], ◌∷◌, ◌++◌, refl, ap, sym, subst, ◌∙◌, inl, inr, Option, Some, None, Result, Ok, Err, map, bytes_eq}
+use Rattle.std.proofs.Common.{◌≡◌, ℕ, ◌==◌, Bool, true, false, ◌&&◌, ◌||◌, List, [], ◌∷◌, refl, ap, sym, subst, ◌∙◌, Option, Some, None, Result, Ok, Err, map, bytes_eq}
 use Rattle.std.specs.Prelude.{IsTrue, IsErrAnd, not, if◌then◌else◌}
 use Rattle.std.specs.List.{list_any}
 use Rattle.std.specs.Str.{is_utf8}
 use Rattle.smk_base.specs.Path.{is_path}
 use Rattle.smk_base.proofs.Places.{and_first, and_second}
 use Rattle.smk_base.specs.declared.tree.Tree.{Tree}
-use Rattle.smk_world.specs.declared.event.Event.{Event}
 use Rattle.smk_world.specs.declared.event.Node.{Node}
 use Rattle.smk_world.specs.declared.event.Node.TheVariants.{Regular, Directory}
 use Rattle.smk_world.specs.declared.event.NodeState.{NodeState}
@@ -19,10 +18,10 @@ use Rattle.smk_cli.specs.declared.fault.Fault.TheVariants.{BadWords, Unexpected,
 use Rattle.smk_cli.specs.declared.form.OneRule.{OneRule}
 use Rattle.smk_cli.specs.declared.sight.Chosen.{Chosen}
 use Rattle.smk_cli.specs.declared.sight.Sight.{Sight}
-use Rattle.smk_cli.specs.Form.{Reading, Reads, Faulty, reading, is_plain_byte, are_plain_bytes, is_plain_path, allowed, first_line, after_line, name_in, input_in, output_in, command_in, from_name, from_input, from_output, from_shell, if_last}
+use Rattle.smk_cli.specs.Form.{Reads, reading, is_plain_byte, are_plain_bytes, is_plain_path, allowed, first_line, after_line, name_in, input_in, output_in, command_in, from_name, from_input, from_output, from_shell, if_last}
 use Rattle.smk_cli.specs.Words.{has_slash}
 use Rattle.smk_cli.specs.Sources.{at, is_known, is_covered, is_file, is_folder, is_source, workflow_at, is_refused, refused_by}
-use Rattle.smk_cli.specs.Looks.{HasSeen, device_failed, is_device, is_of_look, sight_of, is_file_seen, is_folder_seen, file_time, IsFlat, IsChosen, IsRead, admitted_time}
+use Rattle.smk_cli.specs.Looks.{HasSeen, device_failed, is_device, is_of_look, sight_of, is_file_seen, is_folder_seen, file_time, IsFlat, IsChosen, admitted_time}
 use Rattle.smk_cli.proofs.Apart.{true_false, or_none, never_true, not_both, or_first, or_second}
 use Rattle.smk_cli.proofs.Looking.{seen_both, seen_as}
 
@@ -170,8 +169,7 @@ pub chosen_well : (target : List ℕ) (rule : OneRule) (input output : Sight) (t
     → IsChosen target (Ok (record { rule = rule; time = time })) nodes
 chosen_well target rule input output time nodes flat is seen =
     let well = admits_well _ _ _ _ (at nodes rule.input) time (sym (as_admits target rule input output nodes seen) ∙ sym is) in
-    let free : is_refused rule target nodes ≡ false = as_refuses target rule nodes flat ∙ well.0 in
-    (
+    let free : is_refused rule target nodes ≡ false = as_refuses target rule nodes flat ∙ well.0 in (
       ap (λ said. refused_by said target nodes) seen.said ∙ ap (λ v. if v then Some (NoRule target) else None) free,
       seen.said,
       record { bytes = well.1.0; read_only = well.1.1; reads = well.1.2 },

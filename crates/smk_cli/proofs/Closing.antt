@@ -1,6 +1,6 @@
 -- From the calls of a job to its course.
-use Rattle.std.proofs.Common.{◌≡◌, ◌⊎◌, ◌<◌, ◌≤◌, ℕ, Bool, true, false, List, [], ◌∷◌, ◌++◌, take, drop, length, refl, ap, sym, subst, ◌∙◌, inl, inr, Option, Some, None, Result, Ok, Err, arith, append_assoc}
-use Rattle.std.specs.Prelude.{IfOk, OnOk, IsErr, IsSome, is_ok, is_err}
+use Rattle.std.proofs.Common.{◌≡◌, ◌⊎◌, ◌≤◌, ℕ, Bool, true, false, List, [], ◌∷◌, ◌++◌, take, drop, length, refl, ap, sym, subst, ◌∙◌, inl, inr, Option, Some, None, Result, Ok, Err, arith, append_assoc}
+use Rattle.std.specs.Prelude.{OnOk, IsErr, IsSome, is_err}
 use Rattle.std.proofs.lemmas.List.{append-nil, take_all, take-append-drop}
 use Rattle.smk_base.specs.declared.tree.Tree.{Tree}
 use Rattle.smk_world.specs.declared.event.Call.{Call}
@@ -14,17 +14,17 @@ use Rattle.smk_world.specs.declared.event.Stat.{Stat}
 use Rattle.smk_world.specs.declared.event.Stat.TheVariants.{Nothing, File, Folder}
 use Rattle.smk_world.specs.declared.recipe.Recipe.{Recipe}
 use Rattle.smk_world.specs.World.{World, run, child_numbered}
-use Rattle.smk_world.specs.Calls.{Acted, Lets, Happened, ContentsAre, HasOwners, HasPut, Rose, started_numbers}
-use Rattle.smk_world.specs.Runs.{Follows, Did}
+use Rattle.smk_world.specs.Calls.{Acted, Happened, ContentsAre, HasOwners, HasPut, Rose}
+use Rattle.smk_world.specs.Runs.{Did}
 use Rattle.smk_world.specs.Requests.{HasDone, IsCutShort, Carries}
 use Rattle.smk_world.proofs.Runs.{did_both}
 use Rattle.smk_cli.specs.declared.fault.Fault.{Fault}
 use Rattle.smk_cli.specs.declared.fault.Fault.TheVariants.{BadWords, Unexpected, NoRule, JobFailed, Device, Output, OutOfMemory}
 use Rattle.smk_cli.specs.declared.form.OneRule.{OneRule}
 use Rattle.smk_cli.specs.Recipe.{recipe_of, command_of, record_of}
-use Rattle.smk_cli.specs.Lines.{start_line, ending_of, report_of}
+use Rattle.smk_cli.specs.Lines.{start_line, ending_of}
 use Rattle.smk_cli.specs.Job.{begin_requests, HasBegun}
-use Rattle.smk_cli.specs.Runs.{IsVerdict, failure_of, settling, HasSettled, IsUnjudged, ClosesBy, HasTrueStatus, HasClosed, Course, Unbegun, Unclosed, Closed, is_closed, HasBegunAnd, IsCourse, IsFront, IsText, HasWritten, is_whole, output_failed, IsAnswer, HasRun}
+use Rattle.smk_cli.specs.Runs.{IsVerdict, failure_of, settling, HasSettled, ClosesBy, HasTrueStatus, HasClosed, Course, Unbegun, Unclosed, Closed, is_closed, HasBegunAnd, IsCourse, IsFront, IsText, HasWritten, is_whole, output_failed}
 use Rattle.smk_cli.proofs.Apart.{true_false}
 use Rattle.smk_cli.proofs.Looking.{did_one, did_map}
 
@@ -96,8 +96,8 @@ closed_unwaited act p bytes rose a b r s e failed same now =
     subst (λ v. Did act a b (HasClosed act p bytes rose v)) (sym same)
     (did_one act (HasClosed act p bytes rose (Err e)) a b (Waited (Err e)) (subst (λ v. Happened act a b (Waited v)) failed now)
     (λ w left k lets.
-        let only : record { call = Waited (Err e); left = left } ∷ [] ≡ record { call = Waited (Err e); left = [] } ∷ [] = ap (λ l. record { call = Waited (Err e); left = l } ∷ []) lets in
-        record { events = inl only; honest = λ ended left2 rest is. absurd (no_ended e ended left left2 [] rest is) }))
+    let only : record { call = Waited (Err e); left = left } ∷ [] ≡ record { call = Waited (Err e); left = [] } ∷ [] = ap (λ l. record { call = Waited (Err e); left = l } ∷ []) lets in
+    record { events = inl only; honest = λ ended left2 rest is. absurd (no_ended e ended left left2 [] rest is) }))
 
 -- the look failed
 pub closed_unjudged : (act : Recipe → List Tree → Acted) (p bytes : List ℕ) (rose : Type 0) (ended : Ended) (a b c : Option World) (r s : Result (Option ℕ) Failed) (e : Failed)
@@ -106,11 +106,11 @@ closed_unjudged act p bytes rose ended a b c r s e failed same first second =
     subst (λ v. Did act a c (HasClosed act p bytes rose v)) (sym same)
     (did_both act (HasWaited act rose ended) (λ w es. IsVerdict p ended.status (Err e) es) (HasClosed act p bytes rose (Err e)) a b c first (subst (λ v. Did act b c (λ w es. IsVerdict p ended.status v es)) failed second)
     (λ w es fs follows f follows2 g.
-        let is : es ++ fs ≡ wait_event ended f.left ∷ fs = ap (λ l. l ++ fs) f.only in
-        record {
-          events = inr (inl (record { ended = ended; left = f.left; looks = fs; events = is; verdict = (e, g) }));
-          honest = true_status act rose ended f.left fs w (es ++ fs) is f.honest;
-        }))
+    let is : es ++ fs ≡ wait_event ended f.left ∷ fs = ap (λ l. l ++ fs) f.only in
+    record {
+      events = inr (inl (record { ended = ended; left = f.left; looks = fs; events = is; verdict = (e, g) }));
+      honest = true_status act rose ended f.left fs w (es ++ fs) is f.honest;
+    }))
 
 -- judged, and then settled
 pub settled_after : (act : Recipe → List Tree → Acted) (p bytes : List ℕ) (rose : Type 0) (ended : Ended) (failed : Option ℕ) (ok : Bool) (a b c d : Option World) (s : Result (Option ℕ) Failed)
@@ -123,23 +123,23 @@ settled_after act p bytes rose ended failed ok a b c d s closes first second thi
     (λ w es fs follows f follows2 g. (es, f, (fs, g, refl))))
     third
     (λ w es fs follows f follows2 g.
-        let waits = f.1 in
-        let looks = f.2.0 in
-        let front : es ≡ wait_event ended waits.left ∷ looks = f.2.2 ∙ ap (λ l. l ++ looks) waits.only in
-        let is : es ++ fs ≡ wait_event ended waits.left ∷ (looks ++ fs) = ap (λ l. l ++ fs) front in
-        record {
-          events = closes w (es ++ fs) (record {
-            ended = ended;
-            left = waits.left;
-            looks = looks;
-            rest = fs;
-            events = is;
-            verdict = f.2.1;
-            owners = subst (λ l. HasOwners (run w l)) front g.0;
-            closed = g.1;
-          });
-          honest = true_status act rose ended waits.left (looks ++ fs) w (es ++ fs) is waits.honest;
-        })
+    let waits = f.1 in
+    let looks = f.2.0 in
+    let front : es ≡ wait_event ended waits.left ∷ looks = f.2.2 ∙ ap (λ l. l ++ looks) waits.only in
+    let is : es ++ fs ≡ wait_event ended waits.left ∷ (looks ++ fs) = ap (λ l. l ++ fs) front in
+    record {
+      events = closes w (es ++ fs) (record {
+        ended = ended;
+        left = waits.left;
+        looks = looks;
+        rest = fs;
+        events = is;
+        verdict = f.2.1;
+        owners = subst (λ l. HasOwners (run w l)) front g.0;
+        closed = g.1;
+      });
+      honest = true_status act rose ended waits.left (looks ++ fs) w (es ++ fs) is waits.honest;
+    })
 
 pub closes_well : (p bytes : List ℕ) (failed : Option ℕ) (w : World) (es : List Event) → HasSettled p bytes failed true w es → ClosesBy p bytes (Ok failed) w es
 closes_well p bytes failed w es h = h
@@ -278,8 +278,7 @@ text_ended rule failed whole line old mid new well is first second stays = recor
       let h = second.told now e in
       let k = first.told h.0 h.1 in
       let n = h.2.0 in
-      let start : take k.2.0 line ≡ start_line rule = all_taken k.2.0 line (k.2.2 refl) ∙ is in
-      (
+      let start : take k.2.0 line ≡ start_line rule = all_taken k.2.0 line (k.2.2 refl) ∙ is in (
         k.0,
         k.1,
         (

@@ -1,5 +1,5 @@
 -- Looks one after another.
-use Rattle.std.proofs.Common.{◌≡◌, ◌⊎◌, ℕ, Bool, true, false, List, [], ◌∷◌, ◌++◌, refl, ap, sym, subst, ◌∙◌, inl, inr, Option, Some, None, Result, Ok, Err, map}
+use Rattle.std.proofs.Common.{◌≡◌, ℕ, Bool, true, false, List, [], ◌∷◌, ◌++◌, refl, ap, sym, subst, ◌∙◌, inl, inr, Option, Some, None, Result, Ok, Err}
 use Rattle.std.specs.Prelude.{is_some, IfOk, IsErr}
 use Rattle.smk_base.specs.declared.tree.Tree.{Tree}
 use Rattle.smk_world.specs.declared.event.Call.{Call}
@@ -18,13 +18,13 @@ use Rattle.smk_world.specs.declared.event.NodeState.TheVariants.{Owned, Known}
 use Rattle.smk_world.specs.declared.event.Stat.{Stat}
 use Rattle.smk_world.specs.declared.recipe.Recipe.{Recipe}
 use Rattle.smk_world.specs.World.{World, after, run, numbers, node_after, children_after, is_within, reading}
-use Rattle.smk_world.specs.Calls.{Acted, Lets, Happened, HasOwners, failed, is_failed, stat_of, found_of, owned_now, StatIs, FoundIs}
+use Rattle.smk_world.specs.Calls.{Acted, Lets, Happened, HasOwners, is_failed, stat_of, found_of, owned_now, StatIs, FoundIs}
 use Rattle.smk_world.specs.Runs.{Follows, Did}
-use Rattle.smk_world.proofs.Runs.{run_append, did_both}
+use Rattle.smk_world.proofs.Runs.{did_both}
 use Rattle.smk_cli.specs.declared.form.OneRule.{OneRule}
 use Rattle.smk_cli.specs.Sources.{at, file_name, reading_of, workflow_at}
 use Rattle.smk_cli.specs.declared.fault.Fault.{Fault}
-use Rattle.smk_cli.specs.Looks.{is_look, EachCall, HasCall, AreQuiet, HasFailure, HasSeen, device_failed, IsRead, is_there}
+use Rattle.smk_cli.specs.Looks.{is_look, EachCall, HasCall, HasSeen, device_failed, IsRead, is_there}
 use Rattle.smk_cli.proofs.Apart.{true_false}
 use Rattle.smk_cli.proofs.Carried.{no_children}
 use Rattle.smk_cli.proofs.JobStates.{IsIdle}

@@ -1,5 +1,5 @@
 -- From the choice of a rule and the run of its job to the whole call.
-use Rattle.std.proofs.Common.{◌≡◌, ◌⊎◌, ◌≤◌, ℕ, Bool, true, false, ◌||◌, List, [], ◌∷◌, ◌++◌, bytes_eq, take, drop, length, refl, ap, sym, subst, ◌∙◌, inl, inr, Option, Some, None, Result, Ok, Err, arith}
+use Rattle.std.proofs.Common.{◌≡◌, ◌⊎◌, ◌≤◌, ℕ, Bool, true, false, ◌||◌, List, [], ◌++◌, bytes_eq, take, drop, length, refl, ap, sym, subst, ◌∙◌, inl, inr, Option, Some, None, Result, Ok, Err, arith}
 use Rattle.std.specs.Prelude.{IsTrue, IsSome, IsErr, is_ok, not, if◌then◌else◌}
 use Rattle.std.proofs.lemmas.List.{append-nil, take_all, take-append-drop}
 use Rattle.smk_base.specs.Path.{is_at_or_under, is_under}
@@ -10,7 +10,7 @@ use Rattle.smk_world.specs.declared.event.NodeState.{NodeState}
 use Rattle.smk_world.specs.declared.recipe.Recipe.{Recipe}
 use Rattle.smk_world.specs.World.{World, run}
 use Rattle.smk_world.specs.Calls.{Acted, HasCause, HasPut, Rose}
-use Rattle.smk_world.specs.Runs.{Follows, Did}
+use Rattle.smk_world.specs.Runs.{Did}
 use Rattle.smk_world.proofs.Runs.{run_append, did_both}
 use Rattle.smk_cli.specs.declared.fault.Fault.{Fault}
 use Rattle.smk_cli.specs.declared.fault.Fault.TheVariants.{BadWords, Unexpected, NoRule, JobFailed, Device, Output, OutOfMemory}
@@ -20,15 +20,15 @@ use Rattle.smk_cli.specs.Faults.{status_of}
 use Rattle.smk_cli.specs.Form.{Reading, Reads, Faulty}
 use Rattle.smk_cli.specs.Lines.{report_of, fault_text}
 use Rattle.smk_cli.specs.Sources.{workflow_at, refused_for, refused_by, is_refused, is_source, is_folder, at}
-use Rattle.smk_cli.specs.Looks.{AreQuiet, HasSeen, is_device, device_failed, is_of_looks, IsFlat, HadTime, IsChosen}
+use Rattle.smk_cli.specs.Looks.{HasSeen, is_device, device_failed, is_of_looks, IsFlat, HadTime, IsChosen}
 use Rattle.smk_cli.specs.Runs.{Course, Unbegun, Unclosed, Closed, is_closed, IsCourse, IsAnswer, IsFront, IsText, HasWritten, HasRun, is_whole, output_failed}
-use Rattle.smk_cli.specs.Clauses.{IsDone, HasFailed, fault_of, IsRefusal, HasServed, IsTold, HasReport, IsReport, HasReported, Leaves, IsEnding, IsOutcome, IsFaultLine}
-use Rattle.smk_cli.proofs.Apart.{true_false, never_true, not_both, or_none, or_second, flat_under}
+use Rattle.smk_cli.specs.Clauses.{fault_of, IsRefusal, IsTold, HasReport, IsReport, HasReported, Leaves, IsEnding, IsOutcome, IsFaultLine}
+use Rattle.smk_cli.proofs.Apart.{true_false, never_true, not_both, or_none, flat_under}
 use Rattle.smk_cli.proofs.JobStates.{IsIdle}
 use Rattle.smk_cli.proofs.Looking.{IsEntry, did_map, looks_nodes, looks_idle}
 use Rattle.smk_cli.proofs.Served.{HasCome, come_after, served_by_looks, served_by_job, served_without_memory}
 use Rattle.smk_cli.proofs.Came.{IsStart, came, slash_any}
-use Rattle.smk_cli.proofs.Closing.{rose_later, rose_earlier, le_both, closed_with}
+use Rattle.smk_cli.proofs.Closing.{rose_earlier, le_both, closed_with}
 
 abbrev Nodes : Type 0
 Nodes = List ℕ → NodeState
@@ -82,52 +82,75 @@ left_without_memory act target r t s rose out_rose put a b well same did =
 
 -- words that aren't read
 pub left_unread : (act : Recipe → List Tree → Acted) (rose out_rose : Type 0) (put : Option (List ℕ)) (a : Option World) → Did act a a (Leaves act (refused_for None) (Some BadWords) rose out_rose put put)
-left_unread act rose out_rose put a = λ w e. (w, e, ([], tt, record {
-  served = record {
-    outside = λ q h. refl;
-    unread = λ h. refl;
-    unchanged = λ h. refl;
-    refused = λ h. refl;
-    refuses = λ f e2 still. inl e2;
-    done = λ e2. absurd (some_none BadWords e2);
-    failed = λ name path code e2. absurd (not_failed name path code e2);
-    quiet = λ h. tt;
-    device = λ e2. absurd (not_device e2);
-    complete = λ none rule reads input made holds makes still out_still. absurd (some_none BadWords none);
-  };
-  reported = nothing_put act (Some BadWords) rose put w.nodes w.nodes [] (λ rule. refl);
-}, refl))
+left_unread act rose out_rose put a = λ w e. (
+  w,
+  e,
+  (
+    [],
+    tt,
+    record {
+      served = record {
+        outside = λ q h. refl;
+        unread = λ h. refl;
+        unchanged = λ h. refl;
+        refused = λ h. refl;
+        refuses = λ f e2 still. inl e2;
+        done = λ e2. absurd (some_none BadWords e2);
+        failed = λ name path code e2. absurd (not_failed name path code e2);
+        quiet = λ h. tt;
+        device = λ e2. absurd (not_device e2);
+        complete = λ none rule reads input made holds makes still out_still. absurd (some_none BadWords none);
+      };
+      reported = nothing_put act (Some BadWords) rose put w.nodes w.nodes [] (λ rule. refl);
+    },
+    refl,
+  ),
+)
   where
     some_none : (f : Fault) → Some f ≡ None → ⊥
     some_none f h = cc
+
     not_failed : (name path : List ℕ) (code : ℕ) → Some BadWords ≡ Some (JobFailed name path code) → ⊥
     not_failed name path code h = cc
+
     not_device : Some BadWords ≡ Some Device → ⊥
     not_device h = cc
 
 pub left_no_memory : (act : Recipe → List Tree → Acted) (refusal : Nodes → Option Fault) (rose out_rose : Type 0) (put : Option (List ℕ)) (a : Option World) → Did act a a (Leaves act refusal (Some OutOfMemory) rose out_rose put put)
-left_no_memory act refusal rose out_rose put a = λ w e. (w, e, ([], tt, record {
-  served = record {
-    outside = λ q h. refl;
-    unread = λ h. refl;
-    unchanged = λ h. refl;
-    refused = λ h. absurd (not_refusal h);
-    refuses = λ f e2 still. inr refl;
-    done = λ e2. absurd (some_none OutOfMemory e2);
-    failed = λ name path code e2. absurd (not_failed name path code e2);
-    quiet = λ h. tt;
-    device = λ e2. absurd (not_device e2);
-    complete = λ none rule reads input made holds makes still out_still. inr refl;
-  };
-  reported = nothing_put act (Some OutOfMemory) rose put w.nodes w.nodes [] (λ rule. tt);
-}, refl))
+left_no_memory act refusal rose out_rose put a = λ w e. (
+  w,
+  e,
+  (
+    [],
+    tt,
+    record {
+      served = record {
+        outside = λ q h. refl;
+        unread = λ h. refl;
+        unchanged = λ h. refl;
+        refused = λ h. absurd (not_refusal h);
+        refuses = λ f e2 still. inr refl;
+        done = λ e2. absurd (some_none OutOfMemory e2);
+        failed = λ name path code e2. absurd (not_failed name path code e2);
+        quiet = λ h. tt;
+        device = λ e2. absurd (not_device e2);
+        complete = λ none rule reads input made holds makes still out_still. inr refl;
+      };
+      reported = nothing_put act (Some OutOfMemory) rose put w.nodes w.nodes [] (λ rule. tt);
+    },
+    refl,
+  ),
+)
   where
     some_none : (f : Fault) → Some f ≡ None → ⊥
     some_none f h = cc
+
     not_failed : (name path : List ℕ) (code : ℕ) → Some OutOfMemory ≡ Some (JobFailed name path code) → ⊥
     not_failed name path code h = cc
+
     not_device : Some OutOfMemory ≡ Some Device → ⊥
     not_device h = cc
+
     not_refusal : IsRefusal 5 → ⊥
     not_refusal (inl e) = omega arith
     not_refusal (inr e) = omega arith
@@ -198,26 +221,33 @@ left_by_job act target chosen r first rose out_rose running put_old put_new a b 
     (did_map act (HasSeen false (IsChosen target (Ok chosen))) (λ w es. IsIdle w × HasSeen false (IsChosen target (Ok chosen)) w es) a b looks (λ w es told follows seen. (idle w told, seen)))
     ran.did
     (λ w es fs follows h follows2 did.
-        let seen = h.1 in
-        let same : (run w es).nodes ≡ w.nodes = looks_nodes w es seen.looks in
-        let start : IsStart rule chosen.time (run w es) = record {
-          idle = looks_idle w es seen.looks h.0;
-          flat = flat;
-          off = apart_input target rule w.nodes flat seen.seen.0 seen.seen.1;
-          source = subst (λ (n : Nodes). HadTime n rule.input chosen.time) (sym same) seen.seen.2;
-        } in
-        let come1 = came act rule chosen.time rose course (run w es) fs start follows2 (course_later act rule chosen.time first rose course (run w es) fs f did) in
-        let come2 : HasCome act rule rose course w.nodes (run w (es ++ fs)).nodes fs =
-            subst (λ (v : World). HasCome act rule rose course w.nodes v.nodes fs) (sym (run_append w es fs))
-            (subst (λ (n : Nodes). HasCome act rule rose course n (run (run w es) fs).nodes fs) same come1) in
-        let come = come_after act rule rose course w.nodes (run w (es ++ fs)).nodes es fs (seen.quiet refl) come2 in
-        record {
-          served = served_by_job act target rule course r rose out_rose w.nodes (run w (es ++ fs)).nodes (es ++ fs) seen.seen.0 seen.seen.1 come ran.answer (λ e. f (ran.open_rose e)) (λ e. sink (ap output_failed e));
-          reported = λ after e.
-              let t = ran.text.told after e in
-              (t.0, t.1, (t.2.0, subst (λ said. IsReport act (fault_of r) rose w.nodes (run w (es ++ fs)).nodes (es ++ fs) said t.2.0) (sym seen.seen.1)
-              (told_by act rule rose course (is_whole r) w.nodes (run w (es ++ fs)).nodes (es ++ fs) t.2.0 come t.2.1, report_by rule course r t.2.0 ran.answer t.2.1), t.2.2));
-        })
+    let seen = h.1 in
+    let same : (run w es).nodes ≡ w.nodes = looks_nodes w es seen.looks in
+    let start : IsStart rule chosen.time (run w es) = record {
+      idle = looks_idle w es seen.looks h.0;
+      flat = flat;
+      off = apart_input target rule w.nodes flat seen.seen.0 seen.seen.1;
+      source = subst (λ (n : Nodes). HadTime n rule.input chosen.time) (sym same) seen.seen.2;
+    } in
+    let come1 = came act rule chosen.time rose course (run w es) fs start follows2 (course_later act rule chosen.time first rose course (run w es) fs f did) in
+    let come2 : HasCome act rule rose course w.nodes (run w (es ++ fs)).nodes fs =
+    subst (λ (v : World). HasCome act rule rose course w.nodes v.nodes fs) (sym (run_append w es fs))
+    (subst (λ (n : Nodes). HasCome act rule rose course n (run (run w es) fs).nodes fs) same come1) in
+    let come = come_after act rule rose course w.nodes (run w (es ++ fs)).nodes es fs (seen.quiet refl) come2 in
+    record {
+      served = served_by_job act target rule course r rose out_rose w.nodes (run w (es ++ fs)).nodes (es ++ fs) seen.seen.0 seen.seen.1 come ran.answer (λ e. f (ran.open_rose e)) (λ e. sink (ap output_failed e));
+      reported = λ after e.
+          let t = ran.text.told after e in (
+            t.0,
+            t.1,
+            (
+              t.2.0,
+              subst (λ said. IsReport act (fault_of r) rose w.nodes (run w (es ++ fs)).nodes (es ++ fs) said t.2.0) (sym seen.seen.1)
+                  (told_by act rule rose course (is_whole r) w.nodes (run w (es ++ fs)).nodes (es ++ fs) t.2.0 come t.2.1, report_by rule course r t.2.0 ran.answer t.2.1),
+              t.2.2,
+            ),
+          );
+    })
 
 -- ## Counts and children
 

@@ -1,5 +1,5 @@
 -- What a call did, from what its parts did.
-use Rattle.std.proofs.Common.{◌≡◌, ◌⊎◌, ◌≤◌, ℕ, Bool, true, false, List, [], ◌∷◌, ◌++◌, refl, ap, sym, subst, ◌∙◌, inl, inr, Option, Some, None, Result, Ok, Err, arith}
+use Rattle.std.proofs.Common.{◌≡◌, ◌⊎◌, ◌≤◌, ℕ, true, false, List, [], ◌∷◌, ◌++◌, refl, ap, sym, subst, ◌∙◌, inl, inr, Option, Some, None, Result, Ok, Err, arith}
 use Rattle.smk_base.specs.Path.{own_folder}
 use Rattle.smk_base.specs.declared.tree.Tree.{Tree}
 use Rattle.smk_world.specs.declared.event.Call.TheVariants.{Started}
@@ -11,16 +11,14 @@ use Rattle.smk_world.specs.Calls.{Acted}
 use Rattle.smk_cli.specs.declared.fault.Fault.{Fault}
 use Rattle.smk_cli.specs.declared.fault.Fault.TheVariants.{BadWords, Unexpected, NoRule, JobFailed, Device, Output, OutOfMemory}
 use Rattle.smk_cli.specs.declared.form.OneRule.{OneRule}
-use Rattle.smk_cli.specs.declared.sight.Chosen.{Chosen}
 use Rattle.smk_cli.specs.Faults.{status_of}
-use Rattle.smk_cli.specs.Form.{Reading, Reads, Faulty}
+use Rattle.smk_cli.specs.Form.{Reads}
 use Rattle.smk_cli.specs.Recipe.{recipe_of, command_of}
-use Rattle.smk_cli.specs.Sources.{workflow_at, refused_for, refused_by}
-use Rattle.smk_cli.specs.Looks.{is_look, EachCall, HasCall, AreQuiet, HasFailure, HasSeen, is_device, IsChosen}
-use Rattle.smk_cli.specs.Runs.{Course, Unbegun, Unclosed, Closed, is_closed, IsAnswer}
+use Rattle.smk_cli.specs.Sources.{workflow_at, refused_for}
+use Rattle.smk_cli.specs.Looks.{HasCall, AreQuiet, HasFailure, HasSeen, is_device, IsChosen}
+use Rattle.smk_cli.specs.Runs.{Course, Unbegun, Closed, is_closed, IsAnswer}
 use Rattle.smk_cli.specs.Clauses.{KeepsAllBut, IsDone, HasFailed, outputs_of, fault_of, IsRefusal, HasServed}
-use Rattle.smk_cli.proofs.Apart.{true_false}
-use Rattle.smk_cli.proofs.Looking.{each_append, has_first, has_second, looks_nodes}
+use Rattle.smk_cli.proofs.Looking.{each_append, has_second, looks_nodes}
 
 abbrev Nodes : Type 0
 Nodes = List ℕ → NodeState
@@ -243,7 +241,9 @@ served_without_memory act refusal fault rose out_rose before now es h = record {
   where
     late : 5 ≤ 1 → ⊥
     late e = omega arith
+
     memory_device : Some OutOfMemory ≡ Some Device → ⊥
     memory_device e = cc
+
     memory_failed : (name path : List ℕ) (code : ℕ) → Some OutOfMemory ≡ Some (JobFailed name path code) → ⊥
     memory_failed name path code e = cc

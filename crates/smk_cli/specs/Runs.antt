@@ -1,5 +1,5 @@
 -- The course of one job: how far it came, by which calls, and what of it was reported.
-use Rattle.std.specs.Prelude.{◌≡◌, ◌≢◌, ◌⊎◌, ℕ, Bool, true, false, List, [], ◌∷◌, ◌++◌, Option, Some, None, Result, Ok, Err, IsSome, is_ok}
+use Rattle.std.specs.Prelude.{◌≡◌, ◌≢◌, ◌⊎◌, ℕ, Bool, true, false, List, [], ◌∷◌, ◌++◌, Option, Some, None, Result, Ok, Err, IsSome}
 use Rattle.smk_base.specs.declared.tree.Tree.{Tree}
 use Rattle.smk_world.specs.declared.event.Call.TheVariants.{Looked, Waited}
 use Rattle.smk_world.specs.declared.event.Change.{Change}
@@ -17,10 +17,9 @@ use Rattle.smk_world.specs.Requests.{Request, HasDone, IsCutShort, Carries}
 use Rattle.smk_cli.specs.declared.fault.Fault.{Fault}
 use Rattle.smk_cli.specs.declared.fault.Fault.TheVariants.{BadWords, Unexpected, NoRule, JobFailed, Device, Output, OutOfMemory}
 use Rattle.smk_cli.specs.declared.form.OneRule.{OneRule}
-use Rattle.smk_cli.specs.declared.sight.Chosen.{Chosen}
 use Rattle.smk_cli.specs.declared.run.Job.{Job}
 use Rattle.smk_cli.specs.Recipe.{recipe_of, command_of, record_of}
-use Rattle.smk_cli.specs.Lines.{start_line, ending_of, report_of}
+use Rattle.smk_cli.specs.Lines.{start_line, report_of}
 use Rattle.smk_cli.specs.Job.{begin_requests, finish_requests, abandon_requests}
 use Rattle.smk_cli.specs.Looks.{is_file_seen}
 

@@ -1,5 +1,5 @@
 -- Sources, and what refuses a call before it changes anything. Each speaks of what stands at the places of the working folder.
-use Rattle.std.specs.Prelude.{ℕ, Bool, true, false, ◌&&◌, ◌||◌, not, List, [], ◌∷◌, codes, bytes_eq, if◌then◌else◌, is_some, Option, Some, None}
+use Rattle.std.specs.Prelude.{ℕ, Bool, true, false, ◌&&◌, ◌||◌, not, List, codes, bytes_eq, if◌then◌else◌, is_some, Option, Some, None}
 use Rattle.std.specs.List.{list_any}
 use Rattle.smk_base.specs.Place.{mark_place, record_place, note_place}
 use Rattle.smk_world.specs.declared.event.Found.{Found}

@@ -1,10 +1,8 @@
 use Rattle.std.proofs.Common.{ap, subst, Ok, true, is_ok}
-use Rattle.smk_world.specs.World.{World}
 use Rattle.smk_world.specs.Calls.{HasOwners, Rose}
 use Rattle.smk_world.specs.Requests.{Carries}
 use Rattle.smk_world.specs.Runs.{Did}
 use Rattle.smk_cli.specs.Runs.{IsVerdict, settling}
-use Rattle.smk_cli.proofs.Carried.{is_ok_err}
 use Rattle.smk_cli.proofs.Choice.{err_is}
 use Rattle.smk_cli.proofs.Closing.{waited, closed_unwaited, closed_unjudged, settled_after, closes_well, closes_badly, rose_later, le_both}
 use Rattle.smk_cli.proofs.run.close.Goals as goal

@@ -1,4 +1,4 @@
-use Rattle.std.proofs.Common.{◌≡◌, ◌⊎◌, ◌∙◌, ap, subst, sym, inl, inr, refl, true, false}
+use Rattle.std.proofs.Common.{◌∙◌, ap, subst, sym, inr, refl}
 use Rattle.smk_world.specs.Calls.{Rose}
 use Rattle.smk_world.specs.Runs.{Did}
 use Rattle.smk_cli.specs.Runs.{Unclosed, Closed, is_whole, IsCourse}

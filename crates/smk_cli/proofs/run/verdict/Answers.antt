@@ -1,6 +1,4 @@
-use Rattle.std.proofs.Common.{◌∙◌, ap, sym, Ok, subst, ◌≡◌}
-use Rattle.smk_world.specs.declared.event.Call.TheVariants.{Looked}
-use Rattle.smk_world.specs.Calls.{Happened}
+use Rattle.std.proofs.Common.{ap, sym, Ok, subst}
 use Rattle.smk_world.specs.Runs.{Did}
 use Rattle.smk_cli.specs.Runs.{IsVerdict}
 use Rattle.smk_cli.proofs.Choice.{err_is}

@@ -1,4 +1,4 @@
-use Rattle.std.proofs.Common.{◌≡◌, ◌∙◌, ap, Bool, true, false, Ok, List, ℕ, ◌||◌}
+use Rattle.std.proofs.Common.{◌≡◌, ◌∙◌, ap, Bool, false, List, ℕ, ◌||◌}
 use Rattle.std.specs.Prelude.{is_some}
 use Rattle.smk_world.specs.declared.event.NodeState.{NodeState}
 use Rattle.smk_world.specs.declared.event.Stat.{Stat}

@@ -1,4 +1,4 @@
-use Rattle.std.proofs.Common.{◌≡◌, ◌∙◌, ap, true, false, Ok}
+use Rattle.std.proofs.Common.{◌≡◌, ◌∙◌, ap, false}
 use Rattle.std.specs.Prelude.{is_some}
 use Rattle.smk_world.specs.Calls.{is_failed, stat_of}
 use Rattle.smk_cli.specs.Sources.{at}

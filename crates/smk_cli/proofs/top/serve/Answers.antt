@@ -1,8 +1,8 @@
-use Rattle.std.proofs.Common.{◌∙◌, ap, sym, subst, Some, None, Err, inl, inr, refl}
+use Rattle.std.proofs.Common.{◌∙◌, ap, sym, subst, Some, Err}
 use Rattle.std.specs.Prelude.{map, string_bytes}
 use Rattle.smk_world.specs.Calls.{Rose}
 use Rattle.smk_world.specs.Runs.{Did}
-use Rattle.smk_cli.specs.declared.fault.Fault.TheVariants.{BadWords, OutOfMemory}
+use Rattle.smk_cli.specs.declared.fault.Fault.TheVariants.{BadWords}
 use Rattle.smk_cli.specs.Sources.{refused, refused_for}
 use Rattle.smk_cli.specs.Clauses.{Leaves, fault_of}
 use Rattle.smk_cli.proofs.Making.{left_unread, left_no_memory, still_words, still_memory, some_asked}
