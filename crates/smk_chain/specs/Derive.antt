@@ -24,6 +24,7 @@ use Rattle.smk_flow.specs.declared.rule.GatherPart.{GatherPart}
 use Rattle.smk_flow.specs.declared.job.Job.{Job}
 use Rattle.smk_flow.specs.Flows.{Flow, Candidate, outs, makes_folder, is_temp, is_protected, logs, gathers, gathered_folders, declared_inputs, folder_from}
 use Rattle.smk_choose.specs.Choose.{Sources, Choice, choose, maker, candidates, Source, Make, Nothing, Ambiguous, Lack}
+use Rattle.smk_record.specs.Records.{same_pair}
 use Rattle.smk_store.specs.Images.{Image, stands, is_source, holds_source}
 use Rattle.smk_chain.specs.declared.jobs.Known.{Known}
 
@@ -108,9 +109,6 @@ module _ (flow : Flow) (L : Listings) (c : Candidate) where
       }
 
 -- ## Jobs in plan order
-
-abbrev pub same_pair : Pair → Pair → Bool
-same_pair p q = bytes_eq p.name q.name && bytes_eq p.value q.value
 
 abbrev pub same_candidate : Candidate → Candidate → Bool
 same_candidate a b = a.rule == b.rule && pointwise same_pair a.binding b.binding

@@ -5,4 +5,4 @@ mod choice;
 mod sources;
 
 pub use choice::{Choice, Lack};
-pub use sources::{Sight, Sources};
+pub use sources::{Sources, Standing};

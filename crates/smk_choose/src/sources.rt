@@ -3,7 +3,7 @@ use std::marker::Model;
 
 /// Whether a path is a source, and whether it holds one.
 #[derive(Debug, Drop)]
-pub struct Sight {
+pub struct Standing {
     pub path: PathText,
     pub source: bool,
     pub holds: bool,
@@ -12,14 +12,14 @@ pub struct Sight {
 /// What is known of some paths; any other path is no source and holds none.
 #[derive(Debug, Drop)]
 pub struct Sources {
-    sights: List<Sight>,
+    standings: List<Standing>,
 }
 
 impl Model for Sources {
     ghost use Rattle.std.specs.Prelude.{List as Items};
-    ghost use Rattle.smk_choose.specs.declared.sources.Sight.{Sight};
+    ghost use Rattle.smk_choose.specs.declared.sources.Standing.{Standing};
 
-    ghost Value = { Items Sight };
+    ghost Value = { Items Standing };
 
-    ghost view = { λ a. a.sights };
+    ghost view = { λ a. a.standings };
 }

@@ -44,6 +44,9 @@ serials r = r.made ∷ flat_map serial_in r.stamps
 
 -- ## Members
 
+abbrev pub same_pair : Pair → Pair → Bool
+same_pair p q = bytes_eq p.name q.name && bytes_eq p.value q.value
+
 abbrev pub same_flag : Bool → Bool → Bool
 same_flag true b = b
 same_flag false b = not b
