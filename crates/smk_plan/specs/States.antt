@@ -18,6 +18,7 @@ use Rattle.smk_trigger.specs.declared.reason.Reason.{Reason}
 use Rattle.smk_trigger.specs.declared.reason.Reason.TheVariants.{Upstream, Forced}
 use Rattle.smk_trigger.specs.declared.reason.State.{State}
 use Rattle.smk_trigger.specs.declared.reason.State.TheVariants.{Open, Dirty, Restore, Clean}
+use Rattle.smk_trigger.specs.JobStates.{is_clean, is_open, is_dirty, is_restore, is_to_run}
 use Rattle.smk_trigger.specs.Reasons.{own_reasons, when}
 use Rattle.smk_pick.specs.declared.settings.Force.{Force}
 use Rattle.smk_pick.specs.declared.settings.Force.TheVariants.{No, Targets, All}
@@ -76,34 +77,6 @@ by_reasons [] to_restore = if to_restore then Restore else Clean
 abbrev pub or_state : Option State → State → State
 or_state None s = s
 or_state (Some kept) s = kept
-
-abbrev pub is_clean : State → Bool
-is_clean Open = false
-is_clean (Dirty reasons) = false
-is_clean Restore = false
-is_clean Clean = true
-
-abbrev pub is_open : State → Bool
-is_open Open = true
-is_open (Dirty reasons) = false
-is_open Restore = false
-is_open Clean = false
-
-abbrev pub is_dirty : State → Bool
-is_dirty Open = false
-is_dirty (Dirty reasons) = true
-is_dirty Restore = false
-is_dirty Clean = false
-
-abbrev pub is_restore : State → Bool
-is_restore Open = false
-is_restore (Dirty reasons) = false
-is_restore Restore = true
-is_restore Clean = false
-
--- Dirty or Restore
-abbrev pub is_to_run : State → Bool
-is_to_run s = is_dirty s || is_restore s
 
 abbrev pub test_some : {A : Type 0} → (A → Bool) → Option A → Bool
 test_some test None = false

@@ -2,7 +2,7 @@
 use Rattle.std.specs.Prelude.{ℕ, Bool, true, false, ◌&&◌, ◌||◌, not, List, [], ◌∷◌, ◌++◌, map, filter, length, drop, nat_le, bytes_eq, codes, if◌then◌else◌, Option, Some, None, option_map, is_some}
 use Rattle.std.specs.List.{list_any, flat_map}
 use Rattle.std.specs.Option.{option_and_then}
-use Rattle.smk_base.specs.Path.{parts, is_path, is_under, overlaps}
+use Rattle.smk_base.specs.Path.{parts, own_folder, is_under, is_at_or_under, overlaps}
 use Rattle.smk_base.specs.Place.{name_of, record_place, mark_place, note_place, lock_place}
 use Rattle.smk_base.specs.declared.tree.Tree.{Tree}
 use Rattle.smk_base.specs.declared.tree.Tree.TheVariants.{File, Folder}
@@ -12,7 +12,7 @@ use Rattle.smk_world.specs.declared.event.Node.TheVariants.{Regular, Directory}
 use Rattle.smk_world.specs.declared.recipe.Kind.{Kind}
 use Rattle.smk_world.specs.declared.recipe.Kind.TheVariants.{Plain, Folder as FolderKind}
 use Rattle.smk_world.specs.World.{World, Nodes, node_in, places_in, reading, folders_above, add_names}
-use Rattle.smk_world.specs.Trees.{Path, below}
+use Rattle.smk_world.specs.Trees.{Path, is_path_text, below}
 use Rattle.smk_record.specs.declared.record.Member.{Member}
 use Rattle.smk_record.specs.declared.record.Record.{Record}
 use Rattle.smk_record.specs.Records.{is_valid, members_of, same_member, core}
@@ -26,7 +26,7 @@ pub record Content : Type 0 where
   pub time : ℕ
   pub read_only : Bool
 
--- The folder as it stands: what stands at each path, and which paths have something, in byte order; what is kept of a path; which
+-- The folder as it stands: what stands at each place outside `.snakemake`, and which of these have something, in byte order; what is kept of a path; which
 -- paths have a mark or a note; the paths with a record, a mark or a note, in byte order; and whether the lock is there.
 pub record Image : Type 0 where
   pub names : List Path
@@ -117,9 +117,9 @@ module _ (image : Image) where
   abbrev pub is_covered : Path → Bool
   is_covered p = is_known p || list_any is_known (folders_above p)
 
-  -- a file is there that isn't covered
+  -- a path at which a file is there that isn't covered
   abbrev pub is_source : Path → Bool
-  is_source p = is_file p && not (is_covered p)
+  is_source p = is_path_text p && (is_file p && not (is_covered p))
 
   -- the source there
   abbrev pub source_at : Path → Option Content
@@ -134,6 +134,10 @@ module _ (image : Image) where
 
 -- ## From nodes to an image
 
+-- outside the engine's own folder
+abbrev pub is_outside : Path → Bool
+is_outside q = not (is_at_or_under q own_folder)
+
 -- the path whose name is this, if it is one: the sign of each part is taken away
 abbrev pub without_signs : List Path → Path
 without_signs [] = []
@@ -145,7 +149,7 @@ without_signs ((sign ∷ part) ∷ (next ∷ rest)) = part ++ 47 ∷ without_sig
 abbrev pub told_of : Path → Path → List Path
 told_of folder place =
     let p = without_signs (parts (drop (length folder) place)) in
-    if bytes_eq place (folder ++ name_of p) && is_path p then p ∷ [] else []
+    if bytes_eq place (folder ++ name_of p) && is_path_text p then p ∷ [] else []
 
 -- the path of which a place tells as one of a record, of a mark or of a note
 abbrev pub known_by : Path → List Path
@@ -169,11 +173,11 @@ module _ (read : List ℕ → Option Record) where
   abbrev pub image_by : List Path → (Path → Option Node) → Image
   image_by names nodes =
       record {
-        names = filter (λ q. is_path q && is_some (nodes q)) names;
-        node = λ p. if is_path p then nodes p else None;
-        kept = λ p. if is_path p then kept_by p (nodes (record_place p)) else Absent;
-        marked = λ p. is_path p && is_some (nodes (mark_place p));
-        noted = λ p. is_path p && is_some (nodes (note_place p));
+        names = filter (λ q. is_outside q && is_some (nodes q)) names;
+        node = λ p. if is_outside p then nodes p else None;
+        kept = λ p. if is_path_text p then kept_by p (nodes (record_place p)) else Absent;
+        marked = λ p. is_path_text p && is_some (nodes (mark_place p));
+        noted = λ p. is_path_text p && is_some (nodes (note_place p));
         known = add_names (flat_map known_by (filter (λ q. is_some (nodes q)) names)) [];
         locked = is_some (nodes lock_place);
       }

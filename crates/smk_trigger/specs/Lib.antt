@@ -1,1 +1,2 @@
+pub mod JobStates
 pub mod Reasons
