@@ -6,13 +6,12 @@ use Rattle.smk_world.specs.Trees.{Path, first}
 use Rattle.smk_pattern.specs.Reading.{or_empty}
 use Rattle.smk_flow.specs.declared.job.Job.{Job}
 use Rattle.smk_flow.specs.Flows.{Flow}
-use Rattle.smk_record.specs.declared.record.Stamp.TheVariants.{Time, Made}
-use Rattle.smk_record.specs.declared.record.Record.{Record}
-use Rattle.smk_store.specs.Images.{Image, sources, holds_source, is_source}
-use Rattle.smk_chain.specs.Derive.{Listings, Refusal, NoRule, NoInput, TwoJobs, MissingMember, NoCommand, Clash, Deep, refusals, refused, sources_of}
+use Rattle.smk_record.specs.declared.record.Stamp.TheVariants.{Time}
+use Rattle.smk_store.specs.Images.{Image, sources}
+use Rattle.smk_chain.specs.Derive.{Listings, Refusal, NoRule, NoInput, TwoJobs, MissingMember, NoCommand, Clash, refusals, refused, sources_of, is_deep}
 use Rattle.smk_chain.specs.Mean.{setting_of, mean}
-use Rattle.smk_flow.proofs.Examples.{copy, copy_with, copying, cp, cat, unordered, ordered, clusters, gunzip, steps, nested, swapped, commands, rule, input, output, flow_of}
-use Rattle.smk_chain.proofs.Folders.{file, folder, fresh, image_with, recorded, jobs_in}
+use Rattle.smk_flow.proofs.Examples.{copy, copy_with, copying, cat, unordered, clusters, gunzip, steps, nested, swapped, commands, rule, input, output, gathering, flow_of}
+use Rattle.smk_chain.proofs.Folders.{file, fresh, image_with, recorded, jobs_in}
 
 abbrev names : List Job → List Path
 names js = map (λ (j : Job). or_empty (first (out_paths j.recipe))) js
@@ -55,6 +54,20 @@ two_hundred = refl
 pub one_more : refused steps (sources_of start) [] 201 (102 ∷ plus 201) ≡ NoInput (102 ∷ plus 201) 0 (102 ∷ plus 200) ∷ []
 one_more = refl
 
+-- each step is preferred to the rule that needs nothing, so the chain is too long although every path is available
+abbrev preferred : Flow
+preferred =
+    record {
+      rules = steps.rules ++ rule false (codes "jump") [] (output [] (codes "{p}+")) cat ∷ [];
+      orders = record { names = codes "step" ∷ codes "jump" ∷ []; file = codes "Snakefile"; line = 1 } ∷ [];
+    }
+
+pub deep : is_deep preferred (sources_of start) start [] [] (102 ∷ plus 201) ≡ true
+deep = refl
+
+pub not_deep : is_deep preferred (sources_of start) start [] [] (102 ∷ plus 200) ≡ false
+not_deep = refl
+
 -- ## Refusals
 
 pub ambiguous : refused_in unordered (fresh (file (codes "r/a_1.fq") 1 [] ∷ file (codes "r/a_2.fq") 1 [] ∷ [])) [] (codes "m/a.bam" ∷ []) ≡ TwoJobs (codes "m/a.bam") 0 1 ∷ []
@@ -77,6 +90,13 @@ two_known = record { folder = codes "clustering/a"; files = codes "1.txt" ∷ co
 
 pub missing_member : refused_in clusters sample two_known (codes "clustering/a/9.txt" ∷ []) ≡ MissingMember (codes "clustering/a/9.txt") ∷ []
 missing_member = refl
+
+-- a gathered text that isn't a path is no input
+abbrev outside_folder : Flow
+outside_folder = flow_of (clusters.rules ++ rule false (codes "g") (gathering (codes "clustering") (codes "{i}.txt") (codes "../{i}.txt") ∷ []) (output [] (codes "g/{sample}")) cat ∷ [])
+
+pub not_a_path : refused outside_folder (sources_of sample) two_known 201 (codes "g/a") ≡ NoInput (codes "g/a") 3 (codes "../1.txt") ∷ NoInput (codes "g/a") 3 (codes "../2.txt") ∷ []
+not_a_path = refl
 
 -- an output under the path of an old record
 abbrev after_copy : Image

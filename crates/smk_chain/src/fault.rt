@@ -14,7 +14,9 @@ pub enum SightFault {
 #[derive(Debug, Drop)]
 pub enum ChainFault {
     /// No rule has the path as an output.
-    NoRule { path: PathText },
+    NoRule {
+        path: PathText,
+    },
     /// The first rule that has it wants this, which can't be made.
     NoInput {
         path: PathText,
@@ -22,14 +24,27 @@ pub enum ChainFault {
         wanted: Text,
     },
     /// Neither of these rules is preferred.
-    Ambiguous { path: PathText, a: Text, b: Text },
+    Ambiguous {
+        path: PathText,
+        a: Text,
+        b: Text,
+    },
     /// A chain of more than 200 jobs leads from this target.
-    Deep { path: PathText },
+    Deep {
+        path: PathText,
+    },
     /// The two overlap.
-    Clash { path: PathText, other: PathText },
+    Clash {
+        path: PathText,
+        other: PathText,
+    },
     /// Its directory is known, and doesn't have it.
-    MissingMember { path: PathText },
+    MissingMember {
+        path: PathText,
+    },
     /// The rule has no command.
-    NoCommand { rule: Text },
+    NoCommand {
+        rule: Text,
+    },
     OutOfMemory,
 }

@@ -21,7 +21,7 @@ use Rattle.smk_contract.specs.declared.asked.Asked.{Asked}
 use Rattle.smk_contract.specs.declared.asked.Asked.TheVariants.{Run, Preview, Unlock, Forget, Generate}
 use Rattle.smk_contract.specs.declared.asked.Outcome.{Outcome}
 use Rattle.smk_contract.specs.Meanings.{Meanings, Request, Does, BadWords, NoCores, outside, image_at}
-use Rattle.smk_contract.specs.Ends.{WhereReads, AsRun, AsPreview, IsSound, HasStart, Stays, EndsWell, CurrentIsClean, HasCleanTargets, IsFront, HasStarts, HasLinesBefore, OnlyFolderMarks, FailedSo}
+use Rattle.smk_contract.specs.Ends.{WhereReads, AsRun, AsPreview, IsSound, HasStart, Stays, EndsWell, CurrentIsClean, HasCleanTargets, IsFront, HasStarts, HasLinesBefore, OnlyFolderMarks, FailedSo, HasOwnStatus}
 use Rattle.smk_contract.specs.Refusing.{Refuses, IsNamed, IsNamedInListing, IsNamedInForgetting, none_named}
 
 -- ## What stays
@@ -117,10 +117,16 @@ IsRefused g request outcome work_old work_new out_old out_new entry log =
     Refuses g request entry log f →
     IsSteady work_old work_new → IsSteady out_old out_new → (outcome.fault ≡ Some f) ⊎ (outcome.fault ≡ Some fault.OutOfMemory))
 
+-- a status that isn't the command's own comes only where the count rose
+abbrev pub OwnStatus : Act → ℕ → ℕ → World → List Event → Fault → Type 0
+OwnStatus act old new entry log (fault.JobFailed rule path code) = HasOwnStatus act entry log path code ⊎ Rose old new
+OwnStatus act old new entry log f = Unit {0}
+
 -- the fault of a failed job is how its child ended
-abbrev pub JobFaults : Meanings → Act → Request → Option Fault → World → List Event → Type 0
-JobFaults g act request None entry log = Unit {0}
-JobFaults g act request (Some f) entry log = IsSound g act entry → AsRun g request entry (λ rules. FailedSo rules entry log f)
+abbrev pub JobFaults : Meanings → Act → Request → Option Fault → ℕ → ℕ → World → List Event → Type 0
+JobFaults g act request None old new entry log = Unit {0}
+JobFaults g act request (Some f) old new entry log =
+    IsSound g act entry → AsRun g request entry (λ rules. FailedSo rules entry log f × OwnStatus act old new entry log f)
 
 -- ## Completeness
 

@@ -1,15 +1,16 @@
 -- How a call ends, over its entry and its log.
-use Rattle.std.specs.Prelude.{◌≡◌, ◌≢◌, ◌⊎◌, ℕ, zero, suc, Bool, true, false, List, [], ◌∷◌, ◌++◌, codes, Option, Some, None, IsTrue, IsSome, Contains, All}
+use Rattle.std.specs.Prelude.{◌≡◌, ◌≢◌, ◌⊎◌, ℕ, zero, suc, Bool, true, false, List, [], ◌∷◌, ◌++◌, codes, Option, Some, None, Ok, IsTrue, IsSome, Contains, All}
 use Rattle.smk_base.specs.Place.{mark_place, lock_place}
 use Rattle.smk_base.specs.declared.tree.Tree.{Tree}
 use Rattle.smk_world.specs.declared.event.Event.{Event}
 use Rattle.smk_world.specs.declared.event.Call.{Call}
-use Rattle.smk_world.specs.declared.event.Call.TheVariants.{Started}
+use Rattle.smk_world.specs.declared.event.Call.TheVariants.{Started, Waited}
+use Rattle.smk_world.specs.declared.event.Child.{Child}
 use Rattle.smk_world.specs.declared.event.Node.{Node}
 use Rattle.smk_world.specs.declared.event.NodeState.{NodeState}
-use Rattle.smk_world.specs.World.{World, run, reading, MayLeave, out_paths}
-use Rattle.smk_world.specs.Calls.{failed}
-use Rattle.smk_world.specs.Trees.{Path, Act, folders_of}
+use Rattle.smk_world.specs.World.{World, run, reading, MayLeave, out_paths, child_numbered}
+use Rattle.smk_world.specs.Calls.{failed, ContentsAre}
+use Rattle.smk_world.specs.Trees.{Path, Act, first, folders_of}
 use Rattle.smk_pattern.specs.Shapes.{Text}
 use Rattle.smk_flow.specs.declared.job.Job.{Job}
 use Rattle.smk_flow.specs.Flows.{Flow, rule_name}
@@ -180,3 +181,16 @@ FailedSo rules entry log (fault.NoOutput rule path missing) = HasEnded rules ent
 FailedSo rules entry log (fault.WrongKind rule path wrong) = HasEnded rules entry log rule path (WrongKind wrong)
 FailedSo rules entry log (fault.BadMember rule path bad) = HasEnded rules entry log rule path (BadMember bad)
 FailedSo rules entry log f = Unit {0}
+
+-- A child on the job with this first output ended with this status, which its command has on what stood at its inputs.
+pub record HasOwnStatus (act : Act) (entry : World) (log : List Event) (path : Path) (code : ℕ) : Type 0 where
+  pub before : List Event
+  pub end : Event
+  pub rest : List Event
+  pub number : ℕ
+  pub child : Child
+  pub in_log : log ≡ before ++ end ∷ rest
+  pub waited : end.call ≡ Waited (Ok (record { number = number; status = code }))
+  pub ran : child_numbered number (run entry before).children ≡ Some child
+  pub of_job : first (out_paths child.recipe) ≡ Some path
+  pub given : (trees : List Tree) → ContentsAre (run entry before) child.recipe trees → (act child.recipe trees).status ≡ code

@@ -68,7 +68,7 @@ fn gives_up<W: Crew, O: Sink>(
         IsRefused g (g.asks (map string_bytes words.now)) result
         (W.faults work.old) (W.faults work.new) (O.faults out.old) (O.faults out.new) entry log) }
     ensures job_faults { Did W.act (W.world work.old) (W.world work.new) (λ entry log.
-        JobFaults g W.act (g.asks (map string_bytes words.now)) result.fault entry log) }
+        JobFaults g W.act (g.asks (map string_bytes words.now)) result.fault (W.faults work.old) (W.faults work.new) entry log) }
 
     // the commands on the lock and on what is known
     ensures others { Did W.act (W.world work.old) (W.world work.new) (λ entry log.

@@ -4,7 +4,7 @@ use Rattle.std.specs.List.{list_any, find, flat_map, enumerate_from}
 use Rattle.smk_base.specs.declared.tree.Pair.{Pair}
 use Rattle.smk_world.specs.Trees.{Path, first}
 use Rattle.smk_pattern.specs.Shapes.{Text}
-use Rattle.smk_pattern.specs.Reading.{fill, fill_words, or_empty, has_wildcards, shape_of}
+use Rattle.smk_pattern.specs.Reading.{fill, or_empty, has_wildcards, shape_of}
 use Rattle.smk_flow.specs.declared.rule.RulePart.{RulePart}
 use Rattle.smk_flow.specs.declared.rule.InPart.{InPart}
 use Rattle.smk_flow.specs.declared.rule.OutPart.{OutPart}

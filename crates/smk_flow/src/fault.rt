@@ -4,13 +4,29 @@ use smk_base::Text;
 #[derive(Debug, Drop)]
 pub enum FlowFault {
     /// The name was used above.
-    DoubledRule { file: Text, line: u64, name: Text },
+    DoubledRule {
+        file: Text,
+        line: u64,
+        name: Text,
+    },
     /// A text isn't written as a pattern.
-    BadPattern { file: Text, line: u64, text: Text },
+    BadPattern {
+        file: Text,
+        line: u64,
+        text: Text,
+    },
     /// The constraint of this name is none.
-    BadConstraint { file: Text, line: u64, name: Text },
+    BadConstraint {
+        file: Text,
+        line: u64,
+        name: Text,
+    },
     /// The outputs and logs don't all have the same wildcards.
-    UnequalWildcards { file: Text, line: u64, rule: Text },
+    UnequalWildcards {
+        file: Text,
+        line: u64,
+        rule: Text,
+    },
     /// A wildcard stands in the rule that its outputs don't have.
     UnknownWildcard {
         file: Text,
@@ -26,9 +42,16 @@ pub enum FlowFault {
         word: Text,
     },
     /// A clause names a rule that there isn't.
-    UnknownName { file: Text, line: u64, name: Text },
+    UnknownName {
+        file: Text,
+        line: u64,
+        name: Text,
+    },
     /// Two clauses have these two both ways round, or one clause has a name twice.
-    ContradictoryOrder { a: Text, b: Text },
+    ContradictoryOrder {
+        a: Text,
+        b: Text,
+    },
     OutOfMemory,
 }
 

@@ -1,9 +1,9 @@
 -- A text read as a pattern, and texts with their wildcards filled, computed.
 use Rattle.std.specs.Prelude.{ℕ, zero, suc, Bool, true, false, ◌&&◌, ◌||◌, not, List, [], ◌∷◌, ◌++◌, map, filter, reverse, nat_lt, ◌==◌, bytes_eq, if◌then◌else◌, Option, Some, None, option_map}
-use Rattle.std.specs.List.{list_any, list_all, find, flat_map}
+use Rattle.std.specs.List.{list_any, find, flat_map}
 use Rattle.std.specs.Int.{is_in_range}
 use Rattle.smk_base.specs.declared.tree.Pair.{Pair}
-use Rattle.smk_pattern.specs.Shapes.{Text, Part, Wildcard, Shape}
+use Rattle.smk_pattern.specs.Shapes.{Text, Part, Shape}
 use Rattle.smk_pattern.specs.Shapes.Part.{text, wild}
 use Rattle.smk_pattern.specs.Grammar.{Piece, plain, hole, is_blank, is_name, is_letter, limit_for, inline_limits}
 

@@ -1,14 +1,12 @@
 -- Stamps and records: which records are valid, and when a recorded stamp agrees with another.
-use Rattle.std.specs.Prelude.{ℕ, Bool, true, false, ◌&&◌, ◌||◌, not, List, [], ◌∷◌, map, filter, zip, length, ◌==◌, nat_lt, nat_le, bytes_eq, if◌then◌else◌, Option, Some, None, cond}
+use Rattle.std.specs.Prelude.{ℕ, Bool, true, false, ◌&&◌, not, List, [], ◌∷◌, map, zip, length, ◌==◌, nat_lt, nat_le, bytes_eq, if◌then◌else◌, Option, Some, None}
 use Rattle.std.specs.List.{list_any, list_all, flat_map}
 use Rattle.std.specs.Cmp.Lexicographic.{slice_cmp}
 use Rattle.std.specs.Ordering.{nat_cmp}
 use Rattle.std.specs.declared.cmp.Ordering.{Ordering}
 use Rattle.std.specs.declared.cmp.Ordering.TheVariants.{Less, Equal, Greater}
-use lib.Pointwise.{pointwise}
 use Rattle.smk_base.specs.declared.tree.Pair.{Pair}
 use Rattle.smk_base.specs.Path.{is_path}
-use Rattle.smk_world.specs.declared.recipe.Recipe.{Recipe}
 use Rattle.smk_world.specs.World.{in_paths, out_paths, folders_above}
 use Rattle.smk_world.specs.Trees.{Path, among, folders_of, are_members}
 use Rattle.smk_record.specs.declared.record.Stamp.{Stamp}

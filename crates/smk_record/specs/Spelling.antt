@@ -1,5 +1,5 @@
 -- How a record is written, to the byte.
-use Rattle.std.specs.Prelude.{◌≡◌, ◌↔◌, ℕ, Bool, true, false, List, [], ◌∷◌, ◌++◌, length, drop, decimal, codes, if◌then◌else◌, Option, Some, IsTrue}
+use Rattle.std.specs.Prelude.{◌≡◌, ◌↔◌, ℕ, Bool, List, [], ◌∷◌, ◌++◌, length, drop, decimal, codes, if◌then◌else◌, Option, Some, IsTrue}
 use Rattle.std.specs.List.{flat_map}
 use Rattle.smk_base.specs.declared.tree.Pair.{Pair}
 use Rattle.smk_world.specs.declared.recipe.Values.{Values}

@@ -1,7 +1,6 @@
 -- An image of the working folder, by the paths that it is about, and its sources.
 use Rattle.std.specs.Prelude.{ℕ, Bool, true, false, ◌&&◌, ◌||◌, not, List, [], ◌∷◌, ◌++◌, map, filter, length, drop, nat_le, bytes_eq, codes, if◌then◌else◌, Option, Some, None, option_map, is_some}
 use Rattle.std.specs.List.{list_any, flat_map}
-use Rattle.std.specs.Option.{option_and_then}
 use Rattle.smk_base.specs.Path.{parts, own_folder, is_under, is_at_or_under, overlaps}
 use Rattle.smk_base.specs.Place.{name_of, record_place, mark_place, note_place, lock_place}
 use Rattle.smk_base.specs.declared.tree.Tree.{Tree}

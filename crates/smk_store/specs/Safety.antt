@@ -1,10 +1,10 @@
 -- What a call keeps: after every prefix of its log a crash leaves a sound image with the sources of the entry, and so is the
 -- world at its end.
-use Rattle.std.specs.Prelude.{◌≡◌, ◌⊎◌, ℕ, Bool, true, false, ◌||◌, List, [], ◌∷◌, ◌++◌, filter, bytes_eq, ◌==◌, if◌then◌else◌, Option, Some, None, IsTrue}
+use Rattle.std.specs.Prelude.{◌≡◌, ◌⊎◌, ℕ, Bool, false, ◌||◌, List, [], ◌++◌, filter, bytes_eq, ◌==◌, if◌then◌else◌, Option, Some, None, IsTrue}
 use Rattle.std.specs.List.{list_any}
 use Rattle.smk_base.specs.Place.{record_place, mark_place, note_place}
 use Rattle.smk_world.specs.declared.event.Call.{Call}
-use Rattle.smk_world.specs.declared.event.Call.TheVariants.{Looked, ReadFile, ReadFolder, Written, Created, Removed, MadeParents, Settled, Protected, Started, Waited}
+use Rattle.smk_world.specs.declared.event.Call.TheVariants.{Removed}
 use Rattle.smk_world.specs.declared.event.Event.{Event}
 use Rattle.smk_world.specs.World.{World, run, is_within}
 use Rattle.smk_world.specs.Trees.{Path}

@@ -1,5 +1,5 @@
 -- Sound images and sound worlds.
-use Rattle.std.specs.Prelude.{◌≡◌, ℕ, false, List, [], Option, Some, None, IsTrue, IsSome}
+use Rattle.std.specs.Prelude.{◌≡◌, ℕ, false, List, [], Option, Some, IsTrue, IsSome}
 use Rattle.smk_base.specs.Path.{overlaps}
 use Rattle.smk_base.specs.declared.tree.Tree.{Tree}
 use Rattle.smk_world.specs.World.{World, Nodes, IsFormed, Leaves}

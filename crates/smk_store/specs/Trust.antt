@@ -1,5 +1,5 @@
 -- Stamps, chains of records, and what a record vouches for.
-use Rattle.std.specs.Prelude.{◌≡◌, ◌⊎◌, ℕ, zero, suc, Bool, false, not, List, [], ◌∷◌, map, reverse, if◌then◌else◌, Option, Some, None, option_map, is_some, IsTrue}
+use Rattle.std.specs.Prelude.{◌≡◌, ◌⊎◌, ℕ, zero, suc, Bool, false, List, map, reverse, if◌then◌else◌, Option, Some, None, option_map, is_some, IsTrue}
 use Rattle.std.specs.List.{find}
 use Rattle.std.specs.Option.{option_and_then}
 use Rattle.smk_base.specs.declared.tree.Tree.{Tree}
@@ -10,7 +10,7 @@ use Rattle.smk_record.specs.declared.record.Stamp.{Stamp}
 use Rattle.smk_record.specs.declared.record.Stamp.TheVariants.{Time, Made}
 use Rattle.smk_record.specs.declared.record.Record.{Record}
 use Rattle.smk_record.specs.Records.{agrees, stamped}
-use Rattle.smk_store.specs.Images.{Content, Image, source_at, is_source, core_at, record_at}
+use Rattle.smk_store.specs.Images.{Content, Image, source_at, is_source, core_at}
 
 -- ## Stamps
 

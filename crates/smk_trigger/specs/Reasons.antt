@@ -8,7 +8,7 @@ use Rattle.smk_world.specs.declared.recipe.Out.{Out}
 use Rattle.smk_world.specs.declared.recipe.OutItem.{OutItem}
 use Rattle.smk_world.specs.declared.recipe.Recipe.{Recipe}
 use Rattle.smk_world.specs.World.{in_paths}
-use Rattle.smk_world.specs.Trees.{Path, among, is_folder_kind}
+use Rattle.smk_world.specs.Trees.{Path, is_folder_kind}
 use Rattle.smk_record.specs.declared.record.Stamp.{Stamp}
 use Rattle.smk_record.specs.declared.record.Record.{Record}
 use Rattle.smk_record.specs.Records.{same_pair, same_stamp, agrees, stamped, same_flag}
