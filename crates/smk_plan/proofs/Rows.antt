@@ -1,20 +1,19 @@
 -- States, reasons and chains of plans, computed.
-use Rattle.std.specs.Prelude.{◌≡◌, ◌≢◌, ℕ, true, false, List, [], ◌∷◌, map, filter, zip, codes, refl, Some, None}
+use Rattle.std.specs.Prelude.{◌≡◌, ◌≢◌, true, false, List, [], ◌∷◌, map, filter, codes, refl}
 use Rattle.std.proofs.Common.{arith}
 use Rattle.std.specs.List.{flat_map}
 use Rattle.smk_world.specs.Trees.{Path}
 use Rattle.smk_flow.specs.declared.job.Job.{Job}
-use Rattle.smk_flow.specs.declared.rule.RulePart.{RulePart}
 use Rattle.smk_flow.specs.Flows.{Flow}
-use Rattle.smk_record.specs.declared.record.Stamp.TheVariants.{Time, Made}
+use Rattle.smk_record.specs.declared.record.Stamp.TheVariants.{Time}
 use Rattle.smk_store.specs.Images.{Image}
-use Rattle.smk_trigger.specs.declared.reason.Reason.TheVariants.{New, Marked, BadRecord, Code, Params, Inputs, Updated, Upstream, Forced}
+use Rattle.smk_trigger.specs.declared.reason.Reason.TheVariants.{New, Marked, Code, Params, Inputs, Updated, Forced}
 use Rattle.smk_trigger.specs.declared.reason.State.{State}
 use Rattle.smk_trigger.specs.declared.reason.State.TheVariants.{Open, Dirty, Restore, Clean}
 use Rattle.smk_pick.specs.declared.settings.Force.TheVariants.{Targets}
-use Rattle.smk_plan.specs.States.{Plan, IsPlan, LastPlan, Last, Then, Progress, nothing_done, job_path, new_listings, is_current, is_spent, staged}
+use Rattle.smk_plan.specs.States.{Plan, LastPlan, Last, Then, Progress, nothing_done, job_path, new_listings, is_current, is_spent, staged}
 use Rattle.smk_flow.proofs.Examples.{copy, copy_with, copying, cp, cat, clusters, temporary_with, rule, input, output, flow_of}
-use Rattle.smk_chain.proofs.Folders.{file, folder, fresh, image_with, recorded, jobs_in}
+use Rattle.smk_chain.proofs.Folders.{file, fresh, image_with, recorded, jobs_in}
 use Rattle.smk_plan.proofs.Plans.{with_targets, settle, from_jobs, plan_with, out_txt, before_copy, copy_records, after_copy, aggregated, one_sample, three_known, all_clustered, member_gone, u_and_v, temporary_jobs, all_made, temporary_gone}
 
 -- ## A copied file

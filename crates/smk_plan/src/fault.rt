@@ -12,9 +12,13 @@ pub enum LookFault {
 #[derive(Debug, Drop)]
 pub enum PlanFault {
     /// These outputs are marked: their jobs weren't finished.
-    Incomplete { paths: List<PathText> },
+    Incomplete {
+        paths: List<PathText>,
+    },
     /// A read-only file stands at or under this output of a job that is to run.
-    Protected { path: PathText },
+    Protected {
+        path: PathText,
+    },
     /// A job asks more of a resource than its bound.
     AboveLimit {
         rule: Text,
