@@ -17,8 +17,8 @@ use Rattle.smk_pick.specs.declared.settings.Settings.{Settings}
 use Rattle.smk_plan.specs.States.{job_path}
 use Rattle.smk_drive.specs.Moments.{Rules}
 use Rattle.smk_drive.specs.Reports.{listing_text}
-use Rattle.smk_flow.proofs.Examples.{copy, copying, clusters, cat, tee, split, rule, input, output, gathering, flow_of}
-use Rattle.smk_chain.proofs.Folders.{file, fresh, recorded, jobs_in}
+use Rattle.smk_flow.proofs.Examples.{copy, clusters, cat, tee, split, rule, input, output, gathering, flow_of}
+use Rattle.smk_chain.proofs.Folders.{fresh, recorded, jobs_in}
 use Rattle.smk_plan.proofs.Plans.{with_targets, aggregated, cluster_records, three_known, a_member, plan_with, after_copy, out_txt, one_sample, member_gone}
 use Rattle.smk_drive.proofs.Turns.{rules_with, whole_run, drive, start}
 

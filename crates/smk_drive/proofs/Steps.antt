@@ -1,12 +1,12 @@
 -- The log of a run that copies a file: its moments, its serial and stamps, and what each event may change.
-use Rattle.std.specs.Prelude.{◌≡◌, ℕ, Bool, true, false, List, [], ◌∷◌, ◌++◌, map, codes, if◌then◌else◌, Some, None, Ok, refl, ◌&&◌, length}
+use Rattle.std.specs.Prelude.{◌≡◌, Bool, true, false, List, [], ◌∷◌, ◌++◌, map, codes, if◌then◌else◌, Some, Ok, refl, ◌&&◌, length}
 use Rattle.std.specs.List.{list_all}
 use Rattle.smk_base.specs.Place.{mark_place, record_place, lock_place}
 use Rattle.smk_world.specs.declared.event.Node.TheVariants.{Regular}
 use Rattle.smk_world.specs.declared.event.Event.{Event}
 use Rattle.smk_world.specs.declared.event.Child.{Child}
 use Rattle.smk_world.specs.declared.event.Call.TheVariants.{Created, Removed, MadeParents, Settled}
-use Rattle.smk_world.specs.World.{World, world_of, out_paths}
+use Rattle.smk_world.specs.World.{World, world_of}
 use Rattle.smk_world.specs.Trees.{Path}
 use Rattle.smk_flow.specs.declared.job.Job.{Job}
 use Rattle.smk_record.specs.declared.record.Stamp.TheVariants.{Time}

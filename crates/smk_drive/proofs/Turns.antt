@@ -1,5 +1,5 @@
 -- A plain, slow run over the definitions: it starts what may start first, else waits, and closes what has ended.
-use Rattle.std.specs.Prelude.{◌≡◌, ℕ, zero, suc, ◌+◌, Bool, true, false, List, [], ◌∷◌, ◌++◌, map, filter, zip, codes, bytes_eq, if◌then◌else◌, Option, Some, None, Ok, length}
+use Rattle.std.specs.Prelude.{ℕ, zero, suc, ◌+◌, Bool, true, false, List, [], ◌∷◌, ◌++◌, map, filter, zip, codes, bytes_eq, if◌then◌else◌, Option, Some, None, Ok, length}
 use Rattle.std.specs.List.{flat_map, filter_map, find}
 use lib.Pointwise.{pointwise}
 use Rattle.smk_base.specs.Place.{mark_place, record_place}
@@ -22,7 +22,7 @@ use Rattle.smk_store.specs.Images.{tree_now}
 use Rattle.smk_chain.specs.Derive.{Listings}
 use Rattle.smk_trigger.specs.declared.reason.State.{State}
 use Rattle.smk_pick.specs.declared.settings.Settings.{Settings}
-use Rattle.smk_plan.specs.States.{Plan, new_listings, job_path, none_or_one}
+use Rattle.smk_plan.specs.States.{Plan, new_listings, none_or_one}
 use Rattle.smk_drive.specs.Moments.{Rules, Moment, Begun, seen, begun_after, is_rest, progress_of, lists_of}
 use Rattle.smk_drive.specs.Lawful.{may_start, first_of}
 use Rattle.smk_drive.specs.Reports.{start_lines, close_lines, target_lines, summary}

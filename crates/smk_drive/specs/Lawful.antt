@@ -1,5 +1,5 @@
 -- The law of a run's log: what each event may change, when a job may begin, and what must not be left undone.
-use Rattle.std.specs.Prelude.{◌≡◌, ◌⊎◌, ◌≤◌, ◌≢◌, ℕ, Bool, true, false, ◌&&◌, ◌||◌, not, List, [], ◌∷◌, ◌++◌, map, filter, nat_le, bytes_eq, if◌then◌else◌, Option, Some, None, Ok, Err, is_some, IsTrue, Contains, All}
+use Rattle.std.specs.Prelude.{◌≡◌, ◌⊎◌, ◌≤◌, ◌≢◌, ℕ, Bool, true, false, ◌&&◌, ◌||◌, not, List, [], ◌∷◌, ◌++◌, map, filter, nat_le, bytes_eq, if◌then◌else◌, Option, Some, None, Err, is_some, IsTrue, Contains, All}
 use Rattle.std.specs.List.{list_any, list_all, find, flat_map}
 use Rattle.smk_base.specs.Place.{record_place, lock_place}
 use Rattle.smk_world.specs.declared.event.Call.{Call}
@@ -12,7 +12,7 @@ use Rattle.smk_world.specs.Trees.{Path, among, outs_of, kind_in, is_folder_kind}
 use Rattle.smk_flow.specs.declared.job.Job.{Job}
 use Rattle.smk_record.specs.declared.record.Record.{Record}
 use Rattle.smk_record.specs.declared.record.Member.{Member}
-use Rattle.smk_store.specs.Images.{Image, is_source, is_whole, core_at, tree_now, members_under}
+use Rattle.smk_store.specs.Images.{is_source, is_whole, core_at, tree_now, members_under}
 use Rattle.smk_store.specs.Trust.{Eased, Trusted, holder}
 use Rattle.smk_trigger.specs.declared.reason.State.{State}
 use Rattle.smk_trigger.specs.JobStates.{is_restore}

@@ -1,5 +1,5 @@
 -- The moments of a run's log: what has begun and been closed, and the plan in force.
-use Rattle.std.specs.Prelude.{◌≡◌, ℕ, zero, suc, Bool, true, false, ◌&&◌, ◌||◌, not, List, [], ◌∷◌, ◌++◌, map, filter, length, max, ◌+◌, bytes_eq, nat_eq, if◌then◌else◌, Option, Some, None, Ok, Err, is_some, is_none, IsTrue}
+use Rattle.std.specs.Prelude.{◌≡◌, ℕ, zero, suc, Bool, false, ◌&&◌, ◌||◌, not, List, [], ◌∷◌, ◌++◌, map, filter, length, max, ◌+◌, bytes_eq, nat_eq, if◌then◌else◌, Option, Some, None, Ok, Err, is_some, is_none, IsTrue}
 use Rattle.std.specs.List.{list_any, list_all, fold, flat_map, filter_map}
 use lib.Pointwise.{pointwise}
 use Rattle.smk_base.specs.Path.{is_under, is_at_or_under}
@@ -32,7 +32,7 @@ use Rattle.smk_chain.specs.Derive.{Listings}
 use Rattle.smk_trigger.specs.declared.reason.State.{State}
 use Rattle.smk_trigger.specs.JobStates.{is_restore}
 use Rattle.smk_pick.specs.declared.settings.Settings.{Settings}
-use Rattle.smk_plan.specs.States.{Plan, Progress, LastPlan, job_path, staged, is_spent, none_or_one, test_some}
+use Rattle.smk_plan.specs.States.{Plan, Progress, LastPlan, job_path, staged, is_spent, test_some}
 use Rattle.smk_report.specs.Lines.{Ending, Good, Status, NoOutput, WrongKind, BadMember}
 
 -- What a run goes by: the workflow, the settings, whether it takes no lock, how bytes read as a record; and of a job's command

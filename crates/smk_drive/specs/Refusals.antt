@@ -1,16 +1,15 @@
 -- The refusals of a plan, in their order, and the first that a moment of a run meets.
-use Rattle.std.specs.Prelude.{◌≡◌, ◌≢◌, ◌<◌, ℕ, Bool, false, ◌&&◌, ◌||◌, not, List, [], ◌∷◌, ◌++◌, map, filter, length, ◌^◌, ◌==◌, nat_lt, bytes_eq, if◌then◌else◌, Option, Some, None, Contains, IsTrue}
+use Rattle.std.specs.Prelude.{◌≡◌, ◌≢◌, ◌<◌, ℕ, Bool, ◌&&◌, not, List, [], ◌∷◌, ◌++◌, map, filter, length, ◌^◌, ◌==◌, nat_lt, bytes_eq, if◌then◌else◌, Option, Some, None, Contains, IsTrue}
 use Rattle.std.specs.List.{list_any, flat_map}
 use Rattle.smk_base.specs.declared.tree.Amount.{Amount}
 use Rattle.smk_base.specs.Path.{is_at_or_under}
 use Rattle.smk_world.specs.World.{World, out_paths}
-use Rattle.smk_world.specs.Trees.{Path, among, outs_of, first}
+use Rattle.smk_world.specs.Trees.{Path, among, outs_of}
 use Rattle.smk_world.specs.declared.recipe.Out.{Out}
 use Rattle.smk_world.specs.declared.event.Event.{Event}
 use Rattle.smk_pattern.specs.Shapes.{Text}
 use Rattle.smk_flow.specs.declared.job.Job.{Job}
 use Rattle.smk_flow.specs.Flows.{Flow, rule_name}
-use Rattle.smk_record.specs.declared.record.Record.{Record}
 use Rattle.smk_record.specs.Records.{core}
 use Rattle.smk_record.specs.Spelling.{spelling}
 use Rattle.smk_store.specs.Images.{Image, Content, file_at}

@@ -1,5 +1,5 @@
 -- The text of a report: of a listing by its plan, of a run by its log and its targets.
-use Rattle.std.specs.Prelude.{◌≡◌, ℕ, Bool, ◌&&◌, not, List, [], ◌∷◌, ◌++◌, map, filter, length, bytes_eq, if◌then◌else◌, Option, Some, None, Ok}
+use Rattle.std.specs.Prelude.{◌≡◌, Bool, ◌&&◌, not, List, [], ◌∷◌, ◌++◌, map, filter, length, bytes_eq, if◌then◌else◌, Ok}
 use Rattle.std.specs.List.{flat_map}
 use Rattle.smk_world.specs.declared.event.Call.{Call}
 use Rattle.smk_world.specs.declared.event.Call.TheVariants.{Started}
@@ -11,8 +11,8 @@ use Rattle.smk_pattern.specs.Reading.{or_empty}
 use Rattle.smk_flow.specs.declared.job.Job.{Job}
 use Rattle.smk_flow.specs.Flows.{Flow, rule_name}
 use Rattle.smk_trigger.specs.declared.reason.State.{State}
-use Rattle.smk_plan.specs.States.{Plan, job_path, staged, is_current, none_or_one, test_some}
-use Rattle.smk_report.specs.Lines.{Named, Ending, Good, listing_lines, start_line, done_line, failed_line, target_line, summary_line}
+use Rattle.smk_plan.specs.States.{Plan, job_path, staged, is_current, test_some}
+use Rattle.smk_report.specs.Lines.{Named, listing_lines, start_line, done_line, failed_line, target_line, summary_line}
 use Rattle.smk_drive.specs.Moments.{Rules, Moment, IsMoment, Begun, is_closed, is_closed_well, is_closed_badly, seen, progress_of, or_good}
 
 -- a job is named by its rule and its first output

@@ -1,6 +1,6 @@
 -- What soundness refuses: other bytes under a whole record; a time of which no version is known; two records of which one lies under
 -- the other; and a mark that is taken away before the output is firm.
-use Rattle.std.proofs.Common.{inl, inr, arith, ap, true≢false, ◌∙◌, sym}
+use Rattle.std.proofs.Common.{inl, inr, arith, ap, true≢false, sym}
 use Rattle.std.specs.Prelude.{◌≡◌, ℕ, Bool, true, false, List, [], ◌∷◌, codes, Option, Some, None, refl, bytes_eq, cond, ◌&&◌, ◌==◌, if◌then◌else◌, IsSome}
 use Rattle.std.specs.List.Sorted.{IsStrictlySortedBy}
 use Rattle.smk_base.specs.Place.{record_place}
@@ -16,8 +16,8 @@ use Rattle.smk_record.specs.declared.record.Stamp.{Stamp}
 use Rattle.smk_record.specs.declared.record.Stamp.TheVariants.{Time, Made}
 use Rattle.smk_record.specs.declared.record.Record.{Record}
 use Rattle.smk_record.specs.Records.{stamped}
-use Rattle.smk_store.specs.Images.{Image, image_of, core_at}
-use Rattle.smk_store.specs.Trust.{Eased, none_eased, Chain, Link, any_time, Versions, Vir}
+use Rattle.smk_store.specs.Images.{Image, image_of}
+use Rattle.smk_store.specs.Trust.{none_eased, Chain, Link, any_time, Versions, Vir}
 use Rattle.smk_store.specs.Soundness.{Outside, Sound, SoundWorld}
 use Rattle.smk_flow.proofs.Examples.{commands}
 use Rattle.smk_chain.proofs.Folders.{file, image_with}

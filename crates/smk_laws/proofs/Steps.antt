@@ -1,10 +1,10 @@
 -- Two steps of a history keep soundness: a whole call, and a crash in the midst of one.
-use Rattle.std.proofs.Common.{◌≡◌, Bool, true, List, [], ◌++◌, refl, sym, subst, IsTrue}
+use Rattle.std.proofs.Common.{◌≡◌, Bool, true, List, [], ◌++◌, refl, sym, subst}
 use Rattle.smk_world.specs.declared.event.Event.{Event}
 use Rattle.smk_world.specs.World.{World, Nodes, IsRising, places_in, Leaves, run, world_of}
 use Rattle.smk_world.proofs.Names.{formed_image}
 use Rattle.smk_world.specs.Trees.{Path}
-use Rattle.smk_store.specs.Images.{image_of, seen, source_at, record_at}
+use Rattle.smk_store.specs.Images.{image_of, seen}
 use Rattle.smk_store.specs.Trust.{Versions, none_eased}
 use Rattle.smk_store.specs.Soundness.{Outside, Sound, SoundWorld, SameSources, NoNewRecord}
 use Rattle.smk_store.specs.Safety.{KeepsSound, with_sources}

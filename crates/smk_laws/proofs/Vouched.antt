@@ -1,18 +1,17 @@
 -- Images, stamps and vouched values, computed.
-use Rattle.std.specs.Prelude.{◌≡◌, ℕ, Bool, true, false, List, [], ◌∷◌, codes, Option, Some, None, refl, bytes_eq, ◌&&◌, ◌==◌, if◌then◌else◌}
+use Rattle.std.specs.Prelude.{◌≡◌, ℕ, true, false, List, [], ◌∷◌, codes, Option, Some, None, refl, bytes_eq, ◌&&◌, ◌==◌, if◌then◌else◌}
 use Rattle.smk_base.specs.Place.{record_place, mark_place, note_place, lock_place}
 use Rattle.smk_base.specs.declared.tree.Tree.TheVariants.{File}
 use Rattle.smk_world.specs.declared.event.Node.TheVariants.{Regular, Directory}
-use Rattle.smk_world.specs.World.{World, Nodes, world_of}
-use Rattle.smk_world.specs.Trees.{Path, file_in}
+use Rattle.smk_world.specs.World.{Nodes, world_of}
 use Rattle.smk_record.specs.declared.record.Stamp.TheVariants.{Time, Made}
 use Rattle.smk_record.specs.declared.record.Record.{Record}
 use Rattle.smk_store.specs.declared.store.Kept.TheVariants.{Absent, Unreadable}
-use Rattle.smk_store.specs.Images.{Image, image_of, seen, sources, is_source, is_covered, holds_source, is_whole_member, tree_now}
-use Rattle.smk_store.specs.Trust.{Versions, Vir, stamp_now, holder}
+use Rattle.smk_store.specs.Images.{Image, image_of, seen, sources, is_covered, holds_source, is_whole_member, tree_now}
+use Rattle.smk_store.specs.Trust.{Versions, Vir, stamp_now}
 use Rattle.smk_flow.proofs.Examples.{commands}
 use Rattle.smk_chain.proofs.Folders.{image_with, file}
-use Rattle.smk_plan.proofs.Plans.{all_clustered, member_gone, after_copy, copy_records}
+use Rattle.smk_plan.proofs.Plans.{all_clustered, member_gone, copy_records}
 
 -- ## From nodes to an image
 

@@ -1,5 +1,5 @@
 -- The law that what a plan calls current is clean: a target that is current holds what a clean run from the sources gives.
-use Rattle.std.specs.Prelude.{◌≡◌, Bool, true, false, List, [], Option, Some, IsTrue, Contains}
+use Rattle.std.specs.Prelude.{◌≡◌, Bool, true, false, [], Some, IsTrue, Contains}
 use Rattle.smk_base.specs.declared.tree.Tree.{Tree}
 use Rattle.smk_world.specs.Trees.{Path, Act}
 use Rattle.smk_record.specs.declared.record.Record.{Record}

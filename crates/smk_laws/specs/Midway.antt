@@ -1,5 +1,5 @@
 -- What holds between the events of a run, and the law: after every prefix each crash image is sound.
-use Rattle.std.specs.Prelude.{◌≡◌, ◌⊎◌, ◌≤◌, ℕ, suc, Bool, true, false, ◌||◌, List, [], ◌∷◌, map, length, Option, Some, None, IsTrue, IsSome}
+use Rattle.std.specs.Prelude.{◌≡◌, ◌≤◌, ℕ, Bool, true, false, List, [], ◌∷◌, map, length, Option, Some, None, IsTrue, IsSome}
 use Rattle.std.specs.List.{list_any}
 use Rattle.smk_base.specs.Path.{is_path, is_at_or_under, overlaps}
 use Rattle.smk_base.specs.Place.{mark_place, note_place}

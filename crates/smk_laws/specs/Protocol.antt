@@ -1,5 +1,5 @@
 -- The protocol of a run: which events may come, by the phases of the jobs that are open. It keeps every crash image sound.
-use Rattle.std.specs.Prelude.{◌≡◌, ◌⊎◌, ℕ, suc, Bool, true, false, ◌&&◌, ◌||◌, not, List, [], ◌∷◌, ◌++◌, map, filter, zip, length, bytes_eq, if◌then◌else◌, Option, Some, None, Ok, Err, is_some, IsTrue, IsSome}
+use Rattle.std.specs.Prelude.{◌≡◌, ◌⊎◌, ℕ, suc, Bool, true, false, ◌&&◌, ◌||◌, List, [], ◌∷◌, ◌++◌, map, filter, zip, length, bytes_eq, if◌then◌else◌, Option, Some, None, Ok, Err, is_some, IsTrue, IsSome}
 use Rattle.std.specs.List.{list_any}
 use Rattle.smk_base.specs.Path.{is_path, overlaps}
 use Rattle.smk_base.specs.Place.{record_place, mark_place, note_place, lock_place}
@@ -13,7 +13,6 @@ use Rattle.smk_world.specs.World.{World, reading, after, in_paths, out_paths, ow
 use Rattle.smk_world.specs.Calls.{failed, any_overlap, are_apart}
 use Rattle.smk_world.specs.Trees.{Path, IsIn, Each, among, outs_of, folders_of, kind_in, is_good}
 use Rattle.smk_record.specs.declared.record.Stamp.{Stamp}
-use Rattle.smk_record.specs.declared.record.Stamp.TheVariants.{Time, Made}
 use Rattle.smk_record.specs.declared.record.Member.{Member}
 use Rattle.smk_record.specs.declared.record.Record.{Record}
 use Rattle.smk_record.specs.Records.{members_of, agrees}
