@@ -1,25 +1,23 @@
 -- A call whose log is empty meets the clauses, with want of memory.
-use Rattle.std.proofs.Common.{◌≡◌, ◌≤◌, ℕ, Bool, true, false, List, [], ◌∷◌, ◌++◌, Option, Some, None, refl, sym, subst, inl, inr, IsTrue, arith, All, append-nil}
+use Rattle.std.proofs.Common.{◌≡◌, ◌≤◌, ℕ, Bool, true, false, List, [], ◌∷◌, ◌++◌, Option, Some, None, refl, sym, subst, inl, IsTrue, arith, All}
 use Rattle.std.specs.Prelude.{nat_le, nat_eq, cond, codes}
 use Rattle.std.specs.List.{list_all}
 use mathlib.Core.Path.{fun_ext}
 use Rattle.smk_base.specs.declared.tree.Amount.{Amount}
 use Rattle.smk_world.specs.declared.event.Event.{Event}
-use Rattle.smk_world.specs.declared.event.Node.{Node}
-use Rattle.smk_world.specs.World.{World, run, is_within, is_above}
+use Rattle.smk_world.specs.World.{World, run}
 use Rattle.smk_world.specs.Trees.{Path}
-use Rattle.smk_store.specs.Images.{Image, Content, image_of, seen, file_at, is_source, source_at}
+use Rattle.smk_store.specs.Images.{Image, Content, image_of, seen, source_at}
 use Rattle.smk_store.specs.Trust.{Versions, none_eased}
 use Rattle.smk_store.specs.Soundness.{Outside, Sound, SoundWorld, EachImage}
 use Rattle.smk_store.specs.Safety.{SafeThroughout, SourcesOf, KeepsSound, with_sources, or_put, forgotten_so_far}
 use Rattle.smk_report.specs.Lines.{joined, target_line}
 use Rattle.smk_drive.specs.Moments.{Rules, Moment, Begun, IsMoment, AtEntry, AtRest, Between, EachEvent, is_closed_badly}
 use Rattle.smk_drive.specs.Lawful.{Lawful, fit_together, running_jobs, ClosedWithCause, is_good_end}
-use Rattle.smk_contract.specs.declared.asked.Asked.{Asked}
 use Rattle.smk_contract.specs.declared.asked.Asked.TheVariants.{Run, Preview, Unlock, Forget, Generate}
 use Rattle.smk_contract.specs.Meanings.{Meanings, Request, Does, BadWords, NoCores, rules_of}
 use Rattle.smk_contract.specs.Ends.{AsRun, HasLine, Stays}
-use Rattle.smk_contract.specs.Clauses.{OtherCommands, Same, ChangesOnly}
+use Rattle.smk_contract.specs.Clauses.{OtherCommands}
 
 pub no_split : (events : List Event) (e : Event) (rest : List Event) → [] ≡ events ++ e ∷ rest → ⊥
 no_split [] e rest h = grind arith

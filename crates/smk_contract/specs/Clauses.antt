@@ -1,5 +1,5 @@
 -- The clauses of the call's contract, each by a name.
-use Rattle.std.specs.Prelude.{◌≡◌, ◌⊎◌, ◌≤◌, ℕ, Bool, true, false, ◌&&◌, not, List, [], ◌∷◌, ◌++◌, map, Option, Some, None, IsTrue, Contains, All}
+use Rattle.std.specs.Prelude.{◌≡◌, ◌⊎◌, ◌≤◌, ℕ, Bool, true, false, ◌&&◌, not, List, [], ◌∷◌, ◌++◌, map, Option, Some, None, Contains, All}
 use Rattle.smk_base.specs.Place.{lock_place, record_place, mark_place, note_place}
 use Rattle.smk_base.specs.Path.{own_folder}
 use Rattle.smk_world.specs.declared.event.Event.{Event}
@@ -17,7 +17,6 @@ use Rattle.smk_drive.specs.Moments.{seen}
 use Rattle.smk_drive.specs.Lawful.{Lawful}
 use Rattle.smk_drive.specs.Refusals.{BeginsUnrefused}
 use Rattle.smk_drive.specs.Reports.{listing_text}
-use Rattle.smk_contract.specs.declared.asked.Asked.{Asked}
 use Rattle.smk_contract.specs.declared.asked.Asked.TheVariants.{Run, Preview, Unlock, Forget, Generate}
 use Rattle.smk_contract.specs.declared.asked.Outcome.{Outcome}
 use Rattle.smk_contract.specs.Meanings.{Meanings, Request, Does, BadWords, NoCores, outside, image_at}

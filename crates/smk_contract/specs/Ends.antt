@@ -1,5 +1,5 @@
 -- How a call ends, over its entry and its log.
-use Rattle.std.specs.Prelude.{◌≡◌, ◌≢◌, ◌⊎◌, ℕ, zero, suc, Bool, true, false, List, [], ◌∷◌, ◌++◌, codes, Option, Some, None, Ok, IsTrue, IsSome, Contains, All}
+use Rattle.std.specs.Prelude.{◌≡◌, ◌≢◌, ◌⊎◌, ℕ, zero, suc, Bool, true, false, List, [], ◌∷◌, ◌++◌, Option, Some, None, Ok, IsTrue, IsSome, Contains, All}
 use Rattle.smk_base.specs.Place.{mark_place, lock_place}
 use Rattle.smk_base.specs.declared.tree.Tree.{Tree}
 use Rattle.smk_world.specs.declared.event.Event.{Event}
@@ -14,7 +14,7 @@ use Rattle.smk_world.specs.Trees.{Path, Act, first, folders_of}
 use Rattle.smk_pattern.specs.Shapes.{Text}
 use Rattle.smk_flow.specs.declared.job.Job.{Job}
 use Rattle.smk_flow.specs.Flows.{Flow, rule_name}
-use Rattle.smk_store.specs.Images.{Image, file_at, tree_now}
+use Rattle.smk_store.specs.Images.{file_at, tree_now}
 use Rattle.smk_store.specs.Trust.{Versions}
 use Rattle.smk_store.specs.Soundness.{SoundWorld}
 use Rattle.smk_chain.specs.Mean.{clean_value}
@@ -27,10 +27,9 @@ use Rattle.smk_report.specs.Lines.{Ending, Status, NoOutput, WrongKind, BadMembe
 use Rattle.smk_drive.specs.Moments.{Rules, Moment, IsMoment, Begun, progress_of, seen}
 use Rattle.smk_drive.specs.Lawful.{has_failed}
 use Rattle.smk_drive.specs.Reports.{IsRunText, HasLines, start_line_of}
-use Rattle.smk_contract.specs.declared.asked.Asked.{Asked}
 use Rattle.smk_contract.specs.declared.asked.Asked.TheVariants.{Run, Preview}
 use Rattle.smk_contract.specs.declared.asked.RunWords.{RunWords}
-use Rattle.smk_contract.specs.Meanings.{Meanings, Request, Does, BadWords, NoCores, Reads, Paths, outside, image_at, setting_at, rules_of}
+use Rattle.smk_contract.specs.Meanings.{Meanings, Request, Does, Reads, Paths, outside, image_at, setting_at, rules_of}
 
 -- ## A call
 

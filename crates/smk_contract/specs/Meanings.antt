@@ -1,5 +1,5 @@
 -- What the parts below the call give it: how words, files, targets and records read, and the text of a command.
-use Rattle.std.specs.Prelude.{ℕ, Bool, List, [], Option, Some, None, is_none}
+use Rattle.std.specs.Prelude.{ℕ, List, Option, is_none}
 use Rattle.smk_world.specs.World.{World}
 use Rattle.smk_world.specs.Trees.{Path, Act}
 use Rattle.smk_pattern.specs.Shapes.{Text}

@@ -1,5 +1,5 @@
 -- The first refusal that a call meets.
-use Rattle.std.specs.Prelude.{◌≡◌, ◌⊎◌, ℕ, Bool, true, false, ◌||◌, not, List, [], ◌∷◌, ◌++◌, Some, IsTrue}
+use Rattle.std.specs.Prelude.{◌≡◌, ◌⊎◌, Bool, false, ◌||◌, not, List, [], ◌++◌, Some, IsTrue}
 use Rattle.smk_world.specs.declared.event.Event.{Event}
 use Rattle.smk_world.specs.World.{World, run, is_within}
 use Rattle.smk_world.specs.Trees.{Path, IsIn}
@@ -14,7 +14,6 @@ use Rattle.smk_report.specs.declared.fault.Fault.{Fault}
 use Rattle.smk_report.specs.declared.fault.Fault.TheVariants as fault
 use Rattle.smk_drive.specs.Moments.{Moment, IsMoment}
 use Rattle.smk_drive.specs.Refusals.{MomentRefuses, ChainRefuses, NoneBefore}
-use Rattle.smk_contract.specs.declared.asked.Asked.{Asked}
 use Rattle.smk_contract.specs.declared.asked.Asked.TheVariants.{Run, Preview, Forget}
 use Rattle.smk_contract.specs.declared.asked.RunWords.{RunWords}
 use Rattle.smk_contract.specs.Meanings.{Meanings, Request, Does, BadWords, NoCores, Reads, Faulty, Paths, NoTarget, image_at, rules_of}
