@@ -1,0 +1,50 @@
+use smk_base::{PathText, Text};
+
+/// Why the sources couldn't be looked at.
+#[derive(Debug, Drop)]
+pub enum SightFault {
+    /// There would be so many paths, more than 100,000, to look at.
+    TooManyPaths(u64),
+    /// The device failed.
+    Device,
+    OutOfMemory,
+}
+
+/// Why targets call for no jobs.
+#[derive(Debug, Drop)]
+pub enum ChainFault {
+    /// No rule has the path as an output.
+    NoRule {
+        path: PathText,
+    },
+    /// The first rule that has it wants this, which can't be made.
+    NoInput {
+        path: PathText,
+        rule: Text,
+        wanted: Text,
+    },
+    /// Neither of these rules is preferred.
+    Ambiguous {
+        path: PathText,
+        a: Text,
+        b: Text,
+    },
+    /// A chain of more than 200 jobs leads from this target.
+    Deep {
+        path: PathText,
+    },
+    /// The two overlap.
+    Clash {
+        path: PathText,
+        other: PathText,
+    },
+    /// Its directory is known, and doesn't have it.
+    MissingMember {
+        path: PathText,
+    },
+    /// The rule has no command.
+    NoCommand {
+        rule: Text,
+    },
+    OutOfMemory,
+}

@@ -1,0 +1,4 @@
+pub mod Meanings
+pub mod Ends
+pub mod Refusing
+pub mod Clauses

@@ -1,0 +1,103 @@
+-- The first refusal that a call meets.
+use Rattle.std.specs.Prelude.{◌≡◌, ◌⊎◌, Bool, false, ◌||◌, not, List, [], ◌++◌, Some, IsTrue}
+use Rattle.smk_world.specs.declared.event.Event.{Event}
+use Rattle.smk_world.specs.World.{World, run, is_within}
+use Rattle.smk_world.specs.Trees.{Path, IsIn}
+use Rattle.smk_pattern.specs.Shapes.{Text}
+use Rattle.smk_flow.specs.Flows.{Flow}
+use Rattle.smk_record.specs.declared.record.Record.{Record}
+use Rattle.smk_record.specs.declared.record.Stamp.TheVariants.{Time}
+use Rattle.smk_record.specs.Records.{stamped}
+use Rattle.smk_store.specs.Images.{Image, Content, file_at, core_at}
+use Rattle.smk_plan.specs.States.{nothing_done}
+use Rattle.smk_report.specs.declared.fault.Fault.{Fault}
+use Rattle.smk_report.specs.declared.fault.Fault.TheVariants as fault
+use Rattle.smk_drive.specs.Moments.{Moment, IsMoment}
+use Rattle.smk_drive.specs.Refusals.{MomentRefuses, ChainRefuses, NoneBefore}
+use Rattle.smk_contract.specs.declared.asked.Asked.TheVariants.{Run, Preview, Forget}
+use Rattle.smk_contract.specs.declared.asked.RunWords.{RunWords}
+use Rattle.smk_contract.specs.Meanings.{Meanings, Request, Does, BadWords, NoCores, Reads, Faulty, Paths, NoTarget, image_at, rules_of}
+
+-- a file at or under one of the paths has a time that a record holds for it
+abbrev pub HasSeenStamp : Image → List Path → Path → Type 0
+HasSeenStamp image paths q =
+    (f : Content) × (p : Path) × (r : Record)
+    × IsTrue (is_within q paths)
+    × (file_at image q ≡ Some f)
+    × (core_at image p ≡ Some r)
+    × IsIn (stamped r) (q, Time f.time)
+
+-- a run or a listing of these words
+abbrev pub IsRunOrPreview : Request → RunWords → Type 0
+IsRunOrPreview request w = (request ≡ Does (Run w)) ⊎ (request ≡ Does (Preview w))
+
+-- The first refusal that a call meets, in the order in which they are looked for: of the words; of reading; of a target; the lock;
+-- for a forgotten path the time of a file; of the plans at a moment of the run, or at the entry for a listing.
+pub data Refuses (g : Meanings) (request : Request) (entry : World) (log : List Event) : Fault → Type 0 where
+  WordsRefuse : request ≡ BadWords → Refuses g request entry log fault.BadWords
+  CoresRefuse : request ≡ NoCores → Refuses g request entry log fault.NoCores
+  ReadingRefuses :
+      (w : RunWords) (f : Fault) → IsRunOrPreview request w → g.flow_of (image_at g entry) w ≡ Faulty f → Refuses g request entry log f
+  TargetRefuses :
+      (w : RunWords) (flow : Flow) (word : Text) →
+      IsRunOrPreview request w →
+      g.flow_of (image_at g entry) w ≡ Reads flow →
+      g.targets_of flow w.targets ≡ NoTarget word → Refuses g request entry log (fault.BadTarget word)
+  LockRefuses :
+      (w : RunWords) (flow : Flow) (paths : List Path) →
+      request ≡ Does (Run w) →
+      w.nolock ≡ false →
+      g.flow_of (image_at g entry) w ≡ Reads flow →
+      g.targets_of flow w.targets ≡ Paths paths → IsTrue (image_at g entry).locked → Refuses g request entry log fault.Locked
+  ForgetRefuses :
+      (paths : List Path) →
+      request ≡ Does (Forget paths false) → IsTrue (image_at g entry).locked → Refuses g request entry log fault.Locked
+  StampRefuses :
+      (paths : List Path) (nolock : Bool) (q : Path) (events rest : List Event) →
+      request ≡ Does (Forget paths nolock) →
+      IsTrue (nolock || not (image_at g entry).locked) →
+      log ≡ events ++ rest → HasSeenStamp (image_at g (run entry events)) paths q → Refuses g request entry log (fault.StampSeen q)
+  MomentOfRunRefuses :
+      (w : RunWords) (flow : Flow) (paths : List Path) (events rest : List Event) (m : Moment) (f : Fault) →
+      request ≡ Does (Run w) →
+      g.flow_of (image_at g entry) w ≡ Reads flow →
+      g.targets_of flow w.targets ≡ Paths paths →
+      IsTrue (w.nolock || not (image_at g entry).locked) →
+      log ≡ events ++ rest →
+      IsMoment (rules_of g flow w paths) entry events m →
+      NoneBefore (rules_of g flow w paths) entry events →
+      MomentRefuses (rules_of g flow w paths) entry m f → Refuses g request entry log f
+  PreviewRefuses :
+      (w : RunWords) (flow : Flow) (paths : List Path) (f : Fault) →
+      request ≡ Does (Preview w) →
+      g.flow_of (image_at g entry) w ≡ Reads flow →
+      g.targets_of flow w.targets ≡ Paths paths →
+      ChainRefuses (rules_of g flow w paths) (image_at g entry) nothing_done [] f → Refuses g request entry log f
+
+-- ## Refusals that may stand although a clean run gives the targets
+
+abbrev pub IsNamed : Fault → Type 0
+IsNamed fault.Locked = Unit {0}
+IsNamed (fault.TooManyPaths count) = Unit {0}
+IsNamed (fault.Incomplete paths) = Unit {0}
+IsNamed (fault.Protected path) = Unit {0}
+IsNamed (fault.AboveLimit rule path name asked bound) = Unit {0}
+IsNamed (fault.TooLong rule bytes) = Unit {0}
+IsNamed fault.Serials = Unit {0}
+IsNamed (fault.Clash path other) = Unit {0}
+IsNamed f = ⊥
+
+-- those of a listing
+abbrev pub IsNamedInListing : Fault → Type 0
+IsNamedInListing fault.Locked = ⊥
+IsNamedInListing fault.Serials = ⊥
+IsNamedInListing f = IsNamed f
+
+-- those of `--cleanup-metadata`
+abbrev pub IsNamedInForgetting : Fault → Type 0
+IsNamedInForgetting fault.Locked = Unit {0}
+IsNamedInForgetting (fault.StampSeen path) = Unit {0}
+IsNamedInForgetting f = ⊥
+
+abbrev pub none_named : Fault → Type 0
+none_named f = ⊥

@@ -1,0 +1,4 @@
+pub mod Moments
+pub mod Lawful
+pub mod Refusals
+pub mod Reports

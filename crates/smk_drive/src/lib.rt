@@ -1,0 +1,6 @@
+//! A run, from the plan to the report.
+#![tactic(auto)]
+
+mod end;
+
+pub use end::End;

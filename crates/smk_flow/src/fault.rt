@@ -1,0 +1,64 @@
+use smk_base::Text;
+
+/// Why rules make no workflow. A rule's file and line are those of its statement.
+#[derive(Debug, Drop)]
+pub enum FlowFault {
+    /// The name was used above.
+    DoubledRule {
+        file: Text,
+        line: u64,
+        name: Text,
+    },
+    /// A text isn't written as a pattern.
+    BadPattern {
+        file: Text,
+        line: u64,
+        text: Text,
+    },
+    /// The constraint of this name is none.
+    BadConstraint {
+        file: Text,
+        line: u64,
+        name: Text,
+    },
+    /// The outputs and logs don't all have the same wildcards.
+    UnequalWildcards {
+        file: Text,
+        line: u64,
+        rule: Text,
+    },
+    /// A wildcard stands in the rule that its outputs don't have.
+    UnknownWildcard {
+        file: Text,
+        line: u64,
+        rule: Text,
+        name: Text,
+    },
+    /// A flag stands where it may not.
+    BadFlag {
+        file: Text,
+        line: u64,
+        rule: Text,
+        word: Text,
+    },
+    /// A clause names a rule that there isn't.
+    UnknownName {
+        file: Text,
+        line: u64,
+        name: Text,
+    },
+    /// Two clauses have these two both ways round, or one clause has a name twice.
+    ContradictoryOrder {
+        a: Text,
+        b: Text,
+    },
+    OutOfMemory,
+}
+
+/// Why a rule and a binding make no job.
+#[derive(Debug, Drop)]
+pub enum JobFault {
+    /// An output, a log, an input or a gathered directory would be this text, which isn't a path.
+    NotPath(Text),
+    OutOfMemory,
+}

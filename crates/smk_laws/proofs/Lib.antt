@@ -1,0 +1,5 @@
+mod Refused
+mod Vouched
+pub mod Valid
+pub mod Same
+pub mod Steps

@@ -1,0 +1,45 @@
+-- The law that what a plan calls current is clean: a target that is current holds what a clean run from the sources gives.
+use Rattle.std.specs.Prelude.{◌≡◌, Bool, true, false, [], Some, IsTrue, Contains}
+use Rattle.smk_base.specs.declared.tree.Tree.{Tree}
+use Rattle.smk_world.specs.Trees.{Path, Act}
+use Rattle.smk_record.specs.declared.record.Record.{Record}
+use Rattle.smk_record.specs.Records.{is_valid}
+use Rattle.smk_flow.specs.declared.job.Job.{Job}
+use Rattle.smk_flow.specs.Flows.{Flow}
+use Rattle.smk_store.specs.Images.{Image, record_at, tree_now}
+use Rattle.smk_store.specs.Trust.{Versions, none_eased}
+use Rattle.smk_store.specs.Soundness.{Sound}
+use Rattle.smk_chain.specs.Derive.{Listings}
+use Rattle.smk_chain.specs.Mean.{Setting, setting_of, clean_value}
+use Rattle.smk_pick.specs.declared.settings.Settings.{Settings}
+use Rattle.smk_plan.specs.States.{Plan, Progress, LastPlan, AreListed, is_current, is_open_now}
+
+-- a tree stands at the path, and it is the clean value
+abbrev pub IsClean : Setting → Image → Path → Type 0
+IsClean S image p = (tree : Tree) × (tree_now image p ≡ Some tree) × (clean_value S p ≡ Some tree)
+
+-- each record that reads is its path's own, and valid
+abbrev pub HasValidRecords : Image → Type 0
+HasValidRecords image = (p : Path) (r : Record) → record_at image p ≡ Some r → (r.path ≡ p) × IsTrue (is_valid r)
+
+-- The last plan of a chain in a sound image, at a moment at which no child runs. The chain began from the listings of directories'
+-- records; and of each job that isn't Open every field of the command has a value.
+pub record AtRest
+    (flow : Flow) (act : Act) (has_fields : Job → Bool) (image : Image) (H : Versions) (settings : Settings) (progress : Progress)
+    (L : Listings) (plan : Plan) : Type 0 where
+  pub sound : Sound act H image none_eased
+  pub valid : HasValidRecords image
+  pub listed : AreListed image L
+  pub last : LastPlan flow image settings progress L plan
+  pub rest : progress.running ≡ []
+  pub fields : (j : Job) → Contains plan.jobs j → is_open_now image settings progress plan j ≡ false → has_fields j ≡ true
+
+-- In a sound image a target that is current by the last plan holds its clean value.
+abbrev pub CurrentMeansClean : Type 0
+CurrentMeansClean =
+    (flow : Flow) (act : Act) (has_fields : Job → Bool) (image : Image) (H : Versions) (settings : Settings) (progress : Progress)
+    (L : Listings) (plan : Plan) →
+    AtRest flow act has_fields image H settings progress L plan →
+    (p : Path) →
+    Contains settings.targets p →
+    IsTrue (is_current image settings progress plan p) → IsClean (setting_of flow act has_fields image) image p

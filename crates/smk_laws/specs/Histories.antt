@@ -1,0 +1,83 @@
+-- Histories: worlds that follow one another by calls, edits, removals and crashes.
+use Rattle.std.specs.Prelude.{◌≡◌, ◌<◌, ℕ, Bool, true, false, ◌&&◌, not, List, [], ◌∷◌, ◌++◌, bytes_eq, if◌then◌else◌, Option, Some, None, IsTrue, Contains}
+use Rattle.std.specs.List.{list_all, filter}
+use Rattle.smk_base.specs.Path.{own_folder, is_under, is_at_or_under}
+use Rattle.smk_world.specs.declared.event.Node.{Node}
+use Rattle.smk_world.specs.declared.event.Node.TheVariants.{Regular, Directory}
+use Rattle.smk_world.specs.declared.event.Event.{Event}
+use Rattle.smk_world.specs.World.{World, Nodes, IsFormed, Leaves, run, world_of, firmly, folders_above, add_names}
+use Rattle.smk_world.specs.Runs.{Follows}
+use Rattle.smk_world.specs.Trees.{Path, IsIn}
+use Rattle.smk_record.specs.declared.record.Stamp.TheVariants.{Time}
+use Rattle.smk_record.specs.declared.record.Record.{Record}
+use Rattle.smk_record.specs.Records.{stamped}
+use Rattle.smk_store.specs.Images.{Image, Content, seen, file_at, is_file, is_folder, is_source, core_at}
+use Rattle.smk_store.specs.Trust.{Versions}
+use Rattle.smk_store.specs.Soundness.{Outside, EachImage, SoundWorld}
+use Rattle.smk_store.specs.Safety.{KeepsSound, with_sources}
+
+-- a world to begin with: nothing of the engine's, no child, every node firm
+pub record IsNew (w : World) : Type 0 where
+  pub formed : IsFormed w
+  pub none_own : (q : Path) → Contains w.names q → is_at_or_under q own_folder ≡ false
+  pub no_child : w.children ≡ []
+  pub all_firm : (q : Path) → (n : Option Node) × (w.nodes q ≡ firmly n)
+
+-- a file is put at p, firmly, and folders above it
+abbrev pub edited : World → Path → Node → World
+edited w p node =
+    record w {
+      names = add_names (p ∷ folders_above p) w.names;
+      nodes = λ q. if bytes_eq q p then firmly (Some node) else (if is_under p q then firmly (Some Directory) else w.nodes q);
+    }
+
+-- what is at and under p is taken away, firmly
+abbrev pub removed : World → Path → World
+removed w p =
+    record w {
+      names = filter (λ q. not (is_at_or_under q p)) w.names;
+      nodes = λ q. if is_at_or_under q p then firmly None else w.nodes q;
+    }
+
+-- the time is above every time of a file and of a source stamp in a record
+pub record IsLater (image : Image) (time : ℕ) : Type 0 where
+  pub than_files : (p : Path) (f : Content) → file_at image p ≡ Some f → f.time < time
+  pub than_records :
+      (p : Path) (r : Record) (q : Path) (t : ℕ) → core_at image p ≡ Some r → IsIn (stamped r) (q, Time t) → t < time
+
+-- no folder stands there, and no file above
+abbrev pub can_stand : Image → Path → Bool
+can_stand image p = not (is_folder image p) && list_all (λ f. not (is_file image f)) (folders_above p)
+
+-- One step of a history. An edit or addition makes a source, with a later time; a removal takes what isn't the engine's; a call runs
+-- to its end, or a crash comes after some of its events.
+pub data Step (o : Outside) (w : World) : World → Type 0 where
+  Edit :
+      (p : Path) (bytes : List ℕ) (time : ℕ) (read_only : Bool) →
+      IsTrue (can_stand (seen o.read w) p) →
+      IsLater (seen o.read w) time →
+      EachImage o.read w (λ i. IsLater i time) →
+      IsTrue (is_source (seen o.read (edited w p (Regular bytes time read_only))) p) →
+      EachImage o.read (edited w p (Regular bytes time read_only)) (λ i. IsTrue (is_source i p)) →
+      Step o w (edited w p (Regular bytes time read_only))
+  Remove : (p : Path) → is_at_or_under p own_folder ≡ false → Step o w (removed w p)
+  Call :
+      (log : List Event) (paths : List Path) →
+      Follows o.act w log → KeepsSound o w log paths true → (run w log).children ≡ [] → Step o w (run w log)
+  Crash :
+      (log events rest : List Event) (paths : List Path) (to_the_end : Bool) (nodes : Nodes) →
+      Follows o.act w log →
+      KeepsSound o w log paths to_the_end → log ≡ events ++ rest → Leaves (run w events) nodes → Step o w (world_of nodes)
+
+-- no path has a version
+abbrev pub no_versions : Versions
+no_versions p t = None
+
+-- A history by its last world, with its versions: each world so far, in turn, has put its sources there.
+pub data History (o : Outside) : World → Versions → Type 0 where
+  Begin : (w : World) → IsNew w → History o w (with_sources no_versions (seen o.read w))
+  Go : (w next : World) (H : Versions) → History o w H → Step o w next → History o next (with_sources H (seen o.read next))
+
+-- Every world of every history is sound for its versions.
+abbrev pub HistoryLaw : Type 0
+HistoryLaw = (o : Outside) (w : World) (H : Versions) → History o w H → SoundWorld o w H

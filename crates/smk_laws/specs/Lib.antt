@@ -1,0 +1,4 @@
+pub mod Histories
+pub mod Current
+pub mod Protocol
+pub mod Midway

@@ -1,0 +1,308 @@
+-- The protocol of a run: which events may come, by the phases of the jobs that are open. It keeps every crash image sound.
+use Rattle.std.specs.Prelude.{◌≡◌, ◌⊎◌, ℕ, suc, Bool, true, false, ◌&&◌, ◌||◌, List, [], ◌∷◌, ◌++◌, map, filter, zip, length, bytes_eq, if◌then◌else◌, Option, Some, None, Ok, Err, is_some, IsTrue, IsSome}
+use Rattle.std.specs.List.{list_any}
+use Rattle.smk_base.specs.Path.{is_path, overlaps}
+use Rattle.smk_base.specs.Place.{record_place, mark_place, note_place, lock_place}
+use Rattle.smk_world.specs.declared.recipe.Recipe.{Recipe}
+use Rattle.smk_world.specs.declared.recipe.Out.{Out}
+use Rattle.smk_world.specs.declared.event.Call.{Call}
+use Rattle.smk_world.specs.declared.event.Call.TheVariants.{Looked, ReadFile, ReadFolder, Written, Created, Removed, MadeParents, Settled, Protected, Started, Waited}
+use Rattle.smk_world.specs.declared.event.Event.{Event}
+use Rattle.smk_world.specs.declared.event.Failed.{Failed}
+use Rattle.smk_world.specs.World.{World, reading, after, in_paths, out_paths, owned_paths}
+use Rattle.smk_world.specs.Calls.{failed, any_overlap, are_apart}
+use Rattle.smk_world.specs.Trees.{Path, IsIn, Each, among, outs_of, folders_of, kind_in, is_good}
+use Rattle.smk_record.specs.declared.record.Stamp.{Stamp}
+use Rattle.smk_record.specs.declared.record.Member.{Member}
+use Rattle.smk_record.specs.declared.record.Record.{Record}
+use Rattle.smk_record.specs.Records.{members_of, agrees}
+use Rattle.smk_store.specs.Images.{Image, Content, seen, stands, is_source, source_at, core_at, record_at, members_under, tree_now, is_whole}
+use Rattle.smk_store.specs.Trust.{Eased, none_eased, Speaks, Chain, any_time, time_stamp, made_stamp}
+use Rattle.smk_store.specs.Soundness.{Outside}
+
+-- ## Open jobs
+
+pub data Phase : Type 0 where
+  Marking : Phase  -- its marks and notes are being made
+  Marked : Phase  -- they are firm; its outputs are being removed
+  Running : ℕ → Phase  -- its child has this number
+  Ended : ℕ → Phase  -- its child has ended with this status
+  Firm : Phase  -- its outputs are firm and good; its records are being written
+  Recorded : Phase  -- they are firm; its marks are being removed
+  Dropping : Phase  -- its outputs and records are being removed
+  Dropped : Phase  -- that is firm; its marks are being removed
+
+-- A job that has begun and isn't closed: with the stamps that its inputs had as it began, its serial, and for a Restore the
+-- records that it found, without their members.
+pub record OpenJob : Type 0 where
+  pub recipe : Recipe
+  pub logs : List Path
+  pub stamps : List Stamp
+  pub serial : ℕ
+  pub kept : List (Path × Record)
+  pub phase : Phase
+
+-- Of a run: its open jobs; the greatest serial that an unmarked record may name; whether the marks and notes that it found are
+-- firm; whether a call has failed.
+pub record RunState : Type 0 where
+  pub jobs : List OpenJob
+  pub top : ℕ
+  pub steady : Bool
+  pub faulted : Bool
+
+abbrev pub kept_at : List (Path × Record) → Path → Option Record
+kept_at [] p = None
+kept_at (e ∷ es) p = if bytes_eq e.0 p then Some e.1 else kept_at es p
+
+abbrev pub outputs : OpenJob → List Path
+outputs j = out_paths j.recipe
+
+-- its outputs and logs
+abbrev pub own : OpenJob → List Path
+own j = owned_paths j.recipe j.logs
+
+abbrev pub mark_places : OpenJob → List Path
+mark_places j = map mark_place (outputs j) ++ map note_place j.logs
+
+abbrev pub record_places : OpenJob → List Path
+record_places j = map record_place (outputs j)
+
+-- the inputs, each with the stamp that it had
+abbrev pub begun_with : OpenJob → List (Path × Stamp)
+begun_with j = zip (in_paths j.recipe) j.stamps
+
+-- the record of an output, but for its members
+abbrev pub record_of : OpenJob → Path → Record
+record_of j p = record { path = p; made = j.serial; recipe = j.recipe; stamps = j.stamps; members = [] }
+
+-- the members that belong in it
+abbrev pub listed_of : OpenJob → Path → List Member → List Member
+listed_of j p members = if among (folders_of j.recipe) p then members else []
+
+-- what it made and what it read is still wanted
+abbrev pub keeps : Phase → Bool
+keeps Dropping = false
+keeps Dropped = false
+keeps phase = true
+
+-- the records that open Restores have found, until they are dropped
+abbrev pub eased_by : List OpenJob → Eased
+eased_by [] p = None
+eased_by (j ∷ js) p = if keeps j.phase && is_some (kept_at j.kept p) then kept_at j.kept p else eased_by js p
+
+abbrev pub eased : RunState → Eased
+eased s = eased_by s.jobs
+
+-- nothing of the one job overlaps what the other owns or reads
+pub record IsApart (j k : OpenJob) : Type 0 where
+  pub own_apart : any_overlap (own j) (own k) ≡ false
+  pub not_read : any_overlap (own j) (in_paths k.recipe) ≡ false
+  pub reads_not : any_overlap (in_paths j.recipe) (own k) ≡ false
+
+abbrev pub IsThere : World → Path → Type 0
+IsThere w place = IsSome (reading (w.nodes place))
+
+abbrev pub IsAbsent : World → Path → Type 0
+IsAbsent w place = reading (w.nodes place) ≡ None
+
+abbrev pub AreAmong : List Path → List Path → Type 0
+AreAmong ps places = Each (λ p. IsTrue (among ps p)) places
+
+abbrev pub is_running : Phase → Bool
+is_running (Running n) = true
+is_running phase = false
+
+abbrev pub IsWait : Call → Type 0
+IsWait (Waited r) = Unit {0}
+IsWait call = ⊥
+
+-- the call as it is when it succeeds
+abbrev pub as_ok : Call → Call
+as_ok (Written p bytes r) = Written p bytes (Ok tt)
+as_ok (Created p r) = Created p (Ok true)
+as_ok (Removed p r) = Removed p (Ok tt)
+as_ok (MadeParents p r) = MadeParents p (Ok tt)
+as_ok (Settled ps r) = Settled ps (Ok tt)
+as_ok (Protected p r) = Protected p (Ok tt)
+as_ok (Started recipe logs command r) = Started recipe logs command (Ok 0)
+as_ok call = call
+
+module _ (o : Outside) where
+  abbrev pub now : World → Image
+  now w = seen o.read w
+
+  -- a source whose time agrees with the stamp
+  pub record IsSourceAt (image : Image) (q : Path) (s : Stamp) : Type 0 where
+    pub source : Content
+    pub stands : source_at image q ≡ Some source
+    pub same : IsTrue (agrees s (time_stamp (Some source)))
+
+  -- what an unmarked record speaks for, with the stamp's serial; it hangs together when the marks of open Restores don't count, and
+  -- its output is whole
+  pub record IsProductAt (e : Eased) (image : Image) (q : Path) (s : Stamp) : Type 0 where
+    pub speaker : Path
+    pub by : Record
+    pub speaks : Speaks image none_eased q speaker by
+    pub same : IsTrue (agrees s (made_stamp (Some by)))
+    pub chain : Chain image e any_time by
+    pub whole : IsTrue (is_whole image speaker (kind_in by.recipe speaker))
+    pub there : IsTrue (is_some (tree_now image q))
+
+  abbrev pub IsAtHand : Eased → Image → Path × Stamp → Type 0
+  IsAtHand e image (q, s) = IsSourceAt image q s ⊎ IsProductAt e image q s
+
+  -- When a job may begin: its paths are apart from each other, from its inputs, from what other open jobs own or read, from sources,
+  -- and from records and marks that aren't its own; and its inputs are at hand with its stamps.
+  pub record MayBegin (s : RunState) (w : World) (j : OpenJob) : Type 0 where
+    pub paths : Each (λ p. IsTrue (is_path p)) (own j)
+    pub apart : are_apart (own j) ≡ true
+    pub from_open : Each (IsApart j) s.jobs
+    pub from_inputs : any_overlap (own j) (in_paths j.recipe) ≡ false
+    pub no_source : (q : Path) → is_source (now w) q ≡ true → list_any (overlaps q) (own j) ≡ false
+    pub no_clash :
+        (q : Path) → (stands ((now w).kept q) || (now w).marked q) ≡ true → list_any (overlaps q) (own j) ≡ true → IsIn (outputs j) q
+    pub at_hand : Each (IsAtHand (eased s) (now w)) (begun_with j)
+    pub each_stamped : length j.stamps ≡ length (in_paths j.recipe)
+    pub kept_own : (p : Path) (r : Record) → kept_at j.kept p ≡ Some r → IsIn (outputs j) p
+
+  -- the unmarked record that a Restore finds is the one that it will write again
+  pub record IsKept (w : World) (j : OpenJob) (p : Path) : Type 0 where
+    pub stands : core_at (now w) p ≡ Some (record_of j p)
+    pub unmarked : (now w).marked p ≡ false
+    pub found : kept_at j.kept p ≡ Some (record_of j p)
+
+  -- Its serial is the next one; or it is a Restore, and keeps that of its records.
+  abbrev pub HasSerial : RunState → World → OpenJob → ℕ → Type 0
+  HasSerial s w j top = ((j.kept ≡ []) × (j.serial ≡ suc s.top) × (top ≡ suc s.top)) ⊎ (Each (IsKept w j) (outputs j) × (top ≡ s.top))
+
+  -- of the right kind and within the limits
+  abbrev pub IsGood : World → Out → Type 0
+  IsGood w out = IsTrue (is_good out.path out.kind (tree_now (now w) out.path))
+
+  abbrev pub listed_now : World → Path → List Member
+  listed_now w p = members_of (record_at (now w) p)
+
+  -- the job's record stands there, with the members that are there now
+  abbrev pub IsWritten : World → OpenJob → Path → Type 0
+  IsWritten w j p = (core_at (now w) p ≡ Some (record_of j p)) × (listed_now w p ≡ listed_of j p (members_under (now w) p))
+
+  -- The call of an open job that leads it from its phase to a phase.
+  pub data Moves (w : World) (j : OpenJob) : Call → Phase → Type 0 where
+    MakeFolders :
+        (p : Path) →
+        ((j.phase ≡ Marking) × IsIn (mark_places j) p) ⊎ ((j.phase ≡ Marked) × IsIn (own j) p)
+        ⊎ ((j.phase ≡ Firm) × IsIn (record_places j) p) →
+        Moves w j (MadeParents p (Ok tt)) j.phase
+    Mark : (p : Path) (made : Bool) → j.phase ≡ Marking → IsIn (mark_places j) p → Moves w j (Created p (Ok made)) Marking
+    AllMarked :
+        (ps : List Path) → j.phase ≡ Marking → Each (IsThere w) (mark_places j) → AreAmong ps (mark_places j) → Moves w j (Settled ps (Ok tt)) Marked
+    MakeRoom : (p : Path) → j.phase ≡ Marked → IsIn (outputs j) p → Moves w j (Removed p (Ok tt)) Marked
+    Start : (command : List ℕ) (n : ℕ) → j.phase ≡ Marked → Moves w j (Started j.recipe j.logs command (Ok n)) (Running n)
+    Wait : (n status : ℕ) → j.phase ≡ Running n → Moves w j (Waited (Ok (record { number = n; status = status }))) (Ended status)
+    AllMade :
+        (ps : List Path) → j.phase ≡ Ended 0 → Each (IsGood w) (outs_of j.recipe) → AreAmong ps (outputs j) → Moves w j (Settled ps (Ok tt)) Firm
+    Write :
+        (p : Path) (bytes : List ℕ) →
+        j.phase ≡ Firm →
+        IsIn (outputs j) p →
+        o.read bytes ≡ Some (record (record_of j p) { members = listed_of j p (members_under (now w) p) }) →
+        Moves w j (Written (record_place p) bytes (Ok tt)) Firm
+    AllWritten :
+        (ps : List Path) →
+        j.phase ≡ Firm → Each (IsWritten w j) (outputs j) → AreAmong ps (record_places j) → Moves w j (Settled ps (Ok tt)) Recorded
+    Drop :
+        (p : Path) →
+        ((n : ℕ) × (j.phase ≡ Ended n)) ⊎ (j.phase ≡ Dropping) → IsIn (outputs j ++ record_places j) p → Moves w j (Removed p (Ok tt)) Dropping
+    AllDropped :
+        (ps : List Path) →
+        j.phase ≡ Dropping →
+        Each (IsAbsent w) (outputs j ++ record_places j) →
+        AreAmong ps (outputs j ++ record_places j) → Moves w j (Settled ps (Ok tt)) Dropped
+    Unmark : (p : Path) → (j.phase ≡ Recorded) ⊎ (j.phase ≡ Dropped) → IsIn (outputs j) p → Moves w j (Removed (mark_place p) (Ok tt)) j.phase
+
+  -- The call that closes a job: its marks are gone, and that is settled.
+  pub data Closes (w : World) (j : OpenJob) : Call → Type 0 where
+    AllUnmarked :
+        (ps : List Path) →
+        (j.phase ≡ Recorded) ⊎ (j.phase ≡ Dropped) →
+        Each (λ p. IsAbsent w (mark_place p)) (outputs j) → AreAmong ps (map mark_place (outputs j)) → Closes w j (Settled ps (Ok tt))
+
+  -- ## Calls of no job
+
+  abbrev pub IsLook : Call → Type 0
+  IsLook (Looked p r) = Unit {0}
+  IsLook (ReadFile p limit r) = Unit {0}
+  IsLook (ReadFolder p r) = Unit {0}
+  IsLook call = ⊥
+
+  abbrev pub IsLock : Call → Type 0
+  IsLock (Created p r) = p ≡ lock_place
+  IsLock (Removed p r) = p ≡ lock_place
+  IsLock (MadeParents p r) = p ≡ lock_place
+  IsLock call = ⊥
+
+  -- an unmarked recorded output that no open job owns or reads
+  pub record IsFree (s : RunState) (w : World) (p : Path) (r : Record) : Type 0 where
+    pub recorded : core_at (now w) p ≡ Some r
+    pub unmarked : (now w).marked p ≡ false
+    pub apart : Each (λ k. any_overlap (p ∷ []) (own k ++ in_paths k.recipe) ≡ false) s.jobs
+
+  -- every mark and note that stands is among these places
+  pub record HasAllMarks (image : Image) (ps : List Path) : Type 0 where
+    pub marks : (p : Path) → image.marked p ≡ true → IsTrue (among ps (mark_place p))
+    pub notes : (p : Path) → image.noted p ≡ true → IsTrue (among ps (note_place p))
+
+  -- makes one of these places, or the folders above it
+  abbrev pub IsFirst : Call → List Path → Type 0
+  IsFirst (Created p (Ok made)) ps = IsIn ps p
+  IsFirst (MadeParents p (Ok u)) ps = IsIn ps p
+  IsFirst call ps = ⊥
+
+  abbrev pub runs : OpenJob → Bool
+  runs j = is_running j.phase
+
+  -- after a fault only waits come
+  abbrev pub MayGo : RunState → Event → Type 0
+  MayGo s e = (s.faulted ≡ false) ⊎ IsWait e.call
+
+  -- the call of no job, which leaves the state as it is
+  pub data Besides (s : RunState) (w : World) : Call → Type 0 where
+    Look : (c : Call) → IsLook c → Besides s w c
+    Lock : (c : Call) → IsLock c → Besides s w c
+    Settle : (ps : List Path) → Besides s w (Settled ps (Ok tt))
+    Spend : (p : Path) (r : Record) → IsFree s w p r → Besides s w (Removed p (Ok tt))
+    Protect : (p : Path) (r : Record) → IsFree s w p r → Besides s w (Protected p (Ok tt))
+
+  -- ## One event
+
+  pub data Step (s : RunState) (w : World) : Event → RunState → Type 0 where
+    Aside : (e : Event) → s.faulted ≡ false → Besides s w e.call → Step s w e s
+    -- the marks and notes that were found are made firm before any job begins
+    Steady :
+        (e : Event) (ps : List Path) →
+        s.faulted ≡ false → s.jobs ≡ [] → e.call ≡ Settled ps (Ok tt) → HasAllMarks (now w) ps → Step s w e (record s { steady = true })
+    -- a job begins with its first mark
+    Begin :
+        (e : Event) (j : OpenJob) (top : ℕ) →
+        s.faulted ≡ false →
+        s.steady ≡ true →
+        MayBegin s w j →
+        HasSerial s w j top → j.phase ≡ Marking → IsFirst e.call (mark_places j) → Step s w e (record s { jobs = j ∷ s.jobs; top = top })
+    Go :
+        (e : Event) (js ks : List OpenJob) (j : OpenJob) (phase : Phase) →
+        s.jobs ≡ js ++ j ∷ ks → MayGo s e → Moves w j e.call phase → Step s w e (record s { jobs = js ++ (record j { phase = phase }) ∷ ks })
+    Close :
+        (e : Event) (js ks : List OpenJob) (j : OpenJob) →
+        s.jobs ≡ js ++ j ∷ ks → s.faulted ≡ false → Closes w j e.call → Step s w e (record s { jobs = js ++ ks })
+    -- a call that might have come is answered Failed; the children run on, and no other call but a wait comes any more
+    Fail :
+        (e : Event) (s' : RunState) →
+        IsTrue (failed e.call) → Step s w (record e { call = as_ok e.call }) s' → Step s w e (record s { jobs = filter runs s.jobs; faulted = true })
+    FailWait : (e : Event) (x : Failed) → e.call ≡ Waited (Err x) → Step s w e (record s { jobs = filter runs s.jobs; faulted = true })
+
+  -- a run: the state after each event
+  pub data Runs : RunState → World → List Event → RunState → Type 0 where
+    Done : (s : RunState) (w : World) → Runs s w [] s
+    Next :
+        (s mid end : RunState) (w : World) (e : Event) (es : List Event) →
+        Step s w e mid → Runs mid (after w e) es end → Runs s w (e ∷ es) end

@@ -1,0 +1,2 @@
+//! Laws over the definitions of a run and of its histories.
+#![tactic(auto)]

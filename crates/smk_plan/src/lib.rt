@@ -1,0 +1,10 @@
+//! The states of jobs, and what is refused of a plan.
+#![tactic(auto)]
+
+mod fault;
+mod plan;
+mod seen;
+
+pub use fault::{LookFault, PlanFault};
+pub use plan::Plan;
+pub use seen::{Seen, Sight};

@@ -1,0 +1,80 @@
+-- How a record is written, to the byte.
+use Rattle.std.specs.Prelude.{◌≡◌, ◌↔◌, ℕ, Bool, List, [], ◌∷◌, ◌++◌, length, drop, decimal, codes, if◌then◌else◌, Option, Some, IsTrue}
+use Rattle.std.specs.List.{flat_map}
+use Rattle.smk_base.specs.declared.tree.Pair.{Pair}
+use Rattle.smk_world.specs.declared.recipe.Values.{Values}
+use Rattle.smk_world.specs.declared.recipe.Item.{Item}
+use Rattle.smk_world.specs.declared.recipe.OutItem.{OutItem}
+use Rattle.smk_world.specs.declared.recipe.Out.{Out}
+use Rattle.smk_world.specs.Trees.{Path, is_folder_kind}
+use Rattle.smk_record.specs.declared.record.Stamp.{Stamp}
+use Rattle.smk_record.specs.declared.record.Stamp.TheVariants.{Time, Made}
+use Rattle.smk_record.specs.declared.record.Member.{Member}
+use Rattle.smk_record.specs.declared.record.Record.{Record}
+use Rattle.smk_record.specs.Records.{is_valid}
+
+-- a number in decimal, and a line end
+abbrev pub num : ℕ → List ℕ
+num n = decimal n ++ 10 ∷ []
+
+-- a text after its length
+abbrev pub text : List ℕ → List ℕ
+text t = decimal (length t) ++ 58 ∷ (t ++ 10 ∷ [])
+
+-- a list after its length
+abbrev pub list : {A : Type 0} → (A → List ℕ) → List A → List ℕ
+list spell xs = num (length xs) ++ flat_map spell xs
+
+abbrev pub pair : Pair → List ℕ
+pair p = text p.name ++ text p.value
+
+abbrev pub values : Values → List ℕ
+values v = text v.name ++ list text v.values
+
+abbrev pub stamp : Stamp → List ℕ
+stamp (Time t) = codes "T" ++ num t
+stamp (Made m) = codes "M" ++ num m
+
+-- each path with its stamp; the stamps that are left
+abbrev pub stamped_paths : List Path → List Stamp → List ℕ
+stamped_paths [] stamps = []
+stamped_paths (p ∷ ps) [] = []
+stamped_paths (p ∷ ps) (s ∷ stamps) = text p ++ (stamp s ++ stamped_paths ps stamps)
+
+abbrev pub items : List Item → List Stamp → List ℕ
+items [] stamps = []
+items (i ∷ rest) stamps =
+    (text i.name ++ (num (length i.paths) ++ stamped_paths i.paths stamps)) ++ items rest (drop (length i.paths) stamps)
+
+-- F for a file, D for a folder
+abbrev pub letter : Bool → List ℕ
+letter folder = if folder then codes "D" else codes "F"
+
+abbrev pub out : Out → List ℕ
+out o = letter (is_folder_kind o.kind) ++ text o.path
+
+abbrev pub out_item : OutItem → List ℕ
+out_item o = text o.name ++ list out o.outs
+
+abbrev pub member : Member → List ℕ
+member m = letter m.folder ++ text m.name
+
+-- all but the members
+abbrev pub head : Record → List ℕ
+head r =
+    codes "SMK1\n"
+    ++ (text r.path
+    ++ (num r.made
+    ++ (text r.recipe.template
+    ++ (list pair r.recipe.wildcards
+    ++ (list values r.recipe.params
+    ++ ((num (length r.recipe.inputs) ++ items r.recipe.inputs r.stamps)
+    ++ list out_item r.recipe.outputs))))))
+
+-- the bytes of a record
+abbrev pub spelling : Record → List ℕ
+spelling r = head r ++ list member r.members
+
+-- A reader of records: bytes are read as the valid record that they spell, and as nothing where they spell none.
+abbrev pub ReadsRecords : (List ℕ → Option Record) → Type 0
+ReadsRecords read = (bytes : List ℕ) (r : Record) → (read bytes ≡ Some r) ↔ ((bytes ≡ spelling r) × IsTrue (is_valid r))

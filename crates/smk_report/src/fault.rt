@@ -1,0 +1,229 @@
+use smk_base::{List, PathText, Text};
+
+/// Why a call ended without being done. A file and line are those at which the fault stands.
+#[derive(Debug, Drop)]
+pub enum Fault {
+    /// An indentation fits none above.
+    BadIndent {
+        file: Text,
+        line: u64,
+    },
+    /// A text isn't closed.
+    OpenText {
+        file: Text,
+        line: u64,
+    },
+    /// A byte may not stand there.
+    BadByte {
+        file: Text,
+        line: u64,
+    },
+    /// The grammar has no such thing there.
+    Unexpected {
+        file: Text,
+        line: u64,
+    },
+    /// The word is left out of this tool.
+    Unsupported {
+        file: Text,
+        line: u64,
+        word: Text,
+    },
+    /// The word stands twice.
+    Doubled {
+        file: Text,
+        line: u64,
+        word: Text,
+    },
+    /// The text isn't written as a pattern.
+    BadPattern {
+        file: Text,
+        line: u64,
+        text: Text,
+    },
+    /// The constraint of this name is none.
+    BadConstraint {
+        file: Text,
+        line: u64,
+        name: Text,
+    },
+    /// The rule's name was used above.
+    DoubledRule {
+        file: Text,
+        line: u64,
+        name: Text,
+    },
+    /// The rule's outputs and logs don't all have the same wildcards.
+    UnequalWildcards {
+        file: Text,
+        line: u64,
+        rule: Text,
+    },
+    /// The rule's outputs don't have the wildcard.
+    UnknownWildcard {
+        file: Text,
+        line: u64,
+        rule: Text,
+        name: Text,
+    },
+    /// The word, or a value of its, may not stand there.
+    BadFlag {
+        file: Text,
+        line: u64,
+        rule: Text,
+        word: Text,
+    },
+    /// The file doesn't read, or the value of the key is of a wrong kind.
+    BadConfig {
+        file: Text,
+        key: Text,
+    },
+    /// The configuration doesn't have the key.
+    NoKey {
+        file: Text,
+        line: u64,
+        key: Text,
+    },
+    /// The name has no value.
+    UnknownName {
+        file: Text,
+        line: u64,
+        name: Text,
+    },
+    /// Lists that are paired have unequal lengths.
+    UnequalZip {
+        file: Text,
+        line: u64,
+    },
+    /// One call gives more than 100,000 texts.
+    TooMany {
+        file: Text,
+        line: u64,
+    },
+    /// Includes are nested more than 16 deep.
+    IncludeDepth {
+        file: Text,
+    },
+    /// Each of the two is preferred to the other.
+    ContradictoryOrder {
+        a: Text,
+        b: Text,
+    },
+    /// No rule has the path as an output.
+    NoRule {
+        path: PathText,
+    },
+    /// The first rule that has the path wants something that can't be made.
+    NoInput {
+        path: PathText,
+        rule: Text,
+        wanted: Text,
+    },
+    /// Neither of these rules is preferred.
+    Ambiguous {
+        path: PathText,
+        a: Text,
+        b: Text,
+    },
+    /// A chain of more than 200 jobs leads from the target.
+    Deep {
+        path: PathText,
+    },
+    /// There would be more than 100,000 paths to look at.
+    TooManyPaths {
+        count: u64,
+    },
+    /// The two overlap.
+    Clash {
+        path: PathText,
+        other: PathText,
+    },
+    /// Its directory is known, and doesn't have it.
+    MissingMember {
+        path: PathText,
+    },
+    /// The rule has no command.
+    NoCommand {
+        rule: Text,
+    },
+    /// The lock is there.
+    Locked,
+    /// A record holds the time that the file at this path has.
+    StampSeen {
+        path: PathText,
+    },
+    /// The greatest serial is the greatest u64.
+    Serials,
+    /// These outputs are marked: their jobs weren't finished.
+    Incomplete {
+        paths: List<PathText>,
+    },
+    /// A read-only file stands at or under this output of a job that is to run.
+    Protected {
+        path: PathText,
+    },
+    /// A job asks more of a resource than its bound.
+    AboveLimit {
+        rule: Text,
+        path: PathText,
+        name: Text,
+        asked: u64,
+        bound: u64,
+    },
+    /// A field of the rule's command has no value.
+    UnknownField {
+        rule: Text,
+        word: Text,
+    },
+    /// A job's command has more than 120,000 bytes, or NUL and then none, or its record without members more than 1,048,576.
+    TooLong {
+        rule: Text,
+        bytes: u64,
+    },
+    /// The job's command ended with this status.
+    JobFailed {
+        rule: Text,
+        path: PathText,
+        code: u32,
+    },
+    /// The job's command left no such output.
+    NoOutput {
+        rule: Text,
+        path: PathText,
+        missing: PathText,
+    },
+    /// The job's command left a file for a directory, or a directory for a file.
+    WrongKind {
+        rule: Text,
+        path: PathText,
+        wrong: PathText,
+    },
+    /// The command words aren't read.
+    BadWords,
+    /// A run has no `--cores`.
+    NoCores,
+    /// The file isn't there.
+    NoFile {
+        file: Text,
+    },
+    /// The file has more than 1,048,576 bytes.
+    TooBig {
+        file: Text,
+    },
+    /// The word is no target.
+    BadTarget {
+        word: Text,
+    },
+    /// The job's command left a directory beyond the limits on its members.
+    BadMember {
+        rule: Text,
+        path: PathText,
+        bad: PathText,
+    },
+    /// A call of the device failed.
+    Device,
+    /// The report couldn't be put.
+    Output,
+    /// Want of memory.
+    OutOfMemory,
+}

@@ -1,0 +1,4 @@
+pub mod Images
+pub mod Trust
+pub mod Soundness
+pub mod Safety

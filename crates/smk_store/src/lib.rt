@@ -1,0 +1,10 @@
+//! Records, marks and notes that stand in the working folder.
+#![tactic(auto)]
+
+mod fault;
+mod places;
+mod store;
+
+pub use fault::StoreFault;
+pub use places::JobPlaces;
+pub use store::{Entry, Kept, Store};

@@ -1,0 +1,2 @@
+pub mod JobStates
+pub mod Reasons

@@ -1,0 +1,35 @@
+use smk_base::{List, PathText};
+
+/// Why a job has to run.
+#[derive(Debug, Drop)]
+pub enum Reason {
+    /// An output has no record.
+    New,
+    /// An output has a mark.
+    Marked,
+    /// A record doesn't read, or the records of the outputs differ.
+    BadRecord,
+    /// The command or the outputs differ from the recorded ones.
+    Code,
+    /// The wildcards or params differ.
+    Params,
+    /// The inputs differ, or their order or names.
+    Inputs,
+    /// This input has another stamp than the recorded one.
+    Updated(PathText),
+    /// The job of this input has to run.
+    Upstream(PathText),
+    Forced,
+}
+
+/// What a job of a plan is.
+#[derive(Debug, Drop)]
+pub enum State {
+    /// Its inputs aren't known yet.
+    Open,
+    /// It has to run.
+    Dirty(List<Reason>),
+    /// Something that it made is gone and wanted back.
+    Restore,
+    Clean,
+}
