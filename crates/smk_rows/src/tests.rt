@@ -12,6 +12,10 @@ const COPY: &str =
 const FAILING: &str =
     "rule copy:\n    input: \"in.txt\"\n    output: \"out.txt\"\n    shell: \"fail {input}\"\n";
 
+// Its command writes half of the output, and fails.
+const HALF: &str =
+    "rule copy:\n    input: \"in.txt\"\n    output: \"out.txt\"\n    shell: \"half {input} > {output}\"\n";
+
 const TWO_INPUTS: &str =
     "rule copy:\n    input: \"in.txt\", \"b\"\n    output: \"out.txt\"\n    shell: \"cat {input} > {output}\"\n";
 
@@ -159,6 +163,14 @@ fn runs_and_refusals_report_as_written(rt: HostRuntime) -> Result<(), Fail> {
             "smk: job failed: copy out.txt: status 1\n",
             Left::Nothing,
         ),
+        (
+            HALF,
+            "out.txt",
+            1,
+            FAILED,
+            "smk: job failed: copy out.txt: status 1\n",
+            Left::Nothing,
+        ),
         (COPY, "z", 3, "", "smk: no rule for z\n", Left::Nothing),
         (
             TWO_INPUTS,
@@ -176,15 +188,19 @@ fn runs_and_refusals_report_as_written(rt: HostRuntime) -> Result<(), Fail> {
             status,
             "{line}"
         );
-        assert_eq!(rt; trial.out.bytes(), report.as_bytes(), "{line}");
-        assert_eq!(rt; trial.err.bytes(), line.as_bytes(), "{line}");
-        assert_eq!(rt; what_is_left(alloc, &mut trial.work)?, left, "{line}");
+        assert_eq!(rt; trial.out.bytes(), report.as_bytes(), "{target}: {line}");
+        assert_eq!(rt; trial.err.bytes(), line.as_bytes(), "{target}: {line}");
+        assert_eq!(rt;
+            what_is_left(alloc, &mut trial.work)?,
+            left,
+            "{target}: {line}"
+        );
     }
     Ok(())
 }
 
-fn calls_of_a_run<R: Threads + Sync>(rt: &R, alloc: Global) -> Result<u64, Fail> {
-    let mut trial = set_up(alloc, COPY, None, None)?;
+fn calls_of_a_run<R: Threads + Sync>(rt: &R, alloc: Global, workflow: &str) -> Result<u64, Fail> {
+    let mut trial = set_up(alloc, workflow, None, None)?;
     let _ = status_of(rt, alloc, "out.txt", &mut trial)?;
     Ok(trial.work.calls())
 }
@@ -192,25 +208,27 @@ fn calls_of_a_run<R: Threads + Sync>(rt: &R, alloc: Global) -> Result<u64, Fail>
 #[test]
 fn each_failing_call_is_told_and_tears_nothing(rt: HostRuntime) -> Result<(), Fail> {
     let alloc = rt.alloc();
-    let calls = calls_of_a_run(&rt, alloc)?;
-    assert_ne!(rt; calls, 0);
-    for number in 1..=calls {
-        let mut trial = set_up(alloc, COPY, Some(number), None)?;
-        assert_eq!(rt;
-            status_of(&rt, alloc, "out.txt", &mut trial)?,
-            4,
-            "{number}"
-        );
-        assert_eq!(rt;
-            trial.err.bytes(),
-            b"smk: device failed\n".as_slice(),
-            "{number}"
-        );
-        assert_ne!(rt;
-            what_is_left(alloc, &mut trial.work)?,
-            Left::Torn,
-            "{number}"
-        );
+    for workflow in [COPY, HALF] {
+        let calls = calls_of_a_run(&rt, alloc, workflow)?;
+        assert_ne!(rt; calls, 0);
+        for number in 1..=calls {
+            let mut trial = set_up(alloc, workflow, Some(number), None)?;
+            assert_eq!(rt;
+                status_of(&rt, alloc, "out.txt", &mut trial)?,
+                4,
+                "call {number}"
+            );
+            assert_eq!(rt;
+                trial.err.bytes(),
+                b"smk: device failed\n".as_slice(),
+                "call {number}"
+            );
+            assert_ne!(rt;
+                what_is_left(alloc, &mut trial.work)?,
+                Left::Torn,
+                "call {number}"
+            );
+        }
     }
     Ok(())
 }
@@ -246,5 +264,6 @@ fn thousands_of_runs_in_one_workspace(rt: HostRuntime) -> Result<(), Fail> {
     for _ in 0..6000 {
         assert_eq!(rt; status_of(&rt, alloc, "out.txt", &mut trial)?, 0);
     }
+    assert_eq!(rt; trial.work.starts(), 6000);
     Ok(())
 }
