@@ -142,17 +142,17 @@ stays_same w q = (refl, λ n h. h)
 pub not_zero : {A : Type 0} → ◌≡◌ {A = ℕ} 5 0 → A
 not_zero h = absurd (omega arith)
 
+pub not_three : ◌≡◌ {A = ℕ} 5 3 → ⊥
+not_three h = omega arith
+
 pub others_at_start : (g : Meanings) (request : Request) (w : World) → OtherCommands g request 5 w []
 others_at_start g (Does (Run words)) w = tt
 others_at_start g (Does (Preview words)) w = tt
 others_at_start g (Does Unlock) w = (λ q out above. stays_same w q, λ h. not_zero h)
-others_at_start g (Does (Forget paths nolock)) w = (λ q out above. stays_same w q, λ h. not_zero h)
+others_at_start g (Does (Forget paths nolock)) w = (λ q out above. stays_same w q, λ h. not_zero h, λ h. absurd (not_three h))
 others_at_start g (Does (Generate seed size)) w = (λ q. refl, refl)
 others_at_start g BadWords w = (λ q. refl, refl)
 others_at_start g NoCores w = (λ q. refl, refl)
-
-pub not_three : ◌≡◌ {A = ℕ} 5 3 → ⊥
-not_three h = omega arith
 
 pub not_four : ◌≡◌ {A = ℕ} 5 4 → ⊥
 not_four h = omega arith

@@ -1,5 +1,5 @@
 -- The clauses of the call's contract, each by a name.
-use Rattle.std.specs.Prelude.{◌≡◌, ◌⊎◌, ◌≤◌, ℕ, Bool, true, false, ◌&&◌, not, List, [], ◌∷◌, ◌++◌, map, Option, Some, None, Contains, All}
+use Rattle.std.specs.Prelude.{◌≡◌, ◌⊎◌, ◌≤◌, ℕ, Bool, true, false, ◌&&◌, ◌||◌, not, List, [], ◌∷◌, ◌++◌, map, Option, Some, None, IsTrue, Contains, All}
 use Rattle.smk_base.specs.Place.{lock_place, record_place, mark_place, note_place}
 use Rattle.smk_base.specs.Path.{own_folder}
 use Rattle.smk_world.specs.declared.event.Event.{Event}
@@ -19,9 +19,10 @@ use Rattle.smk_drive.specs.Refusals.{BeginsUnrefused}
 use Rattle.smk_drive.specs.Reports.{listing_text}
 use Rattle.smk_contract.specs.declared.asked.Asked.TheVariants.{Run, Preview, Unlock, Forget, Generate}
 use Rattle.smk_contract.specs.declared.asked.Outcome.{Outcome}
+use Rattle.smk_contract.specs.declared.asked.RunWords.{RunWords}
 use Rattle.smk_contract.specs.Meanings.{Meanings, Request, Does, BadWords, NoCores, outside, image_at}
 use Rattle.smk_contract.specs.Ends.{WhereReads, AsRun, AsPreview, IsSound, HasStart, Stays, EndsWell, CurrentIsClean, HasCleanTargets, IsFront, HasStarts, HasLinesBefore, OnlyFolderMarks, FailedSo, HasOwnStatus}
-use Rattle.smk_contract.specs.Refusing.{Refuses, IsNamed, IsNamedInListing, IsNamedInForgetting, none_named}
+use Rattle.smk_contract.specs.Refusing.{forgettable, Refuses, IsNamed, IsNamedInListing, IsNamedInForgetting, none_named}
 
 -- ## What stays
 
@@ -133,20 +134,25 @@ JobFaults g act request (Some f) old new entry log =
 abbrev pub IsDoneUnless : (Fault → Type 0) → Outcome → Type 0
 IsDoneUnless Named outcome = (outcome.status ≡ 0) ⊎ (outcome.status ≡ 5) ⊎ ((f : Fault) × (outcome.fault ≡ Some f) × Named f)
 
-abbrev pub CompleteFor : Meanings → Act → Request → Outcome → World → Type 0
-CompleteFor g act (Does (Run w)) outcome entry = WhereReads g w entry (λ rules. HasCleanTargets act rules entry → IsDoneUnless IsNamed outcome)
-CompleteFor g act (Does (Preview w)) outcome entry =
-    WhereReads g w entry (λ rules. HasCleanTargets act rules entry → IsDoneUnless IsNamedInListing outcome)
-CompleteFor g act (Does Unlock) outcome entry = IsDoneUnless none_named outcome
-CompleteFor g act (Does (Forget paths nolock)) outcome entry = IsDoneUnless IsNamedInForgetting outcome
-CompleteFor g act (Does (Generate seed size)) outcome entry = IsDoneUnless none_named outcome
-CompleteFor g act BadWords outcome entry = Unit {0}
-CompleteFor g act NoCores outcome entry = Unit {0}
+-- From a sound entry that a clean run gives each target, a run or a listing of these words is done, unless such a refusal stands.
+abbrev pub IsDoneFor : Meanings → Act → RunWords → World → (Fault → Type 0) → Outcome → Type 0
+IsDoneFor g act w entry Named outcome =
+    IsSound g act entry → WhereReads g w entry (λ rules. HasCleanTargets act rules entry → IsDoneUnless Named outcome)
 
--- From a sound entry, where no count rose and a clean run gives each target, the call is done, unless a named refusal stands.
+-- Where no count rose the call is done, unless a named refusal stands. `--generate` doesn't touch the device.
 abbrev pub Complete : Meanings → Act → Request → Outcome → ℕ → ℕ → ℕ → ℕ → World → Type 0
-Complete g act request outcome work_old work_new out_old out_new entry =
-    IsSound g act entry → IsSteady work_old work_new → IsSteady out_old out_new → CompleteFor g act request outcome entry
+Complete g act (Does (Run w)) outcome work_old work_new out_old out_new entry =
+    IsSteady work_old work_new → IsSteady out_old out_new → IsDoneFor g act w entry IsNamed outcome
+Complete g act (Does (Preview w)) outcome work_old work_new out_old out_new entry =
+    IsSteady work_old work_new → IsSteady out_old out_new → IsDoneFor g act w entry IsNamedInListing outcome
+Complete g act (Does Unlock) outcome work_old work_new out_old out_new entry =
+    IsSteady work_old work_new → IsSteady out_old out_new → IsDoneUnless none_named outcome
+Complete g act (Does (Forget paths nolock)) outcome work_old work_new out_old out_new entry =
+    IsSteady work_old work_new → IsSteady out_old out_new → IsDoneUnless IsNamedInForgetting outcome
+Complete g act (Does (Generate seed size)) outcome work_old work_new out_old out_new entry =
+    IsSteady out_old out_new → IsDoneUnless none_named outcome
+Complete g act BadWords outcome work_old work_new out_old out_new entry = Unit {0}
+Complete g act NoCores outcome work_old work_new out_old out_new entry = Unit {0}
 
 -- ## The other commands
 
@@ -154,24 +160,31 @@ Complete g act request outcome work_old work_new out_old out_new entry =
 abbrev pub own_places : List Path → List Path
 own_places paths = lock_place ∷ (map record_place paths ++ (map mark_place paths ++ map note_place paths))
 
--- nothing else but the folders above these has changed
-abbrev pub ChangesOnly : List Path → World → World → Type 0
-ChangesOnly places entry exit =
-    (q : Path) → is_within q places ≡ false → is_above q places ≡ false → Stays (entry.nodes q) (exit.nodes q)
+-- nothing has changed but what is at or under some places, and folders above others
+abbrev pub ChangesOnly : List Path → List Path → World → World → Type 0
+ChangesOnly places below entry exit =
+    (q : Path) → is_within q places ≡ false → is_above q below ≡ false → Stays (entry.nodes q) (exit.nodes q)
+
+-- the call may go on: no lock stands at the entry, or none is heeded
+abbrev pub is_let_in : Meanings → Bool → World → Bool
+is_let_in g nolock entry = nolock || not (image_at g entry).locked
 
 -- `--unlock` changes nothing but the lock, and with status 0 there is none; `--cleanup-metadata` changes nothing but what is known
--- of its paths, and the lock, and with status 0 nothing is known of them and the lock is as it was; any other command but a run
--- or a listing changes nothing.
+-- of its paths, and the lock with its folders; with status 0 nothing is known of them and the lock is as it was, and where it is
+-- refused the paths before the refused one are forgotten; any other command but a run or a listing changes nothing.
 abbrev pub OtherCommands : Meanings → Request → ℕ → World → List Event → Type 0
 OtherCommands g (Does (Run w)) status entry log = Unit {0}
 OtherCommands g (Does (Preview w)) status entry log = Unit {0}
 OtherCommands g (Does Unlock) status entry log =
-    ChangesOnly (lock_place ∷ []) entry (run entry log) × (status ≡ 0 → reading ((run entry log).nodes lock_place) ≡ None)
+    ChangesOnly (lock_place ∷ []) [] entry (run entry log) × (status ≡ 0 → reading ((run entry log).nodes lock_place) ≡ None)
 OtherCommands g (Does (Forget paths nolock)) status entry log =
-    ChangesOnly (own_places paths) entry (run entry log)
+    ChangesOnly (own_places paths) (lock_place ∷ []) entry (run entry log)
     × (status ≡ 0 →
     All (λ p. is_known (image_at g (run entry log)) p ≡ false) paths
     × (reading ((run entry log).nodes lock_place) ≡ reading (entry.nodes lock_place)))
+    × (status ≡ 3 →
+    IsTrue (is_let_in g nolock entry) →
+    All (λ p. is_known (image_at g (run entry log)) p ≡ false) (forgettable (image_at g entry) paths))
 OtherCommands g (Does (Generate seed size)) status entry log = Same entry (run entry log)
 OtherCommands g BadWords status entry log = Same entry (run entry log)
 OtherCommands g NoCores status entry log = Same entry (run entry log)

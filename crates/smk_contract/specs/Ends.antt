@@ -14,7 +14,7 @@ use Rattle.smk_world.specs.Trees.{Path, Act, first, folders_of}
 use Rattle.smk_pattern.specs.Shapes.{Text}
 use Rattle.smk_flow.specs.declared.job.Job.{Job}
 use Rattle.smk_flow.specs.Flows.{Flow, rule_name}
-use Rattle.smk_store.specs.Images.{file_at, tree_now}
+use Rattle.smk_store.specs.Images.{tree_now}
 use Rattle.smk_store.specs.Trust.{Versions}
 use Rattle.smk_store.specs.Soundness.{SoundWorld}
 use Rattle.smk_chain.specs.Mean.{clean_value}
@@ -25,7 +25,7 @@ use Rattle.smk_report.specs.declared.fault.Fault.{Fault}
 use Rattle.smk_report.specs.declared.fault.Fault.TheVariants as fault
 use Rattle.smk_report.specs.Lines.{Ending, Status, NoOutput, WrongKind, BadMember, target_line}
 use Rattle.smk_drive.specs.Moments.{Rules, Moment, IsMoment, Begun, progress_of, seen}
-use Rattle.smk_drive.specs.Lawful.{has_failed}
+use Rattle.smk_drive.specs.Lawful.{failures, has_failed}
 use Rattle.smk_drive.specs.Reports.{IsRunText, HasLines, start_line_of}
 use Rattle.smk_contract.specs.declared.asked.Asked.TheVariants.{Run, Preview}
 use Rattle.smk_contract.specs.declared.asked.RunWords.{RunWords}
@@ -110,18 +110,19 @@ pub record IsDone (rules : Rules) (entry : World) (log : List Event) : Type 0 wh
       (e : Job × State) (p : Path) →
       Contains (staged plan) e →
       IsTrue (is_spent (seen rules (run entry log)) rules.settings (progress_of (run entry log) last.begun) plan e p) →
-      file_at (seen rules (run entry log)) p ≡ None
+      tree_now (seen rules (run entry log)) p ≡ None
 
 -- each mark that stands stood at the entry as it does now
 abbrev pub NoNewMark : Rules → World → World → Type 0
 NoNewMark rules entry exit =
     (p : Path) → IsTrue ((seen rules exit).marked p) → Stays (entry.nodes (mark_place p)) (exit.nodes (mark_place p))
 
--- A run that ends with status 0 or 1: the whole report; what it calls current is clean; with status 0 all is done, with status 1
--- a job failed; no mark of its own stands, and the lock is gone.
+-- A run that ends with status 0 or 1: the whole report; what it calls current is clean; with status 0 that is every target, and
+-- all is done; with status 1 a job failed; no mark of its own stands, and the lock is gone.
 pub record EndsWell (act : Act) (rules : Rules) (entry : World) (log : List Event) (status : ℕ) (text : Text) : Type 0 where
   pub report : IsRunText rules entry log text
   pub clean : CurrentIsClean act rules (run entry log) text
+  pub all_told : status ≡ 0 → All (λ p. HasLine text (target_line true p)) rules.settings.targets
   pub done : status ≡ 0 → IsDone rules entry log
   pub failed_one : status ≡ 1 → (m : Moment) × IsMoment rules entry log m × IsTrue (has_failed m)
   pub no_mark : NoNewMark rules entry (run entry log)
@@ -161,13 +162,14 @@ OnlyFolderMarks rules entry log =
 
 -- ## Failed jobs
 
--- the job with this rule and first output has begun in this log, and its child ended so
+-- the job with this rule and first output was the first in this log that failed, and its child ended so: there is a moment at
+-- which it alone had failed
 abbrev pub HasEnded : Rules → World → List Event → Text → Path → Ending → Type 0
 HasEnded rules entry log rule path end =
     (events : List Event) × (rest : List Event) × (m : Moment) × (b : Begun)
     × (log ≡ events ++ rest)
     × IsMoment rules entry events m
-    × Contains m.begun b
+    × (failures m ≡ b ∷ [])
     × (rule_name rules.flow b.job.rule ≡ rule)
     × (job_path b.job ≡ path)
     × (b.ended ≡ Some end)

@@ -1,5 +1,5 @@
 -- The law of a run's log: what each event may change, when a job may begin, and what must not be left undone.
-use Rattle.std.specs.Prelude.{◌≡◌, ◌⊎◌, ◌≤◌, ◌≢◌, ℕ, Bool, true, false, ◌&&◌, ◌||◌, not, List, [], ◌∷◌, ◌++◌, map, filter, nat_le, bytes_eq, if◌then◌else◌, Option, Some, None, Err, is_some, IsTrue, Contains, All}
+use Rattle.std.specs.Prelude.{◌≡◌, ◌⊎◌, ◌≤◌, ◌≢◌, ℕ, Bool, true, false, ◌&&◌, ◌||◌, not, List, [], ◌∷◌, ◌++◌, map, filter, nat_le, bytes_eq, if◌then◌else◌, Option, Some, None, Err, IsTrue, Contains, All}
 use Rattle.std.specs.List.{list_any, list_all, find, flat_map}
 use Rattle.smk_base.specs.Place.{record_place, lock_place}
 use Rattle.smk_world.specs.declared.event.Call.{Call}
@@ -12,7 +12,7 @@ use Rattle.smk_world.specs.Trees.{Path, among, outs_of, kind_in, is_folder_kind}
 use Rattle.smk_flow.specs.declared.job.Job.{Job}
 use Rattle.smk_record.specs.declared.record.Record.{Record}
 use Rattle.smk_record.specs.declared.record.Member.{Member}
-use Rattle.smk_store.specs.Images.{is_source, is_whole, core_at, tree_now, members_under}
+use Rattle.smk_store.specs.Images.{is_source, is_file, is_whole, core_at, members_under}
 use Rattle.smk_store.specs.Trust.{Eased, Trusted, holder}
 use Rattle.smk_trigger.specs.declared.reason.State.{State}
 use Rattle.smk_trigger.specs.JobStates.{is_restore}
@@ -32,6 +32,10 @@ is_good_end (Some (Status n)) = false
 is_good_end (Some (NoOutput p)) = false
 is_good_end (Some (WrongKind p)) = false
 is_good_end (Some (BadMember p)) = false
+
+-- the jobs whose child has ended badly
+abbrev pub failures : Moment → List Begun
+failures m = filter (λ (b : Begun). not (is_good_end b.ended)) m.begun
 
 -- a job's child has ended badly
 abbrev pub has_failed : Moment → Bool
@@ -90,13 +94,17 @@ module _ (rules : Rules) where
       && is_above q (lock_places ++ flat_map (λ (k : Job × State). places k.0 ++ k.0.logs) (staged_now m.plan)))
       || (is_spent_removal rules m e.call || protects m e.call q)))
 
+  -- no job has failed, unless the run is to go on
+  abbrev pub goes_on : Moment → Bool
+  goes_on m = not (has_failed m) || rules.settings.keep_going
+
   -- 2. A job that begins is the first of those that may start; no job has failed before, unless the run is to go on; no event
   -- before was answered Failed.
   abbrev pub MayBegin : Moment → Event → Job × State → Type 0
   MayBegin m e k =
       IsTrue (begins rules m e k.0) →
       (first_of (may_start m) ≡ Some k)
-      × IsTrue (not (has_failed m) || rules.settings.keep_going)
+      × IsTrue (goes_on m)
       × IsTrue (list_all (λ (d : Event). not (failed d.call)) m.events)
 
   abbrev pub restored : Moment → List Path
@@ -107,13 +115,13 @@ module _ (rules : Rules) where
   abbrev pub eased : Moment → Eased
   eased m p = if among (restored m) p then core_at (seen rules m.world) p else None
 
-  -- An input that isn't a source: something is there that is no running child's; and the record that speaks for it has no mark,
-  -- its output is whole, and it is trusted. So a member is judged by its directory.
+  -- An input that isn't a source: no running child owns it; and the record that speaks for it has no mark, its output is whole, and
+  -- it is trusted. So a member is judged by its directory, which has it as a file.
   pub record IsSafeProduct (m : Moment) (q : Path) : Type 0 where
-    pub there : IsTrue (is_some (tree_now (seen rules m.world) q))
     pub not_owned : is_within q (owned_now m.world.children) ≡ false
     pub speaker : Path
     pub speaks : holder (seen rules m.world) q ≡ Some speaker
+    pub as_file : IsTrue (bytes_eq speaker q || is_file (seen rules m.world) q)
     pub unmarked : (seen rules m.world).marked speaker ≡ false
     pub whole :
         (r : Record) →
@@ -170,7 +178,7 @@ module _ (rules : Rules) where
 
   -- Nothing that may start is left, unless a job has failed and the run isn't to go on.
   abbrev pub NothingLeft : Moment → Type 0
-  NothingLeft m = IsTrue (not (has_failed m) || rules.settings.keep_going) → may_start m ≡ []
+  NothingLeft m = IsTrue (goes_on m) → may_start m ≡ []
 
   -- 7. A job is closed badly only where its child ended badly.
   abbrev pub ClosedWithCause : Moment → Type 0

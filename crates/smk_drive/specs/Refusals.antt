@@ -21,7 +21,7 @@ use Rattle.smk_plan.specs.States.{Plan, Progress, IsPlan, new_listings, job_path
 use Rattle.smk_report.specs.declared.fault.Fault.{Fault}
 use Rattle.smk_report.specs.declared.fault.Fault.TheVariants as fault
 use Rattle.smk_drive.specs.Moments.{Rules, Moment, Begun, IsMoment, EachEvent, seen, progress_of, serial_of, begun_of, begins, staged_now}
-use Rattle.smk_drive.specs.Lawful.{may_start, first_of, record_for}
+use Rattle.smk_drive.specs.Lawful.{goes_on, may_start, first_of, record_for}
 
 -- a refusal of the derivation, as a fault; the count of too many paths is any above the limit
 abbrev pub IsFault : Flow → Refusal → Fault → Type 0
@@ -117,9 +117,9 @@ pub data ChainRefuses (rules : Rules) (image : Image) (progress : Progress) : Li
 abbrev pub PlansRefuse : Rules → Moment → Fault → Type 0
 PlansRefuse rules m f = ChainRefuses rules (seen rules m.world) (progress_of m.world m.begun) m.from f
 
--- the job that is to begin at a moment whose plans aren't refused
+-- the job that is to begin at a moment of a run that goes on and whose plans aren't refused
 abbrev pub IsNext : Rules → Moment → Job × State → Type 0
-IsNext rules m e = (first_of (may_start rules m) ≡ Some e) × ((f : Fault) → ¬ PlansRefuse rules m f)
+IsNext rules m e = IsTrue (goes_on rules m) × (first_of (may_start rules m) ≡ Some e) × ((f : Fault) → ¬ PlansRefuse rules m f)
 
 -- the bytes of a record of the job without its members
 abbrev pub record_length : Rules → Moment → Begun → Out → ℕ

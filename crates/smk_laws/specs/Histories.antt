@@ -56,7 +56,6 @@ pub data Step (o : Outside) (w : World) : World → Type 0 where
       (p : Path) (bytes : List ℕ) (time : ℕ) (read_only : Bool) →
       IsTrue (can_stand (seen o.read w) p) →
       IsLater (seen o.read w) time →
-      EachImage o.read w (λ i. IsLater i time) →
       IsTrue (is_source (seen o.read (edited w p (Regular bytes time read_only))) p) →
       EachImage o.read (edited w p (Regular bytes time read_only)) (λ i. IsTrue (is_source i p)) →
       Step o w (edited w p (Regular bytes time read_only))

@@ -1,11 +1,11 @@
 -- Two records, as they are written.
-use Rattle.std.specs.Prelude.{◌≡◌, true, false, [], ◌∷◌, codes, refl, length}
+use Rattle.std.specs.Prelude.{◌≡◌, ◌&&◌, ◌^◌, true, false, [], ◌∷◌, codes, refl, length}
 use Rattle.std.specs.Fmt.{digits}
 use Rattle.smk_world.specs.declared.recipe.Kind.TheVariants.{Plain, Folder}
-use Rattle.smk_record.specs.declared.record.Stamp.TheVariants.{Time}
+use Rattle.smk_record.specs.declared.record.Stamp.TheVariants.{Time, Made}
 use Rattle.smk_record.specs.declared.record.Record.{Record}
 use Rattle.smk_record.specs.Records.{is_valid}
-use Rattle.smk_record.specs.Spelling.{spelling}
+use Rattle.smk_record.specs.Spelling.{spelling, is_writable}
 
 abbrev pub copied : Record
 copied =
@@ -60,3 +60,20 @@ clustered_spelling = refl
 pub lengths : length (spelling copied) ∷ length (spelling clustered) ∷ [] ≡ 89 ∷ 154 ∷ []
 unfolding digits
 lengths = refl
+
+pub both_writable : is_writable copied && is_writable clustered ≡ true
+both_writable = refl
+
+-- a number of 65 bits, and a serial that an input's stamp has too
+pub too_great : is_writable (record copied { made = 2 ^ 64 }) ≡ false
+too_great = refl
+
+pub not_above_input : is_valid (record copied { stamps = Made 1 ∷ [] }) ≡ false
+not_above_input = refl
+
+pub no_serial : is_valid (record copied { made = 0 }) ≡ false
+no_serial = refl
+
+-- members where the output is a file
+pub file_with_members : is_valid (record copied { members = clustered.members }) ≡ false
+file_with_members = refl

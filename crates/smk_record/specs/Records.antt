@@ -6,9 +6,8 @@ use Rattle.std.specs.Ordering.{nat_cmp}
 use Rattle.std.specs.declared.cmp.Ordering.{Ordering}
 use Rattle.std.specs.declared.cmp.Ordering.TheVariants.{Less, Equal, Greater}
 use Rattle.smk_base.specs.declared.tree.Pair.{Pair}
-use Rattle.smk_base.specs.Path.{is_path}
 use Rattle.smk_world.specs.World.{in_paths, out_paths, folders_above}
-use Rattle.smk_world.specs.Trees.{Path, among, folders_of, are_members}
+use Rattle.smk_world.specs.Trees.{Path, among, folders_of, are_members, is_path_text}
 use Rattle.smk_record.specs.declared.record.Stamp.{Stamp}
 use Rattle.smk_record.specs.declared.record.Stamp.TheVariants.{Time, Made}
 use Rattle.smk_record.specs.declared.record.Member.{Member}
@@ -93,7 +92,7 @@ are_none [] = true
 are_none (m ∷ ms) = false
 
 -- A record is valid where it has one stamp for each input, its path is among its outputs, its serial is at least 1 and above
--- those of its inputs, its wildcards rise by name, its paths are paths, and it has members only where its path is a directory.
+-- those of its inputs, its wildcards rise by name, its paths are paths in UTF-8, and it has members only where its path is a directory.
 abbrev pub is_valid : Record → Bool
 is_valid r =
     list_all (λ (b : Bool). b)
@@ -102,7 +101,7 @@ is_valid r =
     ∷ nat_le 1 r.made
     ∷ list_all (is_earlier r.made) r.stamps
     ∷ are_rising (map (λ (w : Pair). w.name) r.recipe.wildcards)
-    ∷ list_all is_path (in_paths r.recipe)
-    ∷ list_all is_path (out_paths r.recipe)
+    ∷ list_all is_path_text (in_paths r.recipe)
+    ∷ list_all is_path_text (out_paths r.recipe)
     ∷ (if among (folders_of r.recipe) r.path then are_valid_members r.path r.members else are_none r.members)
     ∷ [])

@@ -1,12 +1,13 @@
 -- How a record is written, to the byte.
-use Rattle.std.specs.Prelude.{◌≡◌, ◌↔◌, ℕ, Bool, List, [], ◌∷◌, ◌++◌, length, drop, decimal, codes, if◌then◌else◌, Option, Some, IsTrue}
-use Rattle.std.specs.List.{flat_map}
+use Rattle.std.specs.Prelude.{◌≡◌, ◌↔◌, ℕ, Bool, ◌&&◌, List, [], ◌∷◌, ◌++◌, map, length, drop, decimal, codes, if◌then◌else◌, ◌^◌, nat_lt, Option, Some, IsTrue}
+use Rattle.std.specs.List.{list_all, flat_map}
 use Rattle.smk_base.specs.declared.tree.Pair.{Pair}
 use Rattle.smk_world.specs.declared.recipe.Values.{Values}
 use Rattle.smk_world.specs.declared.recipe.Item.{Item}
 use Rattle.smk_world.specs.declared.recipe.OutItem.{OutItem}
 use Rattle.smk_world.specs.declared.recipe.Out.{Out}
-use Rattle.smk_world.specs.Trees.{Path, is_folder_kind}
+use Rattle.smk_world.specs.declared.recipe.Recipe.{Recipe}
+use Rattle.smk_world.specs.Trees.{Path, is_text, is_folder_kind}
 use Rattle.smk_record.specs.declared.record.Stamp.{Stamp}
 use Rattle.smk_record.specs.declared.record.Stamp.TheVariants.{Time, Made}
 use Rattle.smk_record.specs.declared.record.Member.{Member}
@@ -75,6 +76,25 @@ head r =
 abbrev pub spelling : Record → List ℕ
 spelling r = head r ++ list member r.members
 
+-- ## Reading
+
+-- the texts of a recipe that aren't paths
+abbrev pub texts : Recipe → List (List ℕ)
+texts recipe =
+    recipe.template
+    ∷ (flat_map (λ (p : Pair). p.name ∷ p.value ∷ []) recipe.wildcards
+    ++ (flat_map (λ (v : Values). v.name ∷ v.values) recipe.params
+    ++ (map (λ (i : Item). i.name) recipe.inputs ++ map (λ (o : OutItem). o.name) recipe.outputs)))
+
+-- the number of a stamp
+abbrev pub number : Stamp → ℕ
+number (Time t) = t
+number (Made m) = m
+
+-- Its texts are UTF-8, and its numbers have at most 64 bits: so is every record that is ever written.
+abbrev pub is_writable : Record → Bool
+is_writable r = list_all is_text (texts r.recipe) && (nat_lt r.made (2 ^ 64) && list_all (λ s. nat_lt (number s) (2 ^ 64)) r.stamps)
+
 -- A reader of records: bytes are read as the valid record that they spell, and as nothing where they spell none.
 abbrev pub ReadsRecords : (List ℕ → Option Record) → Type 0
-ReadsRecords read = (bytes : List ℕ) (r : Record) → (read bytes ≡ Some r) ↔ ((bytes ≡ spelling r) × IsTrue (is_valid r))
+ReadsRecords read = (bytes : List ℕ) (r : Record) → (read bytes ≡ Some r) ↔ ((bytes ≡ spelling r) × IsTrue (is_valid r && is_writable r))

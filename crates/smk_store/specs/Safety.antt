@@ -1,6 +1,6 @@
 -- What a call keeps: after every prefix of its log a crash leaves a sound image with the sources of the entry, and so is the
 -- world at its end.
-use Rattle.std.specs.Prelude.{◌≡◌, ◌⊎◌, ℕ, Bool, false, ◌||◌, List, [], ◌++◌, filter, bytes_eq, ◌==◌, if◌then◌else◌, Option, Some, None, IsTrue}
+use Rattle.std.specs.Prelude.{◌≡◌, ◌⊎◌, ℕ, Bool, false, ◌||◌, List, [], ◌++◌, filter, bytes_eq, ◌==◌, if◌then◌else◌, Option, Some, None, option_map, IsTrue}
 use Rattle.std.specs.List.{list_any}
 use Rattle.smk_base.specs.Place.{record_place, mark_place, note_place}
 use Rattle.smk_world.specs.declared.event.Call.{Call}
@@ -10,7 +10,7 @@ use Rattle.smk_world.specs.World.{World, run, is_within}
 use Rattle.smk_world.specs.Trees.{Path}
 use Rattle.smk_store.specs.Images.{Content, Image, seen, source_at, file_at}
 use Rattle.smk_store.specs.Trust.{Versions, none_eased}
-use Rattle.smk_store.specs.Soundness.{Outside, Sound, SoundWorld, EachImage}
+use Rattle.smk_store.specs.Soundness.{Outside, Sound, SoundWorld, EachImage, told}
 
 abbrev pub or_put : Option (List ℕ) → ℕ → Option Content → Option (List ℕ)
 or_put had t None = had
@@ -32,7 +32,9 @@ forgotten_so_far paths events = filter (λ p. list_any (λ (e : Event). forgets 
 -- the sources are those of the entry; at and under forgotten paths files may be sources besides
 abbrev pub SourcesOf : Image → List Path → Image → Type 0
 SourcesOf entry forgotten image =
-    (p : Path) → (source_at image p ≡ source_at entry p) ⊎ (IsTrue (is_within p forgotten) × (source_at image p ≡ file_at image p))
+    (p : Path) →
+    (option_map told (source_at image p) ≡ option_map told (source_at entry p))
+    ⊎ (IsTrue (is_within p forgotten) × (source_at image p ≡ file_at image p))
 
 module _ (o : Outside) where
   -- after every prefix of the log, whatever a crash leaves is sound for the versions with its sources put there, and has the

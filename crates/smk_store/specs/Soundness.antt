@@ -1,5 +1,5 @@
 -- Sound images and sound worlds.
-use Rattle.std.specs.Prelude.{◌≡◌, ℕ, false, List, [], Option, Some, IsTrue, IsSome}
+use Rattle.std.specs.Prelude.{◌≡◌, ℕ, false, List, [], Option, Some, option_map, IsTrue, IsSome}
 use Rattle.smk_base.specs.Path.{overlaps}
 use Rattle.smk_base.specs.declared.tree.Tree.{Tree}
 use Rattle.smk_world.specs.World.{World, Nodes, IsFormed, Leaves}
@@ -39,9 +39,13 @@ pub record Outside : Type 0 where
 abbrev pub EachImage : (List ℕ → Option Record) → World → (Image → Type 0) → Type 0
 EachImage read w P = (nodes : Nodes) → Leaves w nodes → P (image_of read nodes)
 
+-- all of a source that counts: its bytes and its time
+abbrev pub told : Content → List ℕ × ℕ
+told f = (f.bytes, f.time)
+
 -- the same sources: paths, bytes and times
 abbrev pub SameSources : Image → Image → Type 0
-SameSources a b = (p : Path) → source_at b p ≡ source_at a p
+SameSources a b = (p : Path) → option_map told (source_at b p) ≡ option_map told (source_at a p)
 
 -- no unmarked record stands in b that a lacks
 abbrev pub NoNewRecord : Image → Image → Type 0
