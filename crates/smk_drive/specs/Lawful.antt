@@ -113,7 +113,7 @@ module _ (rules : Rules) where
 
   -- the marks of jobs that run as a Restore don't count
   abbrev pub eased : Moment → Eased
-  eased m p = if among (restored m) p then core_at (seen rules m.world) p else None
+  eased m p r = IsTrue (among (restored m) p) × (core_at (seen rules m.world) p ≡ Some r)
 
   -- An input that isn't a source: no running child owns it; and the record that speaks for it has no mark, its output is whole, and
   -- it is trusted. So a member is judged by its directory, which has it as a file.

@@ -2,11 +2,13 @@
 use Rattle.std.proofs.Common.{◌≡◌, Bool, true, List, [], ◌++◌, refl, sym, subst}
 use Rattle.smk_world.specs.declared.event.Event.{Event}
 use Rattle.smk_world.specs.World.{World, Nodes, IsRising, places_in, Leaves, run, world_of}
+use Rattle.smk_base.proofs.Under.{or_first}
 use Rattle.smk_world.proofs.Names.{formed_image}
+use Rattle.smk_world.proofs.Owners.{owned_image}
 use Rattle.smk_world.specs.Trees.{Path}
 use Rattle.smk_store.specs.Images.{image_of, seen}
 use Rattle.smk_store.specs.Trust.{Versions, none_eased}
-use Rattle.smk_store.specs.Soundness.{Outside, Sound, SoundWorld, SameSources, NoNewRecord}
+use Rattle.smk_store.specs.Soundness.{Outside, Sound, SoundWorld, SameSources, NoNewRecord, HasKnown}
 use Rattle.smk_store.specs.Safety.{KeepsSound, with_sources}
 use Rattle.smk_laws.proofs.Same.{leaves_same}
 
@@ -20,7 +22,9 @@ sound_image o nodes H rising sound =
       after_crash = λ after leaves. subst (λ ns. Sound o.act H (image_of o.read ns) none_eased) (sym (leaves_same nodes after rising leaves)) sound;
       same_sources = λ after leaves. subst (λ ns. SameSources (seen o.read (world_of nodes)) (image_of o.read ns)) (sym (leaves_same nodes after rising leaves)) (λ p. refl);
       no_new_record = λ after leaves. subst (λ ns. NoNewRecord (seen o.read (world_of nodes)) (image_of o.read ns)) (sym (leaves_same nodes after rising leaves)) (λ p r stands unmarked. stands);
+      known = λ after leaves. subst (λ ns. HasKnown (seen o.read (world_of nodes)) (image_of o.read ns)) (sym (leaves_same nodes after rising leaves)) (λ p stands. or_first _ _ stands);
       no_child = refl;
+      owners = owned_image nodes;
     }
 
 -- a crash after some events of a call

@@ -1,22 +1,24 @@
 -- What holds between the events of a run, and the law: after every prefix each crash image is sound.
-use Rattle.std.specs.Prelude.{◌≡◌, ◌≤◌, ℕ, Bool, true, false, List, [], ◌∷◌, map, length, Option, Some, None, IsTrue, IsSome}
+use Rattle.std.specs.Prelude.{◌≡◌, ◌≤◌, ℕ, Bool, true, false, List, [], ◌∷◌, map, length, Option, Some, None, IsTrue, IsSome, Contains}
 use Rattle.std.specs.List.{list_any}
-use Rattle.smk_base.specs.Path.{is_path, is_at_or_under, overlaps}
+use Rattle.smk_base.specs.Path.{is_at_or_under, overlaps}
 use Rattle.smk_base.specs.Place.{mark_place, note_place}
 use Rattle.smk_base.specs.declared.tree.Tree.{Tree}
 use Rattle.smk_world.specs.declared.event.Node.{Node}
+use Rattle.smk_world.specs.declared.event.NodeState.TheVariants.{Owned}
 use Rattle.smk_world.specs.declared.event.Event.{Event}
 use Rattle.smk_world.specs.declared.event.Child.{Child}
-use Rattle.smk_world.specs.World.{World, IsFormed, firmly, run, in_paths}
+use Rattle.smk_world.specs.World.{World, IsFormed, firmly, run, in_paths, is_within}
+use Rattle.smk_world.specs.Calls.{any_overlap, are_apart, started_numbers}
 use Rattle.smk_world.specs.Runs.{Follows}
-use Rattle.smk_world.specs.Trees.{Path, IsIn, Each, all_of, value_at}
+use Rattle.smk_world.specs.Trees.{Path, IsIn, Each, is_path_text, all_of, value_at}
 use Rattle.smk_record.specs.declared.record.Stamp.TheVariants.{Made}
 use Rattle.smk_record.specs.declared.record.Record.{Record}
 use Rattle.smk_record.specs.Records.{stamped, serials, members_of}
 use Rattle.smk_store.specs.Images.{Image, stands, is_source, file_at, core_at, record_at, members_under, tree_now}
 use Rattle.smk_store.specs.Trust.{Eased, none_eased, Clear, Versions}
-use Rattle.smk_store.specs.Soundness.{Outside, Sound, SoundWorld, EachImage, SameSources, NoNewRecord}
-use Rattle.smk_laws.specs.Protocol.{Phase, Marking, Running, Ended, Firm, Recorded, Dropped, OpenJob, RunState, outputs, own, eased, begun_with, record_of, listed_of, kept_at, keeps, IsApart, IsAtHand, now, Runs}
+use Rattle.smk_store.specs.Soundness.{Outside, Sound, SoundWorld, EachImage, SameSources, NoNewRecord, HasKnown}
+use Rattle.smk_laws.specs.Protocol.{Phase, Marking, Running, Ended, Firm, Recorded, Dropped, OpenJob, RunState, outputs, own, eased, begun_with, record_of, listed_of, kept_at, keeps, is_running, IsApart, IsAtHand, now, Runs}
 
 -- ## Words on phases
 
@@ -76,9 +78,21 @@ IsUnused e j image = (q : Path) (r : Record) → Clear image e q r → r.made �
 abbrev pub IsNumbered : ℕ → OpenJob → Type 0
 IsNumbered top j = (j.serial ≤ top) × ((q : Path) (m : ℕ) → IsIn (begun_with j) (q, Made m) → m ≤ top)
 
--- the one doesn't name the new serial of the other
+-- the one neither has the new serial of the other nor names it
 abbrev pub NamesNot : OpenJob → OpenJob → Type 0
-NamesNot j k = k.kept ≡ [] → (q : Path) → IsIn (begun_with j) (q, Made k.serial) → ⊥
+NamesNot j k = k.kept ≡ [] → (j.serial ≡ k.serial → ⊥) × ((q : Path) → IsIn (begun_with j) (q, Made k.serial) → ⊥)
+
+-- no number is that of the child of both
+abbrev pub RunsApart : OpenJob → OpenJob → Type 0
+RunsApart j k = (n : ℕ) → j.phase ≡ Running n → k.phase ≡ Running n → ⊥
+
+abbrev pub AreStrangers : OpenJob → OpenJob → Type 0
+AreStrangers j k = IsApart j k × NamesNot j k × NamesNot k j × RunsApart j k
+
+-- any two of them
+abbrev pub AllStrangers : List OpenJob → Type 0
+AllStrangers [] = Unit {0}
+AllStrangers (j ∷ js) = Each (AreStrangers j) js × AllStrangers js
 
 -- the records that a Restore found stand as they were
 abbrev pub IsKeptIn : Image → OpenJob → Type 0
@@ -86,6 +100,19 @@ IsKeptIn here j = (p : Path) (r : Record) → kept_at j.kept p ≡ Some r → co
 
 abbrev pub IsBounded : Eased → ℕ → Image → Type 0
 IsBounded e top image = (p : Path) (r : Record) (n : ℕ) → Clear image e p r → IsIn (serials r) n → n ≤ top
+
+-- ## Words on children
+
+abbrev pub IsOfJob : List OpenJob → Child → Type 0
+IsOfJob js c = (j : OpenJob) × IsIn js j × (j.phase ≡ Running c.number) × (c.recipe ≡ j.recipe) × (c.logs ≡ j.logs)
+
+-- what is owned is at or under a path of a job whose child runs
+abbrev pub HasRunning : List OpenJob → World → Type 0
+HasRunning js w = (q : Path) → w.nodes q ≡ Owned → (j : OpenJob) × IsIn js j × (is_running j.phase ≡ true) × (is_within q (own j) ≡ true)
+
+-- each running child was started
+abbrev pub AreStarted : World → Type 0
+AreStarted w = Each (λ (c : Child). Contains (started_numbers w.log) c.number) w.children
 
 module _ (o : Outside) where
   -- what the command gives at an output on what stands at the inputs now
@@ -102,50 +129,61 @@ module _ (o : Outside) where
       trees_at here (in_paths j.recipe) ≡ map Some trees →
       ((o.act j.recipe trees).status ≡ 0) × ((o.act j.recipe trees).outputs ≡ trees_at here (outputs j))
 
-  -- what holds of an open job
-  pub record Fits (entry : World) (s : RunState) (w : World) (j : OpenJob) : Type 0 where
-    pub paths : Each (λ p. IsTrue (is_path p)) (own j)
+  -- no unmarked record names a serial above top
+  abbrev pub IsTop : World → ℕ → Type 0
+  IsTop w top = IsBounded none_eased top (now o w)
+
+  -- What holds of the images. Each is sound, the marks of open Restores not counted, and has the sources of the entry, no further
+  -- unmarked record, and no record of a path of which the world tells nothing; serials are at most the greatest: of each image once
+  -- the marks are firm, and before of the world as it reads.
+  pub record Images (entry : World) (H : Versions) (e : Eased) (top : ℕ) (steady : Bool) (w : World) : Type 0 where
+    pub formed : IsFormed w
+    pub sound : EachImage o.read w (λ i. Sound o.act H i e)
+    pub sources : EachImage o.read w (SameSources (now o entry))
+    pub no_new : EachImage o.read w (NoNewRecord (now o w))
+    pub known : EachImage o.read w (HasKnown (now o w))
+    pub bounded : steady ≡ true → EachImage o.read w (IsBounded e top)
+    pub unsteady : steady ≡ false → IsTop w top
+
+  -- What holds of an open job in every phase.
+  pub record Fits (entry : World) (e : Eased) (top : ℕ) (w : World) (j : OpenJob) : Type 0 where
+    pub paths : Each (λ p. IsTrue (is_path_text p)) (own j)
+    pub apart : are_apart (own j) ≡ true
+    pub from_inputs : any_overlap (own j) (in_paths j.recipe) ≡ false
     pub no_source : (q : Path) → is_source (now o entry) q ≡ true → list_any (overlaps q) (own j) ≡ false
     pub each_stamped : length j.stamps ≡ length (in_paths j.recipe)
-    pub kept_own : (p : Path) (r : Record) → kept_at j.kept p ≡ Some r → IsIn (outputs j) p
-    pub no_record_clash : HasNoRecordClash j (now o w)
-    pub no_clash : EachImage o.read w (HasNoClash (eased s) j)
-    pub unnamed : j.kept ≡ [] → EachImage o.read w (IsUnnamed (eased s) j)
-    pub unused : j.kept ≡ [] → EachImage o.read w (IsUnused (eased s) j)
-    pub numbered : IsNumbered s.top j
+    -- a Restore has found the record of each of its outputs, and no other
+    pub kept_own : (p : Path) (r : Record) → kept_at j.kept p ≡ Some r → IsIn (outputs j) p × (r ≡ record_of j p)
+    pub kept_all : (j.kept ≡ [] → ⊥) → (p : Path) → IsIn (outputs j) p → kept_at j.kept p ≡ Some (record_of j p)
+    pub no_record_clash : EachImage o.read w (HasNoRecordClash j)
+    pub no_clash : EachImage o.read w (HasNoClash e j)
+    pub unnamed : j.kept ≡ [] → EachImage o.read w (IsUnnamed e j)
+    pub unused : j.kept ≡ [] → EachImage o.read w (IsUnused e j)
+    pub numbered : IsNumbered top j
+    -- its own new serial is none that it names
+    pub names_other : j.kept ≡ [] → (q : Path) → IsIn (begun_with j) (q, Made j.serial) → ⊥
+    pub at_hand : Each (IsAtHand o (now o w)) (begun_with j)
+
+  -- What holds of it by its phase.
+  pub record InPhase (w : World) (j : OpenJob) : Type 0 where
     pub marks : has_firm_marks j.phase ≡ true → Each (λ p. IsFirmly w (mark_place p)) (outputs j)
     pub notes : is_marking j.phase ≡ false → Each (λ p. IsFirmly w (note_place p)) j.logs
-    pub at_hand : keeps j.phase ≡ true → Each (IsAtHand o (eased s) (now o w)) (begun_with j)
     pub kept : keeps j.phase ≡ true → IsKeptIn (now o w) j
+    pub child : (n : ℕ) → j.phase ≡ Running n → (c : Child) × IsIn w.children c × (c.number ≡ n)
     pub ended : j.phase ≡ Ended 0 → IsActed (now o w) j
     pub made : is_made j.phase ≡ true → EachImage o.read w (λ i. Each (HoldsGiven (now o w) j i) (outputs j))
     pub known : j.phase ≡ Recorded → EachImage o.read w (λ i. Each (IsKnown (now o w) j i) (outputs j))
     pub gone : j.phase ≡ Dropped → EachImage o.read w (λ i. Each (IsGone i) (outputs j))
 
-  abbrev pub AreApart : List OpenJob → Type 0
-  AreApart [] = Unit {0}
-  AreApart (j ∷ js) = Each (λ k. IsApart j k × NamesNot j k × NamesNot k j) js × AreApart js
-
-  -- no unmarked record names a serial above top
-  abbrev pub IsTop : World → ℕ → Type 0
-  IsTop w top = IsBounded none_eased top (now o w)
-
-  abbrev pub IsOfJob : RunState → Child → Type 0
-  IsOfJob s c = (j : OpenJob) × IsIn s.jobs j × (j.phase ≡ Running c.number) × (c.recipe ≡ j.recipe) × (c.logs ≡ j.logs)
-
-  -- What holds between two events: every image is sound, the marks of open Restores not counted, and has the sources of the entry
-  -- and no further record; serials are below the next one; what each open job has come to stands; and each child is that of an open
-  -- job.
+  -- What holds between two events: of the images, of each open job, of any two of them, and of the children.
   pub record Midway (entry : World) (H : Versions) (s : RunState) (w : World) : Type 0 where
-    pub formed : IsFormed w
-    pub sound : EachImage o.read w (λ i. Sound o.act H i (eased s))
-    pub sources : EachImage o.read w (SameSources (now o entry))
-    pub no_new : EachImage o.read w (NoNewRecord (now o w))
-    pub bounded : s.steady ≡ true → EachImage o.read w (IsBounded (eased s) s.top)
-    pub unsteady : s.steady ≡ false → IsTop w s.top
-    pub fits : Each (Fits entry s w) s.jobs
-    pub apart : AreApart s.jobs
-    pub children : Each (IsOfJob s) w.children
+    pub images : Images entry H (eased s) s.top s.steady w
+    pub fits : Each (Fits entry (eased s) s.top w) s.jobs
+    pub phases : Each (InPhase w) s.jobs
+    pub apart : AllStrangers s.jobs
+    pub children : Each (IsOfJob s.jobs) w.children
+    pub running : HasRunning s.jobs w
+    pub started : AreStarted w
 
   -- ## The law
 

@@ -1,23 +1,25 @@
 -- The protocol of a run: which events may come, by the phases of the jobs that are open. It keeps every crash image sound.
-use Rattle.std.specs.Prelude.{◌≡◌, ◌⊎◌, ℕ, suc, Bool, true, false, ◌&&◌, ◌||◌, List, [], ◌∷◌, ◌++◌, map, filter, zip, length, bytes_eq, if◌then◌else◌, Option, Some, None, Ok, Err, is_some, IsTrue, IsSome}
+use Rattle.std.specs.Prelude.{◌≡◌, ◌⊎◌, ℕ, suc, Bool, true, false, ◌||◌, List, [], ◌∷◌, ◌++◌, map, filter, zip, length, bytes_eq, if◌then◌else◌, Option, Some, None, Ok, Err, IsTrue, IsSome}
 use Rattle.std.specs.List.{list_any}
-use Rattle.smk_base.specs.Path.{is_path, overlaps}
+use Rattle.smk_base.specs.Path.{is_at_or_under, overlaps}
 use Rattle.smk_base.specs.Place.{record_place, mark_place, note_place, lock_place}
 use Rattle.smk_world.specs.declared.recipe.Recipe.{Recipe}
 use Rattle.smk_world.specs.declared.recipe.Out.{Out}
+use Rattle.smk_world.specs.declared.event.Node.TheVariants.{Regular}
 use Rattle.smk_world.specs.declared.event.Call.{Call}
 use Rattle.smk_world.specs.declared.event.Call.TheVariants.{Looked, ReadFile, ReadFolder, Written, Created, Removed, MadeParents, Settled, Protected, Started, Waited}
 use Rattle.smk_world.specs.declared.event.Event.{Event}
 use Rattle.smk_world.specs.declared.event.Failed.{Failed}
 use Rattle.smk_world.specs.World.{World, reading, after, in_paths, out_paths, owned_paths}
 use Rattle.smk_world.specs.Calls.{failed, any_overlap, are_apart}
-use Rattle.smk_world.specs.Trees.{Path, IsIn, Each, among, outs_of, folders_of, kind_in, is_good}
+use Rattle.smk_world.specs.Trees.{Path, IsIn, Each, is_path_text, among, outs_of, folders_of, kind_in, is_good}
 use Rattle.smk_record.specs.declared.record.Stamp.{Stamp}
 use Rattle.smk_record.specs.declared.record.Member.{Member}
 use Rattle.smk_record.specs.declared.record.Record.{Record}
 use Rattle.smk_record.specs.Records.{members_of, agrees}
-use Rattle.smk_store.specs.Images.{Image, Content, seen, stands, is_source, source_at, core_at, record_at, members_under, tree_now, is_whole}
-use Rattle.smk_store.specs.Trust.{Eased, none_eased, Speaks, Chain, any_time, time_stamp, made_stamp}
+use Rattle.smk_store.specs.declared.store.Kept.TheVariants.{Held}
+use Rattle.smk_store.specs.Images.{Image, Content, seen, stands, is_file, is_source, source_at, core_at, record_at, members_under, tree_now, is_whole, kept_by}
+use Rattle.smk_store.specs.Trust.{Eased, none_eased, Speaks, time_stamp, made_stamp}
 use Rattle.smk_store.specs.Soundness.{Outside}
 
 -- ## Open jobs
@@ -85,10 +87,9 @@ keeps Dropping = false
 keeps Dropped = false
 keeps phase = true
 
--- the records that open Restores have found, until they are dropped
+-- the record that an open Restore found at the path, until it is dropped
 abbrev pub eased_by : List OpenJob → Eased
-eased_by [] p = None
-eased_by (j ∷ js) p = if keeps j.phase && is_some (kept_at j.kept p) then kept_at j.kept p else eased_by js p
+eased_by js p r = (j : OpenJob) × IsIn js j × (keeps j.phase ≡ true) × (kept_at j.kept p ≡ Some r)
 
 abbrev pub eased : RunState → Eased
 eased s = eased_by s.jobs
@@ -102,8 +103,9 @@ pub record IsApart (j k : OpenJob) : Type 0 where
 abbrev pub IsThere : World → Path → Type 0
 IsThere w place = IsSome (reading (w.nodes place))
 
+-- nothing reads at the place or under it
 abbrev pub IsAbsent : World → Path → Type 0
-IsAbsent w place = reading (w.nodes place) ≡ None
+IsAbsent w place = (q : Path) → is_at_or_under q place ≡ true → reading (w.nodes q) ≡ None
 
 abbrev pub AreAmong : List Path → List Path → Type 0
 AreAmong ps places = Each (λ p. IsTrue (among ps p)) places
@@ -131,37 +133,36 @@ module _ (o : Outside) where
   abbrev pub now : World → Image
   now w = seen o.read w
 
-  -- a source whose time agrees with the stamp
+  -- a source with which the stamp agrees
   pub record IsSourceAt (image : Image) (q : Path) (s : Stamp) : Type 0 where
     pub source : Content
     pub stands : source_at image q ≡ Some source
     pub same : IsTrue (agrees s (time_stamp (Some source)))
 
-  -- what an unmarked record speaks for, with the stamp's serial; it hangs together when the marks of open Restores don't count, and
-  -- its output is whole
-  pub record IsProductAt (e : Eased) (image : Image) (q : Path) (s : Stamp) : Type 0 where
+  -- A whole output, or a file in one that is a directory; its record has no mark, and the stamp agrees with the record's serial.
+  -- Whether the record hangs together isn't asked: the invariant is the same for one that doesn't.
+  pub record IsProductAt (image : Image) (q : Path) (s : Stamp) : Type 0 where
     pub speaker : Path
     pub by : Record
     pub speaks : Speaks image none_eased q speaker by
     pub same : IsTrue (agrees s (made_stamp (Some by)))
-    pub chain : Chain image e any_time by
     pub whole : IsTrue (is_whole image speaker (kind_in by.recipe speaker))
-    pub there : IsTrue (is_some (tree_now image q))
+    pub part : (q ≡ speaker) ⊎ IsTrue (is_file image q)
 
-  abbrev pub IsAtHand : Eased → Image → Path × Stamp → Type 0
-  IsAtHand e image (q, s) = IsSourceAt image q s ⊎ IsProductAt e image q s
+  abbrev pub IsAtHand : Image → Path × Stamp → Type 0
+  IsAtHand image (q, s) = IsSourceAt image q s ⊎ IsProductAt image q s
 
   -- When a job may begin: its paths are apart from each other, from its inputs, from what other open jobs own or read, from sources,
   -- and from records and marks that aren't its own; and its inputs are at hand with its stamps.
   pub record MayBegin (s : RunState) (w : World) (j : OpenJob) : Type 0 where
-    pub paths : Each (λ p. IsTrue (is_path p)) (own j)
+    pub paths : Each (λ p. IsTrue (is_path_text p)) (own j)
     pub apart : are_apart (own j) ≡ true
     pub from_open : Each (IsApart j) s.jobs
     pub from_inputs : any_overlap (own j) (in_paths j.recipe) ≡ false
     pub no_source : (q : Path) → is_source (now w) q ≡ true → list_any (overlaps q) (own j) ≡ false
     pub no_clash :
         (q : Path) → (stands ((now w).kept q) || (now w).marked q) ≡ true → list_any (overlaps q) (own j) ≡ true → IsIn (outputs j) q
-    pub at_hand : Each (IsAtHand (eased s) (now w)) (begun_with j)
+    pub at_hand : Each (IsAtHand (now w)) (begun_with j)
     pub each_stamped : length j.stamps ≡ length (in_paths j.recipe)
     pub kept_own : (p : Path) (r : Record) → kept_at j.kept p ≡ Some r → IsIn (outputs j) p
 
@@ -173,7 +174,9 @@ module _ (o : Outside) where
 
   -- Its serial is the next one; or it is a Restore, and keeps that of its records.
   abbrev pub HasSerial : RunState → World → OpenJob → ℕ → Type 0
-  HasSerial s w j top = ((j.kept ≡ []) × (j.serial ≡ suc s.top) × (top ≡ suc s.top)) ⊎ (Each (IsKept w j) (outputs j) × (top ≡ s.top))
+  HasSerial s w j top =
+      ((j.kept ≡ []) × (j.serial ≡ suc s.top) × (top ≡ suc s.top))
+      ⊎ ((j.kept ≡ [] → ⊥) × Each (IsKept w j) (outputs j) × (top ≡ s.top))
 
   -- of the right kind and within the limits
   abbrev pub IsGood : World → Out → Type 0
@@ -181,6 +184,10 @@ module _ (o : Outside) where
 
   abbrev pub listed_now : World → Path → List Member
   listed_now w p = members_of (record_at (now w) p)
+
+  -- in the place of p these bytes are this record, which is valid and isn't too long
+  abbrev pub IsRecordOf : Path → List ℕ → Record → Type 0
+  IsRecordOf p bytes r = (time : ℕ) (read_only : Bool) → kept_by o.read p (Some (Regular bytes time read_only)) ≡ Held r
 
   -- the job's record stands there, with the members that are there now
   abbrev pub IsWritten : World → OpenJob → Path → Type 0
@@ -205,7 +212,7 @@ module _ (o : Outside) where
         (p : Path) (bytes : List ℕ) →
         j.phase ≡ Firm →
         IsIn (outputs j) p →
-        o.read bytes ≡ Some (record (record_of j p) { members = listed_of j p (members_under (now w) p) }) →
+        IsRecordOf p bytes (record (record_of j p) { members = listed_of j p (members_under (now w) p) }) →
         Moves w j (Written (record_place p) bytes (Ok tt)) Firm
     AllWritten :
         (ps : List Path) →
@@ -241,11 +248,14 @@ module _ (o : Outside) where
   IsLock (MadeParents p r) = p ≡ lock_place
   IsLock call = ⊥
 
-  -- an unmarked recorded output that no open job owns or reads
+  -- an unmarked recorded output that no open job owns or reads, with no more members than its record lists
   pub record IsFree (s : RunState) (w : World) (p : Path) (r : Record) : Type 0 where
+    pub path : IsTrue (is_path_text p)
     pub recorded : core_at (now w) p ≡ Some r
     pub unmarked : (now w).marked p ≡ false
-    pub apart : Each (λ k. any_overlap (p ∷ []) (own k ++ in_paths k.recipe) ≡ false) s.jobs
+    pub from_own : Each (λ k. any_overlap (own k) (p ∷ []) ≡ false) s.jobs
+    pub from_inputs : Each (λ k. any_overlap (p ∷ []) (in_paths k.recipe) ≡ false) s.jobs
+    pub no_more : (m : Member) → IsIn (members_under (now w) p) m → IsIn (listed_now w p) m
 
   -- every mark and note that stands is among these places
   pub record HasAllMarks (image : Image) (ps : List Path) : Type 0 where
@@ -294,10 +304,11 @@ module _ (o : Outside) where
     Close :
         (e : Event) (js ks : List OpenJob) (j : OpenJob) →
         s.jobs ≡ js ++ j ∷ ks → s.faulted ≡ false → Closes w j e.call → Step s w e (record s { jobs = js ++ ks })
-    -- a call that might have come is answered Failed; the children run on, and no other call but a wait comes any more
+    -- a call that might have come is answered Failed; the children run on, no other call but a wait comes any more, and a serial that
+    -- was drawn for the call stays drawn
     Fail :
         (e : Event) (s' : RunState) →
-        IsTrue (failed e.call) → Step s w (record e { call = as_ok e.call }) s' → Step s w e (record s { jobs = filter runs s.jobs; faulted = true })
+        IsTrue (failed e.call) → Step s w (record e { call = as_ok e.call }) s' → Step s w e (record s { jobs = filter runs s.jobs; top = s'.top; faulted = true })
     FailWait : (e : Event) (x : Failed) → e.call ≡ Waited (Err x) → Step s w e (record s { jobs = filter runs s.jobs; faulted = true })
 
   -- a run: the state after each event

@@ -1,13 +1,14 @@
 -- Sound images and sound worlds.
-use Rattle.std.specs.Prelude.{◌≡◌, ℕ, false, List, [], Option, Some, option_map, IsTrue, IsSome}
+use Rattle.std.specs.Prelude.{◌≡◌, ◌||◌, ℕ, true, false, List, [], Option, Some, option_map, IsTrue, IsSome}
 use Rattle.smk_base.specs.Path.{overlaps}
 use Rattle.smk_base.specs.declared.tree.Tree.{Tree}
 use Rattle.smk_world.specs.World.{World, Nodes, IsFormed, Leaves}
+use Rattle.smk_world.specs.Calls.{HasOwners}
 use Rattle.smk_world.specs.Trees.{Path, Act, IsIn, kind_in}
 use Rattle.smk_record.specs.declared.record.Stamp.TheVariants.{Time}
 use Rattle.smk_record.specs.declared.record.Record.{Record}
 use Rattle.smk_record.specs.Records.{stamped}
-use Rattle.smk_store.specs.Images.{Content, Image, image_of, seen, source_at, core_at, record_at, is_whole, tree_now}
+use Rattle.smk_store.specs.Images.{Content, Image, image_of, seen, stands, source_at, core_at, record_at, is_whole, tree_now}
 use Rattle.smk_store.specs.Trust.{Eased, none_eased, Chain, any_time, Versions, Vir}
 
 -- a tree stands at p, and it is what the record of p vouches for
@@ -51,12 +52,18 @@ SameSources a b = (p : Path) → option_map told (source_at b p) ≡ option_map 
 abbrev pub NoNewRecord : Image → Image → Type 0
 NoNewRecord a b = (p : Path) (r : Record) → record_at b p ≡ Some r → b.marked p ≡ false → record_at a p ≡ Some r
 
--- A world is sound where it, as it reads, and whatever a crash leaves of it is sound, with the same sources and no further
--- unmarked record; and no child runs.
+-- what b has a record of has a record or a mark in a
+abbrev pub HasKnown : Image → Image → Type 0
+HasKnown a b = (p : Path) → stands (b.kept p) ≡ true → (stands (a.kept p) || a.marked p) ≡ true
+
+-- A world is sound where it, as it reads, and whatever a crash leaves of it is sound, with the same sources, no further unmarked
+-- record, and no record of a path of which the world tells nothing; and no child runs or owns a place.
 pub record SoundWorld (o : Outside) (w : World) (H : Versions) : Type 0 where
   pub formed : IsFormed w
   pub now : Sound o.act H (seen o.read w) none_eased
   pub after_crash : EachImage o.read w (λ i. Sound o.act H i none_eased)
   pub same_sources : EachImage o.read w (SameSources (seen o.read w))
   pub no_new_record : EachImage o.read w (NoNewRecord (seen o.read w))
+  pub known : EachImage o.read w (HasKnown (seen o.read w))
   pub no_child : w.children ≡ []
+  pub owners : HasOwners w

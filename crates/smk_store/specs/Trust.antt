@@ -42,17 +42,17 @@ stamp_now image p =
 
 -- ## Chains
 
--- While a Restore is unfinished the mark of an output of its doesn't count, as long as the record that it found stands: here is
--- that record, but for its members, for each such output.
-abbrev pub Eased : Type 0
-Eased = Path → Option Record
+-- While a Restore is unfinished the mark of an output of its doesn't count, as long as the record that it found stands: this says
+-- of a path and a record without its members that a Restore found it there.
+abbrev pub Eased : Type 1
+Eased = Path → Record → Type 0
 
 abbrev pub none_eased : Eased
-none_eased p = None
+none_eased p r = ⊥
 
 -- the record at the path is this one, and no mark at it counts
 abbrev pub Clear : Image → Eased → Path → Record → Type 0
-Clear image eased p r = (core_at image p ≡ Some r) × ((image.marked p ≡ false) ⊎ (eased p ≡ Some r))
+Clear image eased p r = (core_at image p ≡ Some r) × ((image.marked p ≡ false) ⊎ eased p r)
 
 -- q isn't a source, and this record at h speaks for it
 pub record Speaks (image : Image) (eased : Eased) (q h : Path) (r : Record) : Type 0 where
