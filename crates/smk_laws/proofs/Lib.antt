@@ -13,3 +13,6 @@ pub mod CurrentSame
 pub mod CurrentWalked
 pub mod CurrentApart
 pub mod CurrentTrees
+pub mod CurrentProducts
+pub mod CurrentMeaning
+pub mod CurrentLaw
