@@ -3,3 +3,16 @@ mod Vouched
 pub mod Valid
 pub mod Same
 pub mod Steps
+pub mod CurrentLists
+pub mod CurrentReach
+pub mod CurrentRecipes
+pub mod CurrentValues
+pub mod CurrentPaths
+pub mod CurrentChosen
+pub mod CurrentSame
+pub mod CurrentWalked
+pub mod CurrentApart
+pub mod CurrentTrees
+pub mod CurrentProducts
+pub mod CurrentMeaning
+pub mod CurrentLaw

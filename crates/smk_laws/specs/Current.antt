@@ -1,12 +1,12 @@
 -- The law that what a plan calls current is clean: a target that is current holds what a clean run from the sources gives.
-use Rattle.std.specs.Prelude.{◌≡◌, Bool, true, false, [], Some, IsTrue, Contains}
+use Rattle.std.specs.Prelude.{◌≡◌, Bool, true, false, [], Some, is_some, IsTrue, Contains}
 use Rattle.smk_base.specs.declared.tree.Tree.{Tree}
-use Rattle.smk_world.specs.Trees.{Path, Act}
+use Rattle.smk_world.specs.Trees.{Path, Act, among}
 use Rattle.smk_record.specs.declared.record.Record.{Record}
 use Rattle.smk_record.specs.Records.{is_valid}
 use Rattle.smk_flow.specs.declared.job.Job.{Job}
 use Rattle.smk_flow.specs.Flows.{Flow}
-use Rattle.smk_store.specs.Images.{Image, record_at, tree_now}
+use Rattle.smk_store.specs.Images.{Image, record_at, is_known, tree_now}
 use Rattle.smk_store.specs.Trust.{Versions, none_eased}
 use Rattle.smk_store.specs.Soundness.{Sound}
 use Rattle.smk_chain.specs.Derive.{Listings}
@@ -22,12 +22,19 @@ IsClean S image p = (tree : Tree) × (tree_now image p ≡ Some tree) × (clean_
 abbrev pub HasValidRecords : Image → Type 0
 HasValidRecords image = (p : Path) (r : Record) → record_at image p ≡ Some r → (r.path ≡ p) × IsTrue (is_valid r)
 
+-- The lists of an image are complete: its names are the places at which something stands, and each path with a record, a mark or a
+-- note is among the known ones.
+pub record IsComplete (image : Image) : Type 0 where
+  pub names : (p : Path) → among image.names p ≡ is_some (image.node p)
+  pub known : (p : Path) → is_known image p ≡ true → among image.known p ≡ true
+
 -- The last plan of a chain in a sound image, at a moment at which no child runs. The chain began from the listings of directories'
 -- records; and of each job that isn't Open every field of the command has a value.
 pub record AtRest
     (flow : Flow) (act : Act) (has_fields : Job → Bool) (image : Image) (H : Versions) (settings : Settings) (progress : Progress)
     (L : Listings) (plan : Plan) : Type 0 where
   pub sound : Sound act H image none_eased
+  pub complete : IsComplete image
   pub valid : HasValidRecords image
   pub listed : AreListed image L
   pub last : LastPlan flow image settings progress L plan

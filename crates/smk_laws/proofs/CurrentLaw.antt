@@ -1,0 +1,67 @@
+-- The law over a whole chain of plans: what the last plan calls current is clean.
+use Rattle.std.proofs.Common.{◌≡◌, ◌⊎◌, Bool, true, false, cond, List, [], ◌∷◌, ◌++◌, find, sym, ap, inl, inr, ◌∙◌, Some, option_map}
+use Rattle.std.specs.Prelude.{bytes_eq}
+use Rattle.smk_base.proofs.Places.{same_place}
+use Rattle.smk_world.specs.Trees.{Path}
+use Rattle.smk_pattern.specs.Bound.{BoundFills}
+use Rattle.smk_flow.specs.Flows.{Flow}
+use Rattle.smk_store.specs.Images.{Image}
+use Rattle.smk_chain.specs.declared.jobs.Known.{Known}
+use Rattle.smk_chain.specs.Derive.{Listings, listing}
+use Rattle.smk_pick.specs.declared.settings.Settings.{Settings}
+use Rattle.smk_plan.specs.States.{Plan, Progress, IsPlan, LastPlan, Last, Then, AreListed, files_listed, new_listings}
+use Rattle.smk_laws.specs.Current.{AtRest, CurrentMeansClean}
+use Rattle.smk_laws.proofs.CurrentLists.{map_in, find_in}
+use Rattle.smk_laws.proofs.CurrentChosen.{mapped}
+use Rattle.smk_laws.proofs.CurrentMeaning.{current_clean}
+
+find_either : {A : Type 0} (test : A → Bool) (xs ys : List A) (z : A) → find test (xs ++ ys) ≡ Some z → (find test xs ≡ Some z) ⊎ (find test ys ≡ Some z)
+find_either test [] ys z h = inr h
+find_either test (x ∷ xs) ys z h = go (test x) h (find_either test xs ys z)
+  where
+    go : (b : Bool) → cond b (Some x) (find test (xs ++ ys)) ≡ Some z → (find test (xs ++ ys) ≡ Some z → (find test xs ≡ Some z) ⊎ (find test ys ≡ Some z)) → (cond b (Some x) (find test xs) ≡ Some z) ⊎ (find test ys ≡ Some z)
+    go true k ih = inl k
+    go false k ih = ih k
+
+listing_either : (L M : Listings) (f : Path) (files : List Path) → listing (L ++ M) f ≡ Some files → (listing L f ≡ Some files) ⊎ (listing M f ≡ Some files)
+listing_either L M f files e =
+    let r = mapped (λ (k : Known). k.files) (find (λ (k : Known). bytes_eq k.folder f) (L ++ M)) files e in
+    go r.0 r.2 (find_either (λ (k : Known). bytes_eq k.folder f) L M r.0 r.1)
+  where
+    go : (k : Known) → k.files ≡ files → (find (λ (k : Known). bytes_eq k.folder f) L ≡ Some k) ⊎ (find (λ (k : Known). bytes_eq k.folder f) M ≡ Some k) → (listing L f ≡ Some files) ⊎ (listing M f ≡ Some files)
+    go k s (inl a) = inl (ap (option_map (λ (k : Known). k.files)) a ∙ ap Some s)
+    go k s (inr b) = inr (ap (option_map (λ (k : Known). k.files)) b ∙ ap Some s)
+
+module _ (flow : Flow) (image : Image) (settings : Settings) (progress : Progress) where
+  new_listed : (plan : Plan) → AreListed image (new_listings image settings progress plan)
+  new_listed plan f files e =
+      let r = mapped (λ (k : Known). k.files) (find (λ (k : Known). bytes_eq k.folder f) (new_listings image settings progress plan)) files e in
+      let k = find_in (λ (k : Known). bytes_eq k.folder f) (new_listings image settings progress plan) r.0 r.1 in
+      let d = map_in _ _ r.0 k.0 in
+      sym r.2 ∙ ap (λ (k : Known). k.files) d.2 ∙ ap (files_listed image) (sym (ap (λ (k : Known). k.folder) d.2) ∙ same_place r.0.folder f k.1)
+
+  -- the last plan is a plan, and its listings are those of the records
+  pub last_listed :
+      (L : Listings) (last : Plan) → LastPlan flow image settings progress L last → AreListed image L →
+      IsPlan flow image settings progress last × AreListed image last.lists
+  last_listed L last (Last p is done) h = (is, h)
+  last_listed L last (Then p q is more rest) h =
+      last_listed (p.lists ++ new_listings image settings progress p) last rest
+      (λ f files e. go f files (listing_either p.lists (new_listings image settings progress p) f files e))
+    where
+      go : (f : Path) (files : List Path) → (listing p.lists f ≡ Some files) ⊎ (listing (new_listings image settings progress p) f ≡ Some files) → files ≡ files_listed image f
+      go f files (inl a) = h f files a
+      go f files (inr b) = new_listed p f files b
+
+pub current_means_clean : BoundFills → CurrentMeansClean
+current_means_clean fills flow act has_fields image H settings progress L plan rest p inn current =
+    let l = last_listed flow image settings progress L plan rest.last rest.listed in
+    current_clean flow act has_fields image H settings progress plan fills (record {
+      sound = rest.sound;
+      complete = rest.complete;
+      valid = rest.valid;
+      lists = l.1;
+      derived = l.0;
+      rest = rest.rest;
+      fields = rest.fields;
+    }) p inn current
