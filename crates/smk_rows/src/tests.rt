@@ -25,6 +25,8 @@ const DONE: &str =
 const FAILED: &str =
     "start copy out.txt\nfailed copy out.txt: status 1\nnot current out.txt\nsummary: 1 started, 0 done, 1 failed\n";
 
+const STATUS_1: &str = "smk: job failed: copy out.txt: status 1\n";
+
 const RECORD: &str =
     "SMK1\n7:out.txt\n1\n22:cat {input} > {output}\n0\n0\n1\n0:\n1\n6:in.txt\nT1000\n1\n0:\n1\nF7:out.txt\n0\n";
 
@@ -150,27 +152,25 @@ fn what_is_left(alloc: Global, work: &mut MemWork) -> Result<Left, Fail> {
     }
 }
 
+/// Runs the call for the target, and returns whether it ends with this status and this line of a fault.
+fn is_told<R: Threads + Sync>(
+    rt: &R,
+    alloc: Global,
+    target: &str,
+    trial: &mut Trial,
+    status: u8,
+    line: &str,
+) -> Result<bool, Fail> {
+    Ok(status_of(rt, alloc, target, trial)? == status && trial.err.bytes() == line.as_bytes())
+}
+
 #[test]
 fn runs_and_refusals_report_as_written(rt: HostRuntime) -> Result<(), Fail> {
     let alloc = rt.alloc();
     for (workflow, target, status, report, line, left) in [
         (COPY, "out.txt", 0, DONE, "", Left::Made),
-        (
-            FAILING,
-            "out.txt",
-            1,
-            FAILED,
-            "smk: job failed: copy out.txt: status 1\n",
-            Left::Nothing,
-        ),
-        (
-            HALF,
-            "out.txt",
-            1,
-            FAILED,
-            "smk: job failed: copy out.txt: status 1\n",
-            Left::Nothing,
-        ),
+        (FAILING, "out.txt", 1, FAILED, STATUS_1, Left::Nothing),
+        (HALF, "out.txt", 1, FAILED, STATUS_1, Left::Nothing),
         (COPY, "z", 3, "", "smk: no rule for z\n", Left::Nothing),
         (
             TWO_INPUTS,
@@ -183,18 +183,10 @@ fn runs_and_refusals_report_as_written(rt: HostRuntime) -> Result<(), Fail> {
         (COPY, "-n", 2, "", "smk: words not read\n", Left::Nothing),
     ] {
         let mut trial = set_up(alloc, workflow, None, None)?;
-        assert_eq!(rt;
-            status_of(&rt, alloc, target, &mut trial)?,
-            status,
-            "{line}"
-        );
-        assert_eq!(rt; trial.out.bytes(), report.as_bytes(), "{target}: {line}");
-        assert_eq!(rt; trial.err.bytes(), line.as_bytes(), "{target}: {line}");
-        assert_eq!(rt;
-            what_is_left(alloc, &mut trial.work)?,
-            left,
-            "{target}: {line}"
-        );
+        let ends = is_told(&rt, alloc, target, &mut trial, status, line)?
+            && trial.out.bytes() == report.as_bytes()
+            && what_is_left(alloc, &mut trial.work)? == left;
+        assert!(rt; ends, "{target}: {line}");
     }
     Ok(())
 }
@@ -205,6 +197,19 @@ fn calls_of_a_run<R: Threads + Sync>(rt: &R, alloc: Global, workflow: &str) -> R
     Ok(trial.work.calls())
 }
 
+fn failing_call_is_told<R: Threads + Sync>(
+    rt: &R,
+    alloc: Global,
+    workflow: &str,
+    number: u64,
+) -> Result<bool, Fail> {
+    let mut trial = set_up(alloc, workflow, Some(number), None)?;
+    Ok(
+        is_told(rt, alloc, "out.txt", &mut trial, 4, "smk: device failed\n")?
+            && what_is_left(alloc, &mut trial.work)? != Left::Torn,
+    )
+}
+
 #[test]
 fn each_failing_call_is_told_and_tears_nothing(rt: HostRuntime) -> Result<(), Fail> {
     let alloc = rt.alloc();
@@ -212,20 +217,8 @@ fn each_failing_call_is_told_and_tears_nothing(rt: HostRuntime) -> Result<(), Fa
         let calls = calls_of_a_run(&rt, alloc, workflow)?;
         assert_ne!(rt; calls, 0);
         for number in 1..=calls {
-            let mut trial = set_up(alloc, workflow, Some(number), None)?;
-            assert_eq!(rt;
-                status_of(&rt, alloc, "out.txt", &mut trial)?,
-                4,
-                "call {number}"
-            );
-            assert_eq!(rt;
-                trial.err.bytes(),
-                b"smk: device failed\n".as_slice(),
-                "call {number}"
-            );
-            assert_ne!(rt;
-                what_is_left(alloc, &mut trial.work)?,
-                Left::Torn,
+            assert!(rt;
+                failing_call_is_told(&rt, alloc, workflow, number)?,
                 "call {number}"
             );
         }
@@ -238,21 +231,9 @@ fn a_failing_sink_is_told_after_the_job_is_closed(rt: HostRuntime) -> Result<(),
     let alloc = rt.alloc();
     for number in 1..4 {
         let mut trial = set_up(alloc, COPY, None, Some(number))?;
-        assert_eq!(rt;
-            status_of(&rt, alloc, "out.txt", &mut trial)?,
-            6,
-            "{number}"
-        );
-        assert_eq!(rt;
-            trial.err.bytes(),
-            b"smk: output failed\n".as_slice(),
-            "{number}"
-        );
-        assert_eq!(rt;
-            what_is_left(alloc, &mut trial.work)?,
-            Left::Made,
-            "{number}"
-        );
+        let ends = is_told(&rt, alloc, "out.txt", &mut trial, 6, "smk: output failed\n")?
+            && what_is_left(alloc, &mut trial.work)? == Left::Made;
+        assert!(rt; ends, "call {number}");
     }
     Ok(())
 }
