@@ -120,7 +120,7 @@ IsRooted levels = (more : List Bytes) × (levels ≡ [] ∷ more)
 
 -- ---- an indentation is blanks
 
-line_byte : (z : Bytes) → ends_line z ≡ true → (slice_index z 0 ≡ 10) ⊎ (slice_index z 0 ≡ 13)
+pub line_byte : (z : Bytes) → ends_line z ≡ true → (slice_index z 0 ≡ 10) ⊎ (slice_index z 0 ≡ 13)
 line_byte z h = elim (bool_cases (slice_index z 0 == 10)) [
   | inl e ↦ inl (eqb-true (slice_index z 0) 10 e)
   | inr e ↦ elim (bool_cases (slice_index z 0 == 13)) [
