@@ -92,7 +92,11 @@ comment_cut (b ∷ z) some plain h =
     let n : comment_len (b ∷ z) ≡ suc (comment_len z) = rw plain refl in
     (omega arith, comment_within (b ∷ z), inr (eqb-true b 35 h, refl))
 
-name_part : (b : ℕ) → begins_name b ≡ true → is_in class.Name b ≡ true
+left_of : (v : Bool) → (v || false) ≡ true → v ≡ true
+left_of true h = refl
+left_of false h = absurd cc
+
+pub name_part : (b : ℕ) → begins_name b ≡ true → is_in class.Name b ≡ true
 name_part b h = elim (bool_cases (b == 95)) [
   | inl e ↦ let is : b ≡ 95 = eqb-true b 95 e in rw is refl
   | inr e ↦ elim (bool_cases (nat_le 65 b && nat_le b 90)) [
@@ -104,9 +108,25 @@ name_part b h = elim (bool_cases (b == 95)) [
     letter : (v : Bool) → (v || false) ≡ true → v ≡ true
     letter true h = refl
     letter false h = absurd cc
+
     or_true : (u v : Bool) → ((u || true) || v) ≡ true
     or_true true v = refl
     or_true false v = refl
+
+-- a byte of a name is ASCII
+pub in_bounds : (b : ℕ) → is_in class.Name b ≡ true → b < 128
+in_bounds b h = elim (bool_cases (b == 95)) [
+  | inl e ↦ omega (arith, eqb-true b 95 e)
+  | inr e ↦ elim (bool_cases (nat_le 48 b && nat_le b 57)) [
+    | inl f ↦ omega (arith, leb-true b 57 (and_parts (nat_le 48 b) (nat_le b 57) f).1)
+    | inr f ↦ elim (bool_cases (nat_le 65 b && nat_le b 90)) [
+      | inl g ↦ omega (arith, leb-true b 90 (and_parts (nat_le 65 b) (nat_le b 90) g).1)
+      | inr g ↦
+          let low : (nat_le 97 b && nat_le b 122) ≡ true = left_of (nat_le 97 b && nat_le b 122) (rw (f, g, e) at h) in
+          omega (arith, leb-true b 122 (and_parts (nat_le 97 b) (nat_le b 122) low).1)
+    ]
+  ]
+]
 
 name_cut : (z : Bytes) → 0 < length z → ends_line z ≡ false → begins_name (slice_index z 0) ≡ true → Cut z (Lexeme kind.Name (past class.Name z 0))
 name_cut [] some plain h = absurd (omega arith)
@@ -130,14 +150,14 @@ numeral_of : (z : Bytes) (m n f : ℕ) → IsMinus z m → IsDigits (take n (dro
 numeral_of z m n f minus whole fraction =
     let w = take n (drop m z) ++ take f (drop (m + n) z) in
     let e : take (m + n + f) z ≡ take m z ++ w =
-        take-add (m + n) f z ∙ ap (λ (v : Bytes). v ++ take f (drop (m + n) z)) (take-add m n z) ∙ append_assoc (take m z) (take n (drop m z)) (take f (drop (m + n) z)) in
+    take-add (m + n) f z ∙ ap (λ (v : Bytes). v ++ take f (drop (m + n) z)) (take-add m n z) ∙ append_assoc (take m z) (take n (drop m z)) (take f (drop (m + n) z)) in
     elim minus [
       | inl none ↦
-        let front : take m z ≡ [] = ap (λ k. take k z) none in
-        subst IsNumeral (sym (e ∙ ap (λ (v : Bytes). v ++ w) front)) (unsigned (take n (drop m z)) (take f (drop (m + n) z)) whole fraction)
+          let front : take m z ≡ [] = ap (λ k. take k z) none in
+          subst IsNumeral (sym (e ∙ ap (λ (v : Bytes). v ++ w) front)) (unsigned (take n (drop m z)) (take f (drop (m + n) z)) whole fraction)
       | inr (one, b) ↦
-        let front : take m z ≡ 45 ∷ [] = ap (λ k. take k z) one ∙ short_front 45 z (omega arith) b in
-        subst IsNumeral (sym (e ∙ ap (λ (v : Bytes). v ++ w) front)) (negative (take n (drop m z)) (take f (drop (m + n) z)) whole fraction)
+          let front : take m z ≡ 45 ∷ [] = ap (λ k. take k z) one ∙ short_front 45 z (omega arith) b in
+          subst IsNumeral (sym (e ∙ ap (λ (v : Bytes). v ++ w) front)) (negative (take n (drop m z)) (take f (drop (m + n) z)) whole fraction)
     ]
 
 is_minus : (z : Bytes) → IsMinus z (minus_len z)
@@ -156,22 +176,22 @@ record Fraction (z : Bytes) (at : ℕ) : Type 0 where
 fraction_at : (z : Bytes) (at : ℕ) → Fraction z at
 fraction_at z at = elim (bool_cases (slice_index z at == 46 && is_ascii_digit (slice_index z (at + 1)))) [
   | inl h ↦
-    let a = and_parts (slice_index z at == 46) (is_ascii_digit (slice_index z (at + 1))) h in
-    let point : slice_index z at ≡ 46 = eqb-true (slice_index z at) 46 a.0 in
-    let d = drop (at + 1) z in
-    let n = prefix_len is_ascii_digit d in
-    let first : slice_index d 0 ≡ slice_index z (at + 1) = get_or-drop (at + 1) z 0 0 ∙ (let i : at + 1 + 0 ≡ at + 1 = omega arith in ap (λ k. slice_index z k) i) in
-    let digits = digits_here d (ap is_ascii_digit first ∙ a.1) in
-    let le : n ≤ length d = prefix_len-le-length is_ascii_digit d in
-    let inside : at < length z = nonzero_within z at (omega arith) in
-    let split : drop at z ≡ 46 ∷ d = drop_more z at 0 inside ∙ ap (λ (b : ℕ). b ∷ d) point in
-    let ends : past_fraction z at ≡ at + suc n = rw h (omega arith) in
-    record {
-      bytes = suc n;
-      ends = ends;
-      within = λ _. omega (arith, le, length-drop (at + 1) z);
-      is = subst (λ (v : Bytes). IsFraction (take (suc n) v)) (sym split) (with_point (take n d) digits.0);
-    }
+      let a = and_parts (slice_index z at == 46) (is_ascii_digit (slice_index z (at + 1))) h in
+      let point : slice_index z at ≡ 46 = eqb-true (slice_index z at) 46 a.0 in
+      let d = drop (at + 1) z in
+      let n = prefix_len is_ascii_digit d in
+      let first : slice_index d 0 ≡ slice_index z (at + 1) = get_or-drop (at + 1) z 0 0 ∙ (let i : at + 1 + 0 ≡ at + 1 = omega arith in ap (λ k. slice_index z k) i) in
+      let digits = digits_here d (ap is_ascii_digit first ∙ a.1) in
+      let le : n ≤ length d = prefix_len-le-length is_ascii_digit d in
+      let inside : at < length z = nonzero_within z at (omega arith) in
+      let split : drop at z ≡ 46 ∷ d = drop_more z at 0 inside ∙ ap (λ (b : ℕ). b ∷ d) point in
+      let ends : past_fraction z at ≡ at + suc n = rw h (omega arith) in
+      record {
+        bytes = suc n;
+        ends = ends;
+        within = λ _. omega (arith, le, length-drop (at + 1) z);
+        is = subst (λ (v : Bytes). IsFraction (take (suc n) v)) (sym split) (with_point (take n d) digits.0);
+      }
   | inr h ↦ record { bytes = 0; ends = rw h (omega arith); within = λ le. omega (arith, le); is = without }
 ]
 
@@ -259,16 +279,16 @@ text_cut raw z mark is plain =
     let opening = at + quotes l in
     closed_cut raw l opening z (closing raw q l 0 opening (drop opening z))
     (λ end e fine.
-      let some : 1 ≤ q = quote_positive q is in
-      let facts = closing_facts (drop opening z) raw q l 0 opening end some e in
-      let behind : opening + 0 ≤ end = facts.behind in
-      let room : end + quotes l ≤ opening + length (drop opening z) = facts.room in
-      let some_quotes : 1 ≤ quotes l = quotes_some l in
-      let rest : length (drop opening z) ≡ length z - opening = length-drop opening z in
-      let whole : end + quotes l ≡ opening + (end - opening + quotes l) = omega arith in
-      let within : end + quotes l ≤ length z = omega arith in
-      text_lexed z (end + quotes l) (omega arith) within plain
-      (subst (λ k. IsText (take k z)) (sym whole) (text_of_parts raw z (end - opening + quotes l) mark is (body_is raw q l opening end z is e fine))))
+    let some : 1 ≤ q = quote_positive q is in
+    let facts = closing_facts (drop opening z) raw q l 0 opening end some e in
+    let behind : opening + 0 ≤ end = facts.behind in
+    let room : end + quotes l ≤ opening + length (drop opening z) = facts.room in
+    let some_quotes : 1 ≤ quotes l = quotes_some l in
+    let rest : length (drop opening z) ≡ length z - opening = length-drop opening z in
+    let whole : end + quotes l ≡ opening + (end - opening + quotes l) = omega arith in
+    let within : end + quotes l ≤ length z = omega arith in
+    text_lexed z (end + quotes l) (omega arith) within plain
+    (subst (λ k. IsText (take k z)) (sym whole) (text_of_parts raw z (end - opening + quotes l) mark is (body_is raw q l opening end z is e fine))))
 
 -- ---- every piece
 

@@ -62,11 +62,11 @@ closing_facts (b ∷ z) raw q l (suc escaped) at end some h =
     record { behind = omega arith; room = omega arith; here = ap (λ k. slice_index (b ∷ z) k) n ∙ c.here }
 closing_facts (b ∷ z) raw q l zero at end some h = elim (bool_cases (closes q l (b ∷ z))) [
   | inl shut ↦
-    let same : some_place at ≡ some_place end = rw shut at h in
-    let e : at ≡ end = cc in
-    let n : end - at ≡ 0 = omega arith in
-    let r = closes_room q l (b ∷ z) some shut in
-    record { behind = omega arith; room = omega (arith, e, r.0); here = ap (λ k. slice_index (b ∷ z) k) n ∙ r.1 }
+      let same : some_place at ≡ some_place end = rw shut at h in
+      let e : at ≡ end = cc in
+      let n : end - at ≡ 0 = omega arith in
+      let r = closes_room q l (b ∷ z) some shut in
+      record { behind = omega arith; room = omega (arith, e, r.0); here = ap (λ k. slice_index (b ∷ z) k) n ∙ r.1 }
   | inr shut ↦ elim (bool_cases (not l && ends_line (b ∷ z))) [
     | inl line ↦ let wrong : None ≡ some_place end = rw (shut, line) at h in absurd cc
     | inr line ↦ further b z q l (after_byte raw b z) at end (closing_facts z raw q l (after_byte raw b z) (at + 1) end some (rw (shut, line) at h))
@@ -147,8 +147,8 @@ one_before raw q l z at end is c = elim (bool_cases (ends_line z)) [
   | inr plain ↦ let one : escaped_len raw z ≡ 1 = rw plain refl in omega (arith, one, c.behind)
   | inl line ↦ elim (positive (end - at)) [
     | inl none ↦
-      let first : slice_index z 0 ≡ q = ap (λ k. slice_index z k) (sym none) ∙ c.here in
-      absurd (no_line_quote z q is first line)
+        let first : slice_index z 0 ≡ q = ap (λ k. slice_index z k) (sym none) ∙ c.here in
+        absurd (no_line_quote z q is first line)
     | inr some ↦ some
   ]
 ]
@@ -156,6 +156,7 @@ one_before raw q l z at end is c = elim (bool_cases (ends_line z)) [
     positive : (n : ℕ) → (n ≡ 0) ⊎ (1 ≤ n)
     positive zero = inl refl
     positive (suc n) = inr (omega arith)
+
     no_line_quote : (z : Bytes) (q : ℕ) → is_quote q ≡ true → slice_index z 0 ≡ q → ends_line z ≡ true → ⊥
     no_line_quote z q is first line = elim (line_byte z line) [
       | inl a ↦ elim (quote_cases q is) [ inl e ↦ omega (arith, a, first, e) | inr e ↦ omega (arith, a, first, e) ]
@@ -205,19 +206,19 @@ one_byte z raw q l at end b is shut line c inside g =
     let some : 1 ≤ quotes l = some_quotes l in
     elim (bool_cases (b == 92)) [
       | inl t ↦
-        let e : b ≡ 92 = eqb-true b 92 t in
-        let k : after_byte raw b z ≡ escaped_len raw z = rw t refl in
-        let far : 1 ≤ end - at = one_before raw q l z at end is (subst (λ n. Closes q l n at end z) k c) in
-        let same : escaped_len raw w ≡ escaped_len raw z = escaped_len-take raw (end - at + quotes l) z (omega arith) in
-        let first : slice_index (take (end - at) z) 0 ≡ slice_index w 0 = get_or-take (end - at) z 0 0 (omega arith) ∙ sym (get_or-take (end - at + quotes l) z 0 0 (omega arith)) in
-        let fine : (raw || not (is_refused (slice_index w 0))) ≡ true =
-            ap (λ v. raw || not (is_refused v)) (sym first) ∙ fine_here raw (take (end - at) z) at (subst (λ v. Fine raw 0 at (v ∷ take (end - at) z)) e g) in
-        subst (λ v. Inside raw q l (v ∷ w)) (sym e) (a_backslash w fine (subst (λ n. Inside raw q l (drop n w)) (k ∙ sym same) inside))
+          let e : b ≡ 92 = eqb-true b 92 t in
+          let k : after_byte raw b z ≡ escaped_len raw z = rw t refl in
+          let far : 1 ≤ end - at = one_before raw q l z at end is (subst (λ n. Closes q l n at end z) k c) in
+          let same : escaped_len raw w ≡ escaped_len raw z = escaped_len-take raw (end - at + quotes l) z (omega arith) in
+          let first : slice_index (take (end - at) z) 0 ≡ slice_index w 0 = get_or-take (end - at) z 0 0 (omega arith) ∙ sym (get_or-take (end - at + quotes l) z 0 0 (omega arith)) in
+          let fine : (raw || not (is_refused (slice_index w 0))) ≡ true =
+          ap (λ v. raw || not (is_refused v)) (sym first) ∙ fine_here raw (take (end - at) z) at (subst (λ v. Fine raw 0 at (v ∷ take (end - at) z)) e g) in
+          subst (λ v. Inside raw q l (v ∷ w)) (sym e) (a_backslash w fine (subst (λ n. Inside raw q l (drop n w)) (k ∙ sym same) inside))
       | inr t ↦
-        let k : after_byte raw b z ≡ 0 = rw t refl in
-        let open_there : closes q l (b ∷ w) ≡ false = closes-take q l (suc (end - at + quotes l)) (b ∷ z) (omega arith) ∙ shut in
-        let same : ends_line (b ∷ w) ≡ ends_line (b ∷ z) = ends_line-take (suc (end - at + quotes l)) (b ∷ z) (omega arith) in
-        a_byte b w open_there (ap (λ v. l || not v) same ∙ not_both l (ends_line (b ∷ z)) line) t (subst (λ n. Inside raw q l (drop n w)) k inside)
+          let k : after_byte raw b z ≡ 0 = rw t refl in
+          let open_there : closes q l (b ∷ w) ≡ false = closes-take q l (suc (end - at + quotes l)) (b ∷ z) (omega arith) ∙ shut in
+          let same : ends_line (b ∷ w) ≡ ends_line (b ∷ z) = ends_line-take (suc (end - at + quotes l)) (b ∷ z) (omega arith) in
+          a_byte b w open_there (ap (λ v. l || not v) same ∙ not_both l (ends_line (b ∷ z)) line) t (subst (λ n. Inside raw q l (drop n w)) k inside)
     ]
 
 -- what is fine does not depend on where the bytes stand
@@ -250,22 +251,22 @@ inside_from (b ∷ z) raw q l (suc escaped) at end is h f =
     subst (λ k. Inside raw q l (drop (suc escaped) (take k (b ∷ z)))) (sym m) (inside_from z raw q l escaped (at + 1) end is h g)
 inside_from (b ∷ z) raw q l zero at end is h f = elim (bool_cases (closes q l (b ∷ z))) [
   | inl shut ↦
-    let same : some_place at ≡ some_place end = rw shut at h in
-    let e : at ≡ end = cc in
-    let n : end - at + quotes l ≡ quotes l = omega arith in
-    subst (λ k. Inside raw q l (take k (b ∷ z))) (sym n) (closing_quotes (take (quotes l) (b ∷ z)) (all_quotes q l (b ∷ z) (quote_positive q is) shut))
+      let same : some_place at ≡ some_place end = rw shut at h in
+      let e : at ≡ end = cc in
+      let n : end - at + quotes l ≡ quotes l = omega arith in
+      subst (λ k. Inside raw q l (take k (b ∷ z))) (sym n) (closing_quotes (take (quotes l) (b ∷ z)) (all_quotes q l (b ∷ z) (quote_positive q is) shut))
   | inr shut ↦ elim (bool_cases (not l && ends_line (b ∷ z))) [
     | inl line ↦ let wrong : None ≡ some_place end = rw (shut, line) at h in absurd cc
     | inr line ↦
-      let k = after_byte raw b z in
-      let next : closing raw q l k (at + 1) z ≡ some_place end = rw (shut, line) at h in
-      let c = closing_facts z raw q l k (at + 1) end (quote_positive q is) next in
-      let behind : at + 1 + k ≤ end = c.behind in
-      let some : 1 ≤ quotes l = some_quotes l in
-      let n : end - at ≡ suc (end - (at + 1)) = omega arith in
-      let m : end - at + quotes l ≡ suc (end - (at + 1) + quotes l) = omega arith in
-      let g : Fine raw 0 at (b ∷ take (end - (at + 1)) z) = subst (λ i. Fine raw 0 at (take i (b ∷ z))) n f in
-      subst (λ i. Inside raw q l (take i (b ∷ z))) (sym m) (one_byte z raw q l (at + 1) end b is shut line c (inside_from z raw q l k (at + 1) end is next (fine_next z raw q l at end b is c g)) (fine_moved raw (at + 1) at (b ∷ take (end - (at + 1)) z) g))
+        let k = after_byte raw b z in
+        let next : closing raw q l k (at + 1) z ≡ some_place end = rw (shut, line) at h in
+        let c = closing_facts z raw q l k (at + 1) end (quote_positive q is) next in
+        let behind : at + 1 + k ≤ end = c.behind in
+        let some : 1 ≤ quotes l = some_quotes l in
+        let n : end - at ≡ suc (end - (at + 1)) = omega arith in
+        let m : end - at + quotes l ≡ suc (end - (at + 1) + quotes l) = omega arith in
+        let g : Fine raw 0 at (b ∷ take (end - (at + 1)) z) = subst (λ i. Fine raw 0 at (take i (b ∷ z))) n f in
+        subst (λ i. Inside raw q l (take i (b ∷ z))) (sym m) (one_byte z raw q l (at + 1) end b is shut line c (inside_from z raw q l k (at + 1) end is next (fine_next z raw q l at end b is c g)) (fine_moved raw (at + 1) at (b ∷ take (end - (at + 1)) z) g))
   ]
 ]
 

@@ -92,7 +92,7 @@ between-none : (source : Bytes) (a : ℕ) → between source a a ≡ []
 between-none source a = let e : a - a ≡ 0 = omega arith in ap (λ n. take n (drop a source)) e
 
 dedent_token : (source : Bytes) (a : ℕ) → IsCharBoundary source a → IsToken source (token kind.Dedent a a)
-dedent_token source a edge = record { spelled = between-none source a; begins = edge; ends = edge }
+dedent_token source a edge = record { spelled = between-none source a; begins = edge; ends = edge; empty = λ _. inl refl }
 
 -- so many Dedents at a place, before the tokens from there on
 dedents_good : (n : ℕ) (source : Bytes) (deep depth : ℕ) (line : Bool) (at a : ℕ) (ts : List Token) → IsCharBoundary source a
@@ -167,8 +167,8 @@ comment_stops [] = inr (omega arith)
 comment_stops (b ∷ z) = elim (bool_cases (ends_line (b ∷ z))) [
   | inl e ↦ inl (rw e e)
   | inr e ↦
-    let n : comment_len (b ∷ z) ≡ suc (comment_len z) = rw e refl in
-    elim (comment_stops z) [ inl f ↦ inl (ap (λ k. ends_line (drop k (b ∷ z))) n ∙ f) | inr f ↦ inr (omega (arith, n, f)) ]
+      let n : comment_len (b ∷ z) ≡ suc (comment_len z) = rw e refl in
+      elim (comment_stops z) [ inl f ↦ inl (ap (λ k. ends_line (drop k (b ∷ z))) n ∙ f) | inr f ↦ inr (omega (arith, n, f)) ]
 ]
 
 comment_end : (source : Bytes) (at : ℕ) → IsEnd source (at + comment_len (drop at source))
@@ -207,7 +207,7 @@ indent_token : (source : Bytes) (a b : ℕ) → a < b → b < length source → 
     → IsToken source (token kind.Indent a b)
 indent_token source a b lt le plain s edge =
     let n : length (between source a b) ≡ b - a = length-take-le (b - a) (drop a source) (omega (arith, length-drop a source)) in
-    record { spelled = (omega (arith, n), (blanks source a b le plain s).1); begins = first_edge source a b lt le s; ends = edge }
+    record { spelled = (omega (arith, n), (blanks source a b le plain s).1); begins = first_edge source a b lt le s; ends = edge; empty = λ none. let zero_long : length (between source a b) ≡ 0 = ap length none in absurd (omega (arith, n)) }
 
 -- ---- the first token of a line
 
@@ -246,7 +246,7 @@ leaves_good source levels line at a i ts rooted lt far near edge =
     let s : Skipped source true at a = skipped-append source true at line a far (skipped-wider source true line a near) in (
       rooted-take levels i rooted,
       λ rest.
-        subst (λ k. Good source k 0 false at (dedents (length levels - (i + 1)) a ++ ts)) sum (dedents_good (length levels - (i + 1)) source (length (take (i + 1) levels) - 1) 0 false at a ts edge s rest),
+          subst (λ k. Good source k 0 false at (dedents (length levels - (i + 1)) a ++ ts)) sum (dedents_good (length levels - (i + 1)) source (length (take (i + 1) levels) - 1) 0 false at a ts edge s rest),
     )
 
 enters_good : (source : Bytes) (levels : List Bytes) (line at a : ℕ) (ts : List Token) → IsRooted levels → line < a → a < length source → ends_line (drop a source) ≡ false
@@ -257,8 +257,8 @@ enters_good source levels line at a ts rooted lt some plain far near edge =
     let n : length (levels ++ between source line a ∷ []) - 1 ≡ length levels - 1 + 1 = omega (arith, length-append levels (between source line a ∷ [])) in (
       rooted-append levels (between source line a ∷ []) rooted,
       λ rest.
-        indent_good source (length levels - 1) 0 false at line a ts far (indent_token source line a lt some plain near edge)
-        (subst (λ k. Good source k 0 true a ts) n (rest true a (nothing a))),
+          indent_good source (length levels - 1) 0 false at line a ts far (indent_token source line a lt some plain near edge)
+          (subst (λ k. Good source k 0 true a ts) n (rest true a (nothing a))),
     )
 
 levelled_at : (source : Bytes) (levels : List Bytes) (at a : ℕ) (ts : List Token) (x y : List Bytes × List Token) → levels_ok x ≡ levels_ok y
@@ -272,10 +272,10 @@ nonempty : (source : Bytes) (levels : List Bytes) (line a : ℕ) → IsRooted le
 nonempty source levels line a (more, e) le h = elim (bool_cases (ltb line a)) [
   | inl f ↦ ltb-true line a f
   | inr f ↦
-    let same : line ≡ a = omega (arith, ltb-false line a f) in
-    let empty : between source line a ≡ [] = ap (λ k. between source line k) (sym same) ∙ between-none source line in
-    let found : ◌≡◌ {A = Option ℕ} (Some 0) None = sym (found_root more) ∙ ap (λ (v : Bytes). position (bytes_eq v) ([] ∷ more)) (sym empty) ∙ ap (position (bytes_eq (between source line a))) (sym e) ∙ h in
-    absurd cc
+      let same : line ≡ a = omega (arith, ltb-false line a f) in
+      let empty : between source line a ≡ [] = ap (λ k. between source line k) (sym same) ∙ between-none source line in
+      let found : ◌≡◌ {A = Option ℕ} (Some 0) None = sym (found_root more) ∙ ap (λ (v : Bytes). position (bytes_eq v) ([] ∷ more)) (sym empty) ∙ ap (position (bytes_eq (between source line a))) (sym e) ∙ h in
+      absurd cc
 ]
 
 level_good : (source : Bytes) (levels : List Bytes) (line at a : ℕ) (ts : List Token) (x : List Bytes × List Token) (o : Option ℕ)
@@ -286,8 +286,8 @@ level_good source levels line at a ts x (Some i) rooted le some plain far near e
     (leaves_good source levels line at a i ts rooted (position-below (bytes_eq (between source line a)) levels i is) far near edge)
 level_good source levels line at a ts x None rooted le some plain far near edge is h = elim (bool_cases (starts_with nat_eq (between source line a) (innermost levels))) [
   | inl e ↦
-    levelled_at source levels at a ts (levels ++ between source line a ∷ [], token kind.Indent line a ∷ []) x (sym (rw e refl) ∙ h)
-    (enters_good source levels line at a ts rooted (nonempty source levels line a rooted le is) some plain far near edge)
+      levelled_at source levels at a ts (levels ++ between source line a ∷ [], token kind.Indent line a ∷ []) x (sym (rw e refl) ∙ h)
+      (enters_good source levels line at a ts rooted (nonempty source levels line a rooted le is) some plain far near edge)
   | inr e ↦ let wrong : Err (BadIndent line) ≡ levels_ok x = rw e at h in absurd cc
 ]
 
@@ -327,7 +327,7 @@ placed_good source levels depth (Some line) k a b at from ts x no_line item stan
     let q = bind_ok (indented levels (between source line a) line a) (λ found. state_ok (record l { levels = found.0; fresh = None }, found.1)) p.0 p.1 in
     let line_le_a : line ≤ a = omega (arith, line_is, line_le source from a near) in
     let r = level_good source levels line at a (token k a b ∷ ts) q.0 (position (bytes_eq (between source line a)) levels) rooted line_le_a stands.0 stands.1
-        (subst (Skipped source true at) (sym line_is) far) (subst (λ n. Skipped source false n a) (sym line_is) near) i.begins refl q.1 in
+    (subst (Skipped source true at) (sym line_is) far) (subst (λ n. Skipped source false n a) (sym line_is) near) i.begins refl q.1 in
     let begun_is : p.0 ≡ (record l { levels = q.0.0; fresh = None }, q.0.1) = sym (same_state (record l { levels = q.0.0; fresh = None }, q.0.1) p.0 q.2) in
     let after : State = (state q.0.0 (depth_after (slice_index source a) depth) None, q.0.1 ++ token k a b ∷ []) in
     let is : f p.0 ≡ state_ok after = ap f begun_is in
@@ -337,10 +337,10 @@ placed_good source levels depth (Some line) k a b at from ts x no_line item stan
       rooted = r.0;
       fresh = refl;
       good = λ g.
-        let behind : Behind source (length q.0.0 - 1) 0 a (token k a b ∷ ts) =
-            λ (line_goes : Bool) (from_there : ℕ) s. lexeme_good source (length q.0.0 - 1) 0 line_goes from_there k a b ts no_line item s i (subst (λ d. Good source (length q.0.0 - 1) (depth_after (slice_index source a) d) true b ts) zero_depth g) in
-        subst (λ d. Good source (length levels - 1) d false at ((q.0.1 ++ token k a b ∷ []) ++ ts)) (sym zero_depth)
-        (subst (Good source (length levels - 1) 0 false at) (sym (append_assoc q.0.1 (token k a b ∷ []) ts)) (r.1 behind));
+          let behind : Behind source (length q.0.0 - 1) 0 a (token k a b ∷ ts) =
+          λ (line_goes : Bool) (from_there : ℕ) s. lexeme_good source (length q.0.0 - 1) 0 line_goes from_there k a b ts no_line item s i (subst (λ d. Good source (length q.0.0 - 1) (depth_after (slice_index source a) d) true b ts) zero_depth g) in
+          subst (λ d. Good source (length levels - 1) d false at ((q.0.1 ++ token k a b ∷ []) ++ ts)) (sym zero_depth)
+          (subst (Good source (length levels - 1) 0 false at) (sym (append_assoc q.0.1 (token k a b ∷ []) ts)) (r.1 behind));
     })
 
 -- the kept fields stay what they are
@@ -353,16 +353,18 @@ finish_good source levels depth o at s = finish_by o s
   where
     last_good : (line : Bool) (from : ℕ) → Skipped source (not line || nat_lt 0 depth) from (length source) → Good source 0 depth line from []
     last_good line from rest = record { balanced = refl; apart = rest; tokens = All-nil (IsToken source) }
+
     ends_good : (line : Bool) (from : ℕ) → Skipped source (not line || nat_lt 0 depth) from (length source) → Good source (length levels - 1) depth line from (dedents (length levels - 1) (length source))
     ends_good line from rest =
         subst (Good source (length levels - 1) depth line from) (append-nil (dedents (length levels - 1) (length source)))
         (subst (λ n. Good source n depth line from (dedents (length levels - 1) (length source) ++ [])) (zero-add (length levels - 1))
         (dedents_good (length levels - 1) source 0 depth line from (length source) [] (IsCharBoundary-end source) rest last_good))
+
     finish_by : (o : Option ℕ) → Skipped source (not (has_token o) || nat_lt 0 depth) at (length source)
         → Whole source (state levels depth o) at (finish (length source) (state levels depth o))
     finish_by None rest =
         newline_good source (length levels - 1) depth true at (length source) (length source) (dedents (length levels - 1) (length source)) rest
-        (record { spelled = inr (between-none source (length source)); begins = IsCharBoundary-end source; ends = IsCharBoundary-end source })
+        (record { spelled = inr (between-none source (length source)); begins = IsCharBoundary-end source; ends = IsCharBoundary-end source; empty = λ _. inr refl })
         (ends_good false (length source) (nothing (length source)))
     finish_by (Some line) rest = ends_good false at rest
 
@@ -385,7 +387,7 @@ ended_good : (c : Bool) (source : Bytes) (levels : List Bytes) (depth : ℕ) (o 
     → Ends source (state levels depth o) at b ts x
 ended_good true source levels depth None a b at from ts x deep over i rooted fresh far near h =
     let s : Skipped source true at b =
-        skipped-append source true at from b (subst (λ v. Skipped source v at from) deep far) (skipped-append source true from a b (skipped-wider source true from a near) over) in
+    skipped-append source true at from b (subst (λ v. Skipped source v at from) deep far) (skipped-append source true from a b (skipped-wider source true from a near) over) in
     ends_at source (state levels depth None) at b ts (state levels depth None, []) x h
     (record { rooted = rooted; fresh = tt; from_there = (at, subst (λ v. Skipped source v at b) (sym deep) s, λ g. g) })
 ended_good true source levels depth (Some line) a b at from ts x deep over i rooted (line_is, none) far near h =

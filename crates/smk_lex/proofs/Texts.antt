@@ -110,9 +110,9 @@ unescaped-plain [] = refl
 unescaped-plain (b ∷ z) = elim (bool_cases (b == 92)) [
   | inl e ↦ let n : plain_len (b ∷ z) ≡ 0 = rw e refl in ap (λ k. take k (b ∷ z) ++ unescaped 0 (drop k (b ∷ z))) (sym n)
   | inr e ↦
-    let n : plain_len (b ∷ z) ≡ suc (plain_len z) = plain-cons b z e in
-    let front : unescaped 0 (b ∷ z) ≡ b ∷ unescaped 0 z = rw e refl in
-    front ∙ ap (λ (v : Bytes). b ∷ v) (unescaped-plain z) ∙ ap (λ k. take k (b ∷ z) ++ unescaped 0 (drop k (b ∷ z))) (sym n)
+      let n : plain_len (b ∷ z) ≡ suc (plain_len z) = plain-cons b z e in
+      let front : unescaped 0 (b ∷ z) ≡ b ∷ unescaped 0 z = rw e refl in
+      front ∙ ap (λ (v : Bytes). b ∷ v) (unescaped-plain z) ∙ ap (λ k. take k (b ∷ z) ++ unescaped 0 (drop k (b ∷ z))) (sym n)
 ]
 
 unescaped-skip : (k : ℕ) (z : Bytes) → unescaped k z ≡ unescaped 0 (drop k z)
@@ -133,8 +133,8 @@ unescaped-next z n m k e some esc =
     let m_is : m ≡ (escape_at (drop (n + 1) z)).0 = ap (λ (p : Bytes × ℕ). p.0) esc in
     let k_is : k ≡ (escape_at (drop (n + 1) z)).1 = ap (λ (p : Bytes × ℕ). p.1) esc in
     let rest : unescaped 0 (drop n z) ≡ m ++ unescaped 0 (drop (n + 1 + k) z) =
-        ap (unescaped 0) split ∙ at_backslash (drop (n + 1) z) ∙ ap (λ (v : Bytes). v ++ unescaped 0 (drop (escape_at (drop (n + 1) z)).1 (drop (n + 1) z))) (sym m_is)
-        ∙ ap (λ i. m ++ unescaped 0 (drop i (drop (n + 1) z))) (sym k_is) ∙ ap (λ (v : Bytes). m ++ unescaped 0 v) (drop-drop k (n + 1) z) in
+    ap (unescaped 0) split ∙ at_backslash (drop (n + 1) z) ∙ ap (λ (v : Bytes). v ++ unescaped 0 (drop (escape_at (drop (n + 1) z)).1 (drop (n + 1) z))) (sym m_is)
+    ∙ ap (λ i. m ++ unescaped 0 (drop i (drop (n + 1) z))) (sym k_is) ∙ ap (λ (v : Bytes). m ++ unescaped 0 v) (drop-drop k (n + 1) z) in
     unescaped-plain z ∙ ap (λ i. take i z ++ unescaped 0 (drop i z)) (sym e) ∙ ap (λ (v : Bytes). take n z ++ v) rest
     ∙ sym (append_assoc (take n z) m (unescaped 0 (drop (n + 1 + k) z)))
 

@@ -19,7 +19,7 @@ pub data Skipped (source : Bytes) (line_ends : Bool) : ℕ → ℕ → Type 0 wh
   a_blank : (at to : ℕ) → is_in class.Blank (slice_index source at) ≡ true → Skipped source line_ends (at + 1) to → Skipped source line_ends at to
   a_comment : (at to : ℕ) → slice_index source at ≡ 35 → Skipped source line_ends (at + comment_len (drop at source)) to → Skipped source line_ends at to
   a_line_end : (at to : ℕ) → line_ends ≡ true → ends_line (drop at source) ≡ true → Skipped source line_ends (at + line_end (drop at source)) to
-    → Skipped source line_ends at to
+      → Skipped source line_ends at to
 
 -- how many brackets are open behind a token
 abbrev pub depth_behind : TokenKind → ℕ → ℕ → ℕ
@@ -73,11 +73,12 @@ Spells kind.Newline w = IsLineEnd w ⊎ (w ≡ [])
 Spells kind.Indent w = IsIndentation w
 Spells kind.Dedent w = w ≡ []
 
--- its slice spells it, and can be cut out of a text
+-- Its slice spells it, and begins and ends where a text may be cut. Only a Dedent is empty before the end of the source.
 pub record IsToken (source : Bytes) (t : Token) : Type 0 where
   pub spelled : Spells t.kind (spelling source t)
   pub begins : IsCharBoundary source t.start
   pub ends : IsCharBoundary source t.end
+  pub empty : spelling source t ≡ [] → (t.kind ≡ kind.Dedent) ⊎ (t.start ≡ length source)
 
 -- ---- the longest
 
