@@ -47,7 +47,7 @@ Cut z (Bad n) = Unit {0}
 
 -- ---- runs
 
-run-cons : (p : ℕ → Bool) (b : ℕ) (z : Bytes) → p b ≡ true → prefix_len p (b ∷ z) ≡ suc (prefix_len p z)
+pub run-cons : (p : ℕ → Bool) (b : ℕ) (z : Bytes) → p b ≡ true → prefix_len p (b ∷ z) ≡ suc (prefix_len p z)
 run-cons p b z h = rw h (omega arith)
 
 list_all-run : (p : ℕ → Bool) (z : Bytes) → list_all p (take (prefix_len p z) z) ≡ true
@@ -57,7 +57,7 @@ list_all-run p (b ∷ z) = elim (bool_cases (p b)) [
   | inr h ↦ let n : prefix_len p (b ∷ z) ≡ 0 = rw h refl in ap (λ n. list_all p (take n (b ∷ z))) n
 ]
 
-run_some : (p : ℕ → Bool) (z : Bytes) → 0 < length z → p (slice_index z 0) ≡ true → 1 ≤ prefix_len p z
+pub run_some : (p : ℕ → Bool) (z : Bytes) → 0 < length z → p (slice_index z 0) ≡ true → 1 ≤ prefix_len p z
 run_some p [] some h = absurd (omega arith)
 run_some p (b ∷ z) some h = omega (arith, run-cons p b z h)
 
@@ -92,7 +92,7 @@ comment_cut (b ∷ z) some plain h =
     let n : comment_len (b ∷ z) ≡ suc (comment_len z) = rw plain refl in
     (omega arith, comment_within (b ∷ z), inr (eqb-true b 35 h, refl))
 
-left_of : (v : Bool) → (v || false) ≡ true → v ≡ true
+pub left_of : (v : Bool) → (v || false) ≡ true → v ≡ true
 left_of true h = refl
 left_of false h = absurd cc
 
@@ -167,13 +167,13 @@ is_minus z = elim (bool_cases (slice_index z 0 == 45)) [
 ]
 
 -- a fraction at a place, and how many bytes it has
-record Fraction (z : Bytes) (at : ℕ) : Type 0 where
-  bytes : ℕ
-  ends : past_fraction z at ≡ at + bytes
-  within : at ≤ length z → at + bytes ≤ length z
-  is : IsFraction (take bytes (drop at z))
+pub record Fraction (z : Bytes) (at : ℕ) : Type 0 where
+  pub bytes : ℕ
+  pub ends : past_fraction z at ≡ at + bytes
+  pub within : at ≤ length z → at + bytes ≤ length z
+  pub is : IsFraction (take bytes (drop at z))
 
-fraction_at : (z : Bytes) (at : ℕ) → Fraction z at
+pub fraction_at : (z : Bytes) (at : ℕ) → Fraction z at
 fraction_at z at = elim (bool_cases (slice_index z at == 46 && is_ascii_digit (slice_index z (at + 1)))) [
   | inl h ↦
       let a = and_parts (slice_index z at == 46) (is_ascii_digit (slice_index z (at + 1))) h in
@@ -215,9 +215,16 @@ numeral_cut z plain h =
     let is : IsNumeral (take (numeral_len z) z) = subst (λ k. IsNumeral (take k z)) (sym len) (numeral_of z m n f.bytes (is_minus z) digits.0 f.is) in
     numeral_kind z (numeral_len z) (number_of (take (numeral_len z) z)) refl is (omega (arith, len)) (omega (arith, len, f.within inside)) plain
 
+pub numeral_cut_some : (z : Bytes) → begins_numeral z ≡ true → 1 ≤ numeral_len z
+numeral_cut_some z h =
+    let m = minus_len z in
+    let first : slice_index (drop m z) 0 ≡ slice_index z m = get_or-drop m z 0 0 ∙ (let i : m + 0 ≡ m = omega arith in ap (λ k. slice_index z k) i) in
+    let digits = digits_here (drop m z) (ap is_ascii_digit first ∙ h) in
+    omega (arith, digits.1, (fraction_at z (m + prefix_len is_ascii_digit (drop m z))).ends)
+
 -- ---- texts
 
-abbrev mark_at : Bool → ℕ
+abbrev pub mark_at : Bool → ℕ
 mark_at true = 1
 mark_at false = 0
 
@@ -267,7 +274,7 @@ mark_small : (raw : Bool) → mark_at raw ≤ 1
 mark_small true = omega arith
 mark_small false = omega arith
 
-quotes_some : (l : Bool) → 1 ≤ quotes l
+pub quotes_some : (l : Bool) → 1 ≤ quotes l
 quotes_some true = omega arith
 quotes_some false = omega arith
 
@@ -292,7 +299,7 @@ text_cut raw z mark is plain =
 
 -- ---- every piece
 
-if_cases : (P : Piece → Type 0) (b : Bool) (x y : Piece) → (b ≡ true → P x) → (b ≡ false → P y) → P (if b then x else y)
+pub if_cases : (P : Piece → Type 0) (b : Bool) (x y : Piece) → (b ≡ true → P x) → (b ≡ false → P y) → P (if b then x else y)
 if_cases P true x y f g = f refl
 if_cases P false x y f g = g refl
 

@@ -20,10 +20,11 @@ use Rattle.smk_lex.specs.declared.piece.Piece.TheVariants.{Blank, LineEnd, Lexem
 use Rattle.smk_lex.specs.Pieces.{Bytes, is_in, begins_name, is_sign, line_end, ends_line, comment_len, is_quote, quotes, escaped_len, cut}
 use Rattle.smk_lex.specs.Spelling.{Inside, closing_quotes, a_byte, a_backslash, IsName, IsDigits, IsFraction, without, with_point, IsNumeral, unsigned, negative, IsSign, sign, IsText, short, long}
 use Rattle.smk_lex.specs.Layout.{Items, token, before, by_piece, items_from, items, between, start, laid_from, or_fault, of_bytes, lexed, up_to, place_of, Gives}
-use Rattle.smk_lex.specs.Tokens.{Skipped, nothing, a_blank, a_comment, a_line_end, Apart, Balanced, Spells, IsLineEnd, IsToken}
+use Rattle.smk_lex.specs.Tokens.{Skipped, nothing, a_blank, a_comment, a_line_end, Apart, Balanced, Spells, IsLineEnd, IsToken, IsLongest, LongestOf}
 use Rattle.smk_lex.proofs.Texts.{bool_cases, quote-below}
 use Rattle.smk_lex.proofs.Inside.{and_parts, nonzero_within, short_front}
 use Rattle.smk_lex.proofs.Cuts.{IsSpace, IsLexical, Lexed, Cut, cut_is, name_part, in_bounds}
+use Rattle.smk_lex.proofs.Longest.{Longest, cut_longest}
 use Rattle.smk_lex.proofs.Walk.{with_front, one_piece, blank, lexeme, line_end as past_line_end}
 use Rattle.smk_lex.proofs.Order.{tokens_ok}
 use Rattle.smk_lex.proofs.Laid.{skipped-append, IsItem, Item, Found, Good, laid_start, line_byte}
@@ -167,12 +168,31 @@ lexical_item kind.Dedent source a b lexical lt plain = absurd lexical
 not_empty : (source : Bytes) (at len : ℕ) → Edges (take len (drop at source)) → between source at (at + len) ≡ [] → ⊥
 not_empty source at len e none = let n : length (take len (drop at source)) ≡ 0 = ap length (slice-is source at len ∙ none) in let some : 1 ≤ length (take len (drop at source)) = e.some in omega arith
 
-lexeme_item : (source : Bytes) (at len : ℕ) (k : TokenKind) → IsUtf8 source → at < length source → Lexed (drop at source) k len → Item source (token k at (at + len))
-lexeme_item source at len k u lt c =
-    let e = cut_at source at len c.some c.within u (edges_of k (take len (drop at source)) c.lexical c.spells) in
+longest_of : (k : TokenKind) (z : Bytes) (len : ℕ) → IsLongest z len → LongestOf k z len
+longest_of kind.Name z len h = h
+longest_of kind.Number z len h = h
+longest_of kind.Spelling z len h = h
+longest_of kind.Text z len h = h
+longest_of kind.Sign z len h = h
+longest_of kind.Newline z len h = tt
+longest_of kind.Indent z len h = tt
+longest_of kind.Dedent z len h = tt
+
+lexeme_item : (source : Bytes) (at len : ℕ) (k : TokenKind) → IsUtf8 source → at < length source → Lexed (drop at source) k len → IsLongest (drop at source) len
+    → Item source (token k at (at + len))
+lexeme_item source at len k u lt c most =
+    let edges = edges_of k (take len (drop at source)) c.lexical c.spells in
+    let e = cut_at source at len c.some c.within u edges in
+    let n : len ≡ at + len - at = omega arith in
     record {
       is = lexical_item k source at (at + len) c.lexical lt c.plain;
-      token_is = record { spelled = subst (Spells k) (slice-is source at len) c.spells; begins = e.0; ends = e.1; empty = λ none. absurd (not_empty source at len (edges_of k (take len (drop at source)) c.lexical c.spells) none) };
+      token_is = record {
+        spelled = subst (Spells k) (slice-is source at len) c.spells;
+        begins = e.0;
+        ends = e.1;
+        empty = λ none. absurd (not_empty source at len edges none);
+        longest = subst (LongestOf k (drop at source)) n (longest_of k (drop at source) len most);
+      };
     }
 
 -- a line end by its length
@@ -212,7 +232,7 @@ newline_item source at u h =
     let e = cut_at source at (line_end z) l.1 l.2 u (line_edges (take (line_end z) z) l.0) in
     record {
       is = a_line_end at (at + line_end z) refl h (nothing (at + line_end z));
-      token_is = record { spelled = subst (Spells kind.Newline) (slice-is source at (line_end z)) (inl l.0); begins = e.0; ends = e.1; empty = λ none. absurd (not_empty source at (line_end z) (line_edges (take (line_end z) z) l.0) none) };
+      token_is = record { spelled = subst (Spells kind.Newline) (slice-is source at (line_end z)) (inl l.0); begins = e.0; ends = e.1; empty = λ none. absurd (not_empty source at (line_end z) (line_edges (take (line_end z) z) l.0) none); longest = tt };
     }
 
 blanks_skipped : (n : ℕ) (source : Bytes) (at : ℕ) → n ≤ length (drop at source) → list_all (is_in class.Blank) (take n (drop at source)) ≡ true → Skipped source false at (at + n)
@@ -249,8 +269,8 @@ Rest fuel = (source : Bytes) (at : ℕ) → IsUtf8 source → at ≤ length sour
     → Found source at (items_from 0 at (drop at source)).0
 
 by_cut : (p : Piece) (fuel : ℕ) (source : Bytes) (at : ℕ) → Rest fuel → IsUtf8 source → at < length source → length source ≤ at + suc fuel → (items_from 0 at (drop at source)).1 ≡ None
-    → cut (drop at source) ≡ p → Cut (drop at source) p → Found source at (items_from 0 at (drop at source)).0
-by_cut (Blank len) fuel source at rest u lt le h e c =
+    → cut (drop at source) ≡ p → Cut (drop at source) p → Longest (drop at source) p → Found source at (items_from 0 at (drop at source)).0
+by_cut (Blank len) fuel source at rest u lt le h e c most =
     let z = drop at source in
     let some : 0 < length z = omega (arith, length-drop at source) in
     let within : len ≤ length source - at = omega (arith, c.1, length-drop at source) in
@@ -258,7 +278,7 @@ by_cut (Blank len) fuel source at rest u lt le h e c =
     let same : items_from 0 at z ≡ items_from 0 (at + len) (drop (at + len) source) = blank [] at len z some one e ∙ ap (λ (v : Bytes). items_from 0 (at + len) v) (drop-drop len at source) in
     let next = rest source (at + len) u (omega arith) (omega arith) (sym (ap (λ (x : Items). x.1) same) ∙ h) in
     subst (λ (x : Items). Found source at x.0) (sym same) (found_behind source at (at + len) _ (space_skipped source at len c.1 c.2) next)
-by_cut (LineEnd len) fuel source at rest u lt le h e c =
+by_cut (LineEnd len) fuel source at rest u lt le h e c most =
     let z = drop at source in
     let some : 0 < length z = omega (arith, length-drop at source) in
     let l = line_is z c.1 in
@@ -270,7 +290,7 @@ by_cut (LineEnd len) fuel source at rest u lt le h e c =
     let next = rest source (at + len) u (omega arith) (omega arith) (sym (ap (λ (x : Items). x.1) same) ∙ h) in
     let item = subst (λ k. Item source (token kind.Newline at (at + k))) (sym len_is) (newline_item source at u c.1) in
     subst (λ (x : Items). Found source at x.0) (sym same) (nothing at, item, next)
-by_cut (Lexeme k len) fuel source at rest u lt le h e c =
+by_cut (Lexeme k len) fuel source at rest u lt le h e c most =
     let z = drop at source in
     let some : 0 < length z = omega (arith, length-drop at source) in
     let one : 1 ≤ len = c.some in
@@ -278,12 +298,12 @@ by_cut (Lexeme k len) fuel source at rest u lt le h e c =
     let same : items_from 0 at z ≡ before (token k at (at + len)) (items_from 0 (at + len) (drop (at + len) source)) =
     lexeme [] k at len z some one e ∙ ap (λ (v : Bytes). before (token k at (at + len)) (items_from 0 (at + len) v)) (drop-drop len at source) in
     let next = rest source (at + len) u (omega arith) (omega arith) (sym (ap (λ (x : Items). x.1) same) ∙ h) in
-    subst (λ (x : Items). Found source at x.0) (sym same) (nothing at, lexeme_item source at len k u lt c, next)
-by_cut Open fuel source at rest u lt le h e c =
+    subst (λ (x : Items). Found source at x.0) (sym same) (nothing at, lexeme_item source at len k u lt c most, next)
+by_cut Open fuel source at rest u lt le h e c most =
     let z = drop at source in
     let some : 0 < length z = omega (arith, length-drop at source) in
     let wrong = sym (ap (λ (x : Items). x.1) (one_piece at 1 z Open some (omega arith) e)) ∙ h in absurd cc
-by_cut (Bad n) fuel source at rest u lt le h e c =
+by_cut (Bad n) fuel source at rest u lt le h e c most =
     let z = drop at source in
     let some : 0 < length z = omega (arith, length-drop at source) in
     let wrong = sym (ap (λ (x : Items). x.1) (one_piece at 1 z (Bad n) some (omega arith) e)) ∙ h in absurd cc
@@ -293,7 +313,7 @@ found_from zero = λ source at u le ge h. nothing_left source at le (omega arith
 found_from (suc fuel) = λ source at u le ge h. elim (bool_cases (ltb at (length source))) [
   | inl e ↦
       let lt : at < length source = ltb-true at (length source) e in
-      by_cut (cut (drop at source)) fuel source at (found_from fuel) u lt ge h refl (cut_is (drop at source) (omega (arith, length-drop at source)))
+      by_cut (cut (drop at source)) fuel source at (found_from fuel) u lt ge h refl (cut_is (drop at source) (omega (arith, length-drop at source))) (cut_longest (drop at source) (omega (arith, length-drop at source)))
   | inr e ↦ nothing_left source at le (ltb-false at (length source) e)
 ]
 

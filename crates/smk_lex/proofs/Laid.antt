@@ -92,7 +92,7 @@ between-none : (source : Bytes) (a : ℕ) → between source a a ≡ []
 between-none source a = let e : a - a ≡ 0 = omega arith in ap (λ n. take n (drop a source)) e
 
 dedent_token : (source : Bytes) (a : ℕ) → IsCharBoundary source a → IsToken source (token kind.Dedent a a)
-dedent_token source a edge = record { spelled = between-none source a; begins = edge; ends = edge; empty = λ _. inl refl }
+dedent_token source a edge = record { spelled = between-none source a; begins = edge; ends = edge; empty = λ _. inl refl; longest = tt }
 
 -- so many Dedents at a place, before the tokens from there on
 dedents_good : (n : ℕ) (source : Bytes) (deep depth : ℕ) (line : Bool) (at a : ℕ) (ts : List Token) → IsCharBoundary source a
@@ -207,7 +207,7 @@ indent_token : (source : Bytes) (a b : ℕ) → a < b → b < length source → 
     → IsToken source (token kind.Indent a b)
 indent_token source a b lt le plain s edge =
     let n : length (between source a b) ≡ b - a = length-take-le (b - a) (drop a source) (omega (arith, length-drop a source)) in
-    record { spelled = (omega (arith, n), (blanks source a b le plain s).1); begins = first_edge source a b lt le s; ends = edge; empty = λ none. let zero_long : length (between source a b) ≡ 0 = ap length none in absurd (omega (arith, n)) }
+    record { spelled = (omega (arith, n), (blanks source a b le plain s).1); begins = first_edge source a b lt le s; ends = edge; empty = λ none. let zero_long : length (between source a b) ≡ 0 = ap length none in absurd (omega (arith, n)); longest = tt }
 
 -- ---- the first token of a line
 
@@ -364,7 +364,7 @@ finish_good source levels depth o at s = finish_by o s
         → Whole source (state levels depth o) at (finish (length source) (state levels depth o))
     finish_by None rest =
         newline_good source (length levels - 1) depth true at (length source) (length source) (dedents (length levels - 1) (length source)) rest
-        (record { spelled = inr (between-none source (length source)); begins = IsCharBoundary-end source; ends = IsCharBoundary-end source; empty = λ _. inr refl })
+        (record { spelled = inr (between-none source (length source)); begins = IsCharBoundary-end source; ends = IsCharBoundary-end source; empty = λ _. inr refl; longest = tt })
         (ends_good false (length source) (nothing (length source)))
     finish_by (Some line) rest = ends_good false at rest
 

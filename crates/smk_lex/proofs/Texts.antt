@@ -72,7 +72,7 @@ bounds_at w mark l e f room opens closes =
 closes_at : (w : Bytes) (n k q : ℕ) → length w - k ≡ n → slice_index w n ≡ q → q < 128 → slice_index w (length w - k) < 128
 closes_at w n k q e is below = subst (λ m. slice_index w m < 128) (sym e) (omega (arith, is))
 
-long_again : (q : ℕ) (w : Bytes) → opens_long (q ∷ q ∷ q ∷ w) ≡ true
+pub long_again : (q : ℕ) (w : Bytes) → opens_long (q ∷ q ∷ q ∷ w) ≡ true
 long_again q w = let e : (q == q) ≡ true = eq-eqb q q refl in rw e refl
 
 pub text_bounds : (w : Bytes) → IsText w → Bounds w

@@ -73,13 +73,6 @@ Spells kind.Newline w = IsLineEnd w ⊎ (w ≡ [])
 Spells kind.Indent w = IsIndentation w
 Spells kind.Dedent w = w ≡ []
 
--- Its slice spells it, and begins and ends where a text may be cut. Only a Dedent is empty before the end of the source.
-pub record IsToken (source : Bytes) (t : Token) : Type 0 where
-  pub spelled : Spells t.kind (spelling source t)
-  pub begins : IsCharBoundary source t.start
-  pub ends : IsCharBoundary source t.end
-  pub empty : spelling source t ≡ [] → (t.kind ≡ kind.Dedent) ⊎ (t.start ≡ length source)
-
 -- ---- the longest
 
 pub data IsLexeme : Bytes → Type 0 where
@@ -91,3 +84,21 @@ pub data IsLexeme : Bytes → Type 0 where
 -- every lexeme that begins at these bytes has at most so many
 abbrev pub IsLongest : Bytes → ℕ → Type 0
 IsLongest z len = (w rest : Bytes) → IsLexeme w → z ≡ w ++ rest → length w ≤ len
+
+-- a lexeme is the longest that begins at its place; the others are no lexemes
+abbrev pub LongestOf : TokenKind → Bytes → ℕ → Type 0
+LongestOf kind.Newline z len = Unit {0}
+LongestOf kind.Indent z len = Unit {0}
+LongestOf kind.Dedent z len = Unit {0}
+LongestOf _ z len = IsLongest z len
+
+-- ---- a token
+
+-- Its slice spells it, and begins and ends where a text may be cut. A lexeme is the longest
+-- that begins at its place. Only a Dedent is empty before the end of the source.
+pub record IsToken (source : Bytes) (t : Token) : Type 0 where
+  pub spelled : Spells t.kind (spelling source t)
+  pub begins : IsCharBoundary source t.start
+  pub ends : IsCharBoundary source t.end
+  pub empty : spelling source t ≡ [] → (t.kind ≡ kind.Dedent) ⊎ (t.start ≡ length source)
+  pub longest : LongestOf t.kind (drop t.start source) (t.end - t.start)
