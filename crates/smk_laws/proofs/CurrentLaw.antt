@@ -2,15 +2,18 @@
 use Rattle.std.proofs.Common.{◌≡◌, ◌⊎◌, Bool, true, false, cond, List, [], ◌∷◌, ◌++◌, find, sym, ap, inl, inr, ◌∙◌, Some, option_map}
 use Rattle.std.specs.Prelude.{bytes_eq}
 use Rattle.smk_base.proofs.Places.{same_place}
+use Rattle.smk_world.specs.World.{reading}
 use Rattle.smk_world.specs.Trees.{Path}
 use Rattle.smk_pattern.specs.Bound.{BoundFills}
 use Rattle.smk_flow.specs.Flows.{Flow}
-use Rattle.smk_store.specs.Images.{Image}
+use Rattle.smk_store.specs.Images.{Image, seen}
 use Rattle.smk_chain.specs.declared.jobs.Known.{Known}
 use Rattle.smk_chain.specs.Derive.{Listings, listing}
 use Rattle.smk_pick.specs.declared.settings.Settings.{Settings}
 use Rattle.smk_plan.specs.States.{Plan, Progress, IsPlan, LastPlan, Last, Then, AreListed, files_listed, new_listings}
-use Rattle.smk_laws.specs.Current.{AtRest, CurrentMeansClean}
+use Rattle.smk_laws.specs.Current.{AtRest, CurrentMeansClean, CurrentMeansCleanInWorlds}
+use Rattle.smk_laws.proofs.CurrentComplete.{seen_is_complete}
+use Rattle.smk_laws.proofs.Valid.{records_valid}
 use Rattle.smk_laws.proofs.CurrentLists.{map_in, find_in}
 use Rattle.smk_laws.proofs.CurrentChosen.{mapped}
 use Rattle.smk_laws.proofs.CurrentMeaning.{current_clean}
@@ -64,4 +67,16 @@ current_means_clean fills flow act has_fields image H settings progress L plan r
       derived = l.0;
       rest = rest.rest;
       fields = rest.fields;
+    }) p inn current
+
+pub current_means_clean_in_worlds : BoundFills → CurrentMeansCleanInWorlds
+current_means_clean_in_worlds fills flow o has_fields w H settings progress L plan sound listed last rest fields p inn current =
+    current_means_clean fills flow o.act has_fields (seen o.read w) H settings progress L plan (record {
+      sound = sound.now;
+      complete = seen_is_complete o.read w sound.formed;
+      valid = records_valid o.read w.names (λ q. reading (w.nodes q));
+      listed = listed;
+      last = last;
+      rest = rest;
+      fields = fields;
     }) p inn current

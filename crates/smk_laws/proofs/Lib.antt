@@ -14,5 +14,8 @@ pub mod CurrentWalked
 pub mod CurrentApart
 pub mod CurrentTrees
 pub mod CurrentProducts
+pub mod CurrentComplete
 pub mod CurrentMeaning
 pub mod CurrentLaw
+pub mod CurrentChoices
+pub mod CurrentNeeded

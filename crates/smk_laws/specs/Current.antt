@@ -1,14 +1,15 @@
 -- The law that what a plan calls current is clean: a target that is current holds what a clean run from the sources gives.
-use Rattle.std.specs.Prelude.{◌≡◌, Bool, true, false, [], Some, is_some, IsTrue, Contains}
+use Rattle.std.specs.Prelude.{◌≡◌, ℕ, Bool, true, false, List, [], Option, Some, is_some, IsTrue, Contains}
 use Rattle.smk_base.specs.declared.tree.Tree.{Tree}
+use Rattle.smk_world.specs.World.{World, IsFormed}
 use Rattle.smk_world.specs.Trees.{Path, Act, among}
 use Rattle.smk_record.specs.declared.record.Record.{Record}
 use Rattle.smk_record.specs.Records.{is_valid}
 use Rattle.smk_flow.specs.declared.job.Job.{Job}
 use Rattle.smk_flow.specs.Flows.{Flow}
-use Rattle.smk_store.specs.Images.{Image, record_at, is_known, tree_now}
+use Rattle.smk_store.specs.Images.{Image, record_at, is_known, tree_now, seen}
 use Rattle.smk_store.specs.Trust.{Versions, none_eased}
-use Rattle.smk_store.specs.Soundness.{Sound}
+use Rattle.smk_store.specs.Soundness.{Outside, Sound, SoundWorld}
 use Rattle.smk_chain.specs.Derive.{Listings}
 use Rattle.smk_chain.specs.Mean.{Setting, setting_of, clean_value}
 use Rattle.smk_pick.specs.declared.settings.Settings.{Settings}
@@ -50,3 +51,23 @@ CurrentMeansClean =
     (p : Path) →
     Contains settings.targets p →
     IsTrue (is_current image settings progress plan p) → IsClean (setting_of flow act has_fields image) image p
+
+-- The image that a formed world reads as is complete.
+abbrev pub SeenIsComplete : Type 0
+SeenIsComplete = (read : List ℕ → Option Record) (w : World) → IsFormed w → IsComplete (seen read w)
+
+-- The same of a sound world, which gives all that the law asks of the image: by the last plan of a chain that began from no
+-- listing, or from those of directories' records, at a moment at which no job is running, a target that is current is clean.
+abbrev pub CurrentMeansCleanInWorlds : Type 0
+CurrentMeansCleanInWorlds =
+    (flow : Flow) (o : Outside) (has_fields : Job → Bool) (w : World) (H : Versions) (settings : Settings) (progress : Progress)
+    (L : Listings) (plan : Plan) →
+    SoundWorld o w H →
+    AreListed (seen o.read w) L →
+    LastPlan flow (seen o.read w) settings progress L plan →
+    progress.running ≡ [] →
+    ((j : Job) → Contains plan.jobs j → is_open_now (seen o.read w) settings progress plan j ≡ false → has_fields j ≡ true) →
+    (p : Path) →
+    Contains settings.targets p →
+    IsTrue (is_current (seen o.read w) settings progress plan p) →
+    IsClean (setting_of flow o.act has_fields (seen o.read w)) (seen o.read w) p

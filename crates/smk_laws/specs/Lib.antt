@@ -2,3 +2,4 @@ pub mod Histories
 pub mod Current
 pub mod Protocol
 pub mod Midway
+pub mod Choices

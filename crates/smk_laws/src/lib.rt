@@ -1,2 +1,22 @@
 //! Laws over the definitions of a run and of its histories.
 #![tactic(auto)]
+
+ghost use Rattle.smk_pattern.specs.Bound.{BoundFills};
+ghost use Rattle.smk_laws.specs.Choices.{SameChoice, StaysAvailable};
+ghost use Rattle.smk_laws.specs.Current.{CurrentMeansClean, CurrentMeansCleanInWorlds, SeenIsComplete};
+
+/// The law that what a plan calls current is clean: in a sound folder a target that is current by the last plan holds what a clean
+/// run from the sources gives. A sound world gives what is asked of the folder.
+pub fn current_is_clean()
+    ensures clean { BoundFills → CurrentMeansClean }
+    ensures in_worlds { BoundFills → CurrentMeansCleanInWorlds }
+    ensures complete { SeenIsComplete }
+{
+}
+
+/// Laws of choice: what is available stays so at a greater depth, and choice looks at no content.
+pub fn choice_is_settled()
+    ensures deeper { StaysAvailable }
+    ensures same { SameChoice }
+{
+}

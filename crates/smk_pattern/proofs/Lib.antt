@@ -1,1 +1,12 @@
+pub mod Meaning
+pub mod Steps
+pub mod Unique
+pub mod Sound
+pub mod First
+pub mod Split
+pub mod Filled
+pub mod Names
+pub mod WrittenBy
+pub mod Ends
+pub mod Limited
 mod Rows

@@ -4,7 +4,7 @@ use Rattle.std.specs.List.{flat_map, range_with_len}
 use Rattle.std.specs.Int.{is_in_range}
 use Rattle.smk_base.specs.declared.tree.Pair.{Pair}
 use Rattle.smk_pattern.specs.Limits.{meets}
-use Rattle.smk_pattern.specs.Shapes.{Text, Part, Wildcard, Shape, IsNumbered}
+use Rattle.smk_pattern.specs.Shapes.{Text, Part, Wildcard, Shape, IsNumbered, AreTexts}
 use Rattle.smk_pattern.specs.Shapes.Part.{text, wild}
 use Rattle.smk_pattern.specs.Fitting.{Fits, IsBinding, bound_pairs}
 use Rattle.smk_pattern.specs.Reading.{by_name, fill, shape_of}
@@ -62,6 +62,7 @@ abbrev pub BoundIsBinding : Type 0
 BoundIsBinding =
     (p : Shape) (path : Text) →
     IsNumbered p.parts 0 (length p.wildcards) →
+    AreTexts p.parts →
     IsUtf8 path →
     ((values : List Text) → bound p path ≡ Some values → IsBinding p path values)
     × (bound p path ≡ None → (values : List Text) → ¬ Fits p path values)

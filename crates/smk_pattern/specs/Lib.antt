@@ -1,7 +1,15 @@
 pub mod Limits
+pub mod Compiled
+pub mod Testers
 pub mod Shapes
 pub mod Pieces
 pub mod Fitting
+pub mod Binding
 pub mod Grammar
 pub mod Reading
 pub mod Bound
+pub mod Searching
+pub mod Tables
+pub mod Filling
+pub mod Written
+pub mod Splitting

@@ -1,5 +1,5 @@
 -- What the pieces and wildcards that code holds are.
-use Rattle.std.specs.Prelude.{List, map}
+use Rattle.std.specs.Prelude.{List, map, option_map}
 use Rattle.smk_pattern.specs.declared.pattern.Piece.{Piece}
 use Rattle.smk_pattern.specs.declared.pattern.Piece.TheVariants.{Literal, Wild}
 use Rattle.smk_pattern.specs.declared.pattern.Wildcard as code
@@ -14,7 +14,7 @@ abbrev pub parts_of : List Piece → List Part
 parts_of = map part_of
 
 abbrev pub wildcard_of : code.Wildcard → Wildcard
-wildcard_of w = record { name = w.name; limit = w.limit }
+wildcard_of w = record { name = w.name; limit = option_map (λ l. l.value) w.limit }
 
 abbrev pub wildcards_of : List code.Wildcard → List Wildcard
 wildcards_of = map wildcard_of

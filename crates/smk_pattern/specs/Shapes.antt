@@ -1,5 +1,5 @@
 -- What a pattern is.
-use Rattle.std.specs.Prelude.{◌≡◌, ◌⊎◌, ◌<◌, ◌+◌, ℕ, List, [], ◌∷◌, Option}
+use Rattle.std.specs.Prelude.{◌≡◌, ◌⊎◌, ◌<◌, ◌+◌, ℕ, List, [], ◌∷◌, Option, IsUtf8}
 
 -- a text, as its bytes
 abbrev pub Text : Type 0
@@ -25,3 +25,9 @@ IsNumbered [] known all = known ≡ all
 IsNumbered (text t ∷ ps) known all = IsNumbered ps known all
 IsNumbered (wild n ∷ ps) known all =
     ((n < known) × IsNumbered ps known all) ⊎ ((n ≡ known) × (known < all) × IsNumbered ps (known + 1) all)
+
+-- each text of these parts is UTF-8
+abbrev pub AreTexts : List Part → Type 0
+AreTexts [] = Unit {0}
+AreTexts (text t ∷ ps) = IsUtf8 t × AreTexts ps
+AreTexts (wild n ∷ ps) = AreTexts ps

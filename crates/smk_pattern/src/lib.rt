@@ -1,6 +1,21 @@
 //! Patterns of paths with wildcards.
 #![tactic(auto)]
 
+mod filling;
+mod fitting;
+mod laws;
+mod limit;
 mod pattern;
+mod reading;
+mod search;
+mod splitting;
+mod table;
+mod tester;
 
+pub use filling::fill;
+pub use fitting::fits;
+pub use laws::bound_is_binding;
 pub use pattern::{Binding, FillFault, Pattern, PatternFault};
+
+#[cfg(test)]
+mod tests;

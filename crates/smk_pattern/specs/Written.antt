@@ -1,0 +1,46 @@
+-- Whether a text is written as a pattern, computed from its pieces.
+use Rattle.std.specs.Prelude.{◌≡◌, ℕ, Bool, true, List, [], ◌∷◌, ◌++◌, ◌&&◌, ◌||◌, ◌==◌, length, nat_le, if◌then◌else◌, Some, slice_get}
+use Rattle.std.specs.List.{list_all}
+use Rattle.smk_base.specs.declared.tree.Pair.{Pair}
+use Rattle.smk_base.specs.Path.{is_path}
+use Rattle.smk_pattern.specs.Shapes.{Text, Wildcard}
+use Rattle.smk_pattern.specs.Grammar.{Piece, plain, hole, is_name, is_balanced, inline_limits, limit_for}
+use Rattle.smk_pattern.specs.Reading.{pieces, names_in, place_of, has_wildcards}
+use Rattle.smk_pattern.specs.Limits.{IsLimit}
+
+abbrev pub is_named : Piece → Bool
+is_named (plain t) = true
+is_named (hole name limit) = is_name name
+
+-- the name has at most one constraint in these pieces
+abbrev pub is_single : List Piece → Text → Bool
+is_single ps name = nat_le (length (inline_limits name ps)) 1
+
+-- wildcards have names, a name has at most one constraint, and there are 1 to 1,000 pieces
+abbrev pub are_written : List Piece → Bool
+are_written ps = list_all is_named ps && (list_all (is_single ps) (names_in ps) && (nat_le 1 (length ps) && nat_le (length ps) 1000))
+
+-- the text is written as a pattern; without wildcards it is a path
+abbrev pub is_written : Text → Bool
+is_written t = is_balanced 0 t && (are_written (pieces t) && (has_wildcards t || is_path t))
+
+-- the names, where the piece's is one of them
+abbrev pub with_name : Piece → List Text → List Text
+with_name (plain t) names = names
+with_name (hole name limit) names = if place_of name names == length names then names ++ name ∷ [] else names
+
+-- the wildcard of this name
+abbrev pub wildcard_in : List Pair → List Piece → Text → Wildcard
+wildcard_in given ps name = record { name = name; limit = limit_for given name (inline_limits name ps) }
+
+-- the constraint of each of these names can be one
+abbrev pub AreLimits : List Pair → List Piece → List Text → Type 0
+AreLimits given ps names = (n : ℕ) (name limit : Text) → slice_get names n ≡ Some name → limit_for given name (inline_limits name ps) ≡ Some limit → IsLimit limit
+
+-- the constraint of this name, which is one of these, can't be one
+pub record IsBadLimit (given : List Pair) (ps : List Piece) (names : List Text) (name : Text) : Type 0 where
+  pub n : ℕ
+  pub at : slice_get names n ≡ Some name
+  pub limit : Text
+  pub is : limit_for given name (inline_limits name ps) ≡ Some limit
+  pub bad : ¬ IsLimit limit

@@ -1,0 +1,9 @@
+//! Laws of the definitions.
+
+ghost use Rattle.smk_pattern.specs.Bound.{BoundIsBinding};
+
+/// The binding that is computed for a path is there exactly where some values fit, and it is the one whose wildcards are longest, the
+/// first one first.
+pub fn bound_is_binding()
+    ensures { BoundIsBinding }
+{}

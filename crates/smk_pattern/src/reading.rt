@@ -1,0 +1,330 @@
+//! Texts read as patterns.
+
+ghost use Rattle.std.specs.Prelude.{◌≡◌, ◌<◌, ◌≤◌, ◌==◌, ◌&&◌, ◌||◌, IfOk, OnOk, List, ℕ, Some, None, true, false, map, option_map, length, nat_le};
+ghost use Rattle.std.specs.List.{list_all, list_any};
+ghost use Rattle.std.specs.Int.{is_in_range};
+ghost use Rattle.smk_base.specs.Path.{is_path};
+ghost use Rattle.smk_pattern.specs.Grammar.{is_letter, is_name, is_balanced, inline_limits, given_limit, limit_for};
+ghost use Rattle.smk_pattern.specs.Reading.{place_of, part_in, names_in, is_hole, has_wildcards, pieces, shape_of};
+ghost use Rattle.smk_pattern.specs.Written.{is_named, is_single, are_written, is_written, with_name, wildcard_in, AreLimits, IsBadLimit};
+ghost use Rattle.smk_pattern.specs.Splitting.{written_of, all_written};
+ghost use Rattle.smk_pattern.specs.Pieces.{part_of, parts_of, wildcard_of, wildcards_of};
+ghost use Rattle.smk_pattern.specs.Searching.{now_of};
+ghost use Rattle.smk_pattern.specs.Limits.{IsLimit};
+
+use crate::limit::{Limit, LimitFault};
+use crate::pattern::{Pattern, PatternFault, Piece, Wildcard};
+use crate::splitting::{Written, split};
+use smk_base::{List, OutOfMemory, Pair, PathFault, PathText, Text};
+use std::alloc::{AllocFailed, Global};
+use std::rc::Rc;
+
+// How many pieces a pattern has at most.
+const MOST_PIECES: usize = 1000;
+
+impl From<OutOfMemory> for PatternFault {
+    ghost use Rattle.std.specs.Prelude.{◌≡◌};
+    ghost use Rattle.smk_pattern.specs.declared.pattern.PatternFault.{PatternFault};
+
+    ghost from_gives = { λ _ fault. fault ≡ PatternFault.OutOfMemory };
+
+    fn from(_: OutOfMemory) -> PatternFault {
+        PatternFault::OutOfMemory
+    }
+}
+
+impl<T: Drop> From<AllocFailed<T>> for PatternFault {
+    ghost use Rattle.std.specs.Prelude.{◌≡◌};
+    ghost use Rattle.smk_pattern.specs.declared.pattern.PatternFault.{PatternFault};
+
+    ghost from_gives = { λ _ fault. fault ≡ PatternFault.OutOfMemory };
+
+    fn from(_: AllocFailed<T>) -> PatternFault {
+        PatternFault::OutOfMemory
+    }
+}
+
+// Whether the byte may begin a name.
+fn is_letter(byte: u8) -> bool
+    ensures { result ≡ is_letter byte }
+{
+    (b'A'..=b'Z').contains(&byte) || (b'a'..=b'z').contains(&byte) || byte == b'_'
+}
+
+// Whether the byte may stand in a name.
+fn is_name_byte(byte: u8) -> bool
+    ensures { result ≡ (is_letter byte || is_in_range 0x30 0x39 byte) }
+{
+    is_letter(byte) || (b'0'..=b'9').contains(&byte)
+}
+
+// Whether each byte may stand in a name.
+fn are_name_bytes(bytes: &[u8]) -> bool
+    ensures { result ≡ list_all (λ c. is_letter c || is_in_range 0x30 0x39 c) bytes.now }
+{
+    for byte in bytes {
+        if !is_name_byte(*byte) {
+            return false;
+        }
+    }
+    true
+}
+
+// Whether the text can be a name.
+fn is_name(text: &str) -> bool
+    ensures { result ≡ is_name text.now }
+{
+    match text.as_bytes() {
+        [] => false,
+        [first, later @ ..] => is_letter(*first) && are_name_bytes(later),
+    }
+}
+
+// Whether each wildcard has a name.
+fn are_named(written: &[Written<'_>]) -> bool
+    ensures { result ≡ list_all is_named (all_written written.now) }
+{
+    match written {
+        [] => true,
+        [Written::Plain(_), later @ ..] => are_named(later),
+        [Written::Hole(name, _), later @ ..] => is_name(name) && are_named(later),
+    }
+}
+
+// Whether there is a wildcard.
+fn has_hole(written: &[Written<'_>]) -> bool
+    ensures { result ≡ list_any is_hole (all_written written.now) }
+{
+    match written {
+        [] => false,
+        [Written::Plain(_), later @ ..] => has_hole(later),
+        [Written::Hole(_, _), ..] => true,
+    }
+}
+
+// How many constraints stand at the name.
+fn limit_count(written: &[Written<'_>], name: &str) -> usize
+    ensures value { result ≡ length (inline_limits name.now (all_written written.now)) }
+    ensures within { result ≤ length written.now }
+{
+    match written {
+        [] => 0,
+        [Written::Hole(other, Some(_)), later @ ..] if name == *other => {
+            1 + limit_count(later, name)
+        }
+        [_, later @ ..] => limit_count(later, name),
+    }
+}
+
+// Whether each of the names has at most one constraint.
+fn are_single(written: &[Written<'_>], names: &[&str]) -> bool
+    ensures { result ≡ list_all (is_single (all_written written.now)) (now_of names.now) }
+{
+    match names {
+        [] => true,
+        [name, later @ ..] => limit_count(written, name) <= 1 && are_single(written, later),
+    }
+}
+
+// Whether the text is a path.
+fn is_path(alloc: Global, text: &str) -> Result<bool, OutOfMemory>
+    ensures { IfOk result (λ path. path ≡ is_path text.now) }
+{
+    match PathText::read(alloc, text) {
+        Ok(_) => Ok(true),
+        Err(PathFault::BadPath) => Ok(false),
+        Err(PathFault::OutOfMemory) => Err(OutOfMemory),
+    }
+}
+
+// How many names stand before this one.
+fn place_of(name: &str, names: &[&str]) -> usize
+    ensures value { result ≡ place_of name.now (now_of names.now) }
+    ensures within { result ≤ length names.now }
+{
+    match names {
+        [] => 0,
+        [other, later @ ..] => {
+            if name == *other {
+                0
+            } else {
+                1 + place_of(name, later)
+            }
+        }
+    }
+}
+
+// Adds the name of the piece, where it has one that isn't there.
+fn add_name<'t>(names: &mut Vec<&'t str>, piece: &Written<'t>) -> Result<(), OutOfMemory>
+    ensures { OnOk result (now_of names.new.items ≡ with_name (written_of piece.now) (now_of names.old.items)) }
+{
+    if let Written::Hole(name, _) = piece {
+        if place_of(name, names) == names.len() {
+            names.push(name)?;
+        }
+    }
+    Ok(())
+}
+
+// The names, each where it first stands.
+fn names_in<'t>(alloc: Global, written: &[Written<'t>]) -> Result<Vec<&'t str>, OutOfMemory>
+    ensures { IfOk result (λ names. now_of names.items ≡ names_in (all_written written.now)) }
+{
+    let mut names = Vec::new(alloc);
+    for piece in written {
+        add_name(&mut names, piece)?;
+    }
+    Ok(names)
+}
+
+// The piece, its wildcard by number.
+fn numbered(alloc: Global, piece: &Written<'_>, names: &[&str]) -> Result<Piece, OutOfMemory>
+    ensures { IfOk result (λ made. part_of made ≡ part_in (now_of names.now) (written_of piece.now)) }
+{
+    match piece {
+        Written::Plain(text) => Ok(Piece::Literal(Text::of(alloc, text)?)),
+        Written::Hole(name, _) => Ok(Piece::Wild(place_of(name, names))),
+    }
+}
+
+// The pieces, their wildcards by number.
+fn all_numbered(
+    alloc: Global,
+    written: &[Written<'_>],
+    names: &[&str],
+) -> Result<List<Piece>, OutOfMemory>
+    ensures { IfOk result (λ made. parts_of made ≡ map (part_in (now_of names.now)) (all_written written.now)) }
+{
+    let mut made = List::new(alloc);
+    for piece in written {
+        made.push(numbered(alloc, piece, names)?)?;
+    }
+    Ok(made)
+}
+
+// The constraint that is given for the name.
+fn given_limit<'l>(name: &str, limits: &'l [Pair]) -> Option<&'l str>
+    ensures { option_map (λ l. l.now) result ≡ given_limit name.now limits.now }
+{
+    for limit in limits {
+        if name == limit.name.as_str() {
+            return Some(limit.value.as_str());
+        }
+    }
+    None
+}
+
+// The constraint of the name: the one that stands at it, or else the one that is given.
+fn limit_of<'l>(name: &str, written: &[Written<'l>], limits: &'l [Pair]) -> Option<&'l str>
+    ensures { option_map (λ l. l.now) result ≡ limit_for limits.now name.now (inline_limits name.now (all_written written.now)) }
+{
+    match written {
+        [] => given_limit(name, limits),
+        [Written::Hole(other, Some(limit)), ..] if name == *other => Some(limit),
+        [_, later @ ..] => limit_of(name, later, limits),
+    }
+}
+
+// What is made of the constraint of the name.
+fn compiled(
+    alloc: Global,
+    name: &str,
+    limit: Option<&str>,
+) -> Result<Option<Rc<Limit>>, PatternFault>
+    ensures text { IfOk result (λ made. option_map (λ l. l.value) made ≡ option_map (λ l. l.now) limit.entry) }
+    ensures read { OnOk result ((text : List ℕ) → option_map (λ l. l.now) limit.entry ≡ Some text → IsLimit text) }
+    ensures bad_pattern { result ≡ Err PatternFault.BadPattern → ⊥ }
+    ensures bad { (bad : List ℕ) → result ≡ Err (PatternFault.BadConstraint bad)
+        → (bad ≡ name.now) × ((text : List ℕ) × (option_map (λ l. l.now) limit.entry ≡ Some text) × ¬ IsLimit text) }
+{
+    let Some(text) = limit else {
+        return Ok(None);
+    };
+    match Limit::read(alloc, text) {
+        Ok(limit) => Ok(Some(Rc::new(alloc, limit)?)),
+        Err(LimitFault::NoRegex) => Err(PatternFault::BadConstraint(Text::of(alloc, name)?)),
+        Err(LimitFault::OutOfMemory) => Err(PatternFault::OutOfMemory),
+    }
+}
+
+// The wildcards with their constraints.
+fn wildcards_in(
+    alloc: Global,
+    written: &[Written<'_>],
+    names: &[&str],
+    limits: &[Pair],
+) -> Result<List<Wildcard>, PatternFault>
+    ensures made { IfOk result (λ made. wildcards_of made ≡ map (wildcard_in limits.now (all_written written.now)) (now_of names.now)) }
+    ensures read { OnOk result (AreLimits limits.now (all_written written.now) (now_of names.now)) }
+    ensures bad_pattern { result ≡ Err PatternFault.BadPattern → ⊥ }
+    ensures bad { (bad : List ℕ) → result ≡ Err (PatternFault.BadConstraint bad)
+        → IsBadLimit limits.now (all_written written.now) (now_of names.now) bad }
+{
+    let mut made = List::new(alloc);
+    for name in names {
+        let limit = compiled(alloc, name, limit_of(name, written, limits))?;
+        made.push(Wildcard {
+            name: Text::of(alloc, name)?,
+            limit,
+        })?;
+    }
+    Ok(made)
+}
+
+// Whether the text that is split so is written as a pattern.
+fn is_good(
+    alloc: Global,
+    text: &str,
+    written: &[Written<'_>],
+    names: &[&str],
+) -> Result<bool, OutOfMemory>
+    requires balanced { is_balanced 0 text.now ≡ true }
+    requires pieces { all_written written.now ≡ pieces text.now }
+    requires names { now_of names.now ≡ names_in (all_written written.now) }
+    requires some { 1 ≤ length written.now }
+    requires few { length written.now ≤ 1000 }
+    ensures { IfOk result (λ good. good ≡ is_written text.now) }
+{
+    if !are_named(written) || !are_single(written, names) {
+        return Ok(false);
+    }
+    if has_hole(written) {
+        return Ok(true);
+    }
+    is_path(alloc, text)
+}
+
+impl Pattern {
+    /// Reads the text as a pattern, with these constraints for its names: one that stands in the text wins, and one whose name doesn't
+    /// stand in it isn't looked at.
+    ///
+    /// `BadPattern` where the text isn't written as a pattern. `BadConstraint` with the first name, in the order in which they first
+    /// stand, in whose constraint `regex` reads no pattern or finds one that nests too deep. `OutOfMemory` where there is no memory,
+    /// also for what `regex` makes of a constraint.
+    pub fn read(alloc: Global, text: &str, limits: &List<Pair>) -> Result<Pattern, PatternFault>
+        ensures written { OnOk result (is_written text.now ≡ true) }
+        ensures shape { IfOk result (λ p. p ≡ shape_of limits.now text.now) }
+        ensures read { OnOk result (AreLimits limits.now (pieces text.now) (names_in (pieces text.now))) }
+        ensures bad_pattern { result ≡ Err PatternFault.BadPattern → is_written text.now ≡ false }
+        ensures bad_constraint { (name : List ℕ) → result ≡ Err (PatternFault.BadConstraint name)
+            → (is_written text.now ≡ true) × IsBadLimit limits.now (pieces text.now) (names_in (pieces text.now)) name }
+    {
+        let Some(written) = split(alloc, text)? else {
+            return Err(PatternFault::BadPattern);
+        };
+        if written.is_empty() {
+            return Err(PatternFault::BadPattern);
+        }
+        if written.len() > MOST_PIECES {
+            return Err(PatternFault::BadPattern);
+        }
+        let names = names_in(alloc, &written)?;
+        if !is_good(alloc, text, &written, &names)? {
+            return Err(PatternFault::BadPattern);
+        }
+        Ok(Pattern {
+            pieces: all_numbered(alloc, &written, &names)?,
+            wildcards: wildcards_in(alloc, &written, &names, limits.as_slice())?,
+        })
+    }
+}
