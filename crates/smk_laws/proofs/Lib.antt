@@ -3,3 +3,5 @@ mod Vouched
 pub mod Valid
 pub mod Same
 pub mod Steps
+pub mod Finite
+mod Copied
