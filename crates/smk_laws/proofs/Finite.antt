@@ -15,9 +15,7 @@ use Rattle.smk_store.specs.declared.store.Kept.TheVariants.{Held}
 use Rattle.smk_store.specs.Images.{Image, Content, content_of, readable, is_source, source_at, core_at, is_whole}
 use Rattle.smk_store.specs.Trust.{Versions, none_eased}
 use Rattle.smk_store.specs.Soundness.{Sound, Holds}
-
 use Rattle.smk_chain.proofs.Folders.{image_with, kept_in}
-
 
 none_some : {A : Type 0} {B : Type 0} (x : A) → None ≡ Some x → B
 none_some x h = absurd (none x h)
