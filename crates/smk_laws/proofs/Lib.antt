@@ -19,3 +19,5 @@ pub mod CurrentMeaning
 pub mod CurrentLaw
 pub mod CurrentChoices
 pub mod CurrentNeeded
+pub mod Finite
+mod Copied
