@@ -4,7 +4,6 @@ use Rattle.std.specs.Prelude.{bytes_eq}
 use Rattle.smk_base.proofs.Places.{same_place}
 use Rattle.smk_world.specs.World.{reading}
 use Rattle.smk_world.specs.Trees.{Path}
-use Rattle.smk_pattern.specs.Bound.{BoundFills}
 use Rattle.smk_flow.specs.Flows.{Flow}
 use Rattle.smk_store.specs.Images.{Image, seen}
 use Rattle.smk_chain.specs.declared.jobs.Known.{Known}
@@ -16,6 +15,8 @@ use Rattle.smk_laws.proofs.CurrentComplete.{seen_is_complete}
 use Rattle.smk_laws.proofs.Valid.{records_valid}
 use Rattle.smk_laws.proofs.CurrentLists.{map_in, find_in}
 use Rattle.smk_laws.proofs.CurrentChosen.{mapped}
+use Rattle.smk_laws.proofs.CurrentFills.{bound_fills_from}
+use Rattle.smk_laws.proofs.CurrentNumbers.{numbered_all}
 use Rattle.smk_laws.proofs.CurrentMeaning.{current_clean}
 
 find_either : {A : Type 0} (test : A → Bool) (xs ys : List A) (z : A) → find test (xs ++ ys) ≡ Some z → (find test xs ≡ Some z) ⊎ (find test ys ≡ Some z)
@@ -56,10 +57,10 @@ module _ (flow : Flow) (image : Image) (settings : Settings) (progress : Progres
       go f files (inl a) = h f files a
       go f files (inr b) = new_listed p f files b
 
-pub current_means_clean : BoundFills → CurrentMeansClean
-current_means_clean fills flow act has_fields image H settings progress L plan rest p inn current =
+pub current_means_clean : CurrentMeansClean
+current_means_clean flow act has_fields image H settings progress L plan rest p inn current =
     let l = last_listed flow image settings progress L plan rest.last rest.listed in
-    current_clean flow act has_fields image H settings progress plan fills (record {
+    current_clean flow act has_fields image H settings progress plan (bound_fills_from numbered_all) (record {
       sound = rest.sound;
       complete = rest.complete;
       valid = rest.valid;
@@ -69,9 +70,9 @@ current_means_clean fills flow act has_fields image H settings progress L plan r
       fields = rest.fields;
     }) p inn current
 
-pub current_means_clean_in_worlds : BoundFills → CurrentMeansCleanInWorlds
-current_means_clean_in_worlds fills flow o has_fields w H settings progress L plan sound listed last rest fields p inn current =
-    current_means_clean fills flow o.act has_fields (seen o.read w) H settings progress L plan (record {
+pub current_means_clean_in_worlds : CurrentMeansCleanInWorlds
+current_means_clean_in_worlds flow o has_fields w H settings progress L plan sound listed last rest fields p inn current =
+    current_means_clean flow o.act has_fields (seen o.read w) H settings progress L plan (record {
       sound = sound.now;
       complete = seen_is_complete o.read w sound.formed;
       valid = records_valid o.read w.names (λ q. reading (w.nodes q));

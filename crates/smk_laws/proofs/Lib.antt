@@ -14,6 +14,8 @@ pub mod CurrentWalked
 pub mod CurrentApart
 pub mod CurrentTrees
 pub mod CurrentProducts
+pub mod CurrentFills
+pub mod CurrentNumbers
 pub mod CurrentComplete
 pub mod CurrentMeaning
 pub mod CurrentLaw

@@ -6,11 +6,12 @@ ghost use Rattle.smk_laws.specs.Choices.{SameChoice, StaysAvailable};
 ghost use Rattle.smk_laws.specs.Current.{CurrentMeansClean, CurrentMeansCleanInWorlds, SeenIsComplete};
 
 /// The law that what a plan calls current is clean: in a sound folder a target that is current by the last plan holds what a clean
-/// run from the sources gives. A sound world gives what is asked of the folder.
+/// run from the sources gives. A sound world gives what is asked of the folder. And a binding fills its pattern to its path.
 pub fn current_is_clean()
-    ensures clean { BoundFills → CurrentMeansClean }
-    ensures in_worlds { BoundFills → CurrentMeansCleanInWorlds }
+    ensures clean { CurrentMeansClean }
+    ensures in_worlds { CurrentMeansCleanInWorlds }
     ensures complete { SeenIsComplete }
+    ensures fills { BoundFills }
 {
 }
 
