@@ -1,4 +1,2 @@
 pub mod Histories
 pub mod Current
-pub mod Protocol
-pub mod Midway
