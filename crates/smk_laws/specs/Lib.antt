@@ -1,5 +1,3 @@
 pub mod Histories
 pub mod Current
-pub mod Protocol
-pub mod Midway
 pub mod Choices

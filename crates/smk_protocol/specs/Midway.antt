@@ -18,7 +18,7 @@ use Rattle.smk_record.specs.Records.{stamped, serials, members_of}
 use Rattle.smk_store.specs.Images.{Image, stands, is_source, file_at, core_at, record_at, members_under, tree_now}
 use Rattle.smk_store.specs.Trust.{Eased, none_eased, Clear, Versions}
 use Rattle.smk_store.specs.Soundness.{Outside, Sound, SoundWorld, EachImage, SameSources, NoNewRecord, HasKnown}
-use Rattle.smk_laws.specs.Protocol.{Phase, Marking, Running, Ended, Firm, Recorded, Dropped, OpenJob, RunState, outputs, own, eased, begun_with, record_of, listed_of, kept_at, keeps, is_running, IsApart, IsAtHand, now, Runs}
+use Rattle.smk_protocol.specs.Protocol.{Phase, Marking, Running, Ended, Firm, Recorded, Dropped, OpenJob, RunState, outputs, own, eased, begun_with, record_of, listed_of, kept_at, keeps, is_running, IsApart, IsAtHand, now, Runs}
 
 -- ## Words on phases
 

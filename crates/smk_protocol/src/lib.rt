@@ -1,0 +1,2 @@
+//! The protocol of a run, and the law that it keeps every crash image sound.
+#![tactic(auto)]
