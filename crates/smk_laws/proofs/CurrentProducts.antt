@@ -4,7 +4,7 @@ use Rattle.std.specs.Prelude.{bytes_eq, nat_lt, nat_le, ◌==◌, ◌++◌}
 use Rattle.std.specs.List.{list_any, list_all}
 use Rattle.smk_base.specs.declared.tree.Tree.{Tree}
 use Rattle.smk_base.specs.declared.tree.Tree.TheVariants.{File, Folder}
-use Rattle.smk_base.specs.Path.{is_under, is_path}
+use Rattle.smk_base.specs.Path.{is_under}
 use Rattle.smk_base.proofs.Places.{same_place, place_itself}
 use Rattle.smk_base.proofs.Under.{never_under_itself}
 use Rattle.smk_world.specs.declared.event.Node.{Node}
@@ -79,8 +79,8 @@ plain_record r h plain =
     let three = and_right (nat_le 1 r.made) _ two in
     let four = and_right (list_all (is_earlier r.made) r.stamps) _ three in
     let five = and_right (are_rising (map (λ (w : Pair). w.name) r.recipe.wildcards)) _ four in
-    let six = and_right (list_all is_path (in_paths r.recipe)) _ five in
-    let seven = and_right (list_all is_path (out_paths r.recipe)) _ six in
+    let six = and_right (list_all is_path_text (in_paths r.recipe)) _ five in
+    let seven = and_right (list_all is_path_text (out_paths r.recipe)) _ six in
     nil r.members
     (go (among (folders_of r.recipe) r.path) plain
     (and_left (cond (among (folders_of r.recipe) r.path) (are_valid_members r.path r.members) (are_none r.members)) true seven))
