@@ -5,6 +5,7 @@ pub mod Apart
 pub mod Aside
 pub mod Basics
 pub mod Between
+pub mod Bridge
 pub mod Calls
 pub mod Chains
 pub mod Change
