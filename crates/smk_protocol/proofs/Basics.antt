@@ -1,6 +1,6 @@
 -- Lists of which each has a property, and lists from which one is taken out.
-use Rattle.std.proofs.Common.{◌≡◌, ◌⊎◌, Bool, true, false, List, [], ◌∷◌, ◌++◌, refl, sym, subst, inl, inr, arith, Option, Some, None}
-use Rattle.std.specs.Prelude.{bytes_eq, IsTrue, filter, if◌then◌else◌, ◌||◌}
+use Rattle.std.proofs.Common.{◌≡◌, ◌⊎◌, Bool, true, false, List, [], ◌∷◌, ◌++◌, refl, sym, subst, inl, inr, arith, Option, Some, None, ap}
+use Rattle.std.specs.Prelude.{bytes_eq, IsTrue, filter, if◌then◌else◌, ◌||◌, ◌&&◌}
 use Rattle.std.specs.List.{list_any}
 use Rattle.smk_world.specs.Trees.{Path, among, IsIn, Each}
 use Rattle.smk_base.proofs.Places.{same_place}
@@ -120,3 +120,7 @@ in_among (q ∷ ps) p h = go (bytes_eq p q) refl h (in_among ps p)
     go : (b : Bool) → bytes_eq p q ≡ b → (b || among ps p) ≡ true → (IsTrue (among ps p) → IsIn ps p) → IsIn (q ∷ ps) p
     go true e h ih = inl (same_place p q e)
     go false e h ih = inr (ih h)
+
+pub pick_none : {A : Type 0} (a b : Bool) (x y : A) → b ≡ false → (if a && b then x else y) ≡ y
+pick_none true b x y h = ap (λ (v : Bool). if v then x else y) h
+pick_none false b x y h = refl
