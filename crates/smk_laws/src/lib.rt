@@ -12,12 +12,10 @@ pub fn current_is_clean()
     ensures in_worlds { CurrentMeansCleanInWorlds }
     ensures complete { SeenIsComplete }
     ensures fills { BoundFills }
-{
-}
+{}
 
 /// Laws of choice: what is available stays so at a greater depth, and choice looks at no content.
 pub fn choice_is_settled()
     ensures deeper { StaysAvailable }
     ensures same { SameChoice }
-{
-}
+{}
