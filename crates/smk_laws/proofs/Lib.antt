@@ -21,3 +21,4 @@ pub mod CurrentMeaning
 pub mod CurrentLaw
 pub mod CurrentChoices
 pub mod CurrentNeeded
+pub mod CurrentAtExit

@@ -3,3 +3,4 @@ pub mod Current
 pub mod Protocol
 pub mod Midway
 pub mod Choices
+pub mod AtExit

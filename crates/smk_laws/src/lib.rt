@@ -2,14 +2,17 @@
 #![tactic(auto)]
 
 ghost use Rattle.smk_pattern.specs.Bound.{BoundFills};
+ghost use Rattle.smk_laws.specs.AtExit.{CurrentAtExitIsClean};
 ghost use Rattle.smk_laws.specs.Choices.{SameChoice, StaysAvailable};
 ghost use Rattle.smk_laws.specs.Current.{CurrentMeansClean, CurrentMeansCleanInWorlds, SeenIsComplete};
 
 /// The law that what a plan calls current is clean: in a sound folder a target that is current by the last plan holds what a clean
-/// run from the sources gives. A sound world gives what is asked of the folder. And a binding fills its pattern to its path.
+/// run from the sources gives. A sound world gives what is asked of the folder, and at a run's exit a plan of which nothing is refused
+/// the rest. And a binding fills its pattern to its path.
 pub fn current_is_clean()
     ensures clean { CurrentMeansClean }
     ensures in_worlds { CurrentMeansCleanInWorlds }
+    ensures at_exit { CurrentAtExitIsClean }
     ensures complete { SeenIsComplete }
     ensures fills { BoundFills }
 {}
