@@ -1,5 +1,5 @@
 -- The law of current targets in the words of a run: a plan of which nothing is refused has all its commands' fields.
-use Rattle.std.proofs.Common.{◌≡◌, Bool, true, false, cond, List, [], ◌∷◌, ◌++◌, map, filter, flat_map, zip, refl, sym, ap, subst, ◌∙◌, Option, Some, None, option_map, is_none, true≢false, Contains}
+use Rattle.std.proofs.Common.{◌≡◌, Bool, true, false, cond, List, [], ◌∷◌, map, filter, flat_map, zip, refl, sym, ap, subst, ◌∙◌, Option, Some, None, option_map, is_none, true≢false, Contains}
 use Rattle.std.specs.List.{find, list_any}
 use Rattle.std.specs.Prelude.{bytes_eq}
 use Rattle.smk_world.specs.declared.event.Child.{Child}
@@ -9,13 +9,11 @@ use Rattle.smk_pattern.specs.Shapes.{Text}
 use Rattle.smk_flow.specs.declared.job.Job.{Job}
 use Rattle.smk_flow.specs.Flows.{rule_name}
 use Rattle.smk_store.specs.Images.{Image}
-use Rattle.smk_chain.specs.Derive.{Listings, listing}
 use Rattle.smk_trigger.specs.declared.reason.Reason.{Reason}
 use Rattle.smk_trigger.specs.declared.reason.State.{State}
 use Rattle.smk_trigger.specs.declared.reason.State.TheVariants.{Open}
 use Rattle.smk_trigger.specs.JobStates.{is_open}
-use Rattle.smk_plan.specs.States.{Plan, Progress, IsPlan, AreListed, is_open_now, state_of, by_table, by_reasons, or_state, job_path, staged, files_listed, reasons}
-use Rattle.smk_report.specs.declared.fault.Fault.{Fault}
+use Rattle.smk_plan.specs.States.{Plan, Progress, IsPlan, AreListed, is_open_now, state_of, by_table, by_reasons, or_state, job_path, staged, reasons}
 use Rattle.smk_report.specs.declared.fault.Fault.TheVariants as fault
 use Rattle.smk_drive.specs.Moments.{Rules, Begun, seen, progress_of, is_child_of}
 use Rattle.smk_drive.specs.Refusals.{refused_of, incomplete, guarded, above_limit, ahead, of_command}
