@@ -22,3 +22,4 @@ pub mod CurrentLaw
 pub mod CurrentChoices
 pub mod CurrentNeeded
 pub mod CurrentAtExit
+pub mod CurrentStamps

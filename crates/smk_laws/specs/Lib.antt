@@ -4,3 +4,4 @@ pub mod Protocol
 pub mod Midway
 pub mod Choices
 pub mod AtExit
+pub mod Stamps
