@@ -1,12 +1,10 @@
 -- A stamp that is a time is that of a source, whose bytes the versions have.
-use Rattle.std.proofs.Common.{◌≡◌, ℕ, Bool, true, false, cond, List, refl, sym, ap, subst, ◌∙◌, arith, Option, Some, None, option_map, option_and_then}
-use Rattle.smk_world.specs.Trees.{Path, Act}
-use Rattle.smk_record.specs.declared.record.Stamp.{Stamp}
+use Rattle.std.proofs.Common.{◌≡◌, ℕ, Bool, true, false, cond, refl, subst, arith, Option, Some, None, option_and_then}
+use Rattle.smk_world.specs.Trees.{Path}
 use Rattle.smk_record.specs.declared.record.Stamp.TheVariants.{Time, Made}
 use Rattle.smk_record.specs.declared.record.Record.{Record}
 use Rattle.smk_store.specs.Images.{Content, Image, source_at, is_source, core_at}
-use Rattle.smk_store.specs.Trust.{Eased, Versions, holder, made_stamp, unmarked_stamp, time_stamp, stamp_now}
-use Rattle.smk_store.specs.Soundness.{Sound}
+use Rattle.smk_store.specs.Trust.{holder, made_stamp, unmarked_stamp, time_stamp}
 use Rattle.smk_laws.specs.Stamps.{StampTells}
 use Rattle.smk_laws.proofs.CurrentChosen.{mapped}
 use Rattle.smk_laws.proofs.CurrentLists.{none_some}
