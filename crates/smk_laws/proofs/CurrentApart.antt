@@ -1,22 +1,19 @@
 -- Without a Clash the outputs of a plan lie apart from one another and from what is known at other paths.
 use Rattle.std.proofs.Common.{◌≡◌, ◌⊎◌, Bool, true, false, not, cond, ◌&&◌, ◌||◌, List, [], ◌∷◌, ◌++◌, map, filter, flat_map, find, zip, refl, sym, ap, subst, inl, inr, ◌∙◌, Option, Some, None, is_some, true≢false}
 use Rattle.std.specs.Prelude.{bytes_eq}
-use Rattle.smk_laws.proofs.CurrentLists.{In, in_left, in_right, in_map, in_flat, filter_nil, map_nil, append_nil_left, append_nil_right, find_in, in_distinct, or_cases, or_first, clash_of, and_both, some_inj, none_some, or_right}
+use Rattle.smk_laws.proofs.CurrentLists.{In, in_left, in_right, in_map, in_flat, filter_nil, map_nil, append_nil_left, append_nil_right, find_in, or_cases, or_first, clash_of, and_both, none_some, or_right}
 use Rattle.smk_laws.proofs.CurrentPaths.{Touch, touch_overlaps, touch_turned, Above, above_touch, among_in}
 use Rattle.smk_laws.proofs.CurrentChosen.{folders_paths}
-use Rattle.smk_base.proofs.Places.{place_itself, same_place}
+use Rattle.smk_base.proofs.Places.{same_place}
 use Rattle.smk_base.specs.Path.{is_under, overlaps}
 use Rattle.smk_laws.specs.Current.{IsComplete}
-use Rattle.smk_chain.specs.Derive.{Clash, clashes, distinct, has_record_or_mark, hinders, job, jobs, spots}
-use Rattle.smk_choose.specs.Choose.{maker}
-use Rattle.smk_flow.specs.Flows.{outputs}
+use Rattle.smk_chain.specs.Derive.{Clash, clashes, has_record_or_mark, hinders, spots}
 use Rattle.smk_flow.specs.declared.job.Job.{Job}
 use Rattle.smk_plan.specs.States.{makes}
 use Rattle.smk_record.specs.declared.record.Record.{Record}
 use Rattle.smk_store.specs.Images.{Image, readable, record_at, stands}
 use Rattle.smk_store.specs.declared.store.Kept.{Kept}
-use Rattle.smk_trigger.specs.Reasons.{held}
-use Rattle.smk_world.specs.Trees.{Path, among, first, folder_over, folders_of}
+use Rattle.smk_world.specs.Trees.{Path, among, folder_over, folders_of}
 use Rattle.smk_world.specs.World.{out_paths}
 
 abbrev pub Spot : Type 0

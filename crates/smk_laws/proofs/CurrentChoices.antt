@@ -1,5 +1,5 @@
 -- Choice looks at sources alone, and what is available stays so at a greater depth.
-use Rattle.std.proofs.Common.{◌≡◌, ℕ, zero, suc, Bool, true, false, List, refl, sym, ap, true≢false}
+use Rattle.std.proofs.Common.{◌≡◌, ℕ, zero, suc, Bool, true, false, refl, sym, ap, true≢false}
 use Rattle.std.specs.List.{list_any, list_all}
 use Rattle.smk_base.specs.Path.{is_path}
 use Rattle.smk_pattern.specs.Shapes.{Text}
@@ -7,7 +7,7 @@ use Rattle.smk_flow.specs.Flows.{Flow, Candidate, first_wants}
 use Rattle.smk_choose.specs.Choose.{Sources, avail, candidates, choose}
 use Rattle.smk_chain.specs.Derive.{sources_of}
 use Rattle.smk_laws.specs.Choices.{StaysAvailable, SameChoice}
-use Rattle.smk_laws.proofs.CurrentLists.{In, any_in, any_from, all_in, all_from, and_left, and_right}
+use Rattle.smk_laws.proofs.CurrentLists.{any_in, any_from, all_in, all_from, and_left, and_right}
 
 module _ (flow : Flow) (sources : Sources) where
   abbrev wanted : ℕ → Candidate → Bool

@@ -6,15 +6,14 @@ use Rattle.smk_laws.proofs.CurrentPaths.{folders_under}
 use Rattle.smk_world.specs.declared.recipe.Kind.TheVariants.{Plain, Folder}
 use Rattle.smk_base.specs.Path.{is_under}
 use Rattle.smk_base.specs.declared.tree.Pair.{Pair}
-use Rattle.smk_chain.specs.Derive.{Listings, job, kind_of, recipe}
+use Rattle.smk_chain.specs.Derive.{Listings, kind_of, recipe}
 use Rattle.smk_choose.specs.Choose.{Ambiguous, Choice, Lack, Make, Nothing, Source, Sources, as_member, as_output, candidate, candidates, choice, choose, fit, is_apart, is_viable, lack_of_first, leader, or_else, viable}
-use Rattle.smk_flow.specs.Flows.{Candidate, Flow, makes_folder, numbered, outputs, outs}
+use Rattle.smk_flow.specs.Flows.{Candidate, Flow, makes_folder, numbered, outs}
 use Rattle.smk_flow.specs.declared.rule.FlaggedText.{FlaggedText}
 use Rattle.smk_flow.specs.declared.rule.OutPart.{OutPart}
 use Rattle.smk_flow.specs.declared.rule.RulePart.{RulePart}
 use Rattle.smk_pattern.specs.Bound.{BoundFills, binding_of}
-use Rattle.smk_pattern.specs.Reading.{by_name, fill}
-use Rattle.smk_store.specs.Images.{stands}
+use Rattle.smk_pattern.specs.Reading.{fill}
 use Rattle.smk_world.specs.Trees.{Path, first, folders_of, is_folder_kind, outs_of}
 use Rattle.smk_world.specs.World.{folders_above, out_paths}
 use Rattle.smk_world.specs.declared.recipe.Out.{Out}

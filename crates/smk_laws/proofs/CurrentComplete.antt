@@ -1,5 +1,5 @@
 -- The image of a formed world has complete lists.
-use Rattle.std.proofs.Common.{◌≡◌, ◌⊎◌, ℕ, Bool, true, false, not, cond, ◌&&◌, ◌||◌, ◌==◌, List, [], ◌∷◌, ◌++◌, map, length, drop, filter, flat_map, refl, sym, ap, subst, inl, inr, ◌∙◌, Option, Some, None, is_some, true≢false, codes}
+use Rattle.std.proofs.Common.{◌≡◌, ◌⊎◌, ℕ, Bool, true, false, not, cond, ◌&&◌, ◌||◌, ◌==◌, List, [], ◌∷◌, ◌++◌, length, drop, filter, flat_map, refl, sym, ap, subst, inl, inr, ◌∙◌, Option, Some, None, is_some, true≢false, codes}
 use Rattle.std.specs.Prelude.{bytes_eq, if◌then◌else◌}
 use Rattle.std.proofs.lemmas.Bool.{eqb-true}
 use Rattle.std.proofs.lemmas.List.{drop_at}
@@ -10,14 +10,13 @@ use Rattle.smk_base.proofs.Names.{parts_some}
 use Rattle.smk_base.proofs.Paths.{parts-joined}
 use Rattle.smk_base.proofs.Under.{no_slash}
 use Rattle.smk_world.specs.declared.event.Node.{Node}
-use Rattle.smk_world.specs.declared.event.Node.TheVariants.{Regular, Directory}
-use Rattle.smk_world.specs.World.{World, IsFormed, reading, is_named, add_names}
+use Rattle.smk_world.specs.World.{World, IsFormed, reading, is_named}
 use Rattle.smk_world.specs.Trees.{Path, is_path_text}
 use Rattle.smk_world.proofs.Names.{not_added_any}
 use Rattle.smk_record.specs.declared.record.Record.{Record}
 use Rattle.smk_store.specs.declared.store.Kept.TheVariants.{Absent}
-use Rattle.smk_store.specs.Images.{Image, stands, is_outside, without_signs, told_of, known_by, kept_by, is_known, seen}
-use Rattle.smk_laws.specs.Current.{IsComplete, SeenIsComplete}
+use Rattle.smk_store.specs.Images.{stands, is_outside, without_signs, told_of, known_by, kept_by, is_known, seen}
+use Rattle.smk_laws.specs.Current.{SeenIsComplete}
 use Rattle.smk_laws.proofs.CurrentLists.{In, in_left, in_right, in_flat, in_filter, and_left, and_right, and_both, or_cases, not_true, clash_of}
 use Rattle.smk_laws.proofs.CurrentPaths.{among_in, in_among}
 

@@ -1,18 +1,18 @@
 -- A binding, put by name, fills its pattern to its path, where the numbers of wildcards are in the order in which these first stand.
-use Rattle.std.proofs.Common.{◌≡◌, ◌⊎◌, ℕ, zero, suc, ◌+◌, ◌-◌, ◌<◌, ◌≤◌, Bool, true, false, not, cond, ◌&&◌, ◌||◌, List, [], ◌∷◌, ◌++◌, map, filter, flat_map, find, length, take, drop, get_or, reverse, refl, sym, ap, subst, inl, inr, ◌∙◌, arith, Option, Some, None, option_map, true≢false, bytes_eq, append_assoc, append-nil, length-append, take-append-drop}
+use Rattle.std.proofs.Common.{◌≡◌, ◌⊎◌, ℕ, suc, ◌+◌, ◌-◌, Bool, true, false, not, cond, ◌&&◌, List, [], ◌∷◌, ◌++◌, map, filter, flat_map, find, length, take, drop, get_or, reverse, refl, sym, ap, subst, inl, inr, ◌∙◌, arith, Option, Some, None, option_map, true≢false, bytes_eq, append_assoc, append-nil, length-append, take-append-drop}
 use Rattle.std.specs.List.{range_with_len, slice_get}
 use Rattle.std.proofs.lemmas.Bool.{eqb-true}
-use Rattle.std.proofs.lemmas.List.{get_or_append_left, length-map}
+use Rattle.std.proofs.lemmas.List.{get_or_append_left}
 use Rattle.std.proofs.lemmas.Option.{slice_get_within, slice_get-get_or}
 use Rattle.std.proofs.Math.Seq.{get_or-append_right}
 use Rattle.smk_base.specs.declared.tree.Pair.{Pair}
 use Rattle.smk_base.proofs.Places.{same_place, place_itself, same_flipped}
-use Rattle.smk_pattern.specs.Shapes.{Text, Part, Wildcard, Shape, IsNumbered}
+use Rattle.smk_pattern.specs.Shapes.{Text, Part, Wildcard, IsNumbered}
 use Rattle.smk_pattern.specs.Shapes.Part.{text, wild}
 use Rattle.smk_pattern.specs.Grammar.{Piece, plain, hole, limit_for, inline_limits}
 use Rattle.smk_pattern.specs.Fitting.{filled, bound_pairs}
 use Rattle.smk_pattern.specs.Reading.{pieces, names_in, place_of, part_in, shape_of, value, fill, fill_piece, or_empty, put, by_name, is_below}
-use Rattle.smk_pattern.specs.Bound.{begins, suits, is_cut, limit_at, bindings, first_values, bound, binding_of, BoundFills}
+use Rattle.smk_pattern.specs.Bound.{begins, suits, is_cut, limit_at, bindings, first_values, bound, BoundFills}
 use Rattle.smk_laws.proofs.CurrentChosen.{mapped}
 use Rattle.smk_laws.proofs.CurrentLists.{In, some_inj, none_some, clash_of, and_left, and_right, not_true, flat_in, in_filter, filter_in}
 
@@ -241,11 +241,10 @@ filter_apart T (n ∷ ns) h = go (T n) (filter_apart T ns h.1)
 names_apart : (ps : List Piece) → TextsApart (names_in ps)
 names_apart [] = tt
 names_apart (plain t ∷ ps) = names_apart ps
-names_apart (hole name limit ∷ ps) =
-    (
-      λ m k. same_flipped m name ∙ not_true (bytes_eq name m) ((filter_in (λ other. not (bytes_eq name other)) (names_in ps) m k).1),
-      filter_apart (λ other. not (bytes_eq name other)) (names_in ps) (names_apart ps),
-    )
+names_apart (hole name limit ∷ ps) = (
+  λ m k. same_flipped m name ∙ not_true (bytes_eq name m) ((filter_in (λ other. not (bytes_eq name other)) (names_in ps) m k).1),
+  filter_apart (λ other. not (bytes_eq name other)) (names_in ps) (names_apart ps),
+)
 
 -- ## Filling
 

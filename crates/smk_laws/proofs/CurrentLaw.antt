@@ -10,7 +10,7 @@ use Rattle.smk_chain.specs.declared.jobs.Known.{Known}
 use Rattle.smk_chain.specs.Derive.{Listings, listing}
 use Rattle.smk_pick.specs.declared.settings.Settings.{Settings}
 use Rattle.smk_plan.specs.States.{Plan, Progress, IsPlan, LastPlan, Last, Then, AreListed, files_listed, new_listings}
-use Rattle.smk_laws.specs.Current.{AtRest, CurrentMeansClean, CurrentMeansCleanInWorlds}
+use Rattle.smk_laws.specs.Current.{CurrentMeansClean, CurrentMeansCleanInWorlds}
 use Rattle.smk_laws.proofs.CurrentComplete.{seen_is_complete}
 use Rattle.smk_laws.proofs.Valid.{records_valid}
 use Rattle.smk_laws.proofs.CurrentLists.{map_in, find_in}

@@ -1,5 +1,5 @@
 -- The law of current targets over one plan: what is ready is clean.
-use Rattle.std.proofs.Common.{◌≡◌, ◌⊎◌, ℕ, zero, suc, ◌≤◌, Bool, true, false, not, cond, ◌&&◌, List, [], ◌∷◌, map, refl, sym, ap, subst, inl, inr, ◌∙◌, arith, Option, Some, None, option_map, option_and_then, IsTrue, is_some, Contains, flat_map, true≢false, eq-eqb}
+use Rattle.std.proofs.Common.{◌≡◌, ◌⊎◌, ℕ, zero, suc, Bool, true, false, cond, List, [], ◌∷◌, map, refl, sym, ap, subst, inl, inr, ◌∙◌, arith, Option, Some, None, option_map, option_and_then, IsTrue, is_some, Contains, flat_map, eq-eqb}
 use Rattle.std.specs.List.{list_any, list_all, enumerate_from}
 use Rattle.std.proofs.lemmas.List.Elements.{Contains-push, Contains-append_left, Contains-append_right, Contains-append_cases, Contains-push_cases}
 use Rattle.smk_base.specs.declared.tree.Tree.{Tree}
@@ -14,15 +14,14 @@ use Rattle.smk_record.specs.Records.{agrees, stamped, core}
 use Rattle.smk_pattern.specs.Bound.{BoundFills}
 use Rattle.smk_flow.specs.declared.job.Job.{Job}
 use Rattle.smk_flow.specs.Flows.{Flow, Candidate, gathered_folders}
-use Rattle.smk_choose.specs.Choose.{Sources, Choice, choose, choice, Source, Make, Nothing, Ambiguous, Lack, viable, leader, lack_of_first, candidates}
-use Rattle.smk_store.specs.Images.{Image, Content, source_at, file_at, is_file, is_source, is_covered, record_at, core_at, is_whole, tree_now}
-use Rattle.smk_store.specs.Trust.{Versions, holder, stamp_now, time_stamp, made_stamp, unmarked_stamp, made_at, none_eased, any_time, Clear, Speaks, Chain, Link, vir, Vir, input_value}
-use Rattle.smk_store.specs.Soundness.{Sound}
+use Rattle.smk_choose.specs.Choose.{Sources, Choice, choose, choice, Source, Make, Lack, viable, leader, lack_of_first, candidates}
+use Rattle.smk_store.specs.Images.{Image, Content, source_at, file_at, is_file, is_source, core_at, tree_now}
+use Rattle.smk_store.specs.Trust.{Versions, holder, stamp_now, time_stamp, made_stamp, unmarked_stamp, made_at, none_eased, any_time, Speaks, Chain, Link, vir, Vir, input_value}
 use Rattle.smk_chain.specs.Derive.{Listings, listing, or_none, job, recipe, wants, walk, sources_of}
 use Rattle.smk_chain.specs.Mean.{Setting, setting_of, mean, listings_of, is_runnable}
 use Rattle.smk_pick.specs.declared.settings.Settings.{Settings}
 use Rattle.smk_plan.specs.States.{Plan, Progress, is_ready, is_current}
-use Rattle.smk_laws.proofs.CurrentLists.{In, and_left, and_right, and_both, or_cases, or_first, all_from, all_in, none_some, zip_first}
+use Rattle.smk_laws.proofs.CurrentLists.{In, and_left, and_right, and_both, or_cases, all_from, none_some, zip_first}
 use Rattle.smk_laws.proofs.CurrentReach.{reached_zero, reached_step, choice_known, has_command, want_path}
 use Rattle.smk_laws.proofs.CurrentRecipes.{recipe_same, job_same, wants_same, inputs_wanted, folders_wanted}
 use Rattle.smk_laws.proofs.CurrentValues.{inputs_same, value_given, listings_agree, mean_source, mean_make, vir_make}
@@ -169,10 +168,10 @@ module _
             place = from.0;
             by = core from.1;
             speaks = record {
-                no_source = (chosen_viable flow (sources_of image) q d.0 d.1).1;
-                holder = product.holds;
-                clear = (core_reads image from.0 from.1 product.reads, inl product.unmarked);
-              };
+              no_source = (chosen_viable flow (sources_of image) q d.0 d.1).1;
+              holder = product.holds;
+              clear = (core_reads image from.0 from.1 product.reads, inl product.unmarked);
+            };
             serial = made_inj s from.1.made (made.agrees q (Made s) (Made from.1.made) k product.stamp);
             chain = ih q d.0 from.0 from.1 comes product calm;
           }

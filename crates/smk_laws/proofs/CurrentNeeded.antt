@@ -1,9 +1,7 @@
 -- What the law of current targets needs: small folders in which one premise is missing, and a target isn't clean.
-use Rattle.std.specs.Prelude.{◌≡◌, ℕ, true, false, List, [], ◌∷◌, map, codes, Some, refl}
-use Rattle.smk_base.specs.declared.tree.Tree.{Tree}
+use Rattle.std.specs.Prelude.{◌≡◌, true, false, [], ◌∷◌, map, codes, Some, refl}
 use Rattle.smk_base.specs.declared.tree.Tree.TheVariants.{File}
 use Rattle.smk_record.specs.declared.record.Stamp.TheVariants.{Time, Made}
-use Rattle.smk_record.specs.declared.record.Record.{Record}
 use Rattle.smk_flow.specs.Flows.{Flow}
 use Rattle.smk_store.specs.Images.{Image, tree_now}
 use Rattle.smk_chain.specs.Derive.{Listings}

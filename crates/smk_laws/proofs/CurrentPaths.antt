@@ -1,8 +1,8 @@
 -- Paths under paths, for the law of current targets.
-use Rattle.std.proofs.Common.{◌≡◌, ◌⊎◌, ℕ, Bool, true, false, List, [], ◌∷◌, ◌++◌, map, cond, reverse, refl, sym, ap, subst, inl, inr, ◌∙◌, eqb, eqb-true, eq-eqb}
+use Rattle.std.proofs.Common.{◌≡◌, ◌⊎◌, Bool, true, false, List, [], ◌∷◌, map, cond, reverse, refl, sym, subst, inl, inr, ◌∙◌, eqb, eq-eqb}
 use Rattle.std.specs.Prelude.{bytes_eq}
 use mathlib.Core.List.{reverse-cons}
-use Rattle.smk_base.specs.Path.{is_under, is_at_or_under, overlaps}
+use Rattle.smk_base.specs.Path.{is_under, overlaps}
 use Rattle.smk_base.proofs.Places.{same_place, place_itself}
 use Rattle.smk_base.proofs.Under.{overlaps_above_both, at_when_under, at_itself, overlaps_at, overlaps_over}
 use Rattle.smk_world.specs.World.{folders_above}

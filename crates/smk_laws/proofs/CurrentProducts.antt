@@ -1,7 +1,7 @@
 -- What a plan says of a path that one of its jobs makes, where that job is neither Open nor Dirty.
-use Rattle.std.proofs.Common.{◌≡◌, ◌⊎◌, ℕ, zero, suc, ◌+◌, Bool, true, false, not, cond, ◌&&◌, ◌||◌, List, [], ◌∷◌, map, filter, flat_map, find, length, drop, refl, sym, ap, subst, inl, inr, ◌∙◌, Option, Some, None, option_map, zip, option_and_then, reverse, IsTrue, is_some, is_none, true≢false, Contains, eqb-true}
+use Rattle.std.proofs.Common.{◌≡◌, ◌⊎◌, ℕ, zero, suc, Bool, true, false, not, cond, ◌&&◌, ◌||◌, List, [], ◌∷◌, map, filter, flat_map, find, length, refl, sym, ap, subst, inl, inr, ◌∙◌, Option, Some, None, option_map, zip, option_and_then, reverse, IsTrue, is_some, is_none, true≢false, Contains, eqb-true}
 use Rattle.std.specs.Prelude.{bytes_eq, nat_lt, nat_le, ◌==◌, ◌++◌}
-use Rattle.std.specs.List.{list_any, list_all}
+use Rattle.std.specs.List.{list_all}
 use Rattle.smk_base.specs.declared.tree.Tree.{Tree}
 use Rattle.smk_base.specs.declared.tree.Tree.TheVariants.{File, Folder}
 use Rattle.smk_base.specs.Path.{is_under}
@@ -14,7 +14,7 @@ use Rattle.smk_world.specs.declared.recipe.Kind.TheVariants.{Plain, Folder as Fo
 use Rattle.smk_world.specs.World.{in_paths, out_paths, folders_above}
 use Rattle.smk_world.specs.Trees.{Path, Act, among, below, files_of, file_in, folder_over, folders_of, kind_in, part_at, value_at, is_path_text}
 use Rattle.smk_record.specs.declared.record.Stamp.{Stamp}
-use Rattle.smk_record.specs.declared.record.Stamp.TheVariants.{Time, Made}
+use Rattle.smk_record.specs.declared.record.Stamp.TheVariants.{Made}
 use Rattle.smk_record.specs.declared.record.Record.{Record}
 use Rattle.smk_record.specs.Records.{stamped, members_of, core, is_valid, is_earlier, are_rising, are_valid_members, are_none}
 use Rattle.smk_record.specs.declared.record.Member.{Member}
@@ -26,7 +26,7 @@ use Rattle.smk_choose.specs.Choose.{Sources, choose, Make}
 use Rattle.smk_store.specs.Images.{Image, Content, content_of, is_directory, stands, file_at, is_file, is_folder, names_under, members_under, entry_under, tree_now, record_at, core_at, is_whole, is_known, is_covered, is_source, source_at}
 use Rattle.smk_store.specs.Trust.{Versions, holder, is_folder_record, made_stamp, unmarked_stamp, time_stamp, stamp_now, none_eased}
 use Rattle.smk_store.specs.Soundness.{Sound}
-use Rattle.smk_chain.specs.Derive.{Listings, listing, or_none, job, jobs, recipe, walk, refusals, clashes, spots, is_deep, distinct, sources_of, Deep, Refusal, refused_if, refused, reach, TooManyPaths}
+use Rattle.smk_chain.specs.Derive.{listing, or_none, job, jobs, recipe, walk, refusals, clashes, spots, is_deep, distinct, sources_of, Deep, Refusal, refused_if, refused, reach, TooManyPaths}
 use Rattle.smk_trigger.specs.declared.reason.Reason.{Reason}
 use Rattle.smk_trigger.specs.declared.reason.Reason.TheVariants.{Upstream}
 use Rattle.smk_trigger.specs.declared.reason.State.{State}
@@ -34,9 +34,9 @@ use Rattle.smk_trigger.specs.declared.reason.State.TheVariants.{Open, Dirty, Res
 use Rattle.smk_trigger.specs.JobStates.{is_open, is_dirty, is_clean}
 use Rattle.smk_trigger.specs.Reasons.{once}
 use Rattle.smk_pick.specs.declared.settings.Settings.{Settings}
-use Rattle.smk_plan.specs.States.{Plan, Progress, IsPlan, AreListed, reasons, is_open_now, is_ready, maker_of, state_of, by_table, by_reasons, or_state, job_path, makes, made_by, is_whole_by, stands_whole, awaits, is_at_hand, test_some, gathers_from}
+use Rattle.smk_plan.specs.States.{Plan, Progress, IsPlan, AreListed, reasons, is_open_now, is_ready, maker_of, state_of, by_table, by_reasons, or_state, job_path, makes, made_by, is_whole_by, stands_whole, awaits, is_at_hand, test_some}
 use Rattle.smk_laws.specs.Current.{IsComplete, HasValidRecords}
-use Rattle.smk_laws.proofs.CurrentLists.{In, append_nil_left, append_nil_right, map_nil, filter_nil, filter_in, any_none, all_in, in_left, find_some, or_first, or_second, or_left, or_right, and_left, and_right, not_false, not_true, in_distinct, in_map, zip_first, find_in, clash_of, some_inj, none_some}
+use Rattle.smk_laws.proofs.CurrentLists.{In, append_nil_left, append_nil_right, map_nil, filter_nil, filter_in, any_none, in_left, find_some, or_first, or_second, or_left, or_right, and_left, and_right, not_false, not_true, in_distinct, in_map, zip_first, find_in, clash_of, some_inj, none_some}
 use Rattle.smk_laws.proofs.CurrentReach.{Reached, reached_zero, reached_own, reached_step, reached_target, outcome_derived}
 use Rattle.smk_laws.proofs.CurrentRecipes.{inputs_wanted, folders_wanted}
 use Rattle.smk_laws.proofs.CurrentWalked.{walked_job}

@@ -1,12 +1,12 @@
 -- What a derivation without refusals says of each path that its walk comes to.
-use Rattle.std.proofs.Common.{◌≡◌, ◌⊎◌, ℕ, zero, suc, ◌≤◌, ◌+◌, max, Bool, true, false, not, List, [], ◌∷◌, ◌++◌, map, refl, sym, ap, subst, inl, inr, ◌∙◌, arith, Some, None, is_some, cond, flat_map, fold, eqb, false-eqb, zero-le}
+use Rattle.std.proofs.Common.{◌≡◌, ◌⊎◌, ℕ, zero, suc, ◌≤◌, ◌+◌, max, Bool, true, false, List, [], ◌∷◌, ◌++◌, map, refl, sym, ap, subst, inl, inr, ◌∙◌, arith, Some, None, is_some, flat_map, fold, eqb, false-eqb, zero-le}
 use Rattle.smk_laws.proofs.CurrentLists.{In, in_left, in_right, in_flat, in_map, flat_nil, append_nil_left, append_nil_right, cons_nil}
 use Rattle.std.specs.Prelude.{is_none, Option}
 use Rattle.smk_pattern.specs.Shapes.{Text}
 use Rattle.smk_world.specs.Trees.{folder_over}
 use Rattle.smk_chain.specs.Derive.{refused_if, is_missing, recipe}
 use Rattle.smk_base.specs.Path.{is_path}
-use Rattle.smk_chain.specs.Derive.{Derived, Listings, NoInput, Refusal, Refused, height, jobs, lacking, outcome, refused, refused_at, walk, wants}
+use Rattle.smk_chain.specs.Derive.{Derived, Listings, NoInput, Refusal, Refused, height, lacking, outcome, refused, refused_at, walk, wants}
 use Rattle.smk_choose.specs.Choose.{Ambiguous, Choice, Make, Nothing, Source, Sources, choose, maker}
 use Rattle.smk_flow.specs.Flows.{Candidate, Flow}
 use Rattle.smk_flow.specs.declared.job.Job.{Job}

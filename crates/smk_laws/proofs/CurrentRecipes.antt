@@ -1,7 +1,6 @@
 -- Of the listings a job's recipe sees only the files of the directories that it gathers from; and its inputs are among its wants.
 use Rattle.std.proofs.Common.{◌≡◌, ℕ, ◌+◌, List, [], ◌∷◌, ◌++◌, map, refl, sym, ap, subst, inl, inr, Option, Some, None, option_map, flat_map, filter_map}
 use Rattle.std.specs.List.{enumerate_from}
-use Rattle.smk_base.specs.declared.tree.Pair.{Pair}
 use Rattle.smk_world.specs.declared.recipe.Item.{Item}
 use Rattle.smk_world.specs.declared.recipe.Recipe.{Recipe}
 use Rattle.smk_world.specs.World.{in_paths}

@@ -1,5 +1,5 @@
 -- Tests that say that two things are the same, and what a job without reasons of its own has on record.
-use Rattle.std.proofs.Common.{◌≡◌, ◌⊎◌, Bool, true, false, not, cond, ◌&&◌, ◌||◌, List, [], ◌∷◌, ◌++◌, map, filter, flat_map, refl, sym, ap, subst, inl, inr, ◌∙◌, Option, Some, true≢false, eqb, eqb-true, option_to_list}
+use Rattle.std.proofs.Common.{◌≡◌, ◌⊎◌, Bool, true, false, not, cond, ◌&&◌, ◌||◌, List, [], ◌∷◌, map, filter, flat_map, refl, sym, ap, subst, inl, inr, ◌∙◌, Option, Some, true≢false, eqb, eqb-true}
 use Rattle.std.specs.Prelude.{bytes_eq}
 use Rattle.std.specs.List.{list_any}
 use lib.Pointwise.{pointwise}
@@ -16,7 +16,7 @@ use Rattle.smk_store.specs.declared.store.Kept.TheVariants.{Absent, Held, Unread
 use Rattle.smk_trigger.specs.Reasons.{once, changes_from, lacks_record, has_bad_record, all_same, changes, held, is_absent, is_unreadable, is_updated, own_reasons, same_code, same_inputs, same_item, same_job, same_out, same_out_item, same_params, same_recipe, same_values, when}
 use Rattle.smk_trigger.specs.declared.reason.Reason.{Reason}
 use Rattle.smk_trigger.specs.declared.reason.Reason.TheVariants.{BadRecord, Code, Inputs, Marked, New, Params, Updated}
-use Rattle.smk_world.specs.Trees.{Path, first, is_folder_kind}
+use Rattle.smk_world.specs.Trees.{Path, is_folder_kind}
 use Rattle.smk_world.specs.declared.recipe.Item.{Item}
 use Rattle.smk_world.specs.declared.recipe.Kind.{Kind}
 use Rattle.smk_world.specs.declared.recipe.Kind.TheVariants.{Plain, Folder}

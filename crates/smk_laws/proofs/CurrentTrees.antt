@@ -1,5 +1,5 @@
 -- Trees, and the parts of what a command gives.
-use Rattle.std.proofs.Common.{◌≡◌, ◌⊎◌, ◌+◌, ℕ, suc, Bool, true, false, not, cond, ◌&&◌, ◌||◌, List, [], ◌∷◌, ◌++◌, map, filter, find, drop, length, refl, sym, ap, subst, inl, inr, ◌∙◌, arith, Option, Some, None, option_map, option_and_then, is_some, true≢false, eqb, eqb-true}
+use Rattle.std.proofs.Common.{◌≡◌, ◌⊎◌, ◌+◌, suc, Bool, true, false, not, cond, ◌&&◌, ◌||◌, List, [], ◌∷◌, ◌++◌, map, filter, find, drop, length, refl, sym, ap, subst, inl, inr, ◌∙◌, arith, Option, Some, None, option_map, option_and_then, is_some, true≢false, eqb, eqb-true}
 use Rattle.std.specs.Prelude.{bytes_eq, ◌==◌}
 use lib.Pointwise.{pointwise}
 use Rattle.smk_base.specs.declared.tree.Tree.{Tree}
@@ -16,7 +16,7 @@ use Rattle.smk_world.specs.World.{out_paths}
 use Rattle.smk_world.specs.Trees.{Path, Act, are_good, below, file_among, file_in, outs_of, part_at, tree_among, value_at}
 use Rattle.smk_record.specs.declared.record.Member.{Member}
 use Rattle.smk_record.specs.Records.{same_member, same_flag}
-use Rattle.smk_store.specs.Images.{Image, Content, file_at, content_of, bytes_of, is_directory, is_folder, entry_under, members_under, names_under}
+use Rattle.smk_store.specs.Images.{Image, Content, file_at, bytes_of, is_directory, is_folder, entry_under, members_under, names_under}
 use Rattle.smk_laws.proofs.CurrentLists.{In, some_inj, none_some, clash_of, and_left, and_right, or_cases, or_first, or_second}
 use Rattle.smk_laws.proofs.CurrentPaths.{Touch, touch_overlaps, Above, above_touch}
 use Rattle.smk_laws.proofs.CurrentApart.{Apart}

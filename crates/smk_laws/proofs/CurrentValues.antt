@@ -12,8 +12,8 @@ use Rattle.smk_record.specs.Records.{stamped}
 use Rattle.smk_record.specs.declared.record.Record.{Record}
 use Rattle.smk_record.specs.declared.record.Stamp.{Stamp}
 use Rattle.smk_store.specs.Images.{Image, core_at}
-use Rattle.smk_store.specs.Trust.{vouched, Versions, Vir, input_value, vir}
-use Rattle.smk_world.specs.Trees.{Act, Path, all_of, files_of, first, value_at}
+use Rattle.smk_store.specs.Trust.{vouched, Versions, input_value, vir}
+use Rattle.smk_world.specs.Trees.{Act, Path, all_of, files_of, value_at}
 use Rattle.smk_world.specs.World.{in_paths}
 use Rattle.smk_world.specs.declared.recipe.Recipe.{Recipe}
 

@@ -6,9 +6,8 @@ use Rattle.smk_laws.proofs.CurrentLists.{In, in_either, flat_in, in_distinct, di
 use Rattle.smk_laws.proofs.CurrentChosen.{origin}
 use Rattle.smk_laws.proofs.CurrentSame.{pointwise_same, pair_same}
 use Rattle.smk_base.proofs.Places.{place_itself}
-use Rattle.smk_base.specs.Path.{parts}
 use Rattle.smk_base.specs.declared.tree.Pair.{Pair}
-use Rattle.smk_chain.specs.Derive.{Listings, chosen, distinct, job, same_candidate, walk, wants}
+use Rattle.smk_chain.specs.Derive.{Listings, distinct, job, same_candidate, walk, wants}
 use Rattle.smk_choose.specs.Choose.{Ambiguous, Choice, Make, Nothing, Source, Sources, choose}
 use Rattle.smk_flow.specs.Flows.{Candidate, Flow, numbered}
 use Rattle.smk_record.specs.Records.{same_pair}

@@ -23,3 +23,5 @@ pub mod CurrentChoices
 pub mod CurrentNeeded
 pub mod Finite
 mod Copied
+pub mod CurrentAtExit
+pub mod CurrentStamps

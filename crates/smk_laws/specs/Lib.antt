@@ -1,3 +1,5 @@
 pub mod Histories
 pub mod Current
 pub mod Choices
+pub mod AtExit
+pub mod Stamps

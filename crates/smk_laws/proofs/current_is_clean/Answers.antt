@@ -1,3 +1,4 @@
+use Rattle.smk_laws.proofs.CurrentAtExit.{current_at_exit_is_clean}
 use Rattle.smk_laws.proofs.CurrentComplete.{seen_is_complete}
 use Rattle.smk_laws.proofs.CurrentFills.{bound_fills_from}
 use Rattle.smk_laws.proofs.CurrentNumbers.{numbered_all}
@@ -9,6 +10,7 @@ returns c =
     record {
       clean = current_means_clean;
       in_worlds = current_means_clean_in_worlds;
+      at_exit = current_at_exit_is_clean;
       complete = seen_is_complete;
       fills = bound_fills_from numbered_all;
     }

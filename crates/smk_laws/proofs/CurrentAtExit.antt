@@ -1,0 +1,74 @@
+-- The law of current targets in the words of a run: a plan of which nothing is refused has all its commands' fields.
+use Rattle.std.proofs.Common.{◌≡◌, Bool, true, false, cond, List, [], ◌∷◌, map, filter, flat_map, zip, refl, sym, ap, subst, ◌∙◌, Option, Some, None, option_map, is_none, true≢false, Contains}
+use Rattle.std.specs.List.{find, list_any}
+use Rattle.std.specs.Prelude.{bytes_eq}
+use Rattle.smk_world.specs.declared.event.Child.{Child}
+use Rattle.smk_world.specs.World.{World}
+use Rattle.smk_world.specs.Trees.{Path}
+use Rattle.smk_pattern.specs.Shapes.{Text}
+use Rattle.smk_flow.specs.declared.job.Job.{Job}
+use Rattle.smk_flow.specs.Flows.{rule_name}
+use Rattle.smk_store.specs.Images.{Image}
+use Rattle.smk_trigger.specs.declared.reason.Reason.{Reason}
+use Rattle.smk_trigger.specs.declared.reason.State.{State}
+use Rattle.smk_trigger.specs.declared.reason.State.TheVariants.{Open}
+use Rattle.smk_trigger.specs.JobStates.{is_open}
+use Rattle.smk_plan.specs.States.{Plan, Progress, IsPlan, AreListed, is_open_now, state_of, by_table, by_reasons, or_state, job_path, staged, reasons}
+use Rattle.smk_report.specs.declared.fault.Fault.TheVariants as fault
+use Rattle.smk_drive.specs.Moments.{Rules, Begun, seen, progress_of, is_child_of}
+use Rattle.smk_drive.specs.Refusals.{refused_of, incomplete, guarded, above_limit, ahead, of_command}
+use Rattle.smk_laws.specs.AtExit.{CurrentAtExitIsClean}
+use Rattle.smk_laws.proofs.CurrentLists.{In, in_zip, flat_nil, append_nil_right, cons_nil, none_some}
+use Rattle.smk_laws.proofs.CurrentMeaning.{in_from}
+use Rattle.smk_laws.proofs.CurrentLaw.{current_means_clean_in_worlds, last_listed}
+
+none_run : (w : World) (begun : List Begun) → w.children ≡ [] → (progress_of w begun).running ≡ []
+none_run w begun h =
+    ap (λ (cs : List Child). map (λ (b : Begun). (job_path b.job, b.state)) (filter (λ (b : Begun). list_any (is_child_of b.job) cs) begun)) h
+    ∙ ap (map (λ (b : Begun). (job_path b.job, b.state))) (none_kept begun)
+  where
+    none_kept : (bs : List Begun) → filter (λ (b : Begun). false) bs ≡ []
+    none_kept [] = refl
+    none_kept (b ∷ bs) = none_kept bs
+
+none_listed : (image : Image) → AreListed image []
+none_listed image f files e = absurd (none_some None files refl e)
+
+shut_state : (b : Bool) (rs : List Reason) (x : Bool) → b ≡ false → is_open (cond b Open (by_reasons rs x)) ≡ false
+shut_state true rs x h = absurd (true≢false h)
+shut_state false [] true h = refl
+shut_state false [] false h = refl
+shut_state false (r ∷ rs) x h = refl
+
+module _ (rules : Rules) (image : Image) (progress : Progress) (plan : Plan) where
+  state_shut : progress.running ≡ [] → (j : Job) → is_open_now image rules.settings progress plan j ≡ false → is_open (state_of image rules.settings progress plan j) ≡ false
+  state_shut rest j h =
+      ap (λ (r : List (Path × State)). is_open (or_state (option_map (λ (e : Path × State). e.1) (find (λ (e : Path × State). bytes_eq e.0 (job_path j)) r)) (by_table image rules.settings progress plan j))) rest
+      ∙ shut_state (is_open_now image rules.settings progress plan j) (reasons image rules.settings progress plan j) _ h
+
+  told : (e : Job × State) (o : Option Text) → is_open e.1 ≡ false → of_command rules image progress plan e o ≡ [] → is_none o ≡ true
+  told e None shut h = refl
+  told e (Some word) shut h =
+      absurd (cons_nil (fault.UnknownField (rule_name rules.flow e.0.rule) word) []
+      (sym (ap (λ b. cond b [] (fault.UnknownField (rule_name rules.flow e.0.rule) word ∷ [])) shut) ∙ h))
+
+  fields_known :
+      IsPlan rules.flow image rules.settings progress plan → progress.running ≡ [] → refused_of rules image progress plan ≡ [] →
+      (j : Job) → Contains plan.jobs j → is_open_now image rules.settings progress plan j ≡ false → is_none (rules.missing j) ≡ true
+  fields_known is rest none j i h =
+      let one = append_nil_right (incomplete rules image progress plan) _ none in
+      let two = append_nil_right (guarded rules image progress plan) _ one in
+      let three = append_nil_right (flat_map (above_limit rules image progress plan) (ahead rules image progress plan)) _ two in
+      let e : Job × State = (j, state_of image rules.settings progress plan j) in
+      let inn : In (j, state_of image rules.settings progress plan j) (staged plan) =
+      subst (λ ss. In (j, state_of image rules.settings progress plan j) (zip plan.jobs ss)) (sym is.states)
+      (in_zip (state_of image rules.settings progress plan) plan.jobs j (in_from plan.jobs j i)) in
+      told (j, state_of image rules.settings progress plan j) (rules.missing j) (state_shut rest j h)
+      (flat_nil (λ (e : Job × State). of_command rules image progress plan e (rules.missing e.0)) (staged plan) (j, state_of image rules.settings progress plan j) three inn)
+
+pub current_at_exit_is_clean : CurrentAtExitIsClean
+current_at_exit_is_clean act rules w H begun plan sound last none p inn current =
+    let rest = none_run w begun sound.no_child in
+    let is = (last_listed rules.flow (seen rules w) rules.settings (progress_of w begun) [] plan last (none_listed (seen rules w))).0 in
+    current_means_clean_in_worlds rules.flow (record { read = rules.read; act = act }) (λ j. is_none (rules.missing j)) w H rules.settings (progress_of w begun) [] plan
+    sound (none_listed (seen rules w)) last rest (fields_known rules (seen rules w) (progress_of w begun) plan is rest none) p inn current
