@@ -28,7 +28,7 @@ never_held image None t h = none_some None (Time t) refl h
 never_held image (Some q) t h = never_unmarked (image.marked q) (core_at image q) t h
 
 pub stamp_tells : StampTells
-stamp_tells act H image eased sound p t h = go (is_source image p) h
+stamp_tells act H image sound p t h = go (is_source image p) h
   where
     go : (b : Bool) → cond b (time_stamp (source_at image p)) (option_and_then (unmarked_stamp image) (holder image p)) ≡ Some (Time t) → (f : Content) × (source_at image p ≡ Some f) × (H p t ≡ Some f.bytes)
     go true k =
