@@ -52,6 +52,7 @@ pub mod Settling
 pub mod Shrink
 pub mod Shrunk
 pub mod Sorted
+pub mod SoundViews
 pub mod Spending
 pub mod Stays
 pub mod Steadying
