@@ -1,3 +1,4 @@
 pub mod Turns
 mod Rows
 mod Steps
+mod Intermediate
