@@ -4,17 +4,20 @@
 use smk_cli::smk;
 use smk_real::{RealSink, RealWork};
 use std::alloc::{AllocError, Global};
-use std::env;
-use std::io;
 use std::io::ErrorKind;
 use std::process::ExitCode;
 use std::rt::Env;
+use std::{env, io};
 
-const HELP: &str = "smk --cores 1 TARGET\n\nMakes the target by the rule in the file Snakefile of the working folder.\n\n--help and --version, alone, tell of the program.\n";
+const HELP: &str =
+    "smk --cores 1 TARGET\n\nMakes the target by the rule in the file Snakefile of the working folder.\n\n--help and --version, alone, tell of the program.\n";
+
 const VERSION: &str = "smk 0.1.0\n";
 
 const BAD_WORDS: u8 = 2;
+
 const OUT_OF_MEMORY: u8 = 5;
+
 const OUTPUT: u8 = 6;
 
 fn main(rt: HostRuntime) -> ExitCode {
