@@ -1,4 +1,4 @@
-use crate::{FillFault, Pattern, PatternFault, fill, fits};
+use crate::{Pattern, PatternFault, fits};
 use smk_base::{List, Pair, PathText, Text};
 use std::alloc::Global;
 use std::test::Fail;
@@ -165,26 +165,5 @@ fn hostile_patterns_end_soon(rt: HostRuntime) -> Result<(), Fail> {
         answer(alloc, again, &none, path.as_str())?.as_str(),
         "no fit"
     );
-    Ok(())
-}
-
-#[test]
-fn fills_and_copies(rt: HostRuntime) -> Result<(), Fail> {
-    let alloc = rt.alloc();
-    let Ok(pattern) = Pattern::read(alloc, "r/{s}_{n,[0-9]}/{s}.fq", &List::new(alloc)) else {
-        return Err(Fail::new("no pattern"));
-    };
-    let pattern = pattern.copy(alloc)?;
-    let mut binding = List::new(alloc);
-    binding.push(pair(alloc, "s", "a")?)?;
-    match fill(alloc, &pattern, &binding) {
-        Err(FillFault::UnknownWildcard(name)) => assert_eq!(rt; name.as_str(), "n"),
-        _ => assert!(rt; false, "n has no value"),
-    }
-    binding.push(pair(alloc, "n", "2")?)?;
-    match fill(alloc, &pattern, &binding) {
-        Ok(text) => assert_eq!(rt; text.as_str(), "r/a_2/a.fq"),
-        Err(_) => assert!(rt; false, "each name has a value"),
-    }
     Ok(())
 }
