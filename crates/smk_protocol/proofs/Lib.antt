@@ -13,6 +13,7 @@ pub mod Children
 pub mod Crux
 pub mod Easing
 pub mod Events
+pub mod EveryImage
 pub mod Finish
 pub mod Flags
 pub mod FolderChange
@@ -53,6 +54,7 @@ pub mod Shrink
 pub mod Shrunk
 pub mod Sorted
 pub mod SoundViews
+pub mod SoundWorlds
 pub mod Spending
 pub mod Stays
 pub mod Steadying
