@@ -45,6 +45,7 @@ pub mod Phases
 pub mod Places
 pub mod Protecting
 pub mod Quiet
+pub mod Reading
 pub mod RecordChange
 pub mod Records
 pub mod Rows

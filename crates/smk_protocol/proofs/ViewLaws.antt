@@ -37,7 +37,7 @@ listed a true h = rw (h refl) refl
 listed true false h = refl
 listed false false h = refl
 
-path_some : (f : Nodes) (q : Path) → is_some (path_node f q) ≡ true → IsSome (f q)
+pub path_some : (f : Nodes) (q : Path) → is_some (path_node f q) ≡ true → IsSome (f q)
 path_some f q h = go (is_outside q) h
   where
     go : (b : Bool) → is_some (if b then f q else None) ≡ true → IsSome (f q)
