@@ -1,6 +1,7 @@
 pub mod Acted
 pub mod After
 pub mod Along
+pub mod Answers
 pub mod Apart
 pub mod Aside
 pub mod Basics
@@ -67,6 +68,7 @@ pub mod Turns
 pub mod Unmark
 pub mod UnmarkChange
 pub mod Unmarking
+pub mod Unowned
 pub mod Untouched
 pub mod Valid
 pub mod View

@@ -40,7 +40,7 @@ use Rattle.smk_protocol.proofs.ViewLaws.{path_some}
 
 -- ---- lists
 
-contains_of : {A : Type 0} (xs : List A) (x : A) → IsIn xs x → Contains xs x
+pub contains_of : {A : Type 0} (xs : List A) (x : A) → IsIn xs x → Contains xs x
 contains_of [] x h = absurd h
 contains_of (y ∷ xs) x (inl e) = Contains-append_left (y ∷ []) xs x (subst (λ z. Contains (z ∷ []) x) e (Contains-push [] x))
 contains_of (y ∷ xs) x (inr h) = Contains-append_right (y ∷ []) xs x (contains_of xs x h)
@@ -57,7 +57,7 @@ in_of {A} (y ∷ xs) x h = go (Contains-append_cases (y ∷ []) xs x h) (in_of x
     go (inl k) ih = head (Contains-push_cases [] y x k)
     go (inr k) ih = inr (ih k)
 
-in_mapped : {A B : Type 0} (f : A → B) (xs : List A) (x : A) → IsIn xs x → IsIn (map f xs) (f x)
+pub in_mapped : {A B : Type 0} (f : A → B) (xs : List A) (x : A) → IsIn xs x → IsIn (map f xs) (f x)
 in_mapped f [] x h = h
 in_mapped f (y ∷ xs) x (inl e) = inl (ap f e)
 in_mapped f (y ∷ xs) x (inr h) = inr (in_mapped f xs x h)
