@@ -45,6 +45,7 @@ pub mod Owners
 pub mod Phases
 pub mod Places
 pub mod Protecting
+pub mod ProtocolHolds
 pub mod Quiet
 pub mod Reading
 pub mod RecordChange
@@ -60,6 +61,7 @@ pub mod SoundWorlds
 pub mod Spending
 pub mod Stays
 pub mod Steadying
+pub mod StepViews
 pub mod Still
 pub mod TextFacts
 pub mod TextFolders

@@ -21,7 +21,7 @@ use Rattle.smk_world.specs.declared.recipe.Kind.TheVariants.{Plain, Folder as Fo
 use Rattle.smk_protocol.proofs.Basics.{none_some, some_same}
 use Rattle.smk_protocol.proofs.View.{view, file_of, is_source, source_at, is_covered, is_whole, kind_in, Sound, Chain, Link, vir, input_value, has_made, holder}
 
-equal : (a b : ℕ) → (b == a) ≡ true → a ≡ b
+pub equal : (a b : ℕ) → (b == a) ≡ true → a ≡ b
 equal a b h = grind arith
 
 itself : (a b : ℕ) → a ≡ b → (b == a) ≡ true
@@ -47,7 +47,7 @@ file_is None = refl
 file_is (Some Directory) = refl
 file_is (Some (Regular bytes time read_only)) = refl
 
-some_file : (n : Option Node) → is_some (content_of n) ≡ is_some (file_of n)
+pub some_file : (n : Option Node) → is_some (content_of n) ≡ is_some (file_of n)
 some_file None = refl
 some_file (Some Directory) = refl
 some_file (Some (Regular bytes time read_only)) = refl
@@ -109,7 +109,7 @@ whole_to i p r FolderKind at h = more (is_folder i p) (is_some (record_at i p)) 
     more : (a b c : Bool) → b ≡ true → (a && c) ≡ true → (a && (b && c)) ≡ true
     more a b c h k = grind arith
 
-whole_from : (i : Image) (p : Path) (k : Kind) → IsTrue (image_whole i p k) → IsTrue (is_whole (view i) p k)
+pub whole_from : (i : Image) (p : Path) (k : Kind) → IsTrue (image_whole i p k) → IsTrue (is_whole (view i) p k)
 whole_from i p Plain h = sym (some_file (i.node p)) ∙ h
 whole_from i p FolderKind h = less (is_folder i p) (is_some (record_at i p)) _ h
   where

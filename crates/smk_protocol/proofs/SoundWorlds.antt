@@ -72,7 +72,7 @@ module _ (o : Outside) (w : World) (H : Versions) where
   seen_now : (P : View → View → Type 0) (i : Image) → P (view (seen o.read w)) (view i) → P (now o w) (view i)
   seen_now P i h = subst (λ v. P v (view i)) now_is h
 
-  now_seen : (P : View → View → Type 0) (i : Image) → P (now o w) (view i) → P (view (seen o.read w)) (view i)
+  pub now_seen : (P : View → View → Type 0) (i : Image) → P (now o w) (view i) → P (view (seen o.read w)) (view i)
   now_seen P i h = subst (λ v. P v (view i)) (sym now_is) h
 
   pub world_to : ImageSoundWorld o w H → SoundWorld o w H
