@@ -56,9 +56,10 @@ module _ (o : Outside) (entry : World) (H : Versions) where
 
   safe_here : (s : RunState) (w : World) → Midway o entry H s w → HasSafeImages o entry w H
   safe_here s w m nodes leaves =
-      let here = to_lists o.read w m.images.formed (λ v. Sound o.act H v none_eased × HasSources o (now o entry) v × HasNoNested o v) (safe_images o entry H s w m) nodes leaves in
-      (sound_from (image_of o.read nodes) o.act H none_eased here.0 here.2,
-      sources_from o (seen o.read entry) (image_of o.read nodes) (now_seen o entry H (HasSources o) (image_of o.read nodes) here.1))
+      let here = to_lists o.read w m.images.formed (λ v. Sound o.act H v none_eased × HasSources o (now o entry) v × HasNoNested o v) (safe_images o entry H s w m) nodes leaves in (
+        sound_from (image_of o.read nodes) o.act H none_eased here.0 here.2,
+        sources_from o (seen o.read entry) (image_of o.read nodes) (now_seen o entry H (HasSources o) (image_of o.read nodes) here.1),
+      )
 
   is_safe : ImageSoundWorld o entry H → IsSafe o entry H
   is_safe sound =
