@@ -26,6 +26,7 @@ pub mod ImagesOn
 pub mod Jobs
 pub mod Keeping
 pub mod Law
+pub mod Lessened
 pub mod MarkChange
 pub mod Marking
 pub mod MarksNow
