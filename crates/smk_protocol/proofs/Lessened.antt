@@ -197,7 +197,7 @@ module _ (p : Path) (v0 v1 : View) (less : Less p v0 v1) where
 
   -- ---- sources
 
-  source_kept : (q : Path) → is_source v0 q ≡ true → is_source v1 q ≡ true
+  pub source_kept : (q : Path) → is_source v0 q ≡ true → is_source v1 q ≡ true
   source_kept q h =
       less_source (is_path_text q) (is_some (v1.file q)) (is_covered v0 q) (is_covered v1 q) (covered_before q)
       (ap (λ f. is_path_text q && is_some f && not (is_covered v0 q)) (less.file q) ∙ h)
@@ -212,17 +212,17 @@ module _ (p : Path) (v0 v1 : View) (less : Less p v0 v1) where
   same_sources q other k = if source_same q other k then less.file q k else None
 
   -- a source is as it was, or lies at or under the path
-  pub sources_less : (q : Path) → (source_at v1 q ≡ source_at v0 q) ⊎ ((is_at_or_under q p ≡ true) × (is_source v0 q ≡ false) × (source_at v1 q ≡ v1.file q))
+  pub sources_less : (q : Path) → (source_at v1 q ≡ source_at v0 q) ⊎ ((is_at_or_under q p ≡ true) × (is_source v0 q ≡ false) × (is_source v1 q ≡ true))
   sources_less q = by_test (is_at_or_under q p) here (λ other. inl (same_sources q other))
     where
       both : (b c : Bool) → is_source v1 q ≡ b → is_source v0 q ≡ c → b ≡ c → source_at v1 q ≡ source_at v0 q
       both b c e f same = (λ k. if (e ∙ same ∙ sym f) k then less.file q k else None)
 
-      here : is_at_or_under q p ≡ true → (source_at v1 q ≡ source_at v0 q) ⊎ ((is_at_or_under q p ≡ true) × (is_source v0 q ≡ false) × (source_at v1 q ≡ v1.file q))
+      here : is_at_or_under q p ≡ true → (source_at v1 q ≡ source_at v0 q) ⊎ ((is_at_or_under q p ≡ true) × (is_source v0 q ≡ false) × (is_source v1 q ≡ true))
       here under =
           by_test (is_source v0 q) (λ h. inl (both true true (source_kept q h) h refl))
           (λ h. by_test (is_source v1 q)
-          (λ k. inr (under, h, ap (λ (b : Bool). if b then v1.file q else None) k))
+          (λ k. inr (under, h, k))
           (λ k. inl (both false false k h refl)))
 
   -- ---- what speaks
@@ -280,10 +280,10 @@ module _ (p : Path) (v0 v1 : View) (less : Less p v0 v1) where
           other (Some f) e under =
               by_test (f.time == t) (λ same. absurd (named f under e (eqb-true f.time t same))) (λ differs. ap (λ (b : Bool). if b then Some f.bytes else H x t) differs)
 
-          go : (source_at v1 x ≡ source_at v0 x) ⊎ ((is_at_or_under x p ≡ true) × (is_source v0 x ≡ false) × (source_at v1 x ≡ v1.file x)) → put H v1 x t ≡ put H v0 x t
+          go : (source_at v1 x ≡ source_at v0 x) ⊎ ((is_at_or_under x p ≡ true) × (is_source v0 x ≡ false) × (is_source v1 x ≡ true)) → put H v1 x t ≡ put H v0 x t
           go (inl same) = ap (or_put (H x t) t) same
           go (inr (under, none, is)) =
-              ap (or_put (H x t) t) is ∙ other (v1.file x) refl under
+              ap (λ (b : Bool). or_put (H x t) t (if b then v1.file x else None)) is ∙ other (v1.file x) refl under
               ∙ sym (ap (λ (b : Bool). or_put (H x t) t (if b then v0.file x else None)) none)
 
       pub less_sound : Sound act (put H v1) v1 none_eased

@@ -1,5 +1,6 @@
 pub mod Acted
 pub mod After
+pub mod Alike
 pub mod Along
 pub mod Answers
 pub mod Apart
