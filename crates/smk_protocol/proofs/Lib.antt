@@ -52,6 +52,7 @@ pub mod Quiet
 pub mod Reading
 pub mod RecordChange
 pub mod Records
+pub mod Removing
 pub mod Rows
 pub mod Settled
 pub mod Settling
