@@ -178,7 +178,7 @@ module _ (p : Path) (v0 v1 : View) (less : Less p v0 v1) where
       go (inl same) = same
       go (inr gone) = absurd (other_path q p other gone.0)
 
-  known_same : (q : Path) → bytes_eq q p ≡ false → is_known v1 q ≡ is_known v0 q
+  pub known_same : (q : Path) → bytes_eq q p ≡ false → is_known v1 q ≡ is_known v0 q
   known_same q other k = (same_record q other).has k || same_mark q other k || same_note q other k
 
   covered_before : (q : Path) → is_covered v1 q ≡ true → is_covered v0 q ≡ true

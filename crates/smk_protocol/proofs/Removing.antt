@@ -54,7 +54,7 @@ module _ (o : Outside) (w : World) (m : Path) where
       go false = refl
 
   -- what one of the engine's places has for a path is the same, or gone
-  place_other : (g : Nodes) (P : Path → Path) (q : Path) → is_at_or_under (P q) m ≡ false → place_node g P q ≡ place_node (filled g) P q
+  pub place_other : (g : Nodes) (P : Path → Path) (q : Path) → is_at_or_under (P q) m ≡ false → place_node g P q ≡ place_node (filled g) P q
   place_other g P q h = ap (λ n. if is_path_text q then n else None) (sym (other g (P q) h))
 
   place_here : (g : Nodes) (P : Path → Path) (q : Path) → (place_node g P q ≡ place_node (filled g) P q) ⊎ (place_node g P q ≡ None)

@@ -42,7 +42,7 @@ or_group a b c = grind arith
 abbrev pub flagless : Content → Content
 flagless f = record f { read_only = false }
 
-file_is : (n : Option Node) → option_map flagless (content_of n) ≡ file_of n
+pub file_is : (n : Option Node) → option_map flagless (content_of n) ≡ file_of n
 file_is None = refl
 file_is (Some Directory) = refl
 file_is (Some (Regular bytes time read_only)) = refl
@@ -94,7 +94,7 @@ flagless_if false x = refl
 pub source_at_is : (i : Image) (p : Path) → option_map flagless (image_source_at i p) ≡ source_at (view i) p
 source_at_is i p = flagless_if (image_source i p) (file_at i p) ∙ (λ k. if source_is i p k then file_is (i.node p) k else None)
 
-flagless_some : (x : Option Content) (f : Content) → option_map flagless x ≡ Some f → (c : Content) × (x ≡ Some c) × (flagless c ≡ f)
+pub flagless_some : (x : Option Content) (f : Content) → option_map flagless x ≡ Some f → (c : Content) × (x ≡ Some c) × (flagless c ≡ f)
 flagless_some None f h = none_some None refl h
 flagless_some (Some c) f h = (c, refl, some_same h)
 
