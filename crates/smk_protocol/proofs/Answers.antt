@@ -48,7 +48,7 @@ read_as : (s : NodeState) (n : Option Node) → (s ≡ Owned → ⊥) → MayRea
 read_as Owned n free h = absurd (free refl)
 read_as (Known m b) n free h = sym h
 
-remains : (s : NodeState) (n : Option Node) → (s ≡ Owned → ⊥) → MayRemain n s → (n ≡ None) ⊎ (n ≡ reading s)
+pub remains : (s : NodeState) (n : Option Node) → (s ≡ Owned → ⊥) → MayRemain n s → (n ≡ None) ⊎ (n ≡ reading s)
 remains s n free (inl h) = inl h
 remains s n free (inr h) = inr (read_as s n free h)
 

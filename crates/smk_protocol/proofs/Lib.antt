@@ -19,6 +19,7 @@ pub mod EveryImage
 pub mod Finish
 pub mod Flags
 pub mod FolderChange
+pub mod ForgettingHolds
 pub mod Forgotten
 pub mod Formed
 pub mod Go

@@ -38,9 +38,12 @@ pub sources_to : (o : Outside) (a b : Image) → SameSources a b → HasSources 
 sources_to o a b same p =
     sym (source_at_is b p) ∙ sym (told_again (image_source_at b p)) ∙ ap (option_map of_told) (same p) ∙ told_again (image_source_at a p) ∙ source_at_is a p
 
+pub source_from : (a b : Image) (p : Path) → source_at (view b) p ≡ source_at (view a) p → option_map told (image_source_at b p) ≡ option_map told (image_source_at a p)
+source_from a b p same =
+    told_flagless (image_source_at b p) ∙ ap (option_map told) (source_at_is b p ∙ same ∙ sym (source_at_is a p)) ∙ sym (told_flagless (image_source_at a p))
+
 pub sources_from : (o : Outside) (a b : Image) → HasSources o (view a) (view b) → SameSources a b
-sources_from o a b same p =
-    told_flagless (image_source_at b p) ∙ ap (option_map told) (source_at_is b p ∙ same p ∙ sym (source_at_is a p)) ∙ sym (told_flagless (image_source_at a p))
+sources_from o a b same p = source_from a b p (same p)
 
 -- ---- no further unmarked record
 

@@ -51,7 +51,7 @@ as_before w (Started recipe logs command r) h = tt
 as_before w (Waited r) h = tt
 
 -- where one of the places lies at or above q
-within_some : (q : Path) (ps : List Path) → is_within q ps ≡ true → (p : Path) × IsIn ps p × (is_at_or_under q p ≡ true)
+pub within_some : (q : Path) (ps : List Path) → is_within q ps ≡ true → (p : Path) × IsIn ps p × (is_at_or_under q p ≡ true)
 within_some q [] h = clash false h refl
 within_some q (p ∷ ps) h = go (is_at_or_under q p) refl h (within_some q ps)
   where
