@@ -1,10 +1,10 @@
 -- A run that forgets paths keeps what a call has to keep.
 use Rattle.std.proofs.Common.{◌≡◌, ◌⊎◌, ℕ, Bool, true, false, List, [], ◌∷◌, ◌++◌, refl, sym, ap, subst, inl, inr, ◌∙◌, Option, Some, None, append_assoc, eqb-true, arith}
-use Rattle.std.specs.Prelude.{IsTrue, bytes_eq, ◌||◌, ◌==◌, filter, if◌then◌else◌, Ok, Err, Result}
+use Rattle.std.specs.Prelude.{IsTrue, bytes_eq, ◌||◌, ◌&&◌, ◌==◌, filter, if◌then◌else◌, Ok, Err, Result}
 use Rattle.std.specs.List.{list_any}
 use Rattle.std.specs.Option.{option_map}
 use Rattle.std.proofs.lemmas.List.{append-nil}
-use Rattle.smk_base.specs.Path.{is_at_or_under}
+use Rattle.smk_base.specs.Path.{is_at_or_under, own_folder}
 use Rattle.smk_base.specs.Place.{record_place, mark_place, note_place}
 use Rattle.smk_base.proofs.Places.{place_itself}
 use Rattle.smk_world.specs.declared.event.Call.{Call}
@@ -13,10 +13,10 @@ use Rattle.smk_world.specs.declared.event.Change.{Change as LeftNode}
 use Rattle.smk_world.specs.declared.event.Event.{Event}
 use Rattle.smk_world.specs.declared.event.Failed.{Failed}
 use Rattle.smk_world.specs.declared.event.NodeState.TheVariants.{Owned}
-use Rattle.smk_world.specs.World.{World, after, run, reading, standing, is_within}
+use Rattle.smk_world.specs.World.{World, after, run, reading, standing, is_within, is_above, reads_folder, firm}
 use Rattle.smk_world.specs.Calls.{Lets as WorldLets}
 use Rattle.smk_world.specs.Runs.{Follows as WorldFollows}
-use Rattle.smk_world.specs.Trees.{Path, IsIn}
+use Rattle.smk_world.specs.Trees.{Path, IsIn, among}
 use Rattle.smk_world.proofs.Runs.{follows_append}
 use Rattle.smk_record.specs.declared.record.Stamp.TheVariants.{Time}
 use Rattle.smk_record.specs.declared.record.Record.{Record}
@@ -26,14 +26,14 @@ use Rattle.smk_store.specs.Safety.{or_put, with_sources, forgets, forgotten_so_f
 use Rattle.smk_store.specs.Soundness.{Outside, told, Sound as ImageSound, SoundWorld as ImageSoundWorld}
 use Rattle.smk_store.specs.Trust.{Versions, none_eased}
 use Rattle.smk_protocol.specs.Protocol.{IsLook, IsLock, as_ok, now as image_now}
-use Rattle.smk_protocol.specs.Forgetting.{IsFirmAround, Stage, Resting, Unrecording, Unmarking, Stopped, is_resting, IsUnseen, Forgets, Look, Lock, Settle, Hold, Unrecord, Unnote, Unrecorded, Unmark, Unmarked, Fail, ForgetsAll, Done, Next, ForgettingKeepsSound}
+use Rattle.smk_protocol.specs.Forgetting.{IsFirm, IsFirmAround, SettlingIsEnough, Stage, Resting, Unrecording, Unmarking, Stopped, is_resting, IsUnseen, Forgets, Look, Lock, Settle, Hold, Unrecord, Unnote, Unrecorded, Unmark, Unmarked, Fail, ForgetsAll, Done, Next, ForgettingKeepsSound}
 use Rattle.smk_protocol.proofs.View.{View, view, Sound, is_source, source_at}
 use Rattle.smk_protocol.proofs.Views.{Nodes, EachImage, reads, view_of, read_at}
 use Rattle.smk_protocol.proofs.Rows.{now}
 use Rattle.smk_protocol.proofs.Between.{SoundWorld}
 use Rattle.smk_protocol.proofs.Alike.{Alike, look_alike, lock_alike, settled_alike}
 use Rattle.smk_protocol.proofs.Answers.{remains}
-use Rattle.smk_protocol.proofs.Basics.{by_test, clash, in_filter, filter_in, some_of, any_by, in_here}
+use Rattle.smk_protocol.proofs.Basics.{by_test, clash, in_among, in_filter, filter_in, some_of, any_by, in_here}
 use Rattle.smk_protocol.proofs.Calls.{event}
 use Rattle.smk_protocol.proofs.EveryImage.{to_lists}
 use Rattle.smk_protocol.proofs.Forgotten.{SourcesFrom, Safe, Rest, Open, Held, Bare, Gone, Near, rest_alike, open_alike, held_alike, bare_alike, open_removed, near_removed, gone_removed, open_rest, held_first, gone_settled, unmarked_settled, rest_again}
@@ -43,6 +43,7 @@ use Rattle.smk_protocol.proofs.Quiet.{quiet_call}
 use Rattle.smk_protocol.proofs.Removing.{filled, now_filled, place_other, record_less, note_less, mark_less}
 use Rattle.smk_protocol.proofs.SoundViews.{sound_from, source_is, source_at_is, flagless, flagless_some, file_is}
 use Rattle.smk_protocol.proofs.SoundWorlds.{world_to, world_from, source_from, now_is}
+use Rattle.smk_protocol.proofs.Settled.{firm_is}
 use Rattle.smk_protocol.proofs.Stays.{in_left}
 use Rattle.smk_protocol.proofs.TextFacts.{text_laws}
 use Rattle.smk_protocol.proofs.Unowned.{within_some}
@@ -372,6 +373,25 @@ module _ (o : Outside) (entry : World) (H : Versions) (paths : List Path) where
   at_exit (Unrecording p) W w resting h = clash false resting refl
   at_exit (Unmarking p) W w resting h = clash false resting refl
   at_exit Stopped W w resting h = clash false resting refl
+
+-- ---- what a settling makes firm
+
+module _ (w : World) (ps : List Path) (left : List LeftNode) (free : (q : Path) → w.nodes q ≡ Owned → ⊥) where
+  firm_within : (q : Path) → is_within q ps ≡ true → IsFirm (after w (event (Settled ps (Ok tt)) left)) q
+  firm_within q h =
+      (reading (w.nodes q), ap (λ (b : Bool). if b || is_above q ps && reads_folder (w.nodes q) then firm (w.nodes q) else w.nodes q) h ∙ firm_is (w.nodes q) (free q))
+
+  firm_at : (x q : Path) → IsTrue (among ps x) → is_at_or_under q x ≡ true → IsFirm (after w (event (Settled ps (Ok tt)) left)) q
+  firm_at x q i under = firm_within q (within_of q ps x (in_among ps x i) under)
+
+pub settling_is_enough : SettlingIsEnough
+settling_is_enough w p ps left free at_path at_own =
+    record {
+      files = λ q under. firm_at w ps left free p q at_path under;
+      records = λ q other over. firm_at w ps left free own_folder (record_place q) at_own refl;
+      marks = λ q other over. firm_at w ps left free own_folder (mark_place q) at_own refl;
+      notes = λ q other over. firm_at w ps left free own_folder (note_place q) at_own refl;
+    }
 
 -- a part from its front
 front : (o : Outside) (paths : List Path) (s end : Stage) (w : World) (es rest : List Event) → ForgetsAll o paths s w (es ++ rest) end → (mid : Stage) × ForgetsAll o paths s w es mid

@@ -270,9 +270,9 @@ module _ (o : Outside) (entry : World) (H : Versions) where
               new = λ q r other at unmarked. none_new q r at unmarked;
               known = λ q other h. rest.world.known names f rising complete covered leaves q h;
               around = λ q other over. λ k.
-                  is_some (if is_path_text q then same f leaves (record_place q) (firm.records q over) k else None)
-                  || is_some (if is_path_text q then same f leaves (mark_place q) (firm.marks q over) k else None)
-                  || is_some (if is_path_text q then same f leaves (note_place q) (firm.notes q over) k else None);
+                  is_some (if is_path_text q then same f leaves (record_place q) (firm.records q other over) k else None)
+                  || is_some (if is_path_text q then same f leaves (mark_place q) (firm.marks q other over) k else None)
+                  || is_some (if is_path_text q then same f leaves (note_place q) (firm.notes q other over) k else None);
               files = files;
               unseen = λ q x r c at unmarked under file named. unseen q x r c (none_new q r at unmarked).0 under (sym (files x under) ∙ file) named;
             };

@@ -1,14 +1,16 @@
 -- Forgetting paths: which events may come, path by path, and the law that they keep every crash image sound.
-use Rattle.std.specs.Prelude.{◌≡◌, ◌⊎◌, Bool, true, false, List, [], ◌∷◌, Option, Some, Ok, IsTrue}
-use Rattle.smk_base.specs.Path.{is_at_or_under, overlaps}
+use Rattle.std.specs.Prelude.{◌≡◌, ◌⊎◌, Bool, true, false, List, [], ◌∷◌, bytes_eq, Option, Some, Ok, IsTrue}
+use Rattle.smk_base.specs.Path.{is_at_or_under, overlaps, own_folder}
 use Rattle.smk_base.specs.Place.{record_place, mark_place, note_place}
 use Rattle.smk_world.specs.declared.event.Node.{Node}
 use Rattle.smk_world.specs.declared.event.Call.TheVariants.{Removed, Settled}
+use Rattle.smk_world.specs.declared.event.Change.{Change}
+use Rattle.smk_world.specs.declared.event.NodeState.TheVariants.{Owned}
 use Rattle.smk_world.specs.declared.event.Event.{Event}
 use Rattle.smk_world.specs.World.{World, after, firmly}
 use Rattle.smk_world.specs.Calls.{failed}
 use Rattle.smk_world.specs.Runs.{Follows}
-use Rattle.smk_world.specs.Trees.{Path, IsIn, is_path_text}
+use Rattle.smk_world.specs.Trees.{Path, IsIn, among, is_path_text}
 use Rattle.smk_record.specs.declared.record.Stamp.TheVariants.{Time}
 use Rattle.smk_record.specs.declared.record.Record.{Record}
 use Rattle.smk_record.specs.Records.{stamped}
@@ -38,12 +40,19 @@ IsUnseen image p =
 abbrev pub IsFirm : World → Path → Type 0
 IsFirm w place = (n : Option Node) × (w.nodes place ≡ firmly n)
 
--- What is at the path and under it is firm, and so are the record, the mark and the note of each path that overlaps it.
+-- What is at the path and under it is firm, and so are the record, the mark and the note of each other path that overlaps it.
 pub record IsFirmAround (w : World) (p : Path) : Type 0 where
   pub files : (q : Path) → is_at_or_under q p ≡ true → IsFirm w q
-  pub records : (q : Path) → overlaps q p ≡ true → IsFirm w (record_place q)
-  pub marks : (q : Path) → overlaps q p ≡ true → IsFirm w (mark_place q)
-  pub notes : (q : Path) → overlaps q p ≡ true → IsFirm w (note_place q)
+  pub records : (q : Path) → bytes_eq q p ≡ false → overlaps q p ≡ true → IsFirm w (record_place q)
+  pub marks : (q : Path) → bytes_eq q p ≡ false → overlaps q p ≡ true → IsFirm w (mark_place q)
+  pub notes : (q : Path) → bytes_eq q p ≡ false → overlaps q p ≡ true → IsFirm w (note_place q)
+
+-- A settling of the path and of the engine's own folder is enough for that, where no child owns a place.
+abbrev pub SettlingIsEnough : Type 0
+SettlingIsEnough =
+    (w : World) (p : Path) (ps : List Path) (left : List Change) →
+    ((q : Path) → w.nodes q ≡ Owned → ⊥) →
+    IsTrue (among ps p) → IsTrue (among ps own_folder) → IsFirmAround (after w (record { call = Settled ps (Ok tt); left = left })) p
 
 module _ (o : Outside) (paths : List Path) where
   -- The next event, in a run that forgets some of these paths.
