@@ -67,7 +67,7 @@ numbered_at n (x ∷ cs) c h = go (nat_eq x.number n) refl h (numbered_at n cs c
     go true e k ih = let same = some_same k in (inl (sym same), ap (λ (y : Child). y.number) (sym same) ∙ eqb-true x.number n e)
     go false e k ih = let r = ih k in (inr r.0, r.1)
 
-has_number : (w : World) (c : Child) (n : ℕ) → IsIn w.children c → c.number ≡ n → Contains (numbers w.children) n
+pub has_number : (w : World) (c : Child) (n : ℕ) → IsIn w.children c → c.number ≡ n → Contains (numbers w.children) n
 has_number w c n i same = subst (Contains (numbers w.children)) same (contains_of (numbers w.children) c.number (in_mapped (λ (x : Child). x.number) w.children c i))
 
 module _ (o : Outside) (entry : World) (H : Versions) (s : RunState) (w : World) (m : Midway o entry H s w) (numbered : AreNumbered w) where

@@ -34,6 +34,7 @@ pub mod MarkChange
 pub mod Marking
 pub mod MarksNow
 pub mod Members
+pub mod MidwayHolds
 pub mod Moves
 pub mod Naming
 pub mod NodeChange

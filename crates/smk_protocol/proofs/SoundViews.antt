@@ -24,7 +24,7 @@ use Rattle.smk_protocol.proofs.View.{view, file_of, is_source, source_at, is_cov
 pub equal : (a b : ℕ) → (b == a) ≡ true → a ≡ b
 equal a b h = grind arith
 
-itself : (a b : ℕ) → a ≡ b → (b == a) ≡ true
+pub itself : (a b : ℕ) → a ≡ b → (b == a) ≡ true
 itself a b h = grind arith
 
 flip : (a b : ℕ) → (a == b) ≡ (b == a)
@@ -102,7 +102,7 @@ some_core : (x : Option Record) (r : Record) → option_map core x ≡ Some r �
 some_core None r h = grind arith
 some_core (Some x) r h = refl
 
-whole_to : (i : Image) (p : Path) (r : Record) (k : Kind) → core_at i p ≡ Some r → IsTrue (is_whole (view i) p k) → IsTrue (image_whole i p k)
+pub whole_to : (i : Image) (p : Path) (r : Record) (k : Kind) → core_at i p ≡ Some r → IsTrue (is_whole (view i) p k) → IsTrue (image_whole i p k)
 whole_to i p r Plain at h = some_file (i.node p) ∙ h
 whole_to i p r FolderKind at h = more (is_folder i p) (is_some (record_at i p)) _ (some_core (record_at i p) r at) h
   where

@@ -62,7 +62,7 @@ whole_record : (x : Option Record) (r : Record) → option_map core x ≡ Some (
 whole_record None r h m = none_some None refl h
 whole_record (Some y) r h m = let same : core y ≡ core r = some_same h in λ k. Some (record (same k) { members = m k })
 
-no_new_from : (o : Outside) (a b : Image) → HasNoNew o (view a) (view b) → NoNewRecord a b
+pub no_new_from : (o : Outside) (a b : Image) → HasNoNew o (view a) (view b) → NoNewRecord a b
 no_new_from o a b none p r at unmarked =
     let h = none p (core r) (ap (option_map core) at) unmarked in
     whole_record (record_at a p) r h.0 (h.1 ∙ ap members_of at)
