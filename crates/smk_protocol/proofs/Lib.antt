@@ -41,6 +41,7 @@ pub mod NodeChange
 pub mod Nodes
 pub mod NoteChange
 pub mod Numbers
+pub mod OneJob
 pub mod Opening
 pub mod Own
 pub mod OwnHolds
