@@ -1,11 +1,10 @@
 -- What holds while a path is being forgotten, of the images and of the world.
-use Rattle.std.proofs.Common.{◌≡◌, ◌⊎◌, ℕ, Bool, true, false, List, [], ◌∷◌, refl, sym, ap, subst, inl, inr, ◌∙◌, Option, Some, None}
-use Rattle.std.specs.Prelude.{IsTrue, bytes_eq, is_some, ◌||◌, ◌&&◌, not, if◌then◌else◌, Ok, Result}
-use Rattle.std.specs.List.{list_any}
+use Rattle.std.proofs.Common.{◌≡◌, ◌⊎◌, Bool, true, false, List, [], ◌∷◌, refl, sym, ap, subst, inl, inr, ◌∙◌, Option, Some, None}
+use Rattle.std.specs.Prelude.{bytes_eq, is_some, ◌||◌, ◌&&◌, not, if◌then◌else◌, Ok, Result}
 use Rattle.std.specs.Option.{option_map}
-use Rattle.smk_base.specs.Path.{is_under, is_at_or_under, overlaps}
+use Rattle.smk_base.specs.Path.{is_at_or_under, overlaps}
 use Rattle.smk_base.specs.Place.{record_place, mark_place, note_place}
-use Rattle.smk_base.proofs.Places.{same_place, place_itself}
+use Rattle.smk_base.proofs.Places.{same_place}
 use Rattle.smk_base.proofs.Under.{at_when_under, at_itself, overlaps_at, overlaps_above_both}
 use Rattle.smk_world.specs.declared.event.Call.TheVariants.{Removed, Settled}
 use Rattle.smk_world.specs.declared.event.Change.{Change as LeftNode}
@@ -13,7 +12,7 @@ use Rattle.smk_world.specs.declared.event.Failed.{Failed}
 use Rattle.smk_world.specs.declared.event.Node.{Node}
 use Rattle.smk_world.specs.declared.event.NodeState.TheVariants.{Owned}
 use Rattle.smk_world.specs.World.{World, IsFormed, IsRising, MayLeave, after, firmly, folders_above, reading, standing}
-use Rattle.smk_world.specs.Trees.{Path, IsIn, among, is_path_text}
+use Rattle.smk_world.specs.Trees.{Path, IsIn, is_path_text}
 use Rattle.smk_record.specs.declared.record.Stamp.TheVariants.{Time}
 use Rattle.smk_record.specs.declared.record.Record.{Record}
 use Rattle.smk_record.specs.Records.{core, stamped}
@@ -24,10 +23,10 @@ use Rattle.smk_store.specs.Trust.{Versions, none_eased}
 use Rattle.smk_protocol.specs.Protocol.{IsAbsent, AreAmong}
 use Rattle.smk_protocol.specs.Forgetting.{IsFirm, IsFirmAround}
 use Rattle.smk_protocol.proofs.View.{View, file_of, Sound, is_known, is_covered, is_source, source_at}
-use Rattle.smk_protocol.proofs.Views.{Nodes, EachImage, HasNames, Leaves, reads, view_of, place_node, read_at}
+use Rattle.smk_protocol.proofs.Views.{Nodes, EachImage, HasNames, Leaves, reads, view_of, read_at}
 use Rattle.smk_protocol.proofs.Rows.{now}
 use Rattle.smk_protocol.proofs.Between.{SoundWorld, HasSources, HasNoNew, HasKnown, HasNoNested}
-use Rattle.smk_protocol.proofs.Alike.{Alike, alike_each, settled_alike}
+use Rattle.smk_protocol.proofs.Alike.{Alike, alike_each}
 use Rattle.smk_protocol.proofs.Along.{IsQuiet}
 use Rattle.smk_protocol.proofs.Basics.{by_test, clash, none_some}
 use Rattle.smk_protocol.proofs.Calls.{event}
@@ -35,8 +34,8 @@ use Rattle.smk_protocol.proofs.Events.{same_source}
 use Rattle.smk_protocol.proofs.Formed.{formed_after}
 use Rattle.smk_protocol.proofs.Keeping.{texts_of}
 use Rattle.smk_protocol.proofs.Lessened.{put, Less, SameRecord, Unseen, any_same, record_before, unmarked_before, same_record, same_mark, known_same, same_sources, sources_less, source_kept, less_sound, less_nested}
-use Rattle.smk_protocol.proofs.Naming.{IsImage, IsWide, each_image, of_wide, now_image}
-use Rattle.smk_protocol.proofs.Removing.{filled, filled_image, now_filled, place_other, record_less, note_less, mark_less}
+use Rattle.smk_protocol.proofs.Naming.{IsImage, each_image, of_wide, now_image}
+use Rattle.smk_protocol.proofs.Removing.{filled, filled_image}
 use Rattle.smk_protocol.proofs.Settled.{within, only_reads}
 use Rattle.smk_protocol.proofs.TextFacts.{text_laws}
 use Rattle.smk_protocol.proofs.TextFolders.{folders_are, among_by}

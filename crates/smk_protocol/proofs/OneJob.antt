@@ -1,9 +1,9 @@
 -- A job that copies a file goes along the protocol, from its first mark to its close; so the protocol admits whole runs.
-use Rattle.std.proofs.Common.{◌≡◌, ◌⊎◌, ℕ, Bool, true, false, List, [], ◌∷◌, ◌++◌, map, refl, sym, ap, subst, inl, inr, arith, ◌∙◌, Option, Some, None, take}
-use Rattle.std.specs.Prelude.{IsTrue, codes, bytes_eq, ◌&&◌, ◌||◌, not, is_some, if◌then◌else◌, Ok}
+use Rattle.std.proofs.Common.{◌≡◌, Bool, true, false, List, [], ◌∷◌, map, refl, sym, ap, subst, inl, ◌∙◌, Option, Some, None, take}
+use Rattle.std.specs.Prelude.{codes, bytes_eq, ◌&&◌, ◌||◌, not, is_some, if◌then◌else◌, Ok}
 use Rattle.std.specs.List.{list_any}
 use Rattle.std.specs.Option.{option_map}
-use Rattle.smk_base.specs.Path.{overlaps, is_at_or_under}
+use Rattle.smk_base.specs.Path.{overlaps}
 use Rattle.smk_base.specs.Place.{mark_place, record_place}
 use Rattle.smk_base.specs.declared.tree.Tree.{Tree}
 use Rattle.smk_base.specs.declared.tree.Tree.TheVariants.{File, Folder}
@@ -12,7 +12,6 @@ use Rattle.smk_world.specs.declared.recipe.Recipe.{Recipe}
 use Rattle.smk_world.specs.declared.recipe.Kind.TheVariants.{Plain}
 use Rattle.smk_world.specs.declared.event.Call.{Call}
 use Rattle.smk_world.specs.declared.event.Call.TheVariants.{Written, Created, Removed, Settled, Started, Waited}
-use Rattle.smk_world.specs.declared.event.Change.{Change}
 use Rattle.smk_world.specs.declared.event.Event.{Event}
 use Rattle.smk_world.specs.declared.event.Node.{Node}
 use Rattle.smk_world.specs.declared.event.Node.TheVariants.{Regular, Directory}
@@ -29,7 +28,7 @@ use Rattle.smk_store.specs.declared.store.Kept.TheVariants.{Absent}
 use Rattle.smk_store.specs.Images.{content_of, is_covered, is_outside, is_source, readable, stands}
 use Rattle.smk_store.specs.Soundness.{Outside}
 use Rattle.smk_store.specs.Safety.{KeepsSound}
-use Rattle.smk_protocol.specs.Protocol.{Phase, Marking, Marked, Running, Ended, Firm, Recorded, OpenJob, RunState, IsAbsent, now, MayBegin, HasAllMarks, MakeFolders, Mark, AllMarked, Start, Wait, AllMade, Write, AllWritten, Unmark, AllUnmarked, Steady, Begin, Go, Close, Runs, Done, Next}
+use Rattle.smk_protocol.specs.Protocol.{Phase, Marking, Marked, Running, Ended, Firm, Recorded, OpenJob, RunState, IsAbsent, now, MayBegin, HasAllMarks, AllMarked, Start, Wait, AllMade, Write, AllWritten, Unmark, AllUnmarked, Steady, Begin, Go, Close, Runs, Done, Next}
 use Rattle.smk_protocol.specs.Midway.{at_entry, IsTop}
 use Rattle.smk_protocol.proofs.Basics.{by_test, clash, none_some}
 use Rattle.smk_protocol.proofs.ProtocolHolds.{keeps_sound}
@@ -179,17 +178,34 @@ copies (Folder es ∷ []) h = absurd (no h.0.folder)
 copies (t ∷ u ∷ trees) h = absurd h.1
 
 pub follows : Follows outside.act entry log
-follows =
-    (refl,
-    ((refl, (1001, refl)),
-    (refl,
-    ((refl, λ h. in_of [] 7 h),
-    ((record { number = 7; recipe = recipe; logs = [] }, refl, λ zero trees contents. (refl, copies trees contents)),
-    (refl,
-    ((1003, false, refl),
-    (refl,
-    (refl,
-    (refl, tt))))))))))
+follows = (
+  refl,
+  (
+    (refl, (1001, refl)),
+    (
+      refl,
+      (
+        (refl, λ h. in_of [] 7 h),
+        (
+          (record { number = 7; recipe = recipe; logs = [] }, refl, λ zero trees contents. (refl, copies trees contents)),
+          (
+            refl,
+            (
+              (1003, false, refl),
+              (
+                refl,
+                (
+                  refl,
+                  (refl, tt),
+                ),
+              ),
+            ),
+          ),
+        ),
+      ),
+    ),
+  ),
+)
 
 no_serial : IsTop outside entry 0
 no_serial p r n clear i = no_record (is_path_text p) r clear.0
