@@ -162,8 +162,8 @@ module _ (o : Outside) (entry : World) (H : Versions) (paths : List Path) where
 
   open_of : (s : Stage) (W : Path → Type 0) (w : World) → Holds s W w → Open o entry H W w
   open_of Resting W w h = open_rest o entry H W w h
-  open_of (Unrecording p) W w h = h.0.open_
-  open_of (Unmarking p) W w h = h.0.held.open_
+  open_of (Unrecording p) W w h = h.0.throughout
+  open_of (Unmarking p) W w h = h.0.held.throughout
   open_of Stopped W w h = h
 
   module _ (W V : Path → Type 0) (more : (q : Path) → W q → V q) (w : World) (left : List LeftNode) where
@@ -193,17 +193,17 @@ module _ (o : Outside) (entry : World) (H : Versions) (paths : List Path) where
     module _ (m : Path) (r : Result (Unit {0}) Failed) (lets : WorldLets o.act w (Removed m r) left) where
       at_record : (p : Path) → m ≡ record_place p → ((q : Path) → is_at_or_under q p ≡ true → V q) → Held o entry H W p w → Open o entry H V (then_ (Removed m r))
       at_record p is here held =
-          open_removed o entry H W V more p m w r left here held (left_of o w m r left held.open_.free lets)
+          open_removed o entry H W V more p m w r left here held (left_of o w m r left held.throughout.free lets)
           (subst (λ x. (names : List Path) (g : Nodes) → IsImage w names (filled o w x g) → Less p (view_of o.read names (filled o w x g)) (view_of o.read names g)) (sym is) (record_lessens p)) (quiet_call w (Removed m r) left tt)
 
       at_note : (p : Path) → m ≡ note_place p → ((q : Path) → is_at_or_under q p ≡ true → V q) → Held o entry H W p w → Open o entry H V (then_ (Removed m r))
       at_note p is here held =
-          open_removed o entry H W V more p m w r left here held (left_of o w m r left held.open_.free lets)
+          open_removed o entry H W V more p m w r left here held (left_of o w m r left held.throughout.free lets)
           (subst (λ x. (names : List Path) (g : Nodes) → IsImage w names (filled o w x g) → Less p (view_of o.read names (filled o w x g)) (view_of o.read names g)) (sym is) (note_lessens p)) (quiet_call w (Removed m r) left tt)
 
       at_mark : (p : Path) → m ≡ mark_place p → ((q : Path) → is_at_or_under q p ≡ true → V q) → Bare o entry H W p w → Open o entry H V (then_ (Removed m r))
       at_mark p is here bare =
-          open_removed o entry H W V more p m w r left here bare.held (left_of o w m r left bare.held.open_.free lets)
+          open_removed o entry H W V more p m w r left here bare.held (left_of o w m r left bare.held.throughout.free lets)
           (subst (λ x. (names : List Path) (g : Nodes) → IsImage w names (filled o w x g) → Less p (view_of o.read names (filled o w x g)) (view_of o.read names g)) (sym is) (mark_lessens p bare.gone)) (quiet_call w (Removed m r) left tt)
 
     -- ---- whatever is answered, the images stay safe
@@ -278,8 +278,8 @@ module _ (o : Outside) (entry : World) (H : Versions) (paths : List Path) where
     unrecord_step : (p m : Path) → ((names : List Path) (g : Nodes) → IsImage w names (filled o w m g) → Less p (view_of o.read names (filled o w m g)) (view_of o.read names g)) → ((q : Path) → is_at_or_under q p ≡ true → V q) → Held o entry H W p w → Held o entry H V p (after w (event (Removed m (Ok tt)) []))
     unrecord_step p m less here held =
         record {
-          open_ = open_removed o entry H W V more p m w (Ok tt) [] here held (λ q u. inl refl) less (quiet_call w (Removed m (Ok tt)) [] tt);
-          near = near_removed o entry H W V more p m w (Ok tt) [] here held (λ q u. inl refl) less (now_less w p m less (now_image w held.open_.formed));
+          throughout = open_removed o entry H W V more p m w (Ok tt) [] here held (λ q u. inl refl) less (quiet_call w (Removed m (Ok tt)) [] tt);
+          near = near_removed o entry H W V more p m w (Ok tt) [] here held (λ q u. inl refl) less (now_less w p m less (now_image w held.throughout.formed));
         }
 
     unmark_step : (p : Path) → ((q : Path) → is_at_or_under q p ≡ true → V q) → Bare o entry H W p w → Bare o entry H V p (after w (event (Removed (mark_place p) (Ok tt)) []))
@@ -316,8 +316,8 @@ module _ (o : Outside) (entry : World) (H : Versions) (paths : List Path) where
     step s s' e here lets h (Unrecorded _ p ps is a b all) =
         at_call (Unmarking p) e (Settled ps (Ok tt)) is (
           record {
-            held = held_alike o entry H W V more p w (after w (event (Settled ps (Ok tt)) e.left)) (settled_alike o w h.0.open_.formed ps (Ok tt) e.left) h.0;
-            gone = gone_settled o entry H W p w ps e.left h.0.open_ a b all;
+            held = held_alike o entry H W V more p w (after w (event (Settled ps (Ok tt)) e.left)) (settled_alike o w h.0.throughout.formed ps (Ok tt) e.left) h.0;
+            gone = gone_settled o entry H W p w ps e.left h.0.throughout a b all;
           },
           h.1,
         )
@@ -325,8 +325,8 @@ module _ (o : Outside) (entry : World) (H : Versions) (paths : List Path) where
         removed_step (Unmarking p) e.call e.left (mark_place p) is lets (λ here. (unmark_step p (here p h.1 (ap (forgets p) is ∙ forgets_mark p (mark_place p) refl)) h.0, h.1)) here
     step s s' e here lets h (Unmarked _ p ps is a all) =
         at_call Resting e (Settled ps (Ok tt)) is
-        (rest_again o entry H V p (after w (event (Settled ps (Ok tt)) e.left)) (bare_alike o entry H W V more p w (after w (event (Settled ps (Ok tt)) e.left)) (settled_alike o w h.0.held.open_.formed ps (Ok tt) e.left) h.0)
-        (unmarked_settled o entry H W p w ps e.left h.0.held.open_ a all))
+        (rest_again o entry H V p (after w (event (Settled ps (Ok tt)) e.left)) (bare_alike o entry H W V more p w (after w (event (Settled ps (Ok tt)) e.left)) (settled_alike o w h.0.held.throughout.formed ps (Ok tt) e.left) h.0)
+        (unmarked_settled o entry H W p w ps e.left h.0.held.throughout a all))
     step s s' e here lets h (Fail _ s2 _ f inner) = call_open W V more w e.left s e.call here lets h (may_call o paths w s Stopped e (Fail s s2 e f inner))
 
   -- ---- all of them

@@ -42,6 +42,7 @@ pub mod Nodes
 pub mod NoteChange
 pub mod Numbers
 pub mod OneJob
+pub mod OnePath
 pub mod Opening
 pub mod Own
 pub mod OwnHolds

@@ -34,13 +34,13 @@ use Rattle.smk_protocol.proofs.Basics.{by_test, clash, none_some}
 use Rattle.smk_protocol.proofs.ProtocolHolds.{keeps_sound}
 use Rattle.smk_protocol.proofs.Reading.{in_of}
 
-abbrev from : Path
+abbrev pub from : Path
 from = codes "in.txt"
 
-abbrev to : Path
+abbrev pub to : Path
 to = codes "out.txt"
 
-abbrev recipe : Recipe
+abbrev pub recipe : Recipe
 recipe =
     record {
       template = codes "cp {input} {output}";
@@ -53,18 +53,21 @@ recipe =
 abbrev job : Phase → OpenJob
 job phase = record { recipe = recipe; logs = []; stamps = Time 1000 ∷ []; serial = 1; kept = []; phase = phase }
 
+abbrev pub copy_record : Record
+copy_record = record { path = to; made = 1; recipe = recipe; stamps = Time 1000 ∷ []; members = [] }
+
 -- one text is the record, and a command copies its inputs
-abbrev outside : Outside
+abbrev pub outside : Outside
 outside =
     record {
-      read = λ bytes. if bytes_eq bytes (codes "r") then Some (record { path = to; made = 1; recipe = recipe; stamps = Time 1000 ∷ []; members = [] }) else None;
+      read = λ bytes. if bytes_eq bytes (codes "r") then Some copy_record else None;
       act = λ r inputs. record { status = 0; outputs = map (λ t. Some t) inputs };
     }
 
 abbrev entry : World
 entry = world_of ((from, Regular (codes "hello\n") 1000 false) ∷ [])
 
-abbrev call : Call → Event
+abbrev pub call : Call → Event
 call c = record { call = c; left = [] }
 
 abbrev leaving : Call → Path → Node → Event
@@ -144,11 +147,11 @@ may_begin =
 
 -- ---- the run
 
-going_none : (s : NodeState) → reading (going None s) ≡ None
+pub going_none : (s : NodeState) → reading (going None s) ≡ None
 going_none Owned = refl
 going_none (Known n b) = refl
 
-removed_absent : (w : World) (m : Path) → IsAbsent (after w (call (Removed m (Ok tt)))) m
+pub removed_absent : (w : World) (m : Path) → IsAbsent (after w (call (Removed m (Ok tt)))) m
 removed_absent w m q h = ap (λ (b : Bool). reading (if b then going None (w.nodes q) else w.nodes q)) h ∙ going_none (w.nodes q)
 
 pub runs : Runs outside (at_entry outside 0) entry log at_end
