@@ -25,3 +25,10 @@ pub mod Finite
 mod Copied
 pub mod CurrentAtExit
 pub mod CurrentStamps
+pub mod HistoryImages
+pub mod HistoryPlaces
+pub mod HistoryChange
+pub mod HistoryNew
+pub mod HistoryEdit
+pub mod HistoryRemove
+pub mod HistoryLaw

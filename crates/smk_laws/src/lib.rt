@@ -5,6 +5,7 @@ ghost use Rattle.smk_pattern.specs.Bound.{BoundFills};
 ghost use Rattle.smk_laws.specs.AtExit.{CurrentAtExitIsClean};
 ghost use Rattle.smk_laws.specs.Choices.{SameChoice, StaysAvailable};
 ghost use Rattle.smk_laws.specs.Current.{CurrentMeansClean, CurrentMeansCleanInWorlds, SeenIsComplete};
+ghost use Rattle.smk_laws.specs.Histories.{HistoryIsListed, HistoryLaw};
 ghost use Rattle.smk_laws.specs.Stamps.{StampTells};
 
 /// The law that what a plan calls current is clean: in a sound folder a target that is current by the last plan holds what a clean
@@ -27,4 +28,11 @@ pub fn choice_is_settled()
 /// In a sound folder a source whose time agrees with a recorded one has the bytes that it had then.
 pub fn stamps_tell()
     ensures { StampTells }
+{}
+
+/// The history law: after any list of calls, edits of sources, removals and crashes the folder is sound. And a directory with a record
+/// and no mark has no more in it than the record lists, so that no removal makes it whole.
+pub fn history_law()
+    ensures sound { HistoryLaw }
+    ensures listed { HistoryIsListed }
 {}
