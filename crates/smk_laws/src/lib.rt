@@ -7,6 +7,7 @@ ghost use Rattle.smk_laws.specs.Choices.{SameChoice, StaysAvailable};
 ghost use Rattle.smk_laws.specs.Current.{CurrentMeansClean, CurrentMeansCleanInWorlds, SeenIsComplete};
 ghost use Rattle.smk_laws.specs.Histories.{HistoryIsListed, HistoryLaw};
 ghost use Rattle.smk_laws.specs.Stamps.{StampTells};
+ghost use Rattle.smk_protocol.specs.Midway.{ProtocolKeepsSound, ProtocolLaw};
 
 /// The law that what a plan calls current is clean: in a sound folder a target that is current by the last plan holds what a clean
 /// run from the sources gives. A sound world gives what is asked of the folder, and at a run's exit a plan of which nothing is refused
@@ -28,6 +29,14 @@ pub fn choice_is_settled()
 /// In a sound folder a source whose time agrees with a recorded one has the bytes that it had then.
 pub fn stamps_tell()
     ensures { StampTells }
+{}
+
+/// The law of the protocol: from a sound folder, however far a run of the protocol has come, whatever a crash leaves is sound and has
+/// the sources of the entry, also while jobs are unfinished and after a call that failed; and where no child is left the folder is
+/// sound. So the log of such a run is one that keeps soundness, as a history asks of each call.
+pub fn protocol_law()
+    ensures safe { ProtocolLaw }
+    ensures kept { ProtocolKeepsSound }
 {}
 
 /// The history law: after any list of calls, edits of sources, removals and crashes the folder is sound. And a directory with a record

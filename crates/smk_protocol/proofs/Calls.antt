@@ -212,7 +212,7 @@ module _
     where
       nothing_left : (r : Result (Unit {0}) Failed) → Lets o w (event (Removed p r) left) (Removed p r) → reading (w.nodes p) ≡ None → standing left p ≡ None
       nothing_left (Ok u) lets h = ap (λ l. standing l p) lets
-      nothing_left (Err x) lets h = left_nothing (standing left p) (reading (w.nodes p)) h (lets p)
+      nothing_left (Err x) lets h = left_nothing (standing left p) (reading (w.nodes p)) h (lets p (at_self p))
 
       there : (after w (event (Removed p r) left)).nodes p ≡ going (standing left p) (w.nodes p)
       there = ap (λ (b : Bool). if b then going (standing left p) (w.nodes p) else w.nodes p) (at_self p)

@@ -1,6 +1,7 @@
 pub mod Acted
 pub mod After
 pub mod Along
+pub mod Answers
 pub mod Apart
 pub mod Aside
 pub mod Basics
@@ -13,6 +14,7 @@ pub mod Children
 pub mod Crux
 pub mod Easing
 pub mod Events
+pub mod EveryImage
 pub mod Finish
 pub mod Flags
 pub mod FolderChange
@@ -43,7 +45,9 @@ pub mod Owners
 pub mod Phases
 pub mod Places
 pub mod Protecting
+pub mod ProtocolHolds
 pub mod Quiet
+pub mod Reading
 pub mod RecordChange
 pub mod Records
 pub mod Rows
@@ -53,9 +57,11 @@ pub mod Shrink
 pub mod Shrunk
 pub mod Sorted
 pub mod SoundViews
+pub mod SoundWorlds
 pub mod Spending
 pub mod Stays
 pub mod Steadying
+pub mod StepViews
 pub mod Still
 pub mod TextFacts
 pub mod TextFolders
@@ -64,6 +70,7 @@ pub mod Turns
 pub mod Unmark
 pub mod UnmarkChange
 pub mod Unmarking
+pub mod Unowned
 pub mod Untouched
 pub mod Valid
 pub mod View

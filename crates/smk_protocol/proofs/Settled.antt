@@ -9,7 +9,8 @@ use Rattle.smk_world.specs.declared.event.NodeState.{NodeState}
 use Rattle.smk_world.specs.declared.event.NodeState.TheVariants.{Owned, Known}
 use Rattle.smk_base.specs.declared.tree.Tree.{Tree}
 use Rattle.smk_world.specs.Trees.{Path, among, IsIn, Each, is_path_text}
-use Rattle.smk_store.specs.Images.{is_outside, content_of}
+use Rattle.smk_store.specs.Images.{is_outside}
+use Rattle.smk_protocol.proofs.View.{file_of}
 use Rattle.smk_record.specs.Records.{members_of, core}
 use Rattle.smk_protocol.proofs.Views.{EachImage, reads, view_of, read_at, place_node}
 use Rattle.smk_world.specs.World.{World, IsFormed, MayLeave, after, reading, firmly, firm, is_within, is_above, reads_folder}
@@ -140,6 +141,6 @@ module _ (o : Outside) (texts : Texts o.read) (w : World) (ps : List Path) (left
                   none_file (is_outside q) (nothing p q (in_left (outputs j) (record_places j) p i) u (not_owned p q i u));
             }
           where
-            none_file : {n : Option Node} (b : Bool) → n ≡ None → content_of (if b then n else None) ≡ None
-            none_file true h = ap content_of h
+            none_file : {n : Option Node} (b : Bool) → n ≡ None → file_of (if b then n else None) ≡ None
+            none_file true h = ap file_of h
             none_file false h = refl
