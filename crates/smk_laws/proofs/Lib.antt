@@ -1,4 +1,5 @@
 mod Refused
+pub mod RefusedOrders
 mod Vouched
 pub mod Valid
 pub mod Same
