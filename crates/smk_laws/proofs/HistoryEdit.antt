@@ -16,14 +16,14 @@ use Rattle.smk_record.specs.declared.record.Record.{Record}
 use Rattle.smk_record.specs.Records.{stamped, core}
 use Rattle.smk_store.specs.declared.store.Kept.{Kept}
 use Rattle.smk_store.specs.declared.store.Kept.TheVariants.{Absent, Unreadable, Held}
-use Rattle.smk_store.specs.Images.{Image, Content, content_of, image_of, seen, stands, readable, is_outside, is_known, is_covered, is_file, is_source, source_at, file_at, record_at, core_at, members_under}
+use Rattle.smk_store.specs.Images.{Image, Content, content_of, image_of, seen, stands, readable, is_outside, is_directory, is_known, is_covered, is_file, is_source, source_at, file_at, record_at, core_at, members_under}
 use Rattle.smk_store.specs.Trust.{Versions}
 use Rattle.smk_store.specs.Soundness.{Outside, SoundWorld, EachImage}
 use Rattle.smk_store.specs.Safety.{with_sources}
 use Rattle.smk_laws.specs.Histories.{ListsAll, IsListed, edited, IsLater}
 use Rattle.smk_laws.proofs.CurrentLists.{and_left, and_right, not_true, or_left, or_right, any_none, clash_of}
 use Rattle.smk_laws.proofs.CurrentPaths.{among_in}
-use Rattle.smk_laws.proofs.HistoryPlaces.{whole_same, tree_same, members_same}
+use Rattle.smk_laws.proofs.HistoryPlaces.{node_same, whole_same, tree_same, members_same}
 use Rattle.smk_laws.proofs.HistoryChange.{Replaces, IsPair, IsFit, now_pair, image_pair, before, leaves_before, kept_on, marked_on, sound_change}
 use Rattle.smk_protocol.proofs.TextFolders.{folders_are}
 
@@ -152,9 +152,10 @@ module _ (p : Path) (file : Content) where
         }
 
     listed : (seen read v).marked ≡ (seen read v').marked → ListsAll (seen read v) → ListsAll (seen read v')
-    listed marked all d r at unmarked folder m i =
+    listed marked all d r at unmarked folder stands m i =
         let before = (λ j. readable (kept j d)) ∙ at in
-        all d r before ((λ j. marked j d) ∙ unmarked) folder m
+        let same = node_same read v v' d (pair.other d (untouched d r before d (at_itself d))) in
+        all d r before ((λ j. marked j d) ∙ unmarked) folder (ap is_directory (sym same) ∙ stands) m
         (subst (λ ms. IsIn ms m) (members_same read v v' pair.formed pair.formed' d (λ q h. pair.other q (untouched d r before q h))) i)
 
 module _ (o : Outside) (w : World) (p : Path) (bytes : List ℕ) (time : ℕ) (read_only : Bool) where

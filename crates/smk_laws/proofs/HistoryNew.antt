@@ -64,7 +64,7 @@ module _ (o : Outside) (w : World) (new : IsNew w) where
       }
 
   lists_by : (names : List Path) → ListsAll (image names)
-  lists_by names p r at unmarked folder m i = absurd (no_record names p r at)
+  lists_by names p r at unmarked folder stands m i = absurd (no_record names p r at)
 
   module _ (nodes : Nodes) (leaves : Leaves w nodes) where
     left : (q : Path) → node_in nodes q ≡ reading (w.nodes q)

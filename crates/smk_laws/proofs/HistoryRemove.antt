@@ -142,8 +142,13 @@ module _ (p : Path) where
         subst (λ y. IsIn (members_under (seen read v) d) y) (sym back)
         (in_map (λ q. record { folder = is_folder (seen read v) q; name = below d q }) (names_under (seen read v) d) x.0 (in_filter (λ q. is_under q d) (seen read v).names x.0 named k.1))
 
+    -- a folder that stands after stood before
+    folder_before : (d : Path) → is_folder (seen read v') d ≡ true → is_folder (seen read v) d ≡ true
+    folder_before d h = ap is_directory (sym (node_same read v v' d (pair.other d (stays d (folder_stands ((seen read v').node d) h))))) ∙ h
+
     pub listed : (seen read v).marked ≡ (seen read v').marked → ListsAll (seen read v) → ListsAll (seen read v')
-    listed marked all d r at unmarked folder m i = all d r ((λ j. readable (kept j d)) ∙ at) ((λ j. marked j d) ∙ unmarked) folder m (members_before d m i)
+    listed marked all d r at unmarked folder stands m i =
+        all d r ((λ j. readable (kept j d)) ∙ at) ((λ j. marked j d) ∙ unmarked) folder (folder_before d stands) m (members_before d m i)
 
     -- where all that is listed stands after, nothing under the folder is touched
     module _ (d : Path) (s : Record) (at : record_at (seen read v) d ≡ Some s) (whole : is_whole (seen read v') d Folder ≡ true)
@@ -202,7 +207,7 @@ module _ (p : Path) where
         by_kind d r at unmarked Folder e whole =
             let full = core_from (record_at (seen read v) d) r at in
             let is_kind : is_folder_kind (kind_in full.0.recipe d) ≡ true = ap (λ (x : Record). is_folder_kind (kind_in x.recipe d)) full.2 ∙ ap is_folder_kind e in
-            let same = same_under d full.0 full.1 whole (all d full.0 full.1 unmarked is_kind) in
+            let same = same_under d full.0 full.1 whole (all d full.0 full.1 unmarked is_kind (folder_before d (and_left (is_folder (seen read v') d) _ whole))) in
             (sym (whole_same read v v' pair.formed pair.formed' d same Folder kept) ∙ whole, tree_same read v v' pair.formed pair.formed' d same)
 
 module _ (o : Outside) (w : World) (p : Path) (H : Versions) (sound : SoundWorld o w H) (outside : is_at_or_under p own_folder ≡ false) (all : IsListed o w) where

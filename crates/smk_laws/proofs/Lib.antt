@@ -33,3 +33,5 @@ pub mod HistoryNew
 pub mod HistoryEdit
 pub mod HistoryRemove
 pub mod HistoryLaw
+pub mod HistoryListed
+pub mod HistoryListedCalls

@@ -19,12 +19,13 @@ use Rattle.smk_store.specs.Safety.{KeepsSound, with_sources}
 
 -- ## Directories with no more than is listed
 
--- Under a directory whose record reads and has no mark no more stands than the record lists.
+-- Under a directory output that stands, and whose record reads and has no mark, no more stands than the record lists.
 abbrev pub ListsAll : Image → Type 0
 ListsAll image =
     (p : Path) (r : Record) →
     record_at image p ≡ Some r →
-    image.marked p ≡ false → is_folder_kind (kind_in r.recipe p) ≡ true → (m : Member) → IsIn (members_under image p) m → IsIn r.members m
+    image.marked p ≡ false →
+    is_folder_kind (kind_in r.recipe p) ≡ true → is_folder image p ≡ true → (m : Member) → IsIn (members_under image p) m → IsIn r.members m
 
 -- so it is in the world as it reads and in whatever a crash leaves of it
 pub record IsListed (o : Outside) (w : World) : Type 0 where
