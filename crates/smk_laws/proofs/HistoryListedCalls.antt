@@ -1,11 +1,15 @@
 -- Each call of the protocol keeps directories listed.
-use Rattle.std.proofs.Common.{◌≡◌, ◌⊎◌, ℕ, Bool, true, false, not, ◌&&◌, ◌||◌, List, [], ◌∷◌, ◌++◌, map, refl, sym, ap, subst, inl, inr, ◌∙◌, Option, Some, None, Ok, Err, IsSome, IsTrue, true≢false}
+use Rattle.std.proofs.Common.{◌≡◌, ◌⊎◌, ℕ, Bool, true, false, not, ◌&&◌, ◌||◌, List, [], ◌∷◌, ◌++◌, ◌+◌, map, drop, length, refl, sym, ap, subst, inl, inr, ◌∙◌, Option, Some, None, Ok, Err, IsSome, IsTrue, true≢false}
 use Rattle.std.specs.Prelude.{bytes_eq, nat_eq, is_some, is_none, option_map, if◌then◌else◌, Result}
 use Rattle.std.specs.List.{list_any}
 use Rattle.smk_base.specs.Path.{is_under, is_at_or_under, overlaps}
 use Rattle.smk_base.specs.Place.{record_place, mark_place, note_place, lock_place}
 use Rattle.smk_base.proofs.Places.{same_place, place_itself}
-use Rattle.smk_base.proofs.Under.{never_both, at_when_under, under_further, overlaps_above_both}
+use Rattle.smk_base.proofs.Under.{never_both, false_unless, at_itself, at_when_under, at_or_under_further, overlaps_above_both}
+use Rattle.smk_base.specs.declared.tree.Tree.{Tree}
+use Rattle.smk_base.specs.declared.tree.Tree.TheVariants.{File, Folder as Entries}
+use Rattle.smk_base.specs.declared.tree.TreeEntry.{TreeEntry}
+use Rattle.smk_world.specs.declared.recipe.Kind.TheVariants.{Plain, Folder}
 use Rattle.smk_world.specs.declared.event.Node.{Node}
 use Rattle.smk_world.specs.declared.event.Node.TheVariants.{Regular, Directory}
 use Rattle.smk_world.specs.declared.event.NodeState.{NodeState}
@@ -18,27 +22,31 @@ use Rattle.smk_world.specs.declared.event.Change.{Change as LeftNode}
 use Rattle.smk_world.specs.declared.event.Child.{Child}
 use Rattle.smk_world.specs.declared.event.Failed.{Failed}
 use Rattle.smk_world.specs.World.{World, MayLeave, IsBeside, IsOneOf, after, reading, reads_nothing, firm, firmly, loose, going, or_also, standing, with_flag, with_folder, protected, is_within, is_above, reads_folder, owned_paths, owned_by, owned_of, child_numbered}
-use Rattle.smk_world.specs.Trees.{Path, IsIn, Each, is_path_text, is_folder_kind, among}
+use Rattle.smk_world.specs.Trees.{Path, IsIn, Each, is_path_text, is_folder_kind, among, folders_of}
 use Rattle.smk_record.specs.declared.record.Member.{Member}
 use Rattle.smk_record.specs.declared.record.Record.{Record}
 use Rattle.smk_record.specs.Records.{core}
-use Rattle.smk_store.specs.Images.{is_outside, is_directory, kept_by, readable}
+use Rattle.smk_store.specs.Images.{Content, is_outside, is_directory, bytes_of, kept_by, readable}
 use Rattle.smk_store.specs.Trust.{Versions}
 use Rattle.smk_store.specs.Soundness.{Outside}
-use Rattle.smk_protocol.specs.Protocol.{OpenJob, RunState, Marking, Running, Recorded, Dropped, own, outputs, mark_places, record_places, eased, is_running}
-use Rattle.smk_protocol.proofs.Basics.{each_in, any_by, none_of, clash}
-use Rattle.smk_protocol.proofs.Between.{Midway, Fits, InPhase, Lets, IsFirmly, HasNoRecordClash, has_firm_marks, IsOfJob}
+use Rattle.smk_protocol.specs.Protocol.{OpenJob, RunState, Marking, Running, Recorded, Dropped, own, outputs, mark_places, record_places, record_of, eased, is_running}
+use Rattle.smk_protocol.proofs.Basics.{each_in, in_filter, any_by}
+use Rattle.smk_protocol.proofs.Between.{Midway, Fits, InPhase, Lets, IsFirmly, HasNoRecordClash, IsGone, IsKnown, HoldsGiven, has_firm_marks, is_made, IsOfJob}
 use Rattle.smk_protocol.proofs.Calls.{event, Allows, in_map}
 use Rattle.smk_protocol.proofs.Flags.{IsFlagged, flag_leaves, going_flag}
+use Rattle.smk_protocol.proofs.Guarded.{in_either}
 use Rattle.smk_protocol.proofs.Keeping.{AsideAllows}
 use Rattle.smk_protocol.proofs.Marking.{reads_stay}
-use Rattle.smk_protocol.proofs.Naming.{NamesLaws, IsImage, IsWide, each_image, of_wide}
+use Rattle.smk_protocol.proofs.Naming.{NamesLaws, IsImage, IsWide, each_image, of_wide, now_image}
+use Rattle.smk_protocol.proofs.Members.{member}
+use Rattle.smk_protocol.proofs.Rows.{now}
 use Rattle.smk_protocol.proofs.Settling.{firm_leaves}
 use Rattle.smk_protocol.proofs.Shrunk.{going_some}
 use Rattle.smk_protocol.proofs.Stays.{in_left}
 use Rattle.smk_protocol.proofs.Texts.{Texts}
-use Rattle.smk_protocol.proofs.View.{View, kind_in}
-use Rattle.smk_protocol.proofs.Views.{Nodes, EachImage, reads, read_at, view_of, place_node}
+use Rattle.smk_protocol.proofs.View.{View, kind_in, file_of}
+use Rattle.smk_protocol.proofs.Views.{Nodes, EachImage, reads, read_at, view_of, path_node, place_node, names_in}
+use Rattle.smk_laws.proofs.CurrentLists.{and_left, and_right}
 use Rattle.smk_laws.proofs.HistoryEdit.{path_outside}
 use Rattle.smk_laws.proofs.HistoryListed.{HasListed, MayStand, before, before_image, same_record, same_listed, mark_before, folder_before, members_before}
 
@@ -111,7 +119,81 @@ some_within q (x ∷ xs) h = go (is_at_or_under q x) refl h (λ k. some_within q
     go true e k ih = (x, inl refl, e)
     go false e k ih = let r = ih k in (r.0, inr r.1, r.2)
 
+and_false : (b : Bool) → (b && false) ≡ false
+and_false true = refl
+and_false false = refl
+
+-- what lies above a place outside of a path isn't at or under the path
+not_above : (x p q : Path) → is_at_or_under q p ≡ true → is_at_or_under x p ≡ false → is_under x q ≡ false
+not_above x p q h out = false_unless (is_under x q) (λ u. never_both (is_at_or_under x p) (at_or_under_further x q p (at_when_under x q u) h) out)
+
+numbered_in : (n : ℕ) (cs : List Child) (d : Child) → child_numbered n cs ≡ Some d → IsIn cs d
+numbered_in n [] d h = absurd (none_some d h)
+numbered_in n (c ∷ cs) d h = go (nat_eq c.number n) h (λ k. numbered_in n cs d k)
+  where
+    go : (b : Bool) → (if b then Some c else child_numbered n cs) ≡ Some d → (child_numbered n cs ≡ Some d → IsIn cs d) → IsIn (c ∷ cs) d
+    go true k ih = inl (sym (some_is c d k))
+    go false k ih = inr (ih k)
+
+-- ## Trees
+
+folder_is : (a b : List TreeEntry) → Some (Entries a) ≡ Some (Entries b) → a ≡ b
+folder_is a b h = cc
+
+kind_of_entry : (n : Option Node) → is_some n ≡ true → not (is_some (bytes_of n)) ≡ is_directory n
+kind_of_entry None h = absurd (true≢false (sym h))
+kind_of_entry (Some Directory) h = refl
+kind_of_entry (Some (Regular bytes time read_only)) h = refl
+
+-- the members of a folder by the entries of its tree
+member_of_entry : TreeEntry → Member
+member_of_entry e = record { folder = not (is_some e.bytes); name = e.name }
+
+abbrev entry : Nodes → Path → Path → TreeEntry
+entry f p q = record { name = drop (length p + 1) q; bytes = bytes_of (path_node f q) }
+
+of_entries : (f : Nodes) (p : Path) (qs : List Path) → ((q : Path) → IsIn qs q → is_some (path_node f q) ≡ true) → map member_of_entry (map (entry f p) qs) ≡ map (member f p) qs
+unfolding member_of_entry
+of_entries f p [] some = refl
+of_entries f p (q ∷ qs) some = λ j. record { folder = kind_of_entry (path_node f q) (some q (inl refl)) j; name = drop (length p + 1) q } ∷ of_entries f p qs (λ x i. some x (inr i)) j
+
+module _ (read : List ℕ → Option Record) (names names' : List Path) (f f' : Nodes) (p : Path) where
+  abbrev entries : List Path → Nodes → List TreeEntry
+  entries ns h = map (entry h p) (names_in ns (path_node h) p)
+
+  members_are : (ns : List Path) (h : Nodes) → map member_of_entry (entries ns h) ≡ (view_of read ns h).members p
+  members_are ns h = of_entries h p (names_in ns (path_node h) p) (λ q i. and_right (is_under q p) _ (in_filter (λ q. is_under q p && is_some (path_node h q)) ns q i).1)
+
+  -- where two trees of folders are the same, the members are
+  members_by_tree : (view_of read names f).tree p ≡ (view_of read names' f').tree p → (view_of read names f).is_folder p ≡ true → (view_of read names f).members p ≡ (view_of read names' f').members p
+  members_by_tree same folder =
+      sym (members_are names f) ∙ ap (map member_of_entry) (by_folder (is_directory (path_node f' p)) refl) ∙ members_are names' f'
+    where
+      here : (view_of read names f).tree p ≡ Some (Entries (entries names f))
+      here = ap (λ b. if b then Some (Entries (entries names f)) else option_map (λ (x : Content). File x.bytes) (file_of (path_node f p))) folder
+
+      no_file : (es : List TreeEntry) (c : Option Content) → Some (Entries es) ≡ option_map (λ (x : Content). File x.bytes) c → ⊥
+      no_file es None h = none_some (Entries es) (sym h)
+      no_file es (Some c) h = true≢false (ap (λ (t : Option Tree). is_entries t) h)
+        where
+          is_entries : Option Tree → Bool
+          is_entries None = false
+          is_entries (Some (File bytes)) = false
+          is_entries (Some (Entries e)) = true
+
+      by_folder : (b : Bool) → is_directory (path_node f' p) ≡ b → entries names f ≡ entries names' f'
+      by_folder true e =
+          folder_is (entries names f) (entries names' f')
+          (sym here ∙ same ∙ ap (λ b. if b then Some (Entries (entries names' f')) else option_map (λ (x : Content). File x.bytes) (file_of (path_node f' p))) e)
+      by_folder false e =
+          absurd (no_file (entries names f) (file_of (path_node f' p))
+          (sym here ∙ same ∙ ap (λ b. if b then Some (Entries (entries names' f')) else option_map (λ (x : Content). File x.bytes) (file_of (path_node f' p))) e))
+
 -- ## A call
+
+-- whose call it is: that of no job, or of an open job
+abbrev pub Who : Outside → RunState → World → Call → Type 0
+Who o s w c = AsideAllows o s w c ⊎ ((k : OpenJob) × IsIn s.jobs k × Allows o k c)
 
 module _
     (o : Outside) (texts : Texts o.read) (entry : World) (H : Versions) (s : RunState) (w : World) (m : Midway o entry H s w) (all : EachImage o.read w HasListed) where
@@ -343,3 +425,262 @@ module _
             subst (λ z. MayStand w z y) (sym (same_place q x t))
             (flagged_stands w x y (back y (subst (λ z. MayLeave (after_flag z) (Some y)) (same_place q x t)
             (subst (MayLeave (after_flag q)) e (subst (λ z. MayLeave z (h.g q)) (is q ∙ ap (λ b. if b then after_flag q else w.nodes q) t) (leave q))))))
+
+    -- ## A mark that is taken away
+
+    module _ (n0 : Path → Option Node) (is : (q : Path) → next.nodes q ≡ (if is_at_or_under q mark then going (n0 q) (w.nodes q) else w.nodes q)) where
+      far_same : (q : Path) → is_at_or_under q mark ≡ false → next.nodes q ≡ w.nodes q
+      far_same q far = is q ∙ ap (λ b. if b then going (n0 q) (w.nodes q) else w.nodes q) far
+
+      may_record : MayLeave (w.nodes place) (h.g place)
+      may_record = same_at_record (far_same place (texts.marks.mark_record h.p h.p))
+
+      may_under : (q : Path) → is_at_or_under q h.p ≡ true → (x : Node) → h.g q ≡ Some x → MayStand w q x
+      may_under = same_under (λ q u. far_same q (texts.far.mark_far h.p q h.p path u))
+
+      named : IsSome (reads w mark) → IsSome (h.g mark) ⊎ IsSome (reads w mark)
+      named k = inr k
+
+      -- the image with the mark as it reads
+      marked_image : Nodes
+      marked_image = before o.read texts.outside w next h.names h.g h.wide h.p path may_record (reads w mark) (reads_stay (w.nodes mark)) named may_under
+
+      is_image : IsImage w h.names marked_image
+      unfolding marked_image
+      is_image = before_image o.read texts.outside w next h.names h.g h.wide h.p path may_record (reads w mark) (reads_stay (w.nodes mark)) named may_under
+
+      abbrev then_view : View
+      then_view = view_of o.read h.names marked_image
+
+      record_then : then_view.record_at h.p ≡ Some h.r
+      unfolding marked_image
+      record_then = same_record o.read texts.outside w next h.names h.g h.wide h.p path may_record (reads w mark) (reads_stay (w.nodes mark)) named may_under ∙ h.at
+
+      listed_then : then_view.listed h.p ≡ (view_of o.read h.names h.g).listed h.p
+      unfolding marked_image
+      listed_then = same_listed o.read texts.outside w next h.names h.g h.wide h.p path may_record (reads w mark) (reads_stay (w.nodes mark)) named may_under
+
+      folder_then : (view_of o.read h.names h.g).is_folder h.p ≡ true → then_view.is_folder h.p ≡ true
+      unfolding marked_image
+      folder_then = folder_before o.read texts.outside w next h.names h.g h.wide h.p path may_record (reads w mark) (reads_stay (w.nodes mark)) named may_under
+
+      members_then : (x : Member) → IsIn ((view_of o.read h.names h.g).members h.p) x → IsIn (then_view.members h.p) x
+      unfolding marked_image
+      members_then = members_before o.read texts.outside w next h.names h.g h.wide h.p path may_record (reads w mark) (reads_stay (w.nodes mark)) named may_under
+
+      -- of an output that is dropped no record is left
+      dropped_gone : (k : OpenJob) → IsIn s.jobs k → k.phase ≡ Dropped → IsIn (outputs k) h.p → ⊥
+      dropped_gone k i phase output =
+          let gone = each_in (IsGone o then_view) (outputs k) h.p (each_image o.read w (λ v. Each (IsGone o v) (outputs k)) ((each_in (InPhase o w) s.jobs k m.phases i).gone phase) h.names marked_image is_image) output in
+          none_some h.r (sym gone.no_record ∙ record_then)
+
+      -- a recorded output is the same in every image, and its record lists what stands there now
+      recorded_lists : (k : OpenJob) → IsIn s.jobs k → k.phase ≡ Recorded → IsIn (outputs k) h.p → Lists
+      recorded_lists k i phase output folder stands x at_x =
+          let phases = each_in (InPhase o w) s.jobs k m.phases i in
+          let known = each_in (IsKnown o (now o w) k then_view) (outputs k) h.p (each_image o.read w (λ v. Each (IsKnown o (now o w) k v) (outputs k)) (phases.known phase) h.names marked_image is_image) output in
+          let made = λ (names : List Path) (f : Nodes) (image : IsImage w names f). each_in (HoldsGiven o (now o w) k (view_of o.read names f)) (outputs k) h.p
+          (each_image o.read w (λ v. Each (HoldsGiven o (now o w) k v) (outputs k)) (phases.made (ap (is_made o) phase)) names f image) output in
+          let here = made h.names marked_image is_image in
+          let there = made w.names (reads w) (now_image w m.images.formed) in
+          let tree : then_view.tree h.p ≡ (now o w).tree h.p = here.2 ∙ sym here.1 ∙ there.1 ∙ sym there.2 in
+          let members = members_by_tree o.read h.names w.names marked_image (reads w) h.p tree (folder_then stands) in
+          let same : h.r ≡ record_of k h.p = some_is h.r (record_of k h.p) (sym record_then ∙ known.reads) in
+          let is_out : among (folders_of k.recipe) h.p ≡ true = by_kind (among (folders_of k.recipe) h.p) (sym (ap (λ (y : Record). is_folder_kind (kind_in y h.p)) same) ∙ folder) in
+          subst (λ ms. IsIn ms x) (members ∙ sym (ap (λ b. if b then (now o w).members h.p else []) is_out) ∙ sym known.lists ∙ listed_then) (members_then x at_x)
+        where
+          by_kind : (b : Bool) → is_folder_kind (if b then Folder else Plain) ≡ true → b ≡ true
+          by_kind true k = refl
+          by_kind false k = k
+
+  -- ## Each call
+
+  abbrev then_world : Call → List LeftNode → World
+  then_world c left = after w (event c left)
+
+  still : (c : Call) (left : List LeftNode) (h : Here (then_world c left)) → ((q : Path) → (then_world c left).nodes q ≡ w.nodes q) → Lists (then_world c left) h
+  still c left h same = listed_by (then_world c left) h (untouched (then_world c left) h same)
+
+  settled_keeps : (ps : List Path) (left : List LeftNode) (h : Here (then_world (Settled ps (Ok tt)) left)) → Lists (then_world (Settled ps (Ok tt)) left) h
+  settled_keeps ps left h =
+      let next = then_world (Settled ps (Ok tt)) left in
+      listed_by next h
+      (record {
+        at_record = back (record_place h.p) (h.g (record_place h.p)) (leave next h (record_place h.p));
+        at_mark = subst (MayLeave (w.nodes (mark_place h.p))) (no_mark next h) (back (mark_place h.p) (h.g (mark_place h.p)) (leave next h (mark_place h.p)));
+        stood = λ q u x e. stays w q x (back q (Some x) (subst (MayLeave (next.nodes q)) e (leave next h q)));
+      })
+    where
+      back : (q : Path) (n : Option Node) → MayLeave ((then_world (Settled ps (Ok tt)) left).nodes q) n → MayLeave (w.nodes q) n
+      back q n k = settled_may (is_within q ps || (is_above q ps && reads_folder (w.nodes q))) (w.nodes q) n k
+
+  -- what a removal may leave
+  standing_part : (x : Path) (r : Result (Unit {0}) Failed) (left : List LeftNode) → Lets o w (event (Removed x r) left) (Removed x r) →
+      (q : Path) → is_at_or_under q x ≡ true → (standing left q ≡ None) ⊎ (standing left q ≡ reading (w.nodes q))
+  standing_part x (Ok u) left lets q h = inl (ap (λ l. standing l q) lets)
+  standing_part x (Err f) left lets q h = lets q h
+
+  removed_keeps : (x : Path) (r : Result (Unit {0}) Failed) (left : List LeftNode) → Lets o w (event (Removed x r) left) (Removed x r) →
+      (h : Here (then_world (Removed x r) left)) → is_at_or_under (mark_place h.p) x ≡ false → Lists (then_world (Removed x r) left) h
+  removed_keeps x r left lets h far =
+      let next = then_world (Removed x r) left in
+      listed_by next h (removed_by next h x (standing left) (λ q. refl) (standing_part x r left lets) far)
+
+  unmark_keeps : (y : Path) (r : Result (Unit {0}) Failed) (left : List LeftNode) → Lets o w (event (Removed (mark_place y) r) left) (Removed (mark_place y) r) →
+      (k : OpenJob) → IsIn s.jobs k → (k.phase ≡ Recorded) ⊎ (k.phase ≡ Dropped) → IsIn (outputs k) y →
+      (h : Here (then_world (Removed (mark_place y) r) left)) → Lists (then_world (Removed (mark_place y) r) left) h
+  unmark_keeps y r left lets k i phase output h = go (bytes_eq h.p y) refl
+    where
+      next : World
+      next = then_world (Removed (mark_place y) r) left
+
+      own_mark : h.p ≡ y → (q : Path) → (then_world (Removed (mark_place y) r) left).nodes q ≡ (if is_at_or_under q (mark_place h.p) then going (standing left q) (w.nodes q) else w.nodes q)
+      own_mark e q j = if is_at_or_under q (mark_place (sym e j)) then going (standing left q) (w.nodes q) else w.nodes q
+
+      by_phase : (k.phase ≡ Recorded) ⊎ (k.phase ≡ Dropped) → h.p ≡ y → Lists (then_world (Removed (mark_place y) r) left) h
+      by_phase (inl recorded) e = recorded_lists (then_world (Removed (mark_place y) r) left) h (standing left) (own_mark e) k i recorded (subst (IsIn (outputs k)) (sym e) output)
+      by_phase (inr dropped) e = absurd (dropped_gone (then_world (Removed (mark_place y) r) left) h (standing left) (own_mark e) k i dropped (subst (IsIn (outputs k)) (sym e) output))
+
+      go : (b : Bool) → bytes_eq h.p y ≡ b → Lists (then_world (Removed (mark_place y) r) left) h
+      go true e = by_phase phase (same_place h.p y e)
+      go false e = removed_keeps (mark_place y) r left lets h (texts.marks.mark_mark y h.p ∙ e)
+
+  -- folders are made above a place that isn't at or under the path
+  above_keeps : (x : Path) (r : Result (Unit {0}) Failed) (left : List LeftNode) (h : Here (then_world (MadeParents x r) left)) → is_at_or_under x h.p ≡ false → Lists (then_world (MadeParents x r) left) h
+  above_keeps x (Ok u) left h out =
+      let next = then_world (MadeParents x (Ok u)) left in
+      listed_by next h (folders_by next h (λ q. is_under x q) (λ q. refl) (λ q k. not_above x h.p q k out))
+  above_keeps x (Err f) left h out =
+      let next = then_world (MadeParents x (Err f)) left in
+      listed_by next h (folders_by next h (λ q. is_some (standing left q) && is_under x q) (λ q. refl) (λ q k. ap (λ b. is_some (standing left q) && b) (not_above x h.p q k out) ∙ and_false (is_some (standing left q))))
+
+  -- or above a path of an open job under firm marks
+  own_above_keeps : (x : Path) (r : Result (Unit {0}) Failed) (left : List LeftNode) (k : OpenJob) → IsIn s.jobs k → has_firm_marks o k.phase ≡ true → IsIn (own k) x →
+      (h : Here (then_world (MadeParents x r) left)) → Lists (then_world (MadeParents x r) left) h
+  own_above_keeps x r left k i marks at_x h = go (is_at_or_under x h.p) refl
+    where
+      out : is_outside x ≡ true
+      out = each_in (λ y. IsTrue (is_outside y)) (own k) x (each_in (Fits o entry (eased s) s.top w) s.jobs k m.fits i).paths at_x
+
+      may : (r : Result (Unit {0}) Failed) (h : Here (then_world (MadeParents x r) left)) → MayLeave (w.nodes (record_place h.p)) (h.g (record_place h.p))
+      may (Ok u) h =
+          let next = then_world (MadeParents x (Ok u)) left in
+          elim (folder_may (is_under x (record_place h.p)) (w.nodes (record_place h.p)) (h.g (record_place h.p)) (leave next h (record_place h.p))) [ inl y ↦ y | inr e ↦ absurd (no_folder next h e) ]
+      may (Err f) h =
+          let next = then_world (MadeParents x (Err f)) left in
+          elim (folder_may (is_some (standing left (record_place h.p)) && is_under x (record_place h.p)) (w.nodes (record_place h.p)) (h.g (record_place h.p)) (leave next h (record_place h.p))) [ inl y ↦ y | inr e ↦ absurd (no_folder next h e) ]
+
+      same_mark : (r : Result (Unit {0}) Failed) (p : Path) → (then_world (MadeParents x r) left).nodes (mark_place p) ≡ w.nodes (mark_place p)
+      same_mark (Ok u) p = ap (λ b. if b then with_folder (w.nodes (mark_place p)) else w.nodes (mark_place p)) ((texts.above.path_free x out).above_mark p)
+      same_mark (Err f) p =
+          ap (λ b. if is_some (standing left (mark_place p)) && b then with_folder (w.nodes (mark_place p)) else w.nodes (mark_place p)) ((texts.above.path_free x out).above_mark p)
+          ∙ ap (λ b. if b then with_folder (w.nodes (mark_place p)) else w.nodes (mark_place p)) (and_false (is_some (standing left (mark_place p))))
+
+      go : (b : Bool) → is_at_or_under x h.p ≡ b → Lists (then_world (MadeParents x r) left) h
+      go false e = above_keeps x r left h e
+      go true e =
+          let next = then_world (MadeParents x r) left in
+          let output = output_of next h k i (may r h) (any_by (overlaps h.p) (own k) x at_x (overlaps_above_both x h.p x e (at_itself x))) in
+          absurd (firm_mark next h k i marks output (same_mark r h.p))
+
+  -- a place of the engine's own is created
+  created_keeps : (x : Path) (r : Result Bool Failed) (left : List LeftNode) → Lets o w (event (Created x r) left) (Created x r) →
+      (h : Here (then_world (Created x r) left)) → bytes_eq (record_place h.p) x ≡ false → is_at_or_under x h.p ≡ false → Lists (then_world (Created x r) left) h
+  created_keeps x (Ok false) left lets h other out = still (Created x (Ok false)) left h (λ q. refl)
+  created_keeps x (Ok true) left lets h other out =
+      let next = then_world (Created x (Ok true)) left in
+      listed_by next h
+      (created_by next h x (λ q. bytes_eq q x) (standing left) (λ q. refl) (λ q e. e)
+      (λ e. subst (λ z. reads_nothing (w.nodes z) ≡ true) (sym (same_place (mark_place h.p) x e)) lets.0) other out)
+  created_keeps x (Err f) left lets h other out =
+      let next = then_world (Created x (Err f)) left in
+      listed_by next h
+      (created_by next h x (λ q. reads_nothing (w.nodes q) && bytes_eq q x) (standing left) (λ q. refl) (λ q e. ap (λ b. reads_nothing (w.nodes q) && b) e ∙ and_false (reads_nothing (w.nodes q)))
+      (λ e. and_left (reads_nothing (w.nodes (mark_place h.p))) _ e) other out)
+
+  flagged_keeps : (x : Path) (r : Result (Unit {0}) Failed) (left : List LeftNode) → Lets o w (event (Protected x r) left) (Protected x r) → is_outside x ≡ true →
+      (h : Here (then_world (Protected x r) left)) → Lists (then_world (Protected x r) left) h
+  flagged_keeps x (Ok u) left lets out h =
+      let next = then_world (Protected x (Ok u)) left in
+      listed_by next h (flagged_by next h x out (λ q. with_flag (w.nodes q)) (λ q. refl) (λ y k. flag_leaves (w.nodes x) (Some y) k))
+  flagged_keeps x (Err f) left lets out h =
+      let next = then_world (Protected x (Err f)) left in
+      listed_by next h (flagged_by next h x out (λ q. going (standing left q) (with_flag (w.nodes q))) (λ q. refl) (λ y k. going_flag (w.nodes x) (standing left x) (Some y) lets refl k))
+
+  -- the children's places
+  ended_keeps : (number : ℕ) (c : Option Child) (next : World) (h : Here next) (other : Path → NodeState) → ((d : Child) → c ≡ Some d → IsIn w.children d) →
+      ((q : Path) → next.nodes q ≡ (if is_within q (owned_of c) then other q else w.nodes q)) → Lists next h
+  ended_keeps number None next h other at is = listed_by next h (untouched next h is)
+  ended_keeps number (Some d) next h other at is =
+      let k = each_in (IsOfJob o s.jobs) w.children d m.children (at d refl) in
+      listed_by next h
+      (owned_by_job next h k.0 k.1 (ap (has_firm_marks o) k.2) other
+      (λ q. is q ∙ (λ j. if is_within q (owned_paths (k.3 j) (k.4 j)) then other q else w.nodes q)))
+
+  mark_places_keep : (k : OpenJob) (x p : Path) → is_outside p ≡ true → IsIn (mark_places k) x → (bytes_eq (record_place p) x ≡ false) × (is_at_or_under x p ≡ false)
+  mark_places_keep k x p out i = go (in_either (map mark_place (outputs k)) (map note_place k.logs) x i)
+    where
+      go : IsIn (map mark_place (outputs k)) x ⊎ IsIn (map note_place k.logs) x → (bytes_eq (record_place p) x ≡ false) × (is_at_or_under x p ≡ false)
+      go (inl a) =
+          let y = in_map mark_place (outputs k) x a in
+          (ap (bytes_eq (record_place p)) y.2, ap (λ z. is_at_or_under z p) y.2 ∙ texts.outside.mark_out p y.0 out)
+      go (inr a) =
+          let y = in_map note_place k.logs x a in
+          (ap (bytes_eq (record_place p)) y.2, ap (λ z. is_at_or_under z p) y.2 ∙ texts.outside.note_out p y.0 out)
+
+  lock_out : (p : Path) → is_outside p ≡ true → is_at_or_under lock_place p ≡ false
+  lock_out p out = go (bytes_eq lock_place p) refl
+    where
+      go : (b : Bool) → bytes_eq lock_place p ≡ b → (b || is_under lock_place p) ≡ false
+      go true e = absurd (true≢false (sym out ∙ ap is_outside (sym (same_place lock_place p e))))
+      go false e = texts.above.lock_above p out
+
+  call_keeps : (c : Call) (left : List LeftNode) → Lets o w (event c left) c → Who o s w c → (h : Here (then_world c left)) → Lists (then_world c left) h
+  call_keeps (Looked x r) left lets who h = still (Looked x r) left h (λ q. refl)
+  call_keeps (ReadFile x limit r) left lets who h = still (ReadFile x limit r) left h (λ q. refl)
+  call_keeps (ReadFolder x r) left lets who h = still (ReadFolder x r) left h (λ q. refl)
+  call_keeps (Settled ps (Ok u)) left lets who h = settled_keeps ps left h
+  call_keeps (Settled ps (Err f)) left lets who h = still (Settled ps (Err f)) left h (λ q. refl)
+  call_keeps (Started recipe logs command (Err f)) left lets who h = still (Started recipe logs command (Err f)) left h (λ q. refl)
+  call_keeps (Waited (Err f)) left lets who h = still (Waited (Err f)) left h (λ q. refl)
+  call_keeps (Written x bytes r) left lets (inl a) h = absurd a
+  call_keeps (Written x bytes r) left lets (inr (k, i, a)) h =
+      let next = then_world (Written x bytes r) left in
+      let y = in_map record_place (outputs k) x a.2 in
+      listed_by next h (written_by next h k i a.0 y.0 y.1 (standing left) (λ q j. if bytes_eq q (y.2 j) then loose (standing left q) (w.nodes q) else w.nodes q))
+  call_keeps (Created x r) left lets (inl a) h = created_keeps x r left lets h (ap (bytes_eq (record_place h.p)) a) (ap (λ z. is_at_or_under z h.p) a ∙ lock_out h.p (path (then_world (Created x r) left) h))
+  call_keeps (Created x r) left lets (inr (k, i, a)) h =
+      let places = mark_places_keep k x h.p (path (then_world (Created x r) left) h) a.1 in
+      created_keeps x r left lets h places.0 places.1
+  call_keeps (Removed x r) left lets (inl (inl a)) h = removed_keeps x r left lets h (ap (is_at_or_under (mark_place h.p)) a ∙ texts.lock.lock_mark h.p)
+  call_keeps (Removed x r) left lets (inl (inr a)) h = removed_keeps x r left lets h (texts.outside.mark_out x h.p a.1.path)
+  call_keeps (Removed x r) left lets (inr (k, i, inl (a, b, inl y))) h =
+      removed_keeps x r left lets h
+      (texts.outside.mark_out x h.p (each_in (λ y. IsTrue (is_outside y)) (own k) x (each_in (Fits o entry (eased s) s.top w) s.jobs k m.fits i).paths (in_left (outputs k) k.logs x y)))
+  call_keeps (Removed x r) left lets (inr (k, i, inl (a, b, inr z))) h =
+      let y = in_map record_place (outputs k) x z in
+      removed_keeps x r left lets h (ap (is_at_or_under (mark_place h.p)) y.2 ∙ texts.records.record_mark y.0 h.p)
+  call_keeps (Removed x r) left lets (inr (k, i, inr (phase, z))) h =
+      let y = in_map mark_place (outputs k) x z in
+      (subst (λ x. Lets o w (event (Removed x r) left) (Removed x r) → (h : Here (then_world (Removed x r) left)) → Lists (then_world (Removed x r) left) h) (sym y.2)
+      (λ lets h. unmark_keeps y.0 r left lets k i phase y.1 h)) lets h
+  call_keeps (MadeParents x r) left lets (inl a) h = above_keeps x r left h (ap (λ z. is_at_or_under z h.p) a ∙ lock_out h.p (path (then_world (MadeParents x r) left) h))
+  call_keeps (MadeParents x r) left lets (inr (k, i, inl (inl a))) h = above_keeps x r left h (mark_places_keep k x h.p (path (then_world (MadeParents x r) left) h) a).1
+  call_keeps (MadeParents x r) left lets (inr (k, i, inl (inr a))) h =
+      let y = in_map record_place (outputs k) x a in
+      above_keeps x r left h (ap (λ z. is_at_or_under z h.p) y.2 ∙ texts.outside.record_out h.p y.0 (path (then_world (MadeParents x r) left) h))
+  call_keeps (MadeParents x r) left lets (inr (k, i, inr (a, b, at_x))) h = own_above_keeps x r left k i a at_x h
+  call_keeps (Protected x r) left lets (inl a) h = flagged_keeps x r left lets a.1.path h
+  call_keeps (Protected x r) left lets (inr (k, i, a)) h = absurd a
+  call_keeps (Started recipe logs command (Ok number)) left lets (inl a) h = absurd a
+  call_keeps (Started recipe logs command (Ok number)) left lets (inr (k, i, a)) h =
+      let next = then_world (Started recipe logs command (Ok number)) left in
+      listed_by next h
+      (owned_by_job next h k i a.0 (λ q. Owned) (λ q j. if is_within q (owned_paths (a.2 j) (a.3 j)) then Owned else w.nodes q))
+  call_keeps (Waited (Ok end)) left lets who h =
+      ended_keeps end.number (child_numbered end.number w.children) (then_world (Waited (Ok end)) left) h (λ q. Known (standing left q) Anything) (numbered_in end.number w.children) (λ q. refl)
+
+  pub listed_after : (c : Call) (left : List LeftNode) → Lets o w (event c left) c → Who o s w c → EachImage o.read (after w (event c left)) HasListed
+  listed_after c left lets who =
+      of_wide o.read texts.naming w m.images.formed (after w (event c left)) HasListed (λ names g wide p r at unmarked.
+      call_keeps c left lets who (record { names = names; g = g; wide = wide; p = p; r = r; at = at; unmarked = unmarked }))

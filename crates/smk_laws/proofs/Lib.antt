@@ -35,3 +35,4 @@ pub mod HistoryRemove
 pub mod HistoryLaw
 pub mod HistoryListed
 pub mod HistoryListedCalls
+pub mod HistoryListedRuns

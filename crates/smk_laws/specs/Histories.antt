@@ -16,6 +16,8 @@ use Rattle.smk_store.specs.Images.{Image, Content, seen, file_at, is_file, is_fo
 use Rattle.smk_store.specs.Trust.{Versions}
 use Rattle.smk_store.specs.Soundness.{Outside, EachImage, SoundWorld}
 use Rattle.smk_store.specs.Safety.{KeepsSound, with_sources}
+use Rattle.smk_protocol.specs.Protocol.{RunState, Runs}
+use Rattle.smk_protocol.specs.Midway.{IsTop, at_entry}
 
 -- ## Directories with no more than is listed
 
@@ -114,3 +116,9 @@ HistoryLaw = (o : Outside) (w : World) (H : Versions) → History o w H → Soun
 -- And its directories have no more than their records list.
 abbrev pub HistoryIsListed : Type 0
 HistoryIsListed = (o : Outside) (w : World) (H : Versions) → History o w H → IsListed o w
+
+-- A run of the protocol is a call that stands in a history.
+abbrev pub RunIsCall : Type 0
+RunIsCall =
+    (o : Outside) (entry : World) (top : ℕ) (log : List Event) (s : RunState) →
+    IsTop o entry top → Follows o.act entry log → Runs o (at_entry o top) entry log s → IsCall o entry log [] true
