@@ -7,7 +7,8 @@ ghost use Rattle.smk_laws.specs.Choices.{SameChoice, StaysAvailable};
 ghost use Rattle.smk_laws.specs.Current.{CurrentMeansClean, CurrentMeansCleanInWorlds, SeenIsComplete};
 ghost use Rattle.smk_laws.specs.Histories.{HistoryIsListed, HistoryLaw, RunIsCall};
 ghost use Rattle.smk_laws.specs.Stamps.{StampTells};
-ghost use Rattle.smk_protocol.specs.Midway.{ProtocolKeepsSound, ProtocolLaw};
+ghost use Rattle.smk_protocol.specs.Forgetting.{ForgettingKeepsSound, SettlingIsEnough};
+ghost use Rattle.smk_protocol.specs.Midway.{HoldsMidway, ProtocolKeepsSound, ProtocolLaw};
 
 /// The law that what a plan calls current is clean: in a sound folder a target that is current by the last plan holds what a clean
 /// run from the sources gives. A sound world gives what is asked of the folder, and at a run's exit a plan of which nothing is refused
@@ -33,10 +34,15 @@ pub fn stamps_tell()
 
 /// The law of the protocol: from a sound folder, however far a run of the protocol has come, whatever a crash leaves is sound and has
 /// the sources of the entry, also while jobs are unfinished and after a call that failed; and where no child is left the folder is
-/// sound. So the log of such a run is one that keeps soundness, as a history asks of each call.
+/// sound. What holds between two events holds all along. So the log of such a run is one that keeps soundness, as a history asks of
+/// each call. So is the log of a call that forgets paths: along it files at and under forgotten paths may be sources besides; a
+/// settling of the path and of the engine's own folder makes firm what has to be before a path's turn comes.
 pub fn protocol_law()
     ensures safe { ProtocolLaw }
+    ensures midway { HoldsMidway }
     ensures kept { ProtocolKeepsSound }
+    ensures forgetting { ForgettingKeepsSound }
+    ensures settling { SettlingIsEnough }
 {}
 
 /// The history law: after any list of calls, edits of sources, removals and crashes the folder is sound. And a directory output with a

@@ -48,7 +48,7 @@ read_as : (s : NodeState) (n : Option Node) → (s ≡ Owned → ⊥) → MayRea
 read_as Owned n free h = absurd (free refl)
 read_as (Known m b) n free h = sym h
 
-remains : (s : NodeState) (n : Option Node) → (s ≡ Owned → ⊥) → MayRemain n s → (n ≡ None) ⊎ (n ≡ reading s)
+pub remains : (s : NodeState) (n : Option Node) → (s ≡ Owned → ⊥) → MayRemain n s → (n ≡ None) ⊎ (n ≡ reading s)
 remains s n free (inl h) = inl h
 remains s n free (inr h) = inr (read_as s n free h)
 
@@ -67,7 +67,7 @@ numbered_at n (x ∷ cs) c h = go (nat_eq x.number n) refl h (numbered_at n cs c
     go true e k ih = let same = some_same k in (inl (sym same), ap (λ (y : Child). y.number) (sym same) ∙ eqb-true x.number n e)
     go false e k ih = let r = ih k in (inr r.0, r.1)
 
-has_number : (w : World) (c : Child) (n : ℕ) → IsIn w.children c → c.number ≡ n → Contains (numbers w.children) n
+pub has_number : (w : World) (c : Child) (n : ℕ) → IsIn w.children c → c.number ≡ n → Contains (numbers w.children) n
 has_number w c n i same = subst (Contains (numbers w.children)) same (contains_of (numbers w.children) c.number (in_mapped (λ (x : Child). x.number) w.children c i))
 
 module _ (o : Outside) (entry : World) (H : Versions) (s : RunState) (w : World) (m : Midway o entry H s w) (numbered : AreNumbered w) where
@@ -92,14 +92,19 @@ module _ (o : Outside) (entry : World) (H : Versions) (s : RunState) (w : World)
   answers (Waited (Ok end)) left free lets =
       let at = numbered_at end.number w.children lets.0 lets.1 in
       let k = each_in (IsOfJob o s.jobs) w.children lets.0 m.children at.0 in
-      let c = lets.0 in
-      (c, at.0, at.1, λ zero trees is.
-      let r = lets.2 zero trees (contents_are o w m.images.formed (in_paths c.recipe) trees (λ p i. input_unowned o entry H s w m k.0 k.1 p (subst (λ x. IsIn (in_paths x) p) k.3 i)) is) in
-      (r.0,
-      outputs_are o (after w (event (Waited (Ok end)) left)) (formed_after w (event (Waited (Ok end)) left) m.images.formed) (out_paths c.recipe) (o.act c.recipe trees).outputs
-      (subst (λ x. Each (λ p. IsTrue (is_outside p)) (out_paths x)) (sym k.3) (paths_of k))
-      r.1
-      ∙ ap (trees_at (now o (after w (event (Waited (Ok end)) left)))) (outs_are c.recipe)))
+      let c = lets.0 in (
+        c,
+        at.0,
+        at.1,
+        λ zero trees is.
+            let r = lets.2 zero trees (contents_are o w m.images.formed (in_paths c.recipe) trees (λ p i. input_unowned o entry H s w m k.0 k.1 p (subst (λ x. IsIn (in_paths x) p) k.3 i)) is) in (
+              r.0,
+              outputs_are o (after w (event (Waited (Ok end)) left)) (formed_after w (event (Waited (Ok end)) left) m.images.formed) (out_paths c.recipe) (o.act c.recipe trees).outputs
+                  (subst (λ x. Each (λ p. IsTrue (is_outside p)) (out_paths x)) (sym k.3) (paths_of k))
+                  r.1
+                  ∙ ap (trees_at (now o (after w (event (Waited (Ok end)) left)))) (outs_are c.recipe),
+            ),
+      )
     where
       paths_of : (k : IsOfJob o s.jobs lets.0) → Each (λ p. IsTrue (is_outside p)) (outputs k.0)
       paths_of k =

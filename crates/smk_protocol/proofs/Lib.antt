@@ -1,5 +1,6 @@
 pub mod Acted
 pub mod After
+pub mod Alike
 pub mod Along
 pub mod Answers
 pub mod Apart
@@ -18,6 +19,8 @@ pub mod EveryImage
 pub mod Finish
 pub mod Flags
 pub mod FolderChange
+pub mod ForgettingHolds
+pub mod Forgotten
 pub mod Formed
 pub mod Go
 pub mod Guarded
@@ -26,10 +29,12 @@ pub mod ImagesOn
 pub mod Jobs
 pub mod Keeping
 pub mod Law
+pub mod Lessened
 pub mod MarkChange
 pub mod Marking
 pub mod MarksNow
 pub mod Members
+pub mod MidwayHolds
 pub mod Moves
 pub mod Naming
 pub mod NodeChange
@@ -50,6 +55,7 @@ pub mod Quiet
 pub mod Reading
 pub mod RecordChange
 pub mod Records
+pub mod Removing
 pub mod Rows
 pub mod Settled
 pub mod Settling

@@ -29,7 +29,7 @@ use Rattle.smk_protocol.proofs.TextFacts.{text_laws}
 use Rattle.smk_protocol.proofs.Unowned.{step_unowned}
 
 -- where no child runs
-numbered_alone : (w : World) → w.children ≡ [] → AreNumbered w
+pub numbered_alone : (w : World) → w.children ≡ [] → AreNumbered w
 numbered_alone w none =
     record {
       distinct = subst (λ cs. IsDistinct nat_eq (numbers cs)) (sym none) (numbered_image []).distinct;
@@ -50,15 +50,16 @@ module _ (o : Outside) (entry : World) (H : Versions) where
   top_to w top is p r n at unmarked i =
       is p r n (subst (λ (v : View). v.record_at p ≡ Some r) (sym (now_is o w H)) at, inl (subst (λ (v : View). v.marked p ≡ false) (sym (now_is o w H)) unmarked)) i
 
-  reached : ImageSoundWorld o entry H → (top : ℕ) (es : List Event) (s : RunState) → ImageTop o entry top → WorldFollows o.act entry es → Runs o (at_entry o top) entry es s → Midway o entry H s (run entry es)
+  pub reached : ImageSoundWorld o entry H → (top : ℕ) (es : List Event) (s : RunState) → ImageTop o entry top → WorldFollows o.act entry es → Runs o (at_entry o top) entry es s → Midway o entry H s (run entry es)
   reached sound top es s is follows runs =
       along (at_entry o top) s entry es (entry_midway o entry H top (top_to entry top is) (world_to o entry H sound)) (numbered_alone entry sound.no_child) follows runs
 
   safe_here : (s : RunState) (w : World) → Midway o entry H s w → HasSafeImages o entry w H
   safe_here s w m nodes leaves =
-      let here = to_lists o.read w m.images.formed (λ v. Sound o.act H v none_eased × HasSources o (now o entry) v × HasNoNested o v) (safe_images o entry H s w m) nodes leaves in
-      (sound_from (image_of o.read nodes) o.act H none_eased here.0 here.2,
-      sources_from o (seen o.read entry) (image_of o.read nodes) (now_seen o entry H (HasSources o) (image_of o.read nodes) here.1))
+      let here = to_lists o.read w m.images.formed (λ v. Sound o.act H v none_eased × HasSources o (now o entry) v × HasNoNested o v) (safe_images o entry H s w m) nodes leaves in (
+        sound_from (image_of o.read nodes) o.act H none_eased here.0 here.2,
+        sources_from o (seen o.read entry) (image_of o.read nodes) (now_seen o entry H (HasSources o) (image_of o.read nodes) here.1),
+      )
 
   is_safe : ImageSoundWorld o entry H → IsSafe o entry H
   is_safe sound =

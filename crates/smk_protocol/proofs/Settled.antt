@@ -40,13 +40,13 @@ module _ (o : Outside) (texts : Texts o.read) (w : World) (ps : List Path) (left
   abbrev w' : World
   w' = after w (event (Settled ps (Ok tt)) left)
 
-  within : (places : List Path) → AreAmong ps places → (p q : Path) → IsIn places p → is_at_or_under q p ≡ true → is_within q ps ≡ true
+  pub within : (places : List Path) → AreAmong ps places → (p q : Path) → IsIn places p → is_at_or_under q p ≡ true → is_within q ps ≡ true
   within places all p q i u = any_by (is_at_or_under q) ps p (in_among ps p (each_in (λ p. IsTrue (among ps p)) places p all i)) u
 
   node_there : (q : Path) → is_within q ps ≡ true → w'.nodes q ≡ firm (w.nodes q)
   node_there q h = ap (λ (b : Bool). if b || is_above q ps && reads_folder (w.nodes q) then firm (w.nodes q) else w.nodes q) h
 
-  only_reads : (q : Path) (n : Option Node) → is_within q ps ≡ true → (w.nodes q ≡ Owned → ⊥) → MayLeave (w'.nodes q) n → n ≡ reads w q
+  pub only_reads : (q : Path) (n : Option Node) → is_within q ps ≡ true → (w.nodes q ≡ Owned → ⊥) → MayLeave (w'.nodes q) n → n ≡ reads w q
   only_reads q n h owned leaves = go (subst (λ s. MayLeave s n) (node_there q h ∙ firm_is (w.nodes q) owned) leaves)
     where
       go : (n ≡ reads w q) ⊎ ⊥ → n ≡ reads w q

@@ -24,7 +24,7 @@ use Rattle.smk_protocol.proofs.View.{view, file_of, is_source, source_at, is_cov
 pub equal : (a b : ℕ) → (b == a) ≡ true → a ≡ b
 equal a b h = grind arith
 
-itself : (a b : ℕ) → a ≡ b → (b == a) ≡ true
+pub itself : (a b : ℕ) → a ≡ b → (b == a) ≡ true
 itself a b h = grind arith
 
 flip : (a b : ℕ) → (a == b) ≡ (b == a)
@@ -42,7 +42,7 @@ or_group a b c = grind arith
 abbrev pub flagless : Content → Content
 flagless f = record f { read_only = false }
 
-file_is : (n : Option Node) → option_map flagless (content_of n) ≡ file_of n
+pub file_is : (n : Option Node) → option_map flagless (content_of n) ≡ file_of n
 file_is None = refl
 file_is (Some Directory) = refl
 file_is (Some (Regular bytes time read_only)) = refl
@@ -94,7 +94,7 @@ flagless_if false x = refl
 pub source_at_is : (i : Image) (p : Path) → option_map flagless (image_source_at i p) ≡ source_at (view i) p
 source_at_is i p = flagless_if (image_source i p) (file_at i p) ∙ (λ k. if source_is i p k then file_is (i.node p) k else None)
 
-flagless_some : (x : Option Content) (f : Content) → option_map flagless x ≡ Some f → (c : Content) × (x ≡ Some c) × (flagless c ≡ f)
+pub flagless_some : (x : Option Content) (f : Content) → option_map flagless x ≡ Some f → (c : Content) × (x ≡ Some c) × (flagless c ≡ f)
 flagless_some None f h = none_some None refl h
 flagless_some (Some c) f h = (c, refl, some_same h)
 
@@ -102,7 +102,7 @@ some_core : (x : Option Record) (r : Record) → option_map core x ≡ Some r �
 some_core None r h = grind arith
 some_core (Some x) r h = refl
 
-whole_to : (i : Image) (p : Path) (r : Record) (k : Kind) → core_at i p ≡ Some r → IsTrue (is_whole (view i) p k) → IsTrue (image_whole i p k)
+pub whole_to : (i : Image) (p : Path) (r : Record) (k : Kind) → core_at i p ≡ Some r → IsTrue (is_whole (view i) p k) → IsTrue (image_whole i p k)
 whole_to i p r Plain at h = some_file (i.node p) ∙ h
 whole_to i p r FolderKind at h = more (is_folder i p) (is_some (record_at i p)) _ (some_core (record_at i p) r at) h
   where

@@ -38,9 +38,12 @@ pub sources_to : (o : Outside) (a b : Image) → SameSources a b → HasSources 
 sources_to o a b same p =
     sym (source_at_is b p) ∙ sym (told_again (image_source_at b p)) ∙ ap (option_map of_told) (same p) ∙ told_again (image_source_at a p) ∙ source_at_is a p
 
+pub source_from : (a b : Image) (p : Path) → source_at (view b) p ≡ source_at (view a) p → option_map told (image_source_at b p) ≡ option_map told (image_source_at a p)
+source_from a b p same =
+    told_flagless (image_source_at b p) ∙ ap (option_map told) (source_at_is b p ∙ same ∙ sym (source_at_is a p)) ∙ sym (told_flagless (image_source_at a p))
+
 pub sources_from : (o : Outside) (a b : Image) → HasSources o (view a) (view b) → SameSources a b
-sources_from o a b same p =
-    told_flagless (image_source_at b p) ∙ ap (option_map told) (source_at_is b p ∙ same p ∙ sym (source_at_is a p)) ∙ sym (told_flagless (image_source_at a p))
+sources_from o a b same p = source_from a b p (same p)
 
 -- ---- no further unmarked record
 
@@ -59,7 +62,7 @@ whole_record : (x : Option Record) (r : Record) → option_map core x ≡ Some (
 whole_record None r h m = none_some None refl h
 whole_record (Some y) r h m = let same : core y ≡ core r = some_same h in λ k. Some (record (same k) { members = m k })
 
-no_new_from : (o : Outside) (a b : Image) → HasNoNew o (view a) (view b) → NoNewRecord a b
+pub no_new_from : (o : Outside) (a b : Image) → HasNoNew o (view a) (view b) → NoNewRecord a b
 no_new_from o a b none p r at unmarked =
     let h = none p (core r) (ap (option_map core) at) unmarked in
     whole_record (record_at a p) r h.0 (h.1 ∙ ap members_of at)

@@ -33,13 +33,16 @@ at_hand : (o : Outside) (i : Image) (x : Path × Stamp) → ImageAtHand o i x �
 at_hand o i (q, Time t) (inl h) = (flagless h.source, sym (source_at_is i q) ∙ ap (option_map flagless) h.stands, equal h.source.time t h.same)
 at_hand o i (q, Time t) (inr h) = clash false h.same refl
 at_hand o i (q, Made m) (inl h) = clash false h.same refl
-at_hand o i (q, Made m) (inr h) =
-    (h.speaker, h.by, (
-      record { no_source = sym (source_is i q) ∙ h.speaks.no_source; holder = h.speaks.holder; clear = h.speaks.clear },
-      equal h.by.made m h.same,
-      whole_from i h.speaker (kind_in h.by.recipe h.speaker) h.whole,
-      part h.part,
-    ))
+at_hand o i (q, Made m) (inr h) = (
+  h.speaker,
+  h.by,
+  (
+    record { no_source = sym (source_is i q) ∙ h.speaks.no_source; holder = h.speaks.holder; clear = h.speaks.clear },
+    equal h.by.made m h.same,
+    whole_from i h.speaker (kind_in h.by.recipe h.speaker) h.whole,
+    part h.part,
+  ),
+)
   where
     part : (q ≡ h.speaker) ⊎ IsTrue (is_file i q) → (q ≡ h.speaker) ⊎ IsTrue (is_some ((view i).file q))
     part (inl e) = inl e

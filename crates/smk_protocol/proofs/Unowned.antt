@@ -51,7 +51,7 @@ as_before w (Started recipe logs command r) h = tt
 as_before w (Waited r) h = tt
 
 -- where one of the places lies at or above q
-within_some : (q : Path) (ps : List Path) → is_within q ps ≡ true → (p : Path) × IsIn ps p × (is_at_or_under q p ≡ true)
+pub within_some : (q : Path) (ps : List Path) → is_within q ps ≡ true → (p : Path) × IsIn ps p × (is_at_or_under q p ≡ true)
 within_some q [] h = clash false h refl
 within_some q (p ∷ ps) h = go (is_at_or_under q p) refl h (within_some q ps)
   where
@@ -89,7 +89,7 @@ module _ (o : Outside) (entry : World) (H : Versions) (s : RunState) (w : World)
   own_unowned : (p : Path) → is_at_or_under p own_folder ≡ true → (q : Path) → is_at_or_under q p ≡ true → w.nodes q ≡ Owned → ⊥
   own_unowned p own_p =
       unowned p (λ k i r. none_by (overlaps p) (own k) (λ x j.
-          (apart.outside-own x p (outside_own x (each_in (λ y. IsTrue (is_outside y)) (own k) x (fits k i).paths j)) own_p).overlapped))
+      (apart.outside-own x p (outside_own x (each_in (λ y. IsTrue (is_outside y)) (own k) x (fits k i).paths j)) own_p).overlapped))
 
   own_place : (p : Path) → is_at_or_under p own_folder ≡ true → w.nodes p ≡ Owned → ⊥
   own_place p own_p = own_unowned p own_p p (at_itself p)

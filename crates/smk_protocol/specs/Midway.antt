@@ -210,6 +210,12 @@ module _ (o : Outside) where
 abbrev pub ProtocolLaw : Type 0
 ProtocolLaw = (o : Outside) (entry : World) (H : Versions) → SoundWorld o entry H → IsSafe o entry H
 
+-- What holds between two events holds after every prefix of a run.
+abbrev pub HoldsMidway : Type 0
+HoldsMidway =
+    (o : Outside) (entry : World) (H : Versions) (top : ℕ) (es : List Event) (s : RunState) →
+    SoundWorld o entry H → IsTop o entry top → Follows o.act entry es → Runs o (at_entry o top) entry es s → Midway o entry H s (run entry es)
+
 -- So a log that follows the protocol keeps what a call has to keep, to its end, and forgets no path.
 abbrev pub ProtocolKeepsSound : Type 0
 ProtocolKeepsSound =
