@@ -21,7 +21,7 @@ use Rattle.smk_world.specs.declared.event.Call.TheVariants.{Looked, ReadFile, Re
 use Rattle.smk_world.specs.declared.event.Change.{Change as LeftNode}
 use Rattle.smk_world.specs.declared.event.Child.{Child}
 use Rattle.smk_world.specs.declared.event.Failed.{Failed}
-use Rattle.smk_world.specs.World.{World, MayLeave, IsBeside, IsOneOf, after, reading, reads_nothing, firm, firmly, loose, going, or_also, standing, with_flag, with_folder, protected, is_within, is_above, reads_folder, owned_paths, owned_by, owned_of, child_numbered}
+use Rattle.smk_world.specs.World.{World, IsFormed, MayLeave, IsBeside, IsOneOf, after, reading, reads_nothing, firm, firmly, loose, going, or_also, standing, with_flag, with_folder, protected, is_within, is_above, reads_folder, owned_paths, owned_by, owned_of, child_numbered}
 use Rattle.smk_world.specs.Trees.{Path, IsIn, Each, is_path_text, is_folder_kind, among, folders_of}
 use Rattle.smk_record.specs.declared.record.Member.{Member}
 use Rattle.smk_record.specs.declared.record.Record.{Record}
@@ -195,8 +195,31 @@ module _ (read : List ℕ → Option Record) (names names' : List Path) (f f' : 
 abbrev pub Who : Outside → RunState → World → Call → Type 0
 Who o s w c = AsideAllows o s w c ⊎ ((k : OpenJob) × IsIn s.jobs k × Allows o k c)
 
-module _
-    (o : Outside) (texts : Texts o.read) (entry : World) (H : Versions) (s : RunState) (w : World) (m : Midway o entry H s w) (all : EachImage o.read w HasListed) where
+-- what is used of the open jobs between two events
+pub record HasOpen (o : Outside) (s : RunState) (w : World) : Type 0 where
+  pub formed : IsFormed w
+  pub paths : (k : OpenJob) → IsIn s.jobs k → Each (λ p. IsTrue (is_outside p)) (own k)
+  pub clash : (k : OpenJob) → IsIn s.jobs k → EachImage o.read w (HasNoRecordClash o k)
+  pub marks : (k : OpenJob) → IsIn s.jobs k → has_firm_marks o k.phase ≡ true → Each (λ p. IsFirmly o w (mark_place p)) (outputs k)
+  pub known : (k : OpenJob) → IsIn s.jobs k → k.phase ≡ Recorded → EachImage o.read w (λ v. Each (IsKnown o (now o w) k v) (outputs k))
+  pub made : (k : OpenJob) → IsIn s.jobs k → is_made o k.phase ≡ true → EachImage o.read w (λ v. Each (HoldsGiven o (now o w) k v) (outputs k))
+  pub gone : (k : OpenJob) → IsIn s.jobs k → k.phase ≡ Dropped → EachImage o.read w (λ v. Each (IsGone o v) (outputs k))
+  pub children : Each (IsOfJob o s.jobs) w.children
+
+pub open_of : (o : Outside) (entry : World) (H : Versions) (s : RunState) (w : World) → Midway o entry H s w → HasOpen o s w
+open_of o entry H s w m =
+    record {
+      formed = m.images.formed;
+      paths = λ k i. (each_in (Fits o entry (eased s) s.top w) s.jobs k m.fits i).paths;
+      clash = λ k i. (each_in (Fits o entry (eased s) s.top w) s.jobs k m.fits i).no_record_clash;
+      marks = λ k i. (each_in (InPhase o w) s.jobs k m.phases i).marks;
+      known = λ k i. (each_in (InPhase o w) s.jobs k m.phases i).known;
+      made = λ k i. (each_in (InPhase o w) s.jobs k m.phases i).made;
+      gone = λ k i. (each_in (InPhase o w) s.jobs k m.phases i).gone;
+      children = m.children;
+    }
+
+module _ (o : Outside) (texts : Texts o.read) (s : RunState) (w : World) (m : HasOpen o s w) (all : EachImage o.read w HasListed) where
   -- an image after a call, and an unmarked record in it
   record Here (next : World) : Type 0 where
     names : List Path
@@ -288,7 +311,7 @@ module _
     -- a firm mark that is left alone stands after
     firm_mark : (k : OpenJob) → IsIn s.jobs k → has_firm_marks o k.phase ≡ true → IsIn (outputs k) h.p → next.nodes mark ≡ w.nodes mark → ⊥
     firm_mark k i marks output same =
-        let firmly_there = each_in (λ x. IsFirmly o w (mark_place x)) (outputs k) h.p ((each_in (InPhase o w) s.jobs k m.phases i).marks marks) output in
+        let firmly_there = each_in (λ x. IsFirmly o w (mark_place x)) (outputs k) h.p (m.marks k i marks) output in
         none_some firmly_there.0 (sym no_mark ∙ one firmly_there.0 (h.g mark) (subst (λ t. MayLeave t (h.g mark)) (same ∙ firmly_there.1) (leave mark)))
       where
         one : (n : Node) (x : Option Node) → MayLeave (firmly (Some n)) x → x ≡ Some n
@@ -298,7 +321,7 @@ module _
     -- an open job whose paths the record overlaps has it as an output's
     output_of : (k : OpenJob) → IsIn s.jobs k → MayLeave (w.nodes place) (h.g place) → list_any (overlaps h.p) (own k) ≡ true → IsIn (outputs k) h.p
     output_of k i may over =
-        each_image o.read w (HasNoRecordClash o k) (each_in (Fits o entry (eased s) s.top w) s.jobs k m.fits i).no_record_clash h.names old image h.p
+        each_image o.read w (HasNoRecordClash o k) (m.clash k i) h.names old image h.p
         (subst (λ (n : Option Record). IsSome n) (sym stands) refl) over
       where
         old : Nodes
@@ -357,7 +380,7 @@ module _
         }
       where
         out_of : (x : Path) → IsIn (own k) x → is_outside x ≡ true
-        out_of x at_x = each_in (λ y. IsTrue (is_outside y)) (own k) x (each_in (Fits o entry (eased s) s.top w) s.jobs k m.fits i).paths at_x
+        out_of x at_x = each_in (λ y. IsTrue (is_outside y)) (own k) x (m.paths k i) at_x
 
         same_record_place : next.nodes place ≡ w.nodes place
         same_record_place = is place ∙ ap (λ b. if b then other place else w.nodes place) (none_within place (own k) (λ x at_x. texts.outside.record_out x h.p (out_of x at_x)))
@@ -471,18 +494,17 @@ module _
       -- of an output that is dropped no record is left
       dropped_gone : (k : OpenJob) → IsIn s.jobs k → k.phase ≡ Dropped → IsIn (outputs k) h.p → ⊥
       dropped_gone k i phase output =
-          let gone = each_in (IsGone o then_view) (outputs k) h.p (each_image o.read w (λ v. Each (IsGone o v) (outputs k)) ((each_in (InPhase o w) s.jobs k m.phases i).gone phase) h.names marked_image is_image) output in
+          let gone = each_in (IsGone o then_view) (outputs k) h.p (each_image o.read w (λ v. Each (IsGone o v) (outputs k)) (m.gone k i phase) h.names marked_image is_image) output in
           none_some h.r (sym gone.no_record ∙ record_then)
 
       -- a recorded output is the same in every image, and its record lists what stands there now
       recorded_lists : (k : OpenJob) → IsIn s.jobs k → k.phase ≡ Recorded → IsIn (outputs k) h.p → Lists
       recorded_lists k i phase output folder stands x at_x =
-          let phases = each_in (InPhase o w) s.jobs k m.phases i in
-          let known = each_in (IsKnown o (now o w) k then_view) (outputs k) h.p (each_image o.read w (λ v. Each (IsKnown o (now o w) k v) (outputs k)) (phases.known phase) h.names marked_image is_image) output in
+          let known = each_in (IsKnown o (now o w) k then_view) (outputs k) h.p (each_image o.read w (λ v. Each (IsKnown o (now o w) k v) (outputs k)) (m.known k i phase) h.names marked_image is_image) output in
           let made = λ (names : List Path) (f : Nodes) (image : IsImage w names f). each_in (HoldsGiven o (now o w) k (view_of o.read names f)) (outputs k) h.p
-          (each_image o.read w (λ v. Each (HoldsGiven o (now o w) k v) (outputs k)) (phases.made (ap (is_made o) phase)) names f image) output in
+          (each_image o.read w (λ v. Each (HoldsGiven o (now o w) k v) (outputs k)) (m.made k i (ap (is_made o) phase)) names f image) output in
           let here = made h.names marked_image is_image in
-          let there = made w.names (reads w) (now_image w m.images.formed) in
+          let there = made w.names (reads w) (now_image w m.formed) in
           let tree : then_view.tree h.p ≡ (now o w).tree h.p = here.2 ∙ sym here.1 ∙ there.1 ∙ sym there.2 in
           let members = members_by_tree o.read h.names w.names marked_image (reads w) h.p tree (folder_then stands) in
           let same : h.r ≡ record_of k h.p = some_is h.r (record_of k h.p) (sym record_then ∙ known.reads) in
@@ -560,7 +582,7 @@ module _
   own_above_keeps x r left k i marks at_x h = go (is_at_or_under x h.p) refl
     where
       out : is_outside x ≡ true
-      out = each_in (λ y. IsTrue (is_outside y)) (own k) x (each_in (Fits o entry (eased s) s.top w) s.jobs k m.fits i).paths at_x
+      out = each_in (λ y. IsTrue (is_outside y)) (own k) x (m.paths k i) at_x
 
       may : (r : Result (Unit {0}) Failed) (h : Here (then_world (MadeParents x r) left)) → MayLeave (w.nodes (record_place h.p)) (h.g (record_place h.p))
       may (Ok u) h =
@@ -656,7 +678,7 @@ module _
   call_keeps (Removed x r) left lets (inl (inr a)) h = removed_keeps x r left lets h (texts.outside.mark_out x h.p a.1.path)
   call_keeps (Removed x r) left lets (inr (k, i, inl (a, b, inl y))) h =
       removed_keeps x r left lets h
-      (texts.outside.mark_out x h.p (each_in (λ y. IsTrue (is_outside y)) (own k) x (each_in (Fits o entry (eased s) s.top w) s.jobs k m.fits i).paths (in_left (outputs k) k.logs x y)))
+      (texts.outside.mark_out x h.p (each_in (λ y. IsTrue (is_outside y)) (own k) x (m.paths k i) (in_left (outputs k) k.logs x y)))
   call_keeps (Removed x r) left lets (inr (k, i, inl (a, b, inr z))) h =
       let y = in_map record_place (outputs k) x z in
       removed_keeps x r left lets h (ap (is_at_or_under (mark_place h.p)) y.2 ∙ texts.records.record_mark y.0 h.p)
@@ -682,5 +704,5 @@ module _
 
   pub listed_after : (c : Call) (left : List LeftNode) → Lets o w (event c left) c → Who o s w c → EachImage o.read (after w (event c left)) HasListed
   listed_after c left lets who =
-      of_wide o.read texts.naming w m.images.formed (after w (event c left)) HasListed (λ names g wide p r at unmarked.
+      of_wide o.read texts.naming w m.formed (after w (event c left)) HasListed (λ names g wide p r at unmarked.
       call_keeps c left lets who (record { names = names; g = g; wide = wide; p = p; r = r; at = at; unmarked = unmarked }))

@@ -39,7 +39,7 @@ use Rattle.smk_protocol.proofs.View.{View}
 use Rattle.smk_protocol.proofs.Views.{EachImage, reads}
 use Rattle.smk_laws.specs.Histories.{ListsAll, IsListed, KeepsListed, RunIsCall}
 use Rattle.smk_laws.proofs.HistoryListed.{HasListed, to_view, from_view}
-use Rattle.smk_laws.proofs.HistoryListedCalls.{Who, listed_after}
+use Rattle.smk_laws.proofs.HistoryListedCalls.{Who, open_of, listed_after}
 
 -- ## Whose call it is
 
@@ -122,7 +122,7 @@ module _ (o : Outside) (entry : World) (H : Versions) where
       along mid end (after w e) es
       (record {
         midway = keeps o texts entry H s mid w e kept.midway lets by;
-        listed = listed_after o texts entry H by_whom.state w by_whom.midway kept.listed e.call e.left lets by_whom.who;
+        listed = listed_after o texts by_whom.state w (open_of o entry H by_whom.state w by_whom.midway) kept.listed e.call e.left lets by_whom.who;
       })
       (numbered_after o.act w e follows.0 numbered) follows.1 runs
 
