@@ -706,3 +706,37 @@ module _ (o : Outside) (texts : Texts o.read) (s : RunState) (w : World) (m : Ha
   listed_after c left lets who =
       of_wide o.read texts.naming w m.formed (after w (event c left)) HasListed (λ names g wide p r at unmarked.
       call_keeps c left lets who (record { names = names; g = g; wide = wide; p = p; r = r; at = at; unmarked = unmarked }))
+
+  -- ## Removals while paths are forgotten
+
+  pub removed_after : (x : Path) (r : Result (Unit {0}) Failed) (left : List LeftNode) → Lets o w (event (Removed x r) left) (Removed x r) →
+      ((p : Path) → is_at_or_under (mark_place p) x ≡ false) → EachImage o.read (then_world (Removed x r) left) HasListed
+  removed_after x r left lets far =
+      of_wide o.read texts.naming w m.formed (then_world (Removed x r) left) HasListed (λ names g wide p y at unmarked.
+      removed_keeps x r left lets (record { names = names; g = g; wide = wide; p = p; r = y; at = at; unmarked = unmarked }) (far p))
+
+  -- the mark of a path whose record is gone for good
+  pub unmarked_after : (y : Path) (r : Result (Unit {0}) Failed) (left : List LeftNode) → Lets o w (event (Removed (mark_place y) r) left) (Removed (mark_place y) r) →
+      w.nodes (record_place y) ≡ firmly None → EachImage o.read (then_world (Removed (mark_place y) r) left) HasListed
+  unmarked_after y r left lets gone =
+      of_wide o.read texts.naming w m.formed (then_world (Removed (mark_place y) r) left) HasListed (λ names g wide p x at unmarked.
+      by_path (record { names = names; g = g; wide = wide; p = p; r = x; at = at; unmarked = unmarked }))
+    where
+      one : (n : Option Node) → MayLeave (firmly None) n → n ≡ None
+      one n (inl e) = e
+      one n (inr e) = absurd e
+
+      no_record : (h : Here (then_world (Removed (mark_place y) r) left)) → h.p ≡ y → ⊥
+      no_record h e =
+          let next = then_world (Removed (mark_place y) r) left in
+          let same : next.nodes (record_place h.p) ≡ w.nodes (record_place h.p) = ap (λ b. if b then going (standing left (record_place h.p)) (w.nodes (record_place h.p)) else w.nodes (record_place h.p)) (texts.marks.mark_record y h.p) in
+          let there = some_record next h in
+          none_some there.0
+          (sym (one (h.g (record_place h.p)) (subst (λ t. MayLeave t (h.g (record_place h.p))) (same ∙ ap (λ z. w.nodes (record_place z)) e ∙ gone) (leave next h (record_place h.p)))) ∙ there.1)
+
+      by_path : (h : Here (then_world (Removed (mark_place y) r) left)) → Lists (then_world (Removed (mark_place y) r) left) h
+      by_path h = go (bytes_eq h.p y) refl
+        where
+          go : (b : Bool) → bytes_eq h.p y ≡ b → Lists (then_world (Removed (mark_place y) r) left) h
+          go true e = absurd (no_record h (same_place h.p y e))
+          go false e = removed_keeps (mark_place y) r left lets h (texts.marks.mark_mark y h.p ∙ e)

@@ -36,3 +36,4 @@ pub mod HistoryLaw
 pub mod HistoryListed
 pub mod HistoryListedCalls
 pub mod HistoryListedRuns
+pub mod HistoryListedForgetting

@@ -18,6 +18,7 @@ use Rattle.smk_store.specs.Soundness.{Outside, EachImage, SoundWorld}
 use Rattle.smk_store.specs.Safety.{KeepsSound, with_sources}
 use Rattle.smk_protocol.specs.Protocol.{RunState, Runs}
 use Rattle.smk_protocol.specs.Midway.{IsTop, at_entry}
+use Rattle.smk_protocol.specs.Forgetting.{Stage, Resting, is_resting, ForgetsAll}
 
 -- ## Directories with no more than is listed
 
@@ -122,3 +123,9 @@ abbrev pub RunIsCall : Type 0
 RunIsCall =
     (o : Outside) (entry : World) (top : ℕ) (log : List Event) (s : RunState) →
     IsTop o entry top → Follows o.act entry log → Runs o (at_entry o top) entry log s → IsCall o entry log [] true
+
+-- So is a log that forgets paths; to its end, where no path's turn is left open.
+abbrev pub ForgettingIsCall : Type 0
+ForgettingIsCall =
+    (o : Outside) (entry : World) (paths : List Path) (log : List Event) (s : Stage) →
+    Follows o.act entry log → ForgetsAll o paths Resting entry log s → IsCall o entry log paths (is_resting s)
