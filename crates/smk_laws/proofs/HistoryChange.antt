@@ -1,24 +1,22 @@
 -- A change of some places that leaves them firm: from a sound world to a sound world.
-use Rattle.std.proofs.Common.{◌≡◌, ◌⊎◌, ℕ, Bool, true, false, cond, ◌||◌, List, [], refl, sym, ap, subst, inl, inr, ◌∙◌, Option, Some, None, IsTrue, IsSome}
-use Rattle.std.specs.Prelude.{option_map, if◌then◌else◌, ◌==◌, bytes_eq}
+use Rattle.std.proofs.Common.{◌≡◌, ℕ, Bool, true, false, cond, ◌||◌, List, [], refl, sym, ap, subst, inl, inr, ◌∙◌, Option, Some, None, IsTrue, IsSome}
+use Rattle.std.specs.Prelude.{option_map, if◌then◌else◌, ◌==◌}
 use Rattle.std.proofs.lemmas.Bool.{eq-eqb, eqb-true}
 use Rattle.smk_base.specs.Path.{own_folder, is_at_or_under}
-use Rattle.smk_base.proofs.Under.{or_first}
 use Rattle.smk_world.specs.declared.event.Node.{Node}
-use Rattle.smk_world.specs.declared.event.NodeState.{NodeState}
-use Rattle.smk_world.specs.declared.event.NodeState.TheVariants.{Owned, Known}
-use Rattle.smk_world.specs.World.{World, Nodes, node_in, places_in, IsRising, IsFormed, Leaves, MayLeave, reading, reads, is_within, add_names, firmly, world_of}
+use Rattle.smk_world.specs.declared.event.NodeState.TheVariants.{Owned}
+use Rattle.smk_world.specs.World.{World, Nodes, node_in, places_in, IsFormed, Leaves, MayLeave, reading, reads, is_within, add_names, firmly, world_of}
 use Rattle.smk_world.specs.Calls.{owned_now}
 use Rattle.smk_world.specs.Trees.{Path, IsIn, kind_in}
 use Rattle.smk_world.proofs.Names.{adds_rising, not_added_any, reads_rising, reads_there, reads_may_stay, formed_image}
 use Rattle.smk_record.specs.declared.record.Stamp.TheVariants.{Time}
 use Rattle.smk_record.specs.declared.record.Record.{Record}
 use Rattle.smk_record.specs.Records.{stamped, core}
-use Rattle.smk_store.specs.Images.{Image, Content, image_of, seen, stands, readable, source_at, file_at, record_at, core_at, is_whole, tree_now}
+use Rattle.smk_store.specs.Images.{Content, image_of, seen, stands, readable, source_at, record_at, core_at, is_whole, tree_now}
 use Rattle.smk_store.specs.Trust.{Versions, none_eased}
-use Rattle.smk_store.specs.Soundness.{Outside, Sound, SoundWorld, EachImage, SameSources, NoNewRecord, HasKnown, told}
+use Rattle.smk_store.specs.Soundness.{Outside, Sound, SoundWorld, EachImage, SameSources, told}
 use Rattle.smk_store.specs.Safety.{with_sources, or_put}
-use Rattle.smk_laws.proofs.HistoryImages.{IsFrom, SameTimes, sound_from}
+use Rattle.smk_laws.proofs.HistoryImages.{sound_from}
 use Rattle.smk_laws.proofs.HistoryPlaces.{kept_same, marked_same, noted_same, node_same}
 
 -- the touched places are firm with these nodes, and the others as they were

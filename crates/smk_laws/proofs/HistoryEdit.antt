@@ -1,22 +1,21 @@
 -- An edit of a source keeps a world sound, and directories listed.
-use Rattle.std.proofs.Common.{◌≡◌, ◌⊎◌, ◌<◌, ℕ, Bool, true, false, cond, not, ◌&&◌, ◌||◌, List, [], ◌∷◌, refl, sym, ap, subst, inl, inr, ◌∙◌, arith, Option, Some, None, IsTrue, IsSome, true≢false}
-use Rattle.std.specs.Prelude.{if◌then◌else◌, bytes_eq, is_some, option_map, nat_le, length}
-use Rattle.std.specs.List.{list_any}
+use Rattle.std.proofs.Common.{◌≡◌, ◌⊎◌, ◌<◌, ℕ, Bool, true, false, not, ◌||◌, List, ◌∷◌, refl, sym, ap, subst, inl, inr, ◌∙◌, arith, Option, Some, None, IsTrue, true≢false}
+use Rattle.std.specs.Prelude.{if◌then◌else◌, bytes_eq, option_map, nat_le, length}
 use Rattle.smk_base.specs.Path.{own_folder, is_under, is_at_or_under, are_path_bytes, are_parts, parts, is_path}
 use Rattle.smk_base.proofs.Places.{same_place, place_itself}
-use Rattle.smk_base.proofs.Under.{at_or_under_further, at_or_under_cases, at_when_under, at_itself, false_unless, false_of_not, never_both, or_cases, or_first, or_second}
+use Rattle.smk_base.proofs.Under.{at_or_under_further, at_or_under_cases, at_when_under, at_itself, false_unless, never_both, or_cases, or_first}
 use Rattle.smk_world.specs.declared.event.Node.{Node}
 use Rattle.smk_world.specs.declared.event.Node.TheVariants.{Regular, Directory}
 use Rattle.smk_world.specs.declared.event.NodeState.{NodeState}
-use Rattle.smk_world.specs.World.{World, Nodes, IsFormed, Leaves, reading, is_named, folders_above, firmly, world_of}
-use Rattle.smk_world.specs.Trees.{Path, IsIn, kind_in, is_path_text, is_text, among}
+use Rattle.smk_world.specs.World.{World, IsFormed, reading, is_named, folders_above, firmly, world_of}
+use Rattle.smk_world.specs.Trees.{Path, IsIn, kind_in, is_path_text, is_text}
 use Rattle.smk_world.proofs.Names.{adds_rising, not_added_any, not_above, or_false}
 use Rattle.smk_record.specs.declared.record.Stamp.TheVariants.{Time}
 use Rattle.smk_record.specs.declared.record.Record.{Record}
 use Rattle.smk_record.specs.Records.{stamped, core}
 use Rattle.smk_store.specs.declared.store.Kept.{Kept}
 use Rattle.smk_store.specs.declared.store.Kept.TheVariants.{Absent, Unreadable, Held}
-use Rattle.smk_store.specs.Images.{Image, Content, content_of, image_of, seen, stands, readable, is_outside, is_directory, is_known, is_covered, is_file, is_source, source_at, file_at, record_at, core_at, members_under}
+use Rattle.smk_store.specs.Images.{Content, content_of, seen, stands, readable, is_outside, is_directory, is_known, is_covered, is_file, is_source, source_at, file_at, record_at, core_at}
 use Rattle.smk_store.specs.Trust.{Versions}
 use Rattle.smk_store.specs.Soundness.{Outside, SoundWorld, EachImage}
 use Rattle.smk_store.specs.Safety.{with_sources}
@@ -175,10 +174,10 @@ module _ (o : Outside) (w : World) (p : Path) (bytes : List ℕ) (time : ℕ) (r
         (fit p file o.read w after pair (kept_on o w after H (touched p file) (node p file) (there p file) sound change w after pair) source)
         is_later
         (λ nodes leaves.
-            let images = image_pair o w after H (touched p file) (node p file) (there p file) sound change nodes leaves in
-            fit p file o.read (world_of (before o w after H (touched p file) (node p file) (there p file) sound change nodes leaves)) (world_of nodes) images
-            (kept_on o w after H (touched p file) (node p file) (there p file) sound change (world_of (before o w after H (touched p file) (node p file) (there p file) sound change nodes leaves)) (world_of nodes) images)
-            (sources nodes leaves))
+        let images = image_pair o w after H (touched p file) (node p file) (there p file) sound change nodes leaves in
+        fit p file o.read (world_of (before o w after H (touched p file) (node p file) (there p file) sound change nodes leaves)) (world_of nodes) images
+        (kept_on o w after H (touched p file) (node p file) (there p file) sound change (world_of (before o w after H (touched p file) (node p file) (there p file) sound change nodes leaves)) (world_of nodes) images)
+        (sources nodes leaves))
       where
         pair : IsPair w after (touched p file) (node p file)
         pair = now_pair o w after H (touched p file) (node p file) (there p file) sound change

@@ -1,12 +1,11 @@
 -- Soundness goes from an image to one with the same records, marks and notes, where whole outputs are as they were.
-use Rattle.std.proofs.Common.{◌≡◌, ◌⊎◌, ℕ, zero, suc, Bool, true, false, not, ◌&&◌, ◌||◌, List, map, refl, sym, ap, subst, inl, inr, ◌∙◌, Option, Some, None, find, cond, true≢false, IsTrue, IsSome}
-use Rattle.std.specs.Prelude.{reverse, option_map, if◌then◌else◌, is_some, bytes_eq}
-use Rattle.std.specs.List.{list_any}
+use Rattle.std.proofs.Common.{◌≡◌, ◌⊎◌, ℕ, zero, suc, Bool, true, false, not, ◌&&◌, refl, sym, ap, subst, inl, inr, ◌∙◌, Option, Some, None, find, true≢false, IsTrue, IsSome}
+use Rattle.std.specs.Prelude.{reverse, option_map, if◌then◌else◌, is_some}
 use Rattle.std.specs.Option.{option_and_then}
 use Rattle.smk_base.specs.declared.tree.Tree.{Tree}
 use Rattle.smk_base.specs.declared.tree.Tree.TheVariants.{File}
 use Rattle.smk_world.specs.World.{folders_above}
-use Rattle.smk_world.specs.Trees.{Path, Act, IsIn, kind_in, all_of, value_at, part_at, among}
+use Rattle.smk_world.specs.Trees.{Path, Act, IsIn, kind_in, all_of, value_at, part_at}
 use Rattle.smk_record.specs.declared.record.Stamp.{Stamp}
 use Rattle.smk_record.specs.declared.record.Stamp.TheVariants.{Time, Made}
 use Rattle.smk_record.specs.declared.record.Record.{Record}
@@ -14,7 +13,7 @@ use Rattle.smk_record.specs.Records.{agrees, stamped, core}
 use Rattle.smk_store.specs.declared.store.Kept.{Kept}
 use Rattle.smk_store.specs.declared.store.Kept.TheVariants.{Absent, Unreadable, Held}
 use Rattle.smk_store.specs.Images.{Image, Content, stands, readable, is_known, is_covered, is_source, is_file, source_at, core_at, is_whole, tree_now}
-use Rattle.smk_store.specs.Trust.{Versions, none_eased, is_folder_record, holder, made_stamp, Speaks, Chain, Link, any_time, vouched, input_value, vir, made_at, Vir}
+use Rattle.smk_store.specs.Trust.{Versions, none_eased, is_folder_record, holder, made_stamp, Speaks, Chain, Link, any_time, vouched, input_value, vir, made_at}
 use Rattle.smk_store.specs.Soundness.{Sound}
 use Rattle.smk_laws.proofs.CurrentLists.{or_left, or_right, and_right, not_true, any_none, find_in, clash_of}
 use Rattle.smk_laws.proofs.CurrentPaths.{among_in}

@@ -1,5 +1,5 @@
 -- Listed directories over views; and of an image after a call, from one before it.
-use Rattle.std.proofs.Common.{◌≡◌, ◌⊎◌, ℕ, Bool, true, false, ◌&&◌, ◌||◌, List, map, drop, length, ◌+◌, refl, sym, ap, subst, inl, inr, ◌∙◌, Option, Some, None, IsSome, true≢false}
+use Rattle.std.proofs.Common.{◌≡◌, ◌⊎◌, ℕ, Bool, true, false, ◌&&◌, List, drop, length, ◌+◌, refl, sym, ap, subst, inl, inr, ◌∙◌, Option, Some, None, IsSome, true≢false}
 use Rattle.std.specs.Prelude.{bytes_eq, is_some, option_map, if◌then◌else◌}
 use Rattle.smk_base.specs.Path.{is_under, is_at_or_under}
 use Rattle.smk_base.specs.Place.{record_place, mark_place}
@@ -21,7 +21,7 @@ use Rattle.smk_protocol.proofs.Marking.{reads_stay}
 use Rattle.smk_protocol.proofs.Members.{member, member_in}
 use Rattle.smk_protocol.proofs.Naming.{IsImage, IsWide}
 use Rattle.smk_protocol.proofs.View.{View, view, kind_in}
-use Rattle.smk_protocol.proofs.Views.{Nodes, reads, read_at, view_of, path_node, place_node}
+use Rattle.smk_protocol.proofs.Views.{Nodes, reads, read_at, view_of, path_node}
 
 -- the same as of images
 abbrev pub HasListed : View → Type 0

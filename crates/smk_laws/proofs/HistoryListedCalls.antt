@@ -1,6 +1,6 @@
 -- Each call of the protocol keeps directories listed.
-use Rattle.std.proofs.Common.{◌≡◌, ◌⊎◌, ℕ, Bool, true, false, not, ◌&&◌, ◌||◌, List, [], ◌∷◌, ◌++◌, ◌+◌, map, drop, length, refl, sym, ap, subst, inl, inr, ◌∙◌, Option, Some, None, Ok, Err, IsSome, IsTrue, true≢false}
-use Rattle.std.specs.Prelude.{bytes_eq, nat_eq, is_some, is_none, option_map, if◌then◌else◌, Result}
+use Rattle.std.proofs.Common.{◌≡◌, ◌⊎◌, ℕ, Bool, true, false, not, ◌&&◌, ◌||◌, List, [], ◌∷◌, ◌+◌, map, drop, length, refl, sym, ap, subst, inl, inr, ◌∙◌, Option, Some, None, Ok, Err, IsSome, IsTrue, true≢false}
+use Rattle.std.specs.Prelude.{bytes_eq, nat_eq, is_some, option_map, if◌then◌else◌, Result}
 use Rattle.std.specs.List.{list_any}
 use Rattle.smk_base.specs.Path.{is_under, is_at_or_under, overlaps}
 use Rattle.smk_base.specs.Place.{record_place, mark_place, note_place, lock_place}
@@ -21,7 +21,7 @@ use Rattle.smk_world.specs.declared.event.Call.TheVariants.{Looked, ReadFile, Re
 use Rattle.smk_world.specs.declared.event.Change.{Change as LeftNode}
 use Rattle.smk_world.specs.declared.event.Child.{Child}
 use Rattle.smk_world.specs.declared.event.Failed.{Failed}
-use Rattle.smk_world.specs.World.{World, IsFormed, MayLeave, IsBeside, IsOneOf, after, reading, reads_nothing, firm, firmly, loose, going, or_also, standing, with_flag, with_folder, protected, is_within, is_above, reads_folder, owned_paths, owned_by, owned_of, child_numbered}
+use Rattle.smk_world.specs.World.{World, IsFormed, MayLeave, IsBeside, after, reading, reads_nothing, firm, firmly, loose, going, or_also, standing, with_flag, with_folder, is_within, is_above, reads_folder, owned_paths, owned_of, child_numbered}
 use Rattle.smk_world.specs.Trees.{Path, IsIn, Each, is_path_text, is_folder_kind, among, folders_of}
 use Rattle.smk_record.specs.declared.record.Member.{Member}
 use Rattle.smk_record.specs.declared.record.Record.{Record}
@@ -29,7 +29,7 @@ use Rattle.smk_record.specs.Records.{core}
 use Rattle.smk_store.specs.Images.{Content, is_outside, is_directory, bytes_of, kept_by, readable}
 use Rattle.smk_store.specs.Trust.{Versions}
 use Rattle.smk_store.specs.Soundness.{Outside}
-use Rattle.smk_protocol.specs.Protocol.{OpenJob, RunState, Marking, Running, Recorded, Dropped, own, outputs, mark_places, record_places, record_of, eased, is_running}
+use Rattle.smk_protocol.specs.Protocol.{OpenJob, RunState, Recorded, Dropped, own, outputs, mark_places, record_of, eased}
 use Rattle.smk_protocol.proofs.Basics.{each_in, in_filter, any_by}
 use Rattle.smk_protocol.proofs.Between.{Midway, Fits, InPhase, Lets, IsFirmly, HasNoRecordClash, IsGone, IsKnown, HoldsGiven, has_firm_marks, is_made, IsOfJob}
 use Rattle.smk_protocol.proofs.Calls.{event, Allows, in_map}
@@ -37,7 +37,7 @@ use Rattle.smk_protocol.proofs.Flags.{IsFlagged, flag_leaves, going_flag}
 use Rattle.smk_protocol.proofs.Guarded.{in_either}
 use Rattle.smk_protocol.proofs.Keeping.{AsideAllows}
 use Rattle.smk_protocol.proofs.Marking.{reads_stay}
-use Rattle.smk_protocol.proofs.Naming.{NamesLaws, IsImage, IsWide, each_image, of_wide, now_image}
+use Rattle.smk_protocol.proofs.Naming.{IsImage, IsWide, each_image, of_wide, now_image}
 use Rattle.smk_protocol.proofs.Members.{member}
 use Rattle.smk_protocol.proofs.Rows.{now}
 use Rattle.smk_protocol.proofs.Settling.{firm_leaves}
@@ -45,7 +45,7 @@ use Rattle.smk_protocol.proofs.Shrunk.{going_some}
 use Rattle.smk_protocol.proofs.Stays.{in_left}
 use Rattle.smk_protocol.proofs.Texts.{Texts}
 use Rattle.smk_protocol.proofs.View.{View, kind_in, file_of}
-use Rattle.smk_protocol.proofs.Views.{Nodes, EachImage, reads, read_at, view_of, path_node, place_node, names_in}
+use Rattle.smk_protocol.proofs.Views.{Nodes, EachImage, reads, read_at, view_of, path_node, names_in}
 use Rattle.smk_laws.proofs.CurrentLists.{and_left, and_right}
 use Rattle.smk_laws.proofs.HistoryEdit.{path_outside}
 use Rattle.smk_laws.proofs.HistoryListed.{HasListed, MayStand, before, before_image, same_record, same_listed, mark_before, folder_before, members_before}

@@ -1,12 +1,11 @@
 -- A call that forgets paths keeps directories listed; so it is a call that stands in a history.
-use Rattle.std.proofs.Common.{◌≡◌, ◌⊎◌, ℕ, Bool, true, false, ◌||◌, List, [], ◌∷◌, ◌++◌, refl, sym, ap, subst, inl, inr, ◌∙◌, Option, Some, None, Ok, Err, IsTrue, true≢false}
+use Rattle.std.proofs.Common.{◌≡◌, ◌⊎◌, Bool, true, false, ◌||◌, List, [], ◌∷◌, ◌++◌, refl, sym, ap, subst, inl, inr, ◌∙◌, Some, None, Ok, Err, true≢false}
 use Rattle.std.specs.Prelude.{bytes_eq, nat_eq, Result, Contains, if◌then◌else◌, ◌&&◌}
 use Rattle.std.specs.List.{IsDistinct}
 use Rattle.smk_base.specs.Path.{is_under, is_at_or_under}
-use Rattle.smk_base.specs.Place.{record_place, mark_place, note_place, lock_place}
+use Rattle.smk_base.specs.Place.{record_place, mark_place, lock_place}
 use Rattle.smk_base.proofs.Places.{place_itself}
 use Rattle.smk_base.proofs.Under.{never_both, at_itself}
-use Rattle.smk_world.specs.declared.event.Node.{Node}
 use Rattle.smk_world.specs.declared.event.NodeState.{NodeState}
 use Rattle.smk_world.specs.declared.event.NodeState.TheVariants.{Owned, Known}
 use Rattle.smk_world.specs.declared.event.Call.{Call}
@@ -16,9 +15,9 @@ use Rattle.smk_world.specs.declared.event.Child.{Child}
 use Rattle.smk_world.specs.declared.event.Event.{Event}
 use Rattle.smk_world.specs.declared.event.Failed.{Failed}
 use Rattle.smk_world.specs.World.{World, IsFormed, after, run, reading, reads_nothing, reads_folder, firm, firmly, going, standing, is_within, is_above, numbers, children_after}
-use Rattle.smk_world.specs.Calls.{Lets as WorldLets, MayRead, Reads, HasOwners, owned_now, failed}
+use Rattle.smk_world.specs.Calls.{Lets as WorldLets, MayRead, Reads, HasOwners, owned_now}
 use Rattle.smk_world.specs.Runs.{Follows}
-use Rattle.smk_world.specs.Trees.{Path, IsIn, Each, among}
+use Rattle.smk_world.specs.Trees.{Path, Each, among}
 use Rattle.smk_world.proofs.Names.{formed_after}
 use Rattle.smk_world.proofs.Owners.{AreNumbered, numbered_after, numbered_image, owned_after}
 use Rattle.smk_store.specs.Images.{image_of, seen}

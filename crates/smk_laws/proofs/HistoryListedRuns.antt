@@ -1,17 +1,15 @@
 -- A run of the protocol keeps directories listed; so it is a call that stands in a history.
-use Rattle.std.proofs.Common.{◌≡◌, ◌⊎◌, ℕ, Bool, true, false, List, [], ◌∷◌, ◌++◌, refl, sym, ap, subst, inl, inr, Contains, Option, Some, Ok, Err, IsTrue}
-use Rattle.std.specs.Prelude.{nat_eq, Result}
+use Rattle.std.proofs.Common.{◌≡◌, ℕ, false, List, [], ◌∷◌, ◌++◌, refl, sym, subst, inl, inr, Contains, Some, Ok, Err, IsTrue}
+use Rattle.std.specs.Prelude.{nat_eq}
 use Rattle.std.specs.List.{IsDistinct}
 use Rattle.smk_world.specs.declared.event.Call.{Call}
 use Rattle.smk_world.specs.declared.event.Call.TheVariants.{Looked, ReadFile, ReadFolder, Written, Created, Removed, MadeParents, Settled, Protected, Started, Waited}
 use Rattle.smk_world.specs.declared.event.Event.{Event}
-use Rattle.smk_world.specs.declared.event.Failed.{Failed}
 use Rattle.smk_world.specs.World.{World, after, run, numbers}
 use Rattle.smk_world.specs.Calls.{failed}
 use Rattle.smk_world.specs.Runs.{Follows}
-use Rattle.smk_world.specs.Trees.{Path, IsIn}
+use Rattle.smk_world.specs.Trees.{IsIn}
 use Rattle.smk_world.proofs.Owners.{AreNumbered, numbered_after, numbered_image}
-use Rattle.smk_record.specs.declared.record.Record.{Record}
 use Rattle.smk_store.specs.Images.{image_of, seen}
 use Rattle.smk_store.specs.Trust.{Versions}
 use Rattle.smk_store.specs.Soundness.{Outside, SoundWorld}
@@ -29,7 +27,7 @@ use Rattle.smk_protocol.proofs.Naming.{each_image, now_image}
 use Rattle.smk_protocol.proofs.Opening.{opened}
 use Rattle.smk_protocol.proofs.ProtocolHolds.{keeps_sound}
 use Rattle.smk_protocol.proofs.Reading.{in_of}
-use Rattle.smk_protocol.proofs.Rows.{now, Closes, AllUnmarked, Step, Aside, Steady, Begin, Go, Close, Fail, FailWait}
+use Rattle.smk_protocol.proofs.Rows.{Closes, AllUnmarked, Step, Aside, Steady, Begin, Go, Close, Fail, FailWait}
 use Rattle.smk_protocol.proofs.SoundWorlds.{world_to, now_is}
 use Rattle.smk_protocol.proofs.StepViews.{step_to}
 use Rattle.smk_protocol.proofs.TextFacts.{text_laws}
@@ -37,7 +35,7 @@ use Rattle.smk_protocol.proofs.Texts.{Texts}
 use Rattle.smk_protocol.proofs.Unowned.{step_unowned}
 use Rattle.smk_protocol.proofs.View.{View}
 use Rattle.smk_protocol.proofs.Views.{EachImage, reads}
-use Rattle.smk_laws.specs.Histories.{ListsAll, IsListed, KeepsListed, RunIsCall}
+use Rattle.smk_laws.specs.Histories.{IsListed, RunIsCall}
 use Rattle.smk_laws.proofs.HistoryListed.{HasListed, to_view, from_view}
 use Rattle.smk_laws.proofs.HistoryListedCalls.{Who, open_of, listed_after}
 

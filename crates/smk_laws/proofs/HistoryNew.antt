@@ -1,22 +1,19 @@
 -- A world to begin with is sound, and has no directory of a record.
-use Rattle.std.proofs.Common.{◌≡◌, ◌⊎◌, ℕ, Bool, true, false, cond, ◌&&◌, ◌||◌, List, refl, sym, ap, subst, inl, inr, ◌∙◌, Option, Some, None, IsTrue, IsSome, true≢false}
-use Rattle.std.specs.Prelude.{if◌then◌else◌, is_some, option_map, ◌==◌}
+use Rattle.std.proofs.Common.{◌≡◌, Bool, true, false, List, refl, sym, ap, subst, inl, inr, ◌∙◌, Option, Some, None, true≢false}
+use Rattle.std.specs.Prelude.{if◌then◌else◌, is_some, option_map}
 use Rattle.std.proofs.lemmas.Bool.{eq-eqb}
 use Rattle.smk_base.specs.Path.{own_folder, is_at_or_under}
-use Rattle.smk_base.specs.Place.{record_place, mark_place, note_place}
+use Rattle.smk_base.specs.Place.{record_place}
 use Rattle.smk_base.proofs.Under.{false_unless, never_both}
 use Rattle.smk_world.specs.declared.event.Node.{Node}
-use Rattle.smk_world.specs.declared.event.NodeState.{NodeState}
-use Rattle.smk_world.specs.declared.event.NodeState.TheVariants.{Owned, Known}
-use Rattle.smk_world.specs.World.{World, Nodes, node_in, places_in, Leaves, MayLeave, reading, is_named, firmly, world_of, is_within}
-use Rattle.smk_world.specs.Calls.{owned_now}
+use Rattle.smk_world.specs.declared.event.NodeState.TheVariants.{Owned}
+use Rattle.smk_world.specs.World.{World, Nodes, node_in, places_in, Leaves, MayLeave, reading, is_named, firmly}
 use Rattle.smk_world.specs.Trees.{Path, is_path_text}
 use Rattle.smk_record.specs.declared.record.Record.{Record}
 use Rattle.smk_record.specs.Records.{core}
-use Rattle.smk_store.specs.declared.store.Kept.{Kept}
 use Rattle.smk_store.specs.declared.store.Kept.TheVariants.{Absent}
 use Rattle.smk_store.specs.Images.{Image, Content, image_by, image_of, seen, stands, readable, kept_by, source_at, record_at, core_at}
-use Rattle.smk_store.specs.Trust.{Versions, none_eased}
+use Rattle.smk_store.specs.Trust.{none_eased}
 use Rattle.smk_store.specs.Soundness.{Outside, Sound, SoundWorld, told}
 use Rattle.smk_store.specs.Safety.{with_sources, or_put}
 use Rattle.smk_laws.specs.Histories.{ListsAll, IsListed, IsNew, no_versions}

@@ -1,6 +1,6 @@
 -- What two worlds' images have in common, where their nodes are the same.
-use Rattle.std.proofs.Common.{◌≡◌, ◌⊎◌, ℕ, Bool, true, false, not, ◌&&◌, ◌||◌, List, map, refl, sym, ap, subst, inl, inr, ◌∙◌, Option, Some, None, true≢false}
-use Rattle.std.specs.Prelude.{option_map, if◌then◌else◌, is_some, filter}
+use Rattle.std.proofs.Common.{◌≡◌, ℕ, Bool, true, false, ◌&&◌, List, map, refl, sym, ap, ◌∙◌, Option, Some, None, true≢false}
+use Rattle.std.specs.Prelude.{option_map, if◌then◌else◌, is_some}
 use lib.Pointwise.{pointwise}
 use Rattle.smk_base.specs.Path.{own_folder, is_under, is_at_or_under}
 use Rattle.smk_base.specs.Place.{record_place, mark_place, note_place}
@@ -12,11 +12,10 @@ use Rattle.smk_world.specs.declared.event.Node.TheVariants.{Regular, Directory}
 use Rattle.smk_world.specs.declared.recipe.Kind.{Kind}
 use Rattle.smk_world.specs.declared.recipe.Kind.TheVariants.{Plain, Folder as FolderKind}
 use Rattle.smk_world.specs.World.{World, IsFormed, IsRising, reading}
-use Rattle.smk_world.specs.Trees.{Path, IsIn, among, is_path_text, below, is_folder_kind}
-use Rattle.smk_record.specs.declared.record.Member.{Member}
+use Rattle.smk_world.specs.Trees.{Path, IsIn, among, is_path_text, below}
 use Rattle.smk_record.specs.declared.record.Record.{Record}
 use Rattle.smk_record.specs.Records.{members_of, same_member}
-use Rattle.smk_store.specs.Images.{Image, seen, is_outside, kept_by, is_file, is_folder, is_whole, record_at, names_under, members_under, entry_under, tree_now, content_of, is_directory, bytes_of}
+use Rattle.smk_store.specs.Images.{seen, is_outside, kept_by, is_folder, is_whole, record_at, names_under, members_under, entry_under, tree_now, content_of, is_directory, bytes_of}
 use Rattle.smk_store.specs.declared.store.Kept.TheVariants.{Absent}
 use Rattle.smk_laws.proofs.CurrentLists.{filter_in}
 use Rattle.smk_laws.proofs.CurrentComplete.{seen_is_complete}

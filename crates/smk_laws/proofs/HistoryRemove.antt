@@ -1,21 +1,17 @@
 -- A removal keeps a world sound in which directories are listed, and keeps them so.
-use Rattle.std.proofs.Common.{◌≡◌, ◌⊎◌, ◌+◌, ℕ, suc, arith, Bool, true, false, cond, not, ◌&&◌, ◌||◌, List, [], ◌∷◌, ◌++◌, map, drop, refl, sym, ap, subst, inl, inr, ◌∙◌, Option, Some, None, IsTrue, IsSome, true≢false}
+use Rattle.std.proofs.Common.{◌≡◌, ◌⊎◌, ◌+◌, ℕ, suc, arith, Bool, true, false, not, ◌&&◌, ◌||◌, List, [], ◌∷◌, ◌++◌, drop, refl, sym, ap, subst, inl, inr, ◌∙◌, Option, Some, None, IsTrue, true≢false}
 use Rattle.std.specs.Prelude.{if◌then◌else◌, bytes_eq, is_some, option_map, length}
-use Rattle.std.specs.List.{filter}
 use Rattle.smk_base.specs.Path.{own_folder, is_under, is_at_or_under, overlaps}
-use Rattle.smk_base.proofs.Places.{same_place, place_itself}
-use Rattle.smk_base.proofs.Under.{at_itself, at_when_under, at_or_under_cases, rest_under, false_unless, never_both, or_cases, or_first, or_second, overlaps_above_both, no_slash_under}
+use Rattle.smk_base.proofs.Under.{at_when_under, at_or_under_cases, rest_under, false_unless, never_both, or_cases, or_first, overlaps_above_both, no_slash_under}
 use Rattle.smk_world.specs.declared.event.Node.{Node}
-use Rattle.smk_world.specs.declared.event.NodeState.{NodeState}
 use Rattle.smk_world.specs.declared.recipe.Kind.{Kind}
 use Rattle.smk_world.specs.declared.recipe.Kind.TheVariants.{Plain, Folder}
 use Rattle.smk_world.specs.World.{World, Nodes, IsFormed, Leaves, reading, is_named, firmly, world_of}
-use Rattle.smk_world.specs.Trees.{Path, IsIn, below, kind_in, is_path_text, is_folder_kind, among}
-use Rattle.smk_record.specs.declared.record.Stamp.TheVariants.{Time}
+use Rattle.smk_world.specs.Trees.{Path, IsIn, below, kind_in, is_folder_kind}
 use Rattle.smk_record.specs.declared.record.Member.{Member}
 use Rattle.smk_record.specs.declared.record.Record.{Record}
-use Rattle.smk_record.specs.Records.{stamped, core, members_of, same_member}
-use Rattle.smk_store.specs.Images.{Image, Content, content_of, image_of, seen, readable, is_outside, is_file, is_folder, is_directory, is_source, source_at, record_at, core_at, is_whole, tree_now, names_under, members_under}
+use Rattle.smk_record.specs.Records.{core, members_of, same_member}
+use Rattle.smk_store.specs.Images.{Content, content_of, image_of, seen, readable, is_outside, is_folder, is_directory, is_source, source_at, record_at, core_at, is_whole, tree_now, names_under, members_under}
 use Rattle.smk_store.specs.Trust.{Versions}
 use Rattle.smk_store.specs.Soundness.{Outside, SoundWorld}
 use Rattle.smk_store.specs.Safety.{with_sources}
@@ -242,7 +238,7 @@ module _ (o : Outside) (w : World) (p : Path) (H : Versions) (sound : SoundWorld
       (fit p o.read w after pair (kept_pair w after pair) outside all.now)
       (λ d r q f at i h e. none_some f e)
       (λ nodes leaves.
-          fit p o.read (world_of (old nodes leaves)) (world_of nodes) (images nodes leaves) (kept_pair (world_of (old nodes leaves)) (world_of nodes) (images nodes leaves)) outside (lists_old nodes leaves))
+      fit p o.read (world_of (old nodes leaves)) (world_of nodes) (images nodes leaves) (kept_pair (world_of (old nodes leaves)) (world_of nodes) (images nodes leaves)) outside (lists_old nodes leaves))
 
   pub remove_lists : IsListed o after
   remove_lists =

@@ -1,8 +1,8 @@
 -- Wrong orders of a run's calls, computed: what a crash may leave after them isn't sound.
-use Rattle.std.proofs.Common.{◌≡◌, ◌⊎◌, inl, inr, ap, true≢false, sym, subst, arith}
+use Rattle.std.proofs.Common.{◌≡◌, inl, inr, ap, true≢false, sym, subst, arith}
 use Rattle.std.specs.Prelude.{ℕ, Bool, true, false, List, [], ◌∷◌, codes, Option, Some, None, Ok, Err, IsTrue, refl, bytes_eq, cond, ◌&&◌, ◌||◌, ◌==◌, if◌then◌else◌}
 use Rattle.std.specs.List.Sorted.{IsStrictlySortedBy}
-use Rattle.smk_base.specs.Path.{is_under, is_at_or_under}
+use Rattle.smk_base.specs.Path.{is_under}
 use Rattle.smk_base.specs.Place.{record_place, mark_place}
 use Rattle.smk_base.specs.declared.tree.Tree.{Tree}
 use Rattle.smk_base.specs.declared.tree.Tree.TheVariants.{File}
@@ -11,7 +11,7 @@ use Rattle.smk_world.specs.declared.event.Node.{Node}
 use Rattle.smk_world.specs.declared.event.Node.TheVariants.{Regular}
 use Rattle.smk_world.specs.declared.event.NodeState.{NodeState}
 use Rattle.smk_world.specs.declared.event.NodeState.TheVariants.{Known}
-use Rattle.smk_world.specs.declared.event.Besides.TheVariants.{Anything, OneOf}
+use Rattle.smk_world.specs.declared.event.Besides.TheVariants.{Anything}
 use Rattle.smk_world.specs.declared.event.Call.TheVariants.{Written, Removed, Settled}
 use Rattle.smk_world.specs.declared.event.Event.{Event}
 use Rattle.smk_world.specs.declared.event.Failed.{Failed}
@@ -21,9 +21,9 @@ use Rattle.smk_record.specs.declared.record.Stamp.{Stamp}
 use Rattle.smk_record.specs.declared.record.Stamp.TheVariants.{Time, Made}
 use Rattle.smk_record.specs.declared.record.Record.{Record}
 use Rattle.smk_record.specs.Records.{agrees, stamped}
-use Rattle.smk_store.specs.Images.{Image, Content, image_of, seen}
+use Rattle.smk_store.specs.Images.{Image, image_of}
 use Rattle.smk_store.specs.Trust.{none_eased, made_stamp, Speaks, Chain, Link, any_time, Versions}
-use Rattle.smk_store.specs.Soundness.{Outside, Sound, SoundWorld, told}
+use Rattle.smk_store.specs.Soundness.{Sound, SoundWorld}
 use Rattle.smk_flow.proofs.Examples.{commands}
 use Rattle.smk_chain.proofs.Folders.{file, image_with, recorded}
 use Rattle.smk_plan.proofs.Plans.{temporary_jobs}
