@@ -1,5 +1,6 @@
 mod Refused
-pub mod RefusedOrders
+mod RefusedOrders
+mod RefusedRemoval
 mod Vouched
 pub mod Valid
 pub mod Same
