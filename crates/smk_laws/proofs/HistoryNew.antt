@@ -2,12 +2,10 @@
 use Rattle.std.proofs.Common.{◌≡◌, Bool, true, false, List, refl, sym, ap, subst, inl, inr, ◌∙◌, Option, Some, None, true≢false}
 use Rattle.std.specs.Prelude.{if◌then◌else◌, is_some, option_map}
 use Rattle.std.proofs.lemmas.Bool.{eq-eqb}
-use Rattle.smk_base.specs.Path.{own_folder, is_at_or_under}
 use Rattle.smk_base.specs.Place.{record_place}
-use Rattle.smk_base.proofs.Under.{false_unless, never_both}
 use Rattle.smk_world.specs.declared.event.Node.{Node}
 use Rattle.smk_world.specs.declared.event.NodeState.TheVariants.{Owned}
-use Rattle.smk_world.specs.World.{World, Nodes, node_in, places_in, Leaves, MayLeave, reading, is_named, firmly}
+use Rattle.smk_world.specs.World.{World, Nodes, node_in, places_in, Leaves, MayLeave, reading, firmly}
 use Rattle.smk_world.specs.Trees.{Path, is_path_text}
 use Rattle.smk_record.specs.declared.record.Record.{Record}
 use Rattle.smk_record.specs.Records.{core}
@@ -17,8 +15,6 @@ use Rattle.smk_store.specs.Trust.{none_eased}
 use Rattle.smk_store.specs.Soundness.{Outside, Sound, SoundWorld, told}
 use Rattle.smk_store.specs.Safety.{with_sources, or_put}
 use Rattle.smk_laws.specs.Histories.{ListsAll, IsListed, IsNew, no_versions}
-use Rattle.smk_laws.proofs.CurrentMeaning.{contains_from}
-use Rattle.smk_laws.proofs.CurrentPaths.{among_in}
 
 none_some : {A : Type 0} (x : A) → None ≡ Some x → ⊥
 none_some x h = cc
@@ -27,16 +23,12 @@ module _ (o : Outside) (w : World) (new : IsNew w) where
   abbrev nodes_now : Path → Option Node
   nodes_now q = reading (w.nodes q)
 
-  -- nothing of the engine's reads
-  no_own : (q : Path) → is_at_or_under q own_folder ≡ true → reading (w.nodes q) ≡ None
-  no_own q h = new.formed.complete q (false_unless (is_named q w.names) (λ k. never_both (is_at_or_under q own_folder) h (new.none_own q (contains_from w.names q (among_in w.names q k)))))
-
   -- an image by these nodes knows nothing, whatever names it has
   abbrev image : List Path → Image
   image names = image_by o.read names nodes_now
 
   no_kept : (names : List Path) (p : Path) → (image names).kept p ≡ Absent
-  no_kept names p = go (is_path_text p) (reading (w.nodes (record_place p))) (no_own (record_place p) refl)
+  no_kept names p = go (is_path_text p) (reading (w.nodes (record_place p))) (new.none_own (record_place p) refl)
     where
       go : (b : Bool) (n : Option Node) → n ≡ None → (if b then kept_by o.read p n else Absent) ≡ Absent
       go true n e = ap (kept_by o.read p) e

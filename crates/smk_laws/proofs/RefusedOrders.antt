@@ -241,3 +241,8 @@ serial_again_refused sound =
     let t_chain = no_products same_serial _ (one_time (codes "s") 5) in
     let h = sound.holds (codes "u") _ refl refl (one_product same_serial _ _ (codes "t") 1 refl (record { no_source = refl; holder = refl; clear = (refl, inl refl) }) refl t_chain) refl in
     two_trees h.0 h.1 h.2
+
+-- ## From sound worlds
+
+path_or : Option Record → Path
+path_or r = elim r [ None ↦ [] | Some s ↦ s.path ]

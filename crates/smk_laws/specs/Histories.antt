@@ -1,11 +1,11 @@
 -- Histories: worlds that follow one another by calls, edits, removals and crashes.
-use Rattle.std.specs.Prelude.{◌≡◌, ◌<◌, ℕ, Bool, true, false, ◌&&◌, not, List, [], ◌∷◌, ◌++◌, bytes_eq, if◌then◌else◌, Option, Some, None, IsTrue, Contains}
+use Rattle.std.specs.Prelude.{◌≡◌, ◌<◌, ℕ, Bool, true, false, ◌&&◌, not, List, [], ◌∷◌, ◌++◌, bytes_eq, if◌then◌else◌, Option, Some, None, IsTrue}
 use Rattle.std.specs.List.{list_all, filter}
 use Rattle.smk_base.specs.Path.{own_folder, is_under, is_at_or_under}
 use Rattle.smk_world.specs.declared.event.Node.{Node}
 use Rattle.smk_world.specs.declared.event.Node.TheVariants.{Regular, Directory}
 use Rattle.smk_world.specs.declared.event.Event.{Event}
-use Rattle.smk_world.specs.World.{World, Nodes, IsFormed, Leaves, run, world_of, firmly, folders_above, add_names}
+use Rattle.smk_world.specs.World.{World, Nodes, IsFormed, Leaves, reading, run, world_of, firmly, folders_above, add_names}
 use Rattle.smk_world.specs.Runs.{Follows}
 use Rattle.smk_world.specs.Trees.{Path, IsIn, is_folder_kind, kind_in}
 use Rattle.smk_record.specs.declared.record.Stamp.TheVariants.{Time}
@@ -48,7 +48,7 @@ pub record KeepsListed (o : Outside) (entry : World) (log : List Event) (to_the_
 -- a world to begin with: nothing of the engine's, no child, every node firm
 pub record IsNew (w : World) : Type 0 where
   pub formed : IsFormed w
-  pub none_own : (q : Path) → Contains w.names q → is_at_or_under q own_folder ≡ false
+  pub none_own : (q : Path) → is_at_or_under q own_folder ≡ true → reading (w.nodes q) ≡ None
   pub no_child : w.children ≡ []
   pub all_firm : (q : Path) → (n : Option Node) × (w.nodes q ≡ firmly n)
 
