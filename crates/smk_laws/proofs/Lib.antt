@@ -1,5 +1,6 @@
 mod Refused
 mod RefusedOrders
+mod RefusedCalls
 mod RefusedRemoval
 mod Vouched
 pub mod Valid

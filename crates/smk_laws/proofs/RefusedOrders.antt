@@ -30,22 +30,22 @@ use Rattle.smk_plan.proofs.Plans.{temporary_jobs}
 use Rattle.smk_laws.proofs.Refused.{no_products, one_time, differ, hello_at, outside, torn, spelled}
 
 -- the places of out.txt
-abbrev out_record : Path
+abbrev pub out_record : Path
 out_record = record_place (codes "out.txt")
 
-abbrev out_mark : Path
+abbrev pub out_mark : Path
 out_mark = mark_place (codes "out.txt")
 
-abbrev mark : Node
+abbrev pub mark : Node
 mark = Regular [] 1000 false
 
-abbrev kept : Node
+abbrev pub kept : Node
 kept = Regular spelled 1002 false
 
 -- ## A mark that is removed before the record is settled
 
 -- the output is firm under its mark, and has no record yet
-abbrev recording : Nodes
+abbrev pub recording : Nodes
 recording =
     (out_mark, mark)
     ∷ (codes "in.txt", Regular (codes "hello\n") 1000 false)
@@ -53,14 +53,14 @@ recording =
     ∷ []
 
 -- the record is written, and the mark removed
-abbrev unmarked_early : List Event
+abbrev pub unmarked_early : List Event
 unmarked_early =
     record { call = Written out_record spelled (Ok tt); left = record { place = out_record; node = kept } ∷ [] }
     ∷ record { call = Removed out_mark (Ok tt); left = [] }
     ∷ []
 
 -- what a crash may leave then: neither is there
-abbrev no_record : Nodes
+abbrev pub no_record : Nodes
 no_record =
     (codes "in.txt", Regular (codes "hello\n") 1000 false)
     ∷ (codes "out.txt", Regular (codes "hello\n") 1001 false)
@@ -86,7 +86,7 @@ unmarked_may false true false n x none other = gone_may x
 unmarked_may false false true n x none other = inr tt
 unmarked_may false false false n x none other = inl refl
 
-leaves_no_record : Leaves (run (world_of recording) unmarked_early) no_record
+pub leaves_no_record : Leaves (run (world_of recording) unmarked_early) no_record
 unfolding IsStrictlySortedBy
 leaves_no_record = record {
   each = λ q.
@@ -95,7 +95,7 @@ leaves_no_record = record {
   rising = ((refl, tt), (tt, tt));
 }
 
-some_is_none : {A : Type 0} (x : A) → Some x ≡ None → ⊥
+pub some_is_none : {A : Type 0} (x : A) → Some x ≡ None → ⊥
 some_is_none x h = cc
 
 -- Where the mark goes before the record is settled, a crash may turn the output into a source: the world is sound for no versions.
@@ -105,17 +105,17 @@ record_unsettled_refused H sound = some_is_none _ (sound.same_sources no_record 
 -- ## A standing mark that is written anew
 
 -- an unfinished job has left its output torn, under a firm mark
-abbrev unfinished : Nodes
+abbrev pub unfinished : Nodes
 unfinished = (out_mark, mark) ∷ torn
 
-abbrev marked_anew : List Event
+abbrev pub marked_anew : List Event
 marked_anew = record { call = Written out_mark [] (Ok tt); left = record { place = out_mark; node = mark } ∷ [] } ∷ []
 
 anew_may : (at : Bool) (n x : Option Node) → MayLeave (if at then loose n (firmly (if at then Some mark else x)) else firmly (if at then Some mark else x)) x
 anew_may true n x = inr tt
 anew_may false n x = inl refl
 
-leaves_torn_anew : Leaves (run (world_of unfinished) marked_anew) torn
+pub leaves_torn_anew : Leaves (run (world_of unfinished) marked_anew) torn
 unfolding IsStrictlySortedBy
 leaves_torn_anew = record {
   each = λ q. anew_may (bytes_eq q out_mark) (standing (record { place = out_mark; node = mark } ∷ []) q) (node_in torn q);
@@ -134,7 +134,7 @@ anew_refused sound = torn_refused (sound.after_crash torn leaves_torn_anew)
 
 -- ## An output whose settling failed
 
-abbrev input : Node
+abbrev pub input : Node
 input = Regular (codes "hello\n") 1000 false
 
 -- the command has ended, and its output isn't firm yet
@@ -241,8 +241,3 @@ serial_again_refused sound =
     let t_chain = no_products same_serial _ (one_time (codes "s") 5) in
     let h = sound.holds (codes "u") _ refl refl (one_product same_serial _ _ (codes "t") 1 refl (record { no_source = refl; holder = refl; clear = (refl, inl refl) }) refl t_chain) refl in
     two_trees h.0 h.1 h.2
-
--- ## From sound worlds
-
-path_or : Option Record → Path
-path_or r = elim r [ None ↦ [] | Some s ↦ s.path ]
