@@ -1,12 +1,12 @@
 -- Logs in a wrong order don't keep what a call has to keep: from a sound world they lead to one that isn't.
-use Rattle.std.proofs.Common.{◌≡◌, ◌⊎◌, inl, inr, ap, true≢false, sym, subst, ◌∙◌}
-use Rattle.std.specs.Prelude.{ℕ, Bool, true, false, List, [], ◌∷◌, codes, Option, Some, None, IsTrue, IsSome, refl, bytes_eq, length, nat_le, option_map, ◌&&◌, ◌||◌, ◌==◌, if◌then◌else◌}
+use Rattle.std.proofs.Common.{◌≡◌, inl, inr, ap, true≢false, sym, subst, ◌∙◌}
+use Rattle.std.specs.Prelude.{Bool, true, false, [], codes, Option, Some, None, IsSome, refl, bytes_eq, length, nat_le, option_map, ◌&&◌, if◌then◌else◌}
 use Rattle.std.specs.List.Sorted.{IsStrictlySortedBy}
 use Rattle.smk_base.specs.Place.{record_place}
 use Rattle.smk_base.proofs.Places.{same_place}
 use Rattle.smk_world.specs.declared.event.Node.{Node}
 use Rattle.smk_world.specs.declared.event.Node.TheVariants.{Regular, Directory}
-use Rattle.smk_world.specs.World.{Nodes, IsRising, node_in, places_in, is_within, world_of}
+use Rattle.smk_world.specs.World.{Nodes, IsRising, node_in, places_in, world_of}
 use Rattle.smk_world.specs.Trees.{Path, IsIn, is_path_text}
 use Rattle.smk_record.specs.declared.record.Record.{Record}
 use Rattle.smk_record.specs.Records.{core, is_valid}
@@ -14,7 +14,7 @@ use Rattle.smk_store.specs.declared.store.Kept.TheVariants.{Absent, Unreadable, 
 use Rattle.smk_store.specs.Images.{Image, Content, content_of, image_of, is_outside, is_source, source_at, core_at, readable, for_path, kept_by}
 use Rattle.smk_store.specs.Trust.{none_eased, Versions}
 use Rattle.smk_store.specs.Soundness.{Sound}
-use Rattle.smk_store.specs.Safety.{KeepsSound, with_sources}
+use Rattle.smk_store.specs.Safety.{KeepsSound}
 use Rattle.smk_flow.proofs.Examples.{commands}
 use Rattle.smk_plan.proofs.Plans.{copy_records}
 use Rattle.smk_laws.proofs.Finite.{node_from}
