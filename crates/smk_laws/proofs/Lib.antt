@@ -1,6 +1,7 @@
 mod Refused
 mod RefusedOrders
 mod RefusedCalls
+mod RefusedRuns
 mod RefusedRemoval
 mod Vouched
 pub mod Valid

@@ -148,7 +148,7 @@ ended =
     }
 
 -- the settling of the output fails, and the job goes on as if it hadn't
-abbrev gone_on : Failed → List Event
+abbrev pub gone_on : Failed → List Event
 gone_on fault =
     record { call = Settled (codes "out.txt" ∷ []) (Err fault); left = [] }
     ∷ record { call = Written out_record spelled (Ok tt); left = record { place = out_record; node = kept } ∷ [] }
