@@ -1,5 +1,5 @@
 -- An event after which the world reads as before and each image looks as one did before: looks, settling, and calls about the lock.
-use Rattle.std.proofs.Common.{◌≡◌, ◌⊎◌, Bool, true, false, List, [], refl, sym, ap, subst, inl, inr, arith, ◌∙◌, Option, None}
+use Rattle.std.proofs.Common.{◌≡◌, Bool, true, false, List, refl, sym, ap, subst, arith, ◌∙◌, Option, None}
 use Rattle.std.specs.Prelude.{IsTrue, IsSome, bytes_eq, is_some, if◌then◌else◌, ◌&&◌, ◌||◌, Ok, Err, Result}
 use Rattle.smk_base.specs.Path.{is_under, is_at_or_under}
 use Rattle.smk_base.specs.Place.{record_place, mark_place, note_place, lock_place}
@@ -8,8 +8,6 @@ use Rattle.smk_world.specs.declared.event.Call.TheVariants.{Looked, ReadFile, Re
 use Rattle.smk_world.specs.declared.event.Change.{Change as LeftNode}
 use Rattle.smk_world.specs.declared.event.Failed.{Failed}
 use Rattle.smk_world.specs.declared.event.Node.{Node}
-use Rattle.smk_world.specs.declared.event.NodeState.{NodeState}
-use Rattle.smk_world.specs.declared.event.NodeState.TheVariants.{Owned}
 use Rattle.smk_world.specs.World.{World, IsFormed, MayLeave, after, reading, reads_nothing, standing, with_folder, is_within, is_above, reads_folder}
 use Rattle.smk_world.specs.Trees.{Path, among, is_path_text}
 use Rattle.smk_store.specs.Images.{is_outside}

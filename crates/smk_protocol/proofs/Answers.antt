@@ -1,9 +1,7 @@
 -- What a world lets a call answer and leave, along the protocol, as far as the law needs it.
-use Rattle.std.proofs.Common.{◌≡◌, ◌⊎◌, ℕ, Bool, true, false, List, [], ◌∷◌, map, refl, sym, ap, subst, inl, inr, arith, ◌∙◌, Option, Some, None, Contains, eqb-true}
+use Rattle.std.proofs.Common.{◌≡◌, ◌⊎◌, ℕ, Bool, true, false, List, [], ◌∷◌, refl, sym, ap, subst, inl, inr, ◌∙◌, Option, Some, None, Contains, eqb-true}
 use Rattle.std.specs.Prelude.{IsTrue, bytes_eq, nat_eq, option_map, if◌then◌else◌, Ok, Err}
 use Rattle.smk_base.proofs.Places.{place_itself}
-use Rattle.smk_base.specs.Path.{is_at_or_under}
-use Rattle.smk_base.specs.declared.tree.Tree.{Tree}
 use Rattle.smk_world.specs.declared.event.Call.{Call}
 use Rattle.smk_world.specs.declared.event.Call.TheVariants.{Looked, ReadFile, ReadFolder, Written, Created, Removed, MadeParents, Settled, Protected, Started, Waited}
 use Rattle.smk_world.specs.declared.event.Change.{Change as LeftNode}

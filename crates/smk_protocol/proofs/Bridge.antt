@@ -1,5 +1,5 @@
 -- The view of an image that comes from nodes.
-use Rattle.std.proofs.Common.{◌≡◌, ℕ, Bool, true, false, List, [], ◌∷◌, map, filter, length, drop, ◌+◌, cond, refl, sym, ap, ◌∙◌, Option, Some, None}
+use Rattle.std.proofs.Common.{◌≡◌, ℕ, Bool, true, false, List, [], ◌∷◌, map, filter, length, drop, ◌+◌, cond, refl, ap, ◌∙◌, Option, Some, None}
 use Rattle.std.specs.Prelude.{if◌then◌else◌, ◌&&◌, is_some, option_map}
 use Rattle.smk_base.specs.Path.{is_under}
 use Rattle.smk_base.specs.Place.{record_place, mark_place, note_place}
@@ -9,10 +9,9 @@ use Rattle.smk_world.specs.declared.event.Node.TheVariants.{Regular, Directory}
 use Rattle.smk_world.specs.Trees.{Path, is_path_text}
 use Rattle.smk_record.specs.declared.record.Record.{Record}
 use Rattle.smk_record.specs.Records.{members_of, core}
-use Rattle.smk_store.specs.declared.store.Kept.{Kept}
 use Rattle.smk_store.specs.declared.store.Kept.TheVariants.{Absent, Unreadable, Held}
-use Rattle.smk_store.specs.Images.{Content, Image, image_by, is_outside, kept_by, for_path, readable, stands, is_directory, bytes_of}
-use Rattle.smk_protocol.proofs.View.{View, view, file_of}
+use Rattle.smk_store.specs.Images.{Content, image_by, is_outside, kept_by, for_path, readable, stands, is_directory, bytes_of}
+use Rattle.smk_protocol.proofs.View.{view, file_of}
 use Rattle.smk_protocol.proofs.Views.{Nodes, view_of, path_node, place_node, names_in}
 
 filter_twice : (t u : Path → Bool) (xs : List Path) → filter u (filter t xs) ≡ filter (λ q. u q && t q) xs

@@ -2,7 +2,7 @@
 use Rattle.smk_protocol.proofs.Owners.{owner_of}
 use Rattle.smk_protocol.proofs.Formed.{all_named}
 use Rattle.std.proofs.Common.{◌≡◌, ◌⊎◌, ℕ, Bool, true, false, List, [], ◌∷◌, ◌++◌, map, refl, sym, ap, subst, inl, inr, arith, ◌∙◌, Option, Some, None}
-use Rattle.std.specs.Prelude.{bytes_eq, nat_eq, IsTrue, is_some, if◌then◌else◌, ◌&&◌, ◌||◌, filter, flat_map, Ok, Err, Result}
+use Rattle.std.specs.Prelude.{bytes_eq, nat_eq, IsTrue, is_some, if◌then◌else◌, ◌&&◌, ◌||◌, flat_map, Ok, Err, Result}
 use Rattle.smk_world.specs.declared.event.Call.{Call}
 use Rattle.smk_world.specs.declared.event.Call.TheVariants.{Looked, ReadFile, ReadFolder, Written, Created, Removed, MadeParents, Settled, Protected, Started, Waited}
 use Rattle.smk_world.specs.declared.event.Change.{Change as LeftNode}
@@ -26,7 +26,7 @@ use Rattle.smk_store.specs.Soundness.{Outside}
 use Rattle.smk_protocol.specs.Protocol.{OpenJob, Marking, Running, Recorded, Dropped, RunState, own, outputs, mark_places, record_places, eased_by}
 use Rattle.smk_protocol.proofs.Between.{Midway, Fits, InPhase, Lets, IsOfJob, has_firm_marks, is_marking}
 use Rattle.smk_protocol.proofs.After.{removed, started, waited}
-use Rattle.smk_protocol.proofs.Basics.{each_in, in_here, in_split, in_filter, by_test, pick_none}
+use Rattle.smk_protocol.proofs.Basics.{each_in, in_here, in_split, by_test, pick_none}
 use Rattle.smk_protocol.proofs.Change.{Change}
 use Rattle.smk_protocol.proofs.FolderChange.{MakesFolders, folder_change, own_folders_change}
 use Rattle.smk_protocol.proofs.Guarded.{IsGuarded, guarded, in_either}

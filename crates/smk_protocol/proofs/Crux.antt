@@ -14,7 +14,7 @@ use Rattle.smk_world.specs.declared.recipe.Kind.TheVariants.{Plain, Folder as Fo
 use Rattle.smk_record.specs.declared.record.Stamp.TheVariants.{Time, Made}
 use Rattle.smk_world.specs.Trees.{Path, among, value_at, all_of, part_at, IsIn, Each, is_path_text}
 use Rattle.smk_store.specs.Images.{is_outside, Content, is_directory}
-use Rattle.smk_protocol.specs.Protocol.{kept_at, OpenJob, record_of, begun_with}
+use Rattle.smk_protocol.specs.Protocol.{OpenJob, record_of, begun_with}
 use Rattle.smk_world.specs.World.{in_paths, World, MayLeave, IsFormed, IsRising}
 use Rattle.smk_store.specs.Trust.{Versions, Eased, none_eased}
 use Rattle.smk_protocol.proofs.View.{kind_in, View, Sound, source_at, is_source, Chain, Speaks, Holds, is_whole, input_value, vir, holder, file_of}

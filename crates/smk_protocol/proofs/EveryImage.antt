@@ -1,15 +1,14 @@
 -- What holds of every image of a list of nodes holds of every image of a function, and the other way round.
 use Rattle.std.proofs.Common.{◌≡◌, ℕ, Bool, true, false, List, [], refl, sym, ap, subst, ◌∙◌, Option, Some, None}
-use Rattle.std.specs.Prelude.{IsTrue, IsSome, bytes_eq}
+use Rattle.std.specs.Prelude.{IsSome}
 use Rattle.smk_world.specs.declared.event.Node.{Node}
-use Rattle.smk_world.specs.World.{World, IsFormed, IsRising, MayLeave, Nodes as NodeList, Leaves as ListLeaves, node_in, places_in, firmly, world_of, reads as read_list}
-use Rattle.smk_world.specs.Trees.{Path, among}
+use Rattle.smk_world.specs.World.{World, IsFormed, IsRising, MayLeave, Nodes as NodeList, node_in, places_in, firmly, world_of, reads as read_list}
+use Rattle.smk_world.specs.Trees.{Path}
 use Rattle.smk_world.proofs.Names.{formed_image, reads_there, reads_rising}
 use Rattle.smk_record.specs.declared.record.Record.{Record}
-use Rattle.smk_store.specs.Images.{Image, image_of}
 use Rattle.smk_store.specs.Soundness.{EachImage as EachList}
 use Rattle.smk_protocol.proofs.View.{View, view}
-use Rattle.smk_protocol.proofs.Views.{Nodes, EachImage, HasNames, reads, Leaves, view_of}
+use Rattle.smk_protocol.proofs.Views.{Nodes, EachImage, HasNames, view_of}
 use Rattle.smk_protocol.proofs.Basics.{clash}
 use Rattle.smk_protocol.proofs.Bridge.{view_is}
 use Rattle.smk_protocol.proofs.Formed.{all_named}

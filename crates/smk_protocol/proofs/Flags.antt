@@ -10,7 +10,6 @@ use Rattle.smk_world.specs.declared.event.NodeState.TheVariants.{Owned, Known}
 use Rattle.smk_base.specs.declared.tree.Tree.TheVariants.{File}
 use Rattle.smk_store.specs.Images.{Content, is_directory, bytes_of}
 use Rattle.smk_protocol.proofs.View.{file_of}
-use Rattle.smk_protocol.specs.Protocol.{kept_at}
 use Rattle.smk_world.specs.World.{MayLeave, IsBeside, IsOneOf, reading, going, with_flag, protected, or_was, or_gone, or_also, or_protected}
 use Rattle.smk_protocol.proofs.Basics.{clash}
 use Rattle.smk_protocol.proofs.Shrunk.{going_some}

@@ -1,6 +1,6 @@
 -- A run that forgets paths keeps what a call has to keep.
 use Rattle.std.proofs.Common.{◌≡◌, ◌⊎◌, ℕ, Bool, true, false, List, [], ◌∷◌, ◌++◌, refl, sym, ap, subst, inl, inr, ◌∙◌, Option, Some, None, append_assoc, eqb-true, arith}
-use Rattle.std.specs.Prelude.{IsTrue, bytes_eq, ◌||◌, ◌&&◌, ◌==◌, filter, if◌then◌else◌, Ok, Err, Result}
+use Rattle.std.specs.Prelude.{IsTrue, bytes_eq, ◌||◌, ◌&&◌, ◌==◌, if◌then◌else◌, Ok, Err, Result}
 use Rattle.std.specs.List.{list_any}
 use Rattle.std.specs.Option.{option_map}
 use Rattle.std.proofs.lemmas.List.{append-nil}
@@ -17,12 +17,11 @@ use Rattle.smk_world.specs.World.{World, after, run, reading, standing, is_withi
 use Rattle.smk_world.specs.Calls.{Lets as WorldLets}
 use Rattle.smk_world.specs.Runs.{Follows as WorldFollows}
 use Rattle.smk_world.specs.Trees.{Path, IsIn, among}
-use Rattle.smk_world.proofs.Runs.{follows_append}
 use Rattle.smk_record.specs.declared.record.Stamp.TheVariants.{Time}
 use Rattle.smk_record.specs.declared.record.Record.{Record}
 use Rattle.smk_record.specs.Records.{core, stamped}
-use Rattle.smk_store.specs.Images.{Image, Content, image_of, seen, file_at, content_of, is_source as image_is_source, source_at as image_source_at}
-use Rattle.smk_store.specs.Safety.{or_put, with_sources, forgets, forgotten_so_far, SourcesOf, KeepsSound}
+use Rattle.smk_store.specs.Images.{Image, Content, image_of, seen, file_at, source_at as image_source_at}
+use Rattle.smk_store.specs.Safety.{or_put, with_sources, forgets, forgotten_so_far, SourcesOf}
 use Rattle.smk_store.specs.Soundness.{Outside, told, Sound as ImageSound, SoundWorld as ImageSoundWorld}
 use Rattle.smk_store.specs.Trust.{Versions, none_eased}
 use Rattle.smk_protocol.specs.Protocol.{IsLook, IsLock, as_ok, now as image_now}
@@ -36,7 +35,7 @@ use Rattle.smk_protocol.proofs.Answers.{remains}
 use Rattle.smk_protocol.proofs.Basics.{by_test, clash, in_among, in_filter, filter_in, some_of, any_by, in_here}
 use Rattle.smk_protocol.proofs.Calls.{event}
 use Rattle.smk_protocol.proofs.EveryImage.{to_lists}
-use Rattle.smk_protocol.proofs.Forgotten.{SourcesFrom, Safe, Rest, Open, Held, Bare, Gone, Near, rest_alike, open_alike, held_alike, bare_alike, open_removed, near_removed, gone_removed, open_rest, held_first, gone_settled, unmarked_settled, rest_again}
+use Rattle.smk_protocol.proofs.Forgotten.{Safe, Rest, Open, Held, Bare, Gone, rest_alike, open_alike, held_alike, bare_alike, open_removed, near_removed, gone_removed, open_rest, held_first, gone_settled, unmarked_settled, rest_again}
 use Rattle.smk_protocol.proofs.Lessened.{put, Less}
 use Rattle.smk_protocol.proofs.Naming.{IsImage, each_image, now_image}
 use Rattle.smk_protocol.proofs.Quiet.{quiet_call}
@@ -163,8 +162,8 @@ module _ (o : Outside) (entry : World) (H : Versions) (paths : List Path) where
 
   open_of : (s : Stage) (W : Path → Type 0) (w : World) → Holds s W w → Open o entry H W w
   open_of Resting W w h = open_rest o entry H W w h
-  open_of (Unrecording p) W w h = h.0.open_
-  open_of (Unmarking p) W w h = h.0.held.open_
+  open_of (Unrecording p) W w h = h.0.throughout
+  open_of (Unmarking p) W w h = h.0.held.throughout
   open_of Stopped W w h = h
 
   module _ (W V : Path → Type 0) (more : (q : Path) → W q → V q) (w : World) (left : List LeftNode) where
@@ -194,17 +193,17 @@ module _ (o : Outside) (entry : World) (H : Versions) (paths : List Path) where
     module _ (m : Path) (r : Result (Unit {0}) Failed) (lets : WorldLets o.act w (Removed m r) left) where
       at_record : (p : Path) → m ≡ record_place p → ((q : Path) → is_at_or_under q p ≡ true → V q) → Held o entry H W p w → Open o entry H V (then_ (Removed m r))
       at_record p is here held =
-          open_removed o entry H W V more p m w r left here held (left_of o w m r left held.open_.free lets)
+          open_removed o entry H W V more p m w r left here held (left_of o w m r left held.throughout.free lets)
           (subst (λ x. (names : List Path) (g : Nodes) → IsImage w names (filled o w x g) → Less p (view_of o.read names (filled o w x g)) (view_of o.read names g)) (sym is) (record_lessens p)) (quiet_call w (Removed m r) left tt)
 
       at_note : (p : Path) → m ≡ note_place p → ((q : Path) → is_at_or_under q p ≡ true → V q) → Held o entry H W p w → Open o entry H V (then_ (Removed m r))
       at_note p is here held =
-          open_removed o entry H W V more p m w r left here held (left_of o w m r left held.open_.free lets)
+          open_removed o entry H W V more p m w r left here held (left_of o w m r left held.throughout.free lets)
           (subst (λ x. (names : List Path) (g : Nodes) → IsImage w names (filled o w x g) → Less p (view_of o.read names (filled o w x g)) (view_of o.read names g)) (sym is) (note_lessens p)) (quiet_call w (Removed m r) left tt)
 
       at_mark : (p : Path) → m ≡ mark_place p → ((q : Path) → is_at_or_under q p ≡ true → V q) → Bare o entry H W p w → Open o entry H V (then_ (Removed m r))
       at_mark p is here bare =
-          open_removed o entry H W V more p m w r left here bare.held (left_of o w m r left bare.held.open_.free lets)
+          open_removed o entry H W V more p m w r left here bare.held (left_of o w m r left bare.held.throughout.free lets)
           (subst (λ x. (names : List Path) (g : Nodes) → IsImage w names (filled o w x g) → Less p (view_of o.read names (filled o w x g)) (view_of o.read names g)) (sym is) (mark_lessens p bare.gone)) (quiet_call w (Removed m r) left tt)
 
     -- ---- whatever is answered, the images stay safe
@@ -279,8 +278,8 @@ module _ (o : Outside) (entry : World) (H : Versions) (paths : List Path) where
     unrecord_step : (p m : Path) → ((names : List Path) (g : Nodes) → IsImage w names (filled o w m g) → Less p (view_of o.read names (filled o w m g)) (view_of o.read names g)) → ((q : Path) → is_at_or_under q p ≡ true → V q) → Held o entry H W p w → Held o entry H V p (after w (event (Removed m (Ok tt)) []))
     unrecord_step p m less here held =
         record {
-          open_ = open_removed o entry H W V more p m w (Ok tt) [] here held (λ q u. inl refl) less (quiet_call w (Removed m (Ok tt)) [] tt);
-          near = near_removed o entry H W V more p m w (Ok tt) [] here held (λ q u. inl refl) less (now_less w p m less (now_image w held.open_.formed));
+          throughout = open_removed o entry H W V more p m w (Ok tt) [] here held (λ q u. inl refl) less (quiet_call w (Removed m (Ok tt)) [] tt);
+          near = near_removed o entry H W V more p m w (Ok tt) [] here held (λ q u. inl refl) less (now_less w p m less (now_image w held.throughout.formed));
         }
 
     unmark_step : (p : Path) → ((q : Path) → is_at_or_under q p ≡ true → V q) → Bare o entry H W p w → Bare o entry H V p (after w (event (Removed (mark_place p) (Ok tt)) []))
@@ -302,10 +301,12 @@ module _ (o : Outside) (entry : World) (H : Versions) (paths : List Path) where
     step s s' e here lets h (Hold _ p ps i text unseen is firm) =
         at_call (Unrecording p) e (Settled ps (Ok tt)) is
         (let w' = after w (event (Settled ps (Ok tt)) e.left) in
-        let a = settled_alike o w h.world.formed ps (Ok tt) e.left in
-        (held_first o entry H V p w'
-        (subst (λ (n : View). (q x : Path) (r : Record) (f : Content) → n.record_at q ≡ Some r → is_at_or_under x p ≡ true → n.file x ≡ Some f → IsIn (stamped r) (x, Time f.time) → ⊥) (sym a.now_same) (unseen_view w p unseen))
-        (subst (λ x. IsFirmAround (after w (event x e.left)) p) is firm) (rest_alike o entry H W V more w w' a h), i))
+        let a = settled_alike o w h.world.formed ps (Ok tt) e.left in (
+          held_first o entry H V p w'
+              (subst (λ (n : View). (q x : Path) (r : Record) (f : Content) → n.record_at q ≡ Some r → is_at_or_under x p ≡ true → n.file x ≡ Some f → IsIn (stamped r) (x, Time f.time) → ⊥) (sym a.now_same) (unseen_view w p unseen))
+              (subst (λ x. IsFirmAround (after w (event x e.left)) p) is firm) (rest_alike o entry H W V more w w' a h),
+          i,
+        ))
     step s s' e here lets h (Unrecord _ p is) =
         removed_step (Unrecording p) e.call e.left (record_place p) is lets
         (λ here. (unrecord_step p (record_place p) (record_lessens W V more w e.left p) (here p h.1 (ap (forgets p) is ∙ forgets_record p (record_place p) refl)) h.0, h.1)) here
@@ -313,17 +314,19 @@ module _ (o : Outside) (entry : World) (H : Versions) (paths : List Path) where
         removed_step (Unrecording p) e.call e.left (note_place p) is lets
         (λ here. (unrecord_step p (note_place p) (note_lessens W V more w e.left p) (here p h.1 (ap (forgets p) is ∙ forgets_note p (note_place p) refl)) h.0, h.1)) here
     step s s' e here lets h (Unrecorded _ p ps is a b all) =
-        at_call (Unmarking p) e (Settled ps (Ok tt)) is
-        (record {
-          held = held_alike o entry H W V more p w (after w (event (Settled ps (Ok tt)) e.left)) (settled_alike o w h.0.open_.formed ps (Ok tt) e.left) h.0;
-          gone = gone_settled o entry H W p w ps e.left h.0.open_ a b all;
-        }, h.1)
+        at_call (Unmarking p) e (Settled ps (Ok tt)) is (
+          record {
+            held = held_alike o entry H W V more p w (after w (event (Settled ps (Ok tt)) e.left)) (settled_alike o w h.0.throughout.formed ps (Ok tt) e.left) h.0;
+            gone = gone_settled o entry H W p w ps e.left h.0.throughout a b all;
+          },
+          h.1,
+        )
     step s s' e here lets h (Unmark _ p is) =
         removed_step (Unmarking p) e.call e.left (mark_place p) is lets (λ here. (unmark_step p (here p h.1 (ap (forgets p) is ∙ forgets_mark p (mark_place p) refl)) h.0, h.1)) here
     step s s' e here lets h (Unmarked _ p ps is a all) =
         at_call Resting e (Settled ps (Ok tt)) is
-        (rest_again o entry H V p (after w (event (Settled ps (Ok tt)) e.left)) (bare_alike o entry H W V more p w (after w (event (Settled ps (Ok tt)) e.left)) (settled_alike o w h.0.held.open_.formed ps (Ok tt) e.left) h.0)
-        (unmarked_settled o entry H W p w ps e.left h.0.held.open_ a all))
+        (rest_again o entry H V p (after w (event (Settled ps (Ok tt)) e.left)) (bare_alike o entry H W V more p w (after w (event (Settled ps (Ok tt)) e.left)) (settled_alike o w h.0.held.throughout.formed ps (Ok tt) e.left) h.0)
+        (unmarked_settled o entry H W p w ps e.left h.0.held.throughout a all))
     step s s' e here lets h (Fail _ s2 _ f inner) = call_open W V more w e.left s e.call here lets h (may_call o paths w s Stopped e (Fail s s2 e f inner))
 
   -- ---- all of them

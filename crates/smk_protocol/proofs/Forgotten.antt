@@ -1,11 +1,10 @@
 -- What holds while a path is being forgotten, of the images and of the world.
-use Rattle.std.proofs.Common.{◌≡◌, ◌⊎◌, ℕ, Bool, true, false, List, [], ◌∷◌, refl, sym, ap, subst, inl, inr, ◌∙◌, Option, Some, None}
-use Rattle.std.specs.Prelude.{IsTrue, bytes_eq, is_some, ◌||◌, ◌&&◌, not, if◌then◌else◌, Ok, Result}
-use Rattle.std.specs.List.{list_any}
+use Rattle.std.proofs.Common.{◌≡◌, ◌⊎◌, Bool, true, false, List, [], ◌∷◌, refl, sym, ap, subst, inl, inr, ◌∙◌, Option, Some, None}
+use Rattle.std.specs.Prelude.{bytes_eq, is_some, ◌||◌, ◌&&◌, not, if◌then◌else◌, Ok, Result}
 use Rattle.std.specs.Option.{option_map}
-use Rattle.smk_base.specs.Path.{is_under, is_at_or_under, overlaps}
+use Rattle.smk_base.specs.Path.{is_at_or_under, overlaps}
 use Rattle.smk_base.specs.Place.{record_place, mark_place, note_place}
-use Rattle.smk_base.proofs.Places.{same_place, place_itself}
+use Rattle.smk_base.proofs.Places.{same_place}
 use Rattle.smk_base.proofs.Under.{at_when_under, at_itself, overlaps_at, overlaps_above_both}
 use Rattle.smk_world.specs.declared.event.Call.TheVariants.{Removed, Settled}
 use Rattle.smk_world.specs.declared.event.Change.{Change as LeftNode}
@@ -13,7 +12,7 @@ use Rattle.smk_world.specs.declared.event.Failed.{Failed}
 use Rattle.smk_world.specs.declared.event.Node.{Node}
 use Rattle.smk_world.specs.declared.event.NodeState.TheVariants.{Owned}
 use Rattle.smk_world.specs.World.{World, IsFormed, IsRising, MayLeave, after, firmly, folders_above, reading, standing}
-use Rattle.smk_world.specs.Trees.{Path, IsIn, among, is_path_text}
+use Rattle.smk_world.specs.Trees.{Path, IsIn, is_path_text}
 use Rattle.smk_record.specs.declared.record.Stamp.TheVariants.{Time}
 use Rattle.smk_record.specs.declared.record.Record.{Record}
 use Rattle.smk_record.specs.Records.{core, stamped}
@@ -24,10 +23,10 @@ use Rattle.smk_store.specs.Trust.{Versions, none_eased}
 use Rattle.smk_protocol.specs.Protocol.{IsAbsent, AreAmong}
 use Rattle.smk_protocol.specs.Forgetting.{IsFirm, IsFirmAround}
 use Rattle.smk_protocol.proofs.View.{View, file_of, Sound, is_known, is_covered, is_source, source_at}
-use Rattle.smk_protocol.proofs.Views.{Nodes, EachImage, HasNames, Leaves, reads, view_of, place_node, read_at}
+use Rattle.smk_protocol.proofs.Views.{Nodes, EachImage, HasNames, Leaves, reads, view_of, read_at}
 use Rattle.smk_protocol.proofs.Rows.{now}
 use Rattle.smk_protocol.proofs.Between.{SoundWorld, HasSources, HasNoNew, HasKnown, HasNoNested}
-use Rattle.smk_protocol.proofs.Alike.{Alike, alike_each, settled_alike}
+use Rattle.smk_protocol.proofs.Alike.{Alike, alike_each}
 use Rattle.smk_protocol.proofs.Along.{IsQuiet}
 use Rattle.smk_protocol.proofs.Basics.{by_test, clash, none_some}
 use Rattle.smk_protocol.proofs.Calls.{event}
@@ -35,8 +34,8 @@ use Rattle.smk_protocol.proofs.Events.{same_source}
 use Rattle.smk_protocol.proofs.Formed.{formed_after}
 use Rattle.smk_protocol.proofs.Keeping.{texts_of}
 use Rattle.smk_protocol.proofs.Lessened.{put, Less, SameRecord, Unseen, any_same, record_before, unmarked_before, same_record, same_mark, known_same, same_sources, sources_less, source_kept, less_sound, less_nested}
-use Rattle.smk_protocol.proofs.Naming.{IsImage, IsWide, each_image, of_wide, now_image}
-use Rattle.smk_protocol.proofs.Removing.{filled, filled_image, now_filled, place_other, record_less, note_less, mark_less}
+use Rattle.smk_protocol.proofs.Naming.{IsImage, each_image, of_wide, now_image}
+use Rattle.smk_protocol.proofs.Removing.{filled, filled_image}
 use Rattle.smk_protocol.proofs.Settled.{within, only_reads}
 use Rattle.smk_protocol.proofs.TextFacts.{text_laws}
 use Rattle.smk_protocol.proofs.TextFolders.{folders_are, among_by}
@@ -118,7 +117,7 @@ module _ (o : Outside) (entry : World) (H : Versions) where
 
   -- while a path's record and note go
   pub record Held (W : Path → Type 0) (p : Path) (w : World) : Type 0 where
-    pub open_ : Open W w
+    pub throughout : Open W w
     pub near : EachImage o.read w (Near p (now o w))
 
   -- while its mark goes
@@ -188,12 +187,12 @@ module _ (o : Outside) (entry : World) (H : Versions) where
     pub held_alike : (p : Path) (w w' : World) → Alike o w w' → Held W p w → Held V p w'
     held_alike p w w' alike h =
         record {
-          open_ = open_alike w w' alike h.open_;
-          near = subst (λ n. EachImage o.read w' (Near p n)) (sym alike.now_same) (alike_each o w w' h.open_.formed alike (Near p (now o w)) h.near);
+          throughout = open_alike w w' alike h.throughout;
+          near = subst (λ n. EachImage o.read w' (Near p n)) (sym alike.now_same) (alike_each o w w' h.throughout.formed alike (Near p (now o w)) h.near);
         }
 
     pub bare_alike : (p : Path) (w w' : World) → Alike o w w' → Bare W p w → Bare V p w'
-    bare_alike p w w' alike h = record { held = held_alike p w w' alike h.held; gone = alike_each o w w' h.held.open_.formed alike (Gone p) h.gone }
+    bare_alike p w w' alike h = record { held = held_alike p w w' alike h.held; gone = alike_each o w w' h.held.throughout.formed alike (Gone p) h.gone }
 
     -- ---- where something is removed
 
@@ -207,26 +206,26 @@ module _ (o : Outside) (entry : World) (H : Versions) where
       pub open_removed : IsQuiet w removed → Open V removed
       open_removed quiet =
           record {
-            formed = formed_after w (event (Removed m r) left) held.open_.formed;
-            alone = quiet.children ∙ held.open_.alone;
-            free = λ q k. held.open_.free q (quiet.owned q k);
-            safe = of_wide o.read (naming_laws o.read) w held.open_.formed removed (Safe V) (λ names g i.
+            formed = formed_after w (event (Removed m r) left) held.throughout.formed;
+            alone = quiet.children ∙ held.throughout.alone;
+            free = λ q k. held.throughout.free q (quiet.owned q k);
+            safe = of_wide o.read (naming_laws o.read) w held.throughout.formed removed (Safe V) (λ names g i.
                 let image = filled_image o w m r left left_is names g i in
                 safe_less p (view_of o.read names (filled o w m g)) (view_of o.read names g) (less names g image)
                 (each_image o.read w (Near p (now o w)) held.near names (filled o w m g) image).unseen here
-                (each_image o.read w (Safe W) held.open_.safe names (filled o w m g) image));
+                (each_image o.read w (Safe W) held.throughout.safe names (filled o w m g) image));
           }
 
       pub near_removed : Less p (now o w) (now o removed) → EachImage o.read removed (Near p (now o removed))
       near_removed now_less =
-          of_wide o.read (naming_laws o.read) w held.open_.formed removed (Near p (now o removed)) (λ names g i.
+          of_wide o.read (naming_laws o.read) w held.throughout.formed removed (Near p (now o removed)) (λ names g i.
           let image = filled_image o w m r left left_is names g i in
           near_less p (now o w) (now o removed) (view_of o.read names (filled o w m g)) (view_of o.read names g) now_less (less names g image)
           (each_image o.read w (Near p (now o w)) held.near names (filled o w m g) image))
 
       pub gone_removed : EachImage o.read w (Gone p) → EachImage o.read removed (Gone p)
       gone_removed gone =
-          of_wide o.read (naming_laws o.read) w held.open_.formed removed (Gone p) (λ names g i.
+          of_wide o.read (naming_laws o.read) w held.throughout.formed removed (Gone p) (λ names g i.
           let image = filled_image o w m r left left_is names g i in
           gone_less p (view_of o.read names (filled o w m g)) (view_of o.read names g) (less names g image)
           (each_image o.read w (Gone p) gone names (filled o w m g) image))
@@ -260,7 +259,7 @@ module _ (o : Outside) (entry : World) (H : Versions) where
       IsFirmAround w p → Rest W w → Held W p w
   held_first W p w unseen firm rest =
       record {
-        open_ = open_rest W w rest;
+        throughout = open_rest W w rest;
         near = λ names f rising complete covered leaves.
             let none_new = rest.world.no_new_record names f rising complete covered leaves in
             let v = view_of o.read names f in
@@ -318,31 +317,31 @@ module _ (o : Outside) (entry : World) (H : Versions) where
           now_sound = safe_now.sound;
           after_crash = λ names f rising complete covered leaves.
               let same = sources_at names f (image names f rising complete covered leaves) in
-              subst (λ V. Sound o.act V (view_of o.read names f) none_eased) (λ k q t. or_put (H q t) t (same q k)) (bare.held.open_.safe names f rising complete covered leaves).sound;
+              subst (λ V. Sound o.act V (view_of o.read names f) none_eased) (λ k q t. or_put (H q t) t (same q k)) (bare.held.throughout.safe names f rising complete covered leaves).sound;
           same_sources = λ names f rising complete covered leaves. sources_at names f (image names f rising complete covered leaves);
           no_new_record = λ names f rising complete covered leaves q r at free.
               by_test (bytes_eq q p)
               (λ e. none_some ((view_of o.read names f).record_at p) (bare.gone names f rising complete covered leaves).at (subst (λ y. (view_of o.read names f).record_at y ≡ Some r) (same_place q p e) at))
               (λ other. (bare.held.near names f rising complete covered leaves).new q r other at free);
-          no_nested = λ names f rising complete covered leaves. (bare.held.open_.safe names f rising complete covered leaves).nested;
+          no_nested = λ names f rising complete covered leaves. (bare.held.throughout.safe names f rising complete covered leaves).nested;
           known = λ names f rising complete covered leaves q h.
               by_test (bytes_eq q p)
               (λ e. clash ((view_of o.read names f).has_record p) (subst (λ y. (view_of o.read names f).has_record y ≡ true) (same_place q p e) h) (bare.gone names f rising complete covered leaves).has)
               (λ other. (bare.held.near names f rising complete covered leaves).known q other h);
-          no_child = bare.held.open_.alone;
-          no_owned = bare.held.open_.free;
+          no_child = bare.held.throughout.alone;
+          no_owned = bare.held.throughout.free;
         };
         sources = safe_now.sources;
       }
     where
       formed : IsFormed w
-      formed = bare.held.open_.formed
+      formed = bare.held.throughout.formed
 
       image : (names : List Path) (f : Nodes) → IsRising names → HasNames names f → HasNames names (reads w) → Leaves w f → IsImage w names f
       image names f rising complete covered leaves = record { rising = rising; complete = complete; covered = covered; leaves = leaves }
 
       safe_now : Safe W (now o w)
-      safe_now = each_image o.read w (Safe W) bare.held.open_.safe w.names (reads w) (now_image w formed)
+      safe_now = each_image o.read w (Safe W) bare.held.throughout.safe w.names (reads w) (now_image w formed)
 
       -- nothing is known of it
       unknown : (names : List Path) (f : Nodes) → IsImage w names f → is_known (view_of o.read names f) p ≡ false

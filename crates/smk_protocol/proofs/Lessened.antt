@@ -1,15 +1,13 @@
 -- A view in which a path's record, mark or note is gone, the mark only where the record is: it is sound with its sources put into the
 -- versions, where no record names a file there by its time.
-use Rattle.std.proofs.Common.{◌≡◌, ◌⊎◌, ℕ, zero, suc, Bool, true, false, List, [], ◌∷◌, map, refl, sym, ap, subst, inl, inr, arith, ◌∙◌, Option, Some, None, eqb-true}
+use Rattle.std.proofs.Common.{◌≡◌, ◌⊎◌, ℕ, zero, suc, Bool, true, false, List, [], ◌∷◌, refl, sym, ap, subst, inl, inr, arith, ◌∙◌, Option, Some, None, eqb-true}
 use Rattle.std.specs.Prelude.{IsTrue, IsSome, bytes_eq, is_some, ◌||◌, ◌&&◌, ◌==◌, not, if◌then◌else◌}
 use Rattle.std.specs.List.{list_any}
 use Rattle.std.specs.Option.{option_map, option_and_then}
 use Rattle.smk_base.specs.Path.{is_under, is_at_or_under, overlaps}
-use Rattle.smk_base.specs.declared.tree.Tree.{Tree}
 use Rattle.smk_base.specs.declared.tree.Tree.TheVariants.{File}
 use Rattle.smk_base.proofs.Places.{same_place, place_itself}
 use Rattle.smk_world.specs.declared.recipe.Kind.{Kind}
-use Rattle.smk_world.specs.declared.recipe.Kind.TheVariants.{Plain, Folder as FolderKind}
 use Rattle.smk_world.specs.World.{folders_above}
 use Rattle.smk_world.specs.Trees.{Path, Act, IsIn, among, is_path_text, all_of, value_at, part_at}
 use Rattle.smk_record.specs.declared.record.Stamp.{Stamp}
@@ -20,7 +18,7 @@ use Rattle.smk_store.specs.Images.{Content}
 use Rattle.smk_store.specs.Safety.{or_put}
 use Rattle.smk_store.specs.Soundness.{Outside}
 use Rattle.smk_store.specs.Trust.{Versions, none_eased, vouched}
-use Rattle.smk_protocol.proofs.View.{kind_in, View, Clear, Speaks, Chain, Link, Holds, Sound, holder, is_known, is_covered, is_source, source_at, is_whole, input_value, vir}
+use Rattle.smk_protocol.proofs.View.{kind_in, View, Clear, Speaks, Chain, Link, Sound, holder, is_known, is_covered, is_source, source_at, is_whole, input_value, vir}
 use Rattle.smk_protocol.proofs.Between.{HasNoNested}
 use Rattle.smk_protocol.proofs.Basics.{by_test, clash, none_some, some_of, any_by}
 use Rattle.smk_protocol.proofs.Chains.{Passes, map_same, chain_on, vir_on, value_of_product}
@@ -293,10 +291,12 @@ module _ (p : Path) (v0 v1 : View) (less : Less p v0 v1) where
             has_recorded = λ q r x t at unmarked i.
                 subst (λ (y : Option (List ℕ)). IsSome y) (sym (agree r (q, at, unmarked) x t i)) (sound.has_recorded q r x t (record_before q r at) (unmarked_before q r at unmarked) i);
             holds = λ q r at unmarked chain whole.
-                let h = sound.holds q r (record_before q r at) (unmarked_before q r at unmarked) (chain_on v1 v0 none_eased none_eased passes r chain) (whole_before q (kind_in r q) r at whole) in
-                (h.0, less.tree q ∙ h.1,
-                vir_put v1 act (put H v1) (put H v0) agree (suc r.made) q r at (q, at, unmarked) chain
-                ∙ vir_on act (put H v0) v1 v0 none_eased none_eased passes (suc r.made) q r at (record_before q r at) chain ∙ h.2);
+                let h = sound.holds q r (record_before q r at) (unmarked_before q r at unmarked) (chain_on v1 v0 none_eased none_eased passes r chain) (whole_before q (kind_in r q) r at whole) in (
+                  h.0,
+                  less.tree q ∙ h.1,
+                  vir_put v1 act (put H v1) (put H v0) agree (suc r.made) q r at (q, at, unmarked) chain
+                      ∙ vir_on act (put H v0) v1 v0 none_eased none_eased passes (suc r.made) q r at (record_before q r at) chain ∙ h.2,
+                );
           }
         where
           itself : (n : ℕ) → (n == n) ≡ true

@@ -41,6 +41,8 @@ pub mod NodeChange
 pub mod Nodes
 pub mod NoteChange
 pub mod Numbers
+pub mod OneJob
+pub mod OnePath
 pub mod Opening
 pub mod Own
 pub mod OwnHolds

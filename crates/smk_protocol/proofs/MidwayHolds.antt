@@ -1,32 +1,29 @@
 -- What holds between two events, of images: by what holds over views.
-use Rattle.std.proofs.Common.{◌≡◌, ◌⊎◌, ℕ, Bool, true, false, List, [], ◌∷◌, map, refl, sym, ap, subst, inl, inr, ◌∙◌, Option, Some, None, Contains}
-use Rattle.std.specs.Prelude.{IsTrue, ◌==◌, is_some}
-use Rattle.smk_base.specs.Path.{is_at_or_under}
+use Rattle.std.proofs.Common.{◌≡◌, ◌⊎◌, false, List, [], ◌∷◌, refl, sym, ap, subst, inl, inr, ◌∙◌, Option, Some, None, Contains}
+use Rattle.std.specs.Prelude.{IsTrue, is_some}
 use Rattle.smk_world.specs.declared.event.Child.{Child}
-use Rattle.smk_world.specs.declared.event.Event.{Event}
 use Rattle.smk_world.specs.declared.event.Node.{Node}
 use Rattle.smk_world.specs.declared.event.Node.TheVariants.{Regular, Directory}
-use Rattle.smk_world.specs.World.{World, run, in_paths, numbers}
+use Rattle.smk_world.specs.World.{World, run}
 use Rattle.smk_world.specs.Calls.{started_numbers}
 use Rattle.smk_world.specs.Trees.{Path, Each, kind_in}
 use Rattle.smk_world.proofs.Owners.{AreNumbered, numbered_run}
 use Rattle.smk_record.specs.declared.record.Stamp.{Stamp}
 use Rattle.smk_record.specs.declared.record.Stamp.TheVariants.{Time, Made}
 use Rattle.smk_store.specs.Images.{Image, Content, content_of, image_of, is_file, seen, source_at as image_source_at}
-use Rattle.smk_store.specs.Soundness.{Outside, SoundWorld as ImageSoundWorld}
-use Rattle.smk_store.specs.Trust.{Versions, Eased}
-use Rattle.smk_protocol.specs.Protocol.{OpenJob, Phase, Marking, Marked, Running, Ended, Firm, Recorded, Dropping, Dropped, RunState, outputs, own, begun_with, eased, IsAtHand as ImageAtHand, IsSourceAt, IsProductAt, IsApart as ImageApart}
-use Rattle.smk_protocol.specs.Midway.{HoldsMidway, IsTop as ImageTop, Images as ImageImages, Fits as ImageFits, InPhase as ImageInPhase, Midway as ImageMidway, AllStrangers, AreStrangers, AreStarted, HoldsGiven as ImageHoldsGiven, IsKnown as ImageKnown, IsGone as ImageGone, has_firm_marks, is_marking, is_made}
+use Rattle.smk_store.specs.Soundness.{Outside}
+use Rattle.smk_store.specs.Trust.{Versions}
+use Rattle.smk_protocol.specs.Protocol.{OpenJob, Phase, Marking, Marked, Running, Ended, Firm, Recorded, Dropping, Dropped, RunState, outputs, begun_with, eased, IsAtHand as ImageAtHand}
+use Rattle.smk_protocol.specs.Midway.{HoldsMidway, IsTop as ImageTop, Images as ImageImages, Fits as ImageFits, InPhase as ImageInPhase, Midway as ImageMidway, AllStrangers, AreStrangers, IsKnown as ImageKnown, IsGone as ImageGone, has_firm_marks, is_marking, is_made}
 use Rattle.smk_protocol.proofs.View.{View, view, file_of, is_source, Sound}
-use Rattle.smk_protocol.proofs.Views.{EachImage}
 use Rattle.smk_protocol.proofs.Rows.{now, IsAtHand}
 use Rattle.smk_protocol.proofs.Between as views
 use Rattle.smk_protocol.proofs.Between.{Midway, Fits, InPhase, AreApart, Pairwise, HasSources, HasNoNew, HasKnown, HasNoNested, HasNoClash, HasNoRecordClash, IsUnnamed, IsUnused, IsBounded, IsKept, IsActed, HoldsGiven, IsKnown, IsGone, AreGone}
-use Rattle.smk_protocol.proofs.Basics.{each_on, each_of, each_in}
+use Rattle.smk_protocol.proofs.Basics.{each_on, each_of}
 use Rattle.smk_protocol.proofs.EveryImage.{to_lists}
 use Rattle.smk_protocol.proofs.Answers.{has_number}
 use Rattle.smk_protocol.proofs.ProtocolHolds.{reached, numbered_alone}
-use Rattle.smk_protocol.proofs.SoundViews.{sound_from, source_is, source_at_is, flagless, flagless_some, some_file, whole_to, itself}
+use Rattle.smk_protocol.proofs.SoundViews.{sound_from, source_is, source_at_is, flagless_some, some_file, whole_to, itself}
 use Rattle.smk_protocol.proofs.SoundWorlds.{now_is, now_seen, no_new_from, sources_from}
 use Rattle.smk_protocol.proofs.TextFacts.{text_laws}
 

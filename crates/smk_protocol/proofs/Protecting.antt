@@ -16,7 +16,7 @@ use Rattle.smk_base.specs.declared.tree.Tree.TheVariants.{Folder}
 use Rattle.smk_world.specs.Trees.{Path, among, Act, is_path_text}
 use Rattle.smk_store.specs.Images.{is_outside, Content, is_directory}
 use Rattle.smk_base.specs.Path.{is_under, is_at_or_under}
-use Rattle.smk_protocol.specs.Protocol.{kept_at, RunState, eased}
+use Rattle.smk_protocol.specs.Protocol.{RunState, eased}
 use Rattle.smk_store.specs.Trust.{Versions, Eased}
 use Rattle.smk_protocol.proofs.View.{kind_in, View, Sound, is_source, source_at, is_covered, is_whole, file_of}
 use Rattle.smk_record.specs.Records.{members_of, core}

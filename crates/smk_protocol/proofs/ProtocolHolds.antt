@@ -1,12 +1,11 @@
 -- The law of the protocol, of images: by the law over views.
-use Rattle.std.proofs.Common.{◌≡◌, ℕ, Bool, true, false, List, [], ◌∷◌, ◌++◌, refl, sym, ap, subst, inl, ◌∙◌, Contains, Option, Some, None, eqb-true}
+use Rattle.std.proofs.Common.{◌≡◌, ℕ, Bool, false, List, [], ◌∷◌, ◌++◌, refl, sym, ap, subst, inl, ◌∙◌, Contains, Option, Some, None, eqb-true}
 use Rattle.std.specs.Prelude.{nat_eq, ◌==◌, if◌then◌else◌}
 use Rattle.std.specs.List.{IsDistinct}
 use Rattle.smk_world.specs.declared.event.Event.{Event}
 use Rattle.smk_world.specs.World.{World, after, run, numbers}
 use Rattle.smk_world.specs.Runs.{Follows as WorldFollows}
 use Rattle.smk_world.proofs.Owners.{AreNumbered, numbered_after, numbered_image}
-use Rattle.smk_record.specs.declared.record.Record.{Record}
 use Rattle.smk_store.specs.Images.{Image, Content, image_of, seen, source_at}
 use Rattle.smk_store.specs.Safety.{or_put, with_sources}
 use Rattle.smk_store.specs.Trust.{Versions, none_eased}

@@ -1,6 +1,6 @@
 -- Where a tree stands in a world, its view has the tree, and the other way round.
 use Rattle.std.proofs.Common.{◌≡◌, ◌⊎◌, ℕ, Bool, true, false, List, [], ◌∷◌, ◌++◌, map, length, drop, ◌+◌, refl, sym, ap, subst, inl, inr, arith, ◌∙◌, Option, Some, None, Contains}
-use Rattle.std.specs.Prelude.{IsTrue, is_some, option_map, if◌then◌else◌, ◌&&◌, not, All}
+use Rattle.std.specs.Prelude.{IsTrue, is_some, option_map, if◌then◌else◌, ◌&&◌, not}
 use Rattle.std.specs.List.{AllZip, AllByRecursion}
 use Rattle.std.specs.List.Sorted.{IsStrictlySortedBy}
 use Rattle.std.specs.Cmp.Lexicographic.{slice_cmp}

@@ -1,6 +1,6 @@
 -- A path's record, mark or note is removed: each image then is one from before, or knows less of the path.
-use Rattle.std.proofs.Common.{◌≡◌, ◌⊎◌, Bool, true, false, List, [], ◌∷◌, refl, sym, ap, subst, inl, inr, ◌∙◌, Option, Some, None}
-use Rattle.std.specs.Prelude.{IsTrue, IsSome, bytes_eq, is_some, is_none, if◌then◌else◌, Ok, Err, Result}
+use Rattle.std.proofs.Common.{◌≡◌, ◌⊎◌, Bool, true, false, List, [], refl, sym, ap, subst, inl, inr, ◌∙◌, Option, Some, None}
+use Rattle.std.specs.Prelude.{IsTrue, IsSome, bytes_eq, is_some, is_none, if◌then◌else◌, Ok, Result}
 use Rattle.std.specs.Option.{option_map}
 use Rattle.smk_base.specs.Path.{is_at_or_under}
 use Rattle.smk_base.specs.Place.{record_place, mark_place, note_place}
@@ -11,15 +11,13 @@ use Rattle.smk_world.specs.declared.event.Failed.{Failed}
 use Rattle.smk_world.specs.declared.event.Node.{Node}
 use Rattle.smk_world.specs.declared.event.NodeState.{NodeState}
 use Rattle.smk_world.specs.declared.event.NodeState.TheVariants.{Owned, Known}
-use Rattle.smk_world.specs.World.{World, IsFormed, MayLeave, after, reading, standing, going}
+use Rattle.smk_world.specs.World.{World, MayLeave, after, reading, standing, going}
 use Rattle.smk_world.specs.Trees.{Path, among, is_path_text}
-use Rattle.smk_record.specs.declared.record.Record.{Record}
 use Rattle.smk_record.specs.Records.{core, members_of}
 use Rattle.smk_store.specs.Images.{is_outside, is_directory}
 use Rattle.smk_store.specs.Soundness.{Outside}
 use Rattle.smk_protocol.proofs.View.{View, file_of}
-use Rattle.smk_protocol.proofs.Views.{Nodes, HasNames, reads, view_of, view_by, path_node, place_node, read_at}
-use Rattle.smk_protocol.proofs.Rows.{now}
+use Rattle.smk_protocol.proofs.Views.{Nodes, reads, view_of, view_by, path_node, place_node, read_at}
 use Rattle.smk_protocol.proofs.Basics.{by_test}
 use Rattle.smk_protocol.proofs.Calls.{event}
 use Rattle.smk_protocol.proofs.Lessened.{Less, SameRecord}

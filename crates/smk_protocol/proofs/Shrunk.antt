@@ -15,7 +15,6 @@ use Rattle.smk_record.specs.declared.record.Record.{Record}
 use Rattle.smk_world.specs.Trees.{Path, among, IsIn, is_path_text}
 use Rattle.smk_base.specs.Path.{overlaps, is_under, is_at_or_under}
 use Rattle.smk_store.specs.Images.{is_outside, Content, is_directory}
-use Rattle.smk_protocol.specs.Protocol.{kept_at}
 use Rattle.smk_store.specs.Trust.{Versions, Eased}
 use Rattle.smk_protocol.proofs.View.{kind_in, View, Sound, Holds, is_source, source_at, is_known, is_covered, is_whole, file_of}
 use Rattle.smk_record.specs.Records.{same_member, core}

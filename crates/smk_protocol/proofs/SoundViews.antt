@@ -1,15 +1,15 @@
 -- An image is sound where its view is, and the other way round.
-use Rattle.std.proofs.Common.{◌≡◌, ℕ, zero, suc, Bool, true, false, List, refl, sym, ap, subst, ◌∙◌, arith, Option, Some, None}
+use Rattle.std.proofs.Common.{◌≡◌, ℕ, zero, suc, Bool, true, false, refl, sym, ap, subst, ◌∙◌, arith, Option, Some, None}
 use Rattle.std.specs.Prelude.{◌==◌, ◌&&◌, ◌||◌, not, IsTrue, IsSome, is_some, option_map, if◌then◌else◌}
 use Rattle.std.specs.List.{list_any}
 use Rattle.std.specs.Option.{option_and_then}
 use Rattle.smk_base.specs.declared.tree.Tree.{Tree}
-use Rattle.smk_world.specs.Trees.{Path, Act, IsIn, part_at, is_path_text}
+use Rattle.smk_world.specs.Trees.{Path, Act, part_at, is_path_text}
 use Rattle.smk_world.specs.World.{folders_above}
 use Rattle.smk_record.specs.declared.record.Stamp.{Stamp}
 use Rattle.smk_record.specs.declared.record.Stamp.TheVariants.{Time, Made}
 use Rattle.smk_record.specs.declared.record.Record.{Record}
-use Rattle.smk_record.specs.Records.{core, stamped, agrees}
+use Rattle.smk_record.specs.Records.{core, agrees}
 use Rattle.smk_store.specs.Images.{Image, Content, content_of, core_at, record_at, is_folder, file_at, stands, is_source as image_source, source_at as image_source_at, is_whole as image_whole}
 use Rattle.smk_store.specs.Trust.{Versions, Eased, any_time, made_stamp, made_at, vouched, Chain as ImageChain, Link as ImageLink, Vir, vir as image_vir, input_value as image_input, holder as image_holder}
 use Rattle.smk_store.specs.Soundness.{Sound as ImageSound}
@@ -19,7 +19,7 @@ use Rattle.smk_world.specs.declared.event.Node.TheVariants.{Regular, Directory}
 use Rattle.smk_world.specs.declared.recipe.Kind.{Kind}
 use Rattle.smk_world.specs.declared.recipe.Kind.TheVariants.{Plain, Folder as FolderKind}
 use Rattle.smk_protocol.proofs.Basics.{none_some, some_same}
-use Rattle.smk_protocol.proofs.View.{view, file_of, is_source, source_at, is_covered, is_whole, kind_in, Sound, Chain, Link, vir, input_value, has_made, holder}
+use Rattle.smk_protocol.proofs.View.{view, file_of, is_source, source_at, is_covered, is_whole, kind_in, Sound, Chain, Link, vir, input_value, has_made}
 
 pub equal : (a b : ℕ) → (b == a) ≡ true → a ≡ b
 equal a b h = grind arith

@@ -1,16 +1,14 @@
 -- A world is sound where it is over views, and the other way round.
-use Rattle.std.proofs.Common.{◌≡◌, ℕ, Bool, true, false, List, [], ◌∷◌, refl, sym, ap, subst, ◌∙◌, Option, Some, None}
-use Rattle.std.specs.Prelude.{IsTrue, IsSome, option_map}
-use Rattle.smk_base.specs.Path.{overlaps}
-use Rattle.smk_world.specs.World.{World, IsFormed, is_within}
+use Rattle.std.proofs.Common.{◌≡◌, ℕ, false, List, refl, sym, ap, subst, ◌∙◌, Option, Some, None}
+use Rattle.std.specs.Prelude.{option_map}
+use Rattle.smk_world.specs.World.{World, is_within}
 use Rattle.smk_world.specs.Calls.{owned_now}
 use Rattle.smk_world.specs.Trees.{Path}
-use Rattle.smk_record.specs.declared.record.Member.{Member}
 use Rattle.smk_record.specs.declared.record.Record.{Record}
 use Rattle.smk_record.specs.Records.{core, members_of}
-use Rattle.smk_store.specs.Images.{Image, Content, image_of, seen, core_at, record_at, source_at as image_source_at}
+use Rattle.smk_store.specs.Images.{Image, Content, image_of, seen, record_at, source_at as image_source_at}
 use Rattle.smk_store.specs.Trust.{Versions, none_eased}
-use Rattle.smk_store.specs.Soundness.{Outside, told, Sound as ImageSound, SoundWorld as ImageSoundWorld, SameSources, NoNewRecord, HasKnown as ImageHasKnown}
+use Rattle.smk_store.specs.Soundness.{Outside, told, SoundWorld as ImageSoundWorld, SameSources, NoNewRecord}
 use Rattle.smk_protocol.proofs.View.{View, view, Sound, source_at}
 use Rattle.smk_protocol.proofs.Views.{reads}
 use Rattle.smk_protocol.proofs.Rows.{now}

@@ -1,13 +1,13 @@
 -- A step of the protocol is one over views.
-use Rattle.std.proofs.Common.{◌≡◌, ◌⊎◌, ℕ, Bool, true, false, List, [], ◌∷◌, ◌++◌, refl, sym, ap, subst, inl, inr, arith, ◌∙◌, Option, Some, None}
-use Rattle.std.specs.Prelude.{IsTrue, ◌||◌, ◌&&◌, ◌==◌, not, option_map, is_some}
+use Rattle.std.proofs.Common.{◌≡◌, ◌⊎◌, ℕ, true, false, List, refl, sym, ap, subst, inl, inr, ◌∙◌, Some}
+use Rattle.std.specs.Prelude.{IsTrue, ◌||◌, not, option_map, is_some}
 use Rattle.smk_base.specs.Path.{is_path}
 use Rattle.smk_base.proofs.Places.{and_first}
 use Rattle.smk_base.proofs.Apart.{path_outside}
 use Rattle.smk_world.specs.declared.recipe.Out.{Out}
 use Rattle.smk_world.specs.declared.event.Call.{Call}
 use Rattle.smk_world.specs.declared.event.Event.{Event}
-use Rattle.smk_world.specs.World.{World, after}
+use Rattle.smk_world.specs.World.{World}
 use Rattle.smk_world.specs.Trees.{Path, IsIn, is_path_text, is_text, is_good, outs_of, kind_in}
 use Rattle.smk_record.specs.declared.record.Member.{Member}
 use Rattle.smk_record.specs.declared.record.Stamp.{Stamp}
@@ -15,7 +15,7 @@ use Rattle.smk_record.specs.declared.record.Stamp.TheVariants.{Time, Made}
 use Rattle.smk_record.specs.declared.record.Record.{Record}
 use Rattle.smk_store.specs.Images.{Image, is_outside, is_file, seen}
 use Rattle.smk_store.specs.Soundness.{Outside}
-use Rattle.smk_protocol.specs.Protocol.{OpenJob, Phase, RunState, outputs, own, record_of, listed_of, as_ok, begun_with, IsApart as ImageApart, IsSourceAt, IsProductAt, IsAtHand as ImageAtHand, MayBegin as ImageMayBegin, IsKept as ImageKept, HasSerial as ImageSerial, IsGood as ImageGood, IsWritten as ImageWritten, IsRecordOf, Moves as ImageMoves, MakeFolders, Mark, AllMarked, MakeRoom, Start, Wait, AllMade, Write, AllWritten, Drop, AllDropped, Unmark, Closes as ImageCloses, AllUnmarked, IsFree as ImageFree, HasAllMarks as ImageAllMarks, Besides as ImageBesides, Look, Lock, Settle, Spend, Protect, Step as ImageStep, Aside, Steady, Begin, Go, Close, Fail, FailWait}
+use Rattle.smk_protocol.specs.Protocol.{OpenJob, Phase, RunState, outputs, own, record_of, listed_of, as_ok, begun_with, IsApart as ImageApart, IsAtHand as ImageAtHand, MayBegin as ImageMayBegin, IsKept as ImageKept, HasSerial as ImageSerial, IsGood as ImageGood, IsWritten as ImageWritten, IsRecordOf, Moves as ImageMoves, MakeFolders, Mark, AllMarked, MakeRoom, Start, Wait, AllMade, Write, AllWritten, Drop, AllDropped, Unmark, Closes as ImageCloses, AllUnmarked, IsFree as ImageFree, HasAllMarks as ImageAllMarks, Besides as ImageBesides, Look, Lock, Settle, Spend, Protect, Step as ImageStep, Aside, Steady, Begin, Go, Close, Fail, FailWait}
 use Rattle.smk_protocol.proofs.View.{View, view, is_source}
 use Rattle.smk_protocol.proofs.Rows as rows
 use Rattle.smk_protocol.proofs.Rows.{now, IsApart, IsAtHand, MayBegin, HasSerial, IsKept, IsGood, IsWritten, Moves, Closes, IsFree, HasAllMarks, Besides, Step}

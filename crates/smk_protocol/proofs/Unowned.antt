@@ -1,9 +1,9 @@
 -- No child owns what a call of the protocol makes, removes or protects, nor what the children read.
-use Rattle.std.proofs.Common.{◌≡◌, ◌⊎◌, ℕ, Bool, true, false, List, [], ◌∷◌, ◌++◌, map, refl, sym, ap, subst, inl, inr, ◌∙◌}
+use Rattle.std.proofs.Common.{◌≡◌, ◌⊎◌, ℕ, Bool, true, false, List, [], ◌∷◌, map, refl, sym, ap, subst, inl, inr, ◌∙◌}
 use Rattle.std.specs.Prelude.{IsTrue, ◌||◌, Ok, Err}
 use Rattle.std.specs.List.{list_any}
 use Rattle.smk_base.specs.Path.{is_at_or_under, own_folder, overlaps}
-use Rattle.smk_base.specs.Place.{mark_place, note_place, record_place, lock_place}
+use Rattle.smk_base.specs.Place.{mark_place, note_place, record_place}
 use Rattle.smk_base.proofs.Under.{overlaps_above_both, at_itself}
 use Rattle.smk_base.proofs.Apart as apart
 use Rattle.smk_world.specs.declared.event.NodeState.TheVariants.{Owned}
@@ -28,7 +28,6 @@ use Rattle.smk_protocol.proofs.Jobs.{apart_swap}
 use Rattle.smk_protocol.proofs.Keeping.{AsideAllows, aside_allows}
 use Rattle.smk_protocol.proofs.Stays.{in_left}
 use Rattle.smk_protocol.proofs.TextFacts.{text_laws, outside_own}
-use Rattle.smk_protocol.proofs.Texts.{OverlapLaws}
 
 -- what the call changes by its name is no child's
 abbrev pub Unowned : World → Call → Type 0

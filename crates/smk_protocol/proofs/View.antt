@@ -1,6 +1,6 @@
 -- An image as functions of a path, and trust over it: which record speaks for a path, chains of records, what a record vouches for.
 -- The marks that count are a parameter: while a Restore is open, the marks of its outputs don't, as long as its record stands.
-use Rattle.std.specs.Prelude.{◌≡◌, ◌⊎◌, ℕ, zero, suc, Bool, false, ◌&&◌, ◌||◌, not, List, [], ◌∷◌, map, find, reverse, ◌==◌, if◌then◌else◌, Option, Some, None, option_map, is_some, IsTrue, IsSome}
+use Rattle.std.specs.Prelude.{◌≡◌, ◌⊎◌, ℕ, zero, suc, Bool, false, ◌&&◌, ◌||◌, not, List, find, reverse, ◌==◌, if◌then◌else◌, Option, Some, None, option_map, is_some, IsTrue, IsSome}
 use Rattle.std.specs.List.{list_any}
 use Rattle.std.specs.Option.{option_and_then}
 use lib.Pointwise.{pointwise}
@@ -14,7 +14,7 @@ use Rattle.smk_record.specs.declared.record.Member.{Member}
 use Rattle.smk_record.specs.declared.record.Stamp.{Stamp}
 use Rattle.smk_record.specs.declared.record.Stamp.TheVariants.{Time, Made}
 use Rattle.smk_record.specs.declared.record.Record.{Record}
-use Rattle.smk_world.specs.Trees.{Path, IsIn, is_path_text, kind_in as kind_by, Act, all_of, value_at, part_at}
+use Rattle.smk_world.specs.Trees.{Path, IsIn, is_path_text, kind_in as kind_by, Act, part_at}
 use Rattle.smk_store.specs.Images.{Image, Content, is_folder, members_under, tree_now, stands, core_at, record_at}
 use Rattle.smk_world.specs.World.{folders_above}
 use Rattle.smk_store.specs.Trust.{is_folder_record, Versions, Eased, vouched}

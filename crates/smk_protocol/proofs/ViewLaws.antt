@@ -2,8 +2,8 @@
 -- stands there.
 use Rattle.smk_world.proofs.Names.{adds_rising}
 use Rattle.smk_world.specs.World.{IsRising, add_names}
-use Rattle.std.proofs.Common.{◌≡◌, ◌⊎◌, ℕ, Bool, true, false, List, [], ◌∷◌, ◌++◌, map, length, drop, ◌+◌, refl, sym, ap, subst, inl, inr, arith, ◌∙◌, Option, Some, None}
-use Rattle.std.specs.Prelude.{bytes_eq, IsTrue, IsSome, is_some, find, if◌then◌else◌, ◌&&◌, ◌||◌, option_map}
+use Rattle.std.proofs.Common.{◌≡◌, ◌⊎◌, ℕ, Bool, true, false, List, [], ◌∷◌, map, length, drop, ◌+◌, refl, sym, ap, subst, inl, inr, arith, ◌∙◌, Option, Some, None}
+use Rattle.std.specs.Prelude.{bytes_eq, IsSome, is_some, find, if◌then◌else◌, ◌&&◌, ◌||◌, option_map}
 use Rattle.std.specs.Option.{option_and_then}
 use Rattle.smk_record.specs.declared.record.Member.{Member}
 use Rattle.smk_world.specs.declared.event.Node.{Node}
@@ -15,7 +15,6 @@ use Rattle.smk_world.specs.Trees.{Path, among, file_in, part_at, IsIn}
 use Rattle.smk_store.specs.Images.{is_outside, Content, is_directory, bytes_of}
 use Rattle.smk_protocol.proofs.View.{file_of}
 use Rattle.smk_base.specs.Path.{is_under, is_at_or_under}
-use Rattle.smk_protocol.specs.Protocol.{kept_at}
 use Rattle.smk_protocol.proofs.Views.{Nodes, HasNames, view_of, path_node, names_in}
 use Rattle.smk_protocol.proofs.Basics.{clash, in_among, in_filter, filter_in}
 use Rattle.smk_protocol.proofs.Chains.{map_same}

@@ -1,5 +1,5 @@
 -- The view of an image that is a function of places: nothing is searched for by its name.
-use Rattle.std.specs.Prelude.{ℕ, Bool, true, false, ◌&&◌, List, map, filter, length, drop, ◌+◌, if◌then◌else◌, Option, Some, None, option_map, is_some, IsTrue, IsSome}
+use Rattle.std.specs.Prelude.{ℕ, ◌&&◌, List, map, filter, length, drop, ◌+◌, if◌then◌else◌, Option, Some, None, option_map, is_some, IsTrue, IsSome}
 use Rattle.smk_base.specs.declared.tree.Tree.TheVariants.{File, Folder}
 use Rattle.smk_world.specs.declared.event.Node.{Node}
 use Rattle.smk_record.specs.declared.record.Record.{Record}

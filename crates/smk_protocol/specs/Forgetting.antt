@@ -1,5 +1,5 @@
 -- Forgetting paths: which events may come, path by path, and the law that they keep every crash image sound.
-use Rattle.std.specs.Prelude.{◌≡◌, ◌⊎◌, Bool, true, false, List, [], ◌∷◌, bytes_eq, Option, Some, Ok, IsTrue}
+use Rattle.std.specs.Prelude.{◌≡◌, Bool, true, false, List, [], ◌∷◌, bytes_eq, Option, Some, Ok, IsTrue}
 use Rattle.smk_base.specs.Path.{is_at_or_under, overlaps, own_folder}
 use Rattle.smk_base.specs.Place.{record_place, mark_place, note_place}
 use Rattle.smk_world.specs.declared.event.Node.{Node}
