@@ -37,7 +37,7 @@ module _ (o : Outside) (w : World) (new : IsNew w) where
   no_record : (names : List Path) (p : Path) (r : Record) → record_at (image names) p ≡ Some r → ⊥
   no_record names p r h = none_some r (sym (ap readable (no_kept names p)) ∙ h)
 
-  no_core : (names : List Path) (p : Path) → core_at (image names) p ≡ None
+  pub no_core : (names : List Path) (p : Path) → core_at (image names) p ≡ None
   no_core names p = ap (λ k. option_map core (readable k)) (no_kept names p)
 
   versions : (names : List Path) (p : Path) (f : Content) → source_at (image names) p ≡ Some f → with_sources no_versions (seen o.read w) p f.time ≡ Some f.bytes

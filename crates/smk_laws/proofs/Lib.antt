@@ -40,3 +40,4 @@ pub mod HistoryListed
 pub mod HistoryListedCalls
 pub mod HistoryListedRuns
 pub mod HistoryListedForgetting
+mod HistoryExample
