@@ -1,5 +1,5 @@
 -- A history, computed: a folder with one file; a run of the protocol that copies it, cut off and whole; and the copy is taken away.
-use Rattle.std.proofs.Common.{◌≡◌, ◌≤◌, ℕ, Bool, true, false, List, [], ◌∷◌, ◌++◌, cond, refl, sym, ap, subst, ◌∙◌, Option, Some, None, Ok, bytes_eq, true≢false}
+use Rattle.std.proofs.Common.{◌≡◌, Bool, true, false, List, [], ◌∷◌, ◌++◌, cond, refl, sym, ap, ◌∙◌, Some, None, Ok, bytes_eq, true≢false}
 use Rattle.std.specs.Prelude.{codes}
 use Rattle.std.specs.List.Sorted.{IsStrictlySortedBy}
 use Rattle.smk_base.specs.Path.{own_folder, is_at_or_under}
@@ -13,8 +13,7 @@ use Rattle.smk_world.specs.declared.event.Event.{Event}
 use Rattle.smk_world.specs.World.{World, Nodes, Leaves, node_in, world_of, run}
 use Rattle.smk_world.specs.Trees.{Path}
 use Rattle.smk_world.proofs.Names.{formed_image}
-use Rattle.smk_record.specs.declared.record.Record.{Record}
-use Rattle.smk_store.specs.Images.{core_at, seen}
+use Rattle.smk_store.specs.Images.{seen}
 use Rattle.smk_store.specs.Trust.{Versions}
 use Rattle.smk_store.specs.Soundness.{SoundWorld}
 use Rattle.smk_store.specs.Safety.{with_sources}

@@ -1,6 +1,6 @@
 -- Logs in a wrong order aren't runs of the protocol, from no state and no world.
-use Rattle.std.proofs.Common.{◌≡◌, ◌⊎◌, inl, inr, ap, true≢false, sym, subst, ◌∙◌}
-use Rattle.std.specs.Prelude.{Bool, true, false, List, [], ◌∷◌, Option, Some, None, Ok, Err, IsTrue, refl, bytes_eq}
+use Rattle.std.proofs.Common.{◌≡◌, inl, inr, ap, true≢false, sym, subst, ◌∙◌}
+use Rattle.std.specs.Prelude.{Bool, true, false, List, Option, Some, None, Err, refl, bytes_eq}
 use Rattle.smk_base.proofs.Places.{place_itself}
 use Rattle.smk_base.specs.Place.{record_place}
 use Rattle.smk_world.specs.declared.event.Call.{Call}
@@ -8,10 +8,9 @@ use Rattle.smk_world.specs.declared.event.Call.TheVariants.{Looked, ReadFile, Re
 use Rattle.smk_world.specs.declared.event.Event.{Event}
 use Rattle.smk_world.specs.declared.event.Failed.{Failed}
 use Rattle.smk_world.specs.World.{World, after}
-use Rattle.smk_world.specs.Calls.{failed}
 use Rattle.smk_world.specs.Trees.{Path}
 use Rattle.smk_store.specs.Soundness.{Outside}
-use Rattle.smk_protocol.specs.Protocol.{OpenJob, Phase, RunState, IsWait, as_ok, IsLook, IsLock, IsFirst, Moves, MakeFolders, Mark, AllMarked, MakeRoom, Start, Wait, AllMade, Write, AllWritten, Drop, AllDropped, Unmark, Closes, AllUnmarked, Besides, Look, Lock, Settle, Spend, Protect, Step, Aside, Steady, Begin, Go, Close, Fail, FailWait, Runs, Done, Next}
+use Rattle.smk_protocol.specs.Protocol.{OpenJob, Phase, RunState, IsWait, as_ok, IsLook, IsLock, IsFirst, Moves, MakeFolders, Mark, AllMarked, MakeRoom, Start, Wait, AllMade, Write, AllWritten, Drop, AllDropped, Unmark, Closes, AllUnmarked, Besides, Look, Lock, Settle, Spend, Protect, Step, Aside, Steady, Begin, Go, Close, Fail, FailWait, Runs, Next}
 use Rattle.smk_laws.proofs.RefusedOrders.{out_mark, marked_anew, gone_on}
 
 is_not : {A : Type 0} → true ≡ false → A
