@@ -1,4 +1,8 @@
 mod Refused
+mod RefusedOrders
+mod RefusedCalls
+mod RefusedRuns
+mod RefusedRemoval
 mod Vouched
 pub mod Valid
 pub mod Same
@@ -25,3 +29,15 @@ pub mod Finite
 mod Copied
 pub mod CurrentAtExit
 pub mod CurrentStamps
+pub mod HistoryImages
+pub mod HistoryPlaces
+pub mod HistoryChange
+pub mod HistoryNew
+pub mod HistoryEdit
+pub mod HistoryRemove
+pub mod HistoryLaw
+pub mod HistoryListed
+pub mod HistoryListedCalls
+pub mod HistoryListedRuns
+pub mod HistoryListedForgetting
+mod HistoryExample

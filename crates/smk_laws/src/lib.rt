@@ -5,6 +5,7 @@ ghost use Rattle.smk_pattern.specs.Bound.{BoundFills};
 ghost use Rattle.smk_laws.specs.AtExit.{CurrentAtExitIsClean};
 ghost use Rattle.smk_laws.specs.Choices.{SameChoice, StaysAvailable};
 ghost use Rattle.smk_laws.specs.Current.{CurrentMeansClean, CurrentMeansCleanInWorlds, SeenIsComplete};
+ghost use Rattle.smk_laws.specs.Histories.{ForgettingIsCall, HistoryIsListed, HistoryLaw, RunIsCall};
 ghost use Rattle.smk_laws.specs.Stamps.{StampTells};
 ghost use Rattle.smk_protocol.specs.Forgetting.{ForgettingKeepsSound, SettlingIsEnough};
 ghost use Rattle.smk_protocol.specs.Midway.{HoldsMidway, ProtocolKeepsSound, ProtocolLaw};
@@ -42,4 +43,14 @@ pub fn protocol_law()
     ensures kept { ProtocolKeepsSound }
     ensures forgetting { ForgettingKeepsSound }
     ensures settling { SettlingIsEnough }
+{}
+
+/// The history law: after any list of calls, edits of sources, removals and crashes the folder is sound. And a directory output with a
+/// record and no mark has no more in it than the record lists, so that no removal makes it whole. The log of a run of the protocol is
+/// a call that may stand in a history, and so is that of a call that forgets paths.
+pub fn history_law()
+    ensures sound { HistoryLaw }
+    ensures listed { HistoryIsListed }
+    ensures run { RunIsCall }
+    ensures forgetting { ForgettingIsCall }
 {}
