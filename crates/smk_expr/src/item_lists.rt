@@ -1,0 +1,73 @@
+//! The items of a directive or a statement.
+
+ghost use Rattle.std.specs.Prelude.{◌≡◌, ◌++◌, ◌∷◌, [], Ok};
+ghost use Rattle.smk_expr.specs.Symbols.{Reads};
+ghost use Rattle.smk_expr.specs.Items as spec;
+
+use crate::cursor::Cursor;
+use crate::exprs::{MAX_DEPTH, argument, expr};
+use crate::symbol::{ParseFault, Sign, Symbol, sees};
+use smk_base::{List, Text};
+use smk_tree::ItemForm;
+use std::alloc::Global;
+
+/// Whether an item has a name.
+fn has_named(items: &[ItemForm]) -> bool
+    ensures { result ≡ spec.has_named items.now }
+{
+    items.iter().any(|item| !item.name.as_str().is_empty())
+}
+
+#[tactic(auto, unfolding(crate::specs::Exprs::valued))]
+fn positional(
+    alloc: Global,
+    cursor: &mut Cursor<'_>,
+    found: &[ItemForm],
+) -> Result<ItemForm, ParseFault>
+    ensures { Reads (spec.positional found.now cursor.old) result cursor.new }
+{
+    if has_named(found) {
+        return Err(cursor.refuse());
+    }
+    let value = expr(alloc, cursor)?;
+    Ok(ItemForm {
+        name: Text::of(alloc, "")?,
+        value,
+    })
+}
+
+/// One more item after those that were read.
+#[tactic(auto, unfolding(crate::specs::Items::item))]
+fn item(alloc: Global, cursor: &mut Cursor<'_>, found: &[ItemForm]) -> Result<ItemForm, ParseFault>
+    ensures { Reads (spec.item found.now cursor.old) result cursor.new }
+{
+    match cursor.ahead() {
+        [Symbol::Name(_, _), rest @ ..] if sees(rest, Sign::Equals) => {
+            argument(alloc, cursor, MAX_DEPTH, found)
+        }
+        _ => positional(alloc, cursor, found),
+    }
+}
+
+/// Takes a comma, and whether anything stands after it.
+fn another(cursor: &mut Cursor<'_>) -> bool
+    ensures { spec.another cursor.old ≡ Ok (result, cursor.new) }
+{
+    cursor.eat(Sign::Comma) && !cursor.at_end()
+}
+
+/// Items with commas between and maybe behind, up to the line's end.
+pub fn items(alloc: Global, cursor: &mut Cursor<'_>) -> Result<List<ItemForm>, ParseFault>
+    ensures { Reads (spec.items cursor.old) result cursor.new }
+{
+    let mut found = List::new(alloc);
+    for _turn in 0..cursor.left() {
+        let next = item(alloc, cursor, found.as_slice())?;
+        found.push(next)?;
+        if !another(cursor) {
+            cursor.end()?;
+            return Ok(found);
+        }
+    }
+    Err(cursor.refuse())
+}

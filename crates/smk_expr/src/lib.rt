@@ -1,0 +1,12 @@
+//! Reads the expressions of a workflow file.
+#![tactic(auto)]
+
+mod cursor;
+mod exprs;
+mod item_lists;
+mod symbol;
+
+pub use cursor::Cursor;
+pub use exprs::{expr, name, number, text};
+pub use item_lists::items;
+pub use symbol::{Keyword, ParseFault, Sign, Symbol, place_of, word_of};
