@@ -1,3 +1,4 @@
 pub mod Symbols
 pub mod Exprs
 pub mod Items
+pub mod Tokens
