@@ -2,3 +2,5 @@ pub mod Symbols
 pub mod Exprs
 pub mod Items
 pub mod Tokens
+pub mod Grammar
+pub mod Printing
