@@ -6,3 +6,4 @@ pub mod FoundItems
 pub mod Only
 pub mod OnlyItems
 pub mod Prints
+pub mod Told

@@ -1,17 +1,15 @@
 -- Items that the grammar spells are read, whatever follows that ends them.
-use Rattle.std.proofs.Common.{◌≡◌, ◌≢◌, ℕ, zero, suc, ◌+◌, ◌≤◌, ◌<◌, Bool, true, false, List, [], ◌∷◌, ◌++◌, length, Ok, Err, refl, sym, ap, subst, ◌∙◌, append_assoc, arith, cond, length-append}
+use Rattle.std.proofs.Common.{◌≡◌, ℕ, zero, suc, ◌+◌, ◌≤◌, Bool, true, false, List, [], ◌∷◌, ◌++◌, length, Ok, refl, sym, ap, subst, ◌∙◌, append_assoc, arith, cond, length-append}
 use Rattle.std.specs.Prelude.{not, ◌&&◌}
-use Rattle.std.proofs.lemmas.List.{append-nil}
 use Rattle.smk_expr.specs.declared.symbol.Symbol.{Symbol}
 use Rattle.smk_expr.specs.declared.symbol.Symbol.TheVariants as s
-use Rattle.smk_expr.specs.declared.symbol.Sign.{Sign}
-use Rattle.smk_expr.specs.declared.symbol.Sign.TheVariants.{Comma, Equals, OpenSquare, Plus}
+use Rattle.smk_expr.specs.declared.symbol.Sign.TheVariants.{Comma, Equals}
 use Rattle.smk_tree.specs.declared.syntax.Expr.{Expr}
 use Rattle.smk_tree.specs.declared.syntax.ItemForm.{ItemForm}
-use Rattle.smk_expr.specs.Symbols.{Bytes, Parser, and_then, ◌>>=◌, pure, sees, next, refuse, at_end, end, goes_on}
-use Rattle.smk_expr.specs.Exprs.{has_name, max_depth, argument, valued, expr}
+use Rattle.smk_expr.specs.Symbols.{Bytes, Parser, and_then, ◌>>=◌, pure, sees, next, refuse, at_end, end}
+use Rattle.smk_expr.specs.Exprs.{max_depth, argument, valued, expr}
 use Rattle.smk_expr.specs.Items.{has_named, positional, item, another, items_from, items}
-use Rattle.smk_expr.specs.Grammar.{Spelling, IsTerm, IsTail, IsLevel, IsExpr, a_text, a_number, a_truth, a_falsehood, a_name, a_key, in_parentheses, a_flag, an_output, an_expand, of_checkpoint, a_list, one_term, a_sum, IsItem, positional as alone, named, IsLast, nothing, a_comma, IsItems, one_item, more_items, Stops, StopsSum, StopsItems}
+use Rattle.smk_expr.specs.Grammar.{Spelling, IsTerm, IsTail, IsLevel, IsExpr, a_text, a_number, a_truth, a_falsehood, a_name, a_key, in_parentheses, a_flag, an_output, an_expand, of_checkpoint, a_list, one_term, a_sum, IsItem, positional as alone, named, IsLast, nothing, a_comma, IsItems, one_item, more_items, StopsSum, StopsItems}
 use Rattle.smk_expr.proofs.Steps.{done}
 use Rattle.smk_expr.proofs.Only.{expr-only, argument-only, behind_sign}
 

@@ -1,6 +1,7 @@
 pub mod Symbols
 pub mod Exprs
 pub mod Items
+pub mod SoFar
 pub mod Tokens
 pub mod Grammar
 pub mod Printing

@@ -6,27 +6,17 @@ ghost use Rattle.smk_expr.specs.Items as spec;
 
 use crate::cursor::Cursor;
 use crate::exprs::{MAX_DEPTH, argument, expr};
+use crate::so_far::SoFar;
 use crate::symbol::{ParseFault, Sign, Symbol, sees};
 use smk_base::{List, Text};
 use smk_tree::ItemForm;
 use std::alloc::Global;
 
-/// Whether an item has a name.
-fn has_named(items: &[ItemForm]) -> bool
-    ensures { result ≡ spec.has_named items.now }
-{
-    items.iter().any(|item| !item.name.as_str().is_empty())
-}
-
 #[tactic(auto, unfolding(crate::specs::Exprs::valued))]
-fn positional(
-    alloc: Global,
-    cursor: &mut Cursor<'_>,
-    found: &[ItemForm],
-) -> Result<ItemForm, ParseFault>
+fn positional(alloc: Global, cursor: &mut Cursor<'_>, found: &SoFar) -> Result<ItemForm, ParseFault>
     ensures { Reads (spec.positional found.now cursor.old) result cursor.new }
 {
-    if has_named(found) {
+    if found.has_named() {
         return Err(cursor.refuse());
     }
     let value = expr(alloc, cursor)?;
@@ -38,7 +28,7 @@ fn positional(
 
 /// One more item after those that were read.
 #[tactic(auto, unfolding(crate::specs::Items::item))]
-fn item(alloc: Global, cursor: &mut Cursor<'_>, found: &[ItemForm]) -> Result<ItemForm, ParseFault>
+fn item(alloc: Global, cursor: &mut Cursor<'_>, found: &SoFar) -> Result<ItemForm, ParseFault>
     ensures { Reads (spec.item found.now cursor.old) result cursor.new }
 {
     match cursor.ahead() {
@@ -60,13 +50,13 @@ fn another(cursor: &mut Cursor<'_>) -> bool
 pub fn items(alloc: Global, cursor: &mut Cursor<'_>) -> Result<List<ItemForm>, ParseFault>
     ensures { Reads (spec.items cursor.old) result cursor.new }
 {
-    let mut found = List::new(alloc);
+    let mut found = SoFar::new(alloc);
     for _turn in 0..cursor.left() {
-        let next = item(alloc, cursor, found.as_slice())?;
-        found.push(next)?;
+        let next = item(alloc, cursor, &found)?;
+        found = found.with(alloc, next)?;
         if !another(cursor) {
             cursor.end()?;
-            return Ok(found);
+            return Ok(found.into_items());
         }
     }
     Err(cursor.refuse())

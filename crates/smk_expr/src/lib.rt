@@ -5,6 +5,7 @@ mod cursor;
 mod exprs;
 mod item_lists;
 mod laws;
+mod so_far;
 mod symbol;
 mod tokens;
 

@@ -68,11 +68,7 @@ fn symbol(alloc: Global, source: &str, token: &Token) -> Result<Symbol, OutOfMem
 }
 
 /// The symbols of the tokens of this source, one for each, in order. `OutOfMemory` where there is no memory for them.
-pub fn symbols(
-    alloc: Global,
-    source: &str,
-    tokens: &[Token],
-) -> Result<List<Symbol>, OutOfMemory>
+pub fn symbols(alloc: Global, source: &str, tokens: &[Token]) -> Result<List<Symbol>, OutOfMemory>
     requires { All (IsToken source.now) tokens.now }
     ensures { IfOk result (λ found. found ≡ spec.symbols_of source.now tokens.now) }
 {
