@@ -7,3 +7,4 @@ pub mod Only
 pub mod OnlyItems
 pub mod Prints
 pub mod Told
+pub mod Letters
