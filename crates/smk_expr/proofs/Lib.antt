@@ -8,3 +8,4 @@ pub mod OnlyItems
 pub mod Prints
 pub mod Told
 pub mod Letters
+pub mod Judged

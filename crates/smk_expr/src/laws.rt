@@ -7,16 +7,19 @@ ghost use Rattle.smk_tree.specs.declared.syntax.ItemForm.{ItemForm as Item};
 ghost use Rattle.smk_expr.specs.Symbols.{at_end};
 ghost use Rattle.smk_expr.specs.Exprs.{expr};
 ghost use Rattle.smk_expr.specs.Items.{items as items_of};
+ghost use Rattle.smk_expr.specs.Faults.{IsJudged};
 ghost use Rattle.smk_expr.specs.Grammar.{IsExpr, IsItems, HasLetters, StopsSum, StopsItems};
 ghost use Rattle.smk_expr.specs.Printing.{printed, printed_items};
 
 /// What is read as an expression is what the grammar spells, and what it spells is read, whatever follows that ends it. What is
-/// printed of an expression that was read is read again as that expression.
+/// printed of an expression that was read is read again as that expression. No end is taken, and a fault stands at a symbol that
+/// is as the fault says.
 pub fn expression_laws()
     ensures found { (depth : ℕ) (i rest : List Meaning) (x : Value) → expr depth i ≡ Ok (x, rest) → (xs : List Meaning) × (i ≡ xs ++ rest) × IsExpr depth xs x }
     ensures only { (depth : ℕ) (xs rest : List Meaning) (x : Value) → IsExpr depth xs x → StopsSum rest → expr depth (xs ++ rest) ≡ Ok (x, rest) }
     ensures printed { (depth : ℕ) (i rest more : List Meaning) (x : Value) → expr depth i ≡ Ok (x, rest) → StopsSum more
         → expr depth ((printed x).symbols ++ more) ≡ Ok (x, more) }
+    ensures judged { (depth : ℕ) (i : List Meaning) → IsJudged i (expr depth i) }
 {}
 
 /// The same of items, where each name among the symbols has a letter, as the names of a source have.
@@ -26,4 +29,5 @@ pub fn item_laws()
     ensures only { (xs rest : List Meaning) (es : List Item) → IsItems [] xs es → StopsItems rest → items_of (xs ++ rest) ≡ Ok (es, rest) }
     ensures printed { (i rest more : List Meaning) (es : List Item) → HasLetters i → items_of i ≡ Ok (es, rest) → StopsItems more
         → items_of (printed_items es ++ more) ≡ Ok (es, more) }
+    ensures judged { (i : List Meaning) → IsJudged i (items_of i) }
 {}

@@ -2,6 +2,7 @@ use Rattle.smk_expr.specs.Printing.{printed}
 use Rattle.smk_expr.proofs.Only.{expr-only}
 use Rattle.smk_expr.proofs.Found.{expr-found}
 use Rattle.smk_expr.proofs.Prints.{expr-printed}
+use Rattle.smk_expr.proofs.Judged.{expr-judged}
 use Rattle.smk_expr.proofs.laws.expression_laws.Goals as goal
 
 pub returns-clause-found : goal.returns-clause-found
@@ -12,3 +13,6 @@ returns-clause-only c = λ depth xs rest x h stop. expr-only depth xs rest x h s
 
 pub returns-clause-printed : goal.returns-clause-printed
 returns-clause-printed c = λ depth i rest more x e stop. let f = expr-found depth i rest x e in expr-only depth (printed x).symbols more x (expr-printed depth f.0 x f.2) stop
+
+pub returns-clause-judged : goal.returns-clause-judged
+returns-clause-judged c = λ depth i. expr-judged depth i

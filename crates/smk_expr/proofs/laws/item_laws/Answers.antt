@@ -3,6 +3,7 @@ use Rattle.smk_expr.specs.Printing.{printed_items}
 use Rattle.smk_expr.proofs.OnlyItems.{items-only}
 use Rattle.smk_expr.proofs.FoundItems.{items-found}
 use Rattle.smk_expr.proofs.Prints.{items-printed}
+use Rattle.smk_expr.proofs.Judged.{items-judged}
 use Rattle.smk_expr.proofs.laws.item_laws.Goals as goal
 
 pub returns-clause-found : goal.returns-clause-found
@@ -13,3 +14,6 @@ returns-clause-only c = λ xs rest es h stop. items-only xs rest es h stop
 
 pub returns-clause-printed : goal.returns-clause-printed
 returns-clause-printed c = λ i rest more es l h stop. let f = items-found i rest es l h in items-only (printed_items es) more es (items-printed [] es f.0 f.2) stop
+
+pub returns-clause-judged : goal.returns-clause-judged
+returns-clause-judged c = λ i. items-judged i
