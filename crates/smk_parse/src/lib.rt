@@ -1,0 +1,8 @@
+//! Reads the tokens of a workflow file as its statements.
+#![tactic(auto)]
+
+mod entries;
+mod lines;
+
+pub use entries::joined;
+pub use lines::Lines;
