@@ -1,6 +1,7 @@
 //! Reads the tokens of a workflow file as its statements.
 #![tactic(auto)]
 
+mod directives;
 mod entries;
 mod lines;
 
