@@ -4,6 +4,8 @@
 mod directives;
 mod entries;
 mod lines;
+mod rules;
+mod statements;
 
 pub use entries::joined;
 pub use lines::Lines;
