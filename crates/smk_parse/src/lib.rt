@@ -4,8 +4,9 @@
 mod directives;
 mod entries;
 mod lines;
+mod reader;
 mod rules;
 mod statements;
 
-pub use entries::joined;
-pub use lines::Lines;
+pub use reader::parse;
+pub use smk_expr::ParseFault;
