@@ -8,5 +8,6 @@ mod reader;
 mod rules;
 mod statements;
 
+pub use lines::Lines;
 pub use reader::parse;
 pub use smk_expr::ParseFault;
