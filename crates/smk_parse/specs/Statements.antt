@@ -192,7 +192,7 @@ assigned w = do
 
 module _ (line : ℕ → ℕ) (taken : Bool) where
   -- what the word at this place begins
-  abbrev pub by_word : ℕ → Bytes → Parser Form
+  unfoldable pub by_word : ℕ → Bytes → Parser Form
   by_word at w =
       if bytes_eq w (codes "rule") then rule line taken false
       else (if bytes_eq w (codes "checkpoint") then rule line taken true

@@ -3,6 +3,7 @@
 
 mod directives;
 mod entries;
+mod laws;
 mod lines;
 mod reader;
 mod rules;
