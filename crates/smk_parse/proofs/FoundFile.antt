@@ -262,7 +262,7 @@ module _ (line : ℕ → ℕ) (taken : Bool) where
       let ys : List Symbol = s.Name at w ∷ s.Name n.0 n.1 ∷ s.Sign c.0 Colon ∷ s.Newline o.0 ∷ s.Indent o.1 ∷ (g.0 ++ s.Dedent g.1 ∷ []) in (
         ys,
         ap (λ (v : List Symbol). s.Name at w ∷ v)
-        (i-is ∙ ap (λ (v : List Symbol). s.Name n.0 n.1 ∷ s.Sign c.0 Colon ∷ s.Newline o.0 ∷ s.Indent o.1 ∷ v) (g.2 ∙ ap (λ (v : List Symbol). (g.0 ++ s.Dedent g.1 ∷ []) ++ v) q.1)),
+            (i-is ∙ ap (λ (v : List Symbol). s.Name n.0 n.1 ∷ s.Sign c.0 Colon ∷ s.Newline o.0 ∷ s.Indent o.1 ∷ v) (g.2 ∙ ap (λ (v : List Symbol). (g.0 ++ s.Dedent g.1 ∷ []) ++ v) q.1)),
         subst (IsForm line taken ys) q.0 (a_rule at n.0 c.0 o.0 o.1 g.1 w n.1 is_checkpoint g.0 d.0 begins g.3),
       )
 
@@ -305,7 +305,7 @@ text_line-found t i rest h =
       g.0,
       n.0,
       a.2 ∙ ap (λ (v : List Symbol). s.Sign a.0 Colon ∷ v)
-      (g.1 ∙ ap (λ (v : Bytes). s.Text g.0 v ∷ b.1) q.0 ∙ ap (λ (v : List Symbol). s.Text g.0 t ∷ v) (n.2 ∙ ap (λ (v : List Symbol). s.Newline n.0 ∷ v) q.1)),
+          (g.1 ∙ ap (λ (v : Bytes). s.Text g.0 v ∷ b.1) q.0 ∙ ap (λ (v : List Symbol). s.Text g.0 t ∷ v) (n.2 ∙ ap (λ (v : List Symbol). s.Newline n.0 ∷ v) q.1)),
     )
 
 module _ (line : ℕ → ℕ) (taken : Bool) where
@@ -388,16 +388,16 @@ module _ (line : ℕ → ℕ) (taken : Bool) where
           | inl met ↦ as_word w (codes "localrules") x at i rest met (local_rules-found x at i rest (rw (no_rule, no_checkpoint, no_order, met) at h))
           | inr no_local ↦ elim (bool_cases (bytes_eq w (codes "configfile"))) [
             | inl met ↦ as_word w (codes "configfile") x at i rest met
-            (text_form-found (codes "configfile") f.ConfigFile a_configuration x at i rest (rw (no_rule, no_checkpoint, no_order, no_local, met) at h))
+                (text_form-found (codes "configfile") f.ConfigFile a_configuration x at i rest (rw (no_rule, no_checkpoint, no_order, no_local, met) at h))
             | inr no_config ↦ elim (bool_cases (bytes_eq w (codes "include"))) [
               | inl met ↦ as_word w (codes "include") x at i rest met
-              (text_form-found (codes "include") f.Include an_include x at i rest (rw (no_rule, no_checkpoint, no_order, no_local, no_config, met) at h))
+                  (text_form-found (codes "include") f.Include an_include x at i rest (rw (no_rule, no_checkpoint, no_order, no_local, no_config, met) at h))
               | inr no_include ↦ elim (bool_cases (bytes_eq w (codes "container"))) [
                 | inl met ↦ as_word w (codes "container") x at i rest met
-                (text_form-found (codes "container") f.Container a_container x at i rest (rw (no_rule, no_checkpoint, no_order, no_local, no_config, no_include, met) at h))
+                    (text_form-found (codes "container") f.Container a_container x at i rest (rw (no_rule, no_checkpoint, no_order, no_local, no_config, no_include, met) at h))
                 | inr no_container ↦ elim (bool_cases (bytes_eq w (codes "wildcard_constraints"))) [
                   | inl met ↦ as_word w (codes "wildcard_constraints") x at i rest met
-                  (limits-found x at i rest l (rw (no_rule, no_checkpoint, no_order, no_local, no_config, no_include, no_container, met) at h))
+                      (limits-found x at i rest l (rw (no_rule, no_checkpoint, no_order, no_local, no_config, no_include, no_container, met) at h))
                   | inr no_limits ↦
                       let same : Err (Unsupported at) ≡ done x rest = rw (no_rule, no_checkpoint, no_order, no_local, no_config, no_include, no_container, no_limits) at h in absurd cc
                 ]

@@ -1,6 +1,6 @@
 -- An entry is a line that begins with a name and a `:` or `=`, with all lines that are deeper. Line ends and indentation
 -- within it are blanks: what is left of its layout is one line end behind it.
-use Rattle.std.specs.Prelude.{ℕ, zero, suc, ◌+◌, ◌-◌, Bool, true, false, not, ◌&&◌, ◌||◌, if◌then◌else◌, ◌==◌, nat_lt, List, [], ◌∷◌, ◌++◌, slice_index}
+use Rattle.std.specs.Prelude.{ℕ, zero, suc, ◌+◌, ◌-◌, Bool, true, false, not, ◌&&◌, ◌||◌, if◌then◌else◌, ◌==◌, nat_lt, List, [], ◌∷◌, ◌++◌, filter, slice_index}
 use Rattle.std.specs.List.{prefix_len}
 use Rattle.smk_lex.specs.declared.token.TokenKind.{TokenKind}
 use Rattle.smk_lex.specs.declared.token.TokenKind.TheVariants as kind
@@ -81,6 +81,18 @@ joined_from source place (t ∷ ts) =
 -- the tokens without the layout within entries
 unfoldable pub joined : Bytes → List Token → List Token
 joined source tokens = joined_from source (Start 0) tokens
+
+-- ---- what is left out
+
+abbrev pub is_layout : TokenKind → Bool
+is_layout kind.Newline = true
+is_layout kind.Indent = true
+is_layout kind.Dedent = true
+is_layout _ = false
+
+-- the tokens but for line ends and indentation
+abbrev pub lexemes : List Token → List Token
+lexemes ts = filter (λ t. not (is_layout t.kind)) ts
 
 -- how deep a place is
 abbrev pub depth_of : Place → ℕ

@@ -9,6 +9,7 @@ mod reader;
 mod rules;
 mod statements;
 
+pub use laws::{entry_law, file_laws};
 pub use lines::Lines;
 pub use reader::parse;
 pub use smk_expr::ParseFault;

@@ -19,12 +19,7 @@ use std::alloc::Global;
 use std::str;
 
 #[tactic(auto, unfolding(crate::specs::Files::parsed, crate::specs::Files::file_symbols))]
-fn read(
-    alloc: Global,
-    source: &[u8],
-    text: &str,
-    tokens: &[Token],
-) -> Result<Syntax, ParseFault>
+fn read(alloc: Global, source: &[u8], text: &str, tokens: &[Token]) -> Result<Syntax, ParseFault>
     requires same { text.now ≡ source.now }
     requires tokens { All (IsToken source.now) tokens.now }
     ensures { spec.Gives (spec.parsed source.now tokens.now) result }
