@@ -1,0 +1,17 @@
+//! The laws of what is written.
+
+ghost use Rattle.std.specs.Prelude.{◌≡◌, List, Ok};
+ghost use Rattle.smk_lex.specs.Pieces.{Bytes};
+ghost use Rattle.smk_lex.specs.Layout.{lexed};
+ghost use Rattle.smk_print.specs.Texts.{IsSpelt};
+ghost use Rattle.smk_print.specs.Lines.{Line, AreLines, written, tokens_of};
+
+/// What is spelled of a text reads back as that text.
+pub fn texts_read_back()
+    ensures { (t : Bytes) → IsSpelt t }
+{}
+
+/// The lexemes of lines that are written one below the other are the tokens of what is written.
+pub fn lines_read_back()
+    ensures { (ls : List Line) → AreLines 0 ls → lexed (written ls) ≡ Ok (tokens_of 0 0 ls) }
+{}

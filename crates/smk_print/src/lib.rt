@@ -1,0 +1,8 @@
+//! Writes a workflow file from its syntax, so that it reads back.
+#![tactic(auto)]
+
+mod laws;
+mod spell;
+
+pub use laws::{lines_read_back, texts_read_back};
+pub use spell::spell_text;
