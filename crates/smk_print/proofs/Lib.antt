@@ -1,2 +1,5 @@
 pub mod Texts
-pub mod Followed
+pub mod Items
+pub mod Levels
+pub mod Placed
+pub mod Whole

@@ -1,19 +1,19 @@
 -- A spelled text reads back.
-use Rattle.std.proofs.Common.{◌≡◌, ◌≢◌, ℕ, zero, suc, ◌+◌, ◌<◌, ◌≤◌, Bool, true, false, List, [], ◌∷◌, ◌++◌, length, get_or, refl, sym, ap, subst, ◌∙◌, append_assoc, arith, ◌⊎◌, inl, inr}
+use Rattle.std.proofs.Common.{◌≡◌, ℕ, zero, suc, ◌<◌, ◌≤◌, Bool, true, false, List, [], ◌∷◌, ◌++◌, length, refl, sym, ap, subst, ◌∙◌, append_assoc, arith, inl, inr}
 use Rattle.std.proofs.lemmas.Bool.{ne_eqb, and_parts}
 use Rattle.std.proofs.lemmas.Bool.{cases_lt}
 use Rattle.std.proofs.lemmas.List.{append-nil}
 use Rattle.std.proofs.lemmas.List.Folds.{list_all-append}
-use Rattle.std.proofs.lemmas.Str.{IsUtf8-nil, IsUtf8-append, IsUtf8-from_ascii, IsUtf8-encode, encode_ascii, inside_one, encodes-append}
+use Rattle.std.proofs.lemmas.Str.{IsUtf8-nil, IsUtf8-append, IsUtf8-from_ascii, IsUtf8-encode, encode_ascii, inside_one}
 use Rattle.std.proofs.lemmas.Str.Ascii.{IsAscii-cons}
-use Rattle.std.specs.Prelude.{◌==◌, ◌||◌, ◌&&◌, not, slice_index}
+use Rattle.std.specs.Prelude.{◌==◌, ◌||◌, not, slice_index}
 use Rattle.std.specs.List.{list_all}
 use Rattle.std.specs.Str.{IsUtf8, IsAscii}
 use lib.Utf8.{encode, encodes, scalar, scalars}
 use Rattle.smk_lex.specs.Pieces.{Bytes}
 use Rattle.smk_lex.specs.Spelling.{escape, escaped, quoted}
 use Rattle.smk_lex.proofs.Quoted.{Escapes, a_quote, a_backslash, a_feed, a_return, itself, escapes, cut-quoted, value-quoted}
-use Rattle.smk_print.specs.Texts.{on_one_line, IsSpelt}
+use Rattle.smk_print.specs.Texts.{IsSpelt}
 
 -- ---- on one line
 

@@ -1,5 +1,5 @@
 -- What the spelling of a text is for.
-use Rattle.std.specs.Prelude.{◌≡◌, ◌≢◌, ℕ, true, not, ◌||◌, ◌==◌, List, ◌∷◌, ◌++◌, length}
+use Rattle.std.specs.Prelude.{◌≡◌, ◌≢◌, ℕ, true, not, ◌||◌, ◌==◌, ◌∷◌, ◌++◌, length}
 use Rattle.std.specs.List.{list_all}
 use Rattle.std.specs.Str.{IsUtf8}
 use Rattle.smk_lex.specs.declared.token.TokenKind.TheVariants as kind

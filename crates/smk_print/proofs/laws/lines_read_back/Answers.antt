@@ -1,5 +1,5 @@
-use Rattle.smk_print.proofs.Followed.{number_of-decimal}
+use Rattle.smk_print.proofs.Whole.{lexed-written}
 use Rattle.smk_print.proofs.laws.lines_read_back.Goals as goal
 
 pub returns : goal.returns
-returns c = ?
+returns c = lexed-written

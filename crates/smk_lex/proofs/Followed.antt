@@ -1,25 +1,24 @@
 -- What is cut off the front where a lexeme is followed by a blank or a line end.
-use Rattle.std.proofs.Common.{◌≡◌, ◌≢◌, ℕ, zero, suc, ◌+◌, ◌-◌, ◌*◌, ◌/◌, ◌%◌, ◌^◌, ◌<◌, ◌≤◌, Bool, true, false, leb, List, [], ◌∷◌, ◌++◌, length, take, get_or, Option, Some, None, refl, sym, ap, subst, ◌∙◌, arith, ◌⊎◌, inl, inr, zero-add}
+use Rattle.std.proofs.Common.{◌≡◌, ◌≢◌, ℕ, zero, suc, ◌+◌, ◌-◌, ◌*◌, ◌/◌, ◌%◌, ◌^◌, ◌<◌, ◌≤◌, Bool, true, false, [], ◌∷◌, ◌++◌, length, take, Some, refl, sym, ap, subst, ◌∙◌, arith, ◌⊎◌, inl, inr, zero-add}
 use Rattle.std.proofs.lemmas.Bool.{eqb-true, ne_eqb, and_parts, leb-true, eq-eqb, lt-ltb, le-leb}
 use Rattle.std.proofs.lemmas.List.{take_at, get_or_at, length-append, length-replicate}
 use Rattle.std.proofs.lemmas.List.Folds.{list_all-append}
 use Rattle.std.proofs.lemmas.List.Sums.{fold_push}
 use Rattle.std.proofs.lemmas.Fmt.{decimal_by_steps}
+use Rattle.std.proofs.lemmas.Str.Ascii.{IsAscii-cons}
 use Rattle.std.specs.Prelude.{◌==◌, ◌&&◌, ◌||◌, not, nat_le, nat_lt, slice_index, replicate, if◌then◌else◌}
-use Rattle.std.specs.Char.{is_ascii_digit, is_ascii_alphabetic}
+use Rattle.std.specs.Char.{is_ascii_digit}
 use Rattle.std.specs.Fmt.{decimal}
 use Rattle.std.specs.List.{list_all, prefix_len}
+use Rattle.std.specs.Str.{IsAscii}
 use Rattle.std.specs.Option.{is_some}
-use Rattle.smk_lex.specs.declared.token.TokenKind.{TokenKind}
 use Rattle.smk_lex.specs.declared.token.TokenKind.TheVariants as kind
 use Rattle.smk_lex.specs.declared.piece.Class.TheVariants as class
 use Rattle.smk_lex.specs.declared.piece.Piece.{Piece}
-use Rattle.smk_lex.specs.declared.piece.Piece.TheVariants.{Blank, LineEnd, Lexeme as Whole}
+use Rattle.smk_lex.specs.declared.piece.Piece.TheVariants.{Blank, LineEnd, Lexeme}
 use Rattle.smk_lex.specs.Pieces.{Bytes, is_in, past, begins_name, is_sign, ends_line, minus_len, begins_numeral, past_fraction, numeral_len, number_of, numeral, is_quote, value_of, is_plain, greatest, cut}
-use Rattle.smk_lex.specs.Spelling.{IsName, IsDigits, quoted}
-use Rattle.smk_lex.proofs.Cuts.{name_part, run-cons}
-use Rattle.smk_lex.proofs.Quoted.{cut-quoted}
-use Rattle.smk_print.specs.Lines.{Lexeme, IsWritten, a_name, a_number, a_text, a_sign}
+use Rattle.smk_lex.specs.Spelling.{IsName, IsDigits}
+use Rattle.smk_lex.proofs.Cuts.{name_part, run-cons, in_bounds}
 
 bool_cases : (b : Bool) → (b ≡ true) ⊎ (b ≡ false)
 bool_cases true = inl refl
@@ -68,12 +67,12 @@ and_false : (a b : Bool) → b ≡ false → (a && b) ≡ false
 and_false true b e = e
 and_false false b e = refl
 
-name-cut : (w : Bytes) (x : ℕ) (rest : Bytes) → IsName w → Ends x → cut (w ++ x ∷ rest) ≡ Whole kind.Name (length w)
+pub name-cut : (w : Bytes) (x : ℕ) (rest : Bytes) → IsName w → Ends x → cut (w ++ x ∷ rest) ≡ Lexeme kind.Name (length w)
 unfolding cut
 name-cut [] x rest h ends = absurd h
 name-cut (b ∷ w) x rest h ends =
     let z = b ∷ (w ++ x ∷ rest) in
-    let P : Piece → Type 0 = λ v. v ≡ Whole kind.Name (suc (length w)) in
+    let P : Piece → Type 0 = λ v. v ≡ Lexeme kind.Name (suc (length w)) in
     let not_k = λ (k : ℕ) (e : begins_name k ≡ false). differs begins_name b k h.0 e in
     let all : list_all (is_in class.Name) (b ∷ w) ≡ true = rw (name_part b h.0) h.1 in
     let len : past class.Name z 0 ≡ suc (length w) = zero-add (prefix_len (is_in class.Name) z) ∙ run_stops (is_in class.Name) (b ∷ w) x rest all ends.name in
@@ -82,7 +81,7 @@ name-cut (b ∷ w) x rest h ends =
     (otherwise P (b == 35) _ _ (not_k 35 refl)
     (otherwise P (is_quote b) _ _ (rw (not_k 34 refl, not_k 39 refl) refl)
     (otherwise P (b == 114 && is_quote (slice_index z 1)) _ _ (and_false (b == 114) (is_quote (slice_index z 1)) (no_quote_next w x rest h.1 ends.quote))
-    (chosen P (begins_name b) _ _ h.0 (ap (λ n. Whole kind.Name n) len))))))
+    (chosen P (begins_name b) _ _ h.0 (ap (λ n. Lexeme kind.Name n) len))))))
 
 -- ---- numbers
 
@@ -97,13 +96,13 @@ digit-no_name b h =
     above : (a b : ℕ) → b < a → nat_le a b ≡ false
     above a b lt = elim (bool_cases (nat_le a b)) [ inl e ↦ absurd (omega (arith, leb-true a b e)) | inr e ↦ e ]
 
-digits-cut : (w : Bytes) (n x : ℕ) (rest : Bytes) → IsDigits w → number_of w ≡ Some n → Ends x → cut (w ++ x ∷ rest) ≡ Whole kind.Number (length w)
+digits-cut : (w : Bytes) (n x : ℕ) (rest : Bytes) → IsDigits w → number_of w ≡ Some n → Ends x → cut (w ++ x ∷ rest) ≡ Lexeme kind.Number (length w)
 unfolding cut
 digits-cut [] n x rest (some, all) number ends = absurd (omega arith)
 digits-cut (b ∷ w) n x rest (some, all) number ends =
     let v = b ∷ w in
     let z = b ∷ (w ++ x ∷ rest) in
-    let P : Piece → Type 0 = λ p. p ≡ Whole kind.Number (length v) in
+    let P : Piece → Type 0 = λ p. p ≡ Lexeme kind.Number (length v) in
     let digit : is_ascii_digit b ≡ true = (and_parts (is_ascii_digit b) (list_all is_ascii_digit w) all).0 in
     let not_k = λ (k : ℕ) (e : is_ascii_digit k ≡ false). differs is_ascii_digit b k digit e in
     let sign_len : minus_len z ≡ 0 = rw (not_k 45 refl) refl in
@@ -114,9 +113,9 @@ digits-cut (b ∷ w) n x rest (some, all) number ends =
     let stops : past_fraction z (length v) ≡ length v = rw no_point refl in
     let len : numeral_len z ≡ length v = ap (λ m. past_fraction z (past class.Digit z m)) sign_len ∙ ap (past_fraction z) run ∙ stops in
     let front : take (numeral_len z) z ≡ v = ap (λ k. take k z) len ∙ take_at v (x ∷ rest) (length v) refl in
-    let is : numeral z ≡ Whole kind.Number (length v) =
-    ap (λ (u : Bytes). Whole (if is_some (number_of u) then kind.Number else kind.Spelling) (numeral_len z)) front
-    ∙ ap (λ o. Whole (if is_some o then kind.Number else kind.Spelling) (numeral_len z)) number ∙ ap (λ k. Whole kind.Number k) len in
+    let is : numeral z ≡ Lexeme kind.Number (length v) =
+    ap (λ (u : Bytes). Lexeme (if is_some (number_of u) then kind.Number else kind.Spelling) (numeral_len z)) front
+    ∙ ap (λ o. Lexeme (if is_some o then kind.Number else kind.Spelling) (numeral_len z)) number ∙ ap (λ k. Lexeme kind.Number k) len in
     otherwise P (is_in class.Blank b) _ _ (rw (not_k 32 refl, not_k 9 refl) refl)
     (otherwise P (ends_line z) _ _ (rw (not_k 10 refl, not_k 13 refl) refl)
     (otherwise P (b == 35) _ _ (not_k 35 refl)
@@ -184,3 +183,77 @@ number_of-decimal n h =
     let plain : is_plain ds ≡ true = rw (some, run) (no_zero n ds d) in
     let within : nat_le (value_of ds) greatest ≡ true = le-leb (value_of ds) greatest (omega (arith, d.value)) in
     rw (plain, within) (ap (λ v. Some v) d.value)
+
+pub decimal-cut : (n x : ℕ) (rest : Bytes) → n ≤ greatest → Ends x → cut (decimal n ++ x ∷ rest) ≡ Lexeme kind.Number (length (decimal n))
+decimal-cut n x rest h ends = digits-cut (decimal n) n x rest (decimal_is n (omega arith)).digits (number_of-decimal n h) ends
+
+-- ---- signs
+
+-- what holds of each sign
+pub each_sign : (P : ℕ → Type 0) → P 58 → P 44 → P 61 → P 40 → P 41 → P 91 → P 93 → P 46 → P 43 → P 62 → (b : ℕ) → is_sign b ≡ true → P b
+each_sign P a c d e f g h i j k b is =
+    one 58 a (λ n1. one 44 c (λ n2. one 61 d (λ n3. one 40 e (λ n4. one 41 f (λ n5. one 91 g (λ n6. one 93 h (λ n7. one 46 i (λ n8. one 43 j (λ n9. one 62 k (λ n10.
+    let wrong : false ≡ true = rw (n1, n2, n3, n4, n5, n6, n7, n8, n9, n10) at is in absurd cc))))))))))
+  where
+    one : (k : ℕ) → P k → ((b == k) ≡ false → P b) → P b
+    one k here other = elim (bool_cases (b == k)) [ inl e ↦ subst P (sym (eqb-true b k e)) here | inr n ↦ other n ]
+
+pub sign-cut : (b : ℕ) (rest : Bytes) → is_sign b ≡ true → cut (b ∷ rest) ≡ Lexeme kind.Sign 1
+unfolding cut
+sign-cut b rest is = each_sign (λ k. cut (k ∷ rest) ≡ Lexeme kind.Sign 1) refl refl refl refl refl refl refl refl refl refl b is
+
+-- ---- blanks and line ends
+
+-- a byte that no run of blanks has
+pub record Begins (b : ℕ) : Type 0 where
+  pub solid : is_in class.Blank b ≡ false
+
+pub name_begins : (b : ℕ) → begins_name b ≡ true → Begins b
+name_begins b h = record { solid = rw (differs begins_name b 32 h refl, differs begins_name b 9 h refl) refl }
+
+pub digit_begins : (b : ℕ) → is_ascii_digit b ≡ true → Begins b
+digit_begins b h = record { solid = rw (differs is_ascii_digit b 32 h refl, differs is_ascii_digit b 9 h refl) refl }
+
+pub sign_begins : (b : ℕ) → is_sign b ≡ true → Begins b
+sign_begins b h = record { solid = rw (differs is_sign b 32 h refl, differs is_sign b 9 h refl) refl }
+
+pub quote_begins : Begins 34
+quote_begins = record { solid = refl }
+
+blank_run : (n : ℕ) → list_all (is_in class.Blank) (replicate n 32) ≡ true
+blank_run zero = refl
+blank_run (suc n) = blank_run n
+
+pub blanks-cut : (n b : ℕ) (rest : Bytes) → 0 < n → Begins b → cut (replicate n 32 ++ b ∷ rest) ≡ Blank n
+unfolding cut
+blanks-cut zero b rest some begins = absurd (omega arith)
+blanks-cut (suc n) b rest some begins =
+    let w = replicate (suc n) 32 in
+    ap (λ k. Blank k) (zero-add (prefix_len (is_in class.Blank) (w ++ b ∷ rest)) ∙ run_stops (is_in class.Blank) w b rest (blank_run (suc n)) begins.solid ∙ length-replicate (suc n) 32)
+
+pub feed-cut : (rest : Bytes) → cut (10 ∷ rest) ≡ LineEnd 1
+unfolding cut
+feed-cut rest = refl
+
+pub decimal_digits : (n : ℕ) → n ≤ greatest → IsDigits (decimal n)
+decimal_digits n h = (decimal_is n (omega arith)).digits
+
+-- ---- ASCII
+
+pub ascii_nil : IsAscii []
+ascii_nil = λ i. omega arith
+
+name_bytes : (w : Bytes) → list_all (is_in class.Name) w ≡ true → IsAscii w
+name_bytes [] h = ascii_nil
+name_bytes (b ∷ w) h =
+    let r = and_parts (is_in class.Name b) (list_all (is_in class.Name) w) h in
+    IsAscii-cons b w (in_bounds b r.0) (name_bytes w r.1)
+
+pub name_ascii : (w : Bytes) → IsName w → IsAscii w
+name_ascii [] h = absurd h
+name_ascii (b ∷ w) h = IsAscii-cons b w (in_bounds b (name_part b h.0)) (name_bytes w h.1)
+
+pub sign_ascii : (b : ℕ) → is_sign b ≡ true → IsAscii (b ∷ [])
+sign_ascii b is =
+    IsAscii-cons b []
+    (each_sign (λ k. k < 128) (omega arith) (omega arith) (omega arith) (omega arith) (omega arith) (omega arith) (omega arith) (omega arith) (omega arith) (omega arith) b is) ascii_nil
