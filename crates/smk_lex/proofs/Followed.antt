@@ -174,7 +174,7 @@ no_zero (suc n) ds d = rw (ne_eqb (slice_index ds 0) 48 (d.first (omega arith)))
     or_true true = refl
     or_true false = refl
 
-number_of-decimal : (n : ℕ) → n ≤ greatest → number_of (decimal n) ≡ Some n
+pub number_of-decimal : (n : ℕ) → n ≤ greatest → number_of (decimal n) ≡ Some n
 number_of-decimal n h =
     let ds = decimal n in
     let d = decimal_is n (omega arith) in

@@ -3,3 +3,4 @@ pub mod Items
 pub mod Levels
 pub mod Placed
 pub mod Whole
+pub mod Rows

@@ -5,6 +5,7 @@ ghost use Rattle.smk_lex.specs.Pieces.{Bytes};
 ghost use Rattle.smk_lex.specs.Layout.{lexed};
 ghost use Rattle.smk_print.specs.Texts.{IsSpelt};
 ghost use Rattle.smk_print.specs.Lines.{Line, AreLines, written, tokens_of};
+ghost use Rattle.smk_print.specs.Rows.{Row, AreRows, ReadsBack};
 
 /// What is spelled of a text reads back as that text.
 pub fn texts_read_back()
@@ -14,4 +15,9 @@ pub fn texts_read_back()
 /// The lexemes of lines that are written one below the other are the tokens of what is written.
 pub fn lines_read_back()
     ensures { (ls : List Line) → AreLines 0 ls → lexed (written ls) ≡ Ok (tokens_of 0 0 ls) }
+{}
+
+/// Rows of symbols that are written one below the other read back as these symbols.
+pub fn rows_read_back()
+    ensures { (rs : List Row) → AreRows 0 rs → ReadsBack rs }
 {}

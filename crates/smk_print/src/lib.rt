@@ -4,5 +4,5 @@
 mod laws;
 mod spell;
 
-pub use laws::{lines_read_back, texts_read_back};
+pub use laws::{lines_read_back, rows_read_back, texts_read_back};
 pub use spell::spell_text;
