@@ -4,3 +4,4 @@ pub mod Levels
 pub mod Placed
 pub mod Whole
 pub mod Rows
+pub mod Spaced

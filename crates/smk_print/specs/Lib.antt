@@ -1,3 +1,5 @@
 pub mod Texts
 pub mod Lines
 pub mod Rows
+pub mod Writing
+pub mod Parts

@@ -1,6 +1,7 @@
 //! Writes a workflow file from its syntax, so that it reads back.
 #![tactic(auto)]
 
+mod exprs;
 mod laws;
 mod spell;
 
