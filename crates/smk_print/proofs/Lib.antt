@@ -5,3 +5,4 @@ pub mod Placed
 pub mod Whole
 pub mod Rows
 pub mod Spaced
+pub mod Rowed

@@ -11,7 +11,7 @@ use Rattle.smk_tree.specs.declared.syntax.OutputPick.{OutputPick}
 use Rattle.smk_expr.specs.declared.symbol.Symbol.{Symbol}
 use Rattle.smk_expr.specs.declared.symbol.Symbol.TheVariants as s
 use Rattle.smk_expr.specs.declared.symbol.Sign.TheVariants.{Comma, Equals, Open, Close, Plus}
-use Rattle.smk_expr.specs.Printing.{Printed, PrintedItem, printed, expr_step, as_term, printed_list, printed_tail, printed_sum, printed_zip, printed_arguments}
+use Rattle.smk_expr.specs.Printing.{Printed, PrintedItem, printed, expr_step, as_term, printed_list, printed_tail, printed_sum, printed_zip, printed_arguments, printed_item}
 use Rattle.smk_print.specs.Parts.{printed_form, printed_part}
 use Rattle.smk_print.specs.Rows.{lexeme_of}
 use Rattle.smk_print.specs.Writing.{spaced, if_so}
@@ -69,7 +69,7 @@ of_part i = search (rules, the_lemmas)
 
 -- ---- loops that write a part of a list at each turn
 
-loop-step : (o q total : Bytes) (front more rest : List Symbol) → rest ≡ front ++ more → q ≡ o ++ spaced front → o ++ spaced rest ≡ total → q ++ spaced more ≡ total
+pub loop-step : (o q total : Bytes) (front more rest : List Symbol) → rest ≡ front ++ more → q ≡ o ++ spaced front → o ++ spaced rest ≡ total → q ++ spaced more ≡ total
 loop-step o q total front more rest split wrote before =
     ap (λ (v : Bytes). v ++ spaced more) wrote ∙ append_assoc o (spaced front) (spaced more)
     ∙ ap (λ (v : Bytes). o ++ v) (sym (spaced-append front more) ∙ ap spaced (sym split)) ∙ before
@@ -129,6 +129,13 @@ sum-step parts i x behind a b o p q r t total lt is before first second plus ope
     let inner : t ≡ q ++ spaced (xs.symbols ++ if_so xs.is_sum Close) = two q r t xs.symbols (if_so xs.is_sum Close) value close_is in
     let term : t ≡ p ++ spaced (if_so xs.is_sum Open ++ (xs.symbols ++ if_so xs.is_sum Close)) = two p q t (if_so xs.is_sum Open) (xs.symbols ++ if_so xs.is_sum Close) open_is inner in
     loop-step o t total front (printed_tail rest) (whole (map printed (drop i parts))) split (two o p t (if_so behind Plus) (if_so xs.is_sum Open ++ (xs.symbols ++ if_so xs.is_sum Close)) plus term) before
+
+-- ---- items
+
+-- a comma and an item, for each item
+abbrev pub more_items : List ItemForm → List Symbol
+more_items [] = []
+more_items (x ∷ items) = s.Sign 0 Comma ∷ (printed_item x ++ more_items items)
 
 -- ---- brackets round a value
 

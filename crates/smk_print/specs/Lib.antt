@@ -3,3 +3,4 @@ pub mod Lines
 pub mod Rows
 pub mod Writing
 pub mod Parts
+pub mod Print
