@@ -6,3 +6,5 @@ pub mod Whole
 pub mod Rows
 pub mod Spaced
 pub mod Rowed
+pub mod Moved
+pub mod Fit
