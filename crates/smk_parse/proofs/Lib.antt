@@ -1,3 +1,5 @@
 pub mod Starts
 pub mod Turns
 pub mod Kept
+pub mod FoundFile
+pub mod OnlyFile
