@@ -8,3 +8,5 @@ pub mod Spaced
 pub mod Rowed
 pub mod Moved
 pub mod Fit
+pub mod Joined
+pub mod Again

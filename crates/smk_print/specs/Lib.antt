@@ -4,3 +4,4 @@ pub mod Rows
 pub mod Writing
 pub mod Parts
 pub mod Print
+pub mod Aside
