@@ -1,15 +1,13 @@
 -- What is printed of a file that the grammar spells, it spells again, wherever the symbols stand.
-use Rattle.std.proofs.Common.{◌≡◌, ℕ, zero, suc, ◌-◌, Bool, true, false, cond, ◌&&◌, List, [], ◌∷◌, ◌++◌, map, refl, sym, ap, subst, ◌∙◌, append_assoc}
-use Rattle.std.proofs.lemmas.List.{append-nil, map-append}
+use Rattle.std.proofs.Common.{◌≡◌, ℕ, suc, Bool, true, false, ◌&&◌, List, [], ◌∷◌, ◌++◌, map, refl, sym, ap, subst, ◌∙◌, append_assoc}
+use Rattle.std.proofs.lemmas.List.{map-append}
 use Rattle.std.specs.Prelude.{codes, ◌||◌}
-use Rattle.std.specs.List.{list_any, flat_map}
+use Rattle.std.specs.List.{list_any}
 use Rattle.std.specs.Str.{bytes_eq}
 use Rattle.smk_expr.specs.declared.symbol.Symbol.{Symbol}
 use Rattle.smk_expr.specs.declared.symbol.Symbol.TheVariants as s
 use Rattle.smk_expr.specs.declared.symbol.Sign.{Sign}
 use Rattle.smk_expr.specs.declared.symbol.Sign.TheVariants.{Colon, Comma, Equals, Greater}
-use Rattle.smk_tree.specs.declared.syntax.Expr.{Expr}
-use Rattle.smk_tree.specs.declared.syntax.ItemForm.{ItemForm}
 use Rattle.smk_tree.specs.declared.syntax.DirectiveForm.{DirectiveForm}
 use Rattle.smk_tree.specs.declared.syntax.RuleForm.{RuleForm}
 use Rattle.smk_tree.specs.declared.syntax.Form.{Form}
@@ -19,12 +17,12 @@ use Rattle.smk_expr.specs.Symbols.{Bytes, here}
 use Rattle.smk_expr.specs.Exprs.{max_depth}
 use Rattle.smk_expr.specs.Printing.{printed, printed_items}
 use Rattle.smk_expr.proofs.Prints.{expr-printed, items-printed}
-use Rattle.smk_parse.specs.Statements.{is_directive, has_word, is_default, has_default, has_default_in}
-use Rattle.smk_parse.specs.Grammar.{directive_of, IsDirective, a_directive, IsDirectives, IsBody, with_text, without_text, BeginsRule, a_rule as begins_rule, a_checkpoint as begins_checkpoint, IsNames, IsForm, an_assignment, a_rule, an_order, some_local_rules, a_configuration, an_include, a_container, some_limits, IsStatement, IsStatements, IsFile}
+use Rattle.smk_parse.specs.Statements.{has_word, is_default, has_default, has_default_in}
+use Rattle.smk_parse.specs.Grammar.{directive_of, IsDirective, a_directive, IsDirectives, IsBody, with_text, without_text, BeginsRule, a_rule as begins_rule, a_checkpoint as begins_checkpoint, IsNames, IsForm, an_assignment, a_rule, an_order, some_local_rules, a_configuration, an_include, a_container, some_limits, IsStatements, IsFile}
 use Rattle.smk_print.specs.Rows.{Row, unplaced, row_symbols}
 use Rattle.smk_print.specs.Print.{more_names, names_between, directive_row, body_rows, rule_word, form_rows, rows_of}
 use Rattle.smk_print.specs.Aside.{unlined_directive, unlined_form, unlined_statement}
-use Rattle.smk_print.proofs.Moved.{placed, moved, behind, moved-append, expr-moved, items-moved}
+use Rattle.smk_print.proofs.Moved.{moved, behind, moved-append, expr-moved, items-moved}
 
 -- ---- the symbols of what is printed
 

@@ -1,7 +1,7 @@
 -- What the grammar spells closes its brackets, and what is printed of it can be written.
-use Rattle.std.proofs.Common.{◌≡◌, ◌≢◌, ℕ, zero, suc, ◌+◌, ◌-◌, ◌≤◌, Bool, true, false, cond, List, [], ◌∷◌, ◌++◌, map, refl, sym, ap, subst, ◌∙◌, arith, rules, ◌⊎◌, inl, inr}
+use Rattle.std.proofs.Common.{◌≡◌, ℕ, zero, suc, ◌+◌, ◌-◌, ◌≤◌, Bool, true, false, cond, List, [], ◌∷◌, ◌++◌, map, refl, sym, ap, subst, ◌∙◌, arith, rules, inl, inr}
 use Rattle.std.proofs.lemmas.Str.{IsUtf8-append}
-use Rattle.std.specs.Prelude.{codes, slice_index}
+use Rattle.std.specs.Prelude.{codes}
 use Rattle.std.specs.Str.{IsUtf8}
 use Rattle.smk_lex.specs.Pieces.{greatest}
 use Rattle.smk_lex.specs.Spelling.{IsName}
@@ -15,12 +15,11 @@ use Rattle.smk_tree.specs.declared.syntax.Expr.TheOpen.{Expr-F}
 use Rattle.smk_tree.specs.declared.syntax.ItemForm.{ItemForm}
 use Rattle.smk_tree.specs.declared.syntax.ExpandForm.{roll-ExpandForm}
 use Rattle.smk_tree.specs.declared.syntax.OutputPick.{OutputPick}
-use Rattle.smk_tree.specs.declared.syntax.OutputPick.TheVariants as pick
 use Rattle.smk_expr.specs.Symbols.{Bytes}
 use Rattle.smk_expr.specs.Exprs.{max_depth}
 use Rattle.smk_expr.specs.Grammar.{Spelling, IsTexts, IsKeys, IsPick, all, by_name, by_place, IsZip, paired, not_paired, IsListed, IsClosing, alone, behind_comma, IsArguments, IsTerm, IsTail, IsLevel, IsExpr, a_text, a_number, a_truth, a_falsehood, a_name, a_key, in_parentheses, a_flag, an_output, an_expand, of_checkpoint, a_list, one_term, a_sum, IsItem, positional, named, IsLast, nothing, a_comma, IsItems, one_item, more_items}
-use Rattle.smk_expr.specs.Printing.{Printed, PrintedItem, printed, expr_step, as_term, printed_keys, printed_pick, printed_zip, printed_arguments, printed_list, printed_tail, printed_sum, under_name, printed_item, printed_items}
-use Rattle.smk_print.specs.Rows.{IsFit, AllFit}
+use Rattle.smk_expr.specs.Printing.{Printed, PrintedItem, printed, expr_step, as_term, printed_keys, printed_pick, printed_zip, printed_arguments, printed_list, printed_tail, under_name, printed_item, printed_items}
+use Rattle.smk_print.specs.Rows.{AllFit}
 use Rattle.smk_print.proofs.Spaced.{of_word, of_number, of_truth, of_name, of_config, of_outputs, of_many, of_sum, of_flagged, of_checkpoint as of_gathered}
 
 -- ---- brackets

@@ -1,5 +1,5 @@
 -- In written rows there is no layout within entries, since each entry stands in one row.
-use Rattle.std.proofs.Common.{◌≡◌, ℕ, zero, suc, ◌+◌, ◌-◌, ◌*◌, ◌<◌, ◌≤◌, Bool, true, false, cond, List, [], ◌∷◌, ◌++◌, length, map, refl, sym, ap, subst, ◌∙◌, append_assoc, arith, ◌⊎◌, inl, inr}
+use Rattle.std.proofs.Common.{◌≡◌, ℕ, zero, suc, ◌+◌, ◌-◌, ◌*◌, ◌<◌, ◌≤◌, Bool, true, false, cond, List, [], ◌∷◌, ◌++◌, length, refl, sym, ap, subst, ◌∙◌, arith, ◌⊎◌, inl, inr}
 use Rattle.std.proofs.lemmas.Bool.{false_from_ne_true, ltb-true}
 use Rattle.std.specs.Prelude.{nat_lt, ◌||◌}
 use Rattle.smk_lex.specs.declared.token.TokenKind.{TokenKind}
@@ -9,10 +9,9 @@ use Rattle.smk_lex.specs.Pieces.{Bytes}
 use Rattle.smk_lex.specs.Layout.{token, dedents}
 use Rattle.std.specs.Fmt.{decimal}
 use Rattle.smk_lex.specs.Spelling.{quoted}
-use Rattle.smk_parse.specs.declared.entries.Place.{Place}
 use Rattle.smk_parse.specs.declared.entries.Place.TheVariants.{Start, Line as InLine, Entry}
-use Rattle.smk_parse.specs.Entries.{opens, is_indent, closed, goes_deeper, is_signed, begun, joined_from, joined}
-use Rattle.smk_print.specs.Lines.{Lexeme, Line, line_bytes, lexemes_at, turn, tokens_of, IsWritten, a_name, a_number, a_text, a_sign, AllWritten, IsLine, AreLines}
+use Rattle.smk_parse.specs.Entries.{opens, is_indent, closed, goes_deeper, is_signed, joined_from, joined}
+use Rattle.smk_print.specs.Lines.{Lexeme, Line, line_bytes, lexemes_at, turn, tokens_of, IsWritten, a_name, a_number, a_text, a_sign, AllWritten, AreLines}
 
 -- ---- one line
 

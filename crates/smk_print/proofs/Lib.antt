@@ -10,3 +10,6 @@ pub mod Moved
 pub mod Fit
 pub mod Joined
 pub mod Again
+pub mod Formed
+pub mod Sound
+pub mod Back

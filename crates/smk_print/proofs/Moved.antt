@@ -1,15 +1,13 @@
 -- What the grammar spells, it spells wherever the symbols stand.
-use Rattle.std.proofs.Common.{◌≡◌, ℕ, zero, suc, Bool, true, false, List, [], ◌∷◌, ◌++◌, length, get_or, map, refl, sym, ap, subst, ◌∙◌, ◌⊎◌, inl, inr}
-use Rattle.std.specs.Prelude.{codes}
+use Rattle.std.proofs.Common.{◌≡◌, ℕ, zero, suc, Bool, true, false, List, [], ◌∷◌, ◌++◌, get_or, map, refl, sym, ap, subst, ◌∙◌, inl, inr}
 use Rattle.smk_expr.specs.declared.symbol.Symbol.{Symbol}
 use Rattle.smk_expr.specs.declared.symbol.Symbol.TheVariants as s
-use Rattle.smk_expr.specs.declared.symbol.Sign.TheVariants.{Comma, Equals, Open, Close, OpenSquare, CloseSquare, Point, Plus}
+use Rattle.smk_expr.specs.declared.symbol.Sign.TheVariants.{Comma, Equals, Open, Close, Plus}
 use Rattle.smk_tree.specs.declared.syntax.Expr.{Expr}
 use Rattle.smk_tree.specs.declared.syntax.Expr.TheVariants as e
 use Rattle.smk_tree.specs.declared.syntax.ItemForm.{ItemForm}
 use Rattle.smk_tree.specs.declared.syntax.ExpandForm.{roll-ExpandForm}
 use Rattle.smk_tree.specs.declared.syntax.OutputPick.{OutputPick}
-use Rattle.smk_tree.specs.declared.syntax.OutputPick.TheVariants as pick
 use Rattle.smk_expr.specs.Symbols.{Bytes, place_of}
 use Rattle.smk_expr.specs.Exprs.{max_depth}
 use Rattle.smk_expr.specs.Grammar.{Spelling, IsTexts, IsKeys, IsPick, all, by_name, by_place, IsZip, paired, not_paired, IsListed, IsClosing, alone, behind_comma, IsArguments, IsTerm, IsTail, IsLevel, IsExpr, a_text, a_number, a_truth, a_falsehood, a_name, a_key, in_parentheses, a_flag, an_output, an_expand, of_checkpoint, a_list, one_term, a_sum, IsItem, positional, named, IsLast, nothing, a_comma, IsItems, one_item, more_items}

@@ -6,6 +6,9 @@ ghost use Rattle.smk_lex.specs.Layout.{lexed};
 ghost use Rattle.smk_print.specs.Texts.{IsSpelt};
 ghost use Rattle.smk_print.specs.Lines.{Line, AreLines, written, tokens_of};
 ghost use Rattle.smk_print.specs.Rows.{Row, AreRows, ReadsBack};
+ghost use Rattle.smk_print.specs.Print.{printed_bytes};
+ghost use Rattle.smk_print.specs.Aside.{IsParsed, ReadsAs};
+ghost use Rattle.smk_tree.specs.declared.syntax.Syntax.{Syntax as Whole};
 
 /// What is spelled of a text reads back as that text.
 pub fn texts_read_back()
@@ -20,4 +23,9 @@ pub fn lines_read_back()
 /// Rows of symbols that are written one below the other read back as these symbols.
 pub fn rows_read_back()
     ensures { (rs : List Row) → AreRows 0 rs → ReadsBack rs }
+{}
+
+/// What is printed of a syntax that some file has is a file that lexes and parses to the same syntax, lines aside.
+pub fn files_read_back()
+    ensures { (x : Whole) → IsParsed x → ReadsAs x (printed_bytes x) }
 {}

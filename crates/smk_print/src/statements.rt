@@ -3,6 +3,7 @@
 ghost use Rattle.std.specs.Prelude.{◌≡◌, ◌++◌, ◌∷◌, [], map, codes, IfOk, OnOk};
 ghost use Rattle.smk_expr.specs.Printing as print;
 ghost use Rattle.smk_expr.specs.declared.symbol.Symbol.TheVariants as s;
+ghost use Rattle.smk_print.specs.Aside.{IsParsed, ReadsAs};
 ghost use Rattle.smk_print.specs.Print as rows;
 ghost use Rattle.smk_print.specs.Rows.{bytes_of};
 ghost use Rattle.smk_print.specs.Writing.{spaced};
@@ -176,7 +177,10 @@ fn statements(alloc: Global, out: &mut Vec<u8>, all: &[Statement]) -> Result<(),
 /// lexemes, texts between double quotes. It lexes and parses to the same syntax, but for the numbers of lines. `OutOfMemory`
 /// where there is no memory for it.
 pub fn print(alloc: Global, syntax: &Syntax) -> Result<Bytes, OutOfMemory>
-    ensures { IfOk result (λ bytes. bytes ≡ rows.printed_bytes syntax.now) }
+    ensures exact { IfOk result (λ bytes. bytes ≡ rows.printed_bytes syntax.now) }
+
+    // It reads back, where the syntax is one that `parse` answers.
+    ensures reads_back { IfOk result (λ bytes. IsParsed syntax.now → ReadsAs syntax.now bytes) }
 {
     let mut out = Vec::new(alloc);
     statements(alloc, &mut out, syntax.statements.as_slice())?;
