@@ -1,9 +1,9 @@
 //! Syntax and faults as plain lines.
 
+use smk_base::Text;
 use smk_lex::LexFault;
 use smk_parse::{Lines, ParseFault};
 use smk_tree::{DirectiveForm, ExpandForm, Expr, Form, ItemForm, OutputPick, Statement, Syntax};
-use smk_base::Text;
 use std::alloc::AllocError;
 use std::str;
 
@@ -161,7 +161,11 @@ fn form(text: &mut String, form: &Form) -> Result<(), AllocError> {
             expr(text, value)
         }
         Form::Rule(rule) => {
-            text.push_str(if rule.checkpoint { "checkpoint " } else { "rule " })?;
+            text.push_str(if rule.checkpoint {
+                "checkpoint "
+            } else {
+                "rule "
+            })?;
             text.push_str(rule.name.as_str())?;
             directives(text, rule.directives.as_slice())
         }
@@ -211,7 +215,10 @@ pub fn syntax(text: &mut String, syntax: &Syntax) -> Result<(), AllocError> {
 fn word_at(source: &[u8], at: u64) -> &str {
     let start = (at as usize).min(source.len());
     let rest = &source[start..];
-    let len = match rest.iter().position(|b| !b.is_ascii_alphanumeric() && *b != b'_') {
+    let len = match rest
+        .iter()
+        .position(|b| !b.is_ascii_alphanumeric() && *b != b'_')
+    {
         Some(len) => len,
         None => rest.len(),
     };

@@ -1,17 +1,20 @@
 -- What holds of each token holds of those that are kept, and a source that has tokens is text.
-use Rattle.std.proofs.Common.{◌≡◌, ℕ, Bool, true, false, cond, List, [], ◌∷◌, ◌++◌, Result, Ok, Err, nat_lt, refl, arith}
+use Rattle.std.proofs.Common.{◌≡◌, ℕ, Bool, true, false, cond, List, [], ◌∷◌, ◌++◌, Result, Ok, Err, nat_lt, refl, sym, ap, ◌∙◌, arith}
+use Rattle.std.specs.Prelude.{not}
 use Rattle.std.specs.List.{All}
 use Rattle.std.specs.Str.{is_utf8}
 use Rattle.std.specs.Str.Lossy.{utf8_valid_len}
-use Rattle.std.proofs.lemmas.List.Elements.{All-append, All-cons, All-head, All-tail}
+use Rattle.std.proofs.lemmas.List.Elements.{All-append, All-cons, All-head, All-tail, filter-append}
+use Rattle.smk_lex.specs.declared.token.TokenKind.{TokenKind}
+use Rattle.smk_lex.specs.declared.token.TokenKind.TheVariants as kind
 use Rattle.smk_lex.specs.declared.token.Token.{Token}
 use Rattle.smk_lex.specs.declared.token.LexFault.{LexFault}
 use Rattle.smk_lex.specs.declared.token.LexFault.TheVariants.{BadByte}
 use Rattle.smk_lex.specs.Pieces.{Bytes}
 use Rattle.smk_lex.specs.Layout.{lexed, of_bytes, up_to, place_of}
 use Rattle.smk_parse.specs.declared.entries.Place.{Place}
-use Rattle.smk_parse.specs.declared.entries.Place.TheVariants.{Start}
-use Rattle.smk_parse.specs.Entries.{joined, joined_from, kept, step}
+use Rattle.smk_parse.specs.declared.entries.Place.TheVariants.{Start, Line, Entry}
+use Rattle.smk_parse.specs.Entries.{joined, joined_from, kept, step, is_layout, lexemes}
 
 all_none : {X : Type 0} (P : X → Type 0) → All P []
 all_none P = λ k d h. absurd (omega arith)
@@ -49,3 +52,41 @@ text_by false source r ts e = absurd (never_ok (utf8_valid_len source) r ts e)
 pub lexed_is_text : (source : Bytes) (ts : List Token) → lexed source ≡ Ok ts → is_utf8 source ≡ true
 unfolding lexed
 lexed_is_text source ts e = text_by (is_utf8 source) source (of_bytes source) ts e
+
+-- only layout is left out
+dropped : (source : Bytes) (place : Place) (k : TokenKind) (ts : List Token) → (step source place k ts).0 ≡ false → is_layout k ≡ true
+dropped source place kind.Newline ts h = refl
+dropped source place kind.Indent ts h = refl
+dropped source place kind.Dedent ts h = refl
+dropped source (Start depth) kind.Name ts h = absurd cc
+dropped source (Start depth) kind.Number ts h = absurd cc
+dropped source (Start depth) kind.Spelling ts h = absurd cc
+dropped source (Start depth) kind.Text ts h = absurd cc
+dropped source (Start depth) kind.Sign ts h = absurd cc
+dropped source Line kind.Name ts h = absurd cc
+dropped source Line kind.Number ts h = absurd cc
+dropped source Line kind.Spelling ts h = absurd cc
+dropped source Line kind.Text ts h = absurd cc
+dropped source Line kind.Sign ts h = absurd cc
+dropped source (Entry depth) kind.Name ts h = absurd cc
+dropped source (Entry depth) kind.Number ts h = absurd cc
+dropped source (Entry depth) kind.Spelling ts h = absurd cc
+dropped source (Entry depth) kind.Text ts h = absurd cc
+dropped source (Entry depth) kind.Sign ts h = absurd cc
+
+lexemes-kept : (b : Bool) (t : Token) → (b ≡ false → is_layout t.kind ≡ true) → lexemes (kept b t) ≡ lexemes (t ∷ [])
+lexemes-kept true t h = refl
+lexemes-kept false t h = sym (ap (λ l. cond (not l) (t ∷ []) []) (h refl))
+
+lexemes-joined_from : (source : Bytes) (place : Place) (ts : List Token) → lexemes (joined_from source place ts) ≡ lexemes ts
+lexemes-joined_from source place [] = refl
+lexemes-joined_from source place (t ∷ ts) =
+    let now = step source place t.kind ts in
+    filter-append (λ v. not (is_layout v.kind)) (kept now.0 t) (joined_from source now.1 ts)
+    ∙ ap (λ (v : List Token). v ++ lexemes (joined_from source now.1 ts)) (lexemes-kept now.0 t (dropped source place t.kind ts))
+    ∙ ap (λ (v : List Token). lexemes (t ∷ []) ++ v) (lexemes-joined_from source now.1 ts)
+    ∙ sym (filter-append (λ v. not (is_layout v.kind)) (t ∷ []) ts)
+
+pub lexemes-joined : (source : Bytes) (ts : List Token) → lexemes (joined source ts) ≡ lexemes ts
+unfolding joined
+lexemes-joined source ts = lexemes-joined_from source (Start 0) ts

@@ -3,3 +3,4 @@ pub mod Turns
 pub mod Kept
 pub mod FoundFile
 pub mod OnlyFile
+pub mod Answered
