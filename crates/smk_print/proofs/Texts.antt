@@ -13,7 +13,7 @@ use lib.Utf8.{encode, encodes, scalar, scalars}
 use Rattle.smk_lex.specs.Pieces.{Bytes}
 use Rattle.smk_lex.specs.Spelling.{escape, escaped, quoted}
 use Rattle.smk_lex.proofs.Quoted.{Escapes, a_quote, a_backslash, a_feed, a_return, itself, escapes, cut-quoted, value-quoted}
-use Rattle.smk_print.specs.Texts.{IsSpelt}
+use Rattle.smk_print.specs.Texts.{IsSpelled}
 
 -- ---- on one line
 
@@ -94,7 +94,7 @@ quoted-utf8 t (cs, (all, e)) =
     let quote : IsUtf8 (34 ∷ []) = IsUtf8-from_ascii (34 ∷ []) (ascii-one 34 (omega arith)) in
     IsUtf8-append (34 ∷ []) (escaped t ++ 34 ∷ []) quote (IsUtf8-append (escaped t) (34 ∷ []) inside quote)
 
-pub spelt : (t : Bytes) → IsSpelt t
+pub spelt : (t : Bytes) → IsSpelled t
 spelt t = record {
   value = value-quoted t;
   lexeme = λ x rest other. cut-quoted t x rest (ne_eqb x 34 other);

@@ -8,13 +8,13 @@ use Rattle.smk_lex.specs.Pieces.{Bytes, cut}
 use Rattle.smk_lex.specs.Spelling.{text_value, quoted}
 
 -- no byte of a line end
-abbrev pub on_one_line : Bytes → Type 0
-on_one_line w = list_all (λ b. not (b == 10 || b == 13)) w ≡ true
+abbrev pub IsOnOneLine : Bytes → Type 0
+IsOnOneLine w = list_all (λ b. not (b == 10 || b == 13)) w ≡ true
 
 -- The spelling stands for the text, and is one lexeme, whatever follows but a quote. It stands on one line, and is UTF-8 where
 -- the text is.
-pub record IsSpelt (t : Bytes) : Type 0 where
+pub record IsSpelled (t : Bytes) : Type 0 where
   pub value : text_value (quoted t) ≡ t
   pub lexeme : (x : ℕ) (rest : Bytes) → x ≢ 34 → cut (quoted t ++ x ∷ rest) ≡ Lexeme kind.Text (length (quoted t))
-  pub line : on_one_line (quoted t)
+  pub line : IsOnOneLine (quoted t)
   pub utf8 : IsUtf8 t → IsUtf8 (quoted t)

@@ -3,7 +3,7 @@
 ghost use Rattle.std.specs.Prelude.{◌≡◌, List, Ok};
 ghost use Rattle.smk_lex.specs.Pieces.{Bytes};
 ghost use Rattle.smk_lex.specs.Layout.{lexed};
-ghost use Rattle.smk_print.specs.Texts.{IsSpelt};
+ghost use Rattle.smk_print.specs.Texts.{IsSpelled};
 ghost use Rattle.smk_print.specs.Lines.{Line, AreLines, written, tokens_of};
 ghost use Rattle.smk_print.specs.Rows.{Row, AreRows, ReadsBack};
 ghost use Rattle.smk_print.specs.Print.{printed_bytes};
@@ -12,7 +12,7 @@ ghost use Rattle.smk_tree.specs.declared.syntax.Syntax.{Syntax as Whole};
 
 /// What is spelled of a text reads back as that text.
 pub fn texts_read_back()
-    ensures { (t : Bytes) → IsSpelt t }
+    ensures { (t : Bytes) → IsSpelled t }
 {}
 
 /// The lexemes of lines that are written one below the other are the tokens of what is written.
