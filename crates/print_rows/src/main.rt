@@ -35,12 +35,12 @@ fn printed(alloc: Global, source: &[u8]) -> Result<Option<Bytes>, AllocError> {
     }
 }
 
-/// What is printed of what is printed of a source, and whether both are the same.
-fn again(alloc: Global, first: &Bytes) -> Result<&'static str, AllocError> {
-    Ok(match printed(alloc, first.as_slice())? {
-        Some(second) if second.as_slice() == first.as_slice() => "the same again",
-        _ => "another text",
-    })
+/// Whether what is printed of these bytes is these bytes.
+fn is_printed(alloc: Global, bytes: &[u8]) -> Result<bool, AllocError> {
+    match printed(alloc, bytes)? {
+        Some(again) => Ok(again.as_slice() == bytes),
+        None => Ok(false),
+    }
 }
 
 fn main(rt: HostRuntime) -> io::Result<()> {
@@ -53,8 +53,12 @@ fn main(rt: HostRuntime) -> io::Result<()> {
         match printed(alloc, source)? {
             Some(bytes) => {
                 let text = str::from_utf8(bytes.as_slice()).unwrap_or("?");
-                let second = again(alloc, &bytes)?;
-                println!(rt; "== {name}\n{text}-- {second}")?;
+                let told = if is_printed(alloc, bytes.as_slice())? {
+                    "the same again"
+                } else {
+                    "another text"
+                };
+                println!(rt; "== {name}\n{text}-- {told}")?;
             }
             None => println!(rt; "== {name}\n-- no syntax")?,
         }
