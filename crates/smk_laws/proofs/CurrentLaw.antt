@@ -27,7 +27,7 @@ find_either test (x ∷ xs) ys z h = go (test x) h (find_either test xs ys z)
     go true k ih = inl k
     go false k ih = ih k
 
-listing_either : (L M : Listings) (f : Path) (files : List Path) → listing (L ++ M) f ≡ Some files → (listing L f ≡ Some files) ⊎ (listing M f ≡ Some files)
+pub listing_either : (L M : Listings) (f : Path) (files : List Path) → listing (L ++ M) f ≡ Some files → (listing L f ≡ Some files) ⊎ (listing M f ≡ Some files)
 listing_either L M f files e =
     let r = mapped (λ (k : Known). k.files) (find (λ (k : Known). bytes_eq k.folder f) (L ++ M)) files e in
     go r.0 r.2 (find_either (λ (k : Known). bytes_eq k.folder f) L M r.0 r.1)

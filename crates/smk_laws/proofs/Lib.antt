@@ -28,3 +28,4 @@ pub mod CurrentStamps
 pub mod PlanOrder
 pub mod PlanStates
 pub mod PlanOne
+pub mod MoreListings

@@ -49,7 +49,7 @@ module _ (all : List Job) where
       shift x (inl (inr l)) = inl l
       shift x (inr l) = inr (inr l)
 
-  served_at :
+  pub served_at :
       (seen before : List Job) (k : Job) (after : List Job) → InOrder all seen (before ++ k ∷ after) →
       (s : List Job) × ((x : Job) → In x s → In x seen ⊎ In x before) × Served all s k
   served_at seen [] k after h = (seen, λ x i. inl i, h.0)
@@ -67,7 +67,7 @@ twice (b ∷ before) k after p h (inl e) o =
     (h.0 k p p (in_right k before (k ∷ after) (inl refl)) (subst (λ (x : Job). In p (out_paths x.recipe)) e o) o)
 twice (b ∷ before) k after p h (inr i) o = twice before k after p h.2 i o
 
-pair_first : (a b : Job × State) → Some a ≡ Some b → a.0 ≡ b.0
+pub pair_first : (a b : Job × State) → Some a ≡ Some b → a.0 ≡ b.0
 pair_first a b e = ap (λ (x : Job × State). x.0) (some_inj a b e)
 
 module _ (image : Image) (settings : Settings) (progress : Progress) (L : Listings) (js : List Job) (apart : JobsApart js) (order : InOrder js [] js) where
@@ -244,7 +244,7 @@ module _ (flow : Flow) (image : Image) (L : Listings) (targets : List Path) (js 
   abbrev walked : List Candidate
   walked = flat_map (walk flow srcs L 200) targets
 
-  derived : (refusals flow srcs image L targets ≡ []) × (jobs flow srcs L targets ≡ js)
+  pub derived : (refusals flow srcs image L targets ≡ []) × (jobs flow srcs L targets ≡ js)
   derived = outcome_derived (refusals flow srcs image L targets) (jobs flow srcs L targets) js is
 
   abbrev early : List Refusal

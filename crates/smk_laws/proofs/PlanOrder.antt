@@ -74,7 +74,7 @@ module _ (flow : Flow) (srcs : Sources) (L : Listings) where
   flat_ordered f seen (w ∷ ws) h =
       ordered_append seen (f w) (flat_map f ws) (h w (inl refl) seen) (λ s m n. flat_ordered f s ws (λ v i. h v (inr i)))
 
-  own_walked :
+  pub own_walked :
       (all : List Candidate) (n : ℕ) (p : Path) (c : Candidate) → Reached flow srcs L all n p → choose flow srcs p ≡ Make c → In c (walk flow srcs L n p)
   own_walked all zero p c r e = absurd (reached_zero flow srcs L all p c r e)
   own_walked all (suc n) p c r e =

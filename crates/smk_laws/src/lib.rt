@@ -5,7 +5,7 @@ ghost use Rattle.smk_pattern.specs.Bound.{BoundFills};
 ghost use Rattle.smk_laws.specs.AtExit.{CurrentAtExitIsClean};
 ghost use Rattle.smk_laws.specs.Choices.{SameChoice, StaysAvailable};
 ghost use Rattle.smk_laws.specs.Current.{CurrentMeansClean, CurrentMeansCleanInWorlds, SeenIsComplete};
-ghost use Rattle.smk_laws.specs.Plans.{HasPlan, OneLastPlan, OnePlan};
+ghost use Rattle.smk_laws.specs.Plans.{HasPlan, InputsComeFirst, KeepsJobs, KeepsUnopened, OneLastPlan, OnePlan};
 ghost use Rattle.smk_laws.specs.Stamps.{StampTells};
 
 /// The law that what a plan calls current is clean: in a sound folder a target that is current by the last plan holds what a clean
@@ -28,6 +28,14 @@ pub fn choice_is_settled()
 /// In a sound folder a source whose time agrees with a recorded one has the bytes that it had then.
 pub fn stamps_tell()
     ensures { StampTells }
+{}
+
+/// In a plan each job comes after the jobs of its inputs. With more listings its jobs go on, and those that aren't Open stay as
+/// they are.
+pub fn jobs_stay()
+    ensures order { InputsComeFirst }
+    ensures go_on { KeepsJobs }
+    ensures stay { KeepsUnopened }
 {}
 
 /// In a complete image there is exactly one plan for listings with which jobs are derived: its table of states has one solution,
