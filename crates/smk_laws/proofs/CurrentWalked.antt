@@ -18,7 +18,7 @@ numbered_above [] n k a h = absurd h
 numbered_above (x ∷ xs) n k a (inl e) = let s : k ≡ n = ap (λ w. w.0) e in omega arith
 numbered_above (x ∷ xs) n k a (inr h) = let s = numbered_above xs (n + 1) k a h in omega arith
 
-numbered_once : {A : Type 0} (xs : List A) (n k : ℕ) (a b : A) → In (k, a) (enumerate_from n xs) → In (k, b) (enumerate_from n xs) → a ≡ b
+pub numbered_once : {A : Type 0} (xs : List A) (n k : ℕ) (a b : A) → In (k, a) (enumerate_from n xs) → In (k, b) (enumerate_from n xs) → a ≡ b
 numbered_once [] n k a b h i = absurd h
 numbered_once (x ∷ xs) n k a b (inl e) (inl f) = ap (λ w. w.1) e ∙ sym (ap (λ w. w.1) f)
 numbered_once (x ∷ xs) n k a b (inl e) (inr i) = absurd (let s : k ≡ n = ap (λ w. w.0) e in let t = numbered_above xs (n + 1) k b i in omega arith)

@@ -29,3 +29,4 @@ pub mod PlanOrder
 pub mod PlanStates
 pub mod PlanOne
 pub mod MoreListings
+pub mod ChoiceOne

@@ -3,7 +3,7 @@
 
 ghost use Rattle.smk_pattern.specs.Bound.{BoundFills};
 ghost use Rattle.smk_laws.specs.AtExit.{CurrentAtExitIsClean};
-ghost use Rattle.smk_laws.specs.Choices.{SameChoice, StaysAvailable};
+ghost use Rattle.smk_laws.specs.Choices.{OneChoice, SameChoice, StaysAvailable};
 ghost use Rattle.smk_laws.specs.Current.{CurrentMeansClean, CurrentMeansCleanInWorlds, SeenIsComplete};
 ghost use Rattle.smk_laws.specs.Plans.{HasPlan, InputsComeFirst, KeepsJobs, KeepsUnopened, OneLastPlan, OnePlan};
 ghost use Rattle.smk_laws.specs.Stamps.{StampTells};
@@ -19,10 +19,11 @@ pub fn current_is_clean()
     ensures fills { BoundFills }
 {}
 
-/// Laws of choice: what is available stays so at a greater depth, and choice looks at no content.
+/// Laws of choice: what is available stays so at a greater depth, choice looks at no content, and a path has one choice.
 pub fn choice_is_settled()
     ensures deeper { StaysAvailable }
     ensures same { SameChoice }
+    ensures one { OneChoice }
 {}
 
 /// In a sound folder a source whose time agrees with a recorded one has the bytes that it had then.
