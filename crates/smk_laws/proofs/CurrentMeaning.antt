@@ -20,13 +20,15 @@ use Rattle.smk_store.specs.Trust.{Versions, holder, stamp_now, time_stamp, made_
 use Rattle.smk_chain.specs.Derive.{Listings, listing, or_none, job, recipe, wants, walk, sources_of}
 use Rattle.smk_chain.specs.Mean.{Setting, setting_of, mean, listings_of, is_runnable}
 use Rattle.smk_pick.specs.declared.settings.Settings.{Settings}
-use Rattle.smk_plan.specs.States.{Plan, Progress, is_ready, is_current}
+use Rattle.smk_plan.specs.States.{Plan, Progress, files_listed, is_ready, is_current}
+use Rattle.smk_laws.specs.Current.{IsRight}
 use Rattle.smk_laws.proofs.CurrentLists.{In, and_left, and_right, and_both, or_cases, all_from, none_some, zip_first}
 use Rattle.smk_laws.proofs.CurrentReach.{reached_zero, reached_step, choice_known, has_command, want_path}
 use Rattle.smk_laws.proofs.CurrentRecipes.{recipe_same, job_same, wants_same, inputs_wanted, folders_wanted}
+use Rattle.smk_laws.proofs.CurrentDepths.{mean_one}
 use Rattle.smk_laws.proofs.CurrentValues.{inputs_same, value_given, listings_agree, mean_source, mean_make, vir_make}
 use Rattle.smk_laws.proofs.CurrentChosen.{chosen_viable}
-use Rattle.smk_laws.proofs.CurrentProducts.{Rested, Quiet, Product, ReachedHere, quiet_product, quiet_input, quiet_folder, ready_whole, listed, source_listed, in_plan, ready_quiet, target_reached, some_of, file_tree, core_reads, each_stamped}
+use Rattle.smk_laws.proofs.CurrentProducts.{Rested, Quiet, Product, ReachedHere, quiet_product, quiet_input, quiet_folder, ready_whole, known, listed, source_listed, in_plan, ready_quiet, target_reached, some_of, file_tree, core_reads, each_stamped}
 
 pub contains_from : {A : Type 0} (xs : List A) (x : A) → In x xs → Contains xs x
 contains_from [] x h = absurd h
@@ -250,19 +252,36 @@ module _
       let comes = reached_step flow (sources_of image) plan.lists all_walked n p c f reached e (folders_wanted flow c plan.lists f inn) in
       go comes (choice_known flow (sources_of image) plan.lists n f comes.calm)
     where
+      right : (files : List Path) → listing plan.lists f ≡ Some files → IsRight S image f files
+      right files k =
+          rest.lists (job flow plan.lists c) f files (in_plan flow act has_fields image H settings progress plan fills rest n p c reached e) quiet.shut inn k
+
+      source_files : is_source image f ≡ true → (g : Content) → mean S n f ≡ Some (File g.bytes) → (o : Option (List Path)) → listing plan.lists f ≡ o → [] ≡ or_none o
+      source_files is g m None k = refl
+      source_files is g m (Some files) k = sym (pick (right files k))
+        where
+          pick : IsRight S image f files → files ≡ []
+          pick (inl s) = s ∙ source_listed flow act has_fields image H settings progress plan fills rest f is
+          pick (inr v) = v.2 ∙ ap files_of (mean_one S 200 n f v.0 (File g.bytes) v.1 m)
+
       go : Comes n f → (choose flow (sources_of image) f ≡ Source) ⊎ ((d : Candidate) × (choose flow (sources_of image) f ≡ Make d)) → (t : Tree) × (mean S n f ≡ Some t) × (files_of t ≡ or_none (listing plan.lists f))
       go comes (inl s) =
           let is = source_chosen flow (sources_of image) f s in
           let g = source_file image f is in
-          (File g.0.bytes, source_means n f g.0 is g.1, sym (source_listed flow act has_fields image H settings progress plan fills rest f is))
+          let m = source_means n f g.0 is g.1 in
+          (File g.0.bytes, m, source_files is g.0 m (listing plan.lists f) refl)
       go comes (inr d) =
           let calm = quiet_folder flow act has_fields image H settings progress plan fills rest n p c f d.0 reached e quiet inn d.1 in
           let from = quiet_product flow act has_fields image H settings progress plan fills rest n f d.0 comes d.1 calm.0 in
-          let v = ready_value n f d.0 from.0 from.1 comes from.2 calm.0 calm.1 in (
-            v.1,
-            ih f d.0 from.0 from.1 comes from.2 calm.0 (suc (made_at (core_at image from.0))) v.0 v.1 v.3 v.4,
-            listed flow act has_fields image H settings progress plan fills rest n p c f d.0 from.0 from.1 v.1 quiet inn comes from.2 calm.1 v.2,
-          )
+          let v = ready_value n f d.0 from.0 from.1 comes from.2 calm.0 calm.1 in
+          let m = ih f d.0 from.0 from.1 comes from.2 calm.0 (suc (made_at (core_at image from.0))) v.0 v.1 v.3 v.4 in
+          let there = listed flow act has_fields image H settings progress plan fills rest n f d.0 from.0 from.1 v.1 comes from.2 calm.1 v.2 in
+          let k = known flow act has_fields image H settings progress plan fills rest c f quiet inn calm.1 in
+          (v.1, m, pick v.1 m there k.0 (right k.0 k.1) ∙ sym (ap or_none k.1))
+        where
+          pick : (t : Tree) → mean S n f ≡ Some t → files_of t ≡ files_listed image f → (files : List Path) → IsRight S image f files → files_of t ≡ files
+          pick t m there files (inl s) = there ∙ sym s
+          pick t m there files (inr v) = ap files_of (mean_one S n 200 f t v.0 m v.1) ∙ sym v.2
 
   mean_step :
       (n : ℕ) → Meant n → (q : Path) (c : Candidate) (h : Path) (r : Record) → Comes (suc n) q → Made_by c q h r → IsQuiet c →
@@ -301,7 +320,7 @@ module _
   abbrev pub Cleans : ℕ → Path → Type 0
   Cleans n p = (tree : Tree) × (tree_now image p ≡ Some tree) × (mean S n p ≡ Some tree)
 
-  source_clean : (n : ℕ) (p : Path) → is_source image p ≡ true → Cleans n p
+  pub source_clean : (n : ℕ) (p : Path) → is_source image p ≡ true → Cleans n p
   source_clean n p is = let f = source_file image p is in (File f.0.bytes, file_tree image p f.0 f.1, source_means n p f.0 is f.1)
 
   pub ready_clean : (n : ℕ) (p : Path) → Comes (suc n) p → IsTrue (is_ready image settings progress plan p) → Cleans (suc n) p

@@ -34,8 +34,9 @@ use Rattle.smk_trigger.specs.declared.reason.State.TheVariants.{Open, Dirty, Res
 use Rattle.smk_trigger.specs.JobStates.{is_open, is_dirty, is_clean}
 use Rattle.smk_trigger.specs.Reasons.{once}
 use Rattle.smk_pick.specs.declared.settings.Settings.{Settings}
-use Rattle.smk_plan.specs.States.{Plan, Progress, IsPlan, AreListed, reasons, is_open_now, is_ready, maker_of, state_of, by_table, by_reasons, or_state, job_path, makes, made_by, is_whole_by, stands_whole, awaits, is_at_hand, test_some}
-use Rattle.smk_laws.specs.Current.{IsComplete, HasValidRecords}
+use Rattle.smk_plan.specs.States.{Plan, Progress, IsPlan, files_listed, gathers_from, reasons, is_open_now, is_ready, maker_of, state_of, by_table, by_reasons, or_state, job_path, makes, made_by, is_whole_by, stands_whole, awaits, is_at_hand, test_some}
+use Rattle.smk_chain.specs.Mean.{setting_of}
+use Rattle.smk_laws.specs.Current.{IsComplete, HasValidRecords, IsRight}
 use Rattle.smk_laws.proofs.CurrentLists.{In, append_nil_left, append_nil_right, map_nil, filter_nil, filter_in, any_none, in_left, find_some, or_first, or_second, or_left, or_right, and_left, and_right, not_false, not_true, in_distinct, in_map, zip_first, find_in, clash_of, some_inj, none_some}
 use Rattle.smk_laws.proofs.CurrentReach.{Reached, reached_zero, reached_own, reached_step, reached_target, outcome_derived}
 use Rattle.smk_laws.proofs.CurrentRecipes.{inputs_wanted, folders_wanted}
@@ -102,7 +103,9 @@ pub record Rested
   pub sound : Sound act H image none_eased
   pub complete : IsComplete image
   pub valid : HasValidRecords image
-  pub lists : AreListed image plan.lists
+  pub lists :
+      (j : Job) (f : Path) (files : List Path) → In j plan.jobs → is_open_now image settings progress plan j ≡ false → In f (gathers_from j) →
+      listing plan.lists f ≡ Some files → IsRight (setting_of flow act has_fields image) image f files
   pub derived : IsPlan flow image settings progress plan
   pub rest : progress.running ≡ []
   pub fields : (j : Job) → Contains plan.jobs j → is_open_now image settings progress plan j ≡ false → has_fields j ≡ true
@@ -464,24 +467,29 @@ module _
               ),
             )
 
-    -- E: the listing with which the plan was derived is that of what stands there
-    pub listed :
-        (n : ℕ) (p : Path) (c : Candidate) (q : Path) (d : Candidate) (h : Path) (r : Record) (t : Tree) →
-        Quiet c → In q (gathered_folders flow c) → ReachedHere n q → Product d q h r → IsTrue (is_ready image settings progress plan q) →
-        tree_now image q ≡ Some t → files_of t ≡ or_none (listing plan.lists q)
-    listed n p c q d h r t quiet inn reached made ready now =
+    -- E: the listing of a directory that a quiet job gathers from is known where it is ready
+    pub known :
+        (c : Candidate) (q : Path) → Quiet c → In q (gathered_folders flow c) → IsTrue (is_ready image settings progress plan q) →
+        (files : List Path) × (listing plan.lists q ≡ Some files)
+    known c q quiet inn ready =
         let missing = any_none (λ d. is_ready image settings progress plan d && is_none (listing plan.lists d)) (gathered_folders flow c) q (or_left _ _ (or_right _ _ quiet.shut)) inn in
-        standing made.place ((ready_parts n q d reached made.chosen ready).1)
-        ∙ known (listing plan.lists q) refl (or_right_of (is_ready image settings progress plan q) (is_none (listing plan.lists q)) ready missing)
+        go (listing plan.lists q) (or_right_of (is_ready image settings progress plan q) (is_none (listing plan.lists q)) ready missing)
       where
         or_right_of : (a b : Bool) → a ≡ true → (a && b) ≡ false → b ≡ false
         or_right_of true b x y = y
         or_right_of false b x y = absurd (true≢false (sym x))
 
-        known : (o : Option (List Path)) → listing plan.lists q ≡ o → is_none o ≡ false → names_of (members_of (record_at image q)) ≡ or_none o
-        known None e k = absurd (true≢false k)
-        known (Some files) e k = sym (rest.lists q files e)
+        go : (o : Option (List Path)) → is_none o ≡ false → (files : List Path) × (o ≡ Some files)
+        go None k = absurd (true≢false k)
+        go (Some files) k = (files, refl)
 
+    -- what stands at a product that is ready has the files of its record
+    pub listed :
+        (n : ℕ) (q : Path) (d : Candidate) (h : Path) (r : Record) (t : Tree) →
+        ReachedHere n q → Product d q h r → IsTrue (is_ready image settings progress plan q) →
+        tree_now image q ≡ Some t → files_of t ≡ files_listed image q
+    listed n q d h r t reached made ready now = standing made.place ((ready_parts n q d reached made.chosen ready).1)
+      where
         file_names : is_file image q ≡ true → files_of t ≡ []
         file_names f = let g = some_of (file_at image q) f in sym (ap files_of (some_inj (File g.0.bytes) t (sym (file_tree image q g.0 g.1) ∙ now)))
 
@@ -506,9 +514,9 @@ module _
             file_names (and_right (is_whole image h FolderKind) (is_file image q) w)
             ∙ sym (ap (λ o. names_of (members_of o)) (member_unrecorded d h q (in_plan_here n q d reached made.chosen) made.is_output u.0))
 
-    -- the listing of a source is empty
-    pub source_listed : (q : Path) → is_source image q ≡ true → or_none (listing plan.lists q) ≡ []
-    source_listed q h = go (listing plan.lists q) refl
+    -- no files are listed of a source
+    pub source_listed : (q : Path) → is_source image q ≡ true → files_listed image q ≡ []
+    source_listed q h = ap (λ o. names_of (members_of o)) (unrecorded (record_at image q) refl)
       where
         uncovered : is_known image q ≡ false
         uncovered = or_left _ _ (not_true (is_covered image q) (and_right (is_file image q) _ (and_right (is_path_text q) _ h)))
@@ -516,7 +524,3 @@ module _
         unrecorded : (o : Option Record) → record_at image q ≡ o → o ≡ None
         unrecorded None e = refl
         unrecorded (Some r) e = absurd (clash_of (stands (image.kept q)) ((record_stands image rest.complete q r e).0) (or_left _ _ uncovered))
-
-        go : (o : Option (List Path)) → listing plan.lists q ≡ o → or_none o ≡ []
-        go None e = refl
-        go (Some files) e = rest.lists q files e ∙ ap (λ o. names_of (members_of o)) (unrecorded (record_at image q) refl)

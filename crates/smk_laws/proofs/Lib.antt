@@ -21,6 +21,8 @@ pub mod CurrentMeaning
 pub mod CurrentLaw
 pub mod CurrentChoices
 pub mod CurrentNeeded
+pub mod CurrentDepths
+pub mod CurrentReads
 pub mod Finite
 mod Copied
 pub mod CurrentAtExit

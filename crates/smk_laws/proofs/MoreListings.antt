@@ -32,7 +32,7 @@ use Rattle.smk_laws.proofs.CurrentWalked.{walked_job}
 use Rattle.smk_laws.proofs.CurrentApart.{maker_found}
 use Rattle.smk_laws.proofs.CurrentLaw.{listing_either}
 use Rattle.smk_laws.proofs.CurrentMeaning.{contains_from, in_from, source_chosen}
-use Rattle.smk_laws.proofs.PlanOrder.{Within, InOrder, own_walked}
+use Rattle.smk_laws.proofs.PlanOrder.{Within, InOrder, own_walked, walked_reached}
 use Rattle.smk_laws.proofs.PlanStates.{all_clean}
 use Rattle.smk_laws.proofs.PlanOne.{served_at, pair_first, derived_apart, derived_order, derived_reached, chosen_makes, derived}
 
@@ -141,27 +141,6 @@ module _ (flow : Flow) (srcs : Sources) (L M : Listings) where
       go (Ambiguous a b) e k ih = absurd k
       go (Make d) e k ih = parts d e (in_either c (flat_map (walk flow srcs L n) (wants flow L d)) (d ∷ []) k) ih
 
-  -- a job of the walk is that of a path which the walk comes to
-  pub walked_reached :
-      (all : List Candidate) (n : ℕ) (p : Path) (c : Candidate) → Reached flow srcs L all n p → In c (walk flow srcs L n p) →
-      (m : ℕ) × (q : Path) × Reached flow srcs L all (suc m) q × (choose flow srcs q ≡ Make c)
-  walked_reached all zero p c r h = absurd h
-  walked_reached all (suc n) p c r h = go (choose flow srcs p) refl h (λ q s k. walked_reached all n q c s k)
-    where
-      last : (d : Candidate) → choose flow srcs p ≡ Make d → In c (d ∷ []) → (m : ℕ) × (q : Path) × Reached flow srcs L all (suc m) q × (choose flow srcs q ≡ Make c)
-      last d e (inl s) = (n, p, r, e ∙ ap Make (sym s))
-      last d e (inr k) = absurd k
-
-      parts : (d : Candidate) → choose flow srcs p ≡ Make d → In c (flat_map (walk flow srcs L n) (wants flow L d)) ⊎ In c (d ∷ []) → ((q : Path) → Reached flow srcs L all n q → In c (walk flow srcs L n q) → (m : ℕ) × (q : Path) × Reached flow srcs L all (suc m) q × (choose flow srcs q ≡ Make c)) → (m : ℕ) × (q : Path) × Reached flow srcs L all (suc m) q × (choose flow srcs q ≡ Make c)
-      parts d e (inl k) ih = let w = flat_in (walk flow srcs L n) (wants flow L d) c k in ih w.0 (reached_step flow srcs L all n p d w.0 r e w.1) w.2
-      parts d e (inr k) ih = last d e k
-
-      go : (ch : Choice) → choose flow srcs p ≡ ch → In c (walk_by flow srcs L n ch) → ((q : Path) → Reached flow srcs L all n q → In c (walk flow srcs L n q) → (m : ℕ) × (q : Path) × Reached flow srcs L all (suc m) q × (choose flow srcs q ≡ Make c)) → (m : ℕ) × (q : Path) × Reached flow srcs L all (suc m) q × (choose flow srcs q ≡ Make c)
-      go Source e k ih = absurd k
-      go (Nothing lack) e k ih = absurd k
-      go (Ambiguous a b) e k ih = absurd k
-      go (Make d) e k ih = parts d e (in_either c (flat_map (walk flow srcs L n) (wants flow L d)) (d ∷ []) k) ih
-
 -- no record stands at a source
 source_files : (image : Image) (f : Path) → is_source image f ≡ true → files_listed image f ≡ []
 source_files image f h = ap (λ o. map (λ (m : Member). m.name) (filter (λ (m : Member). not m.folder) (members_of o))) (unread (image.kept f) unkept)
@@ -203,7 +182,7 @@ module _
       let e = derived flow image (L ++ M) settings.targets later complete after in
       let c = map_in (job flow L) (distinct same_candidate walked) j (subst (In j) (sym d.1) h) in
       let t = flat_in (walk flow srcs L 200) settings.targets c.0 (distinct_in same_candidate walked c.0 c.1) in
-      let w = walked_reached flow srcs L M walked 200 t.0 c.0 (derived_reached flow image L settings.targets plan.jobs complete is.derived t.0 t.1) t.2 in
+      let w = walked_reached flow srcs L walked 200 t.0 c.0 (derived_reached flow image L settings.targets plan.jobs complete is.derived t.0 t.1) t.2 in
       record {
         from = c.0;
         left = w.0;

@@ -1,5 +1,5 @@
 -- In a plan the job of each input, and of each directory that is gathered from, comes before the jobs that want it.
-use Rattle.std.proofs.Common.{◌≡◌, ◌⊎◌, ℕ, zero, suc, Bool, true, false, not, cond, List, [], ◌∷◌, ◌++◌, map, filter, flat_map, refl, sym, ap, subst, inl, inr, ◌∙◌, Option, Some, None, is_some, true≢false}
+use Rattle.std.proofs.Common.{◌≡◌, ◌⊎◌, ℕ, zero, suc, ◌≤◌, arith, Bool, true, false, not, cond, List, [], ◌∷◌, ◌++◌, map, filter, flat_map, refl, sym, ap, subst, inl, inr, ◌∙◌, Option, Some, None, is_some, true≢false}
 use Rattle.smk_world.specs.declared.event.Node.{Node}
 use Rattle.smk_world.specs.declared.event.Node.TheVariants.{Regular, Directory}
 use Rattle.smk_world.specs.declared.recipe.Out.{Out}
@@ -13,12 +13,12 @@ use Rattle.smk_flow.specs.declared.rule.FlaggedText.{FlaggedText}
 use Rattle.smk_flow.specs.declared.rule.OutPart.{OutPart}
 use Rattle.smk_flow.specs.declared.job.Job.{Job}
 use Rattle.smk_flow.specs.Flows.{Flow, Candidate, outs, outputs, logs, gathered_folders}
-use Rattle.smk_choose.specs.Choose.{Sources, Choice, Source, Make, choose}
+use Rattle.smk_choose.specs.Choose.{Sources, Choice, Source, Make, Nothing, Ambiguous, choose}
 use Rattle.smk_store.specs.Images.{Image, Content, content_of, is_source, sources, holds_source}
 use Rattle.smk_chain.specs.Derive.{Listings, job, recipe, wants, walk, distinct, same_candidate, sources_of}
 use Rattle.smk_plan.specs.States.{makes, gathers_from}
 use Rattle.smk_laws.specs.Current.{IsComplete}
-use Rattle.smk_laws.proofs.CurrentLists.{In, in_left, in_right, in_flat, flat_in, in_map, map_in, in_filter, distinct_in, all_in, any_from, and_right, not_true, clash_of, none_some}
+use Rattle.smk_laws.proofs.CurrentLists.{In, in_left, in_right, in_either, in_flat, flat_in, in_map, map_in, in_filter, distinct_in, all_in, any_from, and_right, not_true, clash_of, none_some}
 use Rattle.smk_laws.proofs.CurrentPaths.{Touch, touch_overlaps, touch_turned, Above, among_in}
 use Rattle.smk_laws.proofs.CurrentReach.{Reached, reached_zero, reached_step, choice_known, walk_by, walk_make}
 use Rattle.smk_laws.proofs.CurrentRecipes.{inputs_wanted, folders_wanted}
@@ -104,6 +104,30 @@ module _ (flow : Flow) (srcs : Sources) (L : Listings) where
           (flat_ordered (walk flow srcs L n) seen (wants flow L c) (λ w i s. ih w s (reached_step flow srcs L all n p c w r e i)))
           (λ s m n. (last c e s n, tt)))
 
+  -- a job of the walk is that of a path which the walk comes to
+  pub walked_reached :
+      (all : List Candidate) (n : ℕ) (p : Path) (c : Candidate) → Reached flow srcs L all n p → In c (walk flow srcs L n p) →
+      (m : ℕ) × (q : Path) × Reached flow srcs L all (suc m) q × (choose flow srcs q ≡ Make c) × (suc m ≤ n)
+  walked_reached all zero p c r h = absurd h
+  walked_reached all (suc n) p c r h = go (choose flow srcs p) refl h (λ q s k. walked_reached all n q c s k)
+    where
+      last : (d : Candidate) → choose flow srcs p ≡ Make d → In c (d ∷ []) → (m : ℕ) × (q : Path) × Reached flow srcs L all (suc m) q × (choose flow srcs q ≡ Make c) × (suc m ≤ suc n)
+      last d e (inl s) = (n, p, r, e ∙ ap Make (sym s), omega arith)
+      last d e (inr k) = absurd k
+
+      parts : (d : Candidate) → choose flow srcs p ≡ Make d → In c (flat_map (walk flow srcs L n) (wants flow L d)) ⊎ In c (d ∷ []) → ((q : Path) → Reached flow srcs L all n q → In c (walk flow srcs L n q) → (m : ℕ) × (q : Path) × Reached flow srcs L all (suc m) q × (choose flow srcs q ≡ Make c) × (suc m ≤ n)) → (m : ℕ) × (q : Path) × Reached flow srcs L all (suc m) q × (choose flow srcs q ≡ Make c) × (suc m ≤ suc n)
+      parts d e (inl k) ih =
+          let w = flat_in (walk flow srcs L n) (wants flow L d) c k in
+          let r = ih w.0 (reached_step flow srcs L all n p d w.0 r e w.1) w.2 in
+          let b = r.4 in (r.0, r.1, r.2, r.3, omega arith)
+      parts d e (inr k) ih = last d e k
+
+      go : (ch : Choice) → choose flow srcs p ≡ ch → In c (walk_by flow srcs L n ch) → ((q : Path) → Reached flow srcs L all n q → In c (walk flow srcs L n q) → (m : ℕ) × (q : Path) × Reached flow srcs L all (suc m) q × (choose flow srcs q ≡ Make c) × (suc m ≤ n)) → (m : ℕ) × (q : Path) × Reached flow srcs L all (suc m) q × (choose flow srcs q ≡ Make c) × (suc m ≤ suc n)
+      go Source e k ih = absurd k
+      go (Nothing lack) e k ih = absurd k
+      go (Ambiguous a b) e k ih = absurd k
+      go (Make d) e k ih = parts d e (in_either c (flat_map (walk flow srcs L n) (wants flow L d)) (d ∷ []) k) ih
+
   filter_ordered :
       (x : Candidate) (seen ys : List Candidate) → In x seen → ((y : Candidate) → In y ys → same_candidate x y ≡ true → y ≡ x) →
       Ordered seen ys → Ordered seen (filter (λ y. not (same_candidate x y)) ys)
@@ -146,7 +170,7 @@ abbrev pub InOrder : List Job → List Job → List Job → Type 0
 InOrder all seen [] = Unit {0}
 InOrder all seen (k ∷ ks) = Served all seen k × InOrder all (k ∷ seen) ks
 
-some_node : (o : Option Node) (f : Content) → content_of o ≡ Some f → is_some o ≡ true
+pub some_node : (o : Option Node) (f : Content) → content_of o ≡ Some f → is_some o ≡ true
 some_node None f h = absurd (none_some None f refl h)
 some_node (Some Directory) f h = absurd (none_some None f refl h)
 some_node (Some (Regular bytes time read_only)) f h = refl

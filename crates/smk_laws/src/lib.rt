@@ -4,17 +4,20 @@
 ghost use Rattle.smk_pattern.specs.Bound.{BoundFills};
 ghost use Rattle.smk_laws.specs.AtExit.{CurrentAtExitIsClean};
 ghost use Rattle.smk_laws.specs.Choices.{OneChoice, SameChoice, StaysAvailable};
-ghost use Rattle.smk_laws.specs.Current.{CurrentMeansClean, CurrentMeansCleanInWorlds, SeenIsComplete};
+ghost use Rattle.smk_laws.specs.Current.{CurrentMeansClean, CurrentMeansCleanInWorlds, ReadsAreClean, SameValues, SeenIsComplete};
 ghost use Rattle.smk_laws.specs.Plans.{HasPlan, InputsComeFirst, KeepsJobs, KeepsUnopened, OneLastPlan, OnePlan};
 ghost use Rattle.smk_laws.specs.Stamps.{StampTells};
 
 /// The law that what a plan calls current is clean: in a sound folder a target that is current by the last plan holds what a clean
-/// run from the sources gives. A sound world gives what is asked of the folder, and at a run's exit a plan of which nothing is refused
-/// the rest. And a binding fills its pattern to its path.
+/// run from the sources gives, and so does all that a job of the plan reads. A sound world gives what is asked of the folder, and at
+/// a run's exit the plan in force the rest, where it isn't refused. What a clean run gives is a matter of the sources alone. And a
+/// binding fills its pattern to its path.
 pub fn current_is_clean()
     ensures clean { CurrentMeansClean }
+    ensures reads { ReadsAreClean }
     ensures in_worlds { CurrentMeansCleanInWorlds }
     ensures at_exit { CurrentAtExitIsClean }
+    ensures by_sources { SameValues }
     ensures complete { SeenIsComplete }
     ensures fills { BoundFills }
 {}
