@@ -1,5 +1,5 @@
 -- The law of current targets in the words of a run: a plan of which nothing is refused has all its commands' fields.
-use Rattle.std.proofs.Common.{◌≡◌, Bool, true, false, cond, List, [], ◌∷◌, ◌++◌, map, filter, flat_map, zip, refl, sym, ap, subst, ◌∙◌, Option, Some, None, option_map, is_none, true≢false, Contains}
+use Rattle.std.proofs.Common.{◌≡◌, Bool, true, false, cond, List, [], ◌∷◌, ◌++◌, map, filter, flat_map, zip, refl, sym, ap, subst, ◌∙◌, Option, Some, None, option_map, is_none, true≢false, Contains, IsTrue}
 use Rattle.std.specs.List.{find, list_any}
 use Rattle.std.specs.Prelude.{bytes_eq}
 use Rattle.smk_world.specs.declared.event.Child.{Child}
@@ -18,12 +18,21 @@ use Rattle.smk_trigger.specs.declared.reason.State.TheVariants.{Open}
 use Rattle.smk_trigger.specs.JobStates.{is_open}
 use Rattle.smk_plan.specs.States.{Plan, Progress, IsPlan, LastPlan, Last, Then, new_listings, is_open_now, state_of, by_table, by_reasons, or_state, job_path, staged, reasons}
 use Rattle.smk_report.specs.declared.fault.Fault.TheVariants as fault
-use Rattle.smk_drive.specs.Moments.{Rules, Moment, Begun, IsMoment, AtEntry, AtRest, Between, IsInForce, is_rest, seen, progress_of, is_child_of}
+use Rattle.smk_drive.specs.Moments.{Rules, Moment, Begun, IsMoment, AtEntry, AtRest as RestMoment, Between, IsInForce, is_rest, seen, progress_of, is_child_of}
 use Rattle.smk_drive.specs.Refusals.{ChainRefuses, PlanRefuses, NextRefuses, refused_of, incomplete, guarded, above_limit, ahead, of_command}
+use Rattle.smk_world.specs.World.{reading}
+use Rattle.smk_world.specs.Trees.{Act}
+use Rattle.smk_store.specs.Trust.{Versions}
+use Rattle.smk_store.specs.Soundness.{SoundWorld}
+use Rattle.smk_chain.specs.Mean.{setting_of}
+use Rattle.smk_drive.specs.Refusals.{PlansRefuse}
+use Rattle.smk_laws.specs.Current.{AtRest, GathersRight}
 use Rattle.smk_laws.specs.AtExit.{CurrentAtExitIsClean}
+use Rattle.smk_laws.proofs.CurrentComplete.{seen_is_complete}
+use Rattle.smk_laws.proofs.Valid.{records_valid}
 use Rattle.smk_laws.proofs.CurrentLists.{In, in_zip, flat_nil, append_nil_right, cons_nil, none_some}
 use Rattle.smk_laws.proofs.CurrentMeaning.{in_from}
-use Rattle.smk_laws.proofs.CurrentLaw.{current_means_clean_in_worlds, last_is}
+use Rattle.smk_laws.proofs.CurrentLaw.{current_means_clean, last_is}
 
 none_run : (w : World) (begun : List Begun) → w.children ≡ [] → (progress_of w begun).running ≡ []
 none_run w begun h =
@@ -69,7 +78,7 @@ module _ (rules : Rules) (image : Image) (progress : Progress) (plan : Plan) whe
 -- the plan of a moment at rest is the one in force then
 in_force : (rules : Rules) (entry : World) (log : List Event) (m : Moment) → IsMoment rules entry log m → is_rest m.world m.begun ≡ true → IsInForce rules m.world m.begun m.from m.plan
 in_force rules entry log m (AtEntry plan is) rest = is
-in_force rules entry log m (AtRest events before e plan was now is) rest = is
+in_force rules entry log m (RestMoment events before e plan was now is) rest = is
 in_force rules entry log m (Between events before e was still) rest = absurd (true≢false (sym rest ∙ still))
 
 -- where no plan of a chain is refused, nothing is refused of the last
@@ -91,13 +100,30 @@ unrefused rules image progress L plan (Then p last is more rest) none =
     own : refused_of rules image progress p ≡ []
     own = go (refused_of rules image progress p) refl
 
-pub current_at_exit_is_clean : CurrentAtExitIsClean
-current_at_exit_is_clean act rules entry log m H plan moment at_rest planned sound none listed p inn current =
+-- what the law asks, at a rest
+pub last_fields :
+    (act : Act) (rules : Rules) (entry : World) (log : List Event) (m : Moment) (H : Versions) (plan : Plan) → IsMoment rules entry log m →
+    IsTrue (is_rest m.world m.begun) → m.plan ≡ Some plan → SoundWorld (record { read = rules.read; act = act }) m.world H →
+    ((f : Fault) → ¬ PlansRefuse rules m f) →
+    GathersRight (setting_of rules.flow act (λ j. is_none (rules.missing j)) (seen rules m.world)) (seen rules m.world) rules.settings (progress_of m.world m.begun) plan m.from →
+    AtRest rules.flow act (λ j. is_none (rules.missing j)) (seen rules m.world) H rules.settings (progress_of m.world m.begun) m.from plan
+last_fields act rules entry log m H plan moment at_rest planned sound none listed =
     let image = seen rules m.world in
     let progress = progress_of m.world m.begun in
     let last = subst (IsInForce rules m.world m.begun m.from) planned (in_force rules entry log m moment at_rest) in
     let rest = none_run m.world m.begun sound.no_child in
     let is = last_is rules.flow image rules.settings progress m.from plan last in
-    let quiet = unrefused rules image progress m.from plan last none in
-    current_means_clean_in_worlds rules.flow (record { read = rules.read; act = act }) (λ j. is_none (rules.missing j)) m.world H rules.settings progress m.from plan
-    sound listed last rest (fields_known rules image progress plan is rest quiet) p inn current
+    record {
+      sound = sound.now;
+      complete = seen_is_complete rules.read m.world sound.formed;
+      valid = records_valid rules.read m.world.names (λ q. reading (m.world.nodes q));
+      listed = listed;
+      last = last;
+      rest = rest;
+      fields = fields_known rules image progress plan is rest (unrefused rules image progress m.from plan last none);
+    }
+
+pub current_at_exit_is_clean : CurrentAtExitIsClean
+current_at_exit_is_clean act rules entry log m H plan moment at_rest planned sound none listed p inn current =
+    current_means_clean rules.flow act (λ j. is_none (rules.missing j)) (seen rules m.world) H rules.settings (progress_of m.world m.begun) m.from plan
+    (last_fields act rules entry log m H plan moment at_rest planned sound none listed) p inn current

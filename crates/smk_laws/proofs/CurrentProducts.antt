@@ -237,7 +237,7 @@ module _
     clean_quiet Clean h = (refl, refl)
 
     -- F: what is ready is made by a quiet job, and whole
-    ready_parts :
+    pub ready_parts :
         (n : ℕ) (q : Path) (c : Candidate) → ReachedHere n q → choose flow srcs q ≡ Make c → IsTrue (is_ready image settings progress plan q) →
         Quiet c × (stands_whole image q (jb c) ≡ true)
     ready_parts n q c reached e ready =
@@ -396,7 +396,7 @@ module _
 
     -- ## what stands
 
-    own_outputs : (n : ℕ) (q : Path) (c : Candidate) → ReachedHere n q → choose flow srcs q ≡ Make c → Apart (out_paths (recipe flow plan.lists c))
+    pub own_outputs : (n : ℕ) (q : Path) (c : Candidate) → ReachedHere n q → choose flow srcs q ≡ Make c → Apart (out_paths (recipe flow plan.lists c))
     own_outputs n q c reached e = own_apart plan.jobs (jb c) apart (in_plan_here n q c reached e)
 
     -- an output is no member
@@ -411,7 +411,7 @@ module _
             absurd (clash_of (is_under q q) (subst (λ w. is_under q w ≡ true) (sym same) r.1) (never_under_itself q))
 
     -- the directory over a member
-    member_over :
+    pub member_over :
         (c : Candidate) (h q : Path) → Apart (out_paths (recipe flow plan.lists c)) → is_under q h ≡ true → In h (folders_of (recipe flow plan.lists c)) →
         folder_over (recipe flow plan.lists c) q ≡ Some h
     member_over c h q a u i =

@@ -32,11 +32,11 @@ use Rattle.smk_laws.proofs.PlanOne.{derived, derived_reached}
 module _
     (flow : Flow) (act : Act) (has_fields : Job → Bool) (image : Image) (H : Versions) (settings : Settings) (progress : Progress)
     (plan : Plan) (rest : Rested flow act has_fields image H settings progress plan) where
-  abbrev comes : ℕ → Path → Type 0
+  abbrev pub comes : ℕ → Path → Type 0
   comes n p = Comes flow act has_fields image H settings progress plan (bound_fills_from numbered_all) rest n p
 
   -- at some depth below 200 the walk comes to what a job reads
-  wanted_comes : (j : Job) (p : Path) → In j plan.jobs → In p (in_paths j.recipe ++ gathers_from j) → (n : ℕ) × (suc n ≤ 200) × comes n p
+  pub wanted_comes : (j : Job) (p : Path) → In j plan.jobs → In p (in_paths j.recipe ++ gathers_from j) → (n : ℕ) × (suc n ≤ 200) × comes n p
   wanted_comes j p h i =
       let srcs = sources_of image in
       let d = derived flow image plan.lists settings.targets plan.jobs rest.complete rest.derived.derived in
@@ -56,15 +56,6 @@ module _
   clean_here : (n : ℕ) (p : Path) → suc n ≤ 200 → comes n p → IsTrue (is_current image settings progress plan p) → Cleans flow act has_fields image H settings progress plan (bound_fills_from numbered_all) rest 200 p
   clean_here n p b h current = go n b h (choice_known flow (sources_of image) plan.lists n p h.calm) (or_cases (is_source image p) (is_ready image settings progress plan p) current)
     where
-      fills : Rattle.smk_pattern.specs.Bound.BoundFills
-      fills = bound_fills_from numbered_all
-
-      S : Setting
-      S = setting_of flow act has_fields image
-
-      goal : Type 0
-      goal = Cleans flow act has_fields image H settings progress plan (bound_fills_from numbered_all) rest 200 p
-
       made : (n : ℕ) → suc n ≤ 200 → comes n p → (c : Candidate) → choose flow (sources_of image) p ≡ Make c → (is_ready image settings progress plan p ≡ true) → Cleans flow act has_fields image H settings progress plan (bound_fills_from numbered_all) rest 200 p
       made zero b h c e ready = absurd (reached_zero flow (sources_of image) plan.lists _ p c h e)
       made (suc m) b h c e ready =

@@ -21,8 +21,10 @@ pub mod CurrentMeaning
 pub mod CurrentLaw
 pub mod CurrentChoices
 pub mod CurrentNeeded
+mod RestoreNeeded
 pub mod CurrentDepths
 pub mod CurrentReads
+pub mod CurrentTrusted
 pub mod Finite
 mod Copied
 pub mod CurrentAtExit

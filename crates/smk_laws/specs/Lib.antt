@@ -4,3 +4,4 @@ pub mod Choices
 pub mod AtExit
 pub mod Stamps
 pub mod Plans
+pub mod Trusted

@@ -7,6 +7,7 @@ ghost use Rattle.smk_laws.specs.Choices.{OneChoice, SameChoice, StaysAvailable};
 ghost use Rattle.smk_laws.specs.Current.{CurrentMeansClean, CurrentMeansCleanInWorlds, ReadsAreClean, SameValues, SeenIsComplete};
 ghost use Rattle.smk_laws.specs.Plans.{HasPlan, InputsComeFirst, KeepsJobs, KeepsUnopened, OneLastPlan, OnePlan};
 ghost use Rattle.smk_laws.specs.Stamps.{StampTells};
+ghost use Rattle.smk_laws.specs.Trusted.{CurrentIsSafe, TrustedHolds};
 
 /// The law that what a plan calls current is clean: in a sound folder a target that is current by the last plan holds what a clean
 /// run from the sources gives, and so does all that a job of the plan reads. A sound world gives what is asked of the folder, and at
@@ -48,4 +49,11 @@ pub fn plan_is_one()
     ensures one { OnePlan }
     ensures has { HasPlan }
     ensures last { OneLastPlan }
+{}
+
+/// Laws of trust: what is trusted holds what its record vouches for, the marks of jobs that run as a Restore left out; and at a moment
+/// at which no child runs all that is current is safe to start on, with no mark left out.
+pub fn trusted_is_safe()
+    ensures holds { TrustedHolds }
+    ensures safe { CurrentIsSafe }
 {}

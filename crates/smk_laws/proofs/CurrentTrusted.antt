@@ -1,0 +1,232 @@
+-- What is ready at a moment at which no child runs is trusted, and so safe to start on.
+use Rattle.std.proofs.Common.{◌≡◌, ◌⊎◌, ℕ, zero, suc, ◌≤◌, Bool, true, false, ◌||◌, cond, List, [], ◌∷◌, ◌++◌, refl, sym, ap, subst, inl, inr, ◌∙◌, arith, Option, Some, None, option_map, is_none, IsTrue, Contains, true≢false, eq-eqb}
+use Rattle.std.specs.Prelude.{bytes_eq}
+use Rattle.smk_base.specs.Path.{is_under}
+use Rattle.smk_base.proofs.Places.{place_itself}
+use Rattle.smk_world.specs.declared.event.Child.{Child}
+use Rattle.smk_world.specs.declared.event.Event.{Event}
+use Rattle.smk_world.specs.declared.recipe.Kind.TheVariants.{Folder as FolderKind}
+use Rattle.smk_world.specs.World.{World, in_paths, is_within, reading}
+use Rattle.smk_world.specs.Calls.{owned_now}
+use Rattle.smk_world.specs.Trees.{Path, Act, among, folders_of, kind_in}
+use Rattle.smk_record.specs.declared.record.Stamp.{Stamp}
+use Rattle.smk_record.specs.declared.record.Stamp.TheVariants.{Time, Made}
+use Rattle.smk_record.specs.declared.record.Record.{Record}
+use Rattle.smk_record.specs.Records.{agrees, stamped, core}
+use Rattle.smk_pattern.specs.Bound.{BoundFills}
+use Rattle.smk_flow.specs.declared.job.Job.{Job}
+use Rattle.smk_flow.specs.Flows.{Flow, Candidate}
+use Rattle.smk_choose.specs.Choose.{Source, Make, choose}
+use Rattle.smk_store.specs.Images.{Image, Content, is_file, is_source, is_whole, core_at}
+use Rattle.smk_store.specs.Trust.{Eased, Versions, any_time, same_time, holder, stamp_now, made_stamp, Clear, Speaks, Chain, Link, Trusted}
+use Rattle.smk_store.specs.Soundness.{Sound}
+use Rattle.smk_chain.specs.Derive.{Listings, job, recipe, sources_of}
+use Rattle.smk_chain.specs.Mean.{setting_of}
+use Rattle.smk_pick.specs.declared.settings.Settings.{Settings}
+use Rattle.smk_plan.specs.States.{Plan, Progress, is_ready, is_current, is_whole_by, stands_whole}
+use Rattle.smk_drive.specs.Moments.{Rules, Moment, Begun, seen, progress_of, IsInForce}
+use Rattle.smk_drive.specs.Lawful.{eased, IsSafeInput, IsSafeProduct}
+use Rattle.smk_laws.specs.Current.{AtRest}
+use Rattle.smk_laws.specs.Trusted.{TrustedHolds, CurrentIsSafe}
+use Rattle.smk_laws.proofs.CurrentLists.{In, or_cases, or_first, or_second, and_right, clash_of, some_inj}
+use Rattle.smk_laws.proofs.CurrentReach.{reached_zero, choice_known}
+use Rattle.smk_laws.proofs.CurrentChosen.{chosen_viable}
+use Rattle.smk_laws.proofs.CurrentFills.{bound_fills_from}
+use Rattle.smk_laws.proofs.CurrentNumbers.{numbered_all}
+use Rattle.smk_laws.proofs.CurrentComplete.{seen_is_complete}
+use Rattle.smk_laws.proofs.Valid.{records_valid}
+use Rattle.smk_laws.proofs.CurrentMeaning.{in_from, source_chosen, source_file, source_stamp, time_made, made_inj, input_here, Comes, Made_by, IsQuiet, all_walked}
+use Rattle.smk_laws.proofs.CurrentProducts.{Rested, Quiet, Product, quiet_product, quiet_input, ready_quiet, ready_whole, ready_parts, own_outputs, member_over, core_reads}
+use Rattle.smk_laws.proofs.CurrentLaw.{rested}
+use Rattle.smk_laws.proofs.CurrentReads.{wanted_comes}
+use Rattle.smk_laws.proofs.CurrentAtExit.{last_fields}
+
+-- ## Chains
+
+-- a chain whose sources are as recorded is a chain
+loosen : (image : Image) (e : Eased) (r : Record) → Chain image e (same_time image) r → Chain image e any_time r
+loosen image e r (Link s place by times speaks chains) =
+    Link s place by (λ q t i. tt) speaks (λ q m i. loosen image e (by q m) (chains q m i))
+
+pub trusted_holds : TrustedHolds
+trusted_holds act H image restored sound p r trusted unmarked reads whole =
+    let same : trusted.0 ≡ r = some_inj trusted.0 r (sym trusted.1.0 ∙ reads) in
+    sound.holds p r reads unmarked
+    (loosen image (λ p r. IsTrue (among restored p) × (core_at image p ≡ Some r)) r
+    (subst (Chain image (λ p r. IsTrue (among restored p) × (core_at image p ≡ Some r)) (same_time image)) same trusted.2)) whole
+
+module _ (image : Image) (e : Eased) where
+  abbrev or_here : Option Path → Path
+  or_here None = []
+  or_here (Some h) = h
+
+  abbrev record_or : Record → Option Record → Record
+  record_or r None = r
+  record_or r (Some s) = s
+
+  -- a record speaks for a product among the inputs, with the recorded serial, and hangs together
+  record Spoken (q : Path) (m : ℕ) : Type 0 where
+    place : Path
+    by : Record
+    speaks : Speaks image e q place by
+    serial : m ≡ by.made
+    chain : Chain image e (same_time image) by
+
+  chain_make :
+      (r : Record) → ((q : Path) (t : ℕ) → In (q, Time t) (stamped r) → same_time image q t) →
+      ((q : Path) (m : ℕ) → In (q, Made m) (stamped r) → Spoken q m) → Chain image e (same_time image) r
+  chain_make r times h =
+      Link r (λ q m. or_here (holder image q)) (λ q m. record_or r (core_at image (or_here (holder image q)))) times
+      (λ q m i. let s = h q m i in
+      let place = found q s.place s.speaks.holder in
+      let same = read q s.place s.by place s.speaks.clear.0 in (
+        subst (λ (w : Path × Record). Speaks image e q w.0 w.1) (λ i. (place i, same i)) s.speaks,
+        subst (λ (w : Record). agrees (Made m) (made_stamp (Some w)) ≡ true) same (eq-eqb m s.by.made s.serial),
+      ))
+      (λ q m i. let s = h q m i in
+      subst (Chain image e (same_time image)) (read q s.place s.by (found q s.place s.speaks.holder) s.speaks.clear.0) s.chain)
+    where
+      found : (q p : Path) → holder image q ≡ Some p → p ≡ or_here (holder image q)
+      found q p f = sym (ap or_here f)
+
+      read : (q p : Path) (s : Record) → p ≡ or_here (holder image q) → core_at image p ≡ Some s → s ≡ record_or r (core_at image (or_here (holder image q)))
+      read q p s f g = sym (ap (record_or r) g) ∙ ap (λ w. record_or r (core_at image w)) f
+
+-- ## Quiet jobs
+
+module _
+    (flow : Flow) (act : Act) (has_fields : Job → Bool) (image : Image) (H : Versions) (settings : Settings) (progress : Progress)
+    (plan : Plan) (rest : Rested flow act has_fields image H settings progress plan) (e : Eased) where
+  abbrev fills : BoundFills
+  fills = bound_fills_from numbered_all
+
+  abbrev comes : ℕ → Path → Type 0
+  comes n p = Comes flow act has_fields image H settings progress plan fills rest n p
+
+  abbrev product : Candidate → Path → Path → Record → Type 0
+  product c q h r = Made_by flow act has_fields image H settings progress plan fills rest c q h r
+
+  abbrev quiet : Candidate → Type 0
+  quiet c = IsQuiet flow act has_fields image H settings progress plan fills rest c
+
+  abbrev walked : List Candidate
+  walked = all_walked flow act has_fields image H settings progress plan fills rest
+
+  abbrev TrustedBefore : ℕ → Type 0
+  TrustedBefore n = (q : Path) (c : Candidate) (h : Path) (r : Record) → comes n q → product c q h r → quiet c → Chain image e (same_time image) (core r)
+
+  same_times :
+      (n : ℕ) (p : Path) (c : Candidate) (h : Path) (r : Record) → comes (suc n) p → product c p h r → quiet c →
+      (q : Path) (t : ℕ) → In (q, Time t) (stamped r) → same_time image q t
+  same_times n p c h r reached made calm q t k =
+      let here = input_here flow act has_fields image H settings progress plan fills rest n p c h r q (Time t) reached made k in
+      go here.0 here.1 (choice_known flow (sources_of image) plan.lists n q here.1.calm)
+    where
+      go : In q (in_paths (recipe flow plan.lists c)) → comes n q → (choose flow (sources_of image) q ≡ Source) ⊎ ((d : Candidate) × (choose flow (sources_of image) q ≡ Make d)) → same_time image q t
+      go inn below (inl s) =
+          let is = source_chosen flow (sources_of image) q s in
+          let f = source_file image q is in
+          let now = source_stamp image q f.0 is f.1 in
+          let same = made.agrees q (Time t) (Time f.0.time) k now in
+          subst (λ o. agrees (Time t) o ≡ true) (sym now) (subst (λ s. agrees s (Some (Time f.0.time)) ≡ true) (sym same) (eq-eqb f.0.time f.0.time refl))
+      go inn below (inr d) =
+          let quiet_d = quiet_input flow act has_fields image H settings progress plan fills rest n p c q d.0 reached made.chosen calm inn d.1 in
+          let from = quiet_product flow act has_fields image H settings progress plan fills rest n q d.0 below d.1 quiet_d in
+          absurd (time_made t from.1.made (made.agrees q (Time t) (Made from.1.made) k from.2.stamp))
+
+  spoken :
+      (n : ℕ) → TrustedBefore n → (p : Path) (c : Candidate) (h : Path) (r : Record) → comes (suc n) p → product c p h r → quiet c →
+      (q : Path) (m : ℕ) → In (q, Made m) (stamped r) → Spoken image e q m
+  spoken n ih p c h r reached made calm q s k =
+      let here = input_here flow act has_fields image H settings progress plan fills rest n p c h r q (Made s) reached made k in
+      go here.0 here.1 (choice_known flow (sources_of image) plan.lists n q here.1.calm)
+    where
+      go : In q (in_paths (recipe flow plan.lists c)) → comes n q → (choose flow (sources_of image) q ≡ Source) ⊎ ((d : Candidate) × (choose flow (sources_of image) q ≡ Make d)) → Spoken image e q s
+      go inn below (inl x) =
+          let is = source_chosen flow (sources_of image) q x in
+          let f = source_file image q is in
+          absurd (time_made f.0.time s (sym (made.agrees q (Made s) (Time f.0.time) k (source_stamp image q f.0 is f.1))))
+      go inn below (inr d) =
+          let quiet_d = quiet_input flow act has_fields image H settings progress plan fills rest n p c q d.0 reached made.chosen calm inn d.1 in
+          let from = quiet_product flow act has_fields image H settings progress plan fills rest n q d.0 below d.1 quiet_d in
+          let product = from.2 in
+          record {
+            place = from.0;
+            by = core from.1;
+            speaks = record {
+              no_source = (chosen_viable flow (sources_of image) q d.0 d.1).1;
+              holder = product.holds;
+              clear = (core_reads image from.0 from.1 product.reads, inl product.unmarked);
+            };
+            serial = made_inj s from.1.made (made.agrees q (Made s) (Made from.1.made) k product.stamp);
+            chain = ih q d.0 from.0 from.1 below product quiet_d;
+          }
+
+  trusted_at : (n : ℕ) → TrustedBefore n
+  trusted_at zero q c h r reached made calm = absurd (reached_zero flow (sources_of image) plan.lists walked q c reached made.chosen)
+  trusted_at (suc n) q c h r reached made calm =
+      chain_make image e (core r) (same_times n q c h r reached made calm) (spoken n (trusted_at n) q c h r reached made calm)
+
+-- ## Safe inputs
+
+pub current_is_safe : CurrentIsSafe
+current_is_safe act rules entry log m H plan moment at_rest planned sound none listed j p inn reads current =
+    let w = wanted_comes rules.flow act has_fields image H rules.settings progress plan rest j p (in_from plan.jobs j inn) (in_from _ p reads) in
+    go w.0 w.2 (choice_known rules.flow (sources_of image) plan.lists w.0 p w.2.calm) (or_cases (is_source image p) (is_ready image rules.settings progress plan p) current)
+  where
+    image : Image
+    image = seen rules m.world
+
+    progress : Progress
+    progress = progress_of m.world m.begun
+
+    has_fields : Job → Bool
+    has_fields j = is_none (rules.missing j)
+
+    rest : Rested rules.flow act (λ j. is_none (rules.missing j)) (seen rules m.world) H rules.settings (progress_of m.world m.begun) plan
+    rest =
+        rested rules.flow act (λ j. is_none (rules.missing j)) (seen rules m.world) H rules.settings (progress_of m.world m.begun) m.from plan
+        (last_fields act rules entry log m H plan moment at_rest planned sound none listed)
+
+    owned_none : (cs : List Child) → cs ≡ [] → (q : Path) → is_within q (owned_now cs) ≡ false
+    owned_none cs e q = ap (λ cs. is_within q (owned_now cs)) e
+
+    fills_here : BoundFills
+    fills_here = bound_fills_from numbered_all
+
+    -- a member is there as a file
+    filed :
+        (n : ℕ) → Comes rules.flow act (λ j. is_none (rules.missing j)) (seen rules m.world) H rules.settings (progress_of m.world m.begun) plan (bound_fills_from numbered_all) rest n p → (c : Candidate) → choose rules.flow (sources_of (seen rules m.world)) p ≡ Make c →
+        (h : Path) → (p ≡ h) ⊎ (is_under p h ≡ true) × In h (folders_of (recipe rules.flow plan.lists c)) →
+        stands_whole (seen rules m.world) p (job rules.flow plan.lists c) ≡ true → IsTrue (bytes_eq h p || is_file (seen rules m.world) p)
+    filed n comes c e h (inl s) stands = or_first (bytes_eq h p) (is_file image p) (subst (λ q. bytes_eq q p ≡ true) s (place_itself p))
+    filed n comes c e h (inr u) stands =
+        let apart = own_outputs rules.flow act has_fields image H rules.settings progress plan (bound_fills_from numbered_all) rest n p c comes e in
+        let over = member_over rules.flow act has_fields image H rules.settings progress plan (bound_fills_from numbered_all) rest c h p apart u.0 u.1 in
+        let w = sym (ap (is_whole_by image p (kind_in (recipe rules.flow plan.lists c) p)) over) ∙ stands in
+        or_second (bytes_eq h p) (is_file image p) (and_right (is_whole image h FolderKind) (is_file image p) w)
+
+    made : (n : ℕ) → Comes rules.flow act (λ j. is_none (rules.missing j)) (seen rules m.world) H rules.settings (progress_of m.world m.begun) plan (bound_fills_from numbered_all) rest n p → (c : Candidate) → choose rules.flow (sources_of (seen rules m.world)) p ≡ Make c → is_ready (seen rules m.world) rules.settings (progress_of m.world m.begun) plan p ≡ true → IsSafeProduct rules m p
+    made zero comes c e ready = absurd (reached_zero rules.flow (sources_of (seen rules m.world)) plan.lists _ p c comes e)
+    made (suc n) comes c e ready =
+        let quiet = ready_quiet rules.flow act has_fields image H rules.settings progress plan fills_here rest n p c comes e ready in
+        let from = quiet_product rules.flow act has_fields image H rules.settings progress plan fills_here rest (suc n) p c comes e quiet in
+        let product = from.2 in
+        let whole = ready_whole rules.flow act has_fields image H rules.settings progress plan fills_here rest (suc n) p c from.0 from.1 comes product ready in
+        let reads = core_reads image from.0 from.1 product.reads in
+        let stands = (ready_parts rules.flow act has_fields image H rules.settings progress plan fills_here rest (suc n) p c comes e ready).1 in
+        record {
+          not_owned = owned_none m.world.children sound.no_child p;
+          speaker = from.0;
+          speaks = product.holds;
+          as_file = filed (suc n) comes c e from.0 product.place stands;
+          unmarked = product.unmarked;
+          whole = λ r k. subst (λ (s : Record). IsTrue (is_whole image from.0 (kind_in s.recipe from.0))) (some_inj (core from.1) r (sym reads ∙ k)) whole.0;
+          trusted =
+              (core from.1, (reads, inl product.unmarked), trusted_at rules.flow act has_fields image H rules.settings progress plan rest (eased rules m) (suc n) p c from.0 from.1 comes product quiet);
+        }
+
+    go : (n : ℕ) → Comes rules.flow act (λ j. is_none (rules.missing j)) (seen rules m.world) H rules.settings (progress_of m.world m.begun) plan (bound_fills_from numbered_all) rest n p → (choose rules.flow (sources_of (seen rules m.world)) p ≡ Source) ⊎ ((c : Candidate) × (choose rules.flow (sources_of (seen rules m.world)) p ≡ Make c)) → (is_source (seen rules m.world) p ≡ true) ⊎ (is_ready (seen rules m.world) rules.settings (progress_of m.world m.begun) plan p ≡ true) → IsSafeInput rules m p
+    go n comes ch (inl is) = inl is
+    go n comes (inl s) (inr ready) = inl (source_chosen rules.flow (sources_of (seen rules m.world)) p s)
+    go n comes (inr (c, e)) (inr ready) = inr (made n comes c e ready)
