@@ -16,7 +16,7 @@ use Rattle.smk_trigger.specs.declared.reason.Reason.{Reason}
 use Rattle.smk_trigger.specs.declared.reason.State.{State}
 use Rattle.smk_trigger.specs.declared.reason.State.TheVariants.{Open}
 use Rattle.smk_trigger.specs.JobStates.{is_open}
-use Rattle.smk_plan.specs.States.{Plan, Progress, IsPlan, LastPlan, Last, Then, new_listings, is_open_now, state_of, by_table, by_reasons, or_state, job_path, staged, reasons}
+use Rattle.smk_plan.specs.States.{Plan, Progress, IsPlan, LastPlan, Last, Then, new_listings, is_open_now, state_of, by_table, by_reasons, while_running, job_path, staged, reasons}
 use Rattle.smk_report.specs.declared.fault.Fault.TheVariants as fault
 use Rattle.smk_drive.specs.Moments.{Rules, Moment, Begun, IsMoment, AtEntry, AtRest as RestMoment, Between, IsInForce, is_rest, seen, progress_of, is_child_of}
 use Rattle.smk_drive.specs.Refusals.{ChainRefuses, PlanRefuses, NextRefuses, refused_of, incomplete, guarded, above_limit, ahead, of_command}
@@ -52,7 +52,7 @@ shut_state false (r ∷ rs) x h = refl
 module _ (rules : Rules) (image : Image) (progress : Progress) (plan : Plan) where
   state_shut : progress.running ≡ [] → (j : Job) → is_open_now image rules.settings progress plan j ≡ false → is_open (state_of image rules.settings progress plan j) ≡ false
   state_shut rest j h =
-      ap (λ (r : List (Path × State)). is_open (or_state (option_map (λ (e : Path × State). e.1) (find (λ (e : Path × State). bytes_eq e.0 (job_path j)) r)) (by_table image rules.settings progress plan j))) rest
+      ap (λ (r : List (Path × State)). is_open (while_running (option_map (λ (e : Path × State). e.1) (find (λ (e : Path × State). bytes_eq e.0 (job_path j)) r)) (by_table image rules.settings progress plan j))) rest
       ∙ shut_state (is_open_now image rules.settings progress plan j) (reasons image rules.settings progress plan j) _ h
 
   told : (e : Job × State) (o : Option Text) → is_open e.1 ≡ false → of_command rules image progress plan e o ≡ [] → is_none o ≡ true

@@ -75,10 +75,12 @@ pub rested :
 rested flow act has_fields image H settings progress L plan rest =
     record {
       sound = rest.sound;
-      complete = rest.complete;
-      valid = rest.valid;
+      planned = record {
+        complete = rest.complete;
+        valid = rest.valid;
+        derived = last_is flow image settings progress L plan rest.last;
+      };
       lists = λ j f files i shut g e. go j f files i shut g (last_listed flow image settings progress L plan rest.last f files e);
-      derived = last_is flow image settings progress L plan rest.last;
       rest = rest.rest;
       fields = rest.fields;
     }

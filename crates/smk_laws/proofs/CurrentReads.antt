@@ -23,17 +23,17 @@ use Rattle.smk_laws.proofs.CurrentChosen.{chosen_viable}
 use Rattle.smk_laws.proofs.CurrentFills.{bound_fills_from}
 use Rattle.smk_laws.proofs.CurrentNumbers.{numbered_all}
 use Rattle.smk_laws.proofs.CurrentDepths.{mean_deeper}
-use Rattle.smk_laws.proofs.CurrentMeaning.{in_from, source_chosen, source_file, source_clean, ready_clean, Cleans, Comes}
+use Rattle.smk_laws.proofs.CurrentMeaning.{in_from, source_chosen, source_file, source_clean, ready_clean, Cleans}
 use Rattle.smk_laws.proofs.CurrentLaw.{rested}
-use Rattle.smk_laws.proofs.CurrentProducts.{Rested}
+use Rattle.smk_laws.proofs.CurrentProducts.{Planned, Rested, ReachedHere}
 use Rattle.smk_laws.proofs.PlanOrder.{some_node, walked_reached}
 use Rattle.smk_laws.proofs.PlanOne.{derived, derived_reached}
 
 module _
     (flow : Flow) (act : Act) (has_fields : Job → Bool) (image : Image) (H : Versions) (settings : Settings) (progress : Progress)
-    (plan : Plan) (rest : Rested flow act has_fields image H settings progress plan) where
+    (plan : Plan) (rest : Planned flow image settings progress plan) where
   abbrev pub comes : ℕ → Path → Type 0
-  comes n p = Comes flow act has_fields image H settings progress plan (bound_fills_from numbered_all) rest n p
+  comes n p = ReachedHere flow act has_fields image H settings progress plan n p
 
   -- at some depth below 200 the walk comes to what a job reads
   pub wanted_comes : (j : Job) (p : Path) → In j plan.jobs → In p (in_paths j.recipe ++ gathers_from j) → (n : ℕ) × (suc n ≤ 200) × comes n p
@@ -53,16 +53,19 @@ module _
           go (inl l) = inputs_wanted flow c plan.lists p l
           go (inr l) = folders_wanted flow c plan.lists p l
 
-  clean_here : (n : ℕ) (p : Path) → suc n ≤ 200 → comes n p → IsTrue (is_current image settings progress plan p) → Cleans flow act has_fields image H settings progress plan (bound_fills_from numbered_all) rest 200 p
+module _
+    (flow : Flow) (act : Act) (has_fields : Job → Bool) (image : Image) (H : Versions) (settings : Settings) (progress : Progress)
+    (plan : Plan) (rest : Rested flow act has_fields image H settings progress plan) where
+  clean_here : (n : ℕ) (p : Path) → suc n ≤ 200 → comes flow act has_fields image H settings progress plan rest.planned n p → IsTrue (is_current image settings progress plan p) → Cleans flow act has_fields image H settings progress plan (bound_fills_from numbered_all) rest 200 p
   clean_here n p b h current = go n b h (choice_known flow (sources_of image) plan.lists n p h.calm) (or_cases (is_source image p) (is_ready image settings progress plan p) current)
     where
-      made : (n : ℕ) → suc n ≤ 200 → comes n p → (c : Candidate) → choose flow (sources_of image) p ≡ Make c → (is_ready image settings progress plan p ≡ true) → Cleans flow act has_fields image H settings progress plan (bound_fills_from numbered_all) rest 200 p
+      made : (n : ℕ) → suc n ≤ 200 → comes flow act has_fields image H settings progress plan rest.planned n p → (c : Candidate) → choose flow (sources_of image) p ≡ Make c → (is_ready image settings progress plan p ≡ true) → Cleans flow act has_fields image H settings progress plan (bound_fills_from numbered_all) rest 200 p
       made zero b h c e ready = absurd (reached_zero flow (sources_of image) plan.lists _ p c h e)
       made (suc m) b h c e ready =
           let v = ready_clean flow act has_fields image H settings progress plan (bound_fills_from numbered_all) rest m p h ready in
           (v.0, v.1, mean_deeper (setting_of flow act has_fields image) (suc m) 200 p v.0 (omega arith) v.2)
 
-      go : (n : ℕ) → suc n ≤ 200 → comes n p → (choose flow (sources_of image) p ≡ Source) ⊎ ((c : Candidate) × (choose flow (sources_of image) p ≡ Make c)) → (is_source image p ≡ true) ⊎ (is_ready image settings progress plan p ≡ true) → Cleans flow act has_fields image H settings progress plan (bound_fills_from numbered_all) rest 200 p
+      go : (n : ℕ) → suc n ≤ 200 → comes flow act has_fields image H settings progress plan rest.planned n p → (choose flow (sources_of image) p ≡ Source) ⊎ ((c : Candidate) × (choose flow (sources_of image) p ≡ Make c)) → (is_source image p ≡ true) ⊎ (is_ready image settings progress plan p ≡ true) → Cleans flow act has_fields image H settings progress plan (bound_fills_from numbered_all) rest 200 p
       go n b h (inl s) either = source_clean flow act has_fields image H settings progress plan (bound_fills_from numbered_all) rest 200 p (source_chosen flow (sources_of image) p s)
       go n b h (inr (c, e)) (inl is) = absurd (clash_of (is_source image p) is (chosen_viable flow (sources_of image) p c e).1)
       go n b h (inr (c, e)) (inr ready) = made n b h c e ready
@@ -71,7 +74,7 @@ pub reads_are_clean : ReadsAreClean
 reads_are_clean flow act has_fields image H settings progress L plan rest j p inn reads current =
     let r = rested flow act has_fields image H settings progress L plan rest in
     let w =
-    wanted_comes flow act has_fields image H settings progress plan r j p (in_from plan.jobs j inn) (in_from (in_paths j.recipe ++ gathers_from j) p reads) in
+    wanted_comes flow act has_fields image H settings progress plan r.planned j p (in_from plan.jobs j inn) (in_from (in_paths j.recipe ++ gathers_from j) p reads) in
     clean_here flow act has_fields image H settings progress plan r w.0 p w.1 w.2 current
 
 -- ## The same sources

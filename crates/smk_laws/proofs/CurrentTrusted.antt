@@ -1,12 +1,12 @@
 -- What is ready at a moment at which no child runs is trusted, and so safe to start on.
-use Rattle.std.proofs.Common.{◌≡◌, ◌⊎◌, ℕ, zero, suc, ◌≤◌, Bool, true, false, ◌||◌, cond, List, [], ◌∷◌, ◌++◌, refl, sym, ap, subst, inl, inr, ◌∙◌, arith, Option, Some, None, option_map, is_none, IsTrue, Contains, true≢false, eq-eqb}
+use Rattle.std.proofs.Common.{◌≡◌, ◌⊎◌, ℕ, zero, suc, ◌≤◌, Bool, true, false, not, ◌&&◌, ◌||◌, cond, flat_map, List, [], ◌∷◌, ◌++◌, refl, sym, ap, subst, inl, inr, ◌∙◌, arith, Option, Some, None, option_map, is_none, IsTrue, Contains, true≢false, eq-eqb}
 use Rattle.std.specs.Prelude.{bytes_eq}
 use Rattle.smk_base.specs.Path.{is_under}
 use Rattle.smk_base.proofs.Places.{place_itself}
 use Rattle.smk_world.specs.declared.event.Child.{Child}
 use Rattle.smk_world.specs.declared.event.Event.{Event}
 use Rattle.smk_world.specs.declared.recipe.Kind.TheVariants.{Folder as FolderKind}
-use Rattle.smk_world.specs.World.{World, in_paths, is_within, reading}
+use Rattle.smk_world.specs.World.{World, in_paths, out_paths, is_within}
 use Rattle.smk_world.specs.Calls.{owned_now}
 use Rattle.smk_world.specs.Trees.{Path, Act, among, folders_of, kind_in}
 use Rattle.smk_record.specs.declared.record.Stamp.{Stamp}
@@ -18,25 +18,26 @@ use Rattle.smk_flow.specs.declared.job.Job.{Job}
 use Rattle.smk_flow.specs.Flows.{Flow, Candidate}
 use Rattle.smk_choose.specs.Choose.{Source, Make, choose}
 use Rattle.smk_store.specs.Images.{Image, Content, is_file, is_source, is_whole, core_at}
-use Rattle.smk_store.specs.Trust.{Eased, Versions, any_time, same_time, holder, stamp_now, made_stamp, Clear, Speaks, Chain, Link, Trusted}
+use Rattle.smk_store.specs.Trust.{Eased, Versions, any_time, same_time, holder, is_marked_but, made_stamp, Clear, Speaks, Chain, Link, Trusted}
 use Rattle.smk_store.specs.Soundness.{Sound}
-use Rattle.smk_chain.specs.Derive.{Listings, job, recipe, sources_of}
+use Rattle.smk_chain.specs.Derive.{Listings, job, recipe, walk, sources_of}
 use Rattle.smk_chain.specs.Mean.{setting_of}
 use Rattle.smk_pick.specs.declared.settings.Settings.{Settings}
-use Rattle.smk_plan.specs.States.{Plan, Progress, is_ready, is_current, is_whole_by, stands_whole}
+use Rattle.smk_plan.specs.States.{Plan, Progress, gathers_from, is_ready, is_current, is_restored, is_whole_by, stands_whole}
 use Rattle.smk_drive.specs.Moments.{Rules, Moment, Begun, seen, progress_of, IsInForce}
 use Rattle.smk_drive.specs.Lawful.{eased, IsSafeInput, IsSafeProduct}
 use Rattle.smk_laws.specs.Current.{AtRest}
-use Rattle.smk_laws.specs.Trusted.{TrustedHolds, CurrentIsSafe}
-use Rattle.smk_laws.proofs.CurrentLists.{In, or_cases, or_first, or_second, and_right, clash_of, some_inj}
-use Rattle.smk_laws.proofs.CurrentReach.{reached_zero, choice_known}
+use Rattle.smk_laws.specs.Trusted.{TrustedHolds, CurrentIsSafe, CurrentIsTrusted, IsTrustedInput}
+use Rattle.smk_laws.proofs.CurrentLists.{In, zip_first, or_cases, or_first, or_second, and_right, clash_of, some_inj}
+use Rattle.smk_laws.proofs.CurrentReach.{reached_zero, reached_step, choice_known}
 use Rattle.smk_laws.proofs.CurrentChosen.{chosen_viable}
 use Rattle.smk_laws.proofs.CurrentFills.{bound_fills_from}
 use Rattle.smk_laws.proofs.CurrentNumbers.{numbered_all}
 use Rattle.smk_laws.proofs.CurrentComplete.{seen_is_complete}
 use Rattle.smk_laws.proofs.Valid.{records_valid}
-use Rattle.smk_laws.proofs.CurrentMeaning.{in_from, source_chosen, source_file, source_stamp, time_made, made_inj, input_here, Comes, Made_by, IsQuiet, all_walked}
-use Rattle.smk_laws.proofs.CurrentProducts.{Rested, Quiet, Product, quiet_product, quiet_input, ready_quiet, ready_whole, ready_parts, own_outputs, member_over, core_reads}
+use Rattle.smk_laws.proofs.CurrentMeaning.{in_from, source_chosen, source_file, source_stamp, source_stamp_but, time_made, made_inj, none_restored}
+use Rattle.smk_laws.proofs.CurrentRecipes.{inputs_wanted}
+use Rattle.smk_laws.proofs.CurrentProducts.{Planned, Rested, ReachedHere, Quiet, Product, quiet_product, quiet_input, ready_quiet, ready_whole, ready_parts, own_outputs, member_over, not_restored, core_reads}
 use Rattle.smk_laws.proofs.CurrentLaw.{rested}
 use Rattle.smk_laws.proofs.CurrentReads.{wanted_comes}
 use Rattle.smk_laws.proofs.CurrentAtExit.{last_fields}
@@ -96,21 +97,41 @@ module _ (image : Image) (e : Eased) where
 
 module _
     (flow : Flow) (act : Act) (has_fields : Job → Bool) (image : Image) (H : Versions) (settings : Settings) (progress : Progress)
-    (plan : Plan) (rest : Rested flow act has_fields image H settings progress plan) (e : Eased) where
+    (plan : Plan) (rest : Planned flow image settings progress plan) (e : Eased)
+    (ease : (h : Path) (r : Record) → is_restored image settings progress plan h ≡ true → core_at image h ≡ Some r → e h r) where
   abbrev fills : BoundFills
   fills = bound_fills_from numbered_all
 
+  abbrev left_out : Path → Bool
+  left_out p = is_restored image settings progress plan p
+
   abbrev comes : ℕ → Path → Type 0
-  comes n p = Comes flow act has_fields image H settings progress plan fills rest n p
+  comes n p = ReachedHere flow act has_fields image H settings progress plan n p
 
   abbrev product : Candidate → Path → Path → Record → Type 0
-  product c q h r = Made_by flow act has_fields image H settings progress plan fills rest c q h r
+  product c q h r = Product flow act has_fields image H settings progress plan c q h r
 
   abbrev quiet : Candidate → Type 0
-  quiet c = IsQuiet flow act has_fields image H settings progress plan fills rest c
+  quiet c = Quiet flow act has_fields image H settings progress plan c
 
   abbrev walked : List Candidate
-  walked = all_walked flow act has_fields image H settings progress plan fills rest
+  walked = flat_map (walk flow (sources_of image) plan.lists 200) settings.targets
+
+  input_here :
+      (n : ℕ) (p : Path) (c : Candidate) (h : Path) (r : Record) (q : Path) (s : Stamp) →
+      comes (suc n) p → product c p h r → In (q, s) (stamped r) → In q (in_paths (recipe flow plan.lists c)) × comes n q
+  input_here n p c h r q s reached made k =
+      let inn = subst (λ rec. In q (in_paths rec)) made.same (zip_first (in_paths r.recipe) r.stamps q s k) in
+      (inn, reached_step flow (sources_of image) plan.lists walked n p c q reached made.chosen (inputs_wanted flow c plan.lists q inn))
+
+  -- the record at an output whose mark doesn't count
+  cleared : (h : Path) (r : Record) → core_at image h ≡ Some r → is_marked_but image left_out h ≡ false → Clear image e h r
+  cleared h r reads counted = (reads, go (image.marked h) refl (left_out h) refl counted)
+    where
+      go : (m : Bool) → image.marked h ≡ m → (b : Bool) → left_out h ≡ b → (m && not b) ≡ false → (image.marked h ≡ false) ⊎ e h r
+      go false x b y z = inl x
+      go true x true y z = inr (ease h r y reads)
+      go true x false y z = absurd (true≢false z)
 
   abbrev TrustedBefore : ℕ → Type 0
   TrustedBefore n = (q : Path) (c : Candidate) (h : Path) (r : Record) → comes n q → product c q h r → quiet c → Chain image e (same_time image) (core r)
@@ -119,7 +140,7 @@ module _
       (n : ℕ) (p : Path) (c : Candidate) (h : Path) (r : Record) → comes (suc n) p → product c p h r → quiet c →
       (q : Path) (t : ℕ) → In (q, Time t) (stamped r) → same_time image q t
   same_times n p c h r reached made calm q t k =
-      let here = input_here flow act has_fields image H settings progress plan fills rest n p c h r q (Time t) reached made k in
+      let here = input_here n p c h r q (Time t) reached made k in
       go here.0 here.1 (choice_known flow (sources_of image) plan.lists n q here.1.calm)
     where
       go : In q (in_paths (recipe flow plan.lists c)) → comes n q → (choose flow (sources_of image) q ≡ Source) ⊎ ((d : Candidate) × (choose flow (sources_of image) q ≡ Make d)) → same_time image q t
@@ -127,7 +148,7 @@ module _
           let is = source_chosen flow (sources_of image) q s in
           let f = source_file image q is in
           let now = source_stamp image q f.0 is f.1 in
-          let same = made.agrees q (Time t) (Time f.0.time) k now in
+          let same = made.agrees q (Time t) (Time f.0.time) k (source_stamp_but image left_out q f.0 is f.1) in
           subst (λ o. agrees (Time t) o ≡ true) (sym now) (subst (λ s. agrees s (Some (Time f.0.time)) ≡ true) (sym same) (eq-eqb f.0.time f.0.time refl))
       go inn below (inr d) =
           let quiet_d = quiet_input flow act has_fields image H settings progress plan fills rest n p c q d.0 reached made.chosen calm inn d.1 in
@@ -138,14 +159,14 @@ module _
       (n : ℕ) → TrustedBefore n → (p : Path) (c : Candidate) (h : Path) (r : Record) → comes (suc n) p → product c p h r → quiet c →
       (q : Path) (m : ℕ) → In (q, Made m) (stamped r) → Spoken image e q m
   spoken n ih p c h r reached made calm q s k =
-      let here = input_here flow act has_fields image H settings progress plan fills rest n p c h r q (Made s) reached made k in
+      let here = input_here n p c h r q (Made s) reached made k in
       go here.0 here.1 (choice_known flow (sources_of image) plan.lists n q here.1.calm)
     where
       go : In q (in_paths (recipe flow plan.lists c)) → comes n q → (choose flow (sources_of image) q ≡ Source) ⊎ ((d : Candidate) × (choose flow (sources_of image) q ≡ Make d)) → Spoken image e q s
       go inn below (inl x) =
           let is = source_chosen flow (sources_of image) q x in
           let f = source_file image q is in
-          absurd (time_made f.0.time s (sym (made.agrees q (Made s) (Time f.0.time) k (source_stamp image q f.0 is f.1))))
+          absurd (time_made f.0.time s (sym (made.agrees q (Made s) (Time f.0.time) k (source_stamp_but image left_out q f.0 is f.1))))
       go inn below (inr d) =
           let quiet_d = quiet_input flow act has_fields image H settings progress plan fills rest n p c q d.0 reached made.chosen calm inn d.1 in
           let from = quiet_product flow act has_fields image H settings progress plan fills rest n q d.0 below d.1 quiet_d in
@@ -156,7 +177,7 @@ module _
             speaks = record {
               no_source = (chosen_viable flow (sources_of image) q d.0 d.1).1;
               holder = product.holds;
-              clear = (core_reads image from.0 from.1 product.reads, inl product.unmarked);
+              clear = cleared from.0 (core from.1) (core_reads image from.0 from.1 product.reads) product.unmarked;
             };
             serial = made_inj s from.1.made (made.agrees q (Made s) (Made from.1.made) k product.stamp);
             chain = ih q d.0 from.0 from.1 below product quiet_d;
@@ -167,12 +188,86 @@ module _
   trusted_at (suc n) q c h r reached made calm =
       chain_make image e (core r) (same_times n q c h r reached made calm) (spoken n (trusted_at n) q c h r reached made calm)
 
--- ## Safe inputs
+  -- ## Inputs
+
+  -- a member is there as a file
+  filed :
+      (n : ℕ) (p : Path) (c : Candidate) → comes n p → choose flow (sources_of image) p ≡ Make c →
+      (h : Path) → (p ≡ h) ⊎ (is_under p h ≡ true) × In h (folders_of (recipe flow plan.lists c)) →
+      stands_whole image p (job flow plan.lists c) ≡ true → IsTrue (bytes_eq h p || is_file image p)
+  filed n p c below s h (inl same) stands = or_first (bytes_eq h p) (is_file image p) (subst (λ q. bytes_eq q p ≡ true) same (place_itself p))
+  filed n p c below s h (inr u) stands =
+      let apart = own_outputs flow act has_fields image H settings progress plan fills rest n p c below s in
+      let over = member_over flow act has_fields image H settings progress plan fills rest c h p apart u.0 u.1 in
+      let w = sym (ap (is_whole_by image p (kind_in (recipe flow plan.lists c) p)) over) ∙ stands in
+      or_second (bytes_eq h p) (is_file image p) (and_right (is_whole image h FolderKind) (is_file image p) w)
+
+  -- what makes a ready path isn't being restored, so that no mark of it is left out
+  unmarked_when_ready :
+      (n : ℕ) (p : Path) (c : Candidate) (h : Path) → comes n p → choose flow (sources_of image) p ≡ Make c →
+      is_ready image settings progress plan p ≡ true → In h (out_paths (recipe flow plan.lists c)) → is_marked_but image left_out h ≡ false → image.marked h ≡ false
+  unmarked_when_ready n p c h below s ready inn counted =
+      go (image.marked h) (left_out h) (not_restored flow act has_fields image H settings progress plan fills rest n p c h below s ready inn) counted
+    where
+      go : (m b : Bool) → b ≡ false → (m && not b) ≡ false → m ≡ false
+      go m true x y = absurd (true≢false x)
+      go true false x y = absurd (true≢false y)
+      go false false x y = refl
+
+  record IsTrustedAt (p : Path) : Type 0 where
+    speaker : Path
+    speaks : holder image p ≡ Some speaker
+    as_file : IsTrue (bytes_eq speaker p || is_file image p)
+    unmarked : image.marked speaker ≡ false
+    whole : (r : Record) → core_at image speaker ≡ Some r → IsTrue (is_whole image speaker (kind_in r.recipe speaker))
+    trusted : Trusted image e speaker
+
+  made_trusted : (n : ℕ) (p : Path) → comes n p → (c : Candidate) → choose flow (sources_of image) p ≡ Make c → is_ready image settings progress plan p ≡ true → IsTrustedAt p
+  made_trusted zero p below c s ready = absurd (reached_zero flow (sources_of image) plan.lists walked p c below s)
+  made_trusted (suc n) p below c s ready =
+      let calm = ready_quiet flow act has_fields image H settings progress plan fills rest n p c below s ready in
+      let from = quiet_product flow act has_fields image H settings progress plan fills rest (suc n) p c below s calm in
+      let product = from.2 in
+      let whole = ready_whole flow act has_fields image H settings progress plan fills rest (suc n) p c from.0 from.1 below product ready in
+      let reads = core_reads image from.0 from.1 product.reads in
+      let stands = (ready_parts flow act has_fields image H settings progress plan fills rest (suc n) p c below s ready).1 in
+      let unmarked = unmarked_when_ready (suc n) p c from.0 below s ready product.is_output product.unmarked in
+      record {
+        speaker = from.0;
+        speaks = product.holds;
+        as_file = filed (suc n) p c below s from.0 product.place stands;
+        unmarked = unmarked;
+        whole = λ r k. subst (λ (s : Record). IsTrue (is_whole image from.0 (kind_in s.recipe from.0))) (some_inj (core from.1) r (sym reads ∙ k)) whole.0;
+        trusted = (core from.1, (reads, inl unmarked), trusted_at (suc n) p c from.0 from.1 below product calm);
+      }
+
+  read_trusted : (j : Job) (p : Path) → In j plan.jobs → In p (in_paths j.recipe ++ gathers_from j) → IsTrue (is_current image settings progress plan p) → IsTrue (is_source image p) ⊎ IsTrustedAt p
+  read_trusted j p h i current =
+      let w = wanted_comes flow act has_fields image H settings progress plan rest j p h i in
+      go w.0 w.2 (choice_known flow (sources_of image) plan.lists w.0 p w.2.calm) (or_cases (is_source image p) (is_ready image settings progress plan p) current)
+    where
+      go : (n : ℕ) → comes n p → (choose flow (sources_of image) p ≡ Source) ⊎ ((c : Candidate) × (choose flow (sources_of image) p ≡ Make c)) → (is_source image p ≡ true) ⊎ (is_ready image settings progress plan p ≡ true) → IsTrue (is_source image p) ⊎ IsTrustedAt p
+      go n below ch (inl is) = inl is
+      go n below (inl s) (inr ready) = inl (source_chosen flow (sources_of image) p s)
+      go n below (inr (c, s)) (inr ready) = inr (made_trusted n p below c s ready)
+
+no_act : Act
+no_act r trees = record { status = 0; outputs = [] }
+
+pub current_is_trusted : CurrentIsTrusted
+current_is_trusted flow image settings progress plan complete valid is j p inn reads current =
+    go (read_trusted flow no_act (λ j. true) image (λ q t. None) settings progress plan (record { complete = complete; valid = valid; derived = is })
+    (λ q r. IsTrue (is_restored image settings progress plan q) × (core_at image q ≡ Some r)) (λ h r a b. (a, b))
+    j p (in_from plan.jobs j inn) (in_from (in_paths j.recipe ++ gathers_from j) p reads) current)
+  where
+    go : IsTrue (is_source image p) ⊎ IsTrustedAt flow no_act (λ j. true) image (λ q t. None) settings progress plan (record { complete = complete; valid = valid; derived = is }) (λ q r. IsTrue (is_restored image settings progress plan q) × (core_at image q ≡ Some r)) (λ h r a b. (a, b)) p → IsTrue (is_source image p) ⊎ IsTrustedInput image (is_restored image settings progress plan) p
+    go (inl s) = inl s
+    go (inr t) =
+        inr (record { speaker = t.speaker; speaks = t.speaks; as_file = t.as_file; unmarked = t.unmarked; whole = t.whole; trusted = t.trusted })
 
 pub current_is_safe : CurrentIsSafe
 current_is_safe act rules entry log m H plan moment at_rest planned sound none listed j p inn reads current =
-    let w = wanted_comes rules.flow act has_fields image H rules.settings progress plan rest j p (in_from plan.jobs j inn) (in_from _ p reads) in
-    go w.0 w.2 (choice_known rules.flow (sources_of image) plan.lists w.0 p w.2.calm) (or_cases (is_source image p) (is_ready image rules.settings progress plan p) current)
+    go (read_trusted rules.flow act has_fields image H rules.settings progress plan rest.planned (eased rules m) none_left j p (in_from plan.jobs j inn) (in_from (in_paths j.recipe ++ gathers_from j) p reads) current)
   where
     image : Image
     image = seen rules m.world
@@ -188,45 +283,23 @@ current_is_safe act rules entry log m H plan moment at_rest planned sound none l
         rested rules.flow act (λ j. is_none (rules.missing j)) (seen rules m.world) H rules.settings (progress_of m.world m.begun) m.from plan
         (last_fields act rules entry log m H plan moment at_rest planned sound none listed)
 
+    none_left : (h : Path) (r : Record) → is_restored (seen rules m.world) rules.settings (progress_of m.world m.begun) plan h ≡ true → core_at (seen rules m.world) h ≡ Some r → eased rules m h r
+    none_left h r x y =
+        absurd (clash_of (is_restored (seen rules m.world) rules.settings (progress_of m.world m.begun) plan h) x
+        (none_restored rules.flow act (λ j. is_none (rules.missing j)) (seen rules m.world) H rules.settings (progress_of m.world m.begun) plan (bound_fills_from numbered_all) rest h))
+
     owned_none : (cs : List Child) → cs ≡ [] → (q : Path) → is_within q (owned_now cs) ≡ false
     owned_none cs e q = ap (λ cs. is_within q (owned_now cs)) e
 
-    fills_here : BoundFills
-    fills_here = bound_fills_from numbered_all
-
-    -- a member is there as a file
-    filed :
-        (n : ℕ) → Comes rules.flow act (λ j. is_none (rules.missing j)) (seen rules m.world) H rules.settings (progress_of m.world m.begun) plan (bound_fills_from numbered_all) rest n p → (c : Candidate) → choose rules.flow (sources_of (seen rules m.world)) p ≡ Make c →
-        (h : Path) → (p ≡ h) ⊎ (is_under p h ≡ true) × In h (folders_of (recipe rules.flow plan.lists c)) →
-        stands_whole (seen rules m.world) p (job rules.flow plan.lists c) ≡ true → IsTrue (bytes_eq h p || is_file (seen rules m.world) p)
-    filed n comes c e h (inl s) stands = or_first (bytes_eq h p) (is_file image p) (subst (λ q. bytes_eq q p ≡ true) s (place_itself p))
-    filed n comes c e h (inr u) stands =
-        let apart = own_outputs rules.flow act has_fields image H rules.settings progress plan (bound_fills_from numbered_all) rest n p c comes e in
-        let over = member_over rules.flow act has_fields image H rules.settings progress plan (bound_fills_from numbered_all) rest c h p apart u.0 u.1 in
-        let w = sym (ap (is_whole_by image p (kind_in (recipe rules.flow plan.lists c) p)) over) ∙ stands in
-        or_second (bytes_eq h p) (is_file image p) (and_right (is_whole image h FolderKind) (is_file image p) w)
-
-    made : (n : ℕ) → Comes rules.flow act (λ j. is_none (rules.missing j)) (seen rules m.world) H rules.settings (progress_of m.world m.begun) plan (bound_fills_from numbered_all) rest n p → (c : Candidate) → choose rules.flow (sources_of (seen rules m.world)) p ≡ Make c → is_ready (seen rules m.world) rules.settings (progress_of m.world m.begun) plan p ≡ true → IsSafeProduct rules m p
-    made zero comes c e ready = absurd (reached_zero rules.flow (sources_of (seen rules m.world)) plan.lists _ p c comes e)
-    made (suc n) comes c e ready =
-        let quiet = ready_quiet rules.flow act has_fields image H rules.settings progress plan fills_here rest n p c comes e ready in
-        let from = quiet_product rules.flow act has_fields image H rules.settings progress plan fills_here rest (suc n) p c comes e quiet in
-        let product = from.2 in
-        let whole = ready_whole rules.flow act has_fields image H rules.settings progress plan fills_here rest (suc n) p c from.0 from.1 comes product ready in
-        let reads = core_reads image from.0 from.1 product.reads in
-        let stands = (ready_parts rules.flow act has_fields image H rules.settings progress plan fills_here rest (suc n) p c comes e ready).1 in
-        record {
+    go : IsTrue (is_source (seen rules m.world) p) ⊎ IsTrustedAt rules.flow act (λ j. is_none (rules.missing j)) (seen rules m.world) H rules.settings (progress_of m.world m.begun) plan rest.planned (eased rules m) none_left p → IsSafeInput rules m p
+    go (inl s) = inl s
+    go (inr t) =
+        inr (record {
           not_owned = owned_none m.world.children sound.no_child p;
-          speaker = from.0;
-          speaks = product.holds;
-          as_file = filed (suc n) comes c e from.0 product.place stands;
-          unmarked = product.unmarked;
-          whole = λ r k. subst (λ (s : Record). IsTrue (is_whole image from.0 (kind_in s.recipe from.0))) (some_inj (core from.1) r (sym reads ∙ k)) whole.0;
-          trusted =
-              (core from.1, (reads, inl product.unmarked), trusted_at rules.flow act has_fields image H rules.settings progress plan rest (eased rules m) (suc n) p c from.0 from.1 comes product quiet);
-        }
-
-    go : (n : ℕ) → Comes rules.flow act (λ j. is_none (rules.missing j)) (seen rules m.world) H rules.settings (progress_of m.world m.begun) plan (bound_fills_from numbered_all) rest n p → (choose rules.flow (sources_of (seen rules m.world)) p ≡ Source) ⊎ ((c : Candidate) × (choose rules.flow (sources_of (seen rules m.world)) p ≡ Make c)) → (is_source (seen rules m.world) p ≡ true) ⊎ (is_ready (seen rules m.world) rules.settings (progress_of m.world m.begun) plan p ≡ true) → IsSafeInput rules m p
-    go n comes ch (inl is) = inl is
-    go n comes (inl s) (inr ready) = inl (source_chosen rules.flow (sources_of (seen rules m.world)) p s)
-    go n comes (inr (c, e)) (inr ready) = inr (made n comes c e ready)
+          speaker = t.speaker;
+          speaks = t.speaks;
+          as_file = t.as_file;
+          unmarked = t.unmarked;
+          whole = t.whole;
+          trusted = t.trusted;
+        })

@@ -13,6 +13,7 @@ pub mod CurrentSame
 pub mod CurrentWalked
 pub mod CurrentApart
 pub mod CurrentTrees
+pub mod CurrentStates
 pub mod CurrentProducts
 pub mod CurrentFills
 pub mod CurrentNumbers

@@ -15,9 +15,10 @@ use Rattle.smk_trigger.specs.declared.reason.State.{State}
 use Rattle.smk_trigger.specs.declared.reason.State.TheVariants.{Open, Dirty, Restore, Clean}
 use Rattle.smk_trigger.specs.JobStates.{is_open, is_dirty, is_clean, is_to_run}
 use Rattle.smk_trigger.specs.Reasons.{own_reasons, when}
-use Rattle.smk_store.specs.Trust.{stamp_now}
+use Rattle.smk_store.specs.Trust.{is_marked_but, stamp_now_but}
 use Rattle.smk_pick.specs.declared.settings.Settings.{Settings}
-use Rattle.smk_plan.specs.States.{Plan, Progress, makes, gathers_from, stands_whole, by_reasons, or_state, test_some, none_or_one, maker_of, made_by, directory_over, awaits, is_input, is_ready, is_at_hand, awaited, is_open_now, is_forced, reasons, makes_awaited, is_temporary, is_wanted_back, is_to_restore, kept_state, is_read_now, by_table, state_of}
+use Rattle.smk_plan.specs.States.{Plan, Progress, makes, gathers_from, stands_whole, by_reasons, unless_clean, while_running, test_some, none_or_one, maker_of, made_by, directory_over, awaits, is_input, is_ready, is_at_hand, awaited, is_open_now, is_forced, reasons, makes_awaited, is_temporary, is_wanted_back, is_to_restore, kept_state, is_restored, is_read_now, by_table, state_of}
+use Rattle.smk_laws.proofs.CurrentStates.{unless_open, unless_dirty}
 use Rattle.smk_laws.proofs.CurrentLists.{In, in_left, in_right, in_either, in_flat, flat_in, in_distinct, distinct_in, any_in, any_from, or_cases, or_first, and_left, and_both, find_in, none_some, clash_of}
 use Rattle.smk_laws.proofs.CurrentPaths.{among_in, in_among, touch_overlaps}
 use Rattle.smk_laws.proofs.CurrentApart.{JobsApart, maker_found, same_trans}
@@ -70,27 +71,45 @@ once_paths ps p h = let d = in_distinct bytes_eq place_itself same_trans ps p h 
 
 -- ## One state
 
+table_open : (b : Bool) (rs : List Reason) (x y : Bool) → is_open (cond b Open (by_reasons rs x)) ≡ is_open (cond b Open (by_reasons rs y))
+table_open true rs x y = refl
+table_open false (r ∷ rs) x y = refl
+table_open false [] true true = refl
+table_open false [] true false = refl
+table_open false [] false true = refl
+table_open false [] false false = refl
+
+table_dirty : (b : Bool) (rs : List Reason) (x y : Bool) → is_dirty (cond b Open (by_reasons rs x)) ≡ is_dirty (cond b Open (by_reasons rs y))
+table_dirty true rs x y = refl
+table_dirty false (r ∷ rs) x y = refl
+table_dirty false [] true true = refl
+table_dirty false [] true false = refl
+table_dirty false [] false true = refl
+table_dirty false [] false false = refl
+
+running_open : (o : Option State) (s t : State) → is_open s ≡ is_open t → is_open (while_running o s) ≡ is_open (while_running o t)
+running_open None s t h = h
+running_open (Some (Dirty rs)) s t h = refl
+running_open (Some Open) s t h = unless_open s ∙ (h ∙ sym (unless_open t))
+running_open (Some Restore) s t h = unless_open s ∙ (h ∙ sym (unless_open t))
+running_open (Some Clean) s t h = unless_open s ∙ (h ∙ sym (unless_open t))
+
+running_dirty : (o : Option State) (s t : State) → is_dirty s ≡ is_dirty t → is_dirty (while_running o s) ≡ is_dirty (while_running o t)
+running_dirty None s t h = h
+running_dirty (Some (Dirty rs)) s t h = refl
+running_dirty (Some Open) s t h = unless_dirty s ∙ (h ∙ sym (unless_dirty t))
+running_dirty (Some Restore) s t h = unless_dirty s ∙ (h ∙ sym (unless_dirty t))
+running_dirty (Some Clean) s t h = unless_dirty s ∙ (h ∙ sym (unless_dirty t))
+
 same_open :
     (o : Option State) (b : Bool) (rs : List Reason) (x y : Bool) →
-    is_open (or_state o (cond b Open (by_reasons rs x))) ≡ is_open (or_state o (cond b Open (by_reasons rs y)))
-same_open (Some s) b rs x y = refl
-same_open None true rs x y = refl
-same_open None false (r ∷ rs) x y = refl
-same_open None false [] true true = refl
-same_open None false [] true false = refl
-same_open None false [] false true = refl
-same_open None false [] false false = refl
+    is_open (while_running o (cond b Open (by_reasons rs x))) ≡ is_open (while_running o (cond b Open (by_reasons rs y)))
+same_open o b rs x y = running_open o (cond b Open (by_reasons rs x)) (cond b Open (by_reasons rs y)) (table_open b rs x y)
 
 same_dirty :
     (o : Option State) (b : Bool) (rs : List Reason) (x y : Bool) →
-    is_dirty (or_state o (cond b Open (by_reasons rs x))) ≡ is_dirty (or_state o (cond b Open (by_reasons rs y)))
-same_dirty (Some s) b rs x y = refl
-same_dirty None true rs x y = refl
-same_dirty None false (r ∷ rs) x y = refl
-same_dirty None false [] true true = refl
-same_dirty None false [] true false = refl
-same_dirty None false [] false true = refl
-same_dirty None false [] false false = refl
+    is_dirty (while_running o (cond b Open (by_reasons rs x))) ≡ is_dirty (while_running o (cond b Open (by_reasons rs y)))
+same_dirty o b rs x y = running_dirty o (cond b Open (by_reasons rs x)) (cond b Open (by_reasons rs y)) (table_dirty b rs x y)
 
 -- where an output isn't temporary, what any job reads is wanted back anyway
 absorbed :
@@ -279,14 +298,14 @@ module _ (image : Image) (settings : Settings) (progress : Progress) (L : Listin
           let up =
           filter_same (made_by (plan_of F) is_dirty) (made_by (plan_of G) is_dirty) (distinct bytes_eq (in_paths k.recipe))
           (λ q h. made_same is_dirty (λ j i. (alike j i).dirties) q (inl (distinct_in bytes_eq (in_paths k.recipe) q h))) in
-          ap (λ qs. own_reasons k.recipe (map image.kept (out_paths k.recipe)) (map image.marked (out_paths k.recipe)) (map (λ q. (q, stamp_now image q)) (in_paths k.recipe))
+          ap (λ qs. own_reasons k.recipe (map image.kept (out_paths k.recipe)) (map (is_marked_but image (is_restored image settings progress (plan_of F))) (out_paths k.recipe)) (map (λ q. (q, stamp_now_but image (is_restored image settings progress (plan_of F)) q)) (in_paths k.recipe))
           ++ (map Upstream qs ++ when (is_forced image settings progress (plan_of F) k) Rattle.smk_trigger.specs.declared.reason.Reason.TheVariants.Forced)) up
 
       -- the states are the same where what is to be restored is
       pub next_same : is_to_restore image settings progress (plan_of F) k ≡ is_to_restore image settings progress (plan_of G) k → next F k ≡ next G k
       next_same e =
           let o = open_same in let r = reasons_same in
-          λ i. or_state (kept_state image settings progress (plan_of F) k) (cond (o i) Open (by_reasons (r i) (e i && not (is_read_now image settings progress (plan_of F) k))))
+          λ i. while_running (kept_state image settings progress (plan_of F) k) (cond (o i) Open (by_reasons (r i) (e i && not (is_read_now image settings progress (plan_of F) k))))
 
       pub restore_same :
           ((p : Path) → In p (out_paths k.recipe) → is_wanted_back image settings progress (plan_of F) k p ≡ is_wanted_back image settings progress (plan_of G) k p) →
@@ -329,11 +348,11 @@ module _ (image : Image) (settings : Settings) (progress : Progress) (L : Listin
           let x = is_to_restore image settings progress (plan_of F) k && not (is_read_now image settings progress (plan_of F) k) in
           let y = is_to_restore image settings progress (plan_of G) k && not (is_read_now image settings progress (plan_of G) k) in
           record {
-            opens = ap (λ b. is_open (or_state kept (cond b Open (by_reasons (reasons image settings progress (plan_of F) k) x)))) o
-                ∙ (ap (λ rs. is_open (or_state kept (cond (is_open_now image settings progress (plan_of G) k) Open (by_reasons rs x)))) r
+            opens = ap (λ b. is_open (while_running kept (cond b Open (by_reasons (reasons image settings progress (plan_of F) k) x)))) o
+                ∙ (ap (λ rs. is_open (while_running kept (cond (is_open_now image settings progress (plan_of G) k) Open (by_reasons rs x)))) r
                 ∙ same_open kept (is_open_now image settings progress (plan_of G) k) (reasons image settings progress (plan_of G) k) x y);
-            dirties = ap (λ b. is_dirty (or_state kept (cond b Open (by_reasons (reasons image settings progress (plan_of F) k) x)))) o
-                ∙ (ap (λ rs. is_dirty (or_state kept (cond (is_open_now image settings progress (plan_of G) k) Open (by_reasons rs x)))) r
+            dirties = ap (λ b. is_dirty (while_running kept (cond b Open (by_reasons (reasons image settings progress (plan_of F) k) x)))) o
+                ∙ (ap (λ rs. is_dirty (while_running kept (cond (is_open_now image settings progress (plan_of G) k) Open (by_reasons rs x)))) r
                 ∙ same_dirty kept (is_open_now image settings progress (plan_of G) k) (reasons image settings progress (plan_of G) k) x y);
             states = λ f. next_same (restore_same (λ p i. fed_same f p));
           }

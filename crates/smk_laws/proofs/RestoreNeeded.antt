@@ -1,5 +1,5 @@
--- What a running Restore hides: the mark of its output leaves its users without a reason, though their records don't agree with its record.
-use Rattle.std.specs.Prelude.{◌≡◌, true, false, List, [], ◌∷◌, codes, Some, refl}
+-- What a running Restore must not hide: were the mark of its output counted, its users would be without a reason.
+use Rattle.std.specs.Prelude.{◌≡◌, false, not, List, [], ◌∷◌, filter, codes, bytes_eq, Some, refl}
 use Rattle.smk_world.specs.Trees.{Path}
 use Rattle.smk_record.specs.declared.record.Stamp.TheVariants.{Time, Made}
 use Rattle.smk_record.specs.declared.record.Record.{Record}
@@ -7,9 +7,9 @@ use Rattle.smk_record.specs.Records.{agrees}
 use Rattle.smk_flow.specs.Flows.{Flow}
 use Rattle.smk_store.specs.Images.{Image, core_at}
 use Rattle.smk_store.specs.Trust.{made_stamp}
-use Rattle.smk_trigger.specs.declared.reason.Reason.TheVariants.{Updated, Upstream}
+use Rattle.smk_trigger.specs.declared.reason.Reason.TheVariants.{New, Updated, Upstream}
 use Rattle.smk_trigger.specs.declared.reason.State.{State}
-use Rattle.smk_trigger.specs.declared.reason.State.TheVariants.{Dirty, Restore, Clean}
+use Rattle.smk_trigger.specs.declared.reason.State.TheVariants.{Dirty, Restore}
 use Rattle.smk_pick.specs.declared.settings.Settings.{Settings}
 use Rattle.smk_plan.specs.States.{Plan, Progress, nothing_done, is_ready}
 use Rattle.smk_flow.proofs.Examples.{flow_of, rule, input, output, cat}
@@ -52,9 +52,23 @@ out_of_date = refl
 abbrev restoring : Progress
 restoring = record { begun = codes "r" ∷ []; running = (codes "r", Restore) ∷ [] }
 
--- now u counts as ready, and its record doesn't agree with the one of r
-pub hidden :
-    ((planned (left (codes "r" ∷ [])) restoring).states ≡ Restore ∷ Clean ∷ Restore ∷ [])
-    × (is_ready (left (codes "r" ∷ [])) v_alone restoring (planned (left (codes "r" ∷ [])) restoring) (codes "u") ≡ true)
+-- the mark of r isn't counted, so u stays out of date: its record doesn't agree with the one of r
+pub still_out_of_date :
+    ((planned (left (codes "r" ∷ [])) restoring).states
+    ≡ Restore ∷ Dirty (Updated (codes "r") ∷ []) ∷ Dirty (Upstream (codes "u") ∷ []) ∷ [])
+    × (is_ready (left (codes "r" ∷ [])) v_alone restoring (planned (left (codes "r" ∷ [])) restoring) (codes "u") ≡ false)
     × (agrees (Made 1) (made_stamp (core_at (left (codes "r" ∷ [])) (codes "r"))) ≡ false)
-hidden = (refl, refl, refl)
+still_out_of_date = (refl, refl, refl)
+
+-- u is being made again, and r has failed meanwhile: nothing below counts as Clean
+abbrev failed_above : Image
+failed_above =
+    image_with (file (codes "a") 1 (codes "x\n") ∷ [])
+    (filter (λ (r : Record). not (bytes_eq r.path (codes "r")))
+    (recorded (jobs_in chain before [] (codes "v" ∷ [])) ((4, Time 1 ∷ [], []) ∷ (2, Made 4 ∷ [], []) ∷ (3, Made 2 ∷ [], []) ∷ [])))
+    (codes "u" ∷ [])
+
+pub passed_on :
+    (planned failed_above (record { begun = codes "r" ∷ codes "u" ∷ []; running = (codes "u", Restore) ∷ [] })).states
+    ≡ Dirty (New ∷ []) ∷ Dirty (Upstream (codes "r") ∷ []) ∷ Dirty (Upstream (codes "u") ∷ []) ∷ []
+passed_on = refl
