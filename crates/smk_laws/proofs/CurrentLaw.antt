@@ -19,7 +19,7 @@ use Rattle.smk_laws.proofs.Valid.{records_valid}
 use Rattle.smk_laws.proofs.CurrentLists.{In, map_in, find_in}
 use Rattle.smk_laws.proofs.CurrentChosen.{mapped}
 use Rattle.smk_laws.proofs.CurrentFills.{bound_fills_from}
-use Rattle.smk_laws.proofs.CurrentNumbers.{numbered_all}
+use Rattle.smk_pattern.proofs.Names.{numbered_all}
 use Rattle.smk_laws.proofs.CurrentMeaning.{contains_from, current_clean}
 use Rattle.smk_laws.proofs.CurrentProducts.{Rested}
 

@@ -21,7 +21,7 @@ use Rattle.smk_laws.proofs.CurrentReach.{reached_zero, reached_step, choice_know
 use Rattle.smk_laws.proofs.CurrentRecipes.{inputs_wanted, folders_wanted}
 use Rattle.smk_laws.proofs.CurrentChosen.{chosen_viable}
 use Rattle.smk_laws.proofs.CurrentFills.{bound_fills_from}
-use Rattle.smk_laws.proofs.CurrentNumbers.{numbered_all}
+use Rattle.smk_pattern.proofs.Names.{numbered_all}
 use Rattle.smk_laws.proofs.CurrentDepths.{mean_deeper}
 use Rattle.smk_laws.proofs.CurrentMeaning.{in_from, source_chosen, source_file, source_clean, ready_clean, Cleans}
 use Rattle.smk_laws.proofs.CurrentLaw.{rested}

@@ -32,7 +32,7 @@ use Rattle.smk_laws.proofs.CurrentLists.{In, zip_first, or_cases, or_first, or_s
 use Rattle.smk_laws.proofs.CurrentReach.{reached_zero, reached_step, choice_known}
 use Rattle.smk_laws.proofs.CurrentChosen.{chosen_viable}
 use Rattle.smk_laws.proofs.CurrentFills.{bound_fills_from}
-use Rattle.smk_laws.proofs.CurrentNumbers.{numbered_all}
+use Rattle.smk_pattern.proofs.Names.{numbered_all}
 use Rattle.smk_laws.proofs.CurrentComplete.{seen_is_complete}
 use Rattle.smk_laws.proofs.Valid.{records_valid}
 use Rattle.smk_laws.proofs.CurrentMeaning.{in_from, source_chosen, source_file, source_stamp, source_stamp_but, time_made, made_inj, none_restored}

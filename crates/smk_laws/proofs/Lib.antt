@@ -16,7 +16,6 @@ pub mod CurrentTrees
 pub mod CurrentStates
 pub mod CurrentProducts
 pub mod CurrentFills
-pub mod CurrentNumbers
 pub mod CurrentComplete
 pub mod CurrentMeaning
 pub mod CurrentLaw

@@ -25,7 +25,7 @@ use Rattle.smk_laws.proofs.CurrentWalked.{walked_chosen, chosen_same}
 use Rattle.smk_laws.proofs.CurrentApart.{JobsApart, jobs_apart, spots_apart, maker_found}
 use Rattle.smk_laws.proofs.CurrentChosen.{Origin, origin, output_in, folder_made}
 use Rattle.smk_laws.proofs.CurrentFills.{bound_fills_from}
-use Rattle.smk_laws.proofs.CurrentNumbers.{numbered_all}
+use Rattle.smk_pattern.proofs.Names.{numbered_all}
 use Rattle.smk_laws.proofs.CurrentMeaning.{source_chosen}
 use Rattle.smk_laws.proofs.PlanOrder.{Within, Reads, Served, InOrder, Ordered, flat_ordered, walk_ordered, distinct_ordered, source_unmade, jobs_in_order}
 use Rattle.smk_laws.proofs.PlanStates.{plan_of, next, all_clean, Alike, any_same, any_zip, next_same, restore_same, wanted_same, alike_next}

@@ -1,7 +1,7 @@
 use Rattle.smk_laws.proofs.CurrentAtExit.{current_at_exit_is_clean}
 use Rattle.smk_laws.proofs.CurrentComplete.{seen_is_complete}
 use Rattle.smk_laws.proofs.CurrentFills.{bound_fills_from}
-use Rattle.smk_laws.proofs.CurrentNumbers.{numbered_all}
+use Rattle.smk_pattern.proofs.Names.{numbered_all}
 use Rattle.smk_laws.proofs.CurrentLaw.{current_means_clean, current_means_clean_in_worlds}
 use Rattle.smk_laws.proofs.CurrentReads.{reads_are_clean, same_values}
 use Rattle.smk_laws.proofs.current_is_clean.Goals as goal
