@@ -1,13 +1,12 @@
 -- A path has one choice.
-use Rattle.std.proofs.Common.{◌≡◌, ◌≢◌, ◌⊎◌, ℕ, zero, suc, ◌+◌, Bool, true, false, not, cond, ◌&&◌, ◌||◌, List, [], ◌∷◌, refl, sym, ap, subst, inl, inr, ◌∙◌, arith, Option, Some, None, find, IsTrue, Contains, true≢false, eqb, eqb-true, false-eqb}
+use Rattle.std.proofs.Common.{◌≡◌, ◌≢◌, ◌⊎◌, ℕ, Bool, true, false, not, ◌&&◌, ◌||◌, List, [], ◌∷◌, refl, sym, ap, subst, inl, inr, ◌∙◌, arith, Option, Some, None, true≢false, eqb, eqb-true, false-eqb}
 use Rattle.std.specs.List.{list_any, list_all, enumerate_from}
 use Rattle.smk_world.specs.Trees.{Path}
-use Rattle.smk_pattern.specs.Shapes.{Text}
 use Rattle.smk_flow.specs.declared.rule.RulePart.{RulePart}
 use Rattle.smk_flow.specs.Flows.{Flow, Candidate, has_wildcards_in}
 use Rattle.smk_choose.specs.Choose.{Sources, Choice, Source, Make, Nothing, Ambiguous, Lack, choose, choice, orders, precedes, viable, leader, lack_of_first, candidates}
 use Rattle.smk_laws.specs.Choices.{OneChoice, OrdersOneWay, Leads}
-use Rattle.smk_laws.proofs.CurrentLists.{In, all_in, all_from, find_in, find_some, or_cases, or_first, or_second, clash_of, none_some, some_inj}
+use Rattle.smk_laws.proofs.CurrentLists.{In, all_in, all_from, find_in, find_some, or_cases}
 use Rattle.smk_laws.proofs.CurrentMeaning.{contains_from, in_from}
 use Rattle.smk_laws.proofs.CurrentChosen.{make_inj}
 use Rattle.smk_laws.proofs.CurrentWalked.{numbered_once}

@@ -30,7 +30,7 @@ use Rattle.smk_laws.specs.Current.{AtRest, GathersRight}
 use Rattle.smk_laws.specs.AtExit.{CurrentAtExitIsClean}
 use Rattle.smk_laws.proofs.CurrentComplete.{seen_is_complete}
 use Rattle.smk_laws.proofs.Valid.{records_valid}
-use Rattle.smk_laws.proofs.CurrentLists.{In, in_zip, flat_nil, append_nil_right, cons_nil, none_some}
+use Rattle.smk_laws.proofs.CurrentLists.{In, in_zip, flat_nil, append_nil_right, cons_nil}
 use Rattle.smk_laws.proofs.CurrentMeaning.{in_from}
 use Rattle.smk_laws.proofs.CurrentLaw.{current_means_clean, last_is}
 

@@ -31,7 +31,7 @@ use Rattle.smk_laws.proofs.CurrentValues.{inputs_same, value_given, listings_agr
 use Rattle.smk_laws.proofs.CurrentChosen.{chosen_viable}
 use Rattle.smk_trigger.specs.declared.reason.State.{State}
 use Rattle.smk_trigger.specs.JobStates.{is_restore}
-use Rattle.smk_laws.proofs.CurrentProducts.{Planned, Rested, restored, Quiet, Product, ReachedHere, quiet_product, quiet_input, quiet_folder, ready_whole, known, listed, source_listed, in_plan, ready_quiet, target_reached, some_of, file_tree, core_reads, each_stamped}
+use Rattle.smk_laws.proofs.CurrentProducts.{Rested, restored, Quiet, Product, ReachedHere, quiet_product, quiet_input, quiet_folder, ready_whole, known, listed, source_listed, in_plan, ready_quiet, target_reached, some_of, file_tree, core_reads, each_stamped}
 
 pub contains_from : {A : Type 0} (xs : List A) (x : A) → In x xs → Contains xs x
 contains_from [] x h = absurd h

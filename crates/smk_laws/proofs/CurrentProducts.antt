@@ -26,7 +26,7 @@ use Rattle.smk_choose.specs.Choose.{Sources, choose, Make}
 use Rattle.smk_store.specs.Images.{Image, Content, content_of, is_directory, stands, file_at, is_file, is_folder, names_under, members_under, entry_under, tree_now, record_at, core_at, is_whole, is_known, is_covered, is_source, source_at}
 use Rattle.smk_store.specs.Trust.{Versions, holder, is_folder_record, made_stamp, is_marked_but, unmarked_stamp_but, stamp_now_but, time_stamp, none_eased}
 use Rattle.smk_store.specs.Soundness.{Sound}
-use Rattle.smk_chain.specs.Derive.{listing, or_none, job, jobs, recipe, walk, refusals, clashes, spots, is_deep, distinct, sources_of, Deep, Refusal, refused_if, refused, reach, TooManyPaths}
+use Rattle.smk_chain.specs.Derive.{listing, job, jobs, recipe, walk, refusals, clashes, spots, is_deep, distinct, sources_of, Deep, Refusal, refused_if, refused, reach, TooManyPaths}
 use Rattle.smk_trigger.specs.declared.reason.Reason.{Reason}
 use Rattle.smk_trigger.specs.declared.reason.Reason.TheVariants.{Upstream}
 use Rattle.smk_trigger.specs.declared.reason.State.{State}
@@ -34,7 +34,7 @@ use Rattle.smk_trigger.specs.declared.reason.State.TheVariants.{Open, Dirty, Res
 use Rattle.smk_trigger.specs.JobStates.{is_open, is_dirty, is_clean, is_restore}
 use Rattle.smk_trigger.specs.Reasons.{once}
 use Rattle.smk_pick.specs.declared.settings.Settings.{Settings}
-use Rattle.smk_plan.specs.States.{Plan, Progress, IsPlan, files_listed, gathers_from, reasons, is_open_now, is_ready, maker_of, state_of, by_table, by_reasons, while_running, kept_state, is_restored, job_path, makes, made_by, is_whole_by, stands_whole, awaits, is_at_hand, test_some}
+use Rattle.smk_plan.specs.States.{Plan, Progress, IsPlan, files_listed, gathers_from, reasons, is_open_now, is_ready, maker_of, state_of, by_table, by_reasons, while_running, kept_state, is_restored, makes, made_by, is_whole_by, stands_whole, awaits, is_at_hand, test_some}
 use Rattle.smk_chain.specs.Mean.{setting_of}
 use Rattle.smk_laws.specs.Current.{IsComplete, HasValidRecords, IsRight}
 use Rattle.smk_laws.proofs.CurrentLists.{In, append_nil_left, append_nil_right, map_nil, filter_nil, filter_in, any_none, in_left, find_some, or_first, or_second, or_left, or_right, and_left, and_right, not_false, not_true, in_distinct, in_map, zip_first, find_in, clash_of, some_inj, none_some}

@@ -1,7 +1,6 @@
 -- What jobs of a plan read is clean where it is current; and the clean value is a matter of the sources.
-use Rattle.std.proofs.Common.{◌≡◌, ◌⊎◌, ℕ, zero, suc, ◌≤◌, Bool, true, false, cond, List, ◌++◌, refl, sym, ap, subst, inl, inr, ◌∙◌, arith, Option, Some, None, option_map, is_some, IsTrue, Contains, true≢false}
+use Rattle.std.proofs.Common.{◌≡◌, ◌⊎◌, ℕ, zero, suc, ◌≤◌, Bool, true, false, cond, List, ◌++◌, refl, sym, ap, subst, inl, inr, ◌∙◌, arith, Option, Some, None, option_map, is_some, IsTrue}
 use Rattle.smk_base.specs.Path.{overlaps}
-use Rattle.smk_base.specs.declared.tree.Tree.{Tree}
 use Rattle.smk_world.specs.World.{in_paths}
 use Rattle.smk_world.specs.Trees.{Path, Act}
 use Rattle.smk_flow.specs.declared.job.Job.{Job}
@@ -9,13 +8,13 @@ use Rattle.smk_flow.specs.Flows.{Flow, Candidate}
 use Rattle.smk_choose.specs.Choose.{Source, Make, choose}
 use Rattle.smk_store.specs.Images.{Image, Content, file_at, is_source, source_at, sources, holds_source}
 use Rattle.smk_store.specs.Trust.{Versions}
-use Rattle.smk_store.specs.Soundness.{SameSources, told}
-use Rattle.smk_chain.specs.Derive.{Listings, job, jobs, walk, wants, distinct, same_candidate, sources_of}
-use Rattle.smk_chain.specs.Mean.{Setting, setting_of, mean, clean_value}
+use Rattle.smk_store.specs.Soundness.{told}
+use Rattle.smk_chain.specs.Derive.{job, walk, wants, distinct, same_candidate, sources_of}
+use Rattle.smk_chain.specs.Mean.{setting_of, clean_value}
 use Rattle.smk_pick.specs.declared.settings.Settings.{Settings}
 use Rattle.smk_plan.specs.States.{Plan, Progress, gathers_from, is_ready, is_current}
-use Rattle.smk_laws.specs.Current.{AtRest, IsComplete, ReadsAreClean, SameValues}
-use Rattle.smk_laws.proofs.CurrentLists.{In, in_either, flat_in, map_in, distinct_in, in_filter, filter_in, any_in, any_from, or_cases, clash_of, none_some}
+use Rattle.smk_laws.specs.Current.{IsComplete, ReadsAreClean, SameValues}
+use Rattle.smk_laws.proofs.CurrentLists.{In, in_either, flat_in, map_in, distinct_in, in_filter, filter_in, any_in, any_from, or_cases, clash_of}
 use Rattle.smk_laws.proofs.CurrentPaths.{among_in}
 use Rattle.smk_laws.proofs.CurrentReach.{reached_zero, reached_step, choice_known}
 use Rattle.smk_laws.proofs.CurrentRecipes.{inputs_wanted, folders_wanted}

@@ -1,12 +1,11 @@
 -- What is ready at a moment at which no child runs is trusted, and so safe to start on.
-use Rattle.std.proofs.Common.{◌≡◌, ◌⊎◌, ℕ, zero, suc, ◌≤◌, Bool, true, false, not, ◌&&◌, ◌||◌, cond, flat_map, List, [], ◌∷◌, ◌++◌, refl, sym, ap, subst, inl, inr, ◌∙◌, arith, Option, Some, None, option_map, is_none, IsTrue, Contains, true≢false, eq-eqb}
+use Rattle.std.proofs.Common.{◌≡◌, ◌⊎◌, ℕ, zero, suc, Bool, true, false, not, ◌&&◌, ◌||◌, flat_map, List, [], ◌++◌, refl, sym, ap, subst, inl, inr, ◌∙◌, Option, Some, None, is_none, IsTrue, true≢false, eq-eqb}
 use Rattle.std.specs.Prelude.{bytes_eq}
 use Rattle.smk_base.specs.Path.{is_under}
 use Rattle.smk_base.proofs.Places.{place_itself}
 use Rattle.smk_world.specs.declared.event.Child.{Child}
-use Rattle.smk_world.specs.declared.event.Event.{Event}
 use Rattle.smk_world.specs.declared.recipe.Kind.TheVariants.{Folder as FolderKind}
-use Rattle.smk_world.specs.World.{World, in_paths, out_paths, is_within}
+use Rattle.smk_world.specs.World.{in_paths, out_paths, is_within}
 use Rattle.smk_world.specs.Calls.{owned_now}
 use Rattle.smk_world.specs.Trees.{Path, Act, among, folders_of, kind_in}
 use Rattle.smk_record.specs.declared.record.Stamp.{Stamp}
@@ -17,24 +16,19 @@ use Rattle.smk_pattern.specs.Bound.{BoundFills}
 use Rattle.smk_flow.specs.declared.job.Job.{Job}
 use Rattle.smk_flow.specs.Flows.{Flow, Candidate}
 use Rattle.smk_choose.specs.Choose.{Source, Make, choose}
-use Rattle.smk_store.specs.Images.{Image, Content, is_file, is_source, is_whole, core_at}
+use Rattle.smk_store.specs.Images.{Image, is_file, is_source, is_whole, core_at}
 use Rattle.smk_store.specs.Trust.{Eased, Versions, any_time, same_time, holder, is_marked_but, made_stamp, Clear, Speaks, Chain, Link, Trusted}
-use Rattle.smk_store.specs.Soundness.{Sound}
-use Rattle.smk_chain.specs.Derive.{Listings, job, recipe, walk, sources_of}
-use Rattle.smk_chain.specs.Mean.{setting_of}
+use Rattle.smk_chain.specs.Derive.{job, recipe, walk, sources_of}
 use Rattle.smk_pick.specs.declared.settings.Settings.{Settings}
 use Rattle.smk_plan.specs.States.{Plan, Progress, gathers_from, is_ready, is_current, is_restored, is_whole_by, stands_whole}
-use Rattle.smk_drive.specs.Moments.{Rules, Moment, Begun, seen, progress_of, IsInForce}
-use Rattle.smk_drive.specs.Lawful.{eased, IsSafeInput, IsSafeProduct}
-use Rattle.smk_laws.specs.Current.{AtRest}
+use Rattle.smk_drive.specs.Moments.{seen, progress_of}
+use Rattle.smk_drive.specs.Lawful.{eased, IsSafeInput}
 use Rattle.smk_laws.specs.Trusted.{TrustedHolds, CurrentIsSafe, CurrentIsTrusted, IsTrustedInput}
 use Rattle.smk_laws.proofs.CurrentLists.{In, zip_first, or_cases, or_first, or_second, and_right, clash_of, some_inj}
 use Rattle.smk_laws.proofs.CurrentReach.{reached_zero, reached_step, choice_known}
 use Rattle.smk_laws.proofs.CurrentChosen.{chosen_viable}
 use Rattle.smk_laws.proofs.CurrentFills.{bound_fills_from}
 use Rattle.smk_pattern.proofs.Names.{numbered_all}
-use Rattle.smk_laws.proofs.CurrentComplete.{seen_is_complete}
-use Rattle.smk_laws.proofs.Valid.{records_valid}
 use Rattle.smk_laws.proofs.CurrentMeaning.{in_from, source_chosen, source_file, source_stamp, source_stamp_but, time_made, made_inj, none_restored}
 use Rattle.smk_laws.proofs.CurrentRecipes.{inputs_wanted}
 use Rattle.smk_laws.proofs.CurrentProducts.{Planned, Rested, ReachedHere, Quiet, Product, quiet_product, quiet_input, ready_quiet, ready_whole, ready_parts, own_outputs, member_over, not_restored, core_reads}

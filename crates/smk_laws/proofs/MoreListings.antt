@@ -1,10 +1,9 @@
 -- With more listings the jobs of a plan stay; and one that isn't Open stays as it is.
-use Rattle.std.proofs.Common.{◌≡◌, ◌⊎◌, ℕ, zero, suc, Bool, true, false, not, cond, ◌&&◌, ◌||◌, List, [], ◌∷◌, ◌++◌, map, filter, filter_map, flat_map, find, zip, refl, sym, ap, subst, inl, inr, ◌∙◌, Option, Some, None, option_map, is_some, is_none, true≢false, Contains, IsTrue}
-use Rattle.std.specs.List.{cons_option, list_any}
+use Rattle.std.proofs.Common.{◌≡◌, ◌⊎◌, ℕ, zero, suc, Bool, true, false, not, cond, ◌&&◌, ◌||◌, List, [], ◌∷◌, ◌++◌, map, filter, filter_map, flat_map, find, zip, refl, sym, ap, subst, inl, inr, ◌∙◌, Option, Some, None, option_map, is_none, true≢false, Contains}
+use Rattle.std.specs.List.{list_any}
 use Rattle.std.specs.Prelude.{bytes_eq}
-use Rattle.smk_world.specs.World.{in_paths, out_paths}
+use Rattle.smk_world.specs.World.{in_paths}
 use Rattle.smk_world.specs.Trees.{Path, is_path_text}
-use Rattle.smk_record.specs.declared.record.Record.{Record}
 use Rattle.smk_record.specs.declared.record.Member.{Member}
 use Rattle.smk_record.specs.Records.{members_of}
 use Rattle.smk_pattern.specs.Shapes.{Text}
@@ -15,19 +14,18 @@ use Rattle.smk_flow.specs.declared.rule.GatherPart.{GatherPart}
 use Rattle.smk_flow.specs.declared.job.Job.{Job}
 use Rattle.smk_flow.specs.Flows.{Flow, Candidate, gathered_folders, declared_inputs, folder_from}
 use Rattle.smk_choose.specs.Choose.{Sources, Choice, Source, Make, Nothing, Ambiguous, choose}
-use Rattle.smk_store.specs.Images.{Image, stands, readable, record_at, is_file, is_known, is_covered, is_source}
+use Rattle.smk_store.specs.Images.{Image, stands, readable, is_file, is_covered, is_source}
 use Rattle.smk_store.specs.declared.store.Kept.{Kept}
 use Rattle.smk_chain.specs.declared.jobs.Known.{Known}
-use Rattle.smk_chain.specs.Derive.{Listings, listing, or_none, gathered, gathered_in, gathered_files, wants, recipe, job, jobs, walk, distinct, same_candidate, sources_of, Derived, derivation}
+use Rattle.smk_chain.specs.Derive.{Listings, listing, or_none, gathered, gathered_in, gathered_files, wants, recipe, job, walk, distinct, same_candidate, sources_of, Derived, derivation}
 use Rattle.smk_trigger.specs.declared.reason.State.{State}
-use Rattle.smk_trigger.specs.JobStates.{is_clean}
 use Rattle.smk_pick.specs.declared.settings.Settings.{Settings}
 use Rattle.smk_plan.specs.States.{Plan, Progress, IsPlan, AreListed, makes, gathers_from, awaits, is_ready, is_at_hand, is_open_now, directory_over, maker_of, state_of, files_listed}
 use Rattle.smk_laws.specs.Current.{IsComplete}
 use Rattle.smk_laws.specs.Plans.{InputsComeFirst, KeepsJobs, KeepsUnopened}
-use Rattle.smk_laws.proofs.CurrentLists.{In, in_left, in_right, in_either, in_flat, flat_in, in_map, map_in, distinct_in, any_none, or_left, or_right, and_left, and_right, not_false, not_true, clash_of, none_some}
+use Rattle.smk_laws.proofs.CurrentLists.{In, in_left, in_right, in_either, in_flat, flat_in, map_in, distinct_in, any_none, or_left, or_right, and_right, not_false, not_true, clash_of, none_some}
 use Rattle.smk_laws.proofs.CurrentReach.{Reached, reached_step, choice_known, walk_by, walk_make}
-use Rattle.smk_laws.proofs.CurrentRecipes.{map_same, job_same, folders_wanted}
+use Rattle.smk_laws.proofs.CurrentRecipes.{job_same, folders_wanted}
 use Rattle.smk_laws.proofs.CurrentWalked.{walked_job}
 use Rattle.smk_laws.proofs.CurrentApart.{maker_found}
 use Rattle.smk_laws.proofs.CurrentLaw.{listing_either}

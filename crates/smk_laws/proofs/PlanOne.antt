@@ -1,6 +1,6 @@
 -- For given listings there is exactly one plan: the table of states has one solution. Going up the jobs in plan order what makes a job
 -- Open or Dirty is settled; then, going down, what is wanted back.
-use Rattle.std.proofs.Common.{◌≡◌, ◌⊎◌, ℕ, zero, suc, Bool, true, false, ◌&&◌, List, [], ◌∷◌, ◌++◌, map, filter, flat_map, find, zip, length, refl, sym, ap, subst, inl, inr, ◌∙◌, Option, Some, None, is_some, true≢false, append_assoc}
+use Rattle.std.proofs.Common.{◌≡◌, ◌⊎◌, ℕ, zero, suc, Bool, true, false, ◌&&◌, List, [], ◌∷◌, ◌++◌, map, filter, flat_map, length, refl, sym, ap, subst, inl, inr, ◌∙◌, Some, is_some, append_assoc}
 use Rattle.std.specs.Prelude.{nat_lt}
 use Rattle.smk_base.specs.Path.{is_under, overlaps}
 use Rattle.smk_world.specs.World.{in_paths, out_paths, folders_above}
@@ -9,12 +9,12 @@ use Rattle.smk_pattern.specs.Bound.{BoundFills}
 use Rattle.smk_flow.specs.declared.job.Job.{Job}
 use Rattle.smk_flow.specs.Flows.{Flow, Candidate, makes_folder}
 use Rattle.smk_choose.specs.Choose.{Sources, Source, Make, choose}
-use Rattle.smk_store.specs.Images.{Image, is_source}
+use Rattle.smk_store.specs.Images.{Image}
 use Rattle.smk_chain.specs.Derive.{Listings, Derived, derivation, job, jobs, recipe, walk, refusals, refused, refused_if, reach, clashes, spots, is_deep, distinct, same_candidate, sources_of, Deep, TooManyPaths, Refusal}
 use Rattle.smk_trigger.specs.declared.reason.State.{State}
 use Rattle.smk_trigger.specs.JobStates.{is_to_run}
 use Rattle.smk_pick.specs.declared.settings.Settings.{Settings}
-use Rattle.smk_plan.specs.States.{Plan, Progress, IsPlan, LastPlan, Last, Then, makes, state_of, is_input, new_listings}
+use Rattle.smk_plan.specs.States.{Plan, Progress, LastPlan, Last, Then, makes, state_of, is_input, new_listings}
 use Rattle.smk_laws.specs.Current.{IsComplete}
 use Rattle.smk_laws.specs.Plans.{OnePlan, HasPlan, OneLastPlan}
 use Rattle.smk_laws.proofs.CurrentLists.{In, in_left, in_right, in_either, flat_in, map_in, distinct_in, find_some, append_nil_left, append_nil_right, map_nil, filter_nil, or_first, or_second, clash_of, some_inj}
@@ -27,7 +27,7 @@ use Rattle.smk_laws.proofs.CurrentChosen.{Origin, origin, output_in, folder_made
 use Rattle.smk_laws.proofs.CurrentFills.{bound_fills_from}
 use Rattle.smk_pattern.proofs.Names.{numbered_all}
 use Rattle.smk_laws.proofs.CurrentMeaning.{source_chosen}
-use Rattle.smk_laws.proofs.PlanOrder.{Within, Reads, Served, InOrder, Ordered, flat_ordered, walk_ordered, distinct_ordered, source_unmade, jobs_in_order}
+use Rattle.smk_laws.proofs.PlanOrder.{Within, Served, InOrder, flat_ordered, walk_ordered, distinct_ordered, source_unmade, jobs_in_order}
 use Rattle.smk_laws.proofs.PlanStates.{plan_of, next, all_clean, Alike, any_same, any_zip, next_same, restore_same, wanted_same, alike_next}
 
 -- ## What is served by earlier jobs

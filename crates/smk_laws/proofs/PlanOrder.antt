@@ -1,5 +1,5 @@
 -- In a plan the job of each input, and of each directory that is gathered from, comes before the jobs that want it.
-use Rattle.std.proofs.Common.{◌≡◌, ◌⊎◌, ℕ, zero, suc, ◌≤◌, arith, Bool, true, false, not, cond, List, [], ◌∷◌, ◌++◌, map, filter, flat_map, refl, sym, ap, subst, inl, inr, ◌∙◌, Option, Some, None, is_some, true≢false}
+use Rattle.std.proofs.Common.{◌≡◌, ◌⊎◌, ℕ, zero, suc, ◌≤◌, arith, Bool, true, false, not, cond, List, [], ◌∷◌, ◌++◌, map, filter, flat_map, refl, sym, ap, subst, inl, inr, ◌∙◌, Option, Some, None, is_some}
 use Rattle.smk_world.specs.declared.event.Node.{Node}
 use Rattle.smk_world.specs.declared.event.Node.TheVariants.{Regular, Directory}
 use Rattle.smk_world.specs.declared.recipe.Out.{Out}
@@ -7,24 +7,23 @@ use Rattle.smk_world.specs.declared.recipe.OutItem.{OutItem}
 use Rattle.smk_world.specs.World.{in_paths, out_paths}
 use Rattle.smk_world.specs.Trees.{Path, outs_of}
 use Rattle.smk_base.specs.Path.{overlaps, is_path}
-use Rattle.smk_pattern.specs.Bound.{BoundFills}
 use Rattle.smk_pattern.specs.Reading.{fill}
 use Rattle.smk_flow.specs.declared.rule.FlaggedText.{FlaggedText}
 use Rattle.smk_flow.specs.declared.rule.OutPart.{OutPart}
 use Rattle.smk_flow.specs.declared.job.Job.{Job}
-use Rattle.smk_flow.specs.Flows.{Flow, Candidate, outs, outputs, logs, gathered_folders}
+use Rattle.smk_flow.specs.Flows.{Flow, Candidate, outs, outputs, logs}
 use Rattle.smk_choose.specs.Choose.{Sources, Choice, Source, Make, Nothing, Ambiguous, choose}
 use Rattle.smk_store.specs.Images.{Image, Content, content_of, is_source, sources, holds_source}
 use Rattle.smk_chain.specs.Derive.{Listings, job, recipe, wants, walk, distinct, same_candidate, sources_of}
 use Rattle.smk_plan.specs.States.{makes, gathers_from}
 use Rattle.smk_laws.specs.Current.{IsComplete}
 use Rattle.smk_laws.proofs.CurrentLists.{In, in_left, in_right, in_either, in_flat, flat_in, in_map, map_in, in_filter, distinct_in, all_in, any_from, and_right, not_true, clash_of, none_some}
-use Rattle.smk_laws.proofs.CurrentPaths.{Touch, touch_overlaps, touch_turned, Above, among_in}
+use Rattle.smk_laws.proofs.CurrentPaths.{touch_overlaps, Above, among_in}
 use Rattle.smk_laws.proofs.CurrentReach.{Reached, reached_zero, reached_step, choice_known, walk_by, walk_make}
 use Rattle.smk_laws.proofs.CurrentRecipes.{inputs_wanted, folders_wanted}
 use Rattle.smk_laws.proofs.CurrentApart.{makes_above}
 use Rattle.smk_laws.proofs.CurrentChosen.{chosen_candidate, paths_are}
-use Rattle.smk_laws.proofs.CurrentMeaning.{source_chosen, source_file}
+use Rattle.smk_laws.proofs.CurrentMeaning.{source_file}
 
 -- what is among the one is among the other
 abbrev pub Within : {A : Type 0} → List A → List A → Type 0

@@ -1,8 +1,8 @@
 -- The table of states, as equations on a function from jobs to states: what it gives from two such functions agrees on ever more jobs.
-use Rattle.std.proofs.Common.{◌≡◌, ◌⊎◌, ℕ, zero, suc, Bool, true, false, not, cond, ◌&&◌, ◌||◌, List, [], ◌∷◌, ◌++◌, map, filter, flat_map, find, zip, refl, sym, ap, subst, inl, inr, ◌∙◌, Option, Some, None, option_map, is_some, is_none, true≢false, append_assoc}
+use Rattle.std.proofs.Common.{◌≡◌, ◌⊎◌, Bool, true, false, not, cond, ◌&&◌, ◌||◌, List, [], ◌∷◌, ◌++◌, map, filter, flat_map, find, zip, refl, sym, ap, subst, inl, inr, ◌∙◌, Option, Some, None, option_map, is_some, is_none, true≢false}
 use Rattle.std.specs.List.{list_any}
 use Rattle.std.specs.Prelude.{bytes_eq}
-use Rattle.smk_base.specs.Path.{is_under, overlaps}
+use Rattle.smk_base.specs.Path.{is_under}
 use Rattle.smk_base.proofs.Places.{same_place, place_itself}
 use Rattle.smk_world.specs.World.{in_paths, out_paths}
 use Rattle.smk_world.specs.Trees.{Path, among, folder_over, folders_of, kind_in}
@@ -17,14 +17,14 @@ use Rattle.smk_trigger.specs.JobStates.{is_open, is_dirty, is_clean, is_to_run}
 use Rattle.smk_trigger.specs.Reasons.{own_reasons, when}
 use Rattle.smk_store.specs.Trust.{is_marked_but, stamp_now_but}
 use Rattle.smk_pick.specs.declared.settings.Settings.{Settings}
-use Rattle.smk_plan.specs.States.{Plan, Progress, makes, gathers_from, stands_whole, by_reasons, unless_clean, while_running, test_some, none_or_one, maker_of, made_by, directory_over, awaits, is_input, is_ready, is_at_hand, awaited, is_open_now, is_forced, reasons, makes_awaited, is_temporary, is_wanted_back, is_to_restore, kept_state, is_restored, is_read_now, by_table, state_of}
+use Rattle.smk_plan.specs.States.{Plan, Progress, makes, gathers_from, stands_whole, by_reasons, while_running, test_some, none_or_one, maker_of, made_by, directory_over, awaits, is_input, is_ready, is_at_hand, awaited, is_open_now, is_forced, reasons, is_wanted_back, is_to_restore, kept_state, is_restored, is_read_now, state_of}
 use Rattle.smk_laws.proofs.CurrentStates.{unless_open, unless_dirty}
-use Rattle.smk_laws.proofs.CurrentLists.{In, in_left, in_right, in_either, in_flat, flat_in, in_distinct, distinct_in, any_in, any_from, or_cases, or_first, and_left, and_both, find_in, none_some, clash_of}
-use Rattle.smk_laws.proofs.CurrentPaths.{among_in, in_among, touch_overlaps}
+use Rattle.smk_laws.proofs.CurrentLists.{In, in_left, in_right, in_either, in_flat, flat_in, in_distinct, distinct_in, any_in, any_from, or_cases, or_first, and_left, and_both, find_in}
+use Rattle.smk_laws.proofs.CurrentPaths.{among_in, in_among}
 use Rattle.smk_laws.proofs.CurrentApart.{JobsApart, maker_found, same_trans}
 use Rattle.smk_laws.proofs.CurrentChosen.{folders_paths}
 use Rattle.smk_laws.proofs.CurrentProducts.{some_of}
-use Rattle.smk_laws.proofs.PlanOrder.{Within, Reads, Served, InOrder}
+use Rattle.smk_laws.proofs.PlanOrder.{Within, Reads, Served}
 
 -- ## Lists and tests
 

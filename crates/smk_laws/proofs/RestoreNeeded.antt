@@ -1,5 +1,5 @@
 -- What a running Restore must not hide: were the mark of its output counted, its users would be without a reason.
-use Rattle.std.specs.Prelude.{◌≡◌, false, not, List, [], ◌∷◌, filter, codes, bytes_eq, Some, refl}
+use Rattle.std.specs.Prelude.{◌≡◌, false, not, List, [], ◌∷◌, filter, codes, bytes_eq, refl}
 use Rattle.smk_world.specs.Trees.{Path}
 use Rattle.smk_record.specs.declared.record.Stamp.TheVariants.{Time, Made}
 use Rattle.smk_record.specs.declared.record.Record.{Record}
@@ -8,7 +8,6 @@ use Rattle.smk_flow.specs.Flows.{Flow}
 use Rattle.smk_store.specs.Images.{Image, core_at}
 use Rattle.smk_store.specs.Trust.{made_stamp}
 use Rattle.smk_trigger.specs.declared.reason.Reason.TheVariants.{New, Updated, Upstream}
-use Rattle.smk_trigger.specs.declared.reason.State.{State}
 use Rattle.smk_trigger.specs.declared.reason.State.TheVariants.{Dirty, Restore}
 use Rattle.smk_pick.specs.declared.settings.Settings.{Settings}
 use Rattle.smk_plan.specs.States.{Plan, Progress, nothing_done, is_ready}

@@ -1,5 +1,5 @@
 -- The law of current targets in the words of a run.
-use Rattle.std.specs.Prelude.{◌≡◌, ℕ, List, Some, IsTrue, Contains, is_none}
+use Rattle.std.specs.Prelude.{◌≡◌, List, Some, IsTrue, Contains, is_none}
 use Rattle.smk_world.specs.declared.event.Event.{Event}
 use Rattle.smk_world.specs.World.{World}
 use Rattle.smk_world.specs.Trees.{Path, Act}
