@@ -22,6 +22,7 @@ pub mod CurrentLaw
 pub mod CurrentChoices
 pub mod CurrentNeeded
 mod RestoreNeeded
+mod ExitRows
 pub mod CurrentDepths
 pub mod CurrentReads
 pub mod CurrentTrusted
