@@ -34,7 +34,7 @@ use Rattle.smk_laws.proofs.CurrentLists.{In, in_zip, flat_nil, append_nil_right,
 use Rattle.smk_laws.proofs.CurrentMeaning.{in_from}
 use Rattle.smk_laws.proofs.CurrentLaw.{current_means_clean, last_is}
 
-none_run : (w : World) (begun : List Begun) → w.children ≡ [] → (progress_of w begun).running ≡ []
+pub none_run : (w : World) (begun : List Begun) → w.children ≡ [] → (progress_of w begun).running ≡ []
 none_run w begun h =
     ap (λ (cs : List Child). map (λ (b : Begun). (job_path b.job, b.state)) (filter (λ (b : Begun). list_any (is_child_of b.job) cs) begun)) h
     ∙ ap (map (λ (b : Begun). (job_path b.job, b.state))) (none_kept begun)
@@ -76,7 +76,7 @@ module _ (rules : Rules) (image : Image) (progress : Progress) (plan : Plan) whe
       (flat_nil (λ (e : Job × State). of_command rules image progress plan e (rules.missing e.0)) (staged plan) (j, state_of image rules.settings progress plan j) three inn)
 
 -- the plan of a moment at rest is the one in force then
-in_force : (rules : Rules) (entry : World) (log : List Event) (m : Moment) → IsMoment rules entry log m → is_rest m.world m.begun ≡ true → IsInForce rules m.world m.begun m.from m.plan
+pub in_force : (rules : Rules) (entry : World) (log : List Event) (m : Moment) → IsMoment rules entry log m → is_rest m.world m.begun ≡ true → IsInForce rules m.world m.begun m.from m.plan
 in_force rules entry log m (AtEntry plan is) rest = is
 in_force rules entry log m (RestMoment events before e plan was now is) rest = is
 in_force rules entry log m (Between events before e was still) rest = absurd (true≢false (sym rest ∙ still))
@@ -101,7 +101,7 @@ unrefused rules image progress L plan (Then p last is more rest) none =
     own = go (refused_of rules image progress p) refl
 
 -- what the law asks, at a rest
-pub last_fields :
+last_fields :
     (act : Act) (rules : Rules) (entry : World) (log : List Event) (m : Moment) (H : Versions) (plan : Plan) → IsMoment rules entry log m →
     IsTrue (is_rest m.world m.begun) → m.plan ≡ Some plan → SoundWorld (record { read = rules.read; act = act }) m.world H →
     ((f : Fault) → ¬ PlansRefuse rules m f) →

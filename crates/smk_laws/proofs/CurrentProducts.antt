@@ -212,7 +212,7 @@ module _
     in_plan n p c reached e =
         subst (In (jb c)) derived.1 (walked_job flow srcs plan.lists settings.targets 200 c (reached_own flow srcs plan.lists walked n p c reached e))
 
-    in_plan_here : (n : ℕ) (p : Path) (c : Candidate) → ReachedHere n p → choose flow (sources_of image) p ≡ Make c → In (job flow plan.lists c) plan.jobs
+    pub in_plan_here : (n : ℕ) (p : Path) (c : Candidate) → ReachedHere n p → choose flow (sources_of image) p ≡ Make c → In (job flow plan.lists c) plan.jobs
     in_plan_here zero p c reached e = absurd (reached_zero flow srcs plan.lists walked p c reached e)
     in_plan_here (suc n) p c reached e = in_plan n p c reached e
 
@@ -265,17 +265,20 @@ module _
         ReachedHere (suc n) p → choose flow (sources_of image) p ≡ Make c → IsTrue (is_ready image settings progress plan p) → Quiet c
     ready_quiet n p c reached e ready = (ready_parts (suc n) p c reached e ready).0
 
+    -- what makes a ready path is Clean
+    pub maker_clean :
+        (n : ℕ) (q : Path) (c : Candidate) → ReachedHere n q → choose flow srcs q ≡ Make c → IsTrue (is_ready image settings progress plan q) →
+        is_clean (states (jb c)) ≡ true
+    maker_clean n q c reached e ready =
+        let m = maker_is n q c reached e in
+        and_left (is_clean (states (jb c))) (stands_whole image q (jb c)) (sym (ap (test_some (λ (e : Job × State). is_clean e.1 && stands_whole image q e.0)) m) ∙ ready)
+
     -- what makes a ready path doesn't run
     pub not_restored :
         (n : ℕ) (q : Path) (c : Candidate) (h : Path) → ReachedHere n q → choose flow srcs q ≡ Make c → IsTrue (is_ready image settings progress plan q) →
         In h (out_paths (recipe flow plan.lists c)) → restored h ≡ false
     not_restored n q c h reached e ready i = none_of (λ j. test_some is_restore (kept_state image settings progress plan j) && among (out_paths j.recipe) h) plan.jobs each
       where
-        clean : is_clean (states (jb c)) ≡ true
-        clean =
-            let m = maker_is n q c reached e in
-            and_left (is_clean (states (jb c))) (stands_whole image q (jb c)) (sym (ap (test_some (λ (e : Job × State). is_clean e.1 && stands_whole image q e.0)) m) ∙ ready)
-
         idle : (o : Option State) (s : State) → is_clean (while_running o s) ≡ true → test_some is_restore o ≡ false
         idle None s k = refl
         idle (Some Open) s k = refl
@@ -314,7 +317,7 @@ module _
                 let b = maker_found states plan.jobs (jb c) h apart (in_plan_here n q c reached e) own in
                 let same : j ≡ jb c = ap (λ (x : Job × State). x.0) (some_inj (j, states j) (jb c, states (jb c)) (sym a ∙ b)) in
                 first (test_some is_restore (kept_state image settings progress plan j)) (among (out_paths j.recipe) h)
-                (subst (λ x. test_some is_restore (kept_state image settings progress plan x) ≡ false) (sym same) (idle (kept_state image settings progress plan (jb c)) (by_table image settings progress plan (jb c)) clean))
+                (subst (λ x. test_some is_restore (kept_state image settings progress plan x) ≡ false) (sym same) (idle (kept_state image settings progress plan (jb c)) (by_table image settings progress plan (jb c)) (maker_clean n q c reached e ready)))
 
     made_by_is : (test : State → Bool) (n : ℕ) (q : Path) (c : Candidate) → ReachedHere n q → choose flow srcs q ≡ Make c → made_by plan test q ≡ false → test (states (jb c)) ≡ false
     made_by_is test n q c reached e h =

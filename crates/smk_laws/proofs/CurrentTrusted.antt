@@ -1,11 +1,15 @@
 -- What is ready at a moment at which no child runs is trusted, and so safe to start on.
-use Rattle.std.proofs.Common.{◌≡◌, ◌⊎◌, ℕ, zero, suc, Bool, true, false, not, ◌&&◌, ◌||◌, flat_map, List, [], ◌++◌, refl, sym, ap, subst, inl, inr, ◌∙◌, Option, Some, None, is_none, IsTrue, true≢false, eq-eqb}
+use Rattle.smk_laws.proofs.Valid.{records_valid}
+use Rattle.smk_laws.proofs.CurrentComplete.{seen_is_complete}
+use Rattle.std.specs.List.{list_any}
+use Rattle.smk_laws.specs.Current.{IsComplete}
+use Rattle.std.proofs.Common.{◌≡◌, ◌⊎◌, ℕ, zero, suc, Bool, true, false, not, ◌&&◌, ◌||◌, flat_map, List, [], ◌++◌, refl, sym, ap, subst, inl, inr, ◌∙◌, Option, Some, None, IsTrue, true≢false, eq-eqb, find, map, is_some, ◌∷◌, option_map}
 use Rattle.std.specs.Prelude.{bytes_eq}
-use Rattle.smk_base.specs.Path.{is_under}
-use Rattle.smk_base.proofs.Places.{place_itself}
+use Rattle.smk_base.specs.Path.{is_under, overlaps, is_at_or_under}
+use Rattle.smk_base.proofs.Places.{place_itself, same_place}
 use Rattle.smk_world.specs.declared.event.Child.{Child}
 use Rattle.smk_world.specs.declared.recipe.Kind.TheVariants.{Folder as FolderKind}
-use Rattle.smk_world.specs.World.{in_paths, out_paths, is_within}
+use Rattle.smk_world.specs.World.{in_paths, out_paths, is_within, reading}
 use Rattle.smk_world.specs.Calls.{owned_now}
 use Rattle.smk_world.specs.Trees.{Path, Act, among, folders_of, kind_in}
 use Rattle.smk_record.specs.declared.record.Stamp.{Stamp}
@@ -18,23 +22,30 @@ use Rattle.smk_flow.specs.Flows.{Flow, Candidate}
 use Rattle.smk_choose.specs.Choose.{Source, Make, choose}
 use Rattle.smk_store.specs.Images.{Image, is_file, is_source, is_whole, core_at}
 use Rattle.smk_store.specs.Trust.{Eased, Versions, any_time, same_time, holder, is_marked_but, made_stamp, Clear, Speaks, Chain, Link, Trusted}
-use Rattle.smk_chain.specs.Derive.{job, recipe, walk, sources_of}
+use Rattle.smk_chain.specs.Derive.{job, recipe, walk, sources_of, spots}
 use Rattle.smk_pick.specs.declared.settings.Settings.{Settings}
-use Rattle.smk_plan.specs.States.{Plan, Progress, gathers_from, is_ready, is_current, is_restored, is_whole_by, stands_whole}
-use Rattle.smk_drive.specs.Moments.{seen, progress_of}
+use Rattle.smk_plan.specs.States.{Plan, Progress, gathers_from, is_ready, is_current, is_restored, is_whole_by, stands_whole, IsPlan, state_of, by_table, kept_state, while_running, test_some, job_path}
+use Rattle.smk_drive.specs.Moments.{seen, progress_of, IsInForce}
 use Rattle.smk_drive.specs.Lawful.{eased, IsSafeInput}
-use Rattle.smk_laws.specs.Trusted.{TrustedHolds, CurrentIsSafe, CurrentIsTrusted, IsTrustedInput}
-use Rattle.smk_laws.proofs.CurrentLists.{In, zip_first, or_cases, or_first, or_second, and_right, clash_of, some_inj}
+use Rattle.smk_laws.specs.Trusted.{TrustedHolds, CurrentIsSafe, CurrentIsTrusted, IsTrustedInput, NoneRuns}
+use Rattle.smk_laws.proofs.CurrentLists.{In, zip_first, or_cases, or_first, or_second, and_right, clash_of, some_inj, in_either, in_left, in_right, in_map, in_flat, none_in}
 use Rattle.smk_laws.proofs.CurrentReach.{reached_zero, reached_step, choice_known}
 use Rattle.smk_laws.proofs.CurrentChosen.{chosen_viable}
 use Rattle.smk_laws.proofs.CurrentFills.{bound_fills_from}
 use Rattle.smk_pattern.proofs.Names.{numbered_all}
-use Rattle.smk_laws.proofs.CurrentMeaning.{in_from, source_chosen, source_file, source_stamp, source_stamp_but, time_made, made_inj, none_restored}
+use Rattle.smk_laws.proofs.CurrentMeaning.{in_from, source_chosen, source_file, source_stamp, source_stamp_but, time_made, made_inj, contains_from}
 use Rattle.smk_laws.proofs.CurrentRecipes.{inputs_wanted}
-use Rattle.smk_laws.proofs.CurrentProducts.{Planned, Rested, ReachedHere, Quiet, Product, quiet_product, quiet_input, ready_quiet, ready_whole, ready_parts, own_outputs, member_over, not_restored, core_reads}
-use Rattle.smk_laws.proofs.CurrentLaw.{rested}
+use Rattle.smk_laws.proofs.CurrentProducts.{Planned, ReachedHere, Quiet, Product, quiet_product, quiet_input, ready_quiet, ready_whole, ready_parts, own_outputs, member_over, not_restored, core_reads, in_plan_here, maker_clean}
+use Rattle.smk_laws.proofs.CurrentLaw.{last_is}
 use Rattle.smk_laws.proofs.CurrentReads.{wanted_comes}
-use Rattle.smk_laws.proofs.CurrentAtExit.{last_fields}
+use Rattle.smk_laws.proofs.CurrentAtExit.{in_force, none_run}
+use Rattle.smk_laws.proofs.CurrentStates.{unless_never}
+use Rattle.smk_laws.proofs.CurrentApart.{SpotsApart, spots_append, spots_apart, output_spot}
+use Rattle.smk_laws.proofs.CurrentPaths.{Above, above_touch, touch_overlaps, touch_turned}
+use Rattle.smk_laws.proofs.PlanOne.{derived_clear}
+use Rattle.smk_trigger.specs.declared.reason.State.{State}
+use Rattle.smk_trigger.specs.declared.reason.State.TheVariants.{Open, Dirty, Restore, Clean}
+use Rattle.smk_trigger.specs.JobStates.{is_clean, is_restore}
 
 -- ## Chains
 
@@ -215,6 +226,12 @@ module _
     unmarked : image.marked speaker ≡ false
     whole : (r : Record) → core_at image speaker ≡ Some r → IsTrue (is_whole image speaker (kind_in r.recipe speaker))
     trusted : Trusted image e speaker
+    -- its job, which is Clean
+    maker : Job
+    maker_here : In maker plan.jobs
+    made_there : In speaker (out_paths maker.recipe)
+    above : Above p speaker
+    clean : is_clean (state_of image settings progress plan maker) ≡ true
 
   made_trusted : (n : ℕ) (p : Path) → comes n p → (c : Candidate) → choose flow (sources_of image) p ≡ Make c → is_ready image settings progress plan p ≡ true → IsTrustedAt p
   made_trusted zero p below c s ready = absurd (reached_zero flow (sources_of image) plan.lists walked p c below s)
@@ -233,7 +250,16 @@ module _
         unmarked = unmarked;
         whole = λ r k. subst (λ (s : Record). IsTrue (is_whole image from.0 (kind_in s.recipe from.0))) (some_inj (core from.1) r (sym reads ∙ k)) whole.0;
         trusted = (core from.1, (reads, inl unmarked), trusted_at (suc n) p c from.0 from.1 below product calm);
+        maker = job flow plan.lists c;
+        maker_here = in_plan_here flow act has_fields image H settings progress plan fills rest (suc n) p c below s;
+        made_there = product.is_output;
+        above = over from.0 product.place;
+        clean = maker_clean flow act has_fields image H settings progress plan fills rest (suc n) p c below s ready;
       }
+    where
+      over : (h : Path) → (p ≡ h) ⊎ (is_under p h ≡ true) × In h (folders_of (recipe flow plan.lists c)) → Above p h
+      over h (inl x) = inl x
+      over h (inr x) = inr x.0
 
   read_trusted : (j : Job) (p : Path) → In j plan.jobs → In p (in_paths j.recipe ++ gathers_from j) → IsTrue (is_current image settings progress plan p) → IsTrue (is_source image p) ⊎ IsTrustedAt p
   read_trusted j p h i current =
@@ -259,37 +285,128 @@ current_is_trusted flow image settings progress plan complete valid is j p inn r
     go (inr t) =
         inr (record { speaker = t.speaker; speaks = t.speaks; as_file = t.as_file; unmarked = t.unmarked; whole = t.whole; trusted = t.trusted })
 
-pub current_is_safe : CurrentIsSafe
-current_is_safe act rules entry log m H plan moment at_rest planned sound none listed j p inn reads current =
-    go (read_trusted rules.flow act has_fields image H rules.settings progress plan rest.planned (eased rules m) none_left j p (in_from plan.jobs j inn) (in_from (in_paths j.recipe ++ gathers_from j) p reads) current)
+-- ## Safe inputs
+
+-- two spots of a plan that touch are of one job
+one_owner :
+    (js : List Job) → SpotsApart (flat_map spots js) → (j k : Job) (s t : Path × Bool) → In j js → In k js → In s (spots j) → In t (spots k) →
+    overlaps s.0 t.0 ≡ true → overlaps t.0 s.0 ≡ true → j ≡ k
+one_owner [] h j k s t i l a b x y = absurd i
+one_owner (g ∷ js) h j k s t (inl i) (inl l) a b x y = i ∙ sym l
+one_owner (g ∷ js) h j k s t (inl i) (inr l) a b x y =
+    let r = spots_append (spots g) (flat_map spots js) h in
+    absurd (clash_of (overlaps t.0 s.0) y (r.2 s t (subst (λ (z : Job). In s (spots z)) i a) (in_flat spots js k t l b)))
+one_owner (g ∷ js) h j k s t (inr i) (inl l) a b x y =
+    let r = spots_append (spots g) (flat_map spots js) h in
+    absurd (clash_of (overlaps s.0 t.0) x (r.2 t s (subst (λ (z : Job). In t (spots z)) l b) (in_flat spots js j s i a)))
+one_owner (g ∷ js) h j k s t (inr i) (inr l) a b x y =
+    one_owner js (spots_append (spots g) (flat_map spots js) h).1 j k s t i l a b x y
+
+-- a running job isn't Clean
+never_clean : (o : Option State) (s : State) → is_some o ≡ true → is_clean (while_running o s) ≡ true → ⊥
+never_clean None s h k = true≢false (sym h)
+never_clean (Some (Dirty rs)) s h k = true≢false (sym k)
+never_clean (Some Open) s h k = unless_never s k
+never_clean (Some Restore) s h k = unless_never s k
+never_clean (Some Clean) s h k = unless_never s k
+
+own_spot : (j : Job) (o : Path) → In o (out_paths j.recipe ++ j.logs) → (b : Bool) × In (o, b) (spots j)
+own_spot j o h = go (in_either o (out_paths j.recipe) j.logs h)
   where
-    image : Image
-    image = seen rules m.world
+    go : In o (out_paths j.recipe) ⊎ In o j.logs → (b : Bool) × In (o, b) (spots j)
+    go (inl i) = (true, in_left (o, true) (map (λ p. (p, true)) (out_paths j.recipe)) (map (λ p. (p, false)) j.logs) (in_map (λ p. (p, true)) (out_paths j.recipe) o i))
+    go (inr i) = (false, in_right (o, false) (map (λ p. (p, true)) (out_paths j.recipe)) (map (λ p. (p, false)) j.logs) (in_map (λ p. (p, false)) j.logs o i))
 
-    progress : Progress
-    progress = progress_of m.world m.begun
+within_in : (ps : List Path) (p : Path) → is_within p ps ≡ true → (o : Path) × In o ps × (is_at_or_under p o ≡ true)
+within_in [] p h = absurd (true≢false (sym h))
+within_in (q ∷ ps) p h = go (or_cases (is_at_or_under p q) (is_within p ps) h) (within_in ps p)
+  where
+    go : (is_at_or_under p q ≡ true) ⊎ (is_within p ps ≡ true) → (is_within p ps ≡ true → (o : Path) × In o ps × (is_at_or_under p o ≡ true)) → (o : Path) × In o (q ∷ ps) × (is_at_or_under p o ≡ true)
+    go (inl e) ih = (q, inl refl, e)
+    go (inr e) ih = let r = ih e in (r.0, inr r.1, r.2)
 
-    has_fields : Job → Bool
-    has_fields j = is_none (rules.missing j)
+owner_of : (cs : List Child) (p : Path) → is_within p (owned_now cs) ≡ true → (c : Child) × (o : Path) × In c cs × In o (out_paths c.recipe ++ c.logs) × (is_at_or_under p o ≡ true)
+owner_of cs p h =
+    let o = within_in (owned_now cs) p h in let c = owning cs o.0 o.1 in (c.0, o.0, c.1, c.2, o.2)
+  where
+    owning : (cs : List Child) (o : Path) → In o (owned_now cs) → (c : Child) × In c cs × In o (out_paths c.recipe ++ c.logs)
+    owning [] o i = absurd i
+    owning (c ∷ cs) o i = go (in_either o (out_paths c.recipe ++ c.logs) (owned_now cs) i) (owning cs o)
+      where
+        go : In o (out_paths c.recipe ++ c.logs) ⊎ In o (owned_now cs) → (In o (owned_now cs) → (d : Child) × In d cs × In o (out_paths d.recipe ++ d.logs)) → (d : Child) × In d (c ∷ cs) × In o (out_paths d.recipe ++ d.logs)
+        go (inl l) ih = (c, inl refl, l)
+        go (inr l) ih = let r = ih l in (r.0, inr r.1, r.2)
 
-    rest : Rested rules.flow act (λ j. is_none (rules.missing j)) (seen rules m.world) H rules.settings (progress_of m.world m.begun) plan
-    rest =
-        rested rules.flow act (λ j. is_none (rules.missing j)) (seen rules m.world) H rules.settings (progress_of m.world m.begun) m.from plan
-        (last_fields act rules entry log m H plan moment at_rest planned sound none listed)
+at_above : (p o : Path) → is_at_or_under p o ≡ true → Above p o
+at_above p o h = go (or_cases (bytes_eq p o) (is_under p o) h)
+  where
+    go : (bytes_eq p o ≡ true) ⊎ (is_under p o ≡ true) → Above p o
+    go (inl e) = inl (same_place p o e)
+    go (inr u) = inr u
 
-    none_left : (h : Path) (r : Record) → is_restored (seen rules m.world) rules.settings (progress_of m.world m.begun) plan h ≡ true → core_at (seen rules m.world) h ≡ Some r → eased rules m h r
-    none_left h r x y =
-        absurd (clash_of (is_restored (seen rules m.world) rules.settings (progress_of m.world m.begun) plan h) x
-        (none_restored rules.flow act (λ j. is_none (rules.missing j)) (seen rules m.world) H rules.settings (progress_of m.world m.begun) plan (bound_fills_from numbered_all) rest h))
+module _
+    (flow : Flow) (image : Image) (settings : Settings) (progress : Progress) (plan : Plan) (complete : IsComplete image)
+    (is : IsPlan flow image settings progress plan) where
+  -- what a job of the plan that runs owns holds no path that is ready
+  owns_none_ready :
+      (j : Job) (o p h : Path) (k : Job) → In j plan.jobs → is_some (kept_state image settings progress plan j) ≡ true → In o (out_paths j.recipe ++ j.logs) → Above p o →
+      In k plan.jobs → In h (out_paths k.recipe) → Above p h → is_clean (state_of image settings progress plan k) ≡ true → ⊥
+  owns_none_ready j o p h k i runs own above l out over clean =
+      let s = own_spot j o own in
+      let apart = spots_apart image [] (flat_map spots plan.jobs) (derived_clear flow image plan.lists settings.targets plan.jobs complete is.derived) in
+      let touch = above_touch p o h above over in
+      let same =
+      one_owner plan.jobs apart j k (o, s.0) (h, true) i l s.1 (output_spot k h out) (touch_overlaps o h touch) (touch_overlaps h o (touch_turned o h touch)) in
+      never_clean (kept_state image settings progress plan k) (by_table image settings progress plan k)
+      (subst (λ x. is_some (kept_state image settings progress plan x) ≡ true) same runs) clean
 
-    owned_none : (cs : List Child) → cs ≡ [] → (q : Path) → is_within q (owned_now cs) ≡ false
-    owned_none cs e q = ap (λ cs. is_within q (owned_now cs)) e
+pub none_runs : NoneRuns
+none_runs rules m plan none =
+    record {
+      children = λ c i. absurd (none_in c m.world.children none (in_from m.world.children c i));
+      restores = λ h x. absurd (clash_of (is_restored (seen rules m.world) rules.settings (progress_of m.world m.begun) plan h) x (idle h));
+    }
+  where
+    idle : (h : Path) → is_restored (seen rules m.world) rules.settings (progress_of m.world m.begun) plan h ≡ false
+    idle h =
+        ap (λ (r : List (Path × State)). list_any (λ (j : Job). test_some is_restore (option_map (λ (e : Path × State). e.1) (find (λ (e : Path × State). bytes_eq e.0 (job_path j)) r)) && among (out_paths j.recipe) h) plan.jobs) (none_run m.world m.begun none)
+        ∙ no_job plan.jobs
+      where
+        no_job : (js : List Job) → list_any (λ (j : Job). false) js ≡ false
+        no_job [] = refl
+        no_job (j ∷ js) = no_job js
 
-    go : IsTrue (is_source (seen rules m.world) p) ⊎ IsTrustedAt rules.flow act (λ j. is_none (rules.missing j)) (seen rules m.world) H rules.settings (progress_of m.world m.begun) plan rest.planned (eased rules m) none_left p → IsSafeInput rules m p
+pub current_is_safe : CurrentIsSafe
+current_is_safe rules entry log m plan moment at_rest planned formed runs j p inn reads current =
+    go (read_trusted rules.flow no_act (λ j. true) (seen rules m.world) (λ q t. None) rules.settings (progress_of m.world m.begun) plan here (eased rules m) ease j p (in_from plan.jobs j inn) (in_from (in_paths j.recipe ++ gathers_from j) p reads) current)
+  where
+    is : IsPlan rules.flow (seen rules m.world) rules.settings (progress_of m.world m.begun) plan
+    is =
+        last_is rules.flow (seen rules m.world) rules.settings (progress_of m.world m.begun) m.from plan
+        (subst (IsInForce rules m.world m.begun m.from) planned (in_force rules entry log m moment at_rest))
+
+    complete : IsComplete (seen rules m.world)
+    complete = seen_is_complete rules.read m.world formed
+
+    here : Planned rules.flow (seen rules m.world) rules.settings (progress_of m.world m.begun) plan
+    here = record { complete = complete; valid = records_valid rules.read m.world.names (λ q. reading (m.world.nodes q)); derived = is }
+
+    ease : (h : Path) (r : Record) → is_restored (seen rules m.world) rules.settings (progress_of m.world m.begun) plan h ≡ true → core_at (seen rules m.world) h ≡ Some r → eased rules m h r
+    ease h r x y = (runs.restores h x, y)
+
+    free : (k : Job) (h : Path) → In k plan.jobs → In h (out_paths k.recipe) → Above p h → is_clean (state_of (seen rules m.world) rules.settings (progress_of m.world m.begun) plan k) ≡ true → (b : Bool) → is_within p (owned_now m.world.children) ≡ b → b ≡ false
+    free k h i out over clean false e = refl
+    free k h i out over clean true e =
+        let c = owner_of m.world.children p e in
+        let r = runs.children c.0 (contains_from m.world.children c.0 c.2) in
+        absurd (owns_none_ready rules.flow (seen rules m.world) rules.settings (progress_of m.world m.begun) plan complete is r.0 c.1 p h k (in_from plan.jobs r.0 r.1) r.4
+        (subst (λ os. In c.1 (os ++ r.0.logs)) r.2 (subst (λ ls. In c.1 (out_paths c.0.recipe ++ ls)) r.3 c.3)) (at_above p c.1 c.4) i out over clean)
+
+    go : IsTrue (is_source (seen rules m.world) p) ⊎ IsTrustedAt rules.flow no_act (λ j. true) (seen rules m.world) (λ q t. None) rules.settings (progress_of m.world m.begun) plan here (eased rules m) ease p → IsSafeInput rules m p
     go (inl s) = inl s
     go (inr t) =
         inr (record {
-          not_owned = owned_none m.world.children sound.no_child p;
+          not_owned = free t.maker t.speaker t.maker_here t.made_there t.above t.clean (is_within p (owned_now m.world.children)) refl;
           speaker = t.speaker;
           speaks = t.speaks;
           as_file = t.as_file;

@@ -1,8 +1,7 @@
 -- A plan that begins with earlier listings and one that begins with none may differ where a listed directory isn't ready any more.
-use Rattle.std.specs.Prelude.{◌≡◌, true, false, not, List, [], ◌∷◌, ◌++◌, filter, bytes_eq, codes, refl}
+use Rattle.std.specs.Prelude.{◌≡◌, true, false, not, List, [], ◌∷◌, filter, bytes_eq, codes, refl}
 use Rattle.smk_world.specs.Trees.{Path}
 use Rattle.smk_record.specs.declared.record.Stamp.TheVariants.{Time, Made}
-use Rattle.smk_record.specs.declared.record.Member.{Member}
 use Rattle.smk_record.specs.declared.record.Record.{Record}
 use Rattle.smk_flow.specs.declared.rule.RulePart.{RulePart}
 use Rattle.smk_flow.specs.declared.rule.Flag.TheVariants.{Folder}

@@ -265,8 +265,11 @@ module _ (flow : Flow) (image : Image) (L : Listings) (targets : List Path) (js 
       let two = append_nil_right deep (met ++ clashing) one in
       (append_nil_left deep (met ++ clashing) one, append_nil_left met clashing two, append_nil_right met clashing two)
 
+  pub derived_clear : clashes image [] (flat_map spots js) ≡ []
+  derived_clear = subst (λ js. clashes image [] (flat_map spots js) ≡ []) derived.1 none_refused.2
+
   pub derived_apart : JobsApart js
-  derived_apart = jobs_apart js (spots_apart image [] (flat_map spots js) (subst (λ js. clashes image [] (flat_map spots js) ≡ []) derived.1 none_refused.2))
+  derived_apart = jobs_apart js (spots_apart image [] (flat_map spots js) derived_clear)
 
   pub derived_reached : (p : Path) → In p targets → Reached flow srcs L walked 200 p
   derived_reached p h =

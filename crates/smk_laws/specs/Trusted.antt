@@ -1,22 +1,20 @@
 -- Laws of trust: what jobs may be started on, and what it holds.
-use Rattle.std.specs.Prelude.{◌≡◌, ◌⊎◌, Bool, false, ◌||◌, ◌++◌, List, Some, bytes_eq, IsTrue, Contains, is_none}
+use Rattle.std.specs.Prelude.{◌≡◌, ◌⊎◌, Bool, false, ◌||◌, ◌++◌, List, [], Some, bytes_eq, is_some, IsTrue, Contains}
+use Rattle.smk_world.specs.declared.event.Child.{Child}
 use Rattle.smk_world.specs.declared.event.Event.{Event}
-use Rattle.smk_world.specs.World.{World, in_paths}
+use Rattle.smk_world.specs.World.{World, IsFormed, in_paths, out_paths}
 use Rattle.smk_world.specs.Trees.{Path, Act, among, kind_in}
 use Rattle.smk_record.specs.declared.record.Record.{Record}
 use Rattle.smk_flow.specs.declared.job.Job.{Job}
 use Rattle.smk_flow.specs.Flows.{Flow}
 use Rattle.smk_store.specs.Images.{Image, core_at, is_file, is_source, is_whole}
 use Rattle.smk_store.specs.Trust.{Versions, Trusted, holder}
-use Rattle.smk_store.specs.Soundness.{Holds, Sound, SoundWorld}
-use Rattle.smk_chain.specs.Mean.{setting_of}
+use Rattle.smk_store.specs.Soundness.{Holds, Sound}
 use Rattle.smk_pick.specs.declared.settings.Settings.{Settings}
-use Rattle.smk_plan.specs.States.{Plan, Progress, IsPlan, gathers_from, is_current, is_restored}
-use Rattle.smk_report.specs.declared.fault.Fault.{Fault}
+use Rattle.smk_plan.specs.States.{Plan, Progress, IsPlan, gathers_from, is_current, is_restored, kept_state}
 use Rattle.smk_drive.specs.Moments.{Rules, Moment, IsMoment, is_rest, seen, progress_of}
-use Rattle.smk_drive.specs.Lawful.{IsSafeInput}
-use Rattle.smk_drive.specs.Refusals.{PlansRefuse}
-use Rattle.smk_laws.specs.Current.{IsComplete, HasValidRecords, GathersRight}
+use Rattle.smk_drive.specs.Lawful.{IsSafeInput, restored}
+use Rattle.smk_laws.specs.Current.{IsComplete, HasValidRecords}
 
 -- What is trusted, unmarked and whole holds what its record vouches for, also where the marks of these paths, as those of jobs that run
 -- as a Restore, don't count in chains.
@@ -53,20 +51,36 @@ CurrentIsTrusted =
     IsTrue (is_current image settings progress plan p) →
     IsTrue (is_source image p) ⊎ IsTrustedInput image (is_restored image settings progress plan) p
 
--- At a rest of a run at which no child runs, in a sound world, where no plan in force is refused: what a job of the plan in force reads
--- is a safe input where it is current. No mark has to be left out for that.
+-- What runs is of the plan: each child has the outputs and logs of a job of the plan that the plan sees running, and what the plan takes
+-- for outputs of running Restores are some.
+pub record RunsAsPlanned (rules : Rules) (m : Moment) (plan : Plan) : Type 0 where
+  pub children :
+      (c : Child) →
+      Contains m.world.children c →
+      (j : Job)
+      × Contains plan.jobs j
+      × (out_paths c.recipe ≡ out_paths j.recipe)
+      × (c.logs ≡ j.logs)
+      × IsTrue (is_some (kept_state (seen rules m.world) rules.settings (progress_of m.world m.begun) plan j))
+  pub restores :
+      (h : Path) →
+      IsTrue (is_restored (seen rules m.world) rules.settings (progress_of m.world m.begun) plan h) →
+      IsTrue (among (restored rules m) h)
+
+-- At a rest of a run, what a job of the plan in force reads is a safe input where it is current.
 abbrev pub CurrentIsSafe : Type 0
 CurrentIsSafe =
-    (act : Act) (rules : Rules) (entry : World) (log : List Event) (m : Moment) (H : Versions) (plan : Plan) →
+    (rules : Rules) (entry : World) (log : List Event) (m : Moment) (plan : Plan) →
     IsMoment rules entry log m →
     IsTrue (is_rest m.world m.begun) →
     m.plan ≡ Some plan →
-    SoundWorld (record { read = rules.read; act = act }) m.world H →
-    ((f : Fault) → ¬ PlansRefuse rules m f) →
-    GathersRight
-    (setting_of rules.flow act (λ j. is_none (rules.missing j)) (seen rules m.world)) (seen rules m.world) rules.settings
-    (progress_of m.world m.begun) plan m.from →
+    IsFormed m.world →
+    RunsAsPlanned rules m plan →
     (j : Job) (p : Path) →
     Contains plan.jobs j →
     Contains (in_paths j.recipe ++ gathers_from j) p →
     IsTrue (is_current (seen rules m.world) rules.settings (progress_of m.world m.begun) plan p) → IsSafeInput rules m p
+
+-- Where no child runs nothing is asked for that.
+abbrev pub NoneRuns : Type 0
+NoneRuns = (rules : Rules) (m : Moment) (plan : Plan) → m.world.children ≡ [] → RunsAsPlanned rules m plan

@@ -7,7 +7,7 @@ ghost use Rattle.smk_laws.specs.Choices.{OneChoice, SameChoice, StaysAvailable};
 ghost use Rattle.smk_laws.specs.Current.{CurrentMeansClean, CurrentMeansCleanInWorlds, ReadsAreClean, SameValues, SeenIsComplete};
 ghost use Rattle.smk_laws.specs.Plans.{HasPlan, InputsComeFirst, KeepsJobs, KeepsUnopened, OneLastPlan, OnePlan};
 ghost use Rattle.smk_laws.specs.Stamps.{StampTells};
-ghost use Rattle.smk_laws.specs.Trusted.{CurrentIsSafe, CurrentIsTrusted, TrustedHolds};
+ghost use Rattle.smk_laws.specs.Trusted.{CurrentIsSafe, CurrentIsTrusted, NoneRuns, TrustedHolds};
 
 /// The law that what a plan calls current is clean: in a sound folder a target that is current by the last plan holds what a clean
 /// run from the sources gives, and so does all that a job of the plan reads. A sound world gives what is asked of the folder, and at
@@ -52,10 +52,11 @@ pub fn plan_is_one()
 {}
 
 /// Laws of trust: what is trusted holds what its record vouches for, the marks of jobs that run as a Restore left out. All that a job
-/// of a plan reads is trusted so where it is current; and at a moment at which no child runs it is safe to start on, with no mark
-/// left out.
+/// of a plan reads is trusted so where it is current; and at a rest of a run, where what runs is of the plan in force, it is safe to
+/// start on.
 pub fn trusted_is_safe()
     ensures holds { TrustedHolds }
     ensures trusted { CurrentIsTrusted }
     ensures safe { CurrentIsSafe }
+    ensures idle { NoneRuns }
 {}
