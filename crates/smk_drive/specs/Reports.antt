@@ -1,5 +1,5 @@
 -- The text of a report: of a listing by its plan, of a run by its log and its targets.
-use Rattle.std.specs.Prelude.{◌≡◌, Bool, ◌&&◌, not, List, [], ◌∷◌, ◌++◌, map, filter, length, bytes_eq, if◌then◌else◌, Option, Ok}
+use Rattle.std.specs.Prelude.{◌≡◌, Bool, ◌&&◌, not, List, [], ◌∷◌, ◌++◌, map, filter, length, bytes_eq, if◌then◌else◌, Ok}
 use Rattle.std.specs.List.{flat_map}
 use Rattle.smk_world.specs.declared.event.Call.{Call}
 use Rattle.smk_world.specs.declared.event.Call.TheVariants.{Started}
