@@ -16,7 +16,7 @@ use Rattle.smk_trigger.specs.declared.reason.Reason.{Reason}
 use Rattle.smk_trigger.specs.declared.reason.State.{State}
 use Rattle.smk_trigger.specs.declared.reason.State.TheVariants.{Open}
 use Rattle.smk_trigger.specs.JobStates.{is_open}
-use Rattle.smk_plan.specs.States.{Plan, Progress, IsPlan, LastPlan, Last, Then, new_listings, is_open_now, state_of, by_table, by_reasons, while_running, job_path, staged, reasons}
+use Rattle.smk_plan.specs.States.{is_restored, Plan, Progress, IsPlan, LastPlan, Last, Then, new_listings, is_open_now, state_of, by_table, by_reasons, while_running, job_path, staged, reasons}
 use Rattle.smk_report.specs.declared.fault.Fault.TheVariants as fault
 use Rattle.smk_drive.specs.Moments.{Rules, Moment, Begun, IsMoment, AtEntry, AtRest as RestMoment, Between, IsInForce, is_rest, seen, progress_of, is_child_of}
 use Rattle.smk_drive.specs.Refusals.{ChainRefuses, PlanRefuses, NextRefuses, refused_of, incomplete, guarded, above_limit, ahead, of_command}
@@ -26,9 +26,10 @@ use Rattle.smk_store.specs.Trust.{Versions}
 use Rattle.smk_store.specs.Soundness.{SoundWorld}
 use Rattle.smk_chain.specs.Mean.{setting_of}
 use Rattle.smk_drive.specs.Refusals.{PlansRefuse}
-use Rattle.smk_laws.specs.Current.{AtRest, GathersRight}
+use Rattle.smk_laws.specs.Current.{SoundPlan, GathersRight}
 use Rattle.smk_laws.specs.AtExit.{CurrentAtExitIsClean}
 use Rattle.smk_laws.proofs.CurrentComplete.{seen_is_complete}
+use Rattle.smk_laws.proofs.CurrentEased.{none_restored, sound_none}
 use Rattle.smk_laws.proofs.Valid.{records_valid}
 use Rattle.smk_laws.proofs.CurrentLists.{In, in_zip, flat_nil, append_nil_right, cons_nil}
 use Rattle.smk_laws.proofs.CurrentMeaning.{in_from}
@@ -106,7 +107,7 @@ last_fields :
     IsTrue (is_rest m.world m.begun) → m.plan ≡ Some plan → SoundWorld (record { read = rules.read; act = act }) m.world H →
     ((f : Fault) → ¬ PlansRefuse rules m f) →
     GathersRight (setting_of rules.flow act (λ j. is_none (rules.missing j)) (seen rules m.world)) (seen rules m.world) rules.settings (progress_of m.world m.begun) plan m.from →
-    AtRest rules.flow act (λ j. is_none (rules.missing j)) (seen rules m.world) H rules.settings (progress_of m.world m.begun) m.from plan
+    SoundPlan rules.flow act (λ j. is_none (rules.missing j)) (seen rules m.world) H rules.settings (progress_of m.world m.begun) m.from plan
 last_fields act rules entry log m H plan moment at_rest planned sound none listed =
     let image = seen rules m.world in
     let progress = progress_of m.world m.begun in
@@ -114,12 +115,11 @@ last_fields act rules entry log m H plan moment at_rest planned sound none liste
     let rest = none_run m.world m.begun sound.no_child in
     let is = last_is rules.flow image rules.settings progress m.from plan last in
     record {
-      sound = sound.now;
+      sound = sound_none image (is_restored image rules.settings progress plan) (none_restored image rules.settings progress plan rest) act H sound.now;
       complete = seen_is_complete rules.read m.world sound.formed;
       valid = records_valid rules.read m.world.names (λ q. reading (m.world.nodes q));
       listed = listed;
       last = last;
-      rest = rest;
       fields = fields_known rules image progress plan is rest (unrefused rules image progress m.from plan last none);
     }
 

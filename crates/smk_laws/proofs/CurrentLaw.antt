@@ -12,9 +12,10 @@ use Rattle.smk_store.specs.Images.{Image, seen}
 use Rattle.smk_chain.specs.declared.jobs.Known.{Known}
 use Rattle.smk_chain.specs.Derive.{Listings, listing}
 use Rattle.smk_pick.specs.declared.settings.Settings.{Settings}
-use Rattle.smk_plan.specs.States.{Plan, Progress, IsPlan, LastPlan, Last, Then, AreListed, files_listed, gathers_from, is_open_now, new_listings}
-use Rattle.smk_laws.specs.Current.{AtRest, IsRight, CurrentMeansClean, CurrentMeansCleanInWorlds}
+use Rattle.smk_plan.specs.States.{Plan, Progress, IsPlan, LastPlan, Last, Then, AreListed, files_listed, gathers_from, is_open_now, is_restored, new_listings}
+use Rattle.smk_laws.specs.Current.{SoundPlan, IsRight, CurrentMeansClean, CurrentMeansCleanInWorlds}
 use Rattle.smk_laws.proofs.CurrentComplete.{seen_is_complete}
+use Rattle.smk_laws.proofs.CurrentEased.{none_restored, sound_none}
 use Rattle.smk_laws.proofs.Valid.{records_valid}
 use Rattle.smk_laws.proofs.CurrentLists.{In, map_in, find_in}
 use Rattle.smk_laws.proofs.CurrentChosen.{mapped}
@@ -71,7 +72,7 @@ module _ (flow : Flow) (image : Image) (settings : Settings) (progress : Progres
 -- what the law asks, of the last plan alone
 pub rested :
     (flow : Flow) (act : Act) (has_fields : Job → Bool) (image : Image) (H : Versions) (settings : Settings) (progress : Progress)
-    (L : Listings) (plan : Plan) → AtRest flow act has_fields image H settings progress L plan → Rested flow act has_fields image H settings progress plan
+    (L : Listings) (plan : Plan) → SoundPlan flow act has_fields image H settings progress L plan → Rested flow act has_fields image H settings progress plan
 rested flow act has_fields image H settings progress L plan rest =
     record {
       sound = rest.sound;
@@ -81,7 +82,6 @@ rested flow act has_fields image H settings progress L plan rest =
         derived = last_is flow image settings progress L plan rest.last;
       };
       lists = λ j f files i shut g e. go j f files i shut g (last_listed flow image settings progress L plan rest.last f files e);
-      rest = rest.rest;
       fields = rest.fields;
     }
   where
@@ -99,11 +99,12 @@ current_means_clean flow act has_fields image H settings progress L plan rest p 
 pub current_means_clean_in_worlds : CurrentMeansCleanInWorlds
 current_means_clean_in_worlds flow o has_fields w H settings progress L plan sound listed last rest fields p inn current =
     current_means_clean flow o.act has_fields (seen o.read w) H settings progress L plan (record {
-      sound = sound.now;
+      sound =
+          sound_none (seen o.read w) (is_restored (seen o.read w) settings progress plan) (none_restored (seen o.read w) settings progress plan rest)
+          o.act H sound.now;
       complete = seen_is_complete o.read w sound.formed;
       valid = records_valid o.read w.names (λ q. reading (w.nodes q));
       listed = listed;
       last = last;
-      rest = rest;
       fields = fields;
     }) p inn current

@@ -1,13 +1,12 @@
 -- The law of current targets over one plan: what is ready is clean.
-use Rattle.std.proofs.Common.{◌≡◌, ◌⊎◌, ℕ, zero, suc, Bool, true, false, not, ◌&&◌, cond, find, true≢false, List, [], ◌∷◌, map, refl, sym, ap, subst, inl, inr, ◌∙◌, arith, Option, Some, None, option_map, option_and_then, IsTrue, is_some, Contains, flat_map, eq-eqb}
-use Rattle.std.specs.Prelude.{bytes_eq}
+use Rattle.std.proofs.Common.{◌≡◌, ◌⊎◌, ℕ, zero, suc, Bool, true, false, not, ◌&&◌, cond, true≢false, List, [], ◌∷◌, map, refl, sym, ap, subst, inl, inr, ◌∙◌, arith, Option, Some, None, option_map, option_and_then, IsTrue, is_some, Contains, flat_map, eq-eqb}
 use Rattle.std.specs.List.{list_any, list_all, enumerate_from}
 use Rattle.std.proofs.lemmas.List.Elements.{Contains-push, Contains-append_left, Contains-append_right, Contains-append_cases, Contains-push_cases}
 use Rattle.smk_base.specs.declared.tree.Tree.{Tree}
 use Rattle.smk_base.specs.declared.tree.Tree.TheVariants.{File}
 use Rattle.smk_base.specs.Path.{is_path}
 use Rattle.smk_world.specs.World.{in_paths, out_paths}
-use Rattle.smk_world.specs.Trees.{Path, Act, among, all_of, files_of, part_at, value_at, is_path_text}
+use Rattle.smk_world.specs.Trees.{Path, Act, all_of, files_of, part_at, value_at, is_path_text}
 use Rattle.smk_record.specs.declared.record.Stamp.{Stamp}
 use Rattle.smk_record.specs.declared.record.Stamp.TheVariants.{Time, Made}
 use Rattle.smk_record.specs.declared.record.Record.{Record}
@@ -17,21 +16,19 @@ use Rattle.smk_flow.specs.declared.job.Job.{Job}
 use Rattle.smk_flow.specs.Flows.{Flow, Candidate, gathered_folders}
 use Rattle.smk_choose.specs.Choose.{Sources, Choice, choose, choice, Source, Make, Lack, viable, leader, lack_of_first, candidates}
 use Rattle.smk_store.specs.Images.{Image, Content, source_at, file_at, is_file, is_source, core_at, tree_now}
-use Rattle.smk_store.specs.Trust.{Versions, holder, stamp_now, time_stamp, made_stamp, unmarked_stamp, is_marked_but, unmarked_stamp_but, stamp_now_but, made_at, none_eased, any_time, Speaks, Chain, Link, vir, Vir, input_value}
+use Rattle.smk_store.specs.Trust.{Versions, holder, stamp_now, time_stamp, made_stamp, unmarked_stamp, is_marked_but, unmarked_stamp_but, stamp_now_but, made_at, Eased, Clear, any_time, Speaks, Chain, Link, vir, Vir, input_value}
 use Rattle.smk_chain.specs.Derive.{Listings, listing, or_none, job, recipe, wants, walk, sources_of}
 use Rattle.smk_chain.specs.Mean.{Setting, setting_of, mean, listings_of, is_runnable}
 use Rattle.smk_pick.specs.declared.settings.Settings.{Settings}
-use Rattle.smk_plan.specs.States.{Plan, Progress, files_listed, is_ready, is_current, job_path, test_some}
-use Rattle.smk_laws.specs.Current.{IsRight}
+use Rattle.smk_plan.specs.States.{Plan, Progress, files_listed, is_ready, is_current}
+use Rattle.smk_laws.specs.Current.{IsRight, eased_by}
 use Rattle.smk_laws.proofs.CurrentLists.{In, and_left, and_right, and_both, or_cases, all_from, none_some, zip_first}
 use Rattle.smk_laws.proofs.CurrentReach.{reached_zero, reached_step, choice_known, has_command, want_path}
 use Rattle.smk_laws.proofs.CurrentRecipes.{recipe_same, job_same, wants_same, inputs_wanted, folders_wanted}
 use Rattle.smk_laws.proofs.CurrentDepths.{mean_one}
 use Rattle.smk_laws.proofs.CurrentValues.{inputs_same, value_given, listings_agree, mean_source, mean_make, vir_make}
 use Rattle.smk_laws.proofs.CurrentChosen.{chosen_viable}
-use Rattle.smk_trigger.specs.declared.reason.State.{State}
-use Rattle.smk_trigger.specs.JobStates.{is_restore}
-use Rattle.smk_laws.proofs.CurrentProducts.{Rested, restored, Quiet, Product, ReachedHere, quiet_product, quiet_input, quiet_folder, ready_whole, known, listed, source_listed, in_plan, ready_quiet, target_reached, some_of, file_tree, core_reads, each_stamped}
+use Rattle.smk_laws.proofs.CurrentProducts.{Rested, restored, Quiet, Product, ReachedHere, quiet_product, quiet_input, quiet_folder, ready_whole, not_restored, known, listed, source_listed, in_plan, ready_quiet, target_reached, some_of, file_tree, core_reads, each_stamped}
 
 pub contains_from : {A : Type 0} (xs : List A) (x : A) → In x xs → Contains xs x
 contains_from [] x h = absurd h
@@ -100,30 +97,30 @@ record_or r None = r
 record_or r (Some s) = s
 
 -- a record speaks for a product among the inputs, with the recorded serial, and hangs together
-pub record Spoken (image : Image) (q : Path) (m : ℕ) : Type 0 where
+pub record Spoken (image : Image) (e : Eased) (q : Path) (m : ℕ) : Type 0 where
   pub place : Path
   pub by : Record
-  pub speaks : Speaks image none_eased q place by
+  pub speaks : Speaks image e q place by
   pub serial : m ≡ by.made
-  pub chain : Chain image none_eased any_time by
+  pub chain : Chain image e any_time by
 
-pub chain_make : (image : Image) (r : Record) → ((q : Path) (m : ℕ) → In (q, Made m) (stamped r) → Spoken image q m) → Chain image none_eased any_time r
-chain_make image r h =
+pub chain_make : (image : Image) (e : Eased) (r : Record) → ((q : Path) (m : ℕ) → In (q, Made m) (stamped r) → Spoken image e q m) → Chain image e any_time r
+chain_make image e r h =
     Link r (λ q m. or_here (holder image q)) (λ q m. record_or r (core_at image (or_here (holder image q)))) (λ q t i. tt)
     (λ q m i. let s = h q m i in
     let place = found q s.place s.speaks.holder in
     let same = read q s.place s.by place s.speaks.clear.0 in (
-      subst (λ (w : Path × Record). Speaks image none_eased q w.0 w.1) (λ i. (place i, same i)) s.speaks,
+      subst (λ (w : Path × Record). Speaks image e q w.0 w.1) (λ i. (place i, same i)) s.speaks,
       subst (λ (w : Record). agrees (Made m) (made_stamp (Some w)) ≡ true) same (eq-eqb m s.by.made s.serial),
     ))
     (λ q m i. let s = h q m i in
-    subst (Chain image none_eased any_time) (read q s.place s.by (found q s.place s.speaks.holder) s.speaks.clear.0) s.chain)
+    subst (Chain image e any_time) (read q s.place s.by (found q s.place s.speaks.holder) s.speaks.clear.0) s.chain)
   where
     found : (q p : Path) → holder image q ≡ Some p → p ≡ or_here (holder image q)
-    found q p e = sym (ap or_here e)
+    found q p f = sym (ap or_here f)
 
     read : (q p : Path) (s : Record) → p ≡ or_here (holder image q) → core_at image p ≡ Some s → s ≡ record_or r (core_at image (or_here (holder image q)))
-    read q p s e f = sym (ap (record_or r) f) ∙ ap (λ w. record_or r (core_at image w)) e
+    read q p s f g = sym (ap (record_or r) g) ∙ ap (λ w. record_or r (core_at image w)) f
 
 pub time_made : (t m : ℕ) → Time t ≡ Made m → ⊥
 time_made t m h = grind arith
@@ -144,18 +141,26 @@ module _
   abbrev pub Comes : ℕ → Path → Type 0
   Comes n p = ReachedHere flow act has_fields image H settings progress plan n p
 
-  -- no mark is left out where no child runs
-  pub none_restored : (h : Path) → restored flow act has_fields image H settings progress plan h ≡ false
-  none_restored h =
-      ap (λ (r : List (Path × State)). list_any (λ (j : Job). test_some is_restore (option_map (λ (e : Path × State). e.1) (find (λ (e : Path × State). bytes_eq e.0 (job_path j)) r)) && among (out_paths j.recipe) h) plan.jobs) rest.rest
-      ∙ none plan.jobs
-    where
-      none : (js : List Job) → list_any (λ (j : Job). false) js ≡ false
-      none [] = refl
-      none (j ∷ js) = none js
+  -- the marks of running Restores are left out
+  abbrev pub E : Eased
+  E = eased_by image (restored flow act has_fields image H settings progress plan)
 
-  unmarked_now : (h : Path) → is_marked_but image (restored flow act has_fields image H settings progress plan) h ≡ false → image.marked h ≡ false
-  unmarked_now h e = go (image.marked h) (restored flow act has_fields image H settings progress plan h) (none_restored h) e
+  -- the record at an output whose mark doesn't count
+  cleared : (h : Path) (r : Record) → core_at image h ≡ Some r → is_marked_but image (restored flow act has_fields image H settings progress plan) h ≡ false → Clear image E h r
+  cleared h r reads counted = (reads, go (image.marked h) refl (restored flow act has_fields image H settings progress plan h) refl counted)
+    where
+      go : (m : Bool) → image.marked h ≡ m → (b : Bool) → restored flow act has_fields image H settings progress plan h ≡ b → (m && not b) ≡ false → (image.marked h ≡ false) ⊎ E h r
+      go false x b y z = inl x
+      go true x true y z = inr (y, reads)
+      go true x false y z = absurd (true≢false z)
+
+  -- what is ready isn't being restored, so that its mark counts
+  unmarked_now :
+      (n : ℕ) (q : Path) (c : Candidate) (h : Path) → Comes n q → choose flow (sources_of image) q ≡ Make c → IsTrue (is_ready image settings progress plan q) →
+      In h (out_paths (recipe flow plan.lists c)) → is_marked_but image (restored flow act has_fields image H settings progress plan) h ≡ false → image.marked h ≡ false
+  unmarked_now n q c h comes made ready out counted =
+      go (image.marked h) (restored flow act has_fields image H settings progress plan h)
+      (not_restored flow act has_fields image H settings progress plan fills rest.planned n q c h comes made ready out) counted
     where
       go : (m b : Bool) → b ≡ false → (m && not b) ≡ false → m ≡ false
       go m true x y = absurd (true≢false x)
@@ -176,16 +181,16 @@ module _
       (inn, reached_step flow (sources_of image) plan.lists all_walked n p c q reached made.chosen (inputs_wanted flow c plan.lists q inn))
 
   abbrev ChainedBefore : ℕ → Type 0
-  ChainedBefore n = (q : Path) (c : Candidate) (h : Path) (r : Record) → Comes n q → Made_by c q h r → IsQuiet c → Chain image none_eased any_time (core r)
+  ChainedBefore n = (q : Path) (c : Candidate) (h : Path) (r : Record) → Comes n q → Made_by c q h r → IsQuiet c → Chain image E any_time (core r)
 
   spoken_input :
       (n : ℕ) → ChainedBefore n → (p : Path) (c : Candidate) (h : Path) (r : Record) →
-      Comes (suc n) p → Made_by c p h r → IsQuiet c → (q : Path) (m : ℕ) → In (q, Made m) (stamped r) → Spoken image q m
+      Comes (suc n) p → Made_by c p h r → IsQuiet c → (q : Path) (m : ℕ) → In (q, Made m) (stamped r) → Spoken image E q m
   spoken_input n ih p c h r reached made quiet q s k =
       let here = input_here n p c h r q (Made s) reached made k in
       go here.0 here.1 (choice_known flow (sources_of image) plan.lists n q here.1.calm)
     where
-      go : In q (in_paths (recipe flow plan.lists c)) → Comes n q → (choose flow (sources_of image) q ≡ Source) ⊎ ((d : Candidate) × (choose flow (sources_of image) q ≡ Make d)) → Spoken image q s
+      go : In q (in_paths (recipe flow plan.lists c)) → Comes n q → (choose flow (sources_of image) q ≡ Source) ⊎ ((d : Candidate) × (choose flow (sources_of image) q ≡ Make d)) → Spoken image E q s
       go inn comes (inl e) =
           let is = source_chosen flow (sources_of image) q e in
           let f = source_file image q is in
@@ -200,7 +205,7 @@ module _
             speaks = record {
               no_source = (chosen_viable flow (sources_of image) q d.0 d.1).1;
               holder = product.holds;
-              clear = (core_reads image from.0 from.1 product.reads, inl (unmarked_now from.0 product.unmarked));
+              clear = cleared from.0 (core from.1) (core_reads image from.0 from.1 product.reads) product.unmarked;
             };
             serial = made_inj s from.1.made (made.agrees q (Made s) (Made from.1.made) k product.stamp);
             chain = ih q d.0 from.0 from.1 comes product calm;
@@ -208,7 +213,7 @@ module _
 
   chained_at : (n : ℕ) → ChainedBefore n
   chained_at zero q c h r reached made quiet = absurd (reached_zero flow (sources_of image) plan.lists all_walked q c reached made.chosen)
-  chained_at (suc n) q c h r reached made quiet = chain_make image (core r) (spoken_input n (chained_at n) q c h r reached made quiet)
+  chained_at (suc n) q c h r reached made quiet = chain_make image E (core r) (spoken_input n (chained_at n) q c h r reached made quiet)
 
   -- ## Vir is Mean
 
@@ -269,7 +274,7 @@ module _
       (t x : Tree) × (tree_now image q ≡ Some x) × (Vir image act H h ≡ Some t) × (part_at h q t ≡ Some x)
   ready_value n q c h r comes made quiet ready =
       let w = ready_whole flow act has_fields image H settings progress plan fills rest.planned n q c h r comes made ready in
-      let v = rest.sound.holds h (core r) (core_reads image h r made.reads) (unmarked_now h made.unmarked) (chained_at n q c h r comes made quiet) w.0 in
+      let v = rest.sound.holds h (core r) (core_reads image h r made.reads) (unmarked_now n q c h comes made.chosen ready made.is_output made.unmarked) (chained_at n q c h r comes made quiet) w.0 in
       let x = w.1 v.0 v.1 in (v.0, x.0, x.1, v.2, x.2)
 
   folder_means :

@@ -24,7 +24,7 @@ use Rattle.smk_flow.specs.declared.job.Job.{Job}
 use Rattle.smk_flow.specs.Flows.{Flow, Candidate, gathered_folders, makes_folder}
 use Rattle.smk_choose.specs.Choose.{Sources, choose, Make}
 use Rattle.smk_store.specs.Images.{Image, Content, content_of, is_directory, stands, file_at, is_file, is_folder, names_under, members_under, entry_under, tree_now, record_at, core_at, is_whole, is_known, is_covered, is_source, source_at}
-use Rattle.smk_store.specs.Trust.{Versions, holder, is_folder_record, made_stamp, is_marked_but, unmarked_stamp_but, stamp_now_but, time_stamp, none_eased}
+use Rattle.smk_store.specs.Trust.{Versions, holder, is_folder_record, made_stamp, is_marked_but, unmarked_stamp_but, stamp_now_but, time_stamp}
 use Rattle.smk_store.specs.Soundness.{Sound}
 use Rattle.smk_chain.specs.Derive.{listing, job, jobs, recipe, walk, refusals, clashes, spots, is_deep, distinct, sources_of, Deep, Refusal, refused_if, refused, reach, TooManyPaths}
 use Rattle.smk_trigger.specs.declared.reason.Reason.{Reason}
@@ -36,7 +36,7 @@ use Rattle.smk_trigger.specs.Reasons.{once}
 use Rattle.smk_pick.specs.declared.settings.Settings.{Settings}
 use Rattle.smk_plan.specs.States.{Plan, Progress, IsPlan, files_listed, gathers_from, reasons, is_open_now, is_ready, maker_of, state_of, by_table, by_reasons, while_running, kept_state, is_restored, makes, made_by, is_whole_by, stands_whole, awaits, is_at_hand, test_some}
 use Rattle.smk_chain.specs.Mean.{setting_of}
-use Rattle.smk_laws.specs.Current.{IsComplete, HasValidRecords, IsRight}
+use Rattle.smk_laws.specs.Current.{IsComplete, HasValidRecords, IsRight, eased_by}
 use Rattle.smk_laws.proofs.CurrentLists.{In, append_nil_left, append_nil_right, map_nil, filter_nil, filter_in, any_none, in_left, find_some, or_first, or_second, or_left, or_right, and_left, and_right, not_false, not_true, in_distinct, in_map, zip_first, find_in, clash_of, some_inj, none_some}
 use Rattle.smk_laws.proofs.CurrentReach.{Reached, reached_zero, reached_own, reached_step, reached_target, outcome_derived}
 use Rattle.smk_laws.proofs.CurrentRecipes.{inputs_wanted, folders_wanted}
@@ -104,15 +104,14 @@ pub record Planned (flow : Flow) (image : Image) (settings : Settings) (progress
   pub valid : HasValidRecords image
   pub derived : IsPlan flow image settings progress plan
 
--- A plan in a sound image, at a moment at which no child runs, whose listings are right where they count.
+-- A plan in an image that is sound, the marks of running Restores left out, whose listings are right where they count.
 pub record Rested
     (flow : Flow) (act : Act) (has_fields : Job → Bool) (image : Image) (H : Versions) (settings : Settings) (progress : Progress) (plan : Plan) : Type 0 where
-  pub sound : Sound act H image none_eased
+  pub sound : Sound act H image (eased_by image (is_restored image settings progress plan))
   pub planned : Planned flow image settings progress plan
   pub lists :
       (j : Job) (f : Path) (files : List Path) → In j plan.jobs → is_open_now image settings progress plan j ≡ false → In f (gathers_from j) →
       listing plan.lists f ≡ Some files → IsRight (setting_of flow act has_fields image) image f files
-  pub rest : progress.running ≡ []
   pub fields : (j : Job) → Contains plan.jobs j → is_open_now image settings progress plan j ≡ false → has_fields j ≡ true
 
 -- what a job is by the table, from its state

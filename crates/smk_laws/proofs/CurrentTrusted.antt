@@ -2,7 +2,7 @@
 use Rattle.smk_laws.proofs.Valid.{records_valid}
 use Rattle.smk_laws.proofs.CurrentComplete.{seen_is_complete}
 use Rattle.std.specs.List.{list_any}
-use Rattle.smk_laws.specs.Current.{IsComplete}
+use Rattle.smk_laws.specs.Current.{eased_by, IsComplete}
 use Rattle.std.proofs.Common.{◌≡◌, ◌⊎◌, ℕ, zero, suc, Bool, true, false, not, ◌&&◌, ◌||◌, flat_map, List, [], ◌++◌, refl, sym, ap, subst, inl, inr, ◌∙◌, Option, Some, None, IsTrue, true≢false, eq-eqb, find, map, is_some, ◌∷◌, option_map}
 use Rattle.std.specs.Prelude.{bytes_eq}
 use Rattle.smk_base.specs.Path.{is_under, overlaps, is_at_or_under}
@@ -58,8 +58,8 @@ pub trusted_holds : TrustedHolds
 trusted_holds act H image restored sound p r trusted unmarked reads whole =
     let same : trusted.0 ≡ r = some_inj trusted.0 r (sym trusted.1.0 ∙ reads) in
     sound.holds p r reads unmarked
-    (loosen image (λ p r. IsTrue (among restored p) × (core_at image p ≡ Some r)) r
-    (subst (Chain image (λ p r. IsTrue (among restored p) × (core_at image p ≡ Some r)) (same_time image)) same trusted.2)) whole
+    (loosen image (eased_by image (among restored)) r
+    (subst (Chain image (eased_by image (among restored)) (same_time image)) same trusted.2)) whole
 
 module _ (image : Image) (e : Eased) where
   abbrev or_here : Option Path → Path
@@ -277,10 +277,10 @@ no_act r trees = record { status = 0; outputs = [] }
 pub current_is_trusted : CurrentIsTrusted
 current_is_trusted flow image settings progress plan complete valid is j p inn reads current =
     go (read_trusted flow no_act (λ j. true) image (λ q t. None) settings progress plan (record { complete = complete; valid = valid; derived = is })
-    (λ q r. IsTrue (is_restored image settings progress plan q) × (core_at image q ≡ Some r)) (λ h r a b. (a, b))
+    (eased_by image (is_restored image settings progress plan)) (λ h r a b. (a, b))
     j p (in_from plan.jobs j inn) (in_from (in_paths j.recipe ++ gathers_from j) p reads) current)
   where
-    go : IsTrue (is_source image p) ⊎ IsTrustedAt flow no_act (λ j. true) image (λ q t. None) settings progress plan (record { complete = complete; valid = valid; derived = is }) (λ q r. IsTrue (is_restored image settings progress plan q) × (core_at image q ≡ Some r)) (λ h r a b. (a, b)) p → IsTrue (is_source image p) ⊎ IsTrustedInput image (is_restored image settings progress plan) p
+    go : IsTrue (is_source image p) ⊎ IsTrustedAt flow no_act (λ j. true) image (λ q t. None) settings progress plan (record { complete = complete; valid = valid; derived = is }) (eased_by image (is_restored image settings progress plan)) (λ h r a b. (a, b)) p → IsTrue (is_source image p) ⊎ IsTrustedInput image (is_restored image settings progress plan) p
     go (inl s) = inl s
     go (inr t) =
         inr (record { speaker = t.speaker; speaks = t.speaks; as_file = t.as_file; unmarked = t.unmarked; whole = t.whole; trusted = t.trusted })

@@ -14,6 +14,7 @@ pub mod CurrentWalked
 pub mod CurrentApart
 pub mod CurrentTrees
 pub mod CurrentStates
+pub mod CurrentEased
 pub mod CurrentProducts
 pub mod CurrentFills
 pub mod CurrentComplete

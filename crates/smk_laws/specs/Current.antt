@@ -7,13 +7,13 @@ use Rattle.smk_record.specs.declared.record.Record.{Record}
 use Rattle.smk_record.specs.Records.{is_valid}
 use Rattle.smk_flow.specs.declared.job.Job.{Job}
 use Rattle.smk_flow.specs.Flows.{Flow}
-use Rattle.smk_store.specs.Images.{Image, record_at, is_known, tree_now, seen}
-use Rattle.smk_store.specs.Trust.{Versions, none_eased}
+use Rattle.smk_store.specs.Images.{Image, record_at, core_at, is_known, tree_now, seen}
+use Rattle.smk_store.specs.Trust.{Eased, Versions}
 use Rattle.smk_store.specs.Soundness.{Outside, Sound, SoundWorld, SameSources}
 use Rattle.smk_chain.specs.Derive.{Listings, listing}
 use Rattle.smk_chain.specs.Mean.{Setting, setting_of, clean_value}
 use Rattle.smk_pick.specs.declared.settings.Settings.{Settings}
-use Rattle.smk_plan.specs.States.{Plan, Progress, LastPlan, files_listed, gathers_from, is_current, is_open_now}
+use Rattle.smk_plan.specs.States.{Plan, Progress, LastPlan, files_listed, gathers_from, is_current, is_open_now, is_restored}
 
 -- a tree stands at the path, and it is the clean value
 abbrev pub IsClean : Setting → Image → Path → Type 0
@@ -41,17 +41,20 @@ GathersRight S image settings progress plan L =
     is_open_now image settings progress plan j ≡ false →
     Contains (gathers_from j) f → listing L f ≡ Some files → IsRight S image f files
 
--- The last plan of a chain in a sound image, at a moment at which no child runs. The listings with which the chain began are right where
--- they count; and of each job that isn't Open every field of the command has a value.
-pub record AtRest
+-- the marks of these paths don't count, as long as a record stands there
+abbrev pub eased_by : Image → (Path → Bool) → Eased
+eased_by image left_out p r = IsTrue (left_out p) × (core_at image p ≡ Some r)
+
+-- The last plan of a chain in an image that is sound, where the marks of jobs that run as a Restore are left out. The listings with which
+-- the chain began are right where they count; and of each job that isn't Open every field of the command has a value.
+pub record SoundPlan
     (flow : Flow) (act : Act) (has_fields : Job → Bool) (image : Image) (H : Versions) (settings : Settings) (progress : Progress)
     (L : Listings) (plan : Plan) : Type 0 where
-  pub sound : Sound act H image none_eased
+  pub sound : Sound act H image (eased_by image (is_restored image settings progress plan))
   pub complete : IsComplete image
   pub valid : HasValidRecords image
   pub listed : GathersRight (setting_of flow act has_fields image) image settings progress plan L
   pub last : LastPlan flow image settings progress L plan
-  pub rest : progress.running ≡ []
   pub fields : (j : Job) → Contains plan.jobs j → is_open_now image settings progress plan j ≡ false → has_fields j ≡ true
 
 -- In a sound image a target that is current by the last plan holds its clean value.
@@ -59,7 +62,7 @@ abbrev pub CurrentMeansClean : Type 0
 CurrentMeansClean =
     (flow : Flow) (act : Act) (has_fields : Job → Bool) (image : Image) (H : Versions) (settings : Settings) (progress : Progress)
     (L : Listings) (plan : Plan) →
-    AtRest flow act has_fields image H settings progress L plan →
+    SoundPlan flow act has_fields image H settings progress L plan →
     (p : Path) →
     Contains settings.targets p →
     IsTrue (is_current image settings progress plan p) → IsClean (setting_of flow act has_fields image) image p
@@ -69,7 +72,7 @@ abbrev pub ReadsAreClean : Type 0
 ReadsAreClean =
     (flow : Flow) (act : Act) (has_fields : Job → Bool) (image : Image) (H : Versions) (settings : Settings) (progress : Progress)
     (L : Listings) (plan : Plan) →
-    AtRest flow act has_fields image H settings progress L plan →
+    SoundPlan flow act has_fields image H settings progress L plan →
     (j : Job) (p : Path) →
     Contains plan.jobs j →
     Contains (in_paths j.recipe ++ gathers_from j) p →

@@ -14,16 +14,16 @@ use Rattle.smk_pick.specs.declared.settings.Settings.{Settings}
 use Rattle.smk_plan.specs.States.{Plan, Progress, IsPlan, gathers_from, is_current, is_restored, kept_state}
 use Rattle.smk_drive.specs.Moments.{Rules, Moment, IsMoment, is_rest, seen, progress_of}
 use Rattle.smk_drive.specs.Lawful.{IsSafeInput, restored}
-use Rattle.smk_laws.specs.Current.{IsComplete, HasValidRecords}
+use Rattle.smk_laws.specs.Current.{IsComplete, HasValidRecords, eased_by}
 
 -- What is trusted, unmarked and whole holds what its record vouches for, also where the marks of these paths, as those of jobs that run
 -- as a Restore, don't count in chains.
 abbrev pub TrustedHolds : Type 0
 TrustedHolds =
     (act : Act) (H : Versions) (image : Image) (restored : List Path) →
-    Sound act H image (λ p r. IsTrue (among restored p) × (core_at image p ≡ Some r)) →
+    Sound act H image (eased_by image (among restored)) →
     (p : Path) (r : Record) →
-    Trusted image (λ p r. IsTrue (among restored p) × (core_at image p ≡ Some r)) p →
+    Trusted image (eased_by image (among restored)) p →
     image.marked p ≡ false →
     core_at image p ≡ Some r → IsTrue (is_whole image p (kind_in r.recipe p)) → Holds act H image p
 
@@ -35,7 +35,7 @@ pub record IsTrustedInput (image : Image) (left_out : Path → Bool) (p : Path) 
   pub as_file : IsTrue (bytes_eq speaker p || is_file image p)
   pub unmarked : image.marked speaker ≡ false
   pub whole : (r : Record) → core_at image speaker ≡ Some r → IsTrue (is_whole image speaker (kind_in r.recipe speaker))
-  pub trusted : Trusted image (λ q r. IsTrue (left_out q) × (core_at image q ≡ Some r)) speaker
+  pub trusted : Trusted image (eased_by image left_out) speaker
 
 -- What a job of a plan reads is a source or trusted where it is current, also while children run: only the marks of jobs that run as a
 -- Restore are left out.
