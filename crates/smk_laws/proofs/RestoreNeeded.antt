@@ -1,14 +1,16 @@
 -- What a running Restore must not hide: were the mark of its output counted, its users would be without a reason.
-use Rattle.std.specs.Prelude.{◌≡◌, false, not, List, [], ◌∷◌, filter, codes, bytes_eq, refl}
+use Rattle.std.specs.Prelude.{◌≡◌, false, not, List, [], ◌∷◌, map, filter, codes, bytes_eq, refl}
+use Rattle.smk_world.specs.World.{in_paths}
 use Rattle.smk_world.specs.Trees.{Path}
 use Rattle.smk_record.specs.declared.record.Stamp.TheVariants.{Time, Made}
 use Rattle.smk_record.specs.declared.record.Record.{Record}
 use Rattle.smk_record.specs.Records.{agrees}
 use Rattle.smk_flow.specs.Flows.{Flow}
 use Rattle.smk_store.specs.Images.{Image, core_at}
-use Rattle.smk_store.specs.Trust.{made_stamp}
-use Rattle.smk_trigger.specs.declared.reason.Reason.TheVariants.{New, Updated, Upstream}
+use Rattle.smk_store.specs.Trust.{made_stamp, stamp_now}
+use Rattle.smk_trigger.specs.declared.reason.Reason.TheVariants.{New, Marked, Updated, Upstream}
 use Rattle.smk_trigger.specs.declared.reason.State.TheVariants.{Dirty, Restore}
+use Rattle.smk_trigger.specs.Reasons.{own_reasons}
 use Rattle.smk_pick.specs.declared.settings.Settings.{Settings}
 use Rattle.smk_plan.specs.States.{Plan, Progress, nothing_done, is_ready}
 use Rattle.smk_flow.proofs.Examples.{flow_of, rule, input, output, cat}
@@ -50,6 +52,17 @@ out_of_date = refl
 -- r is being made again
 abbrev restoring : Progress
 restoring = record { begun = codes "r" ∷ []; running = (codes "r", Restore) ∷ [] }
+
+-- were its mark counted, u would have no reason of its own
+pub hidden :
+    map
+    (λ (r : Record). own_reasons r.recipe
+    (map (left (codes "r" ∷ [])).kept (r.path ∷ []))
+    (map (left (codes "r" ∷ [])).marked (r.path ∷ []))
+    (map (λ q. (q, stamp_now (left (codes "r" ∷ [])) q)) (in_paths r.recipe)))
+    records
+    ≡ (Marked ∷ []) ∷ [] ∷ [] ∷ []
+hidden = refl
 
 -- the mark of r isn't counted, so u stays out of date: its record doesn't agree with the one of r
 pub still_out_of_date :

@@ -12,8 +12,8 @@ use Rattle.smk_drive.specs.Moments.{Rules, Moment, IsMoment, is_rest, seen, prog
 use Rattle.smk_drive.specs.Refusals.{PlansRefuse}
 use Rattle.smk_laws.specs.Current.{IsClean, GathersRight}
 
--- At a rest of a run, in a sound world, where no plan in force is refused and the listings of earlier plans are right where they count: a
--- target that is current by the plan in force holds its clean value.
+-- At a rest of a run, in a sound world, where no plan in force is refused and the listings of earlier plans are right where they count:
+-- a target that is current by the plan in force holds its clean value.
 abbrev pub CurrentAtExitIsClean : Type 0
 CurrentAtExitIsClean =
     (act : Act) (rules : Rules) (entry : World) (log : List Event) (m : Moment) (H : Versions) (plan : Plan) →

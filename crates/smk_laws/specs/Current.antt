@@ -45,8 +45,8 @@ GathersRight S image settings progress plan L =
 abbrev pub eased_by : Image → (Path → Bool) → Eased
 eased_by image left_out p r = IsTrue (left_out p) × (core_at image p ≡ Some r)
 
--- The last plan of a chain in an image that is sound, where the marks of jobs that run as a Restore are left out. The listings with which
--- the chain began are right where they count; and of each job that isn't Open every field of the command has a value.
+-- The last plan of a chain in an image that is sound, where the marks of jobs that run as a Restore are left out. The listings with
+-- which the chain began are right where they count; and of each job that isn't Open every field of the command has a value.
 pub record SoundPlan
     (flow : Flow) (act : Act) (has_fields : Job → Bool) (image : Image) (H : Versions) (settings : Settings) (progress : Progress)
     (L : Listings) (plan : Plan) : Type 0 where
