@@ -367,6 +367,29 @@ module _
           let v = ready_value (suc n) p d.0 from.0 from.1 comes from.2 quiet ready in
           (v.1, v.2, meant (suc n) p d.0 from.0 from.1 comes from.2 quiet (suc (made_at (core_at image from.0))) v.0 v.1 v.3 v.4)
 
+  -- no files are listed of a source, and it means a file
+  pub source_lists : (n : ℕ) (p : Path) → is_source image p ≡ true → (t : Tree) × (mean S n p ≡ Some t) × (files_listed image p ≡ files_of t)
+  source_lists n p is =
+      let f = source_file image p is in
+      (File f.0.bytes, source_means n p f.0 is f.1, source_listed flow act has_fields image H settings progress plan fills rest.planned p is)
+
+  -- the record of what is ready lists the files of what it means
+  pub ready_listed :
+      (n : ℕ) (p : Path) → Comes (suc n) p → IsTrue (is_ready image settings progress plan p) →
+      (t : Tree) × (mean S (suc n) p ≡ Some t) × (files_listed image p ≡ files_of t)
+  ready_listed n p comes ready = go (choice_known flow (sources_of image) plan.lists (suc n) p comes.calm)
+    where
+      go : (choose flow (sources_of image) p ≡ Source) ⊎ ((d : Candidate) × (choose flow (sources_of image) p ≡ Make d)) → (t : Tree) × (mean S (suc n) p ≡ Some t) × (files_listed image p ≡ files_of t)
+      go (inl s) = source_lists (suc n) p (source_chosen flow (sources_of image) p s)
+      go (inr d) =
+          let quiet = ready_quiet flow act has_fields image H settings progress plan fills rest.planned n p d.0 comes d.1 ready in
+          let from = quiet_product flow act has_fields image H settings progress plan fills rest.planned (suc n) p d.0 comes d.1 quiet in
+          let v = ready_value (suc n) p d.0 from.0 from.1 comes from.2 quiet ready in (
+            v.1,
+            meant (suc n) p d.0 from.0 from.1 comes from.2 quiet (suc (made_at (core_at image from.0))) v.0 v.1 v.3 v.4,
+            sym (listed flow act has_fields image H settings progress plan fills rest.planned (suc n) p d.0 from.0 from.1 v.1 comes from.2 ready v.2),
+          )
+
   pub current_clean : (p : Path) → Contains settings.targets p → IsTrue (is_current image settings progress plan p) → Cleans 200 p
   current_clean p inn current = go (or_cases (is_source image p) (is_ready image settings progress plan p) current)
     where

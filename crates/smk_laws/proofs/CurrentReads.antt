@@ -1,8 +1,9 @@
 -- What jobs of a plan read is clean where it is current; and the clean value is a matter of the sources.
 use Rattle.std.proofs.Common.{◌≡◌, ◌⊎◌, ℕ, zero, suc, ◌≤◌, Bool, true, false, cond, List, ◌++◌, refl, sym, ap, subst, inl, inr, ◌∙◌, arith, Option, Some, None, option_map, is_some, IsTrue}
 use Rattle.smk_base.specs.Path.{overlaps}
+use Rattle.smk_base.specs.declared.tree.Tree.{Tree}
 use Rattle.smk_world.specs.World.{in_paths}
-use Rattle.smk_world.specs.Trees.{Path, Act}
+use Rattle.smk_world.specs.Trees.{Path, Act, files_of}
 use Rattle.smk_flow.specs.declared.job.Job.{Job}
 use Rattle.smk_flow.specs.Flows.{Flow, Candidate}
 use Rattle.smk_choose.specs.Choose.{Source, Make, choose}
@@ -12,9 +13,9 @@ use Rattle.smk_store.specs.Soundness.{told}
 use Rattle.smk_chain.specs.Derive.{job, walk, wants, distinct, same_candidate, sources_of}
 use Rattle.smk_chain.specs.Mean.{setting_of, clean_value}
 use Rattle.smk_pick.specs.declared.settings.Settings.{Settings}
-use Rattle.smk_plan.specs.States.{Plan, Progress, gathers_from, is_ready, is_current}
-use Rattle.smk_laws.specs.Current.{IsComplete, ReadsAreClean, SameValues}
-use Rattle.smk_laws.proofs.CurrentLists.{In, in_either, flat_in, map_in, distinct_in, in_filter, filter_in, any_in, any_from, or_cases, clash_of}
+use Rattle.smk_plan.specs.States.{Plan, Progress, files_listed, gathers_from, is_ready, is_current}
+use Rattle.smk_laws.specs.Current.{ListingsAreMeant, IsComplete, ReadsAreClean, SameValues}
+use Rattle.smk_laws.proofs.CurrentLists.{In, in_right, in_either, flat_in, map_in, distinct_in, in_filter, filter_in, any_in, any_from, or_cases, clash_of}
 use Rattle.smk_laws.proofs.CurrentPaths.{among_in}
 use Rattle.smk_laws.proofs.CurrentReach.{reached_zero, reached_step, choice_known}
 use Rattle.smk_laws.proofs.CurrentRecipes.{inputs_wanted, folders_wanted}
@@ -22,7 +23,7 @@ use Rattle.smk_laws.proofs.CurrentChosen.{chosen_viable}
 use Rattle.smk_laws.proofs.CurrentFills.{bound_fills_from}
 use Rattle.smk_pattern.proofs.Names.{numbered_all}
 use Rattle.smk_laws.proofs.CurrentDepths.{mean_deeper}
-use Rattle.smk_laws.proofs.CurrentMeaning.{in_from, source_chosen, source_file, source_clean, ready_clean, Cleans}
+use Rattle.smk_laws.proofs.CurrentMeaning.{in_from, source_chosen, source_file, source_clean, source_lists, ready_clean, ready_listed, Cleans}
 use Rattle.smk_laws.proofs.CurrentLaw.{rested}
 use Rattle.smk_laws.proofs.CurrentProducts.{Planned, Rested, ReachedHere}
 use Rattle.smk_laws.proofs.PlanOrder.{some_node, walked_reached}
@@ -75,6 +76,31 @@ reads_are_clean flow act has_fields image H settings progress L plan rest j p in
     let w =
     wanted_comes flow act has_fields image H settings progress plan r.planned j p (in_from plan.jobs j inn) (in_from (in_paths j.recipe ++ gathers_from j) p reads) in
     clean_here flow act has_fields image H settings progress plan r w.0 p w.1 w.2 current
+
+pub listings_are_meant : ListingsAreMeant
+listings_are_meant flow act has_fields image H settings progress L plan sound j f inn gathers ready =
+    let r = rested flow act has_fields image H settings progress L plan sound in
+    let w =
+    wanted_comes flow act has_fields image H settings progress plan r.planned j f (in_from plan.jobs j inn)
+    (in_right f (in_paths j.recipe) (gathers_from j) (in_from (gathers_from j) f gathers)) in
+    go r w.0 w.1 w.2 (choice_known flow (sources_of image) plan.lists w.0 f w.2.calm)
+  where
+    made :
+        (r : Rested flow act has_fields image H settings progress plan) (n : ℕ) → suc n ≤ 200 → comes flow act has_fields image H settings progress plan r.planned n f →
+        (c : Candidate) → choose flow (sources_of image) f ≡ Make c →
+        (t : Tree) × (clean_value (setting_of flow act has_fields image) f ≡ Some t) × (files_listed image f ≡ files_of t)
+    made r zero b h c e = absurd (reached_zero flow (sources_of image) plan.lists _ f c h e)
+    made r (suc m) b h c e =
+        let v = ready_listed flow act has_fields image H settings progress plan (bound_fills_from numbered_all) r m f h ready in
+        (v.0, mean_deeper (setting_of flow act has_fields image) (suc m) 200 f v.0 (omega arith) v.1, v.2)
+
+    go :
+        (r : Rested flow act has_fields image H settings progress plan) (n : ℕ) → suc n ≤ 200 → comes flow act has_fields image H settings progress plan r.planned n f →
+        (choose flow (sources_of image) f ≡ Source) ⊎ ((c : Candidate) × (choose flow (sources_of image) f ≡ Make c)) →
+        (t : Tree) × (clean_value (setting_of flow act has_fields image) f ≡ Some t) × (files_listed image f ≡ files_of t)
+    go r n b h (inl s) =
+        source_lists flow act has_fields image H settings progress plan (bound_fills_from numbered_all) r 200 f (source_chosen flow (sources_of image) f s)
+    go r n b h (inr (c, e)) = made r n b h c e
 
 -- ## The same sources
 

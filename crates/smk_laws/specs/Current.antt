@@ -13,7 +13,7 @@ use Rattle.smk_store.specs.Soundness.{Outside, Sound, SoundWorld, SameSources}
 use Rattle.smk_chain.specs.Derive.{Listings, listing}
 use Rattle.smk_chain.specs.Mean.{Setting, setting_of, clean_value}
 use Rattle.smk_pick.specs.declared.settings.Settings.{Settings}
-use Rattle.smk_plan.specs.States.{Plan, Progress, LastPlan, files_listed, gathers_from, is_current, is_open_now, is_restored}
+use Rattle.smk_plan.specs.States.{Plan, Progress, LastPlan, files_listed, gathers_from, is_current, is_ready, is_open_now, is_restored}
 
 -- a tree stands at the path, and it is the clean value
 abbrev pub IsClean : Setting → Image → Path → Type 0
@@ -77,6 +77,19 @@ ReadsAreClean =
     Contains plan.jobs j →
     Contains (in_paths j.recipe ++ gathers_from j) p →
     IsTrue (is_current image settings progress plan p) → IsClean (setting_of flow act has_fields image) image p
+
+-- The record of a directory that a job of the plan gathers from lists, where it is ready, the files of its clean value. So a listing that
+-- becomes known is right, and stays so while the sources stay.
+abbrev pub ListingsAreMeant : Type 0
+ListingsAreMeant =
+    (flow : Flow) (act : Act) (has_fields : Job → Bool) (image : Image) (H : Versions) (settings : Settings) (progress : Progress)
+    (L : Listings) (plan : Plan) →
+    SoundPlan flow act has_fields image H settings progress L plan →
+    (j : Job) (f : Path) →
+    Contains plan.jobs j →
+    Contains (gathers_from j) f →
+    IsTrue (is_ready image settings progress plan f) →
+    (tree : Tree) × (clean_value (setting_of flow act has_fields image) f ≡ Some tree) × (files_listed image f ≡ files_of tree)
 
 -- The clean value is a matter of the sources: complete images with the same sources have the same.
 abbrev pub SameValues : Type 0

@@ -4,7 +4,7 @@
 ghost use Rattle.smk_pattern.specs.Bound.{BoundFills};
 ghost use Rattle.smk_laws.specs.AtExit.{CurrentAtExitIsClean};
 ghost use Rattle.smk_laws.specs.Choices.{OneChoice, SameChoice, StaysAvailable};
-ghost use Rattle.smk_laws.specs.Current.{CurrentMeansClean, CurrentMeansCleanInWorlds, ReadsAreClean, SameValues, SeenIsComplete};
+ghost use Rattle.smk_laws.specs.Current.{CurrentMeansClean, CurrentMeansCleanInWorlds, ListingsAreMeant, ReadsAreClean, SameValues, SeenIsComplete};
 ghost use Rattle.smk_laws.specs.Plans.{HasPlan, InputsComeFirst, KeepsJobs, KeepsUnopened, OneLastPlan, OnePlan};
 ghost use Rattle.smk_laws.specs.Stamps.{StampTells};
 ghost use Rattle.smk_laws.specs.Trusted.{CurrentIsSafe, CurrentIsTrusted, NoneRuns, TrustedHolds};
@@ -16,6 +16,7 @@ ghost use Rattle.smk_laws.specs.Trusted.{CurrentIsSafe, CurrentIsTrusted, NoneRu
 pub fn current_is_clean()
     ensures clean { CurrentMeansClean }
     ensures reads { ReadsAreClean }
+    ensures listings { ListingsAreMeant }
     ensures in_worlds { CurrentMeansCleanInWorlds }
     ensures at_exit { CurrentAtExitIsClean }
     ensures by_sources { SameValues }
