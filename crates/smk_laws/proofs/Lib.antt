@@ -17,14 +17,20 @@ pub mod CurrentSame
 pub mod CurrentWalked
 pub mod CurrentApart
 pub mod CurrentTrees
+pub mod CurrentStates
+pub mod CurrentEased
 pub mod CurrentProducts
 pub mod CurrentFills
-pub mod CurrentNumbers
 pub mod CurrentComplete
 pub mod CurrentMeaning
 pub mod CurrentLaw
 pub mod CurrentChoices
 pub mod CurrentNeeded
+mod RestoreNeeded
+mod ExitRows
+pub mod CurrentDepths
+pub mod CurrentReads
+pub mod CurrentTrusted
 pub mod Finite
 mod Copied
 pub mod CurrentAtExit
@@ -41,3 +47,8 @@ pub mod HistoryListedCalls
 pub mod HistoryListedRuns
 pub mod HistoryListedForgetting
 mod HistoryExample
+pub mod PlanOrder
+pub mod PlanStates
+pub mod PlanOne
+pub mod MoreListings
+pub mod ChoiceOne
