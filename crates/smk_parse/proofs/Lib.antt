@@ -4,3 +4,4 @@ pub mod Kept
 pub mod FoundFile
 pub mod OnlyFile
 pub mod Answered
+pub mod EntryRows
