@@ -217,9 +217,13 @@ module _ (line new_line : ℕ → ℕ) (taken : Bool) where
       let k = behind (directive_symbols d) g in
       let e = record d { line = new_line (g 0) } in
       let next : map unlined_directive (new ++ e ∷ []) ≡ map unlined_directive (found ++ d ∷ []) =
-      map-append unlined_directive new (e ∷ []) ∙ ap (λ (v : List DirectiveForm). v ++ unlined_directive d ∷ []) same ∙ sym (map-append unlined_directive found (d ∷ [])) in
-      (moved g (directive_symbols d), moved k (all_directives ds), moved-append g (directive_symbols d) (all_directives ds), directive-again g d found new ys same h,
-      directives-again k ds (found ++ d ∷ []) (new ++ e ∷ []) zs next others)
+      map-append unlined_directive new (e ∷ []) ∙ ap (λ (v : List DirectiveForm). v ++ unlined_directive d ∷ []) same ∙ sym (map-append unlined_directive found (d ∷ [])) in (
+        moved g (directive_symbols d),
+        moved k (all_directives ds),
+        moved-append g (directive_symbols d) (all_directives ds),
+        directive-again g d found new ys same h,
+        directives-again k ds (found ++ d ∷ []) (new ++ e ∷ []) zs next others,
+      )
 
   body-by : (g : ℕ → ℕ) (ds : List DirectiveForm) (xs : List Symbol) → IsDirectives line taken [] ds xs → IsBody new_line taken (moved g (body_symbols ds)) (relined new_line g ds)
   body-by g [] xs h = with_text (g 0) (g 1) [] [] [] refl
@@ -289,10 +293,13 @@ statements-again line new_line g (this ∷ ss) found new xs same (ys, zs, split,
     let next : map unlined_statement (new ++ that ∷ []) ≡ map unlined_statement (found ++ this ∷ []) =
     map-append unlined_statement new (that ∷ []) ∙ ap (λ (v : List Statement). v ++ unlined_statement that ∷ []) same
     ∙ ap (λ (v : Statement). map unlined_statement found ++ v ∷ []) last ∙ sym (map-append unlined_statement found (this ∷ [])) in
-    let is : IsForm new_line (has_default found) (moved g (form_symbols this.form)) (reform new_line g this.form) = form-again line new_line (has_default found) g this.form ys h in
-    (moved g (form_symbols this.form), moved k (file_symbols ss), moved-append g (form_symbols this.form) (file_symbols ss),
-    (ap new_line (sym (first_place g this.form)), subst (λ b. IsForm new_line b (moved g (form_symbols this.form)) (reform new_line g this.form)) (sym (default-same new found same)) is),
-    statements-again line new_line k ss (found ++ this ∷ []) (new ++ that ∷ []) zs next others)
+    let is : IsForm new_line (has_default found) (moved g (form_symbols this.form)) (reform new_line g this.form) = form-again line new_line (has_default found) g this.form ys h in (
+      moved g (form_symbols this.form),
+      moved k (file_symbols ss),
+      moved-append g (form_symbols this.form) (file_symbols ss),
+      (ap new_line (sym (first_place g this.form)), subst (λ b. IsForm new_line b (moved g (form_symbols this.form)) (reform new_line g this.form)) (sym (default-same new found same)) is),
+      statements-again line new_line k ss (found ++ this ∷ []) (new ++ that ∷ []) zs next others,
+    )
 
 pub file-again : (line new_line g : ℕ → ℕ) (ss : List Statement) (xs : List Symbol) → IsFile line xs ss → IsFile new_line (moved g (file_symbols ss)) (again new_line g ss)
 file-again line new_line g ss xs h = statements-again line new_line g ss [] [] xs refl h

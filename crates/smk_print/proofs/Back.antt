@@ -1,13 +1,12 @@
 -- What is printed of the syntax of a file parses to that syntax, lines aside.
 use Rattle.std.proofs.Common.{◌≡◌, ℕ, List, [], map, Result, Ok, Err, sym, ap, subst, ◌∙◌}
-use Rattle.std.proofs.lemmas.Str.{IsUtf8-from_is_utf8}
 use Rattle.std.specs.Prelude.{IfOk}
 use Rattle.smk_lex.specs.declared.token.Token.{Token}
 use Rattle.smk_lex.specs.declared.token.LexFault.{LexFault}
 use Rattle.smk_lex.specs.Pieces.{Bytes}
 use Rattle.smk_lex.specs.Layout.{lexed}
 use Rattle.smk_lex.specs.Tokens.{IsToken}
-use Rattle.smk_lex.proofs.Found.{tokens_given}
+use Rattle.smk_lex.proofs.Found.{tokens_given, lexed_utf8}
 use Rattle.smk_expr.specs.declared.symbol.Symbol.{Symbol}
 use Rattle.smk_expr.specs.declared.symbol.ParseFault.{ParseFault}
 use Rattle.smk_tree.specs.declared.syntax.Statement.{Statement}
@@ -19,7 +18,7 @@ use Rattle.smk_parse.specs.Lines.{line_of as number_of_line}
 use Rattle.smk_parse.specs.Statements.{statements}
 use Rattle.smk_parse.specs.Files.{file_symbols as symbols_of_file, all_read, parsed}
 use Rattle.smk_parse.specs.Grammar.{IsFile}
-use Rattle.smk_parse.proofs.Kept.{all_joined, lexed_is_text}
+use Rattle.smk_parse.proofs.Kept.{all_joined}
 use Rattle.smk_parse.proofs.FoundFile.{file-found}
 use Rattle.smk_parse.proofs.OnlyFile.{file-only}
 use Rattle.smk_print.specs.Rows.{line_of, bytes_of, row_tokens, AreRows}
@@ -47,8 +46,7 @@ read_of (Err f) x e = absurd cc
 -- the symbols of the file
 source-sound : (source : Bytes) (ts : List Token) → lexed source ≡ given ts → AllSound (symbols_of source (joined source ts))
 source-sound source ts e =
-    let u = IsUtf8-from_is_utf8 source (lexed_is_text source ts e) in
-    symbols-sound source (joined source ts) u (all_joined (IsToken source) source ts (tokens_given source (Ok ts) e))
+    symbols-sound source (joined source ts) (lexed_utf8 source ts e) (all_joined (IsToken source) source ts (tokens_given source (Ok ts) e))
 
 source-file : (source : Bytes) (ts : List Token) (x : Syntax) → lexed source ≡ given ts → parsed source ts ≡ syntax_ok x → IsFile (number_of_line source) (symbols_of source (joined source ts)) x.statements
 unfolding parsed symbols_of_file

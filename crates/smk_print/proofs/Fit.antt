@@ -245,10 +245,17 @@ module _ (may_open : Bool) (Inner : Spelling) (again : (xs : List Symbol) (x : E
   arguments-fit : (found items : List ItemForm) (xs : List Symbol) → IsArguments Inner found items xs → AllSound xs → AllFit (printed_arguments (map argument_of items))
   arguments-fit found [] xs h sound = (tt, tt)
   arguments-fit found (x ∷ items) xs (a, b, c, ys, zs, same, fresh, h, others) sound =
-      let here : AllSound (s.Sign a sign.Comma ∷ s.Name b x.name ∷ s.Sign c sign.Equals ∷ (ys ++ zs)) = subst AllSound same sound in
-      (tt, (here.1.0, (tt,
-      fit-append (printed x.value).symbols (printed_arguments (map argument_of items)) (again ys x.value h (sound-left ys zs here.1.1.1))
-      (arguments-fit (found ++ x ∷ []) items zs others (sound-right ys zs here.1.1.1)))))
+      let here : AllSound (s.Sign a sign.Comma ∷ s.Name b x.name ∷ s.Sign c sign.Equals ∷ (ys ++ zs)) = subst AllSound same sound in (
+        tt,
+        (
+          here.1.0,
+          (
+            tt,
+            fit-append (printed x.value).symbols (printed_arguments (map argument_of items)) (again ys x.value h (sound-left ys zs here.1.1.1))
+                (arguments-fit (found ++ x ∷ []) items zs others (sound-right ys zs here.1.1.1)),
+          ),
+        ),
+      )
 
   term-fit : (xs : List Symbol) (x : Expr) → IsTerm may_open Inner xs x → AllSound xs → AllFit (printed x).symbols
   term-fit _ _ (a_text at t u ys h) sound = fit_at (e.Word u) _ (of_word u) (texts-utf8 ys t u h sound.0 sound.1, tt)
@@ -265,10 +272,14 @@ module _ (may_open : Bool) (Inner : Spelling) (again : (xs : List Symbol) (x : E
       fit_at (e.Outputs rule p) _ (of_outputs rule p) ((refl, refl), (tt, (sound.1.1.0, (tt, ((refl, refl), pick-fit ys p picked sound.1.1.1.1.1)))))
   term-fit _ _ (an_expand at a w y pairs items us ys zs h inside zipped named_ones) sound =
       let here : AllSound (us ++ (ys ++ zs)) = sound.1.1 in
-      fit_at (e.Expand (roll-ExpandForm (record { pattern = y; zip = pairs; named = items }))) _ (of_rolled y pairs items)
-      ((refl, refl), (tt,
-      fit-append (printed y).symbols (printed_zip pairs ++ printed_arguments (map argument_of items)) (again us y inside (sound-left us (ys ++ zs) here))
-      (fit-append (printed_zip pairs) (printed_arguments (map argument_of items)) (zip-fit pairs) (arguments-fit [] items zs named_ones (sound-right ys zs (sound-right us (ys ++ zs) here))))))
+      fit_at (e.Expand (roll-ExpandForm (record { pattern = y; zip = pairs; named = items }))) _ (of_rolled y pairs items) (
+        (refl, refl),
+        (
+          tt,
+          fit-append (printed y).symbols (printed_zip pairs ++ printed_arguments (map argument_of items)) (again us y inside (sound-left us (ys ++ zs) here))
+              (fit-append (printed_zip pairs) (printed_arguments (map argument_of items)) (zip-fit pairs) (arguments-fit [] items zs named_ones (sound-right ys zs (sound-right us (ys ++ zs) here)))),
+        ),
+      )
   term-fit _ _ (of_checkpoint at a b c d g h k w name listed wanted is) sound =
       fit_at (e.FromCheckpoint name listed wanted) _ (of_gathered name listed wanted) ((refl, refl), (tt, (sound.1.1.0, (tt, (sound.1.1.1.1.0, (tt, (sound.1.1.1.1.1.1.0, (tt, tt))))))))
   term-fit _ _ (a_list a es ys h l) sound = fit_at (e.Many es) _ (of_many es) (tt, listed-fit es ys l sound.1)

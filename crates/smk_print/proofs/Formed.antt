@@ -132,8 +132,11 @@ module _ (line : ℕ → ℕ) (taken : Bool) where
       (row_is (worded 0 w (s.Sign 0 sign.Equals ∷ (printed x).symbols)) (sound.0, (tt, expr-fit max_depth xs x h (front xs (s.Newline c) sound.1.1)))
       (expr-closed max_depth (printed x).symbols x (expr-printed max_depth xs x h) 0)) rest
   form-are _ _ more (a_rule a b c d p q w called is_checkpoint xs ds begins h) sound rest =
-      λ above. (omega arith, row_is (worded 0 (rule_word is_checkpoint) (s.Name 0 called ∷ s.Sign 0 sign.Colon ∷ [])) (word_fit is_checkpoint, (sound.1.0, (tt, tt))) refl,
-      body-are ds xs more h (front xs (s.Dedent q) sound.1.1.1.1.1) rest)
+      λ above. (
+        omega arith,
+        row_is (worded 0 (rule_word is_checkpoint) (s.Name 0 called ∷ s.Sign 0 sign.Colon ∷ [])) (word_fit is_checkpoint, (sound.1.0, (tt, tt))) refl,
+        body-are ds xs more h (front xs (s.Dedent q) sound.1.1.1.1.1) rest,
+      )
   form-are _ _ more (an_order a b c d p q first second names xs h) sound rest =
       at_margin (worded 0 (codes "ruleorder") (s.Sign 0 sign.Colon ∷ names_between sign.Greater (first ∷ second ∷ names))) more refl
       (row_is (worded 0 (codes "ruleorder") (s.Sign 0 sign.Colon ∷ names_between sign.Greater (first ∷ second ∷ names)))

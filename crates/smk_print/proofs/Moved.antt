@@ -115,10 +115,17 @@ module _ (may_open : Bool) (Inner : Spelling) (again : (f : ℕ → ℕ) (xs : L
   arguments-moved : (f : ℕ → ℕ) (found items : List ItemForm) (xs : List Symbol) → IsArguments Inner found items xs → IsArguments Inner found items (moved f xs)
   arguments-moved f found [] xs h = closing-moved f xs h
   arguments-moved f found (x ∷ items) xs (a, b, c, ys, zs, same, fresh, h, others) =
-      let g : ℕ → ℕ = λ i. f (suc (suc (suc i))) in
-      (f 0, f 1, f 2, moved g ys, moved (behind ys g) zs,
-      ap (moved f) same ∙ ap (λ (v : List Symbol). s.Sign (f 0) Comma ∷ s.Name (f 1) x.name ∷ s.Sign (f 2) Equals ∷ v) (moved-append g ys zs),
-      fresh, again g ys x.value h, arguments-moved (behind ys g) (found ++ x ∷ []) items zs others)
+      let g : ℕ → ℕ = λ i. f (suc (suc (suc i))) in (
+        f 0,
+        f 1,
+        f 2,
+        moved g ys,
+        moved (behind ys g) zs,
+        ap (moved f) same ∙ ap (λ (v : List Symbol). s.Sign (f 0) Comma ∷ s.Name (f 1) x.name ∷ s.Sign (f 2) Equals ∷ v) (moved-append g ys zs),
+        fresh,
+        again g ys x.value h,
+        arguments-moved (behind ys g) (found ++ x ∷ []) items zs others,
+      )
 
   term-moved : (f : ℕ → ℕ) (xs : List Symbol) (x : Expr) → IsTerm may_open Inner xs x → IsTerm may_open Inner (moved f xs) x
   term-moved f _ _ (a_text at t u ys h) = a_text (f 0) t u (moved (λ i. f (suc i)) ys) (texts-moved (λ i. f (suc i)) ys t u h)

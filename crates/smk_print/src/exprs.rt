@@ -153,12 +153,7 @@ pub fn expr(alloc: Global, out: &mut Vec<u8>, x: &Expr) -> Result<(), OutOfMemor
 
 #[cycle(written)]
 #[tactic(auto, using(crate::proofs::Spaced::two))]
-fn flagged(
-    alloc: Global,
-    out: &mut Vec<u8>,
-    flag: &str,
-    inner: &Expr,
-) -> Result<(), OutOfMemory>
+fn flagged(alloc: Global, out: &mut Vec<u8>, flag: &str, inner: &Expr) -> Result<(), OutOfMemory>
     ensures { OnOk result (out.new.items ≡ out.old.items ++ spaced (print.expr_step (Expr-F.Flagged flag.now (print.printed inner.now))).symbols) }
 {
     symbols(alloc, out, &[Lent::Name(flag), Lent::Sign(Sign::Open)])?;

@@ -147,13 +147,7 @@ fn statement(alloc: Global, out: &mut Vec<u8>, form: &Form) -> Result<(), OutOfM
     match form {
         Form::Assign(word, value) => assignment(alloc, out, word.as_str(), value),
         Form::Rule(form) => rule(alloc, out, form),
-        Form::Order(listed) => names_row(
-            alloc,
-            out,
-            "ruleorder",
-            Sign::Greater,
-            listed.as_slice(),
-        ),
+        Form::Order(listed) => names_row(alloc, out, "ruleorder", Sign::Greater, listed.as_slice()),
         Form::LocalRules(listed) => {
             names_row(alloc, out, "localrules", Sign::Comma, listed.as_slice())
         }
