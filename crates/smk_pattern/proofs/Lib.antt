@@ -4,6 +4,8 @@ pub mod Unique
 pub mod Sound
 pub mod First
 pub mod Split
+pub mod Spelling
+pub mod Grammatical
 pub mod Filled
 pub mod Names
 pub mod WrittenBy

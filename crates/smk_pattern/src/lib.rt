@@ -14,7 +14,7 @@ mod tester;
 
 pub use filling::fill;
 pub use fitting::fits;
-pub use laws::bound_is_binding;
+pub use laws::{bound_is_binding, reading_is_grammar};
 pub use pattern::{Binding, FillFault, Pattern, PatternFault};
 
 #[cfg(test)]
