@@ -1,5 +1,5 @@
 -- A text is written as a pattern where the grammar's relation has it, and is read as the pattern of the relation.
-use Rattle.std.proofs.Common.{◌≡◌, ℕ, zero, suc, ◌+◌, ◌<◌, ◌≤◌, ◌⊎◌, ◌==◌, ◌&&◌, ◌||◌, inl, inr, ⊎_elim, List, [], ◌∷◌, ◌++◌, length, map, filter, take, get_or, Option, Some, None, option_map, cond, not, Bool, true, false, refl, sym, ap, ap₂, subst, ◌∙◌, arith, true≢false, nat_le, bytes_eq}
+use Rattle.std.proofs.Common.{◌≡◌, ℕ, zero, suc, ◌+◌, ◌<◌, ◌≤◌, ◌⊎◌, ◌==◌, ◌&&◌, ◌||◌, inl, inr, ⊎_elim, List, [], ◌∷◌, ◌++◌, length, map, filter, take, get_or, Option, Some, None, option_map, Result, Ok, Err, OnOk, IfOk, cond, not, Bool, true, false, refl, sym, ap, ap₂, subst, ◌∙◌, arith, true≢false, nat_le, bytes_eq}
 use Rattle.std.specs.List.{list_all, list_any, slice_get}
 use Rattle.std.proofs.lemmas.Bool.{eq-eqb}
 use Rattle.std.proofs.lemmas.Bool.Decides.{nat_tests}
@@ -355,3 +355,13 @@ from_grammar given source p h =
 
 pub reading_is_grammar : ReadingIsGrammar
 reading_is_grammar given source = (from_written given source, from_grammar given source)
+
+-- what is read is in the relation
+pub pattern_by : {E : Type 0} (given : List Pair) (source : Text) (r : Result Shape E) → OnOk r (is_written source ≡ true) → IfOk r (λ p. p ≡ shape_of given source) →
+    OnOk r (AreLimits given (pieces source) (names_in (pieces source))) → IfOk r (IsPattern given source is_path)
+pattern_by given source (Ok p) written shape limits = subst (IsPattern given source is_path) (sym shape) (from_written given source written limits)
+pattern_by given source (Err e) written shape limits = tt
+
+-- what isn't written as a pattern isn't in it
+pub none_by : (given : List Pair) (source : Text) → is_written source ≡ false → (p : Shape) → IsPattern given source is_path p → ⊥
+none_by given source e p h = true≢false (sym (from_grammar given source p h).0 ∙ e)
