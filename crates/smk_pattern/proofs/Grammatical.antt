@@ -76,7 +76,7 @@ one_place (y ∷ xs) d (suc m) (suc n) x e f = ap (λ k. suc k) (one_place xs d.
 
 -- ---- the place of a name
 
-place_found : (name : Text) (xs : List Text) → place_of name xs < length xs → slice_get xs (place_of name xs) ≡ Some name
+pub place_found : (name : Text) (xs : List Text) → place_of name xs < length xs → slice_get xs (place_of name xs) ≡ Some name
 place_found name [] lt = absurd (omega (arith, lt))
 place_found name (other ∷ xs) lt = by (bytes_eq name other) refl (place_found name xs)
   where
@@ -125,11 +125,11 @@ numbered_le (text t ∷ ps) known all h = numbered_le ps known all h
 numbered_le (wild n ∷ ps) known all (inl h) = numbered_le ps known all h.1
 numbered_le (wild n ∷ ps) known all (inr h) = let lt = h.1 in omega (arith, lt)
 
-below_all : (n : ℕ) (ps : List Part) (known all : ℕ) → IsNumbered (wild n ∷ ps) known all → n < all
+pub below_all : (n : ℕ) (ps : List Part) (known all : ℕ) → IsNumbered (wild n ∷ ps) known all → n < all
 below_all n ps known all (inl h) = let lt = h.0 in omega (arith, lt, numbered_le ps known all h.1)
 below_all n ps known all (inr h) = let e = h.0 in let lt = h.1 in omega (arith, e, lt)
 
-later_numbered : (n : ℕ) (ps : List Part) (known all : ℕ) → IsNumbered (wild n ∷ ps) known all → (next : ℕ) × IsNumbered ps next all
+pub later_numbered : (n : ℕ) (ps : List Part) (known all : ℕ) → IsNumbered (wild n ∷ ps) known all → (next : ℕ) × IsNumbered ps next all
 later_numbered n ps known all (inl h) = (known, h.1)
 later_numbered n ps known all (inr h) = (known + 1, h.2)
 
