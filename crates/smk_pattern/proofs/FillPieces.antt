@@ -1,13 +1,13 @@
 -- A pattern that was read is filled as its text is.
-use Rattle.std.proofs.Common.{◌≡◌, ℕ, List, [], ◌∷◌, ◌++◌, length, map, get_or, option_map, refl, sym, ap, ap₂, ◌∙◌}
+use Rattle.std.proofs.Common.{◌≡◌, ℕ, List, [], ◌∷◌, ◌++◌, length, map, option_map, refl, ap, ap₂, ◌∙◌}
 use Rattle.std.specs.List.{flat_map}
 use Rattle.std.proofs.lemmas.Option.{get_or_from_slice_get, slice_get-map}
 use Rattle.smk_base.specs.declared.tree.Pair.{Pair}
-use Rattle.smk_pattern.specs.Shapes.{Text, Part, IsNumbered}
+use Rattle.smk_pattern.specs.Shapes.{Text, IsNumbered}
 use Rattle.smk_pattern.specs.Fitting.{filled}
 use Rattle.smk_pattern.specs.Filling.{values_of, FillIsFilled}
 use Rattle.smk_pattern.specs.Grammar.{Piece, plain, hole}
-use Rattle.smk_pattern.specs.Reading.{place_of, part_in, names_in, pieces, value, or_empty, fill_piece, fill, shape_of}
+use Rattle.smk_pattern.specs.Reading.{place_of, part_in, names_in, pieces, value, or_empty, fill_piece}
 use Rattle.smk_pattern.specs.Written.{wildcard_in}
 use Rattle.smk_pattern.proofs.Names.{numbered_all}
 use Rattle.smk_pattern.proofs.Grammatical.{place_found, below_all, later_numbered}

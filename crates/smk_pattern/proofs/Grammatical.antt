@@ -1,5 +1,5 @@
 -- A text is written as a pattern where the grammar's relation has it, and is read as the pattern of the relation.
-use Rattle.std.proofs.Common.{◌≡◌, ℕ, zero, suc, ◌+◌, ◌<◌, ◌≤◌, ◌⊎◌, ◌==◌, ◌&&◌, ◌||◌, inl, inr, ⊎_elim, List, [], ◌∷◌, ◌++◌, length, map, filter, take, get_or, Option, Some, None, option_map, Result, Ok, Err, OnOk, IfOk, cond, not, Bool, true, false, refl, sym, ap, ap₂, subst, ◌∙◌, arith, true≢false, nat_le, bytes_eq}
+use Rattle.std.proofs.Common.{◌≡◌, ℕ, zero, suc, ◌+◌, ◌<◌, ◌≤◌, ◌⊎◌, ◌==◌, ◌&&◌, ◌||◌, inl, inr, ⊎_elim, List, [], ◌∷◌, ◌++◌, length, map, filter, take, Option, Some, option_map, Result, Ok, Err, OnOk, IfOk, cond, not, Bool, true, false, refl, sym, ap, ap₂, subst, ◌∙◌, arith, true≢false, nat_le, bytes_eq}
 use Rattle.std.specs.List.{list_all, list_any, slice_get}
 use Rattle.std.proofs.lemmas.Bool.{eq-eqb}
 use Rattle.std.proofs.lemmas.Bool.Decides.{nat_tests}
@@ -10,10 +10,9 @@ use Rattle.smk_base.specs.declared.tree.Pair.{Pair}
 use Rattle.smk_base.specs.Path.{is_path}
 use Rattle.smk_pattern.specs.Shapes.{Text, Part, Wildcard, Shape, IsNumbered}
 use Rattle.smk_pattern.specs.Shapes.Part.{text, wild}
-use Rattle.smk_pattern.specs.Limits.{IsLimit}
-use Rattle.smk_pattern.specs.Grammar.{Piece, plain, hole, is_balanced, inline_limits, limit_for, PartOf, AllPartsOf, IsLimitIn, IsPattern}
+use Rattle.smk_pattern.specs.Grammar.{Piece, plain, hole, is_balanced, inline_limits, limit_for, AllPartsOf, IsLimitIn, IsPattern}
 use Rattle.smk_pattern.specs.Reading.{place_of, part_in, names_in, is_hole, pieces, shape_of}
-use Rattle.smk_pattern.specs.Written.{is_named, is_single, are_written, is_written, with_name, wildcard_in, AreLimits, ReadingIsGrammar}
+use Rattle.smk_pattern.specs.Written.{is_named, is_single, are_written, is_written, wildcard_in, AreLimits, ReadingIsGrammar}
 use Rattle.smk_pattern.proofs.Names.{names_from, lacks, names_from_none, numbered_all}
 use Rattle.smk_pattern.proofs.Spelling.{both, either, pieces_spell, pieces_of}
 

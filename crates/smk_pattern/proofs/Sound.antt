@@ -9,7 +9,7 @@ use Rattle.smk_pattern.specs.Shapes.Part.{text, wild}
 use Rattle.smk_pattern.specs.Fitting.{filled}
 use Rattle.smk_pattern.specs.Searching.{RestFits, stands_in}
 use Rattle.smk_pattern.proofs.Steps.{Splits}
-use Rattle.smk_pattern.specs.Tables.{is_vain, IsApart, Stands, FitsNever, IsSound, Keeps, KeepsAll, Serves}
+use Rattle.smk_pattern.specs.Tables.{is_vain, IsApart, Stands, FitsNever, Keeps, KeepsAll, Serves}
 
 -- ends of one length are one
 same_end : {A : Type 0} (front other xs ys : List A) → front ++ xs ≡ other ++ ys → length xs ≡ length ys → xs ≡ ys

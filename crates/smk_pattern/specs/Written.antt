@@ -53,4 +53,4 @@ ReadingIsGrammar =
     (given : List Pair) (source : Text) →
     (is_written source ≡ true → AreLimits given (pieces source) (names_in (pieces source)) → IsPattern given source is_path (shape_of given source))
     × ((p : Shape) → IsPattern given source is_path p →
-        (is_written source ≡ true) × AreLimits given (pieces source) (names_in (pieces source)) × (p ≡ shape_of given source))
+    (is_written source ≡ true) × AreLimits given (pieces source) (names_in (pieces source)) × (p ≡ shape_of given source))

@@ -1,4 +1,4 @@
-use Rattle.std.proofs.Common.{◌≡◌, ◌≢◌, ◌==◌, IfOk, List, ℕ, [], ◌∷◌, ◌++◌, length, Bool, true, false, refl, sym, ◌∙◌, ap, arith, Option, Result, Ok, Err, vec_len, append-nil, ◌<◌, get_or, Bor, Vec, Global, subst, set, ◌+◌, ◌-◌, take, length-append, None, ◌≤◌, IsUtf8, true≢false, take-append-drop, append_assoc, OnOk, inl, inr}
+use Rattle.std.proofs.Common.{◌≡◌, ◌==◌, IfOk, List, ℕ, [], ◌∷◌, ◌++◌, length, Bool, true, false, refl, sym, ◌∙◌, ap, arith, Option, Result, Ok, Err, vec_len, append-nil, ◌<◌, get_or, Bor, Vec, Global, set, ◌+◌, ◌-◌, take, length-append, None, ◌≤◌, IsUtf8, true≢false, take-append-drop, append_assoc, OnOk, inl, inr}
 use Rattle.std.proofs.lemmas.Str.{IsUtf8-take, IsUtf8-drop}
 use Rattle.std.proofs.lemmas.Bool.Decides.{nat_tests}
 use Rattle.std.proofs.lemmas.List.{nil_from_length, length-map, get_or-map, map_push, set-get_or, get_or_default, take-map, take_at, length-take-le}
@@ -6,10 +6,9 @@ use Rattle.smk_pattern.specs.Shapes.{Part, IsNumbered}
 use Rattle.smk_pattern.specs.Shapes.Part.{wild}
 use Rattle.smk_pattern.specs.Searching.{Searched, RestFits, now_of, stands_in}
 use Rattle.smk_pattern.specs.Pieces.{parts_of, part_of}
-use Rattle.smk_pattern.specs.Tables.{KeepsAll, Serves, Keeps, Stands}
 use Rattle.smk_pattern.specs.declared.pattern.Piece.{Piece}
-use Rattle.smk_pattern.proofs.Steps.{found_end, none_end, IsKnown, text_known, wild_known, searched_known, none_left, shorter, no_boundary, no_suit, no_rest, found_wild, Splits}
-use Rattle.smk_pattern.proofs.Sound.{keeps_then, keeps_same, keeps_known, kept_behind, serves_later, serves_behind, serves_new, none_noted, keeps_noted, tried_before}
+use Rattle.smk_pattern.proofs.Steps.{found_end, none_end, IsKnown, text_known, wild_known, searched_known, none_left, shorter, no_boundary, no_suit, no_rest, found_wild}
+use Rattle.smk_pattern.proofs.Sound.{keeps_then, keeps_known, kept_behind, serves_later, serves_behind, serves_new, none_noted, keeps_noted, tried_before}
 use Rattle.smk_pattern.proofs.search.+search.Goals as goal
 use Rattle.smk_pattern.proofs.search.+search.Goals.{attempt-in-Literal, attempt-in-Wild+then-number-len, longest-then-is_char_boundary+then-suits+in_ok-push+in_ok-behind+else-branch, longest-then-is_char_boundary+else-suits, longest-else-is_char_boundary}
 
