@@ -1,3 +1,6 @@
 mod Rows
 pub mod Digits
 pub mod Loop
+pub mod Inverts
+pub mod Stamped
+pub mod Appended

@@ -143,35 +143,38 @@ member_in = both_in (λ folder name. record { folder = folder; name = name }) fl
 
 -- ## Inputs with their stamps, and records
 
--- so many paths, each with its stamp
-unfoldable pub stamped_in : ℕ → Reader (List Path × List Stamp)
-stamped_in zero bytes = Some (([], []), bytes)
-stamped_in (suc n) bytes = do
-  path ← path_in bytes
-  stamp ← stamp_in path.1
-  others ← stamped_in n stamp.1
-  Some ((path.0 ∷ others.0.0, stamp.0 ∷ others.0.1), others.1)
+-- so many values, each with stamps, and the stamps of all
+unfoldable pub each_in : {A B : Type 0} → (B → List Stamp) → Reader (A × B) → ℕ → Reader (List A × List Stamp)
+each_in stamps one zero bytes = Some (([], []), bytes)
+each_in stamps one (suc n) bytes = do
+  first ← one bytes
+  others ← each_in stamps one n first.1
+  Some ((first.0.0 ∷ others.0.0, stamps first.0.1 ++ others.0.1), others.1)
+
+-- a path with its stamp
+unfoldable pub stamped_in : Reader (Path × Stamp)
+stamped_in = both_in (λ path stamp. (path, stamp)) path_in stamp_in
+
+-- the one stamp
+abbrev pub alone : Stamp → List Stamp
+alone s = s ∷ []
 
 -- an item, and the stamps of its paths
 unfoldable pub item_in : Reader (Item × List Stamp)
 item_in bytes = do
   name ← text_in bytes
   n ← number_in 10 name.1
-  paths ← stamped_in n.0 n.1
+  paths ← each_in alone stamped_in n.0 n.1
   Some ((record { name = name.0; paths = paths.0.0 }, paths.0.1), paths.1)
 
--- so many items, and the stamps of all their paths
-unfoldable pub items_in : ℕ → Reader (List Item × List Stamp)
-items_in zero bytes = Some (([], []), bytes)
-items_in (suc n) bytes = do
-  item ← item_in bytes
-  others ← items_in n item.1
-  Some ((item.0.0 ∷ others.0.0, item.0.1 ++ others.0.1), others.1)
+abbrev pub all : List Stamp → List Stamp
+all stamps = stamps
 
+-- the inputs, and the stamps of all their paths
 unfoldable pub inputs_in : Reader (List Item × List Stamp)
 inputs_in bytes = do
   n ← number_in 10 bytes
-  items_in n.0 n.1
+  each_in all item_in n.0 n.1
 
 -- a recipe, and the stamps of its inputs
 unfoldable pub recipe_in : Reader (Recipe × List Stamp)

@@ -2,8 +2,11 @@
 #![tactic(auto)]
 
 mod bytes;
+mod file;
+mod inputs;
 mod record;
 mod spelled;
 mod stop;
 
+pub use file::write;
 pub use record::{Member, Record, Stamp};

@@ -21,9 +21,9 @@ pub struct Member {
 /// under it.
 #[derive(Debug, Drop)]
 pub struct Record {
-    path: PathText,
-    made: u64,
-    recipe: Recipe,
-    stamps: List<Stamp>,
-    members: List<Member>,
+    pub(crate) path: PathText,
+    pub(crate) made: u64,
+    pub(crate) recipe: Recipe,
+    pub(crate) stamps: List<Stamp>,
+    pub(crate) members: List<Member>,
 }
