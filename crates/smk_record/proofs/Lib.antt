@@ -4,3 +4,4 @@ pub mod Loop
 pub mod Inverts
 pub mod Stamped
 pub mod Appended
+pub mod Lists

@@ -7,6 +7,7 @@ mod inputs;
 mod record;
 mod spelled;
 mod stop;
+mod valid;
 
 pub use file::write;
 pub use record::{Member, Record, Stamp};
