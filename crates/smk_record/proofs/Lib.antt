@@ -5,3 +5,7 @@ pub mod Inverts
 pub mod Stamped
 pub mod Appended
 pub mod Lists
+pub mod Directories
+pub mod Rising
+pub mod Above
+pub mod Members

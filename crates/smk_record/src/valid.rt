@@ -1,7 +1,9 @@
 //! Which records are valid.
 
-ghost use Rattle.std.specs.Prelude.{◌≡◌, ◌<◌, ◌≤◌, ◌==◌, ◌&&◌, ◌∷◌, ◌++◌, [], true, length, drop, map, filter, codes, MatchOption, IsTrue};
+ghost use Rattle.std.specs.Prelude.{◌≡◌, ◌<◌, ◌≤◌, ◌==◌, ◌&&◌, ◌∷◌, ◌++◌, [], true, length, drop, map, filter, codes, MatchOption, IsTrue, if◌then◌else◌};
+ghost use Rattle.std.specs.Cmp.Lexicographic.{slice_cmp};
 ghost use Rattle.std.specs.List.{list_all, flat_map};
+ghost use Rattle.std.specs.Ordering.{nat_cmp};
 ghost use Rattle.smk_base.specs.Path.{is_path};
 ghost use Rattle.smk_world.specs.World.{is_named, in_paths, out_paths, folders_above};
 ghost use Rattle.smk_world.specs.Trees.{among, folders_of, is_path_text, are_members, is_folder_kind};
@@ -117,4 +119,98 @@ fn wildcards_rise(wildcards: &[Pair]) -> bool
         rest = more;
     }
     true
+}
+
+// Whether the names rise in byte order.
+fn members_rise(members: &[Member]) -> bool
+    ensures { result ≡ are_rising (map (λ m. m.name) members.now) }
+{
+    let mut rest = members;
+    while let [first, more @ ..] = rest {
+        if let [second, ..] = more {
+            match first.name.as_str().as_bytes().cmp(second.name.as_str().as_bytes()) {
+                Ordering::Less => {}
+                _ => return false,
+            }
+        }
+        rest = more;
+    }
+    true
+}
+
+// How the member's name and this one are ordered.
+fn order(member: &Member, name: &[u8]) -> Ordering
+    ensures { result ≡ slice_cmp nat_cmp member.now.name name.now }
+{
+    member.name.as_str().as_bytes().cmp(name)
+}
+
+// Whether a folder of this name is among the members.
+fn is_member_folder(members: &[Member], folder: &[u8]) -> bool
+    requires { are_rising (map (λ m. m.name) members.now) ≡ true }
+    ensures { result ≡ is_member_folder members.now folder.now }
+{
+    match members.binary_search_by(|m| order(m, folder)) {
+        Ok(i) => members[i].folder,
+        Err(_) => false,
+    }
+}
+
+// Whether each folder above the name is a member.
+fn has_folders_above(members: &[Member], name: &[u8]) -> bool
+    requires { are_rising (map (λ m. m.name) members.now) ≡ true }
+    ensures { result ≡ list_all (is_member_folder members.now) (folders_above name.now) }
+{
+    for (i, b) in name.iter().enumerate() {
+        if *b == b'/' && !is_member_folder(members, &name[..i]) {
+            return false;
+        }
+    }
+    true
+}
+
+// Whether a directory at the path may have the members.
+fn are_valid_members(path: &PathText, members: &[Member]) -> bool
+    ensures { result ≡ are_valid_members path.now members.now }
+{
+    if members.len() > 20_000 || !members_rise(members) {
+        return false;
+    }
+    let room = 1000 - path.as_str().len();
+    for member in members {
+        let name = member.name.as_str();
+        if name.len() >= room || !has_folders_above(members, name.as_bytes()) {
+            return false;
+        }
+    }
+    true
+}
+
+/// Whether a record of these parts is valid.
+pub(crate) fn is_valid(
+    path: &PathText,
+    made: u64,
+    recipe: &Recipe,
+    stamps: &[Stamp],
+    members: &[Member],
+) -> bool
+    ensures { result ≡ is_valid (record { path = path.now; made = made; recipe = recipe.now; stamps = stamps.now; members = members.now }) }
+{
+    has_each_stamp(recipe.inputs.as_slice(), stamps)
+        && has_output(recipe.outputs.as_slice(), path.as_str())
+        && made >= 1
+        && are_earlier(made, stamps)
+        && wildcards_rise(recipe.wildcards.as_slice())
+        && may_have(path, recipe.outputs.as_slice(), members)
+}
+
+// Whether the output at the path may have the members.
+fn may_have(path: &PathText, outputs: &[OutItem], members: &[Member]) -> bool
+    ensures { result ≡ (if is_named path.now (map (λ out. out.path) (filter (λ out. is_folder_kind out.kind) (flat_map (λ item. item.outs) outputs.now))) then are_valid_members path.now members.now else are_none members.now) }
+{
+    if has_directory(outputs, path.as_str()) {
+        are_valid_members(path, members)
+    } else {
+        members.is_empty()
+    }
 }
