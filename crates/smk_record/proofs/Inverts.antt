@@ -11,9 +11,18 @@ use Rattle.std.proofs.lemmas.Fmt.{digits_decimal, digits_value-decimal, decimal-
 use Rattle.smk_base.proofs.Places.{and_first, and_second}
 use Rattle.smk_base.proofs.Under.{both_true}
 use Rattle.smk_base.specs.Path.{is_path}
-use Rattle.smk_world.specs.Trees.{Each, is_text, is_path_text}
-use Rattle.smk_record.specs.Spelling.{num, text, list}
-use Rattle.smk_record.specs.Reading.{◌>>=◌, Reader, Taken, digits_len, is_digit, is_numeral, number_of, after_byte, number_in, text_of, text_in, path_in, both_in, some_in, list_in}
+use Rattle.smk_base.specs.declared.tree.Pair.{Pair}
+use Rattle.smk_world.specs.declared.recipe.Kind.{Kind}
+use Rattle.smk_world.specs.declared.recipe.Kind.TheVariants.{Plain, Folder}
+use Rattle.smk_world.specs.declared.recipe.Values.{Values}
+use Rattle.smk_world.specs.declared.recipe.Out.{Out}
+use Rattle.smk_world.specs.declared.recipe.OutItem.{OutItem}
+use Rattle.smk_world.specs.Trees.{Each, is_text, is_path_text, is_folder_kind}
+use Rattle.smk_record.specs.declared.record.Stamp.{Stamp}
+use Rattle.smk_record.specs.declared.record.Stamp.TheVariants.{Time, Made}
+use Rattle.smk_record.specs.declared.record.Member.{Member}
+use Rattle.smk_record.specs.Spelling.{num, text, list, letter, stamp, number, pair, values, out, out_item, member}
+use Rattle.smk_record.specs.Reading.{◌>>=◌, Reader, Taken, digits_len, is_digit, is_numeral, number_of, after_byte, number_in, text_of, text_in, path_in, both_in, some_in, list_in, flag_in, stamp_in, kind_of, pair_in, values_in, out_in, out_item_in, member_in}
 use Rattle.smk_record.proofs.Digits.{own, front_digits}
 
 pub record Inverts {A : Type 0} (spell : A → List ℕ) (Fits : A → Type 0) (read : Reader A) : Type 0 where
@@ -198,7 +207,7 @@ both_inverts {A} {B} {C} make left right p P r q Q s is_left is_right whole firs
   some = λ c. omega (arith, first.some (left c), length-append (p (left c)) (q (right c)));
 }
 
-some_found : {A : Type 0} (spell : A → List ℕ) (P : A → Type 0) (one : Reader A) → Inverts spell P one → (n : ℕ) (bytes : List ℕ) (xs : List A) (rest : List ℕ)
+pub some_found : {A : Type 0} (spell : A → List ℕ) (P : A → Type 0) (one : Reader A) → Inverts spell P one → (n : ℕ) (bytes : List ℕ) (xs : List A) (rest : List ℕ)
     → some_in one n bytes ≡ Some (xs, rest) → (bytes ≡ flat_map spell xs ++ rest) × (length xs ≡ n) × Each P xs
 unfolding some_in
 some_found {A} spell P one i zero bytes xs rest e =
@@ -212,7 +221,7 @@ some_found {A} spell P one i (suc n) bytes xs rest e =
     let spelled : bytes ≡ flat_map spell (a.0.0 ∷ b.0.0) ++ b.0.1 = first.0 ∙ ap (λ t. spell a.0.0 ++ t) second.0 ∙ sym (append_assoc (spell a.0.0) (flat_map spell b.0.0) b.0.1) ∙ ap (λ t. t ++ b.0.1) (sym (flat_map-cons spell a.0.0 b.0.0)) in
     subst (λ (y : List A × List ℕ). (bytes ≡ flat_map spell y.0 ++ y.1) × (length y.0 ≡ suc n) × Each P y.0) (some_is made (xs, rest) b.2) (spelled, ap suc second.1, (first.1, second.2))
 
-some_again : {A : Type 0} (spell : A → List ℕ) (P : A → Type 0) (one : Reader A) → Inverts spell P one → (xs : List A) (rest : List ℕ) → Each P xs → length (flat_map spell xs ++ rest) < 2 ^ 64
+pub some_again : {A : Type 0} (spell : A → List ℕ) (P : A → Type 0) (one : Reader A) → Inverts spell P one → (xs : List A) (rest : List ℕ) → Each P xs → length (flat_map spell xs ++ rest) < 2 ^ 64
     → some_in one (length xs) (flat_map spell xs ++ rest) ≡ Some (xs, rest)
 unfolding some_in
 some_again spell P one i [] rest h lt = refl
@@ -223,7 +232,7 @@ some_again spell P one i (x ∷ xs) rest h lt =
     ap (some_in one (suc (length xs))) regrouped ∙ rw (i.again x (flat_map spell xs ++ rest) h.0 lt2, some_again spell P one i xs rest h.1 lt3) refl
 
 -- a list is no longer than its spelling
-some_long : {A : Type 0} (spell : A → List ℕ) → ((x : A) → 0 < length (spell x)) → (xs : List A) → length xs ≤ length (flat_map spell xs)
+pub some_long : {A : Type 0} (spell : A → List ℕ) → ((x : A) → 0 < length (spell x)) → (xs : List A) → length xs ≤ length (flat_map spell xs)
 some_long spell some [] = omega arith
 some_long spell some (x ∷ xs) = omega (arith, ap length (flat_map-cons spell x xs), length-append (spell x) (flat_map spell xs), some x, some_long spell some xs)
 
@@ -243,3 +252,117 @@ list_inverts {A} spell P one i = record {
       ap (list_in one) regrouped ∙ rw (number_again 10 (length xs) (flat_map spell xs ++ rest) refl small) (some_again spell P one i xs rest h lt2);
   some = λ xs. omega (arith, length-append (num (length xs)) (flat_map spell xs), length-append (decimal (length xs)) (10 ∷ []));
 }
+
+-- ---- flags, stamps, and what has a name
+
+byte_is : (b n : ℕ) → eqb b n ≡ true → b ≡ n
+byte_is b n e = eqb-true b n e
+
+abbrev flagged : Bool → List ℕ → Taken Bool
+flagged folder rest = Some (folder, rest)
+
+other_flag : (b : ℕ) (bytes : List ℕ) (folder : Bool) (rest : List ℕ) (d : Bool) → eqb b 68 ≡ d → cond d (flagged true bytes) (cond (eqb b 70) (flagged false bytes) None) ≡ Some (folder, rest) → b ∷ bytes ≡ letter folder ++ rest
+other_flag b bytes folder rest true e h =
+    let p = some_is (true, bytes) (folder, rest) h in
+    subst (λ (q : Bool × List ℕ). b ∷ bytes ≡ letter q.0 ++ q.1) p (ap (λ x. x ∷ bytes) (byte_is b 68 e))
+other_flag b bytes folder rest false e h =
+    let g = if_some (eqb b 70) (false, bytes) (folder, rest) h in
+    subst (λ (q : Bool × List ℕ). b ∷ bytes ≡ letter q.0 ++ q.1) g.1 (ap (λ x. x ∷ bytes) (byte_is b 70 g.0))
+
+flag_found : (bytes : List ℕ) (folder : Bool) (rest : List ℕ) → flag_in bytes ≡ Some (folder, rest) → bytes ≡ letter folder ++ rest
+flag_found [] folder rest e = absurd cc
+flag_found (b ∷ bytes) folder rest e = other_flag b bytes folder rest (eqb b 68) refl e
+
+flag_again : (folder : Bool) (rest : List ℕ) → flag_in (letter folder ++ rest) ≡ Some (folder, rest)
+flag_again true rest = refl
+flag_again false rest = refl
+
+letter_some : (folder : Bool) → 0 < length (letter folder)
+letter_some true = omega arith
+letter_some false = omega arith
+
+pub flag_inverts : Inverts letter (λ folder. Unit {0}) flag_in
+flag_inverts = record { found = λ bytes folder rest e. (flag_found bytes folder rest e, tt); again = λ folder rest h lt. flag_again folder rest; some = letter_some }
+
+abbrev stamp_with : (ℕ → Stamp) → ℕ × List ℕ → Taken Stamp
+stamp_with make n = Some (make n.0, n.1)
+
+timed : (bytes : List ℕ) (make : ℕ → Stamp) (s : Stamp) (rest : List ℕ) → (number_in 10 bytes >>= stamp_with make) ≡ Some (s, rest) → (n : ℕ) × (bytes ≡ num n ++ rest) × (n < 2 ^ 64) × (make n ≡ s)
+timed bytes make s rest e =
+    let a = bind_some (number_in 10 bytes) (stamp_with make) (s, rest) e in
+    let first = number_found 10 bytes a.0.0 a.0.1 a.1 in
+    let p = some_is (make a.0.0, a.0.1) (s, rest) a.2 in
+    let r : a.0.1 ≡ rest = ap (λ (q : Stamp × List ℕ). q.1) p in
+    (a.0.0, first.0 ∙ sym (append_assoc (decimal a.0.0) (10 ∷ []) a.0.1) ∙ ap (λ t. num a.0.0 ++ t) r, first.1, ap (λ (q : Stamp × List ℕ). q.0) p)
+
+made_by : (b : ℕ) (bytes : List ℕ) (s : Stamp) (rest : List ℕ) (t : Bool) → eqb b 77 ≡ t
+    → cond t (number_in 10 bytes >>= stamp_with Made) None ≡ Some (s, rest)
+    → (b ∷ bytes ≡ stamp s ++ rest) × (number s < 2 ^ 64)
+made_by b bytes s rest true e h =
+    let t = timed bytes Made s rest h in
+    subst (λ x. (b ∷ bytes ≡ stamp x ++ rest) × (number x < 2 ^ 64)) t.3 (ap (λ x. x ∷ bytes) (byte_is b 77 e) ∙ ap (λ x. 77 ∷ x) t.1, t.2)
+made_by b bytes s rest false e h = absurd cc
+
+stamp_by : (b : ℕ) (bytes : List ℕ) (s : Stamp) (rest : List ℕ) (t : Bool) → eqb b 84 ≡ t
+    → cond t (number_in 10 bytes >>= stamp_with Time) (cond (eqb b 77) (number_in 10 bytes >>= stamp_with Made) None) ≡ Some (s, rest)
+    → (b ∷ bytes ≡ stamp s ++ rest) × (number s < 2 ^ 64)
+stamp_by b bytes s rest true e h =
+    let t = timed bytes Time s rest h in
+    subst (λ x. (b ∷ bytes ≡ stamp x ++ rest) × (number x < 2 ^ 64)) t.3 (ap (λ x. x ∷ bytes) (byte_is b 84 e) ∙ ap (λ x. 84 ∷ x) t.1, t.2)
+stamp_by b bytes s rest false e h = made_by b bytes s rest (eqb b 77) refl h
+
+stamp_found : (bytes : List ℕ) (s : Stamp) (rest : List ℕ) → stamp_in bytes ≡ Some (s, rest) → (bytes ≡ stamp s ++ rest) × (number s < 2 ^ 64)
+unfolding stamp_in
+stamp_found [] s rest e = absurd cc
+stamp_found (b ∷ bytes) s rest e = stamp_by b bytes s rest (eqb b 84) refl e
+
+pub num_again : (n : ℕ) (rest : List ℕ) → n < 2 ^ 64 → number_in 10 (num n ++ rest) ≡ Some (n, rest)
+num_again n rest h = ap (number_in 10) (append_assoc (decimal n) (10 ∷ []) rest) ∙ number_again 10 n rest refl h
+
+stamp_again : (s : Stamp) (rest : List ℕ) → number s < 2 ^ 64 → stamp_in (stamp s ++ rest) ≡ Some (s, rest)
+unfolding stamp_in
+stamp_again (Time t) rest h = rw (num_again t rest h) refl
+stamp_again (Made m) rest h = rw (num_again m rest h) refl
+
+stamp_some : (s : Stamp) → 0 < length (stamp s)
+stamp_some (Time t) = omega arith
+stamp_some (Made m) = omega arith
+
+pub stamp_inverts : Inverts stamp (λ s. number s < 2 ^ 64) stamp_in
+stamp_inverts = record { found = stamp_found; again = λ s rest h lt. stamp_again s rest h; some = stamp_some }
+
+-- ---- values of two parts
+
+abbrev pub IsText : List ℕ → Type 0
+IsText t = is_text t ≡ true
+
+abbrev pub IsPathText : List ℕ → Type 0
+IsPathText p = is_path_text p ≡ true
+
+pub pair_inverts : Inverts pair (λ p. IsText p.name × IsText p.value) pair_in
+unfolding pair_in
+pair_inverts = both_inverts (λ name value. record { name = name; value = value }) (λ p. p.name) (λ p. p.value) text IsText text_in text IsText text_in (λ a b. refl) (λ a b. refl) (λ c. refl) text_inverts text_inverts
+
+pub values_inverts : Inverts values (λ v. IsText v.name × Each IsText v.values) values_in
+unfolding values_in
+values_inverts = both_inverts (λ name values. record { name = name; values = values }) (λ v. v.name) (λ v. v.values) text IsText text_in (list text) (Each IsText) (list_in text_in) (λ a b. refl) (λ a b. refl) (λ c. refl) text_inverts (list_inverts text IsText text_in text_inverts)
+
+flag_of_kind : (folder : Bool) → is_folder_kind (kind_of folder) ≡ folder
+flag_of_kind true = refl
+flag_of_kind false = refl
+
+kind_of_flag : (kind : Kind) → kind_of (is_folder_kind kind) ≡ kind
+kind_of_flag Plain = refl
+kind_of_flag Folder = refl
+
+pub out_inverts : Inverts out (λ o. Unit {0} × IsPathText o.path) out_in
+unfolding out_in
+out_inverts = both_inverts (λ folder path. record { path = path; kind = kind_of folder }) (λ o. is_folder_kind o.kind) (λ o. o.path) letter (λ folder. Unit {0}) flag_in text IsPathText path_in (λ a b. flag_of_kind a) (λ a b. refl) (λ c. ap (λ k. record c { kind = k }) (kind_of_flag c.kind)) flag_inverts path_inverts
+
+pub out_item_inverts : Inverts out_item (λ o. IsText o.name × Each (λ (x : Out). Unit {0} × IsPathText x.path) o.outs) out_item_in
+unfolding out_item_in
+out_item_inverts = both_inverts (λ name outs. record { name = name; outs = outs }) (λ o. o.name) (λ o. o.outs) text IsText text_in (list out) (Each (λ (x : Out). Unit {0} × IsPathText x.path)) (list_in out_in) (λ a b. refl) (λ a b. refl) (λ c. refl) text_inverts (list_inverts out (λ (x : Out). Unit {0} × IsPathText x.path) out_in out_inverts)
+
+pub member_inverts : Inverts member (λ m. Unit {0} × IsPathText m.name) member_in
+unfolding member_in
+member_inverts = both_inverts (λ folder name. record { folder = folder; name = name }) (λ m. m.folder) (λ m. m.name) letter (λ folder. Unit {0}) flag_in text IsPathText path_in (λ a b. refl) (λ a b. refl) (λ c. refl) flag_inverts path_inverts

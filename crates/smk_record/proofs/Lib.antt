@@ -9,3 +9,4 @@ pub mod Directories
 pub mod Rising
 pub mod Above
 pub mod Members
+pub mod Fields

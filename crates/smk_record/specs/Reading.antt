@@ -176,24 +176,20 @@ inputs_in bytes = do
   n ← number_in 10 bytes
   each_in all item_in n.0 n.1
 
+abbrev pub paired : {A B : Type 0} → A → B → A × B
+paired a b = (a, b)
+
 -- a recipe, and the stamps of its inputs
 unfoldable pub recipe_in : Reader (Recipe × List Stamp)
-recipe_in bytes = do
-  template ← text_in bytes
-  wildcards ← list_in pair_in template.1
-  params ← list_in values_in wildcards.1
-  inputs ← inputs_in params.1
-  outputs ← list_in out_item_in inputs.1
-  Some ((record { template = template.0; wildcards = wildcards.0; params = params.0; inputs = inputs.0.0; outputs = outputs.0 }, inputs.0.1), outputs.1)
+recipe_in =
+    both_in (λ template x. (record { template = template; wildcards = x.0; params = x.1.0; inputs = x.1.1.0.0; outputs = x.1.1.1 }, x.1.1.0.1)) text_in
+    (both_in paired (list_in pair_in) (both_in paired (list_in values_in) (both_in paired inputs_in (list_in out_item_in))))
 
 -- what follows the first line
 unfoldable pub fields_in : Reader Record
-fields_in bytes = do
-  path ← path_in bytes
-  made ← number_in 10 path.1
-  recipe ← recipe_in made.1
-  members ← list_in member_in recipe.1
-  Some (record { path = path.0; made = made.0; recipe = recipe.0.0; stamps = recipe.0.1; members = members.0 }, members.1)
+fields_in =
+    both_in (λ path x. record { path = path; made = x.0; recipe = x.1.0.0; stamps = x.1.0.1; members = x.1.1 }) path_in
+    (both_in paired (number_in 10) (both_in paired recipe_in (list_in member_in)))
 
 -- what follows the front
 abbrev pub after_front : List ℕ → List ℕ → Option (List ℕ)

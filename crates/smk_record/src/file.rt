@@ -2,7 +2,7 @@
 
 ghost use Rattle.std.specs.Prelude.{◌≡◌, ◌↔◌, ◌^◌, ◌<◌, ◌&&◌, ◌++◌, length, IfOk, OnOk, IsTrue, string_bytes, Some};
 ghost use Rattle.smk_record.specs.Records.{is_valid};
-ghost use Rattle.smk_record.specs.Spelling.{spelling, head, list, member, is_writable};
+ghost use Rattle.smk_record.specs.Spelling.{spelling, head, list, member, IsReadAs};
 ghost use Rattle.smk_record.specs.Reading.{Gives, recipe_in, fields_in, record_in, after_front};
 
 use crate::bytes::number;
@@ -74,4 +74,49 @@ pub fn write(alloc: Global, kept: &Record) -> Result<Bytes, OutOfMemory>
     push_head(&mut text, kept)?;
     kept.members.push_to(&mut text)?;
     Bytes::of(alloc, text.as_bytes())
+}
+
+// The record whose fields follow the first line, valid or not.
+#[tactic(auto, unfolding(crate::specs::Reading::fields_in))]
+fn fields(alloc: Global, bytes: &[u8]) -> Result<(Record, &[u8]), Stop>
+    ensures { Gives (λ x. (x.0, x.1.now)) result (fields_in bytes.now) }
+{
+    let (path, rest) = Spelled::read(alloc, bytes)?;
+    let (made, rest) = number(b'\n', rest)?;
+    let ((recipe, stamps), rest) = recipe(alloc, rest)?;
+    let (members, rest) = Spelled::read(alloc, rest)?;
+    let kept = Record {
+        path,
+        made,
+        recipe,
+        stamps,
+        members,
+    };
+    Ok((kept, rest))
+}
+
+// The valid record of which these are all the bytes.
+#[tactic(auto, unfolding(crate::specs::Reading::record_in))]
+fn record(alloc: Global, bytes: &[u8]) -> Result<Record, Stop>
+    ensures { Gives (λ kept. kept) result (record_in bytes.now) }
+{
+    let rest = after_front(b"SMK1\n", bytes)?;
+    let (kept, rest) = fields(alloc, rest)?;
+    if rest.is_empty() && kept.is_valid() {
+        Ok(kept)
+    } else {
+        Err(Stop::Unread)
+    }
+}
+
+/// The record that the bytes spell. None exactly where they spell no valid record; `OutOfMemory` where there is no memory for the
+/// record. The time grows with the bytes, and nothing is reserved for a length that they only claim.
+pub fn read(alloc: Global, bytes: &[u8]) -> Result<Option<Record>, OutOfMemory>
+    ensures { IfOk result (λ found. IsReadAs bytes.now found) }
+{
+    match record(alloc, bytes) {
+        Ok(kept) => Ok(Some(kept)),
+        Err(Stop::Unread) => Ok(None),
+        Err(Stop::OutOfMemory) => Err(OutOfMemory),
+    }
 }

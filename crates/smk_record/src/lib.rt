@@ -9,5 +9,5 @@ mod spelled;
 mod stop;
 mod valid;
 
-pub use file::write;
-pub use record::{Member, Record, Stamp};
+pub use file::{read, write};
+pub use record::{Member, Record, Stamp, same_stamp};
