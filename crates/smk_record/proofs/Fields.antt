@@ -64,7 +64,7 @@ each_again {A} {B} stamps spell P one i zs rest h lt = each_is stamps one (lengt
 
 -- ---- an item
 
-abbrev IsSmall : Stamp → Type 0
+abbrev pub IsSmall : Stamp → Type 0
 IsSmall s = number s < 2 ^ 64
 
 abbrev stamped_text : Path × Stamp → List ℕ
@@ -211,10 +211,10 @@ items_flat (z ∷ zs) h =
     ∙ ap (λ t. item_then z.0 z.1 t) (items_flat zs h.1)
     ∙ sym (flat_map-cons item_text z zs)
 
-abbrev paths_in : List Item → List Path
+abbrev pub paths_in : List Item → List Path
 paths_in is = flat_map (λ (i : Item). i.paths) is
 
-abbrev IsGoodItem : Item → Type 0
+abbrev pub IsGoodItem : Item → Type 0
 IsGoodItem i = IsText i.name × Each IsPathText i.paths
 
 pub record InputsFit (x : List Item × List Stamp) : Type 0 where
@@ -283,7 +283,7 @@ split_fits (i ∷ is) ss h k e =
     (record { name = h.0.0; paths = h.0.1; stamps = each_front IsSmall (length i.paths) ss k; each = omega (arith, length-take (length i.paths) ss, paths_count i is, e) }
     , split_fits is (drop (length i.paths) ss) h.1 (each_back IsSmall (length i.paths) ss k) (omega (arith, length-drop (length i.paths) ss, paths_count i is, e)))
 
-abbrev inputs_text : List Item × List Stamp → List ℕ
+abbrev pub inputs_text : List Item × List Stamp → List ℕ
 inputs_text x = num (length x.0) ++ items x.0 x.1
 
 inputs_found : (bytes : List ℕ) (x : List Item × List Stamp) (rest : List ℕ) → inputs_in bytes ≡ Some (x, rest) → (bytes ≡ inputs_text x ++ rest) × InputsFit x
@@ -326,7 +326,7 @@ inputs_inverts = record { found = inputs_found; again = inputs_again; some = λ 
 
 -- ---- recipes and records
 
-num_inverts : Inverts num (λ n. n < 2 ^ 64) (number_in 10)
+pub num_inverts : Inverts num (λ n. n < 2 ^ 64) (number_in 10)
 num_inverts = record {
   found = λ bytes n rest e. (let f = number_found 10 bytes n rest e in (f.0 ∙ sym (append_assoc (decimal n) (10 ∷ []) rest), f.1));
   again = λ n rest h lt. num_again n rest h;
@@ -339,22 +339,22 @@ first_of x = x.0
 abbrev second_of : {A B : Type 0} → A × B → B
 second_of x = x.1
 
-paired_inverts : {A B : Type 0} (p : A → List ℕ) (P : A → Type 0) (r : Reader A) (q : B → List ℕ) (Q : B → Type 0) (s : Reader B) → Inverts p P r → Inverts q Q s → Inverts (λ (x : A × B). p x.0 ++ q x.1) (λ (x : A × B). P x.0 × Q x.1) (both_in paired r s)
+pub paired_inverts : {A B : Type 0} (p : A → List ℕ) (P : A → Type 0) (r : Reader A) (q : B → List ℕ) (Q : B → Type 0) (s : Reader B) → Inverts p P r → Inverts q Q s → Inverts (λ (x : A × B). p x.0 ++ q x.1) (λ (x : A × B). P x.0 × Q x.1) (both_in paired r s)
 paired_inverts {A} {B} p P r q Q s first second = both_inverts {C = A × B} paired first_of second_of p P r q Q s (λ a b. refl) (λ a b. refl) (λ c. refl) first second
 
-abbrev PairFits : Pair → Type 0
+abbrev pub PairFits : Pair → Type 0
 PairFits p = IsText p.name × IsText p.value
 
-abbrev ValuesFit : Values → Type 0
+abbrev pub ValuesFit : Values → Type 0
 ValuesFit v = IsText v.name × Each IsText v.values
 
-abbrev OutFits : Out → Type 0
+abbrev pub OutFits : Out → Type 0
 OutFits o = Unit {0} × IsPathText o.path
 
-abbrev OutItemFits : OutItem → Type 0
+abbrev pub OutItemFits : OutItem → Type 0
 OutItemFits o = IsText o.name × Each OutFits o.outs
 
-abbrev MemberFits : Member → Type 0
+abbrev pub MemberFits : Member → Type 0
 MemberFits m = Unit {0} × IsPathText m.name
 
 abbrev RecipeParts : Type 0
@@ -380,7 +380,7 @@ parts_inverts =
 abbrev recipe_parts : Recipe × List Stamp → RecipeParts
 recipe_parts x = (x.0.wildcards, (x.0.params, ((x.0.inputs, x.1), x.0.outputs)))
 
-abbrev recipe_text : Recipe × List Stamp → List ℕ
+abbrev pub recipe_text : Recipe × List Stamp → List ℕ
 recipe_text x = text x.0.template ++ parts_text (recipe_parts x)
 
 abbrev pub RecipeFits : Recipe × List Stamp → Type 0

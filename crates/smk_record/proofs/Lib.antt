@@ -10,3 +10,4 @@ pub mod Rising
 pub mod Above
 pub mod Members
 pub mod Fields
+pub mod Exact
