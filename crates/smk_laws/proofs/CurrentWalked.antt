@@ -64,7 +64,7 @@ module _ (flow : Flow) (sources : Sources) (L : Listings) where
       go (Ambiguous a b) e k ih = absurd k
       go (Make d) e k ih = parts d e (in_either c (flat_map (walk flow sources L n) (wants flow L d)) (d ∷ []) k) ih
 
-  chosen_same : (p q : Path) (c d : Candidate) → choose flow sources p ≡ Make c → choose flow sources q ≡ Make d → same_candidate c d ≡ true → c ≡ d
+  pub chosen_same : (p q : Path) (c d : Candidate) → choose flow sources p ≡ Make c → choose flow sources q ≡ Make d → same_candidate c d ≡ true → c ≡ d
   chosen_same p q c d e f h =
       let s = same_parts c d h in
       let o = origin flow p c sources e in

@@ -25,3 +25,6 @@ pub mod Finite
 mod Copied
 pub mod CurrentAtExit
 pub mod CurrentStamps
+pub mod PlanOrder
+pub mod PlanStates
+pub mod PlanOne

@@ -3,3 +3,4 @@ pub mod Current
 pub mod Choices
 pub mod AtExit
 pub mod Stamps
+pub mod Plans

@@ -5,6 +5,7 @@ ghost use Rattle.smk_pattern.specs.Bound.{BoundFills};
 ghost use Rattle.smk_laws.specs.AtExit.{CurrentAtExitIsClean};
 ghost use Rattle.smk_laws.specs.Choices.{SameChoice, StaysAvailable};
 ghost use Rattle.smk_laws.specs.Current.{CurrentMeansClean, CurrentMeansCleanInWorlds, SeenIsComplete};
+ghost use Rattle.smk_laws.specs.Plans.{HasPlan, OneLastPlan, OnePlan};
 ghost use Rattle.smk_laws.specs.Stamps.{StampTells};
 
 /// The law that what a plan calls current is clean: in a sound folder a target that is current by the last plan holds what a clean
@@ -27,4 +28,12 @@ pub fn choice_is_settled()
 /// In a sound folder a source whose time agrees with a recorded one has the bytes that it had then.
 pub fn stamps_tell()
     ensures { StampTells }
+{}
+
+/// In a complete image there is exactly one plan for listings with which jobs are derived: its table of states has one solution,
+/// since each job comes after the jobs of its inputs. So a chain of plans has at most one last plan.
+pub fn plan_is_one()
+    ensures one { OnePlan }
+    ensures has { HasPlan }
+    ensures last { OneLastPlan }
 {}

@@ -23,6 +23,7 @@ use Rattle.smk_record.specs.declared.record.Member.{Member}
 use Rattle.smk_record.specs.declared.record.Record.{Record}
 use Rattle.smk_record.specs.Records.{is_valid, is_earlier, are_rising, are_valid_members, are_none}
 use Rattle.smk_record.specs.Spelling.{num, text, list, member, pair, values, items, out_item, number, head, spelling, texts, is_writable, IsReadAs, ReadsRecords}
+use Rattle.smk_record.specs.Apart.{BeginWithOne, NoneIsPrefix}
 use Rattle.smk_record.specs.Reading.{◌>>=◌, Reader, number_in, path_in, both_in, list_in, paired, recipe_in, fields_in, member_in, after_front, record_in}
 use Rattle.smk_record.proofs.Inverts.{Inverts, bind_some, if_some, if_true, some_is, shorter, IsText, IsPathText, path_inverts, both_inverts, list_inverts, member_inverts}
 use Rattle.smk_record.proofs.Fields.{IsSmall, InputsFit, IsGoodItem, PairFits, ValuesFit, OutFits, OutItemFits, MemberFits, RecipeFits, recipe_text, recipe_inverts, num_inverts, paired_inverts, inputs_text}
@@ -279,8 +280,30 @@ record_again r lt h =
     ap record_in (spelled r) ∙ ap record_by (front_again (codes "SMK1\n") (fields_text r)) ∙ rw read (if_true (is_valid r) r valid)
 
 pub reads_records : ReadsRecords record_in
-reads_records bytes lt r =
+reads_records bytes r lt =
     (record_found bytes r, λ h. ap record_in h.0 ∙ record_again r (subst (λ t. length t < 2 ^ 64) h.0 lt) h.1)
 
 pub read_as : (bytes : List ℕ) (found : Option Record) → length bytes < 2 ^ 64 → record_in bytes ≡ found → IsReadAs bytes found
-read_as bytes found lt e = subst (IsReadAs bytes) e (reads_records bytes lt)
+read_as bytes found lt e = subst (IsReadAs bytes) e (λ r. reads_records bytes r lt)
+
+-- ---- what bytes begin with
+
+-- the record with which the bytes begin is read, whatever follows it
+begins : (bytes rest : List ℕ) (r : Record) → length bytes < 2 ^ 64 → IsTrue (is_valid r && is_writable r) → bytes ≡ spelling r ++ rest → (after_front (codes "SMK1\n") bytes >>= fields_in) ≡ Some (r, rest)
+begins bytes rest r lt h e =
+    let whole : bytes ≡ codes "SMK1\n" ++ (fields_text r ++ rest) = e ∙ ap (λ t. t ++ rest) (spelled r) ∙ append_assoc (codes "SMK1\n") (fields_text r) rest in
+    let fits = fits_of r (and_first (is_valid r) (is_writable r) h) (and_second (is_valid r) (is_writable r) h) in
+    let lt2 = shorter (codes "SMK1\n") (fields_text r ++ rest) (2 ^ 64) (subst (λ t. length t < 2 ^ 64) whole lt) in
+    ap (λ t. after_front (codes "SMK1\n") t >>= fields_in) whole
+    ∙ ap (λ o. o >>= fields_in) (front_again (codes "SMK1\n") (fields_text r ++ rest))
+    ∙ fields_inverts.again r rest fits lt2
+
+pub begin_with_one : BeginWithOne
+begin_with_one bytes u v r s lt hr hs eu ev =
+    let p = some_is (r, u) (s, v) (sym (begins bytes u r lt hr eu) ∙ begins bytes v s lt hs ev) in
+    (ap (λ (q : Record × List ℕ). q.0) p, ap (λ (q : Record × List ℕ). q.1) p)
+
+pub none_is_prefix : NoneIsPrefix
+none_is_prefix r s rest lt hr hs e =
+    let both = begin_with_one (spelling s) rest [] r s lt hr hs e (sym (append-nil (spelling s))) in
+    (both.0, both.1)

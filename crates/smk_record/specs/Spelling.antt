@@ -99,6 +99,8 @@ is_writable r = list_all is_text (texts r.recipe) && (nat_lt r.made (2 ^ 64) && 
 abbrev pub IsReadAs : List ℕ → Option Record → Type 0
 IsReadAs bytes found = (r : Record) → (found ≡ Some r) ↔ ((bytes ≡ spelling r) × IsTrue (is_valid r && is_writable r))
 
--- A reader of records, of all the bytes that a file can have: their number has at most 64 bits.
+-- A reader of records: fewer than 2^64 bytes are read as the valid record that they spell, and as nothing where they spell none.
 abbrev pub ReadsRecords : (List ℕ → Option Record) → Type 0
-ReadsRecords read = (bytes : List ℕ) → length bytes < 2 ^ 64 → IsReadAs bytes (read bytes)
+ReadsRecords read =
+    (bytes : List ℕ) (r : Record) →
+    length bytes < 2 ^ 64 → (read bytes ≡ Some r) ↔ ((bytes ≡ spelling r) × IsTrue (is_valid r && is_writable r))
