@@ -1,6 +1,6 @@
 -- The reader of records reads exactly the spellings of valid records.
-use Rattle.std.proofs.Common.{◌≡◌, ℕ, zero, suc, ◌+◌, ◌<◌, ◌≤◌, ◌^◌, Bool, true, false, ◌&&◌, cond, eqb, List, [], ◌∷◌, ◌++◌, map, length, Option, Some, None, refl, sym, ap, subst, ◌∙◌, append_assoc, arith, length-append, codes, inl, inr}
-use Rattle.std.specs.Prelude.{nat_lt, nat_le, IsTrue, ◌↔◌, bytes_eq, ◌||◌}
+use Rattle.std.proofs.Common.{◌≡◌, ℕ, ◌<◌, ◌^◌, Bool, true, false, ◌&&◌, cond, eqb, List, [], ◌∷◌, ◌++◌, map, length, Option, Some, None, refl, sym, ap, subst, ◌∙◌, append_assoc, arith, length-append, codes, inl, inr}
+use Rattle.std.specs.Prelude.{nat_lt, nat_le, IsTrue, bytes_eq}
 use Rattle.std.specs.List.{list_all, flat_map}
 use Rattle.std.proofs.lemmas.Bool.{ltb-true, eqb-true}
 use Rattle.std.proofs.lemmas.List.{append-nil, nil_from_length}
@@ -22,9 +22,9 @@ use Rattle.smk_record.specs.declared.record.Stamp.{Stamp}
 use Rattle.smk_record.specs.declared.record.Member.{Member}
 use Rattle.smk_record.specs.declared.record.Record.{Record}
 use Rattle.smk_record.specs.Records.{is_valid, is_earlier, are_rising, are_valid_members, are_none}
-use Rattle.smk_record.specs.Spelling.{num, text, list, member, pair, values, items, out_item, number, head, spelling, texts, is_writable, IsReadAs, ReadsRecords}
+use Rattle.smk_record.specs.Spelling.{num, text, list, member, pair, values, out_item, number, spelling, texts, is_writable, IsReadAs, ReadsRecords}
 use Rattle.smk_record.specs.Apart.{BeginWithOne, NoneIsPrefix}
-use Rattle.smk_record.specs.Reading.{◌>>=◌, Reader, number_in, path_in, both_in, list_in, paired, recipe_in, fields_in, member_in, after_front, record_in}
+use Rattle.smk_record.specs.Reading.{◌>>=◌, number_in, path_in, both_in, list_in, paired, recipe_in, fields_in, member_in, after_front, record_in}
 use Rattle.smk_record.proofs.Inverts.{Inverts, bind_some, if_some, if_true, some_is, shorter, IsText, IsPathText, path_inverts, both_inverts, list_inverts, member_inverts}
 use Rattle.smk_record.proofs.Fields.{IsSmall, InputsFit, IsGoodItem, PairFits, ValuesFit, OutFits, OutItemFits, MemberFits, RecipeFits, recipe_text, recipe_inverts, num_inverts, paired_inverts, inputs_text}
 
@@ -159,12 +159,12 @@ fit_texts : (recipe : Recipe) → TextsFit recipe → list_all is_text (texts re
 fit_texts recipe h =
     both_true (is_text recipe.template) _ h.template
     (join_all is_text (flat_map name_and_value recipe.wildcards) _
-        (flat_all name_and_value is_text recipe.wildcards (each_turned PairFits (λ (p : Pair). list_all is_text (name_and_value p) ≡ true) recipe.wildcards (λ p k. both_true (is_text p.name) (is_text p.value && true) k.0 (both_true (is_text p.value) true k.1 refl)) h.wildcards))
+    (flat_all name_and_value is_text recipe.wildcards (each_turned PairFits (λ (p : Pair). list_all is_text (name_and_value p) ≡ true) recipe.wildcards (λ p k. both_true (is_text p.name) (is_text p.value && true) k.0 (both_true (is_text p.value) true k.1 refl)) h.wildcards))
     (join_all is_text (flat_map name_and_values recipe.params) _
-        (flat_all name_and_values is_text recipe.params (each_turned ValuesFit (λ (v : Values). list_all is_text (name_and_values v) ≡ true) recipe.params (λ v k. both_true (is_text v.name) (list_all is_text v.values) k.0 (all_of is_text v.values k.1)) h.params))
+    (flat_all name_and_values is_text recipe.params (each_turned ValuesFit (λ (v : Values). list_all is_text (name_and_values v) ≡ true) recipe.params (λ v k. both_true (is_text v.name) (list_all is_text v.values) k.0 (all_of is_text v.values k.1)) h.params))
     (join_all is_text (map item_name recipe.inputs) (map out_name recipe.outputs)
-        (list_all-map is_text item_name recipe.inputs ∙ all_of (λ (i : Item). is_text i.name) recipe.inputs h.inputs)
-        (list_all-map is_text out_name recipe.outputs ∙ all_of (λ (o : OutItem). is_text o.name) recipe.outputs h.outputs))))
+    (list_all-map is_text item_name recipe.inputs ∙ all_of (λ (i : Item). is_text i.name) recipe.inputs h.inputs)
+    (list_all-map is_text out_name recipe.outputs ∙ all_of (λ (o : OutItem). is_text o.name) recipe.outputs h.outputs))))
 
 lt_of : (n : ℕ) → n < 2 ^ 64 → nat_lt n (2 ^ 64) ≡ true
 lt_of n h = grind arith
@@ -174,12 +174,12 @@ fits_writable r h =
     let recipe = h.1.1.0 in
     let parts = recipe.1 in
     let texts_are : list_all is_text (texts r.recipe) ≡ true = fit_texts r.recipe (record {
-          template = recipe.0;
-          wildcards = parts.0;
-          params = parts.1.0;
-          inputs = each_turned IsGoodItem (λ (i : Item). IsText i.name) r.recipe.inputs (λ i k. k.0) parts.1.1.0.items;
-          outputs = each_turned OutItemFits (λ (o : OutItem). IsText o.name) r.recipe.outputs (λ o k. k.0) parts.1.1.1;
-        }) in
+      template = recipe.0;
+      wildcards = parts.0;
+      params = parts.1.0;
+      inputs = each_turned IsGoodItem (λ (i : Item). IsText i.name) r.recipe.inputs (λ i k. k.0) parts.1.1.0.items;
+      outputs = each_turned OutItemFits (λ (o : OutItem). IsText o.name) r.recipe.outputs (λ o k. k.0) parts.1.1.1;
+    }) in
     let stamps_are : list_all (λ (s : Stamp). nat_lt (number s) (2 ^ 64)) r.stamps ≡ true = all_of (λ (s : Stamp). nat_lt (number s) (2 ^ 64)) r.stamps (each_turned IsSmall (λ (s : Stamp). nat_lt (number s) (2 ^ 64) ≡ true) r.stamps (λ s k. lt_of (number s) k) parts.1.1.0.stamps) in
     both_true (list_all is_text (texts r.recipe)) _ texts_are (both_true (nat_lt r.made (2 ^ 64)) _ (lt_of r.made h.1.0) stamps_are)
 
@@ -238,16 +238,21 @@ fits_of r h k =
     let small : Each IsSmall r.stamps = each_turned (λ (s : Stamp). nat_lt (number s) (2 ^ 64) ≡ true) IsSmall r.stamps (λ s e. ltb-true _ _ e) (each_of (λ (s : Stamp). nat_lt (number s) (2 ^ 64)) r.stamps (and_second (nat_lt r.made (2 ^ 64)) _ k1)) in
     let item_paths_fit : Each (λ (i : Item). Each IsPathText i.paths) r.recipe.inputs = each_turned (λ (i : Item). list_all is_path_text i.paths ≡ true) (λ (i : Item). Each IsPathText i.paths) r.recipe.inputs (λ i e. each_of is_path_text i.paths e) (flat_each item_paths is_path_text r.recipe.inputs v.inputs) in
     let outs_fit : Each (λ (o : OutItem). Each OutFits o.outs) r.recipe.outputs = each_turned (λ (o : OutItem). list_all is_path_text (item_outs o) ≡ true) (λ (o : OutItem). Each OutFits o.outs) r.recipe.outputs
-          (λ o e. each_turned (λ (x : Out). is_path_text x.path ≡ true) OutFits o.outs (λ x g. (tt, g)) (each_of (λ (x : Out). is_path_text x.path) o.outs (sym (list_all-map is_path_text (λ (x : Out). x.path) o.outs) ∙ e))) (flat_each item_outs is_path_text r.recipe.outputs v.outputs) in
+    (λ o e. each_turned (λ (x : Out). is_path_text x.path ≡ true) OutFits o.outs (λ x g. (tt, g)) (each_of (λ (x : Out). is_path_text x.path) o.outs (sym (list_all-map is_path_text (λ (x : Out). x.path) o.outs) ∙ e))) (flat_each item_outs is_path_text r.recipe.outputs v.outputs) in
     let inputs_are : InputsFit (r.recipe.inputs, r.stamps) = record {
-          items = each_both (λ (i : Item). IsText i.name) (λ (i : Item). Each IsPathText i.paths) r.recipe.inputs t.inputs item_paths_fit;
-          stamps = small;
-          count = v.count;
-        } in
-    (named_passes is_path_text (out_paths r.recipe) r.path v.outputs v.listed
-    , (ltb-true _ _ (and_first (nat_lt r.made (2 ^ 64)) _ k1)
-    , ((t.template, (t.wildcards, (t.params, (inputs_are, each_both (λ (o : OutItem). IsText o.name) (λ (o : OutItem). Each OutFits o.outs) r.recipe.outputs t.outputs outs_fit))))
-    , members_by r.path r.members (among (folders_of r.recipe) r.path) v.members)))
+      items = each_both (λ (i : Item). IsText i.name) (λ (i : Item). Each IsPathText i.paths) r.recipe.inputs t.inputs item_paths_fit;
+      stamps = small;
+      count = v.count;
+    } in (
+      named_passes is_path_text (out_paths r.recipe) r.path v.outputs v.listed,
+      (
+        ltb-true _ _ (and_first (nat_lt r.made (2 ^ 64)) _ k1),
+        (
+          (t.template, (t.wildcards, (t.params, (inputs_are, each_both (λ (o : OutItem). IsText o.name) (λ (o : OutItem). Each OutFits o.outs) r.recipe.outputs t.outputs outs_fit)))),
+          members_by r.path r.members (among (folders_of r.recipe) r.path) v.members,
+        ),
+      ),
+    )
 
 -- ---- whole records
 

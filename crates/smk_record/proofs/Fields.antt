@@ -1,10 +1,9 @@
 -- Inputs with their stamps, recipes and records: what is read is spelled so, and what is spelled so is read.
-use Rattle.std.proofs.Common.{◌≡◌, ℕ, zero, suc, ◌+◌, ◌<◌, ◌≤◌, ◌^◌, Bool, true, false, ◌&&◌, cond, List, [], ◌∷◌, ◌++◌, map, length, take, drop, Option, Some, None, refl, sym, ap, subst, ◌∙◌, append_assoc, arith, length-append, length-take, length-drop}
+use Rattle.std.proofs.Common.{◌≡◌, ℕ, zero, suc, ◌+◌, ◌<◌, ◌^◌, List, [], ◌∷◌, ◌++◌, map, length, take, drop, Some, None, refl, sym, ap, subst, ◌∙◌, append_assoc, arith, length-append, length-take, length-drop}
 use Rattle.std.specs.Prelude.{decimal}
 use Rattle.std.specs.List.{flat_map, zip}
-use Rattle.std.proofs.lemmas.List.{take_at, drop_at, take-append-drop, append-nil}
+use Rattle.std.proofs.lemmas.List.{drop_at, take-append-drop}
 use Rattle.std.proofs.lemmas.List.Concat.{flat_map-cons}
-use Rattle.std.proofs.lemmas.Slice.Zip.{firsts-zip, seconds-zip, length-zip}
 use Rattle.smk_base.specs.declared.tree.Pair.{Pair}
 use Rattle.smk_world.specs.declared.recipe.Values.{Values}
 use Rattle.smk_world.specs.declared.recipe.Item.{Item}
@@ -14,10 +13,9 @@ use Rattle.smk_world.specs.declared.recipe.Recipe.{Recipe}
 use Rattle.smk_world.specs.Trees.{Each, Path}
 use Rattle.smk_record.specs.declared.record.Stamp.{Stamp}
 use Rattle.smk_record.specs.declared.record.Member.{Member}
-use Rattle.smk_record.specs.declared.record.Record.{Record}
-use Rattle.smk_record.specs.Spelling.{num, text, list, stamp, number, stamped_paths, items, pair, values, out_item, member}
-use Rattle.smk_record.specs.Reading.{◌>>=◌, Reader, Taken, number_in, text_in, path_in, both_in, some_in, list_in, each_in, stamp_in, stamped_in, alone, all, item_in, inputs_in, paired, recipe_in, fields_in, pair_in, values_in, out_item_in, member_in}
-use Rattle.smk_record.proofs.Inverts.{Inverts, bind_some, some_is, shorter, IsText, IsPathText, number_found, number_again, num_again, some_found, some_again, some_long, text_inverts, path_inverts, stamp_inverts, both_inverts, list_inverts, pair_inverts, values_inverts, out_item_inverts, member_inverts}
+use Rattle.smk_record.specs.Spelling.{num, text, list, stamp, number, stamped_paths, items, pair, values, out_item}
+use Rattle.smk_record.specs.Reading.{◌>>=◌, Reader, Taken, number_in, text_in, path_in, both_in, some_in, list_in, each_in, stamp_in, stamped_in, alone, all, item_in, inputs_in, paired, recipe_in, pair_in, values_in, out_item_in}
+use Rattle.smk_record.proofs.Inverts.{Inverts, bind_some, some_is, shorter, IsText, IsPathText, number_found, num_again, some_found, some_again, some_long, text_inverts, path_inverts, stamp_inverts, both_inverts, list_inverts, pair_inverts, values_inverts, out_item_inverts}
 
 -- ---- many values with stamps
 
@@ -151,16 +149,16 @@ item_found bytes x rest e =
     let flat : flat_map stamped_text zs ≡ stamped_paths ps ss = sym (stamped_flat zs) ∙ ap (λ q. stamped_paths q (stamps_in alone zs)) f.1 ∙ ap (λ t. stamped_paths ps t) f.2 in
     let tail : b.0.1 ≡ stamped_paths ps ss ++ c.0.1 = f.3 ∙ ap (λ t. t ++ c.0.1) flat in
     let rest2 : a.0.1 ≡ (num (length ps) ++ stamped_paths ps ss) ++ c.0.1 =
-        two.0 ∙ sym (append_assoc (decimal b.0.0) (10 ∷ []) b.0.1) ∙ ap (λ k. num k ++ b.0.1) count ∙ ap (λ t. num (length ps) ++ t) tail ∙ sym (append_assoc (num (length ps)) (stamped_paths ps ss) c.0.1) in
+    two.0 ∙ sym (append_assoc (decimal b.0.0) (10 ∷ []) b.0.1) ∙ ap (λ k. num k ++ b.0.1) count ∙ ap (λ t. num (length ps) ++ t) tail ∙ sym (append_assoc (num (length ps)) (stamped_paths ps ss) c.0.1) in
     let whole : bytes ≡ (text a.0.0 ++ (num (length ps) ++ stamped_paths ps ss)) ++ c.0.1 =
-        one.0 ∙ ap (λ t. text a.0.0 ++ t) rest2 ∙ sym (append_assoc (text a.0.0) (num (length ps) ++ stamped_paths ps ss) c.0.1) in
+    one.0 ∙ ap (λ t. text a.0.0 ++ t) rest2 ∙ sym (append_assoc (text a.0.0) (num (length ps) ++ stamped_paths ps ss) c.0.1) in
     let made : (Item × List Stamp) × List ℕ = ((record { name = a.0.0; paths = ps }, ss), c.0.1) in
     let fits : ItemFits made.0 = record {
-          name = one.1;
-          paths = subst (Each IsPathText) f.1 (paths_fit zs f.5);
-          stamps = subst (Each IsSmall) f.2 (stamps_fit zs f.5);
-          each = ap length (sym f.2) ∙ as_many zs ∙ ap length f.1;
-        } in
+      name = one.1;
+      paths = subst (Each IsPathText) f.1 (paths_fit zs f.5);
+      stamps = subst (Each IsSmall) f.2 (stamps_fit zs f.5);
+      each = ap length (sym f.2) ∙ as_many zs ∙ ap length f.1;
+    } in
     subst (λ (y : (Item × List Stamp) × List ℕ). (bytes ≡ item_text y.0 ++ y.1) × ItemFits y.0) (some_is made (x, rest) c.2) (whole, fits)
 
 item_again : (x : Item × List Stamp) (rest : List ℕ) → ItemFits x → length (item_text x ++ rest) < 2 ^ 64 → item_in (item_text x ++ rest) ≡ Some (x, rest)
@@ -170,7 +168,7 @@ item_again x rest fits lt =
     let ss = x.1 in
     let zs = zip i.paths ss in
     let regrouped : item_text x ++ rest ≡ text i.name ++ (num (length i.paths) ++ (stamped_paths i.paths ss ++ rest)) =
-        append_assoc (text i.name) (num (length i.paths) ++ stamped_paths i.paths ss) rest ∙ ap (λ t. text i.name ++ t) (append_assoc (num (length i.paths)) (stamped_paths i.paths ss) rest) in
+    append_assoc (text i.name) (num (length i.paths) ++ stamped_paths i.paths ss) rest ∙ ap (λ t. text i.name ++ t) (append_assoc (num (length i.paths)) (stamped_paths i.paths ss) rest) in
     let flat : stamped_paths i.paths ss ≡ flat_map stamped_text zs = ap (λ q. stamped_paths q ss) (sym (zip_firsts i.paths ss fits.each)) ∙ ap (λ t. stamped_paths (firsts zs) t) (sym (zip_stamps i.paths ss fits.each)) ∙ stamped_flat zs in
     let lt2 : length (text i.name ++ (num (length i.paths) ++ (stamped_paths i.paths ss ++ rest))) < 2 ^ 64 = subst (λ t. length t < 2 ^ 64) regrouped lt in
     let lt3 = shorter (text i.name) (num (length i.paths) ++ (stamped_paths i.paths ss ++ rest)) (2 ^ 64) lt2 in
@@ -178,10 +176,10 @@ item_again x rest fits lt =
     let lt5 : length (flat_map stamped_text zs ++ rest) < 2 ^ 64 = subst (λ t. length (t ++ rest) < 2 ^ 64) flat lt4 in
     let small : length i.paths < 2 ^ 64 = omega (arith, lt5, length-append (flat_map stamped_text zs) rest, some_long stamped_text stamped_inverts.some zs, zip_long i.paths ss fits.each) in
     let read : each_in alone stamped_in (length i.paths) (stamped_paths i.paths ss ++ rest) ≡ Some ((i.paths, ss), rest) =
-        ap (λ k. each_in alone stamped_in k (stamped_paths i.paths ss ++ rest)) (sym (zip_long i.paths ss fits.each))
-        ∙ ap (λ t. each_in alone stamped_in (length zs) (t ++ rest)) flat
-        ∙ each_again alone stamped_text StampedFits stamped_in stamped_inverts zs rest (zip_fits i.paths ss fits.paths fits.stamps) lt5
-        ∙ ap (λ q. parts_of q (stamps_in alone zs) rest) (zip_firsts i.paths ss fits.each) ∙ ap (λ t. parts_of i.paths t rest) (zip_stamps i.paths ss fits.each) in
+    ap (λ k. each_in alone stamped_in k (stamped_paths i.paths ss ++ rest)) (sym (zip_long i.paths ss fits.each))
+    ∙ ap (λ t. each_in alone stamped_in (length zs) (t ++ rest)) flat
+    ∙ each_again alone stamped_text StampedFits stamped_in stamped_inverts zs rest (zip_fits i.paths ss fits.paths fits.stamps) lt5
+    ∙ ap (λ q. parts_of q (stamps_in alone zs) rest) (zip_firsts i.paths ss fits.each) ∙ ap (λ t. parts_of i.paths t rest) (zip_stamps i.paths ss fits.each) in
     ap item_in regrouped ∙ rw (text_inverts.again i.name (num (length i.paths) ++ (stamped_paths i.paths ss ++ rest)) fits.name lt2, num_again (length i.paths) (stamped_paths i.paths ss ++ rest) small, read) refl
 
 text_some : (t u : List ℕ) → 0 < length (text t ++ u)
@@ -279,9 +277,10 @@ split_stamps (i ∷ is) ss e =
 split_fits : (is : List Item) (ss : List Stamp) → Each IsGoodItem is → Each IsSmall ss → length ss ≡ length (paths_in is) → Each ItemFits (split is ss)
 unfolding split
 split_fits [] ss h k e = tt
-split_fits (i ∷ is) ss h k e =
-    (record { name = h.0.0; paths = h.0.1; stamps = each_front IsSmall (length i.paths) ss k; each = omega (arith, length-take (length i.paths) ss, paths_count i is, e) }
-    , split_fits is (drop (length i.paths) ss) h.1 (each_back IsSmall (length i.paths) ss k) (omega (arith, length-drop (length i.paths) ss, paths_count i is, e)))
+split_fits (i ∷ is) ss h k e = (
+  record { name = h.0.0; paths = h.0.1; stamps = each_front IsSmall (length i.paths) ss k; each = omega (arith, length-take (length i.paths) ss, paths_count i is, e) },
+  split_fits is (drop (length i.paths) ss) h.1 (each_back IsSmall (length i.paths) ss k) (omega (arith, length-drop (length i.paths) ss, paths_count i is, e)),
+)
 
 abbrev pub inputs_text : List Item × List Stamp → List ℕ
 inputs_text x = num (length x.0) ++ items x.0 x.1
@@ -294,13 +293,14 @@ inputs_found bytes x rest e =
     let f = each_found all item_text ItemFits item_in item_inverts a.0.0 a.0.1 x.0 x.1 rest a.2 in
     let zs = f.0 in
     let count : a.0.0 ≡ length x.0 = sym f.4 ∙ sym (firsts_long zs) ∙ ap length f.1 in
-    let flat : flat_map item_text zs ≡ items x.0 x.1 = sym (items_flat zs f.5) ∙ ap (λ q. items q (stamps_in all zs)) f.1 ∙ ap (λ t. items x.0 t) f.2 in
-    (one.0 ∙ sym (append_assoc (decimal a.0.0) (10 ∷ []) a.0.1) ∙ ap (λ k. num k ++ a.0.1) count ∙ ap (λ t. num (length x.0) ++ t) (f.3 ∙ ap (λ t. t ++ rest) flat) ∙ sym (append_assoc (num (length x.0)) (items x.0 x.1) rest)
-    , record {
+    let flat : flat_map item_text zs ≡ items x.0 x.1 = sym (items_flat zs f.5) ∙ ap (λ q. items q (stamps_in all zs)) f.1 ∙ ap (λ t. items x.0 t) f.2 in (
+      one.0 ∙ sym (append_assoc (decimal a.0.0) (10 ∷ []) a.0.1) ∙ ap (λ k. num k ++ a.0.1) count ∙ ap (λ t. num (length x.0) ++ t) (f.3 ∙ ap (λ t. t ++ rest) flat) ∙ sym (append_assoc (num (length x.0)) (items x.0 x.1) rest),
+      record {
         items = subst (Each IsGoodItem) f.1 (good_items zs f.5);
         stamps = subst (Each IsSmall) f.2 (small_stamps zs f.5);
         count = ap length (sym f.2) ∙ count_stamps zs f.5 ∙ ap (λ is. length (paths_in is)) f.1;
-      })
+      },
+    )
 
 inputs_again : (x : List Item × List Stamp) (rest : List ℕ) → InputsFit x → length (inputs_text x ++ rest) < 2 ^ 64 → inputs_in (inputs_text x ++ rest) ≡ Some (x, rest)
 unfolding inputs_in
@@ -315,10 +315,10 @@ inputs_again x rest fits lt =
     let lt3 : length (flat_map item_text zs ++ rest) < 2 ^ 64 = subst (λ t. length (t ++ rest) < 2 ^ 64) flat lt2 in
     let small : length is < 2 ^ 64 = omega (arith, lt3, length-append (flat_map item_text zs) rest, some_long item_text item_inverts.some zs, split_long is ss) in
     let read : each_in all item_in (length is) (items is ss ++ rest) ≡ Some ((is, ss), rest) =
-        ap (λ k. each_in all item_in k (items is ss ++ rest)) (sym (split_long is ss))
-        ∙ ap (λ t. each_in all item_in (length zs) (t ++ rest)) flat
-        ∙ each_again all item_text ItemFits item_in item_inverts zs rest each lt3
-        ∙ ap (λ q. parts_of q (stamps_in all zs) rest) (split_firsts is ss) ∙ ap (λ t. parts_of is t rest) (split_stamps is ss fits.count) in
+    ap (λ k. each_in all item_in k (items is ss ++ rest)) (sym (split_long is ss))
+    ∙ ap (λ t. each_in all item_in (length zs) (t ++ rest)) flat
+    ∙ each_again all item_text ItemFits item_in item_inverts zs rest each lt3
+    ∙ ap (λ q. parts_of q (stamps_in all zs) rest) (split_firsts is ss) ∙ ap (λ t. parts_of is t rest) (split_stamps is ss fits.count) in
     ap inputs_in regrouped ∙ rw (num_again (length is) (items is ss ++ rest) small) read
 
 inputs_inverts : Inverts inputs_text InputsFit inputs_in

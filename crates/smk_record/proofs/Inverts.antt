@@ -1,26 +1,22 @@
 -- What is read is what is spelled, and what is spelled is read again.
-use Rattle.std.proofs.Common.{◌≡◌, ◌⊎◌, inl, inr, ℕ, zero, suc, ◌+◌, ◌<◌, ◌≤◌, ◌^◌, Bool, true, false, ◌&&◌, cond, eqb, List, [], ◌∷◌, ◌++◌, length, take, drop, get_or, Option, Some, None, refl, sym, ap, subst, ◌∙◌, append_assoc, arith, rules, length-append}
-use Rattle.std.specs.Prelude.{not, nat_lt, decimal, ◌==◌, IsTrue}
+use Rattle.std.proofs.Common.{◌≡◌, inl, inr, ℕ, zero, suc, ◌+◌, ◌<◌, ◌≤◌, ◌^◌, Bool, true, false, ◌&&◌, cond, eqb, List, [], ◌∷◌, ◌++◌, length, take, drop, get_or, Option, Some, None, refl, sym, ap, subst, ◌∙◌, append_assoc, arith, length-append}
+use Rattle.std.specs.Prelude.{not, nat_lt, decimal}
 use Rattle.std.specs.List.{flat_map}
 use Rattle.std.specs.Str.{all_ascii_digits}
 use Rattle.std.specs.Str.Parse.{digits_value}
-use Rattle.std.proofs.lemmas.Bool.{cases_lt, ltb-false, ltb-true, le-ltb, eqb-true}
-use Rattle.std.proofs.lemmas.List.{take_at, drop_at, take-append-drop, append-nil, length-take, length-drop}
+use Rattle.std.proofs.lemmas.Bool.{cases_lt, ltb-true, eqb-true}
+use Rattle.std.proofs.lemmas.List.{take_at, drop_at, take-append-drop, length-take, length-drop}
 use Rattle.std.proofs.lemmas.List.Concat.{flat_map-cons}
 use Rattle.std.proofs.lemmas.Fmt.{digits_decimal, digits_value-decimal, decimal-digits_value, first_decimal, decimal_digit, decimal_nonempty}
 use Rattle.smk_base.proofs.Places.{and_first, and_second}
 use Rattle.smk_base.proofs.Under.{both_true}
 use Rattle.smk_base.specs.Path.{is_path}
-use Rattle.smk_base.specs.declared.tree.Pair.{Pair}
 use Rattle.smk_world.specs.declared.recipe.Kind.{Kind}
 use Rattle.smk_world.specs.declared.recipe.Kind.TheVariants.{Plain, Folder}
-use Rattle.smk_world.specs.declared.recipe.Values.{Values}
 use Rattle.smk_world.specs.declared.recipe.Out.{Out}
-use Rattle.smk_world.specs.declared.recipe.OutItem.{OutItem}
 use Rattle.smk_world.specs.Trees.{Each, is_text, is_path_text, is_folder_kind}
 use Rattle.smk_record.specs.declared.record.Stamp.{Stamp}
 use Rattle.smk_record.specs.declared.record.Stamp.TheVariants.{Time, Made}
-use Rattle.smk_record.specs.declared.record.Member.{Member}
 use Rattle.smk_record.specs.Spelling.{num, text, list, letter, stamp, number, pair, values, out, out_item, member}
 use Rattle.smk_record.specs.Reading.{◌>>=◌, Reader, Taken, digits_len, is_digit, is_numeral, number_of, after_byte, number_in, text_of, text_in, path_in, both_in, some_in, list_in, flag_in, stamp_in, kind_of, pair_in, values_in, out_in, out_item_in, member_in}
 use Rattle.smk_record.proofs.Digits.{own, front_digits}
@@ -197,7 +193,7 @@ both_inverts {A} {B} {C} make left right p P r q Q s is_left is_right whole firs
       let l = is_left a.0.0 b.0.0 in
       let k = is_right a.0.0 b.0.0 in
       let spelled : bytes ≡ (p (left (make a.0.0 b.0.0)) ++ q (right (make a.0.0 b.0.0))) ++ b.0.1 =
-          one.0 ∙ ap (λ t. p a.0.0 ++ t) two.0 ∙ sym (append_assoc (p a.0.0) (q b.0.0) b.0.1) ∙ ap (λ x. (p x ++ q b.0.0) ++ b.0.1) (sym l) ∙ ap (λ y. (p (left (make a.0.0 b.0.0)) ++ q y) ++ b.0.1) (sym k) in
+      one.0 ∙ ap (λ t. p a.0.0 ++ t) two.0 ∙ sym (append_assoc (p a.0.0) (q b.0.0) b.0.1) ∙ ap (λ x. (p x ++ q b.0.0) ++ b.0.1) (sym l) ∙ ap (λ y. (p (left (make a.0.0 b.0.0)) ++ q y) ++ b.0.1) (sym k) in
       subst (λ (z : C × List ℕ). (bytes ≡ (p (left z.0) ++ q (right z.0)) ++ z.1) × (P (left z.0) × Q (right z.0))) (some_is made (c, rest) b.2) (spelled, (subst P (sym l) one.1, subst Q (sym k) two.1));
   again = λ c rest h lt.
       let regrouped = append_assoc (p (left c)) (q (right c)) rest in

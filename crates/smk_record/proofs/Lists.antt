@@ -1,6 +1,6 @@
 -- Lists of paths, one element further.
-use Rattle.std.proofs.Common.{◌≡◌, ◌⊎◌, inl, inr, ℕ, zero, suc, ◌+◌, ◌-◌, ◌<◌, ◌≤◌, Bool, true, false, ◌&&◌, ◌||◌, List, [], ◌∷◌, ◌++◌, map, length, take, drop, get_or, refl, sym, ap, subst, ◌∙◌, append_assoc, arith, eqb, length-append, length-drop, drop-cons, add-one}
-use Rattle.std.specs.Prelude.{bytes_eq, ◌==◌}
+use Rattle.std.proofs.Common.{◌≡◌, ℕ, suc, ◌+◌, ◌<◌, ◌≤◌, Bool, true, false, ◌&&◌, ◌||◌, List, [], ◌∷◌, ◌++◌, map, length, take, drop, get_or, refl, sym, ap, ◌∙◌, arith, eqb, length-append, length-drop, drop-cons, add-one}
+use Rattle.std.specs.Prelude.{bytes_eq}
 use Rattle.std.specs.List.{list_all, flat_map}
 use Rattle.std.proofs.lemmas.List.{take_more, map_push, append-nil, take-append-drop}
 use Rattle.std.proofs.lemmas.Bool.{eqb-true}
@@ -9,7 +9,6 @@ use Rattle.std.proofs.lemmas.List.Concat.{flat_map-append, flat_map-cons}
 use Rattle.std.specs.Str.{IsUtf8}
 use Rattle.smk_base.specs.Path.{is_path}
 use Rattle.smk_base.proofs.Under.{both_true, false_unless}
-use Rattle.smk_base.proofs.Places.{and_first, and_second}
 use Rattle.smk_world.specs.World.{is_named}
 use Rattle.smk_world.specs.Trees.{Path, is_path_text, is_text}
 use Rattle.smk_record.proofs.Digits.{utf8_is_text}

@@ -1,5 +1,5 @@
 -- Reading values one after the other, as a loop does.
-use Rattle.std.proofs.Common.{◌≡◌, ℕ, suc, ◌-◌, ◌+◌, ◌≤◌, ◌<◌, List, [], ◌∷◌, ◌++◌, Option, Some, None, refl, sym, ap, ◌∙◌, append_assoc, arith}
+use Rattle.std.proofs.Common.{◌≡◌, ℕ, suc, ◌-◌, ◌+◌, ◌≤◌, ◌<◌, List, [], ◌∷◌, ◌++◌, Some, None, refl, sym, ap, ◌∙◌, append_assoc, arith}
 use Rattle.std.proofs.lemmas.List.{append-nil}
 use Rattle.smk_record.specs.declared.record.Stamp.{Stamp}
 use Rattle.smk_record.specs.declared.stop.Stop.{Stop}
@@ -81,5 +81,5 @@ unfolding each_in
 each_is_done stamps one front before count i bytes total le so_far =
     let k : count - i ≡ 0 = omega arith in
     let step : with_both front before (each_in stamps one (count - i) bytes) ≡ Some ((front, before), bytes) =
-        rw k (ap (λ xs. both_taken xs (before ++ []) bytes) (append-nil front) ∙ ap (λ stamps. both_taken front stamps bytes) (append-nil before)) in
+    rw k (ap (λ xs. both_taken xs (before ++ []) bytes) (append-nil front) ∙ ap (λ stamps. both_taken front stamps bytes) (append-nil before)) in
     sym so_far ∙ step

@@ -1,13 +1,13 @@
 -- What a directory may have under it.
-use Rattle.std.proofs.Common.{◌≡◌, ℕ, zero, suc, ◌+◌, ◌-◌, ◌<◌, ◌≤◌, Bool, true, false, ◌&&◌, cond, List, [], ◌∷◌, ◌++◌, map, length, take, get_or, refl, sym, ap, subst, ◌∙◌, arith, length-append}
+use Rattle.std.proofs.Common.{◌≡◌, ℕ, ◌+◌, ◌-◌, ◌<◌, ◌≤◌, Bool, true, false, ◌&&◌, List, ◌∷◌, ◌++◌, map, length, take, get_or, refl, sym, ap, ◌∙◌, arith, length-append}
 use Rattle.std.specs.Prelude.{nat_le, IsTrue}
 use Rattle.std.specs.List.{list_all}
 use Rattle.std.proofs.lemmas.List.{take_all, length-map}
-use Rattle.std.proofs.lemmas.List.Folds.{list_all-append, list_all-map, list_all_at, list_all_more}
+use Rattle.std.proofs.lemmas.List.Folds.{list_all-map, list_all_at, list_all_more}
 use Rattle.std.proofs.lemmas.Bool.{leb-true, le-leb}
 use Rattle.smk_base.specs.Path.{is_path}
 use Rattle.smk_base.proofs.Paths.{is_path-joined}
-use Rattle.smk_base.proofs.Places.{and_first, and_second}
+use Rattle.smk_base.proofs.Places.{and_first}
 use Rattle.smk_base.proofs.Under.{both_true, false_unless}
 use Rattle.smk_world.specs.Calls.{in_folder}
 use Rattle.smk_world.specs.World.{folders_above}
@@ -41,7 +41,7 @@ pub unfit : (p : Path) (ms : List Member) (i : ℕ) (m : Member) → i < length 
 unfit p ms i m lt e h =
     let here : fits_under p (get_or ms i m) ≡ false = ap (fits_under p) (sym e) ∙ and_none (is_path_text m.name) (is_path (in_folder p m.name)) h in
     let each : list_all (λ name. is_path_text name && is_path (in_folder p name)) (map (λ (x : Member). x.name) ms) ≡ false =
-        list_all-map (λ name. is_path_text name && is_path (in_folder p name)) (λ (x : Member). x.name) ms ∙ list_all_at (fits_under p) ms i m lt here in
+    list_all-map (λ name. is_path_text name && is_path (in_folder p name)) (λ (x : Member). x.name) ms ∙ list_all_at (fits_under p) ms i m lt here in
     let few = nat_le (length (map (λ (x : Member). x.name) ms)) 20000 in
     sym (ap (λ b. (few && b) && (are_rising (map (λ (x : Member). x.name) ms) && list_all (has_above ms) ms)) each
     ∙ ap (λ b. b && (are_rising (map (λ (x : Member). x.name) ms) && list_all (has_above ms) ms)) (and_none few false refl))

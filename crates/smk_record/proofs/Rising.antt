@@ -1,8 +1,8 @@
 -- Members whose names rise: each name once, and found by halves.
-use Rattle.std.proofs.Common.{◌≡◌, ◌⊎◌, inl, inr, ℕ, zero, suc, ◌+◌, ◌<◌, ◌≤◌, Bool, true, false, ◌&&◌, ◌||◌, cond, List, [], ◌∷◌, map, length, get_or, Result, Ok, Err, refl, sym, ap, subst, ◌∙◌, arith, add-one}
+use Rattle.std.proofs.Common.{◌≡◌, inl, inr, ℕ, zero, suc, ◌+◌, ◌<◌, ◌≤◌, Bool, true, false, ◌&&◌, ◌||◌, List, [], ◌∷◌, map, length, get_or, Ok, Err, refl, sym, ap, subst, ◌∙◌, arith, add-one}
 use Rattle.std.specs.Prelude.{bytes_eq}
-use Rattle.std.specs.List.{AllByRecursion, list_any}
-use Rattle.std.specs.List.Sorted.{IsBinarySearchResult, IsSortedBy, IsNonDecreasingBy}
+use Rattle.std.specs.List.{AllByRecursion}
+use Rattle.std.specs.List.Sorted.{IsBinarySearchResult, IsSortedBy}
 use Rattle.std.specs.Cmp.Lexicographic.{slice_cmp}
 use Rattle.std.specs.Ordering.{nat_cmp, is_lt, is_eq, ordering_reverse}
 use Rattle.std.specs.declared.cmp.Ordering.{Ordering}
@@ -116,4 +116,4 @@ searched_err p ms i h r =
     let tied : (q : Path) → q ≡ p → slice_cmp nat_cmp q p ≡ Equal = λ q e. ap (λ x. slice_cmp nat_cmp x p) e ∙ tied_itself nat_list_cmp_total p in
     let low : (k : ℕ) (d : Member) → k < i → (get_or ms k d).name ≡ p → ⊥ = λ k d lt e. (let a : slice_cmp nat_cmp (get_or ms k d).name p ≡ Less = point.0 k d (omega arith) lt in let b = tied (get_or ms k d).name e in cc) in
     let high : (k : ℕ) (d : Member) → i ≤ k → k < length ms → (get_or ms k d).name ≡ p → ⊥ = λ k d le lt e. (let a : slice_cmp nat_cmp (get_or ms k d).name p ≡ Greater = point.1 k d le lt in let b = tied (get_or ms k d).name e in cc) in
-    sym (none_there p ms (λ k d lt e. elim (cases_lt k i) [ | inl l ↦ low k d l e | inr g ↦ high k d g lt e ]))
+    sym (none_there p ms (λ k d lt e. elim (cases_lt k i) [ inl l ↦ low k d l e | inr g ↦ high k d g lt e ]))

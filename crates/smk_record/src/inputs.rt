@@ -96,11 +96,7 @@ pub(crate) fn inputs(
 }
 
 // Adds each path with its stamp, as far as there are stamps.
-fn push_stamped(
-    text: &mut String,
-    paths: &[PathText],
-    stamps: &[Stamp],
-) -> Result<(), AllocError>
+fn push_stamped(text: &mut String, paths: &[PathText], stamps: &[Stamp]) -> Result<(), AllocError>
     ensures { OnOk result (string_bytes text.new ≡ string_bytes text.old ++ stamped_paths paths.now stamps.now) }
 {
     for (path, stamp) in paths.iter().zip(stamps) {

@@ -20,3 +20,6 @@ pub fn spellings_are_apart()
     ensures one { BeginWithOne }
     ensures prefix { NoneIsPrefix }
 {}
+
+#[cfg(test)]
+mod tests;

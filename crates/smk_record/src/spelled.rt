@@ -218,11 +218,7 @@ impl Spelled for Member {
 }
 
 // So many values, one after the other.
-fn some_of<T: Spelled>(
-    alloc: Global,
-    count: u64,
-    bytes: &[u8],
-) -> Result<(List<T>, &[u8]), Stop>
+fn some_of<T: Spelled>(alloc: Global, count: u64, bytes: &[u8]) -> Result<(List<T>, &[u8]), Stop>
     ensures { Gives (λ x. (x.0, x.1.now)) result (some_in T.takes count bytes.now) }
 {
     let mut values = List::new(alloc);

@@ -111,7 +111,12 @@ fn wildcards_rise(wildcards: &[Pair]) -> bool
     let mut rest = wildcards;
     while let [first, more @ ..] = rest {
         if let [second, ..] = more {
-            match first.name.as_str().as_bytes().cmp(second.name.as_str().as_bytes()) {
+            match first
+                .name
+                .as_str()
+                .as_bytes()
+                .cmp(second.name.as_str().as_bytes())
+            {
                 Ordering::Less => {}
                 _ => return false,
             }
@@ -128,7 +133,12 @@ fn members_rise(members: &[Member]) -> bool
     let mut rest = members;
     while let [first, more @ ..] = rest {
         if let [second, ..] = more {
-            match first.name.as_str().as_bytes().cmp(second.name.as_str().as_bytes()) {
+            match first
+                .name
+                .as_str()
+                .as_bytes()
+                .cmp(second.name.as_str().as_bytes())
+            {
                 Ordering::Less => {}
                 _ => return false,
             }

@@ -1,4 +1,4 @@
-use Rattle.std.proofs.Common.{◌≡◌, ◌∙◌, ap, subst, sym, take, true}
+use Rattle.std.proofs.Common.{◌∙◌, ap, take}
 use Rattle.std.specs.Str.{all_ascii_digits}
 use Rattle.smk_record.proofs.Digits.{front_digits}
 use Rattle.smk_record.proofs.bytes.number.Goals as goal

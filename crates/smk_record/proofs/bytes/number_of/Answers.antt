@@ -1,5 +1,4 @@
-use Rattle.std.proofs.Common.{◌≡◌, ◌<◌, ℕ, arith, length, subst}
-use Rattle.std.specs.Str.Parse.{ParsesUnsigned}
+use Rattle.std.proofs.Common.{◌<◌, arith, length}
 use Rattle.smk_record.proofs.Digits.{too_great, digits_utf8}
 use Rattle.smk_record.proofs.bytes.number_of.Goals as goal
 

@@ -1,4 +1,4 @@
-use Rattle.std.proofs.Common.{◌<◌, ◌^◌, length, arith}
+use Rattle.std.proofs.Common.{arith}
 use Rattle.smk_record.proofs.Exact.{read_as}
 use Rattle.smk_record.proofs.file.read.Goals as goal
 

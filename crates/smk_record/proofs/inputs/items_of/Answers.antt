@@ -1,5 +1,4 @@
 use Rattle.std.proofs.lemmas.Result.{err_from_is_err_and}
-use Rattle.std.proofs.Common.{◌∙◌, ap, ◌++◌}
 use Rattle.smk_record.specs.Reading.{each_in, item_in, all}
 use Rattle.smk_record.proofs.Loop.{each_goes_on, each_ends, each_is_done}
 use Rattle.smk_record.proofs.inputs.items_of.Goals as goal

@@ -1,4 +1,4 @@
-use Rattle.std.proofs.Common.{take, subst, ◌≡◌, ◌∙◌, ap, sym, ◌++◌, ◌∷◌, []}
+use Rattle.std.proofs.Common.{take, subst, ◌∙◌, ap, sym, ◌++◌, ◌∷◌, []}
 use Rattle.std.specs.Str.{IsUtf8}
 use Rattle.std.proofs.lemmas.List.{take_more}
 use Rattle.smk_record.proofs.Lists.{dropped_more, paths_step, path_text}

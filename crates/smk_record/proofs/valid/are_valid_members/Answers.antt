@@ -1,6 +1,5 @@
-use Rattle.std.proofs.Common.{◌≡◌, ◌≤◌, ◌<◌, ◌-◌, ◌&&◌, ◌∙◌, ap, sym, subst, length, true, false, arith}
+use Rattle.std.proofs.Common.{◌≤◌, ◌<◌, ◌-◌, ◌∙◌, ap, sym, subst, length, arith}
 use Rattle.std.specs.List.{list_all}
-use Rattle.std.specs.Prelude.{IsTrue}
 use Rattle.std.specs.Str.{IsUtf8}
 use Rattle.smk_base.proofs.Under.{both_true}
 use Rattle.smk_base.specs.Path.{is_path}
@@ -20,11 +19,11 @@ returns-then-name-room c =
     let m = c.member-item.result in
     let i = c.loop-member.member-index in
     elim c.then-name-room.branch [
-      then-name-room-via-then-name-room w ↦
-        let long : 1000 - length p ≤ length m.name = omega (arith, w.if-name-room.true, ap length c.as_str.ensures.text, ap length c.as_str-name.ensures.text) in
-        unfit p ms i m c.loop-member-test.true c.member-item.is (room_lacks p m.name c.as_str.ensures.is_path c.as_str-name.ensures.is_path long)
-    | then-name-room-via-else-name-room+then-not-has_folders_above w ↦
-        not_above p ms i m c.loop-member-test.true c.member-item.is (ap (λ n. list_all (is_member_folder ms) (folders_above n)) (sym (w.as_bytes.ensures.value ∙ c.as_str-name.ensures.text)) ∙ sym w.if-not-has_folders_above.ensures)
+      | then-name-room-via-then-name-room w ↦
+          let long : 1000 - length p ≤ length m.name = omega (arith, w.if-name-room.true, ap length c.as_str.ensures.text, ap length c.as_str-name.ensures.text) in
+          unfit p ms i m c.loop-member-test.true c.member-item.is (room_lacks p m.name c.as_str.ensures.is_path c.as_str-name.ensures.is_path long)
+      | then-name-room-via-else-name-room+then-not-has_folders_above w ↦
+          not_above p ms i m c.loop-member-test.true c.member-item.is (ap (λ n. list_all (is_member_folder ms) (folders_above n)) (sym (w.as_bytes.ensures.value ∙ c.as_str-name.ensures.text)) ∙ sym w.if-not-has_folders_above.ensures)
     ]
 
 pub loop-member-preserved : goal.loop-member-preserved

@@ -1,4 +1,4 @@
-use Rattle.std.proofs.Common.{◌≡◌, ◌&&◌, map, take, true}
+use Rattle.std.proofs.Common.{◌≡◌, ◌&&◌, take, true}
 use Rattle.std.specs.List.{list_all}
 use Rattle.smk_base.specs.Path.{is_path}
 use Rattle.smk_world.specs.Calls.{in_folder}

@@ -1,4 +1,4 @@
-use Rattle.std.proofs.Common.{ap, ◌∙◌, length, subst, ◌<◌}
+use Rattle.std.proofs.Common.{length, subst, ◌<◌}
 use Rattle.smk_record.proofs.Lists.{too_few}
 use Rattle.smk_record.proofs.valid.has_each_stamp.Goals as goal
 

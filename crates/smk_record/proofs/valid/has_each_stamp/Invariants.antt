@@ -1,4 +1,4 @@
-use Rattle.std.proofs.Common.{◌≡◌, ◌≤◌, ◌+◌, length, drop, take, true}
+use Rattle.std.proofs.Common.{◌≡◌, ◌+◌, length, take, true}
 use Rattle.std.specs.List.{list_all, flat_map}
 use Rattle.smk_world.specs.Trees.{is_path_text}
 use Rattle.smk_record.proofs.valid.has_each_stamp.Given as goal

@@ -1,4 +1,4 @@
-use Rattle.std.proofs.Common.{map, take, ◌∙◌, ap, ◌≡◌, subst}
+use Rattle.std.proofs.Common.{map, take, ◌∙◌, ap, subst}
 use Rattle.std.specs.Prelude.{bytes_eq}
 use Rattle.std.specs.Str.{IsUtf8}
 use Rattle.smk_record.proofs.Lists.{named_step, paths_step, mapped_more, path_text}
