@@ -35,7 +35,7 @@ abbrev pub make_each : List Path → List Request
 make_each places = flat_map (λ p. MakeParents p ∷ Create p ∷ []) places
 
 abbrev pub remove_each : List Path → List Request
-remove_each places = map Remove places
+remove_each places = flat_map (λ p. Remove p ∷ []) places
 
 -- each is written with the bytes of its place, its folders made before it
 abbrev pub write_each : List Path → List (List ℕ) → List Request
