@@ -1,7 +1,9 @@
 -- The calls of the store's steps on a job, on the lock and on what was loaded, in order.
-use Rattle.std.specs.Prelude.{◌≡◌, ◌⊎◌, ℕ, Bool, true, false, List, [], ◌∷◌, ◌++◌, map, Option, Some, Result, Ok, Err, All, is_ok, IsSome}
+use Rattle.std.specs.Prelude.{◌≡◌, ◌⊎◌, ℕ, Bool, true, false, List, [], ◌∷◌, ◌++◌, map, Option, Some, Result, Ok, Err, All, is_ok, IsSome, if◌then◌else◌}
 use Rattle.std.specs.List.{flat_map}
 use Rattle.smk_base.specs.Place.{record_place, mark_place, note_place, lock_place}
+use Rattle.smk_world.specs.declared.event.Call.{Call}
+use Rattle.smk_world.specs.declared.event.Call.TheVariants.{Created}
 use Rattle.smk_world.specs.declared.event.Event.{Event}
 use Rattle.smk_world.specs.declared.event.Failed.{Failed}
 use Rattle.smk_world.specs.World.{World}
@@ -59,11 +61,20 @@ drop_requests places = remove_each places.records ++ Settle places.dropping ∷ 
 abbrev pub unmark_requests : JobPlaces → List Request
 unmark_requests places = remove_each places.marks ++ Settle places.marks ∷ []
 
--- The lock is made, its folders before it; where it wasn't there, it is made firm.
-abbrev pub HasLocked : List Path → Result Bool Failed → List Event → Type 0
-HasLocked place (Ok true) es = HasDone (make_each place ++ Settle place ∷ []) es
-HasLocked place (Ok false) es = HasDone (make_each place) es
-HasLocked place (Err e) es = Carries (make_each place ++ Settle place ∷ []) false es
+-- what a call that makes a file answered
+abbrev pub made_by : Call → List Bool
+made_by (Created p (Ok made)) = made ∷ []
+made_by call = []
+
+-- what the calls that make a file answered, in order
+abbrev pub all_made : List Event → List Bool
+all_made es = flat_map (λ e. made_by e.call) es
+
+-- The lock is made, its folders before it, and where it wasn't there it is made firm; whether it wasn't there is the answer.
+abbrev pub HasLocked : Result Bool Failed → List Event → Type 0
+HasLocked (Ok made) es =
+    HasDone (make_each (lock_place ∷ []) ++ (if made then Settle (lock_place ∷ []) ∷ [] else [])) es × (all_made es ≡ made ∷ [])
+HasLocked (Err e) es = Carries (make_each (lock_place ∷ []) ++ Settle (lock_place ∷ []) ∷ []) false es
 
 -- the lock is removed, and then that is made firm
 abbrev pub unlock_requests : List Path → List Request

@@ -95,3 +95,21 @@ pub fn unlock<W: Files>(work: &mut W, place: &List<Place>) -> Result<(), Failed>
     work.settle(place)
 }
 
+/// Makes the lock, firmly: true. False exactly where something stood at its place; then that is left as it is.
+///
+/// `Failed`: one of these calls failed, and none came after it.
+pub fn lock<W: Files>(work: &mut W, place: &List<Place>) -> Result<bool, Failed>
+    requires lock { place.now ≡ lock_place ∷ [] }
+    ensures did { Did W.act (W.world work.old) (W.world work.new) (λ w es. HasLocked result es) }
+    ensures stays { IfOk result (λ made. IsSome (W.world work.old) → IsSome (W.world work.new)) }
+    ensures cause { HasCause (W.faults work.old) (W.faults work.new) (IsErr result) }
+    ensures running { W.running work.new ≡ W.running work.old }
+{
+    let lock = &place.as_slice()[0];
+    work.make_parents(lock)?;
+    if !work.create_new(lock)? {
+        return Ok(false);
+    }
+    work.settle(place)?;
+    Ok(true)
+}
