@@ -8,5 +8,5 @@ mod store;
 
 pub use fault::StoreFault;
 pub use places::JobPlaces;
-pub use steps::{drop_records, lock, mark, unlock, unmark};
+pub use steps::{drop_records, lock, mark, put_records, unlock, unmark};
 pub use store::{Entry, Kept, Store};

@@ -39,6 +39,22 @@ fn remove_each<W: Files>(work: &mut W, places: &[Place]) -> Result<(), Failed>
     Ok(())
 }
 
+// Writes each of the places, its folders made before it.
+fn write_each<W: Files>(work: &mut W, places: &[Place], bytes: &[Bytes]) -> Result<(), Failed>
+    requires each { length bytes.now ≡ length places.now }
+    requires unused { AreUnused (W.world work.old) places.now }
+    ensures did { Did W.act (W.world work.old) (W.world work.new) (λ w es. Carries (write_each places.now bytes.now) (is_ok result) es) }
+    ensures stays { OnOk result (IsSome (W.world work.old) → IsSome (W.world work.new)) }
+    ensures cause { HasCause (W.faults work.old) (W.faults work.new) (IsErr result) }
+    ensures running { W.running work.new ≡ W.running work.old }
+{
+    for (i, place) in places.iter().enumerate() {
+        work.make_parents(place)?;
+        work.write(place, bytes[i].as_slice())?;
+    }
+    Ok(())
+}
+
 /// Makes the marks and notes that aren't there, and makes them all firm. One that stands is left as it is.
 ///
 /// `Failed`: one of these calls failed, and none came after it.
@@ -50,6 +66,25 @@ pub fn mark<W: Files>(work: &mut W, places: &JobPlaces) -> Result<(), Failed>
 {
     make_each(work, places.marking.as_slice())?;
     work.settle(&places.marking)
+}
+
+/// Writes the records with these bytes, one for each output, and makes them all firm.
+///
+/// `Failed`: one of these calls failed, and none came after it.
+pub fn put_records<W: Files>(
+    work: &mut W,
+    places: &JobPlaces,
+    bytes: &List<Bytes>,
+) -> Result<(), Failed>
+    requires each { length bytes.now ≡ length places.now.records }
+    requires unused { AreUnused (W.world work.old) places.now.records }
+    ensures did { Did W.act (W.world work.old) (W.world work.new) (λ w es. Carries (put_requests places.now bytes.now) (is_ok result) es) }
+    ensures stays { OnOk result (IsSome (W.world work.old) → IsSome (W.world work.new)) }
+    ensures cause { HasCause (W.faults work.old) (W.faults work.new) (IsErr result) }
+    ensures running { W.running work.new ≡ W.running work.old }
+{
+    write_each(work, places.records.as_slice(), bytes.as_slice())?;
+    work.settle(&places.records)
 }
 
 /// Removes the records for good, and makes firm what the outputs are.
