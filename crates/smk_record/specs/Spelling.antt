@@ -95,6 +95,10 @@ number (Made m) = m
 abbrev pub is_writable : Record → Bool
 is_writable r = list_all is_text (texts r.recipe) && (nat_lt r.made (2 ^ 64) && list_all (λ s. nat_lt (number s) (2 ^ 64)) r.stamps)
 
+-- What a reader of records finds in these bytes: the valid record that they spell, and nothing where they spell none.
+abbrev pub IsReadAs : List ℕ → Option Record → Type 0
+IsReadAs bytes found = (r : Record) → (found ≡ Some r) ↔ ((bytes ≡ spelling r) × IsTrue (is_valid r && is_writable r))
+
 -- A reader of records: fewer than 2^64 bytes are read as the valid record that they spell, and as nothing where they spell none.
 abbrev pub ReadsRecords : (List ℕ → Option Record) → Type 0
 ReadsRecords read =

@@ -2,3 +2,4 @@ pub mod Images
 pub mod Trust
 pub mod Soundness
 pub mod Safety
+pub mod Steps

@@ -1,4 +1,4 @@
-use Rattle.smk_record.proofs.Spellings.{begin_with_one, none_is_prefix}
+use Rattle.smk_record.proofs.Exact.{begin_with_one, none_is_prefix}
 use Rattle.smk_record.proofs.spellings_are_apart.Goals as goal
 
 pub returns : goal.returns

@@ -1,0 +1,4 @@
+pub mod Carried
+pub mod Each
+pub mod Locking
+pub mod Writing
