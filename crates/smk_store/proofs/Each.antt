@@ -1,12 +1,11 @@
 -- One place after the other.
-use Rattle.std.proofs.Common.{◌≡◌, ℕ, suc, ◌+◌, ◌<◌, ◌≤◌, Bool, true, false, List, [], ◌∷◌, ◌++◌, map, length, take, drop, get_or, refl, sym, ap, subst, ◌∙◌, append_assoc, arith, Option, Some, add-one, drop-cons}
+use Rattle.std.proofs.Common.{◌≡◌, ℕ, suc, ◌+◌, ◌<◌, Bool, false, List, [], ◌∷◌, ◌++◌, length, take, drop, get_or, refl, sym, ap, subst, ◌∙◌, Option, add-one, drop-cons}
 use Rattle.std.specs.List.{flat_map}
-use Rattle.std.proofs.lemmas.List.{take_more, map_push, take-append-drop, append-nil, take_all}
+use Rattle.std.proofs.lemmas.List.{take_more, take-append-drop, append-nil}
 use Rattle.std.proofs.lemmas.List.Concat.{flat_map-append, flat_map-cons}
 use Rattle.smk_base.specs.declared.tree.Tree.{Tree}
 use Rattle.smk_world.specs.declared.event.Call.{Call}
 use Rattle.smk_world.specs.declared.event.Child.{Child}
-use Rattle.smk_world.specs.declared.event.Event.{Event}
 use Rattle.smk_world.specs.declared.recipe.Recipe.{Recipe}
 use Rattle.smk_world.specs.World.{World, children_after}
 use Rattle.smk_world.specs.Calls.{Acted, Happened}
@@ -15,7 +14,7 @@ use Rattle.std.specs.Prelude.{Result, is_ok}
 use Rattle.smk_world.specs.declared.event.Call.TheVariants.{Settled}
 use Rattle.smk_world.specs.declared.event.Failed.{Failed}
 use Rattle.smk_world.specs.Requests.{Request, HasDone, IsCutShort, Carries}
-use Rattle.smk_world.specs.Requests.Request.{Create, MakeParents, Settle}
+use Rattle.smk_world.specs.Requests.Request.{Settle}
 use Rattle.smk_store.proofs.Carried.{carried_cut, carried_last, failed_as}
 use Rattle.smk_world.specs.Trees.{Path}
 use Rattle.smk_store.specs.Steps.{SameChildren}

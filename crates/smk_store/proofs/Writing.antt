@@ -1,16 +1,15 @@
 -- One record after the other is written.
 use Rattle.std.proofs.Common.{◌≡◌, ℕ, zero, suc, ◌+◌, ◌<◌, ◌≤◌, List, [], ◌∷◌, ◌++◌, length, take, drop, get_or, refl, sym, ap, subst, ◌∙◌, arith, add-one, Option}
-use Rattle.std.specs.Prelude.{All}
 use Rattle.std.proofs.lemmas.List.{take_all}
 use Rattle.smk_base.specs.declared.tree.Tree.{Tree}
 use Rattle.smk_world.specs.declared.recipe.Recipe.{Recipe}
 use Rattle.smk_world.specs.World.{World}
-use Rattle.smk_world.specs.Calls.{Acted, IsUnused, any_overlap, used_now}
+use Rattle.smk_world.specs.Calls.{Acted}
 use Rattle.smk_world.specs.Runs.{Did}
 use Rattle.smk_world.specs.Requests.{Request, HasDone}
 use Rattle.smk_world.specs.Requests.Request.{Write, MakeParents}
 use Rattle.smk_world.specs.Trees.{Path}
-use Rattle.smk_store.specs.Steps.{write_each, AreUnused, SameChildren}
+use Rattle.smk_store.specs.Steps.{write_each}
 
 abbrev one : Path → List ℕ → List Request → List Request
 one p b more = MakeParents p ∷ Write p b ∷ more

@@ -1,5 +1,5 @@
 -- The calls of the store's steps on a job, on the lock and on what was loaded, in order.
-use Rattle.std.specs.Prelude.{◌≡◌, ◌⊎◌, ℕ, Bool, true, false, List, [], ◌∷◌, ◌++◌, map, Option, Some, Result, Ok, Err, All, is_ok, IsSome, if◌then◌else◌}
+use Rattle.std.specs.Prelude.{◌≡◌, ℕ, Bool, false, List, [], ◌∷◌, ◌++◌, map, Option, Some, Result, Ok, Err, All, if◌then◌else◌}
 use Rattle.std.specs.List.{flat_map}
 use Rattle.smk_base.specs.Place.{record_place, mark_place, note_place, lock_place}
 use Rattle.smk_world.specs.declared.event.Call.{Call}

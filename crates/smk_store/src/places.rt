@@ -20,7 +20,11 @@ pub struct JobPlaces {
 }
 
 // Adds the places of the outputs themselves.
-fn push_outputs(alloc: Global, places: &mut List<Place>, paths: &[PathText]) -> Result<(), OutOfMemory>
+fn push_outputs(
+    alloc: Global,
+    places: &mut List<Place>,
+    paths: &[PathText],
+) -> Result<(), OutOfMemory>
     ensures { OnOk result (places.new ≡ places.old ++ paths.now) }
 {
     for path in paths {
@@ -30,7 +34,11 @@ fn push_outputs(alloc: Global, places: &mut List<Place>, paths: &[PathText]) -> 
 }
 
 // Adds the places of their marks.
-fn push_marks(alloc: Global, places: &mut List<Place>, paths: &[PathText]) -> Result<(), OutOfMemory>
+fn push_marks(
+    alloc: Global,
+    places: &mut List<Place>,
+    paths: &[PathText],
+) -> Result<(), OutOfMemory>
     ensures { OnOk result (places.new ≡ places.old ++ map mark_place paths.now) }
 {
     for path in paths {
@@ -40,7 +48,11 @@ fn push_marks(alloc: Global, places: &mut List<Place>, paths: &[PathText]) -> Re
 }
 
 // Adds the places of their records.
-fn push_records(alloc: Global, places: &mut List<Place>, paths: &[PathText]) -> Result<(), OutOfMemory>
+fn push_records(
+    alloc: Global,
+    places: &mut List<Place>,
+    paths: &[PathText],
+) -> Result<(), OutOfMemory>
     ensures { OnOk result (places.new ≡ places.old ++ map record_place paths.now) }
 {
     for path in paths {
@@ -50,7 +62,11 @@ fn push_records(alloc: Global, places: &mut List<Place>, paths: &[PathText]) -> 
 }
 
 // Adds the places of the logs' notes.
-fn push_notes(alloc: Global, places: &mut List<Place>, paths: &[PathText]) -> Result<(), OutOfMemory>
+fn push_notes(
+    alloc: Global,
+    places: &mut List<Place>,
+    paths: &[PathText],
+) -> Result<(), OutOfMemory>
     ensures { OnOk result (places.new ≡ places.old ++ map note_place paths.now) }
 {
     for path in paths {

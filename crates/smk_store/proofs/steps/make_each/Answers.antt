@@ -1,4 +1,4 @@
-use Rattle.std.proofs.Common.{◌≡◌, [], ◌∷◌, ◌++◌, refl, ap, sym, ◌∙◌, take, drop, ◌+◌, arith, append_assoc}
+use Rattle.std.proofs.Common.{[], ◌∷◌, ◌++◌, refl, ap, sym, ◌∙◌, take, drop, ◌+◌, arith, append_assoc}
 use Rattle.std.specs.Prelude.{is_ok}
 use Rattle.smk_world.specs.declared.event.Call.TheVariants.{MadeParents, Created}
 use Rattle.smk_world.specs.Calls.{is_failed}

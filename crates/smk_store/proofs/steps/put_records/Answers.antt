@@ -1,4 +1,4 @@
-use Rattle.std.proofs.Common.{◌≡◌, [], ◌∷◌, ap, subst}
+use Rattle.std.proofs.Common.{[], ◌∷◌, subst}
 use Rattle.smk_world.specs.Requests.Request.{Settle}
 use Rattle.smk_world.specs.Requests.{HasDone, IsCutShort}
 use Rattle.smk_world.specs.Runs.{Did}
