@@ -3,3 +3,4 @@ pub mod Each
 pub mod Locking
 pub mod Writing
 pub mod Stored
+pub mod Covering

@@ -1,5 +1,5 @@
 -- Looking a path up among those that rise, by halves.
-use Rattle.std.proofs.Common.{◌≡◌, ◌⊎◌, inl, inr, ℕ, zero, suc, ◌+◌, ◌<◌, ◌≤◌, Bool, true, false, ◌&&◌, ◌||◌, cond, List, [], ◌∷◌, map, length, get_or, Option, Some, None, Result, Ok, Err, refl, sym, ap, subst, ◌∙◌, arith, add-one}
+use Rattle.std.proofs.Common.{◌≡◌, inl, inr, ℕ, zero, suc, ◌+◌, ◌<◌, ◌≤◌, Bool, true, false, cond, List, [], ◌∷◌, map, length, get_or, Option, Some, None, Ok, Err, refl, sym, ap, subst, ◌∙◌, arith, add-one}
 use Rattle.std.specs.Prelude.{bytes_eq}
 use Rattle.std.specs.List.{AllByRecursion}
 use Rattle.std.specs.List.Sorted.{IsBinarySearchResult, IsSortedBy}
@@ -75,7 +75,7 @@ none_there p (q ∷ ps) (f ∷ es) none =
 
 rising_at : (ps : List Path) (k : ℕ) (d : Path) → are_rising ps ≡ true → k + 1 < length ps → slice_cmp nat_cmp (get_or ps k d) (get_or ps (k + 1) d) ≡ Less
 rising_at [] k d h lt = absurd (omega arith)
-rising_at (q ∷ ps) zero d h lt = rw add-one (above_at q ps 0 d (rising_first q ps h) (omega arith))
+rising_at (q ∷ ps) zero d h lt = above_at q ps 0 d (rising_first q ps h) (omega arith)
 rising_at (q ∷ ps) (suc k) d h lt = rw add-one (subst (λ j. slice_cmp nat_cmp (get_or ps k d) (get_or ps j d) ≡ Less) (add-one k) (rising_at ps k d (rising_rest q ps h) (omega arith)))
 
 falls_back : (p q : Path) → slice_cmp nat_cmp p q ≡ Less → is_lt (slice_cmp nat_cmp q p) ≡ false
@@ -99,4 +99,4 @@ searched_err p ps es i h r =
     let tied : (q : Path) → q ≡ p → slice_cmp nat_cmp q p ≡ Equal = λ q e. ap (λ x. slice_cmp nat_cmp x p) e ∙ tied_itself nat_list_cmp_total p in
     let low : (k : ℕ) (d : Path) → k < i → get_or ps k d ≡ p → ⊥ = λ k d lt e. (let a : slice_cmp nat_cmp (get_or ps k d) p ≡ Less = point.0 k d (omega arith) lt in let b = tied (get_or ps k d) e in cc) in
     let high : (k : ℕ) (d : Path) → i ≤ k → k < length ps → get_or ps k d ≡ p → ⊥ = λ k d le lt e. (let a : slice_cmp nat_cmp (get_or ps k d) p ≡ Greater = point.1 k d le lt in let b = tied (get_or ps k d) e in cc) in
-    none_there p ps es (λ k d lt e. elim (cases_lt k i) [ | inl l ↦ low k d l e | inr g ↦ high k d g lt e ])
+    none_there p ps es (λ k d lt e. elim (cases_lt k i) [ inl l ↦ low k d l e | inr g ↦ high k d g lt e ])

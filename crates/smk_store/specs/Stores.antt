@@ -1,5 +1,5 @@
 -- What a store has: paths in byte order, each with what is known of it.
-use Rattle.std.specs.Prelude.{◌≡◌, ℕ, Bool, true, List, [], ◌∷◌, map, length, bytes_eq, if◌then◌else◌, Option, Some, None, is_some}
+use Rattle.std.specs.Prelude.{◌≡◌, Bool, true, List, [], ◌∷◌, length, bytes_eq, if◌then◌else◌, Option, Some, None, is_some}
 use Rattle.std.specs.List.{list_any}
 use Rattle.smk_world.specs.World.{folders_above}
 use Rattle.smk_world.specs.Trees.{Path}

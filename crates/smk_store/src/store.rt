@@ -61,7 +61,11 @@ impl Store {
     fn at(&self, bytes: &[u8]) -> Option<&Entry>
         ensures { option_map (λ e. e.now) result ≡ entry_of self.now bytes.now }
     {
-        match self.paths.as_slice().binary_search_by(|path| order(path, bytes)) {
+        match self
+            .paths
+            .as_slice()
+            .binary_search_by(|path| order(path, bytes))
+        {
             Ok(i) => Some(&self.entries.as_slice()[i]),
             Err(_) => None,
         }
