@@ -3,3 +3,4 @@ pub mod Trust
 pub mod Soundness
 pub mod Safety
 pub mod Steps
+pub mod Stores

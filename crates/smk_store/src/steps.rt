@@ -5,7 +5,7 @@ ghost use Rattle.smk_base.specs.Place.{lock_place};
 ghost use Rattle.smk_world.specs.Calls.{HasCause};
 ghost use Rattle.smk_world.specs.Runs.{Did};
 ghost use Rattle.smk_world.specs.Requests.{Carries};
-ghost use Rattle.smk_store.specs.Steps.{AreUnused, SameChildren, HasLocked, make_each, remove_each, write_each, mark_requests, put_requests, drop_requests, unmark_requests, unlock_requests};
+ghost use Rattle.smk_store.specs.Steps.{AreUnused, HasLocked, make_each, remove_each, write_each, mark_requests, put_requests, drop_requests, unmark_requests, unlock_requests};
 
 use crate::JobPlaces;
 use smk_base::{Bytes, List, Place};
