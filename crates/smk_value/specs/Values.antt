@@ -4,7 +4,11 @@ use Rattle.std.specs.Fmt.{decimal}
 use Rattle.smk_value.specs.declared.value.Value.{Value}
 use Rattle.smk_value.specs.declared.value.Value.TheVariants.{Word, Number, Truth, Many, Flagged as HasFlags, Gathered as IsGathered}
 use Rattle.smk_value.specs.declared.fault.ValueFault.{ValueFault}
-use Rattle.smk_value.specs.declared.fault.ValueFault.TheVariants.{BadFlag}
+use Rattle.smk_value.specs.declared.fault.ValueFault.TheVariants.{BadFlag, UnknownName, UnequalZip, TooMany, OutOfMemory}
+use Rattle.smk_expand.specs.declared.expanding.ExpandFault.{ExpandFault}
+use Rattle.smk_expand.specs.declared.expanding.ExpandFault.TheVariants as of_call
+use Rattle.smk_expand.specs.declared.choices.Choices.{Choices}
+use Rattle.smk_expand.specs.Expanding.{expanded}
 
 abbrev pub truth_word : Bool → List ℕ
 truth_word true = codes "True"
@@ -82,3 +86,35 @@ patterns (Truth b) = Err (BadFlag (codes "expand"))
 patterns (Many ts) = Ok ts
 patterns (HasFlags f) = Err (BadFlag (codes "expand"))
 patterns (IsGathered g) = Err (BadFlag (codes "expand"))
+
+-- the values of a name in such a call
+abbrev pub choice_values : Value → Result (List (List ℕ)) ValueFault
+choice_values (Word t) = Ok (t ∷ [])
+choice_values (Number n) = Ok (decimal n ∷ [])
+choice_values (Truth b) = Ok (truth_word b ∷ [])
+choice_values (Many ts) = Ok ts
+choice_values (HasFlags f) = Err (BadFlag (codes "expand"))
+choice_values (IsGathered g) = Err (BadFlag (codes "expand"))
+
+-- the value of `allow_missing` in such a call
+abbrev pub truth : Value → Result Bool ValueFault
+truth (Word t) = Err (BadFlag (codes "expand"))
+truth (Number n) = Err (BadFlag (codes "expand"))
+truth (Truth b) = Ok b
+truth (Many ts) = Err (BadFlag (codes "expand"))
+truth (HasFlags f) = Err (BadFlag (codes "expand"))
+truth (IsGathered g) = Err (BadFlag (codes "expand"))
+
+abbrev pub of_expand : ExpandFault → ValueFault
+of_expand of_call.UnknownName = UnknownName
+of_expand of_call.UnequalZip = UnequalZip
+of_expand of_call.TooMany = TooMany
+of_expand of_call.OutOfMemory = OutOfMemory
+
+abbrev pub as_list : Result (List (List ℕ)) ExpandFault → Result Value ValueFault
+as_list (Ok ts) = Ok (Many ts)
+as_list (Err fault) = Err (of_expand fault)
+
+-- the list that such a call gives
+abbrev pub expansion : Bool → Bool → List Choices → List (List ℕ) → Result Value ValueFault
+expansion zip missing choices ps = as_list (expanded zip missing choices [] ps)

@@ -6,5 +6,8 @@ mod operators;
 mod value;
 
 pub use fault::ValueFault;
-pub use operators::{flag, list_items, patterns, plus, spelled};
+pub use operators::{choice_values, expansion, flag, list_items, patterns, plus, spelled, truth};
 pub use value::{Flagged, Gathered, Value};
+
+#[cfg(test)]
+mod tests;

@@ -5,9 +5,10 @@ ghost use Rattle.std.specs.Fmt.{decimal};
 ghost use Rattle.smk_value.specs.declared.fault.ValueFault.{ValueFault};
 ghost use Rattle.smk_value.specs.Values as spec;
 
-use crate::fault::ValueFault;
+use crate::fault::{ValueFault, of_expand};
 use crate::value::{Flagged, Value};
 use smk_base::{Copied, List, OutOfMemory, Text, one};
+use smk_expand::{Choices, expand};
 use std::alloc::Global;
 
 // The fault that names this word.
@@ -164,5 +165,51 @@ pub fn patterns(alloc: Global, value: &Value) -> Result<List<Text>, ValueFault>
         Value::Word(text) => Ok(one(alloc, text.copy(alloc)?)?),
         Value::Many(texts) => Ok(texts.copied(alloc)?),
         _ => Err(bad_flag(alloc, "expand")),
+    }
+}
+
+/// The values that this value gives to a name in a call of `expand`: those of a list, or one text. `BadFlag` with the word `expand`
+/// exactly where it is flagged or gathered; `OutOfMemory` where there is no memory for them or the word.
+pub fn choice_values(alloc: Global, value: &Value) -> Result<List<Text>, ValueFault>
+    ensures ok { IfOk result (λ texts. spec.choice_values value.now ≡ Ok texts) }
+    ensures bad { (word : List ℕ) → result ≡ Err (ValueFault.BadFlag word) → spec.choice_values value.now ≡ Err (ValueFault.BadFlag word) }
+{
+    match value {
+        Value::Word(text) => Ok(one(alloc, text.copy(alloc)?)?),
+        Value::Number(number) => Ok(one(alloc, number_text(alloc, *number)?)?),
+        Value::Truth(truth) => Ok(one(alloc, truth_text(alloc, *truth)?)?),
+        Value::Many(texts) => Ok(texts.copied(alloc)?),
+        Value::Flagged(_) | Value::Gathered(_) => Err(bad_flag(alloc, "expand")),
+    }
+}
+
+/// The truth value that this value is, as `allow_missing` of a call of `expand`. `BadFlag` with the word `expand` exactly where it is
+/// none; `OutOfMemory` where there is no memory for the word.
+pub fn truth(alloc: Global, value: &Value) -> Result<bool, ValueFault>
+    ensures ok { IfOk result (λ truth. spec.truth value.now ≡ Ok truth) }
+    ensures bad { (word : List ℕ) → result ≡ Err (ValueFault.BadFlag word) → spec.truth value.now ≡ Err (ValueFault.BadFlag word) }
+{
+    match value {
+        Value::Truth(truth) => Ok(*truth),
+        _ => Err(bad_flag(alloc, "expand")),
+    }
+}
+
+/// The list that a call of `expand` gives of these patterns. The faults are those of `expand`.
+pub fn expansion(
+    alloc: Global,
+    patterns: &[Text],
+    choices: &[Choices],
+    zip: bool,
+    allow_missing: bool,
+) -> Result<Value, ValueFault>
+    ensures ok { IfOk result (λ value. spec.expansion zip allow_missing choices.now patterns.now ≡ Ok value) }
+    ensures unknown { result ≡ Err ValueFault.UnknownName → spec.expansion zip allow_missing choices.now patterns.now ≡ Err ValueFault.UnknownName }
+    ensures unequal { result ≡ Err ValueFault.UnequalZip → spec.expansion zip allow_missing choices.now patterns.now ≡ Err ValueFault.UnequalZip }
+    ensures too_many { result ≡ Err ValueFault.TooMany → spec.expansion zip allow_missing choices.now patterns.now ≡ Err ValueFault.TooMany }
+{
+    match expand(alloc, patterns, choices, zip, allow_missing) {
+        Ok(texts) => Ok(Value::Many(texts)),
+        Err(fault) => Err(of_expand(fault)),
     }
 }
