@@ -1,5 +1,5 @@
 -- What the signs of the language make of values.
-use Rattle.std.specs.Prelude.{ℕ, Bool, true, false, List, [], ◌∷◌, ◌++◌, codes, Option, Some, None, Result, Ok, Err}
+use Rattle.std.specs.Prelude.{◌≡◌, ◌≢◌, ℕ, Bool, true, false, List, [], ◌∷◌, ◌++◌, codes, Option, Some, None, Result, Ok, Err}
 use Rattle.std.specs.Fmt.{decimal}
 use Rattle.smk_value.specs.declared.value.Value.{Value}
 use Rattle.smk_value.specs.declared.value.Value.TheVariants.{Word, Number, Truth, Many, Flagged as HasFlags, Gathered as IsGathered}
@@ -9,6 +9,11 @@ use Rattle.smk_expand.specs.declared.expanding.ExpandFault.{ExpandFault}
 use Rattle.smk_expand.specs.declared.expanding.ExpandFault.TheVariants as of_call
 use Rattle.smk_expand.specs.declared.choices.Choices.{Choices}
 use Rattle.smk_expand.specs.Expanding.{expanded}
+
+-- The answer is what is meant, a value or a fault, unless memory was short.
+abbrev pub Tells : {A : Type 0} → Result A ValueFault → Result A ValueFault → Type 0
+Tells (Ok a) meant = meant ≡ Ok a
+Tells (Err fault) meant = fault ≢ OutOfMemory → meant ≡ Err fault
 
 abbrev pub truth_word : Bool → List ℕ
 truth_word true = codes "True"

@@ -1,6 +1,6 @@
 //! What the signs of the language make of values.
 
-ghost use Rattle.std.specs.Prelude.{◌≡◌, ◌++◌, ◌∷◌, [], List, ℕ, IfOk, OnOk, MatchOption, Ok, Err, None, Some, string_bytes, codes};
+ghost use Rattle.std.specs.Prelude.{◌≡◌, ◌≢◌, ◌++◌, ◌∷◌, [], List, ℕ, IfOk, OnOk, MatchOption, Ok, Err, None, Some, string_bytes, codes};
 ghost use Rattle.std.specs.Fmt.{decimal};
 ghost use Rattle.smk_value.specs.declared.fault.ValueFault.{ValueFault};
 ghost use Rattle.smk_value.specs.Values as spec;
@@ -13,7 +13,7 @@ use std::alloc::Global;
 
 // The fault that names this word.
 fn bad_flag(alloc: Global, word: &str) -> ValueFault
-    ensures { (named : List ℕ) → result ≡ ValueFault.BadFlag named → named ≡ word.now }
+    ensures { result ≢ ValueFault.OutOfMemory → result ≡ ValueFault.BadFlag word.now }
 {
     match Text::of(alloc, word) {
         Ok(word) => ValueFault::BadFlag(word),
@@ -75,8 +75,7 @@ fn joined_lists(
 /// The sum of the two: of two texts a text, of two lists a list. `BadFlag` with the word `+` exactly where they are neither;
 /// `OutOfMemory` where there is no memory for the sum or the word.
 pub fn plus(alloc: Global, left: &Value, right: &Value) -> Result<Value, ValueFault>
-    ensures ok { IfOk result (λ sum. spec.plus left.now right.now ≡ Ok sum) }
-    ensures bad { (word : List ℕ) → result ≡ Err (ValueFault.BadFlag word) → spec.plus left.now right.now ≡ Err (ValueFault.BadFlag word) }
+    ensures { spec.Tells result (spec.plus left.now right.now) }
 {
     match left {
         Value::Word(left) => match right {
@@ -105,8 +104,7 @@ fn first_flag(flags: &[Text]) -> &str
 /// `BadFlag` exactly where it is flagged, with the word of the outermost flag, or gathered, with that of the directive; `OutOfMemory`
 /// where there is no memory for the texts or the word.
 pub fn list_items(alloc: Global, value: &Value, word: &str) -> Result<List<Text>, ValueFault>
-    ensures ok { IfOk result (λ texts. spec.list_items word.now value.now ≡ Ok texts) }
-    ensures bad { (named : List ℕ) → result ≡ Err (ValueFault.BadFlag named) → spec.list_items word.now value.now ≡ Err (ValueFault.BadFlag named) }
+    ensures { spec.Tells result (spec.list_items word.now value.now) }
 {
     match value {
         Value::Word(text) => Ok(one(alloc, text.copy(alloc)?)?),
@@ -132,8 +130,7 @@ fn with_flag(alloc: Global, flag: &str, flags: &List<Text>) -> Result<List<Text>
 /// The value with this flag about it. `BadFlag` with the flag's word exactly where the value is neither a text, a list nor flagged
 /// already; `OutOfMemory` where there is no memory for it or the word.
 pub fn flag(alloc: Global, flag: &str, value: &Value) -> Result<Value, ValueFault>
-    ensures ok { IfOk result (λ flagged. spec.flag flag.now value.now ≡ Ok flagged) }
-    ensures bad { (word : List ℕ) → result ≡ Err (ValueFault.BadFlag word) → spec.flag flag.now value.now ≡ Err (ValueFault.BadFlag word) }
+    ensures { spec.Tells result (spec.flag flag.now value.now) }
 {
     match value {
         Value::Word(text) => Ok(Value::Flagged(Flagged {
@@ -158,8 +155,7 @@ pub fn flag(alloc: Global, flag: &str, value: &Value) -> Result<Value, ValueFaul
 /// The patterns that the value is in a call of `expand`. `BadFlag` with the word `expand` exactly where it is neither a text nor a
 /// list; `OutOfMemory` where there is no memory for them or the word.
 pub fn patterns(alloc: Global, value: &Value) -> Result<List<Text>, ValueFault>
-    ensures ok { IfOk result (λ texts. spec.patterns value.now ≡ Ok texts) }
-    ensures bad { (word : List ℕ) → result ≡ Err (ValueFault.BadFlag word) → spec.patterns value.now ≡ Err (ValueFault.BadFlag word) }
+    ensures { spec.Tells result (spec.patterns value.now) }
 {
     match value {
         Value::Word(text) => Ok(one(alloc, text.copy(alloc)?)?),
@@ -171,8 +167,7 @@ pub fn patterns(alloc: Global, value: &Value) -> Result<List<Text>, ValueFault>
 /// The values that this value gives to a name in a call of `expand`: those of a list, or one text. `BadFlag` with the word `expand`
 /// exactly where it is flagged or gathered; `OutOfMemory` where there is no memory for them or the word.
 pub fn choice_values(alloc: Global, value: &Value) -> Result<List<Text>, ValueFault>
-    ensures ok { IfOk result (λ texts. spec.choice_values value.now ≡ Ok texts) }
-    ensures bad { (word : List ℕ) → result ≡ Err (ValueFault.BadFlag word) → spec.choice_values value.now ≡ Err (ValueFault.BadFlag word) }
+    ensures { spec.Tells result (spec.choice_values value.now) }
 {
     match value {
         Value::Word(text) => Ok(one(alloc, text.copy(alloc)?)?),
@@ -186,8 +181,7 @@ pub fn choice_values(alloc: Global, value: &Value) -> Result<List<Text>, ValueFa
 /// The truth value that this value is, as `allow_missing` of a call of `expand`. `BadFlag` with the word `expand` exactly where it is
 /// none; `OutOfMemory` where there is no memory for the word.
 pub fn truth(alloc: Global, value: &Value) -> Result<bool, ValueFault>
-    ensures ok { IfOk result (λ truth. spec.truth value.now ≡ Ok truth) }
-    ensures bad { (word : List ℕ) → result ≡ Err (ValueFault.BadFlag word) → spec.truth value.now ≡ Err (ValueFault.BadFlag word) }
+    ensures { spec.Tells result (spec.truth value.now) }
 {
     match value {
         Value::Truth(truth) => Ok(*truth),
@@ -203,10 +197,7 @@ pub fn expansion(
     zip: bool,
     allow_missing: bool,
 ) -> Result<Value, ValueFault>
-    ensures ok { IfOk result (λ value. spec.expansion zip allow_missing choices.now patterns.now ≡ Ok value) }
-    ensures unknown { result ≡ Err ValueFault.UnknownName → spec.expansion zip allow_missing choices.now patterns.now ≡ Err ValueFault.UnknownName }
-    ensures unequal { result ≡ Err ValueFault.UnequalZip → spec.expansion zip allow_missing choices.now patterns.now ≡ Err ValueFault.UnequalZip }
-    ensures too_many { result ≡ Err ValueFault.TooMany → spec.expansion zip allow_missing choices.now patterns.now ≡ Err ValueFault.TooMany }
+    ensures { spec.Tells result (spec.expansion zip allow_missing choices.now patterns.now) }
 {
     match expand(alloc, patterns, choices, zip, allow_missing) {
         Ok(texts) => Ok(Value::Many(texts)),
