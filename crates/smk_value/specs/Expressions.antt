@@ -19,80 +19,75 @@ abbrev pub and_then : {A B : Type 0} → Result A ValueFault → (A → Result B
 and_then (Ok a) next = next a
 and_then (Err fault) next = Err fault
 
--- What names stand for where an expression stands: constants, the outputs of the rules above, the configuration; and the word of
--- the directive or statement.
+-- What names stand for where an expression stands: constants, the outputs of the rules above, and the configuration.
 pub record Scope : Type 0 where
   pub constant : List ℕ → Option Value
   pub outputs : List ℕ → OutputPick → Option Value
   pub config : List (List ℕ) → Valued
-  pub word : List ℕ
 
 abbrev pub known : Option Value → Valued
 known (Some v) = Ok v
 known None = Err UnknownName
 
+-- Parts in order, each taken into what is made so far once it has a value. The first fault is told.
+abbrev pub each : {A X : Type 0} → (X → Valued) → (A → X → Value → Result A ValueFault) → A → List X → Result A ValueFault
+each value take made [] = Ok made
+each value take made (x ∷ xs) = and_then (value x) (λ v. and_then (take made x v) (λ now. each value take now xs))
+
+-- texts with those that a value adds to a list, in a directive of this word
+abbrev pub with_items : List ℕ → List (List ℕ) → Value → Result (List (List ℕ)) ValueFault
+with_items word made v = and_then (list_items word v) (λ ts. Ok (made ++ ts))
+
 -- a list of these values: lists in it are flattened
 abbrev pub listed : List ℕ → List Valued → Result (List (List ℕ)) ValueFault
-listed word [] = Ok []
-listed word (r ∷ rs) = and_then r (λ v. and_then (list_items word v) (λ front. and_then (listed word rs) (λ rest. Ok (front ++ rest))))
+listed word = each (λ (r : Valued). r) (λ made _ v. with_items word made v) []
 
 -- a sum, term by term
-abbrev pub added : Value → List Valued → Valued
-added v [] = Ok v
-added v (r ∷ rs) = and_then r (λ w. and_then (plus v w) (λ sum. added sum rs))
-
 abbrev pub summed : List Valued → Valued
 summed [] = bad_sum
-summed (r ∷ rs) = and_then r (λ v. added v rs)
+summed (r ∷ rs) = and_then r (λ v. each (λ (r : Valued). r) (λ sum _ w. plus sum w) v rs)
 
 -- ## Calls of `expand`
 
+-- a name of the call
 pub record Named : Type 0 where
   pub name : List ℕ
   pub value : Valued
 
-abbrev pub is_missing : Named → Bool
-is_missing i = bytes_eq i.name (codes "allow_missing")
+-- what the names of a call say: values for names, and whether a name without values is to stay
+pub record Call : Type 0 where
+  pub choices : List Choices
+  pub missing : Bool
 
--- the names of the call with their values
-abbrev pub choices : List Named → Result (List Choices) ValueFault
-choices [] = Ok []
-choices (i ∷ is) =
-    and_then i.value (λ v.
-    if is_missing i then and_then (truth v) (λ _. choices is)
-    else and_then (choice_values v) (λ ts. and_then (choices is) (λ rest. Ok (record { name = i.name; values = ts } ∷ rest))))
+abbrev pub with_name : Call → Named → Value → Result Call ValueFault
+with_name c i v =
+    if bytes_eq i.name (codes "allow_missing") then and_then (truth v) (λ b. Ok (record c { missing = b }))
+    else and_then (choice_values v) (λ ts. Ok (record c { choices = c.choices ++ record { name = i.name; values = ts } ∷ [] }))
 
-abbrev pub is_true : Valued → Bool
-is_true (Ok v) = elim (truth v) [ Ok b ↦ b | Err fault ↦ false ]
-is_true (Err fault) = false
-
--- whether names without values are to stay
-abbrev pub allows_missing : List Named → Bool
-allows_missing [] = false
-allows_missing (i ∷ is) = if is_missing i then is_true i.value else allows_missing is
+abbrev pub names : List Named → Result Call ValueFault
+names = each (λ (i : Named). i.value) with_name (record { choices = []; missing = false })
 
 abbrev pub expand_step : ExpandForm-F Valued Valued Named → Valued
-expand_step f =
-    and_then f.pattern (λ p. and_then (patterns p) (λ ps. and_then (choices f.named) (λ cs. expansion f.zip (allows_missing f.named) cs ps)))
+expand_step f = and_then f.pattern (λ p. and_then (patterns p) (λ ps. and_then (names f.named) (λ c. expansion f.zip c.missing c.choices ps)))
 
 abbrev pub item_step : ItemForm-F Valued Valued Named → Named
 item_step i = record { name = i.name; value = i.value }
 
 -- ## Expressions
 
-abbrev pub step : Scope → Expr-F Valued Valued Named → Valued
-step s (Expr-F.Word t) = Ok (Word t)
-step s (Expr-F.Number n) = Ok (Number n)
-step s (Expr-F.Truth b) = Ok (Truth b)
-step s (Expr-F.Name t) = known (s.constant t)
-step s (Expr-F.Config keys) = s.config keys
-step s (Expr-F.Outputs rule pick) = known (s.outputs rule pick)
-step s (Expr-F.Many rs) = and_then (listed s.word rs) (λ ts. Ok (Many ts))
-step s (Expr-F.Sum rs) = summed rs
-step s (Expr-F.Flagged w r) = and_then r (flag w)
-step s (Expr-F.Expand r) = r
-step s (Expr-F.FromCheckpoint n a b) = Ok (IsGathered (record { checkpoint = n; listed = a; wanted = b }))
+abbrev pub step : List ℕ → Scope → Expr-F Valued Valued Named → Valued
+step word s (Expr-F.Word t) = Ok (Word t)
+step word s (Expr-F.Number n) = Ok (Number n)
+step word s (Expr-F.Truth b) = Ok (Truth b)
+step word s (Expr-F.Name t) = known (s.constant t)
+step word s (Expr-F.Config keys) = s.config keys
+step word s (Expr-F.Outputs rule pick) = known (s.outputs rule pick)
+step word s (Expr-F.Many rs) = and_then (listed word rs) (λ ts. Ok (Many ts))
+step word s (Expr-F.Sum rs) = summed rs
+step word s (Expr-F.Flagged w r) = and_then r (flag w)
+step word s (Expr-F.Expand r) = r
+step word s (Expr-F.FromCheckpoint n a b) = Ok (IsGathered (record { checkpoint = n; listed = a; wanted = b }))
 
--- the value of an expression, or its first fault
-abbrev pub value_in : Scope → Expr → Valued
-value_in s = folds.fold-Expr Valued Valued Named (step s) expand_step item_step
+-- the value of an expression in a directive or statement of this word, or its first fault
+abbrev pub value_in : List ℕ → Scope → Expr → Valued
+value_in word s = folds.fold-Expr Valued Valued Named (step word s) expand_step item_step
