@@ -1,11 +1,13 @@
 -- The value of an expression in a scope.
-use Rattle.std.specs.Prelude.{ℕ, Bool, false, List, [], ◌∷◌, ◌++◌, codes, Option, Some, None, Result, Ok, Err, if◌then◌else◌}
+use Rattle.std.specs.Prelude.{ℕ, false, List, [], ◌∷◌, ◌++◌, codes, Option, Some, None, Result, Ok, Err, if◌then◌else◌}
 use Rattle.std.specs.Str.{bytes_eq}
 use Rattle.smk_tree.specs.declared.syntax.Expr.{Expr}
 use Rattle.smk_tree.specs.declared.syntax.OutputPick.{OutputPick}
 use Rattle.smk_tree.specs.declared.syntax.Expr.TheOpen.{Expr-F, ItemForm-F, ExpandForm-F}
 use Rattle.smk_tree.specs.declared.syntax.Expr.TheFolds as folds
-use Rattle.smk_expand.specs.declared.choices.Choices.{Choices}
+use Rattle.smk_tree.specs.declared.syntax.ItemForm.{ItemForm}
+use Rattle.smk_tree.specs.declared.syntax.ExpandForm.{ExpandForm}
+use Rattle.smk_value.specs.declared.evaluating.Call.{Call}
 use Rattle.smk_value.specs.declared.value.Value.{Value}
 use Rattle.smk_value.specs.declared.value.Value.TheVariants.{Word, Number, Truth, Many, Gathered as IsGathered}
 use Rattle.smk_value.specs.declared.fault.ValueFault.{ValueFault}
@@ -54,18 +56,14 @@ pub record Named : Type 0 where
   pub name : List ℕ
   pub value : Valued
 
--- what the names of a call say: values for names, and whether a name without values is to stay
-pub record Call : Type 0 where
-  pub choices : List Choices
-  pub missing : Bool
-
-abbrev pub with_name : Call → Named → Value → Result Call ValueFault
-with_name c i v =
-    if bytes_eq i.name (codes "allow_missing") then and_then (truth v) (λ b. Ok (record c { missing = b }))
-    else and_then (choice_values v) (λ ts. Ok (record c { choices = c.choices ++ record { name = i.name; values = ts } ∷ [] }))
+-- what the names of a call say, with one more name
+abbrev pub with_name : Call → List ℕ → Value → Result Call ValueFault
+with_name c n v =
+    if bytes_eq n (codes "allow_missing") then and_then (truth v) (λ b. Ok (record c { missing = b }))
+    else and_then (choice_values v) (λ ts. Ok (record c { choices = c.choices ++ record { name = n; values = ts } ∷ [] }))
 
 abbrev pub names : List Named → Result Call ValueFault
-names = each (λ (i : Named). i.value) with_name (record { choices = []; missing = false })
+names = each (λ (i : Named). i.value) (λ c i v. with_name c i.name v) (record { choices = []; missing = false })
 
 abbrev pub expand_step : ExpandForm-F Valued Valued Named → Valued
 expand_step f = and_then f.pattern (λ p. and_then (patterns p) (λ ps. and_then (names f.named) (λ c. expansion f.zip c.missing c.choices ps)))
@@ -91,3 +89,10 @@ step word s (Expr-F.FromCheckpoint n a b) = Ok (IsGathered (record { checkpoint 
 -- the value of an expression in a directive or statement of this word, or its first fault
 abbrev pub value_in : List ℕ → Scope → Expr → Valued
 value_in word s = folds.fold-Expr Valued Valued Named (step word s) expand_step item_step
+
+-- the same of a name with its value, and of a call of `expand`
+abbrev pub named_in : List ℕ → Scope → ItemForm → Named
+named_in word s = folds.fold-ItemForm Valued Valued Named (step word s) expand_step item_step
+
+abbrev pub called_in : List ℕ → Scope → ExpandForm → Valued
+called_in word s = folds.fold-ExpandForm Valued Valued Named (step word s) expand_step item_step

@@ -12,7 +12,7 @@ use smk_expand::{Choices, expand};
 use std::alloc::Global;
 
 // The fault that names this word.
-fn bad_flag(alloc: Global, word: &str) -> ValueFault
+pub(crate) fn bad_flag(alloc: Global, word: &str) -> ValueFault
     ensures { result ≢ ValueFault.OutOfMemory → result ≡ ValueFault.BadFlag word.now }
 {
     match Text::of(alloc, word) {
