@@ -10,6 +10,3 @@ pub use evaluating::{Scope, value_of};
 pub use fault::ValueFault;
 pub use operators::{choice_values, expansion, flag, list_items, patterns, plus, spelled, truth};
 pub use value::{Flagged, Gathered, Value};
-
-#[cfg(test)]
-mod tests;
