@@ -1,0 +1,10 @@
+//! Names with their values.
+
+use smk_base::{List, Text};
+
+/// The values of a name, in order.
+#[derive(Debug, Drop)]
+pub struct Choices {
+    pub name: Text,
+    pub values: List<Text>,
+}

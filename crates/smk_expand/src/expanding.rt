@@ -1,0 +1,163 @@
+//! `expand`.
+
+ghost use Rattle.std.specs.Prelude.{◌≡◌, ◌≢◌, ◌≤◌, ◌++◌, [], IfOk, OnOk, MatchOption, Ok, Err, length};
+ghost use Rattle.smk_expand.specs.declared.expanding.ExpandFault.{ExpandFault};
+ghost use Rattle.smk_expand.specs.Letters.{letters, letters_of};
+ghost use Rattle.smk_expand.specs.Expanding as spec;
+ghost use Rattle.smk_expand.specs.Counting.{limited};
+
+use crate::choices::Choices;
+use crate::combining::{LIMIT, combine, count};
+use crate::names::are_given;
+use crate::pairing::{is_even, pair, rows};
+use crate::reading::{Piece, read};
+use smk_base::{List, OutOfMemory, Text};
+use std::alloc::Global;
+
+/// Why `expand` gives no texts.
+#[derive(Clone, Copy, Debug, PartialEq, Eq)]
+pub enum ExpandFault {
+    /// A name in a pattern has no values, and isn't to stay as it is.
+    UnknownName,
+    /// The names in a pattern have different counts of values, and are to be paired.
+    UnequalZip,
+    /// There are more than 100,000 results.
+    TooMany,
+    /// There is no memory for the results.
+    OutOfMemory,
+}
+
+impl From<OutOfMemory> for ExpandFault {
+    ghost use Rattle.std.specs.Prelude.{◌≡◌};
+    ghost use Rattle.smk_expand.specs.declared.expanding.ExpandFault.{ExpandFault};
+
+    ghost from_gives = { λ _ fault. fault ≡ ExpandFault.OutOfMemory };
+
+    fn from(_: OutOfMemory) -> ExpandFault {
+        ExpandFault::OutOfMemory
+    }
+}
+
+// How many texts the pattern gives, or 100,001 where these are more than 100,000.
+#[tactic(auto, using(crate::proofs::Counts::length_texts))]
+fn count_texts(pieces: &[Piece], choices: &[Choices], zip: bool) -> u64
+    ensures { result ≡ limited (length (spec.texts zip choices.now (letters_of pieces.now))) }
+{
+    if zip {
+        limited(rows(pieces, choices))
+    } else {
+        count(pieces, choices)
+    }
+}
+
+// The count, or 100,001 where it is larger than 100,000.
+fn limited(count: usize) -> u64
+    ensures { result ≡ limited count }
+{
+    let count = count as u64;
+    if count > LIMIT { LIMIT + 1 } else { count }
+}
+
+// Why the texts of the pattern can't be added to so many.
+fn refusal(
+    made: &List<Text>,
+    pieces: &[Piece],
+    choices: &[Choices],
+    zip: bool,
+    allow_missing: bool,
+) -> Option<ExpandFault>
+    requires { length made.now ≤ 100_000 }
+    ensures value { MatchOption result
+        (spec.expanded_one zip allow_missing choices.now made.now (letters_of pieces.now) ≡ Ok (made.now ++ spec.texts zip choices.now (letters_of pieces.now)))
+        (λ fault. spec.expanded_one zip allow_missing choices.now made.now (letters_of pieces.now) ≡ Err fault) }
+    ensures room { MatchOption result (length (made.now ++ spec.texts zip choices.now (letters_of pieces.now)) ≤ 100_000) (λ fault. fault ≢ ExpandFault.OutOfMemory) }
+{
+    if !allow_missing && !are_given(pieces, choices) {
+        return Some(ExpandFault::UnknownName);
+    }
+    if zip && !is_even(pieces, choices) {
+        return Some(ExpandFault::UnequalZip);
+    }
+    let room = LIMIT - made.len() as u64;
+    if count_texts(pieces, choices, zip) > room {
+        return Some(ExpandFault::TooMany);
+    }
+    None
+}
+
+// Adds the texts of the pattern.
+fn add_texts(
+    texts: &mut List<Text>,
+    alloc: Global,
+    pieces: &[Piece],
+    choices: &[Choices],
+    zip: bool,
+) -> Result<(), OutOfMemory>
+    ensures { OnOk result (texts.new ≡ texts.old ++ spec.texts zip choices.now (letters_of pieces.now)) }
+{
+    if zip {
+        pair(texts, alloc, pieces, choices)
+    } else {
+        combine(texts, alloc, pieces, &List::new(alloc), choices)
+    }
+}
+
+// Adds the texts of one pattern.
+fn expand_one(
+    made: &mut List<Text>,
+    alloc: Global,
+    pattern: &str,
+    choices: &[Choices],
+    zip: bool,
+    allow_missing: bool,
+) -> Result<(), ExpandFault>
+    requires { length made.old ≤ 100_000 }
+    ensures ok { OnOk result (spec.expanded_one zip allow_missing choices.now made.old (letters pattern.now) ≡ Ok made.new) }
+    ensures room { OnOk result (length made.new ≤ 100_000) }
+    ensures unknown { result ≡ Err ExpandFault.UnknownName
+        → spec.expanded_one zip allow_missing choices.now made.old (letters pattern.now) ≡ Err ExpandFault.UnknownName }
+    ensures unequal { result ≡ Err ExpandFault.UnequalZip
+        → spec.expanded_one zip allow_missing choices.now made.old (letters pattern.now) ≡ Err ExpandFault.UnequalZip }
+    ensures too_many { result ≡ Err ExpandFault.TooMany
+        → spec.expanded_one zip allow_missing choices.now made.old (letters pattern.now) ≡ Err ExpandFault.TooMany }
+{
+    let pieces = read(alloc, pattern)?;
+    if let Some(fault) = refusal(made, pieces.as_slice(), choices, zip, allow_missing) {
+        return Err(fault);
+    }
+    add_texts(made, alloc, pieces.as_slice(), choices, zip)?;
+    Ok(())
+}
+
+/// The texts of the patterns, in order, with the values of the names that stand in each: all combinations, the last name fastest; with
+/// `zip` the values at each place together, and none where no name stands in the pattern. In a pattern `{NAME}` is a name, `{{` and
+/// `}}` are one brace, and every other brace stands for itself; with `allow_missing` a name without values stays as it is.
+///
+/// The first fault in the order of the patterns is told: `UnknownName` where a name of the pattern has no values and `allow_missing`
+/// is false; then `UnequalZip` where the names of the pattern have different counts of values, with `zip`; then `TooMany` where the
+/// texts so far are more than 100,000, and none of the pattern is made then. `OutOfMemory` where there is no memory for the texts.
+pub fn expand(
+    alloc: Global,
+    patterns: &[Text],
+    choices: &[Choices],
+    zip: bool,
+    allow_missing: bool,
+) -> Result<List<Text>, ExpandFault>
+    ensures ok { IfOk result (λ texts. spec.expanded zip allow_missing choices.now [] patterns.now ≡ Ok texts) }
+    ensures unknown { result ≡ Err ExpandFault.UnknownName → spec.expanded zip allow_missing choices.now [] patterns.now ≡ Err ExpandFault.UnknownName }
+    ensures unequal { result ≡ Err ExpandFault.UnequalZip → spec.expanded zip allow_missing choices.now [] patterns.now ≡ Err ExpandFault.UnequalZip }
+    ensures too_many { result ≡ Err ExpandFault.TooMany → spec.expanded zip allow_missing choices.now [] patterns.now ≡ Err ExpandFault.TooMany }
+{
+    let mut made = List::new(alloc);
+    for pattern in patterns {
+        expand_one(
+            &mut made,
+            alloc,
+            pattern.as_str(),
+            choices,
+            zip,
+            allow_missing,
+        )?;
+    }
+    Ok(made)
+}

@@ -1,0 +1,68 @@
+//! Why an expression has no value.
+
+ghost use Rattle.std.specs.Prelude.{◌≡◌};
+ghost use Rattle.smk_value.specs.Values.{of_expand};
+
+use smk_base::{OutOfMemory, Text};
+use smk_expand::ExpandFault;
+use std::alloc::{AllocError, AllocFailed};
+
+/// Why an expression has no value.
+#[derive(Debug, Drop)]
+pub enum ValueFault {
+    /// A value of a kind that doesn't stand there. The word is that of the flag, the sign, the call or the directive.
+    BadFlag(Text),
+    /// A name has no value, or a rule or an output isn't there.
+    UnknownName,
+    /// The names in a pattern of `expand` have different counts of values, and are to be paired.
+    UnequalZip,
+    /// `expand` gives more than 100,000 results.
+    TooMany,
+    /// There is no memory for the value.
+    OutOfMemory,
+}
+
+impl From<OutOfMemory> for ValueFault {
+    ghost use Rattle.std.specs.Prelude.{◌≡◌};
+    ghost use Rattle.smk_value.specs.declared.fault.ValueFault.{ValueFault};
+
+    ghost from_gives = { λ _ fault. fault ≡ ValueFault.OutOfMemory };
+
+    fn from(_: OutOfMemory) -> ValueFault {
+        ValueFault::OutOfMemory
+    }
+}
+
+impl From<AllocError> for ValueFault {
+    ghost use Rattle.std.specs.Prelude.{◌≡◌};
+    ghost use Rattle.smk_value.specs.declared.fault.ValueFault.{ValueFault};
+
+    ghost from_gives = { λ _ fault. fault ≡ ValueFault.OutOfMemory };
+
+    fn from(_: AllocError) -> ValueFault {
+        ValueFault::OutOfMemory
+    }
+}
+
+impl<T: Drop> From<AllocFailed<T>> for ValueFault {
+    ghost use Rattle.std.specs.Prelude.{◌≡◌};
+    ghost use Rattle.smk_value.specs.declared.fault.ValueFault.{ValueFault};
+
+    ghost from_gives = { λ _ fault. fault ≡ ValueFault.OutOfMemory };
+
+    fn from(_: AllocFailed<T>) -> ValueFault {
+        ValueFault::OutOfMemory
+    }
+}
+
+/// The fault of an expression whose `expand` has this one.
+pub(crate) fn of_expand(fault: ExpandFault) -> ValueFault
+    ensures { result ≡ of_expand fault }
+{
+    match fault {
+        ExpandFault::UnknownName => ValueFault::UnknownName,
+        ExpandFault::UnequalZip => ValueFault::UnequalZip,
+        ExpandFault::TooMany => ValueFault::TooMany,
+        ExpandFault::OutOfMemory => ValueFault::OutOfMemory,
+    }
+}

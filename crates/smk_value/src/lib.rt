@@ -1,0 +1,12 @@
+//! The values of expressions, and what the signs of the language make of them.
+#![tactic(auto)]
+
+mod evaluating;
+mod fault;
+mod operators;
+mod value;
+
+pub use evaluating::{Scope, value_of};
+pub use fault::ValueFault;
+pub use operators::{choice_values, expansion, flag, list_items, patterns, plus, spelled, truth};
+pub use value::{Flagged, Gathered, Value};
