@@ -1,0 +1,276 @@
+-- When rules and clauses make a workflow, and otherwise which fault is told.
+--
+-- Rules are looked at in order, each by the same checks in the same order; then the clauses. The first thing that is wrong is the fault.
+use Rattle.std.specs.Prelude.{◌≡◌, ◌⊎◌, Bool, true, false, ◌&&◌, ◌||◌, not, List, [], ◌∷◌, ◌++◌, map, filter, length, bytes_eq, nat_eq, if◌then◌else◌, Option, Some, None, option_map, is_none, ℕ, ◌==◌, nat_lt, codes}
+use Rattle.std.specs.List.{list_any, list_all, flat_map}
+use Rattle.std.specs.Int.{is_in_range}
+use Rattle.smk_base.specs.declared.tree.Pair.{Pair}
+use Rattle.smk_world.specs.declared.recipe.Values.{Values}
+use Rattle.smk_pattern.specs.Shapes.{Text}
+use Rattle.smk_pattern.specs.Grammar.{Piece, plain, hole, is_name, is_letter}
+use Rattle.smk_pattern.specs.Reading.{pieces, names_in}
+use Rattle.smk_pattern.specs.Written.{is_written, IsBadLimit, AreLimits}
+use Rattle.smk_flow.specs.declared.rule.RulePart.{RulePart}
+use Rattle.smk_flow.specs.declared.rule.InPart.{InPart}
+use Rattle.smk_flow.specs.declared.rule.GatherPart.{GatherPart}
+use Rattle.smk_flow.specs.declared.rule.FlaggedText.{FlaggedText}
+use Rattle.smk_flow.specs.declared.rule.Flag.{Flag}
+use Rattle.smk_flow.specs.declared.rule.Flag.TheVariants.{Temp, Protected, Folder}
+use Rattle.smk_flow.specs.declared.rule.Clause.{Clause}
+use Rattle.smk_flow.specs.declared.fault.FlowFault.{FlowFault}
+use Rattle.smk_flow.specs.Flows.{outs, makes_folder, is_temp}
+
+abbrev pub has : List Text → Text → Bool
+has names name = list_any (bytes_eq name) names
+
+-- ## The texts of a rule
+
+-- the names that stand in a text, each once
+abbrev pub names_of : Text → List Text
+names_of t = names_in (pieces t)
+
+abbrev pub or_nothing : Option GatherPart → List GatherPart
+or_nothing None = []
+or_nothing (Some g) = g ∷ []
+
+-- what a rule gathers, in the order of its inputs
+abbrev pub gather_parts : RulePart → List GatherPart
+gather_parts part = flat_map (λ (i : InPart). or_nothing i.gather) part.inputs
+
+-- A text that is read as a pattern: one for whose names the rule's constraints count, or one in which no constraint stands.
+pub data Written : Type 0 where
+  limited : Text → Written
+  bare : Text → Written
+
+abbrev pub in_texts : InPart → List Written
+in_texts i = map bare i.texts ++ flat_map (λ (g : GatherPart). limited g.listed ∷ bare g.wanted ∷ []) (or_nothing i.gather)
+
+abbrev pub out_texts : RulePart → List Text
+out_texts part = map (λ (o : FlaggedText). o.text) (outs part)
+
+-- all of them in order: of the outputs, of the logs, of the inputs
+abbrev pub texts_of : RulePart → List Written
+texts_of part = map limited (out_texts part) ++ (map bare part.logs ++ flat_map in_texts part.inputs)
+
+abbrev pub is_bare : Piece → Bool
+is_bare (plain t) = true
+is_bare (hole name limit) = is_none limit
+
+-- The text is read as a pattern, and its constraints by `regex`.
+abbrev pub IsRead : List Pair → Written → Type 0
+IsRead limits (limited t) = (is_written t ≡ true) × AreLimits limits (pieces t) (names_of t)
+IsRead limits (bare t) = (is_written t && list_all is_bare (pieces t)) ≡ true
+
+-- It isn't, and this is the fault.
+abbrev pub IsUnread : RulePart → Written → FlowFault → Type 0
+IsUnread part (limited t) fault =
+    ((is_written t ≡ false) × (fault ≡ FlowFault.BadPattern part.file part.line t))
+    ⊎ ((name : Text) × (is_written t ≡ true) × IsBadLimit part.limits (pieces t) (names_of t) name
+    × (fault ≡ FlowFault.BadConstraint part.file part.line name))
+IsUnread part (bare t) fault =
+    ((is_written t && list_all is_bare (pieces t)) ≡ false) × (fault ≡ FlowFault.BadPattern part.file part.line t)
+
+-- all of these texts are read
+abbrev pub AreRead : List Pair → List Written → Type 0
+AreRead limits [] = Unit {0}
+AreRead limits (w ∷ ws) = IsRead limits w × AreRead limits ws
+
+-- the first of these texts that isn't read gives the fault
+abbrev pub AreUnread : RulePart → List Written → FlowFault → Type 0
+AreUnread part [] fault = ⊥
+AreUnread part (w ∷ ws) fault = IsUnread part w fault ⊎ (IsRead part.limits w × AreUnread part ws fault)
+
+-- ## Wildcards
+
+-- the same names, in whatever order
+abbrev pub are_same : List Text → List Text → Bool
+are_same a b = list_all (has b) a && list_all (has a) b
+
+abbrev pub are_all_same : List Text → Bool
+are_all_same [] = true
+are_all_same (t ∷ ts) = list_all (λ u. are_same (names_of t) (names_of u)) ts
+
+-- the wildcards of a rule: those of its outputs, which all have the same ones
+abbrev pub wildcards_of : List Text → List Text
+wildcards_of [] = []
+wildcards_of (t ∷ ts) = names_of t
+
+abbrev pub wildcards : RulePart → List Text
+wildcards part = wildcards_of (out_texts part)
+
+-- those of these names that aren't known
+abbrev pub unknown_in : List Text → List Text → List Text
+unknown_in known names = filter (λ name. not (has known name)) names
+
+abbrev pub input_unknown : List Text → InPart → List Text
+input_unknown known i =
+    flat_map (λ t. unknown_in known (names_of t)) i.texts
+    ++ flat_map (λ (g : GatherPart). unknown_in (known ++ names_of g.listed) (names_of g.wanted)) (or_nothing i.gather)
+
+-- The names that stand in braces in a text that isn't read as a pattern; and, where this place is in a name that a brace closes, the
+-- rest of that name with the names behind it.
+pub record Named : Type 0 where
+  pub names : List Text
+  pub name : Option (Text × List Text)
+
+abbrev pub names_from : List Text → ℕ → Option (Text × List Text) → List Text
+names_from names b None = names
+names_from names b (Some closed) = if b == 123 && is_name closed.0 then closed.0 ∷ closed.1 else names
+
+abbrev pub longer : ℕ → List Text → Option (Text × List Text) → Option (Text × List Text)
+longer b names closed =
+    if b == 125 then Some ([], names)
+    else (if is_letter b || is_in_range 48 57 b then option_map (λ (c : Text × List Text). (b ∷ c.0, c.1)) closed else None)
+
+abbrev pub naming : Text → Named
+naming [] = record { names = []; name = None }
+naming (b ∷ t) =
+    let later = naming t in
+    record { names = names_from later.names b later.name; name = longer b later.names later.name }
+
+abbrev pub word_names : Text → List Text
+word_names t = (naming t).names
+
+abbrev pub words_unknown : List Text → Text → List Text
+words_unknown known t = unknown_in known (word_names t)
+
+-- of the checkpoints that it gathers from
+abbrev pub checkpoint_unknown : List RulePart → List Text → GatherPart → List Text
+checkpoint_unknown above known g = unknown_in known (flat_map wildcards (filter (λ (r : RulePart). bytes_eq r.name g.checkpoint) above))
+
+-- the wildcards in a rule that its outputs don't have: in its logs, inputs, parameters, resources, and of its checkpoints
+abbrev pub unknown : List RulePart → RulePart → List Text
+unknown above part =
+    let known = wildcards part in
+    flat_map (λ t. unknown_in known (names_of t)) part.logs
+    ++ (flat_map (input_unknown known) part.inputs
+    ++ (flat_map (λ (v : Values). flat_map (words_unknown known) v.values) part.params
+    ++ (flat_map (λ (w : Pair). words_unknown known w.value) part.words
+    ++ flat_map (checkpoint_unknown above known) (gather_parts part))))
+
+-- ## Flags
+
+abbrev pub flag_word : Flag → Text
+flag_word Temp = codes "temp"
+flag_word Protected = codes "protected"
+flag_word Folder = codes "directory"
+
+-- they don't stand together
+abbrev pub excludes : Flag → Flag → Bool
+excludes Temp Temp = true
+excludes Temp Protected = true
+excludes Temp Folder = false
+excludes Protected Temp = true
+excludes Protected Protected = true
+excludes Protected Folder = true
+excludes Folder Temp = false
+excludes Folder Protected = true
+excludes Folder Folder = true
+
+-- a flag that may not stand after these
+abbrev pub is_bad_flag : Bool → List Flag → Flag → Bool
+is_bad_flag checkpoint before flag = list_any (excludes flag) before || (checkpoint && is_temp flag)
+
+abbrev pub bad_flags : Bool → List Flag → List Flag → List Text
+bad_flags checkpoint before [] = []
+bad_flags checkpoint before (flag ∷ flags) =
+    (if is_bad_flag checkpoint before flag then flag_word flag ∷ [] else []) ++ bad_flags checkpoint (flag ∷ before) flags
+
+-- a checkpoint with one directory as its only directory output
+abbrev pub is_source_of : GatherPart → RulePart → Bool
+is_source_of g r = bytes_eq r.name g.checkpoint && (r.checkpoint && nat_eq (length (filter makes_folder (outs r))) 1)
+
+-- What is gathered comes from a checkpoint above, for a rule with outputs, and what it lists has wildcards of its own.
+abbrev pub is_gather : List RulePart → RulePart → GatherPart → Bool
+is_gather above part g =
+    nat_lt 0 (length (outs part)) && (list_any (is_source_of g) above && not (list_any (has (wildcards part)) (names_of g.listed)))
+
+-- the words of flags and gathers that don't stand where they are
+abbrev pub bad_words : List RulePart → RulePart → List Text
+bad_words above part =
+    flat_map (λ (o : FlaggedText). bad_flags part.checkpoint [] o.flags) (outs part)
+    ++ flat_map (λ g. if is_gather above part g then [] else codes "from_checkpoint" ∷ []) (gather_parts part)
+
+-- ## A rule
+
+abbrev pub first_as : (Text → FlowFault) → List Text → Option FlowFault
+first_as fault [] = None
+first_as fault (t ∷ ts) = Some (fault t)
+
+abbrev pub or_else : Option FlowFault → Option FlowFault → Option FlowFault
+or_else None later = later
+or_else (Some fault) later = Some fault
+
+abbrev pub is_doubled : List RulePart → RulePart → Bool
+is_doubled above part = list_any (λ (r : RulePart). bytes_eq r.name part.name) above
+
+-- what is wrong with a rule whose texts are read
+abbrev pub rule_fault : List RulePart → RulePart → Option FlowFault
+rule_fault above part =
+    or_else (if are_all_same (out_texts part ++ part.logs) then None else Some (FlowFault.UnequalWildcards part.file part.line part.name))
+    (or_else (first_as (FlowFault.UnknownWildcard part.file part.line part.name) (unknown above part))
+    (first_as (FlowFault.BadFlag part.file part.line part.name) (bad_words above part)))
+
+-- a rule passes after these
+pub record Passes (above : List RulePart) (part : RulePart) : Type 0 where
+  pub name : is_doubled above part ≡ false
+  pub texts : AreRead part.limits (texts_of part)
+  pub checks : rule_fault above part ≡ None
+
+-- a rule doesn't pass, and this is its first fault
+abbrev pub Fails : List RulePart → RulePart → FlowFault → Type 0
+Fails above part fault =
+    ((is_doubled above part ≡ true) × (fault ≡ FlowFault.DoubledRule part.file part.line part.name))
+    ⊎ ((is_doubled above part ≡ false) × AreUnread part (texts_of part) fault)
+    ⊎ ((is_doubled above part ≡ false) × AreRead part.limits (texts_of part) × (rule_fault above part ≡ Some fault))
+
+-- all of these rules pass, the ones above first
+abbrev pub AllPass : List RulePart → List RulePart → Type 0
+AllPass above [] = Unit {0}
+AllPass above (part ∷ parts) = Passes above part × AllPass (above ++ part ∷ []) parts
+
+-- the first of these rules that doesn't pass gives the fault
+abbrev pub OneFails : List RulePart → List RulePart → FlowFault → Type 0
+OneFails above [] fault = ⊥
+OneFails above (part ∷ parts) fault = Fails above part fault ⊎ (Passes above part × OneFails (above ++ part ∷ []) parts fault)
+
+-- ## Clauses
+
+-- the first name in these clauses that is no rule's
+abbrev pub stranger_in : List RulePart → Clause → Option FlowFault
+stranger_in rules c = first_as (FlowFault.UnknownName c.file c.line) (filter (λ name. not (list_any (λ (r : RulePart). bytes_eq r.name name) rules)) c.names)
+
+abbrev pub stranger : List RulePart → List Clause → Option FlowFault
+stranger rules [] = None
+stranger rules (c ∷ cs) = or_else (stranger_in rules c) (stranger rules cs)
+
+-- a clause has the one name before the other, or has it twice
+abbrev pub has_before : Text → Text → List Text → Bool
+has_before a b [] = false
+has_before a b (name ∷ names) = (bytes_eq a name && has names b) || has_before a b names
+
+-- With a name, the first of those before it in its clause that may not stand before it: the name itself, or one that a clause has after it.
+abbrev pub against : List Clause → List Text → Text → List Text
+against orders before b = filter (λ a. bytes_eq a b || list_any (λ (c : Clause). has_before b a c.names) orders) before
+
+abbrev pub contradiction_in : List Clause → List Text → List Text → Option FlowFault
+contradiction_in orders before [] = None
+contradiction_in orders before (b ∷ names) =
+    or_else (first_as (λ a. FlowFault.ContradictoryOrder a b) (against orders before b)) (contradiction_in orders (before ++ b ∷ []) names)
+
+abbrev pub contradiction : List Clause → List Clause → Option FlowFault
+contradiction orders [] = None
+contradiction orders (c ∷ cs) = or_else (contradiction_in orders [] c.names) (contradiction orders cs)
+
+-- ## A workflow
+
+-- nothing is wrong with the rules and the clauses
+pub record IsWorkflow (rules : List RulePart) (orders : List Clause) : Type 0 where
+  pub rules_pass : AllPass [] rules
+  pub known : stranger rules orders ≡ None
+  pub settled : contradiction orders orders ≡ None
+
+-- something is, and this is the first fault
+abbrev pub IsFault : List RulePart → List Clause → FlowFault → Type 0
+IsFault rules orders fault =
+    OneFails [] rules fault ⊎ (AllPass [] rules × (or_else (stranger rules orders) (contradiction orders orders) ≡ Some fault))
