@@ -3,9 +3,9 @@ use Rattle.std.specs.Prelude.{◌≡◌, ℕ, Bool, true, List, [], ◌∷◌, �
 use Rattle.std.specs.List.{list_all}
 use Rattle.smk_base.specs.declared.tree.Pair.{Pair}
 use Rattle.smk_base.specs.Path.{is_path}
-use Rattle.smk_pattern.specs.Shapes.{Text, Wildcard}
-use Rattle.smk_pattern.specs.Grammar.{Piece, plain, hole, is_name, is_balanced, inline_limits, limit_for}
-use Rattle.smk_pattern.specs.Reading.{pieces, names_in, place_of, has_wildcards}
+use Rattle.smk_pattern.specs.Shapes.{Text, Wildcard, Shape}
+use Rattle.smk_pattern.specs.Grammar.{Piece, plain, hole, is_name, is_balanced, inline_limits, limit_for, IsPattern}
+use Rattle.smk_pattern.specs.Reading.{pieces, names_in, place_of, has_wildcards, shape_of}
 use Rattle.smk_pattern.specs.Limits.{IsLimit}
 
 abbrev pub is_named : Piece → Bool
@@ -44,3 +44,13 @@ pub record IsBadLimit (given : List Pair) (ps : List Piece) (names : List Text) 
   pub limit : Text
   pub is : limit_for given name (inline_limits name ps) ≡ Some limit
   pub bad : ¬ IsLimit limit
+
+-- What is read is what the grammar has: a text that is written as a pattern, with constraints that can be ones, is in its relation,
+-- with the pattern that is computed for the text; and a text that is in the relation is written so, with such constraints, and the
+-- pattern of the relation is that one.
+abbrev pub ReadingIsGrammar : Type 0
+ReadingIsGrammar =
+    (given : List Pair) (source : Text) →
+    (is_written source ≡ true → AreLimits given (pieces source) (names_in (pieces source)) → IsPattern given source is_path (shape_of given source))
+    × ((p : Shape) → IsPattern given source is_path p →
+        (is_written source ≡ true) × AreLimits given (pieces source) (names_in (pieces source)) × (p ≡ shape_of given source))

@@ -1,10 +1,12 @@
 //! The values with which a pattern gives a path.
 
-ghost use Rattle.std.specs.Prelude.{◌≡◌, ◌++◌, false, IfOk, MatchOption, List, ℕ, length, map};
-ghost use Rattle.smk_pattern.specs.Fitting.{Fits, bound_pairs, filled};
+ghost use Rattle.std.specs.Prelude.{◌≡◌, ◌≤◌, ◌↔◌, ◌++◌, [], false, IfOk, IsTrue, MatchOption, List, ℕ, length, map, option_map};
+ghost use Rattle.smk_pattern.specs.Shapes.{IsNumbered};
+ghost use Rattle.smk_pattern.specs.Fitting.{Fits, Suits, AllSuit, bound_pairs, filled, part_text};
 ghost use Rattle.smk_pattern.specs.Binding.{IsBindingOf};
+ghost use Rattle.smk_pattern.specs.Bound.{bound};
 ghost use Rattle.smk_pattern.specs.Searching.{now_of};
-ghost use Rattle.smk_pattern.specs.Pieces.{parts_of, wildcards_of};
+ghost use Rattle.smk_pattern.specs.Pieces.{part_of, parts_of, wildcard_of, wildcards_of, limits_of, pattern_of};
 
 use crate::pattern::{Binding, Pattern, Piece, Wildcard};
 use crate::search::{after_prefix, search};
@@ -74,22 +76,87 @@ fn may_end(pieces: &[Piece], path: &str) -> bool
     }
 }
 
-/// The values with which the pattern gives the path, the first of them as long as can be, then the second, and so on. `None` exactly
-/// where no values do. `OutOfMemory` where there is no memory for the search.
-pub fn fits(
-    alloc: Global,
-    pattern: &Pattern,
-    path: &PathText,
-) -> Result<Option<Binding>, OutOfMemory>
-    ensures { IfOk result (λ found. MatchOption found
-        ((values : List (List ℕ)) → Fits pattern.now path.now values → ⊥)
-        (λ b. IsBindingOf pattern.now path.now b)) }
+// The least length of a value for the wildcard.
+fn least_value(wildcard: &Wildcard) -> usize
+    ensures { (value : List ℕ) → Suits (wildcard_of wildcard.now).limit value → result ≤ length value }
 {
-    let pieces = pattern.pieces.as_slice();
-    if !may_start(pieces, path.as_str()) || !may_end(pieces, path.as_str()) {
-        return Ok(None);
+    match wildcard.limit {
+        None => 1,
+        Some(_) => 0,
     }
-    let wildcards = pattern.wildcards.as_slice();
+}
+
+// The least length of what the piece stands for.
+fn least_part(piece: &Piece, wildcards: &[Wildcard]) -> usize
+    ensures { (values : List (List ℕ)) → AllSuit (limits_of wildcards.now) values → result ≤ length (part_text values (part_of piece.now)) }
+{
+    match piece {
+        Piece::Literal(text) => text.as_str().len(),
+        Piece::Wild(number) => match wildcards.get(*number) {
+            Some(wildcard) => least_value(wildcard),
+            None => 0,
+        },
+    }
+}
+
+// The least length of a path that the pieces give.
+fn least_length(pieces: &[Piece], wildcards: &[Wildcard]) -> usize
+    ensures { (values : List (List ℕ)) → AllSuit (limits_of wildcards.now) values → result ≤ length (filled (parts_of pieces.now) values) }
+{
+    let mut least: usize = 0;
+    for piece in pieces {
+        least = least.saturating_add(least_part(piece, wildcards));
+    }
+    least
+}
+
+// Whether the path can fit by its front, its end and its length.
+fn may_fit(pieces: &[Piece], wildcards: &[Wildcard], path: &str) -> bool
+    ensures { result ≡ false → (values : List (List ℕ)) → Fits (pattern_of pieces.now wildcards.now) path.now values → ⊥ }
+{
+    may_start(pieces, path) && may_end(pieces, path) && least_length(pieces, wildcards) <= path.len()
+}
+
+// Whether the pieces are the path, without what stands for wildcards.
+fn are_text(pieces: &[Piece], path: &str) -> bool
+    ensures { IsTrue result ↔ (filled (parts_of pieces.now) [] ≡ path.now) }
+{
+    let Some((piece, later)) = pieces.split_first() else {
+        return path.is_empty();
+    };
+    match piece {
+        Piece::Literal(text) => match after_prefix(path, text.as_str()) {
+            Some(after) => are_text(later, after),
+            None => false,
+        },
+        Piece::Wild(_) => are_text(later, path),
+    }
+}
+
+// The binding of the path by a pattern without wildcards, which compares texts alone.
+fn fits_text(alloc: Global, pieces: &[Piece], path: &str) -> Option<Binding>
+    ensures { MatchOption result ((values : List (List ℕ)) → Fits (pattern_of pieces.now []) path.now values → ⊥)
+        (λ b. IsBindingOf (pattern_of pieces.now []) path.now b) }
+{
+    if are_text(pieces, path) {
+        Some(List::new(alloc))
+    } else {
+        None
+    }
+}
+
+// The binding of the path, searched for.
+fn fits_search(
+    alloc: Global,
+    pieces: &[Piece],
+    wildcards: &[Wildcard],
+    path: &str,
+) -> Result<Option<Binding>, OutOfMemory>
+    requires { IsNumbered (parts_of pieces.now) 0 (length wildcards.now) }
+    ensures { IfOk result (λ found. MatchOption found
+        ((values : List (List ℕ)) → Fits (pattern_of pieces.now wildcards.now) path.now values → ⊥)
+        (λ b. IsBindingOf (pattern_of pieces.now wildcards.now) path.now b)) }
+{
     let mut testers = testers(alloc, wildcards)?;
     let mut values = Vec::new(alloc);
     let mut vain = Vain::new(alloc);
@@ -98,10 +165,36 @@ pub fn fits(
         &mut vain,
         pieces,
         &mut testers,
-        path.as_str(),
+        path,
         &mut values,
     )? {
         return Ok(None);
     }
     Ok(Some(pairs(alloc, wildcards, &values)?))
+}
+
+/// The values with which the pattern gives the path, the first of them as long as can be, then the second, and so on. `None` exactly
+/// where no values do. `OutOfMemory` where there is no memory for the search.
+///
+/// A pattern without wildcards is compared with the path; otherwise the path's front, end and length are tried before constraints are.
+pub fn fits(
+    alloc: Global,
+    pattern: &Pattern,
+    path: &PathText,
+) -> Result<Option<Binding>, OutOfMemory>
+    ensures fits { IfOk result (λ found. MatchOption found
+        ((values : List (List ℕ)) → Fits pattern.now path.now values → ⊥)
+        (λ b. IsBindingOf pattern.now path.now b)) }
+    ensures bound { IfOk result (λ found. found ≡ option_map (bound_pairs pattern.now.wildcards) (bound pattern.now path.now)) }
+{
+    let pieces = pattern.pieces.as_slice();
+    let wildcards = pattern.wildcards.as_slice();
+    let path = path.as_str();
+    if wildcards.is_empty() {
+        return Ok(fits_text(alloc, pieces, path));
+    }
+    if !may_fit(pieces, wildcards, path) {
+        return Ok(None);
+    }
+    fits_search(alloc, pieces, wildcards, path)
 }

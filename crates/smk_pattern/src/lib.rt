@@ -5,6 +5,7 @@ mod filling;
 mod fitting;
 mod laws;
 mod limit;
+mod limits;
 mod pattern;
 mod reading;
 mod search;
@@ -14,7 +15,8 @@ mod tester;
 
 pub use filling::fill;
 pub use fitting::fits;
-pub use laws::bound_is_binding;
+pub use laws::{bound_is_binding, reading_is_grammar};
+pub use limits::Limits;
 pub use pattern::{Binding, FillFault, Pattern, PatternFault};
 
 #[cfg(test)]

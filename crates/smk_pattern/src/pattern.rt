@@ -32,15 +32,14 @@ pub struct Pattern {
 }
 
 impl Model for Pattern {
-    ghost use Rattle.std.specs.Prelude.{length};
-    ghost use Rattle.smk_pattern.specs.Shapes.{Shape, IsNumbered};
-    ghost use Rattle.smk_pattern.specs.Pieces.{parts_of, wildcards_of};
+    ghost use Rattle.smk_pattern.specs.Shapes.{Shape};
+    ghost use Rattle.smk_pattern.specs.Pieces.{pattern_of, IsWellFormed};
 
     ghost Value = { Shape };
 
-    ghost view = { λ a. record { parts = parts_of a.pieces; wildcards = wildcards_of a.wildcards } };
+    ghost view = { λ a. pattern_of a.pieces a.wildcards };
 
-    ghost invariant = { λ a. IsNumbered (parts_of a.pieces) 0 (length a.wildcards) };
+    ghost invariant = { λ a. IsWellFormed a.pieces a.wildcards };
 }
 
 /// A value for each name.

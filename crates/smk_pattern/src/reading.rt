@@ -1,10 +1,12 @@
 //! Texts read as patterns.
 
-ghost use Rattle.std.specs.Prelude.{◌≡◌, ◌<◌, ◌≤◌, ◌==◌, ◌&&◌, ◌||◌, IfOk, OnOk, List, ℕ, Some, None, true, false, map, option_map, length, nat_le};
+ghost use Rattle.std.specs.Prelude.{◌≡◌, ◌<◌, ◌≤◌, ◌==◌, ◌&&◌, ◌||◌, [], ◌∷◌, IfOk, OnOk, IsUtf8, List, ℕ, Some, None, true, false, map, option_map, length, nat_le};
 ghost use Rattle.std.specs.List.{list_all, list_any};
 ghost use Rattle.std.specs.Int.{is_in_range};
 ghost use Rattle.smk_base.specs.Path.{is_path};
-ghost use Rattle.smk_pattern.specs.Grammar.{is_letter, is_name, is_balanced, inline_limits, given_limit, limit_for};
+ghost use Rattle.smk_pattern.specs.Shapes.{Shape, AreTexts};
+ghost use Rattle.smk_pattern.specs.Shapes.Part.{text};
+ghost use Rattle.smk_pattern.specs.Grammar.{is_letter, is_name, is_balanced, inline_limits, given_limit, limit_for, IsPattern};
 ghost use Rattle.smk_pattern.specs.Reading.{place_of, part_in, names_in, is_hole, has_wildcards, pieces, shape_of};
 ghost use Rattle.smk_pattern.specs.Written.{is_named, is_single, are_written, is_written, with_name, wildcard_in, AreLimits, IsBadLimit};
 ghost use Rattle.smk_pattern.specs.Splitting.{written_of, all_written};
@@ -13,6 +15,7 @@ ghost use Rattle.smk_pattern.specs.Searching.{now_of};
 ghost use Rattle.smk_pattern.specs.Limits.{IsLimit};
 
 use crate::limit::{Limit, LimitFault};
+use crate::limits::Limits;
 use crate::pattern::{Pattern, PatternFault, Piece, Wildcard};
 use crate::splitting::{Written, split};
 use smk_base::{List, OutOfMemory, Pair, PathFault, PathText, Text};
@@ -177,12 +180,21 @@ fn names_in<'t>(alloc: Global, written: &[Written<'t>]) -> Result<Vec<&'t str>, 
     Ok(names)
 }
 
+// The text as a piece.
+fn literal(alloc: Global, word: &str) -> Result<Piece, OutOfMemory>
+    ensures piece { IfOk result (λ made. part_of made ≡ text word.now) }
+    ensures utf8 { OnOk result (IsUtf8 word.now) }
+{
+    Ok(Piece::Literal(Text::of(alloc, word)?))
+}
+
 // The piece, its wildcard by number.
 fn numbered(alloc: Global, piece: &Written<'_>, names: &[&str]) -> Result<Piece, OutOfMemory>
-    ensures { IfOk result (λ made. part_of made ≡ part_in (now_of names.now) (written_of piece.now)) }
+    ensures piece { IfOk result (λ made. part_of made ≡ part_in (now_of names.now) (written_of piece.now)) }
+    ensures texts { IfOk result (λ made. AreTexts (part_of made ∷ [])) }
 {
     match piece {
-        Written::Plain(text) => Ok(Piece::Literal(Text::of(alloc, text)?)),
+        Written::Plain(text) => literal(alloc, text),
         Written::Hole(name, _) => Ok(Piece::Wild(place_of(name, names))),
     }
 }
@@ -193,7 +205,8 @@ fn all_numbered(
     written: &[Written<'_>],
     names: &[&str],
 ) -> Result<List<Piece>, OutOfMemory>
-    ensures { IfOk result (λ made. parts_of made ≡ map (part_in (now_of names.now)) (all_written written.now)) }
+    ensures pieces { IfOk result (λ made. parts_of made ≡ map (part_in (now_of names.now)) (all_written written.now)) }
+    ensures texts { IfOk result (λ made. AreTexts (parts_of made)) }
 {
     let mut made = List::new(alloc);
     for piece in written {
@@ -230,6 +243,7 @@ fn compiled(
     alloc: Global,
     name: &str,
     limit: Option<&str>,
+    shared: &mut Limits,
 ) -> Result<Option<Rc<Limit>>, PatternFault>
     ensures text { IfOk result (λ made. option_map (λ l. l.value) made ≡ option_map (λ l. l.now) limit.entry) }
     ensures read { OnOk result ((text : List ℕ) → option_map (λ l. l.now) limit.entry ≡ Some text → IsLimit text) }
@@ -240,8 +254,8 @@ fn compiled(
     let Some(text) = limit else {
         return Ok(None);
     };
-    match Limit::read(alloc, text) {
-        Ok(limit) => Ok(Some(Rc::new(alloc, limit)?)),
+    match shared.get(alloc, text) {
+        Ok(limit) => Ok(Some(limit)),
         Err(LimitFault::NoRegex) => Err(PatternFault::BadConstraint(Text::of(alloc, name)?)),
         Err(LimitFault::OutOfMemory) => Err(PatternFault::OutOfMemory),
     }
@@ -253,6 +267,7 @@ fn wildcards_in(
     written: &[Written<'_>],
     names: &[&str],
     limits: &[Pair],
+    shared: &mut Limits,
 ) -> Result<List<Wildcard>, PatternFault>
     ensures made { IfOk result (λ made. wildcards_of made ≡ map (wildcard_in limits.now (all_written written.now)) (now_of names.now)) }
     ensures read { OnOk result (AreLimits limits.now (all_written written.now) (now_of names.now)) }
@@ -262,7 +277,7 @@ fn wildcards_in(
 {
     let mut made = List::new(alloc);
     for name in names {
-        let limit = compiled(alloc, name, limit_of(name, written, limits))?;
+        let limit = compiled(alloc, name, limit_of(name, written, limits), shared)?;
         made.push(Wildcard {
             name: Text::of(alloc, name)?,
             limit,
@@ -294,6 +309,39 @@ fn is_good(
     is_path(alloc, text)
 }
 
+// The pattern that the text is written as.
+fn read_written(
+    alloc: Global,
+    text: &str,
+    limits: &[Pair],
+    shared: &mut Limits,
+) -> Result<Pattern, PatternFault>
+    ensures written { OnOk result (is_written text.now ≡ true) }
+    ensures shape { IfOk result (λ p. p ≡ shape_of limits.now text.now) }
+    ensures read { OnOk result (AreLimits limits.now (pieces text.now) (names_in (pieces text.now))) }
+    ensures bad_pattern { result ≡ Err PatternFault.BadPattern → is_written text.now ≡ false }
+    ensures bad_constraint { (name : List ℕ) → result ≡ Err (PatternFault.BadConstraint name)
+        → (is_written text.now ≡ true) × IsBadLimit limits.now (pieces text.now) (names_in (pieces text.now)) name }
+{
+    let Some(written) = split(alloc, text)? else {
+        return Err(PatternFault::BadPattern);
+    };
+    if written.is_empty() {
+        return Err(PatternFault::BadPattern);
+    }
+    if written.len() > MOST_PIECES {
+        return Err(PatternFault::BadPattern);
+    }
+    let names = names_in(alloc, &written)?;
+    if !is_good(alloc, text, &written, &names)? {
+        return Err(PatternFault::BadPattern);
+    }
+    Ok(Pattern {
+        pieces: all_numbered(alloc, &written, &names)?,
+        wildcards: wildcards_in(alloc, &written, &names, limits, shared)?,
+    })
+}
+
 impl Pattern {
     /// Reads the text as a pattern, with these constraints for its names: one that stands in the text wins, and one whose name doesn't
     /// stand in it isn't looked at.
@@ -305,26 +353,32 @@ impl Pattern {
         ensures written { OnOk result (is_written text.now ≡ true) }
         ensures shape { IfOk result (λ p. p ≡ shape_of limits.now text.now) }
         ensures read { OnOk result (AreLimits limits.now (pieces text.now) (names_in (pieces text.now))) }
+        ensures pattern { IfOk result (IsPattern limits.now text.now is_path) }
         ensures bad_pattern { result ≡ Err PatternFault.BadPattern → is_written text.now ≡ false }
+        ensures no_pattern { result ≡ Err PatternFault.BadPattern → (p : Shape) → IsPattern limits.now text.now is_path p → ⊥ }
         ensures bad_constraint { (name : List ℕ) → result ≡ Err (PatternFault.BadConstraint name)
             → (is_written text.now ≡ true) × IsBadLimit limits.now (pieces text.now) (names_in (pieces text.now)) name }
     {
-        let Some(written) = split(alloc, text)? else {
-            return Err(PatternFault::BadPattern);
-        };
-        if written.is_empty() {
-            return Err(PatternFault::BadPattern);
-        }
-        if written.len() > MOST_PIECES {
-            return Err(PatternFault::BadPattern);
-        }
-        let names = names_in(alloc, &written)?;
-        if !is_good(alloc, text, &written, &names)? {
-            return Err(PatternFault::BadPattern);
-        }
-        Ok(Pattern {
-            pieces: all_numbered(alloc, &written, &names)?,
-            wildcards: wildcards_in(alloc, &written, &names, limits.as_slice())?,
-        })
+        let mut shared = Limits::new(alloc);
+        Pattern::read_sharing(alloc, text, limits, &mut shared)
+    }
+
+    /// The same, with constraints that are shared by all patterns that are read with the same `shared`: each is compiled once.
+    pub fn read_sharing(
+        alloc: Global,
+        text: &str,
+        limits: &List<Pair>,
+        shared: &mut Limits,
+    ) -> Result<Pattern, PatternFault>
+        ensures written { OnOk result (is_written text.now ≡ true) }
+        ensures shape { IfOk result (λ p. p ≡ shape_of limits.now text.now) }
+        ensures read { OnOk result (AreLimits limits.now (pieces text.now) (names_in (pieces text.now))) }
+        ensures pattern { IfOk result (IsPattern limits.now text.now is_path) }
+        ensures bad_pattern { result ≡ Err PatternFault.BadPattern → is_written text.now ≡ false }
+        ensures no_pattern { result ≡ Err PatternFault.BadPattern → (p : Shape) → IsPattern limits.now text.now is_path p → ⊥ }
+        ensures bad_constraint { (name : List ℕ) → result ≡ Err (PatternFault.BadConstraint name)
+            → (is_written text.now ≡ true) × IsBadLimit limits.now (pieces text.now) (names_in (pieces text.now)) name }
+    {
+        read_written(alloc, text, limits.as_slice(), shared)
     }
 }

@@ -1,41 +1,52 @@
-use Rattle.std.proofs.Common.{◌≡◌, ℕ, List, [], ◌∷◌, ◌++◌, length, map, drop, Bool, true, false, Option, Bor, refl, sym, ap, ◌∙◌, suc, arith, vec_len, cond, not, length-append}
-use Rattle.std.proofs.lemmas.List.{length-map}
-use Rattle.smk_pattern.specs.Shapes.{Part, Wildcard, IsNumbered}
-use Rattle.smk_pattern.specs.Fitting.{AllSuit}
-use Rattle.smk_pattern.specs.Searching.{Searched, now_of}
+use Rattle.std.proofs.Common.{◌≡◌, ◌==◌, ℕ, [], None, true, refl, arith, List, length, Result, Ok, Err, Option, IfOk, MatchOption, option_map, sym, ap, subst, ◌∙◌, IsUtf8}
+use Rattle.std.proofs.lemmas.Bool.Decides.{nat_tests}
+use Rattle.std.proofs.lemmas.List.{length-map, nil_from_length}
+use Rattle.smk_base.specs.declared.tree.Pair.{Pair}
+use Rattle.smk_pattern.specs.declared.pattern.Piece.{Piece}
 use Rattle.smk_pattern.specs.declared.pattern.Wildcard as code
-use Rattle.smk_pattern.specs.Pieces.{parts_of, wildcards_of, wildcard_of}
-use Rattle.smk_pattern.proofs.Sound.{serves_new}
+use Rattle.smk_pattern.specs.Shapes.{Text, IsNumbered}
+use Rattle.smk_pattern.specs.Fitting.{Fits, bound_pairs}
+use Rattle.smk_pattern.specs.Binding.{IsBindingOf}
+use Rattle.smk_pattern.specs.Bound.{bound}
+use Rattle.smk_pattern.specs.Pieces.{parts_of, wildcard_of, wildcards_of, pattern_of, IsWellFormed}
+use Rattle.smk_pattern.proofs.BoundBy.{bound_by}
 use Rattle.smk_pattern.proofs.fitting.fits.Goals as goal
 
-all_len : (limits : List (Option (List ℕ))) (more : List (List ℕ)) → AllSuit limits more → length more ≡ length limits
-all_len [] [] s = refl
-all_len [] (v ∷ vs) s = absurd s
-all_len (l ∷ ls) [] s = absurd s
-all_len (l ∷ ls) (v ∷ vs) s = ap (λ n. suc n) (all_len ls vs s.2)
+-- none
+no_items : (ws : List code.Wildcard) → (length ws == 0) ≡ true → ws ≡ []
+no_items ws e = nil_from_length ws (grind (arith, nat_tests))
 
-counted : (found : Bool) (ps : List Part) (limits : List (Option (List ℕ))) (known : List (List ℕ)) (rest : List ℕ) (now : List (List ℕ)) →
-    found ≡ true → known ≡ [] → Searched found ps limits known rest now → length now ≡ length limits
-counted false ps limits known rest now e nil s = absurd cc
-counted true ps limits (x ∷ xs) rest now e nil s = absurd cc
-counted true ps limits [] rest now e nil s = ap length s.1 ∙ all_len limits s.0 s.2.fits.suit
+-- what is found is what is computed
+bound_of : (pieces : List Piece) (wildcards : List code.Wildcard) (path : Text) (found : Option (List Pair)) → IsWellFormed pieces wildcards → IsUtf8 path →
+    MatchOption found ((values : List Text) → Fits (pattern_of pieces wildcards) path values → ⊥) (λ b. IsBindingOf (pattern_of pieces wildcards) path b) →
+    found ≡ option_map (bound_pairs (wildcards_of wildcards)) (bound (pattern_of pieces wildcards) path)
+bound_of pieces wildcards path found w utf8 m =
+    bound_by (pattern_of pieces wildcards) path found (subst (λ (n : ℕ). IsNumbered (parts_of pieces) 0 n) (sym (length-map wildcards wildcard_of)) w.numbered) w.texts utf8 m
 
--- as many tests as wildcards
-tests : (ts : List (Option (List ℕ))) (ws : List code.Wildcard) → ts ≡ map (λ w. w.limit) (wildcards_of ws) → length ts ≡ length ws
-tests ts ws e = ap length e ∙ length-map (wildcards_of ws) (λ (w : Wildcard). w.limit) ∙ length-map ws wildcard_of
+if_ok : {A E : Type 0} (r : Result A E) (P Q : A → Type 0) → ((x : A) → P x → Q x) → IfOk r P → IfOk r Q
+if_ok (Ok x) P Q f p = f x p
+if_ok (Err e) P Q f p = p
 
-pub search-requires : goal.search-requires
-search-requires c =
-    let e : length c.deref_mut.result.now ≡ length c.pattern.inside.wildcards =
-    tests _ c.as_slice-wildcards.result.now (c.deref_mut.ensures.value ∙ c.in_ok-testers.ensures) ∙ ap length c.as_slice-wildcards.ensures in
-    record {
-      utf8 = c.as_str-2.utf8;
-      numbered = rw (c.as_slice-pieces.ensures, c.new-values.ensures.len, e) c.pattern.invariant;
-      serves = serves_new (parts_of c.as_slice-pieces.result.now) _ _ _ _ c.new-vain.ensures;
-    }
+pub fits_search-requires : goal.fits_search-requires
+fits_search-requires c = rw (c.as_slice-pieces.ensures, c.as_slice-wildcards.ensures) c.pattern.invariant.numbered
 
-pub pairs-requires : goal.pairs-requires
-pairs-requires c =
-    let e = tests _ c.as_slice-wildcards.result.now (c.deref_mut.ensures.value ∙ c.in_ok-testers.ensures) in
-    let k = counted c.in_ok-search.field-0 _ _ _ _ _ c.if-not-branch.false (ap now_of c.new-values.ensures.items) c.in_ok-search.ensures.found in
-    sym e ∙ sym k ∙ length-map c.search.new.values.items (λ (b : Bor (List ℕ)). b.now) ∙ sym (ap length c.deref.ensures.value)
+pub returns-then-is_empty-clause-bound : goal.returns-then-is_empty-clause-bound
+returns-then-is_empty-clause-bound c =
+    let none : c.pattern.inside.wildcards ≡ [] = sym c.as_slice-wildcards.ensures ∙ no_items c.as_slice-wildcards.result.now (sym c.is_empty.ensures ∙ c.if-is_empty.true) in
+    rw (← c.pattern.view_is, ← c.as_str-path.ensures.text)
+    (bound_of c.pattern.inside.pieces c.pattern.inside.wildcards c.as_str-path.result.now c.fits_text.result c.pattern.invariant c.as_str-path.utf8
+        (rw (none, ← c.as_slice-pieces.ensures) c.fits_text.ensures))
+
+pub returns-then-not-may_fit-clause-bound : goal.returns-then-not-may_fit-clause-bound
+returns-then-not-may_fit-clause-bound c =
+    rw (← c.pattern.view_is, ← c.as_str-path.ensures.text)
+    (bound_of c.pattern.inside.pieces c.pattern.inside.wildcards c.as_str-path.result.now None c.pattern.invariant c.as_str-path.utf8
+        (rw (← c.as_slice-pieces.ensures, ← c.as_slice-wildcards.ensures) (c.if-not-may_fit.ensures refl)))
+
+pub returns-clause-bound : goal.returns-clause-bound
+returns-clause-bound c =
+    rw (← c.pattern.view_is, ← c.as_str-path.ensures.text)
+    (if_ok c.fits_search.result _ _
+        (λ found m. bound_of c.pattern.inside.pieces c.pattern.inside.wildcards c.as_str-path.result.now found c.pattern.invariant c.as_str-path.utf8
+            (rw (← c.as_slice-pieces.ensures, ← c.as_slice-wildcards.ensures) m))
+        c.fits_search.ensures)

@@ -12,7 +12,7 @@ use Rattle.smk_pattern.specs.Splitting.{written_of, all_written}
 use Rattle.smk_pattern.specs.Written.{wildcard_in}
 use Rattle.smk_pattern.proofs.WrittenBy.{too_few, too_many}
 use Rattle.smk_pattern.proofs.Names.{numbered_all}
-use Rattle.smk_pattern.proofs.pattern.Pattern.read.Goals as goal
+use Rattle.smk_pattern.proofs.reading.read_written.Goals as goal
 
 pub returns-then-is_empty-clause-bad_pattern : goal.returns-then-is_empty-clause-bad_pattern
 returns-then-is_empty-clause-bad_pattern c = λ _.
@@ -40,17 +40,20 @@ invariant_of-result c =
     let text = c.args.text.now in
     let p = rw c.in-Some.is at c.in_ok-written.ensures in
     let names = c.in_ok-names.ensures ∙ ap names_in (ap all_written c.deref.ensures.value ∙ p.1) in
-    let parts = parts_by (names_in (pieces text)) _ _ (pieces text) _ c.in_ok-all_numbered.ensures (ap now_of c.deref-5.ensures.value ∙ names) (ap all_written c.deref-4.ensures.value ∙ p.1) in
-    let wild = wildcards_by c.args.limits.now _ (names_in (pieces text)) _ _ (pieces text) _ c.in_ok-wildcards_in.ensures.made c.as_slice.ensures (ap now_of c.deref-7.ensures.value ∙ names) (ap all_written c.deref-6.ensures.value ∙ p.1) in
-    numbered_by (pieces text) c.args.limits.now _ c.in_ok-wildcards_in.field-0 parts wild
+    let parts = parts_by (names_in (pieces text)) _ _ (pieces text) _ c.in_ok-all_numbered.ensures.pieces (ap now_of c.deref-5.ensures.value ∙ names) (ap all_written c.deref-4.ensures.value ∙ p.1) in
+    let wild = wildcards_by c.args.limits.now _ (names_in (pieces text)) _ _ (pieces text) _ c.in_ok-wildcards_in.ensures.made refl (ap now_of c.deref-7.ensures.value ∙ names) (ap all_written c.deref-6.ensures.value ∙ p.1) in
+    record {
+      numbered = numbered_by (pieces text) c.args.limits.now _ c.in_ok-wildcards_in.field-0 parts wild;
+      texts = c.in_ok-all_numbered.ensures.texts;
+    }
 
 pub returns-clause-shape : goal.returns-clause-shape
 returns-clause-shape c =
     let text = c.args.text.now in
     let p = rw c.in-Some.is at c.in_ok-written.ensures in
     let names = c.in_ok-names.ensures ∙ ap names_in (ap all_written c.deref.ensures.value ∙ p.1) in
-    let parts = parts_by (names_in (pieces text)) _ _ (pieces text) _ c.in_ok-all_numbered.ensures (ap now_of c.deref-5.ensures.value ∙ names) (ap all_written c.deref-4.ensures.value ∙ p.1) in
-    let wild = wildcards_by c.args.limits.now _ (names_in (pieces text)) _ _ (pieces text) _ c.in_ok-wildcards_in.ensures.made c.as_slice.ensures (ap now_of c.deref-7.ensures.value ∙ names) (ap all_written c.deref-6.ensures.value ∙ p.1) in
+    let parts = parts_by (names_in (pieces text)) _ _ (pieces text) _ c.in_ok-all_numbered.ensures.pieces (ap now_of c.deref-5.ensures.value ∙ names) (ap all_written c.deref-4.ensures.value ∙ p.1) in
+    let wild = wildcards_by c.args.limits.now _ (names_in (pieces text)) _ _ (pieces text) _ c.in_ok-wildcards_in.ensures.made refl (ap now_of c.deref-7.ensures.value ∙ names) (ap all_written c.deref-6.ensures.value ∙ p.1) in
     ap₂ (λ (ps : List Part) (ws : List Wildcard). let s : Shape = record { parts = ps; wildcards = ws } in s) parts wild
 
 pub returns-then-len-gt-MOST_PIECES-clause-bad_pattern : goal.returns-then-len-gt-MOST_PIECES-clause-bad_pattern

@@ -1,0 +1,57 @@
+-- The least length of a path that a pattern gives.
+use Rattle.std.proofs.Common.{◌≡◌, ℕ, zero, suc, ◌+◌, ◌<◌, ◌≤◌, List, [], ◌∷◌, ◌++◌, length, take, get_or, map, Option, None, Some, Bool, IsTrue, ◌↔◌, refl, sym, ap, subst, ◌∙◌, arith, length-append, true, nat_lt}
+use Rattle.std.proofs.lemmas.Bool.Decides.{nat_tests}
+use Rattle.std.proofs.lemmas.List.{append_cancel_left}
+use Rattle.smk_pattern.specs.declared.pattern.Piece.{Piece}
+use Rattle.smk_pattern.specs.declared.pattern.Piece.TheVariants.{Literal}
+use Rattle.smk_pattern.specs.declared.pattern.Wildcard as code
+use Rattle.smk_pattern.specs.Shapes.{Text, Part, Wildcard, Shape}
+use Rattle.smk_pattern.specs.Fitting.{filled, part_text, AllSuit, Suits, Fits, IsBinding}
+use Rattle.smk_pattern.specs.Pieces.{part_of, parts_of, wildcard_of, limits_of, pattern_of}
+use Rattle.smk_pattern.proofs.Filled.{filled_more}
+
+-- a value meets the constraint of its wildcard
+suit_at : (ws : List code.Wildcard) (values : List Text) (n : ℕ) (d : code.Wildcard) → AllSuit (limits_of ws) values → n < length ws →
+    Suits (wildcard_of (get_or ws n d)).limit (get_or values n [])
+suit_at [] values n d s lt = absurd (omega (arith, lt))
+suit_at (w ∷ ws) [] n d s lt = absurd s
+suit_at (w ∷ ws) (v ∷ vs) zero d s lt = s.1
+suit_at (w ∷ ws) (v ∷ vs) (suc n) d s lt = suit_at ws vs n d s.2 (omega (arith, lt))
+
+pub suit_of : (ws : List code.Wildcard) (values : List Text) (n : ℕ) (w : code.Wildcard) → AllSuit (limits_of ws) values → true ≡ nat_lt n (length ws) → w ≡ get_or ws n w →
+    Suits (wildcard_of w).limit (get_or values n [])
+suit_of ws values n w s lt e = subst (λ (x : code.Wildcard). Suits (wildcard_of x).limit (get_or values n [])) (sym e) (suit_at ws values n w s (less n (length ws) lt))
+  where
+    less : (m n : ℕ) → true ≡ nat_lt m n → m < n
+    less m n h = grind (arith, nat_tests)
+
+-- one more piece
+pub least_more : (pieces : List Piece) (i : ℕ) (d : Piece) (values : List Text) (least part next : ℕ) → i < length pieces → next ≤ least + part → d ≡ get_or pieces i d →
+    least ≤ length (filled (parts_of (take i pieces)) values) → part ≤ length (part_text values (part_of d)) →
+    next ≤ length (filled (parts_of (take (i + 1) pieces)) values)
+least_more pieces i d values least part next lt sum is front here =
+    let same = ap (λ (p : Piece). length (part_text values (part_of p))) is in
+    let e = ap length (filled_more pieces i values d lt) ∙ length-append (filled (parts_of (take i pieces)) values) (part_text values (part_of (get_or pieces i d))) in
+    omega (arith, e, same, sum, front, here)
+
+-- ---- patterns without wildcards
+
+no_values : (values : List Text) → AllSuit [] values → values ≡ []
+no_values [] s = refl
+no_values (v ∷ vs) s = absurd s
+
+-- what follows a text
+pub text_rest : (pieces later : List Piece) (piece : Piece) (t after path : Text) (same : Bool) → pieces ≡ piece ∷ later → piece ≡ Literal t → path ≡ t ++ after →
+    IsTrue same ↔ (filled (parts_of later) [] ≡ after) → IsTrue same ↔ (filled (parts_of pieces) [] ≡ path)
+text_rest pieces later piece t after path same e f g k =
+    rw (e, f, g) (λ h. ap (λ x. t ++ x) (k.0 h), λ h. k.1 (append_cancel_left t (filled (parts_of later) []) after h))
+
+-- only the pieces' own text fits
+pub text_alone : (pieces : List Piece) (path : Text) (values : List Text) → Fits (pattern_of pieces []) path values → filled (parts_of pieces) [] ≡ path
+text_alone pieces path values f = sym (ap (filled (parts_of pieces)) (no_values values f.suit)) ∙ f.fills
+
+pub text_binds : (pieces : List Piece) (path : Text) → filled (parts_of pieces) [] ≡ path → IsBinding (pattern_of pieces []) path []
+text_binds pieces path e = record {
+  fits = record { fills = e; suit = tt };
+  longest = λ others f n same. subst (λ (xs : List Text). length (get_or xs n []) ≤ 0) (sym (no_values others f.suit)) (omega arith);
+}

@@ -1,0 +1,10 @@
+use Rattle.std.proofs.Common.{arith}
+use Rattle.std.proofs.lemmas.Grind.{common_steps}
+use Rattle.smk_pattern.proofs.PartTexts.{texts_push}
+use Rattle.smk_pattern.proofs.reading.all_numbered.Goals as goal
+
+pub loop-piece-preserved : goal.loop-piece-preserved
+loop-piece-preserved c = record {
+  pieces = grind (arith, common_steps);
+  texts = texts_push _ _ _ c.in_ok-push.ensures.ok c.loop-piece.invariant.texts c.in_ok-numbered.ensures.texts;
+}
