@@ -1,15 +1,15 @@
 -- When rules and clauses make a workflow, and otherwise which fault is told.
 --
 -- Rules are looked at in order, each by the same checks in the same order; then the clauses. The first thing that is wrong is the fault.
-use Rattle.std.specs.Prelude.{◌≡◌, ◌⊎◌, Bool, true, false, ◌&&◌, ◌||◌, not, List, [], ◌∷◌, ◌++◌, map, filter, length, bytes_eq, nat_eq, if◌then◌else◌, Option, Some, None, option_map, is_none, ℕ, ◌==◌, nat_lt, codes}
+use Rattle.std.specs.Prelude.{◌≡◌, ◌⊎◌, Bool, true, false, ◌&&◌, ◌||◌, not, List, [], ◌∷◌, ◌++◌, map, filter, length, bytes_eq, nat_eq, if◌then◌else◌, Option, Some, None, option_map, ℕ, ◌==◌, nat_lt, codes}
 use Rattle.std.specs.List.{list_any, list_all, flat_map}
 use Rattle.std.specs.Int.{is_in_range}
 use Rattle.smk_base.specs.declared.tree.Pair.{Pair}
 use Rattle.smk_world.specs.declared.recipe.Values.{Values}
 use Rattle.smk_pattern.specs.Shapes.{Text}
-use Rattle.smk_pattern.specs.Grammar.{Piece, plain, hole, is_name, is_letter}
+use Rattle.smk_pattern.specs.Grammar.{is_name, is_letter}
 use Rattle.smk_pattern.specs.Reading.{pieces, names_in}
-use Rattle.smk_pattern.specs.Written.{is_written, IsBadLimit, AreLimits}
+use Rattle.smk_pattern.specs.Written.{is_written, is_bare, IsBadLimit, AreLimits}
 use Rattle.smk_flow.specs.declared.rule.RulePart.{RulePart}
 use Rattle.smk_flow.specs.declared.rule.InPart.{InPart}
 use Rattle.smk_flow.specs.declared.rule.GatherPart.{GatherPart}
@@ -51,10 +51,6 @@ out_texts part = map (λ (o : FlaggedText). o.text) (outs part)
 -- all of them in order: of the outputs, of the logs, of the inputs
 abbrev pub texts_of : RulePart → List Written
 texts_of part = map limited (out_texts part) ++ (map bare part.logs ++ flat_map in_texts part.inputs)
-
-abbrev pub is_bare : Piece → Bool
-is_bare (plain t) = true
-is_bare (hole name limit) = is_none limit
 
 -- The text is read as a pattern, and its constraints by `regex`.
 abbrev pub IsRead : List Pair → Written → Type 0

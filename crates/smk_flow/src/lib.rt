@@ -2,7 +2,9 @@
 #![tactic(auto)]
 
 mod fault;
+mod faults;
 mod job;
+mod reading;
 mod rule;
 mod workflow;
 

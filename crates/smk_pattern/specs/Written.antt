@@ -1,5 +1,5 @@
 -- Whether a text is written as a pattern, computed from its pieces.
-use Rattle.std.specs.Prelude.{◌≡◌, ℕ, Bool, true, List, [], ◌∷◌, ◌++◌, ◌&&◌, ◌||◌, ◌==◌, length, nat_le, if◌then◌else◌, Some, slice_get}
+use Rattle.std.specs.Prelude.{◌≡◌, ℕ, Bool, true, List, [], ◌∷◌, ◌++◌, ◌&&◌, ◌||◌, ◌==◌, length, nat_le, if◌then◌else◌, Some, is_none, slice_get}
 use Rattle.std.specs.List.{list_all}
 use Rattle.smk_base.specs.declared.tree.Pair.{Pair}
 use Rattle.smk_base.specs.Path.{is_path}
@@ -23,6 +23,11 @@ are_written ps = list_all is_named ps && (list_all (is_single ps) (names_in ps) 
 -- the text is written as a pattern; without wildcards it is a path
 abbrev pub is_written : Text → Bool
 is_written t = is_balanced 0 t && (are_written (pieces t) && (has_wildcards t || is_path t))
+
+-- no constraint stands in the piece
+abbrev pub is_bare : Piece → Bool
+is_bare (plain t) = true
+is_bare (hole name limit) = is_none limit
 
 -- the names, where the piece's is one of them
 abbrev pub with_name : Piece → List Text → List Text
@@ -53,4 +58,4 @@ ReadingIsGrammar =
     (given : List Pair) (source : Text) →
     (is_written source ≡ true → AreLimits given (pieces source) (names_in (pieces source)) → IsPattern given source is_path (shape_of given source))
     × ((p : Shape) → IsPattern given source is_path p →
-        (is_written source ≡ true) × AreLimits given (pieces source) (names_in (pieces source)) × (p ≡ shape_of given source))
+    (is_written source ≡ true) × AreLimits given (pieces source) (names_in (pieces source)) × (p ≡ shape_of given source))

@@ -6,6 +6,7 @@ mod fitting;
 mod laws;
 mod limit;
 mod limits;
+mod naming;
 mod pattern;
 mod reading;
 mod search;
@@ -17,6 +18,7 @@ pub use filling::fill;
 pub use fitting::fits;
 pub use laws::{bound_is_binding, reading_is_grammar};
 pub use limits::Limits;
+pub use naming::{has_no_constraint, wildcard_names};
 pub use pattern::{Binding, FillFault, Pattern, PatternFault};
 
 #[cfg(test)]

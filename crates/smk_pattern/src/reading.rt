@@ -170,7 +170,10 @@ fn add_name<'t>(names: &mut Vec<&'t str>, piece: &Written<'t>) -> Result<(), Out
 }
 
 // The names, each where it first stands.
-fn names_in<'t>(alloc: Global, written: &[Written<'t>]) -> Result<Vec<&'t str>, OutOfMemory>
+pub(crate) fn names_in<'t>(
+    alloc: Global,
+    written: &[Written<'t>],
+) -> Result<Vec<&'t str>, OutOfMemory>
     ensures { IfOk result (λ names. now_of names.items ≡ names_in (all_written written.now)) }
 {
     let mut names = Vec::new(alloc);
