@@ -1,1 +1,4 @@
 pub mod Examples
+pub mod Bare
+pub mod TextsRead
+pub mod NamesAdded

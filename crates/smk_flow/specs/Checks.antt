@@ -1,13 +1,13 @@
 -- When rules and clauses make a workflow, and otherwise which fault is told.
 --
 -- Rules are looked at in order, each by the same checks in the same order; then the clauses. The first thing that is wrong is the fault.
-use Rattle.std.specs.Prelude.{◌≡◌, ◌⊎◌, Bool, true, false, ◌&&◌, ◌||◌, not, List, [], ◌∷◌, ◌++◌, map, filter, length, bytes_eq, nat_eq, if◌then◌else◌, Option, Some, None, option_map, ℕ, ◌==◌, nat_lt, codes}
-use Rattle.std.specs.List.{list_any, list_all, flat_map}
+use Rattle.std.specs.Prelude.{◌≡◌, ◌⊎◌, Bool, true, false, ◌&&◌, ◌||◌, not, List, [], ◌∷◌, ◌++◌, map, filter, length, bytes_eq, nat_eq, if◌then◌else◌, Option, Some, None, option_map, is_some, is_none, ℕ, ◌==◌, nat_lt, codes}
+use Rattle.std.specs.List.{list_any, list_all, flat_map, find}
 use Rattle.std.specs.Int.{is_in_range}
 use Rattle.smk_base.specs.declared.tree.Pair.{Pair}
 use Rattle.smk_world.specs.declared.recipe.Values.{Values}
 use Rattle.smk_pattern.specs.Shapes.{Text}
-use Rattle.smk_pattern.specs.Grammar.{is_name, is_letter}
+use Rattle.smk_pattern.specs.Grammar.{is_name, is_letter, is_balanced}
 use Rattle.smk_pattern.specs.Reading.{pieces, names_in}
 use Rattle.smk_pattern.specs.Written.{is_written, is_bare, IsBadLimit, AreLimits}
 use Rattle.smk_flow.specs.declared.rule.RulePart.{RulePart}
@@ -25,9 +25,9 @@ has names name = list_any (bytes_eq name) names
 
 -- ## The texts of a rule
 
--- the names that stand in a text, each once
+-- the names that stand in a text, each once; none where its braces aren't balanced
 abbrev pub names_of : Text → List Text
-names_of t = names_in (pieces t)
+names_of t = if is_balanced 0 t then names_in (pieces t) else []
 
 abbrev pub or_nothing : Option GatherPart → List GatherPart
 or_nothing None = []
@@ -54,14 +54,14 @@ texts_of part = map limited (out_texts part) ++ (map bare part.logs ++ flat_map 
 
 -- The text is read as a pattern, and its constraints by `regex`.
 abbrev pub IsRead : List Pair → Written → Type 0
-IsRead limits (limited t) = (is_written t ≡ true) × AreLimits limits (pieces t) (names_of t)
+IsRead limits (limited t) = (is_written t ≡ true) × AreLimits limits (pieces t) (names_in (pieces t))
 IsRead limits (bare t) = (is_written t && list_all is_bare (pieces t)) ≡ true
 
 -- It isn't, and this is the fault.
 abbrev pub IsUnread : RulePart → Written → FlowFault → Type 0
 IsUnread part (limited t) fault =
     ((is_written t ≡ false) × (fault ≡ FlowFault.BadPattern part.file part.line t))
-    ⊎ ((name : Text) × (is_written t ≡ true) × IsBadLimit part.limits (pieces t) (names_of t) name
+    ⊎ ((name : Text) × (is_written t ≡ true) × IsBadLimit part.limits (pieces t) (names_in (pieces t)) name
     × (fault ≡ FlowFault.BadConstraint part.file part.line name))
 IsUnread part (bare t) fault =
     ((is_written t && list_all is_bare (pieces t)) ≡ false) × (fault ≡ FlowFault.BadPattern part.file part.line t)
@@ -82,15 +82,16 @@ AreUnread part (w ∷ ws) fault = IsUnread part w fault ⊎ (IsRead part.limits 
 abbrev pub are_same : List Text → List Text → Bool
 are_same a b = list_all (has b) a && list_all (has a) b
 
-abbrev pub are_all_same : List Text → Bool
-are_all_same [] = true
-are_all_same (t ∷ ts) = list_all (λ u. are_same (names_of t) (names_of u)) ts
-
--- the wildcards of a rule: those of its outputs, which all have the same ones
+-- the names of the first of these texts
 abbrev pub wildcards_of : List Text → List Text
 wildcards_of [] = []
 wildcards_of (t ∷ ts) = names_of t
 
+-- each of them has the names of the first
+abbrev pub are_all_same : List Text → Bool
+are_all_same ts = list_all (λ t. are_same (wildcards_of ts) (names_of t)) ts
+
+-- the wildcards of a rule: those of its outputs, which all have the same ones
 abbrev pub wildcards : RulePart → List Text
 wildcards part = wildcards_of (out_texts part)
 
@@ -98,10 +99,13 @@ wildcards part = wildcards_of (out_texts part)
 abbrev pub unknown_in : List Text → List Text → List Text
 unknown_in known names = filter (λ name. not (has known name)) names
 
+-- in what is wanted, beside the names of what is listed
+abbrev pub wanted_unknown : List Text → Option GatherPart → List Text
+wanted_unknown known None = []
+wanted_unknown known (Some g) = unknown_in (names_of g.listed ++ known) (names_of g.wanted)
+
 abbrev pub input_unknown : List Text → InPart → List Text
-input_unknown known i =
-    flat_map (λ t. unknown_in known (names_of t)) i.texts
-    ++ flat_map (λ (g : GatherPart). unknown_in (known ++ names_of g.listed) (names_of g.wanted)) (or_nothing i.gather)
+input_unknown known i = flat_map (λ t. unknown_in known (names_of t)) i.texts ++ wanted_unknown known i.gather
 
 -- The names that stand in braces in a text that isn't read as a pattern; and, where this place is in a name that a brace closes, the
 -- rest of that name with the names behind it.
@@ -130,19 +134,30 @@ word_names t = (naming t).names
 abbrev pub words_unknown : List Text → Text → List Text
 words_unknown known t = unknown_in known (word_names t)
 
--- of the checkpoints that it gathers from
-abbrev pub checkpoint_unknown : List RulePart → List Text → GatherPart → List Text
-checkpoint_unknown above known g = unknown_in known (flat_map wildcards (filter (λ (r : RulePart). bytes_eq r.name g.checkpoint) above))
+-- the rule of this name among these
+abbrev pub rule_in : List RulePart → Text → Option RulePart
+rule_in rules name = find (λ (r : RulePart). bytes_eq r.name name) rules
 
--- the wildcards in a rule that its outputs don't have: in its logs, inputs, parameters, resources, and of its checkpoints
-abbrev pub unknown : List RulePart → RulePart → List Text
-unknown above part =
-    let known = wildcards part in
+abbrev pub wildcards_at : Option RulePart → List Text
+wildcards_at None = []
+wildcards_at (Some part) = wildcards part
+
+-- of the checkpoint that is gathered from; `above` gives the rules above by their names
+abbrev pub checkpoint_unknown : (Text → Option RulePart) → List Text → GatherPart → List Text
+checkpoint_unknown above known g = unknown_in known (wildcards_at (above g.checkpoint))
+
+-- the names in a rule's logs, inputs, parameters, resources, and of its checkpoints that aren't known
+abbrev pub unknown_beside : (Text → Option RulePart) → List Text → RulePart → List Text
+unknown_beside above known part =
     flat_map (λ t. unknown_in known (names_of t)) part.logs
     ++ (flat_map (input_unknown known) part.inputs
     ++ (flat_map (λ (v : Values). flat_map (words_unknown known) v.values) part.params
     ++ (flat_map (λ (w : Pair). words_unknown known w.value) part.words
     ++ flat_map (checkpoint_unknown above known) (gather_parts part))))
+
+-- the wildcards in a rule that its outputs don't have
+abbrev pub unknown : (Text → Option RulePart) → RulePart → List Text
+unknown above part = unknown_beside above (wildcards part) part
 
 -- ## Flags
 
@@ -170,22 +185,26 @@ is_bad_flag checkpoint before flag = list_any (excludes flag) before || (checkpo
 abbrev pub bad_flags : Bool → List Flag → List Flag → List Text
 bad_flags checkpoint before [] = []
 bad_flags checkpoint before (flag ∷ flags) =
-    (if is_bad_flag checkpoint before flag then flag_word flag ∷ [] else []) ++ bad_flags checkpoint (flag ∷ before) flags
+    (if is_bad_flag checkpoint before flag then flag_word flag ∷ [] else []) ++ bad_flags checkpoint (before ++ flag ∷ []) flags
 
 -- a checkpoint with one directory as its only directory output
-abbrev pub is_source_of : GatherPart → RulePart → Bool
-is_source_of g r = bytes_eq r.name g.checkpoint && (r.checkpoint && nat_eq (length (filter makes_folder (outs r))) 1)
+abbrev pub is_source : Option RulePart → Bool
+is_source None = false
+is_source (Some part) = part.checkpoint && nat_eq (length (filter makes_folder (outs part))) 1
 
 -- What is gathered comes from a checkpoint above, for a rule with outputs, and what it lists has wildcards of its own.
-abbrev pub is_gather : List RulePart → RulePart → GatherPart → Bool
+abbrev pub is_gather : (Text → Option RulePart) → RulePart → GatherPart → Bool
 is_gather above part g =
-    nat_lt 0 (length (outs part)) && (list_any (is_source_of g) above && not (list_any (has (wildcards part)) (names_of g.listed)))
+    nat_lt 0 (length (outs part)) && (is_source (above g.checkpoint) && not (list_any (has (wildcards part)) (names_of g.listed)))
+
+-- the word for what is gathered otherwise
+abbrev pub bad_gather : (Text → Option RulePart) → RulePart → GatherPart → List Text
+bad_gather above part g = if is_gather above part g then [] else codes "from_checkpoint" ∷ []
 
 -- the words of flags and gathers that don't stand where they are
-abbrev pub bad_words : List RulePart → RulePart → List Text
+abbrev pub bad_words : (Text → Option RulePart) → RulePart → List Text
 bad_words above part =
-    flat_map (λ (o : FlaggedText). bad_flags part.checkpoint [] o.flags) (outs part)
-    ++ flat_map (λ g. if is_gather above part g then [] else codes "from_checkpoint" ∷ []) (gather_parts part)
+    flat_map (λ (o : FlaggedText). bad_flags part.checkpoint [] o.flags) (outs part) ++ flat_map (bad_gather above part) (gather_parts part)
 
 -- ## A rule
 
@@ -197,58 +216,60 @@ abbrev pub or_else : Option FlowFault → Option FlowFault → Option FlowFault
 or_else None later = later
 or_else (Some fault) later = Some fault
 
-abbrev pub is_doubled : List RulePart → RulePart → Bool
-is_doubled above part = list_any (λ (r : RulePart). bytes_eq r.name part.name) above
-
 -- what is wrong with a rule whose texts are read
-abbrev pub rule_fault : List RulePart → RulePart → Option FlowFault
+abbrev pub rule_fault : (Text → Option RulePart) → RulePart → Option FlowFault
 rule_fault above part =
     or_else (if are_all_same (out_texts part ++ part.logs) then None else Some (FlowFault.UnequalWildcards part.file part.line part.name))
     (or_else (first_as (FlowFault.UnknownWildcard part.file part.line part.name) (unknown above part))
     (first_as (FlowFault.BadFlag part.file part.line part.name) (bad_words above part)))
 
 -- a rule passes after these
-pub record Passes (above : List RulePart) (part : RulePart) : Type 0 where
-  pub name : is_doubled above part ≡ false
+pub record Passes (above : Text → Option RulePart) (part : RulePart) : Type 0 where
+  pub name : above part.name ≡ None
   pub texts : AreRead part.limits (texts_of part)
   pub checks : rule_fault above part ≡ None
 
 -- a rule doesn't pass, and this is its first fault
-abbrev pub Fails : List RulePart → RulePart → FlowFault → Type 0
-Fails above part fault =
-    ((is_doubled above part ≡ true) × (fault ≡ FlowFault.DoubledRule part.file part.line part.name))
-    ⊎ ((is_doubled above part ≡ false) × AreUnread part (texts_of part) fault)
-    ⊎ ((is_doubled above part ≡ false) × AreRead part.limits (texts_of part) × (rule_fault above part ≡ Some fault))
+pub data Fails (above : Text → Option RulePart) (part : RulePart) (fault : FlowFault) : Type 0 where
+  doubled : is_some (above part.name) ≡ true → fault ≡ FlowFault.DoubledRule part.file part.line part.name → Fails above part fault
+  unread : above part.name ≡ None → AreUnread part (texts_of part) fault → Fails above part fault
+  wrong : above part.name ≡ None → AreRead part.limits (texts_of part) → rule_fault above part ≡ Some fault → Fails above part fault
 
 -- all of these rules pass, the ones above first
 abbrev pub AllPass : List RulePart → List RulePart → Type 0
 AllPass above [] = Unit {0}
-AllPass above (part ∷ parts) = Passes above part × AllPass (above ++ part ∷ []) parts
+AllPass above (part ∷ parts) = Passes (rule_in above) part × AllPass (above ++ part ∷ []) parts
 
 -- the first of these rules that doesn't pass gives the fault
 abbrev pub OneFails : List RulePart → List RulePart → FlowFault → Type 0
 OneFails above [] fault = ⊥
-OneFails above (part ∷ parts) fault = Fails above part fault ⊎ (Passes above part × OneFails (above ++ part ∷ []) parts fault)
+OneFails above (part ∷ parts) fault = Fails (rule_in above) part fault ⊎ (Passes (rule_in above) part × OneFails (above ++ part ∷ []) parts fault)
 
 -- ## Clauses
 
+-- those of these names that are no rule's
+abbrev pub strangers : (Text → Option RulePart) → List Text → List Text
+strangers rules names = filter (λ name. is_none (rules name)) names
+
 -- the first name in these clauses that is no rule's
-abbrev pub stranger_in : List RulePart → Clause → Option FlowFault
-stranger_in rules c = first_as (FlowFault.UnknownName c.file c.line) (filter (λ name. not (list_any (λ (r : RulePart). bytes_eq r.name name) rules)) c.names)
-
-abbrev pub stranger : List RulePart → List Clause → Option FlowFault
+abbrev pub stranger : (Text → Option RulePart) → List Clause → Option FlowFault
 stranger rules [] = None
-stranger rules (c ∷ cs) = or_else (stranger_in rules c) (stranger rules cs)
+stranger rules (c ∷ cs) = or_else (first_as (FlowFault.UnknownName c.file c.line) (strangers rules c.names)) (stranger rules cs)
 
--- a clause has the one name before the other, or has it twice
+-- the second of two names stands after the first place of the first
 abbrev pub has_before : Text → Text → List Text → Bool
 has_before a b [] = false
-has_before a b (name ∷ names) = (bytes_eq a name && has names b) || has_before a b names
+has_before a b (name ∷ names) = if bytes_eq a name then has names b else has_before a b names
 
--- With a name, the first of those before it in its clause that may not stand before it: the name itself, or one that a clause has after it.
+-- The first may not stand before the second: it is the same name, or a clause has it after the second.
+abbrev pub is_against : List Clause → Text → Text → Bool
+is_against orders b a = bytes_eq a b || list_any (λ (c : Clause). has_before b a c.names) orders
+
+-- with a name, the ones before it in its clause that may not stand before it
 abbrev pub against : List Clause → List Text → Text → List Text
-against orders before b = filter (λ a. bytes_eq a b || list_any (λ (c : Clause). has_before b a c.names) orders) before
+against orders before b = filter (is_against orders b) before
 
+-- the first of these names, each with those before it in its clause, that contradicts a clause
 abbrev pub contradiction_in : List Clause → List Text → List Text → Option FlowFault
 contradiction_in orders before [] = None
 contradiction_in orders before (b ∷ names) =
@@ -263,10 +284,10 @@ contradiction orders (c ∷ cs) = or_else (contradiction_in orders [] c.names) (
 -- nothing is wrong with the rules and the clauses
 pub record IsWorkflow (rules : List RulePart) (orders : List Clause) : Type 0 where
   pub rules_pass : AllPass [] rules
-  pub known : stranger rules orders ≡ None
+  pub known : stranger (rule_in rules) orders ≡ None
   pub settled : contradiction orders orders ≡ None
 
 -- something is, and this is the first fault
 abbrev pub IsFault : List RulePart → List Clause → FlowFault → Type 0
 IsFault rules orders fault =
-    OneFails [] rules fault ⊎ (AllPass [] rules × (or_else (stranger rules orders) (contradiction orders orders) ≡ Some fault))
+    OneFails [] rules fault ⊎ (AllPass [] rules × (or_else (stranger (rule_in rules) orders) (contradiction orders orders) ≡ Some fault))

@@ -1,2 +1,4 @@
 pub mod Flows
 pub mod Checks
+pub mod Named
+pub mod Lent

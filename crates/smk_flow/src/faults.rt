@@ -4,7 +4,7 @@ ghost use Rattle.std.specs.Prelude.{◌≡◌, IfOk};
 ghost use Rattle.smk_flow.specs.declared.fault.FlowFault.{FlowFault};
 
 use crate::fault::FlowFault;
-use crate::rule::RulePart;
+use crate::rule::{Clause, RulePart};
 use smk_base::{OutOfMemory, PathText, Text};
 use std::alloc::{AllocFailed, Global};
 
@@ -49,14 +49,14 @@ pub(crate) fn doubled_rule(alloc: Global, part: &RulePart) -> Result<FlowFault, 
 pub(crate) fn bad_pattern(
     alloc: Global,
     part: &RulePart,
-    text: &Text,
+    text: &str,
 ) -> Result<FlowFault, OutOfMemory>
     ensures { IfOk result (λ fault. fault ≡ FlowFault.BadPattern part.now.file part.now.line text.now) }
 {
     Ok(FlowFault::BadPattern {
         file: file_text(alloc, &part.file)?,
         line: part.line,
-        text: text.copy(alloc)?,
+        text: Text::of(alloc, text)?,
     })
 }
 
@@ -107,5 +107,32 @@ pub(crate) fn bad_flag(alloc: Global, part: &RulePart, word: &str) -> Result<Flo
         line: part.line,
         rule: part.name.copy(alloc)?,
         word: Text::of(alloc, word)?,
+    })
+}
+
+pub(crate) fn unknown_name(
+    alloc: Global,
+    clause: &Clause,
+    name: &Text,
+) -> Result<FlowFault, OutOfMemory>
+    ensures { IfOk result (λ fault. fault ≡ FlowFault.UnknownName clause.now.file clause.now.line name.now) }
+{
+    Ok(FlowFault::UnknownName {
+        file: file_text(alloc, &clause.file)?,
+        line: clause.line,
+        name: name.copy(alloc)?,
+    })
+}
+
+pub(crate) fn contradictory_order(
+    alloc: Global,
+    a: &Text,
+    b: &Text,
+) -> Result<FlowFault, OutOfMemory>
+    ensures { IfOk result (λ fault. fault ≡ FlowFault.ContradictoryOrder a.now b.now) }
+{
+    Ok(FlowFault::ContradictoryOrder {
+        a: a.copy(alloc)?,
+        b: b.copy(alloc)?,
     })
 }

@@ -3,9 +3,16 @@
 
 mod fault;
 mod faults;
+mod flags;
 mod job;
+mod named;
+mod names;
+mod orders;
 mod reading;
 mod rule;
+mod texts;
+mod unknown;
+mod words;
 mod workflow;
 
 pub use fault::{FlowFault, JobFault};

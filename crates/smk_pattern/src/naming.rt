@@ -1,6 +1,6 @@
 //! The names that stand in a text.
 
-ghost use Rattle.std.specs.Prelude.{◌≡◌, IfOk, not, true};
+ghost use Rattle.std.specs.Prelude.{◌≡◌, [], IfOk, true, if◌then◌else◌};
 ghost use Rattle.std.specs.List.{list_all};
 ghost use Rattle.smk_pattern.specs.Grammar.{is_balanced};
 ghost use Rattle.smk_pattern.specs.Reading.{names_in, pieces};
@@ -13,10 +13,10 @@ use crate::splitting::{Written, split};
 use smk_base::OutOfMemory;
 use std::alloc::Global;
 
-/// The names of the wildcards in a text, each where it first stands. Of a text whose braces aren't balanced nothing is said.
-/// `OutOfMemory` where there is no memory for the list.
+/// The names of the wildcards in a text, each where it first stands; none of a text whose braces aren't balanced. `OutOfMemory` where
+/// there is no memory for the list.
 pub fn wildcard_names<'t>(alloc: Global, text: &'t str) -> Result<Vec<&'t str>, OutOfMemory>
-    ensures { IfOk result (λ names. is_balanced 0 text.now ≡ true → now_of names.items ≡ names_in (pieces text.now)) }
+    ensures { IfOk result (λ names. now_of names.items ≡ (if is_balanced 0 text.now then names_in (pieces text.now) else [])) }
 {
     match split(alloc, text)? {
         Some(written) => names_in(alloc, &written),
