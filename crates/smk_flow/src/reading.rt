@@ -148,3 +148,59 @@ fn read_inputs(
     }
     Ok(())
 }
+
+/// The patterns of a rule's outputs and of its logs.
+#[derive(Debug, Drop)]
+pub(crate) struct Patterns {
+    pub(crate) outputs: List<Pattern>,
+    pub(crate) logs: List<Pattern>,
+}
+
+// Reads the texts of the outputs.
+fn read_outputs(
+    alloc: Global,
+    part: &RulePart,
+    shared: &mut Limits,
+) -> Result<List<Pattern>, FlowFault>
+    ensures shapes { IfOk result (λ ps. ps ≡ map (shape_of part.now.limits) (out_texts part.now)) }
+    ensures read { OnOk result (AreRead part.now.limits (map limited (out_texts part.now))) }
+    ensures unread { IfErr result (λ f. f ≢ FlowFault.OutOfMemory → AreUnread part.now (map limited (out_texts part.now)) f) }
+{
+    let texts = out_texts(alloc, part)?;
+    read_all_limited(alloc, part, &texts, shared)
+}
+
+// Reads the texts of the logs.
+fn read_logs(
+    alloc: Global,
+    part: &RulePart,
+    shared: &mut Limits,
+) -> Result<List<Pattern>, FlowFault>
+    ensures shapes { IfOk result (λ ps. ps ≡ map (shape_of []) part.now.logs) }
+    ensures read { OnOk result (AreRead part.now.limits (map bare part.now.logs)) }
+    ensures unread { IfErr result (λ f. f ≢ FlowFault.OutOfMemory → AreUnread part.now (map bare part.now.logs) f) }
+{
+    let mut texts = Vec::new(alloc);
+    add_texts(&mut texts, part.logs.as_slice())?;
+    read_all_bare(alloc, part, &texts, shared)
+}
+
+/// Reads the texts of a rule: of its outputs, its logs and its inputs. The patterns of the inputs aren't kept.
+#[tactic(auto, using(crate::proofs::TextsRead::read_both, crate::proofs::TextsRead::unread_first, crate::proofs::TextsRead::unread_later))]
+pub(crate) fn read_texts(
+    alloc: Global,
+    part: &RulePart,
+    shared: &mut Limits,
+) -> Result<Patterns, FlowFault>
+    ensures outputs { IfOk result (λ ps. ps.outputs ≡ map (shape_of part.now.limits) (out_texts part.now)) }
+    ensures logs { IfOk result (λ ps. ps.logs ≡ map (shape_of []) part.now.logs) }
+    ensures read { OnOk result (AreRead part.now.limits (texts_of part.now)) }
+    ensures unread { IfErr result (λ f. f ≢ FlowFault.OutOfMemory → AreUnread part.now (texts_of part.now) f) }
+{
+    let outputs = read_outputs(alloc, part, shared)?;
+    let logs = read_logs(alloc, part, shared)?;
+    match read_inputs(alloc, part, part.inputs.as_slice(), shared) {
+        Ok(()) => Ok(Patterns { outputs, logs }),
+        Err(fault) => Err(fault),
+    }
+}
