@@ -2,3 +2,5 @@ pub mod Examples
 pub mod Bare
 pub mod TextsRead
 pub mod NamesAdded
+pub mod Braces
+pub mod RuleFaults

@@ -3,11 +3,10 @@
 -- Rules are looked at in order, each by the same checks in the same order; then the clauses. The first thing that is wrong is the fault.
 use Rattle.std.specs.Prelude.{◌≡◌, ◌⊎◌, Bool, true, false, ◌&&◌, ◌||◌, not, List, [], ◌∷◌, ◌++◌, map, filter, length, bytes_eq, nat_eq, if◌then◌else◌, Option, Some, None, option_map, is_some, is_none, ℕ, ◌==◌, nat_lt, codes}
 use Rattle.std.specs.List.{list_any, list_all, flat_map, find}
-use Rattle.std.specs.Int.{is_in_range}
 use Rattle.smk_base.specs.declared.tree.Pair.{Pair}
 use Rattle.smk_world.specs.declared.recipe.Values.{Values}
 use Rattle.smk_pattern.specs.Shapes.{Text}
-use Rattle.smk_pattern.specs.Grammar.{is_name, is_letter, is_balanced}
+use Rattle.smk_pattern.specs.Grammar.{is_name, is_balanced}
 use Rattle.smk_pattern.specs.Reading.{pieces, names_in}
 use Rattle.smk_pattern.specs.Written.{is_written, is_bare, IsBadLimit, AreLimits}
 use Rattle.smk_flow.specs.declared.rule.RulePart.{RulePart}
@@ -107,29 +106,22 @@ wanted_unknown known (Some g) = unknown_in (names_of g.listed ++ known) (names_o
 abbrev pub input_unknown : List Text → InPart → List Text
 input_unknown known i = flat_map (λ t. unknown_in known (names_of t)) i.texts ++ wanted_unknown known i.gather
 
--- The names that stand in braces in a text that isn't read as a pattern; and, where this place is in a name that a brace closes, the
--- rest of that name with the names behind it.
-pub record Named : Type 0 where
-  pub names : List Text
-  pub name : Option (Text × List Text)
+-- What stands behind the last brace that opens, after one more byte; nothing where a brace has closed since.
+abbrev pub begun_after : ℕ → Option Text → Option Text
+begun_after b begun = if b == 123 then Some [] else (if b == 125 then None else option_map (λ t. t ++ b ∷ []) begun)
 
-abbrev pub names_from : List Text → ℕ → Option (Text × List Text) → List Text
-names_from names b None = names
-names_from names b (Some closed) = if b == 123 && is_name closed.0 then closed.0 ∷ closed.1 else names
+-- the name that this byte ends
+abbrev pub closing : ℕ → Option Text → List Text
+closing b None = []
+closing b (Some t) = if b == 125 && is_name t then t ∷ [] else []
 
-abbrev pub longer : ℕ → List Text → Option (Text × List Text) → Option (Text × List Text)
-longer b names closed =
-    if b == 125 then Some ([], names)
-    else (if is_letter b || is_in_range 48 57 b then option_map (λ (c : Text × List Text). (b ∷ c.0, c.1)) closed else None)
+abbrev pub names_after : Text → Option Text → List Text
+names_after [] begun = []
+names_after (b ∷ t) begun = closing b begun ++ names_after t (begun_after b begun)
 
-abbrev pub naming : Text → Named
-naming [] = record { names = []; name = None }
-naming (b ∷ t) =
-    let later = naming t in
-    record { names = names_from later.names b later.name; name = longer b later.names later.name }
-
+-- the names that stand in braces in a text that isn't read as a pattern
 abbrev pub word_names : Text → List Text
-word_names t = (naming t).names
+word_names t = names_after t None
 
 abbrev pub words_unknown : List Text → Text → List Text
 words_unknown known t = unknown_in known (word_names t)
@@ -216,12 +208,21 @@ abbrev pub or_else : Option FlowFault → Option FlowFault → Option FlowFault
 or_else None later = later
 or_else (Some fault) later = Some fault
 
+-- the fault of a rule whose outputs and logs don't all have the same wildcards
+abbrev pub unequal : RulePart → Option FlowFault
+unequal part = if are_all_same (out_texts part ++ part.logs) then None else Some (FlowFault.UnequalWildcards part.file part.line part.name)
+
+-- the fault of a rule with a wildcard that its outputs don't have
+abbrev pub unknown_fault : (Text → Option RulePart) → RulePart → Option FlowFault
+unknown_fault above part = first_as (FlowFault.UnknownWildcard part.file part.line part.name) (unknown above part)
+
+-- the fault of a rule with a flag or a gather that doesn't stand where it is
+abbrev pub flag_fault : (Text → Option RulePart) → RulePart → Option FlowFault
+flag_fault above part = first_as (FlowFault.BadFlag part.file part.line part.name) (bad_words above part)
+
 -- what is wrong with a rule whose texts are read
 abbrev pub rule_fault : (Text → Option RulePart) → RulePart → Option FlowFault
-rule_fault above part =
-    or_else (if are_all_same (out_texts part ++ part.logs) then None else Some (FlowFault.UnequalWildcards part.file part.line part.name))
-    (or_else (first_as (FlowFault.UnknownWildcard part.file part.line part.name) (unknown above part))
-    (first_as (FlowFault.BadFlag part.file part.line part.name) (bad_words above part)))
+rule_fault above part = or_else (unequal part) (or_else (unknown_fault above part) (flag_fault above part))
 
 -- a rule passes after these
 pub record Passes (above : Text → Option RulePart) (part : RulePart) : Type 0 where

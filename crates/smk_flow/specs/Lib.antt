@@ -2,3 +2,4 @@ pub mod Flows
 pub mod Checks
 pub mod Named
 pub mod Lent
+pub mod Begun

@@ -1,6 +1,7 @@
 //! Workflows, and the jobs that their rules make.
 #![tactic(auto)]
 
+mod checks;
 mod fault;
 mod faults;
 mod flags;

@@ -1,0 +1,95 @@
+//! The checks of a rule.
+
+ghost use Rattle.std.specs.Prelude.{◌≡◌, ◌≢◌, ◌++◌, None, Some, IfOk, IfErr, OnOk};
+ghost use Rattle.smk_pattern.specs.Searching.{now_of};
+ghost use Rattle.smk_flow.specs.declared.fault.FlowFault.{FlowFault};
+ghost use Rattle.smk_flow.specs.Named.{rule_at};
+ghost use Rattle.smk_flow.specs.Checks.{out_texts, unequal, unknown_fault, flag_fault, rule_fault};
+
+use crate::fault::FlowFault;
+use crate::faults::{bad_flag, unequal_wildcards, unknown_wildcard};
+use crate::flags::bad_words;
+use crate::names::are_all_same;
+use crate::rule::RulePart;
+use crate::texts::{add_texts, out_texts};
+use crate::unknown::unknown;
+use smk_base::OutOfMemory;
+use std::alloc::Global;
+use std::collections::BTreeMap;
+
+// The texts of the outputs and of the logs.
+fn named_texts(alloc: Global, part: &RulePart) -> Result<Vec<&str>, OutOfMemory>
+    ensures { IfOk result (λ texts. now_of texts.items ≡ out_texts part.now ++ part.now.logs) }
+{
+    let mut texts = out_texts(alloc, part)?;
+    add_texts(&mut texts, part.logs.as_slice())?;
+    Ok(texts)
+}
+
+// Whether the outputs and logs all have the same wildcards.
+fn check_equal(alloc: Global, part: &RulePart) -> Result<(), FlowFault>
+    ensures ok { OnOk result (unequal part.now ≡ None) }
+    ensures fault { IfErr result (λ f. f ≢ FlowFault.OutOfMemory → unequal part.now ≡ Some f) }
+{
+    let texts = named_texts(alloc, part)?;
+    if !are_all_same(alloc, &texts)? {
+        return Err(unequal_wildcards(alloc, part)?);
+    }
+    Ok(())
+}
+
+// Looks for the first wildcard in the rule that its outputs don't have.
+fn check_unknown<'p>(
+    alloc: Global,
+    above: &BTreeMap<&'p str, &'p RulePart>,
+    part: &'p RulePart,
+) -> Result<(), FlowFault>
+    ensures ok { OnOk result (unknown_fault (rule_at above.now) part.now ≡ None) }
+    ensures fault { IfErr result (λ f. f ≢ FlowFault.OutOfMemory → unknown_fault (rule_at above.now) part.now ≡ Some f) }
+{
+    let names = unknown(alloc, above, part)?;
+    match names.as_slice() {
+        [] => Ok(()),
+        [name, ..] => Err(unknown_wildcard(alloc, part, name)?),
+    }
+}
+
+// Looks for the first flag or gather in the rule that doesn't stand where it is.
+fn check_words<'p>(
+    alloc: Global,
+    above: &BTreeMap<&'p str, &'p RulePart>,
+    part: &RulePart,
+) -> Result<(), FlowFault>
+    ensures ok { OnOk result (flag_fault (rule_at above.now) part.now ≡ None) }
+    ensures fault { IfErr result (λ f. f ≢ FlowFault.OutOfMemory → flag_fault (rule_at above.now) part.now ≡ Some f) }
+{
+    let words = bad_words(alloc, above, part)?;
+    match words.as_slice() {
+        [] => Ok(()),
+        [word, ..] => Err(bad_flag(alloc, part, word)?),
+    }
+}
+
+// Looks for what is wrong with a rule whose texts are read.
+#[tactic(auto, using(crate::proofs::RuleFaults::or_none, crate::proofs::RuleFaults::or_first, crate::proofs::RuleFaults::or_second, crate::proofs::RuleFaults::or_third))]
+fn check_names<'p>(
+    alloc: Global,
+    above: &BTreeMap<&'p str, &'p RulePart>,
+    part: &'p RulePart,
+) -> Result<(), FlowFault>
+    ensures ok { OnOk result (rule_fault (rule_at above.now) part.now ≡ None) }
+    ensures fault { IfErr result (λ f. f ≢ FlowFault.OutOfMemory → rule_fault (rule_at above.now) part.now ≡ Some f) }
+{
+    match check_equal(alloc, part) {
+        Ok(()) => {}
+        Err(fault) => return Err(fault),
+    }
+    match check_unknown(alloc, above, part) {
+        Ok(()) => {}
+        Err(fault) => return Err(fault),
+    }
+    match check_words(alloc, above, part) {
+        Ok(()) => Ok(()),
+        Err(fault) => Err(fault),
+    }
+}
