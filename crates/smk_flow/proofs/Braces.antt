@@ -1,21 +1,13 @@
 -- A text that is looked through for names in braces, one byte after another.
 use Rattle.std.proofs.Common.{◌≡◌, ℕ, ◌+◌, ◌-◌, ◌<◌, ◌≤◌, ◌==◌, List, [], ◌∷◌, ◌++◌, length, take, drop, get_or, Option, Some, None, option_map, cond, Bool, true, false, refl, sym, ap, subst, ◌∙◌, arith, append_assoc, IsCharBoundary, IsUtf8}
-use Rattle.std.proofs.lemmas.List.{at_drop_more, take_more, get_or-drop, length-drop}
+use Rattle.std.proofs.lemmas.List.{at_drop_more}
 use Rattle.std.proofs.lemmas.Bool.Decides.{nat_tests}
 use Rattle.std.proofs.lemmas.Str.{IsCharBoundary-after_ascii}
 use Rattle.smk_pattern.specs.Shapes.{Text}
 use Rattle.smk_pattern.specs.Splitting.{between}
+use Rattle.smk_pattern.proofs.Split.{between_more}
 use Rattle.smk_flow.specs.Begun.{begun_of, brace_after}
 use Rattle.smk_flow.specs.Checks.{begun_after, closing, names_after}
-
-one_more : (start at : ℕ) (t : Text) → start ≤ at → at < length t → between start (at + 1) t ≡ between start at t ++ get_or t at 0 ∷ []
-one_more start at t le lt =
-    let more : at - start < length (drop start t) = omega (arith, length-drop start t) in
-    let n : at + 1 - start ≡ at - start + 1 = omega arith in
-    let here : start + (at - start) ≡ at = omega arith in
-    ap (λ (k : ℕ). take k (drop start t)) n
-    ∙ take_more (drop start t) (at - start) 0 more
-    ∙ ap (λ (x : ℕ). between start at t ++ x ∷ []) (get_or-drop start t (at - start) 0 ∙ ap (λ (k : ℕ). get_or t k 0) here)
 
 begun_step : (t : Text) (at b : ℕ) (o : Option ℕ) → at < length t → get_or t at 0 ≡ b → ((s : ℕ) → o ≡ Some s → s < at) →
     begun_after b (begun_of t at o) ≡ begun_of t (at + 1) (brace_after b at o)
@@ -29,7 +21,7 @@ begun_step t at b o lt e h = go (b == 123) (b == 125) o h
     go false false (Some s) h =
         let le = h s refl in
         let w : s + 1 ≤ at = omega (arith, le) in
-        ap (λ (u : Text). Some u) (sym (one_more (s + 1) at t w lt ∙ ap (λ (x : ℕ). between (s + 1) at t ++ x ∷ []) e))
+        ap (λ (u : Text). Some u) (sym (between_more (s + 1) at t w lt ∙ ap (λ (x : ℕ). between (s + 1) at t ++ x ∷ []) e))
 
 pub names_step : (names more w : List Text) (t : Text) (at b : ℕ) (o : Option ℕ) → at < length t → get_or t at 0 ≡ b → ((s : ℕ) → o ≡ Some s → s < at) →
     more ≡ names ++ closing b (begun_of t at o) → names ++ names_after (drop at t) (begun_of t at o) ≡ w →

@@ -4,3 +4,4 @@ pub mod TextsRead
 pub mod NamesAdded
 pub mod Braces
 pub mod RuleFaults
+pub mod RulesByName

@@ -226,15 +226,15 @@ rule_fault above part = or_else (unequal part) (or_else (unknown_fault above par
 
 -- a rule passes after these
 pub record Passes (above : Text → Option RulePart) (part : RulePart) : Type 0 where
-  pub name : above part.name ≡ None
+  pub name : is_some (above part.name) ≡ false
   pub texts : AreRead part.limits (texts_of part)
   pub checks : rule_fault above part ≡ None
 
 -- a rule doesn't pass, and this is its first fault
 pub data Fails (above : Text → Option RulePart) (part : RulePart) (fault : FlowFault) : Type 0 where
   doubled : is_some (above part.name) ≡ true → fault ≡ FlowFault.DoubledRule part.file part.line part.name → Fails above part fault
-  unread : above part.name ≡ None → AreUnread part (texts_of part) fault → Fails above part fault
-  wrong : above part.name ≡ None → AreRead part.limits (texts_of part) → rule_fault above part ≡ Some fault → Fails above part fault
+  unread : is_some (above part.name) ≡ false → AreUnread part (texts_of part) fault → Fails above part fault
+  wrong : is_some (above part.name) ≡ false → AreRead part.limits (texts_of part) → rule_fault above part ≡ Some fault → Fails above part fault
 
 -- all of these rules pass, the ones above first
 abbrev pub AllPass : List RulePart → List RulePart → Type 0

@@ -1,19 +1,23 @@
 //! The checks of a rule.
 
-ghost use Rattle.std.specs.Prelude.{◌≡◌, ◌≢◌, ◌++◌, None, Some, IfOk, IfErr, OnOk};
+ghost use Rattle.std.specs.Prelude.{◌≡◌, ◌≢◌, ◌++◌, [], None, Some, map, IfOk, IfErr, OnOk};
+ghost use Rattle.smk_pattern.specs.Reading.{shape_of};
 ghost use Rattle.smk_pattern.specs.Searching.{now_of};
 ghost use Rattle.smk_flow.specs.declared.fault.FlowFault.{FlowFault};
 ghost use Rattle.smk_flow.specs.Named.{rule_at};
-ghost use Rattle.smk_flow.specs.Checks.{out_texts, unequal, unknown_fault, flag_fault, rule_fault};
+ghost use Rattle.smk_flow.specs.Checks.{out_texts, unequal, unknown_fault, flag_fault, rule_fault, Passes, Fails};
 
 use crate::fault::FlowFault;
-use crate::faults::{bad_flag, unequal_wildcards, unknown_wildcard};
+use crate::faults::{bad_flag, doubled_rule, unequal_wildcards, unknown_wildcard};
 use crate::flags::bad_words;
+use crate::named::has_rule;
 use crate::names::are_all_same;
+use crate::reading::{Patterns, read_texts};
 use crate::rule::RulePart;
 use crate::texts::{add_texts, out_texts};
 use crate::unknown::unknown;
 use smk_base::OutOfMemory;
+use smk_pattern::Limits;
 use std::alloc::Global;
 use std::collections::BTreeMap;
 
@@ -91,5 +95,30 @@ fn check_names<'p>(
     match check_words(alloc, above, part) {
         Ok(()) => Ok(()),
         Err(fault) => Err(fault),
+    }
+}
+
+// Checks a rule after these, and gives the patterns of its outputs and of its logs.
+#[tactic(auto, using(crate::proofs::RuleFaults::passes, crate::proofs::RuleFaults::is_doubled, crate::proofs::RuleFaults::is_unread, crate::proofs::RuleFaults::is_wrong))]
+pub(crate) fn check_rule<'p>(
+    alloc: Global,
+    above: &BTreeMap<&'p str, &'p RulePart>,
+    part: &'p RulePart,
+    shared: &mut Limits,
+) -> Result<Patterns, FlowFault>
+    ensures outputs { IfOk result (λ ps. ps.outputs ≡ map (shape_of part.now.limits) (out_texts part.now)) }
+    ensures logs { IfOk result (λ ps. ps.logs ≡ map (shape_of []) part.now.logs) }
+    ensures passes { OnOk result (Passes (rule_at above.now) part.now) }
+    ensures fails { IfErr result (λ f. f ≢ FlowFault.OutOfMemory → Fails (rule_at above.now) part.now f) }
+{
+    if has_rule(above, part.name.as_str()) {
+        return Err(doubled_rule(alloc, part)?);
+    }
+    match read_texts(alloc, part, shared) {
+        Err(fault) => Err(fault),
+        Ok(patterns) => match check_names(alloc, above, part) {
+            Ok(()) => Ok(patterns),
+            Err(fault) => Err(fault),
+        },
     }
 }
