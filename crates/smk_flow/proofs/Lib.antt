@@ -5,3 +5,4 @@ pub mod NamesAdded
 pub mod Braces
 pub mod RuleFaults
 pub mod RulesByName
+pub mod RulesPass

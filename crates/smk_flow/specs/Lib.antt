@@ -3,3 +3,4 @@ pub mod Checks
 pub mod Named
 pub mod Lent
 pub mod Begun
+pub mod PatternsOf

@@ -1,22 +1,24 @@
 //! The checks of a rule.
 
-ghost use Rattle.std.specs.Prelude.{◌≡◌, ◌≢◌, ◌++◌, [], None, Some, map, IfOk, IfErr, OnOk};
+ghost use Rattle.std.specs.Prelude.{◌≡◌, ◌≢◌, ◌++◌, [], ℕ, List as Items, None, Some, map, IfOk, IfErr, OnOk};
 ghost use Rattle.smk_pattern.specs.Reading.{shape_of};
 ghost use Rattle.smk_pattern.specs.Searching.{now_of};
 ghost use Rattle.smk_flow.specs.declared.fault.FlowFault.{FlowFault};
 ghost use Rattle.smk_flow.specs.Named.{rule_at};
-ghost use Rattle.smk_flow.specs.Checks.{out_texts, unequal, unknown_fault, flag_fault, rule_fault, Passes, Fails};
+ghost use Rattle.smk_flow.specs.PatternsOf.{patterns_of};
+ghost use Rattle.smk_flow.specs.Checks.{out_texts, unequal, unknown_fault, flag_fault, rule_fault, rule_in, or_else, stranger, contradiction, Passes, Fails, AllPass, OneFails, IsWorkflow, IsFault};
 
 use crate::fault::FlowFault;
 use crate::faults::{bad_flag, doubled_rule, unequal_wildcards, unknown_wildcard};
 use crate::flags::bad_words;
-use crate::named::has_rule;
+use crate::named::{add_rule, has_rule};
 use crate::names::are_all_same;
 use crate::reading::{Patterns, read_texts};
-use crate::rule::RulePart;
+use crate::orders::{check_all_known, check_orders};
+use crate::rule::{Clause, RulePart};
 use crate::texts::{add_texts, out_texts};
 use crate::unknown::unknown;
-use smk_base::OutOfMemory;
+use smk_base::{List, OutOfMemory};
 use smk_pattern::Limits;
 use std::alloc::Global;
 use std::collections::BTreeMap;
@@ -117,6 +119,74 @@ pub(crate) fn check_rule<'p>(
     match read_texts(alloc, part, shared) {
         Err(fault) => Err(fault),
         Ok(patterns) => match check_names(alloc, above, part) {
+            Ok(()) => Ok(patterns),
+            Err(fault) => Err(fault),
+        },
+    }
+}
+
+// Checks the rules in order, and keeps each under its name. No rule is kept before.
+pub(crate) fn check_rules<'p>(
+    alloc: Global,
+    rules: &mut BTreeMap<&'p str, &'p RulePart>,
+    parts: &'p [RulePart],
+) -> Result<List<Patterns>, FlowFault>
+    requires { (q : Items ℕ) → rule_at rules.old q ≡ None }
+    ensures look { OnOk result ((q : Items ℕ) → rule_at rules.new q ≡ rule_in parts.now q) }
+    ensures patterns { IfOk result (λ ps. ps ≡ map patterns_of parts.now) }
+    ensures passes { OnOk result (AllPass [] parts.now) }
+    ensures fails { IfErr result (λ f. f ≢ FlowFault.OutOfMemory → OneFails [] parts.now f) }
+{
+    let mut shared = Limits::new(alloc);
+    let mut patterns = List::new(alloc);
+    for part in parts {
+        match check_rule(alloc, rules, part, &mut shared) {
+            Err(fault) => return Err(fault),
+            Ok(made) => {
+                patterns.push(made)?;
+                add_rule(rules, part)?;
+            }
+        }
+    }
+    Ok(patterns)
+}
+
+// Checks the clauses: that their names are rules', then that they don't contradict each other.
+#[tactic(auto, using(crate::proofs::RulesPass::clause_first, crate::proofs::RulesPass::clause_second))]
+fn check_clauses<'p>(
+    alloc: Global,
+    rules: &BTreeMap<&'p str, &'p RulePart>,
+    orders: &[Clause],
+) -> Result<(), FlowFault>
+    ensures known { OnOk result (stranger (rule_at rules.now) orders.now ≡ None) }
+    ensures settled { OnOk result (contradiction orders.now orders.now ≡ None) }
+    ensures fault { IfErr result (λ f. f ≢ FlowFault.OutOfMemory
+        → or_else (stranger (rule_at rules.now) orders.now) (contradiction orders.now orders.now) ≡ Some f) }
+{
+    match check_all_known(alloc, rules, orders) {
+        Err(fault) => Err(fault),
+        Ok(()) => match check_orders(alloc, orders) {
+            Ok(()) => Ok(()),
+            Err(fault) => Err(fault),
+        },
+    }
+}
+
+/// Checks that the rules and the clauses make a workflow, and gives the patterns of each rule, in order. Otherwise the first fault.
+#[tactic(auto, using(crate::proofs::RulesPass::is_workflow, crate::proofs::RulesPass::is_rule_fault, crate::proofs::RulesPass::is_clause_fault))]
+pub(crate) fn check(
+    alloc: Global,
+    parts: &[RulePart],
+    orders: &[Clause],
+) -> Result<List<Patterns>, FlowFault>
+    ensures patterns { IfOk result (λ ps. ps ≡ map patterns_of parts.now) }
+    ensures is { OnOk result (IsWorkflow parts.now orders.now) }
+    ensures fault { IfErr result (λ f. f ≢ FlowFault.OutOfMemory → IsFault parts.now orders.now f) }
+{
+    let mut rules = BTreeMap::new(alloc);
+    match check_rules(alloc, &mut rules, parts) {
+        Err(fault) => Err(fault),
+        Ok(patterns) => match check_clauses(alloc, &rules, orders) {
             Ok(()) => Ok(patterns),
             Err(fault) => Err(fault),
         },
