@@ -13,8 +13,8 @@ use crate::faults::{bad_flag, doubled_rule, unequal_wildcards, unknown_wildcard}
 use crate::flags::bad_words;
 use crate::named::{add_rule, has_rule};
 use crate::names::are_all_same;
-use crate::reading::{Patterns, read_texts};
 use crate::orders::{check_all_known, check_orders};
+use crate::reading::{Patterns, read_texts};
 use crate::rule::{Clause, RulePart};
 use crate::texts::{add_texts, out_texts};
 use crate::unknown::unknown;

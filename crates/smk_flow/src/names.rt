@@ -48,7 +48,10 @@ pub(crate) fn names_of(alloc: Global, text: &str) -> Result<Vec<&str>, OutOfMemo
 }
 
 // The names in the first of these texts.
-pub(crate) fn wildcards_of<'p>(alloc: Global, texts: &[&'p str]) -> Result<Vec<&'p str>, OutOfMemory>
+pub(crate) fn wildcards_of<'p>(
+    alloc: Global,
+    texts: &[&'p str],
+) -> Result<Vec<&'p str>, OutOfMemory>
     ensures { IfOk result (λ names. now_of names.items ≡ wildcards_of (now_of texts.now)) }
 {
     match texts {

@@ -43,10 +43,7 @@ pub(crate) fn out_texts(alloc: Global, part: &RulePart) -> Result<Vec<&str>, Out
 }
 
 // Adds these texts.
-pub(crate) fn add_names<'p>(
-    found: &mut Vec<&'p str>,
-    names: &[&'p str],
-) -> Result<(), OutOfMemory>
+pub(crate) fn add_names<'p>(found: &mut Vec<&'p str>, names: &[&'p str]) -> Result<(), OutOfMemory>
     ensures { OnOk result (now_of found.new.items ≡ now_of found.old.items ++ now_of names.now) }
 {
     for name in names {

@@ -457,7 +457,7 @@ spelled_plain s ps t alone lt e r = record {
       let none : held ≡ [] = h refl in
       subst (λ (x : Text). pieces_from (s ++ t) 0 x ≡ plain_of x ++ plain s ∷ ps) (sym none)
       (past_text s t [] e ∙ ap (pieces_from t 0) (append-nil (reverse s)) ∙ r.pieces (reverse s) (λ p. absurd (true≢false (sym p ∙ alone)))
-          ∙ ap (λ x. x ++ ps) (plain_of_all s lt));
+      ∙ ap (λ x. x ++ ps) (plain_of_all s lt));
   balanced = balanced_past s t e ∙ r.balanced;
   named = r.named;
 }

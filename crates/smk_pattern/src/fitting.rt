@@ -114,7 +114,9 @@ fn least_length(pieces: &[Piece], wildcards: &[Wildcard]) -> usize
 fn may_fit(pieces: &[Piece], wildcards: &[Wildcard], path: &str) -> bool
     ensures { result ≡ false → (values : List (List ℕ)) → Fits (pattern_of pieces.now wildcards.now) path.now values → ⊥ }
 {
-    may_start(pieces, path) && may_end(pieces, path) && least_length(pieces, wildcards) <= path.len()
+    may_start(pieces, path)
+        && may_end(pieces, path)
+        && least_length(pieces, wildcards) <= path.len()
 }
 
 // Whether the pieces are the path, without what stands for wildcards.
@@ -160,14 +162,7 @@ fn fits_search(
     let mut testers = testers(alloc, wildcards)?;
     let mut values = Vec::new(alloc);
     let mut vain = Vain::new(alloc);
-    if !search(
-        alloc,
-        &mut vain,
-        pieces,
-        &mut testers,
-        path,
-        &mut values,
-    )? {
+    if !search(alloc, &mut vain, pieces, &mut testers, path, &mut values)? {
         return Ok(None);
     }
     Ok(Some(pairs(alloc, wildcards, &values)?))

@@ -14,9 +14,9 @@ loop-part-preserved c =
     let i = c.loop-part.part-index in
     let part = c.part-item.result in
     let e : drop i parts ≡ part ∷ drop (i + 1) parts =
-        at_drop_more (λ (xs : List RulePart). xs) parts i part c.loop-part-test.true ∙ ap (λ (x : RulePart). x ∷ drop (i + 1) parts) (sym c.part-item.is) in
+    at_drop_more (λ (xs : List RulePart). xs) parts i part c.loop-part-test.true ∙ ap (λ (x : RulePart). x ∷ drop (i + 1) parts) (sym c.part-item.is) in
     let t : take (i + 1) parts ≡ take i parts ++ part ∷ [] =
-        take_more parts i part c.loop-part-test.true ∙ ap (λ (x : RulePart). take i parts ++ x ∷ []) (sym c.part-item.is) in
+    take_more parts i part c.loop-part-test.true ∙ ap (λ (x : RulePart). take i parts ++ x ∷ []) (sym c.part-item.is) in
     let inv = c.loop-part.invariant in
     let p = c.in-Ok.ensures.passes in
     let outputs = c.in-Ok.ensures.outputs in
@@ -40,6 +40,6 @@ returns-in-Err-clause-fails c = λ known.
     let i = c.loop-part.part-index in
     let part = c.part-item.result in
     let e : drop i parts ≡ part ∷ drop (i + 1) parts =
-        at_drop_more (λ (xs : List RulePart). xs) parts i part c.loop-part-test.true ∙ ap (λ (x : RulePart). x ∷ drop (i + 1) parts) (sym c.part-item.is) in
+    at_drop_more (λ (xs : List RulePart). xs) parts i part c.loop-part-test.true ∙ ap (λ (x : RulePart). x ∷ drop (i + 1) parts) (sym c.part-item.is) in
     c.loop-part.invariant.fail c.in-Err.fault
     (fail_here _ (take i parts) (drop i parts) (drop (i + 1) parts) part c.in-Err.fault c.loop-part.invariant.look (c.in-Err.ensures.fails known) e)

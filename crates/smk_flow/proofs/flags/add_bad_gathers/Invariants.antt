@@ -7,7 +7,7 @@ use Rattle.smk_flow.specs.Checks.{bad_gather, or_nothing}
 use Rattle.smk_flow.proofs.flags.add_bad_gathers.Given as goal
 
 abbrev pub invariant-loop-item : goal.invariant-loop-item
-invariant-loop-item l = 
+invariant-loop-item l =
     now_of l.found.items
     ≡ now_of l.initial.found.items
     ++ flat_map (bad_gather (rule_at l.above) l.part) (flat_map (λ (i : InPart). or_nothing i.gather) (take l.item-index l.part.inputs))

@@ -7,6 +7,6 @@ use Rattle.smk_flow.specs.Checks.{bad_flags}
 use Rattle.smk_flow.proofs.flags.add_bad_outs.Given as goal
 
 abbrev pub invariant-loop-out : goal.invariant-loop-out
-invariant-loop-out l = 
+invariant-loop-out l =
     now_of l.found.items
     ≡ now_of l.initial.found.items ++ flat_map (λ (o : FlaggedText). bad_flags l.checkpoint [] o.flags) (all_lent (take l.out-index l.outs))

@@ -14,5 +14,5 @@ returns-in-Err-BadConstraint-clause-unread c = λ known.
     let balanced = and_first _ _ b.0 in
     let bare : list_all is_bare (pieces t) ≡ true = sym (c.in_ok-has_no_constraint.ensures balanced) ∙ search rules in
     let bad : IsBadLimit [] (pieces t) (names_in (pieces t)) name =
-        subst (λ (ls : List Pair). IsBadLimit ls (pieces t) (names_in (pieces t)) name) c.new-none.ensures b.1 in
+    subst (λ (ls : List Pair). IsBadLimit ls (pieces t) (names_in (pieces t)) name) c.new-none.ensures b.1 in
     absurd (bare_good name (pieces t) (names_in (pieces t)) bare bad)

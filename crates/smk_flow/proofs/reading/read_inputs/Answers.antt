@@ -10,7 +10,7 @@ loop-item-preserved c =
     let i = c.loop-item.item-index in
     let item = c.item-item.result in
     let e : drop i inputs ≡ item ∷ drop (i + 1) inputs =
-        at_drop_more (λ (xs : List InPart). xs) inputs i item c.loop-item-test.true ∙ ap (λ (x : InPart). x ∷ drop (i + 1) inputs) (sym c.item-item.is) in
+    at_drop_more (λ (xs : List InPart). xs) inputs i item c.loop-item-test.true ∙ ap (λ (x : InPart). x ∷ drop (i + 1) inputs) (sym c.item-item.is) in
     record {
       read = λ h. c.loop-item.invariant.read (read_more c.args.part.now.limits (drop i inputs) (drop (i + 1) inputs) item e c.in-Ok.ensures.read h);
       unread = λ f h. c.loop-item.invariant.unread f (unread_more c.args.part.now f (drop i inputs) (drop (i + 1) inputs) item e c.in-Ok.ensures.read h);
@@ -22,5 +22,5 @@ returns-in-Err-clause-unread c = λ known.
     let i = c.loop-item.item-index in
     let item = c.item-item.result in
     let e : drop i inputs ≡ item ∷ drop (i + 1) inputs =
-        at_drop_more (λ (xs : List InPart). xs) inputs i item c.loop-item-test.true ∙ ap (λ (x : InPart). x ∷ drop (i + 1) inputs) (sym c.item-item.is) in
+    at_drop_more (λ (xs : List InPart). xs) inputs i item c.loop-item-test.true ∙ ap (λ (x : InPart). x ∷ drop (i + 1) inputs) (sym c.item-item.is) in
     c.loop-item.invariant.unread c.in-Err.fault (unread_here c.args.part.now c.in-Err.fault (drop i inputs) (drop (i + 1) inputs) item e (c.in-Err.ensures.unread known))

@@ -14,7 +14,7 @@ returns-in_ok-add_unknown_wanted-in-Some c =
     let w = unknown_in (names_of g.listed ++ known) (names_of g.wanted) in
     let texts = flat_map (λ t. unknown_in known (names_of t)) c.args.item.now.texts in
     let first : now_of c.add_unknown_texts.new.found.items ≡ old ++ texts =
-        c.in_ok-add_unknown_texts.ensures ∙ ap (λ (ts : List Text). old ++ flat_map (λ t. unknown_in known (names_of t)) ts) c.as_slice.ensures in
+    c.in_ok-add_unknown_texts.ensures ∙ ap (λ (ts : List Text). old ++ flat_map (λ t. unknown_in known (names_of t)) ts) c.as_slice.ensures in
     c.in_ok-add_unknown_wanted-in-Some.ensures
     ∙ ap (λ (m : List Text). m ++ w) first
     ∙ append_assoc old texts w

@@ -11,7 +11,7 @@ returns c =
     let g = c.args.gather.now in
     let listed = c.in_ok-both.ensures ∙ ap names_of c.as_str.ensures in
     let both : now_of c.deref.result.now ≡ names_of g.listed ++ known =
-        ap now_of c.deref.ensures.value ∙ c.in_ok-add_names.ensures ∙ ap (λ (ns : List Text). ns ++ known) listed in
+    ap now_of c.deref.ensures.value ∙ c.in_ok-add_names.ensures ∙ ap (λ (ns : List Text). ns ++ known) listed in
     c.in_ok-add_unknown_in.ensures
     ∙ ap (λ (ks : List Text). old ++ unknown_in ks (names_of c.as_str-2.result.now)) both
     ∙ ap (λ (t : Text). old ++ unknown_in (names_of g.listed ++ known) (names_of t)) c.as_str-2.ensures

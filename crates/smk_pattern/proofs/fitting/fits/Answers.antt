@@ -35,18 +35,18 @@ returns-then-is_empty-clause-bound c =
     let none : c.pattern.inside.wildcards ≡ [] = sym c.as_slice-wildcards.ensures ∙ no_items c.as_slice-wildcards.result.now (sym c.is_empty.ensures ∙ c.if-is_empty.true) in
     rw (← c.pattern.view_is, ← c.as_str-path.ensures.text)
     (bound_of c.pattern.inside.pieces c.pattern.inside.wildcards c.as_str-path.result.now c.fits_text.result c.pattern.invariant c.as_str-path.utf8
-        (rw (none, ← c.as_slice-pieces.ensures) c.fits_text.ensures))
+    (rw (none, ← c.as_slice-pieces.ensures) c.fits_text.ensures))
 
 pub returns-then-not-may_fit-clause-bound : goal.returns-then-not-may_fit-clause-bound
 returns-then-not-may_fit-clause-bound c =
     rw (← c.pattern.view_is, ← c.as_str-path.ensures.text)
     (bound_of c.pattern.inside.pieces c.pattern.inside.wildcards c.as_str-path.result.now None c.pattern.invariant c.as_str-path.utf8
-        (rw (← c.as_slice-pieces.ensures, ← c.as_slice-wildcards.ensures) (c.if-not-may_fit.ensures refl)))
+    (rw (← c.as_slice-pieces.ensures, ← c.as_slice-wildcards.ensures) (c.if-not-may_fit.ensures refl)))
 
 pub returns-clause-bound : goal.returns-clause-bound
 returns-clause-bound c =
     rw (← c.pattern.view_is, ← c.as_str-path.ensures.text)
     (if_ok c.fits_search.result _ _
-        (λ found m. bound_of c.pattern.inside.pieces c.pattern.inside.wildcards c.as_str-path.result.now found c.pattern.invariant c.as_str-path.utf8
-            (rw (← c.as_slice-pieces.ensures, ← c.as_slice-wildcards.ensures) m))
-        c.fits_search.ensures)
+    (λ found m. bound_of c.pattern.inside.pieces c.pattern.inside.wildcards c.as_str-path.result.now found c.pattern.invariant c.as_str-path.utf8
+    (rw (← c.as_slice-pieces.ensures, ← c.as_slice-wildcards.ensures) m))
+    c.fits_search.ensures)
