@@ -10,6 +10,7 @@ use Rattle.smk_world.specs.Trees.{Path}
 use Rattle.smk_store.specs.Images.{Image, Content, image_of, seen, source_at}
 use Rattle.smk_store.specs.Trust.{Versions, none_eased}
 use Rattle.smk_store.specs.Soundness.{Outside, Sound, SoundWorld, EachImage}
+use Rattle.smk_laws.specs.Histories.{ListsAll, IsListed, KeepsListed}
 use Rattle.smk_store.specs.Safety.{SafeThroughout, SourcesOf, KeepsSound, with_sources, or_put, forgotten_so_far}
 use Rattle.smk_report.specs.Lines.{joined, target_line}
 use Rattle.smk_drive.specs.Moments.{Rules, Moment, Begun, IsMoment, AtEntry, AtRest, Between, EachEvent, is_closed_badly}
@@ -132,6 +133,17 @@ kept_at_start o w paths to_the_end =
       safe = λ H sound. safe_at_start o w paths H sound;
       sound_at_exit = λ H sound is alone. subst (λ K. SoundWorld o w K) (sym (same_versions o H (seen o.read w) sound.now)) sound;
     }
+
+pub listed_at_start : (o : Outside) (w : World) (to_the_end : Bool) → KeepsListed o w [] to_the_end
+listed_at_start o w to_the_end =
+    record {
+      throughout = λ H sound listed events rest h. at_events listed events (no_front events rest h);
+      at_exit = λ H sound listed is alone. listed.now;
+    }
+  where
+    at_events : IsListed o w → (es : List Event) → es ≡ [] → EachImage o.read (run w es) ListsAll
+    at_events listed [] e = listed.after_crash
+    at_events listed (x ∷ es) e = absurd (no_split [] x es (sym e))
 
 some_inj : {A : Type 0} (x y : A) → Some x ≡ Some y → x ≡ y
 some_inj x y h = cc

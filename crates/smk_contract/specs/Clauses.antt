@@ -8,6 +8,7 @@ use Rattle.smk_world.specs.Calls.{failed, Rose}
 use Rattle.smk_world.specs.Trees.{Path, Act, among}
 use Rattle.smk_store.specs.Images.{Image, is_known}
 use Rattle.smk_store.specs.Safety.{KeepsSound}
+use Rattle.smk_laws.specs.Histories.{KeepsListed}
 use Rattle.smk_plan.specs.States.{Plan, LastPlan, nothing_done}
 use Rattle.smk_report.specs.declared.fault.Fault.{Fault}
 use Rattle.smk_report.specs.declared.fault.Fault.TheVariants as fault
@@ -90,12 +91,12 @@ abbrev pub is_forgetting : Request → Bool
 is_forgetting (Does (Forget paths nolock)) = true
 is_forgetting request = false
 
--- What the call keeps of soundness; to its end, but for a `--cleanup-metadata` in which the device failed.
+-- What the call keeps of soundness, and of listed directories; to its end, but for a `--cleanup-metadata` in which the device failed.
 abbrev pub Crashes : Meanings → Act → Request → ℕ → ℕ → World → List Event → Type 0
 Crashes g act request old new entry log =
     (to_the_end : Bool) →
     (to_the_end ≡ true → (is_forgetting request ≡ false) ⊎ IsSteady old new) →
-    KeepsSound (outside g act) entry log (forgotten_by request) to_the_end
+    KeepsSound (outside g act) entry log (forgotten_by request) to_the_end × KeepsListed (outside g act) entry log to_the_end
 
 -- ## Faults
 

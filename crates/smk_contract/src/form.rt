@@ -57,7 +57,7 @@ fn gives_up<W: Crew, O: Sink>(
     ensures partial { Did W.act (W.world work.old) (W.world work.new) (λ entry log. Put (O.put_so_far out.old) (O.put_so_far out.new) (λ text.
         Partial g W.act (g.asks (map string_bytes words.now)) result.status entry log text)) }
 
-    // after every prefix of the log a crash leaves something sound, and so is the world at the end
+    // after every prefix of the log a crash leaves something sound in which directories are listed, and so is the world at the end
     ensures crashes { Did W.act (W.world work.old) (W.world work.new) (λ entry log.
         Crashes g W.act (g.asks (map string_bytes words.now)) (W.faults work.old) (W.faults work.new) entry log) }
 

@@ -119,7 +119,7 @@ next_events rules m None (c ∷ children) =
 
 -- n turns, each a start or a wait with what follows; the order says which child ends first
 abbrev pub drive : (List Child → List Child) → Rules → World → ℕ → Moment → List ℕ
-drive order rules entry zero m = target_lines rules m (Some (plan_of rules m.world m.begun [])) ++ summary rules m
+drive order rules entry zero m = target_lines rules m ++ summary rules m
 drive order rules entry (suc n) m =
     let after = goes rules entry m (next_events rules m (first_of (may_start rules m)) (order m.world.children)) in
     after.1 ++ drive order rules entry n after.0

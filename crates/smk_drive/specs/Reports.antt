@@ -1,5 +1,5 @@
 -- The text of a report: of a listing by its plan, of a run by its log and its targets.
-use Rattle.std.specs.Prelude.{◌≡◌, Bool, ◌&&◌, not, List, [], ◌∷◌, ◌++◌, map, filter, length, bytes_eq, if◌then◌else◌, Option, Ok}
+use Rattle.std.specs.Prelude.{◌≡◌, Bool, ◌&&◌, not, List, [], ◌∷◌, ◌++◌, map, filter, length, bytes_eq, if◌then◌else◌, Ok}
 use Rattle.std.specs.List.{flat_map}
 use Rattle.smk_world.specs.declared.event.Call.{Call}
 use Rattle.smk_world.specs.declared.event.Call.TheVariants.{Started}
@@ -13,7 +13,7 @@ use Rattle.smk_flow.specs.Flows.{Flow, rule_name}
 use Rattle.smk_trigger.specs.declared.reason.State.{State}
 use Rattle.smk_plan.specs.States.{Plan, job_path, staged, is_current, test_some}
 use Rattle.smk_report.specs.Lines.{Named, listing_lines, start_line, done_line, failed_line, target_line, summary_line}
-use Rattle.smk_drive.specs.Moments.{Rules, Moment, IsMoment, IsInForce, Begun, is_closed, is_closed_well, is_closed_badly, seen, progress_of, or_good}
+use Rattle.smk_drive.specs.Moments.{Rules, Moment, IsMoment, Begun, is_closed, is_closed_well, is_closed_badly, seen, progress_of, or_good}
 
 -- a job is named by its rule and its first output
 abbrev pub named_job : Flow → Job → Named
@@ -43,13 +43,13 @@ module _ (rules : Rules) where
   close_lines before now =
       flat_map (close_line now.world) (filter (λ (b : Begun). is_closed now.world b && not (is_closed before.world b)) now.begun)
 
-  -- current by this plan
-  abbrev pub is_current_by : Moment → Option Plan → Path → Bool
-  is_current_by m plan p =
-      test_some (λ (plan : Plan). is_current (seen rules m.world) rules.settings (progress_of m.world m.begun) plan p) plan
+  -- current by the plan in force
+  abbrev pub is_current_by : Moment → Path → Bool
+  is_current_by m p =
+      test_some (λ (plan : Plan). is_current (seen rules m.world) rules.settings (progress_of m.world m.begun) plan p) m.plan
 
-  abbrev pub target_lines : Moment → Option Plan → Text
-  target_lines m plan = flat_map (λ p. target_line (is_current_by m plan p) p) rules.settings.targets
+  abbrev pub target_lines : Moment → Text
+  target_lines m = flat_map (λ p. target_line (is_current_by m p) p) rules.settings.targets
 
   -- how many jobs were started, done and failed
   abbrev pub summary : Moment → Text
@@ -67,12 +67,10 @@ pub data HasLines (rules : Rules) (entry : World) : List Event → Text → Type
       HasLines rules entry (events ++ e ∷ []) (text ++ (start_lines rules now e.call ++ close_lines rules before now))
 
 -- The whole text of a run with status 0 or 1: the lines of its events, a line for each target, and the summary. The targets are
--- judged by the last plan at the exit of a chain that begins with no listing.
+-- judged by the plan in force at the exit.
 pub record IsRunText (rules : Rules) (entry : World) (log : List Event) (text : Text) : Type 0 where
   pub lines : Text
   pub last : Moment
   pub has_lines : HasLines rules entry log lines
   pub is_last : IsMoment rules entry log last
-  pub plan : Option Plan
-  pub is_plan : IsInForce rules last.world last.begun [] plan
-  pub text_is : text ≡ lines ++ (target_lines rules last plan ++ summary rules last)
+  pub text_is : text ≡ lines ++ (target_lines rules last ++ summary rules last)

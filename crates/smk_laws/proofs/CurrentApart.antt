@@ -67,7 +67,7 @@ JobsApart (j ∷ js) =
     × Apart (out_paths j.recipe)
     × JobsApart js
 
-spots_append : (xs ys : List Spot) → SpotsApart (xs ++ ys) → SpotsApart xs × SpotsApart ys × ((s t : Spot) → In s xs → In t ys → overlaps t.0 s.0 ≡ false)
+pub spots_append : (xs ys : List Spot) → SpotsApart (xs ++ ys) → SpotsApart xs × SpotsApart ys × ((s t : Spot) → In s xs → In t ys → overlaps t.0 s.0 ≡ false)
 spots_append [] ys h = (tt, h, λ s t i k. absurd i)
 spots_append (x ∷ xs) ys h =
     let r = spots_append xs ys h.1 in

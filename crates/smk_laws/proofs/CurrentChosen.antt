@@ -20,7 +20,7 @@ use Rattle.smk_world.specs.declared.recipe.Out.{Out}
 use Rattle.smk_world.specs.declared.recipe.OutItem.{OutItem}
 use Rattle.smk_world.specs.declared.recipe.Recipe.{Recipe}
 
-make_inj : (a b : Candidate) → Make a ≡ Make b → a ≡ b
+pub make_inj : (a b : Candidate) → Make a ≡ Make b → a ≡ b
 make_inj a b h = cc
 
 numbered_in : {A : Type 0} (xs : List A) (k : ℕ) (e : ℕ × A) → In e (enumerate_from k xs) → In e.1 xs

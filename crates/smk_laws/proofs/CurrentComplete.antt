@@ -1,11 +1,11 @@
 -- The image of a formed world has complete lists.
 use Rattle.std.proofs.Common.{◌≡◌, ◌⊎◌, ℕ, Bool, true, false, not, cond, ◌&&◌, ◌||◌, ◌==◌, List, [], ◌∷◌, ◌++◌, length, drop, filter, flat_map, refl, sym, ap, subst, inl, inr, ◌∙◌, Option, Some, None, is_some, true≢false, codes}
 use Rattle.std.specs.Prelude.{bytes_eq, if◌then◌else◌}
-use Rattle.std.proofs.lemmas.Bool.{eqb-true}
 use Rattle.std.proofs.lemmas.List.{drop_at}
 use Rattle.smk_base.specs.Path.{parts, to_first}
 use Rattle.smk_base.specs.Place.{joined_name, name_of, record_place, mark_place, note_place}
 use Rattle.smk_base.proofs.Places.{same_place, place_itself}
+use Rattle.smk_base.proofs.Apart.{no_slashes, with_slashes, parts_no_slash, parts_joined}
 use Rattle.smk_base.proofs.Names.{parts_some}
 use Rattle.smk_base.proofs.Paths.{parts-joined}
 use Rattle.smk_base.proofs.Under.{no_slash}
@@ -21,45 +21,6 @@ use Rattle.smk_laws.proofs.CurrentLists.{In, in_left, in_right, in_flat, in_filt
 use Rattle.smk_laws.proofs.CurrentPaths.{among_in, in_among}
 
 -- ## Names and the paths that they stand for
-
-abbrev no_slashes : List Path → Bool
-no_slashes [] = true
-no_slashes (part ∷ rest) = no_slash part && no_slashes rest
-
--- the parts with slashes between them
-abbrev with_slashes : List Path → Path
-with_slashes [] = []
-with_slashes (part ∷ []) = part
-with_slashes (part ∷ (next ∷ rest)) = part ++ 47 ∷ with_slashes (next ∷ rest)
-
-first_longer : (b : ℕ) (ps : List Path) → (b == 47) ≡ false → no_slashes ps ≡ true → no_slashes (to_first b ps) ≡ true
-first_longer b [] e h = ap (λ v. (not v && true) && true) e
-first_longer b (p ∷ ps) e h = ap (λ v. (not v && no_slash p) && no_slashes ps) e ∙ h
-
-parts_no_slash : (text : Path) → no_slashes (parts text) ≡ true
-parts_no_slash [] = refl
-parts_no_slash (b ∷ text) = at (b == 47) refl (parts_no_slash text)
-  where
-    at : (v : Bool) → (b == 47) ≡ v → no_slashes (parts text) ≡ true → no_slashes (if v then [] ∷ parts text else to_first b (parts text)) ≡ true
-    at true e h = h
-    at false e h = first_longer b (parts text) e h
-
-slashes_first : (b : ℕ) (ps : List Path) → (ps ≡ [] → ⊥) → with_slashes (to_first b ps) ≡ b ∷ with_slashes ps
-slashes_first b [] never = absurd (never refl)
-slashes_first b (p ∷ []) never = refl
-slashes_first b (p ∷ (q ∷ ps)) never = refl
-
-slashes_next : (ps : List Path) → (ps ≡ [] → ⊥) → with_slashes ([] ∷ ps) ≡ 47 ∷ with_slashes ps
-slashes_next [] never = absurd (never refl)
-slashes_next (p ∷ ps) never = refl
-
-parts_slashed : (text : Path) → with_slashes (parts text) ≡ text
-parts_slashed [] = refl
-parts_slashed (b ∷ text) = at (b == 47) refl (parts_slashed text)
-  where
-    at : (v : Bool) → (b == 47) ≡ v → with_slashes (parts text) ≡ text → with_slashes (if v then [] ∷ parts text else to_first b (parts text)) ≡ b ∷ text
-    at true e h = slashes_next (parts text) (parts_some text) ∙ ap (λ c. c ∷ with_slashes (parts text)) (sym (eqb-true b 47 e)) ∙ ap (λ t. b ∷ t) h
-    at false e h = slashes_first b (parts text) (parts_some text) ∙ ap (λ t. b ∷ t) h
 
 one_part : (part : Path) → no_slash part ≡ true → parts part ≡ part ∷ []
 one_part [] h = refl
@@ -83,7 +44,7 @@ unsigned (part ∷ (next ∷ rest)) h never =
 
 -- the path whose name stands there is found again
 named_path : (p : Path) → without_signs (parts (name_of p)) ≡ p
-named_path p = unsigned (parts p) (parts_no_slash p) (parts_some p) ∙ parts_slashed p
+named_path p = unsigned (parts p) (parts_no_slash p) (parts_some p) ∙ parts_joined p
 
 abbrev told_with : Path → Path → Path → List Path
 told_with folder place q = if bytes_eq place (folder ++ name_of q) && is_path_text q then q ∷ [] else []

@@ -1,7 +1,7 @@
 -- What a plan says of a path that one of its jobs makes, where that job is neither Open nor Dirty.
 use Rattle.std.proofs.Common.{◌≡◌, ◌⊎◌, ℕ, zero, suc, Bool, true, false, not, cond, ◌&&◌, ◌||◌, List, [], ◌∷◌, map, filter, flat_map, find, length, refl, sym, ap, subst, inl, inr, ◌∙◌, Option, Some, None, option_map, zip, option_and_then, reverse, IsTrue, is_some, is_none, true≢false, Contains, eqb-true}
 use Rattle.std.specs.Prelude.{bytes_eq, nat_lt, nat_le, ◌==◌, ◌++◌}
-use Rattle.std.specs.List.{list_all}
+use Rattle.std.specs.List.{list_all, list_any}
 use Rattle.smk_base.specs.declared.tree.Tree.{Tree}
 use Rattle.smk_base.specs.declared.tree.Tree.TheVariants.{File, Folder}
 use Rattle.smk_base.specs.Path.{is_under}
@@ -24,24 +24,26 @@ use Rattle.smk_flow.specs.declared.job.Job.{Job}
 use Rattle.smk_flow.specs.Flows.{Flow, Candidate, gathered_folders, makes_folder}
 use Rattle.smk_choose.specs.Choose.{Sources, choose, Make}
 use Rattle.smk_store.specs.Images.{Image, Content, content_of, is_directory, stands, file_at, is_file, is_folder, names_under, members_under, entry_under, tree_now, record_at, core_at, is_whole, is_known, is_covered, is_source, source_at}
-use Rattle.smk_store.specs.Trust.{Versions, holder, is_folder_record, made_stamp, unmarked_stamp, time_stamp, stamp_now, none_eased}
+use Rattle.smk_store.specs.Trust.{Versions, holder, is_folder_record, made_stamp, is_marked_but, unmarked_stamp_but, stamp_now_but, time_stamp}
 use Rattle.smk_store.specs.Soundness.{Sound}
-use Rattle.smk_chain.specs.Derive.{listing, or_none, job, jobs, recipe, walk, refusals, clashes, spots, is_deep, distinct, sources_of, Deep, Refusal, refused_if, refused, reach, TooManyPaths}
+use Rattle.smk_chain.specs.Derive.{listing, job, jobs, recipe, walk, refusals, clashes, spots, is_deep, distinct, sources_of, Deep, Refusal, refused_if, refused, reach, TooManyPaths}
 use Rattle.smk_trigger.specs.declared.reason.Reason.{Reason}
 use Rattle.smk_trigger.specs.declared.reason.Reason.TheVariants.{Upstream}
 use Rattle.smk_trigger.specs.declared.reason.State.{State}
 use Rattle.smk_trigger.specs.declared.reason.State.TheVariants.{Open, Dirty, Restore, Clean}
-use Rattle.smk_trigger.specs.JobStates.{is_open, is_dirty, is_clean}
+use Rattle.smk_trigger.specs.JobStates.{is_open, is_dirty, is_clean, is_restore}
 use Rattle.smk_trigger.specs.Reasons.{once}
 use Rattle.smk_pick.specs.declared.settings.Settings.{Settings}
-use Rattle.smk_plan.specs.States.{Plan, Progress, IsPlan, AreListed, reasons, is_open_now, is_ready, maker_of, state_of, by_table, by_reasons, or_state, job_path, makes, made_by, is_whole_by, stands_whole, awaits, is_at_hand, test_some}
-use Rattle.smk_laws.specs.Current.{IsComplete, HasValidRecords}
+use Rattle.smk_plan.specs.States.{Plan, Progress, IsPlan, files_listed, gathers_from, reasons, is_open_now, is_ready, maker_of, state_of, by_table, by_reasons, while_running, kept_state, is_restored, makes, made_by, is_whole_by, stands_whole, awaits, is_at_hand, test_some}
+use Rattle.smk_chain.specs.Mean.{setting_of}
+use Rattle.smk_laws.specs.Current.{IsComplete, HasValidRecords, IsRight, eased_by}
 use Rattle.smk_laws.proofs.CurrentLists.{In, append_nil_left, append_nil_right, map_nil, filter_nil, filter_in, any_none, in_left, find_some, or_first, or_second, or_left, or_right, and_left, and_right, not_false, not_true, in_distinct, in_map, zip_first, find_in, clash_of, some_inj, none_some}
 use Rattle.smk_laws.proofs.CurrentReach.{Reached, reached_zero, reached_own, reached_step, reached_target, outcome_derived}
 use Rattle.smk_laws.proofs.CurrentRecipes.{inputs_wanted, folders_wanted}
 use Rattle.smk_laws.proofs.CurrentWalked.{walked_job}
 use Rattle.smk_laws.proofs.CurrentApart.{Apart, own_apart, apart_same, record_at_output, record_stands, JobsApart, jobs_apart, spots_apart, maker_found, same_trans}
 use Rattle.smk_laws.proofs.CurrentChosen.{chosen_viable, folders_paths, Origin, origin, output_in, folder_made}
+use Rattle.smk_laws.proofs.CurrentStates.{unless_open, unless_dirty}
 use Rattle.smk_laws.proofs.CurrentPaths.{among_in, in_among, in_reverse, reverse_in, folders_under, both_above, Above}
 use Rattle.smk_laws.proofs.CurrentSame.{own_calm, held_agrees, kept_record, in_once_of}
 use Rattle.smk_laws.proofs.CurrentTrees.{value_part, file_found, entries, names_of, listed_under, members_same}
@@ -96,20 +98,42 @@ plain_record r h plain =
 once_paths : (ps : List Path) (p : Path) → In p ps → In p (distinct bytes_eq ps)
 once_paths ps p h = let d = in_distinct bytes_eq place_itself same_trans ps p h in subst (λ w. In w (distinct bytes_eq ps)) (same_place d.0 p d.2) d.1
 
--- A plan in a sound image, at a moment at which no child runs, whose listings are those of the directories' records.
-pub record Rested
-    (flow : Flow) (act : Act) (has_fields : Job → Bool) (image : Image) (H : Versions) (settings : Settings) (progress : Progress) (plan : Plan) : Type 0 where
-  pub sound : Sound act H image none_eased
+-- A plan in an image whose lists are complete and whose records are valid.
+pub record Planned (flow : Flow) (image : Image) (settings : Settings) (progress : Progress) (plan : Plan) : Type 0 where
   pub complete : IsComplete image
   pub valid : HasValidRecords image
-  pub lists : AreListed image plan.lists
   pub derived : IsPlan flow image settings progress plan
-  pub rest : progress.running ≡ []
+
+-- A plan in an image that is sound, the marks of running Restores left out, whose listings are right where they count.
+pub record Rested
+    (flow : Flow) (act : Act) (has_fields : Job → Bool) (image : Image) (H : Versions) (settings : Settings) (progress : Progress) (plan : Plan) : Type 0 where
+  pub sound : Sound act H image (eased_by image (is_restored image settings progress plan))
+  pub planned : Planned flow image settings progress plan
+  pub lists :
+      (j : Job) (f : Path) (files : List Path) → In j plan.jobs → is_open_now image settings progress plan j ≡ false → In f (gathers_from j) →
+      listing plan.lists f ≡ Some files → IsRight (setting_of flow act has_fields image) image f files
   pub fields : (j : Job) → Contains plan.jobs j → is_open_now image settings progress plan j ≡ false → has_fields j ≡ true
+
+-- what a job is by the table, from its state
+table_quiet : (b : Bool) (rs : List Reason) (x : Bool) → is_open (cond b Open (by_reasons rs x)) ≡ false → is_dirty (cond b Open (by_reasons rs x)) ≡ false → (b ≡ false) × (rs ≡ [])
+table_quiet true rs x h k = absurd (true≢false h)
+table_quiet false [] x h k = (refl, refl)
+table_quiet false (r ∷ rs) x h k = absurd (true≢false k)
+
+running_quiet : (o : Option State) (s : State) → is_open (while_running o s) ≡ false → is_dirty (while_running o s) ≡ false → (is_open s ≡ false) × (is_dirty s ≡ false)
+running_quiet None s h k = (h, k)
+running_quiet (Some (Dirty rs)) s h k = absurd (true≢false k)
+running_quiet (Some Open) s h k = (sym (unless_open s) ∙ h, sym (unless_dirty s) ∙ k)
+running_quiet (Some Restore) s h k = (sym (unless_open s) ∙ h, sym (unless_dirty s) ∙ k)
+running_quiet (Some Clean) s h k = (sym (unless_open s) ∙ h, sym (unless_dirty s) ∙ k)
 
 module _
     (flow : Flow) (act : Act) (has_fields : Job → Bool) (image : Image) (H : Versions) (settings : Settings) (progress : Progress)
     (plan : Plan) where
+  -- the outputs of jobs that run as a Restore
+  abbrev pub restored : Path → Bool
+  restored p = is_restored image settings progress plan p
+
   -- neither Open nor Dirty by the table
   pub record Quiet (c : Candidate) : Type 0 where
     pub shut : is_open_now image settings progress plan (job flow plan.lists c) ≡ false
@@ -123,9 +147,9 @@ module _
     pub holds : holder image q ≡ Some h
     pub reads : record_at image h ≡ Some r
     pub same : r.recipe ≡ recipe flow plan.lists c
-    pub unmarked : image.marked h ≡ false
-    pub stamp : stamp_now image q ≡ Some (Made r.made)
-    pub agrees : (p : Path) (s now : Stamp) → In (p, s) (stamped r) → stamp_now image p ≡ Some now → s ≡ now
+    pub unmarked : is_marked_but image restored h ≡ false
+    pub stamp : stamp_now_but image restored q ≡ Some (Made r.made)
+    pub agrees : (p : Path) (s now : Stamp) → In (p, s) (stamped r) → stamp_now_but image restored p ≡ Some now → s ≡ now
     pub part :
         (v : Option (List Tree)) (t x : Tree) →
         value_at act r.recipe h v ≡ Some t → part_at h q t ≡ Some x → value_at act r.recipe q v ≡ Some x
@@ -133,7 +157,7 @@ module _
   abbrev pub ReachedHere : ℕ → Path → Type 0
   ReachedHere n p = Reached flow (sources_of image) plan.lists (flat_map (walk flow (sources_of image) plan.lists 200) settings.targets) n p
 
-  module _ (fills : BoundFills) (rest : Rested flow act has_fields image H settings progress plan) where
+  module _ (fills : BoundFills) (rest : Planned flow image settings progress plan) where
     abbrev srcs : Sources
     srcs = sources_of image
 
@@ -187,7 +211,7 @@ module _
     in_plan n p c reached e =
         subst (In (jb c)) derived.1 (walked_job flow srcs plan.lists settings.targets 200 c (reached_own flow srcs plan.lists walked n p c reached e))
 
-    in_plan_here : (n : ℕ) (p : Path) (c : Candidate) → ReachedHere n p → choose flow (sources_of image) p ≡ Make c → In (job flow plan.lists c) plan.jobs
+    pub in_plan_here : (n : ℕ) (p : Path) (c : Candidate) → ReachedHere n p → choose flow (sources_of image) p ≡ Make c → In (job flow plan.lists c) plan.jobs
     in_plan_here zero p c reached e = absurd (reached_zero flow srcs plan.lists walked p c reached e)
     in_plan_here (suc n) p c reached e = in_plan n p c reached e
 
@@ -213,18 +237,10 @@ module _
 
     -- ## states
 
-    state_is : (j : Job) → states j ≡ by_table image settings progress plan j
-    state_is j = ap (λ (r : List (Path × State)). or_state (option_map (λ (e : Path × State). e.1) (find (λ (e : Path × State). bytes_eq e.0 (job_path j)) r)) (by_table image settings progress plan j)) rest.rest
-
-    table : (b : Bool) (rs : List Reason) (x : Bool) → is_open (cond b Open (by_reasons rs x)) ≡ false → is_dirty (cond b Open (by_reasons rs x)) ≡ false → (b ≡ false) × (rs ≡ [])
-    table true rs x h k = absurd (true≢false h)
-    table false [] x h k = (refl, refl)
-    table false (r ∷ rs) x h k = absurd (true≢false k)
-
     quiet_by : (c : Candidate) → is_open (states (jb c)) ≡ false → is_dirty (states (jb c)) ≡ false → Quiet c
     quiet_by c h k =
-        let t = table (is_open_now image settings progress plan (jb c)) (reasons image settings progress plan (jb c)) _
-        (sym (ap is_open (state_is (jb c))) ∙ h) (sym (ap is_dirty (state_is (jb c))) ∙ k) in
+        let r = running_quiet (kept_state image settings progress plan (jb c)) (by_table image settings progress plan (jb c)) h k in
+        let t = table_quiet (is_open_now image settings progress plan (jb c)) (reasons image settings progress plan (jb c)) _ r.0 r.1 in
         record { shut = t.0; calm = t.1 }
 
     clean_quiet : (s : State) → is_clean s ≡ true → (is_open s ≡ false) × (is_dirty s ≡ false)
@@ -234,7 +250,7 @@ module _
     clean_quiet Clean h = (refl, refl)
 
     -- F: what is ready is made by a quiet job, and whole
-    ready_parts :
+    pub ready_parts :
         (n : ℕ) (q : Path) (c : Candidate) → ReachedHere n q → choose flow srcs q ≡ Make c → IsTrue (is_ready image settings progress plan q) →
         Quiet c × (stands_whole image q (jb c) ≡ true)
     ready_parts n q c reached e ready =
@@ -247,6 +263,60 @@ module _
         (n : ℕ) (p : Path) (c : Candidate) →
         ReachedHere (suc n) p → choose flow (sources_of image) p ≡ Make c → IsTrue (is_ready image settings progress plan p) → Quiet c
     ready_quiet n p c reached e ready = (ready_parts (suc n) p c reached e ready).0
+
+    -- what makes a ready path is Clean
+    pub maker_clean :
+        (n : ℕ) (q : Path) (c : Candidate) → ReachedHere n q → choose flow srcs q ≡ Make c → IsTrue (is_ready image settings progress plan q) →
+        is_clean (states (jb c)) ≡ true
+    maker_clean n q c reached e ready =
+        let m = maker_is n q c reached e in
+        and_left (is_clean (states (jb c))) (stands_whole image q (jb c)) (sym (ap (test_some (λ (e : Job × State). is_clean e.1 && stands_whole image q e.0)) m) ∙ ready)
+
+    -- what makes a ready path doesn't run
+    pub not_restored :
+        (n : ℕ) (q : Path) (c : Candidate) (h : Path) → ReachedHere n q → choose flow srcs q ≡ Make c → IsTrue (is_ready image settings progress plan q) →
+        In h (out_paths (recipe flow plan.lists c)) → restored h ≡ false
+    not_restored n q c h reached e ready i = none_of (λ j. test_some is_restore (kept_state image settings progress plan j) && among (out_paths j.recipe) h) plan.jobs each
+      where
+        idle : (o : Option State) (s : State) → is_clean (while_running o s) ≡ true → test_some is_restore o ≡ false
+        idle None s k = refl
+        idle (Some Open) s k = refl
+        idle (Some (Dirty rs)) s k = refl
+        idle (Some Clean) s k = refl
+        idle (Some Restore) Open k = absurd (true≢false (sym k))
+        idle (Some Restore) (Dirty rs) k = absurd (true≢false (sym k))
+        idle (Some Restore) Restore k = absurd (true≢false (sym k))
+        idle (Some Restore) Clean k = absurd (true≢false (sym k))
+
+        none_of : (test : Job → Bool) (js : List Job) → ((j : Job) → In j js → test j ≡ false) → list_any test js ≡ false
+        none_of test [] f = refl
+        none_of test (j ∷ js) f = let a = f j (inl refl) in let b = none_of test js (λ k l. f k (inr l)) in λ i. a i || b i
+
+        each : (j : Job) → In j plan.jobs → (test_some is_restore (kept_state image settings progress plan j) && among (out_paths j.recipe) h) ≡ false
+        each j l = go (among (out_paths j.recipe) h) refl
+          where
+            other : (t b : Bool) → b ≡ false → (t && b) ≡ false
+            other true b x = x
+            other false b x = refl
+
+            first : (t b : Bool) → t ≡ false → (t && b) ≡ false
+            first true b x = absurd (true≢false x)
+            first false b x = refl
+
+            here : (o : Path) → In o (out_paths j.recipe) → makes j o ≡ true
+            here o k = or_first (among (out_paths j.recipe) o) (is_some (folder_over j.recipe o)) (in_among (out_paths j.recipe) o k)
+
+            own : makes (jb c) h ≡ true
+            own = or_first (among (out_paths (recipe flow plan.lists c)) h) (is_some (folder_over (recipe flow plan.lists c) h)) (in_among (out_paths (recipe flow plan.lists c)) h i)
+
+            go : (b : Bool) → among (out_paths j.recipe) h ≡ b → (test_some is_restore (kept_state image settings progress plan j) && among (out_paths j.recipe) h) ≡ false
+            go false k = other (test_some is_restore (kept_state image settings progress plan j)) (among (out_paths j.recipe) h) k
+            go true k =
+                let a = maker_found states plan.jobs j h apart l (here h (among_in (out_paths j.recipe) h k)) in
+                let b = maker_found states plan.jobs (jb c) h apart (in_plan_here n q c reached e) own in
+                let same : j ≡ jb c = ap (λ (x : Job × State). x.0) (some_inj (j, states j) (jb c, states (jb c)) (sym a ∙ b)) in
+                first (test_some is_restore (kept_state image settings progress plan j)) (among (out_paths j.recipe) h)
+                (subst (λ x. test_some is_restore (kept_state image settings progress plan x) ≡ false) (sym same) (idle (kept_state image settings progress plan (jb c)) (by_table image settings progress plan (jb c)) (maker_clean n q c reached e ready)))
 
     made_by_is : (test : State → Bool) (n : ℕ) (q : Path) (c : Candidate) → ReachedHere n q → choose flow srcs q ≡ Make c → made_by plan test q ≡ false → test (states (jb c)) ≡ false
     made_by_is test n q c reached e h =
@@ -286,24 +356,24 @@ module _
 
     output_record :
         (c : Candidate) (h : Path) → Quiet c → In h (out_paths (recipe flow plan.lists c)) →
-        (r : Record) × (record_at image h ≡ Some r) × (r.recipe ≡ recipe flow plan.lists c) × (image.marked h ≡ false)
-        × ((p : Path) (s now : Stamp) → In (p, s) (stamped r) → stamp_now image p ≡ Some now → s ≡ now)
+        (r : Record) × (record_at image h ≡ Some r) × (r.recipe ≡ recipe flow plan.lists c) × (is_marked_but image restored h ≡ false)
+        × ((p : Path) (s now : Stamp) → In (p, s) (stamped r) → stamp_now_but image restored p ≡ Some now → s ≡ now)
     output_record c h quiet i =
         let calm =
-        own_calm (recipe flow plan.lists c) (map image.kept (out_paths (recipe flow plan.lists c))) (map image.marked (out_paths (recipe flow plan.lists c)))
-        (map (λ q. (q, stamp_now image q)) (in_paths (recipe flow plan.lists c)))
+        own_calm (recipe flow plan.lists c) (map image.kept (out_paths (recipe flow plan.lists c))) (map (is_marked_but image restored) (out_paths (recipe flow plan.lists c)))
+        (map (λ q. (q, stamp_now_but image restored q)) (in_paths (recipe flow plan.lists c)))
         (append_nil_left _ _ quiet.calm) in
         let r = kept_record image (out_paths (recipe flow plan.lists c)) h calm.present calm.readable i in
         let a =
-        held_agrees (recipe flow plan.lists c) (map image.kept (out_paths (recipe flow plan.lists c))) (map image.marked (out_paths (recipe flow plan.lists c)))
-        (map (λ q. (q, stamp_now image q)) (in_paths (recipe flow plan.lists c))) calm r.0 r.2 in (
+        held_agrees (recipe flow plan.lists c) (map image.kept (out_paths (recipe flow plan.lists c))) (map (is_marked_but image restored) (out_paths (recipe flow plan.lists c)))
+        (map (λ q. (q, stamp_now_but image restored q)) (in_paths (recipe flow plan.lists c))) calm r.0 r.2 in (
           r.0,
           r.1,
           a.same,
-          any_none (λ b. b) (map image.marked (out_paths (recipe flow plan.lists c))) (image.marked h) calm.unmarked (in_map image.marked (out_paths (recipe flow plan.lists c)) h i),
+          any_none (λ b. b) (map (is_marked_but image restored) (out_paths (recipe flow plan.lists c))) (is_marked_but image restored h) calm.unmarked (in_map (is_marked_but image restored) (out_paths (recipe flow plan.lists c)) h i),
           λ p s now k e. a.steady p s now
-              (subst (λ o. In (p, o) (once (map (λ q. (q, stamp_now image q)) (in_paths (recipe flow plan.lists c))))) e
-              (in_once_of (stamp_now image) (in_paths (recipe flow plan.lists c)) p
+              (subst (λ o. In (p, o) (once (map (λ q. (q, stamp_now_but image restored q)) (in_paths (recipe flow plan.lists c))))) e
+              (in_once_of (stamp_now_but image restored) (in_paths (recipe flow plan.lists c)) p
               (subst (λ rec. In p (in_paths rec)) a.same (zip_first (in_paths r.0.recipe) r.0.stamps p s k))))
               k,
         )
@@ -340,11 +410,11 @@ module _
         ∙ found.1 ∙ ap Some (sym same)
 
     stamp_is :
-        (q h : Path) (r : Record) → is_source image q ≡ false → holder image q ≡ Some h → record_at image h ≡ Some r → image.marked h ≡ false →
-        stamp_now image q ≡ Some (Made r.made)
+        (q h : Path) (r : Record) → is_source image q ≡ false → holder image q ≡ Some h → record_at image h ≡ Some r → is_marked_but image restored h ≡ false →
+        stamp_now_but image restored q ≡ Some (Made r.made)
     stamp_is q h r source holds reads unmarked =
-        ap (λ b. cond b (time_stamp (source_at image q)) (option_and_then (unmarked_stamp image) (holder image q))) source
-        ∙ ap (option_and_then (unmarked_stamp image)) holds
+        ap (λ b. cond b (time_stamp (source_at image q)) (option_and_then (unmarked_stamp_but image restored) (holder image q))) source
+        ∙ ap (option_and_then (unmarked_stamp_but image restored)) holds
         ∙ ap (λ b. cond b None (made_stamp (core_at image h))) unmarked
         ∙ ap made_stamp (core_reads image h r reads)
 
@@ -393,7 +463,7 @@ module _
 
     -- ## what stands
 
-    own_outputs : (n : ℕ) (q : Path) (c : Candidate) → ReachedHere n q → choose flow srcs q ≡ Make c → Apart (out_paths (recipe flow plan.lists c))
+    pub own_outputs : (n : ℕ) (q : Path) (c : Candidate) → ReachedHere n q → choose flow srcs q ≡ Make c → Apart (out_paths (recipe flow plan.lists c))
     own_outputs n q c reached e = own_apart plan.jobs (jb c) apart (in_plan_here n q c reached e)
 
     -- an output is no member
@@ -408,7 +478,7 @@ module _
             absurd (clash_of (is_under q q) (subst (λ w. is_under q w ≡ true) (sym same) r.1) (never_under_itself q))
 
     -- the directory over a member
-    member_over :
+    pub member_over :
         (c : Candidate) (h q : Path) → Apart (out_paths (recipe flow plan.lists c)) → is_under q h ≡ true → In h (folders_of (recipe flow plan.lists c)) →
         folder_over (recipe flow plan.lists c) q ≡ Some h
     member_over c h q a u i =
@@ -464,24 +534,29 @@ module _
               ),
             )
 
-    -- E: the listing with which the plan was derived is that of what stands there
-    pub listed :
-        (n : ℕ) (p : Path) (c : Candidate) (q : Path) (d : Candidate) (h : Path) (r : Record) (t : Tree) →
-        Quiet c → In q (gathered_folders flow c) → ReachedHere n q → Product d q h r → IsTrue (is_ready image settings progress plan q) →
-        tree_now image q ≡ Some t → files_of t ≡ or_none (listing plan.lists q)
-    listed n p c q d h r t quiet inn reached made ready now =
+    -- E: the listing of a directory that a quiet job gathers from is known where it is ready
+    pub known :
+        (c : Candidate) (q : Path) → Quiet c → In q (gathered_folders flow c) → IsTrue (is_ready image settings progress plan q) →
+        (files : List Path) × (listing plan.lists q ≡ Some files)
+    known c q quiet inn ready =
         let missing = any_none (λ d. is_ready image settings progress plan d && is_none (listing plan.lists d)) (gathered_folders flow c) q (or_left _ _ (or_right _ _ quiet.shut)) inn in
-        standing made.place ((ready_parts n q d reached made.chosen ready).1)
-        ∙ known (listing plan.lists q) refl (or_right_of (is_ready image settings progress plan q) (is_none (listing plan.lists q)) ready missing)
+        go (listing plan.lists q) (or_right_of (is_ready image settings progress plan q) (is_none (listing plan.lists q)) ready missing)
       where
         or_right_of : (a b : Bool) → a ≡ true → (a && b) ≡ false → b ≡ false
         or_right_of true b x y = y
         or_right_of false b x y = absurd (true≢false (sym x))
 
-        known : (o : Option (List Path)) → listing plan.lists q ≡ o → is_none o ≡ false → names_of (members_of (record_at image q)) ≡ or_none o
-        known None e k = absurd (true≢false k)
-        known (Some files) e k = sym (rest.lists q files e)
+        go : (o : Option (List Path)) → is_none o ≡ false → (files : List Path) × (o ≡ Some files)
+        go None k = absurd (true≢false k)
+        go (Some files) k = (files, refl)
 
+    -- what stands at a product that is ready has the files of its record
+    pub listed :
+        (n : ℕ) (q : Path) (d : Candidate) (h : Path) (r : Record) (t : Tree) →
+        ReachedHere n q → Product d q h r → IsTrue (is_ready image settings progress plan q) →
+        tree_now image q ≡ Some t → files_of t ≡ files_listed image q
+    listed n q d h r t reached made ready now = standing made.place ((ready_parts n q d reached made.chosen ready).1)
+      where
         file_names : is_file image q ≡ true → files_of t ≡ []
         file_names f = let g = some_of (file_at image q) f in sym (ap files_of (some_inj (File g.0.bytes) t (sym (file_tree image q g.0 g.1) ∙ now)))
 
@@ -506,9 +581,9 @@ module _
             file_names (and_right (is_whole image h FolderKind) (is_file image q) w)
             ∙ sym (ap (λ o. names_of (members_of o)) (member_unrecorded d h q (in_plan_here n q d reached made.chosen) made.is_output u.0))
 
-    -- the listing of a source is empty
-    pub source_listed : (q : Path) → is_source image q ≡ true → or_none (listing plan.lists q) ≡ []
-    source_listed q h = go (listing plan.lists q) refl
+    -- no files are listed of a source
+    pub source_listed : (q : Path) → is_source image q ≡ true → files_listed image q ≡ []
+    source_listed q h = ap (λ o. names_of (members_of o)) (unrecorded (record_at image q) refl)
       where
         uncovered : is_known image q ≡ false
         uncovered = or_left _ _ (not_true (is_covered image q) (and_right (is_file image q) _ (and_right (is_path_text q) _ h)))
@@ -516,7 +591,3 @@ module _
         unrecorded : (o : Option Record) → record_at image q ≡ o → o ≡ None
         unrecorded None e = refl
         unrecorded (Some r) e = absurd (clash_of (stands (image.kept q)) ((record_stands image rest.complete q r e).0) (or_left _ _ uncovered))
-
-        go : (o : Option (List Path)) → listing plan.lists q ≡ o → or_none o ≡ []
-        go None e = refl
-        go (Some files) e = rest.lists q files e ∙ ap (λ o. names_of (members_of o)) (unrecorded (record_at image q) refl)

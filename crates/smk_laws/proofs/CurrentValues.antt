@@ -76,14 +76,14 @@ listings_agree M L (g ∷ fs) h =
 -- ## Mean
 
 module _ (S : Setting) where
-  abbrev runs : ℕ → Path → Candidate → Listings → Bool → Option Tree
+  abbrev pub runs : ℕ → Path → Candidate → Listings → Bool → Option Tree
   runs n p c L b =
       elim b as (λ _. Option Tree) [
         | true ↦ let r = recipe S.flow L c in value_at S.act r p (all_of (map (mean S n) (in_paths r)))
         | false ↦ None
       ]
 
-  abbrev gathers_by : ℕ → Path → Candidate → Option (List Tree) → Option Tree
+  abbrev pub gathers_by : ℕ → Path → Candidate → Option (List Tree) → Option Tree
   gathers_by n p c o =
       elim o as (λ _. Option Tree) [
         | None ↦ None
@@ -95,7 +95,7 @@ module _ (S : Setting) where
             ]
       ]
 
-  abbrev mean_by : ℕ → Path → Choice → Option Tree
+  abbrev pub mean_by : ℕ → Path → Choice → Option Tree
   mean_by n p ch =
       elim ch as (λ _. Option Tree) [
         | Source ↦ source_tree S p

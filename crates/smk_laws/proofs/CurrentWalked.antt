@@ -18,7 +18,7 @@ numbered_above [] n k a h = absurd h
 numbered_above (x ∷ xs) n k a (inl e) = let s : k ≡ n = ap (λ w. w.0) e in omega arith
 numbered_above (x ∷ xs) n k a (inr h) = let s = numbered_above xs (n + 1) k a h in omega arith
 
-numbered_once : {A : Type 0} (xs : List A) (n k : ℕ) (a b : A) → In (k, a) (enumerate_from n xs) → In (k, b) (enumerate_from n xs) → a ≡ b
+pub numbered_once : {A : Type 0} (xs : List A) (n k : ℕ) (a b : A) → In (k, a) (enumerate_from n xs) → In (k, b) (enumerate_from n xs) → a ≡ b
 numbered_once [] n k a b h i = absurd h
 numbered_once (x ∷ xs) n k a b (inl e) (inl f) = ap (λ w. w.1) e ∙ sym (ap (λ w. w.1) f)
 numbered_once (x ∷ xs) n k a b (inl e) (inr i) = absurd (let s : k ≡ n = ap (λ w. w.0) e in let t = numbered_above xs (n + 1) k b i in omega arith)
@@ -64,7 +64,7 @@ module _ (flow : Flow) (sources : Sources) (L : Listings) where
       go (Ambiguous a b) e k ih = absurd k
       go (Make d) e k ih = parts d e (in_either c (flat_map (walk flow sources L n) (wants flow L d)) (d ∷ []) k) ih
 
-  chosen_same : (p q : Path) (c d : Candidate) → choose flow sources p ≡ Make c → choose flow sources q ≡ Make d → same_candidate c d ≡ true → c ≡ d
+  pub chosen_same : (p q : Path) (c d : Candidate) → choose flow sources p ≡ Make c → choose flow sources q ≡ Make d → same_candidate c d ≡ true → c ≡ d
   chosen_same p q c d e f h =
       let s = same_parts c d h in
       let o = origin flow p c sources e in

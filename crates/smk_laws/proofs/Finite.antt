@@ -39,7 +39,7 @@ each_in P (y ∷ xs) h x (inr i) = each_in P xs h.1 x i
 
 -- ## Where a node or a record comes from
 
-node_from : (nodes : Nodes) (p : Path) (n : Node) → node_in nodes p ≡ Some n → IsIn nodes (p, n)
+pub node_from : (nodes : Nodes) (p : Path) (n : Node) → node_in nodes p ≡ Some n → IsIn nodes (p, n)
 node_from [] p n h = none_some n h
 node_from (e ∷ es) p n h = go (bytes_eq p e.0) refl h (λ k. node_from es p n k)
   where

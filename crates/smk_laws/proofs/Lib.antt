@@ -1,4 +1,8 @@
 mod Refused
+mod RefusedOrders
+mod RefusedCalls
+mod RefusedRuns
+mod RefusedRemoval
 mod Vouched
 pub mod Valid
 pub mod Same
@@ -13,15 +17,38 @@ pub mod CurrentSame
 pub mod CurrentWalked
 pub mod CurrentApart
 pub mod CurrentTrees
+pub mod CurrentStates
+pub mod CurrentEased
 pub mod CurrentProducts
 pub mod CurrentFills
-pub mod CurrentNumbers
 pub mod CurrentComplete
 pub mod CurrentMeaning
 pub mod CurrentLaw
 pub mod CurrentChoices
 pub mod CurrentNeeded
+mod RestoreNeeded
+mod ExitRows
+pub mod CurrentDepths
+pub mod CurrentReads
+pub mod CurrentTrusted
 pub mod Finite
 mod Copied
 pub mod CurrentAtExit
 pub mod CurrentStamps
+pub mod HistoryImages
+pub mod HistoryPlaces
+pub mod HistoryChange
+pub mod HistoryNew
+pub mod HistoryEdit
+pub mod HistoryRemove
+pub mod HistoryLaw
+pub mod HistoryListed
+pub mod HistoryListedCalls
+pub mod HistoryListedRuns
+pub mod HistoryListedForgetting
+mod HistoryExample
+pub mod PlanOrder
+pub mod PlanStates
+pub mod PlanOne
+pub mod MoreListings
+pub mod ChoiceOne

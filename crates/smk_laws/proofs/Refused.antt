@@ -24,24 +24,24 @@ use Rattle.smk_chain.proofs.Folders.{file, image_with}
 use Rattle.smk_plan.proofs.Plans.{after_copy, copy_records}
 
 -- a record none of whose inputs was a product hangs together
-no_products :
+pub no_products :
     (image : Image) (r : Record) → ((q : Path) (m : ℕ) → IsIn (stamped r) (q, Made m) → ⊥) → Chain image none_eased any_time r
 no_products image r none =
     Link r (λ q m. q) (λ q m. r) (λ q t i. tt) (λ q m i. absurd (none q m i)) (λ q m i. absurd (none q m i))
 
-abbrev is_time : Path × Stamp → Bool
+abbrev pub is_time : Path × Stamp → Bool
 is_time (q, Time t) = true
 is_time (q, Made m) = false
 
-one_time : (p : Path) (t : ℕ) (q : Path) (m : ℕ) → IsIn {A = Path × Stamp} ((p, Time t) ∷ []) (q, Made m) → ⊥
+pub one_time : (p : Path) (t : ℕ) (q : Path) (m : ℕ) → IsIn {A = Path × Stamp} ((p, Time t) ∷ []) (q, Made m) → ⊥
 one_time p t q m (inl e) = true≢false (sym (ap is_time e))
 one_time p t q m (inr i) = i
 
 -- the source had these bytes at its time
-abbrev hello_at : Versions
+abbrev pub hello_at : Versions
 hello_at p t = if bytes_eq p (codes "in.txt") && (t == 1000) then Some (codes "hello\n") else None
 
-differ : (t : Tree) → Some (File (codes "help\n")) ≡ Some t → Some (File (codes "hello\n")) ≡ Some t → ⊥
+pub differ : (t : Tree) → Some (File (codes "help\n")) ≡ Some t → Some (File (codes "hello\n")) ≡ Some t → ⊥
 differ t a b = grind arith
 
 -- ## Other bytes
@@ -91,18 +91,18 @@ nested_refused sound = two_paths (sound.none_nested (codes "out.txt") (codes "ou
 
 -- ## A mark gone too early
 
-abbrev spelled : List ℕ
+abbrev pub spelled : List ℕ
 spelled = codes "out.txt"
 
-abbrev first_record : List Record → Option Record
+abbrev pub first_record : List Record → Option Record
 first_record [] = None
 first_record (r ∷ rs) = Some r
 
-abbrev outside : Outside
+abbrev pub outside : Outside
 outside = record { read = λ bytes. if bytes_eq bytes spelled then first_record copy_records else None; act = commands }
 
 -- the record stands, no mark does, and the output is torn
-abbrev torn : Nodes
+abbrev pub torn : Nodes
 torn =
     (record_place (codes "out.txt"), Regular spelled 1002 false)
     ∷ (codes "in.txt", Regular (codes "hello\n") 1000 false)

@@ -1,25 +1,54 @@
 -- Histories: worlds that follow one another by calls, edits, removals and crashes.
-use Rattle.std.specs.Prelude.{◌≡◌, ◌<◌, ℕ, Bool, true, false, ◌&&◌, not, List, [], ◌∷◌, ◌++◌, bytes_eq, if◌then◌else◌, Option, Some, None, IsTrue, Contains}
+use Rattle.std.specs.Prelude.{◌≡◌, ◌<◌, ℕ, Bool, true, false, ◌&&◌, not, List, [], ◌∷◌, ◌++◌, bytes_eq, if◌then◌else◌, Option, Some, None, IsTrue}
 use Rattle.std.specs.List.{list_all, filter}
 use Rattle.smk_base.specs.Path.{own_folder, is_under, is_at_or_under}
 use Rattle.smk_world.specs.declared.event.Node.{Node}
 use Rattle.smk_world.specs.declared.event.Node.TheVariants.{Regular, Directory}
 use Rattle.smk_world.specs.declared.event.Event.{Event}
-use Rattle.smk_world.specs.World.{World, Nodes, IsFormed, Leaves, run, world_of, firmly, folders_above, add_names}
+use Rattle.smk_world.specs.World.{World, Nodes, IsFormed, Leaves, reading, run, world_of, firmly, folders_above, add_names}
 use Rattle.smk_world.specs.Runs.{Follows}
-use Rattle.smk_world.specs.Trees.{Path, IsIn}
+use Rattle.smk_world.specs.Trees.{Path, IsIn, is_folder_kind, kind_in}
 use Rattle.smk_record.specs.declared.record.Stamp.TheVariants.{Time}
+use Rattle.smk_record.specs.declared.record.Member.{Member}
 use Rattle.smk_record.specs.declared.record.Record.{Record}
 use Rattle.smk_record.specs.Records.{stamped}
-use Rattle.smk_store.specs.Images.{Image, Content, seen, file_at, is_file, is_folder, is_source, core_at}
+use Rattle.smk_store.specs.Images.{Image, Content, seen, file_at, is_file, is_folder, is_source, core_at, record_at, members_under}
 use Rattle.smk_store.specs.Trust.{Versions}
 use Rattle.smk_store.specs.Soundness.{Outside, EachImage, SoundWorld}
 use Rattle.smk_store.specs.Safety.{KeepsSound, with_sources}
+use Rattle.smk_protocol.specs.Protocol.{RunState, Runs}
+use Rattle.smk_protocol.specs.Midway.{IsTop, at_entry}
+use Rattle.smk_protocol.specs.Forgetting.{Stage, Resting, is_resting, ForgetsAll}
+
+-- ## Directories with no more than is listed
+
+-- Under a directory output that stands, and whose record reads and has no mark, no more stands than the record lists.
+abbrev pub ListsAll : Image → Type 0
+ListsAll image =
+    (p : Path) (r : Record) →
+    record_at image p ≡ Some r →
+    image.marked p ≡ false →
+    is_folder_kind (kind_in r.recipe p) ≡ true → is_folder image p ≡ true → (m : Member) → IsIn (members_under image p) m → IsIn r.members m
+
+-- so it is in the world as it reads and in whatever a crash leaves of it
+pub record IsListed (o : Outside) (w : World) : Type 0 where
+  pub now : ListsAll (seen o.read w)
+  pub after_crash : EachImage o.read w ListsAll
+
+-- What a call keeps of this, from a sound world: after every prefix of its log it is so in whatever a crash leaves; and, where the
+-- flag says so, in the world at its end, if no child is left.
+pub record KeepsListed (o : Outside) (entry : World) (log : List Event) (to_the_end : Bool) : Type 0 where
+  pub throughout :
+      (H : Versions) → SoundWorld o entry H → IsListed o entry → (events rest : List Event) → log ≡ events ++ rest → EachImage o.read (run entry events) ListsAll
+  pub at_exit :
+      (H : Versions) → SoundWorld o entry H → IsListed o entry → IsTrue to_the_end → (run entry log).children ≡ [] → ListsAll (seen o.read (run entry log))
+
+-- ## Worlds that follow one another
 
 -- a world to begin with: nothing of the engine's, no child, every node firm
 pub record IsNew (w : World) : Type 0 where
   pub formed : IsFormed w
-  pub none_own : (q : Path) → Contains w.names q → is_at_or_under q own_folder ≡ false
+  pub none_own : (q : Path) → is_at_or_under q own_folder ≡ true → reading (w.nodes q) ≡ None
   pub no_child : w.children ≡ []
   pub all_firm : (q : Path) → (n : Option Node) × (w.nodes q ≡ firmly n)
 
@@ -49,6 +78,13 @@ pub record IsLater (image : Image) (time : ℕ) : Type 0 where
 abbrev pub can_stand : Image → Path → Bool
 can_stand image p = not (is_folder image p) && list_all (λ f. not (is_file image f)) (folders_above p)
 
+-- A call of the engine, by its entry, its log and the paths that it forgets: its events are ones that the world lets happen, and it
+-- keeps what its clauses on crashes say; to its end, where the flag says so.
+pub record IsCall (o : Outside) (entry : World) (log : List Event) (paths : List Path) (to_the_end : Bool) : Type 0 where
+  pub follows : Follows o.act entry log
+  pub sound : KeepsSound o entry log paths to_the_end
+  pub listed : KeepsListed o entry log to_the_end
+
 -- One step of a history. An edit or addition makes a source, with a later time; a removal takes what isn't the engine's; a call runs
 -- to its end, or a crash comes after some of its events.
 pub data Step (o : Outside) (w : World) : World → Type 0 where
@@ -60,13 +96,10 @@ pub data Step (o : Outside) (w : World) : World → Type 0 where
       EachImage o.read (edited w p (Regular bytes time read_only)) (λ i. IsTrue (is_source i p)) →
       Step o w (edited w p (Regular bytes time read_only))
   Remove : (p : Path) → is_at_or_under p own_folder ≡ false → Step o w (removed w p)
-  Call :
-      (log : List Event) (paths : List Path) →
-      Follows o.act w log → KeepsSound o w log paths true → (run w log).children ≡ [] → Step o w (run w log)
+  Call : (log : List Event) (paths : List Path) → IsCall o w log paths true → (run w log).children ≡ [] → Step o w (run w log)
   Crash :
       (log events rest : List Event) (paths : List Path) (to_the_end : Bool) (nodes : Nodes) →
-      Follows o.act w log →
-      KeepsSound o w log paths to_the_end → log ≡ events ++ rest → Leaves (run w events) nodes → Step o w (world_of nodes)
+      IsCall o w log paths to_the_end → log ≡ events ++ rest → Leaves (run w events) nodes → Step o w (world_of nodes)
 
 -- no path has a version
 abbrev pub no_versions : Versions
@@ -80,3 +113,19 @@ pub data History (o : Outside) : World → Versions → Type 0 where
 -- Every world of every history is sound for its versions.
 abbrev pub HistoryLaw : Type 0
 HistoryLaw = (o : Outside) (w : World) (H : Versions) → History o w H → SoundWorld o w H
+
+-- And its directories have no more than their records list.
+abbrev pub HistoryIsListed : Type 0
+HistoryIsListed = (o : Outside) (w : World) (H : Versions) → History o w H → IsListed o w
+
+-- A run of the protocol is a call that stands in a history.
+abbrev pub RunIsCall : Type 0
+RunIsCall =
+    (o : Outside) (entry : World) (top : ℕ) (log : List Event) (s : RunState) →
+    IsTop o entry top → Follows o.act entry log → Runs o (at_entry o top) entry log s → IsCall o entry log [] true
+
+-- So is a log that forgets paths; to its end, where no path's turn is left open.
+abbrev pub ForgettingIsCall : Type 0
+ForgettingIsCall =
+    (o : Outside) (entry : World) (paths : List Path) (log : List Event) (s : Stage) →
+    Follows o.act entry log → ForgetsAll o paths Resting entry log s → IsCall o entry log paths (is_resting s)

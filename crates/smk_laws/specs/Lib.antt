@@ -3,3 +3,5 @@ pub mod Current
 pub mod Choices
 pub mod AtExit
 pub mod Stamps
+pub mod Plans
+pub mod Trusted

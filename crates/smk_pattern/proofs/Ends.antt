@@ -1,5 +1,5 @@
 -- Patterns that end with a text.
-use Rattle.std.proofs.Common.{◌≡◌, List, ℕ, [], ◌∷◌, ◌++◌, Option, None, Some, is_some, Bool, true, false, Bor, MatchOption, sym, ap, ◌∙◌, append-nil, append_assoc, true≢false}
+use Rattle.std.proofs.Common.{◌≡◌, List, [], ◌∷◌, ◌++◌, Option, None, Some, is_some, Bool, false, Bor, MatchOption, sym, ap, ◌∙◌, append-nil, append_assoc, true≢false}
 use Rattle.std.proofs.lemmas.List.{map_push}
 use Rattle.smk_pattern.specs.declared.pattern.Piece.{Piece}
 use Rattle.smk_pattern.specs.declared.pattern.Piece.TheVariants.{Literal}

@@ -1,15 +1,15 @@
 -- The binding that is computed is the one of the relation.
-use Rattle.std.proofs.Common.{◌≡◌, ℕ, zero, suc, ◌+◌, ◌-◌, ◌<◌, ◌≤◌, ◌⊎◌, ◌==◌, ◌&&◌, inl, inr, List, [], ◌∷◌, ◌++◌, length, take, drop, get_or, map, reverse, not, Bool, true, false, Option, None, Some, refl, sym, ap, ap₂, subst, ◌∙◌, arith, append-nil, append_assoc, length-append, IsUtf8, IsCharBoundary, nat_le, true≢false, take-append-drop}
+use Rattle.std.proofs.Common.{◌≡◌, ℕ, zero, suc, ◌+◌, ◌-◌, ◌<◌, ◌≤◌, ◌==◌, ◌&&◌, inl, inr, List, [], ◌∷◌, ◌++◌, length, take, drop, get_or, map, reverse, not, Bool, true, false, Option, None, Some, refl, sym, ap, ap₂, subst, ◌∙◌, arith, append-nil, append_assoc, length-append, IsUtf8, IsCharBoundary, nat_le, true≢false, take-append-drop}
 use Rattle.std.specs.List.{flat_map, range_with_len, slice_get}
 use Rattle.std.specs.Int.{is_in_range}
 use Rattle.std.proofs.lemmas.Bool.{eqb-true, eq-eqb}
 use Rattle.std.proofs.lemmas.Bool.Decides.{nat_tests}
-use Rattle.std.proofs.lemmas.List.{reverse-append, take_at, drop_at, get_or-drop, length-map, length-take-le, append_cancel_left}
+use Rattle.std.proofs.lemmas.List.{reverse-append, take_at, drop_at, get_or-drop, length-map, length-take-le}
 use Rattle.std.proofs.lemmas.Option.{slice_get_within, get_or_from_slice_get, slice_get-get_or}
 use Rattle.std.proofs.lemmas.Str.{IsUtf8-take, IsUtf8-drop, IsCharBoundary-from_take}
 use Rattle.smk_pattern.specs.Shapes.{Text, Part, Shape, Wildcard, IsNumbered, AreTexts}
 use Rattle.smk_pattern.specs.Shapes.Part.{text, wild}
-use Rattle.smk_pattern.specs.Fitting.{filled, AllSuit, Suits, Fits, IsBinding}
+use Rattle.smk_pattern.specs.Fitting.{Suits, Fits, IsBinding}
 use Rattle.smk_pattern.specs.Searching.{RestFits, IsRest}
 use Rattle.smk_pattern.specs.Bound.{begins, suits, is_cut, limit_at, bindings, first_values, bound, BoundIsBinding}
 use Rattle.smk_pattern.proofs.Steps.{text_known, wild_known, past_known, before_known, none_known, found_end, none_end, IsKnown, Splits, none_left, shorter, no_rest, found_wild, split}

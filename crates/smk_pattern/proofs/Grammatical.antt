@@ -1,5 +1,5 @@
 -- A text is written as a pattern where the grammar's relation has it, and is read as the pattern of the relation.
-use Rattle.std.proofs.Common.{◌≡◌, ℕ, zero, suc, ◌+◌, ◌<◌, ◌≤◌, ◌⊎◌, ◌==◌, ◌&&◌, ◌||◌, inl, inr, ⊎_elim, List, [], ◌∷◌, ◌++◌, length, map, filter, take, get_or, Option, Some, None, option_map, Result, Ok, Err, OnOk, IfOk, cond, not, Bool, true, false, refl, sym, ap, ap₂, subst, ◌∙◌, arith, true≢false, nat_le, bytes_eq}
+use Rattle.std.proofs.Common.{◌≡◌, ℕ, zero, suc, ◌+◌, ◌<◌, ◌≤◌, ◌⊎◌, ◌==◌, ◌&&◌, ◌||◌, inl, inr, ⊎_elim, List, [], ◌∷◌, ◌++◌, length, map, filter, take, Option, Some, option_map, Result, Ok, Err, OnOk, IfOk, cond, not, Bool, true, false, refl, sym, ap, ap₂, subst, ◌∙◌, arith, true≢false, nat_le, bytes_eq}
 use Rattle.std.specs.List.{list_all, list_any, slice_get}
 use Rattle.std.proofs.lemmas.Bool.{eq-eqb}
 use Rattle.std.proofs.lemmas.Bool.Decides.{nat_tests}
@@ -10,10 +10,9 @@ use Rattle.smk_base.specs.declared.tree.Pair.{Pair}
 use Rattle.smk_base.specs.Path.{is_path}
 use Rattle.smk_pattern.specs.Shapes.{Text, Part, Wildcard, Shape, IsNumbered}
 use Rattle.smk_pattern.specs.Shapes.Part.{text, wild}
-use Rattle.smk_pattern.specs.Limits.{IsLimit}
-use Rattle.smk_pattern.specs.Grammar.{Piece, plain, hole, is_balanced, inline_limits, limit_for, PartOf, AllPartsOf, IsLimitIn, IsPattern}
+use Rattle.smk_pattern.specs.Grammar.{Piece, plain, hole, is_balanced, inline_limits, limit_for, AllPartsOf, IsLimitIn, IsPattern}
 use Rattle.smk_pattern.specs.Reading.{place_of, part_in, names_in, is_hole, pieces, shape_of}
-use Rattle.smk_pattern.specs.Written.{is_named, is_single, are_written, is_written, with_name, wildcard_in, AreLimits, ReadingIsGrammar}
+use Rattle.smk_pattern.specs.Written.{is_named, is_single, are_written, is_written, wildcard_in, AreLimits, ReadingIsGrammar}
 use Rattle.smk_pattern.proofs.Names.{names_from, lacks, names_from_none, numbered_all}
 use Rattle.smk_pattern.proofs.Spelling.{both, either, pieces_spell, pieces_of}
 
@@ -76,7 +75,7 @@ one_place (y ∷ xs) d (suc m) (suc n) x e f = ap (λ k. suc k) (one_place xs d.
 
 -- ---- the place of a name
 
-place_found : (name : Text) (xs : List Text) → place_of name xs < length xs → slice_get xs (place_of name xs) ≡ Some name
+pub place_found : (name : Text) (xs : List Text) → place_of name xs < length xs → slice_get xs (place_of name xs) ≡ Some name
 place_found name [] lt = absurd (omega (arith, lt))
 place_found name (other ∷ xs) lt = by (bytes_eq name other) refl (place_found name xs)
   where
@@ -125,11 +124,11 @@ numbered_le (text t ∷ ps) known all h = numbered_le ps known all h
 numbered_le (wild n ∷ ps) known all (inl h) = numbered_le ps known all h.1
 numbered_le (wild n ∷ ps) known all (inr h) = let lt = h.1 in omega (arith, lt)
 
-below_all : (n : ℕ) (ps : List Part) (known all : ℕ) → IsNumbered (wild n ∷ ps) known all → n < all
+pub below_all : (n : ℕ) (ps : List Part) (known all : ℕ) → IsNumbered (wild n ∷ ps) known all → n < all
 below_all n ps known all (inl h) = let lt = h.0 in omega (arith, lt, numbered_le ps known all h.1)
 below_all n ps known all (inr h) = let e = h.0 in let lt = h.1 in omega (arith, e, lt)
 
-later_numbered : (n : ℕ) (ps : List Part) (known all : ℕ) → IsNumbered (wild n ∷ ps) known all → (next : ℕ) × IsNumbered ps next all
+pub later_numbered : (n : ℕ) (ps : List Part) (known all : ℕ) → IsNumbered (wild n ∷ ps) known all → (next : ℕ) × IsNumbered ps next all
 later_numbered n ps known all (inl h) = (known, h.1)
 later_numbered n ps known all (inr h) = (known + 1, h.2)
 

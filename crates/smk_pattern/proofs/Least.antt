@@ -1,11 +1,11 @@
 -- The least length of a path that a pattern gives.
-use Rattle.std.proofs.Common.{◌≡◌, ℕ, zero, suc, ◌+◌, ◌<◌, ◌≤◌, List, [], ◌∷◌, ◌++◌, length, take, get_or, map, Option, None, Some, Bool, IsTrue, ◌↔◌, refl, sym, ap, subst, ◌∙◌, arith, length-append, true, nat_lt}
+use Rattle.std.proofs.Common.{◌≡◌, ℕ, zero, suc, ◌+◌, ◌<◌, ◌≤◌, List, [], ◌∷◌, ◌++◌, length, take, get_or, Bool, IsTrue, ◌↔◌, refl, sym, ap, subst, ◌∙◌, arith, length-append, true, nat_lt}
 use Rattle.std.proofs.lemmas.Bool.Decides.{nat_tests}
 use Rattle.std.proofs.lemmas.List.{append_cancel_left}
 use Rattle.smk_pattern.specs.declared.pattern.Piece.{Piece}
 use Rattle.smk_pattern.specs.declared.pattern.Piece.TheVariants.{Literal}
 use Rattle.smk_pattern.specs.declared.pattern.Wildcard as code
-use Rattle.smk_pattern.specs.Shapes.{Text, Part, Wildcard, Shape}
+use Rattle.smk_pattern.specs.Shapes.{Text}
 use Rattle.smk_pattern.specs.Fitting.{filled, part_text, AllSuit, Suits, Fits, IsBinding}
 use Rattle.smk_pattern.specs.Pieces.{part_of, parts_of, wildcard_of, limits_of, pattern_of}
 use Rattle.smk_pattern.proofs.Filled.{filled_more}

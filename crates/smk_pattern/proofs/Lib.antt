@@ -7,6 +7,7 @@ pub mod Split
 pub mod Spelling
 pub mod Grammatical
 pub mod Shared
+pub mod FillPieces
 pub mod Least
 pub mod PartTexts
 pub mod BoundBy

@@ -1,10 +1,10 @@
 -- The names of a pattern, and the numbers of its wildcards.
-use Rattle.std.proofs.Common.{◌≡◌, ℕ, zero, suc, ◌+◌, ◌<◌, ◌≤◌, ◌⊎◌, ◌==◌, ◌&&◌, inl, inr, ⊎_elim, List, [], ◌∷◌, ◌++◌, length, map, filter, not, cond, Bool, true, false, refl, sym, ap, ap₂, subst, ◌∙◌, arith, append-nil, append_assoc, length-append, true≢false, bytes_eq}
+use Rattle.std.proofs.Common.{◌≡◌, ℕ, suc, ◌+◌, ◌<◌, ◌≤◌, ◌⊎◌, ◌==◌, ◌&&◌, inl, inr, ⊎_elim, List, [], ◌∷◌, ◌++◌, length, map, filter, not, cond, Bool, true, false, refl, sym, ap, subst, ◌∙◌, arith, append-nil, append_assoc, length-append, true≢false, bytes_eq}
 use Rattle.std.proofs.lemmas.Bool.{eqb-true, eq-eqb}
-use Rattle.std.proofs.lemmas.Bool.Decides.{nat_tests, eqb_tells}
+use Rattle.std.proofs.lemmas.Bool.Decides.{nat_tests}
 use Rattle.std.proofs.lemmas.Slice.Eq.{bytes_eq-Decides}
-use Rattle.smk_pattern.specs.Shapes.{Text, Part, IsNumbered}
-use Rattle.smk_pattern.specs.Shapes.Part.{text, wild}
+use Rattle.smk_pattern.specs.Shapes.{Text, IsNumbered}
+use Rattle.smk_pattern.specs.Shapes.Part.{wild}
 use Rattle.smk_pattern.specs.Grammar.{Piece, plain, hole}
 use Rattle.smk_pattern.specs.Reading.{place_of, part_in, names_in}
 use Rattle.smk_pattern.specs.Written.{with_name}

@@ -1,5 +1,5 @@
 -- How a table of vain tries is used and kept.
-use Rattle.std.proofs.Common.{◌≡◌, ℕ, ◌+◌, ◌<◌, ◌≤◌, ◌⊎◌, ◌==◌, ◌||◌, ◌-◌, inl, inr, ⊎_elim, List, [], ◌∷◌, ◌++◌, length, get_or, drop, Bool, true, false, Option, refl, sym, ap, ap₂, ◌∙◌, arith, append_assoc, append-nil, length-append, true≢false}
+use Rattle.std.proofs.Common.{◌≡◌, ℕ, ◌+◌, ◌<◌, ◌≤◌, ◌⊎◌, ◌==◌, ◌||◌, ◌-◌, inl, inr, ⊎_elim, List, [], ◌∷◌, ◌++◌, length, get_or, drop, Bool, true, false, Option, refl, sym, ap, ap₂, subst, ◌∙◌, arith, append_assoc, append-nil, length-append, true≢false}
 use Rattle.std.proofs.lemmas.List.{drop_at, get_or_append_left}
 use Rattle.std.proofs.lemmas.Bool.Decides.{nat_tests}
 use Rattle.std.proofs.Math.Seq.{get_or-append_right}
@@ -8,7 +8,8 @@ use Rattle.smk_pattern.specs.Shapes.{Part, IsNumbered}
 use Rattle.smk_pattern.specs.Shapes.Part.{text, wild}
 use Rattle.smk_pattern.specs.Fitting.{filled}
 use Rattle.smk_pattern.specs.Searching.{RestFits, stands_in}
-use Rattle.smk_pattern.specs.Tables.{is_vain, IsApart, Stands, FitsNever, IsSound, Keeps, KeepsAll, Serves}
+use Rattle.smk_pattern.proofs.Steps.{Splits}
+use Rattle.smk_pattern.specs.Tables.{is_vain, IsApart, Stands, FitsNever, Keeps, KeepsAll, Serves}
 
 -- ends of one length are one
 same_end : {A : Type 0} (front other xs ys : List A) → front ++ xs ≡ other ++ ys → length xs ≡ length ys → xs ≡ ys
@@ -191,3 +192,15 @@ keeps_noted ps limits known t a b num none new given f = record {
         let r' = rw (same, end) at r in
         let l = same_length ps (length given) (length known) (length values) (length limits) (begins_short given known ps f) (begins_short given values ps stands') f.apart stands'.apart num numbered' in
         none more (transfer ps limits given known values t more f stands' l r')
+
+-- what was tried in vain behind a wildcard isn't tried again
+pub tried_before : (again : Bool) (n dropped : ℕ) (later : List Part) (known : List (List ℕ)) (limits : List (Option (List ℕ))) (room : length known < length limits) (t value : List ℕ) (a b : Vain) →
+    again ≡ stands_in (length known) later → again ≡ false → Serves known (wild n ∷ later) limits t a → KeepsAll known (wild n ∷ later) limits t a b →
+    IsNumbered later (length known + 1) (length limits) → is_vain b (length later) dropped ≡ true → length value + dropped ≡ length t →
+    (more : List (List ℕ)) → Splits later limits known room t value more → ⊥
+tried_before again n dropped later known limits room t value a b g none s k num noted len more split =
+    let behind = serves_behind again n later known (known ++ value ∷ []) limits t value split.after a b g refl split.begins s k none in
+    let rest : length split.after ≡ dropped = omega (arith, ap length split.begins, length-append value split.after, len) in
+    none_noted later limits (known ++ value ∷ []) split.after b behind
+    (subst (λ (m : ℕ). IsNumbered later m (length limits)) (sym (length-append known (value ∷ []))) num)
+    (subst (λ (r : ℕ). is_vain b (length later) r ≡ true) (sym rest) noted) more split.others

@@ -1,5 +1,5 @@
 -- The pieces that are computed for a text are those that spell it.
-use Rattle.std.proofs.Common.{◌≡◌, ℕ, zero, suc, ◌+◌, ◌<◌, ◌≤◌, ◌⊎◌, ◌==◌, ◌&&◌, ◌||◌, inl, inr, List, [], ◌∷◌, ◌++◌, length, reverse, Option, Some, None, cond, not, Bool, true, false, refl, sym, ap, ap₂, subst, ◌∙◌, arith, append-nil, append_assoc, true≢false}
+use Rattle.std.proofs.Common.{◌≡◌, ℕ, zero, suc, ◌<◌, ◌≤◌, ◌⊎◌, ◌==◌, ◌&&◌, ◌||◌, inl, inr, List, [], ◌∷◌, ◌++◌, length, reverse, Option, Some, None, cond, not, Bool, true, false, refl, sym, ap, ap₂, subst, ◌∙◌, arith, append-nil, append_assoc, true≢false}
 use Rattle.std.specs.List.{list_all}
 use Rattle.std.specs.Int.{is_in_range}
 use Rattle.std.proofs.lemmas.Bool.{eqb-true}
@@ -8,7 +8,7 @@ use Rattle.std.proofs.lemmas.List.{reverse-append, reverse-reverse, length-rever
 use Rattle.std.proofs.lemmas.List.Folds.{list_all-append}
 use Rattle.smk_pattern.specs.Shapes.{Text}
 use Rattle.smk_pattern.specs.Grammar.{Piece, plain, hole, is_brace, is_blank, is_letter, is_name, is_balanced, starts_with_blank, starts_plain, is_plain, IsNamed, Spells, SpellsAll}
-use Rattle.smk_pattern.specs.Reading.{trimmed, stripped, before_comma, after_comma, plain_of, hole_of, ended, depth_after, held_after, pieces_from, pieces}
+use Rattle.smk_pattern.specs.Reading.{trimmed, stripped, before_comma, after_comma, plain_of, hole_of, depth_after, held_after, pieces_from, pieces}
 use Rattle.smk_pattern.specs.Written.{is_named}
 use Rattle.smk_pattern.proofs.Split.{Takes, takes_other, plain_of_all}
 

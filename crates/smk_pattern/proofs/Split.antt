@@ -1,11 +1,11 @@
 -- How a text is split, byte by byte.
-use Rattle.std.proofs.Common.{◌≡◌, ℕ, zero, suc, ◌+◌, ◌-◌, ◌<◌, ◌≤◌, ◌==◌, ◌&&◌, List, [], ◌∷◌, ◌++◌, length, take, drop, reverse, get_or, Option, Some, None, cond, not, Bool, true, false, refl, sym, ap, subst, ◌∙◌, arith, append-nil, append_assoc, IsCharBoundary}
+use Rattle.std.proofs.Common.{◌≡◌, ℕ, zero, suc, ◌+◌, ◌-◌, ◌<◌, ◌≤◌, ◌==◌, ◌&&◌, List, [], ◌∷◌, ◌++◌, length, take, drop, reverse, get_or, Some, cond, not, true, false, refl, sym, ap, subst, ◌∙◌, arith, append-nil, append_assoc, IsCharBoundary}
 use Rattle.std.proofs.lemmas.List.{at_drop_more, at_drop_all, drop_more, take_more, reverse-append, reverse-reverse, length-reverse, length-take-le, get_or-drop, length-drop}
 use Rattle.std.proofs.lemmas.Bool.Decides.{nat_tests}
 use Rattle.std.proofs.lemmas.Str.{IsCharBoundary-after_ascii}
 use Rattle.smk_pattern.specs.declared.splitting.Splitter.{Splitter}
 use Rattle.smk_pattern.specs.Shapes.{Text}
-use Rattle.smk_pattern.specs.Grammar.{Piece, plain, hole, is_blank, is_balanced}
+use Rattle.smk_pattern.specs.Grammar.{Piece, plain, is_blank, is_balanced}
 use Rattle.smk_pattern.specs.Reading.{trimmed, before_comma, after_comma, plain_of, hole_of, ended, depth_after, held_after, pieces_from, pieces}
 use Rattle.smk_pattern.specs.Splitting.{all_written, between, HasRead}
 

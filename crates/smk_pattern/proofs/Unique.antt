@@ -1,10 +1,10 @@
 -- A path has one binding.
-use Rattle.std.proofs.Common.{◌≡◌, ℕ, zero, suc, ◌+◌, ◌-◌, ◌<◌, ◌≤◌, ◌⊎◌, inl, inr, List, [], ◌∷◌, ◌++◌, length, take, drop, get_or, map, Option, refl, sym, ap, ap₂, ◌∙◌, arith, append_assoc, length-append, add-one}
+use Rattle.std.proofs.Common.{◌≡◌, ℕ, suc, ◌+◌, inl, inr, List, [], ◌∷◌, ◌++◌, length, take, get_or, Option, refl, sym, ap, ap₂, ◌∙◌, arith, append_assoc, length-append}
 use Rattle.std.proofs.lemmas.List.{append_cancel_left, get_or_append_left, take_at, length-map}
 use Rattle.std.proofs.Math.Seq.{get_or-append_seam}
 use Rattle.smk_pattern.specs.Shapes.{Part, Shape}
 use Rattle.smk_pattern.specs.Shapes.Part.{text, wild}
-use Rattle.smk_pattern.specs.Fitting.{filled, AllSuit, Fits, IsBinding}
+use Rattle.smk_pattern.specs.Fitting.{filled, AllSuit, IsBinding}
 use Rattle.smk_pattern.specs.Shapes.{IsNumbered}
 
 all_len : (limits : List (Option (List ℕ))) (more : List (List ℕ)) → AllSuit limits more → length more ≡ length limits

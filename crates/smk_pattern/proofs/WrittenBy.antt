@@ -1,12 +1,11 @@
 -- Whether a text is written as a pattern, by its parts.
-use Rattle.std.proofs.Common.{◌≡◌, ℕ, ◌<◌, ◌≤◌, ◌&&◌, ◌||◌, List, length, map, Bool, true, false, refl, sym, ap, ap₂, subst, ◌∙◌, nat_le, arith}
+use Rattle.std.proofs.Common.{◌≡◌, ℕ, ◌<◌, ◌&&◌, ◌||◌, List, length, Bool, true, false, refl, sym, ap, subst, ◌∙◌, nat_le, arith}
 use Rattle.std.proofs.lemmas.Bool.Decides.{nat_tests}
-use Rattle.std.proofs.lemmas.List.{length-map}
 use Rattle.std.specs.List.{list_all, list_any}
 use Rattle.smk_base.specs.Path.{is_path}
-use Rattle.smk_pattern.specs.Shapes.{Text, IsNumbered}
+use Rattle.smk_pattern.specs.Shapes.{Text}
 use Rattle.smk_pattern.specs.Grammar.{Piece, is_balanced}
-use Rattle.smk_pattern.specs.Reading.{pieces, names_in, is_hole, part_in}
+use Rattle.smk_pattern.specs.Reading.{pieces, names_in, is_hole}
 use Rattle.smk_pattern.specs.Written.{is_named, is_single, are_written, is_written}
 
 and_false : (b : Bool) → b && false ≡ false

@@ -16,7 +16,7 @@ mod tester;
 
 pub use filling::fill;
 pub use fitting::fits;
-pub use laws::{bound_is_binding, reading_is_grammar};
+pub use laws::{bound_is_binding, fill_is_filled, reading_is_grammar};
 pub use limits::Limits;
 pub use naming::{has_no_constraint, wildcard_names};
 pub use pattern::{Binding, FillFault, Pattern, PatternFault};

@@ -5,7 +5,7 @@ ghost use Rattle.smk_pattern.specs.Shapes.{IsNumbered};
 ghost use Rattle.smk_pattern.specs.Shapes.Part.{wild};
 ghost use Rattle.smk_pattern.specs.Pieces.{parts_of};
 ghost use Rattle.smk_pattern.specs.Searching.{Searched, now_of, stands_in};
-ghost use Rattle.smk_pattern.specs.Tables.{Serves, KeepsAll, Stands, Keeps};
+ghost use Rattle.smk_pattern.specs.Tables.{is_vain, Serves, KeepsAll, Stands, Keeps};
 
 use crate::pattern::Piece;
 use crate::table::Vain;
@@ -99,6 +99,13 @@ fn attempt<'p>(
     }
 }
 
+// Whether so many pieces were tried in vain on the last so many bytes, by the table that is used behind the wildcard.
+fn was_tried(again: bool, vain: &Vain, pieces: usize, bytes: usize) -> bool
+    ensures { result ≡ true → (again ≡ false) × (is_vain vain.now pieces bytes ≡ true) }
+{
+    !again && vain.has(pieces, bytes)
+}
+
 // The same for a wildcard without a value, and the pieces after it.
 #[cycle(search)]
 fn longest<'p>(
@@ -122,6 +129,9 @@ fn longest<'p>(
     let number = values.len();
     let again = is_among(number, later);
     for dropped in 0..text.len() + 1 {
+        if was_tried(again, vain, later.len(), dropped) {
+            continue;
+        }
         let cut = text.len() - dropped;
         if text.is_char_boundary(cut) {
             let (value, after) = text.split_at(cut);

@@ -11,7 +11,7 @@ use Rattle.smk_flow.specs.declared.job.Job.{Job}
 use Rattle.smk_flow.specs.declared.job.Gather.{Gather}
 use Rattle.smk_flow.specs.Flows.{Flow}
 use Rattle.smk_store.specs.Images.{Image, is_source, record_at, is_whole, is_whole_member}
-use Rattle.smk_store.specs.Trust.{stamp_now}
+use Rattle.smk_store.specs.Trust.{is_marked_but, stamp_now_but}
 use Rattle.smk_chain.specs.Derive.{Listings, listing, distinct, Derived, derivation}
 use Rattle.smk_trigger.specs.declared.reason.Reason.{Reason}
 use Rattle.smk_trigger.specs.declared.reason.Reason.TheVariants.{Upstream, Forced}
@@ -73,9 +73,21 @@ abbrev pub by_reasons : List Reason → Bool → State
 by_reasons (r ∷ rest) to_restore = Dirty (r ∷ rest)
 by_reasons [] to_restore = if to_restore then Restore else Clean
 
-abbrev pub or_state : Option State → State → State
-or_state None s = s
-or_state (Some kept) s = kept
+-- of a job that is being restored: what the table says, but never Clean
+abbrev pub unless_clean : State → State
+unless_clean Open = Open
+unless_clean (Dirty reasons) = Dirty reasons
+unless_clean Restore = Restore
+unless_clean Clean = Restore
+
+-- A job whose child runs stays Dirty where it began so. One that runs as a Restore stays so, unless the table has it Open or Dirty by
+-- now, through what is above it.
+abbrev pub while_running : Option State → State → State
+while_running None s = s
+while_running (Some (Dirty reasons)) s = Dirty reasons
+while_running (Some Open) s = unless_clean s
+while_running (Some Restore) s = unless_clean s
+while_running (Some Clean) s = unless_clean s
 
 abbrev pub test_some : {A : Type 0} → (A → Bool) → Option A → Bool
 test_some test None = false
@@ -138,13 +150,21 @@ module _ (image : Image) (settings : Settings) (progress : Progress) (plan : Pla
   abbrev pub is_forced : Job → Bool
   is_forced j = not (among progress.begun (job_path j)) && by_force settings.force (list_any (makes j) settings.targets)
 
+  -- the state that a job whose child runs had when it began
+  abbrev pub kept_state : Job → Option State
+  kept_state j = option_map (λ (e : Path × State). e.1) (find (λ (e : Path × State). bytes_eq e.0 (job_path j)) progress.running)
+
+  -- an output of a job that runs as a Restore: its mark doesn't count
+  abbrev pub is_restored : Path → Bool
+  is_restored p = list_any (λ j. test_some is_restore (kept_state j) && among (out_paths j.recipe) p) plan.jobs
+
   -- the reasons of a job: its own; then the inputs whose job is Dirty; then force
   abbrev pub reasons : Job → List Reason
   reasons j =
       own_reasons j.recipe
       (map image.kept (out_paths j.recipe))
-      (map image.marked (out_paths j.recipe))
-      (map (λ q. (q, stamp_now image q)) (in_paths j.recipe))
+      (map (is_marked_but image is_restored) (out_paths j.recipe))
+      (map (λ q. (q, stamp_now_but image is_restored q)) (in_paths j.recipe))
       ++ (map Upstream (filter (made_by plan is_dirty) (distinct bytes_eq (in_paths j.recipe))) ++ when (is_forced j) Forced)
 
   abbrev pub makes_awaited : Job → Bool
@@ -164,10 +184,6 @@ module _ (image : Image) (settings : Settings) (progress : Progress) (plan : Pla
   abbrev pub is_to_restore : Job → Bool
   is_to_restore j = list_any (λ p. not (is_whole image p (kind_in j.recipe p)) && is_wanted_back j p) (out_paths j.recipe)
 
-  -- the state that a job whose child runs had when it began
-  abbrev pub kept_state : Job → Option State
-  kept_state j = option_map (λ (e : Path × State). e.1) (find (λ (e : Path × State). bytes_eq e.0 (job_path j)) progress.running)
-
   -- one of its outputs, or a member of one, is an input of another job whose child runs
   abbrev pub is_read_now : Job → Bool
   is_read_now j =
@@ -177,9 +193,9 @@ module _ (image : Image) (settings : Settings) (progress : Progress) (plan : Pla
   abbrev pub by_table : Job → State
   by_table j = if is_open_now j then Open else by_reasons (reasons j) (is_to_restore j && not (is_read_now j))
 
-  -- a job whose child runs keeps its state; any other has that of the table
+  -- the state of the table, but for a job whose child runs
   abbrev pub state_of : Job → State
-  state_of j = or_state (kept_state j) (by_table j)
+  state_of j = while_running (kept_state j) (by_table j)
 
   -- The states are those that the table gives from the states.
   abbrev pub HasStates : Type 0

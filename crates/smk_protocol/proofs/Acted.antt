@@ -1,7 +1,7 @@
 -- A command that gave status 0 and good outputs: what stands there is what act gives on what stands at the inputs.
 use Rattle.smk_world.specs.declared.recipe.Recipe.{Recipe}
 use Rattle.std.proofs.Common.{◌≡◌, ◌⊎◌, ℕ, Bool, true, false, List, [], ◌∷◌, ◌++◌, map, refl, sym, ap, subst, inl, inr, arith, ◌∙◌, Option, Some, None}
-use Rattle.std.specs.Prelude.{bytes_eq, IsTrue, is_some, ◌==◌, ◌&&◌, ◌||◌, not, if◌then◌else◌, option_map, length, drop, ◌+◌}
+use Rattle.std.specs.Prelude.{bytes_eq, IsTrue, is_some, ◌==◌, ◌&&◌, ◌||◌, not, if◌then◌else◌, option_map}
 use Rattle.std.specs.List.{list_any, flat_map}
 use Rattle.std.specs.Option.{option_and_then}
 use lib.Pointwise.{pointwise}
@@ -16,10 +16,10 @@ use Rattle.smk_base.specs.declared.tree.Tree.{Tree}
 use Rattle.smk_base.specs.declared.tree.Tree.TheVariants.{File}
 use Rattle.smk_world.specs.Trees.{Path, outs_of, all_of, value_at, is_good, are_good, file_in, IsIn, tree_among, part_at, below}
 use Rattle.smk_base.specs.Path.{overlaps, is_under}
-use Rattle.smk_store.specs.Images.{Content, content_of, is_directory}
-use Rattle.smk_protocol.specs.Protocol.{kept_at, OpenJob, own, outputs}
+use Rattle.smk_store.specs.Images.{Content, is_directory}
+use Rattle.smk_protocol.specs.Protocol.{OpenJob, own, outputs}
 use Rattle.smk_world.specs.World.{in_paths, World, out_paths}
-use Rattle.smk_protocol.proofs.View.{kind_in, is_whole}
+use Rattle.smk_protocol.proofs.View.{kind_in, is_whole, file_of}
 use Rattle.smk_record.specs.Records.{same_member}
 use Rattle.smk_protocol.proofs.Views.{path_node, reads}
 use Rattle.smk_store.specs.Soundness.{Outside}
@@ -34,7 +34,7 @@ use Rattle.smk_protocol.proofs.Texts.{OverlapLaws}
 
 -- ---- inputs at hand have trees
 
-some_tree : (n : Option Node) (entries : Option Tree) → is_some entries ≡ true → (is_some (content_of n) ≡ true) ⊎ (is_directory n ≡ true) → is_some (if is_directory n then entries else option_map (λ (x : Content). File x.bytes) (content_of n)) ≡ true
+some_tree : (n : Option Node) (entries : Option Tree) → is_some entries ≡ true → (is_some (file_of n) ≡ true) ⊎ (is_directory n ≡ true) → is_some (if is_directory n then entries else option_map (λ (x : Content). File x.bytes) (file_of n)) ≡ true
 some_tree None entries e (inl h) = clash false h refl
 some_tree None entries e (inr h) = clash false h refl
 some_tree (Some Directory) entries e h = e

@@ -1,5 +1,5 @@
 -- What holds between the events of a run, and the law: every crash image is sound after every prefix.
-use Rattle.std.specs.Prelude.{◌≡◌, ◌⊎◌, ◌≤◌, ℕ, suc, Bool, true, false, ◌||◌, List, [], ◌∷◌, map, length, bytes_eq, option_map, Option, Some, None, Ok, Err, IsTrue, IsSome}
+use Rattle.std.specs.Prelude.{◌≡◌, ◌⊎◌, ◌≤◌, ℕ, Bool, true, false, ◌||◌, List, [], ◌∷◌, map, length, bytes_eq, option_map, Option, Some, None, Ok, Err, IsTrue, IsSome}
 use Rattle.std.specs.List.{list_any}
 use Rattle.smk_world.specs.declared.recipe.Out.{Out}
 use Rattle.smk_base.specs.declared.tree.Tree.{Tree}
@@ -13,8 +13,8 @@ use Rattle.smk_world.specs.declared.event.Call.{Call}
 use Rattle.smk_world.specs.declared.event.Call.TheVariants.{Written, Created, Removed, Protected, Started, Waited}
 use Rattle.smk_world.specs.declared.event.Event.{Event}
 use Rattle.smk_world.specs.Trees.{Path, is_path_text, outs_of, all_of, value_at, IsIn, Each}
-use Rattle.smk_store.specs.Images.{is_outside, Content}
-use Rattle.smk_base.specs.Path.{overlaps}
+use Rattle.smk_store.specs.Images.{is_outside}
+use Rattle.smk_base.specs.Path.{overlaps, is_at_or_under}
 use Rattle.smk_world.specs.World.{folders_above, in_paths, World, IsFormed, protected, reading, firmly, reads_nothing, standing, is_within, after, run}
 use Rattle.smk_protocol.specs.Protocol.{kept_at, Phase, Marking, Running, Ended, Firm, Recorded, Dropped, OpenJob, RunState, outputs, own, eased, begun_with, record_of, listed_of, keeps, is_running}
 use Rattle.smk_record.specs.Records.{stamped, serials}
@@ -40,7 +40,7 @@ module _ (o : Outside) where
   Lets w e (Created p (Ok false)) = (reads_nothing (w.nodes p) ≡ false) × (e.left ≡ [])
   Lets w e (Created p (Err x)) = (q : Path) → bytes_eq q p ≡ false → standing e.left q ≡ None
   Lets w e (Removed p (Ok u)) = e.left ≡ []
-  Lets w e (Removed p (Err x)) = (q : Path) → (standing e.left q ≡ None) ⊎ (standing e.left q ≡ reading (w.nodes q))
+  Lets w e (Removed p (Err x)) = (q : Path) → is_at_or_under q p ≡ true → (standing e.left q ≡ None) ⊎ (standing e.left q ≡ reading (w.nodes q))
   Lets w e (Protected p (Err x)) = (standing e.left p ≡ None) ⊎ ((standing e.left p ≡ reading (w.nodes p)) ⊎ (standing e.left p ≡ option_map protected (reading (w.nodes p))))
   Lets w e (Waited (Ok end)) =
       (c : Child) × IsIn w.children c × (c.number ≡ end.number)

@@ -1,5 +1,5 @@
 -- The view of an image that comes from nodes.
-use Rattle.std.proofs.Common.{◌≡◌, ℕ, Bool, true, false, List, [], ◌∷◌, map, filter, length, drop, ◌+◌, cond, refl, sym, ap, ◌∙◌, Option, Some, None}
+use Rattle.std.proofs.Common.{◌≡◌, ℕ, Bool, true, false, List, [], ◌∷◌, map, filter, length, drop, ◌+◌, cond, refl, ap, ◌∙◌, Option, Some, None}
 use Rattle.std.specs.Prelude.{if◌then◌else◌, ◌&&◌, is_some, option_map}
 use Rattle.smk_base.specs.Path.{is_under}
 use Rattle.smk_base.specs.Place.{record_place, mark_place, note_place}
@@ -9,10 +9,9 @@ use Rattle.smk_world.specs.declared.event.Node.TheVariants.{Regular, Directory}
 use Rattle.smk_world.specs.Trees.{Path, is_path_text}
 use Rattle.smk_record.specs.declared.record.Record.{Record}
 use Rattle.smk_record.specs.Records.{members_of, core}
-use Rattle.smk_store.specs.declared.store.Kept.{Kept}
 use Rattle.smk_store.specs.declared.store.Kept.TheVariants.{Absent, Unreadable, Held}
-use Rattle.smk_store.specs.Images.{Content, Image, image_by, is_outside, kept_by, for_path, readable, stands, content_of, is_directory, bytes_of}
-use Rattle.smk_protocol.proofs.View.{View, view}
+use Rattle.smk_store.specs.Images.{Content, image_by, is_outside, kept_by, for_path, readable, stands, is_directory, bytes_of}
+use Rattle.smk_protocol.proofs.View.{view, file_of}
 use Rattle.smk_protocol.proofs.Views.{Nodes, view_of, path_node, place_node, names_in}
 
 filter_twice : (t u : Path → Bool) (xs : List Path) → filter u (filter t xs) ≡ filter (λ q. u q && t q) xs
@@ -31,9 +30,10 @@ some_if : (b : Bool) (n : Option Node) → (b && is_some n) ≡ is_some (if b th
 some_if true n = refl
 some_if false n = refl
 
-file_is : (c : Option Content) → option_map File (option_map (λ (f : Content). f.bytes) c) ≡ option_map (λ (x : Content). File x.bytes) c
+file_is : (n : Option Node) → option_map File (bytes_of n) ≡ option_map (λ (x : Content). File x.bytes) (file_of n)
 file_is None = refl
-file_is (Some c) = refl
+file_is (Some Directory) = refl
+file_is (Some (Regular bytes time read_only)) = refl
 
 module _ (read : List ℕ → Option Record) (names : List Path) (f : Nodes) where
   under : (p : Path) → filter (λ q. is_under q p) (filter (λ q. is_outside q && is_some (f q)) names) ≡ names_in names (path_node f) p
@@ -73,7 +73,7 @@ module _ (read : List ℕ → Option Record) (names : List Path) (f : Nodes) whe
         tree = λ p.
             if is_directory (path_node f p)
             then Some (Folder (map (λ q. record { name = drop (length p + 1) q; bytes = bytes_of (path_node f q) }) (under p i)))
-            else file_is (content_of (path_node f p)) i;
+            else file_is (path_node f p) i;
         has_record = λ p. stands_is p i;
         record_at = λ p. option_map core (readable (kept_is p (is_path_text p) (f (record_place p)) i));
         listed = λ p. members_of (readable (kept_is p (is_path_text p) (f (record_place p)) i));

@@ -2,7 +2,7 @@
 use Rattle.smk_protocol.proofs.Owners.{owner_of}
 use Rattle.smk_protocol.proofs.Formed.{all_named}
 use Rattle.std.proofs.Common.{◌≡◌, ◌⊎◌, ℕ, Bool, true, false, List, [], ◌∷◌, ◌++◌, map, refl, sym, ap, subst, inl, inr, arith, ◌∙◌, Option, Some, None}
-use Rattle.std.specs.Prelude.{bytes_eq, nat_eq, IsTrue, is_some, if◌then◌else◌, ◌&&◌, ◌||◌, filter, flat_map, Ok, Err, Result}
+use Rattle.std.specs.Prelude.{bytes_eq, nat_eq, IsTrue, is_some, if◌then◌else◌, ◌&&◌, ◌||◌, flat_map, Ok, Err, Result}
 use Rattle.smk_world.specs.declared.event.Call.{Call}
 use Rattle.smk_world.specs.declared.event.Call.TheVariants.{Looked, ReadFile, ReadFolder, Written, Created, Removed, MadeParents, Settled, Protected, Started, Waited}
 use Rattle.smk_world.specs.declared.event.Change.{Change as LeftNode}
@@ -26,7 +26,7 @@ use Rattle.smk_store.specs.Soundness.{Outside}
 use Rattle.smk_protocol.specs.Protocol.{OpenJob, Marking, Running, Recorded, Dropped, RunState, own, outputs, mark_places, record_places, eased_by}
 use Rattle.smk_protocol.proofs.Between.{Midway, Fits, InPhase, Lets, IsOfJob, has_firm_marks, is_marking}
 use Rattle.smk_protocol.proofs.After.{removed, started, waited}
-use Rattle.smk_protocol.proofs.Basics.{each_in, in_here, in_split, in_filter, by_test, pick_none}
+use Rattle.smk_protocol.proofs.Basics.{each_in, in_here, in_split, by_test, pick_none}
 use Rattle.smk_protocol.proofs.Change.{Change}
 use Rattle.smk_protocol.proofs.FolderChange.{MakesFolders, folder_change, own_folders_change}
 use Rattle.smk_protocol.proofs.Guarded.{IsGuarded, guarded, in_either}
@@ -212,7 +212,7 @@ module _
     where
       nothing_left : (r : Result (Unit {0}) Failed) → Lets o w (event (Removed p r) left) (Removed p r) → reading (w.nodes p) ≡ None → standing left p ≡ None
       nothing_left (Ok u) lets h = ap (λ l. standing l p) lets
-      nothing_left (Err x) lets h = left_nothing (standing left p) (reading (w.nodes p)) h (lets p)
+      nothing_left (Err x) lets h = left_nothing (standing left p) (reading (w.nodes p)) h (lets p (at_self p))
 
       there : (after w (event (Removed p r) left)).nodes p ≡ going (standing left p) (w.nodes p)
       there = ap (λ (b : Bool). if b then going (standing left p) (w.nodes p) else w.nodes p) (at_self p)

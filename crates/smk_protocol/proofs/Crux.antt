@@ -13,11 +13,11 @@ use Rattle.smk_world.specs.declared.recipe.Kind.{Kind}
 use Rattle.smk_world.specs.declared.recipe.Kind.TheVariants.{Plain, Folder as FolderKind}
 use Rattle.smk_record.specs.declared.record.Stamp.TheVariants.{Time, Made}
 use Rattle.smk_world.specs.Trees.{Path, among, value_at, all_of, part_at, IsIn, Each, is_path_text}
-use Rattle.smk_store.specs.Images.{is_outside, Content, content_of, is_directory}
-use Rattle.smk_protocol.specs.Protocol.{kept_at, OpenJob, record_of, begun_with}
+use Rattle.smk_store.specs.Images.{is_outside, Content, is_directory}
+use Rattle.smk_protocol.specs.Protocol.{OpenJob, record_of, begun_with}
 use Rattle.smk_world.specs.World.{in_paths, World, MayLeave, IsFormed, IsRising}
 use Rattle.smk_store.specs.Trust.{Versions, Eased, none_eased}
-use Rattle.smk_protocol.proofs.View.{kind_in, View, Sound, source_at, is_source, Chain, Speaks, Holds, is_whole, input_value, vir, holder}
+use Rattle.smk_protocol.proofs.View.{kind_in, View, Sound, source_at, is_source, Chain, Speaks, Holds, is_whole, input_value, vir, holder, file_of}
 use Rattle.smk_record.specs.Records.{same_member}
 use Rattle.smk_protocol.proofs.Views.{Nodes, HasNames, reads, Leaves, view_of, view_by, path_node}
 use Rattle.smk_base.specs.Place.{mark_place, record_place, note_place}
@@ -57,7 +57,7 @@ firsts g (x ∷ xs) (y ∷ ys) h = ap (λ zs. g x ∷ zs) (firsts g xs ys (down 
     down : (a b : ℕ) → suc a ≡ suc b → a ≡ b
     down a b h = grind arith
 
-pub file_tree : (n : Option Node) (f : Content) (t : Option Tree) → content_of n ≡ Some f → (if is_directory n then t else option_map (λ (x : Content). File x.bytes) (content_of n)) ≡ Some (File f.bytes)
+pub file_tree : (n : Option Node) (f : Content) (t : Option Tree) → file_of n ≡ Some f → (if is_directory n then t else option_map (λ (x : Content). File x.bytes) (file_of n)) ≡ Some (File f.bytes)
 file_tree None f t h = absurd (no h)
   where
     no : {A : Type 0} {x : A} → None ≡ Some x → ⊥
@@ -115,10 +115,10 @@ module _ (o : Outside) (out : Outside_paths) (folders_above : FolderLaw o.read) 
   mixed_folder = folders_above names w.names mixed (reads w) h rising formed.rising mixed_names (all_named _ formed) (λ q u k. agrees q u)
 
 -- the path of what is whole is a path
-pub whole_path : (v : View) (h : Path) (n : Option Node) (k : Kind) → v.file h ≡ content_of (if is_outside h then n else None) → v.is_folder h ≡ is_directory (if is_outside h then n else None) → IsTrue (is_whole v h k) → is_outside h ≡ true
+pub whole_path : (v : View) (h : Path) (n : Option Node) (k : Kind) → v.file h ≡ file_of (if is_outside h then n else None) → v.is_folder h ≡ is_directory (if is_outside h then n else None) → IsTrue (is_whole v h k) → is_outside h ≡ true
 whole_path v h n Plain file folder whole = go (is_outside h) (subst (λ x. IsTrue (is_some x)) file whole)
   where
-    go : (b : Bool) → IsTrue (is_some (content_of (if b then n else None))) → b ≡ true
+    go : (b : Bool) → IsTrue (is_some (file_of (if b then n else None))) → b ≡ true
     go true k = refl
     go false k = no_truth k
 whole_path v h n FolderKind file folder whole = go (is_outside h) (left (v.is_folder h) (pointwise same_member (v.members h) (v.listed h)) whole folder)
@@ -184,7 +184,7 @@ module _
             (λ y. subst (λ (v : View). source_at v y ≡ source_at (now o entry) y) is (sources_there y) ∙ sym (m.sources names f rising complete covered leaves y)) x;
         unmarked = unmarked speaks.clear.1;
         whole = whole_on (now o w) (mixed_view o out folders_above w m.formed names f rising complete covered leaves h path) h (kind_in r h)
-            (ap content_of node) (ap is_directory node) (there.0) (sym news.1) whole;
+            (ap file_of node) (ap is_directory node) (there.0) (sym news.1) whole;
         part = ap (option_and_then (part_at h q)) there.1 ∙ part_now q h r holder_now news.0 whole (subst (λ x. (q ≡ x) ⊎ IsTrue (is_some ((now o w).file q))) (sym at) hand.2.3);
       }
     where

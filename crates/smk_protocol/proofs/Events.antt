@@ -5,7 +5,7 @@ use Rattle.std.specs.List.{list_any}
 use Rattle.smk_world.specs.Trees.{Path, IsIn, is_path_text}
 use Rattle.smk_base.specs.Path.{overlaps}
 use Rattle.smk_store.specs.Images.{Content}
-use Rattle.smk_protocol.specs.Protocol.{kept_at, OpenJob, own}
+use Rattle.smk_protocol.specs.Protocol.{OpenJob, own}
 use Rattle.smk_store.specs.Trust.{Versions, Eased}
 use Rattle.smk_protocol.proofs.View.{View, Sound, source_at, is_source, is_covered}
 use Rattle.smk_protocol.proofs.Views.{EachImage}

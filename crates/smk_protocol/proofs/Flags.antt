@@ -8,8 +8,8 @@ use Rattle.smk_world.specs.declared.event.Node.TheVariants.{Regular, Directory}
 use Rattle.smk_world.specs.declared.event.NodeState.{NodeState}
 use Rattle.smk_world.specs.declared.event.NodeState.TheVariants.{Owned, Known}
 use Rattle.smk_base.specs.declared.tree.Tree.TheVariants.{File}
-use Rattle.smk_store.specs.Images.{Content, content_of, is_directory, bytes_of}
-use Rattle.smk_protocol.specs.Protocol.{kept_at}
+use Rattle.smk_store.specs.Images.{Content, is_directory, bytes_of}
+use Rattle.smk_protocol.proofs.View.{file_of}
 use Rattle.smk_world.specs.World.{MayLeave, IsBeside, IsOneOf, reading, going, with_flag, protected, or_was, or_gone, or_also, or_protected}
 use Rattle.smk_protocol.proofs.Basics.{clash}
 use Rattle.smk_protocol.proofs.Shrunk.{going_some}
@@ -107,11 +107,11 @@ flag_some m n (inr h) = ap (λ (x : Option Node). is_some x) h ∙ same n
     same None = refl
     same (Some x) = refl
 
-pub flag_file : (m n : Option Node) → IsFlagged m n → is_some (content_of m) ≡ is_some (content_of n)
-flag_file m n (inl h) = ap (λ x. is_some (content_of x)) h
-flag_file m n (inr h) = ap (λ x. is_some (content_of x)) h ∙ same n
+pub flag_file : (m n : Option Node) → IsFlagged m n → is_some (file_of m) ≡ is_some (file_of n)
+flag_file m n (inl h) = ap (λ x. is_some (file_of x)) h
+flag_file m n (inr h) = ap (λ x. is_some (file_of x)) h ∙ same n
   where
-    same : (n : Option Node) → is_some (content_of (option_map protected n)) ≡ is_some (content_of n)
+    same : (n : Option Node) → is_some (file_of (option_map protected n)) ≡ is_some (file_of n)
     same None = refl
     same (Some Directory) = refl
     same (Some (Regular bytes time read_only)) = refl
@@ -125,11 +125,11 @@ flag_bytes m n (inr h) = ap bytes_of h ∙ same n
     same (Some Directory) = refl
     same (Some (Regular bytes time read_only)) = refl
 
-pub flag_tree : (m n : Option Node) → IsFlagged m n → option_map (λ (x : Content). File x.bytes) (content_of m) ≡ option_map (λ (x : Content). File x.bytes) (content_of n)
-flag_tree m n (inl h) = ap (λ y. option_map (λ (x : Content). File x.bytes) (content_of y)) h
-flag_tree m n (inr h) = ap (λ y. option_map (λ (x : Content). File x.bytes) (content_of y)) h ∙ same n
+pub flag_tree : (m n : Option Node) → IsFlagged m n → option_map (λ (x : Content). File x.bytes) (file_of m) ≡ option_map (λ (x : Content). File x.bytes) (file_of n)
+flag_tree m n (inl h) = ap (λ y. option_map (λ (x : Content). File x.bytes) (file_of y)) h
+flag_tree m n (inr h) = ap (λ y. option_map (λ (x : Content). File x.bytes) (file_of y)) h ∙ same n
   where
-    same : (n : Option Node) → option_map (λ (x : Content). File x.bytes) (content_of (option_map protected n)) ≡ option_map (λ (x : Content). File x.bytes) (content_of n)
+    same : (n : Option Node) → option_map (λ (x : Content). File x.bytes) (file_of (option_map protected n)) ≡ option_map (λ (x : Content). File x.bytes) (file_of n)
     same None = refl
     same (Some Directory) = refl
     same (Some (Regular bytes time read_only)) = refl

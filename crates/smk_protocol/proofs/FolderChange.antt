@@ -10,9 +10,9 @@ use Rattle.smk_world.specs.declared.event.NodeState.{NodeState}
 use Rattle.smk_world.specs.declared.event.NodeState.TheVariants.{Owned, Known}
 use Rattle.smk_world.specs.Trees.{Path, among, IsIn, is_path_text}
 use Rattle.smk_base.specs.Path.{overlaps, is_under, is_at_or_under}
-use Rattle.smk_store.specs.Images.{is_outside, content_of, is_directory}
+use Rattle.smk_store.specs.Images.{is_outside, is_directory}
 use Rattle.smk_store.specs.Trust.{Versions, Eased, none_eased}
-use Rattle.smk_protocol.proofs.View.{View, Sound}
+use Rattle.smk_protocol.proofs.View.{View, Sound, file_of}
 use Rattle.smk_protocol.proofs.Views.{Nodes, EachImage, HasNames, reads, view_of, view_by, path_node}
 use Rattle.smk_world.specs.World.{World, IsFormed, MayLeave, reading, reads_nothing, with_folder}
 use Rattle.smk_base.specs.Place.{mark_place, record_place, note_place}
@@ -129,15 +129,15 @@ module _ (w w' : World) (formed : IsFormed w') (covered : HasNames w'.names (rea
   before_other g q u = ap (λ (b : Bool). if b then None else g q) (and_false (is_under p q) (is_directory (g q)) (reads_nothing (w.nodes q)) u)
 
   -- no file does anywhere
-  pub before_file : (g : Nodes) (q : Path) → content_of (path_node g q) ≡ content_of (path_node (before g) q)
+  pub before_file : (g : Nodes) (q : Path) → file_of (path_node g q) ≡ file_of (path_node (before g) q)
   before_file g q = go (is_outside q) (is_new (w.nodes q) p q (g q)) refl
     where
-      no_file : (n : Option Node) → is_directory n ≡ true → content_of n ≡ None
+      no_file : (n : Option Node) → is_directory n ≡ true → file_of n ≡ None
       no_file None h = refl
       no_file (Some Directory) h = refl
       no_file (Some (Regular bytes time read_only)) h = clash false h refl
 
-      go : (a b : Bool) → is_new (w.nodes q) p q (g q) ≡ b → content_of (if a then g q else None) ≡ content_of (if a then (if b then None else g q) else None)
+      go : (a b : Bool) → is_new (w.nodes q) p q (g q) ≡ b → file_of (if a then g q else None) ≡ file_of (if a then (if b then None else g q) else None)
       go false b e = refl
       go true false e = refl
       go true true e = no_file (g q) (and_second (is_under p q) (is_directory (g q)) (reads_nothing (w.nodes q)) e)
@@ -194,7 +194,7 @@ module _
   nodes_same names g k x clear =
       let f = texts.folders names names g (turn.before g) x k.image.rising k.image.rising k.image.complete (turn.image names g k).complete (λ q u i. agrees g x clear q u) in
       record {
-        file = λ n. content_of (if is_outside x then agrees g x clear x (at_self x) n else None);
+        file = λ n. file_of (if is_outside x then agrees g x clear x (at_self x) n else None);
         folder = λ n. is_directory (if is_outside x then agrees g x clear x (at_self x) n else None);
         members = f.0;
         tree = f.1;

@@ -1,5 +1,5 @@
 -- The names of a world after an event have all that reads.
-use Rattle.std.proofs.Common.{◌≡◌, Bool, true, false, List, refl, sym, ap, arith, ◌∙◌, map, Option, Some, None}
+use Rattle.std.proofs.Common.{◌≡◌, Bool, true, false, refl, arith, ◌∙◌, map, Option, Some, None}
 use Rattle.std.specs.Prelude.{IsTrue, IsSome, ◌||◌}
 use Rattle.smk_world.specs.declared.event.Node.{Node}
 use Rattle.smk_world.specs.declared.event.Event.{Event}

@@ -5,7 +5,6 @@ use Rattle.std.specs.List.{list_any}
 use Rattle.smk_record.specs.declared.record.Record.{Record}
 use Rattle.smk_world.specs.Trees.{Path, IsIn}
 use Rattle.smk_base.specs.Path.{overlaps}
-use Rattle.smk_store.specs.Images.{Content}
 use Rattle.smk_protocol.specs.Protocol.{kept_at, Phase, Running, OpenJob, own, outputs, keeps, eased_by}
 use Rattle.smk_world.specs.World.{in_paths, World}
 use Rattle.smk_store.specs.Trust.{Eased}

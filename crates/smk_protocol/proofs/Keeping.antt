@@ -71,7 +71,7 @@ lock_allows o s w (Written p bytes r) is = absurd is
 lock_allows o s w (Started recipe logs command r) is = absurd is
 lock_allows o s w (Waited r) is = absurd is
 
-aside_allows : (o : Outside) (s : RunState) (w : World) (c : Call) → Besides o s w c → AsideAllows o s w c
+pub aside_allows : (o : Outside) (s : RunState) (w : World) (c : Call) → Besides o s w c → AsideAllows o s w c
 aside_allows o s w c (Look _ is) = look_allows o s w c is
 aside_allows o s w c (Lock _ is) = lock_allows o s w c is
 aside_allows o s w c (Settle ps) = tt

@@ -78,14 +78,14 @@ module _ (o : Outside) (entry : World) (H : Versions) where
   along keeps s end w (e ∷ es) m follows (Next _ mid _ _ _ _ step runs) =
       along keeps mid end (after w e) es (keeps s mid w e m follows.0 step) follows.1 runs
 
-  safe_images : (s : RunState) (w : World) → Midway o entry H s w → SafeImages o entry w H
+  pub safe_images : (s : RunState) (w : World) → Midway o entry H s w → SafeImages o entry w H
   safe_images s w m names f rising complete covered leaves = (
     sound_less o.act H (view_of o.read names f) (eased s) none_eased (none_less (eased s)) (m.images.sound names f rising complete covered leaves),
     m.images.sources names f rising complete covered leaves,
     m.images.no_nested names f rising complete covered leaves,
   )
 
-  at_end : (s : RunState) (w : World) → Midway o entry H s w → w.children ≡ [] → SoundWorld o w H
+  pub at_end : (s : RunState) (w : World) → Midway o entry H s w → w.children ≡ [] → SoundWorld o w H
   at_end s w m alone =
       record {
         formed = m.images.formed;

@@ -1,6 +1,6 @@
 -- The members of a folder in a view: one for each path under it where something stands.
 use Rattle.std.proofs.Common.{◌≡◌, ℕ, Bool, true, false, List, [], ◌∷◌, length, drop, ◌+◌, refl, sym, ap, subst, inl, inr, arith, ◌∙◌, Option, None}
-use Rattle.std.specs.Prelude.{IsSome, is_some, bytes_eq, not, if◌then◌else◌, ◌&&◌}
+use Rattle.std.specs.Prelude.{IsSome, is_some, bytes_eq, if◌then◌else◌, ◌&&◌}
 use lib.Pointwise.{pointwise}
 use Rattle.smk_world.specs.declared.event.Node.{Node}
 use Rattle.smk_record.specs.declared.record.Member.{Member}

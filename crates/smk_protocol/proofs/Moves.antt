@@ -12,7 +12,6 @@ use Rattle.smk_world.specs.declared.recipe.Kind.TheVariants.{Plain, Folder as Di
 use Rattle.smk_world.specs.Trees.{Path, Act, IsIn, is_path_text}
 use Rattle.smk_store.specs.Images.{Content}
 use Rattle.smk_world.specs.World.{folders_above}
-use Rattle.smk_protocol.specs.Protocol.{kept_at}
 use Rattle.smk_store.specs.Trust.{Versions, Eased}
 use Rattle.smk_record.specs.Records.{stamped, same_member}
 use Rattle.smk_protocol.proofs.View.{kind_in, View, Chain, Clear, holder, is_source, source_at, is_known, is_covered, is_whole, Holds, Sound, vir}

@@ -5,9 +5,9 @@ use Rattle.std.specs.List.{list_any}
 use Rattle.smk_record.specs.declared.record.Record.{Record}
 use Rattle.smk_world.specs.Trees.{Path, IsIn}
 use Rattle.smk_base.specs.Path.{overlaps, is_at_or_under}
-use Rattle.smk_store.specs.Images.{is_outside, content_of, is_directory}
+use Rattle.smk_store.specs.Images.{is_outside, is_directory}
 use Rattle.smk_store.specs.Trust.{Versions, Eased, none_eased}
-use Rattle.smk_protocol.proofs.View.{View, Sound}
+use Rattle.smk_protocol.proofs.View.{View, Sound, file_of}
 use Rattle.smk_protocol.proofs.Views.{Nodes, EachImage, HasNames, reads, view_of}
 use Rattle.smk_world.specs.World.{World, IsFormed, is_within}
 use Rattle.smk_base.specs.Place.{mark_place, record_place, note_place}
@@ -55,7 +55,7 @@ module _
   nodes_same names g i x free =
       let f = texts.folders names names g (turn.before g) x i.image.rising i.image.rising i.image.complete (turn.image names g i).complete (λ q u k. agrees g x free q u) in
       record {
-        file = λ k. content_of (if is_outside x then agrees g x free x (at_self x) k else None);
+        file = λ k. file_of (if is_outside x then agrees g x free x (at_self x) k else None);
         folder = λ k. is_directory (if is_outside x then agrees g x free x (at_self x) k else None);
         members = f.0;
         tree = f.1;

@@ -3,9 +3,9 @@ use Rattle.std.proofs.Common.{◌≡◌, Bool, true, false, List, refl, sym, ap,
 use Rattle.std.specs.Prelude.{IsTrue, IsSome, if◌then◌else◌}
 use Rattle.smk_record.specs.declared.record.Record.{Record}
 use Rattle.smk_world.specs.Trees.{Path, among, is_path_text}
-use Rattle.smk_store.specs.Images.{is_outside, content_of}
+use Rattle.smk_store.specs.Images.{is_outside}
 use Rattle.smk_store.specs.Trust.{Versions, Eased}
-use Rattle.smk_protocol.proofs.View.{View, Sound, source_at, is_covered}
+use Rattle.smk_protocol.proofs.View.{View, Sound, source_at, is_covered, file_of}
 use Rattle.smk_protocol.proofs.Views.{Nodes, EachImage, HasNames, reads, Leaves, view_of, view_by, path_node}
 use Rattle.smk_world.specs.World.{World, MayLeave, is_within, IsRising}
 use Rattle.smk_base.specs.Place.{mark_place, record_place, note_place}
@@ -91,5 +91,5 @@ module _ (o : Outside) (entry : World) (H : Versions) (e : Eased) (w w' : World)
       there : (q : Path) → is_within q places ≡ true → is_covered (view_of o.read names (before g)) q ≡ true
       there = covers names (before g) rising (before_names names g complete covered) covered (before_leaves g leaves)
 
-      files : (q : Path) → is_within q places ≡ false → content_of (path_node g q) ≡ content_of (path_node (before g) q)
-      files q h = ap content_of (path_same g q h)
+      files : (q : Path) → is_within q places ≡ false → file_of (path_node g q) ≡ file_of (path_node (before g) q)
+      files q h = ap file_of (path_same g q h)

@@ -6,7 +6,6 @@ use Rattle.smk_record.specs.declared.record.Record.{Record}
 use Rattle.smk_record.specs.declared.record.Stamp.TheVariants.{Made}
 use Rattle.smk_world.specs.Trees.{Path, IsIn, Each}
 use Rattle.smk_base.specs.Path.{overlaps}
-use Rattle.smk_store.specs.Images.{Content}
 use Rattle.smk_protocol.specs.Protocol.{kept_at, OpenJob, Marking, RunState, own, outputs, record_of, begun_with, is_running, eased_by}
 use Rattle.smk_world.specs.World.{in_paths, World}
 use Rattle.smk_store.specs.Trust.{Versions, Eased, none_eased}

@@ -9,7 +9,6 @@ use Rattle.smk_record.specs.declared.record.Stamp.TheVariants.{Time, Made}
 use Rattle.smk_record.specs.declared.record.Record.{Record}
 use Rattle.smk_world.specs.Trees.{Path, Act, all_of, value_at, part_at, IsIn}
 use Rattle.smk_store.specs.Images.{Content}
-use Rattle.smk_protocol.specs.Protocol.{kept_at}
 use Rattle.smk_store.specs.Trust.{Versions, Eased, vouched}
 use Rattle.smk_record.specs.Records.{stamped}
 use Rattle.smk_protocol.proofs.View.{kind_in, View, Speaks, Chain, Link, Holds, Sound, is_source, is_whole, input_value, vir}

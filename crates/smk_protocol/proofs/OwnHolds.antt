@@ -1,8 +1,8 @@
 -- Between two events: an output of an open job whose record is the job's, and which is what act gives, holds what the record vouches for.
 use Rattle.smk_record.specs.declared.record.Stamp.{Stamp}
 use Rattle.smk_protocol.proofs.Formed.{all_named}
-use Rattle.std.proofs.Common.{◌≡◌, ◌⊎◌, ◌≤◌, ℕ, suc, Bool, true, false, List, ◌∷◌, ◌++◌, refl, sym, subst, inl, inr, arith, ◌∙◌, Option, Some, None, ◌<◌, [], zip, ap, length}
-use Rattle.std.specs.Prelude.{bytes_eq, IsTrue, IsSome, is_some, option_map, if◌then◌else◌, ◌&&◌, reverse, nat_lt, nat_le, ◌==◌}
+use Rattle.std.proofs.Common.{◌≡◌, ◌⊎◌, ℕ, Bool, true, false, List, ◌∷◌, ◌++◌, refl, sym, subst, inl, inr, arith, ◌∙◌, Option, Some, None, ◌<◌, [], zip, ap, length}
+use Rattle.std.specs.Prelude.{IsTrue, IsSome, is_some, option_map, if◌then◌else◌, ◌&&◌, reverse, nat_lt, nat_le, ◌==◌}
 use Rattle.std.proofs.lemmas.Bool.{ltb-true}
 use Rattle.smk_protocol.proofs.Valid.{of_node}
 use Rattle.std.specs.List.{list_any, list_all}

@@ -4,10 +4,10 @@ use Rattle.std.proofs.Common.{◌≡◌, Bool, true, false, List, refl, sym, ap,
 use Rattle.std.specs.Prelude.{IsTrue, IsSome, is_some, option_map, if◌then◌else◌}
 use Rattle.smk_world.specs.declared.event.Node.{Node}
 use Rattle.smk_world.specs.Trees.{Path, among, value_at, all_of, IsIn, Each, is_path_text}
-use Rattle.smk_store.specs.Images.{is_outside, content_of}
+use Rattle.smk_store.specs.Images.{is_outside}
 use Rattle.smk_world.specs.World.{in_paths, World, IsFormed, MayLeave}
 use Rattle.smk_record.specs.Records.{members_of, core}
-use Rattle.smk_protocol.proofs.View.{View}
+use Rattle.smk_protocol.proofs.View.{View, file_of}
 use Rattle.smk_protocol.proofs.Views.{Nodes, EachImage, reads, view_of, read_at, place_node}
 use Rattle.smk_base.specs.Path.{is_at_or_under}
 use Rattle.smk_base.specs.Place.{record_place}
@@ -88,5 +88,5 @@ module _
         record {
           no_record = ap (λ n. option_map core (read_at o.read p n)) (place g p k) ∙ h.no_record;
           no_bytes = ap (λ (n : Option Node). is_some n) (place g p k) ∙ h.no_bytes;
-          nothing = λ q c. ap (λ n. content_of (if is_outside q then n else None)) (sym (before_same g q (free p q k (sym (texts.overlap.covers p q) ∙ c)))) ∙ h.nothing q c;
+          nothing = λ q c. ap (λ n. file_of (if is_outside q then n else None)) (sym (before_same g q (free p q k (sym (texts.overlap.covers p q) ∙ c)))) ∙ h.nothing q c;
         })

@@ -5,7 +5,6 @@ use Rattle.smk_world.specs.declared.event.Child.{Child}
 use Rattle.smk_record.specs.declared.record.Record.{Record}
 use Rattle.smk_world.specs.Trees.{Path, value_at, all_of, IsIn, Each}
 use Rattle.smk_base.specs.Path.{overlaps}
-use Rattle.smk_store.specs.Images.{Content}
 use Rattle.smk_protocol.specs.Protocol.{kept_at, Running, OpenJob, own, outputs, listed_of}
 use Rattle.smk_world.specs.World.{in_paths, World, IsFormed}
 use Rattle.smk_store.specs.Trust.{Versions, Eased}

@@ -14,11 +14,11 @@ use Rattle.smk_record.specs.declared.record.Record.{Record}
 use Rattle.smk_record.specs.declared.record.Member.{Member}
 use Rattle.smk_base.specs.declared.tree.Tree.TheVariants.{Folder}
 use Rattle.smk_world.specs.Trees.{Path, among, Act, is_path_text}
-use Rattle.smk_store.specs.Images.{is_outside, Content, content_of, is_directory}
+use Rattle.smk_store.specs.Images.{is_outside, Content, is_directory}
 use Rattle.smk_base.specs.Path.{is_under, is_at_or_under}
-use Rattle.smk_protocol.specs.Protocol.{kept_at, RunState, eased}
+use Rattle.smk_protocol.specs.Protocol.{RunState, eased}
 use Rattle.smk_store.specs.Trust.{Versions, Eased}
-use Rattle.smk_protocol.proofs.View.{kind_in, View, Sound, is_source, source_at, is_covered, is_whole}
+use Rattle.smk_protocol.proofs.View.{kind_in, View, Sound, is_source, source_at, is_covered, is_whole, file_of}
 use Rattle.smk_record.specs.Records.{members_of, core}
 use Rattle.smk_protocol.proofs.Views.{Nodes, reads, view_of, path_node, read_at, place_node}
 use Rattle.smk_world.specs.World.{World, MayLeave, after, reading, standing, going, with_flag}
@@ -211,7 +211,7 @@ module _
     where
       go : (b : Bool) → bytes_eq q p ≡ b → ((view_of o.read names g).file q ≡ (view_of o.read names f).file q) ⊎ (is_source (view_of o.read names f) q ≡ false)
       go true h = inr (subst (λ y. is_source (view_of o.read names f) y ≡ false) (sym (same_place q p h)) no_source)
-      go false h = inl (ap (λ n. content_of (if is_outside q then n else None)) (sym (f_other q h)))
+      go false h = inl (ap (λ n. file_of (if is_outside q then n else None)) (sym (f_other q h)))
 
   pub flagged_safe : Sound o.act H (view_of o.read names g) (eased s) × HasSources o (now o entry) (view_of o.read names g)
   flagged_safe = (

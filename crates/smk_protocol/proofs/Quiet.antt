@@ -13,7 +13,7 @@ use Rattle.smk_world.specs.Trees.{Path, IsIn, Each}
 use Rattle.smk_store.specs.Images.{is_outside}
 use Rattle.smk_base.specs.Path.{overlaps, is_under, is_at_or_under}
 use Rattle.smk_store.specs.Trust.{Versions}
-use Rattle.smk_world.specs.World.{World, after, reading, reads_nothing, standing, loose, going, with_folder, with_flag, firm, is_within, is_above, reads_folder}
+use Rattle.smk_world.specs.World.{World, after, reads_nothing, standing, loose, going, with_folder, with_flag, firm, is_within, is_above, reads_folder}
 use Rattle.smk_base.specs.Place.{record_place}
 use Rattle.smk_store.specs.Soundness.{Outside}
 use Rattle.smk_protocol.specs.Protocol.{OpenJob, RunState, own, eased_by, is_running}

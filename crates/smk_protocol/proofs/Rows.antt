@@ -1,24 +1,23 @@
 -- The protocol of a run: which events may come, by the phases of the jobs that are open. It keeps every crash image sound.
-use Rattle.std.specs.Prelude.{◌≡◌, ◌⊎◌, ℕ, suc, Bool, true, false, ◌&&◌, ◌||◌, not, List, [], ◌∷◌, ◌++◌, map, filter, zip, length, if◌then◌else◌, Some, None, Ok, Err, is_some, IsTrue, IsSome}
+use Rattle.std.specs.Prelude.{◌≡◌, ◌⊎◌, ℕ, suc, Bool, true, false, ◌||◌, List, [], ◌∷◌, ◌++◌, map, filter, length, Some, Ok, Err, is_some, IsTrue}
 use Rattle.std.specs.List.{list_any}
 use Rattle.smk_world.specs.declared.recipe.Out.{Out}
 use Rattle.smk_record.specs.declared.record.Member.{Member}
 use Rattle.smk_record.specs.declared.record.Stamp.{Stamp}
 use Rattle.smk_record.specs.declared.record.Stamp.TheVariants.{Time, Made}
 use Rattle.smk_record.specs.declared.record.Record.{Record}
-use Rattle.smk_world.specs.declared.recipe.Recipe.{Recipe}
 use Rattle.smk_world.specs.declared.event.Call.{Call}
-use Rattle.smk_world.specs.declared.event.Call.TheVariants.{Looked, ReadFile, ReadFolder, Written, Created, Removed, MadeParents, Settled, Protected, Started, Waited}
+use Rattle.smk_world.specs.declared.event.Call.TheVariants.{Written, Created, Removed, MadeParents, Settled, Protected, Started, Waited}
 use Rattle.smk_world.specs.declared.event.Event.{Event}
 use Rattle.smk_world.specs.declared.event.Failed.{Failed}
 use Rattle.smk_world.specs.Trees.{Path, among, outs_of, is_good, is_path_text, IsIn, Each}
 use Rattle.smk_store.specs.Images.{is_outside, Content}
-use Rattle.smk_base.specs.Path.{overlaps, is_at_or_under}
+use Rattle.smk_base.specs.Path.{overlaps}
 use Rattle.smk_protocol.specs.Protocol.{Phase, Marking, Marked, Running, Ended, Firm, Recorded, Dropping, Dropped, OpenJob, RunState, kept_at, outputs, own, mark_places, record_places, begun_with, record_of, listed_of, IsThere, IsAbsent, AreAmong, IsRecordOf, as_ok, IsLook, IsLock, IsFirst, runs, MayGo}
-use Rattle.smk_world.specs.World.{in_paths, out_paths, World, reading, owned_paths, after}
+use Rattle.smk_world.specs.World.{in_paths, World, after}
 use Rattle.smk_protocol.proofs.View.{kind_in, View, Speaks, is_source, source_at, is_whole}
-use Rattle.smk_store.specs.Trust.{Eased, none_eased}
-use Rattle.smk_base.specs.Place.{mark_place, record_place, note_place, lock_place}
+use Rattle.smk_store.specs.Trust.{none_eased}
+use Rattle.smk_base.specs.Place.{mark_place, record_place, note_place}
 use Rattle.smk_world.specs.Calls.{failed, any_overlap, are_apart}
 use Rattle.smk_store.specs.Soundness.{Outside}
 use Rattle.smk_protocol.proofs.Views.{view_of, reads}

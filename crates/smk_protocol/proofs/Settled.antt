@@ -9,7 +9,8 @@ use Rattle.smk_world.specs.declared.event.NodeState.{NodeState}
 use Rattle.smk_world.specs.declared.event.NodeState.TheVariants.{Owned, Known}
 use Rattle.smk_base.specs.declared.tree.Tree.{Tree}
 use Rattle.smk_world.specs.Trees.{Path, among, IsIn, Each, is_path_text}
-use Rattle.smk_store.specs.Images.{is_outside, content_of}
+use Rattle.smk_store.specs.Images.{is_outside}
+use Rattle.smk_protocol.proofs.View.{file_of}
 use Rattle.smk_record.specs.Records.{members_of, core}
 use Rattle.smk_protocol.proofs.Views.{EachImage, reads, view_of, read_at, place_node}
 use Rattle.smk_world.specs.World.{World, IsFormed, MayLeave, after, reading, firmly, firm, is_within, is_above, reads_folder}
@@ -39,13 +40,13 @@ module _ (o : Outside) (texts : Texts o.read) (w : World) (ps : List Path) (left
   abbrev w' : World
   w' = after w (event (Settled ps (Ok tt)) left)
 
-  within : (places : List Path) → AreAmong ps places → (p q : Path) → IsIn places p → is_at_or_under q p ≡ true → is_within q ps ≡ true
+  pub within : (places : List Path) → AreAmong ps places → (p q : Path) → IsIn places p → is_at_or_under q p ≡ true → is_within q ps ≡ true
   within places all p q i u = any_by (is_at_or_under q) ps p (in_among ps p (each_in (λ p. IsTrue (among ps p)) places p all i)) u
 
   node_there : (q : Path) → is_within q ps ≡ true → w'.nodes q ≡ firm (w.nodes q)
   node_there q h = ap (λ (b : Bool). if b || is_above q ps && reads_folder (w.nodes q) then firm (w.nodes q) else w.nodes q) h
 
-  only_reads : (q : Path) (n : Option Node) → is_within q ps ≡ true → (w.nodes q ≡ Owned → ⊥) → MayLeave (w'.nodes q) n → n ≡ reads w q
+  pub only_reads : (q : Path) (n : Option Node) → is_within q ps ≡ true → (w.nodes q ≡ Owned → ⊥) → MayLeave (w'.nodes q) n → n ≡ reads w q
   only_reads q n h owned leaves = go (subst (λ s. MayLeave s n) (node_there q h ∙ firm_is (w.nodes q) owned) leaves)
     where
       go : (n ≡ reads w q) ⊎ ⊥ → n ≡ reads w q
@@ -140,6 +141,6 @@ module _ (o : Outside) (texts : Texts o.read) (w : World) (ps : List Path) (left
                   none_file (is_outside q) (nothing p q (in_left (outputs j) (record_places j) p i) u (not_owned p q i u));
             }
           where
-            none_file : {n : Option Node} (b : Bool) → n ≡ None → content_of (if b then n else None) ≡ None
-            none_file true h = ap content_of h
+            none_file : {n : Option Node} (b : Bool) → n ≡ None → file_of (if b then n else None) ≡ None
+            none_file true h = ap file_of h
             none_file false h = refl

@@ -1,7 +1,7 @@
 -- Settling takes crash images away and changes nothing else.
 use Rattle.smk_protocol.proofs.Formed.{all_named}
 use Rattle.std.proofs.Common.{◌≡◌, Bool, true, false, List, refl, sym, ap, subst, inl, inr, arith, ◌∙◌, Option}
-use Rattle.std.specs.Prelude.{Ok, IsTrue, if◌then◌else◌, ◌&&◌, ◌||◌}
+use Rattle.std.specs.Prelude.{Ok, if◌then◌else◌, ◌&&◌, ◌||◌}
 use Rattle.smk_world.specs.declared.event.Node.{Node}
 use Rattle.smk_world.specs.declared.event.Besides.{Besides}
 use Rattle.smk_world.specs.declared.event.NodeState.{NodeState}

@@ -14,10 +14,9 @@ use Rattle.smk_world.specs.declared.event.NodeState.TheVariants.{Owned, Known}
 use Rattle.smk_record.specs.declared.record.Record.{Record}
 use Rattle.smk_world.specs.Trees.{Path, among, IsIn, is_path_text}
 use Rattle.smk_base.specs.Path.{overlaps, is_under, is_at_or_under}
-use Rattle.smk_store.specs.Images.{is_outside, Content, content_of, is_directory}
-use Rattle.smk_protocol.specs.Protocol.{kept_at}
+use Rattle.smk_store.specs.Images.{is_outside, Content, is_directory}
 use Rattle.smk_store.specs.Trust.{Versions, Eased}
-use Rattle.smk_protocol.proofs.View.{kind_in, View, Sound, Holds, is_source, source_at, is_known, is_covered, is_whole}
+use Rattle.smk_protocol.proofs.View.{kind_in, View, Sound, Holds, is_source, source_at, is_known, is_covered, is_whole, file_of}
 use Rattle.smk_record.specs.Records.{same_member, core}
 use Rattle.smk_protocol.proofs.Views.{Nodes, reads, view_of, view_by, path_node, read_at, place_node}
 use Rattle.smk_world.specs.World.{World, MayLeave, IsBeside, reading, going, or_was, or_gone}
@@ -165,7 +164,7 @@ module _
       not_covered a b c h = grind arith
 
   file_same : (q : Path) → f q ≡ g q → v.file q ≡ before.file q
-  file_same q h = ap (λ n. content_of (if is_outside q then n else None)) (sym h)
+  file_same q h = ap (λ n. file_of (if is_outside q then n else None)) (sym h)
 
   source_same : (q : Path) → is_source u q ≡ is_source before q
   source_same q = by_test (is_at_or_under q p) here (λ h k. is_path_text q && is_some (file_same q (f_other q h) k) && not (is_covered before q))
@@ -173,8 +172,8 @@ module _
       no_file : is_none (g q) ≡ true → v.file q ≡ None
       no_file h = go (is_outside q) (none_is (g q) h)
         where
-          go : (b : Bool) → g q ≡ None → content_of (if b then g q else None) ≡ None
-          go true h = ap content_of h
+          go : (b : Bool) → g q ≡ None → file_of (if b then g q else None) ≡ None
+          go true h = ap file_of h
           go false h = refl
 
       here : is_at_or_under q p ≡ true → is_source u q ≡ is_source before q
@@ -197,7 +196,7 @@ module _
   agreeing : (q : Path) → ((y : Path) → is_at_or_under y q ≡ true → is_outside y ≡ true → g y ≡ f y) → SameAt before u q
   agreeing q agree =
       let s = texts.folders names names g f q i.image.rising i.image.rising i.image.complete f_image.complete agree in
-      record { file = node (λ n. content_of n); folder = node (λ n. is_directory n); members = s.0; tree = s.1 }
+      record { file = node (λ n. file_of n); folder = node (λ n. is_directory n); members = s.0; tree = s.1 }
     where
       at_self : is_at_or_under q q ≡ true
       at_self = rw (place_itself q) refl
@@ -233,7 +232,7 @@ module _
           let t = holds (subst (λ k. IsTrue (is_whole before p k)) (sym k) (ap (λ (z : Option Content). is_some z) b)) in
           (at, (t.0, file_tree (path_node g p) y _ h ∙ sym (file_tree (path_node f p) y _ b) ∙ t.1, t.2))
         where
-          node_some : (b : Bool) (n : Option Node) (y : Content) → content_of (if b then n else None) ≡ Some y → is_none n ≡ false
+          node_some : (b : Bool) (n : Option Node) (y : Content) → file_of (if b then n else None) ≡ Some y → is_none n ≡ false
           node_some true None y h = none_some None refl h
           node_some false n y h = none_some None refl h
           node_some true (Some n) y h = refl

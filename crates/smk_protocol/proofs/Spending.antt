@@ -159,13 +159,13 @@ spend_keeps o texts entry H s w m p r left x lets free =
     (λ q h. texts.grown w (event (Removed p r) left) q ((all_named _ m.images.formed) q h))
     (record {
       others = λ q h. rw h refl;
-      fewer = λ q n under some h. going_some (w.nodes q) (standing left q) n (left_is r lets q) some (subst (λ t. MayLeave t n) (there q under) h);
+      fewer = λ q n under some h. going_some (w.nodes q) (standing left q) n (left_is r lets q under) some (subst (λ t. MayLeave t n) (there q under) h);
     })
     (quiet_call w (Removed p r) left tt)
   where
-    left_is : (r : Result (Unit {0}) Failed) → Lets o w (event (Removed p r) left) (Removed p r) → (q : Path) → (standing left q ≡ None) ⊎ (standing left q ≡ reading (w.nodes q))
-    left_is (Ok u) lets q = inl (ap (λ l. standing l q) lets)
-    left_is (Err e) lets q = lets q
+    left_is : (r : Result (Unit {0}) Failed) → Lets o w (event (Removed p r) left) (Removed p r) → (q : Path) → is_at_or_under q p ≡ true → (standing left q ≡ None) ⊎ (standing left q ≡ reading (w.nodes q))
+    left_is (Ok u) lets q under = inl (ap (λ l. standing l q) lets)
+    left_is (Err e) lets q under = lets q under
 
     there : (q : Path) → is_at_or_under q p ≡ true → (after w (event (Removed p r) left)).nodes q ≡ going (standing left q) (w.nodes q)
     there q h = ap (λ (b : Bool). if b then going (standing left q) (w.nodes q) else w.nodes q) h

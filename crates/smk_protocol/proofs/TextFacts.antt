@@ -22,7 +22,7 @@ use Rattle.smk_base.proofs.Apart as apart
 never : (p q : Path) → bytes_eq q p ≡ false → q ≡ p → ⊥
 never p q h e = clash (bytes_eq q p) (subst (λ x. bytes_eq q x ≡ true) e (place_itself q)) h
 
-outside_own : (p : Path) → is_outside p ≡ true → is_at_or_under p own_folder ≡ false
+pub outside_own : (p : Path) → is_outside p ≡ true → is_at_or_under p own_folder ≡ false
 outside_own p h = false_of_not (is_at_or_under p own_folder) h
 
 outside-record : (p q : Path) → is_outside p ≡ true → apart.IsApart p (record_place q)
@@ -155,7 +155,7 @@ holder_laws =
       proper = λ q i. clash (is_under q q) (folder_above q q i) (never_under_itself q);
     }
 
-drop_rest : (p rest : Path) → drop (length p + 1) (p ++ 47 ∷ rest) ≡ rest
+pub drop_rest : (p rest : Path) → drop (length p + 1) (p ++ 47 ∷ rest) ≡ rest
 drop_rest [] rest = refl
 drop_rest (b ∷ p) rest = ap (λ n. drop n (b ∷ p ++ 47 ∷ rest)) (more (length p)) ∙ drop_rest p rest
   where

@@ -1,8 +1,8 @@
 -- A mark of an open job's output is removed, and may be there still.
-use Rattle.std.proofs.Common.{◌≡◌, ◌⊎◌, ℕ, Bool, true, false, List, refl, sym, ap, subst, inl, inr, arith, ◌∙◌, Some, None}
+use Rattle.std.proofs.Common.{◌≡◌, ◌⊎◌, ℕ, Bool, true, false, List, refl, sym, ap, subst, inl, inr, arith, ◌∙◌, Some}
 use Rattle.std.specs.Prelude.{bytes_eq, is_some, if◌then◌else◌, ◌||◌}
 use Rattle.smk_record.specs.declared.record.Record.{Record}
-use Rattle.smk_world.specs.Trees.{Path, IsIn, is_path_text}
+use Rattle.smk_world.specs.Trees.{Path, IsIn}
 use Rattle.smk_store.specs.Trust.{Versions, Eased, none_eased}
 use Rattle.smk_protocol.proofs.View.{View, Clear, Sound}
 use Rattle.smk_protocol.proofs.Views.{Nodes, EachImage, HasNames, reads, view_of, place_node}

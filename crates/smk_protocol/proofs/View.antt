@@ -1,22 +1,30 @@
 -- An image as functions of a path, and trust over it: which record speaks for a path, chains of records, what a record vouches for.
 -- The marks that count are a parameter: while a Restore is open, the marks of its outputs don't, as long as its record stands.
-use Rattle.std.specs.Prelude.{◌≡◌, ◌⊎◌, ℕ, zero, suc, Bool, false, ◌&&◌, ◌||◌, not, List, [], ◌∷◌, map, find, reverse, ◌==◌, if◌then◌else◌, Option, Some, None, option_map, is_some, IsTrue, IsSome}
+use Rattle.std.specs.Prelude.{◌≡◌, ◌⊎◌, ℕ, zero, suc, Bool, false, ◌&&◌, ◌||◌, not, List, find, reverse, ◌==◌, if◌then◌else◌, Option, Some, None, option_map, is_some, IsTrue, IsSome}
 use Rattle.std.specs.List.{list_any}
 use Rattle.std.specs.Option.{option_and_then}
 use lib.Pointwise.{pointwise}
 use Rattle.smk_base.specs.declared.tree.Tree.{Tree}
 use Rattle.smk_base.specs.declared.tree.Tree.TheVariants.{File}
+use Rattle.smk_world.specs.declared.event.Node.{Node}
+use Rattle.smk_world.specs.declared.event.Node.TheVariants.{Regular, Directory as FolderNode}
 use Rattle.smk_world.specs.declared.recipe.Kind.{Kind}
 use Rattle.smk_world.specs.declared.recipe.Kind.TheVariants.{Plain, Folder as Directory}
 use Rattle.smk_record.specs.declared.record.Member.{Member}
 use Rattle.smk_record.specs.declared.record.Stamp.{Stamp}
 use Rattle.smk_record.specs.declared.record.Stamp.TheVariants.{Time, Made}
 use Rattle.smk_record.specs.declared.record.Record.{Record}
-use Rattle.smk_world.specs.Trees.{Path, IsIn, is_path_text, kind_in as kind_by, Act, all_of, value_at, part_at}
-use Rattle.smk_store.specs.Images.{Image, Content, file_at, is_folder, members_under, tree_now, stands, core_at, record_at}
+use Rattle.smk_world.specs.Trees.{Path, IsIn, is_path_text, kind_in as kind_by, Act, part_at}
+use Rattle.smk_store.specs.Images.{Image, Content, is_folder, members_under, tree_now, stands, core_at, record_at}
 use Rattle.smk_world.specs.World.{folders_above}
 use Rattle.smk_store.specs.Trust.{is_folder_record, Versions, Eased, vouched}
 use Rattle.smk_record.specs.Records.{stamped, same_member, members_of}
+
+-- the file as far as it counts: its bytes and its time, with the flag off
+abbrev pub file_of : Option Node → Option Content
+file_of None = None
+file_of (Some FolderNode) = None
+file_of (Some (Regular bytes time read_only)) = Some (record { bytes = bytes; time = time; read_only = false })
 
 pub record View : Type 0 where
   pub file : Path → Option Content
@@ -32,7 +40,7 @@ pub record View : Type 0 where
 abbrev pub view : Image → View
 view i =
     record {
-      file = file_at i;
+      file = λ p. file_of (i.node p);
       is_folder = is_folder i;
       members = members_under i;
       tree = tree_now i;

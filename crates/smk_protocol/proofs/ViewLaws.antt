@@ -2,18 +2,19 @@
 -- stands there.
 use Rattle.smk_world.proofs.Names.{adds_rising}
 use Rattle.smk_world.specs.World.{IsRising, add_names}
-use Rattle.std.proofs.Common.{◌≡◌, ◌⊎◌, ℕ, Bool, true, false, List, [], ◌∷◌, ◌++◌, map, length, drop, ◌+◌, refl, sym, ap, subst, inl, inr, arith, ◌∙◌, Option, Some, None}
-use Rattle.std.specs.Prelude.{bytes_eq, IsTrue, IsSome, is_some, find, if◌then◌else◌, ◌&&◌, ◌||◌, option_map}
+use Rattle.std.proofs.Common.{◌≡◌, ◌⊎◌, ℕ, Bool, true, false, List, [], ◌∷◌, map, length, drop, ◌+◌, refl, sym, ap, subst, inl, inr, arith, ◌∙◌, Option, Some, None}
+use Rattle.std.specs.Prelude.{bytes_eq, IsSome, is_some, find, if◌then◌else◌, ◌&&◌, ◌||◌, option_map}
 use Rattle.std.specs.Option.{option_and_then}
 use Rattle.smk_record.specs.declared.record.Member.{Member}
 use Rattle.smk_world.specs.declared.event.Node.{Node}
+use Rattle.smk_world.specs.declared.event.Node.TheVariants.{Regular, Directory}
 use Rattle.smk_record.specs.declared.record.Record.{Record}
 use Rattle.smk_base.specs.declared.tree.Tree.TheVariants.{File, Folder}
 use Rattle.smk_base.specs.declared.tree.TreeEntry.{TreeEntry}
 use Rattle.smk_world.specs.Trees.{Path, among, file_in, part_at, IsIn}
-use Rattle.smk_store.specs.Images.{is_outside, Content, is_directory, content_of, bytes_of}
+use Rattle.smk_store.specs.Images.{is_outside, Content, is_directory, bytes_of}
+use Rattle.smk_protocol.proofs.View.{file_of}
 use Rattle.smk_base.specs.Path.{is_under, is_at_or_under}
-use Rattle.smk_protocol.specs.Protocol.{kept_at}
 use Rattle.smk_protocol.proofs.Views.{Nodes, HasNames, view_of, path_node, names_in}
 use Rattle.smk_protocol.proofs.Basics.{clash, in_among, in_filter, filter_in}
 use Rattle.smk_protocol.proofs.Chains.{map_same}
@@ -35,7 +36,7 @@ listed a true h = rw (h refl) refl
 listed true false h = refl
 listed false false h = refl
 
-path_some : (f : Nodes) (q : Path) → is_some (path_node f q) ≡ true → IsSome (f q)
+pub path_some : (f : Nodes) (q : Path) → is_some (path_node f q) ≡ true → IsSome (f q)
 path_some f q h = go (is_outside q) h
   where
     go : (b : Bool) → is_some (if b then f q else None) ≡ true → IsSome (f q)
@@ -83,7 +84,7 @@ naming_laws read =
           tree = λ p.
               if is_directory (path_node f p)
               then Some (Folder (map (λ q. record { name = drop (length p + 1) q; bytes = bytes_of (path_node f q) }) (eq p k)))
-              else option_map (λ (x : Content). File x.bytes) (content_of (path_node f p));
+              else option_map (λ (x : Content). File x.bytes) (file_of (path_node f p));
         }
 
 abbrev member : Path → Nodes → Path → Member
@@ -132,7 +133,7 @@ folder_law read names names' f g h rising rising' complete complete' agree = (
   λ k.
       if is_directory (here names names' f g h rising rising' complete complete' agree k)
       then Some (Folder (entries_same names names' f g h rising rising' complete complete' agree k))
-      else option_map (λ (x : Content). File x.bytes) (content_of (here names names' f g h rising rising' complete complete' agree k)),
+      else option_map (λ (x : Content). File x.bytes) (file_of (here names names' f g h rising rising' complete complete' agree k)),
 )
 
 -- ---- a part of a tree
@@ -156,19 +157,25 @@ some_is : (x : Option Content) → is_some x ≡ true → (y : Content) × (x �
 some_is None h = clash false h refl
 some_is (Some y) h = (y, refl)
 
+bytes_are : (n : Option Node) → bytes_of n ≡ option_map (λ (f : Content). f.bytes) (file_of n)
+bytes_are None = refl
+bytes_are (Some Directory) = refl
+bytes_are (Some (Regular bytes time read_only)) = refl
+
 pub part_law : DropLaws → (read : List ℕ → Option Record) → PartLaw read
 part_law laws read names f h q rising complete folder under some =
-    let y = some_is (content_of (path_node f q)) some in
+    let y = some_is (file_of (path_node f q)) some in
     ap (option_and_then (part_at h q)) (whole (is_directory (path_node f h)) folder)
     ∙ ap (λ (b : Bool). if b then Some (Folder (map (entry h f) (names_in names (path_node f) h))) else file_in (Folder (map (entry h f) (names_in names (path_node f) h))) (drop (length h + 1) q)) (laws.not_self h q under)
     ∙ ap (option_and_then (λ (e : TreeEntry). option_map File e.bytes)) (found h f q (names_in names (path_node f) h) one here)
+    ∙ ap (option_map File) (bytes_are (path_node f q))
     ∙ ap (λ (x : Option Content). option_map File (option_map (λ (f : Content). f.bytes) x)) y.1
     ∙ sym (file_tree (path_node f q) y.0 _ y.1)
   where
-    whole : (b : Bool) → b ≡ true → (if b then Some (Folder (map (entry h f) (names_in names (path_node f) h))) else option_map (λ (x : Content). File x.bytes) (content_of (path_node f h))) ≡ Some (Folder (map (entry h f) (names_in names (path_node f) h)))
+    whole : (b : Bool) → b ≡ true → (if b then Some (Folder (map (entry h f) (names_in names (path_node f) h))) else option_map (λ (x : Content). File x.bytes) (file_of (path_node f h))) ≡ Some (Folder (map (entry h f) (names_in names (path_node f) h)))
     whole b e = rw e refl
 
-    node_stands : (n : Option Node) → is_some (content_of n) ≡ true → is_some n ≡ true
+    node_stands : (n : Option Node) → is_some (file_of n) ≡ true → is_some n ≡ true
     node_stands None k = clash false k refl
     node_stands (Some n) k = refl
 

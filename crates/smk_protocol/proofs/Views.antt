@@ -1,13 +1,13 @@
 -- The view of an image that is a function of places: nothing is searched for by its name.
-use Rattle.std.specs.Prelude.{ℕ, Bool, true, false, ◌&&◌, List, map, filter, length, drop, ◌+◌, if◌then◌else◌, Option, Some, None, option_map, is_some, IsTrue, IsSome}
+use Rattle.std.specs.Prelude.{ℕ, ◌&&◌, List, map, filter, length, drop, ◌+◌, if◌then◌else◌, Option, Some, None, option_map, is_some, IsTrue, IsSome}
 use Rattle.smk_base.specs.declared.tree.Tree.TheVariants.{File, Folder}
 use Rattle.smk_world.specs.declared.event.Node.{Node}
 use Rattle.smk_record.specs.declared.record.Record.{Record}
 use Rattle.smk_world.specs.Trees.{Path, among, is_path_text}
-use Rattle.smk_store.specs.Images.{is_outside, Content, content_of, is_directory, bytes_of, kept_by, readable}
+use Rattle.smk_store.specs.Images.{is_outside, Content, is_directory, bytes_of, kept_by, readable}
 use Rattle.smk_base.specs.Path.{is_under}
 use Rattle.smk_record.specs.Records.{members_of, core}
-use Rattle.smk_protocol.proofs.View.{View}
+use Rattle.smk_protocol.proofs.View.{View, file_of}
 use Rattle.smk_world.specs.World.{World, reading, MayLeave, IsRising}
 use Rattle.smk_base.specs.Place.{mark_place, record_place, note_place}
 
@@ -31,13 +31,13 @@ names_in names nodes p = filter (λ q. is_under q p && is_some (nodes q)) names
 abbrev pub view_by : (List ℕ → Option Record) → List Path → Nodes → Nodes → Nodes → Nodes → View
 view_by read names nodes records marks notes =
     record {
-      file = λ p. content_of (nodes p);
+      file = λ p. file_of (nodes p);
       is_folder = λ p. is_directory (nodes p);
       members = λ p. map (λ q. record { folder = is_directory (nodes q); name = drop (length p + 1) q }) (names_in names nodes p);
       tree = λ p.
           if is_directory (nodes p)
           then Some (Folder (map (λ q. record { name = drop (length p + 1) q; bytes = bytes_of (nodes q) }) (names_in names nodes p)))
-          else option_map (λ (x : Content). File x.bytes) (content_of (nodes p));
+          else option_map (λ (x : Content). File x.bytes) (file_of (nodes p));
       has_record = λ p. is_some (records p);
       record_at = λ p. option_map core (read_at read p (records p));
       listed = λ p. members_of (read_at read p (records p));

@@ -1,2 +1,3 @@
 pub mod Protocol
 pub mod Midway
+pub mod Forgetting

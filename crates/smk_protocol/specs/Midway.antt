@@ -17,6 +17,7 @@ use Rattle.smk_record.specs.declared.record.Record.{Record}
 use Rattle.smk_record.specs.Records.{stamped, serials, members_of}
 use Rattle.smk_store.specs.Images.{Image, stands, is_source, file_at, core_at, record_at, members_under, tree_now}
 use Rattle.smk_store.specs.Trust.{Eased, none_eased, Clear, Versions}
+use Rattle.smk_store.specs.Safety.{KeepsSound}
 use Rattle.smk_store.specs.Soundness.{Outside, Sound, SoundWorld, EachImage, SameSources, NoNewRecord, HasKnown}
 use Rattle.smk_protocol.specs.Protocol.{Phase, Marking, Running, Ended, Firm, Recorded, Dropped, OpenJob, RunState, outputs, own, eased, begun_with, record_of, listed_of, kept_at, keeps, is_running, IsApart, IsAtHand, now, Runs}
 
@@ -208,3 +209,15 @@ module _ (o : Outside) where
 -- The protocol keeps every crash image sound.
 abbrev pub ProtocolLaw : Type 0
 ProtocolLaw = (o : Outside) (entry : World) (H : Versions) → SoundWorld o entry H → IsSafe o entry H
+
+-- What holds between two events holds after every prefix of a run.
+abbrev pub HoldsMidway : Type 0
+HoldsMidway =
+    (o : Outside) (entry : World) (H : Versions) (top : ℕ) (es : List Event) (s : RunState) →
+    SoundWorld o entry H → IsTop o entry top → Follows o.act entry es → Runs o (at_entry o top) entry es s → Midway o entry H s (run entry es)
+
+-- So a log that follows the protocol keeps what a call has to keep, to its end, and forgets no path.
+abbrev pub ProtocolKeepsSound : Type 0
+ProtocolKeepsSound =
+    (o : Outside) (entry : World) (top : ℕ) (log : List Event) (s : RunState) →
+    IsTop o entry top → Follows o.act entry log → Runs o (at_entry o top) entry log s → KeepsSound o entry log [] true

@@ -12,6 +12,7 @@ use Rattle.smk_record.specs.declared.record.Stamp.{Stamp}
 use Rattle.smk_record.specs.declared.record.Stamp.TheVariants.{Time, Made}
 use Rattle.smk_record.specs.declared.record.Member.{Member}
 use Rattle.smk_record.specs.declared.record.Record.{Record}
+use Rattle.smk_world.specs.declared.recipe.Recipe.{Recipe}
 
 -- ## Stamps
 
@@ -54,6 +55,10 @@ same_member a b = same_flag a.folder b.folder && bytes_eq a.name b.name
 abbrev pub members_of : Option Record → List Member
 members_of None = []
 members_of (Some r) = r.members
+
+-- the record of these parts
+abbrev pub record_of : Path → ℕ → Recipe → List Stamp → List Member → Record
+record_of path made recipe stamps members = record { path = path; made = made; recipe = recipe; stamps = stamps; members = members }
 
 -- a record but for its members: all that says how the output was made
 abbrev pub core : Record → Record

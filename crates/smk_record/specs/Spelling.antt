@@ -1,5 +1,5 @@
 -- How a record is written, to the byte.
-use Rattle.std.specs.Prelude.{◌≡◌, ◌↔◌, ℕ, Bool, ◌&&◌, List, [], ◌∷◌, ◌++◌, map, length, drop, decimal, codes, if◌then◌else◌, ◌^◌, nat_lt, Option, Some, IsTrue}
+use Rattle.std.specs.Prelude.{◌≡◌, ◌↔◌, ℕ, Bool, ◌&&◌, List, [], ◌∷◌, ◌++◌, map, length, drop, decimal, codes, if◌then◌else◌, ◌^◌, ◌<◌, nat_lt, Option, Some, IsTrue}
 use Rattle.std.specs.List.{list_all, flat_map}
 use Rattle.smk_base.specs.declared.tree.Pair.{Pair}
 use Rattle.smk_world.specs.declared.recipe.Values.{Values}
@@ -95,6 +95,12 @@ number (Made m) = m
 abbrev pub is_writable : Record → Bool
 is_writable r = list_all is_text (texts r.recipe) && (nat_lt r.made (2 ^ 64) && list_all (λ s. nat_lt (number s) (2 ^ 64)) r.stamps)
 
--- A reader of records: bytes are read as the valid record that they spell, and as nothing where they spell none.
+-- What a reader of records finds in these bytes: the valid record that they spell, and nothing where they spell none.
+abbrev pub IsReadAs : List ℕ → Option Record → Type 0
+IsReadAs bytes found = (r : Record) → (found ≡ Some r) ↔ ((bytes ≡ spelling r) × IsTrue (is_valid r && is_writable r))
+
+-- A reader of records: fewer than 2^64 bytes are read as the valid record that they spell, and as nothing where they spell none.
 abbrev pub ReadsRecords : (List ℕ → Option Record) → Type 0
-ReadsRecords read = (bytes : List ℕ) (r : Record) → (read bytes ≡ Some r) ↔ ((bytes ≡ spelling r) × IsTrue (is_valid r && is_writable r))
+ReadsRecords read =
+    (bytes : List ℕ) (r : Record) →
+    length bytes < 2 ^ 64 → (read bytes ≡ Some r) ↔ ((bytes ≡ spelling r) × IsTrue (is_valid r && is_writable r))

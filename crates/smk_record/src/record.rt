@@ -1,3 +1,7 @@
+ghost use Rattle.std.specs.Prelude.{◌≡◌, ◌↔◌, true, IfSome, IsSome, IsTrue};
+ghost use Rattle.smk_record.specs.Records.{is_valid, same_stamp};
+
+use crate::valid::is_valid;
 use smk_base::{List, PathText};
 use smk_world::Recipe;
 
@@ -8,6 +12,17 @@ pub enum Stamp {
     Time(u64),
     /// A product, with the serial of its record.
     Made(u64),
+}
+
+/// Whether the two are the same time of a source, or the same serial of a product.
+pub fn same_stamp(a: &Stamp, b: &Stamp) -> bool
+    ensures { result ≡ same_stamp a.now b.now }
+{
+    match (a, b) {
+        (Stamp::Time(time), Stamp::Time(other)) => time == other,
+        (Stamp::Made(serial), Stamp::Made(other)) => serial == other,
+        _ => false,
+    }
 }
 
 /// What stands at this name under a directory output.
@@ -21,9 +36,82 @@ pub struct Member {
 /// under it.
 #[derive(Debug, Drop)]
 pub struct Record {
-    path: PathText,
-    made: u64,
-    recipe: Recipe,
-    stamps: List<Stamp>,
-    members: List<Member>,
+    pub(crate) path: PathText,
+    pub(crate) made: u64,
+    pub(crate) recipe: Recipe,
+    pub(crate) stamps: List<Stamp>,
+    pub(crate) members: List<Member>,
+}
+
+impl Record {
+    ghost use Rattle.smk_record.specs.Records.{record_of};
+
+    /// The record of these parts. None exactly where they are no valid record: they are dropped then.
+    pub fn new(
+        path: PathText,
+        made: u64,
+        recipe: Recipe,
+        stamps: List<Stamp>,
+        members: List<Member>,
+    ) -> Option<Record>
+        ensures valid { IsSome result ↔ (is_valid (record_of path made recipe stamps members) ≡ true) }
+        ensures value { IfSome result (λ kept. kept ≡ record_of path made recipe stamps members) }
+    {
+        let kept = Record {
+            path,
+            made,
+            recipe,
+            stamps,
+            members,
+        };
+        if kept.is_valid() { Some(kept) } else { None }
+    }
+
+    /// Whether the record is valid.
+    pub(crate) fn is_valid(&self) -> bool
+        ensures { result ≡ is_valid self.now }
+    {
+        is_valid(
+            &self.path,
+            self.made,
+            &self.recipe,
+            self.stamps.as_slice(),
+            self.members.as_slice(),
+        )
+    }
+
+    /// The output that the record is of.
+    pub fn path(&self) -> &PathText
+        ensures { result.now ≡ self.now.path }
+    {
+        &self.path
+    }
+
+    /// The serial of the job that made it.
+    pub fn made(&self) -> u64
+        ensures { result ≡ self.now.made }
+    {
+        self.made
+    }
+
+    /// The recipe of that job.
+    pub fn recipe(&self) -> &Recipe
+        ensures { result.now ≡ self.now.recipe }
+    {
+        &self.recipe
+    }
+
+    /// What its inputs were, in order.
+    pub fn stamps(&self) -> &List<Stamp>
+        ensures { result.now ≡ self.now.stamps }
+    {
+        &self.stamps
+    }
+
+    /// What was under a directory output.
+    pub fn members(&self) -> &List<Member>
+        ensures { result.now ≡ self.now.members }
+    {
+        &self.members
+    }
 }

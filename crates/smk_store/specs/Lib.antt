@@ -2,3 +2,5 @@ pub mod Images
 pub mod Trust
 pub mod Soundness
 pub mod Safety
+pub mod Steps
+pub mod Stores

@@ -1,5 +1,5 @@
 -- Stamps, chains of records, and what a record vouches for.
-use Rattle.std.specs.Prelude.{◌≡◌, ◌⊎◌, ℕ, zero, suc, Bool, false, List, map, reverse, if◌then◌else◌, Option, Some, None, option_map, is_some, IsTrue}
+use Rattle.std.specs.Prelude.{◌≡◌, ◌⊎◌, ℕ, zero, suc, Bool, false, ◌&&◌, not, List, map, reverse, if◌then◌else◌, Option, Some, None, option_map, is_some, IsTrue}
 use Rattle.std.specs.List.{find}
 use Rattle.std.specs.Option.{option_and_then}
 use Rattle.smk_base.specs.declared.tree.Tree.{Tree}
@@ -39,6 +39,18 @@ time_stamp f = option_map (λ (c : Content). Time c.time) f
 abbrev pub stamp_now : Image → Path → Option Stamp
 stamp_now image p =
     if is_source image p then time_stamp (source_at image p) else option_and_then (unmarked_stamp image) (holder image p)
+
+-- a mark stands there, and it counts: the marks of some paths are left out
+abbrev pub is_marked_but : Image → (Path → Bool) → Path → Bool
+is_marked_but image left_out h = image.marked h && not (left_out h)
+
+abbrev pub unmarked_stamp_but : Image → (Path → Bool) → Path → Option Stamp
+unmarked_stamp_but image left_out h = if is_marked_but image left_out h then None else made_stamp (core_at image h)
+
+-- the stamp now, where the marks of some paths don't count
+abbrev pub stamp_now_but : Image → (Path → Bool) → Path → Option Stamp
+stamp_now_but image left_out p =
+    if is_source image p then time_stamp (source_at image p) else option_and_then (unmarked_stamp_but image left_out) (holder image p)
 
 -- ## Chains
 

@@ -3,8 +3,10 @@
 
 mod fault;
 mod places;
+mod steps;
 mod store;
 
 pub use fault::StoreFault;
 pub use places::JobPlaces;
+pub use steps::{drop_records, lock, mark, put_records, unlock, unmark};
 pub use store::{Entry, Kept, Store};

@@ -1,5 +1,5 @@
 use Rattle.std.proofs.Common.{refl, sym, inl, [], append-nil}
-use Rattle.smk_contract.proofs.Empty.{no_event, lawful_at_start, as_run, no_current, kept_at_start, others_at_start, not_three, not_four}
+use Rattle.smk_contract.proofs.Empty.{no_event, lawful_at_start, as_run, no_current, kept_at_start, listed_at_start, others_at_start, not_three, not_four}
 use Rattle.smk_drive.specs.Reports.{NoLines}
 use Rattle.smk_contract.proofs.form.gives_up.Goals as goal
 
@@ -29,7 +29,7 @@ returns-clause-partial g c = λ w told. (
 )
 
 pub returns-clause-crashes : goal.returns-clause-crashes
-returns-clause-crashes g c = λ w told. (w, told, ([], tt, (λ to_the_end h. kept_at_start _ w _ to_the_end), refl))
+returns-clause-crashes g c = λ w told. (w, told, ([], tt, (λ to_the_end h. (kept_at_start _ w _ to_the_end, listed_at_start _ w to_the_end)), refl))
 
 pub returns-clause-others : goal.returns-clause-others
 returns-clause-others g c = λ w told. (w, told, ([], tt, others_at_start g.g _ w, refl))

@@ -1,6 +1,6 @@
-use Rattle.std.proofs.Common.{◌≡◌, ℕ, List, [], ◌∷◌, ◌++◌, length, map, drop, Bool, true, false, Option, Bor, refl, sym, ap, ◌∙◌, suc, arith, vec_len, cond, not, length-append}
+use Rattle.std.proofs.Common.{◌≡◌, ℕ, List, [], ◌∷◌, length, map, Bool, true, false, Option, Bor, refl, sym, ap, ◌∙◌, suc}
 use Rattle.std.proofs.lemmas.List.{length-map}
-use Rattle.smk_pattern.specs.Shapes.{Part, Wildcard, IsNumbered}
+use Rattle.smk_pattern.specs.Shapes.{Part, Wildcard}
 use Rattle.smk_pattern.specs.Fitting.{AllSuit}
 use Rattle.smk_pattern.specs.Searching.{Searched, now_of}
 use Rattle.smk_pattern.specs.declared.pattern.Wildcard as code

@@ -1,4 +1,3 @@
-use Rattle.std.proofs.Common.{ap, sym, ◌∙◌}
 use Rattle.smk_pattern.specs.Fitting.{filled}
 use Rattle.smk_pattern.specs.Pieces.{parts_of}
 use Rattle.smk_pattern.proofs.Ends.{ends_with, no_end}

@@ -1,10 +1,6 @@
-use Rattle.std.proofs.Common.{◌≡◌, ◌+◌, List, ℕ, Bor, drop, ap, sym, ◌∙◌, arith}
-use Rattle.std.proofs.lemmas.List.{at_drop_more, at_drop_all}
-use Rattle.smk_pattern.specs.declared.splitting.Written.{Written}
-use Rattle.smk_pattern.specs.Shapes.{Text}
+use Rattle.std.proofs.Common.{List, ℕ, Bor, ap, ◌∙◌}
 use Rattle.smk_pattern.specs.Searching.{now_of}
-use Rattle.smk_pattern.specs.Splitting.{written_of, all_written}
-use Rattle.smk_pattern.specs.Written.{with_name}
+use Rattle.smk_pattern.specs.Splitting.{all_written}
 use Rattle.smk_pattern.proofs.Names.{names_from, names_from_none}
 use Rattle.smk_pattern.proofs.reading.names_in.Goals as goal
 

@@ -1,4 +1,4 @@
-use Rattle.std.proofs.Common.{◌≡◌, ◌<◌, ℕ, length, map, refl, sym, ap, ap₂, subst, ◌∙◌, arith, List}
+use Rattle.std.proofs.Common.{◌≡◌, ℕ, length, map, refl, sym, ap, ap₂, subst, ◌∙◌, arith, List}
 use Rattle.std.proofs.lemmas.Bool.{eqb-true}
 use Rattle.std.proofs.lemmas.List.{length-map}
 use Rattle.smk_base.specs.declared.tree.Pair.{Pair}
@@ -6,7 +6,7 @@ use Rattle.smk_pattern.specs.declared.pattern.Wildcard as code
 use Rattle.smk_pattern.specs.Shapes.{Text, Part, Wildcard, Shape, IsNumbered}
 use Rattle.smk_pattern.specs.Grammar.{Piece}
 use Rattle.smk_pattern.specs.Reading.{part_in, names_in, pieces}
-use Rattle.smk_pattern.specs.Pieces.{parts_of, wildcards_of, wildcard_of}
+use Rattle.smk_pattern.specs.Pieces.{wildcards_of, wildcard_of}
 use Rattle.smk_pattern.specs.Searching.{now_of}
 use Rattle.smk_pattern.specs.Splitting.{written_of, all_written}
 use Rattle.smk_pattern.specs.Written.{wildcard_in}

@@ -1,15 +1,14 @@
-use Rattle.std.proofs.Common.{◌≡◌, ◌≢◌, ◌==◌, IfOk, List, ℕ, [], ◌∷◌, ◌++◌, length, Bool, true, false, refl, sym, ◌∙◌, ap, arith, Option, Result, Ok, Err, vec_len, append-nil, ◌<◌, get_or, Bor, Vec, Global, subst, set, ◌+◌, ◌-◌, take, length-append, None, ◌≤◌, IsUtf8, true≢false, take-append-drop, append_assoc, OnOk, inl, inr}
+use Rattle.std.proofs.Common.{◌≡◌, ◌==◌, IfOk, List, ℕ, [], ◌∷◌, ◌++◌, length, Bool, true, false, refl, sym, ◌∙◌, ap, arith, Option, Result, Ok, Err, vec_len, append-nil, ◌<◌, get_or, Bor, Vec, Global, set, ◌+◌, ◌-◌, take, length-append, None, ◌≤◌, IsUtf8, true≢false, take-append-drop, append_assoc, OnOk, inl, inr}
 use Rattle.std.proofs.lemmas.Str.{IsUtf8-take, IsUtf8-drop}
 use Rattle.std.proofs.lemmas.Bool.Decides.{nat_tests}
-use Rattle.std.proofs.lemmas.List.{nil_from_length, length-map, get_or-map, map_push, set-get_or, get_or_default, take-map, take_at}
+use Rattle.std.proofs.lemmas.List.{nil_from_length, length-map, get_or-map, map_push, set-get_or, get_or_default, take-map, take_at, length-take-le}
 use Rattle.smk_pattern.specs.Shapes.{Part, IsNumbered}
 use Rattle.smk_pattern.specs.Shapes.Part.{wild}
 use Rattle.smk_pattern.specs.Searching.{Searched, RestFits, now_of, stands_in}
 use Rattle.smk_pattern.specs.Pieces.{parts_of, part_of}
-use Rattle.smk_pattern.specs.Tables.{KeepsAll, Serves, Keeps, Stands}
 use Rattle.smk_pattern.specs.declared.pattern.Piece.{Piece}
-use Rattle.smk_pattern.proofs.Steps.{found_end, none_end, IsKnown, text_known, wild_known, searched_known, none_left, shorter, no_boundary, no_suit, no_rest, found_wild, Splits}
-use Rattle.smk_pattern.proofs.Sound.{keeps_then, keeps_same, keeps_known, kept_behind, serves_later, serves_behind, serves_new, none_noted, keeps_noted}
+use Rattle.smk_pattern.proofs.Steps.{found_end, none_end, IsKnown, text_known, wild_known, searched_known, none_left, shorter, no_boundary, no_suit, no_rest, found_wild}
+use Rattle.smk_pattern.proofs.Sound.{keeps_then, keeps_known, kept_behind, serves_later, serves_behind, serves_new, none_noted, keeps_noted, tried_before}
 use Rattle.smk_pattern.proofs.search.+search.Goals as goal
 use Rattle.smk_pattern.proofs.search.+search.Goals.{attempt-in-Literal, attempt-in-Wild+then-number-len, longest-then-is_char_boundary+then-suits+in_ok-push+in_ok-behind+else-branch, longest-then-is_char_boundary+else-suits, longest-else-is_char_boundary}
 
@@ -108,6 +107,28 @@ longest-returns-then-branch-clause-found t c =
 -- the number of the wildcard, and whether it stands again
 again_at : (again : Bool) (n : ℕ) (later : List Part) (v : Vec (Bor (List ℕ)) Global) → again ≡ stands_in n later → n ≡ vec_len v → again ≡ stands_in (length (now_of v.items)) later
 again_at again n later v e f = e ∙ ap (λ k. stands_in k later) (f ∙ known_len v)
+
+pub longest-loop-dropped-preserved-then-was_tried : goal.longest-loop-dropped-preserved-then-was_tried
+longest-loop-dropped-preserved-then-was_tried t c =
+    let i = c.loop-dropped.invariant in
+    let e = known_len c.args.values.now in
+    let below = rw e at i.shorter in
+    let text = c.args.text.now in
+    let later = parts_of c.args.later.now in
+    let dropped = c.loop-dropped.dropped in
+    let room = open_room c.args.values.now _ c.requires.1.1.1.0 in
+    let tried = c.was_tried.ensures c.if-was_tried.true in
+    let again = again_at _ _ later c.args.values.now c.is_among-again.ensures c.len-number.ensures in
+    let cut : length (take (length text - dropped) text) ≡ length text - dropped = length-take-le (length text - dropped) text (omega arith) in
+    let whole : length (take (length text - dropped) text) + dropped ≡ length text = omega (arith, cut) in
+    let none = tried_before c.is_among-again.result (vec_len c.args.values.now) dropped later _ _ room text (take (length text - dropped) text) _ _ again tried.0
+    c.requires.1.1.1.1.1 i.keeps (rw e at c.requires.1.1.1.1.0) (rw (length-map c.args.later.now part_of) tried.1) whole in
+    record {
+      known = i.known;
+      testers = i.testers;
+      shorter = rw e (shorter later _ _ room text dropped (omega arith) below none);
+      keeps = i.keeps;
+    }
 
 pub longest-loop-dropped-preserved : goal.longest-loop-dropped-preserved
 longest-loop-dropped-preserved t c =

@@ -1,4 +1,4 @@
-use Rattle.std.proofs.Common.{IfOk, ap, ◌∙◌, rules}
+use Rattle.std.proofs.Common.{IfOk}
 use Rattle.smk_pattern.proofs.Meaning.{tester_of}
 use Rattle.smk_pattern.specs.Testers.{IsTesterOf}
 use Rattle.smk_pattern.proofs.limit.Limit.tester.Goals as goal

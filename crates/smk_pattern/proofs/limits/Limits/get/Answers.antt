@@ -1,4 +1,4 @@
-use Rattle.std.proofs.Common.{◌≡◌, Some, string_bytes, ap, sym, subst, ◌∙◌, bytes_eq}
+use Rattle.std.proofs.Common.{Some, string_bytes, sym, subst, ◌∙◌}
 use Rattle.std.proofs.lemmas.Map.Text.{btree_map_updates_text}
 use Rattle.smk_pattern.specs.Limits.{IsLimit}
 use Rattle.smk_pattern.proofs.Shared.{one_more, none_more}

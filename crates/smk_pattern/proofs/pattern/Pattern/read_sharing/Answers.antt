@@ -1,4 +1,3 @@
-use Rattle.std.proofs.Common.{ap, ◌∙◌}
 use Rattle.smk_pattern.proofs.Grammatical.{pattern_by, none_by}
 use Rattle.smk_pattern.proofs.pattern.Pattern.read_sharing.Goals as goal
 

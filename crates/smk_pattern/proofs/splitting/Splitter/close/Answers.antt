@@ -1,4 +1,4 @@
-use Rattle.std.proofs.Common.{◌≡◌, ◌-◌, ◌++◌, ◌∷◌, [], ℕ, List, refl, ap, arith, ◌∙◌}
+use Rattle.std.proofs.Common.{◌-◌, ◌++◌, ◌∷◌, [], refl, ap, arith, ◌∙◌}
 use Rattle.std.proofs.lemmas.List.{map_push}
 use Rattle.smk_pattern.specs.Grammar.{Piece}
 use Rattle.smk_pattern.specs.Reading.{hole_of}

@@ -1,4 +1,4 @@
-use Rattle.std.proofs.Common.{◌≡◌, ◌<◌, ◌≤◌, ◌++◌, ◌∷◌, [], ℕ, List, length, sym, ap, arith, ◌∙◌}
+use Rattle.std.proofs.Common.{◌<◌, ◌++◌, ◌∷◌, [], ℕ, List, length, sym, ap, arith, ◌∙◌}
 use Rattle.std.proofs.lemmas.List.{map_push}
 use Rattle.smk_pattern.specs.Grammar.{Piece, plain}
 use Rattle.smk_pattern.specs.Splitting.{written_of, all_written, between}

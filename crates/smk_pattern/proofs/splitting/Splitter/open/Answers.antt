@@ -1,4 +1,4 @@
-use Rattle.std.proofs.Common.{◌≡◌, ◌+◌, ℕ, refl, ap, arith, Bor, List}
+use Rattle.std.proofs.Common.{◌+◌, ℕ, refl, ap, arith, Bor, List}
 use Rattle.smk_pattern.proofs.Split.{goes_on, opens, takes_deeper}
 use Rattle.smk_pattern.proofs.splitting.Splitter.open.Goals as goal
 

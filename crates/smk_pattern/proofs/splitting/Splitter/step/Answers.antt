@@ -1,4 +1,4 @@
-use Rattle.std.proofs.Common.{◌≡◌, arith}
+use Rattle.std.proofs.Common.{arith}
 use Rattle.smk_pattern.proofs.Split.{goes_on, takes_other, other_byte}
 use Rattle.smk_pattern.proofs.splitting.Splitter.step.Goals as goal
 

@@ -1,0 +1,15 @@
+pub mod Texts
+pub mod Items
+pub mod Levels
+pub mod Placed
+pub mod Whole
+pub mod Rows
+pub mod Spaced
+pub mod Rowed
+pub mod Moved
+pub mod Fit
+pub mod Joined
+pub mod Again
+pub mod Formed
+pub mod Sound
+pub mod Back

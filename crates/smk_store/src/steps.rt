@@ -1,0 +1,150 @@
+//! What is made, written and removed of the engine's own files, each time firmly.
+
+ghost use Rattle.std.specs.Prelude.{◌≡◌, [], ◌∷◌, length, IsErr, IfOk, OnOk, IsSome, is_ok};
+ghost use Rattle.smk_base.specs.Place.{lock_place};
+ghost use Rattle.smk_world.specs.Calls.{HasCause};
+ghost use Rattle.smk_world.specs.Runs.{Did};
+ghost use Rattle.smk_world.specs.Requests.{Carries};
+ghost use Rattle.smk_store.specs.Steps.{AreUnused, HasLocked, make_each, remove_each, write_each, mark_requests, put_requests, drop_requests, unmark_requests, unlock_requests};
+
+use crate::JobPlaces;
+use smk_base::{Bytes, List, Place};
+use smk_world::{Failed, Files};
+
+// Makes each of the places that isn't there, its folders before it.
+fn make_each<W: Files>(work: &mut W, places: &[Place]) -> Result<(), Failed>
+    ensures did { Did W.act (W.world work.old) (W.world work.new) (λ w es. Carries (make_each places.now) (is_ok result) es) }
+    ensures stays { OnOk result (IsSome (W.world work.old) → IsSome (W.world work.new)) }
+    ensures cause { HasCause (W.faults work.old) (W.faults work.new) (IsErr result) }
+    ensures running { W.running work.new ≡ W.running work.old }
+{
+    for place in places {
+        work.make_parents(place)?;
+        work.create_new(place)?;
+    }
+    Ok(())
+}
+
+// Removes each of the places.
+fn remove_each<W: Files>(work: &mut W, places: &[Place]) -> Result<(), Failed>
+    requires unused { AreUnused (W.world work.old) places.now }
+    ensures did { Did W.act (W.world work.old) (W.world work.new) (λ w es. Carries (remove_each places.now) (is_ok result) es) }
+    ensures stays { OnOk result (IsSome (W.world work.old) → IsSome (W.world work.new)) }
+    ensures cause { HasCause (W.faults work.old) (W.faults work.new) (IsErr result) }
+    ensures running { W.running work.new ≡ W.running work.old }
+{
+    for place in places {
+        work.remove(place)?;
+    }
+    Ok(())
+}
+
+// Writes each of the places, its folders made before it.
+fn write_each<W: Files>(work: &mut W, places: &[Place], bytes: &[Bytes]) -> Result<(), Failed>
+    requires each { length bytes.now ≡ length places.now }
+    requires unused { AreUnused (W.world work.old) places.now }
+    ensures did { Did W.act (W.world work.old) (W.world work.new) (λ w es. Carries (write_each places.now bytes.now) (is_ok result) es) }
+    ensures stays { OnOk result (IsSome (W.world work.old) → IsSome (W.world work.new)) }
+    ensures cause { HasCause (W.faults work.old) (W.faults work.new) (IsErr result) }
+    ensures running { W.running work.new ≡ W.running work.old }
+{
+    for (i, place) in places.iter().enumerate() {
+        work.make_parents(place)?;
+        work.write(place, bytes[i].as_slice())?;
+    }
+    Ok(())
+}
+
+/// Makes the marks and notes that aren't there, and makes them all firm. One that stands is left as it is.
+///
+/// `Failed`: one of these calls failed, and none came after it.
+pub fn mark<W: Files>(work: &mut W, places: &JobPlaces) -> Result<(), Failed>
+    ensures did { Did W.act (W.world work.old) (W.world work.new) (λ w es. Carries (mark_requests places.now) (is_ok result) es) }
+    ensures stays { OnOk result (IsSome (W.world work.old) → IsSome (W.world work.new)) }
+    ensures cause { HasCause (W.faults work.old) (W.faults work.new) (IsErr result) }
+    ensures running { W.running work.new ≡ W.running work.old }
+{
+    make_each(work, places.marking.as_slice())?;
+    work.settle(&places.marking)
+}
+
+/// Writes the records with these bytes, one for each output, and makes them all firm.
+///
+/// `Failed`: one of these calls failed, and none came after it.
+pub fn put_records<W: Files>(
+    work: &mut W,
+    places: &JobPlaces,
+    bytes: &List<Bytes>,
+) -> Result<(), Failed>
+    requires each { length bytes.now ≡ length places.now.records }
+    requires unused { AreUnused (W.world work.old) places.now.records }
+    ensures did { Did W.act (W.world work.old) (W.world work.new) (λ w es. Carries (put_requests places.now bytes.now) (is_ok result) es) }
+    ensures stays { OnOk result (IsSome (W.world work.old) → IsSome (W.world work.new)) }
+    ensures cause { HasCause (W.faults work.old) (W.faults work.new) (IsErr result) }
+    ensures running { W.running work.new ≡ W.running work.old }
+{
+    write_each(work, places.records.as_slice(), bytes.as_slice())?;
+    work.settle(&places.records)
+}
+
+/// Removes the records for good, and makes firm what the outputs are.
+///
+/// `Failed`: one of these calls failed, and none came after it.
+pub fn drop_records<W: Files>(work: &mut W, places: &JobPlaces) -> Result<(), Failed>
+    requires unused { AreUnused (W.world work.old) places.now.records }
+    ensures did { Did W.act (W.world work.old) (W.world work.new) (λ w es. Carries (drop_requests places.now) (is_ok result) es) }
+    ensures stays { OnOk result (IsSome (W.world work.old) → IsSome (W.world work.new)) }
+    ensures cause { HasCause (W.faults work.old) (W.faults work.new) (IsErr result) }
+    ensures running { W.running work.new ≡ W.running work.old }
+{
+    remove_each(work, places.records.as_slice())?;
+    work.settle(&places.dropping)
+}
+
+/// Removes the marks for good.
+///
+/// `Failed`: one of these calls failed, and none came after it.
+pub fn unmark<W: Files>(work: &mut W, places: &JobPlaces) -> Result<(), Failed>
+    requires unused { AreUnused (W.world work.old) places.now.marks }
+    ensures did { Did W.act (W.world work.old) (W.world work.new) (λ w es. Carries (unmark_requests places.now) (is_ok result) es) }
+    ensures stays { OnOk result (IsSome (W.world work.old) → IsSome (W.world work.new)) }
+    ensures cause { HasCause (W.faults work.old) (W.faults work.new) (IsErr result) }
+    ensures running { W.running work.new ≡ W.running work.old }
+{
+    remove_each(work, places.marks.as_slice())?;
+    work.settle(&places.marks)
+}
+
+/// Removes the lock for good.
+///
+/// `Failed`: one of these calls failed, and none came after it.
+pub fn unlock<W: Files>(work: &mut W, place: &List<Place>) -> Result<(), Failed>
+    requires lock { place.now ≡ lock_place ∷ [] }
+    requires unused { AreUnused (W.world work.old) place.now }
+    ensures did { Did W.act (W.world work.old) (W.world work.new) (λ w es. Carries (unlock_requests place.now) (is_ok result) es) }
+    ensures stays { OnOk result (IsSome (W.world work.old) → IsSome (W.world work.new)) }
+    ensures cause { HasCause (W.faults work.old) (W.faults work.new) (IsErr result) }
+    ensures running { W.running work.new ≡ W.running work.old }
+{
+    remove_each(work, place.as_slice())?;
+    work.settle(place)
+}
+
+/// Makes the lock, firmly: true. False exactly where something stood at its place; then that is left as it is.
+///
+/// `Failed`: one of these calls failed, and none came after it.
+pub fn lock<W: Files>(work: &mut W, place: &List<Place>) -> Result<bool, Failed>
+    requires lock { place.now ≡ lock_place ∷ [] }
+    ensures did { Did W.act (W.world work.old) (W.world work.new) (λ w es. HasLocked result es) }
+    ensures stays { IfOk result (λ made. IsSome (W.world work.old) → IsSome (W.world work.new)) }
+    ensures cause { HasCause (W.faults work.old) (W.faults work.new) (IsErr result) }
+    ensures running { W.running work.new ≡ W.running work.old }
+{
+    let lock = &place.as_slice()[0];
+    work.make_parents(lock)?;
+    if !work.create_new(lock)? {
+        return Ok(false);
+    }
+    work.settle(place)?;
+    Ok(true)
+}
