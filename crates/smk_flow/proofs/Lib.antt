@@ -6,3 +6,4 @@ pub mod Braces
 pub mod RuleFaults
 pub mod RulesByName
 pub mod RulesPass
+pub mod Ruled
