@@ -1,1 +1,9 @@
 pub mod Examples
+pub mod Bare
+pub mod TextsRead
+pub mod NamesAdded
+pub mod Braces
+pub mod RuleFaults
+pub mod RulesByName
+pub mod RulesPass
+pub mod Ruled

@@ -1,1 +1,6 @@
 pub mod Flows
+pub mod Checks
+pub mod Named
+pub mod Lent
+pub mod Begun
+pub mod PatternsOf

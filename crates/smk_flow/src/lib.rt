@@ -1,9 +1,19 @@
 //! Workflows, and the jobs that their rules make.
 #![tactic(auto)]
 
+mod checks;
 mod fault;
+mod faults;
+mod flags;
 mod job;
+mod named;
+mod names;
+mod orders;
+mod reading;
 mod rule;
+mod texts;
+mod unknown;
+mod words;
 mod workflow;
 
 pub use fault::{FlowFault, JobFault};

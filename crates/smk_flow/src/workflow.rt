@@ -1,6 +1,18 @@
+//! Checked workflows.
+
+ghost use Rattle.std.specs.Prelude.{◌≡◌, ◌≢◌, map, reverse, IfOk, IfErr, OnOk};
+ghost use Rattle.smk_flow.specs.declared.workflow.Rule.{Rule};
+ghost use Rattle.smk_flow.specs.declared.fault.FlowFault.{FlowFault};
+ghost use Rattle.smk_flow.specs.Checks.{IsWorkflow, IsFault};
+ghost use Rattle.smk_flow.specs.PatternsOf.{patterns_of, rule_of};
+
+use crate::checks::check;
+use crate::fault::FlowFault;
+use crate::reading::Patterns;
 use crate::{Clause, RulePart};
-use smk_base::List;
+use smk_base::{List, OutOfMemory};
 use smk_pattern::Pattern;
+use std::alloc::Global;
 use std::marker::Model;
 
 /// A rule with the patterns of its outputs and of its logs, in order.
@@ -25,4 +37,81 @@ impl Model for Workflow {
     ghost Value = { Flow };
 
     ghost view = { λ a. record { rules = map (λ r. r.part) a.rules; orders = a.orders } };
+
+    ghost use Rattle.smk_flow.specs.PatternsOf.{IsChecked};
+
+    ghost invariant = { λ a. IsChecked a.rules a.orders };
+}
+
+// The list, the last one first.
+fn turned<T: Drop>(alloc: Global, list: List<T>) -> Result<List<T>, OutOfMemory>
+    ensures { IfOk result (λ made. made ≡ reverse list) }
+{
+    let mut left = list;
+    let mut made = List::new(alloc);
+    'items: while let Some(item) = left.pop() {
+        made.push(item)?;
+    }
+    Ok(made)
+}
+
+// Each rule with its patterns, the last one first.
+fn paired(
+    alloc: Global,
+    parts: List<RulePart>,
+    patterns: List<Patterns>,
+) -> Result<List<Rule>, OutOfMemory>
+    requires { patterns ≡ map patterns_of parts }
+    ensures { IfOk result (λ rules. reverse rules ≡ map rule_of parts) }
+{
+    let mut parts = parts;
+    let mut patterns = patterns;
+    let mut rules = List::new(alloc);
+    'parts: while let Some(part) = parts.pop() {
+        if let Some(made) = patterns.pop() {
+            rules.push(Rule {
+                part,
+                outputs: made.outputs,
+                logs: made.logs,
+            })?;
+        }
+    }
+    Ok(rules)
+}
+
+impl Workflow {
+    /// The workflow of these rules and clauses, in order. Exactly where they make none, the fault is the first thing that is wrong with
+    /// them: rules in order, each by its name, its texts, its wildcards and its flags, and then the clauses. `OutOfMemory` where
+    /// there is no memory for it.
+    pub fn build(
+        alloc: Global,
+        parts: List<RulePart>,
+        orders: List<Clause>,
+    ) -> Result<Workflow, FlowFault>
+        ensures ok { IfOk result (λ flow. flow ≡ record { rules = parts; orders = orders }) }
+        ensures is { OnOk result (IsWorkflow parts orders) }
+        ensures fault { IfErr result (λ f. f ≢ FlowFault.OutOfMemory → IsFault parts orders f) }
+    {
+        match check(alloc, parts.as_slice(), orders.as_slice()) {
+            Err(fault) => Err(fault),
+            Ok(patterns) => {
+                let rules = turned(alloc, paired(alloc, parts, patterns)?)?;
+                Ok(Workflow { rules, orders })
+            }
+        }
+    }
+
+    /// The rules in order, lent. A rule's number is its place, from 0.
+    pub fn rules(&self) -> &List<Rule>
+        ensures { map (λ (r : Rule). r.part) result.now ≡ self.now.rules }
+    {
+        &self.rules
+    }
+
+    /// The clauses that say which of two rules is preferred, in order, lent.
+    pub fn orders(&self) -> &List<Clause>
+        ensures { result.now ≡ self.now.orders }
+    {
+        &self.orders
+    }
 }
