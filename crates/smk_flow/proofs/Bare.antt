@@ -1,5 +1,5 @@
 -- Texts in which no constraint stands have no bad one.
-use Rattle.std.proofs.Common.{◌≡◌, List, [], ◌∷◌, Bool, true, false, Option, Some, None, refl, sym, subst, true≢false, ◌&&◌}
+use Rattle.std.proofs.Common.{◌≡◌, List, [], ◌∷◌, Bool, true, false, Some, None, refl, sym, subst, true≢false, ◌&&◌}
 use Rattle.std.specs.List.{list_all}
 use Rattle.smk_pattern.specs.Shapes.{Text}
 use Rattle.smk_pattern.specs.Grammar.{Piece, plain, hole, inline_limits, limit_for}

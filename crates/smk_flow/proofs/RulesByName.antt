@@ -1,5 +1,5 @@
 -- One more rule under its name.
-use Rattle.std.proofs.Common.{◌≡◌, ℕ, List, [], ◌∷◌, ◌++◌, Option, Some, None, option_map, is_some, cond, Bool, true, false, true≢false, refl, sym, ap, ◌∙◌, bytes_eq, Bor}
+use Rattle.std.proofs.Common.{◌≡◌, List, [], ◌∷◌, ◌++◌, Option, Some, option_map, is_some, cond, Bool, true, false, true≢false, refl, sym, ap, ◌∙◌, bytes_eq, Bor}
 use Rattle.std.specs.BTreeMap.{BTreeMap, get_by}
 use Rattle.std.specs.Map.{update}
 use Rattle.std.specs.Cmp.Lexicographic.{slice_cmp}

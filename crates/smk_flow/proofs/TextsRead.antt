@@ -1,11 +1,11 @@
 -- Texts that are read, one list after another.
-use Rattle.std.proofs.Common.{◌≡◌, ◌⊎◌, inl, inr, List, [], ◌∷◌, ◌++◌, ◌+◌, ℕ, drop, sym, subst}
+use Rattle.std.proofs.Common.{◌≡◌, inl, inr, List, [], ◌∷◌, ◌++◌, sym, subst}
 use Rattle.std.specs.List.{flat_map}
 use Rattle.smk_base.specs.declared.tree.Pair.{Pair}
 use Rattle.smk_flow.specs.declared.rule.RulePart.{RulePart}
 use Rattle.smk_flow.specs.declared.rule.InPart.{InPart}
 use Rattle.smk_flow.specs.declared.fault.FlowFault.{FlowFault}
-use Rattle.smk_flow.specs.Checks.{Written, in_texts, IsUnread, IsRead, AreRead, AreUnread}
+use Rattle.smk_flow.specs.Checks.{Written, in_texts, AreRead, AreUnread}
 
 pub read_both : (limits : List Pair) (a b : List Written) → AreRead limits a → AreRead limits b → AreRead limits (a ++ b)
 read_both limits [] b ha hb = hb

@@ -1,5 +1,5 @@
 -- Rules by their names.
-use Rattle.std.specs.Prelude.{List, ℕ, Option, option_map}
+use Rattle.std.specs.Prelude.{Option, option_map}
 use Rattle.std.specs.Borrow.{Bor}
 use Rattle.std.specs.BTreeMap.{BTreeMap, get_by}
 use Rattle.std.specs.Cmp.Lexicographic.{slice_cmp}

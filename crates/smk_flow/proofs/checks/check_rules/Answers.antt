@@ -1,7 +1,6 @@
 use Rattle.std.proofs.Common.{◌≡◌, [], ◌∷◌, ◌++◌, ◌+◌, ◌∙◌, List, map, take, drop, ap, sym}
 use Rattle.std.proofs.lemmas.List.{at_drop_more, take_more, map_push}
 use Rattle.smk_flow.specs.declared.rule.RulePart.{RulePart}
-use Rattle.smk_flow.specs.Named.{rule_at}
 use Rattle.smk_flow.specs.declared.reading.Patterns.{Patterns}
 use Rattle.smk_flow.specs.PatternsOf.{patterns_of}
 use Rattle.smk_flow.specs.Checks.{rule_in}

@@ -1,5 +1,5 @@
-use Rattle.std.proofs.Common.{◌≡◌, ◌≤◌, ◌++◌, [], length, filter, take, drop}
-use Rattle.std.specs.List.{flat_map, list_any}
+use Rattle.std.proofs.Common.{◌≡◌, ◌++◌, [], take}
+use Rattle.std.specs.List.{flat_map}
 use Rattle.smk_pattern.specs.Searching.{now_of}
 use Rattle.smk_flow.specs.declared.rule.FlaggedText.{FlaggedText}
 use Rattle.smk_flow.specs.Lent.{all_lent}

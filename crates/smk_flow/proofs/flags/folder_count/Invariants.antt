@@ -1,6 +1,4 @@
-use Rattle.std.proofs.Common.{◌≡◌, ◌≤◌, ◌++◌, [], length, filter, take, drop}
-use Rattle.std.specs.List.{flat_map, list_any}
-use Rattle.smk_pattern.specs.Searching.{now_of}
+use Rattle.std.proofs.Common.{◌≡◌, ◌≤◌, length, filter, take}
 use Rattle.smk_flow.specs.Flows.{makes_folder}
 use Rattle.smk_flow.specs.Lent.{all_lent}
 use Rattle.smk_flow.proofs.flags.folder_count.Given as goal

@@ -1,5 +1,5 @@
-use Rattle.std.proofs.Common.{◌≡◌, ◌≤◌, ◌++◌, [], length, filter, take, drop}
-use Rattle.std.specs.List.{flat_map, list_any}
+use Rattle.std.proofs.Common.{◌≡◌, drop}
+use Rattle.std.specs.List.{list_any}
 use Rattle.smk_pattern.specs.Searching.{now_of}
 use Rattle.smk_flow.specs.Checks.{has}
 use Rattle.smk_flow.proofs.flags.has_any.Given as goal

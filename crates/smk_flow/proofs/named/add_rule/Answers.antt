@@ -1,4 +1,3 @@
-use Rattle.std.proofs.Common.{◌≡◌, Some}
 use Rattle.std.proofs.lemmas.Map.Text.{btree_map_updates_str}
 use Rattle.smk_flow.proofs.RulesByName.{rule_more}
 use Rattle.smk_flow.proofs.named.add_rule.Goals as goal

@@ -1,8 +1,5 @@
-use Rattle.std.proofs.Common.{◌≡◌, [], take, drop}
-use Rattle.std.specs.List.{list_any}
-use Rattle.smk_flow.specs.declared.rule.Clause.{Clause}
-use Rattle.smk_flow.specs.Named.{rule_at}
-use Rattle.smk_flow.specs.Checks.{has, strangers, stranger, has_before, against, contradiction_in, contradiction}
+use Rattle.std.proofs.Common.{◌≡◌, drop}
+use Rattle.smk_flow.specs.Checks.{against}
 use Rattle.smk_flow.proofs.orders.first_against.Given as goal
 
 abbrev pub invariant-loop-a : goal.invariant-loop-a

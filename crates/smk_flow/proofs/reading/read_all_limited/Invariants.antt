@@ -1,4 +1,4 @@
-use Rattle.std.proofs.Common.{◌≡◌, [], take, drop, map}
+use Rattle.std.proofs.Common.{◌≡◌, take, drop, map}
 use Rattle.smk_pattern.specs.Reading.{shape_of}
 use Rattle.smk_pattern.specs.Searching.{now_of}
 use Rattle.smk_flow.specs.declared.fault.FlowFault.{FlowFault}

@@ -1,6 +1,5 @@
-use Rattle.std.proofs.Common.{◌≡◌, ◌≤◌, ◌++◌, [], length, filter, take, drop}
-use Rattle.std.specs.List.{flat_map, list_any}
-use Rattle.smk_pattern.specs.Searching.{now_of}
+use Rattle.std.proofs.Common.{drop}
+use Rattle.std.specs.List.{flat_map}
 use Rattle.smk_flow.specs.declared.fault.FlowFault.{FlowFault}
 use Rattle.smk_flow.specs.Checks.{in_texts, AreRead, AreUnread}
 use Rattle.smk_flow.proofs.reading.read_inputs.Given as goal

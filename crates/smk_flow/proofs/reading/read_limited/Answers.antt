@@ -1,4 +1,4 @@
-use Rattle.std.proofs.Common.{◌≡◌, inr, refl}
+use Rattle.std.proofs.Common.{inr}
 use Rattle.smk_flow.proofs.reading.read_limited.Goals as goal
 
 pub returns-in_ok-bad_constraint-in-Err-BadConstraint-clause-unread :

@@ -1,9 +1,6 @@
-use Rattle.std.proofs.Common.{◌≡◌, List, map, ap, sym, ◌∙◌}
-use Rattle.std.specs.Prelude.{reverse}
+use Rattle.std.proofs.Common.{List, map, ap, ◌∙◌}
 use Rattle.smk_flow.specs.declared.rule.RulePart.{RulePart}
 use Rattle.smk_flow.specs.declared.workflow.Rule.{Rule}
-use Rattle.smk_flow.specs.Flows.{Flow}
-use Rattle.smk_flow.specs.PatternsOf.{rule_of}
 use Rattle.smk_flow.proofs.Ruled.{parts_are}
 use Rattle.smk_flow.proofs.workflow.Workflow.build.Goals as goal
 
