@@ -7,3 +7,4 @@ pub mod RuleFaults
 pub mod RulesByName
 pub mod RulesPass
 pub mod Ruled
+pub mod NoFault

@@ -4,3 +4,4 @@ pub mod Named
 pub mod Lent
 pub mod Begun
 pub mod PatternsOf
+pub mod Apart

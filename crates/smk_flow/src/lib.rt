@@ -6,6 +6,7 @@ mod fault;
 mod faults;
 mod flags;
 mod job;
+mod laws;
 mod named;
 mod names;
 mod orders;
@@ -18,5 +19,9 @@ mod workflow;
 
 pub use fault::{FlowFault, JobFault};
 pub use job::{Gather, Job};
+pub use laws::fault_means_none;
 pub use rule::{Clause, Flag, FlaggedText, GatherPart, InPart, OutPart, RulePart};
 pub use workflow::{Rule, Workflow};
+
+#[cfg(test)]
+mod tests;

@@ -1,7 +1,6 @@
 //! Checked workflows.
 
 ghost use Rattle.std.specs.Prelude.{◌≡◌, ◌≢◌, map, reverse, IfOk, IfErr, OnOk};
-ghost use Rattle.smk_flow.specs.declared.workflow.Rule.{Rule};
 ghost use Rattle.smk_flow.specs.declared.fault.FlowFault.{FlowFault};
 ghost use Rattle.smk_flow.specs.Checks.{IsWorkflow, IsFault};
 ghost use Rattle.smk_flow.specs.PatternsOf.{patterns_of, rule_of};
@@ -101,9 +100,9 @@ impl Workflow {
         }
     }
 
-    /// The rules in order, lent. A rule's number is its place, from 0.
+    /// The rules in order, lent, each with the patterns of its texts. A rule's number is its place, from 0.
     pub fn rules(&self) -> &List<Rule>
-        ensures { map (λ (r : Rule). r.part) result.now ≡ self.now.rules }
+        ensures { result.now ≡ map rule_of self.now.rules }
     {
         &self.rules
     }

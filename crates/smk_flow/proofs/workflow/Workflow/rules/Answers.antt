@@ -1,0 +1,10 @@
+use Rattle.std.proofs.Common.{map, ap, sym, ◌∙◌}
+use Rattle.smk_flow.specs.Flows.{Flow}
+use Rattle.smk_flow.specs.PatternsOf.{rule_of}
+use Rattle.smk_flow.proofs.Ruled.{are_rules}
+use Rattle.smk_flow.proofs.workflow.Workflow.rules.Goals as goal
+
+pub returns : goal.returns
+returns c =
+    let inside = c.self.inside in
+    are_rules inside.rules inside.orders c.self.invariant ∙ ap (λ (flow : Flow). map rule_of flow.rules) c.self.view_is

@@ -1,0 +1,8 @@
+//! Laws of the definitions.
+
+ghost use Rattle.smk_flow.specs.Apart.{FaultMeansNone};
+
+/// Rules and clauses that make a workflow have no fault: so `Workflow::build` tells one only where they make none.
+pub fn fault_means_none()
+    ensures { FaultMeansNone }
+{}
