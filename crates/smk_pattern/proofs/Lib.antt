@@ -2,6 +2,8 @@ pub mod Meaning
 pub mod Steps
 pub mod Unique
 pub mod Sound
+pub mod Behind
+pub mod Places
 pub mod First
 pub mod Split
 pub mod Spelling

@@ -16,9 +16,9 @@ is_named (hole name limit) = is_name name
 abbrev pub is_single : List Piece → Text → Bool
 is_single ps name = nat_le (length (inline_limits name ps)) 1
 
--- wildcards have names, a name has at most one constraint, and there are 1 to 1,000 pieces
+-- wildcards have names, a name has at most one constraint, and there is a piece
 abbrev pub are_written : List Piece → Bool
-are_written ps = list_all is_named ps && (list_all (is_single ps) (names_in ps) && (nat_le 1 (length ps) && nat_le (length ps) 1000))
+are_written ps = list_all is_named ps && (list_all (is_single ps) (names_in ps) && nat_le 1 (length ps))
 
 -- the text is written as a pattern; without wildcards it is a path
 abbrev pub is_written : Text → Bool

@@ -37,16 +37,12 @@ impl<T: Drop> From<AllocFailed<T>> for FillFault {
 fn value_of<'b>(binding: &'b [Pair], name: &str) -> Option<&'b str>
     ensures { option_map (λ v. v.now) result ≡ value binding.now name.now }
 {
-    match binding {
-        [] => None,
-        [pair, later @ ..] => {
-            if pair.name.as_str() == name {
-                Some(pair.value.as_str())
-            } else {
-                value_of(later, name)
-            }
+    for pair in binding {
+        if pair.name.as_str() == name {
+            return Some(pair.value.as_str());
         }
     }
+    None
 }
 
 // The value of each wildcard.

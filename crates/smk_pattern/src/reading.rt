@@ -22,9 +22,6 @@ use smk_base::{List, OutOfMemory, Pair, PathFault, PathText, Text};
 use std::alloc::{AllocFailed, Global};
 use std::rc::Rc;
 
-// How many pieces a pattern has at most.
-const MOST_PIECES: usize = 1000;
-
 impl From<OutOfMemory> for PatternFault {
     ghost use Rattle.std.specs.Prelude.{◌≡◌};
     ghost use Rattle.smk_pattern.specs.declared.pattern.PatternFault.{PatternFault};
@@ -87,22 +84,26 @@ fn is_name(text: &str) -> bool
 fn are_named(written: &[Written<'_>]) -> bool
     ensures { result ≡ list_all is_named (all_written written.now) }
 {
-    match written {
-        [] => true,
-        [Written::Plain(_), later @ ..] => are_named(later),
-        [Written::Hole(name, _), later @ ..] => is_name(name) && are_named(later),
+    for piece in written {
+        if let Written::Hole(name, _) = piece {
+            if !is_name(name) {
+                return false;
+            }
+        }
     }
+    true
 }
 
 // Whether there is a wildcard.
 fn has_hole(written: &[Written<'_>]) -> bool
     ensures { result ≡ list_any is_hole (all_written written.now) }
 {
-    match written {
-        [] => false,
-        [Written::Plain(_), later @ ..] => has_hole(later),
-        [Written::Hole(_, _), ..] => true,
+    for piece in written {
+        if let Written::Hole(_, _) = piece {
+            return true;
+        }
     }
+    false
 }
 
 // How many constraints stand at the name.
@@ -110,23 +111,27 @@ fn limit_count(written: &[Written<'_>], name: &str) -> usize
     ensures value { result ≡ length (inline_limits name.now (all_written written.now)) }
     ensures within { result ≤ length written.now }
 {
-    match written {
-        [] => 0,
-        [Written::Hole(other, Some(_)), later @ ..] if name == *other => {
-            1 + limit_count(later, name)
+    let mut count = 0;
+    for piece in written {
+        if let Written::Hole(other, Some(_)) = piece {
+            if name == *other {
+                count += 1;
+            }
         }
-        [_, later @ ..] => limit_count(later, name),
     }
+    count
 }
 
 // Whether each of the names has at most one constraint.
 fn are_single(written: &[Written<'_>], names: &[&str]) -> bool
     ensures { result ≡ list_all (is_single (all_written written.now)) (now_of names.now) }
 {
-    match names {
-        [] => true,
-        [name, later @ ..] => limit_count(written, name) <= 1 && are_single(written, later),
+    for name in names {
+        if limit_count(written, name) > 1 {
+            return false;
+        }
     }
+    true
 }
 
 // Whether the text is a path.
@@ -145,16 +150,12 @@ fn place_of(name: &str, names: &[&str]) -> usize
     ensures value { result ≡ place_of name.now (now_of names.now) }
     ensures within { result ≤ length names.now }
 {
-    match names {
-        [] => 0,
-        [other, later @ ..] => {
-            if name == *other {
-                0
-            } else {
-                1 + place_of(name, later)
-            }
+    for (place, other) in names.iter().enumerate() {
+        if name == *other {
+            return place;
         }
     }
+    names.len()
 }
 
 // Adds the name of the piece, where it has one that isn't there.
@@ -234,11 +235,14 @@ fn given_limit<'l>(name: &str, limits: &'l [Pair]) -> Option<&'l str>
 fn limit_of<'l>(name: &str, written: &[Written<'l>], limits: &'l [Pair]) -> Option<&'l str>
     ensures { option_map (λ l. l.now) result ≡ limit_for limits.now name.now (inline_limits name.now (all_written written.now)) }
 {
-    match written {
-        [] => given_limit(name, limits),
-        [Written::Hole(other, Some(limit)), ..] if name == *other => Some(limit),
-        [_, later @ ..] => limit_of(name, later, limits),
+    for piece in written {
+        if let Written::Hole(other, Some(limit)) = piece {
+            if name == *other {
+                return Some(limit);
+            }
+        }
     }
+    given_limit(name, limits)
 }
 
 // What is made of the constraint of the name.
@@ -300,7 +304,6 @@ fn is_good(
     requires pieces { all_written written.now ≡ pieces text.now }
     requires names { now_of names.now ≡ names_in (all_written written.now) }
     requires some { 1 ≤ length written.now }
-    requires few { length written.now ≤ 1000 }
     ensures { IfOk result (λ good. good ≡ is_written text.now) }
 {
     if !are_named(written) || !are_single(written, names) {
@@ -330,9 +333,6 @@ fn read_written(
         return Err(PatternFault::BadPattern);
     };
     if written.is_empty() {
-        return Err(PatternFault::BadPattern);
-    }
-    if written.len() > MOST_PIECES {
         return Err(PatternFault::BadPattern);
     }
     let names = names_in(alloc, &written)?;

@@ -10,7 +10,7 @@ use Rattle.smk_pattern.specs.Pieces.{wildcards_of, wildcard_of}
 use Rattle.smk_pattern.specs.Searching.{now_of}
 use Rattle.smk_pattern.specs.Splitting.{written_of, all_written}
 use Rattle.smk_pattern.specs.Written.{wildcard_in}
-use Rattle.smk_pattern.proofs.WrittenBy.{too_few, too_many}
+use Rattle.smk_pattern.proofs.WrittenBy.{too_few}
 use Rattle.smk_pattern.proofs.Names.{numbered_all}
 use Rattle.smk_pattern.proofs.reading.read_written.Goals as goal
 
@@ -55,12 +55,3 @@ returns-clause-shape c =
     let parts = parts_by (names_in (pieces text)) _ _ (pieces text) _ c.in_ok-all_numbered.ensures.pieces (ap now_of c.deref-5.ensures.value ∙ names) (ap all_written c.deref-4.ensures.value ∙ p.1) in
     let wild = wildcards_by c.args.limits.now _ (names_in (pieces text)) _ _ (pieces text) _ c.in_ok-wildcards_in.ensures.made refl (ap now_of c.deref-7.ensures.value ∙ names) (ap all_written c.deref-6.ensures.value ∙ p.1) in
     ap₂ (λ (ps : List Part) (ws : List Wildcard). let s : Shape = record { parts = ps; wildcards = ws } in s) parts wild
-
-pub returns-then-len-gt-MOST_PIECES-clause-bad_pattern : goal.returns-then-len-gt-MOST_PIECES-clause-bad_pattern
-returns-then-len-gt-MOST_PIECES-clause-bad_pattern c = λ _.
-    let p = rw c.in-Some.is at c.in_ok-written.ensures in
-    let ws = c.in-Some.written in
-    let n = length-map ws.items written_of in
-    let l = c.len.ensures in
-    let g = c.if-len-gt-MOST_PIECES.true in
-    too_many c.args.text.now (all_written ws.items) p.1 (omega (arith, ws.ok.0))
