@@ -1,6 +1,6 @@
 //! The values with which a pattern gives a path.
 
-ghost use Rattle.std.specs.Prelude.{◌≡◌, ◌≤◌, ◌↔◌, ◌++◌, [], false, IfOk, IsTrue, MatchOption, List, ℕ, length, map, option_map};
+ghost use Rattle.std.specs.Prelude.{◌≡◌, ◌≤◌, ◌↔◌, ◌++◌, [], false, IfOk, IfSome, IsTrue, IsUtf8, MatchOption, List, ℕ, length, map, option_map};
 ghost use Rattle.smk_pattern.specs.Shapes.{IsNumbered};
 ghost use Rattle.smk_pattern.specs.Fitting.{Fits, Suits, AllSuit, bound_pairs, filled, part_text};
 ghost use Rattle.smk_pattern.specs.Binding.{IsBindingOf};
@@ -119,17 +119,27 @@ fn may_fit(pieces: &[Piece], wildcards: &[Wildcard], path: &str) -> bool
         && least_length(pieces, wildcards) <= path.len()
 }
 
+// What follows the piece, without what stands for a wildcard.
+fn after_piece<'p>(piece: &Piece, path: &'p str) -> Option<&'p str>
+    ensures cases { MatchOption result ((after : List ℕ) → path.now ≡ part_text [] (part_of piece.now) ++ after → ⊥)
+        (λ after. path.now ≡ part_text [] (part_of piece.now) ++ after.now) }
+    ensures utf8 { IfSome result (λ after. IsUtf8 after.now) }
+{
+    match piece {
+        Piece::Literal(text) => after_prefix(path, text.as_str()),
+        Piece::Wild(_) => Some(path),
+    }
+}
+
 // Whether the pieces are the path, without what stands for wildcards.
 fn are_text(pieces: &[Piece], path: &str) -> bool
     ensures { IsTrue result ↔ (filled (parts_of pieces.now) [] ≡ path.now) }
 {
     let mut rest = path;
     for piece in pieces {
-        if let Piece::Literal(text) = piece {
-            match after_prefix(rest, text.as_str()) {
-                Some(after) => rest = after,
-                None => return false,
-            }
+        match after_piece(piece, rest) {
+            Some(after) => rest = after,
+            None => return false,
         }
     }
     rest.is_empty()

@@ -111,14 +111,14 @@ pub walk-returns-then-has-clause-walked : goal.walk-returns-then-has-clause-walk
 walk-returns-then-has-clause-walked t c =
     let i = c.pieces.invariant in
     let none = none_noted (parts_of c.pieces.ahead.now) _ (now_of c.pieces.values.items) _ c.pieces.vain i.serves i.place.numbered
-        (rw (length-map c.pieces.ahead.now part_of) (sym c.has.ensures ∙ c.if-has.true)) in
+    (rw (length-map c.pieces.ahead.now part_of) (sym c.has.ensures ∙ c.if-has.true)) in
     leads_ends c.args.testers.now false (parts_of c.args.pieces.now) (parts_of c.pieces.ahead.now) _ _ _ _ _ i.leads ([], sym (append-nil _), none)
 
 pub walk-returns-then-has-clause-keeps : goal.walk-returns-then-has-clause-keeps
 walk-returns-then-has-clause-keeps t c = λ _.
     let i = c.pieces.invariant in
     i.keeps (none_noted (parts_of c.pieces.ahead.now) _ (now_of c.pieces.values.items) _ c.pieces.vain i.serves i.place.numbered
-        (rw (length-map c.pieces.ahead.now part_of) (sym c.has.ensures ∙ c.if-has.true)))
+    (rw (length-map c.pieces.ahead.now part_of) (sym c.has.ensures ∙ c.if-has.true)))
 
 pub walk-step-requires : goal.walk-step-requires
 walk-step-requires t c =
