@@ -15,6 +15,7 @@ pub mod PartTexts
 pub mod BoundBy
 pub mod Filled
 pub mod Names
+pub mod Kept
 pub mod WrittenBy
 pub mod Ends
 pub mod Limited

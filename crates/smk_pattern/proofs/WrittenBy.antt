@@ -28,3 +28,10 @@ too_few text ps e n =
     let single = list_all (is_single (pieces text)) (names_in (pieces text)) in
     not_written text
     (ap (λ b. named && (single && b)) (none (length (pieces text)) (sym (ap length e) ∙ n)) ∙ ap (λ b. named && b) (and_false single) ∙ and_false named)
+
+pub too_many_limits : (text : Text) (ps : List Piece) → ps ≡ pieces text → list_all (is_single ps) (names_in ps) ≡ false → is_written text ≡ false
+too_many_limits text ps e f =
+    let named = list_all is_named (pieces text) in
+    let some = nat_le 1 (length (pieces text)) in
+    let single : list_all (is_single (pieces text)) (names_in (pieces text)) ≡ false = subst (λ (qs : List Piece). list_all (is_single qs) (names_in qs) ≡ false) e f in
+    not_written text (ap (λ b. named && (b && some)) single ∙ and_false named)

@@ -13,4 +13,5 @@ pub mod Tables
 pub mod Outcomes
 pub mod Filling
 pub mod Written
+pub mod ByName
 pub mod Splitting
