@@ -10,9 +10,9 @@ use Rattle.std.proofs.lemmas.Str.{IsUtf8-take, IsUtf8-drop, IsCharBoundary-from_
 use Rattle.smk_pattern.specs.Shapes.{Text, Part, Shape, Wildcard, IsNumbered, AreTexts}
 use Rattle.smk_pattern.specs.Shapes.Part.{text, wild}
 use Rattle.smk_pattern.specs.Fitting.{Suits, Fits, IsBinding}
-use Rattle.smk_pattern.specs.Searching.{RestFits, IsRest}
+use Rattle.smk_pattern.specs.Searching.{RestFits, IsRest, IsKnown}
 use Rattle.smk_pattern.specs.Bound.{begins, suits, is_cut, limit_at, bindings, first_values, bound, BoundIsBinding}
-use Rattle.smk_pattern.proofs.Steps.{text_known, wild_known, past_known, before_known, none_known, found_end, none_end, IsKnown, Splits, none_left, shorter, no_rest, found_wild, split}
+use Rattle.smk_pattern.proofs.Steps.{text_known, wild_known, past_known, before_known, none_known, found_end, none_end, Splits, none_left, shorter, no_rest, found_wild, split}
 
 -- what the search from a place answers
 abbrev Tells : List Part → List (Option Text) → List Text → Text → Option (List Text) → Type 0

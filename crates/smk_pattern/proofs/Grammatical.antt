@@ -285,15 +285,13 @@ from_written given source e limits =
     let names = names_in ps in
     let a = both (is_balanced 0 source) (are_written ps && (list_any is_hole ps || is_path source)) e in
     let b = both (are_written ps) (list_any is_hole ps || is_path source) a.1 in
-    let d = both (list_all is_named ps) (list_all (is_single ps) names && (nat_le 1 (length ps) && nat_le (length ps) 1000)) b.0 in
-    let f = both (list_all (is_single ps) names) (nat_le 1 (length ps) && nat_le (length ps) 1000) d.1 in
-    let g = both (nat_le 1 (length ps)) (nat_le (length ps) 1000) f.1 in
+    let d = both (list_all is_named ps) (list_all (is_single ps) names && nat_le 1 (length ps)) b.0 in
+    let f = both (list_all (is_single ps) names) (nat_le 1 (length ps)) d.1 in
     let count : length (map (wildcard_in given ps) names) ≡ length names = length-map names (wildcard_in given ps) in
     record {
       pieces = ps;
       spells = pieces_spell source a.0 d.0;
-      filled = let le = le_true 1 (length ps) g.0 in omega (arith, le);
-      few = le_true (length ps) 1000 g.1;
+      filled = let le = le_true 1 (length ps) f.1 in omega (arith, le);
       parts = subst (λ (xs : List Text). AllPartsOf xs ps (map (part_in names) ps)) (sym (names_again given ps names)) (parts_made names ps 0 (numbered_all ps));
       numbered = subst (λ (n : ℕ). IsNumbered (map (part_in names) ps) 0 n) (sym count) (numbered_all ps);
       limits = λ n w at. let m = made_at given ps names n w at in
@@ -342,9 +340,8 @@ from_grammar given source p h =
     let written : written_by source ps ≡ true =
     either (is_balanced 0 source) (are_written ps && (list_any is_hole ps || is_path source)) s.1
     (either (are_written ps) (list_any is_hole ps || is_path source)
-    (either (list_all is_named ps) (list_all (is_single ps) (names_in ps) && (nat_le 1 (length ps) && nat_le (length ps) 1000)) s.2
-    (either (list_all (is_single ps) (names_in ps)) (nat_le 1 (length ps) && nat_le (length ps) 1000) single
-    (either (nat_le 1 (length ps)) (nat_le (length ps) 1000) (true_le 1 (length ps) (let lt = h.filled in omega (arith, lt))) (true_le (length ps) 1000 h.few))))
+    (either (list_all is_named ps) (list_all (is_single ps) (names_in ps) && nat_le 1 (length ps)) s.2
+    (either (list_all (is_single ps) (names_in ps)) (nat_le 1 (length ps)) single (true_le 1 (length ps) (let lt = h.filled in omega (arith, lt)))))
     path) in
     let limits : AreLimits given ps (names_in ps) = λ n name limit at is.
     let w = wildcard_at p.wildcards n name (ap (λ (xs : List Text). slice_get xs n) (sym same) ∙ at) in

@@ -1,9 +1,8 @@
 -- The least length of a path that a pattern gives.
-use Rattle.std.proofs.Common.{◌≡◌, ℕ, zero, suc, ◌+◌, ◌<◌, ◌≤◌, List, [], ◌∷◌, ◌++◌, length, take, get_or, Bool, IsTrue, ◌↔◌, refl, sym, ap, subst, ◌∙◌, arith, length-append, true, nat_lt}
+use Rattle.std.proofs.Common.{◌≡◌, ℕ, zero, suc, ◌+◌, ◌<◌, ◌≤◌, List, [], ◌∷◌, ◌++◌, length, take, drop, get_or, Bool, IsTrue, ◌↔◌, refl, sym, ap, subst, ◌∙◌, arith, length-append, true, nat_lt}
 use Rattle.std.proofs.lemmas.Bool.Decides.{nat_tests}
-use Rattle.std.proofs.lemmas.List.{append_cancel_left}
+use Rattle.std.proofs.lemmas.List.{append_cancel_left, at_drop_more}
 use Rattle.smk_pattern.specs.declared.pattern.Piece.{Piece}
-use Rattle.smk_pattern.specs.declared.pattern.Piece.TheVariants.{Literal}
 use Rattle.smk_pattern.specs.declared.pattern.Wildcard as code
 use Rattle.smk_pattern.specs.Shapes.{Text}
 use Rattle.smk_pattern.specs.Fitting.{filled, part_text, AllSuit, Suits, Fits, IsBinding}
@@ -40,11 +39,22 @@ no_values : (values : List Text) → AllSuit [] values → values ≡ []
 no_values [] s = refl
 no_values (v ∷ vs) s = absurd s
 
--- what follows a text
-pub text_rest : (pieces later : List Piece) (piece : Piece) (t after path : Text) (same : Bool) → pieces ≡ piece ∷ later → piece ≡ Literal t → path ≡ t ++ after →
-    IsTrue same ↔ (filled (parts_of later) [] ≡ after) → IsTrue same ↔ (filled (parts_of pieces) [] ≡ path)
-text_rest pieces later piece t after path same e f g k =
-    rw (e, f, g) (λ h. ap (λ x. t ++ x) (k.0 h), λ h. k.1 (append_cancel_left t (filled (parts_of later) []) after h))
+-- the pieces from a place on, and those behind one of them
+pub text_past : (pieces : List Piece) (i : ℕ) (d : Piece) (after rest : Text) → i < length pieces → d ≡ get_or pieces i d → rest ≡ part_text [] (part_of d) ++ after →
+    {X : Type 0} → (filled (parts_of (drop i pieces)) [] ≡ rest) ↔ X → (filled (parts_of (drop (i + 1) pieces)) [] ≡ after) ↔ X
+text_past pieces i d after rest lt is e h =
+    let same : drop i pieces ≡ d ∷ drop (i + 1) pieces =
+    at_drop_more (λ (xs : List Piece). xs) pieces i d lt ∙ ap (λ (x : Piece). x ∷ drop (i + 1) pieces) (sym is) in
+    let whole : filled (parts_of (drop i pieces)) [] ≡ part_text [] (part_of d) ++ filled (parts_of (drop (i + 1) pieces)) [] = ap (λ (ps : List Piece). filled (parts_of ps) []) same in
+    (λ f. h.0 (whole ∙ ap (λ x. part_text [] (part_of d) ++ x) f ∙ sym e), λ x. append_cancel_left (part_text [] (part_of d)) _ after (sym whole ∙ h.1 x ∙ e))
+
+-- no text behind a piece is one behind all of them
+pub text_stops : (pieces : List Piece) (i : ℕ) (d : Piece) (rest : Text) → i < length pieces → d ≡ get_or pieces i d →
+    ((after : Text) → rest ≡ part_text [] (part_of d) ++ after → ⊥) → filled (parts_of (drop i pieces)) [] ≡ rest → ⊥
+text_stops pieces i d rest lt is none e =
+    let same : drop i pieces ≡ d ∷ drop (i + 1) pieces =
+    at_drop_more (λ (xs : List Piece). xs) pieces i d lt ∙ ap (λ (x : Piece). x ∷ drop (i + 1) pieces) (sym is) in
+    none (filled (parts_of (drop (i + 1) pieces)) []) (sym e ∙ ap (λ (ps : List Piece). filled (parts_of ps) []) same)
 
 -- only the pieces' own text fits
 pub text_alone : (pieces : List Piece) (path : Text) (values : List Text) → Fits (pattern_of pieces []) path values → filled (parts_of pieces) [] ≡ path

@@ -2,6 +2,8 @@ pub mod Meaning
 pub mod Steps
 pub mod Unique
 pub mod Sound
+pub mod Behind
+pub mod Places
 pub mod First
 pub mod Split
 pub mod Spelling
@@ -13,6 +15,7 @@ pub mod PartTexts
 pub mod BoundBy
 pub mod Filled
 pub mod Names
+pub mod Kept
 pub mod WrittenBy
 pub mod Ends
 pub mod Limited

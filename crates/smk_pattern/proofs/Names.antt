@@ -24,7 +24,7 @@ place_le_by : (t : Bool) (x n : ℕ) → x ≤ n → cond t 0 (suc x) ≤ suc n
 place_le_by true x n le = omega arith
 place_le_by false x n le = omega (arith, le)
 
-place_le : (name : Text) (names : List Text) → place_of name names ≤ length names
+pub place_le : (name : Text) (names : List Text) → place_of name names ≤ length names
 place_le name [] = omega arith
 place_le name (other ∷ names) = place_le_by (bytes_eq name other) (place_of name names) (length names) (place_le name names)
 
@@ -32,7 +32,7 @@ place_in_by : (t : Bool) (x y n : ℕ) → (y < n → x ≡ y) → cond t 0 (suc
 place_in_by true x y n h lt = refl
 place_in_by false x y n h lt = ap (λ k. suc k) (h (omega (arith, lt)))
 
-place_in : (name : Text) (a b : List Text) → place_of name a < length a → place_of name (a ++ b) ≡ place_of name a
+pub place_in : (name : Text) (a b : List Text) → place_of name a < length a → place_of name (a ++ b) ≡ place_of name a
 place_in name [] b lt = absurd (omega (arith, lt))
 place_in name (other ∷ a) b lt = place_in_by (bytes_eq name other) (place_of name (a ++ b)) (place_of name a) (length a) (place_in name a b) lt
 
@@ -40,19 +40,19 @@ place_out_by : (t : Bool) (x y n z : ℕ) → (y ≡ n → x ≡ n + z) → cond
 place_out_by true x y n z h e = absurd (omega (arith, e))
 place_out_by false x y n z h e = let i = h (omega (arith, e)) in omega (arith, i)
 
-place_out : (name : Text) (a b : List Text) → place_of name a ≡ length a → place_of name (a ++ b) ≡ length a + place_of name b
+pub place_out : (name : Text) (a b : List Text) → place_of name a ≡ length a → place_of name (a ++ b) ≡ length a + place_of name b
 place_out name [] b e = omega arith
 place_out name (other ∷ a) b e = place_out_by (bytes_eq name other) (place_of name (a ++ b)) (place_of name a) (length a) (place_of name b) (place_out name a b) e
 
-place_here : (name : Text) (names : List Text) → place_of name (name ∷ names) ≡ 0
+pub place_here : (name : Text) (names : List Text) → place_of name (name ∷ names) ≡ 0
 place_here name names = ap (λ t. cond t 0 (suc (place_of name names))) ((bytes_eq-Decides name name).1 refl)
 
-found_at : (known : List Text) (name : Text) → lacks known name ≡ false → place_of name known < length known
+pub found_at : (known : List Text) (name : Text) → lacks known name ≡ false → place_of name known < length known
 found_at known name e = grind (arith, nat_tests, place_le name known)
 
 -- ---- names once
 
-lacks_more_same : (known : List Text) (name other : Text) → name ≡ other → lacks (known ++ name ∷ []) other ≡ false
+pub lacks_more_same : (known : List Text) (name other : Text) → name ≡ other → lacks (known ++ name ∷ []) other ≡ false
 lacks_more_same known name other e =
     let l : length (known ++ name ∷ []) ≡ length known + 1 = length-append known (name ∷ []) in
     ⊎_elim
@@ -69,7 +69,7 @@ lacks_more_same known name other e =
     different : (m n : ℕ) → m < n → (m == n) ≡ false
     different m n lt = grind (arith, nat_tests)
 
-lacks_more_other : (known : List Text) (name other : Text) → bytes_eq other name ≡ false → lacks (known ++ name ∷ []) other ≡ lacks known other
+pub lacks_more_other : (known : List Text) (name other : Text) → bytes_eq other name ≡ false → lacks (known ++ name ∷ []) other ≡ lacks known other
 lacks_more_other known name other e =
     let l : length (known ++ name ∷ []) ≡ length known + 1 = length-append known (name ∷ []) in
     ⊎_elim
@@ -90,7 +90,7 @@ lacks_more_other known name other e =
     equal : (m n j k : ℕ) → m ≡ n → j ≡ k → (m == n) ≡ (j == k)
     equal m n j k e f = eq-eqb m n e ∙ sym (eq-eqb j k f)
 
-not_same : (name other : Text) → bytes_eq name other ≡ false → bytes_eq other name ≡ false
+pub not_same : (name other : Text) → bytes_eq name other ≡ false → bytes_eq other name ≡ false
 not_same name other e = by (bytes_eq other name) (λ t. true≢false (sym ((bytes_eq-Decides name other).1 (sym ((bytes_eq-Decides other name).0 t))) ∙ e))
   where
     by : (b : Bool) → (b ≡ true → ⊥) → b ≡ false

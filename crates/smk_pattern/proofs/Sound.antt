@@ -7,9 +7,9 @@ use Rattle.smk_pattern.specs.declared.table.Vain.{Vain}
 use Rattle.smk_pattern.specs.Shapes.{Part, IsNumbered}
 use Rattle.smk_pattern.specs.Shapes.Part.{text, wild}
 use Rattle.smk_pattern.specs.Fitting.{filled}
-use Rattle.smk_pattern.specs.Searching.{RestFits, stands_in}
+use Rattle.smk_pattern.specs.Searching.{RestFits, FitsNowhere, stands_in}
 use Rattle.smk_pattern.proofs.Steps.{Splits}
-use Rattle.smk_pattern.specs.Tables.{is_vain, IsApart, Stands, FitsNever, Keeps, KeepsAll, Serves}
+use Rattle.smk_pattern.specs.Tables.{is_vain, IsApart, Stands, FitsNever, IsSound, IsVain, Keeps, KeepsAll, Serves, ServesBehind}
 
 -- ends of one length are one
 same_end : {A : Type 0} (front other xs ys : List A) → front ++ xs ≡ other ++ ys → length xs ≡ length ys → xs ≡ ys
@@ -95,65 +95,93 @@ stands_behind n given known v ps s e = record {
   apart = rw (length-append known (v ∷ [])) (apart_more (length given) (length known) ps s.apart.1 e);
 }
 
--- ---- a table that stays sound
+-- ---- a table that is kept
 
 pub keeps_same : (given : List (List ℕ)) (ps : List Part) (limits : List (Option (List ℕ))) (t : List ℕ) (a b : Vain) → b ≡ a → Keeps given ps limits t a b
-keeps_same given ps limits t a b e = record { sound = λ front before s. rw e s }
+keeps_same given ps limits t a b e = record { true_ones = λ k i v. inl (ap (λ (w : Vain). is_vain w k i) (sym e) ∙ v) }
 
 pub keeps_then : (given : List (List ℕ)) (ps : List Part) (limits : List (Option (List ℕ))) (t : List ℕ) (a b c : Vain) →
     Keeps given ps limits t a b → Keeps given ps limits t b c → Keeps given ps limits t a c
-keeps_then given ps limits t a b c x y = record { sound = λ front before s. y.sound front before (x.sound front before s) }
+keeps_then given ps limits t a b c x y = record { true_ones = λ k i v. ⊎_elim (λ was. x.true_ones k i was) (λ now. inr now) (y.true_ones k i v) }
 
 -- the same for what stands before
+vain_up : (given : List (List ℕ)) (p : Part) (ps : List Part) (limits : List (Option (List ℕ))) (v after : List ℕ) (k i : ℕ) →
+    IsVain given ps limits after k i → IsVain given (p ∷ ps) limits (v ++ after) k i
+vain_up given p ps limits v after k i w = record {
+  front = p ∷ w.front;
+  ps = w.ps;
+  before = v ++ w.before;
+  t = w.t;
+  ends = ap (λ xs. p ∷ xs) w.ends;
+  left = ap (λ xs. v ++ xs) w.left ∙ sym (append_assoc v w.before w.t);
+  parts_left = w.parts_left;
+  bytes_left = w.bytes_left;
+  never = w.never;
+}
+
 keeps_up : (given : List (List ℕ)) (p : Part) (ps : List Part) (limits : List (Option (List ℕ))) (v after : List ℕ) (a b : Vain) →
     Keeps given ps limits after a b → Keeps given (p ∷ ps) limits (v ++ after) a b
 keeps_up given p ps limits v after a b k = record {
-  sound = λ front before s.
-      rw (← append_assoc front (p ∷ []) ps, ← append_assoc before v after)
-      (k.sound (front ++ p ∷ []) (before ++ v) (rw (append_assoc front (p ∷ []) ps, append_assoc before v after) s));
+  true_ones = λ m i v'. ⊎_elim (λ was. inl was) (λ now. inr (vain_up given p ps limits v after m i now)) (k.true_ones m i v');
 }
 
 pub keeps_known : (p : Part) (ps : List Part) (limits : List (Option (List ℕ))) (known : List (List ℕ)) (t v after : List ℕ) (a b : Vain) → t ≡ v ++ after →
     KeepsAll known ps limits after a b → KeepsAll known (p ∷ ps) limits t a b
 keeps_known p ps limits known t v after a b e k given s = rw e (keeps_up given p ps limits v after a b (k given (stands_later given known p ps s)))
 
+-- what is kept before a place, by noting it, and behind it
+pub kept_past : (whole ps : List Part) (limits : List (Option (List ℕ))) (known now : List (List ℕ)) (t rest : List ℕ) (old a b d : Vain) →
+    ((x y : Vain) → KeepsAll now ps limits rest x y → KeepsAll known whole limits t x y) →
+    KeepsAll known whole limits t old a → KeepsAll now ps limits rest a b → KeepsAll now ps limits rest b d → KeepsAll known whole limits t old d
+kept_past whole ps limits known now t rest old a b d lifts k x y given s =
+    keeps_then given whole limits t old b d (keeps_then given whole limits t old a b (k given s) (lifts a b x given s)) (lifts b d y given s)
+
 -- behind the first place of a wildcard
 pub kept_behind : (again : Bool) (n : ℕ) (later : List Part) (known values : List (List ℕ)) (limits : List (Option (List ℕ))) (t value after : List ℕ) (a b d : Vain) →
-    again ≡ stands_in (length known) later → values ≡ known ++ value ∷ [] → t ≡ value ++ after → KeepsAll known (wild n ∷ later) limits t a b →
+    (again ≡ false → stands_in (length known) later ≡ false) → values ≡ known ++ value ∷ [] → t ≡ value ++ after → KeepsAll known (wild n ∷ later) limits t a b →
     ((given : List (List ℕ)) → (again ≡ false → Stands given values later) → Keeps given later limits after b d) →
     KeepsAll known (wild n ∷ later) limits t a d
 kept_behind again n later known values limits t value after a b d g p e x y given s =
     keeps_then given (wild n ∷ later) limits t a b d (x given s)
-    (rw e (keeps_up given (wild n) later limits value after b d (y given (λ none. rw p (stands_behind n given known value later s (sym g ∙ none))))))
+    (rw e (keeps_up given (wild n) later limits value after b d (y given (λ none. rw p (stands_behind n given known value later s (g none))))))
 
 -- ---- a table that is of use
 
-serves_kept : (ps : List Part) (limits : List (Option (List ℕ))) (known : List (List ℕ)) (t : List ℕ) (a b : Vain) → Serves known ps limits t a → KeepsAll known ps limits t a b →
-    Serves known ps limits t b
-serves_kept ps limits known t a b s k = record { given = s.given; stands = s.stands; sound = (k s.given s.stands).sound [] [] s.sound }
+-- what is new is true of ends of other parts too, where these are ends of the same
+sound_kept : (given : List (List ℕ)) (p : Part) (ps : List Part) (limits : List (Option (List ℕ))) (t : List ℕ) (a b : Vain) →
+    IsSound given ps limits t a → Keeps given (p ∷ ps) limits t a b → IsSound given ps limits t b
+sound_kept given p ps limits t a b s k = record {
+  never = λ front qs before u e g v. ⊎_elim
+      (λ was. s.never front qs before u e g was)
+      (λ (now : IsVain given (p ∷ ps) limits t (length qs) (length u)).
+      let same : qs ≡ now.ps = same_end (p ∷ front) now.front qs now.ps (sym (ap (λ xs. p ∷ xs) e) ∙ now.ends) now.parts_left in
+      let end : u ≡ now.t = same_end before now.before u now.t (sym g ∙ now.left) now.bytes_left in
+      rw (same, end) now.never)
+      (k.true_ones (length qs) (length u) v);
+}
 
-serves_end : (p : Part) (ps : List Part) (limits : List (Option (List ℕ))) (known more : List (List ℕ)) (v after : List ℕ) (vain : Vain) →
-    (s : Serves known (p ∷ ps) limits (v ++ after) vain) → Stands s.given more ps → Serves more ps limits after vain
-serves_end p ps limits known more v after vain s f = record {
-  given = s.given;
-  stands = f;
-  sound = record {
-    never = λ front qs before t e g vain. s.sound.never (p ∷ front) qs (v ++ before) t (ap (λ xs. p ∷ xs) e) (ap (λ xs. v ++ xs) g ∙ sym (append_assoc v before t)) vain;
-  };
+sound_later : (given : List (List ℕ)) (ps : List Part) (limits : List (Option (List ℕ))) (t v after : List ℕ) (vain : Vain) → t ≡ v ++ after →
+    IsSound given ps limits t vain → IsSound given ps limits after vain
+sound_later given ps limits t v after vain e s = record {
+  never = λ front qs before u f g. s.never front qs (v ++ before) u f (e ∙ ap (λ xs. v ++ xs) g ∙ sym (append_assoc v before u));
 }
 
 pub serves_later : (p : Part) (ps : List Part) (limits : List (Option (List ℕ))) (known : List (List ℕ)) (t v after : List ℕ) (vain : Vain) → t ≡ v ++ after →
-    Serves known (p ∷ ps) limits t vain → Serves known ps limits after vain
-serves_later p ps limits known t v after vain e s =
-    let s' : Serves known (p ∷ ps) limits (v ++ after) vain = rw e at s in
-    serves_end p ps limits known known v after vain s' (stands_later s'.given known p ps s'.stands)
+    ServesBehind known p ps limits t vain → Serves known ps limits after vain
+serves_later p ps limits known t v after vain e s = record {
+  given = s.given;
+  stands = stands_later s.given known p ps s.stands;
+  sound = sound_later s.given ps limits t v after vain e s.sound;
+}
 
 pub serves_behind : (again : Bool) (n : ℕ) (later : List Part) (known values : List (List ℕ)) (limits : List (Option (List ℕ))) (t value after : List ℕ) (a b : Vain) →
-    again ≡ stands_in (length known) later → values ≡ known ++ value ∷ [] → t ≡ value ++ after → Serves known (wild n ∷ later) limits t a →
+    (again ≡ false → stands_in (length known) later ≡ false) → values ≡ known ++ value ∷ [] → t ≡ value ++ after → ServesBehind known (wild n) later limits t a →
     KeepsAll known (wild n ∷ later) limits t a b → again ≡ false → Serves values later limits after b
-serves_behind again n later known values limits t value after a b g p e s k none =
-    let s' : Serves known (wild n ∷ later) limits (value ++ after) b = rw e at (serves_kept (wild n ∷ later) limits known t a b s k) in
-    rw p (serves_end (wild n) later limits known (known ++ value ∷ []) value after b s' (stands_behind n s'.given known value later s'.stands (sym g ∙ none)))
+serves_behind again n later known values limits t value after a b g p e s k none = rw p (record {
+  given = s.given;
+  stands = stands_behind n s.given known value later s.stands (g none);
+  sound = sound_later s.given later limits t value after b e (sound_kept s.given (wild n) later limits t a b s.sound (k s.given s.stands));
+})
 
 -- nothing is noted yet
 pub serves_new : (ps : List Part) (limits : List (Option (List ℕ))) (known : List (List ℕ)) (t : List ℕ) (vain : Vain) →
@@ -166,36 +194,55 @@ serves_new ps limits known t vain none = record {
 
 -- what was tried in vain
 pub none_noted : (ps : List Part) (limits : List (Option (List ℕ))) (known : List (List ℕ)) (t : List ℕ) (vain : Vain) → Serves known ps limits t vain →
-    IsNumbered ps (length known) (length limits) → is_vain vain (length ps) (length t) ≡ true → (more : List (List ℕ)) → RestFits ps limits known t more → ⊥
+    IsNumbered ps (length known) (length limits) → is_vain vain (length ps) (length t) ≡ true → FitsNowhere ps limits known t
 none_noted ps limits known t vain s num noted more r = s.sound.never [] ps [] t refl refl noted known s.stands num more r
+
+-- so many parts and bytes are noted
+abbrev pub Notes : List Part → List ℕ → Vain → Vain → Type 0
+Notes ps t a b = (k i : ℕ) → is_vain b k i ≡ true → (is_vain a k i ≡ true) ⊎ ((k ≡ length ps) × (i ≡ length t))
 
 -- a vain try is noted
 pub keeps_noted : (ps : List Part) (limits : List (Option (List ℕ))) (known : List (List ℕ)) (t : List ℕ) (a b : Vain) →
-    IsNumbered ps (length known) (length limits) → ((more : List (List ℕ)) → RestFits ps limits known t more → ⊥) →
-    ((k i : ℕ) → is_vain b k i ≡ true → (is_vain a k i ≡ true) ⊎ ((k ≡ length ps) × (i ≡ length t))) → KeepsAll known ps limits t a b
+    IsNumbered ps (length known) (length limits) → FitsNowhere ps limits known t → Notes ps t a b → KeepsAll known ps limits t a b
 keeps_noted ps limits known t a b num none new given f = record {
-  sound = λ front before s. record {
-    never = λ other qs others u e g noted. ⊎_elim
-        (λ was. s.never other qs others u e g was)
-        (λ now. here front before other qs others u e g now)
-        (new _ _ noted);
-  };
+  true_ones = λ k i v. ⊎_elim
+      (λ was. inl was)
+      (λ now. inr (record {
+        front = [];
+        ps = ps;
+        before = [];
+        t = t;
+        ends = refl;
+        left = refl;
+        parts_left = now.0;
+        bytes_left = now.1;
+        never = never;
+      }))
+      (new k i v);
 }
   where
-    here : (front : List Part) (before : List ℕ) (other qs : List Part) (others u : List ℕ) → front ++ ps ≡ other ++ qs → before ++ t ≡ others ++ u →
-        (length qs ≡ length ps) × (length u ≡ length t) → FitsNever given qs limits u
-    here front before other qs others u e g now values stands numbered more r =
-        let same : qs ≡ ps = sym (same_end front other ps qs e (sym now.0)) in
-        let end : u ≡ t = sym (same_end before others t u g (sym now.1)) in
-        let stands' : Stands given values ps = rw same at stands in
-        let numbered' = rw same at numbered in
-        let r' = rw (same, end) at r in
-        let l = same_length ps (length given) (length known) (length values) (length limits) (begins_short given known ps f) (begins_short given values ps stands') f.apart stands'.apart num numbered' in
-        none more (transfer ps limits given known values t more f stands' l r')
+    never : FitsNever given ps limits t
+    never values stands numbered more r =
+        let l = same_length ps (length given) (length known) (length values) (length limits) (begins_short given known ps f) (begins_short given values ps stands) f.apart stands.apart num numbered in
+        none more (transfer ps limits given known values t more f stands l r)
+
+-- behind a place that is noted, vain or not
+pub behind_noted : (p : Part) (ps : List Part) (limits : List (Option (List ℕ))) (known : List (List ℕ)) (t : List ℕ) (a b : Vain) →
+    Serves known (p ∷ ps) limits t a → Notes (p ∷ ps) t a b → ServesBehind known p ps limits t b
+behind_noted p ps limits known t a b s new = record {
+  given = s.given;
+  stands = s.stands;
+  sound = record {
+    never = λ front qs before u e g v. ⊎_elim
+        (λ was. s.sound.never (p ∷ front) qs before u (ap (λ xs. p ∷ xs) e) g was)
+        (λ now. let l = now.0 in absurd (omega (arith, ap length e, length-append front qs)))
+        (new (length qs) (length u) v);
+  };
+}
 
 -- what was tried in vain behind a wildcard isn't tried again
 pub tried_before : (again : Bool) (n dropped : ℕ) (later : List Part) (known : List (List ℕ)) (limits : List (Option (List ℕ))) (room : length known < length limits) (t value : List ℕ) (a b : Vain) →
-    again ≡ stands_in (length known) later → again ≡ false → Serves known (wild n ∷ later) limits t a → KeepsAll known (wild n ∷ later) limits t a b →
+    (again ≡ false → stands_in (length known) later ≡ false) → again ≡ false → ServesBehind known (wild n) later limits t a → KeepsAll known (wild n ∷ later) limits t a b →
     IsNumbered later (length known + 1) (length limits) → is_vain b (length later) dropped ≡ true → length value + dropped ≡ length t →
     (more : List (List ℕ)) → Splits later limits known room t value more → ⊥
 tried_before again n dropped later known limits room t value a b g none s k num noted len more split =

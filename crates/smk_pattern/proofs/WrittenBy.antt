@@ -15,9 +15,6 @@ and_false false = refl
 none : (n : ℕ) → n ≡ 0 → nat_le 1 n ≡ false
 none n e = grind (arith, nat_tests)
 
-more : (n : ℕ) → 1000 < n → nat_le n 1000 ≡ false
-more n lt = grind (arith, nat_tests)
-
 pub unbalanced : (text : Text) → is_balanced 0 text ≡ false → is_written text ≡ false
 unbalanced text e = ap (λ b. b && (are_written (pieces text) && (list_any is_hole (pieces text) || is_path text))) e
 
@@ -25,13 +22,16 @@ not_written : (text : Text) → are_written (pieces text) ≡ false → is_writt
 not_written text e =
     ap (λ b. is_balanced 0 text && (b && (list_any is_hole (pieces text) || is_path text))) e ∙ and_false (is_balanced 0 text)
 
-counted : (a s m n : Bool) → m && n ≡ false → a && (s && (m && n)) ≡ false
-counted a s m n e = ap (λ b. a && (s && b)) e ∙ ap (λ b. a && b) (and_false s) ∙ and_false a
-
 pub too_few : (text : Text) (ps : List Piece) → ps ≡ pieces text → length ps ≡ 0 → is_written text ≡ false
 too_few text ps e n =
-    not_written text (counted (list_all is_named (pieces text)) (list_all (is_single (pieces text)) (names_in (pieces text))) (nat_le 1 (length (pieces text))) (nat_le (length (pieces text)) 1000) (ap (λ b. b && nat_le (length (pieces text)) 1000) (none (length (pieces text)) (sym (ap length e) ∙ n))))
+    let named = list_all is_named (pieces text) in
+    let single = list_all (is_single (pieces text)) (names_in (pieces text)) in
+    not_written text
+    (ap (λ b. named && (single && b)) (none (length (pieces text)) (sym (ap length e) ∙ n)) ∙ ap (λ b. named && b) (and_false single) ∙ and_false named)
 
-pub too_many : (text : Text) (ps : List Piece) → ps ≡ pieces text → 1000 < length ps → is_written text ≡ false
-too_many text ps e lt =
-    not_written text (counted (list_all is_named (pieces text)) (list_all (is_single (pieces text)) (names_in (pieces text))) (nat_le 1 (length (pieces text))) (nat_le (length (pieces text)) 1000) (ap (λ b. nat_le 1 (length (pieces text)) && b) (more (length (pieces text)) (subst (λ (qs : List Piece). 1000 < length qs) e lt)) ∙ and_false (nat_le 1 (length (pieces text)))))
+pub too_many_limits : (text : Text) (ps : List Piece) → ps ≡ pieces text → list_all (is_single ps) (names_in ps) ≡ false → is_written text ≡ false
+too_many_limits text ps e f =
+    let named = list_all is_named (pieces text) in
+    let some = nat_le 1 (length (pieces text)) in
+    let single : list_all (is_single (pieces text)) (names_in (pieces text)) ≡ false = subst (λ (qs : List Piece). list_all (is_single qs) (names_in qs) ≡ false) e f in
+    not_written text (ap (λ b. named && (b && some)) single ∙ and_false named)

@@ -1,5 +1,5 @@
 -- How a pattern is written.
-use Rattle.std.specs.Prelude.{◌≡◌, ℕ, zero, suc, ◌<◌, ◌≤◌, Bool, true, false, not, ◌&&◌, ◌||◌, ◌==◌, List, [], ◌∷◌, ◌++◌, length, map, Option, None, Some, if◌then◌else◌, slice_get}
+use Rattle.std.specs.Prelude.{◌≡◌, ℕ, zero, suc, ◌<◌, Bool, true, false, not, ◌&&◌, ◌||◌, ◌==◌, List, [], ◌∷◌, ◌++◌, length, map, Option, None, Some, if◌then◌else◌, slice_get}
 use Rattle.std.specs.List.{list_all}
 use Rattle.std.specs.Str.{bytes_eq}
 use Rattle.std.specs.Int.{is_in_range}
@@ -98,12 +98,11 @@ limit_for given name (limit ∷ more) = Some limit
 abbrev pub IsLimitIn : List Pair → List Piece → Wildcard → Type 0
 IsLimitIn given pieces w = (w.limit ≡ limit_for given w.name (inline_limits w.name pieces)) × (length (inline_limits w.name pieces) < 2)
 
--- the text is a pattern of at most 1,000 pieces, with these constraints for its names
+-- the text is a pattern, with these constraints for its names
 pub record IsPattern (given : List Pair) (source : List ℕ) (is_path : List ℕ → Bool) (p : Shape) : Type 0 where
   pub pieces : List Piece
   pub spells : SpellsAll pieces source
   pub filled : 0 < length pieces
-  pub few : length pieces ≤ 1000
   pub parts : AllPartsOf (map (λ w. w.name) p.wildcards) pieces p.parts
   pub numbered : IsNumbered p.parts 0 (length p.wildcards)
   pub limits : (n : ℕ) (w : Wildcard) → slice_get p.wildcards n ≡ Some w → IsLimitIn given pieces w

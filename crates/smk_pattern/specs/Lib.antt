@@ -10,6 +10,8 @@ pub mod Reading
 pub mod Bound
 pub mod Searching
 pub mod Tables
+pub mod Outcomes
 pub mod Filling
 pub mod Written
+pub mod ByName
 pub mod Splitting

@@ -32,10 +32,22 @@ pub record IsSound (given : List Text) (whole : List Part) (limits : List (Optio
   pub never : (front ps : List Part) (before t : Text) → whole ≡ front ++ ps → path ≡ before ++ t →
       is_vain vain (length ps) (length t) ≡ true → FitsNever given ps limits t
 
--- a table that is sound stays so
+-- it is true that so many parts, the last of these, are tried in vain on the last so many bytes of the text
+pub record IsVain (given : List Text) (whole : List Part) (limits : List (Option Text)) (path : Text) (parts bytes : ℕ) : Type 0 where
+  pub front : List Part
+  pub ps : List Part
+  pub before : Text
+  pub t : Text
+  pub ends : whole ≡ front ++ ps
+  pub left : path ≡ before ++ t
+  pub parts_left : parts ≡ length ps
+  pub bytes_left : bytes ≡ length t
+  pub never : FitsNever given ps limits t
+
+-- what is new in the table is true
 pub record Keeps (given : List Text) (ps : List Part) (limits : List (Option Text)) (t : Text) (old new : Vain) : Type 0 where
-  pub sound : (front : List Part) (before : Text) →
-      IsSound given (front ++ ps) limits (before ++ t) old → IsSound given (front ++ ps) limits (before ++ t) new
+  pub true_ones : (parts bytes : ℕ) → is_vain new parts bytes ≡ true →
+      (is_vain old parts bytes ≡ true) ⊎ IsVain given ps limits t parts bytes
 
 -- whichever values are given
 abbrev pub KeepsAll : List Text → List Part → List (Option Text) → Text → Vain → Vain → Type 0
@@ -45,4 +57,10 @@ KeepsAll known ps limits t old new = (given : List Text) → Stands given known 
 pub record Serves (known : List Text) (ps : List Part) (limits : List (Option Text)) (t : Text) (vain : Vain) : Type 0 where
   pub given : List Text
   pub stands : Stands given known ps
+  pub sound : IsSound given ps limits t vain
+
+-- the same, behind the first part
+pub record ServesBehind (known : List Text) (p : Part) (ps : List Part) (limits : List (Option Text)) (t : Text) (vain : Vain) : Type 0 where
+  pub given : List Text
+  pub stands : Stands given known (p ∷ ps)
   pub sound : IsSound given ps limits t vain

@@ -1,5 +1,5 @@
 -- Whether a text is written as a pattern, computed from its pieces.
-use Rattle.std.specs.Prelude.{◌≡◌, ℕ, Bool, true, List, [], ◌∷◌, ◌++◌, ◌&&◌, ◌||◌, ◌==◌, length, nat_le, if◌then◌else◌, Some, is_none, slice_get}
+use Rattle.std.specs.Prelude.{◌≡◌, ℕ, Bool, true, List, [], ◌∷◌, ◌++◌, ◌&&◌, ◌||◌, ◌==◌, length, nat_le, if◌then◌else◌, Some, is_none, slice_get, take, Option}
 use Rattle.std.specs.List.{list_all}
 use Rattle.smk_base.specs.declared.tree.Pair.{Pair}
 use Rattle.smk_base.specs.Path.{is_path}
@@ -16,9 +16,9 @@ is_named (hole name limit) = is_name name
 abbrev pub is_single : List Piece → Text → Bool
 is_single ps name = nat_le (length (inline_limits name ps)) 1
 
--- wildcards have names, a name has at most one constraint, and there are 1 to 1,000 pieces
+-- wildcards have names, a name has at most one constraint, and there is a piece
 abbrev pub are_written : List Piece → Bool
-are_written ps = list_all is_named ps && (list_all (is_single ps) (names_in ps) && (nat_le 1 (length ps) && nat_le (length ps) 1000))
+are_written ps = list_all is_named ps && (list_all (is_single ps) (names_in ps) && nat_le 1 (length ps))
 
 -- the text is written as a pattern; without wildcards it is a path
 abbrev pub is_written : Text → Bool
@@ -34,21 +34,34 @@ abbrev pub with_name : Piece → List Text → List Text
 with_name (plain t) names = names
 with_name (hole name limit) names = if place_of name names == length names then names ++ name ∷ [] else names
 
+-- the wildcard of this name, with what it has for its constraint
+abbrev pub wildcard_by : (Text → Option Text) → Text → Wildcard
+wildcard_by limit_of name = record { name = name; limit = limit_of name }
+
 -- the wildcard of this name
 abbrev pub wildcard_in : List Pair → List Piece → Text → Wildcard
 wildcard_in given ps name = record { name = name; limit = limit_for given name (inline_limits name ps) }
 
--- the constraint of each of these names can be one
-abbrev pub AreLimits : List Pair → List Piece → List Text → Type 0
-AreLimits given ps names = (n : ℕ) (name limit : Text) → slice_get names n ≡ Some name → limit_for given name (inline_limits name ps) ≡ Some limit → IsLimit limit
+-- what each of these names has for its constraint can be one
+abbrev pub AreAllLimits : (Text → Option Text) → List Text → Type 0
+AreAllLimits limit_of names = (n : ℕ) (name limit : Text) → slice_get names n ≡ Some name → limit_of name ≡ Some limit → IsLimit limit
 
--- the constraint of this name, which is one of these, can't be one
-pub record IsBadLimit (given : List Pair) (ps : List Piece) (names : List Text) (name : Text) : Type 0 where
+-- this name is the first of these for which that isn't so
+pub record IsFirstBad (limit_of : Text → Option Text) (names : List Text) (name : Text) : Type 0 where
   pub n : ℕ
   pub at : slice_get names n ≡ Some name
   pub limit : Text
-  pub is : limit_for given name (inline_limits name ps) ≡ Some limit
+  pub is : limit_of name ≡ Some limit
   pub bad : ¬ IsLimit limit
+  pub before : AreAllLimits limit_of (take n names)
+
+-- the constraint of each of these names can be one
+abbrev pub AreLimits : List Pair → List Piece → List Text → Type 0
+AreLimits given ps names = AreAllLimits (λ name. limit_for given name (inline_limits name ps)) names
+
+-- this name is the first of these whose constraint can't be one
+abbrev pub IsBadLimit : List Pair → List Piece → List Text → Text → Type 0
+IsBadLimit given ps names name = IsFirstBad (λ name. limit_for given name (inline_limits name ps)) names name
 
 -- What is read is what the grammar has: a text that is written as a pattern, with constraints that can be ones, is in its relation,
 -- with the pattern that is computed for the text; and a text that is in the relation is written so, with such constraints, and the

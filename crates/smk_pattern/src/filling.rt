@@ -7,6 +7,7 @@ ghost use Rattle.smk_pattern.specs.Fitting.{filled, part_text};
 ghost use Rattle.smk_pattern.specs.Pieces.{part_of, parts_of, wildcards_of};
 ghost use Rattle.smk_pattern.specs.Searching.{now_of};
 
+use crate::by_name::{text_at, values_by_name};
 use crate::pattern::{Binding, FillFault, Pattern, Piece, Wildcard};
 use smk_base::{OutOfMemory, Pair, Text};
 use std::alloc::{AllocFailed, Global};
@@ -33,22 +34,6 @@ impl<T: Drop> From<AllocFailed<T>> for FillFault {
     }
 }
 
-// The value of the name.
-fn value_of<'b>(binding: &'b [Pair], name: &str) -> Option<&'b str>
-    ensures { option_map (λ v. v.now) result ≡ value binding.now name.now }
-{
-    match binding {
-        [] => None,
-        [pair, later @ ..] => {
-            if pair.name.as_str() == name {
-                Some(pair.value.as_str())
-            } else {
-                value_of(later, name)
-            }
-        }
-    }
-}
-
 // The value of each wildcard.
 fn values_in<'b>(
     alloc: Global,
@@ -60,9 +45,10 @@ fn values_in<'b>(
     ensures unknown { (name : List ℕ) → result ≡ Err (FillFault.UnknownWildcard name)
         → first_unknown binding.now (wildcards_of wildcards.now) ≡ Some name }
 {
+    let by_name = values_by_name(alloc, binding)?;
     let mut values = Vec::new(alloc);
     for wildcard in wildcards {
-        match value_of(binding, wildcard.name.as_str()) {
+        match text_at(&by_name, wildcard.name.as_str()) {
             Some(value) => values.push(value)?,
             None => {
                 return Err(FillFault::UnknownWildcard(wildcard.name.copy(alloc)?));

@@ -1,6 +1,6 @@
 //! The values with which a pattern gives a path.
 
-ghost use Rattle.std.specs.Prelude.{◌≡◌, ◌≤◌, ◌↔◌, ◌++◌, [], false, IfOk, IsTrue, MatchOption, List, ℕ, length, map, option_map};
+ghost use Rattle.std.specs.Prelude.{◌≡◌, ◌≤◌, ◌↔◌, ◌++◌, [], false, IfOk, IfSome, IsTrue, IsUtf8, MatchOption, List, ℕ, length, map, option_map};
 ghost use Rattle.smk_pattern.specs.Shapes.{IsNumbered};
 ghost use Rattle.smk_pattern.specs.Fitting.{Fits, Suits, AllSuit, bound_pairs, filled, part_text};
 ghost use Rattle.smk_pattern.specs.Binding.{IsBindingOf};
@@ -9,7 +9,7 @@ ghost use Rattle.smk_pattern.specs.Searching.{now_of};
 ghost use Rattle.smk_pattern.specs.Pieces.{part_of, parts_of, wildcard_of, wildcards_of, limits_of, pattern_of};
 
 use crate::pattern::{Binding, Pattern, Piece, Wildcard};
-use crate::search::{after_prefix, search};
+use crate::search::{after_prefix, pieces_behind, search};
 use crate::table::Vain;
 use crate::tester::Tester;
 use smk_base::{List, OutOfMemory, Pair, PathText, Text};
@@ -119,20 +119,30 @@ fn may_fit(pieces: &[Piece], wildcards: &[Wildcard], path: &str) -> bool
         && least_length(pieces, wildcards) <= path.len()
 }
 
+// What follows the piece, without what stands for a wildcard.
+fn after_piece<'p>(piece: &Piece, path: &'p str) -> Option<&'p str>
+    ensures cases { MatchOption result ((after : List ℕ) → path.now ≡ part_text [] (part_of piece.now) ++ after → ⊥)
+        (λ after. path.now ≡ part_text [] (part_of piece.now) ++ after.now) }
+    ensures utf8 { IfSome result (λ after. IsUtf8 after.now) }
+{
+    match piece {
+        Piece::Literal(text) => after_prefix(path, text.as_str()),
+        Piece::Wild(_) => Some(path),
+    }
+}
+
 // Whether the pieces are the path, without what stands for wildcards.
 fn are_text(pieces: &[Piece], path: &str) -> bool
     ensures { IsTrue result ↔ (filled (parts_of pieces.now) [] ≡ path.now) }
 {
-    let Some((piece, later)) = pieces.split_first() else {
-        return path.is_empty();
-    };
-    match piece {
-        Piece::Literal(text) => match after_prefix(path, text.as_str()) {
-            Some(after) => are_text(later, after),
-            None => false,
-        },
-        Piece::Wild(_) => are_text(later, path),
+    let mut rest = path;
+    for piece in pieces {
+        match after_piece(piece, rest) {
+            Some(after) => rest = after,
+            None => return false,
+        }
     }
+    rest.is_empty()
 }
 
 // The binding of the path by a pattern without wildcards, which compares texts alone.
@@ -159,10 +169,19 @@ fn fits_search(
         ((values : List (List ℕ)) → Fits (pattern_of pieces.now wildcards.now) path.now values → ⊥)
         (λ b. IsBindingOf (pattern_of pieces.now wildcards.now) path.now b)) }
 {
+    let behind = pieces_behind(alloc, pieces, wildcards.len())?;
     let mut testers = testers(alloc, wildcards)?;
     let mut values = Vec::new(alloc);
     let mut vain = Vain::new(alloc);
-    if !search(alloc, &mut vain, pieces, &mut testers, path, &mut values)? {
+    if !search(
+        alloc,
+        &mut vain,
+        pieces,
+        &behind,
+        &mut testers,
+        path,
+        &mut values,
+    )? {
         return Ok(None);
     }
     Ok(Some(pairs(alloc, wildcards, &values)?))

@@ -1,6 +1,7 @@
 //! Patterns of paths with wildcards.
 #![tactic(auto)]
 
+mod by_name;
 mod filling;
 mod fitting;
 mod laws;

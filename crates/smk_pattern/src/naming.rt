@@ -8,7 +8,7 @@ ghost use Rattle.smk_pattern.specs.Searching.{now_of};
 ghost use Rattle.smk_pattern.specs.Splitting.{all_written};
 ghost use Rattle.smk_pattern.specs.Written.{is_bare};
 
-use crate::reading::names_in;
+use crate::by_name::names_in;
 use crate::splitting::{Written, split};
 use smk_base::OutOfMemory;
 use std::alloc::Global;
@@ -19,7 +19,7 @@ pub fn wildcard_names<'t>(alloc: Global, text: &'t str) -> Result<Vec<&'t str>, 
     ensures { IfOk result (λ names. now_of names.items ≡ (if is_balanced 0 text.now then names_in (pieces text.now) else [])) }
 {
     match split(alloc, text)? {
-        Some(written) => names_in(alloc, &written),
+        Some(written) => Ok(names_in(alloc, &written)?.list),
         None => Ok(Vec::new(alloc)),
     }
 }

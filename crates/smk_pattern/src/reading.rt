@@ -8,22 +8,22 @@ ghost use Rattle.smk_pattern.specs.Shapes.{Shape, AreTexts};
 ghost use Rattle.smk_pattern.specs.Shapes.Part.{text};
 ghost use Rattle.smk_pattern.specs.Grammar.{is_letter, is_name, is_balanced, inline_limits, given_limit, limit_for, IsPattern};
 ghost use Rattle.smk_pattern.specs.Reading.{place_of, part_in, names_in, is_hole, has_wildcards, pieces, shape_of};
-ghost use Rattle.smk_pattern.specs.Written.{is_named, is_single, are_written, is_written, with_name, wildcard_in, AreLimits, IsBadLimit};
+ghost use Rattle.smk_pattern.specs.Written.{is_named, is_single, is_written, wildcard_by, AreAllLimits, IsFirstBad, AreLimits, IsBadLimit};
+ghost use Rattle.smk_pattern.specs.ByName.{text_at, AreNames};
 ghost use Rattle.smk_pattern.specs.Splitting.{written_of, all_written};
 ghost use Rattle.smk_pattern.specs.Pieces.{part_of, parts_of, wildcard_of, wildcards_of};
 ghost use Rattle.smk_pattern.specs.Searching.{now_of};
 ghost use Rattle.smk_pattern.specs.Limits.{IsLimit};
 
+use crate::by_name::{Names, all_limits, inline_limits, names_in, place_of, text_at};
 use crate::limit::{Limit, LimitFault};
 use crate::limits::Limits;
 use crate::pattern::{Pattern, PatternFault, Piece, Wildcard};
 use crate::splitting::{Written, split};
 use smk_base::{List, OutOfMemory, Pair, PathFault, PathText, Text};
 use std::alloc::{AllocFailed, Global};
+use std::collections::BTreeMap;
 use std::rc::Rc;
-
-// How many pieces a pattern has at most.
-const MOST_PIECES: usize = 1000;
 
 impl From<OutOfMemory> for PatternFault {
     ghost use Rattle.std.specs.Prelude.{◌≡◌};
@@ -87,46 +87,26 @@ fn is_name(text: &str) -> bool
 fn are_named(written: &[Written<'_>]) -> bool
     ensures { result ≡ list_all is_named (all_written written.now) }
 {
-    match written {
-        [] => true,
-        [Written::Plain(_), later @ ..] => are_named(later),
-        [Written::Hole(name, _), later @ ..] => is_name(name) && are_named(later),
+    for piece in written {
+        if let Written::Hole(name, _) = piece {
+            if !is_name(name) {
+                return false;
+            }
+        }
     }
+    true
 }
 
 // Whether there is a wildcard.
 fn has_hole(written: &[Written<'_>]) -> bool
     ensures { result ≡ list_any is_hole (all_written written.now) }
 {
-    match written {
-        [] => false,
-        [Written::Plain(_), later @ ..] => has_hole(later),
-        [Written::Hole(_, _), ..] => true,
-    }
-}
-
-// How many constraints stand at the name.
-fn limit_count(written: &[Written<'_>], name: &str) -> usize
-    ensures value { result ≡ length (inline_limits name.now (all_written written.now)) }
-    ensures within { result ≤ length written.now }
-{
-    match written {
-        [] => 0,
-        [Written::Hole(other, Some(_)), later @ ..] if name == *other => {
-            1 + limit_count(later, name)
+    for piece in written {
+        if let Written::Hole(_, _) = piece {
+            return true;
         }
-        [_, later @ ..] => limit_count(later, name),
     }
-}
-
-// Whether each of the names has at most one constraint.
-fn are_single(written: &[Written<'_>], names: &[&str]) -> bool
-    ensures { result ≡ list_all (is_single (all_written written.now)) (now_of names.now) }
-{
-    match names {
-        [] => true,
-        [name, later @ ..] => limit_count(written, name) <= 1 && are_single(written, later),
-    }
+    false
 }
 
 // Whether the text is a path.
@@ -140,49 +120,6 @@ fn is_path(alloc: Global, text: &str) -> Result<bool, OutOfMemory>
     }
 }
 
-// How many names stand before this one.
-fn place_of(name: &str, names: &[&str]) -> usize
-    ensures value { result ≡ place_of name.now (now_of names.now) }
-    ensures within { result ≤ length names.now }
-{
-    match names {
-        [] => 0,
-        [other, later @ ..] => {
-            if name == *other {
-                0
-            } else {
-                1 + place_of(name, later)
-            }
-        }
-    }
-}
-
-// Adds the name of the piece, where it has one that isn't there.
-fn add_name<'t>(names: &mut Vec<&'t str>, piece: &Written<'t>) -> Result<(), OutOfMemory>
-    ensures { OnOk result (now_of names.new.items ≡ with_name (written_of piece.now) (now_of names.old.items)) }
-{
-    if let Written::Hole(name, _) = piece {
-        if place_of(name, names) == names.len() {
-            names.push(name)?;
-        }
-    }
-    Ok(())
-}
-
-// The names, each where it first stands.
-pub(crate) fn names_in<'t>(
-    alloc: Global,
-    written: &[Written<'t>],
-) -> Result<Vec<&'t str>, OutOfMemory>
-    ensures { IfOk result (λ names. now_of names.items ≡ names_in (all_written written.now)) }
-{
-    let mut names = Vec::new(alloc);
-    for piece in written {
-        add_name(&mut names, piece)?;
-    }
-    Ok(names)
-}
-
 // The text as a piece.
 fn literal(alloc: Global, word: &str) -> Result<Piece, OutOfMemory>
     ensures piece { IfOk result (λ made. part_of made ≡ text word.now) }
@@ -192,8 +129,8 @@ fn literal(alloc: Global, word: &str) -> Result<Piece, OutOfMemory>
 }
 
 // The piece, its wildcard by number.
-fn numbered(alloc: Global, piece: &Written<'_>, names: &[&str]) -> Result<Piece, OutOfMemory>
-    ensures piece { IfOk result (λ made. part_of made ≡ part_in (now_of names.now) (written_of piece.now)) }
+fn numbered(alloc: Global, piece: &Written<'_>, names: &Names<'_>) -> Result<Piece, OutOfMemory>
+    ensures piece { IfOk result (λ made. (known : List (List ℕ)) → AreNames names.now known → part_of made ≡ part_in known (written_of piece.now)) }
     ensures texts { IfOk result (λ made. AreTexts (part_of made ∷ [])) }
 {
     match piece {
@@ -206,9 +143,9 @@ fn numbered(alloc: Global, piece: &Written<'_>, names: &[&str]) -> Result<Piece,
 fn all_numbered(
     alloc: Global,
     written: &[Written<'_>],
-    names: &[&str],
+    names: &Names<'_>,
 ) -> Result<List<Piece>, OutOfMemory>
-    ensures pieces { IfOk result (λ made. parts_of made ≡ map (part_in (now_of names.now)) (all_written written.now)) }
+    ensures pieces { IfOk result (λ made. (known : List (List ℕ)) → AreNames names.now known → parts_of made ≡ map (part_in known) (all_written written.now)) }
     ensures texts { IfOk result (λ made. AreTexts (parts_of made)) }
 {
     let mut made = List::new(alloc);
@@ -216,29 +153,6 @@ fn all_numbered(
         made.push(numbered(alloc, piece, names)?)?;
     }
     Ok(made)
-}
-
-// The constraint that is given for the name.
-fn given_limit<'l>(name: &str, limits: &'l [Pair]) -> Option<&'l str>
-    ensures { option_map (λ l. l.now) result ≡ given_limit name.now limits.now }
-{
-    for limit in limits {
-        if name == limit.name.as_str() {
-            return Some(limit.value.as_str());
-        }
-    }
-    None
-}
-
-// The constraint of the name: the one that stands at it, or else the one that is given.
-fn limit_of<'l>(name: &str, written: &[Written<'l>], limits: &'l [Pair]) -> Option<&'l str>
-    ensures { option_map (λ l. l.now) result ≡ limit_for limits.now name.now (inline_limits name.now (all_written written.now)) }
-{
-    match written {
-        [] => given_limit(name, limits),
-        [Written::Hole(other, Some(limit)), ..] if name == *other => Some(limit),
-        [_, later @ ..] => limit_of(name, later, limits),
-    }
 }
 
 // What is made of the constraint of the name.
@@ -265,22 +179,21 @@ fn compiled(
 }
 
 // The wildcards with their constraints.
-fn wildcards_in(
+fn wildcards_in<'t>(
     alloc: Global,
-    written: &[Written<'_>],
     names: &[&str],
-    limits: &[Pair],
+    limits: &BTreeMap<&'t str, &'t str>,
     shared: &mut Limits,
 ) -> Result<List<Wildcard>, PatternFault>
-    ensures made { IfOk result (λ made. wildcards_of made ≡ map (wildcard_in limits.now (all_written written.now)) (now_of names.now)) }
-    ensures read { OnOk result (AreLimits limits.now (all_written written.now) (now_of names.now)) }
+    ensures made { IfOk result (λ made. wildcards_of made ≡ map (wildcard_by (text_at limits.now)) (now_of names.now)) }
+    ensures read { OnOk result (AreAllLimits (text_at limits.now) (now_of names.now)) }
     ensures bad_pattern { result ≡ Err PatternFault.BadPattern → ⊥ }
     ensures bad { (bad : List ℕ) → result ≡ Err (PatternFault.BadConstraint bad)
-        → IsBadLimit limits.now (all_written written.now) (now_of names.now) bad }
+        → IsFirstBad (text_at limits.now) (now_of names.now) bad }
 {
     let mut made = List::new(alloc);
     for name in names {
-        let limit = compiled(alloc, name, limit_of(name, written, limits), shared)?;
+        let limit = compiled(alloc, name, text_at(limits, name), shared)?;
         made.push(Wildcard {
             name: Text::of(alloc, name)?,
             limit,
@@ -290,20 +203,14 @@ fn wildcards_in(
 }
 
 // Whether the text that is split so is written as a pattern.
-fn is_good(
-    alloc: Global,
-    text: &str,
-    written: &[Written<'_>],
-    names: &[&str],
-) -> Result<bool, OutOfMemory>
+fn is_good(alloc: Global, text: &str, written: &[Written<'_>]) -> Result<bool, OutOfMemory>
     requires balanced { is_balanced 0 text.now ≡ true }
     requires pieces { all_written written.now ≡ pieces text.now }
-    requires names { now_of names.now ≡ names_in (all_written written.now) }
+    requires single { list_all (is_single (all_written written.now)) (names_in (all_written written.now)) ≡ true }
     requires some { 1 ≤ length written.now }
-    requires few { length written.now ≤ 1000 }
     ensures { IfOk result (λ good. good ≡ is_written text.now) }
 {
-    if !are_named(written) || !are_single(written, names) {
+    if !are_named(written) {
         return Ok(false);
     }
     if has_hole(written) {
@@ -332,16 +239,17 @@ fn read_written(
     if written.is_empty() {
         return Err(PatternFault::BadPattern);
     }
-    if written.len() > MOST_PIECES {
+    let Some(inline) = inline_limits(alloc, &written)? else {
+        return Err(PatternFault::BadPattern);
+    };
+    if !is_good(alloc, text, &written)? {
         return Err(PatternFault::BadPattern);
     }
     let names = names_in(alloc, &written)?;
-    if !is_good(alloc, text, &written, &names)? {
-        return Err(PatternFault::BadPattern);
-    }
+    let constraints = all_limits(inline, &names, limits)?;
     Ok(Pattern {
         pieces: all_numbered(alloc, &written, &names)?,
-        wildcards: wildcards_in(alloc, &written, &names, limits, shared)?,
+        wildcards: wildcards_in(alloc, &names.list, &constraints, shared)?,
     })
 }
 

@@ -27,9 +27,13 @@ tests ts ws e = ap length e ∙ length-map (wildcards_of ws) (λ (w : Wildcard).
 pub search-requires : goal.search-requires
 search-requires c =
     let e : length c.deref_mut.result.now ≡ length c.args.wildcards.now = tests _ c.args.wildcards.now (c.deref_mut.ensures.value ∙ c.in_ok-testers.ensures) in
+    let none : length (now_of c.new-values.result.items) ≡ 0 = ap (λ (vs : List (Bor (List ℕ))). length (now_of vs)) c.new-values.ensures.items in
     record {
-      utf8 = c.utf8.path;
-      numbered = rw (c.new-values.ensures.len, e) c.requires;
+      place = record {
+        utf8 = c.utf8.path;
+        numbered = rw (none, e) c.requires;
+        places = rw c.deref.ensures.value c.in_ok-behind.ensures;
+      };
       serves = serves_new (parts_of c.args.pieces.now) _ _ _ _ c.new-vain.ensures;
     }
 
@@ -37,4 +41,4 @@ pub pairs-requires : goal.pairs-requires
 pairs-requires c =
     let e = tests _ c.args.wildcards.now (c.deref_mut.ensures.value ∙ c.in_ok-testers.ensures) in
     let k = counted c.in_ok-search.field-0 _ _ _ _ _ c.if-not-branch.false (ap now_of c.new-values.ensures.items) c.in_ok-search.ensures.found in
-    sym e ∙ sym k ∙ length-map c.search.new.values.items (λ (b : Bor (List ℕ)). b.now) ∙ sym (ap length c.deref.ensures.value)
+    sym e ∙ sym k ∙ length-map c.search.new.values.items (λ (b : Bor (List ℕ)). b.now) ∙ sym (ap length c.deref-2.ensures.value)

@@ -1,6 +1,6 @@
-use Rattle.std.proofs.Common.{◌≡◌, take, map}
+use Rattle.std.proofs.Common.{◌≡◌, List, ℕ, take, map}
 use Rattle.smk_pattern.specs.Pieces.{parts_of}
-use Rattle.smk_pattern.specs.Searching.{now_of}
+use Rattle.smk_pattern.specs.ByName.{AreNames}
 use Rattle.smk_pattern.specs.Shapes.{AreTexts}
 use Rattle.smk_pattern.specs.Splitting.{all_written}
 use Rattle.smk_pattern.specs.Reading.{part_in}
@@ -8,6 +8,6 @@ use Rattle.smk_pattern.proofs.reading.all_numbered.Given as goal
 
 abbrev pub invariant-loop-piece : goal.invariant-loop-piece
 invariant-loop-piece l = record {
-  pieces : parts_of l.made ≡ map (part_in (now_of l.names)) (all_written (take l.piece-index l.written));
+  pieces : (known : List (List ℕ)) → AreNames l.names known → parts_of l.made ≡ map (part_in known) (all_written (take l.piece-index l.written));
   texts : AreTexts (parts_of l.made);
 }

@@ -1,5 +1,0 @@
-use Rattle.std.proofs.Common.{length}
-use Rattle.smk_pattern.proofs.fitting.+are_text.Given as goal
-
-abbrev pub decreases-are_text : goal.decreases-are_text
-decreases-are_text l = length l.pieces.now
