@@ -16,6 +16,10 @@ joined between [] = []
 joined between (t ∷ []) = t
 joined between (t ∷ u ∷ rest) = t ++ (between ++ joined between (u ∷ rest))
 
+-- what these are behind another: each with this text before it
+abbrev pub later : {A : Type 0} → (A → Text) → Text → List A → Text
+later text between = flat_map (λ x. between ++ text x)
+
 -- words with a space between, and a line end
 abbrev pub line : List Text → Text
 line words = joined (codes " ") words ++ 10 ∷ []
@@ -24,6 +28,10 @@ line words = joined (codes " ") words ++ 10 ∷ []
 pub record Named : Type 0 where
   pub rule : Text
   pub path : Text
+
+-- a line of a job: a word, its rule, its first output, and the rest
+abbrev pub job_text : Text → Text → Text → Text → Text
+job_text word rule path rest = word ++ (codes " " ++ (rule ++ (codes " " ++ (path ++ (rest ++ 10 ∷ [])))))
 
 -- ## A listing
 
