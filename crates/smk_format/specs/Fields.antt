@@ -1,5 +1,5 @@
 -- What the fields of a command stand for.
-use Rattle.std.specs.Prelude.{ℕ, suc, Bool, true, false, ◌&&◌, ◌||◌, ◌==◌, not, nat_le, List, [], ◌∷◌, map, take, drop, Option, Some, None, option_map, slice_get, decimal, codes, if◌then◌else◌}
+use Rattle.std.specs.Prelude.{ℕ, suc, Bool, true, false, ◌&&◌, ◌||◌, ◌==◌, not, nat_le, nat_lt, ◌^◌, List, [], ◌∷◌, map, take, drop, Option, Some, None, option_map, slice_get, decimal, codes, if◌then◌else◌}
 use Rattle.std.specs.List.{find, flat_map}
 use Rattle.std.specs.Str.{bytes_eq}
 use Rattle.std.specs.Str.Parse.{digits_value}
@@ -52,22 +52,28 @@ is_numeral [] = false
 is_numeral (b ∷ []) = true
 is_numeral (b ∷ (c ∷ digits)) = not (b == 48)
 
--- the place that these digits spell, before this text, which has to be the closing bracket
-abbrev pub place_of : Text → Text → Pick
-place_of digits after = if bytes_eq after (codes "]") && is_numeral digits then Place (digits_value 10 digits) else Strange
+-- the place that these digits spell, a number of at most 64 bits
+unfoldable pub place_of : Text → Pick
+place_of digits = if is_numeral digits && nat_lt (digits_value 10 digits) (2 ^ 64) then Place (digits_value 10 digits) else Strange
+
+-- a place, and a closing bracket behind it
+unfoldable pub place_in : Text → Pick
+place_in t = if bytes_eq (drop (digits_len t) t) (codes "]") then place_of (take (digits_len t) t) else Strange
 
 abbrev pub pick_of : Text → Pick
 pick_of [] = All
-pick_of (b ∷ t) =
-    if b == 46 then Named t
-    else (if b == 91 then place_of (take (digits_len t) t) (drop (digits_len t) t) else Strange)
+pick_of (b ∷ t) = if b == 46 then Named t else (if b == 91 then place_in t else Strange)
 
 -- ## The values of a field
+
+-- the first item with this name
+abbrev pub item_in : List Values → Text → Option Values
+item_in items name = find (λ (v : Values). bytes_eq v.name name) items
 
 -- the values of the first item with this name, which isn't the empty one
 abbrev pub named : List Values → Text → Option (List Text)
 named items [] = None
-named items (b ∷ name) = option_map (λ (v : Values). v.values) (find (λ (v : Values). bytes_eq v.name (b ∷ name)) items)
+named items (b ∷ name) = option_map (λ (v : Values). v.values) (item_in items (b ∷ name))
 
 -- one value
 abbrev pub single : Text → List Text
@@ -94,32 +100,30 @@ under_name value (Named name) = option_map single (value name)
 under_name value (Place k) = None
 under_name value Strange = None
 
-abbrev pub wildcard : Job → Text → Option Text
-wildcard job name = option_map (λ (p : Pair). p.value) (find (λ (p : Pair). bytes_eq p.name name) job.recipe.wildcards)
+-- the value under a name
+abbrev pub value_in : List Pair → Text → Option Text
+value_in pairs name = option_map (λ (p : Pair). p.value) (find (λ (p : Pair). bytes_eq p.name name) pairs)
 
--- a resource that is counted, as its number
-abbrev pub amount : Job → Text → Option Text
-amount job name = option_map (λ (a : Amount). decimal a.count) (find (λ (a : Amount). bytes_eq a.name name) job.amounts)
-
--- a resource that is a text
-abbrev pub word : Job → Text → Option Text
-word job name = option_map (λ (p : Pair). p.value) (find (λ (p : Pair). bytes_eq p.name name) job.words)
+-- the number under a name
+abbrev pub count_in : List Amount → Text → Option ℕ
+count_in amounts name = option_map (λ (a : Amount). a.count) (find (λ (a : Amount). bytes_eq a.name name) amounts)
 
 abbrev pub or_else : Option Text → Option Text → Option Text
 or_else (Some value) other = Some value
 or_else None other = other
 
+-- a resource: one that is counted, as its number, or one that is a text
 abbrev pub resource : Job → Text → Option Text
-resource job name = or_else (amount job name) (word job name)
+resource job name = or_else (option_map decimal (count_in job.amounts name)) (value_in job.words name)
 
 -- what the first half of a field says, with this second half
-abbrev pub values_by : Job → Text → Pick → Option (List Text)
+unfoldable pub values_by : Job → Text → Pick → Option (List Text)
 values_by job first pick =
     if bytes_eq first (codes "input") then picked (map input_values job.recipe.inputs) pick
     else (if bytes_eq first (codes "output") then picked (map output_values job.recipe.outputs) pick
     else (if bytes_eq first (codes "params") then picked_param job.recipe.params pick
     else (if bytes_eq first (codes "log") then picked (map log_values job.logs) pick
-    else (if bytes_eq first (codes "wildcards") then under_name (wildcard job) pick
+    else (if bytes_eq first (codes "wildcards") then under_name (value_in job.recipe.wildcards) pick
     else (if bytes_eq first (codes "resources") then under_name (resource job) pick
     else None)))))
 

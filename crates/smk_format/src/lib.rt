@@ -2,7 +2,11 @@
 #![tactic(auto)]
 
 mod fault;
+mod fields;
 mod filling;
+mod items;
+mod picks;
+mod reading;
 
 pub use fault::FormatFault;
 pub use filling::command;
