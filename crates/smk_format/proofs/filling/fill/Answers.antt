@@ -31,7 +31,7 @@ returns-in-Some-clause-missing c =
     (c.first_brace-plain.ensures.value ∙ ap first_brace c.as_bytes.ensures.value)
     c.range_from.ensures.value
     c.symbol_in.ensures.read
-    (c.in-Some.is ∙ c.in_ok-word.ensures.missing)
+    (rw c.in-Some.is at c.in_ok-word.ensures.missing)
     ∙ sym c.filling.invariant.missing
 
 pub filling-preserved : goal.filling-preserved
@@ -53,6 +53,6 @@ filling-preserved c =
           first
           c.range_from.ensures.value
           c.symbol_in.ensures.read
-          (c.in-None.is ∙ c.in_ok-word.ensures.missing);
+          (rw c.in-None.is at c.in_ok-word.ensures.missing);
       utf8 = c.symbol_in.ensures.utf8;
     }
