@@ -51,9 +51,9 @@ reason_text reasons = joined (codes ", ") (map reason_word reasons)
 
 -- nothing for a Clean job
 abbrev pub state_line : Named × State → Text
-state_line (j, Open) = line (codes "open" ∷ j.rule ∷ j.path ∷ [])
-state_line (j, Dirty reasons) = line (codes "run" ∷ j.rule ∷ (j.path ++ codes ":") ∷ reason_text reasons ∷ [])
-state_line (j, Restore) = line (codes "restore" ∷ j.rule ∷ j.path ∷ [])
+state_line (j, Open) = job_text (codes "open") j.rule j.path []
+state_line (j, Dirty reasons) = job_text (codes "run") j.rule j.path (codes ": " ++ reason_text reasons)
+state_line (j, Restore) = job_text (codes "restore") j.rule j.path []
 state_line (j, Clean) = []
 
 abbrev pub count : (State → Bool) → List State → Text
@@ -88,21 +88,22 @@ pub data Ending : Type 0 where
   WrongKind : Text → Ending
   BadMember : Text → Ending
 
-abbrev pub cause_words : Ending → List Text
-cause_words Good = []
-cause_words (Status n) = codes "status" ∷ decimal n ∷ []
-cause_words (NoOutput p) = codes "no output" ∷ p ∷ []
-cause_words (WrongKind p) = codes "wrong kind" ∷ p ∷ []
-cause_words (BadMember p) = codes "bad member" ∷ p ∷ []
+-- what is said of a job that failed
+abbrev pub cause_text : Ending → Text
+cause_text Good = []
+cause_text (Status n) = codes "status " ++ decimal n
+cause_text (NoOutput p) = codes "no output " ++ p
+cause_text (WrongKind p) = codes "wrong kind " ++ p
+cause_text (BadMember p) = codes "bad member " ++ p
 
 abbrev pub start_line : Named → Text
-start_line j = line (codes "start" ∷ j.rule ∷ j.path ∷ [])
+start_line j = job_text (codes "start") j.rule j.path []
 
 abbrev pub done_line : Named → Text
-done_line j = line (codes "done" ∷ j.rule ∷ j.path ∷ [])
+done_line j = job_text (codes "done") j.rule j.path []
 
 abbrev pub failed_line : Named → Ending → Text
-failed_line j end = line (codes "failed" ∷ j.rule ∷ (j.path ++ codes ":") ∷ cause_words end)
+failed_line j end = job_text (codes "failed") j.rule j.path (codes ": " ++ cause_text end)
 
 abbrev pub target_line : Bool → Text → Text
 target_line is_current p = line ((if is_current then codes "current" else codes "not current") ∷ p ∷ [])

@@ -59,15 +59,25 @@ fn push_later(text: &mut String, reasons: &[Reason]) -> Result<(), AllocError>
     Ok(())
 }
 
+// Adds the reasons.
+fn push_reasons(text: &mut String, reasons: &[Reason]) -> Result<(), AllocError>
+    ensures { OnOk result (string_bytes text.new ≡ string_bytes text.old ++ spec.reason_text reasons.now) }
+{
+    match reasons.split_first() {
+        Some((first, later)) => {
+            push_reason(text, first)?;
+            push_later(text, later)?;
+            Ok(())
+        }
+        None => Ok(()),
+    }
+}
+
 /// The reasons in order, with `, ` between them. `OutOfMemory` where there is no memory for the text.
-#[tactic(auto, using(crate::proofs::Joining::joined_first))]
 pub fn reason_text(alloc: Global, list: &List<Reason>) -> Result<Text, OutOfMemory>
     ensures { IfOk result (λ text. text ≡ spec.reason_text list.now) }
 {
     let mut text = String::new(alloc);
-    if let Some((first, later)) = list.as_slice().split_first() {
-        push_reason(&mut text, first)?;
-        push_later(&mut text, later)?;
-    }
+    push_reasons(&mut text, list.as_slice())?;
     Text::of(alloc, text.as_str())
 }

@@ -9,6 +9,7 @@ use smk_base::{OutOfMemory, PathText, Text};
 use std::alloc::{AllocError, Global};
 
 // The file, the line and the words.
+#[tactic(auto, using(crate::proofs::Joining::at_from_first))]
 fn at_line(alloc: Global, file: &Text, line: u64, words: &str) -> Result<String, AllocError>
     ensures { IfOk result (λ text. string_bytes text ≡ at_line file.now line ++ words.now) }
 {
@@ -17,6 +18,7 @@ fn at_line(alloc: Global, file: &Text, line: u64, words: &str) -> Result<String,
 }
 
 // The file, the line, the words and what they speak of.
+#[tactic(auto, using(crate::proofs::Joining::at_from_first))]
 fn at_line_of(
     alloc: Global,
     file: &Text,
@@ -30,6 +32,14 @@ fn at_line_of(
     format!(in alloc; "{file}:{line}{words}{name}")
 }
 
+// The rule and what of it.
+fn in_rule(alloc: Global, rule: &Text, name: &Text) -> Result<String, AllocError>
+    ensures { IfOk result (λ text. string_bytes text ≡ rule.now ++ (codes ": " ++ name.now)) }
+{
+    let (rule, name) = (rule.as_str(), name.as_str());
+    format!(in alloc; "{rule}: {name}")
+}
+
 // The file, the line, the words, the rule that they speak of and what of it.
 fn at_line_in(
     alloc: Global,
@@ -41,8 +51,8 @@ fn at_line_in(
 ) -> Result<String, AllocError>
     ensures { IfOk result (λ text. string_bytes text ≡ at_line file.now line ++ (words.now ++ (rule.now ++ (codes ": " ++ name.now)))) }
 {
-    let (file, rule, name) = (file.as_str(), rule.as_str(), name.as_str());
-    format!(in alloc; "{file}:{line}{words}{rule}: {name}")
+    let rest = in_rule(alloc, rule, name)?;
+    at_line_of(alloc, file, line, words, rest.as_str())
 }
 
 // The words and what they speak of.
@@ -91,15 +101,26 @@ fn push_later(text: &mut String, paths: &[PathText]) -> Result<(), AllocError>
     Ok(())
 }
 
+// Adds the paths, with a space between.
+fn push_paths(text: &mut String, paths: &[PathText]) -> Result<(), AllocError>
+    ensures { OnOk result (string_bytes text.new ≡ string_bytes text.old ++ joined (codes " ") paths.now) }
+{
+    match paths.split_first() {
+        Some((first, rest)) => {
+            text.push_str(first.as_str())?;
+            push_later(text, rest)?;
+            Ok(())
+        }
+        None => Ok(()),
+    }
+}
+
 // The words on jobs that weren't finished.
 fn incomplete(alloc: Global, paths: &[PathText]) -> Result<String, AllocError>
     ensures { IfOk result (λ text. string_bytes text ≡ codes "incomplete: " ++ joined (codes " ") paths.now) }
 {
     let mut text = String::from_str(alloc, "incomplete: ")?;
-    if let Some((first, rest)) = paths.split_first() {
-        text.push_str(first.as_str())?;
-        push_later(&mut text, rest)?;
-    }
+    push_paths(&mut text, paths)?;
     Ok(text)
 }
 
@@ -126,19 +147,43 @@ fn job_ended(alloc: Global, rule: &Text, path: &PathText, code: u32) -> Result<S
     format!(in alloc; "job failed: {rule} {path}: status {code}")
 }
 
-// The words on a job whose command left the output so.
-fn job_left(
+// The words on a job whose command didn't leave the output.
+fn no_output(
     alloc: Global,
     rule: &Text,
     path: &PathText,
-    words: &str,
-    output: &PathText,
+    missing: &PathText,
 ) -> Result<String, AllocError>
-    ensures { IfOk result (λ text. string_bytes text
-        ≡ codes "job failed: " ++ (rule.now ++ (codes " " ++ (path.now ++ (words.now ++ output.now))))) }
+    ensures { IfOk result (λ text. string_bytes text ≡ fault_words (Fault.NoOutput rule.now path.now missing.now)) }
 {
-    let (rule, path, output) = (rule.as_str(), path.as_str(), output.as_str());
-    format!(in alloc; "job failed: {rule} {path}{words}{output}")
+    let (rule, path, missing) = (rule.as_str(), path.as_str(), missing.as_str());
+    format!(in alloc; "job failed: {rule} {path}: no output {missing}")
+}
+
+// The words on a job whose command left an output of the other kind.
+fn wrong_kind(
+    alloc: Global,
+    rule: &Text,
+    path: &PathText,
+    wrong: &PathText,
+) -> Result<String, AllocError>
+    ensures { IfOk result (λ text. string_bytes text ≡ fault_words (Fault.WrongKind rule.now path.now wrong.now)) }
+{
+    let (rule, path, wrong) = (rule.as_str(), path.as_str(), wrong.as_str());
+    format!(in alloc; "job failed: {rule} {path}: wrong kind {wrong}")
+}
+
+// The words on a job whose command left a directory beyond the limits.
+fn bad_member(
+    alloc: Global,
+    rule: &Text,
+    path: &PathText,
+    bad: &PathText,
+) -> Result<String, AllocError>
+    ensures { IfOk result (λ text. string_bytes text ≡ fault_words (Fault.BadMember rule.now path.now bad.now)) }
+{
+    let (rule, path, bad) = (rule.as_str(), path.as_str(), bad.as_str());
+    format!(in alloc; "job failed: {rule} {path}: bad member {bad}")
 }
 
 // What is said of the fault.
@@ -277,15 +322,9 @@ fn fault_words(alloc: Global, fault: &Fault) -> Result<String, AllocError>
             rule,
             path,
             missing,
-        } => job_left(alloc, rule, path, ": no output ", missing),
-        Fault::WrongKind { rule, path, wrong } => job_left(
-            alloc,
-            rule,
-            path,
-            ": wrong kind ",
-            wrong,
-        ),
-        Fault::BadMember { rule, path, bad } => job_left(alloc, rule, path, ": bad member ", bad),
+        } => no_output(alloc, rule, path, missing),
+        Fault::WrongKind { rule, path, wrong } => wrong_kind(alloc, rule, path, wrong),
+        Fault::BadMember { rule, path, bad } => bad_member(alloc, rule, path, bad),
     }
 }
 
