@@ -10,3 +10,6 @@ mod reading;
 
 pub use fault::FormatFault;
 pub use filling::command;
+
+#[cfg(test)]
+mod tests;
