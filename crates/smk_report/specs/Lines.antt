@@ -16,6 +16,10 @@ joined between [] = []
 joined between (t ∷ []) = t
 joined between (t ∷ u ∷ rest) = t ++ (between ++ joined between (u ∷ rest))
 
+-- what these are behind another: each with this text before it
+abbrev pub later : {A : Type 0} → (A → Text) → Text → List A → Text
+later text between = flat_map (λ x. between ++ text x)
+
 -- words with a space between, and a line end
 abbrev pub line : List Text → Text
 line words = joined (codes " ") words ++ 10 ∷ []
@@ -24,6 +28,10 @@ line words = joined (codes " ") words ++ 10 ∷ []
 pub record Named : Type 0 where
   pub rule : Text
   pub path : Text
+
+-- a line of a job: a word, its rule, its first output, and the rest
+abbrev pub job_text : Text → Text → Text → Text → Text
+job_text word rule path rest = word ++ (codes " " ++ (rule ++ (codes " " ++ (path ++ (rest ++ 10 ∷ [])))))
 
 -- ## A listing
 
@@ -43,9 +51,9 @@ reason_text reasons = joined (codes ", ") (map reason_word reasons)
 
 -- nothing for a Clean job
 abbrev pub state_line : Named × State → Text
-state_line (j, Open) = line (codes "open" ∷ j.rule ∷ j.path ∷ [])
-state_line (j, Dirty reasons) = line (codes "run" ∷ j.rule ∷ (j.path ++ codes ":") ∷ reason_text reasons ∷ [])
-state_line (j, Restore) = line (codes "restore" ∷ j.rule ∷ j.path ∷ [])
+state_line (j, Open) = job_text (codes "open") j.rule j.path []
+state_line (j, Dirty reasons) = job_text (codes "run") j.rule j.path (codes ": " ++ reason_text reasons)
+state_line (j, Restore) = job_text (codes "restore") j.rule j.path []
 state_line (j, Clean) = []
 
 abbrev pub count : (State → Bool) → List State → Text
@@ -80,21 +88,22 @@ pub data Ending : Type 0 where
   WrongKind : Text → Ending
   BadMember : Text → Ending
 
-abbrev pub cause_words : Ending → List Text
-cause_words Good = []
-cause_words (Status n) = codes "status" ∷ decimal n ∷ []
-cause_words (NoOutput p) = codes "no output" ∷ p ∷ []
-cause_words (WrongKind p) = codes "wrong kind" ∷ p ∷ []
-cause_words (BadMember p) = codes "bad member" ∷ p ∷ []
+-- what is said of a job that failed
+abbrev pub cause_text : Ending → Text
+cause_text Good = []
+cause_text (Status n) = codes "status " ++ decimal n
+cause_text (NoOutput p) = codes "no output " ++ p
+cause_text (WrongKind p) = codes "wrong kind " ++ p
+cause_text (BadMember p) = codes "bad member " ++ p
 
 abbrev pub start_line : Named → Text
-start_line j = line (codes "start" ∷ j.rule ∷ j.path ∷ [])
+start_line j = job_text (codes "start") j.rule j.path []
 
 abbrev pub done_line : Named → Text
-done_line j = line (codes "done" ∷ j.rule ∷ j.path ∷ [])
+done_line j = job_text (codes "done") j.rule j.path []
 
 abbrev pub failed_line : Named → Ending → Text
-failed_line j end = line (codes "failed" ∷ j.rule ∷ (j.path ++ codes ":") ∷ cause_words end)
+failed_line j end = job_text (codes "failed") j.rule j.path (codes ": " ++ cause_text end)
 
 abbrev pub target_line : Bool → Text → Text
 target_line is_current p = line ((if is_current then codes "current" else codes "not current") ∷ p ∷ [])

@@ -1,4 +1,9 @@
-use smk_base::{List, PathText, Text};
+//! Faults, and the exit status of each.
+
+ghost use Rattle.std.specs.Prelude.{◌≡◌};
+ghost use Rattle.smk_report.specs.Faults.{fault_status};
+
+use smk_base::{List, OutOfMemory, PathText, Text};
 
 /// Why a call ended without being done. A file and line are those at which the fault stands.
 #[derive(Debug, Drop)]
@@ -226,4 +231,70 @@ pub enum Fault {
     Output,
     /// Want of memory.
     OutOfMemory,
+}
+
+impl From<OutOfMemory> for Fault {
+    ghost use Rattle.std.specs.Prelude.{◌≡◌};
+    ghost use Rattle.smk_report.specs.declared.fault.Fault.TheVariants.{OutOfMemory};
+
+    ghost from_gives = { λ _ fault. fault ≡ OutOfMemory };
+
+    fn from(_: OutOfMemory) -> Fault {
+        Fault::OutOfMemory
+    }
+}
+
+/// The exit status of a call that ends with the fault: 1 where a job failed, 2 for the words of the command line, 4 for the device, 5
+/// for want of memory, 6 for the report, and 3 for every other refusal.
+pub fn status_of(fault: &Fault) -> u8
+    ensures { result ≡ fault_status fault.now }
+{
+    match fault {
+        Fault::JobFailed { .. }
+        | Fault::NoOutput { .. }
+        | Fault::WrongKind { .. }
+        | Fault::BadMember { .. } => 1,
+        Fault::BadWords | Fault::NoCores => 2,
+        Fault::Device => 4,
+        Fault::OutOfMemory => 5,
+        Fault::Output => 6,
+        Fault::BadIndent { .. }
+        | Fault::OpenText { .. }
+        | Fault::BadByte { .. }
+        | Fault::Unexpected { .. }
+        | Fault::Unsupported { .. }
+        | Fault::Doubled { .. }
+        | Fault::BadPattern { .. }
+        | Fault::BadConstraint { .. }
+        | Fault::DoubledRule { .. }
+        | Fault::UnequalWildcards { .. }
+        | Fault::UnknownWildcard { .. }
+        | Fault::BadFlag { .. }
+        | Fault::BadConfig { .. }
+        | Fault::NoKey { .. }
+        | Fault::UnknownName { .. }
+        | Fault::UnequalZip { .. }
+        | Fault::TooMany { .. }
+        | Fault::IncludeDepth { .. }
+        | Fault::ContradictoryOrder { .. }
+        | Fault::NoRule { .. }
+        | Fault::NoInput { .. }
+        | Fault::Ambiguous { .. }
+        | Fault::Deep { .. }
+        | Fault::TooManyPaths { .. }
+        | Fault::Clash { .. }
+        | Fault::MissingMember { .. }
+        | Fault::NoCommand { .. }
+        | Fault::Locked
+        | Fault::StampSeen { .. }
+        | Fault::Serials
+        | Fault::Incomplete { .. }
+        | Fault::Protected { .. }
+        | Fault::AboveLimit { .. }
+        | Fault::UnknownField { .. }
+        | Fault::TooLong { .. }
+        | Fault::NoFile { .. }
+        | Fault::TooBig { .. }
+        | Fault::BadTarget { .. } => 3,
+    }
 }

@@ -1,0 +1,4 @@
+pub mod Templates
+pub mod Fields
+pub mod Commands
+pub mod Found
