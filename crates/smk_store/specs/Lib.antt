@@ -4,3 +4,4 @@ pub mod Soundness
 pub mod Safety
 pub mod Steps
 pub mod Stores
+pub mod Loading
