@@ -5,3 +5,4 @@ pub mod Safety
 pub mod Steps
 pub mod Stores
 pub mod Loading
+pub mod Walking

@@ -3,6 +3,7 @@
 
 mod fault;
 mod loading;
+mod names;
 mod places;
 mod steps;
 mod store;
