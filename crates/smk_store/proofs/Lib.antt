@@ -7,3 +7,4 @@ pub mod Covering
 pub mod Looks
 pub mod Walks
 pub mod Finding
+pub mod Loads

@@ -1,5 +1,6 @@
 -- How the engine's folders are walked: the names in them, the paths of which they tell, and what is found.
-use Rattle.std.specs.Prelude.{◌≡◌, ◌⊎◌, ℕ, Bool, true, false, ◌&&◌, ◌||◌, List, [], ◌∷◌, ◌++◌, length, nat_lt, ◌+◌, ◌==◌, bytes_eq, if◌then◌else◌, Option, Some, None, option_map, is_some, IsSome, String}
+use Rattle.std.specs.Prelude.{◌≡◌, ◌⊎◌, ℕ, Bool, true, false, ◌&&◌, ◌||◌, List, [], ◌∷◌, ◌++◌, length, nat_lt, ◌+◌, ◌==◌, bytes_eq, if◌then◌else◌, Option, Some, None, option_map, is_some, IsSome, String, string_bytes, map}
+use Rattle.std.specs.Global.{Global}
 use Rattle.std.specs.Option.{option_and_then}
 use Rattle.std.specs.List.{list_any}
 use Rattle.smk_base.specs.Place.{name_of, records_folder, marks_folder, notes_folder}
@@ -9,7 +10,9 @@ use Rattle.smk_world.specs.World.{World, reading}
 use Rattle.smk_world.specs.Calls.{in_folder, HasCause}
 use Rattle.smk_world.specs.Runs.{Did}
 use Rattle.smk_world.specs.Trees.{Path, Act, is_path_text}
-use Rattle.smk_store.specs.Loading.{AreLooks}
+use Rattle.smk_store.specs.Images.{Image}
+use Rattle.smk_store.specs.Stores.{Known}
+use Rattle.smk_store.specs.Loading.{AreLooks, entry_at}
 
 -- ## What looks do
 
@@ -62,3 +65,23 @@ pub record Walked (nodes : Path → NodeState) (folder front : Path) (old new : 
 -- these are the paths of which something stands in the folder
 abbrev pub HasAll : World → Path → (Path → Bool) → Type 0
 HasAll w folder found = (p : Path) → is_path_text p ≡ true → found p ≡ is_some (reading (w.nodes (in_folder folder (name_of p))))
+
+-- what is found in the engine's three folders
+pub record HasSigns (w : World) (records marks notes : Path → Bool) : Type 0 where
+  pub recorded : HasAll w records_folder records
+  pub marked : HasAll w marks_folder marks
+  pub noted : HasAll w notes_folder notes
+
+-- ## What is made of it
+
+-- the texts of a set, in byte order
+abbrev pub texts_of : List (String Global) → List (List ℕ)
+texts_of keys = map (λ k. string_bytes k) keys
+
+-- the path that a text is, where it is one
+abbrev pub path_in : List ℕ → Option Path
+path_in text = if is_path_text text then Some text else None
+
+-- each of these paths with what the image has of it
+abbrev pub known_all : Image → List Path → List Known
+known_all image ps = map (λ p. record { path = p; entry = entry_at image p }) ps
