@@ -1,5 +1,6 @@
 -- What is made of the paths that were found: records, entries, and the store.
-use Rattle.std.proofs.Common.{◌≡◌, ◌⊎◌, inl, inr, ◌≢◌, ℕ, zero, suc, ◌+◌, ◌<◌, ◌≤◌, ◌==◌, ◌^◌, Bool, true, false, ◌&&◌, ◌||◌, not, cond, eqb, List, [], ◌∷◌, ◌++◌, map, length, refl, sym, ap, subst, ◌∙◌, Option, Some, None, arith, bytes_eq}
+use Rattle.std.proofs.Common.{◌≡◌, ◌⊎◌, inl, inr, ◌≢◌, ℕ, zero, suc, ◌+◌, ◌<◌, ◌≤◌, ◌==◌, ◌^◌, Bool, true, false, ◌&&◌, ◌||◌, not, cond, eqb, List, [], ◌∷◌, ◌++◌, map, length, refl, sym, ap, subst, ◌∙◌, Option, Some, None, arith, bytes_eq, append_assoc}
+use Rattle.std.proofs.lemmas.List.{append-nil}
 use Rattle.std.specs.Prelude.{IsSome, IsTrue, is_some, String, string_bytes, if◌then◌else◌, option_map, nat_le, ◌↔◌}
 use Rattle.std.specs.Global.{Global}
 use Rattle.std.specs.BTreeSet.{BTreeSet, contains_text}
@@ -23,6 +24,7 @@ use Rattle.smk_world.specs.declared.event.Found.{Found}
 use Rattle.smk_world.specs.declared.event.Found.TheVariants.{Nothing as NoneFound, TooBig, Held as HeldBytes}
 use Rattle.smk_world.specs.declared.event.Node.{Node}
 use Rattle.smk_world.specs.declared.event.Node.TheVariants.{Regular, Directory}
+use Rattle.smk_world.specs.declared.event.NodeState.{NodeState}
 use Rattle.smk_world.specs.World.{World, reading, is_named, folders_above}
 use Rattle.smk_world.specs.Calls.{in_folder, found_of}
 use Rattle.smk_world.specs.Trees.{Path, is_path_text}
@@ -35,7 +37,7 @@ use Rattle.smk_store.specs.declared.store.Kept.{Kept}
 use Rattle.smk_store.specs.declared.store.Kept.TheVariants.{Absent, Unreadable, Held}
 use Rattle.smk_store.specs.Images.{Image, seen, stands, is_known, is_covered, for_path, kept_by}
 use Rattle.smk_store.specs.Stores.{Known, known, AreKept, entry_of, is_covered_in}
-use Rattle.smk_store.specs.Loading.{IsStoreOf, entry_at, entry_in}
+use Rattle.smk_store.specs.Loading.{IsStoreOf, entry_at, entry_in, store_folder}
 use Rattle.smk_store.specs.Walking.{HasAll, HasSigns, texts_of, path_in, known_all}
 
 -- ## Records
@@ -94,7 +96,14 @@ found_none read p None some h = absurd (never_both false some refl)
 found_none read p (Some Directory) some h = refl
 found_none read p (Some (Regular held time read_only)) some h = absurd (nothing_when held (nat_le (length held) 33554432) h)
 
+pub record_under : (p : Path) → is_under (record_place p) store_folder ≡ true
+record_under p = refl
+
 -- ## Entries
+
+pub all_still : (w v : World) (folder folder2 : Path) (found : Path → Bool) → v.nodes ≡ w.nodes → folder2 ≡ folder → HasAll v folder2 found → HasAll w folder found
+all_still w v folder folder2 found same is h = λ p path.
+    h p path ∙ ap (λ (f : Path). is_some (reading (v.nodes (in_folder f (name_of p))))) is ∙ ap (λ (n : Path → NodeState). is_some (reading (n (in_folder folder (name_of p))))) same
 
 none_of : {A : Type 0} (o : Option A) → is_some o ≡ false → o ≡ None
 none_of None h = refl
@@ -284,3 +293,56 @@ module _ (read : List ℕ → Option Record) (w : World) (records marks notes : 
       entries p =
           ap (λ (ks : List Known). entry_of ks p) is ∙ entry_named (seen read w) (filter is_path_text (texts_of all.keys)) p
           ∙ ap (λ (b : Bool). if b then Some (entry_at (seen read w) p) else None) (known_here p)
+
+-- ## The list of paths
+
+pub one_more : (paths : List Path) (text : Path) (rest ts whole : List Path) (path : Path) → Some path ≡ path_in text → ts ≡ text ∷ rest → paths ++ filter is_path_text ts ≡ whole → (paths ++ path ∷ []) ++ filter is_path_text rest ≡ whole
+one_more paths text rest ts whole path is at before = by (is_path_text text) refl
+  where
+    by : (b : Bool) → is_path_text text ≡ b → (paths ++ path ∷ []) ++ filter is_path_text rest ≡ whole
+    by true e =
+        let same : path ≡ text = some_same (is ∙ ap (λ (v : Bool). if v then Some text else None) e) in
+        append_assoc paths (path ∷ []) (filter is_path_text rest) ∙ ap (λ (q : Path). paths ++ q ∷ filter is_path_text rest) same
+        ∙ ap (λ (v : Bool). paths ++ cond v (text ∷ filter is_path_text rest) (filter is_path_text rest)) (sym e) ∙ ap (λ (l : List Path). paths ++ filter is_path_text l) (sym at) ∙ before
+      where
+        some_same : Some path ≡ Some text → path ≡ text
+        some_same h = cc
+    by false e = absurd (wrong (is ∙ ap (λ (v : Bool). if v then Some text else None) e))
+      where
+        wrong : Some path ≡ None → ⊥
+        wrong h = cc
+
+pub none_more : (paths : List Path) (text : Path) (rest ts whole : List Path) → None ≡ path_in text → ts ≡ text ∷ rest → paths ++ filter is_path_text ts ≡ whole → paths ++ filter is_path_text rest ≡ whole
+none_more paths text rest ts whole is at before = by (is_path_text text) refl
+  where
+    by : (b : Bool) → is_path_text text ≡ b → paths ++ filter is_path_text rest ≡ whole
+    by true e = absurd (wrong (is ∙ ap (λ (v : Bool). if v then Some text else None) e))
+      where
+        wrong : None ≡ Some text → ⊥
+        wrong h = cc
+    by false e =
+        ap (λ (v : Bool). paths ++ cond v (text ∷ filter is_path_text rest) (filter is_path_text rest)) (sym e) ∙ ap (λ (l : List Path). paths ++ filter is_path_text l) (sym at) ∙ before
+
+pub all_found : (paths ts whole : List Path) → ts ≡ [] → paths ++ filter is_path_text ts ≡ whole → paths ≡ whole
+all_found paths ts whole none before = sym (append-nil paths) ∙ ap (λ (l : List Path). paths ++ filter is_path_text l) (sym none) ∙ before
+
+-- the path that was found is a text
+pub is_text_path : (text path : Path) → Some path ≡ path_in text → is_path_text path ≡ true
+is_text_path text path is = by (is_path_text text) refl
+  where
+    by : (b : Bool) → is_path_text text ≡ b → is_path_text path ≡ true
+    by true e = ap is_path_text (same (is ∙ ap (λ (v : Bool). if v then Some text else None) e)) ∙ e
+      where
+        same : Some path ≡ Some text → path ≡ text
+        same h = cc
+    by false e = absurd (wrong (is ∙ ap (λ (v : Bool). if v then Some text else None) e))
+      where
+        wrong : Some path ≡ None → ⊥
+        wrong h = cc
+
+pub store_known : (image : Image) (store : List Known) (paths : List Path) (entries : List Entry) (whole : List Path) → store ≡ known paths entries → entries ≡ map (entry_at image) paths → paths ≡ whole → store ≡ known_all image whole
+store_known image store paths entries whole is e p =
+    is ∙ ap (known paths) e ∙ known_map image paths ∙ ap (known_all image) p
+
+pub are_kept : (paths : List Path) (entries : List Entry) (keys : List (String Global)) → IsStrictlySortedBy string_cmp keys → paths ≡ filter is_path_text (texts_of keys) → length entries ≡ length paths → AreKept paths entries
+are_kept paths entries keys rises is each = record { rising = ap are_rising is ∙ paths_rise keys rises; each = each }

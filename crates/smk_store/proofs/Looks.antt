@@ -1,6 +1,6 @@
 -- Looks, one after another: nothing changes but the log.
 use Rattle.std.proofs.Common.{◌≡◌, ◌⊎◌, inl, inr, ◌≢◌, ℕ, zero, suc, ◌<◌, ◌≤◌, get_or, Bool, true, false, List, [], ◌∷◌, ◌++◌, refl, sym, ap, subst, ◌∙◌, Option, Some, None, Result, Ok, Err, arith}
-use Rattle.std.specs.Prelude.{IsSome, is_some, IsErrOf, IsErrAnd, All}
+use Rattle.std.specs.Prelude.{IsSome, is_some, IsErrOf, IsErrAnd, IfOk, All}
 use Rattle.std.proofs.lemmas.List.Elements.{All-append, All-cons, All-head, All-tail}
 use Rattle.smk_base.specs.declared.tree.Tree.{Tree}
 use Rattle.smk_world.specs.declared.event.Call.{Call}
@@ -11,12 +11,12 @@ use Rattle.smk_world.specs.declared.event.Event.{Event}
 use Rattle.smk_world.specs.declared.event.Found.{Found}
 use Rattle.smk_world.specs.declared.event.Listing.{Listing}
 use Rattle.smk_world.specs.declared.event.NodeState.{NodeState}
-use Rattle.smk_world.specs.declared.event.NodeState.TheVariants.{Owned}
+use Rattle.smk_world.specs.declared.event.NodeState.TheVariants.{Owned, Known}
 use Rattle.smk_world.specs.declared.event.WorkFault.{WorkFault}
 use Rattle.smk_world.specs.declared.event.WorkFault.TheVariants.{Failed as FailedFault, OutOfMemory as MemoryFault}
 use Rattle.smk_world.specs.declared.recipe.Recipe.{Recipe}
 use Rattle.smk_world.specs.World.{World, after, run, node_after, reading, reads_folder}
-use Rattle.smk_world.specs.Calls.{Acted, Happened, HasCause, Rose, Lets, ListingIs, failed, in_folder}
+use Rattle.smk_world.specs.Calls.{Acted, Happened, HasCause, Rose, Lets, ListingIs, FoundIs, found_of, failed, in_folder}
 use Rattle.smk_world.specs.Runs.{Did}
 use Rattle.smk_world.specs.Trees.{Path, Act}
 use Rattle.smk_world.proofs.Runs.{did_nothing, did_more, did_both}
@@ -191,3 +191,22 @@ listing_told act a b p r listing w happened is at =
     let same : t.0 ≡ w = same_some t.0 w (sym t.1 ∙ at) in
     let lets : Lets act t.0 (ReadFolder p (Ok listing)) t.2.0 = subst (λ (x : Result Listing WorkFault). Lets act t.0 (ReadFolder p x) t.2.0) is t.2.1 in
     subst (λ (u : World). ListingIs u p listing (u.nodes p)) same lets.1
+
+-- what a file's read says of the world in which it was made
+pub found_told : (act : Act) (a b : Option World) (p : Path) (limit : ℕ) (r : Result Found WorkFault) (found : Found) (w : World) → Happened act a b (ReadFile p limit r) → r ≡ Ok found → a ≡ Some w → w.nodes p ≢ Owned
+    → found ≡ found_of limit (reading (w.nodes p))
+found_told act a b p limit r found w happened is at own =
+    let v = some_of b (happened.stays (ap is_some at) (ap (λ (x : Result Found WorkFault). failed (ReadFile p limit x)) is)) in
+    let t = happened.told v.0 v.1 in
+    let same : t.0 ≡ w = same_some t.0 w (sym t.1 ∙ at) in
+    let lets : Lets act t.0 (ReadFile p limit (Ok found)) t.2.0 = subst (λ (x : Result Found WorkFault). Lets act t.0 (ReadFile p limit x) t.2.0) is t.2.1 in
+    by (w.nodes p) own (subst (λ (u : World). FoundIs limit found (u.nodes p)) same lets.1)
+  where
+    by : (s : NodeState) → s ≢ Owned → FoundIs limit found s → found ≡ found_of limit (reading s)
+    by Owned other h = absurd (other refl)
+    by (Known n besides) other h = h
+
+-- a fact on every Ok answer
+pub if_ok : {T E : Type 0} (r : Result T E) (P Q : T → Type 0) → ((t : T) → P t → Q t) → IfOk r P → IfOk r Q
+if_ok (Ok t) P Q more h = more t h
+if_ok (Err e) P Q more h = h

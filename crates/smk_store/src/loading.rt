@@ -5,7 +5,8 @@ ghost use Rattle.std.specs.BTreeSet.{contains_text};
 ghost use Rattle.std.specs.List.{filter};
 ghost use Rattle.smk_base.specs.Place.{record_place};
 ghost use Rattle.smk_world.specs.World.{World, reading};
-ghost use Rattle.smk_world.specs.Calls.{HasCause};
+ghost use Rattle.smk_world.specs.Calls.{HasCause, found_of};
+ghost use Rattle.smk_world.specs.declared.event.Node.{Node};
 ghost use Rattle.smk_world.specs.Runs.{Did};
 ghost use Rattle.smk_world.specs.Trees.{is_path_text};
 ghost use Rattle.smk_record.specs.declared.record.Record.{Record as RecordValue};
@@ -89,6 +90,18 @@ fn kept_in(alloc: Global, path: &PathText, bytes: &[u8]) -> Result<Kept, OutOfMe
     }
 }
 
+// The record of the path by what a read of its place found, where something stands there.
+fn kept_found(alloc: Global, path: &PathText, found: Found) -> Result<Kept, OutOfMemory>
+    ensures { IfOk result (λ kept. (read : Items ℕ → Option RecordValue) → ReadsRecords read
+        → (node : Option Node) → IsSome node → found ≡ found_of 33554432 node → kept ≡ kept_by read path.now node) }
+{
+    match found {
+        Found::Held(bytes) => kept_in(alloc, path, bytes.as_slice()),
+        Found::TooBig(_) => Ok(Kept::Unreadable),
+        Found::Nothing => Ok(Kept::Unreadable),
+    }
+}
+
 // The record of the path, where something stands in its place.
 fn kept_at<W: Files>(alloc: Global, work: &mut W, path: &PathText) -> Result<Kept, WorkFault>
     ensures looked { HasLooked W.act (W.world work.old) (W.world work.new) (W.faults work.old) (W.faults work.new) (W.running work.old) (W.running work.new) (IsErrOf result WorkFault.Failed) }
@@ -96,10 +109,8 @@ fn kept_at<W: Files>(alloc: Global, work: &mut W, path: &PathText) -> Result<Kep
         → (read : Items ℕ → Option RecordValue) → ReadsRecords read → kept ≡ kept_by read path.now (reading (w.nodes (record_place path.now)))) }
 {
     let place = Place::record_of(alloc, path)?;
-    match work.read(alloc, &place, RECORD_LIMIT)? {
-        Found::Held(bytes) => Ok(kept_in(alloc, path, bytes.as_slice())?),
-        Found::Nothing | Found::TooBig(_) => Ok(Kept::Unreadable),
-    }
+    let found = work.read(alloc, &place, RECORD_LIMIT)?;
+    Ok(kept_found(alloc, path, found)?)
 }
 
 // The record of the path.
