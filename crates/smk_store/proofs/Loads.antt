@@ -1,6 +1,6 @@
 -- What is made of the paths that were found: records, entries, and the store.
-use Rattle.std.proofs.Common.{◌≡◌, ◌⊎◌, inl, inr, ◌≢◌, ℕ, zero, suc, ◌+◌, ◌<◌, ◌≤◌, ◌==◌, ◌^◌, Bool, true, false, ◌&&◌, ◌||◌, not, cond, eqb, List, [], ◌∷◌, ◌++◌, map, length, refl, sym, ap, subst, ◌∙◌, Option, Some, None, arith, bytes_eq, append_assoc}
-use Rattle.std.proofs.lemmas.List.{append-nil}
+use Rattle.std.proofs.Common.{◌≡◌, ◌⊎◌, inl, inr, ◌≢◌, ℕ, zero, suc, ◌+◌, ◌<◌, ◌≤◌, ◌==◌, ◌^◌, Bool, true, false, ◌&&◌, ◌||◌, not, cond, eqb, List, [], ◌∷◌, ◌++◌, map, length, refl, sym, ap, subst, ◌∙◌, Option, Some, None, arith, bytes_eq, append_assoc, length-append}
+use Rattle.std.proofs.lemmas.List.{append-nil, map_push}
 use Rattle.std.specs.Prelude.{IsSome, IsTrue, is_some, String, string_bytes, if◌then◌else◌, option_map, nat_le, ◌↔◌}
 use Rattle.std.specs.Global.{Global}
 use Rattle.std.specs.BTreeSet.{BTreeSet, contains_text}
@@ -346,3 +346,37 @@ store_known image store paths entries whole is e p =
 
 pub are_kept : (paths : List Path) (entries : List Entry) (keys : List (String Global)) → IsStrictlySortedBy string_cmp keys → paths ≡ filter is_path_text (texts_of keys) → length entries ≡ length paths → AreKept paths entries
 are_kept paths entries keys rises is each = record { rising = ap are_rising is ∙ paths_rise keys rises; each = each }
+
+-- ## Worlds with the same nodes
+
+pub entry_still : (read : List ℕ → Option Record) (w v : World) (p : Path) → v.nodes ≡ w.nodes → entry_at (seen read v) p ≡ entry_at (seen read w) p
+entry_still read w v p same =
+    ap (λ (n : Path → NodeState). entry_of_nodes n) same
+  where
+    entry_of_nodes : (Path → NodeState) → Entry
+    entry_of_nodes n =
+        record {
+          kept = if is_path_text p then kept_by read p (reading (n (record_place p))) else Absent;
+          marked = is_path_text p && is_some (reading (n (mark_place p)));
+          noted = is_path_text p && is_some (reading (n (note_place p)));
+        }
+
+pub signs_still : (w v : World) (records marks notes : Path → Bool) → v.nodes ≡ w.nodes → HasSigns w records marks notes → HasSigns v records marks notes
+signs_still w v records marks notes same signs =
+    record {
+      recorded = all_still v w records_folder records_folder records (sym same) refl signs.recorded;
+      marked = all_still v w marks_folder marks_folder marks (sym same) refl signs.marked;
+      noted = all_still v w notes_folder notes_folder notes (sym same) refl signs.noted;
+    }
+
+pub entry_pushed : (image : Image) (paths paths2 : List Path) (path : Path) (entries entries2 : List Entry) (entry : Entry) → paths2 ≡ paths ++ path ∷ [] → entries2 ≡ entries ++ entry ∷ [] → entries ≡ map (entry_at image) paths → entry ≡ entry_at image path
+    → entries2 ≡ map (entry_at image) paths2
+entry_pushed image paths paths2 path entries entries2 entry p e before is =
+    e ∙ ap (λ (l : List Entry). l ++ entry ∷ []) before ∙ ap (λ (x : Entry). map (entry_at image) paths ++ x ∷ []) is ∙ sym (map_push (entry_at image) paths path) ∙ sym (ap (map (entry_at image)) p)
+
+pub lengths_pushed : (paths paths2 : List Path) (path : Path) (entries entries2 : List Entry) (entry : Entry) → paths2 ≡ paths ++ path ∷ [] → entries2 ≡ entries ++ entry ∷ [] → length entries ≡ length paths → length entries2 ≡ length paths2
+lengths_pushed paths paths2 path entries entries2 entry p e same = omega (arith, ap length p, ap length e, length-append paths (path ∷ []), length-append entries (entry ∷ []), same)
+
+pub stored_still : (read : List ℕ → Option Record) (w v : World) (ps : List Path) → v.nodes ≡ w.nodes → known_all (seen read v) ps ≡ known_all (seen read w) ps
+stored_still read w v [] same = refl
+stored_still read w v (p ∷ ps) same = λ i. record { path = p; entry = entry_still read w v p same i } ∷ stored_still read w v ps same i

@@ -3,7 +3,7 @@ use Rattle.std.proofs.lemmas.Str.{lead_after_ascii}
 use Rattle.smk_store.proofs.Looks.{if_ok}
 use Rattle.smk_store.proofs.Walks.{added}
 use Rattle.smk_store.proofs.Finding.{listed}
-use Rattle.smk_store.proofs.Loads.{are_kept}
+use Rattle.smk_store.proofs.Loads.{stored_still}
 use Rattle.smk_store.proofs.names.after_sign.Goals as goal
 
 pub range_from-requires : goal.range_from-requires
