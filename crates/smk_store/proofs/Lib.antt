@@ -4,3 +4,7 @@ pub mod Locking
 pub mod Writing
 pub mod Stored
 pub mod Covering
+pub mod Looks
+pub mod Walks
+pub mod Finding
+pub mod Loads

@@ -4,3 +4,5 @@ pub mod Soundness
 pub mod Safety
 pub mod Steps
 pub mod Stores
+pub mod Loading
+pub mod Walking

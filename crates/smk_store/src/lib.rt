@@ -2,11 +2,14 @@
 #![tactic(auto)]
 
 mod fault;
+mod loading;
+mod names;
 mod places;
 mod steps;
 mod store;
 
 pub use fault::StoreFault;
+pub use loading::load;
 pub use places::JobPlaces;
 pub use steps::{drop_records, lock, mark, put_records, unlock, unmark};
 pub use store::{Entry, Kept, Store};

@@ -1,7 +1,7 @@
 ghost use Rattle.std.specs.Prelude.{◌≡◌, map, option_map};
 ghost use Rattle.std.specs.Cmp.Lexicographic.{slice_cmp};
 ghost use Rattle.std.specs.Ordering.{nat_cmp};
-ghost use Rattle.smk_store.specs.Stores.{entry_of, is_covered_in};
+ghost use Rattle.smk_store.specs.Stores.{AreKept, known, entry_of, is_covered_in};
 
 use smk_base::{List, PathText};
 use smk_record::Record;
@@ -50,6 +50,14 @@ fn order(path: &PathText, bytes: &[u8]) -> Ordering
 }
 
 impl Store {
+    // The store of these paths, which rise, each with its entry.
+    pub(crate) fn of(paths: List<PathText>, entries: List<Entry>) -> Store
+        requires { AreKept paths entries }
+        ensures { result ≡ known paths entries }
+    {
+        Store { paths, entries }
+    }
+
     /// The paths of which something is known, in byte order.
     pub fn paths(&self) -> &List<PathText>
         ensures { result.now ≡ map (λ k. k.path) self.now }

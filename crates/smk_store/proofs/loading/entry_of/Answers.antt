@@ -1,0 +1,11 @@
+use Rattle.std.proofs.Common.{ap, ◌∙◌}
+use Rattle.std.specs.BTreeSet.{contains_text}
+use Rattle.smk_store.proofs.Loads.{entry_is}
+use Rattle.smk_store.proofs.loading.entry_of.Goals as goal
+
+pub returns-clause-told : goal.returns-clause-told
+returns-clause-told g c = λ w at filed signs path read reads.
+    entry_is read w _ _ _ signs c.args.path.now path c.in_ok-kept.kept c.contains.result c.contains-2.result
+    (c.in_ok-kept.ensures.told w at filed signs path read reads)
+    (c.contains.ensures ∙ ap (contains_text c.args.signs.now.marks) c.as_str.ensures.text)
+    (c.contains-2.ensures ∙ ap (contains_text c.args.signs.now.notes) c.as_str-2.ensures.text)

@@ -1,0 +1,58 @@
+-- What a store that was loaded has: just the records, marks and notes that stand.
+use Rattle.std.specs.Prelude.{◌≡◌, ◌≢◌, Bool, true, false, List, All, codes, if◌then◌else◌, Option, Some, None, IsTrue, IsSome}
+use Rattle.smk_base.specs.Path.{is_under}
+use Rattle.smk_world.specs.declared.event.Call.{Call}
+use Rattle.smk_world.specs.declared.event.Call.TheVariants.{Looked, ReadFile, ReadFolder, Written, Created, Removed, MadeParents, Settled, Protected, Started, Waited}
+use Rattle.smk_world.specs.declared.event.Event.{Event}
+use Rattle.smk_world.specs.declared.event.NodeState.TheVariants.{Owned}
+use Rattle.smk_world.specs.World.{World, reading, reads_folder}
+use Rattle.smk_world.specs.Calls.{in_folder}
+use Rattle.smk_world.specs.Trees.{Path}
+use Rattle.smk_store.specs.declared.store.Entry.{Entry}
+use Rattle.smk_store.specs.Images.{Image, is_known, is_covered}
+use Rattle.smk_store.specs.Stores.{Known, entry_of, is_covered_in}
+
+-- what an image has of a path
+abbrev pub entry_at : Image → Path → Entry
+entry_at image p = record { kept = image.kept p; marked = image.marked p; noted = image.noted p }
+
+-- the same, where a record, a mark or a note stands
+abbrev pub entry_in : Image → Path → Option Entry
+entry_in image p = if is_known image p then Some (entry_at image p) else None
+
+-- The store has just the records, marks and notes that stand in the image; so it tells which paths are covered.
+pub record IsStoreOf (image : Image) (store : List Known) : Type 0 where
+  pub entries : (p : Path) → entry_of store p ≡ entry_in image p
+  pub covered : (p : Path) → is_covered_in store p ≡ is_covered image p
+
+-- ## What is loaded from
+
+-- the folder under which records, marks and notes stand
+abbrev pub store_folder : Path
+store_folder = codes ".snakemake/smk"
+
+-- The engine's own files stand as on a disk: each in a folder, and none of them is a running child's.
+pub record IsFiled (w : World) : Type 0 where
+  pub in_folders :
+      (folder name : Path) → IsTrue (is_under folder store_folder) → IsSome (reading (w.nodes (in_folder folder name))) → reads_folder (w.nodes folder) ≡ true
+  pub unowned : (q : Path) → IsTrue (is_under q store_folder) → w.nodes q ≢ Owned
+
+-- ## How it is loaded
+
+-- a call that changes no node
+abbrev pub is_look : Call → Bool
+is_look (Looked p r) = true
+is_look (ReadFile p limit r) = true
+is_look (ReadFolder p r) = true
+is_look (Written p bytes r) = false
+is_look (Created p r) = false
+is_look (Removed p r) = false
+is_look (MadeParents p r) = false
+is_look (Settled ps r) = false
+is_look (Protected p r) = false
+is_look (Started recipe logs command r) = false
+is_look (Waited r) = false
+
+-- the calls change no node
+abbrev pub AreLooks : List Event → Type 0
+AreLooks es = All (λ e. is_look e.call ≡ true) es
