@@ -4,3 +4,4 @@ pub mod Single
 pub mod Firmly
 pub mod Launching
 pub mod Outs
+pub mod Looking

@@ -3,11 +3,13 @@ use Rattle.std.specs.Prelude.{◌≡◌, ℕ, Bool, true, false, List, [], ◌�
 use Rattle.std.specs.List.{find}
 use Rattle.smk_world.specs.declared.recipe.Out.{Out}
 use Rattle.smk_world.specs.declared.recipe.Recipe.{Recipe}
+use Rattle.smk_base.specs.Path.{is_path}
 use Rattle.smk_world.specs.declared.event.Event.{Event}
 use Rattle.smk_world.specs.declared.event.Failed.{Failed}
 use Rattle.smk_world.specs.Calls.{started_numbers}
 use Rattle.smk_world.specs.Requests.{Carries}
-use Rattle.smk_world.specs.Trees.{Path}
+use Rattle.smk_world.specs.World.{owned_paths}
+use Rattle.smk_world.specs.Trees.{Path, Each}
 use Rattle.smk_record.specs.declared.record.Stamp.{Stamp}
 use Rattle.smk_store.specs.Steps.{places_of}
 use Rattle.smk_job.specs.declared.fault.BeginFault.{BeginFault}
@@ -57,6 +59,15 @@ HasReserved recipe logs stamps made (Ok ready) = IsReadyFor recipe logs stamps m
 HasReserved recipe logs stamps made (Err (TooLong n)) = too_long made recipe stamps ≡ Some n
 HasReserved recipe logs stamps made (Err Device) = ⊥
 HasReserved recipe logs stamps made (Err OutOfMemory) = Unit {0}
+
+-- that, and the places of outputs and logs, which are paths
+abbrev pub HasAll : Recipe → List Path → List Stamp → ℕ → Result (Ready × List Path) BeginFault → Type 0
+HasAll recipe logs stamps made (Ok (ready, owned)) =
+    IsReadyFor recipe logs stamps made ready × (too_long made recipe stamps ≡ None)
+    × (owned ≡ owned_paths recipe logs) × Each (λ p. is_path p ≡ true) (owned_paths recipe logs)
+HasAll recipe logs stamps made (Err (TooLong n)) = too_long made recipe stamps ≡ Some n
+HasAll recipe logs stamps made (Err Device) = ⊥
+HasAll recipe logs stamps made (Err OutOfMemory) = Unit {0}
 
 -- the calls up to the start, which answered this number; or those up to one that failed
 abbrev pub HasLaunched : Recipe → List Path → List ℕ → Result ℕ Failed → List Event → Type 0

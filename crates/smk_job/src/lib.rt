@@ -6,6 +6,7 @@ mod fault;
 mod going;
 mod opening;
 mod reserve;
+mod sight;
 mod steps;
 
 pub use closing::{abandon, finish};

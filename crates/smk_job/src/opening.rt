@@ -14,7 +14,7 @@ ghost use Rattle.smk_job.specs.Jobs.{clear_requests, underway, too_long, LetsBeg
 
 use crate::fault::BeginFault;
 use crate::going::Going;
-use crate::reserve::{owned, ready};
+use crate::reserve::reserve;
 use crate::steps::clear;
 use smk_base::{List, PathText, Place};
 use smk_flow::Job;
@@ -88,8 +88,7 @@ pub fn begin<W: Crew>(
     ensures running { IfOk result (λ going. W.running work.new ≡ W.running work.old ++ going.number ∷ []) }
     ensures not_started { OnErr result (W.running work.new ≡ W.running work.old) }
 {
-    let ready = ready(alloc, job, stamps, made)?;
-    let owned = owned(alloc, ready.outs.as_slice(), job.logs.as_slice())?;
+    let (ready, owned) = reserve(alloc, job, stamps, made)?;
     match launch(
         work,
         &ready.places,

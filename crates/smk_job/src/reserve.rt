@@ -7,7 +7,7 @@ ghost use Rattle.smk_world.specs.World.{out_paths};
 ghost use Rattle.smk_world.specs.Trees.{Each, outs_of};
 ghost use Rattle.smk_record.specs.Records.{is_valid, record_of};
 ghost use Rattle.smk_job.specs.Jobs.{bare_bytes};
-ghost use Rattle.smk_job.specs.Reserves.{IsReserved, AreReserved, HasReserved, IsAssembled};
+ghost use Rattle.smk_job.specs.Reserves.{IsReserved, AreReserved, HasReserved, HasAll, IsAssembled};
 
 use crate::fault::BeginFault;
 use crate::going::Ready;
@@ -78,8 +78,8 @@ fn push_places(alloc: Global, places: &mut List<Place>, outs: &[Out]) -> Result<
     Ok(())
 }
 
-/// The places of the outputs and logs.
-pub(crate) fn owned(
+// The places of the outputs and logs.
+fn owned(
     alloc: Global,
     outs: &[Out],
     logs: &[PathText],
@@ -183,8 +183,8 @@ fn assemble(
     })
 }
 
-/// All that the job needs.
-pub(crate) fn ready(
+// All that it takes to close the job.
+fn ready(
     alloc: Global,
     job: &Job,
     stamps: &List<Stamp>,
@@ -196,4 +196,20 @@ pub(crate) fn ready(
     let (outs, paths) = outputs(alloc, &job.recipe)?;
     let records = bare_all(alloc, paths.as_slice(), made, &job.recipe, stamps)?;
     Ok(assemble(alloc, job, stamps, made, outs, &paths, records)?)
+}
+
+/// All that the job needs, and the places of its outputs and logs.
+
+pub(crate) fn reserve(
+    alloc: Global,
+    job: &Job,
+    stamps: &List<Stamp>,
+    made: u64,
+) -> Result<(Ready, List<Place>), BeginFault>
+    requires valid { Each (λ p. is_valid (record_of p made job.now.recipe stamps.now []) ≡ true) (out_paths job.now.recipe) }
+    ensures { HasAll job.now.recipe job.now.logs stamps.now made result }
+{
+    let ready = ready(alloc, job, stamps, made)?;
+    let owned = owned(alloc, ready.outs.as_slice(), job.logs.as_slice())?;
+    Ok((ready, owned))
 }
