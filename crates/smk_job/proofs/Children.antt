@@ -1,0 +1,109 @@
+-- Calls that neither start a child nor wait for one leave the children as they are.
+use Rattle.std.proofs.Common.{◌≡◌, Bool, true, false, List, [], ◌∷◌, ◌++◌, refl, sym, ap, subst, ◌∙◌, Option, Some, All}
+use Rattle.smk_base.specs.declared.tree.Tree.{Tree}
+use Rattle.smk_world.specs.declared.event.Call.{Call}
+use Rattle.smk_world.specs.declared.event.Call.TheVariants.{Looked, ReadFile, ReadFolder, Written, Created, Removed, MadeParents, Settled, Protected, Started, Waited}
+use Rattle.smk_world.specs.declared.event.Child.{Child}
+use Rattle.smk_world.specs.declared.event.Event.{Event}
+use Rattle.smk_world.specs.declared.recipe.Recipe.{Recipe}
+use Rattle.smk_world.specs.World.{World, after, run, children_after}
+use Rattle.smk_world.specs.Calls.{Acted, any_overlap, used_now}
+use Rattle.smk_world.specs.Runs.{Did}
+use Rattle.smk_world.specs.Requests.{Request, request, HasDone, Carries}
+use Rattle.smk_world.specs.Requests.Request.{Start, Wait, Settle}
+use Rattle.smk_world.specs.Trees.{Path, Each}
+use Rattle.smk_store.specs.declared.places.JobPlaces.{JobPlaces}
+use Rattle.smk_store.specs.Steps.{AreUnused, SameChildren, make_each, remove_each, write_each, mark_requests, put_requests, drop_requests}
+use Rattle.smk_job.specs.Jobs.{parents_each, clear_requests, put_all_requests, drop_all_requests}
+
+true_false : true ≡ false → ⊥
+true_false e = cc
+
+abbrev pub is_crew : Request → Bool
+is_crew (Start recipe logs command) = true
+is_crew Wait = true
+is_crew r = false
+
+abbrev pub AreFiles : List Request → Type 0
+AreFiles rs = Each (λ (r : Request). is_crew r ≡ false) rs
+
+pub children_by : (call : Call) (cs : List Child) → is_crew (request call) ≡ false → children_after call cs ≡ cs
+children_by (Looked p r) cs h = refl
+children_by (ReadFile p limit r) cs h = refl
+children_by (ReadFolder p r) cs h = refl
+children_by (Written p bytes r) cs h = refl
+children_by (Created p r) cs h = refl
+children_by (Removed p r) cs h = refl
+children_by (MadeParents p r) cs h = refl
+children_by (Settled ps r) cs h = refl
+children_by (Protected p r) cs h = refl
+children_by (Started recipe logs command r) cs h = absurd (true_false h)
+children_by (Waited r) cs h = absurd (true_false h)
+
+pub done_children : (rs : List Request) (w : World) (es : List Event) → AreFiles rs → HasDone rs es → (run w es).children ≡ w.children
+done_children [] w [] k h = refl
+done_children [] w (e ∷ es) k h = absurd h
+done_children (r ∷ rs) w [] k h = absurd h
+done_children (r ∷ rs) w (e ∷ es) k h = done_children rs (after w e) es k.1 h.2 ∙ children_by e.call w.children (ap is_crew h.0 ∙ k.0)
+
+pub same_children : (a : Option World) → SameChildren a a
+same_children a = λ w e. (w, e, refl)
+
+pub same_after : (act : Recipe → List Tree → Acted) (rs : List Request) (a b : Option World) → AreFiles rs → Did act a b (λ w es. HasDone rs es) → SameChildren a b
+same_after act rs a b k did = λ w1 e. let d = did w1 e in (d.0, d.1, ap (λ (w : World). w.children) d.2.3 ∙ done_children rs d.0 d.2.0 k d.2.2)
+
+pub same_both : (a b c : Option World) → SameChildren a b → SameChildren b c → SameChildren a c
+same_both a b c first next = λ w2 e. let d = next w2 e in let f = first d.0 d.1 in (f.0, f.1, d.2 ∙ f.2)
+
+pub unused_after : (a b : Option World) (ps : List Path) → SameChildren a b → AreUnused a ps → AreUnused b ps
+unused_after a b ps same unused = λ w1 e.
+    let d = same w1 e in subst (λ cs. All (λ p. any_overlap (p ∷ []) (used_now cs) ≡ false) ps) (sym d.2) (unused d.0 d.1)
+
+-- the calls of an equal list of places
+pub done_as : (act : Recipe → List Tree → Acted) (f : List Path → List Request) (ps qs : List Path) (a b : Option World)
+    → ps ≡ qs → Did act a b (λ w es. HasDone (f ps) es) → Did act a b (λ w es. HasDone (f qs) es)
+done_as act f ps qs a b e h = subst (λ t. Did act a b (λ w es. HasDone (f t) es)) e h
+
+pub carried_as : (act : Recipe → List Tree → Acted) (f : List Path → List Request) (ps qs : List Path) (ok : Bool) (a b : Option World)
+    → ps ≡ qs → Did act a b (λ w es. Carries (f ps) ok es) → Did act a b (λ w es. Carries (f qs) ok es)
+carried_as act f ps qs ok a b e h = subst (λ t. Did act a b (λ w es. Carries (f t) ok es)) e h
+
+pub unused_as : (a : Option World) (ps qs : List Path) → ps ≡ qs → AreUnused a qs → AreUnused a ps
+unused_as a ps qs e h = subst (λ t. AreUnused a t) (sym e) h
+
+-- ## The steps are such calls
+
+pub files_append : (rs qs : List Request) → AreFiles rs → AreFiles qs → AreFiles (rs ++ qs)
+files_append [] qs h k = k
+files_append (r ∷ rs) qs h k = (h.0, files_append rs qs h.1 k)
+
+pub remove_files : (ps : List Path) → AreFiles (remove_each ps)
+remove_files [] = tt
+remove_files (p ∷ ps) = (refl, remove_files ps)
+
+pub parents_files : (ps : List Path) → AreFiles (parents_each ps)
+parents_files [] = tt
+parents_files (p ∷ ps) = (refl, parents_files ps)
+
+pub make_files : (ps : List Path) → AreFiles (make_each ps)
+make_files [] = tt
+make_files (p ∷ ps) = (refl, (refl, make_files ps))
+
+pub write_files : (ps : List Path) (bs : List Path) → AreFiles (write_each ps bs)
+write_files [] bs = tt
+write_files (p ∷ ps) [] = tt
+write_files (p ∷ ps) (b ∷ bs) = (refl, (refl, write_files ps bs))
+
+pub mark_files : (places : JobPlaces) → AreFiles (mark_requests places)
+mark_files places = files_append (make_each places.marking) (Settle places.marking ∷ []) (make_files places.marking) (refl, tt)
+
+pub clear_files : (outputs owned : List Path) → AreFiles (clear_requests outputs owned)
+clear_files outputs owned = files_append (remove_each outputs) (parents_each owned) (remove_files outputs) (parents_files owned)
+
+pub put_files : (places : JobPlaces) (bytes : List Path) → AreFiles (put_all_requests places bytes)
+put_files places bytes = (refl, files_append (write_each places.records bytes) (Settle places.records ∷ []) (write_files places.records bytes) (refl, tt))
+
+pub drop_files : (places : JobPlaces) → AreFiles (drop_all_requests places)
+drop_files places =
+    files_append (remove_each places.outputs) (drop_requests places) (remove_files places.outputs)
+    (files_append (remove_each places.records) (Settle places.dropping ∷ []) (remove_files places.records) (refl, tt))

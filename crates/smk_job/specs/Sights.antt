@@ -1,0 +1,200 @@
+-- What stands at a job's outputs as it is finished, and what that makes of it.
+use Rattle.std.specs.Prelude.{◌≡◌, ◌⊎◌, ℕ, Bool, true, false, List, [], ◌∷◌, ◌++◌, map, Option, Some, None, Result, Ok, Err}
+use lib.ListN.{get_or}
+use Rattle.smk_base.specs.Path.{is_at_or_under}
+use Rattle.smk_world.specs.declared.event.Event.{Event}
+use Rattle.smk_world.specs.declared.event.Failed.{Failed}
+use Rattle.smk_world.specs.declared.event.Node.TheVariants.{Regular, Directory as DirectoryNode}
+use Rattle.smk_world.specs.declared.event.NodeState.{NodeState}
+use Rattle.smk_world.specs.declared.event.NodeState.TheVariants.{Owned, Known}
+use Rattle.smk_world.specs.declared.event.Stat.{Stat}
+use Rattle.smk_world.specs.declared.event.Stat.TheVariants.{Nothing, File, Folder as FolderStat}
+use Rattle.smk_world.specs.declared.recipe.Kind.{Kind}
+use Rattle.smk_world.specs.declared.recipe.Kind.TheVariants.{Plain, Folder}
+use Rattle.smk_world.specs.declared.recipe.Out.{Out}
+use Rattle.smk_world.specs.World.{World, run, reads_folder, reads_nothing}
+use Rattle.smk_world.specs.Calls.{Stands, in_folder, is_name, failed}
+use Rattle.smk_world.specs.Requests.{Request, request, AreQuiet, HasDone, IsCutShort}
+use Rattle.smk_world.specs.Requests.Request.{Look, ListFolder}
+use Rattle.smk_world.specs.Trees.{Path, Each, IsIn, outs_of, is_folder_kind}
+use Rattle.smk_record.specs.declared.record.Member.{Member}
+use Rattle.smk_record.specs.Records.{are_valid_members}
+use Rattle.smk_job.specs.declared.fault.CloseFault.{CloseFault}
+use Rattle.smk_job.specs.declared.fault.CloseFault.TheVariants.{NoOutput, WrongKind, BadMember, Device, OutOfMemory}
+use Rattle.smk_job.specs.declared.sight.Wrong.{Wrong}
+use Rattle.smk_job.specs.declared.sight.Wrong.TheVariants.{Absent, OtherKind}
+use Rattle.smk_job.specs.Jobs.{Underway, finish_requests, abandon_requests}
+
+-- ## What stands at an output
+
+-- a file
+abbrev pub reads_file : NodeState → Bool
+reads_file Owned = false
+reads_file (Known None besides) = false
+reads_file (Known (Some DirectoryNode) besides) = false
+reads_file (Known (Some (Regular bytes time read_only)) besides) = true
+
+-- what stands at each place
+abbrev pub Nodes : Type 0
+Nodes = Path → NodeState
+
+-- what is directly in the folder at p, and in the folders that are so found
+pub data IsFound (nodes : Nodes) (p : Path) : Path → Type 0 where
+  Inside : (name : List ℕ) → is_name name ≡ true → Stands (nodes (in_folder p name)) → IsFound nodes p (in_folder p name)
+  Deeper :
+      (folder : Path) (name : List ℕ) →
+      IsFound nodes p folder →
+      reads_folder (nodes folder) ≡ true →
+      is_name name ≡ true → Stands (nodes (in_folder folder name)) → IsFound nodes p (in_folder folder name)
+
+abbrev pub member_places : Path → List Member → List Path
+member_places p members = map (λ (m : Member). in_folder p m.name) members
+
+-- the member is in the folder at p, and is a folder where it says so
+abbrev pub IsThere : Nodes → Path → Member → Type 0
+IsThere nodes p m = IsFound nodes p (in_folder p m.name) × (reads_folder (nodes (in_folder p m.name)) ≡ m.folder)
+
+-- These are all that is under the folder at p, and a record may have them.
+pub record AreMembers (nodes : Nodes) (p : Path) (members : List Member) : Type 0 where
+  pub valid : are_valid_members p members ≡ true
+  pub there : Each (IsThere nodes p) members
+  pub all : (q : Path) → IsFound nodes p q → IsIn (member_places p members) q
+
+-- what stands there is of this kind; of a directory these are the members
+abbrev pub IsOfKind : Nodes → Path → Kind → List Member → Type 0
+IsOfKind nodes p Plain members = (reads_file (nodes p) ≡ true) × (members ≡ [])
+IsOfKind nodes p Folder members = (reads_folder (nodes p) ≡ true) × AreMembers nodes p members
+
+-- what is wrong with what stands there
+abbrev pub IsWrong : Nodes → Path → Kind → CloseFault → Type 0
+IsWrong nodes p kind (NoOutput q) = (q ≡ p) × (reads_nothing (nodes p) ≡ true)
+IsWrong nodes p Plain (WrongKind q) = (q ≡ p) × (reads_folder (nodes p) ≡ true)
+IsWrong nodes p Folder (WrongKind q) = (q ≡ p) × (reads_file (nodes p) ≡ true)
+IsWrong nodes p Plain (BadMember q) = ⊥
+IsWrong nodes p Folder (BadMember q) = (q ≡ p) × (reads_folder (nodes p) ≡ true) × ((members : List Member) → AreMembers nodes p members → ⊥)
+IsWrong nodes p kind Device = ⊥
+IsWrong nodes p kind OutOfMemory = ⊥
+
+-- no child owns what stands at the outputs
+abbrev pub AreKnown : Nodes → List Out → Type 0
+AreKnown nodes outs = Each (λ (out : Out). (q : Path) → is_at_or_under q out.path ≡ true → nodes q ≡ Owned → ⊥) outs
+
+-- ## Looks
+
+-- a folder at or under a directory output is listed
+abbrev pub IsListing : Out → Request → Type 0
+IsListing out (ListFolder q) = (is_folder_kind out.kind ≡ true) × (is_at_or_under q out.path ≡ true)
+IsListing out r = ⊥
+
+-- the output is looked at, and after that folders are listed
+abbrev pub AreLooks : Out → List Event → Type 0
+AreLooks out [] = ⊥
+AreLooks out (e ∷ es) = (request e.call ≡ Look out.path) × Each (λ (d : Event). IsListing out (request d.call)) es
+
+-- the last call failed, and no other
+abbrev pub EndsFailed : List Event → Type 0
+EndsFailed es = (before : List Event) × (last : Event) × (es ≡ before ++ last ∷ []) × AreQuiet before × (failed last.call ≡ true)
+
+-- Each output was looked at, in order, and has these members.
+abbrev pub AreSeen : Nodes → List Out → List (List Member) → List Event → Type 0
+AreSeen nodes [] [] es = es ≡ []
+AreSeen nodes [] (m ∷ members) es = ⊥
+AreSeen nodes (out ∷ outs) [] es = ⊥
+AreSeen nodes (out ∷ outs) (m ∷ members) es =
+    (first : List Event) × (more : List Event) × (es ≡ first ++ more) × AreLooks out first × AreQuiet first × IsOfKind nodes out.path out.kind m × AreSeen nodes outs members more
+
+-- The outputs were looked at in order up to the first with which something is wrong.
+abbrev pub IsSeenWrong : Nodes → List Out → CloseFault → List Event → Type 0
+IsSeenWrong nodes [] fault es = ⊥
+IsSeenWrong nodes (out ∷ outs) fault es =
+    (first : List Event) × (more : List Event) × (es ≡ first ++ more) × AreLooks out first × AreQuiet first
+    × (((more ≡ []) × IsWrong nodes out.path out.kind fault) ⊎ ((m : List Member) × IsOfKind nodes out.path out.kind m × IsSeenWrong nodes outs fault more))
+
+-- The outputs were looked at in order up to a look that failed.
+abbrev pub IsBlind : List Out → List Event → Type 0
+IsBlind [] es = ⊥
+IsBlind (out ∷ outs) es =
+    (first : List Event) × (more : List Event) × (es ≡ first ++ more) × AreLooks out first
+    × (((more ≡ []) × EndsFailed first) ⊎ (AreQuiet first × IsBlind outs more))
+
+-- The first outputs, in order, were looked at.
+abbrev pub AreLookedAt : List Out → List Event → Type 0
+AreLookedAt [] es = es ≡ []
+AreLookedAt (out ∷ outs) es =
+    (es ≡ []) ⊎ ((first : List Event) × (more : List Event) × (es ≡ first ++ more) × AreLooks out first × AreQuiet first × AreLookedAt outs more)
+
+-- ## What `finish` does
+
+abbrev pub failed_last : Result (Unit {0}) CloseFault → Bool
+failed_last (Ok u) = false
+failed_last (Err (NoOutput p)) = false
+failed_last (Err (WrongKind p)) = false
+failed_last (Err (BadMember p)) = false
+failed_last (Err Device) = true
+failed_last (Err OutOfMemory) = false
+
+-- the outputs were looked at, and then this was done
+pub record HasSeen (P Q : List Event → Type 0) (es : List Event) : Type 0 where
+  pub looks : List Event
+  pub rest : List Event
+  pub events : es ≡ looks ++ rest
+  pub seen : P looks
+  pub done : Q rest
+
+-- all was well and all calls were made
+abbrev pub IsDone : Underway → World → List Event → Type 0
+IsDone j w es = (members : List (List Member)) × HasSeen (AreSeen w.nodes (outs_of j.recipe) members) (HasDone (finish_requests j members)) es
+
+-- something was wrong, and the job was abandoned
+abbrev pub IsAbandoned : Underway → CloseFault → World → List Event → Type 0
+IsAbandoned j fault w es = HasSeen (IsSeenWrong w.nodes (outs_of j.recipe) fault) (HasDone (abandon_requests j)) es
+
+-- a look failed, or a call after the looks
+abbrev pub IsUnclosed : Underway → World → List Event → Type 0
+IsUnclosed j w es =
+    IsBlind (outs_of j.recipe) es
+    ⊎ (((members : List (List Member)) × HasSeen (AreSeen w.nodes (outs_of j.recipe) members) (IsCutShort (finish_requests j members)) es)
+    ⊎ ((fault : CloseFault) × HasSeen (IsSeenWrong w.nodes (outs_of j.recipe) fault) (IsCutShort (abandon_requests j)) es))
+
+abbrev pub HasFinished : Underway → Result (Unit {0}) CloseFault → World → List Event → Type 0
+HasFinished j (Ok u) w es = IsDone j w es
+HasFinished j (Err (NoOutput p)) w es = IsAbandoned j (NoOutput p) w es
+HasFinished j (Err (WrongKind p)) w es = IsAbandoned j (WrongKind p) w es
+HasFinished j (Err (BadMember p)) w es = IsAbandoned j (BadMember p) w es
+HasFinished j (Err Device) w es = IsUnclosed j w es
+HasFinished j (Err OutOfMemory) w es = AreLookedAt (outs_of j.recipe) es
+
+-- ## Jobs whose outputs are files
+
+abbrev pub is_folder_out : Out → Bool
+is_folder_out out = is_folder_kind out.kind
+
+-- no members for any of these
+abbrev pub nones : List Out → List (List Member)
+nones outs = map (λ (out : Out). []) outs
+
+-- what is wrong with an output of this kind that is seen so
+abbrev pub wrong_of : Kind → Stat → Option Wrong
+wrong_of kind Nothing = Some Absent
+wrong_of Plain (File time read_only) = None
+wrong_of Folder (File time read_only) = Some OtherKind
+wrong_of Plain FolderStat = Some OtherKind
+wrong_of Folder FolderStat = None
+
+-- the fault of an output
+abbrev pub wrong_fault : Wrong → Path → CloseFault
+wrong_fault Absent p = NoOutput p
+wrong_fault OtherKind p = WrongKind p
+
+abbrev pub path_at : List Out → ℕ → Path
+path_at outs i = get_or (map (λ (out : Out). out.path) outs) i []
+
+-- the looks changed nothing, and the first outputs are files
+abbrev pub AreFilesSoFar : List Out → List Out → World → List Event → Type 0
+AreFilesSoFar outs seen w es = ((run w es).nodes ≡ w.nodes) × (AreKnown w.nodes outs → AreSeen w.nodes seen (nones seen) es)
+
+-- what looks at files found: all is well, or something is wrong with the output of this number, from 0; or a look failed
+abbrev pub HasLookedOver : List Out → Result (Option (ℕ × Wrong)) Failed → Nodes → List Event → Type 0
+HasLookedOver outs (Ok None) nodes es = AreSeen nodes outs (nones outs) es
+HasLookedOver outs (Ok (Some (i, wrong))) nodes es = IsSeenWrong nodes outs (wrong_fault wrong (path_at outs i)) es
+HasLookedOver outs (Err e) nodes es = IsBlind outs es
