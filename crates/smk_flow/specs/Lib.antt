@@ -1,4 +1,5 @@
 pub mod Flows
+pub mod Jobs
 pub mod Checks
 pub mod Named
 pub mod Lent
