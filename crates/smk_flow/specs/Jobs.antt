@@ -1,7 +1,8 @@
 -- The recipe and the job of a rule and a binding, once its items of inputs are given.
-use Rattle.std.specs.Prelude.{Bool, List, [], map, filter, Option, Some, None, if◌then◌else◌}
-use Rattle.std.specs.List.{list_any}
+use Rattle.std.specs.Prelude.{Bool, not, List, [], ◌++◌, map, filter, Option, Some, None, if◌then◌else◌}
+use Rattle.std.specs.List.{list_any, find}
 use Rattle.smk_base.specs.declared.tree.Pair.{Pair}
+use Rattle.smk_base.specs.Path.{is_path}
 use Rattle.smk_world.specs.declared.recipe.Values.{Values}
 use Rattle.smk_world.specs.declared.recipe.Item.{Item}
 use Rattle.smk_world.specs.declared.recipe.OutItem.{OutItem}
@@ -16,7 +17,7 @@ use Rattle.smk_flow.specs.declared.rule.OutPart.{OutPart}
 use Rattle.smk_flow.specs.declared.rule.FlaggedText.{FlaggedText}
 use Rattle.smk_flow.specs.declared.rule.GatherPart.{GatherPart}
 use Rattle.smk_flow.specs.declared.job.Job.{Job}
-use Rattle.smk_flow.specs.Flows.{Flow, Candidate, outs, makes_folder, is_temp, is_protected, logs, gathers}
+use Rattle.smk_flow.specs.Flows.{Flow, Candidate, outs, makes_folder, is_temp, is_protected, outputs, logs, gathers, first_wants}
 
 abbrev pub kind_of : FlaggedText → Kind
 kind_of out = if makes_folder out then Folder else Plain
@@ -65,6 +66,16 @@ job_with flow c items =
       temps = flagged c (λ o. list_any is_temp o.flags);
       guards = flagged c (λ o. list_any is_protected o.flags);
     }
+
+-- ## Paths
+
+-- what must be paths, in the order in which it is looked at: outputs, logs, inputs that are written out, gathered directories
+abbrev pub path_texts : Flow → Candidate → List Text
+path_texts flow c = outputs flow c ++ (logs flow c ++ first_wants flow c)
+
+-- the first of these texts that isn't a path
+abbrev pub first_other : List Text → Option Text
+first_other texts = find (λ t. not (is_path t)) texts
 
 -- ## Before it is known what is gathered
 
