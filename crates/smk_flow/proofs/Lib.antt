@@ -9,3 +9,5 @@ pub mod RulesPass
 pub mod Ruled
 pub mod NoFault
 pub mod Numbered
+pub mod FieldTexts
+pub mod FilledTexts

@@ -1,6 +1,6 @@
 -- The recipe and the job of a rule and a binding, once its items of inputs are given.
-use Rattle.std.specs.Prelude.{Bool, not, List, [], ◌++◌, map, filter, Option, Some, None, if◌then◌else◌}
-use Rattle.std.specs.List.{list_any, find}
+use Rattle.std.specs.Prelude.{Bool, List, [], ◌∷◌, ◌++◌, map, filter, Option, Some, None, if◌then◌else◌}
+use Rattle.std.specs.List.{list_any}
 use Rattle.smk_base.specs.declared.tree.Pair.{Pair}
 use Rattle.smk_base.specs.Path.{is_path}
 use Rattle.smk_world.specs.declared.recipe.Values.{Values}
@@ -16,6 +16,7 @@ use Rattle.smk_flow.specs.declared.rule.InPart.{InPart}
 use Rattle.smk_flow.specs.declared.rule.OutPart.{OutPart}
 use Rattle.smk_flow.specs.declared.rule.FlaggedText.{FlaggedText}
 use Rattle.smk_flow.specs.declared.rule.GatherPart.{GatherPart}
+use Rattle.smk_flow.specs.declared.fault.JobFault.{JobFault}
 use Rattle.smk_flow.specs.declared.job.Job.{Job}
 use Rattle.smk_flow.specs.Flows.{Flow, Candidate, outs, makes_folder, is_temp, is_protected, outputs, logs, gathers, first_wants}
 
@@ -73,9 +74,10 @@ job_with flow c items =
 abbrev pub path_texts : Flow → Candidate → List Text
 path_texts flow c = outputs flow c ++ (logs flow c ++ first_wants flow c)
 
--- the first of these texts that isn't a path
-abbrev pub first_other : List Text → Option Text
-first_other texts = find (λ t. not (is_path t)) texts
+-- the fault of texts of which the first that isn't a path is told
+abbrev pub path_fault : List Text → Option JobFault
+path_fault [] = None
+path_fault (t ∷ ts) = if is_path t then path_fault ts else Some (JobFault.NotPath t)
 
 -- ## Before it is known what is gathered
 

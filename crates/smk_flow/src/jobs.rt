@@ -1,9 +1,9 @@
 //! The job of a rule and a binding.
 
-ghost use Rattle.std.specs.Prelude.{◌≡◌, ◌≢◌, ◌<◌, length, slice_get, Some, None, option_map, IfOk, IfErr, OnOk};
+ghost use Rattle.std.specs.Prelude.{◌≡◌, ◌≢◌, ◌<◌, length, slice_get, Some, None, IfOk, IfErr, OnOk};
 ghost use Rattle.smk_flow.specs.declared.rule.RulePart.{RulePart};
 ghost use Rattle.smk_flow.specs.declared.fault.JobFault.{JobFault};
-ghost use Rattle.smk_flow.specs.Jobs.{declared_job, path_texts, first_other};
+ghost use Rattle.smk_flow.specs.Jobs.{declared_job, path_texts, path_fault};
 
 use crate::fault::JobFault;
 use crate::job::Job;
@@ -26,9 +26,9 @@ pub fn job(
     ensures job { (part : RulePart) → slice_get flow.now.rules rule ≡ Some part
         → IfOk result (λ job. job ≡ declared_job flow.now (record { rule = rule; part = part; binding = binding.now })) }
     ensures paths { (part : RulePart) → slice_get flow.now.rules rule ≡ Some part
-        → OnOk result (first_other (path_texts flow.now (record { rule = rule; part = part; binding = binding.now })) ≡ None) }
+        → OnOk result (path_fault (path_texts flow.now (record { rule = rule; part = part; binding = binding.now })) ≡ None) }
     ensures not_path { (part : RulePart) → slice_get flow.now.rules rule ≡ Some part → IfErr result (λ f. f ≢ JobFault.OutOfMemory
-        → option_map JobFault.NotPath (first_other (path_texts flow.now (record { rule = rule; part = part; binding = binding.now }))) ≡ Some f) }
+        → path_fault (path_texts flow.now (record { rule = rule; part = part; binding = binding.now })) ≡ Some f) }
 {
     Err(JobFault::OutOfMemory)
 }

@@ -4,6 +4,8 @@
 mod checks;
 mod fault;
 mod faults;
+mod fields;
+mod filling;
 mod flags;
 mod job;
 pub mod jobs;
