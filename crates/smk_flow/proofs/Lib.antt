@@ -9,5 +9,6 @@ pub mod RulesPass
 pub mod Ruled
 pub mod NoFault
 pub mod Numbered
+pub mod PairsPut
 pub mod FieldTexts
 pub mod FilledTexts

@@ -5,9 +5,10 @@ use Rattle.smk_base.specs.declared.tree.Pair.{Pair}
 use Rattle.smk_base.specs.Path.{is_path}
 use Rattle.smk_world.specs.declared.recipe.Values.{Values}
 use Rattle.smk_world.specs.declared.recipe.Item.{Item}
+use Rattle.smk_world.specs.declared.recipe.Out.{Out}
 use Rattle.smk_world.specs.declared.recipe.OutItem.{OutItem}
 use Rattle.smk_world.specs.declared.recipe.Kind.{Kind}
-use Rattle.smk_world.specs.declared.recipe.Kind.TheVariants.{Plain, Folder}
+use Rattle.smk_world.specs.declared.recipe.Kind.TheVariants as kind
 use Rattle.smk_world.specs.declared.recipe.Recipe.{Recipe}
 use Rattle.smk_world.specs.Trees.{Path}
 use Rattle.smk_pattern.specs.Shapes.{Text}
@@ -15,42 +16,49 @@ use Rattle.smk_pattern.specs.Reading.{fill, fill_words, or_empty, by_name}
 use Rattle.smk_flow.specs.declared.rule.InPart.{InPart}
 use Rattle.smk_flow.specs.declared.rule.OutPart.{OutPart}
 use Rattle.smk_flow.specs.declared.rule.FlaggedText.{FlaggedText}
+use Rattle.smk_flow.specs.declared.rule.Flag.{Flag}
+use Rattle.smk_flow.specs.declared.rule.Flag.TheVariants.{Temp, Protected, Folder}
 use Rattle.smk_flow.specs.declared.rule.GatherPart.{GatherPart}
 use Rattle.smk_flow.specs.declared.fault.JobFault.{JobFault}
 use Rattle.smk_flow.specs.declared.job.Job.{Job}
 use Rattle.smk_flow.specs.Flows.{Flow, Candidate, outs, makes_folder, is_temp, is_protected, outputs, logs, gathers, first_wants}
 
+-- ## Parts of a rule, filled by a binding
+
 abbrev pub kind_of : FlaggedText → Kind
-kind_of out = if makes_folder out then Folder else Plain
+kind_of out = if makes_folder out then kind.Folder else kind.Plain
 
--- its parameters, outputs and words, filled
-abbrev pub filled_params : Candidate → List Values
-filled_params c = map (λ (v : Values). record { name = v.name; values = map (fill_words c.binding) v.values }) c.part.params
+abbrev pub filled_out : List Pair → FlaggedText → Out
+filled_out binding out = record { path = fill binding out.text; kind = kind_of out }
 
-abbrev pub filled_outputs : Candidate → List OutItem
-filled_outputs c =
-    map
-    (λ (o : OutPart). record {
-      name = o.name;
-      outs = map (λ (f : FlaggedText). record { path = fill c.binding f.text; kind = kind_of f }) o.outs;
-    })
-    c.part.outputs
+abbrev pub filled_outs : List Pair → OutPart → OutItem
+filled_outs binding item = record { name = item.name; outs = map (filled_out binding) item.outs }
 
-abbrev pub filled_words : Candidate → List Pair
-filled_words c = map (λ (w : Pair). record { name = w.name; value = fill_words c.binding w.value }) c.part.words
+abbrev pub filled_param : List Pair → Values → Values
+filled_param binding param = record { name = param.name; values = map (fill_words binding) param.values }
 
--- the outputs with a flag
-abbrev pub flagged : Candidate → (FlaggedText → Bool) → List Path
-flagged c test = map (λ (o : FlaggedText). fill c.binding o.text) (filter test (outs c.part))
+abbrev pub filled_word : List Pair → Pair → Pair
+filled_word binding word = record { name = word.name; value = fill_words binding word.value }
+
+abbrev pub is_flagged : Flag → FlaggedText → Bool
+is_flagged Temp out = list_any is_temp out.flags
+is_flagged Protected out = list_any is_protected out.flags
+is_flagged Folder out = makes_folder out
+
+-- those of these outputs that have the flag
+abbrev pub flagged : List Pair → Flag → List FlaggedText → List Path
+flagged binding flag outs = map (λ (o : FlaggedText). fill binding o.text) (filter (is_flagged flag) outs)
+
+-- ## The job
 
 abbrev pub recipe_with : Candidate → List Item → Recipe
 recipe_with c items =
     record {
       template = or_empty c.part.command;
       wildcards = by_name c.binding;
-      params = filled_params c;
+      params = map (filled_param c.binding) c.part.params;
       inputs = items;
-      outputs = filled_outputs c;
+      outputs = map (filled_outs c.binding) c.part.outputs;
     }
 
 abbrev pub job_with : Flow → Candidate → List Item → Job
@@ -62,11 +70,25 @@ job_with flow c items =
       logs = logs flow c;
       threads = c.part.threads;
       amounts = c.part.amounts;
-      words = filled_words c;
+      words = map (filled_word c.binding) c.part.words;
       priority = c.part.priority;
-      temps = flagged c (λ o. list_any is_temp o.flags);
-      guards = flagged c (λ o. list_any is_protected o.flags);
+      temps = flagged c.binding Temp (outs c.part);
+      guards = flagged c.binding Protected (outs c.part);
     }
+
+-- ## Before it is known what is gathered
+
+abbrev pub unless_gathered : List Path → Option GatherPart → List Path
+unless_gathered paths None = paths
+unless_gathered paths (Some g) = []
+
+-- an item with the texts that are written out, filled; empty where it gathers
+abbrev pub declared_item : List Pair → InPart → Item
+declared_item binding item = record { name = item.name; paths = unless_gathered (map (fill binding) item.texts) item.gather }
+
+-- the job with the inputs that are written out in the rule
+abbrev pub declared_job : Flow → Candidate → Job
+declared_job flow c = job_with flow c (map (declared_item c.binding) c.part.inputs)
 
 -- ## Paths
 
@@ -78,17 +100,3 @@ path_texts flow c = outputs flow c ++ (logs flow c ++ first_wants flow c)
 abbrev pub path_fault : List Text → Option JobFault
 path_fault [] = None
 path_fault (t ∷ ts) = if is_path t then path_fault ts else Some (JobFault.NotPath t)
-
--- ## Before it is known what is gathered
-
--- the texts that are written out, filled; nothing for an item that gathers
-abbrev pub declared_paths : List Pair → List Text → Option GatherPart → List Text
-declared_paths binding texts None = map (fill binding) texts
-declared_paths binding texts (Some g) = []
-
-abbrev pub declared_items : Candidate → List Item
-declared_items c = map (λ (i : InPart). record { name = i.name; paths = declared_paths c.binding i.texts i.gather }) c.part.inputs
-
--- the job with the inputs that are written out in the rule
-abbrev pub declared_job : Flow → Candidate → Job
-declared_job flow c = job_with flow c (declared_items c)
