@@ -8,17 +8,18 @@ use Rattle.smk_pattern.specs.Reading.{fill}
 use Rattle.smk_flow.specs.declared.rule.RulePart.{RulePart}
 use Rattle.smk_flow.specs.declared.rule.InPart.{InPart}
 use Rattle.smk_flow.specs.declared.rule.FlaggedText.{FlaggedText}
-use Rattle.smk_flow.specs.Flows.{Flow, outs, has_wildcards_in, rule_named}
+use Rattle.smk_flow.specs.Flows.{Flow, outs, rule_named}
+use Rattle.smk_flow.specs.Checks.{wildcards}
 
 -- ## A rule
 
-abbrev pub is_empty : List FlaggedText → Bool
+abbrev pub is_empty : {A : Type 0} → List A → Bool
 is_empty [] = true
-is_empty (o ∷ outs) = false
+is_empty (x ∷ xs) = false
 
 -- a rule without wildcards that makes something, or has nothing to do
 abbrev pub is_target : RulePart → Bool
-is_target part = not (has_wildcards_in part) && (not (is_empty (outs part)) || is_none part.command)
+is_target part = is_empty (wildcards part) && (not (is_empty (outs part)) || is_none part.command)
 
 -- the inputs that are written out, of a rule without wildcards
 abbrev pub plain_inputs : RulePart → List Path

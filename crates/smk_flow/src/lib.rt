@@ -7,6 +7,7 @@ mod faults;
 mod fields;
 mod filling;
 mod flags;
+mod gathers;
 mod job;
 pub mod jobs;
 mod laws;

@@ -165,18 +165,19 @@ fn is_flagged(out: &FlaggedText, flag: Flag) -> bool
     }
 }
 
-// Adds those of these outputs that have the flag.
+// Adds those of the item's outputs that have the flag.
 fn add_flagged(
     alloc: Global,
     made: &mut List<PathText>,
-    outs: &[FlaggedText],
+    item: &OutPart,
     flag: Flag,
     binding: &Binding,
 ) -> Result<(), JobFault>
-    ensures paths { OnOk result (made.new ≡ made.old ++ flagged binding.now flag outs.now) }
-    ensures not { IfErr result (λ f. f ≢ JobFault.OutOfMemory → path_fault (flagged binding.now flag outs.now) ≡ Some f) }
+    ensures paths { OnOk result (made.new ≡ made.old ++ flagged binding.now flag item.now.outs) }
+    ensures are { OnOk result (path_fault (flagged binding.now flag item.now.outs) ≡ None) }
+    ensures not { IfErr result (λ f. f ≢ JobFault.OutOfMemory → path_fault (flagged binding.now flag item.now.outs) ≡ Some f) }
 {
-    for out in outs {
+    for out in item.outs.as_slice() {
         if is_flagged(out, flag) {
             match path_of(alloc, out.text.as_str(), binding) {
                 Ok(path) => made.push(path)?,
@@ -200,7 +201,7 @@ pub(crate) fn flagged(
 {
     let mut made = List::new(alloc);
     for item in items {
-        match add_flagged(alloc, &mut made, item.outs.as_slice(), flag, binding) {
+        match add_flagged(alloc, &mut made, item, flag, binding) {
             Ok(()) => {}
             Err(fault) => return Err(fault),
         }

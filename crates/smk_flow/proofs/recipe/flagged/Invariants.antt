@@ -6,7 +6,9 @@ use Rattle.smk_flow.proofs.recipe.flagged.Given as goal
 
 abbrev pub invariant-loop-item : goal.invariant-loop-item
 invariant-loop-item l = record {
-  paths : l.made ≡ flagged l.binding l.flag (flat_map (λ (i : OutPart). i.outs) (take l.item-index l.items));
+  paths :
+      l.made ++ flagged l.binding l.flag (flat_map (λ (i : OutPart). i.outs) (drop l.item-index l.items))
+      ≡ flagged l.binding l.flag (flat_map (λ (i : OutPart). i.outs) l.items);
   rest :
       path_fault (flagged l.binding l.flag (flat_map (λ (i : OutPart). i.outs) l.items))
       ≡ path_fault (flagged l.binding l.flag (flat_map (λ (i : OutPart). i.outs) (drop l.item-index l.items)));
