@@ -8,3 +8,9 @@ pub mod RulesByName
 pub mod RulesPass
 pub mod Ruled
 pub mod NoFault
+pub mod Numbered
+pub mod NumberFound
+pub mod MadeParts
+pub mod PairsPut
+pub mod FieldTexts
+pub mod FilledTexts

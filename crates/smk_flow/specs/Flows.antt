@@ -63,6 +63,10 @@ rule_at rules n = option_map (λ (e : ℕ × RulePart). e.1) (find (λ (e : ℕ 
 abbrev pub numbered : Flow → List (ℕ × RulePart)
 numbered flow = enumerate_from 0 flow.rules
 
+-- the number of the rule with this name: its place, from 0
+abbrev pub number_of : Flow → Text → Option ℕ
+number_of flow name = option_map (λ (e : ℕ × RulePart). e.0) (find (λ (e : ℕ × RulePart). bytes_eq e.1.name name) (numbered flow))
+
 -- the name of the rule at this place
 abbrev pub rule_name : Flow → ℕ → Text
 rule_name flow n = or_empty (option_map (λ (r : RulePart). r.name) (rule_at (numbered flow) n))
@@ -75,10 +79,22 @@ directory_of part = or_empty (first (map (λ (o : FlaggedText). o.text) (filter 
 abbrev pub folder_from : Flow → List Pair → Text → Path
 folder_from flow binding checkpoint = fill binding (or_empty (option_map directory_of (rule_named flow checkpoint)))
 
+-- what the item of this number gathers
+abbrev pub gather_of : Flow → List Pair → List Pair → ℕ → GatherPart → Gather
+gather_of flow limits binding item g =
+    record { item = item; folder = folder_from flow binding g.checkpoint; listed = shape_of limits g.listed; wanted = shape_of [] g.wanted }
+
 abbrev pub gather_at : Flow → List Pair → List Pair → ℕ → Option GatherPart → List Gather
 gather_at flow limits binding item None = []
-gather_at flow limits binding item (Some g) =
-    record { item = item; folder = folder_from flow binding g.checkpoint; listed = shape_of limits g.listed; wanted = shape_of [] g.wanted } ∷ []
+gather_at flow limits binding item (Some g) = gather_of flow limits binding item g ∷ []
+
+-- what these items gather, of which the first has this number
+abbrev pub gathers_from : Flow → List Pair → List Pair → ℕ → List InPart → List Gather
+gathers_from flow limits binding n inputs =
+    flat_map (λ (e : ℕ × InPart). gather_at flow limits binding e.0 e.1.gather) (enumerate_from n inputs)
+
+abbrev pub folders_of : List Gather → List Text
+folders_of = map (λ (g : Gather). g.folder)
 
 module _ (flow : Flow) (c : Candidate) where
   abbrev pub outputs : List Text
@@ -93,11 +109,11 @@ module _ (flow : Flow) (c : Candidate) where
 
   -- what the job gathers, in the order of its inputs
   abbrev pub gathers : List Gather
-  gathers = flat_map (λ (e : ℕ × InPart). gather_at flow c.part.limits c.binding e.0 e.1.gather) (enumerate_from 0 c.part.inputs)
+  gathers = gathers_from flow c.part.limits c.binding 0 c.part.inputs
 
   -- the directories that it gathers from
   abbrev pub gathered_folders : List Text
-  gathered_folders = map (λ (g : Gather). g.folder) gathers
+  gathered_folders = folders_of gathers
 
   -- what the job wants whatever the listings are: its inputs, then the directories that it gathers from
   abbrev pub first_wants : List Text

@@ -74,7 +74,7 @@ fn add_bad_flags<'p>(
 }
 
 // Whether it is flagged as a directory.
-fn makes_folder(out: &FlaggedText) -> bool
+pub(crate) fn makes_folder(out: &FlaggedText) -> bool
     ensures { result ≡ makes_folder out.now }
 {
     for flag in out.flags.as_slice() {

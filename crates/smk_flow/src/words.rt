@@ -39,7 +39,7 @@ fn are_name_bytes(bytes: &[u8]) -> bool
 }
 
 // Whether the text can be a name.
-fn is_name(text: &str) -> bool
+pub(crate) fn is_name(text: &str) -> bool
     ensures { result ≡ is_name text.now }
 {
     match text.as_bytes() {
