@@ -2,7 +2,11 @@
 #![tactic(auto)]
 
 mod choice;
+mod precedence;
 mod sources;
+mod table;
 
-pub use choice::{Choice, Lack};
+pub use choice::{Choice, Chosen, Lack, Making};
+pub use precedence::precedes;
 pub use sources::{Sources, Standing};
+pub use table::Choices;
