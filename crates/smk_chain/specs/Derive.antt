@@ -1,26 +1,21 @@
 -- Derivation: the inputs of a job under listings, the jobs of some targets in plan order, and what is refused on the way.
 use Rattle.std.specs.Prelude.{ℕ, zero, suc, Bool, true, false, ◌&&◌, ◌||◌, not, List, [], ◌∷◌, ◌++◌, map, filter, length, max, ◌+◌, ◌==◌, nat_lt, bytes_eq, if◌then◌else◌, Option, Some, None, option_map, is_some, is_none}
-use Rattle.std.specs.List.{list_any, find, fold, flat_map, filter_map}
+use Rattle.std.specs.List.{find, fold, flat_map, filter_map}
 use lib.Pointwise.{pointwise}
-use Rattle.smk_base.specs.declared.tree.Pair.{Pair}
 use Rattle.smk_base.specs.Path.{is_path, overlaps}
-use Rattle.smk_world.specs.declared.recipe.Values.{Values}
 use Rattle.smk_world.specs.declared.recipe.Item.{Item}
-use Rattle.smk_world.specs.declared.recipe.Kind.{Kind}
-use Rattle.smk_world.specs.declared.recipe.Kind.TheVariants.{Plain, Folder}
 use Rattle.smk_world.specs.declared.recipe.Recipe.{Recipe}
 use Rattle.smk_world.specs.World.{out_paths}
 use Rattle.smk_world.specs.Calls.{in_folder}
 use Rattle.smk_world.specs.Trees.{Path, among, folder_over}
 use Rattle.smk_pattern.specs.Shapes.{Text}
-use Rattle.smk_pattern.specs.Reading.{fill, fill_words, or_empty, by_name}
+use Rattle.smk_pattern.specs.Reading.{fill}
 use Rattle.smk_pattern.specs.Bound.{binding_of}
 use Rattle.smk_flow.specs.declared.rule.InPart.{InPart}
-use Rattle.smk_flow.specs.declared.rule.OutPart.{OutPart}
-use Rattle.smk_flow.specs.declared.rule.FlaggedText.{FlaggedText}
 use Rattle.smk_flow.specs.declared.rule.GatherPart.{GatherPart}
 use Rattle.smk_flow.specs.declared.job.Job.{Job}
-use Rattle.smk_flow.specs.Flows.{Flow, Candidate, outs, makes_folder, is_temp, is_protected, logs, gathers, gathered_folders, declared_inputs, folder_from}
+use Rattle.smk_flow.specs.Flows.{Flow, Candidate, gathered_folders, declared_inputs, folder_from}
+use Rattle.smk_flow.specs.Jobs.{recipe_with, job_with}
 use Rattle.smk_choose.specs.Choose.{Sources, Choice, choose, maker, candidates, Source, Make, Nothing, Ambiguous, Lack}
 use Rattle.smk_record.specs.Records.{same_pair}
 use Rattle.smk_store.specs.Images.{Image, stands, is_source, holds_source}
@@ -56,9 +51,6 @@ abbrev pub gathered_in : Flow → Listings → Candidate → Option GatherPart �
 gathered_in flow L c None = []
 gathered_in flow L c (Some g) = gathered L c (folder_from flow c.binding g.checkpoint) g
 
-abbrev pub kind_of : FlaggedText → Kind
-kind_of out = if makes_folder out then Folder else Plain
-
 module _ (flow : Flow) (L : Listings) (c : Candidate) where
   -- its inputs item by item, with the gathered files in their items' places
   abbrev pub items : List Item
@@ -72,39 +64,10 @@ module _ (flow : Flow) (L : Listings) (c : Candidate) where
   wants = declared_inputs flow c ++ (gathered_folders flow c ++ gathered_files)
 
   abbrev pub recipe : Recipe
-  recipe =
-      record {
-        template = or_empty c.part.command;
-        wildcards = by_name c.binding;
-        params = map (λ (v : Values). record { name = v.name; values = map (fill_words c.binding) v.values }) c.part.params;
-        inputs = items;
-        outputs =
-            map
-            (λ (o : OutPart). record {
-              name = o.name;
-              outs = map (λ (f : FlaggedText). record { path = fill c.binding f.text; kind = kind_of f }) o.outs;
-            })
-            c.part.outputs;
-      }
-
-  -- the outputs with a flag
-  abbrev pub flagged : (FlaggedText → Bool) → List Path
-  flagged test = map (λ (o : FlaggedText). fill c.binding o.text) (filter test (outs c.part))
+  recipe = recipe_with c items
 
   abbrev pub job : Job
-  job =
-      record {
-        rule = c.rule;
-        recipe = recipe;
-        gathers = gathers flow c;
-        logs = logs flow c;
-        threads = c.part.threads;
-        amounts = c.part.amounts;
-        words = map (λ (w : Pair). record { name = w.name; value = fill_words c.binding w.value }) c.part.words;
-        priority = c.part.priority;
-        temps = flagged (λ o. list_any is_temp o.flags);
-        guards = flagged (λ o. list_any is_protected o.flags);
-      }
+  job = job_with flow c items
 
 -- ## Jobs in plan order
 

@@ -8,3 +8,4 @@ pub mod RulesByName
 pub mod RulesPass
 pub mod Ruled
 pub mod NoFault
+pub mod Numbered

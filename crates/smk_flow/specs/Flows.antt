@@ -63,6 +63,10 @@ rule_at rules n = option_map (λ (e : ℕ × RulePart). e.1) (find (λ (e : ℕ 
 abbrev pub numbered : Flow → List (ℕ × RulePart)
 numbered flow = enumerate_from 0 flow.rules
 
+-- the number of the rule with this name: its place, from 0
+abbrev pub number_of : Flow → Text → Option ℕ
+number_of flow name = option_map (λ (e : ℕ × RulePart). e.0) (find (λ (e : ℕ × RulePart). bytes_eq e.1.name name) (numbered flow))
+
 -- the name of the rule at this place
 abbrev pub rule_name : Flow → ℕ → Text
 rule_name flow n = or_empty (option_map (λ (r : RulePart). r.name) (rule_at (numbered flow) n))

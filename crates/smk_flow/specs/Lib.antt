@@ -1,7 +1,10 @@
 pub mod Flows
+pub mod Jobs
+pub mod Targets
 pub mod Checks
 pub mod Named
 pub mod Lent
 pub mod Begun
 pub mod PatternsOf
 pub mod Apart
+pub mod Numbers

@@ -62,3 +62,11 @@ pub enum JobFault {
     NotPath(Text),
     OutOfMemory,
 }
+
+/// Why words are no targets.
+#[derive(Debug, Drop)]
+pub enum TargetFault {
+    /// This word is neither a rule nor a path, or names a rule that has wildcards, or one that has a command and no outputs.
+    BadTarget(Text),
+    OutOfMemory,
+}

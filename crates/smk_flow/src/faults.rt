@@ -3,7 +3,7 @@
 ghost use Rattle.std.specs.Prelude.{◌≡◌, IfOk};
 ghost use Rattle.smk_flow.specs.declared.fault.FlowFault.{FlowFault};
 
-use crate::fault::FlowFault;
+use crate::fault::{FlowFault, JobFault, TargetFault};
 use crate::rule::{Clause, RulePart};
 use smk_base::{OutOfMemory, PathText, Text};
 use std::alloc::{AllocFailed, Global};
@@ -27,6 +27,50 @@ impl<T: Drop> From<AllocFailed<T>> for FlowFault {
 
     fn from(_: AllocFailed<T>) -> FlowFault {
         FlowFault::OutOfMemory
+    }
+}
+
+impl From<OutOfMemory> for JobFault {
+    ghost use Rattle.std.specs.Prelude.{◌≡◌};
+    ghost use Rattle.smk_flow.specs.declared.fault.JobFault.{JobFault};
+
+    ghost from_gives = { λ _ fault. fault ≡ JobFault.OutOfMemory };
+
+    fn from(_: OutOfMemory) -> JobFault {
+        JobFault::OutOfMemory
+    }
+}
+
+impl<T: Drop> From<AllocFailed<T>> for JobFault {
+    ghost use Rattle.std.specs.Prelude.{◌≡◌};
+    ghost use Rattle.smk_flow.specs.declared.fault.JobFault.{JobFault};
+
+    ghost from_gives = { λ _ fault. fault ≡ JobFault.OutOfMemory };
+
+    fn from(_: AllocFailed<T>) -> JobFault {
+        JobFault::OutOfMemory
+    }
+}
+
+impl From<OutOfMemory> for TargetFault {
+    ghost use Rattle.std.specs.Prelude.{◌≡◌};
+    ghost use Rattle.smk_flow.specs.declared.fault.TargetFault.{TargetFault};
+
+    ghost from_gives = { λ _ fault. fault ≡ TargetFault.OutOfMemory };
+
+    fn from(_: OutOfMemory) -> TargetFault {
+        TargetFault::OutOfMemory
+    }
+}
+
+impl<T: Drop> From<AllocFailed<T>> for TargetFault {
+    ghost use Rattle.std.specs.Prelude.{◌≡◌};
+    ghost use Rattle.smk_flow.specs.declared.fault.TargetFault.{TargetFault};
+
+    ghost from_gives = { λ _ fault. fault ≡ TargetFault.OutOfMemory };
+
+    fn from(_: AllocFailed<T>) -> TargetFault {
+        TargetFault::OutOfMemory
     }
 }
 

@@ -6,21 +6,24 @@ mod fault;
 mod faults;
 mod flags;
 mod job;
+pub mod jobs;
 mod laws;
 mod named;
 mod names;
 mod orders;
 mod reading;
 mod rule;
+mod targeting;
 mod texts;
 mod unknown;
 mod words;
 mod workflow;
 
-pub use fault::{FlowFault, JobFault};
+pub use fault::{FlowFault, JobFault, TargetFault};
 pub use job::{Gather, Job};
 pub use laws::fault_means_none;
 pub use rule::{Clause, Flag, FlaggedText, GatherPart, InPart, OutPart, RulePart};
+pub use targeting::targets;
 pub use workflow::{Rule, Workflow};
 
 #[cfg(test)]

@@ -1,8 +1,10 @@
 //! Checked workflows.
 
-ghost use Rattle.std.specs.Prelude.{◌≡◌, ◌≢◌, map, reverse, IfOk, IfErr, OnOk};
+ghost use Rattle.std.specs.Prelude.{◌≡◌, ◌≢◌, ◌<◌, length, map, reverse, IfOk, IfErr, OnOk};
 ghost use Rattle.smk_flow.specs.declared.fault.FlowFault.{FlowFault};
 ghost use Rattle.smk_flow.specs.Checks.{IsWorkflow, IsFault};
+ghost use Rattle.smk_flow.specs.Flows.{number_of};
+ghost use Rattle.smk_flow.specs.Numbers.{AreNumbers};
 ghost use Rattle.smk_flow.specs.PatternsOf.{patterns_of, rule_of};
 
 use crate::checks::check;
@@ -12,6 +14,7 @@ use crate::{Clause, RulePart};
 use smk_base::{List, OutOfMemory};
 use smk_pattern::Pattern;
 use std::alloc::Global;
+use std::collections::BTreeMap;
 use std::marker::Model;
 
 /// A rule with the patterns of its outputs and of its logs, in order.
@@ -27,6 +30,7 @@ pub struct Rule {
 pub struct Workflow {
     rules: List<Rule>,
     orders: List<Clause>,
+    numbers: BTreeMap<String, u32>,
 }
 
 impl Model for Workflow {
@@ -38,8 +42,9 @@ impl Model for Workflow {
     ghost view = { λ a. record { rules = map (λ r. r.part) a.rules; orders = a.orders } };
 
     ghost use Rattle.smk_flow.specs.PatternsOf.{IsChecked};
+    ghost use Rattle.smk_flow.specs.Numbers.{AreNumbers};
 
-    ghost invariant = { λ a. IsChecked a.rules a.orders };
+    ghost invariant = { λ a. IsChecked a.rules a.orders × AreNumbers a.rules a.numbers };
 }
 
 // The list, the last one first.
@@ -78,10 +83,27 @@ fn paired(
     Ok(rules)
 }
 
+// The numbers of the rules under their names. `OutOfMemory` also where there are as many rules as numbers.
+fn numbers_of(alloc: Global, rules: &[Rule]) -> Result<BTreeMap<String, u32>, OutOfMemory>
+    ensures { IfOk result (λ numbers. AreNumbers rules.now numbers) }
+{
+    let Ok(count) = u32::try_from(rules.len()) else {
+        return Err(OutOfMemory);
+    };
+    let mut numbers = BTreeMap::new(alloc);
+    let mut number = count;
+    'rules: while number > 0 {
+        number -= 1;
+        let name = String::from_str(alloc, rules[number as usize].part.name.as_str())?;
+        numbers.insert(name, number)?;
+    }
+    Ok(numbers)
+}
+
 impl Workflow {
     /// The workflow of these rules and clauses, in order. Exactly where they make none, the fault is the first thing that is wrong with
     /// them: rules in order, each by its name, its texts, its wildcards and its flags, and then the clauses. `OutOfMemory` where
-    /// there is no memory for it.
+    /// there is no memory for it, which is also the answer where the rules are 2^32 or more.
     pub fn build(
         alloc: Global,
         parts: List<RulePart>,
@@ -95,16 +117,32 @@ impl Workflow {
             Err(fault) => Err(fault),
             Ok(patterns) => {
                 let rules = turned(alloc, paired(alloc, parts, patterns)?)?;
-                Ok(Workflow { rules, orders })
+                let numbers = numbers_of(alloc, rules.as_slice())?;
+                Ok(Workflow {
+                    rules,
+                    orders,
+                    numbers,
+                })
             }
         }
     }
 
     /// The rules in order, lent, each with the patterns of its texts. A rule's number is its place, from 0.
     pub fn rules(&self) -> &List<Rule>
-        ensures { result.now ≡ map rule_of self.now.rules }
+        ensures rules { result.now ≡ map rule_of self.now.rules }
+        ensures few { length self.now.rules < 4294967296 }
     {
         &self.rules
+    }
+
+    /// The number of the rule with this name. None exactly where no rule has it. It takes no memory.
+    pub fn rule(&self, name: &str) -> Option<u32>
+        ensures { result ≡ number_of self.now name.now }
+    {
+        match self.numbers.get(name) {
+            Some(number) => Some(*number),
+            None => None,
+        }
     }
 
     /// The clauses that say which of two rules is preferred, in order, lent.

@@ -6,7 +6,8 @@ use Rattle.smk_laws.proofs.CurrentPaths.{folders_under}
 use Rattle.smk_world.specs.declared.recipe.Kind.TheVariants.{Plain, Folder}
 use Rattle.smk_base.specs.Path.{is_under}
 use Rattle.smk_base.specs.declared.tree.Pair.{Pair}
-use Rattle.smk_chain.specs.Derive.{Listings, kind_of, recipe}
+use Rattle.smk_chain.specs.Derive.{Listings, recipe}
+use Rattle.smk_flow.specs.Jobs.{kind_of}
 use Rattle.smk_choose.specs.Choose.{Ambiguous, Choice, Lack, Make, Nothing, Source, Sources, as_member, as_output, candidate, candidates, choice, choose, fit, is_apart, is_viable, lack_of_first, leader, or_else, viable}
 use Rattle.smk_flow.specs.Flows.{Candidate, Flow, makes_folder, numbered, outs}
 use Rattle.smk_flow.specs.declared.rule.FlaggedText.{FlaggedText}
