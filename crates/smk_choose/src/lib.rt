@@ -1,8 +1,13 @@
 //! The choice of a job for a path.
 #![tactic(auto)]
 
+mod binding;
+mod candidates;
 mod choice;
+mod heights;
+mod nodes;
 mod precedence;
+mod readings;
 mod sources;
 mod table;
 

@@ -7,7 +7,7 @@ use Rattle.smk_choose.proofs.precedence.precedes.Goals as goal
 
 pub returns : goal.returns
 returns c = λ one other e f.
-    let rules = c.as_slice-rules.ensures ∙ c.rules.ensures in
+    let rules = c.as_slice-rules.ensures ∙ c.rules.ensures.rules in
     let a = c.index-rules-a in
     let b = c.index-rules-b in
     let first = ap (λ (r : Rule). r.part) (sym a.is) ∙ rule_is c.args.flow.now.rules c.args.a one a.result e (a.is ∙ ap (λ (rs : List Rule). get_or rs c.args.a a.result) rules) in
