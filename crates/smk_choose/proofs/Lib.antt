@@ -1,1 +1,7 @@
 mod Rows
+mod Preferred
+mod Sweeps
+mod Named
+mod Above
+mod ByName
+mod Listed

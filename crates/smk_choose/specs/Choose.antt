@@ -11,20 +11,11 @@ use Rattle.smk_flow.specs.declared.rule.RulePart.{RulePart}
 use Rattle.smk_flow.specs.declared.rule.FlaggedText.{FlaggedText}
 use Rattle.smk_flow.specs.declared.rule.Clause.{Clause}
 use Rattle.smk_flow.specs.Flows.{Flow, Candidate, outs, makes_folder, outputs, logs, first_wants, numbered, has_wildcards_in}
-use Rattle.smk_choose.specs.declared.sources.Standing.{Standing}
 
 -- which paths are sources, and which hold one: equal it, lie under it or have it under them
 pub record Sources : Type 0 where
   pub is : Path → Bool
   pub holds : Path → Bool
-
--- what is told of some paths
-abbrev pub told_by : List Standing → Sources
-told_by standings =
-    record {
-      is = λ p. list_any (λ (s : Standing). bytes_eq s.path p && s.source) standings;
-      holds = λ p. list_any (λ (s : Standing). bytes_eq s.path p && s.holds) standings;
-    }
 
 -- the rule of the first candidate, and its first want that isn't available
 pub record Lack : Type 0 where

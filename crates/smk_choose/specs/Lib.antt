@@ -1,1 +1,4 @@
 pub mod Choose
+pub mod Told
+pub mod Heights
+pub mod Readings

@@ -1,5 +1,6 @@
 use smk_base::Text;
 use smk_flow::Job;
+use smk_pattern::Binding;
 
 /// What makes a path.
 #[derive(Debug, Drop)]
@@ -17,4 +18,22 @@ pub enum Choice {
 pub struct Lack {
     pub rule: u32,
     pub wanted: Text,
+}
+
+/// What makes a path, with the job as its rule and a value for each of its wildcards.
+#[derive(Debug, Drop)]
+pub enum Chosen {
+    Source,
+    Make(Making),
+    /// Nothing makes it; where it has a candidate, that lacks something.
+    Nothing(Option<Lack>),
+    /// The first two of its viable candidates, by their rules, none of which is preferred.
+    Ambiguous(u32, u32),
+}
+
+/// A rule, by its place in the workflow, and a value for each of its wildcards, by name.
+#[derive(Debug, Drop)]
+pub struct Making {
+    pub rule: u32,
+    pub binding: Binding,
 }

@@ -1,8 +1,17 @@
 //! The choice of a job for a path.
 #![tactic(auto)]
 
+mod binding;
+mod candidates;
 mod choice;
+mod heights;
+mod nodes;
+mod precedence;
+mod readings;
 mod sources;
+mod table;
 
-pub use choice::{Choice, Lack};
+pub use choice::{Choice, Chosen, Lack, Making};
+pub use precedence::precedes;
 pub use sources::{Sources, Standing};
+pub use table::Choices;

@@ -1,10 +1,14 @@
-use smk_base::{List, PathText};
-use std::marker::Model;
+//! Which paths are sources.
+
+ghost use Rattle.std.specs.Prelude.{◌≡◌, ℕ, List as Items, None, Some, OnOk, OnErr, bytes_eq, if◌then◌else◌};
+
+use smk_base::{OutOfMemory, PathText};
+use std::alloc::Global;
+use std::collections::BTreeMap;
 
 /// Whether a path is a source, and whether it holds one.
-#[derive(Debug, Drop)]
+#[derive(Clone, Copy, Debug, PartialEq, Eq)]
 pub struct Standing {
-    pub path: PathText,
     pub source: bool,
     pub holds: bool,
 }
@@ -12,14 +16,52 @@ pub struct Standing {
 /// What is known of some paths; any other path is no source and holds none.
 #[derive(Debug, Drop)]
 pub struct Sources {
-    standings: List<Standing>,
+    alloc: Global,
+    standings: BTreeMap<String, Standing>,
 }
 
-impl Model for Sources {
-    ghost use Rattle.std.specs.Prelude.{List as Items};
-    ghost use Rattle.smk_choose.specs.declared.sources.Standing.{Standing};
+impl Sources {
+    ghost use Rattle.smk_choose.specs.Told.{standing_of, told_by};
 
-    ghost Value = { Items Standing };
+    /// Nothing is known of any path. It takes no memory until a path is added.
+    pub fn new(alloc: Global) -> Sources
+        ensures { (q : Items ℕ) → standing_of result q ≡ None }
+    {
+        Sources {
+            alloc,
+            standings: BTreeMap::new(alloc),
+        }
+    }
 
-    ghost view = { λ a. a.standings };
+    /// Adds whether the path is a source, and whether it holds one. `OutOfMemory` where there is no memory for it: nothing is
+    /// changed then.
+    pub fn add(&mut self, path: PathText, source: bool, holds: bool) -> Result<(), OutOfMemory>
+        ensures ok { OnOk result ((q : Items ℕ) → standing_of self.new q
+            ≡ (if bytes_eq path q then Some (record { source = source; holds = holds }) else standing_of self.old q)) }
+        ensures err { OnErr result ((q : Items ℕ) → standing_of self.new q ≡ standing_of self.old q) }
+    {
+        let key = String::from_str(self.alloc, path.as_str())?;
+        self.standings.insert(key, Standing { source, holds })?;
+        Ok(())
+    }
+
+    /// Whether the path is a source.
+    pub fn is(&self, path: &PathText) -> bool
+        ensures { result ≡ (told_by self.now).is path.now }
+    {
+        match self.standings.get(path.as_str()) {
+            Some(standing) => standing.source,
+            None => false,
+        }
+    }
+
+    /// Whether a source equals the path, lies under it or has it under itself.
+    pub fn holds(&self, path: &PathText) -> bool
+        ensures { result ≡ (told_by self.now).holds path.now }
+    {
+        match self.standings.get(path.as_str()) {
+            Some(standing) => standing.holds,
+            None => false,
+        }
+    }
 }

@@ -1,0 +1,7 @@
+use Rattle.std.proofs.Common.{◌≡◌, ◌++◌, take}
+use Rattle.std.specs.List.{flat_map}
+use Rattle.smk_choose.specs.Readings.{gather_shapes}
+use Rattle.smk_choose.proofs.readings.add_gathers.Given as goal
+
+abbrev pub invariant-loop-item : goal.invariant-loop-item
+invariant-loop-item l = l.found ≡ l.initial.found ++ flat_map (gather_shapes l.flow) (take l.item-index l.items)
