@@ -140,14 +140,7 @@ fn expand_one(
         → spec.expanded_one zip allow_missing choices.now made.old (letters pattern.now) ≡ Err f) }
 {
     let pieces = read(alloc, pattern)?;
-    check(
-        alloc,
-        made,
-        pieces.as_slice(),
-        choices,
-        zip,
-        allow_missing,
-    )?;
+    check(alloc, made, pieces.as_slice(), choices, zip, allow_missing)?;
     add_texts(made, alloc, pieces.as_slice(), choices, zip)?;
     Ok(())
 }
