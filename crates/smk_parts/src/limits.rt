@@ -7,7 +7,7 @@ ghost use Rattle.smk_base.specs.declared.tree.Pair.{Pair};
 ghost use Rattle.smk_parts.specs.Kept.{holds, all_lent};
 ghost use Rattle.smk_parts.specs.Rules as spec;
 
-use crate::items::with_items;
+use crate::items::limits;
 use smk_base::{Copied, List, OutOfMemory, Pair, Text};
 use smk_flow::RulePart;
 use smk_tree::ItemForm;
@@ -26,7 +26,7 @@ pub fn global_limits<S: Scope>(
     ensures { Tells result (spec.global_limits (S.seen scope.now) items.now) }
 {
     let word = Text::of(alloc, "wildcard_constraints")?;
-    with_items(alloc, List::new(alloc), items, scope, &word)
+    limits(alloc, items, scope, &word)
 }
 
 // The names of constraints.

@@ -5,7 +5,7 @@ ghost use Rattle.smk_value.specs.Values.{Tells};
 ghost use Rattle.smk_parts.specs.Rules as spec;
 
 use crate::directive::{Directive, directive_of};
-use crate::items::{GREATEST, with_items};
+use crate::items::{GREATEST, inputs, limits, logs, outputs, params, resources};
 use crate::limits::with_globals;
 use crate::one::{one_number, one_text, one_truth};
 use crate::resources::Resources;
@@ -67,19 +67,19 @@ fn with_directive<S: Scope>(
     let word = &form.word;
     match directive_of(word.as_str()) {
         Directive::Input => {
-            part.inputs = with_items(alloc, List::new(alloc), items, scope, word)?;
+            part.inputs = inputs(alloc, items, scope, word)?;
             Ok(part)
         }
         Directive::Output => {
-            part.outputs = with_items(alloc, List::new(alloc), items, scope, word)?;
+            part.outputs = outputs(alloc, items, scope, word)?;
             Ok(part)
         }
         Directive::Params => {
-            part.params = with_items(alloc, List::new(alloc), items, scope, word)?;
+            part.params = params(alloc, items, scope, word)?;
             Ok(part)
         }
         Directive::Log => {
-            part.logs = with_items(alloc, List::new(alloc), items, scope, word)?;
+            part.logs = logs(alloc, items, scope, word)?;
             Ok(part)
         }
         Directive::Threads => {
@@ -91,15 +91,11 @@ fn with_directive<S: Scope>(
             Ok(part)
         }
         Directive::Resources => {
-            let none = Resources {
-                amounts: List::new(alloc),
-                words: List::new(alloc),
-            };
-            let resources = with_items(alloc, none, items, scope, word)?;
+            let resources = resources(alloc, items, scope, word)?;
             Ok(with_resources(part, resources))
         }
         Directive::Limits => {
-            part.limits = with_items(alloc, List::new(alloc), items, scope, word)?;
+            part.limits = limits(alloc, items, scope, word)?;
             Ok(part)
         }
         Directive::Shell => {
