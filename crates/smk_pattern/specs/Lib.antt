@@ -15,3 +15,4 @@ pub mod Filling
 pub mod Written
 pub mod ByName
 pub mod Splitting
+pub mod Bare

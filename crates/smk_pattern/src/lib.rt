@@ -1,6 +1,7 @@
 //! Patterns of paths with wildcards.
 #![tactic(auto)]
 
+mod bare;
 mod by_name;
 mod filling;
 mod fitting;
@@ -15,6 +16,7 @@ mod splitting;
 mod table;
 mod tester;
 
+pub use bare::without_limits;
 pub use filling::fill;
 pub use fitting::fits;
 pub use laws::{bound_is_binding, fill_is_filled, reading_is_grammar};

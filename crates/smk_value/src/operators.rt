@@ -11,8 +11,8 @@ use smk_base::{Copied, List, OutOfMemory, Text, one};
 use smk_expand::{Choices, expand};
 use std::alloc::Global;
 
-// The fault that names this word.
-pub(crate) fn bad_flag(alloc: Global, word: &str) -> ValueFault
+/// `BadFlag` with this word, or `OutOfMemory` where there is no memory for it.
+pub fn bad_flag(alloc: Global, word: &str) -> ValueFault
     ensures { result ≢ ValueFault.OutOfMemory → result ≡ ValueFault.BadFlag word.now }
 {
     match Text::of(alloc, word) {
@@ -47,46 +47,6 @@ pub fn spelled(alloc: Global, value: &Value) -> Result<Option<Text>, OutOfMemory
         Value::Number(number) => Ok(Some(number_text(alloc, *number)?)),
         Value::Truth(truth) => Ok(Some(truth_text(alloc, *truth)?)),
         Value::Many(_) | Value::Flagged(_) | Value::Gathered(_) => Ok(None),
-    }
-}
-
-fn joined_texts(alloc: Global, left: &Text, right: &Text) -> Result<Text, OutOfMemory>
-    ensures { IfOk result (λ text. text ≡ left.now ++ right.now) }
-{
-    let mut text = String::from_str(alloc, left.as_str())?;
-    text.push_str(right.as_str())?;
-    Text::of(alloc, text.as_str())
-}
-
-fn joined_lists(
-    alloc: Global,
-    left: &List<Text>,
-    right: &List<Text>,
-) -> Result<List<Text>, OutOfMemory>
-    ensures { IfOk result (λ texts. texts ≡ left.now ++ right.now) }
-{
-    let mut texts = left.copied(alloc)?;
-    for text in right.as_slice() {
-        texts.push(text.copy(alloc)?)?;
-    }
-    Ok(texts)
-}
-
-/// The sum of the two: of two texts a text, of two lists a list. `BadFlag` with the word `+` exactly where they are neither;
-/// `OutOfMemory` where there is no memory for the sum or the word.
-pub fn plus(alloc: Global, left: &Value, right: &Value) -> Result<Value, ValueFault>
-    ensures { spec.Tells result (spec.plus left.now right.now) }
-{
-    match left {
-        Value::Word(left) => match right {
-            Value::Word(right) => Ok(Value::Word(joined_texts(alloc, left, right)?)),
-            _ => Err(bad_flag(alloc, "+")),
-        },
-        Value::Many(left) => match right {
-            Value::Many(right) => Ok(Value::Many(joined_lists(alloc, left, right)?)),
-            _ => Err(bad_flag(alloc, "+")),
-        },
-        _ => Err(bad_flag(alloc, "+")),
     }
 }
 
