@@ -1,21 +1,18 @@
 -- The names of a pattern, piece by piece.
-use Rattle.std.proofs.Common.{◌≡◌, ℕ, ◌+◌, ◌<◌, ◌≤◌, ◌||◌, ◌&&◌, Bool, true, false, List, [], ◌∷◌, ◌++◌, drop, map, length, get_or, refl, ap, ◌∙◌}
-use Rattle.std.specs.List.{list_all}
+use Rattle.std.proofs.Common.{◌≡◌, ℕ, ◌+◌, ◌<◌, ◌≤◌, ◌||◌, Bool, true, false, cond, List, [], ◌∷◌, ◌++◌, drop, map, length, get_or, refl, ap, sym, ◌∙◌}
+use Rattle.std.specs.Prelude.{Option, Some, None}
 use Rattle.std.specs.Str.{bytes_eq}
 use Rattle.std.proofs.lemmas.List.{at_drop_more, at_drop_all}
 use Rattle.std.proofs.lemmas.List.Folds.{list_any-append}
 use Rattle.smk_expand.specs.declared.reading.Piece.{Piece}
+use Rattle.smk_expand.specs.declared.reading.Piece.TheVariants.{Plain, Name}
 use Rattle.smk_expand.specs.declared.choices.Choices.{Choices}
 use Rattle.smk_expand.specs.Letters.{Letter, plain, name, is_name, stands, piece_letters, letters_of}
-use Rattle.smk_expand.specs.Expanding.{has_values, is_given, are_given}
+use Rattle.smk_expand.specs.Expanding.{has_values, unknown}
 
 or_false : (v : Bool) → (v || false) ≡ v
 or_false true = refl
 or_false false = refl
-
-and_true : (v : Bool) → (v && true) ≡ v
-and_true true = refl
-and_true false = refl
 
 pub stands_plain : (t n : List ℕ) → stands (map plain t) n ≡ false
 stands_plain [] n = refl
@@ -33,26 +30,44 @@ stands_more ps n i d lt =
 pub stands_end : (ps : List Piece) (n : List ℕ) (i : ℕ) → length ps ≤ i → stands (letters_of (drop i ps)) n ≡ false
 stands_end ps n i le = at_drop_all (λ (qs : List Piece). stands (letters_of qs) n) ps i le
 
-and_assoc : (a b c : Bool) → (a && (b && c)) ≡ ((a && b) && c)
-and_assoc true b c = refl
-and_assoc false b c = refl
+or_else : Option (List ℕ) → Option (List ℕ) → Option (List ℕ)
+or_else None b = b
+or_else (Some n) b = Some n
 
-all_append : (p : Letter → Bool) (xs ys : List Letter) → list_all p (xs ++ ys) ≡ (list_all p xs && list_all p ys)
-all_append p [] ys = refl
-all_append p (x ∷ xs) ys = ap (λ v. p x && v) (all_append p xs ys) ∙ and_assoc (p x) (list_all p xs) (list_all p ys)
+unknown_plain : (choices : List Choices) (t : List ℕ) (ls : List Letter) → unknown choices (map plain t ++ ls) ≡ unknown choices ls
+unknown_plain choices [] ls = refl
+unknown_plain choices (b ∷ t) ls = unknown_plain choices t ls
 
-pub given_plain : (choices : List Choices) (t : List ℕ) → are_given choices (map plain t) ≡ true
-given_plain choices [] = refl
-given_plain choices (b ∷ t) = given_plain choices t
+named_by : (v : Bool) (n : List ℕ) (later : Option (List ℕ)) → cond v later (Some n) ≡ or_else (cond v None (Some n)) later
+unfolding or_else
+named_by true n later = refl
+named_by false n later = refl
 
-pub given_name : (choices : List Choices) (n : List ℕ) → are_given choices (name n ∷ []) ≡ has_values choices n
-given_name choices n = and_true (has_values choices n)
+pub plain_alone : (choices : List Choices) (t : List ℕ) → unknown choices (map plain t) ≡ None
+plain_alone choices [] = refl
+plain_alone choices (b ∷ t) = plain_alone choices t
 
-pub given_more : (ps : List Piece) (choices : List Choices) (i : ℕ) (d : Piece) → i < length ps
-    → are_given choices (letters_of (drop i ps)) ≡ (are_given choices (piece_letters (get_or ps i d)) && are_given choices (letters_of (drop (i + 1) ps)))
-given_more ps choices i d lt =
-    at_drop_more (λ (qs : List Piece). are_given choices (letters_of qs)) ps i d lt
-    ∙ all_append (is_given choices) (piece_letters (get_or ps i d)) (letters_of (drop (i + 1) ps))
+unknown_piece : (choices : List Choices) (p : Piece) (ls : List Letter) → unknown choices (piece_letters p ++ ls) ≡ or_else (unknown choices (piece_letters p)) (unknown choices ls)
+unfolding or_else
+unknown_piece choices (Plain t) ls = unknown_plain choices t ls ∙ sym (ap (λ (u : Option (List ℕ)). or_else u (unknown choices ls)) (plain_alone choices t))
+unknown_piece choices (Name n) ls = named_by (has_values choices n) n (unknown choices ls)
 
-pub given_end : (ps : List Piece) (choices : List Choices) (i : ℕ) → length ps ≤ i → are_given choices (letters_of (drop i ps)) ≡ true
-given_end ps choices i le = at_drop_all (λ (qs : List Piece). are_given choices (letters_of qs)) ps i le
+-- no piece before the place has the first unknown name
+pub unknown_later : (choices : List Choices) (ps : List Piece) (i : ℕ) (d : Piece) → i < length ps → None ≡ unknown choices (piece_letters (get_or ps i d))
+    → unknown choices (letters_of (drop i ps)) ≡ unknown choices (letters_of (drop (i + 1) ps))
+unfolding or_else
+unknown_later choices ps i d lt e =
+    at_drop_more (λ (qs : List Piece). unknown choices (letters_of qs)) ps i d lt
+    ∙ unknown_piece choices (get_or ps i d) (letters_of (drop (i + 1) ps))
+    ∙ ap (λ (u : Option (List ℕ)). or_else u (unknown choices (letters_of (drop (i + 1) ps)))) (sym e)
+
+pub unknown_here : (choices : List Choices) (ps : List Piece) (i : ℕ) (d : Piece) (n : List ℕ) → i < length ps → Some n ≡ unknown choices (piece_letters (get_or ps i d))
+    → unknown choices (letters_of (drop i ps)) ≡ Some n
+unfolding or_else
+unknown_here choices ps i d n lt e =
+    at_drop_more (λ (qs : List Piece). unknown choices (letters_of qs)) ps i d lt
+    ∙ unknown_piece choices (get_or ps i d) (letters_of (drop (i + 1) ps))
+    ∙ ap (λ (u : Option (List ℕ)). or_else u (unknown choices (letters_of (drop (i + 1) ps)))) (sym e)
+
+pub unknown_end : (ps : List Piece) (choices : List Choices) (i : ℕ) → length ps ≤ i → unknown choices (letters_of (drop i ps)) ≡ None
+unknown_end ps choices i le = at_drop_all (λ (qs : List Piece). unknown choices (letters_of qs)) ps i le

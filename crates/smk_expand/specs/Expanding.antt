@@ -1,5 +1,5 @@
 -- What `expand` gives.
-use Rattle.std.specs.Prelude.{ℕ, ◌+◌, Bool, true, not, ◌&&◌, ◌==◌, List, [], ◌∷◌, ◌++◌, length, map, nat_lt, Result, Ok, Err, if◌then◌else◌, slice_index_or}
+use Rattle.std.specs.Prelude.{ℕ, ◌+◌, Bool, not, ◌&&◌, ◌==◌, List, [], ◌∷◌, ◌++◌, length, map, nat_lt, Option, Some, None, Result, Ok, Err, if◌then◌else◌, slice_index_or}
 use Rattle.std.specs.List.{list_any, list_all, filter, flat_map, range_with_len}
 use Rattle.std.specs.Str.{bytes_eq}
 use Rattle.smk_base.specs.declared.tree.Pair.{Pair}
@@ -51,13 +51,19 @@ paired ls choices = map (λ i. filled (row i choices) ls) (range_with_len 0 (row
 abbrev pub has_values : List Choices → List ℕ → Bool
 has_values choices n = list_any (λ c. bytes_eq c.name n) choices
 
-abbrev pub is_given : List Choices → Letter → Bool
-is_given choices (plain b) = true
-is_given choices (name n) = has_values choices n
+-- the first name of a pattern that has no values
+abbrev pub unknown : List Choices → List Letter → Option (List ℕ)
+unknown choices [] = None
+unknown choices (plain b ∷ ls) = unknown choices ls
+unknown choices (name n ∷ ls) = if has_values choices n then unknown choices ls else Some n
 
--- each name of the pattern has values
-abbrev pub are_given : List Choices → List Letter → Bool
-are_given choices = list_all (is_given choices)
+-- the name for which a pattern is refused
+abbrev pub refused : Bool → List Choices → List Letter → Option (List ℕ)
+refused missing choices ls = if missing then None else unknown choices ls
+
+abbrev pub unless_unknown : Option (List ℕ) → Result (List (List ℕ)) ExpandFault → Result (List (List ℕ)) ExpandFault
+unless_unknown None made = made
+unless_unknown (Some n) made = Err (UnknownName n)
 
 abbrev pub texts : Bool → List Choices → List Letter → List (List ℕ)
 texts zip choices ls = if zip then paired ls choices else combined ls [] choices
@@ -69,8 +75,7 @@ within made more = if nat_lt 100_000 (length made + length more) then Err TooMan
 -- after the texts that were made, those of this pattern
 abbrev pub expanded_one : Bool → Bool → List Choices → List (List ℕ) → List Letter → Result (List (List ℕ)) ExpandFault
 expanded_one zip missing choices made ls =
-    if not missing && not (are_given choices ls) then Err UnknownName
-    else (if zip && not (is_even ls choices) then Err UnequalZip else within made (texts zip choices ls))
+    unless_unknown (refused missing choices ls) (if zip && not (is_even ls choices) then Err UnequalZip else within made (texts zip choices ls))
 
 -- the same for patterns in order, up to the first fault
 abbrev pub and_then : Result (List (List ℕ)) ExpandFault → (List (List ℕ) → Result (List (List ℕ)) ExpandFault) → Result (List (List ℕ)) ExpandFault

@@ -48,7 +48,8 @@ pub(crate) fn count(pieces: &[Piece], choices: &[Choices]) -> u64
     }
 }
 
-// What is bound, and the value under the name.
+// What is bound, and the value under the name. What is bound is copied for each value, so that the values need no undoing. A name has
+// about as many texts below it as values, so the copies cost about as much as filling the texts: pairs are few, and each stands in them.
 fn with_value(
     alloc: Global,
     bound: &List<Pair>,

@@ -1,6 +1,6 @@
 //! `expand`.
 
-ghost use Rattle.std.specs.Prelude.{◌≡◌, ◌≢◌, ◌≤◌, ◌++◌, [], IfOk, OnOk, MatchOption, Ok, Err, length};
+ghost use Rattle.std.specs.Prelude.{◌≡◌, ◌≢◌, ◌≤◌, ◌++◌, [], IfOk, IfErr, OnOk, Ok, Err, length, option_map};
 ghost use Rattle.smk_expand.specs.declared.expanding.ExpandFault.{ExpandFault};
 ghost use Rattle.smk_expand.specs.Letters.{letters, letters_of};
 ghost use Rattle.smk_expand.specs.Expanding as spec;
@@ -8,17 +8,17 @@ ghost use Rattle.smk_expand.specs.Counting.{limited};
 
 use crate::choices::Choices;
 use crate::combining::{LIMIT, combine, count};
-use crate::names::are_given;
+use crate::names::unknown;
 use crate::pairing::{is_even, pair, rows};
 use crate::reading::{Piece, read};
 use smk_base::{List, OutOfMemory, Text};
 use std::alloc::Global;
 
 /// Why `expand` gives no texts.
-#[derive(Clone, Copy, Debug, PartialEq, Eq)]
+#[derive(Debug, Drop)]
 pub enum ExpandFault {
-    /// A name in a pattern has no values, and isn't to stay as it is.
-    UnknownName,
+    /// This name in a pattern has no values, and isn't to stay as it is.
+    UnknownName(Text),
     /// The names in a pattern have different counts of values, and are to be paired.
     UnequalZip,
     /// There are more than 100,000 results.
@@ -58,31 +58,53 @@ fn limited(count: usize) -> u64
     if count > LIMIT { LIMIT + 1 } else { count }
 }
 
-// Why the texts of the pattern can't be added to so many.
-fn refusal(
+// The name for which the pattern is refused.
+fn refused<'p>(pieces: &'p [Piece], choices: &[Choices], allow_missing: bool) -> Option<&'p str>
+    ensures { option_map (λ n. n.now) result ≡ spec.refused allow_missing choices.now (letters_of pieces.now) }
+{
+    if allow_missing {
+        None
+    } else {
+        unknown(pieces, choices)
+    }
+}
+
+// The fault that tells this name.
+fn unknown_name(alloc: Global, name: &str) -> ExpandFault
+    ensures { result ≢ ExpandFault.OutOfMemory → result ≡ ExpandFault.UnknownName name.now }
+{
+    match Text::of(alloc, name) {
+        Ok(name) => ExpandFault::UnknownName(name),
+        Err(_) => ExpandFault::OutOfMemory,
+    }
+}
+
+// Passes where the texts of the pattern can be added to those that are made.
+fn check(
+    alloc: Global,
     made: &List<Text>,
     pieces: &[Piece],
     choices: &[Choices],
     zip: bool,
     allow_missing: bool,
-) -> Option<ExpandFault>
+) -> Result<(), ExpandFault>
     requires { length made.now ≤ 100_000 }
-    ensures value { MatchOption result
-        (spec.expanded_one zip allow_missing choices.now made.now (letters_of pieces.now) ≡ Ok (made.now ++ spec.texts zip choices.now (letters_of pieces.now)))
-        (λ fault. spec.expanded_one zip allow_missing choices.now made.now (letters_of pieces.now) ≡ Err fault) }
-    ensures room { MatchOption result (length (made.now ++ spec.texts zip choices.now (letters_of pieces.now)) ≤ 100_000) (λ fault. fault ≢ ExpandFault.OutOfMemory) }
+    ensures ok { OnOk result (spec.expanded_one zip allow_missing choices.now made.now (letters_of pieces.now) ≡ Ok (made.now ++ spec.texts zip choices.now (letters_of pieces.now))) }
+    ensures room { OnOk result (length (made.now ++ spec.texts zip choices.now (letters_of pieces.now)) ≤ 100_000) }
+    ensures fault { IfErr result (λ f. f ≢ ExpandFault.OutOfMemory
+        → spec.expanded_one zip allow_missing choices.now made.now (letters_of pieces.now) ≡ Err f) }
 {
-    if !allow_missing && !are_given(pieces, choices) {
-        return Some(ExpandFault::UnknownName);
+    if let Some(name) = refused(pieces, choices, allow_missing) {
+        return Err(unknown_name(alloc, name));
     }
     if zip && !is_even(pieces, choices) {
-        return Some(ExpandFault::UnequalZip);
+        return Err(ExpandFault::UnequalZip);
     }
     let room = LIMIT - made.len() as u64;
     if count_texts(pieces, choices, zip) > room {
-        return Some(ExpandFault::TooMany);
+        return Err(ExpandFault::TooMany);
     }
-    None
+    Ok(())
 }
 
 // Adds the texts of the pattern.
@@ -114,17 +136,11 @@ fn expand_one(
     requires { length made.old ≤ 100_000 }
     ensures ok { OnOk result (spec.expanded_one zip allow_missing choices.now made.old (letters pattern.now) ≡ Ok made.new) }
     ensures room { OnOk result (length made.new ≤ 100_000) }
-    ensures unknown { result ≡ Err ExpandFault.UnknownName
-        → spec.expanded_one zip allow_missing choices.now made.old (letters pattern.now) ≡ Err ExpandFault.UnknownName }
-    ensures unequal { result ≡ Err ExpandFault.UnequalZip
-        → spec.expanded_one zip allow_missing choices.now made.old (letters pattern.now) ≡ Err ExpandFault.UnequalZip }
-    ensures too_many { result ≡ Err ExpandFault.TooMany
-        → spec.expanded_one zip allow_missing choices.now made.old (letters pattern.now) ≡ Err ExpandFault.TooMany }
+    ensures fault { IfErr result (λ f. f ≢ ExpandFault.OutOfMemory
+        → spec.expanded_one zip allow_missing choices.now made.old (letters pattern.now) ≡ Err f) }
 {
     let pieces = read(alloc, pattern)?;
-    if let Some(fault) = refusal(made, pieces.as_slice(), choices, zip, allow_missing) {
-        return Err(fault);
-    }
+    check(alloc, made, pieces.as_slice(), choices, zip, allow_missing)?;
     add_texts(made, alloc, pieces.as_slice(), choices, zip)?;
     Ok(())
 }
@@ -133,8 +149,8 @@ fn expand_one(
 /// `zip` the values at each place together, and none where no name stands in the pattern. In a pattern `{NAME}` is a name, `{{` and
 /// `}}` are one brace, and every other brace stands for itself; with `allow_missing` a name without values stays as it is.
 ///
-/// The first fault in the order of the patterns is told: `UnknownName` where a name of the pattern has no values and `allow_missing`
-/// is false; then `UnequalZip` where the names of the pattern have different counts of values, with `zip`; then `TooMany` where the
+/// The first fault in the order of the patterns is told: `UnknownName` with the first name of the pattern that has no values, where
+/// `allow_missing` is false; then `UnequalZip` where the names of the pattern have different counts of values, with `zip`; then `TooMany` where the
 /// texts so far are more than 100,000, and none of the pattern is made then. `OutOfMemory` where there is no memory for the texts.
 pub fn expand(
     alloc: Global,
@@ -144,9 +160,7 @@ pub fn expand(
     allow_missing: bool,
 ) -> Result<List<Text>, ExpandFault>
     ensures ok { IfOk result (λ texts. spec.expanded zip allow_missing choices.now [] patterns.now ≡ Ok texts) }
-    ensures unknown { result ≡ Err ExpandFault.UnknownName → spec.expanded zip allow_missing choices.now [] patterns.now ≡ Err ExpandFault.UnknownName }
-    ensures unequal { result ≡ Err ExpandFault.UnequalZip → spec.expanded zip allow_missing choices.now [] patterns.now ≡ Err ExpandFault.UnequalZip }
-    ensures too_many { result ≡ Err ExpandFault.TooMany → spec.expanded zip allow_missing choices.now [] patterns.now ≡ Err ExpandFault.TooMany }
+    ensures fault { IfErr result (λ f. f ≢ ExpandFault.OutOfMemory → spec.expanded zip allow_missing choices.now [] patterns.now ≡ Err f) }
 {
     let mut made = List::new(alloc);
     for pattern in patterns {

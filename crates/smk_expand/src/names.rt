@@ -1,8 +1,8 @@
 //! The names that stand in a pattern, and those that have values.
 
-ghost use Rattle.std.specs.Prelude.{◌≡◌};
+ghost use Rattle.std.specs.Prelude.{◌≡◌, option_map};
 ghost use Rattle.smk_expand.specs.Letters as spec;
-ghost use Rattle.smk_expand.specs.Expanding.{has_values, are_given};
+ghost use Rattle.smk_expand.specs.Expanding.{has_values, unknown};
 
 use crate::choices::Choices;
 use crate::reading::Piece;
@@ -43,26 +43,31 @@ fn has_values(choices: &[Choices], name: &str) -> bool
     false
 }
 
-// Whether the piece has values, where it is a name.
-#[tactic(auto, using(crate::proofs::Standing::given_plain, crate::proofs::Standing::given_name))]
-fn is_given(piece: &Piece, choices: &[Choices]) -> bool
-    ensures { result ≡ are_given choices.now (spec.piece_letters piece.now) }
+// The name that the piece is, where it has no values.
+fn unknown_in<'p>(piece: &'p Piece, choices: &[Choices]) -> Option<&'p str>
+    ensures { option_map (λ n. n.now) result ≡ unknown choices.now (spec.piece_letters piece.now) }
 {
     match piece {
-        Piece::Plain(_) => true,
-        Piece::Name(name) => has_values(choices, name.as_str()),
+        Piece::Plain(_) => None,
+        Piece::Name(name) => {
+            if has_values(choices, name.as_str()) {
+                None
+            } else {
+                Some(name.as_str())
+            }
+        }
     }
 }
 
-/// Whether each name of the pattern has values.
-#[tactic(auto, using(crate::proofs::Standing::given_more, crate::proofs::Standing::given_end))]
-pub(crate) fn are_given(pieces: &[Piece], choices: &[Choices]) -> bool
-    ensures { result ≡ are_given choices.now (spec.letters_of pieces.now) }
+/// The first name of the pattern that has no values.
+#[tactic(auto, using(crate::proofs::Standing::unknown_later, crate::proofs::Standing::unknown_here, crate::proofs::Standing::unknown_end))]
+pub(crate) fn unknown<'p>(pieces: &'p [Piece], choices: &[Choices]) -> Option<&'p str>
+    ensures { option_map (λ n. n.now) result ≡ unknown choices.now (spec.letters_of pieces.now) }
 {
     for piece in pieces {
-        if !is_given(piece, choices) {
-            return false;
+        if let Some(name) = unknown_in(piece, choices) {
+            return Some(name);
         }
     }
-    true
+    None
 }

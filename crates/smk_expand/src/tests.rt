@@ -34,7 +34,10 @@ fn shown(alloc: Global, pattern: &str, zip: bool, missing: bool) -> Result<Strin
                 text.push_str(" ")?;
             }
         }
-        Err(ExpandFault::UnknownName) => text.push_str("unknown")?,
+        Err(ExpandFault::UnknownName(name)) => {
+            text.push_str("unknown ")?;
+            text.push_str(name.as_str())?;
+        }
         Err(ExpandFault::UnequalZip) => text.push_str("unequal")?,
         Err(ExpandFault::TooMany) => text.push_str("too many")?,
         Err(ExpandFault::OutOfMemory) => return Err(OutOfMemory),
@@ -53,7 +56,7 @@ fn expands_patterns(rt: HostRuntime) -> Result<(), Fail> {
         ("{a}{c}", false, false, "1p 1{a} 1r 2p 2{a} 2r "),
         ("{a}/{{s}}", false, false, "1/{s} 2/{s} "),
         ("{{{a}}}", false, false, "{1} {2} "),
-        ("{a}{q}", false, false, "unknown"),
+        ("{a}{q}{r}", false, false, "unknown q"),
         ("{a}{q}", false, true, "1{q} 2{q} "),
         ("ß{a,x}{}{1}{", false, false, "ß{a,x}{}{1}{ "),
         ("plain", true, false, ""),

@@ -24,12 +24,13 @@ and_then (Err fault) next = Err fault
 -- What names stand for where an expression stands: constants, the outputs of the rules above, and the configuration.
 pub record Scope : Type 0 where
   pub constant : List ℕ → Option Value
-  pub outputs : List ℕ → OutputPick → Option Value
+  pub outputs : List ℕ → OutputPick → Valued
   pub config : List (List ℕ) → Valued
 
-abbrev pub known : Option Value → Valued
-known (Some v) = Ok v
-known None = Err UnknownName
+-- the value of this name, where it has one
+abbrev pub known : List ℕ → Option Value → Valued
+known n (Some v) = Ok v
+known n None = Err (UnknownName n)
 
 -- Parts in order, each taken into what is made so far once it has a value. The first fault is told.
 abbrev pub each : {A X : Type 0} → (X → Valued) → (A → X → Value → Result A ValueFault) → A → List X → Result A ValueFault
@@ -77,9 +78,9 @@ abbrev pub step : List ℕ → Scope → Expr-F Valued Valued Named → Valued
 step word s (Expr-F.Word t) = Ok (Word t)
 step word s (Expr-F.Number n) = Ok (Number n)
 step word s (Expr-F.Truth b) = Ok (Truth b)
-step word s (Expr-F.Name t) = known (s.constant t)
+step word s (Expr-F.Name t) = known t (s.constant t)
 step word s (Expr-F.Config keys) = s.config keys
-step word s (Expr-F.Outputs rule pick) = known (s.outputs rule pick)
+step word s (Expr-F.Outputs rule pick) = s.outputs rule pick
 step word s (Expr-F.Many rs) = and_then (listed word rs) (λ ts. Ok (Many ts))
 step word s (Expr-F.Sum rs) = summed rs
 step word s (Expr-F.Flagged w r) = and_then r (flag w)

@@ -1,8 +1,10 @@
 -- What the signs of the language make of values.
-use Rattle.std.specs.Prelude.{◌≡◌, ◌≢◌, ℕ, Bool, true, false, List, [], ◌∷◌, ◌++◌, codes, Option, Some, None, Result, Ok, Err}
+use Rattle.std.specs.Prelude.{◌≡◌, ◌≢◌, ℕ, Bool, true, false, List, [], ◌∷◌, ◌++◌, codes, string_bytes, Option, Some, None, Result, Ok, Err}
 use Rattle.std.specs.Fmt.{decimal}
 use Rattle.smk_value.specs.declared.value.Value.{Value}
 use Rattle.smk_value.specs.declared.value.Value.TheVariants.{Word, Number, Truth, Many, Flagged as HasFlags, Gathered as IsGathered}
+use Rattle.smk_value.specs.declared.sums.Total.{Total}
+use Rattle.smk_value.specs.declared.sums.Total.TheVariants.{Text as IsText, Value as IsValue}
 use Rattle.smk_value.specs.declared.fault.ValueFault.{ValueFault}
 use Rattle.smk_value.specs.declared.fault.ValueFault.TheVariants.{BadFlag, UnknownName, UnequalZip, TooMany, OutOfMemory}
 use Rattle.smk_expand.specs.declared.expanding.ExpandFault.{ExpandFault}
@@ -56,6 +58,16 @@ plus (Truth t) b = bad_sum
 plus (Many a) b = plus_list a b
 plus (HasFlags f) b = bad_sum
 plus (IsGathered g) b = bad_sum
+
+-- a sum so far
+abbrev pub total : Total → Value
+total (IsText s) = Word (string_bytes s)
+total (IsValue v) = v
+
+-- the sum that is meant, unless memory was short
+abbrev pub TellsTotal : Result Total ValueFault → Result Value ValueFault → Type 0
+TellsTotal (Ok t) meant = meant ≡ Ok (total t)
+TellsTotal (Err fault) meant = fault ≢ OutOfMemory → meant ≡ Err fault
 
 -- ## What a value adds to a list; `word` is that of the directive
 
@@ -111,7 +123,7 @@ truth (HasFlags f) = Err (BadFlag (codes "expand"))
 truth (IsGathered g) = Err (BadFlag (codes "expand"))
 
 abbrev pub of_expand : ExpandFault → ValueFault
-of_expand of_call.UnknownName = UnknownName
+of_expand (of_call.UnknownName n) = UnknownName n
 of_expand of_call.UnequalZip = UnequalZip
 of_expand of_call.TooMany = TooMany
 of_expand of_call.OutOfMemory = OutOfMemory

@@ -5,9 +5,8 @@ ghost use Rattle.smk_value.specs.Values.{Tells};
 ghost use Rattle.smk_value.specs.Expressions as spec;
 
 use crate::fault::ValueFault;
-use crate::operators::{
-    bad_flag, choice_values, expansion, flag, list_items, patterns, plus, truth,
-};
+use crate::operators::{bad_flag, choice_values, expansion, flag, list_items, patterns, truth};
+use crate::sums::{begun, ended, plus};
 use crate::value::{Gathered, Value};
 use smk_base::{List, Text};
 use smk_expand::Choices;
@@ -21,11 +20,11 @@ pub trait Scope {
 
     /// The value of a constant.
     fn constant(&self, alloc: Global, name: &Text) -> Result<Value, ValueFault>
-        ensures { Tells result (spec.known ((seen self.now).constant name.now)) };
+        ensures { Tells result (spec.known name.now ((seen self.now).constant name.now)) };
 
     /// The outputs of a rule above.
     fn outputs(&self, alloc: Global, rule: &Text, pick: &OutputPick) -> Result<Value, ValueFault>
-        ensures { Tells result (spec.known ((seen self.now).outputs rule.now pick.now)) };
+        ensures { Tells result ((seen self.now).outputs rule.now pick.now) };
 
     /// What stands under keys of the configuration.
     fn config(&self, alloc: Global, keys: &List<Text>) -> Result<Value, ValueFault>
@@ -109,12 +108,13 @@ fn sum<S: Scope>(alloc: Global, parts: &[Expr], scope: &S, word: &Text) -> Resul
     match parts {
         [] => Err(bad_flag(alloc, "+")),
         [first, later @ ..] => {
-            let mut total = value_of(alloc, first, scope, word)?;
+            let first = value_of(alloc, first, scope, word)?;
+            let mut total = begun(alloc, first)?;
             for part in later {
                 let term = value_of(alloc, part, scope, word)?;
-                total = plus(alloc, &total, &term)?;
+                total = plus(alloc, total, &term)?;
             }
-            Ok(total)
+            Ok(ended(alloc, total)?)
         }
     }
 }

@@ -12,8 +12,13 @@ use std::alloc::{AllocError, AllocFailed};
 pub enum ValueFault {
     /// A value of a kind that doesn't stand there. The word is that of the flag, the sign, the call or the directive.
     BadFlag(Text),
-    /// A name has no value, or a rule or an output isn't there.
-    UnknownName,
+    /// This name has no value, is no rule above, or is no output of the rule; a place at which a rule has no output is told as it is
+    /// spelled.
+    UnknownName(Text),
+    /// The configuration has nothing under these keys, joined by `.`.
+    NoKey(Text),
+    /// What the configuration has under these keys, joined by `.`, is no value.
+    BadConfig(Text),
     /// The names in a pattern of `expand` have different counts of values, and are to be paired.
     UnequalZip,
     /// `expand` gives more than 100,000 results.
@@ -60,7 +65,7 @@ pub(crate) fn of_expand(fault: ExpandFault) -> ValueFault
     ensures { result ≡ of_expand fault }
 {
     match fault {
-        ExpandFault::UnknownName => ValueFault::UnknownName,
+        ExpandFault::UnknownName(name) => ValueFault::UnknownName(name),
         ExpandFault::UnequalZip => ValueFault::UnequalZip,
         ExpandFault::TooMany => ValueFault::TooMany,
         ExpandFault::OutOfMemory => ValueFault::OutOfMemory,

@@ -4,9 +4,10 @@
 mod evaluating;
 mod fault;
 mod operators;
+mod sums;
 mod value;
 
 pub use evaluating::{Scope, value_of};
 pub use fault::ValueFault;
-pub use operators::{choice_values, expansion, flag, list_items, patterns, plus, spelled, truth};
+pub use operators::{choice_values, expansion, flag, list_items, patterns, spelled, truth};
 pub use value::{Flagged, Gathered, Value};

@@ -50,46 +50,6 @@ pub fn spelled(alloc: Global, value: &Value) -> Result<Option<Text>, OutOfMemory
     }
 }
 
-fn joined_texts(alloc: Global, left: &Text, right: &Text) -> Result<Text, OutOfMemory>
-    ensures { IfOk result (λ text. text ≡ left.now ++ right.now) }
-{
-    let mut text = String::from_str(alloc, left.as_str())?;
-    text.push_str(right.as_str())?;
-    Text::of(alloc, text.as_str())
-}
-
-fn joined_lists(
-    alloc: Global,
-    left: &List<Text>,
-    right: &List<Text>,
-) -> Result<List<Text>, OutOfMemory>
-    ensures { IfOk result (λ texts. texts ≡ left.now ++ right.now) }
-{
-    let mut texts = left.copied(alloc)?;
-    for text in right.as_slice() {
-        texts.push(text.copy(alloc)?)?;
-    }
-    Ok(texts)
-}
-
-/// The sum of the two: of two texts a text, of two lists a list. `BadFlag` with the word `+` exactly where they are neither;
-/// `OutOfMemory` where there is no memory for the sum or the word.
-pub fn plus(alloc: Global, left: &Value, right: &Value) -> Result<Value, ValueFault>
-    ensures { spec.Tells result (spec.plus left.now right.now) }
-{
-    match left {
-        Value::Word(left) => match right {
-            Value::Word(right) => Ok(Value::Word(joined_texts(alloc, left, right)?)),
-            _ => Err(bad_flag(alloc, "+")),
-        },
-        Value::Many(left) => match right {
-            Value::Many(right) => Ok(Value::Many(joined_lists(alloc, left, right)?)),
-            _ => Err(bad_flag(alloc, "+")),
-        },
-        _ => Err(bad_flag(alloc, "+")),
-    }
-}
-
 // The word of the outermost flag.
 fn first_flag(flags: &[Text]) -> &str
     ensures { result.now ≡ spec.first_flag flags.now }

@@ -1,5 +1,5 @@
 use Rattle.std.proofs.Common.{◌≡◌, drop, map}
-use Rattle.smk_value.specs.Values.{plus}
+use Rattle.smk_value.specs.Values.{plus, total}
 use Rattle.smk_value.specs.Expressions.{Valued, Named, each, listed, summed, names, with_items, with_name, value_in, named_in}
 use Rattle.smk_value.proofs.evaluating.+evaluate.Given as goal
 
@@ -16,4 +16,4 @@ invariant-names-loop-item g l =
 abbrev pub invariant-sum-loop-part : goal.invariant-sum-loop-part
 invariant-sum-loop-part g l =
     let s = g.S.Scope.seen l.scope in
-    each (λ (r : Valued). r) (λ sum _ w. plus sum w) l.total (map (value_in l.word s) (drop l.part-index l.later)) ≡ summed (map (value_in l.word s) l.parts)
+    each (λ (r : Valued). r) (λ sum _ w. plus sum w) (total l.total) (map (value_in l.word s) (drop l.part-index l.later)) ≡ summed (map (value_in l.word s) l.parts)

@@ -1,4 +1,4 @@
-use Rattle.std.proofs.Common.{[], ap, sym, refl, ◌∙◌}
+use Rattle.std.proofs.Common.{[], ap, sym, ◌∙◌}
 use Rattle.std.specs.Prelude.{Err}
 use Rattle.smk_expand.specs.Expanding.{expanded}
 use Rattle.smk_value.proofs.Calls.{call_fault}
@@ -6,8 +6,6 @@ use Rattle.smk_value.proofs.operators.expansion.Goals as goal
 
 pub returns-in-Err : goal.returns-in-Err
 returns-in-Err c = λ h.
-    let fault = c.in-Err.fault in
-    let ensures = c.in-Err.ensures in
-    call_fault fault (Err fault) (expanded c.args.zip c.args.allow_missing c.args.choices.now [] c.args.patterns.now) refl ensures.unknown ensures.unequal ensures.too_many
+    call_fault c.in-Err.fault (expanded c.args.zip c.args.allow_missing c.args.choices.now [] c.args.patterns.now) c.in-Err.ensures.fault
     (λ e. h (c.of_expand.ensures ∙ e))
     ∙ ap Err (sym c.of_expand.ensures)
