@@ -13,3 +13,4 @@ pub mod Tables
 pub mod Filling
 pub mod Written
 pub mod Splitting
+pub mod Bare

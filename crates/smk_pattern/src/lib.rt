@@ -1,6 +1,7 @@
 //! Patterns of paths with wildcards.
 #![tactic(auto)]
 
+mod bare;
 mod filling;
 mod fitting;
 mod laws;
@@ -14,6 +15,7 @@ mod splitting;
 mod table;
 mod tester;
 
+pub use bare::without_limits;
 pub use filling::fill;
 pub use fitting::fits;
 pub use laws::{bound_is_binding, fill_is_filled, reading_is_grammar};

@@ -11,8 +11,8 @@ use smk_base::{Copied, List, OutOfMemory, Text, one};
 use smk_expand::{Choices, expand};
 use std::alloc::Global;
 
-// The fault that names this word.
-pub(crate) fn bad_flag(alloc: Global, word: &str) -> ValueFault
+/// `BadFlag` with this word, or `OutOfMemory` where there is no memory for it.
+pub fn bad_flag(alloc: Global, word: &str) -> ValueFault
     ensures { result ≢ ValueFault.OutOfMemory → result ≡ ValueFault.BadFlag word.now }
 {
     match Text::of(alloc, word) {

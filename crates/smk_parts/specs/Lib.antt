@@ -1,0 +1,4 @@
+pub mod Items
+pub mod Rules
+pub mod Outputs
+pub mod Kept

@@ -1,0 +1,15 @@
+//! What the forms of rules make: their directives, evaluated in a scope.
+#![tactic(auto)]
+
+mod directive;
+mod items;
+mod limits;
+mod one;
+mod outputs;
+mod resources;
+mod rules;
+mod values;
+
+pub use limits::{global_limits, with_globals};
+pub use outputs::outputs_of;
+pub use rules::rule_part;

@@ -1,0 +1,118 @@
+//! Constraints of wildcards, those of a rule and those of the whole file.
+
+ghost use Rattle.std.specs.Prelude.{◌≡◌, ◌++◌, ℕ, List, not, filter, map, IfOk};
+ghost use Rattle.smk_value.specs.Values.{Tells};
+ghost use Rattle.smk_value.specs.Expressions.{named_in};
+ghost use Rattle.smk_base.specs.declared.tree.Pair.{Pair};
+ghost use Rattle.smk_parts.specs.Kept.{holds, all_lent};
+ghost use Rattle.smk_parts.specs.Rules as spec;
+
+use crate::items::with_items;
+use smk_base::{Copied, List, OutOfMemory, Pair, Text};
+use smk_flow::RulePart;
+use smk_tree::ItemForm;
+use smk_value::{Scope, ValueFault};
+use std::alloc::Global;
+use std::collections::BTreeSet;
+
+/// The constraints that the items of a `wildcard_constraints` statement of the whole file give, in order. The fault is that of the
+/// first item that has one: that of its value; or `BadFlag` where it has no name, or its value is no text, with the word of the
+/// value's outermost flag, where it has one, else `wildcard_constraints`. `OutOfMemory` where there is no memory for them.
+pub fn global_limits<S: Scope>(
+    alloc: Global,
+    items: &[ItemForm],
+    scope: &S,
+) -> Result<List<Pair>, ValueFault>
+    ensures { Tells result (spec.global_limits (S.seen scope.now) items.now) }
+{
+    let word = Text::of(alloc, "wildcard_constraints")?;
+    with_items(alloc, List::new(alloc), items, scope, &word)
+}
+
+// The names of constraints.
+fn names_of(alloc: Global, limits: &[Pair]) -> Result<BTreeSet<&str>, OutOfMemory>
+    ensures { IfOk result (λ names. (q : List ℕ) → holds names q ≡ spec.is_among limits.now q) }
+{
+    let mut names = BTreeSet::new(alloc);
+    for limit in limits {
+        names.insert(limit.name.as_str())?;
+    }
+    Ok(names)
+}
+
+// Whether the name is none of these.
+fn is_other(names: &BTreeSet<&str>, name: &str) -> bool
+    ensures { result ≡ not (holds names.now name.now) }
+{
+    !names.contains(name)
+}
+
+// Those of the constraints that have other names than these.
+fn others<'g>(
+    alloc: Global,
+    names: &BTreeSet<&str>,
+    globals: &'g [Pair],
+) -> Result<Vec<&'g Pair>, OutOfMemory>
+    ensures { IfOk result (λ found. all_lent found.items ≡ filter (λ (g : Pair). not (holds names.now g.name)) globals.now) }
+{
+    let mut found = Vec::new(alloc);
+    for limit in globals {
+        if is_other(names, limit.name.as_str()) {
+            found.push(limit)?;
+        }
+    }
+    Ok(found)
+}
+
+// Those of the constraints that have other names than the rule's own.
+fn others_than<'g>(
+    alloc: Global,
+    own: &[Pair],
+    globals: &'g [Pair],
+) -> Result<Vec<&'g Pair>, OutOfMemory>
+    ensures { IfOk result (λ found. all_lent found.items ≡ spec.others own.now globals.now) }
+{
+    let names = names_of(alloc, own)?;
+    others(alloc, &names, globals)
+}
+
+// The list with copies of these after it.
+fn joined(
+    alloc: Global,
+    own: List<Pair>,
+    more: &[&Pair],
+) -> Result<List<Pair>, OutOfMemory>
+    ensures { IfOk result (λ all. all ≡ own ++ all_lent more.now) }
+{
+    let mut all = own;
+    for pair in more {
+        all.push(pair.copied(alloc)?)?;
+    }
+    Ok(all)
+}
+
+// The rule's own constraints, and the others for all other names.
+fn with_others(
+    alloc: Global,
+    own: List<Pair>,
+    globals: &[Pair],
+) -> Result<List<Pair>, OutOfMemory>
+    ensures { IfOk result (λ all. all ≡ own ++ spec.others own globals.now) }
+{
+    let more = others_than(alloc, own.as_slice(), globals)?;
+    joined(alloc, own, &more)
+}
+
+/// The rule with the constraints of the whole file for all names but those of its own constraints. `OutOfMemory` where there is no
+/// memory for them.
+pub fn with_globals(
+    alloc: Global,
+    part: RulePart,
+    globals: &List<Pair>,
+) -> Result<RulePart, OutOfMemory>
+    ensures { IfOk result (λ p. p ≡ spec.with_globals globals.now part) }
+{
+    let mut part = part;
+    part.limits = with_others(alloc, part.limits, globals.as_slice())?;
+    Ok(part)
+}
