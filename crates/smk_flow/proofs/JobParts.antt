@@ -7,11 +7,13 @@ use Rattle.smk_pattern.specs.Reading.{fill}
 use Rattle.smk_flow.specs.declared.rule.RulePart.{RulePart}
 use Rattle.smk_flow.specs.declared.rule.InPart.{InPart}
 use Rattle.smk_flow.specs.declared.rule.OutPart.{OutPart}
+use Rattle.smk_flow.specs.declared.rule.Flag.{Flag}
 use Rattle.smk_flow.specs.declared.rule.FlaggedText.{FlaggedText}
 use Rattle.smk_flow.specs.declared.fault.JobFault.{JobFault}
 use Rattle.smk_flow.specs.Flows.{Flow, gathers_from, folders_of, outs}
-use Rattle.smk_flow.specs.Jobs.{path_fault, path_texts}
-use Rattle.smk_flow.proofs.FilledTexts.{after_paths, before_others}
+use Rattle.smk_flow.specs.Jobs.{path_fault, path_texts, flagged}
+use Rattle.smk_flow.proofs.FilledTexts.{after_paths, before_others, front_good}
+use Rattle.smk_flow.proofs.MadeParts.{all_flagged}
 
 abbrev outs_filled : List Pair → OutPart → List Text
 outs_filled b i = map (λ (o : FlaggedText). fill b o.text) i.outs
@@ -26,6 +28,9 @@ outs_same b (i ∷ items) = ap (λ ts. outs_filled b i ++ ts) (outs_same b items
 
 outs_fault : (b : List Pair) (items : List OutPart) → path_fault (flat_map (outs_filled b) items) ≡ path_fault (map (λ (o : FlaggedText). fill b o.text) (flat_map (λ (i : OutPart). i.outs) items))
 outs_fault b items = ap path_fault (outs_same b items)
+
+some_none : (f : JobFault) → Some f ≡ None → ⊥
+some_none f e = absurd (cc)
 
 module _ (flow : Flow) (rule : ℕ) (part : RulePart) (b : List Pair) where
   abbrev outputs_of : List Text
@@ -72,3 +77,8 @@ module _ (flow : Flow) (rule : ℕ) (part : RulePart) (b : List Pair) where
       path_fault (flat_map (λ (i : InPart). map (fill b) i.texts) part.inputs) ≡ None → path_fault (folders_of (gathers_from flow part.limits b 0 part.inputs)) ≡ None →
       path_fault whole ≡ None
   good no_outputs no_logs no_inputs e = all_but no_outputs no_logs no_inputs ∙ e
+
+  pub no_flagged : (flag : Flag) (f : JobFault) → path_fault whole ≡ None → path_fault (flagged b flag (flat_map (λ (i : OutPart). i.outs) part.outputs)) ≡ Some f → ⊥
+  no_flagged flag f h e =
+      let none : path_fault (flagged b flag (outs part)) ≡ None = all_flagged b flag (outs part) (front_good outputs_of (logs_of ++ (inputs_of ++ folders)) h) in
+      some_none f (sym e ∙ none)

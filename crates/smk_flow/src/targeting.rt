@@ -1,12 +1,12 @@
 //! What words stand for as targets.
 
-ghost use Rattle.std.specs.Prelude.{◌≡◌, ◌≢◌, ◌++◌, ◌∷◌, [], ◌&&◌, ◌||◌, if◌then◌else◌, Some, None, true, false, not, map, option_map, is_none, IfOk, IfErr, OnOk};
-ghost use Rattle.std.specs.List.{flat_map};
+ghost use Rattle.std.specs.Prelude.{◌≡◌, ◌≢◌, ◌++◌, ◌∷◌, [], ◌&&◌, ◌||◌, if◌then◌else◌, Some, None, true, false, not, map, option_map, option_to_list, is_none, IfOk, IfErr, OnOk};
 ghost use Rattle.smk_base.specs.Path.{is_path};
 ghost use Rattle.smk_pattern.specs.Reading.{fill};
 ghost use Rattle.smk_pattern.specs.Searching.{now_of};
 ghost use Rattle.smk_flow.specs.declared.rule.FlaggedText.{FlaggedText};
 ghost use Rattle.smk_flow.specs.declared.rule.InPart.{InPart};
+ghost use Rattle.smk_flow.specs.declared.rule.RulePart.{RulePart};
 ghost use Rattle.smk_flow.specs.declared.fault.TargetFault.{TargetFault};
 ghost use Rattle.smk_flow.specs.Flows.{outs};
 ghost use Rattle.smk_flow.specs.Lent.{all_lent};
@@ -146,6 +146,39 @@ fn default_rule(rules: &[Rule]) -> Option<&Rule>
     }
 }
 
+// The name of the default rule, where there is a rule.
+fn default_name(flow: &Workflow) -> Option<&str>
+    ensures { option_map (λ n. n.now) result ≡ option_map (λ (r : RulePart). r.name) (default_rule flow.now.rules) }
+{
+    match default_rule(flow.rules().as_slice()) {
+        Some(rule) => Some(rule.part.name.as_str()),
+        None => None,
+    }
+}
+
+// The name of the default rule as the only word, where there is a rule.
+fn default_words(alloc: Global, flow: &Workflow) -> Result<Vec<&str>, OutOfMemory>
+    ensures { IfOk result (λ found. now_of found.items ≡ option_to_list (option_map (λ (r : RulePart). r.name) (default_rule flow.now.rules))) }
+{
+    let mut found = Vec::new(alloc);
+    match default_name(flow) {
+        Some(name) => {
+            found.push(name)?;
+            Ok(found)
+        }
+        None => Ok(found),
+    }
+}
+
+// The words, lent.
+fn lent(alloc: Global, words: &[Text]) -> Result<Vec<&str>, OutOfMemory>
+    ensures { IfOk result (λ found. now_of found.items ≡ words.now) }
+{
+    let mut found = Vec::new(alloc);
+    add_texts(&mut found, words)?;
+    Ok(found)
+}
+
 // The words that count: those that there are, or the name of the default rule.
 fn words_of<'w>(
     alloc: Global,
@@ -154,16 +187,10 @@ fn words_of<'w>(
 ) -> Result<Vec<&'w str>, OutOfMemory>
     ensures { IfOk result (λ found. now_of found.items ≡ words_of flow.now words.now) }
 {
-    let mut found = Vec::new(alloc);
     match words {
-        [] => {
-            if let Some(rule) = default_rule(flow.rules().as_slice()) {
-                found.push(rule.part.name.as_str())?;
-            }
-        }
-        [_, ..] => add_texts(&mut found, words)?,
+        [] => default_words(alloc, flow),
+        [_, ..] => lent(alloc, words),
     }
-    Ok(found)
 }
 
 // Adds copies of the paths.
