@@ -8,9 +8,9 @@ ghost use Rattle.smk_flow.specs.Flows.{gathers_from};
 ghost use Rattle.smk_flow.specs.Jobs.{declared_job, declared_item, filled_outs, path_texts, path_fault};
 
 use crate::fault::JobFault;
+use crate::filling::paths_of;
 use crate::gathers::gathers_of;
 use crate::job::{Gather, Job};
-use crate::filling::paths_of;
 use crate::recipe::{flagged, in_items, out_items, params_of, words_of};
 use crate::rule::{Flag, RulePart};
 use crate::sorted::by_name;
@@ -130,12 +130,7 @@ fn job_of(
 ///
 /// `NotPath` exactly where an output, a log, an input that is written out or a gathered directory would be no path: the first of them,
 /// in this order. `OutOfMemory` where there is no memory for the job.
-pub fn job(
-    alloc: Global,
-    flow: &Workflow,
-    rule: u32,
-    binding: &Binding,
-) -> Result<Job, JobFault>
+pub fn job(alloc: Global, flow: &Workflow, rule: u32, binding: &Binding) -> Result<Job, JobFault>
     requires rule { rule < length flow.now.rules }
     ensures job { (part : RulePart) → slice_get flow.now.rules rule ≡ Some part
         → IfOk result (λ job. job ≡ declared_job flow.now (record { rule = rule; part = part; binding = binding.now })) }

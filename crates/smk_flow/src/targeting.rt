@@ -45,11 +45,7 @@ fn out_paths(alloc: Global, outs: &[&FlaggedText]) -> Result<List<PathText>, Out
 }
 
 // Adds the inputs of an item that are written out.
-fn add_inputs(
-    alloc: Global,
-    made: &mut List<PathText>,
-    item: &InPart,
-) -> Result<(), OutOfMemory>
+fn add_inputs(alloc: Global, made: &mut List<PathText>, item: &InPart) -> Result<(), OutOfMemory>
     ensures { OnOk result (made.new ≡ made.old ++ map (fill []) item.now.texts) }
 {
     for text in item.texts.as_slice() {
@@ -91,10 +87,7 @@ fn is_target(part: &RulePart, outs: &[&FlaggedText], names: &[&str]) -> bool
 }
 
 // What a rule stands for, where it is a target.
-fn paths_of_rule(
-    alloc: Global,
-    part: &RulePart,
-) -> Result<Option<List<PathText>>, OutOfMemory>
+fn paths_of_rule(alloc: Global, part: &RulePart) -> Result<Option<List<PathText>>, OutOfMemory>
     ensures { IfOk result (λ paths. paths ≡ (if is_target part.now then Some (stands_for part.now (outs part.now)) else None)) }
 {
     let found = outs(alloc, part)?;

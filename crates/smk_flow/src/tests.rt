@@ -126,11 +126,13 @@ fn target_count(alloc: Global, word: &str) -> Result<usize, Fail> {
     let Some(flow) = two_rules(alloc)? else {
         return Ok(12);
     };
-    Ok(match targets(alloc, &flow, &one(alloc, Text::of(alloc, word)?)?) {
-        Ok(paths) => paths.len(),
-        Err(TargetFault::BadTarget(_)) => 10,
-        Err(TargetFault::OutOfMemory) => 11,
-    })
+    Ok(
+        match targets(alloc, &flow, &one(alloc, Text::of(alloc, word)?)?) {
+            Ok(paths) => paths.len(),
+            Err(TargetFault::BadTarget(_)) => 10,
+            Err(TargetFault::OutOfMemory) => 11,
+        },
+    )
 }
 
 #[test]
