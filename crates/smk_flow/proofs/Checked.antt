@@ -1,7 +1,6 @@
 -- Rules with their first fault, jobs and targets, computed.
 use Rattle.std.specs.Prelude.{◌≡◌, List, [], ◌∷◌, codes, Some, None, refl, true, false}
 use Rattle.smk_base.specs.declared.tree.Pair.{Pair}
-use Rattle.smk_world.specs.Trees.{Path}
 use Rattle.smk_pattern.specs.Shapes.{Text}
 use Rattle.smk_pattern.specs.Reading.{fill_words, by_name}
 use Rattle.smk_flow.specs.declared.rule.RulePart.{RulePart}
@@ -10,10 +9,10 @@ use Rattle.smk_flow.specs.declared.rule.Flag.TheVariants.{Temp, Protected, Folde
 use Rattle.smk_flow.specs.declared.fault.FlowFault.{FlowFault}
 use Rattle.smk_flow.specs.declared.fault.JobFault.{JobFault}
 use Rattle.smk_flow.specs.Checks.{rule_in, rule_fault, contradiction}
-use Rattle.smk_flow.specs.Flows.{Flow, Candidate, number_of, folders_of, gathers}
+use Rattle.smk_flow.specs.Flows.{Candidate, number_of, folders_of, gathers}
 use Rattle.smk_flow.specs.Jobs.{path_texts, path_fault}
 use Rattle.smk_flow.specs.Targets.{paths_of, words_of, all_paths, first_bad}
-use Rattle.smk_flow.proofs.Examples.{paired, single, clustering, aggregate, copying, cat, copy, clusters, unordered, rule, input, output, gathering, flow_of}
+use Rattle.smk_flow.proofs.Examples.{paired, clustering, aggregate, copying, cat, copy, clusters, unordered, rule, input, output, flow_of}
 
 -- ## The first fault of a rule
 

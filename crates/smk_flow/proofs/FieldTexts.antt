@@ -1,5 +1,5 @@
 -- Texts that aren't read as patterns, with the names in their braces filled.
-use Rattle.std.proofs.Common.{◌≡◌, ◌≢◌, ℕ, zero, suc, ◌+◌, ◌<◌, ◌==◌, ◌&&◌, ◌||◌, not, List, [], ◌∷◌, ◌++◌, length, get_or, Option, Some, None, option_map, Bool, true, false, cond, refl, sym, ap, subst, ◌∙◌, arith, true≢false, append-nil, append_assoc}
+use Rattle.std.proofs.Common.{◌≡◌, ◌≢◌, ℕ, suc, ◌<◌, ◌==◌, ◌&&◌, ◌||◌, not, List, [], ◌∷◌, ◌++◌, length, get_or, Option, Some, None, option_map, Bool, true, false, cond, refl, sym, ap, subst, ◌∙◌, arith, true≢false, append-nil, append_assoc}
 use Rattle.std.specs.List.{list_all}
 use Rattle.std.specs.Int.{is_in_range}
 use Rattle.std.proofs.lemmas.Bool.Decides.{nat_tests}

@@ -1,4 +1,4 @@
-use Rattle.std.proofs.Common.{List, Bor, Option, Some, None, option_map, ℕ, ap, sym, ◌∙◌}
+use Rattle.std.proofs.Common.{List, Bor, Option, Some, option_map, ℕ, ap, sym, ◌∙◌}
 use Rattle.smk_flow.specs.declared.rule.RulePart.{RulePart}
 use Rattle.smk_flow.specs.declared.workflow.Rule.{Rule}
 use Rattle.smk_flow.proofs.Ruled.{default_same}
