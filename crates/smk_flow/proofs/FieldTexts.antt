@@ -1,5 +1,5 @@
 -- Texts that aren't read as patterns, with the names in their braces filled.
-use Rattle.std.proofs.Common.{◌≡◌, ◌≢◌, ℕ, zero, suc, ◌+◌, ◌<◌, ◌==◌, ◌&&◌, ◌||◌, not, List, [], ◌∷◌, ◌++◌, length, get_or, Option, Some, None, option_map, Bool, true, false, cond, refl, sym, ap, subst, ◌∙◌, arith, true≢false, append-nil, append_assoc}
+use Rattle.std.proofs.Common.{◌≡◌, ◌≢◌, ℕ, suc, ◌<◌, ◌==◌, ◌&&◌, ◌||◌, not, List, [], ◌∷◌, ◌++◌, length, get_or, Option, Some, None, option_map, Bool, true, false, cond, refl, sym, ap, subst, ◌∙◌, arith, true≢false, append-nil, append_assoc}
 use Rattle.std.specs.List.{list_all}
 use Rattle.std.specs.Int.{is_in_range}
 use Rattle.std.proofs.lemmas.Bool.Decides.{nat_tests}
@@ -152,11 +152,12 @@ both_anew : (b : List Pair) (t r : Text) → (name_at b (t ++ 123 ∷ r) ≡ mor
 both_anew b [] r = (refl, refl)
 both_anew b (x ∷ t) r =
     let h = both_anew b t r in
-    let f = fill_words b (123 ∷ r) in
-    (ap (λ (w : Text). longer_name x w (name_at b (t ++ 123 ∷ r))) h.1 ∙ ap (λ (o : Option (Text × Text)). longer_name x (fill_words b t ++ f) o) h.0
-    ∙ name_step x (fill_words b t) f (name_at b t),
-    ap (λ (w : Text). one_name w b x (name_at b (t ++ 123 ∷ r))) h.1 ∙ ap (λ (o : Option (Text × Text)). one_name (fill_words b t ++ f) b x o) h.0
-    ∙ whole_step (fill_words b t) f b x (name_at b t))
+    let f = fill_words b (123 ∷ r) in (
+      ap (λ (w : Text). longer_name x w (name_at b (t ++ 123 ∷ r))) h.1 ∙ ap (λ (o : Option (Text × Text)). longer_name x (fill_words b t ++ f) o) h.0
+          ∙ name_step x (fill_words b t) f (name_at b t),
+      ap (λ (w : Text). one_name w b x (name_at b (t ++ 123 ∷ r))) h.1 ∙ ap (λ (o : Option (Text × Text)). one_name (fill_words b t ++ f) b x o) h.0
+          ∙ whole_step (fill_words b t) f b x (name_at b t),
+    )
 
 pub anew : (b : List Pair) (t : Text) (rest : Option Text) → fill_words b (t ++ from_brace rest) ≡ fill_words b t ++ fill_words b (from_brace rest)
 anew b t None = ap (fill_words b) (append-nil t) ∙ sym (append-nil (fill_words b t))

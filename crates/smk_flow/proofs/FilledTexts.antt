@@ -1,5 +1,5 @@
 -- Texts that are filled, and whether they are paths.
-use Rattle.std.proofs.Common.{◌≡◌, List, [], ◌∷◌, ◌++◌, Option, Some, None, Bool, true, false, cond, refl, sym, ap, subst, ◌∙◌}
+use Rattle.std.proofs.Common.{◌≡◌, List, [], ◌∷◌, ◌++◌, Some, None, Bool, true, false, cond, refl, ap, ◌∙◌}
 use Rattle.smk_base.specs.declared.tree.Pair.{Pair}
 use Rattle.smk_base.specs.Path.{is_path}
 use Rattle.smk_pattern.specs.Shapes.{Text, Shape}
@@ -42,3 +42,13 @@ before_others (t ∷ a) b f h = go (is_path t) h (before_others a b f)
         cond x (path_fault (a ++ b)) (Some (JobFault.NotPath t)) ≡ Some f
     go true h more = more h
     go false h more = h
+
+-- texts in front of others that are paths with them
+pub front_good : (a b : List Text) → path_fault (a ++ b) ≡ None → path_fault a ≡ None
+front_good [] b h = refl
+front_good (t ∷ a) b h = go (is_path t) h (front_good a b)
+  where
+    go : (x : Bool) → cond x (path_fault (a ++ b)) (Some (JobFault.NotPath t)) ≡ None → (path_fault (a ++ b) ≡ None → path_fault a ≡ None) →
+        cond x (path_fault a) (Some (JobFault.NotPath t)) ≡ None
+    go true h more = more h
+    go false h more = absurd (cc)

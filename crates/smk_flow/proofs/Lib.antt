@@ -9,6 +9,8 @@ pub mod RulesPass
 pub mod Ruled
 pub mod NoFault
 pub mod Numbered
+pub mod Checked
+pub mod JobParts
 pub mod NumberFound
 pub mod MadeParts
 pub mod PairsPut

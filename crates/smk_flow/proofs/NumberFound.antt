@@ -1,5 +1,5 @@
 -- The rule that has the number that is kept under a name.
-use Rattle.std.proofs.Common.{◌≡◌, ℕ, zero, suc, ◌+◌, ◌<◌, List, [], ◌∷◌, map, length, get_or, Option, Some, None, option_map, Bool, true, false, cond, refl, sym, ap, subst, ◌∙◌, arith, bytes_eq, slice_get}
+use Rattle.std.proofs.Common.{◌≡◌, ℕ, zero, suc, ◌+◌, ◌<◌, List, [], ◌∷◌, map, length, get_or, Some, None, option_map, Bool, true, false, cond, refl, sym, ap, subst, ◌∙◌, arith, bytes_eq, slice_get}
 use Rattle.std.specs.List.{find, enumerate_from}
 use Rattle.smk_pattern.specs.Shapes.{Text}
 use Rattle.smk_flow.specs.declared.rule.RulePart.{RulePart}

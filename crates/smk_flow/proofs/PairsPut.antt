@@ -1,5 +1,5 @@
 -- Pairs that are put among others by name.
-use Rattle.std.proofs.Common.{◌≡◌, ℕ, suc, ◌+◌, List, [], ◌∷◌, ◌++◌, take, drop, Bor, Bool, true, false, cond, refl, sym, ap, ◌∙◌}
+use Rattle.std.proofs.Common.{◌≡◌, ℕ, suc, ◌+◌, List, [], ◌∷◌, drop, Bor, Bool, true, false, cond, refl, sym, ap, ◌∙◌}
 use Rattle.std.specs.List.{insert}
 use Rattle.smk_base.specs.declared.tree.Pair.{Pair}
 use Rattle.smk_pattern.specs.Reading.{is_below, put, by_name}

@@ -1,5 +1,5 @@
 -- How far a text has been looked through for names.
-use Rattle.std.specs.Prelude.{ℕ, Bool, List, [], ◌∷◌, not, ◌+◌, ◌==◌, Option, Some, None, option_map, if◌then◌else◌}
+use Rattle.std.specs.Prelude.{ℕ, Bool, [], ◌∷◌, not, ◌+◌, ◌==◌, Option, Some, None, option_map, if◌then◌else◌}
 use Rattle.std.specs.List.{list_all}
 use Rattle.smk_pattern.specs.Shapes.{Text}
 use Rattle.smk_pattern.specs.Splitting.{between}

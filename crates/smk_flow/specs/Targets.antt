@@ -1,5 +1,5 @@
 -- The paths that words stand for as targets.
-use Rattle.std.specs.Prelude.{Bool, true, false, ◌&&◌, ◌||◌, not, List, [], ◌∷◌, ◌++◌, map, filter, bytes_eq, Option, Some, None, option_map, option_to_list, is_none, if◌then◌else◌}
+use Rattle.std.specs.Prelude.{Bool, true, false, ◌&&◌, ◌||◌, not, List, [], ◌∷◌, ◌++◌, map, filter, Option, Some, None, option_map, option_to_list, is_none, if◌then◌else◌}
 use Rattle.std.specs.List.{find, flat_map}
 use Rattle.smk_base.specs.Path.{is_path}
 use Rattle.smk_world.specs.Trees.{Path, first}

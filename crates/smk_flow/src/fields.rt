@@ -39,11 +39,7 @@ fn braced<'t>(segment: &'t str, binding: &'t [Pair]) -> (&'t str, &'t str)
 }
 
 // The text with each `{NAME}` replaced by the value of the name. Every other brace stands for itself.
-pub(crate) fn with_fields(
-    alloc: Global,
-    text: &str,
-    binding: &[Pair],
-) -> Result<Text, OutOfMemory>
+pub(crate) fn with_fields(alloc: Global, text: &str, binding: &[Pair]) -> Result<Text, OutOfMemory>
     ensures { IfOk result (λ made. made ≡ fill_words binding.now text.now) }
 {
     let (front, mut rest) = cut(text);

@@ -104,8 +104,9 @@ fn first_against<'c>(orders: &[Clause], before: &'c [Text], b: &Text) -> Option<
     None
 }
 
-// Looks for the first name in the clause that contradicts a clause. Clauses are few and short, so each name is compared with all
-// before it, and each two with all clauses.
+// Looks for the first name in the clause that contradicts a clause. Each name is compared with all before it, and each two with all
+// clauses. Clauses are few, and short: their names are rules', which is checked before, and the first that stands twice ends the
+// search, so no more names are looked at in a clause than there are rules.
 fn check_order(alloc: Global, orders: &[Clause], names: &[Text]) -> Result<(), FlowFault>
     ensures ok { OnOk result (contradiction_in orders.now [] names.now ≡ None) }
     ensures fault { IfErr result (λ f. f ≢ FlowFault.OutOfMemory → contradiction_in orders.now [] names.now ≡ Some f) }

@@ -37,7 +37,10 @@ fn place_among(pair: &Pair, sorted: &[&Pair]) -> usize
     ensures within { result ≤ length sorted.now }
 {
     for (at, other) in sorted.iter().enumerate() {
-        if is_below(pair.name.as_str().as_bytes(), other.name.as_str().as_bytes()) {
+        if is_below(
+            pair.name.as_str().as_bytes(),
+            other.name.as_str().as_bytes(),
+        ) {
             return at;
         }
     }

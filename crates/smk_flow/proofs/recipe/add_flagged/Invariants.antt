@@ -1,4 +1,4 @@
-use Rattle.std.proofs.Common.{◌≡◌, ◌++◌, take, drop, map}
+use Rattle.std.proofs.Common.{◌≡◌, ◌++◌, drop}
 use Rattle.smk_flow.specs.Jobs.{flagged, path_fault}
 use Rattle.smk_flow.proofs.recipe.add_flagged.Given as goal
 

@@ -1,10 +1,7 @@
-use Rattle.std.proofs.Common.{◌≡◌, ◌∷◌, ◌+◌, ◌∙◌, List, drop, map, ap, sym}
+use Rattle.std.proofs.Common.{◌≡◌, ◌∷◌, ◌+◌, ◌∙◌, List, drop, ap, sym}
 use Rattle.std.specs.List.{flat_map}
 use Rattle.std.proofs.lemmas.List.{at_drop_more}
-use Rattle.smk_pattern.specs.Shapes.{Text}
-use Rattle.smk_pattern.specs.Reading.{fill}
 use Rattle.smk_flow.specs.declared.rule.OutPart.{OutPart}
-use Rattle.smk_flow.specs.declared.rule.FlaggedText.{FlaggedText}
 use Rattle.smk_flow.specs.Jobs.{flagged}
 use Rattle.smk_flow.proofs.MadeParts.{flagged_more, flagged_goes_on, flagged_stops}
 use Rattle.smk_flow.proofs.recipe.flagged.Goals as goal

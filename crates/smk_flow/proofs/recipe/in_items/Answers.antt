@@ -1,10 +1,8 @@
 use Rattle.std.proofs.Common.{◌≡◌, ◌∷◌, ◌+◌, ◌∙◌, List, drop, map, ap, sym}
 use Rattle.std.specs.List.{flat_map}
 use Rattle.std.proofs.lemmas.List.{at_drop_more}
-use Rattle.smk_pattern.specs.Shapes.{Text}
 use Rattle.smk_pattern.specs.Reading.{fill}
 use Rattle.smk_flow.specs.declared.rule.InPart.{InPart}
-use Rattle.smk_flow.specs.declared.rule.FlaggedText.{FlaggedText}
 use Rattle.smk_flow.specs.Jobs.{declared_item}
 use Rattle.smk_flow.proofs.MadeParts.{one_made, goes_on, stops}
 use Rattle.smk_flow.proofs.recipe.in_items.Goals as goal

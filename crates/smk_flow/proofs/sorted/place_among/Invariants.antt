@@ -1,4 +1,4 @@
-use Rattle.std.proofs.Common.{◌≡◌, ◌+◌, ◌≤◌, drop, length}
+use Rattle.std.proofs.Common.{◌≡◌, ◌+◌, drop}
 use Rattle.smk_flow.specs.Lent.{pairs_lent, place_among}
 use Rattle.smk_flow.proofs.sorted.place_among.Given as goal
 

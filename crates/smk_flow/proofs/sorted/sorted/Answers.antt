@@ -2,7 +2,7 @@ use Rattle.std.proofs.Common.{◌≡◌, ℕ, ◌+◌, ◌-◌, ◌∷◌, ◌�
 use Rattle.std.proofs.lemmas.List.{at_drop_more}
 use Rattle.smk_base.specs.declared.tree.Pair.{Pair}
 use Rattle.smk_pattern.specs.Reading.{by_name}
-use Rattle.smk_flow.specs.Lent.{pairs_lent, place_among}
+use Rattle.smk_flow.specs.Lent.{pairs_lent}
 use Rattle.smk_flow.proofs.PairsPut.{one_put}
 use Rattle.smk_flow.proofs.sorted.sorted.Goals as goal
 

@@ -1,4 +1,4 @@
-use Rattle.std.proofs.Common.{map, ap, sym, ◌∙◌}
+use Rattle.std.proofs.Common.{map, ap, ◌∙◌}
 use Rattle.smk_flow.specs.Flows.{Flow}
 use Rattle.smk_flow.specs.PatternsOf.{rule_of}
 use Rattle.smk_flow.proofs.Ruled.{are_rules}
