@@ -2,7 +2,7 @@
 use Rattle.std.proofs.Common.{◌≡◌, ℕ, zero, suc, ◌+◌, ◌<◌, ◌≤◌, ◌==◌, ◌||◌, ◌&&◌, Bool, true, false, cond, List, [], ◌∷◌, ◌++◌, take, drop, map, length, get_or, refl, ap, sym, ◌∙◌, arith, append_assoc, append-nil, add-one}
 use Rattle.std.proofs.lemmas.Bool.Decides.{nat_tests}
 use Rattle.std.proofs.lemmas.Bool.{ne_eqb}
-use Rattle.smk_format.specs.Templates.{Text, Symbol, Plain, Field, Loose, is_brace, first_brace, is_closed, is_doubled, opened, opened_more, single, single_more, symbol_at, more_at, symbols_after, symbols}
+use Rattle.smk_format.specs.Templates.{Text, Symbol, Plain, Field, Loose, is_brace, first_brace, is_closed, is_doubled, opened, opened_more, undoubled, undoubled_more, symbol_at, more_at, symbols_after, symbols}
 
 pub symbols_skipped : (k : ℕ) (t : Text) → symbols_after k t ≡ symbols (drop k t)
 symbols_skipped zero t = refl
@@ -11,7 +11,7 @@ symbols_skipped (suc k) (b ∷ t) = symbols_skipped k t
 
 -- a byte that is no brace stands for itself
 plain_first : (b : ℕ) (t : Text) → is_brace b ≡ false → symbols (b ∷ t) ≡ Plain b ∷ symbols t
-plain_first b t e = ap (λ (v : Bool). cond v (cond (is_doubled b t) (Plain b) (single b t)) (Plain b) ∷ symbols_after (cond v (cond (is_doubled b t) 1 (single_more b t)) 0) t) e
+plain_first b t e = ap (λ (v : Bool). cond v (cond (is_doubled b t) (Plain b) (undoubled b t)) (Plain b) ∷ symbols_after (cond v (cond (is_doubled b t) 1 (undoubled_more b t)) 0) t) e
 
 before_step : (b : ℕ) (t : Text) (v : Bool) → is_brace b ≡ v → symbols t ≡ map Plain (take (first_brace t) t) ++ symbols (drop (first_brace t) t)
     → symbols (b ∷ t) ≡ map Plain (take (cond v 0 (suc (first_brace t))) (b ∷ t)) ++ symbols (drop (cond v 0 (suc (first_brace t))) (b ∷ t))
@@ -24,16 +24,16 @@ symbols_before [] = refl
 symbols_before (b ∷ t) = before_step b t (is_brace b) refl (symbols_before t)
 
 -- a brace, with what follows it
-brace_first : (b : ℕ) (t : Text) → is_brace b ≡ true → symbols (b ∷ t) ≡ cond (is_doubled b t) (Plain b) (single b t) ∷ symbols (drop (cond (is_doubled b t) 1 (single_more b t)) t)
+brace_first : (b : ℕ) (t : Text) → is_brace b ≡ true → symbols (b ∷ t) ≡ cond (is_doubled b t) (Plain b) (undoubled b t) ∷ symbols (drop (cond (is_doubled b t) 1 (undoubled_more b t)) t)
 brace_first b t e =
-    ap (λ (v : Bool). cond v (cond (is_doubled b t) (Plain b) (single b t)) (Plain b) ∷ symbols_after (cond v (cond (is_doubled b t) 1 (single_more b t)) 0) t) e
-    ∙ ap (λ (ss : List Symbol). cond (is_doubled b t) (Plain b) (single b t) ∷ ss) (symbols_skipped (cond (is_doubled b t) 1 (single_more b t)) t)
+    ap (λ (v : Bool). cond v (cond (is_doubled b t) (Plain b) (undoubled b t)) (Plain b) ∷ symbols_after (cond v (cond (is_doubled b t) 1 (undoubled_more b t)) 0) t) e
+    ∙ ap (λ (ss : List Symbol). cond (is_doubled b t) (Plain b) (undoubled b t) ∷ ss) (symbols_skipped (cond (is_doubled b t) 1 (undoubled_more b t)) t)
 
 pub doubled_first : (b : ℕ) (t : Text) → is_brace b ≡ true → is_doubled b t ≡ true → symbols (b ∷ t) ≡ Plain b ∷ symbols (drop 1 t)
-doubled_first b t e d = brace_first b t e ∙ ap (λ (v : Bool). cond v (Plain b) (single b t) ∷ symbols (drop (cond v 1 (single_more b t)) t)) d
+doubled_first b t e d = brace_first b t e ∙ ap (λ (v : Bool). cond v (Plain b) (undoubled b t) ∷ symbols (drop (cond v 1 (undoubled_more b t)) t)) d
 
-alone : (b : ℕ) (t : Text) → is_brace b ≡ true → is_doubled b t ≡ false → symbols (b ∷ t) ≡ single b t ∷ symbols (drop (single_more b t) t)
-alone b t e d = brace_first b t e ∙ ap (λ (v : Bool). cond v (Plain b) (single b t) ∷ symbols (drop (cond v 1 (single_more b t)) t)) d
+alone : (b : ℕ) (t : Text) → is_brace b ≡ true → is_doubled b t ≡ false → symbols (b ∷ t) ≡ undoubled b t ∷ symbols (drop (undoubled_more b t) t)
+alone b t e d = brace_first b t e ∙ ap (λ (v : Bool). cond v (Plain b) (undoubled b t) ∷ symbols (drop (cond v 1 (undoubled_more b t)) t)) d
 
 pub loose_first : (b : ℕ) (t : Text) → is_brace b ≡ true → is_doubled b t ≡ false → (b == 123) ≡ false → symbols (b ∷ t) ≡ Loose (b ∷ []) ∷ symbols t
 loose_first b t e d n = alone b t e d ∙ ap (λ (v : Bool). cond v (opened t (first_brace t)) (Loose (b ∷ [])) ∷ symbols (drop (cond v (opened_more t (first_brace t)) 0) t)) n

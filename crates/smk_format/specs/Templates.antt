@@ -32,11 +32,11 @@ abbrev pub opened_more : Text → ℕ → ℕ
 opened_more t k = if is_closed t k then suc k else k
 
 -- what a brace is that isn't doubled
-abbrev pub single : ℕ → Text → Symbol
-single b t = if b == 123 then opened t (first_brace t) else Loose (b ∷ [])
+abbrev pub undoubled : ℕ → Text → Symbol
+undoubled b t = if b == 123 then opened t (first_brace t) else Loose (b ∷ [])
 
-abbrev pub single_more : ℕ → Text → ℕ
-single_more b t = if b == 123 then opened_more t (first_brace t) else 0
+abbrev pub undoubled_more : ℕ → Text → ℕ
+undoubled_more b t = if b == 123 then opened_more t (first_brace t) else 0
 
 -- the same byte follows
 abbrev pub is_doubled : ℕ → Text → Bool
@@ -44,11 +44,11 @@ is_doubled b t = slice_index t 0 == b
 
 -- what a byte begins, before these bytes
 abbrev pub symbol_at : ℕ → Text → Symbol
-symbol_at b t = if is_brace b then (if is_doubled b t then Plain b else single b t) else Plain b
+symbol_at b t = if is_brace b then (if is_doubled b t then Plain b else undoubled b t) else Plain b
 
 -- how many of the bytes that follow belong to it
 abbrev pub more_at : ℕ → Text → ℕ
-more_at b t = if is_brace b then (if is_doubled b t then 1 else single_more b t) else 0
+more_at b t = if is_brace b then (if is_doubled b t then 1 else undoubled_more b t) else 0
 
 -- what stands in a text after so many bytes
 abbrev pub symbols_after : ℕ → Text → List Symbol
