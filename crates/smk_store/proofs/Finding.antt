@@ -1,6 +1,6 @@
 -- What a folder's listing tells, and what is found in the folder name by name.
-use Rattle.std.proofs.Common.{◌≡◌, ◌⊎◌, inl, inr, ◌≢◌, ℕ, zero, suc, ◌+◌, ◌<◌, ◌≤◌, ◌==◌, Bool, true, false, ◌&&◌, ◌||◌, not, cond, List, [], ◌∷◌, ◌++◌, map, length, take, drop, get_or, refl, sym, ap, subst, ◌∙◌, Option, Some, None, arith, bytes_eq, append_assoc, length-append}
-use Rattle.std.specs.Prelude.{IsSome, IsTrue, is_some, All, Contains, if◌then◌else◌, nat_le, nat_lt}
+use Rattle.std.proofs.Common.{◌≡◌, ◌⊎◌, inl, inr, ◌≢◌, ℕ, ◌+◌, ◌<◌, ◌≤◌, ◌==◌, Bool, true, false, ◌||◌, List, [], ◌∷◌, ◌++◌, map, length, take, get_or, refl, sym, ap, subst, ◌∙◌, Option, Some, None, arith, append_assoc, length-append}
+use Rattle.std.specs.Prelude.{IsSome, IsTrue, All, Contains, if◌then◌else◌, nat_le, nat_lt}
 use Rattle.std.specs.List.{list_any}
 use Rattle.std.specs.Str.{IsUtf8}
 use Rattle.std.proofs.lemmas.Bool.{eqb-true, leb-true, lt-ltb, ltb-true}
@@ -9,8 +9,8 @@ use Rattle.std.proofs.lemmas.List.Elements.{All-get_or, All-head, All-tail, All-
 use Rattle.std.proofs.lemmas.List.Folds.{list_any_at}
 use Rattle.smk_base.specs.Path.{is_under}
 use Rattle.smk_base.specs.Place.{name_of}
-use Rattle.smk_base.proofs.Places.{and_first, and_second, same_place, place_itself}
-use Rattle.smk_base.proofs.Under.{never_both, false_of_not, both_true, or_cases, or_first, or_second, under_folder, under_further}
+use Rattle.smk_base.proofs.Places.{and_second, same_place, place_itself}
+use Rattle.smk_base.proofs.Under.{never_both, or_cases, or_first, or_second, under_folder, under_further}
 use Rattle.smk_world.specs.declared.event.Listing.{Listing}
 use Rattle.smk_world.specs.declared.event.Name.{Name}
 use Rattle.smk_world.specs.declared.event.Node.{Node}
@@ -18,7 +18,7 @@ use Rattle.smk_world.specs.declared.event.Node.TheVariants.{Regular, Directory}
 use Rattle.smk_world.specs.declared.event.NodeState.{NodeState}
 use Rattle.smk_world.specs.declared.event.NodeState.TheVariants.{Owned, Known}
 use Rattle.smk_world.specs.World.{World, reading, reads_folder}
-use Rattle.smk_world.specs.Calls.{in_folder, is_name, IsTextName, Stands, MayStand, IsListing, ListingIs, no_listing}
+use Rattle.smk_world.specs.Calls.{in_folder, is_name, IsTextName, Stands, MayStand, IsListing, ListingIs}
 use Rattle.smk_world.specs.Trees.{Path, is_path_text}
 use Rattle.smk_store.specs.Loading.{IsFiled, store_folder}
 use Rattle.smk_store.specs.Walking.{after_sign, is_it, tells_of, all_tell_of, front_in, front_below, StandsIn, Walked}

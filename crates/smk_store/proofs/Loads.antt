@@ -1,7 +1,7 @@
 -- What is made of the paths that were found: records, entries, and the store.
-use Rattle.std.proofs.Common.{◌≡◌, ◌⊎◌, inl, inr, ◌≢◌, ℕ, zero, suc, ◌+◌, ◌<◌, ◌≤◌, ◌==◌, ◌^◌, Bool, true, false, ◌&&◌, ◌||◌, not, cond, eqb, List, [], ◌∷◌, ◌++◌, map, length, refl, sym, ap, subst, ◌∙◌, Option, Some, None, arith, bytes_eq, append_assoc, length-append}
+use Rattle.std.proofs.Common.{◌≡◌, ℕ, ◌<◌, ◌^◌, Bool, true, false, ◌&&◌, ◌||◌, cond, List, [], ◌∷◌, ◌++◌, map, length, refl, sym, ap, ◌∙◌, Option, Some, None, arith, bytes_eq, append_assoc, length-append}
 use Rattle.std.proofs.lemmas.List.{append-nil, map_push}
-use Rattle.std.specs.Prelude.{IsSome, IsTrue, is_some, String, string_bytes, if◌then◌else◌, option_map, nat_le, ◌↔◌}
+use Rattle.std.specs.Prelude.{IsSome, is_some, String, string_bytes, if◌then◌else◌, nat_le}
 use Rattle.std.specs.Global.{Global}
 use Rattle.std.specs.BTreeSet.{BTreeSet, contains_text}
 use Rattle.std.specs.BTreeSet as sorted
@@ -19,8 +19,7 @@ use Rattle.std.proofs.lemmas.Map.Text.{btree_set_updates_text, is_eq-slice_cmp}
 use Rattle.smk_base.specs.Path.{is_path, is_under}
 use Rattle.smk_base.specs.Place.{name_of, record_place, mark_place, note_place, records_folder, marks_folder, notes_folder}
 use Rattle.smk_base.proofs.Places.{and_first, same_place, place_itself}
-use Rattle.smk_base.proofs.Under.{never_both, false_unless}
-use Rattle.smk_world.specs.declared.event.Found.{Found}
+use Rattle.smk_base.proofs.Under.{never_both}
 use Rattle.smk_world.specs.declared.event.Found.TheVariants.{Nothing as NoneFound, TooBig, Held as HeldBytes}
 use Rattle.smk_world.specs.declared.event.Node.{Node}
 use Rattle.smk_world.specs.declared.event.Node.TheVariants.{Regular, Directory}
@@ -30,7 +29,7 @@ use Rattle.smk_world.specs.Calls.{in_folder, found_of}
 use Rattle.smk_world.specs.Trees.{Path, is_path_text}
 use Rattle.smk_record.specs.declared.record.Record.{Record}
 use Rattle.smk_record.specs.Records.{is_valid, are_rising, is_less}
-use Rattle.smk_record.specs.Spelling.{IsReadAs, ReadsRecords, spelling, is_writable}
+use Rattle.smk_record.specs.Spelling.{IsReadAs, ReadsRecords, is_writable}
 use Rattle.smk_record.proofs.Lists.{path_text}
 use Rattle.smk_store.specs.declared.store.Entry.{Entry}
 use Rattle.smk_store.specs.declared.store.Kept.{Kept}

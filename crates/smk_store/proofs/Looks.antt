@@ -1,8 +1,7 @@
 -- Looks, one after another: nothing changes but the log.
-use Rattle.std.proofs.Common.{◌≡◌, ◌⊎◌, inl, inr, ◌≢◌, ℕ, zero, suc, ◌<◌, ◌≤◌, get_or, Bool, true, false, List, [], ◌∷◌, ◌++◌, refl, sym, ap, subst, ◌∙◌, Option, Some, None, Result, Ok, Err, arith}
-use Rattle.std.specs.Prelude.{IsSome, is_some, IsErrOf, IsErrAnd, IfOk, All}
+use Rattle.std.proofs.Common.{◌≡◌, inl, inr, ◌≢◌, ℕ, ◌≤◌, true, false, List, [], ◌∷◌, refl, sym, ap, subst, ◌∙◌, Option, Some, None, Result, Ok, Err, arith}
+use Rattle.std.specs.Prelude.{IsSome, is_some, IsErrOf, IsErrAnd, IfOk}
 use Rattle.std.proofs.lemmas.List.Elements.{All-append, All-cons, All-head, All-tail}
-use Rattle.smk_base.specs.declared.tree.Tree.{Tree}
 use Rattle.smk_world.specs.declared.event.Call.{Call}
 use Rattle.smk_world.specs.declared.event.Call.TheVariants.{Looked, ReadFile, ReadFolder, Written, Created, Removed, MadeParents, Settled, Protected, Started, Waited}
 use Rattle.smk_world.specs.declared.event.Change.{Change}
@@ -14,9 +13,8 @@ use Rattle.smk_world.specs.declared.event.NodeState.{NodeState}
 use Rattle.smk_world.specs.declared.event.NodeState.TheVariants.{Owned, Known}
 use Rattle.smk_world.specs.declared.event.WorkFault.{WorkFault}
 use Rattle.smk_world.specs.declared.event.WorkFault.TheVariants.{Failed as FailedFault, OutOfMemory as MemoryFault}
-use Rattle.smk_world.specs.declared.recipe.Recipe.{Recipe}
 use Rattle.smk_world.specs.World.{World, after, run, node_after, reading, reads_folder}
-use Rattle.smk_world.specs.Calls.{Acted, Happened, HasCause, Rose, Lets, ListingIs, FoundIs, found_of, failed, in_folder}
+use Rattle.smk_world.specs.Calls.{Happened, HasCause, Rose, Lets, ListingIs, FoundIs, found_of, failed, in_folder}
 use Rattle.smk_world.specs.Runs.{Did}
 use Rattle.smk_world.specs.Trees.{Path, Act}
 use Rattle.smk_world.proofs.Runs.{did_nothing, did_more, did_both}

@@ -1,7 +1,6 @@
 -- How the engine's folders are walked: the names in them, the paths of which they tell, and what is found.
-use Rattle.std.specs.Prelude.{◌≡◌, ◌⊎◌, ℕ, Bool, true, false, ◌&&◌, ◌||◌, List, [], ◌∷◌, ◌++◌, length, nat_lt, ◌+◌, ◌==◌, bytes_eq, if◌then◌else◌, Option, Some, None, option_map, is_some, IsSome, String, string_bytes, map}
+use Rattle.std.specs.Prelude.{◌≡◌, ◌⊎◌, ℕ, Bool, true, false, List, [], ◌∷◌, ◌++◌, length, nat_lt, ◌+◌, ◌==◌, bytes_eq, if◌then◌else◌, Option, Some, None, is_some, IsSome, String, string_bytes, map}
 use Rattle.std.specs.Global.{Global}
-use Rattle.std.specs.Option.{option_and_then}
 use Rattle.std.specs.List.{list_any}
 use Rattle.smk_base.specs.Place.{name_of, records_folder, marks_folder, notes_folder}
 use Rattle.smk_world.specs.declared.event.Name.{Name}

@@ -1,4 +1,4 @@
-use Rattle.std.proofs.Common.{◌≡◌, true, subst, sym, ap, ◌∙◌, bytes_eq, arith}
+use Rattle.std.proofs.Common.{◌≡◌, true, subst, bytes_eq, arith}
 use Rattle.smk_record.specs.Spelling.{IsReadAs}
 use Rattle.smk_store.proofs.Loads.{held_for}
 use Rattle.smk_store.proofs.loading.kept_in.Goals as goal

@@ -1,4 +1,4 @@
-use Rattle.std.proofs.Common.{◌≡◌, true, false, ap, sym, ◌∙◌}
+use Rattle.std.proofs.Common.{◌≡◌, true, ap, sym, ◌∙◌}
 use Rattle.std.specs.BTreeSet.{contains_text}
 use Rattle.smk_store.proofs.Looks.{if_ok}
 use Rattle.smk_store.proofs.Loads.{kept_yes, kept_no, record_stands}

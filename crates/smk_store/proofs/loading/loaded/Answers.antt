@@ -1,6 +1,4 @@
-use Rattle.std.proofs.Common.{◌≡◌, refl, sym, ap, ◌∙◌}
-use Rattle.smk_store.specs.Images.{seen}
-use Rattle.smk_store.specs.Walking.{HasSigns}
+use Rattle.std.proofs.Common.{◌∙◌}
 use Rattle.smk_store.proofs.Looks.{looked_on, looked_memory, looked_well, looked_then, ok_is_quiet, still, filed_still, if_ok}
 use Rattle.smk_store.proofs.Loads.{store_is, signs_still, stored_still}
 use Rattle.smk_store.proofs.loading.loaded.Goals as goal

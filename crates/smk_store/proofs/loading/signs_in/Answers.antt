@@ -1,4 +1,4 @@
-use Rattle.std.proofs.Common.{◌≡◌, refl, ap, sym, ◌∙◌}
+use Rattle.std.proofs.Common.{refl}
 use Rattle.smk_base.specs.Place.{records_folder, marks_folder, notes_folder}
 use Rattle.smk_store.proofs.Looks.{looked_on, looked_memory, looked_short, looked_well, looked_then, never_ok, ok_is_quiet, still, filed_still}
 use Rattle.smk_store.proofs.Loads.{all_still}

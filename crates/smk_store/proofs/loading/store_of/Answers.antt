@@ -1,9 +1,7 @@
-use Rattle.std.proofs.Common.{◌≡◌, Some, None, refl, sym, ap, ◌++◌, ◌∷◌, [], ◌∙◌, length, map, string_bytes}
+use Rattle.std.proofs.Common.{◌≡◌, Some, sym, ap, ◌++◌, ◌∙◌, string_bytes}
 use Rattle.std.specs.List.{filter}
-use Rattle.smk_world.specs.World.{World}
 use Rattle.smk_world.specs.Trees.{is_path_text}
 use Rattle.smk_store.specs.Images.{seen}
-use Rattle.smk_store.specs.Loading.{entry_at}
 use Rattle.smk_store.specs.Walking.{texts_of, path_in}
 use Rattle.smk_store.proofs.Looks.{looked_on, looked_memory, looked_well, looked_then, ok_is_quiet, still, filed_still}
 use Rattle.smk_store.proofs.Loads.{one_more, all_found, are_kept, store_known, entry_still, signs_still, entry_pushed, lengths_pushed, is_text_path}

@@ -1,14 +1,10 @@
-use Rattle.std.proofs.Common.{rules, arith, ◌≡◌, ◌<◌, ◌≤◌, [], ◌∷◌, ◌++◌, refl, ap, subst, ◌∙◌, sym, true, Option, Some, None, List, ℕ, length, take, option_map, string_bytes}
-use Rattle.std.specs.BTreeSet.{contains_text}
+use Rattle.std.proofs.Common.{arith, ◌≡◌, ap, subst, ◌∙◌, sym, true, Some, None, length, take, option_map, string_bytes}
 use Rattle.std.specs.Str.{IsUtf8}
 use Rattle.smk_base.specs.Path.{is_under}
-use Rattle.smk_world.specs.declared.event.Name.{Name}
-use Rattle.smk_world.specs.World.{World}
 use Rattle.smk_world.specs.Calls.{in_folder}
-use Rattle.smk_world.specs.Trees.{Path}
 use Rattle.smk_store.specs.Loading.{store_folder}
-use Rattle.smk_store.specs.Walking.{HasLooked, Walked, front_below}
-use Rattle.smk_store.proofs.Looks.{looked_list, looked_on, looked_memory, looked_well, looked_then, never_ok, ok_is_quiet, still, filed_still, listing_told}
+use Rattle.smk_store.specs.Walking.{Walked, front_below}
+use Rattle.smk_store.proofs.Looks.{looked_list, looked_on, looked_memory, looked_well, looked_then, ok_is_quiet, still, filed_still, listing_told}
 use Rattle.smk_store.proofs.Finding.{SoFar, Listed, begun, passed, walked_in, finished, stood_at, taken_next, all_taken, front_grows, under_store, walked_at, listed}
 use Rattle.smk_store.proofs.names.+walk.Goals as goal
 

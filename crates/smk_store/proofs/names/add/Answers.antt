@@ -1,4 +1,4 @@
-use Rattle.std.proofs.Common.{rules, ◌∙◌, ap, ◌++◌}
+use Rattle.std.proofs.Common.{◌∙◌, ap, ◌++◌}
 use Rattle.smk_store.proofs.Walks.{added}
 use Rattle.smk_store.proofs.names.add.Goals as goal
 

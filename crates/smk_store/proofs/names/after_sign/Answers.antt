@@ -1,9 +1,5 @@
-use Rattle.std.proofs.Common.{rules, arith, ◌<◌, get_or}
+use Rattle.std.proofs.Common.{arith, ◌<◌, get_or}
 use Rattle.std.proofs.lemmas.Str.{lead_after_ascii}
-use Rattle.smk_store.proofs.Looks.{if_ok}
-use Rattle.smk_store.proofs.Walks.{added}
-use Rattle.smk_store.proofs.Finding.{listed}
-use Rattle.smk_store.proofs.Loads.{stored_still}
 use Rattle.smk_store.proofs.names.after_sign.Goals as goal
 
 pub range_from-requires : goal.range_from-requires

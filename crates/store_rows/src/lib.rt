@@ -1,0 +1,5 @@
+//! Worked steps of the store over a workspace in memory.
+#![tactic(auto)]
+
+#[cfg(test)]
+mod tests;
