@@ -5,3 +5,4 @@ pub mod Firmly
 pub mod Launching
 pub mod Outs
 pub mod Looking
+pub mod Finishing

@@ -196,3 +196,12 @@ pub all_looked : (act : Recipe → List Tree → Acted) (outs : List Out) (i : �
 all_looked act outs i a b le did = λ w1 e.
     let d = did w1 e in
     (d.0, d.1, (d.2.0, d.2.1, λ known. subst (λ (os : List Out). AreSeen d.0.nodes os (nones os) d.2.0) (take_all i outs le) (d.2.2.1 known), d.2.3))
+
+pub blind_as : (act : Recipe → List Tree → Acted) (outs : List Out) (r : Result (Option (ℕ × Wrong)) Failed) (a b : Option World) → IsErr r
+    → Did act a b (λ w es. AreKnown w.nodes outs → IsBlind outs es) → Did act a b (λ w es. AreKnown w.nodes outs → HasLookedOver outs r w.nodes es)
+blind_as act outs (Ok x) a b h did = cc
+blind_as act outs (Err f) a b h did = did
+
+-- a look with this answer
+pub happened_as : (act : Recipe → List Tree → Acted) (a b : Option World) (p : Path) (r s : Result Stat Failed) → r ≡ s → Happened act a b (Looked p r) → Happened act a b (Looked p s)
+happened_as act a b p r s e h = subst (λ x. Happened act a b (Looked p x)) e h
