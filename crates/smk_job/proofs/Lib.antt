@@ -6,3 +6,4 @@ pub mod Launching
 pub mod Outs
 pub mod Looking
 pub mod Finishing
+pub mod Abandoning
