@@ -31,7 +31,7 @@ true_false e = cc
 
 -- ## What was called
 
-removed_call : (call : Call) (p : Path) → request call ≡ Remove p → failed call ≡ false → call ≡ Removed p (Ok tt)
+pub removed_call : (call : Call) (p : Path) → request call ≡ Remove p → failed call ≡ false → call ≡ Removed p (Ok tt)
 removed_call (Removed x (Ok u)) p is quiet = let e : x ≡ p = cc in ap (λ y. Removed y (Ok tt)) e
 removed_call (Removed x (Err e)) p is quiet = absurd (true_false quiet)
 removed_call (Looked x r) p is quiet = cc
@@ -45,7 +45,7 @@ removed_call (Protected x r) p is quiet = cc
 removed_call (Started recipe logs command r) p is quiet = cc
 removed_call (Waited r) p is quiet = cc
 
-settled_call : (call : Call) (ps : List Path) → request call ≡ Settle ps → failed call ≡ false → call ≡ Settled ps (Ok tt)
+pub settled_call : (call : Call) (ps : List Path) → request call ≡ Settle ps → failed call ≡ false → call ≡ Settled ps (Ok tt)
 settled_call (Settled xs (Ok u)) ps is quiet = let e : xs ≡ ps = cc in ap (λ y. Settled y (Ok tt)) e
 settled_call (Settled xs (Err e)) ps is quiet = absurd (true_false quiet)
 settled_call (Looked x r) ps is quiet = cc
@@ -88,16 +88,16 @@ module _ (act : Recipe → List Tree → Acted) (w : World) (e : Event) (p : Pat
 
 -- ## Lists
 
-in_first : (ps qs : List Path) (p : Path) → IsIn ps p → IsIn (ps ++ qs) p
+pub in_first : (ps qs : List Path) (p : Path) → IsIn ps p → IsIn (ps ++ qs) p
 in_first [] qs p i = absurd i
 in_first (x ∷ ps) qs p (inl e) = inl e
 in_first (x ∷ ps) qs p (inr i) = inr (in_first ps qs p i)
 
-in_second : (ps qs : List Path) (p : Path) → IsIn qs p → IsIn (ps ++ qs) p
+pub in_second : (ps qs : List Path) (p : Path) → IsIn qs p → IsIn (ps ++ qs) p
 in_second [] qs p i = i
 in_second (x ∷ ps) qs p i = inr (in_second ps qs p i)
 
-in_map : (f : Path → Path) (ps : List Path) (p : Path) → IsIn ps p → IsIn (map f ps) (f p)
+pub in_map : (f : Path → Path) (ps : List Path) (p : Path) → IsIn ps p → IsIn (map f ps) (f p)
 in_map f [] p i = absurd i
 in_map f (x ∷ ps) p (inl e) = inl (ap f e)
 in_map f (x ∷ ps) p (inr i) = inr (in_map f ps p i)
@@ -110,7 +110,7 @@ or_one : (a b : Bool) → a ≡ true → (a || b) ≡ true
 or_one true b h = refl
 or_one false b h = absurd (true_false (sym h))
 
-among_by : (ps : List Path) (p : Path) → IsIn ps p → IsTrue (among ps p)
+pub among_by : (ps : List Path) (p : Path) → IsIn ps p → IsTrue (among ps p)
 among_by [] p i = absurd i
 among_by (x ∷ ps) p (inl e) = or_one (bytes_eq p x) (is_named p ps) (subst (λ y. bytes_eq p y ≡ true) e (place_itself p))
 among_by (x ∷ ps) p (inr i) = or_two (bytes_eq p x) (is_named p ps) (among_by ps p i)

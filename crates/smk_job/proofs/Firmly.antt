@@ -68,10 +68,10 @@ parents_by (Protected x r) left cs p q s is quiet there = cc
 parents_by (Started recipe logs command r) left cs p q s is quiet there = cc
 parents_by (Waited r) left cs p q s is quiet there = cc
 
-stands_parents : (act : Recipe → List Tree → Acted) (p q : Path) (w v : World) → Stepped act (MakeParents p) w v → Stands (w.nodes q) → Stands (v.nodes q)
+pub stands_parents : (act : Recipe → List Tree → Acted) (p q : Path) (w v : World) → Stepped act (MakeParents p) w v → Stands (w.nodes q) → Stands (v.nodes q)
 stands_parents act p q w v st there = subst (λ x. Stands (x.nodes q)) (sym st.now) (parents_by st.event.call st.event.left w.children p q (w.nodes q) st.is st.quiet there)
 
-stands_created : (act : Recipe → List Tree → Acted) (p q : Path) (w v : World) → Stepped act (Create p) w v → Stands (w.nodes q) → Stands (v.nodes q)
+pub stands_created : (act : Recipe → List Tree → Acted) (p q : Path) (w v : World) → Stepped act (Create p) w v → Stands (w.nodes q) → Stands (v.nodes q)
 stands_created act p q w v st there = elim (bool_cases (bytes_eq q p)) [
   | inl e ↦ subst (λ x. Stands (v.nodes x)) (sym (same_place q p e)) (created act p w v st (subst (λ x. IsKnown (w.nodes x)) (same_place q p e) (known_stands (w.nodes q) there)))
   | inr e ↦ subst Stands (sym (step_keeps act (Create p) w v q st e)) there

@@ -7,3 +7,4 @@ pub mod Outs
 pub mod Looking
 pub mod Finishing
 pub mod Abandoning
+pub mod Beginning
