@@ -196,21 +196,27 @@ module _ (j : Underway) (outs : List Out) (places : JobPlaces) (records : List (
   as_unclosed : (f : Failed) (w : World) (es : List Event) → HasSettled outs places records (Err f) w.nodes es → HasFinished j (Err Device) w es
   as_unclosed f w es (inl h) = inl (subst (λ os. IsBlind os es) ready.outputs h)
   as_unclosed f w es (inr (inl h)) =
-      inr (inl (nones (outs_of j.recipe), record {
-        looks = h.looks;
-        rest = h.rest;
-        events = h.events;
-        seen = subst (λ os. AreSeen w.nodes os (nones os) h.looks) ready.outputs h.seen;
-        done = subst (λ rs. IsCutShort rs h.rest) kept_as h.done;
-      }))
+      inr (inl (
+        nones (outs_of j.recipe),
+        record {
+          looks = h.looks;
+          rest = h.rest;
+          events = h.events;
+          seen = subst (λ os. AreSeen w.nodes os (nones os) h.looks) ready.outputs h.seen;
+          done = subst (λ rs. IsCutShort rs h.rest) kept_as h.done;
+        },
+      ))
   as_unclosed f w es (inr (inr (fault, h))) =
-      inr (inr (fault, record {
-        looks = h.looks;
-        rest = h.rest;
-        events = h.events;
-        seen = subst (λ os. IsSeenWrong w.nodes os fault h.looks) ready.outputs h.seen;
-        done = subst (λ rs. IsCutShort rs h.rest) lost_as h.done;
-      }))
+      inr (inr (
+        fault,
+        record {
+          looks = h.looks;
+          rest = h.rest;
+          events = h.events;
+          seen = subst (λ os. IsSeenWrong w.nodes os fault h.looks) ready.outputs h.seen;
+          done = subst (λ rs. IsCutShort rs h.rest) lost_as h.done;
+        },
+      ))
 
   module _ (act : Recipe → List Tree → Acted) (a b : Option World) (owners : (w : World) → a ≡ Some w → HasOwners w) (lets : (w : World) → a ≡ Some w → LetsClose w j.recipe) where
     finished_by : (r : Result (Option (ℕ × Wrong)) Failed) (s : Result (Unit {0}) CloseFault) → ((w : World) (es : List Event) → HasSettled outs places records r w.nodes es → HasFinished j s w es)

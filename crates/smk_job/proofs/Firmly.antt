@@ -154,6 +154,7 @@ used_in (c ∷ cs) h =
     split : (ps qs : List Path) → Each (λ p. is_path p ≡ true) (ps ++ qs) → Each (λ p. is_path p ≡ true) ps × Each (λ p. is_path p ≡ true) qs
     split [] qs h = (tt, h)
     split (p ∷ ps) qs h = let more = split ps qs h.1 in ((h.0, more.0), more.1)
+
     join : (ps qs : List Path) → Each (λ p. is_path p ≡ true) ps → Each (λ p. is_path p ≡ true) qs → Each (λ p. is_path p ≡ true) (ps ++ qs)
     join [] qs h k = k
     join (p ∷ ps) qs h k = (h.0, join ps qs h.1 k)

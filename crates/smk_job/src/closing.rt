@@ -75,12 +75,7 @@ fn finish_files<W: Files>(work: &mut W, going: Going) -> Result<(), CloseFault>
     ensures running { W.running work.new ≡ W.running work.old }
 {
     let ready = going.ready;
-    match settle_files(
-        work,
-        ready.outs.as_slice(),
-        &ready.places,
-        &ready.records,
-    ) {
+    match settle_files(work, ready.outs.as_slice(), &ready.places, &ready.records) {
         Ok(None) => Ok(()),
         Ok(Some((at, wrong))) => Err(fault_of(wrong, path_of(ready.outs, at))),
         Err(Failed) => Err(CloseFault::Device),
@@ -88,11 +83,7 @@ fn finish_files<W: Files>(work: &mut W, going: Going) -> Result<(), CloseFault>
 }
 
 // Closes a job that has directories among its outputs.
-fn finish_folders<W: Files>(
-    _alloc: Global,
-    _work: &mut W,
-    _going: Going,
-) -> Result<(), CloseFault>
+fn finish_folders<W: Files>(_alloc: Global, _work: &mut W, _going: Going) -> Result<(), CloseFault>
     requires folders { list_any is_folder_out (outs_of _going.recipe) ≡ true }
     requires room { (w : World) → W.world _work.old ≡ Some w → LetsClose w _going.recipe }
     ensures did { Did W.act (W.world _work.old) (W.world _work.new) (λ w es. HasFinished _going result w es) }
