@@ -68,10 +68,10 @@ parents_by (Protected x r) left cs p q s is quiet there = cc
 parents_by (Started recipe logs command r) left cs p q s is quiet there = cc
 parents_by (Waited r) left cs p q s is quiet there = cc
 
-stands_parents : (act : Recipe → List Tree → Acted) (p q : Path) (w v : World) → Stepped act (MakeParents p) w v → Stands (w.nodes q) → Stands (v.nodes q)
+pub stands_parents : (act : Recipe → List Tree → Acted) (p q : Path) (w v : World) → Stepped act (MakeParents p) w v → Stands (w.nodes q) → Stands (v.nodes q)
 stands_parents act p q w v st there = subst (λ x. Stands (x.nodes q)) (sym st.now) (parents_by st.event.call st.event.left w.children p q (w.nodes q) st.is st.quiet there)
 
-stands_created : (act : Recipe → List Tree → Acted) (p q : Path) (w v : World) → Stepped act (Create p) w v → Stands (w.nodes q) → Stands (v.nodes q)
+pub stands_created : (act : Recipe → List Tree → Acted) (p q : Path) (w v : World) → Stepped act (Create p) w v → Stands (w.nodes q) → Stands (v.nodes q)
 stands_created act p q w v st there = elim (bool_cases (bytes_eq q p)) [
   | inl e ↦ subst (λ x. Stands (v.nodes x)) (sym (same_place q p e)) (created act p w v st (subst (λ x. IsKnown (w.nodes x)) (same_place q p e) (known_stands (w.nodes q) there)))
   | inr e ↦ subst Stands (sym (step_keeps act (Create p) w v q st e)) there
@@ -154,6 +154,7 @@ used_in (c ∷ cs) h =
     split : (ps qs : List Path) → Each (λ p. is_path p ≡ true) (ps ++ qs) → Each (λ p. is_path p ≡ true) ps × Each (λ p. is_path p ≡ true) qs
     split [] qs h = (tt, h)
     split (p ∷ ps) qs h = let more = split ps qs h.1 in ((h.0, more.0), more.1)
+
     join : (ps qs : List Path) → Each (λ p. is_path p ≡ true) ps → Each (λ p. is_path p ≡ true) qs → Each (λ p. is_path p ≡ true) (ps ++ qs)
     join [] qs h k = k
     join (p ∷ ps) qs h k = (h.0, join ps qs h.1 k)

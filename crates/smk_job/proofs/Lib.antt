@@ -5,3 +5,6 @@ pub mod Firmly
 pub mod Launching
 pub mod Outs
 pub mod Looking
+pub mod Finishing
+pub mod Abandoning
+pub mod Beginning

@@ -157,13 +157,13 @@ module _ (act : Recipe → List Tree → Acted) (outs : List Out) (i : ℕ) (out
       let kind : out.kind ≡ Plain = ap (λ (o : Out). o.kind) e ∙ plain_at outs i out plain lt in (
         nodes_on w es p (Ok s) left done.0,
         λ known.
-        let free : w.nodes out.path ≡ Owned → ⊥ = subst (λ (o : Out). w.nodes o.path ≡ Owned → ⊥) (sym e) (known_at w.nodes outs i out known lt) in
-        let is : StatIs s (w.nodes out.path) = subst (λ q. StatIs s (w.nodes q)) at (subst (λ ns. StatIs s (ns p)) done.0 lets.1) in
-        let file : reads_file (w.nodes out.path) ≡ true = plain_fit s (w.nodes out.path) free is (subst (λ k. wrong_of k s ≡ None) kind fits) in
-        let fit : IsOfKind w.nodes out.path out.kind [] = subst (λ k. IsOfKind w.nodes out.path k []) (sym kind) (file, refl) in
-        subst (λ (os : List Out). AreSeen w.nodes os (nones os) (es ++ event ∷ [])) (sym (next outs i out lt e))
-        (subst (λ ms. AreSeen w.nodes (take i outs ++ out ∷ []) ms (es ++ event ∷ [])) (sym (nones_next (take i outs) out))
-        (seen_next w.nodes (take i outs) (nones (take i outs)) es out [] (event ∷ []) (done.1 known) (ap Look at, tt) (quiet_one event refl) fit)),
+            let free : w.nodes out.path ≡ Owned → ⊥ = subst (λ (o : Out). w.nodes o.path ≡ Owned → ⊥) (sym e) (known_at w.nodes outs i out known lt) in
+            let is : StatIs s (w.nodes out.path) = subst (λ q. StatIs s (w.nodes q)) at (subst (λ ns. StatIs s (ns p)) done.0 lets.1) in
+            let file : reads_file (w.nodes out.path) ≡ true = plain_fit s (w.nodes out.path) free is (subst (λ k. wrong_of k s ≡ None) kind fits) in
+            let fit : IsOfKind w.nodes out.path out.kind [] = subst (λ k. IsOfKind w.nodes out.path k []) (sym kind) (file, refl) in
+            subst (λ (os : List Out). AreSeen w.nodes os (nones os) (es ++ event ∷ [])) (sym (next outs i out lt e))
+            (subst (λ ms. AreSeen w.nodes (take i outs ++ out ∷ []) ms (es ++ event ∷ [])) (sym (nones_next (take i outs) out))
+            (seen_next w.nodes (take i outs) (nones (take i outs)) es out [] (event ∷ []) (done.1 known) (ap Look at, tt) (quiet_one event refl) fit)),
       ))
 
   pub looked_wrong : (a b c : Option World) (s : Stat) (x : Wrong) → list_any is_folder_out outs ≡ false → i < length outs → out ≡ get_or outs i out → p ≡ out.path → wrong_of out.kind s ≡ Some x
@@ -177,7 +177,7 @@ module _ (act : Recipe → List Tree → Acted) (outs : List Out) (i : ℕ) (out
       let is : StatIs s (w.nodes out.path) = subst (λ q. StatIs s (w.nodes q)) at (subst (λ ns. StatIs s (ns p)) done.0 lets.1) in
       let bad : IsWrong w.nodes out.path Plain (wrong_fault x out.path) = plain_wrong w.nodes out.path s x free is (subst (λ k. wrong_of k s ≡ Some x) kind wrong) in
       let told : IsWrong w.nodes out.path out.kind (wrong_fault x (path_at outs i)) =
-          subst (λ q. IsWrong w.nodes out.path out.kind (wrong_fault x q)) (sym (path_of_at outs i out lt e)) (subst (λ k. IsWrong w.nodes out.path k (wrong_fault x out.path)) (sym kind) bad) in
+      subst (λ q. IsWrong w.nodes out.path out.kind (wrong_fault x q)) (sym (path_of_at outs i out lt e)) (subst (λ k. IsWrong w.nodes out.path k (wrong_fault x out.path)) (sym kind) bad) in
       subst (λ (os : List Out). IsSeenWrong w.nodes os (wrong_fault x (path_at outs i)) (es ++ event ∷ [])) (sym (around outs i out lt e))
       (wrong_next w.nodes (take i outs) (nones (take i outs)) es out (drop (suc i) outs) (wrong_fault x (path_at outs i)) (event ∷ []) (done.1 known) (ap Look at, tt) (quiet_one event refl) told))
 
@@ -196,3 +196,12 @@ pub all_looked : (act : Recipe → List Tree → Acted) (outs : List Out) (i : �
 all_looked act outs i a b le did = λ w1 e.
     let d = did w1 e in
     (d.0, d.1, (d.2.0, d.2.1, λ known. subst (λ (os : List Out). AreSeen d.0.nodes os (nones os) d.2.0) (take_all i outs le) (d.2.2.1 known), d.2.3))
+
+pub blind_as : (act : Recipe → List Tree → Acted) (outs : List Out) (r : Result (Option (ℕ × Wrong)) Failed) (a b : Option World) → IsErr r
+    → Did act a b (λ w es. AreKnown w.nodes outs → IsBlind outs es) → Did act a b (λ w es. AreKnown w.nodes outs → HasLookedOver outs r w.nodes es)
+blind_as act outs (Ok x) a b h did = cc
+blind_as act outs (Err f) a b h did = did
+
+-- a look with this answer
+pub happened_as : (act : Recipe → List Tree → Acted) (a b : Option World) (p : Path) (r s : Result Stat Failed) → r ≡ s → Happened act a b (Looked p r) → Happened act a b (Looked p s)
+happened_as act a b p r s e h = subst (λ x. Happened act a b (Looked p x)) e h

@@ -260,4 +260,3 @@ pub firmly_some : (s : NodeState) → Stands s → (n : Node) × (firm s ≡ fir
 firmly_some Owned h = absurd h
 firmly_some (Known None besides) h = absurd h
 firmly_some (Known (Some n) besides) h = (n, refl)
-

@@ -1,3 +1,4 @@
 pub mod Jobs
 pub mod Reserves
 pub mod Sights
+pub mod Laws

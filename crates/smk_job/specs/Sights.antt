@@ -23,7 +23,8 @@ use Rattle.smk_job.specs.declared.fault.CloseFault.{CloseFault}
 use Rattle.smk_job.specs.declared.fault.CloseFault.TheVariants.{NoOutput, WrongKind, BadMember, Device, OutOfMemory}
 use Rattle.smk_job.specs.declared.sight.Wrong.{Wrong}
 use Rattle.smk_job.specs.declared.sight.Wrong.TheVariants.{Absent, OtherKind}
-use Rattle.smk_job.specs.Jobs.{Underway, finish_requests, abandon_requests}
+use Rattle.smk_store.specs.declared.places.JobPlaces.{JobPlaces}
+use Rattle.smk_job.specs.Jobs.{Underway, keep_requests, lose_requests, finish_requests, abandon_requests}
 
 -- ## What stands at an output
 
@@ -198,3 +199,13 @@ abbrev pub HasLookedOver : List Out → Result (Option (ℕ × Wrong)) Failed �
 HasLookedOver outs (Ok None) nodes es = AreSeen nodes outs (nones outs) es
 HasLookedOver outs (Ok (Some (i, wrong))) nodes es = IsSeenWrong nodes outs (wrong_fault wrong (path_at outs i)) es
 HasLookedOver outs (Err e) nodes es = IsBlind outs es
+
+-- what was done with a job whose outputs are files: all calls, or those up to one that failed
+abbrev pub HasSettled : List Out → JobPlaces → List (List ℕ) → Result (Option (ℕ × Wrong)) Failed → Nodes → List Event → Type 0
+HasSettled outs places records (Ok None) nodes es = HasSeen (AreSeen nodes outs (nones outs)) (HasDone (keep_requests places records)) es
+HasSettled outs places records (Ok (Some (i, wrong))) nodes es =
+    HasSeen (IsSeenWrong nodes outs (wrong_fault wrong (path_at outs i))) (HasDone (lose_requests places)) es
+HasSettled outs places records (Err e) nodes es =
+    IsBlind outs es
+    ⊎ (HasSeen (AreSeen nodes outs (nones outs)) (IsCutShort (keep_requests places records)) es
+    ⊎ ((fault : CloseFault) × HasSeen (IsSeenWrong nodes outs fault) (IsCutShort (lose_requests places)) es))

@@ -1,19 +1,99 @@
 //! A job whose command has ended is closed.
 
-ghost use Rattle.std.specs.Prelude.{◌≡◌, ◌≢◌, [], Some, IfErr, OnOk, IsErr, IsErrOf, IsSome, is_ok};
+ghost use Rattle.std.specs.Prelude.{◌≡◌, ◌≢◌, [], map, length, Some, Err, ◌<◌, IfOk, IfSome, false, true, IfErr, OnOk, IsErr, IsErrOf, IsSome, is_ok};
+ghost use Rattle.std.specs.List.{list_any};
 ghost use Rattle.smk_world.specs.World.{World};
 ghost use Rattle.smk_world.specs.Calls.{HasCause};
 ghost use Rattle.smk_world.specs.Runs.{Did};
 ghost use Rattle.smk_world.specs.Requests.{Carries};
-ghost use Rattle.smk_world.specs.Trees.{folders_of};
+ghost use Rattle.smk_world.specs.Trees.{folders_of, outs_of};
+ghost use Rattle.smk_store.specs.Steps.{AreUnused};
 ghost use Rattle.smk_job.specs.Jobs.{LetsClose, abandon_requests};
-ghost use Rattle.smk_job.specs.Sights.{HasFinished, failed_last};
+ghost use Rattle.smk_job.specs.Sights.{HasFinished, HasSettled, AreKnown, failed_last, is_folder_out, wrong_fault};
 
 use crate::fault::CloseFault;
 use crate::going::Going;
-use crate::steps::lose;
-use smk_world::{Crew, Failed};
+use crate::sight::{Wrong, has_folder, look_over, path_of};
+use crate::steps::{keep, lose};
+use smk_base::{Bytes, List, PathText};
+use smk_store::JobPlaces;
+use smk_world::{Crew, Failed, Files, Out};
 use std::alloc::Global;
+
+// The fault of the output at the path.
+fn fault_of(wrong: Wrong, path: PathText) -> CloseFault
+    ensures value { result ≡ wrong_fault wrong path }
+    ensures no_failure { failed_last (Err result) ≡ false }
+    ensures memory { result ≢ CloseFault.OutOfMemory }
+{
+    match wrong {
+        Wrong::Absent => CloseFault::NoOutput(path),
+        Wrong::OtherKind => CloseFault::WrongKind(path),
+    }
+}
+
+// Looks at outputs that are to be files, and keeps or abandons them: what is wrong, and with which output, from 0.
+fn settle_files<W: Files>(
+    work: &mut W,
+    outs: &[Out],
+    places: &JobPlaces,
+    records: &List<Bytes>,
+) -> Result<Option<(usize, Wrong)>, Failed>
+    requires files { list_any is_folder_out outs.now ≡ false }
+    requires at { places.now.outputs ≡ map (λ out. out.path) outs.now }
+    requires each { length records.now ≡ length places.now.records }
+    requires outputs { AreUnused (W.world work.old) places.now.outputs }
+    requires records { AreUnused (W.world work.old) places.now.records }
+    requires marks { AreUnused (W.world work.old) places.now.marks }
+    ensures did { Did W.act (W.world work.old) (W.world work.new)
+        (λ w es. AreKnown w.nodes outs.now → HasSettled outs.now places.now records.now result w.nodes es) }
+    ensures within { IfOk result (λ found. IfSome found (λ wrong. wrong.0 < length outs.now)) }
+    ensures stays { OnOk result (IsSome (W.world work.old) → IsSome (W.world work.new)) }
+    ensures cause { HasCause (W.faults work.old) (W.faults work.new) (IsErr result) }
+    ensures running { W.running work.new ≡ W.running work.old }
+{
+    match look_over(work, outs, places.outputs.as_slice())? {
+        None => {
+            keep(work, places, records)?;
+            Ok(None)
+        }
+        Some(found) => {
+            lose(work, places)?;
+            Ok(Some(found))
+        }
+    }
+}
+
+// Closes a job whose outputs are files.
+fn finish_files<W: Files>(work: &mut W, going: Going) -> Result<(), CloseFault>
+    requires files { list_any is_folder_out (outs_of going.recipe) ≡ false }
+    requires room { (w : World) → W.world work.old ≡ Some w → LetsClose w going.recipe }
+    ensures did { Did W.act (W.world work.old) (W.world work.new) (λ w es. HasFinished going result w es) }
+    ensures memory { IfErr result (λ fault. fault ≢ CloseFault.OutOfMemory) }
+    ensures stays { failed_last result ≡ false → IsSome (W.world work.old) → IsSome (W.world work.new) }
+    ensures cause { HasCause (W.faults work.old) (W.faults work.new) (failed_last result ≡ true) }
+    ensures running { W.running work.new ≡ W.running work.old }
+{
+    let ready = going.ready;
+    match settle_files(work, ready.outs.as_slice(), &ready.places, &ready.records) {
+        Ok(None) => Ok(()),
+        Ok(Some((at, wrong))) => Err(fault_of(wrong, path_of(ready.outs, at))),
+        Err(Failed) => Err(CloseFault::Device),
+    }
+}
+
+// Closes a job that has directories among its outputs.
+fn finish_folders<W: Files>(_alloc: Global, _work: &mut W, _going: Going) -> Result<(), CloseFault>
+    requires folders { list_any is_folder_out (outs_of _going.recipe) ≡ true }
+    requires room { (w : World) → W.world _work.old ≡ Some w → LetsClose w _going.recipe }
+    ensures did { Did W.act (W.world _work.old) (W.world _work.new) (λ w es. HasFinished _going result w es) }
+    ensures memory { folders_of _going.recipe ≢ [] }
+    ensures stays { failed_last result ≡ false → IsSome (W.world _work.old) → IsSome (W.world _work.new) }
+    ensures cause { HasCause (W.faults _work.old) (W.faults _work.new) (failed_last result ≡ true) }
+    ensures running { W.running _work.new ≡ W.running _work.old }
+{
+    Err(CloseFault::OutOfMemory)
+}
 
 /// Closes a job whose command ended with status 0: looks at each output, and lists a directory with all that is under it; settles
 /// the outputs; writes the records and settles them; removes the marks and settles that.
@@ -31,7 +111,11 @@ pub fn finish<W: Crew>(alloc: Global, work: &mut W, going: Going) -> Result<(), 
     ensures cause { HasCause (W.faults work.old) (W.faults work.new) (failed_last result ≡ true) }
     ensures running { W.running work.new ≡ W.running work.old }
 {
-    Err(CloseFault::Device)
+    if has_folder(going.ready.outs.as_slice()) {
+        finish_folders(alloc, work, going)
+    } else {
+        finish_files(work, going)
+    }
 }
 
 /// Closes a job whose command has ended, without its outputs: removes them and their records and settles that; removes the marks and

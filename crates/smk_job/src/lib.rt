@@ -4,6 +4,7 @@
 mod closing;
 mod fault;
 mod going;
+mod laws;
 mod opening;
 mod reserve;
 mod sight;
@@ -12,4 +13,5 @@ mod steps;
 pub use closing::{abandon, finish};
 pub use fault::{BeginFault, CloseFault};
 pub use going::Going;
+pub use laws::calls_are_runs;
 pub use opening::begin;

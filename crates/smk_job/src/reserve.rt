@@ -79,11 +79,7 @@ fn push_places(alloc: Global, places: &mut List<Place>, outs: &[Out]) -> Result<
 }
 
 // The places of the outputs and logs.
-fn owned(
-    alloc: Global,
-    outs: &[Out],
-    logs: &[PathText],
-) -> Result<List<Place>, OutOfMemory>
+fn owned(alloc: Global, outs: &[Out], logs: &[PathText]) -> Result<List<Place>, OutOfMemory>
     ensures { IfOk result (λ places. (places ≡ map (λ out. out.path) outs.now ++ logs.now) × Each (λ p. is_path p ≡ true) (map (λ out. out.path) outs.now ++ logs.now)) }
 {
     let mut places = List::new(alloc);
@@ -121,9 +117,7 @@ fn bare(
         copy_stamps(alloc, stamps.as_slice())?,
         List::new(alloc),
     );
-    let Some(kept) = kept else {
-        unreachable!()
-    };
+    let Some(kept) = kept else { unreachable!() };
     let bytes = write(alloc, &kept)?;
     let length = bytes.as_slice().len() as u64;
     if length > 1_048_576 {
@@ -184,12 +178,7 @@ fn assemble(
 }
 
 // All that it takes to close the job.
-fn ready(
-    alloc: Global,
-    job: &Job,
-    stamps: &List<Stamp>,
-    made: u64,
-) -> Result<Ready, BeginFault>
+fn ready(alloc: Global, job: &Job, stamps: &List<Stamp>, made: u64) -> Result<Ready, BeginFault>
     requires valid { Each (λ p. is_valid (record_of p made job.now.recipe stamps.now []) ≡ true) (out_paths job.now.recipe) }
     ensures { HasReserved job.now.recipe job.now.logs stamps.now made result }
 {

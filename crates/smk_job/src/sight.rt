@@ -60,8 +60,9 @@ pub(crate) fn look_over<W: Files>(
 {
     for (i, out) in outs.iter().enumerate() {
         let stat = work.stat(&places[i])?;
-        if let Some(wrong) = wrong_of(out.kind, stat) {
-            return Ok(Some((i, wrong)));
+        match wrong_of(out.kind, stat) {
+            Some(wrong) => return Ok(Some((i, wrong))),
+            None => {}
         }
     }
     Ok(None)

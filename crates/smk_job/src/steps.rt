@@ -82,11 +82,7 @@ pub(crate) fn lose<W: Files>(work: &mut W, places: &JobPlaces) -> Result<(), Fai
 }
 
 // Makes the outputs firm, and writes their records firmly.
-fn put_each<W: Files>(
-    work: &mut W,
-    places: &JobPlaces,
-    bytes: &List<Bytes>,
-) -> Result<(), Failed>
+fn put_each<W: Files>(work: &mut W, places: &JobPlaces, bytes: &List<Bytes>) -> Result<(), Failed>
     requires each { length bytes.now ≡ length places.now.records }
     requires records { AreUnused (W.world work.old) places.now.records }
     ensures did { Did W.act (W.world work.old) (W.world work.new) (λ w es. Carries (put_all_requests places.now bytes.now) (is_ok result) es) }

@@ -1,0 +1,256 @@
+-- A job whose outputs are files is kept or abandoned by what stands at them.
+use Rattle.std.proofs.Common.{◌≡◌, ◌≢◌, ◌⊎◌, inl, inr, ℕ, Bool, true, false, ◌||◌, List, [], ◌∷◌, ◌++◌, map, length, refl, sym, ap, subst, ◌∙◌, Option, Some, None, Result, Ok, Err, is_ok, filter, suc}
+use Rattle.std.specs.Prelude.{IsErr, if◌then◌else◌}
+use Rattle.std.specs.List.{list_any}
+use Rattle.smk_base.specs.Path.{is_at_or_under, overlaps}
+use Rattle.smk_base.specs.Place.{record_place}
+use Rattle.smk_base.specs.declared.tree.Tree.{Tree}
+use Rattle.smk_base.proofs.Under.{never_both, or_cases, overlaps_above_both}
+use Rattle.smk_world.specs.declared.event.Child.{Child}
+use Rattle.smk_world.specs.declared.event.Event.{Event}
+use Rattle.smk_world.specs.declared.event.Failed.{Failed}
+use Rattle.smk_world.specs.declared.event.NodeState.TheVariants.{Owned}
+use Rattle.smk_world.specs.declared.recipe.Out.{Out}
+use Rattle.smk_world.specs.declared.recipe.Recipe.{Recipe}
+use Rattle.smk_world.specs.World.{World, run, out_paths, in_paths, owned_paths, is_within}
+use Rattle.smk_world.specs.Calls.{Acted, HasOwners, owned_now, used_now, any_overlap}
+use Rattle.smk_world.specs.Runs.{Did, Follows}
+use Rattle.smk_world.specs.Requests.{Request, HasDone, IsCutShort, Carries}
+use Rattle.smk_world.specs.Trees.{Path, Each, outs_of, folders_of}
+use Rattle.smk_world.proofs.Runs.{did_both}
+use Rattle.smk_store.specs.declared.places.JobPlaces.{JobPlaces}
+use Rattle.smk_store.specs.Steps.{places_of}
+use Rattle.smk_store.proofs.Carried.{did_as}
+use Rattle.smk_record.specs.declared.record.Stamp.{Stamp}
+use Rattle.smk_job.specs.declared.fault.CloseFault.{CloseFault}
+use Rattle.smk_job.specs.declared.fault.CloseFault.TheVariants.{Device, OutOfMemory}
+use Rattle.smk_job.specs.declared.sight.Wrong.{Wrong}
+use Rattle.smk_job.specs.declared.sight.Wrong.TheVariants.{Absent, OtherKind}
+use Rattle.smk_job.specs.Jobs.{Underway, bare_bytes, bytes_with, IsReady, LetsClose, keep_requests, lose_requests, finish_requests, abandon_requests}
+use Rattle.smk_job.specs.Sights.{Nodes, AreKnown, AreSeen, IsSeenWrong, IsBlind, AreLookedAt, HasSeen, HasFinished, is_folder_out, nones, wrong_fault, path_at, HasLookedOver, HasSettled}
+use Rattle.smk_job.proofs.Outs.{paths_same}
+
+true_false : true ≡ false → ⊥
+true_false e = cc
+
+-- ## After the looks
+
+-- the looks, and then these calls
+pub seen_then : (act : Recipe → List Tree → Acted) (outs : List Out) (P : Nodes → List Event → Type 0) (rs : List Request) (a b c : Option World)
+    → Did act a b (λ w es. AreKnown w.nodes outs → P w.nodes es) → Did act b c (λ w es. HasDone rs es) → Did act a c (λ w es. AreKnown w.nodes outs → HasSeen (P w.nodes) (HasDone rs) es)
+seen_then act outs P rs a b c before now =
+    did_both act (λ w es. AreKnown w.nodes outs → P w.nodes es) (λ w es. HasDone rs es) (λ w es. AreKnown w.nodes outs → HasSeen (P w.nodes) (HasDone rs) es) a b c before now
+    (λ w es fs follows seen more done known. record { looks = es; rest = fs; events = refl; seen = seen known; done = done })
+
+pub seen_cut : (act : Recipe → List Tree → Acted) (outs : List Out) (P : Nodes → List Event → Type 0) (rs : List Request) (a b c : Option World)
+    → Did act a b (λ w es. AreKnown w.nodes outs → P w.nodes es) → Did act b c (λ w es. IsCutShort rs es) → Did act a c (λ w es. AreKnown w.nodes outs → HasSeen (P w.nodes) (IsCutShort rs) es)
+seen_cut act outs P rs a b c before now =
+    did_both act (λ w es. AreKnown w.nodes outs → P w.nodes es) (λ w es. IsCutShort rs es) (λ w es. AreKnown w.nodes outs → HasSeen (P w.nodes) (IsCutShort rs) es) a b c before now
+    (λ w es fs follows seen more cut known. record { looks = es; rest = fs; events = refl; seen = seen known; done = cut })
+
+-- what was found, as the answer says it
+pub found_as : (act : Recipe → List Tree → Acted) (outs : List Out) (r s : Result (Option (ℕ × Wrong)) Failed) (a b : Option World) → r ≡ s
+    → Did act a b (λ w es. AreKnown w.nodes outs → HasLookedOver outs r w.nodes es) → Did act a b (λ w es. AreKnown w.nodes outs → HasLookedOver outs s w.nodes es)
+found_as act outs r s a b e h = subst (λ x. Did act a b (λ w es. AreKnown w.nodes outs → HasLookedOver outs x w.nodes es)) e h
+
+module _ (act : Recipe → List Tree → Acted) (outs : List Out) (places : JobPlaces) (records : List (List ℕ)) where
+  abbrev pub Settled : Result (Option (ℕ × Wrong)) Failed → World → List Event → Type 0
+  Settled r w es = AreKnown w.nodes outs → HasSettled outs places records r w.nodes es
+
+  pub settled_err : (r : Result (Option (ℕ × Wrong)) Failed) (f : Failed) (a b : Option World) → IsErr r → Did act a b (Settled (Err f)) → Did act a b (Settled r)
+  settled_err (Ok x) f a b h did = cc
+  settled_err (Err e) f a b h did = did
+
+  pub settled_blind : (f : Failed) (a b : Option World) → Did act a b (λ w es. AreKnown w.nodes outs → IsBlind outs es) → Did act a b (Settled (Err f))
+  settled_blind f a b did = did_as act (λ w es. AreKnown w.nodes outs → IsBlind outs es) (Settled (Err f)) a b did (λ w es h known. inl (h known))
+
+  pub settled_uncut : (f : Failed) (a b : Option World) → Did act a b (λ w es. AreKnown w.nodes outs → HasSeen (AreSeen w.nodes outs (nones outs)) (IsCutShort (keep_requests places records)) es) → Did act a b (Settled (Err f))
+  settled_uncut f a b did =
+      did_as act (λ w es. AreKnown w.nodes outs → HasSeen (AreSeen w.nodes outs (nones outs)) (IsCutShort (keep_requests places records)) es) (Settled (Err f)) a b did (λ w es h known. inr (inl (h known)))
+
+  pub settled_lost : (f : Failed) (i : ℕ) (x : Wrong) (a b : Option World)
+      → Did act a b (λ w es. AreKnown w.nodes outs → HasSeen (IsSeenWrong w.nodes outs (wrong_fault x (path_at outs i))) (IsCutShort (lose_requests places)) es) → Did act a b (Settled (Err f))
+  settled_lost f i x a b did =
+      did_as act (λ w es. AreKnown w.nodes outs → HasSeen (IsSeenWrong w.nodes outs (wrong_fault x (path_at outs i))) (IsCutShort (lose_requests places)) es) (Settled (Err f)) a b did
+      (λ w es h known. inr (inr (wrong_fault x (path_at outs i), h known)))
+
+-- ## Where no child uses an output, none owns what stands there
+
+or_one : (a b : Bool) → a ≡ true → (a || b) ≡ true
+or_one true b h = refl
+or_one false b h = absurd (true_false (sym h))
+
+or_two : (a b : Bool) → b ≡ true → (a || b) ≡ true
+or_two true b h = refl
+or_two false b h = h
+
+within_split : (q : Path) (ps qs : List Path) → is_within q (ps ++ qs) ≡ true → (is_within q ps ≡ true) ⊎ (is_within q qs ≡ true)
+within_split q [] qs h = inr h
+within_split q (x ∷ ps) qs h = elim (or_cases (is_at_or_under q x) (is_within q (ps ++ qs)) h) [
+  | inl e ↦ inl (or_one (is_at_or_under q x) (is_within q ps) e)
+  | inr m ↦ elim (within_split q ps qs m) [ inl l ↦ inl (or_two (is_at_or_under q x) (is_within q ps) l) | inr r ↦ inr r ]
+]
+
+any_left : (p : Path) (ps qs : List Path) → list_any (overlaps p) ps ≡ true → list_any (overlaps p) (ps ++ qs) ≡ true
+any_left p [] qs h = absurd (true_false (sym h))
+any_left p (x ∷ ps) qs h = elim (or_cases (overlaps p x) (list_any (overlaps p) ps) h) [
+  | inl e ↦ or_one (overlaps p x) (list_any (overlaps p) (ps ++ qs)) e
+  | inr m ↦ or_two (overlaps p x) (list_any (overlaps p) (ps ++ qs)) (any_left p ps qs m)
+]
+
+any_right : (p : Path) (ps qs : List Path) → list_any (overlaps p) qs ≡ true → list_any (overlaps p) (ps ++ qs) ≡ true
+any_right p [] qs h = h
+any_right p (x ∷ ps) qs h = or_two (overlaps p x) (list_any (overlaps p) (ps ++ qs)) (any_right p ps qs h)
+
+any_within : (p q : Path) → is_at_or_under q p ≡ true → (ps : List Path) → is_within q ps ≡ true → list_any (overlaps p) ps ≡ true
+any_within p q at [] h = absurd (true_false (sym h))
+any_within p q at (x ∷ ps) h = elim (or_cases (is_at_or_under q x) (is_within q ps) h) [
+  | inl e ↦ or_one (overlaps p x) (list_any (overlaps p) ps) (overlaps_above_both q p x at e)
+  | inr m ↦ or_two (overlaps p x) (list_any (overlaps p) ps) (any_within p q at ps m)
+]
+
+overlap_used : (cs : List Child) (p q : Path) → is_at_or_under q p ≡ true → is_within q (owned_now cs) ≡ true → list_any (overlaps p) (used_now cs) ≡ true
+overlap_used [] p q at within = absurd (true_false (sym within))
+overlap_used (c ∷ cs) p q at within = elim (within_split q (owned_paths c.recipe c.logs) (owned_now cs) within) [
+  | inl here ↦ any_left p (in_paths c.recipe ++ owned_paths c.recipe c.logs) (used_now cs) (any_right p (in_paths c.recipe) (owned_paths c.recipe c.logs) (any_within p q at (owned_paths c.recipe c.logs) here))
+  | inr more ↦ any_right p (in_paths c.recipe ++ owned_paths c.recipe c.logs) (used_now cs) (overlap_used cs p q at more)
+]
+
+or_left : (a b : Bool) → (a || b) ≡ false → a ≡ false
+or_left true b h = h
+or_left false b h = refl
+
+or_right : (a b : Bool) → (a || b) ≡ false → b ≡ false
+or_right true b h = cc
+or_right false b h = h
+
+known_each : (w : World) → HasOwners w → (outs : List Out) → any_overlap (map (λ (out : Out). out.path) outs) (used_now w.children) ≡ false → AreKnown w.nodes outs
+known_each w owners [] h = tt
+known_each w owners (o ∷ outs) h = (
+  λ q at owned. never_both (list_any (overlaps o.path) (used_now w.children)) (overlap_used w.children o.path q at (owners q owned)) (or_left (list_any (overlaps o.path) (used_now w.children)) (any_overlap (map (λ (out : Out). out.path) outs) (used_now w.children)) h),
+  known_each w owners outs (or_right (list_any (overlaps o.path) (used_now w.children)) (any_overlap (map (λ (out : Out). out.path) outs) (used_now w.children)) h),
+)
+
+pub known_outs : (w : World) (recipe : Recipe) (outs : List Out) → outs ≡ outs_of recipe → HasOwners w → LetsClose w recipe → AreKnown w.nodes outs
+known_outs w recipe outs are owners lets =
+    known_each w owners outs (ap (λ ps. any_overlap ps (used_now w.children)) (ap (map (λ (out : Out). out.path)) are ∙ paths_same recipe.outputs) ∙ lets.apart)
+
+-- ## As the job's calls
+
+bare_with : (j : Underway) (outs : List Out) → bytes_with j (map (λ (out : Out). out.path) outs) (nones outs) ≡ map (bare_bytes j.made j.recipe j.stamps) (map (λ (out : Out). out.path) outs)
+bare_with j [] = refl
+bare_with j (o ∷ outs) = ap (λ t. bare_bytes j.made j.recipe j.stamps o.path ∷ t) (bare_with j outs)
+
+-- the bytes of the records, where no output has members
+pub bare_records : (j : Underway) → bytes_with j (out_paths j.recipe) (nones (outs_of j.recipe)) ≡ map (bare_bytes j.made j.recipe j.stamps) (out_paths j.recipe)
+bare_records j =
+    ap (λ ps. bytes_with j ps (nones (outs_of j.recipe))) (sym (paths_same j.recipe.outputs)) ∙ bare_with j (outs_of j.recipe)
+    ∙ ap (map (bare_bytes j.made j.recipe j.stamps)) (paths_same j.recipe.outputs)
+
+map_length : {A B : Type 0} (f : A → B) (xs : List A) → length (map f xs) ≡ length xs
+map_length f [] = refl
+map_length f (x ∷ xs) = ap suc (map_length f xs)
+
+module _ (j : Underway) (outs : List Out) (places : JobPlaces) (records : List (List ℕ)) (ready : IsReady j.recipe j.logs j.stamps j.made outs places records) where
+  pub at_outputs : places.outputs ≡ map (λ (out : Out). out.path) outs
+  at_outputs = ap (λ (x : JobPlaces). x.outputs) ready.at_places ∙ sym (paths_same j.recipe.outputs) ∙ ap (map (λ (out : Out). out.path)) (sym ready.outputs)
+
+  pub each_record : length records ≡ length places.records
+  each_record =
+      ap length ready.bytes ∙ map_length (bare_bytes j.made j.recipe j.stamps) (out_paths j.recipe) ∙ sym (map_length record_place (out_paths j.recipe))
+      ∙ ap (λ (x : JobPlaces). length x.records) (sym ready.at_places)
+
+  kept_as : keep_requests places records ≡ finish_requests j (nones (outs_of j.recipe))
+  kept_as =
+      ap (λ (x : JobPlaces). keep_requests x records) ready.at_places
+      ∙ ap (keep_requests (places_of (out_paths j.recipe) j.logs)) (ready.bytes ∙ sym (bare_records j))
+
+  lost_as : lose_requests places ≡ abandon_requests j
+  lost_as = ap lose_requests ready.at_places
+
+  as_done : (w : World) (es : List Event) → HasSettled outs places records (Ok None) w.nodes es → HasFinished j (Ok tt) w es
+  as_done w es h = (
+    nones (outs_of j.recipe),
+    record {
+      looks = h.looks;
+      rest = h.rest;
+      events = h.events;
+      seen = subst (λ os. AreSeen w.nodes os (nones os) h.looks) ready.outputs h.seen;
+      done = subst (λ rs. HasDone rs h.rest) kept_as h.done;
+    },
+  )
+
+  abandoned : (fault : CloseFault) (w : World) (es : List Event) → HasSeen (IsSeenWrong w.nodes outs fault) (HasDone (lose_requests places)) es → HasSeen (IsSeenWrong w.nodes (outs_of j.recipe) fault) (HasDone (abandon_requests j)) es
+  abandoned fault w es h = record {
+    looks = h.looks;
+    rest = h.rest;
+    events = h.events;
+    seen = subst (λ os. IsSeenWrong w.nodes os fault h.looks) ready.outputs h.seen;
+    done = subst (λ rs. HasDone rs h.rest) lost_as h.done;
+  }
+
+  as_wrong : (x : Wrong) (p : Path) (w : World) (es : List Event) → HasSeen (IsSeenWrong w.nodes outs (wrong_fault x p)) (HasDone (lose_requests places)) es → HasFinished j (Err (wrong_fault x p)) w es
+  as_wrong Absent p w es h = abandoned (wrong_fault Absent p) w es h
+  as_wrong OtherKind p w es h = abandoned (wrong_fault OtherKind p) w es h
+
+  as_unclosed : (f : Failed) (w : World) (es : List Event) → HasSettled outs places records (Err f) w.nodes es → HasFinished j (Err Device) w es
+  as_unclosed f w es (inl h) = inl (subst (λ os. IsBlind os es) ready.outputs h)
+  as_unclosed f w es (inr (inl h)) =
+      inr (inl (
+        nones (outs_of j.recipe),
+        record {
+          looks = h.looks;
+          rest = h.rest;
+          events = h.events;
+          seen = subst (λ os. AreSeen w.nodes os (nones os) h.looks) ready.outputs h.seen;
+          done = subst (λ rs. IsCutShort rs h.rest) kept_as h.done;
+        },
+      ))
+  as_unclosed f w es (inr (inr (fault, h))) =
+      inr (inr (
+        fault,
+        record {
+          looks = h.looks;
+          rest = h.rest;
+          events = h.events;
+          seen = subst (λ os. IsSeenWrong w.nodes os fault h.looks) ready.outputs h.seen;
+          done = subst (λ rs. IsCutShort rs h.rest) lost_as h.done;
+        },
+      ))
+
+  module _ (act : Recipe → List Tree → Acted) (a b : Option World) (owners : (w : World) → a ≡ Some w → HasOwners w) (lets : (w : World) → a ≡ Some w → LetsClose w j.recipe) where
+    finished_by : (r : Result (Option (ℕ × Wrong)) Failed) (s : Result (Unit {0}) CloseFault) → ((w : World) (es : List Event) → HasSettled outs places records r w.nodes es → HasFinished j s w es)
+        → Did act a b (λ w es. AreKnown w.nodes outs → HasSettled outs places records r w.nodes es) → Did act a b (λ w es. HasFinished j s w es)
+    finished_by r s more did = λ w1 e.
+        let d = did w1 e in
+        (d.0, d.1, (d.2.0, d.2.1, more d.0 d.2.0 (d.2.2 (known_outs d.0 j.recipe outs ready.outputs (owners d.0 d.1) (lets d.0 d.1))), d.2.3))
+
+    pub finished_well : (r : Result (Option (ℕ × Wrong)) Failed) → r ≡ Ok None → Did act a b (λ w es. AreKnown w.nodes outs → HasSettled outs places records r w.nodes es) → Did act a b (λ w es. HasFinished j (Ok tt) w es)
+    finished_well r e did = finished_by (Ok None) (Ok tt) as_done (subst (λ x. Did act a b (λ w es. AreKnown w.nodes outs → HasSettled outs places records x w.nodes es)) e did)
+
+    pub finished_wrong : (r : Result (Option (ℕ × Wrong)) Failed) (i : ℕ) (x : Wrong) (p : Path) (fault : CloseFault) → r ≡ Ok (Some (i, x)) → p ≡ path_at outs i → fault ≡ wrong_fault x p
+        → Did act a b (λ w es. AreKnown w.nodes outs → HasSettled outs places records r w.nodes es) → Did act a b (λ w es. HasFinished j (Err fault) w es)
+    finished_wrong r i x p fault e at is did =
+        subst (λ f. Did act a b (λ w es. HasFinished j (Err f) w es)) (sym (is ∙ ap (wrong_fault x) at))
+        (finished_by (Ok (Some (i, x))) (Err (wrong_fault x (path_at outs i))) (as_wrong x (path_at outs i)) (subst (λ y. Did act a b (λ w es. AreKnown w.nodes outs → HasSettled outs places records y w.nodes es)) e did))
+
+    pub finished_badly : (r : Result (Option (ℕ × Wrong)) Failed) (f : Failed) → r ≡ Err f → Did act a b (λ w es. AreKnown w.nodes outs → HasSettled outs places records r w.nodes es) → Did act a b (λ w es. HasFinished j (Err Device) w es)
+    finished_badly r f e did = finished_by (Err f) (Err Device) (as_unclosed f) (subst (λ x. Did act a b (λ w es. AreKnown w.nodes outs → HasSettled outs places records x w.nodes es)) e did)
+
+-- ## Directories
+
+pub none_looked : (outs : List Out) → AreLookedAt outs []
+none_looked [] = refl
+none_looked (o ∷ outs) = inl refl
+
+filtered : (o : Out) (outs : List Out) (b : Bool) → (list_any is_folder_out outs ≡ true → map (λ (out : Out). out.path) (filter (λ (out : Out). is_folder_out out) outs) ≢ [])
+    → (b || list_any is_folder_out outs) ≡ true → map (λ (out : Out). out.path) (if b then o ∷ filter (λ (out : Out). is_folder_out out) outs else filter (λ (out : Out). is_folder_out out) outs) ≢ []
+filtered o outs true more h = λ k. cc
+filtered o outs false more h = more h
+
+some_folders : (outs : List Out) → list_any is_folder_out outs ≡ true → map (λ (out : Out). out.path) (filter (λ (out : Out). is_folder_out out) outs) ≢ []
+some_folders [] h = absurd (true_false (sym h))
+some_folders (o ∷ outs) h = filtered o outs (is_folder_out o) (some_folders outs) h
+
+pub has_folders : (recipe : Recipe) → list_any is_folder_out (outs_of recipe) ≡ true → folders_of recipe ≢ []
+has_folders recipe h = some_folders (outs_of recipe) h

@@ -1,0 +1,39 @@
+-- The calls of a job as a run of the protocol.
+use Rattle.std.specs.Prelude.{◌≡◌, ◌≢◌, ℕ, true, false, List, [], ◌∷◌, ◌++◌}
+use Rattle.smk_world.specs.declared.event.Event.{Event}
+use Rattle.smk_world.specs.World.{World}
+use Rattle.smk_world.specs.Calls.{HasOwners, started_numbers}
+use Rattle.smk_world.specs.Runs.{Follows}
+use Rattle.smk_world.specs.Requests.{HasDone}
+use Rattle.smk_store.specs.Soundness.{Outside}
+use Rattle.smk_protocol.specs.Protocol.{OpenJob, RunState, Marking, Running, Ended, MayBegin, HasSerial, Runs, outputs}
+use Rattle.smk_job.specs.Jobs.{Underway, underway, ReadUsers, begin_requests, abandon_requests}
+
+-- an open job whose child has this number, as `begin` answers it
+abbrev pub as_underway : OpenJob → ℕ → Underway
+as_underway j number = underway j.recipe j.logs j.stamps j.serial number
+
+-- All calls of `begin`, of a job that the protocol lets begin, are a run of the protocol after which its child runs.
+abbrev pub BeginningRuns : Type 0
+BeginningRuns =
+    (o : Outside) (s : RunState) (j : OpenJob) (top number : ℕ) (command : List ℕ) (w : World) (es : List Event) →
+    s.faulted ≡ false →
+    s.steady ≡ true →
+    MayBegin o s w j →
+    HasSerial o s w j top →
+    j.phase ≡ Marking →
+    outputs j ≢ [] →
+    HasOwners w →
+    ReadUsers w →
+    Follows o.act w es →
+    HasDone (begin_requests j.recipe j.logs command) es →
+    started_numbers es ≡ number ∷ [] → Runs o s w es (record s { jobs = (record j { phase = Running number }) ∷ s.jobs; top = top })
+
+-- All calls of `abandon`, of an open job whose child has ended, are a run of the protocol that closes it.
+abbrev pub AbandoningRuns : Type 0
+AbandoningRuns =
+    (o : Outside) (s : RunState) (js ks : List OpenJob) (j : OpenJob) (number status : ℕ) (w : World) (es : List Event) →
+    s.jobs ≡ js ++ j ∷ ks →
+    s.faulted ≡ false →
+    j.phase ≡ Ended status →
+    outputs j ≢ [] → Follows o.act w es → HasDone (abandon_requests (as_underway j number)) es → Runs o s w es (record s { jobs = js ++ ks })
