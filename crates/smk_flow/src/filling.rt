@@ -36,7 +36,8 @@ pub(crate) fn pattern_of(
     }
 }
 
-// The text with each wildcard replaced by its value. Each has one, since the texts of a checked workflow have no other names.
+// The text with each wildcard replaced by its value. Each has one, since the texts of a checked workflow have no other names. The text is
+// read anew, so a constraint that stands in it is compiled anew; those that are given for names aren't looked at.
 pub(crate) fn filled(alloc: Global, text: &str, binding: &Binding) -> Result<Text, OutOfMemory>
     ensures { IfOk result (λ made. made ≡ fill binding.now text.now) }
 {

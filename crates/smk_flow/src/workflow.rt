@@ -127,10 +127,12 @@ impl Workflow {
         }
     }
 
-    /// The rules in order, lent, each with the patterns of its texts. A rule's number is its place, from 0.
+    /// The rules in order, lent, each with the patterns of its texts. A rule's number is its place, from 0. With the clauses they pass all
+    /// checks.
     pub fn rules(&self) -> &List<Rule>
         ensures rules { result.now ≡ map rule_of self.now.rules }
         ensures few { length self.now.rules < 4294967296 }
+        ensures checked { IsWorkflow self.now.rules self.now.orders }
     {
         &self.rules
     }
