@@ -110,6 +110,25 @@ fn with_directive<S: Scope>(
     }
 }
 
+// The rule with what these directives say, in order.
+fn with_directives<S: Scope>(
+    alloc: Global,
+    part: RulePart,
+    forms: &[DirectiveForm],
+    scope: &S,
+) -> Result<RulePart, ValueFault>
+    ensures { Tells result (spec.with_directives (S.seen scope.now) part forms.now) }
+{
+    let mut made = part;
+    for form in forms {
+        match with_directive(alloc, made, form, scope) {
+            Ok(now) => made = now,
+            Err(fault) => return Err(fault),
+        }
+    }
+    Ok(made)
+}
+
 /// The rule that its form makes in a scope, its directives evaluated in the order in which they stand; `file` is the file that it stands
 /// in, `line` the first line of its statement, and `globals` are the constraints of the whole file, which hold for all names but
 /// those of the rule's own. A rule has 1 thread and the priority 0 where it doesn't say otherwise.
@@ -128,9 +147,7 @@ pub fn rule_part<S: Scope>(
 ) -> Result<RulePart, ValueFault>
     ensures { Tells result (spec.rule_of (S.seen scope.now) globals.now form.now file.now line) }
 {
-    let mut part = begun(alloc, form, file, line)?;
-    for directive in form.directives.as_slice() {
-        part = with_directive(alloc, part, directive, scope)?;
-    }
+    let part = begun(alloc, form, file, line)?;
+    let part = with_directives(alloc, part, form.directives.as_slice(), scope)?;
     Ok(with_globals(alloc, part, globals)?)
 }
