@@ -1,11 +1,10 @@
 -- The calls of `abandon` are a run of the protocol that closes the job.
-use Rattle.std.proofs.Common.{◌≡◌, ◌≢◌, ◌⊎◌, inl, inr, ℕ, Bool, true, false, ◌||◌, List, [], ◌∷◌, ◌++◌, map, refl, sym, ap, subst, ◌∙◌, bytes_eq, append_assoc, Option, Some, None, Ok, Err}
+use Rattle.std.proofs.Common.{◌≡◌, ◌≢◌, ◌⊎◌, inl, inr, ℕ, Bool, true, false, ◌||◌, List, [], ◌∷◌, ◌++◌, map, refl, sym, ap, subst, ◌∙◌, bytes_eq, append_assoc, None, Ok, Err}
 use Rattle.std.specs.Prelude.{if◌then◌else◌, IsTrue}
 use Rattle.smk_base.specs.Path.{is_at_or_under}
-use Rattle.smk_base.specs.Place.{mark_place, record_place}
+use Rattle.smk_base.specs.Place.{mark_place}
 use Rattle.smk_base.specs.declared.tree.Tree.{Tree}
 use Rattle.smk_base.proofs.Places.{place_itself}
-use Rattle.smk_world.specs.declared.event.Node.{Node}
 use Rattle.smk_world.specs.declared.event.NodeState.{NodeState}
 use Rattle.smk_world.specs.declared.event.NodeState.TheVariants.{Owned, Known}
 use Rattle.smk_world.specs.declared.event.Call.{Call}
@@ -13,17 +12,16 @@ use Rattle.smk_world.specs.declared.event.Call.TheVariants.{Looked, ReadFile, Re
 use Rattle.smk_world.specs.declared.event.Change.{Change}
 use Rattle.smk_world.specs.declared.event.Event.{Event}
 use Rattle.smk_world.specs.declared.recipe.Recipe.{Recipe}
-use Rattle.smk_world.specs.World.{World, after, run, reading, going, standing, out_paths, is_named, node_after}
+use Rattle.smk_world.specs.World.{World, after, reading, going, standing, is_named, node_after}
 use Rattle.smk_world.specs.Calls.{Acted, Lets, failed}
 use Rattle.smk_world.specs.Runs.{Follows}
 use Rattle.smk_world.specs.Requests.{Request, request, HasDone}
 use Rattle.smk_world.specs.Requests.Request.{Remove, Settle}
-use Rattle.smk_world.specs.Trees.{Path, Each, IsIn, among}
+use Rattle.smk_world.specs.Trees.{Path, IsIn, among}
 use Rattle.smk_store.specs.Soundness.{Outside}
 use Rattle.smk_store.specs.Steps.{remove_each}
-use Rattle.smk_protocol.specs.Protocol.{OpenJob, RunState, Phase, Ended, Dropping, Dropped, Recorded, Runs, Done, Next, Step, Go, Close, Moves, Drop, AllDropped, Unmark, Closes, AllUnmarked, outputs, record_places, IsAbsent, AreAmong}
+use Rattle.smk_protocol.specs.Protocol.{OpenJob, RunState, Phase, Ended, Dropping, Dropped, Runs, Done, Next, Go, Close, Moves, Drop, AllDropped, Unmark, Closes, AllUnmarked, outputs, record_places, IsAbsent}
 use Rattle.smk_protocol.proofs.Basics.{each_of}
-use Rattle.smk_job.specs.Jobs.{abandon_requests}
 use Rattle.smk_job.specs.Laws.{AbandoningRuns}
 
 true_false : true ≡ false → ⊥
@@ -214,12 +212,12 @@ module _ (o : Outside) (s : RunState) (js ks : List OpenJob) (j : OpenJob) (calm
       (AllDropped all refl (each_of (IsAbsent w) all gone) (each_of (λ p. IsTrue (among all p)) all (λ p i. among_by all p i)))))
       (more (after w e) es follows.1 done.2)
 
-in_either : (ps qs : List Path) (p : Path) → IsIn (ps ++ qs) p → IsIn ps p ⊎ IsIn qs p
+pub in_either : (ps qs : List Path) (p : Path) → IsIn (ps ++ qs) p → IsIn ps p ⊎ IsIn qs p
 in_either [] qs p i = inr i
 in_either (x ∷ ps) qs p (inl e) = inl (inl e)
 in_either (x ∷ ps) qs p (inr i) = elim (in_either ps qs p i) [ inl l ↦ inl (inr l) | inr r ↦ inr r ]
 
-regrouped : (a b : List Request) (c : Request) (d : List Request) → (a ++ (b ++ c ∷ [])) ++ d ≡ a ++ (b ++ c ∷ d)
+pub regrouped : (a b : List Request) (c : Request) (d : List Request) → (a ++ (b ++ c ∷ [])) ++ d ≡ a ++ (b ++ c ∷ d)
 regrouped a b c d = append_assoc a (b ++ c ∷ []) d ∙ ap (λ t. a ++ t) (append_assoc b (c ∷ []) d)
 
 pub abandoning_runs : AbandoningRuns

@@ -1,5 +1,5 @@
 -- The calls of `begin` are a run of the protocol after which the job's child runs.
-use Rattle.std.proofs.Common.{◌≡◌, ◌≢◌, ◌⊎◌, inl, inr, ℕ, Bool, true, false, List, [], ◌∷◌, ◌++◌, map, refl, sym, ap, subst, ◌∙◌, append_assoc, Option, Some, None, Ok, Err}
+use Rattle.std.proofs.Common.{◌≡◌, ◌≢◌, ◌⊎◌, inl, inr, ℕ, Bool, true, false, List, [], ◌∷◌, ◌++◌, map, refl, sym, ap, subst, ◌∙◌, append_assoc, Some, None, Ok, Err}
 use Rattle.std.specs.Prelude.{IsTrue, IsSome}
 use Rattle.smk_base.specs.Place.{mark_place, note_place}
 use Rattle.smk_base.specs.declared.tree.Tree.{Tree}
@@ -9,30 +9,30 @@ use Rattle.smk_world.specs.declared.event.Call.{Call}
 use Rattle.smk_world.specs.declared.event.Call.TheVariants.{Looked, ReadFile, ReadFolder, Written, Created, Removed, MadeParents, Settled, Protected, Started, Waited}
 use Rattle.smk_world.specs.declared.event.Event.{Event}
 use Rattle.smk_world.specs.declared.recipe.Recipe.{Recipe}
-use Rattle.smk_world.specs.World.{World, after, reading, owned_paths, out_paths}
+use Rattle.smk_world.specs.World.{World, after, reading}
 use Rattle.smk_world.specs.Calls.{Acted, Lets, Stands, failed, started_number, started_numbers}
 use Rattle.smk_world.specs.Runs.{Follows}
 use Rattle.smk_world.specs.Requests.{Request, request, HasDone}
-use Rattle.smk_world.specs.Requests.Request.{Create, MakeParents, Remove, Settle, Start}
-use Rattle.smk_world.specs.Trees.{Path, Each, IsIn, among}
+use Rattle.smk_world.specs.Requests.Request.{Create, MakeParents, Settle, Start}
+use Rattle.smk_world.specs.Trees.{Path, IsIn, among}
 use Rattle.std.proofs.lemmas.List.{append-nil}
 use Rattle.smk_store.specs.Soundness.{Outside}
 use Rattle.smk_store.specs.Steps.{make_each, remove_each}
-use Rattle.smk_protocol.specs.Protocol.{OpenJob, RunState, Phase, Marking, Marked, Running, Runs, Done, Next, Step, Begin, Go, Moves, MakeFolders, Mark, AllMarked, MakeRoom, Start as StartMove, MayBegin, HasSerial, outputs, own, mark_places, IsThere, IsFirst}
+use Rattle.smk_protocol.specs.Protocol.{OpenJob, RunState, Phase, Marking, Marked, Running, Runs, Done, Next, Begin, Go, Moves, MakeFolders, Mark, AllMarked, MakeRoom, Start as StartMove, MayBegin, HasSerial, outputs, own, mark_places, IsThere, IsFirst}
 use Rattle.smk_protocol.proofs.Basics.{each_of, each_in}
-use Rattle.smk_job.specs.Jobs.{begin_requests, parents_each}
+use Rattle.smk_job.specs.Jobs.{parents_each}
 use Rattle.smk_job.specs.Laws.{BeginningRuns}
 use Rattle.smk_job.proofs.Single.{IsKnown, Stepped, step_known, created}
 use Rattle.smk_job.proofs.Firmly.{stands_parents, stands_created}
 use Rattle.smk_job.proofs.Launching.{known_marking}
-use Rattle.smk_job.proofs.Abandoning.{removed_call, settled_call, in_first, in_second, in_map, among_by}
+use Rattle.smk_job.proofs.Abandoning.{removed_call, settled_call, among_by}
 
 true_false : true ≡ false → ⊥
 true_false e = cc
 
 -- ## What was called
 
-parents_call : (call : Call) (p : Path) → request call ≡ MakeParents p → failed call ≡ false → call ≡ MadeParents p (Ok tt)
+pub parents_call : (call : Call) (p : Path) → request call ≡ MakeParents p → failed call ≡ false → call ≡ MadeParents p (Ok tt)
 parents_call (MadeParents x (Ok u)) p is quiet = let e : x ≡ p = cc in ap (λ y. MadeParents y (Ok tt)) e
 parents_call (MadeParents x (Err e)) p is quiet = absurd (true_false quiet)
 parents_call (Looked x r) p is quiet = cc
@@ -46,7 +46,7 @@ parents_call (Protected x r) p is quiet = cc
 parents_call (Started recipe logs command r) p is quiet = cc
 parents_call (Waited r) p is quiet = cc
 
-created_call : (call : Call) (p : Path) → request call ≡ Create p → failed call ≡ false → (made : Bool) × (call ≡ Created p (Ok made))
+pub created_call : (call : Call) (p : Path) → request call ≡ Create p → failed call ≡ false → (made : Bool) × (call ≡ Created p (Ok made))
 created_call (Created x (Ok made)) p is quiet = let e : x ≡ p = cc in (made, ap (λ y. Created y (Ok made)) e)
 created_call (Created x (Err e)) p is quiet = absurd (true_false quiet)
 created_call (Looked x r) p is quiet = cc
@@ -60,7 +60,7 @@ created_call (Protected x r) p is quiet = cc
 created_call (Started recipe logs command r) p is quiet = cc
 created_call (Waited r) p is quiet = cc
 
-started_call : (call : Call) (r : Recipe) (ls : List Path) (command : List ℕ) → request call ≡ Start r ls command → failed call ≡ false → (n : ℕ) × (call ≡ Started r ls command (Ok n))
+pub started_call : (call : Call) (r : Recipe) (ls : List Path) (command : List ℕ) → request call ≡ Start r ls command → failed call ≡ false → (n : ℕ) × (call ≡ Started r ls command (Ok n))
 started_call (Started x xs c (Ok n)) r ls command is quiet =
     let e : x ≡ r = cc in
     let f : xs ≡ ls = cc in
@@ -78,10 +78,10 @@ started_call (Settled xs y) r ls command is quiet = cc
 started_call (Protected x y) r ls command is quiet = cc
 started_call (Waited y) r ls command is quiet = cc
 
-stepped : (act : Recipe → List Tree → Acted) (r : Request) (w : World) (e : Event) → Lets act w e.call e.left → request e.call ≡ r → failed e.call ≡ false → Stepped act r w (after w e)
+pub stepped : (act : Recipe → List Tree → Acted) (r : Request) (w : World) (e : Event) → Lets act w e.call e.left → request e.call ≡ r → failed e.call ≡ false → Stepped act r w (after w e)
 stepped act r w e lets is quiet = record { event = e; lets = lets; is = is; quiet = quiet; now = refl }
 
-there_of : (st : NodeState) → Stands st → IsSome (reading st)
+pub there_of : (st : NodeState) → Stands st → IsSome (reading st)
 there_of Owned h = absurd h
 there_of (Known None besides) h = absurd h
 there_of (Known (Some n) besides) h = refl
@@ -215,11 +215,11 @@ module _ (o : Outside) (s : RunState) (j : OpenJob) (top number : ℕ) (calm : s
         | inr h ↦ inr (stands_created o.act p x (after w e) v s2 (stands_parents o.act p x w (after w e) s1 h))
       ])))))
 
-some_marks : (outs logs : List Path) → outs ≢ [] → map mark_place outs ++ map note_place logs ≢ []
+pub some_marks : (outs logs : List Path) → outs ≢ [] → map mark_place outs ++ map note_place logs ≢ []
 some_marks [] logs some = absurd (some refl)
 some_marks (p ∷ outs) logs some = λ e. cc
 
-regrouped : (a : List Request) (b : Request) (c d : List Request) (e : Request) → ((a ++ b ∷ []) ++ (c ++ d)) ++ e ∷ [] ≡ a ++ (b ∷ (c ++ (d ++ e ∷ [])))
+pub regrouped : (a : List Request) (b : Request) (c d : List Request) (e : Request) → ((a ++ b ∷ []) ++ (c ++ d)) ++ e ∷ [] ≡ a ++ (b ∷ (c ++ (d ++ e ∷ [])))
 regrouped a b c d e =
     append_assoc (a ++ b ∷ []) (c ++ d) (e ∷ []) ∙ append_assoc a (b ∷ []) ((c ++ d) ++ e ∷ []) ∙ ap (λ t. a ++ (b ∷ t)) (append_assoc c d (e ∷ []))
 

@@ -1,5 +1,5 @@
 -- Calls that neither start a child nor wait for one leave the children as they are.
-use Rattle.std.proofs.Common.{◌≡◌, Bool, true, false, List, [], ◌∷◌, ◌++◌, refl, sym, ap, subst, ◌∙◌, Option, Some, All}
+use Rattle.std.proofs.Common.{◌≡◌, Bool, true, false, List, [], ◌∷◌, ◌++◌, refl, sym, ap, subst, ◌∙◌, Option, All}
 use Rattle.smk_base.specs.declared.tree.Tree.{Tree}
 use Rattle.smk_world.specs.declared.event.Call.{Call}
 use Rattle.smk_world.specs.declared.event.Call.TheVariants.{Looked, ReadFile, ReadFolder, Written, Created, Removed, MadeParents, Settled, Protected, Started, Waited}
@@ -13,7 +13,7 @@ use Rattle.smk_world.specs.Requests.{Request, request, HasDone, Carries}
 use Rattle.smk_world.specs.Requests.Request.{Start, Wait, Settle}
 use Rattle.smk_world.specs.Trees.{Path, Each}
 use Rattle.smk_store.specs.declared.places.JobPlaces.{JobPlaces}
-use Rattle.smk_store.specs.Steps.{AreUnused, SameChildren, make_each, remove_each, write_each, mark_requests, put_requests, drop_requests}
+use Rattle.smk_store.specs.Steps.{AreUnused, SameChildren, make_each, remove_each, write_each, mark_requests, drop_requests}
 use Rattle.smk_job.specs.Jobs.{parents_each, clear_requests, put_all_requests, drop_all_requests}
 
 true_false : true ≡ false → ⊥

@@ -1,5 +1,5 @@
 -- A job whose outputs are files is kept or abandoned by what stands at them.
-use Rattle.std.proofs.Common.{◌≡◌, ◌≢◌, ◌⊎◌, inl, inr, ℕ, Bool, true, false, ◌||◌, List, [], ◌∷◌, ◌++◌, map, length, refl, sym, ap, subst, ◌∙◌, Option, Some, None, Result, Ok, Err, is_ok, filter, suc}
+use Rattle.std.proofs.Common.{◌≡◌, ◌≢◌, ◌⊎◌, inl, inr, ℕ, Bool, true, false, ◌||◌, List, [], ◌∷◌, ◌++◌, map, length, refl, sym, ap, subst, ◌∙◌, Option, Some, None, Result, Ok, Err, filter, suc}
 use Rattle.std.specs.Prelude.{IsErr, if◌then◌else◌}
 use Rattle.std.specs.List.{list_any}
 use Rattle.smk_base.specs.Path.{is_at_or_under, overlaps}
@@ -9,21 +9,19 @@ use Rattle.smk_base.proofs.Under.{never_both, or_cases, overlaps_above_both}
 use Rattle.smk_world.specs.declared.event.Child.{Child}
 use Rattle.smk_world.specs.declared.event.Event.{Event}
 use Rattle.smk_world.specs.declared.event.Failed.{Failed}
-use Rattle.smk_world.specs.declared.event.NodeState.TheVariants.{Owned}
 use Rattle.smk_world.specs.declared.recipe.Out.{Out}
 use Rattle.smk_world.specs.declared.recipe.Recipe.{Recipe}
-use Rattle.smk_world.specs.World.{World, run, out_paths, in_paths, owned_paths, is_within}
+use Rattle.smk_world.specs.World.{World, out_paths, in_paths, owned_paths, is_within}
 use Rattle.smk_world.specs.Calls.{Acted, HasOwners, owned_now, used_now, any_overlap}
-use Rattle.smk_world.specs.Runs.{Did, Follows}
-use Rattle.smk_world.specs.Requests.{Request, HasDone, IsCutShort, Carries}
-use Rattle.smk_world.specs.Trees.{Path, Each, outs_of, folders_of}
+use Rattle.smk_world.specs.Runs.{Did}
+use Rattle.smk_world.specs.Requests.{Request, HasDone, IsCutShort}
+use Rattle.smk_world.specs.Trees.{Path, outs_of, folders_of}
 use Rattle.smk_world.proofs.Runs.{did_both}
 use Rattle.smk_store.specs.declared.places.JobPlaces.{JobPlaces}
 use Rattle.smk_store.specs.Steps.{places_of}
 use Rattle.smk_store.proofs.Carried.{did_as}
-use Rattle.smk_record.specs.declared.record.Stamp.{Stamp}
 use Rattle.smk_job.specs.declared.fault.CloseFault.{CloseFault}
-use Rattle.smk_job.specs.declared.fault.CloseFault.TheVariants.{Device, OutOfMemory}
+use Rattle.smk_job.specs.declared.fault.CloseFault.TheVariants.{Device}
 use Rattle.smk_job.specs.declared.sight.Wrong.{Wrong}
 use Rattle.smk_job.specs.declared.sight.Wrong.TheVariants.{Absent, OtherKind}
 use Rattle.smk_job.specs.Jobs.{Underway, bare_bytes, bytes_with, IsReady, LetsClose, keep_requests, lose_requests, finish_requests, abandon_requests}

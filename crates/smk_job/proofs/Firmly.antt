@@ -1,7 +1,6 @@
 -- Once they are made and settled, the marks and notes are firm, and stay so while room is made for the outputs.
-use Rattle.std.proofs.Common.{◌≡◌, ◌⊎◌, inl, inr, cond, Bool, true, false, ◌||◌, List, [], ◌∷◌, ◌++◌, map, refl, sym, ap, subst, ◌∙◌, Option, Some, None, bytes_eq, IsTrue, Ok, Err}
+use Rattle.std.proofs.Common.{◌≡◌, ◌⊎◌, inl, inr, cond, Bool, true, false, ◌||◌, List, [], ◌∷◌, ◌++◌, refl, sym, ap, subst, ◌∙◌, Some, None, bytes_eq, Ok, Err}
 use Rattle.smk_base.specs.Path.{is_path, is_under, is_at_or_under}
-use Rattle.smk_base.specs.Place.{mark_place, note_place}
 use Rattle.smk_base.specs.declared.tree.Tree.{Tree}
 use Rattle.smk_base.proofs.Places.{same_place}
 use Rattle.smk_base.proofs.Under.{never_both, or_first, or_cases, at_itself}
@@ -14,17 +13,15 @@ use Rattle.smk_world.specs.declared.event.Call.{Call}
 use Rattle.smk_world.specs.declared.event.Call.TheVariants.{Looked, ReadFile, ReadFolder, Written, Created, Removed, MadeParents, Settled, Protected, Started, Waited}
 use Rattle.smk_world.specs.declared.event.Change.{Change}
 use Rattle.smk_world.specs.declared.recipe.Recipe.{Recipe}
-use Rattle.smk_world.specs.World.{World, node_after, is_within, with_folder, firm, firmly, owned_paths, in_paths}
-use Rattle.smk_world.specs.Calls.{Acted, Lets, Stands, HasOwners, owned_now, used_now, failed}
+use Rattle.smk_world.specs.World.{World, node_after, is_within, with_folder, firmly, owned_paths, in_paths}
+use Rattle.smk_world.specs.Calls.{Acted, Stands, HasOwners, owned_now, used_now, failed}
 use Rattle.smk_world.specs.Requests.{Request, request}
 use Rattle.smk_world.specs.Requests.Request.{Create, MakeParents, Settle}
 use Rattle.smk_world.specs.Trees.{Path, Each, IsIn}
 use Rattle.smk_store.specs.declared.places.JobPlaces.{JobPlaces}
 use Rattle.smk_store.specs.Steps.{make_each, remove_each, mark_requests}
-use Rattle.smk_protocol.proofs.Basics.{each_in}
 use Rattle.smk_job.specs.Jobs.{parents_each, clear_requests, ReadUsers}
-use Rattle.smk_job.proofs.Children.{AreFiles, files_append}
-use Rattle.smk_job.proofs.Single.{touches, KeepsOff, Stepped, Reaches, step_keeps, IsKnown, step_known, created, settled_firm, firmly_some}
+use Rattle.smk_job.proofs.Single.{KeepsOff, Stepped, Reaches, step_keeps, IsKnown, step_known, created, settled_firm, firmly_some}
 
 true_false : true ≡ false → ⊥
 true_false e = cc

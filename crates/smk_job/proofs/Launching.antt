@@ -1,12 +1,12 @@
 -- Marked and with room made, a job's command may be started; and what the start answers.
-use Rattle.std.proofs.Common.{◌≡◌, ℕ, Bool, true, false, List, [], ◌∷◌, ◌++◌, map, refl, sym, ap, subst, ◌∙◌, Option, Some, None, All, Result, Ok, Err}
-use Rattle.std.specs.Prelude.{IsErr, IfOk, is_ok, slice_index_or}
+use Rattle.std.proofs.Common.{◌≡◌, ℕ, true, false, List, [], ◌∷◌, ◌++◌, map, refl, sym, ap, subst, ◌∙◌, Option, Some, All, Result, Ok, Err}
+use Rattle.std.specs.Prelude.{IsErr}
 use Rattle.std.proofs.lemmas.List.{append-nil}
 use Rattle.std.proofs.lemmas.List.Elements.{All-nil, All-cons}
 use Rattle.smk_base.specs.Path.{is_path}
 use Rattle.smk_base.specs.Place.{mark_place, note_place}
 use Rattle.smk_base.specs.declared.tree.Tree.{Tree}
-use Rattle.smk_base.proofs.Apart.{IsApart, path-mark, path-note}
+use Rattle.smk_base.proofs.Apart.{path-mark, path-note}
 use Rattle.smk_world.specs.declared.event.Call.{Call}
 use Rattle.smk_world.specs.declared.event.Call.TheVariants.{Looked, ReadFile, ReadFolder, Written, Created, Removed, MadeParents, Settled, Protected, Started, Waited}
 use Rattle.smk_world.specs.declared.event.Event.{Event}

@@ -8,3 +8,4 @@ pub mod Looking
 pub mod Finishing
 pub mod Abandoning
 pub mod Beginning
+pub mod Parts

@@ -1,5 +1,5 @@
 -- Looks at outputs that are to be files, one after the other.
-use Rattle.std.proofs.Common.{◌≡◌, ℕ, zero, suc, ◌+◌, ◌<◌, ◌≤◌, Bool, true, false, ◌||◌, List, [], ◌∷◌, ◌++◌, map, length, take, drop, get_or, inl, inr, refl, sym, ap, subst, ◌∙◌, arith, add-one, append_assoc, Option, Some, None, Result, Ok, Err, is_ok, drop-cons}
+use Rattle.std.proofs.Common.{◌≡◌, ℕ, zero, suc, ◌+◌, ◌<◌, ◌≤◌, Bool, true, false, ◌||◌, List, [], ◌∷◌, ◌++◌, map, length, take, drop, get_or, inl, inr, refl, sym, ap, subst, ◌∙◌, arith, append_assoc, Option, Some, None, Result, Ok, Err, drop-cons}
 use Rattle.std.specs.Prelude.{IsErr}
 use Rattle.std.specs.List.{list_any}
 use Rattle.std.proofs.lemmas.List.{append-nil, take_more, take-append-drop, take_all}
@@ -19,12 +19,12 @@ use Rattle.smk_world.specs.declared.recipe.Kind.{Kind}
 use Rattle.smk_world.specs.declared.recipe.Kind.TheVariants.{Plain, Folder}
 use Rattle.smk_world.specs.declared.recipe.Out.{Out}
 use Rattle.smk_world.specs.declared.recipe.Recipe.{Recipe}
-use Rattle.smk_world.specs.World.{World, after, run, reads_nothing, reads_folder}
-use Rattle.smk_world.specs.Calls.{Acted, Happened, Lets, StatIs, failed}
+use Rattle.smk_world.specs.World.{World, run, reads_nothing, reads_folder}
+use Rattle.smk_world.specs.Calls.{Acted, Happened, StatIs, failed}
 use Rattle.smk_world.specs.Runs.{Did}
 use Rattle.smk_world.specs.Requests.{AreQuiet}
 use Rattle.smk_world.specs.Requests.Request.{Look}
-use Rattle.smk_world.specs.Trees.{Path, Each, is_folder_kind}
+use Rattle.smk_world.specs.Trees.{Path, is_folder_kind}
 use Rattle.smk_world.proofs.Runs.{did_nothing, did_more, run_append}
 use Rattle.smk_record.specs.declared.record.Member.{Member}
 use Rattle.smk_job.specs.declared.fault.CloseFault.{CloseFault}

@@ -1,14 +1,14 @@
 -- Where running children leave room, the places of a job are unused.
-use Rattle.std.proofs.Common.{◌≡◌, Bool, true, false, ◌||◌, List, [], ◌∷◌, ◌++◌, map, refl, sym, ap, subst, ◌∙◌, Option, Some, All}
+use Rattle.std.proofs.Common.{◌≡◌, Bool, true, false, ◌||◌, List, [], ◌∷◌, ◌++◌, map, refl, sym, ap, subst, Option, Some, All}
 use Rattle.std.specs.List.{list_any}
 use Rattle.std.proofs.lemmas.List.Elements.{All-nil, All-cons}
 use Rattle.smk_base.specs.Path.{is_path, overlaps}
 use Rattle.smk_base.specs.Place.{record_place, mark_place}
 use Rattle.smk_base.proofs.Apart.{path-record, path-mark}
 use Rattle.smk_world.specs.declared.recipe.Recipe.{Recipe}
-use Rattle.smk_world.specs.World.{World, out_paths, owned_paths}
+use Rattle.smk_world.specs.World.{World, out_paths}
 use Rattle.smk_world.specs.Calls.{IsUnused, any_overlap, used_now}
-use Rattle.smk_world.specs.Trees.{Path, Each, IsIn}
+use Rattle.smk_world.specs.Trees.{Path}
 use Rattle.smk_store.specs.declared.places.JobPlaces.{JobPlaces}
 use Rattle.smk_store.specs.Steps.{AreUnused, places_of}
 use Rattle.smk_protocol.proofs.Basics.{each_in, none_by}

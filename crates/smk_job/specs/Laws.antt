@@ -1,10 +1,10 @@
 -- The calls of a job as a run of the protocol.
-use Rattle.std.specs.Prelude.{◌≡◌, ◌≢◌, ℕ, true, false, List, [], ◌∷◌, ◌++◌}
+use Rattle.std.specs.Prelude.{◌≡◌, ◌≢◌, ◌⊎◌, ℕ, Bool, true, false, List, [], ◌∷◌, ◌++◌}
 use Rattle.smk_world.specs.declared.event.Event.{Event}
 use Rattle.smk_world.specs.World.{World}
-use Rattle.smk_world.specs.Calls.{HasOwners, started_numbers}
+use Rattle.smk_world.specs.Calls.{HasOwners, started_numbers, failed}
 use Rattle.smk_world.specs.Runs.{Follows}
-use Rattle.smk_world.specs.Requests.{HasDone}
+use Rattle.smk_world.specs.Requests.{Request, request, HasDone, Carries}
 use Rattle.smk_store.specs.Soundness.{Outside}
 use Rattle.smk_protocol.specs.Protocol.{OpenJob, RunState, Marking, Running, Ended, MayBegin, HasSerial, Runs, outputs}
 use Rattle.smk_job.specs.Jobs.{Underway, underway, ReadUsers, begin_requests, abandon_requests}
@@ -12,6 +12,16 @@ use Rattle.smk_job.specs.Jobs.{Underway, underway, ReadUsers, begin_requests, ab
 -- an open job whose child has this number, as `begin` answers it
 abbrev pub as_underway : OpenJob → ℕ → Underway
 as_underway j number = underway j.recipe j.logs j.stamps j.serial number
+
+-- The events are the first of these calls, in order; only the last event may be one that failed.
+abbrev pub IsPart : List Request → List Event → Type 0
+IsPart rs [] = Unit {0}
+IsPart [] (e ∷ es) = ⊥
+IsPart (r ∷ rs) (e ∷ es) = (request e.call ≡ r) × (((failed e.call ≡ true) × (es ≡ [])) ⊎ ((failed e.call ≡ false) × IsPart rs es))
+
+-- What `begin` and `abandon` carry out is a part of their calls.
+abbrev pub CarriedIsPart : Type 0
+CarriedIsPart = (rs : List Request) (ok : Bool) (es : List Event) → Carries rs ok es → IsPart rs es
 
 -- All calls of `begin`, of a job that the protocol lets begin, are a run of the protocol after which its child runs.
 abbrev pub BeginningRuns : Type 0
@@ -29,6 +39,19 @@ BeginningRuns =
     HasDone (begin_requests j.recipe j.logs command) es →
     started_numbers es ≡ number ∷ [] → Runs o s w es (record s { jobs = (record j { phase = Running number }) ∷ s.jobs; top = top })
 
+-- Each part of them is a run of the protocol, also where its last call failed.
+abbrev pub BeginningPartsRun : Type 0
+BeginningPartsRun =
+    (o : Outside) (s : RunState) (j : OpenJob) (top : ℕ) (command : List ℕ) (w : World) (es : List Event) →
+    s.faulted ≡ false →
+    s.steady ≡ true →
+    MayBegin o s w j →
+    HasSerial o s w j top →
+    j.phase ≡ Marking →
+    outputs j ≢ [] →
+    HasOwners w →
+    ReadUsers w → Follows o.act w es → IsPart (begin_requests j.recipe j.logs command) es → (end : RunState) × Runs o s w es end
+
 -- All calls of `abandon`, of an open job whose child has ended, are a run of the protocol that closes it.
 abbrev pub AbandoningRuns : Type 0
 AbandoningRuns =
@@ -37,3 +60,12 @@ AbandoningRuns =
     s.faulted ≡ false →
     j.phase ≡ Ended status →
     outputs j ≢ [] → Follows o.act w es → HasDone (abandon_requests (as_underway j number)) es → Runs o s w es (record s { jobs = js ++ ks })
+
+-- Each part of them is a run of the protocol, also where its last call failed.
+abbrev pub AbandoningPartsRun : Type 0
+AbandoningPartsRun =
+    (o : Outside) (s : RunState) (js ks : List OpenJob) (j : OpenJob) (number status : ℕ) (w : World) (es : List Event) →
+    s.jobs ≡ js ++ j ∷ ks →
+    s.faulted ≡ false →
+    j.phase ≡ Ended status →
+    outputs j ≢ [] → Follows o.act w es → IsPart (abandon_requests (as_underway j number)) es → (end : RunState) × Runs o s w es end

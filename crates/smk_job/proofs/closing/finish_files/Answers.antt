@@ -1,7 +1,7 @@
-use Rattle.std.proofs.Common.{◌≡◌, Ok, Err, Some, None, sym, ap, ◌∙◌, subst}
+use Rattle.std.proofs.Common.{Ok, Err, sym, ap, ◌∙◌, subst}
 use Rattle.smk_world.specs.Runs.{Did}
 use Rattle.smk_job.specs.declared.fault.CloseFault.TheVariants.{Device}
-use Rattle.smk_job.specs.Jobs.{Underway, underway, IsReady}
+use Rattle.smk_job.specs.Jobs.{underway, IsReady}
 use Rattle.smk_job.specs.Sights.{HasFinished, path_at}
 use Rattle.smk_job.proofs.Rooms.{lets_as, close_outputs, close_records, close_marks}
 use Rattle.smk_job.proofs.Finishing.{at_outputs, finished_well, finished_wrong, finished_badly}
