@@ -1,3 +1,4 @@
 pub mod Digits
 pub mod Read
 pub mod Filled
+mod Rows
