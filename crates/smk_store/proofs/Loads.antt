@@ -243,9 +243,11 @@ kept_stands read p (Some (Regular bytes time read_only)) = limit (nat_le (length
     chosen : (r : Record) (b : Bool) → stands (if b then Held r else Unreadable) ≡ true
     chosen r true = refl
     chosen r false = refl
+
     for : (o : Option Record) → stands (for_path p o) ≡ true
     for None = refl
     for (Some r) = chosen r (bytes_eq r.path p && is_valid r)
+
     limit : (b : Bool) → stands (if b then for_path p (read bytes) else Unreadable) ≡ true
     limit true = for (read bytes)
     limit false = refl
@@ -280,7 +282,7 @@ module _ (read : List ℕ → Option Record) (w : World) (records marks notes : 
       ∙ same_and (is_path_text p) (records p || (marks p || notes p))
       (is_some (reading (w.nodes (record_place p))) || (is_some (reading (w.nodes (mark_place p))) || is_some (reading (w.nodes (note_place p)))))
       (λ path. ap (λ (b : Bool). b || (marks p || notes p)) (signs.recorded p path) ∙ ap (λ (b : Bool). is_some (reading (w.nodes (record_place p))) || (b || notes p)) (signs.marked p path)
-          ∙ ap (λ (b : Bool). is_some (reading (w.nodes (record_place p))) || (is_some (reading (w.nodes (mark_place p))) || b)) (signs.noted p path))
+      ∙ ap (λ (b : Bool). is_some (reading (w.nodes (record_place p))) || (is_some (reading (w.nodes (mark_place p))) || b)) (signs.noted p path))
       ∙ known_signs (is_path_text p) (is_some (reading (w.nodes (record_place p)))) (is_some (reading (w.nodes (mark_place p)))) (is_some (reading (w.nodes (note_place p))))
       (kept_by read p (reading (w.nodes (record_place p)))) (λ path. kept_stands read p (reading (w.nodes (record_place p))))
 
