@@ -48,8 +48,7 @@ fn make<R: FileSystem + Processes + Clock>(
         let place = Place::record_of(alloc, kept.path()).map_err(|_| "out of memory")?;
         let bytes = write(alloc, &kept).map_err(|_| "out of memory")?;
         work.make_parents(&place).map_err(|_| "no folder")?;
-        work.write(&place, bytes.as_slice())
-            .map_err(|_| "no file")?;
+        work.write(&place, bytes.as_slice()).map_err(|_| "no file")?;
     }
     Ok(())
 }

@@ -216,10 +216,10 @@ module _ (nodes : Path → NodeState) (folder front : Path) (names : List Name) 
         sound = λ q h.
             elim (or_cases (all_tell_of front names q) (old q) (sym (is q) ∙ h)) [
               | inl told ↦
-                let n = any_of (tells_of front q) (Stood nodes folder) names told l.each in
-                let e = ended_by front q n.0.name (after_sign 61 n.0.name) refl n.1 in
-                let is_flat : flat e.0 ≡ true = flat_name 61 e.0 (subst (λ (t : Path). is_name t ≡ true) e.1 n.2.name) in
-                inr (e.0, e.2, some_at nodes (in_folder folder n.0.name) (in_folder folder (name_of e.0)) (ap (in_folder folder) e.1 ∙ sym (last_place folder e.0 is_flat)) n.2.some)
+                  let n = any_of (tells_of front q) (Stood nodes folder) names told l.each in
+                  let e = ended_by front q n.0.name (after_sign 61 n.0.name) refl n.1 in
+                  let is_flat : flat e.0 ≡ true = flat_name 61 e.0 (subst (λ (t : Path). is_name t ≡ true) e.1 n.2.name) in
+                  inr (e.0, e.2, some_at nodes (in_folder folder n.0.name) (in_folder folder (name_of e.0)) (ap (in_folder folder) e.1 ∙ sym (last_place folder e.0 is_flat)) n.2.some)
               | inr before ↦ inl before
             ];
         last = λ rest is_flat path some.
@@ -242,7 +242,7 @@ module _ (nodes : Path → NodeState) (folder front : Path) (names : List Name) 
         entered = All-push (Entered nodes folder front new) done n s.entered (λ part rest name is_flat path some.
             absurd (never_none front n part
             (stood.kind ∙ ap (λ (t : Path). reads_folder (nodes (in_folder folder t))) name
-                ∙ l.deeper (43 ∷ part) (name_of rest) (some_at nodes (in_folder folder (name_of (part ++ 47 ∷ rest))) (in_folder (in_folder folder (43 ∷ part)) (name_of rest)) (deeper_place folder part rest is_flat) some))
+            ∙ l.deeper (43 ∷ part) (name_of rest) (some_at nodes (in_folder folder (name_of (part ++ 47 ∷ rest))) (in_folder (in_folder folder (43 ∷ part)) (name_of rest)) (deeper_place folder part rest is_flat) some))
             name (short part rest path) none));
       }
     where
@@ -264,7 +264,7 @@ module _ (nodes : Path → NodeState) (folder front : Path) (names : List Name) 
                 b.0 ++ 47 ∷ more.0,
                 more.1 ∙ ap (λ (t : Path). t ++ more.0) b.2 ∙ further front b.0 more.0,
                 some_at nodes (in_folder (in_folder folder n.name) (name_of more.0)) (in_folder folder (name_of (b.0 ++ 47 ∷ more.0)))
-                (ap (λ (t : Path). in_folder (in_folder folder t) (name_of more.0)) b.1 ∙ sym (deeper_place folder b.0 more.0 is_flat)) more.2,
+                    (ap (λ (t : Path). in_folder (in_folder folder t) (name_of more.0)) b.1 ∙ sym (deeper_place folder b.0 more.0 is_flat)) more.2,
               )
             ];
         last = λ rest flat_rest path some. w.keeps (front ++ rest) (s.last rest flat_rest path some);
@@ -295,7 +295,7 @@ module _ (nodes : Path → NodeState) (folder front : Path) (names : List Name) 
           let bytes = bytes_before d.part (47 ∷ d.rest) (bytes_behind front (d.part ++ 47 ∷ d.rest) (path_bytes (front ++ (d.part ++ 47 ∷ d.rest)) path2)) in
           let text : IsTextName (43 ∷ d.part) = signed_text 43 d.part (omega arith) refl (utf8_before d.part d.rest behind) bytes in
           let deep : IsSome (reading (nodes (in_folder (in_folder folder (43 ∷ d.part)) (name_of d.rest)))) =
-              some_at nodes (in_folder folder (name_of (d.part ++ 47 ∷ d.rest))) (in_folder (in_folder folder (43 ∷ d.part)) (name_of d.rest)) (deeper_place folder d.part d.rest d.is_flat) some2 in
+          some_at nodes (in_folder folder (name_of (d.part ++ 47 ∷ d.rest))) (in_folder (in_folder folder (43 ∷ d.part)) (name_of d.rest)) (deeper_place folder d.part d.rest d.is_flat) some2 in
           let n = named_in names (43 ∷ d.part) (l.all (43 ∷ d.part) (signed_name 43 d.part refl d.is_flat) text (folder_some (nodes (in_folder folder (43 ∷ d.part))) (l.deeper (43 ∷ d.part) (name_of d.rest) deep))) in
           subst (λ (t : Path). new (front ++ t) ≡ true) (sym d.is)
           (All-contains (Entered nodes folder front new) names n.0 s.entered n.1 d.part d.rest n.2 d.is_flat path2 some2)

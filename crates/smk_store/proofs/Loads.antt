@@ -227,7 +227,7 @@ named_first test q p more named false e h = h ∙ by (bytes_eq q p) refl
     by true f = let no_pass : test q ≡ false = ap test (same_place q p f) ∙ e in ap (λ (v : Bool). v && named) no_pass ∙ sym (ap (λ (v : Bool). v && true) no_pass)
     by false f = refl
 
-named_filter : (test : Path → Bool) (q : Path) (ps : List Path) → is_named q (filter test ps) ≡ (test q && is_named q ps)
+pub named_filter : (test : Path → Bool) (q : Path) (ps : List Path) → is_named q (filter test ps) ≡ (test q && is_named q ps)
 named_filter test q [] = none (test q)
   where
     none : (b : Bool) → false ≡ (b && false)
@@ -235,7 +235,7 @@ named_filter test q [] = none (test q)
     none false = refl
 named_filter test q (p ∷ ps) = named_first test q p (filter test ps) (is_named q ps) (test p) refl (named_filter test q ps)
 
-kept_stands : (read : List ℕ → Option Record) (p : Path) (n : Option Node) → stands (kept_by read p n) ≡ is_some n
+pub kept_stands : (read : List ℕ → Option Record) (p : Path) (n : Option Node) → stands (kept_by read p n) ≡ is_some n
 kept_stands read p None = refl
 kept_stands read p (Some Directory) = refl
 kept_stands read p (Some (Regular bytes time read_only)) = limit (nat_le (length bytes) 33554432)
@@ -243,14 +243,16 @@ kept_stands read p (Some (Regular bytes time read_only)) = limit (nat_le (length
     chosen : (r : Record) (b : Bool) → stands (if b then Held r else Unreadable) ≡ true
     chosen r true = refl
     chosen r false = refl
+
     for : (o : Option Record) → stands (for_path p o) ≡ true
     for None = refl
     for (Some r) = chosen r (bytes_eq r.path p && is_valid r)
+
     limit : (b : Bool) → stands (if b then for_path p (read bytes) else Unreadable) ≡ true
     limit true = for (read bytes)
     limit false = refl
 
-known_signs : (path r m n : Bool) (kept : Kept) → (path ≡ true → stands kept ≡ r) → (path && (r || (m || n))) ≡ (stands (if path then kept else Absent) || ((path && m) || (path && n)))
+pub known_signs : (path r m n : Bool) (kept : Kept) → (path ≡ true → stands kept ≡ r) → (path && (r || (m || n))) ≡ (stands (if path then kept else Absent) || ((path && m) || (path && n)))
 known_signs true r m n kept h = ap (λ (b : Bool). b || (m || n)) (sym (h refl))
 known_signs false r m n kept h = refl
 
@@ -280,7 +282,7 @@ module _ (read : List ℕ → Option Record) (w : World) (records marks notes : 
       ∙ same_and (is_path_text p) (records p || (marks p || notes p))
       (is_some (reading (w.nodes (record_place p))) || (is_some (reading (w.nodes (mark_place p))) || is_some (reading (w.nodes (note_place p)))))
       (λ path. ap (λ (b : Bool). b || (marks p || notes p)) (signs.recorded p path) ∙ ap (λ (b : Bool). is_some (reading (w.nodes (record_place p))) || (b || notes p)) (signs.marked p path)
-          ∙ ap (λ (b : Bool). is_some (reading (w.nodes (record_place p))) || (is_some (reading (w.nodes (mark_place p))) || b)) (signs.noted p path))
+      ∙ ap (λ (b : Bool). is_some (reading (w.nodes (record_place p))) || (is_some (reading (w.nodes (mark_place p))) || b)) (signs.noted p path))
       ∙ known_signs (is_path_text p) (is_some (reading (w.nodes (record_place p)))) (is_some (reading (w.nodes (mark_place p)))) (is_some (reading (w.nodes (note_place p))))
       (kept_by read p (reading (w.nodes (record_place p)))) (λ path. kept_stands read p (reading (w.nodes (record_place p))))
 

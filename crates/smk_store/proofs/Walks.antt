@@ -54,16 +54,16 @@ pub told_next : (front q : Path) (names : List Name) (i : ℕ) (n : Name) (part 
 told_next front q names i n part was now init lt at sign before e =
     e ∙ ap (λ (b : Bool). bytes_eq (front ++ part) q || b) before ∙ or_between (all_tell_of front (take i names) q) (bytes_eq (front ++ part) q) init
     ∙ ap (λ (b : Bool). b || init) (ap (λ (o : Option (List ℕ)). all_tell_of front (take i names) q || is_it front q o) (sym sign)
-        ∙ ap (λ (m : Name). all_tell_of front (take i names) q || tells_of front q m) at
-        ∙ sym (list_any_more (tells_of front q) names i n lt))
+    ∙ ap (λ (m : Name). all_tell_of front (take i names) q || tells_of front q m) at
+    ∙ sym (list_any_more (tells_of front q) names i n lt))
 
 pub untold_next : (front q : Path) (names : List Name) (i : ℕ) (n : Name) (was init : Bool) → i < length names → n ≡ get_or names i n → after_sign 61 n.name ≡ None
     → was ≡ (all_tell_of front (take i names) q || init) → was ≡ (all_tell_of front (take (i + 1) names) q || init)
 untold_next front q names i n was init lt at sign before =
     before ∙ or_none (all_tell_of front (take i names) q) init
     ∙ ap (λ (b : Bool). b || init) (ap (λ (o : Option (List ℕ)). all_tell_of front (take i names) q || is_it front q o) (sym sign)
-        ∙ ap (λ (m : Name). all_tell_of front (take i names) q || tells_of front q m) at
-        ∙ sym (list_any_more (tells_of front q) names i n lt))
+    ∙ ap (λ (m : Name). all_tell_of front (take i names) q || tells_of front q m) at
+    ∙ sym (list_any_more (tells_of front q) names i n lt))
 
 -- ## Texts without a slash
 

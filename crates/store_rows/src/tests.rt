@@ -88,11 +88,7 @@ fn a_store_has_what_stands(rt: HostRuntime) -> Result<(), Fail> {
     let outputs = one(alloc, PathText::read(alloc, "a/b")?)?;
     let logs = one(alloc, PathText::read(alloc, "log")?)?;
     let places = JobPlaces::of(alloc, &outputs, &logs)?;
-    make(
-        &mut work,
-        &places,
-        &one(alloc, Bytes::of(alloc, RECORD)?)?,
-    )?;
+    make(&mut work, &places, &one(alloc, Bytes::of(alloc, RECORD)?)?)?;
     for (folder, name) in [
         (Place::records(alloc)?, "=z"),
         (Place::marks(alloc)?, "=a-"),
@@ -136,11 +132,7 @@ fn what_was_made_goes_again(rt: HostRuntime) -> Result<(), Fail> {
     assert!(rt; !lock(&mut work, &lock_places)?);
     let outputs = one(alloc, PathText::read(alloc, "a/b")?)?;
     let places = JobPlaces::of(alloc, &outputs, &List::new(alloc))?;
-    make(
-        &mut work,
-        &places,
-        &one(alloc, Bytes::of(alloc, RECORD)?)?,
-    )?;
+    make(&mut work, &places, &one(alloc, Bytes::of(alloc, RECORD)?)?)?;
     clear(&mut work, &places)?;
     assert!(rt; load(alloc, &mut work)?.paths().is_empty());
     open(&mut work, &lock_places)?;

@@ -28,8 +28,8 @@ loop-name-init g t c =
           (looked_list g.W.Files.act _ _ _ _ _ _ c.args.folder.now c.list.result c.list.ensures.world c.list.ensures.cause c.list.ensures.running);
       told = λ w at filed.
           let l : Listed w.nodes c.args.folder.now c.as_slice-names.result.now =
-              subst (Listed w.nodes c.args.folder.now) (sym c.as_slice-names.ensures)
-              (listed w c.args.folder.now c.in_ok-listing.listing filed own (listing_told g.W.Files.act _ _ c.args.folder.now c.list.result c.in_ok-listing.listing w c.list.ensures.world c.in_ok-listing.was at)) in
+          subst (Listed w.nodes c.args.folder.now) (sym c.as_slice-names.ensures)
+          (listed w c.args.folder.now c.in_ok-listing.listing filed own (listing_told g.W.Files.act _ _ c.args.folder.now c.list.result c.in_ok-listing.listing w c.list.ensures.world c.in_ok-listing.was at)) in
           begun w.nodes c.args.folder.now c.args.front.now c.as_slice-names.result.now l utf8 _ _ c.in_ok-add_all.ensures;
     }
 
@@ -46,8 +46,8 @@ loop-name-preserved-in_default g t c =
       looked = v.looked;
       told = λ w at filed.
           let l : Listed w.nodes c.args.folder.now names =
-              subst (Listed w.nodes c.args.folder.now) (sym c.as_slice-names.ensures)
-              (listed w c.args.folder.now c.in_ok-listing.listing filed own (listing_told g.W.Files.act _ _ c.args.folder.now c.list.result c.in_ok-listing.listing w c.list.ensures.world c.in_ok-listing.was at)) in
+          subst (Listed w.nodes c.args.folder.now) (sym c.as_slice-names.ensures)
+          (listed w c.args.folder.now c.in_ok-listing.listing filed own (listing_told g.W.Files.act _ _ c.args.folder.now c.list.result c.in_ok-listing.listing w c.list.ensures.world c.in_ok-listing.was at)) in
           subst (SoFar w.nodes c.args.folder.now c.args.front.now _ _) (taken_next names i n c.loop-name-test.true c.name-item.is)
           (passed w.nodes c.args.folder.now c.args.front.now names l utf8 _ _ (take i names) n (v.told w at filed) (stood_at w.nodes c.args.folder.now names i n l c.loop-name-test.true c.name-item.is) none);
     }
@@ -85,12 +85,12 @@ loop-name-preserved g t c =
           (looked_then g.W.Files.act _ _ _ _ _ _ _ _ _ ⊥ _ (λ f. f) v.looked c.walk.ensures.looked);
       told = λ w at filed.
           let l : Listed w.nodes folder names =
-              subst (Listed w.nodes folder) (sym c.as_slice-names.ensures)
-              (listed w folder c.in_ok-listing.listing filed own (listing_told g.W.Files.act _ _ folder c.list.result c.in_ok-listing.listing w c.list.ensures.world c.in_ok-listing.was at)) in
+          subst (Listed w.nodes folder) (sym c.as_slice-names.ensures)
+          (listed w folder c.in_ok-listing.listing filed own (listing_told g.W.Files.act _ _ folder c.list.result c.in_ok-listing.listing w c.list.ensures.world c.in_ok-listing.was at)) in
           let u = still g.W.Files.act _ _ _ _ _ _ ⊥ w v.looked (λ f. f) at in
           let inner : Walked w.nodes (in_folder folder n.name) below _ _ =
-              walked_at w.nodes u.0.nodes (in_folder folder n.name) c.in_ok-inner.inner below c.as_str-in-loop-name.result.now _ _ u.2 (c.in_ok-inner.ensures ∙ ap (in_folder folder) c.as_str.ensures) c.as_str-in-loop-name.ensures.value
-              (c.in_ok-walk.ensures.told u.0 u.1 (filed_still w u.0 u.2 filed)) in
+          walked_at w.nodes u.0.nodes (in_folder folder n.name) c.in_ok-inner.inner below c.as_str-in-loop-name.result.now _ _ u.2 (c.in_ok-inner.ensures ∙ ap (in_folder folder) c.as_str.ensures) c.as_str-in-loop-name.ensures.value
+          (c.in_ok-walk.ensures.told u.0 u.1 (filed_still w u.0 u.2 filed)) in
           subst (SoFar w.nodes folder front _ _) (taken_next names i n c.loop-name-test.true c.name-item.is)
           (walked_in w.nodes folder front names l utf8 _ _ _ (take i names) n below (v.told w at filed) (stood_at w.nodes folder names i n l c.loop-name-test.true c.name-item.is) some inner);
     }
@@ -103,6 +103,6 @@ returns-clause-told g t c = λ w at filed.
     let folder = c.args.folder.now in
     let front = c.args.front.now in
     let l : Listed w.nodes folder names =
-        subst (Listed w.nodes folder) (sym c.as_slice-names.ensures)
-        (listed w folder c.in_ok-listing.listing filed own (listing_told g.W.Files.act _ _ folder c.list.result c.in_ok-listing.listing w c.list.ensures.world c.in_ok-listing.was at)) in
+    subst (Listed w.nodes folder) (sym c.as_slice-names.ensures)
+    (listed w folder c.in_ok-listing.listing filed own (listing_told g.W.Files.act _ _ folder c.list.result c.in_ok-listing.listing w c.list.ensures.world c.in_ok-listing.was at)) in
     finished w.nodes folder front names l utf8 _ _ (subst (SoFar w.nodes folder front _ _) (all_taken names c.loop-name.name-index c.loop-name-test.false) (c.loop-name.invariant.told w at filed))
