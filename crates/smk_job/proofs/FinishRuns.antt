@@ -22,26 +22,25 @@ use Rattle.smk_world.specs.declared.recipe.Kind.TheVariants.{Plain, Folder as Fo
 use Rattle.smk_world.specs.declared.recipe.Kind.{Kind}
 use Rattle.smk_world.specs.declared.recipe.Out.{Out}
 use Rattle.smk_world.specs.declared.recipe.Recipe.{Recipe}
-use Rattle.smk_world.specs.World.{World, after, run, reading, node_after, with_folder, out_paths}
-use Rattle.smk_world.specs.Calls.{Acted, Lets, HoldsBytes, failed}
+use Rattle.smk_world.specs.World.{World, after, run, reading, node_after, with_folder}
+use Rattle.smk_world.specs.Calls.{Acted, HoldsBytes, failed}
 use Rattle.smk_world.specs.Runs.{Follows}
 use Rattle.smk_world.specs.Requests.{Request, request, HasDone}
-use Rattle.smk_world.specs.Requests.Request.{Look, ListFolder, MakeParents, Write, Remove, Settle}
+use Rattle.smk_world.specs.Requests.Request.{Look, MakeParents, Write, Settle}
 use Rattle.smk_world.specs.Trees.{Path, Each, IsIn, among, is_good, is_path_text, is_text, outs_of, folders_of, is_folder_kind}
 use Rattle.smk_record.specs.declared.record.Member.{Member}
 use Rattle.smk_record.specs.declared.record.Record.{Record}
 use Rattle.smk_record.specs.Records.{is_valid, core, members_of}
-use Rattle.smk_store.specs.declared.store.Kept.{Kept}
 use Rattle.smk_store.specs.declared.store.Kept.TheVariants.{Absent, Unreadable, Held}
 use Rattle.smk_store.specs.Images.{is_directory, bytes_of, kept_by, for_path, readable, members_under, tree_now, entry_under, names_under}
 use Rattle.smk_store.specs.Soundness.{Outside}
 use Rattle.smk_store.specs.Steps.{write_each, remove_each}
-use Rattle.smk_protocol.specs.Protocol.{OpenJob, RunState, Phase, Ended, Firm, Recorded, Runs, Done, Next, Step, Aside, Look as LookMove, Go, Close, Moves, MakeFolders, AllMade, Write as WriteMove, AllWritten, Unmark, Closes, AllUnmarked, outputs, record_places, record_of, listed_of, now, IsLook, IsGood, IsRecordOf, IsWritten, IsAbsent}
+use Rattle.smk_protocol.specs.Protocol.{OpenJob, RunState, Phase, Ended, Firm, Recorded, Runs, Done, Next, Aside, Look as LookMove, Go, Close, Moves, MakeFolders, AllMade, Write as WriteMove, AllWritten, Unmark, Closes, AllUnmarked, outputs, record_places, record_of, listed_of, now, IsLook, IsGood, IsWritten, IsAbsent}
 use Rattle.smk_protocol.proofs.Basics.{each_of, each_in}
-use Rattle.smk_job.specs.Jobs.{bare_bytes, bytes_with, finish_requests, ReadUsers}
+use Rattle.smk_job.specs.Jobs.{bare_bytes, bytes_with}
 use Rattle.smk_job.specs.Sights.{Nodes, reads_file, IsOfKind, IsListing, AreLooks, AreSeen, is_folder_out, nones}
 use Rattle.smk_job.specs.Laws.{as_underway, IsReadBack, FinishingRuns}
-use Rattle.smk_job.proofs.Single.{IsKnown, Stepped, step_known, step_keeps, written}
+use Rattle.smk_job.proofs.Single.{IsKnown, step_known, step_keeps, written}
 use Rattle.smk_job.proofs.Firmly.{known_own}
 use Rattle.smk_job.proofs.Finishing.{bare_records}
 use Rattle.smk_job.proofs.Outs.{paths_same}

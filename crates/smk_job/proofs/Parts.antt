@@ -1,21 +1,20 @@
 -- A part of a job's calls, the last of which may have failed, is a run of the protocol too.
-use Rattle.std.proofs.Common.{◌≡◌, ◌≢◌, ◌⊎◌, inl, inr, ℕ, Bool, true, false, List, [], ◌∷◌, ◌++◌, map, refl, sym, ap, subst, ◌∙◌, append_assoc, Option, Some, None, Ok, Err}
+use Rattle.std.proofs.Common.{◌≡◌, ◌≢◌, ◌⊎◌, inl, inr, ℕ, Bool, true, false, List, [], ◌∷◌, ◌++◌, map, refl, sym, ap, subst, Ok}
 use Rattle.std.specs.Prelude.{IsTrue}
-use Rattle.smk_base.specs.Place.{mark_place, note_place}
-use Rattle.smk_base.specs.declared.tree.Tree.{Tree}
+use Rattle.smk_base.specs.Place.{mark_place}
 use Rattle.smk_world.specs.declared.event.Call.{Call}
 use Rattle.smk_world.specs.declared.event.Call.TheVariants.{Looked, ReadFile, ReadFolder, Written, Created, Removed, MadeParents, Settled, Protected, Started, Waited}
 use Rattle.smk_world.specs.declared.event.Event.{Event}
 use Rattle.smk_world.specs.declared.recipe.Recipe.{Recipe}
 use Rattle.smk_world.specs.World.{World, after}
-use Rattle.smk_world.specs.Calls.{Acted, Lets, Stands, failed}
+use Rattle.smk_world.specs.Calls.{Lets, Stands, failed}
 use Rattle.smk_world.specs.Runs.{Follows}
 use Rattle.smk_world.specs.Requests.{Request, request, HasDone, IsCutShort, Carries}
 use Rattle.smk_world.specs.Requests.Request.{Create, MakeParents, Remove, Settle, Start}
-use Rattle.smk_world.specs.Trees.{Path, Each, IsIn, among}
+use Rattle.smk_world.specs.Trees.{Path, IsIn, among}
 use Rattle.smk_store.specs.Soundness.{Outside}
 use Rattle.smk_store.specs.Steps.{make_each, remove_each}
-use Rattle.smk_protocol.specs.Protocol.{OpenJob, RunState, Phase, Marking, Marked, Running, Ended, Dropping, Dropped, Runs, Done, Next, Step, Begin, Go, Close, Fail, Moves, MakeFolders, Mark, AllMarked, MakeRoom, Start as StartMove, Drop, AllDropped, Unmark, Closes, AllUnmarked, MayBegin, HasSerial, outputs, own, mark_places, record_places, as_ok, IsThere, IsAbsent, IsFirst}
+use Rattle.smk_protocol.specs.Protocol.{OpenJob, RunState, Phase, Marking, Marked, Running, Dropping, Dropped, Runs, Done, Next, Step, Begin, Go, Close, Fail, Moves, MakeFolders, Mark, AllMarked, MakeRoom, Start as StartMove, Drop, AllDropped, Unmark, Closes, AllUnmarked, outputs, own, mark_places, record_places, as_ok, IsThere, IsAbsent, IsFirst}
 use Rattle.smk_protocol.proofs.Basics.{each_of, each_in}
 use Rattle.smk_job.specs.Jobs.{parents_each}
 use Rattle.smk_job.specs.Laws.{IsPart, BeginningPartsRun, AbandoningPartsRun}
