@@ -38,13 +38,14 @@ use Rattle.smk_store.specs.Steps.{write_each, remove_each}
 use Rattle.smk_protocol.specs.Protocol.{OpenJob, RunState, Phase, Ended, Firm, Recorded, Runs, Done, Next, Aside, Look as LookMove, Go, Close, Moves, MakeFolders, AllMade, Write as WriteMove, AllWritten, Unmark, Closes, AllUnmarked, outputs, record_places, record_of, listed_of, now, IsLook, IsGood, IsWritten, IsAbsent}
 use Rattle.smk_protocol.proofs.Basics.{each_of, each_in}
 use Rattle.smk_job.specs.Jobs.{bare_bytes, bytes_with}
-use Rattle.smk_job.specs.Sights.{Nodes, reads_file, IsOfKind, IsListing, AreLooks, AreSeen, is_folder_out, nones}
-use Rattle.smk_job.specs.Laws.{as_underway, IsReadBack, FinishingRuns}
+use Rattle.smk_job.specs.declared.fault.CloseFault.{CloseFault}
+use Rattle.smk_job.specs.Sights.{IsSeenWrong, Nodes, reads_file, IsOfKind, IsListing, AreLooks, AreSeen, is_folder_out, nones}
+use Rattle.smk_job.specs.Laws.{LosingRuns, as_underway, IsReadBack, FinishingRuns}
 use Rattle.smk_job.proofs.Single.{IsKnown, step_known, step_keeps, written}
 use Rattle.smk_job.proofs.Firmly.{known_own}
 use Rattle.smk_job.proofs.Finishing.{bare_records}
 use Rattle.smk_job.proofs.Outs.{paths_same}
-use Rattle.smk_job.proofs.Abandoning.{removed_call, settled_call, in_map, among_by, absent_now, absent_still}
+use Rattle.smk_job.proofs.Abandoning.{abandoning_runs, removed_call, settled_call, in_map, among_by, absent_now, absent_still}
 use Rattle.smk_job.proofs.Beginning.{parents_call, stepped}
 
 true_false : true ≡ false → ⊥
@@ -390,3 +391,18 @@ finishing_runs o s js ks j number w es at calm ended plain back paths owners use
     (λ v3 fs3 follows3 done3.
     unmarks o s js ks j calm ps v3 fs3 (Settle marks ∷ []) end (λ p i. i) follows3 done3
     (λ v4 fs4 clears follows4 done4. closes o s js ks j calm v4 fs4 (λ p i. clears p (inl i)) done4))))))
+
+-- ## Where something is wrong
+
+looks_wrong : (o : Outside) (nodes : Nodes) (outs : List Out) (fault : CloseFault) (es : List Event) → IsSeenWrong nodes outs fault es → Looks o es
+looks_wrong o nodes [] fault es h = absurd h
+looks_wrong o nodes (out ∷ outs) fault es (first, more, e, l, q, inl (none, wrong)) =
+    subst (Looks o) (sym e) (looks_append o first more (looks_at o out first l) (subst (Looks o) (sym none) tt))
+looks_wrong o nodes (out ∷ outs) fault es (first, more, e, l, q, inr (m, k, rest)) =
+    subst (Looks o) (sym e) (looks_append o first more (looks_at o out first l) (looks_wrong o nodes outs fault more rest))
+
+pub losing_runs : LosingRuns
+losing_runs o s js ks j number fault w es at calm ended some follows seen =
+    subst (λ fs. Runs o s w fs (record s { jobs = js ++ ks })) (sym seen.events)
+    (look_all o s calm seen.looks w seen.rest (record s { jobs = js ++ ks }) (looks_wrong o w.nodes (outs_of j.recipe) fault seen.looks seen.seen)
+    (abandoning_runs o s js ks j number 0 (run w seen.looks) seen.rest at calm ended some (follows_rest o.act seen.looks seen.rest w (subst (Follows o.act w) seen.events follows)) seen.done))

@@ -10,7 +10,8 @@ use Rattle.smk_world.specs.Trees.{Path, Each, outs_of, is_path_text}
 use Rattle.smk_record.specs.Records.{is_valid}
 use Rattle.smk_store.specs.Soundness.{Outside}
 use Rattle.smk_protocol.specs.Protocol.{OpenJob, RunState, Marking, Running, Ended, MayBegin, HasSerial, Runs, outputs, record_of}
-use Rattle.smk_job.specs.Sights.{is_folder_out, IsDone}
+use Rattle.smk_job.specs.declared.fault.CloseFault.{CloseFault}
+use Rattle.smk_job.specs.Sights.{is_folder_out, IsDone, IsAbandoned}
 use Rattle.smk_job.specs.Jobs.{Underway, underway, bare_bytes, ReadUsers, begin_requests, abandon_requests}
 
 -- an open job whose child has this number, as `begin` answers it
@@ -92,3 +93,12 @@ FinishingRuns =
     Each (IsReadBack o j) (outputs j) →
     Each (λ p. IsTrue (is_path_text p)) (outputs j) →
     HasOwners w → ReadUsers w → Follows o.act w es → IsDone (as_underway j number) w es → Runs o s w es (record s { jobs = js ++ ks })
+
+-- So is all that it does where something is wrong with an output: the looks, and then the calls of `abandon`.
+abbrev pub LosingRuns : Type 0
+LosingRuns =
+    (o : Outside) (s : RunState) (js ks : List OpenJob) (j : OpenJob) (number : ℕ) (fault : CloseFault) (w : World) (es : List Event) →
+    s.jobs ≡ js ++ j ∷ ks →
+    s.faulted ≡ false →
+    j.phase ≡ Ended 0 →
+    outputs j ≢ [] → Follows o.act w es → IsAbandoned (as_underway j number) fault w es → Runs o s w es (record s { jobs = js ++ ks })
