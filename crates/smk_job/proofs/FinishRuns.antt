@@ -317,14 +317,14 @@ module _ (o : Outside) (s : RunState) (js ks : List OpenJob) (j : OpenJob) (calm
       let v = after (after w e) f in
       let here : HasRecord j v p = holds_reading bytes (v.nodes place) (written o.act place bytes (after w e) v s2 (step_known o.act (MakeParents place) w (after w e) place s1 refl (known p (inl refl)))) in
       let through : (x : Path) → HasRecord j w x → HasRecord j (after w e) x =
-          λ x h. (h.0, h.1, ap (λ c. reading (node_after c e.left w.children (record_place x) (w.nodes (record_place x)))) is ∙ folder_kept (is_under place (record_place x)) (w.nodes (record_place x)) _ h.2) in
+      λ x h. (h.0, h.1, ap (λ c. reading (node_after c e.left w.children (record_place x) (w.nodes (record_place x)))) is ∙ folder_kept (is_under place (record_place x)) (w.nodes (record_place x)) _ h.2) in
       let onward : (x : Path) → HasRecord j (after w e) x → HasRecord j v x =
-          λ x h. elim (bool_cases (bytes_eq (record_place x) place)) [
-            | inl same ↦ subst (HasRecord j v) (sym (same_record x p (same_place (record_place x) place same))) here
-            | inr other ↦ (h.0, h.1, ap reading (step_keeps o.act (Write place bytes) (after w e) v (record_place x) s2 other) ∙ h.2)
-          ] in
+      λ x h. elim (bool_cases (bytes_eq (record_place x) place)) [
+        | inl same ↦ subst (HasRecord j v) (sym (same_record x p (same_place (record_place x) place same))) here
+        | inr other ↦ (h.0, h.1, ap reading (step_keeps o.act (Write place bytes) (after w e) v (record_place x) s2 other) ∙ h.2)
+      ] in
       let its : (time : ℕ) (read_only : Bool) → kept_by o.read p (Some (Regular bytes time read_only)) ≡ Held (record (record_of j p) { members = listed_of j p (members_under (now o (after w e)) p) }) =
-          λ time read_only. is_record o j p time read_only (back p (inl refl)) ∙ ap (λ ms. Held (record (record_of j p) { members = ms })) (sym (none_listed j p (members_under (now o (after w e)) p) none)) in
+      λ time read_only. is_record o j p time read_only (back p (inl refl)) ∙ ap (λ ms. Held (record (record_of j p) { members = ms })) (sym (none_listed j p (members_under (now o (after w e)) p) none)) in
       Next (at_phase Firm) (at_phase Firm) end w e (f ∷ es)
       (Go e js ks (record j { phase = Firm }) Firm refl (inl calm)
       (subst (λ c. Moves o w (record j { phase = Firm }) c Firm) (sym is) (MakeFolders place (inr (inr (refl, in_map record_place (outputs j) p (own p (inl refl))))))))
@@ -377,8 +377,8 @@ finishing_runs o s js ks j number w es at calm ended plain back paths owners use
     let good = each_good o u outs files (subst (λ qs. Each (λ p. IsTrue (is_path_text p)) qs) (sym (paths_same j.recipe.outputs)) paths) in
     let given : bytes_with (as_underway j number) ps members ≡ bytes = ap (bytes_with (as_underway j number) ps) (no_members w.nodes outs members seen.looks plain seen.seen) ∙ bare_records (as_underway j number) in
     let done : HasDone (Settle ps ∷ (write_each (map record_place ps) bytes ++ Settle (record_places j) ∷ closing)) seen.rest =
-        subst (λ rs. HasDone rs seen.rest) (regrouped (Settle ps) (write_each (map record_place ps) bytes) (Settle (record_places j)) closing)
-        (subst (λ bs. HasDone ((Settle ps ∷ (write_each (map record_place ps) bs ++ Settle (record_places j) ∷ [])) ++ closing) seen.rest) given seen.done) in
+    subst (λ rs. HasDone rs seen.rest) (regrouped (Settle ps) (write_each (map record_place ps) bytes) (Settle (record_places j)) closing)
+    (subst (λ bs. HasDone ((Settle ps ∷ (write_each (map record_place ps) bs ++ Settle (record_places j) ∷ [])) ++ closing) seen.rest) given seen.done) in
     subst (λ fs. Runs o s w fs end) (sym seen.events)
     (look_all o s calm seen.looks w seen.rest end looks
     (made o s js ks j calm u seen.rest (write_each (map record_place ps) bytes ++ Settle (record_places j) ∷ closing) end at ended good
