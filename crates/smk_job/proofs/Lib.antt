@@ -9,3 +9,4 @@ pub mod Finishing
 pub mod Abandoning
 pub mod Beginning
 pub mod Parts
+pub mod FinishRuns

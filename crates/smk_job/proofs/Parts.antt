@@ -1,21 +1,20 @@
 -- A part of a job's calls, the last of which may have failed, is a run of the protocol too.
-use Rattle.std.proofs.Common.{◌≡◌, ◌≢◌, ◌⊎◌, inl, inr, ℕ, Bool, true, false, List, [], ◌∷◌, ◌++◌, map, refl, sym, ap, subst, ◌∙◌, append_assoc, Option, Some, None, Ok, Err}
+use Rattle.std.proofs.Common.{◌≡◌, ◌≢◌, ◌⊎◌, inl, inr, ℕ, Bool, true, false, List, [], ◌∷◌, ◌++◌, map, refl, sym, ap, subst, Ok}
 use Rattle.std.specs.Prelude.{IsTrue}
-use Rattle.smk_base.specs.Place.{mark_place, note_place}
-use Rattle.smk_base.specs.declared.tree.Tree.{Tree}
+use Rattle.smk_base.specs.Place.{mark_place}
 use Rattle.smk_world.specs.declared.event.Call.{Call}
 use Rattle.smk_world.specs.declared.event.Call.TheVariants.{Looked, ReadFile, ReadFolder, Written, Created, Removed, MadeParents, Settled, Protected, Started, Waited}
 use Rattle.smk_world.specs.declared.event.Event.{Event}
 use Rattle.smk_world.specs.declared.recipe.Recipe.{Recipe}
 use Rattle.smk_world.specs.World.{World, after}
-use Rattle.smk_world.specs.Calls.{Acted, Lets, Stands, failed}
+use Rattle.smk_world.specs.Calls.{Lets, Stands, failed}
 use Rattle.smk_world.specs.Runs.{Follows}
 use Rattle.smk_world.specs.Requests.{Request, request, HasDone, IsCutShort, Carries}
 use Rattle.smk_world.specs.Requests.Request.{Create, MakeParents, Remove, Settle, Start}
-use Rattle.smk_world.specs.Trees.{Path, Each, IsIn, among}
+use Rattle.smk_world.specs.Trees.{Path, IsIn, among}
 use Rattle.smk_store.specs.Soundness.{Outside}
 use Rattle.smk_store.specs.Steps.{make_each, remove_each}
-use Rattle.smk_protocol.specs.Protocol.{OpenJob, RunState, Phase, Marking, Marked, Running, Ended, Dropping, Dropped, Runs, Done, Next, Step, Begin, Go, Close, Fail, Moves, MakeFolders, Mark, AllMarked, MakeRoom, Start as StartMove, Drop, AllDropped, Unmark, Closes, AllUnmarked, MayBegin, HasSerial, outputs, own, mark_places, record_places, as_ok, IsThere, IsAbsent, IsFirst}
+use Rattle.smk_protocol.specs.Protocol.{OpenJob, RunState, Phase, Marking, Marked, Running, Dropping, Dropped, Runs, Done, Next, Step, Begin, Go, Close, Fail, Moves, MakeFolders, Mark, AllMarked, MakeRoom, Start as StartMove, Drop, AllDropped, Unmark, Closes, AllUnmarked, outputs, own, mark_places, record_places, as_ok, IsThere, IsAbsent, IsFirst}
 use Rattle.smk_protocol.proofs.Basics.{each_of, each_in}
 use Rattle.smk_job.specs.Jobs.{parents_each}
 use Rattle.smk_job.specs.Laws.{IsPart, BeginningPartsRun, AbandoningPartsRun}
@@ -160,7 +159,7 @@ module _ (o : Outside) where
     marks_settled w es qs there follows part more =
         let all = mark_places j in
         let move : Moves o w (record j { phase = Marking }) (Settled all (Ok tt)) Marked =
-            AllMarked all refl (each_of (IsThere w) all (λ p i. there_of (w.nodes p) (there p i))) (each_of (λ p. IsTrue (among all p)) all (λ p i. among_by all p i)) in
+        AllMarked all refl (each_of (IsThere w) all (λ p i. there_of (w.nodes p) (there p i))) (each_of (λ p. IsTrue (among all p)) all (λ p i. among_by all p i)) in
         one_part (at_phase Marking) (at_phase Marked) w es (Settle all) qs part follows
         (λ e is. moves Marking Marked w (record e { call = as_ok e.call }) (Settled all (Ok tt)) (as_settled e.call all is) move)
         (λ e is quiet. moves Marking Marked w e (Settled all (Ok tt)) (settled_call e.call all is quiet) move)
@@ -187,15 +186,19 @@ module _ (o : Outside) where
     starts : (command : List ℕ) (w : World) (es : List Event) → IsPart (Start j.recipe j.logs command ∷ []) es → Ends (at_phase Marked) w es
     starts command w [] part = (at_phase Marked, Done (at_phase Marked) w)
     starts command w (e ∷ es) (is, inl (bad, none)) =
-        subst (λ fs. Ends (at_phase Marked) w (e ∷ fs)) (sym none)
-        (_, Next (at_phase Marked) _ _ w e []
-        (Fail e (at_phase (Running 0)) bad (moves Marked (Running 0) w (record e { call = as_ok e.call }) (Started j.recipe j.logs command (Ok 0)) (as_started e.call j.recipe j.logs command is) (StartMove command 0 refl)))
-        (Done _ (after w e)))
+        subst (λ fs. Ends (at_phase Marked) w (e ∷ fs)) (sym none) (
+          _,
+          Next (at_phase Marked) _ _ w e []
+              (Fail e (at_phase (Running 0)) bad (moves Marked (Running 0) w (record e { call = as_ok e.call }) (Started j.recipe j.logs command (Ok 0)) (as_started e.call j.recipe j.logs command is) (StartMove command 0 refl)))
+              (Done _ (after w e)),
+        )
     starts command w (e ∷ (f ∷ es)) (is, inr (quiet, rest)) = absurd rest
     starts command w (e ∷ []) (is, inr (quiet, rest)) =
-        let child = started_call e.call j.recipe j.logs command is quiet in
-        (at_phase (Running child.0), Next (at_phase Marked) (at_phase (Running child.0)) (at_phase (Running child.0)) w e []
-        (moves Marked (Running child.0) w e (Started j.recipe j.logs command (Ok child.0)) child.1 (StartMove command child.0 refl)) (Done (at_phase (Running child.0)) (after w e)))
+        let child = started_call e.call j.recipe j.logs command is quiet in (
+          at_phase (Running child.0),
+          Next (at_phase Marked) (at_phase (Running child.0)) (at_phase (Running child.0)) w e []
+              (moves Marked (Running child.0) w e (Started j.recipe j.logs command (Ok child.0)) child.1 (StartMove command child.0 refl)) (Done (at_phase (Running child.0)) (after w e)),
+        )
 
     abbrev Clears : World → List Path → World → Type 0
     Clears w ps v = (x : Path) → IsIn ps x ⊎ IsAbsent w x → IsAbsent v x
@@ -227,7 +230,7 @@ module _ (o : Outside) where
     drops_settled w es qs gone follows part more =
         let all = outputs j ++ record_places j in
         let move : Moves o w (record j { phase = Dropping }) (Settled all (Ok tt)) Dropped =
-            AllDropped all refl (each_of (IsAbsent w) all gone) (each_of (λ p. IsTrue (among all p)) all (λ p i. among_by all p i)) in
+        AllDropped all refl (each_of (IsAbsent w) all gone) (each_of (λ p. IsTrue (among all p)) all (λ p i. among_by all p i)) in
         one_part (at_phase Dropping) (at_phase Dropped) w es (Settle all) qs part follows
         (λ e is. moves Dropping Dropped w (record e { call = as_ok e.call }) (Settled all (Ok tt)) (as_settled e.call all is) move)
         (λ e is quiet. moves Dropping Dropped w e (Settled all (Ok tt)) (settled_call e.call all is quiet) move)
@@ -249,8 +252,8 @@ module _ (o : Outside) where
         let all = map mark_place (outputs j) in
         let end : RunState = record s { jobs = js ++ ks } in
         let close : Closes o w (record j { phase = Dropped }) (Settled all (Ok tt)) =
-            AllUnmarked all (inr refl) (each_of (λ p. IsAbsent w (mark_place p)) (outputs j) (λ p i. gone (mark_place p) (in_map mark_place (outputs j) p i)))
-            (each_of (λ p. IsTrue (among all p)) all (λ p i. among_by all p i)) in
+        AllUnmarked all (inr refl) (each_of (λ p. IsAbsent w (mark_place p)) (outputs j) (λ p i. gone (mark_place p) (in_map mark_place (outputs j) p i)))
+        (each_of (λ p. IsTrue (among all p)) all (λ p i. among_by all p i)) in
         one_part (at_phase Dropped) end w es (Settle all) [] part follows
         (λ e is. Close (record e { call = as_ok e.call }) js ks (record j { phase = Dropped }) refl calm (subst (λ c. Closes o w (record j { phase = Dropped }) c) (sym (as_settled e.call all is)) close))
         (λ e is quiet. Close e js ks (record j { phase = Dropped }) refl calm (subst (λ c. Closes o w (record j { phase = Dropped }) c) (sym (settled_call e.call all is quiet)) close))
@@ -308,8 +311,10 @@ beginning_parts o s j top command w es calm steady may serial marking some owner
   where
     begun : RunState
     begun = record s { jobs = j ∷ s.jobs; top = top }
+
     rest_of : List Request
     rest_of = Settle (mark_places j) ∷ (remove_each (outputs j) ++ (parents_each (own j) ++ Start j.recipe j.logs command ∷ []))
+
     first : (ps : List Path) → ps ≢ [] → ((p : Path) → IsIn ps p → IsIn (mark_places j) p) → ((p : Path) → IsIn ps p → IsKnown (w.nodes p)) → IsPart (make_each ps ++ rest_of) es
         → ((v : World) (fs : List Event) → ((x : Path) → IsIn ps x ⊎ Stands (w.nodes x) → Stands (v.nodes x)) → Follows o.act v fs → IsPart rest_of fs → Ends o (at_phase o begun [] s.jobs j calm Marking) v fs)
         → Ends o s w es

@@ -15,7 +15,7 @@ use Rattle.smk_world.specs.declared.event.Child.{Child}
 use Rattle.smk_world.specs.declared.event.Event.{Event}
 use Rattle.smk_world.specs.declared.recipe.Recipe.{Recipe}
 use Rattle.smk_world.specs.World.{World, after, run, node_after, is_within, is_above, owned_paths, standing, firm, firmly, loose, going, with_folder, with_flag, reads_folder, reads_nothing}
-use Rattle.smk_world.specs.Calls.{Acted, Lets, Reads, Stands, failed}
+use Rattle.smk_world.specs.Calls.{Acted, HoldsBytes, Lets, Reads, Stands, failed}
 use Rattle.smk_world.specs.Runs.{Follows}
 use Rattle.smk_world.specs.Requests.{Request, request, HasDone}
 use Rattle.smk_world.specs.Requests.Request.{Look, ReadUpTo, ListFolder, Write, Create, Remove, MakeParents, Settle, Protect, Start, Wait}
@@ -213,6 +213,35 @@ settle_by (Waited r) left cs ps q s is quiet at = cc
 -- what is settled is firm
 pub settled_firm : (act : Recipe → List Tree → Acted) (ps : List (List ℕ)) (w v : World) (q : List ℕ) → Stepped act (Settle ps) w v → is_within q ps ≡ true → v.nodes q ≡ firm (w.nodes q)
 settled_firm act ps w v q st at = ap (λ x. x.nodes q) st.now ∙ settle_by st.event.call st.event.left w.children ps q (w.nodes q) st.is st.quiet at
+
+write_by : (call : Call) (left : List Change) (act : Recipe → List Tree → Acted) (w : World) (p bytes : List ℕ)
+    → request call ≡ Write p bytes → failed call ≡ false → Lets act w call left → IsKnown (w.nodes p) → HoldsBytes bytes (node_after call left w.children p (w.nodes p))
+write_by (Written x held (Ok u)) left act w p bytes is quiet lets known =
+    let same : x ≡ p = cc in
+    let equal : held ≡ bytes = cc in
+    let here : bytes_eq p x ≡ true = ap (bytes_eq p) same ∙ place_itself p in
+    let file : Node = Regular held lets.0 lets.1 in
+    let there : standing left p ≡ Some file = ap (λ l. standing l p) lets.2 ∙ ap (λ b. if b then Some file else None) (ap (λ y. bytes_eq y p) same ∙ place_itself p) in
+    subst (HoldsBytes bytes) (sym (on (bytes_eq p x) (w.nodes p) (loose (standing left p) (w.nodes p)) here ∙ ap (λ n. loose n (w.nodes p)) there)) (holds (w.nodes p) lets.0 lets.1 held equal known)
+  where
+    holds : (s : NodeState) (time : ℕ) (read_only : Bool) (held : List ℕ) → held ≡ bytes → IsKnown s → HoldsBytes bytes (loose (Some (Regular held time read_only)) s)
+    holds Owned time read_only held e h = absurd h
+    holds (Known now besides) time read_only held e h = e
+write_by (Written x held (Err e)) left act w p bytes is quiet lets known = absurd (true_false quiet)
+write_by (Looked x r) left act w p bytes is quiet lets known = cc
+write_by (ReadFile x limit r) left act w p bytes is quiet lets known = cc
+write_by (ReadFolder x r) left act w p bytes is quiet lets known = cc
+write_by (Created x r) left act w p bytes is quiet lets known = cc
+write_by (Removed x r) left act w p bytes is quiet lets known = cc
+write_by (MadeParents x r) left act w p bytes is quiet lets known = cc
+write_by (Settled xs r) left act w p bytes is quiet lets known = cc
+write_by (Protected x r) left act w p bytes is quiet lets known = cc
+write_by (Started recipe logs command r) left act w p bytes is quiet lets known = cc
+write_by (Waited r) left act w p bytes is quiet lets known = cc
+
+-- what was written reads
+pub written : (act : Recipe → List Tree → Acted) (p bytes : List ℕ) (w v : World) → Stepped act (Write p bytes) w v → IsKnown (w.nodes p) → HoldsBytes bytes (v.nodes p)
+written act p bytes w v st known = subst (λ x. HoldsBytes bytes (x.nodes p)) (sym st.now) (write_by st.event.call st.event.left act w p bytes st.is st.quiet st.lets known)
 
 create_by : (call : Call) (left : List Change) (act : Recipe → List Tree → Acted) (w : World) (p : List ℕ)
     → request call ≡ Create p → failed call ≡ false → Lets act w call left → IsKnown (w.nodes p) → Stands (node_after call left w.children p (w.nodes p))

@@ -1,13 +1,18 @@
 -- The calls of a job as a run of the protocol.
-use Rattle.std.specs.Prelude.{◌≡◌, ◌≢◌, ◌⊎◌, ℕ, Bool, true, false, List, [], ◌∷◌, ◌++◌}
+use Rattle.std.specs.Prelude.{◌≡◌, ◌≢◌, ◌⊎◌, ℕ, Bool, true, false, List, [], ◌∷◌, ◌++◌, length, nat_le, Some, IsTrue}
+use Rattle.std.specs.List.{list_any}
 use Rattle.smk_world.specs.declared.event.Event.{Event}
 use Rattle.smk_world.specs.World.{World}
 use Rattle.smk_world.specs.Calls.{HasOwners, started_numbers, failed}
 use Rattle.smk_world.specs.Runs.{Follows}
 use Rattle.smk_world.specs.Requests.{Request, request, HasDone, Carries}
+use Rattle.smk_world.specs.Trees.{Path, Each, outs_of, is_path_text}
+use Rattle.smk_record.specs.Records.{is_valid}
 use Rattle.smk_store.specs.Soundness.{Outside}
-use Rattle.smk_protocol.specs.Protocol.{OpenJob, RunState, Marking, Running, Ended, MayBegin, HasSerial, Runs, outputs}
-use Rattle.smk_job.specs.Jobs.{Underway, underway, ReadUsers, begin_requests, abandon_requests}
+use Rattle.smk_protocol.specs.Protocol.{OpenJob, RunState, Marking, Running, Ended, MayBegin, HasSerial, Runs, outputs, record_of}
+use Rattle.smk_job.specs.declared.fault.CloseFault.{CloseFault}
+use Rattle.smk_job.specs.Sights.{is_folder_out, IsDone, IsAbandoned}
+use Rattle.smk_job.specs.Jobs.{Underway, underway, bare_bytes, ReadUsers, begin_requests, abandon_requests}
 
 -- an open job whose child has this number, as `begin` answers it
 abbrev pub as_underway : OpenJob → ℕ → Underway
@@ -69,3 +74,31 @@ AbandoningPartsRun =
     s.faulted ≡ false →
     j.phase ≡ Ended status →
     outputs j ≢ [] → Follows o.act w es → IsPart (abandon_requests (as_underway j number)) es → (end : RunState) × Runs o s w es end
+
+-- the reader finds a record of the job in its bytes, which are few enough to be read
+pub record IsReadBack (o : Outside) (j : OpenJob) (p : Path) : Type 0 where
+  pub reads : o.read (bare_bytes j.serial j.recipe j.stamps p) ≡ Some (record_of j p)
+  pub short : nat_le (length (bare_bytes j.serial j.recipe j.stamps p)) 33554432 ≡ true
+  pub valid : is_valid (record_of j p) ≡ true
+
+-- All that `finish` does where it is done, of an open job whose outputs are files and whose child has ended with status 0, is a run of the
+-- protocol that closes it.
+abbrev pub FinishingRuns : Type 0
+FinishingRuns =
+    (o : Outside) (s : RunState) (js ks : List OpenJob) (j : OpenJob) (number : ℕ) (w : World) (es : List Event) →
+    s.jobs ≡ js ++ j ∷ ks →
+    s.faulted ≡ false →
+    j.phase ≡ Ended 0 →
+    list_any is_folder_out (outs_of j.recipe) ≡ false →
+    Each (IsReadBack o j) (outputs j) →
+    Each (λ p. IsTrue (is_path_text p)) (outputs j) →
+    HasOwners w → ReadUsers w → Follows o.act w es → IsDone (as_underway j number) w es → Runs o s w es (record s { jobs = js ++ ks })
+
+-- So is all that it does where something is wrong with an output: the looks, and then the calls of `abandon`.
+abbrev pub LosingRuns : Type 0
+LosingRuns =
+    (o : Outside) (s : RunState) (js ks : List OpenJob) (j : OpenJob) (number : ℕ) (fault : CloseFault) (w : World) (es : List Event) →
+    s.jobs ≡ js ++ j ∷ ks →
+    s.faulted ≡ false →
+    j.phase ≡ Ended 0 →
+    outputs j ≢ [] → Follows o.act w es → IsAbandoned (as_underway j number) fault w es → Runs o s w es (record s { jobs = js ++ ks })

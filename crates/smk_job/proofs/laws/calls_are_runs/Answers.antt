@@ -1,5 +1,6 @@
 use Rattle.smk_job.proofs.Abandoning.{abandoning_runs}
 use Rattle.smk_job.proofs.Beginning.{beginning_runs}
+use Rattle.smk_job.proofs.FinishRuns.{finishing_runs, losing_runs}
 use Rattle.smk_job.proofs.Parts.{carried_part, beginning_parts, abandoning_parts}
 use Rattle.smk_job.proofs.laws.calls_are_runs.Goals as goal
 
@@ -17,3 +18,9 @@ returns-clause-abandoning c = abandoning_runs
 
 pub returns-clause-abandoning_parts : goal.returns-clause-abandoning_parts
 returns-clause-abandoning_parts c = abandoning_parts
+
+pub returns-clause-finishing : goal.returns-clause-finishing
+returns-clause-finishing c = finishing_runs
+
+pub returns-clause-losing : goal.returns-clause-losing
+returns-clause-losing c = losing_runs
