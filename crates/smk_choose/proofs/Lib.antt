@@ -5,3 +5,4 @@ mod Named
 mod Above
 mod ByName
 mod Listed
+mod Growing
