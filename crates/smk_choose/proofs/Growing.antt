@@ -215,10 +215,10 @@ node_more : (flow : Flow) (sources : Sources) (paths added : List Path) (node : 
 node_more flow sources paths added node p is = (is.0, λ e. ways_more flow paths added node.ways (candidates flow sources p) (is.1 e))
 
 module _ (flow : Flow) (sources : Sources) (old new : Reach) (g : Grows old new) where
-  path_stays : (n : ℕ) → n < length old.paths.items → path_at new.paths.items n ≡ path_at old.paths.items n
+  pub path_stays : (n : ℕ) → n < length old.paths.items → path_at new.paths.items n ≡ path_at old.paths.items n
   path_stays n lt = ap (λ (ps : List Path). path_at ps n) g.paths ∙ get_or_append_left old.paths.items g.added [] n lt
 
-  node_stays : (n : ℕ) → n < length old.nodes.items → node_at new.nodes.items n ≡ node_at old.nodes.items n
+  pub node_stays : (n : ℕ) → n < length old.nodes.items → node_at new.nodes.items n ≡ node_at old.nodes.items n
   node_stays n lt = ap (λ (ns : List Node). node_at ns n) g.nodes ∙ get_or_append_left old.nodes.items g.more no_node n lt
 
   pub node_later : (n : ℕ) → n < length old.paths.items → n < length old.nodes.items →

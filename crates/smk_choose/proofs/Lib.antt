@@ -6,3 +6,4 @@ mod Above
 mod ByName
 mod Listed
 mod Growing
+mod Spanning

@@ -96,3 +96,7 @@ Spans flow sources r (suc k) n =
     (n < length r.paths.items)
     × (IsNode flow sources r.paths.items (node_at r.nodes.items n) (path_at r.paths.items n)
     × (sources.is (path_at r.paths.items n) ≡ false → AllByRecursion (λ (w : Way). AllPaths (Spans flow sources r k) w.wants) (node_at r.nodes.items n).ways))
+
+-- of the first paths it is known whether they are sources
+abbrev pub AreFlagged : Sources → Reach → Type 0
+AreFlagged sources r = (n : ℕ) → n < length r.nodes.items → (node_at r.nodes.items n).source ≡ sources.is (path_at r.paths.items n)

@@ -1,11 +1,11 @@
 //! The paths that candidates want, again and again, each by its number.
 
-ghost use Rattle.std.specs.Prelude.{◌≡◌, Some, map, slice_get, IfOk, OnOk};
+ghost use Rattle.std.specs.Prelude.{◌≡◌, ℕ, ◌<◌, ◌≤◌, ◌+◌, length, Some, map, slice_get, IfOk, OnOk};
 ghost use Rattle.std.specs.BTreeMap.{get_by_text};
 ghost use Rattle.smk_choose.specs.Told.{told_by, making};
 ghost use Rattle.smk_choose.specs.Readings.{reading_of, filled_by};
 ghost use Rattle.smk_choose.specs.declared.nodes.Want.{Want};
-ghost use Rattle.smk_choose.specs.Reach.{AreNumbered, Grows, path_at, IsWant, AreWants, shapes_in, IsMade, AreMade, IsNode};
+ghost use Rattle.smk_choose.specs.Reach.{AreNumbered, Grows, path_at, IsWant, AreWants, shapes_in, IsMade, AreMade, IsNode, AreNodes, AreFlagged, Spans};
 
 use crate::candidates::{candidates, filled};
 use crate::nodes::{Node, Want, Way};
@@ -163,4 +163,102 @@ fn node(
         source: false,
         ways,
     })
+}
+
+// Adds what may make the first path of which it isn't known yet.
+#[tactic(auto, using(crate::proofs::Growing::grows_same, crate::proofs::Growing::grows_then))]
+fn add_node(
+    alloc: Global,
+    flow: &Workflow,
+    readings: &[Reading],
+    sources: &Sources,
+    reach: &mut Reach,
+) -> Result<(), OutOfMemory>
+    requires numbered { AreNumbered reach.old }
+    requires readings { readings.now ≡ map (reading_of flow.now) flow.now.rules }
+    requires left { length reach.old.nodes.items < length reach.old.paths.items }
+    requires known { AreNodes flow.now (told_by sources.now) reach.old }
+    ensures numbered { OnOk result (AreNumbered reach.new) }
+    ensures grows { OnOk result (Grows reach.old reach.new) }
+    ensures known { OnOk result (AreNodes flow.now (told_by sources.now) reach.new) }
+    ensures count { OnOk result (length reach.new.nodes.items ≡ length reach.old.nodes.items + 1) }
+{
+    let path = reach.paths[reach.nodes.len()].copy(alloc)?;
+    let made = node(alloc, flow, readings, sources, reach, &path)?;
+    reach.nodes.push(made)?;
+    Ok(())
+}
+
+// Adds what may make each path before this number.
+#[tactic(auto, using(crate::proofs::Growing::grows_same, crate::proofs::Growing::grows_then))]
+fn add_nodes(
+    alloc: Global,
+    flow: &Workflow,
+    readings: &[Reading],
+    sources: &Sources,
+    reach: &mut Reach,
+    end: usize,
+) -> Result<(), OutOfMemory>
+    requires numbered { AreNumbered reach.old }
+    requires readings { readings.now ≡ map (reading_of flow.now) flow.now.rules }
+    requires within { end ≤ length reach.old.paths.items }
+    requires known { AreNodes flow.now (told_by sources.now) reach.old }
+    ensures numbered { OnOk result (AreNumbered reach.new) }
+    ensures grows { OnOk result (Grows reach.old reach.new) }
+    ensures known { OnOk result (AreNodes flow.now (told_by sources.now) reach.new) }
+    ensures count { OnOk result (end ≤ length reach.new.nodes.items) }
+{
+    'nodes: while reach.nodes.len() < end {
+        add_node(alloc, flow, readings, sources, reach)?;
+    }
+    Ok(())
+}
+
+// Adds whether each path before this number is a source, where nothing is known of it, and no way to make it.
+#[tactic(auto, using(crate::proofs::Growing::grows_same, crate::proofs::Growing::grows_then))]
+fn add_last(
+    alloc: Global,
+    sources: &Sources,
+    reach: &mut Reach,
+    end: usize,
+) -> Result<(), OutOfMemory>
+    requires numbered { AreNumbered reach.old }
+    requires within { end ≤ length reach.old.paths.items }
+    requires known { AreFlagged (told_by sources.now) reach.old }
+    ensures numbered { OnOk result (AreNumbered reach.new) }
+    ensures grows { OnOk result (Grows reach.old reach.new) }
+    ensures known { OnOk result (AreFlagged (told_by sources.now) reach.new) }
+    ensures count { OnOk result (end ≤ length reach.new.nodes.items) }
+{
+    'nodes: while reach.nodes.len() < end {
+        let source = sources.is(&reach.paths[reach.nodes.len()]);
+        let ways = List::new(alloc);
+        reach.nodes.push(Node { source, ways })?;
+    }
+    Ok(())
+}
+
+/// Adds what may make the paths and what that wants, and so on, so many levels deep; below these, whether a path is a source.
+#[tactic(auto, using(crate::proofs::Growing::grows_same, crate::proofs::Growing::grows_then))]
+pub(crate) fn expand(
+    alloc: Global,
+    flow: &Workflow,
+    readings: &[Reading],
+    sources: &Sources,
+    reach: &mut Reach,
+    levels: u32,
+) -> Result<(), OutOfMemory>
+    requires numbered { AreNumbered reach.old }
+    requires readings { readings.now ≡ map (reading_of flow.now) flow.now.rules }
+    requires known { AreNodes flow.now (told_by sources.now) reach.old }
+    ensures numbered { OnOk result (AreNumbered reach.new) }
+    ensures grows { OnOk result (Grows reach.old reach.new) }
+    ensures spans { OnOk result ((n : ℕ) → n < length reach.old.paths.items → Spans flow.now (told_by sources.now) reach.new levels n) }
+{
+    let end = reach.paths.len();
+    if levels == 0 {
+        return add_last(alloc, sources, reach, end);
+    }
+    add_nodes(alloc, flow, readings, sources, reach, end)?;
+    expand(alloc, flow, readings, sources, reach, levels - 1)
 }
