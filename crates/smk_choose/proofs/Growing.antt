@@ -1,5 +1,5 @@
 -- How the paths with numbers grow.
-use Rattle.std.proofs.Common.{◌≡◌, ℕ, zero, suc, ◌+◌, ◌<◌, ◌≤◌, ◌⊎◌, inl, inr, ⊎_elim, Bool, true, false, cond, List, [], ◌∷◌, ◌++◌, map, take, get_or, length, bytes_eq, Option, Some, None, option_map, slice_get, refl, sym, ap, ap₂, subst, ◌∙◌, arith}
+use Rattle.std.proofs.Common.{◌≡◌, ℕ, zero, suc, ◌+◌, ◌<◌, ⊎_elim, Bool, true, false, cond, List, [], ◌∷◌, ◌++◌, map, take, get_or, length, bytes_eq, Option, Some, None, option_map, slice_get, refl, sym, ap, ap₂, subst, ◌∙◌, arith}
 use Rattle.std.specs.BTreeMap.{get_by_text}
 use Rattle.std.specs.List.{flat_map, enumerate_from, AllByRecursion}
 use Rattle.std.proofs.lemmas.List.{get_or_append_left, get_or_push, append-nil, append_assoc, length-append, map-append, take_more, length_push}
@@ -15,7 +15,7 @@ use Rattle.smk_flow.specs.declared.rule.RulePart.{RulePart}
 use Rattle.smk_flow.specs.declared.rule.InPart.{InPart}
 use Rattle.smk_flow.specs.declared.rule.GatherPart.{GatherPart}
 use Rattle.smk_flow.specs.declared.job.Gather.{Gather}
-use Rattle.smk_flow.specs.Flows.{Flow, Candidate, first_wants, gathers, gather_at, folder_from, declared_inputs, gathered_folders}
+use Rattle.smk_flow.specs.Flows.{Flow, Candidate, first_wants, gather_at}
 use Rattle.smk_choose.specs.declared.nodes.Want.{Want}
 use Rattle.smk_choose.specs.declared.nodes.Want.TheVariants as want
 use Rattle.smk_choose.specs.declared.nodes.Way.{Way}
@@ -26,7 +26,7 @@ use Rattle.smk_choose.specs.declared.readings.Reading.{Reading}
 use Rattle.smk_choose.specs.Choose.{Sources, candidates}
 use Rattle.smk_choose.specs.Told.{making}
 use Rattle.smk_choose.specs.Readings.{reading_of, filled_by, input_shapes, gather_shapes, gather_shape, gathered_from}
-use Rattle.smk_choose.specs.Reach.{path_at, IsWant, AreWants, shapes_in, wants_by, IsMade, AreMade, IsWay, AreWays, IsNode, AreNumbered, Grows}
+use Rattle.smk_choose.specs.Reach.{path_at, IsWant, AreWants, shapes_in, wants_by, IsMade, AreMade, AreWays, IsNode, AreNumbered, Grows}
 use Rattle.smk_choose.specs.Heights.{node_at, no_node}
 
 pub grows_same : (r : Reach) → Grows r r

@@ -7,3 +7,4 @@ mod ByName
 mod Listed
 mod Growing
 mod Spanning
+mod Deep

@@ -1,5 +1,5 @@
 -- How many levels of what is wanted are known.
-use Rattle.std.proofs.Common.{◌≡◌, ℕ, zero, suc, ◌+◌, ◌<◌, ◌≤◌, ◌⊎◌, ⊎_elim, Result, Ok, Err, OnOk, Bool, false, List, [], ◌∷◌, ◌++◌, get_or, length, Option, Some, refl, sym, ap, subst, ◌∙◌, arith}
+use Rattle.std.proofs.Common.{◌≡◌, ℕ, suc, ◌+◌, ◌<◌, ◌≤◌, ⊎_elim, Result, Ok, Err, OnOk, List, [], ◌∷◌, ◌++◌, length, sym, ap, subst, ◌∙◌, arith}
 use Rattle.std.specs.BTreeMap.{get_by_text}
 use Rattle.std.specs.List.{AllByRecursion}
 use Rattle.std.proofs.lemmas.List.{get_or_append_left, get_or_push, length-append, length_push}
@@ -14,7 +14,7 @@ use Rattle.smk_choose.specs.declared.nodes.Node.{Node}
 use Rattle.smk_choose.specs.declared.reach.Reach.{Reach}
 use Rattle.smk_choose.specs.Choose.{Sources, candidates}
 use Rattle.smk_choose.specs.Heights.{node_at, no_node}
-use Rattle.smk_choose.specs.Reach.{path_at, IsWant, AreWants, AreWays, IsNode, AreNodes, AreFlagged, AreNumbered, Grows, AllPaths, Spans}
+use Rattle.smk_choose.specs.Reach.{path_at, AreWants, AreWays, IsNode, AreNodes, AreFlagged, Grows, AllPaths, Spans}
 use Rattle.smk_choose.proofs.Growing.{node_later, path_stays, node_stays}
 
 -- ---- wants

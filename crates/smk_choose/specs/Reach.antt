@@ -1,5 +1,5 @@
 -- Paths by their numbers, with what may make them and what that wants, so many levels deep.
-use Rattle.std.specs.Prelude.{◌≡◌, ℕ, zero, suc, ◌<◌, ◌++◌, Bool, true, false, List, [], ◌∷◌, length, get_or, map, slice_get, Option, Some, None}
+use Rattle.std.specs.Prelude.{◌≡◌, ℕ, zero, suc, ◌<◌, ◌++◌, true, false, List, [], ◌∷◌, length, get_or, map, slice_get, Option, Some, None}
 use Rattle.std.specs.List.{AllByRecursion}
 use Rattle.std.specs.BTreeMap.{get_by_text}
 use Rattle.smk_base.specs.Path.{is_path}

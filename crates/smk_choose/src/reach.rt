@@ -2,12 +2,16 @@
 
 ghost use Rattle.std.specs.Prelude.{◌≡◌, ℕ, ◌<◌, ◌≤◌, ◌+◌, length, Some, map, slice_get, IfOk, OnOk};
 ghost use Rattle.std.specs.BTreeMap.{get_by_text};
+ghost use Rattle.smk_flow.specs.Flows.{Flow};
+ghost use Rattle.smk_choose.specs.Choose.{Sources as Known, avail};
+ghost use Rattle.smk_choose.specs.Heights.{is_within, height_at};
 ghost use Rattle.smk_choose.specs.Told.{told_by, making};
 ghost use Rattle.smk_choose.specs.Readings.{reading_of, filled_by};
 ghost use Rattle.smk_choose.specs.declared.nodes.Want.{Want};
 ghost use Rattle.smk_choose.specs.Reach.{AreNumbered, Grows, path_at, IsWant, AreWants, shapes_in, IsMade, AreMade, IsNode, AreNodes, AreFlagged, Spans};
 
 use crate::candidates::{candidates, filled};
+use crate::heights::least_heights;
 use crate::nodes::{Node, Want, Way};
 use crate::readings::Reading;
 use crate::{Making, Sources};
@@ -261,4 +265,14 @@ pub(crate) fn expand(
     }
     add_nodes(alloc, flow, readings, sources, reach, end)?;
     expand(alloc, flow, readings, sources, reach, levels - 1)
+}
+
+/// The least depth at which each path is available, where that many levels of what it wants are known, up to 200.
+pub(crate) fn depths(alloc: Global, reach: &Reach) -> Result<Vec<Option<u64>>, OutOfMemory>
+    requires { AreNumbered reach.now }
+    ensures { IfOk result (λ made. (flow : Flow) (sources : Known) (m k n : ℕ) → m ≤ k → m < 201 → Spans flow sources reach.now k n
+        → is_within m (height_at made.items n) ≡ avail flow sources m (path_at reach.now.paths.items n)) }
+{
+    let made = least_heights(alloc, &reach.nodes)?;
+    Ok(made)
 }

@@ -1,4 +1,4 @@
-use Rattle.std.proofs.Common.{◌≡◌, ◌≤◌, ◌-◌, length}
+use Rattle.std.proofs.Common.{◌≤◌, ◌-◌, length}
 use Rattle.smk_choose.specs.Told.{told_by}
 use Rattle.smk_choose.specs.Reach.{AreNumbered, Grows, AreNodes}
 use Rattle.smk_choose.proofs.reach.add_nodes.Given as goal

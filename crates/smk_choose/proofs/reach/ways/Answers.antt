@@ -1,4 +1,4 @@
-use Rattle.std.proofs.Common.{◌≡◌, ◌∙◌, ◌++◌, ◌∷◌, [], List, sym, subst}
+use Rattle.std.proofs.Common.{◌∙◌, ◌++◌, ◌∷◌, [], List, sym, subst}
 use Rattle.smk_choose.specs.declared.nodes.Way.{Way}
 use Rattle.smk_choose.specs.Reach.{AreMade}
 use Rattle.smk_choose.proofs.Growing.{grows_then, made_later, made_push}
