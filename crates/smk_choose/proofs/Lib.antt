@@ -5,3 +5,6 @@ mod Named
 mod Above
 mod ByName
 mod Listed
+mod Growing
+mod Spanning
+mod Deep

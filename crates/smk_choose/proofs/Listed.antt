@@ -9,7 +9,6 @@ use Rattle.smk_world.specs.World.{folders_above}
 use Rattle.smk_world.specs.Trees.{Path, first}
 use Rattle.smk_pattern.specs.Shapes.{Text, Shape}
 use Rattle.smk_pattern.specs.Reading.{fill, shape_of}
-use Rattle.smk_pattern.specs.Bound.{binding_of}
 use Rattle.smk_pattern.proofs.FillPieces.{fill_is_filled}
 use Rattle.smk_flow.specs.declared.rule.RulePart.{RulePart}
 use Rattle.smk_flow.specs.declared.rule.OutPart.{OutPart}
@@ -17,11 +16,10 @@ use Rattle.smk_flow.specs.declared.rule.FlaggedText.{FlaggedText}
 use Rattle.smk_flow.specs.declared.workflow.Rule.{Rule}
 use Rattle.smk_flow.specs.Flows.{Flow, Candidate, makes_folder, outs, outputs, logs, numbered}
 use Rattle.smk_flow.specs.PatternsOf.{rule_of}
-use Rattle.smk_choose.specs.declared.choice.Making.{Making}
 use Rattle.smk_choose.specs.declared.readings.Reading.{Reading}
 use Rattle.smk_choose.specs.Choose.{Sources, candidate, fit, as_member, as_output, or_else, is_apart, candidates}
 use Rattle.smk_choose.specs.Told.{making}
-use Rattle.smk_choose.specs.Readings.{folders_in, folder_shapes, reading_of, bound_by, first_bound, filled_by, making_at, listed, by_folder, by_folders, members_from, outputs_from, or_others, is_free, is_apart_in, is_apart_by}
+use Rattle.smk_choose.specs.Readings.{folders_in, reading_of, bound_by, first_bound, filled_by, making_at, listed, by_folder, by_folders, members_from, outputs_from, or_others, is_free, is_apart_in, is_apart_by}
 use Rattle.smk_choose.proofs.ByName.{rule_found}
 
 -- ---- lists

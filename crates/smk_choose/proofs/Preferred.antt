@@ -1,11 +1,10 @@
 -- Which of two rules is preferred, found step by step.
-use Rattle.std.proofs.Common.{◌≡◌, ℕ, zero, suc, ◌+◌, ◌-◌, ◌<◌, ◌==◌, ◌||◌, ◌&&◌, Bool, true, false, cond, List, [], ◌∷◌, ◌++◌, map, reverse, get_or, drop, length, Option, Some, bytes_eq, slice_get, refl, sym, ap, ◌∙◌, arith, true≢false}
+use Rattle.std.proofs.Common.{◌≡◌, ℕ, zero, suc, ◌+◌, ◌-◌, ◌<◌, ◌==◌, ◌||◌, ◌&&◌, Bool, true, false, cond, List, [], ◌∷◌, map, reverse, get_or, drop, length, Some, bytes_eq, slice_get, refl, sym, ap, ◌∙◌, arith, true≢false}
 use Rattle.std.proofs.lemmas.List.{at_drop_more}
 use Rattle.std.proofs.lemmas.List.Folds.{list_any-append}
 use Rattle.std.specs.List.{list_any, flat_map}
 use Rattle.smk_world.specs.Trees.{among}
 use Rattle.smk_pattern.specs.Shapes.{Text}
-use Rattle.smk_pattern.specs.Grammar.{Piece, plain, hole}
 use Rattle.smk_pattern.specs.Reading.{is_hole, has_wildcards, pieces_from, ended, depth_after, held_after, plain_of, hole_of}
 use Rattle.smk_flow.specs.declared.rule.RulePart.{RulePart}
 use Rattle.smk_flow.specs.declared.workflow.Rule.{Rule}

@@ -2,3 +2,4 @@ pub mod Choose
 pub mod Told
 pub mod Heights
 pub mod Readings
+pub mod Reach

@@ -1,5 +1,5 @@
 -- What is read of each rule before paths are looked at, and the jobs that may make a path by it.
-use Rattle.std.specs.Prelude.{ℕ, ◌+◌, Bool, true, false, ◌&&◌, not, List, [], ◌∷◌, ◌++◌, map, filter, take, ◌==◌, slice_get, Option, Some, None, option_map, if◌then◌else◌}
+use Rattle.std.specs.Prelude.{ℕ, ◌+◌, Bool, false, ◌&&◌, not, List, [], ◌∷◌, ◌++◌, map, filter, take, ◌==◌, slice_get, Option, Some, None, option_map, if◌then◌else◌}
 use Rattle.std.specs.List.{flat_map, filter_map, list_all}
 use Rattle.smk_base.specs.declared.tree.Pair.{Pair}
 use Rattle.smk_base.specs.Path.{is_path}

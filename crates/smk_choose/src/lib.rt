@@ -7,6 +7,7 @@ mod choice;
 mod heights;
 mod nodes;
 mod precedence;
+mod reach;
 mod readings;
 mod sources;
 mod table;

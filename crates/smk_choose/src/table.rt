@@ -18,6 +18,8 @@ pub struct Choices {
 impl Choices {
     /// The choices for these paths and for the paths that their candidates want, and so on: those that are wanted 200 levels deep are
     /// covered too. `OutOfMemory` where there is no memory for the table.
+    ///
+    /// It isn't built yet: this answers `OutOfMemory` always.
     pub fn of(
         alloc: Global,
         flow: &Workflow,

@@ -1,6 +1,4 @@
-use Rattle.std.proofs.Common.{◌≡◌, ◌++◌, List, length}
-use Rattle.smk_base.specs.declared.tree.Pair.{Pair}
-use Rattle.smk_pattern.specs.Reading.{by_name}
+use Rattle.std.proofs.Common.{◌≡◌, length}
 use Rattle.smk_choose.proofs.Named.{Done}
 use Rattle.smk_choose.proofs.binding.by_name.Given as goal
 

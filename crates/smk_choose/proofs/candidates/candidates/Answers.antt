@@ -1,4 +1,4 @@
-use Rattle.std.proofs.Common.{◌≡◌, ◌∙◌, List, ap, ap₂, sym, subst, filter, map, IfOk}
+use Rattle.std.proofs.Common.{◌≡◌, ◌∙◌, List, ap, ap₂, sym, subst, filter, IfOk}
 use Rattle.smk_world.specs.World.{folders_above}
 use Rattle.smk_flow.specs.declared.workflow.Rule.{Rule}
 use Rattle.smk_choose.specs.declared.choice.Making.{Making}

@@ -1,4 +1,4 @@
-use Rattle.std.proofs.Common.{◌≡◌, ◌∙◌, ◌<◌, ℕ, List, sym, ap, length, get_or, arith}
+use Rattle.std.proofs.Common.{◌∙◌, ◌<◌, ℕ, List, sym, ap, length, get_or, arith}
 use Rattle.std.proofs.lemmas.List.{get_or_default}
 use Rattle.smk_choose.proofs.Above.{above_step, above_none}
 use Rattle.smk_choose.proofs.candidates.folders_above.Goals as goal

@@ -1,5 +1,5 @@
-use Rattle.std.proofs.Common.{◌≡◌, ◌++◌, ◌∙◌, ℕ, suc, take, drop, length, List, Option, refl, sym, ap, arith, add-one, add-zero, rules}
-use Rattle.smk_choose.specs.Heights.{IsSound, IsComplete}
+use Rattle.std.proofs.Common.{◌≡◌, ◌++◌, ◌∙◌, ℕ, suc, take, drop, length, sym, ap, add-one}
+use Rattle.smk_choose.specs.Heights.{IsComplete}
 use Rattle.smk_choose.proofs.Sweeps.{written_back, exact, complete_still}
 use Rattle.smk_choose.proofs.heights.least_heights.Goals as goal
 

@@ -1,4 +1,4 @@
-use Rattle.std.proofs.Common.{◌||◌, sym, ap, ap₂, ◌∙◌, suc}
+use Rattle.std.proofs.Common.{◌||◌, ap, ap₂, ◌∙◌, suc}
 use Rattle.std.specs.List.{list_all}
 use Rattle.smk_choose.specs.declared.nodes.Way.{Way}
 use Rattle.smk_choose.specs.Heights.{is_within, height_at, want_in}

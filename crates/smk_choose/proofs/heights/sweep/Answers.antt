@@ -1,4 +1,4 @@
-use Rattle.std.proofs.Common.{◌≡◌, ◌-◌, ◌∙◌, ◌||◌, Bool, true, false, sym, ap, suc, arith, length, refl, true≢false, rules}
+use Rattle.std.proofs.Common.{◌-◌, ◌∙◌, sym, arith, rules}
 use Rattle.std.proofs.lemmas.List.{get_or_read}
 use Rattle.smk_choose.specs.Heights.{no_node}
 use Rattle.smk_choose.proofs.Sweeps.{swept_more, complete_more, both_false}

@@ -1,4 +1,4 @@
-use Rattle.std.proofs.Common.{◌≡◌, ◌∙◌, ◌&&◌, Bool, List, ℕ, true, false, sym, ap, refl, bytes_eq, drop}
+use Rattle.std.proofs.Common.{◌∙◌, Bool, sym, ap, refl, bytes_eq, drop}
 use Rattle.smk_choose.proofs.Preferred.{before_step, before_here, before_from, not_both, not_first}
 use Rattle.smk_choose.proofs.precedence.has_before.Goals as goal
 use Rattle.smk_choose.proofs.precedence.has_before.Goals.{else-seen-via-then-seen+else-eq, else-seen-via-else-seen}

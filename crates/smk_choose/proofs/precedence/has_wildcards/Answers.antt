@@ -1,6 +1,6 @@
-use Rattle.std.proofs.Common.{◌≡◌, ◌∙◌, ℕ, true, false, sym, ap, refl, drop, get_or}
+use Rattle.std.proofs.Common.{◌∙◌, ℕ, sym, ap, refl, drop}
 use Rattle.std.proofs.lemmas.List.{get_or_default, drop_all}
-use Rattle.smk_choose.proofs.Preferred.{wildcards_close, close_here, close_step, closes_in}
+use Rattle.smk_choose.proofs.Preferred.{wildcards_close, close_here, closes_in}
 use Rattle.smk_choose.proofs.precedence.has_wildcards.Goals as goal
 
 pub returns-then-depth-eq1 : goal.returns-then-depth-eq1

@@ -1,5 +1,4 @@
-use Rattle.std.proofs.Common.{◌≡◌, ◌∙◌, ℕ, List, Some, ap, ap₂, sym, get_or, slice_get}
-use Rattle.smk_flow.specs.declared.rule.RulePart.{RulePart}
+use Rattle.std.proofs.Common.{◌∙◌, List, ap, ap₂, sym, get_or}
 use Rattle.smk_flow.specs.declared.workflow.Rule.{Rule}
 use Rattle.smk_choose.specs.Choose as choice
 use Rattle.smk_choose.proofs.Preferred.{rule_is}

@@ -1,4 +1,4 @@
-use Rattle.std.proofs.Common.{◌∙◌, sym, ap, List}
+use Rattle.std.proofs.Common.{◌∙◌, sym, ap}
 use Rattle.std.specs.List.{list_any}
 use Rattle.smk_pattern.specs.Reading.{has_wildcards}
 use Rattle.smk_flow.specs.declared.rule.OutPart.{OutPart}

@@ -1,4 +1,4 @@
-use Rattle.std.proofs.Common.{◌≡◌, ◌∙◌, ℕ, List, Option, Some, option_map, sym, ap, length, get_or, slice_get, arith}
+use Rattle.std.proofs.Common.{◌≡◌, ◌∙◌, List, Option, option_map, sym, ap, length, get_or, slice_get, arith}
 use Rattle.std.proofs.lemmas.List.{length-map}
 use Rattle.smk_pattern.specs.Reading.{or_empty}
 use Rattle.smk_flow.specs.declared.workflow.Rule.{Rule}

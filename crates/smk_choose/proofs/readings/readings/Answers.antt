@@ -1,4 +1,4 @@
-use Rattle.std.proofs.Common.{◌≡◌, ◌∙◌, ◌++◌, ◌∷◌, [], List, ap, length, get_or, arith}
+use Rattle.std.proofs.Common.{◌∙◌, ◌++◌, ◌∷◌, [], List, ap, length, get_or, arith}
 use Rattle.std.proofs.lemmas.List.{length-map}
 use Rattle.smk_flow.specs.declared.workflow.Rule.{Rule}
 use Rattle.smk_flow.specs.PatternsOf.{rule_of}
