@@ -1,13 +1,14 @@
 -- What stands behind references.
-use Rattle.std.specs.Prelude.{ℕ, Bool, List, map}
+use Rattle.std.specs.Prelude.{ℕ, Bool, List, map, is_some}
 use Rattle.std.specs.Borrow.{Bor}
-use Rattle.std.specs.BTreeSet.{BTreeSet, contains_by}
+use Rattle.std.specs.BTreeMap.{BTreeMap, get_by}
 use Rattle.std.specs.Cmp.Lexicographic.{slice_cmp}
 use Rattle.std.specs.Ordering.{nat_cmp}
+use Rattle.smk_base.specs.declared.tree.Pair.{Pair}
 
--- the name is kept in the set
-abbrev pub holds : BTreeSet (Bor (List ℕ)) → List ℕ → Bool
-holds names name = contains_by (λ k. slice_cmp nat_cmp name k.now) names
+-- something is kept under the name
+abbrev pub holds : BTreeMap (Bor (List ℕ)) (Bor Pair) → List ℕ → Bool
+holds kept name = is_some (get_by (λ k. slice_cmp nat_cmp name k.now) kept)
 
-abbrev pub all_lent : {X : Type 0} → List (Bor X) → List X
-all_lent = map (λ r. r.now)
+abbrev pub all_lent : List (Bor Pair) → List Pair
+all_lent = map (λ p. p.now)

@@ -36,8 +36,8 @@ pub(crate) trait Takes: Drop {
         ensures { Tells result (taken word.now self name.now value) };
 }
 
-/// What is made so far, with what these items add, in order. The fault is that of the first item that has one.
-pub(crate) fn with_items<S: Scope, T: Takes>(
+// What is made so far, with what these items add, in order. The fault is that of the first item that has one.
+fn with_items<S: Scope, T: Takes>(
     alloc: Global,
     begun: T,
     items: &[ItemForm],
@@ -344,4 +344,86 @@ impl Takes for Resources {
             None => Ok(worded(alloc, self, name, text(alloc, word, value)?)?),
         }
     }
+}
+
+/// The items of inputs.
+pub(crate) fn inputs<S: Scope>(
+    alloc: Global,
+    items: &[ItemForm],
+    scope: &S,
+    word: &Text,
+) -> Result<List<InPart>, ValueFault>
+    ensures { Tells result (spec.each_item (spec.input word.now) (map (named_in word.now (S.seen scope.now)) items.now)) }
+{
+    with_items(alloc, List::new(alloc), items, scope, word)
+}
+
+/// The items of outputs.
+pub(crate) fn outputs<S: Scope>(
+    alloc: Global,
+    items: &[ItemForm],
+    scope: &S,
+    word: &Text,
+) -> Result<List<OutPart>, ValueFault>
+    ensures { Tells result (spec.each_item (spec.output word.now) (map (named_in word.now (S.seen scope.now)) items.now)) }
+{
+    with_items(alloc, List::new(alloc), items, scope, word)
+}
+
+/// The items of params.
+pub(crate) fn params<S: Scope>(
+    alloc: Global,
+    items: &[ItemForm],
+    scope: &S,
+    word: &Text,
+) -> Result<List<Values>, ValueFault>
+    ensures { Tells result (spec.each_item (spec.param word.now) (map (named_in word.now (S.seen scope.now)) items.now)) }
+{
+    with_items(alloc, List::new(alloc), items, scope, word)
+}
+
+/// The texts of logs.
+pub(crate) fn logs<S: Scope>(
+    alloc: Global,
+    items: &[ItemForm],
+    scope: &S,
+    word: &Text,
+) -> Result<List<Text>, ValueFault>
+    ensures { Tells result (spec.all_logs word.now (map (named_in word.now (S.seen scope.now)) items.now)) }
+{
+    with_items(alloc, List::new(alloc), items, scope, word)
+}
+
+/// The constraints of wildcards.
+pub(crate) fn limits<S: Scope>(
+    alloc: Global,
+    items: &[ItemForm],
+    scope: &S,
+    word: &Text,
+) -> Result<List<Pair>, ValueFault>
+    ensures { Tells result (spec.each_item (spec.limit word.now) (map (named_in word.now (S.seen scope.now)) items.now)) }
+{
+    with_items(alloc, List::new(alloc), items, scope, word)
+}
+
+// No resources.
+fn no_resources(alloc: Global) -> Resources
+    ensures { result ≡ record { amounts = []; words = [] } }
+{
+    Resources {
+        amounts: List::new(alloc),
+        words: List::new(alloc),
+    }
+}
+
+/// The resources.
+pub(crate) fn resources<S: Scope>(
+    alloc: Global,
+    items: &[ItemForm],
+    scope: &S,
+    word: &Text,
+) -> Result<Resources, ValueFault>
+    ensures { Tells result (spec.all_resources word.now (map (named_in word.now (S.seen scope.now)) items.now)) }
+{
+    with_items(alloc, no_resources(alloc), items, scope, word)
 }

@@ -7,13 +7,13 @@ ghost use Rattle.smk_base.specs.declared.tree.Pair.{Pair};
 ghost use Rattle.smk_parts.specs.Kept.{holds, all_lent};
 ghost use Rattle.smk_parts.specs.Rules as spec;
 
-use crate::items::with_items;
+use crate::items::limits;
 use smk_base::{Copied, List, OutOfMemory, Pair, Text};
 use smk_flow::RulePart;
 use smk_tree::ItemForm;
 use smk_value::{Scope, ValueFault};
 use std::alloc::Global;
-use std::collections::BTreeSet;
+use std::collections::BTreeMap;
 
 /// The constraints that the items of a `wildcard_constraints` statement of the whole file give, in order. The fault is that of the
 /// first item that has one: that of its value; or `BadFlag` where it has no name, or its value is no text, with the word of the
@@ -26,38 +26,41 @@ pub fn global_limits<S: Scope>(
     ensures { Tells result (spec.global_limits (S.seen scope.now) items.now) }
 {
     let word = Text::of(alloc, "wildcard_constraints")?;
-    with_items(alloc, List::new(alloc), items, scope, &word)
+    limits(alloc, items, scope, &word)
 }
 
-// The names of constraints.
-fn names_of(alloc: Global, limits: &[Pair]) -> Result<BTreeSet<&str>, OutOfMemory>
-    ensures { IfOk result (λ names. (q : List ℕ) → holds names q ≡ spec.is_among limits.now q) }
+// The constraints by their names.
+fn by_name(alloc: Global, limits: &[Pair]) -> Result<BTreeMap<&str, &Pair>, OutOfMemory>
+    ensures { IfOk result (λ kept. (q : List ℕ) → holds kept q ≡ spec.is_among limits.now q) }
 {
-    let mut names = BTreeSet::new(alloc);
+    let mut kept = BTreeMap::new(alloc);
     for limit in limits {
-        names.insert(limit.name.as_str())?;
+        kept.insert(limit.name.as_str(), limit)?;
     }
-    Ok(names)
+    Ok(kept)
 }
 
-// Whether the name is none of these.
-fn is_other(names: &BTreeSet<&str>, name: &str) -> bool
-    ensures { result ≡ not (holds names.now name.now) }
+// Whether nothing is kept under the name.
+fn is_other(kept: &BTreeMap<&str, &Pair>, name: &str) -> bool
+    ensures { result ≡ not (holds kept.now name.now) }
 {
-    !names.contains(name)
+    match kept.get(name) {
+        Some(_) => false,
+        None => true,
+    }
 }
 
-// Those of the constraints that have other names than these.
+// Those of the constraints under whose names nothing is kept.
 fn others<'g>(
     alloc: Global,
-    names: &BTreeSet<&str>,
+    kept: &BTreeMap<&str, &Pair>,
     globals: &'g [Pair],
 ) -> Result<Vec<&'g Pair>, OutOfMemory>
-    ensures { IfOk result (λ found. all_lent found.items ≡ filter (λ (g : Pair). not (holds names.now g.name)) globals.now) }
+    ensures { IfOk result (λ found. all_lent found.items ≡ filter (λ (g : Pair). not (holds kept.now g.name)) globals.now) }
 {
     let mut found = Vec::new(alloc);
     for limit in globals {
-        if is_other(names, limit.name.as_str()) {
+        if is_other(kept, limit.name.as_str()) {
             found.push(limit)?;
         }
     }
@@ -72,8 +75,8 @@ fn others_than<'g>(
 ) -> Result<Vec<&'g Pair>, OutOfMemory>
     ensures { IfOk result (λ found. all_lent found.items ≡ spec.others own.now globals.now) }
 {
-    let names = names_of(alloc, own)?;
-    others(alloc, &names, globals)
+    let kept = by_name(alloc, own)?;
+    others(alloc, &kept, globals)
 }
 
 // The list with copies of these after it.

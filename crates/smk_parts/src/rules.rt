@@ -5,7 +5,7 @@ ghost use Rattle.smk_value.specs.Values.{Tells};
 ghost use Rattle.smk_parts.specs.Rules as spec;
 
 use crate::directive::{Directive, directive_of};
-use crate::items::{GREATEST, with_items};
+use crate::items::{GREATEST, inputs, limits, logs, outputs, params, resources};
 use crate::limits::with_globals;
 use crate::one::{one_number, one_text, one_truth};
 use crate::resources::Resources;
@@ -67,19 +67,19 @@ fn with_directive<S: Scope>(
     let word = &form.word;
     match directive_of(word.as_str()) {
         Directive::Input => {
-            part.inputs = with_items(alloc, List::new(alloc), items, scope, word)?;
+            part.inputs = inputs(alloc, items, scope, word)?;
             Ok(part)
         }
         Directive::Output => {
-            part.outputs = with_items(alloc, List::new(alloc), items, scope, word)?;
+            part.outputs = outputs(alloc, items, scope, word)?;
             Ok(part)
         }
         Directive::Params => {
-            part.params = with_items(alloc, List::new(alloc), items, scope, word)?;
+            part.params = params(alloc, items, scope, word)?;
             Ok(part)
         }
         Directive::Log => {
-            part.logs = with_items(alloc, List::new(alloc), items, scope, word)?;
+            part.logs = logs(alloc, items, scope, word)?;
             Ok(part)
         }
         Directive::Threads => {
@@ -91,15 +91,11 @@ fn with_directive<S: Scope>(
             Ok(part)
         }
         Directive::Resources => {
-            let none = Resources {
-                amounts: List::new(alloc),
-                words: List::new(alloc),
-            };
-            let resources = with_items(alloc, none, items, scope, word)?;
+            let resources = resources(alloc, items, scope, word)?;
             Ok(with_resources(part, resources))
         }
         Directive::Limits => {
-            part.limits = with_items(alloc, List::new(alloc), items, scope, word)?;
+            part.limits = limits(alloc, items, scope, word)?;
             Ok(part)
         }
         Directive::Shell => {
@@ -112,6 +108,25 @@ fn with_directive<S: Scope>(
         }
         Directive::Ignored => Ok(part),
     }
+}
+
+// The rule with what these directives say, in order.
+fn with_directives<S: Scope>(
+    alloc: Global,
+    part: RulePart,
+    forms: &[DirectiveForm],
+    scope: &S,
+) -> Result<RulePart, ValueFault>
+    ensures { Tells result (spec.with_directives (S.seen scope.now) part forms.now) }
+{
+    let mut made = part;
+    for form in forms {
+        match with_directive(alloc, made, form, scope) {
+            Ok(now) => made = now,
+            Err(fault) => return Err(fault),
+        }
+    }
+    Ok(made)
 }
 
 /// The rule that its form makes in a scope, its directives evaluated in the order in which they stand; `file` is the file that it stands
@@ -132,9 +147,7 @@ pub fn rule_part<S: Scope>(
 ) -> Result<RulePart, ValueFault>
     ensures { Tells result (spec.rule_of (S.seen scope.now) globals.now form.now file.now line) }
 {
-    let mut part = begun(alloc, form, file, line)?;
-    for directive in form.directives.as_slice() {
-        part = with_directive(alloc, part, directive, scope)?;
-    }
+    let part = begun(alloc, form, file, line)?;
+    let part = with_directives(alloc, part, form.directives.as_slice(), scope)?;
     Ok(with_globals(alloc, part, globals)?)
 }
