@@ -62,9 +62,9 @@ pub more_placed : {Y : Type 0} (m n : BTreeMap (String Y) ℕ) (parts : List Rul
     → ((q : List ℕ) → kept n q ≡ with_place (kept m) name (length parts) q) → ArePlaced m parts → ArePlaced n (parts ++ part ∷ [])
 more_placed m n parts part name named is old = record {
   are = λ q.
-  ap (λ (o : Option ℕ). option_and_then (λ (i : ℕ). slice_get (parts ++ part ∷ []) i) o) (is q)
-  ∙ go q (kept m q) refl
-  ∙ sym (find-append (λ (r : RulePart). bytes_eq r.name q) parts (part ∷ []));
+      ap (λ (o : Option ℕ). option_and_then (λ (i : ℕ). slice_get (parts ++ part ∷ []) i) o) (is q)
+      ∙ go q (kept m q) refl
+      ∙ sym (find-append (λ (r : RulePart). bytes_eq r.name q) parts (part ∷ []));
   within = λ q i h. inside q i (kept m q) refl (sym (is q) ∙ h);
 }
   where

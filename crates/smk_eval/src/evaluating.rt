@@ -104,7 +104,9 @@ fn stated<'p>(
         Form::Assign(name, value) => assigned(alloc, config, state, file, line, name, value),
         Form::Rule(form) => ruled(alloc, config, state, file, line, form),
         Form::Order(names) => Ok(state.with_order(alloc, file, line, names)?),
-        Form::LocalRules(_) | Form::ConfigFile(_) | Form::Include(_) | Form::Container(_) => Ok(state),
+        Form::LocalRules(_) | Form::ConfigFile(_) | Form::Include(_) | Form::Container(_) => Ok(
+            state,
+        ),
         Form::Limits(items) => limited(alloc, config, state, file, line, items.as_slice()),
     }
 }

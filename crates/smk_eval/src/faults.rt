@@ -46,10 +46,38 @@ pub(crate) fn of_flow(fault: FlowFault) -> EvalFault
     match fault {
         FlowFault::DoubledRule { file, line, name } => EvalFault::DoubledRule { file, line, name },
         FlowFault::BadPattern { file, line, text } => EvalFault::BadPattern { file, line, text },
-        FlowFault::BadConstraint { file, line, name } => EvalFault::BadConstraint { file, line, name },
-        FlowFault::UnequalWildcards { file, line, rule } => EvalFault::UnequalWildcards { file, line, rule },
-        FlowFault::UnknownWildcard { file, line, rule, name } => EvalFault::UnknownWildcard { file, line, rule, name },
-        FlowFault::BadFlag { file, line, rule, word } => EvalFault::BadFlag { file, line, rule, word },
+        FlowFault::BadConstraint { file, line, name } => EvalFault::BadConstraint {
+            file,
+            line,
+            name,
+        },
+        FlowFault::UnequalWildcards { file, line, rule } => EvalFault::UnequalWildcards {
+            file,
+            line,
+            rule,
+        },
+        FlowFault::UnknownWildcard {
+            file,
+            line,
+            rule,
+            name,
+        } => EvalFault::UnknownWildcard {
+            file,
+            line,
+            rule,
+            name,
+        },
+        FlowFault::BadFlag {
+            file,
+            line,
+            rule,
+            word,
+        } => EvalFault::BadFlag {
+            file,
+            line,
+            rule,
+            word,
+        },
         FlowFault::UnknownName { file, line, name } => EvalFault::UnknownName { file, line, name },
         FlowFault::ContradictoryOrder { a, b } => EvalFault::ContradictoryOrder { a, b },
         FlowFault::OutOfMemory => EvalFault::OutOfMemory,

@@ -86,11 +86,7 @@ impl<'p> State<'p> {
     }
 
     /// With the value of a constant, in the place of an earlier one. `OutOfMemory` where there is no memory for it.
-    pub(crate) fn with_constant(
-        self,
-        name: &'p str,
-        value: Value,
-    ) -> Result<State<'p>, OutOfMemory>
+    pub(crate) fn with_constant(self, name: &'p str, value: Value) -> Result<State<'p>, OutOfMemory>
         ensures { IfOk result (λ s. state_of s ≡ with_constant name.now (state_of self.entry) value) }
     {
         let mut state = self;
@@ -99,11 +95,7 @@ impl<'p> State<'p> {
     }
 
     /// With one more rule. `OutOfMemory` where there is no memory for it.
-    pub(crate) fn with_rule(
-        self,
-        alloc: Global,
-        part: RulePart,
-    ) -> Result<State<'p>, OutOfMemory>
+    pub(crate) fn with_rule(self, alloc: Global, part: RulePart) -> Result<State<'p>, OutOfMemory>
         ensures { IfOk result (λ s. state_of s ≡ with_rule (state_of self.entry) part) }
     {
         Ok(State {
