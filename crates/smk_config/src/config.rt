@@ -1,7 +1,7 @@
 //! Configurations.
 
 ghost use Rattle.std.specs.Prelude.{◌≡◌, ◌≢◌, IfOk, OnOk, OnErr, Some, None, Err, IsUtf8, option_map, option_and_then};
-ghost use Rattle.serde_json.specs.Data.{Data, string, object, put};
+ghost use Rattle.serde_json.specs.Data.{Data, no_members, string, object, put};
 ghost use Rattle.serde_json.specs.Find.{get_member, as_object};
 ghost use Rattle.serde_json.specs.View.{view, members_view};
 ghost use Rattle.smk_config.specs.declared.fault.ConfigFault.{ConfigFault};
@@ -23,6 +23,15 @@ pub struct Config {
 }
 
 impl Config {
+    /// The configuration without a key.
+    pub fn new(alloc: Global) -> Config
+        ensures { members result ≡ no_members }
+    {
+        Config {
+            members: Map::new(alloc),
+        }
+    }
+
     /// The configuration of a file with these bytes. `BadConfig` exactly where they aren't UTF-8, or no JSON object that nests at most
     /// 127 deep; `OutOfMemory` where there is no memory for it.
     pub fn read(alloc: Global, file: &[u8]) -> Result<Config, ConfigFault>

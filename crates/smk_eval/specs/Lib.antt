@@ -1,0 +1,4 @@
+pub mod Settings
+pub mod Statements
+pub mod Kept
+pub mod Seen

@@ -1,0 +1,149 @@
+-- What files read as: what their statements lead to, in order, and the workflow that this is.
+use Rattle.std.specs.Prelude.{◌≡◌, ◌⊎◌, ℕ, List, [], ◌∷◌, ◌++◌, map, bytes_eq, if◌then◌else◌, Option, Some, None, Result, Ok, Err}
+use Rattle.serde_json.specs.Data.{Members}
+use Rattle.smk_base.specs.declared.tree.Pair.{Pair}
+use Rattle.smk_tree.specs.declared.syntax.Form.{Form}
+use Rattle.smk_tree.specs.declared.syntax.Form.TheVariants.{Assign, Rule, Order, LocalRules, ConfigFile, Include, Container, Limits}
+use Rattle.smk_tree.specs.declared.syntax.OutputPick.{OutputPick}
+use Rattle.smk_tree.specs.declared.syntax.Expr.{Expr}
+use Rattle.smk_tree.specs.declared.syntax.RuleForm.{RuleForm}
+use Rattle.smk_tree.specs.declared.syntax.ItemForm.{ItemForm}
+use Rattle.smk_value.specs.declared.value.Value.{Value}
+use Rattle.smk_value.specs.declared.fault.ValueFault.{ValueFault}
+use Rattle.smk_value.specs.declared.fault.ValueFault.TheVariants as of_value
+use Rattle.smk_value.specs.Expressions.{Scope, Valued, value_in}
+use Rattle.smk_flow.specs.declared.rule.RulePart.{RulePart}
+use Rattle.smk_flow.specs.declared.rule.Clause.{Clause}
+use Rattle.smk_flow.specs.declared.fault.FlowFault.{FlowFault}
+use Rattle.smk_flow.specs.declared.fault.FlowFault.TheVariants as of_rules
+use Rattle.smk_flow.specs.Flows.{Flow}
+use Rattle.smk_flow.specs.Checks.{rule_in, IsWorkflow, IsFault}
+use Rattle.smk_parts.specs.Rules.{rule_of, global_limits, with_globals}
+use Rattle.smk_parts.specs.Outputs.{outputs_of}
+use Rattle.smk_files.specs.declared.files.ReadFile.{ReadFile}
+use Rattle.smk_files.specs.Texts.{Entry, whole}
+use Rattle.smk_eval.specs.declared.fault.EvalFault.{EvalFault}
+use Rattle.smk_eval.specs.declared.fault.EvalFault.TheVariants as fault
+use Rattle.smk_eval.specs.Settings.{config_value}
+
+abbrev pub and_then : {A B : Type 0} → Result A EvalFault → (A → Result B EvalFault) → Result B EvalFault
+and_then (Ok a) next = next a
+and_then (Err f) next = Err f
+
+-- The answer is what is meant, a value or a fault, unless memory was short.
+abbrev pub Tells : {A : Type 0} → Result A EvalFault → Result A EvalFault → Type 0
+Tells (Ok a) meant = meant ≡ Ok a
+Tells (Err f) meant = ((f ≡ fault.OutOfMemory) → ⊥) → meant ≡ Err f
+
+-- What the statements so far lead to: the values of constants by name, the rules in order, the constraints of the whole file, later ones
+-- first, and the clauses of `ruleorder`, in order.
+pub record State : Type 0 where
+  pub constant : List ℕ → Option Value
+  pub rules : List RulePart
+  pub limits : List Pair
+  pub orders : List Clause
+
+abbrev pub begun : State
+begun = record { constant = λ name. None; rules = []; limits = []; orders = [] }
+
+-- ## What names stand for after these statements
+
+abbrev pub outputs_in : List ℕ → Option RulePart → OutputPick → Valued
+outputs_in name None pick = Err (of_value.UnknownName name)
+outputs_in name (Some part) pick = outputs_of part pick
+
+abbrev pub scope : Members → State → Scope
+scope config s =
+    record { constant = s.constant; outputs = λ name pick. outputs_in name (rule_in s.rules name) pick; config = config_value config }
+
+-- ## One statement
+
+-- the fault of a statement, which stands in this file and line, and in this rule where it is one
+abbrev pub told : List ℕ → ℕ → List ℕ → ValueFault → EvalFault
+told file line rule (of_value.BadFlag word) = fault.BadFlag file line rule word
+told file line rule (of_value.UnknownName name) = fault.UnknownName file line name
+told file line rule (of_value.NoKey key) = fault.NoKey file line key
+told file line rule (of_value.BadConfig key) = fault.BadConfig [] key
+told file line rule of_value.UnequalZip = fault.UnequalZip file line
+told file line rule of_value.TooMany = fault.TooMany file line
+told file line rule of_value.OutOfMemory = fault.OutOfMemory
+
+abbrev pub made : {A : Type 0} → List ℕ → ℕ → List ℕ → Result A ValueFault → (A → State) → Result State EvalFault
+made file line rule (Ok a) now = Ok (now a)
+made file line rule (Err f) now = Err (told file line rule f)
+
+-- a later value holds for what follows
+abbrev pub with_constant : List ℕ → State → Value → State
+with_constant name s v = record s { constant = λ q. if bytes_eq name q then Some v else s.constant q }
+
+abbrev pub with_rule : State → RulePart → State
+with_rule s part = record s { rules = s.rules ++ part ∷ [] }
+
+abbrev pub with_limits : State → List Pair → State
+with_limits s more = record s { limits = more ++ s.limits }
+
+abbrev pub with_order : State → List ℕ → ℕ → List (List ℕ) → State
+with_order s file line names = record s { orders = s.orders ++ record { names = names; file = file; line = line } ∷ [] }
+
+-- the value of a constant; a value that doesn't stand there is told with the constant's name
+abbrev pub assigned : Members → State → List ℕ → Expr → Valued
+assigned config s name x = value_in name (scope config s) x
+
+abbrev pub ruled : Members → State → List ℕ → ℕ → RuleForm → Result RulePart ValueFault
+ruled config s file line form = rule_of (scope config s) [] form file line
+
+abbrev pub limited : Members → State → List ItemForm → Result (List Pair) ValueFault
+limited config s items = global_limits (scope config s) items
+
+-- what the statements lead to with one of this form more
+abbrev pub stated : Members → State → List ℕ → ℕ → Form → Result State EvalFault
+stated config s file line (Assign name x) = made file line [] (assigned config s name x) (with_constant name s)
+stated config s file line (Rule form) = made file line form.name (ruled config s file line form) (with_rule s)
+stated config s file line (Order names) = Ok (with_order s file line names)
+stated config s file line (LocalRules names) = Ok s
+stated config s file line (ConfigFile t) = Ok s
+stated config s file line (Include t) = Ok s
+stated config s file line (Container t) = Ok s
+stated config s file line (Limits items) = made file line [] (limited config s items) (with_limits s)
+
+-- ## All statements
+
+-- The first fault in their order is told.
+abbrev pub all_stated : Members → State → List Entry → Result State EvalFault
+all_stated config s [] = Ok s
+all_stated config s (e ∷ es) = and_then (stated config s e.file e.statement.line e.statement.form) (λ now. all_stated config now es)
+
+-- The constraints of the whole file hold in all rules, also in those above.
+abbrev pub flow_of : State → Flow
+flow_of s = record { rules = map (with_globals s.limits) s.rules; orders = s.orders }
+
+-- the rules and the clauses that the files say, or the first fault of a statement
+abbrev pub evaluated : Members → List ReadFile → Result Flow EvalFault
+evaluated config files = and_then (all_stated config begun (whole files)) (λ s. Ok (flow_of s))
+
+-- ## The checked workflow
+
+abbrev pub of_flow : FlowFault → EvalFault
+of_flow (of_rules.DoubledRule file line name) = fault.DoubledRule file line name
+of_flow (of_rules.BadPattern file line t) = fault.BadPattern file line t
+of_flow (of_rules.BadConstraint file line name) = fault.BadConstraint file line name
+of_flow (of_rules.UnequalWildcards file line rule) = fault.UnequalWildcards file line rule
+of_flow (of_rules.UnknownWildcard file line rule name) = fault.UnknownWildcard file line rule name
+of_flow (of_rules.BadFlag file line rule word) = fault.BadFlag file line rule word
+of_flow (of_rules.UnknownName file line name) = fault.UnknownName file line name
+of_flow (of_rules.ContradictoryOrder a b) = fault.ContradictoryOrder a b
+of_flow of_rules.OutOfMemory = fault.OutOfMemory
+
+-- Rules and clauses, where they are said, make no workflow, and this is their first fault.
+abbrev pub FailsChecks : Result Flow EvalFault → EvalFault → Type 0
+FailsChecks (Ok flow) f = (g : FlowFault) × (IsFault flow.rules flow.orders g) × (f ≡ of_flow g)
+FailsChecks (Err e) f = ⊥
+
+-- The fault is that of a statement, or that of the checks.
+abbrev pub IsFirstFault : Result Flow EvalFault → EvalFault → Type 0
+IsFirstFault said f = (said ≡ Err f) ⊎ FailsChecks said f
+
+-- The answer is the workflow that is said and passes all checks, or the first fault, unless memory was short.
+abbrev pub Gives : Result Flow EvalFault → Result Flow EvalFault → Type 0
+Gives said (Ok flow) = (said ≡ Ok flow) × IsWorkflow flow.rules flow.orders
+Gives said (Err f) = ((f ≡ fault.OutOfMemory) → ⊥) → IsFirstFault said f

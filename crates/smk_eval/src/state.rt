@@ -1,0 +1,160 @@
+//! What the statements so far lead to.
+
+ghost use Rattle.std.specs.Prelude.{◌≡◌, ◌++◌, ◌∷◌, [], map, reverse, IfOk};
+ghost use Rattle.smk_parts.specs.Rules as parts;
+ghost use Rattle.smk_eval.specs.Statements.{begun, with_constant, with_rule, with_limits, with_order, flow_of};
+ghost use Rattle.smk_eval.specs.Seen.{state_of};
+
+use crate::above::Above;
+use smk_base::{Copied, List, OutOfMemory, Pair, PathText, Text};
+use smk_flow::{Clause, RulePart};
+use smk_parts::with_globals;
+use smk_value::Value;
+use std::alloc::Global;
+use std::collections::BTreeMap;
+
+/// What the statements so far lead to.
+#[derive(Drop)]
+pub(crate) struct State<'p> {
+    /// The values of constants, by name.
+    pub(crate) constants: BTreeMap<&'p str, Value>,
+    /// The rules, in order.
+    pub(crate) rules: Above,
+    /// The constraints of the whole file, later ones first.
+    pub(crate) limits: List<Pair>,
+    /// The clauses of `ruleorder`, in order.
+    pub(crate) orders: List<Clause>,
+}
+
+/// The rules and the clauses that files say.
+#[derive(Drop)]
+pub(crate) struct Said {
+    pub(crate) rules: List<RulePart>,
+    pub(crate) orders: List<Clause>,
+}
+
+// The list with more after it.
+fn joined(alloc: Global, list: List<Pair>, more: &[Pair]) -> Result<List<Pair>, OutOfMemory>
+    ensures { IfOk result (λ all. all ≡ list ++ more.now) }
+{
+    let mut all = list;
+    for pair in more {
+        all.push(pair.copied(alloc)?)?;
+    }
+    Ok(all)
+}
+
+// The list, the last one first.
+fn turned(alloc: Global, list: List<RulePart>) -> Result<List<RulePart>, OutOfMemory>
+    ensures { IfOk result (λ made. made ≡ reverse list) }
+{
+    let mut left = list;
+    let mut made = List::new(alloc);
+    'items: while let Some(item) = left.pop() {
+        made.push(item)?;
+    }
+    Ok(made)
+}
+
+// The rules with the constraints of the whole file, the last one first.
+fn limited(
+    alloc: Global,
+    rules: List<RulePart>,
+    limits: &List<Pair>,
+) -> Result<List<RulePart>, OutOfMemory>
+    ensures { IfOk result (λ made. reverse made ≡ map (parts.with_globals limits.now) rules) }
+{
+    let mut left = rules;
+    let mut made = List::new(alloc);
+    'rules: while let Some(part) = left.pop() {
+        made.push(with_globals(alloc, part, limits)?)?;
+    }
+    Ok(made)
+}
+
+impl<'p> State<'p> {
+    /// What holds before all statements.
+    pub(crate) fn new(alloc: Global) -> State<'p>
+        ensures { state_of result ≡ begun }
+    {
+        State {
+            constants: BTreeMap::new(alloc),
+            rules: Above::new(alloc),
+            limits: List::new(alloc),
+            orders: List::new(alloc),
+        }
+    }
+
+    /// With the value of a constant, in the place of an earlier one. `OutOfMemory` where there is no memory for it.
+    pub(crate) fn with_constant(self, name: &'p str, value: Value) -> Result<State<'p>, OutOfMemory>
+        ensures { IfOk result (λ s. state_of s ≡ with_constant name.now (state_of self.entry) value) }
+    {
+        let mut state = self;
+        drop(state.constants.insert(name, value)?);
+        Ok(state)
+    }
+
+    /// With one more rule. `OutOfMemory` where there is no memory for it.
+    pub(crate) fn with_rule(self, alloc: Global, part: RulePart) -> Result<State<'p>, OutOfMemory>
+        ensures { IfOk result (λ s. state_of s ≡ with_rule (state_of self.entry) part) }
+    {
+        Ok(State {
+            constants: self.constants,
+            rules: self.rules.with(alloc, part)?,
+            limits: self.limits,
+            orders: self.orders,
+        })
+    }
+
+    /// With more constraints of the whole file. `OutOfMemory` where there is no memory for them.
+    pub(crate) fn with_limits(
+        self,
+        alloc: Global,
+        more: List<Pair>,
+    ) -> Result<State<'p>, OutOfMemory>
+        ensures { IfOk result (λ s. state_of s ≡ with_limits (state_of self.entry) more) }
+    {
+        let limits = joined(alloc, more, self.limits.as_slice())?;
+        Ok(State {
+            constants: self.constants,
+            rules: self.rules,
+            limits,
+            orders: self.orders,
+        })
+    }
+
+    /// With one more clause, which stands in this file and line. `OutOfMemory` where there is no memory for it.
+    pub(crate) fn with_order(
+        self,
+        alloc: Global,
+        file: &PathText,
+        line: u64,
+        names: &List<Text>,
+    ) -> Result<State<'p>, OutOfMemory>
+        ensures { IfOk result (λ s. state_of s ≡ with_order (state_of self.entry) file.now line names.now) }
+    {
+        let mut orders = self.orders;
+        orders.push(Clause {
+            names: names.copied(alloc)?,
+            file: file.copy(alloc)?,
+            line,
+        })?;
+        Ok(State {
+            constants: self.constants,
+            rules: self.rules,
+            limits: self.limits,
+            orders,
+        })
+    }
+
+    /// The rules and the clauses, with the constraints of the whole file in all rules. `OutOfMemory` where there is no memory for them.
+    pub(crate) fn said(self, alloc: Global) -> Result<Said, OutOfMemory>
+        ensures { IfOk result (λ said. flow_of (state_of self.entry) ≡ record { rules = said.rules; orders = said.orders }) }
+    {
+        let made = limited(alloc, self.rules.parts(), &self.limits)?;
+        Ok(Said {
+            rules: turned(alloc, made)?,
+            orders: self.orders,
+        })
+    }
+}
