@@ -2,7 +2,7 @@
 use Rattle.std.proofs.Common.{◌≡◌, ℕ, zero, suc, ◌+◌, ◌*◌, ◌<◌, ◌≤◌, Bool, true, false, cond, List, [], ◌∷◌, ◌++◌, drop, length, get_or, refl, ap, sym, ◌∙◌, arith, length-append}
 use Rattle.std.specs.Prelude.{Result, Ok, Err, nat_lt}
 use Rattle.std.specs.List.{flat_map}
-use Rattle.std.proofs.lemmas.List.{at_drop_more}
+use Rattle.std.proofs.lemmas.List.{append-nil, at_drop_more}
 use Rattle.std.proofs.lemmas.List.FromFn.{length-map-range_with_len}
 use Rattle.std.proofs.lemmas.Bool.Decides.{nat_tests}
 use Rattle.smk_base.specs.declared.tree.Pair.{Pair}
@@ -63,6 +63,14 @@ texts_by false ls choices = length_combined ls [] choices
 
 pub length_texts : (zip : Bool) (choices : List Choices) (ls : List Letter) → length (texts zip choices ls) ≡ cond zip (rows ls choices) (count_of ls choices)
 length_texts zip choices ls = texts_by zip ls choices
+
+some_by : (n : ℕ) (v : Bool) → nat_lt 100_000 (suc n) ≡ v → cond v 100_001 (suc n) ≡ 0 → ⊥
+some_by n true e h = omega (arith, h)
+some_by n false e h = omega (arith, h)
+
+pub nothing_more : (made xs : List (List ℕ)) → limited (length xs) ≡ 0 → made ≡ made ++ xs
+nothing_more made [] h = sym (append-nil made)
+nothing_more made (x ∷ xs) h = absurd (some_by (length xs) (nat_lt 100_000 (suc (length xs))) refl h)
 
 -- ## Patterns in order
 

@@ -48,8 +48,8 @@ pub(crate) fn count(pieces: &[Piece], choices: &[Choices]) -> u64
     }
 }
 
-// What is bound, and the value under the name. What is bound is copied for each value, so that the values need no undoing. A name has
-// about as many texts below it as values, so the copies cost about as much as filling the texts: pairs are few, and each stands in them.
+// What is bound, and the value under the name. What is bound is copied, pair by pair. Each name of the pattern has a value when this is
+// called, so that a text follows from each copy: a text of n names costs at most n copies of at most n pairs.
 fn with_value(
     alloc: Global,
     bound: &List<Pair>,

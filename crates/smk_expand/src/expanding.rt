@@ -107,7 +107,8 @@ fn check(
     Ok(())
 }
 
-// Adds the texts of the pattern.
+// Adds the texts of the pattern. Where there are none, since a name has no values, the values of the others aren't gone through.
+#[tactic(auto, using(crate::proofs::Counts::nothing_more))]
 fn add_texts(
     texts: &mut List<Text>,
     alloc: Global,
@@ -117,6 +118,9 @@ fn add_texts(
 ) -> Result<(), OutOfMemory>
     ensures { OnOk result (texts.new ≡ texts.old ++ spec.texts zip choices.now (letters_of pieces.now)) }
 {
+    if count_texts(pieces, choices, zip) == 0 {
+        return Ok(());
+    }
     if zip {
         pair(texts, alloc, pieces, choices)
     } else {

@@ -30,8 +30,21 @@ directive_of w =
 abbrev pub begun : RuleForm → List ℕ → ℕ → RulePart
 begun form file line =
     record {
-      name = form.name; checkpoint = form.checkpoint; inputs = []; outputs = []; params = []; logs = []; threads = 1; amounts = []; words = [];
-      priority = 0; limits = []; default_target = false; command = None; file = file; line = line;
+      name = form.name;
+      checkpoint = form.checkpoint;
+      inputs = [];
+      outputs = [];
+      params = [];
+      logs = [];
+      threads = 1;
+      amounts = [];
+      words = [];
+      priority = 0;
+      limits = [];
+      default_target = false;
+      command = None;
+      file = file;
+      line = line;
     }
 
 -- the rule with what a directive of this word says

@@ -26,13 +26,7 @@ pub(crate) trait Takes: Drop {
     ghost taken: { List ℕ → Self → List ℕ → Value → Result Self ValueFault };
 
     /// With what the item of this name and value adds.
-    fn take(
-        self,
-        alloc: Global,
-        word: &Text,
-        name: &Text,
-        value: Value,
-    ) -> Result<Self, ValueFault>
+    fn take(self, alloc: Global, word: &Text, name: &Text, value: Value) -> Result<Self, ValueFault>
         ensures { Tells result (taken word.now self name.now value) };
 }
 
@@ -161,21 +155,11 @@ fn output(alloc: Global, word: &str, name: &Text, value: Value) -> Result<OutPar
     ensures { Tells result (spec.output word.now name.now value) }
 {
     match value {
-        Value::Word(text) => Ok(flagged(
-            alloc,
-            name,
-            [].as_slice(),
-            one(alloc, text)?.as_slice(),
-        )?),
+        Value::Word(text) => Ok(flagged(alloc, name, [].as_slice(), one(alloc, text)?.as_slice())?),
         Value::Many(texts) => Ok(flagged(alloc, name, [].as_slice(), texts.as_slice())?),
         Value::Flagged(inner) => {
             let flags = flags_of(alloc, inner.flags.as_slice())?;
-            Ok(flagged(
-                alloc,
-                name,
-                flags.as_slice(),
-                inner.texts.as_slice(),
-            )?)
+            Ok(flagged(alloc, name, flags.as_slice(), inner.texts.as_slice())?)
         }
         other => Err(refused(alloc, word, &other)),
     }
@@ -221,11 +205,7 @@ impl Takes for List<Values> {
 }
 
 // The texts with more after them.
-fn joined(
-    alloc: Global,
-    texts: List<Text>,
-    more: &[Text],
-) -> Result<List<Text>, OutOfMemory>
+fn joined(alloc: Global, texts: List<Text>, more: &[Text]) -> Result<List<Text>, OutOfMemory>
     ensures { IfOk result (λ all. all ≡ texts ++ more.now) }
 {
     let mut texts = texts;

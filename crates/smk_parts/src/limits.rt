@@ -80,11 +80,7 @@ fn others_than<'g>(
 }
 
 // The list with copies of these after it.
-fn joined(
-    alloc: Global,
-    own: List<Pair>,
-    more: &[&Pair],
-) -> Result<List<Pair>, OutOfMemory>
+fn joined(alloc: Global, own: List<Pair>, more: &[&Pair]) -> Result<List<Pair>, OutOfMemory>
     ensures { IfOk result (λ all. all ≡ own ++ all_lent more.now) }
 {
     let mut all = own;
@@ -95,11 +91,7 @@ fn joined(
 }
 
 // The rule's own constraints, and the others for all other names.
-fn with_others(
-    alloc: Global,
-    own: List<Pair>,
-    globals: &[Pair],
-) -> Result<List<Pair>, OutOfMemory>
+fn with_others(alloc: Global, own: List<Pair>, globals: &[Pair]) -> Result<List<Pair>, OutOfMemory>
     ensures { IfOk result (λ all. all ≡ own ++ spec.others own globals.now) }
 {
     let more = others_than(alloc, own.as_slice(), globals)?;

@@ -9,7 +9,9 @@ mod value;
 
 pub use evaluating::{Scope, value_of};
 pub use fault::ValueFault;
-pub use operators::{bad_flag, choice_values, expansion, flag, list_items, patterns, spelled, truth};
+pub use operators::{
+    bad_flag, choice_values, expansion, flag, list_items, patterns, spelled, truth,
+};
 pub use value::{Flagged, Gathered, Value};
 
 #[cfg(test)]
