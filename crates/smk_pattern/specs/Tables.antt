@@ -1,13 +1,19 @@
 -- What a table of vain tries says.
-use Rattle.std.specs.Prelude.{◌≡◌, ◌⊎◌, ℕ, ◌<◌, ◌≤◌, List, [], ◌∷◌, ◌++◌, length, get_or, map, Bool, true, false, Option}
+use Rattle.std.specs.Prelude.{◌≡◌, ◌⊎◌, ℕ, ◌<◌, ◌≤◌, List, [], ◌∷◌, ◌++◌, length, get_or, map, Bool, true, false, Option, nat_le, ◌&&◌, ◌-◌}
+use Rattle.std.specs.Global.{Global}
+use Rattle.std.specs.declared.vec.Vec.{Vec}
 use Rattle.smk_pattern.specs.declared.table.Vain.{Vain}
 use Rattle.smk_pattern.specs.Shapes.{Text, Part, IsNumbered}
 use Rattle.smk_pattern.specs.Shapes.Part.{text, wild}
 use Rattle.smk_pattern.specs.Searching.{RestFits}
 
+-- the row has a sign for so many bytes
+abbrev pub is_signed : List (Vec Bool Global) → ℕ → ℕ → Bool
+is_signed rows row bytes = get_or (get_or (map (λ (r : Vec Bool Global). r.items) rows) row []) bytes false
+
 -- so many parts were tried in vain on the last so many bytes
 abbrev pub is_vain : Vain → ℕ → ℕ → Bool
-is_vain vain parts bytes = get_or (get_or (map (λ row. row.items) vain.rows.items) parts []) bytes false
+is_vain vain parts bytes = nat_le parts vain.from && is_signed vain.rows.items (vain.from - parts) bytes
 
 -- each wildcard of these parts is one of the first so many, or has no value yet where so many have one
 abbrev pub IsApart : ℕ → ℕ → List Part → Type 0

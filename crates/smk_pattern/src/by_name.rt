@@ -61,10 +61,7 @@ fn add_name<'t>(names: &mut Names<'t>, piece: &Written<'t>) -> Result<(), OutOfM
 }
 
 /// The names, each where it first stands.
-pub(crate) fn names_in<'t>(
-    alloc: Global,
-    written: &[Written<'t>],
-) -> Result<Names<'t>, OutOfMemory>
+pub(crate) fn names_in<'t>(alloc: Global, written: &[Written<'t>]) -> Result<Names<'t>, OutOfMemory>
     ensures { IfOk result (λ names. AreNames names (names_in (all_written written.now))) }
 {
     let mut names = Names {
@@ -88,10 +85,7 @@ pub(crate) fn place_of(name: &str, names: &Names<'_>) -> usize
 }
 
 /// The text that is kept under the name.
-pub(crate) fn text_at<'t>(
-    texts: &BTreeMap<&'t str, &'t str>,
-    name: &str,
-) -> Option<&'t str>
+pub(crate) fn text_at<'t>(texts: &BTreeMap<&'t str, &'t str>, name: &str) -> Option<&'t str>
     ensures { option_map (λ t. t.now) result ≡ text_at texts.now name.now }
 {
     match texts.get(name) {
@@ -201,10 +195,7 @@ pub(crate) fn all_limits<'t>(
 }
 
 // Keeps the value of the pair under its name, where nothing is kept under it.
-fn add_value<'t>(
-    texts: &mut BTreeMap<&'t str, &'t str>,
-    pair: &'t Pair,
-) -> Result<(), OutOfMemory>
+fn add_value<'t>(texts: &mut BTreeMap<&'t str, &'t str>, pair: &'t Pair) -> Result<(), OutOfMemory>
     ensures { OnOk result ((q : List ℕ) → text_at texts.new q ≡ or_text (text_at texts.old q) (given_limit q (pair.now ∷ []))) }
 {
     let name = pair.name.as_str();

@@ -172,7 +172,7 @@ fn fits_search(
     let behind = pieces_behind(alloc, pieces, wildcards.len())?;
     let mut testers = testers(alloc, wildcards)?;
     let mut values = Vec::new(alloc);
-    let mut vain = Vain::new(alloc);
+    let mut vain = Vain::new(alloc, pieces.len());
     if !search(
         alloc,
         &mut vain,

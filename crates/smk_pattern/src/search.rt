@@ -172,7 +172,7 @@ fn anew<'p>(
     let mut ahead = pieces;
     let mut rest = text;
     'tables: loop {
-        let mut fresh = Vain::new(alloc);
+        let mut fresh = Vain::new(alloc, ahead.len());
         match walk(alloc, &mut fresh, ahead, behind, testers, rest, values)? {
             Stop::Ended(found) => return Ok(found),
             Stop::Again(later, after) => {
@@ -363,7 +363,7 @@ fn with_value<'p>(
         → Keeps given (parts_of later.now) testers.old text.now vain.old vain.new) }
 {
     if again {
-        let mut fresh = Vain::new(alloc);
+        let mut fresh = Vain::new(alloc, later.len());
         search(alloc, &mut fresh, later, behind, testers, text, values)
     } else {
         search(alloc, vain, later, behind, testers, text, values)

@@ -1,24 +1,26 @@
 //! What was tried in vain.
 
 ghost use Rattle.std.specs.Prelude.{◌≡◌, ◌⊎◌, ℕ, get_or, true, false};
-ghost use Rattle.smk_pattern.specs.Tables.{is_vain};
+ghost use Rattle.smk_pattern.specs.Tables.{is_vain, is_signed};
 
 use smk_base::OutOfMemory;
 use std::alloc::Global;
 
-/// The ends of a pattern that were tried in vain on ends of a path: for each count of pieces a row with a sign for each count of
-/// bytes. Rows grow as they are needed.
+/// The ends of a pattern that were tried in vain on ends of a path: for each count of pieces, from a greatest one down, a row with a
+/// sign for each count of bytes. Rows grow as they are needed, so a table takes as many as pieces are gone over with it.
 #[derive(Drop)]
 pub(crate) struct Vain {
+    from: usize,
     rows: Vec<Vec<bool>>,
 }
 
 impl Vain {
-    /// A table in which nothing is noted, which takes no memory.
-    pub(crate) fn new(alloc: Global) -> Vain
+    /// A table for at most so many pieces, in which nothing is noted, which takes no memory.
+    pub(crate) fn new(alloc: Global, from: usize) -> Vain
         ensures { (parts bytes : ℕ) → is_vain result parts bytes ≡ false }
     {
         Vain {
+            from,
             rows: Vec::new(alloc),
         }
     }
@@ -27,16 +29,10 @@ impl Vain {
     pub(crate) fn has(&self, pieces: usize, bytes: usize) -> bool
         ensures { result ≡ is_vain self.now pieces bytes }
     {
-        match self.rows.get(pieces) {
-            Some(row) => match row.get(bytes) {
-                Some(noted) => *noted,
-                None => false,
-            },
-            None => false,
-        }
+        pieces <= self.from && is_signed(&self.rows, self.from - pieces, bytes)
     }
 
-    /// Notes that so many pieces were tried in vain on the last so many bytes.
+    /// Notes that so many pieces were tried in vain on the last so many bytes, where the table is for so many.
     pub(crate) fn note(
         &mut self,
         alloc: Global,
@@ -46,15 +42,44 @@ impl Vain {
         ensures { (parts left : ℕ) → is_vain self.new parts left ≡ true
             → (is_vain self.old parts left ≡ true) ⊎ ((parts ≡ pieces) × (left ≡ bytes)) }
     {
-        for _ in self.rows.len()..pieces.saturating_add(1) {
-            self.rows.push(Vec::new(alloc))?;
+        if pieces > self.from {
+            return Ok(());
         }
-        if pieces < self.rows.len() {
-            let row = &mut self.rows[pieces];
-            sign(row, bytes)?;
-        }
-        Ok(())
+        sign_row(alloc, &mut self.rows, self.from - pieces, bytes)
     }
+}
+
+// Whether the row is signed for so many bytes.
+fn is_signed(rows: &[Vec<bool>], row: usize, bytes: usize) -> bool
+    ensures { result ≡ is_signed rows.now row bytes }
+{
+    match rows.get(row) {
+        Some(row) => match row.get(bytes) {
+            Some(noted) => *noted,
+            None => false,
+        },
+        None => false,
+    }
+}
+
+// Signs this row for so many bytes.
+fn sign_row(
+    alloc: Global,
+    rows: &mut Vec<Vec<bool>>,
+    row: usize,
+    bytes: usize,
+) -> Result<(), OutOfMemory>
+    ensures { (other left : ℕ) → is_signed rows.new.items other left ≡ true
+        → (is_signed rows.old.items other left ≡ true) ⊎ ((other ≡ row) × (left ≡ bytes)) }
+{
+    for _ in rows.len()..row.saturating_add(1) {
+        rows.push(Vec::new(alloc))?;
+    }
+    if row < rows.len() {
+        let signs = &mut rows[row];
+        sign(signs, bytes)?;
+    }
+    Ok(())
 }
 
 // Signs the row for so many bytes.

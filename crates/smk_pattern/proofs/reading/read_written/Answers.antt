@@ -116,6 +116,8 @@ returns-in_err-wildcards_in-clause-bad_constraint c = λ name e.
     let list = ap now_of c.deref-5.ensures.value ∙ names.list in
     let r = rw e at c.from_residual-in_err-wildcards_in.ensures in
     let bad = c.in_err-wildcards_in.ensures.bad name (let q = r.1 in cc) in
-    let good : is_written text ≡ true = sym c.in_ok-is_good.ensures ∙ c.if-not-branch.false in
-    (good, same_bad (text_at c.in_ok-constraints.constraints) (λ name. limit_for limits name (inline_limits name (pieces text))) (names_in (pieces text)) name agree
-    (subst (λ (ns : List Text). IsFirstBad (text_at c.in_ok-constraints.constraints) ns name) list bad))
+    let good : is_written text ≡ true = sym c.in_ok-is_good.ensures ∙ c.if-not-branch.false in (
+      good,
+      same_bad (text_at c.in_ok-constraints.constraints) (λ name. limit_for limits name (inline_limits name (pieces text))) (names_in (pieces text)) name agree
+          (subst (λ (ns : List Text). IsFirstBad (text_at c.in_ok-constraints.constraints) ns name) list bad),
+    )

@@ -1,41 +1,30 @@
-use Rattle.std.proofs.Common.{◌≡◌, ℕ, zero, suc, List, [], ◌∷◌, ◌++◌, get_or, map, set, length, Bool, true, false, refl, sym, ap, ◌∙◌, Vec, Global, ◌<◌, ◌⊎◌, inl, inr, ⊎_elim, arith}
-use Rattle.std.proofs.lemmas.List.{map_push}
+use Rattle.std.proofs.Common.{◌≡◌, ℕ, ◌-◌, ◌<◌, ◌≤◌, ◌⊎◌, ◌&&◌, inl, inr, ⊎_elim, Bool, true, false, refl, sym, nat_le, true≢false, arith}
+use Rattle.std.proofs.lemmas.Bool.Decides.{nat_tests}
+use Rattle.smk_pattern.specs.Tables.{is_signed}
 use Rattle.smk_pattern.proofs.table.Vain.note.Goals as goal
 
-pushed_default : {A : Type 0} (xs : List A) (d : A) (n : ℕ) → get_or (xs ++ d ∷ []) n d ≡ get_or xs n d
-pushed_default [] d zero = refl
-pushed_default [] d (suc n) = refl
-pushed_default (x ∷ xs) d zero = refl
-pushed_default (x ∷ xs) d (suc n) = pushed_default xs d n
+both : (a b : Bool) → a && b ≡ true → (a ≡ true) × (b ≡ true)
+both true b e = (refl, e)
+both false b e = absurd (true≢false (sym e))
 
-rows_push : (rows new : List (Vec Bool Global)) (v : Vec Bool Global) (parts left : ℕ) → new ≡ rows ++ v ∷ [] → v.items ≡ [] →
-    get_or (get_or (map (λ (row : Vec Bool Global). row.items) new) parts []) left false ≡ get_or (get_or (map (λ (row : Vec Bool Global). row.items) rows) parts []) left false
-rows_push rows new v parts left e f =
-    rw (e, map_push (λ (row : Vec Bool Global). row.items) rows v, f)
-    (ap (λ (r : List Bool). get_or r left false) (pushed_default (map (λ (row : Vec Bool Global). row.items) rows) [] parts))
+either : (a b : Bool) → a ≡ true → b ≡ true → a && b ≡ true
+either true b e f = f
+either false b e f = absurd (true≢false (sym e))
 
-pub loop-preserved : goal.loop-preserved
-loop-preserved c = λ parts left.
-    rows_push _ _ c.new.result parts left c.in_ok-push.ensures.items c.new.ensures.items ∙ c.loop.invariant parts left
+at_most : (m n : ℕ) → nat_le m n ≡ true → m ≤ n
+at_most m n e = grind (arith, nat_tests)
 
-signed : (rows : List (Vec Bool Global)) (old new : Vec Bool Global) (pieces bytes : ℕ) → old ≡ get_or rows pieces old → pieces < length rows →
-    ((left : ℕ) → get_or new.items left false ≡ true → (get_or old.items left false ≡ true) ⊎ (left ≡ bytes)) → (parts left : ℕ) →
-    get_or (get_or (map (λ (row : Vec Bool Global). row.items) (set rows pieces new)) parts []) left false ≡ true →
-    (get_or (get_or (map (λ (row : Vec Bool Global). row.items) rows) parts []) left false ≡ true) ⊎ ((parts ≡ pieces) × (left ≡ bytes))
-signed [] old new pieces bytes e lt h parts left t = absurd (omega (arith, lt))
-signed (r ∷ rows) old new zero bytes e lt h zero left t =
-    ⊎_elim (λ was. inl (ap (λ (v : Vec Bool Global). get_or v.items left false) (sym e) ∙ was)) (λ now. inr (refl, now)) (h left t)
-signed (r ∷ rows) old new zero bytes e lt h (suc parts) left t = inl t
-signed (r ∷ rows) old new (suc pieces) bytes e lt h zero left t = inl t
-signed (r ∷ rows) old new (suc pieces) bytes e lt h (suc parts) left t =
-    ⊎_elim (λ was. inl was) (λ now. inr (ap (λ n. suc n) now.0, now.1)) (signed rows old new pieces bytes e (omega (arith, lt)) h parts left t)
+noted : (old new : ℕ → ℕ → Bool) (from pieces bytes : ℕ) → pieces ≤ from →
+    ((other left : ℕ) → new other left ≡ true → (old other left ≡ true) ⊎ ((other ≡ from - pieces) × (left ≡ bytes))) → (parts left : ℕ) →
+    nat_le parts from && new (from - parts) left ≡ true → (nat_le parts from && old (from - parts) left ≡ true) ⊎ ((parts ≡ pieces) × (left ≡ bytes))
+noted old new from pieces bytes le h parts left e =
+    let b = both (nat_le parts from) (new (from - parts) left) e in
+    let within = at_most parts from b.0 in
+    ⊎_elim
+    (λ was. inl (either (nat_le parts from) (old (from - parts) left) b.0 was))
+    (λ now. let same = now.0 in inr (omega (arith, le, within, same), now.1))
+    (h (from - parts) left b.1)
 
-pub returns-in_err-sign : goal.returns-in_err-sign
-returns-in_err-sign c = λ parts left t.
-    ⊎_elim (λ was. inl (sym (c.loop.invariant parts left) ∙ was)) (λ now. inr now)
-    (signed c.loop.self.rows.items c.index_mut-row.result.now c.sign.new.row c.args.pieces c.args.bytes c.index_mut-row.ensures.value (omega (arith, c.loop.self.rows.ok.0)) c.sign.ensures parts left t)
-
-pub returns-in_ok-sign : goal.returns-in_ok-sign
-returns-in_ok-sign c = λ parts left t.
-    ⊎_elim (λ was. inl (sym (c.loop.invariant parts left) ∙ was)) (λ now. inr now)
-    (signed c.loop.self.rows.items c.index_mut-row.result.now c.sign.new.row c.args.pieces c.args.bytes c.index_mut-row.ensures.value (omega (arith, c.loop.self.rows.ok.0)) c.sign.ensures parts left t)
+pub returns : goal.returns
+returns c =
+    noted (is_signed c.args.self.now.rows.items) (is_signed c.sign_row.new.rows.items) c.args.self.now.from c.args.pieces c.args.bytes (omega arith) c.sign_row.ensures
