@@ -3,3 +3,4 @@ pub mod Told
 pub mod Heights
 pub mod Readings
 pub mod Reach
+pub mod Decided

@@ -4,6 +4,7 @@
 mod binding;
 mod candidates;
 mod choice;
+mod decide;
 mod heights;
 mod nodes;
 mod precedence;
