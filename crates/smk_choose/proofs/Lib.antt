@@ -8,3 +8,4 @@ mod Listed
 mod Growing
 mod Spanning
 mod Deep
+mod Deciding

@@ -150,7 +150,7 @@ fn lack_by(
     rule: u32,
     missing: Option<&Want>,
 ) -> Result<Option<Lack>, OutOfMemory>
-    ensures { IfOk result (λ lack. lack ≡ lack_by paths.now rule (option_map (λ w. w.now) missing)) }
+    ensures { IfOk result (λ lack. lack ≡ lack_by paths.now rule (option_map (λ w. w.now) missing.entry)) }
 {
     match missing {
         Some(want) => {
