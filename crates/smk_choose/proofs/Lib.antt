@@ -9,3 +9,4 @@ mod Growing
 mod Spanning
 mod Deep
 mod Deciding
+mod Covering
