@@ -10,3 +10,4 @@ mod Spanning
 mod Deep
 mod Deciding
 mod Covering
+mod Wholes

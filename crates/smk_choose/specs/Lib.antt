@@ -4,3 +4,4 @@ pub mod Heights
 pub mod Readings
 pub mod Reach
 pub mod Decided
+pub mod Whole

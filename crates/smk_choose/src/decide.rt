@@ -2,7 +2,7 @@
 
 ghost use Rattle.std.specs.Prelude.{◌≡◌, ◌++◌, ◌∷◌, ◌||◌, ◌==◌, [], None, option_map, IfOk, OnOk};
 ghost use Rattle.std.specs.List.{list_all};
-ghost use Rattle.smk_choose.specs.Heights.{want_in};
+ghost use Rattle.smk_choose.specs.Heights.{is_within, want_in};
 ghost use Rattle.smk_choose.specs.Decided.{goes_before, leads_from, leader_from, is_deep_enough, viable_way, viable_in, text_of, lack_by, first_missing, lack_in, choice_in, choice_among, chosen_by};
 
 use crate::heights::{want_height, way_height};
@@ -72,14 +72,21 @@ fn copy_of(alloc: Global, made: &Making) -> Result<Making, OutOfMemory>
     })
 }
 
+// Whether what has this height is available at depth 199.
+fn is_within_199(height: Option<u64>) -> bool
+    ensures { result ≡ is_within 199 height }
+{
+    match height {
+        Some(height) => height <= 199,
+        None => false,
+    }
+}
+
 // Whether all that the way wants is available at depth 199.
 fn is_viable(heights: &[Option<u64>], way: &Way) -> bool
     ensures { result ≡ list_all (want_in (is_deep_enough heights.now)) way.now.wants }
 {
-    match way_height(heights, way) {
-        Some(height) => height <= 199,
-        None => false,
-    }
+    is_within_199(way_height(heights, way))
 }
 
 // Adds the job of the way, if it is viable.
@@ -125,10 +132,7 @@ fn text_of(alloc: Global, paths: &[PathText], want: &Want) -> Result<Text, OutOf
 fn is_there(heights: &[Option<u64>], want: &Want) -> bool
     ensures { result ≡ want_in (is_deep_enough heights.now) want.now }
 {
-    match want_height(heights, want) {
-        Some(height) => height <= 199,
-        None => false,
-    }
+    is_within_199(want_height(heights, want))
 }
 
 // The first of these wants that isn't available at depth 199.

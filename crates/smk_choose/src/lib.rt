@@ -12,8 +12,10 @@ mod reach;
 mod readings;
 mod sources;
 mod table;
+mod whole;
 
 pub use choice::{Choice, Chosen, Lack, Making};
 pub use precedence::precedes;
 pub use sources::{Sources, Standing};
 pub use table::Choices;
+pub use whole::choose;
