@@ -11,11 +11,11 @@ use Rattle.smk_choose.specs.Told.{told_choice}
 use Rattle.smk_choose.specs.Whole.{whole_choice, IsWhole}
 use Rattle.smk_choose.proofs.Listed.{Placed, all_filter, candidates_placed}
 
-PlacedIn : List RulePart → Option (ℕ × Candidate) → Type 0
+abbrev PlacedIn : List RulePart → Option (ℕ × Candidate) → Type 0
 PlacedIn rules None = Unit {0}
 PlacedIn rules (Some e) = Placed rules e.1
 
-PlacedChoice : List RulePart → Choice → Type 0
+abbrev PlacedChoice : List RulePart → Choice → Type 0
 PlacedChoice rules Source = Unit {0}
 PlacedChoice rules (Make c) = Placed rules c
 PlacedChoice rules (Nothing l) = Unit {0}
