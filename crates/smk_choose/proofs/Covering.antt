@@ -10,7 +10,6 @@ use Rattle.smk_flow.specs.Flows.{Flow, Candidate, first_wants}
 use Rattle.smk_choose.specs.declared.nodes.Want.{Want}
 use Rattle.smk_choose.specs.declared.nodes.Want.TheVariants as want
 use Rattle.smk_choose.specs.declared.nodes.Way.{Way}
-use Rattle.smk_choose.specs.declared.nodes.Node.{Node}
 use Rattle.smk_choose.specs.declared.reach.Reach.{Reach}
 use Rattle.smk_choose.specs.declared.choice.Chosen.{Chosen}
 use Rattle.smk_choose.specs.declared.table.Choices.{Choices}
@@ -83,8 +82,7 @@ module _ (flow : Flow) (sources : Sources) (r : Reach) (end : ℕ) (table : Choi
   pub all_covered : (old : Reach) → Grows old r → (k : ℕ) → ((n : ℕ) → n < length old.paths.items → Within sources r end k n) →
       (ps : List Path) → AllByRecursion (HasNumber old.paths.items) ps → CoversAll flow sources table (suc k) ps
   all_covered old g k within [] all = tt
-  all_covered old g k within (p ∷ ps) all =
-      (
-        subst (Covers flow sources table (suc k)) (path_stays flow sources old r g all.0.0 all.0.1 ∙ all.0.2) (covered k all.0.0 (within all.0.0 all.0.1)),
-        all_covered old g k within ps all.1,
-      )
+  all_covered old g k within (p ∷ ps) all = (
+    subst (Covers flow sources table (suc k)) (path_stays flow sources old r g all.0.0 all.0.1 ∙ all.0.2) (covered k all.0.0 (within all.0.0 all.0.1)),
+    all_covered old g k within ps all.1,
+  )

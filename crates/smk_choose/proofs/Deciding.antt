@@ -1,9 +1,8 @@
 -- The choice by numbers is the choice of the definition.
-use Rattle.std.proofs.Common.{◌≡◌, ℕ, zero, suc, ◌+◌, ◌<◌, ◌&&◌, ◌||◌, ◌==◌, not, Bool, true, false, cond, List, [], ◌∷◌, ◌++◌, map, filter, length, Option, Some, None, option_map, slice_get, refl, sym, ap, ap₂, ◌∙◌}
+use Rattle.std.proofs.Common.{◌≡◌, ℕ, ◌+◌, ◌&&◌, ◌||◌, ◌==◌, not, Bool, true, false, cond, List, [], ◌∷◌, ◌++◌, map, filter, Option, Some, None, option_map, refl, sym, ap, ap₂, ◌∙◌}
 use Rattle.std.specs.List.{list_all, find, enumerate_from, AllByRecursion}
 use Rattle.smk_world.specs.Trees.{Path}
 use Rattle.smk_pattern.specs.Shapes.{Text}
-use Rattle.smk_flow.specs.declared.rule.RulePart.{RulePart}
 use Rattle.smk_flow.specs.PatternsOf.{rule_of}
 use Rattle.smk_flow.specs.Flows.{Flow, Candidate, first_wants}
 use Rattle.smk_choose.specs.declared.nodes.Want.{Want}
@@ -12,14 +11,13 @@ use Rattle.smk_choose.specs.declared.nodes.Way.{Way}
 use Rattle.smk_choose.specs.declared.nodes.Node.{Node}
 use Rattle.smk_choose.specs.declared.reach.Reach.{Reach}
 use Rattle.smk_choose.specs.declared.choice.Making.{Making}
-use Rattle.smk_choose.specs.declared.choice.Lack as lacking
 use Rattle.smk_choose.specs.declared.choice.Chosen.{Chosen}
 use Rattle.smk_choose.specs.declared.choice.Chosen.TheVariants as told
-use Rattle.smk_choose.specs.Choose.{Sources, Choice, Lack, candidates, avail, precedes, is_viable, viable, lack, lack_of_first, leader, choice, choose, Source, Make, Nothing, Ambiguous}
+use Rattle.smk_choose.specs.Choose.{Sources, Choice, Lack, candidates, avail, precedes, is_viable, viable, lack_of_first, leader, choice, choose, Source}
 use Rattle.smk_choose.specs.Told.{making, lack_told, told_choice}
-use Rattle.smk_choose.specs.Heights.{want_in, node_at}
-use Rattle.smk_choose.specs.Reach.{path_at, IsWant, AreWants, AreWays, AllPaths, Spans}
-use Rattle.smk_choose.specs.Decided.{precedes_in, goes_before, leads_from, leader_from, viable_way, viable_in, text_of, lack_by, first_missing, lack_in, choice_in, choice_among, chosen_by}
+use Rattle.smk_choose.specs.Heights.{node_at}
+use Rattle.smk_choose.specs.Reach.{path_at, AreWants, AreWays, AllPaths, Spans}
+use Rattle.smk_choose.specs.Decided.{precedes_in, goes_before, leads_from, leader_from, viable_in, text_of, lack_by, first_missing, lack_in, choice_in, choice_among, chosen_by}
 use Rattle.smk_choose.proofs.Deep.{no_path, wants_same, ways_each}
 use Rattle.smk_choose.proofs.Listed.{Placed, at_rule, all_filter, candidates_placed}
 

@@ -8,11 +8,10 @@ use Rattle.smk_flow.specs.Flows.{Flow, Candidate, first_wants}
 use Rattle.smk_choose.specs.declared.nodes.Want.{Want}
 use Rattle.smk_choose.specs.declared.nodes.Want.TheVariants as want
 use Rattle.smk_choose.specs.declared.nodes.Way.{Way}
-use Rattle.smk_choose.specs.declared.nodes.Node.{Node}
 use Rattle.smk_choose.specs.declared.reach.Reach.{Reach}
 use Rattle.smk_choose.specs.Choose.{Sources, candidates, avail}
-use Rattle.smk_choose.specs.Heights.{want_in, next, reached, node_at}
-use Rattle.smk_choose.specs.Reach.{path_at, IsWant, AreWants, AreWays, AreNumbered, AllPaths, Spans}
+use Rattle.smk_choose.specs.Heights.{want_in, reached, node_at}
+use Rattle.smk_choose.specs.Reach.{path_at, AreWants, AreWays, AreNumbered, AllPaths, Spans}
 
 pub no_path : (flow : Flow) (sources : Sources) (m : ℕ) (t : Text) → is_path t ≡ false → avail flow sources m t ≡ false
 no_path flow sources zero t e = ap (λ b. b && sources.is t) e

@@ -1,5 +1,5 @@
 -- The job of a choice is the one that its rule declares.
-use Rattle.std.proofs.Common.{◌≡◌, Result, Ok, Err, IfOk, ℕ, zero, suc, ◌+◌, Bool, true, false, cond, List, [], ◌∷◌, Option, Some, None, slice_get, refl, sym, ap, subst, ◌∙◌}
+use Rattle.std.proofs.Common.{◌≡◌, Result, Ok, Err, IfOk, ℕ, ◌+◌, Bool, true, false, cond, List, [], ◌∷◌, Option, Some, None, subst}
 use Rattle.std.specs.List.{find, enumerate_from, AllByRecursion}
 use Rattle.smk_world.specs.Trees.{Path}
 use Rattle.smk_flow.specs.declared.rule.RulePart.{RulePart}

@@ -1,7 +1,7 @@
 -- Choices with whole jobs.
-use Rattle.std.specs.Prelude.{◌≡◌, ℕ, Option, Some, None, option_map, slice_get}
+use Rattle.std.specs.Prelude.{◌≡◌, Some, option_map, slice_get}
 use Rattle.smk_flow.specs.declared.rule.RulePart.{RulePart}
-use Rattle.smk_flow.specs.Flows.{Flow, Candidate}
+use Rattle.smk_flow.specs.Flows.{Flow}
 use Rattle.smk_flow.specs.Jobs.{declared_job}
 use Rattle.smk_choose.specs.declared.choice.Choice as whole
 use Rattle.smk_choose.specs.declared.choice.Choice.TheVariants as made

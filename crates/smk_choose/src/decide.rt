@@ -184,11 +184,7 @@ fn lack_in(
 }
 
 // The choice where no job goes before all others.
-fn without_leader(
-    alloc: Global,
-    all: &[Making],
-    lack: Option<Lack>,
-) -> Result<Chosen, OutOfMemory>
+fn without_leader(alloc: Global, all: &[Making], lack: Option<Lack>) -> Result<Chosen, OutOfMemory>
     ensures { IfOk result (λ made. made ≡ choice_in None all.now lack) }
 {
     match all {

@@ -57,7 +57,14 @@ fn first_choices(
     let rules = flow.rules().as_slice();
     let mut kept = BTreeMap::new(alloc);
     for number in 0..end {
-        let choice = chosen(alloc, flow, rules, &reach.paths, heights, &reach.nodes[number])?;
+        let choice = chosen(
+            alloc,
+            flow,
+            rules,
+            &reach.paths,
+            heights,
+            &reach.nodes[number],
+        )?;
         put(alloc, &mut kept, &reach.paths[number], choice)?;
     }
     Ok(kept)

@@ -1,4 +1,4 @@
-use Rattle.std.proofs.Common.{◌≡◌, ◌<◌, ◌∙◌, List, [], map, sym, ap, arith}
+use Rattle.std.proofs.Common.{◌∙◌, List, [], map, sym, ap, arith}
 use Rattle.std.specs.BTreeMap.{get_by_text}
 use Rattle.std.proofs.lemmas.List.{get_or_read}
 use Rattle.smk_world.specs.Trees.{Path}

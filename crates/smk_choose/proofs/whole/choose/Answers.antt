@@ -1,8 +1,7 @@
-use Rattle.std.proofs.Common.{◌≡◌, ◌∙◌, List, [], ◌∷◌, Some, option_map, sym, ap, subst}
+use Rattle.std.proofs.Common.{◌≡◌, ◌∙◌, List, [], ◌∷◌, option_map, sym, ap, subst}
 use Rattle.smk_world.specs.Trees.{Path}
-use Rattle.smk_choose.specs.declared.choice.Choice as whole
 use Rattle.smk_choose.specs.Choose.{choose}
-use Rattle.smk_choose.specs.Told.{told_by, told_choice, CoversAll}
+use Rattle.smk_choose.specs.Told.{told_by, CoversAll}
 use Rattle.smk_choose.specs.Whole.{whole_choice, IsWhole}
 use Rattle.smk_choose.proofs.Wholes.{whole_is, if_map}
 use Rattle.smk_choose.proofs.whole.choose.Goals as goal

@@ -1,4 +1,4 @@
-use Rattle.std.proofs.Common.{◌≡◌, ◌∙◌, ℕ, List, Option, ap, subst, arith}
+use Rattle.std.proofs.Common.{◌∙◌, ℕ, List, Option, ap, subst, arith}
 use Rattle.std.specs.List.{AllByRecursion}
 use Rattle.smk_world.specs.Trees.{Path}
 use Rattle.smk_choose.specs.Choose.{choose}
