@@ -8,13 +8,12 @@ use Rattle.smk_flow.specs.Flows.{Flow, Candidate, first_wants}
 use Rattle.smk_choose.specs.declared.nodes.Want.{Want}
 use Rattle.smk_choose.specs.declared.nodes.Want.TheVariants as want
 use Rattle.smk_choose.specs.declared.nodes.Way.{Way}
-use Rattle.smk_choose.specs.declared.nodes.Node.{Node}
 use Rattle.smk_choose.specs.declared.reach.Reach.{Reach}
 use Rattle.smk_choose.specs.Choose.{Sources, candidates, avail}
-use Rattle.smk_choose.specs.Heights.{want_in, next, reached, node_at}
-use Rattle.smk_choose.specs.Reach.{path_at, IsWant, AreWants, AreWays, AreNumbered, AllPaths, Spans}
+use Rattle.smk_choose.specs.Heights.{want_in, reached, node_at}
+use Rattle.smk_choose.specs.Reach.{path_at, AreWants, AreWays, AreNumbered, AllPaths, Spans}
 
-no_path : (flow : Flow) (sources : Sources) (m : ℕ) (t : Text) → is_path t ≡ false → avail flow sources m t ≡ false
+pub no_path : (flow : Flow) (sources : Sources) (m : ℕ) (t : Text) → is_path t ≡ false → avail flow sources m t ≡ false
 no_path flow sources zero t e = ap (λ b. b && sources.is t) e
 no_path flow sources (suc m) t e = ap (λ b. elim b as (λ _. Bool) [
   | false ↦ false
@@ -31,7 +30,7 @@ at_path flow sources m p s e f =
     ]) e
     ∙ ap (λ b. elim b as (λ _. Bool) [ true ↦ true | false ↦ list_any (λ c. list_all (avail flow sources m) (first_wants flow c)) (candidates flow sources p) ]) f
 
-wants_same : (flow : Flow) (sources : Sources) (m : ℕ) (these : ℕ → Bool) (paths : List Path) (ws : List Want) (ts : List Text) → AreWants paths ws ts →
+pub wants_same : (flow : Flow) (sources : Sources) (m : ℕ) (these : ℕ → Bool) (paths : List Path) (ws : List Want) (ts : List Text) → AreWants paths ws ts →
     AllPaths (λ j. these j ≡ avail flow sources m (path_at paths j)) ws → list_all (want_in these) ws ≡ list_all (avail flow sources m) ts
 wants_same flow sources m these paths [] [] are all = refl
 wants_same flow sources m these paths [] (t ∷ ts) are all = absurd are
@@ -55,7 +54,7 @@ wants_each P Q f [] all = tt
 wants_each P Q f (want.Path n ∷ ws) all = (f n all.0, wants_each P Q f ws all.1)
 wants_each P Q f (want.NoPath s ∷ ws) all = wants_each P Q f ws all
 
-ways_each : (P Q : ℕ → Type 0) → ((j : ℕ) → P j → Q j) → (ws : List Way) → AllByRecursion (λ (w : Way). AllPaths P w.wants) ws → AllByRecursion (λ (w : Way). AllPaths Q w.wants) ws
+pub ways_each : (P Q : ℕ → Type 0) → ((j : ℕ) → P j → Q j) → (ws : List Way) → AllByRecursion (λ (w : Way). AllPaths P w.wants) ws → AllByRecursion (λ (w : Way). AllPaths Q w.wants) ws
 ways_each P Q f [] all = tt
 ways_each P Q f (w ∷ ws) all = (wants_each P Q f w.wants all.0, ways_each P Q f ws all.1)
 

@@ -8,3 +8,6 @@ mod Listed
 mod Growing
 mod Spanning
 mod Deep
+mod Deciding
+mod Covering
+mod Wholes

@@ -148,10 +148,10 @@ or_both (c ∷ a) b = refl
 
 -- ---- each candidate's rule is at its number
 
-abbrev Placed : List RulePart → Candidate → Type 0
+abbrev pub Placed : List RulePart → Candidate → Type 0
 Placed rules c = slice_get rules c.rule ≡ Some c.part
 
-abbrev PlacedRule : List RulePart → ℕ × RulePart → Type 0
+abbrev pub PlacedRule : List RulePart → ℕ × RulePart → Type 0
 PlacedRule rules r = slice_get rules r.0 ≡ Some r.1
 
 at_place : (before : List RulePart) (r : RulePart) (after : List RulePart) → slice_get (before ++ r ∷ after) (length before) ≡ Some r
@@ -163,7 +163,7 @@ all_placed all before [] n e f = tt
 all_placed all before (r ∷ rules) n e f =
     (ap₂ slice_get e f ∙ at_place before r rules, all_placed all (before ++ r ∷ []) rules (n + 1) (e ∙ sym (append_assoc before (r ∷ []) rules)) (omega (arith, f, length_push before r)))
 
-all_filter : {A : Type 0} (P : A → Type 0) (p : A → Bool) (xs : List A) → AllByRecursion P xs → AllByRecursion P (filter p xs)
+pub all_filter : {A : Type 0} (P : A → Type 0) (p : A → Bool) (xs : List A) → AllByRecursion P xs → AllByRecursion P (filter p xs)
 all_filter P p [] all = tt
 all_filter P p (x ∷ xs) all = go (p x) (all_filter P p xs all.1)
   where
@@ -216,7 +216,7 @@ all_free : {A : Type 0} (holds : Path → Bool) (binding : List Pair) (t : A →
 all_free holds binding t s same [] = refl
 all_free holds binding t s same (x ∷ xs) = ap₂ ◌&&◌ (ap (λ q. is_path q && not (holds q)) (sym (same x))) (all_free holds binding t s same xs)
 
-at_rule : (rules : List RulePart) (n : ℕ) (part : RulePart) → slice_get rules n ≡ Some part → slice_get (map rule_of rules) n ≡ Some (rule_of part)
+pub at_rule : (rules : List RulePart) (n : ℕ) (part : RulePart) → slice_get rules n ≡ Some part → slice_get (map rule_of rules) n ≡ Some (rule_of part)
 at_rule [] n part e = absurd (none part e)
   where
     none : (x : RulePart) → None ≡ Some x → ⊥

@@ -1,8 +1,8 @@
 -- How many levels of what is wanted are known.
-use Rattle.std.proofs.Common.{◌≡◌, ℕ, suc, ◌+◌, ◌<◌, ◌≤◌, ⊎_elim, Result, Ok, Err, OnOk, List, [], ◌∷◌, ◌++◌, length, sym, ap, subst, ◌∙◌, arith}
+use Rattle.std.proofs.Common.{◌≡◌, ℕ, zero, suc, ◌+◌, ◌<◌, ◌≤◌, ⊎_elim, Result, Ok, Err, OnOk, IfOk, Some, None, List, [], ◌∷◌, ◌++◌, take, get_or, length, sym, ap, subst, ◌∙◌, arith}
 use Rattle.std.specs.BTreeMap.{get_by_text}
 use Rattle.std.specs.List.{AllByRecursion}
-use Rattle.std.proofs.lemmas.List.{get_or_append_left, get_or_push, length-append, length_push}
+use Rattle.std.proofs.lemmas.List.{get_or_append_left, get_or_push, length-append, length_push, take_more}
 use Rattle.std.proofs.lemmas.Bool.{cases_lt}
 use Rattle.smk_world.specs.Trees.{Path}
 use Rattle.smk_pattern.specs.Shapes.{Text}
@@ -14,7 +14,7 @@ use Rattle.smk_choose.specs.declared.nodes.Node.{Node}
 use Rattle.smk_choose.specs.declared.reach.Reach.{Reach}
 use Rattle.smk_choose.specs.Choose.{Sources, candidates}
 use Rattle.smk_choose.specs.Heights.{node_at, no_node}
-use Rattle.smk_choose.specs.Reach.{path_at, AreWants, AreWays, IsNode, AreNodes, AreFlagged, Grows, AllPaths, Spans}
+use Rattle.smk_choose.specs.Reach.{path_at, HasNumber, Within, IsWant, AreWants, AreWays, IsNode, AreNodes, AreFlagged, AreNumbered, Grows, AllPaths, Spans}
 use Rattle.smk_choose.proofs.Growing.{node_later, path_stays, node_stays}
 
 -- ---- wants
@@ -119,3 +119,52 @@ flags_more sources old new node known pushed same flag n lt = ⊎_elim
 pub on_both : {A E : Type 0} (r : Result A E) (P Q R : Type 0) → (P → Q → R) → OnOk r P → OnOk r Q → OnOk r R
 on_both (Ok x) P Q R f p q = f p q
 on_both (Err e) P Q R f p q = tt
+
+pub if_both : {A E : Type 0} (r : Result A E) (P : Type 0) (Q R : A → Type 0) → ((x : A) → P → Q x → R x) → OnOk r P → IfOk r Q → IfOk r R
+if_both (Ok x) P Q R f p q = f x p q
+if_both (Err e) P Q R f p q = tt
+
+-- ---- what is covered
+
+pub within_first : (sources : Sources) (r : Reach) (end k n : ℕ) → Within sources r end k n → n < end
+within_first sources r end zero n w = w
+within_first sources r end (suc k) n w = w.0
+
+pub within_more : (flow : Flow) (sources : Sources) (a b : Reach) (end k n : ℕ) → Grows a b → AreNodes flow sources a → n < length a.paths.items → n < length a.nodes.items →
+    ((j : ℕ) → j < length a.paths.items → Within sources b end k j) → Within sources b end (suc k) n
+within_more flow sources a b end k n g known lt has later = (
+  within_first sources b end k n (later n lt),
+  λ e. subst (λ (x : Node). AllByRecursion (λ (w : Way). AllPaths (Within sources b end k) w.wants) x.ways) (sym (node_stays flow sources a b g n has))
+      (ways_all (λ j. j < length a.paths.items) (Within sources b end k) later (node_at a.nodes.items n).ways
+      (ways_below flow a.paths.items (node_at a.nodes.items n).ways (candidates flow sources (path_at a.paths.items n))
+      ((known n has).1 (ap sources.is (sym (path_stays flow sources a b g n lt)) ∙ e)))),
+)
+
+-- ---- numbers given
+
+number_later : (old new : Reach) (p : Path) → Grows old new → HasNumber old.paths.items p → HasNumber new.paths.items p
+number_later old new p g (n, lt, e) =
+    (n, omega (arith, lt, ap length g.paths ∙ length-append old.paths.items g.added), ap (λ (ps : List Path). path_at ps n) g.paths ∙ get_or_append_left old.paths.items g.added [] n lt ∙ e)
+
+numbers_later : (old new : Reach) (xs : List Path) → Grows old new → AllByRecursion (HasNumber old.paths.items) xs → AllByRecursion (HasNumber new.paths.items) xs
+numbers_later old new [] g all = tt
+numbers_later old new (x ∷ xs) g all = (number_later old new x g all.0, numbers_later old new xs g all.1)
+
+all_push : {A : Type 0} (P : A → Type 0) (xs : List A) (x : A) → AllByRecursion P xs → P x → AllByRecursion P (xs ++ x ∷ [])
+all_push P [] x all p = (p, tt)
+all_push P (y ∷ xs) x all p = (all.0, all_push P xs x all.1 p)
+
+pub numbers_step : (old new : Reach) (xs : List Path) (i : ℕ) (p copy : Path) (n : ℕ) → i < length xs → p ≡ get_or xs i p → copy ≡ p → Grows old new →
+    IsWant new.paths.items (want.Path n) copy → AllByRecursion (HasNumber old.paths.items) (take i xs) → AllByRecursion (HasNumber new.paths.items) (take (i + 1) xs)
+numbers_step old new xs i p copy n lt at same g is all =
+    subst (λ (ys : List Path). AllByRecursion (HasNumber new.paths.items) ys) (sym (take_more xs i p lt))
+    (all_push (HasNumber new.paths.items) (take i xs) (get_or xs i p) (numbers_later old new (take i xs) g all) (n, is.0, is.1 ∙ same ∙ at))
+
+pub numbered_none : (r : Reach) → r.paths.items ≡ [] → ((q : Path) → get_by_text r.numbers q ≡ None) → AreNumbered r
+numbered_none r none fresh = record {
+  are = λ n lt. absurd (omega (arith, lt, ap length none));
+  at = λ p n e. absurd (not_some n (sym (fresh p) ∙ e));
+}
+  where
+    not_some : (a : ℕ) → None ≡ Some a → ⊥
+    not_some a e = cc

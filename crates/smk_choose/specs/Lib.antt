@@ -3,3 +3,5 @@ pub mod Told
 pub mod Heights
 pub mod Readings
 pub mod Reach
+pub mod Decided
+pub mod Whole

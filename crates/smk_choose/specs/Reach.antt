@@ -100,3 +100,15 @@ Spans flow sources r (suc k) n =
 -- of the first paths it is known whether they are sources
 abbrev pub AreFlagged : Sources → Reach → Type 0
 AreFlagged sources r = (n : ℕ) → n < length r.nodes.items → (node_at r.nodes.items n).source ≡ sources.is (path_at r.paths.items n)
+
+-- one of these paths is this one
+abbrev pub HasNumber : List Path → Path → Type 0
+HasNumber paths p = (n : ℕ) × (n < length paths) × (path_at paths n ≡ p)
+
+-- The number is one of the first, and, where its path is no source, so are those of what its candidates want, and so on, so many
+-- levels deep.
+abbrev pub Within : Sources → Reach → ℕ → ℕ → ℕ → Type 0
+Within sources r end zero n = n < end
+Within sources r end (suc k) n =
+    (n < end)
+    × (sources.is (path_at r.paths.items n) ≡ false → AllByRecursion (λ (w : Way). AllPaths (Within sources r end k) w.wants) (node_at r.nodes.items n).ways)

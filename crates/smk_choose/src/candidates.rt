@@ -129,7 +129,9 @@ fn members(alloc: Global, readings: &[Reading], path: &PathText) -> Result<Vec<M
     Ok(found)
 }
 
-// The jobs of which the path would be an output.
+// The jobs of which the path would be an output. Each rule is tried for each path, behind the quick refusal of `fits` by the fixed front
+// and end. With hundreds of rules a map from texts without wildcards to their rules, and an index of the others by their fixed
+// fronts, would be better.
 fn by_outputs(alloc: Global, rules: &[Rule], path: &PathText) -> Result<Vec<Making>, OutOfMemory>
     requires { length rules.now < 4294967296 }
     ensures { IfOk result (λ found. found.items ≡ outputs_from 0 rules.now path.now) }

@@ -19,7 +19,7 @@ fn height_at(heights: &[Option<u64>], path: usize) -> Option<u64>
 }
 
 // The height of what is wanted, where it has one.
-fn want_height(heights: &[Option<u64>], want: &Want) -> Option<u64>
+pub(crate) fn want_height(heights: &[Option<u64>], want: &Want) -> Option<u64>
     ensures { (n : ℕ) → is_within n result ≡ want_in (λ q. is_within n (height_at heights.now q)) want.now }
 {
     match want {
@@ -29,7 +29,7 @@ fn want_height(heights: &[Option<u64>], want: &Want) -> Option<u64>
 }
 
 // The greatest height of what the way wants, where all of it has one.
-fn way_height(heights: &[Option<u64>], way: &Way) -> Option<u64>
+pub(crate) fn way_height(heights: &[Option<u64>], way: &Way) -> Option<u64>
     ensures { (n : ℕ) → is_within n result ≡ list_all (want_in (λ q. is_within n (height_at heights.now q))) way.now.wants }
 {
     let mut most = 0;

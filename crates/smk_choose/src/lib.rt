@@ -4,6 +4,7 @@
 mod binding;
 mod candidates;
 mod choice;
+mod decide;
 mod heights;
 mod nodes;
 mod precedence;
@@ -11,8 +12,10 @@ mod reach;
 mod readings;
 mod sources;
 mod table;
+mod whole;
 
 pub use choice::{Choice, Chosen, Lack, Making};
 pub use precedence::precedes;
 pub use sources::{Sources, Standing};
 pub use table::Choices;
+pub use whole::choose;

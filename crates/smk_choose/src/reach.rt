@@ -1,14 +1,15 @@
 //! The paths that candidates want, again and again, each by its number.
 
-ghost use Rattle.std.specs.Prelude.{◌≡◌, ℕ, ◌<◌, ◌≤◌, ◌+◌, length, Some, map, slice_get, IfOk, OnOk};
+ghost use Rattle.std.specs.Prelude.{◌≡◌, ℕ, ◌<◌, ◌≤◌, ◌+◌, [], length, Some, map, slice_get, IfOk, OnOk};
 ghost use Rattle.std.specs.BTreeMap.{get_by_text};
+ghost use Rattle.std.specs.List.{AllByRecursion};
 ghost use Rattle.smk_flow.specs.Flows.{Flow};
 ghost use Rattle.smk_choose.specs.Choose.{Sources as Known, avail};
 ghost use Rattle.smk_choose.specs.Heights.{is_within, height_at};
 ghost use Rattle.smk_choose.specs.Told.{told_by, making};
 ghost use Rattle.smk_choose.specs.Readings.{reading_of, filled_by};
 ghost use Rattle.smk_choose.specs.declared.nodes.Want.{Want};
-ghost use Rattle.smk_choose.specs.Reach.{AreNumbered, Grows, path_at, IsWant, AreWants, shapes_in, IsMade, AreMade, IsNode, AreNodes, AreFlagged, Spans};
+ghost use Rattle.smk_choose.specs.Reach.{AreNumbered, Grows, HasNumber, Within, path_at, IsWant, AreWants, shapes_in, IsMade, AreMade, IsNode, AreNodes, AreFlagged, Spans};
 
 use crate::candidates::{candidates, filled};
 use crate::heights::least_heights;
@@ -258,6 +259,7 @@ pub(crate) fn expand(
     ensures numbered { OnOk result (AreNumbered reach.new) }
     ensures grows { OnOk result (Grows reach.old reach.new) }
     ensures spans { OnOk result ((n : ℕ) → n < length reach.old.paths.items → Spans flow.now (told_by sources.now) reach.new levels n) }
+    ensures count { OnOk result (length reach.old.paths.items ≤ length reach.new.nodes.items) }
 {
     let end = reach.paths.len();
     if levels == 0 {
@@ -265,6 +267,64 @@ pub(crate) fn expand(
     }
     add_nodes(alloc, flow, readings, sources, reach, end)?;
     expand(alloc, flow, readings, sources, reach, levels - 1)
+}
+
+/// Adds what may make the paths and what that wants, and so on, so many levels deep; and so again, 200 levels deeper. Answers how many
+/// paths there are without those of the last 200 levels.
+#[tactic(auto, using(crate::proofs::Growing::grows_same, crate::proofs::Growing::grows_then))]
+pub(crate) fn deepen(
+    alloc: Global,
+    flow: &Workflow,
+    readings: &[Reading],
+    sources: &Sources,
+    reach: &mut Reach,
+    levels: u32,
+) -> Result<usize, OutOfMemory>
+    requires numbered { AreNumbered reach.old }
+    requires readings { readings.now ≡ map (reading_of flow.now) flow.now.rules }
+    requires known { AreNodes flow.now (told_by sources.now) reach.old }
+    ensures numbered { OnOk result (AreNumbered reach.new) }
+    ensures grows { OnOk result (Grows reach.old reach.new) }
+    ensures spans { IfOk result (λ end. (n : ℕ) → n < end → Spans flow.now (told_by sources.now) reach.new 200 n) }
+    ensures count { IfOk result (λ end. end ≤ length reach.new.nodes.items) }
+    ensures within { IfOk result (λ end. (n : ℕ) → n < length reach.old.paths.items → Within (told_by sources.now) reach.new end levels n) }
+{
+    let end = reach.paths.len();
+    if levels == 0 {
+        expand(alloc, flow, readings, sources, reach, 200)?;
+        return Ok(end);
+    }
+    add_nodes(alloc, flow, readings, sources, reach, end)?;
+    deepen(alloc, flow, readings, sources, reach, levels - 1)
+}
+
+// Gives each of the paths a number.
+#[tactic(auto, using(crate::proofs::Growing::grows_same, crate::proofs::Growing::grows_then))]
+fn add_paths(alloc: Global, reach: &mut Reach, paths: &[PathText]) -> Result<(), OutOfMemory>
+    requires { AreNumbered reach.old }
+    ensures numbered { OnOk result (AreNumbered reach.new) }
+    ensures nodes { OnOk result (reach.new.nodes ≡ reach.old.nodes) }
+    ensures are { OnOk result (AllByRecursion (HasNumber reach.new.paths.items) paths.now) }
+{
+    for path in paths {
+        number(alloc, reach, path.copy(alloc)?)?;
+    }
+    Ok(())
+}
+
+/// These paths with their numbers. Nothing is known of them yet.
+pub(crate) fn start(alloc: Global, paths: &[PathText]) -> Result<Reach, OutOfMemory>
+    ensures numbered { IfOk result (λ reach. AreNumbered reach) }
+    ensures nodes { IfOk result (λ reach. reach.nodes.items ≡ []) }
+    ensures are { IfOk result (λ reach. AllByRecursion (HasNumber reach.paths.items) paths.now) }
+{
+    let mut reach = Reach {
+        numbers: BTreeMap::new(alloc),
+        paths: Vec::new(alloc),
+        nodes: Vec::new(alloc),
+    };
+    add_paths(alloc, &mut reach, paths)?;
+    Ok(reach)
 }
 
 /// The least depth at which each path is available, where that many levels of what it wants are known, up to 200.

@@ -1,4 +1,4 @@
-use Rattle.std.proofs.Common.{◌≡◌, ◌-◌, ◌+◌, ◌<◌, ℕ, suc, length, arith, subst, ap, ◌∙◌}
+use Rattle.std.proofs.Common.{◌≡◌, ◌-◌, ◌+◌, ◌<◌, ◌≤◌, ℕ, suc, length, arith, subst, ap, ◌∙◌}
 use Rattle.std.proofs.lemmas.List.{length-append}
 use Rattle.smk_choose.specs.Told.{told_by}
 use Rattle.smk_choose.specs.Reach.{Grows, Spans}
@@ -22,3 +22,13 @@ returns-clause-spans _ c =
     (spans_more flow sources a b left n g one.known (omega (arith, lt, longer))
     (omega (arith, lt, one.count, c.len-end.ensures, c.args.reach.now.paths.ok.0)) later))
     c.expand.ensures.grows c.expand.ensures.spans
+
+pub returns-clause-count : goal.returns-clause-count
+returns-clause-count _ c =
+    let b = c.expand.new.reach in
+    let one = c.in_ok-add_nodes.ensures in
+    let a = c.add_nodes.new.reach in
+    let longer : length a.paths.items ≡ length c.args.reach.now.paths.items + length one.grows.added =
+    ap length one.grows.paths ∙ length-append c.args.reach.now.paths.items one.grows.added in
+    on_both c.expand.result (Grows a b) (length a.paths.items ≤ length b.nodes.items) (length c.args.reach.now.paths.items ≤ length b.nodes.items)
+    (λ g count. omega (arith, longer, count)) c.expand.ensures.grows c.expand.ensures.count
