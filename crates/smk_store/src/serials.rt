@@ -22,11 +22,11 @@ fn raised_by_stamp(greatest: u64, stamp: &Stamp) -> u64
 fn raised_by_stamps(greatest: u64, stamps: &[Stamp]) -> u64
     ensures { result ≡ fold max greatest (flat_map serial_in stamps.now) }
 {
-    let mut greatest = greatest;
+    let mut raised = greatest;
     for stamp in stamps {
-        greatest = raised_by_stamp(greatest, stamp);
+        raised = raised_by_stamp(raised, stamp);
     }
-    greatest
+    raised
 }
 
 // The greatest of the number and the serials that count at the path.
