@@ -10,10 +10,19 @@ use Rattle.smk_store.specs.Stores.{Known, known}
 use Rattle.smk_store.specs.Steadying.{signs_of, all_signs}
 
 -- the lists of the elements up to one, and its own
+listed_at : {X Y : Type 0} (f : X → List Y) (xs : List X) (i : ℕ) (d : X) → i < length xs → flat_map f (take (i + 1) xs) ≡ flat_map f (take i xs) ++ f (get_or xs i d)
+listed_at f xs i d lt =
+    ap (flat_map f) (take_more xs i d lt) ∙ flat_map-append f (take i xs) (get_or xs i d ∷ [])
+    ∙ ap (λ t. flat_map f (take i xs) ++ t) (flat_map-cons f (get_or xs i d) [] ∙ append-nil (f (get_or xs i d)))
+
 listed_next : {X Y : Type 0} (f : X → List Y) (xs : List X) (i : ℕ) (x : X) → i < length xs → x ≡ get_or xs i x → flat_map f (take (i + 1) xs) ≡ flat_map f (take i xs) ++ f x
-listed_next f xs i x lt e =
-    ap (flat_map f) (take_more xs i x lt ∙ ap (λ q. take i xs ++ q ∷ []) (sym e)) ∙ flat_map-append f (take i xs) (x ∷ [])
-    ∙ ap (λ t. flat_map f (take i xs) ++ t) (flat_map-cons f x [] ∙ append-nil (f x))
+listed_next f xs i x lt e = listed_at f xs i x lt ∙ ap (λ y. flat_map f (take i xs) ++ f y) (sym e)
+
+-- so is the greatest number in them
+pub greatest_at : {X : Type 0} (f : X → List ℕ) (a : ℕ) (xs : List X) (i : ℕ) (d : X) (m r : ℕ) → i < length xs
+    → m ≡ fold max a (flat_map f (take i xs)) → r ≡ fold max m (f (get_or xs i d)) → r ≡ fold max a (flat_map f (take (i + 1) xs))
+greatest_at f a xs i d m r lt before now =
+    now ∙ ap (λ n. fold max n (f (get_or xs i d))) before ∙ sym (fold-append max a (flat_map f (take i xs)) (f (get_or xs i d))) ∙ ap (fold max a) (sym (listed_at f xs i d lt))
 
 pub greatest_next : {X : Type 0} (f : X → List ℕ) (a : ℕ) (xs : List X) (i : ℕ) (x : X) → i < length xs → x ≡ get_or xs i x
     → fold max (fold max a (flat_map f (take i xs))) (f x) ≡ fold max a (flat_map f (take (i + 1) xs))
