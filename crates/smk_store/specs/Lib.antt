@@ -8,3 +8,4 @@ pub mod Loading
 pub mod Walking
 pub mod Serials
 pub mod Steadying
+pub mod Forgetting

@@ -2,6 +2,7 @@
 #![tactic(auto)]
 
 mod fault;
+mod forgetting;
 mod loading;
 mod names;
 mod places;
@@ -11,6 +12,7 @@ mod steps;
 mod store;
 
 pub use fault::StoreFault;
+pub use forgetting::forget;
 pub use loading::load;
 pub use places::JobPlaces;
 pub use steadying::steady;
