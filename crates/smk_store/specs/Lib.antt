@@ -8,4 +8,3 @@ pub mod Loading
 pub mod Walking
 pub mod Serials
 pub mod Steadying
-pub mod Forgetting

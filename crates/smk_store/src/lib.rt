@@ -2,7 +2,6 @@
 #![tactic(auto)]
 
 mod fault;
-mod forgetting;
 mod loading;
 mod names;
 mod places;
@@ -12,7 +11,6 @@ mod steps;
 mod store;
 
 pub use fault::StoreFault;
-pub use forgetting::forget;
 pub use loading::load;
 pub use places::JobPlaces;
 pub use steadying::steady;
