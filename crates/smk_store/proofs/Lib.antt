@@ -7,4 +7,5 @@ pub mod Covering
 pub mod Looks
 pub mod Walks
 pub mod Finding
+pub mod Greatest
 pub mod Loads

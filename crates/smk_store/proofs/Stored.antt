@@ -53,6 +53,12 @@ names_back [] es e = refl
 names_back (p ∷ ps) [] e = absurd (omega arith)
 names_back (p ∷ ps) (f ∷ es) e = ap (λ t. p ∷ t) (names_back ps es (omega arith))
 
+pub entries_back : (ps : List Path) (es : List Entry) → length es ≡ length ps → es ≡ map (λ (k : Known). k.entry) (known ps es)
+entries_back [] [] e = refl
+entries_back [] (f ∷ es) e = absurd (omega arith)
+entries_back (p ∷ ps) [] e = absurd (omega arith)
+entries_back (p ∷ ps) (f ∷ es) e = ap (λ t. f ∷ t) (entries_back ps es (omega arith))
+
 abbrev entry_if : Bool → Entry → Option Entry → Option Entry
 entry_if b e more = cond b (Some e) more
 

@@ -6,3 +6,5 @@ pub mod Steps
 pub mod Stores
 pub mod Loading
 pub mod Walking
+pub mod Serials
+pub mod Steadying

@@ -5,11 +5,14 @@ mod fault;
 mod loading;
 mod names;
 mod places;
+mod serials;
+mod steadying;
 mod steps;
 mod store;
 
 pub use fault::StoreFault;
 pub use loading::load;
 pub use places::JobPlaces;
+pub use steadying::steady;
 pub use steps::{drop_records, lock, mark, put_records, unlock, unmark};
 pub use store::{Entry, Kept, Store};

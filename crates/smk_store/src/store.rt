@@ -65,6 +65,13 @@ impl Store {
         &self.paths
     }
 
+    // What is known of each of them, in their order.
+    pub(crate) fn entries(&self) -> &List<Entry>
+        ensures { result.now ≡ map (λ k. k.entry) self.now }
+    {
+        &self.entries
+    }
+
     // What is known of the path with these bytes.
     fn at(&self, bytes: &[u8]) -> Option<&Entry>
         ensures { option_map (λ e. e.now) result ≡ entry_of self.now bytes.now }
