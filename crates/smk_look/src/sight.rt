@@ -182,11 +182,7 @@ fn look_with<W: Files>(
 }
 
 /// What stands at the path, and whether it is known.
-pub fn look_at<W: Files>(
-    alloc: Global,
-    work: &mut W,
-    path: &PathText,
-) -> Result<Sight, AskFault>
+pub fn look_at<W: Files>(alloc: Global, work: &mut W, path: &PathText) -> Result<Sight, AskFault>
     requires none_runs { W.running work.old ≡ [] }
     ensures did { Did W.act (W.world work.old) (W.world work.new)
         (HasSeen (device_failed result) (λ nodes. Answers (Ok (spec.sight_of nodes path.now)) result)) }
