@@ -60,7 +60,8 @@ fn whole(alloc: Global, flow: &Workflow, chosen: &Chosen) -> Result<Choice, OutO
     }
 }
 
-/// What makes the path. For many paths `Choices::of` is cheaper: it looks at each path once. `OutOfMemory` where there is no memory.
+/// What makes the path. For many paths `Choices::of` is cheaper: it looks at each path once. `OutOfMemory` where there is no memory; so it
+/// answers too where a text of the job were no path, which doesn't happen in a choice, though no clause says so.
 pub fn choose(
     alloc: Global,
     flow: &Workflow,
