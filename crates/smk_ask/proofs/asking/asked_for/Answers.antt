@@ -1,0 +1,21 @@
+use Rattle.std.proofs.Common.{◌≡◌, ◌||◌, Ok, Err, Bool, true, false, List, ℕ, [], ◌∷◌, ◌++◌, refl, ap, sym, subst, ◌∙◌, inl, inr}
+use Rattle.smk_world.specs.declared.event.Stat.{Stat}
+use Rattle.smk_world.specs.Calls.{stat_of}
+use Rattle.smk_files.specs.Looks.{Nodes, at, HasSeen}
+use Rattle.smk_look.specs.declared.fault.AskFault.{AskFault}
+use Rattle.smk_look.specs.declared.sight.Sight.{Sight}
+use Rattle.smk_look.specs.Faults.{is_device, device_failed, and_then, Answers}
+use Rattle.smk_look.specs.Sights as sights
+use Rattle.smk_ask.specs.Asking as spec
+use Rattle.smk_look.proofs.Binds.{bind_fault, bind_looks, bind_still, still_fault, still_looks, seen_stat, seen_failed, never_told}
+use Rattle.smk_ask.proofs.asking.asked_for.Goals as goal
+
+pub returns-in-Err-clause-did : goal.returns-in-Err-clause-did
+returns-in-Err-clause-did g c =
+    let a = c.args in
+    bind_fault g.W.Files.act c.standing_at.result c.in-Err.fault (λ nodes. Ok (sights.standing_at nodes a.path)) (λ nodes. spec.asked_as a.file.now a.flow.now a.path nodes) _ _ c.in-Err.is c.standing_at.ensures.did
+
+pub returns-in-Ok-clause-did : goal.returns-in-Ok-clause-did
+returns-in-Ok-clause-did g c =
+    let a = c.args in
+    bind_looks g.W.Files.act c.standing_at.result c.in-Ok.standing c.asked_as.result (λ nodes. Ok (sights.standing_at nodes a.path)) (λ nodes. spec.asked_as a.file.now a.flow.now a.path nodes) _ _ _ c.in-Ok.is c.standing_at.ensures.did c.asked_as.ensures.did
