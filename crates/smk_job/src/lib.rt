@@ -5,6 +5,7 @@ mod closing;
 mod fault;
 mod going;
 mod laws;
+mod members;
 mod opening;
 mod reserve;
 mod sight;
