@@ -10,3 +10,4 @@ pub mod Abandoning
 pub mod Beginning
 pub mod Parts
 pub mod FinishRuns
+pub mod Listings

@@ -1,11 +1,12 @@
 -- What is found under a folder, and how it is looked for.
-use Rattle.std.specs.Prelude.{◌≡◌, Bool, true, false, List, [], ◌∷◌, Option, Some, None, Result, Ok, Err}
-use Rattle.smk_base.specs.Path.{is_at_or_under}
+use Rattle.std.specs.Prelude.{◌≡◌, ℕ, ◌&&◌, if◌then◌else◌, Bool, true, false, List, [], ◌∷◌, Option, Some, None, Result, Ok, Err}
+use Rattle.smk_base.specs.Path.{is_path, is_at_or_under}
 use Rattle.smk_world.specs.declared.event.Event.{Event}
 use Rattle.smk_world.specs.declared.event.NodeState.TheVariants.{Owned}
 use Rattle.smk_world.specs.declared.event.WorkFault.{WorkFault}
 use Rattle.smk_world.specs.declared.event.WorkFault.TheVariants.{Failed, OutOfMemory}
 use Rattle.smk_world.specs.World.{reads_folder}
+use Rattle.smk_world.specs.Calls.{in_folder}
 use Rattle.smk_world.specs.Requests.{Request, request, AreQuiet}
 use Rattle.smk_world.specs.Requests.Request.{ListFolder}
 use Rattle.smk_world.specs.Trees.{Path, Each}
@@ -31,6 +32,10 @@ is_device (Err Failed) = true
 is_device (Err OutOfMemory) = false
 
 -- ## What is found
+
+-- the text as the name of a member of the directory at p, where it makes a path
+abbrev pub member_path : Path → List ℕ → Option Path
+member_path p text = if is_path text && is_path (in_folder p text) then Some text else None
 
 -- a folder stands at p, and no child owns what is at or under it
 pub record IsOpenFolder (nodes : Nodes) (p : Path) : Type 0 where
