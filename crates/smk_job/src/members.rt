@@ -169,6 +169,8 @@ fn in_order(
 /// or there are more than 20,000 of them; nothing more is listed then.
 ///
 /// `Failed`: a listing failed, and none came after it. `OutOfMemory`: there is no memory for the members.
+///
+/// It is not written yet: it answers `OutOfMemory` always, and nothing calls it.
 pub(crate) fn members_of<W: Files>(
     alloc: Global,
     work: &mut W,
