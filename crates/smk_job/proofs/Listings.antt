@@ -26,13 +26,15 @@ IsOne p e = IsListingIn p (request e.call)
 
 both : (p : Path) (bad : Bool) (es fs : List Event) → AreListings p false es → AreListings p bad fs → AreListings p bad (es ++ fs)
 both p false es fs h k = (each_both (IsOne p) es fs h.0 k.0, All-append (λ (e : Event). failed e.call ≡ false) es fs h.1 k.1)
-both p true es fs h (k, before, last, e, quiet, bad) = (
+both p true es fs h (k, (before, last, e, quiet, bad)) = (
   each_both (IsOne p) es fs h.0 k,
-  es ++ before,
-  last,
-  ap (λ t. es ++ t) e ∙ sym (append_assoc es before (last ∷ [])),
-  All-append (λ (x : Event). failed x.call ≡ false) es before h.1 quiet,
-  bad,
+  (
+    es ++ before,
+    last,
+    ap (λ t. es ++ t) e ∙ sym (append_assoc es before (last ∷ [])),
+    All-append (λ (x : Event). failed x.call ≡ false) es before h.1 quiet,
+    bad,
+  ),
 )
 
 one : (p q : Path) (r : Result Listing WorkFault) (e : Event) → is_at_or_under q p ≡ true → e.call ≡ ReadFolder q r → AreListings p (is_device r) (e ∷ [])
@@ -40,7 +42,7 @@ one p q (Ok l) e at is = (
   (subst (λ c. IsListingIn p (request c)) (sym is) at, tt),
   All-cons (λ (x : Event). failed x.call ≡ false) e [] (ap failed is) (All-nil (λ (x : Event). failed x.call ≡ false)),
 )
-one p q (Err FailedFault) e at is = ((subst (λ c. IsListingIn p (request c)) (sym is) at, tt), [], e, refl, All-nil (λ (x : Event). failed x.call ≡ false), ap failed is)
+one p q (Err FailedFault) e at is = ((subst (λ c. IsListingIn p (request c)) (sym is) at, tt), ([], e, refl, All-nil (λ (x : Event). failed x.call ≡ false), ap failed is))
 one p q (Err MemoryFault) e at is = (
   (subst (λ c. IsListingIn p (request c)) (sym is) at, tt),
   All-cons (λ (x : Event). failed x.call ≡ false) e [] (ap failed is) (All-nil (λ (x : Event). failed x.call ≡ false)),
@@ -65,17 +67,18 @@ listed_then act a b c p bad first second =
 pub listed_as : (act : Act) (a b : Option World) (p : Path) (bad other : Bool) → bad ≡ other → Did act a b (λ w es. AreListings p bad es) → Did act a b (λ w es. AreListings p other es)
 listed_as act a b p bad other same h = subst (λ x. Did act a b (λ w es. AreListings p x es)) same h
 
+fault_same : (T U : Type 0) (x : WorkFault) → is_device {T = T} (Err x) ≡ is_device {T = U} (Err x)
+fault_same T U FailedFault = refl
+fault_same T U MemoryFault = refl
+
 -- the fault of a call is handed on
 pub same_device : {T U : Type 0} (r : Result T WorkFault) (s : Result U WorkFault) (x : WorkFault) → r ≡ Err x → IsErrAnd s (λ y. y ≡ x) → is_device r ≡ is_device s
 same_device r (Ok u) x is h = absurd h
-same_device r (Err y) x is h = ap is_device is ∙ by x y h
-  where
-    by : (x y : WorkFault) → y ≡ x → is_device (Err x) ≡ is_device (Err y)
-    by x y h = ap (λ (z : WorkFault). is_device (Err z)) (sym h)
+same_device {T} {U} r (Err y) x is h = ap is_device is ∙ fault_same T U x ∙ ap (λ (z : WorkFault). is_device {T = U} (Err z)) (sym h)
 
 pub memory_is_none : {U : Type 0} (s : Result U WorkFault) → IsErrAnd s (λ y. y ≡ MemoryFault) → false ≡ is_device s
 memory_is_none (Ok u) h = absurd h
-memory_is_none (Err y) h = ap (λ (z : WorkFault). is_device (Err z)) (sym h)
+memory_is_none {U} (Err y) h = ap (λ (z : WorkFault). is_device {T = U} (Err z)) (sym h)
 
 pub in_it : (p name : Path) → is_at_or_under (in_folder p name) p ≡ true
 in_it p name = at_when_under (in_folder p name) p (under_folder p name)
