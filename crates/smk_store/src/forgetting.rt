@@ -1,8 +1,7 @@
 //! Forgetting what is known of a path.
 
-ghost use Rattle.std.specs.Prelude.{◌≡◌, [], ◌∷◌, ◌++◌, Some, IsErr, IsErrOf, IfOk, OnOk, IsSome, is_ok, is_some};
+ghost use Rattle.std.specs.Prelude.{◌≡◌, [], ◌∷◌, ◌++◌, IsErr, IsErrOf, IfOk, OnOk, IsSome, is_ok, is_some};
 ghost use Rattle.smk_base.specs.Place.{record_place, mark_place, note_place, records_folder, marks_folder, notes_folder};
-ghost use Rattle.smk_world.specs.World.{World};
 ghost use Rattle.smk_world.specs.Calls.{HasCause};
 ghost use Rattle.smk_world.specs.Requests.{Carries};
 ghost use Rattle.smk_world.specs.Requests.Request.{Settle};
@@ -10,7 +9,6 @@ ghost use Rattle.smk_world.specs.Runs.{Did};
 ghost use Rattle.smk_store.specs.Forgetting.{HasForgotten};
 ghost use Rattle.smk_store.specs.Steps.{remove_each};
 ghost use Rattle.smk_store.specs.Stores.{entry_of};
-ghost use Rattle.smk_store.specs.Walking.{HasLooked};
 
 use crate::sources::seen_under;
 use crate::steps::remove_each;
