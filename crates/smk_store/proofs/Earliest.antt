@@ -1,7 +1,7 @@
 -- The first path of the sources that are seen, and what it means.
-use Rattle.std.proofs.Common.{◌≡◌, ◌⊎◌, inl, inr, ◌≢◌, ℕ, Bool, true, false, List, [], ◌∷◌, ◌++◌, refl, sym, ap, subst, ◌∙◌, Option, Some, None, nat_eq}
-use Rattle.std.specs.Prelude.{if◌then◌else◌, bytes_eq, ◌==◌}
-use Rattle.std.specs.List.{fold, flat_map}
+use Rattle.std.proofs.Common.{◌≡◌, ◌⊎◌, inl, inr, Bool, true, false, List, [], ◌∷◌, refl, sym, ap, subst, ◌∙◌, Option, Some, None}
+use Rattle.std.specs.Prelude.{if◌then◌else◌}
+use Rattle.std.specs.List.{fold}
 use Rattle.std.specs.Cmp.Lexicographic.{slice_cmp}
 use Rattle.std.specs.Ordering.{nat_cmp, ordering_reverse, is_eq}
 use Rattle.std.specs.declared.cmp.Ordering.{Ordering}
@@ -12,7 +12,7 @@ use Rattle.smk_base.proofs.Places.{same_place}
 use Rattle.smk_world.specs.Trees.{Path, IsIn}
 use Rattle.smk_record.specs.Records.{is_less}
 use Rattle.smk_store.specs.declared.sources.Source.{Source}
-use Rattle.smk_store.specs.Sources.{first_seen, earlier, comes_before}
+use Rattle.smk_store.specs.Sources.{first_seen, earlier}
 
 never : true ≡ false → ⊥
 never e = cc

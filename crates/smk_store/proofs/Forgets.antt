@@ -1,5 +1,5 @@
 -- Looks, and then the calls by which a path is forgotten.
-use Rattle.std.proofs.Common.{◌≡◌, inl, inr, Bool, true, false, List, [], ◌∷◌, ◌++◌, refl, sym, subst, Option, Some, None, Result, Ok, Err}
+use Rattle.std.proofs.Common.{◌≡◌, inl, inr, true, false, List, [], ◌∷◌, ◌++◌, refl, sym, subst, Option, Some, Result, Ok, Err}
 use Rattle.std.specs.Prelude.{IfOk}
 use Rattle.std.proofs.lemmas.List.{append-nil}
 use Rattle.smk_base.specs.Place.{record_place, mark_place, note_place, records_folder, marks_folder, notes_folder}
@@ -10,7 +10,7 @@ use Rattle.smk_world.specs.Requests.{Request, HasDone, IsCutShort}
 use Rattle.smk_world.specs.Requests.Request.{Settle}
 use Rattle.smk_world.specs.Trees.{Path, Act}
 use Rattle.smk_world.proofs.Runs.{did_both}
-use Rattle.smk_store.specs.declared.fault.StoreFault.TheVariants.{StampSeen, Device, OutOfMemory}
+use Rattle.smk_store.specs.declared.fault.StoreFault.TheVariants.{StampSeen, Device}
 use Rattle.smk_store.specs.Loading.{AreLooks}
 use Rattle.smk_store.specs.Forgetting.{AreUnseen, IsFirstSeen, HasForgotten, LooksThen, forget_requests}
 use Rattle.smk_store.specs.Steps.{remove_each}

@@ -1,7 +1,6 @@
 -- Where no child runs.
-use Rattle.std.proofs.Common.{◌≡◌, ℕ, List, [], get_or, subst, ap, sym, true, false, ◌∙◌}
+use Rattle.std.proofs.Common.{◌≡◌, List, [], get_or, ap, sym, true, false, ◌∙◌}
 use Rattle.std.specs.Prelude.{All}
-use Rattle.smk_world.specs.declared.event.NodeState.TheVariants.{Owned}
 use Rattle.smk_world.specs.World.{World, numbers, is_within}
 use Rattle.smk_world.specs.Calls.{IsUnused, HasOwners, owned_now}
 use Rattle.smk_world.specs.Trees.{Path}

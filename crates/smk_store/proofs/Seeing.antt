@@ -1,9 +1,8 @@
 -- Sources that are gone over, and looked at.
-use Rattle.std.proofs.Common.{◌≡◌, inl, inr, ◌≢◌, ℕ, suc, ◌+◌, ◌<◌, ◌≤◌, Bool, true, false, List, [], ◌∷◌, ◌++◌, length, take, drop, get_or, refl, sym, ap, subst, ◌∙◌, Option, Some, None, Result, Ok, Err, arith, append_assoc, add-one, drop-cons}
+use Rattle.std.proofs.Common.{◌≡◌, ◌≢◌, ℕ, suc, ◌+◌, ◌<◌, Bool, true, false, List, [], ◌∷◌, ◌++◌, length, take, drop, get_or, refl, sym, ap, subst, ◌∙◌, Option, Some, None, Result, Ok, Err, arith, append_assoc, add-one, drop-cons}
 use Rattle.std.specs.Prelude.{IsSome, is_some, IsErr, IsErrOf, IsErrAnd}
-use Rattle.std.specs.List.{fold, flat_map, zip}
-use Rattle.std.proofs.lemmas.List.{append-nil, take_more}
-use Rattle.std.proofs.lemmas.List.Concat.{flat_map-append, flat_map-cons}
+use Rattle.std.specs.List.{zip}
+use Rattle.std.proofs.lemmas.List.{take_more}
 use Rattle.std.proofs.lemmas.List.Sums.{fold-append}
 use Rattle.smk_world.specs.declared.event.Call.TheVariants.{Looked}
 use Rattle.smk_world.specs.declared.event.Failed.{Failed}
@@ -11,7 +10,7 @@ use Rattle.smk_world.specs.declared.event.NodeState.{NodeState}
 use Rattle.smk_world.specs.declared.event.NodeState.TheVariants.{Owned, Known}
 use Rattle.smk_world.specs.declared.event.Stat.{Stat}
 use Rattle.smk_world.specs.declared.event.WorkFault.{WorkFault}
-use Rattle.smk_world.specs.declared.event.WorkFault.TheVariants.{Failed as FailedFault, OutOfMemory as MemoryFault}
+use Rattle.smk_world.specs.declared.event.WorkFault.TheVariants.{Failed as FailedFault}
 use Rattle.smk_world.specs.World.{World, reading}
 use Rattle.smk_world.specs.Calls.{Happened, HasCause, Lets, StatIs, stat_of, failed, is_failed}
 use Rattle.smk_world.specs.Trees.{Path, Act}

@@ -78,4 +78,3 @@ HasForgotten ks p (Ok was_known) w es = AreUnseen ks w p × LooksThen (λ calls.
 HasForgotten ks p (Err (StampSeen q)) w es = IsFirstSeen ks w p q × AreLooks es
 HasForgotten ks p (Err Device) w es = AreLooks es ⊎ (AreUnseen ks w p × LooksThen (λ calls. IsCutShort (forget_requests p) calls) es)
 HasForgotten ks p (Err OutOfMemory) w es = AreLooks es
-

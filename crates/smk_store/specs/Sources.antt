@@ -15,7 +15,7 @@ use Rattle.smk_record.specs.declared.record.Stamp.TheVariants.{Time, Made}
 use Rattle.smk_record.specs.Records.{is_less}
 use Rattle.smk_store.specs.declared.sources.Source.{Source}
 use Rattle.smk_store.specs.declared.store.Entry.{Entry}
-use Rattle.smk_store.specs.Forgetting.{inputs_of, all_inputs}
+use Rattle.smk_store.specs.Forgetting.{inputs_of}
 use Rattle.smk_store.specs.Images.{readable}
 use Rattle.smk_store.specs.Stores.{Known}
 

@@ -139,11 +139,7 @@ fn push_entry(
 }
 
 // The sources in all of these that are at or under the path p.
-fn sources_in(
-    alloc: Global,
-    entries: &[Entry],
-    p: &PathText,
-) -> Result<List<Source>, OutOfMemory>
+fn sources_in(alloc: Global, entries: &[Entry], p: &PathText) -> Result<List<Source>, OutOfMemory>
     ensures { IfOk result (λ found. found ≡ flat_map (entry_sources p.now) entries.now) }
 {
     let mut found = List::new(alloc);
@@ -187,9 +183,7 @@ fn comes_before(path: &PathText, first: &Option<PathText>) -> bool
 {
     match first {
         None => true,
-        Some(first) => {
-            path.as_str().as_bytes().cmp(first.as_str().as_bytes()) == Ordering::Less
-        }
+        Some(first) => { path.as_str().as_bytes().cmp(first.as_str().as_bytes()) == Ordering::Less }
     }
 }
 

@@ -1,6 +1,4 @@
-use Rattle.std.proofs.Common.{◌≡◌, Some, None, Ok, ap, ◌∙◌}
-use Rattle.smk_world.specs.World.{World}
-use Rattle.smk_store.specs.Forgetting.{AreUnseen}
+use Rattle.std.proofs.Common.{Some, None, Ok, ap, ◌∙◌}
 use Rattle.smk_store.proofs.Idle.{none_owned}
 use Rattle.smk_store.proofs.Meaning.{unseen, first_one}
 use Rattle.smk_store.proofs.Forgets.{if_told, as_requests, seen_before, none_known, all_done, one_failed}

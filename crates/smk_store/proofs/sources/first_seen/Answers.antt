@@ -29,7 +29,7 @@ loop-source-preserved g c =
       told = λ w at none.
           let u = still g.W.Files.act _ _ _ _ _ _ ⊥ w v.looked (λ f. f) at in
           let seen : c.in_ok-seen.seen ≡ is_seen w x =
-              c.in_ok-seen.ensures.told u.0 u.1 (subst (λ (n : Path → NodeState). (q : Path) → n q ≢ Owned) (sym u.2) none) ∙ seen_same w u.0 x u.2 in
+          c.in_ok-seen.ensures.told u.0 u.1 (subst (λ (n : Path → NodeState). (q : Path) → n q ≢ Owned) (sym u.2) none) ∙ seen_same w u.0 x u.2 in
           c.in_ok-first.ensures ∙ ap (λ f. earlier f x.path c.in_ok-seen.seen) (v.told w at none) ∙ ap (earlier (first_seen (is_seen w) (take c.loop-source.source-index c.args.sources.now)) x.path) seen
           ∙ seen_next (is_seen w) c.args.sources.now c.loop-source.source-index x c.loop-source-test.true c.source-item.is;
     }

@@ -1,5 +1,4 @@
-use Rattle.std.proofs.Common.{◌≡◌, ◌≢◌, ap, sym, subst, ◌∙◌, refl}
-use Rattle.smk_world.specs.declared.event.NodeState.TheVariants.{Owned}
+use Rattle.std.proofs.Common.{ap, ◌∙◌}
 use Rattle.smk_world.specs.World.{reading}
 use Rattle.smk_world.specs.Calls.{stat_of}
 use Rattle.smk_store.specs.Sources.{has_time}

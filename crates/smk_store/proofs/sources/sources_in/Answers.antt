@@ -1,4 +1,4 @@
-use Rattle.std.proofs.Common.{◌≡◌, ◌++◌, ap, sym, ◌∙◌}
+use Rattle.std.proofs.Common.{◌++◌, ap, sym, ◌∙◌}
 use Rattle.smk_store.specs.Sources.{entry_sources}
 use Rattle.smk_store.proofs.Greatest.{listed_next}
 use Rattle.smk_store.proofs.sources.sources_in.Goals as goal
