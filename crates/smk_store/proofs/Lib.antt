@@ -8,4 +8,9 @@ pub mod Looks
 pub mod Walks
 pub mod Finding
 pub mod Greatest
+pub mod Idle
+pub mod Seeing
+pub mod Earliest
+pub mod Meaning
+pub mod Forgets
 pub mod Loads

@@ -8,3 +8,5 @@ pub mod Loading
 pub mod Walking
 pub mod Serials
 pub mod Steadying
+pub mod Forgetting
+pub mod Sources

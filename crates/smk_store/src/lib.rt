@@ -2,15 +2,18 @@
 #![tactic(auto)]
 
 mod fault;
+mod forgetting;
 mod loading;
 mod names;
 mod places;
 mod serials;
+mod sources;
 mod steadying;
 mod steps;
 mod store;
 
 pub use fault::StoreFault;
+pub use forgetting::forget;
 pub use loading::load;
 pub use places::JobPlaces;
 pub use steadying::steady;

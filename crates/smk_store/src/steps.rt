@@ -26,7 +26,7 @@ fn make_each<W: Files>(work: &mut W, places: &[Place]) -> Result<(), Failed>
 }
 
 // Removes each of the places.
-fn remove_each<W: Files>(work: &mut W, places: &[Place]) -> Result<(), Failed>
+pub(crate) fn remove_each<W: Files>(work: &mut W, places: &[Place]) -> Result<(), Failed>
     requires unused { AreUnused (W.world work.old) places.now }
     ensures did { Did W.act (W.world work.old) (W.world work.new) (λ w es. Carries (remove_each places.now) (is_ok result) es) }
     ensures stays { OnOk result (IsSome (W.world work.old) → IsSome (W.world work.new)) }

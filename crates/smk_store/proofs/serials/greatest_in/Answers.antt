@@ -1,5 +1,5 @@
-use Rattle.std.proofs.Common.{◌≡◌, max, ap, ◌∙◌}
-use Rattle.std.specs.List.{fold, flat_map}
+use Rattle.std.proofs.Common.{max, ap, ◌∙◌}
+use Rattle.std.specs.List.{fold}
 use Rattle.smk_store.specs.Serials.{unmarked_serials}
 use Rattle.smk_store.proofs.Greatest.{greatest_next}
 use Rattle.smk_store.proofs.serials.greatest_in.Goals as goal

@@ -1,4 +1,4 @@
-use Rattle.std.proofs.Common.{◌≡◌, max, ap, ◌∙◌}
+use Rattle.std.proofs.Common.{max, ap, ◌∙◌}
 use Rattle.std.specs.List.{fold, flat_map}
 use Rattle.std.proofs.lemmas.List.{take_all}
 use Rattle.smk_record.specs.Records.{serial_in}

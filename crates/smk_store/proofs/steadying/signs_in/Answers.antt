@@ -1,4 +1,4 @@
-use Rattle.std.proofs.Common.{◌≡◌, ◌++◌, ap, sym, ◌∙◌}
+use Rattle.std.proofs.Common.{◌++◌, ap, sym, ◌∙◌}
 use Rattle.smk_store.specs.Steadying.{signs_of}
 use Rattle.smk_store.proofs.Greatest.{signs_next, signs_done}
 use Rattle.smk_store.proofs.steadying.signs_in.Goals as goal

@@ -1,4 +1,4 @@
-use Rattle.std.proofs.Common.{◌≡◌, max, ap, ◌∙◌}
+use Rattle.std.proofs.Common.{max, ap, ◌∙◌}
 use Rattle.std.specs.List.{fold, flat_map}
 use Rattle.smk_store.specs.Serials.{after_serial, unmarked_serials}
 use Rattle.smk_store.specs.Stores.{Known}
