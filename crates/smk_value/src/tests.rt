@@ -112,13 +112,17 @@ fn summed(alloc: Global) -> Result<Value, ValueFault> {
     value_of(alloc, &Expr::Sum(terms), &Names, &Text::of(alloc, "input")?)
 }
 
+fn sum_shown(alloc: Global) -> Result<String, ValueFault> {
+    shown(alloc, &summed(alloc)?)
+}
+
 #[test]
 fn sums_terms_in_order(rt: HostRuntime) -> Result<(), Fail> {
     let alloc = rt.alloc();
-    let text = match summed(alloc) {
-        Ok(Value::Word(text)) => text,
-        _ => Text::of(alloc, "")?,
+    let text = match sum_shown(alloc) {
+        Ok(text) => text,
+        Err(_) => String::new(alloc),
     };
-    assert_eq!(rt; text.as_str(), "aBc");
+    assert_eq!(rt; text.as_str(), "aBc ");
     Ok(())
 }
