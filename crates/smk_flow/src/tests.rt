@@ -1,6 +1,5 @@
-use crate::jobs::job;
 use crate::{FlaggedText, InPart, OutPart, RulePart, Workflow, targets};
-use smk_base::{List, OutOfMemory, Pair, PathText, Text, one};
+use smk_base::{List, OutOfMemory, PathText, Text, one};
 use std::alloc::Global;
 use std::test::Fail;
 
@@ -62,27 +61,6 @@ fn number(alloc: Global, name: &str) -> Result<Option<u32>, Fail> {
 #[test]
 fn numbers_rules(rt: HostRuntime) -> Result<(), Fail> {
     assert_eq!(rt; number(rt.alloc(), "count")?, Some(1));
-    Ok(())
-}
-
-fn value(alloc: Global, text: &str) -> Result<Pair, OutOfMemory> {
-    Ok(Pair {
-        name: Text::of(alloc, "a")?,
-        value: Text::of(alloc, text)?,
-    })
-}
-
-/// Whether the rule `sort` makes a job for this value.
-fn makes(alloc: Global, text: &str) -> Result<bool, Fail> {
-    Ok(match two_rules(alloc)? {
-        Some(flow) => job(alloc, &flow, 0, &one(alloc, value(alloc, text)?)?).is_ok(),
-        None => false,
-    })
-}
-
-#[test]
-fn makes_jobs(rt: HostRuntime) -> Result<(), Fail> {
-    assert_eq!(rt; makes(rt.alloc(), "x")?, true);
     Ok(())
 }
 
