@@ -12,6 +12,3 @@ pub use fault::{Fault, status_of};
 pub use lines::{job_line, reason_text};
 pub use listing::{plan_line, state_line};
 pub use telling::fault_line;
-
-#[cfg(test)]
-mod tests;
