@@ -88,13 +88,17 @@ walk flow sources L (suc n) p =
       | Some c ↦ flat_map (walk flow sources L n) (wants flow L c) ++ c ∷ []
     ]
 
+-- what a job wants, but for the texts that are no paths
+abbrev pub wanted_paths : Flow → Listings → Candidate → List Path
+wanted_paths flow L c = filter is_path (wants flow L c)
+
 -- the longest chain of jobs from a path, each wanting something of the next, counted up to n
 abbrev pub height : Flow → Sources → Listings → ℕ → Path → ℕ
 height flow sources L zero p = 0
 height flow sources L (suc n) p =
     elim (maker (choose flow sources p)) as (λ _. ℕ) [
       | None ↦ 0
-      | Some c ↦ 1 + fold max 0 (map (height flow sources L n) (wants flow L c))
+      | Some c ↦ 1 + fold max 0 (map (height flow sources L n) (wanted_paths flow L c))
     ]
 
 module _ (flow : Flow) (sources : Sources) (L : Listings) where
@@ -186,13 +190,16 @@ module _ (flow : Flow) (sources : Sources) (image : Image) (L : Listings) (targe
   abbrev pub is_deep : Path → Bool
   is_deep p = height flow sources L 201 p == 201
 
+  -- all that is refused of the jobs, in the order in which it is looked for
+  abbrev pub job_refusals : List Refusal
+  job_refusals =
+      map Deep (filter is_deep targets)
+      ++ (flat_map (refused flow sources L 201) targets
+      ++ clashes image [] (flat_map spots (jobs flow sources L targets)))
+
   -- all that is refused, in the order in which it is looked for: the first is the answer
   abbrev pub refusals : List Refusal
-  refusals =
-      refused_if (nat_lt 100000 (length (reach flow sources L 400 targets))) TooManyPaths
-      ++ (map Deep (filter is_deep targets)
-      ++ (flat_map (refused flow sources L 201) targets
-      ++ clashes image [] (flat_map spots (jobs flow sources L targets))))
+  refusals = refused_if (nat_lt 100000 (length (reach flow sources L 400 targets))) TooManyPaths ++ job_refusals
 
 -- a derivation gives its jobs in plan order, or is refused
 pub data Derivation : Type 0 where

@@ -1,2 +1,3 @@
 pub mod Derive
 pub mod Mean
+pub mod Told

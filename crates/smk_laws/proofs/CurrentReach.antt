@@ -1,12 +1,12 @@
 -- What a derivation without refusals says of each path that its walk comes to.
 use Rattle.std.proofs.Common.{◌≡◌, ◌⊎◌, ℕ, zero, suc, ◌≤◌, ◌+◌, max, Bool, true, false, List, [], ◌∷◌, ◌++◌, map, refl, sym, ap, subst, inl, inr, ◌∙◌, arith, Some, None, is_some, flat_map, fold, eqb, false-eqb, zero-le}
-use Rattle.smk_laws.proofs.CurrentLists.{In, in_left, in_right, in_flat, in_map, flat_nil, append_nil_left, append_nil_right, cons_nil}
+use Rattle.smk_laws.proofs.CurrentLists.{In, in_left, in_right, in_flat, in_map, in_filter, flat_nil, append_nil_left, append_nil_right, cons_nil}
 use Rattle.std.specs.Prelude.{is_none, Option}
 use Rattle.smk_pattern.specs.Shapes.{Text}
 use Rattle.smk_world.specs.Trees.{folder_over}
 use Rattle.smk_chain.specs.Derive.{refused_if, is_missing, recipe}
 use Rattle.smk_base.specs.Path.{is_path}
-use Rattle.smk_chain.specs.Derive.{Derived, Listings, NoInput, Refusal, Refused, height, lacking, outcome, refused, refused_at, walk, wants}
+use Rattle.smk_chain.specs.Derive.{Derived, Listings, NoInput, Refusal, Refused, height, lacking, outcome, refused, refused_at, walk, wanted_paths, wants}
 use Rattle.smk_choose.specs.Choose.{Ambiguous, Choice, Make, Nothing, Source, Sources, choose, maker}
 use Rattle.smk_flow.specs.Flows.{Candidate, Flow}
 use Rattle.smk_flow.specs.declared.job.Job.{Job}
@@ -43,11 +43,11 @@ module _ (flow : Flow) (sources : Sources) (L : Listings) where
 
   abbrev height_by : ℕ → Choice → ℕ
   height_by n ch =
-      elim (maker ch) as (λ _. ℕ) [ None ↦ 0 | Some c ↦ 1 + fold max 0 (map (height flow sources L n) (wants flow L c)) ]
+      elim (maker ch) as (λ _. ℕ) [ None ↦ 0 | Some c ↦ 1 + fold max 0 (map (height flow sources L n) (wanted_paths flow L c)) ]
 
   pub height_make :
       (n : ℕ) (p : Path) (c : Candidate) → choose flow sources p ≡ Make c →
-      height flow sources L (suc n) p ≡ 1 + fold max 0 (map (height flow sources L n) (wants flow L c))
+      height flow sources L (suc n) p ≡ 1 + fold max 0 (map (height flow sources L n) (wanted_paths flow L c))
   height_make n p c e = ap (height_by n) e
 
   abbrev below_by : ℕ → Candidate → Path → List Refusal
@@ -103,9 +103,10 @@ module _ (flow : Flow) (sources : Sources) (L : Listings) where
   reached_step all n p c q r e h =
       let tall = height_make (suc n) p c e in
       let fits = r.fits in
-      let most = fold_max (map (height flow sources L (suc n)) (wants flow L c)) 0 (height flow sources L (suc n) q) (in_map (height flow sources L (suc n)) (wants flow L c) q h) in
       let calm = sym (refused_make (suc n) p c e) ∙ r.calm in
       let want = calm_want (suc n) p c q (flat_nil _ (wants flow L c) q (append_nil_right (refused_at flow L p (Make c)) _ calm) h) in
+      let kept = in_filter is_path (wants flow L c) q h want.0 in
+      let most = fold_max (map (height flow sources L (suc n)) (wanted_paths flow L c)) 0 (height flow sources L (suc n) q) (in_map (height flow sources L (suc n)) (wanted_paths flow L c) q kept) in
       record {
         fits = omega arith;
         calm = want.1;
@@ -139,7 +140,7 @@ module _ (flow : Flow) (sources : Sources) (L : Listings) where
     where
       go : (ch : Choice) → choose flow sources p ≡ ch → ((q : Path) → height flow sources L n q ≤ n) → height_by n ch ≤ suc n
       go Source e ih = omega arith
-      go (Make c) e ih = let h = fold_least (height flow sources L n) n ih (wants flow L c) 0 (zero-le) in omega arith
+      go (Make c) e ih = let h = fold_least (height flow sources L n) n ih (wanted_paths flow L c) 0 (zero-le) in omega arith
       go (Nothing lack) e ih = omega arith
       go (Ambiguous a b) e ih = omega arith
 
