@@ -1,0 +1,4 @@
+mod Ranges
+mod Lookups
+mod Firsts
+mod Stored

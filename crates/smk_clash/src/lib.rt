@@ -2,5 +2,8 @@
 #![tactic(auto)]
 
 mod clash;
+mod known;
+mod lookup;
+mod spot;
 
 pub use clash::first_clash;
