@@ -1,4 +1,5 @@
 mod Ranges
 mod Lookups
 mod Firsts
+mod Spots
 mod Stored

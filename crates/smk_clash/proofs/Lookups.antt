@@ -1,10 +1,10 @@
 -- What lies above and under a path in a set of texts.
-use Rattle.std.proofs.Common.{◌≡◌, ℕ, zero, suc, ◌<◌, Bool, true, false, cond, ◌||◌, ◌&&◌, not, ◌==◌, List, [], ◌∷◌, ◌++◌, length, get_or, take, drop, refl, sym, ap, subst, ◌∙◌, arith, bytes_eq, string_bytes, String}
+use Rattle.std.proofs.Common.{◌≡◌, ℕ, suc, ◌<◌, ◌≤◌, ◌+◌, inl, inr, Bool, true, false, cond, ◌||◌, ◌&&◌, not, ◌==◌, List, [], ◌∷◌, ◌++◌, length, get_or, take, refl, sym, ap, subst, ◌∙◌, arith, bytes_eq, string_bytes, String}
 use Rattle.std.specs.List.{filter}
 use Rattle.std.specs.Cmp.Lexicographic.{slice_cmp}
 use Rattle.std.specs.Ordering.{nat_cmp, is_le}
 use Rattle.std.specs.declared.alloc.Global.{Global}
-use Rattle.std.proofs.lemmas.Bool.{eqb-true}
+use Rattle.std.proofs.lemmas.Bool.{eqb-true, cases_lt}
 use Rattle.smk_base.specs.Path.{is_under, overlaps}
 use Rattle.smk_base.proofs.Places.{and_first, and_second, same_place}
 use Rattle.smk_base.proofs.Under.{never_both, false_unless}
@@ -51,6 +51,12 @@ none_above P (b ∷ text) (c ∷ folder) each h =
     subst (λ x. P (x ∷ folder) ≡ false) (eqb-true b c (and_first (b == c) (is_under text folder) h))
     (none_above (λ q. P (b ∷ q)) text folder (λ k lt e. each (suc k) (omega arith) e) (and_second (b == c) (is_under text folder) h))
 
+pub none_over : (P : Path → Bool) (name path q : Path) (i : ℕ) → name ≡ path → length name ≤ i → ((k : ℕ) → k < i → get_or name k 0 ≡ 47 → P (take k name) ≡ false) → is_under path q ≡ true → P q ≡ false
+none_over P name path q i same all each under = none_above P name q (λ k lt e. each k (omega arith) e) (subst (λ p. is_under p q ≡ true) (sym same) under)
+
+pub one_more : (P : ℕ → Type 0) (i : ℕ) → ((k : ℕ) → k < i → P k) → P i → (k : ℕ) → k < i + 1 → P k
+one_more P i each last k lt = elim (cases_lt k i) [ inl l ↦ each k l | inr g ↦ subst P (let e : i ≡ k = omega arith in e) last ]
+
 -- ## Under
 
 abbrev pub is_in_texts : List ℕ → List ℕ → List ℕ → Bool
@@ -67,7 +73,7 @@ none_passes test q (k ∷ keys) t e = go (test (string_bytes k)) refl e (none_pa
         → (bytes_eq q (string_bytes k) || among (texts_of keys) q) ≡ false
     go true is some rest = absurd cc
     go false is none rest =
-        ap (λ (b : Bool). b || among (texts_of keys) q) (false_unless (bytes_eq q (string_bytes k)) (λ same. never_both true refl (sym (ap test (same_place q (string_bytes k) same) ∙ is) ∙ t)))
+        ap (λ (b : Bool). b || among (texts_of keys) q) (false_unless (bytes_eq q (string_bytes k)) (λ same. never_both (test q) t (ap test (same_place q (string_bytes k) same) ∙ is)))
         ∙ rest none
 
 pub none_under : (p low high : Path) (keys left : List (String Global)) → left ≡ [] → left ≡ passing (is_in_texts low high) keys → low ≡ p ++ 47 ∷ [] → high ≡ p ++ 48 ∷ []
@@ -78,9 +84,9 @@ none_under p low high keys left none is is_low is_high q under =
 
 -- ## Around
 
-pub none_around : (P : Path → Bool) (under above : Bool) (p : Path) → under ≡ false → (under ≡ false → (q : Path) → is_under q p ≡ true → P q ≡ false)
+pub none_around : (P : Path → Bool) (under : Bool) (p : Path) → under ≡ false → (under ≡ false → (q : Path) → is_under q p ≡ true → P q ≡ false)
     → ((q : Path) → is_under p q ≡ true → P q ≡ false) → (q : Path) → overlaps p q ≡ true → bytes_eq p q ≡ false → P q ≡ false
-none_around P under above p no_under low high q over other = go (is_under p q) (is_under q p) refl refl (sym (ap (λ b. b || (is_under p q || is_under q p)) other) ∙ over)
+none_around P under p no_under low high q over other = go (is_under p q) (is_under q p) refl refl (sym (ap (λ b. b || (is_under p q || is_under q p)) other) ∙ over)
   where
     go : (a b : Bool) → is_under p q ≡ a → is_under q p ≡ b → (is_under p q || is_under q p) ≡ true → P q ≡ false
     go true b ea eb h = high q ea

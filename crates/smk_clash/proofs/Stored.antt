@@ -1,5 +1,5 @@
 -- What the store has is what the image has.
-use Rattle.std.proofs.Common.{◌≡◌, ◌⊎◌, inl, inr, Bool, true, false, cond, ◌||◌, ◌&&◌, not, List, [], ◌∷◌, ◌++◌, map, Option, Some, None, refl, sym, ap, subst, ◌∙◌, bytes_eq}
+use Rattle.std.proofs.Common.{◌≡◌, inl, inr, Bool, true, false, ◌||◌, ◌&&◌, not, List, [], ◌∷◌, ◌++◌, map, Some, None, refl, sym, ap, subst, ◌∙◌, bytes_eq}
 use Rattle.std.specs.Prelude.{if◌then◌else◌, is_some}
 use Rattle.std.specs.List.{filter, AllByRecursion}
 use Rattle.std.specs.Cmp.Lexicographic.{slice_cmp}
@@ -9,16 +9,14 @@ use Rattle.std.specs.declared.cmp.Ordering.TheVariants.{Less, Equal, Greater}
 use Rattle.std.proofs.lemmas.Cmp.{nat_list_cmp_total, tied_itself}
 use Rattle.smk_base.specs.Path.{overlaps}
 use Rattle.smk_base.proofs.Places.{and_first, and_second, same_place, place_itself}
-use Rattle.smk_base.proofs.Under.{never_both, false_unless, or_first, or_second, or_cases}
+use Rattle.smk_base.proofs.Under.{never_both, false_unless, or_first, or_cases}
 use Rattle.smk_world.specs.Trees.{Path, among}
 use Rattle.smk_record.specs.Records.{are_rising, is_less}
 use Rattle.smk_store.specs.declared.store.Entry.{Entry}
-use Rattle.smk_store.specs.declared.store.Kept.{Kept}
-use Rattle.smk_store.specs.declared.store.Kept.TheVariants.{Absent, Unreadable, Held}
 use Rattle.smk_store.specs.Images.{Image, is_known, stands}
 use Rattle.smk_store.specs.Stores.{Known, entry_of}
 use Rattle.smk_store.specs.Loading.{IsStoreOf, entry_in, entry_at}
-use Rattle.smk_chain.specs.Derive.{Refusal, Clash, hinders, clashes, has_record_or_mark}
+use Rattle.smk_chain.specs.Derive.{Clash, hinders, clashes}
 use Rattle.smk_clash.specs.Clashes.{ListsKnown, paths_in, hinders_in, blocks_output, blocks_log, clashes_in}
 
 -- ## A spot

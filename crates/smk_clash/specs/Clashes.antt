@@ -26,6 +26,9 @@ output_of out = (out.path, true)
 abbrev pub log_of : Path → Path × Bool
 log_of p = (p, false)
 
+abbrev pub spot_paths : List (Path × Bool) → List Path
+spot_paths spots = map (λ (s : Path × Bool). s.0) spots
+
 -- ## By a store
 
 abbrev pub paths_in : List Known → List Path

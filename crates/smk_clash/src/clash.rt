@@ -1,6 +1,6 @@
 //! The first two that overlap.
 
-ghost use Rattle.std.specs.Prelude.{◌≡◌, ◌++◌, [], ◌∷◌, IfOk, map, filter, option_map, true, false};
+ghost use Rattle.std.specs.Prelude.{◌≡◌, ◌++◌, [], ◌∷◌, IfOk, filter, option_map, true, false};
 ghost use Rattle.std.specs.List.{flat_map};
 ghost use Rattle.std.specs.BTreeSet.{contains_text};
 ghost use Rattle.smk_base.specs.Path.{overlaps};
@@ -8,7 +8,7 @@ ghost use Rattle.smk_world.specs.Trees.{Path, first, among};
 ghost use Rattle.smk_store.specs.Images.{Image};
 ghost use Rattle.smk_store.specs.Loading.{IsStoreOf};
 ghost use Rattle.smk_chain.specs.Derive.{spots, clashes};
-ghost use Rattle.smk_clash.specs.Clashes.{clash_of, ListsKnown, paths_in, hinders_in, clashes_in};
+ghost use Rattle.smk_clash.specs.Clashes.{clash_of, ListsKnown, paths_in, hinders_in, clashes_in, spot_paths};
 
 use crate::known::known_in;
 use crate::lookup::{has_other, put, set_of};
@@ -25,7 +25,7 @@ fn first_overlapping(
     earlier: &[Spot],
     path: &PathText,
 ) -> Result<Option<PathText>, OutOfMemory>
-    ensures { IfOk result (λ other. other ≡ first (filter (overlaps path.now) (map (λ s. s.0) earlier.now))) }
+    ensures { IfOk result (λ other. other ≡ first (filter (overlaps path.now) (spot_paths earlier.now))) }
 {
     for spot in earlier {
         if path.overlaps(&spot.0) {
@@ -36,17 +36,14 @@ fn first_overlapping(
 }
 
 // Whether an earlier one overlaps the path. It is looked up by the paths that do.
-fn is_taken(
-    alloc: Global,
-    taken: &BTreeSet<String>,
-    path: &PathText,
-) -> Result<bool, OutOfMemory>
+fn is_taken(alloc: Global, taken: &BTreeSet<String>, path: &PathText) -> Result<bool, OutOfMemory>
     ensures { IfOk result (λ found. found ≡ false → (q : Path) → overlaps path.now q ≡ true → contains_text taken.now q ≡ false) }
 {
     if taken.contains(path.as_str()) {
         return Ok(true);
     }
-    has_other(alloc, taken, path)
+    let other = has_other(alloc, taken, path)?;
+    Ok(other)
 }
 
 // The first of the earlier ones that overlaps the path.
@@ -56,8 +53,8 @@ fn earlier_in(
     earlier: &[Spot],
     path: &PathText,
 ) -> Result<Option<PathText>, OutOfMemory>
-    requires taken { (q : Path) → contains_text taken.now q ≡ among (map (λ s. s.0) earlier.now) q }
-    ensures { IfOk result (λ other. other ≡ first (filter (overlaps path.now) (map (λ s. s.0) earlier.now))) }
+    requires taken { (q : Path) → contains_text taken.now q ≡ among (spot_paths earlier.now) q }
+    ensures { IfOk result (λ other. other ≡ first (filter (overlaps path.now) (spot_paths earlier.now))) }
 {
     if !is_taken(alloc, taken, path)? {
         return Ok(None);
@@ -75,8 +72,8 @@ fn other_in(
     spot: &Spot,
 ) -> Result<Option<PathText>, OutOfMemory>
     requires known { (q : Path) → contains_text known.now q ≡ among (paths_in store.now) q }
-    requires taken { (q : Path) → contains_text taken.now q ≡ among (map (λ s. s.0) earlier.now) q }
-    ensures { IfOk result (λ other. other ≡ first (filter (overlaps spot.now.0) (map (λ s. s.0) earlier.now) ++ filter (hinders_in store.now spot.now) (paths_in store.now))) }
+    requires taken { (q : Path) → contains_text taken.now q ≡ among (spot_paths earlier.now) q }
+    ensures { IfOk result (λ other. other ≡ first (filter (overlaps spot.now.0) (spot_paths earlier.now) ++ filter (hinders_in store.now spot.now) (paths_in store.now))) }
 {
     match earlier_in(alloc, taken, earlier, &spot.0)? {
         Some(other) => Ok(Some(other)),
@@ -96,10 +93,10 @@ fn clash_in(
 {
     let mut taken = BTreeSet::new(alloc);
     for (number, spot) in spots.iter().enumerate() {
-        if let Some(other) = other_in(alloc, store, known, &taken, &spots[..number], spot)? {
-            return Ok(Some((spot.0.copy(alloc)?, other)));
+        match other_in(alloc, store, known, &taken, &spots[..number], spot)? {
+            Some(other) => return Ok(Some((spot.0.copy(alloc)?, other))),
+            None => put(alloc, &mut taken, &spot.0)?,
         }
-        put(alloc, &mut taken, &spot.0)?;
     }
     Ok(None)
 }
@@ -133,5 +130,6 @@ pub fn first_clash(
         → option_map clash_of found ≡ first (clashes image [] (flat_map spots jobs.now))) }
 {
     let paths = store.paths();
-    clash_of_jobs(alloc, store, paths.as_slice(), jobs.as_slice())
+    let found = clash_of_jobs(alloc, store, paths.as_slice(), jobs.as_slice())?;
+    Ok(found)
 }

@@ -87,7 +87,8 @@ fn is_hindered(
     if hinders(store, spot, &spot.0) {
         return Ok(true);
     }
-    has_other(alloc, known, &spot.0)
+    let other = has_other(alloc, known, &spot.0)?;
+    Ok(other)
 }
 
 /// The first path in the store that is in the way of the output or log.

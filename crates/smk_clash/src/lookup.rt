@@ -1,6 +1,6 @@
 //! Paths in a set, looked up by what they overlap.
 
-ghost use Rattle.std.specs.Prelude.{◌≡◌, ◌||◌, ◌++◌, ℕ, List as Items, IfOk, OnOk, bytes_eq, string_bytes, false, true};
+ghost use Rattle.std.specs.Prelude.{◌≡◌, ◌||◌, ◌++◌, ℕ, List as Items, ◌<◌, length, take, slice_index, IfOk, OnOk, bytes_eq, string_bytes, false, true};
 ghost use Rattle.std.specs.BTreeSet.{contains_text};
 ghost use Rattle.smk_base.specs.Path.{is_under, overlaps};
 ghost use Rattle.smk_world.specs.Trees.{Path, among};
@@ -33,14 +33,21 @@ pub(crate) fn set_of(alloc: Global, paths: &[PathText]) -> Result<BTreeSet<Strin
     Ok(set)
 }
 
+// Whether the text has a slash there, and the set what stands before it.
+fn has_front(set: &BTreeSet<String>, text: &str, i: usize) -> bool
+    requires { i < length text.now }
+    ensures { result ≡ false → slice_index text.now i ≡ 47 → contains_text set.now (take i text.now) ≡ false }
+{
+    text.as_bytes()[i] == b'/' && set.contains(&text[..i])
+}
+
 // Whether the set has a folder above the path.
 fn has_above(set: &BTreeSet<String>, path: &PathText) -> bool
     ensures { result ≡ false → (q : Path) → is_under path.now q ≡ true → contains_text set.now q ≡ false }
 {
     let text = path.as_str();
-    let bytes = text.as_bytes();
-    for (i, b) in bytes.iter().enumerate() {
-        if *b == b'/' && set.contains(&text[..i]) {
+    for i in 0..text.len() {
+        if has_front(set, text, i) {
             return true;
         }
     }

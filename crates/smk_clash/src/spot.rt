@@ -44,7 +44,8 @@ fn push_job(alloc: Global, found: &mut List<Spot>, job: &Job) -> Result<(), OutO
     ensures { OnOk result (found.new ≡ found.old ++ spots job.now) }
 {
     push_items(alloc, found, job.recipe.outputs.as_slice())?;
-    push_logs(alloc, found, job.logs.as_slice())
+    push_logs(alloc, found, job.logs.as_slice())?;
+    Ok(())
 }
 
 /// The outputs and then the logs of each job, in order.
