@@ -3,3 +3,4 @@ mod Lookups
 mod Firsts
 mod Spots
 mod Stored
+pub mod Seen
