@@ -138,7 +138,34 @@ fn shares_of(alloc: Global, bounds: &[Amount]) -> Result<Vec<Share>, OutOfMemory
     Ok(shares)
 }
 
+// Copies of the shares.
+fn copies(alloc: Global, shares: &[Share]) -> Result<Vec<Share>, OutOfMemory>
+    ensures { IfOk result (λ made. made.items ≡ shares.now) }
+{
+    let mut made = Vec::new(alloc);
+    for share in shares {
+        let bound = share.bound.copied(alloc)?;
+        made.push(Share {
+            bound,
+            used: share.used,
+        })?;
+    }
+    Ok(made)
+}
+
 impl Room {
+    /// A copy, in which the same jobs are.
+    pub(crate) fn copy(&self, alloc: Global) -> Result<Room, OutOfMemory>
+        ensures { IfOk result (λ room. (cores : ℕ) → (bounds : Items Bound) → (asks : Items Asked) → Holds cores bounds self.now asks → Holds cores bounds room asks) }
+    {
+        let shares = copies(alloc, self.shares.as_slice())?;
+        Ok(Room {
+            cores: self.cores,
+            threads: self.threads,
+            shares,
+        })
+    }
+
     /// The room with these cores and bounds. Nothing is in use.
     pub fn new(alloc: Global, cores: u64, bounds: &List<Amount>) -> Result<Room, OutOfMemory>
         ensures { IfOk result (λ room. Holds cores bounds.now room []) }
