@@ -8,3 +8,6 @@ mod settings;
 pub use choice::pick;
 pub use room::{Ask, Room};
 pub use settings::{Force, Settings};
+
+#[cfg(test)]
+mod tests;
