@@ -1,1 +1,3 @@
+pub mod Picks
 pub mod Rooms
+pub mod Shares

@@ -1,0 +1,6 @@
+mod Ranges
+mod Lookups
+mod Firsts
+mod Spots
+mod Stored
+pub mod Seen
