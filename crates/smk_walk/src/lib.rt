@@ -1,11 +1,6 @@
-//! The jobs that targets call for, in plan order.
+//! The jobs that targets call for, in plan order, with what makes each path and which jobs come before each job.
 #![tactic(auto)]
-ghost use Rattle.std.specs.Prelude.{◌≡◌};
 
+mod walking;
 
-/// A number.
-pub fn two() -> u64
-    ensures { result ≡ 2 }
-{
-    2
-}
+pub use walking::walk;
