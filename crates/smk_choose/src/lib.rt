@@ -5,6 +5,7 @@ mod binding;
 mod candidates;
 mod choice;
 mod decide;
+mod finder;
 mod heights;
 mod nodes;
 mod precedence;
@@ -14,7 +15,9 @@ mod sources;
 mod table;
 mod whole;
 
+pub use binding::by_name;
 pub use choice::{Choice, Chosen, Lack, Making};
+pub use finder::{Finder, apart, places};
 pub use precedence::precedes;
 pub use sources::{Sources, Standing};
 pub use table::Choices;
