@@ -63,8 +63,8 @@ fn add_folder(
     Ok(())
 }
 
-// The folders above the path, the shorter ones first.
-fn folders_above(alloc: Global, path: &PathText) -> Result<Vec<PathText>, OutOfMemory>
+/// The folders above the path, the shorter ones first. `OutOfMemory` where there is no memory for them.
+pub fn folders_above(alloc: Global, path: &PathText) -> Result<Vec<PathText>, OutOfMemory>
     ensures { IfOk result (λ folders. folders.items ≡ folders_above path.now) }
 {
     let text = path.as_str();

@@ -1,12 +1,11 @@
 //! Candidates for those who look at paths before it is known which of them are sources.
 
-ghost use Rattle.std.specs.Prelude.{◌≡◌, ◌++◌, Some, map, slice_get, IfOk, OnOk};
+ghost use Rattle.std.specs.Prelude.{◌≡◌, ◌++◌, map, IfOk, OnOk};
 ghost use Rattle.smk_world.specs.Trees.{Path};
-ghost use Rattle.smk_flow.specs.Flows.{Candidate, outputs, logs};
 ghost use Rattle.smk_choose.specs.Choose.{candidates, as_member, as_output, or_else};
 ghost use Rattle.smk_choose.specs.Told.{told_by, making};
 ghost use Rattle.smk_choose.specs.Readings.{filled_by};
-ghost use Rattle.smk_choose.specs.Finding.{IsFinder};
+ghost use Rattle.smk_choose.specs.Finding.{IsFinder, places_by};
 
 use crate::candidates::{all_apart, filled, makings};
 use crate::readings::{Reading, readings};
@@ -86,12 +85,11 @@ fn filled_places(alloc: Global, rule: &Rule, binding: &Binding) -> Result<List<T
 }
 
 /// Where the job writes: its outputs and then its logs, as texts, which need not be paths. `OutOfMemory` where there is no memory for them.
-pub fn places(alloc: Global, flow: &Workflow, making: &Making) -> Result<List<Text>, OutOfMemory>
-    ensures { (c : Candidate) → slice_get flow.now.rules c.rule ≡ Some c.part → making.now ≡ making c
-        → IfOk result (λ found. found ≡ outputs flow.now c ++ logs flow.now c) }
+pub fn places(alloc: Global, flow: &Workflow, job: &Making) -> Result<List<Text>, OutOfMemory>
+    ensures { IfOk result (λ found. found ≡ places_by flow.now job.now) }
 {
-    match flow.rules().as_slice().get(making.rule as usize) {
-        Some(rule) => filled_places(alloc, rule, &making.binding),
+    match flow.rules().as_slice().get(job.rule as usize) {
+        Some(rule) => filled_places(alloc, rule, &job.binding),
         None => Ok(List::new(alloc)),
     }
 }

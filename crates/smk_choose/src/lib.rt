@@ -16,6 +16,7 @@ mod table;
 mod whole;
 
 pub use binding::by_name;
+pub use candidates::folders_above;
 pub use choice::{Choice, Chosen, Lack, Making};
 pub use finder::{Finder, apart, places};
 pub use precedence::precedes;

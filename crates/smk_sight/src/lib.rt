@@ -2,5 +2,6 @@
 #![tactic(auto)]
 
 mod looking;
+mod seeing;
 
 pub use looking::sight;
