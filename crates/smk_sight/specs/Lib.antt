@@ -1,3 +1,4 @@
 pub mod Sight
 pub mod Disk
 pub mod Viewing
+pub mod Telling

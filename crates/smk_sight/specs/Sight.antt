@@ -1,5 +1,5 @@
 -- What is told of sources for some targets.
-use Rattle.std.specs.Prelude.{◌≡◌, Bool, true, false, List, ◌++◌}
+use Rattle.std.specs.Prelude.{◌≡◌, ◌<◌, ◌≤◌, true, false, List, ◌++◌, length}
 use Rattle.std.specs.List.{AllByRecursion}
 use Rattle.smk_base.specs.Path.{is_path}
 use Rattle.smk_world.specs.Trees.{Path}
@@ -28,3 +28,10 @@ SameAround flow S T p =
 -- so they do of each path of the reach of these targets
 abbrev pub SameOnReach : Flow → Sources → Listings → List Path → Sources → Type 0
 SameOnReach flow S L targets T = AllByRecursion (SameAround flow S T) (reach flow S L 400 targets)
+
+-- the reach has more than 100,000 paths, or no more
+pub record IsLarge (flow : Flow) (S : Sources) (L : Listings) (targets : List Path) : Type 0 where
+  pub more : 100000 < length (reach flow S L 400 targets)
+
+pub record IsSmall (flow : Flow) (S : Sources) (L : Listings) (targets : List Path) : Type 0 where
+  pub less : length (reach flow S L 400 targets) ≤ 100000

@@ -3,5 +3,6 @@
 
 mod looking;
 mod seeing;
+mod telling;
 
 pub use looking::sight;

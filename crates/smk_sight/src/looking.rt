@@ -1,6 +1,6 @@
 //! Looking at the working folder for some targets.
 
-ghost use Rattle.std.specs.Prelude.{◌≡◌, ◌<◌, ◌≤◌, ℕ, List as Items, Option, Some, IsErrOf, IfOk, IfErr, IsSome, length};
+ghost use Rattle.std.specs.Prelude.{◌≡◌, ◌<◌, ℕ, List as Items, Option, Some, IsErrOf, IfOk, IfErr, IsSome};
 ghost use Rattle.smk_world.specs.World.{World};
 ghost use Rattle.smk_world.specs.Calls.{HasCause};
 ghost use Rattle.smk_world.specs.Runs.{Did};
@@ -8,8 +8,8 @@ ghost use Rattle.smk_record.specs.declared.record.Record.{Record as RecordValue}
 ghost use Rattle.smk_store.specs.Images.{seen, Image};
 ghost use Rattle.smk_store.specs.Loading.{IsStoreOf, AreLooks};
 ghost use Rattle.smk_choose.specs.Told.{told_by};
-ghost use Rattle.smk_chain.specs.Derive.{sources_of, reach, jobs, job_refusals};
-ghost use Rattle.smk_sight.specs.Sight.{SameOnReach};
+ghost use Rattle.smk_chain.specs.Derive.{sources_of, reach, jobs, job_refusals, outcome};
+ghost use Rattle.smk_sight.specs.Sight.{SameOnReach, IsLarge, IsSmall};
 ghost use Rattle.smk_sight.specs.Disk.{IsOnDisk};
 
 use smk_base::{List, PathText};
@@ -42,25 +42,22 @@ pub fn sight<W: Files>(
         → (read : Items ℕ → Option RecordValue) → IsStoreOf (seen read w) store.now
         → SameOnReach flow.now (sources_of (seen read w)) lists.now targets.now (told_by sources)) }
 
-    // The reach is the same by what is told, and so are the jobs and what is refused of them.
+    // The reach is the same by what is told, and so is the derivation: the jobs, or the first of what is refused of them.
     ensures same_reach { IfOk result (λ sources. (w : World) → W.world work.old ≡ Some w → IsOnDisk w
         → (read : Items ℕ → Option RecordValue) → IsStoreOf (seen read w) store.now
         → reach flow.now (told_by sources) lists.now 400 targets.now ≡ reach flow.now (sources_of (seen read w)) lists.now 400 targets.now) }
-    ensures same_jobs { IfOk result (λ sources. (w : World) → W.world work.old ≡ Some w → IsOnDisk w
-        → (read : Items ℕ → Option RecordValue) → IsStoreOf (seen read w) store.now
-        → jobs flow.now (told_by sources) lists.now targets.now ≡ jobs flow.now (sources_of (seen read w)) lists.now targets.now) }
-    ensures same_refusals { IfOk result (λ sources. (w : World) → W.world work.old ≡ Some w → IsOnDisk w
-        → (read : Items ℕ → Option RecordValue) → IsStoreOf (seen read w) store.now
-        → (image : Image) → job_refusals flow.now (told_by sources) image lists.now targets.now
-        ≡ job_refusals flow.now (sources_of (seen read w)) image lists.now targets.now) }
+    ensures same_derivation { IfOk result (λ sources. (w : World) → W.world work.old ≡ Some w → IsOnDisk w
+        → (read : Items ℕ → Option RecordValue) → IsStoreOf (seen read w) store.now → (image : Image)
+        → outcome (job_refusals flow.now (told_by sources) image lists.now targets.now) (jobs flow.now (told_by sources) lists.now targets.now)
+        ≡ outcome (job_refusals flow.now (sources_of (seen read w)) image lists.now targets.now) (jobs flow.now (sources_of (seen read w)) lists.now targets.now)) }
 
     // The reach has more than 100,000 paths just where that is the fault.
     ensures few { IfOk result (λ sources. (w : World) → W.world work.old ≡ Some w → IsOnDisk w
         → (read : Items ℕ → Option RecordValue) → IsStoreOf (seen read w) store.now
-        → length (reach flow.now (sources_of (seen read w)) lists.now 400 targets.now) ≤ 100000) }
+        → IsSmall flow.now (sources_of (seen read w)) lists.now targets.now) }
     ensures too_many { IfErr result (λ fault. (count : ℕ) → fault ≡ SightFault.TooManyPaths count → (w : World) → W.world work.old ≡ Some w → IsOnDisk w
         → (read : Items ℕ → Option RecordValue) → IsStoreOf (seen read w) store.now
-        → 100000 < length (reach flow.now (sources_of (seen read w)) lists.now 400 targets.now)) }
+        → IsLarge flow.now (sources_of (seen read w)) lists.now targets.now) }
     ensures count { IfErr result (λ fault. (count : ℕ) → fault ≡ SightFault.TooManyPaths count → 100000 < count) }
     ensures stays { ¬ (IsErrOf result SightFault.Device) → IsSome (W.world work.old) → IsSome (W.world work.new) }
     ensures device { HasCause (W.faults work.old) (W.faults work.new) (IsErrOf result SightFault.Device) }
