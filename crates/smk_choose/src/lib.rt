@@ -20,6 +20,7 @@ pub use candidates::folders_above;
 pub use choice::{Choice, Chosen, Lack, Making};
 pub use finder::{Finder, apart, places};
 pub use precedence::precedes;
+pub use readings::gathered_from;
 pub use sources::{Sources, Standing};
 pub use table::Choices;
 pub use whole::choose;
