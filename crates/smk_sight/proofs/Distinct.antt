@@ -26,7 +26,7 @@ added-append xs (y ∷ ys) zs = added-append (with_one (is_named y xs) xs y) ys 
 
 -- ## It is the same
 
-named_push : (z x : Path) (xs : List Path) → is_named z (xs ++ x ∷ []) ≡ (is_named z xs || bytes_eq z x)
+pub named_push : (z x : Path) (xs : List Path) → is_named z (xs ++ x ∷ []) ≡ (is_named z xs || bytes_eq z x)
 named_push z x [] = go (bytes_eq z x)
   where
     go : (b : Bool) → (b || false) ≡ (false || b)

@@ -1,6 +1,6 @@
 -- What is told, call after call.
-use Rattle.std.proofs.Common.{◌≡◌, ◌≢◌, ℕ, Bool, true, false, List, [], ◌∷◌, ◌++◌, map, filter, refl, sym, ap, ap₂, subst, ◌∙◌, Option, Some, None, slice_get, bytes_eq}
-use Rattle.std.specs.Prelude.{if◌then◌else◌, is_some}
+use Rattle.std.proofs.Common.{◌≡◌, ◌≢◌, ℕ, Bool, true, false, List, [], ◌∷◌, ◌++◌, map, filter, refl, sym, ap, ap₂, subst, ◌∙◌, Option, Some, None, Result, Ok, Err, slice_get, bytes_eq}
+use Rattle.std.specs.Prelude.{if◌then◌else◌, is_some, OnOk}
 use Rattle.std.specs.List.{AllByRecursion, flat_map}
 use Rattle.smk_base.specs.Path.{is_path}
 use Rattle.smk_world.specs.World.{World}
@@ -142,3 +142,30 @@ still_owned nodes store image v p q e path = subst (λ t. nodes t ≢ Owned) (sy
 -- want of memory is another fault
 pub never_many : (count : ℕ) → MemoryFault ≡ TooManyPaths count → ⊥
 never_many count e = cc
+
+-- ## Answers
+
+pub on_ok : {T E : Type 0} (r : Result T E) (P Q : Type 0) → (P → Q) → OnOk r P → OnOk r Q
+on_ok (Ok t) P Q more h = more h
+on_ok (Err e) P Q more h = h
+
+pub on_told : {T E : Type 0} (act : Act) (a b : Option World) (fa fb : ℕ) (ra rb : List ℕ) (F : Type 0) (store : List Known) (x y z : Eye) (r : Result T E) → HasLooked act a b fa fb ra rb F → ¬ F
+    → HasTold a store x y → OnOk r (HasTold b store y z) → OnOk r (HasTold a store x z)
+on_told act a b fa fb ra rb F store x y z r looked quiet first second =
+    on_ok r (HasTold b store y z) (HasTold a store x z) (λ h. told_then act a b fa fb ra rb F store x y z looked quiet first h) second
+
+never_path : (b : Bool) (P : Type 0) → b ≡ false → b ≡ true → P
+never_path true P e h = absurd (wrong e)
+  where
+    wrong : true ≡ false → ⊥
+    wrong q = cc
+never_path false P e h = absurd (wrong h)
+  where
+    wrong : false ≡ true → ⊥
+    wrong q = cc
+
+pub no_path_listed : (x : Eye) (t : Path) → is_path t ≡ false → is_path t ≡ true → IsListed x t
+no_path_listed x t e h = never_path (is_path t) (IsListed x t) e h
+
+pub path_listed : (x : Eye) (t p : Path) → p ≡ t → IsListed x p → is_path t ≡ true → IsListed x t
+path_listed x t p e l path = subst (IsListed x) e l

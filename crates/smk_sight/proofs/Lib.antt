@@ -4,3 +4,7 @@ pub mod Distinct
 pub mod Eyes
 pub mod Noted
 pub mod Views
+pub mod Spreading
+pub mod Under
+pub mod Taken
+pub mod Keys

@@ -2,6 +2,7 @@
 #![tactic(auto)]
 
 mod looking;
+mod reaching;
 mod seeing;
 mod telling;
 

@@ -170,7 +170,8 @@ fn has_under<W: Files>(
         if !name.folder {
             return Ok(true);
         }
-        if has_under(alloc, store, work, &path)? {
+        let inner = has_under(alloc, store, work, &path)?;
+        if inner {
             return Ok(true);
         }
     }
@@ -192,7 +193,8 @@ fn has_around<W: Files>(
         → AreSighted image seen.old → (found ≡ holds_source image path.now) × AreSighted image seen.new) }
 {
     let above = folders_above(alloc, path)?;
-    if any_source(alloc, store, work, seen, &above)? {
+    let over = any_source(alloc, store, work, seen, &above)?;
+    if over {
         return Ok(true);
     }
     if folder {
@@ -203,7 +205,7 @@ fn has_around<W: Files>(
 
 /// Whether the path is a source, and whether it holds one. Each path is looked at once; a folder's tree is listed only where a folder
 /// stands at the path.
-pub(crate) fn standing<W: Files>(
+pub(crate) fn standing_at<W: Files>(
     alloc: Global,
     store: &Store,
     work: &mut W,

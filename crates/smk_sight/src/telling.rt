@@ -1,17 +1,17 @@
 //! Telling of paths, and of where the jobs that fit them by name write.
 
-ghost use Rattle.std.specs.Prelude.{◌≡◌, true, IsErrOf, IfOk, OnOk, map};
+ghost use Rattle.std.specs.Prelude.{◌≡◌, true, false, is_some, IsErrOf, IfOk, OnOk, map};
 ghost use Rattle.std.specs.List.{AllByRecursion};
 ghost use Rattle.smk_base.specs.Path.{is_path};
 ghost use Rattle.smk_pattern.specs.Shapes.{Text as TextValue};
 ghost use Rattle.smk_choose.specs.declared.choice.Making.{Making as MakingValue};
 ghost use Rattle.smk_choose.specs.Choose.{candidates};
-ghost use Rattle.smk_choose.specs.Told.{told_by, making};
+ghost use Rattle.smk_choose.specs.Told.{standing_of, told_by, making};
 ghost use Rattle.smk_choose.specs.Finding.{IsFinder, places_by};
 ghost use Rattle.smk_store.specs.Walking.{HasLooked};
 ghost use Rattle.smk_sight.specs.Telling.{HasTold, IsListed, ArePlacesListed, IsListedAround, candidates_by};
 
-use crate::seeing::{Sighted, standing};
+use crate::seeing::{Sighted, standing_at};
 use smk_base::{OutOfMemory, PathFault, PathText, Text};
 use smk_choose::{Finder, Making, Sources, apart, places};
 use smk_flow::Workflow;
@@ -27,7 +27,15 @@ pub(crate) struct Eye {
     pub(crate) sources: Sources,
 }
 
+// Whether it was told of the path.
+fn is_told(eye: &Eye, path: &PathText) -> bool
+    ensures { result ≡ is_some (standing_of eye.now.sources path.now) }
+{
+    eye.sources.standing(path).is_some()
+}
+
 // Tells of the path, unless it was told of.
+#[tactic(auto, using(crate::proofs::Eyes::told_nothing))]
 fn tell<W: Files>(
     alloc: Global,
     store: &Store,
@@ -39,16 +47,17 @@ fn tell<W: Files>(
     ensures listed { OnOk result (IsListed eye.new path.now) }
     ensures told { OnOk result (HasTold (W.world work.old) store.now eye.old eye.new) }
 {
-    if eye.sources.standing(path).is_some() {
+    if is_told(eye, path) {
         return Ok(());
     }
-    let found = standing(alloc, store, work, &mut eye.seen, path)?;
+    let found = standing_at(alloc, store, work, &mut eye.seen, path)?;
     let copy = path.copy(alloc)?;
     eye.sources.add(copy, found.source, found.holds)?;
     Ok(())
 }
 
 // Tells of the text, where it is a path.
+#[tactic(auto, using(crate::proofs::Eyes::told_nothing))]
 fn tell_text<W: Files>(
     alloc: Global,
     store: &Store,
@@ -68,6 +77,7 @@ fn tell_text<W: Files>(
 }
 
 // Tells of these texts, where they are paths.
+#[tactic(auto, using(crate::proofs::Eyes::told_nothing))]
 fn tell_texts<W: Files>(
     alloc: Global,
     store: &Store,
@@ -86,6 +96,7 @@ fn tell_texts<W: Files>(
 }
 
 // Tells of where the job writes.
+#[tactic(auto, using(crate::proofs::Eyes::told_nothing))]
 fn tell_places<W: Files>(
     alloc: Global,
     flow: &Workflow,
@@ -99,10 +110,12 @@ fn tell_places<W: Files>(
     ensures told { OnOk result (HasTold (W.world work.old) store.now eye.old eye.new) }
 {
     let texts = places(alloc, flow, job)?;
-    tell_texts(alloc, store, work, eye, texts.as_slice())
+    tell_texts(alloc, store, work, eye, texts.as_slice())?;
+    Ok(())
 }
 
 // Tells of where these jobs write.
+#[tactic(auto, using(crate::proofs::Eyes::told_nothing))]
 fn tell_jobs<W: Files>(
     alloc: Global,
     flow: &Workflow,
@@ -139,7 +152,8 @@ fn candidates_of<W: Files>(
 {
     let fitting = finder.fitting(alloc, flow, path)?;
     tell_jobs(alloc, flow, store, work, eye, &fitting)?;
-    Ok(apart(alloc, flow, &eye.sources, fitting)?)
+    let jobs = apart(alloc, flow, &eye.sources, fitting)?;
+    Ok(jobs)
 }
 
 /// Tells of the path, and, where it is no source, of where the jobs that fit it by name write. Answers its candidates, none for a
@@ -163,5 +177,6 @@ pub(crate) fn tell_around<W: Files>(
     if eye.sources.is(path) {
         return Ok(Vec::new(alloc));
     }
-    candidates_of(alloc, flow, finder, store, work, eye, path)
+    let jobs = candidates_of(alloc, flow, finder, store, work, eye, path)?;
+    Ok(jobs)
 }
