@@ -185,10 +185,10 @@ pub record Longer (xs ys : List Path) : Type 0 where
   pub more : List Path
   pub is : ys ≡ xs ++ more
 
-longer_then : (xs ys zs : List Path) → Longer xs ys → Longer ys zs → Longer xs zs
+pub longer_then : (xs ys zs : List Path) → Longer xs ys → Longer ys zs → Longer xs zs
 longer_then xs ys zs a b = record { more = a.more ++ b.more; is = b.is ∙ ap (λ t. t ++ b.more) a.is ∙ append_assoc xs a.more b.more }
 
-longer_same : (xs : List Path) → Longer xs xs
+pub longer_same : (xs : List Path) → Longer xs xs
 longer_same xs = record { more = []; is = sym (append-nil xs) }
 
 pub added_longer : (xs ys : List Path) → Longer xs (added xs ys)

@@ -1,6 +1,6 @@
 -- What is told, call after call.
 use Rattle.std.proofs.Common.{◌≡◌, ◌≢◌, ℕ, Bool, true, false, List, [], ◌∷◌, ◌++◌, map, filter, refl, sym, ap, ap₂, subst, ◌∙◌, Option, Some, None, Result, Ok, Err, slice_get, bytes_eq}
-use Rattle.std.specs.Prelude.{if◌then◌else◌, is_some, OnOk}
+use Rattle.std.specs.Prelude.{if◌then◌else◌, is_some, OnOk, IfErr}
 use Rattle.std.specs.List.{AllByRecursion, flat_map}
 use Rattle.smk_base.specs.Path.{is_path}
 use Rattle.smk_world.specs.World.{World}
@@ -21,7 +21,7 @@ use Rattle.smk_store.specs.Images.{Image}
 use Rattle.smk_store.specs.Stores.{Known}
 use Rattle.smk_store.specs.Walking.{HasLooked}
 use Rattle.smk_store.proofs.Looks.{still}
-use Rattle.smk_chain.specs.declared.fault.SightFault.TheVariants.{TooManyPaths, OutOfMemory as MemoryFault}
+use Rattle.smk_chain.specs.declared.fault.SightFault.TheVariants.{TooManyPaths, Device, OutOfMemory as MemoryFault}
 use Rattle.smk_chain.specs.Derive.{Listings, wants, next, sources_of}
 use Rattle.smk_sight.specs.declared.telling.Eye.{Eye}
 use Rattle.smk_sight.specs.Sight.{fitting, places, SameAt, SameAround}
@@ -169,3 +169,13 @@ no_path_listed x t e h = never_path (is_path t) (IsListed x t) e h
 
 pub path_listed : (x : Eye) (t p : Path) → p ≡ t → IsListed x p → is_path t ≡ true → IsListed x t
 path_listed x t p e l path = subst (IsListed x) e l
+
+pub if_err : {T E : Type 0} (r : Result T E) (P Q : E → Type 0) → ((e : E) → P e → Q e) → IfErr r P → IfErr r Q
+if_err (Ok t) P Q more h = h
+if_err (Err e) P Q more h = more e h
+
+pub same_count : (a b : ℕ) → TooManyPaths a ≡ TooManyPaths b → a ≡ b
+same_count a b e = cc
+
+pub never_device : (count : ℕ) → Device ≡ TooManyPaths count → ⊥
+never_device count e = cc

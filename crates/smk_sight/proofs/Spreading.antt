@@ -1,6 +1,7 @@
 -- How a reach grows, path by path and level by level.
-use Rattle.std.proofs.Common.{◌≡◌, ℕ, zero, suc, ◌+◌, ◌<◌, ◌≤◌, Bool, true, false, cond, List, [], ◌∷◌, ◌++◌, map, filter, length, take, drop, get_or, slice_get, refl, sym, ap, ap₂, subst, ◌∙◌, Option, Some, None, arith, bytes_eq, append_assoc, append-nil}
-use Rattle.std.specs.Prelude.{if◌then◌else◌}
+use Rattle.std.proofs.Common.{◌≡◌, ℕ, zero, suc, ◌+◌, ◌<◌, ◌≤◌, Bool, true, false, cond, List, [], ◌∷◌, ◌++◌, map, filter, length, take, drop, get_or, slice_get, refl, sym, ap, ap₂, subst, ◌∙◌, Option, Some, None, arith, bytes_eq, append_assoc, append-nil, add-one}
+use Rattle.std.specs.Prelude.{if◌then◌else◌, nat_lt}
+use Rattle.std.proofs.lemmas.Bool.{ltb-true, ltb-false}
 use Rattle.std.specs.List.{AllByRecursion, flat_map}
 use Rattle.std.proofs.lemmas.List.{take_more, take_all, take-append-drop}
 use Rattle.smk_base.specs.Path.{is_path}
@@ -17,11 +18,13 @@ use Rattle.smk_wants.specs.declared.wanted.Want.{Want}
 use Rattle.smk_wants.specs.declared.wanted.Want.TheVariants as want
 use Rattle.smk_wants.specs.Wants.{want_of}
 use Rattle.smk_sight.specs.declared.telling.Eye.{Eye}
-use Rattle.smk_sight.specs.Telling.{IsListedAround, candidates_by, Says}
+use Rattle.smk_sight.specs.Telling.{IsListedAround, Keeps, candidates_by, Says}
 use Rattle.smk_sight.specs.Reaching.{path_of, paths_in, paths_by, IsPlaced, with_next, grown, Closed, Advanced}
 use Rattle.smk_sight.proofs.Distinct.{once, added, added-append, once_again, once_on, then_added, nothing_added, Longer, longer_then, longer_same, added_longer, longer_length, longer_take, longer_by_none, added_twice}
-use Rattle.smk_sight.proofs.Eyes.{candidates_said}
-use Rattle.smk_sight.proofs.Taken.{all_at}
+use Rattle.smk_sight.specs.Sight.{SameAround, TellsReach}
+use Rattle.smk_sight.proofs.Agree.{all_weaker}
+use Rattle.smk_sight.proofs.Eyes.{candidates_said, same_around, arounds_on, is_by, holds_by}
+use Rattle.smk_sight.proofs.Taken.{all_at, all_both}
 
 -- ## Loops
 
@@ -39,7 +42,7 @@ loop_step f xs i x init now new lt at e h =
     then_added init now new (flat_map f (take i xs)) (f x) e h ∙ ap (λ ys. once (init ++ ys)) (flat_taken f xs i x lt at)
 
 pub loop_done : {A : Type 0} (f : A → List Path) (xs : List A) (i : ℕ) (init now : List Path) → length xs ≤ i → now ≡ once (init ++ flat_map f (take i xs)) → now ≡ once (init ++ flat_map f xs)
-loop_done f xs i init now le e = e ∙ ap (λ ys. once (init ++ flat_map f ys)) (take_all xs i le)
+loop_done f xs i init now le e = e ∙ ap (λ ys. once (init ++ flat_map f ys)) (take_all i xs le)
 
 pub loop_begun : {A : Type 0} (f : A → List Path) (xs : List A) (init : List Path) → once init ≡ init → init ≡ once (init ++ flat_map f (take 0 xs))
 loop_begun f xs init e = nothing_added init init e refl
@@ -169,7 +172,7 @@ module _ (flow : Flow) (S : Sources) (L : Listings) where
     pub level_done : length new ≤ 100000 → new ≡ with_next flow S L xs xs
     level_done few =
         let s = a.some S says in
-        s.1 ∙ ap (with_next flow S L xs) (take_all fresh s.0 (s.2 few) ∙ is) ∙ fresh_all from xs e closed
+        s.1 ∙ ap (with_next flow S L xs) (take_all s.0 fresh (s.2 few) ∙ is) ∙ fresh_all from xs e closed
 
     pub level_within : Longer new (with_next flow S L xs xs)
     level_within =
@@ -177,7 +180,7 @@ module _ (flow : Flow) (S : Sources) (L : Listings) where
         subst (λ ys. Longer ys (with_next flow S L xs xs)) (sym s.1)
         (subst (Longer (with_next flow S L xs (take s.0 fresh))) (ap (with_next flow S L xs) is ∙ fresh_all from xs e closed) (some_fresh s.0 xs fresh e))
 
-    level_longer : Longer xs new
+    pub level_longer : Longer xs new
     level_longer = let s = a.some S says in subst (Longer xs) (sym s.1) (next_longer xs (take s.0 fresh) e)
 
     -- too many already
@@ -213,3 +216,99 @@ module _ (flow : Flow) (S : Sources) (L : Listings) where
 
     pub next_many : (n : ℕ) → length new ≤ 100000 → 100000 < length (grown flow S L n new) → 100000 < length (grown flow S L (suc n) xs)
     next_many n few h = subst (λ ys. 100000 < length ys) (ap (grown flow S L n) (level_done few) ∙ sym (grown_again n xs)) h
+
+-- ## The limit
+
+pub too_many : (xs : List Path) (b : Bool) → b ≡ true → b ≡ nat_lt 100000 (length xs) → 100000 < length xs
+too_many xs b e h = ltb-true 100000 (length xs) (sym h ∙ e)
+
+pub few_enough : (xs : List Path) (b : Bool) → b ≡ false → b ≡ nat_lt 100000 (length xs) → length xs ≤ 100000
+few_enough xs b e h = ltb-false 100000 (length xs) (sym h ∙ e)
+
+pub never_few : (xs : List Path) → 100000 < length xs → length xs ≤ 100000 → ⊥
+never_few xs many few = omega (arith, many, few)
+
+-- ## One call of the recursion
+
+pub says_itself : (x : Eye) → Says x (told_by x.sources)
+says_itself x = record { is = λ q s h. sym (is_by x.sources q s h); holds = λ q s h. sym (holds_by x.sources q s h) }
+
+-- so many levels are one more than those that are left
+grown_one : (flow : Flow) (S : Sources) (L : Listings) (levels k : ℕ) (xs : List Path) → levels ≡ k + 1 → grown flow S L levels xs ≡ grown flow S L (suc k) xs
+grown_one flow S L levels k xs e = ap (λ n. grown flow S L n xs) (e ∙ add-one k)
+
+pub record Level (flow : Flow) (L : Listings) (eye : Eye) (from : ℕ) (xs fresh new : List Path) : Type 0 where
+  pub each : once xs ≡ xs
+  pub closed : (S : Sources) → Says eye S → Closed flow S L from xs
+  pub is : fresh ≡ drop from xs
+  pub advanced : Advanced flow L eye fresh xs new
+
+module _ (flow : Flow) (L : Listings) (eye : Eye) (from : ℕ) (xs fresh new : List Path) (l : Level flow L eye from xs fresh new) where
+  pub many_at : (levels k : ℕ) (S : Sources) → Says eye S → levels ≡ k + 1 → 100000 < length new → 100000 < length (grown flow S L levels xs)
+  many_at levels k S says e many =
+      subst (λ ys. 100000 < length ys) (sym (grown_one flow S L levels k xs e)) (level_many flow S L eye from xs fresh new l.each (l.closed S says) l.is says l.advanced k many)
+
+  pub same_at : length new ≡ length xs → new ≡ xs
+  same_at same = let S = told_by eye.sources in level_same flow S L eye from xs fresh new l.each (l.closed S (says_itself eye)) l.is (says_itself eye) l.advanced same
+
+  pub still_at : (levels : ℕ) (S : Sources) → Says eye S → length new ≤ 100000 → length new ≡ length xs → new ≡ grown flow S L levels xs
+  still_at levels S says few same = level_still flow S L eye from xs fresh new l.each (l.closed S says) l.is says l.advanced levels few same
+
+  longer_at : Longer xs new
+  longer_at = let S = told_by eye.sources in level_longer flow S L eye from xs fresh new l.each (l.closed S (says_itself eye)) l.is (says_itself eye) l.advanced
+
+  pub within_at : (end : ℕ) → end ≡ length xs → end ≤ length new
+  within_at end e = omega (arith, e, longer_length xs new longer_at)
+
+  pub first_at : (end : ℕ) → end ≡ length xs → take end new ≡ xs
+  first_at end e = ap (λ n. take n new) e ∙ longer_take xs new longer_at
+
+  pub closed_at : (end : ℕ) (S : Sources) → Says eye S → end ≡ length xs → length new ≤ 100000 → Closed flow S L end new
+  closed_at end S says e few = subst (λ n. Closed flow S L n new) (sym e) (next_closed flow S L eye from xs fresh new l.each (l.closed S says) l.is says l.advanced few)
+
+  pub grown_at : (levels k : ℕ) (S : Sources) (last : List Path) → Says eye S → levels ≡ k + 1 → length new ≤ 100000 → last ≡ grown flow S L k new → last ≡ grown flow S L levels xs
+  grown_at levels k S last says e few h =
+      next_grown flow S L eye from xs fresh new l.each (l.closed S says) l.is says l.advanced k last few h ∙ sym (grown_one flow S L levels k xs e)
+
+  pub more_at : (levels k : ℕ) (S : Sources) → Says eye S → levels ≡ k + 1 → length new ≤ 100000 → 100000 < length (grown flow S L k new) → 100000 < length (grown flow S L levels xs)
+  more_at levels k S says e few h =
+      subst (λ ys. 100000 < length ys) (sym (grown_one flow S L levels k xs e)) (next_many flow S L eye from xs fresh new l.each (l.closed S says) l.is says l.advanced k few h)
+
+  -- all of the level is told of
+  pub told_at : (x : Eye) → Keeps x eye → AllByRecursion (IsListedAround flow x) (take from xs) → length new ≤ 100000 → AllByRecursion (IsListedAround flow eye) xs
+  told_at x keeps before few =
+      subst (AllByRecursion (IsListedAround flow eye)) (ap (λ ys. take from xs ++ ys) l.is ∙ take-append-drop from xs)
+      (all_both (IsListedAround flow eye) (take from xs) fresh (arounds_on flow x eye (take from xs) keeps before) (l.advanced.listed few))
+
+-- the last level
+pub told_last : (flow : Flow) (x y : Eye) (from : ℕ) (xs fresh : List Path) → Keeps x y → fresh ≡ drop from xs → AllByRecursion (IsListedAround flow x) (take from xs) → AllByRecursion (IsListedAround flow y) fresh → AllByRecursion (IsListedAround flow y) xs
+told_last flow x y from xs fresh keeps is before now =
+    subst (AllByRecursion (IsListedAround flow y)) (ap (λ ys. take from xs ++ ys) is ∙ take-append-drop from xs)
+    (all_both (IsListedAround flow y) (take from xs) fresh (arounds_on flow x y (take from xs) keeps before) now)
+
+pub grown_none : (flow : Flow) (S : Sources) (L : Listings) (levels : ℕ) (xs : List Path) → levels ≡ 0 → xs ≡ grown flow S L levels xs
+grown_none flow S L levels xs e = sym (ap (λ n. grown flow S L n xs) e)
+
+-- ## What is told of the reach
+
+pub reach_told : (flow : Flow) (L : Listings) (x : Eye) (S : Sources) (targets start paths : List Path) (count : ℕ) → Says x S → start ≡ once targets → count ≡ length paths
+    → (length paths ≤ 100000 → AllByRecursion (IsListedAround flow x) paths)
+    → (length paths ≤ 100000 → paths ≡ grown flow S L 400 start)
+    → (100000 < length paths → 100000 < length (grown flow S L 400 start))
+    → TellsReach flow S L targets (told_by x.sources) count
+reach_told flow L x S targets start paths count says begun e listed whole big =
+    record {
+      small = λ few.
+          let f : length paths ≤ 100000 = omega (arith, few, e) in
+          let is : reach flow S L 400 targets ≡ paths = reach_grown flow S L 400 targets ∙ ap (grown flow S L 400) (sym begun) ∙ sym (whole f) in (
+            subst (AllByRecursion (SameAround flow S (told_by x.sources))) (sym is)
+                (all_weaker (IsListedAround flow x) (SameAround flow S (told_by x.sources)) (λ p a. same_around flow x S p says a) paths (listed f)),
+            record { less = subst (λ ys. length ys ≤ 100000) (sym is) f },
+          );
+      large = λ many.
+          let m : 100000 < length paths = omega (arith, many, e) in
+          record { more = subst (λ ys. 100000 < length ys) (ap (grown flow S L 400) begun ∙ sym (reach_grown flow S L 400 targets)) (big m) };
+    }
+
+pub nothing_next : (flow : Flow) (S : Sources) (L : Listings) (xs : List Path) → once xs ≡ xs → Closed flow S L 0 xs
+nothing_next flow S L xs e = sym (nothing_added xs xs e refl)

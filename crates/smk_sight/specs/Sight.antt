@@ -1,5 +1,5 @@
 -- What is told of sources for some targets.
-use Rattle.std.specs.Prelude.{◌≡◌, ◌<◌, ◌≤◌, true, false, List, ◌++◌, length}
+use Rattle.std.specs.Prelude.{◌≡◌, ◌<◌, ◌≤◌, ℕ, true, false, List, ◌++◌, length}
 use Rattle.std.specs.List.{AllByRecursion}
 use Rattle.smk_base.specs.Path.{is_path}
 use Rattle.smk_world.specs.Trees.{Path}
@@ -35,3 +35,8 @@ pub record IsLarge (flow : Flow) (S : Sources) (L : Listings) (targets : List Pa
 
 pub record IsSmall (flow : Flow) (S : Sources) (L : Listings) (targets : List Path) : Type 0 where
   pub less : length (reach flow S L 400 targets) ≤ 100000
+
+-- Where so many paths are the reach, or more than it may have: which of the two, and in the one case what is told of it.
+pub record TellsReach (flow : Flow) (S : Sources) (L : Listings) (targets : List Path) (T : Sources) (count : ℕ) : Type 0 where
+  pub small : count ≤ 100000 → SameOnReach flow S L targets T × IsSmall flow S L targets
+  pub large : 100000 < count → IsLarge flow S L targets

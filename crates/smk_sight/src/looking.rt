@@ -1,24 +1,128 @@
 //! Looking at the working folder for some targets.
 
-ghost use Rattle.std.specs.Prelude.{◌≡◌, ◌<◌, ℕ, List as Items, Option, Some, IsErrOf, IfOk, IfErr, IsSome};
+ghost use Rattle.std.specs.Prelude.{◌≡◌, ◌<◌, ◌≤◌, [], ℕ, List as Items, Option, Some, IsErrOf, IfOk, IfErr, IsSome, bytes_eq};
 ghost use Rattle.smk_world.specs.World.{World};
 ghost use Rattle.smk_world.specs.Calls.{HasCause};
 ghost use Rattle.smk_world.specs.Runs.{Did};
 ghost use Rattle.smk_record.specs.declared.record.Record.{Record as RecordValue};
 ghost use Rattle.smk_store.specs.Images.{seen, Image};
 ghost use Rattle.smk_store.specs.Loading.{IsStoreOf, AreLooks};
+ghost use Rattle.smk_store.specs.Walking.{HasLooked};
+ghost use Rattle.smk_choose.specs.Finding.{IsFinder};
 ghost use Rattle.smk_choose.specs.Told.{told_by};
-ghost use Rattle.smk_chain.specs.Derive.{sources_of, reach, jobs, job_refusals, outcome};
-ghost use Rattle.smk_sight.specs.Sight.{SameOnReach, IsLarge, IsSmall};
+ghost use Rattle.smk_chain.specs.Derive.{sources_of, distinct, reach, jobs, job_refusals, outcome};
+ghost use Rattle.smk_wants.specs.Wants.{ArePlaces};
+ghost use Rattle.smk_sight.specs.Sight.{SameOnReach, TellsReach, IsLarge, IsSmall};
+ghost use Rattle.smk_sight.specs.Viewing.{Viewed};
+ghost use Rattle.smk_sight.specs.Telling.{IsTrue};
+ghost use Rattle.smk_sight.specs.Reaching.{AreKept};
 ghost use Rattle.smk_sight.specs.Disk.{IsOnDisk};
 
-use smk_base::{List, PathText};
+use crate::reaching::{Guide, LIMIT, Paths, add_paths, count, spread};
+use crate::telling::Eye;
+use smk_base::{List, OutOfMemory, PathText};
 use smk_chain::{Listings, SightFault};
-use smk_choose::Sources;
+use smk_choose::{Finder, Sources};
 use smk_flow::Workflow;
 use smk_store::Store;
-use smk_world::Files;
+use smk_wants::Places;
+use smk_world::{Files, WorkFault};
 use std::alloc::Global;
+use std::collections::{BTreeMap, BTreeSet};
+
+// What is told for some targets, and how many paths were found.
+#[derive(Drop)]
+struct View {
+    sources: Sources,
+    count: usize,
+}
+
+// No paths.
+fn no_paths(alloc: Global) -> Paths
+    ensures kept { AreKept result }
+    ensures none { result.paths.items ≡ [] }
+{
+    Paths {
+        known: BTreeSet::new(alloc),
+        paths: Vec::new(alloc),
+    }
+}
+
+// Nothing is told yet.
+fn no_eye(alloc: Global) -> Eye
+    ensures { (image : Image) → IsTrue image result }
+{
+    Eye {
+        seen: BTreeMap::new(alloc),
+        sources: Sources::new(alloc),
+    }
+}
+
+// What is read before paths are looked at.
+fn guide_of(alloc: Global, flow: &Workflow, lists: &Listings) -> Result<Guide, OutOfMemory>
+    ensures finder { IfOk result (λ guide. IsFinder flow.now guide.finder) }
+    ensures places { IfOk result (λ guide. ArePlaces lists.now guide.places) }
+{
+    let finder = Finder::new(alloc, flow)?;
+    let places = Places::of(alloc, lists)?;
+    Ok(Guide { finder, places })
+}
+
+// The targets, each once.
+fn started(alloc: Global, targets: &List<PathText>) -> Result<Paths, OutOfMemory>
+    ensures kept { IfOk result (λ found. AreKept found) }
+    ensures are { IfOk result (λ found. found.paths.items ≡ distinct bytes_eq targets.now) }
+{
+    let mut found = no_paths(alloc);
+    add_paths(alloc, &mut found, targets.as_slice())?;
+    Ok(found)
+}
+
+// Tells of all that could be wanted for the targets, unless there is too much of it.
+fn look_around<W: Files>(
+    alloc: Global,
+    flow: &Workflow,
+    store: &Store,
+    lists: &Listings,
+    targets: &List<PathText>,
+    work: &mut W,
+) -> Result<View, WorkFault>
+    ensures looked { HasLooked W.act (W.world work.old) (W.world work.new) (W.faults work.old) (W.faults work.new) (W.running work.old) (W.running work.new) (IsErrOf result WorkFault.Failed) }
+    ensures told { IfOk result (λ view. (w : World) (image : Image) → W.world work.old ≡ Some w → Viewed w.nodes store.now image
+        → TellsReach flow.now (sources_of image) lists.now targets.now (told_by view.sources) view.count) }
+{
+    let guide = guide_of(alloc, flow, lists)?;
+    let mut found = started(alloc, targets)?;
+    let mut eye = no_eye(alloc);
+    spread(
+        alloc,
+        flow,
+        lists,
+        &guide,
+        store,
+        work,
+        &mut eye,
+        &mut found,
+        0,
+        400,
+    )?;
+    Ok(View {
+        sources: eye.sources,
+        count: count(&found),
+    })
+}
+
+// What is told, unless there are too many paths.
+fn sources_in(view: View) -> Result<Sources, SightFault>
+    ensures ok { IfOk result (λ sources. (sources ≡ view.sources) × (view.count ≤ 100000)) }
+    ensures quiet { ¬ (IsErrOf result SightFault.Device) }
+    ensures fault { IfErr result (λ fault. (fault ≡ SightFault.TooManyPaths view.count) × (100000 < view.count)) }
+{
+    if view.count > LIMIT {
+        return Err(SightFault::TooManyPaths(view.count as u64));
+    }
+    Ok(view.sources)
+}
 
 /// Looks at the working folder for the targets and for all that could be wanted for them, so that their jobs can be derived: tells of each
 /// path of their reach whether it is a source, and whether it holds one; and, where it is none, so of each output and log of the jobs
@@ -63,5 +167,9 @@ pub fn sight<W: Files>(
     ensures device { HasCause (W.faults work.old) (W.faults work.new) (IsErrOf result SightFault.Device) }
     ensures running { W.running work.new ≡ W.running work.old }
 {
-    Err(SightFault::OutOfMemory)
+    match look_around(alloc, flow, store, lists, targets, work) {
+        Ok(view) => sources_in(view),
+        Err(WorkFault::Failed) => Err(SightFault::Device),
+        Err(WorkFault::OutOfMemory) => Err(SightFault::OutOfMemory),
+    }
 }

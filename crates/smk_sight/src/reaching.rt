@@ -243,18 +243,21 @@ fn last<W: Files>(
     Ok(())
 }
 
-// Copies of these paths from this place on.
-fn copies_from(
-    alloc: Global,
-    paths: &[PathText],
-    from: usize,
-) -> Result<Vec<PathText>, OutOfMemory>
-    ensures { IfOk result (λ copies. copies.items ≡ drop from paths.now) }
+/// How many paths there are.
+pub(crate) fn count(found: &Paths) -> usize
+    ensures { result ≡ length found.now.paths.items }
+{
+    found.paths.len()
+}
+
+// Copies of the paths from this place on.
+fn copies_from(alloc: Global, found: &Paths, from: usize) -> Result<Vec<PathText>, OutOfMemory>
+    ensures { IfOk result (λ copies. copies.items ≡ drop from found.now.paths.items) }
 {
     let mut copies = Vec::new(alloc);
     let mut at = from;
-    'paths: while at < paths.len() {
-        copies.push(paths[at].copy(alloc)?)?;
+    'paths: while at < found.paths.len() {
+        copies.push(found.paths[at].copy(alloc)?)?;
         at += 1;
     }
     Ok(copies)
@@ -288,17 +291,18 @@ pub(crate) fn spread<W: Files>(
     ensures many { OnOk result ((S : Known) → Says eye.new S → 100000 < length found.new.paths.items
         → 100000 < length (grown flow.now S lists.now levels found.old.paths.items)) }
 {
-    let end = found.paths.len();
-    let fresh = copies_from(alloc, &found.paths, from)?;
+    let end = count(found);
+    let fresh = copies_from(alloc, found, from)?;
+    let paths: &[PathText] = &fresh;
     if levels == 0 {
-        last(alloc, flow, guide, store, work, eye, &fresh)?;
+        last(alloc, flow, guide, store, work, eye, paths)?;
         return Ok(());
     }
-    level(alloc, flow, lists, guide, store, work, eye, found, &fresh)?;
+    level(alloc, flow, lists, guide, store, work, eye, found, paths)?;
     if is_over(found) {
         return Ok(());
     }
-    let now = found.paths.len();
+    let now = count(found);
     if now == end {
         return Ok(());
     }

@@ -12,11 +12,11 @@ returns-clause-kept c =
     let old = c.args.found.now.paths.items in
     let none = sym (c.requires.is c.args.path) ∙ sym c.is_there.ensures ∙ c.if-is_there.false in
     record {
-      is = λ q. named_more c.args.path q old _ _ _ (c.in_ok-note_text.ensures q) (c.requires.is q) c.in_ok-push.ensures.ok;
-      each = each_once c.args.path old _ c.requires.each none c.in_ok-push.ensures.ok;
+      is = λ q. named_more c.args.path q old _ _ _ (c.in_ok-note_text.ensures q) (c.requires.is q) c.in_ok-push.ensures.items;
+      each = each_once c.args.path old _ c.requires.each none c.in_ok-push.ensures.items;
     }
 
 pub returns-clause-added : goal.returns-clause-added
 returns-clause-added c =
     let none = sym (c.requires.is c.args.path) ∙ sym c.is_there.ensures ∙ c.if-is_there.false in
-    put_last c.args.path c.args.found.now.paths.items _ c.requires.each none c.in_ok-push.ensures.ok
+    put_last c.args.path c.args.found.now.paths.items _ c.requires.each none c.in_ok-push.ensures.items

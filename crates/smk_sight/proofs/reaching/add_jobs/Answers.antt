@@ -6,8 +6,8 @@ use Rattle.smk_sight.proofs.reaching.add_jobs.Goals as goal
 pub loop-job-init : goal.loop-job-init
 loop-job-init c = record { kept = c.requires.kept; added = loop_begun (paths_by c.args.flow.now c.args.lists.now) c.args.jobs.now c.args.found.now.paths.items c.requires.kept.each }
 
-pub add_job-requires : goal.add_job-requires
-add_job-requires c = (c.loop-job.invariant.kept, (c.requires.places, all_at (IsPlaced c.args.flow.now) c.args.jobs.now c.loop-job.job-index c.job-item.result c.requires.placed c.loop-job-test.true c.job-item.is))
+pub add_job-requires-clause-placed : goal.add_job-requires-clause-placed
+add_job-requires-clause-placed c = all_at (IsPlaced c.args.flow.now) c.args.jobs.now c.loop-job.job-index c.job-item.result c.requires.placed c.loop-job-test.true c.job-item.is
 
 pub loop-job-preserved : goal.loop-job-preserved
 loop-job-preserved c =

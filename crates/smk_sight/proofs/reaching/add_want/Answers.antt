@@ -4,4 +4,4 @@ use Rattle.smk_sight.proofs.Distinct.{once, nothing_added}
 use Rattle.smk_sight.proofs.reaching.add_want.Goals as goal
 
 pub returns-in-NoPath-clause-added : goal.returns-in-NoPath-clause-added
-returns-in-NoPath-clause-added c = nothing_added c.args.found.now.paths.items _ c.requires.each refl
+returns-in-NoPath-clause-added c = rw c.in-NoPath.is (nothing_added c.args.found.now.paths.items _ c.requires.each refl)
