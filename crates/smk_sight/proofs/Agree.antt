@@ -1,5 +1,5 @@
 -- Where two tell the same on a reach, the same jobs are chosen from its targets, and the same is refused.
-use Rattle.std.proofs.Common.{◌≡◌, ◌⊎◌, inl, inr, ℕ, zero, suc, ◌+◌, ◌&&◌, ◌||◌, Bool, true, false, cond, not, List, [], ◌∷◌, ◌++◌, map, filter, refl, sym, ap, ap₂, subst, ◌∙◌, Option, Some, None, option_map, bytes_eq, max, ◌==◌}
+use Rattle.std.proofs.Common.{◌≡◌, inl, inr, ℕ, zero, suc, ◌+◌, ◌&&◌, ◌||◌, Bool, true, false, cond, not, List, [], ◌∷◌, ◌++◌, map, filter, refl, sym, ap, ap₂, subst, ◌∙◌, Option, Some, None, option_map, bytes_eq, max, ◌==◌}
 use Rattle.std.specs.Prelude.{if◌then◌else◌}
 use Rattle.std.specs.List.{AllByRecursion, list_any, list_all, find, fold, flat_map, enumerate_from}
 use Rattle.smk_base.specs.Path.{is_path}
@@ -8,10 +8,10 @@ use Rattle.smk_world.specs.Trees.{Path, IsIn}
 use Rattle.smk_pattern.specs.Shapes.{Text}
 use Rattle.smk_flow.specs.declared.job.Job.{Job}
 use Rattle.smk_flow.specs.Flows.{Flow, Candidate, declared_inputs, gathered_folders, first_wants}
-use Rattle.smk_choose.specs.Choose.{Sources, Choice, Lack, Source, choice, leader, candidates, is_apart, avail, is_viable, viable, lack, lack_of_first, choose, maker, Make, Nothing, Ambiguous}
+use Rattle.smk_choose.specs.Choose.{Sources, Choice, Lack, Source, choice, leader, candidates, is_apart, avail, is_viable, viable, lack_of_first, choose, maker, Make, Nothing, Ambiguous}
 use Rattle.smk_choose.proofs.Picked.{chosen_candidate, chosen_no_source}
 use Rattle.smk_store.specs.Images.{Image}
-use Rattle.smk_chain.specs.Derive.{Listings, gathered_files, wants, wanted_paths, distinct, walk, height, Refusal, NoInput, Deep, refused_at, refused, next, reach, spots, clashes, same_candidate, chosen, jobs, job, is_deep, job_refusals, Derivation, Derived, Refused, outcome}
+use Rattle.smk_chain.specs.Derive.{Listings, gathered_files, wants, wanted_paths, distinct, walk, height, Refusal, NoInput, Deep, refused_at, refused, next, reach, spots, clashes, same_candidate, jobs, job, job_refusals, outcome}
 use Rattle.smk_sight.specs.Sight.{fitting, places, SameAt, SameAround, SameOnReach}
 
 -- ## Members of lists
@@ -241,7 +241,7 @@ avail_same flow S T L (suc n) p good = avail_step flow S T L n p (avail_same flo
 -- ## What is chosen
 
 abbrev choice_by : Flow → Bool → List Candidate → Option Lack → Choice
-choice_by flow source vs l = elim source as (λ _. Choice) [ | true ↦ Source | false ↦ choice (leader flow (enumerate_from 0 vs)) vs l ]
+choice_by flow source vs l = elim source as (λ _. Choice) [ true ↦ Source | false ↦ choice (leader flow (enumerate_from 0 vs)) vs l ]
 
 abbrev SameFirsts : Flow → Sources → Sources → Candidate → Type 0
 SameFirsts flow S T c = AllByRecursion (λ (w : Text). avail flow T 199 w ≡ avail flow S 199 w) (first_wants flow c)
@@ -309,7 +309,7 @@ chosen_good flow S T L k p c g e =
 -- ## Heights, refusals and walks
 
 abbrev height_by : (Candidate → ℕ) → Option Candidate → ℕ
-height_by f m = elim m as (λ _. ℕ) [ | None ↦ 0 | Some c ↦ f c ]
+height_by f m = elim m as (λ _. ℕ) [ None ↦ 0 | Some c ↦ f c ]
 
 all_passing : (P : Text → Type 0) (ws : List Text) → AllByRecursion (λ (w : Text). is_path w ≡ true → P w) ws → AllByRecursion P (filter is_path ws)
 all_passing P [] all = tt
@@ -339,7 +339,7 @@ height_same flow S T L zero p g = refl
 height_same flow S T L (suc n) p g = height_step flow S T L n p (height_same flow S T L n) g
 
 abbrev refused_by : (Candidate → List Refusal) → Option Candidate → List Refusal
-refused_by f m = elim m as (λ _. List Refusal) [ | None ↦ [] | Some c ↦ f c ]
+refused_by f m = elim m as (λ _. List Refusal) [ None ↦ [] | Some c ↦ f c ]
 
 -- what is refused of one want
 abbrev refused_want : Flow → Sources → Listings → ℕ → Path → Candidate → Text → List Refusal
@@ -400,7 +400,7 @@ all_and P Q R more [] a b = tt
 all_and P Q R more (x ∷ xs) a b = (more x a.0 b.0, all_and P Q R more xs a.1 b.1)
 
 abbrev walk_by : (Candidate → List Candidate) → Option Candidate → List Candidate
-walk_by f m = elim m as (λ _. List Candidate) [ | None ↦ [] | Some c ↦ f c ]
+walk_by f m = elim m as (λ _. List Candidate) [ None ↦ [] | Some c ↦ f c ]
 
 walk_step : (flow : Flow) (S T : Sources) (L : Listings) (n : ℕ) (p : Path) → ((q : Path) → Good flow S T L (over n 199) q → refused flow S L (suc n) q ≡ [] → walk flow T L n q ≡ walk flow S L n q)
     → Good flow S T L (suc (over n 199)) p → refused flow S L (suc (suc n)) p ≡ [] → walk flow T L (suc n) p ≡ walk flow S L (suc n) p

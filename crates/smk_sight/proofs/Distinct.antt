@@ -1,7 +1,6 @@
 -- Lists of paths in which each stands once, where it comes first.
-use Rattle.std.proofs.Common.{◌≡◌, ◌⊎◌, inl, inr, ℕ, zero, suc, ◌+◌, ◌<◌, ◌≤◌, Bool, true, false, ◌&&◌, ◌||◌, not, cond, List, [], ◌∷◌, ◌++◌, map, filter, length, take, drop, get_or, refl, sym, ap, ap₂, subst, ◌∙◌, arith, bytes_eq, append_assoc, append-nil, length-append}
-use Rattle.std.specs.List.{AllByRecursion, flat_map}
-use Rattle.std.proofs.lemmas.List.{take_more, take_all}
+use Rattle.std.proofs.Common.{◌≡◌, inl, inr, ◌≤◌, Bool, true, false, ◌&&◌, ◌||◌, not, cond, List, [], ◌∷◌, ◌++◌, filter, length, take, refl, sym, ap, ap₂, ◌∙◌, arith, bytes_eq, append_assoc, append-nil, length-append}
+use Rattle.std.specs.List.{AllByRecursion}
 use Rattle.smk_base.proofs.Places.{same_place, place_itself, same_flipped}
 use Rattle.smk_base.proofs.Under.{never_both, or_cases, or_first, or_second}
 use Rattle.smk_world.specs.World.{is_named}

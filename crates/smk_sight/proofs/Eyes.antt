@@ -1,14 +1,13 @@
 -- What is told, call after call.
-use Rattle.std.proofs.Common.{◌≡◌, ◌≢◌, ℕ, Bool, true, false, List, [], ◌∷◌, ◌++◌, map, filter, refl, sym, ap, ap₂, subst, ◌∙◌, Option, Some, None, Result, Ok, Err, slice_get, bytes_eq}
-use Rattle.std.specs.Prelude.{if◌then◌else◌, is_some, OnOk, IfErr}
-use Rattle.std.specs.List.{AllByRecursion, flat_map}
+use Rattle.std.proofs.Common.{◌≡◌, ◌≢◌, ℕ, Bool, true, false, List, [], ◌∷◌, map, refl, sym, ap, subst, ◌∙◌, Option, Some, Result, Ok, Err}
+use Rattle.std.specs.Prelude.{if◌then◌else◌, OnOk, IfErr}
+use Rattle.std.specs.List.{AllByRecursion}
 use Rattle.smk_base.specs.Path.{is_path}
 use Rattle.smk_world.specs.World.{World}
 use Rattle.smk_world.specs.declared.event.NodeState.{NodeState}
 use Rattle.smk_world.specs.declared.event.NodeState.TheVariants.{Owned}
 use Rattle.smk_world.specs.Trees.{Path, Act, is_path_text}
 use Rattle.smk_pattern.specs.Shapes.{Text}
-use Rattle.smk_flow.specs.declared.rule.RulePart.{RulePart}
 use Rattle.smk_flow.specs.Flows.{Flow, Candidate}
 use Rattle.smk_choose.specs.declared.sources.Standing.{Standing}
 use Rattle.smk_choose.specs.declared.sources.Sources as kept
@@ -22,10 +21,10 @@ use Rattle.smk_store.specs.Stores.{Known}
 use Rattle.smk_store.specs.Walking.{HasLooked}
 use Rattle.smk_store.proofs.Looks.{still}
 use Rattle.smk_chain.specs.declared.fault.SightFault.TheVariants.{TooManyPaths, Device, OutOfMemory as MemoryFault}
-use Rattle.smk_chain.specs.Derive.{Listings, wants, next, sources_of}
+use Rattle.smk_chain.specs.Derive.{sources_of}
 use Rattle.smk_sight.specs.declared.telling.Eye.{Eye}
 use Rattle.smk_sight.specs.Sight.{fitting, places, SameAt, SameAround}
-use Rattle.smk_sight.specs.Viewing.{Viewed, AreSighted, IsStanding}
+use Rattle.smk_sight.specs.Viewing.{Viewed}
 use Rattle.smk_sight.specs.Telling.{IsTrue, IsListed, Keeps, HasTold, ArePlacesListed, IsListedAround, candidates_by, Says}
 use Rattle.smk_sight.proofs.Agree.{all_weaker, candidates_same}
 

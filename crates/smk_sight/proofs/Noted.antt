@@ -1,19 +1,17 @@
 -- What was seen of paths, once more was noted.
-use Rattle.std.proofs.Common.{◌≡◌, ◌⊎◌, inl, inr, ℕ, ◌+◌, ◌<◌, ◌≤◌, Bool, true, false, ◌||◌, cond, List, [], ◌∷◌, ◌++◌, map, length, drop, take, get_or, refl, sym, ap, subst, ◌∙◌, Option, Some, None, arith, bytes_eq}
+use Rattle.std.proofs.Common.{◌≡◌, ℕ, ◌+◌, ◌<◌, ◌≤◌, Bool, true, false, ◌||◌, List, [], ◌∷◌, ◌++◌, length, drop, take, get_or, refl, sym, ap, subst, ◌∙◌, Option, Some, None, bytes_eq}
 use Rattle.std.specs.Prelude.{if◌then◌else◌, String, All, is_some}
 use Rattle.std.specs.List.{list_any}
 use Rattle.std.specs.Global.{Global}
 use Rattle.std.specs.BTreeMap.{BTreeMap, get_by_text}
-use Rattle.std.proofs.lemmas.List.{take_more, take_all, drop_all}
-use Rattle.std.proofs.lemmas.List.Elements.{All-get_or, All-push}
+use Rattle.std.proofs.lemmas.List.{take_more, drop_all}
+use Rattle.std.proofs.lemmas.List.Elements.{All-push}
 use Rattle.smk_base.proofs.Places.{same_place}
 use Rattle.smk_base.proofs.Under.{or_first}
 use Rattle.smk_world.specs.declared.event.Name.{Name}
 use Rattle.smk_world.specs.Trees.{Path}
-use Rattle.smk_choose.specs.declared.sources.Sources as kept
 use Rattle.smk_choose.specs.declared.sources.Standing.{Standing}
-use Rattle.smk_choose.specs.Told.{standing_of}
-use Rattle.smk_store.specs.Images.{Image, is_source}
+use Rattle.smk_store.specs.Images.{Image}
 use Rattle.smk_store.proofs.Seeing.{dropped}
 use Rattle.smk_sight.specs.declared.seeing.Sighted.{Sighted}
 use Rattle.smk_sight.specs.Viewing.{IsSighted, AreSighted, IsStanding}

@@ -1,11 +1,11 @@
 -- How a reach grows, path by path and level by level.
-use Rattle.std.proofs.Common.{◌≡◌, ℕ, zero, suc, ◌+◌, ◌<◌, ◌≤◌, Bool, true, false, cond, List, [], ◌∷◌, ◌++◌, map, filter, length, take, drop, get_or, slice_get, refl, sym, ap, ap₂, subst, ◌∙◌, Option, Some, None, arith, bytes_eq, append_assoc, append-nil, add-one}
+use Rattle.std.proofs.Common.{◌≡◌, ℕ, zero, suc, ◌+◌, ◌<◌, ◌≤◌, Bool, true, false, cond, List, [], ◌∷◌, ◌++◌, map, filter, length, take, drop, get_or, slice_get, refl, sym, ap, ap₂, subst, ◌∙◌, Some, arith, append_assoc, append-nil, add-one}
 use Rattle.std.specs.Prelude.{if◌then◌else◌, nat_lt}
 use Rattle.std.proofs.lemmas.Bool.{ltb-true, ltb-false}
 use Rattle.std.specs.List.{AllByRecursion, flat_map}
 use Rattle.std.proofs.lemmas.List.{take_more, take_all, take-append-drop}
 use Rattle.smk_base.specs.Path.{is_path}
-use Rattle.smk_world.specs.Trees.{Path, among}
+use Rattle.smk_world.specs.Trees.{Path}
 use Rattle.smk_pattern.specs.Shapes.{Text}
 use Rattle.smk_flow.specs.declared.rule.RulePart.{RulePart}
 use Rattle.smk_flow.specs.Flows.{Flow, Candidate}
@@ -13,7 +13,7 @@ use Rattle.smk_choose.specs.declared.choice.Making.{Making}
 use Rattle.smk_choose.specs.Choose.{Sources, candidates}
 use Rattle.smk_choose.specs.Told.{told_by, making}
 use Rattle.smk_choose.proofs.Listed.{Placed, candidates_placed}
-use Rattle.smk_chain.specs.Derive.{Listings, wants, distinct, next, reach}
+use Rattle.smk_chain.specs.Derive.{Listings, wants, next, reach}
 use Rattle.smk_wants.specs.declared.wanted.Want.{Want}
 use Rattle.smk_wants.specs.declared.wanted.Want.TheVariants as want
 use Rattle.smk_wants.specs.Wants.{want_of}
@@ -24,7 +24,7 @@ use Rattle.smk_sight.proofs.Distinct.{once, added, added-append, once_again, onc
 use Rattle.smk_sight.specs.Sight.{SameAround, TellsReach}
 use Rattle.smk_sight.proofs.Agree.{all_weaker}
 use Rattle.smk_sight.proofs.Eyes.{candidates_said, same_around, arounds_on, is_by, holds_by}
-use Rattle.smk_sight.proofs.Taken.{all_at, all_both}
+use Rattle.smk_sight.proofs.Taken.{all_both}
 
 -- ## Loops
 

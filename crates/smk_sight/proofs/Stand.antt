@@ -1,30 +1,28 @@
 -- What stands in a working folder, and which of it are sources.
-use Rattle.std.proofs.Common.{◌≡◌, ◌⊎◌, inl, inr, ◌≢◌, ℕ, ◌+◌, ◌<◌, ◌≤◌, Bool, true, false, ◌&&◌, ◌||◌, not, cond, List, [], ◌∷◌, ◌++◌, map, length, take, refl, sym, ap, ap₂, subst, ◌∙◌, Option, Some, None, arith, append_assoc, append-nil, length-append, filter, eqb}
-use Rattle.std.specs.Prelude.{IsSome, is_some, IsTrue, All, Contains, if◌then◌else◌, nat_le, bytes_eq, ◌==◌}
+use Rattle.std.proofs.Common.{◌≡◌, ◌⊎◌, inl, inr, ◌≢◌, ℕ, ◌≤◌, Bool, true, false, ◌&&◌, ◌||◌, not, cond, List, [], ◌∷◌, ◌++◌, map, length, refl, sym, ap, ap₂, subst, ◌∙◌, Option, Some, None, arith, append_assoc, append-nil, length-append, filter}
+use Rattle.std.specs.Prelude.{IsSome, is_some, IsTrue, All, Contains, nat_le, bytes_eq, ◌==◌}
 use Rattle.std.specs.List.{list_any}
 use Rattle.std.specs.Str.{IsUtf8}
 use Rattle.std.proofs.lemmas.Str.{IsUtf8-from_ascii}
 use Rattle.std.proofs.lemmas.Str.Ascii.{IsAscii-cons, IsAscii-nil}
-use Rattle.std.proofs.lemmas.Bool.{eqb-true, leb-true, le-leb}
+use Rattle.std.proofs.lemmas.Bool.{leb-true, le-leb}
 use Rattle.std.proofs.lemmas.List.Elements.{All-contains, All-weaker, All-map, All-contains_itself}
-use Rattle.smk_base.specs.Path.{parts, is_part, is_path, is_path_byte, are_parts, are_path_bytes, is_under, is_at_or_under, overlaps, own_folder}
-use Rattle.smk_base.proofs.Names.{parts_some}
+use Rattle.smk_base.specs.Path.{parts, is_path, is_path_byte, are_parts, are_path_bytes, is_under, is_at_or_under, overlaps, own_folder}
 use Rattle.smk_base.proofs.Places.{and_first, and_second, same_place, place_itself}
 use Rattle.smk_base.proofs.Paths.{parts-joined, are_parts-append, are_path_bytes-joined, path_bytes, path_parts}
-use Rattle.smk_base.proofs.Under.{never_both, false_unless, false_of_not, or_first, or_second, or_cases, both_true, under_folder, rest_under, under_further, at_itself, at_when_under, at_or_under_cases, at_or_under_further}
+use Rattle.smk_base.proofs.Under.{never_both, false_unless, false_of_not, or_first, or_second, or_cases, both_true, under_folder, rest_under, at_itself, at_when_under, at_or_under_cases, at_or_under_further}
 use Rattle.smk_world.specs.declared.event.Node.{Node}
 use Rattle.smk_world.specs.declared.event.Node.TheVariants.{Regular, Directory}
 use Rattle.smk_world.specs.declared.event.NodeState.{NodeState}
 use Rattle.smk_world.specs.declared.event.NodeState.TheVariants.{Owned, Known}
-use Rattle.smk_world.specs.World.{World, IsFormed, reading, reads_folder, folders_above, is_named}
+use Rattle.smk_world.specs.World.{World, reading, reads_folder, folders_above, is_named}
 use Rattle.smk_world.specs.declared.event.Listing.{Listing}
 use Rattle.smk_world.specs.declared.event.Name.{Name}
 use Rattle.smk_world.specs.Calls.{in_folder, stat_of, is_name, IsTextName, MayStand, Stands, IsListing, ListingIs}
 use Rattle.smk_world.specs.Trees.{Path, is_path_text, is_text}
 use Rattle.smk_record.proofs.Digits.{text_is_utf8, utf8_is_text}
-use Rattle.smk_store.specs.Images.{Image, is_file, is_known, is_covered, is_source, holds_source, content_of, seen, is_outside}
+use Rattle.smk_store.specs.Images.{Image, is_file, is_known, is_covered, is_source, holds_source, content_of}
 use Rattle.smk_store.specs.Stores.{Known as Entries, is_covered_in}
-use Rattle.smk_store.specs.Loading.{IsStoreOf}
 use Rattle.smk_store.proofs.Loads.{named_filter}
 use Rattle.smk_store.proofs.Walks.{flat, split, Deeper, utf8_before, utf8_behind, bytes_before, bytes_behind}
 use Rattle.smk_sight.specs.Viewing.{Viewed, NoneUnder, SomeUnder, TellsUnder, IsSighted, by_stat}

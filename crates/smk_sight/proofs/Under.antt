@@ -1,5 +1,5 @@
 -- What is under a folder, name by name.
-use Rattle.std.proofs.Common.{◌≡◌, ◌≢◌, ℕ, ◌+◌, ◌<◌, ◌≤◌, Bool, true, false, List, [], ◌∷◌, ◌++◌, map, length, take, get_or, refl, sym, ap, subst, ◌∙◌, Option, Some, None, arith, length-append}
+use Rattle.std.proofs.Common.{◌≡◌, ℕ, ◌<◌, ◌≤◌, Bool, true, false, List, ◌∷◌, length, take, get_or, refl, sym, ap, subst, ◌∙◌, Some, None, arith, length-append}
 use Rattle.std.specs.Prelude.{All, IsSome, if◌then◌else◌}
 use Rattle.std.proofs.lemmas.List.{take_all}
 use Rattle.std.proofs.lemmas.List.Elements.{All-get_or}
@@ -12,7 +12,7 @@ use Rattle.smk_world.specs.declared.event.NodeState.{NodeState}
 use Rattle.smk_world.specs.World.{World, reading, reads_folder}
 use Rattle.smk_world.specs.Calls.{in_folder, ListingIs}
 use Rattle.smk_world.specs.Trees.{Path, is_path_text}
-use Rattle.smk_store.specs.Images.{Image, is_source}
+use Rattle.smk_store.specs.Images.{Image}
 use Rattle.smk_store.specs.Stores.{Known, is_covered_in}
 use Rattle.smk_store.specs.Walking.{path_in}
 use Rattle.smk_store.proofs.Walks.{path_short}

@@ -1,15 +1,14 @@
 -- The image of a world, as looks at its folder see it.
-use Rattle.std.proofs.Common.{◌≡◌, ℕ, Bool, true, false, ◌&&◌, not, List, refl, sym, ap, ◌∙◌, Option, Some, None}
+use Rattle.std.proofs.Common.{◌≡◌, ℕ, Bool, true, false, ◌&&◌, not, List, refl, sym, ap, ◌∙◌, Option, None}
 use Rattle.std.specs.Prelude.{is_some, if◌then◌else◌}
-use Rattle.std.specs.List.{filter}
-use Rattle.smk_base.specs.Path.{is_path, is_at_or_under, own_folder}
+use Rattle.smk_base.specs.Path.{is_path}
 use Rattle.smk_base.proofs.Places.{and_first}
 use Rattle.smk_base.proofs.Under.{never_both, both_true}
 use Rattle.smk_world.specs.declared.event.Node.{Node}
 use Rattle.smk_world.specs.World.{World, IsFormed, reading, is_named}
 use Rattle.smk_world.specs.Trees.{Path, is_path_text, is_text}
 use Rattle.smk_record.specs.declared.record.Record.{Record}
-use Rattle.smk_store.specs.Images.{Image, is_source, content_of, is_outside, seen}
+use Rattle.smk_store.specs.Images.{is_source, content_of, is_outside, seen}
 use Rattle.smk_store.specs.Stores.{Known}
 use Rattle.smk_store.specs.Loading.{IsStoreOf}
 use Rattle.smk_store.proofs.Loads.{named_filter}

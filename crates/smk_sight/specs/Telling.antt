@@ -1,12 +1,11 @@
 -- What is told of the sources in a working folder, and of which paths.
-use Rattle.std.specs.Prelude.{◌≡◌, Bool, true, false, List, [], Option, Some, is_some, if◌then◌else◌}
+use Rattle.std.specs.Prelude.{◌≡◌, true, false, List, [], Option, Some, if◌then◌else◌}
 use Rattle.std.specs.List.{AllByRecursion}
 use Rattle.smk_base.specs.Path.{is_path}
 use Rattle.smk_world.specs.Trees.{Path}
 use Rattle.smk_pattern.specs.Shapes.{Text}
 use Rattle.smk_flow.specs.Flows.{Flow, Candidate}
 use Rattle.smk_choose.specs.declared.sources.Standing.{Standing}
-use Rattle.smk_choose.specs.declared.sources.Sources as kept
 use Rattle.smk_choose.specs.Choose.{Sources, candidates}
 use Rattle.smk_choose.specs.Told.{standing_of, told_by}
 use Rattle.smk_world.specs.World.{World}

@@ -95,16 +95,7 @@ fn look_around<W: Files>(
     let mut found = started(alloc, targets)?;
     let mut eye = no_eye(alloc);
     spread(
-        alloc,
-        flow,
-        lists,
-        &guide,
-        store,
-        work,
-        &mut eye,
-        &mut found,
-        0,
-        400,
+        alloc, flow, lists, &guide, store, work, &mut eye, &mut found, 0, 400,
     )?;
     Ok(View {
         sources: eye.sources,

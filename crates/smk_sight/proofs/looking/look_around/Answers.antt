@@ -1,5 +1,3 @@
-use Rattle.std.proofs.Common.{◌≡◌, ◌∙◌, arith, subst, sym, List}
-use Rattle.smk_world.specs.Trees.{Path}
 use Rattle.smk_store.proofs.Looks.{looked_on, looked_well, looked_short, ok_is_quiet, never_ok}
 use Rattle.smk_chain.specs.Derive.{sources_of}
 use Rattle.smk_sight.proofs.Eyes.{says_true}

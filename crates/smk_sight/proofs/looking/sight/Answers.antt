@@ -1,4 +1,4 @@
-use Rattle.std.proofs.Common.{◌≡◌, ◌<◌, subst, sym, ap, ◌∙◌}
+use Rattle.std.proofs.Common.{◌<◌, subst, sym, ◌∙◌}
 use Rattle.smk_choose.specs.declared.sources.Sources as kept
 use Rattle.smk_choose.specs.Told.{told_by}
 use Rattle.smk_store.specs.Images.{seen}

@@ -1,4 +1,4 @@
-use Rattle.std.proofs.Common.{◌++◌, [], ◌∙◌, ap, List}
+use Rattle.std.proofs.Common.{◌++◌, ◌∙◌, ap, List}
 use Rattle.smk_world.specs.Trees.{Path}
 use Rattle.smk_sight.proofs.Distinct.{once}
 use Rattle.smk_sight.proofs.looking.started.Goals as goal

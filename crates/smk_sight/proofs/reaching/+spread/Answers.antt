@@ -1,11 +1,9 @@
-use Rattle.std.proofs.Common.{arith, ◌≡◌, ◌+◌, ◌-◌, ◌≤◌, ◌<◌, ◌∙◌, ap, subst, sym, take, drop, length, List}
+use Rattle.std.proofs.Common.{arith, ◌-◌, ◌<◌, ◌∙◌, subst, sym, length, List}
 use Rattle.std.specs.List.{AllByRecursion}
 use Rattle.smk_world.specs.Trees.{Path}
-use Rattle.smk_chain.specs.Derive.{reach}
 use Rattle.smk_store.proofs.Looks.{looked_on, looked_well, looked_then, looked_short, ok_is_quiet, never_ok}
 use Rattle.smk_sight.specs.Telling.{IsListedAround}
-use Rattle.smk_sight.specs.Reaching.{grown}
-use Rattle.smk_sight.proofs.Eyes.{told_then, says_before, arounds_on}
+use Rattle.smk_sight.proofs.Eyes.{told_then, says_before}
 use Rattle.smk_sight.proofs.Spreading.{Level, many_at, same_at, still_at, within_at, first_at, closed_at, grown_at, more_at, told_at, told_last, grown_none, too_many, few_enough, never_few}
 use Rattle.smk_sight.proofs.reaching.+spread.Goals as goal
 
@@ -90,12 +88,27 @@ spread-requires g t c κs within =
     let l : Level c.args.flow.now c.args.lists.now c.level.new.eye c.args.from xs c.deref-paths.result.now new =
     record { each = c.requires.kept.each; closed = λ S2 says2. c.requires.closed S2 (says_before c.args.eye.now c.level.new.eye S2 c.in_ok-level.ensures.told.keeps says2); is = c.deref-paths.ensures.value ∙ c.in_ok-fresh.ensures; advanced = c.in_ok-level.ensures.advanced } in (
       omega (arith, c.if-levels-eq0.false),
-      (within, (c.in_ok-level.ensures.kept, (c.requires.finder, (c.requires.places,
-      (within_at c.args.flow.now c.args.lists.now c.level.new.eye c.args.from xs c.deref-paths.result.now new l c.count-end.result c.count-end.ensures,
-      (subst (λ (ys : List Path). AllByRecursion (IsListedAround c.args.flow.now c.level.new.eye) ys)
-      (sym (first_at c.args.flow.now c.args.lists.now c.level.new.eye c.args.from xs c.deref-paths.result.now new l c.count-end.result c.count-end.ensures))
-      (told_at c.args.flow.now c.args.lists.now c.level.new.eye c.args.from xs c.deref-paths.result.now new l c.args.eye.now c.in_ok-level.ensures.told.keeps c.requires.listed few),
-      λ S says. closed_at c.args.flow.now c.args.lists.now c.level.new.eye c.args.from xs c.deref-paths.result.now new l c.count-end.result S says c.count-end.ensures few)))))),
+      (
+        within,
+        (
+          c.in_ok-level.ensures.kept,
+          (
+            c.requires.finder,
+            (
+              c.requires.places,
+              (
+                within_at c.args.flow.now c.args.lists.now c.level.new.eye c.args.from xs c.deref-paths.result.now new l c.count-end.result c.count-end.ensures,
+                (
+                  subst (λ (ys : List Path). AllByRecursion (IsListedAround c.args.flow.now c.level.new.eye) ys)
+                      (sym (first_at c.args.flow.now c.args.lists.now c.level.new.eye c.args.from xs c.deref-paths.result.now new l c.count-end.result c.count-end.ensures))
+                      (told_at c.args.flow.now c.args.lists.now c.level.new.eye c.args.from xs c.deref-paths.result.now new l c.args.eye.now c.in_ok-level.ensures.told.keeps c.requires.listed few),
+                  λ S says. closed_at c.args.flow.now c.args.lists.now c.level.new.eye c.args.from xs c.deref-paths.result.now new l c.count-end.result S says c.count-end.ensures few,
+                ),
+              ),
+            ),
+          ),
+        ),
+      ),
     )
 
 pub returns-in_err-spread-clause-looked : goal.returns-in_err-spread-clause-looked

@@ -1,4 +1,4 @@
-use Rattle.std.proofs.Common.{◌≡◌, ◌++◌, ◌∷◌, [], ◌∙◌, ap, refl, List, bytes_eq}
+use Rattle.std.proofs.Common.{◌++◌, ◌∷◌, [], ◌∙◌, ap, refl, List}
 use Rattle.std.proofs.lemmas.List.{take_all}
 use Rattle.smk_world.specs.Trees.{Path}
 use Rattle.smk_sight.proofs.Distinct.{once, nothing_added}

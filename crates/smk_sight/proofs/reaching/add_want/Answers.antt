@@ -1,6 +1,5 @@
-use Rattle.std.proofs.Common.{◌++◌, ◌∷◌, [], ◌∙◌, ap, refl}
-use Rattle.smk_world.specs.Trees.{Path}
-use Rattle.smk_sight.proofs.Distinct.{once, nothing_added}
+use Rattle.std.proofs.Common.{refl}
+use Rattle.smk_sight.proofs.Distinct.{nothing_added}
 use Rattle.smk_sight.proofs.reaching.add_want.Goals as goal
 
 pub returns-in-NoPath-clause-added : goal.returns-in-NoPath-clause-added

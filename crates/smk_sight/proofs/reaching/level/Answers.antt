@@ -1,4 +1,4 @@
-use Rattle.std.proofs.Common.{◌≡◌, ◌+◌, take, arith, sym, ◌∙◌}
+use Rattle.std.proofs.Common.{◌+◌, take}
 use Rattle.smk_chain.specs.Derive.{next}
 use Rattle.smk_store.proofs.Looks.{looked_on, looked_well, looked_then, looked_short, looked_nothing, ok_is_quiet, never_ok}
 use Rattle.smk_sight.specs.Telling.{IsListedAround}

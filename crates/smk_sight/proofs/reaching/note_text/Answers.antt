@@ -1,5 +1,4 @@
-use Rattle.std.proofs.Common.{ap, ◌∙◌, ◌||◌, [], ◌++◌, string_bytes, bytes_eq, append-nil}
-use Rattle.std.specs.BTreeSet.{contains_text}
+use Rattle.std.proofs.Common.{◌∙◌}
 use Rattle.smk_sight.proofs.Keys.{key_added}
 use Rattle.smk_sight.proofs.reaching.note_text.Goals as goal
 

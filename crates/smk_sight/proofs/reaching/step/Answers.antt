@@ -1,4 +1,4 @@
-use Rattle.std.proofs.Common.{◌≡◌, ◌++◌, ◌∙◌, ap, sym, subst, List}
+use Rattle.std.proofs.Common.{◌++◌, ◌∙◌, ap, sym, subst, List}
 use Rattle.std.specs.List.{AllByRecursion, flat_map}
 use Rattle.smk_choose.specs.declared.choice.Making.{Making}
 use Rattle.smk_choose.specs.Told.{told_by}

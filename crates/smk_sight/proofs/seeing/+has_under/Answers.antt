@@ -1,13 +1,8 @@
-use Rattle.std.proofs.Common.{arith, ◌≡◌, ap, subst, ◌∙◌, sym, true, false, Some, length, take, refl, List}
-use Rattle.std.specs.Prelude.{All}
-use Rattle.smk_world.specs.declared.event.Name.{Name}
-use Rattle.smk_world.specs.World.{World}
+use Rattle.std.proofs.Common.{arith, ◌≡◌, ap, subst, ◌∙◌, sym, true}
 use Rattle.smk_world.specs.Calls.{in_folder}
 use Rattle.smk_world.specs.Trees.{Path, is_path_text}
-use Rattle.smk_store.specs.Images.{Image}
 use Rattle.smk_store.specs.Walking.{path_in}
-use Rattle.smk_store.proofs.Looks.{looked_list, looked_on, looked_short, looked_memory, looked_well, looked_then, ok_is_quiet, never_ok, still, listing_told}
-use Rattle.smk_sight.specs.Viewing.{Viewed}
+use Rattle.smk_store.proofs.Looks.{looked_list, looked_on, looked_short, looked_well, looked_then, ok_is_quiet, never_ok, still, listing_told}
 use Rattle.smk_sight.proofs.Eyes.{viewed_still}
 use Rattle.smk_sight.proofs.Noted.{one_further}
 use Rattle.smk_sight.proofs.Stand.{NoneAt, ListedIn}
@@ -37,7 +32,7 @@ loop-name-preserved-in_default g t c =
       looked = c.loop-name.invariant.looked;
       told = λ w image at v path.
           let l : ListedIn w.nodes folder names = folder_listed w c.args.store.now image folder c.in_ok-place.place c.in_ok-listing.listing names v path c.in_ok-place.ensures c.as_slice-name-items.ensures
-              (listing_told g.W.Files.act _ _ c.in_ok-place.place c.list.result c.in_ok-listing.listing w c.list.ensures.world c.in_ok-listing.was at) in
+          (listing_told g.W.Files.act _ _ c.in_ok-place.place c.list.result c.in_ok-listing.listing w c.list.ensures.world c.in_ok-listing.was at) in
           one_further (NoneAt image folder) names i n c.loop-name-test.true c.name-item.is (c.loop-name.invariant.told w image at v path)
           (no_path_at w.nodes c.args.store.now image v folder names l i n c.loop-name-test.true c.name-item.is
           (sym c.in_default.is ∙ c.in_ok-path.ensures ∙ ap (λ (p : Path). path_in (in_folder p c.as_str.result.now)) c.in_ok-place.ensures ∙ ap (λ (p : Path). path_in (in_folder folder p)) c.as_str.ensures));
@@ -54,7 +49,7 @@ loop-name-preserved-then-covered g t c =
       looked = c.loop-name.invariant.looked;
       told = λ w image at v path.
           let l : ListedIn w.nodes folder names = folder_listed w c.args.store.now image folder c.in_ok-place.place c.in_ok-listing.listing names v path c.in_ok-place.ensures c.as_slice-name-items.ensures
-              (listing_told g.W.Files.act _ _ c.in_ok-place.place c.list.result c.in_ok-listing.listing w c.list.ensures.world c.in_ok-listing.was at) in
+          (listing_told g.W.Files.act _ _ c.in_ok-place.place c.list.result c.in_ok-listing.listing w c.list.ensures.world c.in_ok-listing.was at) in
           one_further (NoneAt image folder) names i n c.loop-name-test.true c.name-item.is (c.loop-name.invariant.told w image at v path)
           (covered_at w.nodes c.args.store.now image v folder names l i n c.loop-name-test.true c.name-item.is c.in-Some.path is (sym c.covered.ensures ∙ c.if-covered.true));
     }
@@ -67,7 +62,7 @@ returns-then-not-name-clause-told g t c = λ w image at v path.
     let n = c.name-item.result in
     let is = sym c.in-Some.is ∙ c.in_ok-path.ensures ∙ ap (λ (p : Path). path_in (in_folder p c.as_str.result.now)) c.in_ok-place.ensures ∙ ap (λ (p : Path). path_in (in_folder folder p)) c.as_str.ensures in
     let l : ListedIn w.nodes folder names = folder_listed w c.args.store.now image folder c.in_ok-place.place c.in_ok-listing.listing names v path c.in_ok-place.ensures c.as_slice-name-items.ensures
-        (listing_told g.W.Files.act _ _ c.in_ok-place.place c.list.result c.in_ok-listing.listing w c.list.ensures.world c.in_ok-listing.was at) in
+    (listing_told g.W.Files.act _ _ c.in_ok-place.place c.list.result c.in_ok-listing.listing w c.list.ensures.world c.in_ok-listing.was at) in
     found_there image folder (some_at w.nodes c.args.store.now image v folder names l i n c.loop-name-test.true c.name-item.is c.in-Some.path is c.if-not-name.true (sym c.covered.ensures ∙ c.if-covered.false))
 
 pub returns-in_err-inner-clause-looked : goal.returns-in_err-inner-clause-looked
@@ -89,7 +84,7 @@ returns-then-inner-clause-told g t c = λ w image at v path.
     let n = c.name-item.result in
     let is = sym c.in-Some.is ∙ c.in_ok-path.ensures ∙ ap (λ (p : Path). path_in (in_folder p c.as_str.result.now)) c.in_ok-place.ensures ∙ ap (λ (p : Path). path_in (in_folder folder p)) c.as_str.ensures in
     let l : ListedIn w.nodes folder names = folder_listed w c.args.store.now image folder c.in_ok-place.place c.in_ok-listing.listing names v path c.in_ok-place.ensures c.as_slice-name-items.ensures
-        (listing_told g.W.Files.act _ _ c.in_ok-place.place c.list.result c.in_ok-listing.listing w c.list.ensures.world c.in_ok-listing.was at) in
+    (listing_told g.W.Files.act _ _ c.in_ok-place.place c.list.result c.in_ok-listing.listing w c.list.ensures.world c.in_ok-listing.was at) in
     let p = path_at (in_folder folder n.name) c.in-Some.path is in
     let u = still g.W.Files.act _ _ _ _ _ _ ⊥ w c.loop-name.invariant.looked (λ f. f) at in
     let inner = c.in_ok-inner.ensures.told u.0 image u.1 (viewed_still w.nodes u.0.nodes c.args.store.now image u.2 v) (subst (λ q. is_path_text q ≡ true) (sym p.1) p.0) in
@@ -107,7 +102,7 @@ loop-name-preserved g t c =
           (looked_then g.W.Files.act _ _ _ _ _ _ _ _ _ ⊥ _ (λ f. f) c.loop-name.invariant.looked c.has_under.ensures.looked);
       told = λ w image at v path.
           let l : ListedIn w.nodes folder names = folder_listed w c.args.store.now image folder c.in_ok-place.place c.in_ok-listing.listing names v path c.in_ok-place.ensures c.as_slice-name-items.ensures
-              (listing_told g.W.Files.act _ _ c.in_ok-place.place c.list.result c.in_ok-listing.listing w c.list.ensures.world c.in_ok-listing.was at) in
+          (listing_told g.W.Files.act _ _ c.in_ok-place.place c.list.result c.in_ok-listing.listing w c.list.ensures.world c.in_ok-listing.was at) in
           let p = path_at (in_folder folder n.name) c.in-Some.path is in
           let u = still g.W.Files.act _ _ _ _ _ _ ⊥ w c.loop-name.invariant.looked (λ f. f) at in
           let inner = c.in_ok-inner.ensures.told u.0 image u.1 (viewed_still w.nodes u.0.nodes c.args.store.now image u.2 v) (subst (λ q. is_path_text q ≡ true) (sym p.1) p.0) in
@@ -120,7 +115,7 @@ returns-clause-told g t c = λ w image at v path.
     let names = c.as_slice-name-items.result.now in
     let folder = c.args.folder.now in
     let l : ListedIn w.nodes folder names = folder_listed w c.args.store.now image folder c.in_ok-place.place c.in_ok-listing.listing names v path c.in_ok-place.ensures c.as_slice-name-items.ensures
-        (listing_told g.W.Files.act _ _ c.in_ok-place.place c.list.result c.in_ok-listing.listing w c.list.ensures.world c.in_ok-listing.was at) in
+    (listing_told g.W.Files.act _ _ c.in_ok-place.place c.list.result c.in_ok-listing.listing w c.list.ensures.world c.in_ok-listing.was at) in
     none_there w.nodes c.args.store.now image v folder names l c.loop-name.name-index c.loop-name-test.false (c.loop-name.invariant.told w image at v path)
 
 pub has_under-requires : goal.has_under-requires

@@ -1,4 +1,4 @@
-use Rattle.std.proofs.Common.{◌≡◌, sym, ◌∙◌}
+use Rattle.std.proofs.Common.{sym, ◌∙◌}
 use Rattle.std.specs.List.{list_any}
 use Rattle.smk_store.specs.Images.{is_source}
 use Rattle.smk_store.proofs.Looks.{looked_on, looked_well, looked_then, looked_short, ok_is_quiet, never_ok, still}

@@ -1,4 +1,4 @@
-use Rattle.std.proofs.Common.{◌≡◌, ap, sym, ◌∙◌}
+use Rattle.std.proofs.Common.{ap, sym, ◌∙◌}
 use Rattle.std.specs.List.{list_any}
 use Rattle.smk_store.specs.Images.{is_source}
 use Rattle.smk_store.proofs.Looks.{looked_then, ok_is_quiet, still, if_ok}

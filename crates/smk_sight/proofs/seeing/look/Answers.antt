@@ -1,4 +1,4 @@
-use Rattle.std.proofs.Common.{◌≡◌, ap, sym, subst, ◌∙◌}
+use Rattle.std.proofs.Common.{ap, sym, subst, ◌∙◌}
 use Rattle.smk_world.specs.World.{reading}
 use Rattle.smk_world.specs.Calls.{stat_of}
 use Rattle.smk_store.proofs.Looks.{never_ok}

@@ -1,4 +1,4 @@
-use Rattle.std.proofs.Common.{◌≡◌, ap, sym, ◌∙◌}
+use Rattle.std.proofs.Common.{sym, ◌∙◌}
 use Rattle.smk_store.proofs.Looks.{looked_on, looked_well, looked_then, looked_short, ok_is_quiet, never_ok, still}
 use Rattle.smk_sight.proofs.Eyes.{viewed_still}
 use Rattle.smk_sight.proofs.Stand.{holds_itself}

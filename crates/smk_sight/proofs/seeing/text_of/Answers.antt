@@ -1,4 +1,4 @@
-use Rattle.std.proofs.Common.{sym, subst}
+use Rattle.std.proofs.Common.{subst}
 use Rattle.std.specs.Str.{IsUtf8}
 use Rattle.smk_record.proofs.Lists.{path_text}
 use Rattle.smk_sight.proofs.seeing.text_of.Goals as goal

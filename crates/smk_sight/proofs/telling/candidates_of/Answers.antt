@@ -1,4 +1,4 @@
-use Rattle.std.proofs.Common.{◌≡◌, ◌∙◌, sym, subst, List}
+use Rattle.std.proofs.Common.{subst, List}
 use Rattle.std.specs.List.{AllByRecursion}
 use Rattle.smk_choose.specs.declared.choice.Making.{Making}
 use Rattle.smk_store.proofs.Looks.{looked_on, looked_memory, looked_well, looked_short, ok_is_quiet, never_ok}

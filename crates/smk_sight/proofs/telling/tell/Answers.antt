@@ -1,4 +1,4 @@
-use Rattle.std.proofs.Common.{◌≡◌, ap, sym, ◌∙◌, Some, bytes_eq, subst}
+use Rattle.std.proofs.Common.{◌≡◌, ap, ◌∙◌, Some, bytes_eq, subst}
 use Rattle.std.specs.Prelude.{if◌then◌else◌}
 use Rattle.smk_base.proofs.Places.{place_itself}
 use Rattle.smk_world.specs.Trees.{Path}

@@ -1,7 +1,7 @@
-use Rattle.std.proofs.Common.{◌≡◌, ◌∙◌, sym, ap, map}
+use Rattle.std.proofs.Common.{◌∙◌, sym, ap, map}
 use Rattle.smk_base.proofs.Under.{never_both}
 use Rattle.smk_choose.specs.Told.{told_by, making}
-use Rattle.smk_store.proofs.Looks.{looked_on, looked_memory, looked_well, looked_then, looked_short, ok_is_quiet, never_ok}
+use Rattle.smk_store.proofs.Looks.{looked_on, looked_well, looked_then, looked_short, ok_is_quiet, never_ok}
 use Rattle.smk_sight.proofs.Eyes.{told_then, listed_on, is_by, no_candidates, its_candidates}
 use Rattle.smk_sight.proofs.telling.tell_around.Goals as goal
 

@@ -1,5 +1,4 @@
-use Rattle.smk_sight.proofs.Eyes.{on_ok, path_listed, no_path_listed}
-use Rattle.std.proofs.Common.{refl}
+use Rattle.smk_sight.proofs.Eyes.{on_ok, path_listed}
 use Rattle.smk_sight.proofs.telling.tell_text.Goals as goal
 
 pub returns-in-Ok-clause-listed : goal.returns-in-Ok-clause-listed

@@ -1,4 +1,4 @@
-use Rattle.std.proofs.Common.{◌≡◌, true, subst, take, sym, ap}
+use Rattle.std.proofs.Common.{◌≡◌, true, subst, take}
 use Rattle.smk_base.specs.Path.{is_path}
 use Rattle.smk_pattern.specs.Shapes.{Text}
 use Rattle.smk_store.proofs.Looks.{looked_on, looked_well, looked_then, looked_short, looked_nothing, ok_is_quiet, never_ok}
