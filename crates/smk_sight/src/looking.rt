@@ -117,8 +117,8 @@ fn sources_in(view: View) -> Result<Sources, SightFault>
 
 /// Looks at the working folder for the targets and for all that could be wanted for them, so that their jobs can be derived: tells of each
 /// path of their reach whether it is a source, and whether it holds one; and, where it is none, so of each output and log of the jobs
-/// that fit it by name. Nothing is changed. No path is looked at twice, and a folder's tree is listed only where a folder stands
-/// at such a path, up to the first source in it.
+/// that fit it by name. Nothing is changed. Each path is looked at once; a folder's tree is listed only where a folder stands at such
+/// a path, up to the first source in it.
 ///
 /// `TooManyPaths`: the reach has more than 100,000 paths; with how many had been found then. `Device`: a call of the device failed.
 /// `OutOfMemory`: there is no memory for what is found.
