@@ -4,10 +4,12 @@ mod Sweeps
 mod Named
 mod Above
 mod ByName
-mod Listed
+pub mod Listed
 mod Growing
 mod Spanning
 mod Deep
 mod Deciding
 mod Covering
 mod Wholes
+mod Placed
+pub mod Picked
