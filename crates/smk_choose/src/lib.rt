@@ -14,6 +14,7 @@ mod sources;
 mod table;
 mod whole;
 
+pub use binding::by_name;
 pub use choice::{Choice, Chosen, Lack, Making};
 pub use precedence::precedes;
 pub use sources::{Sources, Standing};

@@ -1,0 +1,12 @@
+//! What the chosen job of a path wants, and the job itself, once it is known which files are gathered.
+#![tactic(auto)]
+
+mod job;
+mod places;
+mod wanted;
+mod wants;
+
+pub use job::job_of;
+pub use places::Places;
+pub use wanted::Want;
+pub use wants::wants_of;
