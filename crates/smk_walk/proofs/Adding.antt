@@ -44,11 +44,11 @@ job_is m c h =
 
 -- ---- places
 
-abbrev or_place : Option ℕ → Option ℕ → Option ℕ
+abbrev pub or_place : Option ℕ → Option ℕ → Option ℕ
 or_place None later = later
 or_place (Some n) later = Some n
 
-abbrev place_if : Bool → ℕ → Option ℕ
+abbrev pub place_if : Bool → ℕ → Option ℕ
 place_if b n = cond b (Some n) None
 
 or_suc : (o : Option ℕ) (b : Bool) (n : ℕ) → option_map suc (or_place o (place_if b n)) ≡ or_place (option_map suc o) (place_if b (suc n))

@@ -1,3 +1,5 @@
 mod Depths
-mod Keys
+mod Apart
 mod Adding
+mod Keeping
+mod Visiting

@@ -17,7 +17,6 @@ use Rattle.smk_chain.specs.Derive.{Listings, wants, wanted_paths, gathered_files
 use Rattle.smk_wants.specs.declared.wanted.Want.{Want}
 use Rattle.smk_wants.specs.declared.wanted.Want.TheVariants as want
 use Rattle.smk_pattern.specs.Shapes.{Text}
-use Rattle.smk_flow.specs.declared.rule.InPart.{InPart}
 use Rattle.smk_wants.specs.Wants.{want_of}
 use denote.Ref.{Bor}
 use Rattle.smk_walk.specs.declared.stepping.Step.{Step}
@@ -50,10 +49,6 @@ path_in (want.NoPath t) = None
 abbrev pub text_in : Want → Text
 text_in (want.Path p) = p
 text_in (want.NoPath t) = t
-
--- an item of the inputs gathers
-abbrev pub gathers_any : List InPart → Bool
-gathers_any inputs = list_any (λ (i : InPart). is_some i.gather) inputs
 
 -- the first directory among these outputs that has the path under it
 abbrev pub over_in : List Out → Path → Option Path

@@ -26,7 +26,8 @@ fn push_pair(key: &mut String, bound: &Pair) -> Result<(), AllocError>
 
 /// A text for the job: no two jobs have the same one.
 pub(crate) fn key_of(alloc: Global, making: &Making) -> Result<String, OutOfMemory>
-    ensures { IfOk result (λ made. string_bytes made ≡ key making.now) }
+    ensures is { IfOk result (λ made. string_bytes made ≡ key making.now) }
+    ensures small { IfOk result (λ made. IsSmall making.now) }
 {
     let rule = making.rule;
     let mut made = String::new(alloc);

@@ -7,7 +7,7 @@ ghost use Rattle.smk_base.specs.Path.{is_path};
 ghost use Rattle.smk_world.specs.Trees.{Path};
 ghost use Rattle.smk_flow.specs.Flows.{Flow, Candidate};
 ghost use Rattle.smk_choose.specs.Choose.{Sources as Which, Source, Make, choose};
-ghost use Rattle.smk_choose.specs.Told.{making};
+ghost use Rattle.smk_choose.specs.Told.{making as making_of};
 ghost use Rattle.smk_chain.specs.Derive.{Listings as Lists, wants};
 ghost use Rattle.smk_wants.specs.Wants.{ArePlaces, IsChosen};
 ghost use Rattle.smk_walk.specs.Numbers.{place_of, has, added};
@@ -108,9 +108,9 @@ impl Reached {
     ) -> Result<u32, OutOfMemory>
         requires places { ArePlaces lists.now places.now }
         requires chosen { IsChosen flow.now making.now }
-        ensures { (sources : Which) (p : Path) (c : Candidate) (cs : Items Candidate) → choose flow.now sources p ≡ Make c → making.now ≡ making c
+        ensures { (sources : Which) (p : Path) (c : Candidate) (cs : Items Candidate) → choose flow.now sources p ≡ Make c → making.now ≡ making_of c
             → list_all is_path (wants flow.now lists.now c) ≡ true → Holds flow.now sources lists.now self.old cs
-            → IfOk result (λ number. Holds flow.now sources lists.now self.new (added cs c) × (place_of (added cs c) (making c) ≡ Some number)) }
+            → IfOk result (λ number. Holds flow.now sources lists.now self.new (added cs c) × (place_of (added cs c) (making_of c) ≡ Some number)) }
     {
         let key = key_of(alloc, making)?;
         if let Some(number) = self.numbers.get(key.as_str()) {
@@ -133,7 +133,7 @@ impl Reached {
         requires places { ArePlaces lists.now places.now }
         requires chosen { IsChosen flow.now making.now }
         ensures memory { IfErr result (λ fault. fault ≡ ChainFault.OutOfMemory) }
-        ensures settled { (sources : Which) (c : Candidate) (cs : Items Candidate) → choose flow.now sources path.now ≡ Make c → making.now ≡ making c
+        ensures settled { (sources : Which) (c : Candidate) (cs : Items Candidate) → choose flow.now sources path.now ≡ Make c → making.now ≡ making_of c
             → list_all is_path (wants flow.now lists.now c) ≡ true → refused_for flow.now sources lists.now path.now ≡ []
             → AllByRecursion (λ d. has (added cs c) d ≡ true) (called_for flow.now sources lists.now path.now)
             → Holds flow.now sources lists.now self.old cs → OnOk result (Holds flow.now sources lists.now self.new (added cs c)) }

@@ -5,20 +5,20 @@ ghost use Rattle.std.specs.List.{filter_map};
 ghost use Rattle.smk_world.specs.Trees.{Path, folder_over};
 ghost use Rattle.smk_flow.specs.Flows.{Candidate};
 ghost use Rattle.smk_choose.specs.Choose.{Sources as Which, Make, choose};
-ghost use Rattle.smk_choose.specs.Told.{told_by, told_choice, choice_of, making};
-ghost use Rattle.smk_chain.specs.Derive.{Listings as Lists, refused_at, recipe, is_missing, wants};
+ghost use Rattle.smk_choose.specs.Told.{told_by, told_choice, choice_of, making as making_of};
+ghost use Rattle.smk_chain.specs.Derive.{Listings as Lists, refused_at, recipe, is_missing, wants, gathered_files};
 ghost use Rattle.smk_chain.specs.Told.{TellsFirst};
 ghost use Rattle.smk_wants.specs.Wants.{IsChosen, want_of};
 ghost use Rattle.smk_walk.specs.Folders.{AreFolders};
-ghost use Rattle.smk_walk.specs.Stepping.{over_in, outs_in, gathers_any, path_in, IsInner, IsPermitted, IsBegun, inner_table};
+ghost use Rattle.smk_walk.specs.Stepping.{over_in, outs_in, path_in, IsInner, IsPermitted, IsBegun, inner_table};
 
 use crate::faults;
 use crate::folders::Folders;
 use smk_base::{List, OutOfMemory, PathText};
 use smk_chain::{ChainFault, Listings};
 use smk_choose::{Choices, Chosen, Making, Sources};
-use smk_flow::{InPart, Workflow};
-use smk_wants::{Want, declared_of, wants_of};
+use smk_flow::Workflow;
+use smk_wants::{Want, declared_of, gathered_files_of, wants_of};
 use smk_world::{Kind, Out, OutItem};
 use std::alloc::Global;
 
@@ -58,7 +58,7 @@ fn is_missing(
 ) -> Result<bool, OutOfMemory>
     requires folders { AreFolders lists.now folders.now }
     requires chosen { IsChosen flow.now making.now }
-    ensures { (sources : Which) (p : Path) (c : Candidate) → choose flow.now sources p ≡ Make c → making.now ≡ making c
+    ensures { (sources : Which) (p : Path) (c : Candidate) → choose flow.now sources p ≡ Make c → making.now ≡ making_of c
         → IfOk result (λ lacks. lacks ≡ is_missing lists.now path.now (folder_over (recipe flow.now lists.now c) path.now)) }
 {
     if lists.is_empty() {
@@ -73,7 +73,7 @@ fn is_missing(
 
 // Whether the rule has a command.
 fn has_command(flow: &Workflow, making: &Making) -> bool
-    ensures { (sources : Which) (p : Path) (c : Candidate) → choose flow.now sources p ≡ Make c → making.now ≡ making c
+    ensures { (sources : Which) (p : Path) (c : Candidate) → choose flow.now sources p ≡ Make c → making.now ≡ making_of c
         → result ≡ is_some c.part.command }
 {
     match flow.rules().as_slice().get(making.rule as usize) {
@@ -93,9 +93,9 @@ fn check(
 ) -> Result<(), ChainFault>
     requires folders { AreFolders lists.now folders.now }
     requires chosen { IsChosen flow.now making.now }
-    ensures fault { (sources : Which) (p : Path) (c : Candidate) → choose flow.now sources p ≡ Make c → making.now ≡ making c
+    ensures fault { (sources : Which) (p : Path) (c : Candidate) → choose flow.now sources p ≡ Make c → making.now ≡ making_of c
         → IfErr result (TellsFirst flow.now (refused_at flow.now lists.now path.now (Make c))) }
-    ensures calm { (sources : Which) (p : Path) (c : Candidate) → choose flow.now sources p ≡ Make c → making.now ≡ making c
+    ensures calm { (sources : Which) (p : Path) (c : Candidate) → choose flow.now sources p ≡ Make c → making.now ≡ making_of c
         → OnOk result (refused_at flow.now lists.now path.now (Make c) ≡ []) }
 {
     if is_missing(alloc, flow, lists, folders, making, path)? {
@@ -136,18 +136,6 @@ fn permitted<'t>(
     }
 }
 
-// Whether an item of the inputs gathers.
-fn gathers_any(inputs: &[InPart]) -> bool
-    ensures { result ≡ gathers_any inputs.now }
-{
-    for item in inputs {
-        if item.gather.is_some() {
-            return true;
-        }
-    }
-    false
-}
-
 // Copies of the paths among these.
 fn paths_of(alloc: Global, wants: &[Want]) -> Result<List<PathText>, OutOfMemory>
     ensures { IfOk result (λ paths. paths ≡ filter_map path_in wants.now) }
@@ -162,24 +150,22 @@ fn paths_of(alloc: Global, wants: &[Want]) -> Result<List<PathText>, OutOfMemory
     Ok(paths)
 }
 
-// A table of choices for these paths, where the job gathers files, since others don't have them.
+// A table of choices for these wants, where the job gathers files, since others don't have those.
 fn own_table(
     alloc: Global,
     flow: &Workflow,
     sources: &Sources,
-    making: &Making,
+    files: &[Want],
     wants: &[Want],
 ) -> Result<Option<Choices>, OutOfMemory>
-    ensures { (L : Lists) (p : Path) (c : Candidate) → choose flow.now (told_by sources.now) p ≡ Make c → making.now ≡ making c
-        → wants.now ≡ map want_of (wants flow.now L c) → IfOk result (λ own. IsInner flow.now (told_by sources.now) L c own) }
+    ensures { (L : Lists) (c : Candidate) → files.now ≡ map want_of (gathered_files flow.now L c) → wants.now ≡ map want_of (wants flow.now L c)
+        → IfOk result (λ own. IsInner flow.now (told_by sources.now) L c own) }
 {
-    match flow.rules().as_slice().get(making.rule as usize) {
-        Some(rule) if gathers_any(rule.part.inputs.as_slice()) => {
-            let paths = paths_of(alloc, wants)?;
-            Ok(Some(Choices::of(alloc, flow, sources, &paths)?))
-        }
-        _ => Ok(None),
+    if files.is_empty() {
+        return Ok(None);
     }
+    let paths = paths_of(alloc, wants)?;
+    Ok(Some(Choices::of(alloc, flow, sources, &paths)?))
 }
 
 /// What is walked at a path: the job that makes it, what that wants, and the choices for those, where they have a table of their own.
@@ -202,11 +188,18 @@ fn prepared(
     requires folders { AreFolders lists.now folders.now }
     requires chosen { IsChosen flow.now making.now }
     ensures memory { IfErr result (λ fault. fault ≡ ChainFault.OutOfMemory) }
-    ensures wants { (p : Path) (c : Candidate) → choose flow.now (told_by sources.now) p ≡ Make c → making.now ≡ making c
+    ensures wants { (p : Path) (c : Candidate) → choose flow.now (told_by sources.now) p ≡ Make c → making.now ≡ making_of c
         → IfOk result (λ made. (made.0 ≡ map want_of (wants flow.now lists.now c)) × IsInner flow.now (told_by sources.now) lists.now c made.1) }
 {
     let wants = wants_of(alloc, flow, lists, &folders.places, making)?;
-    let own = own_table(alloc, flow, sources, making, wants.as_slice())?;
+    let files = gathered_files_of(alloc, flow, lists, &folders.places, making)?;
+    let own = own_table(
+        alloc,
+        flow,
+        sources,
+        files.as_slice(),
+        wants.as_slice(),
+    )?;
     Ok((wants, own))
 }
 

@@ -6,7 +6,7 @@ mod places;
 mod wanted;
 mod wants;
 
-pub use job::job_of;
+pub use job::{declared_of, job_of};
 pub use places::Places;
 pub use wanted::Want;
-pub use wants::wants_of;
+pub use wants::{gathered_files_of, wants_of};
