@@ -47,11 +47,11 @@ fold_least f n h (x ∷ xs) a k = fold_least f n h xs (max a (f x)) (let e = h x
 
 fold_each : {A : Type 0} (f : A → ℕ) (test : A → Bool) (n : ℕ) (xs : List A) (a : ℕ) → fold max a (map f (filter test xs)) ≤ n → AllByRecursion (λ x. test x ≡ true → f x ≤ n) xs
 fold_each f test n [] a h = tt
-fold_each f test n (x ∷ xs) a h = go (test x) refl h
+fold_each f test n (x ∷ xs) a h = go (λ b k. fold_each f test n xs b k) (test x) refl h
   where
-    go : (b : Bool) → test x ≡ b → fold max a (map f (cond b (x ∷ filter test xs) (filter test xs))) ≤ n → AllByRecursion (λ y. test y ≡ true → f y ≤ n) (x ∷ xs)
-    go true e k = (λ _. let top = fold_above (map f (filter test xs)) (max a (f x)) in omega arith, fold_each f test n xs (max a (f x)) k)
-    go false e k = (λ t. absurd (true≢false (sym t ∙ e)), fold_each f test n xs a k)
+    go : ((b : ℕ) → fold max b (map f (filter test xs)) ≤ n → AllByRecursion (λ y. test y ≡ true → f y ≤ n) xs) → (b : Bool) → test x ≡ b → fold max a (map f (cond b (x ∷ filter test xs) (filter test xs))) ≤ n → AllByRecursion (λ y. test y ≡ true → f y ≤ n) (x ∷ xs)
+    go rest true e k = (λ _. let top = fold_above (map f (filter test xs)) (max a (f x)) in omega arith, rest (max a (f x)) k)
+    go rest false e k = (λ t. absurd (true≢false (sym t ∙ e)), rest a k)
 
 below_top : (a n : ℕ) → a ≤ suc n → eqb a (suc n) ≡ false → a ≤ n
 below_top a n h e = grind (arith, false-eqb)

@@ -49,14 +49,14 @@ module _ (flow : Flow) (sources : Sources) (L : Listings) where
   done_grows cs ds w q number d = record {
     calm = d.calm;
     called = all_map (λ c. has cs c ≡ true) (λ c. has ds c ≡ true) (λ c h. within_has cs ds w c h) (called_for flow sources L q) d.called;
-    number = d.number ∙ number_stays cs ds w q d.called;
+    is = d.is ∙ number_stays cs ds w q d.called;
   }
 
   pub done_source : (cs : List Candidate) (p : Path) → choose flow sources p ≡ Source → IsDone flow sources L cs p None
   done_source cs p e = record {
     calm = refused_unmade flow sources L p Source e refl;
     called = subst (AllByRecursion (λ c. has cs c ≡ true)) (sym (called_source flow sources L p e)) tt;
-    number = ap (λ ch. number_in cs (maker ch)) (sym e);
+    is = ap (λ ch. number_in cs (maker ch)) (sym e);
   }
 
   pub done_job : (cs : List Candidate) (p : Path) (c : Candidate) (n : ℕ) → choose flow sources p ≡ Make c → refused_for flow sources L p ≡ [] →
@@ -64,7 +64,7 @@ module _ (flow : Flow) (sources : Sources) (L : Listings) where
   done_job cs p c n e calm all at = record {
     calm = calm;
     called = all;
-    number = sym at ∙ ap (λ ch. number_in cs (maker ch)) (sym e);
+    is = sym at ∙ ap (λ ch. number_in cs (maker ch)) (sym e);
   }
 
   -- one more path is noted

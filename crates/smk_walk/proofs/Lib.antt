@@ -3,3 +3,4 @@ mod Apart
 mod Adding
 mod Keeping
 mod Visiting
+mod Missing

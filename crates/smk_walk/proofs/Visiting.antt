@@ -1,5 +1,5 @@
 -- What a walk from a path comes to, put together from its steps.
-use Rattle.std.proofs.Common.{◌≡◌, ◌≢◌, ◌∙◌, ℕ, zero, suc, ◌+◌, ◌≤◌, Bool, true, false, cond, List, [], ◌∷◌, ◌++◌, map, Option, Some, None, Result, Ok, Err, refl, sym, ap, subst, append_assoc, append_nil, arith, true≢false}
+use Rattle.std.proofs.Common.{◌≡◌, ◌≢◌, ◌∙◌, ℕ, zero, suc, ◌+◌, ◌≤◌, Bool, true, false, cond, List, [], ◌∷◌, ◌++◌, map, Option, Some, None, Result, Ok, Err, refl, sym, ap, subst, append_assoc, append-nil, arith, true≢false}
 use Rattle.std.specs.Prelude.{is_some}
 use Rattle.std.specs.BTreeMap.{get_by_text}
 use Rattle.std.specs.List.{flat_map, AllByRecursion, list_all}
@@ -75,7 +75,7 @@ module _ (flow : Flow) (sources : Sources) (L : Listings) where
   no_asked p rule w e = ap (λ b. elim b as (λ _. List Refusal) [ true ↦ refused_for flow sources L w | false ↦ NoInput p rule w ∷ [] ]) e
 
   flat_push : {A B : Type 0} (f : A → List B) (xs : List A) (x : A) → flat_map f (xs ++ x ∷ []) ≡ flat_map f xs ++ f x
-  flat_push f [] x = append_nil (f x)
+  flat_push f [] x = append-nil (f x)
   flat_push f (y ∷ xs) x = ap (λ ys. f y ++ ys) (flat_push f xs x) ∙ sym (append_assoc (f y) (flat_map f xs) (f x))
 
   pub so_far_more : (old now new : Reached) (p : Path) (rule : ℕ) (ws : List Text) (w : Text) → SoFar old now p rule ws → is_path w ≡ true →

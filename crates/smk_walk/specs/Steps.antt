@@ -23,11 +23,11 @@ Fits flow sources L (suc n) p =
     (c : Candidate) → choose flow sources p ≡ Make c → AllByRecursion (λ (w : Text). is_path w ≡ true → Fits flow sources L n w) (wants flow L c)
 
 -- what is refused at the path, and then of what its job wants, in order
-pub refused_for : Flow → Sources → Listings → Path → List Refusal
+unfoldable pub refused_for : Flow → Sources → Listings → Path → List Refusal
 refused_for flow sources L p = refused flow sources L 201 p
 
 -- the jobs of what the path's job wants, in order, and then that job
-pub called_for : Flow → Sources → Listings → Path → List Candidate
+unfoldable pub called_for : Flow → Sources → Listings → Path → List Candidate
 called_for flow sources L p = walk flow sources L 200 p
 
 -- what is refused of a text that a job of this rule wants, which makes p
@@ -45,7 +45,7 @@ is_done reached q = is_some (get_by_text reached.done q)
 pub record IsDone (flow : Flow) (sources : Sources) (L : Listings) (cs : List Candidate) (q : Path) (number : Option ℕ) : Type 0 where
   pub calm : refused_for flow sources L q ≡ []
   pub called : AllByRecursion (λ c. has cs c ≡ true) (called_for flow sources L q)
-  pub number : number ≡ number_for flow sources L cs q
+  pub is : number ≡ number_for flow sources L cs q
 
 -- What was reached is these jobs, each once, with their numbers, and paths that are done.
 pub record Holds (flow : Flow) (sources : Sources) (L : Listings) (reached : Reached) (cs : List Candidate) : Type 0 where

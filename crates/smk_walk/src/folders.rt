@@ -1,6 +1,6 @@
 //! What is kept of the listings of directories.
 
-ghost use Rattle.std.specs.Prelude.{◌≡◌, ◌≤◌, map, bytes_eq, IfOk, Some, None, drop, length, option_map, if◌then◌else◌};
+ghost use Rattle.std.specs.Prelude.{◌≡◌, ◌||◌, map, bytes_eq, IfOk, OnOk, Some, option_map, if◌then◌else◌, string_bytes};
 ghost use Rattle.std.specs.BTreeMap.{get_by_text};
 ghost use Rattle.std.specs.BTreeSet.{contains_text};
 ghost use Rattle.std.specs.List.{find};
@@ -39,7 +39,7 @@ fn add(
     folder: &PathText,
     file: &PathText,
 ) -> Result<(), OutOfMemory>
-    ensures { OnOk result ((q : Path) → contains_text found.new q ≡ (bytes_eq q (in_folder folder.now file.now) || contains_text found.old q)) }
+    ensures { OnOk result ((q : Path) → contains_text found.new q ≡ (bytes_eq (in_folder folder.now file.now) q || contains_text found.old q)) }
 {
     let path = inside(alloc, folder, file)?;
     found.insert(path)?;
@@ -63,17 +63,16 @@ fn paths_in(
     Ok(set)
 }
 
-// Keeps the paths of the directory's files.
+// Keeps the paths of a directory's files.
 fn put(
     alloc: Global,
     members: &mut BTreeMap<String, BTreeSet<String>>,
-    known: &Known,
+    folder: &PathText,
+    set: BTreeSet<String>,
 ) -> Result<(), OutOfMemory>
-    ensures { OnOk result ((folder p : Path) → option_map (λ set. contains_text set p) (get_by_text members.new folder)
-        ≡ (if bytes_eq known.now.folder folder then Some (among (map (in_folder folder) known.now.files) p) else option_map (λ set. contains_text set p) (get_by_text members.old folder))) }
+    ensures { OnOk result ((q : Path) → get_by_text members.new q ≡ (if bytes_eq folder.now q then Some set else get_by_text members.old q)) }
 {
-    let set = paths_in(alloc, &known.folder, known.files.as_slice())?;
-    let key = String::from_str(alloc, known.folder.as_str())?;
+    let key = String::from_str(alloc, folder.as_str())?;
     members.insert(key, set)?;
     Ok(())
 }
@@ -90,7 +89,9 @@ fn members_of(
     let mut number = lists.len();
     'lists: while number > 0 {
         number -= 1;
-        put(alloc, &mut members, &lists[number])?;
+        let known = &lists[number];
+        let set = paths_in(alloc, &known.folder, known.files.as_slice())?;
+        put(alloc, &mut members, &known.folder, set)?;
     }
     Ok(members)
 }

@@ -1,6 +1,6 @@
 //! What a walk has reached.
 
-ghost use Rattle.std.specs.Prelude.{◌≡◌, [], ◌∷◌, ◌++◌, List as Items, true, bytes_eq, length, Some, None, IfOk, IfErr, OnOk, if◌then◌else◌, string_bytes};
+ghost use Rattle.std.specs.Prelude.{◌≡◌, ℕ, [], ◌∷◌, ◌++◌, List as Items, true, bytes_eq, length, Some, None, IfOk, IfErr, OnOk, if◌then◌else◌, string_bytes};
 ghost use Rattle.std.specs.BTreeMap.{get_by_text};
 ghost use Rattle.std.specs.List.{list_all, AllByRecursion};
 ghost use Rattle.smk_base.specs.Path.{is_path};

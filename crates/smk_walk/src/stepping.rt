@@ -156,15 +156,15 @@ fn own_table(
     flow: &Workflow,
     sources: &Sources,
     files: &[Want],
-    wants: &[Want],
+    wanted: &[Want],
 ) -> Result<Option<Choices>, OutOfMemory>
-    ensures { (L : Lists) (c : Candidate) → files.now ≡ map want_of (gathered_files flow.now L c) → wants.now ≡ map want_of (wants flow.now L c)
+    ensures { (L : Lists) (c : Candidate) → files.now ≡ map want_of (gathered_files flow.now L c) → wanted.now ≡ map want_of (wants flow.now L c)
         → IfOk result (λ own. IsInner flow.now (told_by sources.now) L c own) }
 {
     if files.is_empty() {
         return Ok(None);
     }
-    let paths = paths_of(alloc, wants)?;
+    let paths = paths_of(alloc, wanted)?;
     Ok(Some(Choices::of(alloc, flow, sources, &paths)?))
 }
 
