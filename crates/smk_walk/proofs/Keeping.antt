@@ -1,5 +1,5 @@
 -- What is kept of a walk stays right as jobs and paths are added.
-use Rattle.std.proofs.Common.{◌≡◌, ◌∙◌, ℕ, suc, ◌+◌, Bool, true, false, cond, List, [], ◌∷◌, ◌++◌, map, length, Option, Some, None, refl, sym, ap, subst, true≢false}
+use Rattle.std.proofs.Common.{◌≡◌, ◌∙◌, ℕ, suc, ◌+◌, Bool, true, false, cond, List, [], ◌∷◌, ◌++◌, map, length, Option, Some, None, Result, Ok, Err, IfOk, OnOk, refl, sym, ap, subst, true≢false}
 use Rattle.std.specs.Prelude.{bytes_eq}
 use Rattle.std.specs.BTreeMap.{get_by_text}
 use Rattle.std.specs.List.{list_any, AllByRecursion}
@@ -30,6 +30,10 @@ map_push f (y ∷ xs) x = ap (λ ys. f y ∷ ys) (map_push f xs x)
 length_map : {A B : Type 0} (f : A → B) (xs : List A) → length (map f xs) ≡ length xs
 length_map f [] = refl
 length_map f (x ∷ xs) = ap suc (length_map f xs)
+
+pub on_push : {E : Type 0} (r : Result ℕ E) (A B R : Type 0) (o : Option ℕ) (n : ℕ) → IfOk r (λ m. m ≡ n) → OnOk r A → OnOk r B → (A → B → R × (o ≡ Some n)) → IfOk r (λ m. R × (o ≡ Some m))
+on_push (Ok m) A B R o n e a b f = let r = f a b in (r.0, r.1 ∙ ap Some (sym e))
+on_push (Err x) A B R o n e a b f = tt
 
 module _ (flow : Flow) (sources : Sources) (L : Listings) where
   number_stays : (cs ds : List Candidate) → Within cs ds → (q : Path) → AllByRecursion (λ c. has cs c ≡ true) (called_for flow sources L q) → number_for flow sources L cs q ≡ number_for flow sources L ds q

@@ -4,3 +4,7 @@ mod Adding
 mod Keeping
 mod Visiting
 mod Missing
+mod RuleAt
+mod Taken
+mod Descent
+mod Targets

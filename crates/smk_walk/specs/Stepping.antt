@@ -1,5 +1,5 @@
 -- What is told at a path, and what is known of the job that makes it before its wants are walked.
-use Rattle.std.specs.Prelude.{◌≡◌, ◌≢◌, ℕ, Bool, List, [], map, filter, Option, Some, None, is_some, Result, Ok, Err}
+use Rattle.std.specs.Prelude.{◌≡◌, ◌≢◌, ℕ, Bool, List, [], ◌∷◌, map, filter, Option, Some, None, is_some, Result, Ok, Err}
 use Rattle.std.specs.List.{find, list_any, flat_map}
 use Rattle.smk_base.specs.Path.{is_under}
 use Rattle.smk_world.specs.declared.recipe.Out.{Out}
@@ -41,9 +41,9 @@ pub record IsStep (flow : Flow) (sources : Sources) (L : Listings) (p : Path) (m
   pub inner : IsInner flow sources L candidate own
 
 -- the path that is wanted, where it is one
-abbrev pub path_in : Want → Option Path
-path_in (want.Path p) = Some p
-path_in (want.NoPath t) = None
+abbrev pub path_in : Want → List Path
+path_in (want.Path p) = p ∷ []
+path_in (want.NoPath t) = []
 
 -- the text that is wanted
 abbrev pub text_in : Want → Text

@@ -5,6 +5,7 @@ ghost use Rattle.smk_flow.specs.Flows.{rule_name};
 ghost use Rattle.smk_chain.specs.declared.fault.ChainFault.TheVariants as told;
 ghost use Rattle.smk_walk.specs.Stepping.{lack_fault};
 
+use crate::parts::part_at;
 use smk_base::{OutOfMemory, PathText, Text};
 use smk_chain::ChainFault;
 use smk_choose::Lack;
@@ -15,8 +16,8 @@ use std::alloc::Global;
 fn name_of(alloc: Global, flow: &Workflow, rule: u32) -> Result<Text, OutOfMemory>
     ensures { IfOk result (λ name. name ≡ rule_name flow.now rule) }
 {
-    match flow.rules().as_slice().get(rule as usize) {
-        Some(rule) => rule.part.name.copy(alloc),
+    match part_at(flow, rule) {
+        Some(part) => part.name.copy(alloc),
         None => Text::of(alloc, ""),
     }
 }

@@ -4,6 +4,7 @@
 mod faults;
 mod folders;
 mod keys;
+mod parts;
 mod reached;
 mod stepping;
 mod walking;

@@ -1,7 +1,7 @@
 //! One step of a walk: what is refused at a path, and what the job that makes it wants.
 
-ghost use Rattle.std.specs.Prelude.{◌≡◌, [], Bool, IfOk, IfErr, OnOk, Some, map, option_map, is_some};
-ghost use Rattle.std.specs.List.{filter_map};
+ghost use Rattle.std.specs.Prelude.{◌≡◌, ◌++◌, [], Bool, IfOk, IfErr, OnOk, Some, map, option_map, is_some};
+ghost use Rattle.std.specs.List.{flat_map};
 ghost use Rattle.smk_world.specs.Trees.{Path, folder_over};
 ghost use Rattle.smk_flow.specs.Flows.{Candidate};
 ghost use Rattle.smk_choose.specs.Choose.{Sources as Which, Make, choose};
@@ -14,6 +14,7 @@ ghost use Rattle.smk_walk.specs.Stepping.{over_in, outs_in, path_in, IsInner, Is
 
 use crate::faults;
 use crate::folders::Folders;
+use crate::parts::part_at;
 use smk_base::{List, OutOfMemory, PathText};
 use smk_chain::{ChainFault, Listings};
 use smk_choose::{Choices, Chosen, Making, Sources};
@@ -76,8 +77,8 @@ fn has_command(flow: &Workflow, making: &Making) -> bool
     ensures { (sources : Which) (p : Path) (c : Candidate) → choose flow.now sources p ≡ Make c → making.now ≡ making_of c
         → result ≡ is_some c.part.command }
 {
-    match flow.rules().as_slice().get(making.rule as usize) {
-        Some(rule) => rule.part.command.is_some(),
+    match part_at(flow, making.rule) {
+        Some(part) => part.command.is_some(),
         None => false,
     }
 }
@@ -136,16 +137,24 @@ fn permitted<'t>(
     }
 }
 
+// Adds a copy of the path, where one is wanted.
+fn add_path(alloc: Global, paths: &mut List<PathText>, want: &Want) -> Result<(), OutOfMemory>
+    ensures { OnOk result (paths.new ≡ paths.old ++ path_in want.now) }
+{
+    match want {
+        Want::Path(path) => paths.push(path.copy(alloc)?)?,
+        Want::NoPath(_) => {}
+    }
+    Ok(())
+}
+
 // Copies of the paths among these.
 fn paths_of(alloc: Global, wants: &[Want]) -> Result<List<PathText>, OutOfMemory>
-    ensures { IfOk result (λ paths. paths ≡ filter_map path_in wants.now) }
+    ensures { IfOk result (λ paths. paths ≡ flat_map path_in wants.now) }
 {
     let mut paths = List::new(alloc);
     for want in wants {
-        match want {
-            Want::Path(path) => paths.push(path.copy(alloc)?)?,
-            Want::NoPath(_) => continue,
-        }
+        add_path(alloc, &mut paths, want)?;
     }
     Ok(paths)
 }

@@ -14,7 +14,7 @@ ghost use Rattle.smk_walk.specs.Steps.{Fits, Walked};
 use crate::faults;
 use crate::folders::Folders;
 use crate::reached::Reached;
-use crate::stepping::{begun, inner};
+use crate::stepping::{Step, begun, inner};
 use smk_base::{List, PathText};
 use smk_chain::{ChainFault, Jobs, Listings};
 use smk_choose::{Choices, Sources};
@@ -63,9 +63,11 @@ fn visit(
     let Some(step) = begun(alloc, flow, sources, lists, folders, table, path)? else {
         return reached.note_source(alloc, path);
     };
-    let table = inner(&step.own, table);
-    for want in step.wants.as_slice() {
-        let wanted = wanted_in(alloc, flow, path, step.making.rule, want)?;
+    let Step { making, wants, own } = step;
+    let rule = making.rule;
+    let table = inner(&own, table);
+    for want in wants.as_slice() {
+        let wanted = wanted_in(alloc, flow, path, rule, want)?;
         visit(
             alloc,
             flow,
@@ -78,7 +80,7 @@ fn visit(
             wanted,
         )?;
     }
-    reached.settle(alloc, flow, lists, &folders.places, path, step.making)
+    reached.settle(alloc, flow, lists, &folders.places, path, making)
 }
 
 // Walks from each target.
