@@ -1,3 +1,10 @@
 mod Depths
-mod Keys
+mod Apart
 mod Adding
+mod Keeping
+mod Visiting
+mod Missing
+mod RuleAt
+mod Taken
+mod Descent
+mod Targets

@@ -1,3 +1,5 @@
 pub mod Numbers
 pub mod Links
 pub mod Steps
+pub mod Folders
+pub mod Stepping

@@ -29,9 +29,9 @@ pub record AreLinked (flow : Flow) (sources : Sources) (L : Listings) (targets :
   -- what is told to make a path is the job that is chosen for it, and none for a source
   pub right : (q : Path) (number : Option ℕ) → maker_told made.makers q ≡ Some number → number ≡ number_for flow sources L (chosen flow sources L targets) q
   -- the targets are told of
-  pub targets : AllByRecursion (λ t. is_some (maker_told made.makers t) ≡ true) targets
+  pub all_targets : AllByRecursion (λ t. is_some (maker_told made.makers t) ≡ true) targets
   -- all that the jobs want is told of
-  pub wants : AllByRecursion (λ c. AllByRecursion (λ w. is_some (maker_told made.makers w) ≡ true) (wants flow L c)) (chosen flow sources L targets)
+  pub all_wants : AllByRecursion (λ c. AllByRecursion (λ w. is_some (maker_told made.makers w) ≡ true) (wants flow L c)) (chosen flow sources L targets)
   -- before a job come those that make what it wants
   pub befores : made.befores ≡ map (befores_of flow sources L (chosen flow sources L targets)) (chosen flow sources L targets)
   -- their numbers are below its own

@@ -1,8 +1,25 @@
 //! What a walk has reached.
 
-use smk_base::List;
-use smk_chain::Maker;
-use smk_flow::Job;
+ghost use Rattle.std.specs.Prelude.{◌≡◌, ℕ, [], ◌∷◌, ◌++◌, List as Items, true, bytes_eq, length, Some, None, IfOk, IfErr, OnOk, if◌then◌else◌, string_bytes};
+ghost use Rattle.std.specs.BTreeMap.{get_by_text};
+ghost use Rattle.std.specs.List.{list_all, AllByRecursion};
+ghost use Rattle.smk_base.specs.Path.{is_path};
+ghost use Rattle.smk_world.specs.Trees.{Path};
+ghost use Rattle.smk_flow.specs.Flows.{Flow, Candidate};
+ghost use Rattle.smk_choose.specs.Choose.{Sources as Which, Source, Make, choose};
+ghost use Rattle.smk_choose.specs.Told.{making as making_of};
+ghost use Rattle.smk_chain.specs.Derive.{Listings as Lists, wants};
+ghost use Rattle.smk_wants.specs.Wants.{ArePlaces, IsChosen};
+ghost use Rattle.smk_walk.specs.Numbers.{place_of, has, added};
+ghost use Rattle.smk_walk.specs.Steps.{is_done, refused_for, called_for, Holds};
+
+use crate::keys::key_of;
+use smk_base::{List, OutOfMemory, PathText};
+use smk_chain::{ChainFault, Listings, Maker};
+use smk_choose::Making;
+use smk_flow::{Job, Workflow};
+use smk_wants::{Places, job_of};
+use std::alloc::Global;
 use std::collections::BTreeMap;
 
 /// The jobs so far, in plan order, with what makes each path that is done.
@@ -15,4 +32,114 @@ pub(crate) struct Reached {
     pub(crate) jobs: List<Job>,
     pub(crate) befores: List<List<u32>>,
     pub(crate) makers: List<Maker>,
+}
+
+impl Reached {
+    /// Nothing.
+    pub(crate) fn new(alloc: Global) -> Reached
+        ensures { (flow : Flow) (sources : Which) (L : Lists) → Holds flow sources L result [] }
+    {
+        Reached {
+            done: BTreeMap::new(alloc),
+            numbers: BTreeMap::new(alloc),
+            jobs: List::new(alloc),
+            befores: List::new(alloc),
+            makers: List::new(alloc),
+        }
+    }
+
+    /// Whether the path has been walked from.
+    pub(crate) fn is_done(&self, path: &PathText) -> bool
+        ensures { result ≡ is_done self.now path.now }
+    {
+        self.done.get(path.as_str()).is_some()
+    }
+
+    // Notes that the path is done, and the number of its job.
+    fn note(
+        &mut self,
+        alloc: Global,
+        path: &PathText,
+        number: Option<u32>,
+    ) -> Result<(), OutOfMemory>
+        ensures done { OnOk result ((q : Path) → get_by_text self.new.done q ≡ (if bytes_eq path.now q then Some number else get_by_text self.old.done q)) }
+        ensures jobs { self.new.jobs ≡ self.old.jobs }
+        ensures numbers { (q : Items ℕ) → get_by_text self.new.numbers q ≡ get_by_text self.old.numbers q }
+    {
+        let key = String::from_str(alloc, path.as_str())?;
+        self.done.insert(key, number)?;
+        Ok(())
+    }
+
+    /// Notes that a source is done.
+    pub(crate) fn note_source(&mut self, alloc: Global, path: &PathText) -> Result<(), ChainFault>
+        ensures memory { IfErr result (λ fault. fault ≡ ChainFault.OutOfMemory) }
+        ensures noted { (flow : Flow) (sources : Which) (L : Lists) (cs : Items Candidate) → Holds flow sources L self.old cs → choose flow sources path.now ≡ Source
+            → OnOk result (Holds flow sources L self.new cs) }
+    {
+        self.note(alloc, path, None)?;
+        Ok(())
+    }
+
+    // Adds the job with its text, and gives its number.
+    fn push(&mut self, key: String, job: Job) -> Result<u32, OutOfMemory>
+        ensures number { IfOk result (λ number. number ≡ length self.old.jobs) }
+        ensures jobs { OnOk result (self.new.jobs ≡ self.old.jobs ++ job ∷ []) }
+        ensures numbers { OnOk result ((q : Items ℕ) → get_by_text self.new.numbers q
+            ≡ (if bytes_eq (string_bytes key) q then Some (length self.old.jobs) else get_by_text self.old.numbers q)) }
+        ensures done { (q : Path) → get_by_text self.new.done q ≡ get_by_text self.old.done q }
+    {
+        let Ok(number) = u32::try_from(self.jobs.len()) else {
+            return Err(OutOfMemory);
+        };
+        self.jobs.push(job)?;
+        self.numbers.insert(key, number)?;
+        Ok(number)
+    }
+
+    // Adds the job unless it is there, and gives its number.
+    fn put(
+        &mut self,
+        alloc: Global,
+        flow: &Workflow,
+        lists: &Listings,
+        places: &Places,
+        making: &Making,
+    ) -> Result<u32, OutOfMemory>
+        requires places { ArePlaces lists.now places.now }
+        requires chosen { IsChosen flow.now making.now }
+        ensures { (sources : Which) (p : Path) (c : Candidate) (cs : Items Candidate) → choose flow.now sources p ≡ Make c → making.now ≡ making_of c
+            → list_all is_path (wants flow.now lists.now c) ≡ true → Holds flow.now sources lists.now self.old cs
+            → IfOk result (λ number. Holds flow.now sources lists.now self.new (added cs c) × (place_of (added cs c) (making_of c) ≡ Some number)) }
+    {
+        let key = key_of(alloc, making)?;
+        if let Some(number) = self.numbers.get(key.as_str()) {
+            return Ok(*number);
+        }
+        let job = job_of(alloc, flow, lists, places, making)?;
+        self.push(key, job)
+    }
+
+    /// Adds the job that makes the path unless it is there, and notes that the path is done.
+    pub(crate) fn settle(
+        &mut self,
+        alloc: Global,
+        flow: &Workflow,
+        lists: &Listings,
+        places: &Places,
+        path: &PathText,
+        making: &Making,
+    ) -> Result<(), ChainFault>
+        requires places { ArePlaces lists.now places.now }
+        requires chosen { IsChosen flow.now making.now }
+        ensures memory { IfErr result (λ fault. fault ≡ ChainFault.OutOfMemory) }
+        ensures settled { (sources : Which) (c : Candidate) (cs : Items Candidate) → choose flow.now sources path.now ≡ Make c → making.now ≡ making_of c
+            → list_all is_path (wants flow.now lists.now c) ≡ true → refused_for flow.now sources lists.now path.now ≡ []
+            → AllByRecursion (λ d. has (added cs c) d ≡ true) (called_for flow.now sources lists.now path.now)
+            → Holds flow.now sources lists.now self.old cs → OnOk result (Holds flow.now sources lists.now self.new (added cs c)) }
+    {
+        let number = self.put(alloc, flow, lists, places, making)?;
+        self.note(alloc, path, Some(number))?;
+        Ok(())
+    }
 }
