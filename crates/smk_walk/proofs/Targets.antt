@@ -1,5 +1,5 @@
 -- A walk from each target, one after another.
-use Rattle.std.proofs.Common.{◌≡◌, ◌∙◌, ℕ, zero, suc, ◌+◌, ◌<◌, eqb, false, List, [], ◌∷◌, ◌++◌, map, length, take, get_or, Ok, Err, refl, sym, ap, subst, append_assoc, append-nil, arith}
+use Rattle.std.proofs.Common.{◌≡◌, ◌∙◌, ℕ, zero, suc, ◌+◌, ◌<◌, ◌≤◌, eqb, false, List, [], ◌∷◌, ◌++◌, map, length, take, get_or, Ok, Err, refl, sym, ap, subst, append_assoc, append-nil, arith}
 use Rattle.std.specs.List.{flat_map, AllByRecursion}
 use Rattle.std.proofs.lemmas.List.Concat.{flat_map-append}
 use Rattle.smk_world.specs.Trees.{Path}
@@ -32,6 +32,12 @@ pub all_of : {A : Type 0} (P : A → Type 0) (xs : List A) (i : ℕ) (x : A) →
 all_of P [] i x lt e h = absurd (omega arith)
 all_of P (y ∷ xs) zero x lt e h = subst P (sym e) h.0
 all_of P (y ∷ xs) (suc i) x lt e h = all_of P xs i x (omega arith) e h.1
+
+pub take_whole : {A : Type 0} (xs : List A) (i : ℕ) → length xs ≤ i → take i xs ≡ xs
+take_whole [] zero h = refl
+take_whole [] (suc i) h = refl
+take_whole (x ∷ xs) zero h = absurd (omega arith)
+take_whole (x ∷ xs) (suc i) h = ap (λ ys. x ∷ ys) (take_whole xs i (omega arith))
 
 flat_push : {A B : Type 0} (f : A → List B) (xs : List A) (x : A) → flat_map f (xs ++ x ∷ []) ≡ flat_map f xs ++ f x
 flat_push f [] x = append-nil (f x)

@@ -6,6 +6,7 @@ use Rattle.smk_walk.specs.Stepping.{IsBegun, IsStep, text_in}
 use Rattle.smk_walk.specs.Steps.{Walked}
 use Rattle.smk_walk.proofs.Visiting.{SoFar, walked_done, walked_refused}
 use Rattle.smk_walk.proofs.Descent.{at_err, deeper, below_fits, below_covers, stop_here, stop_under, go_on, done_here, noted_source}
+use Rattle.smk_walk.proofs.Targets.{take_whole}
 use Rattle.smk_walk.proofs.walking.+visit.Goals as goal
 
 pub returns-then-is_done : goal.returns-then-is_done
@@ -51,7 +52,7 @@ returns-in_err-wanted t c =
     c.in_err-wanted.ensures c.loop-want.invariant)
 
 pub visit-requires : goal.visit-requires
-visit-requires t c κs within =
+visit-requires t c =
     let flow = c.args.flow.now in
     let sources = told_by c.args.sources.now in
     let L = c.args.lists.now in
@@ -130,4 +131,4 @@ returns t c =
     let now = c.loop-want.reached in
     done_here flow sources L c.args.depth p m ws own c.requires.few c.requires.fits s c.args.reached.now now c.settle.new.self c.settle.result c.settle.ensures.memory
     (λ cs paths calm all h. c.settle.ensures.settled sources s.candidate cs s.chosen s.is paths calm all h)
-    ?
+    (subst (λ (xs : List Want). SoFar flow sources L c.args.reached.now now p m.rule (map text_in xs)) (take_whole ws c.loop-want.want-index c.loop-want-test.false) c.loop-want.invariant)
