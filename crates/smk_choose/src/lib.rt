@@ -17,6 +17,7 @@ mod whole;
 pub use binding::by_name;
 pub use choice::{Choice, Chosen, Lack, Making};
 pub use precedence::precedes;
+pub use readings::gathered_from;
 pub use sources::{Sources, Standing};
 pub use table::Choices;
 pub use whole::choose;
