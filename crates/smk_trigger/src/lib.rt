@@ -13,3 +13,6 @@ pub use facts::JobFacts;
 pub use judge::Plain;
 pub use judging::reasons;
 pub use reason::{Reason, State};
+
+#[cfg(test)]
+mod tests;
