@@ -1,6 +1,6 @@
 //! The number of cores.
 
-ghost use Rattle.std.specs.Prelude.{◌≡◌, IfOk, string_bytes, decimal};
+ghost use Rattle.std.specs.Prelude.{◌≡◌, ◌≤◌, ℕ, IfOk, string_bytes, decimal};
 ghost use Rattle.smk_asked.specs.Words.{IsCores};
 
 use smk_base::OutOfMemory;
@@ -9,18 +9,22 @@ use std::alloc::{AllocError, Global};
 /// The most cores that can be asked for.
 const MOST: u64 = 4096;
 
-// The number as it is written.
+// The text of the number.
 fn spelling(alloc: Global, number: u64) -> Result<String, AllocError>
     ensures { IfOk result (λ text. string_bytes text ≡ decimal number) }
 {
     format!(in alloc; "{number}")
 }
 
-// The number, where this is how it is written and it may be asked for.
+// The number that was read from the word, where that is how it is written and it may be asked for.
 fn checked(alloc: Global, word: &str, number: u64) -> Result<Option<u64>, OutOfMemory>
-    ensures same { IfOk result (λ found. IsCores word.now found) }
+    requires read { (n : ℕ) → n ≤ 4096 → word.now ≡ decimal n → number ≡ n }
+    ensures { IfOk result (λ found. IsCores word.now found) }
 {
-    if number == 0 || number > MOST {
+    if number == 0 {
+        return Ok(None);
+    }
+    if number > MOST {
         return Ok(None);
     }
     let written = spelling(alloc, number)?;

@@ -1,6 +1,6 @@
 //! The words of the command line.
 
-ghost use Rattle.std.specs.Prelude.{◌≡◌, ◌++◌, ◌∷◌, [], IfOk, IsErrOf, OnOk, map, string_bytes, codes};
+ghost use Rattle.std.specs.Prelude.{◌≡◌, ◌∷◌, ◌↔◌, IfOk, IsErrOf, IsTrue, map, string_bytes, codes};
 ghost use Rattle.std.specs.List.{list_all};
 ghost use Rattle.smk_asked.specs.declared.words.RunWords.{RunWords};
 ghost use Rattle.smk_asked.specs.Words as spec;
@@ -84,6 +84,24 @@ fn run_of(alloc: Global, count: &str, targets: &[String]) -> Result<RunWords, Wo
     }
 }
 
+// The run that is asked for by what stands behind the option.
+fn run_after(alloc: Global, rest: &[String]) -> Result<RunWords, WordsFault>
+    ensures ok { IfOk result (λ asked. spec.IsAsked (codes "--cores" ∷ map string_bytes rest.now) asked) }
+    ensures bad { IsErrOf result WordsFault.BadWords
+        → ¬ ((asked : RunWords) × spec.IsAsked (codes "--cores" ∷ map string_bytes rest.now) asked) }
+{
+    match rest.split_first() {
+        Some((count, targets)) => run_of(alloc, count.as_str(), targets),
+        None => Err(WordsFault::BadWords),
+    }
+}
+
+fn is_cores(word: &str) -> bool
+    ensures { IsTrue result ↔ word.now ≡ codes "--cores" }
+{
+    word == "--cores"
+}
+
 /// The run that the words ask for: `--cores`, the number of cores, and then any number of targets.
 ///
 /// `BadWords` exactly where the words aren't of this form: the number is 1 to 4096 in decimal, without a sign and without leading zeros, and
@@ -92,11 +110,11 @@ pub fn run_words(alloc: Global, words: &[String]) -> Result<RunWords, WordsFault
     ensures ok { IfOk result (λ asked. spec.IsAsked (map string_bytes words.now) asked) }
     ensures bad { IsErrOf result WordsFault.BadWords → ¬ ((asked : RunWords) × spec.IsAsked (map string_bytes words.now) asked) }
 {
-    let [option, count, targets @ ..] = words else {
+    let Some((option, rest)) = words.split_first() else {
         return Err(WordsFault::BadWords);
     };
-    if option.as_str() == "--cores" {
-        run_of(alloc, count.as_str(), targets)
+    if is_cores(option.as_str()) {
+        run_after(alloc, rest)
     } else {
         Err(WordsFault::BadWords)
     }
