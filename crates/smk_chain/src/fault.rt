@@ -1,4 +1,5 @@
-use smk_base::{PathText, Text};
+use smk_base::{OutOfMemory, PathText, Text};
+use std::alloc::{AllocError, AllocFailed};
 
 /// Why the sources couldn't be looked at.
 #[derive(Debug, Drop)]
@@ -47,4 +48,37 @@ pub enum ChainFault {
         rule: Text,
     },
     OutOfMemory,
+}
+
+impl From<OutOfMemory> for ChainFault {
+    ghost use Rattle.std.specs.Prelude.{◌≡◌};
+    ghost use Rattle.smk_chain.specs.declared.fault.ChainFault.TheVariants.{OutOfMemory};
+
+    ghost from_gives = { λ _ fault. fault ≡ OutOfMemory };
+
+    fn from(_: OutOfMemory) -> ChainFault {
+        ChainFault::OutOfMemory
+    }
+}
+
+impl From<AllocError> for ChainFault {
+    ghost use Rattle.std.specs.Prelude.{◌≡◌};
+    ghost use Rattle.smk_chain.specs.declared.fault.ChainFault.TheVariants.{OutOfMemory};
+
+    ghost from_gives = { λ _ fault. fault ≡ OutOfMemory };
+
+    fn from(_: AllocError) -> ChainFault {
+        ChainFault::OutOfMemory
+    }
+}
+
+impl<T: Drop> From<AllocFailed<T>> for ChainFault {
+    ghost use Rattle.std.specs.Prelude.{◌≡◌};
+    ghost use Rattle.smk_chain.specs.declared.fault.ChainFault.TheVariants.{OutOfMemory};
+
+    ghost from_gives = { λ _ fault. fault ≡ OutOfMemory };
+
+    fn from(_: AllocFailed<T>) -> ChainFault {
+        ChainFault::OutOfMemory
+    }
 }

@@ -4,10 +4,11 @@ mod Sweeps
 mod Named
 mod Above
 mod ByName
-mod Listed
+pub mod Listed
 mod Growing
 mod Spanning
 mod Deep
 mod Deciding
 mod Covering
 mod Wholes
+pub mod Picked

@@ -48,8 +48,8 @@ fn place(pair: &Pair, pairs: &[Pair]) -> usize
     at
 }
 
-/// The pairs by name.
-pub(crate) fn by_name(alloc: Global, binding: Binding) -> Result<Binding, OutOfMemory>
+/// The pairs by name, equal names in the order in which they stand. `OutOfMemory` where there is no memory for the list.
+pub fn by_name(alloc: Global, binding: Binding) -> Result<Binding, OutOfMemory>
     ensures { IfOk result (λ made. made ≡ by_name binding) }
 {
     let mut left = binding;

@@ -14,8 +14,10 @@ mod sources;
 mod table;
 mod whole;
 
+pub use binding::by_name;
 pub use choice::{Choice, Chosen, Lack, Making};
 pub use precedence::precedes;
+pub use readings::gathered_from;
 pub use sources::{Sources, Standing};
 pub use table::Choices;
 pub use whole::choose;

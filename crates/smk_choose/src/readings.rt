@@ -113,8 +113,8 @@ fn directory(part: &RulePart) -> &str
     ""
 }
 
-// The text of the directory that the checkpoint of this name makes, empty where there is none.
-fn gathered_from<'f>(flow: &'f Workflow, checkpoint: &str) -> &'f str
+/// The directory of the checkpoint with this name, as it is written; empty where there is none.
+pub fn gathered_from<'f>(flow: &'f Workflow, checkpoint: &str) -> &'f str
     ensures { result.now ≡ gathered_from flow.now checkpoint.now }
 {
     match flow.rule(checkpoint) {

@@ -1,0 +1,3 @@
+mod Depths
+mod Keys
+mod Adding

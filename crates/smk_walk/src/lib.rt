@@ -1,0 +1,6 @@
+//! The jobs that targets call for, in plan order, with what makes each path and which jobs come before each job.
+#![tactic(auto)]
+
+mod walking;
+
+pub use walking::walk;
