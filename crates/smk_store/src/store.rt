@@ -1,6 +1,7 @@
-ghost use Rattle.std.specs.Prelude.{◌≡◌, map, option_map};
+ghost use Rattle.std.specs.Prelude.{◌≡◌, true, map, option_map};
 ghost use Rattle.std.specs.Cmp.Lexicographic.{slice_cmp};
 ghost use Rattle.std.specs.Ordering.{nat_cmp};
+ghost use Rattle.smk_record.specs.Records.{are_rising};
 ghost use Rattle.smk_store.specs.Stores.{AreKept, known, entry_of, is_covered_in};
 
 use smk_base::{List, PathText};
@@ -60,7 +61,8 @@ impl Store {
 
     /// The paths of which something is known, in byte order.
     pub fn paths(&self) -> &List<PathText>
-        ensures { result.now ≡ map (λ k. k.path) self.now }
+        ensures value { result.now ≡ map (λ k. k.path) self.now }
+        ensures rising { are_rising result.now ≡ true }
     {
         &self.paths
     }

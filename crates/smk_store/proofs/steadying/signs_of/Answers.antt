@@ -8,4 +8,4 @@ use Rattle.smk_store.proofs.steadying.signs_of.Goals as goal
 pub returns : goal.returns
 returns c =
     subst (λ ks. IfOk c.signs_in.result (λ places. places ≡ all_signs ks))
-    ((λ i. known ((c.as_slice.ensures ∙ c.paths.ensures) i) ((c.as_slice-2.ensures ∙ c.entries.ensures) i)) ∙ known_back c.args.store.now) c.signs_in.ensures
+    ((λ i. known ((c.as_slice.ensures ∙ c.paths.ensures.value) i) ((c.as_slice-2.ensures ∙ c.entries.ensures) i)) ∙ known_back c.args.store.now) c.signs_in.ensures

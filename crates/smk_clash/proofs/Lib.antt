@@ -1,0 +1,5 @@
+mod Ranges
+mod Lookups
+mod Firsts
+mod Spots
+mod Stored

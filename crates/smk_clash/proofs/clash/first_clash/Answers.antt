@@ -1,0 +1,15 @@
+use Rattle.std.proofs.Common.{[], ap, sym, ◌∙◌}
+use Rattle.std.specs.List.{flat_map}
+use Rattle.smk_world.specs.Trees.{first}
+use Rattle.smk_record.specs.Records.{are_rising}
+use Rattle.smk_chain.specs.Derive.{spots}
+use Rattle.smk_clash.specs.Clashes.{clashes_in}
+use Rattle.smk_clash.proofs.Stored.{clashes_same, listed_same}
+use Rattle.smk_clash.proofs.clash.first_clash.Goals as goal
+
+pub returns : goal.returns
+returns c = λ image s l.
+    let store = c.args.store.now in
+    let known = listed_same image store s l (ap are_rising (sym c.paths-paths.ensures.value) ∙ c.paths-paths.ensures.rising) in
+    c.in_ok-found.ensures ∙ ap (λ jobs. first (clashes_in store [] (flat_map spots jobs))) c.as_slice-2.ensures
+    ∙ ap first (clashes_same image store s known [] (flat_map spots c.args.jobs.now))
