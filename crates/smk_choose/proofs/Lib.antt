@@ -11,4 +11,5 @@ mod Deep
 mod Deciding
 mod Covering
 mod Wholes
+mod Placed
 pub mod Picked

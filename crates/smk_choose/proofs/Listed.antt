@@ -199,7 +199,7 @@ or_placed : (rules : List RulePart) (a b : List Candidate) → AllByRecursion (P
 or_placed rules [] b x y = y
 or_placed rules (c ∷ a) b x y = x
 
-listed_placed : (flow : Flow) (p : Path) → AllByRecursion (Placed flow.rules) (or_else (as_member flow p) (as_output flow p))
+pub listed_placed : (flow : Flow) (p : Path) → AllByRecursion (Placed flow.rules) (or_else (as_member flow p) (as_output flow p))
 listed_placed flow p =
     let placed = all_placed flow.rules [] flow.rules 0 refl refl in
     or_placed flow.rules (as_member flow p) (as_output flow p)
@@ -233,7 +233,7 @@ same_apart flow sources c at =
     (all_free sources.holds c.binding (fill c.binding) (shape_of []) (λ t. fill_is_filled [] t c.binding) c.part.logs)
     ∙ ap (is_apart_in sources.holds c.binding) (sym (at_rule flow.rules c.rule c.part at))
 
-filter_making : (flow : Flow) (sources : Sources) (cs : List Candidate) → AllByRecursion (Placed flow.rules) cs →
+pub filter_making : (flow : Flow) (sources : Sources) (cs : List Candidate) → AllByRecursion (Placed flow.rules) cs →
     map making (filter (is_apart flow sources) cs) ≡ filter (is_apart_by sources.holds (map rule_of flow.rules)) (map making cs)
 filter_making flow sources [] all = refl
 filter_making flow sources (c ∷ cs) all =
@@ -246,6 +246,29 @@ filter_making flow sources (c ∷ cs) all =
         ≡ cond b (making c ∷ filter (is_apart_by sources.holds (map rule_of flow.rules)) (map making cs)) (filter (is_apart_by sources.holds (map rule_of flow.rules)) (map making cs))
     go true more = ap (λ xs. making c ∷ xs) more
     go false more = more
+
+pub fitting_listed : (flow : Flow) (p : Path) →
+    map making (or_else (as_member flow p) (as_output flow p))
+    ≡ or_others (members_from 0 (map (reading_of flow) flow.rules) (folders_above p)) (outputs_from 0 (map rule_of flow.rules) p)
+fitting_listed flow p =
+    or_both (as_member flow p) (as_output flow p)
+    ∙ ap₂ or_others (all_members flow flow.rules 0 (folders_above p)) (all_outputs flow.rules 0 p)
+
+map_same : {A B : Type 0} (f g : A → B) → ((x : A) → f x ≡ g x) → (xs : List A) → map f xs ≡ map g xs
+map_same f g same [] = refl
+map_same f g same (x ∷ xs) = ap₂ ◌∷◌ (same x) (map_same f g same xs)
+
+-- what the patterns of a rule give is where its jobs write
+pub outputs_filled : (flow : Flow) (c : Candidate) → map (filled_by c.binding) (rule_of c.part).outputs ≡ outputs flow c
+outputs_filled flow c =
+    ap (map (filled_by c.binding)) (map_map (shape_of c.part.limits) (λ (o : FlaggedText). o.text) (outs c.part))
+    ∙ map_map (filled_by c.binding) (shape_out c.part.limits) (outs c.part)
+    ∙ map_same (λ (o : FlaggedText). filled_by c.binding (shape_out c.part.limits o)) (λ (o : FlaggedText). fill c.binding o.text) (λ o. fill_is_filled c.part.limits o.text c.binding) (outs c.part)
+
+pub logs_filled : (flow : Flow) (c : Candidate) → map (filled_by c.binding) (rule_of c.part).logs ≡ logs flow c
+logs_filled flow c =
+    map_map (filled_by c.binding) (shape_of []) c.part.logs
+    ∙ map_same (λ (t : Text). filled_by c.binding (shape_of [] t)) (fill c.binding) (λ t. fill_is_filled [] t c.binding) c.part.logs
 
 pub candidates_listed : (flow : Flow) (sources : Sources) (p : Path) →
     map making (candidates flow sources p)

@@ -5,3 +5,4 @@ pub mod Readings
 pub mod Reach
 pub mod Decided
 pub mod Whole
+pub mod Finding

@@ -63,8 +63,8 @@ fn add_folder(
     Ok(())
 }
 
-// The folders above the path, the shorter ones first.
-fn folders_above(alloc: Global, path: &PathText) -> Result<Vec<PathText>, OutOfMemory>
+/// The folders above the path, the shorter ones first. `OutOfMemory` where there is no memory for them.
+pub fn folders_above(alloc: Global, path: &PathText) -> Result<Vec<PathText>, OutOfMemory>
     ensures { IfOk result (λ folders. folders.items ≡ folders_above path.now) }
 {
     let text = path.as_str();
@@ -149,7 +149,7 @@ fn by_outputs(alloc: Global, rules: &[Rule], path: &PathText) -> Result<Vec<Maki
 }
 
 // The jobs that may make the path, those of its directories before all others.
-fn makings(
+pub(crate) fn makings(
     alloc: Global,
     rules: &[Rule],
     readings: &[Reading],
@@ -259,7 +259,7 @@ fn keep_apart(
 }
 
 // Those of these jobs whose outputs and logs are paths that hold no source.
-fn all_apart(
+pub(crate) fn all_apart(
     alloc: Global,
     sources: &Sources,
     rules: &[Rule],

@@ -5,6 +5,7 @@ mod binding;
 mod candidates;
 mod choice;
 mod decide;
+mod finder;
 mod heights;
 mod nodes;
 mod precedence;
@@ -15,7 +16,9 @@ mod table;
 mod whole;
 
 pub use binding::by_name;
+pub use candidates::folders_above;
 pub use choice::{Choice, Chosen, Lack, Making};
+pub use finder::{Finder, apart, places};
 pub use precedence::precedes;
 pub use readings::gathered_from;
 pub use sources::{Sources, Standing};

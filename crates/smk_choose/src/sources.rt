@@ -45,6 +45,16 @@ impl Sources {
         Ok(())
     }
 
+    /// What is known of the path. None where nothing was added of it.
+    pub fn standing(&self, path: &PathText) -> Option<Standing>
+        ensures { result ≡ standing_of self.now path.now }
+    {
+        match self.standings.get(path.as_str()) {
+            Some(standing) => Some(*standing),
+            None => None,
+        }
+    }
+
     /// Whether the path is a source.
     pub fn is(&self, path: &PathText) -> bool
         ensures { result ≡ (told_by self.now).is path.now }

@@ -1,0 +1,30 @@
+-- What is told of sources for some targets.
+use Rattle.std.specs.Prelude.{◌≡◌, Bool, true, false, List, ◌++◌}
+use Rattle.std.specs.List.{AllByRecursion}
+use Rattle.smk_base.specs.Path.{is_path}
+use Rattle.smk_world.specs.Trees.{Path}
+use Rattle.smk_pattern.specs.Shapes.{Text}
+use Rattle.smk_flow.specs.Flows.{Flow, Candidate, outputs, logs}
+use Rattle.smk_choose.specs.Choose.{Sources, as_member, as_output, or_else}
+use Rattle.smk_chain.specs.Derive.{Listings, reach}
+
+-- the jobs that fit the path by name, whatever their outputs and logs hold
+abbrev pub fitting : Flow → Path → List Candidate
+fitting flow p = or_else (as_member flow p) (as_output flow p)
+
+-- where a job writes
+abbrev pub places : Flow → Candidate → List Text
+places flow c = outputs flow c ++ logs flow c
+
+-- the two say the same of the path: whether it is a source, and whether it holds one
+abbrev pub SameAt : Sources → Sources → Path → Type 0
+SameAt S T p = (T.is p ≡ S.is p) × (T.holds p ≡ S.holds p)
+
+-- so they do of the path, and, where that is no source, of each output and log of the jobs that fit it by name
+abbrev pub SameAround : Flow → Sources → Sources → Path → Type 0
+SameAround flow S T p =
+    SameAt S T p × (S.is p ≡ false → AllByRecursion (λ (c : Candidate). AllByRecursion (λ (q : Text). is_path q ≡ true → SameAt S T q) (places flow c)) (fitting flow p))
+
+-- so they do of each path of the reach of these targets
+abbrev pub SameOnReach : Flow → Sources → Listings → List Path → Sources → Type 0
+SameOnReach flow S L targets T = AllByRecursion (SameAround flow S T) (reach flow S L 400 targets)

@@ -1,0 +1,7 @@
+//! Sources: which paths of the working folder are sources, for some targets and all that could be wanted for them.
+#![tactic(auto)]
+
+mod looking;
+mod seeing;
+
+pub use looking::sight;
