@@ -1,0 +1,7 @@
+pub mod Idle
+pub mod Closes
+pub mod Texts
+pub mod Turning
+pub mod Running
+pub mod Firsts
+pub mod Rising

@@ -1,0 +1,123 @@
+//! The names and the lines of jobs.
+
+ghost use Rattle.std.specs.Prelude.{◌≡◌, ◌⊎◌, ◌++◌, map, IfOk, IfErr, IsErr, IsSome, OnOk, is_ok, false, true, option_map, string_bytes, codes, decimal};
+ghost use Rattle.smk_world.specs.Calls.{HasPut, HasCause};
+ghost use Rattle.smk_world.specs.Trees.{first};
+ghost use Rattle.smk_world.specs.World.{out_paths};
+ghost use Rattle.smk_run.specs.Reports.{rule_name, end_line, is_output};
+ghost use Rattle.smk_run.specs.declared.stop.Stop.TheVariants as stop;
+
+use crate::{Ending, Stop};
+use smk_base::{OutOfMemory, PathText, Text};
+use smk_flow::{Job, Workflow};
+use smk_report::job_line;
+use smk_world::{Failed, Out, Sink};
+use std::alloc::{AllocError, Global};
+
+/// The name of the rule with this number.
+pub(crate) fn rule_name(flow: &Workflow, number: u32) -> &str
+    ensures { result.now ≡ rule_name flow.now number }
+{
+    match flow.rules().as_slice().get(number as usize) {
+        Some(rule) => rule.part.name.as_str(),
+        None => "",
+    }
+}
+
+// The path of the first output.
+fn first_path(outs: &[Out]) -> Option<&PathText>
+    ensures { option_map (λ p. p.now) result ≡ first (map (λ out. out.path) outs.now) }
+{
+    match outs.first() {
+        Some(out) => Some(&out.path),
+        None => None,
+    }
+}
+
+/// The first output of the job.
+pub(crate) fn first_output(job: &Job) -> Option<&PathText>
+    ensures { option_map (λ p. p.now) result ≡ first (out_paths job.now.recipe) }
+{
+    for item in job.recipe.outputs.as_slice() {
+        if let Some(path) = first_path(item.outs.as_slice()) {
+            return Some(path);
+        }
+    }
+    None
+}
+
+/// Puts the text, and hands it on.
+pub(crate) fn write_out<O: Sink>(out: &mut O, text: &Text) -> Result<(), Failed>
+    ensures put { HasPut (O.put_so_far out.old) (O.put_so_far out.new) text.now (is_ok result) }
+    ensures cause { HasCause (O.faults out.old) (O.faults out.new) (IsErr result) }
+    ensures quiet { OnOk result (O.faults out.new ≡ O.faults out.old) }
+{
+    out.put(text.as_str().as_bytes())?;
+    out.flush()
+}
+
+// What follows the name of a job that failed, with a path.
+fn cause_text(alloc: Global, words: &str, path: &PathText) -> Result<String, AllocError>
+    ensures { IfOk result (λ text. string_bytes text ≡ words.now ++ path.now) }
+{
+    let path = path.as_str();
+    format!(in alloc; "{words}{path}")
+}
+
+// The same, with a status.
+fn status_text(alloc: Global, status: u32) -> Result<String, AllocError>
+    ensures { IfOk result (λ text. string_bytes text ≡ codes ": status " ++ decimal status) }
+{
+    format!(in alloc; ": status {status}")
+}
+
+// The line of a job's end.
+fn end_line(
+    alloc: Global,
+    rule: &str,
+    path: &PathText,
+    ending: &Ending,
+) -> Result<Text, OutOfMemory>
+    ensures { IfOk result (λ text. text ≡ end_line (record { rule = rule.now; path = path.now }) ending.now) }
+{
+    match ending {
+        Ending::Good => job_line(alloc, "done", rule, path, ""),
+        Ending::Status(status) => {
+            let rest = status_text(alloc, *status)?;
+            job_line(alloc, "failed", rule, path, rest.as_str())
+        }
+        Ending::NoOutput(missing) => {
+            let rest = cause_text(alloc, ": no output ", missing)?;
+            job_line(alloc, "failed", rule, path, rest.as_str())
+        }
+        Ending::WrongKind(wrong) => {
+            let rest = cause_text(alloc, ": wrong kind ", wrong)?;
+            job_line(alloc, "failed", rule, path, rest.as_str())
+        }
+        Ending::BadMember(bad) => {
+            let rest = cause_text(alloc, ": bad member ", bad)?;
+            job_line(alloc, "failed", rule, path, rest.as_str())
+        }
+    }
+}
+
+/// Puts the line of a job's end.
+pub(crate) fn tell_end<O: Sink>(
+    alloc: Global,
+    rule: &str,
+    path: &PathText,
+    ending: &Ending,
+    out: &mut O,
+) -> Result<(), Stop>
+    ensures put { HasPut (O.put_so_far out.old) (O.put_so_far out.new) (end_line (record { rule = rule.now; path = path.now }) ending.now) (is_ok result) }
+    ensures stays { is_output result ≡ false → IsSome (O.put_so_far out.old) → IsSome (O.put_so_far out.new) }
+    ensures cause { HasCause (O.faults out.old) (O.faults out.new) (is_output result ≡ true) }
+    ensures quiet { is_output result ≡ false → O.faults out.new ≡ O.faults out.old }
+    ensures faults { IfErr result (λ s. (s ≡ stop.Output) ⊎ (s ≡ stop.OutOfMemory)) }
+{
+    let text = end_line(alloc, rule, path, ending)?;
+    match write_out(out, &text) {
+        Ok(()) => Ok(()),
+        Err(Failed) => Err(Stop::Output),
+    }
+}

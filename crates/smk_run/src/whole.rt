@@ -1,0 +1,45 @@
+//! All jobs, one after another.
+
+ghost use Rattle.std.specs.Prelude.{◌≡◌, [], true, false};
+ghost use Rattle.smk_world.specs.Calls.{HasCause, Rose};
+ghost use Rattle.smk_store.specs.Serials.{next_serial};
+ghost use Rattle.smk_run.specs.Runs.{AreRunnable, HasRun, serials, is_output, is_device};
+
+use crate::Tally;
+use smk_chain::Jobs;
+use smk_flow::Workflow;
+use smk_report::Fault;
+use smk_store::Store;
+use smk_world::{Crew, Sink};
+use std::alloc::Global;
+
+/// Runs the jobs one after another, in order, and reports each on the sink: a line as it starts, and one as it ends. A job draws one serial more than
+/// the job before it; the first draws the store's next one. After a job that failed none is started, and its fault is the tally's.
+///
+/// `UnknownField`, `TooLong`: a command has a field without a value, or is too long or has NUL; exactly where that is so of a job, with the first such job; nothing
+/// was done then. `Serials` exactly where a job's turn comes and there is no serial for it. `TooLong` too where the record of a job would be too long as its turn
+/// comes, and `NoInput` where no file stands at an input that was a source; then nothing was done of that job but looks at its inputs. `Device`: a call of
+/// the device failed, and none came after it but the wait for a running child. `Output`: the sink failed. `OutOfMemory`: want of memory. After each
+/// fault no further job was started, and the child that ran was waited for and its job closed, unless a call of the device failed.
+///
+/// No child runs before. Threads are cut to the cores. The jobs can be run: each has an output, its outputs and logs don't overlap one another, the names
+/// of its wildcards rise, and what makes its inputs comes before it.
+pub fn run_jobs<W: Crew, O: Sink>(
+    alloc: Global,
+    flow: &Workflow,
+    jobs: &Jobs,
+    store: &Store,
+    cores: u64,
+    work: &mut W,
+    out: &mut O,
+) -> Result<Tally, Fault>
+    requires none_runs { W.running work.old ≡ [] }
+    requires runnable { AreRunnable jobs.now }
+    ensures run { HasRun W.act flow.now cores jobs.now.jobs (next_serial store.now) (serials jobs.now.makers (next_serial store.now)) result (W.world work.old) (W.world work.new)
+        (Rose (W.faults work.old) (W.faults work.new)) (W.running work.new) (O.put_so_far out.old) (O.put_so_far out.new) }
+    ensures cause { HasCause (W.faults work.old) (W.faults work.new) (is_device result ≡ true) }
+    ensures output { HasCause (O.faults out.old) (O.faults out.new) (is_output result ≡ true) }
+    ensures quiet { is_output result ≡ false → O.faults out.new ≡ O.faults out.old }
+{
+    Err(Fault::OutOfMemory)
+}
