@@ -1,9 +1,10 @@
 -- Faults of loading as those of the call.
-use Rattle.std.proofs.Common.{◌≡◌, refl}
+use Rattle.std.proofs.Common.{◌≡◌, false, refl, ap, ◌∙◌}
 use Rattle.smk_load.specs.declared.fault.LoadFault.{LoadFault}
 use Rattle.smk_load.specs.declared.fault.LoadFault.TheVariants as said
 use Rattle.smk_load.specs.Faults as load
-use Rattle.smk_entry.specs.Faults.{is_told, is_device, of_load}
+use Rattle.smk_report.specs.declared.fault.Fault.{Fault}
+use Rattle.smk_entry.specs.Faults.{is_told, is_device, is_sink, of_load}
 
 pub same_device : (f : LoadFault) → load.is_device f ≡ is_device (of_load f)
 same_device (said.BadIndent a b) = refl
@@ -54,3 +55,32 @@ same_told (said.NoFile a) = refl
 same_told (said.TooBig a) = refl
 same_told said.Device = refl
 same_told said.OutOfMemory = refl
+
+-- no fault of a sink
+pub no_sink_of : (f : LoadFault) → is_sink (of_load f) ≡ false
+no_sink_of (said.BadIndent a b) = refl
+no_sink_of (said.OpenText a b) = refl
+no_sink_of (said.BadByte a b) = refl
+no_sink_of (said.Unexpected a b) = refl
+no_sink_of (said.Unsupported a b c) = refl
+no_sink_of (said.Doubled a b c) = refl
+no_sink_of (said.BadPattern a b c) = refl
+no_sink_of (said.BadConstraint a b c) = refl
+no_sink_of (said.DoubledRule a b c) = refl
+no_sink_of (said.UnequalWildcards a b c) = refl
+no_sink_of (said.UnknownWildcard a b c d) = refl
+no_sink_of (said.BadFlag a b c d) = refl
+no_sink_of (said.BadConfig a b) = refl
+no_sink_of (said.NoKey a b c) = refl
+no_sink_of (said.UnknownName a b c) = refl
+no_sink_of (said.UnequalZip a b) = refl
+no_sink_of (said.TooMany a b) = refl
+no_sink_of (said.IncludeDepth a) = refl
+no_sink_of (said.ContradictoryOrder a b) = refl
+no_sink_of (said.NoFile a) = refl
+no_sink_of (said.TooBig a) = refl
+no_sink_of said.Device = refl
+no_sink_of said.OutOfMemory = refl
+
+pub load_no_sink : (f : LoadFault) (g : Fault) → g ≡ of_load f → is_sink g ≡ false
+load_no_sink f g is = ap is_sink is ∙ no_sink_of f

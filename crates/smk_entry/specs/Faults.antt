@@ -13,6 +13,9 @@ is_told f = nat_lt (fault_status f) 4
 abbrev pub is_device : Fault → Bool
 is_device f = fault_status f == 4
 
+abbrev pub is_sink : Fault → Bool
+is_sink f = fault_status f == 6
+
 abbrev pub device_failed : {T : Type 0} → Result T Fault → Bool
 device_failed (Ok t) = false
 device_failed (Err f) = is_device f

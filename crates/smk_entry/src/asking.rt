@@ -5,7 +5,7 @@ ghost use Rattle.smk_world.specs.Calls.{HasCause};
 ghost use Rattle.smk_world.specs.Runs.{Did};
 ghost use Rattle.smk_files.specs.Looks.{HasSeen};
 ghost use Rattle.smk_flow.specs.Targets.{words_of, all_paths, first_bad};
-ghost use Rattle.smk_entry.specs.Faults.{device_failed, is_told};
+ghost use Rattle.smk_entry.specs.Faults.{device_failed, is_told, is_sink};
 ghost use Rattle.smk_entry.specs.Forms as forms;
 ghost use Rattle.smk_entry.specs.Entry as spec;
 
@@ -29,6 +29,7 @@ pub struct Asked {
 fn built(alloc: Global, reading: &Reading) -> Result<(), Fault>
     ensures is { spec.Refuses (option_map (forms.not_built reading.now.file) (forms.unbuilt reading.now.flow.rules)) result }
     ensures no_device { device_failed result ≡ false }
+    ensures no_sink { IfErr result (λ f. is_sink f ≡ false) }
 {
     match unbuilt(reading.flow.rules().as_slice()) {
         None => Ok(()),
@@ -41,6 +42,7 @@ fn targets_of(alloc: Global, flow: &Workflow, words: &List<Text>) -> Result<List
     ensures is { spec.Refuses (option_map Fault.BadTarget (first_bad flow.now (words_of flow.now words.now))) result }
     ensures paths { IfOk result (λ paths. paths ≡ all_paths flow.now (words_of flow.now words.now)) }
     ensures no_device { device_failed result ≡ false }
+    ensures no_sink { IfErr result (λ f. is_sink f ≡ false) }
 {
     match targets(alloc, flow, words) {
         Ok(paths) => Ok(paths),
@@ -54,6 +56,7 @@ fn asked_of(alloc: Global, reading: Reading, words: &List<Text>) -> Result<Asked
     requires built { forms.unbuilt reading.flow.rules ≡ None }
     ensures is { spec.Asks words.now reading result }
     ensures no_device { device_failed result ≡ false }
+    ensures no_sink { IfErr result (λ f. is_sink f ≡ false) }
 {
     let paths = targets_of(alloc, &reading.flow, words)?;
     Ok(Asked {
@@ -67,6 +70,7 @@ fn asked_of(alloc: Global, reading: Reading, words: &List<Text>) -> Result<Asked
 fn asked_in(alloc: Global, reading: Reading, words: &List<Text>) -> Result<Asked, Fault>
     ensures is { spec.Asks words.now reading result }
     ensures no_device { device_failed result ≡ false }
+    ensures no_sink { IfErr result (λ f. is_sink f ≡ false) }
 {
     match built(alloc, &reading) {
         Err(fault) => Err(fault),
@@ -86,6 +90,7 @@ pub fn ask<W: Files>(alloc: Global, work: &mut W, words: &List<Text>) -> Result<
     ensures stays { device_failed result ≡ false → IsSome (W.world work.old) → IsSome (W.world work.new) }
     ensures cause { HasCause (W.faults work.old) (W.faults work.new) (device_failed result ≡ true) }
     ensures running { W.running work.new ≡ W.running work.old }
+    ensures no_sink { IfErr result (λ f. is_sink f ≡ false) }
 {
     match read_workflow(alloc, work) {
         Err(fault) => Err(fault),

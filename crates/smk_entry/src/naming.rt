@@ -1,11 +1,11 @@
 //! The file that has the workflow.
 
-ghost use Rattle.std.specs.Prelude.{◌≡◌, ◌∷◌, [], Ok, Some, None, IsSome, codes, false, true};
+ghost use Rattle.std.specs.Prelude.{◌≡◌, ◌∷◌, [], Ok, Some, None, IfErr, IsSome, codes, false, true};
 ghost use Rattle.smk_base.specs.Path.{is_path};
 ghost use Rattle.smk_world.specs.Calls.{HasCause, stat_of};
 ghost use Rattle.smk_world.specs.Runs.{Did};
 ghost use Rattle.smk_files.specs.Looks.{HasSeen, at};
-ghost use Rattle.smk_entry.specs.Faults.{Answers, device_failed};
+ghost use Rattle.smk_entry.specs.Faults.{Answers, device_failed, is_sink};
 ghost use Rattle.smk_entry.specs.Forms.{or_else};
 ghost use Rattle.smk_entry.specs.Names as spec;
 
@@ -22,6 +22,7 @@ fn stat<W: Files>(work: &mut W, place: &Place) -> Result<Stat, Fault>
     ensures stays { device_failed result ≡ false → IsSome (W.world work.old) → IsSome (W.world work.new) }
     ensures cause { HasCause (W.faults work.old) (W.faults work.new) (device_failed result ≡ true) }
     ensures running { W.running work.new ≡ W.running work.old }
+    ensures no_sink { IfErr result (λ f. is_sink f ≡ false) }
 {
     match work.stat(place) {
         Ok(stat) => Ok(stat),
@@ -47,6 +48,7 @@ fn file_in<W: Files>(work: &mut W, place: &Place, path: PathText) -> Result<Opti
     ensures stays { device_failed result ≡ false → IsSome (W.world work.old) → IsSome (W.world work.new) }
     ensures cause { HasCause (W.faults work.old) (W.faults work.new) (device_failed result ≡ true) }
     ensures running { W.running work.new ≡ W.running work.old }
+    ensures no_sink { IfErr result (λ f. is_sink f ≡ false) }
 {
     match stat(work, place) {
         Err(fault) => Err(fault),
@@ -62,6 +64,7 @@ fn file_at<W: Files>(alloc: Global, work: &mut W, path: PathText) -> Result<Opti
     ensures stays { device_failed result ≡ false → IsSome (W.world work.old) → IsSome (W.world work.new) }
     ensures cause { HasCause (W.faults work.old) (W.faults work.new) (device_failed result ≡ true) }
     ensures running { W.running work.new ≡ W.running work.old }
+    ensures no_sink { IfErr result (λ f. is_sink f ≡ false) }
 {
     let Ok(place) = Place::user(alloc, &path) else {
         return Err(Fault::OutOfMemory);
@@ -78,6 +81,7 @@ fn file_named<W: Files>(alloc: Global, work: &mut W, name: &str) -> Result<Optio
     ensures stays { device_failed result ≡ false → IsSome (W.world work.old) → IsSome (W.world work.new) }
     ensures cause { HasCause (W.faults work.old) (W.faults work.new) (device_failed result ≡ true) }
     ensures running { W.running work.new ≡ W.running work.old }
+    ensures no_sink { IfErr result (λ f. is_sink f ≡ false) }
 {
     match PathText::read(alloc, name) {
         Ok(path) => file_at(alloc, work, path),
@@ -100,6 +104,7 @@ fn earlier_or<W: Files>(
     ensures stays { device_failed result ≡ false → IsSome (W.world work.old) → IsSome (W.world work.new) }
     ensures cause { HasCause (W.faults work.old) (W.faults work.new) (device_failed result ≡ true) }
     ensures running { W.running work.new ≡ W.running work.old }
+    ensures no_sink { IfErr result (λ f. is_sink f ≡ false) }
 {
     match earlier {
         Some(path) => Ok(Some(path)),
@@ -115,6 +120,7 @@ fn first_of_two<W: Files>(alloc: Global, work: &mut W) -> Result<Option<PathText
     ensures stays { device_failed result ≡ false → IsSome (W.world work.old) → IsSome (W.world work.new) }
     ensures cause { HasCause (W.faults work.old) (W.faults work.new) (device_failed result ≡ true) }
     ensures running { W.running work.new ≡ W.running work.old }
+    ensures no_sink { IfErr result (λ f. is_sink f ≡ false) }
 {
     match file_named(alloc, work, "Snakefile") {
         Err(fault) => Err(fault),
@@ -130,6 +136,7 @@ fn first_of_three<W: Files>(alloc: Global, work: &mut W) -> Result<Option<PathTe
     ensures stays { device_failed result ≡ false → IsSome (W.world work.old) → IsSome (W.world work.new) }
     ensures cause { HasCause (W.faults work.old) (W.faults work.new) (device_failed result ≡ true) }
     ensures running { W.running work.new ≡ W.running work.old }
+    ensures no_sink { IfErr result (λ f. is_sink f ≡ false) }
 {
     match first_of_two(alloc, work) {
         Err(fault) => Err(fault),
@@ -145,6 +152,7 @@ fn first_file<W: Files>(alloc: Global, work: &mut W) -> Result<Option<PathText>,
     ensures stays { device_failed result ≡ false → IsSome (W.world work.old) → IsSome (W.world work.new) }
     ensures cause { HasCause (W.faults work.old) (W.faults work.new) (device_failed result ≡ true) }
     ensures running { W.running work.new ≡ W.running work.old }
+    ensures no_sink { IfErr result (λ f. is_sink f ≡ false) }
 {
     match first_of_three(alloc, work) {
         Err(fault) => Err(fault),
@@ -156,6 +164,7 @@ fn first_file<W: Files>(alloc: Global, work: &mut W) -> Result<Option<PathText>,
 fn or_no_file(alloc: Global, found: Option<PathText>) -> Result<PathText, Fault>
     ensures is { Answers (spec.or_no_file found) result }
     ensures no_device { device_failed result ≡ false }
+    ensures no_sink { IfErr result (λ f. is_sink f ≡ false) }
 {
     match found {
         Some(path) => Ok(path),
@@ -177,6 +186,7 @@ pub fn workflow_file<W: Files>(alloc: Global, work: &mut W) -> Result<PathText, 
     ensures stays { device_failed result ≡ false → IsSome (W.world work.old) → IsSome (W.world work.new) }
     ensures cause { HasCause (W.faults work.old) (W.faults work.new) (device_failed result ≡ true) }
     ensures running { W.running work.new ≡ W.running work.old }
+    ensures no_sink { IfErr result (λ f. is_sink f ≡ false) }
 {
     match first_file(alloc, work) {
         Err(fault) => Err(fault),

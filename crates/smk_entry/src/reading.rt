@@ -1,10 +1,10 @@
 //! The workflow of a folder.
 
-ghost use Rattle.std.specs.Prelude.{◌≡◌, [], IsSome, false, true};
+ghost use Rattle.std.specs.Prelude.{◌≡◌, [], IfErr, IsSome, false, true};
 ghost use Rattle.smk_world.specs.Calls.{HasCause};
 ghost use Rattle.smk_world.specs.Runs.{Did};
 ghost use Rattle.smk_files.specs.Looks.{HasSeen};
-ghost use Rattle.smk_entry.specs.Faults.{device_failed};
+ghost use Rattle.smk_entry.specs.Faults.{device_failed, is_sink};
 ghost use Rattle.smk_entry.specs.Entry as spec;
 
 use crate::faults::of_load;
@@ -24,6 +24,7 @@ pub struct Reading {
 }
 
 // The workflow of the file.
+#[tactic(auto, using(crate::proofs::Loads::load_no_sink))]
 fn read_in<W: Files>(alloc: Global, work: &mut W, file: PathText) -> Result<Reading, Fault>
     requires none_runs { W.running work.old ≡ [] }
     ensures did { Did W.act (W.world work.old) (W.world work.new)
@@ -31,6 +32,7 @@ fn read_in<W: Files>(alloc: Global, work: &mut W, file: PathText) -> Result<Read
     ensures stays { device_failed result ≡ false → IsSome (W.world work.old) → IsSome (W.world work.new) }
     ensures cause { HasCause (W.faults work.old) (W.faults work.new) (device_failed result ≡ true) }
     ensures running { W.running work.new ≡ W.running work.old }
+    ensures no_sink { IfErr result (λ f. is_sink f ≡ false) }
 {
     match load(alloc, work, &file, &List::new(alloc)) {
         Err(fault) => Err(of_load(fault)),
@@ -51,6 +53,7 @@ pub fn read_workflow<W: Files>(alloc: Global, work: &mut W) -> Result<Reading, F
     ensures stays { device_failed result ≡ false → IsSome (W.world work.old) → IsSome (W.world work.new) }
     ensures cause { HasCause (W.faults work.old) (W.faults work.new) (device_failed result ≡ true) }
     ensures running { W.running work.new ≡ W.running work.old }
+    ensures no_sink { IfErr result (λ f. is_sink f ≡ false) }
 {
     match workflow_file(alloc, work) {
         Err(fault) => Err(fault),
