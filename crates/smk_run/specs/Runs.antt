@@ -14,6 +14,8 @@ use Rattle.smk_chain.specs.declared.jobs.Maker.{Maker}
 use Rattle.smk_chain.specs.declared.jobs.Jobs.{Jobs}
 use Rattle.smk_job.specs.Jobs.{too_long}
 use Rattle.smk_format.specs.Commands as format
+use Rattle.smk_format.specs.declared.fault.FormatFault.{FormatFault}
+use Rattle.smk_format.specs.declared.fault.FormatFault.TheVariants as formatting
 use Rattle.smk_report.specs.Lines.{Text, Named}
 use Rattle.smk_report.specs.declared.fault.Fault.{Fault}
 use Rattle.smk_report.specs.declared.fault.Fault.TheVariants as fault
@@ -70,6 +72,12 @@ fault_at rule None None = None
 abbrev pub or_later : Option Fault → Option Fault → Option Fault
 or_later (Some f) later = Some f
 or_later None later = later
+
+-- the fault of a command of this rule, or want of memory for its texts
+abbrev pub IsFormatFault : Text → FormatFault → Fault → Type 0
+IsFormatFault rule (formatting.UnknownField word) f = (f ≡ fault.UnknownField rule word) ⊎ (f ≡ fault.OutOfMemory)
+IsFormatFault rule (formatting.TooLong bytes) f = (f ≡ fault.TooLong rule bytes) ⊎ (f ≡ fault.OutOfMemory)
+IsFormatFault rule formatting.OutOfMemory f = f ≡ fault.OutOfMemory
 
 -- the fault of the job's command
 abbrev pub job_fault : Flow → ℕ → Job → Option Fault
@@ -234,3 +242,8 @@ pub record HasRunSoFar (act : Act) (flow : Flow) (cores : ℕ) (jobs : List Job)
 -- the fault of a run that stops so; or want of memory for the fault's texts
 abbrev pub IsToldStop : Named → Stop → Fault → Type 0
 IsToldStop name stop f = (f ≡ stop_fault name stop) ⊎ ((f ≡ fault.OutOfMemory) × (is_refusal stop ≡ true))
+
+-- what is answered where there is no serial
+abbrev pub IsWithoutSerial : List Job → Result Tally Fault → Type 0
+IsWithoutSerial [] r = r ≡ Ok (record { started = 0; done = 0; failed = 0; first = None })
+IsWithoutSerial (job ∷ jobs) r = r ≡ Err fault.Serials
