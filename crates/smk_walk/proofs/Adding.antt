@@ -163,7 +163,7 @@ all_there cs (x ∷ xs) h = ap (λ ds. all_added ds xs) (added_there cs x h.0) �
 
 -- ---- each once
 
-filter_within : {A : Type 0} (p q : A → Bool) → ((x : A) → q x ≡ false → p x ≡ false) → (xs : List A) → filter p (filter q xs) ≡ filter p xs
+pub filter_within : {A : Type 0} (p q : A → Bool) → ((x : A) → q x ≡ false → p x ≡ false) → (xs : List A) → filter p (filter q xs) ≡ filter p xs
 filter_within p q h [] = refl
 filter_within p q h (x ∷ xs) = go (filter_within p q h xs) (q x) (p x) refl refl
   where
@@ -172,7 +172,7 @@ filter_within p q h (x ∷ xs) = go (filter_within p q h xs) (q x) (p x) refl re
     go rest false true e f = absurd (true≢false (sym f ∙ h x e))
     go rest false false e f = rest
 
-filter_both : {A : Type 0} (p q r : A → Bool) → ((x : A) → r x ≡ p x && q x) → (xs : List A) → filter p (filter q xs) ≡ filter r xs
+pub filter_both : {A : Type 0} (p q r : A → Bool) → ((x : A) → r x ≡ p x && q x) → (xs : List A) → filter p (filter q xs) ≡ filter r xs
 filter_both p q r h [] = refl
 filter_both p q r h (x ∷ xs) = go (filter_both p q r h xs) (q x) (p x) refl refl
   where
@@ -188,7 +188,7 @@ filter_both p q r h (x ∷ xs) = go (filter_both p q r h xs) (q x) (p x) refl re
 abbrev misses : List Candidate → Candidate → Bool
 misses cs y = not (has cs y)
 
-not_or : (a b : Bool) → not (a || b) ≡ not a && not b
+pub not_or : (a b : Bool) → not (a || b) ≡ not a && not b
 not_or true b = refl
 not_or false b = refl
 
@@ -214,7 +214,7 @@ all_added_is cs (x ∷ xs) = go (λ ds. all_added_is ds xs) (has cs x) refl
         ∙ ap (λ ys. cs ++ x ∷ ys) (sym (filter_both (misses cs) (λ y. not (same_candidate x y)) (misses (cs ++ x ∷ []))
         (λ y. ap not (any_push (is_job (making y)) cs x) ∙ not_or (has cs y) (same_candidate x y)) (distinct same_candidate xs)))
 
-filter_all : {A : Type 0} (p : A → Bool) → ((x : A) → p x ≡ true) → (xs : List A) → filter p xs ≡ xs
+pub filter_all : {A : Type 0} (p : A → Bool) → ((x : A) → p x ≡ true) → (xs : List A) → filter p xs ≡ xs
 filter_all p h [] = refl
 filter_all p h (x ∷ xs) = ap (λ a. cond a (x ∷ filter p xs) (filter p xs)) (h x) ∙ ap (λ ys. x ∷ ys) (filter_all p h xs)
 

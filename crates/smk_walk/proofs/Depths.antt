@@ -219,11 +219,13 @@ module _ (flow : Flow) (sources : Sources) (L : Listings) where
   -- what is refused at the path itself comes first
   pub refused_front : (p : Path) → (rest : List Refusal) × (refused_for flow sources L p ≡ refused_at flow L p (choose flow sources p) ++ rest)
   unfolding refused_for
-  refused_front p =
-      (elim (maker (choose flow sources p)) as (λ _. List Refusal) [
-        | None ↦ []
-        | Some c ↦ flat_map (asked_by (refused flow sources L 200) p c.rule) (wants flow L c)
-      ], refl)
+  refused_front p = (
+    elim (maker (choose flow sources p)) as (λ _. List Refusal) [
+      | None ↦ []
+      | Some c ↦ flat_map (asked_by (refused flow sources L 200) p c.rule) (wants flow L c)
+    ],
+    refl,
+  )
 
   -- what is refused of the targets, and what they call for
   pub refused_all : (targets : List Path) → flat_map (refused flow sources L 201) targets ≡ flat_map (refused_for flow sources L) targets

@@ -21,7 +21,7 @@ use Rattle.smk_wants.specs.Wants.{want_of}
 use Rattle.smk_walk.specs.declared.reached.Reached.{Reached}
 use Rattle.smk_walk.specs.Numbers.{has, added}
 use Rattle.smk_walk.specs.Stepping.{IsInner, IsStep, IsWanted, text_in, inner_table}
-use Rattle.smk_walk.specs.Steps.{Fits, refused_for, called_for, Holds, Walked}
+use Rattle.smk_walk.specs.Steps.{Fits, refused_for, called_for, is_done, Holds, Keeps, Walked}
 use Rattle.smk_walk.proofs.Depths.{all_map}
 use Rattle.smk_walk.proofs.Visiting.{SoFar, walked_memory, walked_source, so_far_more, stopped_under, stopped_here, settled}
 
@@ -164,7 +164,7 @@ module _ (flow : Flow) (sources : Sources) (L : Listings) where
           let v = wanted found h in
           let all = fits_here s.candidate s.chosen in
           let here = all_mid (λ (t : Text). is_path t ≡ true → Fits flow sources L (deeper depth p s.candidate fits s.chosen).0 t) (map text_in (take i ws)) split.0 (text_in w)
-              (subst (AllByRecursion (λ (t : Text). is_path t ≡ true → Fits flow sources L (deeper depth p s.candidate fits s.chosen).0 t)) split.1 all) in
+          (subst (AllByRecursion (λ (t : Text). is_path t ≡ true → Fits flow sources L (deeper depth p s.candidate fits s.chosen).0 t)) split.1 all) in
           let less : (deeper depth p s.candidate fits s.chosen).0 ≡ depth - 1 = let d = deep in omega arith in
           subst (λ d. Fits flow sources L d found.now) less (subst (λ t. is_path t ≡ true → Fits flow sources L (deeper depth p s.candidate fits s.chosen).0 t) v.0 here v.1)
 
@@ -178,7 +178,7 @@ module _ (flow : Flow) (sources : Sources) (L : Listings) where
           let down : suc k ≡ depth - 1 + 1 = omega arith in
           let all = covers_inner own table k p s.candidate (let l = low in omega arith) s.chosen s.inner (subst (λ x. Covers flow sources table x p) up cov) in
           let here = all_mid (λ (t : Text). is_path t ≡ true → Covers flow sources (inner_table own table) (suc k) t) (map text_in (take i ws)) split.0 (text_in w)
-              (subst (AllByRecursion (λ (t : Text). is_path t ≡ true → Covers flow sources (inner_table own table) (suc k) t)) split.1 all) in
+          (subst (AllByRecursion (λ (t : Text). is_path t ≡ true → Covers flow sources (inner_table own table) (suc k) t)) split.1 all) in
           subst (λ x. Covers flow sources (inner_table own table) x found.now) down
           (subst (λ t. is_path t ≡ true → Covers flow sources (inner_table own table) (suc k) t) v.0 here v.1)
 
@@ -206,15 +206,16 @@ module _ (flow : Flow) (sources : Sources) (L : Listings) where
           (subst (λ t. Walked flow sources L now new t (Ok tt)) (sym v.0) walked))
 
     pub done_here : (old now new : Reached) (r : Result (Unit {0}) ChainFault) → IfErr r (λ f. f ≡ told.OutOfMemory) →
-        ((cs : List Candidate) → list_all is_path (wants flow L s.candidate) ≡ true → refused_for flow sources L p ≡ [] →
+        OnOk r (is_done new p ≡ true) → OnOk r (Keeps now new) →
+        ((cs : List Candidate) → list_all is_path (wants flow L s.candidate) ≡ true → AllByRecursion (λ (w : Text). is_done now w ≡ true) (wants flow L s.candidate) → refused_for flow sources L p ≡ [] →
         AllByRecursion (λ d. has (added cs s.candidate) d ≡ true) (called_for flow sources L p) → Holds flow sources L now cs → OnOk r (Holds flow sources L new (added cs s.candidate))) →
         SoFar flow sources L old now p m.rule (map text_in ws) → Walked flow sources L old new p r
-    done_here old now new (Err f) memory put so = walked_memory flow sources L old new p f memory
-    done_here old now new (Ok u) memory put so =
+    done_here old now new (Err f) memory done keeps put so = walked_memory flow sources L old new p f memory
+    done_here old now new (Ok u) memory done keeps put so =
         settled flow sources L old now new p (deeper depth p s.candidate fits s.chosen).0 s.candidate low fits_here s.chosen s.calm
-        (subst (SoFar flow sources L old now p s.candidate.rule) (sym texts) (subst (λ r. SoFar flow sources L old now p r (map text_in ws)) rule_is so)) put
+        (subst (SoFar flow sources L old now p s.candidate.rule) (sym texts) (subst (λ r. SoFar flow sources L old now p r (map text_in ws)) rule_is so)) put done keeps
 
-  pub noted_source : (old new : Reached) (p : Path) (r : Result (Unit {0}) ChainFault) → IfErr r (λ f. f ≡ told.OutOfMemory) →
+  pub noted_source : (old new : Reached) (p : Path) (r : Result (Unit {0}) ChainFault) → IfErr r (λ f. f ≡ told.OutOfMemory) → OnOk r (is_done new p ≡ true) → OnOk r (Keeps old new) →
       ((cs : List Candidate) → Holds flow sources L old cs → OnOk r (Holds flow sources L new cs)) → choose flow sources p ≡ Source → Walked flow sources L old new p r
-  noted_source old new p (Err f) memory noted e = walked_memory flow sources L old new p f memory
-  noted_source old new p (Ok u) memory noted e = walked_source flow sources L old new p e noted
+  noted_source old new p (Err f) memory done keeps noted e = walked_memory flow sources L old new p f memory
+  noted_source old new p (Ok u) memory done keeps noted e = walked_source flow sources L old new p e noted done keeps

@@ -1,6 +1,8 @@
 mod Depths
 mod Apart
 mod Adding
+mod Numbers
+mod Links
 mod Keeping
 mod Visiting
 mod Missing

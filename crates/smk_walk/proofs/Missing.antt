@@ -35,7 +35,7 @@ file_step k L S has set old new are put before folder p = ap (option_map (λ s. 
     go true e = ap Some (are p ∙ ap (λ f. among (map (in_folder f) k.files) p) ((bytes_eq-Decides k.folder folder).0 e))
     go false e = before folder p
 
-either_way : (a b : List ℕ) → bytes_eq a b ≡ bytes_eq b a
+pub either_way : (a b : List ℕ) → bytes_eq a b ≡ bytes_eq b a
 either_way a b = go (bytes_eq a b) (bytes_eq b a) refl refl
   where
     go : (x y : Bool) → bytes_eq a b ≡ x → bytes_eq b a ≡ y → x ≡ y

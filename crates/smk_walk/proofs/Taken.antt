@@ -1,7 +1,7 @@
 -- What is taken of a choice and of its rule.
 use Rattle.std.proofs.Common.{◌≡◌, ◌∙◌, ℕ, Bool, true, false, cond, List, [], ◌∷◌, ◌++◌, map, filter, Option, Some, None, Result, Ok, Err, IfErr, option_map, refl, sym, ap, subst, true≢false}
 use Rattle.std.specs.Prelude.{slice_get}
-use Rattle.std.specs.List.{flat_map, find}
+use Rattle.std.specs.List.{flat_map, find, filter_map, cons_option}
 use Rattle.std.specs.Result.{IsErrAnd}
 use Rattle.smk_base.specs.Path.{is_path, is_under}
 use Rattle.smk_world.specs.declared.recipe.Out.{Out}
@@ -18,7 +18,7 @@ use Rattle.smk_choose.specs.Told.{making, told_choice, lack_told}
 use Rattle.smk_wants.specs.declared.wanted.Want.{Want}
 use Rattle.smk_wants.specs.declared.wanted.Want.TheVariants as want
 use Rattle.smk_wants.specs.Wants.{want_of}
-use Rattle.smk_walk.specs.Stepping.{over_in, path_in}
+use Rattle.smk_walk.specs.Stepping.{over_in, path_in, text_in}
 
 some_is : (x y : RulePart) → Some x ≡ Some y → x ≡ y
 some_is x y e = cc
@@ -101,3 +101,15 @@ none_wanted (t ∷ ts) e = absurd cc
 pub if_err : {A E : Type 0} (r : Result A E) (x : E) (P : E → Type 0) → IsErrAnd r (λ y. y ≡ x) → P x → IfErr r P
 if_err (Ok a) x P e h = absurd e
 if_err (Err y) x P e h = subst P (sym e) h
+
+text_back : (t : Text) → text_in (want_of t) ≡ t
+text_back t = go (is_path t)
+  where
+    go : (b : Bool) → text_in (elim b as (λ _. Want) [ true ↦ want.Path t | false ↦ want.NoPath t ]) ≡ t
+    go true = refl
+    go false = refl
+
+pub filter_wanted : (f : Text → Option ℕ) (ts : List Text) → filter_map (λ w. f (text_in w)) (map want_of ts) ≡ filter_map f ts
+filter_wanted f [] = refl
+filter_wanted f (t ∷ ts) =
+    ap (λ x. cons_option (f x) (filter_map (λ w. f (text_in w)) (map want_of ts))) (text_back t) ∙ ap (λ ns. cons_option (f t) ns) (filter_wanted f ts)

@@ -9,14 +9,23 @@ use Rattle.smk_choose.specs.declared.table.Choices.{Choices}
 use Rattle.smk_choose.specs.Choose.{Sources}
 use Rattle.smk_choose.specs.Told.{Covers, CoversAll}
 use Rattle.smk_chain.specs.declared.fault.ChainFault.{ChainFault}
-use Rattle.smk_chain.specs.Derive.{Listings, Refusal, height, refused, job, jobs}
+use Rattle.smk_chain.specs.declared.jobs.Jobs.{Jobs}
+use Rattle.smk_chain.specs.Derive.{Listings, Refusal, height, refused, job, jobs, wants, chosen}
+use Rattle.std.specs.Prelude.{is_some, true}
+use Rattle.std.specs.BTreeMap.{get_by_text}
+use Rattle.smk_pattern.specs.Shapes.{Text}
+use Rattle.smk_walk.specs.Links.{AreLinked, AreOnce, AreLower, maker_told}
 use Rattle.smk_chain.specs.Told.{TellsFirst}
 use Rattle.smk_walk.specs.declared.reached.Reached.{Reached}
 use Rattle.smk_walk.specs.Numbers.{all_added}
-use Rattle.smk_walk.specs.Steps.{Fits, refused_for, called_for, Holds, Walked}
-use Rattle.smk_walk.proofs.Depths.{fits_shallow, refused_all, called_all}
+use Rattle.smk_walk.specs.Steps.{Fits, refused_for, called_for, is_done, Holds, Keeps, Walked}
+use Rattle.smk_walk.proofs.Depths.{all_map, fits_shallow, refused_all, called_all}
 use Rattle.smk_walk.proofs.Adding.{all_added_append, distinct_is}
 use Rattle.smk_walk.proofs.Visiting.{tells_in}
+
+all_push : {A : Type 0} (P : A → Type 0) (xs : List A) (x : A) → AllByRecursion P xs → P x → AllByRecursion P (xs ++ x ∷ [])
+all_push P [] x e f = (f, tt)
+all_push P (y ∷ xs) x e f = (e.0, all_push P xs x e.1 f)
 
 pub split_of : {A : Type 0} (xs : List A) (i : ℕ) (x : A) → i < length xs → x ≡ get_or xs i x → (rest : List A) × (xs ≡ take i xs ++ x ∷ rest)
 split_of [] i x lt e = absurd (omega arith)
@@ -47,15 +56,18 @@ module _ (flow : Flow) (sources : Sources) (L : Listings) where
   -- nothing was refused of these targets, and what they call for was reached
   abbrev pub Reaches : Reached → List Path → Type 0
   Reaches now ts = (flat_map (refused_for flow sources L) ts ≡ []) × Holds flow sources L now (all_added [] (flat_map (called_for flow sources L) ts))
+      × AllByRecursion (λ t. is_done now t ≡ true) ts
 
   pub target_on : (now new : Reached) (ts : List Path) (i : ℕ) (t : Path) → i < length ts → t ≡ get_or ts i t → Reaches now (take i ts) → Walked flow sources L now new t (Ok tt) → Reaches new (take (suc i) ts)
   target_on now new ts i t lt at so walked =
       let front = take i ts in
       let k = walked (all_added [] (flat_map (called_for flow sources L) front)) so.1 in
-      subst (Reaches new) (take_of ts i t lt at)
-      (flat_push (refused_for flow sources L) front t ∙ ap (λ rs. rs ++ refused_for flow sources L t) so.0 ∙ k.0,
-      subst (λ xs. Holds flow sources L new (all_added [] xs)) (sym (flat_push (called_for flow sources L) front t))
-      (subst (Holds flow sources L new) (sym (all_added_append [] (flat_map (called_for flow sources L) front) (called_for flow sources L t))) k.1))
+      subst (Reaches new) (take_of ts i t lt at) (
+        flat_push (refused_for flow sources L) front t ∙ ap (λ rs. rs ++ refused_for flow sources L t) so.0 ∙ k.0,
+        subst (λ xs. Holds flow sources L new (all_added [] xs)) (sym (flat_push (called_for flow sources L) front t))
+            (subst (Holds flow sources L new) (sym (all_added_append [] (flat_map (called_for flow sources L) front) (called_for flow sources L t))) k.1),
+        all_push (λ x. is_done new x ≡ true) front t (all_map (λ x. is_done now x ≡ true) (λ x. is_done new x ≡ true) (λ x e. k.3 x e) front so.2) k.2,
+      )
 
   pub target_stop : (now new : Reached) (ts : List Path) (i : ℕ) (t : Path) (f : ChainFault) → i < length ts → t ≡ get_or ts i t → Reaches now (take i ts) → Walked flow sources L now new t (Err f) →
       TellsFirst flow (flat_map (refused flow sources L 201) ts) f
@@ -79,3 +91,21 @@ module _ (flow : Flow) (sources : Sources) (L : Listings) where
 
   pub target_covers : (table : Choices) (ts : List Path) (i : ℕ) (t : Path) → i < length ts → t ≡ get_or ts i t → CoversAll flow sources table 201 ts → Covers flow sources table 201 t
   target_covers table ts i t lt at h = all_of (Covers flow sources table 201) ts i t lt at h
+
+  pub chosen_is : (ts : List Path) → all_added [] (flat_map (called_for flow sources L) ts) ≡ chosen flow sources L ts
+  chosen_is ts = ap (all_added []) (sym (called_all flow sources L ts)) ∙ sym (distinct_is (flat_map (Rattle.smk_chain.specs.Derive.walk flow sources L 200) ts))
+
+  -- the links between the jobs of the targets
+  pub target_links : (now : Reached) (ts : List Path) (made : Jobs) → made.makers ≡ now.makers → made.befores ≡ now.befores → Reaches now ts → AreLinked flow sources L ts made
+  target_links now ts made makers befores so =
+      let h = subst (Holds flow sources L now) (chosen_is ts) so.1 in
+      let seen : (q : Path) → maker_told made.makers q ≡ get_by_text now.done q = λ q. ap (λ ms. maker_told ms q) makers ∙ h.told q in
+      record {
+        once = subst AreOnce (sym makers) h.once;
+        right = λ q number e. (h.done q number (sym (seen q) ∙ e)).is;
+        all_targets = all_map (λ t. is_done now t ≡ true) (λ t. is_some (maker_told made.makers t) ≡ true) (λ t e. ap is_some (seen t) ∙ e) ts so.2;
+        all_wants = all_map (λ (c : Candidate). AllByRecursion (λ (w : Text). is_done now w ≡ true) (wants flow L c)) (λ (c : Candidate). AllByRecursion (λ (w : Text). is_some (maker_told made.makers w) ≡ true) (wants flow L c))
+            (λ c all. all_map (λ (w : Text). is_done now w ≡ true) (λ (w : Text). is_some (maker_told made.makers w) ≡ true) (λ w e. ap is_some (seen w) ∙ e) (wants flow L c) all) (chosen flow sources L ts) h.served;
+        befores = befores ∙ h.befores;
+        lower = subst (AreLower 0) (sym befores) h.lower;
+      }

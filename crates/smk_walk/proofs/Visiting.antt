@@ -16,9 +16,13 @@ use Rattle.smk_chain.specs.Derive.{Listings, Refusal, NoInput, refused_at, wants
 use Rattle.smk_chain.specs.Told.{told_refusal, first_told, TellsFirst}
 use Rattle.smk_walk.specs.declared.reached.Reached.{Reached}
 use Rattle.smk_walk.specs.Numbers.{has, added, all_added}
-use Rattle.smk_walk.specs.Steps.{Fits, refused_for, called_for, asked, asked_by, is_done, IsDone, Holds, Outcome, Walked}
+use Rattle.smk_walk.specs.Steps.{Fits, refused_for, called_for, asked, asked_by, is_done, IsDone, Holds, Keeps, Outcome, Walked}
 use Rattle.smk_walk.proofs.Depths.{refused_make, called_make, refused_front, called_source, refused_unmade, flat_nil, all_map, want_calm, back_nil}
 use Rattle.smk_walk.proofs.Adding.{all_there, all_added_append, all_added_has}
+
+all_push : {A : Type 0} (P : A → Type 0) (xs : List A) (x : A) → AllByRecursion P xs → P x → AllByRecursion P (xs ++ x ∷ [])
+all_push P [] x e f = (f, tt)
+all_push P (y ∷ xs) x e f = (e.0, all_push P xs x e.1 f)
 
 -- ---- faults
 
@@ -38,10 +42,10 @@ module _ (flow : Flow) (sources : Sources) (L : Listings) where
   walked_done old p e = λ cs h. go cs h (get_by_text old.done p) refl e
     where
       go : (cs : List Candidate) → Holds flow sources L old cs → (o : Option (Option ℕ)) → get_by_text old.done p ≡ o → is_some o ≡ true →
-          (refused_for flow sources L p ≡ []) × Holds flow sources L old (all_added cs (called_for flow sources L p))
+          (refused_for flow sources L p ≡ []) × Holds flow sources L old (all_added cs (called_for flow sources L p)) × (is_done old p ≡ true) × Keeps old old
       go cs h (Some number) at s =
           let d = h.done p number at in
-          (d.calm, subst (Holds flow sources L old) (sym (all_there cs (called_for flow sources L p) d.called)) h)
+          (d.calm, subst (Holds flow sources L old) (sym (all_there cs (called_for flow sources L p) d.called)) h, e, λ q k. k)
       go cs h None at s = absurd (true≢false (sym s))
 
   pub walked_refused : (old new : Reached) (p : Path) (f : ChainFault) → TellsFirst flow (refused_at flow L p (choose flow sources p)) f → Walked flow sources L old new p (Err f)
@@ -53,9 +57,9 @@ module _ (flow : Flow) (sources : Sources) (L : Listings) where
   walked_memory old new p f e = λ cs h. tells_memory flow (refused_for flow sources L p) f e
 
   pub walked_source : (old new : Reached) (p : Path) → choose flow sources p ≡ Source → ((cs : List Candidate) → Holds flow sources L old cs → Holds flow sources L new cs) →
-      Walked flow sources L old new p (Ok tt)
-  walked_source old new p e noted = λ cs h.
-      (refused_unmade flow sources L p Source e refl, subst (λ xs. Holds flow sources L new (all_added cs xs)) (sym (called_source flow sources L p e)) (noted cs h))
+      is_done new p ≡ true → Keeps old new → Walked flow sources L old new p (Ok tt)
+  walked_source old new p e noted done keeps = λ cs h.
+      (refused_unmade flow sources L p Source e refl, subst (λ xs. Holds flow sources L new (all_added cs xs)) (sym (called_source flow sources L p e)) (noted cs h), done, keeps)
 
   -- ---- over what a job wants
 
@@ -64,9 +68,10 @@ module _ (flow : Flow) (sources : Sources) (L : Listings) where
   SoFar old now p rule ws =
       (cs : List Candidate) → Holds flow sources L old cs →
       (flat_map (asked flow sources L p rule) ws ≡ []) × Holds flow sources L now (all_added cs (flat_map (called_for flow sources L) ws))
+      × AllByRecursion (λ (w : Text). is_done now w ≡ true) ws × Keeps old now
 
   pub so_far_none : (old : Reached) (p : Path) (rule : ℕ) → SoFar old old p rule []
-  so_far_none old p rule = λ cs h. (refl, h)
+  so_far_none old p rule = λ cs h. (refl, h, tt, λ q k. k)
 
   is_asked : (p : Path) (rule : ℕ) (w : Text) → is_path w ≡ true → asked flow sources L p rule w ≡ refused_for flow sources L w
   is_asked p rule w e = ap (λ b. elim b as (λ _. List Refusal) [ true ↦ refused_for flow sources L w | false ↦ NoInput p rule w ∷ [] ]) e
@@ -82,10 +87,13 @@ module _ (flow : Flow) (sources : Sources) (L : Listings) where
       Walked flow sources L now new w (Ok tt) → SoFar old new p rule (ws ++ w ∷ [])
   so_far_more old now new p rule ws w so is walked = λ cs h.
       let s = so cs h in
-      let k = walked (all_added cs (flat_map (called_for flow sources L) ws)) s.1 in
-      (flat_push (asked flow sources L p rule) ws w ∙ ap (λ rs. rs ++ asked flow sources L p rule w) s.0 ∙ is_asked p rule w is ∙ k.0,
-      subst (λ xs. Holds flow sources L new (all_added cs xs)) (sym (flat_push (called_for flow sources L) ws w))
-      (subst (Holds flow sources L new) (sym (all_added_append cs (flat_map (called_for flow sources L) ws) (called_for flow sources L w))) k.1))
+      let k = walked (all_added cs (flat_map (called_for flow sources L) ws)) s.1 in (
+        flat_push (asked flow sources L p rule) ws w ∙ ap (λ rs. rs ++ asked flow sources L p rule w) s.0 ∙ is_asked p rule w is ∙ k.0,
+        subst (λ xs. Holds flow sources L new (all_added cs xs)) (sym (flat_push (called_for flow sources L) ws w))
+            (subst (Holds flow sources L new) (sym (all_added_append cs (flat_map (called_for flow sources L) ws) (called_for flow sources L w))) k.1),
+        all_push (λ (x : Text). is_done new x ≡ true) ws w (all_map (λ (x : Text). is_done now x ≡ true) (λ (x : Text). is_done new x ≡ true) (λ x e. k.3 x e) ws s.2) k.2,
+        λ q e. k.3 q (s.3 q e),
+      )
 
   -- the walk ends with the fault of one of the wants
   stopped : (old now new : Reached) (p : Path) (n : ℕ) (c : Candidate) (ws rest : List Text) (w : Text) (f : ChainFault) → suc n ≤ 200 → Fits flow sources L (suc n) p →
@@ -120,18 +128,21 @@ module _ (flow : Flow) (sources : Sources) (L : Listings) where
   -- the walk ends with the job itself
   pub settled : (old now new : Reached) (p : Path) (n : ℕ) (c : Candidate) → suc n ≤ 200 → Fits flow sources L (suc n) p →
       choose flow sources p ≡ Make c → refused_at flow L p (Make c) ≡ [] → SoFar old now p c.rule (wants flow L c) →
-      ((cs : List Candidate) → list_all is_path (wants flow L c) ≡ true → refused_for flow sources L p ≡ [] →
+      ((cs : List Candidate) → list_all is_path (wants flow L c) ≡ true → AllByRecursion (λ (w : Text). is_done now w ≡ true) (wants flow L c) → refused_for flow sources L p ≡ [] →
       AllByRecursion (λ d. has (added cs c) d ≡ true) (called_for flow sources L p) → Holds flow sources L now cs → Holds flow sources L new (added cs c)) →
-      Walked flow sources L old new p (Ok tt)
-  settled old now new p n c le fits e calm so put = λ cs h.
+      is_done new p ≡ true → Keeps now new → Walked flow sources L old new p (Ok tt)
+  settled old now new p n c le fits e calm so put done keeps = λ cs h.
       let s = so cs h in
       let ws = wants flow L c in
       let ask = asked flow sources L p c.rule in
       let all = flat_map (called_for flow sources L) ws in
       let none : refused_for flow sources L p ≡ [] = refused_make flow sources L n p c le fits e ∙ ap (λ rs. rs ++ flat_map ask ws) calm ∙ s.0 in
       let called : called_for flow sources L p ≡ all ++ c ∷ [] = called_make flow sources L n p c le fits e s.0 in
-      let whole : all_added cs (called_for flow sources L p) ≡ added (all_added cs all) c = ap (all_added cs) called ∙ all_added_append cs all (c ∷ []) in
-      (none,
-      subst (Holds flow sources L new) (sym whole)
-      (put (all_added cs all) (all_paths p c.rule ws (flat_nil ask ws s.0)) none
-      (subst (λ ds. AllByRecursion (λ d. has ds d ≡ true) (called_for flow sources L p)) whole (all_added_has cs (called_for flow sources L p))) s.1))
+      let whole : all_added cs (called_for flow sources L p) ≡ added (all_added cs all) c = ap (all_added cs) called ∙ all_added_append cs all (c ∷ []) in (
+        none,
+        subst (Holds flow sources L new) (sym whole)
+            (put (all_added cs all) (all_paths p c.rule ws (flat_nil ask ws s.0)) s.2 none
+            (subst (λ ds. AllByRecursion (λ d. has ds d ≡ true) (called_for flow sources L p)) whole (all_added_has cs (called_for flow sources L p))) s.1),
+        done,
+        λ q f. keeps q (s.3 q f),
+      )

@@ -3,3 +3,4 @@ pub mod Links
 pub mod Steps
 pub mod Folders
 pub mod Stepping
+pub mod Once

@@ -202,13 +202,7 @@ fn prepared(
 {
     let wants = wants_of(alloc, flow, lists, &folders.places, making)?;
     let files = gathered_files_of(alloc, flow, lists, &folders.places, making)?;
-    let own = own_table(
-        alloc,
-        flow,
-        sources,
-        files.as_slice(),
-        wants.as_slice(),
-    )?;
+    let own = own_table(alloc, flow, sources, files.as_slice(), wants.as_slice())?;
     Ok((wants, own))
 }
 

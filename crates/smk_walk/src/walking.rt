@@ -5,9 +5,11 @@ ghost use Rattle.std.specs.List.{flat_map, AllByRecursion};
 ghost use Rattle.smk_base.specs.Path.{is_path};
 ghost use Rattle.smk_choose.specs.Told.{told_by, CoversAll, Covers};
 ghost use Rattle.smk_chain.specs.Derive.{height, refused, jobs};
+ghost use Rattle.smk_chain.specs.declared.jobs.Jobs.{Jobs as Made};
 ghost use Rattle.smk_chain.specs.Told.{TellsFirst};
 ghost use Rattle.smk_wants.specs.Wants.{want_of};
 ghost use Rattle.smk_walk.specs.Folders.{AreFolders};
+ghost use Rattle.smk_walk.specs.Links.{AreLinked};
 ghost use Rattle.smk_walk.specs.Stepping.{IsWanted};
 ghost use Rattle.smk_walk.specs.Steps.{Fits, Walked};
 
@@ -80,7 +82,15 @@ fn visit(
             wanted,
         )?;
     }
-    reached.settle(alloc, flow, lists, &folders.places, path, making)
+    reached.settle(
+        alloc,
+        flow,
+        lists,
+        &folders.places,
+        path,
+        making,
+        wants.as_slice(),
+    )
 }
 
 // Walks from each target.
@@ -94,6 +104,8 @@ fn visit_all(
     requires shallow { AllByRecursion (λ t. (height flow.now (told_by sources.now) lists.now 201 t == 201) ≡ false) targets.now }
     ensures none { IfOk result (λ made. flat_map (refused flow.now (told_by sources.now) lists.now 201) targets.now ≡ []) }
     ensures jobs { IfOk result (λ made. made.jobs ≡ jobs flow.now (told_by sources.now) lists.now targets.now) }
+    ensures links { IfOk result (λ reached. (made : Made) → made.makers ≡ reached.makers → made.befores ≡ reached.befores
+        → AreLinked flow.now (told_by sources.now) lists.now targets.now made) }
     ensures fault { IfErr result (TellsFirst flow.now (flat_map (refused flow.now (told_by sources.now) lists.now 201) targets.now)) }
 {
     let folders = Folders::of(alloc, lists)?;
@@ -119,6 +131,9 @@ fn visit_all(
 /// each wanting something of the next. The fault is the first thing that is refused: of each target, and then of what its job wants, in
 /// order. It is a `NoRule`, `NoInput`, `Ambiguous`, `MissingMember` or `NoCommand`, or `OutOfMemory` where there is no memory for the
 /// jobs, which is also the answer where there would be 2^32 of them.
+///
+/// `makers` tells of each target and of all that the jobs want, once, what makes it; `befores` has for each job the numbers of the jobs that
+/// make what it wants, each once.
 pub fn walk(
     alloc: Global,
     flow: &Workflow,
@@ -129,6 +144,7 @@ pub fn walk(
     requires shallow { AllByRecursion (λ t. (height flow.now (told_by sources.now) lists 201 t == 201) ≡ false) targets.now }
     ensures none { IfOk result (λ made. flat_map (refused flow.now (told_by sources.now) lists 201) targets.now ≡ []) }
     ensures jobs { IfOk result (λ made. made.jobs ≡ jobs flow.now (told_by sources.now) lists targets.now) }
+    ensures links { IfOk result (AreLinked flow.now (told_by sources.now) lists targets.now) }
     ensures lists { IfOk result (λ made. made.lists ≡ lists) }
     ensures fault { IfErr result (TellsFirst flow.now (flat_map (refused flow.now (told_by sources.now) lists 201) targets.now)) }
 {

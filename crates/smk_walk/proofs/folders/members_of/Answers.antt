@@ -18,8 +18,9 @@ lists-preserved c =
     let some : n + 1 ≡ c.lists.number = omega arith in
     let known = c.index-lists-number.result in
     let split : known ∷ drop c.lists.number lists ≡ drop n lists =
-        ap (λ m. known ∷ drop m lists) (sym some) ∙ ap (λ (k : Known). k ∷ drop (n + 1) lists) c.index-lists-number.is ∙ sym (drop_more lists n known (omega arith)) in
-    (omega arith,
-    λ folder p. subst (λ (ks : List Known). option_map (λ set. contains_text set p) (get_by_text c.put.new.members folder) ≡ is_file folder p (find (λ (k : Known). bytes_eq k.folder folder) ks)) split
-        (file_step known (drop c.lists.number lists) _ (λ s q. contains_text s q) c.in_ok-set.set (λ q. get_by_text c.lists.members q) (λ q. get_by_text c.put.new.members q)
-        (λ q. c.in_ok-set.ensures q ∙ ap (λ (fs : List Path). among (map (in_folder known.folder) fs) q) c.as_slice.ensures) (λ q. c.in_ok-put.ensures q) c.lists.invariant.1 folder p))
+    ap (λ m. known ∷ drop m lists) (sym some) ∙ ap (λ (k : Known). k ∷ drop (n + 1) lists) c.index-lists-number.is ∙ sym (drop_more lists n known (omega arith)) in (
+      omega arith,
+      λ folder p. subst (λ (ks : List Known). option_map (λ set. contains_text set p) (get_by_text c.put.new.members folder) ≡ is_file folder p (find (λ (k : Known). bytes_eq k.folder folder) ks)) split
+          (file_step known (drop c.lists.number lists) _ (λ s q. contains_text s q) c.in_ok-set.set (λ q. get_by_text c.lists.members q) (λ q. get_by_text c.put.new.members q)
+          (λ q. c.in_ok-set.ensures q ∙ ap (λ (fs : List Path). among (map (in_folder known.folder) fs) q) c.as_slice.ensures) (λ q. c.in_ok-put.ensures q) c.lists.invariant.1 folder p),
+    )

@@ -14,8 +14,9 @@ files-preserved c =
     let some : n + 1 ≡ c.files.number = omega arith in
     let file = c.index-files-number.result in
     let split : file ∷ drop c.files.number files ≡ drop n files =
-        ap (λ m. file ∷ drop m files) (sym some)
-        ∙ ap (λ (f : Path). f ∷ drop (n + 1) files) c.index-files-number.is ∙ sym (drop_more files n file (omega arith)) in
-    (omega arith,
-    λ q. subst (λ (fs : List Path). contains_text c.add.new.found q ≡ among (map (in_folder folder) fs) q) split
-        (path_step folder file (drop c.files.number files) (λ x. contains_text c.files.set x) (λ x. contains_text c.add.new.found x) (λ x. c.in_ok-add.ensures x) (c.files.invariant.1) q))
+    ap (λ m. file ∷ drop m files) (sym some)
+    ∙ ap (λ (f : Path). f ∷ drop (n + 1) files) c.index-files-number.is ∙ sym (drop_more files n file (omega arith)) in (
+      omega arith,
+      λ q. subst (λ (fs : List Path). contains_text c.add.new.found q ≡ among (map (in_folder folder) fs) q) split
+          (path_step folder file (drop c.files.number files) (λ x. contains_text c.files.set x) (λ x. contains_text c.add.new.found x) (λ x. c.in_ok-add.ensures x) (c.files.invariant.1) q),
+    )

@@ -29,7 +29,7 @@ returns-in_default t c =
     let L = c.args.lists.now in
     let p = c.args.path.now in
     let source = subst (IsBegun flow sources L p) c.in_default.is c.in_ok-step.ensures.begun in
-    noted_source flow sources L c.args.reached.now c.note_source.new.self p c.note_source.result c.note_source.ensures.memory
+    noted_source flow sources L c.args.reached.now c.note_source.new.self p c.note_source.result c.note_source.ensures.memory c.note_source.ensures.done c.note_source.ensures.keeps
     (λ cs h. c.note_source.ensures.noted flow sources L cs h source) source
 
 pub returns-in_err-wanted : goal.returns-in_err-wanted
@@ -68,11 +68,17 @@ visit-requires t c =
     let deep = (deeper flow sources L c.args.depth p s.candidate c.requires.fits s.chosen).1 in
     let few = c.requires.few in (
       omega (arith, deep, c.decreases),
-      (c.requires.folders,
-      (omega (arith, few),
-      (below_fits flow sources L c.args.depth p m ws own c.requires.few c.requires.fits s i w c.loop-want-test.true c.want-item.is found c.in_ok-wanted.ensures,
-      subst (λ (k : Choices). Covers flow sources k (c.args.depth - 1 + 1) found.now) (sym c.inner-table.ensures)
-      (below_covers flow sources L c.args.depth p m ws own c.requires.few c.requires.fits s i w c.loop-want-test.true c.want-item.is c.args.table.now found c.in_ok-wanted.ensures c.requires.covers)))),
+      (
+        c.requires.folders,
+        (
+          omega (arith, few),
+          (
+            below_fits flow sources L c.args.depth p m ws own c.requires.few c.requires.fits s i w c.loop-want-test.true c.want-item.is found c.in_ok-wanted.ensures,
+            subst (λ (k : Choices). Covers flow sources k (c.args.depth - 1 + 1) found.now) (sym c.inner-table.ensures)
+                (below_covers flow sources L c.args.depth p m ws own c.requires.few c.requires.fits s i w c.loop-want-test.true c.want-item.is c.args.table.now found c.in_ok-wanted.ensures c.requires.covers),
+          ),
+        ),
+      ),
     )
 
 pub returns-in_err-visit : goal.returns-in_err-visit
@@ -129,6 +135,6 @@ returns t c =
     let begun : IsStep flow sources L p m c.in-Some.step.wants own = subst (IsBegun flow sources L p) c.in-Some.is c.in_ok-step.ensures.begun in
     let s : IsStep flow sources L p m ws own = subst (λ (xs : List Want). IsStep flow sources L p m xs own) (sym c.as_slice-want-items.ensures) begun in
     let now = c.loop-want.reached in
-    done_here flow sources L c.args.depth p m ws own c.requires.few c.requires.fits s c.args.reached.now now c.settle.new.self c.settle.result c.settle.ensures.memory
-    (λ cs paths calm all h. c.settle.ensures.settled sources s.candidate cs s.chosen s.is paths calm all h)
+    done_here flow sources L c.args.depth p m ws own c.requires.few c.requires.fits s c.args.reached.now now c.settle.new.self c.settle.result c.settle.ensures.memory c.settle.ensures.done c.settle.ensures.keeps
+    (λ cs paths ready calm all h. c.settle.ensures.settled sources s.candidate cs s.chosen s.is (c.as_slice.ensures ∙ sym c.as_slice-want-items.ensures ∙ s.wants) paths ready calm all h)
     (subst (λ (xs : List Want). SoFar flow sources L c.args.reached.now now p m.rule (map text_in xs)) (take_whole ws c.loop-want.want-index c.loop-want-test.false) c.loop-want.invariant)

@@ -6,11 +6,11 @@ use Rattle.smk_chain.specs.Told.{TellsFirst}
 use Rattle.std.specs.List.{flat_map, AllByRecursion}
 use Rattle.smk_walk.specs.Steps.{Walked}
 use Rattle.smk_walk.proofs.Taken.{if_err}
-use Rattle.smk_walk.proofs.Targets.{take_whole, Reaches, target_on, target_stop, target_none, target_jobs, target_fits, target_covers}
+use Rattle.smk_walk.proofs.Targets.{take_whole, Reaches, target_on, target_stop, target_none, target_jobs, target_links, target_fits, target_covers}
 use Rattle.smk_walk.proofs.walking.visit_all.Goals as goal
 
 pub loop-target-init : goal.loop-target-init
-loop-target-init c = (refl, c.new-reached.ensures c.args.flow.now (told_by c.args.sources.now) c.args.lists.now)
+loop-target-init c = (refl, c.new-reached.ensures c.args.flow.now (told_by c.args.sources.now) c.args.lists.now, tt)
 
 pub visit-requires-clause-fits : goal.visit-requires-clause-fits
 visit-requires-clause-fits c =
@@ -73,3 +73,12 @@ returns-clause-jobs c =
     let ts = c.as_slice-target-items.result.now in
     let all : take c.loop-target.target-index ts ≡ c.args.targets.now = take_whole ts c.loop-target.target-index c.loop-target-test.false ∙ c.as_slice-target-items.ensures in
     target_jobs flow sources L c.loop-target.reached c.args.targets.now (subst (Reaches flow sources L c.loop-target.reached) all c.loop-target.invariant)
+
+pub returns-clause-links : goal.returns-clause-links
+returns-clause-links c = λ made makers befores.
+    let flow = c.args.flow.now in
+    let sources = told_by c.args.sources.now in
+    let L = c.args.lists.now in
+    let ts = c.as_slice-target-items.result.now in
+    let all : take c.loop-target.target-index ts ≡ c.args.targets.now = take_whole ts c.loop-target.target-index c.loop-target-test.false ∙ c.as_slice-target-items.ensures in
+    target_links flow sources L c.loop-target.reached c.args.targets.now made makers befores (subst (Reaches flow sources L c.loop-target.reached) all c.loop-target.invariant)
