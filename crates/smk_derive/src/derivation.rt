@@ -8,6 +8,7 @@ ghost use Rattle.smk_store.specs.Loading.{IsStoreOf};
 ghost use Rattle.smk_chain.specs.Derive.{height, jobs, job_refusals, clashes, spots};
 ghost use Rattle.smk_chain.specs.Told.{TellsFirst};
 ghost use Rattle.smk_clash.specs.Clashes.{ListsKnown};
+ghost use Rattle.smk_walk.specs.Links.{AreLinked};
 
 use smk_base::{List, PathText};
 use smk_chain::{ChainFault, Jobs, Listings};
@@ -51,6 +52,7 @@ fn derive_shallow(
     ensures none { IfOk result (λ made. (image : Image) → IsStoreOf image store.now → ListsKnown image
         → job_refusals flow.now (told_by sources.now) image lists targets.now ≡ []) }
     ensures jobs { IfOk result (λ made. made.jobs ≡ jobs flow.now (told_by sources.now) lists targets.now) }
+    ensures links { IfOk result (AreLinked flow.now (told_by sources.now) lists targets.now) }
     ensures lists { IfOk result (λ made. made.lists ≡ lists) }
     ensures fault { IfErr result (λ fault. (image : Image) → IsStoreOf image store.now → ListsKnown image
         → TellsFirst flow.now (job_refusals flow.now (told_by sources.now) image lists targets.now) fault) }
@@ -75,6 +77,7 @@ pub fn derive(
     ensures none { IfOk result (λ made. (image : Image) → IsStoreOf image store.now → ListsKnown image
         → job_refusals flow.now (told_by sources.now) image lists targets.now ≡ []) }
     ensures jobs { IfOk result (λ made. made.jobs ≡ jobs flow.now (told_by sources.now) lists targets.now) }
+    ensures links { IfOk result (AreLinked flow.now (told_by sources.now) lists targets.now) }
     ensures lists { IfOk result (λ made. made.lists ≡ lists) }
     ensures fault { IfErr result (λ fault. (image : Image) → IsStoreOf image store.now → ListsKnown image
         → TellsFirst flow.now (job_refusals flow.now (told_by sources.now) image lists targets.now) fault) }
