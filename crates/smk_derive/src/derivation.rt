@@ -53,8 +53,8 @@ fn derive_shallow(
     ensures none { IfOk result (λ made. (image : Image) → IsStoreOf image store.now → ListsKnown image
         → job_refusals flow.now (told_by sources.now) image lists targets.now ≡ []) }
     ensures jobs { IfOk result (λ made. made.jobs ≡ jobs flow.now (told_by sources.now) lists targets.now) }
-    ensures lists { IfOk result (λ made. made.lists ≡ lists) }
     ensures links { IfOk result (AreLinked flow.now (told_by sources.now) lists targets.now) }
+    ensures lists { IfOk result (λ made. made.lists ≡ lists) }
     ensures apart { IfOk result (λ made. clashes_in store.now [] (flat_map spots made.jobs) ≡ []) }
     ensures fault { IfErr result (λ fault. (image : Image) → IsStoreOf image store.now → ListsKnown image
         → TellsFirst flow.now (job_refusals flow.now (told_by sources.now) image lists targets.now) fault) }
@@ -79,8 +79,8 @@ pub fn derive(
     ensures none { IfOk result (λ made. (image : Image) → IsStoreOf image store.now → ListsKnown image
         → job_refusals flow.now (told_by sources.now) image lists targets.now ≡ []) }
     ensures jobs { IfOk result (λ made. made.jobs ≡ jobs flow.now (told_by sources.now) lists targets.now) }
-    ensures lists { IfOk result (λ made. made.lists ≡ lists) }
     ensures links { IfOk result (AreLinked flow.now (told_by sources.now) lists targets.now) }
+    ensures lists { IfOk result (λ made. made.lists ≡ lists) }
     ensures apart { IfOk result (λ made. clashes_in store.now [] (flat_map spots made.jobs) ≡ []) }
     ensures fault { IfErr result (λ fault. (image : Image) → IsStoreOf image store.now → ListsKnown image
         → TellsFirst flow.now (job_refusals flow.now (told_by sources.now) image lists targets.now) fault) }
