@@ -2,8 +2,8 @@
 use Rattle.std.proofs.Common.{◌≡◌, ◌⊎◌, ◌<◌, ◌≤◌, ℕ, suc, Bool, true, false, List, [], ◌∷◌, ◌++◌, ◌+◌, length, drop, refl, ap, sym, subst, ◌∙◌, inl, inr, Option, Some, None, Result, Ok, Err, append_assoc, arith}
 use Rattle.std.proofs.lemmas.List.{append-nil}
 use Rattle.std.proofs.lemmas.List.Sums.{sum_by-cons}
-use Rattle.std.specs.Prelude.{IsSome, cond}
-use Rattle.std.specs.List.{flat_map, count_by}
+use Rattle.std.specs.Prelude.{cond}
+use Rattle.std.specs.List.{count_by}
 use Rattle.smk_world.specs.declared.event.Event.{Event}
 use Rattle.smk_world.specs.World.{World, run}
 use Rattle.smk_world.specs.Runs.{Did}
@@ -14,16 +14,13 @@ use Rattle.smk_flow.specs.Flows.{Flow}
 use Rattle.smk_report.specs.Lines.{Text, Named}
 use Rattle.smk_report.specs.declared.fault.Fault.{Fault}
 use Rattle.smk_report.specs.declared.fault.Fault.TheVariants as fault
-use Rattle.smk_job.specs.Jobs.{too_long}
 use Rattle.smk_run.specs.declared.ending.Ending.{Ending}
 use Rattle.smk_run.specs.declared.ending.Ending.TheVariants.{Good, Status, NoOutput, WrongKind, BadMember}
-use Rattle.smk_run.specs.declared.stop.Stop.{Stop}
-use Rattle.smk_run.specs.declared.stop.Stop.TheVariants.{TooLong, Gone, Device, Output, OutOfMemory}
 use Rattle.smk_run.specs.declared.tally.Tally.{Tally}
 use Rattle.smk_run.specs.Stamps.{Serials}
 use Rattle.smk_run.specs.Turns.{Course, Unbegun, Unstarted, Unclosed, Closed, Turn, IsTurn, AreTurns, is_done, is_closed, is_good}
-use Rattle.smk_run.specs.Reports.{named, course_text, report_of, IsFront, IsReport, HasWritten, IsAnswer, failure, stop_fault}
-use Rattle.smk_run.specs.Runs.{IsRunnable, AreRunnableFrom, command_of, or_later, job_fault, command_fault, serial_at, AreInOrder, course_failure, first_failure, IsTally, IsSerials, IsStopped, IsOutcome, is_whole, is_output, is_device, HasRun, IsTurnAnswer, HasHadTurn, HasRunSoFar, IsWithoutSerial}
+use Rattle.smk_run.specs.Reports.{named, course_text, report_of, IsReport, HasWritten, failure}
+use Rattle.smk_run.specs.Runs.{command_of, or_later, command_fault, serial_at, AreInOrder, course_failure, first_failure, IsOutcome, is_whole, is_output, HasRun, IsTurnAnswer, HasHadTurn, HasRunSoFar, IsWithoutSerial, Fits}
 
 -- ## Events
 
@@ -113,6 +110,7 @@ so_far_start act flow cores jobs top made a running put none = record {
   counted = refl;
   done = tt;
   in_order = tt;
+  fits = tt;
   did = did_nothing act (AreTurns made []) a (λ w. refl);
   text = record { told = λ now e. (now, e, ([], refl, sym (append-nil now))); stays = λ e some. some };
   none_runs = none;
@@ -146,6 +144,7 @@ so_far_next act flow cores jobs rest top made count serial job command result a 
       counted = length_next h.turns k.turn ∙ omega (arith, h.counted);
       done = each_next (λ (u : Turn). is_done u.course ≡ true) h.turns k.turn h.done (done_is k.turn.course (named flow k.turn.job) answer.1.0 answer.1.1 (sym answer.1.2));
       in_order = next_in_order act flow cores jobs rest top made count serial job command result a b c rose ra rb pa pb pc n h k;
+      fits = each_next Fits h.turns k.turn h.fits k.fits;
       did = did_turn act made h.turns k.turn a b c h.did k.did;
       text = written_well flow h.turns k.turn result pa pb pc is h.text k.text;
       none_runs = k.none_runs answer.0;
@@ -255,6 +254,7 @@ run_done act flow cores jobs top made count tally a b rose running pa pb good al
     },
   );
   refused = λ f e. absurd (none_some (command_fault flow cores jobs) f good e);
+  fits = h.fits;
   did = h.did;
   text = record { told = h.text.told; stays = λ e some. h.text.stays tt some };
   failed_rose = λ e. cc;
@@ -291,6 +291,7 @@ run_failed act flow cores jobs rest top made count serial job command result wha
         },
       );
       refused = λ f e. absurd (none_some (command_fault flow cores jobs) f good e);
+      fits = each_next Fits h.turns k.turn h.fits k.fits;
       did = did_turn act made h.turns k.turn a b c h.did k.did;
       text = written_next flow h.turns k.turn true (false ≡ false) pa pb pc h.text text;
       failed_rose = λ e. rises (k.failed_rose e);
@@ -310,6 +311,7 @@ run_stopped act flow cores jobs rest top made count serial job command result f 
   in_order = next_in_order act flow cores jobs rest top made count serial job command result a b c later ra rb pa pb pc n h k;
   answer = by (subst (λ r. IsTurnAnswer flow k.turn k.failed r) is k.answer);
   refused = λ g e. absurd (none_some (command_fault flow cores jobs) g good e);
+  fits = each_next Fits h.turns k.turn h.fits k.fits;
   did = did_turn act made h.turns k.turn a b c h.did k.did;
   text = written_next flow h.turns k.turn (is_whole {T = Tally} (Err f)) (is_output {T = Tally} (Err f) ≡ false) pa pb pc h.text
       (subst (λ x. HasWritten pb pc (is_output x ≡ false) (IsReport (is_whole x) (course_text (named flow k.turn.job) k.turn.course))) is k.text);
@@ -320,7 +322,7 @@ run_stopped act flow cores jobs rest top made count serial job command result f 
   where
     by : IsTurnAnswer flow k.turn k.failed (Err f) → IsOutcome flow cores jobs top (h.turns ++ k.turn ∷ []) k.failed (Err f)
     by (inl x) = inl x
-    by (inr (stop, e, answer)) = inr (inr (inr (record { before = h.turns; last = k.turn; stop = stop; turns_are = refl; is = e; answer = answer })))
+    by (inr (stop, e, answer, looked)) = inr (inr (inr (record { before = h.turns; last = k.turn; stop = stop; turns_are = refl; is = e; answer = answer; looked = looked })))
 
 -- there is no serial
 pub run_serials : (act : Act) (flow : Flow) (cores : ℕ) (jobs : List Job) (top : Option ℕ) (made : Serials) (count : ℕ) (a b : Option World) (rose : Type 0) (running : List ℕ) (pa pb : Option Text)
@@ -333,6 +335,7 @@ run_serials act flow cores jobs top made count a b rose running pa pb good next 
   in_order = h.in_order;
   answer = inr (inr (inl (refl, record { is = refl; next = subst (λ k. k < length jobs) (sym h.counted) next; none = ap (serial_at top) h.counted ∙ none; done = h.done })));
   refused = λ f e. absurd (none_some (command_fault flow cores jobs) f good e);
+  fits = h.fits;
   did = h.did;
   text = record { told = h.text.told; stays = λ e some. h.text.stays tt some };
   failed_rose = λ e. cc;
@@ -352,6 +355,7 @@ run_not act flow cores jobs top made f a rose running put why none = record {
   in_order = tt;
   answer = by why;
   refused = λ g e. refused why g e;
+  fits = tt;
   did = did_nothing act (AreTurns made []) a (λ w. refl);
   text = empty (is_whole {T = Tally} (Err f));
   failed_rose = λ e. cc;

@@ -1,14 +1,12 @@
 -- From the looks at a job's inputs to their stamps.
-use Rattle.std.proofs.Common.{◌≡◌, ◌⊎◌, ◌<◌, ℕ, Bool, true, false, List, [], ◌∷◌, ◌++◌, ◌+◌, length, refl, ap, sym, subst, ◌∙◌, inl, inr, Option, Some, None, Result, Ok, Err, append_assoc}
+use Rattle.std.proofs.Common.{◌≡◌, ◌⊎◌, ℕ, Bool, false, List, [], ◌∷◌, ◌++◌, refl, ap, sym, subst, ◌∙◌, inl, inr, Option, Some, None, Result, Ok, Err, append_assoc}
 use Rattle.std.proofs.lemmas.List.{append-nil}
-use Rattle.std.specs.List.{flat_map}
-use Rattle.smk_world.specs.declared.event.Call.{Call}
 use Rattle.smk_world.specs.declared.event.Call.TheVariants.{Looked}
 use Rattle.smk_world.specs.declared.event.Event.{Event}
 use Rattle.smk_world.specs.declared.event.Failed.{Failed}
 use Rattle.smk_world.specs.declared.event.Stat.{Stat}
 use Rattle.smk_world.specs.declared.event.Stat.TheVariants.{Nothing, File, Folder}
-use Rattle.smk_world.specs.World.{World, run}
+use Rattle.smk_world.specs.World.{World}
 use Rattle.smk_world.specs.Calls.{Happened, failed}
 use Rattle.smk_world.specs.Runs.{Did}
 use Rattle.smk_world.specs.Requests.{Request, request, HasDone}
@@ -21,7 +19,7 @@ use Rattle.smk_record.specs.declared.record.Stamp.TheVariants.{Time, Made}
 use Rattle.smk_job.specs.Laws.{IsPart}
 use Rattle.smk_run.specs.declared.stop.Stop.{Stop}
 use Rattle.smk_run.specs.declared.stop.Stop.TheVariants.{TooLong, Gone, Device, Output, OutOfMemory}
-use Rattle.smk_run.specs.Stamps.{Serials, look_at, looks, IsTimed, IsStamped, AreStamped, is_file, EndsGone, HasStamped, HasTimed, HasStamp, HasPushed, IsTimeIn}
+use Rattle.smk_run.specs.Stamps.{Serials, look_at, looks, IsStamped, AreStamped, is_file, EndsGone, HasStamped, HasTimed, HasStamp, HasPushed, IsTimeIn}
 use Rattle.smk_run.proofs.Closes.{did_first}
 
 -- ## Parts of looks

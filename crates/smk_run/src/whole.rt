@@ -32,7 +32,7 @@ fn without_serial(jobs: &[Job]) -> Result<Tally, Fault>
 ///
 /// `UnknownField`, `TooLong`: a command has a field without a value, or is too long or has NUL; exactly where that is so of a job, with the first such job; nothing
 /// was done then. `Serials` exactly where a job's turn comes and there is no serial for it. `TooLong` too where the record of a job would be too long as its turn
-/// comes, and `NoInput` where no file stands at an input that was a source; then nothing was done of that job but looks at its inputs. `Device`: a call of
+/// comes, and `NoInput` where a look finds no file at an input that was a source; then nothing was done of that job but looks at its inputs. `Device`: a call of
 /// the device failed, and none came after it but the wait for a running child. `Output`: the sink failed. `OutOfMemory`: want of memory. After each
 /// fault no further job was started, and the child that ran was waited for and its job closed, unless a call of the device failed.
 ///

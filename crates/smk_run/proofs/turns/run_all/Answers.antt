@@ -1,4 +1,4 @@
-use Rattle.std.proofs.Common.{◌≡◌, ◌≤◌, ◌+◌, Some, Ok, Err, drop, length, refl, sym, ap, ◌∙◌, arith}
+use Rattle.std.proofs.Common.{◌+◌, Some, Ok, drop, refl, sym, ap, ◌∙◌, arith}
 use Rattle.smk_world.specs.World.{in_paths}
 use Rattle.smk_run.specs.Stamps.{number_at, made_by}
 use Rattle.smk_run.specs.Runs.{command_of}

@@ -1,10 +1,9 @@
 use Rattle.std.proofs.Common.{subst, ◌∙◌}
 use Rattle.smk_world.specs.Calls.{Rose}
-use Rattle.smk_report.specs.Lines.{Named}
 use Rattle.smk_run.specs.Stamps.{made_by}
 use Rattle.smk_run.specs.Runs.{HasTaken, command_of}
 use Rattle.smk_run.proofs.Firsts.{named_by}
-use Rattle.smk_run.proofs.Taking.{had_turn, had_turn_untold, had_turn_stopped, no_turn}
+use Rattle.smk_run.proofs.Taking.{had_turn, had_turn_untold, had_turn_stopped, no_turn, told_quiet}
 use Rattle.smk_run.proofs.turns.turn.Goals as goal
 
 pub returns-in_default-command_of-clause-run : goal.returns-in_default-command_of-clause-run
@@ -42,3 +41,7 @@ returns-clause-run g c =
     (c.as_str.ensures ∙ c.in-Ok.ensures.text) c.take.ensures.run in
     had_turn_stopped g.W.Files.act flow made job (command_of c.args.cores job) c.args.made c.in-Err.stop (record { rule = c.rule_name-rule.result.now; path = c.in-Some.path.now }) c.stopped.result c.take.result
     _ _ _ _ _ _ (named_by flow job c.rule_name-rule.result.now c.in-Some.path.now c.rule_name-rule.ensures c.in-Some.ensures) c.in-Err.is c.stopped.ensures taken
+
+pub returns-clause-quiet : goal.returns-clause-quiet
+returns-clause-quiet g c = λ e.
+    c.in-Err.ensures.quiet (told_quiet (record { rule = c.rule_name-rule.result.now; path = c.in-Some.path.now }) c.in-Err.stop c.stopped.result c.stopped.ensures e)
