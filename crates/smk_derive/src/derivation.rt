@@ -7,7 +7,8 @@ ghost use Rattle.smk_store.specs.Images.{Image};
 ghost use Rattle.smk_store.specs.Loading.{IsStoreOf};
 ghost use Rattle.smk_chain.specs.Derive.{height, jobs, job_refusals, clashes, spots};
 ghost use Rattle.smk_chain.specs.Told.{TellsFirst};
-ghost use Rattle.smk_clash.specs.Clashes.{ListsKnown};
+ghost use Rattle.smk_clash.specs.Clashes.{ListsKnown, clashes_in};
+ghost use Rattle.smk_walk.specs.Links.{AreLinked};
 
 use smk_base::{List, PathText};
 use smk_chain::{ChainFault, Jobs, Listings};
@@ -29,6 +30,7 @@ fn unless_clashing(
     ensures same { IfOk result (λ kept. kept ≡ made) }
     ensures none { IfOk result (λ kept. (image : Image) → IsStoreOf image store.now → ListsKnown image
         → clashes image [] (flat_map spots made.jobs) ≡ []) }
+    ensures apart { IfOk result (λ kept. clashes_in store.now [] (flat_map spots made.jobs) ≡ []) }
     ensures fault { IfErr result (λ fault. (image : Image) → IsStoreOf image store.now → ListsKnown image
         → TellsFirst flow.now (clashes image [] (flat_map spots made.jobs)) fault) }
 {
@@ -51,7 +53,9 @@ fn derive_shallow(
     ensures none { IfOk result (λ made. (image : Image) → IsStoreOf image store.now → ListsKnown image
         → job_refusals flow.now (told_by sources.now) image lists targets.now ≡ []) }
     ensures jobs { IfOk result (λ made. made.jobs ≡ jobs flow.now (told_by sources.now) lists targets.now) }
+    ensures links { IfOk result (AreLinked flow.now (told_by sources.now) lists targets.now) }
     ensures lists { IfOk result (λ made. made.lists ≡ lists) }
+    ensures apart { IfOk result (λ made. clashes_in store.now [] (flat_map spots made.jobs) ≡ []) }
     ensures fault { IfErr result (λ fault. (image : Image) → IsStoreOf image store.now → ListsKnown image
         → TellsFirst flow.now (job_refusals flow.now (told_by sources.now) image lists targets.now) fault) }
 {
@@ -75,7 +79,9 @@ pub fn derive(
     ensures none { IfOk result (λ made. (image : Image) → IsStoreOf image store.now → ListsKnown image
         → job_refusals flow.now (told_by sources.now) image lists targets.now ≡ []) }
     ensures jobs { IfOk result (λ made. made.jobs ≡ jobs flow.now (told_by sources.now) lists targets.now) }
+    ensures links { IfOk result (AreLinked flow.now (told_by sources.now) lists targets.now) }
     ensures lists { IfOk result (λ made. made.lists ≡ lists) }
+    ensures apart { IfOk result (λ made. clashes_in store.now [] (flat_map spots made.jobs) ≡ []) }
     ensures fault { IfErr result (λ fault. (image : Image) → IsStoreOf image store.now → ListsKnown image
         → TellsFirst flow.now (job_refusals flow.now (told_by sources.now) image lists targets.now) fault) }
 {

@@ -9,6 +9,7 @@ use Rattle.smk_chain.specs.declared.fault.ChainFault.{ChainFault}
 use Rattle.smk_chain.specs.Derive.{clashes, spots, job_refusals}
 use Rattle.smk_chain.specs.Told.{TellsFirst}
 use Rattle.smk_clash.specs.Clashes.{ListsKnown}
+use Rattle.smk_walk.specs.Links.{AreLinked}
 use Rattle.smk_derive.proofs.Refused.{if_ok, if_err, walk_told, clash_told, none_refused}
 use Rattle.smk_derive.proofs.derivation.derive_shallow.Goals as goal
 
@@ -24,6 +25,14 @@ returns-in-Ok-clause-none c =
     (λ kept clear image is known. none_refused flow sources image c.args.lists c.args.targets.now c.requires.shallow walked.none
     (ap (λ (js : List Job). clashes image [] (flat_map spots js)) (sym walked.jobs) ∙ clear image is known))
     c.unless_clashing.ensures.none
+
+pub returns-in-Ok-clause-links : goal.returns-in-Ok-clause-links
+returns-in-Ok-clause-links c =
+    let flow = c.args.flow.now in
+    let sources = told_by c.args.sources.now in
+    let targets = c.args.targets.now in
+    if_ok c.unless_clashing.result (λ (kept : Jobs). kept ≡ c.in-Ok.made) (λ (kept : Jobs). AreLinked flow sources c.args.lists targets kept)
+    (λ kept same. subst (λ (made : Jobs). AreLinked flow sources c.args.lists targets made) (sym same) c.in-Ok.ensures.links) c.unless_clashing.ensures.same
 
 pub returns-in-Ok-clause-fault : goal.returns-in-Ok-clause-fault
 returns-in-Ok-clause-fault c =

@@ -1,0 +1,7 @@
+//! What the words of the command line ask for.
+#![tactic(auto)]
+
+mod cores;
+mod words;
+
+pub use words::{RunWords, WordsFault, run_words};

@@ -1,0 +1,4 @@
+pub mod Binds
+pub mod Firsts
+pub mod Joins
+pub mod Loads
