@@ -7,9 +7,9 @@ program:
 
 demo: program
 	rm -rf demo
-	cp -r examples/copy demo
-	cd demo && ../crates/smk/out/smk --cores 1 out.txt
-	cat demo/out.txt
+	cp -r examples/mapping demo
+	cd demo && ../crates/smk/out/smk --cores 2
+	cat demo/calls/all.tsv demo/mapped/*.stats
 
 test:
 	bash .ci/run
