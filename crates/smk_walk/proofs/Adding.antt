@@ -1,5 +1,5 @@
 -- Jobs that are added one by one, each once.
-use Rattle.std.proofs.Common.{◌≡◌, ◌∙◌, ℕ, zero, suc, ◌+◌, eqb, eqb-true, Bool, true, false, cond, ◌&&◌, ◌||◌, not, List, [], ◌∷◌, ◌++◌, filter, length, Option, Some, None, option_map, refl, sym, ap, ap₂, subst, append_assoc, append-nil, arith, true≢false}
+use Rattle.std.proofs.Common.{◌≡◌, ◌∙◌, ℕ, suc, eqb, eqb-true, Bool, true, false, cond, ◌&&◌, ◌||◌, not, List, [], ◌∷◌, ◌++◌, filter, length, Option, Some, None, option_map, refl, sym, ap, ap₂, append_assoc, append-nil, arith, true≢false}
 use Rattle.std.specs.Prelude.{bytes_eq}
 use Rattle.std.specs.List.{list_any, AllByRecursion}
 use Rattle.std.proofs.lemmas.Slice.Eq.{bytes_eq-Decides}
@@ -12,7 +12,7 @@ use Rattle.smk_choose.specs.declared.choice.Making.{Making}
 use Rattle.smk_choose.specs.Told.{making}
 use Rattle.smk_record.specs.Records.{same_pair}
 use Rattle.smk_chain.specs.Derive.{same_candidate, distinct}
-use Rattle.smk_walk.specs.Numbers.{is_job, place_of, number_in, has, added, all_added}
+use Rattle.smk_walk.specs.Numbers.{is_job, place_of, has, added, all_added}
 
 -- ---- one job
 

@@ -1,6 +1,6 @@
 -- A walk from a path, by the step at it.
-use Rattle.std.proofs.Common.{◌≡◌, ◌≢◌, ◌∙◌, ℕ, zero, suc, ◌+◌, ◌-◌, ◌<◌, ◌≤◌, Bool, true, false, cond, List, [], ◌∷◌, ◌++◌, map, filter, length, take, get_or, Option, Some, None, Result, Ok, Err, IfErr, OnOk, refl, sym, ap, subst, append_assoc, append-nil, arith, true≢false}
-use Rattle.std.specs.List.{flat_map, AllByRecursion, list_all}
+use Rattle.std.proofs.Common.{◌≡◌, ◌≢◌, ◌∙◌, ℕ, zero, suc, ◌+◌, ◌-◌, ◌<◌, ◌≤◌, Bool, true, false, cond, List, [], ◌∷◌, ◌++◌, map, filter, length, take, get_or, Option, Some, None, Result, Ok, Err, IfErr, OnOk, refl, sym, ap, subst, append-nil, arith, true≢false}
+use Rattle.std.specs.List.{AllByRecursion, list_all}
 use Rattle.std.specs.Result.{IsErrAnd}
 use denote.Ref.{Bor}
 use Rattle.smk_base.specs.Path.{is_path}
@@ -10,11 +10,11 @@ use Rattle.smk_flow.specs.Flows.{Flow, Candidate, rule_name, first_wants, declar
 use Rattle.smk_choose.specs.declared.choice.Making.{Making}
 use Rattle.smk_choose.specs.declared.table.Choices.{Choices}
 use Rattle.smk_choose.specs.Choose.{Sources, Source, Make, choose, candidates}
-use Rattle.smk_choose.specs.Told.{making, Covers, CoversAll}
+use Rattle.smk_choose.specs.Told.{Covers, CoversAll}
 use Rattle.smk_choose.proofs.Picked.{chosen_candidate, chosen_no_source}
 use Rattle.smk_chain.specs.declared.fault.ChainFault.{ChainFault}
 use Rattle.smk_chain.specs.declared.fault.ChainFault.TheVariants as told
-use Rattle.smk_chain.specs.Derive.{Listings, refused_at, wants, gathered_files, wanted_paths}
+use Rattle.smk_chain.specs.Derive.{Listings, wants}
 use Rattle.smk_wants.specs.declared.wanted.Want.{Want}
 use Rattle.smk_wants.specs.declared.wanted.Want.TheVariants as want
 use Rattle.smk_wants.specs.Wants.{want_of}

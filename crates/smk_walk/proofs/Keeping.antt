@@ -2,26 +2,25 @@
 use Rattle.std.proofs.Common.{◌≡◌, ◌∙◌, ℕ, suc, ◌+◌, ◌<◌, Bool, true, false, cond, List, [], ◌∷◌, ◌++◌, map, length, Option, Some, None, Result, Ok, Err, IfOk, OnOk, refl, sym, ap, ap₂, subst, arith, true≢false}
 use Rattle.std.specs.Prelude.{bytes_eq, nat_eq, is_some}
 use Rattle.std.specs.BTreeMap.{get_by_text}
-use Rattle.std.specs.List.{list_any, filter_map, AllByRecursion}
+use Rattle.std.specs.List.{filter_map, AllByRecursion}
 use Rattle.smk_pattern.specs.Shapes.{Text}
 use Rattle.smk_chain.specs.declared.jobs.Maker.{Maker}
 use Rattle.std.proofs.lemmas.Slice.Eq.{bytes_eq-Decides}
 use Rattle.smk_world.specs.Trees.{Path}
 use Rattle.smk_flow.specs.Flows.{Flow, Candidate}
-use Rattle.smk_flow.specs.declared.job.Job.{Job}
 use Rattle.smk_choose.specs.declared.choice.Making.{Making}
 use Rattle.smk_choose.specs.Choose.{Sources, Choice, Source, Make, Nothing, Ambiguous, choose, maker}
 use Rattle.smk_choose.specs.Told.{making}
 use Rattle.smk_chain.specs.Derive.{Listings, job, wants, distinct}
 use Rattle.smk_walk.specs.declared.reached.Reached.{Reached}
-use Rattle.smk_walk.specs.Numbers.{is_job, place_of, number_in, has, added, all_added, key, IsSmall}
+use Rattle.smk_walk.specs.Numbers.{is_job, place_of, number_in, has, added, key, IsSmall}
 use Rattle.smk_walk.specs.Links.{number_for, befores_of, maker_told, AreOnce, AreLower}
 use Rattle.smk_walk.specs.Steps.{refused_for, called_for, is_done, flat, number_done, told_also, IsDone, Holds, Keeps}
 use Rattle.smk_walk.proofs.Depths.{all_map, called_own, called_source, refused_unmade}
 use Rattle.smk_walk.proofs.Numbers.{place_low, all_low, filter_same}
 use Rattle.smk_walk.proofs.Links.{or_told, told_if, told_push, once_push, lower_push}
 use Rattle.smk_walk.proofs.Apart.{keys_one}
-use Rattle.smk_walk.proofs.Adding.{is_its_job, job_is, or_place, place_if, place_push, placed, unplaced, has_place, Within, within_has, within_added, added_has}
+use Rattle.smk_walk.proofs.Adding.{is_its_job, job_is, or_place, place_if, place_push, placed, unplaced, has_place, Within, within_has, within_added}
 
 all_last : {A : Type 0} (P : A → Type 0) (xs : List A) (x : A) → AllByRecursion P (xs ++ x ∷ []) → P x
 all_last P [] x h = h.0

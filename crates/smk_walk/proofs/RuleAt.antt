@@ -1,5 +1,5 @@
 -- Rules by their numbers.
-use Rattle.std.proofs.Common.{◌≡◌, ◌∙◌, ℕ, zero, suc, ◌+◌, ◌<◌, eqb, ltb, false-eqb, Bool, true, false, cond, List, [], ◌∷◌, map, length, get_or, Option, Some, None, option_map, refl, sym, ap, arith, true≢false}
+use Rattle.std.proofs.Common.{◌≡◌, ◌∙◌, ℕ, zero, suc, ◌+◌, ◌<◌, true, false, cond, List, [], ◌∷◌, map, length, get_or, Option, Some, None, option_map, refl, sym, ap, arith}
 use Rattle.std.specs.Prelude.{slice_get, nat_eq, nat_lt}
 use Rattle.std.specs.List.{find, enumerate_from}
 use Rattle.std.proofs.lemmas.Bool.{ltb-true}
@@ -8,7 +8,7 @@ use Rattle.smk_pattern.specs.Reading.{or_empty}
 use Rattle.smk_flow.specs.declared.rule.RulePart.{RulePart}
 use Rattle.smk_flow.specs.declared.workflow.Rule.{Rule}
 use Rattle.smk_flow.specs.PatternsOf.{rule_of}
-use Rattle.smk_flow.specs.Flows.{Flow, rule_at, rule_name}
+use Rattle.smk_flow.specs.Flows.{Flow, rule_name}
 
 parts_at : (rules : List RulePart) (n : ℕ) → option_map (λ (r : Rule). r.part) (slice_get (map rule_of rules) n) ≡ slice_get rules n
 parts_at [] n = refl

@@ -1,11 +1,10 @@
 -- What is taken of a choice and of its rule.
-use Rattle.std.proofs.Common.{◌≡◌, ◌∙◌, ℕ, Bool, true, false, cond, List, [], ◌∷◌, ◌++◌, map, filter, Option, Some, None, Result, Ok, Err, IfErr, option_map, refl, sym, ap, subst, true≢false}
+use Rattle.std.proofs.Common.{◌≡◌, ◌∙◌, ℕ, Bool, true, false, cond, List, [], ◌∷◌, ◌++◌, map, filter, Option, Some, None, Result, Ok, Err, IfErr, refl, sym, ap, subst}
 use Rattle.std.specs.Prelude.{slice_get}
 use Rattle.std.specs.List.{flat_map, find, filter_map, cons_option}
 use Rattle.std.specs.Result.{IsErrAnd}
 use Rattle.smk_base.specs.Path.{is_path, is_under}
 use Rattle.smk_world.specs.declared.recipe.Out.{Out}
-use Rattle.smk_world.specs.declared.recipe.OutItem.{OutItem}
 use Rattle.smk_world.specs.Trees.{Path, is_folder_kind}
 use Rattle.smk_pattern.specs.Shapes.{Text}
 use Rattle.smk_flow.specs.declared.rule.RulePart.{RulePart}
@@ -13,8 +12,8 @@ use Rattle.smk_flow.specs.Flows.{Flow, Candidate}
 use Rattle.smk_choose.specs.declared.choice.Chosen.{Chosen}
 use Rattle.smk_choose.specs.declared.choice.Chosen.TheVariants as told
 use Rattle.smk_choose.specs.declared.choice.Making.{Making}
-use Rattle.smk_choose.specs.Choose.{Choice, Source, Make, Nothing, Ambiguous, Lack}
-use Rattle.smk_choose.specs.Told.{making, told_choice, lack_told}
+use Rattle.smk_choose.specs.Choose.{Choice, Source, Make, Nothing, Ambiguous}
+use Rattle.smk_choose.specs.Told.{making, told_choice}
 use Rattle.smk_wants.specs.declared.wanted.Want.{Want}
 use Rattle.smk_wants.specs.declared.wanted.Want.TheVariants as want
 use Rattle.smk_wants.specs.Wants.{want_of}

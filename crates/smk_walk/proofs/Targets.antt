@@ -1,9 +1,8 @@
 -- A walk from each target, one after another.
-use Rattle.std.proofs.Common.{◌≡◌, ◌∙◌, ℕ, zero, suc, ◌+◌, ◌<◌, ◌≤◌, eqb, false, List, [], ◌∷◌, ◌++◌, map, length, take, get_or, Ok, Err, refl, sym, ap, subst, append_assoc, append-nil, arith}
+use Rattle.std.proofs.Common.{◌≡◌, ◌∙◌, ℕ, zero, suc, ◌<◌, ◌≤◌, eqb, false, List, [], ◌∷◌, ◌++◌, map, length, take, get_or, Ok, Err, refl, sym, ap, subst, append_assoc, append-nil, arith}
 use Rattle.std.specs.List.{flat_map, AllByRecursion}
 use Rattle.std.proofs.lemmas.List.Concat.{flat_map-append}
 use Rattle.smk_world.specs.Trees.{Path}
-use Rattle.smk_flow.specs.declared.job.Job.{Job}
 use Rattle.smk_flow.specs.Flows.{Flow, Candidate}
 use Rattle.smk_choose.specs.declared.table.Choices.{Choices}
 use Rattle.smk_choose.specs.Choose.{Sources}
@@ -18,7 +17,7 @@ use Rattle.smk_walk.specs.Links.{AreLinked, AreOnce, AreLower, maker_told}
 use Rattle.smk_chain.specs.Told.{TellsFirst}
 use Rattle.smk_walk.specs.declared.reached.Reached.{Reached}
 use Rattle.smk_walk.specs.Numbers.{all_added}
-use Rattle.smk_walk.specs.Steps.{Fits, refused_for, called_for, is_done, Holds, Keeps, Walked}
+use Rattle.smk_walk.specs.Steps.{Fits, refused_for, called_for, is_done, Holds, Walked}
 use Rattle.smk_walk.proofs.Depths.{all_map, fits_shallow, refused_all, called_all}
 use Rattle.smk_walk.proofs.Adding.{all_added_append, distinct_is}
 use Rattle.smk_walk.proofs.Visiting.{tells_in}

@@ -1,5 +1,5 @@
 -- What a walk from a path comes to, put together from its steps.
-use Rattle.std.proofs.Common.{◌≡◌, ◌≢◌, ◌∙◌, ℕ, zero, suc, ◌+◌, ◌≤◌, Bool, true, false, cond, List, [], ◌∷◌, ◌++◌, map, Option, Some, None, Result, Ok, Err, refl, sym, ap, subst, append_assoc, append-nil, arith, true≢false}
+use Rattle.std.proofs.Common.{◌≡◌, ◌≢◌, ◌∙◌, ℕ, suc, ◌≤◌, true, false, List, [], ◌∷◌, ◌++◌, Option, Some, None, Ok, Err, refl, sym, ap, subst, append_assoc, append-nil, true≢false}
 use Rattle.std.specs.Prelude.{is_some}
 use Rattle.std.specs.BTreeMap.{get_by_text}
 use Rattle.std.specs.List.{flat_map, AllByRecursion, list_all}
@@ -8,16 +8,15 @@ use Rattle.smk_base.specs.Path.{is_path}
 use Rattle.smk_world.specs.Trees.{Path}
 use Rattle.smk_pattern.specs.Shapes.{Text}
 use Rattle.smk_flow.specs.Flows.{Flow, Candidate, rule_name}
-use Rattle.smk_choose.specs.Choose.{Sources, Choice, Source, Make, choose, maker}
-use Rattle.smk_choose.specs.Told.{making}
+use Rattle.smk_choose.specs.Choose.{Sources, Source, Make, choose}
 use Rattle.smk_chain.specs.declared.fault.ChainFault.{ChainFault}
 use Rattle.smk_chain.specs.declared.fault.ChainFault.TheVariants as told
 use Rattle.smk_chain.specs.Derive.{Listings, Refusal, NoInput, refused_at, wants}
-use Rattle.smk_chain.specs.Told.{told_refusal, first_told, TellsFirst}
+use Rattle.smk_chain.specs.Told.{first_told, TellsFirst}
 use Rattle.smk_walk.specs.declared.reached.Reached.{Reached}
 use Rattle.smk_walk.specs.Numbers.{has, added, all_added}
-use Rattle.smk_walk.specs.Steps.{Fits, refused_for, called_for, asked, asked_by, is_done, IsDone, Holds, Keeps, Outcome, Walked}
-use Rattle.smk_walk.proofs.Depths.{refused_make, called_make, refused_front, called_source, refused_unmade, flat_nil, all_map, want_calm, back_nil}
+use Rattle.smk_walk.specs.Steps.{Fits, refused_for, called_for, asked, is_done, Holds, Keeps, Walked}
+use Rattle.smk_walk.proofs.Depths.{refused_make, called_make, refused_front, called_source, refused_unmade, flat_nil, all_map, want_calm}
 use Rattle.smk_walk.proofs.Adding.{all_there, all_added_append, all_added_has}
 
 all_push : {A : Type 0} (P : A → Type 0) (xs : List A) (x : A) → AllByRecursion P xs → P x → AllByRecursion P (xs ++ x ∷ [])

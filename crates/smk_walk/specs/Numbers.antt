@@ -7,7 +7,6 @@ use Rattle.smk_choose.specs.declared.choice.Making.{Making}
 use Rattle.smk_choose.specs.Told.{making}
 use Rattle.smk_record.specs.Records.{same_pair}
 use Rattle.smk_record.specs.Spelling.{num, pair}
-use Rattle.smk_chain.specs.Derive.{same_candidate}
 
 -- the candidate is the job of this rule and these values
 abbrev pub is_job : Making → Candidate → Bool

@@ -1,6 +1,6 @@
 -- What is told at a path, and what is known of the job that makes it before its wants are walked.
-use Rattle.std.specs.Prelude.{◌≡◌, ◌≢◌, ℕ, Bool, List, [], ◌∷◌, map, filter, Option, Some, None, is_some, Result, Ok, Err}
-use Rattle.std.specs.List.{find, list_any, flat_map}
+use Rattle.std.specs.Prelude.{◌≡◌, ◌≢◌, ℕ, List, [], ◌∷◌, map, filter, Option, Some, None, Result, Ok, Err}
+use Rattle.std.specs.List.{find, flat_map}
 use Rattle.smk_base.specs.Path.{is_under}
 use Rattle.smk_world.specs.declared.recipe.Out.{Out}
 use Rattle.smk_world.specs.declared.recipe.OutItem.{OutItem}

@@ -1,5 +1,5 @@
 -- How far a walk goes from a path, what it comes to, and what is kept of it on the way.
-use Rattle.std.specs.Prelude.{◌≡◌, ◌<◌, ◌^◌, ℕ, zero, suc, Bool, true, false, List, [], ◌∷◌, ◌++◌, map, length, Option, Some, None, is_some, Result, Ok, Err, if◌then◌else◌}
+use Rattle.std.specs.Prelude.{◌≡◌, ℕ, zero, suc, Bool, true, false, List, [], ◌∷◌, ◌++◌, map, Option, Some, None, is_some, Result, Ok, Err, if◌then◌else◌}
 use Rattle.std.specs.BTreeMap.{get_by_text}
 use Rattle.std.specs.List.{AllByRecursion}
 use Rattle.smk_base.specs.Path.{is_path}
@@ -7,8 +7,7 @@ use Rattle.smk_world.specs.Trees.{Path}
 use Rattle.smk_pattern.specs.Shapes.{Text}
 use Rattle.smk_flow.specs.Flows.{Flow, Candidate}
 use Rattle.smk_choose.specs.declared.choice.Making.{Making}
-use Rattle.smk_choose.specs.Choose.{Sources, Make, choose, maker}
-use Rattle.smk_choose.specs.Told.{making}
+use Rattle.smk_choose.specs.Choose.{Sources, Make, choose}
 use Rattle.smk_chain.specs.declared.fault.ChainFault.{ChainFault}
 use Rattle.smk_chain.specs.declared.jobs.Maker.{Maker}
 use Rattle.smk_chain.specs.Told.{TellsFirst}

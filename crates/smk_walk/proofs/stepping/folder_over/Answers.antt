@@ -1,7 +1,6 @@
-use Rattle.std.proofs.Common.{◌≡◌, ◌∙◌, ◌+◌, ◌∷◌, ◌++◌, List, Option, drop, option_map, sym, ap, None, Some}
+use Rattle.std.proofs.Common.{◌≡◌, ◌∙◌, ◌+◌, ◌∷◌, List, drop, option_map, sym, ap, None, Some}
 use Rattle.std.proofs.lemmas.List.{drop_more}
 use Rattle.smk_world.specs.declared.recipe.OutItem.{OutItem}
-use Rattle.smk_world.specs.Trees.{Path}
 use Rattle.smk_walk.specs.Stepping.{over_in, outs_in}
 use Rattle.smk_walk.proofs.Taken.{over_some, over_none}
 use Rattle.smk_walk.proofs.stepping.folder_over.Goals as goal

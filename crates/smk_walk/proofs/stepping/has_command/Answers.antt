@@ -1,7 +1,6 @@
-use Rattle.std.proofs.Common.{◌≡◌, ◌∙◌, Some, option_map, sym, ap}
-use Rattle.std.specs.Prelude.{Option, slice_get, is_some}
+use Rattle.std.proofs.Common.{◌∙◌, option_map, sym, ap}
+use Rattle.std.specs.Prelude.{is_some}
 use Rattle.smk_flow.specs.declared.rule.RulePart.{RulePart}
-use Rattle.smk_choose.specs.declared.choice.Making.{Making}
 use Rattle.smk_choose.proofs.Picked.{chosen_placed}
 use Rattle.smk_walk.proofs.Taken.{part_taken, none_taken}
 use Rattle.smk_walk.proofs.stepping.has_command.Goals as goal

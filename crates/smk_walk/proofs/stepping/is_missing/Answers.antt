@@ -1,5 +1,4 @@
-use Rattle.std.proofs.Common.{◌≡◌, ◌∙◌, false, List, [], map, Option, Some, None, option_map, refl, sym, ap, subst}
-use Rattle.smk_world.specs.declared.recipe.Recipe.{Recipe}
+use Rattle.std.proofs.Common.{◌≡◌, ◌∙◌, false, List, [], Option, Some, None, refl, sym, ap}
 use Rattle.smk_world.specs.declared.recipe.OutItem.{OutItem}
 use Rattle.smk_world.specs.Trees.{Path, folder_over}
 use Rattle.smk_flow.specs.declared.job.Job.{Job}

@@ -1,5 +1,4 @@
-use Rattle.std.proofs.Common.{◌≡◌, ◌∙◌, Some, IfErr, option_map, sym, ap, subst}
-use Rattle.smk_choose.specs.declared.choice.Chosen.{Chosen}
+use Rattle.std.proofs.Common.{◌∙◌, Some, option_map, sym, ap, subst}
 use Rattle.smk_choose.specs.Choose.{Choice, choose}
 use Rattle.smk_choose.specs.Told.{told_by}
 use Rattle.smk_chain.specs.Derive.{refused_at}

@@ -1,4 +1,4 @@
-use Rattle.std.proofs.Common.{◌≡◌, ◌∙◌, ◌+◌, ◌-◌, suc, List, Option, Result, map, take, arith, sym, ap, subst}
+use Rattle.std.proofs.Common.{◌≡◌, ◌∙◌, ◌+◌, ◌-◌, suc, List, map, take, arith, sym, subst}
 use Rattle.smk_choose.specs.declared.table.Choices.{Choices}
 use Rattle.smk_choose.specs.Told.{told_by, Covers}
 use Rattle.smk_wants.specs.declared.wanted.Want.{Want}

@@ -1,4 +1,4 @@
-use Rattle.std.proofs.Common.{◌≡◌, List, map, take}
+use Rattle.std.proofs.Common.{map, take}
 use Rattle.smk_choose.specs.Told.{told_by}
 use Rattle.smk_walk.specs.Stepping.{text_in}
 use Rattle.smk_walk.proofs.Visiting.{SoFar}

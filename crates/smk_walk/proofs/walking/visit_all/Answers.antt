@@ -1,4 +1,4 @@
-use Rattle.std.proofs.Common.{◌≡◌, ◌∙◌, ◌+◌, suc, eqb, false, List, Result, take, arith, refl, sym, ap, subst}
+use Rattle.std.proofs.Common.{◌≡◌, ◌∙◌, ◌+◌, suc, eqb, false, List, take, arith, refl, sym, subst}
 use Rattle.smk_world.specs.Trees.{Path}
 use Rattle.smk_choose.specs.Told.{told_by, CoversAll}
 use Rattle.smk_chain.specs.Derive.{height, refused}

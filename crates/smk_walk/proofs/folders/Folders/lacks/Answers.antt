@@ -1,4 +1,4 @@
-use Rattle.std.proofs.Common.{rules, ◌≡◌, ◌∙◌, Bool, Some, None, option_map, ap, sym}
+use Rattle.std.proofs.Common.{rules, ◌≡◌, ◌∙◌, Some, None, option_map, ap, sym}
 use Rattle.std.specs.BTreeMap.{get_by_text}
 use Rattle.std.specs.BTreeSet.{contains_text}
 use Rattle.smk_walk.proofs.Missing.{lacks_is}

@@ -1,7 +1,6 @@
-use Rattle.std.proofs.Common.{◌≡◌, ◌∙◌, ◌++◌, ◌∷◌, [], List, ℕ, length, cond, bytes_eq, Some, None, Result, Ok, Err, IfOk, subst, sym, ap, string_bytes}
+use Rattle.std.proofs.Common.{◌≡◌, ◌∙◌, ◌++◌, ◌∷◌, [], List, ℕ, length, cond, bytes_eq, Some, None, subst, sym, ap, string_bytes}
 use Rattle.std.specs.BTreeMap.{get_by_text}
 use Rattle.smk_flow.specs.declared.job.Job.{Job}
-use Rattle.smk_choose.specs.declared.choice.Making.{Making}
 use Rattle.smk_choose.specs.Told.{making}
 use Rattle.smk_walk.specs.Numbers.{key, IsSmall}
 use Rattle.std.specs.List.{filter_map}
