@@ -126,8 +126,10 @@ pub fn first_clash(
     store: &Store,
     jobs: &List<Job>,
 ) -> Result<Option<(PathText, PathText)>, OutOfMemory>
-    ensures { IfOk result (λ found. (image : Image) → IsStoreOf image store.now → ListsKnown image
+    ensures first { IfOk result (λ found. (image : Image) → IsStoreOf image store.now → ListsKnown image
         → option_map clash_of found ≡ first (clashes image [] (flat_map spots jobs.now))) }
+    // whatever the store is of
+    ensures by_store { IfOk result (λ found. option_map clash_of found ≡ first (clashes_in store.now [] (flat_map spots jobs.now))) }
 {
     let paths = store.paths();
     let found = clash_of_jobs(alloc, store, paths.as_slice(), jobs.as_slice())?;

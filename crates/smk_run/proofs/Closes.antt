@@ -1,5 +1,5 @@
 -- From the calls that close a job to how it was closed.
-use Rattle.std.proofs.Common.{◌≡◌, ◌<◌, ℕ, zero, suc, Bool, true, false, List, [], ◌∷◌, ◌++◌, length, refl, ap, sym, subst, ◌∙◌, inl, inr, Option, Some, Result, Ok, Err, is_ok, arith}
+use Rattle.std.proofs.Common.{◌≡◌, ◌<◌, ℕ, zero, suc, true, false, List, [], ◌∷◌, ◌++◌, refl, ap, sym, subst, inl, inr, Option, Result, Ok, Err, is_ok, arith}
 use Rattle.std.specs.Prelude.{Contains}
 use Rattle.smk_world.specs.declared.event.Call.{Call}
 use Rattle.smk_world.specs.declared.event.Call.TheVariants.{Waited}
@@ -8,11 +8,11 @@ use Rattle.smk_world.specs.declared.event.Ended.{Ended}
 use Rattle.smk_world.specs.declared.event.Event.{Event}
 use Rattle.smk_world.specs.declared.event.Failed.{Failed}
 use Rattle.smk_world.specs.declared.event.WorkFault.{WorkFault}
-use Rattle.smk_world.specs.declared.event.WorkFault.TheVariants.{Failed as FailedFault, OutOfMemory as MemoryFault}
-use Rattle.smk_world.specs.World.{World, after, run}
+use Rattle.smk_world.specs.declared.event.WorkFault.TheVariants.{Failed as FailedFault}
+use Rattle.smk_world.specs.World.{World, run}
 use Rattle.smk_world.specs.Calls.{Happened, Lets}
 use Rattle.smk_world.specs.Runs.{Did}
-use Rattle.smk_world.specs.Requests.{HasDone, IsCutShort, Carries}
+use Rattle.smk_world.specs.Requests.{Carries}
 use Rattle.smk_world.specs.Trees.{Act}
 use Rattle.smk_world.proofs.Runs.{did_both}
 use Rattle.smk_store.proofs.Carried.{did_as}

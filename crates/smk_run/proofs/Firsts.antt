@@ -1,5 +1,5 @@
 -- The first of lists that follow one another, and the names of jobs.
-use Rattle.std.proofs.Common.{◌≡◌, ℕ, List, [], ◌∷◌, ◌++◌, refl, ap, ◌∙◌, Option, Some, None}
+use Rattle.std.proofs.Common.{◌≡◌, List, [], ◌∷◌, ◌++◌, refl, ap, ◌∙◌, Some, None}
 use Rattle.smk_world.specs.World.{out_paths}
 use Rattle.smk_world.specs.Trees.{Path, first}
 use Rattle.smk_pattern.specs.Reading.{or_empty}

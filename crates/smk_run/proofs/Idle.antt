@@ -1,5 +1,5 @@
 -- Where nothing runs a job may begin and be closed.
-use Rattle.std.proofs.Common.{◌≡◌, ℕ, Bool, true, false, List, [], ◌∷◌, refl, sym, subst, All}
+use Rattle.std.proofs.Common.{◌≡◌, true, false, List, [], ◌∷◌, refl, sym, subst, All}
 use Rattle.std.proofs.lemmas.List.Elements.{All-nil, All-cons}
 use Rattle.smk_base.specs.Path.{is_path}
 use Rattle.smk_world.specs.declared.recipe.Recipe.{Recipe}
@@ -7,7 +7,7 @@ use Rattle.smk_world.specs.World.{World, in_paths, out_paths, owned_paths, is_wi
 use Rattle.smk_world.specs.Calls.{any_overlap, are_apart, owned_now, used_now}
 use Rattle.smk_world.specs.Trees.{Path, Each}
 use Rattle.smk_store.proofs.Carried.{no_children}
-use Rattle.smk_job.specs.Jobs.{LetsBegin, LetsClose, ReadUsers}
+use Rattle.smk_job.specs.Jobs.{LetsBegin, LetsClose}
 
 none_overlap : (ps : List Path) → any_overlap ps [] ≡ false
 none_overlap [] = refl

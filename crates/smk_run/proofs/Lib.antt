@@ -2,6 +2,10 @@ pub mod Idle
 pub mod Closes
 pub mod Texts
 pub mod Turning
+pub mod Stamping
 pub mod Running
+pub mod Taking
+pub mod Valid
 pub mod Firsts
 pub mod Rising
+pub mod Makers

@@ -1,5 +1,5 @@
 -- Counts that rise.
-use Rattle.std.proofs.Common.{◌≡◌, ◌≤◌, ◌<◌, ℕ, inl, inr, arith}
+use Rattle.std.proofs.Common.{◌≤◌, ℕ, inl, inr, arith}
 use Rattle.smk_world.specs.Calls.{Rose, HasCause}
 
 pub rose_earlier : (a b c : ℕ) → a ≤ b → Rose b c → Rose a c

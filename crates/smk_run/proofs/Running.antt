@@ -1,9 +1,9 @@
 -- Turns, one after another.
-use Rattle.std.proofs.Common.{◌≡◌, ◌⊎◌, ◌<◌, ℕ, suc, Bool, true, false, List, [], ◌∷◌, ◌++◌, ◌+◌, length, drop, refl, ap, sym, subst, ◌∙◌, inl, inr, Option, Some, None, Result, Ok, Err, append_assoc, arith}
+use Rattle.std.proofs.Common.{◌≡◌, ◌⊎◌, ◌<◌, ◌≤◌, ℕ, suc, Bool, true, false, List, [], ◌∷◌, ◌++◌, ◌+◌, length, drop, refl, ap, sym, subst, ◌∙◌, inl, inr, Option, Some, None, Result, Ok, Err, append_assoc, arith}
 use Rattle.std.proofs.lemmas.List.{append-nil}
 use Rattle.std.proofs.lemmas.List.Sums.{sum_by-cons}
-use Rattle.std.specs.Prelude.{IsSome, cond}
-use Rattle.std.specs.List.{flat_map, count_by}
+use Rattle.std.specs.Prelude.{cond}
+use Rattle.std.specs.List.{count_by}
 use Rattle.smk_world.specs.declared.event.Event.{Event}
 use Rattle.smk_world.specs.World.{World, run}
 use Rattle.smk_world.specs.Runs.{Did}
@@ -14,30 +14,26 @@ use Rattle.smk_flow.specs.Flows.{Flow}
 use Rattle.smk_report.specs.Lines.{Text, Named}
 use Rattle.smk_report.specs.declared.fault.Fault.{Fault}
 use Rattle.smk_report.specs.declared.fault.Fault.TheVariants as fault
-use Rattle.smk_job.specs.Jobs.{too_long}
 use Rattle.smk_run.specs.declared.ending.Ending.{Ending}
 use Rattle.smk_run.specs.declared.ending.Ending.TheVariants.{Good, Status, NoOutput, WrongKind, BadMember}
-use Rattle.smk_run.specs.declared.stop.Stop.{Stop}
-use Rattle.smk_run.specs.declared.stop.Stop.TheVariants.{TooLong, Gone, Device, Output, OutOfMemory}
 use Rattle.smk_run.specs.declared.tally.Tally.{Tally}
 use Rattle.smk_run.specs.Stamps.{Serials}
 use Rattle.smk_run.specs.Turns.{Course, Unbegun, Unstarted, Unclosed, Closed, Turn, IsTurn, AreTurns, is_done, is_closed, is_good}
-use Rattle.smk_run.specs.Reports.{named, course_text, report_of, IsFront, IsReport, HasWritten, IsAnswer, failure, stop_fault}
-use Rattle.smk_run.specs.Runs.{IsRunnable, AreRunnableFrom, command_of, or_later, job_fault, command_fault, serial_at, AreInOrder, course_failure, first_failure, IsTally, IsSerials, IsStopped, IsOutcome, is_whole, is_output, is_device, HasRun, IsTurnAnswer, HasHadTurn, HasRunSoFar}
+use Rattle.smk_run.specs.Reports.{named, course_text, report_of, IsReport, HasWritten, failure}
+use Rattle.smk_run.specs.Runs.{command_of, or_later, command_fault, serial_at, AreInOrder, course_failure, first_failure, IsOutcome, is_whole, is_output, HasRun, IsTurnAnswer, HasHadTurn, HasRunSoFar, IsWithoutSerial, Fits}
 
 -- ## Events
 
 turns_next : (made : Serials) (ts : List Turn) (t : Turn) (w : World) (es fs : List Event) → AreTurns made ts w es → IsTurn made t (run w es) fs → AreTurns made (ts ++ t ∷ []) w (es ++ fs)
 turns_next made [] t w es fs h k =
     (fs, [], ap (λ l. l ++ fs) h ∙ sym (append-nil fs), subst (λ l. IsTurn made t (run w l) fs) h k, refl)
-turns_next made (u ∷ ts) t w es fs (first, more, is, one, rest) k =
-    (
-      first,
-      more ++ fs,
-      ap (λ l. l ++ fs) is ∙ append_assoc first more fs,
-      one,
-      turns_next made ts t (run w first) more fs rest (subst (λ v. IsTurn made t v fs) (ap (run w) is ∙ run_append w first more) k),
-    )
+turns_next made (u ∷ ts) t w es fs (first, more, is, one, rest) k = (
+  first,
+  more ++ fs,
+  ap (λ l. l ++ fs) is ∙ append_assoc first more fs,
+  one,
+  turns_next made ts t (run w first) more fs rest (subst (λ v. IsTurn made t v fs) (ap (run w) is ∙ run_append w first more) k),
+)
 
 did_turn : (act : Act) (made : Serials) (ts : List Turn) (t : Turn) (a b c : Option World) → Did act a b (AreTurns made ts) → Did act b c (IsTurn made t) → Did act a c (AreTurns made (ts ++ t ∷ []))
 did_turn act made ts t a b c h k =
@@ -62,8 +58,7 @@ written_next flow ts t whole well a b c h k = record {
   told = λ now e.
       let m = k.told now e in
       let n = h.told m.0 m.1 in
-      let text = m.2.0 in
-      (
+      let text = m.2.0 in (
         n.0,
         n.1,
         (
@@ -115,6 +110,7 @@ so_far_start act flow cores jobs top made a running put none = record {
   counted = refl;
   done = tt;
   in_order = tt;
+  fits = tt;
   did = did_nothing act (AreTurns made []) a (λ w. refl);
   text = record { told = λ now e. (now, e, ([], refl, sym (append-nil now))); stays = λ e some. some };
   none_runs = none;
@@ -148,6 +144,7 @@ so_far_next act flow cores jobs rest top made count serial job command result a 
       counted = length_next h.turns k.turn ∙ omega (arith, h.counted);
       done = each_next (λ (u : Turn). is_done u.course ≡ true) h.turns k.turn h.done (done_is k.turn.course (named flow k.turn.job) answer.1.0 answer.1.1 (sym answer.1.2));
       in_order = next_in_order act flow cores jobs rest top made count serial job command result a b c rose ra rb pa pb pc n h k;
+      fits = each_next Fits h.turns k.turn h.fits k.fits;
       did = did_turn act made h.turns k.turn a b c h.did k.did;
       text = written_well flow h.turns k.turn result pa pb pc is h.text k.text;
       none_runs = k.none_runs answer.0;
@@ -257,6 +254,7 @@ run_done act flow cores jobs top made count tally a b rose running pa pb good al
     },
   );
   refused = λ f e. absurd (none_some (command_fault flow cores jobs) f good e);
+  fits = h.fits;
   did = h.did;
   text = record { told = h.text.told; stays = λ e some. h.text.stays tt some };
   failed_rose = λ e. cc;
@@ -293,6 +291,7 @@ run_failed act flow cores jobs rest top made count serial job command result wha
         },
       );
       refused = λ f e. absurd (none_some (command_fault flow cores jobs) f good e);
+      fits = each_next Fits h.turns k.turn h.fits k.fits;
       did = did_turn act made h.turns k.turn a b c h.did k.did;
       text = written_next flow h.turns k.turn true (false ≡ false) pa pb pc h.text text;
       failed_rose = λ e. rises (k.failed_rose e);
@@ -312,6 +311,7 @@ run_stopped act flow cores jobs rest top made count serial job command result f 
   in_order = next_in_order act flow cores jobs rest top made count serial job command result a b c later ra rb pa pb pc n h k;
   answer = by (subst (λ r. IsTurnAnswer flow k.turn k.failed r) is k.answer);
   refused = λ g e. absurd (none_some (command_fault flow cores jobs) g good e);
+  fits = each_next Fits h.turns k.turn h.fits k.fits;
   did = did_turn act made h.turns k.turn a b c h.did k.did;
   text = written_next flow h.turns k.turn (is_whole {T = Tally} (Err f)) (is_output {T = Tally} (Err f) ≡ false) pa pb pc h.text
       (subst (λ x. HasWritten pb pc (is_output x ≡ false) (IsReport (is_whole x) (course_text (named flow k.turn.job) k.turn.course))) is k.text);
@@ -322,7 +322,7 @@ run_stopped act flow cores jobs rest top made count serial job command result f 
   where
     by : IsTurnAnswer flow k.turn k.failed (Err f) → IsOutcome flow cores jobs top (h.turns ++ k.turn ∷ []) k.failed (Err f)
     by (inl x) = inl x
-    by (inr (stop, e, answer)) = inr (inr (inr (record { before = h.turns; last = k.turn; stop = stop; turns_are = refl; is = e; answer = answer })))
+    by (inr (stop, e, answer, looked)) = inr (inr (inr (record { before = h.turns; last = k.turn; stop = stop; turns_are = refl; is = e; answer = answer; looked = looked })))
 
 -- there is no serial
 pub run_serials : (act : Act) (flow : Flow) (cores : ℕ) (jobs : List Job) (top : Option ℕ) (made : Serials) (count : ℕ) (a b : Option World) (rose : Type 0) (running : List ℕ) (pa pb : Option Text)
@@ -335,6 +335,7 @@ run_serials act flow cores jobs top made count a b rose running pa pb good next 
   in_order = h.in_order;
   answer = inr (inr (inl (refl, record { is = refl; next = subst (λ k. k < length jobs) (sym h.counted) next; none = ap (serial_at top) h.counted ∙ none; done = h.done })));
   refused = λ f e. absurd (none_some (command_fault flow cores jobs) f good e);
+  fits = h.fits;
   did = h.did;
   text = record { told = h.text.told; stays = λ e some. h.text.stays tt some };
   failed_rose = λ e. cc;
@@ -354,6 +355,7 @@ run_not act flow cores jobs top made f a rose running put why none = record {
   in_order = tt;
   answer = by why;
   refused = λ g e. refused why g e;
+  fits = tt;
   did = did_nothing act (AreTurns made []) a (λ w. refl);
   text = empty (is_whole {T = Tally} (Err f));
   failed_rose = λ e. cc;
@@ -363,12 +365,48 @@ run_not act flow cores jobs top made f a rose running put why none = record {
   where
     same_fault : (g : Fault) (x : Option Fault) → x ≡ Some f → x ≡ Some g → f ≡ g
     same_fault g x h k = cc
+
     by : (f ≡ fault.OutOfMemory) ⊎ (command_fault flow cores jobs ≡ Some f) → IsOutcome flow cores jobs top [] false (Err f)
     by (inl e) = inl (refl, e)
     by (inr e) = inr (inl (refl, refl, e))
+
     refused : (f ≡ fault.OutOfMemory) ⊎ (command_fault flow cores jobs ≡ Some f) → (g : Fault) → command_fault flow cores jobs ≡ Some g → (as_fault f ≡ as_fault g) ⊎ (as_fault f ≡ as_fault fault.OutOfMemory)
     refused (inl e) g h = inr (ap as_fault e)
     refused (inr e) g h = inl (ap as_fault (same_fault g (command_fault flow cores jobs) e h))
+
     empty : (whole : Bool) → HasWritten put put (is_output {T = Tally} (Err f) ≡ false) (IsReport whole [])
     empty true = record { told = λ now e. (now, e, ([], refl, sym (append-nil now))); stays = λ e some. some }
     empty false = record { told = λ now e. (now, e, ([], ([], refl), sym (append-nil now))); stays = λ e some. some }
+
+-- there are no more turns than jobs
+few_turns : (cores : ℕ) (top : Option ℕ) (number : ℕ) (jobs : List Job) (ts : List Turn) → AreInOrder cores top number jobs ts → length ts ≤ length jobs
+few_turns cores top number jobs [] h = omega arith
+few_turns cores top number [] (t ∷ ts) h = absurd h
+few_turns cores top number (job ∷ jobs) (t ∷ ts) h =
+    let more = few_turns cores top (suc number) jobs ts h.4 in
+    omega (arith, more)
+
+pub all_turns : (act : Act) (flow : Flow) (cores : ℕ) (jobs : List Job) (top : Option ℕ) (made : Serials) (count : ℕ) (a b : Option World) (running : List ℕ) (pa pb : Option Text)
+    → length jobs ≤ count → HasRunSoFar act flow cores jobs top made count a b running pa pb → count ≡ length jobs
+all_turns act flow cores jobs top made count a b running pa pb le h =
+    let few = few_turns cores top 0 jobs h.turns h.in_order in
+    omega (arith, le, few, h.counted)
+
+-- there is no serial, and so no job has its turn
+pub run_serialless : (act : Act) (flow : Flow) (cores : ℕ) (jobs : List Job) (made : Serials) (r : Result Tally Fault) (a : Option World) (rose : Type 0) (running : List ℕ) (put : Option Text)
+    → command_fault flow cores jobs ≡ None → running ≡ [] → IsWithoutSerial jobs r → HasRun act flow cores jobs None made r a a rose running put put
+run_serialless act flow cores [] made r a rose running put good none is =
+    subst (λ x. HasRun act flow cores [] None made x a a rose running put put) (sym is)
+    (run_done act flow cores [] None made 0 (record { started = 0; done = 0; failed = 0; first = None }) a a rose running put put good refl
+    (record { started_is = refl; done_is = refl; failed_is = refl; first_is = refl }) (so_far_start act flow cores [] None made a running put none))
+run_serialless act flow cores (job ∷ jobs) made r a rose running put good none is =
+    subst (λ x. HasRun act flow cores (job ∷ jobs) None made x a a rose running put put) (sym is)
+    (run_serials act flow cores (job ∷ jobs) None made 0 a a rose running put put good (omega arith) refl (so_far_start act flow cores (job ∷ jobs) None made a running put none))
+
+-- the same jobs and serials
+pub run_as : (act : Act) (flow : Flow) (cores : ℕ) (js jobs : List Job) (t top : Option ℕ) (m made : Serials) (r : Result Tally Fault) (a b : Option World) (rose : Type 0) (running : List ℕ) (pa pb : Option Text)
+    → js ≡ jobs → t ≡ top → m ≡ made → HasRun act flow cores js t m r a b rose running pa pb → HasRun act flow cores jobs top made r a b rose running pa pb
+run_as act flow cores js jobs t top m made r a b rose running pa pb e f g h =
+    subst (λ x. HasRun act flow cores jobs top x r a b rose running pa pb) g
+    (subst (λ x. HasRun act flow cores jobs x m r a b rose running pa pb) f
+    (subst (λ x. HasRun act flow cores x t m r a b rose running pa pb) e h))

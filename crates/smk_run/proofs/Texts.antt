@@ -1,12 +1,12 @@
 -- The lines of one job.
-use Rattle.std.proofs.Common.{◌≡◌, ◌≤◌, ℕ, Bool, true, false, List, [], ◌∷◌, ◌++◌, take, drop, length, refl, ap, sym, subst, ◌∙◌, Option, Some, None, Result, Ok, Err, arith, append_assoc}
+use Rattle.std.proofs.Common.{◌≡◌, ℕ, Bool, true, false, [], ◌++◌, take, drop, length, refl, ap, sym, subst, ◌∙◌, Option, Result, Ok, Err, arith, append_assoc}
 use Rattle.std.specs.Prelude.{IsSome}
 use Rattle.std.proofs.lemmas.List.{append-nil, take_all, take-append-drop}
 use Rattle.smk_world.specs.Calls.{HasPut}
 use Rattle.smk_world.specs.declared.event.WorkFault.{WorkFault}
 use Rattle.smk_report.specs.Lines.{Text, Named, start_line}
 use Rattle.smk_run.specs.declared.ending.Ending.{Ending}
-use Rattle.smk_run.specs.Turns.{Course, Unbegun, Unstarted, Unclosed, Closed}
+use Rattle.smk_run.specs.Turns.{Course, Unclosed, Closed}
 use Rattle.smk_run.specs.Reports.{end_line, course_text, IsFront, IsReport, HasWritten}
 
 -- how far the turn came of a job whose command was started

@@ -1,12 +1,11 @@
 -- From the calls and the lines of one job to its turn.
-use Rattle.std.proofs.Common.{◌≡◌, ◌⊎◌, ℕ, Bool, true, false, List, [], ◌∷◌, ◌++◌, refl, ap, sym, subst, ◌∙◌, inl, inr, Option, Some, None, Result, Ok, Err}
-use Rattle.std.specs.Prelude.{IsSome, IsOk, IsErr}
+use Rattle.std.proofs.Common.{◌≡◌, ◌⊎◌, ℕ, Bool, true, false, List, [], ◌++◌, refl, ap, sym, subst, ◌∙◌, inl, inr, Option, Some, None, Result, Ok, Err}
+use Rattle.std.specs.Prelude.{IsSome}
 use Rattle.smk_world.specs.declared.event.Event.{Event}
 use Rattle.smk_world.specs.declared.event.WorkFault.{WorkFault}
 use Rattle.smk_world.specs.declared.event.WorkFault.TheVariants.{Failed as FailedFault, OutOfMemory as MemoryFault}
 use Rattle.smk_world.specs.World.{World, run}
 use Rattle.smk_world.specs.Runs.{Did}
-use Rattle.smk_world.specs.Requests.{IsCutShort}
 use Rattle.smk_world.specs.Trees.{Act}
 use Rattle.smk_world.proofs.Runs.{did_both, did_nothing}
 use Rattle.smk_store.proofs.Carried.{did_as}
@@ -14,13 +13,13 @@ use Rattle.smk_record.specs.declared.record.Stamp.{Stamp}
 use Rattle.smk_flow.specs.declared.job.Job.{Job}
 use Rattle.smk_job.specs.declared.fault.BeginFault.{BeginFault}
 use Rattle.smk_job.specs.declared.fault.BeginFault.TheVariants as begin
-use Rattle.smk_job.specs.Jobs.{Underway, underway, HasBegun, MayAnswer, begin_requests}
+use Rattle.smk_job.specs.Jobs.{Underway, underway, HasBegun, MayAnswer}
 use Rattle.smk_report.specs.Lines.{Text, Named}
 use Rattle.smk_run.specs.declared.ending.Ending.{Ending}
 use Rattle.smk_run.specs.declared.stop.Stop.{Stop}
 use Rattle.smk_run.specs.declared.stop.Stop.TheVariants.{TooLong, Gone, Device, Output, OutOfMemory}
 use Rattle.smk_run.specs.Closings.{HasClosed, device_failed}
-use Rattle.smk_run.specs.Turns.{Course, Unbegun, Unstarted, Unclosed, Closed, Turn, HasBegunAnd, HasGoneOn, HasGone, as_gone, stop_of, left_stop, is_started, is_closed}
+use Rattle.smk_run.specs.Turns.{Course, Unbegun, Unstarted, Unclosed, Closed, HasGoneOn, as_gone, stop_of, left_stop}
 use Rattle.smk_run.specs.Reports.{course_text, IsReport, HasWritten, HasTurned, IsAnswer, is_whole, is_output}
 use Rattle.smk_run.proofs.Texts.{course_of, no_text}
 
@@ -43,6 +42,7 @@ attended act j name closed k result a b rose running put_old put_new same answer
   answer = answer;
   did = gone_on act j k a b (subst (λ x. Did act a b (λ w es. HasClosed j x w es)) same did);
   text = text;
+  fits = λ e. refl;
   failed_rose = λ h. failed_rose (ap device_failed same ∙ h);
   none_runs = λ h. none_runs (ap device_failed same ∙ h);
   stays = λ h. stays (ap device_failed same ∙ h);
@@ -105,11 +105,11 @@ begun_and job command made stamps going (Closed ending) w es fs is begun gone = 
 -- it began, and then its child was attended to
 pub turned : (act : Act) (job : Job) (command : Text) (made : ℕ) (stamps : List Stamp) (name called : Named) (long : Option ℕ) (going : Underway) (r : Result Underway BeginFault)
     (result : Result Ending Stop) (a b c : Option World) (rose later : Type 0) (running : List ℕ) (put_old put_new : Option Text)
-    → called ≡ name → r ≡ Ok going → going ≡ underway job.recipe job.logs stamps made going.number
+    → called ≡ name → r ≡ Ok going → MayAnswer long r → going ≡ underway job.recipe job.logs stamps made going.number
     → Did act a b (λ w es. HasBegun job.recipe job.logs command r es) → (IsSome a → IsSome b) → (later → rose)
     → HasTurned act (HasGoneOn going) called None result b c later running put_old put_new
     → HasTurned act (as_gone job command made stamps) name long result a c rose running put_old put_new
-turned act job command made stamps name called long going r result a b c rose later running put_old put_new same ok is begun stays rises h = record {
+turned act job command made stamps name called long going r result a b c rose later running put_old put_new same ok may is begun stays rises h = record {
   course = h.course;
   failed = h.failed;
   answer = longer long h.course h.failed result h.answer;
@@ -117,6 +117,7 @@ turned act job command made stamps name called long going r result a b c rose la
       (subst (λ x. Did act a b (λ w es. HasBegun job.recipe job.logs command x es)) ok begun) h.did
       (λ w es fs follows f follows2 g. begun_and job command made stamps going h.course w es fs is f g);
   text = subst (λ n. HasWritten put_old put_new (is_output result ≡ false) (IsReport (is_whole result) (course_text n h.course))) same h.text;
+  fits = λ e. subst (λ x. MayAnswer long x) ok may;
   failed_rose = λ e. rises (h.failed_rose e);
   none_runs = h.none_runs;
   stays = λ e some. h.stays e (stays some);
@@ -131,6 +132,7 @@ unturned act job command made stamps name long stop a b rose running put same an
   answer = answer;
   did = subst (λ x. Did act a x (as_gone job command made stamps Unbegun)) (sym same) (did_nothing act (as_gone job command made stamps Unbegun) a (λ w. refl));
   text = no_text (is_whole {T = Ending} (Err stop)) put (is_output {T = Ending} (Err stop) ≡ false);
+  fits = λ e. cc;
   failed_rose = λ e. cc;
   none_runs = λ e. none;
   stays = λ e some. subst IsSome (sym same) some;
@@ -152,6 +154,7 @@ not_turned act job command made stamps name long r begin.Device a b rose running
   answer = (refl, refl);
   did = subst (λ x. Did act a b (λ w es. HasBegun job.recipe job.logs command x es)) is begun;
   text = no_text true put (false ≡ false);
+  fits = λ e. subst (λ x. MayAnswer long x) is may;
   failed_rose = λ e. rises is;
   none_runs = λ e. cc;
   stays = λ e. cc;

@@ -1,10 +1,10 @@
 -- What is reported of a turn, and what its end answers.
-use Rattle.std.specs.Prelude.{◌≡◌, ◌⊎◌, ℕ, Bool, true, false, List, [], ◌∷◌, ◌++◌, Option, Some, None, option_map, slice_get, Result, Ok, Err, IsSome}
+use Rattle.std.specs.Prelude.{◌≡◌, ℕ, Bool, true, false, List, [], ◌++◌, Option, Some, None, option_map, slice_get, Result, Ok, Err, IsSome}
 use Rattle.std.specs.List.{flat_map}
 use Rattle.smk_world.specs.World.{World, out_paths}
 use Rattle.smk_world.specs.declared.event.Event.{Event}
 use Rattle.smk_world.specs.Runs.{Did}
-use Rattle.smk_world.specs.Trees.{Path, Act, first}
+use Rattle.smk_world.specs.Trees.{Act, first}
 use Rattle.smk_pattern.specs.Reading.{or_empty}
 use Rattle.smk_flow.specs.declared.job.Job.{Job}
 use Rattle.smk_flow.specs.declared.rule.RulePart.{RulePart}
@@ -17,7 +17,7 @@ use Rattle.smk_run.specs.declared.ending.Ending.{Ending}
 use Rattle.smk_run.specs.declared.ending.Ending.TheVariants.{Good, Status, NoOutput, WrongKind, BadMember}
 use Rattle.smk_run.specs.declared.stop.Stop.{Stop}
 use Rattle.smk_run.specs.declared.stop.Stop.TheVariants.{TooLong, Gone, Device, Output, OutOfMemory}
-use Rattle.smk_run.specs.Turns.{Course, Unbegun, Unstarted, Unclosed, Closed, Turn, is_closed, is_started}
+use Rattle.smk_run.specs.Turns.{Course, Unbegun, Unstarted, Unclosed, Closed, Turn, is_closed, is_begun, is_started}
 
 -- ## Names
 
@@ -141,6 +141,8 @@ pub record HasTurned (act : Act) (P : Course → World → List Event → Type 0
   pub answer : IsAnswer long course failed result
   pub did : Did act old new (P course)
   pub text : HasWritten put_old put_new (is_output result ≡ false) (IsReport (is_whole result) (course_text name course))
+  -- where anything was done but looks, nothing was too long
+  pub fits : is_begun course ≡ true → long ≡ None
   pub failed_rose : failed ≡ true → rose
   pub none_runs : failed ≡ false → running ≡ []
   pub stays : failed ≡ false → IsSome old → IsSome new

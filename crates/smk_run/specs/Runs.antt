@@ -1,5 +1,5 @@
 -- A run of jobs, one after another, in plan order.
-use Rattle.std.specs.Prelude.{◌≡◌, ◌⊎◌, ◌<◌, ℕ, suc, Bool, true, false, List, [], ◌∷◌, ◌++◌, ◌+◌, length, min, nat_le, nat_lt, bytes_eq, if◌then◌else◌, map, Option, Some, None, option_map, Result, Ok, Err, IsSome, All}
+use Rattle.std.specs.Prelude.{◌≡◌, ◌⊎◌, ◌<◌, ℕ, suc, Bool, true, false, List, [], ◌∷◌, ◌++◌, ◌+◌, length, min, nat_lt, bytes_eq, if◌then◌else◌, map, Option, Some, None, option_map, Result, Ok, Err, IsSome}
 use Rattle.std.specs.List.{find, count_by}
 use Rattle.std.specs.Option.{option_and_then}
 use Rattle.smk_base.specs.declared.tree.Pair.{Pair}
@@ -14,15 +14,18 @@ use Rattle.smk_chain.specs.declared.jobs.Maker.{Maker}
 use Rattle.smk_chain.specs.declared.jobs.Jobs.{Jobs}
 use Rattle.smk_job.specs.Jobs.{too_long}
 use Rattle.smk_format.specs.Commands as format
+use Rattle.smk_format.specs.declared.fault.FormatFault.{FormatFault}
+use Rattle.smk_format.specs.declared.fault.FormatFault.TheVariants as formatting
 use Rattle.smk_report.specs.Lines.{Text, Named}
 use Rattle.smk_report.specs.declared.fault.Fault.{Fault}
 use Rattle.smk_report.specs.declared.fault.Fault.TheVariants as fault
 use Rattle.smk_record.specs.declared.record.Stamp.{Stamp}
 use Rattle.smk_run.specs.declared.ending.Ending.{Ending}
 use Rattle.smk_run.specs.declared.stop.Stop.{Stop}
+use Rattle.smk_run.specs.declared.stop.Stop.TheVariants as stopping
 use Rattle.smk_run.specs.declared.tally.Tally.{Tally}
 use Rattle.smk_run.specs.Stamps.{Serials}
-use Rattle.smk_run.specs.Turns.{Course, Closed, Turn, IsTurn, is_done, is_closed, AreTurns}
+use Rattle.smk_run.specs.Turns.{Course, Closed, Turn, found, IsTurn, is_begun, is_done, is_closed, AreTurns}
 use Rattle.smk_run.specs.Reports.{rule_name, named, course_text, report_of, HasWritten, IsReport, HasTurned, IsAnswer, failure, stop_fault, is_refusal}
 
 -- ## Jobs that can be run
@@ -70,6 +73,12 @@ fault_at rule None None = None
 abbrev pub or_later : Option Fault → Option Fault → Option Fault
 or_later (Some f) later = Some f
 or_later None later = later
+
+-- the fault of a command of this rule, or want of memory for its texts
+abbrev pub IsFormatFault : Text → FormatFault → Fault → Type 0
+IsFormatFault rule (formatting.UnknownField word) f = (f ≡ fault.UnknownField rule word) ⊎ (f ≡ fault.OutOfMemory)
+IsFormatFault rule (formatting.TooLong bytes) f = (f ≡ fault.TooLong rule bytes) ⊎ (f ≡ fault.OutOfMemory)
+IsFormatFault rule formatting.OutOfMemory f = f ≡ fault.OutOfMemory
 
 -- the fault of the job's command
 abbrev pub job_fault : Flow → ℕ → Job → Option Fault
@@ -128,6 +137,16 @@ pub record IsSerials (jobs : List Job) (top : Option ℕ) (turns : List Turn) (f
   pub none : serial_at top (length turns) ≡ None
   pub done : Each (λ (t : Turn). is_done t.course ≡ true) turns
 
+-- An input is gone exactly as the looks say it; where a record is too long, there are stamps.
+abbrev pub IsLooked : Result (List Stamp) Stop → Stop → Type 0
+IsLooked looked (stopping.TooLong bytes) = (stamps : List Stamp) × (looked ≡ Ok stamps)
+IsLooked looked (stopping.Gone p) = looked ≡ Err (stopping.Gone p)
+IsLooked looked stop = Unit {0}
+
+-- of a turn in which anything was done but looks, no record without members is too long
+abbrev pub Fits : Turn → Type 0
+Fits t = is_begun t.course ≡ true → too_long t.made t.job.recipe (found t.looked) ≡ None
+
 -- The last turn ended with this fault.
 pub record IsStopped (flow : Flow) (turns : List Turn) (failed : Bool) (f : Fault) : Type 0 where
   pub before : List Turn
@@ -135,7 +154,8 @@ pub record IsStopped (flow : Flow) (turns : List Turn) (failed : Bool) (f : Faul
   pub stop : Stop
   pub turns_are : turns ≡ before ++ last ∷ []
   pub is : f ≡ stop_fault (named flow last.job) stop
-  pub answer : IsAnswer (too_long last.made last.job.recipe last.stamps) last.course failed (Err stop)
+  pub answer : IsAnswer (too_long last.made last.job.recipe (found last.looked)) last.course failed (Err stop)
+  pub looked : IsLooked last.looked stop
 
 -- What turns may answer, where a call of the device failed or none.
 abbrev pub IsOutcome : Flow → ℕ → List Job → Option ℕ → List Turn → Bool → Result Tally Fault → Type 0
@@ -182,6 +202,7 @@ pub record HasRun (act : Act) (flow : Flow) (cores : ℕ) (jobs : List Job) (top
   pub answer : IsOutcome flow cores jobs top turns failed result
   -- the fault of a command comes before all, but for want of memory
   pub refused : (f : Fault) → command_fault flow cores jobs ≡ Some f → (result ≡ Err f) ⊎ (result ≡ Err fault.OutOfMemory)
+  pub fits : Each Fits turns
   pub did : Did act old new (AreTurns made turns)
   pub text : HasWritten put_old put_new (is_output result ≡ false) (IsReport (is_whole result) (report_of flow turns))
   pub failed_rose : failed ≡ true → rose
@@ -191,20 +212,26 @@ pub record HasRun (act : Act) (flow : Flow) (cores : ℕ) (jobs : List Job) (top
 -- ## Steps
 
 -- the turn of these parts
-abbrev pub turn_of : Job → Text → ℕ → List Stamp → Course → Turn
-turn_of job command made stamps course = record { job = job; command = command; made = made; stamps = stamps; course = course }
+abbrev pub turn_of : Job → Text → ℕ → Result (List Stamp) Stop → Course → Turn
+turn_of job command made looked course = record { job = job; command = command; made = made; looked = looked; course = course }
 
--- The turn of a job was taken; these are the stamps of its inputs, where they were found.
+-- the looks go with this answer
+abbrev pub IsLookedBy : Result (List Stamp) Stop → Result Ending Stop → Type 0
+IsLookedBy looked (Ok ending) = Unit {0}
+IsLookedBy looked (Err stop) = IsLooked looked stop
+
+-- The turn of a job was taken; this is what the looks at its inputs gave.
 pub record HasTaken (act : Act) (flow : Flow) (made : Serials) (job : Job) (command : Text) (serial : ℕ) (result : Result Ending Stop) (old new : Option World) (rose : Type 0) (running : List ℕ) (put_old put_new : Option Text) : Type 0 where
-  pub stamps : List Stamp
-  pub turned : HasTurned act (λ course. IsTurn made (turn_of job command serial stamps course)) (named flow job) (too_long serial job.recipe stamps) result old new rose running put_old put_new
+  pub looked : Result (List Stamp) Stop
+  pub why : IsLookedBy looked result
+  pub turned : HasTurned act (λ course. IsTurn made (turn_of job command serial looked course)) (named flow job) (too_long serial job.recipe (found looked)) result old new rose running put_old put_new
 
 -- What a turn answers: nothing of a job that is done, the fault of one that failed, or why the run stops.
 abbrev pub IsTurnAnswer : Flow → Turn → Bool → Result (Option Fault) Fault → Type 0
 IsTurnAnswer flow t failed (Ok first) = (failed ≡ false) × ((ending : Ending) × (t.course ≡ Closed ending) × (first ≡ failure (named flow t.job) ending))
 IsTurnAnswer flow t failed (Err f) =
     ((failed ≡ false) × (f ≡ fault.OutOfMemory))
-    ⊎ ((stop : Stop) × (f ≡ stop_fault (named flow t.job) stop) × IsAnswer (too_long t.made t.job.recipe t.stamps) t.course failed (Err stop))
+    ⊎ ((stop : Stop) × (f ≡ stop_fault (named flow t.job) stop) × IsAnswer (too_long t.made t.job.recipe (found t.looked)) t.course failed (Err stop) × IsLooked t.looked stop)
 
 -- What the turn of a job did.
 pub record HasHadTurn (act : Act) (flow : Flow) (made : Serials) (job : Job) (command : Text) (serial : ℕ) (result : Result (Option Fault) Fault) (old new : Option World) (rose : Type 0) (running : List ℕ) (put_old put_new : Option Text) : Type 0 where
@@ -214,6 +241,7 @@ pub record HasHadTurn (act : Act) (flow : Flow) (made : Serials) (job : Job) (co
   pub command_is : turn.command ≡ command
   pub made_is : turn.made ≡ serial
   pub answer : IsTurnAnswer flow turn failed result
+  pub fits : Fits turn
   pub did : Did act old new (IsTurn made turn)
   pub text : HasWritten put_old put_new (is_output result ≡ false) (IsReport (is_whole result) (course_text (named flow turn.job) turn.course))
   pub failed_rose : failed ≡ true → rose
@@ -226,6 +254,7 @@ pub record HasRunSoFar (act : Act) (flow : Flow) (cores : ℕ) (jobs : List Job)
   pub counted : length turns ≡ count
   pub done : Each (λ (t : Turn). is_done t.course ≡ true) turns
   pub in_order : AreInOrder cores top 0 jobs turns
+  pub fits : Each Fits turns
   pub did : Did act old new (AreTurns made turns)
   pub text : HasWritten put_old put_new (Unit {0}) (IsReport true (report_of flow turns))
   pub none_runs : running ≡ []
@@ -234,3 +263,8 @@ pub record HasRunSoFar (act : Act) (flow : Flow) (cores : ℕ) (jobs : List Job)
 -- the fault of a run that stops so; or want of memory for the fault's texts
 abbrev pub IsToldStop : Named → Stop → Fault → Type 0
 IsToldStop name stop f = (f ≡ stop_fault name stop) ⊎ ((f ≡ fault.OutOfMemory) × (is_refusal stop ≡ true))
+
+-- what is answered where there is no serial
+abbrev pub IsWithoutSerial : List Job → Result Tally Fault → Type 0
+IsWithoutSerial [] r = r ≡ Ok (record { started = 0; done = 0; failed = 0; first = None })
+IsWithoutSerial (job ∷ jobs) r = r ≡ Err fault.Serials

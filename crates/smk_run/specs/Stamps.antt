@@ -1,5 +1,5 @@
 -- The stamps of a job's inputs as its turn comes.
-use Rattle.std.specs.Prelude.{◌≡◌, ◌<◌, ℕ, Bool, true, false, List, [], ◌∷◌, ◌++◌, ◌+◌, Option, Some, None, option_map, Result, Ok, Err, String}
+use Rattle.std.specs.Prelude.{◌≡◌, ◌⊎◌, ◌<◌, ℕ, Bool, true, false, List, [], ◌∷◌, ◌++◌, ◌+◌, Option, Some, None, option_map, Result, Ok, Err, String}
 use Rattle.std.specs.Global.{Global}
 use Rattle.std.specs.BTreeMap.{BTreeMap, get_by_text}
 use Rattle.std.specs.Option.{option_and_then}
@@ -89,6 +89,20 @@ is_of_look (Gone p) = true
 is_of_look Device = true
 is_of_look Output = false
 is_of_look OutOfMemory = true
+
+-- what a look may end with that didn't fail
+abbrev pub is_refused_look : Stop → Bool
+is_refused_look (TooLong bytes) = false
+is_refused_look (Gone p) = true
+is_refused_look Device = false
+is_refused_look Output = false
+is_refused_look OutOfMemory = true
+
+-- the time of a file that was seen so; nothing else is one
+abbrev pub IsTimeIn : Path → Stat → Result ℕ Stop → Type 0
+IsTimeIn p (File time read_only) r = r ≡ Ok time
+IsTimeIn p Nothing r = (r ≡ Err (Gone p)) ⊎ (r ≡ Err OutOfMemory)
+IsTimeIn p Folder r = (r ≡ Err (Gone p)) ⊎ (r ≡ Err OutOfMemory)
 
 -- a product's serial is below this
 abbrev pub IsBelow : ℕ → Option ℕ → Type 0

@@ -8,7 +8,6 @@ use Rattle.smk_world.specs.Calls.{started_numbers}
 use Rattle.smk_world.specs.Requests.{HasDone, IsCutShort}
 use Rattle.smk_record.specs.declared.record.Stamp.{Stamp}
 use Rattle.smk_flow.specs.declared.job.Job.{Job}
-use Rattle.smk_job.specs.Laws.{IsPart}
 use Rattle.smk_job.specs.Jobs.{Underway, underway, begin_requests}
 use Rattle.smk_job.specs.declared.fault.BeginFault.{BeginFault}
 use Rattle.smk_job.specs.declared.fault.BeginFault.TheVariants as begin
@@ -16,7 +15,7 @@ use Rattle.smk_run.specs.declared.stop.Stop.{Stop}
 use Rattle.smk_run.specs.declared.stop.Stop.TheVariants as stop
 use Rattle.smk_run.specs.declared.ending.Ending.{Ending}
 use Rattle.smk_run.specs.declared.ending.Ending.TheVariants.{Good, Status, NoOutput, WrongKind, BadMember}
-use Rattle.smk_run.specs.Stamps.{Serials, looks, AreStamped}
+use Rattle.smk_run.specs.Stamps.{Serials, AreStamped, HasStamped}
 use Rattle.smk_run.specs.Closings.{HasClosed}
 
 -- How far the turn of a job came.
@@ -30,17 +29,22 @@ pub data Course : Type 0 where
   -- the job was closed, and ended so
   Closed : Ending → Course
 
--- A job whose turn came: the text of its command, its serial, and the stamps of its inputs; those are [] where they weren't found.
+-- the stamps that were found
+abbrev pub found : Result (List Stamp) Stop → List Stamp
+found (Ok stamps) = stamps
+found (Err stop) = []
+
+-- A job whose turn came: the text of its command, its serial, and what the looks at its inputs gave, which is their stamps or why there are none.
 pub record Turn : Type 0 where
   pub job : Job
   pub command : List ℕ
   pub made : ℕ
-  pub stamps : List Stamp
+  pub looked : Result (List Stamp) Stop
   pub course : Course
 
 -- the turn of the job while its child of this number runs
 abbrev pub as_underway : Turn → ℕ → Underway
-as_underway t number = underway t.job.recipe t.job.logs t.stamps t.made number
+as_underway t number = underway t.job.recipe t.job.logs (found t.looked) t.made number
 
 -- The job began: all its calls were made, and the last one started a child of this number. Then this was done.
 pub record HasBegunAnd (t : Turn) (P : ℕ → World → List Event → Type 0) (w : World) (es : List Event) : Type 0 where
@@ -71,11 +75,11 @@ pub record HasStampedAnd (made : Serials) (t : Turn) (P : World → List Event �
   pub seen : List Event
   pub rest : List Event
   pub events : es ≡ seen ++ rest
-  pub stamped : AreStamped made (in_paths t.job.recipe) t.stamps seen
+  pub stamped : AreStamped made (in_paths t.job.recipe) (found t.looked) seen
   pub then_did : P (run w seen) rest
 
 abbrev pub IsTurnBy : Serials → Turn → Course → World → List Event → Type 0
-IsTurnBy made t Unbegun w es = IsPart (looks made (in_paths t.job.recipe)) es
+IsTurnBy made t Unbegun w es = HasStamped made (in_paths t.job.recipe) t.looked es
 IsTurnBy made t Unstarted w es = HasStampedAnd made t (HasGone t Unstarted) w es
 IsTurnBy made t Unclosed w es = HasStampedAnd made t (HasGone t Unclosed) w es
 IsTurnBy made t (Closed ending) w es = HasStampedAnd made t (HasGone t (Closed ending)) w es
@@ -110,6 +114,13 @@ is_closed Unstarted = false
 is_closed Unclosed = false
 is_closed (Closed ending) = true
 
+-- something was done besides looks at inputs
+abbrev pub is_begun : Course → Bool
+is_begun Unbegun = false
+is_begun Unstarted = true
+is_begun Unclosed = true
+is_begun (Closed ending) = true
+
 -- the command was started
 abbrev pub is_started : Course → Bool
 is_started Unbegun = false
@@ -119,7 +130,7 @@ is_started (Closed ending) = true
 
 -- what was done of this turn once its inputs had been looked at, where it came so far
 abbrev pub as_gone : Job → List ℕ → ℕ → List Stamp → Course → World → List Event → Type 0
-as_gone job command made stamps course = HasGone (record { job = job; command = command; made = made; stamps = stamps; course = course }) course
+as_gone job command made stamps course = HasGone (record { job = job; command = command; made = made; looked = Ok stamps; course = course }) course
 
 -- why a job doesn't begin
 abbrev pub stop_of : BeginFault → Stop

@@ -49,11 +49,7 @@ fn settle<W: Crew>(
 }
 
 // Waits for the job's child, and closes the job by its status.
-pub(crate) fn close<W: Crew>(
-    alloc: Global,
-    work: &mut W,
-    going: Going,
-) -> Result<Ending, WorkFault>
+pub(crate) fn close<W: Crew>(alloc: Global, work: &mut W, going: Going) -> Result<Ending, WorkFault>
     requires one_runs { W.running work.old ≡ going.number ∷ [] }
     ensures did { Did W.act (W.world work.old) (W.world work.new) (λ w es. HasClosed going result w es) }
     ensures stays { device_failed result ≡ false → IsSome (W.world work.old) → IsSome (W.world work.new) }

@@ -2,11 +2,15 @@
 #![tactic(auto)]
 
 mod closing;
+mod commands;
 mod ending;
+mod faults;
 mod lines;
 mod one;
+mod stamps;
 mod stop;
 mod tally;
+mod turns;
 mod whole;
 
 pub use ending::Ending;

@@ -1,9 +1,10 @@
 //! One job: its start, its end, and its lines.
 
-ghost use Rattle.std.specs.Prelude.{◌≡◌, ◌≢◌, ◌∷◌, [], length, None, true, false};
+ghost use Rattle.std.specs.Prelude.{◌≡◌, ◌≢◌, ◌∷◌, [], length, None, Err, true, false};
 ghost use Rattle.smk_world.specs.World.{in_paths, out_paths, owned_paths};
 ghost use Rattle.smk_world.specs.Calls.{HasCause, Rose, are_apart};
-ghost use Rattle.smk_world.specs.Trees.{Each};
+ghost use Rattle.smk_world.specs.Trees.{Path, Each};
+ghost use Rattle.smk_run.specs.declared.stop.Stop.TheVariants as stop;
 ghost use Rattle.smk_record.specs.Records.{is_valid, record_of};
 ghost use Rattle.smk_job.specs.Jobs.{too_long};
 ghost use Rattle.smk_report.specs.Lines.{start_line};
@@ -23,7 +24,8 @@ use std::alloc::Global;
 
 // Why a job doesn't begin.
 fn stop_of(fault: BeginFault) -> Stop
-    ensures { result ≡ stop_of fault }
+    ensures value { result ≡ stop_of fault }
+    ensures never { (p : Path) → result ≢ stop.Gone p }
 {
     match fault {
         BeginFault::TooLong(bytes) => Stop::TooLong(bytes),
@@ -34,7 +36,8 @@ fn stop_of(fault: BeginFault) -> Stop
 
 // Why a job isn't closed.
 fn left(fault: WorkFault) -> Stop
-    ensures { result ≡ left_stop fault }
+    ensures value { result ≡ left_stop fault }
+    ensures never { (p : Path) → result ≢ stop.Gone p }
 {
     match fault {
         WorkFault::Failed => Stop::Device,
@@ -56,6 +59,7 @@ fn attend<W: Crew, O: Sink>(
     requires line { line.now ≡ start_line (record { rule = rule.now; path = path.now }) }
     ensures run { HasTurned W.act (HasGoneOn going) (record { rule = rule.now; path = path.now }) None result (W.world work.old) (W.world work.new)
         (Rose (W.faults work.old) (W.faults work.new)) (W.running work.new) (O.put_so_far out.old) (O.put_so_far out.new) }
+    ensures never { (p : Path) → result ≢ Err (stop.Gone p) }
     ensures cause { HasCause (W.faults work.old) (W.faults work.new) (is_device result ≡ true) }
     ensures output { HasCause (O.faults out.old) (O.faults out.new) (is_output result ≡ true) }
     ensures quiet { is_output result ≡ false → O.faults out.new ≡ O.faults out.old }
@@ -101,6 +105,7 @@ pub fn run_one<W: Crew, O: Sink>(
     requires makes { out_paths job.now.recipe ≢ [] }
     ensures run { HasTurned W.act (as_gone job.now command.now made stamps.now) (named flow.now job.now) (too_long made job.now.recipe stamps.now) result
         (W.world work.old) (W.world work.new) (Rose (W.faults work.old) (W.faults work.new)) (W.running work.new) (O.put_so_far out.old) (O.put_so_far out.new) }
+    ensures never { (p : Path) → result ≢ Err (stop.Gone p) }
     ensures cause { HasCause (W.faults work.old) (W.faults work.new) (is_device result ≡ true) }
     ensures output { HasCause (O.faults out.old) (O.faults out.new) (is_output result ≡ true) }
     ensures quiet { is_output result ≡ false → O.faults out.new ≡ O.faults out.old }

@@ -1,2 +1,3 @@
 pub mod JobStates
 pub mod Reasons
+pub mod Updates

@@ -1,5 +1,5 @@
 -- Jobs that are added one by one, each once.
-use Rattle.std.proofs.Common.{◌≡◌, ◌∙◌, ℕ, zero, suc, ◌+◌, eqb, eqb-true, Bool, true, false, cond, ◌&&◌, ◌||◌, not, List, [], ◌∷◌, ◌++◌, filter, length, Option, Some, None, option_map, refl, sym, ap, ap₂, subst, append_assoc, append_nil, arith, true≢false}
+use Rattle.std.proofs.Common.{◌≡◌, ◌∙◌, ℕ, zero, suc, ◌+◌, eqb, eqb-true, Bool, true, false, cond, ◌&&◌, ◌||◌, not, List, [], ◌∷◌, ◌++◌, filter, length, Option, Some, None, option_map, refl, sym, ap, ap₂, subst, append_assoc, append-nil, arith, true≢false}
 use Rattle.std.specs.Prelude.{bytes_eq}
 use Rattle.std.specs.List.{list_any, AllByRecursion}
 use Rattle.std.proofs.lemmas.Slice.Eq.{bytes_eq-Decides}
@@ -44,11 +44,11 @@ job_is m c h =
 
 -- ---- places
 
-abbrev or_place : Option ℕ → Option ℕ → Option ℕ
+abbrev pub or_place : Option ℕ → Option ℕ → Option ℕ
 or_place None later = later
 or_place (Some n) later = Some n
 
-abbrev place_if : Bool → ℕ → Option ℕ
+abbrev pub place_if : Bool → ℕ → Option ℕ
 place_if b n = cond b (Some n) None
 
 or_suc : (o : Option ℕ) (b : Bool) (n : ℕ) → option_map suc (or_place o (place_if b n)) ≡ or_place (option_map suc o) (place_if b (suc n))
@@ -58,32 +58,30 @@ or_suc (Some k) b n = refl
 
 pub place_push : (cs : List Candidate) (c : Candidate) (m : Making) → place_of (cs ++ c ∷ []) m ≡ or_place (place_of cs m) (place_if (is_job m c) (length cs))
 place_push [] c m = refl
-place_push (d ∷ cs) c m = go (is_job m d)
+place_push (d ∷ cs) c m = go (is_job m d) (ap (option_map suc) (place_push cs c m) ∙ or_suc (place_of cs m) (is_job m c) (length cs))
   where
-    later : option_map suc (place_of (cs ++ c ∷ []) m) ≡ or_place (option_map suc (place_of cs m)) (place_if (is_job m c) (suc (length cs)))
-    later = ap (option_map suc) (place_push cs c m) ∙ or_suc (place_of cs m) (is_job m c) (length cs)
-
-    go : (b : Bool) → cond b (Some 0) (option_map suc (place_of (cs ++ c ∷ []) m)) ≡ or_place (cond b (Some 0) (option_map suc (place_of cs m))) (place_if (is_job m c) (suc (length cs)))
-    go true = refl
-    go false = later
+    go : (b : Bool) → option_map suc (place_of (cs ++ c ∷ []) m) ≡ or_place (option_map suc (place_of cs m)) (place_if (is_job m c) (suc (length cs))) →
+        cond b (Some 0) (option_map suc (place_of (cs ++ c ∷ []) m)) ≡ or_place (cond b (Some 0) (option_map suc (place_of cs m))) (place_if (is_job m c) (suc (length cs)))
+    go true later = refl
+    go false later = later
 
 pub placed : (cs : List Candidate) (m : Making) (n : ℕ) → place_of cs m ≡ Some n → list_any (is_job m) cs ≡ true
 placed [] m n e = absurd cc
-placed (c ∷ cs) m n e = go (is_job m c) (place_of cs m) refl e
+placed (c ∷ cs) m n e = go (is_job m c) (place_of cs m) refl (λ k p. placed cs m k p) e
   where
-    go : (b : Bool) (o : Option ℕ) → place_of cs m ≡ o → cond b (Some 0) (option_map suc o) ≡ Some n → b || list_any (is_job m) cs ≡ true
-    go true o p e = refl
-    go false None p e = absurd cc
-    go false (Some k) p e = placed cs m k p
+    go : (b : Bool) (o : Option ℕ) → place_of cs m ≡ o → ((k : ℕ) → place_of cs m ≡ Some k → list_any (is_job m) cs ≡ true) → cond b (Some 0) (option_map suc o) ≡ Some n → b || list_any (is_job m) cs ≡ true
+    go true o p rest e = refl
+    go false None p rest e = absurd cc
+    go false (Some k) p rest e = rest k p
 
 pub unplaced : (cs : List Candidate) (m : Making) → place_of cs m ≡ None → list_any (is_job m) cs ≡ false
 unplaced [] m e = refl
-unplaced (c ∷ cs) m e = go (is_job m c) (place_of cs m) refl e
+unplaced (c ∷ cs) m e = go (is_job m c) (place_of cs m) refl (λ p. unplaced cs m p) e
   where
-    go : (b : Bool) (o : Option ℕ) → place_of cs m ≡ o → cond b (Some 0) (option_map suc o) ≡ None → b || list_any (is_job m) cs ≡ false
-    go true o p e = absurd cc
-    go false None p e = unplaced cs m p
-    go false (Some k) p e = absurd cc
+    go : (b : Bool) (o : Option ℕ) → place_of cs m ≡ o → (place_of cs m ≡ None → list_any (is_job m) cs ≡ false) → cond b (Some 0) (option_map suc o) ≡ None → b || list_any (is_job m) cs ≡ false
+    go true o p rest e = absurd cc
+    go false None p rest e = rest p
+    go false (Some k) p rest e = absurd cc
 
 -- a job that is there has a place
 pub has_place : (cs : List Candidate) (m : Making) → list_any (is_job m) cs ≡ true → (n : ℕ) × (place_of cs m ≡ Some n)
@@ -165,53 +163,44 @@ all_there cs (x ∷ xs) h = ap (λ ds. all_added ds xs) (added_there cs x h.0) �
 
 -- ---- each once
 
-filter_within : {A : Type 0} (p q : A → Bool) → ((x : A) → q x ≡ false → p x ≡ false) → (xs : List A) → filter p (filter q xs) ≡ filter p xs
+pub filter_within : {A : Type 0} (p q : A → Bool) → ((x : A) → q x ≡ false → p x ≡ false) → (xs : List A) → filter p (filter q xs) ≡ filter p xs
 filter_within p q h [] = refl
-filter_within p q h (x ∷ xs) = go (q x) (p x) refl refl
+filter_within p q h (x ∷ xs) = go (filter_within p q h xs) (q x) (p x) refl refl
   where
-    rest : filter p (filter q xs) ≡ filter p xs
-    rest = filter_within p q h xs
+    go : filter p (filter q xs) ≡ filter p xs → (b d : Bool) → q x ≡ b → p x ≡ d → filter p (cond b (x ∷ filter q xs) (filter q xs)) ≡ cond d (x ∷ filter p xs) (filter p xs)
+    go rest true d e f = ap (λ a. cond a (x ∷ filter p (filter q xs)) (filter p (filter q xs))) f ∙ ap (λ ys. cond d (x ∷ ys) ys) rest
+    go rest false true e f = absurd (true≢false (sym f ∙ h x e))
+    go rest false false e f = rest
 
-    go : (b d : Bool) → q x ≡ b → p x ≡ d → filter p (cond b (x ∷ filter q xs) (filter q xs)) ≡ cond d (x ∷ filter p xs) (filter p xs)
-    go true d e f = ap (λ a. cond a (x ∷ filter p (filter q xs)) (filter p (filter q xs))) f ∙ ap (λ ys. cond d (x ∷ ys) ys) rest
-    go false true e f = absurd (true≢false (sym f ∙ h x e))
-    go false false e f = rest
-
-filter_both : {A : Type 0} (p q r : A → Bool) → ((x : A) → r x ≡ p x && q x) → (xs : List A) → filter p (filter q xs) ≡ filter r xs
+pub filter_both : {A : Type 0} (p q r : A → Bool) → ((x : A) → r x ≡ p x && q x) → (xs : List A) → filter p (filter q xs) ≡ filter r xs
 filter_both p q r h [] = refl
-filter_both p q r h (x ∷ xs) = go (q x) (p x) refl refl
+filter_both p q r h (x ∷ xs) = go (filter_both p q r h xs) (q x) (p x) refl refl
   where
-    rest : filter p (filter q xs) ≡ filter r xs
-    rest = filter_both p q r h xs
-
     is : (b d : Bool) → q x ≡ b → p x ≡ d → r x ≡ d && b
     is b d e f = h x ∙ ap₂ ◌&&◌ f e
 
-    go : (b d : Bool) → q x ≡ b → p x ≡ d → filter p (cond b (x ∷ filter q xs) (filter q xs)) ≡ cond (r x) (x ∷ filter r xs) (filter r xs)
-    go true true e f = ap (λ a. cond a (x ∷ filter p (filter q xs)) (filter p (filter q xs))) f ∙ ap (λ ys. x ∷ ys) rest ∙ sym (ap (λ a. cond a (x ∷ filter r xs) (filter r xs)) (is true true e f))
-    go true false e f = ap (λ a. cond a (x ∷ filter p (filter q xs)) (filter p (filter q xs))) f ∙ rest ∙ sym (ap (λ a. cond a (x ∷ filter r xs) (filter r xs)) (is true false e f))
-    go false true e f = rest ∙ sym (ap (λ a. cond a (x ∷ filter r xs) (filter r xs)) (is false true e f))
-    go false false e f = rest ∙ sym (ap (λ a. cond a (x ∷ filter r xs) (filter r xs)) (is false false e f))
+    go : filter p (filter q xs) ≡ filter r xs → (b d : Bool) → q x ≡ b → p x ≡ d → filter p (cond b (x ∷ filter q xs) (filter q xs)) ≡ cond (r x) (x ∷ filter r xs) (filter r xs)
+    go rest true true e f = ap (λ a. cond a (x ∷ filter p (filter q xs)) (filter p (filter q xs))) f ∙ ap (λ ys. x ∷ ys) rest ∙ sym (ap (λ a. cond a (x ∷ filter r xs) (filter r xs)) (is true true e f))
+    go rest true false e f = ap (λ a. cond a (x ∷ filter p (filter q xs)) (filter p (filter q xs))) f ∙ rest ∙ sym (ap (λ a. cond a (x ∷ filter r xs) (filter r xs)) (is true false e f))
+    go rest false true e f = rest ∙ sym (ap (λ a. cond a (x ∷ filter r xs) (filter r xs)) (is false true e f))
+    go rest false false e f = rest ∙ sym (ap (λ a. cond a (x ∷ filter r xs) (filter r xs)) (is false false e f))
 
 abbrev misses : List Candidate → Candidate → Bool
 misses cs y = not (has cs y)
 
-not_or : (a b : Bool) → not (a || b) ≡ not a && not b
+pub not_or : (a b : Bool) → not (a || b) ≡ not a && not b
 not_or true b = refl
 not_or false b = refl
 
 all_added_is : (cs xs : List Candidate) → all_added cs xs ≡ cs ++ filter (misses cs) (distinct same_candidate xs)
-all_added_is cs [] = sym (append_nil cs)
-all_added_is cs (x ∷ xs) = go (has cs x) refl
+all_added_is cs [] = sym (append-nil cs)
+all_added_is cs (x ∷ xs) = go (λ ds. all_added_is ds xs) (has cs x) refl
   where
-    more : (ds : List Candidate) → all_added ds xs ≡ ds ++ filter (misses ds) (distinct same_candidate xs)
-    more ds = all_added_is ds xs
-
     others : List Candidate
     others = filter (λ y. not (same_candidate x y)) (distinct same_candidate xs)
 
-    go : (b : Bool) → has cs x ≡ b → all_added (cond b cs (cs ++ x ∷ [])) xs ≡ cs ++ cond (not b) (x ∷ filter (misses cs) others) (filter (misses cs) others)
-    go true e = more cs ∙ ap (λ ys. cs ++ ys) (sym (filter_within (misses cs) (λ y. not (same_candidate x y)) (λ y h. ap not (there y h)) (distinct same_candidate xs)))
+    go : ((ds : List Candidate) → all_added ds xs ≡ ds ++ filter (misses ds) (distinct same_candidate xs)) → (b : Bool) → has cs x ≡ b → all_added (cond b cs (cs ++ x ∷ [])) xs ≡ cs ++ cond (not b) (x ∷ filter (misses cs) others) (filter (misses cs) others)
+    go more true e = more cs ∙ ap (λ ys. cs ++ ys) (sym (filter_within (misses cs) (λ y. not (same_candidate x y)) (λ y h. ap not (there y h)) (distinct same_candidate xs)))
       where
         there : (y : Candidate) → not (same_candidate x y) ≡ false → has cs y ≡ true
         there y h = ap (λ m. list_any (is_job m) cs) (sym (job_is (making y) x (twice (same_candidate x y) h))) ∙ e
@@ -219,13 +208,13 @@ all_added_is cs (x ∷ xs) = go (has cs x) refl
             twice : (b : Bool) → not b ≡ false → b ≡ true
             twice true h = refl
             twice false h = absurd (true≢false h)
-    go false e =
+    go more false e =
         more (cs ++ x ∷ [])
         ∙ append_assoc cs (x ∷ []) (filter (misses (cs ++ x ∷ [])) (distinct same_candidate xs))
         ∙ ap (λ ys. cs ++ x ∷ ys) (sym (filter_both (misses cs) (λ y. not (same_candidate x y)) (misses (cs ++ x ∷ []))
         (λ y. ap not (any_push (is_job (making y)) cs x) ∙ not_or (has cs y) (same_candidate x y)) (distinct same_candidate xs)))
 
-filter_all : {A : Type 0} (p : A → Bool) → ((x : A) → p x ≡ true) → (xs : List A) → filter p xs ≡ xs
+pub filter_all : {A : Type 0} (p : A → Bool) → ((x : A) → p x ≡ true) → (xs : List A) → filter p xs ≡ xs
 filter_all p h [] = refl
 filter_all p h (x ∷ xs) = ap (λ a. cond a (x ∷ filter p xs) (filter p xs)) (h x) ∙ ap (λ ys. x ∷ ys) (filter_all p h xs)
 

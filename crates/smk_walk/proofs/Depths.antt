@@ -47,11 +47,11 @@ fold_least f n h (x ∷ xs) a k = fold_least f n h xs (max a (f x)) (let e = h x
 
 fold_each : {A : Type 0} (f : A → ℕ) (test : A → Bool) (n : ℕ) (xs : List A) (a : ℕ) → fold max a (map f (filter test xs)) ≤ n → AllByRecursion (λ x. test x ≡ true → f x ≤ n) xs
 fold_each f test n [] a h = tt
-fold_each f test n (x ∷ xs) a h = go (test x) refl h
+fold_each f test n (x ∷ xs) a h = go (λ b k. fold_each f test n xs b k) (test x) refl h
   where
-    go : (b : Bool) → test x ≡ b → fold max a (map f (cond b (x ∷ filter test xs) (filter test xs))) ≤ n → AllByRecursion (λ y. test y ≡ true → f y ≤ n) (x ∷ xs)
-    go true e k = (λ _. let top = fold_above (map f (filter test xs)) (max a (f x)) in omega arith, fold_each f test n xs (max a (f x)) k)
-    go false e k = (λ t. absurd (true≢false (sym t ∙ e)), fold_each f test n xs a k)
+    go : ((b : ℕ) → fold max b (map f (filter test xs)) ≤ n → AllByRecursion (λ y. test y ≡ true → f y ≤ n) xs) → (b : Bool) → test x ≡ b → fold max a (map f (cond b (x ∷ filter test xs) (filter test xs))) ≤ n → AllByRecursion (λ y. test y ≡ true → f y ≤ n) (x ∷ xs)
+    go rest true e k = (λ _. let top = fold_above (map f (filter test xs)) (max a (f x)) in omega arith, rest (max a (f x)) k)
+    go rest false e k = (λ t. absurd (true≢false (sym t ∙ e)), rest a k)
 
 below_top : (a n : ℕ) → a ≤ suc n → eqb a (suc n) ≡ false → a ≤ n
 below_top a n h e = grind (arith, false-eqb)
@@ -73,14 +73,14 @@ want_calm F p rule w h = go (is_path w) h
     go false h = absurd cc
 
 module _ (flow : Flow) (sources : Sources) (L : Listings) where
-  abbrev walk_by : ℕ → Choice → List Candidate
+  abbrev pub walk_by : ℕ → Choice → List Candidate
   walk_by n ch =
       elim (maker ch) as (λ _. List Candidate) [
         | None ↦ []
         | Some c ↦ flat_map (walk flow sources L n) (wants flow L c) ++ c ∷ []
       ]
 
-  abbrev refused_by : ℕ → Path → Choice → List Refusal
+  abbrev pub refused_by : ℕ → Path → Choice → List Refusal
   refused_by n p ch =
       refused_at flow L p ch
       ++ elim (maker ch) as (λ _. List Refusal) [
@@ -210,3 +210,28 @@ module _ (flow : Flow) (sources : Sources) (L : Listings) where
   pub called_source : (p : Path) → choose flow sources p ≡ Source → called_for flow sources L p ≡ []
   unfolding called_for
   called_source p e = ap (walk_by 199) e
+
+  -- the job that makes a path comes last
+  pub called_own : (p : Path) (c : Candidate) → choose flow sources p ≡ Make c → (xs : List Candidate) × (called_for flow sources L p ≡ xs ++ c ∷ [])
+  unfolding called_for
+  called_own p c e = (flat_map (walk flow sources L 199) (wants flow L c), ap (walk_by 199) e)
+
+  -- what is refused at the path itself comes first
+  pub refused_front : (p : Path) → (rest : List Refusal) × (refused_for flow sources L p ≡ refused_at flow L p (choose flow sources p) ++ rest)
+  unfolding refused_for
+  refused_front p = (
+    elim (maker (choose flow sources p)) as (λ _. List Refusal) [
+      | None ↦ []
+      | Some c ↦ flat_map (asked_by (refused flow sources L 200) p c.rule) (wants flow L c)
+    ],
+    refl,
+  )
+
+  -- what is refused of the targets, and what they call for
+  pub refused_all : (targets : List Path) → flat_map (refused flow sources L 201) targets ≡ flat_map (refused_for flow sources L) targets
+  unfolding refused_for
+  refused_all targets = refl
+
+  pub called_all : (targets : List Path) → flat_map (walk flow sources L 200) targets ≡ flat_map (called_for flow sources L) targets
+  unfolding called_for
+  called_all targets = refl

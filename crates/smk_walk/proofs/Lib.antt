@@ -1,3 +1,12 @@
 mod Depths
-mod Keys
+mod Apart
 mod Adding
+mod Numbers
+mod Links
+mod Keeping
+mod Visiting
+mod Missing
+mod RuleAt
+mod Taken
+mod Descent
+mod Targets

@@ -1,3 +1,6 @@
 pub mod Numbers
 pub mod Links
 pub mod Steps
+pub mod Folders
+pub mod Stepping
+pub mod Once

@@ -7,9 +7,12 @@ use Rattle.smk_clash.specs.Clashes.{clashes_in}
 use Rattle.smk_clash.proofs.Stored.{clashes_same, listed_same}
 use Rattle.smk_clash.proofs.clash.first_clash.Goals as goal
 
-pub returns : goal.returns
-returns c = λ image s l.
+pub returns-clause-first : goal.returns-clause-first
+returns-clause-first c = λ image s l.
     let store = c.args.store.now in
     let known = listed_same image store s l (ap are_rising (sym c.paths-paths.ensures.value) ∙ c.paths-paths.ensures.rising) in
     c.in_ok-found.ensures ∙ ap (λ jobs. first (clashes_in store [] (flat_map spots jobs))) c.as_slice-2.ensures
     ∙ ap first (clashes_same image store s known [] (flat_map spots c.args.jobs.now))
+
+pub returns-clause-by_store : goal.returns-clause-by_store
+returns-clause-by_store c = c.in_ok-found.ensures ∙ ap (λ jobs. first (clashes_in c.args.store.now [] (flat_map spots jobs))) c.as_slice-2.ensures

@@ -1,6 +1,6 @@
-use Rattle.std.proofs.Common.{ap, is_ok, ◌∙◌}
+use Rattle.std.proofs.Common.{◌∙◌}
 use Rattle.smk_run.proofs.Idle.{lets_close}
-use Rattle.smk_run.proofs.Closes.{finished, abandoned, abandoned_badly}
+use Rattle.smk_run.proofs.Closes.{finished}
 use Rattle.smk_run.proofs.closing.settle.Goals as goal
 
 pub finish-closed-requires : goal.finish-closed-requires

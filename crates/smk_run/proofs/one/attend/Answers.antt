@@ -21,7 +21,7 @@ returns-in-Err-closed-clause-run g c =
     let name : Named = record { rule = c.args.rule.now; path = c.args.path.now } in
     let f = c.in-Err-closed.fault in
     subst (λ stop. HasTurned g.W.Files.act (HasGoneOn c.args.going) name None (Err stop) (g.W.Files.world c.args.work.now) (g.W.Files.world c.close-closed.new.work)
-    (Rose (g.W.Files.faults c.args.work.now) (g.W.Files.faults c.close-closed.new.work)) (g.W.Files.running c.close-closed.new.work) (g.O.Sink.put_so_far c.args.out.now) (g.O.Sink.put_so_far c.write_out-told.new.out)) (sym c.left.ensures)
+    (Rose (g.W.Files.faults c.args.work.now) (g.W.Files.faults c.close-closed.new.work)) (g.W.Files.running c.close-closed.new.work) (g.O.Sink.put_so_far c.args.out.now) (g.O.Sink.put_so_far c.write_out-told.new.out)) (sym c.left.ensures.value)
     (attended g.W.Files.act c.args.going name c.close-closed.result (Err f) (Err (left_stop f)) _ _ _ _ _ _ c.in-Err-closed.is (left_answer f) c.close-closed.ensures.did
     (started_text name (leaves_whole (left_stop f)) c.args.line.now _ _ _ c.requires.line c.in-Ok.ensures.put)
     c.close-closed.ensures.cause.rose c.close-closed.ensures.running c.close-closed.ensures.stays)

@@ -1,4 +1,4 @@
-use Rattle.std.proofs.Common.{Ok, Err, refl, ap, sym, subst, ◌∙◌}
+use Rattle.std.proofs.Common.{Err, refl, ap, sym, subst, ◌∙◌}
 use Rattle.smk_world.specs.Calls.{Rose}
 use Rattle.smk_job.specs.Jobs.{too_long}
 use Rattle.smk_run.specs.declared.stop.Stop.TheVariants.{OutOfMemory}
@@ -22,7 +22,7 @@ pub returns-in-Ok-begin-clause-run : goal.returns-in-Ok-begin-clause-run
 returns-in-Ok-begin-clause-run g c =
     turned g.W.Files.act c.args.job.now c.args.command.now c.args.made c.args.stamps.now _ _ _ c.in-Ok-begin.going c.begin.result c.attend.result _ _ _ _ _ _ _ _
     (named_by c.args.flow.now c.args.job.now c.rule_name-rule.result.now c.in-Some.path.now c.rule_name-rule.ensures c.in-Some.ensures)
-    c.in-Ok-begin.is c.in-Ok-begin.ensures.going c.begin.ensures.did (λ some. c.in-Ok-begin.ensures.stays refl some)
+    c.in-Ok-begin.is c.begin.ensures.long c.in-Ok-begin.ensures.going c.begin.ensures.did (λ some. c.in-Ok-begin.ensures.stays refl some)
     (rose_earlier _ _ _ c.begin.ensures.cause.later) c.attend.ensures.run
 
 pub returns-clause-run : goal.returns-clause-run
@@ -30,6 +30,6 @@ returns-clause-run g c =
     let job = c.args.job.now in
     subst (λ stop. HasTurned g.W.Files.act (as_gone job c.args.command.now c.args.made c.args.stamps.now) (named c.args.flow.now job) (too_long c.args.made job.recipe c.args.stamps.now) (Err stop)
     (g.W.Files.world c.args.work.now) (g.W.Files.world c.begin.new.work) (Rose (g.W.Files.faults c.args.work.now) (g.W.Files.faults c.begin.new.work)) (g.W.Files.running c.begin.new.work)
-    (g.O.Sink.put_so_far c.args.out.now) (g.O.Sink.put_so_far c.args.out.now)) (sym c.stop_of.ensures)
+    (g.O.Sink.put_so_far c.args.out.now) (g.O.Sink.put_so_far c.args.out.now)) (sym c.stop_of.ensures.value)
     (not_turned g.W.Files.act job c.args.command.now c.args.made c.args.stamps.now _ _ c.begin.result c.in-Err.fault _ _ _ _ _ c.in-Err.is c.begin.ensures.long
     (λ never. ap g.W.Files.world (c.in-Err.ensures.untouched never)) c.begin.ensures.cause.rose (c.in-Err.ensures.not_started ∙ c.requires.none_runs) c.begin.ensures.did)

@@ -36,7 +36,7 @@ text_long t = omega (arith, length-append (decimal (length t)) (58 ∷ (t ++ 10 
 texts_one : (t u r s : List ℕ) → length (text t) < 2 ^ 64 → length (text u) < 2 ^ 64 → text t ++ r ≡ text u ++ s → (t ≡ u) × (r ≡ s)
 texts_one t u r s ht hu e =
     let n = numbers_one 58 (length t) (length u) (t ++ 10 ∷ r) (u ++ 10 ∷ s) refl (omega (arith, text_long t, ht)) (omega (arith, text_long u, hu))
-        (sym (text_regrouped t r) ∙ e ∙ text_regrouped u s) in
+    (sym (text_regrouped t r) ∙ e ∙ text_regrouped u s) in
     let f = same_front t u (10 ∷ r) (10 ∷ s) n.0 n.1 in
     (f.0, let q : 10 ∷ r ≡ 10 ∷ s = f.1 in cc)
 
@@ -65,6 +65,6 @@ keys_one a b ha hb e =
     let ra = flat_map pair a.binding in
     let rb = flat_map pair b.binding in
     let n = numbers_one 10 a.rule b.rule ra rb refl ha.0 hb.0
-        (sym (append_assoc (decimal a.rule) (10 ∷ []) ra) ∙ e ∙ append_assoc (decimal b.rule) (10 ∷ []) rb) in
+    (sym (append_assoc (decimal a.rule) (10 ∷ []) ra) ∙ e ∙ append_assoc (decimal b.rule) (10 ∷ []) rb) in
     let bindings = pairs_one a.binding b.binding (omega (arith, ha.1, length-append (num a.rule) ra)) (omega (arith, hb.1, length-append (num b.rule) rb)) n.1 in
     ap₂ (λ r p. record { rule = r; binding = p }) n.0 bindings

@@ -1,0 +1,5 @@
+mod Lists
+mod Spaced
+mod Ordered
+mod Chosen
+pub mod Runnable

@@ -1,0 +1,96 @@
+-- What holds of all elements of lists.
+use Rattle.std.proofs.Common.{◌≡◌, Bool, true, false, cond, not, eqb-true, ℕ, List, [], ◌∷◌, ◌++◌, map, filter, Option, Some, None, refl, sym, subst}
+use Rattle.std.specs.Prelude.{nat_eq}
+use Rattle.std.specs.List.{flat_map, filter_map, cons_option, AllByRecursion}
+use Rattle.smk_world.specs.Trees.{Each}
+use Rattle.smk_chain.specs.Derive.{distinct}
+
+-- what there is has P
+abbrev pub OnSome : {A : Type 0} → (A → Type 0) → Option A → Type 0
+OnSome P None = Unit {0}
+OnSome P (Some x) = P x
+
+pub all_append : {A : Type 0} (P : A → Type 0) (xs ys : List A) → AllByRecursion P xs → AllByRecursion P ys → AllByRecursion P (xs ++ ys)
+all_append P [] ys a b = b
+all_append P (x ∷ xs) ys a b = (a.0, all_append P xs ys a.1 b)
+
+pub all_front : {A : Type 0} (P : A → Type 0) (xs ys : List A) → AllByRecursion P (xs ++ ys) → AllByRecursion P xs
+all_front P [] ys h = tt
+all_front P (x ∷ xs) ys h = (h.0, all_front P xs ys h.1)
+
+pub all_back : {A : Type 0} (P : A → Type 0) (xs ys : List A) → AllByRecursion P (xs ++ ys) → AllByRecursion P ys
+all_back P [] ys h = h
+all_back P (x ∷ xs) ys h = all_back P xs ys h.1
+
+pub all_map : {A : Type 0} (P Q : A → Type 0) → ((x : A) → P x → Q x) → (xs : List A) → AllByRecursion P xs → AllByRecursion Q xs
+all_map P Q f [] h = tt
+all_map P Q f (x ∷ xs) h = (f x h.0, all_map P Q f xs h.1)
+
+pub all_filter : {A : Type 0} (P : A → Type 0) (test : A → Bool) (xs : List A) → AllByRecursion P xs → AllByRecursion P (filter test xs)
+all_filter P test [] h = tt
+all_filter P test (x ∷ xs) h = go (test x) (all_filter P test xs h.1)
+  where
+    go : (b : Bool) → AllByRecursion P (filter test xs) → AllByRecursion P (cond b (x ∷ filter test xs) (filter test xs))
+    go true rest = (h.0, rest)
+    go false rest = rest
+
+pub all_flat : {A B : Type 0} (P : B → Type 0) (f : A → List B) → ((x : A) → AllByRecursion P (f x)) → (xs : List A) → AllByRecursion P (flat_map f xs)
+all_flat P f h [] = tt
+all_flat P f h (x ∷ xs) = all_append P (f x) (flat_map f xs) (h x) (all_flat P f h xs)
+
+pub all_found : {A B : Type 0} (P : B → Type 0) (f : A → Option B) → ((x : A) → OnSome P (f x)) → (xs : List A) → AllByRecursion P (filter_map f xs)
+all_found P f h [] = tt
+all_found {A} {B} P f h (x ∷ xs) = go (f x) (h x) (all_found P f h xs)
+  where
+    go : (o : Option B) → OnSome P o → AllByRecursion P (filter_map f xs) → AllByRecursion P (cons_option o (filter_map f xs))
+    go None p rest = rest
+    go (Some y) p rest = (p, rest)
+
+pub all_distinct : {A : Type 0} (P : A → Type 0) (same : A → A → Bool) (xs : List A) → AllByRecursion P xs → AllByRecursion P (distinct same xs)
+all_distinct P same [] h = tt
+all_distinct P same (x ∷ xs) h = (h.0, all_filter P (λ y. not (same x y)) (distinct same xs) (all_distinct P same xs h.1))
+
+-- what is found has P
+pub of_found : {A B : Type 0} (P : B → Type 0) (f : A → Option B) (xs : List A) → AllByRecursion P (filter_map f xs) → AllByRecursion (λ x. OnSome P (f x)) xs
+of_found P f [] h = tt
+of_found {A} {B} P f (x ∷ xs) h = go (f x) refl (λ k. of_found P f xs k) h
+  where
+    go : (o : Option B) → f x ≡ o → (AllByRecursion P (filter_map f xs) → AllByRecursion (λ y. OnSome P (f y)) xs) → AllByRecursion P (cons_option o (filter_map f xs)) → AllByRecursion (λ y. OnSome P (f y)) (x ∷ xs)
+    go None e more k = (subst (OnSome P) (sym e) tt, more k)
+    go (Some y) e more k = (subst (OnSome P) (sym e) k.0, more k.1)
+
+unfiltered : (P : ℕ → Type 0) (x : ℕ) → P x → (ys : List ℕ) → AllByRecursion P (filter (λ y. not (nat_eq x y)) ys) → AllByRecursion P ys
+unfiltered P x p [] h = tt
+unfiltered P x p (y ∷ ys) h = go (nat_eq x y) refl (λ k. unfiltered P x p ys k) h
+  where
+    rest : List ℕ
+    rest = filter (λ z. not (nat_eq x z)) ys
+
+    go : (b : Bool) → nat_eq x y ≡ b → (AllByRecursion P rest → AllByRecursion P ys) → AllByRecursion P (cond (not b) (y ∷ rest) rest) → AllByRecursion P (y ∷ ys)
+    go true e more k = (subst P (eqb-true x y e) p, more k)
+    go false e more k = (k.0, more k.1)
+
+-- what holds of each once holds of all
+pub of_distinct : (P : ℕ → Type 0) (xs : List ℕ) → AllByRecursion P (distinct nat_eq xs) → AllByRecursion P xs
+of_distinct P [] h = tt
+of_distinct P (x ∷ xs) h = (h.0, of_distinct P xs (unfiltered P x h.0 (distinct nat_eq xs) h.1))
+
+pub each_of : {A : Type 0} (P : A → Type 0) (xs : List A) → AllByRecursion P xs → Each P xs
+each_of P [] h = tt
+each_of P (x ∷ xs) h = (h.0, each_of P xs h.1)
+
+pub each_append : {A : Type 0} (P : A → Type 0) (xs ys : List A) → Each P xs → Each P ys → Each P (xs ++ ys)
+each_append P [] ys a b = b
+each_append P (x ∷ xs) ys a b = (a.0, each_append P xs ys a.1 b)
+
+pub front_nil : {A : Type 0} (xs ys : List A) → xs ++ ys ≡ [] → xs ≡ []
+front_nil [] ys e = refl
+front_nil (x ∷ xs) ys e = absurd cc
+
+pub back_nil : {A : Type 0} (xs ys : List A) → xs ++ ys ≡ [] → ys ≡ []
+back_nil [] ys e = e
+back_nil (x ∷ xs) ys e = absurd cc
+
+pub map_nil : {A B : Type 0} (f : A → B) (xs : List A) → map f xs ≡ [] → xs ≡ []
+map_nil f [] e = refl
+map_nil f (x ∷ xs) e = absurd cc

@@ -1,0 +1,153 @@
+-- Inputs with other stamps than the recorded ones.
+use Rattle.std.proofs.Common.{◌≡◌, ℕ, suc, ◌+◌, ◌<◌, length, get_or, drop, add-one, append_assoc, Bool, true, false, cond, ◌&&◌, ◌||◌, not, List, [], ◌∷◌, ◌++◌, map, Option, Some, None, refl, sym, ap, ◌∙◌, bytes_eq}
+use Rattle.std.specs.Prelude.{if◌then◌else◌}
+use Rattle.std.specs.List.{list_any, filter, zip}
+use Rattle.std.proofs.lemmas.Bool.{eqb-true, eq-eqb}
+use Rattle.std.proofs.Math.Seq.{drop-cons}
+use Rattle.smk_base.proofs.Places.{same_place}
+use Rattle.smk_base.proofs.Under.{never_both}
+use Rattle.smk_world.specs.Trees.{Path}
+use Rattle.smk_record.specs.declared.record.Stamp.{Stamp}
+use Rattle.smk_record.specs.declared.record.Stamp.TheVariants.{Time, Made}
+use Rattle.smk_record.specs.Records.{same_stamp}
+use Rattle.smk_trigger.specs.declared.reason.Reason.{Reason}
+use Rattle.smk_trigger.specs.declared.reason.Reason.TheVariants.{Updated}
+use Rattle.smk_trigger.specs.declared.updates.Recorded.{Recorded}
+use Rattle.smk_trigger.specs.declared.updates.Recorded.TheVariants.{One, Several}
+use Rattle.smk_trigger.specs.Reasons.{is_updated, once}
+use Rattle.smk_trigger.specs.Updates.{joined, differs, disagrees, is_other, update_of, updates_in}
+
+-- ## One more stamp
+
+stamps_equal : (s t : Stamp) → same_stamp s t ≡ true → s ≡ t
+stamps_equal (Time t) (Time u) h = ap Time (eqb-true t u h)
+stamps_equal (Time t) (Made m) h = absurd (never_both false h refl)
+stamps_equal (Made m) (Time t) h = absurd (never_both false h refl)
+stamps_equal (Made m) (Made n) h = ap Made (eqb-true m n h)
+
+stamp_itself : (s : Stamp) → same_stamp s s ≡ true
+stamp_itself (Time t) = eq-eqb t t refl
+stamp_itself (Made m) = eq-eqb m m refl
+
+twice : (b : Bool) → b ≡ (b || b)
+twice true = refl
+twice false = refl
+
+one_of_two : (s t now : Stamp) → same_stamp t s ≡ false → true ≡ (not (same_stamp t now) || not (same_stamp s now))
+one_of_two s t now apart = go (same_stamp t now) (same_stamp s now) refl refl
+  where
+    go : (a b : Bool) → same_stamp t now ≡ a → same_stamp s now ≡ b → true ≡ (not (same_stamp t now) || not (same_stamp s now))
+    go false b ea eb = sym (ap (λ v. not v || not (same_stamp s now)) ea)
+    go true false ea eb = sym (ap (λ v. not v || not (same_stamp s now)) ea ∙ ap not eb)
+    go true true ea eb =
+        absurd (never_both (same_stamp s s) (stamp_itself s) (ap (λ x. same_stamp x s) (stamps_equal s now eb ∙ sym (stamps_equal t now ea)) ∙ apart))
+
+pub joined_differs : (o : Option Recorded) (s now : Stamp) → differs (Some (joined o s)) now ≡ (differs o now || not (same_stamp s now))
+joined_differs None s now = refl
+joined_differs (Some Several) s now = refl
+joined_differs (Some (One t)) s now = go (same_stamp t s) refl
+  where
+    go : (b : Bool) → same_stamp t s ≡ b → differs (Some (if b then One t else Several)) now ≡ (not (same_stamp t now) || not (same_stamp s now))
+    go true e = twice (not (same_stamp t now)) ∙ ap (λ x. not (same_stamp t now) || not (same_stamp x now)) (stamps_equal t s e)
+    go false e = one_of_two s t now e
+
+-- ## Each path once
+
+either_test : {A : Type 0} (a b : A → Bool) (xs : List A) → filter a (filter b xs) ≡ filter (λ x. b x && a x) xs
+either_test a b [] = refl
+either_test a b (x ∷ xs) = go (b x) (either_test a b xs)
+  where
+    go : (v : Bool) → filter a (filter b xs) ≡ filter (λ x. b x && a x) xs
+        → filter a (cond v (x ∷ filter b xs) (filter b xs)) ≡ cond (v && a x) (x ∷ filter (λ x. b x && a x) xs) (filter (λ x. b x && a x) xs)
+    go true e = ap (λ l. cond (a x) (x ∷ l) l) e
+    go false e = e
+
+abbrev Input : Type 0
+Input = Path × Option Stamp
+
+abbrev is_by : (Path → Option Recorded) → Input → Bool
+is_by f e = disagrees (f e.0) e.1
+
+abbrev without : Path → (Path → Option Recorded) → Path → Option Recorded
+without q f p = if bytes_eq q p then None else f p
+
+nothing_disagrees : (now : Option Stamp) → disagrees None now ≡ false
+nothing_disagrees None = refl
+nothing_disagrees (Some s) = refl
+
+without_by : (q : Path) (f : Path → Option Recorded) (e : Input) → is_by (without q f) e ≡ (not (bytes_eq q e.0) && is_by f e)
+without_by q f e = go (bytes_eq q e.0)
+  where
+    go : (b : Bool) → disagrees (if b then None else f e.0) e.1 ≡ (not b && disagrees (f e.0) e.1)
+    go true = nothing_disagrees e.1
+    go false = refl
+
+filter_by : (a b : Input → Bool) → ((e : Input) → a e ≡ b e) → (xs : List Input) → filter a xs ≡ filter b xs
+filter_by a b same xs = λ i. filter (λ e. same e i) xs
+
+abbrev told : Input → Reason
+told e = Updated e.0
+
+pub updates_are : (es : List Input) (f : Path → Option Recorded) → updates_in f es ≡ map told (filter (is_by f) (once es))
+updates_are [] f = refl
+updates_are (e ∷ es) f =
+    ap (λ l. update_of (f e.0) e.0 e.1 ++ l)
+    (updates_are es (without e.0 f)
+    ∙ ap (map told) (filter_by (is_by (without e.0 f)) (λ d. not (bytes_eq e.0 d.0) && is_by f d) (without_by e.0 f) (once es) ∙ sym (either_test (is_by f) (λ d. not (bytes_eq e.0 d.0)) (once es))))
+    ∙ go (is_by f e) (filter (is_by f) (filter (λ (d : Input). not (bytes_eq e.0 d.0)) (once es)))
+  where
+    go : (b : Bool) (rest : List Input) → (if b then Updated e.0 ∷ [] else []) ++ map told rest ≡ map told (cond b (e ∷ rest) rest)
+    go true rest = refl
+    go false rest = refl
+
+-- ## By the recorded ones
+
+pub updates_by : (recorded : List (Path × Stamp)) (f : Path → Option Recorded) → ((q : Path) (now : Stamp) → differs (f q) now ≡ list_any (is_other q now) recorded)
+    → (es : List Input) → updates_in f es ≡ map told (filter (is_updated recorded) (once es))
+updates_by recorded f same es = updates_are es f ∙ ap (map told) (filter_by (is_by f) (is_updated recorded) (λ e. at e.0 e.1) (once es))
+  where
+    at : (q : Path) (now : Option Stamp) → disagrees (f q) now ≡ is_updated recorded (q, now)
+    at q None = refl
+    at q (Some now) = same q now
+
+pub updates_told : (recorded : List (Path × Stamp)) (f : Path → Option Recorded) → ((q : Path) (now : Stamp) → differs (f q) now ≡ list_any (is_other q now) recorded)
+    → (paths inputs : List Path) (stamps : List (Option Stamp)) → paths ≡ inputs → updates_in f (zip paths stamps) ≡ map told (filter (is_updated recorded) (once (zip inputs stamps)))
+updates_told recorded f same paths inputs stamps e = updates_by recorded f same (zip paths stamps) ∙ ap (λ ps. map told (filter (is_updated recorded) (once (zip ps stamps)))) e
+
+-- ## One step
+
+if_cond : {A : Type 0} (b : Bool) (s t : A) → cond b s t ≡ if b then s else t
+if_cond true s t = refl
+if_cond false s t = refl
+
+pub one_taken : (key path q : Path) (o : Option Recorded) → key ≡ path → cond (bytes_eq key q) None o ≡ if bytes_eq path q then None else o
+one_taken key path q o same = if_cond (bytes_eq key q) None o ∙ ap (λ p. if bytes_eq p q then None else o) same
+
+added_there : (b : Bool) (j : Recorded) (o : Option Recorded) (s now : Stamp) → (b ≡ true → differs (Some j) now ≡ (differs o now || not (same_stamp s now)))
+    → differs (cond b (Some j) o) now ≡ (differs o now || (b && not (same_stamp s now)))
+added_there true j o s now here = here refl
+added_there false j o s now here = or_none (differs o now)
+  where
+    or_none : (v : Bool) → v ≡ (v || false)
+    or_none true = refl
+    or_none false = refl
+
+pub one_added : (f g : Path → Option Recorded) (path key : Path) (s : Stamp) (o : Option Recorded) (j : Recorded) → key ≡ path → o ≡ f path → j ≡ joined o s
+    → ((q : Path) → g q ≡ cond (bytes_eq key q) (Some j) (f q)) → (q : Path) (now : Stamp) → differs (g q) now ≡ (differs (f q) now || is_other q now (path, s))
+one_added f g path key s o j same is joins new q now =
+    ap (λ x. differs x now) (new q ∙ ap (λ k. cond (bytes_eq k q) (Some j) (f q)) same)
+    ∙ added_there (bytes_eq path q) j (f q) s now
+    (λ e. ap (λ x. differs (Some x) now) (joins ∙ ap (λ x. joined x s) (is ∙ ap f (same_place path q e))) ∙ joined_differs (f q) s now)
+
+pub one_update : (f g : Path → Option Recorded) (found new : List Reason) (paths : List Path) (stamps : List (Option Stamp)) (i : ℕ) (p : Path) (now : Option Stamp) (o : Option Recorded)
+    → i < length paths → p ≡ get_or paths i p → i < length stamps → now ≡ get_or stamps i now → o ≡ f p → ((q : Path) → g q ≡ if bytes_eq p q then None else f q)
+    → new ≡ found ++ update_of o p now → (whole : List Reason) → found ++ updates_in f (zip (drop i paths) (drop i stamps)) ≡ whole
+    → new ++ updates_in g (zip (drop (i + 1) paths) (drop (i + 1) stamps)) ≡ whole
+one_update f g found new paths stamps i p now o lt is_p lt' is_now is_o left made whole before =
+    let next : zip (drop i paths) (drop i stamps) ≡ (p, now) ∷ zip (drop (suc i) paths) (drop (suc i) stamps) =
+    ap (λ l. zip l (drop i stamps)) (drop-cons paths i p lt ∙ ap (λ x. x ∷ drop (suc i) paths) (sym is_p)) ∙ ap (zip (p ∷ drop (suc i) paths)) (drop-cons stamps i now lt' ∙ ap (λ x. x ∷ drop (suc i) stamps) (sym is_now)) in
+    ap (λ n. new ++ updates_in g (zip (drop n paths) (drop n stamps))) (add-one i)
+    ∙ ap (λ h. new ++ updates_in h (zip (drop (suc i) paths) (drop (suc i) stamps))) (λ j. λ q. left q j)
+    ∙ ap (λ l. l ++ updates_in (without p f) (zip (drop (suc i) paths) (drop (suc i) stamps))) (made ∙ ap (λ x. found ++ update_of x p now) is_o)
+    ∙ append_assoc found (update_of (f p) p now) (updates_in (without p f) (zip (drop (suc i) paths) (drop (suc i) stamps)))
+    ∙ ap (λ l. found ++ updates_in f l) (sym next) ∙ before

@@ -1,0 +1,39 @@
+-- Which inputs have other stamps than the recorded ones, by what is recorded of each path.
+use Rattle.std.specs.Prelude.{Bool, true, false, ◌&&◌, not, List, [], ◌∷◌, ◌++◌, bytes_eq, if◌then◌else◌, Option, Some, None}
+use Rattle.smk_world.specs.Trees.{Path}
+use Rattle.smk_record.specs.declared.record.Stamp.{Stamp}
+use Rattle.smk_record.specs.Records.{same_stamp}
+use Rattle.smk_trigger.specs.declared.reason.Reason.{Reason}
+use Rattle.smk_trigger.specs.declared.reason.Reason.TheVariants.{Updated}
+use Rattle.smk_trigger.specs.declared.updates.Recorded.{Recorded}
+use Rattle.smk_trigger.specs.declared.updates.Recorded.TheVariants.{One, Several}
+
+-- one more stamp is recorded
+abbrev pub joined : Option Recorded → Stamp → Recorded
+joined None s = One s
+joined (Some (One t)) s = if same_stamp t s then One t else Several
+joined (Some Several) s = Several
+
+-- a recorded stamp is another one than this
+abbrev pub differs : Option Recorded → Stamp → Bool
+differs None now = false
+differs (Some (One s)) now = not (same_stamp s now)
+differs (Some Several) now = true
+
+-- the same of the stamp now, where there is one
+abbrev pub disagrees : Option Recorded → Option Stamp → Bool
+disagrees o None = false
+disagrees o (Some now) = differs o now
+
+-- a recorded stamp is of the path, and another one than this
+abbrev pub is_other : Path → Stamp → Path × Stamp → Bool
+is_other q now e = bytes_eq e.0 q && not (same_stamp e.1 now)
+
+abbrev pub update_of : Option Recorded → Path → Option Stamp → List Reason
+update_of recorded q now = if disagrees recorded now then Updated q ∷ [] else []
+
+-- the inputs that are updated, by what is recorded of each path; only the first of a path counts
+abbrev pub updates_in : (Path → Option Recorded) → List (Path × Option Stamp) → List Reason
+updates_in f [] = []
+updates_in f (e ∷ es) =
+    update_of (f e.0) e.0 e.1 ++ updates_in (λ p. if bytes_eq e.0 p then None else f p) es
