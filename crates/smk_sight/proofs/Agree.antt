@@ -1,5 +1,5 @@
 -- Where two tell the same on a reach, the same jobs are chosen from its targets, and the same is refused.
-use Rattle.std.proofs.Common.{◌≡◌, ◌⊎◌, inl, inr, ℕ, zero, suc, ◌+◌, ◌&&◌, Bool, true, false, cond, not, List, [], ◌∷◌, ◌++◌, map, filter, refl, sym, ap, ap₂, subst, ◌∙◌, Option, Some, None, option_map, bytes_eq, max, ◌==◌}
+use Rattle.std.proofs.Common.{◌≡◌, inl, inr, ℕ, zero, suc, ◌+◌, ◌&&◌, ◌||◌, Bool, true, false, cond, not, List, [], ◌∷◌, ◌++◌, map, filter, refl, sym, ap, ap₂, subst, ◌∙◌, Option, Some, None, option_map, bytes_eq, max, ◌==◌}
 use Rattle.std.specs.Prelude.{if◌then◌else◌}
 use Rattle.std.specs.List.{AllByRecursion, list_any, list_all, find, fold, flat_map, enumerate_from}
 use Rattle.smk_base.specs.Path.{is_path}
@@ -8,10 +8,10 @@ use Rattle.smk_world.specs.Trees.{Path, IsIn}
 use Rattle.smk_pattern.specs.Shapes.{Text}
 use Rattle.smk_flow.specs.declared.job.Job.{Job}
 use Rattle.smk_flow.specs.Flows.{Flow, Candidate, declared_inputs, gathered_folders, first_wants}
-use Rattle.smk_choose.specs.Choose.{Sources, Choice, Lack, Source, choice, leader, candidates, is_apart, avail, is_viable, viable, lack, lack_of_first, choose, maker, Make, Nothing, Ambiguous}
+use Rattle.smk_choose.specs.Choose.{Sources, Choice, Lack, Source, choice, leader, candidates, is_apart, avail, is_viable, viable, lack_of_first, choose, maker, Make, Nothing, Ambiguous}
 use Rattle.smk_choose.proofs.Picked.{chosen_candidate, chosen_no_source}
 use Rattle.smk_store.specs.Images.{Image}
-use Rattle.smk_chain.specs.Derive.{Listings, gathered_files, wants, wanted_paths, distinct, walk, height, Refusal, NoInput, Deep, refused_at, refused, next, reach, spots, clashes, same_candidate, chosen, jobs, job, is_deep, job_refusals, Derivation, Derived, Refused, outcome}
+use Rattle.smk_chain.specs.Derive.{Listings, gathered_files, wants, wanted_paths, distinct, walk, height, Refusal, NoInput, Deep, refused_at, refused, next, reach, spots, clashes, same_candidate, jobs, job, job_refusals, outcome}
 use Rattle.smk_sight.specs.Sight.{fitting, places, SameAt, SameAround, SameOnReach}
 
 -- ## Members of lists
@@ -57,11 +57,11 @@ in_filter p (y ∷ ys) x (inr h) t = in_anyway (p y) y x (filter p ys) (in_filte
 pub in_distinct : (xs : List Path) (x : Path) → IsIn xs x → IsIn (distinct bytes_eq xs) x
 in_distinct [] x h = absurd h
 in_distinct (y ∷ ys) x (inl e) = inl e
-in_distinct (y ∷ ys) x (inr h) = go (bytes_eq y x) refl
+in_distinct (y ∷ ys) x (inr h) = go (bytes_eq y x) refl (in_distinct ys x h)
   where
-    go : (b : Bool) → bytes_eq y x ≡ b → IsIn (y ∷ filter (λ z. not (bytes_eq y z)) (distinct bytes_eq ys)) x
-    go true e = inl (sym (same_place y x e))
-    go false e = inr (in_filter (λ z. not (bytes_eq y z)) (distinct bytes_eq ys) x (in_distinct ys x h) (ap not e))
+    go : (b : Bool) → bytes_eq y x ≡ b → IsIn (distinct bytes_eq ys) x → IsIn (y ∷ filter (λ z. not (bytes_eq y z)) (distinct bytes_eq ys)) x
+    go true e rest = inl (sym (same_place y x e))
+    go false e rest = inr (in_filter (λ z. not (bytes_eq y z)) (distinct bytes_eq ys) x rest (ap not e))
 
 pub in_flat : {A B : Type 0} (f : A → List B) (xs : List A) (x : A) (y : B) → IsIn xs x → IsIn (f x) y → IsIn (flat_map f xs) y
 in_flat f [] x y h k = absurd h
@@ -112,7 +112,7 @@ list_all_same f g (x ∷ xs) all = ap₂ ◌&&◌ all.0 (list_all_same f g xs al
 
 list_any_same : {A : Type 0} (f g : A → Bool) (xs : List A) → AllByRecursion (λ x. f x ≡ g x) xs → list_any f xs ≡ list_any g xs
 list_any_same f g [] all = refl
-list_any_same f g (x ∷ xs) all = ap₂ (λ (a b : Bool). cond a true b) all.0 (list_any_same f g xs all.1)
+list_any_same f g (x ∷ xs) all = ap₂ ◌||◌ all.0 (list_any_same f g xs all.1)
 
 find_same : {A : Type 0} (f g : A → Bool) (xs : List A) → AllByRecursion (λ x. f x ≡ g x) xs → find f xs ≡ find g xs
 find_same f g [] all = refl
@@ -209,9 +209,9 @@ some_by flow S n p = list_any (λ c. list_all (avail flow S n) (first_wants flow
 ended_same : (path s t : Bool) → (path ≡ true → t ≡ s) → (path && t) ≡ (path && s)
 ended_same path s t same = and_same path t s same
 
-avail_same : (flow : Flow) (S T : Sources) (L : Listings) (n : ℕ) (p : Text) → (is_path p ≡ true → Good flow S T L n p) → avail flow T n p ≡ avail flow S n p
-avail_same flow S T L zero p good = ended_same (is_path p) (S.is p) (T.is p) good
-avail_same flow S T L (suc n) p good = by_path (is_path p) refl
+avail_step : (flow : Flow) (S T : Sources) (L : Listings) (n : ℕ) (p : Text) → ((q : Text) → (is_path q ≡ true → Good flow S T L n q) → avail flow T n q ≡ avail flow S n q)
+    → (is_path p ≡ true → Good flow S T L (suc n) p) → avail flow T (suc n) p ≡ avail flow S (suc n) p
+avail_step flow S T L n p again good = by_path (is_path p) refl
   where
     by_source : is_path p ≡ true → (b : Bool) → S.is p ≡ b → avail flow T (suc n) p ≡ avail flow S (suc n) p
     by_source path true e =
@@ -224,7 +224,7 @@ avail_same flow S T L (suc n) p good = by_path (is_path p) refl
         (all_weaker (λ (c : Candidate). AllByRecursion (λ (w : Text). is_path w ≡ true → Good flow S T L n w) (first_wants flow c))
         (λ c. list_all (avail flow T n) (first_wants flow c) ≡ list_all (avail flow S n) (first_wants flow c))
         (λ c all. list_all_same (avail flow T n) (avail flow S n) (first_wants flow c)
-        (all_weaker (λ (w : Text). is_path w ≡ true → Good flow S T L n w) (λ w. avail flow T n w ≡ avail flow S n w) (avail_same flow S T L n) (first_wants flow c) all))
+        (all_weaker (λ (w : Text). is_path w ≡ true → Good flow S T L n w) (λ w. avail flow T n w ≡ avail flow S n w) again (first_wants flow c) all))
         (candidates flow S p) (firsts_good flow S T L n p (good path) e))
         ∙ sym (ap₂ (λ x y. avail_by x y (some_by flow S n p)) path e)
 
@@ -234,10 +234,14 @@ avail_same flow S T L (suc n) p good = by_path (is_path p) refl
         ap (λ x. avail_by x (T.is p) (some_by flow T n p)) path
         ∙ sym (ap (λ x. avail_by x (S.is p) (some_by flow S n p)) path)
 
+avail_same : (flow : Flow) (S T : Sources) (L : Listings) (n : ℕ) (p : Text) → (is_path p ≡ true → Good flow S T L n p) → avail flow T n p ≡ avail flow S n p
+avail_same flow S T L zero p good = ended_same (is_path p) (S.is p) (T.is p) good
+avail_same flow S T L (suc n) p good = avail_step flow S T L n p (avail_same flow S T L n) good
+
 -- ## What is chosen
 
 abbrev choice_by : Flow → Bool → List Candidate → Option Lack → Choice
-choice_by flow source vs l = elim source as (λ _. Choice) [ | true ↦ Source | false ↦ choice (leader flow (enumerate_from 0 vs)) vs l ]
+choice_by flow source vs l = elim source as (λ _. Choice) [ true ↦ Source | false ↦ choice (leader flow (enumerate_from 0 vs)) vs l ]
 
 abbrev SameFirsts : Flow → Sources → Sources → Candidate → Type 0
 SameFirsts flow S T c = AllByRecursion (λ (w : Text). avail flow T 199 w ≡ avail flow S 199 w) (first_wants flow c)
@@ -305,19 +309,19 @@ chosen_good flow S T L k p c g e =
 -- ## Heights, refusals and walks
 
 abbrev height_by : (Candidate → ℕ) → Option Candidate → ℕ
-height_by f m = elim m as (λ _. ℕ) [ | None ↦ 0 | Some c ↦ f c ]
+height_by f m = elim m as (λ _. ℕ) [ None ↦ 0 | Some c ↦ f c ]
 
 all_passing : (P : Text → Type 0) (ws : List Text) → AllByRecursion (λ (w : Text). is_path w ≡ true → P w) ws → AllByRecursion P (filter is_path ws)
 all_passing P [] all = tt
-all_passing P (w ∷ ws) all = go (is_path w) refl
+all_passing P (w ∷ ws) all = go (is_path w) refl (all_passing P ws all.1)
   where
-    go : (b : Bool) → is_path w ≡ b → AllByRecursion P (cond b (w ∷ filter is_path ws) (filter is_path ws))
-    go true e = (all.0 e, all_passing P ws all.1)
-    go false e = all_passing P ws all.1
+    go : (b : Bool) → is_path w ≡ b → AllByRecursion P (filter is_path ws) → AllByRecursion P (cond b (w ∷ filter is_path ws) (filter is_path ws))
+    go true e rest = (all.0 e, rest)
+    go false e rest = rest
 
-pub height_same : (flow : Flow) (S T : Sources) (L : Listings) (n : ℕ) (p : Path) → Good flow S T L (over n 199) p → height flow T L n p ≡ height flow S L n p
-height_same flow S T L zero p g = refl
-height_same flow S T L (suc n) p g =
+height_step : (flow : Flow) (S T : Sources) (L : Listings) (n : ℕ) (p : Path) → ((q : Path) → Good flow S T L (over n 199) q → height flow T L n q ≡ height flow S L n q)
+    → Good flow S T L (suc (over n 199)) p → height flow T L (suc n) p ≡ height flow S L (suc n) p
+height_step flow S T L n p again g =
     ap (λ ch. height_by (λ c. 1 + fold max 0 (map (height flow T L n) (wanted_paths flow L c))) (maker ch)) (choose_same flow S T L p (good_less flow S T L n 199 p g))
     ∙ go (maker (choose flow S p)) refl
   where
@@ -327,11 +331,15 @@ height_same flow S T L (suc n) p g =
     go (Some c) e =
         ap (λ ns. 1 + fold max 0 ns)
         (map_same (height flow T L n) (height flow S L n) (wanted_paths flow L c)
-        (all_weaker (Good flow S T L (over n 199)) (λ w. height flow T L n w ≡ height flow S L n w) (height_same flow S T L n) (wanted_paths flow L c)
+        (all_weaker (Good flow S T L (over n 199)) (λ w. height flow T L n w ≡ height flow S L n w) again (wanted_paths flow L c)
         (all_passing (Good flow S T L (over n 199)) (wants flow L c) (chosen_good flow S T L (over n 199) p c g e))))
 
+pub height_same : (flow : Flow) (S T : Sources) (L : Listings) (n : ℕ) (p : Path) → Good flow S T L (over n 199) p → height flow T L n p ≡ height flow S L n p
+height_same flow S T L zero p g = refl
+height_same flow S T L (suc n) p g = height_step flow S T L n p (height_same flow S T L n) g
+
 abbrev refused_by : (Candidate → List Refusal) → Option Candidate → List Refusal
-refused_by f m = elim m as (λ _. List Refusal) [ | None ↦ [] | Some c ↦ f c ]
+refused_by f m = elim m as (λ _. List Refusal) [ None ↦ [] | Some c ↦ f c ]
 
 -- what is refused of one want
 abbrev refused_want : Flow → Sources → Listings → ℕ → Path → Candidate → Text → List Refusal
@@ -344,9 +352,9 @@ want_same : (b : Bool) (x y none : List Refusal) → (b ≡ true → x ≡ y) �
 want_same true x y none same = same refl
 want_same false x y none same = refl
 
-pub refused_same : (flow : Flow) (S T : Sources) (L : Listings) (n : ℕ) (p : Path) → Good flow S T L (over n 199) p → refused flow T L n p ≡ refused flow S L n p
-refused_same flow S T L zero p g = refl
-refused_same flow S T L (suc n) p g =
+refused_step : (flow : Flow) (S T : Sources) (L : Listings) (n : ℕ) (p : Path) → ((q : Path) → Good flow S T L (over n 199) q → refused flow T L n q ≡ refused flow S L n q)
+    → Good flow S T L (suc (over n 199)) p → refused flow T L (suc n) p ≡ refused flow S L (suc n) p
+refused_step flow S T L n p again g =
     ap (λ ch. refused_at flow L p ch ++ refused_by (λ c. flat_map (refused_want flow T L n p c) (wants flow L c)) (maker ch)) (choose_same flow S T L p (good_less flow S T L n 199 p g))
     ∙ ap (λ rs. refused_at flow L p (choose flow S p) ++ rs) (go (maker (choose flow S p)) refl)
   where
@@ -356,23 +364,24 @@ refused_same flow S T L (suc n) p g =
     go (Some c) e =
         flat_same (refused_want flow T L n p c) (refused_want flow S L n p c) (wants flow L c)
         (all_weaker (λ (w : Text). is_path w ≡ true → Good flow S T L (over n 199) w) (λ w. refused_want flow T L n p c w ≡ refused_want flow S L n p c w)
-        (λ w h. want_same (is_path w) (refused flow T L n w) (refused flow S L n w) (NoInput p c.rule w ∷ []) (λ path. refused_same flow S T L n w (h path)))
+        (λ w h. want_same (is_path w) (refused flow T L n w) (refused flow S L n w) (NoInput p c.rule w ∷ []) (λ path. again w (h path)))
         (wants flow L c) (chosen_good flow S T L (over n 199) p c g e))
+
+pub refused_same : (flow : Flow) (S T : Sources) (L : Listings) (n : ℕ) (p : Path) → Good flow S T L (over n 199) p → refused flow T L n p ≡ refused flow S L n p
+refused_same flow S T L zero p g = refl
+refused_same flow S T L (suc n) p g = refused_step flow S T L n p (refused_same flow S T L n) g
+
+never_cons : {A : Type 0} (x : A) (xs : List A) → x ∷ xs ≡ [] → ⊥
+never_cons x xs e = cc
 
 -- nothing is refused of the parts of what nothing is refused of
 none_first : {A : Type 0} (xs ys : List A) → xs ++ ys ≡ [] → xs ≡ []
 none_first [] ys e = refl
-none_first (x ∷ xs) ys e = absurd (no x (xs ++ ys) e)
-  where
-    no : (x : _) (zs : List _) → x ∷ zs ≡ [] → ⊥
-    no x zs q = cc
+none_first (x ∷ xs) ys e = absurd (never_cons x (xs ++ ys) e)
 
 none_second : {A : Type 0} (xs ys : List A) → xs ++ ys ≡ [] → ys ≡ []
 none_second [] ys e = e
-none_second (x ∷ xs) ys e = absurd (no x (xs ++ ys) e)
-  where
-    no : (x : _) (zs : List _) → x ∷ zs ≡ [] → ⊥
-    no x zs q = cc
+none_second (x ∷ xs) ys e = absurd (never_cons x (xs ++ ys) e)
 
 none_each : {A B : Type 0} (f : A → List B) (xs : List A) → flat_map f xs ≡ [] → AllByRecursion (λ x. f x ≡ []) xs
 none_each f [] e = tt
@@ -391,12 +400,11 @@ all_and P Q R more [] a b = tt
 all_and P Q R more (x ∷ xs) a b = (more x a.0 b.0, all_and P Q R more xs a.1 b.1)
 
 abbrev walk_by : (Candidate → List Candidate) → Option Candidate → List Candidate
-walk_by f m = elim m as (λ _. List Candidate) [ | None ↦ [] | Some c ↦ f c ]
+walk_by f m = elim m as (λ _. List Candidate) [ None ↦ [] | Some c ↦ f c ]
 
--- the jobs that a path calls for, where nothing is refused of it
-pub walk_same : (flow : Flow) (S T : Sources) (L : Listings) (n : ℕ) (p : Path) → Good flow S T L (over n 199) p → refused flow S L (suc n) p ≡ [] → walk flow T L n p ≡ walk flow S L n p
-walk_same flow S T L zero p g none = refl
-walk_same flow S T L (suc n) p g none =
+walk_step : (flow : Flow) (S T : Sources) (L : Listings) (n : ℕ) (p : Path) → ((q : Path) → Good flow S T L (over n 199) q → refused flow S L (suc n) q ≡ [] → walk flow T L n q ≡ walk flow S L n q)
+    → Good flow S T L (suc (over n 199)) p → refused flow S L (suc (suc n)) p ≡ [] → walk flow T L (suc n) p ≡ walk flow S L (suc n) p
+walk_step flow S T L n p again g none =
     ap (λ ch. walk_by (λ c. flat_map (walk flow T L n) (wants flow L c) ++ c ∷ []) (maker ch)) (choose_same flow S T L p (good_less flow S T L n 199 p g))
     ∙ go (maker (choose flow S p)) refl
     (none_second (refused_at flow L p (choose flow S p)) (refused_by (λ c. flat_map (refused_want flow S L (suc n) p c) (wants flow L c)) (maker (choose flow S p))) none)
@@ -408,8 +416,13 @@ walk_same flow S T L (suc n) p g none =
         ap (λ cs. cs ++ c ∷ [])
         (flat_same (walk flow T L n) (walk flow S L n) (wants flow L c)
         (all_and (λ (w : Text). is_path w ≡ true → Good flow S T L (over n 199) w) (λ w. refused_want flow S L (suc n) p c w ≡ []) (λ w. walk flow T L n w ≡ walk flow S L n w)
-        (λ w h none. let f = want_fine (is_path w) (refused flow S L (suc n) w) p c.rule w none in walk_same flow S T L n w (h f.0) f.1)
+        (λ w h none. let f = want_fine (is_path w) (refused flow S L (suc n) w) p c.rule w none in again w (h f.0) f.1)
         (wants flow L c) (chosen_good flow S T L (over n 199) p c g e) (none_each (refused_want flow S L (suc n) p c) (wants flow L c) fine)))
+
+-- the jobs that a path calls for, where nothing is refused of it
+pub walk_same : (flow : Flow) (S T : Sources) (L : Listings) (n : ℕ) (p : Path) → Good flow S T L (over n 199) p → refused flow S L (suc n) p ≡ [] → walk flow T L n p ≡ walk flow S L n p
+walk_same flow S T L zero p g none = refl
+walk_same flow S T L (suc n) p g none = walk_step flow S T L n p (walk_same flow S T L n) g none
 
 -- ## The reach
 

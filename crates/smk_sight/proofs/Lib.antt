@@ -1,2 +1,10 @@
 pub mod Agree
 pub mod Stand
+pub mod Distinct
+pub mod Eyes
+pub mod Noted
+pub mod Views
+pub mod Spreading
+pub mod Under
+pub mod Taken
+pub mod Keys

@@ -1,33 +1,31 @@
 -- What stands in a working folder, and which of it are sources.
-use Rattle.std.proofs.Common.{◌≡◌, ◌⊎◌, inl, inr, ◌≢◌, ℕ, ◌+◌, ◌<◌, ◌≤◌, Bool, true, false, ◌&&◌, ◌||◌, not, cond, List, [], ◌∷◌, ◌++◌, map, length, take, refl, sym, ap, ap₂, subst, ◌∙◌, Option, Some, None, arith, append_assoc, append-nil, length-append, filter, eqb}
-use Rattle.std.specs.Prelude.{IsSome, is_some, IsTrue, All, Contains, if◌then◌else◌, nat_le, bytes_eq, ◌==◌}
+use Rattle.std.proofs.Common.{◌≡◌, ◌⊎◌, inl, inr, ◌≢◌, ℕ, ◌≤◌, Bool, true, false, ◌&&◌, ◌||◌, not, cond, List, [], ◌∷◌, ◌++◌, map, length, refl, sym, ap, ap₂, subst, ◌∙◌, Option, Some, None, arith, append_assoc, append-nil, length-append, filter}
+use Rattle.std.specs.Prelude.{IsSome, is_some, IsTrue, All, Contains, nat_le, bytes_eq, ◌==◌}
 use Rattle.std.specs.List.{list_any}
 use Rattle.std.specs.Str.{IsUtf8}
 use Rattle.std.proofs.lemmas.Str.{IsUtf8-from_ascii}
 use Rattle.std.proofs.lemmas.Str.Ascii.{IsAscii-cons, IsAscii-nil}
-use Rattle.std.proofs.lemmas.Bool.{eqb-true, leb-true, le-leb}
+use Rattle.std.proofs.lemmas.Bool.{leb-true, le-leb}
 use Rattle.std.proofs.lemmas.List.Elements.{All-contains, All-weaker, All-map, All-contains_itself}
-use Rattle.smk_base.specs.Path.{parts, is_part, is_path, is_path_byte, are_parts, are_path_bytes, is_under, is_at_or_under, overlaps, own_folder}
-use Rattle.smk_base.proofs.Names.{parts_some}
+use Rattle.smk_base.specs.Path.{parts, is_path, is_path_byte, are_parts, are_path_bytes, is_under, is_at_or_under, overlaps, own_folder}
 use Rattle.smk_base.proofs.Places.{and_first, and_second, same_place, place_itself}
 use Rattle.smk_base.proofs.Paths.{parts-joined, are_parts-append, are_path_bytes-joined, path_bytes, path_parts}
-use Rattle.smk_base.proofs.Under.{never_both, false_unless, false_of_not, or_first, or_second, or_cases, both_true, under_folder, rest_under, under_further, at_itself, at_when_under, at_or_under_cases, at_or_under_further}
+use Rattle.smk_base.proofs.Under.{never_both, false_unless, false_of_not, or_first, or_second, or_cases, both_true, under_folder, rest_under, at_itself, at_when_under, at_or_under_cases, at_or_under_further}
 use Rattle.smk_world.specs.declared.event.Node.{Node}
 use Rattle.smk_world.specs.declared.event.Node.TheVariants.{Regular, Directory}
 use Rattle.smk_world.specs.declared.event.NodeState.{NodeState}
 use Rattle.smk_world.specs.declared.event.NodeState.TheVariants.{Owned, Known}
-use Rattle.smk_world.specs.World.{World, IsFormed, reading, reads_folder, folders_above, is_named}
+use Rattle.smk_world.specs.World.{World, reading, reads_folder, folders_above, is_named}
 use Rattle.smk_world.specs.declared.event.Listing.{Listing}
 use Rattle.smk_world.specs.declared.event.Name.{Name}
 use Rattle.smk_world.specs.Calls.{in_folder, stat_of, is_name, IsTextName, MayStand, Stands, IsListing, ListingIs}
 use Rattle.smk_world.specs.Trees.{Path, is_path_text, is_text}
 use Rattle.smk_record.proofs.Digits.{text_is_utf8, utf8_is_text}
-use Rattle.smk_store.specs.Images.{Image, is_file, is_known, is_covered, is_source, holds_source, content_of, seen, is_outside}
+use Rattle.smk_store.specs.Images.{Image, is_file, is_known, is_covered, is_source, holds_source, content_of}
 use Rattle.smk_store.specs.Stores.{Known as Entries, is_covered_in}
-use Rattle.smk_store.specs.Loading.{IsStoreOf}
 use Rattle.smk_store.proofs.Loads.{named_filter}
 use Rattle.smk_store.proofs.Walks.{flat, split, Deeper, utf8_before, utf8_behind, bytes_before, bytes_behind}
-use Rattle.smk_sight.specs.Viewing.{Viewed, NoneUnder, SomeUnder, TellsUnder, IsSighted, sighted}
+use Rattle.smk_sight.specs.Viewing.{Viewed, NoneUnder, SomeUnder, TellsUnder, IsSighted, by_stat}
 
 -- ## Folders above
 
@@ -50,22 +48,24 @@ above_here P (b ∷ p) rest h =
     (any_map P (λ q. b ∷ q) (folders_above (p ++ 47 ∷ rest)) ∙ above_here (λ q. P (b ∷ q)) p rest h)
 
 -- so is what is above that
-above_more : (P : Path → Bool) (p rest : Path) → list_any P (folders_above p) ≡ true → list_any P (folders_above (p ++ 47 ∷ rest)) ≡ true
-above_more P [] rest h = absurd (never_both false h refl)
-above_more P (b ∷ p) rest h = go (b == 47) h
+more_by : (P : Path → Bool) (b : ℕ) (p rest : Path) → (list_any (λ q. P (b ∷ q)) (folders_above p) ≡ true → list_any (λ q. P (b ∷ q)) (folders_above (p ++ 47 ∷ rest)) ≡ true)
+    → (s : Bool) → list_any P (with_slash b (folders_above p) s) ≡ true → list_any P (with_slash b (folders_above (p ++ 47 ∷ rest)) s) ≡ true
+more_by P b p rest again s h = go s h
   where
     deeper : list_any P (map (λ q. b ∷ q) (folders_above p)) ≡ true → list_any P (map (λ q. b ∷ q) (folders_above (p ++ 47 ∷ rest))) ≡ true
-    deeper k =
-        any_map P (λ q. b ∷ q) (folders_above (p ++ 47 ∷ rest))
-        ∙ above_more (λ q. P (b ∷ q)) p rest (sym (any_map P (λ q. b ∷ q) (folders_above p)) ∙ k)
+    deeper k = any_map P (λ q. b ∷ q) (folders_above (p ++ 47 ∷ rest)) ∙ again (sym (any_map P (λ q. b ∷ q) (folders_above p)) ∙ k)
 
-    go : (s : Bool) → list_any P (with_slash b (folders_above p) s) ≡ true → list_any P (with_slash b (folders_above (p ++ 47 ∷ rest)) s) ≡ true
+    go : (t : Bool) → list_any P (with_slash b (folders_above p) t) ≡ true → list_any P (with_slash b (folders_above (p ++ 47 ∷ rest)) t) ≡ true
     go true k =
         elim (or_cases (P []) (list_any P (map (λ q. b ∷ q) (folders_above p))) k) [
           | inl here ↦ or_first (P []) (list_any P (map (λ q. b ∷ q) (folders_above (p ++ 47 ∷ rest)))) here
           | inr there ↦ or_second (P []) (list_any P (map (λ q. b ∷ q) (folders_above (p ++ 47 ∷ rest)))) (deeper there)
         ]
     go false k = deeper k
+
+above_more : (P : Path → Bool) (p rest : Path) → list_any P (folders_above p) ≡ true → list_any P (folders_above (p ++ 47 ∷ rest)) ≡ true
+above_more P [] rest h = absurd (never_both false h refl)
+above_more P (b ∷ p) rest h = more_by P b p rest (above_more (λ q. P (b ∷ q)) p rest) (b == 47) h
 
 pub record Above (P : Path → Bool) (p : Path) : Type 0 where
   pub folder : Path
@@ -75,22 +75,26 @@ pub record Above (P : Path → Bool) (p : Path) : Type 0 where
 under_same : (b : ℕ) (p f : Path) → is_under p f ≡ true → is_under (b ∷ p) (b ∷ f) ≡ true
 under_same b p f h = let r = rest_under p f h in subst (λ q. is_under (b ∷ q) (b ∷ f) ≡ true) (sym r.1) (under_folder (b ∷ f) r.0)
 
-pub above_is : (P : Path → Bool) (p : Path) → list_any P (folders_above p) ≡ true → Above P p
-above_is P [] h = absurd (never_both false h refl)
-above_is P (b ∷ p) h = go (b == 47) refl h
+is_by : (P : Path → Bool) (b : ℕ) (p : Path) → (list_any (λ q. P (b ∷ q)) (folders_above p) ≡ true → Above (λ q. P (b ∷ q)) p)
+    → (s : Bool) → (b == 47) ≡ s → list_any P (with_slash b (folders_above p) s) ≡ true → Above P (b ∷ p)
+is_by P b p again s e h = go s e h
   where
     deeper : list_any P (map (λ q. b ∷ q) (folders_above p)) ≡ true → Above P (b ∷ p)
     deeper k =
-        let a = above_is (λ q. P (b ∷ q)) p (sym (any_map P (λ q. b ∷ q) (folders_above p)) ∙ k) in
+        let a = again (sym (any_map P (λ q. b ∷ q) (folders_above p)) ∙ k) in
         record { folder = b ∷ a.folder; passes = a.passes; over = under_same b p a.folder a.over }
 
-    go : (s : Bool) → (b == 47) ≡ s → list_any P (with_slash b (folders_above p) s) ≡ true → Above P (b ∷ p)
-    go true e k =
+    go : (t : Bool) → (b == 47) ≡ t → list_any P (with_slash b (folders_above p) t) ≡ true → Above P (b ∷ p)
+    go true f k =
         elim (or_cases (P []) (list_any P (map (λ q. b ∷ q) (folders_above p))) k) [
-          | inl here ↦ record { folder = []; passes = here; over = e }
+          | inl here ↦ record { folder = []; passes = here; over = f }
           | inr there ↦ deeper there
         ]
-    go false e k = deeper k
+    go false f k = deeper k
+
+pub above_is : (P : Path → Bool) (p : Path) → list_any P (folders_above p) ≡ true → Above P p
+above_is P [] h = absurd (never_both false h refl)
+above_is P (b ∷ p) h = is_by P b p (above_is (λ q. P (b ∷ q)) p) (b == 47) refl h
 
 -- ## What is covered
 
@@ -140,7 +144,7 @@ covered_none_at image q p h at =
       | inr under ↦ covered_none image q (covered_under image q p h under)
     ]
 
-file_some : (n : Option Node) → is_some (content_of n) ≡ true → IsSome n
+pub file_some : (n : Option Node) → is_some (content_of n) ≡ true → IsSome n
 file_some None h = absurd (never_both false h refl)
 file_some (Some (Regular bytes time read_only)) h = refl
 file_some (Some Directory) h = refl
@@ -186,7 +190,7 @@ module _ (nodes : Path → NodeState) (store : List Entries) (image : Image) (v 
       let covered = sym (v.covered p) ∙ h in
       record { source = sym (covered_none image p covered); none = λ plain q under. covered_none image q (covered_under image q p covered under) }
 
-  sighted_by : (p : Path) (s : NodeState) → nodes p ≡ s → is_path_text p ≡ true → is_covered_in store p ≡ false → IsSighted image p (sighted (stat_of (reading s)))
+  sighted_by : (p : Path) (s : NodeState) → nodes p ≡ s → is_path_text p ≡ true → is_covered_in store p ≡ false → IsSighted image p (by_stat (stat_of (reading s)))
   sighted_by p Owned e path uncovered = absurd (v.unowned p path e)
   sighted_by p (Known None besides) e path uncovered =
       record {
@@ -204,7 +208,7 @@ module _ (nodes : Path → NodeState) (store : List Entries) (image : Image) (v 
         none = λ plain. absurd (never_both true refl plain);
       }
 
-  pub sighted_is : (p : Path) → is_path_text p ≡ true → is_covered_in store p ≡ false → IsSighted image p (sighted (stat_of (reading (nodes p))))
+  pub sighted_is : (p : Path) → is_path_text p ≡ true → is_covered_in store p ≡ false → IsSighted image p (by_stat (stat_of (reading (nodes p))))
   sighted_is p path uncovered = sighted_by p (nodes p) refl path uncovered
 
   -- ## What a path holds
@@ -224,11 +228,11 @@ module _ (nodes : Path → NodeState) (store : List Entries) (image : Image) (v 
 
   filter_none : (test f : Path → Bool) (ps : List Path) → ((q : Path) → test q ≡ true → f q ≡ false) → list_any f (filter test ps) ≡ false
   filter_none test f [] none = refl
-  filter_none test f (p ∷ ps) none = go (test p) refl
+  filter_none test f (p ∷ ps) none = go (test p) refl (filter_none test f ps none)
     where
-      go : (b : Bool) → test p ≡ b → list_any f (cond b (p ∷ filter test ps) (filter test ps)) ≡ false
-      go true e = ap (λ x. x || list_any f (filter test ps)) (none p e) ∙ filter_none test f ps none
-      go false e = filter_none test f ps none
+      go : (b : Bool) → test p ≡ b → list_any f (filter test ps) ≡ false → list_any f (cond b (p ∷ filter test ps) (filter test ps)) ≡ false
+      go true e rest = ap (λ x. x || list_any f (filter test ps)) (none p e) ∙ rest
+      go false e rest = rest
 
   pub holds_no : (p : Path) → ((q : Path) → is_source image q ≡ true → overlaps p q ≡ true → ⊥) → holds_source image p ≡ false
   holds_no p never = filter_none (is_source image) (overlaps p) image.names (λ q s. false_unless (overlaps p q) (never q s))
@@ -266,7 +270,7 @@ module _ (nodes : Path → NodeState) (store : List Entries) (image : Image) (v 
 outside_above : (a b : Path) → is_at_or_under (a ++ 47 ∷ b) own_folder ≡ false → is_at_or_under a own_folder ≡ false
 outside_above a b h = false_unless (is_at_or_under a own_folder) (λ k. never_both (is_at_or_under (a ++ 47 ∷ b) own_folder) (at_or_under_further (a ++ 47 ∷ b) a own_folder (at_when_under (a ++ 47 ∷ b) a (under_folder a b)) k) h)
 
-path_outside : (p : Path) → is_path p ≡ true → is_at_or_under p own_folder ≡ false
+pub path_outside : (p : Path) → is_path p ≡ true → is_at_or_under p own_folder ≡ false
 path_outside p h =
     false_of_not (is_at_or_under p own_folder)
     (and_second (are_parts (parts p)) (not (is_at_or_under p own_folder))
@@ -294,13 +298,13 @@ text_above a b h =
 
 -- what is no path has nothing under it that is one
 pub none_at_none : (image : Image) (p q : Path) → is_path_text p ≡ false → is_at_or_under q p ≡ true → is_source image q ≡ false
-none_at_none image p q no at =
+none_at_none image p q other at =
     no_source_unless image q (λ s.
     elim (at_or_under_cases q p at) [
-      | inl e ↦ never_both (is_path_text p) (sym (ap is_path_text e) ∙ (source_parts image q s).path) no
+      | inl e ↦ never_both (is_path_text p) (sym (ap is_path_text e) ∙ (source_parts image q s).path) other
       | inr under ↦
           let r = rest_under q p under in
-          never_both (is_path_text p) (text_above p r.0 (subst (λ t. is_path_text t ≡ true) r.1 (source_parts image q s).path)) no
+          never_both (is_path_text p) (text_above p r.0 (subst (λ t. is_path_text t ≡ true) r.1 (source_parts image q s).path)) other
     ])
 
 -- ## Names in a folder
@@ -410,7 +414,7 @@ named_in names name h =
 module _ (nodes : Path → NodeState) (store : List Entries) (image : Image) (v : Viewed nodes store image) (folder : Path) (names : List Name) (l : ListedIn nodes folder names) where
   -- a place that isn't a path's, or is covered, or that of a folder with no source under it
   pub at_no_path : (n : Name) → is_path_text (in_folder folder n.name) ≡ false → NoneAt image folder n
-  at_no_path n no q at = none_at_none image (in_folder folder n.name) q no at
+  at_no_path n other q at = none_at_none image (in_folder folder n.name) q other at
 
   pub at_covered : (n : Name) → is_covered_in store (in_folder folder n.name) ≡ true → NoneAt image folder n
   at_covered n h q at = covered_none_at image q (in_folder folder n.name) (sym (v.covered (in_folder folder n.name)) ∙ h) at

@@ -1,3 +1,5 @@
 pub mod Sight
 pub mod Disk
 pub mod Viewing
+pub mod Telling
+pub mod Reaching

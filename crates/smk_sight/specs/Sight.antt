@@ -1,5 +1,5 @@
 -- What is told of sources for some targets.
-use Rattle.std.specs.Prelude.{◌≡◌, Bool, true, false, List, ◌++◌}
+use Rattle.std.specs.Prelude.{◌≡◌, ◌<◌, ◌≤◌, ℕ, true, false, List, ◌++◌, length}
 use Rattle.std.specs.List.{AllByRecursion}
 use Rattle.smk_base.specs.Path.{is_path}
 use Rattle.smk_world.specs.Trees.{Path}
@@ -28,3 +28,15 @@ SameAround flow S T p =
 -- so they do of each path of the reach of these targets
 abbrev pub SameOnReach : Flow → Sources → Listings → List Path → Sources → Type 0
 SameOnReach flow S L targets T = AllByRecursion (SameAround flow S T) (reach flow S L 400 targets)
+
+-- the reach has more than 100,000 paths, or no more
+pub record IsLarge (flow : Flow) (S : Sources) (L : Listings) (targets : List Path) : Type 0 where
+  pub more : 100000 < length (reach flow S L 400 targets)
+
+pub record IsSmall (flow : Flow) (S : Sources) (L : Listings) (targets : List Path) : Type 0 where
+  pub less : length (reach flow S L 400 targets) ≤ 100000
+
+-- Where so many paths are the reach, or more than it may have: which of the two, and in the one case what is told of it.
+pub record TellsReach (flow : Flow) (S : Sources) (L : Listings) (targets : List Path) (T : Sources) (count : ℕ) : Type 0 where
+  pub small : count ≤ 100000 → SameOnReach flow S L targets T × IsSmall flow S L targets
+  pub large : 100000 < count → IsLarge flow S L targets

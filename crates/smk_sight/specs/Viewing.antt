@@ -1,5 +1,5 @@
 -- What looks at a working folder tell of the sources in it.
-use Rattle.std.specs.Prelude.{◌≡◌, ◌≢◌, ℕ, Bool, true, false, List, Option, Some, IsSome}
+use Rattle.std.specs.Prelude.{◌≡◌, ◌≢◌, Bool, true, false, List, Some, IsSome}
 use Rattle.std.specs.BTreeMap.{BTreeMap, get_by_text}
 use Rattle.std.specs.Global.{Global}
 use Rattle.std.specs.Prelude.{String}
@@ -43,14 +43,14 @@ pub record IsSighted (image : Image) (p : Path) (s : Sighted) : Type 0 where
   pub none : s.folder ≡ false → NoneUnder image p
 
 -- so is each path that is known
-abbrev pub AreSighted : Image → BTreeMap (String Global) Sighted Global → Type 0
+abbrev pub AreSighted : Image → BTreeMap (String Global) Sighted → Type 0
 AreSighted image seen = (q : Path) (s : Sighted) → get_by_text seen q ≡ Some s → IsSighted image q s
 
 -- what is told of the path is so
 abbrev pub IsStanding : Image → Path → Standing → Type 0
 IsStanding image p s = (s.source ≡ is_source image p) × (s.holds ≡ holds_source image p)
 
-abbrev pub sighted : Stat → Sighted
-sighted NoStat = record { source = false; folder = false }
-sighted (FileStat time read_only) = record { source = true; folder = false }
-sighted FolderStat = record { source = false; folder = true }
+abbrev pub by_stat : Stat → Sighted
+by_stat NoStat = record { source = false; folder = false }
+by_stat (FileStat time read_only) = record { source = true; folder = false }
+by_stat FolderStat = record { source = false; folder = true }

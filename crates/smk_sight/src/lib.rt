@@ -2,6 +2,8 @@
 #![tactic(auto)]
 
 mod looking;
+mod reaching;
 mod seeing;
+mod telling;
 
 pub use looking::sight;

@@ -1,12 +1,13 @@
 //! Looking at one path: whether it is a source, and whether it holds one.
 
-ghost use Rattle.std.specs.Prelude.{◌≡◌, ◌++◌, ◌∷◌, true, false, Some, IsErrOf, IfOk};
+ghost use Rattle.std.specs.Prelude.{◌≡◌, ◌++◌, ◌∷◌, true, false, Some, IsErrOf, IfOk, OnOk, bytes_eq, if◌then◌else◌};
+ghost use Rattle.std.specs.BTreeMap.{get_by_text};
 ghost use Rattle.std.specs.List.{list_any};
 ghost use Rattle.smk_world.specs.World.{World, folders_above};
-ghost use Rattle.smk_world.specs.Trees.{is_path_text};
+ghost use Rattle.smk_world.specs.Trees.{Path, is_path_text};
 ghost use Rattle.smk_store.specs.Images.{Image, is_source, holds_source};
 ghost use Rattle.smk_store.specs.Walking.{HasLooked, path_in};
-ghost use Rattle.smk_sight.specs.Viewing.{Viewed, NoneUnder, TellsUnder, IsSighted, AreSighted, IsStanding, sighted};
+ghost use Rattle.smk_sight.specs.Viewing.{Viewed, NoneUnder, TellsUnder, IsSighted, AreSighted, IsStanding, by_stat};
 
 use smk_base::{OutOfMemory, PathFault, PathText, Place};
 use smk_choose::{Standing, folders_above};
@@ -23,8 +24,8 @@ pub(crate) struct Sighted {
 }
 
 // What stands at a path that isn't covered.
-fn sighted(stat: Stat) -> Sighted
-    ensures { result ≡ sighted stat }
+fn by_stat(stat: Stat) -> Sighted
+    ensures { result ≡ by_stat stat }
 {
     match stat {
         Stat::Nothing => Sighted {
@@ -61,7 +62,29 @@ fn look<W: Files>(
     }
     let place = Place::user(alloc, path)?;
     let stat = work.stat(&place)?;
-    Ok(sighted(stat))
+    Ok(by_stat(stat))
+}
+
+// Keeps what a look at the path told.
+fn note(
+    alloc: Global,
+    seen: &mut BTreeMap<String, Sighted>,
+    text: &str,
+    found: Sighted,
+) -> Result<(), OutOfMemory>
+    ensures { OnOk result ((q : Path) → get_by_text seen.new q ≡ (if bytes_eq text.now q then Some found else get_by_text seen.old q)) }
+{
+    let key = String::from_str(alloc, text)?;
+    seen.insert(key, found)?;
+    Ok(())
+}
+
+// The text of the path, which is one as it stands in a contract.
+fn text_of(path: &PathText) -> &str
+    ensures same { result.now ≡ path.now }
+    ensures text { is_path_text path.now ≡ true }
+{
+    path.as_str()
 }
 
 // What a look at the path tells. It is looked at once.
@@ -77,13 +100,15 @@ fn seen_at<W: Files>(
     ensures told { IfOk result (λ s. (w : World) (image : Image) → W.world work.old ≡ Some w → Viewed w.nodes store.now image
         → AreSighted image seen.old → IsSighted image path.now s × AreSighted image seen.new) }
 {
-    let text = path.as_str();
+    let text = text_of(path);
     match seen.get(text) {
-        Some(known) => Ok(*known),
+        Some(known) => Ok(Sighted {
+            source: known.source,
+            folder: known.folder,
+        }),
         None => {
             let found = look(alloc, store, work, path)?;
-            let key = String::from_str(alloc, text)?;
-            seen.insert(key, found)?;
+            note(alloc, seen, text, found)?;
             Ok(found)
         }
     }
@@ -145,7 +170,8 @@ fn has_under<W: Files>(
         if !name.folder {
             return Ok(true);
         }
-        if has_under(alloc, store, work, &path)? {
+        let inner = has_under(alloc, store, work, &path)?;
+        if inner {
             return Ok(true);
         }
     }
@@ -167,7 +193,8 @@ fn has_around<W: Files>(
         → AreSighted image seen.old → (found ≡ holds_source image path.now) × AreSighted image seen.new) }
 {
     let above = folders_above(alloc, path)?;
-    if any_source(alloc, store, work, seen, &above)? {
+    let over = any_source(alloc, store, work, seen, &above)?;
+    if over {
         return Ok(true);
     }
     if folder {
@@ -178,7 +205,7 @@ fn has_around<W: Files>(
 
 /// Whether the path is a source, and whether it holds one. Each path is looked at once; a folder's tree is listed only where a folder
 /// stands at the path.
-pub(crate) fn standing<W: Files>(
+pub(crate) fn standing_at<W: Files>(
     alloc: Global,
     store: &Store,
     work: &mut W,
