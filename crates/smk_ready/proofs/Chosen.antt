@@ -1,5 +1,5 @@
 -- What holds of the jobs that are chosen for targets: each has an output, and a binding with no name twice.
-use Rattle.std.proofs.Common.{◌≡◌, ℕ, zero, suc, Bool, true, false, List, [], ◌∷◌, ◌++◌, filter, Option, Some, None, option_map, refl, ap}
+use Rattle.std.proofs.Common.{◌≡◌, ℕ, zero, suc, List, [], ◌∷◌, ◌++◌, filter, Option, Some, None, option_map, refl, ap}
 use Rattle.std.specs.List.{flat_map, filter_map, cons_option, AllByRecursion}
 use Rattle.smk_base.specs.declared.tree.Pair.{Pair}
 use Rattle.smk_world.specs.World.{folders_above}
@@ -8,7 +8,7 @@ use Rattle.smk_pattern.specs.Bound.{binding_of}
 use Rattle.smk_flow.specs.declared.rule.RulePart.{RulePart}
 use Rattle.smk_flow.specs.declared.rule.FlaggedText.{FlaggedText}
 use Rattle.smk_flow.specs.Flows.{Flow, Candidate, outs, makes_folder, numbered}
-use Rattle.smk_choose.specs.Choose.{Sources, Choice, Source, Make, Nothing, Ambiguous, candidate, fit, as_member, as_output, or_else, is_apart, candidates, choose, maker}
+use Rattle.smk_choose.specs.Choose.{Sources, Choice, Source, Make, Nothing, Ambiguous, candidate, fit, as_member, as_output, or_else, is_apart, choose, maker}
 use Rattle.smk_choose.proofs.Picked.{chosen_candidate}
 use Rattle.smk_chain.specs.Derive.{Listings, wants, walk, chosen, same_candidate}
 use Rattle.smk_ready.proofs.Lists.{OnSome, all_append, all_filter, all_flat, all_found, all_distinct}

@@ -1,5 +1,5 @@
 -- The binding of a path has each name once, so by name it rises.
-use Rattle.std.proofs.Common.{◌≡◌, ◌∙◌, ℕ, Bool, true, false, cond, not, ◌&&◌, ◌||◌, eqb-true, eq-eqb, ltb-false, lt-ltb, Ordering, Less, Equal, Greater, List, [], ◌∷◌, map, filter, Option, Some, None, option_map, refl, sym, ap, subst, arith, bytes_eq, true≢false, ◌<◌, ◌≤◌, ◌==◌}
+use Rattle.std.proofs.Common.{◌≡◌, ◌∙◌, ℕ, Bool, true, false, cond, not, ◌&&◌, ◌||◌, eqb-true, eq-eqb, ltb-false, lt-ltb, Less, Equal, Greater, List, [], ◌∷◌, map, filter, Option, Some, None, option_map, refl, sym, ap, arith, bytes_eq, true≢false, ◌<◌, ◌≤◌, ◌==◌}
 use Rattle.std.specs.Prelude.{nat_lt}
 use Rattle.std.proofs.lemmas.Bool.{eqb-false}
 use Rattle.std.specs.Ordering.{nat_cmp, ordering_then}
@@ -14,7 +14,7 @@ use Rattle.smk_pattern.specs.Grammar.{Piece, plain, hole, limit_for, inline_limi
 use Rattle.smk_pattern.specs.Reading.{pieces, names_in, shape_of, is_below, put, by_name}
 use Rattle.smk_pattern.specs.Fitting.{bound_pairs}
 use Rattle.smk_pattern.specs.Bound.{bound, binding_of}
-use Rattle.smk_ready.proofs.Lists.{OnSome, all_map, all_filter}
+use Rattle.smk_ready.proofs.Lists.{OnSome, all_filter}
 
 -- ## Byte order
 

@@ -1,12 +1,12 @@
 -- The jobs of targets can be run.
-use Rattle.std.proofs.Common.{◌≡◌, ℕ, suc, ◌<◌, Bool, true, List, [], ◌∷◌, ◌++◌, map, Option, Some, None, option_map, Result, Ok, Err, IfOk, refl, sym, ap, ap₂, subst, bytes_eq, nat_eq}
+use Rattle.std.proofs.Common.{◌≡◌, ℕ, suc, ◌<◌, true, List, [], ◌∷◌, ◌++◌, map, Option, Some, None, option_map, Result, Ok, Err, IfOk, refl, sym, ap₂, subst, bytes_eq}
 use Rattle.std.specs.List.{find, flat_map, filter_map, AllByRecursion}
 use Rattle.std.specs.Option.{option_and_then}
 use Rattle.smk_base.specs.declared.tree.Pair.{Pair}
 use Rattle.smk_world.specs.declared.recipe.Item.{Item}
 use Rattle.smk_world.specs.declared.recipe.Out.{Out}
 use Rattle.smk_world.specs.declared.recipe.OutItem.{OutItem}
-use Rattle.smk_world.specs.World.{in_paths, out_paths, owned_paths}
+use Rattle.smk_world.specs.World.{in_paths, owned_paths}
 use Rattle.smk_world.specs.Calls.{are_apart}
 use Rattle.smk_world.specs.Trees.{Path, Each}
 use Rattle.smk_pattern.specs.Shapes.{Text}
@@ -21,7 +21,7 @@ use Rattle.smk_choose.specs.Choose.{Sources}
 use Rattle.smk_store.specs.Stores.{Known as Stored}
 use Rattle.smk_chain.specs.declared.jobs.Jobs.{Jobs}
 use Rattle.smk_chain.specs.declared.jobs.Maker.{Maker}
-use Rattle.smk_chain.specs.Derive.{Listings, item_paths, gathered_in, gathered_files, wants, recipe, job, jobs, chosen, distinct, spots}
+use Rattle.smk_chain.specs.Derive.{Listings, item_paths, gathered_in, gathered_files, wants, recipe, job, jobs, chosen, spots}
 use Rattle.smk_clash.specs.Clashes.{clashes_in}
 use Rattle.smk_walk.specs.Links.{maker_told, AreLower, number_for, befores_of, AreLinked}
 use Rattle.smk_run.specs.Runs.{maker_in, IsEarlier, IsRunnable, AreRunnableFrom, AreRunnable}
@@ -81,11 +81,11 @@ module _ (flow : Flow) (sources : Sources) (L : Listings) (makers : List Maker) 
         apart = apart;
         wildcards = by_name_rising c.binding bound.0;
         earlier =
-          inputs_each flow L c (λ q. IsEarlier n (maker_in makers q))
-          (all_map (λ q. OnSome (λ k. k < n) (number_for flow sources L all q)) (λ q. IsEarlier n (maker_in makers q))
-          (λ q h. earlier_told n (find (λ (m : Maker). bytes_eq m.path q) makers) (number_for flow sources L all q) (right q) (earlier_some n (number_for flow sources L all q) h))
-          (wants flow L c)
-          (of_found (λ k. k < n) (number_for flow sources L all) (wants flow L c) (of_distinct (λ k. k < n) (filter_map (number_for flow sources L all) (wants flow L c)) lower)));
+            inputs_each flow L c (λ q. IsEarlier n (maker_in makers q))
+            (all_map (λ q. OnSome (λ k. k < n) (number_for flow sources L all q)) (λ q. IsEarlier n (maker_in makers q))
+            (λ q h. earlier_told n (find (λ (m : Maker). bytes_eq m.path q) makers) (number_for flow sources L all q) (right q) (earlier_some n (number_for flow sources L all q) h))
+            (wants flow L c)
+            (of_found (λ k. k < n) (number_for flow sources L all) (wants flow L c) (of_distinct (λ k. k < n) (filter_map (number_for flow sources L all) (wants flow L c)) lower)));
       }
 
   all_runnable : (n : ℕ) (cs : List Candidate) → AllByRecursion IsBound cs → AreLower n (map (befores_of flow sources L all) cs) → Each (λ (j : Job). are_apart (owned_paths j.recipe j.logs) ≡ true) (map (job flow L) cs) →

@@ -1,5 +1,5 @@
 -- Where no two spots clash, the outputs and logs of each job lie apart.
-use Rattle.std.proofs.Common.{◌≡◌, ◌∙◌, Bool, true, false, cond, not, ◌&&◌, ◌||◌, List, [], ◌∷◌, ◌++◌, map, filter, refl, sym, ap, ap₂, subst, append_assoc, bytes_eq}
+use Rattle.std.proofs.Common.{◌≡◌, ◌∙◌, Bool, true, false, cond, not, ◌||◌, List, [], ◌∷◌, ◌++◌, map, filter, refl, ap, ap₂, subst, append_assoc}
 use Rattle.std.specs.List.{flat_map, list_any}
 use Rattle.std.proofs.lemmas.List.{map-append}
 use Rattle.smk_base.specs.Path.{overlaps, is_under}
@@ -10,7 +10,7 @@ use Rattle.smk_world.specs.World.{out_paths, owned_paths}
 use Rattle.smk_world.specs.Calls.{are_apart}
 use Rattle.smk_flow.specs.declared.job.Job.{Job}
 use Rattle.smk_store.specs.Stores.{Known}
-use Rattle.smk_chain.specs.Derive.{Refusal, Clash, spots}
+use Rattle.smk_chain.specs.Derive.{Clash, spots}
 use Rattle.smk_clash.specs.Clashes.{spot_paths, paths_in, hinders_in, clashes_in}
 use Rattle.smk_ready.proofs.Lists.{front_nil, back_nil, map_nil}
 
@@ -102,9 +102,10 @@ own_paths j =
 all_apart : (js : List Job) → are_apart (spot_paths (flat_map spots js)) ≡ true → Each (λ (j : Job). are_apart (owned_paths j.recipe j.logs) ≡ true) js
 all_apart [] h = tt
 all_apart (j ∷ js) h =
-    let cut = subst (λ (ps : List Path). are_apart ps ≡ true) (map-append (λ (s : Spot). s.0) (spots j) (flat_map spots js)) h in
-    (subst (λ (ps : List Path). are_apart ps ≡ true) (own_paths j) (front_apart (spot_paths (spots j)) (spot_paths (flat_map spots js)) cut),
-    all_apart js (back_apart (spot_paths (spots j)) (spot_paths (flat_map spots js)) cut))
+    let cut = subst (λ (ps : List Path). are_apart ps ≡ true) (map-append (λ (s : Spot). s.0) (spots j) (flat_map spots js)) h in (
+      subst (λ (ps : List Path). are_apart ps ≡ true) (own_paths j) (front_apart (spot_paths (spots j)) (spot_paths (flat_map spots js)) cut),
+      all_apart js (back_apart (spot_paths (spots j)) (spot_paths (flat_map spots js)) cut),
+    )
 
 -- the outputs and logs of each of these jobs lie apart
 pub jobs_apart : (store : List Known) (js : List Job) → clashes_in store [] (flat_map spots js) ≡ [] → Each (λ (j : Job). are_apart (owned_paths j.recipe j.logs) ≡ true) js

@@ -7,6 +7,7 @@ ghost use Rattle.smk_store.specs.Loading.{IsStoreOf};
 ghost use Rattle.smk_chain.specs.Derive.{jobs, job_refusals};
 ghost use Rattle.smk_chain.specs.Told.{TellsFirst};
 ghost use Rattle.smk_clash.specs.Clashes.{ListsKnown};
+ghost use Rattle.smk_walk.specs.Links.{AreLinked};
 ghost use Rattle.smk_run.specs.Runs.{AreRunnable};
 
 use smk_base::{List, PathText};
@@ -31,6 +32,7 @@ pub fn ready_jobs(
     ensures none { IfOk result (λ made. (image : Image) → IsStoreOf image store.now → ListsKnown image
         → job_refusals flow.now (told_by sources.now) image lists targets.now ≡ []) }
     ensures jobs { IfOk result (λ made. made.jobs ≡ jobs flow.now (told_by sources.now) lists targets.now) }
+    ensures links { IfOk result (AreLinked flow.now (told_by sources.now) lists targets.now) }
     ensures lists { IfOk result (λ made. made.lists ≡ lists) }
     ensures runnable { IfOk result AreRunnable }
     ensures fault { IfErr result (λ fault. (image : Image) → IsStoreOf image store.now → ListsKnown image

@@ -1,0 +1,20 @@
+use Rattle.std.proofs.Common.{◌≡◌, ◌⊎◌, Ok, Err, true, false, refl, ap, sym, subst, ◌∙◌, inl, inr}
+use Rattle.smk_top.proofs.Ended.{cause_as, outcome_device, outcome_output, outcome_unread}
+use Rattle.smk_top.proofs.top.smk.Goals as goal
+
+pub returns-clause-unread : goal.returns-clause-unread
+returns-clause-unread g c = λ never.
+    let h = c.serve-answer.ensures.unread never in
+    (outcome_unread c.serve-answer.result c.tell.result.fault c.tell.ensures.fault h.0, h.1, h.2)
+
+pub returns-clause-device : goal.returns-clause-device
+returns-clause-device g c = cause_as _ _ _ _ (outcome_device c.serve-answer.result c.tell.result.fault c.tell.ensures.fault) c.serve-answer.ensures.ended.device
+
+pub returns-clause-output : goal.returns-clause-output
+returns-clause-output g c = cause_as _ _ _ _ (outcome_output c.serve-answer.result c.tell.result.fault c.tell.ensures.fault) c.serve-answer.ensures.ended.output
+
+pub returns-clause-children : goal.returns-clause-children
+returns-clause-children g c = c.serve-answer.ensures.ended.children
+
+pub returns-clause-stays : goal.returns-clause-stays
+returns-clause-stays g c = c.serve-answer.ensures.ended.stays
