@@ -1,10 +1,7 @@
-pub mod Words
-pub mod Form
-pub mod Recipe
+pub mod Answers
 pub mod Faults
+pub mod Closing
 pub mod Lines
-pub mod Job
-pub mod Sources
-pub mod Looks
-pub mod Runs
-pub mod Clauses
+pub mod Planning
+pub mod Running
+pub mod Serving

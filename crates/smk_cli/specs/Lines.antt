@@ -1,54 +1,32 @@
--- The lines of a report and of a fault.
-use Rattle.std.specs.Prelude.{ℕ, List, [], ◌∷◌, ◌++◌, Option, Some, None, codes}
-use Rattle.std.specs.Fmt.{decimal}
-use Rattle.smk_cli.specs.declared.form.OneRule.{OneRule}
-use Rattle.smk_cli.specs.declared.fault.Fault.{Fault}
-use Rattle.smk_cli.specs.declared.fault.Fault.TheVariants.{BadWords, Unexpected, NoRule, JobFailed, Device, Output, OutOfMemory}
+-- Texts that are put, and the faults of putting them.
+use Rattle.std.specs.Prelude.{◌≡◌, ◌⊎◌, ◌==◌, ℕ, Bool, true, false, ◌||◌, List, [], ◌++◌, Option, Some, None, Result, Ok, Err, IsSome}
+use Rattle.std.specs.List.{flat_map}
+use Rattle.smk_world.specs.Trees.{Path}
+use Rattle.smk_report.specs.declared.fault.Fault.{Fault}
+use Rattle.smk_report.specs.declared.fault.Fault.TheVariants as fault
+use Rattle.smk_report.specs.Faults.{fault_status, fault_text}
+use Rattle.smk_report.specs.Lines.{Text, target_line}
+use Rattle.smk_run.specs.Reports.{IsFront}
 
--- `WORD RULE PATH` and the rest
-abbrev pub job_line_of : List ℕ → List ℕ → List ℕ → List ℕ → List ℕ
-job_line_of word rule path rest = word ++ (codes " " ++ (rule ++ (codes " " ++ (path ++ (rest ++ 10 ∷ [])))))
+-- a line for each path
+abbrev pub lines_by : (Path → Bool) → List Path → Text
+lines_by current targets = flat_map (λ p. target_line (current p) p) targets
 
--- `: status N`
-abbrev pub status_rest : ℕ → List ℕ
-status_rest status = codes ": status " ++ decimal status
+abbrev pub is_output : {T : Type 0} → Result T Fault → Bool
+is_output (Ok t) = false
+is_output (Err f) = fault_status f == 6
 
-abbrev pub start_line : OneRule → List ℕ
-start_line rule = job_line_of (codes "start") rule.name rule.output []
+-- of the sink, or of memory
+abbrev pub is_of_report : Fault → Bool
+is_of_report f = fault_status f == 6 || fault_status f == 5
 
-abbrev pub done_line : OneRule → List ℕ
-done_line rule = job_line_of (codes "done") rule.name rule.output []
+-- ## The fault's line
 
-abbrev pub failed_line : OneRule → ℕ → List ℕ
-failed_line rule status = job_line_of (codes "failed") rule.name rule.output (status_rest status)
+-- the fault of the outcome: the answer's, or want of memory in place of it
+abbrev pub IsOutcome : Option Fault → Option Fault → Type 0
+IsOutcome answer told = (told ≡ answer) ⊎ (IsSome answer × (told ≡ Some fault.OutOfMemory))
 
-abbrev pub current_line : List ℕ → List ℕ
-current_line path = codes "current " ++ (path ++ 10 ∷ [])
-
-abbrev pub other_line : List ℕ → List ℕ
-other_line path = codes "not current " ++ (path ++ 10 ∷ [])
-
-abbrev pub summary_line : ℕ → ℕ → ℕ → List ℕ
-summary_line started done failed = codes "summary: " ++ (decimal started ++ (codes " started, " ++ (decimal done ++ (codes " done, " ++ (decimal failed ++ (codes " failed" ++ 10 ∷ []))))))
-
--- the lines after the start of a job that is done, or failed with a status
-abbrev pub ending_of : OneRule → Option ℕ → List ℕ
-ending_of rule None = done_line rule ++ current_line rule.output ++ summary_line 1 1 0
-ending_of rule (Some status) = failed_line rule status ++ other_line rule.output ++ summary_line 1 0 1
-
--- the whole report of one job
-abbrev pub report_of : OneRule → Option ℕ → List ℕ
-report_of rule failed = start_line rule ++ ending_of rule failed
-
--- what a fault's line says
-abbrev pub fault_words : Fault → List ℕ
-fault_words BadWords = codes "words not read"
-fault_words (Unexpected file line) = file ++ (codes ":" ++ (decimal line ++ codes ": not expected here"))
-fault_words (NoRule path) = codes "no rule for " ++ path
-fault_words (JobFailed rule path code) = codes "job failed: " ++ (rule ++ (codes " " ++ (path ++ status_rest code)))
-fault_words Device = codes "device failed"
-fault_words Output = codes "output failed"
-fault_words OutOfMemory = codes "out of memory"
-
-abbrev pub fault_text : Fault → List ℕ
-fault_text fault = codes "smk: " ++ (fault_words fault ++ 10 ∷ [])
+-- the line of the fault, whole unless the sink fails or memory is wanting
+abbrev pub IsFaultLine : Option Fault → Type 0 → Text → Type 0
+IsFaultLine None rose text = text ≡ []
+IsFaultLine (Some f) rose text = IsFront text (fault_text f) × ((text ≡ fault_text f) ⊎ (rose ⊎ (f ≡ fault.OutOfMemory)))

@@ -1,15 +1,14 @@
-//! The program's one call: from the words of the command line to the bytes of the wanted file.
+//! The program's one call: it reads words, makes what they ask for by the workflow of the working folder, and reports.
 #![tactic(auto)]
 
-mod fault;
-mod form;
-mod job;
-mod lines;
-mod recipe;
-mod run;
-mod sight;
+mod closing;
+mod faults;
+mod makers;
+mod outcome;
+mod planning;
+mod running;
 mod top;
-mod words;
 
-pub use fault::{Fault, Outcome};
+pub use outcome::Outcome;
+pub use smk_report::Fault;
 pub use top::smk;

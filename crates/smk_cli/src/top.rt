@@ -1,46 +1,111 @@
 //! The call that does what the words ask.
-ghost use Rattle.std.specs.Prelude.{◌≡◌, ◌≢◌, ◌⊎◌, ◌≤◌, [], map, string_bytes, Option, Some, None, Err, IsSome};
-ghost use Rattle.smk_world.specs.Calls.{HasCause, Rose};
-ghost use Rattle.smk_world.specs.Runs.{Did};
-ghost use Rattle.smk_cli.specs.Faults.{status_of};
-ghost use Rattle.smk_cli.specs.Words.{asked};
-ghost use Rattle.smk_cli.specs.Sources.{refused_for, refused};
-ghost use Rattle.smk_cli.specs.Runs.{HasWritten};
-ghost use Rattle.smk_cli.specs.Clauses.{fault_of, IsRefusal, Serves, Reports, Leaves, IsEnding, IsOutcome, IsFaultLine};
 
-use crate::fault::{Fault, Outcome};
-use crate::lines::fault_line;
-use crate::run::{Job, run_job, write_out};
-use crate::sight::choose;
-use crate::words::{WordsFault, target};
-use smk_base::{OutOfMemory, PathText};
+ghost use Rattle.std.specs.Prelude.{◌≡◌, ◌⊎◌, [], Some, None, Err, IfOk, IfErr, IsSome, map, string_bytes, true, false};
+ghost use Rattle.smk_world.specs.Calls.{HasCause, Rose};
+ghost use Rattle.smk_store.specs.Walking.{HasLooked};
+ghost use Rattle.smk_report.specs.Faults as report;
+ghost use Rattle.smk_run.specs.Reports.{HasWritten};
+ghost use Rattle.smk_run.specs.Runs.{AreRunnable};
+ghost use Rattle.smk_asked.specs.declared.words.RunWords.{RunWords};
+ghost use Rattle.smk_asked.specs.Words.{IsAsked};
+ghost use Rattle.smk_entry.specs.Faults.{device_failed, is_sink};
+ghost use Rattle.smk_cli.specs.Answers.{as_call};
+ghost use Rattle.smk_cli.specs.Faults as faults;
+ghost use Rattle.smk_cli.specs.Lines.{IsOutcome, IsFaultLine, is_output};
+ghost use Rattle.smk_cli.specs.Serving.{HasEnded};
+
+use crate::closing::write_out;
+use crate::faults::{of_store, of_words};
+use crate::outcome::Outcome;
+use crate::planning::{Plan, plan_for};
+use crate::running::run;
+use smk_asked::{RunWords, WordsFault, run_words};
+use smk_base::{List, OutOfMemory};
+use smk_entry::{Asked, ask};
+use smk_report::{Fault, fault_line};
+use smk_store::{Store, StoreFault, steady};
 use smk_world::{Crew, Sink};
 use std::alloc::Global;
 use std::thread::Threads;
 
-/// Chooses the rule that makes the path, and runs its job.
-fn make<W: Crew, O: Sink>(
+#[tactic(auto, using(crate::proofs::Sinks::store_no_sink))]
+fn of_steady(made: Result<(), StoreFault>) -> Result<(), Fault>
+    ensures is { result ≡ as_call faults.of_store made }
+    ensures no_sink { IfErr result (λ f. is_sink f ≡ false) }
+{
+    match made {
+        Ok(()) => Ok(()),
+        Err(fault) => Err(of_store(fault)),
+    }
+}
+
+// Makes firm what was found, and runs the jobs.
+fn carry_out<W: Crew, O: Sink>(
     alloc: Global,
-    path: PathText,
+    asked: &Asked,
+    plan: &Plan,
+    cores: u64,
     work: &mut W,
     out: &mut O,
 ) -> Result<(), Fault>
     requires none_runs { W.running work.old ≡ [] }
-    ensures did { Did W.act (W.world work.old) (W.world work.new)
-        (Leaves W.act (refused_for (Some path)) (fault_of result)
-        (Rose (W.faults work.old) (W.faults work.new)) (Rose (O.faults out.old) (O.faults out.new))
-        (O.put_so_far out.old) (O.put_so_far out.new)) }
-    ensures ending { IsEnding (fault_of result) (W.world work.old) (W.world work.new)
-        (W.running work.new) (W.faults work.old) (W.faults work.new)
-        (O.put_so_far out.old) (O.put_so_far out.new) (O.faults out.old) (O.faults out.new) }
-    ensures words_read { result ≢ Err Fault.BadWords }
+    requires runnable { AreRunnable plan.now.jobs }
+    ensures ended { HasEnded result (W.world work.old) (W.world work.new) (W.faults work.old) (W.faults work.new) (W.running work.new) (O.faults out.old) (O.faults out.new) }
 {
-    let chosen = choose(alloc, work, path)?;
-    let job = Job::of(alloc, &chosen)?;
-    run_job(alloc, work, out, chosen, &job)
+    let made = steady(alloc, work, &plan.store);
+    match of_steady(made) {
+        Err(fault) => Err(fault),
+        Ok(()) => run(alloc, asked, plan, cores, work, out),
+    }
 }
 
-/// Makes what the words ask for.
+// Makes the targets.
+fn make<W: Crew, O: Sink>(
+    alloc: Global,
+    asked: &Asked,
+    cores: u64,
+    work: &mut W,
+    out: &mut O,
+) -> Result<(), Fault>
+    requires none_runs { W.running work.old ≡ [] }
+    ensures ended { HasEnded result (W.world work.old) (W.world work.new) (W.faults work.old) (W.faults work.new) (W.running work.new) (O.faults out.old) (O.faults out.new) }
+{
+    match plan_for(alloc, asked, List::new(alloc), work) {
+        Err(fault) => Err(fault),
+        Ok(plan) => carry_out(alloc, asked, &plan, cores, work, out),
+    }
+}
+
+// Does what is asked for.
+fn serve_run<W: Crew, O: Sink>(
+    alloc: Global,
+    words: &RunWords,
+    work: &mut W,
+    out: &mut O,
+) -> Result<(), Fault>
+    requires none_runs { W.running work.old ≡ [] }
+    ensures ended { HasEnded result (W.world work.old) (W.world work.new) (W.faults work.old) (W.faults work.new) (W.running work.new) (O.faults out.old) (O.faults out.new) }
+{
+    match ask(alloc, work, &words.targets) {
+        Err(fault) => Err(fault),
+        Ok(asked) => make(alloc, &asked, words.cores, work, out),
+    }
+}
+
+// What the words ask for.
+fn read_words(alloc: Global, words: &[String]) -> Result<RunWords, Fault>
+    ensures ok { IfOk result (λ asked. IsAsked (map string_bytes words.now) asked) }
+    ensures kind { IfErr result (λ f. (f ≡ Fault.BadWords) ⊎ (f ≡ Fault.OutOfMemory)) }
+    ensures no_device { device_failed result ≡ false }
+    ensures no_sink { IfErr result (λ f. is_sink f ≡ false) }
+{
+    match run_words(alloc, words) {
+        Ok(asked) => Ok(asked),
+        Err(fault) => Err(of_words(fault)),
+    }
+}
+
+// Does what the words ask for.
 fn serve<W: Crew, O: Sink>(
     alloc: Global,
     words: &[String],
@@ -48,28 +113,20 @@ fn serve<W: Crew, O: Sink>(
     out: &mut O,
 ) -> Result<(), Fault>
     requires none_runs { W.running work.old ≡ [] }
-    ensures did { Did W.act (W.world work.old) (W.world work.new)
-        (Leaves W.act (refused (map string_bytes words.now)) (fault_of result)
-        (Rose (W.faults work.old) (W.faults work.new)) (Rose (O.faults out.old) (O.faults out.new))
-        (O.put_so_far out.old) (O.put_so_far out.new)) }
-    ensures ending { IsEnding (fault_of result) (W.world work.old) (W.world work.new)
-        (W.running work.new) (W.faults work.old) (W.faults work.new)
-        (O.put_so_far out.old) (O.put_so_far out.new) (O.faults out.old) (O.faults out.new) }
-    ensures bad_words { result ≡ Err Fault.BadWords → asked (map string_bytes words.now) ≡ None }
-    ensures unread { asked (map string_bytes words.now) ≡ None
-        → (result ≡ Err Fault.BadWords) ⊎ (result ≡ Err Fault.OutOfMemory) }
+    ensures ended { HasEnded result (W.world work.old) (W.world work.new) (W.faults work.old) (W.faults work.new) (W.running work.new) (O.faults out.old) (O.faults out.new) }
+    ensures unread { ¬ ((asked : RunWords) × IsAsked (map string_bytes words.now) asked)
+        → ((result ≡ Err Fault.BadWords) ⊎ (result ≡ Err Fault.OutOfMemory)) × (work.new ≡ work.old) × (out.new ≡ out.old) }
 {
-    match target(alloc, words) {
-        Ok(path) => make(alloc, path, work, out),
-        Err(WordsFault::BadWords) => Err(Fault::BadWords),
-        Err(WordsFault::OutOfMemory) => Err(Fault::OutOfMemory),
+    match read_words(alloc, words) {
+        Err(fault) => Err(fault),
+        Ok(asked) => serve_run(alloc, &asked, work, out),
     }
 }
 
 /// Puts the line of a fault. A sink that fails loses the line alone; without memory for the line, that is the fault.
 fn tell<O: Sink>(alloc: Global, answer: Result<(), Fault>, err: &mut O) -> Outcome
-    ensures status { result.status ≡ status_of result.fault }
-    ensures fault { IsOutcome (fault_of answer) result.fault }
+    ensures status { result.status ≡ report.status_of result.fault }
+    ensures fault { IsOutcome (faults.fault_of answer) result.fault }
     ensures line { HasWritten (O.put_so_far err.old) (O.put_so_far err.new) (¬ Rose (O.faults err.old) (O.faults err.new))
         (IsFaultLine result.fault (Rose (O.faults err.old) (O.faults err.new))) }
 {
@@ -77,7 +134,7 @@ fn tell<O: Sink>(alloc: Global, answer: Result<(), Fault>, err: &mut O) -> Outco
         Ok(()) => Outcome::of(None),
         Err(fault) => match fault_line(alloc, &fault) {
             Ok(line) => {
-                let _ = write_out(err, &line);
+                let _ = write_out(err, line.as_str());
                 Outcome::of(Some(fault))
             }
             Err(OutOfMemory) => Outcome::of(Some(Fault::OutOfMemory)),
@@ -85,11 +142,11 @@ fn tell<O: Sink>(alloc: Global, answer: Result<(), Fault>, err: &mut O) -> Outco
     }
 }
 
-/// Does what the words ask: reads the workflow file, runs the command of its rule, and reports to `out`; the
-/// line of a fault goes to `err`.
+/// Does what the words ask: reads the workflow of the working folder, derives the jobs that make the targets, runs them one after another
+/// and reports to `out`; the line of a fault goes to `err`.
 ///
-/// The status is 0 where the target is made, 1 where its command failed, 2 where the words aren't read, 3 where
-/// the workflow or the target is refused, 4 where the device failed, 5 where memory is wanting, 6 where `out` failed.
+/// The status is 0 where all targets are made, 1 where a job failed, 2 where the words aren't read, 3 where the workflow, a target or a job is
+/// refused, 4 where the device failed, 5 where memory is wanting, 6 where `out` failed.
 pub fn smk<W: Crew, O: Sink, Rt: Threads + Sync>(
     _rt: &Rt,
     alloc: Global,
@@ -100,19 +157,11 @@ pub fn smk<W: Crew, O: Sink, Rt: Threads + Sync>(
 ) -> Outcome
     requires none_runs { W.running work.old ≡ [] }
 
-    ensures status { result.status ≡ status_of result.fault }
+    ensures status { result.status ≡ report.status_of result.fault }
 
-    // the words alone decide on their fault
-    ensures bad_words { result.fault ≡ Some Fault.BadWords → asked (map string_bytes words.now) ≡ None }
-    ensures unread { asked (map string_bytes words.now) ≡ None
-        → (result.fault ≡ Some Fault.BadWords) ⊎ (result.fault ≡ Some Fault.OutOfMemory) }
-
-    // where the world is told: what was done to it, and what of that was reported
-    ensures served { Did W.act (W.world work.old) (W.world work.new)
-        (Serves W.act (refused (map string_bytes words.now)) result.fault
-        (Rose (W.faults work.old) (W.faults work.new)) (Rose (O.faults out.old) (O.faults out.new))) }
-    ensures reported { Did W.act (W.world work.old) (W.world work.new)
-        (Reports W.act result.fault (Rose (W.faults work.old) (W.faults work.new)) (O.put_so_far out.old) (O.put_so_far out.new)) }
+    // words that aren't read are refused, and nothing is done
+    ensures unread { ¬ ((asked : RunWords) × IsAsked (map string_bytes words.now) asked)
+        → ((result.fault ≡ Some Fault.BadWords) ⊎ (result.fault ≡ Some Fault.OutOfMemory)) × (work.new ≡ work.old) × (out.new ≡ out.old) }
 
     // no child runs at the end, unless a call failed
     ensures children { (W.running work.new ≡ []) ⊎ Rose (W.faults work.old) (W.faults work.new) }
@@ -120,16 +169,9 @@ pub fn smk<W: Crew, O: Sink, Rt: Threads + Sync>(
     // a fault of the device or of the sink comes only from one of its own in this call
     ensures device { HasCause (W.faults work.old) (W.faults work.new) (result.fault ≡ Some Fault.Device) }
     ensures output { HasCause (O.faults out.old) (O.faults out.new) (result.fault ≡ Some Fault.Output) }
-    ensures quiet { result.status ≤ 1 → O.faults out.new ≡ O.faults out.old }
 
     // what is told stays told, unless a call fails
-    ensures stays { (¬ Rose (W.faults work.old) (W.faults work.new)) ⊎ (result.status ≤ 3)
-        → IsSome (W.world work.old) → IsSome (W.world work.new) }
-    ensures told { (¬ Rose (O.faults out.old) (O.faults out.new)) ⊎ (result.status ≤ 3)
-        → IsSome (O.put_so_far out.old) → IsSome (O.put_so_far out.new) }
-
-    // a refusal reports nothing
-    ensures silent { IsRefusal result.status → O.put_so_far out.new ≡ O.put_so_far out.old }
+    ensures stays { (IsSome (W.world work.old) → IsSome (W.world work.new)) ⊎ Rose (W.faults work.old) (W.faults work.new) }
 
     // the fault's line
     ensures line { HasWritten (O.put_so_far err.old) (O.put_so_far err.new) (¬ Rose (O.faults err.old) (O.faults err.new))

@@ -1,8 +1,8 @@
-use Rattle.std.proofs.Common.{subst, sym, is_ok}
+use Rattle.std.proofs.Common.{◌∙◌, subst, sym, is_ok}
 use Rattle.smk_world.specs.Calls.{Rose}
-use Rattle.smk_cli.specs.Runs.{HasWritten}
-use Rattle.smk_cli.specs.Clauses.{IsFaultLine}
-use Rattle.smk_cli.proofs.Making.{line_put, not_ok}
+use Rattle.smk_run.specs.Reports.{HasWritten}
+use Rattle.smk_cli.specs.Lines.{IsFaultLine}
+use Rattle.smk_cli.proofs.Putting.{line_put, not_ok}
 use Rattle.smk_cli.proofs.top.tell.Goals as goal
 
 pub returns-in-Ok-fault_line-clause-line : goal.returns-in-Ok-fault_line-clause-line
@@ -10,4 +10,4 @@ returns-in-Ok-fault_line-clause-line g c =
     let sink = g.O.Sink in
     let rose = Rose (sink.faults c.args.err.now) (sink.faults c.write_out.new.out) in
     subst (λ fault. HasWritten (sink.put_so_far c.args.err.now) (sink.put_so_far c.write_out.new.out) (¬ rose) (IsFaultLine fault rose)) (sym c.of-in-Ok-fault_line.ensures.fault)
-    (line_put c.in-Err.fault c.in-Ok-fault_line.line (is_ok c.write_out.result) _ _ rose c.in-Ok-fault_line.ensures c.write_out.ensures.put (λ bad. c.write_out.ensures.cause.rose (not_ok c.write_out.result bad)))
+    (line_put c.in-Err.fault c.as_str.result.now (is_ok c.write_out.result) _ _ rose (c.as_str.ensures ∙ c.in-Ok-fault_line.ensures) c.write_out.ensures.put (λ bad. c.write_out.ensures.cause.rose (not_ok c.write_out.result bad)))

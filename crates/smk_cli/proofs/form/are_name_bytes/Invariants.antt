@@ -1,6 +1,0 @@
-use Rattle.std.proofs.Common.{◌≡◌, drop}
-use Rattle.smk_cli.specs.Form.{are_name_bytes}
-use Rattle.smk_cli.proofs.form.are_name_bytes.Given as goal
-
-abbrev pub invariant-loop-b : goal.invariant-loop-b
-invariant-loop-b l = are_name_bytes l.text ≡ are_name_bytes (drop l.b-index l.text)

@@ -1,0 +1,23 @@
+use Rattle.std.proofs.Common.{◌≡◌, Ok, Err, true, false, refl, ap, sym, subst, ◌∙◌, inl, inr}
+use Rattle.std.specs.Prelude.{IsSome}
+use Rattle.smk_entry.specs.Faults.{device_failed, is_device}
+use Rattle.smk_cli.proofs.Looked.{store_from}
+use Rattle.smk_cli.proofs.Ended.{early, later_on, cause_as, untouched_by, ok_by, ended_run}
+use Rattle.smk_cli.proofs.top.carry_out.Goals as goal
+
+pub returns-in-Err : goal.returns-in-Err
+returns-in-Err g c =
+    let m = c.steady-made in
+    record { ended =
+        early c.in-Err.fault _ _ _ _ _ _ _ (cause_as _ _ _ _ (λ e. store_from m.result c.of_steady.result c.of_steady.ensures.is (ap device_failed c.in-Err.is ∙ e)) m.ensures.device)
+        (λ quiet some. subst (λ w. IsSome (g.W.Files.world w)) (sym (untouched_by _ m.result c.of_steady.result c.in-Err.fault c.of_steady.ensures.is c.in-Err.is quiet m.ensures.untouched)) some)
+        m.ensures.running c.requires.none_runs c.in-Err.ensures.no_sink
+    }
+
+pub returns-in-Ok : goal.returns-in-Ok
+returns-in-Ok g c =
+    let m = c.steady-made in
+    record { ended =
+        later_on c.run.result _ _ _ _ _ _ _ _ _ m.ensures.device.later (m.ensures.stays (ok_by m.result c.of_steady.result _ c.of_steady.ensures.is c.in-Ok.is))
+        (ended_run g.W.Files.act _ _ _ _ _ _ _ _ _ _ _ _ _ _ _ _ _ c.run.ensures.made c.run.ensures.cause c.run.ensures.output c.run.ensures.quiet)
+    }

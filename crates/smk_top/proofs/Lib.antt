@@ -1,9 +1,0 @@
-pub mod SameKinds
-pub mod Numbered
-pub mod Counting
-pub mod Putting
-pub mod Looked
-pub mod Planned
-pub mod Sinks
-pub mod Made
-pub mod Ended
