@@ -7,3 +7,5 @@ pub mod Planned
 pub mod Sinks
 pub mod Made
 pub mod Ended
+pub mod Went
+pub mod Words

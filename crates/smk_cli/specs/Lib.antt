@@ -5,3 +5,4 @@ pub mod Lines
 pub mod Planning
 pub mod Running
 pub mod Serving
+pub mod Whole

@@ -1,7 +1,10 @@
 //! The call that does what the words ask.
 
-ghost use Rattle.std.specs.Prelude.{◌≡◌, ◌⊎◌, [], Some, None, Err, IfOk, IfErr, IsSome, map, string_bytes, true, false};
+ghost use Rattle.std.specs.Prelude.{◌≡◌, ◌⊎◌, ℕ, List as Items, Option, [], Some, None, Err, IfOk, IfErr, IsSome, map, string_bytes, true, false};
+ghost use Rattle.smk_world.specs.World.{World};
 ghost use Rattle.smk_world.specs.Calls.{HasCause, Rose};
+ghost use Rattle.smk_record.specs.declared.record.Record.{Record as RecordValue};
+ghost use Rattle.smk_store.specs.Images.{seen};
 ghost use Rattle.smk_store.specs.Walking.{HasLooked};
 ghost use Rattle.smk_report.specs.Faults as report;
 ghost use Rattle.smk_run.specs.Reports.{HasWritten};
@@ -12,7 +15,9 @@ ghost use Rattle.smk_entry.specs.Faults.{device_failed, is_sink};
 ghost use Rattle.smk_cli.specs.Answers.{as_call};
 ghost use Rattle.smk_cli.specs.Faults as faults;
 ghost use Rattle.smk_cli.specs.Lines.{IsOutcome, IsFaultLine, is_output};
+ghost use Rattle.smk_cli.specs.Planning.{IsRefused};
 ghost use Rattle.smk_cli.specs.Serving.{HasEnded};
+ghost use Rattle.smk_cli.specs.Whole.{IsAtHand, IsRefusal, IsPlanFor, IsToRun, HasCarriedOut, Went, HasServed};
 
 use crate::closing::write_out;
 use crate::faults::{of_store, of_words};
@@ -51,6 +56,8 @@ fn carry_out<W: Crew, O: Sink>(
     requires none_runs { W.running work.old ≡ [] }
     requires runnable { AreRunnable plan.now.jobs }
     ensures ended { HasEnded result (W.world work.old) (W.world work.new) (W.faults work.old) (W.faults work.new) (W.running work.new) (O.faults out.old) (O.faults out.new) }
+    ensures carried { HasCarriedOut W.act cores result asked.now plan.now
+        (W.world work.old) (W.world work.new) (Rose (W.faults work.old) (W.faults work.new)) (W.running work.new) (O.put_so_far out.old) (O.put_so_far out.new) }
 {
     let made = steady(alloc, work, &plan.store);
     match of_steady(made) {
@@ -69,6 +76,9 @@ fn make<W: Crew, O: Sink>(
 ) -> Result<(), Fault>
     requires none_runs { W.running work.old ≡ [] }
     ensures ended { HasEnded result (W.world work.old) (W.world work.new) (W.faults work.old) (W.faults work.new) (W.running work.new) (O.faults out.old) (O.faults out.new) }
+    ensures went { (w : World) → W.world work.old ≡ Some w → (read : Items ℕ → Option RecordValue) → IsAtHand read w
+        → Went W.act cores result (IsRefused asked.now.flow asked.now.targets [] (seen read w)) (IsPlanFor read w asked.now)
+        (W.world work.old) (W.world work.new) (Rose (W.faults work.old) (W.faults work.new)) (W.running work.new) (O.put_so_far out.old) (O.put_so_far out.new) }
 {
     match plan_for(alloc, asked, List::new(alloc), work) {
         Err(fault) => Err(fault),
@@ -85,6 +95,9 @@ fn serve_run<W: Crew, O: Sink>(
 ) -> Result<(), Fault>
     requires none_runs { W.running work.old ≡ [] }
     ensures ended { HasEnded result (W.world work.old) (W.world work.new) (W.faults work.old) (W.faults work.new) (W.running work.new) (O.faults out.old) (O.faults out.new) }
+    ensures went { (w : World) → W.world work.old ≡ Some w → (read : Items ℕ → Option RecordValue) → IsAtHand read w
+        → Went W.act words.now.cores result (IsRefusal read words.now.targets w) (IsToRun read words.now.targets w)
+        (W.world work.old) (W.world work.new) (Rose (W.faults work.old) (W.faults work.new)) (W.running work.new) (O.put_so_far out.old) (O.put_so_far out.new) }
 {
     match ask(alloc, work, &words.targets) {
         Err(fault) => Err(fault),
@@ -96,6 +109,7 @@ fn serve_run<W: Crew, O: Sink>(
 fn read_words(alloc: Global, words: &[String]) -> Result<RunWords, Fault>
     ensures ok { IfOk result (λ asked. IsAsked (map string_bytes words.now) asked) }
     ensures kind { IfErr result (λ f. (f ≡ Fault.BadWords) ⊎ (f ≡ Fault.OutOfMemory)) }
+    ensures bad { IfErr result (λ f. f ≡ Fault.BadWords → ¬ ((asked : RunWords) × IsAsked (map string_bytes words.now) asked)) }
     ensures no_device { device_failed result ≡ false }
     ensures no_sink { IfErr result (λ f. is_sink f ≡ false) }
 {
@@ -116,6 +130,10 @@ fn serve<W: Crew, O: Sink>(
     ensures ended { HasEnded result (W.world work.old) (W.world work.new) (W.faults work.old) (W.faults work.new) (W.running work.new) (O.faults out.old) (O.faults out.new) }
     ensures unread { ¬ ((asked : RunWords) × IsAsked (map string_bytes words.now) asked)
         → ((result ≡ Err Fault.BadWords) ⊎ (result ≡ Err Fault.OutOfMemory)) × (work.new ≡ work.old) × (out.new ≡ out.old) }
+    ensures went { (asked : RunWords) → IsAsked (map string_bytes words.now) asked → (w : World) → W.world work.old ≡ Some w
+        → (read : Items ℕ → Option RecordValue) → IsAtHand read w
+        → Went W.act asked.cores result (IsRefusal read asked.targets w) (IsToRun read asked.targets w)
+        (W.world work.old) (W.world work.new) (Rose (W.faults work.old) (W.faults work.new)) (W.running work.new) (O.put_so_far out.old) (O.put_so_far out.new) }
 {
     match read_words(alloc, words) {
         Err(fault) => Err(fault),
@@ -162,6 +180,12 @@ pub fn smk<W: Crew, O: Sink, Rt: Threads + Sync>(
     // words that aren't read are refused, and nothing is done
     ensures unread { ¬ ((asked : RunWords) × IsAsked (map string_bytes words.now) asked)
         → ((result.fault ≡ Some Fault.BadWords) ⊎ (result.fault ≡ Some Fault.OutOfMemory)) × (work.new ≡ work.old) × (out.new ≡ out.old) }
+
+    // where the words ask for a run: the first refusal, and nothing is done; or the jobs that the targets call for are run, in order
+    ensures went { (asked : RunWords) → IsAsked (map string_bytes words.now) asked → (w : World) → W.world work.old ≡ Some w
+        → (read : Items ℕ → Option RecordValue) → IsAtHand read w
+        → HasServed W.act read asked.targets asked.cores w result.fault
+        (W.world work.old) (W.world work.new) (Rose (W.faults work.old) (W.faults work.new)) (W.running work.new) (O.put_so_far out.old) (O.put_so_far out.new) }
 
     // no child runs at the end, unless a call failed
     ensures children { (W.running work.new ≡ []) ⊎ Rose (W.faults work.old) (W.faults work.new) }

@@ -18,3 +18,7 @@ returns-clause-children g c = c.serve-answer.ensures.ended.children
 
 pub returns-clause-stays : goal.returns-clause-stays
 returns-clause-stays g c = c.serve-answer.ensures.ended.stays
+
+pub returns-clause-went : goal.returns-clause-went
+returns-clause-went g c = λ asked is_asked w at read hand.
+    record { answer = c.serve-answer.result; told_is = c.tell.ensures.fault; went = c.serve-answer.ensures.went asked is_asked w at read hand }
