@@ -9,3 +9,5 @@ pub mod Made
 pub mod Ended
 pub mod Went
 pub mod Words
+pub mod Stands
+pub mod AllDone

@@ -1,8 +1,8 @@
 -- What the whole call does: why nothing is run, or what is.
-use Rattle.std.specs.Prelude.{◌≡◌, ◌⊎◌, ℕ, Bool, true, false, List, [], Option, Some, Result, Ok, Err}
+use Rattle.std.specs.Prelude.{◌≡◌, ◌⊎◌, ℕ, true, List, [], ◌++◌, length, Option, Some, Result, Ok, Err}
 use Rattle.smk_world.specs.World.{World}
 use Rattle.smk_world.specs.Runs.{Did}
-use Rattle.smk_world.specs.Trees.{Path, Act}
+use Rattle.smk_world.specs.Trees.{Path, Act, Each}
 use Rattle.smk_pattern.specs.Shapes.{Text}
 use Rattle.smk_record.specs.declared.record.Record.{Record}
 use Rattle.smk_record.specs.Spelling.{ReadsRecords}
@@ -12,12 +12,19 @@ use Rattle.smk_store.specs.Loading.{IsFiled, AreLooks}
 use Rattle.smk_store.specs.Serials.{next_serial}
 use Rattle.smk_store.specs.Steadying.{HasTried, steady_requests}
 use Rattle.smk_sight.specs.Disk.{IsOnDisk}
-use Rattle.smk_run.specs.Runs.{serials}
+use Rattle.smk_flow.specs.declared.job.Job.{Job}
+use Rattle.smk_flow.specs.Flows.{Flow}
+use Rattle.smk_chain.specs.declared.jobs.Maker.{Maker}
+use Rattle.smk_run.specs.declared.tally.Tally.{Tally}
+use Rattle.smk_run.specs.Turns.{Turn, is_done}
+use Rattle.smk_run.specs.Reports.{report_of, HasWritten}
+use Rattle.smk_run.specs.Runs.{serials, AreInOrder, IsTally}
 use Rattle.smk_report.specs.declared.fault.Fault.{Fault}
 use Rattle.smk_report.specs.declared.fault.Fault.TheVariants as fault
 use Rattle.smk_entry.specs.declared.asking.Asked.{Asked}
 use Rattle.smk_entry.specs.Entry.{IsAskedIn, FailsToAsk}
 use Rattle.smk_cli.specs.declared.planning.Plan.{Plan}
+use Rattle.smk_cli.specs.Closing.{is_made, closing_text}
 use Rattle.smk_cli.specs.Faults.{of_store, fault_of}
 use Rattle.smk_cli.specs.Lines.{IsOutcome}
 use Rattle.smk_cli.specs.Planning.{IsPlanned, IsRefused}
@@ -93,3 +100,29 @@ pub record HasServed (act : Act) (read : List ℕ → Option Record) (words : Li
   pub answer : Result (Unit {0}) Fault
   pub told_is : IsOutcome (fault_of answer) told
   pub went : Went act cores answer (IsRefusal read words w) (IsToRun read words w) old new rose running put_old put_new
+
+-- ## What follows
+
+-- Nothing is done but looks, and the fault is the first refusal, or of the device or memory.
+pub record HasRefused (act : Act) (read : List ℕ → Option Record) (words : List Text) (w : World) (told : Option Fault) (old new : Option World) (put_old put_new : Option Text) : Type 0 where
+  pub fault : Fault
+  pub told_is : told ≡ Some fault
+  pub why : IsRefusal read words w fault ⊎ IsWant fault
+  pub looked : HasOnlyLooked act old new put_old put_new
+
+-- Each of the jobs had its turn, in order, and is done; and all of the report was put.
+pub record AreDone (flow : Flow) (cores : ℕ) (jobs : List Job) (makers : List Maker) (targets : List Path) (top : Option ℕ) (put_old put_new : Option Text) : Type 0 where
+  pub turns : List Turn
+  pub tally : Tally
+  pub in_order : AreInOrder cores top 0 jobs turns
+  pub all : length turns ≡ length jobs
+  pub done : Each (λ (t : Turn). is_done t.course ≡ true) turns
+  pub counted : IsTally flow jobs turns tally
+  pub text : HasWritten put_old put_new (Unit {0}) (λ text. text ≡ report_of flow turns ++ closing_text (is_made turns) makers targets tally)
+
+-- All jobs that the targets call for are done.
+pub record IsAllDone (read : List ℕ → Option Record) (words : List Text) (cores : ℕ) (w : World) (put_old put_new : Option Text) : Type 0 where
+  pub asked : Asked
+  pub plan : Plan
+  pub to_run : IsToRun read words w asked plan
+  pub done : AreDone asked.flow cores plan.jobs.jobs plan.jobs.makers asked.targets (next_serial plan.store) put_old put_new

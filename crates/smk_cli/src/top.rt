@@ -6,6 +6,7 @@ ghost use Rattle.smk_world.specs.Calls.{HasCause, Rose};
 ghost use Rattle.smk_record.specs.declared.record.Record.{Record as RecordValue};
 ghost use Rattle.smk_store.specs.Images.{seen};
 ghost use Rattle.smk_store.specs.Walking.{HasLooked};
+ghost use Rattle.smk_report.specs.declared.fault.Fault.{Fault as FaultValue};
 ghost use Rattle.smk_report.specs.Faults as report;
 ghost use Rattle.smk_run.specs.Reports.{HasWritten};
 ghost use Rattle.smk_run.specs.Runs.{AreRunnable};
@@ -17,7 +18,7 @@ ghost use Rattle.smk_cli.specs.Faults as faults;
 ghost use Rattle.smk_cli.specs.Lines.{IsOutcome, IsFaultLine, is_output};
 ghost use Rattle.smk_cli.specs.Planning.{IsRefused};
 ghost use Rattle.smk_cli.specs.Serving.{HasEnded};
-ghost use Rattle.smk_cli.specs.Whole.{IsAtHand, IsRefusal, IsPlanFor, IsToRun, HasCarriedOut, Went, HasServed};
+ghost use Rattle.smk_cli.specs.Whole.{IsAtHand, IsRefusal, IsPlanFor, IsToRun, HasCarriedOut, Went, HasServed, HasRefused, IsAllDone};
 
 use crate::closing::write_out;
 use crate::faults::{of_store, of_words};
@@ -186,6 +187,16 @@ pub fn smk<W: Crew, O: Sink, Rt: Threads + Sync>(
         → (read : Items ℕ → Option RecordValue) → IsAtHand read w
         → HasServed W.act read asked.targets asked.cores w result.fault
         (W.world work.old) (W.world work.new) (Rose (W.faults work.old) (W.faults work.new)) (W.running work.new) (O.put_so_far out.old) (O.put_so_far out.new) }
+
+    // where anything is refused, that is the fault, unless the device failed or memory is wanting, and nothing is done but looks
+    ensures stands { (asked : RunWords) → IsAsked (map string_bytes words.now) asked → (w : World) → W.world work.old ≡ Some w
+        → (read : Items ℕ → Option RecordValue) → IsAtHand read w → (f : FaultValue) → IsRefusal read asked.targets w f
+        → HasRefused W.act read asked.targets w result.fault (W.world work.old) (W.world work.new) (O.put_so_far out.old) (O.put_so_far out.new) }
+
+    // status 0 only where all jobs that the targets call for are done, and reported
+    ensures done { result.status ≡ 0 → (asked : RunWords) → IsAsked (map string_bytes words.now) asked → (w : World) → W.world work.old ≡ Some w
+        → (read : Items ℕ → Option RecordValue) → IsAtHand read w
+        → IsAllDone read asked.targets asked.cores w (O.put_so_far out.old) (O.put_so_far out.new) }
 
     // no child runs at the end, unless a call failed
     ensures children { (W.running work.new ≡ []) ⊎ Rose (W.faults work.old) (W.faults work.new) }
