@@ -1,6 +1,5 @@
 -- Where there is no fault all jobs are done.
-use Rattle.std.proofs.Common.{◌≡◌, ◌⊎◌, ◌==◌, ℕ, Bool, true, false, List, [], ◌∷◌, ◌++◌, length, inl, inr, refl, sym, ap, subst, ◌∙◌, Option, Some, None, Result, Ok, Err}
-use Rattle.std.specs.Prelude.{IsSome}
+use Rattle.std.proofs.Common.{◌≡◌, ◌==◌, ℕ, Bool, true, false, List, [], ◌∷◌, ◌++◌, inl, inr, refl, sym, ap, ◌∙◌, Option, Some, None, Result, Ok, Err}
 use Rattle.smk_world.specs.World.{World}
 use Rattle.smk_world.specs.Trees.{Path, Act, Each}
 use Rattle.smk_pattern.specs.Shapes.{Text}
@@ -16,19 +15,19 @@ use Rattle.smk_run.specs.declared.ending.Ending.TheVariants.{Good, Status, NoOut
 use Rattle.smk_run.specs.Stamps.{Serials}
 use Rattle.smk_run.specs.Turns.{Course, Unbegun, Unstarted, Unclosed, Closed, Turn, is_done, is_closed}
 use Rattle.smk_run.specs.Reports.{failure, named, report_of, HasWritten, IsReport}
-use Rattle.smk_run.specs.Runs.{AreInOrder, IsOutcome, first_failure, course_failure, or_later, is_whole}
+use Rattle.smk_run.specs.Runs.{AreInOrder, IsOutcome, first_failure, course_failure, or_later}
 use Rattle.smk_report.specs.Lines.{Named}
 use Rattle.smk_report.specs.declared.fault.Fault.{Fault}
 use Rattle.smk_report.specs.declared.fault.Fault.TheVariants as fault
 use Rattle.smk_report.specs.Faults.{fault_status, status_of}
 use Rattle.smk_entry.specs.declared.asking.Asked.{Asked}
 use Rattle.smk_cli.specs.declared.planning.Plan.{Plan}
-use Rattle.smk_cli.specs.Closing.{is_made, closing_text, answer_of, verdict_of}
+use Rattle.smk_cli.specs.Closing.{is_made, closing_text, verdict_of}
 use Rattle.smk_cli.specs.Faults.{of_store, fault_of}
 use Rattle.smk_cli.specs.Lines as lines
 use Rattle.smk_cli.specs.Lines.{is_output, is_of_report}
 use Rattle.smk_cli.specs.Running.{HasMade, Concludes, closing_of}
-use Rattle.smk_cli.specs.Whole.{IsRefusal, IsToRun, GoesOn, HasCarriedOut, Went, Refused, Stopped, Worked, AreDone, IsAllDone}
+use Rattle.smk_cli.specs.Whole.{IsRefusal, IsToRun, GoesOn, Went, Refused, Stopped, Worked, AreDone, IsAllDone}
 
 abbrev Answer : Type 0
 Answer = Result (Unit {0}) Fault

@@ -1,7 +1,7 @@
 -- How many jobs are done tells which are: all turns but the last one are of jobs that are done.
 use native.Mathlib.Omega.{arith}
-use Rattle.std.proofs.Common.{◌≡◌, ◌⊎◌, ◌<◌, ◌≤◌, ◌+◌, ◌==◌, ℕ, zero, suc, Bool, true, false, cond, List, [], ◌∷◌, ◌++◌, inl, inr, refl, sym, ap, subst, ◌∙◌, Option, Some, None, length, slice_get, nat_lt}
-use Rattle.std.specs.List.{count_by, flat_map}
+use Rattle.std.proofs.Common.{◌≡◌, ◌⊎◌, ◌<◌, ◌≤◌, ◌+◌, ℕ, zero, suc, Bool, true, false, cond, List, [], ◌∷◌, inl, inr, refl, sym, ap, ◌∙◌, Option, Some, None, slice_get, nat_lt}
+use Rattle.std.specs.List.{count_by}
 use Rattle.std.proofs.lemmas.List.Recursion.{is_count_by}
 use Rattle.std.proofs.lemmas.Bool.{lt-ltb, le-ltb}
 use Rattle.smk_world.specs.Trees.{Path}
@@ -10,14 +10,14 @@ use Rattle.smk_flow.specs.declared.job.Job.{Job}
 use Rattle.smk_flow.specs.Flows.{Flow}
 use Rattle.smk_report.specs.declared.fault.Fault.{Fault}
 use Rattle.smk_report.specs.Faults.{fault_status}
-use Rattle.smk_report.specs.Lines.{Named, target_line}
+use Rattle.smk_report.specs.Lines.{Named}
 use Rattle.smk_run.specs.declared.ending.Ending.{Ending}
 use Rattle.smk_run.specs.declared.ending.Ending.TheVariants.{Good, Status, NoOutput, WrongKind, BadMember}
 use Rattle.smk_run.specs.declared.tally.Tally.{Tally}
 use Rattle.smk_run.specs.Turns.{Turn, Course, Unbegun, Unstarted, Unclosed, Closed, is_done}
 use Rattle.smk_run.specs.Reports.{failure, named}
-use Rattle.smk_run.specs.Runs.{AreInOrder, IsTally, course_failure, first_failure, or_later, maker_in}
-use Rattle.smk_cli.specs.Closing.{is_made, is_turn_done, is_within, closing_text, target_lines}
+use Rattle.smk_run.specs.Runs.{AreInOrder, course_failure, first_failure, or_later}
+use Rattle.smk_cli.specs.Closing.{is_made, is_turn_done, is_within, closing_text}
 
 -- the number of turns of jobs that are done
 abbrev count : List Turn → ℕ

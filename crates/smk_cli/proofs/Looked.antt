@@ -1,5 +1,5 @@
 -- Looks, by answers of the parts and of the call.
-use Rattle.std.proofs.Common.{◌≡◌, ◌⊎◌, ◌≤◌, ◌==◌, ℕ, Bool, true, false, List, [], ◌∷◌, ◌++◌, map, inl, inr, refl, sym, ap, ap₂, subst, ◌∙◌, Option, Some, None, Result, Ok, Err}
+use Rattle.std.proofs.Common.{◌≡◌, ℕ, Bool, true, false, List, [], ◌∷◌, map, refl, sym, ap, ap₂, subst, ◌∙◌, Option, Some, None, Result, Ok, Err}
 use Rattle.std.specs.Prelude.{IsSome, IsErrOf, IfOk, IfErr}
 use Rattle.std.proofs.lemmas.List.Elements.{All-head, All-tail}
 use Rattle.smk_world.specs.declared.event.Call.{Call}
@@ -9,7 +9,7 @@ use Rattle.smk_world.specs.declared.event.Event.{Event}
 use Rattle.smk_world.specs.declared.event.NodeState.{NodeState}
 use Rattle.smk_world.specs.declared.event.NodeState.TheVariants.{Owned}
 use Rattle.smk_world.specs.World.{World, after, run, names_after, add_names, reading, reads_folder}
-use Rattle.smk_world.specs.Calls.{Lets, HasCause, Rose, in_folder}
+use Rattle.smk_world.specs.Calls.{Lets, HasCause, in_folder}
 use Rattle.smk_world.specs.Runs.{Did, Follows}
 use Rattle.smk_world.specs.Trees.{Path, Act}
 use Rattle.smk_record.specs.declared.record.Record.{Record}

@@ -1,6 +1,6 @@
 -- What is planned, by what was seen and derived.
-use Rattle.std.proofs.Common.{◌≡◌, ◌⊎◌, ◌≤◌, ◌<◌, ℕ, Bool, true, false, List, [], ◌∷◌, inl, inr, refl, sym, ap, subst, ◌∙◌, Option, Some, None, Result, Ok, Err, length}
-use Rattle.std.specs.Prelude.{IsSome, IfOk, IfErr, option_map}
+use Rattle.std.proofs.Common.{◌≡◌, ◌<◌, ℕ, true, false, List, [], ◌∷◌, refl, sym, ap, subst, ◌∙◌, Option, Some, Result, Ok, Err}
+use Rattle.std.specs.Prelude.{IfOk, IfErr, option_map}
 use Rattle.smk_world.specs.World.{World}
 use Rattle.smk_world.specs.Trees.{Path}
 use Rattle.smk_flow.specs.Flows.{Flow}
@@ -12,7 +12,6 @@ use Rattle.smk_store.specs.Stores.{Known as Entry}
 use Rattle.smk_store.specs.Loading.{IsStoreOf}
 use Rattle.smk_chain.specs.declared.jobs.Jobs.{Jobs}
 use Rattle.smk_chain.specs.declared.fault.ChainFault.{ChainFault}
-use Rattle.smk_chain.specs.declared.fault.ChainFault.TheVariants as chain
 use Rattle.smk_chain.specs.declared.fault.SightFault.{SightFault}
 use Rattle.smk_chain.specs.declared.fault.SightFault.TheVariants as sight
 use Rattle.smk_chain.specs.Derive.{Listings, Refusal, Derivation, Derived, Refused, sources_of, jobs, job_refusals, outcome}
@@ -26,7 +25,7 @@ use Rattle.smk_entry.specs.Faults.{is_told}
 use Rattle.smk_cli.specs.declared.planning.Plan.{Plan}
 use Rattle.smk_cli.specs.Answers.{as_call}
 use Rattle.smk_cli.specs.Faults.{of_sight, of_chain}
-use Rattle.smk_cli.specs.Planning.{HasTooMany, IsSighted, Sights, IsPlanned, IsRefused, Many, First, Plans}
+use Rattle.smk_cli.specs.Planning.{IsSighted, Sights, IsPlanned, IsRefused, Many, First}
 
 true_false : true ≡ false → ⊥
 true_false e = cc

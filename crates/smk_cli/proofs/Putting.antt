@@ -1,17 +1,15 @@
 -- What is put after what was put.
 use native.Mathlib.Omega.{arith}
-use Rattle.std.proofs.Common.{◌≡◌, ◌⊎◌, ◌≤◌, ◌==◌, ◌||◌, not, ℕ, Bool, true, false, List, [], ◌∷◌, ◌++◌, inl, inr, refl, sym, ap, subst, ◌∙◌, Option, Some, None, Result, Ok, Err, length, take, drop, is_ok}
-use Rattle.std.specs.Prelude.{IsSome, IsErr}
+use Rattle.std.proofs.Common.{◌≡◌, ◌⊎◌, ℕ, Bool, true, false, [], ◌++◌, inl, inr, refl, sym, ap, subst, ◌∙◌, Option, Some, None, Result, Ok, Err, length, take, drop, is_ok}
+use Rattle.std.specs.Prelude.{IsErr}
 use Rattle.std.proofs.lemmas.List.{take-append-drop, append-nil, append_assoc, take_all}
-use Rattle.smk_world.specs.Calls.{HasPut, HasCause, Rose}
+use Rattle.smk_world.specs.Calls.{HasPut}
 use Rattle.smk_report.specs.Lines.{Text}
 use Rattle.smk_report.specs.declared.fault.Fault.{Fault}
 use Rattle.smk_report.specs.declared.fault.Fault.TheVariants as fault
-use Rattle.smk_report.specs.Faults.{fault_status, fault_text}
+use Rattle.smk_report.specs.Faults.{fault_text}
 use Rattle.smk_run.specs.Reports.{HasWritten, IsReport, IsFront}
-use Rattle.smk_run.specs.Runs as run
-use Rattle.smk_cli.specs.Faults.{fault_of}
-use Rattle.smk_cli.specs.Lines.{IsFaultLine, IsOutcome, is_output, is_of_report}
+use Rattle.smk_cli.specs.Lines.{IsFaultLine}
 
 true_false : true ≡ false → ⊥
 true_false e = cc
@@ -73,8 +71,14 @@ pub written_then : (a b : Text) (ok : Bool) (o p q : Option Text) (first second 
 written_then a b ok o p q first second holds one two = record {
   told = λ now e.
       let h = two.told now e in
-      let k = one.told h.0 h.1 in
-      (k.0, k.1, (a ++ h.2.0, both_whole ok a b h.2.0 h.2.1,
-      h.2.2 ∙ ap (λ t. t ++ h.2.0) (k.2.2 ∙ ap (λ t. k.0 ++ t) k.2.1) ∙ append_assoc k.0 a h.2.0));
+      let k = one.told h.0 h.1 in (
+        k.0,
+        k.1,
+        (
+          a ++ h.2.0,
+          both_whole ok a b h.2.0 h.2.1,
+          h.2.2 ∙ ap (λ t. t ++ h.2.0) (k.2.2 ∙ ap (λ t. k.0 ++ t) k.2.1) ∙ append_assoc k.0 a h.2.0,
+        ),
+      );
   stays = λ w some. two.stays w (one.stays holds some);
 }

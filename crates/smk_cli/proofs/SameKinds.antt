@@ -1,10 +1,10 @@
 -- Kinds of faults, by their statuses.
-use Rattle.std.proofs.Common.{◌≡◌, ◌⊎◌, ◌==◌, ◌||◌, not, ℕ, Bool, true, false, refl, sym, ap, inl, inr, Option, Some, None, Result, Ok, Err}
+use Rattle.std.proofs.Common.{◌≡◌, ◌==◌, not, true, false, refl, sym, Result, Ok, Err}
 use Rattle.smk_report.specs.declared.fault.Fault.{Fault}
 use Rattle.smk_report.specs.declared.fault.Fault.TheVariants as fault
 use Rattle.smk_report.specs.Faults.{fault_status}
 use Rattle.smk_run.specs.Runs as run
-use Rattle.smk_entry.specs.Faults.{is_told, is_device, device_failed}
+use Rattle.smk_entry.specs.Faults.{is_device, device_failed}
 use Rattle.smk_cli.specs.Lines.{is_output, is_of_report}
 
 pub device_same : (f : Fault) → run.is_device_fault f ≡ is_device f

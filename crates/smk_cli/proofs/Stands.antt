@@ -1,35 +1,30 @@
 -- What is refused isn't run.
 use native.Mathlib.Omega.{arith}
-use Rattle.std.proofs.Common.{◌≡◌, ◌⊎◌, ◌≤◌, ◌<◌, ◌==◌, ℕ, Bool, true, false, List, [], ◌∷◌, ◌++◌, length, inl, inr, refl, sym, ap, ap₂, subst, ◌∙◌, Option, Some, None, Result, Ok, Err}
-use Rattle.std.specs.Prelude.{IsSome, option_map}
+use Rattle.std.proofs.Common.{◌≡◌, ◌⊎◌, ℕ, List, [], inl, inr, refl, sym, ap, ap₂, subst, ◌∙◌, Option, Some, None, Result, Ok, Err}
+use Rattle.std.specs.Prelude.{option_map}
 use Rattle.smk_world.specs.World.{World}
-use Rattle.smk_world.specs.Trees.{Path, Act, Each}
+use Rattle.smk_world.specs.Trees.{Path, Act}
 use Rattle.smk_pattern.specs.Shapes.{Text}
-use Rattle.smk_flow.specs.declared.job.Job.{Job}
 use Rattle.smk_flow.specs.Flows.{Flow}
 use Rattle.smk_flow.specs.Targets.{all_paths}
 use Rattle.smk_flow.proofs.NoFault.{no_fault}
 use Rattle.smk_files.specs.Looks.{Nodes}
 use Rattle.smk_load.specs.declared.fault.LoadFault.{LoadFault}
-use Rattle.smk_load.specs.Loading.{loaded, Gives, FailsAs}
-use Rattle.smk_chain.specs.declared.jobs.Maker.{Maker}
+use Rattle.smk_load.specs.Loading.{loaded, FailsAs}
 use Rattle.smk_chain.specs.Derive.{Listings, Refusal}
 use Rattle.smk_chain.specs.Told.{first_told}
 use Rattle.smk_record.specs.declared.record.Record.{Record}
-use Rattle.smk_store.specs.declared.fault.StoreFault.{StoreFault}
 use Rattle.smk_store.specs.Images.{seen, Image}
 use Rattle.smk_report.specs.declared.fault.Fault.{Fault}
 use Rattle.smk_report.specs.declared.fault.Fault.TheVariants as fault
-use Rattle.smk_report.specs.Faults.{fault_status, status_of}
 use Rattle.smk_entry.specs.declared.reading.Reading.{Reading}
 use Rattle.smk_entry.specs.declared.asking.Asked.{Asked}
 use Rattle.smk_entry.specs.Entry.{IsRead, FailsToRead, FailsToAsk, IsAskedIn, asked_words, refused_word, reading_of}
-use Rattle.smk_entry.specs.Names.{workflow_file}
 use Rattle.smk_cli.specs.declared.planning.Plan.{Plan}
 use Rattle.smk_cli.specs.Faults.{of_chain, fault_of}
 use Rattle.smk_cli.specs.Lines.{IsOutcome}
 use Rattle.smk_cli.specs.Planning.{IsRefused, Many, First, IsPlanned}
-use Rattle.smk_cli.specs.Whole.{IsRefusal, OfWorkflow, OfPlan, IsToRun, IsWant, HasOnlyLooked, Went, Refused, Stopped, Worked, HasRefused}
+use Rattle.smk_cli.specs.Whole.{IsRefusal, OfWorkflow, OfPlan, IsToRun, Went, Refused, Stopped, Worked, HasRefused}
 
 -- ## What is refused isn't run
 

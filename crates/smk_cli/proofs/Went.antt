@@ -1,7 +1,6 @@
 -- What was done, by what its parts did.
-use Rattle.std.proofs.Common.{◌≡◌, ◌⊎◌, ◌≤◌, ◌<◌, ◌==◌, ℕ, Bool, true, false, List, [], ◌∷◌, ◌++◌, inl, inr, refl, sym, ap, subst, ◌∙◌, Option, Some, None, Result, Ok, Err, arith}
+use Rattle.std.proofs.Common.{◌≡◌, ◌≤◌, ℕ, Bool, true, false, List, [], ◌∷◌, inl, inr, refl, sym, ap, subst, ◌∙◌, Option, Some, Result, Ok, Err, arith}
 use Rattle.std.specs.Prelude.{IsSome}
-use Rattle.std.specs.List.{All}
 use Rattle.std.proofs.lemmas.List.Elements.{All-nil, All-cons, All-append}
 use Rattle.smk_world.specs.declared.event.Call.{Call}
 use Rattle.smk_world.specs.declared.event.Call.TheVariants.{Looked, ReadFile, ReadFolder, Written, Created, Removed, MadeParents, Settled, Protected, Started, Waited}
@@ -19,7 +18,7 @@ use Rattle.smk_flow.specs.Flows.{Flow}
 use Rattle.smk_chain.specs.declared.jobs.Maker.{Maker}
 use Rattle.smk_record.specs.declared.record.Record.{Record}
 use Rattle.smk_store.specs.declared.fault.StoreFault.{StoreFault}
-use Rattle.smk_store.specs.Loading.{is_look, AreLooks, IsFiled}
+use Rattle.smk_store.specs.Loading.{is_look, AreLooks}
 use Rattle.smk_store.proofs.Looks.{same_nodes, looked_nothing, filed_still}
 use Rattle.smk_run.specs.Stamps.{Serials}
 use Rattle.smk_report.specs.declared.fault.Fault.{Fault}
@@ -30,8 +29,8 @@ use Rattle.smk_cli.specs.declared.planning.Plan.{Plan}
 use Rattle.smk_cli.specs.Answers.{as_call}
 use Rattle.smk_cli.specs.Faults.{of_store}
 use Rattle.smk_cli.specs.Running.{HasMade}
-use Rattle.smk_cli.specs.Whole.{IsAtHand, IsWant, HasOnlyLooked, GoesOn, HasCarriedOut, HasWorked, Went, Refused, Stopped, Worked, IsRefusal, IsToRun}
-use Rattle.smk_cli.proofs.Looked.{IsSameFolder, moved, disk_moved, seen_moved, some_of}
+use Rattle.smk_cli.specs.Whole.{IsAtHand, IsWant, HasOnlyLooked, GoesOn, HasCarriedOut, Went, Refused, Stopped, Worked, IsRefusal, IsToRun}
+use Rattle.smk_cli.proofs.Looked.{IsSameFolder, disk_moved, some_of}
 
 true_false : true ≡ false → ⊥
 true_false e = cc

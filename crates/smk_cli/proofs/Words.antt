@@ -1,6 +1,6 @@
 -- What words ask for is one thing.
 use native.Mathlib.Omega.{arith}
-use Rattle.std.proofs.Common.{◌≡◌, ◌⊎◌, ◌≤◌, ◌<◌, ℕ, List, [], ◌∷◌, inl, inr, refl, sym, ap, ◌∙◌, ◌^◌}
+use Rattle.std.proofs.Common.{◌≡◌, ◌⊎◌, ◌≤◌, ◌<◌, ℕ, List, ◌∷◌, inl, inr, sym, ◌∙◌, ◌^◌}
 use Rattle.std.specs.Prelude.{decimal, codes}
 use Rattle.std.proofs.lemmas.Fmt.{decimal_injective}
 use Rattle.smk_asked.specs.declared.words.RunWords.{RunWords}

@@ -1,5 +1,5 @@
 -- Faults of the parts as those of the call.
-use Rattle.std.specs.Prelude.{◌≡◌, ◌==◌, ◌≢◌, Bool, true, false, Option, Some, None, Result, Ok, Err}
+use Rattle.std.specs.Prelude.{Option, Some, None, Result, Ok, Err}
 use Rattle.smk_asked.specs.declared.words.WordsFault.{WordsFault}
 use Rattle.smk_asked.specs.declared.words.WordsFault.TheVariants as words
 use Rattle.smk_store.specs.declared.fault.StoreFault.{StoreFault}
@@ -10,7 +10,6 @@ use Rattle.smk_chain.specs.declared.fault.SightFault.{SightFault}
 use Rattle.smk_chain.specs.declared.fault.SightFault.TheVariants as sight
 use Rattle.smk_report.specs.declared.fault.Fault.{Fault}
 use Rattle.smk_report.specs.declared.fault.Fault.TheVariants as fault
-use Rattle.smk_report.specs.Faults.{fault_status}
 
 abbrev pub of_words : WordsFault → Fault
 of_words words.BadWords = fault.BadWords

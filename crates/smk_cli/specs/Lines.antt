@@ -1,5 +1,5 @@
 -- Texts that are put, and the faults of putting them.
-use Rattle.std.specs.Prelude.{◌≡◌, ◌⊎◌, ◌==◌, ℕ, Bool, true, false, ◌||◌, List, [], ◌++◌, Option, Some, None, Result, Ok, Err, IsSome}
+use Rattle.std.specs.Prelude.{◌≡◌, ◌⊎◌, ◌==◌, Bool, false, ◌||◌, List, [], Option, Some, None, Result, Ok, Err, IsSome}
 use Rattle.std.specs.List.{flat_map}
 use Rattle.smk_world.specs.Trees.{Path}
 use Rattle.smk_report.specs.declared.fault.Fault.{Fault}

@@ -1,7 +1,6 @@
 -- The jobs that targets call for, as the folder stands.
-use Rattle.std.specs.Prelude.{◌≡◌, ◌<◌, ℕ, true, List, [], Option, Some, None, option_map, Result, Ok, Err}
+use Rattle.std.specs.Prelude.{◌≡◌, ◌<◌, ℕ, true, List, [], Option, Some, option_map, Result, Ok, Err}
 use Rattle.smk_world.specs.Trees.{Path}
-use Rattle.smk_flow.specs.declared.job.Job.{Job}
 use Rattle.smk_flow.specs.Flows.{Flow}
 use Rattle.smk_choose.specs.declared.sources.Sources.{Sources as Told}
 use Rattle.smk_choose.specs.Told.{told_by}

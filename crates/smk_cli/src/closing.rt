@@ -8,10 +8,10 @@ ghost use Rattle.smk_run.specs.Stamps.{number_at};
 ghost use Rattle.smk_cli.specs.Closing as spec;
 ghost use Rattle.smk_cli.specs.Lines as lines;
 
+use crate::makers::{number_of, numbers_of};
 use smk_base::{List, OutOfMemory, PathText, Text};
 use smk_chain::Maker;
 use smk_report::{Fault, summary_line, target_line};
-use crate::makers::{number_of, numbers_of};
 use smk_run::Tally;
 use smk_world::{Failed, Sink};
 use std::alloc::Global;

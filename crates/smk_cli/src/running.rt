@@ -72,7 +72,15 @@ pub(crate) fn run<W: Crew, O: Sink>(
     ensures output { HasCause (O.faults out.old) (O.faults out.new) (is_output result ≡ true) }
     ensures quiet { is_output result ≡ false → O.faults out.new ≡ O.faults out.old }
 {
-    match run_jobs(alloc, &asked.flow, &plan.jobs, &plan.store, cores, work, out) {
+    match run_jobs(
+        alloc,
+        &asked.flow,
+        &plan.jobs,
+        &plan.store,
+        cores,
+        work,
+        out,
+    ) {
         Err(fault) => Err(fault),
         Ok(tally) => conclude(
             alloc,

@@ -1,13 +1,9 @@
-use Rattle.std.proofs.Common.{◌≡◌, Ok, Err, Some, None, Option, List, ℕ, [], true, false, refl, ap, sym, subst, ◌∙◌, inl, inr}
+use Rattle.std.proofs.Common.{Err, ap}
 use Rattle.smk_store.specs.Images.{seen}
-use Rattle.smk_store.proofs.Looks.{looked_then, looked_well, looked_short}
-use Rattle.smk_entry.specs.Faults.{device_failed, is_told}
-use Rattle.smk_cli.specs.Faults.{of_store, of_sight, of_chain}
-use Rattle.std.specs.Prelude.{is_some}
+use Rattle.smk_entry.specs.Faults.{device_failed}
 use Rattle.smk_cli.specs.declared.planning.Plan.{Plan}
-use Rattle.smk_cli.specs.Planning as spec
-use Rattle.smk_cli.proofs.Looked.{store_looked, sight_looked, looked_like, ok_as, store_untold, moved, disk_moved, seen_moved, some_of, quiet_then, not_failed}
-use Rattle.smk_cli.proofs.Planned.{sights, plan_refused, plan_made, many_refused, sighted_ok}
+use Rattle.smk_cli.proofs.Looked.{looked_like, quiet_then}
+use Rattle.smk_cli.proofs.Planned.{many_refused, sighted_ok}
 use Rattle.smk_cli.proofs.planning.plan_by.Goals as goal
 
 pub returns-in-Err-clause-looked : goal.returns-in-Err-clause-looked

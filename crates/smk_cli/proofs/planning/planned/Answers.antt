@@ -1,12 +1,6 @@
-use Rattle.std.proofs.Common.{◌≡◌, Ok, Err, Some, None, Option, List, ℕ, [], true, false, refl, ap, sym, subst, ◌∙◌, inl, inr}
-use Rattle.smk_store.specs.Images.{seen}
-use Rattle.smk_store.proofs.Looks.{looked_then, looked_well, looked_short}
-use Rattle.smk_entry.specs.Faults.{device_failed, is_told}
-use Rattle.smk_cli.specs.Faults.{of_store, of_sight, of_chain}
+use Rattle.std.proofs.Common.{refl}
 use Rattle.smk_run.specs.Runs.{AreRunnable}
-use Rattle.smk_cli.specs.Planning as spec
-use Rattle.smk_cli.proofs.Looked.{store_looked, sight_looked, looked_like, ok_as, store_untold, moved, disk_moved, seen_moved, some_of, quiet_then, not_failed}
-use Rattle.smk_cli.proofs.Planned.{runnable_of, sights, plan_refused, plan_made, many_refused, sighted_ok}
+use Rattle.smk_cli.proofs.Planned.{runnable_of, plan_refused, plan_made}
 use Rattle.smk_cli.proofs.planning.planned.Goals as goal
 
 pub returns-in-Err-clause-told : goal.returns-in-Err-clause-told

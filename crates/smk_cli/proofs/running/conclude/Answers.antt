@@ -1,7 +1,5 @@
-use Rattle.std.proofs.Common.{◌≡◌, Ok, Err, true, false, refl, ap, sym, ◌∙◌, inl, inr}
-use Rattle.smk_entry.specs.Faults.{device_failed}
+use Rattle.std.proofs.Common.{◌≡◌, true, false, refl, ap, sym, ◌∙◌, inl, inr}
 use Rattle.smk_cli.specs.Lines.{is_output}
-use Rattle.smk_cli.specs.Closing.{closing_text, is_within}
 use Rattle.smk_cli.proofs.SameKinds.{of_report_quiet}
 use Rattle.smk_cli.proofs.Made.{verdict, concluded_text, fault_text_put}
 use Rattle.smk_cli.proofs.Ended.{cause_as}

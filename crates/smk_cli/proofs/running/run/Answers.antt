@@ -1,4 +1,4 @@
-use Rattle.std.proofs.Common.{◌≡◌, Ok, Err, true, false, refl, ap, sym, subst, ◌∙◌, inl, inr}
+use Rattle.std.proofs.Common.{◌≡◌, true, false, ap, sym, subst, ◌∙◌}
 use Rattle.smk_entry.specs.Faults.{device_failed}
 use Rattle.smk_world.specs.Calls.{HasCause}
 use Rattle.smk_run.specs.Reports.{HasWritten, IsReport}

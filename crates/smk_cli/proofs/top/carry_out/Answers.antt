@@ -1,6 +1,6 @@
-use Rattle.std.proofs.Common.{◌≡◌, Ok, Err, true, false, refl, ap, sym, subst, ◌∙◌, inl, inr}
+use Rattle.std.proofs.Common.{Err, refl, ap, sym, subst, ◌∙◌}
 use Rattle.std.specs.Prelude.{IsSome}
-use Rattle.smk_entry.specs.Faults.{device_failed, is_device}
+use Rattle.smk_entry.specs.Faults.{device_failed}
 use Rattle.smk_cli.proofs.Looked.{store_from}
 use Rattle.smk_cli.proofs.Ended.{early, later_on, cause_as, untouched_by, ok_by, ended_run}
 use Rattle.smk_cli.proofs.Went.{goes_not, goes_further, made_more, further_rose}

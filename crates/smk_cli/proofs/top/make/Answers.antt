@@ -1,4 +1,4 @@
-use Rattle.std.proofs.Common.{◌≡◌, [], Ok, Err, true, false, refl, ap, sym, subst, ◌∙◌, inl, inr}
+use Rattle.std.proofs.Common.{[], refl, ap, subst, ◌∙◌}
 use Rattle.smk_entry.specs.Faults.{device_failed}
 use Rattle.smk_store.specs.Images.{seen}
 use Rattle.smk_clash.proofs.Seen.{seen_lists_known}

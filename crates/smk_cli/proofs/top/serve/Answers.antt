@@ -1,6 +1,5 @@
-use Rattle.std.proofs.Common.{◌≡◌, ◌⊎◌, Ok, Err, true, false, refl, ap, sym, subst, ◌∙◌, inl, inr}
+use Rattle.std.proofs.Common.{refl, inr}
 use Rattle.std.specs.Prelude.{map, string_bytes}
-use Rattle.smk_entry.specs.Faults.{device_failed, is_device}
 use Rattle.smk_cli.specs.Whole.{Stopped}
 use Rattle.smk_cli.proofs.Looked.{false_not}
 use Rattle.smk_cli.proofs.Ended.{early, no_cause, unread_fault}

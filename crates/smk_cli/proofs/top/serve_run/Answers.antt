@@ -1,8 +1,8 @@
-use Rattle.std.proofs.Common.{◌≡◌, [], Ok, Err, true, false, refl, ap, sym, subst, ◌∙◌, inl, inr}
+use Rattle.std.proofs.Common.{[], Ok, ap, sym, subst, ◌∙◌}
 use Rattle.std.specs.Prelude.{is_some}
 use Rattle.smk_store.specs.Images.{seen}
-use Rattle.smk_entry.specs.Faults.{device_failed, is_told}
-use Rattle.smk_entry.specs.Entry.{IsAskedIn, FailsToAsk}
+use Rattle.smk_entry.specs.Faults.{device_failed}
+use Rattle.smk_entry.specs.Entry.{IsAskedIn}
 use Rattle.smk_cli.specs.Planning.{IsRefused, IsPlanned}
 use Rattle.smk_cli.specs.Whole.{IsRefusal, IsToRun, IsPlanFor, OfWorkflow, OfPlan}
 use Rattle.smk_cli.proofs.Looked.{some_of, moved, seen_moved}
@@ -22,9 +22,9 @@ returns-in-Err-clause-went g c = λ w at read hand.
     let act = g.W.Files.act in
     refused_or_stopped act c.args.words.now.cores (IsRefusal read words w) (IsToRun read words w) c.in-Err.fault _ _ _ _ _ _ c.in-Err.ensures.no_sink
     (λ told.
-        OfWorkflow (subst (λ r. IsAskedIn words w.nodes r) c.in-Err.is
-        (seen_there act _ (λ nodes. IsAskedIn words nodes c.ask.result) _ _ w a.did at (a.stays (told_well c.ask.result c.in-Err.fault c.in-Err.is told) (ap is_some at)))
-        told))
+    OfWorkflow (subst (λ r. IsAskedIn words w.nodes r) c.in-Err.is
+    (seen_there act _ (λ nodes. IsAskedIn words nodes c.ask.result) _ _ w a.did at (a.stays (told_well c.ask.result c.in-Err.fault c.in-Err.is told) (ap is_some at)))
+    told))
     (only_looked act _ _ _ (seen_looks act _ (λ nodes. IsAskedIn words nodes c.ask.result) _ _ a.did))
 
 pub returns-in-Ok-clause-ended : goal.returns-in-Ok-clause-ended

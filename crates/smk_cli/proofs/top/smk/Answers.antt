@@ -1,4 +1,3 @@
-use Rattle.std.proofs.Common.{◌≡◌, ◌⊎◌, Ok, Err, true, false, refl, ap, sym, subst, ◌∙◌, inl, inr}
 use Rattle.smk_cli.proofs.Ended.{cause_as, outcome_device, outcome_output, outcome_unread}
 use Rattle.smk_cli.proofs.Stands.{refusal_stands}
 use Rattle.smk_cli.proofs.AllDone.{all_done}
