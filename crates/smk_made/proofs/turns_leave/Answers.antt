@@ -1,5 +1,5 @@
+use Rattle.smk_made.proofs.Sparing.{turn_keeps_else}
 use Rattle.smk_made.proofs.turns_leave.Goals as goal
-use Rattle.smk_made.proofs.Keeping.{run_kept}
 
 pub returns : goal.returns
-returns c = ?
+returns c = record { keeps = turn_keeps_else }
