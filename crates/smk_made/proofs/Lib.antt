@@ -1,3 +1,5 @@
 pub mod Keeping
 pub mod Calls
 pub mod Sparing
+pub mod Kept
+pub mod TreeMoves

@@ -38,7 +38,7 @@ within_first q (p ∷ ps) qs h = let both = or_false (is_at_or_under q p) (is_wi
 abbrev pub AreOwn : List Path → Type 0
 AreOwn ms = Each (λ m. is_at_or_under m own_folder ≡ true) ms
 
-records_own : (ps : List Path) → AreOwn (map record_place ps)
+pub records_own : (ps : List Path) → AreOwn (map record_place ps)
 records_own [] = tt
 records_own (p ∷ ps) = (refl, records_own ps)
 
@@ -73,7 +73,7 @@ else_first exactly ps qs q h = record { outside = h.outside; within = within_fir
     at [] k = and_false exactly
     at (x ∷ xs) k = let both = and_or exactly (is_under x q) (is_above q (xs ++ qs)) k in or_and exactly (is_under x q) (is_above q xs) both.0 (at xs both.1)
 
-else_own : (exactly : Bool) (ms : List Path) (q : Path) → is_at_or_under q own_folder ≡ false → AreOwn ms → IsElse exactly ms q
+pub else_own : (exactly : Bool) (ms : List Path) (q : Path) → is_at_or_under q own_folder ≡ false → AreOwn ms → IsElse exactly ms q
 else_own exactly [] q out own = record { outside = out; within = refl; above = and_false exactly }
 else_own exactly (m ∷ ms) q out own =
     let apart = outside-own q m out own.0 in
@@ -103,10 +103,10 @@ else_head exactly p ps q h =
 
 -- ## Lists of calls
 
-abbrev Spared : Bool → Path → List Request → Type 0
+abbrev pub Spared : Bool → Path → List Request → Type 0
 Spared exactly q rs = Each (Spares exactly q) rs
 
-spared_settle : (exactly : Bool) (ps : List Path) (q : Path) → IsElse exactly ps q → bothers exactly (Settle ps) q ≡ false
+pub spared_settle : (exactly : Bool) (ps : List Path) (q : Path) → IsElse exactly ps q → bothers exactly (Settle ps) q ≡ false
 spared_settle exactly ps q h = none_of (is_within q ps) (exactly && is_above q ps) h.within h.above
 
 spared_remove : (exactly : Bool) (ps : List Path) (q : Path) → IsElse exactly ps q → Spared exactly q (remove_each ps)
@@ -121,20 +121,20 @@ spared_make : (exactly : Bool) (ps : List Path) (q : Path) → IsElse exactly ps
 spared_make exactly [] q h = tt
 spared_make exactly (p ∷ ps) q h = let k = else_head exactly p ps q h in (k.1, ((or_false _ (is_under q p) k.0).0, spared_make exactly ps q k.2))
 
-spared_write : (exactly : Bool) (ps : List Path) (bytes : List (List ℕ)) (q : Path) → IsElse exactly ps q → Spared exactly q (write_each ps bytes)
+pub spared_write : (exactly : Bool) (ps : List Path) (bytes : List (List ℕ)) (q : Path) → IsElse exactly ps q → Spared exactly q (write_each ps bytes)
 spared_write exactly [] bytes q h = tt
 spared_write exactly (p ∷ ps) [] q h = tt
 spared_write exactly (p ∷ ps) (b ∷ bytes) q h = let k = else_head exactly p ps q h in (k.1, ((or_false _ (is_under q p) k.0).0, spared_write exactly ps bytes q k.2))
 
-spared_both : (exactly : Bool) (q : Path) (rs qs : List Request) → Spared exactly q rs → Spared exactly q qs → Spared exactly q (rs ++ qs)
+pub spared_both : (exactly : Bool) (q : Path) (rs qs : List Request) → Spared exactly q rs → Spared exactly q qs → Spared exactly q (rs ++ qs)
 spared_both exactly q rs qs h k = each_append (Spares exactly q) rs qs h k
 
-spared_unmark : (exactly : Bool) (outs logs : List Path) (q : Path) → is_at_or_under q own_folder ≡ false → Spared exactly q (unmark_requests (places_of outs logs))
+pub spared_unmark : (exactly : Bool) (outs logs : List Path) (q : Path) → is_at_or_under q own_folder ≡ false → Spared exactly q (unmark_requests (places_of outs logs))
 spared_unmark exactly outs logs q out =
     let marks = else_own exactly (map mark_place outs) q out (marks_own outs) in
     spared_both exactly q (remove_each (map mark_place outs)) (Settle (map mark_place outs) ∷ []) (spared_remove exactly (map mark_place outs) q marks) (spared_settle exactly (map mark_place outs) q marks, tt)
 
-spared_begin : (exactly : Bool) (recipe : Recipe) (logs : List Path) (command : List ℕ) (q : Path) → IsElse exactly (owned_paths recipe logs) q → Spared exactly q (begin_requests recipe logs command)
+pub spared_begin : (exactly : Bool) (recipe : Recipe) (logs : List Path) (command : List ℕ) (q : Path) → IsElse exactly (owned_paths recipe logs) q → Spared exactly q (begin_requests recipe logs command)
 spared_begin exactly recipe logs command q h =
     let outs = out_paths recipe in
     let marking = map mark_place outs ++ map note_place logs in
@@ -168,7 +168,7 @@ spared_lose exactly outs logs q h =
 
 -- ## A turn
 
-spared_looks : (exactly : Bool) (q : Path) → OfLooks (Spares exactly q)
+pub spared_looks : (exactly : Bool) (q : Path) → OfLooks (Spares exactly q)
 spared_looks exactly q = record { look = λ p. refl; listed = λ p. refl }
 
 pub spared_closing : (exactly : Bool) (j : Underway) (q : Path) → IsElse exactly (owned_paths j.recipe j.logs) q → OfClosing (Spares exactly q) j
@@ -187,7 +187,7 @@ spared_turn exactly t q h = record {
   closing = λ number. spared_closing exactly (as_underway t number) q h;
 }
 
-turn_kept : (exactly : Bool) (made : Serials) (t : Turn) (w : World) (es : List Event) (q : Path)
+pub turn_kept : (exactly : Bool) (made : Serials) (t : Turn) (w : World) (es : List Event) (q : Path)
     → w.children ≡ [] → IsTurn made t w es → IsElse exactly (owned t) q → Keeps exactly (w.nodes q) ((run w es).nodes q)
 turn_kept exactly made t w es q none is h =
     run_kept exactly q w es (turn_each (Spares exactly q) made t w es (spared_turn exactly t q h) is) (subst (AreAside q) (sym none) tt)
