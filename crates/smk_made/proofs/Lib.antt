@@ -3,3 +3,5 @@ pub mod Calls
 pub mod Sparing
 pub mod Kept
 pub mod TreeMoves
+pub mod Starting
+pub mod Done

@@ -1,7 +1,9 @@
+use Rattle.smk_made.proofs.Done.{done_turn_leaves}
 use Rattle.smk_made.proofs.Sparing.{turn_keeps_else}
-use Rattle.smk_made.proofs.Kept.{has_kept}
-use Rattle.smk_made.proofs.TreeMoves.{kind_firm, outputs_moved, contents_moved}
 use Rattle.smk_made.proofs.turns_leave.Goals as goal
 
-pub returns : goal.returns
-returns c = record { keeps = turn_keeps_else }
+pub returns-clause-keeps : goal.returns-clause-keeps
+returns-clause-keeps c = turn_keeps_else
+
+pub returns-clause-leaves : goal.returns-clause-leaves
+returns-clause-leaves c = done_turn_leaves
