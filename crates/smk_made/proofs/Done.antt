@@ -36,8 +36,8 @@ use Rattle.smk_run.specs.Turns.{Course, Unbegun, Unstarted, Unclosed, Closed, Tu
 use Rattle.smk_made.specs.Leaving.{owned, MayCome, AreInputsApart, IsFirm, IsRecorded, HasLeft, DoneTurnLeaves}
 use Rattle.smk_made.proofs.Keeping.{none_of, or_false, Keeps, Spares, AreAside, EachCall, run_kept}
 use Rattle.smk_made.proofs.Calls.{each_append, each_first, OfLooks, done_each, seen_each, stamped_each}
-use Rattle.smk_made.proofs.Sparing.{IsElse, spared_begin, spared_looks}
-use Rattle.smk_made.proofs.Kept.{IsAllKnown, AllFirm, HasKept, has_kept, keep_files, apart_differ, differ_first, at_outside}
+use Rattle.smk_made.proofs.Sparing.{IsOffTurn, spared_begin, spared_looks, off_overlap}
+use Rattle.smk_made.proofs.Kept.{IsAllKnown, AllFirm, HasKept, has_kept, keep_files, apart_differ, differ_first}
 use Rattle.smk_made.proofs.TreeMoves.{StaysUnder, stays_same, stays_firm, contents_moved, outputs_moved, IsMadeFirm, kind_firm}
 use Rattle.smk_made.proofs.Starting.{files_children, started_after, HasEnded, has_ended}
 
@@ -102,7 +102,7 @@ parts_by made t (Closed (BadMember p)) w es h done = absurd (true_false (sym don
 
 -- ## Nothing runs
 
-follows_split : (act : Act) (w : World) (es fs : List Event) → Follows act w (es ++ fs) → Follows act w es × Follows act (run w es) fs
+pub follows_split : (act : Act) (w : World) (es fs : List Event) → Follows act w (es ++ fs) → Follows act w es × Follows act (run w es) fs
 follows_split act w [] fs h = (tt, h)
 follows_split act w (e ∷ es) fs h = let more = follows_split act (after w e) es fs h.1 in ((h.0, more.0), more.1)
 
@@ -128,53 +128,31 @@ idle_known w none owners = λ q. known_else (w.nodes q) (λ e. true_false (sym (
 
 -- ## The inputs are as they were
 
-out_of_overlap : (p q : Path) (os : List Path) → is_at_or_under q p ≡ true → list_any (overlaps p) os ≡ false → is_within q os ≡ false
-out_of_overlap p q [] at h = refl
-out_of_overlap p q (o ∷ os) at h =
-    let both = or_false (overlaps p o) (list_any (overlaps p) os) h in
-    none_of (is_at_or_under q o) (is_within q os) (false_unless (is_at_or_under q o) (λ k. never_both (overlaps p o) (overlaps_above_both q p o at k) both.0)) (out_of_overlap p q os at both.1)
-
-under_at : (o q p : Path) → is_under o q ≡ true → is_at_or_under q p ≡ true → is_under o p ≡ true
-under_at o q p under at = elim (at_or_under_cases q p at) [
-  | inl e ↦ subst (λ x. is_under o x ≡ true) e under
-  | inr u ↦ under_further o q p under u
-]
-
-not_above_overlap : (p q : Path) (os : List Path) → is_at_or_under q p ≡ true → list_any (overlaps p) os ≡ false → is_above q os ≡ false
-not_above_overlap p q [] at h = refl
-not_above_overlap p q (o ∷ os) at h =
-    let both = or_false (overlaps p o) (list_any (overlaps p) os) h in
-    none_of (is_under o q) (is_above q os) (false_unless (is_under o q) (λ k. never_both (overlaps p o) (overlaps_over p o (under_at o q p k at)) both.0)) (not_above_overlap p q os at both.1)
-
 begun_kept : (made : Serials) (t : Turn) (w : World) (seen first : List Event) (q : Path) → w.children ≡ []
     → AreStamped made (in_paths t.job.recipe) (found t.looked) seen → HasDone (begin_requests t.job.recipe t.job.logs t.command) first → (run w seen).children ≡ []
-    → IsElse true (owned t) q → (run (run w seen) first).nodes q ≡ w.nodes q
+    → IsOffTurn true q t → (run (run w seen) first).nodes q ≡ w.nodes q
 begun_kept made t w seen first q none stamped begun still h =
     run_kept true q (run w seen) first
     (done_each (Spares true q) (begin_requests t.job.recipe t.job.logs t.command) first (spared_begin true t.job.recipe t.job.logs t.command q h) begun)
     (subst (AreAside q) (sym still) tt)
     ∙ run_kept true q w seen (stamped_each (Spares true q) (spared_looks true q) made (in_paths t.job.recipe) (found t.looked) seen stamped) (subst (AreAside q) (sym none) tt)
 
-inputs_stay : (t : Turn) (w u : World) → ((q : Path) → IsElse true (owned t) q → u.nodes q ≡ w.nodes q)
+inputs_stay : (t : Turn) (w u : World) → ((q : Path) → IsOffTurn true q t → u.nodes q ≡ w.nodes q)
     → (ps : List Path) → Each (λ p. (is_at_or_under p own_folder ≡ false) × (list_any (overlaps p) (owned t) ≡ false)) ps → Each (StaysUnder w u) ps
 inputs_stay t w u same [] h = tt
 inputs_stay t w u same (p ∷ ps) h = (
-  (λ q at. stays_same (w.nodes q) (u.nodes q) (same q (record {
-    outside = at_outside p q h.0.0 at;
-    within = out_of_overlap p q (owned t) at h.0.1;
-    above = not_above_overlap p q (owned t) at h.0.1;
-  }))),
+  (λ q at. stays_same (w.nodes q) (u.nodes q) (same q (off_overlap t p q h.0.0 h.0.1 at))),
   inputs_stay t w u same ps h.1,
 )
 
 -- ## The outputs
 
-or_then : (a b : Bool) → b ≡ true → (a || b) ≡ true
+pub or_then : (a b : Bool) → b ≡ true → (a || b) ≡ true
 or_then true b h = refl
 or_then false b h = h
 
 -- what is at or under one of these is within all
-within_each : (all ps : List Path) → ((q : Path) → is_within q ps ≡ true → is_within q all ≡ true) → Each (λ p. (q : Path) → is_at_or_under q p ≡ true → is_within q all ≡ true) ps
+pub within_each : (all ps : List Path) → ((q : Path) → is_within q ps ≡ true → is_within q all ≡ true) → Each (λ p. (q : Path) → is_at_or_under q p ≡ true → is_within q all ≡ true) ps
 within_each all [] h = tt
 within_each all (p ∷ ps) h = (
   (λ q at. h q (ap (λ v. v || is_within q ps) at)),

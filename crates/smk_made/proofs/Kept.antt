@@ -25,7 +25,7 @@ use Rattle.smk_job.proofs.Children.{AreFiles, is_crew, files_append, remove_file
 use Rattle.smk_job.proofs.Single.{touches, KeepsOff, Stepped, Reaches, done_reaches, step_keeps, IsKnown, is_start, step_known, removed, settled_firm, written, firmly_none}
 use Rattle.smk_job.proofs.Firmly.{reaches_split, reaches_keeps}
 use Rattle.smk_made.proofs.Keeping.{none_of, or_false, bothers, Spares}
-use Rattle.smk_made.proofs.Sparing.{IsElse, Spared, spared_both, spared_write, spared_settle, spared_unmark, records_own, else_own}
+use Rattle.smk_made.proofs.Sparing.{IsElse, Spared, spared_both, spared_put, spared_unmark, records_else, marks_else, at_outside}
 
 true_false : true ≡ false → ⊥
 true_false e = cc
@@ -239,9 +239,6 @@ pub record HasKept (outs : List Path) (bytes : List (List ℕ)) (w v : World) : 
   pub recorded : AllFirm v outs bytes
   pub unmarked : Each (λ p. v.nodes (mark_place p) ≡ firmly None) outs
 
-pub at_outside : (p q : Path) → is_at_or_under p own_folder ≡ false → is_at_or_under q p ≡ true → is_at_or_under q own_folder ≡ false
-at_outside p q out at = false_unless (is_at_or_under q own_folder) (λ own. never_both (is_at_or_under q p) at (outside-own p q out own).at_or_over)
-
 pub within_outside : (q : Path) (ps : List Path) → Each (λ p. IsTrue (is_path p)) ps → is_within q ps ≡ true → is_at_or_under q own_folder ≡ false
 within_outside q [] paths within = absurd (true_false (sym within))
 within_outside q (p ∷ ps) paths within = elim (or_cases (is_at_or_under q p) (is_within q ps) within) [
@@ -270,10 +267,9 @@ has_kept act outs logs bytes w es paths differ known follows done =
     record {
       outputs = λ q within.
           let out = within_outside q outs paths within in
-          let records = else_own true (map record_place outs) q out (records_own outs) in
           let spared = spared_both true q put unmark
-          (spared_both true q (write_each (map record_place outs) bytes) (Settle (map record_place outs) ∷ []) (spared_write true (map record_place outs) bytes q records) (spared_settle true (map record_place outs) q records, tt))
-          (spared_unmark true outs logs q out) in
+          (spared_put true outs bytes q (records_else true outs q out))
+          (spared_unmark true outs logs q (marks_else true outs q out)) in
           reaches_keeps act (put ++ unmark) a v q reached.2 (keeps_off (put ++ unmark) q (keep_files outs logs bytes).1 spared) ∙ settled_firm act outs w a q s1 within;
       recorded = all_firm_still parts.0 v outs bytes (λ p. reaches_keeps act unmark parts.0 v (record_place p) parts.2 (unmark_off p outs logs)) (all_put act outs bytes a parts.0 parts.1 differ known_a);
       unmarked = all_unmarked act outs logs parts.0 v parts.2 known_c;

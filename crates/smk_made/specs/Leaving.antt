@@ -1,6 +1,6 @@
 -- What the turn of a job leaves.
 use Rattle.std.specs.Prelude.{◌≡◌, ℕ, Bool, true, false, List, [], Option, Some, None, IsTrue}
-use Rattle.std.specs.List.{list_any}
+use Rattle.std.specs.List.{flat_map, list_any}
 use Rattle.smk_base.specs.Path.{is_path, own_folder, is_at_or_under, overlaps}
 use Rattle.smk_base.specs.Place.{record_place, mark_place}
 use Rattle.smk_base.specs.declared.tree.Tree.{Tree}
@@ -18,7 +18,7 @@ use Rattle.smk_record.specs.Records.{record_of}
 use Rattle.smk_record.specs.Spelling.{spelling}
 use Rattle.smk_job.specs.Sights.{IsOfKind}
 use Rattle.smk_run.specs.Stamps.{Serials}
-use Rattle.smk_run.specs.Turns.{Turn, found, IsTurn, is_done}
+use Rattle.smk_run.specs.Turns.{Turn, found, IsTurn, AreTurns, is_done}
 
 -- the outputs and logs of the job whose turn it is
 abbrev pub owned : Turn → List Path
@@ -45,6 +45,10 @@ pub record KeepsElse (places : List Path) (w v : World) : Type 0 where
 -- A turn, however far it came, changes nothing else than what is at and under the outputs and logs of its job.
 abbrev pub TurnKeepsElse : Type 0
 TurnKeepsElse = (made : Serials) (t : Turn) (w : World) (es : List Event) → w.children ≡ [] → IsTurn made t w es → KeepsElse (owned t) w (run w es)
+
+-- So do turns one after another.
+abbrev pub TurnsKeepElse : Type 0
+TurnsKeepElse = (made : Serials) (ts : List Turn) (w : World) (es : List Event) → w.children ≡ [] → AreTurns made ts w es → KeepsElse (flat_map owned ts) w (run w es)
 
 -- ## What a turn leaves that is done
 
