@@ -5,3 +5,4 @@ pub mod Kept
 pub mod TreeMoves
 pub mod Starting
 pub mod Done
+pub mod Running
