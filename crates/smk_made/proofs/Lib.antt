@@ -6,3 +6,4 @@ pub mod TreeMoves
 pub mod Starting
 pub mod Done
 pub mod Running
+pub mod Clean
