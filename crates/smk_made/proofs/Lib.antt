@@ -7,3 +7,4 @@ pub mod Starting
 pub mod Done
 pub mod Running
 pub mod Clean
+pub mod Whole
