@@ -1,13 +1,9 @@
 -- What holds of all calls of a turn, where it holds of those of each of its parts.
-use Rattle.std.proofs.Common.{◌≡◌, ◌⊎◌, inl, inr, ℕ, Bool, true, false, List, [], ◌∷◌, ◌++◌, refl, ap, sym, subst, ◌∙◌, Option, Some, None, Result, Ok, Err}
-use Rattle.std.specs.List.{flat_map}
-use Rattle.smk_base.specs.Path.{is_at_or_under}
+use Rattle.std.proofs.Common.{◌≡◌, inl, inr, ℕ, List, [], ◌∷◌, ◌++◌, ap, sym, subst, Option, Some, None, Result, Ok, Err}
 use Rattle.smk_world.specs.declared.event.Call.{Call}
 use Rattle.smk_world.specs.declared.event.Event.{Event}
-use Rattle.smk_world.specs.declared.event.Stat.TheVariants.{File}
 use Rattle.smk_world.specs.declared.event.WorkFault.{WorkFault}
 use Rattle.smk_world.specs.declared.event.WorkFault.TheVariants.{Failed as FailedFault, OutOfMemory as MemoryFault}
-use Rattle.smk_world.specs.declared.recipe.Kind.{Kind}
 use Rattle.smk_world.specs.declared.recipe.Out.{Out}
 use Rattle.smk_world.specs.World.{World, run, in_paths}
 use Rattle.smk_world.specs.Requests.{Request, request, HasDone, IsCutShort}
@@ -25,7 +21,7 @@ use Rattle.smk_run.specs.declared.stop.Stop.TheVariants as stop
 use Rattle.smk_run.specs.declared.ending.Ending.{Ending}
 use Rattle.smk_run.specs.declared.ending.Ending.TheVariants.{Good, Status, NoOutput, WrongKind, BadMember}
 use Rattle.smk_run.specs.Stamps.{Serials, look_at, looks, IsStamped, AreStamped, HasStamped}
-use Rattle.smk_run.specs.Closings.{HasWaited, IsUnwaited, HasSettled, HasClosed}
+use Rattle.smk_run.specs.Closings.{HasWaited, HasSettled, HasClosed}
 use Rattle.smk_run.specs.Turns.{Course, Unbegun, Unstarted, Unclosed, Closed, Turn, found, as_underway, HasBegunAnd, HasGoneOn, HasGone, HasStampedAnd, IsTurnBy, IsTurn}
 use Rattle.smk_made.proofs.Keeping.{EachCall}
 

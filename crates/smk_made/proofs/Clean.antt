@@ -1,16 +1,14 @@
 -- What was made of clean inputs is clean.
-use Rattle.std.proofs.Common.{◌≡◌, ◌⊎◌, inl, inr, ℕ, zero, suc, Bool, true, false, ◌&&◌, ◌||◌, not, ◌==◌, List, [], ◌∷◌, ◌++◌, refl, ap, sym, subst, ◌∙◌, Option, Some, None, option_map, bytes_eq}
+use Rattle.std.proofs.Common.{◌≡◌, inl, inr, ℕ, zero, suc, Bool, true, false, ◌&&◌, ◌||◌, not, ◌==◌, List, [], ◌∷◌, ◌++◌, refl, ap, sym, subst, ◌∙◌, Option, Some, None, option_map, bytes_eq}
 use Rattle.std.specs.Prelude.{map, if◌then◌else◌}
-use Rattle.std.specs.List.{flat_map, list_any, AllZip}
+use Rattle.std.specs.List.{list_any, AllZip}
 use Rattle.std.specs.Option.{option_and_then}
 use Rattle.std.proofs.lemmas.Bool.{eq-eqb}
-use Rattle.smk_base.specs.Path.{is_under, is_at_or_under, overlaps}
+use Rattle.smk_base.specs.Path.{is_under, overlaps}
 use Rattle.smk_base.specs.declared.tree.Tree.{Tree}
 use Rattle.smk_base.specs.declared.tree.Tree.TheVariants.{File, Folder}
 use Rattle.smk_base.proofs.Places.{place_itself}
 use Rattle.smk_base.proofs.Under.{at_itself}
-use Rattle.smk_world.specs.declared.event.Event.{Event}
-use Rattle.smk_world.specs.declared.event.Node.{Node}
 use Rattle.smk_world.specs.declared.event.Node.TheVariants.{Regular, Directory}
 use Rattle.smk_world.specs.declared.event.NodeState.{NodeState}
 use Rattle.smk_world.specs.declared.event.NodeState.TheVariants.{Owned, Known}
@@ -20,19 +18,19 @@ use Rattle.smk_world.specs.declared.recipe.Out.{Out}
 use Rattle.smk_world.specs.declared.recipe.Recipe.{Recipe}
 use Rattle.smk_world.specs.World.{World, run, reading, in_paths, out_paths}
 use Rattle.smk_world.specs.Calls.{Acted, Reads, HoldsBytes, TreeAt, MaybeTreeAt, are_apart}
-use Rattle.smk_world.specs.Trees.{Path, Act, Each, IsIn, all_of, are_good, below, file_in, is_good, outs_of, part_at, tree_among, tree_given, value_at}
+use Rattle.smk_world.specs.Trees.{Path, Each, IsIn, all_of, are_good, below, file_in, is_good, outs_of, part_at, tree_among, tree_given, value_at}
 use Rattle.smk_flow.specs.declared.job.Job.{Job}
 use Rattle.smk_flow.specs.Flows.{Candidate, gathered_folders}
 use Rattle.smk_choose.specs.Choose.{Choice, choose, Source, Make, Nothing, Ambiguous}
-use Rattle.smk_chain.specs.Derive.{Listings, recipe, job}
+use Rattle.smk_chain.specs.Derive.{Listings, recipe}
 use Rattle.smk_chain.specs.Mean.{Setting, listings_of, is_runnable, mean, source_tree}
 use Rattle.smk_record.specs.declared.record.Member.{Member}
 use Rattle.smk_job.specs.Sights.{Nodes, IsOfKind, reads_file}
 use Rattle.smk_job.proofs.Outs.{paths_same}
 use Rattle.smk_run.specs.Turns.{Turn}
-use Rattle.smk_made.specs.Leaving.{owned, IsRecorded}
+use Rattle.smk_made.specs.Leaving.{IsRecorded}
 use Rattle.smk_made.specs.Running.{IsOrderly, AreArranged, IsMade}
-use Rattle.smk_made.specs.Clean.{IsMadeBy, IsChained, IsSourceIn, IsCleanIn, DoneRunIsClean}
+use Rattle.smk_made.specs.Clean.{IsChained, IsCleanIn, DoneRunIsClean}
 use Rattle.smk_made.proofs.Keeping.{or_false, none_of}
 use Rattle.smk_made.proofs.Sparing.{turns_keep_else}
 use Rattle.smk_made.proofs.Running.{done_turns_leave}
@@ -297,7 +295,7 @@ done_run_is_clean S made ts w es none owners arranged sources follows are done =
     let kept = turns_keep_else made ts w es none are in
     let stand : (n : ℕ) (p : Path) → S.sources.is p ≡ true → IsCleanIn S n v p =
     λ n p is.
-        let s = sources p is in
-        let file = holds_reading s.held (w.nodes p) s.holds in
-        source_clean S n v p s.held is s.bytes (reading_holds s.held file.0 file.1 (v.nodes p) (kept.above p (Regular s.held file.0 file.1) s.outside s.apart file.2)) in
+    let s = sources p is in
+    let file = holds_reading s.held (w.nodes p) s.holds in
+    source_clean S n v p s.held is s.bytes (reading_holds s.held file.0 file.1 (v.nodes p) (kept.above p (Regular s.held file.0 file.1) s.outside s.apart file.2)) in
     clean_chained S ts v arranged has.made stand

@@ -1,11 +1,8 @@
 -- What a turn leaves that is done.
-use Rattle.std.proofs.Common.{◌≡◌, ◌⊎◌, inl, inr, ℕ, Bool, true, false, ◌&&◌, ◌||◌, List, [], ◌∷◌, ◌++◌, refl, ap, sym, subst, ◌∙◌, Option, Some, None, Ok, Err, IsTrue, arith}
+use Rattle.std.proofs.Common.{◌≡◌, ℕ, Bool, true, false, ◌||◌, List, [], ◌∷◌, ◌++◌, refl, ap, sym, subst, ◌∙◌, Option, Ok, IsTrue, arith}
 use Rattle.std.specs.Prelude.{map, nat_eq, Contains}
 use Rattle.std.specs.List.{list_any, IsDistinct}
-use Rattle.smk_base.specs.Path.{is_path, own_folder, is_under, is_at_or_under, overlaps}
-use Rattle.smk_base.specs.Place.{record_place, mark_place}
-use Rattle.smk_base.specs.declared.tree.Tree.{Tree}
-use Rattle.smk_base.proofs.Under.{never_both, false_unless, or_cases, at_itself, at_when_under, under_further, at_or_under_cases, overlaps_above_both, overlaps_over}
+use Rattle.smk_base.specs.Path.{is_path, own_folder, is_at_or_under, overlaps}
 use Rattle.smk_world.specs.declared.event.Call.TheVariants.{Waited}
 use Rattle.smk_world.specs.declared.event.Change.{Change}
 use Rattle.smk_world.specs.declared.event.Ended.{Ended}
@@ -13,31 +10,29 @@ use Rattle.smk_world.specs.declared.event.Event.{Event}
 use Rattle.smk_world.specs.declared.event.NodeState.{NodeState}
 use Rattle.smk_world.specs.declared.event.NodeState.TheVariants.{Owned, Known}
 use Rattle.smk_world.specs.declared.recipe.Out.{Out}
-use Rattle.smk_world.specs.World.{World, after, run, is_within, is_above, in_paths, out_paths, owned_paths, firm, firmly, numbers}
-use Rattle.smk_world.specs.Calls.{Lets, HasOwners, ContentsAre, OutputsAre, owned_now, started_numbers}
+use Rattle.smk_world.specs.World.{World, after, run, is_within, in_paths, out_paths, firm, firmly, numbers}
+use Rattle.smk_world.specs.Calls.{Lets, HasOwners, owned_now, started_numbers}
 use Rattle.smk_world.specs.Runs.{Follows}
 use Rattle.smk_world.specs.Requests.{Request, HasDone}
-use Rattle.smk_world.specs.Requests.Request.{Look, ListFolder}
 use Rattle.smk_world.specs.Trees.{Path, Act, Each, outs_of}
 use Rattle.smk_world.proofs.Runs.{run_append}
 use Rattle.smk_world.proofs.Owners.{AreNumbered, numbered_after, numbered_run, owned_after, owned_run}
 use Rattle.smk_record.specs.declared.record.Member.{Member}
-use Rattle.smk_job.specs.Jobs.{Underway, begin_requests, finish_requests, bytes_with}
-use Rattle.smk_job.specs.Sights.{Nodes, AreSeen}
+use Rattle.smk_job.specs.Jobs.{begin_requests, finish_requests, bytes_with}
+use Rattle.smk_job.specs.Sights.{AreSeen}
 use Rattle.smk_job.proofs.Children.{is_crew, done_children}
 use Rattle.smk_job.proofs.Launching.{before_start, before_files}
 use Rattle.smk_job.proofs.Outs.{paths_same}
 use Rattle.smk_job.proofs.Single.{IsKnown}
-use Rattle.smk_run.specs.declared.ending.Ending.{Ending}
 use Rattle.smk_run.specs.declared.ending.Ending.TheVariants.{Good, Status, NoOutput, WrongKind, BadMember}
 use Rattle.smk_run.specs.Stamps.{Serials, AreStamped}
 use Rattle.smk_run.specs.Closings.{wait_event}
-use Rattle.smk_run.specs.Turns.{Course, Unbegun, Unstarted, Unclosed, Closed, Turn, found, as_underway, HasGone, HasStampedAnd, IsTurn, IsTurnBy, is_done}
-use Rattle.smk_made.specs.Leaving.{owned, MayCome, AreInputsApart, IsFirm, IsRecorded, HasLeft, DoneTurnLeaves}
-use Rattle.smk_made.proofs.Keeping.{none_of, or_false, Keeps, Spares, AreAside, EachCall, run_kept}
-use Rattle.smk_made.proofs.Calls.{each_append, each_first, OfLooks, done_each, seen_each, stamped_each}
+use Rattle.smk_run.specs.Turns.{Course, Unbegun, Unstarted, Unclosed, Closed, Turn, found, as_underway, HasGone, HasStampedAnd, IsTurnBy, is_done}
+use Rattle.smk_made.specs.Leaving.{owned, MayCome, IsFirm, IsRecorded, HasLeft, DoneTurnLeaves}
+use Rattle.smk_made.proofs.Keeping.{Spares, AreAside, run_kept}
+use Rattle.smk_made.proofs.Calls.{each_first, OfLooks, done_each, seen_each, stamped_each}
 use Rattle.smk_made.proofs.Sparing.{IsOffTurn, spared_begin, spared_looks, off_overlap}
-use Rattle.smk_made.proofs.Kept.{IsAllKnown, AllFirm, HasKept, has_kept, keep_files, apart_differ, differ_first}
+use Rattle.smk_made.proofs.Kept.{IsAllKnown, AllFirm, has_kept, keep_files, apart_differ, differ_first}
 use Rattle.smk_made.proofs.TreeMoves.{StaysUnder, stays_same, stays_firm, contents_moved, outputs_moved, IsMadeFirm, kind_firm}
 use Rattle.smk_made.proofs.Starting.{files_children, started_after, HasEnded, has_ended}
 
@@ -179,8 +174,7 @@ all_recorded : (t : Turn) (number : ℕ) (w v : World) (outs : List Out) (member
 all_recorded t number w v [] members looks seen firm_files same = tt
 all_recorded t number w v (out ∷ outs) [] looks seen firm_files same = absurd seen
 all_recorded t number w v (out ∷ outs) (m ∷ members) looks (first, more, e, looked, quiet, kind, next) firm_files same =
-    let here : IsMadeFirm w.nodes v.nodes out.path = λ q at. same q (ap (λ b. b || is_within q (map (λ (o : Out). o.path) outs)) at) in
-    (
+    let here : IsMadeFirm w.nodes v.nodes out.path = λ q at. same q (ap (λ b. b || is_within q (map (λ (o : Out). o.path) outs)) at) in (
       record {
         members = m;
         kind = kind_firm w.nodes v.nodes out.path out.kind m here kind;

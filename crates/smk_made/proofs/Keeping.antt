@@ -1,12 +1,9 @@
 -- A turn leaves alone what isn't at, under or above the outputs and logs of its job.
-use Rattle.std.proofs.Common.{◌≡◌, ◌⊎◌, inl, inr, ℕ, Bool, true, false, ◌&&◌, ◌||◌, not, List, [], ◌∷◌, ◌++◌, refl, ap, sym, subst, ◌∙◌, Option, Some, None, Result, Ok, Err, bytes_eq, IsTrue}
-use Rattle.std.specs.Prelude.{if◌then◌else◌, nat_eq, is_some, map}
+use Rattle.std.proofs.Common.{◌≡◌, ℕ, Bool, true, false, ◌&&◌, ◌||◌, not, List, [], ◌∷◌, ◌++◌, refl, ap, ◌∙◌, Option, Some, None, Ok, Err, bytes_eq}
+use Rattle.std.specs.Prelude.{if◌then◌else◌, nat_eq, is_some}
 use Rattle.std.specs.List.{filter}
-use Rattle.smk_base.specs.Path.{is_path, own_folder, is_under, is_at_or_under}
-use Rattle.smk_base.specs.Place.{record_place, mark_place, note_place}
-use Rattle.smk_base.proofs.Apart.{IsApart, outside-own}
+use Rattle.smk_base.specs.Path.{is_under, is_at_or_under}
 use Rattle.smk_world.specs.declared.event.Node.{Node}
-use Rattle.smk_world.specs.declared.event.Node.TheVariants.{Regular, Directory}
 use Rattle.smk_world.specs.declared.event.NodeState.{NodeState}
 use Rattle.smk_world.specs.declared.event.NodeState.TheVariants.{Owned, Known}
 use Rattle.smk_world.specs.declared.event.Besides.TheVariants.{Anything}
@@ -16,12 +13,9 @@ use Rattle.smk_world.specs.declared.event.Change.{Change}
 use Rattle.smk_world.specs.declared.event.Child.{Child}
 use Rattle.smk_world.specs.declared.event.Event.{Event}
 use Rattle.smk_world.specs.World.{World, after, run, node_after, children_after, reading, is_within, is_above, owned_paths, owned_of, owned_by, child_numbered, standing, firm, loose, going, with_folder, with_flag, reads_folder, reads_nothing}
-use Rattle.smk_world.specs.Calls.{failed}
-use Rattle.smk_world.specs.Requests.{Request, request, HasDone, IsCutShort}
+use Rattle.smk_world.specs.Requests.{Request, request}
 use Rattle.smk_world.specs.Requests.Request.{Look, ReadUpTo, ListFolder, Write, Create, Remove, MakeParents, Settle, Protect, Start, Wait}
 use Rattle.smk_world.specs.Trees.{Path, Each}
-use Rattle.smk_world.proofs.Runs.{run_append}
-use Rattle.smk_job.specs.Laws.{IsPart}
 
 true_false : true ≡ false → ⊥
 true_false e = cc

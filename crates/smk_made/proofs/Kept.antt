@@ -1,31 +1,29 @@
 -- What the calls leave that close a job whose outputs are good.
-use Rattle.std.proofs.Common.{◌≡◌, ◌⊎◌, inl, inr, ℕ, Bool, true, false, ◌&&◌, ◌||◌, not, List, [], ◌∷◌, ◌++◌, refl, ap, sym, subst, ◌∙◌, Option, Some, None, IsTrue, bytes_eq}
+use Rattle.std.proofs.Common.{◌≡◌, ◌⊎◌, inl, inr, ℕ, Bool, true, false, ◌&&◌, ◌||◌, not, List, [], ◌∷◌, ◌++◌, refl, ap, sym, subst, ◌∙◌, Some, None, IsTrue}
 use Rattle.std.specs.Prelude.{map}
 use Rattle.std.specs.List.{list_any}
 use Rattle.smk_base.specs.Path.{is_path, own_folder, is_under, is_at_or_under, overlaps}
 use Rattle.smk_base.specs.Place.{record_place, mark_place}
-use Rattle.smk_base.specs.declared.tree.Tree.{Tree}
 use Rattle.smk_base.proofs.Places.{place_itself}
-use Rattle.smk_base.proofs.Under.{never_both, false_unless, or_cases, at_itself}
-use Rattle.smk_base.proofs.Apart.{IsApart, outside-own, path_outside, record-record, record-mark, record_under_record}
+use Rattle.smk_base.proofs.Under.{or_cases, at_itself}
+use Rattle.smk_base.proofs.Apart.{path_outside, record-record, record-mark, record_under_record}
 use Rattle.smk_world.specs.declared.event.Event.{Event}
 use Rattle.smk_world.specs.declared.event.Node.TheVariants.{Regular, Directory}
 use Rattle.smk_world.specs.declared.event.NodeState.{NodeState}
 use Rattle.smk_world.specs.declared.event.NodeState.TheVariants.{Owned, Known}
-use Rattle.smk_world.specs.declared.recipe.Recipe.{Recipe}
 use Rattle.smk_world.specs.World.{World, run, is_within, is_above, firm, firmly}
-use Rattle.smk_world.specs.Calls.{Acted, Reads, HoldsBytes, are_apart}
+use Rattle.smk_world.specs.Calls.{Reads, HoldsBytes, are_apart}
 use Rattle.smk_world.specs.Runs.{Follows}
 use Rattle.smk_world.specs.Requests.{Request, HasDone}
 use Rattle.smk_world.specs.Requests.Request.{Look, ReadUpTo, ListFolder, Write, Create, Remove, MakeParents, Settle, Protect, Start, Wait}
-use Rattle.smk_world.specs.Trees.{Path, Act, Each, IsIn}
+use Rattle.smk_world.specs.Trees.{Path, Act, Each}
 use Rattle.smk_store.specs.Steps.{places_of, remove_each, write_each, put_requests, unmark_requests}
 use Rattle.smk_job.specs.Jobs.{keep_requests}
-use Rattle.smk_job.proofs.Children.{AreFiles, is_crew, files_append, remove_files, write_files, put_files}
+use Rattle.smk_job.proofs.Children.{AreFiles, is_crew, files_append, remove_files, put_files}
 use Rattle.smk_job.proofs.Single.{touches, KeepsOff, Stepped, Reaches, done_reaches, step_keeps, IsKnown, is_start, step_known, removed, settled_firm, written, firmly_none}
 use Rattle.smk_job.proofs.Firmly.{reaches_split, reaches_keeps}
-use Rattle.smk_made.proofs.Keeping.{none_of, or_false, bothers, Spares}
-use Rattle.smk_made.proofs.Sparing.{IsElse, Spared, spared_both, spared_put, spared_unmark, records_else, marks_else, at_outside}
+use Rattle.smk_made.proofs.Keeping.{none_of, or_false, bothers}
+use Rattle.smk_made.proofs.Sparing.{Spared, spared_both, spared_put, spared_unmark, records_else, marks_else, at_outside}
 
 true_false : true ≡ false → ⊥
 true_false e = cc
@@ -135,8 +133,7 @@ all_written act [] bs w v h differ known = tt
 all_written act (p ∷ ps) [] w v h differ known = tt
 all_written act (p ∷ ps) (b ∷ bs) w v (x, s1, (y, s2, more)) differ known =
     let known_x : IsAllKnown x = λ q. step_known act (MakeParents (record_place p)) w x q s1 refl (known q) in
-    let known_y : IsAllKnown y = λ q. step_known act (Write (record_place p) b) x y q s2 refl (known_x q) in
-    (
+    let known_y : IsAllKnown y = λ q. step_known act (Write (record_place p) b) x y q s2 refl (known_x q) in (
       subst (HoldsBytes b) (sym (reaches_keeps act (write_each (map record_place ps) bs) y v (record_place p) more (write_off p ps bs differ.0))) (written act (record_place p) b x y s2 (known_x (record_place p))),
       all_written act ps bs y v more differ.1 known_y,
     )

@@ -7,4 +7,5 @@ pub mod Starting
 pub mod Done
 pub mod Running
 pub mod Clean
+pub mod Disjoint
 pub mod Whole

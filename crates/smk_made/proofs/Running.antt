@@ -1,28 +1,27 @@
 -- What was made stays, while later turns go on.
-use Rattle.std.proofs.Common.{◌≡◌, ◌⊎◌, inl, inr, ℕ, Bool, true, false, ◌||◌, List, [], ◌∷◌, ◌++◌, refl, ap, sym, subst, ◌∙◌, Option, Some, None, IsTrue}
+use Rattle.std.proofs.Common.{◌≡◌, inl, inr, true, false, ◌||◌, List, [], ◌∷◌, ◌++◌, refl, ap, sym, subst, ◌∙◌, None, IsTrue}
 use Rattle.std.specs.Prelude.{map}
 use Rattle.std.specs.List.{list_any}
 use Rattle.smk_base.specs.Path.{is_path, own_folder, is_under, is_at_or_under, overlaps}
 use Rattle.smk_base.specs.Place.{record_place, mark_place, note_place}
-use Rattle.smk_base.specs.declared.tree.Tree.{Tree}
 use Rattle.smk_base.proofs.Places.{place_itself}
-use Rattle.smk_base.proofs.Under.{or_cases, at_itself}
+use Rattle.smk_base.proofs.Under.{or_cases}
 use Rattle.smk_base.proofs.Apart.{IsApart, apart_flipped, path-own, path_outside, record-record, record-mark, record-note, mark-mark, mark-note}
 use Rattle.smk_world.specs.declared.event.Event.{Event}
 use Rattle.smk_world.specs.declared.recipe.Out.{Out}
-use Rattle.smk_world.specs.World.{World, run, is_within, in_paths, out_paths, owned_paths, firm, firmly}
+use Rattle.smk_world.specs.World.{World, run, is_within, in_paths, out_paths, firm, firmly}
 use Rattle.smk_world.specs.Calls.{HasOwners}
 use Rattle.smk_world.specs.Runs.{Follows}
 use Rattle.smk_world.specs.Trees.{Path, Act, Each, outs_of}
 use Rattle.smk_world.proofs.Runs.{run_append}
 use Rattle.smk_job.proofs.Outs.{paths_same}
 use Rattle.smk_run.specs.Stamps.{Serials}
-use Rattle.smk_run.specs.Turns.{Turn, IsTurn, AreTurns, is_done}
+use Rattle.smk_run.specs.Turns.{Turn, IsTurn}
 use Rattle.smk_made.specs.Leaving.{owned, MayCome, AreInputsApart, IsFirm, IsRecorded, HasLeft}
 use Rattle.smk_made.specs.Running.{IsOrderly, LeavesAlone, AreArranged, IsMade, HasMade, DoneTurnsLeave}
 use Rattle.smk_made.proofs.Keeping.{or_false}
 use Rattle.smk_made.proofs.Calls.{each_first}
-use Rattle.smk_made.proofs.Sparing.{IsElse, else_apart, IsOffTurn, turn_kept, turns_kept, off_overlap}
+use Rattle.smk_made.proofs.Sparing.{else_apart, IsOffTurn, turn_kept, turns_kept, off_overlap}
 use Rattle.smk_made.proofs.TreeMoves.{StaysUnder, stays_same, contents_moved, outputs_moved, IsMadeFirm, kind_firm}
 use Rattle.smk_made.proofs.Done.{follows_split, or_then, done_turn_leaves}
 
@@ -175,8 +174,7 @@ records_stay t w v [] same kept h = tt
 records_stay t w v (out ∷ outs) same kept h =
     let rest = map (λ (o : Out). o.path) outs in
     let here : IsMadeFirm w.nodes v.nodes out.path =
-    λ q at. let s = same q (ap (λ b. b || is_within q rest) at) in s.0 ∙ s.1.1 ∙ ap firm (sym s.1.1) in
-    (
+    λ q at. let s = same q (ap (λ b. b || is_within q rest) at) in s.0 ∙ s.1.1 ∙ ap firm (sym s.1.1) in (
       record {
         members = h.0.members;
         kind = kind_firm w.nodes v.nodes out.path out.kind h.0.members here h.0.kind;

@@ -1,5 +1,5 @@
 -- The calls of a turn spare what isn't at, under or above the outputs and logs of its job.
-use Rattle.std.proofs.Common.{◌≡◌, ◌⊎◌, inl, inr, ℕ, Bool, true, false, ◌&&◌, ◌||◌, List, [], ◌∷◌, ◌++◌, refl, ap, sym, subst, ◌∙◌, Some, None}
+use Rattle.std.proofs.Common.{◌≡◌, inl, inr, ℕ, Bool, true, false, ◌&&◌, ◌||◌, List, [], ◌∷◌, ◌++◌, refl, ap, sym, subst, ◌∙◌}
 use Rattle.std.specs.Prelude.{map}
 use Rattle.std.specs.List.{flat_map, list_any}
 use Rattle.smk_base.specs.Path.{own_folder, is_under, is_at_or_under, overlaps}
@@ -7,18 +7,16 @@ use Rattle.smk_base.specs.Place.{record_place, mark_place, note_place}
 use Rattle.smk_base.proofs.Under.{never_both, false_unless, under_further, at_or_under_cases, overlaps_above_both, overlaps_over}
 use Rattle.smk_base.proofs.Apart.{IsApart, apart_flipped, outside-own}
 use Rattle.smk_world.specs.declared.event.Event.{Event}
-use Rattle.smk_world.specs.declared.event.Node.{Node}
 use Rattle.smk_world.specs.declared.recipe.Recipe.{Recipe}
-use Rattle.smk_world.specs.World.{World, run, reading, is_within, is_above, in_paths, out_paths, owned_paths}
+use Rattle.smk_world.specs.World.{World, run, is_within, is_above, out_paths, owned_paths}
 use Rattle.smk_world.specs.Requests.{Request}
 use Rattle.smk_world.specs.Requests.Request.{Settle, Start}
 use Rattle.smk_world.specs.Trees.{Path, Each}
-use Rattle.smk_record.specs.declared.record.Member.{Member}
-use Rattle.smk_store.specs.Steps.{places_of, make_each, remove_each, write_each, mark_requests, put_requests, drop_requests, unmark_requests}
-use Rattle.smk_job.specs.Jobs.{Underway, parents_each, clear_requests, begin_requests, put_all_requests, keep_requests, drop_all_requests, lose_requests, finish_requests, abandon_requests, bytes_with}
+use Rattle.smk_store.specs.Steps.{places_of, make_each, remove_each, write_each, mark_requests, drop_requests, unmark_requests}
+use Rattle.smk_job.specs.Jobs.{Underway, parents_each, clear_requests, begin_requests, put_all_requests, keep_requests, drop_all_requests, lose_requests, bytes_with}
 use Rattle.smk_run.specs.Stamps.{Serials}
 use Rattle.smk_run.specs.Turns.{Turn, IsTurn, AreTurns, as_underway}
-use Rattle.smk_made.specs.Leaving.{owned, KeepsElse, TurnKeepsElse, TurnsKeepElse}
+use Rattle.smk_made.specs.Leaving.{owned, TurnKeepsElse, TurnsKeepElse}
 use Rattle.smk_made.proofs.Keeping.{none_of, or_false, bothers, Keeps, Spares, AreAside, EachCall, run_kept}
 use Rattle.smk_made.proofs.Calls.{each_append, each_then, OfLooks, OfClosing, OfTurn, turn_each}
 

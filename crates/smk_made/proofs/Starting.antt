@@ -1,5 +1,5 @@
 -- The command's start, and its end.
-use Rattle.std.proofs.Common.{◌≡◌, ℕ, Bool, true, false, not, List, [], ◌∷◌, ◌++◌, refl, ap, sym, subst, ◌∙◌, Option, Some, None, Ok, Err}
+use Rattle.std.proofs.Common.{◌≡◌, ℕ, Bool, true, false, not, List, [], ◌∷◌, ◌++◌, refl, ap, sym, subst, ◌∙◌, Some, None, Ok, Err}
 use Rattle.std.specs.Prelude.{if◌then◌else◌, nat_eq}
 use Rattle.std.specs.List.{filter}
 use Rattle.std.proofs.lemmas.List.{append-nil}
@@ -15,7 +15,7 @@ use Rattle.smk_world.specs.World.{World, after, run, children_after, child_numbe
 use Rattle.smk_world.specs.Calls.{Lets, ContentsAre, OutputsAre, started_number, started_numbers, failed}
 use Rattle.smk_world.specs.Requests.{Request, request, HasDone}
 use Rattle.smk_world.specs.Requests.Request.{Start}
-use Rattle.smk_world.specs.Trees.{Path, Act, Each}
+use Rattle.smk_world.specs.Trees.{Path, Act}
 use Rattle.smk_job.proofs.Children.{AreFiles, is_crew, children_by}
 use Rattle.smk_run.specs.Closings.{wait_event}
 use Rattle.smk_made.proofs.Keeping.{EachCall}

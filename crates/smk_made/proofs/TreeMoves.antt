@@ -1,5 +1,5 @@
 -- Trees and members stay where what reads stays.
-use Rattle.std.proofs.Common.{◌≡◌, ◌⊎◌, inl, inr, ℕ, Bool, true, false, List, [], ◌∷◌, ◌++◌, refl, ap, sym, subst, ◌∙◌, Option, Some, None, All}
+use Rattle.std.proofs.Common.{◌≡◌, ℕ, true, List, [], ◌∷◌, refl, ap, sym, subst, ◌∙◌, Option, Some, None}
 use Rattle.std.specs.List.{AllZip, AllByRecursion}
 use Rattle.std.proofs.lemmas.List.Elements.{recursion_from_All, All-from_recursion}
 use Rattle.smk_base.specs.Path.{is_under, is_at_or_under}
@@ -14,10 +14,10 @@ use Rattle.smk_world.specs.declared.event.NodeState.TheVariants.{Owned, Known}
 use Rattle.smk_world.specs.declared.recipe.Kind.{Kind}
 use Rattle.smk_world.specs.declared.recipe.Kind.TheVariants.{Plain, Folder as FolderKind}
 use Rattle.smk_world.specs.World.{World, firm, reads_folder}
-use Rattle.smk_world.specs.Calls.{Reads, HoldsBytes, Stands, EntryIs, IsFolderOf, TreeAt, MaybeTreeAt, in_folder}
+use Rattle.smk_world.specs.Calls.{Reads, HoldsBytes, Stands, EntryIs, TreeAt, MaybeTreeAt, in_folder}
 use Rattle.smk_world.specs.Trees.{Path, Each}
 use Rattle.smk_record.specs.declared.record.Member.{Member}
-use Rattle.smk_job.specs.Sights.{Nodes, IsFound, AreMembers, IsThere, IsOfKind, reads_file}
+use Rattle.smk_job.specs.Sights.{Nodes, IsFound, IsThere, IsOfKind, reads_file}
 use Rattle.smk_job.specs.Sights.IsFound.{Inside, Deeper}
 
 -- ## One place

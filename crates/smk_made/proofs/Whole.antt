@@ -1,41 +1,43 @@
 -- The jobs of a whole run lead from the sources to the targets.
-use Rattle.std.proofs.Common.{◌≡◌, ◌⊎◌, inl, inr, ℕ, zero, suc, Bool, true, false, ◌&&◌, cond, List, [], ◌∷◌, ◌++◌, map, length, refl, ap, sym, subst, ◌∙◌, Option, Some, None, Result, Ok, eqb, arith, flat_map, filter}
+use Rattle.std.proofs.Common.{◌≡◌, inl, inr, ℕ, zero, suc, Bool, true, false, ◌&&◌, not, cond, List, [], ◌∷◌, ◌++◌, map, length, refl, ap, sym, subst, ◌∙◌, Option, Some, None, IsTrue, arith, flat_map, filter}
 use Rattle.std.specs.Prelude.{is_some}
 use Rattle.std.specs.List.{list_all}
-use Rattle.smk_base.specs.Path.{is_path, is_under}
-use Rattle.smk_world.specs.declared.event.Event.{Event}
-use Rattle.smk_world.specs.declared.recipe.Kind.{Kind}
+use Rattle.smk_base.specs.Path.{is_path}
 use Rattle.smk_world.specs.declared.recipe.Kind.TheVariants.{Plain, Folder}
 use Rattle.smk_world.specs.declared.recipe.Out.{Out}
-use Rattle.smk_world.specs.World.{World, run, in_paths, out_paths}
+use Rattle.smk_world.specs.World.{World, in_paths, out_paths, owned_paths}
 use Rattle.smk_world.specs.Trees.{Path, Each, IsIn, outs_of}
-use Rattle.smk_pattern.specs.Bound.{BoundFills, binding_of}
+use Rattle.smk_pattern.specs.Bound.{BoundFills}
 use Rattle.smk_pattern.proofs.Names.{numbered_all}
 use Rattle.smk_flow.specs.declared.job.Job.{Job}
+use Rattle.smk_flow.specs.Flows.{Flow, Candidate, folders_of, logs, makes_folder, outputs, outs}
+use Rattle.smk_flow.specs.Jobs.{filled_out, filled_outs}
 use Rattle.smk_flow.specs.declared.rule.FlaggedText.{FlaggedText}
-use Rattle.smk_flow.specs.Flows.{Flow, Candidate, folders_of, makes_folder, outs}
-use Rattle.smk_choose.specs.Choose.{choose, Source, Make}
-use Rattle.smk_store.specs.Images.{Image}
-use Rattle.smk_chain.specs.Derive.{Refusal, clashes, height, is_deep, job, jobs, job_refusals, recipe, refused, spots, walk, wants}
+use Rattle.smk_flow.specs.declared.rule.OutPart.{OutPart}
+use Rattle.smk_world.specs.declared.recipe.OutItem.{OutItem}
+use Rattle.smk_pattern.specs.Reading.{fill}
+use Rattle.smk_choose.specs.Choose.{choose, Make}
+use Rattle.smk_chain.specs.Derive.{clashes, distinct, is_deep, same_candidate, job, jobs, recipe, refused, spots, walk, wants}
 use Rattle.smk_chain.specs.Derive.Refusal.{Deep}
-use Rattle.smk_chain.specs.Mean.{Setting, is_runnable}
-use Rattle.smk_laws.proofs.CurrentChosen.{Origin, origin, output_in, out_in}
+use Rattle.smk_chain.specs.Mean.{Setting}
+use Rattle.smk_laws.proofs.CurrentChosen.{Origin, chosen_candidate, origin, output_in, out_in}
 use Rattle.smk_laws.proofs.CurrentFills.{bound_fills_from}
-use Rattle.smk_laws.proofs.CurrentLists.{map_in, in_map}
+use Rattle.smk_laws.proofs.CurrentLists.{and_left, and_right, distinct_in, flat_in, in_either, in_flat, in_left, in_map, in_right, map_in}
 use Rattle.smk_laws.proofs.CurrentMeaning.{source_chosen}
 use Rattle.smk_laws.proofs.CurrentReach.{Reached, choice_known, has_command, reached_own, reached_step, reached_target, reached_zero, want_path}
 use Rattle.smk_laws.proofs.CurrentRecipes.{inputs_wanted}
-use Rattle.smk_laws.proofs.CurrentWalked.{walked_job}
+use Rattle.smk_laws.proofs.CurrentWalked.{walked_chosen, walked_job}
 use Rattle.smk_report.specs.declared.fault.Fault.{Fault}
-use Rattle.smk_run.specs.declared.ending.Ending.{Ending}
 use Rattle.smk_run.specs.declared.ending.Ending.TheVariants.{Good, Status, NoOutput, WrongKind, BadMember}
 use Rattle.smk_run.specs.Runs.{AreInOrder, course_failure, first_failure, or_later}
 use Rattle.smk_run.specs.Turns.{Course, Unbegun, Unstarted, Unclosed, Closed, Turn, is_closed, is_done}
-use Rattle.smk_made.specs.Running.{HasMade}
+use Rattle.smk_made.specs.Running.{AreArranged, HasMade}
 use Rattle.smk_made.specs.Clean.{IsMadeBy, IsChained, IsCleanIn}
 use Rattle.smk_made.specs.Whole.{IsPlainJob, IsBegun, RunIsClean}
 use Rattle.smk_made.proofs.Clean.{each_in, done_run_is_clean}
+use Rattle.smk_made.proofs.Disjoint.{arranged as arranged_by}
 use Rattle.smk_made.proofs.Running.{done_turns_leave}
+use Rattle.smk_made.specs.Leaving.{owned}
 
 true_false : true ≡ false → ⊥
 true_false e = cc
@@ -109,6 +111,41 @@ module _ (S : Setting) (targets : List Path) (ts : List Turn) (same : map (λ (t
     | inr h ↦ inr (made_by n p h.0 r h.1 (chained n))
   ]
 
+-- ## What is made and logged
+
+all_in : (f : Path → Bool) (ps : List Path) (p : Path) → list_all f ps ≡ true → IsIn ps p → f p ≡ true
+all_in f [] p h i = absurd i
+all_in f (x ∷ ps) p h (inl e) = ap f e ∙ and_left (f x) (list_all f ps) h
+all_in f (x ∷ ps) p h (inr i) = all_in f ps p (and_right (f x) (list_all f ps) h) i
+
+output_text : (flow : Flow) (c : Candidate) (p : Path) → IsIn (out_paths (recipe flow [] c)) p → IsIn (outputs flow c) p
+output_text flow c p i =
+    let item = flat_in (λ (x : OutItem). map (λ (o : Out). o.path) x.outs) (map (filled_outs c.binding) c.part.outputs) p i in
+    let part = map_in (filled_outs c.binding) c.part.outputs item.0 item.1 in
+    let out = map_in (λ (o : Out). o.path) (map (filled_out c.binding) part.0.outs) p (subst (λ (x : OutItem). IsIn (map (λ (o : Out). o.path) x.outs) p) part.2 item.2) in
+    let text = map_in (filled_out c.binding) part.0.outs out.0 out.1 in
+    subst (IsIn (outputs flow c)) (sym (out.2 ∙ ap (λ (o : Out). o.path) text.2))
+    (in_map (λ (o : FlaggedText). fill c.binding o.text) (outs c.part) text.0 (in_flat (λ (o : OutPart). o.outs) c.part.outputs part.0 text.0 part.1 text.1))
+
+owned_text : (flow : Flow) (c : Candidate) (p : Path) → IsIn (out_paths (recipe flow [] c) ++ logs flow c) p → IsIn (outputs flow c ++ logs flow c) p
+owned_text flow c p i = elim (in_either p (out_paths (recipe flow [] c)) (logs flow c) i) [
+  | inl j ↦ in_left p (outputs flow c) (logs flow c) (output_text flow c p j)
+  | inr j ↦ in_right p (outputs flow c) (logs flow c) j
+]
+
+-- the outputs and logs of a derived job are users' paths
+users_of : (S : Setting) (targets : List Path) (j : Job) → IsIn (jobs S.flow S.sources [] targets) j → Each (λ p. IsTrue (is_path p)) (owned_paths j.recipe j.logs)
+users_of S targets j i =
+    let walked = flat_map (walk S.flow S.sources [] 200) targets in
+    let m = map_in (job S.flow []) (distinct same_candidate walked) j i in
+    let c = m.0 in
+    let u = flat_in (walk S.flow S.sources [] 200) targets c (distinct_in same_candidate walked c m.1) in
+    let q = walked_chosen S.flow S.sources [] 200 u.0 c u.2 in
+    let apart = (chosen_candidate S.flow S.sources q.0 c q.1).1 in
+    subst (λ (x : Job). Each (λ p. IsTrue (is_path p)) (owned_paths x.recipe x.logs)) (sym m.2)
+    (each_from (λ p. IsTrue (is_path p)) (out_paths (recipe S.flow [] c) ++ logs S.flow c)
+    (λ p k. and_left (is_path p) (not (S.sources.holds p)) (all_in (λ x. is_path x && not (S.sources.holds x)) (outputs S.flow c ++ logs S.flow c) p apart (owned_text S.flow c p k))))
+
 -- ## Nothing was refused
 
 nil_first : {A : Type 0} (xs ys : List A) → xs ++ ys ≡ [] → xs ≡ []
@@ -163,7 +200,7 @@ some_same : (a b : World) → Some a ≡ Some b → a ≡ b
 some_same a b h = cc
 
 pub run_is_clean : RunIsClean
-run_is_clean S image targets cores top made tally w v running put_old put_new ran first calm plain arranged begun =
+run_is_clean S image targets cores top made tally w v running put_old put_new ran first calm plain clear begun =
     let ts = ran.turns in
     let deriveds = jobs S.flow S.sources [] targets in
     let tallied = ran.answer.1 in
@@ -177,8 +214,11 @@ run_is_clean S image targets cores top made tally w v running put_old put_new ra
     let refusals = flat_map (refused S.flow S.sources [] 201) targets in
     let rest = clashes image [] (flat_map spots deriveds) in
     let calm_rest = nil_second deep (refusals ++ rest) calm in
-    let made_all = done_turns_leave S.act made ts did.0 es start.none_runs start.owners arranged did.2.1 did.2.2 done in
-    (
+    let users = each_from (λ (t : Turn). Each (λ p. IsTrue (is_path p)) (owned t)) ts
+    (λ t i. users_of S targets t.job (subst (λ (js : List Job). IsIn js t.job) same (in_map (λ (x : Turn). x.job) ts t i))) in
+    let calm_spots = subst (λ (js : List Job). clashes image [] (flat_map spots js) ≡ []) (sym same) (nil_second refusals rest calm_rest) in
+    let arranged : AreArranged ts = arranged_by image [] ts calm_spots users clear in
+    let made_all = done_turns_leave S.act made ts did.0 es start.none_runs start.owners arranged did.2.1 did.2.2 done in (
       subst (HasMade S.act ts) (sym did.2.3) made_all,
       λ p i.
           let reached = reached_target S.flow S.sources [] targets 200 p (none_deep (is_deep S.flow S.sources image [] targets) targets p (nil_first deep (refusals ++ rest) calm) i) (nil_first refusals rest calm_rest) i in

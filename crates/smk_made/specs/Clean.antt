@@ -1,5 +1,5 @@
 -- Paths whose jobs were run hold their clean values.
-use Rattle.std.specs.Prelude.{◌≡◌, ◌⊎◌, ℕ, zero, suc, Bool, true, false, List, [], Option, Some}
+use Rattle.std.specs.Prelude.{◌≡◌, ◌⊎◌, ℕ, zero, suc, true, false, List, [], Some}
 use Rattle.std.specs.List.{flat_map}
 use Rattle.smk_base.specs.Path.{own_folder, is_at_or_under}
 use Rattle.smk_base.specs.declared.tree.Tree.TheVariants.{File}

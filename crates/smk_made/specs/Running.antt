@@ -1,11 +1,11 @@
 -- What turns leave that are all done, one after another.
-use Rattle.std.specs.Prelude.{◌≡◌, ◌⊎◌, ℕ, Bool, true, false, List, [], ◌∷◌, map, Option, Some, None, IsTrue, Result, Ok, Err}
-use Rattle.std.specs.List.{flat_map, list_any}
-use Rattle.smk_base.specs.Path.{is_path, own_folder, is_at_or_under, overlaps}
+use Rattle.std.specs.Prelude.{◌≡◌, true, false, List, [], ◌∷◌, None, IsTrue}
+use Rattle.std.specs.List.{list_any}
+use Rattle.smk_base.specs.Path.{is_path, overlaps}
 use Rattle.smk_base.specs.Place.{mark_place}
 use Rattle.smk_base.specs.declared.tree.Tree.{Tree}
 use Rattle.smk_world.specs.declared.event.Event.{Event}
-use Rattle.smk_world.specs.World.{World, run, firmly, is_within, in_paths, out_paths, owned_paths}
+use Rattle.smk_world.specs.World.{World, run, firmly, is_within, in_paths, out_paths}
 use Rattle.smk_world.specs.Calls.{HasOwners, ContentsAre, OutputsAre, are_apart}
 use Rattle.smk_world.specs.Runs.{Follows}
 use Rattle.smk_world.specs.Trees.{Path, Act, Each, outs_of}

@@ -1,8 +1,10 @@
 -- A whole run of derived jobs.
-use Rattle.std.specs.Prelude.{◌≡◌, ℕ, Bool, true, List, [], Option, Some, None, Result, Ok}
+use Rattle.std.specs.Prelude.{◌≡◌, ℕ, true, false, List, [], ◌∷◌, Option, Some, None, Ok}
+use Rattle.std.specs.List.{list_any}
+use Rattle.smk_base.specs.Path.{overlaps}
 use Rattle.smk_world.specs.declared.recipe.Kind.TheVariants.{Plain}
 use Rattle.smk_world.specs.declared.recipe.Out.{Out}
-use Rattle.smk_world.specs.World.{World}
+use Rattle.smk_world.specs.World.{World, in_paths}
 use Rattle.smk_world.specs.Calls.{HasOwners}
 use Rattle.smk_world.specs.Trees.{Path, Each, IsIn, outs_of}
 use Rattle.smk_flow.specs.declared.job.Job.{Job}
@@ -14,7 +16,8 @@ use Rattle.smk_run.specs.declared.tally.Tally.{Tally}
 use Rattle.smk_run.specs.Runs.{HasRun}
 use Rattle.smk_run.specs.Stamps.{Serials}
 use Rattle.smk_run.specs.Turns.{Turn}
-use Rattle.smk_made.specs.Running.{AreArranged, HasMade}
+use Rattle.smk_made.specs.Leaving.{owned, AreInputsApart}
+use Rattle.smk_made.specs.Running.{HasMade}
 use Rattle.smk_made.specs.Clean.{IsSourceIn, IsCleanIn}
 
 -- the job gathers nothing, makes plain files, and each field of its command has a value
@@ -22,6 +25,12 @@ pub record IsPlainJob (S : Setting) (j : Job) : Type 0 where
   pub gathers_none : j.gathers ≡ []
   pub plain : Each (λ (out : Out). out.kind ≡ Plain) (outs_of j.recipe)
   pub fields : S.has_fields j ≡ true
+
+-- Neither the job itself nor a later one makes or logs what overlaps its inputs.
+abbrev pub AreInputsClear : List Turn → Type 0
+AreInputsClear [] = Unit {0}
+AreInputsClear (t ∷ ts) =
+    AreInputsApart t × Each (λ (later : Turn). Each (λ p. list_any (overlaps p) (owned later) ≡ false) (in_paths t.job.recipe)) ts × AreInputsClear ts
 
 -- Before the run no child runs, nothing is owned, and the sources stand, outside of what these jobs make and log.
 pub record IsBegun (S : Setting) (ts : List Turn) (w : World) : Type 0 where
@@ -39,5 +48,5 @@ RunIsClean =
     tally.first ≡ None →
     job_refusals S.flow S.sources image [] targets ≡ [] →
     Each (IsPlainJob S) (jobs S.flow S.sources [] targets) →
-    AreArranged ran.turns →
+    AreInputsClear ran.turns →
     IsBegun S ran.turns w → HasMade S.act ran.turns v × ((p : Path) → IsIn targets p → IsCleanIn S 200 v p)
