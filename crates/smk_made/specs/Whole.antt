@@ -1,0 +1,52 @@
+-- A whole run of derived jobs.
+use Rattle.std.specs.Prelude.{◌≡◌, ℕ, true, false, List, [], ◌∷◌, Option, Some, None, Ok}
+use Rattle.std.specs.List.{list_any}
+use Rattle.smk_base.specs.Path.{overlaps}
+use Rattle.smk_world.specs.declared.recipe.Kind.TheVariants.{Plain}
+use Rattle.smk_world.specs.declared.recipe.Out.{Out}
+use Rattle.smk_world.specs.World.{World, in_paths}
+use Rattle.smk_world.specs.Calls.{HasOwners}
+use Rattle.smk_world.specs.Trees.{Path, Each, IsIn, outs_of}
+use Rattle.smk_flow.specs.declared.job.Job.{Job}
+use Rattle.smk_store.specs.Images.{Image}
+use Rattle.smk_chain.specs.Derive.{jobs, job_refusals}
+use Rattle.smk_chain.specs.Mean.{Setting}
+use Rattle.smk_report.specs.Lines.{Text}
+use Rattle.smk_run.specs.declared.tally.Tally.{Tally}
+use Rattle.smk_run.specs.Runs.{HasRun}
+use Rattle.smk_run.specs.Stamps.{Serials}
+use Rattle.smk_run.specs.Turns.{Turn}
+use Rattle.smk_made.specs.Leaving.{owned, AreInputsApart}
+use Rattle.smk_made.specs.Running.{HasMade}
+use Rattle.smk_made.specs.Clean.{IsSourceIn, IsCleanIn}
+
+-- the job gathers nothing, makes plain files, and each field of its command has a value
+pub record IsPlainJob (S : Setting) (j : Job) : Type 0 where
+  pub gathers_none : j.gathers ≡ []
+  pub plain : Each (λ (out : Out). out.kind ≡ Plain) (outs_of j.recipe)
+  pub fields : S.has_fields j ≡ true
+
+-- Neither the job itself nor a later one makes or logs what overlaps its inputs.
+abbrev pub AreInputsClear : List Turn → Type 0
+AreInputsClear [] = Unit {0}
+AreInputsClear (t ∷ ts) =
+    AreInputsApart t × Each (λ (later : Turn). Each (λ p. list_any (overlaps p) (owned later) ≡ false) (in_paths t.job.recipe)) ts × AreInputsClear ts
+
+-- Before the run no child runs, nothing is owned, and the sources stand, outside of what these jobs make and log.
+pub record IsBegun (S : Setting) (ts : List Turn) (w : World) : Type 0 where
+  pub none_runs : w.children ≡ []
+  pub owners : HasOwners w
+  pub sources : (p : Path) → S.sources.is p ≡ true → IsSourceIn S ts w p
+
+-- A run of the jobs that are derived for these targets, without a refusal and from no listing, of which none failed: each job is made, and each
+-- target is a file that is its clean value. Whether a count of failures rose doesn't matter.
+abbrev pub RunIsClean : Type 0
+RunIsClean =
+    (S : Setting) (image : Image) (targets : List Path) (cores : ℕ) (top : Option ℕ) (made : Serials) (tally : Tally) (w v : World)
+    (running : List ℕ) (put_old put_new : Option Text) →
+    (ran : HasRun S.act S.flow cores (jobs S.flow S.sources [] targets) top made (Ok tally) (Some w) (Some v) (Unit {0}) running put_old put_new) →
+    tally.first ≡ None →
+    job_refusals S.flow S.sources image [] targets ≡ [] →
+    Each (IsPlainJob S) (jobs S.flow S.sources [] targets) →
+    AreInputsClear ran.turns →
+    IsBegun S ran.turns w → HasMade S.act ran.turns v × ((p : Path) → IsIn targets p → IsCleanIn S 200 v p)
