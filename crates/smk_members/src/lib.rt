@@ -1,0 +1,8 @@
+//! All that is under a directory output.
+#![tactic(auto)]
+
+mod listed;
+mod members;
+
+pub use listed::Listed;
+pub use members::members_of;
