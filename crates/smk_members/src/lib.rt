@@ -1,6 +1,7 @@
 //! All that is under a directory output.
 #![tactic(auto)]
 
+mod found;
 mod listed;
 mod members;
 
