@@ -1,0 +1,4 @@
+pub mod Sets
+pub mod Lists
+pub mod Going
+pub mod Listings

@@ -1,0 +1,9 @@
+//! All that is under a directory output.
+#![tactic(auto)]
+
+mod found;
+mod listed;
+mod members;
+
+pub use listed::Listed;
+pub use members::members_of;
