@@ -42,7 +42,9 @@ fn all_pairs(alloc: Global, values: u64) -> Result<String, AllocError> {
     for i in 0..values {
         write!(text, "    \"{i}\",\n")?;
     }
-    text.push_str("]\nrule all:\n    input: expand(\"results/{a}/{b}.txt\", a=VALUES, b=VALUES)\n")?;
+    text.push_str(
+        "]\nrule all:\n    input: expand(\"results/{a}/{b}.txt\", a=VALUES, b=VALUES)\n",
+    )?;
     Ok(text)
 }
 
@@ -92,7 +94,9 @@ fn counts(alloc: Global, source: &[u8]) -> Told<(usize, usize)> {
 fn report(rt: &impl Print, alloc: Global, text: &String) -> io::Result<()> {
     let bytes = text.len();
     match counts(alloc, text.as_bytes()) {
-        Ok((rules, texts)) => println!(rt; "{bytes} bytes: {rules} rules, {texts} texts of the last input"),
+        Ok((rules, texts)) => println!(rt;
+            "{bytes} bytes: {rules} rules, {texts} texts of the last input"
+        ),
         Err(fault) => println!(rt; "{bytes} bytes: {fault}"),
     }
 }

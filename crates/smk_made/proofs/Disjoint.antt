@@ -137,8 +137,7 @@ arranged image earlier [] calm users inputs = tt
 arranged image earlier (t ∷ ts) calm users inputs =
     let both = sym (clash_append image earlier (spots t.job) (all_spots ts)) ∙ calm in
     let here = nil_first (clashes image earlier (spots t.job)) (clashes image (earlier ++ places (spots t.job)) (all_spots ts)) both in
-    let rest = nil_second (clashes image earlier (spots t.job)) (clashes image (earlier ++ places (spots t.job)) (all_spots ts)) both in
-    (
+    let rest = nil_second (clashes image earlier (spots t.job)) (clashes image (earlier ++ places (spots t.job)) (all_spots ts)) both in (
       record { users = users.0; apart = subst (λ l. are_apart l ≡ true) (spots_places t.job) (apart_all image earlier (spots t.job) here) },
       inputs.0,
       each_from (LeavesAlone t) ts (λ u i. record {
