@@ -1,26 +1,29 @@
 -- Where nothing clashes, what the jobs make and log lies apart.
-use Rattle.std.proofs.Common.{◌≡◌, ◌⊎◌, inl, inr, ℕ, Bool, true, false, ◌&&◌, ◌||◌, not, cond, List, [], ◌∷◌, ◌++◌, map, refl, ap, sym, subst, ◌∙◌, Option, Some, None, IsTrue, filter, flat_map, append_assoc}
-use Rattle.std.specs.List.{list_any, list_all}
+use Rattle.std.proofs.Common.{◌≡◌, inl, inr, Bool, true, false, ◌&&◌, ◌||◌, not, cond, List, [], ◌∷◌, ◌++◌, map, refl, ap, sym, subst, ◌∙◌, IsTrue, filter, flat_map, append_assoc}
+use Rattle.std.specs.List.{list_any}
 use Rattle.std.proofs.lemmas.List.{append-nil}
 use Rattle.smk_base.specs.Path.{is_path, overlaps}
 use Rattle.smk_base.proofs.Under.{never_both}
 use Rattle.smk_base.proofs.Apart.{apart_unless}
-use Rattle.smk_world.specs.declared.recipe.Out.{Out}
 use Rattle.smk_world.specs.World.{in_paths, out_paths, owned_paths}
 use Rattle.smk_world.specs.Calls.{are_apart}
-use Rattle.smk_world.specs.Trees.{Path, Each, IsIn, outs_of}
+use Rattle.smk_world.specs.Trees.{Path, Each, IsIn}
 use Rattle.smk_flow.specs.declared.job.Job.{Job}
 use Rattle.smk_store.specs.Images.{Image}
-use Rattle.smk_chain.specs.Derive.{Refusal, clashes, hinders, spots}
+use Rattle.smk_chain.specs.Derive.{clashes, hinders, spots}
 use Rattle.smk_chain.specs.Derive.Refusal.{Clash}
-use Rattle.smk_laws.proofs.CurrentLists.{flat_in, map_in, in_map}
 use Rattle.smk_run.specs.Turns.{Turn}
 use Rattle.smk_made.specs.Leaving.{owned, AreInputsApart}
-use Rattle.smk_made.specs.Running.{IsOrderly, LeavesAlone, AreArranged}
-use Rattle.smk_made.specs.Whole.{AreInputsClear}
+use Rattle.smk_made.specs.Running.{LeavesAlone, AreArranged}
 
 true_false : true ≡ false → ⊥
 true_false e = cc
+
+-- Neither the job itself nor a later one makes or logs what overlaps its inputs.
+abbrev pub AreInputsClear : List Turn → Type 0
+AreInputsClear [] = Unit {0}
+AreInputsClear (t ∷ ts) =
+    AreInputsApart t × Each (λ (later : Turn). Each (λ p. list_any (overlaps p) (owned later) ≡ false) (in_paths t.job.recipe)) ts × AreInputsClear ts
 
 -- ## Lists
 
@@ -137,8 +140,7 @@ arranged image earlier [] calm users inputs = tt
 arranged image earlier (t ∷ ts) calm users inputs =
     let both = sym (clash_append image earlier (spots t.job) (all_spots ts)) ∙ calm in
     let here = nil_first (clashes image earlier (spots t.job)) (clashes image (earlier ++ places (spots t.job)) (all_spots ts)) both in
-    let rest = nil_second (clashes image earlier (spots t.job)) (clashes image (earlier ++ places (spots t.job)) (all_spots ts)) both in
-    (
+    let rest = nil_second (clashes image earlier (spots t.job)) (clashes image (earlier ++ places (spots t.job)) (all_spots ts)) both in (
       record { users = users.0; apart = subst (λ l. are_apart l ≡ true) (spots_places t.job) (apart_all image earlier (spots t.job) here) },
       inputs.0,
       each_from (LeavesAlone t) ts (λ u i. record {

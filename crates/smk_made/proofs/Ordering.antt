@@ -1,26 +1,23 @@
 -- Jobs come after those that make what they read, so that none is in the way of an input.
-use Rattle.std.proofs.Common.{◌≡◌, ◌⊎◌, inl, inr, ℕ, zero, suc, Bool, true, false, ◌&&◌, not, cond, List, [], ◌∷◌, ◌++◌, map, refl, ap, sym, subst, ◌∙◌, Option, Some, None, IsTrue, filter, flat_map}
-use Rattle.std.specs.List.{list_any, list_all}
+use Rattle.std.proofs.Common.{◌≡◌, ◌⊎◌, inl, inr, ℕ, zero, suc, Bool, true, false, not, cond, List, [], ◌∷◌, ◌++◌, map, refl, ap, sym, subst, ◌∙◌, IsTrue, filter, flat_map}
+use Rattle.std.specs.List.{list_any}
 use Rattle.smk_base.specs.Path.{is_path, overlaps}
 use Rattle.smk_base.proofs.Under.{never_both, false_unless}
 use Rattle.smk_base.proofs.Apart.{path_outside}
-use Rattle.smk_world.specs.declared.recipe.Kind.TheVariants.{Plain}
-use Rattle.smk_world.specs.declared.recipe.Out.{Out}
 use Rattle.smk_world.specs.World.{in_paths, out_paths, owned_paths}
-use Rattle.smk_world.specs.Trees.{Path, Each, IsIn, outs_of}
+use Rattle.smk_world.specs.Trees.{Path, IsIn}
 use Rattle.smk_flow.specs.declared.job.Job.{Job}
 use Rattle.smk_flow.specs.Flows.{Flow, Candidate}
-use Rattle.smk_choose.specs.Choose.{Sources, Choice, choose, Source, Make, Nothing, Ambiguous}
+use Rattle.smk_choose.specs.Choose.{Sources, Choice, choose, Make}
 use Rattle.smk_store.specs.Images.{Image}
 use Rattle.smk_chain.specs.Derive.{clashes, distinct, job, recipe, same_candidate, spots, walk, wants}
 use Rattle.smk_laws.proofs.CurrentLists.{distinct_in, flat_in, in_either, in_flat, in_left, in_right}
-use Rattle.smk_laws.proofs.CurrentReach.{walk_by, Reached, choice_known, reached_own, reached_step, reached_zero, walk_make, want_path}
+use Rattle.smk_laws.proofs.CurrentReach.{walk_by, Reached, choice_known, reached_step, reached_zero, walk_make}
 use Rattle.smk_laws.proofs.CurrentRecipes.{inputs_wanted}
-use Rattle.smk_laws.proofs.CurrentWalked.{chosen_same, walked_chosen}
+use Rattle.smk_laws.proofs.CurrentWalked.{chosen_same}
 use Rattle.smk_run.specs.Turns.{Turn}
-use Rattle.smk_made.specs.Leaving.{owned, AreInputsApart}
-use Rattle.smk_made.specs.Whole.{AreInputsClear}
-use Rattle.smk_made.proofs.Disjoint.{all_spots, places, spots_places, places_append, later_in, clear_of, clash_append, nil_second, none_any, flipped, each_from}
+use Rattle.smk_made.specs.Leaving.{owned}
+use Rattle.smk_made.proofs.Disjoint.{AreInputsClear, all_spots, places, spots_places, places_append, later_in, clear_of, clash_append, nil_second, none_any, flipped, each_from}
 
 true_false : true ≡ false → ⊥
 true_false e = cc
@@ -190,8 +187,7 @@ module _ (flow : Flow) (sources : Sources) (image : Image) (held : AreHeld sourc
       λ q i u j. none_any (overlaps q) (owned u)
       (λ o k. input_clear earlier es c (t ∷ ts) q calm unheld covers after.0 (inputs_wanted flow c [] q (input q i)) (inputs c q (inl refl) (input q i)) o (later_in (t ∷ ts) u o j k)) in
       let split = sym (clash_append image earlier (spots t.job) (all_spots ts)) ∙ calm in
-      let rest = nil_second (clashes image earlier (spots t.job)) (clashes image (earlier ++ places (spots t.job)) (all_spots ts)) split in
-      (
+      let rest = nil_second (clashes image earlier (spots t.job)) (clashes image (earlier ++ places (spots t.job)) (all_spots ts)) split in (
         each_from (λ p. _ × (list_any (overlaps p) (owned t) ≡ false)) (in_paths t.job.recipe) (λ q i. (path_outside q (inputs c q (inl refl) (input q i)).path, clear q i t (inl refl))),
         each_from _ ts (λ u j. each_from (λ p. list_any (overlaps p) (owned u) ≡ false) (in_paths t.job.recipe) (λ q i. clear q i u (inr j))),
         inputs_clear (earlier ++ places (spots t.job)) (c ∷ es) cs ts (list_tail t.job (job flow [] c) (map (λ (x : Turn). x.job) ts) (map (job flow []) cs) are) rest

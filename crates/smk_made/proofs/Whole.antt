@@ -33,9 +33,9 @@ use Rattle.smk_run.specs.Runs.{AreInOrder, course_failure, first_failure, or_lat
 use Rattle.smk_run.specs.Turns.{Course, Unbegun, Unstarted, Unclosed, Closed, Turn, is_closed, is_done}
 use Rattle.smk_made.specs.Running.{AreArranged, HasMade}
 use Rattle.smk_made.specs.Clean.{IsMadeBy, IsChained, IsCleanIn, IsSourceIn}
-use Rattle.smk_made.specs.Whole.{AreInputsClear, IsPlainJob, IsBegun, IsStandingSource, RunIsClean}
+use Rattle.smk_made.specs.Whole.{IsPlainJob, IsBegun, RunIsClean}
 use Rattle.smk_made.proofs.Clean.{each_in, done_run_is_clean}
-use Rattle.smk_made.proofs.Disjoint.{arranged as arranged_by, all_spots, places, places_append, spots_places, later_in, none_any}
+use Rattle.smk_made.proofs.Disjoint.{AreInputsClear, arranged as arranged_by, all_spots, places, places_append, spots_places, later_in, none_any}
 use Rattle.smk_made.proofs.Sparing.{out_of_overlap}
 use Rattle.smk_base.proofs.Under.{at_itself, false_unless, never_both}
 use Rattle.smk_made.proofs.Running.{done_turns_leave}

@@ -1,10 +1,9 @@
 -- A whole run of derived jobs.
-use Rattle.std.specs.Prelude.{◌≡◌, ℕ, true, false, List, [], ◌∷◌, Option, Some, None, Ok}
-use Rattle.std.specs.List.{list_any}
+use Rattle.std.specs.Prelude.{◌≡◌, ℕ, true, false, List, [], Option, Some, None, Ok}
 use Rattle.smk_base.specs.Path.{own_folder, is_at_or_under, overlaps}
 use Rattle.smk_world.specs.declared.recipe.Kind.TheVariants.{Plain}
 use Rattle.smk_world.specs.declared.recipe.Out.{Out}
-use Rattle.smk_world.specs.World.{World, in_paths}
+use Rattle.smk_world.specs.World.{World}
 use Rattle.smk_world.specs.Calls.{HasOwners, HoldsBytes}
 use Rattle.smk_world.specs.Trees.{Path, Each, IsIn, outs_of}
 use Rattle.smk_flow.specs.declared.job.Job.{Job}
@@ -15,8 +14,6 @@ use Rattle.smk_report.specs.Lines.{Text}
 use Rattle.smk_run.specs.declared.tally.Tally.{Tally}
 use Rattle.smk_run.specs.Runs.{HasRun}
 use Rattle.smk_run.specs.Stamps.{Serials}
-use Rattle.smk_run.specs.Turns.{Turn}
-use Rattle.smk_made.specs.Leaving.{owned, AreInputsApart}
 use Rattle.smk_made.specs.Running.{HasMade}
 use Rattle.smk_made.specs.Clean.{IsCleanIn}
 
@@ -25,12 +22,6 @@ pub record IsPlainJob (S : Setting) (j : Job) : Type 0 where
   pub gathers_none : j.gathers ≡ []
   pub plain : Each (λ (out : Out). out.kind ≡ Plain) (outs_of j.recipe)
   pub fields : S.has_fields j ≡ true
-
--- Neither the job itself nor a later one makes or logs what overlaps its inputs.
-abbrev pub AreInputsClear : List Turn → Type 0
-AreInputsClear [] = Unit {0}
-AreInputsClear (t ∷ ts) =
-    AreInputsApart t × Each (λ (later : Turn). Each (λ p. list_any (overlaps p) (owned later) ≡ false) (in_paths t.job.recipe)) ts × AreInputsClear ts
 
 -- Each source is a file with its bytes, outside of the engine's folder; what overlaps it holds a source.
 pub record IsStandingSource (S : Setting) (w : World) (p : Path) : Type 0 where

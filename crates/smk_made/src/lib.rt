@@ -27,8 +27,7 @@ pub fn runs_make()
 
 /// The law of a whole run, as `run_jobs` answers it, of the jobs that are derived for some targets with no refusal and from no listing, where no job
 /// failed: each job is made, and each target is a file that is its clean value. The jobs make plain files and gather nothing, each field of a
-/// command has a value, the sources stand outside of what the jobs make and log, and no job makes or logs what overlaps what itself or an
-/// earlier one reads.
+/// command has a value, and before the run no child runs and the sources stand.
 pub fn whole_runs_are_clean()
     ensures { RunIsClean }
 {}
