@@ -10,3 +10,4 @@ pub mod Clean
 pub mod Disjoint
 pub mod Ordering
 pub mod Whole
+pub mod Begun

@@ -1,15 +1,17 @@
 -- A whole run of derived jobs.
-use Rattle.std.specs.Prelude.{◌≡◌, ℕ, true, false, List, [], Option, Some, None, Ok}
+use Rattle.std.specs.Prelude.{◌≡◌, ℕ, Bool, true, false, List, [], Option, Some, None, Ok}
 use Rattle.smk_base.specs.Path.{own_folder, is_at_or_under, overlaps}
 use Rattle.smk_world.specs.declared.recipe.Kind.TheVariants.{Plain}
 use Rattle.smk_world.specs.declared.recipe.Out.{Out}
-use Rattle.smk_world.specs.World.{World}
+use Rattle.smk_world.specs.World.{World, IsFormed}
 use Rattle.smk_world.specs.Calls.{HasOwners, HoldsBytes}
-use Rattle.smk_world.specs.Trees.{Path, Each, IsIn, outs_of}
+use Rattle.smk_world.specs.Trees.{Path, Act, Each, IsIn, outs_of}
 use Rattle.smk_flow.specs.declared.job.Job.{Job}
-use Rattle.smk_store.specs.Images.{Image}
+use Rattle.smk_record.specs.declared.record.Record.{Record}
+use Rattle.smk_flow.specs.Flows.{Flow}
+use Rattle.smk_store.specs.Images.{Image, seen}
 use Rattle.smk_chain.specs.Derive.{jobs, job_refusals}
-use Rattle.smk_chain.specs.Mean.{Setting}
+use Rattle.smk_chain.specs.Mean.{Setting, setting_of}
 use Rattle.smk_report.specs.Lines.{Text}
 use Rattle.smk_run.specs.declared.tally.Tally.{Tally}
 use Rattle.smk_run.specs.Runs.{HasRun}
@@ -48,3 +50,9 @@ RunIsClean =
     job_refusals S.flow S.sources image [] targets ≡ [] →
     Each (IsPlainJob S) (jobs S.flow S.sources [] targets) →
     IsBegun S w → HasMade S.act ran.turns v × ((p : Path) → IsIn targets p → IsCleanIn S 200 v p)
+
+-- A world in which no child runs and nothing is owned is one before a run, by the setting that its sources give.
+abbrev pub IdleWorldBegins : Type 0
+IdleWorldBegins =
+    (flow : Flow) (act : Act) (has_fields : Job → Bool) (read : List ℕ → Option Record) (w : World) →
+    IsFormed w → w.children ≡ [] → HasOwners w → IsBegun (setting_of flow act has_fields (seen read w)) w
