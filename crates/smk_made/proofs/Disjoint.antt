@@ -1,34 +1,37 @@
 -- Where nothing clashes, what the jobs make and log lies apart.
-use Rattle.std.proofs.Common.{◌≡◌, ◌⊎◌, inl, inr, ℕ, Bool, true, false, ◌&&◌, ◌||◌, not, cond, List, [], ◌∷◌, ◌++◌, map, refl, ap, sym, subst, ◌∙◌, Option, Some, None, IsTrue, filter, flat_map, append_assoc}
-use Rattle.std.specs.List.{list_any, list_all}
+use Rattle.std.proofs.Common.{◌≡◌, inl, inr, Bool, true, false, ◌&&◌, ◌||◌, not, cond, List, [], ◌∷◌, ◌++◌, map, refl, ap, sym, subst, ◌∙◌, IsTrue, filter, flat_map, append_assoc}
+use Rattle.std.specs.List.{list_any}
 use Rattle.std.proofs.lemmas.List.{append-nil}
 use Rattle.smk_base.specs.Path.{is_path, overlaps}
 use Rattle.smk_base.proofs.Under.{never_both}
 use Rattle.smk_base.proofs.Apart.{apart_unless}
-use Rattle.smk_world.specs.declared.recipe.Out.{Out}
 use Rattle.smk_world.specs.World.{in_paths, out_paths, owned_paths}
 use Rattle.smk_world.specs.Calls.{are_apart}
-use Rattle.smk_world.specs.Trees.{Path, Each, IsIn, outs_of}
+use Rattle.smk_world.specs.Trees.{Path, Each, IsIn}
 use Rattle.smk_flow.specs.declared.job.Job.{Job}
 use Rattle.smk_store.specs.Images.{Image}
-use Rattle.smk_chain.specs.Derive.{Refusal, clashes, hinders, spots}
+use Rattle.smk_chain.specs.Derive.{clashes, hinders, spots}
 use Rattle.smk_chain.specs.Derive.Refusal.{Clash}
-use Rattle.smk_laws.proofs.CurrentLists.{flat_in, map_in, in_map}
 use Rattle.smk_run.specs.Turns.{Turn}
 use Rattle.smk_made.specs.Leaving.{owned, AreInputsApart}
-use Rattle.smk_made.specs.Running.{IsOrderly, LeavesAlone, AreArranged}
-use Rattle.smk_made.specs.Whole.{AreInputsClear}
+use Rattle.smk_made.specs.Running.{LeavesAlone, AreArranged}
 
 true_false : true ≡ false → ⊥
 true_false e = cc
 
+-- Neither the job itself nor a later one makes or logs what overlaps its inputs.
+abbrev pub AreInputsClear : List Turn → Type 0
+AreInputsClear [] = Unit {0}
+AreInputsClear (t ∷ ts) =
+    AreInputsApart t × Each (λ (later : Turn). Each (λ p. list_any (overlaps p) (owned later) ≡ false) (in_paths t.job.recipe)) ts × AreInputsClear ts
+
 -- ## Lists
 
-nil_first : {A : Type 0} (xs ys : List A) → xs ++ ys ≡ [] → xs ≡ []
+pub nil_first : {A : Type 0} (xs ys : List A) → xs ++ ys ≡ [] → xs ≡ []
 nil_first [] ys h = refl
 nil_first (x ∷ xs) ys h = cc
 
-nil_second : {A : Type 0} (xs ys : List A) → xs ++ ys ≡ [] → ys ≡ []
+pub nil_second : {A : Type 0} (xs ys : List A) → xs ++ ys ≡ [] → ys ≡ []
 nil_second [] ys h = h
 nil_second (x ∷ xs) ys h = cc
 
@@ -55,28 +58,28 @@ in_right : (xs ys : List Path) (x : Path) → IsIn ys x → IsIn (xs ++ ys) x
 in_right [] ys x h = h
 in_right (y ∷ xs) ys x h = inr (in_right xs ys x h)
 
-none_any : (f : Path → Bool) (xs : List Path) → ((x : Path) → IsIn xs x → f x ≡ false) → list_any f xs ≡ false
+pub none_any : (f : Path → Bool) (xs : List Path) → ((x : Path) → IsIn xs x → f x ≡ false) → list_any f xs ≡ false
 none_any f [] h = refl
 none_any f (x ∷ xs) h = ap (λ v. v || list_any f xs) (h x (inl refl)) ∙ none_any f xs (λ y i. h y (inr i))
 
-each_from : {A : Type 0} (P : A → Type 0) (xs : List A) → ((x : A) → IsIn xs x → P x) → Each P xs
+pub each_from : {A : Type 0} (P : A → Type 0) (xs : List A) → ((x : A) → IsIn xs x → P x) → Each P xs
 each_from P [] f = tt
 each_from P (x ∷ xs) f = (f x (inl refl), each_from P xs (λ y i. f y (inr i)))
 
-flipped : (p q : Path) → overlaps p q ≡ false → overlaps q p ≡ false
+pub flipped : (p q : Path) → overlaps p q ≡ false → overlaps q p ≡ false
 flipped p q h = (apart_unless p q (λ t. never_both (overlaps p q) t h)).overlapped
 
 -- ## Clashes
 
-abbrev places : List (Path × Bool) → List Path
+abbrev pub places : List (Path × Bool) → List Path
 places ss = map (λ (s : Path × Bool). s.0) ss
 
-places_append : (xs ys : List (Path × Bool)) → places (xs ++ ys) ≡ places xs ++ places ys
+pub places_append : (xs ys : List (Path × Bool)) → places (xs ++ ys) ≡ places xs ++ places ys
 places_append [] ys = refl
 places_append (x ∷ xs) ys = ap (λ l. x.0 ∷ l) (places_append xs ys)
 
 module _ (image : Image) where
-  clash_append : (earlier : List Path) (xs ys : List (Path × Bool)) → clashes image earlier (xs ++ ys) ≡ clashes image earlier xs ++ clashes image (earlier ++ places xs) ys
+  pub clash_append : (earlier : List Path) (xs ys : List (Path × Bool)) → clashes image earlier (xs ++ ys) ≡ clashes image earlier xs ++ clashes image (earlier ++ places xs) ys
   clash_append earlier [] ys = ap (λ l. clashes image l ys) (sym (append-nil earlier))
   clash_append earlier (x ∷ xs) ys =
       let here = map (Clash x.0) (filter (overlaps x.0) earlier ++ filter (hinders image x) image.known) in
@@ -92,7 +95,7 @@ module _ (image : Image) where
       i
 
   -- none overlaps an earlier one
-  clear_of : (earlier : List Path) (xs : List (Path × Bool)) (e p : Path) → clashes image earlier xs ≡ [] → IsIn earlier e → IsIn (places xs) p → overlaps p e ≡ false
+  pub clear_of : (earlier : List Path) (xs : List (Path × Bool)) (e p : Path) → clashes image earlier xs ≡ [] → IsIn earlier e → IsIn (places xs) p → overlaps p e ≡ false
   clear_of earlier [] e p h i j = absurd j
   clear_of earlier (x ∷ xs) e p h i (inl s) = ap (λ q. overlaps q e) s ∙ clear_here earlier x xs e h i
   clear_of earlier (x ∷ xs) e p h i (inr j) = clear_of (earlier ++ x.0 ∷ []) xs e p (nil_second _ (clashes image (earlier ++ x.0 ∷ []) xs) h) (in_left earlier (x.0 ∷ []) e i) j
@@ -110,16 +113,16 @@ tagged : (b : Bool) (ps : List Path) → places (map (λ p. (p, b)) ps) ≡ ps
 tagged b [] = refl
 tagged b (p ∷ ps) = ap (λ l. p ∷ l) (tagged b ps)
 
-spots_places : (j : Job) → places (spots j) ≡ owned_paths j.recipe j.logs
+pub spots_places : (j : Job) → places (spots j) ≡ owned_paths j.recipe j.logs
 spots_places j =
     places_append (map (λ p. (p, true)) (out_paths j.recipe)) (map (λ p. (p, false)) j.logs)
     ∙ ap (λ l. l ++ places (map (λ p. (p, false)) j.logs)) (tagged true (out_paths j.recipe))
     ∙ ap (λ l. out_paths j.recipe ++ l) (tagged false j.logs)
 
-abbrev all_spots : List Turn → List (Path × Bool)
+abbrev pub all_spots : List Turn → List (Path × Bool)
 all_spots ts = flat_map spots (map (λ (t : Turn). t.job) ts)
 
-later_in : (ts : List Turn) (u : Turn) (p : Path) → IsIn ts u → IsIn (owned u) p → IsIn (places (all_spots ts)) p
+pub later_in : (ts : List Turn) (u : Turn) (p : Path) → IsIn ts u → IsIn (owned u) p → IsIn (places (all_spots ts)) p
 later_in [] u p i h = absurd i
 later_in (t ∷ ts) u p (inl e) h =
     subst (λ l. IsIn l p) (sym (places_append (spots t.job) (all_spots ts)))

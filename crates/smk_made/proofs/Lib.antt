@@ -8,4 +8,6 @@ pub mod Done
 pub mod Running
 pub mod Clean
 pub mod Disjoint
+pub mod Ordering
 pub mod Whole
+pub mod Begun

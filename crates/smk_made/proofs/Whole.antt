@@ -1,11 +1,11 @@
 -- The jobs of a whole run lead from the sources to the targets.
-use Rattle.std.proofs.Common.{◌≡◌, inl, inr, ℕ, zero, suc, Bool, true, false, ◌&&◌, not, cond, List, [], ◌∷◌, ◌++◌, map, length, refl, ap, sym, subst, ◌∙◌, Option, Some, None, IsTrue, arith, flat_map, filter}
+use Rattle.std.proofs.Common.{◌≡◌, ◌⊎◌, inl, inr, ℕ, zero, suc, Bool, true, false, ◌&&◌, not, cond, List, [], ◌∷◌, ◌++◌, map, length, refl, ap, sym, subst, ◌∙◌, Option, Some, None, IsTrue, arith, flat_map, filter}
 use Rattle.std.specs.Prelude.{is_some}
 use Rattle.std.specs.List.{list_all}
-use Rattle.smk_base.specs.Path.{is_path}
+use Rattle.smk_base.specs.Path.{is_path, overlaps}
 use Rattle.smk_world.specs.declared.recipe.Kind.TheVariants.{Plain, Folder}
 use Rattle.smk_world.specs.declared.recipe.Out.{Out}
-use Rattle.smk_world.specs.World.{World, in_paths, out_paths, owned_paths}
+use Rattle.smk_world.specs.World.{World, in_paths, is_within, out_paths, owned_paths}
 use Rattle.smk_world.specs.Trees.{Path, Each, IsIn, outs_of}
 use Rattle.smk_pattern.specs.Bound.{BoundFills}
 use Rattle.smk_pattern.proofs.Names.{numbered_all}
@@ -16,7 +16,7 @@ use Rattle.smk_flow.specs.declared.rule.FlaggedText.{FlaggedText}
 use Rattle.smk_flow.specs.declared.rule.OutPart.{OutPart}
 use Rattle.smk_world.specs.declared.recipe.OutItem.{OutItem}
 use Rattle.smk_pattern.specs.Reading.{fill}
-use Rattle.smk_choose.specs.Choose.{choose, Make}
+use Rattle.smk_choose.specs.Choose.{choose, is_apart, Make}
 use Rattle.smk_chain.specs.Derive.{clashes, distinct, is_deep, same_candidate, job, jobs, recipe, refused, spots, walk, wants}
 use Rattle.smk_chain.specs.Derive.Refusal.{Deep}
 use Rattle.smk_chain.specs.Mean.{Setting}
@@ -32,11 +32,14 @@ use Rattle.smk_run.specs.declared.ending.Ending.TheVariants.{Good, Status, NoOut
 use Rattle.smk_run.specs.Runs.{AreInOrder, course_failure, first_failure, or_later}
 use Rattle.smk_run.specs.Turns.{Course, Unbegun, Unstarted, Unclosed, Closed, Turn, is_closed, is_done}
 use Rattle.smk_made.specs.Running.{AreArranged, HasMade}
-use Rattle.smk_made.specs.Clean.{IsMadeBy, IsChained, IsCleanIn}
+use Rattle.smk_made.specs.Clean.{IsMadeBy, IsChained, IsCleanIn, IsSourceIn}
 use Rattle.smk_made.specs.Whole.{IsPlainJob, IsBegun, RunIsClean}
 use Rattle.smk_made.proofs.Clean.{each_in, done_run_is_clean}
-use Rattle.smk_made.proofs.Disjoint.{arranged as arranged_by}
+use Rattle.smk_made.proofs.Disjoint.{AreInputsClear, arranged as arranged_by, all_spots, places, places_append, spots_places, later_in, none_any}
+use Rattle.smk_made.proofs.Sparing.{out_of_overlap}
+use Rattle.smk_base.proofs.Under.{at_itself, false_unless, never_both}
 use Rattle.smk_made.proofs.Running.{done_turns_leave}
+use Rattle.smk_made.proofs.Ordering.{AreHeld, IsInput, IsMet, after_distinct, after_flat, inputs_clear, met, walk_after}
 use Rattle.smk_made.specs.Leaving.{owned}
 
 true_false : true ≡ false → ⊥
@@ -146,6 +149,72 @@ users_of S targets j i =
     (each_from (λ p. IsTrue (is_path p)) (out_paths (recipe S.flow [] c) ++ logs S.flow c)
     (λ p k. and_left (is_path p) (not (S.sources.holds p)) (all_in (λ x. is_path x && not (S.sources.holds x)) (outputs S.flow c ++ logs S.flow c) p apart (owned_text S.flow c p k))))
 
+-- a job of the list is a chosen candidate's
+chosen_job : (S : Setting) (targets : List Path) (j : Job) → IsIn (jobs S.flow S.sources [] targets) j → (c : Candidate) × (j ≡ job S.flow [] c) × (is_apart S.flow S.sources c ≡ true)
+chosen_job S targets j i =
+    let walked = flat_map (walk S.flow S.sources [] 200) targets in
+    let m = map_in (job S.flow []) (distinct same_candidate walked) j i in
+    let u = flat_in (walk S.flow S.sources [] 200) targets m.0 (distinct_in same_candidate walked m.0 m.1) in
+    let q = walked_chosen S.flow S.sources [] 200 u.0 m.0 u.2 in
+    (m.0, m.2, (chosen_candidate S.flow S.sources q.0 m.0 q.1).1)
+
+not_true : (b : Bool) → not b ≡ true → b ≡ false
+not_true true h = absurd (true_false (sym h))
+not_true false h = refl
+
+job_unheld : (S : Setting) (targets : List Path) (j : Job) (o : Path) → IsIn (jobs S.flow S.sources [] targets) j → IsIn (owned_paths j.recipe j.logs) o → S.sources.holds o ≡ false
+job_unheld S targets j o i k =
+    let c = chosen_job S targets j i in
+    not_true (S.sources.holds o) (and_right (is_path o) (not (S.sources.holds o))
+    (all_in (λ x. is_path x && not (S.sources.holds x)) (outputs S.flow c.0 ++ logs S.flow c.0) o c.2 (owned_text S.flow c.0 o (subst (λ (x : Job). IsIn (owned_paths x.recipe x.logs) o) c.1 k))))
+
+places_in : (ts : List Turn) (o : Path) → IsIn (places (all_spots ts)) o → (t : Turn) × IsIn ts t × IsIn (owned t) o
+places_in [] o i = absurd i
+places_in (t ∷ ts) o i = elim (in_either o (places (spots t.job)) (places (all_spots ts)) (subst (λ l. IsIn l o) (places_append (spots t.job) (all_spots ts)) i)) [
+  | inl j ↦ (t, inl refl, subst (λ l. IsIn l o) (spots_places t.job) j)
+  | inr j ↦ let more = places_in ts o j in (more.0, inr more.1, more.2)
+]
+
+-- no source is held by what the jobs make and log
+spots_unheld : (S : Setting) (targets : List Path) (ts : List Turn) → map (λ (t : Turn). t.job) ts ≡ jobs S.flow S.sources [] targets → (o : Path) → IsIn (places (all_spots ts)) o → S.sources.holds o ≡ false
+spots_unheld S targets ts same o i =
+    let t = places_in ts o i in
+    job_unheld S targets t.0.job o (subst (λ (js : List Job). IsIn js t.0.job) same (in_map (λ (x : Turn). x.job) ts t.0 t.1)) t.2
+
+within_one : (p : Path) (os : List Path) → ((o : Path) → IsIn os o → overlaps p o ≡ false) → is_within p os ≡ false
+within_one p os h = out_of_overlap p p os (at_itself p) (none_any (overlaps p) os h)
+
+source_apart : (S : Setting) (ts : List Turn) → AreHeld S.sources → (p : Path) → S.sources.is p ≡ true → ((o : Path) → IsIn (places (all_spots ts)) o → S.sources.holds o ≡ false) → is_within p (flat_map owned ts) ≡ false
+source_apart S ts held p is unheld =
+    within_one p (flat_map owned ts)
+    (λ o i. let t = flat_in owned ts o i in false_unless (overlaps p o) (λ over. never_both (S.sources.holds o) (held p o is over) (unheld o (later_in ts t.0 o t.1 t.2))))
+
+-- an input of a job that the walk came to
+input_of : (S : Setting) (targets : List Path) → Each (IsPlainJob S) (jobs S.flow S.sources [] targets) → {c : Candidate} → IsMet S.flow S.sources (flat_map (walk S.flow S.sources [] 200) targets) c
+    → (q : Path) → IsIn (in_paths (recipe S.flow [] c)) q → IsInput S.flow S.sources q
+input_of S targets plain {c} m q k =
+    let walked = flat_map (walk S.flow S.sources [] 200) targets in
+    let wanted = inputs_wanted S.flow c [] q k in
+    let r = reached_step S.flow S.sources [] walked m.depth m.path c q m.reached m.chosen wanted in
+    record {
+      path = want_path S.flow S.sources [] (suc m.depth) m.path c q m.reached.calm m.chosen wanted;
+      from = made_or_source m.depth r;
+    }
+  where
+    made_or_source : (n : ℕ) → Reached S.flow S.sources [] (flat_map (walk S.flow S.sources [] 200) targets) n q
+        → (S.sources.is q ≡ true) ⊎ ((d : Candidate) × (choose S.flow S.sources q ≡ Make d) × IsIn (out_paths (recipe S.flow [] d)) q)
+    made_or_source zero r = elim (choice_known S.flow S.sources [] zero q r.calm) [
+      | inl e ↦ inl (source_chosen S.flow S.sources q e)
+      | inr h ↦ absurd (reached_zero S.flow S.sources [] (flat_map (walk S.flow S.sources [] 200) targets) q h.0 r h.1)
+    ]
+    made_or_source (suc n) r = elim (choice_known S.flow S.sources [] (suc n) q r.calm) [
+      | inl e ↦ inl (source_chosen S.flow S.sources q e)
+      | inr h ↦
+          let own = reached_own S.flow S.sources [] (flat_map (walk S.flow S.sources [] 200) targets) n q h.0 r h.1 in
+          let j = each_in (IsPlainJob S) (jobs S.flow S.sources [] targets) (job S.flow [] h.0) plain (walked_job S.flow S.sources [] targets 200 h.0 own) in
+          inr (h.0, h.1, output_of S.flow q h.0 (origin S.flow q h.0 S.sources h.1) j.plain)
+    ]
+
 -- ## Nothing was refused
 
 nil_first : {A : Type 0} (xs ys : List A) → xs ++ ys ≡ [] → xs ≡ []
@@ -200,7 +269,7 @@ some_same : (a b : World) → Some a ≡ Some b → a ≡ b
 some_same a b h = cc
 
 pub run_is_clean : RunIsClean
-run_is_clean S image targets cores top made tally w v running put_old put_new ran first calm plain clear begun =
+run_is_clean S image targets cores top made tally w v running put_old put_new ran first calm plain begun =
     let ts = ran.turns in
     let deriveds = jobs S.flow S.sources [] targets in
     let tallied = ran.answer.1 in
@@ -208,7 +277,7 @@ run_is_clean S image targets cores top made tally w v running put_old put_new ra
     let same = their_jobs cores top 0 deriveds ts ran.in_order (tallied.all first) in
     let did = ran.did v refl in
     let same_world : did.0 ≡ w = some_same did.0 w (sym did.1) in
-    let start : IsBegun S ts did.0 = subst (IsBegun S ts) (sym same_world) begun in
+    let start : IsBegun S did.0 = subst (IsBegun S) (sym same_world) begun in
     let es = did.2.0 in
     let deep = map Deep (filter (is_deep S.flow S.sources image [] targets) targets) in
     let refusals = flat_map (refused S.flow S.sources [] 201) targets in
@@ -217,11 +286,30 @@ run_is_clean S image targets cores top made tally w v running put_old put_new ra
     let users = each_from (λ (t : Turn). Each (λ p. IsTrue (is_path p)) (owned t)) ts
     (λ t i. users_of S targets t.job (subst (λ (js : List Job). IsIn js t.job) same (in_map (λ (x : Turn). x.job) ts t i))) in
     let calm_spots = subst (λ (js : List Job). clashes image [] (flat_map spots js) ≡ []) (sym same) (nil_second refusals rest calm_rest) in
+    let walked = flat_map (walk S.flow S.sources [] 200) targets in
+    let cs = distinct same_candidate walked in
+    let reach : (p : Path) → IsIn targets p → Reached S.flow S.sources [] walked 200 p =
+    λ p i. reached_target S.flow S.sources [] targets 200 p (none_deep (is_deep S.flow S.sources image [] targets) targets p (nil_first deep (refusals ++ rest) calm) i) (nil_first refusals rest calm_rest) i in
+    let held : AreHeld S.sources = λ p q is over. (start.sources p is).overlaps_it q over in
+    let unheld : (o : Path) → IsIn (places (all_spots ts)) o → S.sources.holds o ≡ false =
+    λ o i. spots_unheld S targets ts same o i in
+    let clear : AreInputsClear ts =
+    inputs_clear S.flow S.sources image held [] [] cs ts same calm_spots unheld (λ d p i k. absurd i)
+    (after_distinct S.flow S.sources [] walked (λ c i. let u = flat_in (walk S.flow S.sources [] 200) targets c i in walked_chosen S.flow S.sources [] 200 u.0 c u.2)
+    (after_flat S.flow S.sources (walk S.flow S.sources [] 200) [] targets (λ p fs i. walk_after S.flow S.sources walked 200 p fs (reach p i))))
+    (λ c q i k.
+    let j = distinct_in same_candidate walked c i in
+    let u = flat_in (walk S.flow S.sources [] 200) targets c j in
+    input_of S targets plain (met S.flow S.sources walked 200 u.0 c (reach u.0 u.1) u.2) q k) in
     let arranged : AreArranged ts = arranged_by image [] ts calm_spots users clear in
+    let apart : (p : Path) → S.sources.is p ≡ true → is_within p (flat_map owned ts) ≡ false =
+    λ p is. source_apart S ts held p is unheld in
+    let stand : (p : Path) → S.sources.is p ≡ true → IsSourceIn S ts did.0 p =
+    λ p is. let s = start.sources p is in record { held = s.held; bytes = s.bytes; holds = s.holds; outside = s.outside; apart = apart p is } in
     let made_all = done_turns_leave S.act made ts did.0 es start.none_runs start.owners arranged did.2.1 did.2.2 done in (
       subst (HasMade S.act ts) (sym did.2.3) made_all,
       λ p i.
-          let reached = reached_target S.flow S.sources [] targets 200 p (none_deep (is_deep S.flow S.sources image [] targets) targets p (nil_first deep (refusals ++ rest) calm) i) (nil_first refusals rest calm_rest) i in
+          let reached = reach p i in
           subst (λ x. IsCleanIn S 200 x p) (sym did.2.3)
-          (done_run_is_clean S made ts did.0 es start.none_runs start.owners arranged start.sources did.2.1 did.2.2 done 200 p (chained S targets ts same plain 200 p reached)),
+          (done_run_is_clean S made ts did.0 es start.none_runs start.owners arranged stand did.2.1 did.2.2 done 200 p (chained S targets ts same plain 200 p reached)),
     )
