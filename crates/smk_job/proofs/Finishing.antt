@@ -23,7 +23,7 @@ use Rattle.smk_store.proofs.Carried.{did_as}
 use Rattle.smk_job.specs.declared.fault.CloseFault.{CloseFault}
 use Rattle.smk_job.specs.declared.fault.CloseFault.TheVariants.{Device}
 use Rattle.smk_job.specs.declared.sight.Wrong.{Wrong}
-use Rattle.smk_job.specs.declared.sight.Wrong.TheVariants.{Absent, OtherKind}
+use Rattle.smk_job.specs.declared.sight.Wrong.TheVariants.{Absent, OtherKind, Unlisted}
 use Rattle.smk_job.specs.Jobs.{Underway, bare_bytes, bytes_with, IsReady, LetsClose, keep_requests, lose_requests, finish_requests, abandon_requests}
 use Rattle.smk_job.specs.Sights.{Nodes, AreKnown, AreSeen, IsSeenWrong, IsBlind, AreLookedAt, HasSeen, HasFinished, is_folder_out, nones, wrong_fault, path_at, HasLookedOver, HasSettled}
 use Rattle.smk_job.proofs.Outs.{paths_same}
@@ -163,7 +163,7 @@ module _ (j : Underway) (outs : List Out) (places : JobPlaces) (records : List (
       ap (λ (x : JobPlaces). keep_requests x records) ready.at_places
       ∙ ap (keep_requests (places_of (out_paths j.recipe) j.logs)) (ready.bytes ∙ sym (bare_records j))
 
-  lost_as : lose_requests places ≡ abandon_requests j
+  pub lost_as : lose_requests places ≡ abandon_requests j
   lost_as = ap lose_requests ready.at_places
 
   as_done : (w : World) (es : List Event) → HasSettled outs places records (Ok None) w.nodes es → HasFinished j (Ok tt) w es
@@ -178,7 +178,7 @@ module _ (j : Underway) (outs : List Out) (places : JobPlaces) (records : List (
     },
   )
 
-  abandoned : (fault : CloseFault) (w : World) (es : List Event) → HasSeen (IsSeenWrong w.nodes outs fault) (HasDone (lose_requests places)) es → HasSeen (IsSeenWrong w.nodes (outs_of j.recipe) fault) (HasDone (abandon_requests j)) es
+  pub abandoned : (fault : CloseFault) (w : World) (es : List Event) → HasSeen (IsSeenWrong w.nodes outs fault) (HasDone (lose_requests places)) es → HasSeen (IsSeenWrong w.nodes (outs_of j.recipe) fault) (HasDone (abandon_requests j)) es
   abandoned fault w es h = record {
     looks = h.looks;
     rest = h.rest;
@@ -187,9 +187,10 @@ module _ (j : Underway) (outs : List Out) (places : JobPlaces) (records : List (
     done = subst (λ rs. HasDone rs h.rest) lost_as h.done;
   }
 
-  as_wrong : (x : Wrong) (p : Path) (w : World) (es : List Event) → HasSeen (IsSeenWrong w.nodes outs (wrong_fault x p)) (HasDone (lose_requests places)) es → HasFinished j (Err (wrong_fault x p)) w es
+  pub as_wrong : (x : Wrong) (p : Path) (w : World) (es : List Event) → HasSeen (IsSeenWrong w.nodes outs (wrong_fault x p)) (HasDone (lose_requests places)) es → HasFinished j (Err (wrong_fault x p)) w es
   as_wrong Absent p w es h = abandoned (wrong_fault Absent p) w es h
   as_wrong OtherKind p w es h = abandoned (wrong_fault OtherKind p) w es h
+  as_wrong Unlisted p w es h = abandoned (wrong_fault Unlisted p) w es h
 
   as_unclosed : (f : Failed) (w : World) (es : List Event) → HasSettled outs places records (Err f) w.nodes es → HasFinished j (Err Device) w es
   as_unclosed f w es (inl h) = inl (subst (λ os. IsBlind os es) ready.outputs h)

@@ -6,6 +6,8 @@ pub mod Launching
 pub mod Outs
 pub mod Looking
 pub mod Finishing
+pub mod Viewing
+pub mod Viewed
 pub mod Abandoning
 pub mod Beginning
 pub mod Parts

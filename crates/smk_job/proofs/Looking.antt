@@ -64,10 +64,10 @@ nones_next (o ∷ outs) out = ap (λ t. [] ∷ t) (nones_next outs out)
 
 -- ## The output of a number
 
-around : (outs : List Out) (i : ℕ) (out : Out) → i < length outs → out ≡ get_or outs i out → outs ≡ take i outs ++ out ∷ drop (suc i) outs
+pub around : (outs : List Out) (i : ℕ) (out : Out) → i < length outs → out ≡ get_or outs i out → outs ≡ take i outs ++ out ∷ drop (suc i) outs
 around outs i out lt e = sym (take-append-drop i outs) ∙ ap (λ t. take i outs ++ t) (drop-cons outs i out lt ∙ ap (λ o. o ∷ drop (suc i) outs) (sym e))
 
-next : (outs : List Out) (i : ℕ) (out : Out) → i < length outs → out ≡ get_or outs i out → take (i + 1) outs ≡ take i outs ++ out ∷ []
+pub next : (outs : List Out) (i : ℕ) (out : Out) → i < length outs → out ≡ get_or outs i out → take (i + 1) outs ≡ take i outs ++ out ∷ []
 next outs i out lt e = take_more outs i out lt ∙ ap (λ o. take i outs ++ o ∷ []) (sym e)
 
 or_left : (a b : Bool) → (a || b) ≡ false → a ≡ false

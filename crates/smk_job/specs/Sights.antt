@@ -13,16 +13,16 @@ use Rattle.smk_world.specs.declared.recipe.Kind.{Kind}
 use Rattle.smk_world.specs.declared.recipe.Kind.TheVariants.{Plain, Folder}
 use Rattle.smk_world.specs.declared.recipe.Out.{Out}
 use Rattle.smk_world.specs.World.{World, run, reads_folder, reads_nothing}
-use Rattle.smk_world.specs.Calls.{Stands, in_folder, is_name, failed}
 use Rattle.smk_world.specs.Requests.{Request, request, AreQuiet, HasDone, IsCutShort}
 use Rattle.smk_world.specs.Requests.Request.{Look, ListFolder}
-use Rattle.smk_world.specs.Trees.{Path, Each, IsIn, outs_of, is_folder_kind}
+use Rattle.smk_world.specs.Trees.{Path, Each, outs_of, is_folder_kind}
 use Rattle.smk_record.specs.declared.record.Member.{Member}
-use Rattle.smk_record.specs.Records.{are_valid_members}
+pub use Rattle.smk_members.specs.Members.{Nodes, IsFound, member_places, IsThere, AreMembers}
+pub use Rattle.smk_members.specs.Walks.{EndsFailed}
 use Rattle.smk_job.specs.declared.fault.CloseFault.{CloseFault}
 use Rattle.smk_job.specs.declared.fault.CloseFault.TheVariants.{NoOutput, WrongKind, BadMember, Device, OutOfMemory}
 use Rattle.smk_job.specs.declared.sight.Wrong.{Wrong}
-use Rattle.smk_job.specs.declared.sight.Wrong.TheVariants.{Absent, OtherKind}
+use Rattle.smk_job.specs.declared.sight.Wrong.TheVariants.{Absent, OtherKind, Unlisted}
 use Rattle.smk_store.specs.declared.places.JobPlaces.{JobPlaces}
 use Rattle.smk_job.specs.Jobs.{Underway, keep_requests, lose_requests, finish_requests, abandon_requests}
 
@@ -34,32 +34,6 @@ reads_file Owned = false
 reads_file (Known None besides) = false
 reads_file (Known (Some DirectoryNode) besides) = false
 reads_file (Known (Some (Regular bytes time read_only)) besides) = true
-
--- what stands at each place
-abbrev pub Nodes : Type 0
-Nodes = Path → NodeState
-
--- what is directly in the folder at p, and in the folders that are so found
-pub data IsFound (nodes : Nodes) (p : Path) : Path → Type 0 where
-  Inside : (name : List ℕ) → is_name name ≡ true → Stands (nodes (in_folder p name)) → IsFound nodes p (in_folder p name)
-  Deeper :
-      (folder : Path) (name : List ℕ) →
-      IsFound nodes p folder →
-      reads_folder (nodes folder) ≡ true →
-      is_name name ≡ true → Stands (nodes (in_folder folder name)) → IsFound nodes p (in_folder folder name)
-
-abbrev pub member_places : Path → List Member → List Path
-member_places p members = map (λ (m : Member). in_folder p m.name) members
-
--- the member is in the folder at p, and is a folder where it says so
-abbrev pub IsThere : Nodes → Path → Member → Type 0
-IsThere nodes p m = IsFound nodes p (in_folder p m.name) × (reads_folder (nodes (in_folder p m.name)) ≡ m.folder)
-
--- These are all that is under the folder at p, and a record may have them.
-pub record AreMembers (nodes : Nodes) (p : Path) (members : List Member) : Type 0 where
-  pub valid : are_valid_members p members ≡ true
-  pub there : Each (IsThere nodes p) members
-  pub all : (q : Path) → IsFound nodes p q → IsIn (member_places p members) q
 
 -- what stands there is of this kind; of a directory these are the members
 abbrev pub IsOfKind : Nodes → Path → Kind → List Member → Type 0
@@ -91,10 +65,6 @@ IsListing out r = ⊥
 abbrev pub AreLooks : Out → List Event → Type 0
 AreLooks out [] = ⊥
 AreLooks out (e ∷ es) = (request e.call ≡ Look out.path) × Each (λ (d : Event). IsListing out (request d.call)) es
-
--- the last call failed, and no other
-abbrev pub EndsFailed : List Event → Type 0
-EndsFailed es = (before : List Event) × (last : Event) × (es ≡ before ++ last ∷ []) × AreQuiet before × (failed last.call ≡ true)
 
 -- Each output was looked at, in order, and has these members.
 abbrev pub AreSeen : Nodes → List Out → List (List Member) → List Event → Type 0
@@ -186,6 +156,7 @@ wrong_of Folder FolderStat = None
 abbrev pub wrong_fault : Wrong → Path → CloseFault
 wrong_fault Absent p = NoOutput p
 wrong_fault OtherKind p = WrongKind p
+wrong_fault Unlisted p = BadMember p
 
 abbrev pub path_at : List Out → ℕ → Path
 path_at outs i = get_or (map (λ (out : Out). out.path) outs) i []

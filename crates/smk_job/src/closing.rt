@@ -10,14 +10,16 @@ ghost use Rattle.smk_world.specs.Trees.{folders_of, outs_of};
 ghost use Rattle.smk_store.specs.Steps.{AreUnused};
 ghost use Rattle.smk_job.specs.Jobs.{LetsClose, abandon_requests};
 ghost use Rattle.smk_job.specs.Sights.{HasFinished, HasSettled, AreKnown, failed_last, is_folder_out, wrong_fault};
+ghost use Rattle.smk_job.specs.Views.{close_fault};
 
 use crate::fault::CloseFault;
+use crate::folders::{View, look_through};
 use crate::going::Going;
 use crate::sight::{Wrong, has_folder, look_over, path_of};
 use crate::steps::{keep, lose};
 use smk_base::{Bytes, List, PathText};
 use smk_store::JobPlaces;
-use smk_world::{Crew, Failed, Files, Out};
+use smk_world::{Crew, Failed, Files, Out, WorkFault};
 use std::alloc::Global;
 
 // The fault of the output at the path.
@@ -29,6 +31,7 @@ fn fault_of(wrong: Wrong, path: PathText) -> CloseFault
     match wrong {
         Wrong::Absent => CloseFault::NoOutput(path),
         Wrong::OtherKind => CloseFault::WrongKind(path),
+        Wrong::Unlisted => CloseFault::BadMember(path),
     }
 }
 
@@ -82,17 +85,38 @@ fn finish_files<W: Files>(work: &mut W, going: Going) -> Result<(), CloseFault>
     }
 }
 
-// Closes a job that has directories among its outputs.
-fn finish_folders<W: Files>(_alloc: Global, _work: &mut W, _going: Going) -> Result<(), CloseFault>
-    requires folders { list_any is_folder_out (outs_of _going.recipe) ≡ true }
-    requires room { (w : World) → W.world _work.old ≡ Some w → LetsClose w _going.recipe }
-    ensures did { Did W.act (W.world _work.old) (W.world _work.new) (λ w es. HasFinished _going result w es) }
-    ensures memory { folders_of _going.recipe ≢ [] }
-    ensures stays { failed_last result ≡ false → IsSome (W.world _work.old) → IsSome (W.world _work.new) }
-    ensures cause { HasCause (W.faults _work.old) (W.faults _work.new) (failed_last result ≡ true) }
-    ensures running { W.running _work.new ≡ W.running _work.old }
+// The fault of a call, as that of closing.
+fn fault_in(fault: WorkFault) -> CloseFault
+    ensures { result ≡ close_fault fault }
 {
-    Err(CloseFault::OutOfMemory)
+    match fault {
+        WorkFault::Failed => CloseFault::Device,
+        WorkFault::OutOfMemory => CloseFault::OutOfMemory,
+    }
+}
+
+// Closes a job that has directories among its outputs.
+fn finish_folders<W: Files>(alloc: Global, work: &mut W, going: Going) -> Result<(), CloseFault>
+    requires folders { list_any is_folder_out (outs_of going.recipe) ≡ true }
+    requires room { (w : World) → W.world work.old ≡ Some w → LetsClose w going.recipe }
+    ensures did { Did W.act (W.world work.old) (W.world work.new) (λ w es. HasFinished going result w es) }
+    ensures memory { folders_of going.recipe ≢ [] }
+    ensures stays { failed_last result ≡ false → IsSome (W.world work.old) → IsSome (W.world work.new) }
+    ensures cause { HasCause (W.faults work.old) (W.faults work.new) (failed_last result ≡ true) }
+    ensures running { W.running work.new ≡ W.running work.old }
+{
+    let ready = going.ready;
+    match look_through(alloc, work, &ready) {
+        Ok(View::Records(records)) => match keep(work, &ready.places, &records) {
+            Ok(()) => Ok(()),
+            Err(Failed) => Err(CloseFault::Device),
+        },
+        Ok(View::Wrongly(at, wrong)) => match lose(work, &ready.places) {
+            Ok(()) => Err(fault_of(wrong, path_of(ready.outs, at))),
+            Err(Failed) => Err(CloseFault::Device),
+        },
+        Err(fault) => Err(fault_in(fault)),
+    }
 }
 
 /// Closes a job whose command ended with status 0: looks at each output, and lists a directory with all that is under it; settles

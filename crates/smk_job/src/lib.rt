@@ -3,6 +3,7 @@
 
 mod closing;
 mod fault;
+mod folders;
 mod going;
 mod laws;
 mod opening;

@@ -15,8 +15,10 @@ use smk_world::{Failed, Files, Kind, Out, Stat};
 pub(crate) enum Wrong {
     /// Nothing is there.
     Absent,
-    /// A folder is there.
+    /// A folder is there, which is to be a file; or a file, where it is to be a directory.
     OtherKind,
+    /// A record can't tell what is in the directory.
+    Unlisted,
 }
 
 /// Whether one of the outputs is to be a directory.
@@ -31,8 +33,8 @@ pub(crate) fn has_folder(outs: &[Out]) -> bool
     false
 }
 
-// What is wrong with an output of this kind that is seen so.
-fn wrong_of(kind: Kind, stat: Stat) -> Option<Wrong>
+/// What is wrong with an output of this kind that is seen so.
+pub(crate) fn wrong_of(kind: Kind, stat: Stat) -> Option<Wrong>
     ensures { result ≡ wrong_of kind stat }
 {
     match (kind, stat) {
