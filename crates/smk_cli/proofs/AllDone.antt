@@ -1,5 +1,5 @@
 -- Where there is no fault all jobs are done.
-use Rattle.std.proofs.Common.{◌≡◌, ◌==◌, ℕ, Bool, true, false, List, [], ◌∷◌, ◌++◌, inl, inr, refl, sym, ap, ◌∙◌, Option, Some, None, Result, Ok, Err}
+use Rattle.std.proofs.Common.{◌≡◌, ◌⊎◌, ◌==◌, ℕ, Bool, true, false, List, [], ◌∷◌, ◌++◌, inl, inr, refl, sym, ap, ◌∙◌, Option, Some, None, Result, Ok, Err}
 use Rattle.smk_world.specs.World.{World}
 use Rattle.smk_world.specs.Runs.{Did}
 use Rattle.smk_store.specs.Steadying.{HasTried, steady_requests}
@@ -16,7 +16,7 @@ use Rattle.smk_run.specs.declared.ending.Ending.TheVariants.{Good, Status, NoOut
 use Rattle.smk_run.specs.Stamps.{Serials}
 use Rattle.smk_run.specs.Turns.{AreTurns, Course, Unbegun, Unstarted, Unclosed, Closed, Turn, is_done, is_closed}
 use Rattle.smk_run.specs.Reports.{failure, named, report_of, HasWritten, IsReport}
-use Rattle.smk_run.specs.Runs.{AreInOrder, IsOutcome, first_failure, course_failure, or_later}
+use Rattle.smk_run.specs.Runs.{command_fault, AreInOrder, IsOutcome, first_failure, course_failure, or_later}
 use Rattle.smk_report.specs.Lines.{Named}
 use Rattle.smk_report.specs.declared.fault.Fault.{Fault}
 use Rattle.smk_report.specs.declared.fault.Fault.TheVariants as fault
@@ -72,17 +72,22 @@ all_good flow (t ∷ ts) closed e =
 
 -- ## A run without a fault
 
+neither : {X : Type 0} (u : Unit {0}) (f : Fault) → (◌≡◌ {A = Answer} (Ok u) (Err f)) ⊎ (◌≡◌ {A = Answer} (Ok u) (Err fault.OutOfMemory)) → X
+neither u f (inl e) = absurd (ok_err u f e)
+neither u f (inr e) = absurd (ok_err u fault.OutOfMemory e)
+
 no_first : (o : Option Fault) (u : Unit {0}) → ◌≡◌ {A = Answer} (Ok u) (verdict_of o) → o ≡ None
 no_first None u e = refl
 no_first (Some f) u e = absurd (ok_err u f e)
 
 module _ (act : Act) (flow : Flow) (cores : ℕ) (jobs : List Job) (makers : List Maker) (targets : List Path) (top : Option ℕ) (made : Serials) (old new : Option World) (rose : Type 0) (running : List ℕ) (p q : Option Text) where
-  by_tally : (u : Unit {0}) (turns : List Turn) (failed : Bool) (tally : Tally) → AreInOrder cores top 0 jobs turns → IsOutcome flow cores jobs top turns failed (Ok tally) → tally.first ≡ None → Did act old new (AreTurns made turns)
+  by_tally : (u : Unit {0}) (turns : List Turn) (failed : Bool) (tally : Tally) → AreInOrder cores top 0 jobs turns → IsOutcome flow cores jobs top turns failed (Ok tally) → tally.first ≡ None → command_fault flow cores jobs ≡ None → Did act old new (AreTurns made turns)
       → HasWritten p q (is_output {T = Unit {0}} (Ok u) ≡ false) (IsReport true (report_of flow turns ++ closing_text (is_made turns) makers targets tally)) → AreDone act flow cores jobs makers targets top made old new p q
-  by_tally u turns failed tally order answer none did text = record {
+  by_tally u turns failed tally order answer none commands did text = record {
     turns = turns;
     tally = tally;
     in_order = order;
+    commands = commands;
     all = answer.1.all none;
     done = all_good flow turns answer.1.closed (sym answer.1.first ∙ none);
     counted = answer.1;
@@ -90,14 +95,19 @@ module _ (act : Act) (flow : Flow) (cores : ℕ) (jobs : List Job) (makers : Lis
     text = record { told = text.told; stays = λ well. text.stays refl };
   }
 
-  by_end : (u : Unit {0}) (turns : List Turn) (failed : Bool) (ended : Result Tally Fault) → AreInOrder cores top 0 jobs turns → IsOutcome flow cores jobs top turns failed ended → Concludes ended (Ok u) → Did act old new (AreTurns made turns)
+  by_end : (u : Unit {0}) (turns : List Turn) (failed : Bool) (ended : Result Tally Fault) → AreInOrder cores top 0 jobs turns → IsOutcome flow cores jobs top turns failed ended → Concludes ended (Ok u) → command_fault flow cores jobs ≡ None → Did act old new (AreTurns made turns)
       → HasWritten p q (is_output {T = Unit {0}} (Ok u) ≡ false) (IsReport true (report_of flow turns ++ closing_of (is_made turns) makers targets ended)) → AreDone act flow cores jobs makers targets top made old new p q
-  by_end u turns failed (Err f) order answer concluded did text = absurd (ok_err u f concluded)
-  by_end u turns failed (Ok tally) order answer (inl e) did text = by_tally u turns failed tally order answer (no_first tally.first u e) did text
-  by_end u turns failed (Ok tally) order answer (inr r) did text = absurd (ok_err u r.0 r.1)
+  by_end u turns failed (Err f) order answer concluded commands did text = absurd (ok_err u f concluded)
+  by_end u turns failed (Ok tally) order answer (inl e) commands did text = by_tally u turns failed tally order answer (no_first tally.first u e) commands did text
+  by_end u turns failed (Ok tally) order answer (inr r) commands did text = absurd (ok_err u r.0 r.1)
+
+  no_command : (u : Unit {0}) (o : Option Fault) → command_fault flow cores jobs ≡ o
+      → ((f : Fault) → command_fault flow cores jobs ≡ Some f → (◌≡◌ {A = Answer} (Ok u) (Err f)) ⊎ (◌≡◌ {A = Answer} (Ok u) (Err fault.OutOfMemory))) → command_fault flow cores jobs ≡ None
+  no_command u None e refused = e
+  no_command u (Some f) e refused = neither u f (refused f e)
 
   made_done : (u : Unit {0}) → HasMade act flow cores jobs makers targets top made (Ok u) old new rose running p q → AreDone act flow cores jobs makers targets top made old new p q
-  made_done u h = by_end u h.turns h.failed h.ended h.in_order h.answer h.concluded h.did h.text
+  made_done u h = by_end u h.turns h.failed h.ended h.in_order h.answer h.concluded (no_command u (command_fault flow cores jobs) refl h.refused) h.did h.text
 
 -- ## The call
 

@@ -1,5 +1,5 @@
 -- What the whole call does: why nothing is run, or what is.
-use Rattle.std.specs.Prelude.{◌≡◌, ◌⊎◌, ℕ, true, List, [], ◌++◌, length, Option, Some, Result, Ok, Err}
+use Rattle.std.specs.Prelude.{◌≡◌, ◌⊎◌, ℕ, true, List, [], ◌++◌, length, Option, Some, None, Result, Ok, Err}
 use Rattle.smk_world.specs.World.{World}
 use Rattle.smk_world.specs.Runs.{Did}
 use Rattle.smk_world.specs.Requests.{HasDone}
@@ -20,7 +20,7 @@ use Rattle.smk_run.specs.declared.tally.Tally.{Tally}
 use Rattle.smk_run.specs.Stamps.{Serials}
 use Rattle.smk_run.specs.Turns.{Turn, AreTurns, is_done}
 use Rattle.smk_run.specs.Reports.{report_of, HasWritten}
-use Rattle.smk_run.specs.Runs.{serials, AreInOrder, IsTally}
+use Rattle.smk_run.specs.Runs.{serials, AreInOrder, IsTally, command_fault}
 use Rattle.smk_report.specs.declared.fault.Fault.{Fault}
 use Rattle.smk_report.specs.declared.fault.Fault.TheVariants as fault
 use Rattle.smk_entry.specs.declared.asking.Asked.{Asked}
@@ -117,6 +117,8 @@ pub record AreDone (act : Act) (flow : Flow) (cores : ℕ) (jobs : List Job) (ma
   pub turns : List Turn
   pub tally : Tally
   pub in_order : AreInOrder cores top 0 jobs turns
+  -- no command was refused
+  pub commands : command_fault flow cores jobs ≡ None
   pub all : length turns ≡ length jobs
   pub done : Each (λ (t : Turn). is_done t.course ≡ true) turns
   pub counted : IsTally flow jobs turns tally
