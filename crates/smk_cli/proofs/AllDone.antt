@@ -1,6 +1,8 @@
 -- Where there is no fault all jobs are done.
-use Rattle.std.proofs.Common.{◌≡◌, ◌==◌, ℕ, Bool, true, false, List, [], ◌∷◌, ◌++◌, inl, inr, refl, sym, ap, ◌∙◌, Option, Some, None, Result, Ok, Err}
+use Rattle.std.proofs.Common.{◌≡◌, ◌⊎◌, ◌==◌, ℕ, Bool, true, false, List, [], ◌∷◌, ◌++◌, inl, inr, refl, sym, ap, ◌∙◌, Option, Some, None, Result, Ok, Err}
 use Rattle.smk_world.specs.World.{World}
+use Rattle.smk_world.specs.Runs.{Did}
+use Rattle.smk_store.specs.Steadying.{HasTried, steady_requests}
 use Rattle.smk_world.specs.Trees.{Path, Act, Each}
 use Rattle.smk_pattern.specs.Shapes.{Text}
 use Rattle.smk_flow.specs.declared.job.Job.{Job}
@@ -8,14 +10,13 @@ use Rattle.smk_flow.specs.Flows.{Flow}
 use Rattle.smk_chain.specs.declared.jobs.Maker.{Maker}
 use Rattle.smk_record.specs.declared.record.Record.{Record}
 use Rattle.smk_store.specs.declared.fault.StoreFault.{StoreFault}
-use Rattle.smk_store.specs.Serials.{next_serial}
 use Rattle.smk_run.specs.declared.tally.Tally.{Tally}
 use Rattle.smk_run.specs.declared.ending.Ending.{Ending}
 use Rattle.smk_run.specs.declared.ending.Ending.TheVariants.{Good, Status, NoOutput, WrongKind, BadMember}
 use Rattle.smk_run.specs.Stamps.{Serials}
-use Rattle.smk_run.specs.Turns.{Course, Unbegun, Unstarted, Unclosed, Closed, Turn, is_done, is_closed}
+use Rattle.smk_run.specs.Turns.{AreTurns, Course, Unbegun, Unstarted, Unclosed, Closed, Turn, is_done, is_closed}
 use Rattle.smk_run.specs.Reports.{failure, named, report_of, HasWritten, IsReport}
-use Rattle.smk_run.specs.Runs.{AreInOrder, IsOutcome, first_failure, course_failure, or_later}
+use Rattle.smk_run.specs.Runs.{command_fault, AreInOrder, IsOutcome, first_failure, course_failure, or_later}
 use Rattle.smk_report.specs.Lines.{Named}
 use Rattle.smk_report.specs.declared.fault.Fault.{Fault}
 use Rattle.smk_report.specs.declared.fault.Fault.TheVariants as fault
@@ -27,7 +28,7 @@ use Rattle.smk_cli.specs.Faults.{of_store, fault_of}
 use Rattle.smk_cli.specs.Lines as lines
 use Rattle.smk_cli.specs.Lines.{is_output, is_of_report}
 use Rattle.smk_cli.specs.Running.{HasMade, Concludes, closing_of}
-use Rattle.smk_cli.specs.Whole.{IsRefusal, IsToRun, GoesOn, Went, Refused, Stopped, Worked, AreDone, IsAllDone}
+use Rattle.smk_cli.specs.Whole.{HasOnlyLooked, IsRefusal, IsToRun, GoesOn, Went, Refused, Stopped, Worked, AreDone, IsAllDone}
 
 abbrev Answer : Type 0
 Answer = Result (Unit {0}) Fault
@@ -71,46 +72,66 @@ all_good flow (t ∷ ts) closed e =
 
 -- ## A run without a fault
 
+neither : {X : Type 0} (u : Unit {0}) (f : Fault) → (◌≡◌ {A = Answer} (Ok u) (Err f)) ⊎ (◌≡◌ {A = Answer} (Ok u) (Err fault.OutOfMemory)) → X
+neither u f (inl e) = absurd (ok_err u f e)
+neither u f (inr e) = absurd (ok_err u fault.OutOfMemory e)
+
 no_first : (o : Option Fault) (u : Unit {0}) → ◌≡◌ {A = Answer} (Ok u) (verdict_of o) → o ≡ None
 no_first None u e = refl
 no_first (Some f) u e = absurd (ok_err u f e)
 
 module _ (act : Act) (flow : Flow) (cores : ℕ) (jobs : List Job) (makers : List Maker) (targets : List Path) (top : Option ℕ) (made : Serials) (old new : Option World) (rose : Type 0) (running : List ℕ) (p q : Option Text) where
-  by_tally : (u : Unit {0}) (turns : List Turn) (failed : Bool) (tally : Tally) → AreInOrder cores top 0 jobs turns → IsOutcome flow cores jobs top turns failed (Ok tally) → tally.first ≡ None
-      → HasWritten p q (is_output {T = Unit {0}} (Ok u) ≡ false) (IsReport true (report_of flow turns ++ closing_text (is_made turns) makers targets tally)) → AreDone flow cores jobs makers targets top p q
-  by_tally u turns failed tally order answer none text = record {
+  by_tally : (u : Unit {0}) (turns : List Turn) (failed : Bool) (tally : Tally) → AreInOrder cores top 0 jobs turns → IsOutcome flow cores jobs top turns failed (Ok tally) → tally.first ≡ None → command_fault flow cores jobs ≡ None → Did act old new (AreTurns made turns)
+      → HasWritten p q (is_output {T = Unit {0}} (Ok u) ≡ false) (IsReport true (report_of flow turns ++ closing_text (is_made turns) makers targets tally)) → AreDone act flow cores jobs makers targets top made old new p q
+  by_tally u turns failed tally order answer none commands did text = record {
     turns = turns;
     tally = tally;
     in_order = order;
+    commands = commands;
     all = answer.1.all none;
     done = all_good flow turns answer.1.closed (sym answer.1.first ∙ none);
     counted = answer.1;
+    did = did;
     text = record { told = text.told; stays = λ well. text.stays refl };
   }
 
-  by_end : (u : Unit {0}) (turns : List Turn) (failed : Bool) (ended : Result Tally Fault) → AreInOrder cores top 0 jobs turns → IsOutcome flow cores jobs top turns failed ended → Concludes ended (Ok u)
-      → HasWritten p q (is_output {T = Unit {0}} (Ok u) ≡ false) (IsReport true (report_of flow turns ++ closing_of (is_made turns) makers targets ended)) → AreDone flow cores jobs makers targets top p q
-  by_end u turns failed (Err f) order answer concluded text = absurd (ok_err u f concluded)
-  by_end u turns failed (Ok tally) order answer (inl e) text = by_tally u turns failed tally order answer (no_first tally.first u e) text
-  by_end u turns failed (Ok tally) order answer (inr r) text = absurd (ok_err u r.0 r.1)
+  by_end : (u : Unit {0}) (turns : List Turn) (failed : Bool) (ended : Result Tally Fault) → AreInOrder cores top 0 jobs turns → IsOutcome flow cores jobs top turns failed ended → Concludes ended (Ok u) → command_fault flow cores jobs ≡ None → Did act old new (AreTurns made turns)
+      → HasWritten p q (is_output {T = Unit {0}} (Ok u) ≡ false) (IsReport true (report_of flow turns ++ closing_of (is_made turns) makers targets ended)) → AreDone act flow cores jobs makers targets top made old new p q
+  by_end u turns failed (Err f) order answer concluded commands did text = absurd (ok_err u f concluded)
+  by_end u turns failed (Ok tally) order answer (inl e) commands did text = by_tally u turns failed tally order answer (no_first tally.first u e) commands did text
+  by_end u turns failed (Ok tally) order answer (inr r) commands did text = absurd (ok_err u r.0 r.1)
 
-  made_done : (u : Unit {0}) → HasMade act flow cores jobs makers targets top made (Ok u) old new rose running p q → AreDone flow cores jobs makers targets top p q
-  made_done u h = by_end u h.turns h.failed h.ended h.in_order h.answer h.concluded h.text
+  no_command : (u : Unit {0}) (o : Option Fault) → command_fault flow cores jobs ≡ o
+      → ((f : Fault) → command_fault flow cores jobs ≡ Some f → (◌≡◌ {A = Answer} (Ok u) (Err f)) ⊎ (◌≡◌ {A = Answer} (Ok u) (Err fault.OutOfMemory))) → command_fault flow cores jobs ≡ None
+  no_command u None e refused = e
+  no_command u (Some f) e refused = neither u f (refused f e)
+
+  made_done : (u : Unit {0}) → HasMade act flow cores jobs makers targets top made (Ok u) old new rose running p q → AreDone act flow cores jobs makers targets top made old new p q
+  made_done u h = by_end u h.turns h.failed h.ended h.in_order h.answer h.concluded (no_command u (command_fault flow cores jobs) refl h.refused) h.did h.text
 
 -- ## The call
 
 module _ (act : Act) (read : List ℕ → Option Record) (words : List Text) (cores : ℕ) (w : World) (old new : Option World) (rose : Type 0) (running : List ℕ) (p q : Option Text) where
-  goes_done : (u : Unit {0}) (asked : Asked) (plan : Plan) (m : Result (Unit {0}) StoreFault) (mid : Option World) → GoesOn act cores (Ok u) asked plan m mid new rose running p q
-      → AreDone asked.flow cores plan.jobs.jobs plan.jobs.makers asked.targets (next_serial plan.store) p q
-  goes_done u asked plan (Ok v) mid h = made_done act asked.flow cores plan.jobs.jobs plan.jobs.makers asked.targets _ _ mid new rose running p q u h
-  goes_done u asked plan (Err f) mid h = absurd (ok_err u (of_store f) h.0)
+  goes_done : (u : Unit {0}) (asked : Asked) (plan : Plan) → IsToRun read words w asked plan → (looked firm : Option World) → HasOnlyLooked act old looked p p → (m : Result (Unit {0}) StoreFault)
+      → Did act looked firm (λ w es. HasTried (steady_requests plan.store) m es) → GoesOn act cores (Ok u) asked plan m firm new rose running p q → IsAllDone act read words cores w old new p q
+  goes_done u asked plan runs looked firm looking (Ok v) settling h = record {
+    asked = asked;
+    plan = plan;
+    to_run = runs;
+    looked = looked;
+    firm = firm;
+    looking = looking;
+    settling = settling;
+    done = made_done act asked.flow cores plan.jobs.jobs plan.jobs.makers asked.targets _ _ firm new rose running p q u h;
+  }
+  goes_done u asked plan runs looked firm looking (Err f) settling h = absurd (ok_err u (of_store f) h.0)
 
-  went_done : (u : Unit {0}) → Went act cores (Ok u) (IsRefusal read words w) (IsToRun read words w) old new rose running p q → IsAllDone read words cores w p q
+  went_done : (u : Unit {0}) → Went act cores (Ok u) (IsRefusal read words w) (IsToRun read words w) old new rose running p q → IsAllDone act read words cores w old new p q
   went_done u (Refused f is why looked) = absurd (ok_err u f is)
   went_done u (Stopped f is want looked) = absurd (ok_err u f is)
-  went_done u (Worked asked plan runs worked) = record { asked = asked; plan = plan; to_run = runs; done = goes_done u asked plan worked.carried.settled worked.carried.firm worked.carried.goes_on }
+  went_done u (Worked asked plan runs worked) = let c = worked.carried in goes_done u asked plan runs worked.looked c.firm worked.looking c.settled c.settling c.goes_on
 
-  by_answer : (answer : Answer) → fault_of answer ≡ None → Went act cores answer (IsRefusal read words w) (IsToRun read words w) old new rose running p q → IsAllDone read words cores w p q
+  by_answer : (answer : Answer) → fault_of answer ≡ None → Went act cores answer (IsRefusal read words w) (IsToRun read words w) old new rose running p q → IsAllDone act read words cores w old new p q
   by_answer (Ok u) e h = went_done u h
   by_answer (Err f) e h = absurd (some_none f e)
 
@@ -173,5 +194,5 @@ module _ (act : Act) (read : List ℕ → Option Record) (words : List Text) (co
   none_by answer told e (inr memory) = absurd (some_none fault.OutOfMemory (sym memory.1 ∙ e))
 
   pub all_done : (status : ℕ) (answer : Answer) (told : Option Fault) → status ≡ 0 → status ≡ status_of told → lines.IsOutcome (fault_of answer) told → Went act cores answer (IsRefusal read words w) (IsToRun read words w) old new rose running p q
-      → IsAllDone read words cores w p q
+      → IsAllDone act read words cores w old new p q
   all_done status answer told zero is outcome h = by_answer answer (none_by answer told (no_fault_told told (sym is ∙ zero)) outcome) h

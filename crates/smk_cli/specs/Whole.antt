@@ -1,7 +1,8 @@
 -- What the whole call does: why nothing is run, or what is.
-use Rattle.std.specs.Prelude.{◌≡◌, ◌⊎◌, ℕ, true, List, [], ◌++◌, length, Option, Some, Result, Ok, Err}
+use Rattle.std.specs.Prelude.{◌≡◌, ◌⊎◌, ℕ, true, List, [], ◌++◌, length, Option, Some, None, Result, Ok, Err}
 use Rattle.smk_world.specs.World.{World}
 use Rattle.smk_world.specs.Runs.{Did}
+use Rattle.smk_world.specs.Requests.{HasDone}
 use Rattle.smk_world.specs.Trees.{Path, Act, Each}
 use Rattle.smk_pattern.specs.Shapes.{Text}
 use Rattle.smk_record.specs.declared.record.Record.{Record}
@@ -16,9 +17,10 @@ use Rattle.smk_flow.specs.declared.job.Job.{Job}
 use Rattle.smk_flow.specs.Flows.{Flow}
 use Rattle.smk_chain.specs.declared.jobs.Maker.{Maker}
 use Rattle.smk_run.specs.declared.tally.Tally.{Tally}
-use Rattle.smk_run.specs.Turns.{Turn, is_done}
+use Rattle.smk_run.specs.Stamps.{Serials}
+use Rattle.smk_run.specs.Turns.{Turn, AreTurns, is_done}
 use Rattle.smk_run.specs.Reports.{report_of, HasWritten}
-use Rattle.smk_run.specs.Runs.{serials, AreInOrder, IsTally}
+use Rattle.smk_run.specs.Runs.{serials, AreInOrder, IsTally, command_fault}
 use Rattle.smk_report.specs.declared.fault.Fault.{Fault}
 use Rattle.smk_report.specs.declared.fault.Fault.TheVariants as fault
 use Rattle.smk_entry.specs.declared.asking.Asked.{Asked}
@@ -111,18 +113,26 @@ pub record HasRefused (act : Act) (read : List ℕ → Option Record) (words : L
   pub looked : HasOnlyLooked act old new put_old put_new
 
 -- Each of the jobs had its turn, in order, and is done; and all of the report was put.
-pub record AreDone (flow : Flow) (cores : ℕ) (jobs : List Job) (makers : List Maker) (targets : List Path) (top : Option ℕ) (put_old put_new : Option Text) : Type 0 where
+pub record AreDone (act : Act) (flow : Flow) (cores : ℕ) (jobs : List Job) (makers : List Maker) (targets : List Path) (top : Option ℕ) (made : Serials) (old new : Option World) (put_old put_new : Option Text) : Type 0 where
   pub turns : List Turn
   pub tally : Tally
   pub in_order : AreInOrder cores top 0 jobs turns
+  -- no command was refused
+  pub commands : command_fault flow cores jobs ≡ None
   pub all : length turns ≡ length jobs
   pub done : Each (λ (t : Turn). is_done t.course ≡ true) turns
   pub counted : IsTally flow jobs turns tally
+  pub did : Did act old new (AreTurns made turns)
   pub text : HasWritten put_old put_new (Unit {0}) (λ text. text ≡ report_of flow turns ++ closing_text (is_made turns) makers targets tally)
 
--- All jobs that the targets call for are done.
-pub record IsAllDone (read : List ℕ → Option Record) (words : List Text) (cores : ℕ) (w : World) (put_old put_new : Option Text) : Type 0 where
+-- All jobs that the targets call for are done, after looks and once all marks and notes that were found were firm.
+pub record IsAllDone (act : Act) (read : List ℕ → Option Record) (words : List Text) (cores : ℕ) (w : World) (old new : Option World) (put_old put_new : Option Text) : Type 0 where
   pub asked : Asked
   pub plan : Plan
   pub to_run : IsToRun read words w asked plan
-  pub done : AreDone asked.flow cores plan.jobs.jobs plan.jobs.makers asked.targets (next_serial plan.store) put_old put_new
+  pub looked : Option World
+  pub firm : Option World
+  pub looking : HasOnlyLooked act old looked put_old put_old
+  pub settling : Did act looked firm (λ w es. HasDone (steady_requests plan.store) es)
+  pub done :
+      AreDone act asked.flow cores plan.jobs.jobs plan.jobs.makers asked.targets (next_serial plan.store) (serials plan.jobs.makers (next_serial plan.store)) firm new put_old put_new

@@ -196,7 +196,7 @@ pub fn smk<W: Crew, O: Sink, Rt: Threads + Sync>(
     // status 0 only where all jobs that the targets call for are done, and reported
     ensures done { result.status ≡ 0 → (asked : RunWords) → IsAsked (map string_bytes words.now) asked → (w : World) → W.world work.old ≡ Some w
         → (read : Items ℕ → Option RecordValue) → IsAtHand read w
-        → IsAllDone read asked.targets asked.cores w (O.put_so_far out.old) (O.put_so_far out.new) }
+        → IsAllDone W.act read asked.targets asked.cores w (W.world work.old) (W.world work.new) (O.put_so_far out.old) (O.put_so_far out.new) }
 
     // no child runs at the end, unless a call failed
     ensures children { (W.running work.new ≡ []) ⊎ Rose (W.faults work.old) (W.faults work.new) }
