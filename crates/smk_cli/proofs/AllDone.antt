@@ -64,7 +64,7 @@ both_none : (a b : Option Fault) → or_later a b ≡ None → (a ≡ None) × (
 both_none None b e = (refl, e)
 both_none (Some f) b e = absurd (some_none f e)
 
-all_good : (flow : Flow) (turns : List Turn) → Each (λ (t : Turn). is_closed t.course ≡ true) turns → first_failure flow turns ≡ None → Each (λ (t : Turn). is_done t.course ≡ true) turns
+pub all_good : (flow : Flow) (turns : List Turn) → Each (λ (t : Turn). is_closed t.course ≡ true) turns → first_failure flow turns ≡ None → Each (λ (t : Turn). is_done t.course ≡ true) turns
 all_good flow [] closed e = tt
 all_good flow (t ∷ ts) closed e =
     let both = both_none (course_failure flow t.job t.course) (first_failure flow ts) e in
@@ -76,7 +76,7 @@ neither : {X : Type 0} (u : Unit {0}) (f : Fault) → (◌≡◌ {A = Answer} (O
 neither u f (inl e) = absurd (ok_err u f e)
 neither u f (inr e) = absurd (ok_err u fault.OutOfMemory e)
 
-no_first : (o : Option Fault) (u : Unit {0}) → ◌≡◌ {A = Answer} (Ok u) (verdict_of o) → o ≡ None
+pub no_first : (o : Option Fault) (u : Unit {0}) → ◌≡◌ {A = Answer} (Ok u) (verdict_of o) → o ≡ None
 no_first None u e = refl
 no_first (Some f) u e = absurd (ok_err u f e)
 
@@ -185,11 +185,11 @@ module _ (act : Act) (read : List ℕ → Option Record) (words : List Text) (co
   some_status fault.Output = refl
   some_status fault.OutOfMemory = refl
 
-  no_fault_told : (told : Option Fault) → status_of told ≡ 0 → told ≡ None
+  pub no_fault_told : (told : Option Fault) → status_of told ≡ 0 → told ≡ None
   no_fault_told None e = refl
   no_fault_told (Some f) e = absurd (true_false (sym (ap (λ n. n == 0) e) ∙ some_status f))
 
-  none_by : (answer : Answer) (told : Option Fault) → told ≡ None → lines.IsOutcome (fault_of answer) told → fault_of answer ≡ None
+  pub none_by : (answer : Answer) (told : Option Fault) → told ≡ None → lines.IsOutcome (fault_of answer) told → fault_of answer ≡ None
   none_by answer told e (inl same) = sym same ∙ e
   none_by answer told e (inr memory) = absurd (some_none fault.OutOfMemory (sym memory.1 ∙ e))
 

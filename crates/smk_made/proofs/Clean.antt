@@ -276,13 +276,13 @@ clean_chained S ts v arranged made sources (suc n) p (inr h) =
     (each_in (IsMade S.act v) ts h.turn made h.among)
     (clean_each S ts n v (clean_chained S ts v arranged made sources n) (in_paths (recipe S.flow [] h.by)) h.inputs)
 
-holds_reading : (held : List ℕ) (s : NodeState) → HoldsBytes held s → (time : ℕ) × (read_only : Bool) × (reading s ≡ Some (Regular held time read_only))
+pub holds_reading : (held : List ℕ) (s : NodeState) → HoldsBytes held s → (time : ℕ) × (read_only : Bool) × (reading s ≡ Some (Regular held time read_only))
 holds_reading held Owned h = absurd h
 holds_reading held (Known None besides) h = absurd h
 holds_reading held (Known (Some (Regular there time read_only)) besides) h = (time, read_only, ap (λ b. Some (Regular b time read_only)) h)
 holds_reading held (Known (Some Directory) besides) h = absurd h
 
-reading_holds : (held : List ℕ) (time : ℕ) (read_only : Bool) (s : NodeState) → reading s ≡ Some (Regular held time read_only) → HoldsBytes held s
+pub reading_holds : (held : List ℕ) (time : ℕ) (read_only : Bool) (s : NodeState) → reading s ≡ Some (Regular held time read_only) → HoldsBytes held s
 reading_holds held time read_only Owned h = cc
 reading_holds held time read_only (Known None besides) h = cc
 reading_holds held time read_only (Known (Some (Regular there t r)) besides) h = cc

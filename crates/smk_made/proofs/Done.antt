@@ -118,7 +118,7 @@ known_else : (s : NodeState) → (s ≡ Owned → ⊥) → IsKnown s
 known_else Owned never = absurd (never refl)
 known_else (Known now besides) never = tt
 
-idle_known : (w : World) → w.children ≡ [] → HasOwners w → IsAllKnown w
+pub idle_known : (w : World) → w.children ≡ [] → HasOwners w → IsAllKnown w
 idle_known w none owners = λ q. known_else (w.nodes q) (λ e. true_false (sym (owners q e) ∙ ap (λ cs. is_within q (owned_now cs)) none))
 
 -- ## The inputs are as they were

@@ -69,7 +69,7 @@ no_start (Protect p) h = refl
 no_start (Start recipe logs command) h = absurd (true_false h)
 no_start Wait h = refl
 
-all_known : (act : Act) (rs : List Request) (w v : World) → Reaches act rs w v → AreFiles rs → IsAllKnown w → IsAllKnown v
+pub all_known : (act : Act) (rs : List Request) (w v : World) → Reaches act rs w v → AreFiles rs → IsAllKnown w → IsAllKnown v
 all_known act [] w v h k known = λ q. subst (λ x. IsKnown (x.nodes q)) (sym h) (known q)
 all_known act (r ∷ rs) w v (u, st, more) k known = all_known act rs u v more k.1 (λ q. step_known act r w u q st (no_start r k.0) (known q))
 

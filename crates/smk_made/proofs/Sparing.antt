@@ -90,7 +90,7 @@ pub else_apart : (exactly : Bool) (ms : List Path) (q : Path) → Each (λ m. Is
 else_apart exactly [] q h = else_none exactly q
 else_apart exactly (m ∷ ms) q h = else_one exactly m ms q h.0.at_or_over (ap (λ v. exactly && v) h.0.under ∙ and_false exactly) (else_apart exactly ms q h.1)
 
-own_apart : (q : Path) → is_at_or_under q own_folder ≡ false → (ms : List Path) → AreOwn ms → Each (λ m. IsApart m q) ms
+pub own_apart : (q : Path) → is_at_or_under q own_folder ≡ false → (ms : List Path) → AreOwn ms → Each (λ m. IsApart m q) ms
 own_apart q out [] own = tt
 own_apart q out (m ∷ ms) own = (apart_flipped q m (outside-own q m out own.0), own_apart q out ms own.1)
 
