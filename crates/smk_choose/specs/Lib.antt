@@ -6,3 +6,4 @@ pub mod Reach
 pub mod Decided
 pub mod Whole
 pub mod Finding
+pub mod Marks

@@ -16,3 +16,4 @@ pub mod Written
 pub mod ByName
 pub mod Splitting
 pub mod Bare
+pub mod Only

@@ -9,6 +9,7 @@ mod laws;
 mod limit;
 mod limits;
 mod naming;
+mod only;
 mod pattern;
 mod reading;
 mod search;
@@ -22,6 +23,7 @@ pub use fitting::fits;
 pub use laws::{bound_is_binding, fill_is_filled, reading_is_grammar};
 pub use limits::Limits;
 pub use naming::{has_no_constraint, wildcard_names};
+pub use only::only_text;
 pub use pattern::{Binding, FillFault, Pattern, PatternFault};
 
 #[cfg(test)]
