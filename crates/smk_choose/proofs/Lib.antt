@@ -13,3 +13,4 @@ mod Covering
 mod Wholes
 mod Placed
 pub mod Picked
+pub mod Marked

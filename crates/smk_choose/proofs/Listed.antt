@@ -17,9 +17,10 @@ use Rattle.smk_flow.specs.declared.workflow.Rule.{Rule}
 use Rattle.smk_flow.specs.Flows.{Flow, Candidate, makes_folder, outs, outputs, logs, numbered}
 use Rattle.smk_flow.specs.PatternsOf.{rule_of}
 use Rattle.smk_choose.specs.declared.readings.Reading.{Reading}
+use Rattle.smk_choose.specs.Marks.{marks_of}
 use Rattle.smk_choose.specs.Choose.{Sources, candidate, fit, as_member, as_output, or_else, is_apart, candidates}
 use Rattle.smk_choose.specs.Told.{making}
-use Rattle.smk_choose.specs.Readings.{folders_in, reading_of, bound_by, first_bound, filled_by, making_at, listed, by_folder, by_folders, members_from, outputs_from, or_others, is_free, is_apart_in, is_apart_by}
+use Rattle.smk_choose.specs.Readings.{folders_in, reading_with, read_marks, rule_marks, reading_of, bound_by, first_bound, filled_by, making_at, listed, by_folder, by_folders, members_from, outputs_from, or_others, is_free, is_apart_in, is_apart_by}
 use Rattle.smk_choose.proofs.ByName.{rule_found}
 
 -- ---- lists
@@ -51,10 +52,16 @@ got [] i x d e = absurd (not_there x e)
 got (y ∷ xs) zero x d e = same_there y x e
 got (y ∷ xs) (suc i) x d e = got xs i x d e
 
+rule_is : (rules : List RulePart) (n : ℕ) (found : Rule) → n < length rules → found ≡ get_or (map rule_of rules) n found → found ≡ rule_of found.part
+rule_is [] n found lt at = absurd (omega (arith, lt))
+rule_is (r ∷ rules) zero found lt at = at ∙ sym (ap (λ (f : Rule). rule_of f.part) at)
+rule_is (r ∷ rules) (suc n) found lt at = rule_is rules n found (omega (arith, lt)) at
+
 pub readings_step : (flow : Flow) (rules : List RulePart) (i : ℕ) (rule : Rule) (made new : List Reading) → i < length rules → rule ≡ get_or (map rule_of rules) i rule →
-    made ≡ map (reading_of flow) (take i rules) → new ≡ made ++ reading_of flow rule.part ∷ [] → new ≡ map (reading_of flow) (take (i + 1) rules)
+    made ≡ map (reading_of flow) (take i rules) → new ≡ made ++ reading_with flow rule.part rule.outputs ∷ [] → new ≡ map (reading_of flow) (take (i + 1) rules)
 readings_step flow rules i rule made new lt at w e =
-    e ∙ ap (λ xs. xs ++ reading_of flow rule.part ∷ []) w
+    e ∙ ap (λ (xs : List Shape). made ++ reading_with flow rule.part xs ∷ []) (ap (λ (r : Rule). r.outputs) (rule_is rules i rule lt at))
+    ∙ ap (λ xs. xs ++ reading_of flow rule.part ∷ []) w
     ∙ sym (
     ap (map (reading_of flow)) (take_more rules i rule.part lt)
     ∙ map-append (reading_of flow) (take i rules) (get_or rules i rule.part ∷ [])
@@ -279,3 +286,8 @@ candidates_listed flow sources p =
     ∙ ap (filter (is_apart_by sources.holds (map rule_of flow.rules)))
     (or_both (as_member flow p) (as_output flow p)
     ∙ ap₂ or_others (all_members flow flow.rules 0 (folders_above p)) (all_outputs flow.rules 0 p))
+
+-- what is read of the rules has their marks
+pub marks_read : (flow : Flow) (rules : List RulePart) → map read_marks (map (reading_of flow) rules) ≡ map rule_marks (map rule_of rules)
+marks_read flow [] = refl
+marks_read flow (r ∷ rules) = ap (λ ms. marks_of (rule_of r).outputs ∷ ms) (marks_read flow rules)

@@ -15,9 +15,11 @@ use Rattle.smk_flow.specs.declared.rule.OutPart.{OutPart}
 use Rattle.smk_flow.specs.declared.rule.GatherPart.{GatherPart}
 use Rattle.smk_flow.specs.declared.rule.FlaggedText.{FlaggedText}
 use Rattle.smk_flow.specs.declared.workflow.Rule.{Rule}
+use Rattle.smk_flow.specs.PatternsOf.{rule_of}
 use Rattle.smk_flow.specs.Flows.{Flow, makes_folder, directory_of, rule_named}
 use Rattle.smk_choose.specs.declared.choice.Making.{Making}
 use Rattle.smk_choose.specs.declared.readings.Reading.{Reading}
+use Rattle.smk_choose.specs.Marks.{marks_of}
 
 -- ## Patterns
 
@@ -48,9 +50,25 @@ input_shapes i = map (shape_of []) i.texts
 abbrev pub gather_shapes : Flow → InPart → List Shape
 gather_shapes flow i = gather_shape flow i.gather
 
+-- of a rule with these patterns of outputs
+abbrev pub reading_with : Flow → RulePart → List Shape → Reading
+reading_with flow part outputs =
+    record { folders = folder_shapes part; wants = flat_map input_shapes part.inputs ++ flat_map (gather_shapes flow) part.inputs; marks = marks_of outputs }
+
 abbrev pub reading_of : Flow → RulePart → Reading
-reading_of flow part =
-    record { folders = folder_shapes part; wants = flat_map input_shapes part.inputs ++ flat_map (gather_shapes flow) part.inputs }
+reading_of flow part = reading_with flow part (rule_of part).outputs
+
+-- the marks of a reading, and of the rule that is read
+abbrev pub read_marks : Reading → List (Option ℕ)
+read_marks r = r.marks
+
+abbrev pub rule_marks : Rule → List (Option ℕ)
+rule_marks r = marks_of r.outputs
+
+-- of the reading that there is, if there is one
+abbrev pub marks_in : Option Reading → List (Option ℕ)
+marks_in None = []
+marks_in (Some r) = r.marks
 
 -- ## Bindings
 

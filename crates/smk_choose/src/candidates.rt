@@ -1,15 +1,17 @@
 //! The jobs that may make a path.
 
-ghost use Rattle.std.specs.Prelude.{◌≡◌, ◌<◌, ◌&&◌, ◌++◌, ◌∷◌, [], filter, not, map, take, length, slice_index, option_map, IfOk, OnOk};
+ghost use Rattle.std.specs.Prelude.{◌≡◌, ◌<◌, ◌&&◌, ◌++◌, ◌∷◌, [], filter, not, map, take, length, slice_index, slice_get, option_map, IfOk, OnOk};
 ghost use Rattle.std.specs.List.{list_all};
 ghost use Rattle.smk_base.specs.Path.{is_path};
 ghost use Rattle.smk_world.specs.World.{folders_above};
 ghost use Rattle.smk_flow.specs.PatternsOf.{rule_of};
 ghost use Rattle.smk_choose.specs.Choose.{candidates};
 ghost use Rattle.smk_choose.specs.Told.{told_by, making};
-ghost use Rattle.smk_choose.specs.Readings.{reading_of, is_apart_by, first_bound, filled_by, folder_at, by_folder, by_folders, members_from, outputs_from, or_others, is_free};
+ghost use Rattle.smk_choose.specs.Readings.{reading_of, is_apart_by, first_bound, filled_by, folder_at, by_folder, by_folders, members_from, outputs_from, or_others, is_free, read_marks, rule_marks, marks_in};
+ghost use Rattle.smk_choose.specs.Marks.{sum_of};
 
 use crate::binding::by_name;
+use crate::marks::{may_fit, sum_of};
 use crate::readings::Reading;
 use crate::{Making, Sources};
 use smk_base::{OutOfMemory, PathFault, PathText, Text};
@@ -129,21 +131,53 @@ fn members(alloc: Global, readings: &[Reading], path: &PathText) -> Result<Vec<M
     Ok(found)
 }
 
-// The jobs of which the path would be an output. Each rule is tried for each path, behind the quick refusal of `fits` by the fixed front
-// and end. With hundreds of rules a map from texts without wildcards to their rules, and an index of the others by their fixed
-// fronts, would be better.
-fn by_outputs(alloc: Global, rules: &[Rule], path: &PathText) -> Result<Vec<Making>, OutOfMemory>
-    requires { length rules.now < 4294967296 }
+// The marks of the rule with this number.
+fn marks_at(readings: &[Reading], number: usize) -> &[Option<u64>]
+    ensures { result.now ≡ marks_in (slice_get readings.now number) }
+{
+    match readings.get(number) {
+        Some(reading) => reading.marks.as_slice(),
+        None => &[],
+    }
+}
+
+// Adds the job of the rule of which the path would be an output. The patterns aren't looked at where the marks refuse the path.
+fn add_by_output(
+    alloc: Global,
+    found: &mut Vec<Making>,
+    number: u32,
+    rule: &Rule,
+    marks: &[Option<u64>],
+    sum: u64,
+    path: &PathText,
+) -> Result<(), OutOfMemory>
+    requires marks { marks.now ≡ rule_marks rule.now }
+    requires sum { sum ≡ sum_of path.now }
+    ensures { OnOk result (found.new.items ≡ found.old.items ++ by_folder number rule.now.outputs path.now) }
+{
+    if may_fit(sum, marks) {
+        return add_by_folder(alloc, found, number, rule.outputs.as_slice(), path);
+    }
+    Ok(())
+}
+
+// The jobs of which the path would be an output. The marks of each rule are looked at for each path; just the rules that have an output
+// with a wildcard, or one of the same sum as the path, are tried.
+fn by_outputs(
+    alloc: Global,
+    rules: &[Rule],
+    readings: &[Reading],
+    path: &PathText,
+) -> Result<Vec<Making>, OutOfMemory>
+    requires rules { length rules.now < 4294967296 }
+    requires marks { map read_marks readings.now ≡ map rule_marks rules.now }
     ensures { IfOk result (λ found. found.items ≡ outputs_from 0 rules.now path.now) }
 {
+    let sum = sum_of(path.as_str());
     let mut found = Vec::new(alloc);
     for (number, rule) in rules.iter().enumerate() {
-        if let Some(binding) = first_fit(alloc, rule.outputs.as_slice(), path)? {
-            found.push(Making {
-                rule: number as u32,
-                binding,
-            })?;
-        }
+        let marks = marks_at(readings, number);
+        add_by_output(alloc, &mut found, number as u32, rule, marks, sum, path)?;
     }
     Ok(found)
 }
@@ -157,12 +191,13 @@ pub(crate) fn makings(
 ) -> Result<Vec<Making>, OutOfMemory>
     requires rules { length rules.now < 4294967296 }
     requires readings { length readings.now < 4294967296 }
+    requires marks { map read_marks readings.now ≡ map rule_marks rules.now }
     ensures { IfOk result (λ found. found.items
         ≡ or_others (members_from 0 readings.now (folders_above path.now)) (outputs_from 0 rules.now path.now)) }
 {
     let found = members(alloc, readings, path)?;
     if found.is_empty() {
-        return by_outputs(alloc, rules, path);
+        return by_outputs(alloc, rules, readings, path);
     }
     Ok(found)
 }

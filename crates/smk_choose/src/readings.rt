@@ -9,19 +9,22 @@ ghost use Rattle.smk_flow.specs.declared.rule.InPart.{InPart};
 ghost use Rattle.smk_flow.specs.declared.rule.OutPart.{OutPart};
 ghost use Rattle.smk_flow.specs.declared.rule.Flag.{Flag};
 ghost use Rattle.smk_flow.specs.Flows.{makes_folder, is_directory, outs, directory_of, rule_named};
-ghost use Rattle.smk_choose.specs.Readings.{reading_of, folder_shapes, folders_in, first_folder, input_shapes, gather_shapes, gathered_from};
+ghost use Rattle.smk_choose.specs.Marks.{marks_of};
+ghost use Rattle.smk_choose.specs.Readings.{reading_of, reading_with, folder_shapes, folders_in, first_folder, input_shapes, gather_shapes, gathered_from};
 
+use crate::marks::marks_of;
 use smk_base::{List, OutOfMemory, Pair, Text};
-use smk_flow::{Flag, FlaggedText, InPart, OutPart, RulePart, Workflow};
+use smk_flow::{Flag, FlaggedText, InPart, OutPart, Rule, RulePart, Workflow};
 use smk_pattern::Pattern;
 use std::alloc::Global;
 
 /// The patterns of the directories that a checkpoint makes, none for other rules; and those of what a rule's jobs want: of the inputs
-/// that are written out, then of the directories that are gathered from.
+/// that are written out, then of the directories that are gathered from; and the marks of its patterns of outputs.
 #[derive(Debug, Drop)]
 pub(crate) struct Reading {
     pub(crate) folders: List<Pattern>,
     pub(crate) wants: List<Pattern>,
+    pub(crate) marks: List<Option<u64>>,
 }
 
 // The text as a pattern. Each text of a checked workflow is one, so nothing but memory is wanting here.
@@ -180,14 +183,19 @@ fn add_gathers(
 }
 
 // What is read of the rule.
-fn reading_of(alloc: Global, flow: &Workflow, part: &RulePart) -> Result<Reading, OutOfMemory>
-    ensures { IfOk result (λ made. made ≡ reading_of flow.now part.now) }
+fn reading_of(alloc: Global, flow: &Workflow, rule: &Rule) -> Result<Reading, OutOfMemory>
+    ensures { IfOk result (λ made. made ≡ reading_with flow.now rule.now.part rule.now.outputs) }
 {
-    let folders = folders_of(alloc, part)?;
+    let folders = folders_of(alloc, &rule.part)?;
     let mut wants = List::new(alloc);
-    add_inputs(alloc, &mut wants, part.inputs.as_slice())?;
-    add_gathers(alloc, &mut wants, flow, part.inputs.as_slice())?;
-    Ok(Reading { folders, wants })
+    add_inputs(alloc, &mut wants, rule.part.inputs.as_slice())?;
+    add_gathers(alloc, &mut wants, flow, rule.part.inputs.as_slice())?;
+    let marks = marks_of(alloc, rule.outputs.as_slice())?;
+    Ok(Reading {
+        folders,
+        wants,
+        marks,
+    })
 }
 
 /// What is read of each rule.
@@ -196,7 +204,7 @@ pub(crate) fn readings(alloc: Global, flow: &Workflow) -> Result<Vec<Reading>, O
 {
     let mut made = Vec::new(alloc);
     for rule in flow.rules().as_slice() {
-        made.push(reading_of(alloc, flow, &rule.part)?)?;
+        made.push(reading_of(alloc, flow, rule)?)?;
     }
     Ok(made)
 }

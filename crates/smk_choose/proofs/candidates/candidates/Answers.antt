@@ -1,12 +1,18 @@
-use Rattle.std.proofs.Common.{◌≡◌, ◌∙◌, List, ap, ap₂, sym, subst, filter, IfOk}
+use Rattle.std.proofs.Common.{◌≡◌, ◌∙◌, List, ap, ap₂, sym, subst, map, filter, IfOk}
 use Rattle.smk_world.specs.World.{folders_above}
 use Rattle.smk_flow.specs.declared.workflow.Rule.{Rule}
 use Rattle.smk_choose.specs.declared.choice.Making.{Making}
 use Rattle.smk_choose.specs.declared.readings.Reading.{Reading}
 use Rattle.smk_choose.specs.Told.{told_by}
-use Rattle.smk_choose.specs.Readings.{is_apart_by, or_others, members_from, outputs_from}
-use Rattle.smk_choose.proofs.Listed.{candidates_listed}
+use Rattle.smk_choose.specs.Readings.{read_marks, rule_marks, is_apart_by, or_others, members_from, outputs_from}
+use Rattle.smk_choose.proofs.Listed.{candidates_listed, marks_read}
 use Rattle.smk_choose.proofs.candidates.candidates.Goals as goal
+
+pub makings-requires-clause-marks : goal.makings-requires-clause-marks
+makings-requires-clause-marks c =
+    ap (λ (rs : List Reading). map read_marks rs) c.requires
+    ∙ marks_read c.args.flow.now c.args.flow.now.rules
+    ∙ ap (λ (rs : List Rule). map rule_marks rs) (sym (c.as_slice-rules.ensures ∙ c.rules.ensures.rules))
 
 pub returns : goal.returns
 returns c =

@@ -1,11 +1,17 @@
-use Rattle.std.proofs.Common.{◌≡◌, ◌∙◌, List, ap, ap₂, sym, subst, IfOk}
+use Rattle.std.proofs.Common.{◌≡◌, ◌∙◌, List, ap, ap₂, sym, subst, map, IfOk}
 use Rattle.smk_world.specs.World.{folders_above}
 use Rattle.smk_flow.specs.declared.workflow.Rule.{Rule}
 use Rattle.smk_choose.specs.declared.choice.Making.{Making}
 use Rattle.smk_choose.specs.declared.readings.Reading.{Reading}
-use Rattle.smk_choose.specs.Readings.{or_others, members_from, outputs_from}
-use Rattle.smk_choose.proofs.Listed.{fitting_listed}
+use Rattle.smk_choose.specs.Readings.{read_marks, rule_marks, or_others, members_from, outputs_from}
+use Rattle.smk_choose.proofs.Listed.{fitting_listed, marks_read}
 use Rattle.smk_choose.proofs.finder.Finder.fitting.Goals as goal
+
+pub makings-requires-clause-marks : goal.makings-requires-clause-marks
+makings-requires-clause-marks c =
+    ap (λ (rs : List Reading). map read_marks rs) (c.deref.ensures.value ∙ c.requires)
+    ∙ marks_read c.args.flow.now c.args.flow.now.rules
+    ∙ ap (λ (rs : List Rule). map rule_marks rs) (sym (c.as_slice.ensures ∙ c.rules.ensures.rules))
 
 pub returns : goal.returns
 returns c =
