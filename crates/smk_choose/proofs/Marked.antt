@@ -1,19 +1,19 @@
 -- What the marks refuse fits no pattern.
-use Rattle.std.proofs.Common.{◌≡◌, ℕ, zero, suc, ◌<◌, ◌&&◌, ◌||◌, ◌==◌, Bool, true, false, List, [], ◌∷◌, ◌++◌, map, drop, get_or, length, Option, Some, None, option_map, slice_get, refl, sym, ap, ap₂, ◌∙◌, arith}
-use Rattle.std.specs.List.{filter_map, cons_option, list_any}
+use Rattle.std.proofs.Common.{◌≡◌, ℕ, zero, suc, ◌<◌, ◌&&◌, ◌||◌, ◌==◌, Bool, true, false, List, [], ◌∷◌, ◌++◌, map, drop, get_or, length, Option, None, option_map, slice_get, refl, sym, ap, ap₂, ◌∙◌, arith}
+use Rattle.std.specs.List.{filter_map, cons_option}
 use Rattle.std.proofs.lemmas.Bool.{eqb-true, eq-eqb}
 use Rattle.smk_base.specs.declared.tree.Pair.{Pair}
 use Rattle.smk_world.specs.Trees.{Path, first}
 use Rattle.smk_pattern.specs.Shapes.{Text, Part, Wildcard, Shape}
 use Rattle.smk_pattern.specs.Shapes.Part.{text, wild}
-use Rattle.smk_pattern.specs.Bound.{begins, bindings, bound, first_values}
+use Rattle.smk_pattern.specs.Bound.{begins, bindings, first_values}
 use Rattle.smk_pattern.specs.Fitting.{bound_pairs}
 use Rattle.smk_pattern.specs.Reading.{by_name}
 use Rattle.smk_pattern.specs.Only.{only_text}
 use Rattle.smk_flow.specs.declared.workflow.Rule.{Rule}
 use Rattle.smk_choose.specs.declared.readings.Reading.{Reading}
 use Rattle.smk_choose.specs.Marks.{sum_of, mark_of, marks_of, may_be, may_fit}
-use Rattle.smk_choose.specs.Readings.{bound_by, first_bound, making_at, listed, by_folder, read_marks, rule_marks, marks_in}
+use Rattle.smk_choose.specs.Readings.{bound_by, making_at, listed, by_folder, read_marks, rule_marks, marks_in}
 
 both : (a b : Bool) → (a && b) ≡ true → (a ≡ true) × (b ≡ true)
 both true true e = (refl, refl)

@@ -1,4 +1,4 @@
-use Rattle.std.proofs.Common.{◌≡◌, ◌∙◌, ◌++◌, [], List, ℕ, Option, false, sym, ap, ap₂}
+use Rattle.std.proofs.Common.{◌∙◌, ◌++◌, List, sym, ap, ap₂}
 use Rattle.smk_choose.specs.declared.choice.Making.{Making}
 use Rattle.smk_choose.specs.Marks.{may_fit}
 use Rattle.smk_choose.proofs.Marked.{passed_over, no_more}

@@ -1,4 +1,4 @@
-use Rattle.std.proofs.Common.{◌∙◌, ap}
+use Rattle.std.proofs.Common.{◌∙◌}
 use Rattle.smk_choose.proofs.Marked.{marks_placed}
 use Rattle.smk_choose.proofs.candidates.by_outputs.Goals as goal
 
