@@ -10,7 +10,7 @@ use std::rt::Env;
 use std::{env, io};
 
 const HELP: &str =
-    "smk --cores N [TARGET ...]\n\nMakes the targets, which are paths or rules' names, by the workflow of the working folder: its file is the first that is there of\nSnakefile, snakefile, workflow/Snakefile and workflow/snakefile. Without a target the rule with `default_target: True` is made, else the\nfirst rule. Jobs run one after another; N, from 1 to 4096, bounds the threads that a command is told.\n\n--help and --version, alone, tell of the program.\n";
+    "smk --cores N [TARGET ...]\nsmk -n [TARGET ...]\n\nMakes the targets, which are paths or rules' names, by the workflow of the working folder: its file is the first that is there of\nSnakefile, snakefile, workflow/Snakefile and workflow/snakefile. Without a target the rule with `default_target: True` is made, else the\nfirst rule. Only jobs run that an edit has touched or whose outputs\nare gone; they run one after another, and N, from 1 to 4096, bounds the threads that a command is told.\n\nWith -n it lists what a run would do and why, and changes nothing.\n\n--help and --version, alone, tell of the program.\n";
 
 const VERSION: &str = "smk 0.1.0\n";
 

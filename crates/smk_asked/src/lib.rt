@@ -4,4 +4,4 @@
 mod cores;
 mod words;
 
-pub use words::{RunWords, WordsFault, run_words};
+pub use words::{Request, RunWords, WordsFault, read_words};

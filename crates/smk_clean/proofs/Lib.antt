@@ -1,7 +1,10 @@
-pub mod Sources
-pub mod Start
+pub mod Owned
 pub mod Plain
-pub mod Tame
-pub mod Clear
-pub mod Call
-mod Turned
+pub mod Told
+pub mod Firsts
+pub mod Meant
+pub mod Safe
+pub mod Asking
+pub mod Chained
+pub mod Standing
+pub mod Clean

@@ -1,6 +1,6 @@
 -- Jobs of a workflow all of whose forms are built make plain files and gather nothing.
-use Rattle.std.proofs.Common.{◌≡◌, ℕ, ◌+◌, Bool, true, false, List, [], ◌∷◌, ◌++◌, map, inl, inr, refl, ap, subst, ◌∙◌, Option, Some, None}
-use Rattle.std.specs.Prelude.{if◌then◌else◌, codes, is_some, is_none}
+use Rattle.std.proofs.Common.{◌≡◌, ℕ, ◌+◌, Bool, true, false, List, [], ◌∷◌, ◌++◌, map, inl, inr, refl, ap, sym, subst, ◌∙◌, flat_map, Option, Some, None}
+use Rattle.std.specs.Prelude.{if◌then◌else◌, codes, is_some}
 use Rattle.std.specs.List.{enumerate_from, list_any}
 use Rattle.smk_world.specs.declared.recipe.Kind.TheVariants.{Plain, Folder as FolderKind}
 use Rattle.smk_world.specs.declared.recipe.Out.{Out}
@@ -17,14 +17,18 @@ use Rattle.smk_flow.specs.declared.rule.GatherPart.{GatherPart}
 use Rattle.smk_flow.specs.declared.job.Job.{Job}
 use Rattle.smk_flow.specs.Flows.{Flow, Candidate, gather_at, gathers, gathers_from, is_directory}
 use Rattle.smk_flow.specs.Jobs.{filled_out, filled_outs, kind_of}
-use Rattle.smk_format.specs.Commands.{missing}
 use Rattle.smk_choose.specs.Choose.{Sources, choose, Make}
-use Rattle.smk_chain.specs.Derive.{recipe}
-use Rattle.smk_report.specs.declared.fault.Fault.{Fault}
-use Rattle.smk_run.specs.Runs.{command_fault, fault_at, job_fault, or_later}
+use Rattle.smk_chain.specs.Derive.{Listings, distinct, job, recipe, same_candidate, sources_of, walk}
 use Rattle.smk_entry.specs.Forms.{flag_form, inputs_form, item_form, or_else, outputs_form, unbuilt, unbuilt_in}
 use Rattle.smk_laws.proofs.CurrentChosen.{origin}
-use Rattle.smk_laws.proofs.CurrentLists.{flat_in, map_in}
+use Rattle.smk_store.specs.Images.{Image}
+use Rattle.smk_pick.specs.declared.settings.Settings.{Settings}
+use Rattle.smk_plan.specs.States.{Plan, IsPlan, Progress}
+use Rattle.smk_laws.specs.Current.{IsComplete}
+use Rattle.smk_laws.proofs.CurrentLists.{distinct_in, flat_in, map_in}
+use Rattle.smk_laws.proofs.CurrentWalked.{walked_chosen}
+use Rattle.smk_laws.proofs.PlanOne.{derived}
+use Rattle.smk_safe.specs.Planned.{IsPlain}
 
 some_none : {A : Type 0} (x : A) → Some x ≡ None → ⊥
 some_none x e = cc
@@ -75,10 +79,10 @@ outputs_plain (x ∷ is) i h (inr k) = outputs_plain is i (neither (item_form x.
 plain_kind : (o : FlaggedText) → flag_form o.flags ≡ None → kind_of o ≡ Plain
 plain_kind o h = ap (λ fs. if list_any is_directory fs then FolderKind else Plain) (no_flags o.flags h)
 
-plain_outs : (flow : Flow) (c : Candidate) → outputs_form c.part.outputs ≡ None → Each (λ (out : Out). out.kind ≡ Plain) (outs_of (recipe flow [] c))
-plain_outs flow c h = each_from (λ (out : Out). out.kind ≡ Plain) (outs_of (recipe flow [] c)) each
+plain_outs : (flow : Flow) (L : Listings) (c : Candidate) → outputs_form c.part.outputs ≡ None → Each (λ (out : Out). out.kind ≡ Plain) (outs_of (recipe flow L c))
+plain_outs flow L c h = each_from (λ (out : Out). out.kind ≡ Plain) (outs_of (recipe flow L c)) each
   where
-    each : (out : Out) → IsIn (outs_of (recipe flow [] c)) out → out.kind ≡ Plain
+    each : (out : Out) → IsIn (outs_of (recipe flow L c)) out → out.kind ≡ Plain
     each out i =
         let item = flat_in (λ (x : OutItem). x.outs) (map (filled_outs c.binding) c.part.outputs) out i in
         let part = map_in (filled_outs c.binding) c.part.outputs item.0 item.1 in
@@ -100,26 +104,29 @@ no_gathers flow limits binding n (i ∷ inputs) h = go i.gather h (λ k. no_gath
 -- ## Chosen jobs
 
 -- the job makes plain files, and gathers nothing
-pub record IsPlainly (flow : Flow) (c : Candidate) : Type 0 where
-  pub plain : Each (λ (out : Out). out.kind ≡ Plain) (outs_of (recipe flow [] c))
+pub record IsPlainly (flow : Flow) (L : Listings) (c : Candidate) : Type 0 where
+  pub plain : Each (λ (out : Out). out.kind ≡ Plain) (outs_of (recipe flow L c))
   pub gathers_none : gathers flow c ≡ []
 
-pub chosen_plainly : (flow : Flow) (sources : Sources) (p : Path) (c : Candidate) → unbuilt flow.rules ≡ None → choose flow sources p ≡ Make c → IsPlainly flow c
-chosen_plainly flow sources p c built e =
+pub chosen_plainly : (flow : Flow) (L : Listings) (sources : Sources) (p : Path) (c : Candidate) → unbuilt flow.rules ≡ None → choose flow sources p ≡ Make c → IsPlainly flow L c
+chosen_plainly flow L sources p c built e =
     let forms = built_forms c.part (built_part flow.rules c.part built (numbered_in flow.rules 0 c.rule c.part (origin flow p c sources e).listed)) in
-    record { plain = plain_outs flow c forms.0; gathers_none = no_gathers flow c.part.limits c.binding 0 c.part.inputs forms.1 }
+    record { plain = plain_outs flow L c forms.0; gathers_none = no_gathers flow c.part.limits c.binding 0 c.part.inputs forms.1 }
 
--- ## Commands
-
-later_none : (a b : Option Fault) → or_later a b ≡ None → (a ≡ None) × (b ≡ None)
-later_none None b e = (refl, e)
-later_none (Some f) b e = absurd (some_none f e)
-
-none_missing : (rule : Text) (word : Option Text) (excess : Option ℕ) → fault_at rule word excess ≡ None → word ≡ None
-none_missing rule None excess h = refl
-none_missing rule (Some word) excess h = absurd (some_none _ h)
-
-pub has_fields : (flow : Flow) (cores : ℕ) (js : List Job) (j : Job) → command_fault flow cores js ≡ None → IsIn js j → is_none (missing j) ≡ true
-has_fields flow cores [] j h i = absurd i
-has_fields flow cores (x ∷ js) j h (inl e) = ap (λ y. is_none (missing y)) e ∙ ap is_none (none_missing _ (missing x) _ (later_none (job_fault flow cores x) (command_fault flow cores js) h).0)
-has_fields flow cores (x ∷ js) j h (inr i) = has_fields flow cores js j (later_none (job_fault flow cores x) (command_fault flow cores js) h).1 i
+-- so the jobs of a plan do
+pub planned_plain : (flow : Flow) (image : Image) (settings : Settings) (progress : Progress) (plan : Plan) → IsComplete image → unbuilt flow.rules ≡ None → IsPlan flow image settings progress plan → Each IsPlain plan.jobs
+planned_plain flow image settings progress plan complete built is_plan = each_from IsPlain plan.jobs one
+  where
+    one : (j : Job) → IsIn plan.jobs j → IsPlain j
+    one j i =
+        let L = plan.lists in
+        let all = flat_map (walk flow (sources_of image) L 200) settings.targets in
+        let is = derived flow image L settings.targets plan.jobs complete is_plan.derived in
+        let m = map_in (job flow L) (distinct same_candidate all) j (subst (λ js. IsIn js j) (sym is.1) i) in
+        let u = flat_in (walk flow (sources_of image) L 200) settings.targets m.0 (distinct_in same_candidate all m.0 m.1) in
+        let p = walked_chosen flow (sources_of image) L 200 u.0 m.0 u.2 in
+        let plainly = chosen_plainly flow L (sources_of image) p.0 m.0 built p.1 in
+        record {
+          gathers_none = ap (λ (x : Job). x.gathers) m.2 ∙ plainly.gathers_none;
+          plain = subst (λ (x : Job). Each (λ (out : Out). out.kind ≡ Plain) (outs_of x.recipe)) (sym m.2) plainly.plain;
+        }

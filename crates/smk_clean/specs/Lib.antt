@@ -1,1 +1,3 @@
+pub mod Safe
+pub mod Standing
 pub mod Clean

@@ -1,10 +1,25 @@
-//! The law on what a call leaves that ends with status 0.
+//! Laws of a whole call.
 #![tactic(auto)]
 
 ghost use Rattle.smk_clean.specs.Clean.{CallIsClean};
+ghost use Rattle.smk_clean.specs.Safe.{CallIsSafe};
+ghost use Rattle.smk_clean.specs.Standing.{PlanRefusalStands, RefusalStands};
 
-/// The law of a call that ends with status 0, of words that ask for a run in a folder that is told and at hand, in which no child runs:
-/// each target is a file at the end, and that is its clean value from the sources as they stood; and the sources are as they were.
-pub fn status_zero_is_clean()
+/// The law of a whole call in a sound folder, whatever is asked and however it ends: after every prefix of its events whatever a crash leaves is sound and
+/// has the sources of the entry; and where it ends without a fault, or no child is left, the folder is sound.
+pub fn calls_are_safe()
+    ensures { CallIsSafe }
+{}
+
+/// Laws of refusals. Where something is refused of what is asked to be run, nothing is done but looks and nothing is put, and the call ends with a refusal, or with
+/// a fault of the device or of memory; and where the plan is refused, with that refusal.
+pub fn refusals_stand()
+    ensures stands { RefusalStands }
+    ensures plan { PlanRefusalStands }
+{}
+
+/// The law of a run that ends without a fault, in a sound folder: each target is at the end what a clean run from the sources of the entry makes of it, and the sources are
+/// as they were.
+pub fn calls_are_clean()
     ensures { CallIsClean }
 {}

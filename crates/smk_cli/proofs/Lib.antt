@@ -1,13 +1,5 @@
-pub mod SameKinds
-pub mod Numbered
-pub mod Counting
 pub mod Putting
 pub mod Looked
-pub mod Planned
-pub mod Sinks
-pub mod Made
-pub mod Ended
-pub mod Went
+pub mod Outcomes
 pub mod Words
-pub mod Stands
-pub mod AllDone
+pub mod Serving

@@ -1,91 +1,25 @@
--- Looks, by answers of the parts and of the call.
-use Rattle.std.proofs.Common.{◌≡◌, ℕ, Bool, true, false, List, [], ◌∷◌, map, refl, sym, ap, ap₂, subst, ◌∙◌, Option, Some, None, Result, Ok, Err}
-use Rattle.std.specs.Prelude.{IsSome, IsErrOf, IfOk, IfErr}
+-- What looks leave.
+use Rattle.std.proofs.Common.{◌≡◌, ℕ, Bool, true, false, List, [], ◌∷◌, map, refl, sym, ap, ap₂, subst, ◌∙◌, Option, Some, None, Ok, Err}
+use Rattle.std.specs.Prelude.{IsSome}
 use Rattle.std.proofs.lemmas.List.Elements.{All-head, All-tail}
 use Rattle.smk_world.specs.declared.event.Call.{Call}
 use Rattle.smk_world.specs.declared.event.Call.TheVariants.{Looked, ReadFile, ReadFolder, Written, Created, Removed, MadeParents, Settled, Protected, Started, Waited}
 use Rattle.smk_world.specs.declared.event.Change.{Change}
 use Rattle.smk_world.specs.declared.event.Event.{Event}
 use Rattle.smk_world.specs.declared.event.NodeState.{NodeState}
-use Rattle.smk_world.specs.declared.event.NodeState.TheVariants.{Owned}
-use Rattle.smk_world.specs.World.{World, after, run, names_after, add_names, reading, reads_folder}
-use Rattle.smk_world.specs.Calls.{Lets, HasCause, in_folder}
+use Rattle.smk_world.specs.World.{World, after, run, names_after, add_names, reading}
+use Rattle.smk_world.specs.Calls.{Lets}
 use Rattle.smk_world.specs.Runs.{Did, Follows}
 use Rattle.smk_world.specs.Trees.{Path, Act}
 use Rattle.smk_record.specs.declared.record.Record.{Record}
-use Rattle.smk_store.specs.declared.fault.StoreFault.{StoreFault}
-use Rattle.smk_store.specs.declared.fault.StoreFault.TheVariants as store
 use Rattle.smk_store.specs.Images.{seen, image_by}
 use Rattle.smk_store.specs.Loading.{is_look, AreLooks}
-use Rattle.smk_store.specs.Walking.{HasLooked}
-use Rattle.smk_store.proofs.Looks.{looks_nodes, looked_as}
-use Rattle.smk_sight.specs.Disk.{IsOnDisk}
-use Rattle.smk_chain.specs.declared.fault.SightFault.{SightFault}
-use Rattle.smk_chain.specs.declared.fault.SightFault.TheVariants as sight
-use Rattle.smk_report.specs.declared.fault.Fault.{Fault}
-use Rattle.smk_entry.specs.Faults.{device_failed, is_told}
-use Rattle.smk_cli.specs.Answers.{as_call}
-use Rattle.smk_cli.specs.Faults.{of_store, of_sight}
+use Rattle.smk_store.proofs.Looks.{looks_nodes}
+use Rattle.smk_members.proofs.Trees.{tree_still}
+use Rattle.smk_serve.specs.Serving.{IsAtHand}
 
 true_false : true ≡ false → ⊥
 true_false e = cc
-
--- ## Answers
-
-store_failed : {A : Type 0} (r : Result A StoreFault) → device_failed (as_call of_store r) ≡ true → r ≡ Err store.Device
-store_failed (Ok a) h = absurd (true_false (sym h))
-store_failed (Err (store.StampSeen p)) h = absurd (true_false (sym h))
-store_failed (Err store.Device) h = refl
-store_failed (Err store.OutOfMemory) h = absurd (true_false (sym h))
-
-sight_failed : {A : Type 0} (r : Result A SightFault) → device_failed (as_call of_sight r) ≡ true → r ≡ Err sight.Device
-sight_failed (Ok a) h = absurd (true_false (sym h))
-sight_failed (Err (sight.TooManyPaths n)) h = absurd (true_false (sym h))
-sight_failed (Err sight.Device) h = refl
-sight_failed (Err sight.OutOfMemory) h = absurd (true_false (sym h))
-
-pub store_from : {A : Type 0} (r : Result A StoreFault) (s : Result A Fault) → s ≡ as_call of_store r → device_failed s ≡ true → IsErrOf r store.Device
-store_from r s is h = store_failed r (sym (ap device_failed is) ∙ h)
-
-pub store_to : {A : Type 0} (r : Result A StoreFault) (s : Result A Fault) → s ≡ as_call of_store r → IsErrOf r store.Device → device_failed s ≡ true
-store_to r s is h = ap device_failed (is ∙ ap (as_call of_store) h)
-
-pub store_looked : (act : Act) {A : Type 0} (r : Result A StoreFault) (s : Result A Fault) (a b : Option World) (fa fb : ℕ) (ra rb : List ℕ) → s ≡ as_call of_store r
-    → Did act a b (λ w es. AreLooks es) → (¬ (IsErrOf r store.Device) → IsSome a → IsSome b) → HasCause fa fb (IsErrOf r store.Device) → rb ≡ ra
-    → HasLooked act a b fa fb ra rb (device_failed s ≡ true)
-store_looked act r s a b fa fb ra rb is did stays cause same = record {
-  did = did;
-  stays = λ quiet some. stays (λ d. quiet (store_to r s is d)) some;
-  cause = record { later = cause.later; rose = λ f. cause.rose (store_from r s is f) };
-  running = same;
-}
-
-pub sight_looked : (act : Act) {A : Type 0} (r : Result A SightFault) (s : Result A Fault) (a b : Option World) (fa fb : ℕ) (ra rb : List ℕ) → s ≡ as_call of_sight r
-    → Did act a b (λ w es. AreLooks es) → (¬ (IsErrOf r sight.Device) → IsSome a → IsSome b) → HasCause fa fb (IsErrOf r sight.Device) → rb ≡ ra
-    → HasLooked act a b fa fb ra rb (device_failed s ≡ true)
-sight_looked act r s a b fa fb ra rb is did stays cause same = record {
-  did = did;
-  stays = λ quiet some. stays (λ d. quiet (ap device_failed (is ∙ ap (as_call of_sight) d))) some;
-  cause = record { later = cause.later; rose = λ f. cause.rose (sight_failed r (sym (ap device_failed is) ∙ f)) };
-  running = same;
-}
-
--- the same of another answer that failed likewise
-pub looked_like : (act : Act) {A B : Type 0} (r : Result A Fault) (s : Result B Fault) (a b : Option World) (fa fb : ℕ) (ra rb : List ℕ) → device_failed r ≡ device_failed s
-    → HasLooked act a b fa fb ra rb (device_failed r ≡ true) → HasLooked act a b fa fb ra rb (device_failed s ≡ true)
-looked_like act r s a b fa fb ra rb same h = looked_as act a b fa fb ra rb (device_failed r ≡ true) (device_failed s ≡ true) (λ e. sym same ∙ e) (λ e. same ∙ e) h
-
-pub ok_as : {A F : Type 0} (g : F → Fault) (r : Result A F) (s : Result A Fault) (P : A → Type 0) → s ≡ as_call g r → IfOk r P → IfOk s P
-ok_as g (Ok a) s P is h = subst (λ v. IfOk v P) (sym is) h
-ok_as g (Err f) s P is h = subst (λ v. IfOk v P) (sym is) h
-
-pub store_untold : {A : Type 0} (r : Result A StoreFault) (s : Result A Fault) → s ≡ as_call of_store r → IfErr r (λ f. (p : List ℕ) → f ≡ store.StampSeen p → ⊥) → IfErr s (λ f. is_told f ≡ false)
-store_untold (Ok a) s is h = subst (λ v. IfErr v (λ f. is_told f ≡ false)) (sym is) h
-store_untold (Err (store.StampSeen p)) s is h = absurd (h p refl)
-store_untold (Err store.Device) s is h = subst (λ v. IfErr v (λ f. is_told f ≡ false)) (sym is) refl
-store_untold (Err store.OutOfMemory) s is h = subst (λ v. IfErr v (λ f. is_told f ≡ false)) (sym is) refl
-
--- ## What looks leave
 
 empty_names : (left : List Change) (names : List Path) → left ≡ [] → add_names (map (λ (c : Change). c.place) left) names ≡ names
 empty_names left names e = ap (λ (cs : List Change). add_names (map (λ (c : Change). c.place) cs) names) e
@@ -133,14 +67,6 @@ moved act a b w v did e f =
       names = ap (λ (u : World). u.names) d.2.3 ∙ left.names ∙ ap (λ (u : World). u.names) same;
     }
 
-pub disk_moved : (w v : World) → IsSameFolder w v → IsOnDisk w → IsOnDisk v
-disk_moved w v same disk = record {
-  in_folders = λ folder name p h.
-      subst (λ (n : Path → NodeState). reads_folder (n folder) ≡ true) (sym same.nodes)
-      (disk.in_folders folder name p (subst (λ (n : Path → NodeState). IsSome (reading (n (in_folder folder name)))) same.nodes h));
-  unowned = λ q p owned. disk.unowned q p (subst (λ (n : Path → NodeState). n q ≡ Owned) same.nodes owned);
-}
-
 pub seen_moved : (read : List ℕ → Option Record) (w v : World) → IsSameFolder w v → seen read v ≡ seen read w
 seen_moved read w v same = ap₂ (λ (names : List Path) (nodes : Path → NodeState). image_by read names (λ q. reading (nodes q))) same.names same.nodes
 
@@ -148,13 +74,6 @@ pub some_of : {A : Type 0} (o : Option A) → IsSome o → (x : A) × (o ≡ Som
 some_of None h = absurd (true_false (sym h))
 some_of (Some x) h = (x, refl)
 
-pub not_failed : {A : Type 0} (r : Result A Fault) (x : A) → r ≡ Ok x → ¬ (device_failed r ≡ true)
-not_failed r x is h = true_false (sym h ∙ ap device_failed is)
-
--- looks that went well, and what doesn't look
-pub quiet_then : (act : Act) {A B : Type 0} (r : Result A Fault) (x : A) (s : Result B Fault) (a b : Option World) (fa fb : ℕ) (ra rb : List ℕ) → r ≡ Ok x → device_failed s ≡ false
-    → HasLooked act a b fa fb ra rb (device_failed r ≡ true) → HasLooked act a b fa fb ra rb (device_failed s ≡ true)
-quiet_then act r x s a b fa fb ra rb is quiet h = looked_like act r s a b fa fb ra rb (ap device_failed is ∙ sym quiet) h
-
-pub false_not : (b : Bool) → b ≡ false → ¬ (b ≡ true)
-false_not b e h = true_false (sym h ∙ e)
+-- what is at hand stays so
+pub hand_moved : (read : List ℕ → Option Record) (w v : World) → IsSameFolder w v → IsAtHand read w → IsAtHand read v
+hand_moved read w v same h = record { tree = tree_still w v same.nodes h.tree; reads = h.reads }

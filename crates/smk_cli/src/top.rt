@@ -1,94 +1,35 @@
 //! The call that does what the words ask.
 
-ghost use Rattle.std.specs.Prelude.{◌≡◌, ◌⊎◌, ℕ, List as Items, Option, [], Some, None, Err, IfOk, IfErr, IsSome, map, string_bytes, true, false};
+ghost use Rattle.std.specs.Prelude.{◌≡◌, ◌⊎◌, ℕ, List as Items, Option, [], Some, None, Err, IfOk, IfErr, IsErr, IsSome, OnOk, is_ok, map, string_bytes, true, false};
 ghost use Rattle.smk_world.specs.World.{World};
-ghost use Rattle.smk_world.specs.Calls.{HasCause, Rose};
+ghost use Rattle.smk_world.specs.Calls.{HasCause, HasPut, Rose};
 ghost use Rattle.smk_record.specs.declared.record.Record.{Record as RecordValue};
-ghost use Rattle.smk_store.specs.Images.{seen};
-ghost use Rattle.smk_store.specs.Walking.{HasLooked};
 ghost use Rattle.smk_report.specs.declared.fault.Fault.{Fault as FaultValue};
 ghost use Rattle.smk_report.specs.Faults as report;
 ghost use Rattle.smk_run.specs.Reports.{HasWritten};
-ghost use Rattle.smk_run.specs.Runs.{AreRunnable};
-ghost use Rattle.smk_asked.specs.declared.words.RunWords.{RunWords};
+ghost use Rattle.smk_asked.specs.declared.words.Request.{Request as RequestValue};
 ghost use Rattle.smk_asked.specs.Words.{IsAsked};
 ghost use Rattle.smk_entry.specs.Faults.{device_failed, is_sink};
-ghost use Rattle.smk_cli.specs.Answers.{as_call};
+ghost use Rattle.smk_serve.specs.Ends.{HasEnded};
+ghost use Rattle.smk_serve.specs.Serving.{IsAtHand, HasKept, HasListed, Went};
 ghost use Rattle.smk_cli.specs.Faults as faults;
-ghost use Rattle.smk_cli.specs.Lines.{IsOutcome, IsFaultLine, is_output};
-ghost use Rattle.smk_cli.specs.Planning.{IsRefused};
-ghost use Rattle.smk_cli.specs.Serving.{HasEnded};
-ghost use Rattle.smk_cli.specs.Whole.{IsAtHand, IsRefusal, IsPlanFor, IsToRun, HasCarriedOut, Went, HasServed, HasRefused, IsAllDone};
+ghost use Rattle.smk_cli.specs.Lines.{IsOutcome, IsFaultLine};
+ghost use Rattle.smk_cli.specs.Whole.{IsRefusal, IsToServe, Serves, HasServed};
 
-use crate::closing::write_out;
-use crate::faults::{of_store, of_words};
+use crate::faults::of_words;
 use crate::outcome::Outcome;
-use crate::planning::{Plan, plan_for};
-use crate::running::run;
-use smk_asked::{RunWords, WordsFault, run_words};
-use smk_base::{List, OutOfMemory};
-use smk_entry::{Asked, ask};
+use smk_asked::{Request, RunWords, read_words};
+use smk_base::OutOfMemory;
+use smk_entry::ask;
 use smk_report::{Fault, fault_line};
-use smk_store::{Store, StoreFault, steady};
-use smk_world::{Crew, Sink};
+use smk_serve::{list_plan, make_targets};
+use smk_world::{Crew, Failed, Files, Sink};
 use std::alloc::Global;
 use std::thread::Threads;
 
-#[tactic(auto, using(crate::proofs::Sinks::store_no_sink))]
-fn of_steady(made: Result<(), StoreFault>) -> Result<(), Fault>
-    ensures is { result ≡ as_call faults.of_store made }
-    ensures no_sink { IfErr result (λ f. is_sink f ≡ false) }
-{
-    match made {
-        Ok(()) => Ok(()),
-        Err(fault) => Err(of_store(fault)),
-    }
-}
-
-// Makes firm what was found, and runs the jobs.
-fn carry_out<W: Crew, O: Sink>(
-    alloc: Global,
-    asked: &Asked,
-    plan: &Plan,
-    cores: u64,
-    work: &mut W,
-    out: &mut O,
-) -> Result<(), Fault>
-    requires none_runs { W.running work.old ≡ [] }
-    requires runnable { AreRunnable plan.now.jobs }
-    ensures ended { HasEnded result (W.world work.old) (W.world work.new) (W.faults work.old) (W.faults work.new) (W.running work.new) (O.faults out.old) (O.faults out.new) }
-    ensures carried { HasCarriedOut W.act cores result asked.now plan.now
-        (W.world work.old) (W.world work.new) (Rose (W.faults work.old) (W.faults work.new)) (W.running work.new) (O.put_so_far out.old) (O.put_so_far out.new) }
-{
-    let made = steady(alloc, work, &plan.store);
-    match of_steady(made) {
-        Err(fault) => Err(fault),
-        Ok(()) => run(alloc, asked, plan, cores, work, out),
-    }
-}
-
-// Makes the targets.
-fn make<W: Crew, O: Sink>(
-    alloc: Global,
-    asked: &Asked,
-    cores: u64,
-    work: &mut W,
-    out: &mut O,
-) -> Result<(), Fault>
-    requires none_runs { W.running work.old ≡ [] }
-    ensures ended { HasEnded result (W.world work.old) (W.world work.new) (W.faults work.old) (W.faults work.new) (W.running work.new) (O.faults out.old) (O.faults out.new) }
-    ensures went { (w : World) → W.world work.old ≡ Some w → (read : Items ℕ → Option RecordValue) → IsAtHand read w
-        → Went W.act cores result (IsRefused asked.now.flow asked.now.targets [] (seen read w)) (IsPlanFor read w asked.now)
-        (W.world work.old) (W.world work.new) (Rose (W.faults work.old) (W.faults work.new)) (W.running work.new) (O.put_so_far out.old) (O.put_so_far out.new) }
-{
-    match plan_for(alloc, asked, List::new(alloc), work) {
-        Err(fault) => Err(fault),
-        Ok(plan) => carry_out(alloc, asked, &plan, cores, work, out),
-    }
-}
-
-// Does what is asked for.
-fn serve_run<W: Crew, O: Sink>(
+// Makes what the words ask for.
+fn serve_run<W: Crew, O: Sink, Rt: Threads + Sync>(
+    rt: &Rt,
     alloc: Global,
     words: &RunWords,
     work: &mut W,
@@ -97,31 +38,71 @@ fn serve_run<W: Crew, O: Sink>(
     requires none_runs { W.running work.old ≡ [] }
     ensures ended { HasEnded result (W.world work.old) (W.world work.new) (W.faults work.old) (W.faults work.new) (W.running work.new) (O.faults out.old) (O.faults out.new) }
     ensures went { (w : World) → W.world work.old ≡ Some w → (read : Items ℕ → Option RecordValue) → IsAtHand read w
-        → Went W.act words.now.cores result (IsRefusal read words.now.targets w) (IsToRun read words.now.targets w)
+        → Went W.act words.now.cores result (IsRefusal read true words.now.targets words.now.cores w) (IsToServe read true words.now.targets words.now.cores w)
         (W.world work.old) (W.world work.new) (Rose (W.faults work.old) (W.faults work.new)) (W.running work.new) (O.put_so_far out.old) (O.put_so_far out.new) }
 {
-    match ask(alloc, work, &words.targets) {
+    match ask(alloc, true, work, &words.targets) {
         Err(fault) => Err(fault),
-        Ok(asked) => make(alloc, &asked, words.cores, work, out),
+        Ok(asked) => make_targets(rt, alloc, &asked, words.cores, work, out),
+    }
+}
+
+// Lists what a run of them would do.
+fn serve_listing<W: Files, O: Sink, Rt: Threads + Sync>(
+    rt: &Rt,
+    alloc: Global,
+    words: &RunWords,
+    work: &mut W,
+    out: &mut O,
+) -> Result<(), Fault>
+    requires none_runs { W.running work.old ≡ [] }
+    ensures ended { HasEnded result (W.world work.old) (W.world work.new) (W.faults work.old) (W.faults work.new) (W.running work.new) (O.faults out.old) (O.faults out.new) }
+    ensures kept { HasKept W.act (W.world work.old) (W.world work.new) }
+    ensures listed { (w : World) → W.world work.old ≡ Some w → (read : Items ℕ → Option RecordValue) → IsAtHand read w
+        → HasListed (IsRefusal read false words.now.targets 1 w) (IsToServe read false words.now.targets 1 w) (O.put_so_far out.old) (O.put_so_far out.new) result }
+{
+    match ask(alloc, false, work, &words.targets) {
+        Err(fault) => Err(fault),
+        Ok(asked) => list_plan(rt, alloc, &asked, work, out),
+    }
+}
+
+// Does what is asked for.
+fn serve_request<W: Crew, O: Sink, Rt: Threads + Sync>(
+    rt: &Rt,
+    alloc: Global,
+    request: &Request,
+    work: &mut W,
+    out: &mut O,
+) -> Result<(), Fault>
+    requires none_runs { W.running work.old ≡ [] }
+    ensures ended { HasEnded result (W.world work.old) (W.world work.new) (W.faults work.old) (W.faults work.new) (W.running work.new) (O.faults out.old) (O.faults out.new) }
+    ensures serves { (w : World) → W.world work.old ≡ Some w → (read : Items ℕ → Option RecordValue) → IsAtHand read w
+        → Serves W.act read w result (W.world work.old) (W.world work.new) (Rose (W.faults work.old) (W.faults work.new)) (W.running work.new) (O.put_so_far out.old) (O.put_so_far out.new) request.now }
+{
+    match request {
+        Request::Run(words) => serve_run(rt, alloc, words, work, out),
+        Request::Preview(words) => serve_listing(rt, alloc, words, work, out),
     }
 }
 
 // What the words ask for.
-fn read_words(alloc: Global, words: &[String]) -> Result<RunWords, Fault>
+fn requested(alloc: Global, words: &[String]) -> Result<Request, Fault>
     ensures ok { IfOk result (λ asked. IsAsked (map string_bytes words.now) asked) }
     ensures kind { IfErr result (λ f. (f ≡ Fault.BadWords) ⊎ (f ≡ Fault.OutOfMemory)) }
-    ensures bad { IfErr result (λ f. f ≡ Fault.BadWords → ¬ ((asked : RunWords) × IsAsked (map string_bytes words.now) asked)) }
+    ensures bad { IfErr result (λ f. f ≡ Fault.BadWords → ¬ ((asked : RequestValue) × IsAsked (map string_bytes words.now) asked)) }
     ensures no_device { device_failed result ≡ false }
     ensures no_sink { IfErr result (λ f. is_sink f ≡ false) }
 {
-    match run_words(alloc, words) {
+    match read_words(alloc, words) {
         Ok(asked) => Ok(asked),
         Err(fault) => Err(of_words(fault)),
     }
 }
 
 // Does what the words ask for.
-fn serve<W: Crew, O: Sink>(
+fn serve<W: Crew, O: Sink, Rt: Threads + Sync>(
+    rt: &Rt,
     alloc: Global,
     words: &[String],
     work: &mut W,
@@ -129,20 +110,29 @@ fn serve<W: Crew, O: Sink>(
 ) -> Result<(), Fault>
     requires none_runs { W.running work.old ≡ [] }
     ensures ended { HasEnded result (W.world work.old) (W.world work.new) (W.faults work.old) (W.faults work.new) (W.running work.new) (O.faults out.old) (O.faults out.new) }
-    ensures unread { ¬ ((asked : RunWords) × IsAsked (map string_bytes words.now) asked)
+    ensures unread { ¬ ((asked : RequestValue) × IsAsked (map string_bytes words.now) asked)
         → ((result ≡ Err Fault.BadWords) ⊎ (result ≡ Err Fault.OutOfMemory)) × (work.new ≡ work.old) × (out.new ≡ out.old) }
-    ensures went { (asked : RunWords) → IsAsked (map string_bytes words.now) asked → (w : World) → W.world work.old ≡ Some w
+    ensures serves { (asked : RequestValue) → IsAsked (map string_bytes words.now) asked → (w : World) → W.world work.old ≡ Some w
         → (read : Items ℕ → Option RecordValue) → IsAtHand read w
-        → Went W.act asked.cores result (IsRefusal read asked.targets w) (IsToRun read asked.targets w)
-        (W.world work.old) (W.world work.new) (Rose (W.faults work.old) (W.faults work.new)) (W.running work.new) (O.put_so_far out.old) (O.put_so_far out.new) }
+        → Serves W.act read w result (W.world work.old) (W.world work.new) (Rose (W.faults work.old) (W.faults work.new)) (W.running work.new) (O.put_so_far out.old) (O.put_so_far out.new) asked }
 {
-    match read_words(alloc, words) {
+    match requested(alloc, words) {
         Err(fault) => Err(fault),
-        Ok(asked) => serve_run(alloc, &asked, work, out),
+        Ok(request) => serve_request(rt, alloc, &request, work, out),
     }
 }
 
-/// Puts the line of a fault. A sink that fails loses the line alone; without memory for the line, that is the fault.
+// Puts the text, and hands it on.
+fn write_out<O: Sink>(out: &mut O, text: &str) -> Result<(), Failed>
+    ensures put { HasPut (O.put_so_far out.old) (O.put_so_far out.new) text.now (is_ok result) }
+    ensures cause { HasCause (O.faults out.old) (O.faults out.new) (IsErr result) }
+    ensures quiet { OnOk result (O.faults out.new ≡ O.faults out.old) }
+{
+    out.put(text.as_bytes())?;
+    out.flush()
+}
+
+// Puts the line of a fault. A sink that fails loses the line alone; without memory for the line, that is the fault.
 fn tell<O: Sink>(alloc: Global, answer: Result<(), Fault>, err: &mut O) -> Outcome
     ensures status { result.status ≡ report.status_of result.fault }
     ensures fault { IsOutcome (faults.fault_of answer) result.fault }
@@ -161,13 +151,14 @@ fn tell<O: Sink>(alloc: Global, answer: Result<(), Fault>, err: &mut O) -> Outco
     }
 }
 
-/// Does what the words ask: reads the workflow of the working folder, derives the jobs that make the targets, runs them one after another
-/// and reports to `out`; the line of a fault goes to `err`.
+/// Does what the words ask by the workflow of the working folder. For a run: makes the targets, by running the jobs that its plan has to be run or restored, one
+/// after another, and reports them and the targets to `out`. For a listing: tells the jobs of the plan to `out`, and changes nothing. The line of a fault
+/// goes to `err`.
 ///
-/// The status is 0 where all targets are made, 1 where a job failed, 2 where the words aren't read, 3 where the workflow, a target or a job is
-/// refused, 4 where the device failed, 5 where memory is wanting, 6 where `out` failed.
+/// The status is 0 where all is done, 1 where a job failed, 2 where the words aren't read, 3 where the workflow, a target, the plan or a job is refused, 4 where
+/// the device failed, 5 where memory is wanting, 6 where `out` failed.
 pub fn smk<W: Crew, O: Sink, Rt: Threads + Sync>(
-    _rt: &Rt,
+    rt: &Rt,
     alloc: Global,
     words: &[String],
     work: &mut W,
@@ -179,24 +170,14 @@ pub fn smk<W: Crew, O: Sink, Rt: Threads + Sync>(
     ensures status { result.status ≡ report.status_of result.fault }
 
     // words that aren't read are refused, and nothing is done
-    ensures unread { ¬ ((asked : RunWords) × IsAsked (map string_bytes words.now) asked)
+    ensures unread { ¬ ((asked : RequestValue) × IsAsked (map string_bytes words.now) asked)
         → ((result.fault ≡ Some Fault.BadWords) ⊎ (result.fault ≡ Some Fault.OutOfMemory)) × (work.new ≡ work.old) × (out.new ≡ out.old) }
 
-    // where the words ask for a run: the first refusal, and nothing is done; or the jobs that the targets call for are run, in order
-    ensures went { (asked : RunWords) → IsAsked (map string_bytes words.now) asked → (w : World) → W.world work.old ≡ Some w
+    // what is asked is served: it is refused, and nothing is done; or what its plan has to be run is run, in order; or the plan is listed
+    ensures serves { (asked : RequestValue) → IsAsked (map string_bytes words.now) asked → (w : World) → W.world work.old ≡ Some w
         → (read : Items ℕ → Option RecordValue) → IsAtHand read w
-        → HasServed W.act read asked.targets asked.cores w result.fault
+        → HasServed W.act read asked w result.fault
         (W.world work.old) (W.world work.new) (Rose (W.faults work.old) (W.faults work.new)) (W.running work.new) (O.put_so_far out.old) (O.put_so_far out.new) }
-
-    // where anything is refused, that is the fault, unless the device failed or memory is wanting, and nothing is done but looks
-    ensures stands { (asked : RunWords) → IsAsked (map string_bytes words.now) asked → (w : World) → W.world work.old ≡ Some w
-        → (read : Items ℕ → Option RecordValue) → IsAtHand read w → (f : FaultValue) → IsRefusal read asked.targets w f
-        → HasRefused W.act read asked.targets w result.fault (W.world work.old) (W.world work.new) (O.put_so_far out.old) (O.put_so_far out.new) }
-
-    // status 0 only where all jobs that the targets call for are done, and reported
-    ensures done { result.status ≡ 0 → (asked : RunWords) → IsAsked (map string_bytes words.now) asked → (w : World) → W.world work.old ≡ Some w
-        → (read : Items ℕ → Option RecordValue) → IsAtHand read w
-        → IsAllDone W.act read asked.targets asked.cores w (W.world work.old) (W.world work.new) (O.put_so_far out.old) (O.put_so_far out.new) }
 
     // no child runs at the end, unless a call failed
     ensures children { (W.running work.new ≡ []) ⊎ Rose (W.faults work.old) (W.faults work.new) }
@@ -212,6 +193,6 @@ pub fn smk<W: Crew, O: Sink, Rt: Threads + Sync>(
     ensures line { HasWritten (O.put_so_far err.old) (O.put_so_far err.new) (¬ Rose (O.faults err.old) (O.faults err.new))
         (IsFaultLine result.fault (Rose (O.faults err.old) (O.faults err.new))) }
 {
-    let answer = serve(alloc, words, work, out);
+    let answer = serve(rt, alloc, words, work, out);
     tell(alloc, answer, err)
 }

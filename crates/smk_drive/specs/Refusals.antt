@@ -17,7 +17,8 @@ use Rattle.smk_chain.specs.Derive.{Listings, Refused, Refusal, TooManyPaths, Dee
 use Rattle.smk_trigger.specs.declared.reason.State.{State}
 use Rattle.smk_trigger.specs.JobStates.{is_to_run, is_open}
 use Rattle.smk_pick.specs.Rooms.{amount, threads_in}
-use Rattle.smk_plan.specs.States.{Plan, Progress, IsPlan, new_listings, job_path, staged, test_some}
+use Rattle.smk_plan.specs.States.{Plan, Progress, IsPlan, new_listings, job_path, staged}
+use Rattle.smk_plan.specs.Sights.{is_guarded}
 use Rattle.smk_report.specs.declared.fault.Fault.{Fault}
 use Rattle.smk_report.specs.declared.fault.Fault.TheVariants as fault
 use Rattle.smk_drive.specs.Moments.{Rules, Moment, Begun, IsMoment, EachEvent, seen, progress_of, serial_of, begun_of, begins, staged_now}
@@ -33,11 +34,6 @@ IsFault flow (TwoJobs p a b) f = f ≡ fault.Ambiguous p (rule_name flow a) (rul
 IsFault flow (MissingMember p) f = f ≡ fault.MissingMember p
 IsFault flow (NoCommand rule) f = f ≡ fault.NoCommand (rule_name flow rule)
 IsFault flow (Clash p q) f = f ≡ fault.Clash p q
-
--- a read-only file stands at or under the path
-abbrev pub is_guarded : Image → Path → Bool
-is_guarded image p =
-    list_any (λ q. is_at_or_under q p && test_some (λ (f : Content). f.read_only) (file_at image q)) image.names
 
 abbrev pub has_nul : Text → Bool
 has_nul text = list_any (λ b. b == 0) text

@@ -1,5 +1,5 @@
 -- What is read, and what is asked of it.
-use Rattle.std.proofs.Common.{◌≡◌, List, [], ◌∷◌, map, Option, Some, None, Result, Ok, Err, inr, refl, ap, sym, subst, ◌∙◌}
+use Rattle.std.proofs.Common.{◌≡◌, Bool, List, [], ◌∷◌, map, Option, Some, None, Result, Ok, Err, inr, refl, ap, sym, subst, ◌∙◌}
 use Rattle.std.specs.Prelude.{option_map}
 use Rattle.smk_world.specs.Trees.{Path}
 use Rattle.smk_pattern.specs.Shapes.{Text}
@@ -13,7 +13,7 @@ use Rattle.smk_report.specs.declared.fault.Fault.{Fault}
 use Rattle.smk_report.specs.declared.fault.Fault.TheVariants.{BadTarget}
 use Rattle.smk_entry.specs.declared.reading.Reading.{Reading}
 use Rattle.smk_entry.specs.declared.asking.Asked.{Asked}
-use Rattle.smk_entry.specs.Forms.{unbuilt, not_built, or_else}
+use Rattle.smk_entry.specs.Forms.{unbuilt_for, not_built, or_else}
 use Rattle.smk_entry.specs.Names.{workflow_file}
 use Rattle.smk_entry.specs.Entry.{IsRead, IsReadIn, Asks, IsAskedIn, refused_word, asked_words}
 
@@ -21,22 +21,23 @@ pub read_both : (nodes : Nodes) (file : Path) (r : Result Reading Fault) → wor
 read_both nodes file (Ok reading) h k = (h ∙ ap Ok (sym k.0), subst (λ (p : Path). Gives (loaded nodes p []) (Ok reading.flow)) (sym k.0) k.1)
 read_both nodes file (Err f) h k = λ told. inr (file, h, k told)
 
-pub asked_both : (words : List Text) (nodes : Nodes) (reading : Reading) (r : Result Asked Fault) → IsRead nodes (Ok reading) → Asks words reading r → IsAskedIn words nodes r
-asked_both words nodes reading (Ok asked) h k =
+pub asked_both : (run : Bool) (words : List Text) (nodes : Nodes) (reading : Reading) (r : Result Asked Fault) → IsRead nodes (Ok reading) → Asks run words reading r → IsAskedIn run words nodes r
+asked_both run words nodes reading (Ok asked) h k =
     let is = k.0 in (
       subst (λ (x : Reading). IsRead nodes (Ok x)) (sym is) h,
-      subst (λ (x : Reading). refused_word words x ≡ None) (sym is) k.1,
+      subst (λ (x : Reading). refused_word run words x ≡ None) (sym is) k.1,
       k.2 ∙ ap (λ (x : Reading). all_paths x.flow (asked_words words x)) (sym is),
     )
-asked_both words nodes reading (Err f) h k = λ told. inr (reading, h, k told)
+asked_both run words nodes reading (Err f) h k = λ told. inr (reading, h, k told)
 
 -- a form that isn't built is refused
-pub refused_first : (words : List Text) (reading : Reading) (f : Fault) → option_map (not_built reading.file) (unbuilt reading.flow.rules) ≡ Some f → refused_word words reading ≡ Some f
-refused_first words reading f h = ap (λ o. or_else o (option_map BadTarget (first_bad reading.flow (asked_words words reading)))) h
+pub refused_first : (run : Bool) (words : List Text) (reading : Reading) (f : Fault) → option_map (not_built reading.file) (unbuilt_for run reading.flow.rules) ≡ Some f
+    → refused_word run words reading ≡ Some f
+refused_first run words reading f h = ap (λ o. or_else o (option_map BadTarget (first_bad reading.flow (asked_words words reading)))) h
 
-pub refused_then : (words : List Text) (reading : Reading) (o : Option Fault) → option_map (not_built reading.file) (unbuilt reading.flow.rules) ≡ None
-    → option_map BadTarget (first_bad reading.flow (asked_words words reading)) ≡ o → refused_word words reading ≡ o
-refused_then words reading o h k = ap (λ x. or_else x (option_map BadTarget (first_bad reading.flow (asked_words words reading)))) h ∙ k
+pub refused_then : (run : Bool) (words : List Text) (reading : Reading) (o : Option Fault) → option_map (not_built reading.file) (unbuilt_for run reading.flow.rules) ≡ None
+    → option_map BadTarget (first_bad reading.flow (asked_words words reading)) ≡ o → refused_word run words reading ≡ o
+refused_then run words reading o h k = ap (λ x. or_else x (option_map BadTarget (first_bad reading.flow (asked_words words reading)))) h ∙ k
 
 pub parts_again : (parts : List RulePart) → parts_of (map rule_of parts) ≡ parts
 parts_again [] = refl

@@ -1,5 +1,5 @@
 -- What words ask of the workflow of a folder.
-use Rattle.std.specs.Prelude.{◌≡◌, ◌⊎◌, true, List, [], Option, Some, None, option_map, Result, Ok, Err}
+use Rattle.std.specs.Prelude.{◌≡◌, ◌⊎◌, Bool, true, List, [], Option, Some, None, option_map, Result, Ok, Err}
 use Rattle.smk_world.specs.Trees.{Path}
 use Rattle.smk_pattern.specs.Shapes.{Text}
 use Rattle.smk_flow.specs.Targets.{words_of, all_paths, first_bad}
@@ -12,7 +12,7 @@ use Rattle.smk_report.specs.declared.fault.Fault.TheVariants.{BadTarget}
 use Rattle.smk_entry.specs.declared.reading.Reading.{Reading}
 use Rattle.smk_entry.specs.declared.asking.Asked.{Asked}
 use Rattle.smk_entry.specs.Faults.{is_told, of_load}
-use Rattle.smk_entry.specs.Forms.{unbuilt, not_built, or_else}
+use Rattle.smk_entry.specs.Forms.{unbuilt_for, not_built, or_else}
 use Rattle.smk_entry.specs.Names.{workflow_file}
 
 -- The file's workflow is refused so, as it reads in the folder.
@@ -44,25 +44,26 @@ Refuses refusal (Err f) = is_told f ≡ true → refusal ≡ Some f
 abbrev pub asked_words : List Text → Reading → List Text
 asked_words words reading = words_of reading.flow words
 
--- why nothing is to be made by a workflow that was read: a form that isn't built, or else a word that is no target
-abbrev pub refused_word : List Text → Reading → Option Fault
-refused_word words reading =
-    or_else (option_map (not_built reading.file) (unbuilt reading.flow.rules)) (option_map BadTarget (first_bad reading.flow (asked_words words reading)))
+-- why nothing is to be made by a workflow that was read: a form that no run can do yet, or else a word that is no target
+abbrev pub refused_word : Bool → List Text → Reading → Option Fault
+refused_word run words reading =
+    or_else (option_map (not_built reading.file) (unbuilt_for run reading.flow.rules)) (option_map BadTarget (first_bad reading.flow (asked_words words reading)))
 
 abbrev pub reading_of : Asked → Reading
 reading_of asked = record { file = asked.file; flow = asked.flow }
 
 -- What the words ask of a workflow that was read.
-abbrev pub Asks : List Text → Reading → Result Asked Fault → Type 0
-Asks words reading (Ok asked) = (reading_of asked ≡ reading) × (refused_word words reading ≡ None) × (asked.targets ≡ all_paths reading.flow (asked_words words reading))
-Asks words reading (Err f) = is_told f ≡ true → refused_word words reading ≡ Some f
+abbrev pub Asks : Bool → List Text → Reading → Result Asked Fault → Type 0
+Asks run words reading (Ok asked) = (reading_of asked ≡ reading) × (refused_word run words reading ≡ None) × (asked.targets ≡ all_paths reading.flow (asked_words words reading))
+Asks run words reading (Err f) = is_told f ≡ true → refused_word run words reading ≡ Some f
 
 -- All refusals before anything else is looked at: those of reading, and then those of what is read.
-abbrev pub FailsToAsk : List Text → Nodes → Fault → Type 0
-FailsToAsk words nodes f = FailsToRead nodes f ⊎ ((reading : Reading) × IsRead nodes (Ok reading) × (refused_word words reading ≡ Some f))
+abbrev pub FailsToAsk : Bool → List Text → Nodes → Fault → Type 0
+FailsToAsk run words nodes f = FailsToRead nodes f ⊎ ((reading : Reading) × IsRead nodes (Ok reading) × (refused_word run words reading ≡ Some f))
 
--- What the words ask of the workflow of the folder, or why they ask for nothing; unless the device failed or memory was short.
-abbrev pub IsAskedIn : List Text → Nodes → Result Asked Fault → Type 0
-IsAskedIn words nodes (Ok asked) =
-    IsRead nodes (Ok (reading_of asked)) × (refused_word words (reading_of asked) ≡ None) × (asked.targets ≡ all_paths asked.flow (asked_words words (reading_of asked)))
-IsAskedIn words nodes (Err f) = is_told f ≡ true → FailsToAsk words nodes f
+-- What the words ask of the workflow of the folder, for a run or for a listing, or why they ask for nothing; unless the device failed or memory was
+-- short.
+abbrev pub IsAskedIn : Bool → List Text → Nodes → Result Asked Fault → Type 0
+IsAskedIn run words nodes (Ok asked) =
+    IsRead nodes (Ok (reading_of asked)) × (refused_word run words (reading_of asked) ≡ None) × (asked.targets ≡ all_paths asked.flow (asked_words words (reading_of asked)))
+IsAskedIn run words nodes (Err f) = is_told f ≡ true → FailsToAsk run words nodes f

@@ -1,5 +1,5 @@
 -- Forms that are read and not built yet.
-use Rattle.std.specs.Prelude.{List, [], ◌∷◌, codes, Option, Some, None, is_some, if◌then◌else◌}
+use Rattle.std.specs.Prelude.{Bool, List, [], ◌∷◌, codes, Option, Some, None, is_some, if◌then◌else◌}
 use Rattle.smk_world.specs.Trees.{Path}
 use Rattle.smk_pattern.specs.Shapes.{Text}
 use Rattle.smk_flow.specs.declared.rule.RulePart.{RulePart}
@@ -46,6 +46,10 @@ unbuilt_in part = if part.checkpoint then Some (codes "checkpoint") else or_else
 abbrev pub unbuilt : List RulePart → Option Text
 unbuilt [] = None
 unbuilt (part ∷ parts) = or_else (unbuilt_in part) (unbuilt parts)
+
+-- what a run refuses; a listing refuses none of it
+abbrev pub unbuilt_for : Bool → List RulePart → Option Text
+unbuilt_for run parts = if run then unbuilt parts else None
 
 -- the fault of such a form, in the workflow of this file
 abbrev pub not_built : Path → Text → Fault

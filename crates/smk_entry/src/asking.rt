@@ -25,8 +25,8 @@ pub struct Asked {
     pub targets: List<PathText>,
 }
 
-// Refuses what isn't built.
-fn built(alloc: Global, reading: &Reading) -> Result<(), Fault>
+// Refuses what no run can do yet.
+fn all_built(alloc: Global, reading: &Reading) -> Result<(), Fault>
     ensures is { spec.Refuses (option_map (forms.not_built reading.now.file) (forms.unbuilt reading.now.flow.rules)) result }
     ensures no_device { device_failed result ≡ false }
     ensures no_sink { IfErr result (λ f. is_sink f ≡ false) }
@@ -34,6 +34,19 @@ fn built(alloc: Global, reading: &Reading) -> Result<(), Fault>
     match unbuilt(reading.flow.rules().as_slice()) {
         None => Ok(()),
         Some(word) => Err(not_built(alloc, &reading.file, word)?),
+    }
+}
+
+// The same, for a run; a listing refuses none of it.
+fn built(alloc: Global, run: bool, reading: &Reading) -> Result<(), Fault>
+    ensures is { spec.Refuses (option_map (forms.not_built reading.now.file) (forms.unbuilt_for run reading.now.flow.rules)) result }
+    ensures no_device { device_failed result ≡ false }
+    ensures no_sink { IfErr result (λ f. is_sink f ≡ false) }
+{
+    if run {
+        all_built(alloc, reading)
+    } else {
+        Ok(())
     }
 }
 
@@ -51,10 +64,15 @@ fn targets_of(alloc: Global, flow: &Workflow, words: &List<Text>) -> Result<List
     }
 }
 
-// What the words ask of a workflow whose forms are all built.
-fn asked_of(alloc: Global, reading: Reading, words: &List<Text>) -> Result<Asked, Fault>
-    requires built { forms.unbuilt reading.flow.rules ≡ None }
-    ensures is { spec.Asks words.now reading result }
+// What the words ask of a workflow in which no form is refused.
+fn asked_of(
+    alloc: Global,
+    run: bool,
+    reading: Reading,
+    words: &List<Text>,
+) -> Result<Asked, Fault>
+    requires built { forms.unbuilt_for run reading.flow.rules ≡ None }
+    ensures is { spec.Asks run words.now reading result }
     ensures no_device { device_failed result ≡ false }
     ensures no_sink { IfErr result (λ f. is_sink f ≡ false) }
 {
@@ -67,26 +85,37 @@ fn asked_of(alloc: Global, reading: Reading, words: &List<Text>) -> Result<Asked
 }
 
 // What the words ask of a workflow that was read.
-fn asked_in(alloc: Global, reading: Reading, words: &List<Text>) -> Result<Asked, Fault>
-    ensures is { spec.Asks words.now reading result }
+fn asked_in(
+    alloc: Global,
+    run: bool,
+    reading: Reading,
+    words: &List<Text>,
+) -> Result<Asked, Fault>
+    ensures is { spec.Asks run words.now reading result }
     ensures no_device { device_failed result ≡ false }
     ensures no_sink { IfErr result (λ f. is_sink f ≡ false) }
 {
-    match built(alloc, &reading) {
+    match built(alloc, run, &reading) {
         Err(fault) => Err(fault),
-        Ok(()) => asked_of(alloc, reading, words),
+        Ok(()) => asked_of(alloc, run, reading, words),
     }
 }
 
-/// What the words, rules' names and paths, ask of the workflow of the folder. Nothing in the folder changes. No child may run.
+/// What the words, rules' names and paths, ask of the workflow of the folder, for a run or else for a listing. Nothing in the folder changes. No child
+/// may run.
 ///
-/// The faults come in this order: those of `read_workflow`; `Unsupported` with line 1 of the workflow's file and the first form that isn't
-/// built yet, a word of `checkpoint`, `temp`, `protected`, `directory` and `from_checkpoint`; `BadTarget` with the first word that is no target.
+/// The faults come in this order: those of `read_workflow`; for a run `Unsupported` with line 1 of the workflow's file and the first form that no run can
+/// do yet, a word of `checkpoint`, `temp`, `protected`, `directory` and `from_checkpoint`; `BadTarget` with the first word that is no target.
 /// `Device` comes where the device failed, `OutOfMemory` where there is no memory for the workflow and its targets.
-pub fn ask<W: Files>(alloc: Global, work: &mut W, words: &List<Text>) -> Result<Asked, Fault>
+pub fn ask<W: Files>(
+    alloc: Global,
+    run: bool,
+    work: &mut W,
+    words: &List<Text>,
+) -> Result<Asked, Fault>
     requires none_runs { W.running work.old ≡ [] }
     ensures did { Did W.act (W.world work.old) (W.world work.new)
-        (HasSeen (device_failed result) (λ nodes. spec.IsAskedIn words.now nodes result)) }
+        (HasSeen (device_failed result) (λ nodes. spec.IsAskedIn run words.now nodes result)) }
     ensures stays { device_failed result ≡ false → IsSome (W.world work.old) → IsSome (W.world work.new) }
     ensures cause { HasCause (W.faults work.old) (W.faults work.new) (device_failed result ≡ true) }
     ensures running { W.running work.new ≡ W.running work.old }
@@ -94,6 +123,6 @@ pub fn ask<W: Files>(alloc: Global, work: &mut W, words: &List<Text>) -> Result<
 {
     match read_workflow(alloc, work) {
         Err(fault) => Err(fault),
-        Ok(reading) => asked_in(alloc, reading, words),
+        Ok(reading) => asked_in(alloc, run, reading, words),
     }
 }

@@ -1,15 +1,14 @@
--- What `finish` does of a job whose outputs are files is a run of the protocol that closes it.
-use Rattle.std.proofs.Common.{◌≡◌, ◌⊎◌, inl, inr, ℕ, Bool, true, false, ◌&&◌, ◌||◌, not, List, [], ◌∷◌, ◌++◌, map, length, filter, refl, sym, ap, subst, ◌∙◌, append_assoc, bytes_eq, Option, Some, None, Ok, Err}
-use Rattle.std.specs.Prelude.{IsTrue, if◌then◌else◌, option_map, nat_le}
-use Rattle.std.specs.List.{list_any}
-use Rattle.smk_base.specs.Path.{is_path, is_at_or_under, own_folder, is_under}
+-- What `finish` does is a run of the protocol: one that closes the job, or one that ends where a call failed.
+use Rattle.std.proofs.Common.{◌≡◌, ◌⊎◌, inl, inr, ℕ, Bool, true, false, not, List, [], ◌∷◌, ◌++◌, map, filter, refl, sym, ap, subst, ◌∙◌, append_assoc, append-nil, Some, None}
+use Rattle.std.specs.Prelude.{IsTrue, if◌then◌else◌, option_map}
+use Rattle.std.specs.List.{list_all}
+use Rattle.smk_base.specs.Path.{is_path, is_at_or_under, own_folder}
 use Rattle.smk_base.specs.Place.{mark_place, record_place}
 use Rattle.smk_base.specs.declared.tree.Tree.{Tree}
 use Rattle.smk_base.specs.declared.tree.Tree.TheVariants.{File, Folder}
 use Rattle.smk_base.specs.declared.tree.TreeEntry.{TreeEntry}
-use Rattle.smk_base.proofs.Places.{and_first, same_place, place_itself}
-use Rattle.smk_base.proofs.Apart.{path_outside, path-record, same_record}
-use Rattle.smk_world.specs.declared.event.Node.{Node}
+use Rattle.smk_base.proofs.Places.{and_first, and_second}
+use Rattle.smk_base.proofs.Apart.{path_outside, path-record}
 use Rattle.smk_world.specs.declared.event.Node.TheVariants.{Regular, Directory}
 use Rattle.smk_world.specs.declared.event.NodeState.{NodeState}
 use Rattle.smk_world.specs.declared.event.NodeState.TheVariants.{Owned, Known}
@@ -22,51 +21,37 @@ use Rattle.smk_world.specs.declared.recipe.Kind.TheVariants.{Plain, Folder as Fo
 use Rattle.smk_world.specs.declared.recipe.Kind.{Kind}
 use Rattle.smk_world.specs.declared.recipe.Out.{Out}
 use Rattle.smk_world.specs.declared.recipe.Recipe.{Recipe}
-use Rattle.smk_world.specs.World.{World, after, run, reading, node_after, with_folder}
-use Rattle.smk_world.specs.Calls.{Acted, HoldsBytes, failed}
+use Rattle.smk_world.specs.World.{World, IsFormed, after, run, reading, reads_folder, node_after}
+use Rattle.smk_world.specs.Calls.{Acted}
 use Rattle.smk_world.specs.Runs.{Follows}
-use Rattle.smk_world.specs.Requests.{Request, request, HasDone}
-use Rattle.smk_world.specs.Requests.Request.{Look, MakeParents, Write, Settle}
-use Rattle.smk_world.specs.Trees.{Path, Each, IsIn, among, is_good, is_path_text, is_text, outs_of, folders_of, is_folder_kind}
+use Rattle.smk_world.specs.Requests.{Request, request, Carries}
+use Rattle.smk_world.specs.Requests.Request.{Look, Settle}
+use Rattle.smk_world.specs.Trees.{Path, Each, IsIn, among, is_good, is_path_text, is_text, are_members, below, outs_of, folders_of, is_folder_kind}
+use Rattle.smk_world.proofs.Names.{formed_run}
 use Rattle.smk_record.specs.declared.record.Member.{Member}
-use Rattle.smk_record.specs.declared.record.Record.{Record}
-use Rattle.smk_record.specs.Records.{is_valid, core, members_of}
-use Rattle.smk_store.specs.declared.store.Kept.TheVariants.{Absent, Unreadable, Held}
-use Rattle.smk_store.specs.Images.{is_directory, bytes_of, kept_by, for_path, readable, members_under, tree_now, entry_under, names_under}
+use Rattle.smk_record.specs.Records.{are_valid_members, are_none}
+use Rattle.smk_store.specs.Images.{Image, is_directory, is_folder, bytes_of, members_under, entry_under, names_under, tree_now}
 use Rattle.smk_store.specs.Soundness.{Outside}
 use Rattle.smk_store.specs.Steps.{write_each, remove_each}
-use Rattle.smk_protocol.specs.Protocol.{OpenJob, RunState, Phase, Ended, Firm, Recorded, Runs, Done, Next, Aside, Look as LookMove, Go, Close, Moves, MakeFolders, AllMade, Write as WriteMove, AllWritten, Unmark, Closes, AllUnmarked, outputs, record_places, record_of, listed_of, now, IsLook, IsGood, IsWritten, IsAbsent}
-use Rattle.smk_protocol.proofs.Basics.{each_of, each_in}
-use Rattle.smk_job.specs.Jobs.{bare_bytes, bytes_with}
+use Rattle.smk_protocol.specs.Protocol.{OpenJob, RunState, Phase, Ended, Runs, Done, Next, Aside, Fail, Look as LookMove, outputs, record_places, listed_of, record_of, as_ok, now, runs, is_running, IsLook, IsGood}
+use Rattle.smk_protocol.proofs.Basics.{each_of, each_in, filter_in, in_filter, in_among}
+use Rattle.smk_protocol.proofs.Calls.{in_map}
+use Rattle.smk_members.specs.Members.{AreMembers, AllIsFound}
+use Rattle.smk_job.specs.Jobs.{bytes_with, finish_requests, abandon_requests}
 use Rattle.smk_job.specs.declared.fault.CloseFault.{CloseFault}
-use Rattle.smk_job.specs.Sights.{IsSeenWrong, Nodes, reads_file, IsOfKind, IsListing, AreLooks, AreSeen, is_folder_out, nones}
-use Rattle.smk_job.specs.Laws.{LosingRuns, as_underway, IsReadBack, FinishingRuns}
-use Rattle.smk_job.proofs.Single.{IsKnown, step_known, step_keeps, written}
+use Rattle.smk_job.specs.Sights.{IsSeenWrong, Nodes, reads_file, IsOfKind, IsListing, AreLooks, AreSeen, IsBlind, AreLookedAt, EndsFailed, HasSeen}
+use Rattle.smk_job.specs.Laws.{MayFinish, IsRecordable, as_underway, stopped, FinishingRuns, FinishingPartsRun, LookingRuns, LosingRuns, AbandoningRuns}
+use Rattle.smk_job.proofs.Single.{IsKnown}
 use Rattle.smk_job.proofs.Firmly.{known_own}
-use Rattle.smk_job.proofs.Finishing.{bare_records}
 use Rattle.smk_job.proofs.Outs.{paths_same}
-use Rattle.smk_job.proofs.Abandoning.{abandoning_runs, removed_call, settled_call, in_map, among_by, absent_now, absent_still}
-use Rattle.smk_job.proofs.Beginning.{parents_call, stepped}
+use Rattle.smk_job.proofs.Abandoning.{among_by}
+use Rattle.smk_job.proofs.Abandoning as abandoning
+use Rattle.smk_job.proofs.Readable.{AreFor, read_back, outputs_paths}
+use Rattle.smk_job.proofs.Still.{IsStill, still_itself, still_members}
+use Rattle.smk_job.proofs.Onward.{AreListed, full_of, halted, without, keeps_all, loses_all}
 
 true_false : true ≡ false → ⊥
 true_false e = cc
-
-written_call : (call : Call) (p : Path) (bytes : List ℕ) → request call ≡ Write p bytes → failed call ≡ false → call ≡ Written p bytes (Ok tt)
-written_call (Written x held (Ok u)) p bytes is quiet =
-    let e : x ≡ p = cc in
-    let f : held ≡ bytes = cc in
-    λ i. Written (e i) (f i) (Ok tt)
-written_call (Written x held (Err e)) p bytes is quiet = absurd (true_false quiet)
-written_call (Looked x r) p bytes is quiet = cc
-written_call (ReadFile x limit r) p bytes is quiet = cc
-written_call (ReadFolder x r) p bytes is quiet = cc
-written_call (Created x r) p bytes is quiet = cc
-written_call (MadeParents x r) p bytes is quiet = cc
-written_call (Removed x r) p bytes is quiet = cc
-written_call (Settled xs r) p bytes is quiet = cc
-written_call (Protected x r) p bytes is quiet = cc
-written_call (Started recipe logs command r) p bytes is quiet = cc
-written_call (Waited r) p bytes is quiet = cc
 
 -- ## Looks
 
@@ -143,43 +128,82 @@ follows_rest : (act : Recipe → List Tree → Acted) (es fs : List Event) (w : 
 follows_rest act [] fs w h = h
 follows_rest act (e ∷ es) fs w h = follows_rest act es fs (after w e) h.1
 
--- ## Files
+looks_wrong : (o : Outside) (nodes : Nodes) (outs : List Out) (fault : CloseFault) (es : List Event) → IsSeenWrong nodes outs fault es → Looks o es
+looks_wrong o nodes [] fault es h = absurd h
+looks_wrong o nodes (out ∷ outs) fault es (first, more, e, l, q, inl (none, wrong)) =
+    subst (Looks o) (sym e) (looks_append o first more (looks_at o out first l) (subst (Looks o) (sym none) tt))
+looks_wrong o nodes (out ∷ outs) fault es (first, more, e, l, q, inr (m, k, rest)) =
+    subst (Looks o) (sym e) (looks_append o first more (looks_at o out first l) (looks_wrong o nodes outs fault more rest))
 
-or_left : (a b : Bool) → (a || b) ≡ false → a ≡ false
-or_left true b h = h
-or_left false b h = refl
+looks_some : (o : Outside) (outs : List Out) (es : List Event) → AreLookedAt outs es → Looks o es
+looks_some o [] es h = subst (Looks o) (sym h) tt
+looks_some o (out ∷ outs) es (inl none) = subst (Looks o) (sym none) tt
+looks_some o (out ∷ outs) es (inr (first, more, e, l, q, rest)) = subst (Looks o) (sym e) (looks_append o first more (looks_at o out first l) (looks_some o outs more rest))
 
-or_right : (a b : Bool) → (a || b) ≡ false → b ≡ false
-or_right true b h = cc
-or_right false b h = h
+pub looking_runs : LookingRuns
+looking_runs o s outs w es calm looked =
+    subst (λ fs. Runs o s w fs s) (append-nil es) (look_all o s calm es w [] s (looks_some o outs es looked) (Done s (run w es)))
 
-no_members : (nodes : Nodes) (outs : List Out) (ms : List (List Member)) (es : List Event) → list_any is_folder_out outs ≡ false → AreSeen nodes outs ms es → ms ≡ nones outs
-no_members nodes [] [] es plain h = refl
-no_members nodes [] (m ∷ ms) es plain h = absurd h
-no_members nodes (out ∷ outs) [] es plain h = absurd h
-no_members nodes (out ∷ outs) (m ∷ ms) es plain (first, more, e, l, q, k, rest) =
-    let none : m ≡ [] = of_kind out.kind (or_left (is_folder_out out) (list_any is_folder_out outs) plain) k in
-    λ i. none i ∷ no_members nodes outs ms more (or_right (is_folder_out out) (list_any is_folder_out outs) plain) rest i
-  where
-    of_kind : (kind : Kind) → is_folder_kind kind ≡ false → IsOfKind nodes out.path kind m → m ≡ []
-    of_kind Plain h k = k.1
-    of_kind FolderKind h k = absurd (true_false h)
+-- ## A look that fails
 
-each_file : (nodes : Nodes) (outs : List Out) (ms : List (List Member)) (es : List Event) → list_any is_folder_out outs ≡ false → AreSeen nodes outs ms es → Each (λ (out : Out). (out.kind ≡ Plain) × (reads_file (nodes out.path) ≡ true)) outs
-each_file nodes [] ms es plain h = tt
-each_file nodes (out ∷ outs) [] es plain h = absurd h
-each_file nodes (out ∷ outs) (m ∷ ms) es plain (first, more, e, l, q, k, rest) =
-    (of_kind out.kind (or_left (is_folder_out out) (list_any is_folder_out outs) plain) k, each_file nodes outs ms more (or_right (is_folder_out out) (list_any is_folder_out outs) plain) rest)
-  where
-    of_kind : (kind : Kind) → is_folder_kind kind ≡ false → IsOfKind nodes out.path kind m → (kind ≡ Plain) × (reads_file (nodes out.path) ≡ true)
-    of_kind Plain h k = (refl, k.0)
-    of_kind FolderKind h k = absurd (true_false h)
+looks_split : (o : Outside) (es fs : List Event) → Looks o (es ++ fs) → Looks o es × Looks o fs
+looks_split o [] fs h = (tt, h)
+looks_split o (e ∷ es) fs h = let more = looks_split o es fs h.1 in ((h.0, more.0), more.1)
 
-no_folders : (outs : List Out) → list_any is_folder_out outs ≡ false → map (λ (out : Out). out.path) (filter (λ (out : Out). is_folder_kind out.kind) outs) ≡ []
-no_folders [] h = refl
-no_folders (out ∷ outs) h =
-    ap (λ (b : Bool). map (λ (o : Out). o.path) (if b then out ∷ filter (λ (o : Out). is_folder_kind o.kind) outs else filter (λ (o : Out). is_folder_kind o.kind) outs)) (or_left (is_folder_out out) (list_any is_folder_out outs) h)
-    ∙ no_folders outs (or_right (is_folder_out out) (list_any is_folder_out outs) h)
+look_ok : (o : Outside) (call : Call) → IsLook o call → IsLook o (as_ok call)
+look_ok o (Looked x r) h = tt
+look_ok o (ReadFile x limit r) h = tt
+look_ok o (ReadFolder x r) h = tt
+look_ok o (Written x bytes r) h = absurd h
+look_ok o (Created x r) h = absurd h
+look_ok o (Removed x r) h = absurd h
+look_ok o (MadeParents x r) h = absurd h
+look_ok o (Settled xs r) h = absurd h
+look_ok o (Protected x r) h = absurd h
+look_ok o (Started recipe logs command r) h = absurd h
+look_ok o (Waited r) h = absurd h
+
+-- the last of these looks fails
+fails_last : (o : Outside) (s : RunState) → s.faulted ≡ false → (w : World) (es : List Event) → Looks o es → EndsFailed es → Runs o s w es (stopped o s)
+fails_last o s calm w es looks (before, last, e, quiet, bad) =
+    let both = looks_split o before (last ∷ []) (subst (Looks o) e looks) in
+    subst (λ fs. Runs o s w fs (stopped o s)) (sym e)
+    (look_all o s calm before w (last ∷ []) (stopped o s) both.0
+    (Next s (stopped o s) (stopped o s) (run w before) last [] (Fail last s bad (Aside (record last { call = as_ok last.call }) calm (LookMove (as_ok last.call) (look_ok o last.call both.1.0))))
+    (Done (stopped o s) (after (run w before) last))))
+
+blind_runs : (o : Outside) (s : RunState) → s.faulted ≡ false → (outs : List Out) (w : World) (es : List Event) → IsBlind outs es → Runs o s w es (stopped o s)
+blind_runs o s calm [] w es h = absurd h
+blind_runs o s calm (out ∷ outs) w es (first, more, e, l, inl (none, bad)) =
+    subst (λ fs. Runs o s w fs (stopped o s)) (sym (e ∙ ap (λ t. first ++ t) none ∙ append-nil first)) (fails_last o s calm w first (looks_at o out first l) bad)
+blind_runs o s calm (out ∷ outs) w es (first, more, e, l, inr (quiet, rest)) =
+    subst (λ fs. Runs o s w fs (stopped o s)) (sym e)
+    (look_all o s calm first w more (stopped o s) (looks_at o out first l) (blind_runs o s calm outs (run w first) more rest))
+
+-- ## What was seen at the outputs
+
+-- each output is of its kind, with these members
+abbrev AreOfKind : Nodes → List Out → List (List Member) → Type 0
+AreOfKind nodes [] [] = Unit {0}
+AreOfKind nodes [] (m ∷ ms) = ⊥
+AreOfKind nodes (out ∷ outs) [] = ⊥
+AreOfKind nodes (out ∷ outs) (m ∷ ms) = IsOfKind nodes out.path out.kind m × AreOfKind nodes outs ms
+
+kinds_of : (nodes : Nodes) (outs : List Out) (ms : List (List Member)) (es : List Event) → AreSeen nodes outs ms es → AreOfKind nodes outs ms
+kinds_of nodes [] [] es h = tt
+kinds_of nodes [] (m ∷ ms) es h = absurd h
+kinds_of nodes (out ∷ outs) [] es h = absurd h
+kinds_of nodes (out ∷ outs) (m ∷ ms) es (first, more, e, l, q, k, rest) = (k, kinds_of nodes outs ms more rest)
+
+abbrev HasKind : Nodes → Out → Type 0
+HasKind nodes out = (m : List Member) × IsOfKind nodes out.path out.kind m
+
+each_kind : (nodes : Nodes) (outs : List Out) (ms : List (List Member)) → AreOfKind nodes outs ms → Each (HasKind nodes) outs
+each_kind nodes [] ms h = tt
+each_kind nodes (out ∷ outs) [] h = absurd h
+each_kind nodes (out ∷ outs) (m ∷ ms) h = ((m, h.0), each_kind nodes outs ms h.1)
+
+-- ## Good outputs
 
 good_by : (p : Path) (entries : List TreeEntry) (b : Bool) (st : NodeState) → b ≡ true → reads_file st ≡ true
     → is_good p Plain (if is_directory (if b then reading st else None) then Some (Folder entries) else option_map File (bytes_of (if b then reading st else None))) ≡ true
@@ -199,210 +223,285 @@ good_file o w out kind path file =
     (good_by out.path (map (entry_under (now o w) out.path) (names_under (now o w) out.path)) (not (is_at_or_under out.path own_folder)) (w.nodes out.path)
     (not_of (is_at_or_under out.path own_folder) (path_outside out.path (and_first (is_path out.path) (is_text out.path) path))) file)
 
--- ## Records
+good_folder_by : (p : Path) (entries : List TreeEntry) (b : Bool) (st : NodeState) → b ≡ true → reads_folder st ≡ true → are_members p (map (λ (e : TreeEntry). e.name) entries) ≡ true
+    → is_good p FolderKind (if is_directory (if b then reading st else None) then Some (Folder entries) else option_map File (bytes_of (if b then reading st else None))) ≡ true
+good_folder_by p entries false st e h k = absurd (true_false (sym e))
+good_folder_by p entries true Owned e h k = absurd (true_false (sym h))
+good_folder_by p entries true (Known None besides) e h k = absurd (true_false (sym h))
+good_folder_by p entries true (Known (Some Directory) besides) e h k = k
+good_folder_by p entries true (Known (Some (Regular bytes time read_only)) besides) e h k = absurd (true_false (sym h))
 
--- the job's record is written there
-abbrev HasRecord : OpenJob → World → Path → Type 0
-HasRecord j w p = (time : ℕ) × (read_only : Bool) × (reading (w.nodes (record_place p)) ≡ Some (Regular (bare_bytes j.serial j.recipe j.stamps p) time read_only))
+entry_names : (image : Image) (p : Path) (qs : List Path)
+    → map (λ (e : TreeEntry). e.name) (map (entry_under image p) qs) ≡ map (λ (m : Member). m.name) (map (λ q. record { folder = is_folder image q; name = below p q }) qs)
+entry_names image p [] = refl
+entry_names image p (q ∷ qs) = ap (λ t. below p q ∷ t) (entry_names image p qs)
 
-holds_reading : (bytes : List ℕ) (st : NodeState) → HoldsBytes bytes st → (time : ℕ) × (read_only : Bool) × (reading st ≡ Some (Regular bytes time read_only))
-holds_reading bytes Owned h = absurd h
-holds_reading bytes (Known None besides) h = absurd h
-holds_reading bytes (Known (Some Directory) besides) h = absurd h
-holds_reading bytes (Known (Some (Regular held time read_only)) besides) h = (time, read_only, ap (λ b. Some (Regular b time read_only)) h)
+good_folder : (o : Outside) (w : World) (out : Out) (members : List Member) → out.kind ≡ FolderKind → IsTrue (is_path_text out.path) → reads_folder (w.nodes out.path) ≡ true
+    → are_valid_members out.path members ≡ true → members ≡ members_under (now o w) out.path → IsGood o w out
+good_folder o w out members kind path folder valid same =
+    let names : are_members out.path (map (λ (m : Member). m.name) members) ≡ true = and_first (are_members out.path (map (λ (m : Member). m.name) members)) _ valid in
+    subst (λ k. IsTrue (is_good out.path k (tree_now (now o w) out.path))) (sym kind)
+    (good_folder_by out.path (map (entry_under (now o w) out.path) (names_under (now o w) out.path)) (not (is_at_or_under out.path own_folder)) (w.nodes out.path)
+    (not_of (is_at_or_under out.path own_folder) (path_outside out.path (and_first (is_path out.path) (is_text out.path) path))) folder
+    (ap (are_members out.path) (entry_names (now o w) out.path (names_under (now o w) out.path) ∙ ap (map (λ (m : Member). m.name)) (sym same)) ∙ names))
 
-folder_kept : (b : Bool) (st : NodeState) (n : Node) → reading st ≡ Some n → reading (if b then with_folder st else st) ≡ Some n
-folder_kept true Owned n h = cc
-folder_kept true (Known None besides) n h = cc
-folder_kept true (Known (Some m) besides) n h = h
-folder_kept false st n h = h
+-- ## Which outputs are directories
+
+folder_among : (outs : List Out) (out : Out) → IsIn outs out → is_folder_kind out.kind ≡ true
+    → IsIn (map (λ (x : Out). x.path) (filter (λ (x : Out). is_folder_kind x.kind) outs)) out.path
+folder_among outs out i kind = mapped (filter (λ (x : Out). is_folder_kind x.kind) outs) (filter_in (λ (x : Out). is_folder_kind x.kind) outs out i kind)
+  where
+    mapped : (xs : List Out) → IsIn xs out → IsIn (map (λ (x : Out). x.path) xs) out.path
+    mapped [] k = absurd k
+    mapped (x ∷ xs) (inl e) = inl (ap (λ (y : Out). y.path) e)
+    mapped (x ∷ xs) (inr k) = inr (mapped xs k)
+
+among_folder : (outs : List Out) (p : Path) → among (map (λ (x : Out). x.path) (filter (λ (x : Out). is_folder_kind x.kind) outs)) p ≡ true
+    → (out : Out) × IsIn outs out × (is_folder_kind out.kind ≡ true) × (p ≡ out.path)
+among_folder outs p h =
+    let a = in_map (λ (x : Out). x.path) (filter (λ (x : Out). is_folder_kind x.kind) outs) p (in_among (map (λ (x : Out). x.path) (filter (λ (x : Out). is_folder_kind x.kind) outs)) p h) in
+    let b = in_filter (λ (x : Out). is_folder_kind x.kind) outs a.0 a.1 in
+    (a.0, b.0, b.1, a.2)
+
+file_or_folder : (st : NodeState) → reads_file st ≡ true → reads_folder st ≡ true → ⊥
+file_or_folder Owned h k = true_false (sym h)
+file_or_folder (Known None besides) h k = true_false (sym h)
+file_or_folder (Known (Some Directory) besides) h k = true_false (sym h)
+file_or_folder (Known (Some (Regular bytes time read_only)) besides) h k = true_false (sym k)
+
+out_path : (outs : List Out) (p : Path) → IsIn (map (λ (x : Out). x.path) outs) p → (out : Out) × IsIn outs out × (p ≡ out.path)
+out_path outs p i = in_map (λ (x : Out). x.path) outs p i
+
+path_in : (outs : List Out) (out : Out) → IsIn outs out → IsIn (map (λ (x : Out). x.path) outs) out.path
+path_in [] out i = absurd i
+path_in (x ∷ outs) out (inl e) = inl (ap (λ (y : Out). y.path) e)
+path_in (x ∷ outs) out (inr i) = inr (path_in outs out i)
+
+text_in : (ps : List Path) (p : Path) → list_all is_path_text ps ≡ true → IsIn ps p → is_path_text p ≡ true
+text_in [] p h i = absurd i
+text_in (q ∷ ps) p h (inl e) = subst (λ x. is_path_text x ≡ true) (sym e) (and_first (is_path_text q) (list_all is_path_text ps) h)
+text_in (q ∷ ps) p h (inr i) = text_in ps p (and_second (is_path_text q) (list_all is_path_text ps) h) i
 
 bool_cases : (b : Bool) → (b ≡ true) ⊎ (b ≡ false)
 bool_cases true = inl refl
 bool_cases false = inr refl
 
-held_by : (read : List ℕ → Option Record) (p : Path) (r : Record) (bytes : List ℕ) (time : ℕ) (read_only : Bool) → read bytes ≡ Some r → nat_le (length bytes) 33554432 ≡ true → r.path ≡ p → is_valid r ≡ true
-    → kept_by read p (Some (Regular bytes time read_only)) ≡ Held r
-held_by read p r bytes time read_only reads short at valid =
-    ap (λ (b : Bool). if b then for_path p (read bytes) else Unreadable) short ∙ ap (for_path p) reads
-    ∙ ap (λ (b : Bool). if b then Held r else Unreadable) (both (bytes_eq r.path p) (is_valid r) (subst (λ q. bytes_eq r.path q ≡ true) at (place_itself r.path)) valid)
-  where
-    both : (a b : Bool) → a ≡ true → b ≡ true → (a && b) ≡ true
-    both true b h k = k
-    both false b h k = absurd (true_false (sym h))
+-- ## An open job whose outputs were seen
 
-is_record : (o : Outside) (j : OpenJob) (p : Path) (time : ℕ) (read_only : Bool) → IsReadBack o j p → kept_by o.read p (Some (Regular (bare_bytes j.serial j.recipe j.stamps p) time read_only)) ≡ Held (record_of j p)
-is_record o j p time read_only back = held_by o.read p (record_of j p) (bare_bytes j.serial j.recipe j.stamps p) time read_only back.reads back.short refl back.valid
+module _ (o : Outside) (j : OpenJob) (number : ℕ) (w : World) (may : MayFinish o w j) (ms : List (List Member)) (looks : List Event) (seen : AreSeen w.nodes (outs_of j.recipe) ms looks) where
+  abbrev u : World
+  u = run w looks
 
-none_listed : (j : OpenJob) (p : Path) (ms : List Member) → folders_of j.recipe ≡ [] → listed_of j p ms ≡ []
-none_listed j p ms none = ap (λ ps. if among ps p then ms else []) none
+  abbrev outs : List Out
+  outs = outs_of j.recipe
 
-kept_there : (o : Outside) (j : OpenJob) (w : World) (p : Path) → IsTrue (is_path_text p) → IsReadBack o j p → HasRecord j w p → (now o w).kept p ≡ Held (record_of j p)
-kept_there o j w p path back (time, read_only, there) =
-    ap (λ (b : Bool). if b then kept_by o.read p (reading (w.nodes (record_place p))) else Absent) path ∙ ap (kept_by o.read p) there ∙ is_record o j p time read_only back
+  -- the members that an output's record is to have
+  abbrev members_at : Path → List Member
+  members_at p = listed_of j p (members_under (now o u) p)
 
-is_written : (o : Outside) (j : OpenJob) (w : World) (p : Path) → folders_of j.recipe ≡ [] → IsTrue (is_path_text p) → IsReadBack o j p → HasRecord j w p → IsWritten o w j p
-is_written o j w p none path back there =
-    let kept = kept_there o j w p path back there in
-    (ap (λ k. option_map core (readable k)) kept, ap (λ k. members_of (readable k)) kept ∙ sym (none_listed j p (members_under (now o w) p) none))
+  same : u.nodes ≡ w.nodes
+  same = nodes_same o looks w (looks_of o w.nodes outs ms looks seen)
 
--- ## One job of a run
+  kinds : AreOfKind u.nodes outs ms
+  kinds = subst (λ ns. AreOfKind ns outs ms) (sym same) (kinds_of w.nodes outs ms looks seen)
 
-module _ (o : Outside) (s : RunState) (js ks : List OpenJob) (j : OpenJob) (calm : s.faulted ≡ false) where
-  abbrev at_phase : Phase → RunState
-  at_phase phase = record s { jobs = js ++ (record j { phase = phase }) ∷ ks }
+  formed : IsFormed u
+  formed = formed_run w looks may.formed
 
-  closes : (w : World) (es : List Event) → ((p : Path) → IsIn (map mark_place (outputs j)) p → IsAbsent w p)
-      → HasDone (Settle (map mark_place (outputs j)) ∷ []) es → Runs o (at_phase Recorded) w es (record s { jobs = js ++ ks })
-  closes w [] gone done = absurd done
-  closes w (e ∷ (f ∷ es)) gone done = absurd done.2
-  closes w (e ∷ []) gone done =
-      Next (at_phase Recorded) (record s { jobs = js ++ ks }) (record s { jobs = js ++ ks }) w e []
-      (Close e js ks (record j { phase = Recorded }) refl calm
-      (subst (λ c. Closes o w (record j { phase = Recorded }) c) (sym (settled_call e.call (map mark_place (outputs j)) done.0 done.1))
-      (AllUnmarked (map mark_place (outputs j)) (inl refl) (each_of (λ p. IsAbsent w (mark_place p)) (outputs j) (λ p i. gone (mark_place p) (in_map mark_place (outputs j) p i)))
-      (each_of (λ p. IsTrue (among (map mark_place (outputs j)) p)) (map mark_place (outputs j)) (λ p i. among_by (map mark_place (outputs j)) p i)))))
-      (Done (record s { jobs = js ++ ks }) (after w e))
+  found : Each (AllIsFound u.nodes) (folders_of j.recipe)
+  found = subst (λ ns. Each (AllIsFound ns) (folders_of j.recipe)) (sym same) may.found
 
-  unmarks : (ps : List Path) (w : World) (es : List Event) (qs : List Request) (end : RunState)
-      → ((p : Path) → IsIn ps p → IsIn (outputs j) p) → Follows o.act w es → HasDone (remove_each (map mark_place ps) ++ qs) es
-      → ((v : World) (fs : List Event) → ((x : Path) → IsIn (map mark_place ps) x ⊎ IsAbsent w x → IsAbsent v x) → Follows o.act v fs → HasDone qs fs → Runs o (at_phase Recorded) v fs end)
-      → Runs o (at_phase Recorded) w es end
-  unmarks [] w es qs end own follows done more = more w es (λ x c. elim c [ inl i ↦ absurd i | inr h ↦ h ]) follows done
-  unmarks (p ∷ ps) w [] qs end own follows done more = absurd done
-  unmarks (p ∷ ps) w (e ∷ es) qs end own follows done more =
-      let is = removed_call e.call (mark_place p) done.0 done.1 in
-      Next (at_phase Recorded) (at_phase Recorded) end w e es
-      (Go e js ks (record j { phase = Recorded }) Recorded refl (inl calm)
-      (subst (λ c. Moves o w (record j { phase = Recorded }) c Recorded) (sym is) (Unmark p (inl refl) (own p (inl refl)))))
-      (unmarks ps (after w e) es qs end (λ q i. own q (inr i)) follows.1 done.2
-      (λ v fs clears. more v fs (λ x c. clears x (elim c [
-        | inl i ↦ elim i [
-          | inl same ↦ inr (subst (IsAbsent (after w e)) (sym same) (absent_now o.act w e (mark_place p) is follows.0))
-          | inr rest ↦ inl rest
-        ]
-        | inr h ↦ inr (absent_still o.act w e (mark_place p) is follows.0 x h)
-      ]))))
+  recordable : (p : Path) → IsIn (outputs j) p → IsRecordable j p
+  recordable p i = each_in (IsRecordable j) (outputs j) p may.records i
 
-  records_settled : (w : World) (es : List Event) (qs : List Request) (end : RunState)
-      → folders_of j.recipe ≡ [] → Each (λ p. IsTrue (is_path_text p)) (outputs j) → Each (IsReadBack o j) (outputs j) → ((p : Path) → IsIn (outputs j) p → HasRecord j w p)
-      → Follows o.act w es → HasDone (Settle (record_places j) ∷ qs) es
-      → ((v : World) (fs : List Event) → Follows o.act v fs → HasDone qs fs → Runs o (at_phase Recorded) v fs end) → Runs o (at_phase Firm) w es end
-  records_settled w [] qs end none paths back there follows done more = absurd done
-  records_settled w (e ∷ es) qs end none paths back there follows done more =
-      let all = record_places j in
-      Next (at_phase Firm) (at_phase Recorded) end w e es
-      (Go e js ks (record j { phase = Firm }) Recorded refl (inl calm)
-      (subst (λ c. Moves o w (record j { phase = Firm }) c Recorded) (sym (settled_call e.call all done.0 done.1))
-      (AllWritten all refl
-      (each_of (IsWritten o w (record j { phase = Firm })) (outputs j) (λ p i. is_written o j w p none (each_in (λ q. IsTrue (is_path_text q)) (outputs j) p paths i) (each_in (IsReadBack o j) (outputs j) p back i) (there p i)))
-      (each_of (λ p. IsTrue (among all p)) all (λ p i. among_by all p i)))))
-      (more (after w e) es follows.1 done.2)
+  path_text : (p : Path) → IsIn (outputs j) p → is_path_text p ≡ true
+  path_text p i = text_in (outputs j) p (outputs_paths (record_of j p) (recordable p i).valid) i
 
-  writes : (ps : List Path) (w : World) (es : List Event) (qs : List Request) (end : RunState)
-      → folders_of j.recipe ≡ [] → ((p : Path) → IsIn ps p → IsIn (outputs j) p) → ((p : Path) → IsIn ps p → IsReadBack o j p) → ((p : Path) → IsIn ps p → IsKnown (w.nodes (record_place p)))
-      → Follows o.act w es → HasDone (write_each (map record_place ps) (map (bare_bytes j.serial j.recipe j.stamps) ps) ++ qs) es
-      → ((v : World) (fs : List Event) → ((x : Path) → IsIn ps x ⊎ HasRecord j w x → HasRecord j v x) → Follows o.act v fs → HasDone qs fs → Runs o (at_phase Firm) v fs end)
-      → Runs o (at_phase Firm) w es end
-  writes [] w es qs end none own back known follows done more = more w es (λ x c. elim c [ inl i ↦ absurd i | inr h ↦ h ]) follows done
-  writes (p ∷ ps) w [] qs end none own back known follows done more = absurd done
-  writes (p ∷ ps) w (e ∷ []) qs end none own back known follows done more = absurd done.2
-  writes (p ∷ ps) w (e ∷ (f ∷ es)) qs end none own back known follows done more =
-      let place = record_place p in
-      let bytes = bare_bytes j.serial j.recipe j.stamps p in
-      let is = parents_call e.call place done.0 done.1 in
-      let wrote = written_call f.call place bytes done.2.0 done.2.1 in
-      let s1 = stepped o.act (MakeParents place) w e follows.0 done.0 done.1 in
-      let s2 = stepped o.act (Write place bytes) (after w e) f follows.1.0 done.2.0 done.2.1 in
-      let v = after (after w e) f in
-      let here : HasRecord j v p = holds_reading bytes (v.nodes place) (written o.act place bytes (after w e) v s2 (step_known o.act (MakeParents place) w (after w e) place s1 refl (known p (inl refl)))) in
-      let through : (x : Path) → HasRecord j w x → HasRecord j (after w e) x =
-      λ x h. (h.0, h.1, ap (λ c. reading (node_after c e.left w.children (record_place x) (w.nodes (record_place x)))) is ∙ folder_kept (is_under place (record_place x)) (w.nodes (record_place x)) _ h.2) in
-      let onward : (x : Path) → HasRecord j (after w e) x → HasRecord j v x =
-      λ x h. elim (bool_cases (bytes_eq (record_place x) place)) [
-        | inl same ↦ subst (HasRecord j v) (sym (same_record x p (same_place (record_place x) place same))) here
-        | inr other ↦ (h.0, h.1, ap reading (step_keeps o.act (Write place bytes) (after w e) v (record_place x) s2 other) ∙ h.2)
-      ] in
-      let its : (time : ℕ) (read_only : Bool) → kept_by o.read p (Some (Regular bytes time read_only)) ≡ Held (record (record_of j p) { members = listed_of j p (members_under (now o (after w e)) p) }) =
-      λ time read_only. is_record o j p time read_only (back p (inl refl)) ∙ ap (λ ms. Held (record (record_of j p) { members = ms })) (sym (none_listed j p (members_under (now o (after w e)) p) none)) in
-      Next (at_phase Firm) (at_phase Firm) end w e (f ∷ es)
-      (Go e js ks (record j { phase = Firm }) Firm refl (inl calm)
-      (subst (λ c. Moves o w (record j { phase = Firm }) c Firm) (sym is) (MakeFolders place (inr (inr (refl, in_map record_place (outputs j) p (own p (inl refl))))))))
-      (Next (at_phase Firm) (at_phase Firm) end (after w e) f es
-      (Go f js ks (record j { phase = Firm }) Firm refl (inl calm)
-      (subst (λ c. Moves o (after w e) (record j { phase = Firm }) c Firm) (sym wrote) (WriteMove p bytes refl (own p (inl refl)) its)))
-      (writes ps v es qs end none (λ q i. own q (inr i)) (λ q i. back q (inr i))
-      (λ q i. step_known o.act (Write place bytes) (after w e) v (record_place q) s2 refl (step_known o.act (MakeParents place) w (after w e) (record_place q) s1 refl (known q (inr i))))
-      follows.1.1 done.2.2
-      (λ u gs held. more u gs (λ x c. held x (elim c [
-        | inl i ↦ elim i [
-          | inl same ↦ inr (subst (HasRecord j v) (sym same) here)
-          | inr rest ↦ inl rest
-        ]
-        | inr h ↦ inr (onward x (through x h))
-      ])))))
+  out_output : (out : Out) → IsIn outs out → IsIn (outputs j) out.path
+  out_output out i = subst (λ ps. IsIn ps out.path) (paths_same j.recipe.outputs) (path_in outs out i)
 
-  -- the outputs are settled
-  made : (w : World) (es : List Event) (qs : List Request) (end : RunState) → s.jobs ≡ js ++ j ∷ ks → j.phase ≡ Ended 0 → Each (IsGood o w) (outs_of j.recipe)
-      → Follows o.act w es → HasDone (Settle (outputs j) ∷ qs) es
-      → ((v : World) (fs : List Event) → ((q : Path) → IsKnown (w.nodes q) → IsKnown (v.nodes q)) → Follows o.act v fs → HasDone qs fs → Runs o (at_phase Firm) v fs end) → Runs o s w es end
-  made w [] qs end at ended good follows done more = absurd done
-  made w (e ∷ es) qs end at ended good follows done more =
-      let all = outputs j in
-      Next s (at_phase Firm) end w e es
-      (Go e js ks j Firm at (inl calm)
-      (subst (λ c. Moves o w j c Firm) (sym (settled_call e.call all done.0 done.1)) (AllMade all ended good (each_of (λ p. IsTrue (among all p)) all (λ p i. among_by all p i)))))
-      (more (after w e) es (λ q k. step_known o.act (Settle all) w (after w e) q (stepped o.act (Settle all) w e follows.0 done.0 done.1) refl k) follows.1 done.2)
+  output_out : (p : Path) → IsIn (outputs j) p → (out : Out) × IsIn outs out × (p ≡ out.path)
+  output_out p i = out_path outs p (subst (λ ps. IsIn ps p) (sym (paths_same j.recipe.outputs)) i)
+
+  -- of a directory: what was found in it, at any world in which this still stands
+  folder_members : (v : World) → IsStill u v → (out : Out) (m : List Member) → IsIn outs out → is_folder_kind out.kind ≡ true → AreMembers u.nodes out.path m → m ≡ members_under (now o v) out.path
+  folder_members v still out m i kind are =
+      still_members o.read u v out.path m still (and_first (is_path out.path) (is_text out.path) (path_text out.path (out_output out i)))
+      (each_in (AllIsFound u.nodes) (folders_of j.recipe) out.path found (folder_among outs out i kind)) are
+
+  -- a plain output is no directory too
+  plain_apart : (out : Out) (m : List Member) → out.kind ≡ Plain → IsOfKind u.nodes out.path out.kind m → among (folders_of j.recipe) out.path ≡ false
+  plain_apart out m kind is = elim (bool_cases (among (folders_of j.recipe) out.path)) [
+    | inr no_folder ↦ no_folder
+    | inl folder ↦
+        let other = among_folder outs out.path folder in
+        let k = each_in (HasKind u.nodes) outs other.0 (each_kind u.nodes outs ms kinds) other.1 in
+        absurd (file_or_folder (u.nodes out.path) (file_kind out.kind kind is) (subst (λ q. reads_folder (u.nodes q) ≡ true) (sym other.3) (folder_kind other.0.path k.0 other.0.kind other.2 k.1)))
+  ]
+    where
+      file_kind : (kind : Kind) → kind ≡ Plain → IsOfKind u.nodes out.path kind m → reads_file (u.nodes out.path) ≡ true
+      file_kind Plain e k = k.0
+      file_kind FolderKind e k = cc
+
+      folder_kind : (q : Path) (n : List Member) (kind : Kind) → is_folder_kind kind ≡ true → IsOfKind u.nodes q kind n → reads_folder (u.nodes q) ≡ true
+      folder_kind q n Plain e k = absurd (true_false (sym e))
+      folder_kind q n FolderKind e k = k.0
+
+  -- what was seen of an output is what is to be recorded, as long as it stands
+  listed_still : (v : World) → IsStill u v → (out : Out) (m : List Member) → IsIn outs out → IsOfKind u.nodes out.path out.kind m → m ≡ listed_of j out.path (members_under (now o v) out.path)
+  listed_still v still out m i is = by out.kind refl
+    where
+      of_kind : (kind : Kind) → out.kind ≡ kind → IsOfKind u.nodes out.path kind m
+      of_kind kind e = subst (λ k. IsOfKind u.nodes out.path k m) e is
+
+      by : (kind : Kind) → out.kind ≡ kind → m ≡ listed_of j out.path (members_under (now o v) out.path)
+      by Plain e =
+          (of_kind Plain e).1
+          ∙ ap (λ (b : Bool). if b then members_under (now o v) out.path else []) (sym (plain_apart out m e is))
+      by FolderKind e =
+          folder_members v still out m i (ap is_folder_kind e) (of_kind FolderKind e).1
+          ∙ ap (λ (b : Bool). if b then members_under (now o v) out.path else []) (sym (among_by (folders_of j.recipe) out.path (folder_among outs out i (ap is_folder_kind e))))
+
+  -- these members may be in a record
+  are_for : (out : Out) (m : List Member) → IsIn outs out → IsOfKind u.nodes out.path out.kind m → AreFor j.recipe out.path m
+  are_for out m i is = by out.kind refl
+    where
+      of_kind : (kind : Kind) → out.kind ≡ kind → IsOfKind u.nodes out.path kind m
+      of_kind kind e = subst (λ k. IsOfKind u.nodes out.path k m) e is
+
+      by : (kind : Kind) → out.kind ≡ kind → AreFor j.recipe out.path m
+      by Plain e =
+          ap (λ (b : Bool). if b then are_valid_members out.path m else are_none m) (plain_apart out m e is) ∙ ap are_none (of_kind Plain e).1
+      by FolderKind e =
+          ap (λ (b : Bool). if b then are_valid_members out.path m else are_none m) (among_by (folders_of j.recipe) out.path (folder_among outs out i (ap is_folder_kind e)))
+          ∙ (of_kind FolderKind e).1.valid
+
+  -- the same of an output by its path
+  seen_at : (p : Path) → IsIn (outputs j) p → (out : Out) × IsIn outs out × (p ≡ out.path) × HasKind u.nodes out
+  seen_at p i =
+      let a = output_out p i in
+      (a.0, a.1, a.2, each_in (HasKind u.nodes) outs a.0 (each_kind u.nodes outs ms kinds) a.1)
+
+  listed : AreListed o j u members_at
+  listed =
+      record {
+        paths = path_text;
+        reads = λ p i time read_only.
+            let a = seen_at p i in
+            let r = recordable p i in
+            read_back o.read p j.serial j.recipe j.stamps (members_at p) time read_only may.reads r.valid r.writable r.short
+            (subst (λ q. AreFor j.recipe q (members_at q)) (sym a.2)
+            (subst (AreFor j.recipe a.0.path) (listed_still u (still_itself u formed) a.0 a.3.0 a.1 a.3.1) (are_for a.0 a.3.0 a.1 a.3.1)));
+        lists = λ v still p i.
+            let a = seen_at p i in
+            subst (λ q. listed_of j q (members_under (now o v) q) ≡ members_at q) (sym a.2)
+            (sym (listed_still v still a.0 a.3.0 a.1 a.3.1) ∙ listed_still u (still_itself u formed) a.0 a.3.0 a.1 a.3.1);
+      }
+
+  good : Each (IsGood o u) outs
+  good = each_of (IsGood o u) outs (λ out i. by out i (each_in (HasKind u.nodes) outs out (each_kind u.nodes outs ms kinds) i).0 (each_in (HasKind u.nodes) outs out (each_kind u.nodes outs ms kinds) i).1 out.kind refl)
+    where
+      by : (out : Out) → IsIn outs out → (m : List Member) → IsOfKind u.nodes out.path out.kind m → (kind : Kind) → out.kind ≡ kind → IsGood o u out
+      by out i m is Plain e = good_file o u out e (path_text out.path (out_output out i)) (subst (λ k. IsOfKind u.nodes out.path k m) e is).0
+      by out i m is FolderKind e =
+          let k = subst (λ k. IsOfKind u.nodes out.path k m) e is in
+          good_folder o u out m e (path_text out.path (out_output out i)) k.0 k.1.valid (folder_members u (still_itself u formed) out m i (ap is_folder_kind e) k.1)
+
+  -- the bytes that are written are those of the members that are to be recorded
+  bytes_same : bytes_with (as_underway j number) (outputs j) ms ≡ map (full_of j members_at) (outputs j)
+  bytes_same =
+      ap (λ ps. bytes_with (as_underway j number) ps ms) (sym (paths_same j.recipe.outputs))
+      ∙ each_same outs ms (λ out i. i) kinds
+      ∙ ap (map (full_of j members_at)) (paths_same j.recipe.outputs)
+    where
+      each_same : (os : List Out) (xs : List (List Member)) → ((out : Out) → IsIn os out → IsIn outs out) → AreOfKind u.nodes os xs
+          → bytes_with (as_underway j number) (map (λ (x : Out). x.path) os) xs ≡ map (full_of j members_at) (map (λ (x : Out). x.path) os)
+      each_same [] [] own h = refl
+      each_same [] (x ∷ xs) own h = absurd h
+      each_same (out ∷ os) [] own h = absurd h
+      each_same (out ∷ os) (x ∷ xs) own h =
+          let here = listed_still u (still_itself u formed) out x (own out (inl refl)) h.0 in
+          λ i. full_of j (λ q. here i) out.path ∷ each_same os xs (λ y k. own y (inr k)) h.1 i
+
+  known : (p : Path) → IsIn (outputs j) p → IsKnown (u.nodes (record_place p))
+  known p i = subst (λ ns. IsKnown (ns (record_place p))) (sym same) (known_own w (record_place p) may.owners may.users (λ x h. path-record x p h))
+
+-- ## All that `finish` does
+
+-- the state, in terms of the job
+in_phase : (s : RunState) (js ks : List OpenJob) (j : OpenJob) (phase : Phase) → s.jobs ≡ js ++ j ∷ ks → j.phase ≡ phase → s ≡ record s { jobs = js ++ (record j { phase = phase }) ∷ ks }
+in_phase s js ks j phase at is = λ i. record s { jobs = (at ∙ ap (λ p. js ++ (record j { phase = p }) ∷ ks) is) i }
 
 regrouped : (a : Request) (b : List Request) (c : Request) (d : List Request) → (a ∷ (b ++ c ∷ [])) ++ d ≡ a ∷ (b ++ c ∷ d)
 regrouped a b c d = ap (λ t. a ∷ t) (append_assoc b (c ∷ []) d)
 
-each_good : (o : Outside) (w : World) (outs : List Out) → Each (λ (out : Out). (out.kind ≡ Plain) × (reads_file (w.nodes out.path) ≡ true)) outs → Each (λ p. IsTrue (is_path_text p)) (map (λ (out : Out). out.path) outs) → Each (IsGood o w) outs
-each_good o w [] files paths = tt
-each_good o w (out ∷ outs) files paths = (good_file o w out files.0.0 paths.0 files.0.1, each_good o w outs files.1 paths.1)
+module _ (o : Outside) (s : RunState) (js ks : List OpenJob) (j : OpenJob) (number : ℕ) (w : World) (es : List Event)
+    (at : s.jobs ≡ js ++ j ∷ ks) (calm : s.faulted ≡ false) (ended : j.phase ≡ Ended 0) where
+  begun : s ≡ record s { jobs = js ++ (record j { phase = Ended 0 }) ∷ ks }
+  begun = in_phase s js ks j (Ended 0) at ended
+
+  stops : halted o s js ks ≡ stopped o s
+  stops = λ i. record s { jobs = (sym (without (runs o) js ks j (ap is_running ended)) ∙ ap (filter (runs o)) (sym at)) i; faulted = true }
+
+  keeping : (ok : Bool) (goal : RunState) → (ok ≡ false → halted o s js ks ≡ goal) → (ok ≡ true → record s { jobs = js ++ ks } ≡ goal)
+      → MayFinish o w j → Follows o.act w es → (ms : List (List Member)) → HasSeen (AreSeen w.nodes (outs_of j.recipe) ms) (Carries (finish_requests (as_underway j number) ms) ok) es
+      → Runs o s w es goal
+  keeping ok goal halts done may follows ms seen =
+      let ps = outputs j in
+      let L = members_at o j number w may ms seen.looks seen.seen in
+      let closes_with : List Request = remove_each (map mark_place ps) ++ Settle (map mark_place ps) ∷ [] in
+      let v = run w seen.looks in
+      let still = still_itself v (formed o j number w may ms seen.looks seen.seen) in
+      let carries = subst (λ rs. Carries rs ok seen.rest) (regrouped (Settle ps) (write_each (map record_place ps) (map (full_of j L) ps)) (Settle (record_places j)) closes_with)
+      (subst (λ bs. Carries ((Settle ps ∷ (write_each (map record_place ps) bs ++ Settle (record_places j) ∷ [])) ++ closes_with) ok seen.rest) (bytes_same o j number w may ms seen.looks seen.seen) seen.done) in
+      subst (λ fs. Runs o s w fs goal) (sym seen.events)
+      (look_all o s calm seen.looks w seen.rest goal (looks_of o w.nodes (outs_of j.recipe) ms seen.looks seen.seen)
+      (subst (λ x. Runs o x v seen.rest goal) (sym begun)
+      (keeps_all o ok goal s js ks j calm halts v L (listed o j number w may ms seen.looks seen.seen) seen.rest still (good o j number w may ms seen.looks seen.seen)
+      (known o j number w may ms seen.looks seen.seen) done (follows_rest o.act seen.looks seen.rest w (subst (Follows o.act w) seen.events follows)) carries)))
+
+  losing : (ok : Bool) (goal : RunState) → (ok ≡ false → halted o s js ks ≡ goal) → (ok ≡ true → record s { jobs = js ++ ks } ≡ goal)
+      → Follows o.act w es → (fault : CloseFault) → HasSeen (IsSeenWrong w.nodes (outs_of j.recipe) fault) (Carries (abandon_requests (as_underway j number)) ok) es → Runs o s w es goal
+  losing ok goal halts done follows fault seen =
+      let ps = outputs j in
+      let marks = map mark_place ps in
+      let v = run w seen.looks in
+      let carries = subst (λ rs. Carries rs ok seen.rest) (abandoning.regrouped (remove_each ps) (remove_each (record_places j)) (Settle (ps ++ record_places j)) (remove_each marks ++ Settle marks ∷ [])) seen.done in
+      subst (λ fs. Runs o s w fs goal) (sym seen.events)
+      (look_all o s calm seen.looks w seen.rest goal (looks_wrong o w.nodes (outs_of j.recipe) fault seen.looks seen.seen)
+      (subst (λ x. Runs o x v seen.rest goal) (sym begun)
+      (loses_all o ok goal s js ks j calm halts 0 v seen.rest (some_outputs w.nodes (outs_of j.recipe) fault seen.looks seen.seen (paths_same j.recipe.outputs)) done
+      (follows_rest o.act seen.looks seen.rest w (subst (Follows o.act w) seen.events follows)) carries)))
+    where
+      some_outputs : (nodes : Nodes) (os : List Out) (x : CloseFault) (fs : List Event) → IsSeenWrong nodes os x fs → map (λ (y : Out). y.path) os ≡ outputs j → outputs j ≡ [] → ⊥
+      some_outputs nodes [] x fs h is none = absurd h
+      some_outputs nodes (y ∷ os) x fs h is none = no_nil (is ∙ none)
+        where
+          no_nil : {a : Path} {rest : List Path} → a ∷ rest ≡ [] → ⊥
+          no_nil e = cc
 
 pub finishing_runs : FinishingRuns
-finishing_runs o s js ks j number w es at calm ended plain back paths owners users follows (members, seen) =
-    let outs = outs_of j.recipe in
-    let ps = outputs j in
-    let marks = map mark_place ps in
-    let bytes = map (bare_bytes j.serial j.recipe j.stamps) ps in
-    let closing : List Request = remove_each marks ++ Settle marks ∷ [] in
-    let end : RunState = record s { jobs = js ++ ks } in
-    let looks = looks_of o w.nodes outs members seen.looks seen.seen in
-    let same = nodes_same o seen.looks w looks in
-    let u = run w seen.looks in
-    let none = no_folders outs plain in
-    let files = subst (λ ns. Each (λ (out : Out). (out.kind ≡ Plain) × (reads_file (ns out.path) ≡ true)) outs) (sym same) (each_file w.nodes outs members seen.looks plain seen.seen) in
-    let good = each_good o u outs files (subst (λ qs. Each (λ p. IsTrue (is_path_text p)) qs) (sym (paths_same j.recipe.outputs)) paths) in
-    let given : bytes_with (as_underway j number) ps members ≡ bytes = ap (bytes_with (as_underway j number) ps) (no_members w.nodes outs members seen.looks plain seen.seen) ∙ bare_records (as_underway j number) in
-    let done : HasDone (Settle ps ∷ (write_each (map record_place ps) bytes ++ Settle (record_places j) ∷ closing)) seen.rest =
-    subst (λ rs. HasDone rs seen.rest) (regrouped (Settle ps) (write_each (map record_place ps) bytes) (Settle (record_places j)) closing)
-    (subst (λ bs. HasDone ((Settle ps ∷ (write_each (map record_place ps) bs ++ Settle (record_places j) ∷ [])) ++ closing) seen.rest) given seen.done) in
-    subst (λ fs. Runs o s w fs end) (sym seen.events)
-    (look_all o s calm seen.looks w seen.rest end looks
-    (made o s js ks j calm u seen.rest (write_each (map record_place ps) bytes ++ Settle (record_places j) ∷ closing) end at ended good
-    (follows_rest o.act seen.looks seen.rest w (subst (Follows o.act w) seen.events follows)) done
-    (λ v fs known follows1 done1.
-    writes o s js ks j calm ps v fs (Settle (record_places j) ∷ closing) end none (λ p i. i) (λ p i. each_in (IsReadBack o j) ps p back i)
-    (λ p i. known (record_place p) (subst (λ ns. IsKnown (ns (record_place p))) (sym same) (known_own w (record_place p) owners users (λ x h. path-record x p h)))) follows1 done1
-    (λ v2 fs2 held follows2 done2.
-    records_settled o s js ks j calm v2 fs2 closing end none paths back (λ p i. held p (inl i)) follows2 done2
-    (λ v3 fs3 follows3 done3.
-    unmarks o s js ks j calm ps v3 fs3 (Settle marks ∷ []) end (λ p i. i) follows3 done3
-    (λ v4 fs4 clears follows4 done4. closes o s js ks j calm v4 fs4 (λ p i. clears p (inl i)) done4))))))
-
--- ## Where something is wrong
-
-looks_wrong : (o : Outside) (nodes : Nodes) (outs : List Out) (fault : CloseFault) (es : List Event) → IsSeenWrong nodes outs fault es → Looks o es
-looks_wrong o nodes [] fault es h = absurd h
-looks_wrong o nodes (out ∷ outs) fault es (first, more, e, l, q, inl (none, wrong)) =
-    subst (Looks o) (sym e) (looks_append o first more (looks_at o out first l) (subst (Looks o) (sym none) tt))
-looks_wrong o nodes (out ∷ outs) fault es (first, more, e, l, q, inr (m, k, rest)) =
-    subst (Looks o) (sym e) (looks_append o first more (looks_at o out first l) (looks_wrong o nodes outs fault more rest))
+finishing_runs o s js ks j number w es at calm ended may follows (members, seen) =
+    keeping o s js ks j number w es at calm ended true (record s { jobs = js ++ ks }) (λ e. absurd (true_false e)) (λ e. refl) may follows members seen
 
 pub losing_runs : LosingRuns
 losing_runs o s js ks j number fault w es at calm ended some follows seen =
-    subst (λ fs. Runs o s w fs (record s { jobs = js ++ ks })) (sym seen.events)
-    (look_all o s calm seen.looks w seen.rest (record s { jobs = js ++ ks }) (looks_wrong o w.nodes (outs_of j.recipe) fault seen.looks seen.seen)
-    (abandoning_runs o s js ks j number 0 (run w seen.looks) seen.rest at calm ended some (follows_rest o.act seen.looks seen.rest w (subst (Follows o.act w) seen.events follows)) seen.done))
+    losing o s js ks j number w es at calm ended true (record s { jobs = js ++ ks }) (λ e. absurd (true_false e)) (λ e. refl) follows fault seen
+
+pub finishing_parts : FinishingPartsRun
+finishing_parts o s js ks j number w es at calm ended may follows (inl blind) = blind_runs o s calm (outs_of j.recipe) w es blind
+finishing_parts o s js ks j number w es at calm ended may follows (inr (inl (members, seen))) =
+    keeping o s js ks j number w es at calm ended false (stopped o s) (λ e. stops o s js ks j number w es at calm ended) (λ e. absurd (true_false (sym e))) may follows members seen
+finishing_parts o s js ks j number w es at calm ended may follows (inr (inr (fault, seen))) =
+    losing o s js ks j number w es at calm ended false (stopped o s) (λ e. stops o s js ks j number w es at calm ended) (λ e. absurd (true_false (sym e))) follows fault seen
+
+-- ## All that `abandon` does
+
+pub abandoning_runs : AbandoningRuns
+abandoning_runs o s js ks j number status w es at calm ended some follows done =
+    let ps = outputs j in
+    let marks = map mark_place ps in
+    let end : RunState = record s { jobs = js ++ ks } in
+    subst (λ x. Runs o x w es end) (sym (in_phase s js ks j (Ended status) at ended))
+    (loses_all o true end s js ks j calm (λ e. absurd (true_false e)) status w es some (λ e. refl) follows
+    (subst (λ rs. Carries rs true es) (abandoning.regrouped (remove_each ps) (remove_each (record_places j)) (Settle (ps ++ record_places j)) (remove_each marks ++ Settle marks ∷ [])) done))

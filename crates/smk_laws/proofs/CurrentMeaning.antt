@@ -211,7 +211,7 @@ module _
             chain = ih q d.0 from.0 from.1 comes product calm;
           }
 
-  chained_at : (n : ℕ) → ChainedBefore n
+  pub chained_at : (n : ℕ) → ChainedBefore n
   chained_at zero q c h r reached made quiet = absurd (reached_zero flow (sources_of image) plan.lists all_walked q c reached made.chosen)
   chained_at (suc n) q c h r reached made quiet = chain_make image E (core r) (spoken_input n (chained_at n) q c h r reached made quiet)
 
@@ -243,7 +243,7 @@ module _
       go true e = inner (vir image act H k h) e
       go false e = absurd (none_some None x refl e)
 
-  input_means :
+  pub input_means :
       (n : ℕ) → Meant n → (k : ℕ) (p : Path) (c : Candidate) (h : Path) (r : Record) →
       Comes (suc n) p → Made_by c p h r → IsQuiet c →
       (q : Path) (s : Stamp) (x : Tree) → In (q, s) (stamped r) → input_value image H (vir image act H k) (q, s) ≡ Some x → mean S n q ≡ Some x
@@ -277,7 +277,7 @@ module _
       let v = rest.sound.holds h (core r) (core_reads image h r made.reads) (unmarked_now n q c h comes made.chosen ready made.is_output made.unmarked) (chained_at n q c h r comes made quiet) w.0 in
       let x = w.1 v.0 v.1 in (v.0, x.0, x.1, v.2, x.2)
 
-  folder_means :
+  pub folder_means :
       (n : ℕ) → Meant n → (p : Path) (c : Candidate) →
       Comes (suc n) p → choose flow (sources_of image) p ≡ Make c → IsQuiet c →
       (f : Path) → In f (gathered_folders flow c) → (t : Tree) × (mean S n f ≡ Some t) × (files_of t ≡ or_none (listing plan.lists f))

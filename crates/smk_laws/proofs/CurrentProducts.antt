@@ -230,14 +230,14 @@ module _
         go h i (inr u) = or_second _ _ (let r = find_some (is_under q) (folders_of (recipe flow plan.lists c)) h u.2 u.0 in ap is_some r.1)
 
     -- its maker by the plan is the chosen job
-    maker_is : (n : ℕ) (q : Path) (c : Candidate) → ReachedHere n q → choose flow srcs q ≡ Make c → maker_of plan q ≡ Some (jb c, states (jb c))
+    pub maker_is : (n : ℕ) (q : Path) (c : Candidate) → ReachedHere n q → choose flow srcs q ≡ Make c → maker_of plan q ≡ Some (jb c, states (jb c))
     maker_is n q c reached e =
         ap (λ ss. find (λ (e : Job × State). makes e.0 q) (zip plan.jobs ss)) rest.derived.states
         ∙ maker_found states plan.jobs (jb c) q apart (in_plan_here n q c reached e) (own_makes q c e)
 
     -- ## states
 
-    quiet_by : (c : Candidate) → is_open (states (jb c)) ≡ false → is_dirty (states (jb c)) ≡ false → Quiet c
+    pub quiet_by : (c : Candidate) → is_open (states (jb c)) ≡ false → is_dirty (states (jb c)) ≡ false → Quiet c
     quiet_by c h k =
         let r = running_quiet (kept_state image settings progress plan (jb c)) (by_table image settings progress plan (jb c)) h k in
         let t = table_quiet (is_open_now image settings progress plan (jb c)) (reasons image settings progress plan (jb c)) _ r.0 r.1 in
@@ -467,7 +467,7 @@ module _
     own_outputs n q c reached e = own_apart plan.jobs (jb c) apart (in_plan_here n q c reached e)
 
     -- an output is no member
-    output_alone : (c : Candidate) (q : Path) → Apart (out_paths (recipe flow plan.lists c)) → In q (out_paths (recipe flow plan.lists c)) → folder_over (recipe flow plan.lists c) q ≡ None
+    pub output_alone : (c : Candidate) (q : Path) → Apart (out_paths (recipe flow plan.lists c)) → In q (out_paths (recipe flow plan.lists c)) → folder_over (recipe flow plan.lists c) q ≡ None
     output_alone c q a i = go (folder_over (recipe flow plan.lists c) q) refl
       where
         go : (o : Option Path) → folder_over (recipe flow plan.lists c) q ≡ o → o ≡ None

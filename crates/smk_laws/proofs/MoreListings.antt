@@ -118,7 +118,7 @@ module _ (flow : Flow) (L M : Listings) (c : Candidate) where
 
 module _ (flow : Flow) (srcs : Sources) (L M : Listings) where
   -- what is walked with some listings is so with more
-  walk_more : (n : ℕ) (p : Path) → Within (walk flow srcs L n p) (walk flow srcs (L ++ M) n p)
+  pub walk_more : (n : ℕ) (p : Path) → Within (walk flow srcs L n p) (walk flow srcs (L ++ M) n p)
   walk_more zero p c h = h
   walk_more (suc n) p c h = go (choose flow srcs p) refl h (λ q d k. walk_more n q d k)
     where

@@ -8,6 +8,3 @@ pub mod Done
 pub mod Running
 pub mod Clean
 pub mod Disjoint
-pub mod Ordering
-pub mod Whole
-pub mod Begun

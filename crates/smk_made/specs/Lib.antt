@@ -1,4 +1,3 @@
 pub mod Leaving
 pub mod Running
 pub mod Clean
-pub mod Whole

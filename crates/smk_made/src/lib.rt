@@ -4,7 +4,6 @@
 ghost use Rattle.smk_made.specs.Clean.{DoneRunIsClean};
 ghost use Rattle.smk_made.specs.Leaving.{DoneTurnLeaves, TurnKeepsElse, TurnsKeepElse};
 ghost use Rattle.smk_made.specs.Running.{DoneTurnsLeave};
-ghost use Rattle.smk_made.specs.Whole.{IdleWorldBegins, RunIsClean};
 
 /// Laws of the turn of one job. However far it came, outside of the engine's folder it changed nothing but what is at and under
 /// the outputs and logs of its job, and folders above these; and so it is with turns one after another. Where it is done, the
@@ -23,12 +22,4 @@ pub fn turns_leave()
 pub fn runs_make()
     ensures make { DoneTurnsLeave }
     ensures clean { DoneRunIsClean }
-{}
-
-/// The law of a whole run, as `run_jobs` answers it, of the jobs that are derived for some targets with no refusal and from no listing, where no job
-/// failed: each job is made, and each target is a file that is its clean value. The jobs make plain files and gather nothing, each field of a
-/// command has a value, and before the run no child runs and the sources stand; which they do by the setting that the world itself gives, where no child runs.
-pub fn whole_runs_are_clean()
-    ensures clean { RunIsClean }
-    ensures begins { IdleWorldBegins }
 {}

@@ -2,3 +2,5 @@ pub mod Sets
 pub mod Lists
 pub mod Going
 pub mod Listings
+pub mod Under
+pub mod Trees

@@ -1,3 +1,4 @@
 pub mod Members
 pub mod Walks
 pub mod Steps
+pub mod Disk

@@ -1,6 +1,6 @@
 -- What is under a folder.
 use Rattle.std.specs.Prelude.{◌≡◌, ℕ, true, List, map}
-use Rattle.smk_base.specs.Path.{is_at_or_under}
+use Rattle.smk_base.specs.Path.{is_under, is_at_or_under}
 use Rattle.smk_world.specs.declared.event.NodeState.{NodeState}
 use Rattle.smk_world.specs.declared.event.NodeState.TheVariants.{Owned}
 use Rattle.smk_world.specs.World.{reads_folder}
@@ -40,6 +40,10 @@ pub record AreMembers (nodes : Nodes) (p : Path) (members : List Member) : Type 
 -- no members that a record may have are all that is under the folder
 abbrev pub HasNoMembers : Nodes → Path → Type 0
 HasNoMembers nodes p = (members : List Member) → AreMembers nodes p members → ⊥
+
+-- All that stands under the folder at p stands in folders under it, so that it is found.
+abbrev pub AllIsFound : Nodes → Path → Type 0
+AllIsFound nodes p = (q : Path) → is_under q p ≡ true → Stands (nodes q) → IsFound nodes p q
 
 -- a folder stands at p, and no child owns what is at or under it
 pub record IsOpenFolder (nodes : Nodes) (p : Path) : Type 0 where

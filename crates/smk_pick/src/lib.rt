@@ -6,7 +6,7 @@ mod room;
 mod settings;
 
 pub use choice::pick;
-pub use room::{Ask, Room};
+pub use room::{Ask, Room, amount_of};
 pub use settings::{Force, Settings};
 
 #[cfg(test)]

@@ -44,8 +44,8 @@ fn count_if(each: &Amount, name: &Text) -> u64
     }
 }
 
-// How much of the resource the amounts are. None where no number of 64 bits tells it.
-fn amount_of(amounts: &[Amount], name: &Text) -> Option<u64>
+/// How much of the resource the amounts are. None where no number of 64 bits tells it.
+pub fn amount_of(amounts: &[Amount], name: &Text) -> Option<u64>
     ensures { MatchOption result (2 ^ 64 ≤ amount amounts.now name.now) (λ n. n ≡ amount amounts.now name.now) }
 {
     let mut sum = 0u64;

@@ -1,2 +1,3 @@
 pub mod Plans
 mod Rows
+pub mod Sought

@@ -19,9 +19,9 @@ pub enum PlanFault {
     Protected {
         path: PathText,
     },
-    /// A job asks more of a resource than its bound.
+    /// A job of the rule with this number, which makes this path first, asks more of a resource than its bound.
     AboveLimit {
-        rule: Text,
+        rule: u32,
         path: PathText,
         name: Text,
         asked: u64,

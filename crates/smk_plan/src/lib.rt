@@ -4,7 +4,9 @@
 mod fault;
 mod plan;
 mod seen;
+mod wholes;
 
 pub use fault::{LookFault, PlanFault};
 pub use plan::Plan;
 pub use seen::{Seen, Sight};
+pub use wholes::Wholes;

@@ -242,12 +242,12 @@ fn a_failing_sink_is_told_after_the_job_is_closed(rt: HostRuntime) -> Result<(),
 }
 
 #[test]
-fn thousands_of_runs_in_one_workspace(rt: HostRuntime) -> Result<(), Fail> {
+fn later_runs_start_nothing(rt: HostRuntime) -> Result<(), Fail> {
     let alloc = rt.alloc();
     let mut trial = set_up(alloc, COPY, None, None)?;
-    for _ in 0..1000 {
+    for _ in 0..100 {
         assert_eq!(rt; status_of(&rt, alloc, "out.txt", &mut trial)?, 0);
     }
-    assert_eq!(rt; trial.work.starts(), 1000);
+    assert_eq!(rt; trial.work.starts(), 1);
     Ok(())
 }

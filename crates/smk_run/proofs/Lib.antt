@@ -1,11 +1,17 @@
 pub mod Idle
 pub mod Closes
+pub mod Calls
+pub mod Honest
 pub mod Texts
 pub mod Turning
 pub mod Stamping
+pub mod Coming
 pub mod Running
 pub mod Taking
 pub mod Valid
 pub mod Firsts
 pub mod Rising
+pub mod Serving
 pub mod Makers
+pub mod Choosing
+pub mod Telling

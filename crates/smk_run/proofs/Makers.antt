@@ -1,72 +1,62 @@
--- Which job makes a path, found from the end of the list.
-use Rattle.std.proofs.Common.{◌≡◌, ◌≤◌, ◌+◌, ℕ, suc, Bool, true, false, List, [], ◌∷◌, ◌++◌, refl, ap, sym, subst, ◌∙◌, Option, Some, None, bytes_eq, length, arith}
-use Rattle.std.specs.Prelude.{if◌then◌else◌, option_map, nat_lt, String}
+-- What a map of the serials of products has, made from the end of a list of makers.
+use Rattle.std.proofs.Common.{◌≡◌, ℕ, Bool, true, false, List, [], ◌∷◌, ◌++◌, refl, ap, sym, ◌∙◌, Option, Some, None, bytes_eq, length}
+use Rattle.std.specs.Prelude.{if◌then◌else◌, String}
 use Rattle.std.specs.BTreeMap.{BTreeMap}
 use Rattle.std.specs.Global.{Global}
 use Rattle.std.specs.List.{find}
 use Rattle.std.specs.Option.{option_and_then}
 use Rattle.smk_world.specs.Trees.{Path}
 use Rattle.smk_chain.specs.declared.jobs.Maker.{Maker}
-use Rattle.smk_store.specs.Stores.{Known}
-use Rattle.smk_store.specs.Serials.{greatest_serial, next_serial}
-use Rattle.smk_run.specs.Stamps.{number_at, made_by}
+use Rattle.smk_run.specs.declared.duty.Duty.{Duty}
+use Rattle.smk_run.specs.Stamps.{number_at}
+use Rattle.smk_run.specs.Duties.{maker_in, serial_of, serials, serials_from, serial_in, due_from, due}
 use Rattle.smk_flow.specs.declared.job.Job.{Job}
-use Rattle.smk_run.specs.Runs.{maker_in, serials, AreRunnableFrom}
+use Rattle.smk_run.proofs.Serving.{serials_same}
 
--- what the list has for the path, or else this
-abbrev pub found_in : List Maker → Option (Option ℕ) → Path → Option (Option ℕ)
-found_in [] d q = d
-found_in (m ∷ ms) d q = if bytes_eq m.path q then Some m.job else found_in ms d q
+-- the serial that the list has for the path, where that of a job is known, or else this
+abbrev pub found_in : (ℕ → Option ℕ) → List Maker → Option (Option ℕ) → Path → Option (Option ℕ)
+found_in serial [] d q = d
+found_in serial (m ∷ ms) d q = if bytes_eq m.path q then Some (option_and_then serial m.job) else found_in serial ms d q
 
-pub found_last : (ms : List Maker) (m : Maker) (d : Option (Option ℕ)) (q : Path) → found_in (ms ++ m ∷ []) d q ≡ found_in ms (if bytes_eq m.path q then Some m.job else d) q
-found_last [] m d q = refl
-found_last (n ∷ ms) m d q = ap (λ x. if bytes_eq n.path q then Some n.job else x) (found_last ms m d q)
+pub found_last : (serial : ℕ → Option ℕ) (ms : List Maker) (m : Maker) (d : Option (Option ℕ)) (q : Path)
+    → found_in serial (ms ++ m ∷ []) d q ≡ found_in serial ms (if bytes_eq m.path q then Some (option_and_then serial m.job) else d) q
+found_last serial [] m d q = refl
+found_last serial (n ∷ ms) m d q = ap (λ x. if bytes_eq n.path q then Some (option_and_then serial n.job) else x) (found_last serial ms m d q)
 
-pub found_is : (ms : List Maker) (q : Path) → option_and_then (λ (n : Option ℕ). n) (found_in ms None q) ≡ maker_in ms q
-found_is [] q = refl
-found_is (m ∷ ms) q = go (bytes_eq m.path q) (found_is ms q)
+pub found_is : (serial : ℕ → Option ℕ) (ms : List Maker) (q : Path) → option_and_then (λ (n : Option ℕ). n) (found_in serial ms None q) ≡ option_and_then serial (maker_in ms q)
+found_is serial [] q = refl
+found_is serial (m ∷ ms) q = go (bytes_eq m.path q) (found_is serial ms q)
   where
-    go : (b : Bool) → option_and_then (λ (n : Option ℕ). n) (found_in ms None q) ≡ maker_in ms q
-        → option_and_then (λ (n : Option ℕ). n) (if b then Some m.job else found_in ms None q)
-        ≡ option_and_then (λ (x : Maker). x.job) (if b then Some m else find (λ (x : Maker). bytes_eq x.path q) ms)
+    go : (b : Bool) → option_and_then (λ (n : Option ℕ). n) (found_in serial ms None q) ≡ option_and_then serial (maker_in ms q)
+        → option_and_then (λ (n : Option ℕ). n) (if b then Some (option_and_then serial m.job) else found_in serial ms None q)
+        ≡ option_and_then serial (option_and_then (λ (x : Maker). x.job) (if b then Some m else find (λ (x : Maker). bytes_eq x.path q) ms))
     go true ih = refl
     go false ih = ih
 
-pub found_step : (rest before : List Maker) (last : Maker) (old new : Option (Option ℕ)) (all : Option (Option ℕ)) (q : Path)
-    → rest ≡ before ++ last ∷ [] → new ≡ (if bytes_eq last.path q then Some last.job else old) → found_in rest old q ≡ all → found_in before new q ≡ all
-found_step rest before last old new all q is put h =
-    ap (λ d. found_in before d q) put ∙ sym (found_last before last old q) ∙ ap (λ l. found_in l old q) (sym is) ∙ h
+pub found_step : (serial : ℕ → Option ℕ) (rest before : List Maker) (last : Maker) (value : Option ℕ) (old new : Option (Option ℕ)) (all : Option (Option ℕ)) (q : Path)
+    → rest ≡ before ++ last ∷ [] → value ≡ option_and_then serial last.job → new ≡ (if bytes_eq last.path q then Some value else old)
+    → found_in serial rest old q ≡ all → found_in serial before new q ≡ all
+found_step serial rest before last value old new all q is right put h =
+    ap (λ d. found_in serial before d q) (put ∙ ap (λ v. if bytes_eq last.path q then Some v else old) right)
+    ∙ sym (found_last serial before last old q) ∙ ap (λ l. found_in serial l old q) (sym is) ∙ h
 
 pub none_left : (ms : List Maker) → length ms ≡ 0 → ms ≡ []
 none_left [] h = refl
 none_left (m ∷ ms) h = cc
 
-pub makers_same : (numbers : BTreeMap (String Global) (Option ℕ)) (ms : List Maker) → ((q : Path) → number_at numbers q ≡ maker_in ms q) → number_at numbers ≡ maker_in ms
-makers_same numbers ms same = λ j. λ q. same q j
+-- the map has the serials of all products
+pub made_same : (made : BTreeMap (String Global) (Option ℕ)) (ms makers : List Maker) (ss : List (Option ℕ)) (first : Option ℕ) (ds duties : List Duty)
+    → ms ≡ makers → ss ≡ serials_from first 0 ds → ds ≡ duties → ((q : Path) → number_at made q ≡ option_and_then (serial_in ss) (maker_in ms q))
+    → number_at made ≡ serials makers first duties
+made_same made ms makers ss first ds duties e f g same =
+    (λ j. λ q. same q j)
+    ∙ ap (λ (l : List Maker). λ (q : Path). option_and_then (serial_in ss) (maker_in l q)) e
+    ∙ ap (λ (s : ℕ → Option ℕ). λ (q : Path). option_and_then s (maker_in makers q)) (ap serial_in f ∙ serials_same first ds ∙ ap (serial_of first) g)
 
-pub made_same : (numbers : BTreeMap (String Global) (Option ℕ)) (ms list : List Maker) (top : ℕ) (first : Option ℕ) → ms ≡ list → Some top ≡ first → ((q : Path) → number_at numbers q ≡ maker_in ms q) → made_by numbers top ≡ serials list first
-made_same numbers ms list top first e f same =
-    subst (λ x. made_by numbers top ≡ serials list x) f
-    (subst (λ l. made_by numbers top ≡ serials l (Some top)) e (λ j. λ p. option_map (λ n. top + n) (same p j)))
-
-some_same : (x y : ℕ) → Some x ≡ Some y → x ≡ y
-some_same x y e = cc
-
-not_none : (x : ℕ) → Some x ≡ None → ⊥
-not_none x e = cc
-
-positive : (top n : ℕ) → top ≡ suc n → 1 ≤ top
-positive top n e = omega (arith, e)
-
-pub positive_next : (ks : List Known) (top : ℕ) → Some top ≡ next_serial ks → 1 ≤ top
-positive_next ks top h = go (nat_lt (greatest_serial ks) 18446744073709551615) h
-  where
-    go : (b : Bool) → Some top ≡ (if b then Some (suc (greatest_serial ks)) else None) → 1 ≤ top
-    go true e = positive top (greatest_serial ks) (some_same top (suc (greatest_serial ks)) e)
-    go false e = absurd (not_none top e)
-
-pub runnable_as : (numbers : BTreeMap (String Global) (Option ℕ)) (ms list : List Maker) (js jobs : List Job) → ms ≡ list → js ≡ jobs → ((q : Path) → number_at numbers q ≡ maker_in ms q)
-    → AreRunnableFrom (maker_in list) 0 jobs → AreRunnableFrom (number_at numbers) 0 js
-runnable_as numbers ms list js jobs e f same h =
-    subst (λ m. AreRunnableFrom m 0 js) (sym (makers_same numbers ms same))
-    (subst (λ l. AreRunnableFrom (maker_in l) 0 js) (sym e) (subst (λ l. AreRunnableFrom (maker_in list) 0 l) (sym f) h))
+-- the jobs that are due
+pub dues_same : (ss : List (Option ℕ)) (first : Option ℕ) (ds es duties : List Duty) (js jobs : List Job)
+    → ss ≡ serials_from first 0 ds → ds ≡ duties → es ≡ duties → js ≡ jobs → due_from (serial_in ss) 0 es js ≡ due first duties jobs
+dues_same ss first ds es duties js jobs e f g h =
+    ap (λ (s : ℕ → Option ℕ). due_from s 0 es js) (ap serial_in e ∙ serials_same first ds ∙ ap (serial_of first) f)
+    ∙ ap (λ (l : List Duty). due_from (serial_of first duties) 0 l js) g
+    ∙ ap (due_from (serial_of first duties) 0 duties) h

@@ -1,5 +1,5 @@
 -- Turns, one after another.
-use Rattle.std.proofs.Common.{◌≡◌, ◌⊎◌, ◌<◌, ◌≤◌, ℕ, suc, Bool, true, false, List, [], ◌∷◌, ◌++◌, ◌+◌, length, drop, refl, ap, sym, subst, ◌∙◌, inl, inr, Option, Some, None, Result, Ok, Err, append_assoc, arith}
+use Rattle.std.proofs.Common.{◌≡◌, ◌≤◌, ℕ, suc, Bool, true, false, List, [], ◌∷◌, ◌++◌, ◌+◌, length, drop, refl, ap, sym, subst, ◌∙◌, inl, inr, Option, Some, None, Result, Ok, Err, append_assoc, arith}
 use Rattle.std.proofs.lemmas.List.{append-nil}
 use Rattle.std.proofs.lemmas.List.Sums.{sum_by-cons}
 use Rattle.std.specs.Prelude.{cond}
@@ -20,7 +20,10 @@ use Rattle.smk_run.specs.declared.tally.Tally.{Tally}
 use Rattle.smk_run.specs.Stamps.{Serials}
 use Rattle.smk_run.specs.Turns.{Course, Unbegun, Unstarted, Unclosed, Closed, Turn, IsTurn, AreTurns, is_done, is_closed, is_good}
 use Rattle.smk_run.specs.Reports.{named, course_text, report_of, IsReport, HasWritten, failure}
-use Rattle.smk_run.specs.Runs.{command_of, or_later, command_fault, serial_at, AreInOrder, course_failure, first_failure, IsOutcome, is_whole, is_output, HasRun, IsTurnAnswer, HasHadTurn, HasRunSoFar, IsWithoutSerial, Fits}
+use Rattle.smk_run.specs.Duties.{Due}
+use Rattle.smk_run.specs.Runs.{command_of, or_later, AreInOrder, course_failure, first_failure, IsOutcome, is_whole, is_output, HasRun, IsTurnAnswer, HasHadTurn, HasRunSoFar, Fits}
+use Rattle.smk_run.proofs.Coming.{got_at}
+use Rattle.smk_run.proofs.Honest.{did_none_given, did_given_both}
 
 -- ## Events
 
@@ -72,16 +75,15 @@ written_next flow ts t whole well a b c h k = record {
 
 -- ## Order
 
-in_order_next : (cores : ℕ) (top : Option ℕ) (number k : ℕ) (jobs rest : List Job) (job : Job) (ts : List Turn) (t : Turn)
-    → AreInOrder cores top number jobs ts → Each (λ (u : Turn). is_done u.course ≡ true) ts
-    → drop (length ts) jobs ≡ job ∷ rest → t.job ≡ job → t.command ≡ command_of cores job → k ≡ number + length ts → serial_at top k ≡ Some t.made
-    → AreInOrder cores top number jobs (ts ++ t ∷ [])
-in_order_next cores top number k jobs rest job [] t h done is same command at serial =
-    subst (λ l. AreInOrder cores top number l (t ∷ [])) (sym is)
-    (same, command, ap (serial_at top) (sym (omega (arith, at))) ∙ serial, inl refl, tt)
-in_order_next cores top number k [] rest job (u ∷ ts) t h done is same command at serial = absurd h
-in_order_next cores top number k (j ∷ jobs) rest job (u ∷ ts) t h done is same command at serial =
-    (h.0, h.1, h.2, inr done.0, in_order_next cores top (suc number) k jobs rest job ts t h.4 done.1 is same command (omega (arith, at)) serial)
+in_order_next : (cores : ℕ) (dues rest : List Due) (due : Due) (ts : List Turn) (t : Turn)
+    → AreInOrder cores dues ts → Each (λ (u : Turn). is_done u.course ≡ true) ts
+    → drop (length ts) dues ≡ due ∷ rest → t.job ≡ due.job → t.command ≡ command_of cores due.job → due.serial ≡ Some t.made
+    → AreInOrder cores dues (ts ++ t ∷ [])
+in_order_next cores dues rest due [] t h done is same command serial =
+    subst (λ l. AreInOrder cores l (t ∷ [])) (sym is) (same, command, serial, inl refl, tt)
+in_order_next cores [] rest due (u ∷ ts) t h done is same command serial = absurd h
+in_order_next cores (d ∷ dues) rest due (u ∷ ts) t h done is same command serial =
+    (h.0, h.1, h.2, inr done.0, in_order_next cores dues rest due ts t h.4 done.1 is same command serial)
 
 each_next : (P : Turn → Type 0) (ts : List Turn) (t : Turn) → Each P ts → P t → Each P (ts ++ t ∷ [])
 each_next P [] t h k = (k, tt)
@@ -103,49 +105,49 @@ good_is name (BadMember p) h = cc
 done_is : (course : Course) (name : Named) (ending : Ending) → course ≡ Closed ending → failure name ending ≡ None → is_done course ≡ true
 done_is course name ending is none = ap is_done is ∙ good_is name ending none
 
-pub so_far_start : (act : Act) (flow : Flow) (cores : ℕ) (jobs : List Job) (top : Option ℕ) (made : Serials) (a : Option World) (running : List ℕ) (put : Option Text)
-    → running ≡ [] → HasRunSoFar act flow cores jobs top made 0 a a running put put
-so_far_start act flow cores jobs top made a running put none = record {
+pub so_far_start : (act : Act) (flow : Flow) (cores : ℕ) (dues : List Due) (made : Serials) (a : Option World) (rose : Type 0) (running : List ℕ) (put : Option Text)
+    → running ≡ [] → HasRunSoFar act flow cores dues made 0 a a rose running put put
+so_far_start act flow cores dues made a rose running put none = record {
   turns = [];
   counted = refl;
   done = tt;
   in_order = tt;
   fits = tt;
   did = did_nothing act (AreTurns made []) a (λ w. refl);
+  given = did_none_given act rose a;
   text = record { told = λ now e. (now, e, ([], refl, sym (append-nil now))); stays = λ e some. some };
   none_runs = none;
   stays = λ some. some;
 }
 
--- the job of this number and the turn of it
-pub record IsNext (cores : ℕ) (jobs : List Job) (top : Option ℕ) (count : ℕ) (job : Job) (rest : List Job) (command : Text) (serial : ℕ) : Type 0 where
-  pub is : drop count jobs ≡ job ∷ rest
-  pub command_is : command ≡ command_of cores job
-  pub serial_is : serial_at top count ≡ Some serial
+-- the next job that is due, and its serial
+pub record IsNext (dues : List Due) (count : ℕ) (due : Due) (rest : List Due) (serial : ℕ) : Type 0 where
+  pub is : drop count dues ≡ due ∷ rest
+  pub serial_is : due.serial ≡ Some serial
 
-next_in_order : (act : Act) (flow : Flow) (cores : ℕ) (jobs rest : List Job) (top : Option ℕ) (made : Serials) (count serial : ℕ) (job : Job) (command : Text)
-    (result : Result (Option Fault) Fault) (a b c : Option World) (rose : Type 0) (ra rb : List ℕ) (pa pb pc : Option Text)
-    → IsNext cores jobs top count job rest command serial
-    → (h : HasRunSoFar act flow cores jobs top made count a b ra pa pb) → (k : HasHadTurn act flow made job command serial result b c rose rb pb pc)
-    → AreInOrder cores top 0 jobs (h.turns ++ k.turn ∷ [])
-next_in_order act flow cores jobs rest top made count serial job command result a b c rose ra rb pa pb pc n h k =
-    in_order_next cores top 0 count jobs rest job h.turns k.turn h.in_order h.done (ap (λ i. drop i jobs) h.counted ∙ n.is) k.job_is (k.command_is ∙ n.command_is) (omega (arith, h.counted))
-    (n.serial_is ∙ ap Some (sym k.made_is))
+next_in_order : (act : Act) (flow : Flow) (cores : ℕ) (dues rest : List Due) (due : Due) (made : Serials) (count serial : ℕ)
+    (result : Result (Option Fault) Fault) (a b c : Option World) (before rose : Type 0) (ra rb : List ℕ) (pa pb pc : Option Text)
+    → IsNext dues count due rest serial
+    → (h : HasRunSoFar act flow cores dues made count a b before ra pa pb) → (k : HasHadTurn act flow made due.job (command_of cores due.job) serial result b c rose rb pb pc)
+    → AreInOrder cores dues (h.turns ++ k.turn ∷ [])
+next_in_order act flow cores dues rest due made count serial result a b c before rose ra rb pa pb pc n h k =
+    in_order_next cores dues rest due h.turns k.turn h.in_order h.done (ap (λ i. drop i dues) h.counted ∙ n.is) k.job_is k.command_is (n.serial_is ∙ ap Some (sym k.made_is))
 
-pub so_far_next : (act : Act) (flow : Flow) (cores : ℕ) (jobs rest : List Job) (top : Option ℕ) (made : Serials) (count serial : ℕ) (job : Job) (command : Text)
-    (result : Result (Option Fault) Fault) (a b c : Option World) (rose : Type 0) (ra rb : List ℕ) (pa pb pc : Option Text)
-    → IsNext cores jobs top count job rest command serial → result ≡ Ok None
-    → HasRunSoFar act flow cores jobs top made count a b ra pa pb → HasHadTurn act flow made job command serial result b c rose rb pb pc
-    → HasRunSoFar act flow cores jobs top made (count + 1) a c rb pa pc
-so_far_next act flow cores jobs rest top made count serial job command result a b c rose ra rb pa pb pc n is h k =
+pub so_far_next : (act : Act) (flow : Flow) (cores : ℕ) (dues rest : List Due) (due : Due) (made : Serials) (count serial : ℕ)
+    (result : Result (Option Fault) Fault) (a b c : Option World) (before later rose : Type 0) (ra rb : List ℕ) (pa pb pc : Option Text)
+    → IsNext dues count due rest serial → result ≡ Ok None → (before → rose) → (later → rose)
+    → HasRunSoFar act flow cores dues made count a b before ra pa pb → HasHadTurn act flow made due.job (command_of cores due.job) serial result b c later rb pb pc
+    → HasRunSoFar act flow cores dues made (count + 1) a c rose rb pa pc
+so_far_next act flow cores dues rest due made count serial result a b c before later rose ra rb pa pb pc n is stands rises h k =
     let answer = subst (λ r. IsTurnAnswer flow k.turn k.failed r) is k.answer in
     record {
       turns = h.turns ++ k.turn ∷ [];
       counted = length_next h.turns k.turn ∙ omega (arith, h.counted);
       done = each_next (λ (u : Turn). is_done u.course ≡ true) h.turns k.turn h.done (done_is k.turn.course (named flow k.turn.job) answer.1.0 answer.1.1 (sym answer.1.2));
-      in_order = next_in_order act flow cores jobs rest top made count serial job command result a b c rose ra rb pa pb pc n h k;
+      in_order = next_in_order act flow cores dues rest due made count serial result a b c before later ra rb pa pb pc n h k;
       fits = each_next Fits h.turns k.turn h.fits k.fits;
       did = did_turn act made h.turns k.turn a b c h.did k.did;
+      given = did_given_both act before later rose a b c stands rises h.given k.given;
       text = written_well flow h.turns k.turn result pa pb pc is h.text k.text;
       none_runs = k.none_runs answer.0;
       stays = λ some. k.stays answer.0 (h.stays some);
@@ -234,11 +236,11 @@ pub record IsCounted (tally : Tally) (done failed : ℕ) (first : Option Fault) 
   pub first_is : tally.first ≡ first
 
 -- all jobs are done
-pub run_done : (act : Act) (flow : Flow) (cores : ℕ) (jobs : List Job) (top : Option ℕ) (made : Serials) (count : ℕ) (tally : Tally) (a b : Option World) (rose : Type 0) (running : List ℕ) (pa pb : Option Text)
-    → command_fault flow cores jobs ≡ None → count ≡ length jobs → IsCounted tally count 0 None
-    → HasRunSoFar act flow cores jobs top made count a b running pa pb
-    → HasRun act flow cores jobs top made (Ok tally) a b rose running pa pb
-run_done act flow cores jobs top made count tally a b rose running pa pb good all is h = record {
+pub run_done : (act : Act) (flow : Flow) (cores : ℕ) (dues : List Due) (made : Serials) (count : ℕ) (tally : Tally) (a b : Option World) (rose : Type 0) (running : List ℕ) (pa pb : Option Text)
+    → count ≡ length dues → IsCounted tally count 0 None
+    → HasRunSoFar act flow cores dues made count a b rose running pa pb
+    → HasRun act flow cores dues made (Ok tally) a b rose running pa pb
+run_done act flow cores dues made count tally a b rose running pa pb all is h = record {
   turns = h.turns;
   failed = false;
   in_order = h.in_order;
@@ -253,9 +255,9 @@ run_done act flow cores jobs top made count tally a b rose running pa pb good al
       all = λ e. h.counted ∙ all;
     },
   );
-  refused = λ f e. absurd (none_some (command_fault flow cores jobs) f good e);
   fits = h.fits;
   did = h.did;
+  given = h.given;
   text = record { told = h.text.told; stays = λ e some. h.text.stays tt some };
   failed_rose = λ e. cc;
   none_runs = λ e. h.none_runs;
@@ -263,12 +265,12 @@ run_done act flow cores jobs top made count tally a b rose running pa pb good al
 }
 
 -- a job failed
-pub run_failed : (act : Act) (flow : Flow) (cores : ℕ) (jobs rest : List Job) (top : Option ℕ) (made : Serials) (count serial : ℕ) (job : Job) (command : Text)
-    (result : Result (Option Fault) Fault) (what : Fault) (tally : Tally) (a b c : Option World) (rose later : Type 0) (ra rb : List ℕ) (pa pb pc : Option Text)
-    → command_fault flow cores jobs ≡ None → IsNext cores jobs top count job rest command serial → result ≡ Ok (Some what) → IsCounted tally count 1 (Some what) → (later → rose)
-    → HasRunSoFar act flow cores jobs top made count a b ra pa pb → HasHadTurn act flow made job command serial result b c later rb pb pc
-    → HasRun act flow cores jobs top made (Ok tally) a c rose rb pa pc
-run_failed act flow cores jobs rest top made count serial job command result what tally a b c rose later ra rb pa pb pc good n ok is rises h k =
+pub run_failed : (act : Act) (flow : Flow) (cores : ℕ) (dues rest : List Due) (due : Due) (made : Serials) (count serial : ℕ)
+    (result : Result (Option Fault) Fault) (what : Fault) (tally : Tally) (a b c : Option World) (rose before later : Type 0) (ra rb : List ℕ) (pa pb pc : Option Text)
+    → IsNext dues count due rest serial → result ≡ Ok (Some what) → IsCounted tally count 1 (Some what) → (before → rose) → (later → rose)
+    → HasRunSoFar act flow cores dues made count a b before ra pa pb → HasHadTurn act flow made due.job (command_of cores due.job) serial result b c later rb pb pc
+    → HasRun act flow cores dues made (Ok tally) a c rose rb pa pc
+run_failed act flow cores dues rest due made count serial result what tally a b c rose before later ra rb pa pb pc n ok is stands rises h k =
     let answer = subst (λ r. IsTurnAnswer flow k.turn k.failed r) ok k.answer in
     let ending : Ending = answer.1.0 in
     let at : k.turn.course ≡ Closed ending = answer.1.1 in
@@ -278,7 +280,7 @@ run_failed act flow cores jobs rest top made count serial job command result wha
     record {
       turns = h.turns ++ k.turn ∷ [];
       failed = k.failed;
-      in_order = next_in_order act flow cores jobs rest top made count serial job command result a b c later ra rb pa pb pc n h k;
+      in_order = next_in_order act flow cores dues rest due made count serial result a b c before later ra rb pa pb pc n h k;
       answer = (
         answer.0,
         record {
@@ -290,9 +292,9 @@ run_failed act flow cores jobs rest top made count serial job command result wha
           all = λ e. absurd (none_some tally.first what e is.first_is);
         },
       );
-      refused = λ f e. absurd (none_some (command_fault flow cores jobs) f good e);
       fits = each_next Fits h.turns k.turn h.fits k.fits;
       did = did_turn act made h.turns k.turn a b c h.did k.did;
+      given = did_given_both act before later rose a b c stands rises h.given k.given;
       text = written_next flow h.turns k.turn true (false ≡ false) pa pb pc h.text text;
       failed_rose = λ e. rises (k.failed_rose e);
       none_runs = k.none_runs;
@@ -300,19 +302,19 @@ run_failed act flow cores jobs rest top made count serial job command result wha
     }
 
 -- the run stops at a job
-pub run_stopped : (act : Act) (flow : Flow) (cores : ℕ) (jobs rest : List Job) (top : Option ℕ) (made : Serials) (count serial : ℕ) (job : Job) (command : Text)
-    (result : Result (Option Fault) Fault) (f : Fault) (a b c : Option World) (rose later : Type 0) (ra rb : List ℕ) (pa pb pc : Option Text)
-    → command_fault flow cores jobs ≡ None → IsNext cores jobs top count job rest command serial → result ≡ Err f → (later → rose)
-    → HasRunSoFar act flow cores jobs top made count a b ra pa pb → HasHadTurn act flow made job command serial result b c later rb pb pc
-    → HasRun act flow cores jobs top made (Err f) a c rose rb pa pc
-run_stopped act flow cores jobs rest top made count serial job command result f a b c rose later ra rb pa pb pc good n is rises h k = record {
+pub run_stopped : (act : Act) (flow : Flow) (cores : ℕ) (dues rest : List Due) (due : Due) (made : Serials) (count serial : ℕ)
+    (result : Result (Option Fault) Fault) (f : Fault) (a b c : Option World) (rose before later : Type 0) (ra rb : List ℕ) (pa pb pc : Option Text)
+    → IsNext dues count due rest serial → result ≡ Err f → (before → rose) → (later → rose)
+    → HasRunSoFar act flow cores dues made count a b before ra pa pb → HasHadTurn act flow made due.job (command_of cores due.job) serial result b c later rb pb pc
+    → HasRun act flow cores dues made (Err f) a c rose rb pa pc
+run_stopped act flow cores dues rest due made count serial result f a b c rose before later ra rb pa pb pc n is stands rises h k = record {
   turns = h.turns ++ k.turn ∷ [];
   failed = k.failed;
-  in_order = next_in_order act flow cores jobs rest top made count serial job command result a b c later ra rb pa pb pc n h k;
+  in_order = next_in_order act flow cores dues rest due made count serial result a b c before later ra rb pa pb pc n h k;
   answer = by (subst (λ r. IsTurnAnswer flow k.turn k.failed r) is k.answer);
-  refused = λ g e. absurd (none_some (command_fault flow cores jobs) g good e);
   fits = each_next Fits h.turns k.turn h.fits k.fits;
   did = did_turn act made h.turns k.turn a b c h.did k.did;
+  given = did_given_both act before later rose a b c stands rises h.given k.given;
   text = written_next flow h.turns k.turn (is_whole {T = Tally} (Err f)) (is_output {T = Tally} (Err f) ≡ false) pa pb pc h.text
       (subst (λ x. HasWritten pb pc (is_output x ≡ false) (IsReport (is_whole x) (course_text (named flow k.turn.job) k.turn.course))) is k.text);
   failed_rose = λ e. rises (k.failed_rose e);
@@ -320,93 +322,62 @@ run_stopped act flow cores jobs rest top made count serial job command result f 
   stays = λ e some. k.stays e (h.stays some);
 }
   where
-    by : IsTurnAnswer flow k.turn k.failed (Err f) → IsOutcome flow cores jobs top (h.turns ++ k.turn ∷ []) k.failed (Err f)
+    by : IsTurnAnswer flow k.turn k.failed (Err f) → IsOutcome flow dues (h.turns ++ k.turn ∷ []) k.failed (Err f)
     by (inl x) = inl x
-    by (inr (stop, e, answer, looked)) = inr (inr (inr (record { before = h.turns; last = k.turn; stop = stop; turns_are = refl; is = e; answer = answer; looked = looked })))
+    by (inr (stop, e, answer, looked)) = inr (inr (record { before = h.turns; last = k.turn; stop = stop; turns_are = refl; is = e; answer = answer; looked = looked }))
 
 -- there is no serial
-pub run_serials : (act : Act) (flow : Flow) (cores : ℕ) (jobs : List Job) (top : Option ℕ) (made : Serials) (count : ℕ) (a b : Option World) (rose : Type 0) (running : List ℕ) (pa pb : Option Text)
-    → command_fault flow cores jobs ≡ None → count < length jobs → serial_at top count ≡ None
-    → HasRunSoFar act flow cores jobs top made count a b running pa pb
-    → HasRun act flow cores jobs top made (Err fault.Serials) a b rose running pa pb
-run_serials act flow cores jobs top made count a b rose running pa pb good next none h = record {
+pub run_serials : (act : Act) (flow : Flow) (cores : ℕ) (dues rest : List Due) (due : Due) (made : Serials) (count : ℕ) (a b : Option World) (rose : Type 0) (running : List ℕ) (pa pb : Option Text)
+    → drop count dues ≡ due ∷ rest → due.serial ≡ None
+    → HasRunSoFar act flow cores dues made count a b rose running pa pb
+    → HasRun act flow cores dues made (Err fault.Serials) a b rose running pa pb
+run_serials act flow cores dues rest due made count a b rose running pa pb next none h = record {
   turns = h.turns;
   failed = false;
   in_order = h.in_order;
-  answer = inr (inr (inl (refl, record { is = refl; next = subst (λ k. k < length jobs) (sym h.counted) next; none = ap (serial_at top) h.counted ∙ none; done = h.done })));
-  refused = λ f e. absurd (none_some (command_fault flow cores jobs) f good e);
+  answer = inr (inl (refl, record { is = refl; next = due; is_next = got_at dues rest (length h.turns) due (ap (λ i. drop i dues) h.counted ∙ next); none = none; done = h.done }));
   fits = h.fits;
   did = h.did;
+  given = h.given;
   text = record { told = h.text.told; stays = λ e some. h.text.stays tt some };
   failed_rose = λ e. cc;
   none_runs = λ e. h.none_runs;
   stays = λ e some. h.stays some;
 }
 
-abbrev as_fault : Fault → Result Tally Fault
-as_fault f = Err f
-
--- nothing was done
-pub run_not : (act : Act) (flow : Flow) (cores : ℕ) (jobs : List Job) (top : Option ℕ) (made : Serials) (f : Fault) (a : Option World) (rose : Type 0) (running : List ℕ) (put : Option Text)
-    → (f ≡ fault.OutOfMemory) ⊎ (command_fault flow cores jobs ≡ Some f) → running ≡ [] → HasRun act flow cores jobs top made (Err f) a a rose running put put
-run_not act flow cores jobs top made f a rose running put why none = record {
+-- there is no memory, and nothing was done
+pub run_not : (act : Act) (flow : Flow) (cores : ℕ) (dues : List Due) (made : Serials) (a : Option World) (rose : Type 0) (running : List ℕ) (put : Option Text)
+    → running ≡ [] → HasRun act flow cores dues made (Err fault.OutOfMemory) a a rose running put put
+run_not act flow cores dues made a rose running put none = record {
   turns = [];
   failed = false;
   in_order = tt;
-  answer = by why;
-  refused = λ g e. refused why g e;
+  answer = inl (refl, refl);
   fits = tt;
   did = did_nothing act (AreTurns made []) a (λ w. refl);
-  text = empty (is_whole {T = Tally} (Err f));
+  given = did_none_given act rose a;
+  text = record { told = λ now e. (now, e, ([], ([], refl), sym (append-nil now))); stays = λ e some. some };
   failed_rose = λ e. cc;
   none_runs = λ e. none;
   stays = λ e some. some;
 }
-  where
-    same_fault : (g : Fault) (x : Option Fault) → x ≡ Some f → x ≡ Some g → f ≡ g
-    same_fault g x h k = cc
 
-    by : (f ≡ fault.OutOfMemory) ⊎ (command_fault flow cores jobs ≡ Some f) → IsOutcome flow cores jobs top [] false (Err f)
-    by (inl e) = inl (refl, e)
-    by (inr e) = inr (inl (refl, refl, e))
-
-    refused : (f ≡ fault.OutOfMemory) ⊎ (command_fault flow cores jobs ≡ Some f) → (g : Fault) → command_fault flow cores jobs ≡ Some g → (as_fault f ≡ as_fault g) ⊎ (as_fault f ≡ as_fault fault.OutOfMemory)
-    refused (inl e) g h = inr (ap as_fault e)
-    refused (inr e) g h = inl (ap as_fault (same_fault g (command_fault flow cores jobs) e h))
-
-    empty : (whole : Bool) → HasWritten put put (is_output {T = Tally} (Err f) ≡ false) (IsReport whole [])
-    empty true = record { told = λ now e. (now, e, ([], refl, sym (append-nil now))); stays = λ e some. some }
-    empty false = record { told = λ now e. (now, e, ([], ([], refl), sym (append-nil now))); stays = λ e some. some }
-
--- there are no more turns than jobs
-few_turns : (cores : ℕ) (top : Option ℕ) (number : ℕ) (jobs : List Job) (ts : List Turn) → AreInOrder cores top number jobs ts → length ts ≤ length jobs
-few_turns cores top number jobs [] h = omega arith
-few_turns cores top number [] (t ∷ ts) h = absurd h
-few_turns cores top number (job ∷ jobs) (t ∷ ts) h =
-    let more = few_turns cores top (suc number) jobs ts h.4 in
+-- there are no more turns than jobs that are due
+few_turns : (cores : ℕ) (dues : List Due) (ts : List Turn) → AreInOrder cores dues ts → length ts ≤ length dues
+few_turns cores dues [] h = omega arith
+few_turns cores [] (t ∷ ts) h = absurd h
+few_turns cores (due ∷ dues) (t ∷ ts) h =
+    let more = few_turns cores dues ts h.4 in
     omega (arith, more)
 
-pub all_turns : (act : Act) (flow : Flow) (cores : ℕ) (jobs : List Job) (top : Option ℕ) (made : Serials) (count : ℕ) (a b : Option World) (running : List ℕ) (pa pb : Option Text)
-    → length jobs ≤ count → HasRunSoFar act flow cores jobs top made count a b running pa pb → count ≡ length jobs
-all_turns act flow cores jobs top made count a b running pa pb le h =
-    let few = few_turns cores top 0 jobs h.turns h.in_order in
+pub all_turns : (act : Act) (flow : Flow) (cores : ℕ) (dues : List Due) (made : Serials) (count : ℕ) (a b : Option World) (rose : Type 0) (running : List ℕ) (pa pb : Option Text)
+    → length dues ≤ count → HasRunSoFar act flow cores dues made count a b rose running pa pb → count ≡ length dues
+all_turns act flow cores dues made count a b rose running pa pb le h =
+    let few = few_turns cores dues h.turns h.in_order in
     omega (arith, le, few, h.counted)
 
--- there is no serial, and so no job has its turn
-pub run_serialless : (act : Act) (flow : Flow) (cores : ℕ) (jobs : List Job) (made : Serials) (r : Result Tally Fault) (a : Option World) (rose : Type 0) (running : List ℕ) (put : Option Text)
-    → command_fault flow cores jobs ≡ None → running ≡ [] → IsWithoutSerial jobs r → HasRun act flow cores jobs None made r a a rose running put put
-run_serialless act flow cores [] made r a rose running put good none is =
-    subst (λ x. HasRun act flow cores [] None made x a a rose running put put) (sym is)
-    (run_done act flow cores [] None made 0 (record { started = 0; done = 0; failed = 0; first = None }) a a rose running put put good refl
-    (record { started_is = refl; done_is = refl; failed_is = refl; first_is = refl }) (so_far_start act flow cores [] None made a running put none))
-run_serialless act flow cores (job ∷ jobs) made r a rose running put good none is =
-    subst (λ x. HasRun act flow cores (job ∷ jobs) None made x a a rose running put put) (sym is)
-    (run_serials act flow cores (job ∷ jobs) None made 0 a a rose running put put good (omega arith) refl (so_far_start act flow cores (job ∷ jobs) None made a running put none))
-
 -- the same jobs and serials
-pub run_as : (act : Act) (flow : Flow) (cores : ℕ) (js jobs : List Job) (t top : Option ℕ) (m made : Serials) (r : Result Tally Fault) (a b : Option World) (rose : Type 0) (running : List ℕ) (pa pb : Option Text)
-    → js ≡ jobs → t ≡ top → m ≡ made → HasRun act flow cores js t m r a b rose running pa pb → HasRun act flow cores jobs top made r a b rose running pa pb
-run_as act flow cores js jobs t top m made r a b rose running pa pb e f g h =
-    subst (λ x. HasRun act flow cores jobs top x r a b rose running pa pb) g
-    (subst (λ x. HasRun act flow cores jobs x m r a b rose running pa pb) f
-    (subst (λ x. HasRun act flow cores x t m r a b rose running pa pb) e h))
+pub run_as : (act : Act) (flow : Flow) (cores : ℕ) (ds dues : List Due) (m made : Serials) (r : Result Tally Fault) (a b : Option World) (rose : Type 0) (running : List ℕ) (pa pb : Option Text)
+    → ds ≡ dues → m ≡ made → HasRun act flow cores ds m r a b rose running pa pb → HasRun act flow cores dues made r a b rose running pa pb
+run_as act flow cores ds dues m made r a b rose running pa pb e f h =
+    subst (λ x. HasRun act flow cores dues x r a b rose running pa pb) f (subst (λ x. HasRun act flow cores x m r a b rose running pa pb) e h)

@@ -23,6 +23,7 @@ use Rattle.smk_run.specs.Reports as one
 use Rattle.smk_run.specs.Reports.{named, course_text, IsReport, HasWritten, HasTurned, IsAnswer, failure, stop_fault, is_refusal}
 use Rattle.smk_run.specs.Runs.{turn_of, IsLooked, IsLookedBy, HasTaken, HasHadTurn, IsToldStop, is_whole, is_output}
 use Rattle.smk_run.proofs.Texts.{no_text}
+use Rattle.smk_run.proofs.Honest.{did_none_given, did_given_both, stamped_given}
 
 -- ## The stamps, and then the job
 
@@ -57,6 +58,7 @@ taken act flow made job command serial paths stamps r result a b c rose later ru
     did = did_both act (λ w es. AreStamped made (in_paths job.recipe) stamps es) (as_gone job command serial stamps h.course) (IsTurn made (turn_of job command serial (Ok stamps) h.course)) a b c
         (subst (λ l. Did act a b (λ w es. AreStamped made l stamps es)) at (subst (λ x. Did act a b (λ w es. HasStamped made paths x es)) ok seen)) h.did
         (λ w es fs follows f follows2 g. gone_turn made job command serial stamps h.course w es fs f g);
+    given = did_given_both act rose later rose a b c (λ x. x) rises (stamped_given act rose made paths r a b seen) h.given;
     text = h.text;
     fits = h.fits;
     failed_rose = λ e. rises (h.failed_rose e);
@@ -93,6 +95,7 @@ not_taken act flow made job command serial paths stop r a b rose running put at 
     failed = one.is_device {T = List Stamp} (Err stop);
     answer = look_answer (too_long serial job.recipe []) stop kind;
     did = subst (λ l. Did act a b (λ w es. HasStamped made l (Err stop) es)) at (subst (λ x. Did act a b (λ w es. HasStamped made paths x es)) is seen);
+    given = stamped_given act rose made paths r a b seen;
     text = no_text (one.is_whole {T = Ending} (Err stop)) put (one.is_output {T = Ending} (Err stop) ≡ false);
     fits = λ e. cc;
     failed_rose = λ e. rises (ap one.is_device is ∙ e);
@@ -112,6 +115,7 @@ nothing_taken act flow made job command serial a rose running put none = record 
     failed = false;
     answer = refl;
     did = did_nothing act (IsTurn made (turn_of job command serial (Err OutOfMemory) Unbegun)) a (λ w. tt);
+    given = did_none_given act rose a;
     text = no_text false put (false ≡ false);
     fits = λ e. cc;
     failed_rose = λ e. cc;
@@ -145,6 +149,7 @@ had_turn act flow made job command serial ending name first r a b rose running p
       answer = (answer.1, (ending, answer.0, is ∙ ap (λ n. failure n ending) called));
       fits = t.fits;
       did = t.did;
+      given = t.given;
       text = subst (λ (x : Result Ending Stop). HasWritten put_old put_new (one.is_output x ≡ false) (IsReport (one.is_whole x) (course_text (named flow job) t.course))) ok t.text;
       failed_rose = t.failed_rose;
       none_runs = t.none_runs;
@@ -168,6 +173,7 @@ had_turn_untold act flow made job command serial ending r a b rose running put_o
       answer = inl (answer.1, refl);
       fits = t.fits;
       did = t.did;
+      given = t.given;
       text = weaker put_old put_new (false ≡ false) (false ≡ false) (course_text (named flow job) t.course) (λ e. e)
           (subst (λ (x : Result Ending Stop). HasWritten put_old put_new (one.is_output x ≡ false) (IsReport (one.is_whole x) (course_text (named flow job) t.course))) ok t.text);
       failed_rose = t.failed_rose;
@@ -230,6 +236,7 @@ had_turn_stopped act flow made job command serial stop name f r a b rose running
           answer = inr (stop, same, t.answer, subst (λ x. IsLookedBy h.looked x) is h.why);
           fits = t.fits;
           did = t.did;
+          given = t.given;
           text = written_as put_old put_new (one.is_output {T = Ending} (Err stop)) (is_output {T = Option Fault} (Err f)) (one.is_whole {T = Ending} (Err stop)) (is_whole {T = Option Fault} (Err f)) (course_text (named flow job) t.course)
               (output_stop (named flow job) stop ∙ ap (λ x. is_output {T = Option Fault} (Err x)) (sym same))
               (whole_stop (named flow job) stop ∙ ap (λ x. is_whole {T = Option Fault} (Err x)) (sym same)) t.text;
@@ -246,6 +253,7 @@ had_turn_stopped act flow made job command serial stop name f r a b rose running
       answer = inl (refusal_calm (too_long serial job.recipe (found h.looked)) t.course t.failed stop e.1 t.answer, e.0);
       fits = t.fits;
       did = t.did;
+      given = t.given;
       text = subst (λ x. HasWritten put_old put_new (is_output {T = Option Fault} (Err x) ≡ false) (IsReport (is_whole {T = Option Fault} (Err x)) (course_text (named flow job) t.course))) (sym e.0)
           (refusal_text put_old put_new stop (course_text (named flow job) t.course) e.1 t.text);
       failed_rose = t.failed_rose;
@@ -265,6 +273,7 @@ no_turn act flow made job command serial a rose running put none = record {
   answer = inl (refl, refl);
   fits = λ e. cc;
   did = did_nothing act (IsTurn made (turn_of job command serial (Err OutOfMemory) Unbegun)) a (λ w. tt);
+  given = did_none_given act rose a;
   text = no_text false put (false ≡ false);
   failed_rose = λ e. cc;
   none_runs = λ e. none;

@@ -21,7 +21,9 @@ use Rattle.smk_run.specs.declared.stop.Stop.TheVariants.{TooLong, Gone, Device, 
 use Rattle.smk_run.specs.Closings.{HasClosed, device_failed}
 use Rattle.smk_run.specs.Turns.{Course, Unbegun, Unstarted, Unclosed, Closed, HasGoneOn, as_gone, stop_of, left_stop}
 use Rattle.smk_run.specs.Reports.{course_text, IsReport, HasWritten, HasTurned, IsAnswer, is_whole, is_output}
+use Rattle.smk_run.specs.Statuses.{AreGiven}
 use Rattle.smk_run.proofs.Texts.{course_of, no_text}
+use Rattle.smk_run.proofs.Honest.{did_none_given, did_given_both, begun_given}
 
 -- ## A child that runs
 
@@ -35,12 +37,14 @@ pub attended : (act : Act) (j : Underway) (name : Named) (closed k : Result Endi
     → Did act a b (λ w es. HasClosed j closed w es)
     → HasWritten put_old put_new (is_output result ≡ false) (IsReport (is_whole result) (course_text name (course_of k)))
     → (device_failed closed ≡ true → rose) → (device_failed closed ≡ false → running ≡ []) → (device_failed closed ≡ false → IsSome a → IsSome b)
+    → Did act a b (AreGiven act rose)
     → HasTurned act (HasGoneOn j) name None result a b rose running put_old put_new
-attended act j name closed k result a b rose running put_old put_new same answer did text failed_rose none_runs stays = record {
+attended act j name closed k result a b rose running put_old put_new same answer did text failed_rose none_runs stays given = record {
   course = course_of k;
   failed = device_failed k;
   answer = answer;
   did = gone_on act j k a b (subst (λ x. Did act a b (λ w es. HasClosed j x w es)) same did);
+  given = given;
   text = text;
   fits = λ e. refl;
   failed_rose = λ h. failed_rose (ap device_failed same ∙ h);
@@ -116,6 +120,7 @@ turned act job command made stamps name called long going r result a b c rose la
   did = did_both act (λ w es. HasBegun job.recipe job.logs command (Ok going) es) (HasGoneOn going h.course) (as_gone job command made stamps h.course) a b c
       (subst (λ x. Did act a b (λ w es. HasBegun job.recipe job.logs command x es)) ok begun) h.did
       (λ w es fs follows f follows2 g. begun_and job command made stamps going h.course w es fs is f g);
+  given = did_given_both act rose later rose a b c (λ x. x) rises (begun_given act rose job.recipe job.logs command r a b begun) h.given;
   text = subst (λ n. HasWritten put_old put_new (is_output result ≡ false) (IsReport (is_whole result) (course_text n h.course))) same h.text;
   fits = λ e. subst (λ x. MayAnswer long x) ok may;
   failed_rose = λ e. rises (h.failed_rose e);
@@ -131,6 +136,7 @@ unturned act job command made stamps name long stop a b rose running put same an
   failed = false;
   answer = answer;
   did = subst (λ x. Did act a x (as_gone job command made stamps Unbegun)) (sym same) (did_nothing act (as_gone job command made stamps Unbegun) a (λ w. refl));
+  given = subst (λ x. Did act a x (AreGiven act rose)) (sym same) (did_none_given act rose a);
   text = no_text (is_whole {T = Ending} (Err stop)) put (is_output {T = Ending} (Err stop) ≡ false);
   fits = λ e. cc;
   failed_rose = λ e. cc;
@@ -153,6 +159,7 @@ not_turned act job command made stamps name long r begin.Device a b rose running
   failed = true;
   answer = (refl, refl);
   did = subst (λ x. Did act a b (λ w es. HasBegun job.recipe job.logs command x es)) is begun;
+  given = begun_given act rose job.recipe job.logs command r a b begun;
   text = no_text true put (false ≡ false);
   fits = λ e. subst (λ x. MayAnswer long x) is may;
   failed_rose = λ e. rises is;

@@ -1,5 +1,5 @@
 -- What is reported of a turn, and what its end answers.
-use Rattle.std.specs.Prelude.{◌≡◌, ℕ, Bool, true, false, List, [], ◌++◌, Option, Some, None, option_map, slice_get, Result, Ok, Err, IsSome}
+use Rattle.std.specs.Prelude.{◌≡◌, ℕ, Bool, true, false, List, [], ◌++◌, Option, Some, None, Result, Ok, Err, IsSome}
 use Rattle.std.specs.List.{flat_map}
 use Rattle.smk_world.specs.World.{World, out_paths}
 use Rattle.smk_world.specs.declared.event.Event.{Event}
@@ -7,8 +7,8 @@ use Rattle.smk_world.specs.Runs.{Did}
 use Rattle.smk_world.specs.Trees.{Act, first}
 use Rattle.smk_pattern.specs.Reading.{or_empty}
 use Rattle.smk_flow.specs.declared.job.Job.{Job}
-use Rattle.smk_flow.specs.declared.rule.RulePart.{RulePart}
 use Rattle.smk_flow.specs.Flows.{Flow}
+pub use Rattle.smk_flow.specs.Flows.{rule_name}
 use Rattle.smk_report.specs.Lines.{Text, Named, start_line, done_line, failed_line}
 use Rattle.smk_report.specs.Lines as report
 use Rattle.smk_report.specs.declared.fault.Fault.{Fault}
@@ -17,13 +17,10 @@ use Rattle.smk_run.specs.declared.ending.Ending.{Ending}
 use Rattle.smk_run.specs.declared.ending.Ending.TheVariants.{Good, Status, NoOutput, WrongKind, BadMember}
 use Rattle.smk_run.specs.declared.stop.Stop.{Stop}
 use Rattle.smk_run.specs.declared.stop.Stop.TheVariants.{TooLong, Gone, Device, Output, OutOfMemory}
+use Rattle.smk_run.specs.Statuses.{AreGiven}
 use Rattle.smk_run.specs.Turns.{Course, Unbegun, Unstarted, Unclosed, Closed, Turn, is_closed, is_begun, is_started}
 
 -- ## Names
-
--- the name of the rule with this number
-abbrev pub rule_name : Flow → ℕ → Text
-rule_name flow n = or_empty (option_map (λ (r : RulePart). r.name) (slice_get flow.rules n))
 
 -- a job is named by its rule and its first output
 abbrev pub named : Flow → Job → Named
@@ -140,6 +137,8 @@ pub record HasTurned (act : Act) (P : Course → World → List Event → Type 0
   pub failed : Bool
   pub answer : IsAnswer long course failed result
   pub did : Did act old new (P course)
+  -- each status that was told is the command's own, or the count of faults rose
+  pub given : Did act old new (AreGiven act rose)
   pub text : HasWritten put_old put_new (is_output result ≡ false) (IsReport (is_whole result) (course_text name course))
   -- where anything was done but looks, nothing was too long
   pub fits : is_begun course ≡ true → long ≡ None

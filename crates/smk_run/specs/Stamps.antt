@@ -1,5 +1,5 @@
 -- The stamps of a job's inputs as its turn comes.
-use Rattle.std.specs.Prelude.{◌≡◌, ◌⊎◌, ◌<◌, ℕ, Bool, true, false, List, [], ◌∷◌, ◌++◌, ◌+◌, Option, Some, None, option_map, Result, Ok, Err, String}
+use Rattle.std.specs.Prelude.{◌≡◌, ◌⊎◌, ◌<◌, ℕ, Bool, true, false, List, [], ◌∷◌, ◌++◌, Option, Some, None, Result, Ok, Err, String}
 use Rattle.std.specs.Global.{Global}
 use Rattle.std.specs.BTreeMap.{BTreeMap, get_by_text}
 use Rattle.std.specs.Option.{option_and_then}
@@ -109,12 +109,8 @@ abbrev pub IsBelow : ℕ → Option ℕ → Type 0
 IsBelow made None = Unit {0}
 IsBelow made (Some serial) = serial < made
 
--- ## Makers by path
+-- ## Numbers by path
 
--- the number of the job that makes the path, as a map has it; none for a source
-abbrev pub number_at : BTreeMap (String Global) (Option ℕ) → Path → Option ℕ
+-- the number that a map has for the path, as the serial of a product; none for a source
+abbrev pub number_at : BTreeMap (String Global) (Option ℕ) → Serials
 number_at numbers p = option_and_then (λ (n : Option ℕ). n) (get_by_text numbers p)
-
--- the serials of products, where the first job draws this one
-abbrev pub made_by : BTreeMap (String Global) (Option ℕ) → ℕ → Serials
-made_by numbers top p = option_map (λ n. top + n) (number_at numbers p)

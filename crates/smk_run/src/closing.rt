@@ -1,8 +1,9 @@
 //! A job is closed whose child runs.
 
 ghost use Rattle.std.specs.Prelude.{◌≡◌, ◌∷◌, [], false, true, IsSome};
-ghost use Rattle.smk_world.specs.Calls.{HasCause};
+ghost use Rattle.smk_world.specs.Calls.{HasCause, Rose};
 ghost use Rattle.smk_world.specs.Runs.{Did};
+ghost use Rattle.smk_run.specs.Statuses.{AreGiven};
 ghost use Rattle.smk_run.specs.Closings.{HasSettled, HasClosed, ending_of, device_failed};
 
 use crate::Ending;
@@ -52,6 +53,7 @@ fn settle<W: Crew>(
 pub(crate) fn close<W: Crew>(alloc: Global, work: &mut W, going: Going) -> Result<Ending, WorkFault>
     requires one_runs { W.running work.old ≡ going.number ∷ [] }
     ensures did { Did W.act (W.world work.old) (W.world work.new) (λ w es. HasClosed going result w es) }
+    ensures given { Did W.act (W.world work.old) (W.world work.new) (AreGiven W.act (Rose (W.faults work.old) (W.faults work.new))) }
     ensures stays { device_failed result ≡ false → IsSome (W.world work.old) → IsSome (W.world work.new) }
     ensures cause { HasCause (W.faults work.old) (W.faults work.new) (device_failed result ≡ true) }
     ensures running { device_failed result ≡ false → W.running work.new ≡ [] }

@@ -5,9 +5,9 @@ ghost use Rattle.smk_run.specs.Reports.{failure};
 ghost use Rattle.smk_run.specs.Runs.{IsToldStop};
 ghost use Rattle.smk_report.specs.declared.fault.Fault.TheVariants as fault;
 
-use crate::commands::too_long;
 use crate::{Ending, Stop};
 use smk_base::{OutOfMemory, PathText, Text};
+use smk_commands::too_long;
 use smk_report::Fault;
 use std::alloc::Global;
 

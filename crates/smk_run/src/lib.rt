@@ -2,18 +2,22 @@
 #![tactic(auto)]
 
 mod closing;
-mod commands;
+mod duty;
 mod ending;
 mod faults;
+mod laws;
 mod lines;
 mod one;
+mod serials;
 mod stamps;
 mod stop;
 mod tally;
 mod turns;
 mod whole;
 
+pub use duty::Duty;
 pub use ending::Ending;
+pub use laws::{closed_turns_tell_status, due_commands_are_good};
 pub use one::run_one;
 pub use stop::Stop;
 pub use tally::Tally;

@@ -4,25 +4,15 @@ ghost use Rattle.std.specs.Prelude.{◌≡◌, ◌⊎◌, ◌++◌, map, IfOk, I
 ghost use Rattle.smk_world.specs.Calls.{HasPut, HasCause};
 ghost use Rattle.smk_world.specs.Trees.{first};
 ghost use Rattle.smk_world.specs.World.{out_paths};
-ghost use Rattle.smk_run.specs.Reports.{rule_name, end_line, is_output};
+ghost use Rattle.smk_run.specs.Reports.{end_line, is_output};
 ghost use Rattle.smk_run.specs.declared.stop.Stop.TheVariants as stop;
 
 use crate::{Ending, Stop};
 use smk_base::{OutOfMemory, PathText, Text};
-use smk_flow::{Job, Workflow};
+use smk_flow::Job;
 use smk_report::job_line;
 use smk_world::{Failed, Out, Sink};
 use std::alloc::{AllocError, Global};
-
-/// The name of the rule with this number.
-pub(crate) fn rule_name(flow: &Workflow, number: u32) -> &str
-    ensures { result.now ≡ rule_name flow.now number }
-{
-    match flow.rules().as_slice().get(number as usize) {
-        Some(rule) => rule.part.name.as_str(),
-        None => "",
-    }
-}
 
 // The path of the first output.
 fn first_path(outs: &[Out]) -> Option<&PathText>

@@ -12,9 +12,10 @@ ghost use Rattle.smk_run.specs.Turns.{HasGoneOn, as_gone, stop_of, left_stop};
 ghost use Rattle.smk_run.specs.Reports.{HasTurned, named, is_output, is_device};
 
 use crate::closing::close;
-use crate::lines::{first_output, rule_name, tell_end, write_out};
+use crate::lines::{first_output, tell_end, write_out};
 use crate::{Ending, Stop};
 use smk_base::{List, PathText, Text};
+use smk_commands::rule_name;
 use smk_flow::{Job, Workflow};
 use smk_job::{BeginFault, Going, begin};
 use smk_record::Stamp;

@@ -1,61 +1,29 @@
 //! The stamps of a job's inputs.
 
-ghost use Rattle.std.specs.Prelude.{◌≡◌, ◌⊎◌, ◌+◌, ◌++◌, map, Some, IfOk, IfErr, OnOk, IsSome, bytes_eq, length, if◌then◌else◌, true, false};
-ghost use Rattle.std.specs.BTreeMap.{get_by_text};
+ghost use Rattle.std.specs.Prelude.{◌≡◌, ◌⊎◌, ◌+◌, ◌++◌, map, IfOk, IfErr, OnOk, IsSome, length, true, false};
 ghost use Rattle.std.specs.List.{flat_map, list_all};
 ghost use Rattle.smk_world.specs.Calls.{HasCause};
 ghost use Rattle.smk_world.specs.Runs.{Did};
 ghost use Rattle.smk_world.specs.Trees.{Path, Each, is_path_text};
 ghost use Rattle.smk_world.specs.World.{in_paths, out_paths};
 ghost use Rattle.smk_record.specs.Records.{is_earlier};
-ghost use Rattle.smk_run.specs.Stamps.{HasTimed, HasStamp, HasPushed, HasStamped, IsBelow, IsTimeIn, is_of_look, is_refused_look, number_at, made_by};
+ghost use Rattle.smk_run.specs.Stamps.{HasTimed, HasStamp, HasPushed, HasStamped, IsBelow, IsTimeIn, is_of_look, is_refused_look, number_at};
 ghost use Rattle.smk_run.specs.Reports.{is_device};
-ghost use Rattle.smk_run.specs.Runs.{maker_in};
 ghost use Rattle.smk_run.specs.declared.stop.Stop.TheVariants as stop;
 
 use crate::Stop;
 use smk_base::{Copied, List, OutOfMemory, PathText, Place};
-use smk_chain::Maker;
 use smk_record::Stamp;
 use smk_world::{Failed, Files, Item, Out, OutItem, Recipe, Stat};
 use std::alloc::Global;
 use std::collections::BTreeMap;
 
-// Notes which job makes the path.
-fn put(
-    alloc: Global,
-    numbers: &mut BTreeMap<String, Option<u32>>,
-    maker: &Maker,
-) -> Result<(), OutOfMemory>
-    ensures { OnOk result ((q : Path) → get_by_text numbers.new q ≡ (if bytes_eq maker.now.path q then Some maker.now.job else get_by_text numbers.old q)) }
+// The serial of the product at the path.
+fn serial_at(serials: &BTreeMap<String, Option<u64>>, path: &PathText) -> Option<u64>
+    ensures { result ≡ number_at serials.now path.now }
 {
-    let key = String::from_str(alloc, maker.path.as_str())?;
-    numbers.insert(key, maker.job)?;
-    Ok(())
-}
-
-/// The numbers of the jobs by the paths that they make.
-pub(crate) fn numbers_of(
-    alloc: Global,
-    makers: &[Maker],
-) -> Result<BTreeMap<String, Option<u32>>, OutOfMemory>
-    ensures { IfOk result (λ numbers. (q : Path) → number_at numbers q ≡ maker_in makers.now q) }
-{
-    let mut numbers = BTreeMap::new(alloc);
-    let mut rest = makers;
-    'numbers: while let Some((last, before)) = rest.split_last() {
-        put(alloc, &mut numbers, last)?;
-        rest = before;
-    }
-    Ok(numbers)
-}
-
-// The number of the job that makes the path.
-fn number_of(numbers: &BTreeMap<String, Option<u32>>, path: &PathText) -> Option<u32>
-    ensures { result ≡ number_at numbers.now path.now }
-{
-    match numbers.get(path.as_str()) {
-        Some(number) => *number,
+    match serials.get(path.as_str()) {
+        Some(serial) => *serial,
         None => None,
     }
 }
@@ -156,22 +124,21 @@ fn time_of<W: Files>(alloc: Global, path: &PathText, work: &mut W) -> Result<u64
 // The stamp of the input: of a product the serial of its job, of a source its time.
 fn stamp_of<W: Files>(
     alloc: Global,
-    numbers: &BTreeMap<String, Option<u32>>,
-    top: u64,
+    serials: &BTreeMap<String, Option<u64>>,
     made: u64,
     path: &PathText,
     work: &mut W,
 ) -> Result<Stamp, Stop>
-    requires below { IsBelow made (made_by numbers.now top path.now) }
-    ensures did { Did W.act (W.world work.old) (W.world work.new) (λ w es. HasStamp (made_by numbers.now top path.now) path.now result es) }
+    requires below { IsBelow made (number_at serials.now path.now) }
+    ensures did { Did W.act (W.world work.old) (W.world work.new) (λ w es. HasStamp (number_at serials.now path.now) path.now result es) }
     ensures earlier { IfOk result (λ stamp. is_earlier made stamp ≡ true) }
     ensures stays { is_device result ≡ false → IsSome (W.world work.old) → IsSome (W.world work.new) }
     ensures cause { HasCause (W.faults work.old) (W.faults work.new) (is_device result ≡ true) }
     ensures running { W.running work.new ≡ W.running work.old }
     ensures kind { IfErr result (λ stop. is_of_look stop ≡ true) }
 {
-    match number_of(numbers, path) {
-        Some(number) => Ok(Stamp::Made(top + u64::from(number))),
+    match serial_at(serials, path) {
+        Some(serial) => Ok(Stamp::Made(serial)),
         None => match time_of(alloc, path, work) {
             Ok(time) => Ok(Stamp::Time(time)),
             Err(stop) => Err(stop),
@@ -182,15 +149,14 @@ fn stamp_of<W: Files>(
 // Adds the stamp of the input.
 fn push_stamp<W: Files>(
     alloc: Global,
-    numbers: &BTreeMap<String, Option<u32>>,
-    top: u64,
+    serials: &BTreeMap<String, Option<u64>>,
     made: u64,
     path: &PathText,
     stamps: &mut List<Stamp>,
     work: &mut W,
 ) -> Result<(), Stop>
-    requires below { IsBelow made (made_by numbers.now top path.now) }
-    ensures did { Did W.act (W.world work.old) (W.world work.new) (λ w es. HasPushed (made_by numbers.now top path.now) path.now stamps.old stamps.new result es) }
+    requires below { IsBelow made (number_at serials.now path.now) }
+    ensures did { Did W.act (W.world work.old) (W.world work.new) (λ w es. HasPushed (number_at serials.now path.now) path.now stamps.old stamps.new result es) }
     ensures longer { OnOk result (length stamps.new ≡ length stamps.old + 1) }
     ensures earlier { OnOk result (list_all (is_earlier made) stamps.old ≡ true → list_all (is_earlier made) stamps.new ≡ true) }
     ensures stays { is_device result ≡ false → IsSome (W.world work.old) → IsSome (W.world work.new) }
@@ -198,7 +164,7 @@ fn push_stamp<W: Files>(
     ensures running { W.running work.new ≡ W.running work.old }
     ensures kind { IfErr result (λ stop. is_of_look stop ≡ true) }
 {
-    match stamp_of(alloc, numbers, top, made, path, work) {
+    match stamp_of(alloc, serials, made, path, work) {
         Ok(stamp) => match stamps.push(stamp) {
             Ok(()) => Ok(()),
             Err(OutOfMemory) => Err(Stop::OutOfMemory),
@@ -207,17 +173,16 @@ fn push_stamp<W: Files>(
     }
 }
 
-/// The stamps of the inputs at these paths, in order, where the first job draws the serial `top`. Those of products are below the serial `made`.
+/// The stamps of the inputs at these paths, in order, where products have these serials, which are below the serial `made`.
 pub(crate) fn stamps_of<W: Files>(
     alloc: Global,
-    numbers: &BTreeMap<String, Option<u32>>,
-    top: u64,
+    serials: &BTreeMap<String, Option<u64>>,
     made: u64,
     paths: &[PathText],
     work: &mut W,
 ) -> Result<List<Stamp>, Stop>
-    requires below { Each (λ p. IsBelow made (made_by numbers.now top p)) paths.now }
-    ensures did { Did W.act (W.world work.old) (W.world work.new) (λ w es. HasStamped (made_by numbers.now top) paths.now result es) }
+    requires below { Each (λ p. IsBelow made (number_at serials.now p)) paths.now }
+    ensures did { Did W.act (W.world work.old) (W.world work.new) (λ w es. HasStamped (number_at serials.now) paths.now result es) }
     ensures each { IfOk result (λ stamps. length stamps ≡ length paths.now) }
     ensures earlier { IfOk result (λ stamps. list_all (is_earlier made) stamps ≡ true) }
     ensures stays { is_device result ≡ false → IsSome (W.world work.old) → IsSome (W.world work.new) }
@@ -227,7 +192,7 @@ pub(crate) fn stamps_of<W: Files>(
 {
     let mut stamps = List::new(alloc);
     for (number, path) in paths.iter().enumerate() {
-        match push_stamp(alloc, numbers, top, made, path, &mut stamps, work) {
+        match push_stamp(alloc, serials, made, path, &mut stamps, work) {
             Ok(()) => {}
             Err(stop) => return Err(stop),
         }

@@ -2,77 +2,67 @@
 
 ghost use Rattle.std.specs.Prelude.{◌≡◌, [], true, false};
 ghost use Rattle.smk_world.specs.Calls.{HasCause, Rose};
-ghost use Rattle.smk_store.specs.Serials.{next_serial};
-ghost use Rattle.smk_run.specs.Runs.{AreRunnable, HasRun, serials, is_output, is_device, IsWithoutSerial};
+ghost use Rattle.smk_run.specs.Duties.{IsOld, AreServable, due, serials};
+ghost use Rattle.smk_run.specs.Runs.{AreRunnable, AreGood, HasRun, is_output, is_device};
 
-use crate::Tally;
-use crate::commands::check_commands;
-use crate::stamps::numbers_of;
-use crate::turns::{ended, run_all};
+use crate::serials::{made_by, serials_of};
+use crate::turns::run_all;
+use crate::{Duty, Tally};
+use smk_base::List;
 use smk_chain::Jobs;
-use smk_flow::{Job, Workflow};
+use smk_flow::Workflow;
 use smk_report::Fault;
-use smk_store::Store;
 use smk_world::{Crew, Files, Sink};
 use std::alloc::Global;
 
-// What is answered where there is no serial at all: nothing, where there is no job.
-fn without_serial(jobs: &[Job]) -> Result<Tally, Fault>
-    ensures { IsWithoutSerial jobs.now result }
-{
-    if jobs.is_empty() {
-        Ok(ended(0, 0, None))
-    } else {
-        Err(Fault::Serials)
-    }
-}
-
-/// Runs the jobs one after another, in order, and reports each on the sink: a line as it starts, and one as it ends. A job draws one serial more than
-/// the job before it; the first draws the store's next one. After a job that failed none is started, and its fault is the tally's.
+/// Runs the jobs that are due one after another, in order, and reports each on the sink: a line as it starts, and one as it ends. There is a duty for each
+/// job. One that rests is passed over: it has neither a turn nor a line. One that is restored keeps its serial; one that is run draws the next, of which the first is
+/// `first`, and each other one is greater by one than the one before. After a job that failed none is started, and its fault is the tally's.
 ///
-/// `UnknownField`, `TooLong`: a command has a field without a value, or is too long or has NUL; exactly where that is so of a job, with the first such job; nothing
-/// was done then. `Serials` exactly where a job's turn comes and there is no serial for it. `TooLong` too where the record of a job would be too long as its turn
+/// `Serials` exactly where the turn comes of a job that draws a serial, and there is none for it. `TooLong` where the record of a job would be too long as its turn
 /// comes, and `NoInput` where a look finds no file at an input that was a source; then nothing was done of that job but looks at its inputs. `Device`: a call of
 /// the device failed, and none came after it but the wait for a running child. `Output`: the sink failed. `OutOfMemory`: want of memory. After each
 /// fault no further job was started, and the child that ran was waited for and its job closed, unless a call of the device failed.
 ///
 /// No child runs before. Threads are cut to the cores. The jobs can be run: each has an output, its outputs and logs don't overlap one another, the names
-/// of its wildcards rise, and what makes its inputs comes before it. An input that nothing is known of counts as a source.
+/// of its wildcards rise, and what makes its inputs comes before it. The duties can be done: what is kept is below `first`, and what a job that is restored reads
+/// is below what it keeps and isn't drawn in this run. The commands of jobs that are due have no fault. An input that nothing is known of counts as a source.
 pub fn run_jobs<W: Crew, O: Sink>(
     alloc: Global,
     flow: &Workflow,
     jobs: &Jobs,
-    store: &Store,
+    duties: &List<Duty>,
+    first: Option<u64>,
     cores: u64,
     work: &mut W,
     out: &mut O,
 ) -> Result<Tally, Fault>
     requires none_runs { W.running work.old ≡ [] }
     requires runnable { AreRunnable jobs.now }
-    ensures run { HasRun W.act flow.now cores jobs.now.jobs (next_serial store.now) (serials jobs.now.makers (next_serial store.now)) result (W.world work.old) (W.world work.new)
+    requires positive { IsOld first 0 }
+    requires servable { AreServable first jobs.now duties.now }
+    requires good { AreGood flow.now cores (due first duties.now jobs.now.jobs) }
+    ensures run { HasRun W.act flow.now cores (due first duties.now jobs.now.jobs) (serials jobs.now.makers first duties.now) result (W.world work.old) (W.world work.new)
         (Rose (W.faults work.old) (W.faults work.new)) (W.running work.new) (O.put_so_far out.old) (O.put_so_far out.new) }
     ensures cause { HasCause (W.faults work.old) (W.faults work.new) (is_device result ≡ true) }
     ensures output { HasCause (O.faults out.old) (O.faults out.new) (is_output result ≡ true) }
     ensures quiet { is_output result ≡ false → O.faults out.new ≡ O.faults out.old }
 {
-    match check_commands(alloc, flow, cores, jobs.jobs.as_slice()) {
-        Ok(()) => {}
-        Err(fault) => return Err(fault),
-    }
-    let Ok(numbers) = numbers_of(alloc, jobs.makers.as_slice()) else {
+    let Ok(serials) = serials_of(alloc, first, duties.as_slice()) else {
         return Err(Fault::OutOfMemory);
     };
-    match store.next_serial() {
-        Some(top) => run_all(
-            alloc,
-            flow,
-            &numbers,
-            top,
-            cores,
-            jobs.jobs.as_slice(),
-            work,
-            out,
-        ),
-        None => without_serial(jobs.jobs.as_slice()),
-    }
+    let Ok(made) = made_by(alloc, jobs.makers.as_slice(), serials.as_slice()) else {
+        return Err(Fault::OutOfMemory);
+    };
+    run_all(
+        alloc,
+        flow,
+        &made,
+        serials.as_slice(),
+        duties.as_slice(),
+        cores,
+        jobs.jobs.as_slice(),
+        work,
+        out,
+    )
 }

@@ -3,6 +3,7 @@
 
 mod facts;
 mod judge;
+mod judged;
 mod judging;
 mod kept;
 mod reason;
@@ -10,7 +11,8 @@ mod same;
 mod updates;
 
 pub use facts::JobFacts;
-pub use judge::Plain;
+pub use judge::{Judge, Plain};
+pub use judged::all_reasons;
 pub use judging::reasons;
 pub use reason::{Reason, State};
 

@@ -1,6 +1,5 @@
-use Rattle.smk_cli.proofs.Ended.{cause_as, outcome_device, outcome_output, outcome_unread}
-use Rattle.smk_cli.proofs.Stands.{refusal_stands}
-use Rattle.smk_cli.proofs.AllDone.{all_done}
+use Rattle.smk_serve.proofs.Ended.{cause_as}
+use Rattle.smk_cli.proofs.Outcomes.{outcome_device, outcome_output, outcome_unread}
 use Rattle.smk_cli.proofs.top.smk.Goals as goal
 
 pub returns-clause-unread : goal.returns-clause-unread
@@ -20,14 +19,6 @@ returns-clause-children g c = c.serve-answer.ensures.ended.children
 pub returns-clause-stays : goal.returns-clause-stays
 returns-clause-stays g c = c.serve-answer.ensures.ended.stays
 
-pub returns-clause-went : goal.returns-clause-went
-returns-clause-went g c = λ asked is_asked w at read hand.
-    record { answer = c.serve-answer.result; told_is = c.tell.ensures.fault; went = c.serve-answer.ensures.went asked is_asked w at read hand }
-
-pub returns-clause-stands : goal.returns-clause-stands
-returns-clause-stands g c = λ asked is_asked w at read hand f refusal.
-    refusal_stands g.W.Files.act read asked.targets asked.cores w c.serve-answer.result c.tell.result.fault _ _ _ _ _ _ f refusal c.tell.ensures.fault (c.serve-answer.ensures.went asked is_asked w at read hand)
-
-pub returns-clause-done : goal.returns-clause-done
-returns-clause-done g c = λ zero asked is_asked w at read hand.
-    all_done g.W.Files.act read asked.targets asked.cores w _ _ _ _ _ _ c.tell.result.status c.serve-answer.result c.tell.result.fault zero c.tell.ensures.status c.tell.ensures.fault (c.serve-answer.ensures.went asked is_asked w at read hand)
+pub returns-clause-serves : goal.returns-clause-serves
+returns-clause-serves g c = λ asked is_asked w at read hand.
+    record { answer = c.serve-answer.result; told_is = c.tell.ensures.fault; serves = c.serve-answer.ensures.serves asked is_asked w at read hand }

@@ -1,7 +1,7 @@
-use Rattle.smk_job.proofs.Abandoning.{abandoning_runs}
 use Rattle.smk_job.proofs.Beginning.{beginning_runs}
-use Rattle.smk_job.proofs.FinishRuns.{finishing_runs, losing_runs}
-use Rattle.smk_job.proofs.Parts.{carried_part, beginning_parts, abandoning_parts}
+use Rattle.smk_job.proofs.FinishRuns.{finishing_runs, finishing_parts, looking_runs, losing_runs, abandoning_runs}
+use Rattle.smk_job.proofs.Parts.{carried_part, beginning_parts, beginning_fails, abandoning_parts, abandoning_fails}
+use Rattle.smk_job.proofs.Forgetting.{forgetting_runs, forgetting_safe}
 use Rattle.smk_job.proofs.laws.calls_are_runs.Goals as goal
 
 pub returns-clause-carried : goal.returns-clause-carried
@@ -24,3 +24,21 @@ returns-clause-finishing c = finishing_runs
 
 pub returns-clause-losing : goal.returns-clause-losing
 returns-clause-losing c = losing_runs
+
+pub returns-clause-beginning_fails : goal.returns-clause-beginning_fails
+returns-clause-beginning_fails c = beginning_fails
+
+pub returns-clause-abandoning_fails : goal.returns-clause-abandoning_fails
+returns-clause-abandoning_fails c = abandoning_fails
+
+pub returns-clause-finishing_parts : goal.returns-clause-finishing_parts
+returns-clause-finishing_parts c = finishing_parts
+
+pub returns-clause-looking : goal.returns-clause-looking
+returns-clause-looking c = looking_runs
+
+pub returns-clause-forgetting : goal.returns-clause-forgetting
+returns-clause-forgetting c = forgetting_runs
+
+pub returns-clause-forgetting_safe : goal.returns-clause-forgetting_safe
+returns-clause-forgetting_safe c = forgetting_safe

@@ -14,7 +14,7 @@ returns-in-Err-clause-run g c =
     let closed = c.close-closed.result in
     attended g.W.Files.act c.args.going name closed closed (Err Output) _ _ _ _ _ _ refl (untold_answer closed) c.close-closed.ensures.did
     (untold_text name closed c.args.line.now _ _ _ c.requires.line c.in-Err.ensures.put true_false)
-    c.close-closed.ensures.cause.rose c.close-closed.ensures.running c.close-closed.ensures.stays
+    c.close-closed.ensures.cause.rose c.close-closed.ensures.running c.close-closed.ensures.stays c.close-closed.ensures.given
 
 pub returns-in-Err-closed-clause-run : goal.returns-in-Err-closed-clause-run
 returns-in-Err-closed-clause-run g c =
@@ -24,7 +24,7 @@ returns-in-Err-closed-clause-run g c =
     (Rose (g.W.Files.faults c.args.work.now) (g.W.Files.faults c.close-closed.new.work)) (g.W.Files.running c.close-closed.new.work) (g.O.Sink.put_so_far c.args.out.now) (g.O.Sink.put_so_far c.write_out-told.new.out)) (sym c.left.ensures.value)
     (attended g.W.Files.act c.args.going name c.close-closed.result (Err f) (Err (left_stop f)) _ _ _ _ _ _ c.in-Err-closed.is (left_answer f) c.close-closed.ensures.did
     (started_text name (leaves_whole (left_stop f)) c.args.line.now _ _ _ c.requires.line c.in-Ok.ensures.put)
-    c.close-closed.ensures.cause.rose c.close-closed.ensures.running c.close-closed.ensures.stays)
+    c.close-closed.ensures.cause.rose c.close-closed.ensures.running c.close-closed.ensures.stays c.close-closed.ensures.given)
 
 pub returns-in-Ok-tell_end-clause-run : goal.returns-in-Ok-tell_end-clause-run
 returns-in-Ok-tell_end-clause-run g c =
@@ -32,7 +32,7 @@ returns-in-Ok-tell_end-clause-run g c =
     let ending = c.in-Ok-closed.ending in
     attended g.W.Files.act c.args.going name c.close-closed.result (Ok ending) (Ok ending) _ _ _ _ _ _ c.in-Ok-closed.is (refl, refl) c.close-closed.ensures.did
     (ended_text name ending true c.args.line.now _ _ _ _ c.requires.line c.in-Ok.ensures.put c.in-Ok-tell_end.ensures.put c.in-Ok-tell_end.ensures.stays)
-    c.close-closed.ensures.cause.rose c.close-closed.ensures.running c.close-closed.ensures.stays
+    c.close-closed.ensures.cause.rose c.close-closed.ensures.running c.close-closed.ensures.stays c.close-closed.ensures.given
 
 pub returns-in-Err-tell_end-clause-run : goal.returns-in-Err-tell_end-clause-run
 returns-in-Err-tell_end-clause-run g c =
@@ -43,4 +43,4 @@ returns-in-Err-tell_end-clause-run g c =
     attended g.W.Files.act c.args.going name c.close-closed.result (Ok ending) (Err stop) _ _ _ _ _ _ c.in-Ok-closed.is (cut_answer ending stop why) c.close-closed.ensures.did
     (subst (λ whole. HasWritten (g.O.Sink.put_so_far c.args.out.now) (g.O.Sink.put_so_far c.tell_end.new.out) (is_output_stop stop ≡ false) (IsReport whole (course_text name (Closed ending)))) (sym (cut_whole stop why))
     (ended_text name ending false c.args.line.now _ _ _ _ c.requires.line c.in-Ok.ensures.put c.in-Err-tell_end.ensures.put c.in-Err-tell_end.ensures.stays))
-    c.close-closed.ensures.cause.rose c.close-closed.ensures.running c.close-closed.ensures.stays
+    c.close-closed.ensures.cause.rose c.close-closed.ensures.running c.close-closed.ensures.stays c.close-closed.ensures.given

@@ -3,12 +3,12 @@ use Rattle.std.specs.Prelude.{IsSome}
 use Rattle.std.specs.List.{list_all}
 use Rattle.smk_world.specs.Runs.{Did}
 use Rattle.smk_record.specs.Records.{is_earlier}
-use Rattle.smk_run.specs.Stamps.{AreStamped, made_by}
+use Rattle.smk_run.specs.Stamps.{AreStamped, number_at}
 use Rattle.smk_run.proofs.stamps.stamps_of.Given as goal
 
 abbrev pub invariant-loop-number : goal.invariant-loop-number
 invariant-loop-number g l = record {
-  did : Did g.W.Files.act (g.W.Files.world l.initial.work) (g.W.Files.world l.work) (λ w es. AreStamped (made_by l.numbers l.top) (take l.number l.paths) l.stamps es);
+  did : Did g.W.Files.act (g.W.Files.world l.initial.work) (g.W.Files.world l.work) (λ w es. AreStamped (number_at l.serials) (take l.number l.paths) l.stamps es);
   each : length l.stamps ≡ l.number;
   earlier : list_all (is_earlier l.made) l.stamps ≡ true;
   stays : IsSome (g.W.Files.world l.initial.work) → IsSome (g.W.Files.world l.work);

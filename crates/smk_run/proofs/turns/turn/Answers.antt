@@ -1,6 +1,6 @@
 use Rattle.std.proofs.Common.{subst, ◌∙◌}
 use Rattle.smk_world.specs.Calls.{Rose}
-use Rattle.smk_run.specs.Stamps.{made_by}
+use Rattle.smk_run.specs.Stamps.{number_at}
 use Rattle.smk_run.specs.Runs.{HasTaken, command_of}
 use Rattle.smk_run.proofs.Firsts.{named_by}
 use Rattle.smk_run.proofs.Taking.{had_turn, had_turn_untold, had_turn_stopped, no_turn, told_quiet}
@@ -8,13 +8,13 @@ use Rattle.smk_run.proofs.turns.turn.Goals as goal
 
 pub returns-in_default-command_of-clause-run : goal.returns-in_default-command_of-clause-run
 returns-in_default-command_of-clause-run g c =
-    no_turn g.W.Files.act c.args.flow.now (made_by c.args.numbers.now c.args.top) c.args.job.now (command_of c.args.cores c.args.job.now) c.args.made _ _ _ _ c.requires.none_runs
+    no_turn g.W.Files.act c.args.flow.now (number_at c.args.serials.now) c.args.job.now (command_of c.args.cores c.args.job.now) c.args.made _ _ _ _ c.requires.none_runs
 
 pub returns-in-Ok-failure-clause-run : goal.returns-in-Ok-failure-clause-run
 returns-in-Ok-failure-clause-run g c =
     let flow = c.args.flow.now in
     let job = c.args.job.now in
-    let made = made_by c.args.numbers.now c.args.top in
+    let made = number_at c.args.serials.now in
     let taken = subst (λ text. HasTaken g.W.Files.act flow made job text c.args.made c.take.result (g.W.Files.world c.args.work.now) (g.W.Files.world c.take.new.work)
     (Rose (g.W.Files.faults c.args.work.now) (g.W.Files.faults c.take.new.work)) (g.W.Files.running c.take.new.work) (g.O.Sink.put_so_far c.args.out.now) (g.O.Sink.put_so_far c.take.new.out))
     (c.as_str.ensures ∙ c.in-Ok.ensures.text) c.take.ensures.run in
@@ -25,7 +25,7 @@ pub returns-in-Ok-take-clause-run : goal.returns-in-Ok-take-clause-run
 returns-in-Ok-take-clause-run g c =
     let flow = c.args.flow.now in
     let job = c.args.job.now in
-    let made = made_by c.args.numbers.now c.args.top in
+    let made = number_at c.args.serials.now in
     let taken = subst (λ text. HasTaken g.W.Files.act flow made job text c.args.made c.take.result (g.W.Files.world c.args.work.now) (g.W.Files.world c.take.new.work)
     (Rose (g.W.Files.faults c.args.work.now) (g.W.Files.faults c.take.new.work)) (g.W.Files.running c.take.new.work) (g.O.Sink.put_so_far c.args.out.now) (g.O.Sink.put_so_far c.take.new.out))
     (c.as_str.ensures ∙ c.in-Ok.ensures.text) c.take.ensures.run in
@@ -35,7 +35,7 @@ pub returns-clause-run : goal.returns-clause-run
 returns-clause-run g c =
     let flow = c.args.flow.now in
     let job = c.args.job.now in
-    let made = made_by c.args.numbers.now c.args.top in
+    let made = number_at c.args.serials.now in
     let taken = subst (λ text. HasTaken g.W.Files.act flow made job text c.args.made c.take.result (g.W.Files.world c.args.work.now) (g.W.Files.world c.take.new.work)
     (Rose (g.W.Files.faults c.args.work.now) (g.W.Files.faults c.take.new.work)) (g.W.Files.running c.take.new.work) (g.O.Sink.put_so_far c.args.out.now) (g.O.Sink.put_so_far c.take.new.out))
     (c.as_str.ensures ∙ c.in-Ok.ensures.text) c.take.ensures.run in

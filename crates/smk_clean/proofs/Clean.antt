@@ -1,0 +1,270 @@
+-- A run that ends without a fault leaves clean values.
+use Rattle.std.proofs.Common.{◌≡◌, inl, inr, ℕ, suc, Bool, true, false, List, [], ◌∷◌, ◌++◌, flat_map, map, zip, length, arith, refl, ap, sym, subst, ◌∙◌, Option, Some, None, Result, Ok, Err, is_none, if◌then◌else◌}
+use Rattle.std.proofs.lemmas.List.{append-nil, length-map}
+use Rattle.smk_world.specs.World.{World, run}
+use Rattle.smk_world.specs.Calls.{Rose}
+use Rattle.smk_world.specs.Runs.{Did}
+use Rattle.smk_world.specs.Trees.{Each, IsIn}
+use Rattle.smk_flow.specs.declared.job.Job.{Job}
+use Rattle.smk_flow.specs.declared.job.Gather.{Gather}
+use Rattle.smk_flow.specs.Flows.{Flow, rule_name}
+use Rattle.smk_format.specs.Commands.{missing}
+use Rattle.smk_store.specs.declared.fault.StoreFault.{StoreFault}
+use Rattle.smk_store.specs.Images.{Image, seen}
+use Rattle.smk_store.specs.Serials.{greatest_serial, next_serial}
+use Rattle.smk_store.specs.Soundness.{Outside, SoundWorld, SameSources}
+use Rattle.smk_store.specs.Steadying.{HasTried, steady_requests}
+use Rattle.smk_store.specs.Trust.{Versions}
+use Rattle.smk_pick.specs.declared.settings.Settings.{Settings}
+use Rattle.smk_trigger.specs.declared.reason.State.{State}
+use Rattle.smk_trigger.specs.JobStates.{is_open}
+use Rattle.smk_plan.specs.States.{Plan, IsPlan, LastPlan, Last, gathers_from, is_current, nothing_done, staged, state_of}
+use Rattle.smk_protocol.proofs.Basics.{each_in}
+use Rattle.smk_laws.specs.Current.{IsClean}
+use Rattle.smk_laws.proofs.CurrentComplete.{seen_is_complete}
+use Rattle.smk_laws.proofs.CurrentMeaning.{contains_from, in_from}
+use Rattle.smk_laws.proofs.CurrentLaw.{current_means_clean_in_worlds}
+use Rattle.smk_laws.proofs.CurrentReads.{same_values}
+use Rattle.smk_report.specs.declared.fault.Fault.{Fault}
+use Rattle.smk_report.specs.declared.fault.Fault.TheVariants as fault
+use Rattle.smk_report.specs.Lines.{Text, Named}
+use Rattle.smk_drive.specs.Moments.{Rules}
+use Rattle.smk_drive.specs.Refusals.{above_limit, ahead, guarded, incomplete, of_command, refused_of}
+use Rattle.smk_run.specs.declared.duty.Duty.{Duty}
+use Rattle.smk_run.specs.declared.ending.Ending.{Ending}
+use Rattle.smk_run.specs.declared.ending.Ending.TheVariants.{Good, Status, NoOutput, WrongKind, BadMember}
+use Rattle.smk_run.specs.declared.tally.Tally.{Tally}
+use Rattle.smk_run.specs.Duties.{Due, due, due_from, serials}
+use Rattle.smk_run.specs.Reports.{failure, named}
+use Rattle.smk_run.specs.Runs.{IsOutcome as IsRunOutcome, course_failure, first_failure, or_later}
+use Rattle.smk_run.specs.Turns.{Course, Unbegun, Unstarted, Unclosed, Closed, Turn, AreTurns, is_closed, is_done}
+use Rattle.smk_asked.specs.declared.words.RunWords.{RunWords}
+use Rattle.smk_entry.specs.declared.asking.Asked.{Asked}
+use Rattle.smk_entry.specs.Forms.{unbuilt}
+use Rattle.smk_make.specs.Closing.{verdict_of}
+use Rattle.smk_make.specs.Faults.{of_store}
+use Rattle.smk_make.specs.Making.{AreWhatIsMeant, Concludes, GoesOn, NotFirm, NoMemory, Made}
+use Rattle.smk_preview.specs.declared.previewing.Previewed.{Previewed}
+use Rattle.smk_preview.specs.Previewing.{plan_of, rules_for}
+use Rattle.smk_serve.specs.Serving.{HasKept, IsAtHand, Went, Refused, Stopped, Worked, settings_of}
+use Rattle.smk_cli.specs.Whole.{IsRefusal, IsToServe}
+use Rattle.smk_safe.specs.Planned.{IsPlain, IsFit}
+use Rattle.smk_safe.specs.Safe.{IsSafeRun}
+use Rattle.smk_safe.proofs.Images.{sources_now}
+use Rattle.smk_safe.proofs.Planned.{all_shut}
+use Rattle.smk_safe.proofs.Stored.{is_top}
+use Rattle.smk_exit.specs.Exit.{RunLeavesAllClean, IsAllClean, IsDueRun, all_clean}
+use Rattle.smk_clean.specs.Safe.{turns_made, turns_went}
+use Rattle.smk_clean.specs.Clean.{HasMadeClean, CallIsClean, setting_in}
+use Rattle.smk_clean.proofs.Chained.{none_new}
+use Rattle.smk_clean.proofs.Firsts.{firsts_same}
+use Rattle.smk_clean.proofs.Meant.{all_plain, asked_built, duties_meant, is_plan, makers_told}
+use Rattle.smk_clean.proofs.Plain.{each_from}
+use Rattle.smk_clean.proofs.Safe.{Answer, IsTurnRun, no_fault, ok_err, started, turns_run, turns_safe}
+
+true_false : true ≡ false → ⊥
+true_false e = cc
+
+some_none : (f : Fault) → Some f ≡ None → ⊥
+some_none f e = cc
+
+-- ## Turns without a failure
+
+good_by : (name : Named) (ending : Ending) → failure name ending ≡ None → is_done (Closed ending) ≡ true
+good_by name Good e = refl
+good_by name (Status n) e = absurd (some_none _ e)
+good_by name (NoOutput p) e = absurd (some_none _ e)
+good_by name (WrongKind p) e = absurd (some_none _ e)
+good_by name (BadMember p) e = absurd (some_none _ e)
+
+done_by : (flow : Flow) (job : Job) (course : Course) → is_closed course ≡ true → course_failure flow job course ≡ None → is_done course ≡ true
+done_by flow job Unbegun closed e = absurd (true_false (sym closed))
+done_by flow job Unstarted closed e = absurd (true_false (sym closed))
+done_by flow job Unclosed closed e = absurd (true_false (sym closed))
+done_by flow job (Closed ending) closed e = good_by (named flow job) ending e
+
+both_none : (a b : Option Fault) → or_later a b ≡ None → (a ≡ None) × (b ≡ None)
+both_none None b e = (refl, e)
+both_none (Some f) b e = absurd (some_none f e)
+
+all_good : (flow : Flow) (ts : List Turn) → Each (λ (t : Turn). is_closed t.course ≡ true) ts → first_failure flow ts ≡ None → Each (λ (t : Turn). is_done t.course ≡ true) ts
+all_good flow [] closed e = tt
+all_good flow (t ∷ ts) closed e =
+    let both = both_none (course_failure flow t.job t.course) (first_failure flow ts) e in
+    (done_by flow t.job t.course closed.0 both.0, all_good flow ts closed.1 both.1)
+
+no_first : (o : Option Fault) (u : Unit {0}) → ◌≡◌ {A = Answer} (Ok u) (verdict_of o) → o ≡ None
+no_first None u e = refl
+no_first (Some f) u e = absurd (ok_err u f e)
+
+-- each job that is due had its turn, and is done
+record HaveAllTurns (dues : List Due) (ts : List Turn) : Type 0 where
+  pub all : length ts ≡ length dues
+  pub closed : Each (λ (t : Turn). is_closed t.course ≡ true) ts
+  pub done : Each (λ (t : Turn). is_done t.course ≡ true) ts
+
+all_turns : (u : Unit {0}) (flow : Flow) (dues : List Due) (ts : List Turn) (bad : Bool) (ended : Result Tally Fault) → IsRunOutcome flow dues ts bad ended → Concludes ended (Ok u) → HaveAllTurns dues ts
+all_turns u flow dues ts bad (Err f) outcome concluded = absurd (ok_err u f concluded)
+all_turns u flow dues ts bad (Ok tally) outcome (inl e) =
+    let none = no_first tally.first u e in
+    record { all = outcome.1.all none; closed = outcome.1.closed; done = all_good flow ts outcome.1.closed (sym outcome.1.first ∙ none) }
+all_turns u flow dues ts bad (Ok tally) outcome (inr (f, is, of_report)) = absurd (ok_err u f is)
+
+-- ## Each field has a value
+
+nil_first : {A : Type 0} (xs ys : List A) → xs ++ ys ≡ [] → xs ≡ []
+nil_first [] ys e = refl
+nil_first (x ∷ xs) ys e = cc
+
+nil_second : {A : Type 0} (xs ys : List A) → xs ++ ys ≡ [] → ys ≡ []
+nil_second [] ys e = e
+nil_second (x ∷ xs) ys e = cc
+
+flat_nil : {A B : Type 0} (f : A → List B) (xs : List A) (x : A) → flat_map f xs ≡ [] → IsIn xs x → f x ≡ []
+flat_nil f [] x e i = absurd i
+flat_nil f (y ∷ xs) x e (inl is) = ap f is ∙ nil_first (f y) (flat_map f xs) e
+flat_nil f (y ∷ xs) x e (inr i) = flat_nil f xs x (nil_second (f y) (flat_map f xs) e) i
+
+staged_in : (js : List Job) (ss : List State) (j : Job) → length ss ≡ length js → Each (λ s. is_open s ≡ false) ss → IsIn js j → (s : State) × IsIn (zip js ss) (j, s) × (is_open s ≡ false)
+staged_in [] ss j e shut i = absurd i
+staged_in (x ∷ js) [] j e shut i = absurd (omega (arith, e))
+staged_in (x ∷ js) (s ∷ ss) j e shut (inl is) = (s, inl (ap (λ y. (y, s)) is), shut.0)
+staged_in (x ∷ js) (s ∷ ss) j e shut (inr i) = let r = staged_in js ss j (omega (arith, e)) shut.1 i in (r.0, inr r.1, r.2)
+
+fields_there : (rules : Rules) (image : Image) (plan : Plan) → rules.missing ≡ missing → Each (λ s. is_open s ≡ false) plan.states → length plan.states ≡ length plan.jobs → refused_of rules image nothing_done plan ≡ []
+    → (j : Job) → IsIn plan.jobs j → is_none (rules.missing j) ≡ true
+fields_there rules image plan same shut each none j i =
+    let at = staged_in plan.jobs plan.states j each shut i in
+    let of_commands = flat_map (λ (e : Job × State). of_command rules image nothing_done plan e (rules.missing e.0)) (staged plan) in
+    let of_bounds = flat_map (above_limit rules image nothing_done plan) (ahead rules image nothing_done plan) in
+    let commands : of_commands ≡ [] =
+    nil_second of_bounds of_commands
+    (nil_second (guarded rules image nothing_done plan) (of_bounds ++ of_commands)
+    (nil_second (incomplete rules image nothing_done plan) (guarded rules image nothing_done plan ++ (of_bounds ++ of_commands)) none)) in
+    go at.0 at.2 (rules.missing j) (flat_nil (λ (e : Job × State). of_command rules image nothing_done plan e (rules.missing e.0)) (staged plan) (j, at.0) commands at.1)
+  where
+    go : (s : State) → is_open s ≡ false → (m : Option Text) → of_command rules image nothing_done plan (j, s) m ≡ [] → is_none m ≡ true
+    go s shut None h = refl
+    go s shut (Some word) h = absurd (some_fault (sym (ap (λ b. if b then [] else fault.UnknownField (rule_name rules.flow j.rule) word ∷ []) shut) ∙ h))
+      where
+        some_fault : {f : Fault} {rest : List Fault} → f ∷ rest ≡ [] → ⊥
+        some_fault e = cc
+
+-- ## The exit
+
+module _ (exit : RunLeavesAllClean) (o : Outside) (H : Versions) (w : World) (sound : SoundWorld o w H) (hand : IsAtHand o.read w) (words : RunWords) (asked : Asked) (told : Previewed)
+    (to_serve : IsToServe o.read true words.targets words.cores w asked told) where
+  abbrev plan : Plan
+  plan = plan_of told
+
+  abbrev settings : Settings
+  settings = settings_of asked words.cores
+
+  abbrev rules : Rules
+  rules = rules_for o.read asked.flow settings
+
+  abbrev top : ℕ
+  top = greatest_serial told.store
+
+  all_built : unbuilt asked.flow.rules ≡ None
+  all_built = asked_built words.targets w.nodes asked to_serve.is_asked
+
+  planned : IsPlan asked.flow (seen o.read w) settings nothing_done plan
+  planned = is_plan o.read w sound.formed asked all_built words.cores told to_serve.plan
+
+  plainly : Each IsPlain plan.jobs
+  plainly = all_plain o.read w sound.formed asked all_built words.cores told to_serve.plan
+
+  fields : (j : Job) → IsIn plan.jobs j → is_none (missing j) ≡ true
+  fields =
+      fields_there rules (seen o.read w) plan refl (all_shut o w asked.flow settings plan sound.formed planned plainly)
+      (ap length planned.states ∙ length-map plan.jobs (state_of (seen o.read w) settings nothing_done plan)) to_serve.plan.unrefused
+
+  module _ (v : World) (duties : List Duty) (ts : List Turn) (meant : AreWhatIsMeant told.jobs told.plan.states told.store duties) (fit : Each IsFit ts)
+      (r : IsTurnRun o H w sound hand words.targets asked words.cores told to_serve v duties ts) (all : HaveAllTurns (due (next_serial told.store) duties told.jobs.jobs) ts) where
+    abbrev ran : IsDueRun o w H asked.flow settings plan ts r.es
+    ran = record {
+      makers = told.jobs.makers;
+      duties = duties;
+      cores = words.cores;
+      top = top;
+      reads = hand.reads;
+      sound = sound;
+      is_top = is_top o w told.store to_serve.plan.stored;
+      planned = planned;
+      plain = plainly;
+      meant = duties_meant o.read w sound.formed asked all_built words.cores told to_serve.plan duties meant;
+      told = makers_told o.read w sound.formed asked all_built words.cores told to_serve.plan;
+      in_order = r.in_order;
+      fit = fit;
+      follows = r.follows;
+      is_run = r.is_run;
+    }
+
+    abbrev end : World
+    end = run w r.es
+
+    all_is : length ts ≡ length (due (Some (suc top)) duties plan.jobs)
+    all_is = all.all ∙ ap (λ (f : ℕ → Option ℕ). length (due_from f 0 duties told.jobs.jobs)) (firsts_same top duties)
+
+    safe : IsSafeRun o w H top ts r.es
+    safe = turns_safe o H w sound hand words.targets asked words.cores told to_serve v duties ts meant fit r
+
+    sound_end : SoundWorld o end H
+    sound_end = safe.at_end all.closed
+
+    sources_stay : SameSources (seen o.read w) (seen o.read end)
+    sources_stay = sources_now o w end H sound_end (safe.throughout r.es [] (sym (append-nil r.es)))
+
+    made_clean : HasMadeClean o words w end
+    made_clean =
+        let clean : IsAllClean asked.flow (seen o.read end) settings plan = exit o w H asked.flow settings plan ts r.es ran refl (record { all = all_is; done = all.done }) in
+        let last : LastPlan asked.flow (seen o.read end) settings nothing_done plan.lists (all_clean plan) =
+        Last (all_clean plan) (clean.planned []) (none_new o end sound_end.formed rules all_built (all_clean plan) (clean.planned [])) in
+        record {
+          asked = asked;
+          is_asked = to_serve.is_asked;
+          targets = each_from (IsClean (setting_in o w asked.flow) (seen o.read end)) asked.targets
+              (λ p i.
+              let c =
+              current_means_clean_in_worlds asked.flow o (λ j. is_none (missing j)) end H settings nothing_done plan.lists (all_clean plan) sound_end
+              (λ j f files there shut gathered told_so. absurd (subst (λ fs. IsIn fs f) (none_gathered j (in_from plan.jobs j there)) (in_from (gathers_from j) f gathered)))
+              last refl (λ j there shut. fields j (in_from plan.jobs j there)) p (contains_from asked.targets p i) (each_in (λ q. is_current (seen o.read end) settings nothing_done (all_clean plan) q ≡ true) asked.targets p (clean.current []) i) in
+              (c.0, c.1, same_values asked.flow o.act (λ j. is_none (missing j)) (seen o.read w) (seen o.read end) (seen_is_complete o.read w sound.formed) (seen_is_complete o.read end sound_end.formed) sources_stay p ∙ c.2));
+          sources = sources_stay;
+        }
+      where
+        none_gathered : (j : Job) → IsIn plan.jobs j → gathers_from j ≡ []
+        none_gathered j i = ap (map (λ (g : Gather). g.folder)) (each_in IsPlain plan.jobs j plainly i).gathers_none
+
+  goes_clean :
+      (u : Unit {0}) (v : World) (looked firm : Option World) (rose : Type 0) (running : List ℕ) (p q : Option Text) (r : Result (Unit {0}) StoreFault) →
+      HasKept o.act (Some w) looked → Did o.act looked firm (λ u es. HasTried (steady_requests told.store) r es) →
+      (g : GoesOn o.act asked.flow words.cores asked.targets told.jobs told.plan.states told.store (Ok u) firm (Some v) rose running p q r) → Each IsFit (turns_made g) → HasMadeClean o words w v
+  goes_clean u v looked firm rose running p q r kept settling (NotFirm f is same unput) fit = absurd (ok_err u (of_store f) is)
+  goes_clean u v looked firm rose running p q r kept settling (NoMemory t is same unput) fit = absurd (ok_err u fault.OutOfMemory is)
+  goes_clean u v looked firm rose running p q r kept settling (Made t duties for meant made) fit =
+      let d = made.did v refl in
+      let start = started o H w sound d.0 looked firm (HasTried (steady_requests told.store) (Ok t)) kept settling d.1 in
+      let run_is =
+      turns_run o H w sound hand words.targets asked words.cores told to_serve t d.0 v duties made.turns start made.in_order
+      (subst (λ y. Did o.act y (Some v) (AreTurns (serials told.jobs.makers (next_serial told.store) duties) made.turns)) d.1 made.did) in
+      subst (HasMadeClean o words w) (sym run_is.is)
+      (made_clean v duties made.turns meant fit run_is (all_turns u asked.flow (due (next_serial told.store) duties told.jobs.jobs) made.turns made.failed made.ended made.answer made.concluded))
+
+module _ (exit : RunLeavesAllClean) (o : Outside) (H : Versions) (w : World) (sound : SoundWorld o w H) (hand : IsAtHand o.read w) (words : RunWords) where
+  went_clean :
+      (u : Unit {0}) (answer : Answer) (v : World) (rose : Type 0) (running : List ℕ) (p q : Option Text) → answer ≡ Ok u →
+      (h : Went o.act words.cores answer (IsRefusal o.read true words.targets words.cores w) (IsToServe o.read true words.targets words.cores w) (Some w) (Some v) rose running p q) →
+      Each IsFit (turns_went h) → HasMadeClean o words w v
+  went_clean u (Err g) v rose running p q e h fit = absurd (ok_err u g (sym e))
+  went_clean u (Ok t) v rose running p q e (Refused f is why looked) fit = absurd (ok_err t f is)
+  went_clean u (Ok t) v rose running p q e (Stopped f is want looked) fit = absurd (ok_err t f is)
+  went_clean u (Ok t) v rose running p q e (Worked asked told plans worked) fit =
+      goes_clean exit o H w sound hand words asked told plans t v worked.looked worked.carried.firm rose running p q worked.carried.settled worked.looking worked.carried.settling worked.carried.goes_on fit
+
+-- by what a run leaves
+pub call_is_clean : RunLeavesAllClean → CallIsClean
+call_is_clean exit o H words told w v before after running p q hand sound served fit none =
+    let a = no_fault served.answer told served.told_is none in
+    went_clean exit o H w sound hand words a.0 served.answer v (Rose before after) running p q a.1 served.serves fit

@@ -1,0 +1,368 @@
+-- A call is safe.
+use Rattle.std.proofs.Common.{◌≡◌, inl, inr, ℕ, suc, Bool, true, false, List, [], ◌∷◌, ◌++◌, flat_map, fold, max, refl, ap, sym, subst, ◌∙◌, append_assoc, Option, Some, None, option_map, filter, Result, Ok, Err}
+use Rattle.std.specs.Option.{option_and_then}
+use Rattle.std.proofs.lemmas.List.{append-nil}
+use Rattle.std.proofs.lemmas.List.Elements.{All-head, All-tail}
+use Rattle.smk_base.proofs.Under.{or_first}
+use Rattle.smk_world.specs.declared.event.Call.{Call}
+use Rattle.smk_world.specs.declared.event.Call.TheVariants.{Looked, ReadFile, ReadFolder, Written, Created, Removed, MadeParents, Settled, Protected, Started, Waited}
+use Rattle.smk_world.specs.declared.event.Event.{Event}
+use Rattle.smk_world.specs.World.{World, IsFormed, after, run}
+use Rattle.smk_world.specs.Calls.{failed, Rose}
+use Rattle.smk_world.specs.Requests.{request, HasDone}
+use Rattle.smk_world.specs.Requests.Request.{Settle}
+use Rattle.smk_world.specs.Runs.{Did, Follows}
+use Rattle.smk_world.specs.Trees.{Path, Each, IsIn}
+use Rattle.smk_world.proofs.Runs.{follows_append, run_append}
+use Rattle.smk_record.specs.declared.record.Record.{Record}
+use Rattle.smk_record.specs.Records.{core}
+use Rattle.smk_flow.specs.Flows.{Flow}
+use Rattle.smk_store.specs.declared.fault.StoreFault.{StoreFault}
+use Rattle.smk_store.specs.declared.fault.StoreFault.TheVariants.{StampSeen, Device, OutOfMemory}
+use Rattle.smk_store.specs.declared.store.Kept.{Kept}
+use Rattle.smk_store.specs.declared.store.Kept.TheVariants.{Absent, Unreadable, Held}
+use Rattle.smk_store.specs.Images.{Image, core_at, readable, stands}
+use Rattle.smk_store.specs.Loading.{is_look, AreLooks as OnlyLooks}
+use Rattle.smk_store.specs.Serials.{all_serials, greatest_serial, next_serial}
+use Rattle.smk_store.specs.Soundness.{Outside, SoundWorld}
+use Rattle.smk_store.specs.Steadying.{HasTried, all_signs, steady_requests}
+use Rattle.smk_store.specs.Stores.{Known}
+use Rattle.smk_store.specs.Trust.{Versions}
+use Rattle.smk_protocol.specs.Protocol.{RunState, Runs, Done, Next, Aside, Besides, Settle as SettleMove, Fail, IsLook, as_ok, now, runs}
+use Rattle.smk_protocol.specs.Midway.{IsTop, at_entry}
+use Rattle.smk_protocol.proofs.ProtocolHolds.{protocol_law}
+use Rattle.smk_laws.proofs.CurrentComplete.{seen_is_complete}
+use Rattle.smk_laws.proofs.CurrentLists.{in_flat}
+use Rattle.smk_laws.proofs.CurrentPaths.{among_in}
+use Rattle.smk_report.specs.declared.fault.Fault.{Fault}
+use Rattle.smk_report.specs.declared.fault.Fault.TheVariants as fault
+use Rattle.smk_report.specs.Lines.{Text}
+use Rattle.smk_run.specs.declared.duty.Duty.{Duty}
+use Rattle.smk_run.specs.declared.tally.Tally.{Tally}
+use Rattle.smk_run.specs.Duties.{Due, due, due_from, maker_in, serials}
+use Rattle.smk_run.specs.Runs.{AreInOrder, IsOutcome as IsRunOutcome}
+use Rattle.smk_run.specs.Stamps.{Serials}
+use Rattle.smk_run.specs.Turns.{Turn, AreTurns, is_closed}
+use Rattle.smk_made.proofs.Done.{follows_split}
+use Rattle.smk_asked.specs.declared.words.Request.{Request as Asking}
+use Rattle.smk_asked.specs.declared.words.Request.TheVariants.{Run, Preview}
+use Rattle.smk_entry.specs.declared.asking.Asked.{Asked}
+use Rattle.smk_entry.specs.Forms.{unbuilt}
+use Rattle.smk_make.specs.Faults.{of_store}
+use Rattle.smk_make.specs.Making.{AreWhatIsMeant, Concludes, GoesOn, NotFirm, NoMemory, Made}
+use Rattle.smk_preview.specs.declared.previewing.Previewed.{Previewed}
+use Rattle.smk_preview.specs.Previewing.{plan_of}
+use Rattle.smk_serve.specs.Serving.{HasKept, IsAtHand, Went, Refused, Stopped, Worked, settings_of}
+use Rattle.smk_cli.specs.Faults.{fault_of}
+use Rattle.smk_cli.specs.Lines.{IsOutcome}
+use Rattle.smk_cli.specs.Whole.{IsRefusal, IsToServe, Serves}
+use Rattle.smk_safe.specs.Planned.{IsFit}
+use Rattle.smk_safe.specs.Safe.{IsRunOf, IsSafeRun}
+use Rattle.smk_safe.proofs.Going.{safe_here}
+use Rattle.smk_safe.proofs.Joining.{AreLooks, look_all, looks_same}
+use Rattle.smk_safe.proofs.Safe.{front}
+use Rattle.smk_safe.proofs.Stored.{fold_holds, is_top, signs_are_all}
+use Rattle.smk_dues.proofs.Dues.{due_run_is_safe}
+use Rattle.smk_clean.specs.Safe.{CallIsSafe, IsSafeCall, turns_in, turns_made, turns_went}
+use Rattle.smk_clean.proofs.Firsts.{firsts_same}
+use Rattle.smk_clean.proofs.Meant.{all_plain, asked_built, duties_meant, is_plan, makers_told}
+
+abbrev pub Answer : Type 0
+Answer = Result (Unit {0}) Fault
+
+true_false : true ≡ false → ⊥
+true_false e = cc
+
+pub ok_err : (u : Unit {0}) (f : Fault) → ◌≡◌ {A = Answer} (Ok u) (Err f) → ⊥
+ok_err u f e = cc
+
+world_same : (a b : World) → Some a ≡ Some b → a ≡ b
+world_same a b e = cc
+
+-- ## A greatest serial
+
+kept_known : (k : Kept) (r : Record) → option_map core (readable k) ≡ Some r → stands k ≡ true
+kept_known Absent r h = cc
+kept_known Unreadable r h = cc
+kept_known (Held s) r h = refl
+
+-- what unmarked records name is bounded
+pub bounded : (o : Outside) (w : World) → IsFormed w → (top : ℕ) × IsTop o w top
+bounded o w formed = (fold max 0 (flat_map named image.known), above)
+  where
+    image : Image
+    image = now o w
+
+    named : Path → List ℕ
+    named p = all_serials (core_at image p)
+
+    above : IsTop o w (fold max 0 (flat_map named image.known))
+    above p r n (reads, clear) i =
+        let known = (seen_is_complete o.read w formed).known p (or_first (stands (image.kept p)) _ (kept_known (image.kept p) r reads)) in
+        fold_holds 0 (flat_map named image.known) n
+        (in_flat named image.known p n (among_in image.known p known) (subst (λ c. IsIn (all_serials c) n) (sym reads) i))
+
+-- ## Calls
+
+look_is : (o : Outside) (c : Call) → is_look c ≡ true → IsLook o c
+look_is o (Looked p r) h = tt
+look_is o (ReadFile p limit r) h = tt
+look_is o (ReadFolder p r) h = tt
+look_is o (Written p bytes r) h = true_false (sym h)
+look_is o (Created p r) h = true_false (sym h)
+look_is o (Removed p r) h = true_false (sym h)
+look_is o (MadeParents p r) h = true_false (sym h)
+look_is o (Settled ps r) h = true_false (sym h)
+look_is o (Protected p r) h = true_false (sym h)
+look_is o (Started recipe logs command r) h = true_false (sym h)
+look_is o (Waited r) h = true_false (sym h)
+
+looks_are : (o : Outside) (es : List Event) → OnlyLooks es → AreLooks o es
+looks_are o [] h = tt
+looks_are o (e ∷ es) h = (look_is o e.call (All-head (λ (x : Event). is_look x.call ≡ true) e es h), looks_are o es (All-tail (λ (x : Event). is_look x.call ≡ true) e es h))
+
+settled_ok : (c : Call) (ps : List Path) → request c ≡ Settle ps → as_ok c ≡ Settled ps (Ok tt)
+settled_ok (Looked p r) ps h = cc
+settled_ok (ReadFile p limit r) ps h = cc
+settled_ok (ReadFolder p r) ps h = cc
+settled_ok (Written p bytes r) ps h = cc
+settled_ok (Created p r) ps h = cc
+settled_ok (Removed p r) ps h = cc
+settled_ok (MadeParents p r) ps h = cc
+settled_ok (Settled qs r) ps h = ap (λ xs. Settled xs (Ok tt)) (same h)
+  where
+    same : Settle qs ≡ Settle ps → qs ≡ ps
+    same e = cc
+settled_ok (Protected p r) ps h = cc
+settled_ok (Started recipe logs command r) ps h = cc
+settled_ok (Waited r) ps h = cc
+
+settled_done : (c : Call) (ps : List Path) → request c ≡ Settle ps → failed c ≡ false → c ≡ Settled ps (Ok tt)
+settled_done (Looked p r) ps h f = cc
+settled_done (ReadFile p limit r) ps h f = cc
+settled_done (ReadFolder p r) ps h f = cc
+settled_done (Written p bytes r) ps h f = cc
+settled_done (Created p r) ps h f = cc
+settled_done (Removed p r) ps h f = cc
+settled_done (MadeParents p r) ps h f = cc
+settled_done (Settled qs (Ok u)) ps h f = settled_ok (Settled qs (Ok u)) ps h
+settled_done (Settled qs (Err x)) ps h f = absurd (true_false f)
+settled_done (Protected p r) ps h f = cc
+settled_done (Started recipe logs command r) ps h f = cc
+settled_done (Waited r) ps h f = cc
+
+-- ## A run of the protocol is safe
+
+module _ (o : Outside) (H : Versions) (w : World) (sound : SoundWorld o w H) where
+  -- the events led to this world, and are safe; and where the answer is no fault the world is sound
+  abbrev Safely : Answer → World → Type 0
+  Safely answer v = (es : List Event) × Follows o.act w es × (v ≡ run w es) × IsSafeCall o w H es × ((u : Unit {0}) → answer ≡ Ok u → SoundWorld o v H)
+
+  safe_by : (top : ℕ) (es : List Event) (s : RunState) → IsTop o w top → Follows o.act w es → Runs o (at_entry o top) w es s → IsSafeCall o w H es
+  safe_by top es s bound follows ran = record {
+    follows_protocol = (top, bound, (s, ran));
+    throughout = λ events rest split.
+        let part = front o (at_entry o top) s w events rest (subst (λ l. Runs o (at_entry o top) w l s) split ran) in
+        safe_here o w H top sound bound events part.0 (follows_split o.act w events rest (subst (Follows o.act w) split follows)).0 part.1;
+    at_end = (protocol_law o w H sound).at_exit top es s bound follows ran;
+  }
+
+  -- ## Looks, and the settling of what was found
+
+  look_runs : (top : ℕ) (es : List Event) → AreLooks o es → Runs o (at_entry o top) w es (at_entry o top)
+  look_runs top es only =
+      subst (λ l. Runs o (at_entry o top) w l (at_entry o top)) (append-nil es)
+      (look_all o (at_entry o top) (at_entry o top) [] refl w es only (Done (at_entry o top) (run w es)))
+
+  -- only looks
+  kept_safe : (answer : Answer) (v : World) → HasKept o.act (Some w) (Some v) → Safely answer v
+  kept_safe answer v kept =
+      let d = kept.looks v refl in
+      let here = world_same w d.0 d.1 in
+      let follows : Follows o.act w d.2.0 = subst (λ x. Follows o.act x d.2.0) (sym here) d.2.1 in
+      let is : v ≡ run w d.2.0 = d.2.3 ∙ ap (λ x. run x d.2.0) (sym here) in
+      let only = looks_are o d.2.0 d.2.2 in
+      let bound = bounded o w sound.formed in
+      let safe = safe_by bound.0 d.2.0 (at_entry o bound.0) bound.1 follows (look_runs bound.0 d.2.0 only) in
+      (d.2.0, follows, is, safe, λ u e. subst (λ x. SoundWorld o x H) (sym is) (safe.at_end ((looks_same o w d.2.0 only follows).children ∙ sound.no_child)))
+
+  -- looks, and then these events
+  pub record HasStarted (x : World) (P : List Event → Type 0) : Type 0 where
+    pub looks : List Event
+    pub more : List Event
+    pub only : AreLooks o looks
+    pub follows : Follows o.act w (looks ++ more)
+    pub is : x ≡ run w (looks ++ more)
+    pub tried : P more
+
+  pub started : (x : World) (looked firm : Option World) (P : List Event → Type 0) → HasKept o.act (Some w) looked → Did o.act looked firm (λ u es. P es) → firm ≡ Some x → HasStarted x P
+  started x looked firm P kept did is =
+      let b = did x is in
+      let a = kept.looks b.0 b.1 in
+      let here = world_same w a.0 a.1 in
+      let first : Follows o.act w a.2.0 = subst (λ y. Follows o.act y a.2.0) (sym here) a.2.1 in
+      let mid : b.0 ≡ run w a.2.0 = a.2.3 ∙ ap (λ y. run y a.2.0) (sym here) in
+      record {
+        looks = a.2.0;
+        more = b.2.0;
+        only = looks_are o a.2.0 a.2.2;
+        follows = follows_append o.act w a.2.0 b.2.0 first (subst (λ y. Follows o.act y b.2.0) mid b.2.1);
+        is = b.2.3 ∙ ap (λ y. run y b.2.0) mid ∙ sym (run_append w a.2.0 b.2.0);
+        tried = b.2.2;
+      }
+
+  -- a settling, or one that failed
+  settle_runs : (ps : List Path) (s : RunState) (u : World) (e : Event) → s.faulted ≡ false → request e.call ≡ Settle ps → (b : Bool) → failed e.call ≡ b → (end : RunState) × Runs o s u (e ∷ []) end
+  settle_runs ps s u e calm is true bad =
+      let end : RunState = record s { jobs = filter (runs o) s.jobs; faulted = true } in (
+        end,
+        Next s end end u e []
+            (Fail e s bad (Aside (record e { call = as_ok e.call }) calm (subst (Besides o s u) (sym (settled_ok e.call ps is)) (SettleMove ps))))
+            (Done end (after u e)),
+      )
+  settle_runs ps s u e calm is false quiet =
+      (s, Next s s s u e [] (Aside e calm (subst (Besides o s u) (sym (settled_done e.call ps is quiet)) (SettleMove ps))) (Done s (after u e)))
+
+  one_of : (ps : List Path) (es : List Event) → HasDone (Settle ps ∷ []) es → (e : Event) × (es ≡ e ∷ []) × (e.call ≡ Settled ps (Ok tt))
+  one_of ps [] h = absurd h
+  one_of ps (e ∷ []) h = (e, refl, settled_done e.call ps h.0 h.1)
+  one_of ps (e ∷ (f ∷ es)) h = absurd h.2
+
+  tried_runs : (ps : List Path) (s : RunState) (u : World) (es : List Event) (r : Result (Unit {0}) StoreFault) → s.faulted ≡ false → HasTried (Settle ps ∷ []) r es → (end : RunState) × Runs o s u es end
+  tried_runs ps s u [] (Ok t) calm h = absurd h
+  tried_runs ps s u (e ∷ []) (Ok t) calm h = settle_runs ps s u e calm h.0 false h.1
+  tried_runs ps s u (e ∷ (f ∷ es)) (Ok t) calm h = absurd h.2
+  tried_runs ps s u es (Err (StampSeen p)) calm h = absurd h
+  tried_runs ps s u [] (Err Device) calm h = absurd h
+  tried_runs ps s u (e ∷ []) (Err Device) calm h = settle_runs ps s u e calm h.0 true h.1
+  tried_runs ps s u (e ∷ (f ∷ es)) (Err Device) calm h = absurd h.2
+  tried_runs ps s u es (Err OutOfMemory) calm h = (s, subst (λ l. Runs o s u l s) (sym h) (Done s u))
+
+  -- nothing comes after the settling
+  begun_safe : (answer : Answer) (x : World) (store : List Known) (r : Result (Unit {0}) StoreFault) → ((u : Unit {0}) → answer ≡ Ok u → ⊥) → HasStarted x (HasTried (steady_requests store) r) → Safely answer x
+  begun_safe answer x store r bad h =
+      let bound = bounded o w sound.formed in
+      let t = tried_runs (all_signs store) (at_entry o bound.0) (run w h.looks) h.more r refl h.tried in
+      let ran = look_all o (at_entry o bound.0) t.0 h.more refl w h.looks h.only t.1 in
+      (h.looks ++ h.more, h.follows, h.is, safe_by bound.0 (h.looks ++ h.more) t.0 bound.1 h.follows ran, λ u e. absurd (bad u e))
+
+  -- ## The turns
+
+  module _ (hand : IsAtHand o.read w) (words : List Text) (asked : Asked) (cores : ℕ) (told : Previewed) (to_serve : IsToServe o.read true words cores w asked told) where
+    abbrev top : ℕ
+    top = greatest_serial told.store
+
+    -- the events of the turns, with all that came before them
+    pub record IsTurnRun (v : World) (duties : List Duty) (ts : List Turn) : Type 0 where
+      pub es : List Event
+      pub follows : Follows o.act w es
+      pub is : v ≡ run w es
+      pub in_order : AreInOrder cores (due (Some (suc top)) duties told.jobs.jobs) ts
+      pub is_run : IsRunOf o (serials told.jobs.makers (Some (suc top)) duties) ts w es
+
+    abbrev pub built : unbuilt asked.flow.rules ≡ None
+    built = asked_built words w.nodes asked to_serve.is_asked
+
+    pub turns_run :
+        (u : Unit {0}) (x v : World) (duties : List Duty) (ts : List Turn) → HasStarted x (HasTried (steady_requests told.store) (Ok u)) →
+        AreInOrder cores (due (next_serial told.store) duties told.jobs.jobs) ts → Did o.act (Some x) (Some v) (AreTurns (serials told.jobs.makers (next_serial told.store) duties) ts) → IsTurnRun v duties ts
+    turns_run u x v duties ts h in_order did =
+        let d = did v refl in
+        let here = world_same x d.0 d.1 in
+        let one = one_of (all_signs told.store) h.more h.tried in
+        let es = (h.looks ++ h.more) ++ d.2.0 in
+        let at : d.0 ≡ run w (h.looks ++ h.more) = sym here ∙ h.is in
+        let follows : Follows o.act w es = follows_append o.act w (h.looks ++ h.more) d.2.0 h.follows (subst (λ y. Follows o.act y d.2.0) at d.2.1) in
+        let is : v ≡ run w es = d.2.3 ∙ ap (λ y. run y d.2.0) at ∙ sym (run_append w (h.looks ++ h.more) d.2.0) in
+        let firsts = firsts_same top duties in
+        let by_serials : (ℕ → Option ℕ) → Serials = λ f p. option_and_then f (maker_in told.jobs.makers p) in
+        let made_same : serials told.jobs.makers (next_serial told.store) duties ≡ serials told.jobs.makers (Some (suc top)) duties = ap by_serials firsts in
+        let turns : AreTurns (serials told.jobs.makers (Some (suc top)) duties) ts (run w (h.looks ++ one.0 ∷ [])) d.2.0 =
+        subst (λ l. AreTurns (serials told.jobs.makers (Some (suc top)) duties) ts (run w (h.looks ++ l)) d.2.0) one.1
+        (subst (λ y. AreTurns (serials told.jobs.makers (Some (suc top)) duties) ts y d.2.0) at
+        (subst (λ m. AreTurns m ts d.0 d.2.0) made_same d.2.2)) in
+        record {
+          es = es;
+          follows = follows;
+          is = is;
+          in_order = subst (λ (f : ℕ → Option ℕ). AreInOrder cores (due_from f 0 duties told.jobs.jobs) ts) firsts in_order;
+          is_run = record {
+            looks = h.looks;
+            settling = one.0;
+            turns = d.2.0;
+            events = ap (λ l. (h.looks ++ l) ++ d.2.0) one.1 ∙ append_assoc h.looks (one.0 ∷ []) d.2.0;
+            only_look = h.only;
+            places = all_signs told.store;
+            settles = one.2;
+            all_marks = signs_are_all o w told.store to_serve.plan.stored;
+            have_turns = turns;
+          };
+        }
+
+    pub turns_safe : (v : World) (duties : List Duty) (ts : List Turn) → AreWhatIsMeant told.jobs told.plan.states told.store duties → Each IsFit ts → (r : IsTurnRun v duties ts) → IsSafeRun o w H top ts r.es
+    turns_safe v duties ts meant fit r =
+        due_run_is_safe o w H asked.flow (settings_of asked cores) (plan_of told) told.jobs.makers duties cores top ts r.es hand.reads sound
+        (is_top o w told.store to_serve.plan.stored)
+        (is_plan o.read w sound.formed asked built cores told to_serve.plan)
+        (all_plain o.read w sound.formed asked built cores told to_serve.plan)
+        (duties_meant o.read w sound.formed asked built cores told to_serve.plan duties meant)
+        (makers_told o.read w sound.formed asked built cores told to_serve.plan)
+        r.in_order fit r.follows r.is_run
+
+    all_closed :
+        (u : Unit {0}) (flow : Flow) (dues : List Due) (ts : List Turn) (bad : Bool) (ended : Result Tally Fault) → IsRunOutcome flow dues ts bad ended → Concludes ended (Ok u) →
+        Each (λ (t : Turn). is_closed t.course ≡ true) ts
+    all_closed u flow dues ts bad (Ok tally) outcome concluded = outcome.1.closed
+    all_closed u flow dues ts bad (Err f) outcome concluded = absurd (ok_err u f concluded)
+
+    goes_safe :
+        (answer : Answer) (v : World) (looked firm : Option World) (rose : Type 0) (running : List ℕ) (p q : Option Text) (r : Result (Unit {0}) StoreFault) →
+        HasKept o.act (Some w) looked → Did o.act looked firm (λ u es. HasTried (steady_requests told.store) r es) →
+        (g : GoesOn o.act asked.flow cores asked.targets told.jobs told.plan.states told.store answer firm (Some v) rose running p q r) → Each IsFit (turns_made g) → Safely answer v
+    goes_safe answer v looked firm rose running p q r kept settling (NotFirm f is same unput) fit =
+        begun_safe answer v told.store (Err f) (λ u e. ok_err u (of_store f) (sym e ∙ is)) (started v looked firm (HasTried (steady_requests told.store) (Err f)) kept settling (sym same))
+    goes_safe answer v looked firm rose running p q r kept settling (NoMemory u is same unput) fit =
+        begun_safe answer v told.store (Ok u) (λ t e. ok_err t fault.OutOfMemory (sym e ∙ is)) (started v looked firm (HasTried (steady_requests told.store) (Ok u)) kept settling (sym same))
+    goes_safe answer v looked firm rose running p q r kept settling (Made u duties for meant made) fit =
+        let d = made.did v refl in
+        let start = started d.0 looked firm (HasTried (steady_requests told.store) (Ok u)) kept settling d.1 in
+        let r = turns_run u d.0 v duties made.turns start made.in_order (subst (λ y. Did o.act y (Some v) (AreTurns (serials told.jobs.makers (next_serial told.store) duties) made.turns)) d.1 made.did) in
+        let safe = turns_safe v duties made.turns meant fit r in (
+          r.es,
+          r.follows,
+          r.is,
+          safe_by top r.es safe.follows_protocol.0 (is_top o w told.store to_serve.plan.stored) r.follows safe.follows_protocol.1,
+          λ k e. subst (λ y. SoundWorld o y H) (sym r.is)
+              (safe.at_end (all_closed k asked.flow (due (next_serial told.store) duties told.jobs.jobs) made.turns made.failed made.ended made.answer (subst (Concludes made.ended) e made.concluded))),
+        )
+
+  went_safe :
+      (hand : IsAtHand o.read w) (words : List Text) (cores : ℕ) (answer : Answer) (v : World) (rose : Type 0) (running : List ℕ) (p q : Option Text)
+      (h : Went o.act cores answer (IsRefusal o.read true words cores w) (IsToServe o.read true words cores w) (Some w) (Some v) rose running p q) → Each IsFit (turns_went h) → Safely answer v
+  went_safe hand words cores answer v rose running p q (Refused f is why looked) fit = kept_safe answer v looked.kept
+  went_safe hand words cores answer v rose running p q (Stopped f is want looked) fit = kept_safe answer v looked.kept
+  went_safe hand words cores answer v rose running p q (Worked asked told plans worked) fit =
+      goes_safe hand words asked cores told plans answer v worked.looked worked.carried.firm rose running p q worked.carried.settled worked.looking worked.carried.settling worked.carried.goes_on fit
+
+  serves_safe :
+      (hand : IsAtHand o.read w) (request : Asking) (answer : Answer) (v : World) (rose : Type 0) (running : List ℕ) (p q : Option Text)
+      (h : Serves o.act o.read w answer (Some w) (Some v) rose running p q request) → Each IsFit (turns_in o.act o.read w answer (Some w) (Some v) rose running p q request h) → Safely answer v
+  serves_safe hand (Run words) answer v rose running p q h fit = went_safe hand words.targets words.cores answer v rose running p q h fit
+  serves_safe hand (Preview words) answer v rose running p q h fit = kept_safe answer v h.0
+
+-- the call has no fault only where the answer is none
+pub no_fault : (answer : Answer) (told : Option Fault) → IsOutcome (fault_of answer) told → told ≡ None → (u : Unit {0}) × (answer ≡ Ok u)
+no_fault (Ok u) told is none = (u, refl)
+no_fault (Err f) told (inl e) none = absurd (wrong (sym e ∙ none))
+  where
+    wrong : Some f ≡ None → ⊥
+    wrong x = cc
+no_fault (Err f) told (inr e) none = absurd (wrong (sym e.1 ∙ none))
+  where
+    wrong : Some fault.OutOfMemory ≡ None → ⊥
+    wrong x = cc
+
+pub call_is_safe : CallIsSafe
+call_is_safe o H request told w v before after running p q hand sound served fit =
+    let s = serves_safe o H w sound hand request served.answer v (Rose before after) running p q served.serves fit in
+    (s.0, s.1, s.2, s.3, λ none. let a = no_fault served.answer told served.told_is none in s.4 a.0 a.1)

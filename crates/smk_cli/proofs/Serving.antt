@@ -1,0 +1,47 @@
+-- What is served.
+use Rattle.std.proofs.Common.{◌≡◌, Bool, true, false, List, [], ℕ, refl, sym, ap, subst, ◌∙◌, Option, Some, Result, Ok, Err}
+use Rattle.smk_world.specs.World.{World}
+use Rattle.smk_world.specs.Trees.{Act}
+use Rattle.smk_pattern.specs.Shapes.{Text}
+use Rattle.smk_record.specs.declared.record.Record.{Record}
+use Rattle.smk_report.specs.declared.fault.Fault.{Fault}
+use Rattle.smk_asked.specs.declared.words.Request.{Request}
+use Rattle.smk_asked.specs.declared.words.Request.TheVariants.{Run, Preview}
+use Rattle.smk_store.specs.Images.{seen}
+use Rattle.smk_plan.specs.States.{nothing_done}
+use Rattle.smk_drive.specs.Refusals.{ChainRefuses}
+use Rattle.smk_entry.specs.declared.asking.Asked.{Asked}
+use Rattle.smk_entry.specs.Entry.{IsAskedIn}
+use Rattle.smk_preview.specs.declared.previewing.Previewed.{Previewed}
+use Rattle.smk_preview.specs.Previewing.{rules_for, IsPreviewed}
+use Rattle.smk_serve.specs.Serving.{IsWant, IsRefusedPlan, IsServed, settings_of, Stopped}
+use Rattle.smk_serve.specs.Serving as serving
+use Rattle.smk_serve.proofs.Went.{looked_not}
+use Rattle.smk_cli.specs.Whole.{Serves, IsRefusal, OfPlan, IsToServe}
+use Rattle.smk_cli.proofs.Looked.{IsSameFolder, seen_moved}
+
+pub no_device : (b : Bool) → b ≡ false → ¬ (b ≡ true)
+no_device b e h = never (sym h ∙ e)
+  where
+    never : true ≡ false → ⊥
+    never x = cc
+
+-- before anything was looked at memory was wanting
+pub stopped : (act : Act) (read : List ℕ → Option Record) (w : World) (f : Fault) (request : Request) (old : Option World) (rose : Type 0) (running : List ℕ) (put : Option Text) → IsWant f
+    → Serves act read w (Err f) old old rose running put put request
+stopped act read w f (Run words) old rose running put want = Stopped f refl want (looked_not act old put)
+stopped act read w f (Preview words) old rose running put want = ((looked_not act old put).kept, serving.Stopped f want refl)
+
+-- after looks a plan is that of the folder as it was
+pub plan_refused : (read : List ℕ → Option Record) (run : Bool) (words : List Text) (cores : ℕ) (w v : World) (asked : Asked) (f : Fault) → IsSameFolder w v → IsAskedIn run words w.nodes (Ok asked) → IsRefusedPlan read asked cores v f
+    → IsRefusal read run words cores w f
+plan_refused read run words cores w v asked f same is_asked refused =
+    OfPlan asked is_asked (subst (λ i. ChainRefuses (rules_for read asked.flow (settings_of asked cores)) i nothing_done [] f) (seen_moved read w v same) refused)
+
+pub plan_served : (read : List ℕ → Option Record) (run : Bool) (words : List Text) (cores : ℕ) (w v : World) (asked served : Asked) (told : Previewed) → IsSameFolder w v → IsAskedIn run words w.nodes (Ok asked) → IsServed read asked cores v served told
+    → IsToServe read run words cores w served told
+plan_served read run words cores w v asked served told same is_asked h = record {
+  is_asked = subst (λ x. IsAskedIn run words w.nodes (Ok x)) (sym h.0) is_asked;
+  plan = subst (λ x. IsPreviewed read x.flow (settings_of x cores) (seen read w) told) (sym h.0)
+      (subst (λ i. IsPreviewed read asked.flow (settings_of asked cores) i told) (seen_moved read w v same) h.1);
+}

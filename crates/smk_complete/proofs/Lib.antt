@@ -1,0 +1,12 @@
+pub mod Meanings
+pub mod Walked
+pub mod Wanted
+pub mod Calm
+pub mod Goods
+pub mod Parts
+pub mod Standing
+pub mod Ends
+pub mod Makers
+pub mod Came
+pub mod Stops
+pub mod Chains

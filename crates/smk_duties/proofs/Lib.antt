@@ -1,0 +1,5 @@
+pub mod Numbered
+pub mod Able
+pub mod Served
+pub mod Kept
+pub mod Meant

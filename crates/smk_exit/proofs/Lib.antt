@@ -1,0 +1,9 @@
+pub mod Same
+pub mod Left
+pub mod Calm
+pub mod Table
+pub mod Done
+pub mod Base
+pub mod Clean
+pub mod Kept
+pub mod Needed

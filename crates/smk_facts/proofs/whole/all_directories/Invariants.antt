@@ -1,0 +1,6 @@
+use Rattle.std.proofs.Common.{◌≡◌, map, take}
+use Rattle.smk_facts.specs.Telling.{directories_of}
+use Rattle.smk_facts.proofs.whole.all_directories.Given as goal
+
+abbrev pub invariant-loop-job : goal.invariant-loop-job
+invariant-loop-job l = l.found ≡ map (directories_of l.store l.seen) (take l.job-index l.jobs)

@@ -1,0 +1,6 @@
+use Rattle.std.proofs.Common.{◌≡◌, map, take}
+use Rattle.smk_facts.specs.Telling.{outputs_in}
+use Rattle.smk_facts.proofs.whole.outputs_whole.Given as goal
+
+abbrev pub invariant-loop-job : goal.invariant-loop-job
+invariant-loop-job l = l.flags ≡ map (outputs_in l.store l.seen) (take l.job-index l.jobs)

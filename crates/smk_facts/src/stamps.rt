@@ -1,0 +1,217 @@
+//! The stamps of inputs now.
+
+ghost use Rattle.std.specs.Prelude.{◌≡◌, ◌||◌, [], ◌∷◌, IfOk, OnOk, option_map, None};
+ghost use Rattle.std.specs.List.{list_any};
+ghost use Rattle.std.specs.BTreeSet.{contains_text};
+ghost use Rattle.smk_world.specs.World.{folders_above};
+ghost use Rattle.smk_world.specs.Trees.{Path, among};
+ghost use Rattle.smk_store.specs.Images.{readable};
+ghost use Rattle.smk_store.specs.Stores.{entry_of};
+ghost use Rattle.smk_store.specs.Trust.{is_folder_record, made_stamp};
+ghost use Rattle.smk_facts.specs.Facts.{told_sources};
+ghost use Rattle.smk_facts.specs.Telling.{is_directory_at, kept_of, makes_directory_at, mark_of, nearer, nearest, product_in, stamp_by, stamp_in, time_by, time_in, time_seen};
+
+use crate::texts::put;
+use smk_base::{List, OutOfMemory, PathText};
+use smk_chain::Maker;
+use smk_choose::folders_above;
+use smk_plan::{Seen, Sight};
+use smk_record::{Record, Stamp};
+use smk_store::{Entry, Kept, Store};
+use smk_world::{Item, Kind, Out, OutItem, Stat};
+use std::alloc::Global;
+use std::collections::BTreeSet;
+
+// Adds the path of the maker, where no job makes it.
+fn add_source(alloc: Global, set: &mut BTreeSet<String>, maker: &Maker) -> Result<(), OutOfMemory>
+    ensures { OnOk result ((q : Path) → contains_text set.new q ≡ (among (told_sources (maker.now ∷ [])) q || contains_text set.old q)) }
+{
+    match maker.job {
+        None => put(alloc, set, &maker.path),
+        Some(_) => Ok(()),
+    }
+}
+
+/// The paths that no job makes.
+pub(crate) fn sources_in(alloc: Global, makers: &[Maker]) -> Result<BTreeSet<String>, OutOfMemory>
+    ensures { IfOk result (λ set. (q : Path) → contains_text set q ≡ among (told_sources makers.now) q) }
+{
+    let mut set = BTreeSet::new(alloc);
+    for maker in makers {
+        add_source(alloc, &mut set, maker)?;
+    }
+    Ok(set)
+}
+
+// The record, where it reads.
+fn record_of(entry: Option<&Entry>) -> Option<&Record>
+    ensures { option_map (λ r. r.now) result ≡ readable (kept_of (option_map (λ e. e.now) entry.entry)) }
+{
+    match entry {
+        None => None,
+        Some(entry) => match &entry.kept {
+            Kept::Absent => None,
+            Kept::Unreadable => None,
+            Kept::Held(record) => Some(record),
+        },
+    }
+}
+
+/// Whether there is a mark.
+pub(crate) fn has_mark(entry: Option<&Entry>) -> bool
+    ensures { result ≡ mark_of (option_map (λ e. e.now) entry.entry) }
+{
+    match entry {
+        None => false,
+        Some(entry) => entry.marked,
+    }
+}
+
+// The serial of a record, as a stamp.
+fn stamp_of(held: Option<&Record>) -> Option<Stamp>
+    ensures { result ≡ made_stamp (option_map (λ r. r.now) held.entry) }
+{
+    match held {
+        None => None,
+        Some(held) => Some(Stamp::Made(held.made())),
+    }
+}
+
+// The stamp of what the record of a path speaks for: none where the path has a mark.
+fn own_stamp(entry: Option<&Entry>) -> Option<Stamp>
+    ensures { result ≡ stamp_by (option_map (λ e. e.now) entry.entry) }
+{
+    if has_mark(entry) {
+        return None;
+    }
+    stamp_of(record_of(entry))
+}
+
+// Whether the output is a directory at the path.
+fn is_directory_at(out: &Out, path: &PathText) -> bool
+    ensures { result ≡ is_directory_at path.now out.now }
+{
+    match out.kind {
+        Kind::Plain => false,
+        Kind::Folder => path.as_str() == out.path.as_str(),
+    }
+}
+
+// Whether one of the outputs is a directory at the path.
+fn has_directory(outs: &[Out], path: &PathText) -> bool
+    ensures { result ≡ list_any (is_directory_at path.now) outs.now }
+{
+    for out in outs {
+        if is_directory_at(out, path) {
+            return true;
+        }
+    }
+    false
+}
+
+// The same for the outputs of these items.
+fn makes_directory(outputs: &[OutItem], path: &PathText) -> bool
+    ensures { result ≡ list_any (makes_directory_at path.now) outputs.now }
+{
+    for item in outputs {
+        if has_directory(item.outs.as_slice(), path) {
+            return true;
+        }
+    }
+    false
+}
+
+// Whether the record is that of a directory output at the path.
+fn is_directory(held: Option<&Record>, path: &PathText) -> bool
+    ensures { result ≡ is_folder_record path.now (option_map (λ r. r.now) held.entry) }
+{
+    match held {
+        None => false,
+        Some(held) => makes_directory(held.recipe().outputs.as_slice(), path),
+    }
+}
+
+// The stamp of the folder, where it has the record of a directory, and else the one that was found.
+fn nearer(store: &Store, folder: &PathText, found: Option<Stamp>) -> Option<Stamp>
+    ensures { result ≡ nearer (entry_of store.now folder.now) folder.now found }
+{
+    let entry = store.entry(folder);
+    if is_directory(record_of(entry), folder) {
+        return own_stamp(entry);
+    }
+    found
+}
+
+// The stamp of the nearest folder above the path that has the record of a directory.
+fn stamp_above(alloc: Global, store: &Store, path: &PathText) -> Result<Option<Stamp>, OutOfMemory>
+    ensures { IfOk result (λ stamp. stamp ≡ nearest store.now None (folders_above path.now)) }
+{
+    let folders = folders_above(alloc, path)?;
+    let mut found = None;
+    for folder in &folders {
+        found = nearer(store, folder, found);
+    }
+    Ok(found)
+}
+
+// The stamp of a product: that of its own record, or else of the nearest directory above it.
+fn product_stamp(
+    alloc: Global,
+    store: &Store,
+    path: &PathText,
+) -> Result<Option<Stamp>, OutOfMemory>
+    ensures { IfOk result (λ stamp. stamp ≡ product_in store.now path.now) }
+{
+    let entry = store.entry(path);
+    if record_of(entry).is_some() {
+        return Ok(own_stamp(entry));
+    }
+    stamp_above(alloc, store, path)
+}
+
+// The time of a file.
+fn time_of(stat: Stat) -> Option<u64>
+    ensures { result ≡ time_by stat }
+{
+    match stat {
+        Stat::Nothing => None,
+        Stat::File { time, .. } => Some(time),
+        Stat::Folder => None,
+    }
+}
+
+// The time of the file that was seen.
+fn time_seen(sight: Option<&Sight>) -> Option<u64>
+    ensures { result ≡ time_seen (option_map (λ s. s.now) sight.entry) }
+{
+    match sight {
+        None => None,
+        Some(sight) => time_of(sight.stat),
+    }
+}
+
+// The time of the path, where it is told to be a source and is one.
+fn source_time(store: &Store, seen: &Seen, told: bool, path: &PathText) -> Option<u64>
+    ensures { result ≡ time_in store.now seen.now told path.now }
+{
+    if told && !store.covered(path) {
+        return time_seen(seen.sight(path));
+    }
+    None
+}
+
+/// The stamp of the path now, where these are the paths that no job makes: of a source its time, of a product the serial of the record that speaks for it.
+pub(crate) fn stamp_now(
+    alloc: Global,
+    store: &Store,
+    seen: &Seen,
+    sources: &BTreeSet<String>,
+    path: &PathText,
+) -> Result<Option<Stamp>, OutOfMemory>
+    ensures { IfOk result (λ stamp. stamp ≡ stamp_in store.now seen.now (contains_text sources.now) path.now) }
+{
+    match source_time(store, seen, sources.contains(path.as_str()), path) {
+        Some(time) => Ok(Some(Stamp::Time(time))),
+        None => product_stamp(alloc, store, path),
+    }
+}

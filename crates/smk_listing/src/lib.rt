@@ -1,0 +1,7 @@
+//! The listing of a plan.
+#![tactic(auto)]
+
+mod listing;
+mod names;
+
+pub use listing::put_listing;

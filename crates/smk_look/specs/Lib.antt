@@ -1,0 +1,3 @@
+pub mod Gathering
+pub mod Seeing
+pub mod Guards

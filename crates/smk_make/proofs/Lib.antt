@@ -1,0 +1,9 @@
+pub mod Numbered
+pub mod Counting
+pub mod Putting
+pub mod Dues
+pub mod Lower
+pub mod Good
+pub mod Current
+pub mod Made
+pub mod Further

@@ -1,0 +1,4 @@
+pub mod Faults
+pub mod Closing
+pub mod After
+pub mod Making

@@ -1,0 +1,9 @@
+//! What was planned is made: the jobs that must be run are run, and the run is reported with its targets.
+#![tactic(auto)]
+
+mod after;
+mod closing;
+mod makers;
+mod making;
+
+pub use making::make;

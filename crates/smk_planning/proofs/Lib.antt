@@ -1,0 +1,5 @@
+mod Lists
+mod Refused
+mod Told
+mod Assembled
+pub mod Linked

@@ -1,0 +1,5 @@
+pub mod Faults
+pub mod Previewing
+pub mod Rounds
+pub mod Fitness
+pub mod Steps

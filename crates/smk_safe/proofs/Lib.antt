@@ -1,0 +1,13 @@
+pub mod Joining
+pub mod Quiet
+pub mod Turning
+pub mod Images
+pub mod Off
+pub mod Stamped
+pub mod Product
+pub mod Coming
+pub mod Going
+pub mod Safe
+pub mod Lost
+pub mod Planned
+pub mod Stored

@@ -1,0 +1,6 @@
+pub mod SameKinds
+pub mod PreviewKinds
+pub mod Ended
+pub mod Went
+pub mod Making
+pub mod ListingKinds

@@ -1,0 +1,6 @@
+//! What is asked of a workflow is done: its targets are made, or what a run would do is listed.
+#![tactic(auto)]
+
+mod serving;
+
+pub use serving::{list_plan, make_targets};

@@ -1,0 +1,110 @@
+//! A plan, and then the run that makes it or its listing.
+
+ghost use Rattle.std.specs.Prelude.{◌≡◌, ℕ, List as Items, Option, [], Some, IfOk};
+ghost use Rattle.smk_world.specs.World.{World};
+ghost use Rattle.smk_world.specs.Calls.{Rose};
+ghost use Rattle.smk_record.specs.declared.record.Record.{Record as RecordValue};
+ghost use Rattle.smk_serve.specs.Ends.{HasEnded};
+ghost use Rattle.smk_serve.specs.Serving as spec;
+ghost use Rattle.smk_serve.specs.Serving.{IsAtHand, IsRefusedPlan, IsServed, Went, HasListed};
+
+use smk_base::{Copied, List, OutOfMemory};
+use smk_entry::Asked;
+use smk_listing::put_listing;
+use smk_make::make;
+use smk_pick::{Force, Settings};
+use smk_preview::{Previewed, preview};
+use smk_report::Fault;
+use smk_world::{Crew, Files, Sink};
+use std::alloc::Global;
+use std::thread::Threads;
+
+// What a plan for what is asked goes by: jobs that weren't finished are run again, and none is forced.
+fn settings_of(alloc: Global, asked: &Asked, cores: u64) -> Result<Settings, OutOfMemory>
+    ensures { IfOk result (λ settings. settings ≡ spec.settings_of asked.now cores) }
+{
+    Ok(Settings {
+        targets: asked.targets.copied(alloc)?,
+        cores,
+        bounds: List::new(alloc),
+        keep_going: false,
+        rerun_incomplete: true,
+        force: Force::No,
+    })
+}
+
+// The plan for what is asked.
+fn plan_for<W: Files, Rt: Threads + Sync>(
+    rt: &Rt,
+    alloc: Global,
+    asked: &Asked,
+    cores: u64,
+    work: &mut W,
+) -> Result<Previewed, Fault>
+    requires none_runs { W.running work.old ≡ [] }
+    ensures looked { spec.HasOnlyAsked W.act (W.world work.old) (W.world work.new) (W.faults work.old) (W.faults work.new) (W.running work.old) (W.running work.new) result }
+    ensures fit { IfOk result (spec.IsFit asked.now.flow cores) }
+    ensures told { (w : World) → W.world work.old ≡ Some w → (read : Items ℕ → Option RecordValue) → IsAtHand read w
+        → spec.IsPlanned read asked.now cores w result }
+{
+    let Ok(settings) = settings_of(alloc, asked, cores) else {
+        return Err(Fault::OutOfMemory);
+    };
+    preview(rt, alloc, &asked.flow, &settings, work)
+}
+
+/// Makes the targets of what is asked: plans, and runs what the plan has to be run or restored, one job after another; and reports to `out`.
+///
+/// The fault is the first refusal of the plan; or else that of the first job that failed, or why the run stopped: `Serials`, `TooLong`, `NoInput`, `Device`, `Output`,
+/// `OutOfMemory`. No child runs before.
+pub fn make_targets<W: Crew, O: Sink, Rt: Threads + Sync>(
+    rt: &Rt,
+    alloc: Global,
+    asked: &Asked,
+    cores: u64,
+    work: &mut W,
+    out: &mut O,
+) -> Result<(), Fault>
+    requires none_runs { W.running work.old ≡ [] }
+    ensures ended { HasEnded result (W.world work.old) (W.world work.new) (W.faults work.old) (W.faults work.new) (W.running work.new) (O.faults out.old) (O.faults out.new) }
+    ensures went { (w : World) → W.world work.old ≡ Some w → (read : Items ℕ → Option RecordValue) → IsAtHand read w
+        → Went W.act cores result (IsRefusedPlan read asked.now cores w) (IsServed read asked.now cores w)
+        (W.world work.old) (W.world work.new) (Rose (W.faults work.old) (W.faults work.new)) (W.running work.new) (O.put_so_far out.old) (O.put_so_far out.new) }
+{
+    match plan_for(rt, alloc, asked, cores, work) {
+        Err(fault) => Err(fault),
+        Ok(plan) => make(
+            alloc,
+            &asked.flow,
+            &asked.targets,
+            &plan.jobs,
+            &plan.plan.states,
+            &plan.store,
+            cores,
+            work,
+            out,
+        ),
+    }
+}
+
+/// Lists what a run with one core would do for what is asked. Nothing in the folder changes.
+///
+/// The fault is the first refusal of the plan; or `Device`, `Output`, `OutOfMemory`. No child runs before.
+pub fn list_plan<W: Files, O: Sink, Rt: Threads + Sync>(
+    rt: &Rt,
+    alloc: Global,
+    asked: &Asked,
+    work: &mut W,
+    out: &mut O,
+) -> Result<(), Fault>
+    requires none_runs { W.running work.old ≡ [] }
+    ensures ended { HasEnded result (W.world work.old) (W.world work.new) (W.faults work.old) (W.faults work.new) (W.running work.new) (O.faults out.old) (O.faults out.new) }
+    ensures looked { spec.HasKept W.act (W.world work.old) (W.world work.new) }
+    ensures listed { (w : World) → W.world work.old ≡ Some w → (read : Items ℕ → Option RecordValue) → IsAtHand read w
+        → HasListed (IsRefusedPlan read asked.now 1 w) (IsServed read asked.now 1 w) (O.put_so_far out.old) (O.put_so_far out.new) result }
+{
+    match plan_for(rt, alloc, asked, 1, work) {
+        Err(fault) => Err(fault),
+        Ok(plan) => put_listing(alloc, &asked.flow, &plan.jobs, &plan.plan.states, out),
+    }
+}

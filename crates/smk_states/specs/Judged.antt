@@ -1,0 +1,36 @@
+-- What is known of the jobs of a plan before their states are.
+use Rattle.std.specs.Prelude.{◌≡◌, Bool, List, [], ◌++◌, map}
+use Rattle.smk_world.specs.World.{in_paths, out_paths}
+use Rattle.smk_flow.specs.declared.job.Job.{Job}
+use Rattle.smk_store.specs.Images.{Image}
+use Rattle.smk_store.specs.Trust.{stamp_now}
+use Rattle.smk_chain.specs.declared.jobs.Jobs.{Jobs}
+use Rattle.smk_trigger.specs.declared.reason.Reason.{Reason}
+use Rattle.smk_trigger.specs.declared.reason.Reason.TheVariants.{Forced}
+use Rattle.smk_trigger.specs.declared.reason.State.{State}
+use Rattle.smk_trigger.specs.Reasons.{own_reasons, when}
+use Rattle.smk_pick.specs.declared.settings.Settings.{Settings}
+use Rattle.smk_plan.specs.States.{Plan, Progress, is_forced}
+use Rattle.smk_plan.specs.Sights.{wholes_of}
+use Rattle.smk_plan.specs.declared.wholes.Wholes.{Wholes}
+
+-- the plan of these jobs with these states
+abbrev pub with_states : Jobs → List State → Plan
+with_states jobs states = record { lists = jobs.lists; jobs = jobs.jobs; states = states }
+
+-- The reasons of a job, but for the inputs whose job is Dirty, where no child runs.
+abbrev pub reasons_alone : Image → Settings → Progress → Jobs → Job → List Reason
+reasons_alone image settings progress jobs j =
+    own_reasons j.recipe (map image.kept (out_paths j.recipe)) (map image.marked (out_paths j.recipe))
+    (map (λ q. (q, stamp_now image q)) (in_paths j.recipe))
+    ++ when (is_forced image settings progress (with_states jobs []) j) Forced
+
+-- No child runs; these are the reasons of the jobs, but for the inputs whose job is Dirty; and it is told rightly which of the jobs are
+-- forced, and what is whole.
+pub record AreJudged
+    (image : Image) (settings : Settings) (progress : Progress) (jobs : Jobs)
+    (judged : List (List Reason)) (flags : List Bool) (seen : Wholes) : Type 0 where
+  pub idle : progress.running ≡ []
+  pub reasons : judged ≡ map (reasons_alone image settings progress jobs) jobs.jobs
+  pub forced : flags ≡ map (is_forced image settings progress (with_states jobs [])) jobs.jobs
+  pub wholes : seen ≡ wholes_of image jobs

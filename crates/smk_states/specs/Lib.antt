@@ -1,0 +1,9 @@
+pub mod Served
+pub mod Judged
+pub mod Parts
+pub mod Sites
+pub mod Paths
+pub mod Passes
+pub mod First
+pub mod Waits
+pub mod Laws

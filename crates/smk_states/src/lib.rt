@@ -1,0 +1,17 @@
+//! The states of the jobs of a plan.
+#![tactic(auto)]
+
+mod downward;
+mod laws;
+mod opening;
+mod parts;
+mod paths;
+mod ready;
+mod reasons;
+mod sites;
+mod table;
+mod upward;
+
+pub use laws::linked_jobs_serve;
+pub use ready::{newly_ready, ready_targets};
+pub use table::states;

@@ -1,0 +1,274 @@
+//! What is ready by the states of jobs: targets, and directories that are awaited.
+
+ghost use Rattle.std.specs.Prelude.{◌≡◌, ◌&&◌, ◌||◌, ◌++◌, ◌∷◌, [], not, length, Bool, List as Items, map, filter, bytes_eq, is_none, IfOk, OnOk, if◌then◌else◌};
+ghost use Rattle.std.specs.BTreeMap.{get_by_text};
+ghost use Rattle.std.specs.BTreeSet.{contains_text};
+ghost use Rattle.std.specs.List.{flat_map};
+ghost use Rattle.smk_world.specs.Trees.{Path};
+ghost use Rattle.smk_store.specs.Images.{Image};
+ghost use Rattle.smk_chain.specs.Derive.{distinct, listing};
+ghost use Rattle.smk_pick.specs.declared.settings.Settings.{Settings as Asked};
+ghost use Rattle.smk_plan.specs.States.{Progress, is_ready, awaited, test_some};
+ghost use Rattle.smk_plan.specs.Sights.{wholes_of};
+ghost use Rattle.smk_states.specs.Served.{AreServed};
+ghost use Rattle.smk_states.specs.Judged.{with_states};
+ghost use Rattle.smk_states.specs.Parts.{parts_of};
+ghost use Rattle.smk_states.specs.Paths.{site_at};
+ghost use Rattle.smk_states.specs.Waits.{ready_told, over_waits, part_waits, waits_told, waits_of};
+
+use crate::opening::is_made_clean;
+use crate::parts::{Parts, parts_of_jobs};
+use crate::paths::{listed_in, put};
+use crate::sites::{Site, sites_of};
+use smk_base::{List, OutOfMemory, PathText};
+use smk_chain::Jobs;
+use smk_plan::Wholes;
+use smk_trigger::State;
+use std::alloc::Global;
+use std::collections::{BTreeMap, BTreeSet};
+
+/// An awaited directory, and whether it is ready.
+#[derive(Debug, Drop)]
+pub(crate) struct Wait {
+    pub(crate) path: PathText,
+    pub(crate) ready: bool,
+}
+
+// Whether a job makes the path that is Clean, and it is whole.
+fn is_ready(sites: &BTreeMap<String, Site>, states: &[State], path: &PathText) -> bool
+    ensures { result ≡ ready_told states.now (get_by_text sites.now path.now) }
+{
+    match sites.get(path.as_str()) {
+        Some(site) => is_made_clean(states, site) && site.whole,
+        None => false,
+    }
+}
+
+// Adds the directory output over the path.
+fn push_over(
+    alloc: Global,
+    found: &mut List<Wait>,
+    sites: &BTreeMap<String, Site>,
+    states: &[State],
+    path: &PathText,
+) -> Result<(), OutOfMemory>
+    ensures { OnOk result (found.new ≡ found.old ++ over_waits states.now (get_by_text sites.now path.now)) }
+{
+    let Some(site) = sites.get(path.as_str()) else {
+        return Ok(());
+    };
+    match &site.over {
+        Some(directory) => found.push(Wait {
+            path: directory.path.copy(alloc)?,
+            ready: is_made_clean(states, site) && directory.whole,
+        }),
+        None => Ok(()),
+    }
+}
+
+// Adds the directory outputs over the paths.
+fn push_overs(
+    alloc: Global,
+    found: &mut List<Wait>,
+    sites: &BTreeMap<String, Site>,
+    states: &[State],
+    paths: &[PathText],
+) -> Result<(), OutOfMemory>
+    ensures { OnOk result (found.new ≡ found.old ++ flat_map (λ q. over_waits states.now (get_by_text sites.now q)) paths.now) }
+{
+    for path in paths {
+        push_over(alloc, found, sites, states, path)?;
+    }
+    Ok(())
+}
+
+// Adds the directories that are gathered from.
+fn push_gathered(
+    alloc: Global,
+    found: &mut List<Wait>,
+    sites: &BTreeMap<String, Site>,
+    states: &[State],
+    folders: &[PathText],
+) -> Result<(), OutOfMemory>
+    ensures { OnOk result (found.new ≡ found.old ++ map (λ d. record { path = d; ready = ready_told states.now (get_by_text sites.now d) }) folders.now) }
+{
+    for folder in folders {
+        let ready = is_ready(sites, states, folder);
+        found.push(Wait {
+            path: folder.copy(alloc)?,
+            ready,
+        })?;
+    }
+    Ok(())
+}
+
+// Adds the directories that the job awaits.
+fn push_waits(
+    alloc: Global,
+    found: &mut List<Wait>,
+    sites: &BTreeMap<String, Site>,
+    states: &[State],
+    part: &Parts,
+) -> Result<(), OutOfMemory>
+    ensures { OnOk result (found.new ≡ found.old ++ part_waits states.now (λ q. get_by_text sites.now q) part.now) }
+{
+    push_gathered(alloc, found, sites, states, part.gathers.as_slice())?;
+    push_overs(alloc, found, sites, states, part.inputs.as_slice())?;
+    push_overs(alloc, found, sites, states, part.gathers.as_slice())?;
+    Ok(())
+}
+
+// The directories that the jobs await, and those of which a target is a member; one may come again.
+fn waits_in(
+    alloc: Global,
+    sites: &BTreeMap<String, Site>,
+    states: &[State],
+    parts: &[Parts],
+    targets: &[PathText],
+) -> Result<List<Wait>, OutOfMemory>
+    ensures { IfOk result (λ found. found ≡ waits_told states.now (λ q. get_by_text sites.now q) parts.now targets.now) }
+{
+    let mut found = List::new(alloc);
+    for part in parts {
+        push_waits(alloc, &mut found, sites, states, part)?;
+    }
+    push_overs(alloc, &mut found, sites, states, targets)?;
+    Ok(found)
+}
+
+// Whether the directory is ready, has no listing, and wasn't seen.
+fn is_new(listed: &BTreeSet<String>, seen: &BTreeSet<String>, wait: &Wait) -> bool
+    ensures { result ≡ ((wait.now.ready && not (contains_text listed.now wait.now.path)) && not (contains_text seen.now wait.now.path)) }
+{
+    let path = wait.path.as_str();
+    (wait.ready && !listed.contains(path)) && !seen.contains(path)
+}
+
+// Adds the path, where it is new.
+fn push_new(
+    alloc: Global,
+    found: &mut List<PathText>,
+    seen: &mut BTreeSet<String>,
+    path: &PathText,
+    fresh: bool,
+) -> Result<(), OutOfMemory>
+    ensures found { OnOk result (found.new ≡ found.old ++ (if fresh then path.now ∷ [] else [])) }
+    ensures seen { OnOk result ((q : Path) → contains_text seen.new q ≡ (if fresh then (bytes_eq q path.now || contains_text seen.old q) else contains_text seen.old q)) }
+{
+    if !fresh {
+        return Ok(());
+    }
+    put(alloc, seen, path)?;
+    found.push(path.copy(alloc)?)?;
+    Ok(())
+}
+
+// The directories that are ready and have no listing, each once.
+fn new_in(
+    alloc: Global,
+    waits: &[Wait],
+    listed: &BTreeSet<String>,
+) -> Result<List<PathText>, OutOfMemory>
+    ensures { IfOk result (λ found. (ready : Path → Bool) (paths : Items Path) → waits.now ≡ waits_of ready paths
+        → found ≡ filter (λ d. ready d && not (contains_text listed.now d)) (distinct bytes_eq paths)) }
+{
+    let mut found = List::new(alloc);
+    let mut seen = BTreeSet::new(alloc);
+    for wait in waits {
+        let fresh = is_new(listed, &seen, wait);
+        push_new(alloc, &mut found, &mut seen, &wait.path, fresh)?;
+    }
+    Ok(found)
+}
+
+// The parts of the jobs.
+fn parts_by(alloc: Global, jobs: &Jobs, wholes: &Wholes) -> Result<List<Parts>, OutOfMemory>
+    ensures { IfOk result (λ parts. (image : Image) → wholes.now ≡ wholes_of image jobs.now → parts ≡ map (parts_of image) jobs.now.jobs) }
+{
+    let parts = parts_of_jobs(alloc, jobs.jobs.as_slice(), wholes.outputs.as_slice())?;
+    Ok(parts)
+}
+
+// What is known of the path of each maker.
+fn sites_by(
+    alloc: Global,
+    jobs: &Jobs,
+    wholes: &Wholes,
+    parts: &List<Parts>,
+) -> Result<BTreeMap<String, Site>, OutOfMemory>
+    ensures { IfOk result (λ sites. (image : Image) → wholes.now ≡ wholes_of image jobs.now → parts.now ≡ map (parts_of image) jobs.now.jobs
+        → (q : Path) → get_by_text sites q ≡ site_at image jobs.now q) }
+{
+    let sites = sites_of(
+        alloc,
+        jobs.makers.as_slice(),
+        wholes.makers.as_slice(),
+        parts.as_slice(),
+    )?;
+    Ok(sites)
+}
+
+// For each target whether it is ready.
+fn ready_in(
+    alloc: Global,
+    sites: &BTreeMap<String, Site>,
+    states: &[State],
+    targets: &[PathText],
+) -> Result<List<bool>, OutOfMemory>
+    ensures { IfOk result (λ ready. ready ≡ map (λ t. ready_told states.now (get_by_text sites.now t)) targets.now) }
+{
+    let mut ready = List::new(alloc);
+    for target in targets {
+        ready.push(is_ready(sites, states, target))?;
+    }
+    Ok(ready)
+}
+
+/// For each target whether it is ready by these states: a job makes it that is Clean, and it is whole. `OutOfMemory` where there is no
+/// memory for the answer.
+pub fn ready_targets(
+    alloc: Global,
+    jobs: &Jobs,
+    targets: &List<PathText>,
+    wholes: &Wholes,
+    states: &List<State>,
+) -> Result<List<bool>, OutOfMemory>
+    requires each { length states.now ≡ length jobs.now.jobs }
+    ensures { IfOk result (λ ready. (image : Image) (settings : Asked) (progress : Progress) → settings.targets ≡ targets.now → AreServed jobs.now targets.now
+        → wholes.now ≡ wholes_of image jobs.now
+        → ready ≡ map (is_ready image settings progress (with_states jobs.now states.now)) targets.now) }
+{
+    let parts = parts_by(alloc, jobs, wholes)?;
+    let sites = sites_by(alloc, jobs, wholes, &parts)?;
+    let ready = ready_in(alloc, &sites, states.as_slice(), targets.as_slice())?;
+    Ok(ready)
+}
+
+/// The awaited directories that are ready by these states and have no listing yet, each once, in the order in which they are awaited.
+/// `OutOfMemory` where there is no memory for them.
+pub fn newly_ready(
+    alloc: Global,
+    jobs: &Jobs,
+    targets: &List<PathText>,
+    wholes: &Wholes,
+    states: &List<State>,
+) -> Result<List<PathText>, OutOfMemory>
+    requires each { length states.now ≡ length jobs.now.jobs }
+    ensures { IfOk result (λ found. (image : Image) (settings : Asked) (progress : Progress) → settings.targets ≡ targets.now → AreServed jobs.now targets.now
+        → wholes.now ≡ wholes_of image jobs.now
+        → found ≡ filter (λ d. is_ready image settings progress (with_states jobs.now states.now) d && is_none (listing jobs.now.lists d))
+        (awaited image settings progress (with_states jobs.now states.now))) }
+{
+    let parts = parts_by(alloc, jobs, wholes)?;
+    let sites = sites_by(alloc, jobs, wholes, &parts)?;
+    let waits = waits_in(
+        alloc,
+        &sites,
+        states.as_slice(),
+        parts.as_slice(),
+        targets.as_slice(),
+    )?;
+    let listed = listed_in(alloc, jobs.lists.as_slice())?;
+    let found = new_in(alloc, waits.as_slice(), &listed)?;
+    Ok(found)
+}

@@ -1,0 +1,5 @@
+pub mod Succeeding
+pub mod Feeding
+pub mod Looking
+pub mod Planning
+pub mod Completing

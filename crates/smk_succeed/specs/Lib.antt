@@ -1,0 +1,4 @@
+pub mod Succeeding
+pub mod Feeding
+pub mod Planning
+pub mod Completing

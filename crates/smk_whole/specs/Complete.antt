@@ -1,0 +1,82 @@
+-- How a call ends where each target has a clean value.
+use Rattle.std.specs.Prelude.{◌⊎◌, ℕ, List, [], Option, Some, Result, Ok, Err, is_none}
+use Rattle.smk_world.specs.World.{World}
+use Rattle.smk_world.specs.Calls.{Rose}
+use Rattle.smk_world.specs.Trees.{Act}
+use Rattle.smk_pattern.specs.Shapes.{Text}
+use Rattle.smk_format.specs.Commands.{missing}
+use Rattle.smk_record.specs.declared.record.Record.{Record}
+use Rattle.smk_store.specs.Images.{seen}
+use Rattle.smk_store.specs.Trust.{Versions}
+use Rattle.smk_store.specs.Soundness.{SoundWorld}
+use Rattle.smk_chain.specs.Mean.{Setting, setting_of}
+use Rattle.smk_plan.specs.States.{Plan, LastPlan, nothing_done}
+use Rattle.smk_report.specs.declared.fault.Fault.{Fault}
+use Rattle.smk_entry.specs.declared.asking.Asked.{Asked}
+use Rattle.smk_preview.specs.declared.previewing.Previewed.{Previewed}
+use Rattle.smk_preview.specs.Previewing.{rules_for}
+use Rattle.smk_serve.specs.Serving.{HasListed, HasWorked, IsPlanFor, IsRefusedPlan, IsServed, Went, settings_of}
+use Rattle.smk_complete.specs.Derived.{AllHaveValues, GathersAlone}
+use Rattle.smk_complete.specs.Planned.{MayStop}
+use Rattle.smk_succeed.specs.Completing.{MayBreakOff}
+use Rattle.smk_succeed.specs.Planning.{IsPlainPlan}
+
+-- the setting that the sources of a world give to what is asked
+abbrev pub setting_in : Act → (List ℕ → Option Record) → Asked → World → Setting
+setting_in act read asked w = setting_of asked.flow act (λ j. is_none (missing j)) (seen read w)
+
+-- What is asked has clean values, by the sources of a sound world.
+pub record IsCleanAsked (act : Act) (read : List ℕ → Option Record) (asked : Asked) (w : World) (H : Versions) : Type 0 where
+  pub sound : SoundWorld (record { read = read; act = act }) w H
+  pub alone : GathersAlone asked.flow
+  pub values : AllHaveValues (setting_in act read asked w) asked.targets
+
+-- Then a plan is refused only for how the folder stands, or for what clashes.
+abbrev pub RefusedPlansMayStop : Type 0
+RefusedPlansMayStop =
+    (act : Act) (read : List ℕ → Option Record) (asked : Asked) (cores : ℕ) (w : World) (H : Versions) (f : Fault) →
+    IsCleanAsked act read asked w H →
+    IsRefusedPlan read asked cores w f → MayStop (rules_for read asked.flow (settings_of asked cores)) (seen read w) f
+
+-- all is well, or the run broke off
+abbrev pub EndsComplete : Result (Unit {0}) Fault → Type 0
+EndsComplete (Ok u) = Unit {0}
+EndsComplete (Err f) = MayBreakOff f
+
+-- And a run by the plan, of jobs that make plain files and gather nothing, has no job that fails, and finds no input gone, where the world is told
+-- at its end and no count of faults rose.
+abbrev pub WorkIsComplete : Type 0
+WorkIsComplete =
+    (act : Act) (read : List ℕ → Option Record) (asked : Asked) (told : Previewed) (cores : ℕ) (w v : World) (H : Versions) (result : Result (Unit {0}) Fault)
+    (faults_old faults_new : ℕ) (running : List ℕ) (put_old put_new : Option Text) →
+    IsCleanAsked act read asked w H →
+    IsPlanFor read asked cores w told →
+    ((plan : Plan) → LastPlan asked.flow (seen read w) (settings_of asked cores) nothing_done [] plan → IsPlainPlan plan) →
+    (Rose faults_old faults_new → ⊥) →
+    HasWorked act cores result asked told (Some w) (Some v) (Rose faults_old faults_new) running put_old put_new → EndsComplete result
+
+-- ## What is served
+
+-- The call ends well; or it is refused so, or broke off.
+abbrev pub IsCompleteAnswer : (List ℕ → Option Record) → Asked → ℕ → World → Result (Unit {0}) Fault → Type 0
+IsCompleteAnswer read asked cores w (Ok u) = Unit {0}
+IsCompleteAnswer read asked cores w (Err f) = MayStop (rules_for read asked.flow (settings_of asked cores)) (seen read w) f ⊎ MayBreakOff f
+
+-- So a run for what is asked ends.
+abbrev pub ServedRunsAreComplete : Type 0
+ServedRunsAreComplete =
+    (act : Act) (read : List ℕ → Option Record) (asked : Asked) (cores : ℕ) (w v : World) (H : Versions) (result : Result (Unit {0}) Fault)
+    (faults_old faults_new : ℕ) (running : List ℕ) (put_old put_new : Option Text) →
+    IsCleanAsked act read asked w H →
+    ((plan : Plan) → LastPlan asked.flow (seen read w) (settings_of asked cores) nothing_done [] plan → IsPlainPlan plan) →
+    (Rose faults_old faults_new → ⊥) →
+    Went act cores result (IsRefusedPlan read asked cores w) (IsServed read asked cores w) (Some w) (Some v) (Rose faults_old faults_new) running put_old put_new →
+    IsCompleteAnswer read asked cores w result
+
+-- And so does a listing.
+abbrev pub ServedListingsAreComplete : Type 0
+ServedListingsAreComplete =
+    (act : Act) (read : List ℕ → Option Record) (asked : Asked) (cores : ℕ) (w : World) (H : Versions) (result : Result (Unit {0}) Fault)
+    (put_old put_new : Option Text) →
+    IsCleanAsked act read asked w H →
+    HasListed (IsRefusedPlan read asked cores w) (IsServed read asked cores w) put_old put_new result → IsCompleteAnswer read asked cores w result
