@@ -41,4 +41,3 @@ line_put f line ok old new rose is put bad = record {
 pub not_ok : {A E : Type 0} (r : Result A E) → is_ok r ≡ false → IsErr r
 not_ok (Ok t) h = absurd (true_false h)
 not_ok (Err e) h = refl
-

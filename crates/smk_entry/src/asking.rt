@@ -65,12 +65,7 @@ fn targets_of(alloc: Global, flow: &Workflow, words: &List<Text>) -> Result<List
 }
 
 // What the words ask of a workflow in which no form is refused.
-fn asked_of(
-    alloc: Global,
-    run: bool,
-    reading: Reading,
-    words: &List<Text>,
-) -> Result<Asked, Fault>
+fn asked_of(alloc: Global, run: bool, reading: Reading, words: &List<Text>) -> Result<Asked, Fault>
     requires built { forms.unbuilt_for run reading.flow.rules ≡ None }
     ensures is { spec.Asks run words.now reading result }
     ensures no_device { device_failed result ≡ false }
@@ -85,12 +80,7 @@ fn asked_of(
 }
 
 // What the words ask of a workflow that was read.
-fn asked_in(
-    alloc: Global,
-    run: bool,
-    reading: Reading,
-    words: &List<Text>,
-) -> Result<Asked, Fault>
+fn asked_in(alloc: Global, run: bool, reading: Reading, words: &List<Text>) -> Result<Asked, Fault>
     ensures is { spec.Asks run words.now reading result }
     ensures no_device { device_failed result ≡ false }
     ensures no_sink { IfErr result (λ f. is_sink f ≡ false) }

@@ -11,7 +11,6 @@ use Rattle.smk_report.specs.Lines.{Named, state_line, plan_line}
 use Rattle.smk_drive.specs.Reports.{named_job, listing_text}
 use Rattle.smk_listing.specs.Listing.{job_line}
 
-
 named_lines : (flow : Flow) (es : List (Job × State)) → flat_map state_line (map (λ (e : Job × State). (named_job flow e.0, e.1)) es) ≡ flat_map (job_line flow) es
 named_lines flow [] = refl
 named_lines flow (e ∷ es) = ap (λ t. state_line (named_job flow e.0, e.1) ++ t) (named_lines flow es)

@@ -79,8 +79,10 @@ undone_is_last cores (due ∷ dues) (u ∷ ts) order zero t e bad = go (is_done 
   where
     the : Some u ≡ Some t → u ≡ t
     the x = cc
+
     undone : is_done u.course ≡ false
     undone = subst (λ x. is_done x.course ≡ false) (sym (the e)) bad
+
     go : (b : Bool) → is_done u.course ≡ b → (ts ≡ []) ⊎ (is_done u.course ≡ true) → 0 ≡ cond b (1 + count ts) (count ts)
     go true is last = absurd (true_false (sym is ∙ undone))
     go false is (inl end) = sym (none_done ts end)
@@ -89,8 +91,10 @@ undone_is_last cores (due ∷ dues) (u ∷ ts) order (suc n) t e bad = go (is_do
   where
     none_some : None ≡ Some t → ⊥
     none_some x = cc
+
     gone : ts ≡ [] → ⊥
     gone end = none_some (sym (ap (λ xs. slice_get xs n) end) ∙ e)
+
     go : (b : Bool) → is_done u.course ≡ b → (ts ≡ []) ⊎ (is_done u.course ≡ true) → n ≡ count ts → suc n ≡ cond b (1 + count ts) (count ts)
     go true is last ih = omega (arith, ih)
     go false is (inl end) ih = absurd (gone end)

@@ -84,6 +84,7 @@ module _ (flow : Flow) (cores : ℕ) (dues : List Due) (befores : List (List ℕ
       positive : (n : ℕ) → (n ≡ 0 → ⊥) → 1 ≤ n
       positive zero never = absurd (never refl)
       positive (suc n) never = omega arith
+
       omega_lt : tally.done + tally.failed ≡ tally.started → tally.started ≡ length turns → tally.done < length turns
       omega_lt sum all = let one = positive tally.failed some in omega (arith, sum, all, one)
 
@@ -94,17 +95,22 @@ module _ (flow : Flow) (cores : ℕ) (dues : List Due) (befores : List (List ℕ
       none_needed : (tally.failed ≡ 0) ⊎ ((k : ℕ) → IsDueAfter duties tally.done k → ⊥) → NeedsFailed befores duties turns n → ⊥
       none_needed (inl e) needs = none_failed e needs.0 needs.1
       none_needed (inr never) needs = never needs.0 (failed_after needs.0 needs.1)
+
       decide : (m : ℕ) → (m ≡ 0) ⊎ (m ≡ 0 → ⊥)
       decide zero = inl refl
       decide (suc m) = inr (λ e. omega (arith, e))
+
       why : number ≡ None → (tally.failed ≡ 0) ⊎ (tally.failed ≡ 0 → ⊥) → (tally.failed ≡ 0) ⊎ ((k : ℕ) → IsDueAfter duties tally.done k → ⊥)
       why e (inl zero_failed) = inl zero_failed
       why e (inr some) = inr (subst (IsDueNumber duties tally.done) e (h.some some))
+
       some_none : (k : ℕ) → Some k ≡ None → ⊥
       some_none k e = cc
+
       due_of : (k : ℕ) → number ≡ Some k → (tally.failed ≡ 0) ⊎ (tally.failed ≡ 0 → ⊥) → (tally.failed ≡ 0 → ⊥) × IsDueAfter duties tally.done k
       due_of k e (inl zero_failed) = absurd (some_none k (sym e ∙ h.none zero_failed))
       due_of k e (inr some) = (some, subst (IsDueNumber duties tally.done) e (h.some some))
+
       go : (o : Option ℕ) → number ≡ o → AreSpoilt befores o found → Says (NeedsFailed befores duties turns n) (get_or found n false)
       go None e spoilt = record {
         only_so = λ yes. absurd (true_false (sym yes ∙ ap (λ xs. get_or xs n false) spoilt));
@@ -139,11 +145,13 @@ module _ (flow : Flow) (cores : ℕ) (dues : List Due) (befores : List (List ℕ
     where
       by_count : (n : ℕ) → nat_lt 0 (tally.done - due_before duties n) ≡ is_turn_done (turn_at duties turns n)
       by_count n = more_left (due_before duties n) tally.done ∙ ap (nat_lt (due_before duties n)) done_is ∙ done_by_count cores dues turns order (due_before duties n)
+
       by_duty : (n : ℕ) (o : Option Duty) → slice_get duties n ≡ o → is_due_one o ≡ true → get_or after n false ≡ is_turn_done (turn_at duties turns n)
       by_duty n None e due = absurd (true_false (sym due))
       by_duty n (Some (Rest made)) e due = absurd (true_false (sym due))
       by_duty n (Some (Restore made)) e due = h.by_spoilt.right n (Restore made) e ∙ by_count n
       by_duty n (Some Run) e due = h.by_spoilt.right n Run e ∙ by_count n
+
       missing : (ds : List Duty) (k : ℕ) → k < length ds → slice_get ds k ≡ None → ⊥
       missing [] k lt e = omega (arith, lt)
       missing (d ∷ ds) zero lt e = some_none e
@@ -151,6 +159,7 @@ module _ (flow : Flow) (cores : ℕ) (dues : List Due) (befores : List (List ℕ
           some_none : Some d ≡ None → ⊥
           some_none z = cc
       missing (d ∷ ds) (suc k) lt e = missing ds k (omega (arith, lt)) e
+
       by_rest : (n : ℕ) → n < length duties → (o : Option Duty) → slice_get duties n ≡ o → is_due_one o ≡ false → Says (¬ NeedsFailed befores duties turns n) (get_or after n false)
       by_rest n lt None e rests = absurd (missing duties n lt e)
       by_rest n lt (Some (Rest made)) e rests =

@@ -26,6 +26,7 @@ before_next (d ∷ duties) zero duty e = subst (λ x. due_before (d ∷ duties) 
   where
     the : Some d ≡ Some duty → d ≡ duty
     the x = cc
+
     go : (b : Bool) → length (cond b (d ∷ []) []) ≡ more_by b 0
     go true = refl
     go false = refl
@@ -139,8 +140,10 @@ next_left duties index n (suc left) rest duty e h due is =
   where
     sub : (k : ℕ) → suc k - 1 ≡ k
     sub k = omega arith
+
     one_more : (k : ℕ) → suc k ≡ k + 1
     one_more k = omega arith
+
     the : suc left - 1 ≡ left → (if nat_lt (suc left) 1 then None else Some (suc left - 1)) ≡ Some rest → left ≡ rest
     the s x = go (nat_lt (suc left) 1) refl x
       where
@@ -182,6 +185,7 @@ seek_on duties index n left rest (Rest made) e h is =
   where
     one_more : (k : ℕ) → suc k ≡ k + 1
     one_more k = omega arith
+
     some_same : (a b : ℕ) → Some a ≡ Some b → a ≡ b
     some_same a b z = cc
 seek_on duties index n left rest (Restore made) e h is = next_left duties index n left rest (Restore made) e h refl is

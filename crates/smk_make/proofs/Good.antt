@@ -44,12 +44,14 @@ good_from flow cores serial n (s ∷ states) [] jobs for none = absurd for
 good_from flow cores serial n (s ∷ states) (d ∷ duties) [] for none = tt
 good_from flow cores serial n (s ∷ states) (duty.Rest made ∷ duties) (job ∷ jobs) for none =
     good_from flow cores serial (suc n) states duties jobs for.1 (none_later (state_fault flow cores job s) (command_fault flow cores (zip jobs states)) none)
-good_from flow cores serial n (s ∷ states) (duty.Restore made ∷ duties) (job ∷ jobs) for none =
-    (whole_fault flow cores job s for.0 (none_first (state_fault flow cores job s) (command_fault flow cores (zip jobs states)) none),
-    good_from flow cores serial (suc n) states duties jobs for.1 (none_later (state_fault flow cores job s) (command_fault flow cores (zip jobs states)) none))
-good_from flow cores serial n (s ∷ states) (duty.Run ∷ duties) (job ∷ jobs) for none =
-    (whole_fault flow cores job s for.0 (none_first (state_fault flow cores job s) (command_fault flow cores (zip jobs states)) none),
-    good_from flow cores serial (suc n) states duties jobs for.1 (none_later (state_fault flow cores job s) (command_fault flow cores (zip jobs states)) none))
+good_from flow cores serial n (s ∷ states) (duty.Restore made ∷ duties) (job ∷ jobs) for none = (
+  whole_fault flow cores job s for.0 (none_first (state_fault flow cores job s) (command_fault flow cores (zip jobs states)) none),
+  good_from flow cores serial (suc n) states duties jobs for.1 (none_later (state_fault flow cores job s) (command_fault flow cores (zip jobs states)) none),
+)
+good_from flow cores serial n (s ∷ states) (duty.Run ∷ duties) (job ∷ jobs) for none = (
+  whole_fault flow cores job s for.0 (none_first (state_fault flow cores job s) (command_fault flow cores (zip jobs states)) none),
+  good_from flow cores serial (suc n) states duties jobs for.1 (none_later (state_fault flow cores job s) (command_fault flow cores (zip jobs states)) none),
+)
 
 pub good_dues : (flow : Flow) (cores : ℕ) (serial : ℕ → Option ℕ) (states : List State) (duties : List Duty) (jobs : List Job) → AreFor states duties → command_fault flow cores (zip jobs states) ≡ None
     → AreGood flow cores (due_from serial 0 duties jobs)

@@ -19,4 +19,3 @@ lower_from k (numbers ∷ befores) lower (suc n) m i = let lt : m < suc k + n = 
 
 pub lower_at : (befores : List (List ℕ)) → AreLower 0 befores → AreEarlier befores
 lower_at befores lower n m i = let lt : m < 0 + n = lower_from 0 befores lower n m i in omega (arith, lt)
-

@@ -170,7 +170,7 @@ module _ (act : Act) (flow : Flow) (cores : ℕ) (targets : List Path) (jobs : J
                     k.2.0,
                     refl,
                     closing_by jobs targets tally (IsAfter duties jobs.befores tally) (AreCurrent jobs.befores duties h.turns) result k.2.0
-                    (λ after current. are_current flow cores (due first duties jobs.jobs) jobs.befores duties h.turns tally h.in_order t.1 after each current) k.2.1,
+                        (λ after current. are_current flow cores (due first duties jobs.jobs) jobs.befores duties h.turns tally h.in_order t.1 after each current) k.2.1,
                   ),
                   k.2.2 ∙ ap (λ x. x ++ k.2.0) (l.2.2 ∙ ap (λ x. l.0 ++ x) (subst (λ b. IsReport b (report_of flow h.turns) l.2.0) (ap is_whole is) l.2.1)) ∙ append_assoc l.0 (report_of flow h.turns) k.2.0,
                 ),

@@ -150,9 +150,7 @@ fn serve<W: Crew, O: Sink>(
     let Ok(duties) = duties_of(alloc, jobs, states, store, first) else {
         return Err(Fault::OutOfMemory);
     };
-    run(
-        alloc, flow, targets, jobs, &duties, first, cores, work, out,
-    )
+    run(alloc, flow, targets, jobs, &duties, first, cores, work, out)
 }
 
 // The fault of what couldn't be made firm.
@@ -202,8 +200,6 @@ pub fn make<W: Crew, O: Sink>(
 {
     match steady(alloc, work, store) {
         Err(fault) => Err(of_store(fault)),
-        Ok(()) => serve(
-            alloc, flow, targets, jobs, states, store, cores, work, out,
-        ),
+        Ok(()) => serve(alloc, flow, targets, jobs, states, store, cores, work, out),
     }
 }

@@ -104,6 +104,7 @@ told_next befores k n answer found lower is told = record {
       only_so = λ h. needs_now befores k n found told (sym is ∙ h);
       if_so = λ needs. is ∙ tells_now befores k n found lower told needs;
     }
+
     go : (i : ℕ) → (i < n) ⊎ (i ≡ n) → Says (Needs befores k i) (get_or (found ++ answer ∷ []) i false)
     go i (inl lt) = subst (Says (Needs befores k i)) (sym (got_before found answer i (subst (λ l. i < l) (sym told.each) lt))) (told.right i lt)
     go i (inr e) =

@@ -30,11 +30,7 @@ fn needs_it(found: &[bool], before: &[u32], job: u64, number: u64) -> bool
 /// the jobs and in what comes before them. `OutOfMemory` where there is no memory for the answer.
 ///
 /// What comes before a job has lower numbers.
-pub fn needing(
-    alloc: Global,
-    befores: &[List<u32>],
-    number: u64,
-) -> Result<List<bool>, OutOfMemory>
+pub fn needing(alloc: Global, befores: &[List<u32>], number: u64) -> Result<List<bool>, OutOfMemory>
     requires earlier { AreEarlier befores.now }
     ensures { IfOk result (λ found. AreNeeding befores.now number found) }
 {
