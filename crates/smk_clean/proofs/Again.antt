@@ -82,7 +82,7 @@ module _ (o : Outside) (words : RunWords) (w v : World) (formed : IsFormed v) (l
   none_went answer new rose running p q (Refused f is why looked) = refl
   none_went answer new rose running p q (Stopped f is want looked) = refl
   none_went answer new rose running p q (Worked asked told plans worked) =
-      none_made asked told plans answer worked.looked new rose running p q worked.carried.settled worked.carried.goes_on
+      none_made asked told plans answer worked.carried.firm new rose running p q worked.carried.settled worked.carried.goes_on
 
 pub next_takes_no_turn : RunLeavesAllClean → NextCallTakesNoTurn
 next_takes_no_turn exit o H words told again w v new before after last running later p q r hand sound served none same next =
