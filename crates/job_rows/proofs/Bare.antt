@@ -4,6 +4,7 @@ use Rattle.smk_world.specs.declared.recipe.Recipe.{Recipe}
 use Rattle.smk_world.specs.World.{in_paths, out_paths}
 use Rattle.smk_world.specs.Trees.{Path, Each}
 use Rattle.smk_record.specs.declared.record.Record.{Record}
+use Rattle.smk_record.specs.declared.record.Member.{Member}
 use Rattle.smk_record.specs.declared.record.Stamp.{Stamp}
 use Rattle.smk_record.specs.Records.{is_valid, record_of}
 use Rattle.job_rows.specs.Bare.{IsBare}
@@ -42,3 +43,8 @@ one_output kept recipe bare same = subst (λ r. out_paths r ≡ kept.path ∷ []
 pub some_run : (numbers : List ℕ) (old : List ℕ) (n : ℕ) → numbers ≡ old ++ n ∷ [] → numbers ≡ [] → ⊥
 some_run numbers [] n e none = cc
 some_run numbers (m ∷ old) n e none = cc
+
+-- the record that was made of these parts
+pub bare_of : (kept : Record) (path : Path) (made : ℕ) (recipe : Recipe) (stamps : List Stamp) (members : List Member)
+    → is_valid (record_of path made recipe stamps members) ≡ true → kept ≡ record_of path made recipe stamps members → members ≡ [] → out_paths recipe ≡ path ∷ [] → IsBare kept
+bare_of kept path made recipe stamps members good is none outs = subst IsBare (sym is) (record { valid = good; none = none; outs = outs })
