@@ -1,32 +1,32 @@
 //! Jobs whose end is cut off by a call that fails.
 
-use crate::closing::{Made, answer, going};
-use crate::jobs::{finished, workspace};
-use crate::seen::push_seen;
+use crate::closing::{Made, close, going, told_of_finish};
+use crate::jobs::workspace;
 use crate::trouble::{Trouble, push_row};
 use smk_base::{List, PathText, one};
+use smk_mem::MemWork;
 use smk_world::Kind;
 use std::alloc::{AllocError, Global};
+
+// The calls of the device in this workspace as the job is begun, and after it is finished.
+fn calls_in(alloc: Global, work: &mut MemWork) -> Result<(u64, u64), Trouble> {
+    let path = PathText::read(alloc, "out")?;
+    let going = going(alloc, work, &path, Kind::Plain, Made::File)?;
+    let begun = work.calls();
+    let _ = close(alloc, work, going)?;
+    Ok((begun, work.calls()))
+}
 
 // The calls of the device as the job is begun, and after it is finished.
 fn calls(alloc: Global) -> Result<(u64, u64), Trouble> {
     let mut work = workspace(alloc, List::new(alloc));
-    let path = PathText::read(alloc, "out")?;
-    let going = going(alloc, &mut work, &path, Kind::Plain, Made::File)?;
-    let begun = work.calls();
-    let _ = finished(alloc, &mut work, going)?;
-    Ok((begun, work.calls()))
+    calls_in(alloc, &mut work)
 }
 
 // What is told of a job where the call with this number fails.
 fn told(alloc: Global, number: u64) -> Result<String, Trouble> {
-    let mut work = workspace(alloc, one(alloc, number)?);
-    let path = PathText::read(alloc, "out")?;
-    let going = going(alloc, &mut work, &path, Kind::Plain, Made::File)?;
-    let closed = finished(alloc, &mut work, going)?;
-    let mut text = String::from_str(alloc, answer(&closed))?;
-    push_seen(alloc, &mut work, &mut text, &path)?;
-    Ok(text)
+    let failing = one(alloc, number)?;
+    told_of_finish(alloc, failing, Kind::Plain, Made::File)
 }
 
 /// Adds a line for each call of the job's end.

@@ -1,8 +1,8 @@
 //! Paths that are forgotten.
 
-use crate::closing::{self, Made};
-use crate::jobs::{begun, finished, forgotten, record_of, workspace};
-use crate::seen::push_seen;
+use crate::closing::{self, Made, close};
+use crate::jobs::{begun, forgotten, record_of, workspace};
+use crate::seen::line;
 use crate::trouble::{Trouble, push_row};
 use smk_base::{List, OutOfMemory, PathText, Text, one};
 use smk_job::Going;
@@ -23,12 +23,17 @@ fn answer(alloc: Global, answer: &Result<bool, StoreFault>) -> Result<String, Al
     }
 }
 
+// Forgets the path, and says what that came to.
+fn forget_it(alloc: Global, work: &mut MemWork, path: &PathText) -> Result<String, Trouble> {
+    let forgotten = forgotten(alloc, work, path)?;
+    Ok(answer(alloc, &forgotten)?)
+}
+
 // What is told where the path is forgotten.
 fn told(alloc: Global, work: &mut MemWork, path: &str) -> Result<String, Trouble> {
     let path = PathText::read(alloc, path)?;
-    let mut text = answer(alloc, &forgotten(alloc, work, &path)?)?;
-    push_seen(alloc, work, &mut text, &path)?;
-    Ok(text)
+    let words = forget_it(alloc, work, &path)?;
+    line(alloc, work, words.as_str(), &path)
 }
 
 // One item with the input.
@@ -54,20 +59,43 @@ fn going(alloc: Global, work: &mut MemWork, input: &str, time: u64) -> Result<Go
     begun(alloc, work, &kept)
 }
 
-// A workspace in which `d/in` was made at the time 1, and then `out` from it, each with its record.
-fn set_up(alloc: Global) -> Result<MemWork, Trouble> {
-    let mut work = workspace(alloc, List::new(alloc));
-    let input = PathText::read(alloc, "d/in")?;
-    let first = closing::going(alloc, &mut work, &input, Kind::Plain, Made::File)?;
-    let _ = finished(alloc, &mut work, first)?;
-    let second = going(alloc, &mut work, "d/in", 1)?;
-    work.place(&PathText::read(alloc, "out")?, b"2", 2)?;
-    let _ = finished(alloc, &mut work, second)?;
-    Ok(work)
+// Makes `d/in` at the time 1, with its record.
+fn make_input(alloc: Global, work: &mut MemWork) -> Result<(), Trouble> {
+    let path = PathText::read(alloc, "d/in")?;
+    let first = closing::going(alloc, work, &path, Kind::Plain, Made::File)?;
+    let _ = close(alloc, work, first)?;
+    Ok(())
+}
+
+// Writes it by hand.
+fn place(
+    alloc: Global,
+    work: &mut MemWork,
+    path: &str,
+    bytes: &[u8],
+    time: u64,
+) -> Result<(), Trouble> {
+    let path = PathText::read(alloc, path)?;
+    Ok(work.place(&path, bytes, time)?)
+}
+
+// Removes it by hand.
+fn take(alloc: Global, work: &mut MemWork, path: &str) -> Result<(), Trouble> {
+    let path = PathText::read(alloc, path)?;
+    work.take(&path);
+    Ok(())
+}
+
+// Makes `out` from `d/in`, with its record.
+fn make_output(alloc: Global, work: &mut MemWork) -> Result<(), Trouble> {
+    let second = going(alloc, work, "d/in", 1)?;
+    let placed = place(alloc, work, "out", b"2", 2);
+    let _ = close(alloc, work, second)?;
+    placed
 }
 
 // What is done before the path is forgotten.
-#[derive(Clone, Copy, Debug)]
+#[derive(Clone, Copy)]
 enum Before {
     Nothing,
     /// The job of `out` begins again.
@@ -80,25 +108,45 @@ enum Before {
     Forgotten,
 }
 
-fn prepare(alloc: Global, work: &mut MemWork, before: Before) -> Result<(), Trouble> {
-    match before {
-        Before::Nothing => {}
-        Before::Begun => {
-            let _ = going(alloc, work, "d/in", 1)?;
-        }
-        Before::Changed => work.place(&PathText::read(alloc, "d/in")?, b"1", 3)?,
-        Before::Removed => work.take(&PathText::read(alloc, "d/in")?),
-        Before::Forgotten => {
-            let _ = forgotten(alloc, work, &PathText::read(alloc, "out")?)?;
-        }
-    }
+// Begins the job of `out` again.
+fn begin_again(alloc: Global, work: &mut MemWork) -> Result<(), Trouble> {
+    let _ = going(alloc, work, "d/in", 1)?;
     Ok(())
 }
 
+// Forgets `out`.
+fn forget_output(alloc: Global, work: &mut MemWork) -> Result<(), Trouble> {
+    let path = PathText::read(alloc, "out")?;
+    let _ = forget_it(alloc, work, &path)?;
+    Ok(())
+}
+
+fn prepare(alloc: Global, work: &mut MemWork, before: Before) -> Result<(), Trouble> {
+    match before {
+        Before::Nothing => Ok(()),
+        Before::Begun => begin_again(alloc, work),
+        Before::Changed => place(alloc, work, "d/in", b"1", 3),
+        Before::Removed => take(alloc, work, "d/in"),
+        Before::Forgotten => forget_output(alloc, work),
+    }
+}
+
+// What is told in this workspace.
+fn row_in(
+    alloc: Global,
+    work: &mut MemWork,
+    before: Before,
+    path: &str,
+) -> Result<String, Trouble> {
+    make_input(alloc, work)?;
+    make_output(alloc, work)?;
+    prepare(alloc, work, before)?;
+    told(alloc, work, path)
+}
+
 fn row(alloc: Global, before: Before, path: &str) -> Result<String, Trouble> {
-    let mut work = set_up(alloc)?;
-    prepare(alloc, &mut work, before)?;
-    told(alloc, &mut work, path)
+    let mut work = workspace(alloc, List::new(alloc));
+    row_in(alloc, &mut work, before, path)
 }
 
 /// Adds a line for each case.

@@ -125,14 +125,23 @@ fn started(alloc: Global, work: &mut MemWork, kept: &Record, job: &Job) -> Resul
     }
 }
 
+// Begins the job, and waits for its child.
+fn waited(alloc: Global, work: &mut MemWork, kept: &Record, job: &Job) -> Result<Going, Trouble>
+    requires bare { IsBare kept.now }
+    requires recipe { job.now.recipe ≡ kept.now.recipe }
+    requires logs { job.now.logs ≡ [] }
+{
+    let going = started(alloc, work, kept, job)?;
+    work.wait()?;
+    Ok(going)
+}
+
 /// Begins the job whose record this will be, but for its members, and waits for its child.
 pub fn begun(alloc: Global, work: &mut MemWork, kept: &Record) -> Result<Going, Trouble>
     requires { IsBare kept.now }
 {
     let job = job_of(alloc, kept)?;
-    let going = started(alloc, work, kept, &job)?;
-    work.wait()?;
-    Ok(going)
+    waited(alloc, work, kept, &job)
 }
 
 /// Finishes the job.

@@ -9,7 +9,7 @@ const RECORD: &[u8] =
     b"SMK1\n7:out.txt\n1\n22:cat {input} > {output}\n0\n0\n1\n0:\n1\n6:in.txt\nT1000\n1\n0:\n1\nF7:out.txt\n0\n";
 
 /// What some bytes read as.
-#[derive(Clone, Copy, Debug, PartialEq, Eq)]
+#[derive(Clone, Copy)]
 enum Reading {
     Nothing,
     /// A record, which is spelled so.
@@ -30,7 +30,7 @@ fn what_reads(alloc: Global, bytes: &[u8]) -> Result<Reading, OutOfMemory> {
 }
 
 /// How many texts were read, and what they were.
-#[derive(Clone, Copy, Debug)]
+#[derive(Clone, Copy)]
 struct Counts {
     tried: u32,
     spellings: u32,

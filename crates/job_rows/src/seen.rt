@@ -68,9 +68,21 @@ pub fn push_seen(
     text: &mut String,
     path: &PathText,
 ) -> Result<(), Trouble> {
-    let stat = work.stat(&Place::user(alloc, path)?)?;
-    let store = load(alloc, work)?;
+    let place = Place::user(alloc, path)?;
+    let stat = work.stat(&place)?;
     write!(text, "; {}, ", standing(stat))?;
-    push_known(text, store.entry(path))?;
-    Ok(())
+    let store = load(alloc, work)?;
+    Ok(push_known(text, store.entry(path))?)
+}
+
+/// The words, and what is seen of the path.
+pub fn line(
+    alloc: Global,
+    work: &mut MemWork,
+    words: &str,
+    path: &PathText,
+) -> Result<String, Trouble> {
+    let mut text = String::from_str(alloc, words)?;
+    push_seen(alloc, work, &mut text, path)?;
+    Ok(text)
 }

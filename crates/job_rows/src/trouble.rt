@@ -6,7 +6,7 @@ use smk_world::Failed;
 use std::alloc::AllocError;
 
 /// Why a case tells nothing.
-#[derive(Clone, Copy, Debug, PartialEq, Eq)]
+#[derive(Clone, Copy)]
 pub enum Trouble {
     OutOfMemory,
     /// A call failed that was to go well.
@@ -57,6 +57,18 @@ impl From<StoreFault> for Trouble {
     }
 }
 
+// Its name.
+fn word(trouble: Trouble) -> &'static str {
+    match trouble {
+        Trouble::OutOfMemory => "out of memory",
+        Trouble::Device => "device",
+        Trouble::BadPath => "no path",
+        Trouble::NoRecord => "no record",
+        Trouble::NotBegun => "not begun",
+        Trouble::Running => "a child runs",
+    }
+}
+
 /// Adds the line of the case with this name.
 pub fn push_row(
     text: &mut String,
@@ -65,6 +77,6 @@ pub fn push_row(
 ) -> Result<(), AllocError> {
     match told {
         Ok(line) => writeln!(text, "{name}: {line}"),
-        Err(trouble) => writeln!(text, "{name}: {trouble:?}"),
+        Err(trouble) => writeln!(text, "{name}: {}", word(*trouble)),
     }
 }
