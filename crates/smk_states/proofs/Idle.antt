@@ -44,8 +44,8 @@ pub judged_idle :
     AreJudged image settings progress jobs judged flags seen → kept ≡ map (λ j. None) jobs.jobs → AreJudgedNow image settings progress jobs judged flags seen kept
 judged_idle image settings progress jobs judged flags seen kept h none =
     record {
-      reasons = h.reasons ∙ map_same (reasons_alone image settings progress jobs) (reasons_now image settings progress jobs) (now_alone image settings progress jobs h.idle) jobs.jobs;
+      reasons = h.reasons ∙ map_same (reasons_alone image settings progress jobs) (reasons_now image settings progress jobs) jobs.jobs (λ j i. now_alone image settings progress jobs h.idle j);
       forced = h.forced;
       wholes = h.wholes;
-      running = none ∙ map_same (λ j. None) (kept_state image settings progress (with_states jobs [])) (λ j. sym (kept_none image settings progress jobs h.idle j)) jobs.jobs;
+      running = none ∙ map_same (λ j. None) (kept_state image settings progress (with_states jobs [])) jobs.jobs (λ j i. sym (kept_none image settings progress jobs h.idle j));
     }

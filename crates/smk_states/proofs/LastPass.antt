@@ -1,5 +1,5 @@
 -- The second pass, job by job.
-use Rattle.std.proofs.Common.{◌≡◌, ℕ, zero, suc, ◌+◌, ◌<◌, length, arith, Bool, true, false, not, ◌&&◌, ◌||◌, List, [], ◌∷◌, ◌++◌, map, filter, find, zip, reverse, refl, sym, ap, subst, inl, inr, ◌∙◌, Option, Some, None, option_map, append_assoc, length-append}
+use Rattle.std.proofs.Common.{◌≡◌, ℕ, zero, suc, ◌+◌, ◌<◌, length, arith, Bool, true, false, not, ◌&&◌, ◌||◌, List, [], ◌∷◌, ◌++◌, map, filter, find, zip, reverse, refl, sym, ap, subst, inl, inr, ◌∙◌, Option, Some, None, append_assoc, length-append}
 use Rattle.std.specs.List.{list_any, slice_get}
 use Rattle.std.specs.Option.{option_and_then}
 use Rattle.std.proofs.lemmas.List.Folds.{list_any-append}
@@ -24,12 +24,12 @@ use Rattle.smk_states.specs.InUse.{is_in_use_told}
 use Rattle.smk_states.specs.First.{unless_needed, IsSolved}
 use Rattle.smk_laws.proofs.CurrentLists.{In, in_left, in_right, map_in, filter_in, clash_of, none_some, or_first, some_inj}
 use Rattle.smk_laws.proofs.CurrentPaths.{among_in, in_among, touch_overlaps}
-use Rattle.smk_laws.proofs.CurrentApart.{JobsApart, own_apart, maker_found}
+use Rattle.smk_laws.proofs.CurrentApart.{JobsApart, own_apart}
 use Rattle.smk_laws.proofs.CurrentChosen.{path_in}
 use Rattle.smk_laws.proofs.PlanStates.{any_same, any_zip}
 use Rattle.smk_states.proofs.Tests.{any_never}
 use Rattle.smk_states.proofs.Apart.{each_in, jobs_apart_from}
-use Rattle.smk_states.proofs.Meaning.{final, first, needs, found_with, final_from}
+use Rattle.smk_states.proofs.Meaning.{final, first, needs, final_from}
 use Rattle.smk_states.proofs.Told.{IsReadOf, told_below}
 use Rattle.smk_states.proofs.ReadOthers.{found_one, read_is}
 use Rattle.smk_states.proofs.FirstPass.{length_map}

@@ -1,6 +1,5 @@
 -- What the states of a plan are made of: the makers of paths, awaited directories, and what is wanted back.
 use Rattle.std.proofs.Common.{◌≡◌, ◌⊎◌, Bool, true, false, not, cond, ◌&&◌, ◌||◌, List, [], ◌∷◌, ◌++◌, map, filter, flat_map, find, zip, refl, sym, ap, subst, inl, inr, ◌∙◌, Option, Some, None, option_map, is_some, is_none}
-use Rattle.std.specs.Prelude.{bytes_eq}
 use Rattle.std.specs.List.{list_any}
 use Rattle.std.specs.Option.{option_and_then}
 use Rattle.smk_base.specs.Path.{is_under, overlaps}
@@ -27,7 +26,7 @@ use Rattle.smk_laws.proofs.CurrentPaths.{among_in, in_among, touch_overlaps}
 use Rattle.smk_laws.proofs.CurrentApart.{Apart, JobsApart, maker_found, apart_same, own_apart}
 use Rattle.smk_laws.proofs.CurrentChosen.{paths_are, folders_paths}
 use Rattle.smk_laws.proofs.PlanStates.{any_same}
-use Rattle.smk_states.proofs.Tests.{and_true, and_or, any_or, any_map, any_filter, any_never, among_once}
+use Rattle.smk_states.proofs.Tests.{and_true, and_or, any_or, any_map, any_filter, among_once}
 
 -- ## Outputs of a job that lie apart
 

@@ -1,11 +1,11 @@
 -- Which jobs children read from is what is told of it.
-use Rattle.std.proofs.Common.{◌≡◌, ℕ, zero, suc, Bool, true, false, not, cond, ◌&&◌, ◌||◌, List, [], ◌∷◌, map, find, zip, refl, sym, ap, subst, ◌∙◌, Option, Some, None, option_map, is_some, ◌++◌, inl}
+use Rattle.std.proofs.Common.{◌≡◌, ℕ, zero, suc, Bool, true, false, not, ◌&&◌, ◌||◌, List, [], ◌∷◌, map, find, zip, refl, sym, ap, subst, ◌∙◌, Option, Some, None, option_map, is_some, ◌++◌, inl}
 use Rattle.std.specs.Prelude.{bytes_eq}
 use Rattle.std.specs.List.{list_any, slice_get}
 use Rattle.std.specs.Option.{option_and_then}
 use Rattle.smk_base.proofs.Places.{same_place, place_itself}
 use Rattle.smk_world.specs.World.{in_paths, out_paths}
-use Rattle.smk_world.specs.Trees.{Path, Each, among, first}
+use Rattle.smk_world.specs.Trees.{Path, among, first}
 use Rattle.smk_pattern.specs.Reading.{or_empty}
 use Rattle.smk_flow.specs.declared.job.Job.{Job}
 use Rattle.smk_store.specs.Images.{Image}
@@ -15,7 +15,6 @@ use Rattle.smk_pick.specs.declared.settings.Settings.{Settings}
 use Rattle.smk_plan.specs.States.{Progress, makes, gathers_from, job_path, kept_state, is_read_now, test_some}
 use Rattle.smk_plan.specs.Sights.{job_at}
 use Rattle.smk_states.specs.declared.parts.Parts.{Parts}
-use Rattle.smk_states.specs.declared.sites.Site.{Site}
 use Rattle.smk_states.specs.Served.{AreApart, outputs_of, ReadEarlier}
 use Rattle.smk_states.specs.Judged.{with_states}
 use Rattle.smk_states.specs.Parts.{parts_of}
@@ -28,7 +27,7 @@ use Rattle.smk_laws.proofs.PlanStates.{any_same}
 use Rattle.smk_states.proofs.Tests.{same_test, any_never, and_true}
 use Rattle.smk_states.proofs.Apart.{each_in, jobs_apart_from}
 use Rattle.smk_states.proofs.Meaning.{found_with}
-use Rattle.smk_states.proofs.Told.{IsReadOf, IsTold, told_below, read_of}
+use Rattle.smk_states.proofs.Told.{IsReadOf, told_below, read_of}
 
 -- the one job that makes the path is found
 pub found_one : (js : List Job) (j : Job) (q : Path) → JobsApart js → In j js → makes j q ≡ true → find (λ j. makes j q) js ≡ Some j

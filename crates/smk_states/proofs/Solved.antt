@@ -1,5 +1,5 @@
 -- There are states that meet the table, since what a job reads is made by jobs before it.
-use Rattle.std.proofs.Common.{◌≡◌, ◌⊎◌, ℕ, length, arith, Bool, true, false, List, [], ◌∷◌, ◌++◌, map, find, refl, sym, ap, subst, inl, inr, ◌∙◌, Option, Some, None, append_assoc}
+use Rattle.std.proofs.Common.{◌≡◌, ◌⊎◌, ℕ, length, arith, true, false, List, [], ◌∷◌, ◌++◌, map, find, refl, sym, ap, subst, inl, inr, ◌∙◌, Option, Some, None, append_assoc}
 use Rattle.std.specs.Option.{option_and_then}
 use Rattle.smk_world.specs.World.{in_paths}
 use Rattle.smk_world.specs.Trees.{Path}
@@ -12,7 +12,7 @@ use Rattle.smk_plan.specs.States.{Progress, HasStates, makes, gathers_from, stat
 use Rattle.smk_plan.specs.Sights.{job_at}
 use Rattle.smk_states.specs.Served.{AreServed, IsBelow, ReadEarlier}
 use Rattle.smk_states.specs.Judged.{with_states}
-use Rattle.smk_laws.proofs.CurrentLists.{In, in_left, in_right, in_either, find_in, find_some, none_some}
+use Rattle.smk_laws.proofs.CurrentLists.{In, in_left, in_right, in_either, find_in, none_some}
 use Rattle.smk_laws.proofs.CurrentRecipes.{map_same}
 use Rattle.smk_laws.proofs.PlanOrder.{Reads, InOrder}
 use Rattle.smk_laws.proofs.PlanOne.{solution}

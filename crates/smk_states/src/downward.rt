@@ -115,7 +115,13 @@ pub(crate) fn last_states(
     let mut needed = BTreeSet::new(alloc);
     let mut found = List::new(alloc);
     'jobs: while let Some(before) = left.pop() {
-        let state = last_state(alloc, &mut needed, in_use, part_at(parts, left.len()), before)?;
+        let state = last_state(
+            alloc,
+            &mut needed,
+            in_use,
+            part_at(parts, left.len()),
+            before,
+        )?;
         found.push(state)?;
     }
     reversed(alloc, found)
