@@ -1,6 +1,5 @@
 -- A run again takes no turn.
-use Rattle.std.proofs.Common.{◌≡◌, ℕ, suc, Bool, true, false, not, List, [], ◌∷◌, map, refl, ap, sym, subst, ◌∙◌, Option, Some, None, Result, Ok, Err}
-use Rattle.std.specs.List.{AllZip}
+use Rattle.std.proofs.Common.{◌≡◌, ℕ, suc, true, List, [], ◌∷◌, map, refl, ap, subst, ◌∙◌, Option, Some, Result, Ok}
 use Rattle.smk_world.specs.World.{World, IsFormed}
 use Rattle.smk_world.specs.Calls.{Rose}
 use Rattle.smk_flow.specs.declared.job.Job.{Job}
@@ -31,7 +30,7 @@ use Rattle.smk_cli.specs.Whole.{IsRefusal, IsToServe}
 use Rattle.smk_exit.specs.Exit.{RunLeavesAllClean}
 use Rattle.smk_clean.specs.Again.{HasNoneLeft, NextCallTakesNoTurn, turns_made, turns_went}
 use Rattle.smk_clean.proofs.Asking.{asked_same}
-use Rattle.smk_clean.proofs.Clean.{HasEndedWell, ended_well}
+use Rattle.smk_clean.proofs.Clean.{ended_well}
 
 -- where all jobs are Clean, none is due
 none_due : (f : ℕ → Option ℕ) (number : ℕ) (jobs all : List Job) (states : List State) (duties : List Duty) → states ≡ map (λ (j : Job). Clean) all → AreFor states duties → due_from f number duties jobs ≡ []

@@ -1,5 +1,5 @@
 -- The turns of a run can be written.
-use Rattle.std.proofs.Common.{◌≡◌, ℕ, Bool, true, false, List, [], ◌∷◌, map, length, refl, Option, Some, None}
+use Rattle.std.proofs.Common.{◌≡◌, Bool, true, false, List, [], ◌∷◌, map, length, refl, Some, None}
 use Rattle.std.specs.List.{find}
 use Rattle.std.specs.Prelude.{cond}
 use Rattle.smk_world.specs.Trees.{Path, Each}

@@ -1,5 +1,5 @@
 -- The outcome by the answer.
-use Rattle.std.proofs.Common.{◌≡◌, ◌⊎◌, true, false, inl, inr, refl, sym, ap, ◌∙◌, Option, Some, None, Result, Ok, Err}
+use Rattle.std.proofs.Common.{◌≡◌, ◌⊎◌, true, false, inl, inr, sym, ap, ◌∙◌, Option, Some, None, Result, Ok, Err}
 use Rattle.smk_report.specs.declared.fault.Fault.{Fault}
 use Rattle.smk_report.specs.declared.fault.Fault.TheVariants as fault
 use Rattle.smk_entry.specs.Faults.{is_device, is_sink, device_failed}

@@ -1,14 +1,14 @@
 -- What is put of the line of a fault.
 use native.Mathlib.Omega.{arith}
-use Rattle.std.proofs.Common.{◌≡◌, ◌⊎◌, ℕ, Bool, true, false, [], ◌++◌, inl, inr, refl, sym, ap, subst, ◌∙◌, Option, Some, None, Result, Ok, Err, length, take, drop, is_ok}
+use Rattle.std.proofs.Common.{◌≡◌, ◌⊎◌, ℕ, Bool, true, false, [], inl, inr, refl, sym, subst, Option, Some, None, Result, Ok, Err, length, take, drop, is_ok}
 use Rattle.std.specs.Prelude.{IsErr}
-use Rattle.std.proofs.lemmas.List.{take-append-drop, append-nil, append_assoc, take_all}
+use Rattle.std.proofs.lemmas.List.{take-append-drop, append-nil, take_all}
 use Rattle.smk_world.specs.Calls.{HasPut}
 use Rattle.smk_report.specs.Lines.{Text}
 use Rattle.smk_report.specs.declared.fault.Fault.{Fault}
 use Rattle.smk_report.specs.declared.fault.Fault.TheVariants as fault
 use Rattle.smk_report.specs.Faults.{fault_text}
-use Rattle.smk_run.specs.Reports.{HasWritten, IsReport, IsFront}
+use Rattle.smk_run.specs.Reports.{HasWritten, IsFront}
 use Rattle.smk_cli.specs.Lines.{IsFaultLine}
 
 true_false : true ≡ false → ⊥

@@ -1,5 +1,5 @@
 -- What is served.
-use Rattle.std.proofs.Common.{◌≡◌, Bool, true, false, List, [], ℕ, refl, sym, ap, subst, ◌∙◌, Option, Some, Result, Ok, Err}
+use Rattle.std.proofs.Common.{◌≡◌, Bool, true, false, List, [], ℕ, refl, sym, subst, ◌∙◌, Option, Ok, Err}
 use Rattle.smk_world.specs.World.{World}
 use Rattle.smk_world.specs.Trees.{Act}
 use Rattle.smk_pattern.specs.Shapes.{Text}

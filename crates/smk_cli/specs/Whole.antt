@@ -1,5 +1,5 @@
 -- What the whole call does for what the words ask.
-use Rattle.std.specs.Prelude.{◌≡◌, ℕ, Bool, true, false, List, Option, Result, Ok}
+use Rattle.std.specs.Prelude.{ℕ, Bool, true, false, List, Option, Result, Ok}
 use Rattle.smk_world.specs.World.{World}
 use Rattle.smk_world.specs.Trees.{Act}
 use Rattle.smk_pattern.specs.Shapes.{Text}

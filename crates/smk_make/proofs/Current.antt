@@ -1,6 +1,6 @@
 -- What is found current after a run, by its turns.
 use native.Mathlib.Omega.{arith}
-use Rattle.std.proofs.Common.{◌≡◌, ◌⊎◌, ◌<◌, ◌≤◌, ◌+◌, ◌-◌, ℕ, zero, suc, Bool, true, false, not, List, [], ◌∷◌, length, cond, inl, inr, refl, sym, ap, subst, ◌∙◌, Option, Some, None, slice_get, nat_lt}
+use Rattle.std.proofs.Common.{◌≡◌, ◌⊎◌, ◌<◌, ◌≤◌, ◌+◌, ◌-◌, ℕ, zero, suc, Bool, true, false, not, List, [], ◌∷◌, length, inl, inr, refl, sym, ap, subst, ◌∙◌, Option, Some, None, slice_get, nat_lt}
 use Rattle.std.specs.Prelude.{get_or}
 use Rattle.std.proofs.lemmas.Bool.{lt-ltb, le-ltb}
 use Rattle.smk_flow.specs.Flows.{Flow}
@@ -8,10 +8,10 @@ use Rattle.smk_run.specs.declared.duty.Duty.{Duty}
 use Rattle.smk_run.specs.declared.duty.Duty.TheVariants.{Rest, Restore, Run}
 use Rattle.smk_run.specs.declared.tally.Tally.{Tally}
 use Rattle.smk_run.specs.Duties.{Due}
-use Rattle.smk_run.specs.Turns.{Turn, is_done}
+use Rattle.smk_run.specs.Turns.{Turn}
 use Rattle.smk_run.specs.Runs.{AreInOrder, IsTally}
-use Rattle.smk_needs.specs.Needs.{Needs, Says, AreNeeding}
-use Rattle.smk_make.specs.After.{is_due_one, is_due_at, due_before, turn_at, is_turn_done, IsFailed, NeedsFailed, AreCurrent, IsDueAfter, IsDueNumber, IsFailedNumber, AreSpoilt, IsAfter}
+use Rattle.smk_needs.specs.Needs.{Needs, Says}
+use Rattle.smk_make.specs.After.{is_due_one, due_before, turn_at, is_turn_done, IsFailed, NeedsFailed, AreCurrent, IsDueAfter, IsDueNumber, IsFailedNumber, AreSpoilt, IsAfter}
 use Rattle.smk_make.proofs.Counting.{count, counted, below_done, past_done, undone_is_last}
 use Rattle.smk_make.proofs.Dues.{one_due}
 

@@ -1,8 +1,6 @@
 -- The commands of jobs that have their turns have no fault, where those of the plan have none.
-use Rattle.std.proofs.Common.{◌≡◌, ℕ, suc, Bool, true, false, not, List, [], ◌∷◌, length, refl, ap, sym, ◌∙◌, Option, Some, None}
+use Rattle.std.proofs.Common.{◌≡◌, ℕ, suc, true, false, not, List, [], ◌∷◌, length, refl, ap, Option, Some, None}
 use Rattle.std.specs.Prelude.{zip}
-use Rattle.std.specs.List.{AllZip}
-use Rattle.smk_world.specs.Trees.{Each}
 use Rattle.smk_flow.specs.declared.job.Job.{Job}
 use Rattle.smk_flow.specs.Flows.{Flow}
 use Rattle.smk_trigger.specs.declared.reason.State.{State}
@@ -12,7 +10,7 @@ use Rattle.smk_report.specs.declared.fault.Fault.{Fault}
 use Rattle.smk_commands.specs.Commands.{job_fault, state_fault, or_later, command_fault}
 use Rattle.smk_run.specs.declared.duty.Duty.{Duty}
 use Rattle.smk_run.specs.declared.duty.Duty.TheVariants as duty
-use Rattle.smk_run.specs.Duties.{Due, rests, due_from, AreFor}
+use Rattle.smk_run.specs.Duties.{due_from, AreFor}
 use Rattle.smk_run.specs.Runs.{AreGood}
 
 false_true : false ≡ true → ⊥

@@ -1,6 +1,6 @@
 -- What comes before a job has lower numbers.
 use native.Mathlib.Omega.{arith}
-use Rattle.std.proofs.Common.{◌≡◌, ◌<◌, ◌+◌, ℕ, zero, suc, List, [], ◌∷◌, inl, inr, sym, subst}
+use Rattle.std.proofs.Common.{◌<◌, ◌+◌, ℕ, zero, suc, List, [], ◌∷◌, inl, inr, sym, subst}
 use Rattle.std.specs.List.{AllByRecursion}
 use Rattle.smk_world.specs.Trees.{IsIn}
 use Rattle.smk_walk.specs.Links.{AreLower}

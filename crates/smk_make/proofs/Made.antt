@@ -1,5 +1,5 @@
 -- What a run did, with its last lines.
-use Rattle.std.proofs.Common.{◌≡◌, ◌⊎◌, ◌==◌, ◌||◌, not, ℕ, Bool, true, false, List, [], ◌++◌, inl, inr, refl, sym, ap, subst, ◌∙◌, Option, Some, None, Result, Ok, Err, is_ok, take, drop, length}
+use Rattle.std.proofs.Common.{◌≡◌, ◌⊎◌, ℕ, Bool, true, false, List, [], ◌++◌, inl, inr, refl, sym, ap, subst, ◌∙◌, Option, Some, None, Result, Ok, Err, is_ok, take, drop, length}
 use Rattle.std.specs.Prelude.{IsSome, IfErr}
 use Rattle.std.proofs.lemmas.List.{append-nil, append_assoc, take-append-drop}
 use Rattle.smk_world.specs.World.{World}
@@ -16,12 +16,12 @@ use Rattle.smk_report.specs.Lines.{Text}
 use Rattle.smk_run.specs.declared.duty.Duty.{Duty}
 use Rattle.smk_run.specs.declared.tally.Tally.{Tally}
 use Rattle.smk_run.specs.Duties.{due, serials, AreFor}
-use Rattle.smk_run.specs.Reports.{HasWritten, IsReport, IsFront, report_of}
-use Rattle.smk_run.specs.Runs.{HasRun, IsOutcome, IsTally, is_whole, is_output, is_device, leaves_whole, is_output_fault, is_device_fault}
+use Rattle.smk_run.specs.Reports.{HasWritten, IsReport, report_of}
+use Rattle.smk_run.specs.Runs.{HasRun, IsOutcome, IsTally, is_whole, is_output, is_device, leaves_whole, is_device_fault}
 use Rattle.smk_make.specs.After.{AreCurrent, IsAfter}
 use Rattle.smk_make.specs.Closing.{is_current, closing_text, verdict_of, answer_of}
 use Rattle.smk_make.specs.Faults.{IsOfReport, IsOfJob}
-use Rattle.smk_make.specs.Making.{HasMade, Concludes, IsClosing, IsText, GoesOn, Made, AreWhatIsMeant}
+use Rattle.smk_make.specs.Making.{HasMade, Concludes, IsClosing, GoesOn, Made, AreWhatIsMeant}
 use Rattle.smk_make.proofs.Counting.{first_status}
 use Rattle.smk_make.proofs.Current.{are_current}
 use Rattle.smk_make.proofs.Putting.{put_text}

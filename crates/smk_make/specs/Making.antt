@@ -1,5 +1,5 @@
 -- What is done to make what was planned, and what of it is reported.
-use Rattle.std.specs.Prelude.{◌≡◌, ◌⊎◌, ℕ, Bool, true, false, List, [], ◌++◌, Option, Some, None, Result, Ok, Err, IsSome}
+use Rattle.std.specs.Prelude.{◌≡◌, ◌⊎◌, ℕ, Bool, true, false, List, [], ◌++◌, Option, Result, Ok, Err, IsSome}
 use Rattle.smk_world.specs.World.{World}
 use Rattle.smk_world.specs.Runs.{Did}
 use Rattle.smk_world.specs.Trees.{Path, Act, Each}
@@ -19,12 +19,12 @@ use Rattle.smk_report.specs.declared.fault.Fault.TheVariants as fault
 use Rattle.smk_report.specs.Lines.{Text}
 use Rattle.smk_run.specs.declared.duty.Duty.{Duty}
 use Rattle.smk_run.specs.declared.tally.Tally.{Tally}
-use Rattle.smk_run.specs.Duties.{Due, due, serials, AreFor}
+use Rattle.smk_run.specs.Duties.{due, serials, AreFor}
 use Rattle.smk_run.specs.Statuses.{AreGiven}
 use Rattle.smk_run.specs.Turns.{Turn, AreTurns}
 use Rattle.smk_run.specs.Reports.{report_of, HasWritten, IsReport}
 use Rattle.smk_run.specs.Runs.{AreInOrder, IsOutcome, Fits, is_whole, is_output}
-use Rattle.smk_make.specs.After.{AreCurrent, IsAfter}
+use Rattle.smk_make.specs.After.{AreCurrent}
 use Rattle.smk_make.specs.Closing.{is_current, closing_text, answer_of}
 use Rattle.smk_make.specs.Faults.{IsOfReport, of_store}
 

@@ -1,4 +1,4 @@
-use Rattle.std.proofs.Common.{refl, inr, sym, subst}
+use Rattle.std.proofs.Common.{refl, inr, subst}
 use Rattle.std.specs.Prelude.{map, string_bytes}
 use Rattle.smk_cli.proofs.Serving.{stopped, no_device}
 use Rattle.smk_serve.proofs.Ended.{early, no_cause}

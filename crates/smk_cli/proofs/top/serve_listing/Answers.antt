@@ -1,4 +1,4 @@
-use Rattle.std.proofs.Common.{Ok, false, ap, sym, subst, ◌∙◌}
+use Rattle.std.proofs.Common.{false, ap, subst, ◌∙◌}
 use Rattle.std.specs.Prelude.{is_some}
 use Rattle.smk_entry.specs.Faults.{device_failed}
 use Rattle.smk_entry.specs.Entry.{IsAskedIn}

@@ -1,8 +1,8 @@
-use Rattle.std.proofs.Common.{Ok, true, ap, sym, subst, ◌∙◌}
+use Rattle.std.proofs.Common.{true, ap, subst, ◌∙◌}
 use Rattle.std.specs.Prelude.{is_some}
 use Rattle.smk_entry.specs.Faults.{device_failed}
 use Rattle.smk_entry.specs.Entry.{IsAskedIn}
-use Rattle.smk_serve.specs.Serving.{IsRefusedPlan, IsPlanFor, IsServed}
+use Rattle.smk_serve.specs.Serving.{IsRefusedPlan, IsServed}
 use Rattle.smk_serve.proofs.Ended.{early, later_on, cause_as}
 use Rattle.smk_make.proofs.Further.{further_rose}
 use Rattle.smk_serve.proofs.Went.{seen_looks, seen_there, kept, only_looked, refused_or_stopped, told_well, went_later}

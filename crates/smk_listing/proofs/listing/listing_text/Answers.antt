@@ -1,4 +1,4 @@
-use Rattle.std.proofs.Common.{List, ◌∙◌, ap, ap₂, ◌++◌}
+use Rattle.std.proofs.Common.{List, ◌∙◌, ap₂, ◌++◌}
 use Rattle.std.specs.Prelude.{zip}
 use Rattle.std.specs.List.{flat_map}
 use Rattle.smk_flow.specs.declared.job.Job.{Job}

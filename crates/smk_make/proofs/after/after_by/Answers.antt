@@ -1,4 +1,4 @@
-use Rattle.std.proofs.Common.{◌≡◌, length, subst, sym, ◌∙◌, get_or, arith}
+use Rattle.std.proofs.Common.{subst, sym, get_or, arith}
 use Rattle.smk_make.proofs.Dues.{AreAfterSoFar, none_after, after_next, all_after, duty_there}
 use Rattle.smk_make.proofs.after.after_by.Goals as goal
 

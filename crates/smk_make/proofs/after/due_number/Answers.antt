@@ -1,4 +1,4 @@
-use Rattle.std.proofs.Common.{◌≡◌, length, subst, sym, ◌∙◌, get_or, arith}
+use Rattle.std.proofs.Common.{subst, sym, ◌∙◌, get_or, arith}
 use Rattle.smk_make.proofs.Dues.{IsSeeking, seek_first, seek_on, seek_here, seek_end, duty_there}
 use Rattle.smk_make.proofs.after.due_number.Goals as goal
 

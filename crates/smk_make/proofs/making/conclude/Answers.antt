@@ -1,4 +1,4 @@
-use Rattle.std.proofs.Common.{◌≡◌, true, false, refl, ap, sym, ◌∙◌, inl, inr}
+use Rattle.std.proofs.Common.{refl, ap, inl, inr}
 use Rattle.smk_run.specs.Runs.{is_output}
 use Rattle.smk_make.specs.After.{IsAfter}
 use Rattle.smk_make.proofs.Made.{verdict, closed_by, of_report_quiet}

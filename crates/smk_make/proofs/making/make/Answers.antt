@@ -1,5 +1,3 @@
-use Rattle.std.proofs.Common.{◌≡◌, Ok, Err, refl, sym, ap, subst, ◌∙◌}
-use Rattle.smk_make.specs.Making.{GoesOn, NotFirm}
 use Rattle.smk_make.proofs.Further.{goes_more, further_rose, not_firm, with_settled}
 use Rattle.smk_make.proofs.making.make.Goals as goal
 

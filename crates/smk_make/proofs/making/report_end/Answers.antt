@@ -1,4 +1,4 @@
-use Rattle.std.proofs.Common.{◌≡◌, subst, is_ok}
+use Rattle.std.proofs.Common.{subst, is_ok}
 use Rattle.smk_world.specs.Calls.{HasPut}
 use Rattle.smk_make.specs.After.{IsAfter}
 use Rattle.smk_make.specs.Closing.{is_current, closing_text}

@@ -1,9 +1,8 @@
-use Rattle.std.proofs.Common.{◌≡◌, refl, sym, ◌∙◌}
+use Rattle.std.proofs.Common.{refl, sym, ◌∙◌}
 use Rattle.smk_run.specs.Duties.{serial_of}
 use Rattle.smk_make.specs.Making.{NoMemory}
-use Rattle.smk_make.proofs.Numbered.{positive_next}
 use Rattle.smk_make.proofs.Good.{good_dues, same_length}
-use Rattle.smk_make.proofs.Made.{goes_made, made_stays, made_children}
+use Rattle.smk_make.proofs.Made.{goes_made, made_stays}
 use Rattle.smk_make.proofs.making.serve.Goals as goal
 
 pub returns-in_default-clause-goes_on : goal.returns-in_default-clause-goes_on
