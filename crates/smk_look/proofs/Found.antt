@@ -1,16 +1,14 @@
 -- Paths that are looked at one after another.
-use Rattle.std.proofs.Common.{◌≡◌, true, Bool, List, [], ◌∷◌, ◌++◌, refl, sym, ap, subst, ◌∙◌, map, Option, Some, None, Result, Ok, Err}
+use Rattle.std.proofs.Common.{◌≡◌, List, [], ◌∷◌, ◌++◌, refl, sym, ap, subst, ◌∙◌, Result, Err}
 use Rattle.std.specs.Prelude.{IsErrOf}
-use Rattle.std.specs.List.{filter}
 use Rattle.smk_world.specs.declared.event.WorkFault.{WorkFault}
 use Rattle.smk_world.specs.declared.event.WorkFault.TheVariants.{Failed, OutOfMemory}
-use Rattle.smk_world.specs.World.{World}
-use Rattle.smk_world.specs.Trees.{Path, Each, is_path_text, Act}
+use Rattle.smk_world.specs.Trees.{Path, Each}
 use Rattle.smk_members.specs.Members.{Nodes}
-use Rattle.smk_members.proofs.Lists.{each_both, each_more}
+use Rattle.smk_members.proofs.Lists.{each_both}
 use Rattle.smk_plan.specs.declared.seen.Sight.{Sight}
 use Rattle.smk_plan.specs.declared.fault.LookFault.{LookFault}
-use Rattle.smk_plan.specs.declared.fault.LookFault.TheVariants.{Device, OutOfMemory as NoMemory}
+use Rattle.smk_plan.specs.declared.fault.LookFault.TheVariants.{Device}
 use Rattle.smk_look.specs.Seeing.{IsSightOf, are_paths, look_fault}
 
 paths_append : (sights : List Sight) (s : Sight) → are_paths (sights ++ s ∷ []) ≡ are_paths sights ++ s.path ∷ []

@@ -24,7 +24,7 @@ use Rattle.smk_store.specs.Walking.{texts_of}
 use Rattle.smk_store.proofs.Loads.{named_filter, contains_named}
 use Rattle.smk_chain.specs.declared.jobs.Jobs.{Jobs}
 use Rattle.smk_chain.specs.declared.jobs.Maker.{Maker}
-use Rattle.smk_members.specs.Members.{Nodes, IsFound, member_places, IsThere, AreMembers, HasNoMembers}
+use Rattle.smk_members.specs.Members.{Nodes, IsFound, member_places, IsThere, AreMembers}
 use Rattle.smk_members.specs.Members.IsFound.{Inside, Deeper}
 use Rattle.smk_members.specs.Disk.{IsTree}
 use Rattle.smk_members.proofs.Lists.{each_both, each_more, each_unmap}
@@ -32,9 +32,9 @@ use Rattle.smk_members.proofs.Trees.{some_stands, stands_some, tree_found}
 use Rattle.smk_members.proofs.Under.{same_members}
 use Rattle.smk_plan.specs.declared.seen.Sight.{Sight}
 use Rattle.smk_plan.specs.States.{test_some}
-use Rattle.smk_plan.specs.Sights.{sight_at, is_tellable, is_guarded, members_seen, sight_of, IsSeenAs, IsSourceSeen, IsSeenOf}
+use Rattle.smk_plan.specs.Sights.{is_tellable, is_guarded, members_seen, sight_of, IsSeenAs, IsSeenOf}
 use Rattle.smk_look.specs.Gathering.{Texts, IsHeld, item_paths, job_paths, source_path, unless_made, wanted}
-use Rattle.smk_look.specs.Seeing.{HasGuard, TellsGuard, IsListedAs, IsSightOf, are_paths}
+use Rattle.smk_look.specs.Seeing.{TellsGuard, IsListedAs, IsSightOf, are_paths}
 use Rattle.smk_look.proofs.Waiting.{guard_some}
 
 -- ## Lists

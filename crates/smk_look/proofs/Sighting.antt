@@ -17,7 +17,7 @@ use Rattle.smk_members.specs.Disk.{IsTree}
 use Rattle.smk_members.proofs.Trees.{tree_folder, tree_still}
 use Rattle.smk_plan.specs.declared.seen.Sight.{Sight}
 use Rattle.smk_plan.specs.Sights.{is_tellable}
-use Rattle.smk_look.specs.Seeing.{IsGuard, HasGuard, TellsGuard, IsListedAs, IsSightOf, is_read_only, is_folder_stat, members_in}
+use Rattle.smk_look.specs.Seeing.{TellsGuard, IsListedAs, IsSightOf, is_read_only, is_folder_stat, members_in}
 use Rattle.smk_look.proofs.Waiting.{flag, read_only_same, guard_some, path_tellable}
 
 pub open_folder : (w : World) (p : Path) → IsTree w → reads_folder (w.nodes p) ≡ true → IsOpenFolder w.nodes p

@@ -1,6 +1,6 @@
 -- Read-only files under a folder, as it is gone over.
-use Rattle.std.proofs.Common.{◌≡◌, ◌⊎◌, inl, inr, ◌≢◌, ℕ, ◌+◌, ◌<◌, ◌≤◌, ◌==◌, Bool, true, false, ◌||◌, ◌&&◌, not, List, [], ◌∷◌, ◌++◌, map, length, take, get_or, refl, sym, ap, subst, ◌∙◌, arith, append-nil, append_assoc, Option, Some, None}
-use Rattle.std.specs.Prelude.{IsSome, IsTrue, All, Contains, bytes_eq}
+use Rattle.std.proofs.Common.{◌≡◌, ◌⊎◌, inl, inr, ◌≢◌, ℕ, ◌+◌, ◌<◌, ◌≤◌, ◌==◌, Bool, true, false, ◌||◌, not, List, [], ◌∷◌, ◌++◌, map, length, take, get_or, refl, sym, ap, subst, ◌∙◌, arith, append-nil, append_assoc, Option, Some, None}
+use Rattle.std.specs.Prelude.{IsSome, IsTrue, All, Contains}
 use Rattle.std.specs.List.{list_any}
 use Rattle.std.specs.Str.{IsUtf8}
 use Rattle.std.proofs.lemmas.List.{take_more, take_all}
@@ -8,7 +8,7 @@ use Rattle.std.proofs.lemmas.List.Elements.{All-contains, All-weaker, All-map, A
 use Rattle.std.proofs.lemmas.List.Folds.{list_any-append}
 use Rattle.std.proofs.lemmas.Str.{IsUtf8-append, IsUtf8-from_ascii}
 use Rattle.std.proofs.lemmas.Str.Ascii.{IsAscii-cons, IsAscii-nil}
-use Rattle.smk_base.specs.Path.{is_path, is_path_byte, are_path_bytes, is_under, is_at_or_under}
+use Rattle.smk_base.specs.Path.{is_path_byte, are_path_bytes, is_under, is_at_or_under}
 use Rattle.smk_base.proofs.Places.{and_first, and_second}
 use Rattle.smk_base.proofs.Under.{never_both, false_of_not, both_true, under_folder, rest_under, at_itself, at_when_under, at_or_under_cases, at_or_under_further}
 use Rattle.smk_world.specs.declared.event.Listing.{Listing}
@@ -18,7 +18,7 @@ use Rattle.smk_world.specs.declared.event.Node.TheVariants.{Regular, Directory}
 use Rattle.smk_world.specs.declared.event.NodeState.{NodeState}
 use Rattle.smk_world.specs.declared.event.NodeState.TheVariants.{Owned, Known}
 use Rattle.smk_world.specs.World.{World, reading, reads_folder}
-use Rattle.smk_world.specs.Calls.{in_folder, is_name, stat_of, IsTextName, MayStand, Stands, IsListing, ListingIs}
+use Rattle.smk_world.specs.Calls.{in_folder, is_name, stat_of, IsTextName, MayStand, Stands, ListingIs}
 use Rattle.smk_world.specs.Trees.{Path, Each, IsIn, is_path_text, is_text}
 use Rattle.smk_record.proofs.Digits.{text_is_utf8, utf8_is_text}
 use Rattle.smk_store.specs.Images.{Content, content_of}

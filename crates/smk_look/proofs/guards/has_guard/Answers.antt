@@ -1,7 +1,6 @@
-use Rattle.std.proofs.Common.{ap, sym, ◌∙◌, ◌∷◌, []}
-use Rattle.smk_store.proofs.Looks.{looked_on, looked_memory, looked_short, looked_well, looked_then, looked_nothing, ok_is_quiet, never_ok, still}
-use Rattle.smk_members.proofs.Trees.{tree_still}
-use Rattle.smk_look.proofs.Waiting.{walk_begun, walk_done, walk_found, waiting_still, waiting_taken, either_false, either_is, look_told}
+use Rattle.std.proofs.Common.{ap, ◌∙◌, ◌∷◌, []}
+use Rattle.smk_store.proofs.Looks.{looked_on, looked_short, looked_well, looked_then, looked_nothing, ok_is_quiet, never_ok, still}
+use Rattle.smk_look.proofs.Waiting.{walk_begun, walk_found, either_false, either_is, look_told}
 use Rattle.smk_look.proofs.guards.has_guard.Goals as goal
 
 pub loop-init : goal.loop-init

@@ -1,9 +1,9 @@
-use Rattle.std.proofs.Common.{ap, sym, ◌∙◌}
+use Rattle.std.proofs.Common.{ap, ◌∙◌}
 use Rattle.smk_world.specs.Calls.{in_folder}
 use Rattle.smk_store.proofs.Looks.{looked_list, looked_on, looked_memory, looked_short, looked_well, looked_then, ok_is_quiet, never_ok, still, listing_told}
 use Rattle.smk_members.proofs.Trees.{tree_still}
 use Rattle.smk_look.specs.Guards.{IsToList}
-use Rattle.smk_look.proofs.Waiting.{listed_in, gone_begun, gone_next, gone_found, gone_all, last_of, note_still, either_true}
+use Rattle.smk_look.proofs.Waiting.{listed_in, gone_begun, gone_next, gone_found, gone_all, last_of, note_still}
 use Rattle.smk_look.proofs.guards.look_in.Goals as goal
 
 pub returns-in_err-listing-clause-looked : goal.returns-in_err-listing-clause-looked

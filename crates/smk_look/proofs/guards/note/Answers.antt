@@ -1,4 +1,4 @@
-use Rattle.std.proofs.Common.{refl, ap, ◌∙◌}
+use Rattle.std.proofs.Common.{ap, ◌∙◌}
 use Rattle.smk_store.proofs.Looks.{never_ok}
 use Rattle.smk_store.proofs.Seeing.{looked_failed, looked_well_at, stat_told}
 use Rattle.smk_look.specs.Seeing.{is_read_only}

@@ -1,4 +1,4 @@
-use Rattle.std.proofs.Common.{ap, ◌∙◌, Err}
+use Rattle.std.proofs.Common.{ap, Err}
 use Rattle.smk_store.proofs.Looks.{looked_as, looked_short, looked_well, ok_is_quiet, never_ok}
 use Rattle.smk_plan.specs.declared.fault.LookFault.{LookFault}
 use Rattle.smk_look.proofs.Found.{device_of, failed_of}

@@ -1,8 +1,8 @@
-use Rattle.std.proofs.Common.{◌≡◌, Some, sym, ap, subst, ◌++◌, ◌∙◌, string_bytes}
+use Rattle.std.proofs.Common.{◌≡◌, Some, sym, ap, ◌++◌, ◌∙◌, string_bytes}
 use Rattle.std.specs.List.{filter}
-use Rattle.smk_world.specs.Trees.{Each, is_path_text}
+use Rattle.smk_world.specs.Trees.{is_path_text}
 use Rattle.smk_store.specs.Walking.{texts_of, path_in}
-use Rattle.smk_store.proofs.Looks.{looked_on, looked_memory, looked_short, looked_well, looked_then, looked_nothing, ok_is_quiet, never_ok, still}
+use Rattle.smk_store.proofs.Looks.{looked_on, looked_memory, looked_well, looked_then, ok_is_quiet, still}
 use Rattle.smk_store.proofs.Loads.{one_more, all_found, paths_rise, is_text_path}
 use Rattle.smk_record.specs.Records.{are_rising}
 use Rattle.smk_members.proofs.Trees.{tree_still}
