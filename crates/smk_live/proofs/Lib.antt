@@ -1,0 +1,5 @@
+pub mod Tests
+pub mod Exact
+pub mod Told
+pub mod Merged
+pub mod Kept

@@ -1,0 +1,5 @@
+pub mod Phases
+pub mod Standing
+pub mod Lives
+pub mod Closing
+pub mod Closed
