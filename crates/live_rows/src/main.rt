@@ -137,7 +137,9 @@ fn line<Rt: Threads + Sync>(rt: &Rt, alloc: Global, count: u32) -> Result<String
     let asked = judge.asked.load(Ordering::SeqCst);
     let first = judge.first.load(Ordering::SeqCst);
     let total = judge.total.load(Ordering::SeqCst);
-    format!(in alloc; "{count} and one: {told}; asked {asked}, of the first {first}, of the last {total}")
+    format!(in alloc;
+        "{count} and one: {told}; asked {asked}, of the first {first}, of the last {total}"
+    )
 }
 
 fn main(rt: HostRuntime) -> io::Result<()> {

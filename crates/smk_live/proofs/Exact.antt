@@ -1,14 +1,16 @@
 -- The states of a moment at which no job runs are those of the table while some run, where all of them stand.
-use Rattle.std.proofs.Common.{◌≡◌, ◌⊎◌, inl, inr, ℕ, zero, suc, length, set, Bool, true, false, cond, ◌&&◌, ◌||◌, not, List, [], ◌∷◌, ◌++◌, map, Option, Some, None, refl, sym, ap, subst, ◌∙◌, option_map, is_some, true≢false}
-use Rattle.std.specs.Prelude.{bytes_eq, if◌then◌else◌}
-use Rattle.std.specs.List.{list_any, find, filter, slice_get}
+use Rattle.std.proofs.Common.{◌≡◌, ◌⊎◌, inl, inr, ℕ, zero, suc, length, Bool, true, false, cond, ◌&&◌, ◌||◌, not, List, [], ◌∷◌, ◌++◌, map, Option, Some, None, refl, sym, ap, subst, ◌∙◌, option_map, is_some, true≢false}
+use Rattle.std.specs.Prelude.{bytes_eq, if◌then◌else◌, slice_set}
+use Rattle.std.specs.List.{list_any, find, filter, flat_map, slice_get}
 use Rattle.std.specs.Option.{option_and_then}
 use Rattle.std.specs.Cmp.Lexicographic.{pointwise}
 use Rattle.smk_base.proofs.Places.{and_first, and_second, same_place, same_flipped, place_itself}
+use Rattle.smk_world.specs.declared.recipe.Recipe.{Recipe}
 use Rattle.smk_world.specs.World.{in_paths, out_paths}
 use Rattle.smk_world.specs.Trees.{Path, IsIn, among}
 use Rattle.smk_record.specs.declared.record.Stamp.{Stamp}
 use Rattle.smk_flow.specs.declared.job.Job.{Job}
+use Rattle.smk_store.specs.declared.store.Kept.{Kept}
 use Rattle.smk_store.specs.Images.{Image, core_at, is_source, source_at}
 use Rattle.smk_store.specs.Trust.{holder, is_marked_but, made_stamp, stamp_now_but, time_stamp}
 use Rattle.smk_chain.specs.Derive.{distinct, Listings}
@@ -17,7 +19,7 @@ use Rattle.smk_trigger.specs.declared.reason.Reason.TheVariants.{New, Marked, Ba
 use Rattle.smk_trigger.specs.declared.reason.State.{State}
 use Rattle.smk_trigger.specs.declared.reason.State.TheVariants.{Open, Dirty, Restore, Clean}
 use Rattle.smk_trigger.specs.JobStates.{is_dirty, is_restore, is_to_run}
-use Rattle.smk_trigger.specs.Reasons.{own_reasons, when, lacks_record}
+use Rattle.smk_trigger.specs.Reasons.{own_reasons, when, held, lacks_record, has_bad_record, changes_from}
 use Rattle.smk_pick.specs.declared.settings.Settings.{Settings}
 use Rattle.smk_plan.specs.States.{Plan, Progress, HasStates, job_path, makes, by_reasons, by_force, while_running, test_some, made_by, is_open_now, is_forced, kept_state, is_restored, reasons, is_to_restore, is_read_now, by_table, state_of}
 use Rattle.smk_facts.specs.Facts.{having_run}
@@ -31,34 +33,46 @@ use Rattle.smk_live.specs.Standing.{same_reason, same_state, is_restored_in, rea
 never : (b : Bool) → b ≡ true → b ≡ false → ⊥
 never b t f = true≢false (sym t ∙ f)
 
+or_true : (b : Bool) → (b || true) ≡ true
+or_true true = refl
+or_true false = refl
+
+not_true : (b : Bool) → not b ≡ true → b ≡ false
+not_true true h = absurd (true≢false (sym h))
+not_true false h = refl
+
+any_case :
+    {A : Type 0} (test : A → Bool) (x : A) (xs : List A) (b : Bool) → test x ≡ b → (b || list_any test xs) ≡ true →
+    (list_any test xs ≡ true → (y : A) × IsIn xs y × (test y ≡ true)) → (y : A) × IsIn (x ∷ xs) y × (test y ≡ true)
+any_case test x xs true e h more = (x, inl refl, e)
+any_case test x xs false e h more = let r = more h in (r.0, inr r.1, r.2)
+
 in_any : {A : Type 0} (test : A → Bool) (xs : List A) → list_any test xs ≡ true → (x : A) × IsIn xs x × (test x ≡ true)
 in_any test [] h = absurd (true≢false (sym h))
-in_any test (x ∷ xs) h = go (test x) refl h (in_any test xs)
-  where
-    go : (b : Bool) → test x ≡ b → (b || list_any test xs) ≡ true → (list_any test xs ≡ true → (y : _) × IsIn xs y × (test y ≡ true)) → (y : _) × IsIn (x ∷ xs) y × (test y ≡ true)
-    go true e k more = (x, (inl refl, e))
-    go false e k more = let r = more k in (r.0, (inr r.1, r.2))
+in_any test (x ∷ xs) h = any_case test x xs (test x) refl h (in_any test xs)
 
 any_in : {A : Type 0} (test : A → Bool) (xs : List A) (x : A) → IsIn xs x → test x ≡ true → list_any test xs ≡ true
 any_in test [] x i h = absurd i
 any_in test (y ∷ xs) x (inl e) h = ap (λ b. b || list_any test xs) (ap test (sym e) ∙ h)
 any_in test (y ∷ xs) x (inr i) h = ap (λ b. test y || b) (any_in test xs x i h) ∙ or_true (test y)
-  where
-    or_true : (b : Bool) → (b || true) ≡ true
-    or_true true = refl
-    or_true false = refl
+
+none_any : {A : Type 0} (xs : List A) → list_any (λ x. false) xs ≡ false
+none_any [] = refl
+none_any (x ∷ xs) = none_any xs
 
 map_in : {A B : Type 0} (f g : A → B) (xs : List A) → ((x : A) → IsIn xs x → f x ≡ g x) → map f xs ≡ map g xs
 map_in f g [] h = refl
 map_in f g (x ∷ xs) h = let e = h x (inl refl) in let r = map_in f g xs (λ y i. h y (inr i)) in λ i. e i ∷ r i
 
+found_case :
+    {A : Type 0} (test : A → Bool) (y x : A) (xs : List A) (b : Bool) → test y ≡ b → cond b (Some y) (find test xs) ≡ Some x →
+    (find test xs ≡ Some x → IsIn xs x × (test x ≡ true)) → IsIn (y ∷ xs) x × (test x ≡ true)
+found_case test y x xs true e h more = let s : y ≡ x = cc in (inl (sym s), ap test (sym s) ∙ e)
+found_case test y x xs false e h more = let r = more h in (inr r.0, r.1)
+
 found_in : {A : Type 0} (test : A → Bool) (xs : List A) (x : A) → find test xs ≡ Some x → IsIn xs x × (test x ≡ true)
 found_in test [] x e = absurd cc
-found_in test (y ∷ xs) x e = go (test y) refl e (found_in test xs x)
-  where
-    go : (b : Bool) → test y ≡ b → cond b (Some y) (find test xs) ≡ Some x → (find test xs ≡ Some x → IsIn xs x × (test x ≡ true)) → IsIn (y ∷ xs) x × (test x ≡ true)
-    go true t k more = let s : y ≡ x = cc in (inl (sym s), ap test (sym s) ∙ t)
-    go false t k more = let r = more k in (inr r.0, r.1)
+found_in test (y ∷ xs) x e = found_case test y x xs (test y) refl e (found_in test xs x)
 
 append_none : {A : Type 0} (xs ys : List A) → xs ++ ys ≡ [] → xs ≡ []
 append_none [] ys e = refl
@@ -84,7 +98,7 @@ reason_same Inputs Inputs h = refl
 reason_same (Updated p) (Updated q) h = ap Updated (same_place p q h)
 reason_same (Upstream p) (Upstream q) h = ap Upstream (same_place p q h)
 reason_same Forced Forced h = refl
-reason_same r s h = absurd cc
+reason_same r s h = absurd (true≢false (sym h))
 
 reasons_same : (rs ss : List Reason) → pointwise same_reason rs ss ≡ true → rs ≡ ss
 reasons_same [] [] h = refl
@@ -99,7 +113,7 @@ state_same Open Open h = refl
 state_same (Dirty rs) (Dirty ss) h = ap Dirty (reasons_same rs ss h)
 state_same Restore Restore h = refl
 state_same Clean Clean h = refl
-state_same s t h = absurd cc
+state_same s t h = absurd (true≢false (sym h))
 
 -- ## Phases
 
@@ -109,10 +123,6 @@ closed_begun [] ps n h = h
 closed_begun (j ∷ js) [] n h = h
 closed_begun (j ∷ js) (Waiting ∷ ps) n h = closed_begun js ps n h
 closed_begun (j ∷ js) (Running ∷ ps) n h = ap (λ b. bytes_eq n (job_path j) || b) (closed_begun js ps n h) ∙ or_true (bytes_eq n (job_path j))
-  where
-    or_true : (b : Bool) → (b || true) ≡ true
-    or_true true = refl
-    or_true false = refl
 closed_begun (j ∷ js) (Closed ∷ ps) n h = go (bytes_eq n (job_path j)) h (closed_begun js ps n)
   where
     go : (b : Bool) → (b || among (paths_in is_closed js ps) n) ≡ true → (among (paths_in is_closed js ps) n ≡ true → among (paths_in has_begun js ps) n ≡ true) → (b || among (paths_in has_begun js ps) n) ≡ true
@@ -152,9 +162,10 @@ runs_so all told (j ∷ js) (Closed ∷ ps) (s ∷ ss) h e i = runs_so all told 
 runs_so all told (j ∷ js) (Running ∷ ps) (s ∷ ss) h e (inr i) =
     runs_so all told js ps ss (and_second (is_to_run s && are_alike all told (job_path j) s all told) (all_stand all told js ps ss) h) e i
 runs_so all told (j ∷ js) (Running ∷ ps) (s ∷ ss) h e (inl q) =
-    let k = and_first (is_to_run s && are_alike all told (job_path j) s all told) (all_stand all told js ps ss) h in
-    (ap (λ (x : Path × State). is_to_run x.1) q ∙ and_first (is_to_run s) (are_alike all told (job_path j) s all told) k,
-    ap (λ (x : Path × State). are_alike all told x.0 x.1 all told) q ∙ and_second (is_to_run s) (are_alike all told (job_path j) s all told) k)
+    let k = and_first (is_to_run s && are_alike all told (job_path j) s all told) (all_stand all told js ps ss) h in (
+      ap (λ (x : Path × State). is_to_run x.1) q ∙ and_first (is_to_run s) (are_alike all told (job_path j) s all told) k,
+      ap (λ (x : Path × State). are_alike all told x.0 x.1 all told) q ∙ and_second (is_to_run s) (are_alike all told (job_path j) s all told) k,
+    )
 
 alike_at :
     (all : List Job) (told : List State) (name : Path) (s : State) (F : Job → State) (js : List Job) → are_alike all told name s js (map F js) ≡ true →
@@ -173,10 +184,6 @@ restored_at F q (k ∷ js) j (inl e) r m =
     ap (λ b. b || is_restored_in q js (map F js))
     (ap (λ (x : Job). is_restore (F x) && makes x q) (sym e) ∙ ap (λ b. b && makes j q) r ∙ m)
 restored_at F q (k ∷ js) j (inr i) r m = ap (λ b. (is_restore (F k) && makes k q) || b) (restored_at F q js j i r m) ∙ or_true (is_restore (F k) && makes k q)
-  where
-    or_true : (b : Bool) → (b || true) ≡ true
-    or_true true = refl
-    or_true false = refl
 
 -- ## One state
 
@@ -221,6 +228,22 @@ no_reasons true rs x h = absurd (true≢false (sym h))
 no_reasons false [] x h = refl
 no_reasons false (r ∷ rs) x h = absurd (true≢false (sym h))
 
+-- where a job has no reasons of its own none of its outputs is marked
+unmarked_own : (recipe : Recipe) (kept : List Kept) (flags : List Bool) (now : List (Path × Option Stamp)) → own_reasons recipe kept flags now ≡ [] → list_any (λ b. b) flags ≡ false
+unmarked_own recipe kept flags now e =
+    let rest = when (has_bad_record kept) BadRecord ++ (if lacks_record kept || has_bad_record kept then [] else changes_from recipe now (flat_map held kept)) in
+    none_when (list_any (λ b. b) flags) Marked
+    (append_none (when (list_any (λ b. b) flags) Marked) rest (append_rest (when (lacks_record kept) New) (when (list_any (λ b. b) flags) Marked ++ rest) e))
+
+first_off : (m r x : Bool) → r ≡ false → ((m && not r) || x) ≡ false → m ≡ false
+first_off false r x f e = refl
+first_off true true x f e = absurd (true≢false f)
+first_off true false x f e = absurd (true≢false e)
+
+rest_off : (m x : Bool) → (m || x) ≡ false → x ≡ false
+rest_off false x e = e
+rest_off true x e = absurd (true≢false e)
+
 -- ## The states
 
 module _ (image : Image) (settings : Settings) (lists : Listings) (js : List Job) (ps : List Phase) (ss : List State) where
@@ -257,20 +280,6 @@ module _ (image : Image) (settings : Settings) (lists : Listings) (js : List Job
   abbrev opened : Job → Bool
   opened j = is_open_now image settings idle plan j
 
-  -- the table at a moment
-  reasons_are : (progress : Progress) (j : Job) →
-      reasons image settings progress plan j ≡ own_with (marks progress) j ++ (ups j ++ when (is_forced image settings progress plan j) Forced)
-  reasons_are progress j = refl
-
-  table_is : (progress : Progress) (j : Job) →
-      by_table image settings progress plan j
-      ≡ cond (opened j) Open (by_reasons (own_with (marks progress) j ++ (ups j ++ when (is_forced image settings progress plan j) Forced)) (restorable j && not (is_read_now image settings progress plan j)))
-  table_is progress j = refl
-
-  none_any : {A : Type 0} (xs : List A) → list_any (λ x. false) xs ≡ false
-  none_any [] = refl
-  none_any (x ∷ xs) = none_any xs
-
   idle_read : (j : Job) → is_read_now image settings idle plan j ≡ false
   idle_read j = none_any js
 
@@ -296,14 +305,13 @@ module _ (image : Image) (settings : Settings) (lists : Listings) (js : List Job
             let run = runs_so js ss js ps ss stand r at.0 in
             let like = alike_at js ss r.0 r.1 F js (ap (λ xs. are_alike js ss r.0 r.1 js xs) (sym table) ∙ run.1) j i in
             let here : (same_state r.1 (F j) && not (reads_restored js ss j)) ≡ true =
-            ap (λ b. not b || (same_state r.1 (F j) && not (reads_restored js ss j))) (sym at.1) ∙ like in
-            (sym same ∙ state_same r.1 (F j) (and_first (same_state r.1 (F j)) (not (reads_restored js ss j)) here),
-            (ap is_to_run (sym same) ∙ run.0,
-            not_true (reads_restored js ss j) (and_second (same_state r.1 (F j)) (not (reads_restored js ss j)) here)))
-          where
-            not_true : (b : Bool) → not b ≡ true → b ≡ false
-            not_true true h = absurd (true≢false (sym h))
-            not_true false h = refl
+            ap (λ b. not b || (same_state r.1 (F j) && not (reads_restored js ss j))) (sym at.1) ∙ like in (
+              sym same ∙ state_same r.1 (F j) (and_first (same_state r.1 (F j)) (not (reads_restored js ss j)) here),
+              (
+                ap is_to_run (sym same) ∙ run.0,
+                not_true (reads_restored js ss j) (and_second (same_state r.1 (F j)) (not (reads_restored js ss j)) here),
+              ),
+            )
 
         go : (o : Option (Path × State)) → find (named (job_path j)) (running_in js ps ss) ≡ o → option_map (λ (r : Path × State). r.1) o ≡ Some s → (s ≡ F j) × ((is_to_run s ≡ true) × (reads_restored js ss j ≡ false))
         go None f k = absurd cc
@@ -318,31 +326,19 @@ module _ (image : Image) (settings : Settings) (lists : Listings) (js : List Job
         by (r.0) r.1 (and_first (test_some is_restore (kept_state image settings live plan r.0)) (among (out_paths r.0.recipe) p) r.2)
         (and_second (test_some is_restore (kept_state image settings live plan r.0)) (among (out_paths r.0.recipe) p) r.2)
       where
+        clear : (outs : List Path) → list_any (λ b. b) (map (marks idle) outs) ≡ false → among outs p ≡ true → image.marked p ≡ false
+        clear [] e a = absurd (true≢false (sym a))
+        clear (q ∷ outs) e a = split (bytes_eq p q) refl a
+          where
+            split : (b : Bool) → bytes_eq p q ≡ b → (b || among outs p) ≡ true → image.marked p ≡ false
+            split true s k = ap image.marked (same_place p q s) ∙ first_off (image.marked q) (is_restored image settings idle plan q) (list_any (λ b. b) (map (marks idle) outs)) (idle_restored q) e
+            split false s k = clear outs (rest_off (marks idle q) (list_any (λ b. b) (map (marks idle) outs)) e) k
+
         here : (j : Job) → is_restore (told j) ≡ true → among (out_paths j.recipe) p ≡ true → image.marked p ≡ false
         here j k a =
             let none = no_reasons (opened j) (own_with (marks idle) j ++ (ups j ++ when (is_forced image settings idle plan j) Forced)) (restorable j && true) k in
             let own = append_none (own_with (marks idle) j) (ups j ++ when (is_forced image settings idle plan j) Forced) none in
-            clear (out_paths j.recipe) (mark_less (map image.kept (out_paths j.recipe)) (map (marks idle) (out_paths j.recipe)) own) a
-          where
-            mark_less : (kept : List _) (flags : List Bool) → own_reasons j.recipe kept flags (map (λ q. (q, stamp_with (marks idle) q)) (in_paths j.recipe)) ≡ [] → list_any (λ b. b) flags ≡ false
-            mark_less kept flags e = none_when (list_any (λ b. b) flags) Marked (append_none _ _ (append_rest (when (lacks_record kept) New) _ e))
-
-            clear : (outs : List Path) → list_any (λ b. b) (map (marks idle) outs) ≡ false → among outs p ≡ true → image.marked p ≡ false
-            clear [] e a = absurd (true≢false (sym a))
-            clear (q ∷ outs) e a = split (bytes_eq p q) refl a
-              where
-                split : (b : Bool) → bytes_eq p q ≡ b → (b || among outs p) ≡ true → image.marked p ≡ false
-                split true s k = ap image.marked (same_place p q s) ∙ first_of (image.marked q) (is_restored image settings idle plan q) (list_any (λ b. b) (map (marks idle) outs)) (idle_restored q) e
-                split false s k = clear outs (rest_of (marks idle q) (list_any (λ b. b) (map (marks idle) outs)) e) k
-
-                first_of : (m r x : Bool) → r ≡ false → ((m && not r) || x) ≡ false → m ≡ false
-                first_of false r x f e = refl
-                first_of true true x f e = absurd (true≢false f)
-                first_of true false x f e = absurd (true≢false e)
-
-                rest_of : (m x : Bool) → (m || x) ≡ false → x ≡ false
-                rest_of false x e = e
-                rest_of true x e = absurd (true≢false e)
+            clear (out_paths j.recipe) (unmarked_own j.recipe (map image.kept (out_paths j.recipe)) (map (marks idle) (out_paths j.recipe)) (map (λ q. (q, stamp_with (marks idle) q)) (in_paths j.recipe)) own) a
 
         by : (j : Job) → IsIn js j → test_some is_restore (kept_state image settings live plan j) ≡ true → among (out_paths j.recipe) p ≡ true → image.marked p ≡ false
         by j i k a = go (kept_state image settings live plan j) refl k
@@ -435,7 +431,7 @@ module _ (image : Image) (settings : Settings) (lists : Listings) (js : List Job
 -- ## Beginning
 
 -- a job that waits isn't closed, and isn't as it begins
-pub still_closed : (js : List Job) (ps : List Phase) (n : ℕ) → slice_get ps n ≡ Some Waiting → paths_in is_closed js (set ps n Running) ≡ paths_in is_closed js ps
+pub still_closed : (js : List Job) (ps : List Phase) (n : ℕ) → slice_get ps n ≡ Some Waiting → paths_in is_closed js (slice_set ps n Running) ≡ paths_in is_closed js ps
 still_closed [] ps n e = refl
 still_closed (j ∷ js) [] n e = refl
 still_closed (j ∷ js) (Waiting ∷ ps) zero e = refl

@@ -1,5 +1,5 @@
 -- What runs keeps its state.
-use Rattle.std.proofs.Common.{◌≡◌, ◌⊎◌, inl, inr, ℕ, zero, suc, ◌<◌, Bool, true, false, cond, ◌&&◌, ◌||◌, not, List, [], ◌∷◌, ◌++◌, length, set, Option, Some, None, refl, sym, ap, ◌∙◌, arith, true≢false}
+use Rattle.std.proofs.Common.{◌≡◌, ◌⊎◌, inl, inr, ℕ, zero, suc, ◌<◌, Bool, true, false, cond, ◌&&◌, ◌||◌, not, List, [], ◌∷◌, ◌++◌, length, Option, Some, None, refl, sym, ap, ◌∙◌, arith, true≢false}
 use Rattle.std.specs.List.{slice_get}
 use Rattle.smk_base.proofs.Places.{and_first, and_second}
 use Rattle.smk_world.specs.Trees.{Path}
@@ -22,9 +22,9 @@ kept_states (j ∷ js) (p ∷ ps) (s ∷ ss) [] e h = absurd (omega arith)
 kept_states (j ∷ js) (Waiting ∷ ps) (s ∷ ss) (t ∷ ts) e h = kept_states js ps ss ts (omega arith) h
 kept_states (j ∷ js) (Closed ∷ ps) (s ∷ ss) (t ∷ ts) e h = kept_states js ps ss ts (omega arith) h
 kept_states (j ∷ js) (Running ∷ ps) (s ∷ ss) (t ∷ ts) e h =
-    let same = state_same s t (and_first (same_state s t) (all_kept ps ss ts) h) in
+    let same = sym (state_same s t (and_first (same_state s t) (all_kept ps ss ts) h)) in
     let more = kept_states js ps ss ts (omega arith) (and_second (same_state s t) (all_kept ps ss ts) h) in
-    λ i. (job_path j, same (~ i)) ∷ more i
+    λ i. (job_path j, same i) ∷ more i
 
 pub idle_kept : (js : List Job) (ps : List Phase) (ss ts : List State) → length ps ≡ length js → length ss ≡ length js → running_in js ps ss ≡ [] → all_kept ps ss ts ≡ true
 idle_kept js [] ss ts e k h = refl

@@ -3,3 +3,4 @@ pub mod Exact
 pub mod Told
 pub mod Merged
 pub mod Kept
+pub mod Installed

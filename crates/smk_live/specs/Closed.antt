@@ -1,5 +1,5 @@
 -- What a plan that is kept is once a job was closed.
-use Rattle.std.specs.Prelude.{◌≡◌, ◌⊎◌, ℕ, true, List, [], map, length, slice_set, Some, option_map}
+use Rattle.std.specs.Prelude.{◌≡◌, ◌⊎◌, ℕ, true, List, [], map, length, slice_set, if◌then◌else◌, Some, option_map}
 use Rattle.smk_world.specs.Trees.{Path}
 use Rattle.smk_flow.specs.declared.job.Job.{Job}
 use Rattle.smk_store.specs.declared.store.Entry.{Entry}
@@ -11,9 +11,10 @@ use Rattle.smk_facts.specs.Facts.{having_run}
 use Rattle.smk_states.specs.Judged.{with_states}
 use Rattle.smk_live.specs.declared.closing.Next.{Next}
 use Rattle.smk_live.specs.declared.live.LivePlan.{LivePlan}
+use Rattle.smk_live.specs.declared.live.Late.{Late}
 use Rattle.smk_live.specs.declared.phase.Phase.TheVariants.{Closed}
 use Rattle.smk_live.specs.Phases.{running_in}
-use Rattle.smk_live.specs.Closing.{merged, fresh_facts, wholes_after}
+use Rattle.smk_live.specs.Closing.{merged, fresh_facts, wholes_after, all_kept}
 use Rattle.smk_live.specs.Lives.{IsSoIn}
 
 -- This is new once the job, whose number is n, is closed.
@@ -42,3 +43,17 @@ pub record HasClosed (n : ℕ) (j : Job) (entries : List Entry) (sights : List S
   -- the states are told anew, or stay; and they are told anew where nothing runs
   pub told : (new.fresh ≡ true) ⊎ (new.states ≡ old.states)
   pub idle : running_in old.jobs.jobs new.phases.items old.states ≡ [] → new.fresh ≡ true
+
+-- What is new was put in, with what came of the job whose number is n.
+pub record HasInstalled (n : ℕ) (next : Next) (came : Late) (old new : LivePlan) : Type 0 where
+  pub jobs : new.jobs ≡ old.jobs
+  pub settings : new.settings ≡ old.settings
+  pub store : new.store ≡ old.store
+  pub seen : new.seen ≡ old.seen
+  pub phases : new.phases.items ≡ slice_set old.phases.items n Closed
+  pub judged : new.facts.items ≡ merged old.facts.items next.facts.items
+  pub told : new.reasons.items ≡ merged old.reasons.items next.reasons.items
+  pub whole : new.wholes ≡ next.wholes
+  pub late : new.late.items ≡ slice_set old.late.items n (Some came)
+  pub fresh : new.fresh ≡ all_kept (slice_set old.phases.items n Closed) old.states next.states
+  pub states : new.states ≡ (if new.fresh then next.states else old.states)

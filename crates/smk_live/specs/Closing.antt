@@ -1,5 +1,5 @@
 -- What jobs are judged by, and what is whole, once a job is closed with new entries and sights of its outputs.
-use Rattle.std.specs.Prelude.{ℕ, suc, Bool, true, false, ◌&&◌, ◌||◌, not, ◌==◌, List, [], ◌∷◌, map, bytes_eq, if◌then◌else◌, Option, Some, None, option_map}
+use Rattle.std.specs.Prelude.{ℕ, suc, Bool, true, false, ◌&&◌, ◌||◌, not, ◌==◌, List, [], ◌∷◌, map, bytes_eq, if◌then◌else◌, slice_set, Option, Some, None}
 use Rattle.std.specs.List.{list_any}
 use Rattle.smk_world.specs.declared.recipe.Out.{Out}
 use Rattle.smk_world.specs.World.{in_paths}
@@ -25,6 +25,11 @@ use Rattle.smk_live.specs.Standing.{reaches, same_state}
 abbrev pub or_old : {A : Type 0} → Option A → A → A
 or_old None x = x
 or_old (Some y) x = y
+
+-- the element put in at the place, where there is one
+abbrev pub put_in : {A : Type 0} → List A → ℕ → Option A → List A
+put_in xs n None = xs
+put_in xs n (Some y) = slice_set xs n y
 
 -- the elements, but for those in whose place another one is given
 abbrev pub merged : {A : Type 0} → List A → List (Option A) → List A

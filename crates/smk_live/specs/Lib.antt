@@ -3,3 +3,4 @@ pub mod Standing
 pub mod Lives
 pub mod Closing
 pub mod Closed
+pub mod Readers

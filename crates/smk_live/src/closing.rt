@@ -3,7 +3,7 @@
 ghost use Rattle.std.specs.Prelude.{◌≡◌, ◌<◌, ◌≤◌, map, length, slice_set, Some, IfOk, OnOk, OnErr, if◌then◌else◌};
 ghost use Rattle.std.specs.List.{slice_get};
 ghost use Rattle.smk_flow.specs.declared.job.Job.{Job as JobValue};
-ghost use Rattle.smk_live.specs.Closing.{or_old, merged, all_kept};
+ghost use Rattle.smk_live.specs.Closing.{or_old, merged, put_in, all_kept};
 ghost use Rattle.smk_live.specs.Lives.{IsLive};
 ghost use Rattle.smk_live.specs.Closed.{IsNext, HasClosed};
 
@@ -97,18 +97,29 @@ fn merged_forced(
     Ok(found)
 }
 
+// Puts the new element in, where there is one.
+fn put_at<T: Drop>(all: &mut Vec<T>, at: usize, news: Option<T>)
+    requires { at < length all.old.items }
+    ensures { all.new.items ≡ put_in all.old.items at news }
+{
+    match news {
+        None => (),
+        Some(fresh) => {
+            all[at] = fresh;
+        }
+    }
+}
+
 // Puts the new elements in.
-#[tactic(auto, using(crate::proofs::Merged::merged_none, crate::proofs::Merged::merged_last, crate::proofs::Merged::merged_old))]
+#[tactic(auto, using(crate::proofs::Merged::merged_put, crate::proofs::Merged::put_length, crate::proofs::Merged::merged_none))]
 fn put_each<T: Drop>(all: &mut Vec<T>, news: Vec<Option<T>>)
     requires { length news.items ≤ length all.old.items }
     ensures { all.new.items ≡ merged all.old.items news.items }
 {
     let mut left = news;
     'items: while let Some(fresh) = left.pop() {
-        if let Some(fresh) = fresh {
-            let at = left.len();
-            all[at] = fresh;
-        }
+        let at = left.len();
+        put_at(all, at, fresh);
     }
 }
 

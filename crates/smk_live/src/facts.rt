@@ -51,12 +51,7 @@ fn made_at<'e>(outs: &[Out], entries: &'e [Entry], path: &PathText) -> Option<&'
 }
 
 // The stamp of the path by the new entries, or else this one.
-fn stamp_at(
-    outs: &[Out],
-    entries: &[Entry],
-    path: &PathText,
-    stamp: Option<Stamp>,
-) -> Option<Stamp>
+fn stamp_at(outs: &[Out], entries: &[Entry], path: &PathText, stamp: Option<Stamp>) -> Option<Stamp>
     ensures { result ≡ stamp_or (made_at outs.now entries.now path.now) stamp }
 {
     match made_at(outs, entries, path) {
@@ -88,11 +83,7 @@ fn restamped(
 }
 
 // What the closed job is judged by.
-fn closed_facts(
-    alloc: Global,
-    entries: &[Entry],
-    facts: &JobFacts,
-) -> Result<JobFacts, OutOfMemory>
+fn closed_facts(alloc: Global, entries: &[Entry], facts: &JobFacts) -> Result<JobFacts, OutOfMemory>
     ensures { IfOk result (λ found. found ≡ closed_facts entries.now facts.now) }
 {
     let recipe = facts.recipe.copied(alloc)?;

@@ -47,7 +47,10 @@ pub(crate) fn reasons_again(alloc: Global, reasons: &[Reason]) -> Result<List<Re
 }
 
 /// A copy of the reasons of each job.
-pub(crate) fn all_again(alloc: Global, reasons: &[List<Reason>]) -> Result<List<List<Reason>>, OutOfMemory>
+pub(crate) fn all_again(
+    alloc: Global,
+    reasons: &[List<Reason>],
+) -> Result<List<List<Reason>>, OutOfMemory>
     ensures { IfOk result (λ copy. copy ≡ reasons.now) }
 {
     let mut copy = List::new(alloc);

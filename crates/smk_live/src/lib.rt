@@ -9,6 +9,7 @@ mod live;
 mod new;
 mod outs;
 mod phase;
+mod readers;
 mod same;
 mod standing;
 mod whole;

@@ -2,7 +2,6 @@
 
 ghost use Rattle.std.specs.Prelude.{◌≡◌, ◌≢◌, [], true, map, IfOk, IfErr, None};
 ghost use Rattle.smk_store.specs.Images.{Image};
-ghost use Rattle.smk_plan.specs.States.{HasStates};
 ghost use Rattle.smk_planning.specs.Plans.{Agree, IsRefused};
 ghost use Rattle.smk_live.specs.Lives.{IsLive, IsOf, HasLive};
 
@@ -69,6 +68,7 @@ fn kept<Rt: Threads + Sync>(
     ensures seen { IfOk result (λ p. (p.store ≡ store) × ((p.seen ≡ seen) × (p.late.items ≡ map (λ j. None) jobs.jobs))) }
     ensures fresh { IfOk result (λ p. p.fresh ≡ true) }
     ensures so { IfOk result (λ p. (image : Image) → Agree image jobs store seen settings.targets → IsOf image p) }
+    ensures states { IfOk result (λ p. (image : Image) → Agree image jobs store seen settings.targets → HasLive p image) }
 {
     let ran = List::new(alloc);
     let judged = facts(alloc, &jobs, &store, &seen, &settings, &ran)?;

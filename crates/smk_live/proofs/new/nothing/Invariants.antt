@@ -1,6 +1,5 @@
 use Rattle.std.proofs.Common.{◌≡◌, map, take, None}
 use Rattle.smk_flow.specs.declared.job.Job.{Job}
-
 use Rattle.smk_live.proofs.new.nothing.Given as goal
 
 abbrev pub invariant-loop-_job : goal.invariant-loop-_job

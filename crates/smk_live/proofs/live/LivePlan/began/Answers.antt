@@ -1,4 +1,0 @@
-use Rattle.smk_live.proofs.live.LivePlan.began.Goals as goal
-
-pub returns-clause-live : goal.returns-clause-live
-returns-clause-live c = ?
