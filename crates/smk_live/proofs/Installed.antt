@@ -145,6 +145,17 @@ module _ (old new : LivePlan) (live : IsLive old) (n : ℕ) (j : Job) (entries :
       either (inl f) = inl f
       either (inr s) = inr (put.states ∙ s)
 
+some_same : {A : Type 0} (x y : A) → Some x ≡ Some y → x ≡ y
+some_same x y e = cc
+
+-- the same of the job that has the number
+pub closed_as :
+    (old new : LivePlan) (live : IsLive old) (n : ℕ) (j k : Job) (entries : List Entry) (sights : List Sight) (next : Next) (came : Late) →
+    IsNext n k entries sights old next → HasInstalled n next came old new → came ≡ record { entries = entries; sights = sights } →
+    slice_get old.jobs.jobs n ≡ Some k → slice_get old.jobs.jobs n ≡ Some j → HasClosed n j entries sights old new
+closed_as old new live n j k entries sights next came nexts put e at k_at =
+    closed_so old new live n j entries sights next came (subst (λ x. IsNext n x entries sights old next) (some_same k j (sym at ∙ k_at)) nexts) put e
+
 -- what is put in has room
 pub facts_fit :
     (old : LivePlan) (n : ℕ) (j : Job) (entries : List Entry) (sights : List Sight) (next : Next) → IsNext n j entries sights old next →

@@ -145,6 +145,14 @@ fn all_kept(phases: &[Phase], states: &[State], others: &[State]) -> bool
     true
 }
 
+// The job of the number.
+fn job_at(jobs: &[Job], number: usize) -> &Job
+    requires { number < length jobs.now }
+    ensures { slice_get jobs.now number ≡ Some result.now }
+{
+    &jobs[number]
+}
+
 impl LivePlan {
     // What is new once the job is closed.
     fn next<J: Judge>(
@@ -245,7 +253,7 @@ impl LivePlan {
         ensures err { OnErr result (self.new ≡ self.old) }
     {
         let number = job as usize;
-        let closed = &self.jobs.jobs.as_slice()[number];
+        let closed = job_at(self.jobs.jobs.as_slice(), number);
         let next = self.next(
             alloc,
             number,
