@@ -13,3 +13,6 @@ mod Covering
 mod Wholes
 mod Placed
 pub mod Picked
+pub mod Indexed
+pub mod Tried
+pub mod Kept

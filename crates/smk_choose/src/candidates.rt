@@ -1,15 +1,17 @@
 //! The jobs that may make a path.
 
 ghost use Rattle.std.specs.Prelude.{◌≡◌, ◌<◌, ◌&&◌, ◌++◌, ◌∷◌, [], filter, not, map, take, length, slice_index, option_map, IfOk, OnOk};
-ghost use Rattle.std.specs.List.{list_all};
+ghost use Rattle.std.specs.List.{flat_map, list_all};
 ghost use Rattle.smk_base.specs.Path.{is_path};
 ghost use Rattle.smk_world.specs.World.{folders_above};
 ghost use Rattle.smk_flow.specs.PatternsOf.{rule_of};
 ghost use Rattle.smk_choose.specs.Choose.{candidates};
 ghost use Rattle.smk_choose.specs.Told.{told_by, making};
-ghost use Rattle.smk_choose.specs.Readings.{reading_of, is_apart_by, first_bound, filled_by, folder_at, by_folder, by_folders, members_from, outputs_from, or_others, is_free};
+ghost use Rattle.smk_choose.specs.Index.{directories_at, outputs_at, IsIndex, AreFolders, AreReadings};
+ghost use Rattle.smk_choose.specs.Readings.{is_apart_by, first_bound, filled_by, folder_at, by_folder, by_folders, members_from, outputs_from, or_others, is_free};
 
 use crate::binding::by_name;
+use crate::index::{Index, Readings};
 use crate::readings::Reading;
 use crate::{Making, Sources};
 use smk_base::{OutOfMemory, PathFault, PathText, Text};
@@ -110,59 +112,114 @@ fn add_by_folders(
     Ok(())
 }
 
-// The jobs of which the path would be a member.
-fn members(alloc: Global, readings: &[Reading], path: &PathText) -> Result<Vec<Making>, OutOfMemory>
-    requires { length readings.now < 4294967296 }
-    ensures { IfOk result (λ found. found.items ≡ members_from 0 readings.now (folders_above path.now)) }
+// Adds the jobs of the rule with this number that make one of these folders.
+fn add_members(
+    alloc: Global,
+    found: &mut Vec<Making>,
+    readings: &[Reading],
+    number: u32,
+    folders: &[PathText],
+) -> Result<(), OutOfMemory>
+    ensures { OnOk result (found.new.items ≡ found.old.items ++ by_folders number (directories_at readings.now number) folders.now) }
 {
-    let folders = folders_above(alloc, path)?;
+    match readings.get(number as usize) {
+        Some(reading) => add_by_folders(alloc, found, number, reading.folders.as_slice(), folders),
+        None => Ok(()),
+    }
+}
+
+// The jobs of the rules with these numbers that make one of these folders.
+fn members_by(
+    alloc: Global,
+    readings: &[Reading],
+    numbers: &[u32],
+    folders: &[PathText],
+) -> Result<Vec<Making>, OutOfMemory>
+    ensures { IfOk result (λ found. found.items ≡ flat_map (λ n. by_folders n (directories_at readings.now n) folders.now) numbers.now) }
+{
     let mut found = Vec::new(alloc);
-    for (number, reading) in readings.iter().enumerate() {
-        add_by_folders(
-            alloc,
-            &mut found,
-            number as u32,
-            reading.folders.as_slice(),
-            &folders,
-        )?;
+    for number in numbers {
+        add_members(alloc, &mut found, readings, *number, folders)?;
     }
     Ok(found)
 }
 
-// The jobs of which the path would be an output. Each rule is tried for each path, behind the quick refusal of `fits` by the fixed front
-// and end. With hundreds of rules a map from texts without wildcards to their rules, and an index of the others by their fixed
-// fronts, would be better.
-fn by_outputs(alloc: Global, rules: &[Rule], path: &PathText) -> Result<Vec<Making>, OutOfMemory>
-    requires { length rules.now < 4294967296 }
-    ensures { IfOk result (λ found. found.items ≡ outputs_from 0 rules.now path.now) }
+// The jobs of which the path would be a member. Only the rules that make directories are tried.
+fn members(
+    alloc: Global,
+    readings: &[Reading],
+    numbers: &[u32],
+    path: &PathText,
+) -> Result<Vec<Making>, OutOfMemory>
+    requires { AreFolders readings.now numbers.now }
+    ensures { IfOk result (λ found. found.items ≡ members_from 0 readings.now (folders_above path.now)) }
+{
+    let folders = folders_above(alloc, path)?;
+    members_by(alloc, readings, numbers, &folders)
+}
+
+// Adds the job of the rule with this number of which the path would be an output.
+fn add_output(
+    alloc: Global,
+    found: &mut Vec<Making>,
+    rules: &[Rule],
+    number: u32,
+    path: &PathText,
+) -> Result<(), OutOfMemory>
+    ensures { OnOk result (found.new.items ≡ found.old.items ++ by_folder number (outputs_at rules.now number) path.now) }
+{
+    match rules.get(number as usize) {
+        Some(rule) => add_by_folder(alloc, found, number, rule.outputs.as_slice(), path),
+        None => Ok(()),
+    }
+}
+
+// The jobs of the rules with these numbers of which the path would be an output.
+fn outputs_by(
+    alloc: Global,
+    rules: &[Rule],
+    numbers: &[u32],
+    path: &PathText,
+) -> Result<Vec<Making>, OutOfMemory>
+    ensures { IfOk result (λ found. found.items ≡ flat_map (λ n. by_folder n (outputs_at rules.now n) path.now) numbers.now) }
 {
     let mut found = Vec::new(alloc);
-    for (number, rule) in rules.iter().enumerate() {
-        if let Some(binding) = first_fit(alloc, rule.outputs.as_slice(), path)? {
-            found.push(Making {
-                rule: number as u32,
-                binding,
-            })?;
-        }
+    for number in numbers {
+        add_output(alloc, &mut found, rules, *number, path)?;
     }
     Ok(found)
+}
+
+// The jobs of which the path would be an output. Rules whose outputs have no wildcards are found by the path's text; those that have an
+// output with wildcards are tried for each path, behind the quick refusal of `fits` by the fixed front and end.
+fn by_outputs(
+    alloc: Global,
+    rules: &[Rule],
+    index: &Index,
+    path: &PathText,
+) -> Result<Vec<Making>, OutOfMemory>
+    requires { IsIndex rules.now index.now }
+    ensures { IfOk result (λ found. found.items ≡ outputs_from 0 rules.now path.now) }
+{
+    let numbers = index.tried(alloc, path)?;
+    outputs_by(alloc, rules, numbers.as_slice(), path)
 }
 
 // The jobs that may make the path, those of its directories before all others.
 pub(crate) fn makings(
     alloc: Global,
     rules: &[Rule],
-    readings: &[Reading],
+    readings: &Readings,
     path: &PathText,
 ) -> Result<Vec<Making>, OutOfMemory>
-    requires rules { length rules.now < 4294967296 }
-    requires readings { length readings.now < 4294967296 }
+    requires folders { AreFolders readings.now.rules.items readings.now.folders }
+    requires outputs { IsIndex rules.now readings.now.index }
     ensures { IfOk result (λ found. found.items
-        ≡ or_others (members_from 0 readings.now (folders_above path.now)) (outputs_from 0 rules.now path.now)) }
+        ≡ or_others (members_from 0 readings.now.rules.items (folders_above path.now)) (outputs_from 0 rules.now path.now)) }
 {
-    let found = members(alloc, readings, path)?;
+    let found = members(alloc, &readings.rules, readings.folders.as_slice(), path)?;
     if found.is_empty() {
-        return by_outputs(alloc, rules, path);
+        return by_outputs(alloc, rules, &readings.index, path);
     }
     Ok(found)
 }
@@ -278,11 +335,11 @@ pub(crate) fn all_apart(
 pub(crate) fn candidates(
     alloc: Global,
     flow: &Workflow,
-    readings: &[Reading],
+    readings: &Readings,
     sources: &Sources,
     path: &PathText,
 ) -> Result<Vec<Making>, OutOfMemory>
-    requires { readings.now ≡ map (reading_of flow.now) flow.now.rules }
+    requires { AreReadings flow.now readings.now }
     ensures { IfOk result (λ found. found.items ≡ map making (candidates flow.now (told_by sources.now) path.now)) }
 {
     let rules = flow.rules().as_slice();

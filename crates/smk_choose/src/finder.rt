@@ -8,17 +8,17 @@ ghost use Rattle.smk_choose.specs.Readings.{filled_by};
 ghost use Rattle.smk_choose.specs.Finding.{IsFinder, places_by};
 
 use crate::candidates::{all_apart, filled, makings};
-use crate::readings::{Reading, readings};
+use crate::index::{Readings, read};
 use crate::{Making, Sources};
 use smk_base::{List, OutOfMemory, PathText, Text};
 use smk_flow::{Rule, Workflow};
 use smk_pattern::{Binding, Pattern};
 use std::alloc::Global;
 
-/// What is read of each rule of a workflow, so that the jobs that may make a path are found for many paths.
+/// What is read of each rule of a workflow, and an index of the rules by their outputs, so that the jobs that may make a path are found for many paths.
 #[derive(Debug, Drop)]
 pub struct Finder {
-    readings: Vec<Reading>,
+    readings: Readings,
 }
 
 impl Finder {
@@ -26,7 +26,7 @@ impl Finder {
     pub fn new(alloc: Global, flow: &Workflow) -> Result<Finder, OutOfMemory>
         ensures { IfOk result (λ finder. IsFinder flow.now finder) }
     {
-        let readings = readings(alloc, flow)?;
+        let readings = read(alloc, flow)?;
         Ok(Finder { readings })
     }
 

@@ -7,6 +7,7 @@ mod choice;
 mod decide;
 mod finder;
 mod heights;
+mod index;
 mod nodes;
 mod precedence;
 mod reach;

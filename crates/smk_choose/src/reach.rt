@@ -7,12 +7,14 @@ ghost use Rattle.smk_flow.specs.Flows.{Flow};
 ghost use Rattle.smk_choose.specs.Choose.{Sources as Known, avail};
 ghost use Rattle.smk_choose.specs.Heights.{is_within, height_at};
 ghost use Rattle.smk_choose.specs.Told.{told_by, making};
-ghost use Rattle.smk_choose.specs.Readings.{reading_of, filled_by};
+ghost use Rattle.smk_choose.specs.Index.{AreReadings};
+ghost use Rattle.smk_choose.specs.Readings.{filled_by};
 ghost use Rattle.smk_choose.specs.declared.nodes.Want.{Want};
 ghost use Rattle.smk_choose.specs.Reach.{AreNumbered, Grows, HasNumber, Within, path_at, IsWant, AreWants, shapes_in, IsMade, AreMade, IsNode, AreNodes, AreFlagged, Spans};
 
 use crate::candidates::{candidates, filled};
 use crate::heights::least_heights;
+use crate::index::Readings;
 use crate::nodes::{Node, Want, Way};
 use crate::readings::Reading;
 use crate::{Making, Sources};
@@ -144,13 +146,13 @@ fn ways(
 fn node(
     alloc: Global,
     flow: &Workflow,
-    readings: &[Reading],
+    readings: &Readings,
     sources: &Sources,
     reach: &mut Reach,
     path: &PathText,
 ) -> Result<Node, OutOfMemory>
     requires numbered { AreNumbered reach.old }
-    requires readings { readings.now ≡ map (reading_of flow.now) flow.now.rules }
+    requires readings { AreReadings flow.now readings.now }
     ensures numbered { OnOk result (AreNumbered reach.new) }
     ensures grows { OnOk result (Grows reach.old reach.new) }
     ensures nodes { OnOk result (reach.new.nodes ≡ reach.old.nodes) }
@@ -163,7 +165,7 @@ fn node(
         });
     }
     let found = candidates(alloc, flow, readings, sources, path)?;
-    let ways = ways(alloc, reach, readings, found)?;
+    let ways = ways(alloc, reach, &readings.rules, found)?;
     Ok(Node {
         source: false,
         ways,
@@ -175,12 +177,12 @@ fn node(
 fn add_node(
     alloc: Global,
     flow: &Workflow,
-    readings: &[Reading],
+    readings: &Readings,
     sources: &Sources,
     reach: &mut Reach,
 ) -> Result<(), OutOfMemory>
     requires numbered { AreNumbered reach.old }
-    requires readings { readings.now ≡ map (reading_of flow.now) flow.now.rules }
+    requires readings { AreReadings flow.now readings.now }
     requires left { length reach.old.nodes.items < length reach.old.paths.items }
     requires known { AreNodes flow.now (told_by sources.now) reach.old }
     ensures numbered { OnOk result (AreNumbered reach.new) }
@@ -199,13 +201,13 @@ fn add_node(
 fn add_nodes(
     alloc: Global,
     flow: &Workflow,
-    readings: &[Reading],
+    readings: &Readings,
     sources: &Sources,
     reach: &mut Reach,
     end: usize,
 ) -> Result<(), OutOfMemory>
     requires numbered { AreNumbered reach.old }
-    requires readings { readings.now ≡ map (reading_of flow.now) flow.now.rules }
+    requires readings { AreReadings flow.now readings.now }
     requires within { end ≤ length reach.old.paths.items }
     requires known { AreNodes flow.now (told_by sources.now) reach.old }
     ensures numbered { OnOk result (AreNumbered reach.new) }
@@ -248,13 +250,13 @@ fn add_last(
 pub(crate) fn expand(
     alloc: Global,
     flow: &Workflow,
-    readings: &[Reading],
+    readings: &Readings,
     sources: &Sources,
     reach: &mut Reach,
     levels: u32,
 ) -> Result<(), OutOfMemory>
     requires numbered { AreNumbered reach.old }
-    requires readings { readings.now ≡ map (reading_of flow.now) flow.now.rules }
+    requires readings { AreReadings flow.now readings.now }
     requires known { AreNodes flow.now (told_by sources.now) reach.old }
     ensures numbered { OnOk result (AreNumbered reach.new) }
     ensures grows { OnOk result (Grows reach.old reach.new) }
@@ -275,13 +277,13 @@ pub(crate) fn expand(
 pub(crate) fn deepen(
     alloc: Global,
     flow: &Workflow,
-    readings: &[Reading],
+    readings: &Readings,
     sources: &Sources,
     reach: &mut Reach,
     levels: u32,
 ) -> Result<usize, OutOfMemory>
     requires numbered { AreNumbered reach.old }
-    requires readings { readings.now ≡ map (reading_of flow.now) flow.now.rules }
+    requires readings { AreReadings flow.now readings.now }
     requires known { AreNodes flow.now (told_by sources.now) reach.old }
     ensures numbered { OnOk result (AreNumbered reach.new) }
     ensures grows { OnOk result (Grows reach.old reach.new) }

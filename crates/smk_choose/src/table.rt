@@ -11,8 +11,8 @@ ghost use Rattle.smk_choose.specs.Decided.{is_deep_enough, chosen_by};
 ghost use Rattle.smk_choose.specs.Told.{told_by, choice_of, CoversAll};
 
 use crate::decide::chosen;
+use crate::index::read;
 use crate::reach::{Reach, deepen, depths, start};
-use crate::readings::readings;
 use crate::{Chosen, Sources};
 use smk_base::{List, OutOfMemory, PathText};
 use smk_flow::Workflow;
@@ -81,7 +81,7 @@ impl Choices {
     ) -> Result<Choices, OutOfMemory>
         ensures { IfOk result (λ made. CoversAll flow.now (told_by sources.now) made 201 paths.now) }
     {
-        let readings = readings(alloc, flow)?;
+        let readings = read(alloc, flow)?;
         let mut reach = start(alloc, paths.as_slice())?;
         let end = deepen(alloc, flow, &readings, sources, &mut reach, 200)?;
         let heights = depths(alloc, &reach)?;

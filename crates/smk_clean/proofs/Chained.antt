@@ -1,5 +1,5 @@
 -- Chains of plans of plain jobs have one plan; so what refuses one of them is all that does.
-use Rattle.std.proofs.Common.{◌≡◌, inl, inr, List, [], ◌∷◌, ◌++◌, map, flat_map, filter, ap, sym, subst, ◌∙◌, bytes_eq, None, is_none, ◌&&◌}
+use Rattle.std.proofs.Common.{◌≡◌, inl, inr, List, [], ◌∷◌, ◌++◌, map, flat_map, filter, refl, ap, sym, subst, ◌∙◌, bytes_eq, None, is_none, ◌&&◌}
 use Rattle.smk_world.specs.World.{World, IsFormed, in_paths}
 use Rattle.smk_world.specs.Trees.{Path, IsIn}
 use Rattle.smk_flow.specs.declared.job.Job.{Job}
@@ -64,6 +64,11 @@ module _ (o : Outside) (w : World) (formed : IsFormed w) (rules : Rules) (built 
       ap (λ l. distinct bytes_eq (l ++ flat_map (directory_over plan) rules.settings.targets)) (flat_none (awaits plan) plan.jobs each)
       ∙ ap (distinct bytes_eq) (flat_none (directory_over plan) rules.settings.targets (λ q k. over q)) in
       ap (λ ds. map (λ d. record { folder = d; files = files_listed image d }) (filter (λ d. is_ready image rules.settings nothing_done plan d && is_none (listing plan.lists d)) ds)) none
+
+  -- the last plan has the listings that the chain begins with
+  pub lists_stay : (L : Listings) (plan : Plan) → LastPlan rules.flow image rules.settings nothing_done L plan → plan.lists ≡ L
+  lists_stay L plan (Last _ is none) = refl
+  lists_stay L plan (Then first _ is more rest) = absurd (more (none_new first is))
 
   same_plan : (a b : Plan) → IsOf a → IsOf b → a.lists ≡ b.lists → a ≡ b
   same_plan a b ia ib e = one_plan rules.flow image rules.settings nothing_done a b (seen_is_complete o.read w formed) ia ib e

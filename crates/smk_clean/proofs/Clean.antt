@@ -1,7 +1,7 @@
 -- A run that ends without a fault leaves clean values.
 use Rattle.std.proofs.Common.{◌≡◌, inl, inr, ℕ, suc, Bool, true, false, List, [], ◌∷◌, ◌++◌, flat_map, map, zip, length, arith, refl, ap, sym, subst, ◌∙◌, Option, Some, None, Result, Ok, Err, is_none, if◌then◌else◌}
 use Rattle.std.proofs.lemmas.List.{append-nil, length-map}
-use Rattle.smk_world.specs.World.{World, run}
+use Rattle.smk_world.specs.World.{World, IsFormed, run}
 use Rattle.smk_world.specs.Calls.{Rose}
 use Rattle.smk_world.specs.Runs.{Did}
 use Rattle.smk_world.specs.Trees.{Each, IsIn}
@@ -39,6 +39,7 @@ use Rattle.smk_run.specs.Reports.{failure, named}
 use Rattle.smk_run.specs.Runs.{IsOutcome as IsRunOutcome, course_failure, first_failure, or_later}
 use Rattle.smk_run.specs.Turns.{Course, Unbegun, Unstarted, Unclosed, Closed, Turn, AreTurns, is_closed, is_done}
 use Rattle.smk_asked.specs.declared.words.RunWords.{RunWords}
+use Rattle.smk_asked.specs.declared.words.Request.TheVariants.{Run as Asks}
 use Rattle.smk_entry.specs.declared.asking.Asked.{Asked}
 use Rattle.smk_entry.specs.Forms.{unbuilt}
 use Rattle.smk_make.specs.Closing.{verdict_of}
@@ -47,17 +48,18 @@ use Rattle.smk_make.specs.Making.{AreWhatIsMeant, Concludes, GoesOn, NotFirm, No
 use Rattle.smk_preview.specs.declared.previewing.Previewed.{Previewed}
 use Rattle.smk_preview.specs.Previewing.{plan_of, rules_for}
 use Rattle.smk_serve.specs.Serving.{HasKept, IsAtHand, Went, Refused, Stopped, Worked, settings_of}
-use Rattle.smk_cli.specs.Whole.{IsRefusal, IsToServe}
+use Rattle.smk_cli.specs.Whole.{HasServed, IsRefusal, IsToServe}
 use Rattle.smk_safe.specs.Planned.{IsPlain, IsFit}
 use Rattle.smk_safe.specs.Safe.{IsSafeRun}
 use Rattle.smk_safe.proofs.Images.{sources_now}
 use Rattle.smk_safe.proofs.Planned.{all_shut}
 use Rattle.smk_safe.proofs.Stored.{is_top}
-use Rattle.smk_exit.specs.Exit.{RunLeavesAllClean, IsAllClean, IsDueRun, all_clean}
-use Rattle.smk_clean.specs.Safe.{turns_made, turns_went}
+use Rattle.smk_exit.specs.Exit.{RunLeavesAllClean, IsAllClean, IsDueRun, all_clean, begun_so}
 use Rattle.smk_clean.specs.Clean.{HasMadeClean, CallIsClean, setting_in}
-use Rattle.smk_clean.proofs.Chained.{none_new}
+use Rattle.smk_clean.specs.Again.{HasNoneLeft, CallLeavesNone}
+use Rattle.smk_clean.proofs.Chained.{lists_stay, none_new}
 use Rattle.smk_clean.proofs.Firsts.{firsts_same}
+use Rattle.smk_clean.proofs.Fit.{all_fit}
 use Rattle.smk_clean.proofs.Meant.{all_plain, asked_built, duties_meant, is_plan, makers_told}
 use Rattle.smk_clean.proofs.Plain.{each_from}
 use Rattle.smk_clean.proofs.Safe.{Answer, IsTurnRun, no_fault, ok_err, started, turns_run, turns_safe}
@@ -152,6 +154,12 @@ fields_there rules image plan same shut each none j i =
 
 -- ## The exit
 
+-- what is so after status 0
+pub record HasEndedWell (o : Outside) (words : RunWords) (w v : World) : Type 0 where
+  pub clean : HasMadeClean o words w v
+  pub none_left : HasNoneLeft o words w v
+  pub formed : IsFormed v
+
 module _ (exit : RunLeavesAllClean) (o : Outside) (H : Versions) (w : World) (sound : SoundWorld o w H) (hand : IsAtHand o.read w) (words : RunWords) (asked : Asked) (told : Previewed)
     (to_serve : IsToServe o.read true words.targets words.cores w asked told) where
   abbrev plan : Plan
@@ -216,9 +224,23 @@ module _ (exit : RunLeavesAllClean) (o : Outside) (H : Versions) (w : World) (so
     sources_stay : SameSources (seen o.read w) (seen o.read end)
     sources_stay = sources_now o w end H sound_end (safe.throughout r.es [] (sym (append-nil r.es)))
 
+    clean : IsAllClean asked.flow (seen o.read end) settings plan
+    clean = exit o w H asked.flow settings plan ts r.es ran refl (record { all = all_is; done = all.done })
+
+    none_left : HasNoneLeft o words w end
+    none_left =
+        let same : plan.lists ≡ [] = lists_stay o w sound.formed rules all_built [] plan to_serve.plan.last in
+        record {
+          asked = asked;
+          is_asked = to_serve.is_asked;
+          plan = all_clean plan;
+          last = λ begun. subst (λ L. LastPlan asked.flow (seen o.read end) settings (begun_so begun) L (all_clean plan)) same (clean.last begun);
+          clean = refl;
+          current = clean.current;
+        }
+
     made_clean : HasMadeClean o words w end
     made_clean =
-        let clean : IsAllClean asked.flow (seen o.read end) settings plan = exit o w H asked.flow settings plan ts r.es ran refl (record { all = all_is; done = all.done }) in
         let last : LastPlan asked.flow (seen o.read end) settings nothing_done plan.lists (all_clean plan) =
         Last (all_clean plan) (clean.planned []) (none_new o end sound_end.formed rules all_built (all_clean plan) (clean.planned [])) in
         record {
@@ -240,31 +262,45 @@ module _ (exit : RunLeavesAllClean) (o : Outside) (H : Versions) (w : World) (so
   goes_clean :
       (u : Unit {0}) (v : World) (looked firm : Option World) (rose : Type 0) (running : List ℕ) (p q : Option Text) (r : Result (Unit {0}) StoreFault) →
       HasKept o.act (Some w) looked → Did o.act looked firm (λ u es. HasTried (steady_requests told.store) r es) →
-      (g : GoesOn o.act asked.flow words.cores asked.targets told.jobs told.plan.states told.store (Ok u) firm (Some v) rose running p q r) → Each IsFit (turns_made g) → HasMadeClean o words w v
-  goes_clean u v looked firm rose running p q r kept settling (NotFirm f is same unput) fit = absurd (ok_err u (of_store f) is)
-  goes_clean u v looked firm rose running p q r kept settling (NoMemory t is same unput) fit = absurd (ok_err u fault.OutOfMemory is)
-  goes_clean u v looked firm rose running p q r kept settling (Made t duties for meant made) fit =
+      (g : GoesOn o.act asked.flow words.cores asked.targets told.jobs told.plan.states told.store (Ok u) firm (Some v) rose running p q r) → HasEndedWell o words w v
+  goes_clean u v looked firm rose running p q r kept settling (NotFirm f is same unput) = absurd (ok_err u (of_store f) is)
+  goes_clean u v looked firm rose running p q r kept settling (NoMemory t is same unput) = absurd (ok_err u fault.OutOfMemory is)
+  goes_clean u v looked firm rose running p q r kept settling (Made t duties for meant made) =
       let d = made.did v refl in
       let start = started o H w sound d.0 looked firm (HasTried (steady_requests told.store) (Ok t)) kept settling d.1 in
       let run_is =
       turns_run o H w sound hand words.targets asked words.cores told to_serve t d.0 v duties made.turns start made.in_order
       (subst (λ y. Did o.act y (Some v) (AreTurns (serials told.jobs.makers (next_serial told.store) duties) made.turns)) d.1 made.did) in
-      subst (HasMadeClean o words w) (sym run_is.is)
-      (made_clean v duties made.turns meant fit run_is (all_turns u asked.flow (due (next_serial told.store) duties told.jobs.jobs) made.turns made.failed made.ended made.answer made.concluded))
+      let fit = all_fit made.turns made.fits in
+      let all = all_turns u asked.flow (due (next_serial told.store) duties told.jobs.jobs) made.turns made.failed made.ended made.answer made.concluded in
+      subst (HasEndedWell o words w) (sym run_is.is) (record {
+        clean = made_clean v duties made.turns meant fit run_is all;
+        none_left = none_left v duties made.turns meant fit run_is all;
+        formed = (sound_end v duties made.turns meant fit run_is all).formed;
+      })
 
 module _ (exit : RunLeavesAllClean) (o : Outside) (H : Versions) (w : World) (sound : SoundWorld o w H) (hand : IsAtHand o.read w) (words : RunWords) where
   went_clean :
       (u : Unit {0}) (answer : Answer) (v : World) (rose : Type 0) (running : List ℕ) (p q : Option Text) → answer ≡ Ok u →
       (h : Went o.act words.cores answer (IsRefusal o.read true words.targets words.cores w) (IsToServe o.read true words.targets words.cores w) (Some w) (Some v) rose running p q) →
-      Each IsFit (turns_went h) → HasMadeClean o words w v
-  went_clean u (Err g) v rose running p q e h fit = absurd (ok_err u g (sym e))
-  went_clean u (Ok t) v rose running p q e (Refused f is why looked) fit = absurd (ok_err t f is)
-  went_clean u (Ok t) v rose running p q e (Stopped f is want looked) fit = absurd (ok_err t f is)
-  went_clean u (Ok t) v rose running p q e (Worked asked told plans worked) fit =
-      goes_clean exit o H w sound hand words asked told plans t v worked.looked worked.carried.firm rose running p q worked.carried.settled worked.looking worked.carried.settling worked.carried.goes_on fit
+      HasEndedWell o words w v
+  went_clean u (Err g) v rose running p q e h = absurd (ok_err u g (sym e))
+  went_clean u (Ok t) v rose running p q e (Refused f is why looked) = absurd (ok_err t f is)
+  went_clean u (Ok t) v rose running p q e (Stopped f is want looked) = absurd (ok_err t f is)
+  went_clean u (Ok t) v rose running p q e (Worked asked told plans worked) =
+      goes_clean exit o H w sound hand words asked told plans t v worked.looked worked.carried.firm rose running p q worked.carried.settled worked.looking worked.carried.settling worked.carried.goes_on
 
--- by what a run leaves
-pub call_is_clean : RunLeavesAllClean → CallIsClean
-call_is_clean exit o H words told w v before after running p q hand sound served fit none =
-    let a = no_fault served.answer told served.told_is none in
-    went_clean exit o H w sound hand words a.0 served.answer v (Rose before after) running p q a.1 served.serves fit
+module _ (exit : RunLeavesAllClean) where
+  -- by what a run leaves
+  pub ended_well :
+      (o : Outside) (H : Versions) (words : RunWords) (told : Option Fault) (w v : World) (before after : ℕ) (running : List ℕ) (p q : Option Text) →
+      IsAtHand o.read w → SoundWorld o w H → HasServed o.act o.read (Asks words) w told (Some w) (Some v) (Rose before after) running p q → told ≡ None → HasEndedWell o words w v
+  ended_well o H words told w v before after running p q hand sound served none =
+      let a = no_fault served.answer told served.told_is none in
+      went_clean exit o H w sound hand words a.0 served.answer v (Rose before after) running p q a.1 served.serves
+
+  pub call_is_clean : CallIsClean
+  call_is_clean o H words told w v before after running p q hand sound served none = (ended_well o H words told w v before after running p q hand sound served none).clean
+
+  pub call_leaves_none : CallLeavesNone
+  call_leaves_none o H words told w v before after running p q hand sound served none = (ended_well o H words told w v before after running p q hand sound served none).none_left

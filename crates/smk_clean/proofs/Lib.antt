@@ -3,8 +3,10 @@ pub mod Plain
 pub mod Told
 pub mod Firsts
 pub mod Meant
+pub mod Fit
 pub mod Safe
 pub mod Asking
 pub mod Chained
 pub mod Standing
 pub mod Clean
+pub mod Again

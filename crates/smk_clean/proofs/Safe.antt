@@ -63,8 +63,9 @@ use Rattle.smk_safe.proofs.Joining.{AreLooks, look_all, looks_same}
 use Rattle.smk_safe.proofs.Safe.{front}
 use Rattle.smk_safe.proofs.Stored.{fold_holds, is_top, signs_are_all}
 use Rattle.smk_dues.proofs.Dues.{due_run_is_safe}
-use Rattle.smk_clean.specs.Safe.{CallIsSafe, IsSafeCall, turns_in, turns_made, turns_went}
+use Rattle.smk_clean.specs.Safe.{CallIsSafe, IsSafeCall}
 use Rattle.smk_clean.proofs.Firsts.{firsts_same}
+use Rattle.smk_clean.proofs.Fit.{all_fit}
 use Rattle.smk_clean.proofs.Meant.{all_plain, asked_built, duties_meant, is_plan, makers_told}
 
 abbrev pub Answer : Type 0
@@ -318,16 +319,16 @@ module _ (o : Outside) (H : Versions) (w : World) (sound : SoundWorld o w H) whe
     goes_safe :
         (answer : Answer) (v : World) (looked firm : Option World) (rose : Type 0) (running : List ℕ) (p q : Option Text) (r : Result (Unit {0}) StoreFault) →
         HasKept o.act (Some w) looked → Did o.act looked firm (λ u es. HasTried (steady_requests told.store) r es) →
-        (g : GoesOn o.act asked.flow cores asked.targets told.jobs told.plan.states told.store answer firm (Some v) rose running p q r) → Each IsFit (turns_made g) → Safely answer v
-    goes_safe answer v looked firm rose running p q r kept settling (NotFirm f is same unput) fit =
+        (g : GoesOn o.act asked.flow cores asked.targets told.jobs told.plan.states told.store answer firm (Some v) rose running p q r) → Safely answer v
+    goes_safe answer v looked firm rose running p q r kept settling (NotFirm f is same unput) =
         begun_safe answer v told.store (Err f) (λ u e. ok_err u (of_store f) (sym e ∙ is)) (started v looked firm (HasTried (steady_requests told.store) (Err f)) kept settling (sym same))
-    goes_safe answer v looked firm rose running p q r kept settling (NoMemory u is same unput) fit =
+    goes_safe answer v looked firm rose running p q r kept settling (NoMemory u is same unput) =
         begun_safe answer v told.store (Ok u) (λ t e. ok_err t fault.OutOfMemory (sym e ∙ is)) (started v looked firm (HasTried (steady_requests told.store) (Ok u)) kept settling (sym same))
-    goes_safe answer v looked firm rose running p q r kept settling (Made u duties for meant made) fit =
+    goes_safe answer v looked firm rose running p q r kept settling (Made u duties for meant made) =
         let d = made.did v refl in
         let start = started d.0 looked firm (HasTried (steady_requests told.store) (Ok u)) kept settling d.1 in
         let r = turns_run u d.0 v duties made.turns start made.in_order (subst (λ y. Did o.act y (Some v) (AreTurns (serials told.jobs.makers (next_serial told.store) duties) made.turns)) d.1 made.did) in
-        let safe = turns_safe v duties made.turns meant fit r in (
+        let safe = turns_safe v duties made.turns meant (all_fit made.turns made.fits) r in (
           r.es,
           r.follows,
           r.is,
@@ -338,17 +339,17 @@ module _ (o : Outside) (H : Versions) (w : World) (sound : SoundWorld o w H) whe
 
   went_safe :
       (hand : IsAtHand o.read w) (words : List Text) (cores : ℕ) (answer : Answer) (v : World) (rose : Type 0) (running : List ℕ) (p q : Option Text)
-      (h : Went o.act cores answer (IsRefusal o.read true words cores w) (IsToServe o.read true words cores w) (Some w) (Some v) rose running p q) → Each IsFit (turns_went h) → Safely answer v
-  went_safe hand words cores answer v rose running p q (Refused f is why looked) fit = kept_safe answer v looked.kept
-  went_safe hand words cores answer v rose running p q (Stopped f is want looked) fit = kept_safe answer v looked.kept
-  went_safe hand words cores answer v rose running p q (Worked asked told plans worked) fit =
-      goes_safe hand words asked cores told plans answer v worked.looked worked.carried.firm rose running p q worked.carried.settled worked.looking worked.carried.settling worked.carried.goes_on fit
+      (h : Went o.act cores answer (IsRefusal o.read true words cores w) (IsToServe o.read true words cores w) (Some w) (Some v) rose running p q) → Safely answer v
+  went_safe hand words cores answer v rose running p q (Refused f is why looked) = kept_safe answer v looked.kept
+  went_safe hand words cores answer v rose running p q (Stopped f is want looked) = kept_safe answer v looked.kept
+  went_safe hand words cores answer v rose running p q (Worked asked told plans worked) =
+      goes_safe hand words asked cores told plans answer v worked.looked worked.carried.firm rose running p q worked.carried.settled worked.looking worked.carried.settling worked.carried.goes_on
 
   serves_safe :
       (hand : IsAtHand o.read w) (request : Asking) (answer : Answer) (v : World) (rose : Type 0) (running : List ℕ) (p q : Option Text)
-      (h : Serves o.act o.read w answer (Some w) (Some v) rose running p q request) → Each IsFit (turns_in o.act o.read w answer (Some w) (Some v) rose running p q request h) → Safely answer v
-  serves_safe hand (Run words) answer v rose running p q h fit = went_safe hand words.targets words.cores answer v rose running p q h fit
-  serves_safe hand (Preview words) answer v rose running p q h fit = kept_safe answer v h.0
+      (h : Serves o.act o.read w answer (Some w) (Some v) rose running p q request) → Safely answer v
+  serves_safe hand (Run words) answer v rose running p q h = went_safe hand words.targets words.cores answer v rose running p q h
+  serves_safe hand (Preview words) answer v rose running p q h = kept_safe answer v h.0
 
 -- the call has no fault only where the answer is none
 pub no_fault : (answer : Answer) (told : Option Fault) → IsOutcome (fault_of answer) told → told ≡ None → (u : Unit {0}) × (answer ≡ Ok u)
@@ -363,6 +364,6 @@ no_fault (Err f) told (inr e) none = absurd (wrong (sym e.1 ∙ none))
     wrong x = cc
 
 pub call_is_safe : CallIsSafe
-call_is_safe o H request told w v before after running p q hand sound served fit =
-    let s = serves_safe o H w sound hand request served.answer v (Rose before after) running p q served.serves fit in
+call_is_safe o H request told w v before after running p q hand sound served =
+    let s = serves_safe o H w sound hand request served.answer v (Rose before after) running p q served.serves in
     (s.0, s.1, s.2, s.3, λ none. let a = no_fault served.answer told served.told_is none in s.4 a.0 a.1)

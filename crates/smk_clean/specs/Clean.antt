@@ -18,8 +18,6 @@ use Rattle.smk_entry.specs.declared.asking.Asked.{Asked}
 use Rattle.smk_entry.specs.Entry.{IsAskedIn}
 use Rattle.smk_serve.specs.Serving.{IsAtHand}
 use Rattle.smk_cli.specs.Whole.{HasServed}
-use Rattle.smk_safe.specs.Planned.{IsFit}
-use Rattle.smk_clean.specs.Safe.{turns_in}
 
 -- what a clean run has of this flow, from the sources that stand in the folder
 abbrev pub setting_in : Outside → World → Flow → Setting
@@ -40,5 +38,4 @@ CallIsClean =
     (put_old put_new : Option Text) →
     IsAtHand o.read w →
     SoundWorld o w H →
-    (served : HasServed o.act o.read (Run words) w told (Some w) (Some v) (Rose faults_old faults_new) running put_old put_new) →
-    Each IsFit (turns_in o.act o.read w served.answer (Some w) (Some v) (Rose faults_old faults_new) running put_old put_new (Run words) served.serves) → told ≡ None → HasMadeClean o words w v
+    HasServed o.act o.read (Run words) w told (Some w) (Some v) (Rose faults_old faults_new) running put_old put_new → told ≡ None → HasMadeClean o words w v

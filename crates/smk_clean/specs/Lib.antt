@@ -1,3 +1,4 @@
 pub mod Safe
 pub mod Standing
 pub mod Clean
+pub mod Again

@@ -1,6 +1,7 @@
 //! Laws of a whole call.
 #![tactic(auto)]
 
+ghost use Rattle.smk_clean.specs.Again.{CallLeavesNone, NextCallTakesNoTurn};
 ghost use Rattle.smk_clean.specs.Clean.{CallIsClean};
 ghost use Rattle.smk_clean.specs.Safe.{CallIsSafe};
 ghost use Rattle.smk_clean.specs.Standing.{PlanRefusalStands, RefusalStands};
@@ -22,4 +23,11 @@ pub fn refusals_stand()
 /// as they were.
 pub fn calls_are_clean()
     ensures { CallIsClean }
+{}
+
+/// Laws of what is left to do after a run that ends without a fault, in a sound folder. The last plan for the same words has each job Clean and each target current, whichever
+/// jobs have begun. And a run with the same words, in the folder that was left, takes no turn, where the words ask for the same of the workflow in it.
+pub fn calls_leave_none()
+    ensures clean { CallLeavesNone }
+    ensures again { NextCallTakesNoTurn }
 {}

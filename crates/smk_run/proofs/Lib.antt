@@ -8,6 +8,7 @@ pub mod Stamping
 pub mod Coming
 pub mod Running
 pub mod Taking
+pub mod Seen
 pub mod Valid
 pub mod Firsts
 pub mod Rising

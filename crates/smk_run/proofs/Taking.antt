@@ -1,16 +1,20 @@
 -- From the stamps and the run of one job to its turn.
-use Rattle.std.proofs.Common.{◌≡◌, ℕ, Bool, true, false, List, [], ◌++◌, refl, ap, sym, subst, ◌∙◌, inl, inr, Option, Result, Ok, Err}
+use Rattle.std.proofs.Common.{◌≡◌, ℕ, Bool, true, false, List, [], ◌++◌, map, refl, ap, sym, subst, ◌∙◌, inl, inr, Option, Result, Ok, Err}
 use Rattle.std.proofs.lemmas.List.{append-nil}
 use Rattle.std.specs.Prelude.{IsSome}
+use Rattle.std.specs.List.{list_all, flat_map}
 use Rattle.smk_world.specs.declared.event.Event.{Event}
-use Rattle.smk_world.specs.World.{World, run, in_paths}
+use Rattle.smk_world.specs.declared.recipe.Out.{Out}
+use Rattle.smk_world.specs.declared.recipe.OutItem.{OutItem}
+use Rattle.smk_world.specs.World.{World, run, in_paths, out_paths, owned_paths}
 use Rattle.smk_world.specs.Runs.{Did}
-use Rattle.smk_world.specs.Trees.{Path, Act}
+use Rattle.smk_world.specs.Trees.{Path, Act, Each, is_path_text}
 use Rattle.smk_world.proofs.Runs.{did_both, did_nothing}
 use Rattle.smk_record.specs.declared.record.Stamp.{Stamp}
 use Rattle.smk_flow.specs.declared.job.Job.{Job}
 use Rattle.smk_flow.specs.Flows.{Flow}
 use Rattle.smk_job.specs.Jobs.{too_long}
+use Rattle.smk_members.proofs.Lists.{each_list_all}
 use Rattle.smk_report.specs.Lines.{Text, Named}
 use Rattle.smk_report.specs.declared.fault.Fault.{Fault}
 use Rattle.smk_report.specs.declared.fault.Fault.TheVariants as fault
@@ -21,7 +25,8 @@ use Rattle.smk_run.specs.Stamps.{Serials, AreStamped, HasStamped, is_of_look}
 use Rattle.smk_run.specs.Turns.{Course, Unbegun, Unstarted, Unclosed, Closed, IsTurn, found, as_gone}
 use Rattle.smk_run.specs.Reports as one
 use Rattle.smk_run.specs.Reports.{named, course_text, IsReport, HasWritten, HasTurned, IsAnswer, failure, stop_fault, is_refusal}
-use Rattle.smk_run.specs.Runs.{turn_of, IsLooked, IsLookedBy, HasTaken, HasHadTurn, IsToldStop, is_whole, is_output}
+use Rattle.smk_run.specs.Runs.{turn_of, AreWritable, Fits, IsLooked, IsLookedBy, HasTaken, HasHadTurn, IsToldStop, is_whole, is_output}
+use Rattle.smk_run.proofs.Seen.{all_join}
 use Rattle.smk_run.proofs.Texts.{no_text}
 use Rattle.smk_run.proofs.Honest.{did_none_given, did_given_both, stamped_given}
 
@@ -46,9 +51,10 @@ found_why stamps (Err OutOfMemory) never = tt
 pub taken : (act : Act) (flow : Flow) (made : Serials) (job : Job) (command : Text) (serial : ℕ) (paths : List Path) (stamps : List Stamp) (r : Result (List Stamp) Stop) (result : Result Ending Stop)
     (a b c : Option World) (rose later : Type 0) (running : List ℕ) (put_old put_new : Option Text)
     → paths ≡ in_paths job.recipe → r ≡ Ok stamps → Did act a b (λ w es. HasStamped made paths r es) → (IsSome a → IsSome b) → (later → rose) → ((p : Path) → result ≡ Err (Gone p) → ⊥)
+    → AreWritable serial job.recipe stamps
     → HasTurned act (as_gone job command serial stamps) (named flow job) (too_long serial job.recipe stamps) result b c later running put_old put_new
     → HasTaken act flow made job command serial result a c rose running put_old put_new
-taken act flow made job command serial paths stamps r result a b c rose later running put_old put_new at ok seen stays rises never h = record {
+taken act flow made job command serial paths stamps r result a b c rose later running put_old put_new at ok seen stays rises never writable h = record {
   looked = Ok stamps;
   why = found_why stamps result never;
   turned = record {
@@ -65,6 +71,7 @@ taken act flow made job command serial paths stamps r result a b c rose later ru
     none_runs = h.none_runs;
     stays = λ e some. h.stays e (stays some);
   };
+  records = λ e. writable;
 }
 
 look_why : (stop : Stop) → is_of_look stop ≡ true → IsLooked (Err stop) stop
@@ -102,6 +109,7 @@ not_taken act flow made job command serial paths stop r a b rose running put at 
     none_runs = λ e. none;
     stays = λ e. stays (ap one.is_device is ∙ e);
   };
+  records = λ e. cc;
 }
 
 -- nothing was done
@@ -122,9 +130,28 @@ nothing_taken act flow made job command serial a rose running put none = record 
     none_runs = λ e. none;
     stays = λ e some. some;
   };
+  records = λ e. cc;
 }
 
 -- ## Its answer
+
+-- The job has an output, and its outputs and logs are paths in UTF-8.
+pub record MakesPaths (job : Job) : Type 0 where
+  pub makes : out_paths job.recipe ≡ [] → ⊥
+  pub paths : Each (λ p. is_path_text p ≡ true) (owned_paths job.recipe job.logs)
+
+makes_paths : (job : Job) → (out_paths job.recipe ≡ [] → ⊥) → list_all is_path_text (out_paths job.recipe) ≡ true → list_all is_path_text job.logs ≡ true → MakesPaths job
+makes_paths job makes outs logs = record {
+  makes = makes;
+  paths = each_list_all is_path_text (owned_paths job.recipe job.logs) (all_join is_path_text (out_paths job.recipe) job.logs (owned_paths job.recipe job.logs) refl outs logs);
+}
+
+-- by the outputs and the logs that were gone over
+pub by_seen : (job : Job) (outputs : List OutItem) (logs : List Path) → (out_paths job.recipe ≡ [] → ⊥) → outputs ≡ job.recipe.outputs → logs ≡ job.logs
+    → list_all is_path_text (flat_map (λ (item : OutItem). map (λ (out : Out). out.path) item.outs) outputs) ≡ true → list_all is_path_text logs ≡ true → MakesPaths job
+by_seen job outputs logs makes e f outs own =
+    makes_paths job makes (subst (λ (items : List OutItem). list_all is_path_text (flat_map (λ (item : OutItem). map (λ (out : Out). out.path) item.outs) items) ≡ true) e outs)
+    (subst (λ ps. list_all is_path_text ps ≡ true) f own)
 
 weaker : (old new : Option Text) (well well2 : Type 0) (text : Text) → (well2 → well) → HasWritten old new well (IsReport true text) → HasWritten old new well2 (IsReport false text)
 weaker old new well well2 text less h = record {
@@ -135,9 +162,9 @@ weaker old new well well2 text less h = record {
 -- the job was closed, and there is memory for its fault
 pub had_turn : (act : Act) (flow : Flow) (made : Serials) (job : Job) (command : Text) (serial : ℕ) (ending : Ending) (name : Named) (first : Option Fault) (r : Result Ending Stop)
     (a b : Option World) (rose : Type 0) (running : List ℕ) (put_old put_new : Option Text)
-    → name ≡ named flow job → r ≡ Ok ending → first ≡ failure name ending → HasTaken act flow made job command serial r a b rose running put_old put_new
+    → MakesPaths job → name ≡ named flow job → r ≡ Ok ending → first ≡ failure name ending → HasTaken act flow made job command serial r a b rose running put_old put_new
     → HasHadTurn act flow made job command serial (Ok first) a b rose running put_old put_new
-had_turn act flow made job command serial ending name first r a b rose running put_old put_new called ok is h =
+had_turn act flow made job command serial ending name first r a b rose running put_old put_new by_paths called ok is h =
     let t = h.turned in
     let answer : IsAnswer (too_long serial job.recipe (found h.looked)) t.course t.failed (Ok ending) = subst (λ x. IsAnswer (too_long serial job.recipe (found h.looked)) t.course t.failed x) ok t.answer in
     record {
@@ -147,7 +174,7 @@ had_turn act flow made job command serial ending name first r a b rose running p
       command_is = refl;
       made_is = refl;
       answer = (answer.1, (ending, answer.0, is ∙ ap (λ n. failure n ending) called));
-      fits = t.fits;
+      fits = record { makes = by_paths.makes; paths = by_paths.paths; records = h.records; short = t.fits };
       did = t.did;
       given = t.given;
       text = subst (λ (x : Result Ending Stop). HasWritten put_old put_new (one.is_output x ≡ false) (IsReport (one.is_whole x) (course_text (named flow job) t.course))) ok t.text;
@@ -159,9 +186,9 @@ had_turn act flow made job command serial ending name first r a b rose running p
 -- the job was closed, and there is no memory for its fault
 pub had_turn_untold : (act : Act) (flow : Flow) (made : Serials) (job : Job) (command : Text) (serial : ℕ) (ending : Ending) (r : Result Ending Stop)
     (a b : Option World) (rose : Type 0) (running : List ℕ) (put_old put_new : Option Text)
-    → r ≡ Ok ending → HasTaken act flow made job command serial r a b rose running put_old put_new
+    → MakesPaths job → r ≡ Ok ending → HasTaken act flow made job command serial r a b rose running put_old put_new
     → HasHadTurn act flow made job command serial (Err fault.OutOfMemory) a b rose running put_old put_new
-had_turn_untold act flow made job command serial ending r a b rose running put_old put_new ok h =
+had_turn_untold act flow made job command serial ending r a b rose running put_old put_new by_paths ok h =
     let t = h.turned in
     let answer : IsAnswer (too_long serial job.recipe (found h.looked)) t.course t.failed (Ok ending) = subst (λ x. IsAnswer (too_long serial job.recipe (found h.looked)) t.course t.failed x) ok t.answer in
     record {
@@ -171,7 +198,7 @@ had_turn_untold act flow made job command serial ending r a b rose running put_o
       command_is = refl;
       made_is = refl;
       answer = inl (answer.1, refl);
-      fits = t.fits;
+      fits = record { makes = by_paths.makes; paths = by_paths.paths; records = h.records; short = t.fits };
       did = t.did;
       given = t.given;
       text = weaker put_old put_new (false ≡ false) (false ≡ false) (course_text (named flow job) t.course) (λ e. e)
@@ -217,24 +244,30 @@ refusal_text old new OutOfMemory text h k = cc
 -- the run stops at the job
 pub had_turn_stopped : (act : Act) (flow : Flow) (made : Serials) (job : Job) (command : Text) (serial : ℕ) (stop : Stop) (name : Named) (f : Fault) (r : Result Ending Stop)
     (a b : Option World) (rose : Type 0) (running : List ℕ) (put_old put_new : Option Text)
-    → name ≡ named flow job → r ≡ Err stop → IsToldStop name stop f → HasTaken act flow made job command serial r a b rose running put_old put_new
+    → MakesPaths job → name ≡ named flow job → r ≡ Err stop → IsToldStop name stop f → HasTaken act flow made job command serial r a b rose running put_old put_new
     → HasHadTurn act flow made job command serial (Err f) a b rose running put_old put_new
-had_turn_stopped act flow made job command serial stop name f r a b rose running put_old put_new called is told h = by told
+had_turn_stopped act flow made job command serial stop name f r a b rose running put_old put_new by_paths called is told h = by told
   where
-    t : HasTurned act (λ course. IsTurn made (turn_of job command serial h.looked course)) (named flow job) (too_long serial job.recipe (found h.looked)) (Err stop) a b rose running put_old put_new
-    t = subst (λ x. HasTurned act (λ course. IsTurn made (turn_of job command serial h.looked course)) (named flow job) (too_long serial job.recipe (found h.looked)) x a b rose running put_old put_new) is h.turned
+    k : HasTaken act flow made job command serial (Err stop) a b rose running put_old put_new
+    k = subst (λ x. HasTaken act flow made job command serial x a b rose running put_old put_new) is h
+
+    t : HasTurned act (λ course. IsTurn made (turn_of job command serial k.looked course)) (named flow job) (too_long serial job.recipe (found k.looked)) (Err stop) a b rose running put_old put_new
+    t = k.turned
+
+    it_fits : Fits (turn_of job command serial k.looked t.course)
+    it_fits = record { makes = by_paths.makes; paths = by_paths.paths; records = k.records; short = t.fits }
 
     by : IsToldStop name stop f → HasHadTurn act flow made job command serial (Err f) a b rose running put_old put_new
     by (inl e) =
         let same : f ≡ stop_fault (named flow job) stop = e ∙ ap (λ n. stop_fault n stop) called in
         record {
-          turn = turn_of job command serial h.looked t.course;
+          turn = turn_of job command serial k.looked t.course;
           failed = t.failed;
           job_is = refl;
           command_is = refl;
           made_is = refl;
-          answer = inr (stop, same, t.answer, subst (λ x. IsLookedBy h.looked x) is h.why);
-          fits = t.fits;
+          answer = inr (stop, same, t.answer, k.why);
+          fits = it_fits;
           did = t.did;
           given = t.given;
           text = written_as put_old put_new (one.is_output {T = Ending} (Err stop)) (is_output {T = Option Fault} (Err f)) (one.is_whole {T = Ending} (Err stop)) (is_whole {T = Option Fault} (Err f)) (course_text (named flow job) t.course)
@@ -245,13 +278,13 @@ had_turn_stopped act flow made job command serial stop name f r a b rose running
           stays = t.stays;
         }
     by (inr e) = record {
-      turn = turn_of job command serial h.looked t.course;
+      turn = turn_of job command serial k.looked t.course;
       failed = t.failed;
       job_is = refl;
       command_is = refl;
       made_is = refl;
-      answer = inl (refusal_calm (too_long serial job.recipe (found h.looked)) t.course t.failed stop e.1 t.answer, e.0);
-      fits = t.fits;
+      answer = inl (refusal_calm (too_long serial job.recipe (found k.looked)) t.course t.failed stop e.1 t.answer, e.0);
+      fits = it_fits;
       did = t.did;
       given = t.given;
       text = subst (λ x. HasWritten put_old put_new (is_output {T = Option Fault} (Err x) ≡ false) (IsReport (is_whole {T = Option Fault} (Err x)) (course_text (named flow job) t.course))) (sym e.0)
@@ -263,15 +296,15 @@ had_turn_stopped act flow made job command serial stop name f r a b rose running
 
 -- there is no memory for the command
 pub no_turn : (act : Act) (flow : Flow) (made : Serials) (job : Job) (command : Text) (serial : ℕ) (a : Option World) (rose : Type 0) (running : List ℕ) (put : Option Text)
-    → running ≡ [] → HasHadTurn act flow made job command serial (Err fault.OutOfMemory) a a rose running put put
-no_turn act flow made job command serial a rose running put none = record {
+    → MakesPaths job → running ≡ [] → HasHadTurn act flow made job command serial (Err fault.OutOfMemory) a a rose running put put
+no_turn act flow made job command serial a rose running put by_paths none = record {
   turn = turn_of job command serial (Err OutOfMemory) Unbegun;
   failed = false;
   job_is = refl;
   command_is = refl;
   made_is = refl;
   answer = inl (refl, refl);
-  fits = λ e. cc;
+  fits = record { makes = by_paths.makes; paths = by_paths.paths; records = λ e. cc; short = λ e. cc };
   did = did_nothing act (IsTurn made (turn_of job command serial (Err OutOfMemory) Unbegun)) a (λ w. tt);
   given = did_none_given act rose a;
   text = no_text false put (false ≡ false);

@@ -1,14 +1,16 @@
 -- The records of a job's outputs are valid.
-use Rattle.std.proofs.Common.{◌≡◌, ◌≤◌, ℕ, Bool, true, false, ◌&&◌, ◌==◌, List, [], ◌∷◌, length, map, refl, ap, ◌∙◌, inl, inr}
-use Rattle.std.proofs.lemmas.Bool.{eq-eqb, le-leb}
-use Rattle.std.specs.Prelude.{nat_le, if◌then◌else◌}
+use Rattle.std.proofs.Common.{◌≡◌, ◌≤◌, ◌<◌, ◌^◌, ℕ, Bool, true, false, ◌&&◌, ◌==◌, List, [], ◌∷◌, length, map, refl, ap, ◌∙◌, inl, inr}
+use Rattle.std.proofs.lemmas.Bool.{eq-eqb, le-leb, lt-ltb}
+use Rattle.std.specs.Prelude.{nat_le, nat_lt, if◌then◌else◌}
 use Rattle.std.specs.List.{list_all}
 use Rattle.smk_base.specs.declared.tree.Pair.{Pair}
 use Rattle.smk_world.specs.declared.recipe.Recipe.{Recipe}
 use Rattle.smk_world.specs.World.{in_paths, out_paths}
-use Rattle.smk_world.specs.Trees.{Path, Each, IsIn, among, folders_of, is_path_text}
+use Rattle.smk_world.specs.Trees.{Path, Each, IsIn, among, folders_of, is_path_text, is_text}
 use Rattle.smk_record.specs.declared.record.Stamp.{Stamp}
 use Rattle.smk_record.specs.Records.{is_valid, record_of, is_earlier, are_rising, are_valid_members, are_none}
+use Rattle.smk_record.specs.Spelling.{texts, is_writable}
+use Rattle.smk_run.specs.Stamps.{is_small}
 use Rattle.smk_job.proofs.Abandoning.{among_by}
 
 and_true : (a b : Bool) → a ≡ true → b ≡ true → (a && b) ≡ true
@@ -44,3 +46,12 @@ pub valid_each : (made : ℕ) (recipe : Recipe) (stamps : List Stamp)
 valid_each made recipe stamps each positive earlier rising ins outs =
     each_by (λ p. is_valid (record_of p made recipe stamps []) ≡ true) (out_paths recipe)
     (λ p i. valid_one made recipe stamps p each positive earlier rising ins outs (among_by (out_paths recipe) p i))
+
+-- and can be written
+pub writable_each : (made : ℕ) (recipe : Recipe) (stamps : List Stamp)
+    → made < 2 ^ 64 → list_all is_small stamps ≡ true → list_all is_text (texts recipe) ≡ true
+    → Each (λ p. is_writable (record_of p made recipe stamps []) ≡ true) (out_paths recipe)
+writable_each made recipe stamps lt small words =
+    let one : is_writable (record_of [] made recipe stamps []) ≡ true
+    = and_true (list_all is_text (texts recipe)) _ words (and_true (nat_lt made (2 ^ 64)) _ (lt-ltb made (2 ^ 64) lt) small) in
+    each_by (λ p. is_writable (record_of p made recipe stamps []) ≡ true) (out_paths recipe) (λ p i. one)

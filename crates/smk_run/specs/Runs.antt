@@ -2,11 +2,13 @@
 use Rattle.std.specs.Prelude.{◌≡◌, ◌⊎◌, ◌<◌, ◌≤◌, ℕ, suc, Bool, true, false, List, [], ◌∷◌, ◌++◌, ◌+◌, length, map, Option, Some, None, slice_get, Result, Ok, Err, IsSome}
 use Rattle.std.specs.List.{count_by}
 use Rattle.smk_base.specs.declared.tree.Pair.{Pair}
+use Rattle.smk_world.specs.declared.recipe.Recipe.{Recipe}
 use Rattle.smk_world.specs.World.{World, in_paths, out_paths, owned_paths}
 use Rattle.smk_world.specs.Calls.{are_apart}
 use Rattle.smk_world.specs.Runs.{Did}
-use Rattle.smk_world.specs.Trees.{Path, Act, Each}
-use Rattle.smk_record.specs.Records.{are_rising}
+use Rattle.smk_world.specs.Trees.{Path, Act, Each, is_path_text}
+use Rattle.smk_record.specs.Records.{is_valid, record_of, are_rising}
+use Rattle.smk_record.specs.Spelling.{is_writable}
 use Rattle.smk_flow.specs.declared.job.Job.{Job}
 use Rattle.smk_flow.specs.Flows.{Flow}
 use Rattle.smk_chain.specs.declared.jobs.Jobs.{Jobs}
@@ -97,9 +99,18 @@ IsLooked looked (stopping.TooLong bytes) = (stamps : List Stamp) × (looked ≡ 
 IsLooked looked (stopping.Gone p) = looked ≡ Err (stopping.Gone p)
 IsLooked looked stop = Unit {0}
 
--- of a turn in which anything was done but looks, no record without members is too long
-abbrev pub Fits : Turn → Type 0
-Fits t = is_begun t.course ≡ true → too_long t.made t.job.recipe (found t.looked) ≡ None
+-- the records of a recipe's outputs, with this serial, these stamps and no members, are valid and can be written
+pub record AreWritable (made : ℕ) (recipe : Recipe) (stamps : List Stamp) : Type 0 where
+  pub valid : Each (λ p. is_valid (record_of p made recipe stamps []) ≡ true) (out_paths recipe)
+  pub writable : Each (λ p. is_writable (record_of p made recipe stamps []) ≡ true) (out_paths recipe)
+
+-- The job of the turn has an output, and its outputs and logs are paths in UTF-8. Where anything was done but looks, the records of its outputs without members
+-- are valid, can be written, and aren't too long.
+pub record Fits (t : Turn) : Type 0 where
+  pub makes : out_paths t.job.recipe ≡ [] → ⊥
+  pub paths : Each (λ p. is_path_text p ≡ true) (owned_paths t.job.recipe t.job.logs)
+  pub records : is_begun t.course ≡ true → AreWritable t.made t.job.recipe (found t.looked)
+  pub short : is_begun t.course ≡ true → too_long t.made t.job.recipe (found t.looked) ≡ None
 
 -- The last turn ended with this fault.
 pub record IsStopped (flow : Flow) (turns : List Turn) (failed : Bool) (f : Fault) : Type 0 where
@@ -176,6 +187,7 @@ pub record HasTaken (act : Act) (flow : Flow) (made : Serials) (job : Job) (comm
   pub looked : Result (List Stamp) Stop
   pub why : IsLookedBy looked result
   pub turned : HasTurned act (λ course. IsTurn made (turn_of job command serial looked course)) (named flow job) (too_long serial job.recipe (found looked)) result old new rose running put_old put_new
+  pub records : is_begun turned.course ≡ true → AreWritable serial job.recipe (found looked)
 
 -- What a turn answers: nothing of a job that is done, the fault of one that failed, or why the run stops.
 abbrev pub IsTurnAnswer : Flow → Turn → Bool → Result (Option Fault) Fault → Type 0

@@ -1,5 +1,5 @@
 -- The stamps of a job's inputs as its turn comes.
-use Rattle.std.specs.Prelude.{◌≡◌, ◌⊎◌, ◌<◌, ℕ, Bool, true, false, List, [], ◌∷◌, ◌++◌, Option, Some, None, Result, Ok, Err, String}
+use Rattle.std.specs.Prelude.{◌≡◌, ◌⊎◌, ◌<◌, ◌^◌, ℕ, Bool, true, false, List, [], ◌∷◌, ◌++◌, Option, Some, None, Result, Ok, Err, String, nat_lt}
 use Rattle.std.specs.Global.{Global}
 use Rattle.std.specs.BTreeMap.{BTreeMap, get_by_text}
 use Rattle.std.specs.Option.{option_and_then}
@@ -13,6 +13,7 @@ use Rattle.smk_world.specs.Requests.Request.{Look}
 use Rattle.smk_world.specs.Trees.{Path}
 use Rattle.smk_record.specs.declared.record.Stamp.{Stamp}
 use Rattle.smk_record.specs.declared.record.Stamp.TheVariants.{Time, Made}
+use Rattle.smk_record.specs.Spelling.{number}
 use Rattle.smk_job.specs.Laws.{IsPart}
 use Rattle.smk_run.specs.declared.stop.Stop.{Stop}
 use Rattle.smk_run.specs.declared.stop.Stop.TheVariants.{TooLong, Gone, Device, Output, OutOfMemory}
@@ -108,6 +109,10 @@ IsTimeIn p Folder r = (r ≡ Err (Gone p)) ⊎ (r ≡ Err OutOfMemory)
 abbrev pub IsBelow : ℕ → Option ℕ → Type 0
 IsBelow made None = Unit {0}
 IsBelow made (Some serial) = serial < made
+
+-- its number has at most 64 bits
+abbrev pub is_small : Stamp → Bool
+is_small stamp = nat_lt (number stamp) (2 ^ 64)
 
 -- ## Numbers by path
 

@@ -14,6 +14,7 @@ mod stop;
 mod tally;
 mod turns;
 mod whole;
+mod wording;
 
 pub use duty::Duty;
 pub use ending::Ending;

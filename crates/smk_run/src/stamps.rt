@@ -7,7 +7,7 @@ ghost use Rattle.smk_world.specs.Runs.{Did};
 ghost use Rattle.smk_world.specs.Trees.{Path, Each, is_path_text};
 ghost use Rattle.smk_world.specs.World.{in_paths, out_paths};
 ghost use Rattle.smk_record.specs.Records.{is_earlier};
-ghost use Rattle.smk_run.specs.Stamps.{HasTimed, HasStamp, HasPushed, HasStamped, IsBelow, IsTimeIn, is_of_look, is_refused_look, number_at};
+ghost use Rattle.smk_run.specs.Stamps.{HasTimed, HasStamp, HasPushed, HasStamped, IsBelow, IsTimeIn, is_of_look, is_refused_look, is_small, number_at};
 ghost use Rattle.smk_run.specs.Reports.{is_device};
 ghost use Rattle.smk_run.specs.declared.stop.Stop.TheVariants as stop;
 
@@ -132,6 +132,7 @@ fn stamp_of<W: Files>(
     requires below { IsBelow made (number_at serials.now path.now) }
     ensures did { Did W.act (W.world work.old) (W.world work.new) (λ w es. HasStamp (number_at serials.now path.now) path.now result es) }
     ensures earlier { IfOk result (λ stamp. is_earlier made stamp ≡ true) }
+    ensures small { IfOk result (λ stamp. is_small stamp ≡ true) }
     ensures stays { is_device result ≡ false → IsSome (W.world work.old) → IsSome (W.world work.new) }
     ensures cause { HasCause (W.faults work.old) (W.faults work.new) (is_device result ≡ true) }
     ensures running { W.running work.new ≡ W.running work.old }
@@ -159,6 +160,7 @@ fn push_stamp<W: Files>(
     ensures did { Did W.act (W.world work.old) (W.world work.new) (λ w es. HasPushed (number_at serials.now path.now) path.now stamps.old stamps.new result es) }
     ensures longer { OnOk result (length stamps.new ≡ length stamps.old + 1) }
     ensures earlier { OnOk result (list_all (is_earlier made) stamps.old ≡ true → list_all (is_earlier made) stamps.new ≡ true) }
+    ensures small { OnOk result (list_all is_small stamps.old ≡ true → list_all is_small stamps.new ≡ true) }
     ensures stays { is_device result ≡ false → IsSome (W.world work.old) → IsSome (W.world work.new) }
     ensures cause { HasCause (W.faults work.old) (W.faults work.new) (is_device result ≡ true) }
     ensures running { W.running work.new ≡ W.running work.old }
@@ -185,6 +187,7 @@ pub(crate) fn stamps_of<W: Files>(
     ensures did { Did W.act (W.world work.old) (W.world work.new) (λ w es. HasStamped (number_at serials.now) paths.now result es) }
     ensures each { IfOk result (λ stamps. length stamps ≡ length paths.now) }
     ensures earlier { IfOk result (λ stamps. list_all (is_earlier made) stamps ≡ true) }
+    ensures small { IfOk result (λ stamps. list_all is_small stamps ≡ true) }
     ensures stays { is_device result ≡ false → IsSome (W.world work.old) → IsSome (W.world work.new) }
     ensures cause { HasCause (W.faults work.old) (W.faults work.new) (is_device result ≡ true) }
     ensures running { W.running work.new ≡ W.running work.old }

@@ -17,6 +17,7 @@ use crate::lines::first_output;
 use crate::one::run_one;
 use crate::serials::serial_in;
 use crate::stamps::{input_paths, see_outputs, see_paths, stamps_of};
+use crate::wording::see_texts;
 use crate::{Duty, Ending, Stop, Tally};
 use smk_base::OutOfMemory;
 use smk_commands::{command_of, rule_name};
@@ -54,6 +55,7 @@ fn take<W: Crew, O: Sink>(
     };
     see_paths(paths.as_slice());
     see_outputs(job.recipe.outputs.as_slice());
+    see_texts(&job.recipe);
     match stamps_of(alloc, serials, made, paths.as_slice(), work) {
         Ok(stamps) => run_one(alloc, flow, job, &stamps, made, command, work, out),
         Err(stop) => Err(stop),
@@ -84,6 +86,8 @@ fn turn<W: Crew, O: Sink>(
     ensures output { HasCause (O.faults out.old) (O.faults out.new) (is_output result ≡ true) }
     ensures quiet { is_output result ≡ false → O.faults out.new ≡ O.faults out.old }
 {
+    see_outputs(job.recipe.outputs.as_slice());
+    see_paths(job.logs.as_slice());
     let rule = rule_name(flow, job.rule);
     let Some(path) = first_output(job) else {
         unreachable!()

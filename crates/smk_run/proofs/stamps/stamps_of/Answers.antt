@@ -23,6 +23,7 @@ loop-number-preserved g c =
           (next paths i p c.loop-number-test.true c.index-paths-number.is) refl v.did c.in-Ok.ensures.did;
       each = c.in-Ok.ensures.longer ∙ ap (λ k. k + 1) v.each;
       earlier = c.in-Ok.ensures.earlier v.earlier;
+      small = c.in-Ok.ensures.small v.small;
       stays = λ some. c.in-Ok.ensures.stays refl (v.stays some);
       later = omega (arith, v.later, c.push_stamp.ensures.cause.later);
       running = c.push_stamp.ensures.running ∙ v.running;

@@ -7,7 +7,7 @@ use Rattle.smk_world.specs.Trees.{is_path_text}
 use Rattle.smk_run.specs.Stamps.{number_at}
 use Rattle.smk_run.proofs.Rising.{rose_earlier}
 use Rattle.smk_run.proofs.Taking.{taken, not_taken, nothing_taken}
-use Rattle.smk_run.proofs.Valid.{valid_each}
+use Rattle.smk_run.proofs.Valid.{valid_each, writable_each}
 use Rattle.smk_run.proofs.turns.take.Goals as goal
 
 pub returns-in_default-clause-run : goal.returns-in_default-clause-run
@@ -26,7 +26,13 @@ pub returns-in-Ok-stamps_of-clause-run : goal.returns-in-Ok-stamps_of-clause-run
 returns-in-Ok-stamps_of-clause-run g c =
     let at = c.in-Ok.ensures ∙ ap (λ (xs : List Item). flat_map (λ (item : Item). item.paths) xs) c.as_slice.ensures in
     taken g.W.Files.act c.args.flow.now (number_at c.args.serials.now) c.args.job.now c.args.command.now c.args.made c.as_slice-4.result.now c.in-Ok-stamps_of.stamps c.stamps_of.result c.run_one.result
-    _ _ _ _ _ _ _ _ (c.as_slice-4.ensures ∙ at) c.in-Ok-stamps_of.is c.stamps_of.ensures.did (c.in-Ok-stamps_of.ensures.stays refl) (rose_earlier _ _ _ c.stamps_of.ensures.cause.later) c.run_one.ensures.never c.run_one.ensures.run
+    _ _ _ _ _ _ _ _ (c.as_slice-4.ensures ∙ at) c.in-Ok-stamps_of.is c.stamps_of.ensures.did (c.in-Ok-stamps_of.ensures.stays refl) (rose_earlier _ _ _ c.stamps_of.ensures.cause.later) c.run_one.ensures.never
+    (record {
+      valid = valid_each c.args.made c.args.job.now.recipe c.in-Ok-stamps_of.stamps (c.in-Ok-stamps_of.ensures.each ∙ ap length (c.as_slice-4.ensures ∙ at)) c.requires.positive c.in-Ok-stamps_of.ensures.earlier c.requires.wildcards
+          (subst (λ ps. list_all is_path_text ps ≡ true) (c.as_slice-2.ensures ∙ at) c.see_paths.ensures)
+          (subst (λ (items : List OutItem). list_all is_path_text (flat_map (λ (item : OutItem). map (λ (out : Out). out.path) item.outs) items) ≡ true) c.as_slice-3.ensures c.see_outputs.ensures);
+      writable = writable_each c.args.made c.args.job.now.recipe c.in-Ok-stamps_of.stamps c.ranges.made.fits c.in-Ok-stamps_of.ensures.small c.see_texts.ensures;
+    }) c.run_one.ensures.run
 
 pub returns-clause-run : goal.returns-clause-run
 returns-clause-run g c =

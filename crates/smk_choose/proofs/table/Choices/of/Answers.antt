@@ -18,10 +18,10 @@ returns c =
     let reach = c.deepen.new.reach in
     let end = c.in_ok-end.end in
     let one = c.in_ok-end.ensures in
-    let these = is_deep_enough c.deref-2.result.now in
+    let these = is_deep_enough c.deref.result.now in
     all_covered flow sources reach end (record { chosen = c.in_ok-chosen.chosen }) one.spans
     (c.in_ok-chosen.ensures (λ p. told_choice (choose flow sources p))
     (λ n lt. right_choice flow sources reach these n (one.spans n lt)
-    (λ j s. ap (λ (hs : List (Option ℕ)). is_within 199 (height_at hs j)) c.deref-2.ensures.value ∙ c.in_ok-heights.ensures flow sources 199 199 j (omega arith) (omega arith) s)))
+    (λ j s. ap (λ (hs : List (Option ℕ)). is_within 199 (height_at hs j)) c.deref.ensures.value ∙ c.in_ok-heights.ensures flow sources 199 199 j (omega arith) (omega arith) s)))
     first one.grows 200 one.within c.args.paths.now
     (subst (λ (ps : List Path). AllByRecursion (HasNumber first.paths.items) ps) c.as_slice.ensures c.in_ok-reach.ensures.are)

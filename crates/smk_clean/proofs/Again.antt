@@ -1,0 +1,90 @@
+-- A run again takes no turn.
+use Rattle.std.proofs.Common.{◌≡◌, ℕ, suc, Bool, true, false, not, List, [], ◌∷◌, map, refl, ap, sym, subst, ◌∙◌, Option, Some, None, Result, Ok, Err}
+use Rattle.std.specs.List.{AllZip}
+use Rattle.smk_world.specs.World.{World, IsFormed}
+use Rattle.smk_world.specs.Calls.{Rose}
+use Rattle.smk_flow.specs.declared.job.Job.{Job}
+use Rattle.smk_store.specs.declared.fault.StoreFault.{StoreFault}
+use Rattle.smk_store.specs.Images.{seen}
+use Rattle.smk_store.specs.Serials.{next_serial}
+use Rattle.smk_store.specs.Soundness.{Outside}
+use Rattle.smk_trigger.specs.declared.reason.State.{State}
+use Rattle.smk_trigger.specs.declared.reason.State.TheVariants.{Clean}
+use Rattle.smk_plan.specs.States.{Plan, LastPlan, nothing_done}
+use Rattle.smk_laws.proofs.CurrentComplete.{seen_is_complete}
+use Rattle.smk_laws.proofs.PlanOne.{one_last_plan}
+use Rattle.smk_report.specs.declared.fault.Fault.{Fault}
+use Rattle.smk_report.specs.Lines.{Text}
+use Rattle.smk_run.specs.declared.duty.Duty.{Duty}
+use Rattle.smk_run.specs.declared.duty.Duty.TheVariants.{Rest, Restore, Run as RunIt}
+use Rattle.smk_run.specs.Duties.{Due, AreFor, due, due_from}
+use Rattle.smk_run.specs.Runs.{AreInOrder}
+use Rattle.smk_run.specs.Turns.{Turn}
+use Rattle.smk_asked.specs.declared.words.RunWords.{RunWords}
+use Rattle.smk_entry.specs.declared.asking.Asked.{Asked}
+use Rattle.smk_entry.specs.Entry.{IsAskedIn}
+use Rattle.smk_make.specs.Making.{GoesOn, NotFirm, NoMemory, Made}
+use Rattle.smk_preview.specs.declared.previewing.Previewed.{Previewed}
+use Rattle.smk_preview.specs.Previewing.{plan_of}
+use Rattle.smk_serve.specs.Serving.{Went, Refused, Stopped, Worked, settings_of}
+use Rattle.smk_cli.specs.Whole.{IsRefusal, IsToServe}
+use Rattle.smk_exit.specs.Exit.{RunLeavesAllClean}
+use Rattle.smk_clean.specs.Again.{HasNoneLeft, NextCallTakesNoTurn, turns_made, turns_went}
+use Rattle.smk_clean.proofs.Asking.{asked_same}
+use Rattle.smk_clean.proofs.Clean.{HasEndedWell, ended_well}
+
+-- where all jobs are Clean, none is due
+none_due : (f : ℕ → Option ℕ) (number : ℕ) (jobs all : List Job) (states : List State) (duties : List Duty) → states ≡ map (λ (j : Job). Clean) all → AreFor states duties → due_from f number duties jobs ≡ []
+none_due f number jobs all states [] e h = refl
+none_due f number [] all states (d ∷ duties) e h = refl
+none_due f number (j ∷ jobs) [] [] (d ∷ duties) e h = absurd h
+none_due f number (j ∷ jobs) [] (s ∷ states) (d ∷ duties) e h = cc
+none_due f number (j ∷ jobs) (k ∷ all) [] (d ∷ duties) e h = absurd h
+none_due f number (j ∷ jobs) (k ∷ all) (s ∷ states) (Rest n ∷ duties) e h = none_due f (suc number) jobs all states duties (tails s states (map (λ (i : Job). Clean) all) e) h.1
+  where
+    tails : (s : State) (xs ys : List State) → s ∷ xs ≡ Clean ∷ ys → xs ≡ ys
+    tails s xs ys e = cc
+none_due f number (j ∷ jobs) (k ∷ all) (s ∷ states) (Restore n ∷ duties) e h = cc
+none_due f number (j ∷ jobs) (k ∷ all) (s ∷ states) (RunIt ∷ duties) e h = cc
+
+-- and then there are no turns
+no_turns : (cores : ℕ) (dues : List Due) (ts : List Turn) → dues ≡ [] → AreInOrder cores dues ts → ts ≡ []
+no_turns cores dues [] e h = refl
+no_turns cores [] (t ∷ ts) e h = absurd h
+no_turns cores (d ∷ dues) (t ∷ ts) e h = cc
+
+states_same : (a b : Plan) → a ≡ b → a.states ≡ b.states
+states_same a b e = ap (λ (p : Plan). p.states) e
+
+module _ (o : Outside) (words : RunWords) (w v : World) (formed : IsFormed v) (left : HasNoneLeft o words w v)
+    (same : (asked : Asked) → IsAskedIn true words.targets w.nodes (Ok asked) → IsAskedIn true words.targets v.nodes (Ok asked)) where
+  -- the plan that is made again is the one that was left
+  plan_again : (asked : Asked) (told : Previewed) → IsToServe o.read true words.targets words.cores v asked told → plan_of told ≡ left.plan
+  plan_again asked told serve =
+      let is : asked ≡ left.asked = asked_same true words.targets v.nodes asked left.asked serve.is_asked (same left.asked left.is_asked) in
+      one_last_plan left.asked.flow (seen o.read v) (settings_of left.asked words.cores) nothing_done [] (plan_of told) left.plan (seen_is_complete o.read v formed)
+      (subst (λ (a : Asked). LastPlan a.flow (seen o.read v) (settings_of a words.cores) nothing_done [] (plan_of told)) is serve.plan.last) (left.last [])
+
+  clean_again : (asked : Asked) (told : Previewed) → IsToServe o.read true words.targets words.cores v asked told → told.plan.states ≡ map (λ (j : Job). Clean) left.plan.jobs
+  clean_again asked told serve = states_same (plan_of told) left.plan (plan_again asked told serve) ∙ left.clean
+
+  none_made :
+      (asked : Asked) (told : Previewed) → IsToServe o.read true words.targets words.cores v asked told → (answer : Result (Unit {0}) Fault) (old new : Option World) (rose : Type 0) (running : List ℕ) (p q : Option Text)
+      (settled : Result (Unit {0}) StoreFault) (g : GoesOn o.act asked.flow words.cores asked.targets told.jobs told.plan.states told.store answer old new rose running p q settled) → turns_made g ≡ []
+  none_made asked told serve answer old new rose running p q settled (NotFirm f is unchanged unput) = refl
+  none_made asked told serve answer old new rose running p q settled (NoMemory u is unchanged unput) = refl
+  none_made asked told serve answer old new rose running p q settled (Made u duties for meant made) =
+      no_turns words.cores (due (next_serial told.store) duties told.jobs.jobs) made.turns (none_due _ 0 told.jobs.jobs left.plan.jobs told.plan.states duties (clean_again asked told serve) for) made.in_order
+
+  none_went :
+      (answer : Result (Unit {0}) Fault) (new : Option World) (rose : Type 0) (running : List ℕ) (p q : Option Text)
+      (h : Went o.act words.cores answer (IsRefusal o.read true words.targets words.cores v) (IsToServe o.read true words.targets words.cores v) (Some v) new rose running p q) → turns_went h ≡ []
+  none_went answer new rose running p q (Refused f is why looked) = refl
+  none_went answer new rose running p q (Stopped f is want looked) = refl
+  none_went answer new rose running p q (Worked asked told plans worked) =
+      none_made asked told plans answer worked.carried.firm new rose running p q worked.carried.settled worked.carried.goes_on
+
+pub next_takes_no_turn : RunLeavesAllClean → NextCallTakesNoTurn
+next_takes_no_turn exit o H words told again w v new before after last running later p q r hand sound served none same next =
+    let well = ended_well exit o H words told w v before after running p q hand sound served none in
+    none_went o words w v well.formed well.none_left same next.answer new (Rose after last) later q r next.serves

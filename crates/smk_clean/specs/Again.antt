@@ -1,0 +1,83 @@
+-- What a run leaves to be done that ends with status 0: nothing.
+use Rattle.std.specs.Prelude.{◌≡◌, ℕ, true, List, [], map, Option, Some, None, Result, Ok}
+use Rattle.smk_world.specs.World.{World}
+use Rattle.smk_world.specs.Calls.{Rose}
+use Rattle.smk_world.specs.Trees.{Path, Act, Each}
+use Rattle.smk_flow.specs.Flows.{Flow}
+use Rattle.smk_store.specs.declared.fault.StoreFault.{StoreFault}
+use Rattle.smk_store.specs.Images.{seen}
+use Rattle.smk_store.specs.Soundness.{Outside, SoundWorld}
+use Rattle.smk_store.specs.Stores.{Known}
+use Rattle.smk_store.specs.Trust.{Versions}
+use Rattle.smk_chain.specs.declared.jobs.Jobs.{Jobs}
+use Rattle.smk_trigger.specs.declared.reason.State.{State}
+use Rattle.smk_trigger.specs.declared.reason.State.TheVariants.{Clean}
+use Rattle.smk_plan.specs.States.{Plan, LastPlan, is_current}
+use Rattle.smk_report.specs.declared.fault.Fault.{Fault}
+use Rattle.smk_report.specs.Lines.{Text}
+use Rattle.smk_run.specs.Turns.{Turn}
+use Rattle.smk_asked.specs.declared.words.RunWords.{RunWords}
+use Rattle.smk_asked.specs.declared.words.Request.TheVariants.{Run}
+use Rattle.smk_entry.specs.declared.asking.Asked.{Asked}
+use Rattle.smk_entry.specs.Entry.{IsAskedIn}
+use Rattle.smk_make.specs.Making.{GoesOn, NotFirm, NoMemory, Made}
+use Rattle.smk_preview.specs.declared.previewing.Previewed.{Previewed}
+use Rattle.smk_serve.specs.Serving.{IsAtHand, Went, Refused, Stopped, Worked, settings_of}
+use Rattle.smk_cli.specs.Whole.{HasServed}
+use Rattle.smk_exit.specs.Exit.{begun_so}
+
+-- ## The plan of the exit
+
+-- These words ask of the workflow of the folder for targets; and the last plan for that, of the folder at the end, has each job Clean and each target current,
+-- whichever jobs have begun.
+pub record HasNoneLeft (o : Outside) (words : RunWords) (w v : World) : Type 0 where
+  pub asked : Asked
+  pub is_asked : IsAskedIn true words.targets w.nodes (Ok asked)
+  pub plan : Plan
+  pub last : (begun : List Path) → LastPlan asked.flow (seen o.read v) (settings_of asked words.cores) (begun_so begun) [] plan
+  pub clean : plan.states ≡ map (λ j. Clean) plan.jobs
+  pub current :
+      (begun : List Path) →
+      Each (λ p. is_current (seen o.read v) (settings_of asked words.cores) (begun_so begun) plan p ≡ true) asked.targets
+
+-- A run that ends without a fault, in a sound folder that is at hand.
+abbrev pub CallLeavesNone : Type 0
+CallLeavesNone =
+    (o : Outside) (H : Versions) (words : RunWords) (told : Option Fault) (w v : World) (faults_old faults_new : ℕ) (running : List ℕ)
+    (put_old put_new : Option Text) →
+    IsAtHand o.read w →
+    SoundWorld o w H →
+    HasServed o.act o.read (Run words) w told (Some w) (Some v) (Rose faults_old faults_new) running put_old put_new → told ≡ None → HasNoneLeft o words w v
+
+-- ## A run again
+
+-- the turns that were taken once all was firm
+abbrev pub turns_made :
+    {act : Act} {flow : Flow} {cores : ℕ} {targets : List Path} {jobs : Jobs} {states : List State} {stored : List Known} {result : Result (Unit {0}) Fault}
+    {old new : Option World} {rose : Type 0} {running : List ℕ} {put_old put_new : Option Text} {settled : Result (Unit {0}) StoreFault} →
+    GoesOn act flow cores targets jobs states stored result old new rose running put_old put_new settled → List Turn
+turns_made (NotFirm f is same unput) = []
+turns_made (NoMemory u is same unput) = []
+turns_made (Made u duties for meant made) = made.turns
+
+-- the turns of a run
+abbrev pub turns_went :
+    {act : Act} {cores : ℕ} {result : Result (Unit {0}) Fault} {refuses : Fault → Type 0} {plans : Asked → Previewed → Type 0} {old new : Option World}
+    {rose : Type 0} {running : List ℕ} {put_old put_new : Option Text} →
+    Went act cores result refuses plans old new rose running put_old put_new → List Turn
+turns_went (Refused f is why looked) = []
+turns_went (Stopped f is want looked) = []
+turns_went (Worked asked told plans worked) = turns_made worked.carried.goes_on
+
+-- After a run that ended without a fault, in a sound folder at hand, a run with the same words takes no turn: in the folder that the first one left, where they ask for
+-- the same of the workflow in it.
+abbrev pub NextCallTakesNoTurn : Type 0
+NextCallTakesNoTurn =
+    (o : Outside) (H : Versions) (words : RunWords) (told again : Option Fault) (w v : World) (new : Option World) (faults_old faults_new faults_last : ℕ)
+    (running running_last : List ℕ) (put_old put_new put_last : Option Text) →
+    IsAtHand o.read w →
+    SoundWorld o w H →
+    HasServed o.act o.read (Run words) w told (Some w) (Some v) (Rose faults_old faults_new) running put_old put_new →
+    told ≡ None →
+    ((asked : Asked) → IsAskedIn true words.targets w.nodes (Ok asked) → IsAskedIn true words.targets v.nodes (Ok asked)) →
+    (next : HasServed o.act o.read (Run words) v again (Some v) new (Rose faults_new faults_last) running_last put_new put_last) → turns_went next.serves ≡ []
