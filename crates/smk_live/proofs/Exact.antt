@@ -139,13 +139,14 @@ begun_closed :
 begun_closed F [] ps n h = refl
 begun_closed F (j ∷ js) [] n h = refl
 begun_closed F (j ∷ js) (Waiting ∷ ps) n h = begun_closed F js ps n h
-begun_closed F (j ∷ js) (Running ∷ ps) n h = go (bytes_eq (job_path j) n) refl h
+begun_closed F (j ∷ js) (Running ∷ ps) n h = go (bytes_eq (job_path j) n) refl h (begun_closed F js ps n)
   where
     go :
         (b : Bool) → bytes_eq (job_path j) n ≡ b → cond b (Some (job_path j, F j)) (find (named n) (running_in js ps (map F js))) ≡ None →
+        (find (named n) (running_in js ps (map F js)) ≡ None → among (paths_in has_begun js ps) n ≡ among (paths_in is_closed js ps) n) →
         (bytes_eq n (job_path j) || among (paths_in has_begun js ps) n) ≡ among (paths_in is_closed js ps) n
-    go true e k = absurd cc
-    go false e k = ap (λ b. b || among (paths_in has_begun js ps) n) (same_flipped n (job_path j) ∙ e) ∙ begun_closed F js ps n k
+    go true e k more = absurd cc
+    go false e k more = ap (λ b. b || among (paths_in has_begun js ps) n) (same_flipped n (job_path j) ∙ e) ∙ more k
 begun_closed F (j ∷ js) (Closed ∷ ps) n h = ap (λ b. bytes_eq n (job_path j) || b) (begun_closed F js ps n h)
 
 -- ## What standing says
@@ -244,6 +245,20 @@ rest_off : (m x : Bool) → (m || x) ≡ false → x ≡ false
 rest_off false x e = e
 rest_off true x e = absurd (true≢false e)
 
+clear_case :
+    (m r : Path → Bool) (p q : Path) (outs : List Path) → r q ≡ false → (b : Bool) → bytes_eq p q ≡ b →
+    ((m q && not (r q)) || list_any (λ b. b) (map (λ x. m x && not (r x)) outs)) ≡ false → (b || among outs p) ≡ true →
+    (list_any (λ b. b) (map (λ x. m x && not (r x)) outs) ≡ false → among outs p ≡ true → m p ≡ false) → m p ≡ false
+clear_case m r p q outs none true s e a more = ap m (same_place p q s) ∙ first_off (m q) (r q) (list_any (λ b. b) (map (λ x. m x && not (r x)) outs)) none e
+clear_case m r p q outs none false s e a more = more (rest_off (m q && not (r q)) (list_any (λ b. b) (map (λ x. m x && not (r x)) outs)) e) a
+
+-- where none of some paths counts as marked, and none of them is left out, none is marked
+clear :
+    (m r : Path → Bool) → ((p : Path) → r p ≡ false) → (p : Path) (outs : List Path) → list_any (λ b. b) (map (λ x. m x && not (r x)) outs) ≡ false →
+    among outs p ≡ true → m p ≡ false
+clear m r none p [] e a = absurd (true≢false (sym a))
+clear m r none p (q ∷ outs) e a = clear_case m r p q outs (none q) (bytes_eq p q) refl e a (clear m r none p outs)
+
 -- ## The states
 
 module _ (image : Image) (settings : Settings) (lists : Listings) (js : List Job) (ps : List Phase) (ss : List State) where
@@ -326,19 +341,11 @@ module _ (image : Image) (settings : Settings) (lists : Listings) (js : List Job
         by (r.0) r.1 (and_first (test_some is_restore (kept_state image settings live plan r.0)) (among (out_paths r.0.recipe) p) r.2)
         (and_second (test_some is_restore (kept_state image settings live plan r.0)) (among (out_paths r.0.recipe) p) r.2)
       where
-        clear : (outs : List Path) → list_any (λ b. b) (map (marks idle) outs) ≡ false → among outs p ≡ true → image.marked p ≡ false
-        clear [] e a = absurd (true≢false (sym a))
-        clear (q ∷ outs) e a = split (bytes_eq p q) refl a
-          where
-            split : (b : Bool) → bytes_eq p q ≡ b → (b || among outs p) ≡ true → image.marked p ≡ false
-            split true s k = ap image.marked (same_place p q s) ∙ first_off (image.marked q) (is_restored image settings idle plan q) (list_any (λ b. b) (map (marks idle) outs)) (idle_restored q) e
-            split false s k = clear outs (rest_off (marks idle q) (list_any (λ b. b) (map (marks idle) outs)) e) k
-
         here : (j : Job) → is_restore (told j) ≡ true → among (out_paths j.recipe) p ≡ true → image.marked p ≡ false
         here j k a =
             let none = no_reasons (opened j) (own_with (marks idle) j ++ (ups j ++ when (is_forced image settings idle plan j) Forced)) (restorable j && true) k in
             let own = append_none (own_with (marks idle) j) (ups j ++ when (is_forced image settings idle plan j) Forced) none in
-            clear (out_paths j.recipe) (unmarked_own j.recipe (map image.kept (out_paths j.recipe)) (map (marks idle) (out_paths j.recipe)) (map (λ q. (q, stamp_with (marks idle) q)) (in_paths j.recipe)) own) a
+            clear image.marked (is_restored image settings idle plan) idle_restored p (out_paths j.recipe) (unmarked_own j.recipe (map image.kept (out_paths j.recipe)) (map (marks idle) (out_paths j.recipe)) (map (λ q. (q, stamp_with (marks idle) q)) (in_paths j.recipe)) own) a
 
         by : (j : Job) → IsIn js j → test_some is_restore (kept_state image settings live plan j) ≡ true → among (out_paths j.recipe) p ≡ true → image.marked p ≡ false
         by j i k a = go (kept_state image settings live plan j) refl k

@@ -1,5 +1,5 @@
 -- A plan that is kept, as it begins, as jobs begin, and once what is new was put in.
-use Rattle.std.proofs.Common.{◌≡◌, ◌⊎◌, inl, inr, ℕ, zero, suc, ◌<◌, ◌≤◌, Bool, true, false, cond, ◌&&◌, ◌||◌, not, List, [], ◌∷◌, ◌++◌, map, length, Option, Some, None, option_map, refl, sym, ap, subst, ◌∙◌, arith, true≢false}
+use Rattle.std.proofs.Common.{◌≡◌, ◌⊎◌, inl, inr, ℕ, zero, suc, ◌<◌, ◌≤◌, Bool, true, false, cond, ◌&&◌, ◌||◌, not, List, [], ◌∷◌, ◌++◌, map, length, Option, Some, None, option_map, refl, sym, ap, ap₂, subst, ◌∙◌, arith, true≢false}
 use Rattle.std.specs.Prelude.{slice_set, if◌then◌else◌}
 use Rattle.std.specs.List.{slice_get}
 use Rattle.smk_world.specs.Trees.{Path}
@@ -72,22 +72,21 @@ begins_so image settings jobs facts wholes phases ran wait none served judged wh
 
 module _ (old new : LivePlan) (live : IsLive old) (n : ℕ) (waits : slice_get old.phases.items n ≡ Some Waiting)
     (phases : new.phases.items ≡ slice_set old.phases.items n Running)
-    (jobs : new.jobs ≡ old.jobs) (settings : new.settings ≡ old.settings) (facts : new.facts ≡ old.facts) (reasons : new.reasons ≡ old.reasons)
-    (wholes : new.wholes ≡ old.wholes) (states : new.states ≡ old.states) (fresh : new.fresh ≡ old.fresh) (late : new.late ≡ old.late) where
+    (jobs : new.jobs ≡ old.jobs) (settings : new.settings ≡ old.settings) (facts : new.facts.items ≡ old.facts.items) (reasons : new.reasons.items ≡ old.reasons.items)
+    (wholes : new.wholes ≡ old.wholes) (states : new.states ≡ old.states) (fresh : new.fresh ≡ old.fresh) (late : new.late.items ≡ old.late.items) where
   closed_same : paths_in is_closed new.jobs.jobs new.phases.items ≡ paths_in is_closed old.jobs.jobs old.phases.items
-  closed_same = (λ i. paths_in is_closed (jobs i).jobs (phases i)) ∙ still_closed old.jobs.jobs old.phases.items n waits
+  closed_same = ap₂ (λ (x : Jobs) (qs : List Phase). paths_in is_closed x.jobs qs) jobs phases ∙ still_closed old.jobs.jobs old.phases.items n waits
 
   pub began_live : IsLive new
   began_live =
       record {
-        each = ap length states ∙ live.each ∙ sym (ap (λ j. length j.jobs) jobs);
-        rows = ap length phases ∙ set_length old.phases.items n Running ∙ live.rows ∙ sym (ap (λ j. length j.jobs) jobs);
-        places = ap (λ l. length l.items) late ∙ live.places ∙ sym (ap (λ j. length j.jobs) jobs);
-        told = ap (λ r. r.items) reasons ∙ live.told ∙ sym (ap (λ f. map reasons_of f.items) facts);
+        each = ap length states ∙ live.each ∙ sym (ap (λ (x : Jobs). length x.jobs) jobs);
+        rows = ap length phases ∙ set_length old.phases.items n Running ∙ live.rows ∙ sym (ap (λ (x : Jobs). length x.jobs) jobs);
+        places = ap length late ∙ live.places ∙ sym (ap (λ (x : Jobs). length x.jobs) jobs);
+        told = reasons ∙ live.told ∙ sym (ap (map reasons_of) facts);
         table = λ f image so.
-            subst (λ x. x)
-            (sym (λ i. HasStates image (settings i) (having_run (closed_same i)) (with_states (jobs i) (states i))))
-            (live.table (sym fresh ∙ f) image (subst (λ x. x) (λ i. IsSoIn image (settings i) (jobs i) ((facts i).items) (wholes i) (closed_same i)) so));
+            coe 1 0 (i. HasStates image (settings i) (having_run (closed_same i)) (with_states (jobs i) (states i)))
+            (live.table (sym fresh ∙ f) image (coe 0 1 (i. IsSoIn image (settings i) (jobs i) (facts i) (wholes i) (closed_same i)) so));
       }
 
 -- ## Once a job is closed
@@ -96,7 +95,7 @@ module _ (old new : LivePlan) (live : IsLive old) (n : ℕ) (j : Job) (entries :
     (nexts : IsNext n j entries sights old next) (put : HasInstalled n next came old new) where
   told_anew : new.reasons.items ≡ map reasons_of new.facts.items
   told_anew =
-      put.told ∙ (λ i. merged (live.told i) (nexts.reasons i)) ∙ sym (merged_map reasons_of old.facts.items next.facts.items)
+      put.told ∙ ap₂ merged live.told nexts.reasons ∙ sym (merged_map reasons_of old.facts.items next.facts.items)
       ∙ sym (ap (map reasons_of) put.judged)
 
   pub closed_live : IsLive new
@@ -104,17 +103,15 @@ module _ (old new : LivePlan) (live : IsLive old) (n : ℕ) (j : Job) (entries :
       record {
         each =
             ap length put.states ∙ taken_each new.fresh (length old.jobs.jobs) old.states next.states nexts.each live.each
-            ∙ sym (ap (λ j. length j.jobs) put.jobs);
-        rows = ap length put.phases ∙ set_length old.phases.items n Closed ∙ live.rows ∙ sym (ap (λ j. length j.jobs) put.jobs);
-        places = ap length put.late ∙ set_length old.late.items n (Some came) ∙ live.places ∙ sym (ap (λ j. length j.jobs) put.jobs);
+            ∙ sym (ap (λ (x : Jobs). length x.jobs) put.jobs);
+        rows = ap length put.phases ∙ set_length old.phases.items n Closed ∙ live.rows ∙ sym (ap (λ (x : Jobs). length x.jobs) put.jobs);
+        places = ap length put.late ∙ set_length old.late.items n (Some came) ∙ live.places ∙ sym (ap (λ (x : Jobs). length x.jobs) put.jobs);
         told = told_anew;
         table = λ f image so.
             let closed = paths_in is_closed new.jobs.jobs new.phases.items in
             let taken_new : new.states ≡ next.states = put.states ∙ ap (λ b. cond b next.states old.states) f in
-            subst (λ x. x)
-            (sym (λ i. HasStates image (put.settings i) (having_run closed) (with_states (put.jobs i) (taken_new i))))
-            (nexts.table image closed
-            (subst (λ x. x) (λ i. IsSoIn image (put.settings i) (put.jobs i) (put.judged i) (put.whole i) closed) so));
+            coe 1 0 (i. HasStates image (put.settings i) (having_run closed) (with_states (put.jobs i) (taken_new i)))
+            (nexts.table image closed (coe 0 1 (i. IsSoIn image (put.settings i) (put.jobs i) (put.judged i) (put.whole i) closed) so));
       }
 
   pub closed_so : came ≡ record { entries = entries; sights = sights } → HasClosed n j entries sights old new
