@@ -31,7 +31,7 @@ use Rattle.smk_live.specs.Closing.{merged, fresh_facts, wholes_after, all_kept}
 use Rattle.smk_live.specs.Closed.{IsNext, HasClosed, HasInstalled}
 use Rattle.smk_live.proofs.Exact.{still_closed}
 use Rattle.smk_live.proofs.Merged.{merged_map, fresh_length}
-use Rattle.smk_live.proofs.Kept.{taken, taken_kept, taken_each, taken_told, idle_kept}
+use Rattle.smk_live.proofs.Kept.{taken, taken_kept, taken_each, taken_told, idle_kept, got_below}
 
 -- ## Lists
 
@@ -141,6 +141,15 @@ module _ (old new : LivePlan) (live : IsLive old) (n : ℕ) (j : Job) (entries :
       either : (new.fresh ≡ true) ⊎ (taken new.fresh next.states old.states ≡ old.states) → (new.fresh ≡ true) ⊎ (new.states ≡ old.states)
       either (inl f) = inl f
       either (inr s) = inr (put.states ∙ s)
+
+pub phase_below : (p : LivePlan) (n : ℕ) (phase : Phase) → slice_get p.phases.items n ≡ Some phase → n < length p.phases.items
+phase_below p n phase e = got_below p.phases.items n phase e
+
+pub job_below : (p : LivePlan) → IsLive p → (n : ℕ) (phase : Phase) → slice_get p.phases.items n ≡ Some phase → n < length p.jobs.jobs
+job_below p live n phase e = subst (λ m. n < m) live.rows (got_below p.phases.items n phase e)
+
+pub place_below : (p : LivePlan) → IsLive p → (n : ℕ) (phase : Phase) → slice_get p.phases.items n ≡ Some phase → n < length p.late.items
+place_below p live n phase e = subst (λ m. n < m) (live.rows ∙ sym live.places) (got_below p.phases.items n phase e)
 
 some_same : {A : Type 0} (x y : A) → Some x ≡ Some y → x ≡ y
 some_same x y e = cc

@@ -238,6 +238,7 @@ impl LivePlan {
     /// The judge is asked once about the closed job and once about each job that wants an output of it or a member of one, and about no other. The states are then
     /// told anew by the table. Where a job that runs would have another state than it has, all states stay as they are, and `is_exact` is false until a
     /// later closing. `OutOfMemory` where there is no memory for all this: nothing is changed then.
+    #[tactic(auto, using(crate::proofs::Installed::phase_below, crate::proofs::Installed::job_below, crate::proofs::Installed::place_below, crate::proofs::Installed::facts_fit, crate::proofs::Installed::reasons_fit))]
     pub fn closed<J: Judge>(
         &mut self,
         alloc: Global,

@@ -1,6 +1,6 @@
 //! What jobs are judged by once a job is closed.
 
-ghost use Rattle.std.specs.Prelude.{◌≡◌, map, option_map, IfOk, Some};
+ghost use Rattle.std.specs.Prelude.{◌≡◌, false, map, option_map, IfOk, Some};
 ghost use Rattle.std.specs.List.{list_any, flat_map};
 ghost use Rattle.smk_world.specs.Trees.{outs_of};
 ghost use Rattle.smk_plan.specs.States.{makes};

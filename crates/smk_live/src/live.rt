@@ -1,6 +1,6 @@
 //! A plan that is kept.
 
-ghost use Rattle.std.specs.Prelude.{◌≡◌, ◌&&◌, true, slice_set, Some};
+ghost use Rattle.std.specs.Prelude.{◌≡◌, ◌<◌, ◌&&◌, true, length, slice_set, Some};
 ghost use Rattle.std.specs.List.{slice_get};
 ghost use Rattle.smk_store.specs.Images.{Image};
 ghost use Rattle.smk_live.specs.Lives.{IsLive, IsOf, HasLive};
@@ -38,6 +38,14 @@ pub struct LivePlan {
     pub(crate) fresh: bool,
     /// What came of each job as it was closed.
     pub(crate) late: Vec<Option<Late>>,
+}
+
+// Sets the phase at the place.
+fn set_phase(phases: &mut Vec<Phase>, at: usize, phase: Phase)
+    requires { at < length phases.old.items }
+    ensures { phases.new.items ≡ slice_set phases.old.items at phase }
+{
+    phases[at] = phase;
 }
 
 impl LivePlan {
@@ -87,6 +95,7 @@ impl LivePlan {
     }
 
     /// The job has begun: its child runs. It takes no memory.
+    #[tactic(auto, using(crate::proofs::Installed::phase_below))]
     pub fn began(&mut self, job: u32)
         requires live { IsLive self.old }
         requires waiting { slice_get self.old.phases.items job ≡ Some Phase.Waiting }
@@ -97,6 +106,6 @@ impl LivePlan {
         ensures judged { (self.new.facts ≡ self.old.facts) × ((self.new.reasons ≡ self.old.reasons) × (self.new.wholes ≡ self.old.wholes)) }
         ensures states { (self.new.states ≡ self.old.states) × ((self.new.fresh ≡ self.old.fresh) × (self.new.late ≡ self.old.late)) }
     {
-        self.phases[job as usize] = Phase::Running;
+        set_phase(&mut self.phases, job as usize, Phase::Running);
     }
 }

@@ -3,7 +3,7 @@ use Rattle.smk_trigger.specs.declared.facts.JobFacts.{JobFacts}
 use Rattle.smk_trigger.specs.Reasons.{reasons_of}
 use Rattle.smk_live.specs.Closing.{merged, fresh_facts, wholes_after}
 use Rattle.smk_live.proofs.Merged.{merged_map}
-use Rattle.smk_live.proofs.closing.LivePlan.next.Goals as goal
+use Rattle.smk_live.proofs.live.LivePlan.next.Goals as goal
 
 pub returns : goal.returns
 returns g c =

@@ -2,7 +2,7 @@ use Rattle.std.proofs.Common.{◌≡◌, refl, sym, ap, ◌∙◌}
 use Rattle.std.specs.List.{slice_get}
 use Rattle.smk_live.specs.Closed.{HasInstalled}
 use Rattle.smk_live.proofs.Installed.{closed_live, closed_as, facts_fit, reasons_fit}
-use Rattle.smk_live.proofs.closing.LivePlan.closed.Goals as goal
+use Rattle.smk_live.proofs.live.LivePlan.closed.Goals as goal
 
 pub returns-clause-live : goal.returns-clause-live
 returns-clause-live g c =
@@ -20,3 +20,6 @@ returns-clause-live g c =
       fresh = c.install.ensures.fresh;
       states = c.install.ensures.states;
     })
+
+pub returns-clause-ok : goal.returns-clause-ok
+returns-clause-ok g c = ?
