@@ -123,8 +123,8 @@ fn finish_folders<W: Files>(alloc: Global, work: &mut W, going: Going) -> Result
 /// the outputs; writes the records and settles them; removes the marks and settles that.
 ///
 /// `NoOutput`, `WrongKind`, `BadMember`: the first output, in order, that isn't as it should be; then the job has been abandoned. `Device`:
-/// a call failed, and none came after it. `OutOfMemory`: there is no memory for what is under a directory output; then nothing was
-/// changed. After these two the marks stay.
+/// a call failed, and none came after it; the marks stay until all records are firm, and may be gone after that. `OutOfMemory`: there is
+/// no memory for what is under a directory output; then nothing was changed, and the marks stay.
 ///
 /// Where the world is told, no running child owns or reads an output.
 pub fn finish<W: Crew>(alloc: Global, work: &mut W, going: Going) -> Result<(), CloseFault>

@@ -1,5 +1,5 @@
 -- The second pass, job by job.
-use Rattle.std.proofs.Common.{◌≡◌, ℕ, zero, suc, ◌+◌, ◌<◌, length, arith, Bool, true, false, not, ◌&&◌, ◌||◌, List, [], ◌∷◌, ◌++◌, map, filter, find, zip, reverse, refl, sym, ap, subst, inl, inr, ◌∙◌, Option, Some, None, option_map, append_assoc, length-append}
+use Rattle.std.proofs.Common.{◌≡◌, ℕ, zero, suc, ◌+◌, ◌<◌, length, arith, Bool, true, false, not, ◌&&◌, ◌||◌, List, [], ◌∷◌, ◌++◌, map, filter, find, zip, reverse, refl, sym, ap, subst, inl, inr, ◌∙◌, Option, Some, None, append_assoc, length-append}
 use Rattle.std.specs.List.{list_any, slice_get}
 use Rattle.std.specs.Option.{option_and_then}
 use Rattle.std.proofs.lemmas.List.Folds.{list_any-append}
@@ -20,16 +20,18 @@ use Rattle.smk_states.specs.declared.parts.Parts.{Parts}
 use Rattle.smk_states.specs.declared.paths.Paths.{Paths}
 use Rattle.smk_states.specs.Served.{IsBelow, ReadEarlier}
 use Rattle.smk_states.specs.Parts.{gone_outputs, parts_of}
+use Rattle.smk_states.specs.InUse.{is_in_use_told}
 use Rattle.smk_states.specs.First.{unless_needed, IsSolved}
 use Rattle.smk_laws.proofs.CurrentLists.{In, in_left, in_right, map_in, filter_in, clash_of, none_some, or_first, some_inj}
 use Rattle.smk_laws.proofs.CurrentPaths.{among_in, in_among, touch_overlaps}
-use Rattle.smk_laws.proofs.CurrentApart.{JobsApart, own_apart, maker_found}
+use Rattle.smk_laws.proofs.CurrentApart.{JobsApart, own_apart}
 use Rattle.smk_laws.proofs.CurrentChosen.{path_in}
 use Rattle.smk_laws.proofs.PlanStates.{any_same, any_zip}
 use Rattle.smk_states.proofs.Tests.{any_never}
 use Rattle.smk_states.proofs.Apart.{each_in, jobs_apart_from}
-use Rattle.smk_states.proofs.Meaning.{final, first, needs, found_with, final_from}
+use Rattle.smk_states.proofs.Meaning.{final, first, needs, final_from}
 use Rattle.smk_states.proofs.Told.{IsReadOf, told_below}
+use Rattle.smk_states.proofs.ReadOthers.{found_one, read_is}
 use Rattle.smk_states.proofs.FirstPass.{length_map}
 
 -- ## Lists
@@ -95,20 +97,6 @@ read_front J n [] rest j h i = absurd i
 read_front J n (k ∷ front) rest j h (inl e) = (n, omega arith, subst (λ (x : Job). Each (IsReadOf J n) (in_paths x.recipe ++ gathers_from x)) (sym e) h.0)
 read_front J n (k ∷ front) rest j h (inr i) = let r = read_front J (suc n) front rest j h.1 i in let lt = r.1 in (r.0, omega arith, r.2)
 
--- the one job that makes the path is found
-pub found_one : (js : List Job) (j : Job) (q : Path) → JobsApart js → In j js → makes j q ≡ true → find (λ j. makes j q) js ≡ Some j
-found_one js j q apart i m = back (find (λ j. makes j q) js) (sym (found_with flagged js q) ∙ maker_found flagged js j q apart i m)
-  where
-    flagged : Job → Bool
-    flagged x = true
-
-    both : Job → Job × Bool
-    both x = (x, true)
-
-    back : (o : Option Job) → option_map both o ≡ Some (both j) → o ≡ Some j
-    back None e = absurd (none_some None (both j) refl e)
-    back (Some x) e = ap Some (ap (λ (y : Job × Bool). y.0) (some_inj (both x) (both j) e))
-
 -- a job stands in one place
 twice : (before : List Job) (k : Job) (after : List Job) (p : Path) → JobsApart (before ++ k ∷ after) → In k before → In p (out_paths k.recipe) → ⊥
 twice [] k after p h i o = i
@@ -118,8 +106,8 @@ twice (b ∷ before) k after p h (inl e) o =
 twice (b ∷ before) k after p h (inr i) o = twice before k after p h.2 i o
 
 module _
-    (image : Image) (settings : Settings) (progress : Progress) (jobs : Jobs) (targets : List Path) (ss : List State) (paths : Paths) (parts : List Parts)
-    (h : IsSolved image settings progress jobs targets ss paths parts) where
+    (image : Image) (settings : Settings) (progress : Progress) (jobs : Jobs) (targets : List Path) (ss : List State) (paths : Paths) (parts : List Parts) (used : Path → Bool)
+    (h : IsSolved image settings progress jobs targets ss paths parts used) where
   abbrev apart : JobsApart jobs.jobs
   apart = jobs_apart_from jobs.jobs h.served.apart
 
@@ -179,10 +167,11 @@ module _
 
     pub last_here :
         (needed : Path → Bool) → ((q : Path) → needed q ≡ list_any (λ (j : Job). among (in_paths j.recipe) q && is_to_run (late j)) after) →
-        unless_needed (list_any needed (gone_outputs image k)) (early k) ≡ late k
+        unless_needed (list_any needed (gone_outputs image k) && not (is_in_use_told used (parts_of image k))) (early k) ≡ late k
     last_here needed is =
-        final_from image settings progress jobs ss h.idle k (list_any needed (gone_outputs image k)) (own_apart jobs.jobs k apart here)
+        final_from image settings progress jobs ss k (list_any needed (gone_outputs image k)) (is_in_use_told used (parts_of image k)) (own_apart jobs.jobs k apart here)
         (any_same needed (needs image settings progress jobs ss) (gone_outputs image k) (λ p i. is p ∙ sym (needed_after p (output p i))))
+        (read_is image settings progress jobs ss targets h.served.apart h.served.reads used h.in_use k here)
       where
         output : (p : Path) → In p (gone_outputs image k) → In p (out_paths k.recipe)
         output p i =
@@ -205,7 +194,7 @@ module _
   pub more_down :
       (left front found more : List State) (needed later : Path → Bool) (one state : State) (part : Option Parts) →
       left ≡ front ++ one ∷ [] → part ≡ slice_get parts (length front) →
-      ((m : Parts) → part ≡ Some m → (state ≡ unless_needed (list_any needed m.gone) one) × ((q : Path) → later q ≡ (needed q || (among m.inputs q && is_to_run state)))) →
+      ((m : Parts) → part ≡ Some m → (state ≡ unless_needed (list_any needed m.gone && not (is_in_use_told used m)) one) × ((q : Path) → later q ≡ (needed q || (among m.inputs q && is_to_run state)))) →
       more ≡ found ++ state ∷ [] →
       IsDown left found needed → IsDown front more later
   more_down left front found more needed later one state part popped got stepped pushed down =
@@ -214,7 +203,7 @@ module _
       let all : jobs.jobs ≡ e.0 ++ k ∷ down.after = down.all ∙ ap (λ js. js ++ down.after) e.2 ∙ append_assoc e.0 (k ∷ []) down.after in
       let size : length front ≡ length e.0 = ap length e.3 ∙ length_map early e.0 in
       let s = stepped (parts_of image k) (got ∙ ap (λ ps. slice_get ps (length front)) (h.parts ∙ ap (map (parts_of image)) all) ∙ got_at (parts_of image) e.0 k down.after (length front) size) in
-      let is : state ≡ late k = s.0 ∙ ap (unless_needed (list_any needed (gone_outputs image k))) e.4 ∙ last_here e.0 k down.after all needed down.reads in
+      let is : state ≡ late k = s.0 ∙ ap (unless_needed (list_any needed (gone_outputs image k) && not (is_in_use_told used (parts_of image k)))) e.4 ∙ last_here e.0 k down.after all needed down.reads in
       record {
         before = e.0;
         after = k ∷ down.after;

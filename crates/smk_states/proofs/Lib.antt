@@ -4,6 +4,8 @@ mod Tests
 mod Apart
 mod Meaning
 mod Told
+mod ReadOthers
+mod Idle
 mod FirstPass
 mod LastPass
 mod Solved

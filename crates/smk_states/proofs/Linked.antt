@@ -39,7 +39,8 @@ use Rattle.smk_laws.proofs.PlanOne.{derived, derived_apart}
 use Rattle.smk_states.specs.Served.{AreApart, IsToldOf, IsBelow, ReadEarlier, outputs_of}
 use Rattle.smk_states.specs.Laws.{LinkedAreServed}
 use Rattle.smk_states.proofs.Apart.{each_in}
-use Rattle.smk_states.proofs.LastPass.{append_none, found_one}
+use Rattle.smk_states.proofs.ReadOthers.{found_one}
+use Rattle.smk_states.proofs.LastPass.{append_none}
 use Rattle.smk_states.proofs.ReadyNow.{job_there}
 
 -- ## Lists

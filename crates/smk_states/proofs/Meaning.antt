@@ -1,6 +1,5 @@
--- What the states of a plan are made of where no child runs: the makers of paths, awaited directories, and what is wanted back.
+-- What the states of a plan are made of: the makers of paths, awaited directories, and what is wanted back.
 use Rattle.std.proofs.Common.{◌≡◌, ◌⊎◌, Bool, true, false, not, cond, ◌&&◌, ◌||◌, List, [], ◌∷◌, ◌++◌, map, filter, flat_map, find, zip, refl, sym, ap, subst, inl, inr, ◌∙◌, Option, Some, None, option_map, is_some, is_none}
-use Rattle.std.specs.Prelude.{bytes_eq}
 use Rattle.std.specs.List.{list_any}
 use Rattle.std.specs.Option.{option_and_then}
 use Rattle.smk_base.specs.Path.{is_under, overlaps}
@@ -12,15 +11,13 @@ use Rattle.smk_world.specs.World.{in_paths, out_paths}
 use Rattle.smk_world.specs.Trees.{Path, among, outs_of, folders_of, folder_over, kind_in, is_folder_kind}
 use Rattle.smk_flow.specs.declared.job.Job.{Job}
 use Rattle.smk_store.specs.Images.{Image, is_whole}
-use Rattle.smk_store.specs.Trust.{is_marked_but, stamp_now_but, stamp_now, holder, made_stamp, time_stamp}
 use Rattle.smk_chain.specs.declared.jobs.Jobs.{Jobs}
 use Rattle.smk_trigger.specs.declared.reason.Reason.{Reason}
 use Rattle.smk_trigger.specs.declared.reason.State.{State}
-use Rattle.smk_trigger.specs.declared.reason.State.TheVariants.{Open}
-use Rattle.smk_trigger.specs.JobStates.{is_open, is_dirty, is_clean, is_to_run, is_restore}
-use Rattle.smk_trigger.specs.Reasons.{own_reasons}
+use Rattle.smk_trigger.specs.declared.reason.State.TheVariants.{Open, Dirty, Restore, Clean}
+use Rattle.smk_trigger.specs.JobStates.{is_open, is_dirty, is_clean, is_to_run}
 use Rattle.smk_pick.specs.declared.settings.Settings.{Settings}
-use Rattle.smk_plan.specs.States.{Plan, Progress, HasStates, makes, gathers_from, stands_whole, by_reasons, while_running, test_some, none_or_one, maker_of, made_by, directory_over, awaits, is_input, is_ready, is_at_hand, awaited, is_open_now, is_forced, reasons, makes_awaited, is_temporary, is_wanted_back, is_to_restore, kept_state, is_restored, is_read_now, by_table, state_of}
+use Rattle.smk_plan.specs.States.{Plan, Progress, HasStates, makes, gathers_from, stands_whole, by_reasons, unless_clean, while_running, test_some, none_or_one, maker_of, made_by, directory_over, awaits, is_input, is_ready, is_at_hand, awaited, is_open_now, is_forced, reasons, makes_awaited, is_temporary, is_wanted_back, is_to_restore, kept_state, is_read_now, state_of}
 use Rattle.smk_states.specs.Judged.{with_states}
 use Rattle.smk_states.specs.Parts.{gone_outputs}
 use Rattle.smk_states.specs.First.{is_always_wanted, is_kept, first_state, unless_needed}
@@ -29,7 +26,7 @@ use Rattle.smk_laws.proofs.CurrentPaths.{among_in, in_among, touch_overlaps}
 use Rattle.smk_laws.proofs.CurrentApart.{Apart, JobsApart, maker_found, apart_same, own_apart}
 use Rattle.smk_laws.proofs.CurrentChosen.{paths_are, folders_paths}
 use Rattle.smk_laws.proofs.PlanStates.{any_same}
-use Rattle.smk_states.proofs.Tests.{and_true, and_or, any_or, any_map, any_filter, any_never, among_once}
+use Rattle.smk_states.proofs.Tests.{and_true, and_or, any_or, any_map, any_filter, among_once}
 
 -- ## Outputs of a job that lie apart
 
@@ -104,28 +101,81 @@ found_with {B} f (j ∷ js) q = go (makes j q) (found_with f js q)
 
 -- ## One state
 
-state_open : (b : Bool) (rs : List Reason) (x y : Bool) → is_open (cond b Open (by_reasons rs x)) ≡ is_open (cond b Open (by_reasons rs y))
-state_open true rs x y = refl
-state_open false (r ∷ rs) x y = refl
-state_open false [] true true = refl
-state_open false [] true false = refl
-state_open false [] false true = refl
-state_open false [] false false = refl
+-- how a job that runs changes its state, where what is wanted back doesn't matter
+running_clean : (b : Bool) (rs : List Reason) (x y : Bool) → unless_clean (cond b Open (by_reasons rs x)) ≡ unless_clean (cond b Open (by_reasons rs y))
+running_clean true rs x y = refl
+running_clean false (r ∷ rs) x y = refl
+running_clean false [] true true = refl
+running_clean false [] true false = refl
+running_clean false [] false true = refl
+running_clean false [] false false = refl
 
-state_dirty : (b : Bool) (rs : List Reason) (x y : Bool) → is_dirty (cond b Open (by_reasons rs x)) ≡ is_dirty (cond b Open (by_reasons rs y))
-state_dirty true rs x y = refl
-state_dirty false (r ∷ rs) x y = refl
-state_dirty false [] true true = refl
-state_dirty false [] true false = refl
-state_dirty false [] false true = refl
-state_dirty false [] false false = refl
+plain_open : (b : Bool) (rs : List Reason) (x y : Bool) → is_open (cond b Open (by_reasons rs x)) ≡ is_open (cond b Open (by_reasons rs y))
+plain_open true rs x y = refl
+plain_open false (r ∷ rs) x y = refl
+plain_open false [] true true = refl
+plain_open false [] true false = refl
+plain_open false [] false true = refl
+plain_open false [] false false = refl
 
-needed_state : (b : Bool) (rs : List Reason) (kept needed : Bool) → unless_needed needed (cond b Open (by_reasons rs kept)) ≡ cond b Open (by_reasons rs (kept || needed))
-needed_state true rs kept needed = refl
-needed_state false (r ∷ rs) kept needed = refl
-needed_state false [] true needed = refl
-needed_state false [] false true = refl
-needed_state false [] false false = refl
+plain_dirty : (b : Bool) (rs : List Reason) (x y : Bool) → is_dirty (cond b Open (by_reasons rs x)) ≡ is_dirty (cond b Open (by_reasons rs y))
+plain_dirty true rs x y = refl
+plain_dirty false (r ∷ rs) x y = refl
+plain_dirty false [] true true = refl
+plain_dirty false [] true false = refl
+plain_dirty false [] false true = refl
+plain_dirty false [] false false = refl
+
+state_open : (o : Option State) (b : Bool) (rs : List Reason) (x y : Bool) → is_open (while_running o (cond b Open (by_reasons rs x))) ≡ is_open (while_running o (cond b Open (by_reasons rs y)))
+state_open None b rs x y = plain_open b rs x y
+state_open (Some (Dirty own)) b rs x y = refl
+state_open (Some Open) b rs x y = ap is_open (running_clean b rs x y)
+state_open (Some Restore) b rs x y = ap is_open (running_clean b rs x y)
+state_open (Some Clean) b rs x y = ap is_open (running_clean b rs x y)
+
+state_dirty : (o : Option State) (b : Bool) (rs : List Reason) (x y : Bool) → is_dirty (while_running o (cond b Open (by_reasons rs x))) ≡ is_dirty (while_running o (cond b Open (by_reasons rs y)))
+state_dirty None b rs x y = plain_dirty b rs x y
+state_dirty (Some (Dirty own)) b rs x y = refl
+state_dirty (Some Open) b rs x y = ap is_dirty (running_clean b rs x y)
+state_dirty (Some Restore) b rs x y = ap is_dirty (running_clean b rs x y)
+state_dirty (Some Clean) b rs x y = ap is_dirty (running_clean b rs x y)
+
+never_clean : (needed : Bool) (s : State) → unless_needed needed (unless_clean s) ≡ unless_clean s
+never_clean needed Open = refl
+never_clean needed (Dirty reasons) = refl
+never_clean needed Restore = refl
+never_clean needed Clean = refl
+
+-- one Boolean after the other, so that each case computes
+plain_needed : (kept needed read : Bool) → unless_needed (needed && not read) (by_reasons [] (kept && not read)) ≡ by_reasons [] ((kept || needed) && not read)
+plain_needed true true true = refl
+plain_needed true true false = refl
+plain_needed true false true = refl
+plain_needed true false false = refl
+plain_needed false true true = refl
+plain_needed false true false = refl
+plain_needed false false true = refl
+plain_needed false false false = refl
+
+needed_plain :
+    (b : Bool) (rs : List Reason) (kept needed read : Bool) →
+    unless_needed (needed && not read) (cond b Open (by_reasons rs (kept && not read))) ≡ cond b Open (by_reasons rs ((kept || needed) && not read))
+needed_plain true rs kept needed read = refl
+needed_plain false (r ∷ rs) kept needed read = refl
+needed_plain false [] kept needed read = plain_needed kept needed read
+
+needed_state :
+    (o : Option State) (b : Bool) (rs : List Reason) (kept needed read : Bool) →
+    unless_needed (needed && not read) (while_running o (cond b Open (by_reasons rs (kept && not read))))
+    ≡ while_running o (cond b Open (by_reasons rs ((kept || needed) && not read)))
+needed_state None b rs kept needed read = needed_plain b rs kept needed read
+needed_state (Some (Dirty own)) b rs kept needed read = refl
+needed_state (Some Open) b rs kept needed read =
+    never_clean (needed && not read) (cond b Open (by_reasons rs (kept && not read))) ∙ running_clean b rs (kept && not read) ((kept || needed) && not read)
+needed_state (Some Restore) b rs kept needed read =
+    never_clean (needed && not read) (cond b Open (by_reasons rs (kept && not read))) ∙ running_clean b rs (kept && not read) ((kept || needed) && not read)
+needed_state (Some Clean) b rs kept needed read =
+    never_clean (needed && not read) (cond b Open (by_reasons rs (kept && not read))) ∙ running_clean b rs (kept && not read) ((kept || needed) && not read)
 
 wanted_split : (T A K R : Bool) → (T || (A || (K || R))) ≡ ((T || (A || K)) || R)
 wanted_split true A K R = refl
@@ -164,80 +214,61 @@ module _ (image : Image) (settings : Settings) (progress : Progress) (J : Jobs) 
   abbrev pub needs : Path → Bool
   needs = is_input plan (λ e. is_to_run e.1)
 
-  -- ## Where nothing runs
+  -- ## The two passes
 
-  module _ (idle : progress.running ≡ []) where
-    kept_none : (j : Job) → kept_state image settings progress plan j ≡ None
-    kept_none j = ap (λ r. option_map (λ (e : Path × State). e.1) (find (λ (e : Path × State). bytes_eq e.0 (Rattle.smk_plan.specs.States.job_path j)) r)) idle
+  abbrev state_with : Job → Bool → State
+  state_with j restores =
+      while_running (kept_state image settings progress plan j)
+      (cond (is_open_now image settings progress plan j) Open (by_reasons (reasons image settings progress plan j) (restores && not (is_read_now image settings progress plan j))))
 
-    restored_none : (p : Path) → is_restored image settings progress plan p ≡ false
-    restored_none p =
-        (λ i. list_any (λ j. test_some is_restore (kept_none j i) && among (out_paths j.recipe) p) J.jobs) ∙ any_never J.jobs
+  pub opens_alike : (j : Job) → is_open (first j) ≡ is_open (final j)
+  opens_alike j =
+      let read = not (is_read_now image settings progress plan j) in
+      state_open (kept_state image settings progress plan j) (is_open_now image settings progress plan j) (reasons image settings progress plan j)
+      (is_kept image settings progress plan j && read) (is_to_restore image settings progress plan j && read)
 
-    read_none : (j : Job) → is_read_now image settings progress plan j ≡ false
-    read_none j =
-        (λ i. list_any (λ k. is_some (kept_none k i) && (not (bytes_eq (Rattle.smk_plan.specs.States.job_path j) (Rattle.smk_plan.specs.States.job_path k)) && list_any (makes j) (in_paths k.recipe))) J.jobs)
-        ∙ any_never J.jobs
+  pub dirties_alike : (j : Job) → is_dirty (first j) ≡ is_dirty (final j)
+  dirties_alike j =
+      let read = not (is_read_now image settings progress plan j) in
+      state_dirty (kept_state image settings progress plan j) (is_open_now image settings progress plan j) (reasons image settings progress plan j)
+      (is_kept image settings progress plan j && read) (is_to_restore image settings progress plan j && read)
 
-    pub final_is : (j : Job) → final j ≡ cond (is_open_now image settings progress plan j) Open (by_reasons (reasons image settings progress plan j) (is_to_restore image settings progress plan j))
-    final_is j =
-        (λ i. while_running (kept_none j i) (by_table image settings progress plan j))
-        ∙ ap (λ b. cond (is_open_now image settings progress plan j) Open (by_reasons (reasons image settings progress plan j) (is_to_restore image settings progress plan j && not b))) (read_none j)
-        ∙ ap (λ b. cond (is_open_now image settings progress plan j) Open (by_reasons (reasons image settings progress plan j) b)) (and_true (is_to_restore image settings progress plan j))
+  wanted_is : (j : Job) (p : Path) → is_wanted_back image settings progress plan j p ≡ (is_always_wanted image settings progress plan j p || needs p)
+  wanted_is j p =
+      wanted_split (among settings.targets p) (among (awaited image settings progress plan) p) (not (is_temporary image settings progress plan j p) && is_input plan (λ e. true) p) (needs p)
 
-    pub own_alone :
-        (j : Job) →
-        own_reasons j.recipe (map image.kept (out_paths j.recipe)) (map (is_marked_but image (is_restored image settings progress plan)) (out_paths j.recipe)) (map (λ q. (q, stamp_now_but image (is_restored image settings progress plan) q)) (in_paths j.recipe))
-        ≡ own_reasons j.recipe (map image.kept (out_paths j.recipe)) (map image.marked (out_paths j.recipe)) (map (λ q. (q, stamp_now image q)) (in_paths j.recipe))
-    own_alone j =
-        let marks : (h : Path) → is_marked_but image (is_restored image settings progress plan) h ≡ image.marked h = λ h. ap (λ b. image.marked h && not b) (restored_none h) ∙ and_true (image.marked h) in
-        λ i. own_reasons j.recipe (map image.kept (out_paths j.recipe)) (map (λ h. marks h i) (out_paths j.recipe)) (map (λ q. (q, cond (Rattle.smk_store.specs.Images.is_source image q) (time_stamp (Rattle.smk_store.specs.Images.source_at image q)) (option_and_then (λ h. cond (marks h i) None (made_stamp (Rattle.smk_store.specs.Images.core_at image h))) (holder image q)))) (in_paths j.recipe))
+  -- where a job makes an awaited directory, its first state is its last one
+  pub fed_alike : (j : Job) → feeds j ≡ true → first j ≡ final j
+  fed_alike j h =
+      ap (state_with j) (sym restores)
+    where
+      reads : (p : Path) → needs p ≡ true → is_input plan (λ e. true) p ≡ true
+      reads p n =
+          let r = any_in (λ (e : Job × State). among (in_paths e.0.recipe) p && is_to_run e.1) (zip J.jobs ss) n in
+          any_from (λ (e : Job × State). among (in_paths e.0.recipe) p && true) (zip J.jobs ss) r.0 r.1
+          (and_true (among (in_paths r.0.0.recipe) p) ∙ Rattle.smk_laws.proofs.CurrentLists.and_left (among (in_paths r.0.0.recipe) p) (is_to_run r.0.1) r.2)
 
-    -- ## The two passes
+      restores : is_to_restore image settings progress plan j ≡ is_kept image settings progress plan j
+      restores =
+          any_same _ _ (out_paths j.recipe) (λ p i. ap (λ b. not (is_whole image p (kind_in j.recipe p)) && b)
+          (wanted_is j p ∙ wanted_fed (among settings.targets p) (among (awaited image settings progress plan) p) (among j.temps p) (feeds j) (is_input plan (λ e. true) p) (needs p) h (reads p)))
 
-    pub opens_alike : (j : Job) → is_open (first j) ≡ is_open (final j)
-    opens_alike j =
-        state_open (is_open_now image settings progress plan j) (reasons image settings progress plan j) (is_kept image settings progress plan j) (is_to_restore image settings progress plan j)
-        ∙ ap is_open (sym (final_is j))
-
-    pub dirties_alike : (j : Job) → is_dirty (first j) ≡ is_dirty (final j)
-    dirties_alike j =
-        state_dirty (is_open_now image settings progress plan j) (reasons image settings progress plan j) (is_kept image settings progress plan j) (is_to_restore image settings progress plan j)
-        ∙ ap is_dirty (sym (final_is j))
-
-    wanted_is : (j : Job) (p : Path) → is_wanted_back image settings progress plan j p ≡ (is_always_wanted image settings progress plan j p || needs p)
-    wanted_is j p =
-        wanted_split (among settings.targets p) (among (awaited image settings progress plan) p) (not (is_temporary image settings progress plan j p) && is_input plan (λ e. true) p) (needs p)
-
-    -- where a job makes an awaited directory, its first state is its last one
-    pub fed_alike : (j : Job) → feeds j ≡ true → first j ≡ final j
-    fed_alike j h =
-        ap (λ b. cond (is_open_now image settings progress plan j) Open (by_reasons (reasons image settings progress plan j) b)) (sym restores) ∙ sym (final_is j)
-      where
-        reads : (p : Path) → needs p ≡ true → is_input plan (λ e. true) p ≡ true
-        reads p n =
-            let r = any_in (λ (e : Job × State). among (in_paths e.0.recipe) p && is_to_run e.1) (zip J.jobs ss) n in
-            any_from (λ (e : Job × State). among (in_paths e.0.recipe) p && true) (zip J.jobs ss) r.0 r.1
-            (and_true (among (in_paths r.0.0.recipe) p) ∙ Rattle.smk_laws.proofs.CurrentLists.and_left (among (in_paths r.0.0.recipe) p) (is_to_run r.0.1) r.2)
-
-        restores : is_to_restore image settings progress plan j ≡ is_kept image settings progress plan j
-        restores =
-            any_same _ _ (out_paths j.recipe) (λ p i. ap (λ b. not (is_whole image p (kind_in j.recipe p)) && b)
-            (wanted_is j p ∙ wanted_fed (among settings.targets p) (among (awaited image settings progress plan) p) (among j.temps p) (feeds j) (is_input plan (λ e. true) p) (needs p) h (reads p)))
-
-    -- the last state from the first
-    pub final_from : (j : Job) (needed : Bool) → Apart (out_paths j.recipe) → needed ≡ list_any needs (gone_outputs image j) → unless_needed needed (first j) ≡ final j
-    final_from j needed apart is =
-        needed_state (is_open_now image settings progress plan j) (reasons image settings progress plan j) (is_kept image settings progress plan j) needed
-        ∙ ap (λ b. cond (is_open_now image settings progress plan j) Open (by_reasons (reasons image settings progress plan j) b)) (sym restores)
-        ∙ sym (final_is j)
-      where
-        restores : is_to_restore image settings progress plan j ≡ (is_kept image settings progress plan j || needed)
-        restores =
-            any_same _ (λ p. (not (is_whole image p (kind_in j.recipe p)) && is_always_wanted image settings progress plan j p) || (not (is_whole image p (kind_in j.recipe p)) && needs p)) (out_paths j.recipe)
-            (λ p i. ap (λ b. not (is_whole image p (kind_in j.recipe p)) && b) (wanted_is j p) ∙ and_or (not (is_whole image p (kind_in j.recipe p))) (is_always_wanted image settings progress plan j p) (needs p))
-            ∙ any_or (λ p. not (is_whole image p (kind_in j.recipe p)) && is_always_wanted image settings progress plan j p) (λ p. not (is_whole image p (kind_in j.recipe p)) && needs p) (out_paths j.recipe)
-            ∙ ap (λ b. is_kept image settings progress plan j || b) (gone_tests j apart image needs ∙ sym is)
+  -- the last state from the first
+  pub final_from :
+      (j : Job) (needed read : Bool) → Apart (out_paths j.recipe) → needed ≡ list_any needs (gone_outputs image j) → read ≡ is_read_now image settings progress plan j →
+      unless_needed (needed && not read) (first j) ≡ final j
+  final_from j needed read apart is now =
+      ap (λ b. unless_needed (needed && not b) (first j)) now
+      ∙ needed_state (kept_state image settings progress plan j) (is_open_now image settings progress plan j) (reasons image settings progress plan j)
+      (is_kept image settings progress plan j) needed (is_read_now image settings progress plan j)
+      ∙ ap (state_with j) (sym restores)
+    where
+      restores : is_to_restore image settings progress plan j ≡ (is_kept image settings progress plan j || needed)
+      restores =
+          any_same _ (λ p. (not (is_whole image p (kind_in j.recipe p)) && is_always_wanted image settings progress plan j p) || (not (is_whole image p (kind_in j.recipe p)) && needs p)) (out_paths j.recipe)
+          (λ p i. ap (λ b. not (is_whole image p (kind_in j.recipe p)) && b) (wanted_is j p) ∙ and_or (not (is_whole image p (kind_in j.recipe p))) (is_always_wanted image settings progress plan j p) (needs p))
+          ∙ any_or (λ p. not (is_whole image p (kind_in j.recipe p)) && is_always_wanted image settings progress plan j p) (λ p. not (is_whole image p (kind_in j.recipe p)) && needs p) (out_paths j.recipe)
+          ∙ ap (λ b. is_kept image settings progress plan j || b) (gone_tests j apart image needs ∙ sym is)
 
   -- ## Directories over paths
 

@@ -1,5 +1,5 @@
 -- There are states that meet the table, since what a job reads is made by jobs before it.
-use Rattle.std.proofs.Common.{◌≡◌, ◌⊎◌, ℕ, length, arith, Bool, true, false, List, [], ◌∷◌, ◌++◌, map, find, refl, sym, ap, subst, inl, inr, ◌∙◌, Option, Some, None, append_assoc}
+use Rattle.std.proofs.Common.{◌≡◌, ◌⊎◌, ℕ, length, arith, true, false, List, [], ◌∷◌, ◌++◌, map, find, refl, sym, ap, subst, inl, inr, ◌∙◌, Option, Some, None, append_assoc}
 use Rattle.std.specs.Option.{option_and_then}
 use Rattle.smk_world.specs.World.{in_paths}
 use Rattle.smk_world.specs.Trees.{Path}
@@ -12,20 +12,14 @@ use Rattle.smk_plan.specs.States.{Progress, HasStates, makes, gathers_from, stat
 use Rattle.smk_plan.specs.Sights.{job_at}
 use Rattle.smk_states.specs.Served.{AreServed, IsBelow, ReadEarlier}
 use Rattle.smk_states.specs.Judged.{with_states}
-use Rattle.smk_laws.proofs.CurrentLists.{In, in_left, in_right, in_either, find_in, find_some, none_some}
+use Rattle.smk_laws.proofs.CurrentLists.{In, in_left, in_right, in_either, find_in, none_some}
 use Rattle.smk_laws.proofs.CurrentRecipes.{map_same}
 use Rattle.smk_laws.proofs.PlanOrder.{Reads, InOrder}
 use Rattle.smk_laws.proofs.PlanOne.{solution}
 use Rattle.smk_states.proofs.Apart.{each_in, jobs_apart_from}
 use Rattle.smk_states.proofs.Told.{IsReadOf, IsTold, read_there, told_below}
+use Rattle.smk_states.proofs.ReadOthers.{find_none}
 use Rattle.smk_states.proofs.LastPass.{job_in_front}
-
-pub find_none : {A : Type 0} (test : A → Bool) (xs : List A) (x : A) → find test xs ≡ None → In x xs → test x ≡ false
-find_none test xs x e i = go (test x) refl
-  where
-    go : (b : Bool) → test x ≡ b → b ≡ false
-    go false t = refl
-    go true t = let r = find_some test xs x i t in absurd (none_some (find test xs) r.0 e r.1)
 
 module _ (image : Image) (J : Jobs) (asked : List Path) (served : AreServed J asked) where
   order_from : (front rest seen : List Job) → J.jobs ≡ front ++ rest → ((x : Job) → In x front → In x seen) → InOrder J.jobs seen rest

@@ -152,7 +152,7 @@ open_split a b m D ins gs =
 -- ## The first pass
 
 module _
-    (image : Image) (settings : Settings) (progress : Progress) (J : Jobs) (ss : List State) (idle : progress.running ≡ [])
+    (image : Image) (settings : Settings) (progress : Progress) (J : Jobs) (ss : List State)
     (solved : HasStates image settings progress (with_states J ss)) (apart : JobsApart J.jobs) where
   abbrev P : Rattle.smk_plan.specs.States.Plan
   P = with_states J ss
@@ -252,7 +252,7 @@ module _
           folder : (j : Job) → by q ≡ Some j → (p : Option Path) → folder_over j.recipe q ≡ p → test_some (λ (d : Directory). not (is_clean (early j) && d.whole)) (option_map (directory_at image) p) ≡ list_any away (none_or_one p)
           folder j m None e = refl
           folder j m (Some f) e =
-              ap (λ s. not (is_clean s && is_whole image f Folder)) (fed_alike image settings progress J ss idle j (fed_over image settings progress J ss solved k j q f here i m e))
+              ap (λ s. not (is_clean s && is_whole image f Folder)) (fed_alike image settings progress J ss j (fed_over image settings progress J ss solved k j q f here i m e))
               ∙ ap not (sym (over_at_hand image settings progress J ss solved apart j q f m e))
               ∙ sym (or_false (away f))
 
@@ -272,7 +272,7 @@ module _
       reading_same q i =
           let j = in_left q (in_paths k.recipe) (gathers_from k) i in
           let s = told_read q j in
-          let a = made_same is_open (opens_alike image settings progress J ss idle) q s.0 s.1 s.2 in
+          let a = made_same is_open (opens_alike image settings progress J ss) q s.0 s.1 s.2 in
           let b = over_same q s.0 s.1 s.2 j in
           ap (test_some (reading_opens st)) s.1.found ∙ (λ i. a i || b i)
 
@@ -280,7 +280,7 @@ module _
       dirty_same q i =
           let s = told_read q (in_left q (in_paths k.recipe) (gathers_from k) i) in
           ap (test_some (λ (s : Site). test_some is_dirty (state_at st s.job))) s.1.found
-          ∙ made_same is_dirty (dirties_alike image settings progress J ss idle) q s.0 s.1 s.2
+          ∙ made_same is_dirty (dirties_alike image settings progress J ss) q s.0 s.1 s.2
 
       gathering_same :
           (listed : Path → Bool) → ((q : Path) → listed q ≡ among (map (λ (k : Known). k.folder) J.lists) q) →
@@ -304,7 +304,7 @@ module _
               || (test_some (λ (e : Job × State). is_clean e.1 && stands_whole image d e.0) (option_map paired o) && is_none (listing J.lists d)))
           job None m = refl
           job (Some j) m =
-              ap (λ s. not (is_clean s && stands_whole image d j) || not (listed d)) (fed_alike image settings progress J ss idle j (fed_gathered image settings progress J ss solved k j d here i m))
+              ap (λ s. not (is_clean s && stands_whole image d j) || not (listed d)) (fed_alike image settings progress J ss j (fed_gathered image settings progress J ss solved k j d here i m))
               ∙ hand_listed (is_clean (late j) && stands_whole image d j) (listed d) (is_none (listing J.lists d)) (listed_none J.lists d ∙ ap not (sym (known d)))
 
       pub opens_is :

@@ -4,6 +4,7 @@ pub mod Parts
 pub mod Sites
 pub mod Paths
 pub mod Passes
+pub mod InUse
 pub mod First
 pub mod Waits
 pub mod Laws

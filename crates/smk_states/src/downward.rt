@@ -1,6 +1,6 @@
 //! The second pass, from the last job to the first: what jobs that are to run want back.
 
-ghost use Rattle.std.specs.Prelude.{◌≡◌, ◌&&◌, ◌||◌, List as Items, length, map, option_map, Some, IfOk, OnOk};
+ghost use Rattle.std.specs.Prelude.{◌≡◌, ◌&&◌, ◌||◌, not, List as Items, length, map, option_map, Some, IfOk, OnOk};
 ghost use Rattle.std.specs.BTreeSet.{contains_text};
 ghost use Rattle.std.specs.List.{list_any, slice_get};
 ghost use Rattle.smk_world.specs.Trees.{Path, among};
@@ -14,7 +14,9 @@ ghost use Rattle.smk_states.specs.Judged.{with_states};
 ghost use Rattle.smk_states.specs.declared.parts.Parts.{Parts as PartsValue};
 ghost use Rattle.smk_states.specs.declared.paths.Paths.{Paths as PathsValue};
 ghost use Rattle.smk_states.specs.First.{first_state, unless_needed, IsSolved};
+ghost use Rattle.smk_states.specs.InUse.{is_in_use_told};
 
+use crate::in_use::is_in_use;
 use crate::parts::Parts;
 use crate::paths::put_all;
 use crate::upward::reversed;
@@ -78,31 +80,34 @@ fn part_at(parts: &[Parts], number: usize) -> Option<&Parts>
 fn last_state(
     alloc: Global,
     needed: &mut BTreeSet<String>,
+    in_use: &BTreeSet<String>,
     part: Option<&Parts>,
     first: State,
 ) -> Result<State, OutOfMemory>
     ensures { (m : PartsValue) → option_map (λ p. p.now) part.entry ≡ Some m
-        → IfOk result (λ state. (state ≡ unless_needed (list_any (λ p. contains_text needed.old p) m.gone) first)
+        → IfOk result (λ state. (state ≡ unless_needed (list_any (λ p. contains_text needed.old p) m.gone && not (is_in_use_told (λ p. contains_text in_use.now p) m)) first)
         × ((q : Path) → contains_text needed.new q ≡ (contains_text needed.old q || (among m.inputs q && is_to_run state)))) }
 {
     let Some(part) = part else {
         return Ok(first);
     };
-    let state = unless_needed(first, any_needed(needed, part.gone.as_slice()));
+    let wanted = any_needed(needed, part.gone.as_slice()) && !is_in_use(in_use, part);
+    let state = unless_needed(first, wanted);
     need(alloc, needed, &state, part.inputs.as_slice())?;
     Ok(state)
 }
 
 /// The state of each job, by the states of the first pass: a job that is Clean there is a Restore where a job that is to run reads an output
-/// of it that isn't whole.
+/// of it that isn't whole, unless a child reads what it made.
 pub(crate) fn last_states(
     alloc: Global,
+    in_use: &BTreeSet<String>,
     parts: &[Parts],
     first: List<State>,
 ) -> Result<List<State>, OutOfMemory>
     ensures each { IfOk result (λ found. length found ≡ length first) }
     ensures states { IfOk result (λ found. (image : Image) (settings : Asked) (progress : Progress) (jobs : JobsValue) (targets : Items Path) (states : Items StateValue) (paths : PathsValue)
-        → IsSolved image settings progress jobs targets states paths parts.now
+        → IsSolved image settings progress jobs targets states paths parts.now (λ p. contains_text in_use.now p)
         → first ≡ map (first_state image settings progress (with_states jobs states)) jobs.jobs
         → found ≡ states) }
 {
@@ -110,7 +115,13 @@ pub(crate) fn last_states(
     let mut needed = BTreeSet::new(alloc);
     let mut found = List::new(alloc);
     'jobs: while let Some(before) = left.pop() {
-        let state = last_state(alloc, &mut needed, part_at(parts, left.len()), before)?;
+        let state = last_state(
+            alloc,
+            &mut needed,
+            in_use,
+            part_at(parts, left.len()),
+            before,
+        )?;
         found.push(state)?;
     }
     reversed(alloc, found)

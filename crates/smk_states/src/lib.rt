@@ -2,6 +2,7 @@
 #![tactic(auto)]
 
 mod downward;
+mod in_use;
 mod laws;
 mod opening;
 mod parts;
@@ -14,4 +15,4 @@ mod upward;
 
 pub use laws::linked_jobs_serve;
 pub use ready::{newly_ready, ready_targets};
-pub use table::states;
+pub use table::{states, states_now};

@@ -1,6 +1,6 @@
 //! The first pass, from the first job to the last: what a job is by the jobs before it.
 
-ghost use Rattle.std.specs.Prelude.{◌≡◌, ◌&&◌, ◌||◌, ◌++◌, ◌∷◌, [], not, List as Items, length, map, reverse, IfOk};
+ghost use Rattle.std.specs.Prelude.{◌≡◌, ◌&&◌, ◌||◌, ◌++◌, ◌∷◌, [], not, List as Items, length, map, reverse, Option, IfOk};
 ghost use Rattle.std.specs.BTreeMap.{get_by_text};
 ghost use Rattle.std.specs.BTreeSet.{contains_text};
 ghost use Rattle.std.specs.List.{list_any};
@@ -11,11 +11,13 @@ ghost use Rattle.smk_trigger.specs.declared.reason.Reason.{Reason as ReasonValue
 ghost use Rattle.smk_trigger.specs.declared.reason.State.{State as StateValue};
 ghost use Rattle.smk_trigger.specs.Reasons.{when};
 ghost use Rattle.smk_pick.specs.declared.settings.Settings.{Settings as Asked};
-ghost use Rattle.smk_plan.specs.States.{Progress, by_reasons, is_forced};
-ghost use Rattle.smk_states.specs.Judged.{with_states, reasons_alone};
+ghost use Rattle.smk_plan.specs.States.{Progress, by_reasons, unless_clean, while_running, is_forced, kept_state};
+ghost use Rattle.smk_states.specs.Judged.{with_states, reasons_now};
 ghost use Rattle.smk_states.specs.Passes.{is_kept_told};
+ghost use Rattle.smk_states.specs.InUse.{is_in_use_told};
 ghost use Rattle.smk_states.specs.First.{first_state, first_told, IsSolved};
 
+use crate::in_use::is_in_use;
 use crate::opening::is_open;
 use crate::parts::Parts;
 use crate::paths::{Paths, set_of};
@@ -92,26 +94,49 @@ fn by_reasons(found: List<Reason>, kept: bool) -> State
     if kept { State::Restore } else { State::Clean }
 }
 
-// The state of a job by the states of the jobs before it.
+// The state of a job by the states of the jobs before it, where its child doesn't run.
 fn first_state(
     alloc: Global,
     states: &[State],
     paths: &Paths,
+    in_use: &BTreeSet<String>,
     part: &Parts,
     own: List<Reason>,
     forced: bool,
 ) -> Result<State, OutOfMemory>
     ensures { IfOk result (λ state. (alone : Items ReasonValue) → own ≡ alone ++ when forced Reason.Forced
         → state ≡ first_told states.now (λ q. get_by_text paths.now.sites q) (λ q. contains_text paths.now.listed q)
-        (is_kept_told (λ q. contains_text paths.now.targets q) (λ q. contains_text paths.now.awaited q) (λ q. contains_text paths.now.read q) part.now)
+        (is_kept_told (λ q. contains_text paths.now.targets q) (λ q. contains_text paths.now.awaited q) (λ q. contains_text paths.now.read q) part.now
+        && not (is_in_use_told (λ p. contains_text in_use.now p) part.now))
         part.now alone forced) }
 {
     if is_open(states, paths, part) {
         return Ok(State::Open);
     }
     let found = all_reasons(alloc, states, paths, part.inputs.as_slice(), own, forced)?;
-    let kept = is_kept(alloc, paths, part)?;
+    let kept = is_kept(alloc, paths, part)? && !is_in_use(in_use, part);
     Ok(by_reasons(found, kept))
+}
+
+// A Restore in the place of Clean.
+fn unless_clean(state: State) -> State
+    ensures { result ≡ unless_clean state }
+{
+    match state {
+        State::Clean => State::Restore,
+        other => other,
+    }
+}
+
+// The state of a job, which had this one when its child began, if it runs.
+fn while_running(kept: Option<State>, state: State) -> State
+    ensures { result ≡ while_running kept state }
+{
+    match kept {
+        None => state,
+        Some(State::Dirty(reasons)) => State::Dirty(reasons),
+        Some(_) => unless_clean(state),
+    }
 }
 
 // The next reasons; none where there are no more.
@@ -124,27 +149,43 @@ fn next_of(alloc: Global, left: &mut List<List<Reason>>) -> List<Reason>
     }
 }
 
-/// For each job its state, but Clean where only jobs that are to run want something back.
+// The next of the states that jobs had when they began; none where there are no more.
+fn next_kept(left: &mut List<Option<State>>) -> Option<State>
+    ensures { (next : Option StateValue) (rest : Items (Option StateValue)) → left.old ≡ reverse (next ∷ rest) → (result ≡ next) × (left.new ≡ reverse rest) }
+{
+    match left.pop() {
+        Some(kept) => kept,
+        None => None,
+    }
+}
+
+/// For each job its state, but Clean where only jobs that are to run want something back. `running` has for each job whose child runs the
+/// state that it had when it began.
 pub(crate) fn first_states(
     alloc: Global,
     paths: &Paths,
+    in_use: &BTreeSet<String>,
     parts: &[Parts],
     reasons: List<List<Reason>>,
     forced: &[bool],
+    running: List<Option<State>>,
 ) -> Result<List<State>, OutOfMemory>
     ensures each { IfOk result (λ found. length found ≡ length parts.now) }
     ensures states { IfOk result (λ found. (image : Image) (settings : Asked) (progress : Progress) (jobs : JobsValue) (targets : Items Path) (states : Items StateValue)
-        → IsSolved image settings progress jobs targets states paths.now parts.now
-        → reasons ≡ map (reasons_alone image settings progress jobs) jobs.jobs
+        → IsSolved image settings progress jobs targets states paths.now parts.now (λ p. contains_text in_use.now p)
+        → reasons ≡ map (reasons_now image settings progress jobs) jobs.jobs
         → forced.now ≡ map (is_forced image settings progress (with_states jobs [])) jobs.jobs
+        → running ≡ map (kept_state image settings progress (with_states jobs [])) jobs.jobs
         → found ≡ map (first_state image settings progress (with_states jobs states)) jobs.jobs) }
 {
     let mut left = reversed(alloc, reasons)?;
+    let mut left_kept = reversed(alloc, running)?;
     let mut states = List::new(alloc);
     for (number, part) in parts.iter().enumerate() {
         let own = next_of(alloc, &mut left);
         let told = flag_at(forced, number);
-        let state = first_state(alloc, states.as_slice(), paths, part, own, told)?;
+        let by_table = first_state(alloc, states.as_slice(), paths, in_use, part, own, told)?;
+        let state = while_running(next_kept(&mut left_kept), by_table);
         states.push(state)?;
     }
     Ok(states)

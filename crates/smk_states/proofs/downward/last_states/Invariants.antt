@@ -20,7 +20,7 @@ invariant-jobs l =
     record {
       each : length l.found + length l.left ≡ length l.fn.first;
       so_far : (image : Image) (settings : Settings) (progress : Progress) (jobs : Jobs) (targets : List Path) (states : List State) (paths : Paths)
-          (h : IsSolved image settings progress jobs targets states paths l.parts) →
+          (h : IsSolved image settings progress jobs targets states paths l.parts (λ p. contains_text l.in_use p)) →
           l.fn.first ≡ map (first_state image settings progress (with_states jobs states)) jobs.jobs →
-          IsDown image settings progress jobs targets states paths l.parts h l.left l.found (λ q. contains_text l.needed q);
+          IsDown image settings progress jobs targets states paths l.parts (λ p. contains_text l.in_use p) h l.left l.found (λ q. contains_text l.needed q);
     }

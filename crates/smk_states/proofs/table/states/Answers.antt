@@ -1,13 +1,9 @@
-use Rattle.std.proofs.Common.{subst, sym}
-use Rattle.smk_plan.specs.States.{HasStates}
-use Rattle.smk_trigger.specs.declared.reason.State.{State}
-use Rattle.std.proofs.Common.{List}
-use Rattle.smk_states.specs.Judged.{with_states}
-use Rattle.smk_states.proofs.Solved.{solved}
+use Rattle.std.proofs.Common.{◌∙◌, ap, map, None}
+use Rattle.smk_states.proofs.Idle.{judged_idle}
 use Rattle.smk_states.proofs.table.states.Goals as goal
 
 pub returns-clause-table : goal.returns-clause-table
 returns-clause-table c = λ image settings progress targets served judged.
-    let jobs = c.args.jobs.now in
-    let s = solved image jobs c.args.targets.now served settings progress in
-    subst (λ (states : List State). HasStates image settings progress (with_states jobs states)) (sym (c.in_ok-found.ensures.states image settings progress s.0 targets served judged s.1)) s.1
+    c.in_ok-found.ensures.table image settings progress targets served
+    (judged_idle image settings progress c.args.jobs.now c.args.reasons c.args.forced.now c.args.wholes.now c.in_ok-running.running judged
+    (c.in_ok-running.ensures ∙ ap (map (λ j. None)) c.as_slice.ensures))
