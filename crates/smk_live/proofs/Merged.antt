@@ -1,11 +1,7 @@
 -- Lists of which some elements are new.
-use Rattle.std.proofs.Common.{◌≡◌, ℕ, zero, suc, ◌≤◌, ◌<◌, Bool, true, false, cond, ◌&&◌, ◌||◌, not, List, [], ◌∷◌, ◌++◌, map, length, Option, Some, None, option_map, refl, sym, ap, ◌∙◌, arith}
+use Rattle.std.proofs.Common.{◌≡◌, ℕ, zero, suc, ◌≤◌, List, [], ◌∷◌, ◌++◌, map, length, Option, Some, None, option_map, refl, sym, ap, arith}
 use Rattle.std.specs.Prelude.{slice_set}
-use Rattle.smk_flow.specs.declared.job.Job.{Job}
-use Rattle.smk_store.specs.declared.store.Entry.{Entry}
-use Rattle.smk_trigger.specs.declared.facts.JobFacts.{JobFacts}
-use Rattle.smk_trigger.specs.declared.reason.State.{State}
-use Rattle.smk_live.specs.Closing.{or_old, merged, put_in, fresh_of, fresh_facts}
+use Rattle.smk_live.specs.Closing.{or_old, merged, put_in}
 
 pub merged_none : {A : Type 0} (xs : List A) → merged xs [] ≡ xs
 merged_none [] = refl
@@ -32,16 +28,8 @@ pub merged_put : {A : Type 0} (xs : List A) (news : List (Option A)) (o : Option
 merged_put xs news None = merged_old xs news
 merged_put xs news (Some y) = merged_last xs news y
 
-set_length : {A : Type 0} (xs : List A) (n : ℕ) (x : A) → length (slice_set xs n x) ≡ length xs
-set_length [] n x = refl
-set_length (y ∷ xs) zero x = refl
-set_length (y ∷ xs) (suc n) x = ap suc (set_length xs n x)
-
-pub put_length : {A : Type 0} (xs : List A) (n : ℕ) (o : Option A) → length (put_in xs n o) ≡ length xs
-put_length xs n None = refl
-put_length xs n (Some y) = set_length xs n y
-
-pub fresh_length : (j : Job) (entries : List Entry) (n i : ℕ) (jobs : List Job) (facts : List JobFacts) → length (fresh_facts j entries n i jobs facts) ≤ length facts
-fresh_length j entries n i [] facts = omega arith
-fresh_length j entries n i (k ∷ jobs) [] = omega arith
-fresh_length j entries n i (k ∷ jobs) (f ∷ facts) = let h = fresh_length j entries n (suc i) jobs facts in omega arith
+-- there is nothing to be put beyond the end
+pub set_beyond : {A : Type 0} (xs : List A) (n : ℕ) (x : A) → length xs ≤ n → slice_set xs n x ≡ xs
+set_beyond [] n x h = refl
+set_beyond (y ∷ xs) zero x h = absurd (omega arith)
+set_beyond (y ∷ xs) (suc n) x h = ap (λ ys. y ∷ ys) (set_beyond xs n x (omega arith))

@@ -11,14 +11,11 @@ use Rattle.smk_store.specs.declared.store.Entry.{Entry}
 use Rattle.smk_store.specs.Images.{readable}
 use Rattle.smk_chain.specs.declared.jobs.Maker.{Maker}
 use Rattle.smk_trigger.specs.declared.facts.JobFacts.{JobFacts}
-use Rattle.smk_trigger.specs.declared.reason.State.{State}
 use Rattle.smk_plan.specs.declared.seen.Sight.{Sight}
 use Rattle.smk_plan.specs.declared.wholes.Wholes.{Wholes}
 use Rattle.smk_plan.specs.States.{makes}
 use Rattle.smk_facts.specs.Telling.{copied, stamp_by, is_whole_sight, is_file_member, or_no_members}
-use Rattle.smk_live.specs.declared.phase.Phase.{Phase}
-use Rattle.smk_live.specs.Phases.{is_running}
-use Rattle.smk_live.specs.Standing.{reaches, same_state}
+use Rattle.smk_live.specs.Made.{reaches}
 
 -- ## Lists of which some elements are new
 
@@ -65,6 +62,15 @@ closed_facts entries f =
       stamps = f.stamps;
       forced = false;
     }
+
+-- those of a job that begins: it isn't forced again
+abbrev pub begun_facts : JobFacts → JobFacts
+begun_facts f = record { recipe = f.recipe; kept = map copied f.kept; marked = f.marked; stamps = f.stamps; forced = false }
+
+-- of each job the new facts, where it is the one of the number n that begins; the first has the number i
+abbrev pub facts_begun : ℕ → ℕ → List JobFacts → List (Option JobFacts)
+facts_begun n i [] = []
+facts_begun n i (f ∷ facts) = (if i == n then Some (begun_facts f) else None) ∷ facts_begun n (suc i) facts
 
 -- those of a job that wants what it makes
 abbrev pub reader_facts : List Out → List Entry → JobFacts → JobFacts
@@ -137,12 +143,3 @@ wholes_after j entries sights n makers wholes =
       outputs = outputs_after (whole_flags (outs_of j.recipe) entries sights) n 0 wholes.outputs;
       makers = makers_after (outs_of j.recipe) entries sights n makers wholes.makers;
     }
-
--- ## States
-
--- each job that runs has the same state in both
-abbrev pub all_kept : List Phase → List State → List State → Bool
-all_kept [] ss ts = true
-all_kept (p ∷ ps) [] ts = true
-all_kept (p ∷ ps) (s ∷ ss) [] = true
-all_kept (p ∷ ps) (s ∷ ss) (t ∷ ts) = (not (is_running p) || same_state s t) && all_kept ps ss ts

@@ -1,5 +1,5 @@
 pub mod Phases
-pub mod Standing
+pub mod Made
 pub mod Lives
 pub mod Closing
 pub mod Closed

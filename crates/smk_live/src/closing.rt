@@ -1,149 +1,23 @@
 //! How a job is closed.
 
-ghost use Rattle.std.specs.Prelude.{◌≡◌, ◌<◌, ◌≤◌, map, length, slice_set, Some, IfOk, OnOk, OnErr, if◌then◌else◌};
+ghost use Rattle.std.specs.Prelude.{◌≡◌, ◌<◌, length, slice_set, Some, OnOk, OnErr};
 ghost use Rattle.std.specs.List.{slice_get};
 ghost use Rattle.smk_flow.specs.declared.job.Job.{Job as JobValue};
-ghost use Rattle.smk_live.specs.Closing.{or_old, merged, put_in, all_kept};
+ghost use Rattle.smk_live.specs.Closing.{merged};
 ghost use Rattle.smk_live.specs.Lives.{IsLive};
-ghost use Rattle.smk_live.specs.Closed.{IsNext, HasClosed};
+ghost use Rattle.smk_live.specs.Closed.{HasClosed};
 
-use crate::facts::{fresh_facts, judge_each};
-use crate::judged::{reasons_again, states_of};
-use crate::same::is_same_state;
-use crate::standing::has_child;
+use crate::children::began_after;
+use crate::facts::fresh_facts;
+use crate::next::Next;
 use crate::whole::wholes_after;
 use crate::{Late, LivePlan, Phase};
 use smk_base::{List, OutOfMemory};
 use smk_flow::Job;
 use smk_plan::{Sight, Wholes};
 use smk_store::Entry;
-use smk_trigger::{JobFacts, Judge, Reason, State};
+use smk_trigger::Judge;
 use std::alloc::Global;
-
-/// What is new once a job is closed.
-#[derive(Drop)]
-pub(crate) struct Next {
-    pub(crate) facts: Vec<Option<JobFacts>>,
-    pub(crate) reasons: Vec<Option<List<Reason>>>,
-    pub(crate) wholes: Wholes,
-    pub(crate) states: List<State>,
-}
-
-// The new reasons of a job, or else a copy of the old ones.
-fn reasons_or(
-    alloc: Global,
-    news: &Option<List<Reason>>,
-    old: &List<Reason>,
-) -> Result<List<Reason>, OutOfMemory>
-    ensures { IfOk result (λ found. found ≡ or_old news.now old.now) }
-{
-    match news {
-        None => reasons_again(alloc, old.as_slice()),
-        Some(found) => reasons_again(alloc, found.as_slice()),
-    }
-}
-
-// The reasons of each job, some of which are new.
-#[tactic(auto, using(crate::proofs::Merged::merged_none))]
-fn merged_reasons(
-    alloc: Global,
-    old: &[List<Reason>],
-    news: &[Option<List<Reason>>],
-) -> Result<List<List<Reason>>, OutOfMemory>
-    ensures { IfOk result (λ found. found ≡ merged old.now news.now) }
-{
-    let mut found = List::new(alloc);
-    let mut rest = news;
-    for own in old {
-        let Some((fresh, more)) = rest.split_first() else {
-            found.push(reasons_again(alloc, own.as_slice())?)?;
-            continue;
-        };
-        found.push(reasons_or(alloc, fresh, own)?)?;
-        rest = more;
-    }
-    Ok(found)
-}
-
-// Whether a job is forced by its new facts, or else by the old ones.
-fn forced_or(news: &Option<JobFacts>, old: &JobFacts) -> bool
-    ensures { result ≡ (or_old news.now old.now).forced }
-{
-    match news {
-        None => old.forced,
-        Some(facts) => facts.forced,
-    }
-}
-
-// Which jobs are forced, where some facts are new.
-#[tactic(auto, using(crate::proofs::Merged::merged_none))]
-fn merged_forced(
-    alloc: Global,
-    old: &[JobFacts],
-    news: &[Option<JobFacts>],
-) -> Result<List<bool>, OutOfMemory>
-    ensures { IfOk result (λ found. found ≡ map (λ f. f.forced) (merged old.now news.now)) }
-{
-    let mut found = List::new(alloc);
-    let mut rest = news;
-    for facts in old {
-        let Some((fresh, more)) = rest.split_first() else {
-            found.push(facts.forced)?;
-            continue;
-        };
-        found.push(forced_or(fresh, facts))?;
-        rest = more;
-    }
-    Ok(found)
-}
-
-// Puts the new element in, where there is one.
-fn put_at<T: Drop>(all: &mut Vec<T>, at: usize, news: Option<T>)
-    requires { at < length all.old.items }
-    ensures { all.new.items ≡ put_in all.old.items at news }
-{
-    match news {
-        None => (),
-        Some(fresh) => {
-            all[at] = fresh;
-        }
-    }
-}
-
-// Puts the new elements in.
-#[tactic(auto, using(crate::proofs::Merged::merged_put, crate::proofs::Merged::put_length, crate::proofs::Merged::merged_none))]
-fn put_each<T: Drop>(all: &mut Vec<T>, news: Vec<Option<T>>)
-    requires { length news.items ≤ length all.old.items }
-    ensures { all.new.items ≡ merged all.old.items news.items }
-{
-    let mut left = news;
-    'items: while let Some(fresh) = left.pop() {
-        let at = left.len();
-        put_at(all, at, fresh);
-    }
-}
-
-// Whether each job that runs has the same state in both.
-fn all_kept(phases: &[Phase], states: &[State], others: &[State]) -> bool
-    ensures { result ≡ all_kept phases.now states.now others.now }
-{
-    let mut left = states;
-    let mut rest = others;
-    for phase in phases {
-        let Some((state, later)) = left.split_first() else {
-            return true;
-        };
-        let Some((other, more)) = rest.split_first() else {
-            return true;
-        };
-        if has_child(*phase) && !is_same_state(state, other) {
-            return false;
-        }
-        left = later;
-        rest = more;
-    }
-    true
-}
 
 // The job of the number.
 fn job_at(jobs: &[Job], number: usize) -> &Job
@@ -153,92 +27,39 @@ fn job_at(jobs: &[Job], number: usize) -> &Job
     &jobs[number]
 }
 
-impl LivePlan {
-    // What is new once the job is closed.
-    fn next<J: Judge>(
-        &self,
-        alloc: Global,
-        number: usize,
-        closed: &Job,
-        entries: &[Entry],
-        sights: &[Sight],
-        judge: &J,
-    ) -> Result<Next, OutOfMemory>
-        requires live { IsLive self.now }
-        ensures { IfOk result (IsNext number closed.now entries.now sights.now self.now) }
-    {
-        let facts = fresh_facts(
-            alloc,
-            number,
-            closed,
-            entries,
-            self.jobs.jobs.as_slice(),
-            self.facts.as_slice(),
-        )?;
-        let reasons = judge_each(alloc, judge, facts.as_slice())?;
-        let own = merged_reasons(alloc, self.reasons.as_slice(), reasons.as_slice())?;
-        let forced = merged_forced(alloc, self.facts.as_slice(), facts.as_slice())?;
-        let wholes = wholes_after(
-            alloc,
-            number,
-            closed,
-            entries,
-            sights,
-            self.jobs.makers.as_slice(),
-            &self.wholes,
-        )?;
-        let states = states_of(alloc, &self.jobs, &self.settings, own, &forced, &wholes)?;
-        Ok(Next {
-            facts,
-            reasons,
-            wholes,
-            states,
-        })
-    }
+// Puts in what came of the job of the number.
+fn put_late(late: &mut Vec<Option<Late>>, at: usize, came: Late)
+    requires { at < length late.old.items }
+    ensures { late.new.items ≡ slice_set late.old.items at (Some came) }
+{
+    late[at] = Some(came);
+}
 
-    // Puts in what is new.
-    fn install(&mut self, number: usize, next: Next, late: Late)
+impl LivePlan {
+    // Puts in what is new, and what came of the job of the number.
+    fn close(&mut self, number: usize, next: Next, wholes: Wholes, came: Late)
         requires phase { number < length self.old.phases.items }
         requires place { number < length self.old.late.items }
-        requires facts { length next.facts.items ≤ length self.old.facts.items }
-        requires reasons { length next.reasons.items ≤ length self.old.reasons.items }
         ensures jobs { (self.new.jobs ≡ self.old.jobs) × (self.new.settings ≡ self.old.settings) }
         ensures seen { (self.new.store ≡ self.old.store) × (self.new.seen ≡ self.old.seen) }
         ensures phases { self.new.phases.items ≡ slice_set self.old.phases.items number Phase.Closed }
+        ensures began { self.new.began.items ≡ next.began.items }
         ensures facts { self.new.facts.items ≡ merged self.old.facts.items next.facts.items }
         ensures reasons { self.new.reasons.items ≡ merged self.old.reasons.items next.reasons.items }
-        ensures wholes { self.new.wholes ≡ next.wholes }
-        ensures late { self.new.late.items ≡ slice_set self.old.late.items number (Some late) }
-        ensures fresh { self.new.fresh ≡ all_kept (slice_set self.old.phases.items number Phase.Closed) self.old.states next.states }
-        ensures states { self.new.states ≡ (if self.new.fresh then next.states else self.old.states) }
+        ensures states { self.new.states ≡ next.states }
+        ensures wholes { self.new.wholes ≡ wholes }
+        ensures late { self.new.late.items ≡ slice_set self.old.late.items number (Some came) }
     {
-        let Next {
-            facts,
-            reasons,
-            wholes,
-            states,
-        } = next;
-        put_each(&mut self.facts, facts);
-        put_each(&mut self.reasons, reasons);
+        self.install(number, Phase::Closed, next);
+        put_late(&mut self.late, number, came);
         self.wholes = wholes;
-        self.phases[number] = Phase::Closed;
-        self.late[number] = Some(late);
-        self.fresh = all_kept(
-            self.phases.as_slice(),
-            self.states.as_slice(),
-            states.as_slice(),
-        );
-        if self.fresh {
-            self.states = states;
-        }
     }
 
     /// The job is closed: it was finished or abandoned, and these are now what is known and what is seen of its outputs, one for each output, in their order.
     ///
     /// The judge is asked once about the closed job and once about each job that wants an output of it or a member of one, and about no other. The states are then
-    /// told anew by the table. Where a job that runs would have another state than it has, all states stay as they are, and `is_exact` is false until a
-    /// later closing. `OutOfMemory` where there is no memory for all this: nothing is changed then.
-    #[tactic(auto, using(crate::proofs::Installed::phase_below, crate::proofs::Installed::job_below, crate::proofs::Installed::place_below, crate::proofs::Installed::facts_fit, crate::proofs::Installed::reasons_fit))]
+    /// told anew by the table. `OutOfMemory` where there is no memory for all this: nothing is changed then.
+    #[tactic(auto, using(crate::proofs::Installed::phase_below, crate::proofs::Installed::job_below, crate::proofs::Installed::place_below, crate::proofs::Installed::began_below))]
     pub fn closed<J: Judge>(
         &mut self,
         alloc: Global,
@@ -255,15 +76,26 @@ impl LivePlan {
     {
         let number = job as usize;
         let closed = job_at(self.jobs.jobs.as_slice(), number);
-        let next = self.next(
+        let news = fresh_facts(
+            alloc,
+            number,
+            closed,
+            entries.as_slice(),
+            self.jobs.jobs.as_slice(),
+            self.facts.as_slice(),
+        )?;
+        let wholes = wholes_after(
             alloc,
             number,
             closed,
             entries.as_slice(),
             sights.as_slice(),
-            judge,
+            self.jobs.makers.as_slice(),
+            &self.wholes,
         )?;
-        self.install(number, next, Late { entries, sights });
+        let began = began_after(alloc, self.began.as_slice(), number, None)?;
+        let next = self.next(alloc, news, &wholes, began, judge)?;
+        self.close(number, next, wholes, Late { entries, sights });
         Ok(())
     }
 }

@@ -10,7 +10,7 @@ ghost use Rattle.smk_live.specs.Closing.{made_at, stamp_or, restamped, closed_fa
 
 use crate::copies::{all_kept_again, flags_again, kept_in, marks_in, stamps_if_any};
 use crate::outs::{outs_in, paths_in};
-use crate::standing::{is_made, reaches};
+use crate::made::{is_made, reaches};
 use smk_base::{Copied, List, OutOfMemory, PathText};
 use smk_flow::Job;
 use smk_record::Stamp;

@@ -5,16 +5,17 @@ ghost use Rattle.smk_world.specs.Trees.{Path};
 ghost use Rattle.smk_store.specs.Images.{Image};
 ghost use Rattle.smk_trigger.specs.declared.facts.JobFacts.{JobFacts as FactsValue};
 ghost use Rattle.smk_trigger.specs.Reasons.{reasons_of};
-ghost use Rattle.smk_plan.specs.States.{HasStates};
-ghost use Rattle.smk_facts.specs.Facts.{having_run};
+ghost use Rattle.smk_plan.specs.States.{HasStates, job_path};
 ghost use Rattle.smk_states.specs.Judged.{with_states};
+ghost use Rattle.smk_live.specs.declared.children.Child.{Child as ChildValue};
+ghost use Rattle.smk_live.specs.Phases.{named, named_state};
 ghost use Rattle.smk_live.specs.Lives.{IsSoIn};
 
 use smk_base::{List, OutOfMemory};
 use smk_chain::Jobs;
 use smk_pick::Settings;
 use smk_plan::Wholes;
-use smk_states::states;
+use smk_states::states_now;
 use smk_trigger::{JobFacts, Reason, State};
 use std::alloc::Global;
 
@@ -71,7 +72,8 @@ pub(crate) fn forced_of(alloc: Global, facts: &[JobFacts]) -> Result<List<bool>,
     Ok(found)
 }
 
-/// The states of the jobs at a moment at which none runs, by the reasons of each, which of them are forced, and what is whole.
+/// The states of the jobs now, by the reasons of each, which of them are forced, what is whole, and for each job the state that it had when it began, if its
+/// child runs.
 pub(crate) fn states_of(
     alloc: Global,
     jobs: &Jobs,
@@ -79,12 +81,22 @@ pub(crate) fn states_of(
     reasons: List<List<Reason>>,
     forced: &List<bool>,
     wholes: &Wholes,
+    running: List<Option<State>>,
 ) -> Result<List<State>, OutOfMemory>
     ensures each { IfOk result (λ found. length found ≡ length jobs.now.jobs) }
-    ensures table { IfOk result (λ found. (image : Image) (facts : Items FactsValue) (closed : Items Path) → reasons ≡ map reasons_of facts
-        → forced.now ≡ map (λ f. f.forced) facts → IsSoIn image settings.now jobs.now facts wholes.now closed
-        → HasStates image settings.now (having_run closed) (with_states jobs.now found)) }
+    ensures table { IfOk result (λ found. (image : Image) (facts : Items FactsValue) (begun : Items Path) (children : Items ChildValue) → reasons ≡ map reasons_of facts
+        → forced.now ≡ map (λ f. f.forced) facts → running ≡ map (λ j. named_state children (job_path j)) jobs.now.jobs
+        → IsSoIn image settings.now jobs.now facts wholes.now (record { begun = begun; running = map named children })
+        → HasStates image settings.now (record { begun = begun; running = map named children }) (with_states jobs.now found)) }
 {
-    let found = states(alloc, jobs, &settings.targets, reasons, forced, wholes)?;
+    let found = states_now(
+        alloc,
+        jobs,
+        &settings.targets,
+        reasons,
+        forced,
+        wholes,
+        running,
+    )?;
     Ok(found)
 }

@@ -9,12 +9,12 @@ ghost use Rattle.smk_record.specs.Records.{same_member};
 ghost use Rattle.smk_store.specs.Images.{readable};
 ghost use Rattle.smk_plan.specs.States.{test_some};
 ghost use Rattle.smk_facts.specs.Telling.{are_recorded, is_file_stat, is_folder_stat, is_whole_sight, is_file_member, or_no_members};
-ghost use Rattle.smk_live.specs.Standing.{reaches};
+ghost use Rattle.smk_live.specs.Made.{reaches};
 ghost use Rattle.smk_live.specs.Closing.{whole_flags, whole_made, is_of, makers_after, outputs_after, wholes_after};
 
 use crate::copies::flags_again;
 use crate::outs::outs_in;
-use crate::standing::reaches;
+use crate::made::reaches;
 use smk_base::{List, OutOfMemory, PathText};
 use smk_chain::Maker;
 use smk_flow::Job;
