@@ -5,14 +5,19 @@
 mod counting;
 mod flow;
 
+ghost use Rattle.std.specs.Prelude.{IfOk};
+ghost use Rattle.smk_live.specs.Lives.{IsLive};
+
 use counting::Counting;
 use flow::{jobs_of, path_of, settings_of, workspace};
 use smk_base::{Copied, List, OutOfMemory, one};
+use smk_chain::Jobs;
 use smk_live::{LivePlan, Phase};
 use smk_look::look;
-use smk_plan::Sight;
+use smk_mem::MemWork;
+use smk_plan::{Seen, Sight};
 use smk_record::{Record, Stamp};
-use smk_store::{Entry, Kept, load};
+use smk_store::{Entry, Kept, Store, load};
 use smk_trigger::State;
 use smk_world::{Recipe, Stat};
 use std::alloc::{AllocError, Global};
@@ -92,39 +97,93 @@ fn first_entry(alloc: Global, live: &LivePlan) -> Result<Entry, RowFault> {
     }
 }
 
-// The kept plan of so many jobs and the one that reads what they make, with the first one begun and closed; and how many had to run before.
+// The store and what is seen of the jobs' outputs.
+fn looked(alloc: Global, work: &mut MemWork, jobs: &Jobs) -> Result<(Store, Seen), RowFault> {
+    let Ok(store) = load(alloc, work) else {
+        return Err(RowFault::Load);
+    };
+    let Ok(seen) = look(alloc, work, jobs) else {
+        return Err(RowFault::Look);
+    };
+    Ok((store, seen))
+}
+
+// The kept plan of these jobs.
+fn made<Rt: Threads + Sync>(
+    rt: &Rt,
+    alloc: Global,
+    jobs: Jobs,
+    store: Store,
+    seen: Seen,
+) -> Result<LivePlan, RowFault>
+    ensures { IfOk result IsLive }
+{
+    let settings = settings_of(alloc)?;
+    match LivePlan::new(rt, alloc, jobs, store, seen, settings) {
+        Err(_) => Err(RowFault::Plan),
+        Ok(live) => Ok(live),
+    }
+}
+
+// The kept plan of so many jobs and the one that reads what they make.
+fn planned<Rt: Threads + Sync>(rt: &Rt, alloc: Global, count: u32) -> Result<LivePlan, RowFault>
+    ensures { IfOk result IsLive }
+{
+    let mut work = workspace(alloc, count)?;
+    let jobs = jobs_of(alloc, count)?;
+    let (store, seen) = looked(alloc, &mut work, &jobs)?;
+    made(rt, alloc, jobs, store, seen)
+}
+
+// The first job begins.
+fn begin(alloc: Global, live: &mut LivePlan) -> Result<(), RowFault>
+    requires { IsLive live.old }
+    ensures { IsLive live.new }
+{
+    let Some(Phase::Waiting) = live.phase(0) else {
+        return Err(RowFault::Phase);
+    };
+    live.began(alloc, 0)?;
+    Ok(())
+}
+
+// The first job is closed.
+fn close(alloc: Global, live: &mut LivePlan, judge: &Counting) -> Result<(), RowFault>
+    requires { IsLive live.old }
+    ensures { IsLive live.new }
+{
+    let entry = first_entry(alloc, live)?;
+    let entries = one(alloc, entry)?;
+    let sights = one(alloc, sight_of(alloc)?)?;
+    let Some(Phase::Running) = live.phase(0) else {
+        return Err(RowFault::Phase);
+    };
+    live.closed(alloc, 0, entries, sights, judge)?;
+    Ok(())
+}
+
+// The first job begins and is closed; how many jobs have to run before, meanwhile and after.
+fn counted(alloc: Global, live: &mut LivePlan, judge: &Counting) -> Result<(u32, u32, u32), RowFault>
+    requires { IsLive live.old }
+{
+    let before = to_run(live.states().as_slice());
+    begin(alloc, live)?;
+    let begun = to_run(live.states().as_slice());
+    close(alloc, live, judge)?;
+    let after = to_run(live.states().as_slice());
+    Ok((before, begun, after))
+}
+
+// The kept plan of so many jobs and the one that reads what they make, with the first one begun and closed.
 fn run<Rt: Threads + Sync>(
     rt: &Rt,
     alloc: Global,
     count: u32,
     judge: &Counting,
 ) -> Result<String, RowFault> {
-    let mut work = workspace(alloc, count)?;
-    let jobs = jobs_of(alloc, count)?;
-    let Ok(store) = load(alloc, &mut work) else {
-        return Err(RowFault::Load);
-    };
-    let Ok(seen) = look(alloc, &mut work, &jobs) else {
-        return Err(RowFault::Look);
-    };
-    let Ok(mut live) = LivePlan::new(rt, alloc, jobs, store, seen, settings_of(alloc)?) else {
-        return Err(RowFault::Plan);
-    };
-    let before = to_run(live.states().as_slice());
-    let Some(Phase::Waiting) = live.phase(0) else {
-        return Err(RowFault::Phase);
-    };
-    live.began(0);
-    let begun = live.is_exact();
-    let entry = first_entry(alloc, &live)?;
-    let sight = sight_of(alloc)?;
-    let Some(Phase::Running) = live.phase(0) else {
-        return Err(RowFault::Phase);
-    };
-    live.closed(alloc, 0, one(alloc, entry)?, one(alloc, sight)?, judge)?;
-    let after = to_run(live.states().as_slice());
-    let closed = live.is_exact();
-    Ok(format!(in alloc; "to run {before}, then {after}; exact {begun}, then {closed}")?)
+    let mut live = planned(rt, alloc, count)?;
+    let (before, begun, after) = counted(alloc, &mut live, judge)?;
+    Ok(format!(in alloc; "to run {before}, then {begun}, then {after}")?)
 }
 
 // The line of a plan of so many jobs.

@@ -92,14 +92,14 @@ module _ (old new : LivePlan) (live : IsLive old) (n : ℕ) (phase : Phase) (new
   same_jobs = sym (ap (λ (x : Jobs). length x.jobs) put.jobs)
 
   runs : running_in new.jobs.jobs new.began.items ≡ running_in old.jobs.jobs began
-  runs = ap₂ (λ (x : Jobs) (b : List (Option State)). running_in x.jobs b) put.jobs (put.began ∙ nexts.began)
+  runs = ap₂ (λ (x : Jobs) (b : List (Option State)). running_in x.jobs b) put.jobs (put.began ∙ nexts.kept)
 
   pub installed_live : IsLive new
   installed_live =
       record {
         each = ap length put.states ∙ nexts.each ∙ same_jobs;
         rows = ap length put.phases ∙ set_length old.phases.items n phase ∙ live.rows ∙ same_jobs;
-        begun = ap length (put.began ∙ nexts.began) ∙ room ∙ same_jobs;
+        begun = ap length (put.began ∙ nexts.kept) ∙ room ∙ same_jobs;
         places = places ∙ same_jobs;
         told = told_anew;
         table = λ image so.

@@ -25,7 +25,7 @@ use Rattle.smk_live.specs.Lives.{IsSoIn}
 pub record IsNext (news : List (Option JobFacts)) (wholes : Wholes) (began : List (Option State)) (p : LivePlan) (next : Next) : Type 0 where
   pub judged : next.facts.items ≡ news
   pub reasons : next.reasons.items ≡ map (option_map reasons_of) news
-  pub began : next.began.items ≡ began
+  pub kept : next.began.items ≡ began
   pub each : length next.states ≡ length p.jobs.jobs
   pub table :
       (image : Image) (begun : List Path) →

@@ -31,7 +31,7 @@ put_in xs n (Some y) = slice_set xs n y
 -- the elements, but for those in whose place another one is given
 abbrev pub merged : {A : Type 0} → List A → List (Option A) → List A
 merged [] news = []
-merged (x ∷ xs) [] = x ∷ xs
+merged (x ∷ xs) [] = x ∷ merged xs []
 merged (x ∷ xs) (n ∷ news) = or_old n x ∷ merged xs news
 
 -- ## What jobs are judged by

@@ -4,3 +4,4 @@ pub mod Lives
 pub mod Closing
 pub mod Closed
 pub mod Readers
+pub mod Stub

@@ -14,6 +14,7 @@ mod next;
 mod outs;
 mod phase;
 mod readers;
+mod stub;
 mod whole;
 
 pub use live::{Late, LivePlan};

@@ -29,7 +29,7 @@ use std::thread::Threads;
 
 // What is known of the jobs before their states are.
 #[derive(Drop)]
-struct Judged {
+struct Told {
     facts: Vec<JobFacts>,
     reasons: Vec<List<Reason>>,
     wholes: Wholes,
@@ -71,14 +71,14 @@ fn nothing<T: Drop>(alloc: Global, jobs: &[Job]) -> Result<Vec<Option<T>>, OutOf
 }
 
 // What is known of jobs of which none has begun.
-fn judged<Rt: Threads + Sync>(
+fn tell<Rt: Threads + Sync>(
     rt: &Rt,
     alloc: Global,
     jobs: &Jobs,
     store: &Store,
     seen: &Seen,
     settings: &Settings,
-) -> Result<Judged, OutOfMemory>
+) -> Result<Told, OutOfMemory>
     ensures told { IfOk result (λ f. f.reasons.items ≡ map reasons_of f.facts.items) }
     ensures facts { IfOk result (λ f. (image : Image) → Agree image jobs.now store.now seen.now settings.now.targets
         → f.facts.items ≡ map (facts_of image settings.now [] (with_states jobs.now [])) jobs.now.jobs) }
@@ -90,7 +90,7 @@ fn judged<Rt: Threads + Sync>(
     let told = all_reasons(rt, alloc, &own, &Plain)?;
     let facts = elements(alloc, own)?;
     let reasons = elements(alloc, told)?;
-    Ok(Judged {
+    Ok(Told {
         facts,
         reasons,
         wholes: whole,
@@ -102,7 +102,7 @@ fn first_states(
     alloc: Global,
     jobs: &Jobs,
     settings: &Settings,
-    judged: &Judged,
+    judged: &Told,
     began: &[Option<State>],
 ) -> Result<List<State>, OutOfMemory>
     requires told { judged.now.reasons.items ≡ map reasons_of judged.now.facts.items }
@@ -141,12 +141,12 @@ fn kept<Rt: Threads + Sync>(
     ensures began { IfOk result (λ p. p.began.items ≡ map (λ j. None) jobs.jobs) }
     ensures so { IfOk result (λ p. (image : Image) → Agree image jobs store seen settings.targets → IsOf image p) }
 {
-    let told = judged(rt, alloc, &jobs, &store, &seen, &settings)?;
+    let told = tell(rt, alloc, &jobs, &store, &seen, &settings)?;
     let began = nothing(alloc, jobs.jobs.as_slice())?;
     let states = first_states(alloc, &jobs, &settings, &told, began.as_slice())?;
     let phases = waiting(alloc, jobs.jobs.as_slice())?;
     let late = nothing(alloc, jobs.jobs.as_slice())?;
-    let Judged {
+    let Told {
         facts,
         reasons,
         wholes,

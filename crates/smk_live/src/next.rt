@@ -38,7 +38,6 @@ fn reasons_or(
 }
 
 // The reasons of each job, some of which are new.
-#[tactic(auto, using(crate::proofs::Merged::merged_none))]
 fn merged_reasons(
     alloc: Global,
     old: &[List<Reason>],
@@ -70,7 +69,6 @@ fn forced_or(news: &Option<JobFacts>, old: &JobFacts) -> bool
 }
 
 // Which jobs are forced, where some facts are new.
-#[tactic(auto, using(crate::proofs::Merged::merged_none))]
 fn merged_forced(
     alloc: Global,
     old: &[JobFacts],

@@ -3,4 +3,4 @@ use Rattle.smk_trigger.specs.Reasons.{reasons_of}
 use Rattle.smk_live.proofs.facts.judge_each.Given as goal
 
 abbrev pub invariant-loop-one : goal.invariant-loop-one
-invariant-loop-one l = l.found.items ≡ map (option_map reasons_of) (take l.one-index l.facts)
+invariant-loop-one g l = l.found.items ≡ map (option_map reasons_of) (take l.one-index l.facts)

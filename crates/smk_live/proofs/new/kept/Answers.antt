@@ -19,9 +19,9 @@ returns-clause-live g c =
       told = c.in_ok-told.ensures.told;
       table = λ image so.
           let begun = begun_in jobs.jobs c.in_ok-phases.phases.items in
-          coe 0 1 (i. HasStates image c.args.settings (record { begun = begun; running = running_in jobs.jobs (c.as_slice-2.ensures i) }) (with_states jobs c.in_ok-states.states))
+          coe 0 1 (i. HasStates image c.args.settings (record { begun = begun; running = running_in jobs.jobs (c.as_slice-2.ensures.value i) }) (with_states jobs c.in_ok-states.states))
           (c.in_ok-states.ensures.table image begun
-          (coe 1 0 (i. IsSoIn image c.args.settings jobs c.in_ok-told.told.facts.items c.in_ok-told.told.wholes (record { begun = begun; running = running_in jobs.jobs (c.as_slice-2.ensures i) })) so));
+          (coe 1 0 (i. IsSoIn image c.args.settings jobs c.in_ok-told.told.facts.items c.in_ok-told.told.wholes (record { begun = begun; running = running_in jobs.jobs (c.as_slice-2.ensures.value i) })) so));
     }
 
 pub returns-clause-so : goal.returns-clause-so

@@ -3,5 +3,5 @@ use Rattle.smk_flow.specs.declared.job.Job.{Job}
 use Rattle.smk_live.specs.declared.phase.Phase.TheVariants.{Waiting}
 use Rattle.smk_live.proofs.new.waiting.Given as goal
 
-abbrev pub invariant-loop-_job : goal.invariant-loop-_job
-invariant-loop-_job l = l.found.items ≡ map (λ (j : Job). Waiting) (take l._job-index l.jobs)
+abbrev pub invariant-loop-job : goal.invariant-loop-job
+invariant-loop-job l = l.found.items ≡ map (λ (j : Job). Waiting) (take l._job-index l.jobs)

@@ -10,7 +10,7 @@ use Rattle.smk_live.proofs.live.LivePlan.began.Goals as goal
 pub returns-clause-live : goal.returns-clause-live
 returns-clause-live c =
     let p = c.args.self.now in
-    let began = c.in_ok-began.ensures ∙ ap (λ b. slice_set b c.args.job (Some c.in_ok-state.state)) c.as_slice-3.ensures in
+    let began = c.in_ok-began.ensures ∙ ap (λ b. slice_set b c.args.job (Some c.in_ok-state.state)) c.as_slice-3.ensures.value in
     installed_live p c.install.new.self c.requires.live c.args.job Running c.in_ok-news.news.items p.wholes c.in_ok-began.began.items c.in_ok-next.next
     c.in_ok-next.ensures
     (record {
@@ -38,9 +38,9 @@ returns-clause-ok c =
       state = c.state_at.result.now;
       had = sym (ap (λ l. slice_get l c.args.job) c.as_slice-2.ensures) ∙ c.state_at.ensures;
       began =
-          c.install.ensures.began ∙ c.in_ok-next.ensures.began ∙ c.in_ok-began.ensures
-          ∙ (λ i. slice_set (c.as_slice-3.ensures i) c.args.job (Some (c.in_ok-state.ensures i)));
-      judged = c.install.ensures.facts ∙ ap (merged p.facts.items) (c.in_ok-next.ensures.judged ∙ c.in_ok-news.ensures ∙ ap (facts_begun c.args.job 0) c.as_slice.ensures);
+          c.install.ensures.began ∙ c.in_ok-next.ensures.kept ∙ c.in_ok-began.ensures
+          ∙ (λ i. slice_set (c.as_slice-3.ensures.value i) c.args.job (Some (c.in_ok-state.ensures i)));
+      judged = c.install.ensures.facts ∙ ap (merged p.facts.items) (c.in_ok-next.ensures.judged ∙ c.in_ok-news.ensures ∙ ap (facts_begun c.args.job 0) c.as_slice.ensures.value);
       whole = c.install.ensures.wholes;
       late = c.install.ensures.late;
     }

@@ -10,7 +10,7 @@ use Rattle.smk_live.proofs.live.LivePlan.closed.Goals as goal
 pub returns-clause-live : goal.returns-clause-live
 returns-clause-live g c =
     let p = c.args.self.now in
-    let began = c.in_ok-began.ensures ∙ ap (λ b. slice_set b c.args.job None) c.as_slice-8.ensures in
+    let began = c.in_ok-began.ensures ∙ ap (λ b. slice_set b c.args.job None) c.as_slice-8.ensures.value in
     installed_live p c.close.new.self c.requires.live c.args.job Closed c.in_ok-news.news.items c.in_ok-wholes.wholes c.in_ok-began.began.items c.in_ok-next.next
     c.in_ok-next.ensures
     (record {
@@ -29,8 +29,8 @@ returns-clause-live g c =
 pub returns-clause-ok : goal.returns-clause-ok
 returns-clause-ok g c = λ closed at.
     let p = c.args.self.now in
-    let k = c.job_at.result.now in
-    let have : slice_get p.jobs.jobs c.args.job ≡ Some k = sym (ap (λ l. slice_get l c.args.job) c.as_slice.ensures) ∙ c.job_at.ensures in
+    let k = c.job_at-closed.result.now in
+    let have : slice_get p.jobs.jobs c.args.job ≡ Some k = sym (ap (λ l. slice_get l c.args.job) c.as_slice.ensures) ∙ c.job_at-closed.ensures in
     subst (λ x. HasClosed c.args.job x c.args.entries c.args.sights p c.close.new.self) (some_same k closed (sym have ∙ at))
     (record {
       jobs = c.close.ensures.jobs.0;
@@ -39,13 +39,13 @@ returns-clause-ok g c = λ closed at.
       seen = c.close.ensures.seen.1;
       phases = c.close.ensures.phases;
       began =
-          c.close.ensures.began ∙ c.in_ok-next.ensures.began ∙ c.in_ok-began.ensures
-          ∙ ap (λ b. slice_set b c.args.job None) c.as_slice-8.ensures;
+          c.close.ensures.began ∙ c.in_ok-next.ensures.kept ∙ c.in_ok-began.ensures
+          ∙ ap (λ b. slice_set b c.args.job None) c.as_slice-8.ensures.value;
       judged =
           c.close.ensures.facts
           ∙ ap (merged p.facts.items)
           (c.in_ok-next.ensures.judged ∙ c.in_ok-news.ensures
-          ∙ (λ i. fresh_facts k (c.as_slice-2.ensures i) c.args.job 0 (c.as_slice-3.ensures i) (c.as_slice-4.ensures i)));
+          ∙ (λ i. fresh_facts k (c.as_slice-2.ensures i) c.args.job 0 (c.as_slice-3.ensures i) (c.as_slice-4.ensures.value i)));
       whole =
           c.close.ensures.wholes ∙ c.in_ok-wholes.ensures
           ∙ (λ i. wholes_after k (c.as_slice-5.ensures i) (c.as_slice-6.ensures i) c.args.job (c.as_slice-7.ensures i) p.wholes);
