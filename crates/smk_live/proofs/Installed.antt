@@ -1,8 +1,7 @@
 -- A plan that is kept, as it begins, and once what is new was put in.
-use Rattle.std.proofs.Common.{◌≡◌, ℕ, zero, suc, ◌<◌, List, [], ◌∷◌, map, length, Option, Some, None, option_map, refl, sym, ap, ap₂, subst, ◌∙◌, arith}
+use Rattle.std.proofs.Common.{◌≡◌, ℕ, zero, suc, ◌<◌, List, [], ◌∷◌, map, length, Option, Some, None, refl, sym, ap, ap₂, subst, ◌∙◌, arith}
 use Rattle.std.specs.Prelude.{slice_set}
 use Rattle.std.specs.List.{slice_get}
-use Rattle.smk_world.specs.Trees.{Path}
 use Rattle.smk_flow.specs.declared.job.Job.{Job}
 use Rattle.smk_store.specs.Images.{Image}
 use Rattle.smk_chain.specs.declared.jobs.Jobs.{Jobs}
@@ -12,11 +11,10 @@ use Rattle.smk_trigger.specs.Reasons.{reasons_of}
 use Rattle.smk_pick.specs.declared.settings.Settings.{Settings}
 use Rattle.smk_plan.specs.declared.wholes.Wholes.{Wholes}
 use Rattle.smk_plan.specs.Sights.{wholes_of}
-use Rattle.smk_plan.specs.States.{Progress, HasStates}
+use Rattle.smk_plan.specs.States.{HasStates}
 use Rattle.smk_facts.specs.Facts.{having_run, facts_of}
 use Rattle.smk_states.specs.Served.{AreServed}
 use Rattle.smk_states.specs.Judged.{with_states}
-use Rattle.smk_live.specs.declared.children.Child.{Child}
 use Rattle.smk_live.specs.declared.next.Next.{Next}
 use Rattle.smk_live.specs.declared.live.LivePlan.{LivePlan}
 use Rattle.smk_live.specs.declared.phase.Phase.{Phase}

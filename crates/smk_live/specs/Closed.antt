@@ -14,7 +14,6 @@ use Rattle.smk_plan.specs.States.{HasStates}
 use Rattle.smk_states.specs.Judged.{with_states}
 use Rattle.smk_live.specs.declared.next.Next.{Next}
 use Rattle.smk_live.specs.declared.live.LivePlan.{LivePlan}
-use Rattle.smk_live.specs.declared.live.Late.{Late}
 use Rattle.smk_live.specs.declared.phase.Phase.{Phase}
 use Rattle.smk_live.specs.declared.phase.Phase.TheVariants.{Running, Closed}
 use Rattle.smk_live.specs.Phases.{running_in}

@@ -3,14 +3,14 @@ use Rattle.std.specs.Prelude.{◌≡◌, Bool, List, [], ◌++◌, map, Option}
 use Rattle.smk_world.specs.World.{in_paths, out_paths}
 use Rattle.smk_flow.specs.declared.job.Job.{Job}
 use Rattle.smk_store.specs.Images.{Image}
-use Rattle.smk_store.specs.Trust.{stamp_now, is_marked_but, stamp_now_but}
+use Rattle.smk_store.specs.Trust.{is_marked_but, stamp_now_but}
 use Rattle.smk_chain.specs.declared.jobs.Jobs.{Jobs}
 use Rattle.smk_trigger.specs.declared.reason.Reason.{Reason}
 use Rattle.smk_trigger.specs.declared.reason.Reason.TheVariants.{Forced}
 use Rattle.smk_trigger.specs.declared.reason.State.{State}
 use Rattle.smk_trigger.specs.Reasons.{own_reasons, when}
 use Rattle.smk_pick.specs.declared.settings.Settings.{Settings}
-use Rattle.smk_plan.specs.States.{Plan, Progress, is_forced, kept_state, is_restored}
+use Rattle.smk_plan.specs.States.{Progress, is_forced, kept_state, is_restored}
 use Rattle.smk_plan.specs.Sights.{wholes_of}
 use Rattle.smk_plan.specs.declared.wholes.Wholes.{Wholes}
 use Rattle.smk_states.specs.Judged.{with_states}

@@ -1,4 +1,4 @@
-use Rattle.std.proofs.Common.{◌≡◌, ◌++◌, drop}
+use Rattle.std.proofs.Common.{◌≡◌, drop}
 use Rattle.std.specs.List.{list_any}
 use Rattle.smk_world.specs.declared.recipe.Item.{Item}
 use Rattle.smk_plan.specs.States.{makes}

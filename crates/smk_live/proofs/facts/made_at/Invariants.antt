@@ -1,4 +1,4 @@
-use Rattle.std.proofs.Common.{◌≡◌, ◌++◌, drop}
+use Rattle.std.proofs.Common.{◌≡◌, drop}
 use Rattle.smk_live.specs.Closing.{made_at}
 use Rattle.smk_live.proofs.facts.made_at.Given as goal
 

@@ -1,4 +1,4 @@
-use Rattle.std.proofs.Common.{◌≡◌, ap, sym, ◌∙◌}
+use Rattle.std.proofs.Common.{ap, sym, ◌∙◌}
 use Rattle.std.specs.List.{list_any}
 use Rattle.smk_facts.proofs.FactsTold.{makes_by}
 use Rattle.smk_facts.proofs.Outs.{any_items}

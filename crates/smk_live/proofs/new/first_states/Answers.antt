@@ -1,4 +1,4 @@
-use Rattle.std.proofs.Common.{◌≡◌, map, ap, ◌∙◌}
+use Rattle.std.proofs.Common.{map, ap, ◌∙◌}
 use Rattle.smk_flow.specs.declared.job.Job.{Job}
 use Rattle.smk_trigger.specs.declared.facts.JobFacts.{JobFacts}
 use Rattle.smk_plan.specs.States.{job_path}

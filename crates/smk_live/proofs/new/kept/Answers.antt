@@ -1,4 +1,4 @@
-use Rattle.std.proofs.Common.{◌≡◌, map, length, None, ap, ◌∙◌}
+use Rattle.std.proofs.Common.{map, length, None, ap, ◌∙◌}
 use Rattle.smk_flow.specs.declared.job.Job.{Job}
 use Rattle.smk_live.specs.declared.phase.Phase.TheVariants.{Waiting}
 use Rattle.smk_plan.specs.States.{HasStates}

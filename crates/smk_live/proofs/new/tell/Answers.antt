@@ -1,4 +1,4 @@
-use Rattle.std.proofs.Common.{◌≡◌, [], map, refl, sym, ap, ◌∙◌}
+use Rattle.std.proofs.Common.{[], map, sym, ap, ◌∙◌}
 use Rattle.smk_trigger.specs.Reasons.{reasons_of}
 use Rattle.smk_facts.specs.Facts.{facts_of}
 use Rattle.smk_states.specs.Judged.{with_states}

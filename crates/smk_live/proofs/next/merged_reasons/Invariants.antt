@@ -1,4 +1,4 @@
-use Rattle.std.proofs.Common.{◌≡◌, ◌++◌, drop, map, length}
+use Rattle.std.proofs.Common.{◌≡◌, ◌++◌, drop}
 use Rattle.smk_live.specs.Closing.{merged}
 use Rattle.smk_live.proofs.next.merged_reasons.Given as goal
 

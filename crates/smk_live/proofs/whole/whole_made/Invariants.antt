@@ -1,4 +1,4 @@
-use Rattle.std.proofs.Common.{◌≡◌, ◌++◌, drop}
+use Rattle.std.proofs.Common.{◌≡◌, drop}
 use Rattle.smk_live.specs.Closing.{whole_made}
 use Rattle.smk_live.proofs.whole.whole_made.Given as goal
 

@@ -1,7 +1,6 @@
-use Rattle.std.proofs.Common.{◌≡◌, length, sym, ap, ◌∙◌, Some}
+use Rattle.std.proofs.Common.{length, sym, ap, ◌∙◌, Some}
 use Rattle.std.specs.Prelude.{slice_set}
 use Rattle.std.specs.List.{slice_get}
-use Rattle.smk_trigger.specs.declared.reason.State.{State}
 use Rattle.smk_live.specs.declared.phase.Phase.TheVariants.{Running}
 use Rattle.smk_live.specs.Closing.{merged, facts_begun}
 use Rattle.smk_live.proofs.Installed.{installed_live, room_kept}
