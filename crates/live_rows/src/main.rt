@@ -163,7 +163,11 @@ fn close(alloc: Global, live: &mut LivePlan, judge: &Counting) -> Result<(), Row
 }
 
 // The first job begins and is closed; how many jobs have to run before, meanwhile and after.
-fn counted(alloc: Global, live: &mut LivePlan, judge: &Counting) -> Result<(u32, u32, u32), RowFault>
+fn counted(
+    alloc: Global,
+    live: &mut LivePlan,
+    judge: &Counting,
+) -> Result<(u32, u32, u32), RowFault>
     requires { IsLive live.old }
 {
     let before = to_run(live.states().as_slice());

@@ -19,8 +19,7 @@ use Rattle.smk_pick.specs.declared.settings.Settings.{Settings}
 use Rattle.smk_plan.specs.declared.wholes.Wholes.{Wholes}
 use Rattle.smk_plan.specs.States.{Progress, job_path, is_forced, is_restored, kept_state}
 use Rattle.smk_facts.specs.Facts.{having_run, facts_of}
-use Rattle.smk_states.specs.Judged.{with_states}
-use Rattle.smk_live.specs.Stub.{reasons_now, AreJudgedNow}
+use Rattle.smk_states.specs.Judged.{with_states, reasons_now, AreJudgedNow}
 use Rattle.smk_live.specs.declared.children.Child.{Child}
 use Rattle.smk_live.specs.Phases.{named, named_state}
 use Rattle.smk_live.specs.Lives.{facts_now, IsSoIn}

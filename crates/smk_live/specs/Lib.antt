@@ -4,4 +4,3 @@ pub mod Lives
 pub mod Closing
 pub mod Closed
 pub mod Readers
-pub mod Stub

@@ -31,11 +31,7 @@ fn begun_facts(alloc: Global, facts: &JobFacts) -> Result<JobFacts, OutOfMemory>
 }
 
 // The same where it is the one that begins.
-fn begun_if(
-    alloc: Global,
-    is_it: bool,
-    facts: &JobFacts,
-) -> Result<Option<JobFacts>, OutOfMemory>
+fn begun_if(alloc: Global, is_it: bool, facts: &JobFacts) -> Result<Option<JobFacts>, OutOfMemory>
     ensures { IfOk result (λ found. found ≡ (if is_it then Some (begun_facts facts.now) else None)) }
 {
     if !is_it {

@@ -45,10 +45,7 @@ fn state_if_any(alloc: Global, state: &Option<State>) -> Result<Option<State>, O
 }
 
 // A copy of the states.
-fn states_again(
-    alloc: Global,
-    states: &[Option<State>],
-) -> Result<Vec<Option<State>>, OutOfMemory>
+fn states_again(alloc: Global, states: &[Option<State>]) -> Result<Vec<Option<State>>, OutOfMemory>
     ensures { IfOk result (λ copy. copy.items ≡ states.now) }
 {
     let mut copy = Vec::new(alloc);
@@ -133,11 +130,7 @@ fn child_named<'c>(children: &'c [Child], name: &str) -> Option<&'c Child>
 }
 
 // A copy of the state that the job had when it began, where its child is among these.
-fn kept_of(
-    alloc: Global,
-    children: &[Child],
-    job: &Job,
-) -> Result<Option<State>, OutOfMemory>
+fn kept_of(alloc: Global, children: &[Child], job: &Job) -> Result<Option<State>, OutOfMemory>
     ensures { IfOk result (λ found. found ≡ named_state children.now (job_path job.now)) }
 {
     match child_named(children, name_of(job)) {

@@ -9,8 +9,8 @@ ghost use Rattle.smk_facts.specs.Telling.{stamp_by};
 ghost use Rattle.smk_live.specs.Closing.{made_at, stamp_or, restamped, closed_facts, reader_facts, is_reader, fresh_of, fresh_facts, merged};
 
 use crate::copies::{all_kept_again, flags_again, kept_in, marks_in, stamps_if_any};
-use crate::outs::{outs_in, paths_in};
 use crate::made::{is_made, reaches};
+use crate::outs::{outs_in, paths_in};
 use smk_base::{Copied, List, OutOfMemory, PathText};
 use smk_flow::Job;
 use smk_record::Stamp;

@@ -15,7 +15,7 @@ use smk_base::{List, OutOfMemory};
 use smk_chain::Jobs;
 use smk_pick::Settings;
 use smk_plan::Wholes;
-use crate::stub::states_now;
+use smk_states::states_now;
 use smk_trigger::{JobFacts, Reason, State};
 use std::alloc::Global;
 

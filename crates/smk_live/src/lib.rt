@@ -14,7 +14,6 @@ mod next;
 mod outs;
 mod phase;
 mod readers;
-mod stub;
 mod whole;
 
 pub use live::{Late, LivePlan};

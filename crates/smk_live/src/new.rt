@@ -114,15 +114,7 @@ fn first_states(
     let own = all_again(alloc, judged.reasons.as_slice())?;
     let forced = forced_of(alloc, judged.facts.as_slice())?;
     let running = kept_states(alloc, jobs.jobs.as_slice(), began)?;
-    let found = states_of(
-        alloc,
-        jobs,
-        settings,
-        own,
-        &forced,
-        &judged.wholes,
-        running,
-    )?;
+    let found = states_of(alloc, jobs, settings, own, &forced, &judged.wholes, running)?;
     Ok(found)
 }
 

@@ -13,8 +13,8 @@ ghost use Rattle.smk_live.specs.Made.{reaches};
 ghost use Rattle.smk_live.specs.Closing.{whole_flags, whole_made, is_of, makers_after, outputs_after, wholes_after};
 
 use crate::copies::flags_again;
-use crate::outs::outs_in;
 use crate::made::reaches;
+use crate::outs::outs_in;
 use smk_base::{List, OutOfMemory, PathText};
 use smk_chain::Maker;
 use smk_flow::Job;
