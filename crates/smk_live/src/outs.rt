@@ -1,0 +1,54 @@
+//! The outputs and inputs of a recipe as flat lists.
+
+ghost use Rattle.std.specs.Prelude.{◌≡◌, ◌++◌, IfOk, OnOk};
+ghost use Rattle.std.specs.List.{flat_map};
+
+use smk_base::{Copied, List, OutOfMemory, PathText};
+use smk_world::{Item, Out, OutItem};
+use std::alloc::Global;
+
+// Adds the outputs.
+fn push_outs(alloc: Global, found: &mut List<Out>, outs: &[Out]) -> Result<(), OutOfMemory>
+    ensures { OnOk result (found.new ≡ found.old ++ outs.now) }
+{
+    for out in outs {
+        found.push(out.copied(alloc)?)?;
+    }
+    Ok(())
+}
+
+/// The outputs of the items, in order.
+pub(crate) fn outs_in(alloc: Global, items: &[OutItem]) -> Result<List<Out>, OutOfMemory>
+    ensures { IfOk result (λ outs. outs ≡ flat_map (λ item. item.outs) items.now) }
+{
+    let mut outs = List::new(alloc);
+    for item in items {
+        push_outs(alloc, &mut outs, item.outs.as_slice())?;
+    }
+    Ok(outs)
+}
+
+// Adds the paths.
+fn push_paths(
+    alloc: Global,
+    found: &mut List<PathText>,
+    paths: &[PathText],
+) -> Result<(), OutOfMemory>
+    ensures { OnOk result (found.new ≡ found.old ++ paths.now) }
+{
+    for path in paths {
+        found.push(path.copy(alloc)?)?;
+    }
+    Ok(())
+}
+
+/// The paths of the items, in order.
+pub(crate) fn paths_in(alloc: Global, items: &[Item]) -> Result<List<PathText>, OutOfMemory>
+    ensures { IfOk result (λ paths. paths ≡ flat_map (λ item. item.paths) items.now) }
+{
+    let mut paths = List::new(alloc);
+    for item in items {
+        push_paths(alloc, &mut paths, item.paths.as_slice())?;
+    }
+    Ok(paths)
+}
