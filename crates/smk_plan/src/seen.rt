@@ -44,6 +44,14 @@ impl Seen {
         Seen { sights }
     }
 
+    /// The sights, by rising paths.
+    pub fn into_sights(self) -> List<Sight>
+        ensures value { result ≡ self }
+        ensures rising { AreRising result }
+    {
+        self.sights
+    }
+
     /// What was seen at the path. None where nothing was looked at there. The time grows with the logarithm of the number of sights.
     pub fn sight(&self, path: &PathText) -> Option<&Sight>
         ensures { option_map (λ s. s.now) result ≡ sight_at self.now path.now }
