@@ -22,6 +22,7 @@ use Rattle.smk_plan.specs.States.{Plan, job_path, by_force, makes}
 use Rattle.smk_plan.specs.Sights.{IsSeenOf, IsSeenAs}
 use Rattle.smk_facts.specs.declared.forced.Forcing.{Forcing}
 use Rattle.smk_facts.specs.Facts.{facts_of, told_sources, HasOwnRecords, TellSources}
+use Rattle.smk_facts.specs.Laws.{FactsAreSo}
 use Rattle.smk_facts.specs.Telling.{kept_of, mark_of, copied, stamp_in, facts_in, forced_by, forced_in, has_path_texts, is_aimed, aims_at, Tells}
 use Rattle.smk_facts.proofs.Tests.{map_all, map_each, map_both, map_twice, each_two, each_tested, paths_of_outs}
 use Rattle.smk_facts.proofs.Outs.{any_items}
@@ -89,6 +90,9 @@ facts_are image store sights made settings ran plan is seen own sources texts =
     (λ (j : Job). facts_in store sights (among (told_sources made.makers)) (forced_by settings ran) j ≡ facts_of image settings ran plan j)
     (λ j told text. job_is image store sights made.makers settings ran plan j is own (λ q at. source_seen image sights made.makers q seen.sources at) told text)
     made.jobs sources (each_tested has_path_texts made.jobs texts))
+
+pub facts_so : FactsAreSo
+facts_so image settings ran plan made known seen is at own sources texts = facts_are image known seen made settings ran plan is at own sources texts
 
 -- ## What forces a job
 

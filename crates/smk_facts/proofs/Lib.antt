@@ -1,6 +1,7 @@
 pub mod Tests
 pub mod Outs
 pub mod Copied
+pub mod Entries
 pub mod Stamped
 pub mod FactsTold
 pub mod Members

@@ -30,6 +30,7 @@ use Rattle.smk_plan.specs.States.{is_whole_by, makes, stands_whole, test_some}
 use Rattle.smk_plan.specs.Sights.{IsSeenAs, IsSeenOf, is_whole_made, job_at, members_seen, sight_of, whole_outputs, wholes_of}
 use Rattle.smk_facts.specs.declared.directories.Directory.{Directory}
 use Rattle.smk_facts.specs.Facts.{AreMade, HasOwnRecords, IsMade, NamesAll}
+use Rattle.smk_facts.specs.Laws.{WholesAreSo}
 use Rattle.smk_facts.specs.Telling.{are_recorded, directories_of, directory_at, directory_in, is_file_member, is_file_stat, is_folder_stat, is_made_by, is_made_in, is_member_in, is_output_in, is_plain_in, is_told_whole, is_whole_in, is_whole_sight, kept_of, member_names, nth, or_no_members, outputs_in, whole_at, wholes_in, IsSorted}
 use Rattle.smk_facts.proofs.Tests.{each_among, each_map, each_of, each_found, find_map, find_passes, find_path, map_both, map_each, paths_of_outs}
 use Rattle.smk_facts.proofs.Stamped.{kept_is}
@@ -305,3 +306,6 @@ wholes_are image store sights made is seen all own makes = λ i.
 -- the members of the directories of all jobs rise
 pub sorted_all : (image : Image) (store : List Known) (sights : List Sight) (made : Jobs) → IsStoreOf image store → IsSeenOf image made sights → HasOwnRecords image → Each (Each (IsSorted sights)) (map (directories_of store sights) made.jobs)
 sorted_all image store sights made is seen own = all_sorted image store sights is own made.jobs seen.outputs
+
+pub wholes_so : WholesAreSo
+wholes_so image made known seen is at all own makes = (sorted_all image known seen made is at own, wholes_are image known seen made is at all own makes)

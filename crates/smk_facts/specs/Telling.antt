@@ -43,6 +43,10 @@ abbrev pub kept_of : Option Entry → Kept
 kept_of None = Absent
 kept_of (Some e) = e.kept
 
+abbrev pub or_absent : Option Kept → Kept
+or_absent None = Absent
+or_absent (Some k) = k
+
 abbrev pub mark_of : Option Entry → Bool
 mark_of None = false
 mark_of (Some e) = e.marked

@@ -1,11 +1,13 @@
 //! Copies of what is kept of a path.
 
 ghost use Rattle.std.specs.Prelude.{◌≡◌, IfOk, map, option_map};
-ghost use Rattle.smk_facts.specs.Telling.{copied, held_by, kept_of};
+ghost use Rattle.smk_store.specs.Stores.{entry_of};
+ghost use Rattle.smk_facts.specs.Telling.{copied, held_by, kept_of, or_absent};
 
-use smk_base::{Copied, List, OutOfMemory};
+use smk_base::{Copied, List, OutOfMemory, PathText};
 use smk_record::{Member, Record, Stamp};
-use smk_store::{Entry, Kept};
+use smk_store::Kept;
+use smk_told::Told;
 use std::alloc::Global;
 
 // A copy of the stamps.
@@ -72,12 +74,23 @@ fn kept_again(alloc: Global, kept: &Kept) -> Result<Kept, OutOfMemory>
     }
 }
 
-/// A copy of what is kept of a path, if anything is known of it; a record only where it is valid.
-pub(crate) fn copy_of(alloc: Global, entry: Option<&Entry>) -> Result<Kept, OutOfMemory>
-    ensures { IfOk result (λ copy. copy ≡ copied (kept_of (option_map (λ e. e.now) entry.entry))) }
+// A copy of what is kept of a path, if anything is known of it.
+fn copy_of(alloc: Global, kept: Option<&Kept>) -> Result<Kept, OutOfMemory>
+    ensures { IfOk result (λ copy. copy ≡ copied (or_absent (option_map (λ k. k.now) kept.entry))) }
 {
-    match entry {
+    match kept {
         None => Ok(Kept::Absent),
-        Some(entry) => kept_again(alloc, &entry.kept),
+        Some(kept) => kept_again(alloc, kept),
     }
+}
+
+/// A copy of what is kept of the path, if anything is known of it; a record only where it is valid.
+pub(crate) fn copy_at<T: Told>(
+    alloc: Global,
+    told: &T,
+    path: &PathText,
+) -> Result<Kept, OutOfMemory>
+    ensures { IfOk result (λ copy. copy ≡ copied (kept_of (entry_of (T.known told.now) path.now))) }
+{
+    copy_of(alloc, told.kept(path))
 }

@@ -4,14 +4,14 @@ ghost use Rattle.std.specs.Prelude.{◌≡◌, ◌++◌, map, option_map, IfOk, 
 ghost use Rattle.std.specs.List.{flat_map};
 ghost use Rattle.std.specs.Cmp.Lexicographic.{pointwise};
 ghost use Rattle.smk_record.specs.Records.{same_member};
-ghost use Rattle.smk_store.specs.Images.{readable};
 ghost use Rattle.smk_plan.specs.States.{test_some};
-ghost use Rattle.smk_facts.specs.Telling.{are_recorded, directory_at, is_file_stat, is_folder_stat, is_whole_in, is_whole_sight, kept_of, whole_at};
+ghost use Rattle.smk_facts.specs.Telling.{are_recorded, directory_at, is_file_stat, is_folder_stat, is_whole_in, is_whole_sight, whole_at};
 
+use crate::known::record_at;
 use smk_base::{List, OutOfMemory, PathText};
-use smk_plan::{Seen, Sight};
+use smk_plan::Sight;
 use smk_record::{Member, Record};
-use smk_store::{Entry, Kept, Store};
+use smk_told::Told;
 use smk_world::{Kind, Out, OutItem, Stat};
 use std::alloc::Global;
 
@@ -78,92 +78,74 @@ fn were_seen(members: &Option<List<Member>>, recorded: &List<Member>) -> bool
     }
 }
 
-// Whether the members that were seen are those of the record that is kept.
-fn are_kept(members: &Option<List<Member>>, kept: &Kept) -> bool
-    ensures { result ≡ are_recorded members.now (readable kept.now) }
+// Whether the members that were seen are those of the record.
+fn are_recorded(members: &Option<List<Member>>, held: Option<&Record>) -> bool
+    ensures { result ≡ are_recorded members.now (option_map (λ r. r.now) held.entry) }
 {
-    match kept {
-        Kept::Absent => false,
-        Kept::Unreadable => false,
-        Kept::Held(record) => were_seen(members, record.members()),
-    }
-}
-
-// The same where anything is known of the path.
-fn are_known(members: &Option<List<Member>>, entry: Option<&Entry>) -> bool
-    ensures { result ≡ are_recorded members.now (readable (kept_of (option_map (λ e. e.now) entry.entry))) }
-{
-    match entry {
+    match held {
         None => false,
-        Some(entry) => are_kept(members, &entry.kept),
+        Some(held) => were_seen(members, held.members()),
     }
 }
 
 // Whether an output of this kind is whole by what was seen there.
-fn is_whole_sight(sight: &Sight, kind: Kind, entry: Option<&Entry>) -> bool
-    ensures { result ≡ is_whole_sight (readable (kept_of (option_map (λ e. e.now) entry.entry))) kind sight.now }
+fn is_whole_sight(sight: &Sight, kind: Kind, held: Option<&Record>) -> bool
+    ensures { result ≡ is_whole_sight (option_map (λ r. r.now) held.entry) kind sight.now }
 {
     match kind {
         Kind::Plain => is_file(sight.stat),
-        Kind::Folder => is_folder(sight.stat) && are_known(&sight.members, entry),
+        Kind::Folder => is_folder(sight.stat) && are_recorded(&sight.members, held),
     }
 }
 
 // Whether an output of this kind at the path is whole.
-fn is_whole(store: &Store, seen: &Seen, path: &PathText, kind: Kind) -> bool
-    ensures { result ≡ is_whole_in store.now seen.now path.now kind }
+fn is_whole<T: Told>(told: &T, path: &PathText, kind: Kind) -> bool
+    ensures { result ≡ is_whole_in (T.known told.now) (T.seen told.now) path.now kind }
 {
-    match seen.sight(path) {
+    match told.sight(path) {
         None => false,
-        Some(sight) => is_whole_sight(sight, kind, store.entry(path)),
+        Some(sight) => is_whole_sight(sight, kind, record_at(told, path)),
     }
 }
 
 // Adds which of these outputs are whole.
-fn add_whole(
-    flags: &mut List<bool>,
-    store: &Store,
-    seen: &Seen,
-    outs: &[Out],
-) -> Result<(), OutOfMemory>
-    ensures { OnOk result (flags.new ≡ flags.old ++ map (whole_at store.now seen.now) outs.now) }
+fn add_whole<T: Told>(flags: &mut List<bool>, told: &T, outs: &[Out]) -> Result<(), OutOfMemory>
+    ensures { OnOk result (flags.new ≡ flags.old ++ map (whole_at (T.known told.now) (T.seen told.now)) outs.now) }
 {
     for out in outs {
-        flags.push(is_whole(store, seen, &out.path, out.kind))?;
+        flags.push(is_whole(told, &out.path, out.kind))?;
     }
     Ok(())
 }
 
 /// Which outputs of these items are whole.
-pub(crate) fn whole_in(
+pub(crate) fn whole_in<T: Told>(
     alloc: Global,
-    store: &Store,
-    seen: &Seen,
+    told: &T,
     outputs: &[OutItem],
 ) -> Result<List<bool>, OutOfMemory>
-    ensures { IfOk result (λ flags. flags ≡ flat_map (λ item. map (whole_at store.now seen.now) item.outs) outputs.now) }
+    ensures { IfOk result (λ flags. flags ≡ flat_map (λ item. map (whole_at (T.known told.now) (T.seen told.now)) item.outs) outputs.now) }
 {
     let mut flags = List::new(alloc);
     for item in outputs {
-        add_whole(&mut flags, store, seen, item.outs.as_slice())?;
+        add_whole(&mut flags, told, item.outs.as_slice())?;
     }
     Ok(flags)
 }
 
 // Adds the output, where it is a directory.
-fn add_directory(
+fn add_directory<T: Told>(
     alloc: Global,
     found: &mut List<Directory>,
-    store: &Store,
-    seen: &Seen,
+    told: &T,
     out: &Out,
 ) -> Result<(), OutOfMemory>
-    ensures { OnOk result (found.new ≡ found.old ++ directory_at store.now seen.now out.now) }
+    ensures { OnOk result (found.new ≡ found.old ++ directory_at (T.known told.now) (T.seen told.now) out.now) }
 {
     match out.kind {
         Kind::Plain => Ok(()),
         Kind::Folder => {
-            let whole = is_whole(store, seen, &out.path, Kind::Folder);
+            let whole = is_whole(told, &out.path, Kind::Folder);
             let path = out.path.copy(alloc)?;
             found.push(Directory { path, whole })?;
             Ok(())
@@ -172,33 +154,31 @@ fn add_directory(
 }
 
 // Adds those of the outputs that are directories.
-fn add_directories(
+fn add_directories<T: Told>(
     alloc: Global,
     found: &mut List<Directory>,
-    store: &Store,
-    seen: &Seen,
+    told: &T,
     outs: &[Out],
 ) -> Result<(), OutOfMemory>
-    ensures { OnOk result (found.new ≡ found.old ++ flat_map (directory_at store.now seen.now) outs.now) }
+    ensures { OnOk result (found.new ≡ found.old ++ flat_map (directory_at (T.known told.now) (T.seen told.now)) outs.now) }
 {
     for out in outs {
-        add_directory(alloc, found, store, seen, out)?;
+        add_directory(alloc, found, told, out)?;
     }
     Ok(())
 }
 
 /// The directories among the outputs of these items.
-pub(crate) fn directories_in(
+pub(crate) fn directories_in<T: Told>(
     alloc: Global,
-    store: &Store,
-    seen: &Seen,
+    told: &T,
     outputs: &[OutItem],
 ) -> Result<List<Directory>, OutOfMemory>
-    ensures { IfOk result (λ found. found ≡ flat_map (λ item. flat_map (directory_at store.now seen.now) item.outs) outputs.now) }
+    ensures { IfOk result (λ found. found ≡ flat_map (λ item. flat_map (directory_at (T.known told.now) (T.seen told.now)) item.outs) outputs.now) }
 {
     let mut found = List::new(alloc);
     for item in outputs {
-        add_directories(alloc, &mut found, store, seen, item.outs.as_slice())?;
+        add_directories(alloc, &mut found, told, item.outs.as_slice())?;
     }
     Ok(found)
 }

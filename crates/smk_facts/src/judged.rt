@@ -11,9 +11,10 @@ ghost use Rattle.smk_plan.specs.States.{Plan};
 ghost use Rattle.smk_facts.specs.Facts.{facts_of, told_sources, HasOwnRecords, TellSources};
 ghost use Rattle.smk_facts.specs.Telling.{copied_at, facts_in, forced_by, forced_in, has_path_texts, marked_at, stamp_in};
 
-use crate::copies::copy_of;
+use crate::copies::copy_at;
 use crate::forced::Forcing;
-use crate::stamps::{has_mark, sources_in, stamp_now};
+use crate::known::is_marked;
+use crate::stamps::{sources_of, stamp_now};
 use smk_base::{Copied, List, OutOfMemory, PathText};
 use smk_chain::Jobs;
 use smk_flow::Job;
@@ -21,6 +22,7 @@ use smk_pick::Settings;
 use smk_plan::Seen;
 use smk_record::Stamp;
 use smk_store::{Kept, Store};
+use smk_told::{Loaded, Told};
 use smk_trigger::JobFacts;
 use smk_world::{Item, Out, OutItem};
 use std::alloc::Global;
@@ -55,110 +57,108 @@ fn see_jobs(jobs: &[Job])
 }
 
 // Adds what is kept of these outputs.
-fn add_kept(
+fn add_kept<T: Told>(
     alloc: Global,
     kept: &mut List<Kept>,
-    store: &Store,
+    told: &T,
     outs: &[Out],
 ) -> Result<(), OutOfMemory>
-    ensures { OnOk result (kept.new ≡ kept.old ++ map (copied_at store.now) outs.now) }
+    ensures { OnOk result (kept.new ≡ kept.old ++ map (copied_at (T.known told.now)) outs.now) }
 {
     for out in outs {
-        let copy = copy_of(alloc, store.entry(&out.path))?;
+        let copy = copy_at(alloc, told, &out.path)?;
         kept.push(copy)?;
     }
     Ok(())
 }
 
-// What is kept of the outputs of these items.
-fn kept_in(alloc: Global, store: &Store, outputs: &[OutItem]) -> Result<List<Kept>, OutOfMemory>
-    ensures { IfOk result (λ kept. kept ≡ flat_map (λ item. map (copied_at store.now) item.outs) outputs.now) }
+/// What is kept of the outputs of these items, in their order; a record only where it is valid. `OutOfMemory` where there is no memory for it.
+pub fn kept_of<T: Told>(
+    alloc: Global,
+    told: &T,
+    outputs: &[OutItem],
+) -> Result<List<Kept>, OutOfMemory>
+    ensures { IfOk result (λ kept. kept ≡ flat_map (λ item. map (copied_at (T.known told.now)) item.outs) outputs.now) }
 {
     let mut kept = List::new(alloc);
     for item in outputs {
-        add_kept(alloc, &mut kept, store, item.outs.as_slice())?;
+        add_kept(alloc, &mut kept, told, item.outs.as_slice())?;
     }
     Ok(kept)
 }
 
 // Adds which of these outputs are marked.
-fn add_marks(marked: &mut List<bool>, store: &Store, outs: &[Out]) -> Result<(), OutOfMemory>
-    ensures { OnOk result (marked.new ≡ marked.old ++ map (marked_at store.now) outs.now) }
+fn add_marks<T: Told>(marked: &mut List<bool>, told: &T, outs: &[Out]) -> Result<(), OutOfMemory>
+    ensures { OnOk result (marked.new ≡ marked.old ++ map (marked_at (T.known told.now)) outs.now) }
 {
     for out in outs {
-        marked.push(has_mark(store.entry(&out.path)))?;
+        marked.push(is_marked(told, &out.path))?;
     }
     Ok(())
 }
 
-// Which outputs of these items are marked.
-fn marks_in(alloc: Global, store: &Store, outputs: &[OutItem]) -> Result<List<bool>, OutOfMemory>
-    ensures { IfOk result (λ marked. marked ≡ flat_map (λ item. map (marked_at store.now) item.outs) outputs.now) }
+/// Which outputs of these items are marked, in their order. `OutOfMemory` where there is no memory for the answer.
+pub fn marks_of<T: Told>(
+    alloc: Global,
+    told: &T,
+    outputs: &[OutItem],
+) -> Result<List<bool>, OutOfMemory>
+    ensures { IfOk result (λ marked. marked ≡ flat_map (λ item. map (marked_at (T.known told.now)) item.outs) outputs.now) }
 {
     let mut marked = List::new(alloc);
     for item in outputs {
-        add_marks(&mut marked, store, item.outs.as_slice())?;
+        add_marks(&mut marked, told, item.outs.as_slice())?;
     }
     Ok(marked)
 }
 
 // Adds the stamps of these inputs.
-fn add_stamps(
+fn add_stamps<T: Told>(
     alloc: Global,
     stamps: &mut List<Option<Stamp>>,
-    store: &Store,
-    seen: &Seen,
+    told: &T,
     sources: &BTreeSet<String>,
     paths: &[PathText],
 ) -> Result<(), OutOfMemory>
-    ensures { OnOk result (stamps.new ≡ stamps.old ++ map (stamp_in store.now seen.now (contains_text sources.now)) paths.now) }
+    ensures { OnOk result (stamps.new ≡ stamps.old ++ map (stamp_in (T.known told.now) (T.seen told.now) (contains_text sources.now)) paths.now) }
 {
     for path in paths {
-        let stamp = stamp_now(alloc, store, seen, sources, path)?;
+        let stamp = stamp_now(alloc, told, sources, path)?;
         stamps.push(stamp)?;
     }
     Ok(())
 }
 
 // The stamps of the inputs of these items.
-fn stamps_in(
+fn stamps_in<T: Told>(
     alloc: Global,
-    store: &Store,
-    seen: &Seen,
+    told: &T,
     sources: &BTreeSet<String>,
     inputs: &[Item],
 ) -> Result<List<Option<Stamp>>, OutOfMemory>
-    ensures { IfOk result (λ stamps. stamps ≡ flat_map (λ item. map (stamp_in store.now seen.now (contains_text sources.now)) item.paths) inputs.now) }
+    ensures { IfOk result (λ stamps. stamps ≡ flat_map (λ item. map (stamp_in (T.known told.now) (T.seen told.now) (contains_text sources.now)) item.paths) inputs.now) }
 {
     let mut stamps = List::new(alloc);
     for item in inputs {
-        add_stamps(
-            alloc,
-            &mut stamps,
-            store,
-            seen,
-            sources,
-            item.paths.as_slice(),
-        )?;
+        add_stamps(alloc, &mut stamps, told, sources, item.paths.as_slice())?;
     }
     Ok(stamps)
 }
 
 // The facts of the job.
-fn job_facts(
+fn job_facts<T: Told>(
     alloc: Global,
-    store: &Store,
-    seen: &Seen,
+    told: &T,
     sources: &BTreeSet<String>,
     forcing: &Forcing,
     job: &Job,
 ) -> Result<JobFacts, OutOfMemory>
-    ensures { IfOk result (λ found. found ≡ facts_in store.now seen.now (contains_text sources.now) (forced_in forcing.now) job.now) }
+    ensures { IfOk result (λ found. found ≡ facts_in (T.known told.now) (T.seen told.now) (contains_text sources.now) (forced_in forcing.now) job.now) }
 {
     let recipe = job.recipe.copied(alloc)?;
-    let kept = kept_in(alloc, store, job.recipe.outputs.as_slice())?;
-    let marked = marks_in(alloc, store, job.recipe.outputs.as_slice())?;
-    let stamps = stamps_in(alloc, store, seen, sources, job.recipe.inputs.as_slice())?;
+    let kept = kept_of(alloc, told, job.recipe.outputs.as_slice())?;
+    let marked = marks_of(alloc, told, job.recipe.outputs.as_slice())?;
+    let stamps = stamps_in(alloc, told, sources, job.recipe.inputs.as_slice())?;
     let forced = forcing.is_forced(job);
     Ok(JobFacts {
         recipe,
@@ -170,38 +170,53 @@ fn job_facts(
 }
 
 // The facts of the jobs.
-fn all_facts(
+fn all_facts<T: Told>(
     alloc: Global,
-    store: &Store,
-    seen: &Seen,
+    told: &T,
     sources: &BTreeSet<String>,
     forcing: &Forcing,
     jobs: &[Job],
 ) -> Result<List<JobFacts>, OutOfMemory>
-    ensures { IfOk result (λ found. found ≡ map (facts_in store.now seen.now (contains_text sources.now) (forced_in forcing.now)) jobs.now) }
+    ensures { IfOk result (λ found. found ≡ map (facts_in (T.known told.now) (T.seen told.now) (contains_text sources.now) (forced_in forcing.now)) jobs.now) }
 {
     let mut found = List::new(alloc);
     for job in jobs {
-        let facts = job_facts(alloc, store, seen, sources, forcing, job)?;
+        let facts = job_facts(alloc, told, sources, forcing, job)?;
         found.push(facts)?;
     }
     Ok(found)
 }
 
-// The facts of the jobs, by the store and what was seen.
-fn told_facts(
+// The facts of the jobs, by what is known and was seen.
+fn told_facts<T: Told>(
     alloc: Global,
     jobs: &Jobs,
-    store: &Store,
-    seen: &Seen,
+    told: &T,
     settings: &Settings,
     ran: &List<PathText>,
 ) -> Result<List<JobFacts>, OutOfMemory>
-    ensures { IfOk result (λ found. found ≡ map (facts_in store.now seen.now (among (told_sources jobs.now.makers)) (forced_by settings.now ran.now)) jobs.now.jobs) }
+    ensures { IfOk result (λ found. found ≡ map (facts_in (T.known told.now) (T.seen told.now) (among (told_sources jobs.now.makers)) (forced_by settings.now ran.now)) jobs.now.jobs) }
 {
-    let sources = sources_in(alloc, jobs.makers.as_slice())?;
+    let sources = sources_of(alloc, jobs.makers.as_slice())?;
     let forcing = Forcing::of(alloc, settings, ran)?;
-    all_facts(alloc, store, seen, &sources, &forcing, jobs.jobs.as_slice())
+    all_facts(alloc, told, &sources, &forcing, jobs.jobs.as_slice())
+}
+
+/// The facts of each job, in plan order, by what is known and was seen: its recipe, what is kept and marked of its outputs, the stamps of its inputs now, and
+/// whether it is forced, where the jobs with the first outputs `ran` have begun in this run and none runs. The inputs are texts of paths. `OutOfMemory` where
+/// there is no memory for them.
+pub fn facts_told<T: Told>(
+    alloc: Global,
+    jobs: &Jobs,
+    told: &T,
+    settings: &Settings,
+    ran: &List<PathText>,
+) -> Result<List<JobFacts>, OutOfMemory>
+    ensures value { IfOk result (λ found. found ≡ map (facts_in (T.known told.now) (T.seen told.now) (among (told_sources jobs.now.makers)) (forced_by settings.now ran.now)) jobs.now.jobs) }
+    ensures texts { IfOk result (λ found. list_all has_path_texts jobs.now.jobs ≡ true) }
+{
+    see_jobs(jobs.jobs.as_slice());
+    told_facts(alloc, jobs, told, settings, ran)
 }
 
 /// The facts of each job, in plan order: its recipe, what the store has of its outputs, the stamps of its inputs now, and whether it is forced, where the jobs
@@ -220,6 +235,5 @@ pub fn facts(
     ensures { IfOk result (λ found. (image : Image) (plan : Plan) → IsStoreOf image store.now → IsSeenOf image jobs.now seen.now → HasOwnRecords image
         → TellSources image jobs.now → found ≡ map (facts_of image settings.now ran.now plan) jobs.now.jobs) }
 {
-    see_jobs(jobs.jobs.as_slice());
-    told_facts(alloc, jobs, store, seen, settings, ran)
+    facts_told(alloc, jobs, &Loaded { store, seen }, settings, ran)
 }

@@ -1,23 +1,23 @@
 //! The stamps of inputs now.
 
-ghost use Rattle.std.specs.Prelude.{◌≡◌, ◌||◌, [], ◌∷◌, IfOk, OnOk, option_map, None};
+ghost use Rattle.std.specs.Prelude.{◌≡◌, ◌||◌, [], ◌∷◌, if◌then◌else◌, IfOk, OnOk, option_map, None};
 ghost use Rattle.std.specs.List.{list_any};
 ghost use Rattle.std.specs.BTreeSet.{contains_text};
 ghost use Rattle.smk_world.specs.World.{folders_above};
 ghost use Rattle.smk_world.specs.Trees.{Path, among};
-ghost use Rattle.smk_store.specs.Images.{readable};
 ghost use Rattle.smk_store.specs.Stores.{entry_of};
 ghost use Rattle.smk_store.specs.Trust.{is_folder_record, made_stamp};
 ghost use Rattle.smk_facts.specs.Facts.{told_sources};
-ghost use Rattle.smk_facts.specs.Telling.{is_directory_at, kept_of, makes_directory_at, mark_of, nearer, nearest, product_in, stamp_by, stamp_in, time_by, time_in, time_seen};
+ghost use Rattle.smk_facts.specs.Telling.{is_directory_at, makes_directory_at, nearer, nearest, product_in, stamp_in, time_by, time_in, time_seen};
 
+use crate::known::{is_marked, record_at};
 use crate::texts::put;
 use smk_base::{List, OutOfMemory, PathText};
 use smk_chain::Maker;
 use smk_choose::folders_above;
-use smk_plan::{Seen, Sight};
+use smk_plan::Sight;
 use smk_record::{Record, Stamp};
-use smk_store::{Entry, Kept, Store};
+use smk_told::Told;
 use smk_world::{Item, Kind, Out, OutItem, Stat};
 use std::alloc::Global;
 use std::collections::BTreeSet;
@@ -32,8 +32,8 @@ fn add_source(alloc: Global, set: &mut BTreeSet<String>, maker: &Maker) -> Resul
     }
 }
 
-/// The paths that no job makes.
-pub(crate) fn sources_in(alloc: Global, makers: &[Maker]) -> Result<BTreeSet<String>, OutOfMemory>
+/// The paths that no job makes, as the makers tell. `OutOfMemory` where there is no memory for them.
+pub fn sources_of(alloc: Global, makers: &[Maker]) -> Result<BTreeSet<String>, OutOfMemory>
     ensures { IfOk result (λ set. (q : Path) → contains_text set q ≡ among (told_sources makers.now) q) }
 {
     let mut set = BTreeSet::new(alloc);
@@ -41,30 +41,6 @@ pub(crate) fn sources_in(alloc: Global, makers: &[Maker]) -> Result<BTreeSet<Str
         add_source(alloc, &mut set, maker)?;
     }
     Ok(set)
-}
-
-// The record, where it reads.
-fn record_of(entry: Option<&Entry>) -> Option<&Record>
-    ensures { option_map (λ r. r.now) result ≡ readable (kept_of (option_map (λ e. e.now) entry.entry)) }
-{
-    match entry {
-        None => None,
-        Some(entry) => match &entry.kept {
-            Kept::Absent => None,
-            Kept::Unreadable => None,
-            Kept::Held(record) => Some(record),
-        },
-    }
-}
-
-/// Whether there is a mark.
-pub(crate) fn has_mark(entry: Option<&Entry>) -> bool
-    ensures { result ≡ mark_of (option_map (λ e. e.now) entry.entry) }
-{
-    match entry {
-        None => false,
-        Some(entry) => entry.marked,
-    }
 }
 
 // The serial of a record, as a stamp.
@@ -78,13 +54,13 @@ fn stamp_of(held: Option<&Record>) -> Option<Stamp>
 }
 
 // The stamp of what the record of a path speaks for: none where the path has a mark.
-fn own_stamp(entry: Option<&Entry>) -> Option<Stamp>
-    ensures { result ≡ stamp_by (option_map (λ e. e.now) entry.entry) }
+fn own_stamp(marked: bool, held: Option<&Record>) -> Option<Stamp>
+    ensures { result ≡ (if marked then None else made_stamp (option_map (λ r. r.now) held.entry)) }
 {
-    if has_mark(entry) {
+    if marked {
         return None;
     }
-    stamp_of(record_of(entry))
+    stamp_of(held)
 }
 
 // Whether the output is a directory at the path.
@@ -132,41 +108,45 @@ fn is_directory(held: Option<&Record>, path: &PathText) -> bool
 }
 
 // The stamp of the folder, where it has the record of a directory, and else the one that was found.
-fn nearer(store: &Store, folder: &PathText, found: Option<Stamp>) -> Option<Stamp>
-    ensures { result ≡ nearer (entry_of store.now folder.now) folder.now found }
+fn nearer<T: Told>(told: &T, folder: &PathText, found: Option<Stamp>) -> Option<Stamp>
+    ensures { result ≡ nearer (entry_of (T.known told.now) folder.now) folder.now found }
 {
-    let entry = store.entry(folder);
-    if is_directory(record_of(entry), folder) {
-        return own_stamp(entry);
+    let held = record_at(told, folder);
+    if is_directory(held, folder) {
+        return own_stamp(is_marked(told, folder), held);
     }
     found
 }
 
 // The stamp of the nearest folder above the path that has the record of a directory.
-fn stamp_above(alloc: Global, store: &Store, path: &PathText) -> Result<Option<Stamp>, OutOfMemory>
-    ensures { IfOk result (λ stamp. stamp ≡ nearest store.now None (folders_above path.now)) }
+fn stamp_above<T: Told>(
+    alloc: Global,
+    told: &T,
+    path: &PathText,
+) -> Result<Option<Stamp>, OutOfMemory>
+    ensures { IfOk result (λ stamp. stamp ≡ nearest (T.known told.now) None (folders_above path.now)) }
 {
     let folders = folders_above(alloc, path)?;
     let mut found = None;
     for folder in &folders {
-        found = nearer(store, folder, found);
+        found = nearer(told, folder, found);
     }
     Ok(found)
 }
 
 // The stamp of a product: that of its own record, or else of the nearest directory above it.
-fn product_stamp(
+fn product_stamp<T: Told>(
     alloc: Global,
-    store: &Store,
+    told: &T,
     path: &PathText,
 ) -> Result<Option<Stamp>, OutOfMemory>
-    ensures { IfOk result (λ stamp. stamp ≡ product_in store.now path.now) }
+    ensures { IfOk result (λ stamp. stamp ≡ product_in (T.known told.now) path.now) }
 {
-    let entry = store.entry(path);
-    if record_of(entry).is_some() {
-        return Ok(own_stamp(entry));
+    let held = record_at(told, path);
+    if held.is_some() {
+        return Ok(own_stamp(is_marked(told, path), held));
     }
-    stamp_above(alloc, store, path)
+    stamp_above(alloc, told, path)
 }
 
 // The time of a file.
@@ -190,28 +170,39 @@ fn time_seen(sight: Option<&Sight>) -> Option<u64>
     }
 }
 
-// The time of the path, where it is told to be a source and is one.
-fn source_time(store: &Store, seen: &Seen, told: bool, path: &PathText) -> Option<u64>
-    ensures { result ≡ time_in store.now seen.now told path.now }
+// The time of the path, where it is listed as a source and is one.
+fn source_time<T: Told>(
+    alloc: Global,
+    told: &T,
+    listed: bool,
+    path: &PathText,
+) -> Result<Option<u64>, OutOfMemory>
+    ensures { IfOk result (λ time. time ≡ time_in (T.known told.now) (T.seen told.now) listed path.now) }
 {
-    if told && !store.covered(path) {
-        return time_seen(seen.sight(path));
+    if !listed {
+        return Ok(None);
     }
-    None
+    let covered = told.covered(alloc, path)?;
+    if covered {
+        return Ok(None);
+    }
+    Ok(time_seen(told.sight(path)))
 }
 
 /// The stamp of the path now, where these are the paths that no job makes: of a source its time, of a product the serial of the record that speaks for it.
-pub(crate) fn stamp_now(
+/// `OutOfMemory` where there is no memory to tell it. The time is that of a few questions to who tells what is known, and one for each folder above a product
+/// that has no record of its own.
+pub fn stamp_now<T: Told>(
     alloc: Global,
-    store: &Store,
-    seen: &Seen,
+    told: &T,
     sources: &BTreeSet<String>,
     path: &PathText,
 ) -> Result<Option<Stamp>, OutOfMemory>
-    ensures { IfOk result (λ stamp. stamp ≡ stamp_in store.now seen.now (contains_text sources.now) path.now) }
+    ensures { IfOk result (λ stamp. stamp ≡ stamp_in (T.known told.now) (T.seen told.now) (contains_text sources.now) path.now) }
 {
-    match source_time(store, seen, sources.contains(path.as_str()), path) {
+    let time = source_time(alloc, told, sources.contains(path.as_str()), path)?;
+    match time {
         Some(time) => Ok(Some(Stamp::Time(time))),
-        None => product_stamp(alloc, store, path),
+        None => product_stamp(alloc, told, path),
     }
 }

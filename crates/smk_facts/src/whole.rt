@@ -18,6 +18,7 @@ use smk_flow::Job;
 use smk_plan::{Seen, Wholes};
 use smk_record::Member;
 use smk_store::Store;
+use smk_told::{Loaded, Told};
 use std::alloc::Global;
 
 // What follows the folder and the slash.
@@ -49,10 +50,10 @@ fn has_file(members: &[Member], name: &[u8]) -> bool
 }
 
 // Whether a file of this name is among the members that were seen at the folder.
-fn has_file_at(seen: &Seen, folder: &PathText, name: &[u8]) -> bool
-    ensures { are_rising (member_names (members_at seen.now folder.now)) ≡ true → result ≡ is_file_member (members_at seen.now folder.now) name.now }
+fn has_file_at<T: Told>(told: &T, folder: &PathText, name: &[u8]) -> bool
+    ensures { are_rising (member_names (members_at (T.seen told.now) folder.now)) ≡ true → result ≡ is_file_member (members_at (T.seen told.now) folder.now) name.now }
 {
-    match seen.sight(folder) {
+    match told.sight(folder) {
         None => false,
         Some(sight) => match &sight.members {
             None => false,
@@ -62,11 +63,11 @@ fn has_file_at(seen: &Seen, folder: &PathText, name: &[u8]) -> bool
 }
 
 // Whether the directory is whole and has the path as a file.
-fn is_member(seen: &Seen, path: &PathText, directory: &Directory) -> bool
+fn is_member<T: Told>(told: &T, path: &PathText, directory: &Directory) -> bool
     requires { is_under path.now directory.now.path ≡ true }
-    ensures { IsSorted seen.now directory.now → result ≡ is_member_in seen.now path.now directory.now }
+    ensures { IsSorted (T.seen told.now) directory.now → result ≡ is_member_in (T.seen told.now) path.now directory.now }
 {
-    directory.whole && has_file_at(seen, &directory.path, name_in(path, &directory.path))
+    directory.whole && has_file_at(told, &directory.path, name_in(path, &directory.path))
 }
 
 // The directory over the path.
@@ -94,108 +95,105 @@ fn directory_at<'d>(directories: &'d [Directory], path: &PathText) -> Option<&'d
 }
 
 // Whether a file was seen at the path.
-fn is_plain(seen: &Seen, path: &PathText) -> bool
-    ensures { result ≡ is_plain_in seen.now path.now }
+fn is_plain<T: Told>(told: &T, path: &PathText) -> bool
+    ensures { result ≡ is_plain_in (T.seen told.now) path.now }
 {
-    match seen.sight(path) {
+    match told.sight(path) {
         None => false,
         Some(sight) => is_file(sight.stat),
     }
 }
 
 // Whether the output at the path is whole, where it is this directory or else a file.
-fn is_output(seen: &Seen, path: &PathText, directory: Option<&Directory>) -> bool
-    ensures { result ≡ is_output_in seen.now path.now (option_map (λ d. d.now) directory.entry) }
+fn is_output<T: Told>(told: &T, path: &PathText, directory: Option<&Directory>) -> bool
+    ensures { result ≡ is_output_in (T.seen told.now) path.now (option_map (λ d. d.now) directory.entry) }
 {
     match directory {
-        None => is_plain(seen, path),
+        None => is_plain(told, path),
         Some(directory) => directory.whole,
     }
 }
 
 // Whether the path is whole, as what a job with these directories makes there.
-fn is_made(seen: &Seen, directories: &[Directory], path: &PathText) -> bool
-    ensures { Each (IsSorted seen.now) directories.now → result ≡ is_made_in seen.now path.now directories.now }
+fn is_made<T: Told>(told: &T, directories: &[Directory], path: &PathText) -> bool
+    ensures { Each (IsSorted (T.seen told.now)) directories.now → result ≡ is_made_in (T.seen told.now) path.now directories.now }
 {
     match directory_over(directories, path) {
-        None => is_output(seen, path, directory_at(directories, path)),
-        Some(directory) => is_member(seen, path, directory),
+        None => is_output(told, path, directory_at(directories, path)),
+        Some(directory) => is_member(told, path, directory),
     }
 }
 
 // Whether what the maker tells of is whole, where these are the directories of the jobs.
-fn is_told_whole(seen: &Seen, directories: &[List<Directory>], maker: &Maker) -> bool
-    ensures { Each (Each (IsSorted seen.now)) directories.now → result ≡ is_told_whole seen.now directories.now maker.now }
+fn is_told_whole<T: Told>(told: &T, directories: &[List<Directory>], maker: &Maker) -> bool
+    ensures { Each (Each (IsSorted (T.seen told.now))) directories.now → result ≡ is_told_whole (T.seen told.now) directories.now maker.now }
 {
     match maker.job {
         None => false,
         Some(number) => match directories.get(number as usize) {
             None => false,
-            Some(own) => is_made(seen, own.as_slice(), &maker.path),
+            Some(own) => is_made(told, own.as_slice(), &maker.path),
         },
     }
 }
 
 // Which of the paths that are told of are whole.
-fn makers_whole(
+fn makers_whole<T: Told>(
     alloc: Global,
-    seen: &Seen,
+    told: &T,
     directories: &[List<Directory>],
     makers: &[Maker],
 ) -> Result<List<bool>, OutOfMemory>
-    ensures { IfOk result (λ flags. Each (Each (IsSorted seen.now)) directories.now → flags ≡ map (is_told_whole seen.now directories.now) makers.now) }
+    ensures { IfOk result (λ flags. Each (Each (IsSorted (T.seen told.now))) directories.now → flags ≡ map (is_told_whole (T.seen told.now) directories.now) makers.now) }
 {
     let mut flags = List::new(alloc);
     for maker in makers {
-        flags.push(is_told_whole(seen, directories, maker))?;
+        flags.push(is_told_whole(told, directories, maker))?;
     }
     Ok(flags)
 }
 
 // Which outputs of each job are whole.
-fn outputs_whole(
+fn outputs_whole<T: Told>(
     alloc: Global,
-    store: &Store,
-    seen: &Seen,
+    told: &T,
     jobs: &[Job],
 ) -> Result<List<List<bool>>, OutOfMemory>
-    ensures { IfOk result (λ flags. flags ≡ map (outputs_in store.now seen.now) jobs.now) }
+    ensures { IfOk result (λ flags. flags ≡ map (outputs_in (T.known told.now) (T.seen told.now)) jobs.now) }
 {
     let mut flags = List::new(alloc);
     for job in jobs {
-        flags.push(whole_in(alloc, store, seen, job.recipe.outputs.as_slice())?)?;
+        flags.push(whole_in(alloc, told, job.recipe.outputs.as_slice())?)?;
     }
     Ok(flags)
 }
 
 // The directories of each job.
-fn all_directories(
+fn all_directories<T: Told>(
     alloc: Global,
-    store: &Store,
-    seen: &Seen,
+    told: &T,
     jobs: &[Job],
 ) -> Result<List<List<Directory>>, OutOfMemory>
-    ensures { IfOk result (λ found. found ≡ map (directories_of store.now seen.now) jobs.now) }
+    ensures { IfOk result (λ found. found ≡ map (directories_of (T.known told.now) (T.seen told.now)) jobs.now) }
 {
     let mut found = List::new(alloc);
     for job in jobs {
-        found.push(directories_in(alloc, store, seen, job.recipe.outputs.as_slice())?)?;
+        found.push(directories_in(alloc, told, job.recipe.outputs.as_slice())?)?;
     }
     Ok(found)
 }
 
-// What is whole, by the store and what was seen.
-fn told_wholes(
-    alloc: Global,
-    jobs: &Jobs,
-    store: &Store,
-    seen: &Seen,
-) -> Result<Wholes, OutOfMemory>
-    ensures { IfOk result (λ found. Each (Each (IsSorted seen.now)) (map (directories_of store.now seen.now) jobs.now.jobs) → found ≡ wholes_in store.now seen.now jobs.now) }
+/// Which outputs of the jobs are whole, and which of the paths that their makers tell of, by what is known and was seen. `OutOfMemory` where there is no memory
+/// for the answer.
+///
+/// The members that were seen of each directory that is whole rise by name. The time is as that of `wholes`.
+pub fn wholes_told<T: Told>(alloc: Global, jobs: &Jobs, told: &T) -> Result<Wholes, OutOfMemory>
+    ensures { IfOk result (λ found. Each (Each (IsSorted (T.seen told.now))) (map (directories_of (T.known told.now) (T.seen told.now)) jobs.now.jobs)
+        → found ≡ wholes_in (T.known told.now) (T.seen told.now) jobs.now) }
 {
-    let directories = all_directories(alloc, store, seen, jobs.jobs.as_slice())?;
-    let outputs = outputs_whole(alloc, store, seen, jobs.jobs.as_slice())?;
-    let makers = makers_whole(alloc, seen, directories.as_slice(), jobs.makers.as_slice())?;
+    let directories = all_directories(alloc, told, jobs.jobs.as_slice())?;
+    let outputs = outputs_whole(alloc, told, jobs.jobs.as_slice())?;
+    let makers = makers_whole(alloc, told, directories.as_slice(), jobs.makers.as_slice())?;
     Ok(Wholes { outputs, makers })
 }
 
@@ -208,5 +206,5 @@ pub fn wholes(alloc: Global, jobs: &Jobs, store: &Store, seen: &Seen) -> Result<
     ensures { IfOk result (λ found. (image : Image) → IsStoreOf image store.now → IsSeenOf image jobs.now seen.now → NamesAll image → HasOwnRecords image → AreMade jobs.now
         → found ≡ wholes_of image jobs.now) }
 {
-    told_wholes(alloc, jobs, store, seen)
+    wholes_told(alloc, jobs, &Loaded { store, seen })
 }

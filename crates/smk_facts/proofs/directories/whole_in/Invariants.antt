@@ -5,4 +5,4 @@ use Rattle.smk_facts.specs.Telling.{whole_at}
 use Rattle.smk_facts.proofs.directories.whole_in.Given as goal
 
 abbrev pub invariant-loop-item : goal.invariant-loop-item
-invariant-loop-item l = l.flags ≡ flat_map (λ (item : OutItem). map (whole_at l.store l.seen) item.outs) (take l.item-index l.outputs)
+invariant-loop-item g l = l.flags ≡ flat_map (λ (item : OutItem). map (whole_at (g.T.Told.known l.told) (g.T.Told.seen l.told)) item.outs) (take l.item-index l.outputs)

@@ -6,4 +6,4 @@ use Rattle.smk_facts.specs.Telling.{stamp_in}
 use Rattle.smk_facts.proofs.judged.stamps_in.Given as goal
 
 abbrev pub invariant-loop-item : goal.invariant-loop-item
-invariant-loop-item l = l.stamps ≡ flat_map (λ (item : Item). map (stamp_in l.store l.seen (contains_text l.sources)) item.paths) (take l.item-index l.inputs)
+invariant-loop-item g l = l.stamps ≡ flat_map (λ (item : Item). map (stamp_in (g.T.Told.known l.told) (g.T.Told.seen l.told) (contains_text l.sources)) item.paths) (take l.item-index l.inputs)

@@ -8,9 +8,9 @@ use Rattle.smk_facts.proofs.FactsTold.{forced_is, same_facts}
 use Rattle.smk_facts.proofs.judged.told_facts.Goals as goal
 
 pub returns : goal.returns
-returns c =
-    let store = c.args.store.now in
-    let sights = c.args.seen.now in
+returns g c =
+    let store = g.T.Told.known c.args.told.now in
+    let sights = g.T.Told.seen c.args.told.now in
     if_ok c.all_facts.result _ _ (
     λ found e. e
     ∙ ap (map (facts_in store sights (contains_text c.in_ok-sources.sources) (forced_in c.in_ok-forcing.forcing))) c.as_slice-2.ensures

@@ -7,12 +7,12 @@ use Rattle.smk_facts.proofs.Tests.{each_found, find_passes}
 use Rattle.smk_facts.proofs.whole.is_made.Goals as goal
 
 pub is_member-requires : goal.is_member-requires
-is_member-requires c =
+is_member-requires g c =
     find_passes (λ (d : Directory). is_under c.args.path.now d.path) c.args.directories.now c.in-Some.directory.now (sym c.in-Some.ensures)
 
 pub returns-in-Some : goal.returns-in-Some
-returns-in-Some c = λ sorted.
+returns-in-Some g c = λ sorted.
     let q = c.args.path.now in
     let ds = c.args.directories.now in
-    c.is_member.ensures (each_found (IsSorted c.args.seen.now) (λ (d : Directory). is_under q d.path) ds c.in-Some.directory.now sorted (sym c.in-Some.ensures))
-    ∙ ap (is_made_by c.args.seen.now q (find (λ (d : Directory). bytes_eq d.path q) ds)) c.in-Some.ensures
+    c.is_member.ensures (each_found (IsSorted (g.T.Told.seen c.args.told.now)) (λ (d : Directory). is_under q d.path) ds c.in-Some.directory.now sorted (sym c.in-Some.ensures))
+    ∙ ap (is_made_by (g.T.Told.seen c.args.told.now) q (find (λ (d : Directory). bytes_eq d.path q) ds)) c.in-Some.ensures

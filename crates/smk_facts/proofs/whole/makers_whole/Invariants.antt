@@ -4,4 +4,4 @@ use Rattle.smk_facts.specs.Telling.{is_told_whole, IsSorted}
 use Rattle.smk_facts.proofs.whole.makers_whole.Given as goal
 
 abbrev pub invariant-loop-maker : goal.invariant-loop-maker
-invariant-loop-maker l = Each (Each (IsSorted l.seen)) l.directories → l.flags ≡ map (is_told_whole l.seen l.directories) (take l.maker-index l.makers)
+invariant-loop-maker g l = Each (Each (IsSorted (g.T.Told.seen l.told))) l.directories → l.flags ≡ map (is_told_whole (g.T.Told.seen l.told) l.directories) (take l.maker-index l.makers)

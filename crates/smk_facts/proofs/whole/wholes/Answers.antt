@@ -5,6 +5,6 @@ use Rattle.smk_facts.proofs.whole.wholes.Goals as goal
 
 pub returns : goal.returns
 returns c =
-    if_ok c.told_wholes.result _ _ (λ found told. λ image is seen all own makes.
+    if_ok c.wholes_told.result _ _ (λ found told. λ image is seen all own makes.
     told (sorted_all image c.args.store.now c.args.seen.now c.args.jobs.now is seen own)
-    ∙ wholes_are image c.args.store.now c.args.seen.now c.args.jobs.now is seen all own makes) c.told_wholes.ensures
+    ∙ wholes_are image c.args.store.now c.args.seen.now c.args.jobs.now is seen all own makes) c.wholes_told.ensures
