@@ -1,7 +1,7 @@
 -- The first pass, job by job.
 use Rattle.std.proofs.Common.{◌≡◌, ℕ, zero, suc, ◌+◌, ◌<◌, ◌≤◌, length, get_or, arith, Bool, false, not, cond, ◌&&◌, List, [], ◌∷◌, ◌++◌, map, filter, reverse, refl, sym, ap, subst, inl, ◌∙◌, append_assoc, length-append, Option}
 use Rattle.std.specs.Prelude.{bytes_eq, slice_index_or}
-use Rattle.std.specs.BTreeMap.{get_by_text}
+use Rattle.smk_states.specs.Keys.{at_key, has_key}
 use Rattle.std.specs.BTreeSet.{contains_text}
 use Rattle.smk_world.specs.World.{in_paths, out_paths}
 use Rattle.smk_world.specs.Trees.{Path}
@@ -72,8 +72,8 @@ module _
   first_here :
       (before : List Job) (k : Job) (after : List Job) (states : List State) (part : Parts) (told : Bool) →
       jobs.jobs ≡ before ++ k ∷ after → states ≡ map early before → part ≡ parts_of image k → told ≡ is_forced image settings progress (with_states jobs []) k →
-      first_told states (λ q. get_by_text paths.sites q) (λ q. contains_text paths.listed q)
-      (is_kept_told (λ q. contains_text paths.targets q) (λ q. contains_text paths.awaited q) (λ q. contains_text paths.read q) part && not (is_in_use_told used part)) part (own_of image settings progress jobs k) told
+      first_told states (λ q. at_key paths.sites q) (λ q. contains_text paths.listed q)
+      (is_kept_told (λ q. contains_text paths.targets q) (λ q. contains_text paths.awaited q) (λ q. has_key paths.read q) part && not (is_in_use_told used part)) part (own_of image settings progress jobs k) told
       ≡ first_by_table image settings progress (with_states jobs ss) k
   first_here before k after states part told is made split forced =
       let here : In k jobs.jobs = subst (In k) (sym is) (in_right k before (k ∷ after) (inl refl)) in
@@ -86,9 +86,9 @@ module _
       ∙ filter_same (is_dirty_told (map early before) (site_at image jobs)) (made_by (with_states jobs ss) is_dirty) (distinct bytes_eq (in_paths k.recipe))
       (λ q i. dirty_same image settings progress jobs ss h.solved apart targets h.targets h.served.targets h.served.reads before after k is q (distinct_in bytes_eq (in_paths k.recipe) q i)) in
       let kept =
-      ap (is_kept_told (λ q. contains_text paths.targets q) (λ q. contains_text paths.awaited q) (λ q. contains_text paths.read q)) split
+      ap (is_kept_told (λ q. contains_text paths.targets q) (λ q. contains_text paths.awaited q) (λ q. has_key paths.read q)) split
       ∙ kept_is image settings progress jobs ss h.solved apart targets h.targets h.served.targets h.served.reads
-      (λ q. contains_text paths.targets q) (λ q. contains_text paths.awaited q) (λ q. contains_text paths.read q) h.paths.targets h.paths.awaited h.paths.read k (own_apart jobs.jobs k apart here) in
+      (λ q. contains_text paths.targets q) (λ q. contains_text paths.awaited q) (λ q. has_key paths.read q) h.paths.targets h.paths.awaited h.paths.read k (own_apart jobs.jobs k apart here) in
       let used_is = ap (is_in_use_told used) split ∙ read_is image settings progress jobs ss targets h.served.apart h.served.reads used h.in_use k here in
       λ i. cond (opened i) Open (by_reasons (own_of image settings progress jobs k ++ (map Upstream (dirty i) ++ when (forced i) Forced)) (kept i && not (used_is i)))
 
@@ -111,8 +111,8 @@ module _
   abbrev Stepped : Bool → Parts → List State → List Reason → State → Type 0
   Stepped told part states own state =
       (alone : List Reason) → own ≡ alone ++ when told Forced →
-      state ≡ first_told states (λ q. get_by_text paths.sites q) (λ q. contains_text paths.listed q)
-      (is_kept_told (λ q. contains_text paths.targets q) (λ q. contains_text paths.awaited q) (λ q. contains_text paths.read q) part && not (is_in_use_told used part)) part alone told
+      state ≡ first_told states (λ q. at_key paths.sites q) (λ q. contains_text paths.listed q)
+      (is_kept_told (λ q. contains_text paths.targets q) (λ q. contains_text paths.awaited q) (λ q. has_key paths.read q) part && not (is_in_use_told used part)) part alone told
 
   pub more_up :
       (number : ℕ) (states seen new : List State) (left rest : List (List Reason)) (flags : List Bool) (told : Bool) (own : List Reason)

@@ -10,4 +10,5 @@ mod FirstPass
 mod LastPass
 mod Solved
 mod ReadyNow
+mod HeldBack
 pub mod Linked

@@ -253,6 +253,16 @@ module _ (image : Image) (settings : Settings) (progress : Progress) (J : Jobs) 
           any_same _ _ (out_paths j.recipe) (λ p i. ap (λ b. not (is_whole image p (kind_in j.recipe p)) && b)
           (wanted_is j p ∙ wanted_fed (among settings.targets p) (among (awaited image settings progress plan) p) (among j.temps p) (feeds j) (is_input plan (λ e. true) p) (needs p) h (reads p)))
 
+  -- what is to be restored: where something is wanted back whatever jobs run, or where jobs that are to run need it
+  pub restores_from :
+      (j : Job) → Apart (out_paths j.recipe) →
+      is_to_restore image settings progress plan j ≡ (is_kept image settings progress plan j || list_any needs (gone_outputs image j))
+  restores_from j apart =
+      any_same _ (λ p. (not (is_whole image p (kind_in j.recipe p)) && is_always_wanted image settings progress plan j p) || (not (is_whole image p (kind_in j.recipe p)) && needs p)) (out_paths j.recipe)
+      (λ p i. ap (λ b. not (is_whole image p (kind_in j.recipe p)) && b) (wanted_is j p) ∙ and_or (not (is_whole image p (kind_in j.recipe p))) (is_always_wanted image settings progress plan j p) (needs p))
+      ∙ any_or (λ p. not (is_whole image p (kind_in j.recipe p)) && is_always_wanted image settings progress plan j p) (λ p. not (is_whole image p (kind_in j.recipe p)) && needs p) (out_paths j.recipe)
+      ∙ ap (λ b. is_kept image settings progress plan j || b) (gone_tests j apart image needs)
+
   -- the last state from the first
   pub final_from :
       (j : Job) (needed read : Bool) → Apart (out_paths j.recipe) → needed ≡ list_any needs (gone_outputs image j) → read ≡ is_read_now image settings progress plan j →
@@ -261,14 +271,7 @@ module _ (image : Image) (settings : Settings) (progress : Progress) (J : Jobs) 
       ap (λ b. unless_needed (needed && not b) (first j)) now
       ∙ needed_state (kept_state image settings progress plan j) (is_open_now image settings progress plan j) (reasons image settings progress plan j)
       (is_kept image settings progress plan j) needed (is_read_now image settings progress plan j)
-      ∙ ap (state_with j) (sym restores)
-    where
-      restores : is_to_restore image settings progress plan j ≡ (is_kept image settings progress plan j || needed)
-      restores =
-          any_same _ (λ p. (not (is_whole image p (kind_in j.recipe p)) && is_always_wanted image settings progress plan j p) || (not (is_whole image p (kind_in j.recipe p)) && needs p)) (out_paths j.recipe)
-          (λ p i. ap (λ b. not (is_whole image p (kind_in j.recipe p)) && b) (wanted_is j p) ∙ and_or (not (is_whole image p (kind_in j.recipe p))) (is_always_wanted image settings progress plan j p) (needs p))
-          ∙ any_or (λ p. not (is_whole image p (kind_in j.recipe p)) && is_always_wanted image settings progress plan j p) (λ p. not (is_whole image p (kind_in j.recipe p)) && needs p) (out_paths j.recipe)
-          ∙ ap (λ b. is_kept image settings progress plan j || b) (gone_tests j apart image needs ∙ sym is)
+      ∙ ap (state_with j) (ap (λ b. is_kept image settings progress plan j || b) is ∙ sym (restores_from j apart))
 
   -- ## Directories over paths
 

@@ -1,5 +1,5 @@
 -- Tests of lists: sums of tests, tests of parts, and tests that agree on the members.
-use Rattle.std.proofs.Common.{◌≡◌, ◌∙◌, Bool, true, false, not, cond, ◌&&◌, ◌||◌, List, [], ◌∷◌, ◌++◌, map, filter, flat_map, inl, inr, refl, sym, ap}
+use Rattle.std.proofs.Common.{◌≡◌, ◌∙◌, Bool, true, false, not, cond, ◌&&◌, ◌||◌, List, [], ◌∷◌, ◌++◌, map, filter, flat_map, inl, inr, refl, sym, ap, Option, Some, is_some}
 use Rattle.std.specs.Prelude.{bytes_eq}
 use Rattle.std.specs.List.{list_any}
 use Rattle.std.proofs.lemmas.List.Folds.{list_any-append}
@@ -32,6 +32,10 @@ pub same_test : (a b : Bool) → (a ≡ true → b ≡ true) → (b ≡ true →
 same_test true b h k = sym (h refl)
 same_test false true h k = k refl
 same_test false false h k = refl
+
+pub some_by : {X : Type 0} (b : Bool) (x : X) (o : Option X) → is_some (cond b (Some x) o) ≡ (b || is_some o)
+some_by true x o = refl
+some_by false x o = refl
 
 -- ## Lists
 
@@ -73,6 +77,10 @@ among_append (x ∷ xs) ys p = go (bytes_eq p x) (among_append xs ys p)
     go : (b : Bool) → among (xs ++ ys) p ≡ (among xs p || among ys p) → (b || among (xs ++ ys) p) ≡ ((b || among xs p) || among ys p)
     go true e = refl
     go false e = e
+
+pub among_flat : {A : Type 0} (f : A → List Path) (xs : List A) (p : Path) → among (flat_map f xs) p ≡ list_any (λ x. among (f x) p) xs
+among_flat f [] p = refl
+among_flat f (x ∷ xs) p = among_append (f x) (flat_map f xs) p ∙ ap (λ b. among (f x) p || b) (among_flat f xs p)
 
 among_filter : (x p : Path) (xs : List Path) → bytes_eq p x ≡ false → among (filter (λ y. not (bytes_eq x y)) xs) p ≡ among xs p
 among_filter x p [] h = refl

@@ -1,10 +1,13 @@
 pub mod Served
 pub mod Judged
+pub mod Keys
 pub mod Parts
 pub mod Sites
 pub mod Paths
 pub mod Passes
 pub mod InUse
 pub mod First
+pub mod Held
+pub mod Tables
 pub mod Waits
 pub mod Laws

@@ -1,6 +1,6 @@
 -- What is kept of paths.
 use Rattle.std.specs.Prelude.{◌≡◌, List, ◌++◌, map, bytes_eq, Option, option_map}
-use Rattle.std.specs.BTreeMap.{get_by_text}
+use Rattle.smk_states.specs.Keys.{at_key, has_key}
 use Rattle.std.specs.BTreeSet.{contains_text}
 use Rattle.std.specs.List.{find, flat_map, list_any}
 use Rattle.std.specs.Option.{option_and_then}
@@ -40,8 +40,8 @@ site_at image jobs q = option_map (site_of image jobs.jobs) (find (λ (m : Maker
 
 -- What is kept of the paths of these jobs and targets is so.
 pub record ArePaths (image : Image) (jobs : Jobs) (asked : List Path) (paths : Paths) : Type 0 where
-  pub sites : (q : Path) → get_by_text paths.sites q ≡ site_at image jobs q
+  pub sites : (q : Path) → at_key paths.sites q ≡ site_at image jobs q
   pub awaited : (q : Path) → contains_text paths.awaited q ≡ among (awaited_told (site_at image jobs) (map (parts_of image) jobs.jobs) asked) q
   pub targets : (q : Path) → contains_text paths.targets q ≡ among asked q
-  pub read : (q : Path) → contains_text paths.read q ≡ list_any (λ (j : Job). among (in_paths j.recipe) q) jobs.jobs
+  pub read : (q : Path) → has_key paths.read q ≡ list_any (λ (j : Job). among (in_paths j.recipe) q) jobs.jobs
   pub listed : (q : Path) → contains_text paths.listed q ≡ among (map (λ (k : Known). k.folder) jobs.lists) q

@@ -25,8 +25,8 @@ use smk_trigger::State;
 use std::alloc::Global;
 use std::collections::BTreeSet;
 
-// Whether one of the outputs is needed.
-fn any_needed(needed: &BTreeSet<String>, gone: &[PathText]) -> bool
+/// Whether one of the outputs is needed.
+pub(crate) fn any_needed(needed: &BTreeSet<String>, gone: &[PathText]) -> bool
     ensures { result ≡ list_any (λ p. contains_text needed.now p) gone.now }
 {
     for path in gone {
@@ -53,8 +53,8 @@ fn is_to_run(state: &State) -> bool
     matches!(state, State::Dirty(_) | State::Restore)
 }
 
-// Adds what the job reads, where it is to run.
-fn need(
+/// Adds what the job reads, where it is to run.
+pub(crate) fn need(
     alloc: Global,
     needed: &mut BTreeSet<String>,
     state: &State,

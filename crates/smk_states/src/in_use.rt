@@ -1,7 +1,7 @@
 //! From which jobs the children of others read.
 
 ghost use Rattle.std.specs.Prelude.{◌≡◌, ◌||◌, bytes_eq, option_map, IfOk, OnOk};
-ghost use Rattle.std.specs.BTreeMap.{get_by_text};
+ghost use Rattle.smk_states.specs.Keys.{at_key};
 ghost use Rattle.std.specs.BTreeSet.{contains_text};
 ghost use Rattle.std.specs.List.{list_any};
 ghost use Rattle.smk_world.specs.Trees.{Path, first};
@@ -16,16 +16,16 @@ use std::alloc::Global;
 use std::collections::BTreeSet;
 
 // The parts of the job that makes the path; none for a source.
-fn maker_of<'p>(paths: &Paths, parts: &'p [Parts], path: &PathText) -> Option<&'p Parts>
-    ensures { option_map (λ m. m.now) result ≡ maker_parts parts.now (get_by_text paths.now.sites path.now) }
+fn maker_of<'p>(paths: &Paths<'_>, parts: &'p [Parts], path: &PathText) -> Option<&'p Parts>
+    ensures { option_map (λ m. m.now) result ≡ maker_parts parts.now (at_key paths.now.sites path.now) }
 {
     let site = paths.sites.get(path.as_str())?;
     parts.get(site.job? as usize)
 }
 
 // The first output of the job that makes the path; none for a source.
-fn maker_name<'p>(paths: &Paths, parts: &'p [Parts], path: &PathText) -> Option<&'p PathText>
-    ensures { option_map (λ p. p.now) result ≡ maker_name parts.now (get_by_text paths.now.sites path.now) }
+fn maker_name<'p>(paths: &Paths<'_>, parts: &'p [Parts], path: &PathText) -> Option<&'p PathText>
+    ensures { option_map (λ p. p.now) result ≡ maker_name parts.now (at_key paths.now.sites path.now) }
 {
     match maker_of(paths, parts, path) {
         Some(maker) => maker.outputs.as_slice().first(),
@@ -47,13 +47,13 @@ fn is_named(reader: &Parts, name: &PathText) -> bool
 fn hold(
     alloc: Global,
     in_use: &mut BTreeSet<String>,
-    paths: &Paths,
+    paths: &Paths<'_>,
     parts: &[Parts],
     reader: &Parts,
     path: &PathText,
 ) -> Result<(), OutOfMemory>
     ensures { OnOk result ((name : Path) → contains_text in_use.new name ≡ (contains_text in_use.old name
-        || is_made_for (λ q. get_by_text paths.now.sites q) parts.now reader.now name path.now)) }
+        || is_made_for (λ q. at_key paths.now.sites q) parts.now reader.now name path.now)) }
 {
     let Some(name) = maker_name(paths, parts, path) else {
         return Ok(());
@@ -68,12 +68,12 @@ fn hold(
 fn hold_inputs(
     alloc: Global,
     in_use: &mut BTreeSet<String>,
-    paths: &Paths,
+    paths: &Paths<'_>,
     parts: &[Parts],
     reader: &Parts,
 ) -> Result<(), OutOfMemory>
     ensures { OnOk result ((name : Path) → contains_text in_use.new name ≡ (contains_text in_use.old name
-        || list_any (is_made_for (λ q. get_by_text paths.now.sites q) parts.now reader.now name) reader.now.inputs)) }
+        || list_any (is_made_for (λ q. at_key paths.now.sites q) parts.now reader.now name) reader.now.inputs)) }
 {
     for path in reader.inputs.as_slice() {
         hold(alloc, in_use, paths, parts, reader, path)?;
@@ -84,11 +84,11 @@ fn hold_inputs(
 /// The jobs that made what the children of other jobs read, by their first outputs. `running` has for each job whose child runs a state.
 pub(crate) fn in_use_of(
     alloc: Global,
-    paths: &Paths,
+    paths: &Paths<'_>,
     parts: &[Parts],
     running: &[Option<State>],
 ) -> Result<BTreeSet<String>, OutOfMemory>
-    ensures { IfOk result (λ in_use. (name : Path) → contains_text in_use name ≡ in_use_told (λ q. get_by_text paths.now.sites q) parts.now running.now name) }
+    ensures { IfOk result (λ in_use. (name : Path) → contains_text in_use name ≡ in_use_told (λ q. at_key paths.now.sites q) parts.now running.now name) }
 {
     let mut in_use = BTreeSet::new(alloc);
     for (i, reader) in parts.iter().enumerate() {

@@ -2,6 +2,7 @@
 #![tactic(auto)]
 
 mod downward;
+mod holding;
 mod in_use;
 mod laws;
 mod opening;
@@ -13,6 +14,7 @@ mod sites;
 mod table;
 mod upward;
 
+pub use holding::holds_back;
 pub use laws::linked_jobs_serve;
 pub use ready::{newly_ready, ready_targets};
-pub use table::{states, states_now};
+pub use table::{Table, states, states_now};

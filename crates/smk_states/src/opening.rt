@@ -1,7 +1,7 @@
 //! Which jobs are Open, by the states of the jobs before them.
 
 ghost use Rattle.std.specs.Prelude.{◌≡◌, ◌||◌, is_some, option_map};
-ghost use Rattle.std.specs.BTreeMap.{get_by_text};
+ghost use Rattle.smk_states.specs.Keys.{at_key};
 ghost use Rattle.std.specs.BTreeSet.{contains_text};
 ghost use Rattle.std.specs.List.{list_any};
 ghost use Rattle.smk_trigger.specs.JobStates.{is_open, is_dirty, is_clean};
@@ -62,8 +62,8 @@ fn over_opens(states: &[State], site: &Site) -> bool
 }
 
 // Whether a job is Open that reads the path.
-fn reading_opens(states: &[State], paths: &Paths, path: &PathText) -> bool
-    ensures { result ≡ test_some (reading_opens states.now) (get_by_text paths.now.sites path.now) }
+fn reading_opens(states: &[State], paths: &Paths<'_>, path: &PathText) -> bool
+    ensures { result ≡ test_some (reading_opens states.now) (at_key paths.now.sites path.now) }
 {
     match paths.sites.get(path.as_str()) {
         Some(site) => is_made_open(states, site) || over_opens(states, site),
@@ -72,8 +72,8 @@ fn reading_opens(states: &[State], paths: &Paths, path: &PathText) -> bool
 }
 
 // Whether a job is Open that gathers from the directory.
-fn gathering_opens(states: &[State], paths: &Paths, folder: &PathText) -> bool
-    ensures { result ≡ test_some (gathering_opens states.now (contains_text paths.now.listed folder.now)) (get_by_text paths.now.sites folder.now) }
+fn gathering_opens(states: &[State], paths: &Paths<'_>, folder: &PathText) -> bool
+    ensures { result ≡ test_some (gathering_opens states.now (contains_text paths.now.listed folder.now)) (at_key paths.now.sites folder.now) }
 {
     match paths.sites.get(folder.as_str()) {
         Some(site) => {
@@ -86,8 +86,8 @@ fn gathering_opens(states: &[State], paths: &Paths, folder: &PathText) -> bool
     }
 }
 
-fn any_reading_opens(states: &[State], paths: &Paths, inputs: &[PathText]) -> bool
-    ensures { result ≡ list_any (λ q. test_some (reading_opens states.now) (get_by_text paths.now.sites q)) inputs.now }
+fn any_reading_opens(states: &[State], paths: &Paths<'_>, inputs: &[PathText]) -> bool
+    ensures { result ≡ list_any (λ q. test_some (reading_opens states.now) (at_key paths.now.sites q)) inputs.now }
 {
     for path in inputs {
         if reading_opens(states, paths, path) {
@@ -97,8 +97,8 @@ fn any_reading_opens(states: &[State], paths: &Paths, inputs: &[PathText]) -> bo
     false
 }
 
-fn any_gathering_opens(states: &[State], paths: &Paths, folders: &[PathText]) -> bool
-    ensures { result ≡ list_any (λ q. test_some (gathering_opens states.now (contains_text paths.now.listed q)) (get_by_text paths.now.sites q)) folders.now }
+fn any_gathering_opens(states: &[State], paths: &Paths<'_>, folders: &[PathText]) -> bool
+    ensures { result ≡ list_any (λ q. test_some (gathering_opens states.now (contains_text paths.now.listed q)) (at_key paths.now.sites q)) folders.now }
 {
     for folder in folders {
         if gathering_opens(states, paths, folder) {
@@ -109,8 +109,8 @@ fn any_gathering_opens(states: &[State], paths: &Paths, folders: &[PathText]) ->
 }
 
 /// Whether the job is Open, by the states of the jobs before it.
-pub(crate) fn is_open(states: &[State], paths: &Paths, part: &Parts) -> bool
-    ensures { result ≡ opens states.now (λ q. get_by_text paths.now.sites q) (λ q. contains_text paths.now.listed q) part.now }
+pub(crate) fn is_open(states: &[State], paths: &Paths<'_>, part: &Parts) -> bool
+    ensures { result ≡ opens states.now (λ q. at_key paths.now.sites q) (λ q. contains_text paths.now.listed q) part.now }
 {
     any_reading_opens(states, paths, part.inputs.as_slice())
         || any_gathering_opens(states, paths, part.gathers.as_slice())

@@ -80,28 +80,28 @@ fn folders_in(alloc: Global, gathers: &[Gather]) -> Result<List<PathText>, OutOf
     Ok(folders)
 }
 
-fn push_outs(alloc: Global, found: &mut List<Out>, outs: &[Out]) -> Result<(), OutOfMemory>
-    ensures { OnOk result (found.new ≡ found.old ++ outs.now) }
+fn push_outs<'j>(found: &mut List<&'j Out>, outs: &'j [Out]) -> Result<(), OutOfMemory>
+    ensures { OnOk result (map (λ out. out.now) found.new ≡ map (λ out. out.now) found.old ++ outs.now) }
 {
     for out in outs {
-        found.push(out.copied(alloc)?)?;
+        found.push(out)?;
     }
     Ok(())
 }
 
 // The outputs of the items, in order.
-fn outs_in(alloc: Global, items: &[OutItem]) -> Result<List<Out>, OutOfMemory>
-    ensures { IfOk result (λ outs. outs ≡ flat_map (λ item. item.outs) items.now) }
+fn outs_in<'j>(alloc: Global, items: &'j [OutItem]) -> Result<List<&'j Out>, OutOfMemory>
+    ensures { IfOk result (λ outs. map (λ out. out.now) outs ≡ flat_map (λ item. item.outs) items.now) }
 {
     let mut outs = List::new(alloc);
     for item in items {
-        push_outs(alloc, &mut outs, item.outs.as_slice())?;
+        push_outs(&mut outs, item.outs.as_slice())?;
     }
     Ok(outs)
 }
 
-fn out_paths_in(alloc: Global, outs: &[Out]) -> Result<List<PathText>, OutOfMemory>
-    ensures { IfOk result (λ paths. paths ≡ map (λ out. out.path) outs.now) }
+fn out_paths_in(alloc: Global, outs: &[&Out]) -> Result<List<PathText>, OutOfMemory>
+    ensures { IfOk result (λ paths. paths ≡ map (λ out. out.path) (map (λ out. out.now) outs.now)) }
 {
     let mut paths = List::new(alloc);
     for out in outs {
@@ -127,8 +127,8 @@ fn push_gone(
 }
 
 // The outputs that aren't whole.
-fn gone_in(alloc: Global, outs: &[Out], wholes: &[bool]) -> Result<List<PathText>, OutOfMemory>
-    ensures { IfOk result (λ gone. gone ≡ flat_map gone_of (zip outs.now wholes.now)) }
+fn gone_in(alloc: Global, outs: &[&Out], wholes: &[bool]) -> Result<List<PathText>, OutOfMemory>
+    ensures { IfOk result (λ gone. gone ≡ flat_map gone_of (zip (map (λ out. out.now) outs.now) wholes.now)) }
 {
     let mut gone = List::new(alloc);
     for (i, out) in outs.iter().enumerate() {
@@ -164,10 +164,10 @@ fn push_directory(
 // The directory outputs.
 fn directories_in(
     alloc: Global,
-    outs: &[Out],
+    outs: &[&Out],
     wholes: &[bool],
 ) -> Result<List<Directory>, OutOfMemory>
-    ensures { IfOk result (λ directories. directories ≡ flat_map directory_of (zip outs.now wholes.now)) }
+    ensures { IfOk result (λ directories. directories ≡ flat_map directory_of (zip (map (λ out. out.now) outs.now) wholes.now)) }
 {
     let mut directories = List::new(alloc);
     for (i, out) in outs.iter().enumerate() {

@@ -1,7 +1,7 @@
 //! What is ready by the states of jobs: targets, and directories that are awaited.
 
 ghost use Rattle.std.specs.Prelude.{◌≡◌, ◌&&◌, ◌||◌, ◌++◌, ◌∷◌, [], not, length, Bool, List as Items, map, filter, bytes_eq, is_none, IfOk, OnOk, if◌then◌else◌};
-ghost use Rattle.std.specs.BTreeMap.{get_by_text};
+ghost use Rattle.smk_states.specs.Keys.{at_key};
 ghost use Rattle.std.specs.BTreeSet.{contains_text};
 ghost use Rattle.std.specs.List.{flat_map};
 ghost use Rattle.smk_world.specs.Trees.{Path};
@@ -12,14 +12,13 @@ ghost use Rattle.smk_plan.specs.States.{Progress, is_ready, awaited, test_some};
 ghost use Rattle.smk_plan.specs.Sights.{wholes_of};
 ghost use Rattle.smk_states.specs.Served.{AreServed};
 ghost use Rattle.smk_states.specs.Judged.{with_states};
-ghost use Rattle.smk_states.specs.Parts.{parts_of};
-ghost use Rattle.smk_states.specs.Paths.{site_at};
 ghost use Rattle.smk_states.specs.Waits.{ready_told, over_waits, part_waits, waits_told, waits_of};
 
 use crate::opening::is_made_clean;
-use crate::parts::{Parts, parts_of_jobs};
-use crate::paths::{listed_in, put};
-use crate::sites::{Site, sites_of};
+use crate::parts::Parts;
+use crate::paths::put;
+use crate::sites::Site;
+use crate::table::Table;
 use smk_base::{List, OutOfMemory, PathText};
 use smk_chain::Jobs;
 use smk_plan::Wholes;
@@ -35,8 +34,8 @@ pub(crate) struct Wait {
 }
 
 // Whether a job makes the path that is Clean, and it is whole.
-fn is_ready(sites: &BTreeMap<String, Site>, states: &[State], path: &PathText) -> bool
-    ensures { result ≡ ready_told states.now (get_by_text sites.now path.now) }
+fn is_ready(sites: &BTreeMap<&str, Site>, states: &[State], path: &PathText) -> bool
+    ensures { result ≡ ready_told states.now (at_key sites.now path.now) }
 {
     match sites.get(path.as_str()) {
         Some(site) => is_made_clean(states, site) && site.whole,
@@ -48,11 +47,11 @@ fn is_ready(sites: &BTreeMap<String, Site>, states: &[State], path: &PathText) -
 fn push_over(
     alloc: Global,
     found: &mut List<Wait>,
-    sites: &BTreeMap<String, Site>,
+    sites: &BTreeMap<&str, Site>,
     states: &[State],
     path: &PathText,
 ) -> Result<(), OutOfMemory>
-    ensures { OnOk result (found.new ≡ found.old ++ over_waits states.now (get_by_text sites.now path.now)) }
+    ensures { OnOk result (found.new ≡ found.old ++ over_waits states.now (at_key sites.now path.now)) }
 {
     let Some(site) = sites.get(path.as_str()) else {
         return Ok(());
@@ -70,11 +69,11 @@ fn push_over(
 fn push_overs(
     alloc: Global,
     found: &mut List<Wait>,
-    sites: &BTreeMap<String, Site>,
+    sites: &BTreeMap<&str, Site>,
     states: &[State],
     paths: &[PathText],
 ) -> Result<(), OutOfMemory>
-    ensures { OnOk result (found.new ≡ found.old ++ flat_map (λ q. over_waits states.now (get_by_text sites.now q)) paths.now) }
+    ensures { OnOk result (found.new ≡ found.old ++ flat_map (λ q. over_waits states.now (at_key sites.now q)) paths.now) }
 {
     for path in paths {
         push_over(alloc, found, sites, states, path)?;
@@ -86,11 +85,11 @@ fn push_overs(
 fn push_gathered(
     alloc: Global,
     found: &mut List<Wait>,
-    sites: &BTreeMap<String, Site>,
+    sites: &BTreeMap<&str, Site>,
     states: &[State],
     folders: &[PathText],
 ) -> Result<(), OutOfMemory>
-    ensures { OnOk result (found.new ≡ found.old ++ map (λ d. record { path = d; ready = ready_told states.now (get_by_text sites.now d) }) folders.now) }
+    ensures { OnOk result (found.new ≡ found.old ++ map (λ d. record { path = d; ready = ready_told states.now (at_key sites.now d) }) folders.now) }
 {
     for folder in folders {
         let ready = is_ready(sites, states, folder);
@@ -106,11 +105,11 @@ fn push_gathered(
 fn push_waits(
     alloc: Global,
     found: &mut List<Wait>,
-    sites: &BTreeMap<String, Site>,
+    sites: &BTreeMap<&str, Site>,
     states: &[State],
     part: &Parts,
 ) -> Result<(), OutOfMemory>
-    ensures { OnOk result (found.new ≡ found.old ++ part_waits states.now (λ q. get_by_text sites.now q) part.now) }
+    ensures { OnOk result (found.new ≡ found.old ++ part_waits states.now (λ q. at_key sites.now q) part.now) }
 {
     push_gathered(alloc, found, sites, states, part.gathers.as_slice())?;
     push_overs(alloc, found, sites, states, part.inputs.as_slice())?;
@@ -118,15 +117,15 @@ fn push_waits(
     Ok(())
 }
 
-// The directories that the jobs await, and those of which a target is a member; one may come again.
-fn waits_in(
+/// The directories that the jobs await, and those of which a target is a member; one may come again.
+pub(crate) fn waits_in(
     alloc: Global,
-    sites: &BTreeMap<String, Site>,
+    sites: &BTreeMap<&str, Site>,
     states: &[State],
     parts: &[Parts],
     targets: &[PathText],
 ) -> Result<List<Wait>, OutOfMemory>
-    ensures { IfOk result (λ found. found ≡ waits_told states.now (λ q. get_by_text sites.now q) parts.now targets.now) }
+    ensures { IfOk result (λ found. found ≡ waits_told states.now (λ q. at_key sites.now q) parts.now targets.now) }
 {
     let mut found = List::new(alloc);
     for part in parts {
@@ -163,8 +162,8 @@ fn push_new(
     Ok(())
 }
 
-// The directories that are ready and have no listing, each once.
-fn new_in(
+/// The directories that are ready and have no listing, each once.
+pub(crate) fn new_in(
     alloc: Global,
     waits: &[Wait],
     listed: &BTreeSet<String>,
@@ -181,41 +180,14 @@ fn new_in(
     Ok(found)
 }
 
-// The parts of the jobs.
-fn parts_by(alloc: Global, jobs: &Jobs, wholes: &Wholes) -> Result<List<Parts>, OutOfMemory>
-    ensures { IfOk result (λ parts. (image : Image) → wholes.now ≡ wholes_of image jobs.now → parts ≡ map (parts_of image) jobs.now.jobs) }
-{
-    let parts = parts_of_jobs(alloc, jobs.jobs.as_slice(), wholes.outputs.as_slice())?;
-    Ok(parts)
-}
-
-// What is known of the path of each maker.
-fn sites_by(
+/// For each target whether it is ready.
+pub(crate) fn ready_in(
     alloc: Global,
-    jobs: &Jobs,
-    wholes: &Wholes,
-    parts: &List<Parts>,
-) -> Result<BTreeMap<String, Site>, OutOfMemory>
-    ensures { IfOk result (λ sites. (image : Image) → wholes.now ≡ wholes_of image jobs.now → parts.now ≡ map (parts_of image) jobs.now.jobs
-        → (q : Path) → get_by_text sites q ≡ site_at image jobs.now q) }
-{
-    let sites = sites_of(
-        alloc,
-        jobs.makers.as_slice(),
-        wholes.makers.as_slice(),
-        parts.as_slice(),
-    )?;
-    Ok(sites)
-}
-
-// For each target whether it is ready.
-fn ready_in(
-    alloc: Global,
-    sites: &BTreeMap<String, Site>,
+    sites: &BTreeMap<&str, Site>,
     states: &[State],
     targets: &[PathText],
 ) -> Result<List<bool>, OutOfMemory>
-    ensures { IfOk result (λ ready. ready ≡ map (λ t. ready_told states.now (get_by_text sites.now t)) targets.now) }
+    ensures { IfOk result (λ ready. ready ≡ map (λ t. ready_told states.now (at_key sites.now t)) targets.now) }
 {
     let mut ready = List::new(alloc);
     for target in targets {
@@ -238,9 +210,8 @@ pub fn ready_targets(
         → wholes.now ≡ wholes_of image jobs.now
         → ready ≡ map (is_ready image settings progress (with_states jobs.now states.now)) targets.now) }
 {
-    let parts = parts_by(alloc, jobs, wholes)?;
-    let sites = sites_by(alloc, jobs, wholes, &parts)?;
-    let ready = ready_in(alloc, &sites, states.as_slice(), targets.as_slice())?;
+    let table = Table::of(alloc, jobs, targets, wholes)?;
+    let ready = table.ready_targets(alloc, states)?;
     Ok(ready)
 }
 
@@ -259,16 +230,7 @@ pub fn newly_ready(
         → found ≡ filter (λ d. is_ready image settings progress (with_states jobs.now states.now) d && is_none (listing jobs.now.lists d))
         (awaited image settings progress (with_states jobs.now states.now))) }
 {
-    let parts = parts_by(alloc, jobs, wholes)?;
-    let sites = sites_by(alloc, jobs, wholes, &parts)?;
-    let waits = waits_in(
-        alloc,
-        &sites,
-        states.as_slice(),
-        parts.as_slice(),
-        targets.as_slice(),
-    )?;
-    let listed = listed_in(alloc, jobs.lists.as_slice())?;
-    let found = new_in(alloc, waits.as_slice(), &listed)?;
+    let table = Table::of(alloc, jobs, targets, wholes)?;
+    let found = table.newly_ready(alloc, states)?;
     Ok(found)
 }

@@ -1,7 +1,7 @@
 //! The reasons of a job, those that other jobs give among them.
 
 ghost use Rattle.std.specs.Prelude.{◌≡◌, ◌||◌, ◌&&◌, not, ◌++◌, List as Items, map, filter, bytes_eq, IfOk, OnOk, if◌then◌else◌};
-ghost use Rattle.std.specs.BTreeMap.{get_by_text};
+ghost use Rattle.smk_states.specs.Keys.{at_key};
 ghost use Rattle.std.specs.BTreeSet.{contains_text};
 ghost use Rattle.smk_world.specs.Trees.{Path};
 ghost use Rattle.smk_chain.specs.Derive.{distinct};
@@ -17,8 +17,8 @@ use std::alloc::Global;
 use std::collections::BTreeSet;
 
 // Whether the job that makes the path is Dirty.
-fn is_dirty(states: &[State], paths: &Paths, path: &PathText) -> bool
-    ensures { result ≡ is_dirty_told states.now (λ q. get_by_text paths.now.sites q) path.now }
+fn is_dirty(states: &[State], paths: &Paths<'_>, path: &PathText) -> bool
+    ensures { result ≡ is_dirty_told states.now (λ q. at_key paths.now.sites q) path.now }
 {
     match paths.sites.get(path.as_str()) {
         Some(site) => is_made_dirty(states, site),
@@ -27,8 +27,8 @@ fn is_dirty(states: &[State], paths: &Paths, path: &PathText) -> bool
 }
 
 // Whether the job that makes the path is Dirty, and the path wasn't seen.
-fn is_fresh(states: &[State], paths: &Paths, seen: &BTreeSet<String>, path: &PathText) -> bool
-    ensures { result ≡ (is_dirty_told states.now (λ q. get_by_text paths.now.sites q) path.now && not (contains_text seen.now path.now)) }
+fn is_fresh(states: &[State], paths: &Paths<'_>, seen: &BTreeSet<String>, path: &PathText) -> bool
+    ensures { result ≡ (is_dirty_told states.now (λ q. at_key paths.now.sites q) path.now && not (contains_text seen.now path.now)) }
 {
     is_dirty(states, paths, path) && !seen.contains(path.as_str())
 }
@@ -57,10 +57,10 @@ fn push_upstreams(
     alloc: Global,
     found: &mut List<Reason>,
     states: &[State],
-    paths: &Paths,
+    paths: &Paths<'_>,
     inputs: &[PathText],
 ) -> Result<(), OutOfMemory>
-    ensures { OnOk result (found.new ≡ found.old ++ map (λ q. Reason.Upstream q) (filter (is_dirty_told states.now (λ q. get_by_text paths.now.sites q)) (distinct bytes_eq inputs.now))) }
+    ensures { OnOk result (found.new ≡ found.old ++ map (λ q. Reason.Upstream q) (filter (is_dirty_told states.now (λ q. at_key paths.now.sites q)) (distinct bytes_eq inputs.now))) }
 {
     let mut seen = BTreeSet::new(alloc);
     for path in inputs {
@@ -96,13 +96,13 @@ fn push_forced(found: &mut List<Reason>, forced: bool) -> Result<(), OutOfMemory
 pub(crate) fn all_reasons(
     alloc: Global,
     states: &[State],
-    paths: &Paths,
+    paths: &Paths<'_>,
     inputs: &[PathText],
     own: List<Reason>,
     forced: bool,
 ) -> Result<List<Reason>, OutOfMemory>
     ensures { IfOk result (λ found. (alone : Items ReasonValue) → own ≡ alone ++ when forced Reason.Forced
-        → found ≡ alone ++ (map (λ q. Reason.Upstream q) (filter (is_dirty_told states.now (λ q. get_by_text paths.now.sites q)) (distinct bytes_eq inputs.now)) ++ when forced Reason.Forced)) }
+        → found ≡ alone ++ (map (λ q. Reason.Upstream q) (filter (is_dirty_told states.now (λ q. at_key paths.now.sites q)) (distinct bytes_eq inputs.now)) ++ when forced Reason.Forced)) }
 {
     let mut found = without_forced(own, forced);
     push_upstreams(alloc, &mut found, states, paths, inputs)?;

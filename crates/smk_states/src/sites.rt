@@ -1,7 +1,7 @@
 //! Which job makes each path that jobs or targets want.
 
 ghost use Rattle.std.specs.Prelude.{◌≡◌, List as Items, map, bytes_eq, false, slice_index_or, IfOk, OnOk, Some, if◌then◌else◌, option_map};
-ghost use Rattle.std.specs.BTreeMap.{get_by_text};
+ghost use Rattle.smk_states.specs.Keys.{at_key};
 ghost use Rattle.std.specs.List.{slice_get, find};
 ghost use Rattle.std.specs.Option.{option_and_then};
 ghost use Rattle.smk_base.specs.Path.{is_under};
@@ -83,29 +83,27 @@ fn site_for(alloc: Global, parts: &[Parts], maker: &Maker, whole: bool) -> Resul
 }
 
 // Keeps what is known of the path.
-fn put(
-    alloc: Global,
-    sites: &mut BTreeMap<String, Site>,
-    path: &PathText,
+fn put<'j>(
+    sites: &mut BTreeMap<&'j str, Site>,
+    path: &'j PathText,
     site: Site,
 ) -> Result<(), OutOfMemory>
-    ensures { OnOk result ((q : Path) → get_by_text sites.new q ≡ (if bytes_eq path.now q then Some site else get_by_text sites.old q)) }
+    ensures { OnOk result ((q : Path) → at_key sites.new q ≡ (if bytes_eq path.now q then Some site else at_key sites.old q)) }
 {
-    let key = String::from_str(alloc, path.as_str())?;
-    sites.insert(key, site)?;
+    sites.insert(path.as_str(), site)?;
     Ok(())
 }
 
 /// What is known of the path of each maker; of two for one path the first one counts.
-pub(crate) fn sites_of(
+pub(crate) fn sites_of<'j>(
     alloc: Global,
-    makers: &[Maker],
+    makers: &'j [Maker],
     wholes: &[bool],
     parts: &[Parts],
-) -> Result<BTreeMap<String, Site>, OutOfMemory>
+) -> Result<BTreeMap<&'j str, Site>, OutOfMemory>
     ensures { IfOk result (λ sites. (image : Image) (jobs : Items JobValue) → parts.now ≡ map (parts_of image) jobs
         → wholes.now ≡ map (is_whole_made image jobs) makers.now
-        → (q : Path) → get_by_text sites q ≡ option_map (site_of image jobs) (find (λ m. bytes_eq m.path q) makers.now)) }
+        → (q : Path) → at_key sites q ≡ option_map (site_of image jobs) (find (λ m. bytes_eq m.path q) makers.now)) }
 {
     let mut sites = BTreeMap::new(alloc);
     let mut number = makers.len();
@@ -113,7 +111,7 @@ pub(crate) fn sites_of(
         number -= 1;
         let maker = &makers[number];
         let site = site_for(alloc, parts, maker, flag_at(wholes, number))?;
-        put(alloc, &mut sites, &maker.path, site)?;
+        put(&mut sites, &maker.path, site)?;
     }
     Ok(sites)
 }

@@ -1,7 +1,7 @@
 //! The first pass, from the first job to the last: what a job is by the jobs before it.
 
 ghost use Rattle.std.specs.Prelude.{◌≡◌, ◌&&◌, ◌||◌, ◌++◌, ◌∷◌, [], not, List as Items, length, map, reverse, Option, IfOk};
-ghost use Rattle.std.specs.BTreeMap.{get_by_text};
+ghost use Rattle.smk_states.specs.Keys.{at_key, has_key};
 ghost use Rattle.std.specs.BTreeSet.{contains_text};
 ghost use Rattle.std.specs.List.{list_any};
 ghost use Rattle.smk_world.specs.Trees.{Path};
@@ -41,18 +41,18 @@ pub(crate) fn reversed<T: Drop>(alloc: Global, list: List<T>) -> Result<List<T>,
 }
 
 // Whether an output that isn't whole is wanted back, whatever jobs are to run.
-fn is_kept_output(paths: &Paths, temps: &BTreeSet<String>, feeds: bool, path: &PathText) -> bool
+fn is_kept_output(paths: &Paths<'_>, temps: &BTreeSet<String>, feeds: bool, path: &PathText) -> bool
     ensures { result ≡ (contains_text paths.now.targets path.now || (contains_text paths.now.awaited path.now
-        || (not (contains_text temps.now path.now && not feeds) && contains_text paths.now.read path.now))) }
+        || (not (contains_text temps.now path.now && not feeds) && has_key paths.now.read path.now))) }
 {
     let text = path.as_str();
     paths.targets.contains(text)
         || paths.awaited.contains(text)
-        || (!(temps.contains(text) && !feeds) && paths.read.contains(text))
+        || (!(temps.contains(text) && !feeds) && paths.read.contains_key(text))
 }
 
 // Whether one of the outputs is an awaited directory.
-fn makes_awaited(paths: &Paths, outputs: &[PathText]) -> bool
+fn makes_awaited(paths: &Paths<'_>, outputs: &[PathText]) -> bool
     ensures { result ≡ list_any (λ p. contains_text paths.now.awaited p) outputs.now }
 {
     for path in outputs {
@@ -63,9 +63,9 @@ fn makes_awaited(paths: &Paths, outputs: &[PathText]) -> bool
     false
 }
 
-fn any_kept(paths: &Paths, temps: &BTreeSet<String>, feeds: bool, gone: &[PathText]) -> bool
+fn any_kept(paths: &Paths<'_>, temps: &BTreeSet<String>, feeds: bool, gone: &[PathText]) -> bool
     ensures { result ≡ list_any (λ p. contains_text paths.now.targets p || (contains_text paths.now.awaited p
-        || (not (contains_text temps.now p && not feeds) && contains_text paths.now.read p))) gone.now }
+        || (not (contains_text temps.now p && not feeds) && has_key paths.now.read p))) gone.now }
 {
     for path in gone {
         if is_kept_output(paths, temps, feeds, path) {
@@ -75,9 +75,9 @@ fn any_kept(paths: &Paths, temps: &BTreeSet<String>, feeds: bool, gone: &[PathTe
     false
 }
 
-// Whether some output isn't whole and is wanted back, whatever jobs are to run.
-fn is_kept(alloc: Global, paths: &Paths, part: &Parts) -> Result<bool, OutOfMemory>
-    ensures { IfOk result (λ kept. kept ≡ is_kept_told (λ q. contains_text paths.now.targets q) (λ q. contains_text paths.now.awaited q) (λ q. contains_text paths.now.read q) part.now) }
+/// Whether some output isn't whole and is wanted back, whatever jobs are to run.
+pub(crate) fn is_kept(alloc: Global, paths: &Paths<'_>, part: &Parts) -> Result<bool, OutOfMemory>
+    ensures { IfOk result (λ kept. kept ≡ is_kept_told (λ q. contains_text paths.now.targets q) (λ q. contains_text paths.now.awaited q) (λ q. has_key paths.now.read q) part.now) }
 {
     let temps = set_of(alloc, part.temps.as_slice())?;
     let feeds = makes_awaited(paths, part.outputs.as_slice());
@@ -98,15 +98,15 @@ fn by_reasons(found: List<Reason>, kept: bool) -> State
 fn first_state(
     alloc: Global,
     states: &[State],
-    paths: &Paths,
+    paths: &Paths<'_>,
     in_use: &BTreeSet<String>,
     part: &Parts,
     own: List<Reason>,
     forced: bool,
 ) -> Result<State, OutOfMemory>
     ensures { IfOk result (λ state. (alone : Items ReasonValue) → own ≡ alone ++ when forced Reason.Forced
-        → state ≡ first_told states.now (λ q. get_by_text paths.now.sites q) (λ q. contains_text paths.now.listed q)
-        (is_kept_told (λ q. contains_text paths.now.targets q) (λ q. contains_text paths.now.awaited q) (λ q. contains_text paths.now.read q) part.now
+        → state ≡ first_told states.now (λ q. at_key paths.now.sites q) (λ q. contains_text paths.now.listed q)
+        (is_kept_told (λ q. contains_text paths.now.targets q) (λ q. contains_text paths.now.awaited q) (λ q. has_key paths.now.read q) part.now
         && not (is_in_use_told (λ p. contains_text in_use.now p) part.now))
         part.now alone forced) }
 {
@@ -163,7 +163,7 @@ fn next_kept(left: &mut List<Option<State>>) -> Option<State>
 /// state that it had when it began.
 pub(crate) fn first_states(
     alloc: Global,
-    paths: &Paths,
+    paths: &Paths<'_>,
     in_use: &BTreeSet<String>,
     parts: &[Parts],
     reasons: List<List<Reason>>,

@@ -1,5 +1,5 @@
 use Rattle.std.proofs.Common.{◌≡◌, ◌||◌, ℕ, List, drop}
-use Rattle.std.specs.BTreeMap.{get_by_text}
+use Rattle.smk_states.specs.Keys.{at_key}
 use Rattle.std.specs.BTreeSet.{contains_text}
 use Rattle.std.specs.List.{list_any}
 use Rattle.smk_states.specs.InUse.{is_made_for}
@@ -7,5 +7,5 @@ use Rattle.smk_states.proofs.in_use.hold_inputs.Given as goal
 
 abbrev pub invariant-loop-path : goal.invariant-loop-path
 invariant-loop-path l = (name : List ℕ) →
-    (contains_text l.in_use name || list_any (is_made_for (λ q. get_by_text l.paths.sites q) l.parts l.reader name) (drop l.path-index l.reader.inputs))
-    ≡ (contains_text l.initial.in_use name || list_any (is_made_for (λ q. get_by_text l.paths.sites q) l.parts l.reader name) l.reader.inputs)
+    (contains_text l.in_use name || list_any (is_made_for (λ q. at_key l.paths.sites q) l.parts l.reader name) (drop l.path-index l.reader.inputs))
+    ≡ (contains_text l.initial.in_use name || list_any (is_made_for (λ q. at_key l.paths.sites q) l.parts l.reader name) l.reader.inputs)

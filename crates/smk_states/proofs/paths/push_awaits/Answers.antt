@@ -1,5 +1,5 @@
 use Rattle.std.proofs.Common.{◌++◌, ◌∙◌, List, flat_map, ap}
-use Rattle.std.specs.BTreeMap.{get_by_text}
+use Rattle.smk_states.specs.Keys.{at_key}
 use Rattle.smk_world.specs.Trees.{Path}
 use Rattle.smk_states.specs.Paths.{over_paths}
 use Rattle.smk_states.proofs.JobParts.{awaits_more}
@@ -7,7 +7,7 @@ use Rattle.smk_states.proofs.paths.push_awaits.Goals as goal
 
 pub returns : goal.returns
 returns c =
-    let over : Path → List Path = over_paths (λ q. get_by_text c.args.sites.now q) in
+    let over : Path → List Path = over_paths (λ q. at_key c.args.sites.now q) in
     let m = c.args.part.now in
     awaits_more over c.args.found.now c.push_paths.new.found c.push_overs.new.found c.push_overs-2.new.found m.gathers m.inputs
     (c.in_ok-push_paths.ensures ∙ ap (λ (ps : List Path). c.args.found.now ++ ps) c.as_slice.ensures)

@@ -1,28 +1,5 @@
-use Rattle.std.proofs.Common.{◌≡◌, ◌∙◌, ◌++◌, ◌&&◌, not, List, Bool, map, filter, flat_map, ap, sym, is_none}
-use Rattle.std.specs.Prelude.{bytes_eq}
-use Rattle.std.specs.BTreeSet.{contains_text}
-use Rattle.smk_world.specs.Trees.{Path, among}
-use Rattle.smk_chain.specs.declared.jobs.Known.{Known}
-use Rattle.smk_chain.specs.Derive.{distinct, listing}
-use Rattle.smk_plan.specs.States.{awaits, directory_over, is_ready}
-use Rattle.smk_states.specs.Judged.{with_states}
-use Rattle.smk_states.specs.Waits.{waits_told}
-use Rattle.smk_states.proofs.Told.{listed_none}
-use Rattle.smk_states.proofs.ReadyNow.{waits_are}
 use Rattle.smk_states.proofs.ready.newly_ready.Goals as goal
 
 pub returns : goal.returns
 returns c = λ image settings progress targets served wholes.
-    let jobs = c.args.jobs.now in
-    let plan = with_states jobs c.args.states.now in
-    let parts = c.in_ok-parts.ensures image wholes in
-    let sites = c.in_ok-sites.ensures image wholes parts in
-    let ready : Path → Bool = λ d. is_ready image settings progress plan d in
-    let all : List Path = flat_map (awaits plan) jobs.jobs ++ flat_map (directory_over plan) settings.targets in
-    let known : (d : Path) → not (contains_text c.in_ok-listed.listed d) ≡ is_none (listing jobs.lists d) =
-    λ d. ap not (c.in_ok-listed.ensures d ∙ ap (λ ks. among (map (λ (k : Known). k.folder) ks) d) c.as_slice-4.ensures) ∙ sym (listed_none jobs.lists d) in
-    c.in_ok-found.ensures ready all
-    (c.as_slice-5.ensures ∙ c.in_ok-waits.ensures
-    ∙ (λ i. waits_told (c.as_slice.ensures i) (λ q. sites q i) ((c.as_slice-2.ensures ∙ parts) i) (c.as_slice-3.ensures i))
-    ∙ waits_are image settings progress jobs c.args.targets.now c.args.states.now c.requires.each served targets)
-    ∙ (λ i. filter (λ d. ready d && known d i) (distinct bytes_eq all))
+    c.in_ok-found.ensures c.args.jobs.now c.args.targets.now c.args.wholes.now c.in_ok-table.ensures c.requires.each image settings progress targets served wholes

@@ -1,5 +1,5 @@
 use Rattle.std.proofs.Common.{◌++◌, ◌∙◌, List, flat_map, ap}
-use Rattle.std.specs.BTreeMap.{get_by_text}
+use Rattle.smk_states.specs.Keys.{at_key}
 use Rattle.smk_world.specs.Trees.{Path}
 use Rattle.smk_states.specs.declared.ready.Wait.{Wait}
 use Rattle.smk_states.specs.Waits.{over_waits, ready_told, waits_of}
@@ -8,8 +8,8 @@ use Rattle.smk_states.proofs.ready.push_waits.Goals as goal
 
 pub returns : goal.returns
 returns c =
-    let over : Path → List Wait = λ q. over_waits c.args.states.now (get_by_text c.args.sites.now q) in
-    let gathered : List Path → List Wait = waits_of (λ d. ready_told c.args.states.now (get_by_text c.args.sites.now d)) in
+    let over : Path → List Wait = λ q. over_waits c.args.states.now (at_key c.args.sites.now q) in
+    let gathered : List Path → List Wait = waits_of (λ d. ready_told c.args.states.now (at_key c.args.sites.now d)) in
     let m = c.args.part.now in
     waits_more over gathered c.args.found.now c.push_gathered.new.found c.push_overs.new.found c.push_overs-2.new.found m.gathers m.inputs
     (c.in_ok-push_gathered.ensures ∙ ap (λ (ps : List Path). c.args.found.now ++ gathered ps) c.as_slice.ensures)
