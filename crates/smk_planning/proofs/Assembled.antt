@@ -1,5 +1,5 @@
 -- The parts of a plan, put together.
-use Rattle.std.proofs.Common.{◌≡◌, Bool, true, List, [], ◌++◌, map, Some, None, refl, sym, ap, subst, ◌∙◌}
+use Rattle.std.proofs.Common.{◌≡◌, Bool, true, List, [], ◌++◌, map, Option, Some, None, sym, ap, subst, ◌∙◌}
 use Rattle.std.specs.Prelude.{◌&&◌, is_none}
 use Rattle.std.specs.List.{filter}
 use Rattle.smk_world.specs.World.{in_paths, out_paths}
@@ -24,62 +24,72 @@ use Rattle.smk_plan.specs.Sights.{wholes_of}
 use Rattle.smk_plan.specs.States.{Plan, Progress, HasStates, is_forced, is_ready, is_current, awaited, files_listed, new_listings}
 use Rattle.smk_drive.specs.Moments.{Rules}
 use Rattle.smk_facts.specs.Facts.{having_run, facts_of, told_sources}
-use Rattle.smk_states.specs.Judged.{with_states, reasons_alone, AreJudged}
+use Rattle.smk_states.specs.Judged.{with_states, reasons_now, AreJudgedNow}
 use Rattle.smk_planning.specs.Parts.{is_source_in, each_or, listing_in, refusals_in}
-use Rattle.smk_planning.specs.Plans.{Agree, HasMade, IsUnrefused, IsRefused}
+use Rattle.smk_planning.specs.Plans.{Agree, idle_at, HasMadeAt, IsUnrefused, IsRefusedAt}
 use Rattle.smk_planning.proofs.Lists.{each_turn, map_same, map_twice}
 use Rattle.smk_planning.proofs.Refused.{refused_first, unrefused_all}
+use Rattle.smk_planning.proofs.Idle.{now_alone}
 use Rattle.smk_planning.proofs.Told.{source_same, each_or_same, files_same, zip_same}
 
-module _ (image : Image) (settings : Settings) (ran : List Path) (jobs : Jobs) (store : List Known) (seen : List Sight) (agree : Agree image jobs store seen settings.targets) where
+module _ (image : Image) (settings : Settings) (progress : Progress) (jobs : Jobs) (store : List Known) (seen : List Sight) (agree : Agree image jobs store seen settings.targets) where
   -- ## Refusals
 
-  pub refusal : (states : List State) → HasStates image settings (having_run ran) (with_states jobs states) →
-      (f : PlanFault) → Some f ≡ first (refusals_in store seen settings ran jobs.jobs states) → IsRefused image settings ran jobs f
-  refusal states table f e =
+  abbrev pub first_of : List Path → List Job → List State → Option PlanFault
+  first_of ran idle states = first (refusals_in store seen settings ran idle jobs.jobs states)
+
+  pub refusal : (ran : List Path) → progress.begun ≡ ran → (idle : List Job) → idle ≡ idle_at progress jobs.jobs →
+      (states : List State) → HasStates image settings progress (with_states jobs states) →
+      (f : PlanFault) → Some f ≡ first_of ran idle states → IsRefusedAt image settings progress jobs f
+  refusal ran b idle i states table f e =
       record {
         states = states;
         table = table;
         first = λ rules same.
-            refused_first rules image ran (with_states jobs states) store seen agree.stored agree.sighted.outputs f
-            (subst (λ s. Some f ≡ first (refusals_in store seen s ran jobs.jobs states)) (sym same) e);
+            refused_first rules image progress (with_states jobs states) store seen agree.stored agree.sighted.outputs f
+            (subst (λ s. Some f ≡ first (refusals_in store seen s progress.begun (idle_at progress jobs.jobs) jobs.jobs states)) (sym same)
+            (e ∙ ap (λ r. first_of r idle states) (sym b) ∙ ap (λ js. first_of progress.begun js states) i));
       }
 
-  pub nothing_refused : (states : List State) → None ≡ first (refusals_in store seen settings ran jobs.jobs states) →
-      (rules : Rules) → rules.settings ≡ settings → IsUnrefused rules image (having_run ran) (with_states jobs states)
+  pub nothing_refused : (states : List State) → None ≡ first_of progress.begun (idle_at progress jobs.jobs) states →
+      (rules : Rules) → rules.settings ≡ settings → IsUnrefused rules image progress (with_states jobs states)
   nothing_refused states e rules same =
-      unrefused_all rules image ran (with_states jobs states) store seen agree.stored agree.sighted.outputs
-      (subst (λ s. None ≡ first (refusals_in store seen s ran jobs.jobs states)) (sym same) e)
+      unrefused_all rules image progress (with_states jobs states) store seen agree.stored agree.sighted.outputs
+      (subst (λ s. None ≡ first (refusals_in store seen s progress.begun (idle_at progress jobs.jobs) jobs.jobs states)) (sym same) e)
 
-  pub made_of : (states : List State) → HasStates image settings (having_run ran) (with_states jobs states) → None ≡ first (refusals_in store seen settings ran jobs.jobs states) →
-      (told : Told) → told.states ≡ states → told.current ≡ map (is_current image settings (having_run ran) (with_states jobs states)) settings.targets →
-      told.known ≡ new_listings image settings (having_run ran) (with_states jobs states) → HasMade image settings ran jobs told
-  made_of states table none told e c k =
+  pub made_of : (ran : List Path) → progress.begun ≡ ran → (idle : List Job) → idle ≡ idle_at progress jobs.jobs →
+      (states : List State) → HasStates image settings progress (with_states jobs states) → None ≡ first_of ran idle states →
+      (told : Told) → told.states ≡ states → told.current ≡ map (is_current image settings progress (with_states jobs states)) settings.targets →
+      told.known ≡ new_listings image settings progress (with_states jobs states) → HasMadeAt image settings progress jobs told
+  made_of ran b idle i states table none told e c k =
+      let free = nothing_refused states (none ∙ ap (λ r. first_of r idle states) (sym b) ∙ ap (λ js. first_of progress.begun js states) i) in
       record {
-        states = subst (λ s. HasStates image settings (having_run ran) (with_states jobs s)) (sym e) table;
-        current = c ∙ ap (λ s. map (is_current image settings (having_run ran) (with_states jobs s)) settings.targets) (sym e);
-        known = k ∙ ap (λ s. new_listings image settings (having_run ran) (with_states jobs s)) (sym e);
-        unrefused = λ rules same. subst (λ s. IsUnrefused rules image (having_run ran) (with_states jobs s)) (sym e) (nothing_refused states none rules same);
+        states = subst (λ s. HasStates image settings progress (with_states jobs s)) (sym e) table;
+        current = c ∙ ap (λ s. map (is_current image settings progress (with_states jobs s)) settings.targets) (sym e);
+        known = k ∙ ap (λ s. new_listings image settings progress (with_states jobs s)) (sym e);
+        unrefused = λ rules same. subst (λ s. IsUnrefused rules image progress (with_states jobs s)) (sym e) (free rules same);
       }
 
-  -- ## Reasons
+-- ## What is judged where none runs
 
-  reasons_same : (j : Job) → reasons_of (facts_of image settings ran (with_states jobs []) j) ≡ reasons_alone image settings (having_run ran) jobs j
+module _ (image : Image) (settings : Settings) (ran : List Path) (jobs : Jobs) where
+  reasons_same : (j : Job) → reasons_of (facts_of image settings ran (with_states jobs []) j) ≡ reasons_now image settings (having_run ran) jobs j
   reasons_same j =
       ap (λ now. own_reasons j.recipe (map image.kept (out_paths j.recipe)) (map image.marked (out_paths j.recipe)) now ++ when (is_forced image settings (having_run ran) (with_states jobs []) j) Forced)
       (zip_same (stamp_now image) (in_paths j.recipe))
+      ∙ now_alone image settings ran jobs j
 
-  pub judged : (facts : List JobFacts) (reasons : List (List Reason)) (forced : List Bool) (wholes : Wholes) →
+  pub judged : (facts : List JobFacts) (reasons : List (List Reason)) (forced : List Bool) (wholes : Wholes) (running : List (Option State)) →
       facts ≡ map (facts_of image settings ran (with_states jobs [])) jobs.jobs → reasons ≡ map reasons_of facts → forced ≡ map (λ (f : JobFacts). f.forced) facts →
-      wholes ≡ wholes_of image jobs → AreJudged image settings (having_run ran) jobs reasons forced wholes
-  judged facts reasons forced wholes f r o w =
+      wholes ≡ wholes_of image jobs → running ≡ map (λ j. None) jobs.jobs → AreJudgedNow image settings (having_run ran) jobs reasons forced wholes running
+  judged facts reasons forced wholes running f r o w n =
       record {
-        idle = refl;
         reasons =
             r ∙ ap (map reasons_of) f ∙ map_twice reasons_of (facts_of image settings ran (with_states jobs [])) jobs.jobs
-            ∙ map_same (λ j. reasons_of (facts_of image settings ran (with_states jobs []) j)) (reasons_alone image settings (having_run ran) jobs) reasons_same jobs.jobs;
+            ∙ map_same (λ j. reasons_of (facts_of image settings ran (with_states jobs []) j)) (reasons_now image settings (having_run ran) jobs) reasons_same jobs.jobs;
         forced = o ∙ ap (map (λ (x : JobFacts). x.forced)) f ∙ map_twice (λ (x : JobFacts). x.forced) (facts_of image settings ran (with_states jobs [])) jobs.jobs;
         wholes = w;
+        running = n;
       }
 
 -- ## What is told

@@ -31,10 +31,6 @@ module _ {A : Type 0} where
   filter_same f g (x ∷ xs) h =
       ap (λ b. cond b (x ∷ filter f xs) (filter f xs)) h.0 ∙ ap (λ ys. cond (g x) (x ∷ ys) ys) (filter_same f g xs h.1)
 
-  pub all_pass : (xs : List A) → filter (λ x. true) xs ≡ xs
-  all_pass [] = refl
-  all_pass (x ∷ xs) = ap (λ ys. x ∷ ys) (all_pass xs)
-
   -- what follows the first
   pub behind : (x : A) (xs : List A) → Some x ≡ first xs → (rest : List A) × (xs ≡ x ∷ rest)
   behind x [] e = absurd cc

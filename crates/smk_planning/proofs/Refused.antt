@@ -22,15 +22,14 @@ use Rattle.smk_plan.specs.declared.fault.PlanFault.{PlanFault}
 use Rattle.smk_plan.specs.declared.fault.PlanFault.TheVariants as refused
 use Rattle.smk_plan.specs.declared.seen.Sight.{Sight}
 use Rattle.smk_plan.specs.Sights.{IsSeenAs, is_guarded}
-use Rattle.smk_plan.specs.States.{Plan, job_path, staged, test_some}
+use Rattle.smk_plan.specs.States.{Plan, Progress, job_path, staged, test_some}
 use Rattle.smk_report.specs.declared.fault.Fault.{Fault}
 use Rattle.smk_report.specs.declared.fault.Fault.TheVariants as fault
 use Rattle.smk_drive.specs.Moments.{Rules}
 use Rattle.smk_drive.specs.Refusals.{unless_empty, incomplete, guarded, above_limit, is_ahead, ahead, of_command, refused_of}
-use Rattle.smk_facts.specs.Facts.{having_run}
 use Rattle.smk_planning.specs.Parts.{is_marked_in, is_guarded_in, is_before, before_in, unless_none, marked_in, guarded_in, above_by, above_of, above_in, all_above, paths_in, outputs_of, refusals_in}
-use Rattle.smk_planning.specs.Plans.{IsUnrefused, fault_in}
-use Rattle.smk_planning.proofs.Lists.{each_join, each_front, each_back, filter_same, all_pass, behind, none_there, empty_front, empty_back, each_mapped, each_flat, each_turn, map_twice, map_flat, tested}
+use Rattle.smk_planning.specs.Plans.{idle_at, IsUnrefused, fault_in}
+use Rattle.smk_planning.proofs.Lists.{each_join, each_front, each_back, filter_same, behind, none_there, empty_front, empty_back, each_mapped, each_flat, each_turn, map_twice, map_flat, tested}
 
 -- ## Outputs
 
@@ -79,19 +78,19 @@ guarded_same image seen p e = ap (test_some (λ (s : Sight). s.guarded)) e
 
 -- ## Jobs that are ahead
 
-module _ (rules : Rules) (image : Image) (ran : List Path) (plan : Plan) where
+module _ (rules : Rules) (image : Image) (progress : Progress) (plan : Plan) where
   one_ahead : (b : Bool) (e : Job × State) (es : List (Job × State)) →
       (if b then e.0 ∷ [] else []) ++ map (λ (d : Job × State). d.0) es ≡ map (λ (d : Job × State). d.0) (cond b (e ∷ es) es)
   one_ahead true e es = refl
   one_ahead false e es = refl
 
   pub ahead_same : (jobs : List Job) (states : List State) →
-      before_in (among ran) jobs states ≡ map (λ (e : Job × State). e.0) (filter (is_ahead rules image (having_run ran) plan) (zip jobs states))
+      before_in (among progress.begun) jobs states ≡ map (λ (e : Job × State). e.0) (filter (is_ahead rules image progress plan) (zip jobs states))
   ahead_same [] states = refl
   ahead_same (j ∷ jobs) [] = refl
   ahead_same (j ∷ jobs) (s ∷ states) =
-      ap (λ ks. (if is_before (among ran) j s then j ∷ [] else []) ++ ks) (ahead_same jobs states)
-      ∙ one_ahead (is_before (among ran) j s) (j, s) (filter (is_ahead rules image (having_run ran) plan) (zip jobs states))
+      ap (λ ks. (if is_before (among progress.begun) j s then j ∷ [] else []) ++ ks) (ahead_same jobs states)
+      ∙ one_ahead (is_before (among progress.begun) j s) (j, s) (filter (is_ahead rules image progress plan) (zip jobs states))
 
   -- ## One kind after the other
 
@@ -104,15 +103,14 @@ module _ (rules : Rules) (image : Image) (ran : List Path) (plan : Plan) where
   marked_told false found paths e = ap (λ ps. map (fault_in rules.flow) (unless_none ps)) e ∙ none_empty paths
 
   pub incomplete_same : (store : List Known) → IsStoreOf image store →
-      map (fault_in rules.flow) (marked_in store rules.settings.rerun_incomplete plan.jobs) ≡ incomplete rules image (having_run ran) plan
+      map (fault_in rules.flow) (marked_in store rules.settings.rerun_incomplete (idle_at progress plan.jobs)) ≡ incomplete rules image progress plan
   incomplete_same store s =
-      marked_told rules.settings.rerun_incomplete (filter (is_marked_in store) (outputs_of plan.jobs))
-      (filter image.marked (outputs_of (filter (λ j. true) plan.jobs)))
-      (filter_same (is_marked_in store) image.marked (outputs_of plan.jobs)
-      (each_path (λ p. is_marked_in store p ≡ image.marked p) (marked_same image store s) (outputs_of plan.jobs))
-      ∙ ap (λ js. filter image.marked (outputs_of js)) (sym (all_pass plan.jobs)))
+      marked_told rules.settings.rerun_incomplete (filter (is_marked_in store) (outputs_of (idle_at progress plan.jobs)))
+      (filter image.marked (outputs_of (idle_at progress plan.jobs)))
+      (filter_same (is_marked_in store) image.marked (outputs_of (idle_at progress plan.jobs))
+      (each_path (λ p. is_marked_in store p ≡ image.marked p) (marked_same image store s) (outputs_of (idle_at progress plan.jobs))))
 
-  above_same : (j : Job) → map (fault_in rules.flow) (above_in rules.settings.bounds j) ≡ above_limit rules image (having_run ran) plan j
+  above_same : (j : Job) → map (fault_in rules.flow) (above_in rules.settings.bounds j) ≡ above_limit rules image progress plan j
   above_same j =
       map_flat (fault_in rules.flow) (above_of j) (λ (b : Amount). if is_above b then told b ∷ [] else []) (λ (b : Amount). one b (is_above b)) rules.settings.bounds
       ∙ tested is_above told rules.settings.bounds
@@ -142,42 +140,42 @@ module _ (rules : Rules) (image : Image) (ran : List Path) (plan : Plan) where
   -- all but the refusals of commands
   abbrev image_refusals : List Fault
   image_refusals =
-      incomplete rules image (having_run ran) plan
-      ++ (guarded rules image (having_run ran) plan
-      ++ flat_map (above_limit rules image (having_run ran) plan) (ahead rules image (having_run ran) plan))
+      incomplete rules image progress plan
+      ++ (guarded rules image progress plan
+      ++ flat_map (above_limit rules image progress plan) (ahead rules image progress plan))
 
   abbrev of_commands : List Fault
-  of_commands = flat_map (λ (e : Job × State). of_command rules image (having_run ran) plan e (rules.missing e.0)) (staged plan)
+  of_commands = flat_map (λ (e : Job × State). of_command rules image progress plan e (rules.missing e.0)) (staged plan)
 
   -- what is refused by the parts, as faults, is what is refused of the plan, but for commands
   refusals_same : (store : List Known) (seen : List Sight) → IsStoreOf image store →
       Each (λ (j : Job). Each (λ (o : Out). IsSeenAs image seen o.path) (outs_of j.recipe)) plan.jobs →
-      map (fault_in rules.flow) (refusals_in store seen rules.settings ran plan.jobs plan.states) ≡ image_refusals
+      map (fault_in rules.flow) (refusals_in store seen rules.settings progress.begun (idle_at progress plan.jobs) plan.jobs plan.states) ≡ image_refusals
   refusals_same store seen s h =
-      let front = before_in (among ran) plan.jobs plan.states in
+      let front = before_in (among progress.begun) plan.jobs plan.states in
       let turn = fault_in rules.flow in
-      let same : front ≡ ahead rules image (having_run ran) plan = ahead_same plan.jobs plan.states in
-      map-append turn (marked_in store rules.settings.rerun_incomplete plan.jobs) (guarded_in seen front ++ all_above rules.settings.bounds front)
+      let same : front ≡ ahead rules image progress plan = ahead_same plan.jobs plan.states in
+      map-append turn (marked_in store rules.settings.rerun_incomplete (idle_at progress plan.jobs)) (guarded_in seen front ++ all_above rules.settings.bounds front)
       ∙ ap (λ fs. fs ++ map turn (guarded_in seen front ++ all_above rules.settings.bounds front)) (incomplete_same store s)
-      ∙ ap (λ fs. incomplete rules image (having_run ran) plan ++ fs)
+      ∙ ap (λ fs. incomplete rules image progress plan ++ fs)
       (map-append turn (guarded_in seen front) (all_above rules.settings.bounds front)
       ∙ ap (λ fs. fs ++ map turn (all_above rules.settings.bounds front))
-      (guards_same seen front (of_front (λ (j : Job). Each (λ (o : Out). IsSeenAs image seen o.path) (outs_of j.recipe)) (among ran) plan.jobs plan.states h))
+      (guards_same seen front (of_front (λ (j : Job). Each (λ (o : Out). IsSeenAs image seen o.path) (outs_of j.recipe)) (among progress.begun) plan.jobs plan.states h))
       ∙ ap (λ fs. map fault.Protected (filter (is_guarded image) (outputs_of front)) ++ fs)
-      (map_flat turn (above_in rules.settings.bounds) (above_limit rules image (having_run ran) plan) above_same front)
-      ∙ ap (λ ks. map fault.Protected (filter (is_guarded image) (outputs_of ks)) ++ flat_map (above_limit rules image (having_run ran) plan) ks) same)
+      (map_flat turn (above_in rules.settings.bounds) (above_limit rules image progress plan) above_same front)
+      ∙ ap (λ ks. map fault.Protected (filter (is_guarded image) (outputs_of ks)) ++ flat_map (above_limit rules image progress plan) ks) same)
 
   -- the first of them is the first refusal of the plan
   pub refused_first : (store : List Known) (seen : List Sight) → IsStoreOf image store →
       Each (λ (j : Job). Each (λ (o : Out). IsSeenAs image seen o.path) (outs_of j.recipe)) plan.jobs →
-      (f : PlanFault) → Some f ≡ first (refusals_in store seen rules.settings ran plan.jobs plan.states) →
-      (rest : List Fault) × (refused_of rules image (having_run ran) plan ≡ fault_in rules.flow f ∷ rest)
+      (f : PlanFault) → Some f ≡ first (refusals_in store seen rules.settings progress.begun (idle_at progress plan.jobs) plan.jobs plan.states) →
+      (rest : List Fault) × (refused_of rules image progress plan ≡ fault_in rules.flow f ∷ rest)
   refused_first store seen s h f e =
       let turn = fault_in rules.flow in
-      let split = behind f (refusals_in store seen rules.settings ran plan.jobs plan.states) e in
-      let A = incomplete rules image (having_run ran) plan in
-      let B = guarded rules image (having_run ran) plan in
-      let C = flat_map (above_limit rules image (having_run ran) plan) (ahead rules image (having_run ran) plan) in (
+      let split = behind f (refusals_in store seen rules.settings progress.begun (idle_at progress plan.jobs) plan.jobs plan.states) e in
+      let A = incomplete rules image progress plan in
+      let B = guarded rules image progress plan in
+      let C = flat_map (above_limit rules image progress plan) (ahead rules image progress plan) in (
         map turn split.0 ++ of_commands,
         sym (append_assoc A (B ++ C) of_commands ∙ ap (λ fs. A ++ fs) (append_assoc B C of_commands))
             ∙ ap (λ fs. fs ++ of_commands) (sym (refusals_same store seen s h) ∙ ap (map turn) split.1),
@@ -186,12 +184,12 @@ module _ (rules : Rules) (image : Image) (ran : List Path) (plan : Plan) where
   -- where there is none, the plan isn't refused
   pub unrefused_all : (store : List Known) (seen : List Sight) → IsStoreOf image store →
       Each (λ (j : Job). Each (λ (o : Out). IsSeenAs image seen o.path) (outs_of j.recipe)) plan.jobs →
-      None ≡ first (refusals_in store seen rules.settings ran plan.jobs plan.states) → IsUnrefused rules image (having_run ran) plan
+      None ≡ first (refusals_in store seen rules.settings progress.begun (idle_at progress plan.jobs) plan.jobs plan.states) → IsUnrefused rules image progress plan
   unrefused_all store seen s h e =
-      let A = incomplete rules image (having_run ran) plan in
-      let B = guarded rules image (having_run ran) plan in
-      let C = flat_map (above_limit rules image (having_run ran) plan) (ahead rules image (having_run ran) plan) in
+      let A = incomplete rules image progress plan in
+      let B = guarded rules image progress plan in
+      let C = flat_map (above_limit rules image progress plan) (ahead rules image progress plan) in
       let empty : A ++ (B ++ C) ≡ [] =
-      sym (refusals_same store seen s h) ∙ ap (map (fault_in rules.flow)) (none_there (refusals_in store seen rules.settings ran plan.jobs plan.states) e) in
+      sym (refusals_same store seen s h) ∙ ap (map (fault_in rules.flow)) (none_there (refusals_in store seen rules.settings progress.begun (idle_at progress plan.jobs) plan.jobs plan.states) e) in
       let later = empty_back A (B ++ C) empty in
       record { complete = empty_front A (B ++ C) empty; unguarded = empty_front B C later; within = empty_back B C later }

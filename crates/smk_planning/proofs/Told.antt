@@ -1,6 +1,6 @@
 -- What a plan tells by its parts is so in the image with which they agree.
 use Rattle.std.proofs.Common.{◌≡◌, ℕ, suc, length, Bool, true, false, cond, ◌&&◌, ◌||◌, not, List, [], ◌∷◌, ◌++◌, map, Option, Some, None, refl, sym, ap, subst, ◌∙◌, bytes_eq}
-use Rattle.std.specs.Prelude.{if◌then◌else◌, zip, is_none, is_some}
+use Rattle.std.specs.Prelude.{if◌then◌else◌, zip, option_map, is_none, is_some}
 use Rattle.std.specs.List.{filter}
 use Rattle.smk_base.proofs.Places.{same_place}
 use Rattle.smk_world.specs.declared.event.Node.{Node}
@@ -9,6 +9,7 @@ use Rattle.smk_world.specs.Calls.{stat_of}
 use Rattle.smk_world.specs.Trees.{Path, Each, among, is_path_text}
 use Rattle.smk_record.specs.declared.record.Member.{Member}
 use Rattle.smk_record.specs.Records.{members_of}
+use Rattle.smk_store.specs.declared.store.Entry.{Entry}
 use Rattle.smk_store.specs.declared.store.Kept.{Kept}
 use Rattle.smk_store.specs.declared.store.Kept.TheVariants.{Absent, Unreadable, Held}
 use Rattle.smk_store.specs.Images.{Image, content_of, readable, stands, is_source}
@@ -19,7 +20,7 @@ use Rattle.smk_plan.specs.declared.seen.Sight.{Sight}
 use Rattle.smk_plan.specs.Sights.{IsSeenAs, IsSourceSeen}
 use Rattle.smk_plan.specs.States.{files_listed, test_some}
 use Rattle.smk_facts.specs.Facts.{told_sources}
-use Rattle.smk_planning.specs.Parts.{is_file_stat, is_file_in, is_source_in, later_flags, each_or, file_in, files_among, files_of_entry, files_in}
+use Rattle.smk_planning.specs.Parts.{is_file_stat, is_file_in, is_source_in, later_flags, each_or, file_in, files_among, files_kept, files_told, files_in}
 
 -- ## Sources
 
@@ -93,18 +94,19 @@ files_named (m ∷ members) =
     one true = refl
     one false = refl
 
-files_kept : (kept : Kept) (marked noted : Bool) →
-    files_of_entry (if stands kept || (marked || noted) then Some (record { kept = kept; marked = marked; noted = noted }) else None) ≡ files_among (members_of (readable kept))
-files_kept Absent true noted = refl
-files_kept Absent false true = refl
-files_kept Absent false false = refl
-files_kept Unreadable marked noted = refl
-files_kept (Held r) marked noted = refl
+files_of_entry : (kept : Kept) (marked noted : Bool) →
+    files_told (option_map (λ (e : Entry). e.kept) (if stands kept || (marked || noted) then Some (record { kept = kept; marked = marked; noted = noted }) else None)) ≡ files_kept kept
+files_of_entry Absent true noted = refl
+files_of_entry Absent false true = refl
+files_of_entry Absent false false = refl
+files_of_entry Unreadable marked noted = refl
+files_of_entry (Held r) marked noted = refl
 
 -- the listing of a directory by the store
 pub files_same : (image : Image) (store : List Known) → IsStoreOf image store → (d : Path) → files_in store d ≡ files_listed image d
 files_same image store s d =
-    ap files_of_entry (s.entries d) ∙ files_kept (image.kept d) (image.marked d) (image.noted d) ∙ files_named (members_of (readable (image.kept d)))
+    ap (λ e. files_told (option_map (λ (x : Entry). x.kept) e)) (s.entries d) ∙ files_of_entry (image.kept d) (image.marked d) (image.noted d)
+    ∙ files_named (members_of (readable (image.kept d)))
 
 -- ## Stamps
 

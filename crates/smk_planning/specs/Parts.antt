@@ -1,5 +1,5 @@
 -- The parts of a plan, by what the store has, what was seen and what is told of makers.
-use Rattle.std.specs.Prelude.{ℕ, Bool, true, false, ◌&&◌, ◌||◌, not, List, [], ◌∷◌, ◌++◌, map, filter, nat_lt, if◌then◌else◌, Option, Some, None, is_none}
+use Rattle.std.specs.Prelude.{ℕ, Bool, true, false, ◌&&◌, ◌||◌, not, List, [], ◌∷◌, ◌++◌, map, filter, nat_lt, if◌then◌else◌, Option, Some, None, option_map, is_none}
 use Rattle.std.specs.List.{flat_map}
 use denote.Ref.{Bor}
 use Rattle.smk_base.specs.declared.tree.Amount.{Amount}
@@ -13,6 +13,7 @@ use Rattle.smk_record.specs.declared.record.Member.{Member}
 use Rattle.smk_record.specs.Records.{members_of}
 use Rattle.smk_flow.specs.declared.job.Job.{Job}
 use Rattle.smk_store.specs.declared.store.Entry.{Entry}
+use Rattle.smk_store.specs.declared.store.Kept.{Kept}
 use Rattle.smk_store.specs.Images.{readable}
 use Rattle.smk_store.specs.Stores.{Known, entry_of, is_covered_in}
 use Rattle.smk_chain.specs.declared.jobs.Maker.{Maker}
@@ -79,11 +80,17 @@ above_in bounds j = flat_map (above_of j) bounds
 abbrev pub all_above : List Amount → List Job → List PlanFault
 all_above bounds jobs = flat_map (above_in bounds) jobs
 
--- all that is refused, but for commands, in order
-abbrev pub refusals_in : List Known → List Sight → Settings → List Path → List Job → List State → List PlanFault
-refusals_in store seen settings ran jobs states =
+-- the jobs whose child doesn't run, where each has the state that it had when it began, if its child runs
+abbrev pub idle_in : List Job → List (Option State) → List Job
+idle_in [] kept = []
+idle_in (j ∷ jobs) [] = []
+idle_in (j ∷ jobs) (k ∷ kept) = (if is_none k then j ∷ [] else []) ++ idle_in jobs kept
+
+-- all that is refused, but for commands, in order; the children of these `idle` ones don't run
+abbrev pub refusals_in : List Known → List Sight → Settings → List Path → List Job → List Job → List State → List PlanFault
+refusals_in store seen settings ran idle jobs states =
     let front = before_in (among ran) jobs states in
-    marked_in store settings.rerun_incomplete jobs ++ (guarded_in seen front ++ all_above settings.bounds front)
+    marked_in store settings.rerun_incomplete idle ++ (guarded_in seen front ++ all_above settings.bounds front)
 
 -- ## What is current
 
@@ -124,13 +131,17 @@ file_in m = if m.folder then [] else m.name ∷ []
 abbrev pub files_among : List Member → List Path
 files_among members = flat_map file_in members
 
-abbrev pub files_of_entry : Option Entry → List Path
-files_of_entry None = []
-files_of_entry (Some e) = files_among (members_of (readable e.kept))
+-- the files in the record that is kept
+abbrev pub files_kept : Kept → List Path
+files_kept kept = files_among (members_of (readable kept))
+
+abbrev pub files_told : Option Kept → List Path
+files_told None = []
+files_told (Some kept) = files_kept kept
 
 -- the files in the record of the directory
 abbrev pub files_in : List Known → Path → List Path
-files_in store d = files_of_entry (entry_of store d)
+files_in store d = files_told (option_map (λ (e : Entry). e.kept) (entry_of store d))
 
 abbrev pub listing_in : List Known → Path → Listed
 listing_in store d = record { folder = d; files = files_in store d }

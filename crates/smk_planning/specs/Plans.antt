@@ -1,7 +1,8 @@
 -- What a plan tells of an image of the folder, and what is refused of it.
-use Rattle.std.specs.Prelude.{◌≡◌, true, List, [], ◌∷◌, map}
-use Rattle.std.specs.List.{flat_map}
+use Rattle.std.specs.Prelude.{◌≡◌, true, Bool, not, List, [], ◌∷◌, map, filter, bytes_eq}
+use Rattle.std.specs.List.{flat_map, list_any}
 use Rattle.smk_world.specs.Trees.{Path, Each, among}
+use Rattle.smk_flow.specs.declared.job.Job.{Job}
 use Rattle.smk_flow.specs.Flows.{Flow, rule_name}
 use Rattle.smk_store.specs.Images.{Image, is_source}
 use Rattle.smk_store.specs.Stores.{Known}
@@ -14,7 +15,7 @@ use Rattle.smk_plan.specs.declared.fault.PlanFault.{PlanFault}
 use Rattle.smk_plan.specs.declared.fault.PlanFault.TheVariants as refused
 use Rattle.smk_plan.specs.declared.seen.Sight.{Sight}
 use Rattle.smk_plan.specs.Sights.{IsSeenOf}
-use Rattle.smk_plan.specs.States.{Plan, Progress, HasStates, is_current, new_listings}
+use Rattle.smk_plan.specs.States.{Plan, Progress, job_path, HasStates, is_current, new_listings}
 use Rattle.smk_report.specs.declared.fault.Fault.{Fault}
 use Rattle.smk_report.specs.declared.fault.Fault.TheVariants as fault
 use Rattle.smk_drive.specs.Moments.{Rules}
@@ -41,6 +42,14 @@ pub record Agree (image : Image) (jobs : Jobs) (store : List Known) (seen : List
   pub read : TellSources image jobs
   pub asked : TellTargets image jobs targets
 
+-- a child of the job runs
+abbrev pub runs_at : Progress → Job → Bool
+runs_at progress j = list_any (λ (e : Path × State). bytes_eq e.0 (job_path j)) progress.running
+
+-- those of the jobs whose child doesn't run
+abbrev pub idle_at : Progress → List Job → List Job
+idle_at progress jobs = filter (λ j. not (runs_at progress j)) jobs
+
 -- ## What a plan tells
 
 -- nothing is refused of the plan, but maybe of commands
@@ -49,13 +58,17 @@ pub record IsUnrefused (rules : Rules) (image : Image) (progress : Progress) (pl
   pub unguarded : guarded rules image progress plan ≡ []
   pub within : flat_map (above_limit rules image progress plan) (ahead rules image progress plan) ≡ []
 
--- Where these have begun and none runs: the states are those of the table, the targets are current and the listings have become known by them, and nothing is
--- refused of the plan.
-pub record HasMade (image : Image) (settings : Settings) (ran : List Path) (jobs : Jobs) (told : Told) : Type 0 where
-  pub states : HasStates image settings (having_run ran) (with_states jobs told.states)
-  pub current : told.current ≡ map (is_current image settings (having_run ran) (with_states jobs told.states)) settings.targets
-  pub known : told.known ≡ new_listings image settings (having_run ran) (with_states jobs told.states)
-  pub unrefused : (rules : Rules) → rules.settings ≡ settings → IsUnrefused rules image (having_run ran) (with_states jobs told.states)
+-- Where so much has been done: the states are those of the table, the targets are current and the listings have become known by them, and nothing is refused of
+-- the plan.
+pub record HasMadeAt (image : Image) (settings : Settings) (progress : Progress) (jobs : Jobs) (told : Told) : Type 0 where
+  pub states : HasStates image settings progress (with_states jobs told.states)
+  pub current : told.current ≡ map (is_current image settings progress (with_states jobs told.states)) settings.targets
+  pub known : told.known ≡ new_listings image settings progress (with_states jobs told.states)
+  pub unrefused : (rules : Rules) → rules.settings ≡ settings → IsUnrefused rules image progress (with_states jobs told.states)
+
+-- the same where these have begun and none runs
+abbrev pub HasMade : Image → Settings → List Path → Jobs → Told → Type 0
+HasMade image settings ran jobs told = HasMadeAt image settings (having_run ran) jobs told
 
 -- ## What is refused
 
@@ -66,10 +79,14 @@ fault_in flow (refused.Protected p) = fault.Protected p
 fault_in flow (refused.AboveLimit rule p name asked bound) = fault.AboveLimit (rule_name flow rule) p name asked bound
 fault_in flow refused.OutOfMemory = fault.OutOfMemory
 
--- Where these have begun and none runs, the plan whose states are those of the table is refused, and this is the first refusal.
-pub record IsRefused (image : Image) (settings : Settings) (ran : List Path) (jobs : Jobs) (told : PlanFault) : Type 0 where
+-- Where so much has been done, the plan whose states are those of the table is refused, and this is the first refusal.
+pub record IsRefusedAt (image : Image) (settings : Settings) (progress : Progress) (jobs : Jobs) (told : PlanFault) : Type 0 where
   pub states : List State
-  pub table : HasStates image settings (having_run ran) (with_states jobs states)
+  pub table : HasStates image settings progress (with_states jobs states)
   pub first :
       (rules : Rules) → rules.settings ≡ settings →
-      (rest : List Fault) × (refused_of rules image (having_run ran) (with_states jobs states) ≡ fault_in rules.flow told ∷ rest)
+      (rest : List Fault) × (refused_of rules image progress (with_states jobs states) ≡ fault_in rules.flow told ∷ rest)
+
+-- the same where these have begun and none runs
+abbrev pub IsRefused : Image → Settings → List Path → Jobs → PlanFault → Type 0
+IsRefused image settings ran jobs told = IsRefusedAt image settings (having_run ran) jobs told

@@ -10,17 +10,16 @@ ghost use Rattle.smk_planning.specs.Parts.{is_file_in, is_source_in, first_flag,
 use crate::sets::sources_of;
 use smk_base::{List, OutOfMemory, PathText};
 use smk_chain::Maker;
-use smk_plan::Seen;
-use smk_store::Store;
+use smk_told::Told;
 use smk_world::Stat;
 use std::alloc::Global;
 use std::collections::BTreeSet;
 
 // Whether a file was seen at the path.
-fn is_file(seen: &Seen, path: &PathText) -> bool
-    ensures { result ≡ is_file_in seen.now path.now }
+fn is_file<T: Told>(told: &T, path: &PathText) -> bool
+    ensures { result ≡ is_file_in (T.seen told.now) path.now }
 {
-    match seen.sight(path) {
+    match told.sight(path) {
         Some(sight) => matches!(sight.stat, Stat::File { .. }),
         None => false,
     }
@@ -35,10 +34,23 @@ fn text_of(path: &PathText) -> &str
 }
 
 // Whether the path is one of these, a file was seen there, and nothing covers it.
-fn is_source(sources: &BTreeSet<String>, store: &Store, seen: &Seen, path: &PathText) -> bool
-    ensures { result ≡ (contains_text sources.now path.now && (is_path_text path.now && (is_file_in seen.now path.now && not (is_covered_in store.now path.now)))) }
+fn is_source<T: Told>(
+    alloc: Global,
+    sources: &BTreeSet<String>,
+    told: &T,
+    path: &PathText,
+) -> Result<bool, OutOfMemory>
+    ensures { IfOk result (λ found. found ≡ (contains_text sources.now path.now
+        && (is_path_text path.now && (is_file_in (T.seen told.now) path.now && not (is_covered_in (T.known told.now) path.now))))) }
 {
-    sources.contains(text_of(path)) && (is_file(seen, path) && !store.covered(path))
+    if !sources.contains(text_of(path)) {
+        return Ok(false);
+    }
+    if !is_file(told, path) {
+        return Ok(false);
+    }
+    let is_covered = told.covered(alloc, path)?;
+    Ok(!is_covered)
 }
 
 // The first of the flags, false where there is none, and those after it.
@@ -53,44 +65,37 @@ fn next_flag(flags: &[bool]) -> (bool, &[bool])
 }
 
 // For each target whether it is one of the sources or is ready.
-fn either(
+fn either<T: Told>(
     alloc: Global,
     sources: &BTreeSet<String>,
-    store: &Store,
-    seen: &Seen,
+    told: &T,
     targets: &[PathText],
     ready: &[bool],
 ) -> Result<List<bool>, OutOfMemory>
-    ensures { IfOk result (λ found. found ≡ each_or (λ t. contains_text sources.now t && (is_path_text t && (is_file_in seen.now t && not (is_covered_in store.now t)))) targets.now ready.now) }
+    ensures { IfOk result (λ found. found ≡ each_or
+        (λ t. contains_text sources.now t && (is_path_text t && (is_file_in (T.seen told.now) t && not (is_covered_in (T.known told.now) t)))) targets.now ready.now) }
 {
     let mut found = List::new(alloc);
     let mut rest = ready;
     for target in targets {
         let (is_ready, later) = next_flag(rest);
-        found.push(is_source(sources, store, seen, target) || is_ready)?;
+        let is_source = is_source(alloc, sources, told, target)?;
+        found.push(is_source || is_ready)?;
         rest = later;
     }
     Ok(found)
 }
 
 /// For each target whether it is a source, or ready.
-pub(crate) fn current(
+pub(crate) fn current<T: Told>(
     alloc: Global,
     makers: &List<Maker>,
-    store: &Store,
-    seen: &Seen,
+    told: &T,
     targets: &List<PathText>,
     ready: &List<bool>,
 ) -> Result<List<bool>, OutOfMemory>
-    ensures { IfOk result (λ found. found ≡ each_or (is_source_in makers.now store.now seen.now) targets.now ready.now) }
+    ensures { IfOk result (λ found. found ≡ each_or (is_source_in makers.now (T.known told.now) (T.seen told.now)) targets.now ready.now) }
 {
     let sources = sources_of(alloc, makers.as_slice())?;
-    either(
-        alloc,
-        &sources,
-        store,
-        seen,
-        targets.as_slice(),
-        ready.as_slice(),
-    )
+    either(alloc, &sources, told, targets.as_slice(), ready.as_slice())
 }

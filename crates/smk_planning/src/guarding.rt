@@ -5,24 +5,24 @@ ghost use Rattle.smk_world.specs.Trees.{first};
 ghost use Rattle.smk_planning.specs.Parts.{shown, is_guarded_in};
 
 use smk_base::PathText;
-use smk_plan::Seen;
+use smk_told::Told;
 
 // Whether a read-only file was seen at the path or under it.
-fn is_guarded(seen: &Seen, path: &PathText) -> bool
-    ensures { result ≡ is_guarded_in seen.now path.now }
+fn is_guarded<T: Told>(told: &T, path: &PathText) -> bool
+    ensures { result ≡ is_guarded_in (T.seen told.now) path.now }
 {
-    match seen.sight(path) {
+    match told.sight(path) {
         Some(sight) => sight.guarded,
         None => false,
     }
 }
 
 /// The first of these paths at or under which a read-only file was seen.
-pub(crate) fn first_guarded<'p>(seen: &Seen, paths: &[&'p PathText]) -> Option<&'p PathText>
-    ensures { option_map (λ p. p.now) result ≡ first (filter (is_guarded_in seen.now) (shown paths.now)) }
+pub(crate) fn first_guarded<'p, T: Told>(told: &T, paths: &[&'p PathText]) -> Option<&'p PathText>
+    ensures { option_map (λ p. p.now) result ≡ first (filter (is_guarded_in (T.seen told.now)) (shown paths.now)) }
 {
     for path in paths {
-        if is_guarded(seen, path) {
+        if is_guarded(told, path) {
             return Some(path);
         }
     }

@@ -5,6 +5,7 @@ ghost use Rattle.smk_planning.specs.Laws.{LinkedTellTargets};
 
 mod current;
 mod guarding;
+mod judging;
 mod listings;
 mod marking;
 mod outputs;
@@ -13,7 +14,7 @@ mod refusing;
 mod room;
 mod sets;
 
-pub use planning::plan;
+pub use planning::{plan, plan_now};
 
 /// The law that derived jobs tell of each target that is a source.
 pub fn targets_are_told()

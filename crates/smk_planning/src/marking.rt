@@ -4,18 +4,8 @@ ghost use Rattle.std.specs.Prelude.{◌≡◌, ◌++◌, ◌∷◌, [], filter, 
 ghost use Rattle.smk_planning.specs.Parts.{shown, is_marked_in};
 
 use smk_base::{List, OutOfMemory, PathText};
-use smk_store::Store;
+use smk_told::Told;
 use std::alloc::Global;
-
-// Whether the path has a mark.
-fn is_marked(store: &Store, path: &PathText) -> bool
-    ensures { result ≡ is_marked_in store.now path.now }
-{
-    match store.entry(path) {
-        Some(entry) => entry.marked,
-        None => false,
-    }
-}
 
 // Adds a copy of the path where this holds.
 fn push_if(
@@ -34,16 +24,16 @@ fn push_if(
 }
 
 /// Those of these paths that have a mark, in order.
-pub(crate) fn marked_among(
+pub(crate) fn marked_among<T: Told>(
     alloc: Global,
-    store: &Store,
+    told: &T,
     paths: &[&PathText],
 ) -> Result<List<PathText>, OutOfMemory>
-    ensures { IfOk result (λ found. found ≡ filter (is_marked_in store.now) (shown paths.now)) }
+    ensures { IfOk result (λ found. found ≡ filter (is_marked_in (T.known told.now)) (shown paths.now)) }
 {
     let mut found = List::new(alloc);
     for path in paths {
-        let holds = is_marked(store, path);
+        let holds = told.marked(path);
         push_if(alloc, &mut found, holds, path)?;
     }
     Ok(found)

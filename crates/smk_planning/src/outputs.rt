@@ -34,20 +34,6 @@ fn push_items<'j>(found: &mut Vec<&'j PathText>, items: &'j [OutItem]) -> Result
 /// The outputs of these jobs, in order.
 pub(crate) fn outputs_of<'j>(
     alloc: Global,
-    jobs: &'j [Job],
-) -> Result<Vec<&'j PathText>, OutOfMemory>
-    ensures { IfOk result (λ found. shown found.items ≡ outputs_of jobs.now) }
-{
-    let mut found = Vec::new(alloc);
-    for job in jobs {
-        push_items(&mut found, job.recipe.outputs.as_slice())?;
-    }
-    Ok(found)
-}
-
-/// The same of jobs that are lent one by one.
-pub(crate) fn outputs_of_each<'j>(
-    alloc: Global,
     jobs: &[&'j Job],
 ) -> Result<Vec<&'j PathText>, OutOfMemory>
     ensures { IfOk result (λ found. shown found.items ≡ outputs_of (shown jobs.now)) }

@@ -1,83 +1,78 @@
 //! A plan of derived jobs.
 
-ghost use Rattle.std.specs.Prelude.{◌≡◌, ◌≢◌, map, length, IfOk, IfErr};
+ghost use Rattle.std.specs.Prelude.{◌≡◌, ◌≢◌, List as Items, map, length, IfOk, IfErr};
+ghost use Rattle.smk_world.specs.Trees.{Path};
 ghost use Rattle.smk_store.specs.Images.{Image};
+ghost use Rattle.smk_pick.specs.declared.settings.Settings.{Settings as Asked};
 ghost use Rattle.smk_plan.specs.States.{Progress, HasStates, is_current, new_listings};
 ghost use Rattle.smk_plan.specs.Sights.{wholes_of};
-ghost use Rattle.smk_facts.specs.Facts.{having_run};
-ghost use Rattle.smk_states.specs.Judged.{with_states};
-ghost use Rattle.smk_planning.specs.Plans.{Agree, HasMade, IsRefused};
+ghost use Rattle.smk_plan.specs.declared.wholes.Wholes.{Wholes as WholesValue};
+ghost use Rattle.smk_states.specs.Tables.{IsTableOf};
+ghost use Rattle.smk_states.specs.Served.{AreServed};
+ghost use Rattle.smk_states.specs.Judged.{with_states, AreJudgedNow};
+ghost use Rattle.smk_planning.specs.Parts.{shown, idle_in};
+ghost use Rattle.smk_planning.specs.Plans.{Agree, idle_at, HasMade, HasMadeAt, IsRefused, IsRefusedAt};
 
 use crate::current::current;
+use crate::judging::{Judged, judge};
 use crate::listings::listings_of;
-use crate::refusing::first_refusal;
+use crate::refusing::{first_refusal, idle_among};
 use smk_base::{List, OutOfMemory, PathText};
 use smk_chain::Jobs;
-use smk_facts::{facts, wholes};
+use smk_flow::Job;
 use smk_pick::Settings;
 use smk_plan::{Plan, PlanFault, Seen, Wholes};
-use smk_states::{newly_ready, ready_targets, states};
+use smk_states::Table;
 use smk_store::Store;
-use smk_trigger::{JobFacts, Plain, State, all_reasons};
+use smk_told::{Loaded, Told};
+use smk_trigger::{Reason, State};
 use std::alloc::Global;
 use std::thread::Threads;
 
-// Which jobs are forced.
-fn forced_of(alloc: Global, facts: &[JobFacts]) -> Result<List<bool>, OutOfMemory>
-    ensures { IfOk result (λ found. found ≡ map (λ f. f.forced) facts.now) }
-{
-    let mut found = List::new(alloc);
-    for one in facts {
-        found.push(one.forced)?;
-    }
-    Ok(found)
-}
-
-// The states of the jobs, and what is whole.
-fn states_of<Rt: Threads + Sync>(
-    rt: &Rt,
+// The jobs whose child doesn't run, and the states of all.
+fn idle_and_states<'j>(
     alloc: Global,
-    jobs: &Jobs,
-    store: &Store,
-    seen: &Seen,
-    settings: &Settings,
-    ran: &List<PathText>,
-) -> Result<(List<State>, Wholes), OutOfMemory>
-    ensures each { IfOk result (λ made. length made.0 ≡ length jobs.now.jobs) }
-    ensures states { IfOk result (λ made. (image : Image) → Agree image jobs.now store.now seen.now settings.now.targets
-        → HasStates image settings.now (having_run ran.now) (with_states jobs.now made.0)) }
-    ensures wholes { IfOk result (λ made. (image : Image) → Agree image jobs.now store.now seen.now settings.now.targets → made.1 ≡ wholes_of image jobs.now) }
+    jobs: &'j Jobs,
+    table: &Table<'_>,
+    reasons: List<List<Reason>>,
+    forced: &List<bool>,
+    running: List<Option<State>>,
+) -> Result<(Vec<&'j Job>, List<State>), OutOfMemory>
+    ensures each { IfOk result (λ made. (targets : Items Path) (wholes : WholesValue) → IsTableOf jobs.now targets wholes table.now → length made.1 ≡ length jobs.now.jobs) }
+    ensures idle { IfOk result (λ made. shown made.0.items ≡ idle_in jobs.now.jobs running) }
+    ensures states { IfOk result (λ made. (image : Image) (settings : Asked) (progress : Progress) (wholes : WholesValue)
+        → IsTableOf jobs.now settings.targets wholes table.now → AreServed jobs.now settings.targets
+        → AreJudgedNow image settings progress jobs.now reasons forced.now wholes running
+        → HasStates image settings progress (with_states jobs.now made.1)) }
 {
-    let judged = facts(alloc, jobs, store, seen, settings, ran)?;
-    let whole = wholes(alloc, jobs, store, seen)?;
-    let reasons = all_reasons(rt, alloc, &judged, &Plain)?;
-    let forced = forced_of(alloc, judged.as_slice())?;
-    let made = states(alloc, jobs, &settings.targets, reasons, &forced, &whole)?;
-    Ok((made, whole))
+    let idle = idle_among(alloc, jobs.jobs.as_slice(), running.as_slice())?;
+    let states = table.states(alloc, reasons, forced, running)?;
+    Ok((idle, states))
 }
 
 // What a plan tells of jobs of these states.
-fn told(
+fn tell<T: Told>(
     alloc: Global,
     jobs: &Jobs,
-    store: &Store,
-    seen: &Seen,
+    table: &Table<'_>,
+    told: &T,
     settings: &Settings,
     states: List<State>,
-    wholes: &Wholes,
 ) -> Result<Plan, OutOfMemory>
     requires each { length states ≡ length jobs.now.jobs }
     ensures targets { IfOk result (λ made. length made.current ≡ length settings.now.targets) }
     ensures states { IfOk result (λ made. made.states ≡ states) }
-    ensures current { IfOk result (λ made. (image : Image) (progress : Progress) → Agree image jobs.now store.now seen.now settings.now.targets → wholes.now ≡ wholes_of image jobs.now
+    ensures current { IfOk result (λ made. (image : Image) (progress : Progress) (wholes : WholesValue) → IsTableOf jobs.now settings.now.targets wholes table.now
+        → Agree image jobs.now (T.known told.now) (T.seen told.now) settings.now.targets → wholes ≡ wholes_of image jobs.now
         → made.current ≡ map (is_current image settings.now progress (with_states jobs.now states)) settings.now.targets) }
-    ensures known { IfOk result (λ made. (image : Image) (progress : Progress) → Agree image jobs.now store.now seen.now settings.now.targets → wholes.now ≡ wholes_of image jobs.now
+    ensures known { IfOk result (λ made. (image : Image) (progress : Progress) (wholes : WholesValue) → IsTableOf jobs.now settings.now.targets wholes table.now
+        → Agree image jobs.now (T.known told.now) (T.seen told.now) settings.now.targets → wholes ≡ wholes_of image jobs.now
         → made.known ≡ new_listings image settings.now progress (with_states jobs.now states)) }
 {
-    let ready = ready_targets(alloc, jobs, &settings.targets, wholes, &states)?;
-    let folders = newly_ready(alloc, jobs, &settings.targets, wholes, &states)?;
-    let are_current = current(alloc, &jobs.makers, store, seen, &settings.targets, &ready)?;
-    let known = listings_of(alloc, store, folders.as_slice())?;
+    let ready = table.ready_targets(alloc, &states)?;
+    let folders = table.newly_ready(alloc, &states)?;
+    let are_current = current(alloc, &jobs.makers, told, &settings.targets, &ready)?;
+    let known = listings_of(alloc, told, folders.as_slice())?;
     Ok(Plan {
         states,
         current: are_current,
@@ -85,32 +80,111 @@ fn told(
     })
 }
 
-// The plan of jobs of these states, or the first thing that is refused of it.
-fn plan_by(
+// The plan of jobs of these states, or the first thing that is refused of it; the children of `idle` don't run.
+fn plan_by<T: Told>(
     alloc: Global,
     jobs: &Jobs,
-    store: &Store,
-    seen: &Seen,
+    table: &Table<'_>,
+    idle: &[&Job],
+    told: &T,
     settings: &Settings,
     ran: &List<PathText>,
     states: List<State>,
-    wholes: &Wholes,
 ) -> Result<Plan, PlanFault>
     requires each { length states ≡ length jobs.now.jobs }
     ensures targets { IfOk result (λ made. length made.current ≡ length settings.now.targets) }
     ensures states { IfOk result (λ made. made.states ≡ states) }
-    ensures made { IfOk result (λ made. (image : Image) → Agree image jobs.now store.now seen.now settings.now.targets → wholes.now ≡ wholes_of image jobs.now
-        → HasStates image settings.now (having_run ran.now) (with_states jobs.now states) → HasMade image settings.now ran.now jobs.now made) }
-    ensures refused { IfErr result (λ fault. fault ≢ PlanFault.OutOfMemory → (image : Image) → Agree image jobs.now store.now seen.now settings.now.targets
-        → HasStates image settings.now (having_run ran.now) (with_states jobs.now states) → IsRefused image settings.now ran.now jobs.now fault) }
+    ensures made { IfOk result (λ made. (image : Image) (progress : Progress) (wholes : WholesValue) → IsTableOf jobs.now settings.now.targets wholes table.now
+        → progress.begun ≡ ran.now → Agree image jobs.now (T.known told.now) (T.seen told.now) settings.now.targets
+        → wholes ≡ wholes_of image jobs.now → shown idle.now ≡ idle_at progress jobs.now.jobs
+        → HasStates image settings.now progress (with_states jobs.now states) → HasMadeAt image settings.now progress jobs.now made) }
+    ensures refused { IfErr result (λ fault. fault ≢ PlanFault.OutOfMemory → (image : Image) (progress : Progress) → progress.begun ≡ ran.now
+        → Agree image jobs.now (T.known told.now) (T.seen told.now) settings.now.targets → shown idle.now ≡ idle_at progress jobs.now.jobs
+        → HasStates image settings.now progress (with_states jobs.now states) → IsRefusedAt image settings.now progress jobs.now fault) }
 {
-    match first_refusal(alloc, &jobs.jobs, &states, store, seen, settings, ran) {
+    match first_refusal(alloc, &jobs.jobs, idle, &states, told, settings, ran) {
         Err(_) => Err(PlanFault::OutOfMemory),
         Ok(Some(fault)) => Err(fault),
-        Ok(None) => match told(alloc, jobs, store, seen, settings, states, wholes) {
+        Ok(None) => match tell(alloc, jobs, table, told, settings, states) {
             Err(_) => Err(PlanFault::OutOfMemory),
             Ok(made) => Ok(made),
         },
+    }
+}
+
+// The same by a table of the jobs and targets.
+fn plan_of<T: Told>(
+    alloc: Global,
+    jobs: &Jobs,
+    table: &Table<'_>,
+    told: &T,
+    settings: &Settings,
+    reasons: List<List<Reason>>,
+    forced: &List<bool>,
+    ran: &List<PathText>,
+    running: List<Option<State>>,
+) -> Result<Plan, PlanFault>
+    requires table { (wholes : WholesValue) × IsTableOf jobs.now settings.now.targets wholes table.now }
+    ensures each { IfOk result (λ made. length made.states ≡ length jobs.now.jobs) }
+    ensures targets { IfOk result (λ made. length made.current ≡ length settings.now.targets) }
+    ensures made { IfOk result (λ made. (image : Image) (progress : Progress) (wholes : WholesValue) → IsTableOf jobs.now settings.now.targets wholes table.now
+        → progress.begun ≡ ran.now → Agree image jobs.now (T.known told.now) (T.seen told.now) settings.now.targets
+        → AreJudgedNow image settings.now progress jobs.now reasons forced.now wholes running → HasMadeAt image settings.now progress jobs.now made) }
+    ensures refused { IfErr result (λ fault. fault ≢ PlanFault.OutOfMemory → (image : Image) (progress : Progress) (wholes : WholesValue)
+        → IsTableOf jobs.now settings.now.targets wholes table.now → progress.begun ≡ ran.now
+        → Agree image jobs.now (T.known told.now) (T.seen told.now) settings.now.targets
+        → AreJudgedNow image settings.now progress jobs.now reasons forced.now wholes running → IsRefusedAt image settings.now progress jobs.now fault) }
+{
+    match idle_and_states(alloc, jobs, table, reasons, forced, running) {
+        Err(_) => Err(PlanFault::OutOfMemory),
+        Ok((idle, states)) => plan_by(
+            alloc,
+            jobs,
+            table,
+            idle.as_slice(),
+            told,
+            settings,
+            ran,
+            states,
+        ),
+    }
+}
+
+/// The plan of these jobs at any moment, by what is told of paths then: their states, which targets are current, and the listings that have become known
+/// besides those with which the jobs were derived. The jobs with the first outputs `ran` have begun in this run.
+///
+/// `reasons` has for each job its reasons but for the inputs whose job is Dirty, with Forced at the end where it is forced; `forced` tells which jobs are
+/// forced; `wholes` what is whole. `running` has for each job the state that it had when it began, if its child runs. What is told, and what these and the
+/// makers of the jobs say, is so in one image of the folder.
+///
+/// The fault is the first thing that is refused: all marked outputs of jobs whose child doesn't run, unless incomplete jobs are to be run again; the first
+/// read-only file in the way of a job that is to run and hasn't begun; the first such job that asks more of a resource than its bound, with the first such
+/// bound. `OutOfMemory` where there is no memory for the plan, or where the last of these can't be told: no number of 64 bits tells how much is asked, or the
+/// job has no output to be named by. The time is near linear in the jobs, their inputs, outputs and makers and the targets.
+pub fn plan_now<T: Told>(
+    alloc: Global,
+    jobs: &Jobs,
+    told: &T,
+    settings: &Settings,
+    reasons: List<List<Reason>>,
+    forced: &List<bool>,
+    wholes: &Wholes,
+    ran: &List<PathText>,
+    running: List<Option<State>>,
+) -> Result<Plan, PlanFault>
+    ensures each { IfOk result (λ made. length made.states ≡ length jobs.now.jobs) }
+    ensures targets { IfOk result (λ made. length made.current ≡ length settings.now.targets) }
+    ensures made { IfOk result (λ made. (image : Image) (progress : Progress) → progress.begun ≡ ran.now → Agree image jobs.now (T.known told.now) (T.seen told.now) settings.now.targets
+        → AreJudgedNow image settings.now progress jobs.now reasons forced.now wholes.now running → HasMadeAt image settings.now progress jobs.now made) }
+    ensures refused { IfErr result (λ fault. fault ≢ PlanFault.OutOfMemory → (image : Image) (progress : Progress) → progress.begun ≡ ran.now
+        → Agree image jobs.now (T.known told.now) (T.seen told.now) settings.now.targets
+        → AreJudgedNow image settings.now progress jobs.now reasons forced.now wholes.now running → IsRefusedAt image settings.now progress jobs.now fault) }
+{
+    match Table::of(alloc, jobs, &settings.targets, wholes) {
+        Err(_) => Err(PlanFault::OutOfMemory),
+        Ok(table) => plan_of(
+            alloc, jobs, &table, told, settings, reasons, forced, ran, running,
+        ),
     }
 }
 
@@ -140,8 +214,19 @@ pub fn plan<Rt: Threads + Sync>(
     ensures refused { IfErr result (λ fault. fault ≢ PlanFault.OutOfMemory → (image : Image) → Agree image jobs.now store.now seen.now settings.now.targets
         → IsRefused image settings.now ran.now jobs.now fault) }
 {
-    match states_of(rt, alloc, jobs, store, seen, settings, ran) {
+    match judge(rt, alloc, jobs, store, seen, settings, ran) {
         Err(_) => Err(PlanFault::OutOfMemory),
-        Ok((states, whole)) => plan_by(alloc, jobs, store, seen, settings, ran, states, &whole),
+        Ok(judged) => {
+            let Judged {
+                reasons,
+                forced,
+                wholes,
+                running,
+            } = judged;
+            let told = Loaded { store, seen };
+            plan_now(
+                alloc, jobs, &told, settings, reasons, &forced, &wholes, ran, running,
+            )
+        }
     }
 }

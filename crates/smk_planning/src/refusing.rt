@@ -1,22 +1,22 @@
 //! What is refused of a plan first.
 
-ghost use Rattle.std.specs.Prelude.{◌≡◌, ◌&&◌, ◌++◌, ◌∷◌, [], not, map, zip, filter, IfOk, OnOk, if◌then◌else◌};
+ghost use Rattle.std.specs.Prelude.{◌≡◌, ◌&&◌, ◌++◌, ◌∷◌, [], not, is_none, map, zip, filter, IfOk, OnOk, if◌then◌else◌};
 ghost use Rattle.std.specs.BTreeSet.{contains_text};
 ghost use Rattle.smk_world.specs.Trees.{Path, among, first};
 ghost use Rattle.smk_trigger.specs.JobStates.{is_to_run};
 ghost use Rattle.smk_plan.specs.States.{job_path};
-ghost use Rattle.smk_planning.specs.Parts.{shown, is_before, before_in, marked_in, guarded_in, all_above, refusals_in};
+ghost use Rattle.smk_planning.specs.Parts.{shown, is_before, before_in, idle_in, marked_in, guarded_in, all_above, refusals_in};
 
 use crate::guarding::first_guarded;
 use crate::marking::marked_among;
-use crate::outputs::{first_output, outputs_of, outputs_of_each};
+use crate::outputs::{first_output, outputs_of};
 use crate::room::first_above;
 use crate::sets::set_of;
 use smk_base::{List, OutOfMemory, PathText};
 use smk_flow::Job;
 use smk_pick::Settings;
-use smk_plan::{PlanFault, Seen};
-use smk_store::Store;
+use smk_plan::PlanFault;
+use smk_told::Told;
 use smk_trigger::State;
 use std::alloc::Global;
 use std::collections::BTreeSet;
@@ -88,20 +88,40 @@ fn ahead<'j>(
     ahead_by(alloc, jobs, states, &begun)
 }
 
-// All marked outputs, unless incomplete jobs are to be run again.
-fn incomplete(
+/// Those of the jobs whose child doesn't run, in order. `running` has for each job the state that it had when it began, if its child runs.
+pub(crate) fn idle_among<'j>(
     alloc: Global,
-    jobs: &[Job],
-    store: &Store,
+    jobs: &'j [Job],
+    running: &[Option<State>],
+) -> Result<Vec<&'j Job>, OutOfMemory>
+    ensures { IfOk result (λ found. shown found.items ≡ idle_in jobs.now running.now) }
+{
+    let mut found = Vec::new(alloc);
+    let mut rest = running;
+    for job in jobs {
+        let Some((kept, more)) = rest.split_first() else {
+            return Ok(found);
+        };
+        push_if(&mut found, kept.is_none(), job)?;
+        rest = more;
+    }
+    Ok(found)
+}
+
+// All marked outputs of these jobs, unless incomplete jobs are to be run again.
+fn incomplete<T: Told>(
+    alloc: Global,
+    jobs: &[&Job],
+    told: &T,
     rerun: bool,
 ) -> Result<Option<PlanFault>, OutOfMemory>
-    ensures { IfOk result (λ found. found ≡ first (marked_in store.now rerun jobs.now)) }
+    ensures { IfOk result (λ found. found ≡ first (marked_in (T.known told.now) rerun (shown jobs.now))) }
 {
     if rerun {
         return Ok(None);
     }
     let outputs = outputs_of(alloc, jobs)?;
-    let paths = marked_among(alloc, store, outputs.as_slice())?;
+    let paths = marked_among(alloc, told, outputs.as_slice())?;
     if paths.is_empty() {
         return Ok(None);
     }
@@ -109,11 +129,15 @@ fn incomplete(
 }
 
 // The first read-only file in the way of one of these jobs.
-fn protected(alloc: Global, jobs: &[&Job], seen: &Seen) -> Result<Option<PlanFault>, OutOfMemory>
-    ensures { IfOk result (λ found. found ≡ first (guarded_in seen.now (shown jobs.now))) }
+fn protected<T: Told>(
+    alloc: Global,
+    jobs: &[&Job],
+    told: &T,
+) -> Result<Option<PlanFault>, OutOfMemory>
+    ensures { IfOk result (λ found. found ≡ first (guarded_in (T.seen told.now) (shown jobs.now))) }
 {
-    let outputs = outputs_of_each(alloc, jobs)?;
-    match first_guarded(seen, outputs.as_slice()) {
+    let outputs = outputs_of(alloc, jobs)?;
+    match first_guarded(told, outputs.as_slice()) {
         None => Ok(None),
         Some(path) => Ok(Some(PlanFault::Protected {
             path: path.copy(alloc)?,
@@ -122,55 +146,55 @@ fn protected(alloc: Global, jobs: &[&Job], seen: &Seen) -> Result<Option<PlanFau
 }
 
 // The first thing that is refused of jobs that have to run.
-fn refused_ahead(
+fn refused_ahead<T: Told>(
     alloc: Global,
     jobs: &[&Job],
-    seen: &Seen,
+    told: &T,
     settings: &Settings,
 ) -> Result<Option<PlanFault>, OutOfMemory>
-    ensures { IfOk result (λ found. found ≡ first (guarded_in seen.now (shown jobs.now) ++ all_above settings.now.bounds (shown jobs.now))) }
+    ensures { IfOk result (λ found. found ≡ first (guarded_in (T.seen told.now) (shown jobs.now) ++ all_above settings.now.bounds (shown jobs.now))) }
 {
-    match protected(alloc, jobs, seen)? {
+    match protected(alloc, jobs, told)? {
         Some(fault) => Ok(Some(fault)),
         None => first_above(alloc, jobs, &settings.bounds),
     }
 }
 
 // The first thing that is refused of those jobs that have to run and haven't begun.
-fn refused_to_run(
+fn refused_to_run<T: Told>(
     alloc: Global,
     jobs: &[Job],
     states: &[State],
-    seen: &Seen,
+    told: &T,
     settings: &Settings,
     ran: &[PathText],
 ) -> Result<Option<PlanFault>, OutOfMemory>
-    ensures { IfOk result (λ found. found ≡ first (guarded_in seen.now (before_in (among ran.now) jobs.now states.now)
+    ensures { IfOk result (λ found. found ≡ first (guarded_in (T.seen told.now) (before_in (among ran.now) jobs.now states.now)
         ++ all_above settings.now.bounds (before_in (among ran.now) jobs.now states.now))) }
 {
     let front = ahead(alloc, jobs, states, ran)?;
-    refused_ahead(alloc, front.as_slice(), seen, settings)
+    refused_ahead(alloc, front.as_slice(), told, settings)
 }
 
-/// The first thing that is refused of jobs of these states, of which those with the first outputs `ran` have begun.
-pub(crate) fn first_refusal(
+/// The first thing that is refused of jobs of these states, of which those with the first outputs `ran` have begun; the children of `idle` don't run.
+pub(crate) fn first_refusal<T: Told>(
     alloc: Global,
     jobs: &List<Job>,
+    idle: &[&Job],
     states: &List<State>,
-    store: &Store,
-    seen: &Seen,
+    told: &T,
     settings: &Settings,
     ran: &List<PathText>,
 ) -> Result<Option<PlanFault>, OutOfMemory>
-    ensures { IfOk result (λ found. found ≡ first (refusals_in store.now seen.now settings.now ran.now jobs.now states.now)) }
+    ensures { IfOk result (λ found. found ≡ first (refusals_in (T.known told.now) (T.seen told.now) settings.now ran.now (shown idle.now) jobs.now states.now)) }
 {
-    match incomplete(alloc, jobs.as_slice(), store, settings.rerun_incomplete)? {
+    match incomplete(alloc, idle, told, settings.rerun_incomplete)? {
         Some(fault) => Ok(Some(fault)),
         None => refused_to_run(
             alloc,
             jobs.as_slice(),
             states.as_slice(),
-            seen,
+            told,
             settings,
             ran.as_slice(),
         ),

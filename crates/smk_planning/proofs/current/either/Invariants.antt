@@ -6,7 +6,7 @@ use Rattle.smk_planning.specs.Parts.{is_file_in, each_or}
 use Rattle.smk_planning.proofs.current.either.Given as goal
 
 abbrev pub invariant-loop-target : goal.invariant-loop-target
-invariant-loop-target l =
+invariant-loop-target g l =
     l.found
-    ++ each_or (λ (t : List ℕ). contains_text l.sources t && (is_path_text t && (is_file_in l.seen t && not (is_covered_in l.store t)))) (drop l.target-index l.targets) l.rest
-    ≡ each_or (λ (t : List ℕ). contains_text l.sources t && (is_path_text t && (is_file_in l.seen t && not (is_covered_in l.store t)))) l.targets l.ready
+    ++ each_or (λ (t : List ℕ). contains_text l.sources t && (is_path_text t && (is_file_in (g.T.Told.seen l.told) t && not (is_covered_in (g.T.Told.known l.told) t)))) (drop l.target-index l.targets) l.rest
+    ≡ each_or (λ (t : List ℕ). contains_text l.sources t && (is_path_text t && (is_file_in (g.T.Told.seen l.told) t && not (is_covered_in (g.T.Told.known l.told) t)))) l.targets l.ready

@@ -5,4 +5,5 @@ use Rattle.smk_planning.specs.Parts.{shown, is_guarded_in}
 use Rattle.smk_planning.proofs.guarding.first_guarded.Given as goal
 
 abbrev pub invariant-loop-path : goal.invariant-loop-path
-invariant-loop-path l = first (filter (is_guarded_in l.seen) (shown l.paths)) ≡ first (filter (is_guarded_in l.seen) (shown (drop l.path-index l.paths)))
+invariant-loop-path g l =
+    first (filter (is_guarded_in (g.T.Told.seen l.told)) (shown l.paths)) ≡ first (filter (is_guarded_in (g.T.Told.seen l.told)) (shown (drop l.path-index l.paths)))

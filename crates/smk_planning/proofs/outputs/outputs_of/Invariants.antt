@@ -3,4 +3,4 @@ use Rattle.smk_planning.specs.Parts.{shown, outputs_of}
 use Rattle.smk_planning.proofs.outputs.outputs_of.Given as goal
 
 abbrev pub invariant-loop-job : goal.invariant-loop-job
-invariant-loop-job l = shown l.found.items ≡ outputs_of (take l.job-index l.jobs)
+invariant-loop-job l = shown l.found.items ≡ outputs_of (shown (take l.job-index l.jobs))
