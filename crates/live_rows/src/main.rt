@@ -1,17 +1,22 @@
 //! Keeps plans of some jobs and one that reads what they make; begins and closes the first job, and prints how often the judge was asked, how often of the
-//! closed job and of the reader, and how many jobs have to run before and after.
+//! closed job and of the reader, how many jobs have to run before, meanwhile, after and once the jobs came anew, and what is told of the first job's output.
 #![tactic(auto)]
 
 mod counting;
 mod flow;
 
-ghost use Rattle.std.specs.Prelude.{IfOk};
+ghost use Rattle.std.specs.Prelude.{◌≡◌, ◌++◌, length, map, Some, IfOk, OnOk};
+ghost use Rattle.std.specs.List.{slice_get, flat_map};
+ghost use Rattle.smk_world.specs.World.{out_paths};
+ghost use Rattle.smk_flow.specs.declared.job.Job.{Job as JobValue};
 ghost use Rattle.smk_live.specs.Lives.{IsLive};
+ghost use Rattle.smk_live.specs.Sites.{out_path};
 
 use counting::Counting;
 use flow::{jobs_of, path_of, settings_of, workspace};
-use smk_base::{Copied, List, OutOfMemory, one};
+use smk_base::{Copied, List, OutOfMemory, PathText, one};
 use smk_chain::Jobs;
+use smk_flow::Job;
 use smk_live::{LivePlan, Phase};
 use smk_look::look;
 use smk_mem::MemWork;
@@ -19,7 +24,7 @@ use smk_plan::{Seen, Sight};
 use smk_record::{Record, Stamp};
 use smk_store::{Entry, Kept, Store, load};
 use smk_trigger::State;
-use smk_world::{Recipe, Stat};
+use smk_world::{Out, OutItem, Recipe, Stat};
 use std::alloc::{AllocError, Global};
 use std::io;
 use std::sync::atomic::Ordering;
@@ -62,11 +67,11 @@ fn to_run(states: &[State]) -> u32 {
     count
 }
 
-// What is known of the first job's output once it is made: a record of its recipe.
-fn entry_of(alloc: Global, recipe: &Recipe) -> Result<Entry, RowFault> {
-    let path = path_of(alloc, "m/1.txt")?;
+// What is known of an output once it is made: a record of its job's recipe.
+fn entry_of(alloc: Global, recipe: &Recipe, path: &PathText) -> Result<Entry, RowFault> {
     let stamps = one(alloc, Stamp::Time(1))?;
-    match Record::new(path, 1, recipe.copied(alloc)?, stamps, List::new(alloc)) {
+    let copy = recipe.copied(alloc)?;
+    match Record::new(path.copy(alloc)?, 1, copy, stamps, List::new(alloc)) {
         None => Err(RowFault::Record),
         Some(record) => Ok(Entry {
             kept: Kept::Held(record),
@@ -76,10 +81,24 @@ fn entry_of(alloc: Global, recipe: &Recipe) -> Result<Entry, RowFault> {
     }
 }
 
-// What is seen there.
-fn sight_of(alloc: Global) -> Result<Sight, RowFault> {
+// The same of each of the outputs.
+fn entries_of(alloc: Global, recipe: &Recipe, paths: &[PathText]) -> Result<List<Entry>, RowFault>
+    ensures { IfOk result (λ entries. length entries ≡ length paths.now) }
+{
+    let mut entries = List::new(alloc);
+    for path in paths {
+        let entry = entry_of(alloc, recipe, path)?;
+        entries.push(entry)?;
+    }
+    Ok(entries)
+}
+
+// What is seen at an output once it is made: a file.
+fn sight_of(alloc: Global, path: &PathText) -> Result<Sight, OutOfMemory>
+    ensures { IfOk result (λ sight. sight.path ≡ path.now) }
+{
     Ok(Sight {
-        path: path_of(alloc, "m/1.txt")?,
+        path: path.copy(alloc)?,
         stat: Stat::File {
             time: 5,
             read_only: false,
@@ -89,11 +108,65 @@ fn sight_of(alloc: Global) -> Result<Sight, RowFault> {
     })
 }
 
-// The first job's entry once it is made.
-fn first_entry(alloc: Global, live: &LivePlan) -> Result<Entry, RowFault> {
-    match live.jobs().jobs.as_slice().first() {
+// The same of each of the outputs.
+fn sights_of(alloc: Global, paths: &[PathText]) -> Result<List<Sight>, OutOfMemory>
+    ensures { IfOk result (λ sights. map (λ s. s.path) sights ≡ paths.now) }
+{
+    let mut sights = List::new(alloc);
+    for path in paths {
+        let sight = sight_of(alloc, path)?;
+        sights.push(sight)?;
+    }
+    Ok(sights)
+}
+
+// Adds the paths of the outputs.
+fn push_paths(alloc: Global, found: &mut List<PathText>, outs: &[Out]) -> Result<(), OutOfMemory>
+    ensures { OnOk result (found.new ≡ found.old ++ map out_path outs.now) }
+{
+    for out in outs {
+        found.push(out.path.copy(alloc)?)?;
+    }
+    Ok(())
+}
+
+// The paths of the outputs of the items.
+fn paths_of(alloc: Global, items: &[OutItem]) -> Result<List<PathText>, OutOfMemory>
+    ensures { IfOk result (λ paths. paths ≡ flat_map (λ item. map out_path item.outs) items.now) }
+{
+    let mut paths = List::new(alloc);
+    for item in items {
+        push_paths(alloc, &mut paths, item.outs.as_slice())?;
+    }
+    Ok(paths)
+}
+
+// What comes of a job as it is closed: what is known of its outputs and seen at them.
+#[derive(Drop)]
+struct Came {
+    entries: List<Entry>,
+    sights: List<Sight>,
+}
+
+// What comes of the job.
+fn came_of(alloc: Global, job: &Job) -> Result<Came, RowFault>
+    ensures entries { IfOk result (λ came. length came.entries ≡ length (out_paths job.now.recipe)) }
+    ensures sights { IfOk result (λ came. map (λ s. s.path) came.sights ≡ out_paths job.now.recipe) }
+{
+    let paths = paths_of(alloc, job.recipe.outputs.as_slice())?;
+    let entries = entries_of(alloc, &job.recipe, paths.as_slice())?;
+    let sights = sights_of(alloc, paths.as_slice())?;
+    Ok(Came { entries, sights })
+}
+
+// What comes of the first of the jobs.
+fn first_came(alloc: Global, jobs: &[Job]) -> Result<Came, RowFault>
+    ensures entries { IfOk result (λ came. (j : JobValue) → slice_get jobs.now 0 ≡ Some j → length came.entries ≡ length (out_paths j.recipe)) }
+    ensures sights { IfOk result (λ came. (j : JobValue) → slice_get jobs.now 0 ≡ Some j → map (λ s. s.path) came.sights ≡ out_paths j.recipe) }
+{
+    match jobs.split_first() {
         None => Err(RowFault::Phase),
-        Some(job) => entry_of(alloc, &job.recipe),
+        Some((job, _)) => came_of(alloc, job),
     }
 }
 
@@ -143,8 +216,10 @@ fn begin(alloc: Global, live: &mut LivePlan) -> Result<(), RowFault>
     let Some(Phase::Waiting) = live.phase(0) else {
         return Err(RowFault::Phase);
     };
-    live.began(alloc, 0)?;
-    Ok(())
+    match live.began(alloc, 0) {
+        Err(_) => Err(RowFault::Plan),
+        Ok(()) => Ok(()),
+    }
 }
 
 // The first job is closed.
@@ -152,30 +227,69 @@ fn close(alloc: Global, live: &mut LivePlan, judge: &Counting) -> Result<(), Row
     requires { IsLive live.old }
     ensures { IsLive live.new }
 {
-    let entry = first_entry(alloc, live)?;
-    let entries = one(alloc, entry)?;
-    let sights = one(alloc, sight_of(alloc)?)?;
+    let Came { entries, sights } = first_came(alloc, live.jobs().jobs.as_slice())?;
     let Some(Phase::Running) = live.phase(0) else {
         return Err(RowFault::Phase);
     };
-    live.closed(alloc, 0, entries, sights, judge)?;
-    Ok(())
+    match live.closed(alloc, 0, entries, sights, judge) {
+        Err(_) => Err(RowFault::Plan),
+        Ok(()) => Ok(()),
+    }
 }
 
-// The first job begins and is closed; how many jobs have to run before, meanwhile and after.
-fn counted(
+// The jobs come anew, with what the store of the beginning has; nothing fresh was seen.
+fn grow<Rt: Threads + Sync>(
+    rt: &Rt,
     alloc: Global,
     live: &mut LivePlan,
+    count: u32,
+) -> Result<(), RowFault>
+    requires { IsLive live.old }
+    ensures { IsLive live.new }
+{
+    let mut work = workspace(alloc, count)?;
+    let Ok(store) = load(alloc, &mut work) else {
+        return Err(RowFault::Load);
+    };
+    let jobs = jobs_of(alloc, count)?;
+    match live.grow(rt, alloc, jobs, store, Seen::of(List::new(alloc))) {
+        Err(_) => Err(RowFault::Plan),
+        Ok(()) => Ok(()),
+    }
+}
+
+// How many jobs have to run.
+fn left(live: &LivePlan) -> u32 {
+    to_run(live.as_plan().states.as_slice())
+}
+
+// What is told of the first job's output.
+fn told(alloc: Global, live: &LivePlan) -> Result<String, RowFault> {
+    let path = path_of(alloc, "m/1.txt")?;
+    let known = live.entry(&path).is_some();
+    let seen = live.sight(&path).is_some();
+    let held = live.holds_back();
+    Ok(format!(in alloc; "known {known}, seen {seen}, held back {held}")?)
+}
+
+// The first job begins and is closed, and the jobs come anew; how many have to run before, meanwhile and after.
+fn counted<Rt: Threads + Sync>(
+    rt: &Rt,
+    alloc: Global,
+    live: &mut LivePlan,
+    count: u32,
     judge: &Counting,
-) -> Result<(u32, u32, u32), RowFault>
+) -> Result<String, RowFault>
     requires { IsLive live.old }
 {
-    let before = to_run(live.states().as_slice());
+    let before = left(live);
     begin(alloc, live)?;
-    let begun = to_run(live.states().as_slice());
+    let begun = left(live);
     close(alloc, live, judge)?;
-    let after = to_run(live.states().as_slice());
-    Ok((before, begun, after))
+    let after = left(live);
+    grow(rt, alloc, live, count)?;
+    let grown = left(live);
+    Ok(format!(in alloc; "to run {before}, then {begun}, then {after}, then {grown}")?)
 }
 
 // The kept plan of so many jobs and the one that reads what they make, with the first one begun and closed.
@@ -186,8 +300,9 @@ fn run<Rt: Threads + Sync>(
     judge: &Counting,
 ) -> Result<String, RowFault> {
     let mut live = planned(rt, alloc, count)?;
-    let (before, begun, after) = counted(alloc, &mut live, judge)?;
-    Ok(format!(in alloc; "to run {before}, then {begun}, then {after}")?)
+    let counts = counted(rt, alloc, &mut live, count, judge)?;
+    let first = told(alloc, &live)?;
+    Ok(format!(in alloc; "{counts}; {first}")?)
 }
 
 // The line of a plan of so many jobs.

@@ -1,125 +1,135 @@
--- A plan that is kept, as it begins, and once what is new was put in.
-use Rattle.std.proofs.Common.{◌≡◌, ℕ, zero, suc, ◌<◌, List, [], ◌∷◌, map, length, Option, Some, None, refl, sym, ap, ap₂, subst, ◌∙◌, arith}
-use Rattle.std.specs.Prelude.{slice_set}
-use Rattle.std.specs.List.{slice_get}
+-- A plan that is kept, once what is new was put in.
+use Rattle.std.proofs.Common.{◌≡◌, ℕ, zero, suc, ◌<◌, Bool, true, false, List, [], ◌∷◌, map, length, Option, Some, None, option_map, refl, sym, ap, ap₂, subst, ◌∙◌, arith}
+use Rattle.std.specs.Prelude.{slice_index_or, Result, Ok, Err, IfOk, IfErr}
+use Rattle.std.specs.List.{list_all, slice_get}
+use Rattle.std.specs.BTreeSet.{contains_text}
+use Rattle.smk_base.proofs.Under.{never_both}
+use Rattle.smk_world.specs.Trees.{outs_of}
 use Rattle.smk_flow.specs.declared.job.Job.{Job}
-use Rattle.smk_store.specs.Images.{Image}
-use Rattle.smk_chain.specs.declared.jobs.Jobs.{Jobs}
+use Rattle.smk_store.specs.declared.store.Entry.{Entry}
 use Rattle.smk_trigger.specs.declared.facts.JobFacts.{JobFacts}
+use Rattle.smk_trigger.specs.declared.reason.Reason.{Reason}
 use Rattle.smk_trigger.specs.declared.reason.State.{State}
 use Rattle.smk_trigger.specs.Reasons.{reasons_of}
 use Rattle.smk_pick.specs.declared.settings.Settings.{Settings}
-use Rattle.smk_plan.specs.declared.wholes.Wholes.{Wholes}
-use Rattle.smk_plan.specs.Sights.{wholes_of}
-use Rattle.smk_plan.specs.States.{HasStates}
-use Rattle.smk_facts.specs.Facts.{having_run, facts_of}
+use Rattle.smk_plan.specs.declared.plan.Plan.{Plan as Told}
+use Rattle.smk_plan.specs.declared.seen.Sight.{Sight}
+use Rattle.smk_plan.specs.States.{test_some}
+use Rattle.smk_facts.specs.Telling.{has_path_texts}
 use Rattle.smk_states.specs.Served.{AreServed}
-use Rattle.smk_states.specs.Judged.{with_states}
-use Rattle.smk_live.specs.declared.next.Next.{Next}
+use Rattle.smk_live.specs.declared.base.Base.{Base}
 use Rattle.smk_live.specs.declared.live.LivePlan.{LivePlan}
 use Rattle.smk_live.specs.declared.phase.Phase.{Phase}
-use Rattle.smk_live.specs.declared.phase.Phase.TheVariants.{Waiting}
-use Rattle.smk_live.specs.Phases.{begun_in, children_in, running_in, named, progress_in}
-use Rattle.smk_live.specs.Lives.{facts_now, IsSoIn, IsLive}
-use Rattle.smk_live.specs.Closing.{merged}
-use Rattle.smk_live.specs.Closed.{IsNext, HasInstalled}
+use Rattle.smk_live.specs.declared.phase.Phase.TheVariants.{Waiting, Running, Closed}
+use Rattle.smk_live.specs.Now.{known_now, seen_now}
+use Rattle.smk_live.specs.Same.{merged, renewed_from}
+use Rattle.smk_live.specs.Carried.{has_name, turned, filled}
+use Rattle.smk_live.specs.Lives.{IsSound, IsSettled, IsNow, IsLive, AreJudgedBy, facts_now}
 use Rattle.smk_live.proofs.Merged.{merged_map}
-use Rattle.smk_live.proofs.Told.{first_facts}
+use Rattle.smk_live.proofs.Changed.{set_back, turned_sound, filled_sound, begun_facts, closed_facts}
 
--- ## Lists
+-- ## Answers
 
-pub map_length : {A B : Type 0} (f : A → B) (xs : List A) → length (map f xs) ≡ length xs
-map_length f [] = refl
-map_length f (x ∷ xs) = ap suc (map_length f xs)
+pub if_err_then : {A E : Type 0} (r : Result A E) (P Q : E → Type 0) → ((x : E) → P x → Q x) → IfErr r P → IfErr r Q
+if_err_then (Ok x) P Q f h = h
+if_err_then (Err e) P Q f h = f e h
 
-pub set_length : {A : Type 0} (xs : List A) (n : ℕ) (x : A) → length (slice_set xs n x) ≡ length xs
-set_length [] n x = refl
-set_length (y ∷ xs) zero x = refl
-set_length (y ∷ xs) (suc n) x = ap suc (set_length xs n x)
-
-got_below : {A : Type 0} (xs : List A) (n : ℕ) (x : A) → slice_get xs n ≡ Some x → n < length xs
-got_below [] n x e = absurd cc
-got_below (y ∷ xs) zero x e = omega arith
-got_below (y ∷ xs) (suc n) x e = let h = got_below xs n x e in omega arith
-
-pub some_same : {A : Type 0} (x y : A) → Some x ≡ Some y → x ≡ y
-some_same x y e = cc
-
--- ## At the beginning
-
-none_begun : (js : List Job) → begun_in js (map (λ (j : Job). Waiting) js) ≡ []
-none_begun [] = refl
-none_begun (j ∷ js) = none_begun js
-
-none_run : (js : List Job) → children_in js (map (λ (j : Job). None) js) ≡ []
-none_run [] = refl
-none_run (j ∷ js) = none_run js
-
-pub begins_so :
-    (image : Image) (settings : Settings) (jobs : Jobs) (facts : List JobFacts) (wholes : Wholes) (phases : List Phase) (began : List (Option State)) →
-    phases ≡ map (λ (j : Job). Waiting) jobs.jobs → began ≡ map (λ (j : Job). None) jobs.jobs → AreServed jobs settings.targets →
-    facts ≡ map (facts_of image settings [] (with_states jobs [])) jobs.jobs → wholes ≡ wholes_of image jobs →
-    IsSoIn image settings jobs facts wholes (progress_in jobs.jobs phases began)
-begins_so image settings jobs facts wholes phases began wait none served judged whole =
-    let b : begun_in jobs.jobs phases ≡ [] = ap (begun_in jobs.jobs) wait ∙ none_begun jobs.jobs in
-    let c : children_in jobs.jobs began ≡ [] = ap (children_in jobs.jobs) none ∙ none_run jobs.jobs in
-    let idle : having_run [] ≡ progress_in jobs.jobs phases began = sym (λ i. record { begun = b i; running = map named (c i) }) in
-    record {
-      served = served;
-      judged = judged ∙ (λ i. map (λ j. first_facts image settings jobs j i) jobs.jobs) ∙ (λ i. map (facts_now image settings (idle i) jobs) jobs.jobs);
-      whole = whole;
-    }
-
--- ## Once what is new was put in
-
-pub room_kept : (began news : List (Option State)) (n : ℕ) (s : Option State) (m : ℕ) → news ≡ slice_set began n s → length began ≡ m → length news ≡ m
-room_kept began news n s m e h = ap length e ∙ set_length began n s ∙ h
-
-module _ (old new : LivePlan) (live : IsLive old) (n : ℕ) (phase : Phase) (news : List (Option JobFacts)) (wholes : Wholes) (began : List (Option State)) (next : Next)
-    (nexts : IsNext news wholes began old next) (put : HasInstalled n phase next old new) (whole : new.wholes ≡ wholes)
-    (room : length began ≡ length old.jobs.jobs) (places : length new.late.items ≡ length old.jobs.jobs) where
-  facts_put : new.facts.items ≡ merged old.facts.items news
-  facts_put = put.judged ∙ ap (merged old.facts.items) nexts.judged
-
-  told_anew : new.reasons.items ≡ map reasons_of new.facts.items
-  told_anew =
-      put.told ∙ ap₂ merged live.told nexts.reasons ∙ sym (merged_map reasons_of old.facts.items news)
-      ∙ sym (ap (map reasons_of) facts_put)
-
-  same_jobs : length old.jobs.jobs ≡ length new.jobs.jobs
-  same_jobs = sym (ap (λ (x : Jobs). length x.jobs) put.jobs)
-
-  runs : running_in new.jobs.jobs new.began.items ≡ running_in old.jobs.jobs began
-  runs = ap₂ (λ (x : Jobs) (b : List (Option State)). running_in x.jobs b) put.jobs (put.began ∙ nexts.kept)
-
-  pub installed_live : IsLive new
-  installed_live =
-      record {
-        each = ap length put.states ∙ nexts.each ∙ same_jobs;
-        rows = ap length put.phases ∙ set_length old.phases.items n phase ∙ live.rows ∙ same_jobs;
-        begun = ap length (put.began ∙ nexts.kept) ∙ room ∙ same_jobs;
-        places = places ∙ same_jobs;
-        told = told_anew;
-        table = λ image so.
-            let begun = begun_in new.jobs.jobs new.phases.items in
-            coe 1 0 (i. HasStates image (put.settings i) (record { begun = begun; running = runs i }) (with_states (put.jobs i) (put.states i)))
-            (nexts.table image begun
-            (coe 0 1 (i. IsSoIn image (put.settings i) (put.jobs i) (facts_put i) (whole i) (record { begun = begun; running = runs i })) so));
-      }
+pub if_ok_both : {A E : Type 0} (r : Result A E) (P Q R : A → Type 0) → ((x : A) → P x → Q x → R x) → IfOk r P → IfOk r Q → IfOk r R
+if_ok_both (Ok x) P Q R f h g = f x h g
+if_ok_both (Err e) P Q R f h g = g
 
 -- ## Numbers of jobs
 
-pub phase_below : (p : LivePlan) (n : ℕ) (phase : Phase) → slice_get p.phases.items n ≡ Some phase → n < length p.phases.items
-phase_below p n phase e = got_below p.phases.items n phase e
+pub got : {A : Type 0} (xs : List A) (n : ℕ) → n < length xs → (x : A) × (slice_get xs n ≡ Some x)
+got [] n h = absurd (omega (arith, h))
+got (x ∷ xs) zero h = (x, refl)
+got (x ∷ xs) (suc n) h = got xs n (omega (arith, h))
 
-pub job_below : (p : LivePlan) → IsLive p → (n : ℕ) (phase : Phase) → slice_get p.phases.items n ≡ Some phase → n < length p.jobs.jobs
-job_below p live n phase e = subst (λ m. n < m) live.rows (got_below p.phases.items n phase e)
+pub some_named : (o : Option Job) → test_some has_name o ≡ true → (j : Job) × (o ≡ Some j) × (has_name j ≡ true)
+some_named None h = absurd (never_both false h refl)
+some_named (Some j) h = (j, refl, h)
 
-pub state_below : (p : LivePlan) → IsLive p → (n : ℕ) (phase : Phase) → slice_get p.phases.items n ≡ Some phase → n < length p.states
-state_below p live n phase e = subst (λ m. n < m) (live.rows ∙ sym live.each) (got_below p.phases.items n phase e)
+-- ## What was changed is put back
 
-pub began_below : (p : LivePlan) → IsLive p → (n : ℕ) (phase : Phase) → slice_get p.phases.items n ≡ Some phase → n < length p.began.items
-began_below p live n phase e = subst (λ m. n < m) (live.rows ∙ sym live.begun) (got_below p.phases.items n phase e)
+pub turned_back :
+    (b : Base) (n : ℕ) (phase before : Phase) (state was : Option State) → before ≡ slice_index_or b.phases n before → was ≡ slice_index_or b.began n was →
+    turned n before was (turned n phase state b) ≡ b
+turned_back b n phase before state was p s = λ i. record b { phases = set_back b.phases n phase before p i; began = set_back b.began n state was s i }
 
-pub place_below : (p : LivePlan) → IsLive p → (n : ℕ) (phase : Phase) → slice_get p.phases.items n ≡ Some phase → n < length p.late.items
-place_below p live n phase e = subst (λ m. n < m) (live.rows ∙ sym live.places) (got_below p.phases.items n phase e)
+pub filled_back :
+    (b : Base) (n : ℕ) (row before : Option (List (Option Entry))) (sights saw : Option (List (Option Sight))) → before ≡ slice_index_or b.entries n before → saw ≡ slice_index_or b.sights n saw →
+    filled n before saw (filled n row sights b) ≡ b
+filled_back b n row before sights saw r s = λ i. record b { entries = set_back b.entries n row before r i; sights = set_back b.sights n sights saw s i }
+
+-- ## What is new
+
+-- the reasons with those that are new are those of the facts with those that are new
+pub reasons_merged :
+    (facts : List JobFacts) (reasons : List (List Reason)) (news : List (Option JobFacts)) (fresh : List (Option (List Reason))) →
+    reasons ≡ map reasons_of facts → fresh ≡ map (option_map reasons_of) news → merged reasons fresh ≡ map reasons_of (merged facts news)
+reasons_merged facts reasons news fresh told new = ap₂ merged told new ∙ sym (merged_map reasons_of facts news)
+
+pub judged_by :
+    (settings : Settings) (b : Base) (facts : List JobFacts) (reasons own : List (List Reason)) (news : List (Option JobFacts)) (fresh : List (Option (List Reason))) (forced : List Bool) →
+    IsSettled settings b facts reasons news → fresh ≡ map (option_map reasons_of) news → own ≡ merged reasons fresh → forced ≡ map (λ (f : JobFacts). f.forced) (merged facts news) →
+    AreJudgedBy settings b (merged facts news) own forced
+judged_by settings b facts reasons own news fresh forced settled new all flags =
+    record {
+      sound = settled.sound;
+      texts = settled.texts;
+      facts_are = settled.facts_are;
+      told = all ∙ reasons_merged facts reasons news fresh settled.told new;
+      flags = flags;
+    }
+
+pub begun_settled :
+    (p : LivePlan) (live : IsLive p) (n : ℕ) (state : State) (j : Job) → slice_get p.base.jobs.jobs n ≡ Some j → has_name j ≡ true → slice_get p.base.phases n ≡ Some Waiting →
+    (b : Base) → b ≡ turned n Running (Some state) p.base →
+    IsSettled p.settings b p.facts.items p.reasons.items
+    (renewed_from (known_now b) (seen_now b) (contains_text b.sources) false (outs_of j.recipe) n 0 b.jobs.jobs p.facts.items)
+begun_settled p live n state j at named waiting b is =
+    subst
+    (λ (x : Base). IsSettled p.settings x p.facts.items p.reasons.items (renewed_from (known_now x) (seen_now x) (contains_text x.sources) false (outs_of j.recipe) n 0 x.jobs.jobs p.facts.items))
+    (sym is)
+    (record {
+      sound = turned_sound p.base live.sound n Running (Some state);
+      texts = live.texts;
+      told = live.reasons;
+      facts_are = λ served. begun_facts p.settings p.base live.sound n j at p.facts.items served (live.facts served) named Waiting waiting state;
+    })
+
+pub closed_settled :
+    (p : LivePlan) (live : IsLive p) (n : ℕ) (row : Option (List (Option Entry))) (sights : Option (List (Option Sight))) (j : Job) → slice_get p.base.jobs.jobs n ≡ Some j →
+    slice_get p.base.phases n ≡ Some Running → (b : Base) → b ≡ filled n row sights (turned n Closed None p.base) →
+    IsSettled p.settings b p.facts.items p.reasons.items
+    (renewed_from (known_now b) (seen_now b) (contains_text b.sources) false (outs_of j.recipe) n 0 b.jobs.jobs p.facts.items)
+closed_settled p live n row sights j at running b is =
+    subst
+    (λ (x : Base). IsSettled p.settings x p.facts.items p.reasons.items (renewed_from (known_now x) (seen_now x) (contains_text x.sources) false (outs_of j.recipe) n 0 x.jobs.jobs p.facts.items))
+    (sym is)
+    (record {
+      sound = filled_sound (turned n Closed None p.base) (turned_sound p.base live.sound n Closed None) n row sights;
+      texts = live.texts;
+      told = live.reasons;
+      facts_are = λ served. closed_facts p.settings p.base live.sound n j at p.facts.items served (live.facts served) running row sights;
+    })
+
+-- ## The plan with it
+
+pub installed :
+    (old new : LivePlan) (b : Base) (news : List (Option JobFacts)) (fresh : List (Option (List Reason))) (told : Told) (held : Bool) →
+    IsSettled old.settings b old.facts.items old.reasons.items news → fresh ≡ map (option_map reasons_of) news →
+    length told.states ≡ length b.jobs.jobs → length told.current ≡ length old.settings.targets → IsNow old.settings b told held →
+    new.base ≡ b → new.settings ≡ old.settings → new.facts.items ≡ merged old.facts.items news → new.reasons.items ≡ merged old.reasons.items fresh →
+    new.plan ≡ told → new.held ≡ held → IsLive new
+installed old new b news fresh told held settled newly each targets now base settings facts reasons plan back =
+    record {
+      sound = subst IsSound (sym base) settled.sound;
+      texts = subst (λ (x : Base). list_all has_path_texts x.jobs.jobs ≡ true) (sym base) settled.texts;
+      each = ap (λ (x : Told). length x.states) plan ∙ each ∙ sym (ap (λ (x : Base). length x.jobs.jobs) base);
+      targets = ap (λ (x : Told). length x.current) plan ∙ targets ∙ sym (ap (λ (x : Settings). length x.targets) settings);
+      facts = λ served.
+          facts ∙ settled.facts_are (coe 0 1 (i. AreServed (base i).jobs (settings i).targets) served) ∙ sym (λ i. facts_now (settings i) (base i));
+      reasons = reasons ∙ reasons_merged old.facts.items old.reasons.items news fresh settled.told newly ∙ sym (ap (map reasons_of) facts);
+      now = coe 1 0 (i. IsNow (settings i) (base i) (plan i) (back i)) now;
+    }

@@ -1,4 +1,10 @@
-pub mod Tests
-pub mod Told
+pub mod Tables
 pub mod Merged
+pub mod Same
+pub mod Bridge
+pub mod Restoring
+pub mod Changed
+pub mod First
+pub mod Judging
+pub mod Grown
 pub mod Installed

@@ -1,7 +1,8 @@
 -- Lists of which some elements are new.
 use Rattle.std.proofs.Common.{◌≡◌, ℕ, zero, suc, ◌≤◌, List, [], ◌∷◌, ◌++◌, map, length, Option, Some, None, option_map, refl, ap, arith}
 use Rattle.std.specs.Prelude.{slice_set}
-use Rattle.smk_live.specs.Closing.{or_old, merged, put_in}
+use Rattle.smk_live.specs.Same.{or_old, merged}
+use Rattle.smk_live.specs.Carried.{put_in}
 
 pub merged_none : {A : Type 0} (xs : List A) → merged xs [] ≡ xs
 merged_none [] = refl

@@ -1,6 +1,7 @@
 pub mod Phases
-pub mod Made
+pub mod Sites
+pub mod Now
+pub mod Same
+pub mod Carried
 pub mod Lives
-pub mod Closing
-pub mod Closed
-pub mod Readers
+pub mod Changes

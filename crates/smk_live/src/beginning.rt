@@ -1,60 +1,22 @@
 //! How a job begins.
 
-ghost use Rattle.std.specs.Prelude.{◌≡◌, ◌<◌, length, Some, None, IfOk, OnOk, OnErr, if◌then◌else◌};
+ghost use Rattle.std.specs.Prelude.{◌≡◌, ◌≢◌, ◌<◌, length, slice_index_or, true, Some, OnOk, OnErr, IfErr};
 ghost use Rattle.std.specs.List.{slice_get};
-ghost use Rattle.smk_live.specs.Closing.{begun_facts, facts_begun};
-ghost use Rattle.smk_live.specs.Lives.{IsLive};
-ghost use Rattle.smk_live.specs.Closed.{HasBegun};
+ghost use Rattle.smk_plan.specs.States.{test_some};
+ghost use Rattle.smk_trigger.specs.declared.reason.State.{State as StateValue};
+ghost use Rattle.smk_live.specs.Lives.{IsLive, IsRefusedNow};
+ghost use Rattle.smk_live.specs.Carried.{has_name, turned};
+ghost use Rattle.smk_live.specs.Changes.{HasBegun};
 
-use crate::children::{began_after, state_again};
-use crate::copies::{all_kept_again, flags_again, stamps_if_any};
+use crate::base::Base;
+use crate::children::state_again;
+use crate::made::first_output;
+use crate::next::next_of;
 use crate::{LivePlan, Phase};
-use smk_base::{Copied, OutOfMemory};
-use smk_trigger::{JobFacts, Plain, State};
+use smk_flow::Job;
+use smk_plan::PlanFault;
+use smk_trigger::{Plain, State};
 use std::alloc::Global;
-
-// What a job is judged by once it has begun.
-fn begun_facts(alloc: Global, facts: &JobFacts) -> Result<JobFacts, OutOfMemory>
-    ensures { IfOk result (λ found. found ≡ begun_facts facts.now) }
-{
-    let recipe = facts.recipe.copied(alloc)?;
-    let kept = all_kept_again(alloc, facts.kept.as_slice())?;
-    let marked = flags_again(alloc, facts.marked.as_slice())?;
-    let stamps = stamps_if_any(alloc, facts.stamps.as_slice())?;
-    Ok(JobFacts {
-        recipe,
-        kept,
-        marked,
-        stamps,
-        forced: false,
-    })
-}
-
-// The same where it is the one that begins.
-fn begun_if(alloc: Global, is_it: bool, facts: &JobFacts) -> Result<Option<JobFacts>, OutOfMemory>
-    ensures { IfOk result (λ found. found ≡ (if is_it then Some (begun_facts facts.now) else None)) }
-{
-    if !is_it {
-        return Ok(None);
-    }
-    let found = begun_facts(alloc, facts)?;
-    Ok(Some(found))
-}
-
-// The new facts as the job of the number begins.
-fn facts_begun(
-    alloc: Global,
-    number: usize,
-    facts: &[JobFacts],
-) -> Result<Vec<Option<JobFacts>>, OutOfMemory>
-    ensures { IfOk result (λ found. found.items ≡ facts_begun number 0 facts.now) }
-{
-    let mut found = Vec::new(alloc);
-    for (i, own) in facts.iter().enumerate() {
-        found.push(begun_if(alloc, i == number, own)?)?;
-    }
-    Ok(found)
-}
 
 // The state of the number.
 fn state_at(states: &[State], number: usize) -> &State
@@ -64,25 +26,92 @@ fn state_at(states: &[State], number: usize) -> &State
     &states[number]
 }
 
+// Whether the job of the number has an output.
+fn has_output(jobs: &[Job], number: usize) -> bool
+    ensures { result ≡ test_some has_name (slice_get jobs.now number) }
+{
+    match jobs.get(number) {
+        None => false,
+        Some(job) => first_output(job.recipe.outputs.as_slice()).is_some(),
+    }
+}
+
+impl Base {
+    /// The job of the number has come so far, and runs with this state at its beginning, or doesn't run. It gives what it was before.
+    pub(crate) fn turn(
+        &mut self,
+        number: usize,
+        phase: Phase,
+        state: Option<State>,
+    ) -> (Phase, Option<State>)
+        requires phase { number < length self.old.phases }
+        requires state { number < length self.old.began }
+        ensures now { self.new ≡ turned number phase state self.old }
+        ensures phase { result.0 ≡ slice_index_or self.old.phases number result.0 }
+        ensures state { result.1 ≡ slice_index_or self.old.began number result.1 }
+    {
+        let before = self.phases.swap(number, phase);
+        let was = self.began.swap(number, state);
+        (before, was)
+    }
+}
+
 impl LivePlan {
+    // The job of the number has begun with this state.
+    fn begin(&mut self, alloc: Global, number: usize, state: State) -> Result<(), PlanFault>
+        requires live { IsLive self.old }
+        requires waiting { slice_get self.old.base.phases number ≡ Some Phase.Waiting }
+        requires named { test_some has_name (slice_get self.old.base.jobs.jobs number) ≡ true }
+        requires had { slice_get self.old.plan.states number ≡ Some state }
+        ensures live { IsLive self.new }
+        ensures ok { OnOk result (HasBegun number self.old self.new) }
+        ensures err { OnErr result (self.new ≡ self.old) }
+        ensures refused { IfErr result (λ fault. fault ≢ PlanFault.OutOfMemory → IsRefusedNow self.old.settings (turned number Phase.Running (Some state) self.old.base) fault) }
+    {
+        let (before, was) = self.base.turn(number, Phase::Running, Some(state));
+        match next_of(
+            alloc,
+            number,
+            &self.base,
+            &self.settings,
+            self.facts.as_slice(),
+            self.reasons.as_slice(),
+            &Plain,
+        ) {
+            Err(fault) => {
+                self.base.turn(number, before, was);
+                Err(fault)
+            }
+            Ok(next) => {
+                self.install(next);
+                Ok(())
+            }
+        }
+    }
+
     /// The job has begun: its child runs, with the state that the job has.
     ///
-    /// The states are then told anew by the table: a job that makes what the child reads counts as Clean where it was to be restored. No judge is asked but
-    /// about the job itself, which isn't forced any more. `OutOfMemory` where there is no memory for this: nothing is changed then.
-    #[tactic(auto, using(crate::proofs::Installed::phase_below, crate::proofs::Installed::state_below, crate::proofs::Installed::began_below))]
-    pub fn began(&mut self, alloc: Global, job: u32) -> Result<(), OutOfMemory>
+    /// Facts and reasons are told anew of it and of the jobs that read what it makes; the plan is told anew of all jobs, and what is whole too, so the time is linear
+    /// in the jobs and what they read and make. No judge is asked but the plain one.
+    ///
+    /// The faults are those of a plan of that moment: the first thing that is refused of it. `OutOfMemory` where there is no memory for all this, or the job has no
+    /// output to be named by. After any of them nothing is changed.
+    pub fn began(&mut self, alloc: Global, job: u32) -> Result<(), PlanFault>
         requires live { IsLive self.old }
-        requires waiting { slice_get self.old.phases.items job ≡ Some Phase.Waiting }
+        requires waiting { slice_get self.old.base.phases job ≡ Some Phase.Waiting }
         ensures live { IsLive self.new }
         ensures ok { OnOk result (HasBegun job self.old self.new) }
         ensures err { OnErr result (self.new ≡ self.old) }
+        ensures refused { IfErr result (λ fault. fault ≢ PlanFault.OutOfMemory → (state : StateValue) → slice_get self.old.plan.states job ≡ Some state
+            → IsRefusedNow self.old.settings (turned job Phase.Running (Some state) self.old.base) fault) }
     {
         let number = job as usize;
-        let news = facts_begun(alloc, number, self.facts.as_slice())?;
-        let state = state_again(alloc, state_at(self.states.as_slice(), number))?;
-        let began = began_after(alloc, self.began.as_slice(), number, Some(state))?;
-        let next = self.next(alloc, news, &self.wholes, began, &Plain)?;
-        self.install(number, Phase::Running, next);
-        Ok(())
+        if !has_output(self.base.jobs.jobs.as_slice(), number) {
+            return Err(PlanFault::OutOfMemory);
+        }
+        match state_again(alloc, state_at(self.plan.states.as_slice(), number)) {
+            Err(_) => Err(PlanFault::OutOfMemory),
+            Ok(state) => self.begin(alloc, number, state),
+        }
     }
 }

@@ -1,6 +1,6 @@
 //! The jobs whose children run.
 
-ghost use Rattle.std.specs.Prelude.{◌≡◌, ◌<◌, ◌++◌, bytes_eq, length, map, option_map, slice_set, IfOk, OnOk};
+ghost use Rattle.std.specs.Prelude.{◌≡◌, ◌++◌, bytes_eq, map, option_map, IfOk, OnOk};
 ghost use Rattle.std.specs.List.{find};
 ghost use Rattle.smk_plan.specs.States.{job_path};
 ghost use Rattle.smk_live.specs.Phases.{child_in, children_in, named_state};
@@ -31,8 +31,11 @@ pub(crate) fn state_again(alloc: Global, state: &State) -> Result<State, OutOfMe
     }
 }
 
-// A copy of the state, where there is one.
-fn state_if_any(alloc: Global, state: &Option<State>) -> Result<Option<State>, OutOfMemory>
+/// A copy of the state, where there is one.
+pub(crate) fn state_if_any(
+    alloc: Global,
+    state: &Option<State>,
+) -> Result<Option<State>, OutOfMemory>
     ensures { IfOk result (λ copy. copy ≡ state.now) }
 {
     match state {
@@ -42,40 +45,6 @@ fn state_if_any(alloc: Global, state: &Option<State>) -> Result<Option<State>, O
             Ok(Some(copy))
         }
     }
-}
-
-// A copy of the states.
-fn states_again(alloc: Global, states: &[Option<State>]) -> Result<Vec<Option<State>>, OutOfMemory>
-    ensures { IfOk result (λ copy. copy.items ≡ states.now) }
-{
-    let mut copy = Vec::new(alloc);
-    for state in states {
-        copy.push(state_if_any(alloc, state)?)?;
-    }
-    Ok(copy)
-}
-
-// Puts the state at the place.
-fn put_state(states: &mut Vec<Option<State>>, at: usize, state: Option<State>)
-    requires { at < length states.old.items }
-    ensures { states.new.items ≡ slice_set states.old.items at state }
-{
-    states[at] = state;
-}
-
-/// The states at their beginning of the jobs that run, where that of the job of the number is now this one, or it doesn't run.
-pub(crate) fn began_after(
-    alloc: Global,
-    began: &[Option<State>],
-    number: usize,
-    state: Option<State>,
-) -> Result<Vec<Option<State>>, OutOfMemory>
-    requires { number < length began.now }
-    ensures { IfOk result (λ found. found.items ≡ slice_set began.now number state) }
-{
-    let mut found = states_again(alloc, began)?;
-    put_state(&mut found, number, state);
-    Ok(found)
 }
 
 // Adds the job, where its child runs.

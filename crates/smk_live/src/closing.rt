@@ -1,65 +1,120 @@
 //! How a job is closed.
 
-ghost use Rattle.std.specs.Prelude.{◌≡◌, ◌<◌, length, slice_set, Some, OnOk, OnErr};
+ghost use Rattle.std.specs.Prelude.{◌≡◌, ◌≢◌, ◌<◌, length, map, slice_index_or, Some, None, IfOk, OnOk, OnErr, IfErr};
 ghost use Rattle.std.specs.List.{slice_get};
+ghost use Rattle.smk_world.specs.World.{out_paths};
 ghost use Rattle.smk_flow.specs.declared.job.Job.{Job as JobValue};
-ghost use Rattle.smk_live.specs.Closing.{merged};
-ghost use Rattle.smk_live.specs.Lives.{IsLive};
-ghost use Rattle.smk_live.specs.Closed.{HasClosed};
+ghost use Rattle.smk_live.specs.Lives.{IsLive, IsRefusedNow};
+ghost use Rattle.smk_live.specs.Carried.{turned, filled};
+ghost use Rattle.smk_live.specs.Changes.{HasClosed};
 
-use crate::children::began_after;
-use crate::facts::fresh_facts;
-use crate::next::Next;
-use crate::whole::wholes_after;
-use crate::{Late, LivePlan, Phase};
+use crate::base::Base;
+use crate::next::next_of;
+use crate::slots::Slots;
+use crate::{LivePlan, Phase};
 use smk_base::{List, OutOfMemory};
-use smk_flow::Job;
-use smk_plan::{Sight, Wholes};
+use smk_plan::{PlanFault, Sight};
 use smk_store::Entry;
 use smk_trigger::Judge;
 use std::alloc::Global;
 
-// The job of the number.
-fn job_at(jobs: &[Job], number: usize) -> &Job
-    requires { number < length jobs.now }
-    ensures { slice_get jobs.now number ≡ Some result.now }
+// The elements as a row.
+fn row_of<T: Drop>(alloc: Global, elements: List<T>) -> Result<Slots<Option<T>>, OutOfMemory>
+    ensures { IfOk result (λ row. row ≡ map Some elements) }
 {
-    &jobs[number]
+    let mut left = elements;
+    let mut found = Vec::new(alloc);
+    'elements: while let Some(element) = left.pop() {
+        found.push(Some(element))?;
+    }
+    found.reverse();
+    Ok(Slots::of(found))
 }
 
-// Puts in what came of the job of the number.
-fn put_late(late: &mut Vec<Option<Late>>, at: usize, came: Late)
-    requires { at < length late.old.items }
-    ensures { late.new.items ≡ slice_set late.old.items at (Some came) }
+// What is known and what was seen of the outputs of a job, in their order.
+#[derive(Drop)]
+struct Rows {
+    entries: Slots<Option<Entry>>,
+    sights: Slots<Option<Sight>>,
+}
+
+// The same as rows.
+fn rows_of(alloc: Global, entries: List<Entry>, sights: List<Sight>) -> Result<Rows, OutOfMemory>
+    ensures { IfOk result (λ rows. (rows.entries ≡ map Some entries) × (rows.sights ≡ map Some sights)) }
 {
-    late[at] = Some(came);
+    let entries = row_of(alloc, entries)?;
+    let sights = row_of(alloc, sights)?;
+    Ok(Rows { entries, sights })
+}
+
+impl Base {
+    // These are what is known and was seen of the outputs of the job of the number. It gives what was told before.
+    fn fill(
+        &mut self,
+        number: usize,
+        row: Option<Slots<Option<Entry>>>,
+        sights: Option<Slots<Option<Sight>>>,
+    ) -> (Option<Slots<Option<Entry>>>, Option<Slots<Option<Sight>>>)
+        requires row { number < length self.old.entries }
+        requires sights { number < length self.old.sights }
+        ensures now { self.new ≡ filled number row sights self.old }
+        ensures row { result.0 ≡ slice_index_or self.old.entries number result.0 }
+        ensures sights { result.1 ≡ slice_index_or self.old.sights number result.1 }
+    {
+        let before = self.entries.swap(number, row);
+        let saw = self.sights.swap(number, sights);
+        (before, saw)
+    }
 }
 
 impl LivePlan {
-    // Puts in what is new, and what came of the job of the number.
-    fn close(&mut self, number: usize, next: Next, wholes: Wholes, came: Late)
-        requires phase { number < length self.old.phases.items }
-        requires place { number < length self.old.late.items }
-        ensures jobs { (self.new.jobs ≡ self.old.jobs) × (self.new.settings ≡ self.old.settings) }
-        ensures seen { (self.new.store ≡ self.old.store) × (self.new.seen ≡ self.old.seen) }
-        ensures phases { self.new.phases.items ≡ slice_set self.old.phases.items number Phase.Closed }
-        ensures began { self.new.began.items ≡ next.began.items }
-        ensures facts { self.new.facts.items ≡ merged self.old.facts.items next.facts.items }
-        ensures reasons { self.new.reasons.items ≡ merged self.old.reasons.items next.reasons.items }
-        ensures states { self.new.states ≡ next.states }
-        ensures wholes { self.new.wholes ≡ wholes }
-        ensures late { self.new.late.items ≡ slice_set self.old.late.items number (Some came) }
+    // The job of the number is closed with this row and these sights.
+    fn close<J: Judge>(
+        &mut self,
+        alloc: Global,
+        number: usize,
+        rows: Rows,
+        judge: &J,
+    ) -> Result<(), PlanFault>
+        requires live { IsLive self.old }
+        requires running { slice_get self.old.base.phases number ≡ Some Phase.Running }
+        ensures live { IsLive self.new }
+        ensures ok { OnOk result ((self.new.settings ≡ self.old.settings) × (self.new.base ≡ filled number (Some rows.entries) (Some rows.sights) (turned number Phase.Closed None self.old.base))) }
+        ensures err { OnErr result (self.new ≡ self.old) }
+        ensures refused { IfErr result (λ fault. fault ≢ PlanFault.OutOfMemory
+            → IsRefusedNow self.old.settings (filled number (Some rows.entries) (Some rows.sights) (turned number Phase.Closed None self.old.base)) fault) }
     {
-        self.install(number, Phase::Closed, next);
-        put_late(&mut self.late, number, came);
-        self.wholes = wholes;
+        let Rows { entries, sights } = rows;
+        let (before, was) = self.base.turn(number, Phase::Closed, None);
+        let (earlier, saw) = self.base.fill(number, Some(entries), Some(sights));
+        match next_of(
+            alloc,
+            number,
+            &self.base,
+            &self.settings,
+            self.facts.as_slice(),
+            self.reasons.as_slice(),
+            judge,
+        ) {
+            Err(fault) => {
+                self.base.fill(number, earlier, saw);
+                self.base.turn(number, before, was);
+                Err(fault)
+            }
+            Ok(next) => {
+                self.install(next);
+                Ok(())
+            }
+        }
     }
 
     /// The job is closed: it was finished or abandoned, and these are now what is known and what is seen of its outputs, one for each output, in their order.
     ///
-    /// The judge is asked once about the closed job and once about each job that wants an output of it or a member of one, and about no other. The states are then
-    /// told anew by the table. `OutOfMemory` where there is no memory for all this: nothing is changed then.
-    #[tactic(auto, using(crate::proofs::Installed::phase_below, crate::proofs::Installed::job_below, crate::proofs::Installed::place_below, crate::proofs::Installed::began_below))]
+    /// The judge is asked once about the closed job and once about each job that reads at or under an output of it, and about no other. The plan is told anew of all
+    /// jobs, and what is whole too, so the time is linear in the jobs and what they read and make.
+    ///
+    /// The faults are those of a plan of that moment: the first thing that is refused of it, or `OutOfMemory` where there is no memory for all this. After any of
+    /// them nothing is changed.
     pub fn closed<J: Judge>(
         &mut self,
         alloc: Global,
@@ -67,35 +122,22 @@ impl LivePlan {
         entries: List<Entry>,
         sights: List<Sight>,
         judge: &J,
-    ) -> Result<(), OutOfMemory>
+    ) -> Result<(), PlanFault>
         requires live { IsLive self.old }
-        requires running { slice_get self.old.phases.items job ≡ Some Phase.Running }
+        requires running { slice_get self.old.base.phases job ≡ Some Phase.Running }
+
+        // One entry and one sight for each output, in their order, each sight with its output's path.
+        requires each { (j : JobValue) → slice_get self.old.base.jobs.jobs job ≡ Some j → length entries ≡ length (out_paths j.recipe) }
+        requires seen { (j : JobValue) → slice_get self.old.base.jobs.jobs job ≡ Some j → map (λ s. s.path) sights ≡ out_paths j.recipe }
         ensures live { IsLive self.new }
-        ensures ok { OnOk result ((closed : JobValue) → slice_get self.old.jobs.jobs job ≡ Some closed → HasClosed job closed entries sights self.old self.new) }
+        ensures ok { OnOk result (HasClosed job entries sights self.old self.new) }
         ensures err { OnErr result (self.new ≡ self.old) }
+        ensures refused { IfErr result (λ fault. fault ≢ PlanFault.OutOfMemory
+            → IsRefusedNow self.old.settings (filled job (Some (map Some entries)) (Some (map Some sights)) (turned job Phase.Closed None self.old.base)) fault) }
     {
-        let number = job as usize;
-        let closed = job_at(self.jobs.jobs.as_slice(), number);
-        let news = fresh_facts(
-            alloc,
-            number,
-            closed,
-            entries.as_slice(),
-            self.jobs.jobs.as_slice(),
-            self.facts.as_slice(),
-        )?;
-        let wholes = wholes_after(
-            alloc,
-            number,
-            closed,
-            entries.as_slice(),
-            sights.as_slice(),
-            self.jobs.makers.as_slice(),
-            &self.wholes,
-        )?;
-        let began = began_after(alloc, self.began.as_slice(), number, None)?;
-        let next = self.next(alloc, news, &wholes, began, judge)?;
-        self.close(number, next, wholes, Late { entries, sights });
-        Ok(())
+        match rows_of(alloc, entries, sights) {
+            Err(_) => Err(PlanFault::OutOfMemory),
+            Ok(rows) => self.close(alloc, job as usize, rows, judge),
+        }
     }
 }

@@ -1,9 +1,10 @@
 //! Copies of what is kept of a path.
 
-ghost use Rattle.std.specs.Prelude.{◌≡◌, map, IfOk};
+ghost use Rattle.std.specs.Prelude.{◌≡◌, map, option_map, IfOk};
 ghost use Rattle.smk_facts.specs.Telling.{copied, held_by};
 
 use smk_base::{Copied, List, OutOfMemory};
+use smk_plan::Sight;
 use smk_record::{Member, Record, Stamp};
 use smk_store::{Entry, Kept};
 use std::alloc::Global;
@@ -61,8 +62,8 @@ fn record_again(alloc: Global, held: &Record) -> Result<Kept, OutOfMemory>
     Ok(kept_by(Record::new(path, held.made(), recipe, stamps, members)))
 }
 
-// A copy of what is kept; a record only where it is valid.
-fn kept_again(alloc: Global, kept: &Kept) -> Result<Kept, OutOfMemory>
+/// A copy of what is kept; a record only where it is valid.
+pub(crate) fn kept_again(alloc: Global, kept: &Kept) -> Result<Kept, OutOfMemory>
     ensures { IfOk result (λ copy. copy ≡ copied kept.now) }
 {
     match kept {
@@ -128,4 +129,48 @@ pub(crate) fn stamps_if_any(
         copy.push(*stamp)?;
     }
     Ok(copy)
+}
+
+// A copy of the members, where there are some.
+fn members_if_any(
+    alloc: Global,
+    members: &Option<List<Member>>,
+) -> Result<Option<List<Member>>, OutOfMemory>
+    ensures { IfOk result (λ copy. copy ≡ members.now) }
+{
+    match members {
+        None => Ok(None),
+        Some(members) => {
+            let copy = members_again(alloc, members.as_slice())?;
+            Ok(Some(copy))
+        }
+    }
+}
+
+/// A copy of the sight.
+pub(crate) fn sight_again(alloc: Global, sight: &Sight) -> Result<Sight, OutOfMemory>
+    ensures { IfOk result (λ copy. copy ≡ sight.now) }
+{
+    Ok(Sight {
+        path: sight.path.copied(alloc)?,
+        stat: sight.stat,
+        members: members_if_any(alloc, &sight.members)?,
+        guarded: sight.guarded,
+    })
+}
+
+/// A copy of the sight, where there is one.
+pub(crate) fn sight_if_any(
+    alloc: Global,
+    sight: Option<&Sight>,
+) -> Result<Option<Sight>, OutOfMemory>
+    ensures { IfOk result (λ copy. copy ≡ option_map (λ s. s.now) sight.entry) }
+{
+    match sight {
+        None => Ok(None),
+        Some(sight) => {
+            let copy = sight_again(alloc, sight)?;
+            Ok(Some(copy))
+        }
+    }
 }

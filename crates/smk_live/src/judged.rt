@@ -1,22 +1,10 @@
-//! The states of jobs by what was judged of them.
+//! What was judged of jobs.
 
-ghost use Rattle.std.specs.Prelude.{◌≡◌, List as Items, map, length, IfOk};
-ghost use Rattle.smk_world.specs.Trees.{Path};
-ghost use Rattle.smk_store.specs.Images.{Image};
-ghost use Rattle.smk_trigger.specs.declared.facts.JobFacts.{JobFacts as FactsValue};
+ghost use Rattle.std.specs.Prelude.{◌≡◌, map, option_map, IfOk};
 ghost use Rattle.smk_trigger.specs.Reasons.{reasons_of};
-ghost use Rattle.smk_plan.specs.States.{HasStates, job_path};
-ghost use Rattle.smk_states.specs.Judged.{with_states};
-ghost use Rattle.smk_live.specs.declared.children.Child.{Child as ChildValue};
-ghost use Rattle.smk_live.specs.Phases.{named, named_state};
-ghost use Rattle.smk_live.specs.Lives.{IsSoIn};
 
 use smk_base::{List, OutOfMemory};
-use smk_chain::Jobs;
-use smk_pick::Settings;
-use smk_plan::Wholes;
-use smk_states::states_now;
-use smk_trigger::{JobFacts, Reason, State};
+use smk_trigger::{JobFacts, Judge, Reason};
 use std::alloc::Global;
 
 // A copy of the reason.
@@ -72,31 +60,35 @@ pub(crate) fn forced_of(alloc: Global, facts: &[JobFacts]) -> Result<List<bool>,
     Ok(found)
 }
 
-/// The states of the jobs now, by the reasons of each, which of them are forced, what is whole, and for each job the state that it had when it began, if its
-/// child runs.
-pub(crate) fn states_of(
+// What the judge says of the facts, where there are new ones.
+fn judge_one<J: Judge>(
     alloc: Global,
-    jobs: &Jobs,
-    settings: &Settings,
-    reasons: List<List<Reason>>,
-    forced: &List<bool>,
-    wholes: &Wholes,
-    running: List<Option<State>>,
-) -> Result<List<State>, OutOfMemory>
-    ensures each { IfOk result (λ found. length found ≡ length jobs.now.jobs) }
-    ensures table { IfOk result (λ found. (image : Image) (facts : Items FactsValue) (begun : Items Path) (children : Items ChildValue) → reasons ≡ map reasons_of facts
-        → forced.now ≡ map (λ f. f.forced) facts → running ≡ map (λ j. named_state children (job_path j)) jobs.now.jobs
-        → IsSoIn image settings.now jobs.now facts wholes.now (record { begun = begun; running = map named children })
-        → HasStates image settings.now (record { begun = begun; running = map named children }) (with_states jobs.now found)) }
+    judge: &J,
+    facts: &Option<JobFacts>,
+) -> Result<Option<List<Reason>>, OutOfMemory>
+    ensures { IfOk result (λ found. found ≡ option_map reasons_of facts.now) }
 {
-    let found = states_now(
-        alloc,
-        jobs,
-        &settings.targets,
-        reasons,
-        forced,
-        wholes,
-        running,
-    )?;
+    match facts {
+        None => Ok(None),
+        Some(facts) => {
+            let found = judge.judge(alloc, facts)?;
+            Ok(Some(found))
+        }
+    }
+}
+
+/// What the judge says of each of the new facts. It is asked once about each, and nothing else.
+pub(crate) fn judge_each<J: Judge>(
+    alloc: Global,
+    judge: &J,
+    facts: &[Option<JobFacts>],
+) -> Result<Vec<Option<List<Reason>>>, OutOfMemory>
+    ensures { IfOk result (λ found. found.items ≡ map (option_map reasons_of) facts.now) }
+{
+    let mut found = Vec::new(alloc);
+    for one in facts {
+        let reasons = judge_one(alloc, judge, one)?;
+        found.push(reasons)?;
+    }
     Ok(found)
 }

@@ -1,20 +1,26 @@
-//! A plan that is kept and changed in place while jobs begin and are closed.
+//! A plan that is kept and changed in place while jobs begin and are closed and new ones come.
 #![tactic(auto)]
 
+mod base;
 mod beginning;
+mod carried;
 mod children;
 mod closing;
 mod copies;
-mod facts;
+mod growing;
 mod judged;
+mod later;
 mod live;
 mod made;
 mod new;
 mod next;
+mod now;
 mod outs;
 mod phase;
-mod readers;
-mod whole;
+mod renewing;
+mod sites;
+mod slots;
+mod telling;
 
-pub use live::{Late, LivePlan};
+pub use live::LivePlan;
 pub use phase::Phase;

@@ -1,66 +1,85 @@
-//! A plan that is kept.
+//! A plan that is kept, and what it tells.
 
-ghost use Rattle.std.specs.Prelude.{◌≡◌};
-ghost use Rattle.std.specs.List.{slice_get};
+ghost use Rattle.std.specs.Prelude.{◌≡◌, option_map};
+ghost use Rattle.std.specs.List.{slice_get, list_any};
 ghost use Rattle.smk_store.specs.Images.{Image};
-ghost use Rattle.smk_plan.specs.States.{HasStates};
+ghost use Rattle.smk_plan.specs.States.{is_held_back};
 ghost use Rattle.smk_states.specs.Judged.{with_states};
-ghost use Rattle.smk_live.specs.Lives.{IsLive, IsOf, progress_of};
+ghost use Rattle.smk_planning.specs.Plans.{HasMadeAt};
 
 use crate::Phase;
-use smk_base::List;
+use crate::base::Base;
+use crate::now::{entry_now, sight_now, site_of};
+use smk_base::{List, PathText};
 use smk_chain::Jobs;
 use smk_pick::Settings;
-use smk_plan::{Seen, Sight, Wholes};
-use smk_store::{Entry, Store};
-use smk_trigger::{JobFacts, Reason, State};
+use smk_plan::{Plan, Sight};
+use smk_store::Entry;
+use smk_trigger::{JobFacts, Reason};
 
-/// What came of a job as it was closed: an entry and a sight for each of its outputs.
-#[derive(Debug, Drop)]
-pub struct Late {
-    pub entries: List<Entry>,
-    pub sights: List<Sight>,
-}
-
-/// A plan that is kept while jobs begin and are closed, with what each of its jobs is judged by and what the judge said of it.
+/// A plan that is kept while jobs begin and are closed and new ones come, with what each of its jobs is judged by and what the judge said of it.
 #[derive(Drop)]
 pub struct LivePlan {
-    pub(crate) jobs: Jobs,
+    pub(crate) base: Base,
     pub(crate) settings: Settings,
-    pub(crate) store: Store,
-    pub(crate) seen: Seen,
     pub(crate) facts: Vec<JobFacts>,
     pub(crate) reasons: Vec<List<Reason>>,
-    pub(crate) wholes: Wholes,
-    pub(crate) phases: Vec<Phase>,
-    pub(crate) states: List<State>,
-    /// The state that each job had when it began, if its child runs.
-    pub(crate) began: Vec<Option<State>>,
-    /// What came of each job as it was closed.
-    pub(crate) late: Vec<Option<Late>>,
+    pub(crate) plan: Plan,
+    /// Whether some job is to be restored but counts as Clean.
+    pub(crate) held: bool,
 }
 
 impl LivePlan {
-    /// The jobs. It takes no memory.
-    pub fn jobs(&self) -> &Jobs
-        ensures { result.now ≡ self.now.jobs }
+    ghost use Rattle.smk_live.specs.Lives.{IsLive, IsAgreed, progress_of};
+    ghost use Rattle.smk_live.specs.Now.{output_entry, sight_now};
+
+    /// The plan of this moment: the states of the jobs, which targets are current, and the listings that have become known. It takes no memory.
+    pub fn as_plan(&self) -> &Plan
+        ensures value { result.now ≡ self.now.plan }
+        ensures now { IsLive self.now → (image : Image) → IsAgreed image self.now.settings self.now.base
+            → HasMadeAt image self.now.settings (progress_of self.now.base) self.now.base.jobs result.now }
     {
-        &self.jobs
+        &self.plan
     }
 
-    /// The states of the jobs: those of the table now. It takes no memory.
-    pub fn states(&self) -> &List<State>
-        ensures value { result.now ≡ self.now.states }
-        ensures table { IsLive self.now → (image : Image) → IsOf image self.now
-            → HasStates image self.now.settings (progress_of self.now) (with_states self.now.jobs result.now) }
+    /// The jobs. It takes no memory.
+    pub fn jobs(&self) -> &Jobs
+        ensures { result.now ≡ self.now.base.jobs }
     {
-        &self.states
+        &self.base.jobs
     }
 
     /// How far the job has come. None where there is no job of this number. It takes no memory.
     pub fn phase(&self, job: u32) -> Option<Phase>
-        ensures { result ≡ slice_get self.now.phases.items job }
+        ensures { result ≡ slice_get self.now.base.phases job }
     {
-        self.phases.as_slice().get(job as usize).copied()
+        self.base.phases.as_slice().get(job as usize).copied()
+    }
+
+    /// Whether some job is to be restored but counts as Clean, since a child reads what it made. It takes no memory.
+    pub fn holds_back(&self) -> bool
+        ensures value { result ≡ self.now.held }
+        ensures now { IsLive self.now → (image : Image) → IsAgreed image self.now.settings self.now.base
+            → result ≡ list_any (is_held_back image self.now.settings (progress_of self.now.base) (with_states self.now.base.jobs self.now.plan.states)) self.now.base.jobs.jobs }
+    {
+        self.held
+    }
+
+    /// What is known of an output of the jobs: what the last closing of its job gave, or else what the store of the call that brought the job has. None where the
+    /// path is no output, or nothing is known of it. It takes no memory.
+    pub fn entry(&self, path: &PathText) -> Option<&Entry>
+        ensures { option_map (λ e. e.now) result ≡ output_entry self.now.base path.now }
+    {
+        match site_of(&self.base, path) {
+            None => None,
+            Some(_) => entry_now(&self.base, path),
+        }
+    }
+
+    /// What was seen last at the path. None where nothing was looked at there. It takes no memory.
+    pub fn sight(&self, path: &PathText) -> Option<&Sight>
+        ensures { option_map (λ s. s.now) result ≡ sight_now self.now.base path.now }
+    {
+        sight_now(&self.base, path)
     }
 }

@@ -1,38 +1,48 @@
 //! How a kept plan begins.
 
-ghost use Rattle.std.specs.Prelude.{◌≡◌, ◌≢◌, List as Items, [], map, length, IfOk, IfErr, None};
-ghost use Rattle.smk_world.specs.Trees.{Path};
+ghost use Rattle.std.specs.Prelude.{◌≡◌, ◌≢◌, [], map, length, true, None, IfOk, IfErr};
+ghost use Rattle.std.specs.List.{list_all};
 ghost use Rattle.smk_store.specs.Images.{Image};
 ghost use Rattle.smk_trigger.specs.Reasons.{reasons_of};
-ghost use Rattle.smk_plan.specs.States.{HasStates};
-ghost use Rattle.smk_plan.specs.Sights.{wholes_of};
-ghost use Rattle.smk_facts.specs.Facts.{facts_of};
-ghost use Rattle.smk_states.specs.Judged.{with_states};
+ghost use Rattle.smk_facts.specs.Telling.{has_path_texts};
 ghost use Rattle.smk_planning.specs.Plans.{Agree, IsRefused};
-ghost use Rattle.smk_live.specs.Phases.{running_in};
-ghost use Rattle.smk_live.specs.Lives.{IsLive, IsOf, IsSoIn};
+ghost use Rattle.smk_live.specs.Lives.{IsLive, IsAgreed, IsSound, IsNow, IsRefusedNow, facts_now};
+ghost use Rattle.smk_live.specs.Changes.{IsFirst};
 
-use crate::children::kept_states;
-use crate::judged::{all_again, forced_of, states_of};
-use crate::{LivePlan, Phase};
+use crate::LivePlan;
+use crate::base::Base;
+use crate::carried::first_rows;
+use crate::judged::{all_again, forced_of};
+use crate::sites::sited_of;
+use crate::slots::Slots;
+use crate::telling::{begun_of, tell};
 use smk_base::{List, OutOfMemory};
 use smk_chain::Jobs;
-use smk_facts::{facts, wholes};
-use smk_flow::Job;
+use smk_facts::facts_told;
 use smk_pick::Settings;
-use smk_plan::{PlanFault, Seen, Wholes};
-use smk_planning::plan;
+use smk_plan::{Plan, PlanFault, Seen};
 use smk_store::Store;
-use smk_trigger::{JobFacts, Plain, Reason, State, all_reasons};
+use smk_trigger::{JobFacts, Plain, Reason, all_reasons};
 use std::alloc::Global;
+use std::collections::BTreeMap;
 use std::thread::Threads;
 
-// What is known of the jobs before their states are.
+// What the jobs are judged by and what was judged, with copies for the plan.
 #[derive(Drop)]
-struct Told {
+struct Judged {
     facts: Vec<JobFacts>,
     reasons: Vec<List<Reason>>,
-    wholes: Wholes,
+    own: List<List<Reason>>,
+    forced: List<bool>,
+}
+
+/// The same with the plan by it, and whether a job is held back.
+#[derive(Drop)]
+pub(crate) struct Told {
+    pub(crate) facts: Vec<JobFacts>,
+    pub(crate) reasons: Vec<List<Reason>>,
+    pub(crate) plan: Plan,
+    pub(crate) held: bool,
 }
 
 // The elements of the list.
@@ -48,114 +58,137 @@ fn elements<T: Drop>(alloc: Global, list: List<T>) -> Result<Vec<T>, OutOfMemory
     Ok(found)
 }
 
-// For each job that it waits.
-fn waiting(alloc: Global, jobs: &[Job]) -> Result<Vec<Phase>, OutOfMemory>
-    ensures { IfOk result (λ found. found.items ≡ map (λ j. Phase.Waiting) jobs.now) }
-{
-    let mut found = Vec::new(alloc);
-    for _job in jobs {
-        found.push(Phase::Waiting)?;
-    }
-    Ok(found)
-}
-
-// For each job that there is nothing.
-fn nothing<T: Drop>(alloc: Global, jobs: &[Job]) -> Result<Vec<Option<T>>, OutOfMemory>
-    ensures { IfOk result (λ found. found.items ≡ map (λ j. None) jobs.now) }
-{
-    let mut found = Vec::new(alloc);
-    for _job in jobs {
-        found.push(None)?;
-    }
-    Ok(found)
-}
-
-// What is known of jobs of which none has begun.
-fn tell<Rt: Threads + Sync>(
+// What all jobs are judged by and what the judge says of them. It is told in several threads, where there are many.
+fn judge_jobs<Rt: Threads + Sync>(
     rt: &Rt,
     alloc: Global,
-    jobs: &Jobs,
-    store: &Store,
-    seen: &Seen,
+    base: &Base,
     settings: &Settings,
-) -> Result<Told, OutOfMemory>
-    ensures told { IfOk result (λ f. f.reasons.items ≡ map reasons_of f.facts.items) }
-    ensures facts { IfOk result (λ f. (image : Image) → Agree image jobs.now store.now seen.now settings.now.targets
-        → f.facts.items ≡ map (facts_of image settings.now [] (with_states jobs.now [])) jobs.now.jobs) }
-    ensures wholes { IfOk result (λ f. (image : Image) → Agree image jobs.now store.now seen.now settings.now.targets → f.wholes ≡ wholes_of image jobs.now) }
+) -> Result<Judged, OutOfMemory>
+    ensures facts { IfOk result (λ judged. judged.facts.items ≡ facts_now settings.now base.now) }
+    ensures reasons { IfOk result (λ judged. judged.reasons.items ≡ map reasons_of judged.facts.items) }
+    ensures own { IfOk result (λ judged. judged.own ≡ map reasons_of judged.facts.items) }
+    ensures forced { IfOk result (λ judged. judged.forced ≡ map (λ f. f.forced) judged.facts.items) }
+    ensures texts { IfOk result (λ judged. list_all has_path_texts base.now.jobs.jobs ≡ true) }
 {
-    let ran = List::new(alloc);
-    let own = facts(alloc, jobs, store, seen, settings, &ran)?;
-    let whole = wholes(alloc, jobs, store, seen)?;
-    let told = all_reasons(rt, alloc, &own, &Plain)?;
-    let facts = elements(alloc, own)?;
-    let reasons = elements(alloc, told)?;
-    Ok(Told {
+    let ran = begun_of(alloc, base.jobs.jobs.as_slice(), base.phases.as_slice())?;
+    let told = facts_told(alloc, &base.jobs, base, settings, &ran)?;
+    let own = all_reasons(rt, alloc, &told, &Plain)?;
+    let facts = elements(alloc, told)?;
+    let forced = forced_of(alloc, facts.as_slice())?;
+    let copy = all_again(alloc, own.as_slice())?;
+    let reasons = elements(alloc, own)?;
+    Ok(Judged {
         facts,
         reasons,
-        wholes: whole,
+        own: copy,
+        forced,
     })
 }
 
-// The states of the jobs by what is known of them.
-fn first_states(
+// The same with the plan by it.
+fn told_by(
     alloc: Global,
-    jobs: &Jobs,
+    base: &Base,
     settings: &Settings,
-    judged: &Told,
-    began: &[Option<State>],
-) -> Result<List<State>, OutOfMemory>
-    requires told { judged.now.reasons.items ≡ map reasons_of judged.now.facts.items }
-    ensures each { IfOk result (λ found. length found ≡ length jobs.now.jobs) }
-    ensures table { IfOk result (λ found. (image : Image) (begun : Items Path)
-        → IsSoIn image settings.now jobs.now judged.now.facts.items judged.now.wholes (record { begun = begun; running = running_in jobs.now.jobs began.now })
-        → HasStates image settings.now (record { begun = begun; running = running_in jobs.now.jobs began.now }) (with_states jobs.now found)) }
+    judged: Judged,
+) -> Result<Told, PlanFault>
+    requires facts { judged.facts.items ≡ facts_now settings.now base.now }
+    requires reasons { judged.reasons.items ≡ map reasons_of judged.facts.items }
+    requires own { judged.own ≡ map reasons_of judged.facts.items }
+    requires forced { judged.forced ≡ map (λ f. f.forced) judged.facts.items }
+    requires texts { list_all has_path_texts base.now.jobs.jobs ≡ true }
+    ensures facts { IfOk result (λ told. told.facts.items ≡ facts_now settings.now base.now) }
+    ensures reasons { IfOk result (λ told. told.reasons.items ≡ map reasons_of told.facts.items) }
+    ensures texts { IfOk result (λ told. list_all has_path_texts base.now.jobs.jobs ≡ true) }
+    ensures each { IfOk result (λ told. length told.plan.states ≡ length base.now.jobs.jobs) }
+    ensures targets { IfOk result (λ told. length told.plan.current ≡ length settings.now.targets) }
+    ensures now { IfOk result (λ told. IsSound base.now → IsNow settings.now base.now told.plan told.held) }
+    ensures refused { IfErr result (λ fault. fault ≢ PlanFault.OutOfMemory → IsSound base.now → IsRefusedNow settings.now base.now fault) }
 {
-    let own = all_again(alloc, judged.reasons.as_slice())?;
-    let forced = forced_of(alloc, judged.facts.as_slice())?;
-    let running = kept_states(alloc, jobs.jobs.as_slice(), began)?;
-    let found = states_of(alloc, jobs, settings, own, &forced, &judged.wholes, running)?;
-    Ok(found)
-}
-
-// The kept plan.
-fn kept<Rt: Threads + Sync>(
-    rt: &Rt,
-    alloc: Global,
-    jobs: Jobs,
-    store: Store,
-    seen: Seen,
-    settings: Settings,
-) -> Result<LivePlan, OutOfMemory>
-    ensures live { IfOk result IsLive }
-    ensures jobs { IfOk result (λ p. (p.jobs ≡ jobs) × ((p.settings ≡ settings) × (p.phases.items ≡ map (λ j. Phase.Waiting) jobs.jobs))) }
-    ensures seen { IfOk result (λ p. (p.store ≡ store) × ((p.seen ≡ seen) × (p.late.items ≡ map (λ j. None) jobs.jobs))) }
-    ensures began { IfOk result (λ p. p.began.items ≡ map (λ j. None) jobs.jobs) }
-    ensures so { IfOk result (λ p. (image : Image) → Agree image jobs store seen settings.targets → IsOf image p) }
-{
-    let told = tell(rt, alloc, &jobs, &store, &seen, &settings)?;
-    let began = nothing(alloc, jobs.jobs.as_slice())?;
-    let states = first_states(alloc, &jobs, &settings, &told, began.as_slice())?;
-    let phases = waiting(alloc, jobs.jobs.as_slice())?;
-    let late = nothing(alloc, jobs.jobs.as_slice())?;
-    let Told {
+    let Judged {
         facts,
         reasons,
-        wholes,
-    } = told;
-    Ok(LivePlan {
+        own,
+        forced,
+    } = judged;
+    match tell(alloc, base, settings, own, &forced) {
+        Err(fault) => Err(fault),
+        Ok(made) => Ok(Told {
+            facts,
+            reasons,
+            plan: made.plan,
+            held: made.held,
+        }),
+    }
+}
+
+/// What all jobs are judged by, what the judge says of them, and the plan by it.
+pub(crate) fn told_of<Rt: Threads + Sync>(
+    rt: &Rt,
+    alloc: Global,
+    base: &Base,
+    settings: &Settings,
+) -> Result<Told, PlanFault>
+    ensures facts { IfOk result (λ told. told.facts.items ≡ facts_now settings.now base.now) }
+    ensures reasons { IfOk result (λ told. told.reasons.items ≡ map reasons_of told.facts.items) }
+    ensures texts { IfOk result (λ told. list_all has_path_texts base.now.jobs.jobs ≡ true) }
+    ensures each { IfOk result (λ told. length told.plan.states ≡ length base.now.jobs.jobs) }
+    ensures targets { IfOk result (λ told. length told.plan.current ≡ length settings.now.targets) }
+    ensures now { IfOk result (λ told. IsSound base.now → IsNow settings.now base.now told.plan told.held) }
+    ensures refused { IfErr result (λ fault. fault ≢ PlanFault.OutOfMemory → IsSound base.now → IsRefusedNow settings.now base.now fault) }
+{
+    match judge_jobs(rt, alloc, base, settings) {
+        Err(_) => Err(PlanFault::OutOfMemory),
+        Ok(judged) => told_by(alloc, base, settings, judged),
+    }
+}
+
+// The base of these jobs, of which none has begun.
+fn first_base(alloc: Global, jobs: Jobs, store: Store, seen: Seen) -> Result<Base, OutOfMemory>
+    ensures sound { IfOk result IsSound }
+    ensures first { IfOk result (IsFirst jobs store seen) }
+{
+    let sited = sited_of(alloc, &jobs)?;
+    let rows = first_rows(alloc, jobs.jobs.as_slice())?;
+    Ok(Base {
         jobs,
-        settings,
         store,
         seen,
-        facts,
-        reasons,
-        wholes,
-        phases,
-        states,
-        began,
-        late,
+        later: BTreeMap::new(alloc),
+        came: List::new(alloc),
+        entries: Slots::of(rows.entries),
+        sights: Slots::of(rows.sights),
+        sites: sited.sites,
+        sources: sited.sources,
+        phases: Slots::of(rows.phases),
+        began: Slots::of(rows.began),
     })
+}
+
+// The kept plan over this base.
+fn over<Rt: Threads + Sync>(
+    rt: &Rt,
+    alloc: Global,
+    base: Base,
+    settings: Settings,
+) -> Result<LivePlan, PlanFault>
+    requires { IsSound base }
+    ensures live { IfOk result IsLive }
+    ensures so { IfOk result (λ p. (p.base ≡ base) × (p.settings ≡ settings)) }
+    ensures refused { IfErr result (λ fault. fault ≢ PlanFault.OutOfMemory → IsRefusedNow settings base fault) }
+{
+    match told_of(rt, alloc, &base, &settings) {
+        Err(fault) => Err(fault),
+        Ok(told) => Ok(LivePlan {
+            base,
+            settings,
+            facts: told.facts,
+            reasons: told.reasons,
+            plan: told.plan,
+            held: told.held,
+        }),
+    }
 }
 
 impl LivePlan {
@@ -172,20 +205,14 @@ impl LivePlan {
         settings: Settings,
     ) -> Result<LivePlan, PlanFault>
         ensures live { IfOk result IsLive }
-        ensures jobs { IfOk result (λ p. (p.jobs ≡ jobs) × ((p.settings ≡ settings) × (p.phases.items ≡ map (λ j. Phase.Waiting) jobs.jobs))) }
-        ensures seen { IfOk result (λ p. (p.store ≡ store) × ((p.seen ≡ seen) × (p.late.items ≡ map (λ j. None) jobs.jobs))) }
-        ensures began { IfOk result (λ p. p.began.items ≡ map (λ j. None) jobs.jobs) }
-        ensures so { IfOk result (λ p. (image : Image) → Agree image jobs store seen settings.targets → IsOf image p) }
+        ensures first { IfOk result (λ p. IsFirst jobs store seen p.base × (p.settings ≡ settings)) }
+        ensures so { IfOk result (λ p. (image : Image) → Agree image jobs store seen settings.targets → IsAgreed image settings p.base) }
         ensures refused { IfErr result (λ fault. fault ≢ PlanFault.OutOfMemory → (image : Image) → Agree image jobs store seen settings.targets
             → IsRefused image settings [] jobs fault) }
     {
-        let ran = List::new(alloc);
-        match plan(rt, alloc, &jobs, &store, &seen, &settings, &ran) {
-            Err(fault) => Err(fault),
-            Ok(_) => match kept(rt, alloc, jobs, store, seen, settings) {
-                Err(_) => Err(PlanFault::OutOfMemory),
-                Ok(live) => Ok(live),
-            },
+        match first_base(alloc, jobs, store, seen) {
+            Err(_) => Err(PlanFault::OutOfMemory),
+            Ok(base) => over(rt, alloc, base, settings),
         }
     }
 }

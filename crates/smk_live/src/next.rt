@@ -1,26 +1,45 @@
 //! What is new as a job begins or is closed, and how it is put in.
 
-ghost use Rattle.std.specs.Prelude.{◌≡◌, ◌<◌, map, length, slice_set, IfOk};
-ghost use Rattle.smk_live.specs.Closing.{or_old, merged, put_in};
-ghost use Rattle.smk_live.specs.Lives.{IsLive};
-ghost use Rattle.smk_live.specs.Closed.{IsNext};
+ghost use Rattle.std.specs.Prelude.{◌≡◌, ◌≢◌, ◌<◌, false, List as Items, map, length, option_map, Some, IfOk, IfErr};
+ghost use Rattle.smk_trigger.specs.declared.facts.JobFacts.{JobFacts as FactsValue};
+ghost use Rattle.smk_trigger.specs.Reasons.{reasons_of};
+ghost use Rattle.smk_live.specs.Same.{or_old, merged, renewed_from};
+ghost use Rattle.smk_live.specs.Carried.{put_in};
+ghost use Rattle.std.specs.BTreeSet.{contains_text};
+ghost use Rattle.std.specs.List.{slice_get};
+ghost use Rattle.smk_world.specs.Trees.{outs_of};
+ghost use Rattle.smk_flow.specs.declared.job.Job.{Job as JobValue};
+ghost use Rattle.smk_live.specs.Now.{known_now, seen_now};
+ghost use Rattle.smk_live.specs.Lives.{AreJudgedBy, IsSettled, IsNow, IsRefusedNow};
 
-use crate::children::kept_states;
-use crate::facts::judge_each;
-use crate::judged::{reasons_again, states_of};
-use crate::{LivePlan, Phase};
+use crate::LivePlan;
+use crate::base::Base;
+use crate::judged::{judge_each, reasons_again};
+use crate::renewing::renewed_facts;
+use crate::telling::tell;
 use smk_base::{List, OutOfMemory};
-use smk_plan::Wholes;
-use smk_trigger::{JobFacts, Judge, Reason, State};
+use smk_flow::Job;
+use smk_pick::Settings;
+use smk_plan::{Plan, PlanFault};
+use smk_trigger::{JobFacts, Judge, Reason};
 use std::alloc::Global;
+
+// What is new of the facts and reasons of jobs; the reasons of each job, and which of them are forced.
+#[derive(Drop)]
+struct News {
+    facts: Vec<Option<JobFacts>>,
+    reasons: Vec<Option<List<Reason>>>,
+    own: List<List<Reason>>,
+    forced: List<bool>,
+}
 
 /// What is new once a job has begun or is closed.
 #[derive(Drop)]
 pub(crate) struct Next {
     pub(crate) facts: Vec<Option<JobFacts>>,
     pub(crate) reasons: Vec<Option<List<Reason>>>,
-    pub(crate) began: Vec<Option<State>>,
-    pub(crate) states: List<State>,
+    pub(crate) plan: Plan,
+    pub(crate) held: bool,
 }
 
 // The new reasons of a job, or else a copy of the old ones.
@@ -116,72 +135,117 @@ fn put_each<T: Drop>(all: &mut Vec<T>, news: Vec<Option<T>>)
     }
 }
 
-// Sets the phase at the place.
-fn set_phase(phases: &mut Vec<Phase>, at: usize, phase: Phase)
-    requires { at < length phases.old.items }
-    ensures { phases.new.items ≡ slice_set phases.old.items at phase }
+// The job of the number.
+fn job_at(jobs: &[Job], number: usize) -> &Job
+    requires { number < length jobs.now }
+    ensures { slice_get jobs.now number ≡ Some result.now }
 {
-    phases[at] = phase;
+    &jobs[number]
+}
+
+// What is new of the facts and reasons, once what is known and seen has changed at the outputs of the job of the number alone, which has begun. The judge is asked
+// about the new facts, once about each.
+fn news_of<J: Judge>(
+    alloc: Global,
+    number: usize,
+    base: &Base,
+    facts: &[JobFacts],
+    reasons: &[List<Reason>],
+    judge: &J,
+) -> Result<News, OutOfMemory>
+    requires { number < length base.now.jobs.jobs }
+    ensures facts { IfOk result (λ news. (j : JobValue) → slice_get base.now.jobs.jobs number ≡ Some j
+        → news.facts.items ≡ renewed_from (known_now base.now) (seen_now base.now) (contains_text base.now.sources) false (outs_of j.recipe) number 0 base.now.jobs.jobs facts.now) }
+    ensures reasons { IfOk result (λ news. news.reasons.items ≡ map (option_map reasons_of) news.facts.items) }
+    ensures own { IfOk result (λ news. news.own ≡ merged reasons.now news.reasons.items) }
+    ensures forced { IfOk result (λ news. news.forced ≡ map (λ f. f.forced) (merged facts.now news.facts.items)) }
+{
+    let jobs = base.jobs.jobs.as_slice();
+    let job = job_at(jobs, number);
+    let fresh = renewed_facts(alloc, number, job, jobs, facts, base, &base.sources, false)?;
+    let judged = judge_each(alloc, judge, fresh.as_slice())?;
+    let own = merged_reasons(alloc, reasons, judged.as_slice())?;
+    let forced = merged_forced(alloc, facts, fresh.as_slice())?;
+    Ok(News {
+        facts: fresh,
+        reasons: judged,
+        own,
+        forced,
+    })
+}
+
+// What is new, with the plan by it.
+fn next_by(alloc: Global, base: &Base, settings: &Settings, news: News) -> Result<Next, PlanFault>
+    ensures facts { IfOk result (λ next. (next.facts ≡ news.facts) × (next.reasons ≡ news.reasons)) }
+    ensures each { IfOk result (λ next. length next.plan.states ≡ length base.now.jobs.jobs) }
+    ensures targets { IfOk result (λ next. length next.plan.current ≡ length settings.now.targets) }
+    ensures now { IfOk result (λ next. (facts : Items FactsValue) → AreJudgedBy settings.now base.now facts news.own news.forced → IsNow settings.now base.now next.plan next.held) }
+    ensures refused { IfErr result (λ fault. fault ≢ PlanFault.OutOfMemory → (facts : Items FactsValue) → AreJudgedBy settings.now base.now facts news.own news.forced
+        → IsRefusedNow settings.now base.now fault) }
+{
+    let News {
+        facts,
+        reasons,
+        own,
+        forced,
+    } = news;
+    match tell(alloc, base, settings, own, &forced) {
+        Err(fault) => Err(fault),
+        Ok(made) => Ok(Next {
+            facts,
+            reasons,
+            plan: made.plan,
+            held: made.held,
+        }),
+    }
+}
+
+/// What is new once what is known and seen has changed at the outputs of the job of the number alone, which has begun. The judge is asked about the new facts, once
+/// about each.
+pub(crate) fn next_of<J: Judge>(
+    alloc: Global,
+    number: usize,
+    base: &Base,
+    settings: &Settings,
+    facts: &[JobFacts],
+    reasons: &[List<Reason>],
+    judge: &J,
+) -> Result<Next, PlanFault>
+    requires { number < length base.now.jobs.jobs }
+    ensures facts { IfOk result (λ next. (j : JobValue) → slice_get base.now.jobs.jobs number ≡ Some j
+        → next.facts.items ≡ renewed_from (known_now base.now) (seen_now base.now) (contains_text base.now.sources) false (outs_of j.recipe) number 0 base.now.jobs.jobs facts.now) }
+    ensures reasons { IfOk result (λ next. next.reasons.items ≡ map (option_map reasons_of) next.facts.items) }
+    ensures each { IfOk result (λ next. length next.plan.states ≡ length base.now.jobs.jobs) }
+    ensures targets { IfOk result (λ next. length next.plan.current ≡ length settings.now.targets) }
+    ensures now { IfOk result (λ next. IsSettled settings.now base.now facts.now reasons.now next.facts.items → IsNow settings.now base.now next.plan next.held) }
+    ensures refused { IfErr result (λ fault. fault ≢ PlanFault.OutOfMemory → ((j : JobValue) → slice_get base.now.jobs.jobs number ≡ Some j
+        → IsSettled settings.now base.now facts.now reasons.now
+        (renewed_from (known_now base.now) (seen_now base.now) (contains_text base.now.sources) false (outs_of j.recipe) number 0 base.now.jobs.jobs facts.now))
+        → IsRefusedNow settings.now base.now fault) }
+{
+    match news_of(alloc, number, base, facts, reasons, judge) {
+        Err(_) => Err(PlanFault::OutOfMemory),
+        Ok(news) => next_by(alloc, base, settings, news),
+    }
 }
 
 impl LivePlan {
-    /// What is new where these facts are new, this is whole, and these are the states at their beginning of the jobs that run. The judge is asked about the new
-    /// facts, once about each.
-    pub(crate) fn next<J: Judge>(
-        &self,
-        alloc: Global,
-        news: Vec<Option<JobFacts>>,
-        wholes: &Wholes,
-        began: Vec<Option<State>>,
-        judge: &J,
-    ) -> Result<Next, OutOfMemory>
-        requires live { IsLive self.now }
-        ensures { IfOk result (IsNext news.items wholes.now began.items self.now) }
-    {
-        let reasons = judge_each(alloc, judge, news.as_slice())?;
-        let own = merged_reasons(alloc, self.reasons.as_slice(), reasons.as_slice())?;
-        let forced = merged_forced(alloc, self.facts.as_slice(), news.as_slice())?;
-        let running = kept_states(alloc, self.jobs.jobs.as_slice(), began.as_slice())?;
-        let states = states_of(
-            alloc,
-            &self.jobs,
-            &self.settings,
-            own,
-            &forced,
-            wholes,
-            running,
-        )?;
-        Ok(Next {
-            facts: news,
-            reasons,
-            began,
-            states,
-        })
-    }
-
-    /// Puts in what is new; this is now the phase of the job of the number.
-    pub(crate) fn install(&mut self, number: usize, phase: Phase, next: Next)
-        requires { number < length self.old.phases.items }
-        ensures jobs { (self.new.jobs ≡ self.old.jobs) × (self.new.settings ≡ self.old.settings) }
-        ensures seen { (self.new.store ≡ self.old.store) × (self.new.seen ≡ self.old.seen) }
-        ensures phases { self.new.phases.items ≡ slice_set self.old.phases.items number phase }
-        ensures began { self.new.began.items ≡ next.began.items }
+    /// Puts in what is new.
+    pub(crate) fn install(&mut self, next: Next)
+        ensures base { (self.new.base ≡ self.old.base) × (self.new.settings ≡ self.old.settings) }
         ensures facts { self.new.facts.items ≡ merged self.old.facts.items next.facts.items }
         ensures reasons { self.new.reasons.items ≡ merged self.old.reasons.items next.reasons.items }
-        ensures states { self.new.states ≡ next.states }
-        ensures wholes { self.new.wholes ≡ self.old.wholes }
-        ensures late { self.new.late.items ≡ self.old.late.items }
+        ensures plan { (self.new.plan ≡ next.plan) × (self.new.held ≡ next.held) }
     {
         let Next {
             facts,
             reasons,
-            began,
-            states,
+            plan,
+            held,
         } = next;
         put_each(&mut self.facts, facts);
         put_each(&mut self.reasons, reasons);
-        set_phase(&mut self.phases, number, phase);
-        self.began = began;
-        self.states = states;
+        self.plan = plan;
+        self.held = held;
     }
 }

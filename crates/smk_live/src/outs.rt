@@ -1,7 +1,8 @@
 //! The outputs and inputs of a recipe as flat lists.
 
-ghost use Rattle.std.specs.Prelude.{◌≡◌, ◌++◌, IfOk, OnOk};
+ghost use Rattle.std.specs.Prelude.{◌≡◌, ◌++◌, map, IfOk, OnOk};
 ghost use Rattle.std.specs.List.{flat_map};
+ghost use Rattle.smk_live.specs.Sites.{out_path};
 
 use smk_base::{Copied, List, OutOfMemory, PathText};
 use smk_world::{Item, Out, OutItem};
@@ -49,6 +50,31 @@ pub(crate) fn paths_in(alloc: Global, items: &[Item]) -> Result<List<PathText>, 
     let mut paths = List::new(alloc);
     for item in items {
         push_paths(alloc, &mut paths, item.paths.as_slice())?;
+    }
+    Ok(paths)
+}
+
+// Adds the paths of the outputs.
+fn push_out_paths(
+    alloc: Global,
+    found: &mut List<PathText>,
+    outs: &[Out],
+) -> Result<(), OutOfMemory>
+    ensures { OnOk result (found.new ≡ found.old ++ map out_path outs.now) }
+{
+    for out in outs {
+        found.push(out.path.copy(alloc)?)?;
+    }
+    Ok(())
+}
+
+/// The paths of the outputs of the items, in order.
+pub(crate) fn out_paths_in(alloc: Global, items: &[OutItem]) -> Result<List<PathText>, OutOfMemory>
+    ensures { IfOk result (λ paths. paths ≡ flat_map (λ item. map out_path item.outs) items.now) }
+{
+    let mut paths = List::new(alloc);
+    for item in items {
+        push_out_paths(alloc, &mut paths, item.outs.as_slice())?;
     }
     Ok(paths)
 }

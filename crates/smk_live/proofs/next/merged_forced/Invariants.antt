@@ -1,6 +1,6 @@
 use Rattle.std.proofs.Common.{◌≡◌, ◌++◌, drop, map}
 use Rattle.smk_trigger.specs.declared.facts.JobFacts.{JobFacts}
-use Rattle.smk_live.specs.Closing.{merged}
+use Rattle.smk_live.specs.Same.{merged}
 use Rattle.smk_live.proofs.next.merged_forced.Given as goal
 
 abbrev pub invariant-loop-facts : goal.invariant-loop-facts

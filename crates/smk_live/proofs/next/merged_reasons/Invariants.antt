@@ -1,5 +1,5 @@
 use Rattle.std.proofs.Common.{◌≡◌, ◌++◌, drop}
-use Rattle.smk_live.specs.Closing.{merged}
+use Rattle.smk_live.specs.Same.{merged}
 use Rattle.smk_live.proofs.next.merged_reasons.Given as goal
 
 abbrev pub invariant-loop-own : goal.invariant-loop-own

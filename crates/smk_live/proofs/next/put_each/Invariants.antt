@@ -1,5 +1,5 @@
 use Rattle.std.proofs.Common.{◌≡◌, length}
-use Rattle.smk_live.specs.Closing.{merged}
+use Rattle.smk_live.specs.Same.{merged}
 use Rattle.smk_live.proofs.next.put_each.Given as goal
 
 abbrev pub decreases-items : goal.decreases-items

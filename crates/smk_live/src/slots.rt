@@ -1,0 +1,48 @@
+//! Lists whose elements are replaced in their places.
+
+ghost use Rattle.std.specs.Prelude.{◌≡◌, ◌<◌, length, slice_set, slice_index_or};
+
+use std::marker::Model;
+use std::mem;
+
+/// Elements in their places. Contracts see the list of them.
+#[derive(Drop)]
+pub struct Slots<T> {
+    elements: Vec<T>,
+}
+
+impl<T> Model for Slots<T> {
+    ghost use Rattle.std.specs.Prelude.{List as Items};
+    ghost use Rattle.std.specs.Coded.{coded_list};
+
+    ghost Value = { Items T };
+
+    ghost coded = { coded_list T.code };
+
+    ghost view = { λ slots. slots.elements.items };
+}
+
+impl<T> Slots<T> {
+    /// These elements.
+    pub(crate) fn of(elements: Vec<T>) -> Slots<T>
+        ensures { result ≡ elements.items }
+    {
+        Slots { elements }
+    }
+
+    /// The elements.
+    pub(crate) fn as_slice(&self) -> &[T]
+        ensures { result.now ≡ self.now }
+    {
+        self.elements.as_slice()
+    }
+
+    /// Puts the element in the place, and gives the one that was there.
+    pub(crate) fn swap(&mut self, at: usize, element: T) -> T
+        requires { at < length self.old }
+        ensures was { result ≡ slice_index_or self.old at result }
+        ensures now { self.new ≡ slice_set self.old at element }
+    {
+        mem::replace(&mut self.elements[at], element)
+    }
+}
