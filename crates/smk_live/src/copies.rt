@@ -6,7 +6,7 @@ ghost use Rattle.smk_facts.specs.Telling.{copied, held_by};
 use smk_base::{Copied, List, OutOfMemory};
 use smk_plan::Sight;
 use smk_record::{Member, Record, Stamp};
-use smk_store::{Entry, Kept};
+use smk_store::Kept;
 use std::alloc::Global;
 
 // A copy of the stamps.
@@ -84,28 +84,6 @@ pub(crate) fn all_kept_again(alloc: Global, kept: &[Kept]) -> Result<List<Kept>,
     Ok(copy)
 }
 
-/// The same of what these entries keep.
-pub(crate) fn kept_in(alloc: Global, entries: &[Entry]) -> Result<List<Kept>, OutOfMemory>
-    ensures { IfOk result (λ copy. copy ≡ map (λ e. copied e.kept) entries.now) }
-{
-    let mut copy = List::new(alloc);
-    for entry in entries {
-        copy.push(kept_again(alloc, &entry.kept)?)?;
-    }
-    Ok(copy)
-}
-
-/// Which of them are marked.
-pub(crate) fn marks_in(alloc: Global, entries: &[Entry]) -> Result<List<bool>, OutOfMemory>
-    ensures { IfOk result (λ found. found ≡ map (λ e. e.marked) entries.now) }
-{
-    let mut found = List::new(alloc);
-    for entry in entries {
-        found.push(entry.marked)?;
-    }
-    Ok(found)
-}
-
 /// A copy of the flags.
 pub(crate) fn flags_again(alloc: Global, flags: &[bool]) -> Result<List<bool>, OutOfMemory>
     ensures { IfOk result (λ copy. copy ≡ flags.now) }
@@ -113,20 +91,6 @@ pub(crate) fn flags_again(alloc: Global, flags: &[bool]) -> Result<List<bool>, O
     let mut copy = List::new(alloc);
     for flag in flags {
         copy.push(*flag)?;
-    }
-    Ok(copy)
-}
-
-/// A copy of the stamps, where there are some.
-pub(crate) fn stamps_if_any(
-    alloc: Global,
-    stamps: &[Option<Stamp>],
-) -> Result<List<Option<Stamp>>, OutOfMemory>
-    ensures { IfOk result (λ copy. copy ≡ stamps.now) }
-{
-    let mut copy = List::new(alloc);
-    for stamp in stamps {
-        copy.push(*stamp)?;
     }
     Ok(copy)
 }

@@ -1,11 +1,11 @@
-//! The outputs and inputs of a recipe as flat lists.
+//! The outputs of a recipe as flat lists.
 
 ghost use Rattle.std.specs.Prelude.{◌≡◌, ◌++◌, map, IfOk, OnOk};
 ghost use Rattle.std.specs.List.{flat_map};
 ghost use Rattle.smk_live.specs.Sites.{out_path};
 
 use smk_base::{Copied, List, OutOfMemory, PathText};
-use smk_world::{Item, Out, OutItem};
+use smk_world::{Out, OutItem};
 use std::alloc::Global;
 
 // Adds the outputs.
@@ -27,31 +27,6 @@ pub(crate) fn outs_in(alloc: Global, items: &[OutItem]) -> Result<List<Out>, Out
         push_outs(alloc, &mut outs, item.outs.as_slice())?;
     }
     Ok(outs)
-}
-
-// Adds the paths.
-fn push_paths(
-    alloc: Global,
-    found: &mut List<PathText>,
-    paths: &[PathText],
-) -> Result<(), OutOfMemory>
-    ensures { OnOk result (found.new ≡ found.old ++ paths.now) }
-{
-    for path in paths {
-        found.push(path.copy(alloc)?)?;
-    }
-    Ok(())
-}
-
-/// The paths of the items, in order.
-pub(crate) fn paths_in(alloc: Global, items: &[Item]) -> Result<List<PathText>, OutOfMemory>
-    ensures { IfOk result (λ paths. paths ≡ flat_map (λ item. item.paths) items.now) }
-{
-    let mut paths = List::new(alloc);
-    for item in items {
-        push_paths(alloc, &mut paths, item.paths.as_slice())?;
-    }
-    Ok(paths)
 }
 
 // Adds the paths of the outputs.
