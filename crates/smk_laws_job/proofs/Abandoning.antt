@@ -1,9 +1,8 @@
 -- What removals and settlings were called, and what is absent after a removal.
-use Rattle.std.proofs.Common.{◌≡◌, ◌⊎◌, inl, inr, Bool, true, false, ◌||◌, List, [], ◌∷◌, ◌++◌, map, refl, sym, ap, subst, ◌∙◌, bytes_eq, append_assoc, None, Ok, Err}
-use Rattle.std.specs.Prelude.{if◌then◌else◌, IsTrue}
+use Rattle.std.proofs.Common.{◌≡◌, ◌⊎◌, inl, inr, Bool, true, false, List, [], ◌∷◌, ◌++◌, map, refl, ap, subst, ◌∙◌, append_assoc, None, Ok, Err}
+use Rattle.std.specs.Prelude.{if◌then◌else◌}
 use Rattle.smk_base.specs.Path.{is_at_or_under}
 use Rattle.smk_base.specs.declared.tree.Tree.{Tree}
-use Rattle.smk_base.proofs.Places.{place_itself}
 use Rattle.smk_world.specs.declared.event.NodeState.{NodeState}
 use Rattle.smk_world.specs.declared.event.NodeState.TheVariants.{Owned, Known}
 use Rattle.smk_world.specs.declared.event.Call.{Call}
@@ -11,11 +10,11 @@ use Rattle.smk_world.specs.declared.event.Call.TheVariants.{Looked, ReadFile, Re
 use Rattle.smk_world.specs.declared.event.Change.{Change}
 use Rattle.smk_world.specs.declared.event.Event.{Event}
 use Rattle.smk_world.specs.declared.recipe.Recipe.{Recipe}
-use Rattle.smk_world.specs.World.{World, after, reading, going, standing, is_named, node_after}
+use Rattle.smk_world.specs.World.{World, after, reading, going, standing, node_after}
 use Rattle.smk_world.specs.Calls.{Acted, Lets, failed}
 use Rattle.smk_world.specs.Requests.{Request, request}
 use Rattle.smk_world.specs.Requests.Request.{Remove, Settle}
-use Rattle.smk_world.specs.Trees.{Path, IsIn, among}
+use Rattle.smk_world.specs.Trees.{Path, IsIn}
 use Rattle.smk_protocol.specs.Protocol.{IsAbsent}
 
 true_false : true ≡ false → ⊥

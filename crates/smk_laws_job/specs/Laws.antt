@@ -3,9 +3,9 @@ use Rattle.std.specs.Prelude.{◌≡◌, ◌≢◌, ◌⊎◌, ℕ, Bool, true, 
 use Rattle.smk_world.specs.declared.event.Event.{Event}
 use Rattle.smk_world.specs.declared.recipe.Out.{Out}
 use Rattle.smk_world.specs.World.{World, IsFormed}
-use Rattle.smk_world.specs.Calls.{HasOwners, started_numbers, failed}
+use Rattle.smk_world.specs.Calls.{HasOwners, started_numbers}
 use Rattle.smk_world.specs.Runs.{Follows}
-use Rattle.smk_world.specs.Requests.{Request, request, HasDone, IsCutShort, Carries}
+use Rattle.smk_world.specs.Requests.{Request, HasDone, IsCutShort, Carries}
 use Rattle.smk_world.specs.Trees.{Path, IsIn, Each, folders_of, is_path_text}
 use Rattle.smk_record.specs.Records.{is_valid}
 use Rattle.smk_record.specs.Spelling.{is_writable, ReadsRecords}

@@ -1,17 +1,16 @@
 -- A run of jobs, one after another, in plan order.
-use Rattle.std.specs.Prelude.{◌≡◌, ◌⊎◌, ◌<◌, ◌≤◌, ℕ, suc, Bool, true, false, List, [], ◌∷◌, ◌++◌, ◌+◌, length, map, Option, Some, None, slice_get, Result, Ok, Err, IsSome}
+use Rattle.std.specs.Prelude.{◌≡◌, ◌⊎◌, ◌≤◌, ℕ, Bool, true, false, List, [], ◌∷◌, ◌++◌, ◌+◌, length, map, Option, Some, None, slice_get, Result, Ok, Err, IsSome}
 use Rattle.std.specs.List.{count_by}
 use Rattle.smk_base.specs.declared.tree.Pair.{Pair}
 use Rattle.smk_world.specs.declared.recipe.Recipe.{Recipe}
 use Rattle.smk_world.specs.World.{World, in_paths, out_paths, owned_paths}
 use Rattle.smk_world.specs.Calls.{are_apart}
 use Rattle.smk_world.specs.Runs.{Did}
-use Rattle.smk_world.specs.Trees.{Path, Act, Each, is_path_text}
+use Rattle.smk_world.specs.Trees.{Act, Each, is_path_text}
 use Rattle.smk_record.specs.Records.{is_valid, record_of, are_rising}
 use Rattle.smk_record.specs.Spelling.{is_writable}
 use Rattle.smk_flow.specs.declared.job.Job.{Job}
 use Rattle.smk_flow.specs.Flows.{Flow}
-use Rattle.smk_chain.specs.declared.jobs.Jobs.{Jobs}
 use Rattle.smk_job.specs.Jobs.{too_long}
 use Rattle.smk_report.specs.Lines.{Text, Named}
 use Rattle.smk_report.specs.declared.fault.Fault.{Fault}
