@@ -15,12 +15,6 @@ pub fills : (p : Shape) (limits : List Pair) (t made : Text) (binding : List Pai
 fills p limits t made binding is e =
     e ∙ ap (λ (q : Shape). filled q.parts (values_of binding q.wildcards)) is ∙ fill_is_filled limits t binding
 
-pub is_good : (t : Text) → is_path t ≡ true → path_fault (t ∷ []) ≡ None
-is_good t e = ap (λ (b : Bool). cond b None (Some (JobFault.NotPath t))) e
-
-pub is_other : (t : Text) → is_path t ≡ false → path_fault (t ∷ []) ≡ Some (JobFault.NotPath t)
-is_other t e = ap (λ (b : Bool). cond b None (Some (JobFault.NotPath t))) e
-
 -- ---- one list after another
 
 -- after texts that are paths it is the fault of the others

@@ -82,8 +82,3 @@ number_rule parts rules n name rule are e at =
     let f = found parts 0 n name e in
     let same : f.m ≡ n = omega (arith, f.place) in
     ap (λ (p : RulePart). Some p) (part_there parts rules n f.part rule are (subst (λ (k : ℕ). slice_get parts k ≡ Some f.part) same f.there) at) ∙ sym f.first
-
-pub rule_within : (parts : List RulePart) (rules : List Rule) (n : ℕ) → rules ≡ map rule_of parts → n < length parts → n < length rules
-rule_within parts rules n are lt =
-    let same : length rules ≡ length parts = ap length are ∙ length_map parts in
-    omega (arith, same, lt)

@@ -254,9 +254,6 @@ pub refused_next : (nodes : Nodes) (p g : Path) (open_at : List Path) (front : L
 refused_next nodes p g open_at front old now new before n at name_in ((more, is, walk), all) step =
     refused nodes p g (open_at ++ member_places p more) front now n walk (subst (λ (fs : List Member). IsFront p fs front g) (sym is) (front_more p old more front g at)) name_in new step
 
-pub none_added : (nodes : Nodes) (p g : Path) (open_at : List Path) (front : List ℕ) (old : List Member) → IsWalk nodes p old (g ∷ open_at) → HasGoneOn nodes p (g ∷ open_at) old old × AreAllFound old front []
-none_added nodes p g open_at front old walk = (([], sym (append-nil old), subst (IsWalk nodes p old) (sym (append-nil (g ∷ open_at))) walk), tt)
-
 -- ## What a listing tells
 
 folder_listed : (w : World) (g : Path) (listing : Listing) (s : NodeState) → reads_folder s ≡ true → ListingIs w g listing s → IsListing w g listing

@@ -219,10 +219,6 @@ strange_step p keys more k name old other new one is_name was is now =
     now ∙ ap (λ o. o || other) was ∙ ap (λ o. strange_of p keys || o) (is ∙ ap is_strange is_name ∙ sym (or_false (is_strange (name_under k p))))
     ∙ sym (list_any-append (λ j. is_strange (name_under j p)) keys (k ∷ [])) ∙ ap (strange_of p) (sym one)
 
-pub either_is : (a b c : Bool) → (a ≡ true → c ≡ true) → (a ≡ false → c ≡ b) → c ≡ (a || b)
-either_is true b c h k = h refl
-either_is false b c h k = k refl
-
 -- ## The listing
 
 all_none : {X : Type 0} (P : X → Type 0) → All P []

@@ -8,7 +8,7 @@ use Rattle.smk_world.specs.declared.event.NodeState.{NodeState}
 use Rattle.smk_world.specs.declared.event.NodeState.TheVariants.{Owned, Known}
 use Rattle.smk_world.specs.declared.event.Child.{Child}
 use Rattle.smk_world.specs.World.{World, firmly, firm, with_folder}
-use Rattle.smk_world.specs.Calls.{started_numbers, HasOwners, Reads}
+use Rattle.smk_world.specs.Calls.{started_numbers, HasOwners}
 use Rattle.smk_nodes.specs.Nodes.{node_at, or_folder}
 use Rattle.smk_nodes.specs.Steps.{seen, step_world, replay, empty_world, Agrees, told_world, Orderly, AllBelow}
 use Rattle.smk_nodes.specs.declared.nodes.Nodes.{Nodes}
@@ -71,36 +71,8 @@ pub world_stepped : (told : Bool) (steps more : List Step) (s : Step) → more �
 world_stepped true steps more s is = ap Some (ap (replay empty_world) is ∙ replay_push empty_world steps s)
 world_stepped false steps more s is = refl
 
--- nodes that read the same agree with the same world
-pub agrees_same : (told : Bool) (old new : Nodes) (steps more : List Step) → Agrees told old steps → ((q : List ℕ) → node_at new q ≡ node_at old q) → more ≡ steps → Agrees told new more
-agrees_same told old new steps more agrees same is = λ told_is q.
-    subst (λ ss. seen (node_at new q) ((replay empty_world ss).nodes q) ≡ node_at new q) (sym is)
-    (subst (λ m. seen m ((replay empty_world steps).nodes q) ≡ m) (sym (same q)) (agrees told_is q))
-
-pub orderly_kept : (told : Bool) (steps more : List Step) (children : List Child) (next : ℕ) → Orderly told steps children next → more ≡ steps → Orderly told more children next
-orderly_kept told steps more children next orderly is = subst (λ ss. Orderly told ss children next) (sym is) orderly
-
 pub world_kept : (told : Bool) (steps more : List Step) → more ≡ steps → told_world told more ≡ told_world told steps
 world_kept told steps more is = ap (told_world told) is
-
--- what reads there is the node in memory
-pub reads_here : (m n : Option Node) (s : NodeState) → seen m s ≡ m → Reads n s → m ≡ n
-reads_here m n Owned a h = absurd h
-reads_here m n (Known now besides) a h = sym a ∙ h
-
-pub told_reads : (told : Bool) (nodes : Nodes) (steps : List Step) → Agrees told nodes steps → (w : World) → told_world told steps ≡ Some w → (p : List ℕ) (n : Option Node) → Reads n (w.nodes p) → node_at nodes p ≡ n
-told_reads true nodes steps agrees w e p n h = reads_here (node_at nodes p) n ((replay empty_world steps).nodes p) (agrees refl p) (subst (λ (v : World). Reads n (v.nodes p)) (sym (told_same _ _ e)) h)
-  where
-    told_same : (v1 v2 : World) → Some v1 ≡ Some v2 → v1 ≡ v2
-    told_same v1 v2 same = cc
-told_reads false nodes steps agrees w e p n h = cc
-
-pub told_started : (told : Bool) (steps : List Step) (children : List Child) (next : ℕ) → Orderly told steps children next → (w : World) → told_world told steps ≡ Some w → length (started_numbers w.log) + 1 ≡ next
-told_started true steps children next orderly w e = ap (λ v. length (started_numbers v.log) + 1) (sym (told_same _ _ e)) ∙ (orderly refl).started_counted
-  where
-    told_same : (v1 v2 : World) → Some v1 ≡ Some v2 → v1 ≡ v2
-    told_same v1 v2 same = cc
-told_started false steps children next orderly w e = cc
 
 -- where the world is told after the step, it was told before
 pub stepped_from : (told : Bool) (steps more : List Step) (s : Step) → more ≡ steps ++ s ∷ [] → (w : World) → told_world told more ≡ Some w → (v : World) × (told_world told steps ≡ Some v) × (w ≡ step_world v s)

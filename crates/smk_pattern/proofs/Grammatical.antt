@@ -1,10 +1,10 @@
 -- A text is written as a pattern where the grammar's relation has it, and is read as the pattern of the relation.
-use Rattle.std.proofs.Common.{◌≡◌, ℕ, zero, suc, ◌+◌, ◌<◌, ◌≤◌, ◌⊎◌, ◌==◌, ◌&&◌, ◌||◌, inl, inr, ⊎_elim, List, [], ◌∷◌, ◌++◌, length, map, filter, take, Option, Some, option_map, Result, Ok, Err, OnOk, IfOk, cond, not, Bool, true, false, refl, sym, ap, ap₂, subst, ◌∙◌, arith, true≢false, nat_le, bytes_eq}
+use Rattle.std.proofs.Common.{◌≡◌, ℕ, zero, suc, ◌+◌, ◌<◌, ◌≤◌, ◌⊎◌, ◌==◌, ◌&&◌, ◌||◌, inl, inr, ⊎_elim, List, [], ◌∷◌, ◌++◌, length, map, filter, take, Option, Some, Result, Ok, Err, OnOk, IfOk, cond, not, Bool, true, false, refl, sym, ap, ap₂, subst, ◌∙◌, arith, true≢false, nat_le, bytes_eq}
 use Rattle.std.specs.List.{list_all, list_any, slice_get}
 use Rattle.std.proofs.lemmas.Bool.{eq-eqb}
 use Rattle.std.proofs.lemmas.Bool.Decides.{nat_tests}
 use Rattle.std.proofs.lemmas.List.{length-map, take_more, take_all, length-take-le}
-use Rattle.std.proofs.lemmas.Option.{slice_get_within, get_or_from_slice_get, slice_get-map}
+use Rattle.std.proofs.lemmas.Option.{slice_get_within, get_or_from_slice_get}
 use Rattle.std.proofs.lemmas.Slice.Eq.{bytes_eq-Decides}
 use Rattle.smk_base.specs.declared.tree.Pair.{Pair}
 use Rattle.smk_base.specs.Path.{is_path}
@@ -231,9 +231,6 @@ made_at : (given : List Pair) (ps : List Piece) (names : List Text) (n : ℕ) (w
 made_at given ps [] n w e = absurd cc
 made_at given ps (name ∷ names) zero w e = let same : wildcard_in given ps name ≡ w = cc in record { name = name; at = refl; is = sym same }
 made_at given ps (name ∷ names) (suc n) w e = let r = made_at given ps names n w e in record { name = r.name; at = r.at; is = r.is }
-
-name_at : (ws : List Wildcard) (n : ℕ) (w : Wildcard) → slice_get ws n ≡ Some w → slice_get (map name_of ws) n ≡ Some w.name
-name_at ws n w e = slice_get-map name_of ws n ∙ ap (option_map name_of) e
 
 wildcard_at : (ws : List Wildcard) (n : ℕ) (name : Text) → slice_get (map name_of ws) n ≡ Some name → (w : Wildcard) × (slice_get ws n ≡ Some w) × (w.name ≡ name)
 wildcard_at [] n name e = absurd cc

@@ -38,22 +38,6 @@ not_kept name known = by (lacks known name)
     by true e = refl
     by false e = absurd (true≢false e)
 
-is_kept : (name : Text) (known : List Text) → is_some (found_place name known) ≡ true → lacks known name ≡ false
-is_kept name known = by (lacks known name)
-  where
-    by : (b : Bool) → is_some (cond b None (Some (place_of name known))) ≡ true → b ≡ false
-    by true e = absurd (true≢false (sym e))
-    by false e = refl
-
--- the place of a name, or the number of names
-pub place_or : (name : Text) (known : List Text) (found : Option ℕ) (n : ℕ) → found ≡ found_place name known →
-    ((k : ℕ) → found ≡ Some k → n ≡ k) → (found ≡ None → n ≡ length known) → n ≡ place_of name known
-place_or name known found n e some none = by (lacks known name) refl
-  where
-    by : (b : Bool) → lacks known name ≡ b → n ≡ place_of name known
-    by true f = none (e ∙ ap (λ b. cond b None (Some (place_of name known))) f) ∙ sym (eqb-true (place_of name known) (length known) f)
-    by false f = some (place_of name known) (e ∙ ap (λ b. cond b None (Some (place_of name known))) f)
-
 -- one more name is found, and the others as before
 found_more : (known : List Text) (name q : Text) → lacks known name ≡ true →
     cond (bytes_eq name q) (Some (length known)) (found_place q known) ≡ found_place q (known ++ name ∷ [])
@@ -96,17 +80,7 @@ names_more old new name count known h n free list at =
     pushed [] = refl
     pushed (x ∷ xs) = ap (λ ys. x.now ∷ ys) (pushed xs)
 
--- a name that is kept isn't added again
-pub names_same : (kept : Names) (p : Piece) (name : Text) (limit : Option Text) (known : List Text) → AreNames kept known → p ≡ hole name limit → is_some (place_at kept.places name) ≡ true →
-    AreNames kept (with_name p known)
-names_same kept p name limit known h e found =
-    let some : lacks known name ≡ false = is_kept name known (ap (λ (o : Option ℕ). is_some o) (sym (h.at name)) ∙ found) in
-    subst (λ (q : Piece). AreNames kept (with_name q known)) (sym e) (subst (AreNames kept) (sym (ap (λ b. cond b (known ++ name ∷ []) known) some)) h)
-
 -- ---- constraints in pieces
-
-abbrev limit_in : Text → Piece → List Text
-limit_in name p = inline_limits name (p ∷ [])
 
 limits_by : (b : Bool) (l : Text) (xs ys : List Text) → cond b (l ∷ (xs ++ ys)) (xs ++ ys) ≡ cond b (l ∷ xs) xs ++ ys
 limits_by true l xs ys = refl
@@ -260,10 +234,6 @@ or_some (Some t) b e = refl
 or_again : (a b c : Option Text) → or_text (or_text a b) c ≡ or_text a (or_text b c)
 or_again None b c = refl
 or_again (Some t) b c = refl
-
-or_cond : (t : Bool) (v : Text) (o : Option Text) → cond t (Some v) o ≡ or_text (cond t (Some v) None) o
-or_cond true v o = refl
-or_cond false v o = refl
 
 given_append : (name : Text) (xs ys : List Pair) → given_limit name (xs ++ ys) ≡ or_text (given_limit name xs) (given_limit name ys)
 given_append name [] ys = refl

@@ -1,12 +1,12 @@
 -- The least length of a path that a pattern gives.
-use Rattle.std.proofs.Common.{◌≡◌, ℕ, zero, suc, ◌+◌, ◌<◌, ◌≤◌, List, [], ◌∷◌, ◌++◌, length, take, drop, get_or, Bool, IsTrue, ◌↔◌, refl, sym, ap, subst, ◌∙◌, arith, length-append, true, nat_lt}
+use Rattle.std.proofs.Common.{◌≡◌, ℕ, zero, suc, ◌+◌, ◌<◌, ◌≤◌, List, [], ◌∷◌, ◌++◌, length, take, drop, get_or, Bool, IsTrue, ◌↔◌, sym, ap, subst, ◌∙◌, arith, length-append, true, nat_lt}
 use Rattle.std.proofs.lemmas.Bool.Decides.{nat_tests}
 use Rattle.std.proofs.lemmas.List.{append_cancel_left, at_drop_more}
 use Rattle.smk_pattern.specs.declared.pattern.Piece.{Piece}
 use Rattle.smk_pattern.specs.declared.pattern.Wildcard as code
 use Rattle.smk_pattern.specs.Shapes.{Text}
-use Rattle.smk_pattern.specs.Fitting.{filled, part_text, AllSuit, Suits, Fits, IsBinding}
-use Rattle.smk_pattern.specs.Pieces.{part_of, parts_of, wildcard_of, limits_of, pattern_of}
+use Rattle.smk_pattern.specs.Fitting.{filled, part_text, AllSuit, Suits}
+use Rattle.smk_pattern.specs.Pieces.{part_of, parts_of, wildcard_of, limits_of}
 use Rattle.smk_pattern.proofs.Filled.{filled_more}
 
 -- a value meets the constraint of its wildcard
@@ -35,10 +35,6 @@ least_more pieces i d values least part next lt sum is front here =
 
 -- ---- patterns without wildcards
 
-no_values : (values : List Text) → AllSuit [] values → values ≡ []
-no_values [] s = refl
-no_values (v ∷ vs) s = absurd s
-
 -- the pieces from a place on, and those behind one of them
 pub text_past : (pieces : List Piece) (i : ℕ) (d : Piece) (after rest : Text) → i < length pieces → d ≡ get_or pieces i d → rest ≡ part_text [] (part_of d) ++ after →
     {X : Type 0} → (filled (parts_of (drop i pieces)) [] ≡ rest) ↔ X → (filled (parts_of (drop (i + 1) pieces)) [] ≡ after) ↔ X
@@ -47,21 +43,3 @@ text_past pieces i d after rest lt is e h =
     at_drop_more (λ (xs : List Piece). xs) pieces i d lt ∙ ap (λ (x : Piece). x ∷ drop (i + 1) pieces) (sym is) in
     let whole : filled (parts_of (drop i pieces)) [] ≡ part_text [] (part_of d) ++ filled (parts_of (drop (i + 1) pieces)) [] = ap (λ (ps : List Piece). filled (parts_of ps) []) same in
     (λ f. h.0 (whole ∙ ap (λ x. part_text [] (part_of d) ++ x) f ∙ sym e), λ x. append_cancel_left (part_text [] (part_of d)) _ after (sym whole ∙ h.1 x ∙ e))
-
--- no text behind a piece is one behind all of them
-pub text_stops : (pieces : List Piece) (i : ℕ) (d : Piece) (rest : Text) → i < length pieces → d ≡ get_or pieces i d →
-    ((after : Text) → rest ≡ part_text [] (part_of d) ++ after → ⊥) → filled (parts_of (drop i pieces)) [] ≡ rest → ⊥
-text_stops pieces i d rest lt is none e =
-    let same : drop i pieces ≡ d ∷ drop (i + 1) pieces =
-    at_drop_more (λ (xs : List Piece). xs) pieces i d lt ∙ ap (λ (x : Piece). x ∷ drop (i + 1) pieces) (sym is) in
-    none (filled (parts_of (drop (i + 1) pieces)) []) (sym e ∙ ap (λ (ps : List Piece). filled (parts_of ps) []) same)
-
--- only the pieces' own text fits
-pub text_alone : (pieces : List Piece) (path : Text) (values : List Text) → Fits (pattern_of pieces []) path values → filled (parts_of pieces) [] ≡ path
-text_alone pieces path values f = sym (ap (filled (parts_of pieces)) (no_values values f.suit)) ∙ f.fills
-
-pub text_binds : (pieces : List Piece) (path : Text) → filled (parts_of pieces) [] ≡ path → IsBinding (pattern_of pieces []) path []
-text_binds pieces path e = record {
-  fits = record { fills = e; suit = tt };
-  longest = λ others f n same. subst (λ (xs : List Text). length (get_or xs n []) ≤ 0) (sym (no_values others f.suit)) (omega arith);
-}

@@ -1,12 +1,12 @@
 -- How a text is split, byte by byte.
-use Rattle.std.proofs.Common.{◌≡◌, ℕ, zero, suc, ◌+◌, ◌-◌, ◌<◌, ◌≤◌, ◌==◌, ◌&&◌, List, [], ◌∷◌, ◌++◌, length, take, drop, reverse, get_or, Some, cond, not, true, false, refl, sym, ap, subst, ◌∙◌, arith, append-nil, append_assoc, IsCharBoundary}
-use Rattle.std.proofs.lemmas.List.{at_drop_more, at_drop_all, drop_more, take_more, reverse-append, reverse-reverse, length-reverse, length-take-le, get_or-drop, length-drop}
+use Rattle.std.proofs.Common.{◌≡◌, ℕ, zero, suc, ◌+◌, ◌-◌, ◌<◌, ◌≤◌, ◌==◌, ◌&&◌, List, [], ◌∷◌, ◌++◌, length, take, drop, reverse, get_or, cond, not, true, false, refl, sym, ap, subst, ◌∙◌, arith, append-nil, append_assoc, IsCharBoundary}
+use Rattle.std.proofs.lemmas.List.{at_drop_more, take_more, reverse-append, reverse-reverse, length-reverse, length-take-le, get_or-drop, length-drop}
 use Rattle.std.proofs.lemmas.Bool.Decides.{nat_tests}
 use Rattle.std.proofs.lemmas.Str.{IsCharBoundary-after_ascii}
 use Rattle.smk_pattern.specs.declared.splitting.Splitter.{Splitter}
 use Rattle.smk_pattern.specs.Shapes.{Text}
 use Rattle.smk_pattern.specs.Grammar.{Piece, plain, is_blank, is_balanced}
-use Rattle.smk_pattern.specs.Reading.{trimmed, before_comma, after_comma, plain_of, hole_of, ended, depth_after, held_after, pieces_from, pieces}
+use Rattle.smk_pattern.specs.Reading.{trimmed, plain_of, hole_of, ended, depth_after, held_after, pieces_from, pieces}
 use Rattle.smk_pattern.specs.Splitting.{all_written, between, HasRead}
 
 -- ---- blanks
@@ -14,13 +14,6 @@ use Rattle.smk_pattern.specs.Splitting.{all_written, between, HasRead}
 pub blank_first : (text : Text) (i : ℕ) → i < length text → is_blank (get_or text i 0) ≡ true → trimmed (drop (i + 1) text) ≡ trimmed (drop i text)
 blank_first text i lt e =
     sym (at_drop_more trimmed text i 0 lt ∙ ap (λ b. cond b (trimmed (drop (i + 1) text)) (get_or text i 0 ∷ drop (i + 1) text)) e)
-
-pub no_blank_first : (text : Text) (i : ℕ) → i < length text → is_blank (get_or text i 0) ≡ false → trimmed (drop i text) ≡ drop i text
-no_blank_first text i lt e =
-    at_drop_more trimmed text i 0 lt ∙ ap (λ b. cond b (trimmed (drop (i + 1) text)) (get_or text i 0 ∷ drop (i + 1) text)) e ∙ sym (drop_more text i 0 lt)
-
-pub none_first : (text : Text) (i : ℕ) → length text ≤ i → trimmed (drop i text) ≡ drop i text
-none_first text i le = at_drop_all trimmed text i le ∙ sym (at_drop_all (λ x. x) text i le)
 
 last_first : (text : Text) (i : ℕ) → i < length text → reverse (take (i + 1) text) ≡ get_or text i 0 ∷ reverse (take i text)
 last_first text i lt = ap reverse (take_more text i 0 lt) ∙ reverse-append (take i text) (get_or text i 0 ∷ [])
@@ -32,25 +25,6 @@ blank_last text i lt e =
 pub no_blank_last : (text : Text) (i : ℕ) → i < length text → is_blank (get_or text i 0) ≡ false → trimmed (reverse (take (i + 1) text)) ≡ reverse (take (i + 1) text)
 no_blank_last text i lt e =
     ap trimmed (last_first text i lt) ∙ ap (λ b. cond b (trimmed (reverse (take i text))) (get_or text i 0 ∷ reverse (take i text))) e ∙ sym (last_first text i lt)
-
--- ---- the comma
-
-pub before_more : (text : Text) (i : ℕ) → i < length text → (get_or text i 0 == 44) ≡ false →
-    take i text ++ before_comma (drop i text) ≡ take (i + 1) text ++ before_comma (drop (i + 1) text)
-before_more text i lt e =
-    ap (λ t. take i text ++ t) (at_drop_more before_comma text i 0 lt ∙ ap (λ b. cond b [] (get_or text i 0 ∷ before_comma (drop (i + 1) text))) e)
-    ∙ sym (append_assoc (take i text) (get_or text i 0 ∷ []) (before_comma (drop (i + 1) text)))
-    ∙ ap (λ t. t ++ before_comma (drop (i + 1) text)) (sym (take_more text i 0 lt))
-
-pub after_more : (text : Text) (i : ℕ) → i < length text → (get_or text i 0 == 44) ≡ false → after_comma (drop i text) ≡ after_comma (drop (i + 1) text)
-after_more text i lt e =
-    at_drop_more after_comma text i 0 lt ∙ ap (λ b. cond b (Some (trimmed (drop (i + 1) text))) (after_comma (drop (i + 1) text))) e
-
-pub before_here : (text : Text) (i : ℕ) → i < length text → (get_or text i 0 == 44) ≡ true → before_comma (drop i text) ≡ []
-before_here text i lt e = at_drop_more before_comma text i 0 lt ∙ ap (λ b. cond b [] (get_or text i 0 ∷ before_comma (drop (i + 1) text))) e
-
-pub after_here : (text : Text) (i : ℕ) → i < length text → (get_or text i 0 == 44) ≡ true → after_comma (drop i text) ≡ Some (trimmed (drop (i + 1) text))
-after_here text i lt e = at_drop_more after_comma text i 0 lt ∙ ap (λ b. cond b (Some (trimmed (drop (i + 1) text))) (after_comma (drop (i + 1) text))) e
 
 -- ---- a byte
 
@@ -207,9 +181,3 @@ pub cut_last : (text : Text) (end : ℕ) → trimmed (reverse (take end text)) �
 cut_last text end whole rest =
     let n : end - 0 ≡ end = omega arith in
     ap (λ k. take k text) n ∙ sym (reverse-reverse (take end text)) ∙ ap reverse (sym rest ∙ whole)
-
--- a brace closes none
-pub closes_none : (s : Splitter) (at : ℕ) → HasRead s at → at < length s.text.now → get_or s.text.now at 0 ≡ 125 → s.depth ≡ 0 → is_balanced 0 s.text.now ≡ false
-closes_none s at r lt e d =
-    let text = s.text.now in
-    sym r.balanced ∙ ap (λ n. is_balanced n (drop at text)) d ∙ at_drop_more (is_balanced 0) text at 0 lt ∙ ap (λ c. is_balanced 0 (c ∷ drop (at + 1) text)) e

@@ -15,9 +15,6 @@ and_false false = refl
 none : (n : ℕ) → n ≡ 0 → nat_le 1 n ≡ false
 none n e = grind (arith, nat_tests)
 
-pub unbalanced : (text : Text) → is_balanced 0 text ≡ false → is_written text ≡ false
-unbalanced text e = ap (λ b. b && (are_written (pieces text) && (list_any is_hole (pieces text) || is_path text))) e
-
 not_written : (text : Text) → are_written (pieces text) ≡ false → is_written text ≡ false
 not_written text e =
     ap (λ b. is_balanced 0 text && (b && (list_any is_hole (pieces text) || is_path text))) e ∙ and_false (is_balanced 0 text)

@@ -6,9 +6,6 @@ use Rattle.smk_world.specs.Trees.{Path}
 use Rattle.smk_record.specs.declared.record.Stamp.{Stamp}
 use Rattle.smk_record.specs.Spelling.{stamped_paths}
 
-no_paths : (stamps : List Stamp) → stamped_paths [] stamps ≡ []
-no_paths stamps = refl
-
 no_stamps : (ps : List Path) → stamped_paths ps [] ≡ []
 no_stamps [] = refl
 no_stamps (p ∷ ps) = refl

@@ -1,5 +1,5 @@
 -- Looks, and then the calls by which a path is forgotten.
-use Rattle.std.proofs.Common.{◌≡◌, inl, inr, true, false, List, [], ◌∷◌, ◌++◌, refl, sym, subst, Option, Some, Result, Ok, Err}
+use Rattle.std.proofs.Common.{◌≡◌, inr, true, false, List, [], ◌∷◌, ◌++◌, refl, sym, subst, Option, Some, Result, Ok, Err}
 use Rattle.std.specs.Prelude.{IfOk}
 use Rattle.std.proofs.lemmas.List.{append-nil}
 use Rattle.smk_base.specs.Place.{record_place, mark_place, note_place, records_folder, marks_folder, notes_folder}
@@ -34,9 +34,6 @@ looks_then act P a b c before now =
 module _ (act : Act) (ks : List Known) (p : Path) (a b : Option World) (looks : Did act a b (λ w es. AreLooks es)) where
   pub seen_before : (q : Path) → ((w : World) → a ≡ Some w → IsFirstSeen ks w p q) → Did act a b (HasForgotten ks p (Err (StampSeen q)))
   seen_before q told = did_told act (λ w es. AreLooks es) (HasForgotten ks p (Err (StampSeen q))) a b looks (λ w at es h. (told w at, h))
-
-  pub look_failed : Did act a b (HasForgotten ks p (Err Device))
-  look_failed = did_told act (λ w es. AreLooks es) (HasForgotten ks p (Err Device)) a b looks (λ w at es h. inl h)
 
   pub none_known : ((w : World) → a ≡ Some w → AreUnseen ks w p) → Did act a b (HasForgotten ks p (Ok false))
   none_known told = did_told act (λ w es. AreLooks es) (HasForgotten ks p (Ok false)) a b looks (λ w at es h. (told w at, (es, [], sym (append-nil es), h, tt)))

@@ -13,19 +13,17 @@ use Rattle.std.specs.declared.cmp.Ordering.{Ordering}
 use Rattle.std.specs.declared.cmp.Ordering.TheVariants.{Less}
 use Rattle.std.specs.Str.{IsUtf8}
 use Rattle.std.specs.String.{string_cmp}
-use Rattle.std.proofs.lemmas.Bool.{leb-true}
 use Rattle.std.proofs.lemmas.List.Kept.{IsStrictlySortedBy-filter}
 use Rattle.std.proofs.lemmas.Map.Text.{btree_set_updates_text, is_eq-slice_cmp}
 use Rattle.smk_base.specs.Path.{is_path, is_under}
 use Rattle.smk_base.specs.Place.{name_of, record_place, mark_place, note_place, records_folder, marks_folder, notes_folder}
 use Rattle.smk_base.proofs.Places.{and_first, same_place, place_itself}
 use Rattle.smk_base.proofs.Under.{never_both}
-use Rattle.smk_world.specs.declared.event.Found.TheVariants.{Nothing as NoneFound, TooBig, Held as HeldBytes}
 use Rattle.smk_world.specs.declared.event.Node.{Node}
 use Rattle.smk_world.specs.declared.event.Node.TheVariants.{Regular, Directory}
 use Rattle.smk_world.specs.declared.event.NodeState.{NodeState}
 use Rattle.smk_world.specs.World.{World, reading, is_named, folders_above}
-use Rattle.smk_world.specs.Calls.{in_folder, found_of}
+use Rattle.smk_world.specs.Calls.{in_folder}
 use Rattle.smk_world.specs.Trees.{Path, is_path_text}
 use Rattle.smk_record.specs.declared.record.Record.{Record}
 use Rattle.smk_record.specs.Records.{is_valid, are_rising, is_less}
@@ -62,38 +60,6 @@ pub held_for : (read : List ℕ → Option Record) (p : Path) (bytes : List ℕ)
 held_for read p bytes r says same reads small =
     let valid : is_valid r ≡ true = and_first (is_valid r) (is_writable r) (((says r).0 refl).1) in
     kept_when r p (bytes_eq r.path p) (is_valid r) same valid ∙ sym (ap (for_path p) (read_same read bytes (Some r) says reads small))
-
-limited : (read : List ℕ → Option Record) (p : Path) (bytes held : List ℕ) (time : ℕ) (read_only : Bool) (fits : Bool) → nat_le (length held) 33554432 ≡ fits → HeldBytes bytes ≡ (if fits then HeldBytes held else TooBig (length held))
-    → (bytes ≡ held) × (nat_le (length held) 33554432 ≡ true)
-limited read p bytes held time read_only true e h = (cc, e)
-limited read p bytes held time read_only false e h = absurd cc
-
--- the bytes that were found are those of the file, which isn't too long
-pub found_bytes : (read : List ℕ → Option Record) (p : Path) (bytes : List ℕ) (kept : Kept) (n : Option Node) → HeldBytes bytes ≡ found_of 33554432 n → (length bytes < 2 ^ 64 → kept ≡ for_path p (read bytes)) → kept ≡ kept_by read p n
-found_bytes read p bytes kept None h is = absurd cc
-found_bytes read p bytes kept (Some Directory) h is = absurd cc
-found_bytes read p bytes kept (Some (Regular held time read_only)) h is =
-    let l = limited read p bytes held time read_only (nat_le (length held) 33554432) refl h in
-    let small : length bytes < 2 ^ 64 = omega (arith, ap length l.0, leb-true (length held) 33554432 l.1) in
-    is small ∙ ap (λ (b : List ℕ). for_path p (read b)) l.0 ∙ sym (ap (λ (b : Bool). if b then for_path p (read held) else Unreadable) l.1)
-
-unlimited : (held : List ℕ) (fits : Bool) (k : ℕ) (kept : Kept) → TooBig k ≡ (if fits then HeldBytes held else TooBig (length held)) → Unreadable ≡ (if fits then kept else Unreadable)
-unlimited held true k kept h = absurd cc
-unlimited held false k kept h = refl
-
-nothing_when : (held : List ℕ) (fits : Bool) → NoneFound ≡ (if fits then HeldBytes held else TooBig (length held)) → ⊥
-nothing_when held true h = cc
-nothing_when held false h = cc
-
-pub found_too_big : (read : List ℕ → Option Record) (p : Path) (k : ℕ) (n : Option Node) → TooBig k ≡ found_of 33554432 n → Unreadable ≡ kept_by read p n
-found_too_big read p k None h = absurd cc
-found_too_big read p k (Some Directory) h = refl
-found_too_big read p k (Some (Regular held time read_only)) h = unlimited held (nat_le (length held) 33554432) k (for_path p (read held)) h
-
-pub found_none : (read : List ℕ → Option Record) (p : Path) (n : Option Node) → IsSome n → NoneFound ≡ found_of 33554432 n → Unreadable ≡ kept_by read p n
-found_none read p None some h = absurd (never_both false some refl)
-found_none read p (Some Directory) some h = refl
-found_none read p (Some (Regular held time read_only)) some h = absurd (nothing_when held (nat_le (length held) 33554432) h)
 
 pub record_under : (p : Path) → is_under (record_place p) store_folder ≡ true
 record_under p = refl
@@ -312,17 +278,6 @@ one_more paths text rest ts whole path is at before = by (is_path_text text) ref
       where
         wrong : Some path ≡ None → ⊥
         wrong h = cc
-
-pub none_more : (paths : List Path) (text : Path) (rest ts whole : List Path) → None ≡ path_in text → ts ≡ text ∷ rest → paths ++ filter is_path_text ts ≡ whole → paths ++ filter is_path_text rest ≡ whole
-none_more paths text rest ts whole is at before = by (is_path_text text) refl
-  where
-    by : (b : Bool) → is_path_text text ≡ b → paths ++ filter is_path_text rest ≡ whole
-    by true e = absurd (wrong (is ∙ ap (λ (v : Bool). if v then Some text else None) e))
-      where
-        wrong : None ≡ Some text → ⊥
-        wrong h = cc
-    by false e =
-        ap (λ (v : Bool). paths ++ cond v (text ∷ filter is_path_text rest) (filter is_path_text rest)) (sym e) ∙ ap (λ (l : List Path). paths ++ filter is_path_text l) (sym at) ∙ before
 
 pub all_found : (paths ts whole : List Path) → ts ≡ [] → paths ++ filter is_path_text ts ≡ whole → paths ≡ whole
 all_found paths ts whole none before = sym (append-nil paths) ∙ ap (λ (l : List Path). paths ++ filter is_path_text l) (sym none) ∙ before

@@ -1,5 +1,5 @@
 -- Names in the engine's folders, and what a walk over them finds.
-use Rattle.std.proofs.Common.{◌≡◌, ◌⊎◌, inl, inr, ℕ, ◌+◌, ◌<◌, ◌==◌, Bool, true, false, ◌&&◌, ◌||◌, not, cond, List, [], ◌∷◌, ◌++◌, length, take, get_or, refl, sym, ap, subst, ◌∙◌, Option, Some, None, arith, bytes_eq}
+use Rattle.std.proofs.Common.{◌≡◌, ◌⊎◌, inl, inr, ℕ, ◌+◌, ◌<◌, ◌==◌, Bool, true, false, ◌&&◌, ◌||◌, not, cond, List, [], ◌∷◌, ◌++◌, length, get_or, refl, sym, ap, subst, ◌∙◌, arith, bytes_eq}
 use Rattle.std.specs.Prelude.{String, string_bytes, if◌then◌else◌, nat_le}
 use Rattle.std.specs.Global.{Global}
 use Rattle.std.specs.BTreeSet.{BTreeSet, contains_text}
@@ -23,10 +23,7 @@ use Rattle.smk_world.specs.Trees.{is_path_text, is_text}
 use Rattle.smk_record.proofs.Digits.{text_is_utf8}
 use Rattle.std.specs.String.{string_cmp}
 use Rattle.std.proofs.lemmas.Map.Text.{btree_set_updates_text}
-use Rattle.std.proofs.lemmas.List.Folds.{list_any_more}
-use Rattle.smk_world.specs.declared.event.Name.{Name}
 use Rattle.smk_world.specs.Trees.{Path}
-use Rattle.smk_store.specs.Walking.{after_sign, is_it, tells_of, all_tell_of}
 
 -- ## Sets of texts
 
@@ -38,32 +35,6 @@ pub added : (s n : BTreeSet (String Global)) (bs front part : List ℕ) → bs �
     → sorted.UpdatesBy string_cmp (λ (k : String Global). slice_cmp nat_cmp bs (string_bytes k)) s n true → (q : Path) → contains_text n q ≡ (bytes_eq (front ++ part) q || contains_text s q)
 added s n bs front part e updates q =
     btree_set_updates_text bs s n true updates q ∙ cond_or (bytes_eq bs q) (contains_text s q) ∙ ap (λ (t : List ℕ). bytes_eq t q || contains_text s q) e
-
-or_between : (a b c : Bool) → (b || (a || c)) ≡ ((a || b) || c)
-or_between true true c = refl
-or_between true false c = refl
-or_between false true c = refl
-or_between false false c = refl
-
-or_none : (a c : Bool) → (a || c) ≡ ((a || false) || c)
-or_none true c = refl
-or_none false c = refl
-
-pub told_next : (front q : Path) (names : List Name) (i : ℕ) (n : Name) (part : List ℕ) (was now init : Bool) → i < length names → n ≡ get_or names i n → after_sign 61 n.name ≡ Some part
-    → was ≡ (all_tell_of front (take i names) q || init) → now ≡ (bytes_eq (front ++ part) q || was) → now ≡ (all_tell_of front (take (i + 1) names) q || init)
-told_next front q names i n part was now init lt at sign before e =
-    e ∙ ap (λ (b : Bool). bytes_eq (front ++ part) q || b) before ∙ or_between (all_tell_of front (take i names) q) (bytes_eq (front ++ part) q) init
-    ∙ ap (λ (b : Bool). b || init) (ap (λ (o : Option (List ℕ)). all_tell_of front (take i names) q || is_it front q o) (sym sign)
-    ∙ ap (λ (m : Name). all_tell_of front (take i names) q || tells_of front q m) at
-    ∙ sym (list_any_more (tells_of front q) names i n lt))
-
-pub untold_next : (front q : Path) (names : List Name) (i : ℕ) (n : Name) (was init : Bool) → i < length names → n ≡ get_or names i n → after_sign 61 n.name ≡ None
-    → was ≡ (all_tell_of front (take i names) q || init) → was ≡ (all_tell_of front (take (i + 1) names) q || init)
-untold_next front q names i n was init lt at sign before =
-    before ∙ or_none (all_tell_of front (take i names) q) init
-    ∙ ap (λ (b : Bool). b || init) (ap (λ (o : Option (List ℕ)). all_tell_of front (take i names) q || is_it front q o) (sym sign)
-    ∙ ap (λ (m : Name). all_tell_of front (take i names) q || tells_of front q m) at
-    ∙ sym (list_any_more (tells_of front q) names i n lt))
 
 -- ## Texts without a slash
 

@@ -1,12 +1,6 @@
 -- One record after the other is written.
-use Rattle.std.proofs.Common.{◌≡◌, ℕ, zero, suc, ◌+◌, ◌<◌, ◌≤◌, List, [], ◌∷◌, ◌++◌, length, take, drop, get_or, refl, sym, ap, subst, ◌∙◌, arith, add-one, Option}
-use Rattle.std.proofs.lemmas.List.{take_all}
-use Rattle.smk_base.specs.declared.tree.Tree.{Tree}
-use Rattle.smk_world.specs.declared.recipe.Recipe.{Recipe}
-use Rattle.smk_world.specs.World.{World}
-use Rattle.smk_world.specs.Calls.{Acted}
-use Rattle.smk_world.specs.Runs.{Did}
-use Rattle.smk_world.specs.Requests.{Request, HasDone}
+use Rattle.std.proofs.Common.{◌≡◌, ℕ, zero, suc, ◌+◌, ◌<◌, ◌≤◌, List, [], ◌∷◌, ◌++◌, length, take, drop, get_or, refl, sym, ap, ◌∙◌, arith, add-one}
+use Rattle.smk_world.specs.Requests.{Request}
 use Rattle.smk_world.specs.Requests.Request.{Write, MakeParents}
 use Rattle.smk_world.specs.Trees.{Path}
 use Rattle.smk_store.specs.Steps.{write_each}
@@ -35,10 +29,6 @@ write_around ps bs i p b lp lb e f = around_by ps bs i p b lp lb e f ∙ ap (λ 
 pub write_next : (ps : List Path) (bs : List (List ℕ)) (i : ℕ) (p : Path) (b : List ℕ) → i < length ps → i < length bs → p ≡ get_or ps i p → b ≡ get_or bs i b
     → write_each (take (i + 1) ps) (take (i + 1) bs) ≡ write_each (take i ps) (take i bs) ++ one p b []
 write_next ps bs i p b lp lb e f = ap (λ k. write_each (take k ps) (take k bs)) (add-one i) ∙ next_by ps bs i p b lp lb e f
-
-pub all_written : (act : Recipe → List Tree → Acted) (a b : Option World) (ps : List Path) (bs : List (List ℕ)) (i : ℕ) → length ps ≤ i → length bs ≤ i
-    → Did act a b (λ w es. HasDone (write_each (take i ps) (take i bs)) es) → Did act a b (λ w es. HasDone (write_each ps bs) es)
-all_written act a b ps bs i lp lb h = subst (λ qs. Did act a b (λ w es. HasDone (write_each qs bs) es)) (take_all i ps lp) (subst (λ cs. Did act a b (λ w es. HasDone (write_each (take i ps) cs) es)) (take_all i bs lb) h)
 
 pub same_there : (bs : List (List ℕ)) (i : ℕ) (d e : List ℕ) → i < length bs → get_or bs i d ≡ get_or bs i e
 same_there [] i d e lt = absurd (omega arith)

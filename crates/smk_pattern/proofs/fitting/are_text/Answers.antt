@@ -1,4 +1,4 @@
-use Rattle.smk_pattern.proofs.Least.{text_past, text_stops}
+use Rattle.smk_pattern.proofs.Least.{text_past}
 use Rattle.smk_pattern.proofs.fitting.are_text.Goals as goal
 
 pub loop-piece-preserved : goal.loop-piece-preserved
