@@ -10,13 +10,14 @@ use Rattle.smk_store.specs.Soundness.{Outside}
 use Rattle.smk_trigger.specs.declared.reason.State.{State}
 use Rattle.smk_trigger.specs.declared.reason.State.TheVariants.{Clean}
 use Rattle.smk_plan.specs.States.{Plan, LastPlan, nothing_done}
-use Rattle.smk_laws.proofs.CurrentComplete.{seen_is_complete}
-use Rattle.smk_laws.proofs.PlanOne.{one_last_plan}
+use Rattle.smk_laws_history.proofs.CurrentComplete.{seen_is_complete}
+use Rattle.smk_laws_plan.proofs.PlanOne.{one_last_plan}
 use Rattle.smk_report.specs.declared.fault.Fault.{Fault}
 use Rattle.smk_report.specs.Lines.{Text}
-use Rattle.smk_run.specs.declared.duty.Duty.{Duty}
-use Rattle.smk_run.specs.declared.duty.Duty.TheVariants.{Rest, Restore, Run as RunIt}
-use Rattle.smk_run.specs.Duties.{Due, AreFor, due, due_from}
+use Rattle.smk_plan.specs.declared.duty.Duty.{Duty}
+use Rattle.smk_plan.specs.declared.duty.Duty.TheVariants.{Rest, Restore, Run as RunIt}
+use Rattle.smk_run.specs.Duties.{Due, due, due_from}
+use Rattle.smk_plan.specs.Duties.{AreFor}
 use Rattle.smk_run.specs.Runs.{AreInOrder}
 use Rattle.smk_run.specs.Turns.{Turn}
 use Rattle.smk_asked.specs.declared.words.RunWords.{RunWords}

@@ -10,8 +10,8 @@ use Rattle.smk_store.specs.Soundness.{Outside}
 use Rattle.smk_chain.specs.Derive.{Derived, Refused, Listings, Refusal, TooManyPaths, Deep, NoRule, NoInput, TwoJobs, MissingMember, NoCommand, Clash, derivation, distinct, listing}
 use Rattle.smk_plan.specs.States.{Plan, IsPlan, LastPlan, Last, Then, nothing_done, awaited, awaits, directory_over, files_listed, gathers_from, is_ready, new_listings}
 use Rattle.smk_protocol.proofs.Basics.{each_in}
-use Rattle.smk_laws.proofs.CurrentComplete.{seen_is_complete}
-use Rattle.smk_laws.proofs.PlanOne.{one_plan}
+use Rattle.smk_laws_history.proofs.CurrentComplete.{seen_is_complete}
+use Rattle.smk_laws_plan.proofs.PlanOne.{one_plan}
 use Rattle.smk_report.specs.declared.fault.Fault.{Fault}
 use Rattle.smk_drive.specs.Moments.{Rules}
 use Rattle.smk_drive.specs.Refusals.{IsFault, ChainRefuses, DerivationRefuses, PlanRefuses, NextRefuses, refused_of}

@@ -20,17 +20,17 @@ use Rattle.smk_trigger.specs.declared.reason.State.{State}
 use Rattle.smk_trigger.specs.JobStates.{is_open}
 use Rattle.smk_plan.specs.States.{Plan, IsPlan, LastPlan, Last, gathers_from, is_current, nothing_done, staged, state_of}
 use Rattle.smk_protocol.proofs.Basics.{each_in}
-use Rattle.smk_laws.specs.Current.{IsClean}
-use Rattle.smk_laws.proofs.CurrentComplete.{seen_is_complete}
-use Rattle.smk_laws.proofs.CurrentMeaning.{contains_from, in_from}
-use Rattle.smk_laws.proofs.CurrentLaw.{current_means_clean_in_worlds}
-use Rattle.smk_laws.proofs.CurrentReads.{same_values}
+use Rattle.smk_laws_plan.specs.Current.{IsClean}
+use Rattle.smk_laws_history.proofs.CurrentComplete.{seen_is_complete}
+use Rattle.smk_laws_plan.proofs.CurrentMeaning.{contains_from, in_from}
+use Rattle.smk_laws_history.proofs.CurrentLaw.{current_means_clean_in_worlds}
+use Rattle.smk_laws_history.proofs.CurrentReads.{same_values}
 use Rattle.smk_report.specs.declared.fault.Fault.{Fault}
 use Rattle.smk_report.specs.declared.fault.Fault.TheVariants as fault
 use Rattle.smk_report.specs.Lines.{Text, Named}
 use Rattle.smk_drive.specs.Moments.{Rules}
 use Rattle.smk_drive.specs.Refusals.{above_limit, ahead, guarded, incomplete, of_command, refused_of}
-use Rattle.smk_run.specs.declared.duty.Duty.{Duty}
+use Rattle.smk_plan.specs.declared.duty.Duty.{Duty}
 use Rattle.smk_run.specs.declared.ending.Ending.{Ending}
 use Rattle.smk_run.specs.declared.ending.Ending.TheVariants.{Good, Status, NoOutput, WrongKind, BadMember}
 use Rattle.smk_run.specs.declared.tally.Tally.{Tally}

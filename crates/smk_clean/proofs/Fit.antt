@@ -6,7 +6,7 @@ use Rattle.smk_world.specs.Trees.{Path, Each}
 use Rattle.smk_record.specs.Records.{is_valid, record_of}
 use Rattle.smk_record.specs.Spelling.{is_writable}
 use Rattle.smk_job.specs.Jobs.{bare_bytes, is_long}
-use Rattle.smk_job.specs.Laws.{IsRecordable}
+use Rattle.smk_laws_job.specs.Laws.{IsRecordable}
 use Rattle.smk_run.specs.Turns.{Turn, found}
 use Rattle.smk_run.specs.Runs.{Fits}
 use Rattle.smk_safe.specs.Planned.{IsFit}

@@ -13,13 +13,13 @@ use Rattle.smk_chain.specs.Derive.{Listings, distinct, job, same_candidate, sour
 use Rattle.smk_pick.specs.declared.settings.Settings.{Settings}
 use Rattle.smk_plan.specs.States.{Plan, Progress, IsPlan, LastPlan, Last, Then, nothing_done, makes}
 use Rattle.smk_protocol.proofs.Basics.{each_in}
-use Rattle.smk_laws.specs.Current.{IsComplete}
-use Rattle.smk_laws.proofs.CurrentComplete.{seen_is_complete}
-use Rattle.smk_laws.proofs.CurrentLists.{distinct_in, flat_in, map_in}
-use Rattle.smk_laws.proofs.CurrentPaths.{in_among}
-use Rattle.smk_laws.proofs.CurrentWalked.{walked_chosen}
-use Rattle.smk_laws.proofs.PlanOne.{chosen_makes, derived}
-use Rattle.smk_run.specs.declared.duty.Duty.{Duty}
+use Rattle.smk_laws_plan.specs.Current.{IsComplete}
+use Rattle.smk_laws_history.proofs.CurrentComplete.{seen_is_complete}
+use Rattle.smk_laws_plan.proofs.CurrentLists.{distinct_in, flat_in, map_in}
+use Rattle.smk_laws_plan.proofs.CurrentPaths.{in_among}
+use Rattle.smk_laws_plan.proofs.CurrentWalked.{walked_chosen}
+use Rattle.smk_laws_plan.proofs.PlanOne.{chosen_makes, derived}
+use Rattle.smk_plan.specs.declared.duty.Duty.{Duty}
 use Rattle.smk_duties.specs.Meaning.{IsSpokenFor, AreMeant}
 use Rattle.smk_make.specs.Making.{AreWhatIsMeant}
 use Rattle.smk_entry.specs.declared.asking.Asked.{Asked}

@@ -20,14 +20,14 @@ use Rattle.smk_flow.specs.Jobs.{filled_out, filled_outs, kind_of}
 use Rattle.smk_choose.specs.Choose.{Sources, choose, Make}
 use Rattle.smk_chain.specs.Derive.{Listings, distinct, job, recipe, same_candidate, sources_of, walk}
 use Rattle.smk_entry.specs.Forms.{flag_form, inputs_form, item_form, or_else, outputs_form, unbuilt, unbuilt_in}
-use Rattle.smk_laws.proofs.CurrentChosen.{origin}
+use Rattle.smk_laws_plan.proofs.CurrentChosen.{origin}
 use Rattle.smk_store.specs.Images.{Image}
 use Rattle.smk_pick.specs.declared.settings.Settings.{Settings}
 use Rattle.smk_plan.specs.States.{Plan, IsPlan, Progress}
-use Rattle.smk_laws.specs.Current.{IsComplete}
-use Rattle.smk_laws.proofs.CurrentLists.{distinct_in, flat_in, map_in}
-use Rattle.smk_laws.proofs.CurrentWalked.{walked_chosen}
-use Rattle.smk_laws.proofs.PlanOne.{derived}
+use Rattle.smk_laws_plan.specs.Current.{IsComplete}
+use Rattle.smk_laws_plan.proofs.CurrentLists.{distinct_in, flat_in, map_in}
+use Rattle.smk_laws_plan.proofs.CurrentWalked.{walked_chosen}
+use Rattle.smk_laws_plan.proofs.PlanOne.{derived}
 use Rattle.smk_safe.specs.Planned.{IsPlain}
 
 some_none : {A : Type 0} (x : A) → Some x ≡ None → ⊥

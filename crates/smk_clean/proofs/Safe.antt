@@ -31,15 +31,16 @@ use Rattle.smk_store.specs.Trust.{Versions}
 use Rattle.smk_protocol.specs.Protocol.{RunState, Runs, Done, Next, Aside, Besides, Settle as SettleMove, Fail, IsLook, as_ok, now, runs}
 use Rattle.smk_protocol.specs.Midway.{IsTop, at_entry}
 use Rattle.smk_protocol.proofs.ProtocolHolds.{protocol_law}
-use Rattle.smk_laws.proofs.CurrentComplete.{seen_is_complete}
-use Rattle.smk_laws.proofs.CurrentLists.{in_flat}
-use Rattle.smk_laws.proofs.CurrentPaths.{among_in}
+use Rattle.smk_laws_history.proofs.CurrentComplete.{seen_is_complete}
+use Rattle.smk_laws_plan.proofs.CurrentLists.{in_flat}
+use Rattle.smk_laws_plan.proofs.CurrentPaths.{among_in}
 use Rattle.smk_report.specs.declared.fault.Fault.{Fault}
 use Rattle.smk_report.specs.declared.fault.Fault.TheVariants as fault
 use Rattle.smk_report.specs.Lines.{Text}
-use Rattle.smk_run.specs.declared.duty.Duty.{Duty}
+use Rattle.smk_plan.specs.declared.duty.Duty.{Duty}
 use Rattle.smk_run.specs.declared.tally.Tally.{Tally}
-use Rattle.smk_run.specs.Duties.{Due, due, due_from, maker_in, serials}
+use Rattle.smk_run.specs.Duties.{Due, due, due_from, serials}
+use Rattle.smk_plan.specs.Duties.{maker_in}
 use Rattle.smk_run.specs.Runs.{AreInOrder, IsOutcome as IsRunOutcome}
 use Rattle.smk_run.specs.Stamps.{Serials}
 use Rattle.smk_run.specs.Turns.{Turn, AreTurns, is_closed}

@@ -14,8 +14,8 @@ use Rattle.smk_pick.specs.declared.settings.Settings.{Settings}
 use Rattle.smk_plan.specs.Sights.{job_at}
 use Rattle.smk_plan.specs.States.{Plan, HasStates, nothing_done, gathers_from, makes, maker_of, staged, state_of}
 use Rattle.smk_protocol.proofs.Basics.{each_in}
-use Rattle.smk_laws.proofs.CurrentLists.{in_left}
-use Rattle.smk_run.specs.Duties.{maker_in}
+use Rattle.smk_laws_plan.proofs.CurrentLists.{in_left}
+use Rattle.smk_plan.specs.Duties.{maker_in}
 use Rattle.smk_states.specs.Served.{AreServed, IsBelow, IsToldOf, ReadEarlier}
 use Rattle.smk_states.specs.Judged.{with_states}
 use Rattle.smk_safe.specs.Planned.{IsRead}

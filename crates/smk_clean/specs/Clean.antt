@@ -9,7 +9,7 @@ use Rattle.smk_store.specs.Trust.{Versions}
 use Rattle.smk_flow.specs.Flows.{Flow}
 use Rattle.smk_format.specs.Commands as format
 use Rattle.smk_chain.specs.Mean.{Setting, setting_of}
-use Rattle.smk_laws.specs.Current.{IsClean}
+use Rattle.smk_laws_plan.specs.Current.{IsClean}
 use Rattle.smk_report.specs.declared.fault.Fault.{Fault}
 use Rattle.smk_report.specs.Lines.{Text}
 use Rattle.smk_asked.specs.declared.words.RunWords.{RunWords}

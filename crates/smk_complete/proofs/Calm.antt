@@ -10,9 +10,9 @@ use Rattle.smk_flow.specs.Flows.{Candidate}
 use Rattle.smk_choose.specs.Choose.{Choice, Source, Make, choose, maker}
 use Rattle.smk_chain.specs.Derive.{Listings, Refusal, NoInput, NoCommand, MissingMember, Deep, listing, or_none, recipe, wants, wanted_paths, walk, height, refused, refused_at, refused_if, is_missing, chosen, jobs, is_deep, clashes, spots}
 use Rattle.smk_chain.specs.Mean.{Setting, mean}
-use Rattle.smk_laws.proofs.CurrentLists.{In, in_flat, filter_in, and_left, none_some}
-use Rattle.smk_laws.proofs.CurrentReach.{height_make}
-use Rattle.smk_laws.proofs.CurrentDepths.{mean_deeper}
+use Rattle.smk_laws_plan.proofs.CurrentLists.{In, in_flat, filter_in, and_left, none_some}
+use Rattle.smk_laws_plan.proofs.CurrentReach.{height_make}
+use Rattle.smk_laws_plan.proofs.CurrentDepths.{mean_deeper}
 use Rattle.smk_complete.specs.Derived.{AreRight, GathersAlone, CleanTargetsAreDerived, NoListingIsRight}
 use Rattle.smk_complete.proofs.Meanings.{MadeBy, made_by, choice_of, source_choice, ground_source}
 use Rattle.smk_complete.proofs.Walked.{IsWalked, own_derived, want_walked, walked_derived}

@@ -21,21 +21,21 @@ use Rattle.smk_chain.specs.Mean.{Setting, clean_value, mean, setting_of}
 use Rattle.smk_trigger.specs.declared.reason.State.{State}
 use Rattle.smk_pick.specs.declared.settings.Settings.{Settings}
 use Rattle.smk_plan.specs.States.{Plan, Progress, IsPlan, awaited, awaits, files_listed, gathers_from, is_at_hand, is_open_now, is_ready, is_restored, makes, maker_of, new_listings, directory_over, state_of}
-use Rattle.smk_laws.specs.Current.{IsComplete, HasValidRecords}
-use Rattle.smk_laws.proofs.CurrentLists.{In, and_left, any_none, clash_of, filter_in, find_in, flat_in, in_flat, in_left, in_map, in_right, map_in, none_some, not_false, or_first, or_left, or_right, some_inj}
-use Rattle.smk_laws.proofs.CurrentPaths.{Touch, touch_overlaps, touch_turned, Above, above_touch, in_among}
-use Rattle.smk_laws.proofs.CurrentReach.{choice_known, reached_own}
-use Rattle.smk_laws.proofs.CurrentApart.{JobsApart, jobs_apart, makes_above, spots_apart}
-use Rattle.smk_laws.proofs.CurrentChosen.{folders_paths, mapped}
-use Rattle.smk_laws.proofs.CurrentDepths.{mean_one}
-use Rattle.smk_laws.proofs.CurrentEased.{none_restored, sound_none}
-use Rattle.smk_laws.proofs.CurrentLaw.{listing_either}
-use Rattle.smk_laws.proofs.CurrentMeaning.{in_from, ready_listed, source_chosen}
-use Rattle.smk_laws.proofs.CurrentProducts.{Planned, Rested, ReachedHere, maker_is}
-use Rattle.smk_laws.proofs.CurrentReads.{wanted_comes}
-use Rattle.smk_laws.proofs.MoreListings.{walk_more}
-use Rattle.smk_laws.proofs.PlanOne.{chosen_makes, derived, derived_clear}
-use Rattle.smk_laws.proofs.PlanOrder.{source_unmade}
+use Rattle.smk_laws_plan.specs.Current.{IsComplete, HasValidRecords}
+use Rattle.smk_laws_plan.proofs.CurrentLists.{In, and_left, any_none, clash_of, filter_in, find_in, flat_in, in_flat, in_left, in_map, in_right, map_in, none_some, not_false, or_first, or_left, or_right, some_inj}
+use Rattle.smk_laws_plan.proofs.CurrentPaths.{Touch, touch_overlaps, touch_turned, Above, above_touch, in_among}
+use Rattle.smk_laws_plan.proofs.CurrentReach.{choice_known, reached_own}
+use Rattle.smk_laws_plan.proofs.CurrentApart.{JobsApart, jobs_apart, makes_above, spots_apart}
+use Rattle.smk_laws_plan.proofs.CurrentChosen.{folders_paths, mapped}
+use Rattle.smk_laws_plan.proofs.CurrentDepths.{mean_one}
+use Rattle.smk_laws_history.proofs.CurrentEased.{none_restored, sound_none}
+use Rattle.smk_laws_history.proofs.CurrentLaw.{listing_either}
+use Rattle.smk_laws_plan.proofs.CurrentMeaning.{in_from, ready_listed, source_chosen}
+use Rattle.smk_laws_plan.proofs.CurrentProducts.{Planned, Rested, ReachedHere, maker_is}
+use Rattle.smk_laws_history.proofs.CurrentReads.{wanted_comes}
+use Rattle.smk_laws_history.proofs.MoreListings.{walk_more}
+use Rattle.smk_laws_plan.proofs.PlanOne.{chosen_makes, derived, derived_clear}
+use Rattle.smk_laws_plan.proofs.PlanOrder.{source_unmade}
 use Rattle.smk_complete.specs.Derived.{AllHaveValues, AreRight, GathersAlone, HasListings, HasValue, IsServed}
 use Rattle.smk_complete.proofs.Walked.{walked_derived}
 use Rattle.smk_complete.proofs.Goods.{derived_jobs_are_good}

@@ -18,11 +18,11 @@ use Rattle.smk_report.specs.declared.fault.Fault.{Fault}
 use Rattle.smk_report.specs.declared.fault.Fault.TheVariants as fault
 use Rattle.smk_drive.specs.Moments.{Rules}
 use Rattle.smk_drive.specs.Refusals.{ChainRefuses, DerivationRefuses, IsFault, NextRefuses, PlanRefuses, refused_of}
-use Rattle.smk_laws.specs.Current.{IsComplete}
-use Rattle.smk_laws.proofs.CurrentLists.{In, and_left, and_right, cons_nil, filter_in, find_some, in_map, in_right}
-use Rattle.smk_laws.proofs.CurrentPaths.{among_in}
-use Rattle.smk_laws.proofs.MoreListings.{listing_still}
-use Rattle.smk_laws.proofs.PlanOne.{has_plan}
+use Rattle.smk_laws_plan.specs.Current.{IsComplete}
+use Rattle.smk_laws_plan.proofs.CurrentLists.{In, and_left, and_right, cons_nil, filter_in, find_some, in_map, in_right}
+use Rattle.smk_laws_plan.proofs.CurrentPaths.{among_in}
+use Rattle.smk_laws_history.proofs.MoreListings.{listing_still}
+use Rattle.smk_laws_plan.proofs.PlanOne.{has_plan}
 use Rattle.smk_complete.specs.Planned.{ChainsEnd}
 
 -- ## Counting

@@ -24,15 +24,15 @@ use Rattle.smk_trigger.specs.declared.reason.State.TheVariants.{Open, Dirty, Res
 use Rattle.smk_trigger.specs.JobStates.{is_clean, is_open, is_dirty, is_restore}
 use Rattle.smk_pick.specs.declared.settings.Settings.{Settings}
 use Rattle.smk_plan.specs.States.{Plan, Progress, awaited, awaits, by_reasons, directory_over, is_current, is_open_now, is_ready, is_read_now, is_restored, is_to_restore, is_wanted_back, is_whole_by, job_path, kept_state, maker_of, makes, none_or_one, reasons, stands_whole, state_of, test_some, while_running}
-use Rattle.smk_laws.proofs.CurrentLists.{In, any_none, in_distinct, in_flat, in_right, or_first, or_second}
-use Rattle.smk_laws.proofs.CurrentPaths.{in_among}
-use Rattle.smk_laws.proofs.CurrentReach.{choice_known}
-use Rattle.smk_laws.proofs.CurrentStates.{unless_never}
-use Rattle.smk_laws.proofs.CurrentApart.{same_trans}
-use Rattle.smk_laws.proofs.CurrentFills.{bound_fills_from}
-use Rattle.smk_laws.proofs.CurrentProducts.{Product, Quiet, Rested, ReachedHere, in_plan_here, maker_is, member_over, output_alone, own_outputs, quiet_by, quiet_product, target_reached}
-use Rattle.smk_laws.proofs.CurrentMeaning.{source_chosen}
-use Rattle.smk_laws.proofs.CurrentLaw.{rested}
+use Rattle.smk_laws_plan.proofs.CurrentLists.{In, any_none, in_distinct, in_flat, in_right, or_first, or_second}
+use Rattle.smk_laws_plan.proofs.CurrentPaths.{in_among}
+use Rattle.smk_laws_plan.proofs.CurrentReach.{choice_known}
+use Rattle.smk_laws_plan.proofs.CurrentStates.{unless_never}
+use Rattle.smk_laws_plan.proofs.CurrentApart.{same_trans}
+use Rattle.smk_laws_plan.proofs.CurrentFills.{bound_fills_from}
+use Rattle.smk_laws_plan.proofs.CurrentProducts.{Product, Quiet, Rested, ReachedHere, in_plan_here, maker_is, member_over, output_alone, own_outputs, quiet_by, quiet_product, target_reached}
+use Rattle.smk_laws_plan.proofs.CurrentMeaning.{source_chosen}
+use Rattle.smk_laws_history.proofs.CurrentLaw.{rested}
 use Rattle.smk_complete.specs.Derived.{AllHaveValues}
 use Rattle.smk_complete.specs.Planned.{CleanPlanIsCurrent}
 use Rattle.smk_complete.proofs.Parts.{part_file}

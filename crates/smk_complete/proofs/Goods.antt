@@ -19,12 +19,12 @@ use Rattle.smk_chain.specs.Derive.{Listings, job, recipe, wants, walk, chosen}
 use Rattle.smk_chain.specs.Mean.{Setting, listings_of, mean}
 use Rattle.smk_report.specs.Lines.{Ending, Good}
 use Rattle.smk_drive.specs.Moments.{ending, fault_of, or_good}
-use Rattle.smk_laws.proofs.CurrentLists.{In, in_either, in_flat, flat_in, and_left, and_right, none_some}
-use Rattle.smk_laws.proofs.CurrentReach.{walk_by}
-use Rattle.smk_laws.proofs.CurrentRecipes.{recipe_same, job_same}
-use Rattle.smk_laws.proofs.CurrentDepths.{mean_deeper}
-use Rattle.smk_laws.proofs.CurrentValues.{mean_make}
-use Rattle.smk_laws.proofs.CurrentChosen.{paths_are}
+use Rattle.smk_laws_plan.proofs.CurrentLists.{In, in_either, in_flat, flat_in, and_left, and_right, none_some}
+use Rattle.smk_laws_plan.proofs.CurrentReach.{walk_by}
+use Rattle.smk_laws_plan.proofs.CurrentRecipes.{recipe_same, job_same}
+use Rattle.smk_laws_plan.proofs.CurrentDepths.{mean_deeper}
+use Rattle.smk_laws_plan.proofs.CurrentValues.{mean_make}
+use Rattle.smk_laws_plan.proofs.CurrentChosen.{paths_are}
 use Rattle.smk_complete.specs.Derived.{AllHaveValues, AreRight, DerivedJobsAreGood, GathersAlone, GoodJobsEndWell, HasListings, IsGoodJob}
 use Rattle.smk_complete.proofs.Meanings.{MadeBy, all_more, choice_of, made_by}
 use Rattle.smk_complete.proofs.Wanted.{want_meant, listings_meant}

@@ -23,19 +23,19 @@ use Rattle.smk_trigger.specs.declared.reason.State.TheVariants.{Open, Dirty, Res
 use Rattle.smk_trigger.specs.JobStates.{is_clean, is_open, is_dirty}
 use Rattle.smk_pick.specs.declared.settings.Settings.{Settings}
 use Rattle.smk_plan.specs.States.{Plan, Progress, awaited, awaits, directory_over, files_listed, gathers_from, is_ready, is_restored, is_whole_by, maker_of, makes, none_or_one, stands_whole, state_of, test_some}
-use Rattle.smk_laws.proofs.CurrentLists.{In, and_left, and_right, clash_of, distinct_in, find_in, flat_in, filter_in, in_either, in_right, map_in, or_first, some_inj, zip_in}
-use Rattle.smk_laws.proofs.CurrentPaths.{Above, above_touch, in_among}
-use Rattle.smk_laws.proofs.CurrentReach.{choice_known, reached_zero}
-use Rattle.smk_laws.proofs.CurrentWalked.{walked_chosen}
-use Rattle.smk_laws.proofs.CurrentApart.{Apart, apart_same, maker_found}
-use Rattle.smk_laws.proofs.CurrentTrees.{entries, listed_under, members_same, names_of}
-use Rattle.smk_laws.proofs.CurrentEased.{none_restored}
-use Rattle.smk_laws.proofs.CurrentProducts.{Planned, Product, Quiet, Rested, ReachedHere, in_plan_here, maker_is, output_alone, own_outputs, quiet_by, quiet_product, target_reached}
-use Rattle.smk_laws.proofs.CurrentMeaning.{source_chosen}
-use Rattle.smk_laws.proofs.CurrentReads.{wanted_comes}
-use Rattle.smk_laws.proofs.PlanOne.{derived, derived_apart}
-use Rattle.smk_laws.proofs.PlanOrder.{source_unmade}
-use Rattle.smk_laws.specs.Current.{IsComplete}
+use Rattle.smk_laws_plan.proofs.CurrentLists.{In, and_left, and_right, clash_of, distinct_in, find_in, flat_in, filter_in, in_either, in_right, map_in, or_first, some_inj, zip_in}
+use Rattle.smk_laws_plan.proofs.CurrentPaths.{Above, above_touch, in_among}
+use Rattle.smk_laws_plan.proofs.CurrentReach.{choice_known, reached_zero}
+use Rattle.smk_laws_plan.proofs.CurrentWalked.{walked_chosen}
+use Rattle.smk_laws_plan.proofs.CurrentApart.{Apart, apart_same, maker_found}
+use Rattle.smk_laws_plan.proofs.CurrentTrees.{entries, listed_under, members_same, names_of}
+use Rattle.smk_laws_history.proofs.CurrentEased.{none_restored}
+use Rattle.smk_laws_plan.proofs.CurrentProducts.{Planned, Product, Quiet, Rested, ReachedHere, in_plan_here, maker_is, output_alone, own_outputs, quiet_by, quiet_product, target_reached}
+use Rattle.smk_laws_plan.proofs.CurrentMeaning.{source_chosen}
+use Rattle.smk_laws_history.proofs.CurrentReads.{wanted_comes}
+use Rattle.smk_laws_plan.proofs.PlanOne.{derived, derived_apart}
+use Rattle.smk_laws_plan.proofs.PlanOrder.{source_unmade}
+use Rattle.smk_laws_plan.specs.Current.{IsComplete}
 use Rattle.smk_complete.proofs.Standing.{Stands, stands}
 
 -- ## Folders

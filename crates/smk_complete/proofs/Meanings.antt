@@ -11,8 +11,8 @@ use Rattle.smk_choose.specs.Choose.{Sources, Choice, Source, Make, Nothing, Ambi
 use Rattle.smk_chain.specs.declared.jobs.Known.{Known}
 use Rattle.smk_chain.specs.Derive.{listing, recipe}
 use Rattle.smk_chain.specs.Mean.{Setting, is_runnable, listings_of, mean, source_tree}
-use Rattle.smk_laws.proofs.CurrentLists.{In, none_some, clash_of}
-use Rattle.smk_laws.proofs.CurrentValues.{all_parts, all_make, value_given, gathers_by, mean_by, runs}
+use Rattle.smk_laws_plan.proofs.CurrentLists.{In, none_some, clash_of}
+use Rattle.smk_laws_plan.proofs.CurrentValues.{all_parts, all_make, value_given, gathers_by, mean_by, runs}
 
 -- ## Lists of values
 

@@ -13,10 +13,10 @@ use Rattle.smk_world.specs.Calls.{in_folder}
 use Rattle.smk_world.specs.World.{out_paths}
 use Rattle.smk_world.specs.Trees.{Path, Act, among, are_good, below, file_among, file_in, files_of, outs_of, part_at, tree_among, value_at}
 use Rattle.smk_store.specs.Images.{Image, Content, content_of, bytes_of, entry_under, is_file, is_folder, names_under, tree_now}
-use Rattle.smk_laws.proofs.CurrentLists.{In, find_in, filter_in, in_filter, in_map, map_in, some_inj, none_some, clash_of, and_left, and_right, or_cases, or_first, or_second}
-use Rattle.smk_laws.proofs.CurrentPaths.{Touch, touch_overlaps, Above, above_touch, in_among}
-use Rattle.smk_laws.proofs.CurrentApart.{Apart}
-use Rattle.smk_laws.proofs.CurrentChosen.{paths_are}
+use Rattle.smk_laws_plan.proofs.CurrentLists.{In, find_in, filter_in, in_filter, in_map, map_in, some_inj, none_some, clash_of, and_left, and_right, or_cases, or_first, or_second}
+use Rattle.smk_laws_plan.proofs.CurrentPaths.{Touch, touch_overlaps, Above, above_touch, in_among}
+use Rattle.smk_laws_plan.proofs.CurrentApart.{Apart}
+use Rattle.smk_laws_plan.proofs.CurrentChosen.{paths_are}
 
 -- ## The parts of what a command gives
 

@@ -16,13 +16,13 @@ use Rattle.smk_chain.specs.Derive.{or_none, recipe, sources_of}
 use Rattle.smk_chain.specs.Mean.{listings_of, mean, setting_of}
 use Rattle.smk_pick.specs.declared.settings.Settings.{Settings}
 use Rattle.smk_plan.specs.States.{Plan, Progress}
-use Rattle.smk_laws.proofs.CurrentLists.{In, some_inj}
-use Rattle.smk_laws.proofs.CurrentPaths.{Above}
-use Rattle.smk_laws.proofs.CurrentRecipes.{recipe_same}
-use Rattle.smk_laws.proofs.CurrentDepths.{mean_deeper, mean_one}
-use Rattle.smk_laws.proofs.CurrentValues.{inputs_same, value_given, vir_make}
-use Rattle.smk_laws.proofs.CurrentProducts.{Product, Quiet, Rested, ReachedHere, core_reads, each_stamped, own_outputs}
-use Rattle.smk_laws.proofs.CurrentMeaning.{chained_at, folder_means, input_means, meant}
+use Rattle.smk_laws_plan.proofs.CurrentLists.{In, some_inj}
+use Rattle.smk_laws_plan.proofs.CurrentPaths.{Above}
+use Rattle.smk_laws_plan.proofs.CurrentRecipes.{recipe_same}
+use Rattle.smk_laws_plan.proofs.CurrentDepths.{mean_deeper, mean_one}
+use Rattle.smk_laws_plan.proofs.CurrentValues.{inputs_same, value_given, vir_make}
+use Rattle.smk_laws_plan.proofs.CurrentProducts.{Product, Quiet, Rested, ReachedHere, core_reads, each_stamped, own_outputs}
+use Rattle.smk_laws_plan.proofs.CurrentMeaning.{chained_at, folder_means, input_means, meant}
 use Rattle.smk_complete.proofs.Meanings.{MadeBy, all_more, listed_each, made_by}
 use Rattle.smk_complete.proofs.Parts.{value_in}
 

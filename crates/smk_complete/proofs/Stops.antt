@@ -24,10 +24,10 @@ use Rattle.smk_report.specs.declared.fault.Fault.{Fault}
 use Rattle.smk_report.specs.declared.fault.Fault.TheVariants as fault
 use Rattle.smk_drive.specs.Moments.{Rules}
 use Rattle.smk_drive.specs.Refusals.{ChainRefuses, DerivationRefuses, IsFault, NextRefuses, PlanRefuses, above_limit, ahead, guarded, has_nul, incomplete, is_ahead, is_running, of_command, refused_of, too_long, unless_empty}
-use Rattle.smk_laws.specs.Current.{IsComplete, HasValidRecords}
-use Rattle.smk_laws.proofs.CurrentLists.{In, cons_nil, flat_in, in_either, map_in, none_some, zip_in}
-use Rattle.smk_laws.proofs.CurrentMeaning.{contains_from}
-use Rattle.smk_laws.proofs.CurrentFills.{bound_fills_from}
+use Rattle.smk_laws_plan.specs.Current.{IsComplete, HasValidRecords}
+use Rattle.smk_laws_plan.proofs.CurrentLists.{In, cons_nil, flat_in, in_either, map_in, none_some, zip_in}
+use Rattle.smk_laws_plan.proofs.CurrentMeaning.{contains_from}
+use Rattle.smk_laws_plan.proofs.CurrentFills.{bound_fills_from}
 use Rattle.smk_complete.specs.Derived.{AllHaveValues, GathersAlone}
 use Rattle.smk_complete.specs.Planned.{CleanTargetsArePlanned, MayStop, TooMany, Clashing, Incomplete, Protected, AboveLimit, TooLong}
 use Rattle.smk_complete.proofs.Calm.{clean_targets_are_derived}

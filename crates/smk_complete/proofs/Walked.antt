@@ -10,11 +10,11 @@ use Rattle.smk_choose.specs.Choose.{Sources, Source, Make, choose}
 use Rattle.smk_record.specs.Records.{same_pair}
 use Rattle.smk_chain.specs.Derive.{Listings, chosen, same_candidate, walk, wants}
 use Rattle.smk_chain.specs.Mean.{Setting, mean}
-use Rattle.smk_laws.proofs.CurrentLists.{In, in_flat, flat_in, in_left, in_right, in_distinct, distinct_in, and_left, and_right, and_both}
-use Rattle.smk_laws.proofs.CurrentReach.{walk_make}
-use Rattle.smk_laws.proofs.CurrentRecipes.{folders_wanted}
-use Rattle.smk_laws.proofs.CurrentSame.{pointwise_same, pair_same}
-use Rattle.smk_laws.proofs.CurrentWalked.{walked_chosen, chosen_same}
+use Rattle.smk_laws_plan.proofs.CurrentLists.{In, in_flat, flat_in, in_left, in_right, in_distinct, distinct_in, and_left, and_right, and_both}
+use Rattle.smk_laws_plan.proofs.CurrentReach.{walk_make}
+use Rattle.smk_laws_plan.proofs.CurrentRecipes.{folders_wanted}
+use Rattle.smk_laws_plan.proofs.CurrentSame.{pointwise_same, pair_same}
+use Rattle.smk_laws_plan.proofs.CurrentWalked.{walked_chosen, chosen_same}
 use Rattle.smk_complete.specs.Derived.{IsServed}
 use Rattle.smk_complete.proofs.Meanings.{MadeBy, all_each, choice_of, ground_source, source_choice}
 

@@ -15,11 +15,11 @@ use Rattle.smk_flow.specs.declared.rule.GatherPart.{GatherPart}
 use Rattle.smk_flow.specs.Flows.{Candidate, gathered_folders, declared_inputs, folder_from}
 use Rattle.smk_chain.specs.Derive.{Listings, listing, or_none, gathered_in, gathered_files, item_paths, items, wants, recipe}
 use Rattle.smk_chain.specs.Mean.{Setting, listings_of, mean}
-use Rattle.smk_laws.proofs.CurrentLists.{In, in_map, in_flat, flat_in, in_either, all_in, and_right}
-use Rattle.smk_laws.proofs.CurrentRecipes.{folder_in, inputs_wanted, folders_wanted}
-use Rattle.smk_laws.proofs.CurrentDepths.{mean_deeper}
-use Rattle.smk_laws.proofs.CurrentValues.{mean_source}
-use Rattle.smk_laws.proofs.CurrentChosen.{origin}
+use Rattle.smk_laws_plan.proofs.CurrentLists.{In, in_map, in_flat, flat_in, in_either, all_in, and_right}
+use Rattle.smk_laws_plan.proofs.CurrentRecipes.{folder_in, inputs_wanted, folders_wanted}
+use Rattle.smk_laws_plan.proofs.CurrentDepths.{mean_deeper}
+use Rattle.smk_laws_plan.proofs.CurrentValues.{mean_source}
+use Rattle.smk_laws_plan.proofs.CurrentChosen.{origin}
 use Rattle.smk_complete.specs.Derived.{AreRight, GathersAlone, HasListings}
 use Rattle.smk_complete.proofs.Meanings.{MadeBy, all_each, listed_each, source_files}
 use Rattle.smk_complete.proofs.Walked.{IsWalked, own_derived, folder_served}

@@ -18,7 +18,7 @@ use Rattle.smk_report.specs.declared.fault.Fault.{Fault}
 use Rattle.smk_report.specs.declared.fault.Fault.TheVariants as fault
 use Rattle.smk_drive.specs.Moments.{Rules}
 use Rattle.smk_drive.specs.Refusals.{ChainRefuses}
-use Rattle.smk_laws.specs.Current.{IsComplete, HasValidRecords, SoundPlan}
+use Rattle.smk_laws_plan.specs.Current.{IsComplete, HasValidRecords, SoundPlan}
 use Rattle.smk_complete.specs.Derived.{GathersAlone, AllHaveValues}
 
 -- What may be refused of plans although each target has a clean value: there are too many paths; outputs or logs of the jobs clash, with one

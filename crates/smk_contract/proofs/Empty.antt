@@ -10,7 +10,7 @@ use Rattle.smk_world.specs.Trees.{Path}
 use Rattle.smk_store.specs.Images.{Image, Content, image_of, seen, source_at}
 use Rattle.smk_store.specs.Trust.{Versions, none_eased}
 use Rattle.smk_store.specs.Soundness.{Outside, Sound, SoundWorld, EachImage}
-use Rattle.smk_laws.specs.Histories.{ListsAll, IsListed, KeepsListed}
+use Rattle.smk_laws_history.specs.Histories.{ListsAll, IsListed, KeepsListed}
 use Rattle.smk_store.specs.Safety.{SafeThroughout, SourcesOf, KeepsSound, with_sources, or_put, forgotten_so_far}
 use Rattle.smk_report.specs.Lines.{joined, target_line}
 use Rattle.smk_drive.specs.Moments.{Rules, Moment, Begun, IsMoment, AtEntry, AtRest, Between, EachEvent, is_closed_badly}

@@ -8,7 +8,7 @@ use Rattle.smk_world.specs.Calls.{failed, Rose}
 use Rattle.smk_world.specs.Trees.{Path, Act, among}
 use Rattle.smk_store.specs.Images.{Image, is_known}
 use Rattle.smk_store.specs.Safety.{KeepsSound}
-use Rattle.smk_laws.specs.Histories.{KeepsListed}
+use Rattle.smk_laws_history.specs.Histories.{KeepsListed}
 use Rattle.smk_plan.specs.States.{Plan, LastPlan, nothing_done}
 use Rattle.smk_report.specs.declared.fault.Fault.{Fault}
 use Rattle.smk_report.specs.declared.fault.Fault.TheVariants as fault

@@ -21,14 +21,15 @@ use Rattle.smk_trigger.specs.declared.reason.State.TheVariants.{Open, Dirty, Res
 use Rattle.smk_trigger.specs.JobStates.{is_open, is_to_run}
 use Rattle.smk_pick.specs.declared.settings.Settings.{Settings}
 use Rattle.smk_plan.specs.States.{Plan, IsPlan, nothing_done, makes, staged, state_of}
-use Rattle.smk_laws.proofs.CurrentApart.{JobsApart}
-use Rattle.smk_laws.proofs.CurrentComplete.{seen_is_complete}
-use Rattle.smk_laws.proofs.CurrentLists.{find_in, zip_in}
-use Rattle.smk_laws.proofs.CurrentPaths.{in_among}
-use Rattle.smk_laws.proofs.PlanOne.{derived_apart}
-use Rattle.smk_run.specs.declared.duty.Duty.{Duty}
-use Rattle.smk_run.specs.declared.duty.Duty.TheVariants.{Rest, Restore as Again, Run}
-use Rattle.smk_run.specs.Duties.{draws, drawn_before, serial_at, serial_by, serial_of, serials, Due, due_from, due, rests}
+use Rattle.smk_laws_plan.proofs.CurrentApart.{JobsApart}
+use Rattle.smk_laws_history.proofs.CurrentComplete.{seen_is_complete}
+use Rattle.smk_laws_plan.proofs.CurrentLists.{find_in, zip_in}
+use Rattle.smk_laws_plan.proofs.CurrentPaths.{in_among}
+use Rattle.smk_laws_plan.proofs.PlanOne.{derived_apart}
+use Rattle.smk_plan.specs.declared.duty.Duty.{Duty}
+use Rattle.smk_plan.specs.declared.duty.Duty.TheVariants.{Rest, Restore as Again, Run}
+use Rattle.smk_run.specs.Duties.{draws, drawn_before, serial_at, serial_by, serial_of, serials, Due, due_from, due}
+use Rattle.smk_plan.specs.Duties.{rests}
 use Rattle.smk_run.specs.Runs.{AreInOrder}
 use Rattle.smk_run.specs.Turns.{Turn}
 use Rattle.smk_duties.specs.Meaning.{AreKeptWith, IsMeant, AreMeant}

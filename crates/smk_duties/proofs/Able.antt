@@ -8,7 +8,7 @@ use Rattle.smk_world.specs.declared.recipe.Item.{Item}
 use Rattle.smk_world.specs.Trees.{Path}
 use Rattle.smk_flow.specs.declared.job.Job.{Job}
 use Rattle.smk_chain.specs.declared.jobs.Maker.{Maker}
-use Rattle.smk_run.specs.declared.duty.Duty.{Duty}
+use Rattle.smk_plan.specs.declared.duty.Duty.{Duty}
 use Rattle.smk_duties.specs.Choosing.{is_able, is_input_below, is_job_below, is_old}
 use Rattle.smk_duties.specs.Numbers.{are_item_below, is_able_by, is_input_at, HasNumbers}
 

@@ -33,9 +33,9 @@ use Rattle.smk_facts.proofs.Tests.{each_among, each_found, each_of, each_two, fi
 use Rattle.smk_facts.proofs.Reasoned.{facts_reason}
 use Rattle.smk_states.specs.Judged.{with_states}
 use Rattle.smk_states.specs.Served.{IsBelow, IsToldOf, ReadEarlier}
-use Rattle.smk_run.specs.declared.duty.Duty.{Duty}
-use Rattle.smk_run.specs.declared.duty.Duty.TheVariants.{Rest, Restore as Again, Run}
-use Rattle.smk_run.specs.Duties.{maker_in}
+use Rattle.smk_plan.specs.declared.duty.Duty.{Duty}
+use Rattle.smk_plan.specs.declared.duty.Duty.TheVariants.{Rest, Restore as Again, Run}
+use Rattle.smk_plan.specs.Duties.{maker_in}
 use Rattle.smk_duties.specs.Choosing.{duties_in, duty_by, is_able, is_input_below, is_job_below, is_kept_below, is_old, made_in, made_of, resting, restoring}
 use Rattle.smk_duties.specs.Meaning.{AreKeptWith, AreMeant, IsMeant, IsPlanned, IsSpokenFor}
 use Rattle.smk_duties.proofs.Kept.{first_kept, input_below, made_positive, made_there, map_nil, old_there, split_parts, stamp_spoken, IsKept}

@@ -5,7 +5,7 @@ use Rattle.std.specs.List.{find}
 use Rattle.std.specs.Option.{option_and_then}
 use Rattle.smk_world.specs.Trees.{Path}
 use Rattle.smk_chain.specs.declared.jobs.Maker.{Maker}
-use Rattle.smk_run.specs.Duties.{maker_in}
+use Rattle.smk_plan.specs.Duties.{maker_in}
 
 -- what the list has for the path, or else this
 abbrev pub found_in : List Maker → Option (Option ℕ) → Path → Option (Option ℕ)

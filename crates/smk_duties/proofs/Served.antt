@@ -15,9 +15,9 @@ use Rattle.smk_chain.specs.declared.jobs.Maker.{Maker}
 use Rattle.smk_trigger.specs.declared.reason.State.{State}
 use Rattle.smk_trigger.specs.declared.reason.State.TheVariants.{Open, Dirty, Restore, Clean}
 use Rattle.smk_trigger.specs.JobStates.{is_to_run}
-use Rattle.smk_run.specs.declared.duty.Duty.{Duty}
-use Rattle.smk_run.specs.declared.duty.Duty.TheVariants.{Rest, Restore as Again, Run}
-use Rattle.smk_run.specs.Duties.{duty_for, maker_in, rests, AreFor, AreServable, IsKeptBelow, IsOld, IsServable}
+use Rattle.smk_plan.specs.declared.duty.Duty.{Duty}
+use Rattle.smk_plan.specs.declared.duty.Duty.TheVariants.{Rest, Restore as Again, Run}
+use Rattle.smk_plan.specs.Duties.{duty_for, maker_in, rests, AreFor, AreServable, IsKeptBelow, IsOld, IsServable}
 use Rattle.smk_duties.specs.Choosing.{duties_in, duty_by, is_input_below, is_job_below, is_kept_below, is_old, is_able, made_of, resting, restoring}
 
 -- ## Lists

@@ -12,9 +12,9 @@ use Rattle.smk_store.specs.Stores.{Known, entry_of}
 use Rattle.smk_chain.specs.declared.jobs.Maker.{Maker}
 use Rattle.smk_trigger.specs.declared.reason.State.{State}
 use Rattle.smk_trigger.specs.declared.reason.State.TheVariants.{Open, Dirty, Restore, Clean}
-use Rattle.smk_run.specs.declared.duty.Duty.{Duty}
-use Rattle.smk_run.specs.declared.duty.Duty.TheVariants.{Rest, Restore as Again, Run}
-use Rattle.smk_run.specs.Duties.{maker_in}
+use Rattle.smk_plan.specs.declared.duty.Duty.{Duty}
+use Rattle.smk_plan.specs.declared.duty.Duty.TheVariants.{Rest, Restore as Again, Run}
+use Rattle.smk_plan.specs.Duties.{maker_in}
 
 -- ## Serials
 

@@ -14,9 +14,9 @@ use Rattle.smk_plan.specs.States.{HasStates, makes}
 use Rattle.smk_facts.specs.Facts.{having_run, HasOwnRecords}
 use Rattle.smk_states.specs.Judged.{with_states}
 use Rattle.smk_states.specs.Served.{AreServed}
-use Rattle.smk_run.specs.declared.duty.Duty.{Duty}
-use Rattle.smk_run.specs.declared.duty.Duty.TheVariants.{Rest, Restore as Again, Run}
-use Rattle.smk_run.specs.Duties.{rests}
+use Rattle.smk_plan.specs.declared.duty.Duty.{Duty}
+use Rattle.smk_plan.specs.declared.duty.Duty.TheVariants.{Rest, Restore as Again, Run}
+use Rattle.smk_plan.specs.Duties.{rests}
 
 -- each output has a record with this serial, and no mark
 abbrev pub AreKeptWith : Image → ℕ → Job → Type 0

@@ -6,7 +6,7 @@ ghost use Rattle.smk_pick.specs.declared.settings.Settings.{Settings as Settings
 ghost use Rattle.smk_store.specs.Images.{Image};
 ghost use Rattle.smk_store.specs.Loading.{IsStoreOf};
 ghost use Rattle.smk_store.specs.Serials.{next_serial};
-ghost use Rattle.smk_run.specs.Duties.{AreFor, AreServable, IsOld};
+ghost use Rattle.smk_plan.specs.Duties.{AreFor, AreServable, IsOld};
 ghost use Rattle.smk_duties.specs.Choosing.{duties_in, duty_by, is_able, resting, restoring};
 ghost use Rattle.smk_duties.specs.Meaning.{AreMeant, IsPlanned};
 ghost use Rattle.smk_duties.specs.Numbers.{is_able_by};
@@ -16,7 +16,7 @@ use crate::serials::{are_inputs_below, is_old, made_of};
 use smk_base::{List, OutOfMemory};
 use smk_chain::Jobs;
 use smk_flow::Job;
-use smk_run::Duty;
+use smk_plan::Duty;
 use smk_store::Store;
 use smk_trigger::State;
 use std::alloc::Global;

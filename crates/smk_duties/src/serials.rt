@@ -9,7 +9,7 @@ ghost use Rattle.smk_duties.specs.Numbers.{are_item_below, is_input_at};
 use crate::numbers::number_of;
 use smk_base::PathText;
 use smk_flow::Job;
-use smk_run::Duty;
+use smk_plan::Duty;
 use smk_store::{Entry, Kept, Store};
 use smk_world::{Item, OutItem};
 use std::collections::BTreeMap;

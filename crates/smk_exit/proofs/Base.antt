@@ -29,10 +29,10 @@ use Rattle.smk_trigger.specs.JobStates.{is_dirty, is_to_run}
 use Rattle.smk_trigger.specs.Reasons.{own_reasons}
 use Rattle.smk_pick.specs.declared.settings.Settings.{Settings}
 use Rattle.smk_plan.specs.States.{Plan, is_open_now, is_read_now, is_restored, is_to_restore, is_wanted_back, made_by, makes, nothing_done, reasons, state_of, test_some}
-use Rattle.smk_laws.proofs.CurrentEased.{none_restored}
-use Rattle.smk_laws.proofs.CurrentLists.{append_nil_left, append_nil_right, filter_nil, in_left, map_nil, or_first, zip_first}
-use Rattle.smk_laws.proofs.CurrentPaths.{among_in, in_among}
-use Rattle.smk_laws.proofs.PlanOne.{pair_first}
+use Rattle.smk_laws_history.proofs.CurrentEased.{none_restored}
+use Rattle.smk_laws_plan.proofs.CurrentLists.{append_nil_left, append_nil_right, filter_nil, in_left, map_nil, or_first, zip_first}
+use Rattle.smk_laws_plan.proofs.CurrentPaths.{among_in, in_among}
+use Rattle.smk_laws_plan.proofs.PlanOne.{pair_first}
 use Rattle.smk_run.specs.Duties.{serials}
 use Rattle.smk_run.specs.Stamps.{Serials}
 use Rattle.smk_run.specs.Turns.{Turn, found, is_closed, is_done}

@@ -21,16 +21,16 @@ use Rattle.smk_trigger.specs.JobStates.{is_clean, is_to_run}
 use Rattle.smk_pick.specs.declared.settings.Force.TheVariants.{No}
 use Rattle.smk_pick.specs.declared.settings.Settings.{Settings}
 use Rattle.smk_plan.specs.States.{Plan, IsPlan, LastPlan, Last, files_listed, new_listings, is_current, is_ready, is_to_restore, is_wanted_back, is_whole_by, maker_of, nothing_done, stands_whole, state_of, test_some}
-use Rattle.smk_laws.proofs.CurrentApart.{maker_found}
-use Rattle.smk_laws.proofs.CurrentEased.{none_restored}
-use Rattle.smk_laws.proofs.CurrentFills.{bound_fills_from}
-use Rattle.smk_laws.proofs.CurrentLists.{or_first, or_second}
-use Rattle.smk_laws.proofs.CurrentMeaning.{source_chosen}
-use Rattle.smk_laws.proofs.CurrentProducts.{in_plan_here, target_reached}
-use Rattle.smk_laws.proofs.CurrentReach.{choice_known}
-use Rattle.smk_laws.proofs.PlanOne.{chosen_makes, derived_apart}
-use Rattle.smk_run.specs.declared.duty.Duty.{Duty}
-use Rattle.smk_run.specs.declared.duty.Duty.TheVariants.{Rest, Restore as Again, Run}
+use Rattle.smk_laws_plan.proofs.CurrentApart.{maker_found}
+use Rattle.smk_laws_history.proofs.CurrentEased.{none_restored}
+use Rattle.smk_laws_plan.proofs.CurrentFills.{bound_fills_from}
+use Rattle.smk_laws_plan.proofs.CurrentLists.{or_first, or_second}
+use Rattle.smk_laws_plan.proofs.CurrentMeaning.{source_chosen}
+use Rattle.smk_laws_plan.proofs.CurrentProducts.{in_plan_here, target_reached}
+use Rattle.smk_laws_plan.proofs.CurrentReach.{choice_known}
+use Rattle.smk_laws_plan.proofs.PlanOne.{chosen_makes, derived_apart}
+use Rattle.smk_plan.specs.declared.duty.Duty.{Duty}
+use Rattle.smk_plan.specs.declared.duty.Duty.TheVariants.{Rest, Restore as Again, Run}
 use Rattle.smk_run.specs.Duties.{Due, due, due_from, serial_of}
 use Rattle.smk_run.specs.Runs.{AreInOrder}
 use Rattle.smk_run.specs.Turns.{Turn, is_closed, is_done}

@@ -35,12 +35,12 @@ use Rattle.smk_protocol.specs.Protocol.{now}
 use Rattle.smk_protocol.proofs.Basics.{each_in, each_on}
 use Rattle.smk_pick.specs.declared.settings.Settings.{Settings}
 use Rattle.smk_plan.specs.States.{Plan}
-use Rattle.smk_job.specs.Laws.{IsRecordable}
+use Rattle.smk_laws_job.specs.Laws.{IsRecordable}
 use Rattle.smk_job.specs.Sights.{IsOfKind, reads_file}
 use Rattle.smk_job.proofs.Outs.{paths_same}
-use Rattle.smk_laws.proofs.CurrentLists.{in_left, map_in}
-use Rattle.smk_laws.proofs.CurrentMeaning.{source_file, source_stamp_but}
-use Rattle.smk_laws.proofs.HistoryImages.{held_no_source}
+use Rattle.smk_laws_plan.proofs.CurrentLists.{in_left, map_in}
+use Rattle.smk_laws_plan.proofs.CurrentMeaning.{source_file, source_stamp_but}
+use Rattle.smk_laws_history.proofs.HistoryImages.{held_no_source}
 use Rattle.smk_run.specs.Duties.{due}
 use Rattle.smk_run.specs.Stamps.{Serials}
 use Rattle.smk_run.specs.Turns.{Turn, AreTurns, found, is_closed, is_done}

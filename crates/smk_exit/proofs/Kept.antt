@@ -24,8 +24,8 @@ use Rattle.smk_pick.specs.declared.settings.Force.{Force}
 use Rattle.smk_pick.specs.declared.settings.Force.TheVariants.{No}
 use Rattle.smk_pick.specs.declared.settings.Settings.{Settings}
 use Rattle.smk_plan.specs.States.{Plan, IsPlan, by_force, by_reasons, is_input, job_path, is_current, is_open_now, is_read_now, is_restored, is_to_restore, is_wanted_back, is_whole_by, made_by, maker_of, makes, nothing_done, reasons, staged, stands_whole, state_of, test_some}
-use Rattle.smk_laws.proofs.CurrentEased.{none_restored}
-use Rattle.smk_laws.proofs.CurrentLists.{distinct_in, and_left, or_second, zip_in}
+use Rattle.smk_laws_history.proofs.CurrentEased.{none_restored}
+use Rattle.smk_laws_plan.proofs.CurrentLists.{distinct_in, and_left, or_second, zip_in}
 use Rattle.smk_run.specs.Stamps.{Serials}
 use Rattle.smk_run.specs.Turns.{Turn, is_closed}
 use Rattle.smk_safe.specs.Planned.{IsPlain}

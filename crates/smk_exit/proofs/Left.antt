@@ -18,12 +18,12 @@ use Rattle.smk_protocol.specs.Protocol.{now}
 use Rattle.smk_protocol.proofs.Basics.{each_in, each_of}
 use Rattle.smk_pick.specs.declared.settings.Settings.{Settings}
 use Rattle.smk_plan.specs.States.{Plan}
-use Rattle.smk_laws.specs.Current.{IsComplete}
-use Rattle.smk_laws.proofs.CurrentApart.{SpotsApart, spot_free, spots_apart}
-use Rattle.smk_laws.proofs.CurrentComplete.{seen_is_complete}
-use Rattle.smk_laws.proofs.CurrentLists.{in_flat, or_left, or_right}
-use Rattle.smk_laws.proofs.CurrentPaths.{among_in}
-use Rattle.smk_laws.proofs.PlanOne.{derived_clear}
+use Rattle.smk_laws_plan.specs.Current.{IsComplete}
+use Rattle.smk_laws_plan.proofs.CurrentApart.{SpotsApart, spot_free, spots_apart}
+use Rattle.smk_laws_history.proofs.CurrentComplete.{seen_is_complete}
+use Rattle.smk_laws_plan.proofs.CurrentLists.{in_flat, or_left, or_right}
+use Rattle.smk_laws_plan.proofs.CurrentPaths.{among_in}
+use Rattle.smk_laws_plan.proofs.PlanOne.{derived_clear}
 use Rattle.smk_run.specs.Duties.{serials, due}
 use Rattle.smk_run.specs.Stamps.{Serials}
 use Rattle.smk_run.specs.Turns.{Turn, is_closed}

@@ -14,14 +14,14 @@ use Rattle.smk_trigger.specs.declared.reason.State.TheVariants.{Open, Dirty, Res
 use Rattle.smk_trigger.specs.JobStates.{is_to_run}
 use Rattle.smk_pick.specs.declared.settings.Settings.{Settings}
 use Rattle.smk_plan.specs.States.{Plan, maker_of, makes, nothing_done, state_of}
-use Rattle.smk_laws.proofs.PlanOne.{pair_first}
+use Rattle.smk_laws_plan.proofs.PlanOne.{pair_first}
 use Rattle.smk_run.specs.Duties.{due}
 use Rattle.smk_run.specs.Turns.{Turn, is_done}
 use Rattle.smk_safe.specs.Planned.{AreTurnsOf}
 use Rattle.smk_safe.proofs.Planned as by_plan
 use Rattle.smk_dues.proofs.Dues.{turns_of}
-use Rattle.smk_laws.proofs.PlanOne.{derived_order}
-use Rattle.smk_laws.proofs.PlanOrder.{InOrder, Served}
+use Rattle.smk_laws_plan.proofs.PlanOne.{derived_order}
+use Rattle.smk_laws_plan.proofs.PlanOrder.{InOrder, Served}
 use Rattle.smk_safe.specs.Ready.{AreDoneButLast}
 use Rattle.smk_dues.proofs.Dues.{done_but_last}
 use Rattle.smk_exit.specs.Exit.{DoneJobsAreKept, HadDoneTurn, IsDueRun, IsKept, Kept}

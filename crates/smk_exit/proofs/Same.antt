@@ -12,12 +12,12 @@ use Rattle.smk_store.specs.Soundness.{SameSources}
 use Rattle.smk_chain.specs.Derive.{Listings, Clash, Deep, TooManyPaths, Derived, derivation, outcome, refused_if, reach, refused, is_deep, jobs, spots, clashes, hinders, sources_of}
 use Rattle.std.specs.Prelude.{nat_lt, length}
 use Rattle.smk_protocol.proofs.Basics.{some_of, any_by}
-use Rattle.smk_laws.specs.Current.{IsComplete}
-use Rattle.smk_laws.proofs.CurrentLists.{filter_in, in_filter}
-use Rattle.smk_laws.proofs.CurrentMeaning.{source_file}
-use Rattle.smk_laws.proofs.CurrentPaths.{among_in}
-use Rattle.smk_laws.proofs.CurrentApart.{spot_free}
-use Rattle.smk_laws.proofs.PlanOne.{derived, derived_clear}
+use Rattle.smk_laws_plan.specs.Current.{IsComplete}
+use Rattle.smk_laws_plan.proofs.CurrentLists.{filter_in, in_filter}
+use Rattle.smk_laws_plan.proofs.CurrentMeaning.{source_file}
+use Rattle.smk_laws_plan.proofs.CurrentPaths.{among_in}
+use Rattle.smk_laws_plan.proofs.CurrentApart.{spot_free}
+use Rattle.smk_laws_plan.proofs.PlanOne.{derived, derived_clear}
 use Rattle.smk_safe.proofs.Images.{source_of_both, same_back}
 
 true_false : true ≡ false → ⊥

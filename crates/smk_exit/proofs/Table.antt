@@ -21,8 +21,8 @@ use Rattle.smk_pick.specs.declared.settings.Force.{Force}
 use Rattle.smk_pick.specs.declared.settings.Force.TheVariants.{No}
 use Rattle.smk_pick.specs.declared.settings.Settings.{Settings}
 use Rattle.smk_plan.specs.States.{Plan, Progress, awaits, awaited, by_force, by_reasons, directory_over, gathers_from, is_at_hand, is_input, is_open_now, is_read_now, is_ready, is_restored, is_to_restore, is_wanted_back, job_path, made_by, maker_of, makes, none_or_one, reasons, staged, state_of, test_some}
-use Rattle.smk_laws.proofs.CurrentLists.{find_in, zip_in}
-use Rattle.smk_laws.proofs.PlanStates.{any_zip}
+use Rattle.smk_laws_plan.proofs.CurrentLists.{find_in, zip_in}
+use Rattle.smk_laws_plan.proofs.PlanStates.{any_zip}
 use Rattle.smk_safe.specs.Planned.{IsPlain}
 use Rattle.smk_safe.proofs.Planned.{flat_none, no_folders}
 use Rattle.smk_exit.specs.Exit.{all_clean, begun_so}

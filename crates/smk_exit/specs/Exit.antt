@@ -20,7 +20,7 @@ use Rattle.smk_trigger.specs.JobStates.{is_to_run}
 use Rattle.smk_pick.specs.declared.settings.Force.TheVariants.{No}
 use Rattle.smk_pick.specs.declared.settings.Settings.{Settings}
 use Rattle.smk_plan.specs.States.{Plan, Progress, IsPlan, LastPlan, nothing_done, staged, maker_of, is_current}
-use Rattle.smk_run.specs.declared.duty.Duty.{Duty}
+use Rattle.smk_plan.specs.declared.duty.Duty.{Duty}
 use Rattle.smk_run.specs.Duties.{serials, due}
 use Rattle.smk_run.specs.Runs.{AreInOrder}
 use Rattle.smk_run.specs.Turns.{Turn, is_closed, is_done}

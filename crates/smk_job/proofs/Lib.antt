@@ -1,3 +1,4 @@
+pub mod Lists
 pub mod Children
 pub mod Rooms
 pub mod Single
@@ -8,12 +9,3 @@ pub mod Looking
 pub mod Finishing
 pub mod Viewing
 pub mod Viewed
-pub mod Abandoning
-pub mod Beginning
-pub mod Parts
-pub mod FinishRuns
-pub mod Called
-pub mod Readable
-pub mod Still
-pub mod Onward
-pub mod Forgetting

@@ -11,7 +11,7 @@ use Rattle.smk_world.specs.Calls.{IsUnused, any_overlap, used_now}
 use Rattle.smk_world.specs.Trees.{Path}
 use Rattle.smk_store.specs.declared.places.JobPlaces.{JobPlaces}
 use Rattle.smk_store.specs.Steps.{AreUnused, places_of}
-use Rattle.smk_protocol.proofs.Basics.{each_in, none_by}
+use Rattle.smk_job.proofs.Lists.{each_in, none_by}
 use Rattle.smk_job.specs.Jobs.{Underway, LetsBegin, LetsClose, ReadUsers}
 
 or_none : (a b : Bool) → a ≡ false → b ≡ false → (a || b) ≡ false

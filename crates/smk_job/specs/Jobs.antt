@@ -1,13 +1,13 @@
 -- One job: its records, when it may begin and be closed, and its calls in order.
-use Rattle.std.specs.Prelude.{◌≡◌, ℕ, Bool, true, false, List, [], ◌∷◌, ◌++◌, map, length, nat_lt, Option, Some, None, Result, Ok, Err, All}
+use Rattle.std.specs.Prelude.{◌≡◌, ◌⊎◌, ℕ, Bool, true, false, List, [], ◌∷◌, ◌++◌, map, length, nat_lt, Option, Some, None, Result, Ok, Err, All}
 use Rattle.std.specs.List.{flat_map, find}
 use Rattle.smk_base.specs.Path.{is_path}
 use Rattle.smk_world.specs.declared.event.Event.{Event}
 use Rattle.smk_world.specs.declared.recipe.Out.{Out}
 use Rattle.smk_world.specs.declared.recipe.Recipe.{Recipe}
 use Rattle.smk_world.specs.World.{World, in_paths, out_paths, owned_paths, is_within}
-use Rattle.smk_world.specs.Calls.{owned_now, used_now, any_overlap, are_apart, started_numbers}
-use Rattle.smk_world.specs.Requests.{Request, HasDone, IsCutShort}
+use Rattle.smk_world.specs.Calls.{owned_now, used_now, any_overlap, are_apart, started_numbers, failed}
+use Rattle.smk_world.specs.Requests.{Request, request, HasDone, IsCutShort}
 use Rattle.smk_world.specs.Requests.Request.{MakeParents, Settle, Start}
 use Rattle.smk_world.specs.Trees.{Path, Each, outs_of}
 use Rattle.smk_record.specs.declared.record.Stamp.{Stamp}
@@ -117,6 +117,12 @@ finish_requests j members = keep_requests (places j) (bytes_with j (out_paths j.
 -- the calls of a job that is abandoned
 abbrev pub abandon_requests : Underway → List Request
 abandon_requests j = lose_requests (places j)
+
+-- The events are the first of these calls, in order; only the last event may be one that failed.
+abbrev pub IsPart : List Request → List Event → Type 0
+IsPart rs [] = Unit {0}
+IsPart [] (e ∷ es) = ⊥
+IsPart (r ∷ rs) (e ∷ es) = (request e.call ≡ r) × (((failed e.call ≡ true) × (es ≡ [])) ⊎ ((failed e.call ≡ false) × IsPart rs es))
 
 -- ## What `begin` answers and does
 

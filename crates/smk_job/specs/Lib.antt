@@ -2,4 +2,3 @@ pub mod Jobs
 pub mod Reserves
 pub mod Sights
 pub mod Views
-pub mod Laws

@@ -19,11 +19,11 @@ use Rattle.smk_walk.specs.Links.{AreOnce, maker_told, number_for}
 use Rattle.smk_walk.specs.Numbers.{is_job, number_in, place_of}
 use Rattle.smk_plan.specs.States.{makes}
 use Rattle.smk_plan.specs.Sights.{job_at}
-use Rattle.smk_laws.proofs.CurrentChosen.{Origin, folder_made, origin, output_in}
-use Rattle.smk_laws.proofs.CurrentFills.{bound_fills_from}
-use Rattle.smk_laws.proofs.CurrentLists.{In, distinct_in, find_some, flat_in}
-use Rattle.smk_laws.proofs.CurrentPaths.{in_among}
-use Rattle.smk_laws.proofs.CurrentWalked.{chosen_same, walked_chosen}
+use Rattle.smk_laws_plan.proofs.CurrentChosen.{Origin, folder_made, origin, output_in}
+use Rattle.smk_laws_plan.proofs.CurrentFills.{bound_fills_from}
+use Rattle.smk_laws_plan.proofs.CurrentLists.{In, distinct_in, find_some, flat_in}
+use Rattle.smk_laws_plan.proofs.CurrentPaths.{in_among}
+use Rattle.smk_laws_plan.proofs.CurrentWalked.{chosen_same, walked_chosen}
 use Rattle.smk_facts.specs.Facts.{IsMade}
 use Rattle.smk_facts.proofs.Tests.{each_of, none_some, some_same}
 use Rattle.smk_linked.specs.Links.{LinkedAreMade}

@@ -11,7 +11,7 @@ use Rattle.smk_world.specs.Requests.Request.{Look, ReadUpTo, ListFolder, Write, 
 use Rattle.smk_world.specs.Trees.{Path, Each, outs_of}
 use Rattle.smk_record.specs.declared.record.Stamp.{Stamp}
 use Rattle.smk_record.specs.declared.record.Member.{Member}
-use Rattle.smk_job.specs.Laws.{IsPart}
+use Rattle.smk_job.specs.Jobs.{IsPart}
 use Rattle.smk_job.specs.declared.fault.CloseFault.{CloseFault}
 use Rattle.smk_job.specs.declared.fault.CloseFault.TheVariants as fault
 use Rattle.smk_job.specs.Jobs.{Underway, begin_requests, abandon_requests, finish_requests}

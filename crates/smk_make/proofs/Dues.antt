@@ -3,9 +3,9 @@ use native.Mathlib.Omega.{arith}
 use Rattle.std.proofs.Common.{◌≡◌, ◌⊎◌, ◌<◌, ◌≤◌, ◌+◌, ◌-◌, ℕ, zero, suc, Bool, true, false, List, [], ◌∷◌, ◌++◌, length, take, filter, cond, inl, inr, refl, sym, ap, subst, ◌∙◌, Some, None, slice_get, nat_lt}
 use Rattle.std.specs.Prelude.{get_or, if◌then◌else◌}
 use Rattle.std.proofs.lemmas.Bool.{ltb-true}
-use Rattle.smk_run.specs.declared.duty.Duty.{Duty}
-use Rattle.smk_run.specs.declared.duty.Duty.TheVariants.{Rest, Restore, Run}
-use Rattle.smk_run.specs.Duties.{rests}
+use Rattle.smk_plan.specs.declared.duty.Duty.{Duty}
+use Rattle.smk_plan.specs.declared.duty.Duty.TheVariants.{Rest, Restore, Run}
+use Rattle.smk_plan.specs.Duties.{rests}
 use Rattle.smk_make.specs.After.{is_due, is_due_one, is_due_at, due_before, left_after, done_after, IsDueAfter, IsDueNumber, is_current_by, AreAfterBy}
 
 true_false : true ≡ false → ⊥

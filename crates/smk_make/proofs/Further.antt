@@ -13,7 +13,7 @@ use Rattle.smk_store.specs.Stores.{Known}
 use Rattle.smk_trigger.specs.declared.reason.State.{State}
 use Rattle.smk_report.specs.declared.fault.Fault.{Fault}
 use Rattle.smk_report.specs.Lines.{Text}
-use Rattle.smk_run.specs.declared.duty.Duty.{Duty}
+use Rattle.smk_plan.specs.declared.duty.Duty.{Duty}
 use Rattle.smk_run.specs.Statuses.{IsGiven, AreGiven}
 use Rattle.smk_make.specs.Faults.{of_store}
 use Rattle.smk_make.specs.Making.{HasMade, HasCarriedOut, GoesOn, NotFirm, NoMemory, Made}

@@ -8,9 +8,10 @@ use Rattle.smk_trigger.specs.declared.reason.State.TheVariants.{Open, Dirty, Res
 use Rattle.smk_trigger.specs.JobStates.{is_to_run}
 use Rattle.smk_report.specs.declared.fault.Fault.{Fault}
 use Rattle.smk_commands.specs.Commands.{job_fault, state_fault, or_later, command_fault}
-use Rattle.smk_run.specs.declared.duty.Duty.{Duty}
-use Rattle.smk_run.specs.declared.duty.Duty.TheVariants as duty
-use Rattle.smk_run.specs.Duties.{due_from, AreFor}
+use Rattle.smk_plan.specs.declared.duty.Duty.{Duty}
+use Rattle.smk_plan.specs.declared.duty.Duty.TheVariants as duty
+use Rattle.smk_run.specs.Duties.{due_from}
+use Rattle.smk_plan.specs.Duties.{AreFor}
 use Rattle.smk_run.specs.Runs.{AreGood}
 
 false_true : false ≡ true → ⊥

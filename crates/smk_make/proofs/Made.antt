@@ -13,9 +13,10 @@ use Rattle.smk_trigger.specs.declared.reason.State.{State}
 use Rattle.smk_report.specs.declared.fault.Fault.{Fault}
 use Rattle.smk_report.specs.declared.fault.Fault.TheVariants as fault
 use Rattle.smk_report.specs.Lines.{Text}
-use Rattle.smk_run.specs.declared.duty.Duty.{Duty}
+use Rattle.smk_plan.specs.declared.duty.Duty.{Duty}
 use Rattle.smk_run.specs.declared.tally.Tally.{Tally}
-use Rattle.smk_run.specs.Duties.{due, serials, AreFor}
+use Rattle.smk_run.specs.Duties.{due, serials}
+use Rattle.smk_plan.specs.Duties.{AreFor}
 use Rattle.smk_run.specs.Reports.{HasWritten, IsReport, report_of}
 use Rattle.smk_run.specs.Runs.{HasRun, IsOutcome, IsTally, is_whole, is_output, is_device, leaves_whole, is_device_fault}
 use Rattle.smk_make.specs.After.{AreCurrent, IsAfter}

@@ -8,7 +8,7 @@ use Rattle.smk_world.specs.Trees.{Path}
 use Rattle.smk_chain.specs.declared.jobs.Maker.{Maker}
 use Rattle.smk_store.specs.Stores.{Known}
 use Rattle.smk_store.specs.Serials.{greatest_serial, next_serial}
-use Rattle.smk_run.specs.Duties.{IsOld, maker_in}
+use Rattle.smk_plan.specs.Duties.{IsOld, maker_in}
 
 -- what the list has for the path, or else this
 abbrev pub found_in : List Maker → Option (Option ℕ) → Path → Option (Option ℕ)

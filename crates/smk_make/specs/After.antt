@@ -1,9 +1,9 @@
 -- Which jobs are current after a run.
 use Rattle.std.specs.Prelude.{◌≡◌, ◌<◌, ℕ, Bool, true, false, not, List, [], take, filter, length, get_or, nat_lt, ◌-◌, slice_get, if◌then◌else◌, Option, Some, None}
-use Rattle.smk_run.specs.declared.duty.Duty.{Duty}
-use Rattle.smk_run.specs.declared.duty.Duty.TheVariants.{Rest, Restore, Run}
+use Rattle.smk_plan.specs.declared.duty.Duty.{Duty}
+use Rattle.smk_plan.specs.declared.duty.Duty.TheVariants.{Rest, Restore, Run}
 use Rattle.smk_run.specs.declared.tally.Tally.{Tally}
-use Rattle.smk_run.specs.Duties.{rests}
+use Rattle.smk_plan.specs.Duties.{rests}
 use Rattle.smk_run.specs.Turns.{Turn, is_done}
 use Rattle.smk_needs.specs.Needs.{Needs, Says, AreNeeding}
 

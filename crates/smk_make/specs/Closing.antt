@@ -6,7 +6,7 @@ use Rattle.smk_chain.specs.declared.jobs.Maker.{Maker}
 use Rattle.smk_report.specs.declared.fault.Fault.{Fault}
 use Rattle.smk_report.specs.Lines.{Text, target_line, summary_line}
 use Rattle.smk_run.specs.declared.tally.Tally.{Tally}
-use Rattle.smk_run.specs.Runs.{maker_in}
+use Rattle.smk_plan.specs.Duties.{maker_in}
 
 -- what the job of this number makes is current, where this is said of each job; a source needs no job
 abbrev pub is_current : List Bool → Option ℕ → Bool

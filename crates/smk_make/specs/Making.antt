@@ -17,9 +17,10 @@ use Rattle.smk_duties.specs.Meaning.{IsPlanned, AreMeant}
 use Rattle.smk_report.specs.declared.fault.Fault.{Fault}
 use Rattle.smk_report.specs.declared.fault.Fault.TheVariants as fault
 use Rattle.smk_report.specs.Lines.{Text}
-use Rattle.smk_run.specs.declared.duty.Duty.{Duty}
+use Rattle.smk_plan.specs.declared.duty.Duty.{Duty}
 use Rattle.smk_run.specs.declared.tally.Tally.{Tally}
-use Rattle.smk_run.specs.Duties.{due, serials, AreFor}
+use Rattle.smk_run.specs.Duties.{due, serials}
+use Rattle.smk_plan.specs.Duties.{AreFor}
 use Rattle.smk_run.specs.Statuses.{AreGiven}
 use Rattle.smk_run.specs.Turns.{Turn, AreTurns}
 use Rattle.smk_run.specs.Reports.{report_of, HasWritten, IsReport}

@@ -6,7 +6,8 @@ ghost use Rattle.smk_make.specs.After as spec;
 
 use smk_base::{List, OutOfMemory};
 use smk_needs::needing;
-use smk_run::{Duty, Tally};
+use smk_plan::Duty;
+use smk_run::Tally;
 use std::alloc::Global;
 
 // How many more turns come before the one that is sought, once this job is passed; None where the turn is this job's.

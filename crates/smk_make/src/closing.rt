@@ -3,7 +3,7 @@
 ghost use Rattle.std.specs.Prelude.{◌≡◌, ◌++◌, IfOk, IfErr, OnOk, IsErr, IsSome, is_ok, string_bytes, true, false};
 ghost use Rattle.smk_world.specs.Calls.{HasPut, HasCause};
 ghost use Rattle.smk_report.specs.Lines.{target_line};
-ghost use Rattle.smk_run.specs.Runs.{maker_in, is_output};
+ghost use Rattle.smk_run.specs.Runs.{is_output};
 ghost use Rattle.smk_run.specs.Stamps.{number_at};
 ghost use Rattle.smk_make.specs.Closing as spec;
 ghost use Rattle.smk_make.specs.Faults as faults;

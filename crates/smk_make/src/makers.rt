@@ -3,7 +3,7 @@
 ghost use Rattle.std.specs.Prelude.{◌≡◌, Some, IfOk, OnOk, bytes_eq, if◌then◌else◌};
 ghost use Rattle.std.specs.BTreeMap.{get_by_text};
 ghost use Rattle.smk_world.specs.Trees.{Path};
-ghost use Rattle.smk_run.specs.Runs.{maker_in};
+ghost use Rattle.smk_plan.specs.Duties.{maker_in};
 ghost use Rattle.smk_run.specs.Stamps.{number_at};
 
 use smk_base::{OutOfMemory, PathText};

@@ -1,2 +1,4 @@
 pub mod States
 pub mod Sights
+pub mod Duties
+pub mod Runnable

@@ -16,7 +16,7 @@ use Rattle.smk_chain.specs.Told.{TellsFirst}
 use Rattle.smk_clash.specs.Clashes.{ListsKnown}
 use Rattle.smk_walk.specs.Links.{AreLinked}
 use Rattle.smk_facts.specs.Facts.{NamesAll}
-use Rattle.smk_run.specs.Runs.{AreRunnable}
+use Rattle.smk_plan.specs.Runnable.{AreRunnable}
 use Rattle.smk_report.specs.declared.fault.Fault.{Fault}
 use Rattle.smk_report.specs.declared.fault.Fault.TheVariants as fault
 use Rattle.smk_preview.specs.Faults.{is_told, is_device, is_sink, device_failed, as_call, of_chain}

@@ -8,7 +8,7 @@ use Rattle.smk_store.specs.Stores.{Known}
 use Rattle.smk_store.specs.Loading.{IsStoreOf}
 use Rattle.smk_pick.specs.declared.settings.Settings.{Settings}
 use Rattle.smk_walk.specs.Links.{AreLower}
-use Rattle.smk_run.specs.Runs.{AreRunnable}
+use Rattle.smk_plan.specs.Runnable.{AreRunnable}
 use Rattle.smk_report.specs.declared.fault.Fault.{Fault}
 use Rattle.smk_preview.specs.declared.rounds.Round.{Round}
 use Rattle.smk_preview.specs.declared.previewing.Previewed.{Previewed}

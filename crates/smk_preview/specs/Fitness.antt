@@ -2,7 +2,7 @@
 use Rattle.std.specs.Prelude.{◌≡◌, length}
 use Rattle.smk_chain.specs.declared.jobs.Jobs.{Jobs}
 use Rattle.smk_walk.specs.Links.{AreLower}
-use Rattle.smk_run.specs.Runs.{AreRunnable}
+use Rattle.smk_plan.specs.Runnable.{AreRunnable}
 
 -- each can be run, and those before it have lower numbers
 pub record AreFit (jobs : Jobs) : Type 0 where

@@ -11,7 +11,7 @@ ghost use Rattle.smk_store.specs.Walking.{HasLooked};
 ghost use Rattle.smk_members.specs.Disk.{IsTree};
 ghost use Rattle.smk_walk.specs.Links.{AreLower};
 ghost use Rattle.smk_commands.specs.Commands.{command_fault};
-ghost use Rattle.smk_run.specs.Runs.{AreRunnable};
+ghost use Rattle.smk_plan.specs.Runnable.{AreRunnable};
 ghost use Rattle.smk_preview.specs.Faults.{device_failed, is_sink};
 ghost use Rattle.smk_preview.specs.Previewing.{HasPreviewed};
 ghost use Rattle.smk_preview.specs.Fitness.{AreFit};

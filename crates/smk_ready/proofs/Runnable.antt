@@ -24,7 +24,8 @@ use Rattle.smk_chain.specs.declared.jobs.Maker.{Maker}
 use Rattle.smk_chain.specs.Derive.{Listings, item_paths, gathered_in, gathered_files, wants, recipe, job, jobs, chosen, spots}
 use Rattle.smk_clash.specs.Clashes.{clashes_in}
 use Rattle.smk_walk.specs.Links.{maker_told, AreLower, number_for, befores_of, AreLinked}
-use Rattle.smk_run.specs.Runs.{maker_in, IsEarlier, IsRunnable, AreRunnableFrom, AreRunnable}
+use Rattle.smk_plan.specs.Duties.{maker_in}
+use Rattle.smk_plan.specs.Runnable.{IsEarlier, IsRunnable, AreRunnableFrom, AreRunnable}
 use Rattle.smk_ready.proofs.Lists.{OnSome, all_front, all_back, all_map, of_found, of_distinct, each_of, each_append, front_nil, back_nil, map_nil}
 use Rattle.smk_ready.proofs.Spaced.{jobs_apart}
 use Rattle.smk_ready.proofs.Ordered.{by_name_rising}

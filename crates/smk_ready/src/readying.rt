@@ -8,7 +8,7 @@ ghost use Rattle.smk_chain.specs.Derive.{jobs, job_refusals};
 ghost use Rattle.smk_chain.specs.Told.{TellsFirst};
 ghost use Rattle.smk_clash.specs.Clashes.{ListsKnown};
 ghost use Rattle.smk_walk.specs.Links.{AreLinked};
-ghost use Rattle.smk_run.specs.Runs.{AreRunnable};
+ghost use Rattle.smk_plan.specs.Runnable.{AreRunnable};
 
 use smk_base::{List, PathText};
 use smk_chain::{ChainFault, Jobs, Listings};

@@ -6,8 +6,8 @@ use Rattle.std.specs.Prelude.{slice_get}
 use Rattle.std.specs.Option.{option_and_then}
 use Rattle.smk_world.specs.Trees.{Each}
 use Rattle.smk_flow.specs.declared.job.Job.{Job}
-use Rattle.smk_run.specs.declared.duty.Duty.{Duty}
-use Rattle.smk_run.specs.declared.duty.Duty.TheVariants.{Rest, Restore, Run}
+use Rattle.smk_plan.specs.declared.duty.Duty.{Duty}
+use Rattle.smk_plan.specs.declared.duty.Duty.TheVariants.{Rest, Restore, Run}
 use Rattle.smk_run.specs.Duties.{Due, due_from, due_serial}
 
 -- ## Lists

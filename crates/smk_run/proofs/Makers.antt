@@ -7,9 +7,10 @@ use Rattle.std.specs.List.{find}
 use Rattle.std.specs.Option.{option_and_then}
 use Rattle.smk_world.specs.Trees.{Path}
 use Rattle.smk_chain.specs.declared.jobs.Maker.{Maker}
-use Rattle.smk_run.specs.declared.duty.Duty.{Duty}
+use Rattle.smk_plan.specs.declared.duty.Duty.{Duty}
 use Rattle.smk_run.specs.Stamps.{number_at}
-use Rattle.smk_run.specs.Duties.{maker_in, serial_of, serials, serials_from, serial_in, due_from, due}
+use Rattle.smk_plan.specs.Duties.{maker_in}
+use Rattle.smk_run.specs.Duties.{serial_of, serials, serials_from, serial_in, due_from, due}
 use Rattle.smk_flow.specs.declared.job.Job.{Job}
 use Rattle.smk_run.proofs.Serving.{serials_same}
 

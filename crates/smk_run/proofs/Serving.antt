@@ -9,11 +9,13 @@ use Rattle.smk_flow.specs.declared.job.Job.{Job}
 use Rattle.smk_flow.specs.Flows.{Flow}
 use Rattle.smk_chain.specs.declared.jobs.Maker.{Maker}
 use Rattle.smk_chain.specs.declared.jobs.Jobs.{Jobs}
-use Rattle.smk_run.specs.declared.duty.Duty.{Duty}
-use Rattle.smk_run.specs.declared.duty.Duty.TheVariants.{Rest, Restore, Run}
+use Rattle.smk_plan.specs.declared.duty.Duty.{Duty}
+use Rattle.smk_plan.specs.declared.duty.Duty.TheVariants.{Rest, Restore, Run}
 use Rattle.smk_run.specs.Stamps.{IsBelow}
-use Rattle.smk_run.specs.Duties.{maker_in, duty_for, drawn_before, drawn_with, serial_at, serial_by, serial_of, serials, serials_from, serial_in, due_from, due, IsOld, IsKeptBelow, IsServable, AreServable}
-use Rattle.smk_run.specs.Runs.{IsEarlier, AreRunnableFrom, AreRunnable, AreGood, IsReady}
+use Rattle.smk_plan.specs.Duties.{maker_in, duty_for, IsOld, IsKeptBelow, IsServable, AreServable}
+use Rattle.smk_run.specs.Duties.{drawn_before, drawn_with, serial_at, serial_by, serial_of, serials, serials_from, serial_in, due_from, due}
+use Rattle.smk_plan.specs.Runnable.{IsEarlier, AreRunnableFrom, AreRunnable}
+use Rattle.smk_run.specs.Runs.{AreGood, IsReady}
 
 -- ## Serials
 

@@ -16,7 +16,7 @@ use Rattle.smk_world.proofs.Runs.{did_both, did_nothing}
 use Rattle.smk_store.proofs.Carried.{did_as}
 use Rattle.smk_record.specs.declared.record.Stamp.{Stamp}
 use Rattle.smk_record.specs.declared.record.Stamp.TheVariants.{Time, Made}
-use Rattle.smk_job.specs.Laws.{IsPart}
+use Rattle.smk_job.specs.Jobs.{IsPart}
 use Rattle.smk_run.specs.declared.stop.Stop.{Stop}
 use Rattle.smk_run.specs.declared.stop.Stop.TheVariants.{TooLong, Gone, Device, Output, OutOfMemory}
 use Rattle.smk_run.specs.Stamps.{Serials, look_at, looks, IsStamped, AreStamped, is_file, EndsGone, HasStamped, HasTimed, HasStamp, HasPushed, IsTimeIn}

@@ -11,7 +11,7 @@ use Rattle.smk_record.specs.declared.record.Stamp.{Stamp}
 use Rattle.smk_record.specs.Records.{is_valid, record_of, is_earlier, are_rising, are_valid_members, are_none}
 use Rattle.smk_record.specs.Spelling.{texts, is_writable}
 use Rattle.smk_run.specs.Stamps.{is_small}
-use Rattle.smk_job.proofs.Abandoning.{among_by}
+use Rattle.smk_job.proofs.Lists.{among_by}
 
 and_true : (a b : Bool) → a ≡ true → b ≡ true → (a && b) ≡ true
 and_true a b h k = ap (λ x. x && b) h ∙ k

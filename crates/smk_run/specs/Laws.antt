@@ -12,11 +12,12 @@ use Rattle.smk_flow.specs.declared.job.Job.{Job}
 use Rattle.smk_flow.specs.Flows.{Flow}
 use Rattle.smk_trigger.specs.declared.reason.State.{State}
 use Rattle.smk_commands.specs.Commands.{command_fault}
-use Rattle.smk_run.specs.declared.duty.Duty.{Duty}
+use Rattle.smk_plan.specs.declared.duty.Duty.{Duty}
 use Rattle.smk_run.specs.declared.ending.Ending.{Ending}
 use Rattle.smk_run.specs.declared.ending.Ending.TheVariants.{Good, Status, NoOutput, WrongKind, BadMember}
 use Rattle.smk_run.specs.Closings.{wait_event}
-use Rattle.smk_run.specs.Duties.{AreFor, due}
+use Rattle.smk_plan.specs.Duties.{AreFor}
+use Rattle.smk_run.specs.Duties.{due}
 use Rattle.smk_run.specs.Runs.{AreGood}
 use Rattle.smk_run.specs.Stamps.{Serials}
 use Rattle.smk_run.specs.Statuses.{AreGiven}

@@ -1,17 +1,16 @@
 -- A run of jobs, one after another, in plan order.
-use Rattle.std.specs.Prelude.{◌≡◌, ◌⊎◌, ◌<◌, ◌≤◌, ℕ, suc, Bool, true, false, List, [], ◌∷◌, ◌++◌, ◌+◌, length, map, Option, Some, None, slice_get, Result, Ok, Err, IsSome}
+use Rattle.std.specs.Prelude.{◌≡◌, ◌⊎◌, ◌≤◌, ℕ, Bool, true, false, List, [], ◌∷◌, ◌++◌, ◌+◌, length, map, Option, Some, None, slice_get, Result, Ok, Err, IsSome}
 use Rattle.std.specs.List.{count_by}
 use Rattle.smk_base.specs.declared.tree.Pair.{Pair}
 use Rattle.smk_world.specs.declared.recipe.Recipe.{Recipe}
 use Rattle.smk_world.specs.World.{World, in_paths, out_paths, owned_paths}
 use Rattle.smk_world.specs.Calls.{are_apart}
 use Rattle.smk_world.specs.Runs.{Did}
-use Rattle.smk_world.specs.Trees.{Path, Act, Each, is_path_text}
+use Rattle.smk_world.specs.Trees.{Act, Each, is_path_text}
 use Rattle.smk_record.specs.Records.{is_valid, record_of, are_rising}
 use Rattle.smk_record.specs.Spelling.{is_writable}
 use Rattle.smk_flow.specs.declared.job.Job.{Job}
 use Rattle.smk_flow.specs.Flows.{Flow}
-use Rattle.smk_chain.specs.declared.jobs.Jobs.{Jobs}
 use Rattle.smk_job.specs.Jobs.{too_long}
 use Rattle.smk_report.specs.Lines.{Text, Named}
 use Rattle.smk_report.specs.declared.fault.Fault.{Fault}
@@ -26,30 +25,8 @@ use Rattle.smk_run.specs.Statuses.{AreGiven}
 use Rattle.smk_run.specs.Turns.{Course, Closed, Turn, found, IsTurn, is_begun, is_done, is_closed, AreTurns}
 use Rattle.smk_run.specs.Reports.{named, course_text, report_of, HasWritten, IsReport, HasTurned, IsAnswer, failure, stop_fault, is_refusal}
 pub use Rattle.smk_commands.specs.Commands.{command_of, fault_at, job_fault, or_later}
-pub use Rattle.smk_run.specs.Duties.{maker_in, Due}
-
--- ## Jobs that can be run
-
--- what makes it comes before the job of this number
-abbrev pub IsEarlier : ℕ → Option ℕ → Type 0
-IsEarlier number None = Unit {0}
-IsEarlier number (Some n) = n < number
-
--- The job of this number can be run: it has an output, its outputs and logs don't overlap one another, the names of its wildcards rise, and
--- what makes its inputs comes before it.
-pub record IsRunnable (maker : Path → Option ℕ) (number : ℕ) (job : Job) : Type 0 where
-  pub makes : out_paths job.recipe ≡ [] → ⊥
-  pub apart : are_apart (owned_paths job.recipe job.logs) ≡ true
-  pub wildcards : are_rising (map (λ (w : Pair). w.name) job.recipe.wildcards) ≡ true
-  pub earlier : Each (λ p. IsEarlier number (maker p)) (in_paths job.recipe)
-
-abbrev pub AreRunnableFrom : (Path → Option ℕ) → ℕ → List Job → Type 0
-AreRunnableFrom maker number [] = Unit {0}
-AreRunnableFrom maker number (job ∷ jobs) = IsRunnable maker number job × AreRunnableFrom maker (suc number) jobs
-
--- each job can be run
-abbrev pub AreRunnable : Jobs → Type 0
-AreRunnable jobs = AreRunnableFrom (maker_in jobs.makers) 0 jobs.jobs
+pub use Rattle.smk_plan.specs.Duties.{maker_in}
+pub use Rattle.smk_run.specs.Duties.{Due}
 
 -- the command of each job that is due has no fault
 abbrev pub AreGood : Flow → ℕ → List Due → Type 0

@@ -2,7 +2,6 @@
 #![tactic(auto)]
 
 mod closing;
-mod duty;
 mod ending;
 mod faults;
 mod laws;
@@ -16,7 +15,6 @@ mod turns;
 mod whole;
 mod wording;
 
-pub use duty::Duty;
 pub use ending::Ending;
 pub use laws::{closed_turns_tell_status, due_commands_are_good};
 pub use one::run_one;

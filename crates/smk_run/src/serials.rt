@@ -5,11 +5,12 @@ ghost use Rattle.std.specs.BTreeMap.{get_by_text};
 ghost use Rattle.std.specs.Option.{option_and_then};
 ghost use Rattle.smk_world.specs.Trees.{Path};
 ghost use Rattle.smk_run.specs.Stamps.{number_at};
-ghost use Rattle.smk_run.specs.Duties.{maker_in, serial_at, serial_by, drawn_with, serials_from, serial_in};
+ghost use Rattle.smk_plan.specs.Duties.{maker_in};
+ghost use Rattle.smk_run.specs.Duties.{serial_at, serial_by, drawn_with, serials_from, serial_in};
 
-use crate::Duty;
 use smk_base::{List, OutOfMemory, PathText};
 use smk_chain::Maker;
+use smk_plan::Duty;
 use std::alloc::Global;
 use std::collections::BTreeMap;
 

@@ -2,15 +2,18 @@
 
 ghost use Rattle.std.specs.Prelude.{◌≡◌, [], true, false};
 ghost use Rattle.smk_world.specs.Calls.{HasCause, Rose};
-ghost use Rattle.smk_run.specs.Duties.{IsOld, AreServable, due, serials};
-ghost use Rattle.smk_run.specs.Runs.{AreRunnable, AreGood, HasRun, is_output, is_device};
+ghost use Rattle.smk_plan.specs.Duties.{IsOld, AreServable};
+ghost use Rattle.smk_run.specs.Duties.{due, serials};
+ghost use Rattle.smk_plan.specs.Runnable.{AreRunnable};
+ghost use Rattle.smk_run.specs.Runs.{AreGood, HasRun, is_output, is_device};
 
+use crate::Tally;
 use crate::serials::{made_by, serials_of};
 use crate::turns::run_all;
-use crate::{Duty, Tally};
 use smk_base::List;
 use smk_chain::Jobs;
 use smk_flow::Workflow;
+use smk_plan::Duty;
 use smk_report::Fault;
 use smk_world::{Crew, Files, Sink};
 use std::alloc::Global;

@@ -31,9 +31,9 @@ use Rattle.smk_protocol.specs.Protocol.{RunState, Marking, MayBegin, HasSerial, 
 use Rattle.smk_protocol.specs.Midway.{HasSafeImages}
 use Rattle.smk_protocol.proofs.Basics.{each_in, each_of, none_of, none_by}
 use Rattle.smk_protocol.proofs.SoundViews.{itself}
-use Rattle.smk_job.specs.Laws.{IsRecordable}
-use Rattle.smk_laws.proofs.HistoryImages.{held_no_source}
-use Rattle.smk_laws.proofs.CurrentPaths.{among_in}
+use Rattle.smk_laws_job.specs.Laws.{IsRecordable}
+use Rattle.smk_laws_history.proofs.HistoryImages.{held_no_source}
+use Rattle.smk_laws_plan.proofs.CurrentPaths.{among_in}
 use Rattle.smk_run.specs.Stamps.{Serials}
 use Rattle.smk_run.specs.Turns.{Turn, found, AreTurns, is_begun, is_done}
 use Rattle.smk_made.specs.Leaving.{owned, AreInputsApart}

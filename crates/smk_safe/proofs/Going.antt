@@ -16,7 +16,7 @@ use Rattle.smk_protocol.specs.Midway.{IsTop, at_entry, HasSafeImages, IsOfJob}
 use Rattle.smk_protocol.proofs.Basics.{each_in, in_here}
 use Rattle.smk_protocol.proofs.MidwayHolds.{holds_midway}
 use Rattle.smk_protocol.proofs.ProtocolHolds.{protocol_law}
-use Rattle.smk_job.specs.Laws.{IsRecordable}
+use Rattle.smk_laws_job.specs.Laws.{IsRecordable}
 use Rattle.smk_run.specs.Stamps.{Serials}
 use Rattle.smk_run.specs.Turns.{Course, Unbegun, Unstarted, Unclosed, Closed, Turn, IsTurn, AreTurns, is_begun, is_closed, is_done}
 use Rattle.smk_made.specs.Leaving.{owned, AreInputsApart}

@@ -23,9 +23,9 @@ use Rattle.smk_protocol.specs.Protocol.{now}
 use Rattle.smk_protocol.specs.Midway.{HasSafeImages}
 use Rattle.smk_protocol.proofs.Marking.{reads_stay}
 use Rattle.smk_protocol.proofs.TextFolders.{folder_above}
-use Rattle.smk_laws.proofs.CurrentLists.{find_in}
-use Rattle.smk_laws.proofs.CurrentMeaning.{source_file, source_reads}
-use Rattle.smk_laws.proofs.HistoryPlaces.{members_same}
+use Rattle.smk_laws_plan.proofs.CurrentLists.{find_in}
+use Rattle.smk_laws_plan.proofs.CurrentMeaning.{source_file, source_reads}
+use Rattle.smk_laws_history.proofs.HistoryPlaces.{members_same}
 
 true_false : true ≡ false → ⊥
 true_false e = cc

@@ -9,7 +9,7 @@ use Rattle.smk_base.proofs.Apart.{IsApart, apart_flipped, path-own, record-recor
 use Rattle.smk_world.specs.World.{out_paths, is_named}
 use Rattle.smk_world.specs.Trees.{Path, IsIn, Each, among}
 use Rattle.smk_run.specs.Turns.{Turn}
-use Rattle.smk_laws.proofs.CurrentPaths.{among_in}
+use Rattle.smk_laws_plan.proofs.CurrentPaths.{among_in}
 use Rattle.smk_made.specs.Leaving.{owned}
 use Rattle.smk_made.specs.Running.{IsOrderly}
 use Rattle.smk_made.proofs.Keeping.{or_false}

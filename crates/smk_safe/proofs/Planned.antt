@@ -43,24 +43,24 @@ use Rattle.smk_trigger.specs.JobStates.{is_open, is_dirty, is_restore, is_to_run
 use Rattle.smk_trigger.specs.Reasons.{once, own_reasons}
 use Rattle.smk_pick.specs.declared.settings.Settings.{Settings}
 use Rattle.smk_plan.specs.States.{Plan, IsPlan, awaits, directory_over, is_at_hand, is_ready, none_or_one, nothing_done, makes, maker_of, made_by, staged, test_some, reasons, is_open_now, is_to_restore, is_read_now, is_wanted_back, is_input, awaited, is_restored, state_of, by_reasons, gathers_from}
-use Rattle.smk_laws.specs.Current.{IsComplete}
-use Rattle.smk_laws.proofs.CurrentApart.{SpotsApart, maker_found, same_trans, spot_free, spots_append, spots_apart}
-use Rattle.smk_laws.proofs.CurrentChosen.{chosen_candidate, paths_are}
-use Rattle.smk_laws.proofs.CurrentComplete.{seen_is_complete}
-use Rattle.smk_laws.proofs.CurrentEased.{none_restored}
-use Rattle.smk_laws.proofs.CurrentFills.{bound_fills_from}
-use Rattle.smk_laws.proofs.CurrentLists.{append_nil_left, append_nil_right, and_left, and_right, distinct_in, filter_nil, find_in, flat_in, in_distinct, in_either, in_filter, in_flat, in_left, in_map, in_right, map_in, map_nil, not_true, or_cases, zip_first, zip_in}
-use Rattle.smk_laws.proofs.CurrentMeaning.{source_chosen, source_file, source_reads, source_stamp_but}
-use Rattle.smk_laws.proofs.CurrentPaths.{among_in, in_among}
-use Rattle.smk_laws.proofs.CurrentProducts.{Planned, core_reads, each_stamped, in_plan_here}
-use Rattle.smk_laws.proofs.CurrentReach.{choice_known}
-use Rattle.smk_laws.proofs.CurrentReads.{wanted_comes}
-use Rattle.smk_laws.proofs.CurrentSame.{own_calm, held_agrees, in_once_of, kept_record}
-use Rattle.smk_laws.proofs.CurrentWalked.{walked_chosen}
-use Rattle.smk_laws.proofs.HistoryImages.{held_no_source}
-use Rattle.smk_laws.proofs.PlanOne.{derived, derived_apart, derived_clear, derived_order, chosen_makes}
-use Rattle.smk_laws.proofs.PlanOrder.{InOrder, Served, some_node}
-use Rattle.smk_laws.proofs.Valid.{records_valid}
+use Rattle.smk_laws_plan.specs.Current.{IsComplete}
+use Rattle.smk_laws_plan.proofs.CurrentApart.{SpotsApart, maker_found, same_trans, spot_free, spots_append, spots_apart}
+use Rattle.smk_laws_plan.proofs.CurrentChosen.{chosen_candidate, paths_are}
+use Rattle.smk_laws_history.proofs.CurrentComplete.{seen_is_complete}
+use Rattle.smk_laws_history.proofs.CurrentEased.{none_restored}
+use Rattle.smk_laws_plan.proofs.CurrentFills.{bound_fills_from}
+use Rattle.smk_laws_plan.proofs.CurrentLists.{append_nil_left, append_nil_right, and_left, and_right, distinct_in, filter_nil, find_in, flat_in, in_distinct, in_either, in_filter, in_flat, in_left, in_map, in_right, map_in, map_nil, not_true, or_cases, zip_first, zip_in}
+use Rattle.smk_laws_plan.proofs.CurrentMeaning.{source_chosen, source_file, source_reads, source_stamp_but}
+use Rattle.smk_laws_plan.proofs.CurrentPaths.{among_in, in_among}
+use Rattle.smk_laws_plan.proofs.CurrentProducts.{Planned, core_reads, each_stamped, in_plan_here}
+use Rattle.smk_laws_plan.proofs.CurrentReach.{choice_known}
+use Rattle.smk_laws_history.proofs.CurrentReads.{wanted_comes}
+use Rattle.smk_laws_plan.proofs.CurrentSame.{own_calm, held_agrees, in_once_of, kept_record}
+use Rattle.smk_laws_plan.proofs.CurrentWalked.{walked_chosen}
+use Rattle.smk_laws_history.proofs.HistoryImages.{held_no_source}
+use Rattle.smk_laws_plan.proofs.PlanOne.{derived, derived_apart, derived_clear, derived_order, chosen_makes}
+use Rattle.smk_laws_plan.proofs.PlanOrder.{InOrder, Served, some_node}
+use Rattle.smk_laws_history.proofs.Valid.{records_valid}
 use Rattle.smk_run.specs.Stamps.{Serials}
 use Rattle.smk_run.specs.Turns.{Turn}
 use Rattle.smk_made.specs.Leaving.{owned, AreInputsApart}

@@ -28,14 +28,14 @@ use Rattle.smk_members.specs.Members.{AllIsFound}
 use Rattle.smk_protocol.specs.Protocol.{IsProductAt, now}
 use Rattle.smk_protocol.proofs.Basics.{each_in}
 use Rattle.smk_protocol.proofs.SoundViews.{itself}
-use Rattle.smk_job.specs.Laws.{IsRecordable}
+use Rattle.smk_laws_job.specs.Laws.{IsRecordable}
 use Rattle.smk_job.specs.Sights.{IsOfKind, reads_file}
 use Rattle.smk_job.proofs.Outs.{paths_same}
-use Rattle.smk_job.proofs.Readable.{read_back}
+use Rattle.smk_laws_job.proofs.Readable.{read_back}
 use Rattle.smk_members.proofs.Under.{same_members}
-use Rattle.smk_laws.proofs.CurrentLists.{map_in, in_map}
-use Rattle.smk_laws.proofs.CurrentPaths.{among_in}
-use Rattle.smk_laws.proofs.HistoryImages.{held_no_source}
+use Rattle.smk_laws_plan.proofs.CurrentLists.{map_in, in_map}
+use Rattle.smk_laws_plan.proofs.CurrentPaths.{among_in}
+use Rattle.smk_laws_history.proofs.HistoryImages.{held_no_source}
 use Rattle.smk_run.specs.Turns.{Turn, found}
 use Rattle.smk_made.specs.Leaving.{IsRecorded}
 use Rattle.smk_made.specs.Running.{IsMade}

@@ -30,11 +30,12 @@ use Rattle.smk_protocol.proofs.ProtocolHolds.{numbered_alone}
 use Rattle.smk_job.specs.Jobs.{ReadUsers, begin_requests, abandon_requests, finish_requests}
 use Rattle.smk_job.specs.declared.fault.CloseFault.{CloseFault}
 use Rattle.smk_job.specs.declared.fault.CloseFault.TheVariants as fault
-use Rattle.smk_job.specs.Laws.{IsPart, IsRecordable, MayFinish, stopped}
+use Rattle.smk_job.specs.Jobs.{IsPart}
+use Rattle.smk_laws_job.specs.Laws.{IsRecordable, MayFinish, stopped}
 use Rattle.smk_job.specs.Sights.{IsAbandoned}
-use Rattle.smk_job.proofs.Beginning.{beginning_runs}
-use Rattle.smk_job.proofs.FinishRuns.{finishing_runs, finishing_parts, looking_runs, losing_runs, abandoning_runs}
-use Rattle.smk_job.proofs.Parts.{beginning_fails, abandoning_fails}
+use Rattle.smk_laws_job.proofs.Beginning.{beginning_runs}
+use Rattle.smk_laws_job.proofs.FinishRuns.{finishing_runs, finishing_parts, looking_runs, losing_runs, abandoning_runs}
+use Rattle.smk_laws_job.proofs.Parts.{beginning_fails, abandoning_fails}
 use Rattle.smk_job.proofs.Launching.{before_start, before_files}
 use Rattle.smk_run.specs.declared.ending.Ending.{Ending}
 use Rattle.smk_run.specs.declared.ending.Ending.TheVariants.{Good, Status, NoOutput, WrongKind, BadMember}

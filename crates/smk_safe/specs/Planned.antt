@@ -16,7 +16,7 @@ use Rattle.smk_trigger.specs.declared.reason.State.TheVariants.{Open, Dirty, Res
 use Rattle.smk_trigger.specs.JobStates.{is_to_run}
 use Rattle.smk_pick.specs.declared.settings.Settings.{Settings}
 use Rattle.smk_plan.specs.States.{Plan, IsPlan, nothing_done, staged, maker_of}
-use Rattle.smk_job.specs.Laws.{IsRecordable}
+use Rattle.smk_laws_job.specs.Laws.{IsRecordable}
 use Rattle.smk_run.specs.Stamps.{Serials}
 use Rattle.smk_run.specs.Turns.{Turn, is_begun}
 use Rattle.smk_made.specs.Leaving.{owned}

@@ -13,7 +13,7 @@ use Rattle.smk_store.specs.Trust.{time_stamp}
 use Rattle.smk_protocol.specs.Protocol.{IsProductAt}
 use Rattle.smk_run.specs.Stamps.{Serials}
 use Rattle.smk_run.specs.Turns.{Turn, is_begun, is_done}
-use Rattle.smk_job.specs.Laws.{IsRecordable}
+use Rattle.smk_laws_job.specs.Laws.{IsRecordable}
 use Rattle.smk_made.specs.Leaving.{owned}
 use Rattle.smk_made.specs.Running.{AreArranged}
 use Rattle.smk_safe.specs.Turning.{opened}

@@ -20,7 +20,7 @@ use Rattle.smk_store.specs.Loading.{is_look, AreLooks}
 use Rattle.smk_store.specs.Stores.{Known}
 use Rattle.smk_store.proofs.Looks.{same_nodes, looked_nothing}
 use Rattle.smk_trigger.specs.declared.reason.State.{State}
-use Rattle.smk_run.specs.declared.duty.Duty.{Duty}
+use Rattle.smk_plan.specs.declared.duty.Duty.{Duty}
 use Rattle.smk_run.specs.Statuses.{IsGiven, AreGiven}
 use Rattle.smk_report.specs.declared.fault.Fault.{Fault}
 use Rattle.smk_report.specs.declared.fault.Fault.TheVariants as fault

@@ -22,7 +22,7 @@ use Rattle.smk_report.specs.declared.fault.Fault.TheVariants as fault
 use Rattle.smk_report.specs.Lines.{Text}
 use Rattle.smk_drive.specs.Refusals.{ChainRefuses}
 use Rattle.smk_drive.specs.Reports.{listing_text}
-use Rattle.smk_run.specs.Runs.{AreRunnable}
+use Rattle.smk_plan.specs.Runnable.{AreRunnable}
 use Rattle.smk_make.specs.Making.{HasCarriedOut}
 use Rattle.smk_preview.specs.declared.previewing.Previewed.{Previewed}
 use Rattle.smk_preview.specs.Previewing.{plan_of, rules_for, IsPreviewed, HasPreviewed}

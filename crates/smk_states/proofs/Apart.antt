@@ -5,8 +5,8 @@ use Rattle.smk_world.specs.World.{out_paths}
 use Rattle.smk_world.specs.Trees.{Path, Each}
 use Rattle.smk_flow.specs.declared.job.Job.{Job}
 use Rattle.smk_states.specs.Served.{AreApart, outputs_of}
-use Rattle.smk_laws.proofs.CurrentLists.{In, in_flat}
-use Rattle.smk_laws.proofs.CurrentApart.{Apart, JobsApart}
+use Rattle.smk_laws_plan.proofs.CurrentLists.{In, in_flat}
+use Rattle.smk_laws_plan.proofs.CurrentApart.{Apart, JobsApart}
 
 pub each_in : {A : Type 0} (P : A → Type 0) (xs : List A) (x : A) → Each P xs → In x xs → P x
 each_in P [] x h i = absurd i

@@ -26,8 +26,8 @@ use Rattle.smk_states.specs.Paths.{site_at}
 use Rattle.smk_states.specs.Passes.{opens, is_dirty_told, is_kept_told}
 use Rattle.smk_states.specs.InUse.{is_in_use_told}
 use Rattle.smk_states.specs.First.{first_state, first_by_table, first_told, IsSolved}
-use Rattle.smk_laws.proofs.CurrentLists.{In, in_right, distinct_in}
-use Rattle.smk_laws.proofs.CurrentApart.{JobsApart, own_apart}
+use Rattle.smk_laws_plan.proofs.CurrentLists.{In, in_right, distinct_in}
+use Rattle.smk_laws_plan.proofs.CurrentApart.{JobsApart, own_apart}
 use Rattle.smk_states.proofs.Tests.{filter_same}
 use Rattle.smk_states.proofs.Apart.{jobs_apart_from}
 use Rattle.smk_states.proofs.Told.{opens_is, kept_is, dirty_same}

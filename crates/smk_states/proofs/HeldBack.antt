@@ -23,9 +23,9 @@ use Rattle.smk_states.specs.Paths.{ArePaths, site_at}
 use Rattle.smk_states.specs.InUse.{in_use_told, is_in_use_told}
 use Rattle.smk_states.specs.First.{is_kept}
 use Rattle.smk_states.specs.Held.{is_needed_by, needed_told, is_kept_in, is_held_told, any_held_told}
-use Rattle.smk_laws.proofs.CurrentLists.{In}
-use Rattle.smk_laws.proofs.CurrentApart.{Apart, JobsApart, own_apart}
-use Rattle.smk_laws.proofs.PlanStates.{any_same}
+use Rattle.smk_laws_plan.proofs.CurrentLists.{In}
+use Rattle.smk_laws_plan.proofs.CurrentApart.{Apart, JobsApart, own_apart}
+use Rattle.smk_laws_plan.proofs.PlanStates.{any_same}
 use Rattle.smk_states.proofs.Apart.{jobs_apart_from}
 use Rattle.smk_states.proofs.Meaning.{final, needs, restores_from}
 use Rattle.smk_states.proofs.Told.{kept_is}

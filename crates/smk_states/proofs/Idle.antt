@@ -18,7 +18,7 @@ use Rattle.smk_pick.specs.declared.settings.Settings.{Settings}
 use Rattle.smk_plan.specs.States.{Progress, job_path, kept_state, is_restored, is_forced, test_some}
 use Rattle.smk_plan.specs.declared.wholes.Wholes.{Wholes}
 use Rattle.smk_states.specs.Judged.{with_states, reasons_alone, reasons_now, AreJudged, AreJudgedNow}
-use Rattle.smk_laws.proofs.CurrentRecipes.{map_same}
+use Rattle.smk_laws_plan.proofs.CurrentRecipes.{map_same}
 use Rattle.smk_states.proofs.Tests.{any_never, and_true}
 
 module _ (image : Image) (settings : Settings) (progress : Progress) (jobs : Jobs) (idle : progress.running ≡ []) where

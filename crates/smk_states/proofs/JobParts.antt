@@ -18,7 +18,7 @@ use Rattle.smk_states.specs.declared.parts.Directory.{Directory}
 use Rattle.smk_states.specs.declared.parts.Parts.{Parts}
 use Rattle.smk_states.specs.Parts.{gone_of, directory_of, directory_at, parts_of}
 use Rattle.smk_states.specs.Sites.{over_in, over_of}
-use Rattle.smk_laws.proofs.CurrentChosen.{paths_are}
+use Rattle.smk_laws_plan.proofs.CurrentChosen.{paths_are}
 
 gone_zip :
     (is : Out → Bool) (os : List Out) →

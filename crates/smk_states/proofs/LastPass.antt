@@ -22,11 +22,11 @@ use Rattle.smk_states.specs.Served.{IsBelow, ReadEarlier}
 use Rattle.smk_states.specs.Parts.{gone_outputs, parts_of}
 use Rattle.smk_states.specs.InUse.{is_in_use_told}
 use Rattle.smk_states.specs.First.{unless_needed, IsSolved}
-use Rattle.smk_laws.proofs.CurrentLists.{In, in_left, in_right, map_in, filter_in, clash_of, none_some, or_first, some_inj}
-use Rattle.smk_laws.proofs.CurrentPaths.{among_in, in_among, touch_overlaps}
-use Rattle.smk_laws.proofs.CurrentApart.{JobsApart, own_apart}
-use Rattle.smk_laws.proofs.CurrentChosen.{path_in}
-use Rattle.smk_laws.proofs.PlanStates.{any_same, any_zip}
+use Rattle.smk_laws_plan.proofs.CurrentLists.{In, in_left, in_right, map_in, filter_in, clash_of, none_some, or_first, some_inj}
+use Rattle.smk_laws_plan.proofs.CurrentPaths.{among_in, in_among, touch_overlaps}
+use Rattle.smk_laws_plan.proofs.CurrentApart.{JobsApart, own_apart}
+use Rattle.smk_laws_plan.proofs.CurrentChosen.{path_in}
+use Rattle.smk_laws_plan.proofs.PlanStates.{any_same, any_zip}
 use Rattle.smk_states.proofs.Tests.{any_never}
 use Rattle.smk_states.proofs.Apart.{each_in, jobs_apart_from}
 use Rattle.smk_states.proofs.Meaning.{final, first, needs, final_from}

@@ -24,18 +24,18 @@ use Rattle.smk_walk.specs.Links.{AreLinked, maker_told, number_for}
 use Rattle.smk_walk.specs.Numbers.{is_job, number_in, place_of}
 use Rattle.smk_plan.specs.States.{makes, gathers_from}
 use Rattle.smk_plan.specs.Sights.{job_at}
-use Rattle.smk_laws.specs.Current.{IsComplete}
-use Rattle.smk_laws.proofs.CurrentLists.{In, in_left, in_right, in_either, in_flat, flat_in, map_in, in_distinct, distinct_in, find_some, and_left, and_right, and_both, append_nil_left, append_nil_right, map_nil, filter_nil, or_first, or_second, clash_of, none_some, some_inj}
-use Rattle.smk_laws.proofs.CurrentPaths.{in_among}
-use Rattle.smk_laws.proofs.CurrentReach.{Reached, reached_target, choice_known}
-use Rattle.smk_laws.proofs.CurrentRecipes.{inputs_wanted, folders_wanted}
-use Rattle.smk_laws.proofs.CurrentWalked.{walked_chosen, chosen_same}
-use Rattle.smk_laws.proofs.CurrentApart.{JobsApart, Apart}
-use Rattle.smk_laws.proofs.CurrentChosen.{Origin, origin, output_in, folder_made}
-use Rattle.smk_laws.proofs.CurrentFills.{bound_fills_from}
-use Rattle.smk_laws.proofs.CurrentMeaning.{source_chosen}
-use Rattle.smk_laws.proofs.PlanOrder.{Ordered, flat_ordered, walk_ordered, own_walked, distinct_ordered, source_unmade}
-use Rattle.smk_laws.proofs.PlanOne.{derived, derived_apart}
+use Rattle.smk_laws_plan.specs.Current.{IsComplete}
+use Rattle.smk_laws_plan.proofs.CurrentLists.{In, in_left, in_right, in_either, in_flat, flat_in, map_in, in_distinct, distinct_in, find_some, and_left, and_right, and_both, append_nil_left, append_nil_right, map_nil, filter_nil, or_first, or_second, clash_of, none_some, some_inj}
+use Rattle.smk_laws_plan.proofs.CurrentPaths.{in_among}
+use Rattle.smk_laws_plan.proofs.CurrentReach.{Reached, reached_target, choice_known}
+use Rattle.smk_laws_plan.proofs.CurrentRecipes.{inputs_wanted, folders_wanted}
+use Rattle.smk_laws_plan.proofs.CurrentWalked.{walked_chosen, chosen_same}
+use Rattle.smk_laws_plan.proofs.CurrentApart.{JobsApart, Apart}
+use Rattle.smk_laws_plan.proofs.CurrentChosen.{Origin, origin, output_in, folder_made}
+use Rattle.smk_laws_plan.proofs.CurrentFills.{bound_fills_from}
+use Rattle.smk_laws_plan.proofs.CurrentMeaning.{source_chosen}
+use Rattle.smk_laws_plan.proofs.PlanOrder.{Ordered, flat_ordered, walk_ordered, own_walked, distinct_ordered, source_unmade}
+use Rattle.smk_laws_plan.proofs.PlanOne.{derived, derived_apart}
 use Rattle.smk_states.specs.Served.{AreApart, IsToldOf, IsBelow, ReadEarlier, outputs_of}
 use Rattle.smk_states.specs.Laws.{LinkedAreServed}
 use Rattle.smk_states.proofs.Apart.{each_in}
@@ -278,7 +278,7 @@ module _
             alike =
                 each_in (λ q. sources.is q ≡ is_source image q) reads q
                 (each_in (λ (j : Job). Each (λ q. sources.is q ≡ is_source image q) (in_paths j.recipe ++ gathers_from j)) made.jobs (job flow L c) same
-                (subst (In (job flow L c)) (sym are) (Rattle.smk_laws.proofs.CurrentLists.in_map (job flow L) cs c here)))
+                (subst (In (job flow L c)) (sym are) (Rattle.smk_laws_plan.proofs.CurrentLists.in_map (job flow L) cs c here)))
                 i
 
             go : (choose flow sources q ≡ Source) ⊎ ((d : Candidate) × (choose flow sources q ≡ Make d) × In d seen) → (t : IsToldOf made q) × IsBelow (length front) t.number

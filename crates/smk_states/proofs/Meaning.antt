@@ -21,11 +21,11 @@ use Rattle.smk_plan.specs.States.{Plan, Progress, HasStates, makes, gathers_from
 use Rattle.smk_states.specs.Judged.{with_states}
 use Rattle.smk_states.specs.Parts.{gone_outputs}
 use Rattle.smk_states.specs.First.{is_always_wanted, is_kept, first_state, unless_needed}
-use Rattle.smk_laws.proofs.CurrentLists.{In, in_left, in_right, in_either, in_flat, in_map, map_in, in_filter, filter_in, find_in, any_from, any_in, or_cases, or_first, or_second, clash_of, none_some}
-use Rattle.smk_laws.proofs.CurrentPaths.{among_in, in_among, touch_overlaps}
-use Rattle.smk_laws.proofs.CurrentApart.{Apart, JobsApart, maker_found, apart_same, own_apart}
-use Rattle.smk_laws.proofs.CurrentChosen.{paths_are, folders_paths}
-use Rattle.smk_laws.proofs.PlanStates.{any_same}
+use Rattle.smk_laws_plan.proofs.CurrentLists.{In, in_left, in_right, in_either, in_flat, in_map, map_in, in_filter, filter_in, find_in, any_from, any_in, or_cases, or_first, or_second, clash_of, none_some}
+use Rattle.smk_laws_plan.proofs.CurrentPaths.{among_in, in_among, touch_overlaps}
+use Rattle.smk_laws_plan.proofs.CurrentApart.{Apart, JobsApart, maker_found, apart_same, own_apart}
+use Rattle.smk_laws_plan.proofs.CurrentChosen.{paths_are, folders_paths}
+use Rattle.smk_laws_plan.proofs.PlanStates.{any_same}
 use Rattle.smk_states.proofs.Tests.{and_true, and_or, any_or, any_map, any_filter, among_once}
 
 -- ## Outputs of a job that lie apart
@@ -246,7 +246,7 @@ module _ (image : Image) (settings : Settings) (progress : Progress) (J : Jobs) 
       reads p n =
           let r = any_in (λ (e : Job × State). among (in_paths e.0.recipe) p && is_to_run e.1) (zip J.jobs ss) n in
           any_from (λ (e : Job × State). among (in_paths e.0.recipe) p && true) (zip J.jobs ss) r.0 r.1
-          (and_true (among (in_paths r.0.0.recipe) p) ∙ Rattle.smk_laws.proofs.CurrentLists.and_left (among (in_paths r.0.0.recipe) p) (is_to_run r.0.1) r.2)
+          (and_true (among (in_paths r.0.0.recipe) p) ∙ Rattle.smk_laws_plan.proofs.CurrentLists.and_left (among (in_paths r.0.0.recipe) p) (is_to_run r.0.1) r.2)
 
       restores : is_to_restore image settings progress plan j ≡ is_kept image settings progress plan j
       restores =

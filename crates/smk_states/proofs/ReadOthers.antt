@@ -20,10 +20,10 @@ use Rattle.smk_states.specs.Judged.{with_states}
 use Rattle.smk_states.specs.Parts.{parts_of}
 use Rattle.smk_states.specs.Paths.{site_at}
 use Rattle.smk_states.specs.InUse.{maker_name, is_other, is_made_for, is_used_by, in_use_told, is_in_use_told}
-use Rattle.smk_laws.proofs.CurrentLists.{In, in_left, find_in, find_some, none_some, some_inj, or_first}
-use Rattle.smk_laws.proofs.CurrentPaths.{in_among}
-use Rattle.smk_laws.proofs.CurrentApart.{JobsApart, maker_found, makes_above}
-use Rattle.smk_laws.proofs.PlanStates.{any_same}
+use Rattle.smk_laws_plan.proofs.CurrentLists.{In, in_left, find_in, find_some, none_some, some_inj, or_first}
+use Rattle.smk_laws_plan.proofs.CurrentPaths.{in_among}
+use Rattle.smk_laws_plan.proofs.CurrentApart.{JobsApart, maker_found, makes_above}
+use Rattle.smk_laws_plan.proofs.PlanStates.{any_same}
 use Rattle.smk_states.proofs.Tests.{same_test, any_never, and_true}
 use Rattle.smk_states.proofs.Apart.{each_in, jobs_apart_from}
 use Rattle.smk_states.proofs.Meaning.{found_with}

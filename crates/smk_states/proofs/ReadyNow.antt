@@ -24,11 +24,11 @@ use Rattle.smk_states.specs.Sites.{over_of}
 use Rattle.smk_states.specs.Paths.{site_at}
 use Rattle.smk_states.specs.Passes.{state_at}
 use Rattle.smk_states.specs.Waits.{ready_told, waits_of, over_waits, part_waits, waits_told}
-use Rattle.smk_laws.proofs.CurrentLists.{In, in_left, find_in, some_inj, none_some, clash_of, or_first}
-use Rattle.smk_laws.proofs.CurrentPaths.{in_among, touch_overlaps, above_touch}
-use Rattle.smk_laws.proofs.CurrentApart.{JobsApart, makes_above, own_apart}
-use Rattle.smk_laws.proofs.CurrentChosen.{folders_paths}
-use Rattle.smk_laws.proofs.CurrentRecipes.{map_same}
+use Rattle.smk_laws_plan.proofs.CurrentLists.{In, in_left, find_in, some_inj, none_some, clash_of, or_first}
+use Rattle.smk_laws_plan.proofs.CurrentPaths.{in_among, touch_overlaps, above_touch}
+use Rattle.smk_laws_plan.proofs.CurrentApart.{JobsApart, makes_above, own_apart}
+use Rattle.smk_laws_plan.proofs.CurrentChosen.{folders_paths}
+use Rattle.smk_laws_plan.proofs.CurrentRecipes.{map_same}
 use Rattle.smk_states.proofs.Apart.{each_in, jobs_apart_from}
 use Rattle.smk_states.proofs.Meaning.{directory_whole}
 use Rattle.smk_states.proofs.Told.{IsReadOf, IsTold, told_below, told_some, read_of}
@@ -183,7 +183,7 @@ module _
           let told = λ (q : Path) (k : In q reads). told_below image J r.0 q (each_in (IsReadOf J r.0) reads q r.1 k) in
           let over = waits_flat (λ q. over_waits ss (site_at image J q)) (directory_over P) reads (λ q k. let s = told q k in over_told_is q s.0 s.1) in
           let own : waits_of (λ d. ready_told ss (site_at image J d)) (gathers_from j) ≡ waits_of ready (gathers_from j) =
-          map_same _ _ (gathers_from j) (λ d k. let s = told d (Rattle.smk_laws.proofs.CurrentLists.in_right d (in_paths j.recipe) (gathers_from j) k) in let e = ready_told_is d s.0 s.1 in λ i. record { path = d; ready = e i }) in
+          map_same _ _ (gathers_from j) (λ d k. let s = told d (Rattle.smk_laws_plan.proofs.CurrentLists.in_right d (in_paths j.recipe) (gathers_from j) k) in let e = ready_told_is d s.0 s.1 in λ i. record { path = d; ready = e i }) in
           (λ i. own i ++ over i) ∙ sym (waits_append (gathers_from j) (flat_map (directory_over P) reads))
 
       jobs_wait : flat_map (part_waits ss (site_at image J)) (map (parts_of image) J.jobs) ≡ waits_of ready (flat_map (awaits P) J.jobs)

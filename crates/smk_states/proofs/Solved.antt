@@ -12,10 +12,10 @@ use Rattle.smk_plan.specs.States.{Progress, HasStates, makes, gathers_from, stat
 use Rattle.smk_plan.specs.Sights.{job_at}
 use Rattle.smk_states.specs.Served.{AreServed, IsBelow, ReadEarlier}
 use Rattle.smk_states.specs.Judged.{with_states}
-use Rattle.smk_laws.proofs.CurrentLists.{In, in_left, in_right, in_either, find_in, none_some}
-use Rattle.smk_laws.proofs.CurrentRecipes.{map_same}
-use Rattle.smk_laws.proofs.PlanOrder.{Reads, InOrder}
-use Rattle.smk_laws.proofs.PlanOne.{solution}
+use Rattle.smk_laws_plan.proofs.CurrentLists.{In, in_left, in_right, in_either, find_in, none_some}
+use Rattle.smk_laws_plan.proofs.CurrentRecipes.{map_same}
+use Rattle.smk_laws_plan.proofs.PlanOrder.{Reads, InOrder}
+use Rattle.smk_laws_plan.proofs.PlanOne.{solution}
 use Rattle.smk_states.proofs.Apart.{each_in, jobs_apart_from}
 use Rattle.smk_states.proofs.Told.{IsReadOf, IsTold, read_there, told_below}
 use Rattle.smk_states.proofs.ReadOthers.{find_none}

@@ -6,7 +6,7 @@ use Rattle.std.proofs.lemmas.List.Folds.{list_any-append}
 use Rattle.smk_base.proofs.Places.{same_place}
 use Rattle.smk_world.specs.Trees.{Path, among}
 use Rattle.smk_chain.specs.Derive.{distinct}
-use Rattle.smk_laws.proofs.CurrentLists.{In}
+use Rattle.smk_laws_plan.proofs.CurrentLists.{In}
 
 -- ## Booleans
 

@@ -29,10 +29,10 @@ use Rattle.smk_states.specs.Sites.{over_of, site_of}
 use Rattle.smk_states.specs.Paths.{over_told, over_paths, awaits_told, awaited_told, site_at}
 use Rattle.smk_states.specs.Passes.{state_at, over_opens, reading_opens, gathering_opens, opens, is_dirty_told, is_kept_told}
 use Rattle.smk_states.specs.First.{is_kept, is_always_wanted}
-use Rattle.smk_laws.proofs.CurrentLists.{In, none_some, in_left, in_right, find_in, clash_of, some_inj}
-use Rattle.smk_laws.proofs.CurrentApart.{Apart, JobsApart}
-use Rattle.smk_laws.proofs.PlanStates.{any_same, any_zip}
-use Rattle.smk_laws.proofs.CurrentRecipes.{flat_same}
+use Rattle.smk_laws_plan.proofs.CurrentLists.{In, none_some, in_left, in_right, find_in, clash_of, some_inj}
+use Rattle.smk_laws_plan.proofs.CurrentApart.{Apart, JobsApart}
+use Rattle.smk_laws_plan.proofs.PlanStates.{any_same, any_zip}
+use Rattle.smk_laws_plan.proofs.CurrentRecipes.{flat_same}
 use Rattle.smk_states.proofs.Tests.{or_false, any_or, any_flat, and_true, among_once}
 use Rattle.smk_states.proofs.Apart.{each_in}
 use Rattle.smk_states.proofs.Meaning.{final, first, opens_alike, dirties_alike, fed_alike, maker_is, directory_is, fed_over, fed_gathered, over_at_hand, gone_tests}

@@ -10,7 +10,7 @@ use Rattle.smk_chain.specs.declared.jobs.Jobs.{Jobs}
 use Rattle.smk_chain.specs.Derive.{Listings, Derived, derivation, jobs, job_refusals}
 use Rattle.smk_walk.specs.Links.{AreLinked}
 use Rattle.smk_plan.specs.States.{gathers_from}
-use Rattle.smk_laws.specs.Current.{IsComplete}
+use Rattle.smk_laws_plan.specs.Current.{IsComplete}
 use Rattle.smk_states.specs.Served.{AreServed}
 
 -- Jobs that are derived and linked serve their targets. They may be derived by what is told of sources, where that is true of the targets and

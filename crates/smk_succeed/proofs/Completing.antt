@@ -16,13 +16,14 @@ use Rattle.smk_trigger.specs.JobStates.{is_to_run}
 use Rattle.smk_report.specs.declared.fault.Fault.{Fault}
 use Rattle.smk_job.specs.Jobs.{too_long}
 use Rattle.smk_job.specs.Sights.{reads_file}
-use Rattle.smk_run.specs.declared.duty.Duty.{Duty}
-use Rattle.smk_run.specs.declared.duty.Duty.TheVariants as duty
+use Rattle.smk_plan.specs.declared.duty.Duty.{Duty}
+use Rattle.smk_plan.specs.declared.duty.Duty.TheVariants as duty
 use Rattle.smk_run.specs.declared.ending.Ending.TheVariants.{Good, Status, NoOutput, WrongKind, BadMember}
 use Rattle.smk_run.specs.declared.stop.Stop.{Stop}
 use Rattle.smk_run.specs.declared.stop.Stop.TheVariants as stop
 use Rattle.smk_run.specs.declared.tally.Tally.{Tally}
-use Rattle.smk_run.specs.Duties.{AreFor, Due, due, due_from, rests, serial_of, unless_rest}
+use Rattle.smk_plan.specs.Duties.{AreFor, rests}
+use Rattle.smk_run.specs.Duties.{Due, due, due_from, serial_of, unless_rest}
 use Rattle.smk_run.specs.Reports.{IsAnswer, stop_fault, named}
 use Rattle.smk_run.specs.Runs.{AreInOrder, IsLooked, IsOutcome, IsStopped, course_failure, first_failure, or_later}
 use Rattle.smk_run.specs.Stamps.{Serials}

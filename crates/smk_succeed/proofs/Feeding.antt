@@ -32,8 +32,8 @@ use Rattle.smk_made.specs.Running.{AreArranged, IsOrderly, LeavesAlone}
 use Rattle.smk_made.proofs.Keeping.{or_false, none_of}
 use Rattle.smk_made.proofs.Sparing.{off_overlap, turn_kept}
 use Rattle.smk_made.proofs.Done.{done_turn_leaves, follows_split}
-use Rattle.smk_laws.proofs.CurrentLists.{some_inj}
-use Rattle.smk_laws.proofs.CurrentValues.{all_parts}
+use Rattle.smk_laws_plan.proofs.CurrentLists.{some_inj}
+use Rattle.smk_laws_plan.proofs.CurrentValues.{all_parts}
 use Rattle.smk_succeed.specs.Succeeding.{CanSucceed}
 use Rattle.smk_succeed.specs.Feeding.{AreFed, FedTurnsSucceed, IsGoodTurn, IsLeftAlone, NextTurnIsFed}
 use Rattle.smk_succeed.proofs.Succeeding.{good_jobs_can_succeed, told_split, turns_succeed}

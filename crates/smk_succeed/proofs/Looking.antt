@@ -13,7 +13,7 @@ use Rattle.smk_world.specs.Requests.{Request, request}
 use Rattle.smk_world.specs.Requests.Request.{Look}
 use Rattle.smk_world.specs.Trees.{Path, Act, Each, IsIn}
 use Rattle.smk_record.specs.declared.record.Stamp.{Stamp}
-use Rattle.smk_job.specs.Laws.{IsPart}
+use Rattle.smk_job.specs.Jobs.{IsPart}
 use Rattle.smk_job.specs.Sights.{reads_file}
 use Rattle.smk_run.specs.declared.stop.Stop.{Stop}
 use Rattle.smk_run.specs.Stamps.{EndsGone, HasStamped, Serials, is_file, look_at, looks}
@@ -21,7 +21,7 @@ use Rattle.smk_run.specs.Turns.{Course, IsTurnBy}
 use Rattle.smk_made.proofs.Keeping.{EachCall, Spares, AreAside, run_kept}
 use Rattle.smk_made.proofs.Calls.{part_each}
 use Rattle.smk_made.proofs.Done.{follows_split}
-use Rattle.smk_laws.proofs.CurrentLists.{flat_in}
+use Rattle.smk_laws_plan.proofs.CurrentLists.{flat_in}
 use Rattle.smk_succeed.specs.Feeding.{InputsAreFound}
 
 true_false : true ≡ false → ⊥

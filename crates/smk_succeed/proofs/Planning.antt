@@ -41,22 +41,22 @@ use Rattle.smk_run.specs.Turns.{Turn}
 use Rattle.smk_made.specs.Leaving.{owned}
 use Rattle.smk_made.specs.Clean.{IsCleanIn}
 use Rattle.smk_made.specs.Running.{AreArranged, LeavesAlone}
-use Rattle.smk_laws.specs.Current.{IsComplete, HasValidRecords}
-use Rattle.smk_laws.proofs.CurrentLists.{In, all_in, any_in, and_both, and_left, and_right, any_from, any_none, both, clash_of, filter_in, find_in, flat_in, in_either, in_filter, in_flat, in_left, in_map, in_right, map_in, none_some, not_true, or_cases, or_first, or_left, or_right, or_second, some_inj, in_zip, zip_in}
-use Rattle.smk_laws.proofs.CurrentPaths.{among_in, in_among, touch_overlaps}
-use Rattle.smk_laws.proofs.CurrentReach.{choice_known, reached_own, reached_zero}
-use Rattle.smk_laws.proofs.CurrentApart.{Spot, SpotsApart, maker_found, output_spot, spots_append, spots_apart}
-use Rattle.smk_laws.proofs.CurrentChosen.{chosen_candidate, paths_are}
-use Rattle.smk_laws.proofs.CurrentComplete.{seen_is_complete}
-use Rattle.smk_laws.proofs.CurrentDepths.{mean_deeper}
-use Rattle.smk_laws.proofs.CurrentFills.{bound_fills_from}
-use Rattle.smk_laws.proofs.CurrentMeaning.{ready_clean, source_chosen, source_clean, source_file}
-use Rattle.smk_laws.proofs.CurrentProducts.{Planned, ReachedHere, Rested, file_tree, in_plan_here, maker_is, some_of}
-use Rattle.smk_laws.proofs.CurrentReads.{wanted_comes}
-use Rattle.smk_laws.proofs.PlanOne.{chosen_makes, derived, derived_apart, derived_clear, derived_order}
-use Rattle.smk_laws.proofs.PlanOrder.{InOrder, Served, some_node, source_unmade}
-use Rattle.smk_laws.proofs.CurrentWalked.{walked_chosen}
-use Rattle.smk_laws.proofs.Valid.{records_valid}
+use Rattle.smk_laws_plan.specs.Current.{IsComplete, HasValidRecords}
+use Rattle.smk_laws_plan.proofs.CurrentLists.{In, all_in, any_in, and_both, and_left, and_right, any_from, any_none, both, clash_of, filter_in, find_in, flat_in, in_either, in_filter, in_flat, in_left, in_map, in_right, map_in, none_some, not_true, or_cases, or_first, or_left, or_right, or_second, some_inj, in_zip, zip_in}
+use Rattle.smk_laws_plan.proofs.CurrentPaths.{among_in, in_among, touch_overlaps}
+use Rattle.smk_laws_plan.proofs.CurrentReach.{choice_known, reached_own, reached_zero}
+use Rattle.smk_laws_plan.proofs.CurrentApart.{Spot, SpotsApart, maker_found, output_spot, spots_append, spots_apart}
+use Rattle.smk_laws_plan.proofs.CurrentChosen.{chosen_candidate, paths_are}
+use Rattle.smk_laws_history.proofs.CurrentComplete.{seen_is_complete}
+use Rattle.smk_laws_plan.proofs.CurrentDepths.{mean_deeper}
+use Rattle.smk_laws_plan.proofs.CurrentFills.{bound_fills_from}
+use Rattle.smk_laws_plan.proofs.CurrentMeaning.{ready_clean, source_chosen, source_clean, source_file}
+use Rattle.smk_laws_plan.proofs.CurrentProducts.{Planned, ReachedHere, Rested, file_tree, in_plan_here, maker_is, some_of}
+use Rattle.smk_laws_history.proofs.CurrentReads.{wanted_comes}
+use Rattle.smk_laws_plan.proofs.PlanOne.{chosen_makes, derived, derived_apart, derived_clear, derived_order}
+use Rattle.smk_laws_plan.proofs.PlanOrder.{InOrder, Served, some_node, source_unmade}
+use Rattle.smk_laws_plan.proofs.CurrentWalked.{walked_chosen}
+use Rattle.smk_laws_history.proofs.Valid.{records_valid}
 use Rattle.smk_complete.specs.Derived.{AllHaveValues, AreRight, GathersAlone, IsGoodJob}
 use Rattle.smk_complete.proofs.Came.{AllCame, next_came, none_came, one_of, plan_rested, right}
 use Rattle.smk_complete.proofs.Ends.{at_rest}
@@ -815,7 +815,7 @@ module _
             let d_in = derived_of n d comes a in
             let same : c ≡ d =
             one_of flow L (chosen flow (sources_of image) L settings.targets)
-            (subst Rattle.smk_laws.proofs.CurrentApart.JobsApart (sym jobs_are) (derived_apart flow image L settings.targets plan.jobs complete known.0.derived)) c d k d_in p p
+            (subst Rattle.smk_laws_plan.proofs.CurrentApart.JobsApart (sym jobs_are) (derived_apart flow image L settings.targets plan.jobs complete known.0.derived)) c d k d_in p p
             (subst (λ (z : Job). In p (out_paths z.recipe)) e out) dout (inl refl) in
             a ∙ ap Make (sym same)
           where

@@ -16,9 +16,10 @@ use Rattle.smk_pick.specs.declared.settings.Settings.{Settings}
 use Rattle.smk_plan.specs.States.{Plan, LastPlan, nothing_done}
 use Rattle.smk_report.specs.declared.fault.Fault.{Fault}
 use Rattle.smk_report.specs.declared.fault.Fault.TheVariants as fault
-use Rattle.smk_run.specs.declared.duty.Duty.{Duty}
+use Rattle.smk_plan.specs.declared.duty.Duty.{Duty}
 use Rattle.smk_run.specs.declared.tally.Tally.{Tally}
-use Rattle.smk_run.specs.Duties.{AreFor, due}
+use Rattle.smk_plan.specs.Duties.{AreFor}
+use Rattle.smk_run.specs.Duties.{due}
 use Rattle.smk_run.specs.Runs.{AreInOrder, IsOutcome}
 use Rattle.smk_run.specs.Stamps.{Serials}
 use Rattle.smk_run.specs.Statuses.{AreGiven}

@@ -21,11 +21,11 @@ use Rattle.smk_choose.specs.Choose.{Sources, choose, Make}
 use Rattle.smk_chain.specs.Derive.{Listings, distinct, job, jobs, recipe, refusals, same_candidate, sources_of, walk}
 use Rattle.smk_plan.specs.States.{IsPlan}
 use Rattle.smk_entry.specs.Forms.{flag_form, inputs_form, item_form, or_else, outputs_form, unbuilt, unbuilt_in}
-use Rattle.smk_laws.proofs.CurrentChosen.{origin}
-use Rattle.smk_laws.proofs.CurrentLaw.{last_is}
-use Rattle.smk_laws.proofs.CurrentLists.{distinct_in, flat_in, map_in}
-use Rattle.smk_laws.proofs.CurrentReach.{outcome_derived}
-use Rattle.smk_laws.proofs.CurrentWalked.{walked_chosen}
+use Rattle.smk_laws_plan.proofs.CurrentChosen.{origin}
+use Rattle.smk_laws_history.proofs.CurrentLaw.{last_is}
+use Rattle.smk_laws_plan.proofs.CurrentLists.{distinct_in, flat_in, map_in}
+use Rattle.smk_laws_plan.proofs.CurrentReach.{outcome_derived}
+use Rattle.smk_laws_plan.proofs.CurrentWalked.{walked_chosen}
 use Rattle.smk_whole.specs.Built.{BuiltFlowsGatherAlone, BuiltPlansArePlain}
 
 some_none : {A : Type 0} (x : A) → Some x ≡ None → ⊥

@@ -27,14 +27,15 @@ use Rattle.smk_store.specs.Serials.{next_serial}
 use Rattle.smk_store.specs.Trust.{Versions}
 use Rattle.smk_plan.specs.States.{Plan, LastPlan, nothing_done}
 use Rattle.smk_store.specs.Loading.{AreLooks, is_look}
-use Rattle.smk_laws.proofs.CurrentComplete.{seen_is_complete}
-use Rattle.smk_laws.proofs.Valid.{records_valid}
+use Rattle.smk_laws_history.proofs.CurrentComplete.{seen_is_complete}
+use Rattle.smk_laws_history.proofs.Valid.{records_valid}
 use Rattle.smk_job.proofs.Children.{is_crew}
 use Rattle.smk_report.specs.declared.fault.Fault.{Fault}
 use Rattle.smk_report.specs.declared.fault.Fault.TheVariants as fault
 use Rattle.smk_run.specs.declared.tally.Tally.{Tally}
-use Rattle.smk_run.specs.declared.duty.Duty.{Duty}
-use Rattle.smk_run.specs.Duties.{AreFor, serials}
+use Rattle.smk_plan.specs.declared.duty.Duty.{Duty}
+use Rattle.smk_plan.specs.Duties.{AreFor}
+use Rattle.smk_run.specs.Duties.{serials}
 use Rattle.smk_run.specs.Statuses.{AreGiven, IsGiven}
 use Rattle.smk_made.proofs.Keeping.{EachCall}
 use Rattle.smk_made.proofs.Starting.{files_children}

@@ -1,6 +1,6 @@
 use Rattle.std.proofs.Common.{subst, sym}
 use Rattle.smk_store.proofs.Looks.{if_ok}
-use Rattle.smk_run.specs.Duties.{AreFor, AreServable}
+use Rattle.smk_plan.specs.Duties.{AreFor, AreServable}
 use Rattle.smk_duties.specs.Meaning.{AreMeant}
 use Rattle.smk_duties.proofs.Meant.{chosen_meant}
 use Rattle.smk_duties.proofs.Served.{chosen_for, chosen_servable}

@@ -2,7 +2,7 @@ use Rattle.std.proofs.Common.{ap, ap₂, ◌∙◌, []}
 use Rattle.smk_store.proofs.Looks.{if_ok}
 use Rattle.smk_duties.specs.Choosing.{duties_in, Able}
 use Rattle.smk_duties.specs.Numbers.{is_able_by}
-use Rattle.smk_run.specs.Duties.{maker_in}
+use Rattle.smk_plan.specs.Duties.{maker_in}
 use Rattle.smk_duties.proofs.Able.{same_able}
 use Rattle.smk_duties.proofs.choosing.told_duties.Goals as goal
 

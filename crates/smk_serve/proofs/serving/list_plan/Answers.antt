@@ -1,6 +1,6 @@
 use Rattle.std.proofs.Common.{◌≡◌, true, false, refl, ap, sym, subst, ◌∙◌}
 use Rattle.smk_entry.specs.Faults.{device_failed}
-use Rattle.smk_run.specs.Runs.{maker_in}
+use Rattle.smk_plan.specs.Duties.{maker_in}
 use Rattle.smk_serve.specs.Serving.{IsRefusedPlan, IsServed, IsPlanned, Listed}
 use Rattle.smk_serve.proofs.Making.{all_make}
 use Rattle.smk_serve.proofs.ListingKinds.{listing_faults}

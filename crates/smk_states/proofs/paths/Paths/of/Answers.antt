@@ -11,7 +11,7 @@ use Rattle.smk_chain.specs.declared.jobs.Maker.{Maker}
 use Rattle.smk_plan.specs.Sights.{is_whole_made}
 use Rattle.smk_states.specs.Sites.{site_of}
 use Rattle.smk_states.specs.Paths.{awaited_told, site_at}
-use Rattle.smk_laws.proofs.PlanStates.{any_same}
+use Rattle.smk_laws_plan.proofs.PlanStates.{any_same}
 use Rattle.smk_states.proofs.Tests.{among_flat}
 use Rattle.smk_states.proofs.paths.Paths.of.Goals as goal
 

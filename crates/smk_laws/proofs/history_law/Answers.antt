@@ -1,7 +1,0 @@
-use Rattle.smk_laws.proofs.HistoryLaw.{every_world_sound, every_world_listed}
-use Rattle.smk_laws.proofs.HistoryListedForgetting.{forgetting_is_call}
-use Rattle.smk_laws.proofs.HistoryListedRuns.{run_is_call}
-use Rattle.smk_laws.proofs.history_law.Goals as goal
-
-pub returns : goal.returns
-returns c = record { sound = every_world_sound; listed = every_world_listed; run = run_is_call; forgetting = forgetting_is_call }

@@ -1,5 +1,0 @@
-use Rattle.smk_laws.proofs.CurrentStamps.{stamp_tells}
-use Rattle.smk_laws.proofs.stamps_tell.Goals as goal
-
-pub returns : goal.returns
-returns c = stamp_tells

@@ -1,0 +1,5 @@
+pub mod Histories
+pub mod Choices
+pub mod AtExit
+pub mod Stamps
+pub mod Trusted

@@ -1,0 +1,9 @@
+pub mod Abandoning
+pub mod Beginning
+pub mod Parts
+pub mod FinishRuns
+pub mod Called
+pub mod Readable
+pub mod Still
+pub mod Onward
+pub mod Forgetting
