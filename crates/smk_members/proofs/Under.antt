@@ -1,13 +1,13 @@
 -- What is found under a folder is all that a world has under it.
 use Rattle.std.proofs.Common.{◌≡◌, inl, inr, ℕ, suc, ◌+◌, cond, Bool, true, false, ◌&&◌, ◌||◌, not, List, [], ◌∷◌, ◌++◌, map, filter, length, drop, refl, sym, ap, subst, ◌∙◌, arith, bytes_eq, Option, Some, None}
 use Rattle.std.specs.Prelude.{is_some, if◌then◌else◌}
-use Rattle.std.specs.List.{AllByRecursion, list_all}
+use Rattle.std.specs.List.{list_all}
 use Rattle.std.specs.List.Sorted.{IsStrictlySortedBy}
 use Rattle.std.specs.Cmp.Lexicographic.{slice_cmp}
 use Rattle.std.specs.Ordering.{nat_cmp, ordering_then}
 use Rattle.std.specs.declared.cmp.Ordering.{Ordering}
-use Rattle.std.specs.declared.cmp.Ordering.TheVariants.{Less, Equal, Greater}
-use Rattle.std.proofs.lemmas.Cmp.{nat_list_cmp_total, nat_cmp_total, tied_itself}
+use Rattle.std.specs.declared.cmp.Ordering.TheVariants.{Less}
+use Rattle.std.proofs.lemmas.Cmp.{nat_cmp_total, tied_itself}
 use Rattle.std.proofs.lemmas.List.Kept.{IsStrictlySortedBy-filter}
 use Rattle.smk_base.specs.Path.{is_path, is_under, is_at_or_under, own_folder}
 use Rattle.smk_base.proofs.Apart.{path_outside, outside-own}
@@ -21,44 +21,14 @@ use Rattle.smk_world.specs.Calls.{in_folder, Stands}
 use Rattle.smk_world.specs.Trees.{Path, Each, IsIn, among, are_members, below}
 use Rattle.smk_record.specs.declared.record.Member.{Member}
 use Rattle.smk_record.specs.declared.record.Record.{Record}
-use Rattle.smk_record.specs.Records.{are_rising, is_less, is_member_folder, are_valid_members}
+use Rattle.smk_record.specs.Records.{are_rising, is_member_folder, are_valid_members}
+use Rattle.smk_record.proofs.Rising.{Above, less_itself, rising_rest, rising_first, above_among, among_first, same_first, or_apart}
 use Rattle.smk_store.specs.Images.{is_outside, is_folder, is_directory, names_under, members_under, seen}
 use Rattle.smk_members.specs.Members.{Nodes, IsFound, member_places, IsThere, AreMembers, AllIsFound}
 use Rattle.smk_members.specs.Members.IsFound.{Inside, Deeper}
 use Rattle.smk_members.specs.Steps.{names_of}
 
 -- ## Rising lists of places with the same places are equal
-
-abbrev Above : Path → List Path → Type 0
-Above k ps = AllByRecursion (λ y. slice_cmp nat_cmp k y ≡ Less) ps
-
-less_itself : (p : Path) → slice_cmp nat_cmp p p ≡ Less → ⊥
-less_itself p h = let e : slice_cmp nat_cmp p p ≡ Equal = tied_itself nat_list_cmp_total p in cc
-
-above_among : (p q : Path) (ps : List Path) → Above p ps → among ps q ≡ true → slice_cmp nat_cmp p q ≡ Less
-above_among p q [] all h = absurd (never_both false h refl)
-above_among p q (r ∷ ps) all h =
-    elim (or_cases (bytes_eq q r) (among ps q) h) [
-      | inl same ↦ subst (λ x. slice_cmp nat_cmp p x ≡ Less) (sym (same_place q r same)) all.0
-      | inr rest ↦ above_among p q ps all.1 rest
-    ]
-
-among_first : (p : Path) (ps : List Path) → among (p ∷ ps) p ≡ true
-among_first p ps = or_first (bytes_eq p p) (among ps p) (place_itself p)
-
-same_first : (p q : Path) (ps qs : List Path) → Above p ps → Above q qs → among (q ∷ qs) p ≡ true → among (p ∷ ps) q ≡ true → p ≡ q
-same_first p q ps qs a b h k =
-    elim (or_cases (bytes_eq p q) (among qs p) h) [
-      | inl same ↦ same_place p q same
-      | inr later ↦ elim (or_cases (bytes_eq q p) (among ps q) k) [
-        | inl same ↦ sym (same_place q p same)
-        | inr more ↦ absurd (less_itself p (nat_list_cmp_total.trans p q p (above_among p q ps a more) (above_among q p qs b later)))
-      ]
-    ]
-
-or_apart : (a b c : Bool) → (a ≡ true → b ≡ false) → (a ≡ true → c ≡ false) → (a || b) ≡ (a || c) → b ≡ c
-or_apart true b c f g e = f refl ∙ sym (g refl)
-or_apart false b c f g e = e
 
 rising_same : (ps qs : List Path) → IsRising ps → IsRising qs → ((r : Path) → among ps r ≡ among qs r) → ps ≡ qs
 unfolding IsStrictlySortedBy
@@ -76,25 +46,6 @@ rising_same (p ∷ ps) (q ∷ qs) h k same =
     λ i. e i ∷ rising_same ps qs h.1 k.1 rest i
 
 -- ## The members' places rise
-
-less_of : (o : Ordering) → is_less o ≡ true → o ≡ Less
-less_of Less h = refl
-less_of Equal h = absurd cc
-less_of Greater h = absurd cc
-
-raised : (p q : Path) (ps : List Path) → slice_cmp nat_cmp p q ≡ Less → Above q ps → Above p ps
-raised p q [] h all = tt
-raised p q (r ∷ ps) h all = (nat_list_cmp_total.trans p q r h all.0, raised p q ps h all.1)
-
-rising_rest : (p : Path) (ps : List Path) → are_rising (p ∷ ps) ≡ true → are_rising ps ≡ true
-rising_rest p [] h = refl
-rising_rest p (q ∷ ps) h = and_second (is_less (slice_cmp nat_cmp p q)) (are_rising (q ∷ ps)) h
-
-rising_first : (p : Path) (ps : List Path) → are_rising (p ∷ ps) ≡ true → Above p ps
-rising_first p [] h = tt
-rising_first p (q ∷ ps) h =
-    let less = less_of (slice_cmp nat_cmp p q) (and_first (is_less (slice_cmp nat_cmp p q)) (are_rising (q ∷ ps)) h) in
-    (less, raised p q ps less (rising_first q ps (and_second (is_less (slice_cmp nat_cmp p q)) (are_rising (q ∷ ps)) h)))
 
 cmp_same : (a : ℕ) (r : Ordering) → ordering_then (nat_cmp a a) r ≡ r
 cmp_same a r = ap (λ x. ordering_then x r) (tied_itself nat_cmp_total a)

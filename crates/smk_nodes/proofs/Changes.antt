@@ -13,7 +13,7 @@ use Rattle.std.proofs.lemmas.Map.Text.{is_eq-slice_cmp}
 use Rattle.smk_base.proofs.Places.{same_flipped, same_place}
 use Rattle.smk_world.specs.declared.event.Node.{Node}
 use Rattle.smk_base.specs.Path.{is_under}
-use Rattle.smk_nodes.proofs.Ranges.{is_between, between_is_under}
+use Rattle.smk_base.proofs.Ranges.{is_between, between_is_under}
 use Rattle.smk_nodes.specs.Nodes.{is_listed}
 
 if_cond : {A : Type 0} (b : Bool) (s t : A) → cond b s t ≡ if b then s else t

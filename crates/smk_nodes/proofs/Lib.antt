@@ -2,7 +2,6 @@ pub mod Above
 pub mod Changes
 pub mod Lists
 pub mod Owners
-pub mod Ranges
 pub mod Replay
 pub mod Undone
 pub mod Within

@@ -32,7 +32,7 @@ use Rattle.smk_nodes.specs.Nodes.{node_at, keys_under, name_under, is_text, is_f
 use Rattle.smk_nodes.specs.Steps.{seen, AgreesWith}
 use Rattle.smk_nodes.specs.declared.nodes.Nodes.{Nodes}
 use Rattle.smk_nodes.proofs.Changes.{none_listed, entry_texts, passing}
-use Rattle.smk_nodes.proofs.Ranges.{is_between, between_is_under}
+use Rattle.smk_base.proofs.Ranges.{is_between, between_is_under}
 
 true_false : true ≡ false → ⊥
 true_false e = cc

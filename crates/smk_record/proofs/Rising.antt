@@ -12,38 +12,63 @@ use Rattle.std.proofs.lemmas.Map.Text.{is_eq-slice_cmp}
 use Rattle.std.proofs.lemmas.List.Sorted.{searchable_from_sorted}
 use Rattle.std.proofs.lemmas.Bool.{cases_lt}
 use Rattle.smk_base.proofs.Places.{and_first, and_second, same_place, place_itself}
-use Rattle.smk_base.proofs.Under.{false_unless}
-use Rattle.smk_world.specs.Trees.{Path}
+use Rattle.smk_base.proofs.Under.{never_both, false_unless, or_cases, or_first}
+use Rattle.smk_world.specs.Trees.{Path, among}
 use Rattle.smk_record.specs.declared.record.Member.{Member}
 use Rattle.smk_record.specs.Records.{are_rising, is_less, is_member_folder}
 
-abbrev Above : Path → List Path → Type 0
+abbrev pub Above : Path → List Path → Type 0
 Above k ps = AllByRecursion (λ y. slice_cmp nat_cmp k y ≡ Less) ps
 
 abbrev pub names_of : List Member → List Path
 names_of ms = map (λ (m : Member). m.name) ms
 
-less_of : (o : Ordering) → is_less o ≡ true → o ≡ Less
+pub less_of : (o : Ordering) → is_less o ≡ true → o ≡ Less
 less_of Less h = refl
 less_of Equal h = absurd cc
 less_of Greater h = absurd cc
 
-less_itself : (p : Path) → slice_cmp nat_cmp p p ≡ Less → ⊥
+pub less_itself : (p : Path) → slice_cmp nat_cmp p p ≡ Less → ⊥
 less_itself p h = let e : slice_cmp nat_cmp p p ≡ Equal = tied_itself nat_list_cmp_total p in cc
 
-raised : (p q : Path) (ps : List Path) → slice_cmp nat_cmp p q ≡ Less → Above q ps → Above p ps
+pub raised : (p q : Path) (ps : List Path) → slice_cmp nat_cmp p q ≡ Less → Above q ps → Above p ps
 raised p q [] h all = tt
 raised p q (r ∷ ps) h all = (nat_list_cmp_total.trans p q r h all.0, raised p q ps h all.1)
 
-rising_rest : (p : Path) (ps : List Path) → are_rising (p ∷ ps) ≡ true → are_rising ps ≡ true
+pub rising_rest : (p : Path) (ps : List Path) → are_rising (p ∷ ps) ≡ true → are_rising ps ≡ true
 rising_rest p [] h = refl
 rising_rest p (q ∷ ps) h = and_second (is_less (slice_cmp nat_cmp p q)) (are_rising (q ∷ ps)) h
 
-rising_first : (p : Path) (ps : List Path) → are_rising (p ∷ ps) ≡ true → Above p ps
+pub rising_first : (p : Path) (ps : List Path) → are_rising (p ∷ ps) ≡ true → Above p ps
 rising_first p [] h = tt
 rising_first p (q ∷ ps) h =
     let less = less_of (slice_cmp nat_cmp p q) (and_first (is_less (slice_cmp nat_cmp p q)) (are_rising (q ∷ ps)) h) in
     (less, raised p q ps less (rising_first q ps (and_second (is_less (slice_cmp nat_cmp p q)) (are_rising (q ∷ ps)) h)))
+
+pub above_among : (p q : Path) (ps : List Path) → Above p ps → among ps q ≡ true → slice_cmp nat_cmp p q ≡ Less
+above_among p q [] all h = absurd (never_both false h refl)
+above_among p q (r ∷ ps) all h =
+    elim (or_cases (bytes_eq q r) (among ps q) h) [
+      | inl same ↦ subst (λ x. slice_cmp nat_cmp p x ≡ Less) (sym (same_place q r same)) all.0
+      | inr rest ↦ above_among p q ps all.1 rest
+    ]
+
+pub among_first : (p : Path) (ps : List Path) → among (p ∷ ps) p ≡ true
+among_first p ps = or_first (bytes_eq p p) (among ps p) (place_itself p)
+
+pub same_first : (p q : Path) (ps qs : List Path) → Above p ps → Above q qs → among (q ∷ qs) p ≡ true → among (p ∷ ps) q ≡ true → p ≡ q
+same_first p q ps qs a b h k =
+    elim (or_cases (bytes_eq p q) (among qs p) h) [
+      | inl same ↦ same_place p q same
+      | inr later ↦ elim (or_cases (bytes_eq q p) (among ps q) k) [
+        | inl same ↦ sym (same_place q p same)
+        | inr more ↦ absurd (less_itself p (nat_list_cmp_total.trans p q p (above_among p q ps a more) (above_among q p qs b later)))
+      ]
+    ]
+
+pub or_apart : (a b c : Bool) → (a ≡ true → b ≡ false) → (a ≡ true → c ≡ false) → (a || b) ≡ (a || c) → b ≡ c
+or_apart true b c f g e = f refl ∙ sym (g refl)
+or_apart false b c f g e = e
 
 above_at : (p : Path) (ms : List Member) (i : ℕ) (d : Member) → Above p (names_of ms) → i < length ms → slice_cmp nat_cmp p (get_or ms i d).name ≡ Less
 above_at p [] i d all lt = absurd (omega arith)

@@ -1,47 +1,21 @@
 -- Looking a path up among those that rise, by halves.
 use Rattle.std.proofs.Common.{◌≡◌, inl, inr, ℕ, zero, suc, ◌+◌, ◌<◌, ◌≤◌, Bool, true, false, cond, List, [], ◌∷◌, map, length, get_or, Option, Some, None, Ok, Err, refl, sym, ap, subst, ◌∙◌, arith, add-one}
 use Rattle.std.specs.Prelude.{bytes_eq}
-use Rattle.std.specs.List.{AllByRecursion}
 use Rattle.std.specs.List.Sorted.{IsBinarySearchResult, IsSortedBy}
 use Rattle.std.specs.Cmp.Lexicographic.{slice_cmp}
 use Rattle.std.specs.Ordering.{nat_cmp, is_lt, is_eq, ordering_reverse}
-use Rattle.std.specs.declared.cmp.Ordering.{Ordering}
 use Rattle.std.specs.declared.cmp.Ordering.TheVariants.{Less, Equal, Greater}
 use Rattle.std.proofs.lemmas.Cmp.{nat_list_cmp_total, tied_itself}
 use Rattle.std.proofs.lemmas.Map.Text.{is_eq-slice_cmp}
 use Rattle.std.proofs.lemmas.List.Sorted.{searchable_from_sorted}
 use Rattle.std.proofs.lemmas.Bool.{cases_lt}
-use Rattle.smk_base.proofs.Places.{and_first, and_second, same_place, place_itself}
+use Rattle.smk_base.proofs.Places.{same_place, place_itself}
 use Rattle.smk_base.proofs.Under.{false_unless}
 use Rattle.smk_world.specs.Trees.{Path}
-use Rattle.smk_record.specs.Records.{are_rising, is_less}
+use Rattle.smk_record.specs.Records.{are_rising}
+use Rattle.smk_record.proofs.Rising.{Above, less_itself, rising_rest, rising_first}
 use Rattle.smk_store.specs.declared.store.Entry.{Entry}
 use Rattle.smk_store.specs.Stores.{Known, known, entry_of}
-
-abbrev Above : Path → List Path → Type 0
-Above k ps = AllByRecursion (λ y. slice_cmp nat_cmp k y ≡ Less) ps
-
-less_of : (o : Ordering) → is_less o ≡ true → o ≡ Less
-less_of Less h = refl
-less_of Equal h = absurd cc
-less_of Greater h = absurd cc
-
-less_itself : (p : Path) → slice_cmp nat_cmp p p ≡ Less → ⊥
-less_itself p h = let e : slice_cmp nat_cmp p p ≡ Equal = tied_itself nat_list_cmp_total p in cc
-
-raised : (p q : Path) (ps : List Path) → slice_cmp nat_cmp p q ≡ Less → Above q ps → Above p ps
-raised p q [] h all = tt
-raised p q (r ∷ ps) h all = (nat_list_cmp_total.trans p q r h all.0, raised p q ps h all.1)
-
-rising_rest : (p : Path) (ps : List Path) → are_rising (p ∷ ps) ≡ true → are_rising ps ≡ true
-rising_rest p [] h = refl
-rising_rest p (q ∷ ps) h = and_second (is_less (slice_cmp nat_cmp p q)) (are_rising (q ∷ ps)) h
-
-rising_first : (p : Path) (ps : List Path) → are_rising (p ∷ ps) ≡ true → Above p ps
-rising_first p [] h = tt
-rising_first p (q ∷ ps) h =
-    let less = less_of (slice_cmp nat_cmp p q) (and_first (is_less (slice_cmp nat_cmp p q)) (are_rising (q ∷ ps)) h) in
-    (less, raised p q ps less (rising_first q ps (and_second (is_less (slice_cmp nat_cmp p q)) (are_rising (q ∷ ps)) h)))
 
 above_at : (p : Path) (ps : List Path) (i : ℕ) (d : Path) → Above p ps → i < length ps → slice_cmp nat_cmp p (get_or ps i d) ≡ Less
 above_at p [] i d all lt = absurd (omega arith)

@@ -1,7 +1,7 @@
 use Rattle.std.proofs.Common.{ap, ◌∙◌, ◌++◌, string_bytes, ◌≡◌, ◌∷◌, [], rules}
 use Rattle.std.specs.Ordering.{is_gt, nat_cmp}
 use Rattle.std.specs.Cmp.Lexicographic.{slice_cmp}
-use Rattle.smk_nodes.proofs.Ranges.{low_below_high, is_between}
+use Rattle.smk_base.proofs.Ranges.{low_below_high, is_between}
 use Rattle.smk_nodes.proofs.Changes.{texts, entry_texts, passing, all_listed, listed_are_under, others_are_not, keys_rising}
 use Rattle.smk_nodes.proofs.nodes.Nodes.listed_under.Goals as goal
 use Rattle.smk_nodes.proofs.nodes.Nodes.listed_under.Goals.{In-None}
