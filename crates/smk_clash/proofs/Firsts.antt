@@ -1,5 +1,5 @@
 -- The first of what passes a test.
-use Rattle.std.proofs.Common.{◌≡◌, Bool, true, false, cond, List, [], ◌∷◌, ◌++◌, map, Option, Some, None, refl, sym, ap, ◌∙◌, bytes_eq}
+use Rattle.std.proofs.Common.{◌≡◌, Bool, true, false, cond, List, [], ◌∷◌, ◌++◌, map, Some, None, refl, sym, ap, ◌∙◌, bytes_eq}
 use Rattle.std.specs.Prelude.{option_map}
 use Rattle.std.specs.List.{filter}
 use Rattle.smk_base.specs.Path.{overlaps}
@@ -20,14 +20,6 @@ none_first test xs each = sym (ap first (none_pass test xs each))
 -- what overlaps isn't among them
 pub none_overlaps : (p : Path) (xs : List Path) (P : Path → Bool) → ((q : Path) → P q ≡ among xs q) → ((q : Path) → overlaps p q ≡ true → P q ≡ false) → None ≡ first (filter (overlaps p) xs)
 none_overlaps p xs P same none = none_first (overlaps p) xs (λ q h. false_unless (overlaps p q) (λ over. never_both (among xs q) h (sym (same q) ∙ none q over)))
-
-pub first_here : {A : Type 0} (x : A) (xs ys : List A) → Some x ≡ first xs → Some x ≡ first (xs ++ ys)
-first_here x [] ys e = absurd cc
-first_here x (y ∷ xs) ys e = e
-
-pub first_later : {A : Type 0} (o : Option A) (xs ys : List A) → None ≡ first xs → o ≡ first ys → o ≡ first (xs ++ ys)
-first_later o [] ys e f = f
-first_later o (x ∷ xs) ys e f = absurd cc
 
 pub first_mapped : {A B : Type 0} (f : A → B) (x : A) (xs : List A) (ys : List B) → Some x ≡ first xs → Some (f x) ≡ first (map f xs ++ ys)
 first_mapped f x [] ys e = absurd cc

@@ -14,24 +14,6 @@ use Rattle.smk_clash.proofs.Ranges.{is_between, between_is_under}
 
 -- ## A set of paths
 
-swap_or : (a b c : Bool) → ((a || b) || c) ≡ (b || (a || c))
-swap_or true true c = refl
-swap_or true false c = refl
-swap_or false true c = refl
-swap_or false false c = refl
-
-or_last : (a : Bool) → (a || false) ≡ a
-or_last true = refl
-or_last false = refl
-
--- one more is in the set
-pub moved : (was now whole : Bool) (q path : Path) (ts rest : List Path) → now ≡ (bytes_eq q path || was) → ts ≡ path ∷ rest → (was || among ts q) ≡ whole → (now || among rest q) ≡ whole
-moved was now whole q path ts rest e at before =
-    ap (λ (b : Bool). b || among rest q) e ∙ swap_or (bytes_eq q path) was (among rest q) ∙ ap (λ (l : List Path). was || among l q) (sym at) ∙ before
-
-pub all_moved : (now whole : Bool) (q : Path) (ts : List Path) → ts ≡ [] → (now || among ts q) ≡ whole → now ≡ whole
-all_moved now whole q ts none before = sym (or_last now) ∙ ap (λ (l : List Path). now || among l q) (sym none) ∙ before
-
 pub among_last : (xs : List Path) (x q : Path) → among (xs ++ x ∷ []) q ≡ (bytes_eq q x || among xs q)
 among_last [] x q = refl
 among_last (y ∷ xs) x q = ap (λ (b : Bool). bytes_eq q y || b) (among_last xs x q) ∙ swap (bytes_eq q y) (bytes_eq q x) (among xs q)

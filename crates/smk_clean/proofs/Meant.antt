@@ -62,9 +62,6 @@ spoken image j plain q made each =
     own None e h = cc
     own (Some r) e h = holder_own image q r e
 
-none_some : (word : Text) → Some word ≡ None → ⊥
-none_some word e = cc
-
 no_form : (o : Option Text) (file : Path) → option_map (not_built file) o ≡ None → o ≡ None
 no_form None file h = refl
 no_form (Some word) file h = cc

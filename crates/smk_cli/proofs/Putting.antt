@@ -1,8 +1,8 @@
 -- What is put of the line of a fault.
 use native.Mathlib.Omega.{arith}
-use Rattle.std.proofs.Common.{◌≡◌, ◌⊎◌, ℕ, Bool, true, false, [], inl, inr, refl, sym, subst, Option, Some, None, Result, Ok, Err, length, take, drop, is_ok}
+use Rattle.std.proofs.Common.{◌≡◌, ◌⊎◌, ℕ, Bool, true, false, [], inl, inr, refl, sym, subst, Option, Some, Result, Ok, Err, length, take, drop, is_ok}
 use Rattle.std.specs.Prelude.{IsErr}
-use Rattle.std.proofs.lemmas.List.{take-append-drop, append-nil, take_all}
+use Rattle.std.proofs.lemmas.List.{take-append-drop, take_all}
 use Rattle.smk_world.specs.Calls.{HasPut}
 use Rattle.smk_report.specs.Lines.{Text}
 use Rattle.smk_report.specs.declared.fault.Fault.{Fault}
@@ -13,12 +13,6 @@ use Rattle.smk_cli.specs.Lines.{IsFaultLine}
 
 true_false : true ≡ false → ⊥
 true_false e = cc
-
-pub line_none : (o : Option Text) (well rose : Type 0) → HasWritten o o well (IsFaultLine None rose)
-line_none o well rose = record { told = λ now e. (now, e, ([], refl, sym (append-nil now))); stays = λ h some. some }
-
-pub line_lost : (o : Option Text) (well rose : Type 0) → HasWritten o o well (IsFaultLine (Some fault.OutOfMemory) rose)
-line_lost o well rose = record { told = λ now e. (now, e, ([], ((fault_text fault.OutOfMemory, refl), inr (inr refl)), sym (append-nil now))); stays = λ h some. some }
 
 put_or_rose : (ok : Bool) (rose : Type 0) (n : ℕ) (line : Text) → (ok ≡ true → n ≡ length line) → (ok ≡ false → rose) → (f : Fault) → (take n line ≡ line) ⊎ (rose ⊎ (f ≡ fault.OutOfMemory))
 put_or_rose true rose n line all bad f = inl (take_all n line (omega (arith, all refl)))

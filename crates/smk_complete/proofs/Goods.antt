@@ -4,7 +4,6 @@ use Rattle.std.specs.Prelude.{◌==◌}
 use Rattle.std.specs.List.{cons_option}
 use Rattle.smk_base.specs.declared.tree.Tree.{Tree}
 use Rattle.smk_base.specs.declared.tree.Tree.TheVariants.{File, Folder}
-use Rattle.smk_base.specs.declared.tree.TreeEntry.{TreeEntry}
 use Rattle.smk_world.specs.declared.recipe.Kind.{Kind}
 use Rattle.smk_world.specs.declared.recipe.Kind.TheVariants.{Plain, Folder as FolderKind}
 use Rattle.smk_world.specs.declared.recipe.Out.{Out}
@@ -156,9 +155,6 @@ derived_jobs_are_good S L targets alone values right c derived has =
     good_job S L targets right c has (derived_makes S L targets alone right values c derived)
 
 -- ## A good job ends well
-
-names : List TreeEntry → List Path
-names entries = map (λ (e : TreeEntry). e.name) entries
 
 no_fault : (p : Path) (k : Kind) (t : Option Tree) → is_good p k t ≡ true → fault_of p k t ≡ None
 no_fault p k None h = absurd (true≢false (sym h))

@@ -11,7 +11,7 @@ use Rattle.smk_world.specs.World.{World, reading}
 use Rattle.smk_world.specs.Calls.{Acted, Happened, StatIs, stat_of}
 use Rattle.smk_world.specs.Runs.{Did}
 use Rattle.smk_files.specs.Looks.{Nodes, at, HasSeen}
-use Rattle.smk_files.proofs.Looking.{IsEntry, idle_known, did_one, seen_both, seen_map, seen_as, seen_nothing}
+use Rattle.smk_files.proofs.Looking.{IsEntry, idle_known, did_one, seen_both, seen_map, seen_as}
 use Rattle.smk_report.specs.declared.fault.Fault.{Fault}
 use Rattle.smk_report.specs.declared.fault.Fault.TheVariants.{Device}
 use Rattle.smk_entry.specs.Faults.{is_device, device_failed, and_then, Answers}
@@ -57,15 +57,6 @@ bind_still act r x s meant next a b is did still h =
     (well act r x meant a b is did) (λ nodes e. answers_then (meant nodes) x (next nodes) s e (h nodes))
 
 -- ## Steps that don't look, before others
-
-pub still_fault : (act : Recipe → List Tree → Acted) {A B : Type 0} (m : Result A Fault) (f : Fault) (next : Nodes → A → Result B Fault) (a : Option World)
-    → is_device f ≡ false → Answers m (Err f) → Did act a a (HasSeen (is_device f) (λ nodes. Answers (and_then m (next nodes)) (Err f)))
-still_fault act m f next a still h =
-    subst (λ v. Did act a a (HasSeen v (λ nodes. Answers (and_then m (next nodes)) (Err f)))) (sym still) (seen_nothing act (λ nodes. Answers (and_then m (next nodes)) (Err f)) a (λ nodes. fault_told m (next nodes) f h))
-
-pub still_looks : (act : Recipe → List Tree → Acted) {A B : Type 0} (m : Result A Fault) (x : A) (s : Result B Fault) (next : Nodes → A → Result B Fault) (a b : Option World)
-    → m ≡ Ok x → Did act a b (HasSeen (device_failed s) (λ nodes. Answers (next nodes x) s)) → Did act a b (HasSeen (device_failed s) (λ nodes. Answers (and_then m (next nodes)) s))
-still_looks act m x s next a b is did = seen_map act (device_failed s) (λ nodes. Answers (next nodes x) s) (λ nodes. Answers (and_then m (next nodes)) s) a b did (λ nodes h. answers_then m x (next nodes) s is h)
 
 -- ## One look
 

@@ -1,19 +1,16 @@
 -- What is read, and what is asked of it.
-use Rattle.std.proofs.Common.{◌≡◌, Bool, List, [], ◌∷◌, map, Option, Some, None, Result, Ok, Err, inr, refl, ap, sym, subst, ◌∙◌}
-use Rattle.std.specs.Prelude.{option_map}
+use Rattle.std.proofs.Common.{◌≡◌, Bool, List, [], ◌∷◌, map, None, Result, Ok, Err, inr, refl, ap, sym, subst, ◌∙◌}
 use Rattle.smk_world.specs.Trees.{Path}
 use Rattle.smk_pattern.specs.Shapes.{Text}
 use Rattle.smk_flow.specs.declared.rule.RulePart.{RulePart}
 use Rattle.smk_flow.specs.Numbers.{parts_of}
 use Rattle.smk_flow.specs.PatternsOf.{rule_of}
-use Rattle.smk_flow.specs.Targets.{all_paths, first_bad}
+use Rattle.smk_flow.specs.Targets.{all_paths}
 use Rattle.smk_files.specs.Looks.{Nodes}
 use Rattle.smk_load.specs.Loading.{loaded, Gives}
 use Rattle.smk_report.specs.declared.fault.Fault.{Fault}
-use Rattle.smk_report.specs.declared.fault.Fault.TheVariants.{BadTarget}
 use Rattle.smk_entry.specs.declared.reading.Reading.{Reading}
 use Rattle.smk_entry.specs.declared.asking.Asked.{Asked}
-use Rattle.smk_entry.specs.Forms.{unbuilt_for, not_built, or_else}
 use Rattle.smk_entry.specs.Names.{workflow_file}
 use Rattle.smk_entry.specs.Entry.{IsRead, IsReadIn, Asks, IsAskedIn, refused_word, asked_words}
 
@@ -29,15 +26,6 @@ asked_both run words nodes reading (Ok asked) h k =
       k.2 ∙ ap (λ (x : Reading). all_paths x.flow (asked_words words x)) (sym is),
     )
 asked_both run words nodes reading (Err f) h k = λ told. inr (reading, h, k told)
-
--- a form that isn't built is refused
-pub refused_first : (run : Bool) (words : List Text) (reading : Reading) (f : Fault) → option_map (not_built reading.file) (unbuilt_for run reading.flow.rules) ≡ Some f
-    → refused_word run words reading ≡ Some f
-refused_first run words reading f h = ap (λ o. or_else o (option_map BadTarget (first_bad reading.flow (asked_words words reading)))) h
-
-pub refused_then : (run : Bool) (words : List Text) (reading : Reading) (o : Option Fault) → option_map (not_built reading.file) (unbuilt_for run reading.flow.rules) ≡ None
-    → option_map BadTarget (first_bad reading.flow (asked_words words reading)) ≡ o → refused_word run words reading ≡ o
-refused_then run words reading o h k = ap (λ x. or_else x (option_map BadTarget (first_bad reading.flow (asked_words words reading)))) h ∙ k
 
 pub parts_again : (parts : List RulePart) → parts_of (map rule_of parts) ≡ parts
 parts_again [] = refl

@@ -62,9 +62,6 @@ use Rattle.smk_dues.proofs.Dues.{done_but_last}
 use Rattle.smk_exit.specs.Exit.{IsDueRun}
 use Rattle.smk_exit.proofs.Left as at_exit
 
-true_false : true ≡ false → ⊥
-true_false e = cc
-
 -- ## Stamps of products
 
 -- where a record is held that isn't marked, the path has its serial as its stamp

@@ -26,7 +26,6 @@ use Rattle.smk_pick.specs.declared.settings.Settings.{Settings}
 use Rattle.smk_plan.specs.States.{Plan, IsPlan, by_force, by_reasons, is_input, job_path, is_current, is_open_now, is_read_now, is_restored, is_to_restore, is_wanted_back, is_whole_by, made_by, maker_of, makes, nothing_done, reasons, staged, stands_whole, state_of, test_some}
 use Rattle.smk_laws_history.proofs.CurrentEased.{none_restored}
 use Rattle.smk_laws_plan.proofs.CurrentLists.{distinct_in, and_left, or_second, zip_in}
-use Rattle.smk_run.specs.Stamps.{Serials}
 use Rattle.smk_run.specs.Turns.{Turn, is_closed}
 use Rattle.smk_safe.specs.Planned.{IsPlain}
 use Rattle.smk_safe.proofs.Planned as by_plan
@@ -75,9 +74,6 @@ module _ (o : Outside) (entry : World) (H : Versions) (flow : Flow) (settings : 
 
   abbrev after_run : Image
   after_run = now o exit
-
-  abbrev made : Serials
-  made = at_exit.made o entry H flow settings plan ts es ran
 
   abbrev st : Job → State
   st j = state_of before settings nothing_done plan j

@@ -113,9 +113,6 @@ module _ (image : Image) (settings : Settings) (plan : Plan) (begun : List Path)
   abbrev pub left : Path → Bool
   left p = is_restored image settings progress later p
 
-  clean_of : Job → State
-  clean_of j = Clean
-
   pub maker_clean : (test : State → Bool) → test Clean ≡ false → (q : Path) → made_by later test q ≡ false
   maker_clean test none q = go (maker_of later q) refl
     where

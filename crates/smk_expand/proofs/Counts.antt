@@ -1,39 +1,16 @@
 -- How many texts a pattern gives.
-use Rattle.std.proofs.Common.{◌≡◌, ℕ, zero, suc, ◌+◌, ◌*◌, ◌<◌, ◌≤◌, Bool, true, false, cond, List, [], ◌∷◌, ◌++◌, drop, length, get_or, refl, ap, sym, ◌∙◌, arith, length-append}
-use Rattle.std.specs.Prelude.{Result, Ok, Err, nat_lt}
+use Rattle.std.proofs.Common.{◌≡◌, ℕ, suc, ◌+◌, ◌*◌, ◌<◌, ◌≤◌, Bool, true, false, cond, List, [], ◌∷◌, ◌++◌, length, refl, sym, ◌∙◌, arith, length-append}
+use Rattle.std.specs.Prelude.{nat_lt}
 use Rattle.std.specs.List.{flat_map}
-use Rattle.std.proofs.lemmas.List.{append-nil, at_drop_more}
+use Rattle.std.proofs.lemmas.List.{append-nil}
 use Rattle.std.proofs.lemmas.List.FromFn.{length-map-range_with_len}
-use Rattle.std.proofs.lemmas.Bool.Decides.{nat_tests}
 use Rattle.smk_base.specs.declared.tree.Pair.{Pair}
 use Rattle.smk_expand.specs.declared.choices.Choices.{Choices}
-use Rattle.smk_expand.specs.declared.expanding.ExpandFault.{ExpandFault}
-use Rattle.smk_expand.specs.Letters.{Letter, letters, filled, stands}
-use Rattle.smk_expand.specs.Expanding.{combined, rows, row, texts, expanded_one, and_then, expanded}
+use Rattle.smk_expand.specs.Letters.{Letter, filled, stands}
+use Rattle.smk_expand.specs.Expanding.{combined, rows, row, texts}
 use Rattle.smk_expand.specs.Counting.{count_of, limited}
 
 -- ## A product, limited
-
-pub limited_over : (n : ℕ) → 100_000 < n → limited n ≡ 100_001
-limited_over n h = grind (arith, nat_tests)
-
-pub limited_under : (n : ℕ) → n ≤ 100_000 → limited n ≡ n
-limited_under n h = grind (arith, nat_tests)
-
-at_least : (a n : ℕ) → 100_000 < n → 100_000 < suc a * n
-at_least a n h = let e : suc a * n ≡ n + a * n = omega arith in omega arith
-
-product_over : (a n : ℕ) → 100_000 < n → limited (a * 100_001) ≡ limited (a * n)
-product_over zero n h = let l : 0 * 100_001 ≡ 0 = omega arith in let r : 0 * n ≡ 0 = omega arith in ap limited (l ∙ sym r)
-product_over (suc a) n h = limited_over (suc a * 100_001) (at_least a 100_001 (omega arith)) ∙ sym (limited_over (suc a * n) (at_least a n h))
-
-product_by : (a n : ℕ) (v : Bool) → nat_lt 100_000 n ≡ v → limited (a * cond v 100_001 n) ≡ limited (a * n)
-product_by a n false e = refl
-product_by a n true e = let h : 100_000 < n = grind (arith, nat_tests) in product_over a n h
-
--- a limited factor gives the same limited product
-pub limited_product : (a n : ℕ) → limited (a * limited n) ≡ limited (a * n)
-limited_product a n = product_by a n (nat_lt 100_000 n) refl
 
 -- ## Lengths
 
@@ -73,17 +50,3 @@ nothing_more made [] h = sym (append-nil made)
 nothing_more made (x ∷ xs) h = absurd (some_by (length xs) (nat_lt 100_000 (suc (length xs))) refl h)
 
 -- ## Patterns in order
-
-pub expanded_more : (zip missing : Bool) (choices : List Choices) (made now : List (List ℕ)) (ps : List (List ℕ)) (i : ℕ) (d : List ℕ) → i < length ps
-    → expanded_one zip missing choices made (letters (get_or ps i d)) ≡ Ok now
-    → expanded zip missing choices made (drop i ps) ≡ expanded zip missing choices now (drop (i + 1) ps)
-expanded_more zip missing choices made now ps i d lt e =
-    at_drop_more (expanded zip missing choices made) ps i d lt
-    ∙ ap (λ (r : Result (List (List ℕ)) ExpandFault). and_then r (λ now. expanded zip missing choices now (drop (i + 1) ps))) e
-
-pub expanded_fault : (zip missing : Bool) (choices : List Choices) (made : List (List ℕ)) (fault : ExpandFault) (ps : List (List ℕ)) (i : ℕ) (d : List ℕ) → i < length ps
-    → expanded_one zip missing choices made (letters (get_or ps i d)) ≡ Err fault
-    → expanded zip missing choices made (drop i ps) ≡ Err fault
-expanded_fault zip missing choices made fault ps i d lt e =
-    at_drop_more (expanded zip missing choices made) ps i d lt
-    ∙ ap (λ (r : Result (List (List ℕ)) ExpandFault). and_then r (λ now. expanded zip missing choices now (drop (i + 1) ps))) e

@@ -4,7 +4,7 @@ use Rattle.std.proofs.lemmas.Grind.{flat_map-append}
 use Rattle.std.proofs.lemmas.Bool.Decides.{nat_tests}
 use Rattle.std.proofs.lemmas.List.{drop_all}
 use Rattle.smk_expand.specs.declared.reading.Piece.{Piece}
-use Rattle.smk_expand.specs.Letters.{Letter, plain, name, is_brace, is_closed, is_doubled, closed_len, letter_by, more_by, letters_after, letters, name_len, first_brace, piece_letters, letters_of}
+use Rattle.smk_expand.specs.Letters.{Letter, plain, name, is_brace, is_closed, closed_len, letter_by, more_by, letters_after, letters, name_len, first_brace, piece_letters, letters_of}
 
 pub letters_push : (ps : List Piece) (p : Piece) → letters_of (ps ++ p ∷ []) ≡ letters_of ps ++ piece_letters p
 letters_push ps p = flat_map-append piece_letters ps (p ∷ []) ∙ ap (λ ls. letters_of ps ++ ls) (append-nil (piece_letters p))
@@ -43,10 +43,6 @@ at_byte b t n e =
 pub name_first : (b : ℕ) (t : List ℕ) (n : ℕ) → n ≡ closed_len b t → 0 < n → letters (b ∷ t) ≡ name (take n t) ∷ letters (drop (n + 1) t)
 name_first b t zero e lt = absurd (omega arith)
 name_first b t (suc k) e lt = at_byte b t (suc k) e ∙ ap (λ (m : ℕ). name (take (suc k) t) ∷ letters (drop m t)) (sym (add-one (suc k)))
-
-pub byte_first : (b : ℕ) (t : List ℕ) (n : ℕ) (v : Bool) → n ≡ closed_len b t → n ≤ 0 → v ≡ is_doubled b t → letters (b ∷ t) ≡ plain b ∷ letters (drop (cond v 1 0) t)
-byte_first b t zero v e le d = at_byte b t zero e ∙ ap (λ (w : Bool). plain b ∷ letters (drop (cond w 1 0) t)) (sym d)
-byte_first b t (suc k) v e le d = absurd (omega arith)
 
 pub first_and_rest : (text after : List ℕ) (b : ℕ) → 0 < length text → b ≡ get_or text 0 0 → after ≡ drop 1 text → text ≡ b ∷ after
 first_and_rest [] after b lt e d = absurd (omega arith)

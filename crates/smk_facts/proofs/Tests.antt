@@ -43,10 +43,6 @@ pub each_two : {A : Type 0} (P Q R : A → Type 0) → ((x : A) → P x → Q x 
 each_two P Q R more [] h k = tt
 each_two P Q R more (x ∷ xs) h k = (more x h.0 k.0, each_two P Q R more xs h.1 k.1)
 
-pub each_all : {A : Type 0} (P : A → Type 0) → ((x : A) → P x) → (xs : List A) → Each P xs
-each_all P all [] = tt
-each_all P all (x ∷ xs) = (all x, each_all P all xs)
-
 pub each_tested : {A : Type 0} (test : A → Bool) (xs : List A) → list_all test xs ≡ true → Each (λ x. test x ≡ true) xs
 each_tested test [] h = tt
 each_tested test (x ∷ xs) h = (and_first (test x) (list_all test xs) h, each_tested test xs (and_second (test x) (list_all test xs) h))

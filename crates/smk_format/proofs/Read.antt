@@ -29,14 +29,8 @@ brace_first b t e =
     ap (λ (v : Bool). cond v (cond (is_doubled b t) (Plain b) (undoubled b t)) (Plain b) ∷ symbols_after (cond v (cond (is_doubled b t) 1 (undoubled_more b t)) 0) t) e
     ∙ ap (λ (ss : List Symbol). cond (is_doubled b t) (Plain b) (undoubled b t) ∷ ss) (symbols_skipped (cond (is_doubled b t) 1 (undoubled_more b t)) t)
 
-pub doubled_first : (b : ℕ) (t : Text) → is_brace b ≡ true → is_doubled b t ≡ true → symbols (b ∷ t) ≡ Plain b ∷ symbols (drop 1 t)
-doubled_first b t e d = brace_first b t e ∙ ap (λ (v : Bool). cond v (Plain b) (undoubled b t) ∷ symbols (drop (cond v 1 (undoubled_more b t)) t)) d
-
 alone : (b : ℕ) (t : Text) → is_brace b ≡ true → is_doubled b t ≡ false → symbols (b ∷ t) ≡ undoubled b t ∷ symbols (drop (undoubled_more b t) t)
 alone b t e d = brace_first b t e ∙ ap (λ (v : Bool). cond v (Plain b) (undoubled b t) ∷ symbols (drop (cond v 1 (undoubled_more b t)) t)) d
-
-pub loose_first : (b : ℕ) (t : Text) → is_brace b ≡ true → is_doubled b t ≡ false → (b == 123) ≡ false → symbols (b ∷ t) ≡ Loose (b ∷ []) ∷ symbols t
-loose_first b t e d n = alone b t e d ∙ ap (λ (v : Bool). cond v (opened t (first_brace t)) (Loose (b ∷ [])) ∷ symbols (drop (cond v (opened_more t (first_brace t)) 0) t)) n
 
 opening : (t : Text) (k : ℕ) → k ≡ first_brace t → is_doubled 123 t ≡ false → symbols (123 ∷ t) ≡ opened t k ∷ symbols (drop (opened_more t k) t)
 opening t k f d = alone 123 t refl d ∙ ap (λ (n : ℕ). opened t n ∷ symbols (drop (opened_more t n) t)) (sym f)

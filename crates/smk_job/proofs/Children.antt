@@ -52,9 +52,6 @@ same_children a = λ w e. (w, e, refl)
 pub same_after : (act : Recipe → List Tree → Acted) (rs : List Request) (a b : Option World) → AreFiles rs → Did act a b (λ w es. HasDone rs es) → SameChildren a b
 same_after act rs a b k did = λ w1 e. let d = did w1 e in (d.0, d.1, ap (λ (w : World). w.children) d.2.3 ∙ done_children rs d.0 d.2.0 k d.2.2)
 
-pub same_both : (a b c : Option World) → SameChildren a b → SameChildren b c → SameChildren a c
-same_both a b c first next = λ w2 e. let d = next w2 e in let f = first d.0 d.1 in (f.0, f.1, d.2 ∙ f.2)
-
 pub unused_after : (a b : Option World) (ps : List Path) → SameChildren a b → AreUnused a ps → AreUnused b ps
 unused_after a b ps same unused = λ w1 e.
     let d = same w1 e in subst (λ cs. All (λ p. any_overlap (p ∷ []) (used_now cs) ≡ false) ps) (sym d.2) (unused d.0 d.1)

@@ -1,9 +1,8 @@
 -- A job whose outputs are files is kept or abandoned by what stands at them.
-use Rattle.std.proofs.Common.{◌≡◌, ◌≢◌, ◌⊎◌, inl, inr, ℕ, Bool, true, false, ◌||◌, List, [], ◌∷◌, ◌++◌, map, length, refl, sym, ap, subst, ◌∙◌, Option, Some, None, Result, Ok, Err, filter, suc}
+use Rattle.std.proofs.Common.{◌≡◌, ◌≢◌, ◌⊎◌, inl, inr, ℕ, Bool, true, false, ◌||◌, List, [], ◌∷◌, ◌++◌, map, refl, sym, ap, subst, ◌∙◌, Option, Some, None, Result, Ok, Err, filter}
 use Rattle.std.specs.Prelude.{IsErr, if◌then◌else◌}
 use Rattle.std.specs.List.{list_any}
 use Rattle.smk_base.specs.Path.{is_at_or_under, overlaps}
-use Rattle.smk_base.specs.Place.{record_place}
 use Rattle.smk_base.specs.declared.tree.Tree.{Tree}
 use Rattle.smk_base.proofs.Under.{never_both, or_cases, overlaps_above_both}
 use Rattle.smk_world.specs.declared.event.Child.{Child}
@@ -25,7 +24,7 @@ use Rattle.smk_job.specs.declared.fault.CloseFault.TheVariants.{Device}
 use Rattle.smk_job.specs.declared.sight.Wrong.{Wrong}
 use Rattle.smk_job.specs.declared.sight.Wrong.TheVariants.{Absent, OtherKind, Unlisted}
 use Rattle.smk_job.specs.Jobs.{Underway, bare_bytes, bytes_with, IsReady, LetsClose, keep_requests, lose_requests, finish_requests, abandon_requests}
-use Rattle.smk_job.specs.Sights.{Nodes, AreKnown, AreSeen, IsSeenWrong, IsBlind, AreLookedAt, HasSeen, HasFinished, is_folder_out, nones, wrong_fault, path_at, HasLookedOver, HasSettled}
+use Rattle.smk_job.specs.Sights.{Nodes, AreKnown, AreSeen, IsSeenWrong, IsBlind, HasSeen, HasFinished, is_folder_out, nones, wrong_fault, path_at, HasLookedOver, HasSettled}
 use Rattle.smk_job.proofs.Outs.{paths_same}
 
 true_false : true ≡ false → ⊥
@@ -58,9 +57,6 @@ module _ (act : Recipe → List Tree → Acted) (outs : List Out) (places : JobP
   pub settled_err : (r : Result (Option (ℕ × Wrong)) Failed) (f : Failed) (a b : Option World) → IsErr r → Did act a b (Settled (Err f)) → Did act a b (Settled r)
   settled_err (Ok x) f a b h did = cc
   settled_err (Err e) f a b h did = did
-
-  pub settled_blind : (f : Failed) (a b : Option World) → Did act a b (λ w es. AreKnown w.nodes outs → IsBlind outs es) → Did act a b (Settled (Err f))
-  settled_blind f a b did = did_as act (λ w es. AreKnown w.nodes outs → IsBlind outs es) (Settled (Err f)) a b did (λ w es h known. inl (h known))
 
   pub settled_uncut : (f : Failed) (a b : Option World) → Did act a b (λ w es. AreKnown w.nodes outs → HasSeen (AreSeen w.nodes outs (nones outs)) (IsCutShort (keep_requests places records)) es) → Did act a b (Settled (Err f))
   settled_uncut f a b did =
@@ -145,18 +141,9 @@ bare_records j =
     ap (λ ps. bytes_with j ps (nones (outs_of j.recipe))) (sym (paths_same j.recipe.outputs)) ∙ bare_with j (outs_of j.recipe)
     ∙ ap (map (bare_bytes j.made j.recipe j.stamps)) (paths_same j.recipe.outputs)
 
-map_length : {A B : Type 0} (f : A → B) (xs : List A) → length (map f xs) ≡ length xs
-map_length f [] = refl
-map_length f (x ∷ xs) = ap suc (map_length f xs)
-
 module _ (j : Underway) (outs : List Out) (places : JobPlaces) (records : List (List ℕ)) (ready : IsReady j.recipe j.logs j.stamps j.made outs places records) where
   pub at_outputs : places.outputs ≡ map (λ (out : Out). out.path) outs
   at_outputs = ap (λ (x : JobPlaces). x.outputs) ready.at_places ∙ sym (paths_same j.recipe.outputs) ∙ ap (map (λ (out : Out). out.path)) (sym ready.outputs)
-
-  pub each_record : length records ≡ length places.records
-  each_record =
-      ap length ready.bytes ∙ map_length (bare_bytes j.made j.recipe j.stamps) (out_paths j.recipe) ∙ sym (map_length record_place (out_paths j.recipe))
-      ∙ ap (λ (x : JobPlaces). length x.records) (sym ready.at_places)
 
   kept_as : keep_requests places records ≡ finish_requests j (nones (outs_of j.recipe))
   kept_as =
@@ -237,10 +224,6 @@ module _ (j : Underway) (outs : List Out) (places : JobPlaces) (records : List (
     finished_badly r f e did = finished_by (Err f) (Err Device) (as_unclosed f) (subst (λ x. Did act a b (λ w es. AreKnown w.nodes outs → HasSettled outs places records x w.nodes es)) e did)
 
 -- ## Directories
-
-pub none_looked : (outs : List Out) → AreLookedAt outs []
-none_looked [] = refl
-none_looked (o ∷ outs) = inl refl
 
 filtered : (o : Out) (outs : List Out) (b : Bool) → (list_any is_folder_out outs ≡ true → map (λ (out : Out). out.path) (filter (λ (out : Out). is_folder_out out) outs) ≢ [])
     → (b || list_any is_folder_out outs) ≡ true → map (λ (out : Out). out.path) (if b then o ∷ filter (λ (out : Out). is_folder_out out) outs else filter (λ (out : Out). is_folder_out out) outs) ≢ []

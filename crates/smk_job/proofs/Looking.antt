@@ -2,7 +2,7 @@
 use Rattle.std.proofs.Common.{◌≡◌, ℕ, zero, suc, ◌+◌, ◌<◌, ◌≤◌, Bool, true, false, ◌||◌, List, [], ◌∷◌, ◌++◌, map, length, take, drop, get_or, inl, inr, refl, sym, ap, subst, ◌∙◌, arith, append_assoc, Option, Some, None, Result, Ok, Err, drop-cons}
 use Rattle.std.specs.Prelude.{IsErr}
 use Rattle.std.specs.List.{list_any}
-use Rattle.std.proofs.lemmas.List.{append-nil, take_more, take-append-drop, take_all}
+use Rattle.std.proofs.lemmas.List.{append-nil, take_more, take-append-drop}
 use Rattle.std.proofs.lemmas.List.Elements.{All-nil, All-cons}
 use Rattle.smk_base.proofs.Under.{at_itself}
 use Rattle.smk_base.specs.declared.tree.Tree.{Tree}
@@ -25,7 +25,7 @@ use Rattle.smk_world.specs.Runs.{Did}
 use Rattle.smk_world.specs.Requests.{AreQuiet}
 use Rattle.smk_world.specs.Requests.Request.{Look}
 use Rattle.smk_world.specs.Trees.{Path, is_folder_kind}
-use Rattle.smk_world.proofs.Runs.{did_nothing, did_more, run_append}
+use Rattle.smk_world.proofs.Runs.{did_more, run_append}
 use Rattle.smk_record.specs.declared.record.Member.{Member}
 use Rattle.smk_job.specs.declared.fault.CloseFault.{CloseFault}
 use Rattle.smk_job.specs.declared.sight.Wrong.{Wrong}
@@ -139,9 +139,6 @@ quiet_one e h = All-cons (λ (d : Event). failed d.call ≡ false) e [] h (All-n
 
 -- ## The loop
 
-pub looked_nothing : (act : Recipe → List Tree → Acted) (outs : List Out) (a : Option World) → Did act a a (AreFilesSoFar outs [])
-looked_nothing act outs a = did_nothing act (AreFilesSoFar outs []) a (λ w. (refl, λ known. refl))
-
 -- one more event keeps the nodes
 nodes_on : (w : World) (es : List Event) (p : Path) (r : Result Stat Failed) (left : List Change)
     → (run w es).nodes ≡ w.nodes → (run w (es ++ record { call = Looked p r; left = left } ∷ [])).nodes ≡ w.nodes
@@ -190,12 +187,6 @@ module _ (act : Recipe → List Tree → Acted) (outs : List Out) (i : ℕ) (out
       subst (λ (os : List Out). IsBlind os (es ++ event ∷ [])) (sym (around outs i out lt e))
       (blind_next w.nodes (take i outs) (nones (take i outs)) es out (drop (suc i) outs) (event ∷ []) (done.1 known) (ap Look at, tt)
       ([], event, refl, All-nil (λ (d : Event). failed d.call ≡ false), ap (λ x. failed (Looked p x)) is_err)))
-
--- all of them
-pub all_looked : (act : Recipe → List Tree → Acted) (outs : List Out) (i : ℕ) (a b : Option World) → length outs ≤ i → Did act a b (AreFilesSoFar outs (take i outs)) → Did act a b (λ w es. AreKnown w.nodes outs → HasLookedOver outs (Ok None) w.nodes es)
-all_looked act outs i a b le did = λ w1 e.
-    let d = did w1 e in
-    (d.0, d.1, (d.2.0, d.2.1, λ known. subst (λ (os : List Out). AreSeen d.0.nodes os (nones os) d.2.0) (take_all i outs le) (d.2.2.1 known), d.2.3))
 
 pub blind_as : (act : Recipe → List Tree → Acted) (outs : List Out) (r : Result (Option (ℕ × Wrong)) Failed) (a b : Option World) → IsErr r
     → Did act a b (λ w es. AreKnown w.nodes outs → IsBlind outs es) → Did act a b (λ w es. AreKnown w.nodes outs → HasLookedOver outs r w.nodes es)

@@ -114,10 +114,6 @@ abbrev pub is_start : Request → Bool
 is_start (Start recipe logs command) = true
 is_start r = false
 
-abbrev pub is_wait : Request → Bool
-is_wait Wait = true
-is_wait r = false
-
 known_if : (b : Bool) (s t : NodeState) → IsKnown s → IsKnown t → IsKnown (if b then t else s)
 known_if true s t h k = k
 known_if false s t h k = h

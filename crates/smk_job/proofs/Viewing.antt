@@ -261,13 +261,6 @@ view_short act a b k out p r s result at is short happened =
     did_as act (HasStat p r) (View-so k out result) a b (stat_did act a b p r happened)
     (λ w es h free. subst (λ (t : Result Sight WorkFault). HasView k w.nodes out t es) (sym (err_is result MemoryFault short)) (looked_first out p r w es at h, looked_quietly p r s w es is h))
 
-each_both : {A : Type 0} (P : A → Type 0) (xs ys : List A) → Each P xs → Each P ys → Each P (xs ++ ys)
-each_both P [] ys h k = k
-each_both P (x ∷ xs) ys h k = (h.0, each_both P xs ys h.1 k)
-
-looks_then : (out : Out) (e : Event) (es : List Event) → request e.call ≡ Look out.path → AreListed out es → AreLooks out (e ∷ es)
-looks_then out e es h all = (h, all)
-
 with_listing : (k : Core) (nodes : Nodes) (out : Out) (e : Event) (r : Result Sight WorkFault) (es : List Event) → request e.call ≡ Look out.path → failed e.call ≡ false → HasListed k nodes out r es → HasView k nodes out r (e ∷ es)
 with_listing k nodes out e (Ok sight) es at quiet (all, q, so) = ((at, all), All-cons (λ (d : Event). failed d.call ≡ false) e es quiet q, so)
 with_listing k nodes out e (Err FailedFault) es at quiet (all, (before, last, is, q, bad)) =

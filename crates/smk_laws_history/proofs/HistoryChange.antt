@@ -71,9 +71,6 @@ module _ (w w' : World) (touched : Path → Bool) (node : Path → Option Node) 
   pub other_before : (q : Path) → touched q ≡ false → node_in nodes q ≡ node_in nodes_before q
   other_before q e = sym (at_before q ∙ ap (λ b. if b then reading (w.nodes q) else node_in nodes q) e)
 
-  pub touched_before : (q : Path) → touched q ≡ true → node_in nodes_before q ≡ reading (w.nodes q)
-  touched_before q e = at_before q ∙ ap (λ b. if b then reading (w.nodes q) else node_in nodes q) e
-
   pub touched_after : (q : Path) → touched q ≡ true → node_in nodes q ≡ node q
   touched_after q e = firm_one (node_in nodes q) (subst (λ s. MayLeave s (node_in nodes q)) (replaces.at q e) (leaves.each q))
     where

@@ -27,9 +27,6 @@ no_stand Absent h = refl
 no_stand Unreadable h = refl
 no_stand (Held r) h = absurd (true≢false h)
 
-none_some : {A : Type 0} (x : A) → None ≡ Some x → ⊥
-none_some x h = cc
-
 module _ (i : Image) where
   pub unknown_core : (p : Path) → is_known i p ≡ false → core_at i p ≡ None
   unknown_core p h = ap (option_map core) (no_stand (i.kept p) (or_left (stands (i.kept p)) _ h))

@@ -56,10 +56,6 @@ none_some x h = cc
 some_is : {A : Type 0} (x y : A) → Some x ≡ Some y → x ≡ y
 some_is x y h = cc
 
-or_right : (a b : Bool) → (a || b) ≡ false → b ≡ false
-or_right true b h = absurd (true≢false h)
-or_right false b h = h
-
 or_left : (a b : Bool) → (a || b) ≡ false → a ≡ false
 or_left true b h = absurd (true≢false h)
 or_left false b h = refl

@@ -47,10 +47,6 @@ use Rattle.smk_laws_job.proofs.Beginning.{stepped}
 true_false : true ≡ false → ⊥
 true_false e = cc
 
-bool_cases : (b : Bool) → (b ≡ true) ⊎ (b ≡ false)
-bool_cases true = inl refl
-bool_cases false = inr refl
-
 -- ## No record names a file there by its time
 
 -- what is known of a path is in the store

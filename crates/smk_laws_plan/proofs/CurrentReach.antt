@@ -50,9 +50,6 @@ module _ (flow : Flow) (sources : Sources) (L : Listings) where
       height flow sources L (suc n) p ≡ 1 + fold max 0 (map (height flow sources L n) (wanted_paths flow L c))
   height_make n p c e = ap (height_by n) e
 
-  abbrev below_by : ℕ → Candidate → Path → List Refusal
-  below_by n c w = elim (is_path w) as (λ _. List Refusal) [ true ↦ refused flow sources L n w | false ↦ NoInput w c.rule w ∷ [] ]
-
   abbrev refused_by : ℕ → Path → Choice → List Refusal
   refused_by n p ch =
       refused_at flow L p ch

@@ -313,13 +313,6 @@ walk_begun nodes folder waiting reads told is =
           ];
     })
 
-pub walk_done : (nodes : Nodes) (folder : Path) (waiting : List Path) → waiting ≡ [] → AreWaiting nodes folder waiting → TellsGuard nodes folder false
-walk_done nodes folder waiting none a =
-    record {
-      some = λ e. absurd (never_both false e refl);
-      none = λ e h. (subst (λ (ps : List Path). IsUnderOne ps h.place) none (a.rest h.place h.inside h.guards)).1;
-    }
-
 pub walk_found : (nodes : Nodes) (folder : Path) → HasGuard nodes folder → TellsGuard nodes folder true
 walk_found nodes folder h = record { some = λ e. h; none = λ e. absurd (never_both true refl e) }
 
@@ -328,17 +321,8 @@ walk_found nodes folder h = record { some = λ e. h; none = λ e. absurd (never_
 pub noted_file : (nodes : Nodes) (place : Path) (folder : Bool) (waiting : List Path) (found : Bool) → folder ≡ false → found ≡ is_read_only (stat_of (reading (nodes place))) → IsNoted nodes place folder waiting waiting found
 noted_file nodes place folder waiting found plain h = subst (λ (b : Bool). IsNoted nodes place b waiting waiting found) (sym plain) (h, refl)
 
-pub noted_folder : (nodes : Nodes) (place : Path) (folder : Bool) (old new : List Path) → folder ≡ true → new ≡ old ++ place ∷ [] → IsNoted nodes place folder old new false
-noted_folder nodes place folder old new is pushed = subst (λ (b : Bool). IsNoted nodes place b old new false) (sym is) (refl, pushed)
-
-pub either_true : (found : Bool) (A B : Type 0) → found ≡ true → A → Either found A B
-either_true found A B is a = subst (λ (b : Bool). Either b A B) (sym is) a
-
 pub note_still : (a b : Nodes) (place : Path) (folder : Bool) (old new : List Path) (found : Bool) → a ≡ b → IsNoted a place folder old new found → IsNoted b place folder old new found
 note_still a b place folder old new found same h = subst (λ (n : Nodes). IsNoted n place folder old new found) same h
-
-pub guard_still : (a b : Nodes) (folder : Path) (found : Bool) → a ≡ b → TellsGuard a folder found → TellsGuard b folder found
-guard_still a b folder found same h = subst (λ (n : Nodes). TellsGuard n folder found) same h
 
 -- ## Folder by folder
 

@@ -276,12 +276,3 @@ pub duty_there : (duties : List Duty) (n : ℕ) (d : Duty) → n < length duties
 duty_there [] n d lt = absurd (omega (arith, lt))
 duty_there (y ∷ duties) zero d lt = refl
 duty_there (y ∷ duties) (suc n) d lt = duty_there duties n d (omega (arith, lt))
-
--- past the last one the number is that of all
-pub at_end : (n m : ℕ) → n ≤ m → ¬ (n < m) → n ≡ m
-at_end n m le not_less = go (order n m)
-  where
-    go : (n < m) ⊎ ((n ≡ m) ⊎ (m < n)) → n ≡ m
-    go (inl lt) = absurd (not_less lt)
-    go (inr (inl e)) = e
-    go (inr (inr lt)) = absurd (omega (arith, lt, le))

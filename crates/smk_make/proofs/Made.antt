@@ -1,7 +1,7 @@
 -- What a run did, with its last lines.
 use Rattle.std.proofs.Common.{◌≡◌, ◌⊎◌, ℕ, Bool, true, false, List, [], ◌++◌, inl, inr, refl, sym, ap, subst, ◌∙◌, Option, Some, None, Result, Ok, Err, is_ok, take, drop, length}
 use Rattle.std.specs.Prelude.{IsSome, IfErr}
-use Rattle.std.proofs.lemmas.List.{append-nil, append_assoc, take-append-drop}
+use Rattle.std.proofs.lemmas.List.{append_assoc, take-append-drop}
 use Rattle.smk_world.specs.World.{World}
 use Rattle.smk_world.specs.Calls.{HasPut}
 use Rattle.smk_world.specs.Trees.{Path, Act}
@@ -80,10 +80,6 @@ module _ (jobs : Jobs) (targets : List Path) (tally : Tally) (Current : List Boo
             (h.0, h.1, (take h.2.0 text, closing_as (fails f) after (take h.2.0 text) current (subst (λ b. IsReport b text (take h.2.0 text)) (sym (of_report_front f (kind f refl))) (drop h.2.0 text, sym (take-append-drop h.2.0 text))), h.2.3));
         stays = stays;
       }
-
-  -- there was no memory for them
-  pub closed_never : (o : Option Text) → HasWritten o o (is_output (fails fault.OutOfMemory) ≡ false) (IsClosing jobs targets tally Current (fails fault.OutOfMemory))
-  closed_never o = record { told = λ now e. (now, e, ([], inl (refl, refl), sym (append-nil now))); stays = λ h some. some }
 
   no_memory : (u : Unit {0}) → ◌≡◌ {A = Result (Unit {0}) Fault} (Ok u) (Err fault.OutOfMemory) → ⊥
   no_memory u e = cc
@@ -192,16 +188,9 @@ stays_by : (failed : Bool) (old new : Option World) (rose : Type 0) → (failed 
 stays_by true old new rose bad well = inr (bad refl)
 stays_by false old new rose bad well = inl (well refl)
 
-none_by : (failed : Bool) (running : List ℕ) (rose : Type 0) → (failed ≡ true → rose) → (failed ≡ false → running ≡ []) → (running ≡ []) ⊎ rose
-none_by true running rose bad well = inr (bad refl)
-none_by false running rose bad well = inl (well refl)
-
 module _ (act : Act) (flow : Flow) (cores : ℕ) (targets : List Path) (jobs : Jobs) (first : Option ℕ) (duties : List Duty) (r : Result (Unit {0}) Fault) (old new : Option World) (rose : Type 0) (running : List ℕ) (po pn : Option Text) where
   pub made_stays : HasMade act flow cores targets jobs first duties r old new rose running po pn → (IsSome old → IsSome new) ⊎ rose
   made_stays h = stays_by h.failed old new rose h.failed_rose h.stays
-
-  pub made_children : HasMade act flow cores targets jobs first duties r old new rose running po pn → (running ≡ []) ⊎ rose
-  made_children h = none_by h.failed running rose h.failed_rose h.none_runs
 
   pub goes_made : (states : List State) (stored : List Known) → first ≡ next_serial stored → AreFor states duties → AreWhatIsMeant jobs states stored duties → HasMade act flow cores targets jobs first duties r old new rose running po pn
       → GoesOn act flow cores targets jobs states stored r old new rose running po pn (Ok tt)

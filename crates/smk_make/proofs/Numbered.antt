@@ -1,14 +1,11 @@
 -- Which job makes a path, found from the end of the list; and the first serial.
-use native.Mathlib.Omega.{arith}
-use Rattle.std.proofs.Common.{◌≡◌, ◌<◌, ℕ, suc, Bool, true, false, List, [], ◌∷◌, ◌++◌, refl, ap, sym, ◌∙◌, Option, Some, None, bytes_eq, length}
-use Rattle.std.specs.Prelude.{if◌then◌else◌, nat_lt}
+use Rattle.std.proofs.Common.{◌≡◌, ◌<◌, ℕ, Bool, true, false, List, [], ◌∷◌, ◌++◌, refl, ap, sym, ◌∙◌, Option, Some, None, bytes_eq, length}
+use Rattle.std.specs.Prelude.{if◌then◌else◌}
 use Rattle.std.specs.List.{find}
 use Rattle.std.specs.Option.{option_and_then}
 use Rattle.smk_world.specs.Trees.{Path}
 use Rattle.smk_chain.specs.declared.jobs.Maker.{Maker}
-use Rattle.smk_store.specs.Stores.{Known}
-use Rattle.smk_store.specs.Serials.{greatest_serial, next_serial}
-use Rattle.smk_plan.specs.Duties.{IsOld, maker_in}
+use Rattle.smk_plan.specs.Duties.{maker_in}
 
 -- what the list has for the path, or else this
 abbrev pub found_in : List Maker → Option (Option ℕ) → Path → Option (Option ℕ)
@@ -37,21 +34,3 @@ found_step rest before last old new all q is put h =
 pub none_left : (ms : List Maker) → length ms ≡ 0 → ms ≡ []
 none_left [] h = refl
 none_left (m ∷ ms) h = cc
-
-some_same : (x y : ℕ) → Some x ≡ Some y → x ≡ y
-some_same x y e = cc
-
-not_none : (x : ℕ) → Some x ≡ None → ⊥
-not_none x e = cc
-
-positive : (top n : ℕ) → top ≡ suc n → 0 < top
-positive top n e = omega (arith, e)
-
--- the first serial that is drawn is above 0
-pub positive_next : (ks : List Known) (first : Option ℕ) → first ≡ next_serial ks → IsOld first 0
-positive_next ks None h = tt
-positive_next ks (Some top) h = go (nat_lt (greatest_serial ks) 18446744073709551615) h
-  where
-    go : (b : Bool) → Some top ≡ (if b then Some (suc (greatest_serial ks)) else None) → 0 < top
-    go true e = positive top (greatest_serial ks) (some_same top (suc (greatest_serial ks)) e)
-    go false e = absurd (not_none top e)

@@ -56,10 +56,6 @@ one_tested f x xs true = refl
 one_tested f x xs false = refl
 
 module _ {A B : Type 0} where
-  pub map_empty : (f : A → B) (xs : List A) → map f xs ≡ [] → xs ≡ []
-  map_empty f [] e = refl
-  map_empty f (x ∷ xs) e = absurd cc
-
   pub map_same : (f g : A → B) → ((x : A) → f x ≡ g x) → (xs : List A) → map f xs ≡ map g xs
   map_same f g h [] = refl
   map_same f g h (x ∷ xs) = ap (λ y. y ∷ map f xs) (h x) ∙ ap (λ ys. g x ∷ ys) (map_same f g h xs)

@@ -68,9 +68,6 @@ module _
   owner_here : IsOwner o s.top w j
   owner_here = owner_of o entry e s.top w j fits_here
 
-  pub phase_here : InPhase o w j
-  phase_here = each_in (InPhase o w) (js ++ j ∷ ks) j m.phases (in_here js ks j)
-
   fits_there : (k : OpenJob) → IsIn (js ++ ks) k ⊎ (k ≡ at_phase j phase) → Fits o entry (eased_by ts) s.top w' k
   fits_there k (inl i) =
       fits_change o laws naming entry H j e (eased_by ts) s.top w w' m.images.formed m.images.sources owner_here change k

@@ -15,7 +15,7 @@ use Rattle.smk_world.specs.declared.event.Event.{Event}
 use Rattle.smk_world.specs.Trees.{Path, is_path_text, outs_of, all_of, value_at, IsIn, Each}
 use Rattle.smk_store.specs.Images.{is_outside}
 use Rattle.smk_base.specs.Path.{overlaps, is_at_or_under}
-use Rattle.smk_world.specs.World.{folders_above, in_paths, World, IsFormed, protected, reading, firmly, reads_nothing, standing, is_within, after, run}
+use Rattle.smk_world.specs.World.{folders_above, in_paths, World, IsFormed, protected, reading, firmly, reads_nothing, standing, is_within, after}
 use Rattle.smk_protocol.specs.Protocol.{kept_at, Phase, Marking, Running, Ended, Firm, Recorded, Dropped, OpenJob, RunState, outputs, own, eased, begun_with, record_of, listed_of, keeps, is_running}
 use Rattle.smk_record.specs.Records.{stamped, serials}
 use Rattle.smk_store.specs.Trust.{Versions, Eased, none_eased}
@@ -24,7 +24,7 @@ use Rattle.smk_protocol.proofs.Views.{EachImage}
 use Rattle.smk_base.specs.Place.{mark_place, note_place}
 use Rattle.smk_store.specs.Soundness.{Outside}
 use Rattle.smk_world.specs.Calls.{any_overlap, are_apart}
-use Rattle.smk_protocol.proofs.Rows.{IsAtHand, now, Runs, IsApart}
+use Rattle.smk_protocol.proofs.Rows.{IsAtHand, now, IsApart}
 
 -- ---- what a world lets a call answer and leave, as far as the law needs it
 
@@ -237,25 +237,8 @@ module _ (o : Outside) where
     pub no_child : w.children ≡ []
     pub no_owned : (q : Path) → w.nodes q ≡ Owned → ⊥
 
-  -- each event is one that its world lets happen
-  abbrev pub Follows : World → List Event → Type 0
-  Follows w [] = Unit {0}
-  Follows w (e ∷ es) = Lets w e e.call × Follows (after w e) es
-
   abbrev pub at_entry : ℕ → RunState
   at_entry top = record { jobs = []; top = top; steady = false; faulted = false }
 
   abbrev pub SafeImages : World → World → Versions → Type 0
   SafeImages entry w H = EachImage o.read w (λ v. Sound o.act H v none_eased × ((p : Path) → source_at v p ≡ source_at (now o entry) p) × HasNoNested v)
-
-  -- From a sound entry, whatever of the protocol has come so far, every image is sound with the entry's sources; and where no child
-  -- is left the world is sound.
-  pub record IsSafe (entry : World) (H : Versions) : Type 0 where
-    pub throughout :
-        (top : ℕ) (es : List Event) (s : RunState) → IsTop entry top → Follows entry es → Runs o (at_entry top) entry es s → SafeImages entry (run entry es) H
-    pub at_exit :
-        (top : ℕ) (es : List Event) (s : RunState) → IsTop entry top → Follows entry es → Runs o (at_entry top) entry es s →
-        (run entry es).children ≡ [] → SoundWorld (run entry es) H
-
-abbrev pub ProtocolLaw : Type 0
-ProtocolLaw = (o : Outside) → (entry : World) (H : Versions) → SoundWorld o entry H → IsSafe o entry H

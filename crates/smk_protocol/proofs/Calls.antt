@@ -2,7 +2,7 @@
 use Rattle.smk_protocol.proofs.Owners.{owner_of}
 use Rattle.smk_protocol.proofs.Formed.{all_named}
 use Rattle.std.proofs.Common.{◌≡◌, ◌⊎◌, ℕ, Bool, true, false, List, [], ◌∷◌, ◌++◌, map, refl, sym, ap, subst, inl, inr, arith, ◌∙◌, Option, Some, None}
-use Rattle.std.specs.Prelude.{bytes_eq, nat_eq, IsTrue, is_some, if◌then◌else◌, ◌&&◌, ◌||◌, flat_map, Ok, Err, Result}
+use Rattle.std.specs.Prelude.{bytes_eq, nat_eq, IsTrue, is_some, if◌then◌else◌, ◌&&◌, ◌||◌, Ok, Err, Result}
 use Rattle.smk_world.specs.declared.event.Call.{Call}
 use Rattle.smk_world.specs.declared.event.Call.TheVariants.{Looked, ReadFile, ReadFolder, Written, Created, Removed, MadeParents, Settled, Protected, Started, Waited}
 use Rattle.smk_world.specs.declared.event.Change.{Change as LeftNode}
@@ -66,14 +66,6 @@ pub in_map : {A B : Type 0} (f : A → B) (xs : List A) (y : B) → IsIn (map f 
 in_map f [] y i = absurd i
 in_map f (x ∷ xs) y (inl e) = (x, inl refl, e)
 in_map f (x ∷ xs) y (inr i) = let k = in_map f xs y i in (k.0, inr k.1, k.2)
-
-flat_step : {A B : Type 0} (f : A → List B) (x : A) (xs : List A) (y : B) → IsIn (f x) y ⊎ IsIn (flat_map f xs) y → (IsIn (flat_map f xs) y → (z : A) × IsIn xs z × IsIn (f z) y) → (z : A) × IsIn (x ∷ xs) z × IsIn (f z) y
-flat_step f x xs y (inl k) ih = (x, inl refl, k)
-flat_step f x xs y (inr k) ih = let r = ih k in (r.0, inr r.1, r.2)
-
-pub in_flat : {A B : Type 0} (f : A → List B) (xs : List A) (y : B) → IsIn (flat_map f xs) y → (x : A) × IsIn xs x × IsIn (f x) y
-in_flat f [] y i = absurd i
-in_flat f (x ∷ xs) y i = flat_step f x xs y (in_either (f x) (flat_map f xs) y i) (in_flat f xs y)
 
 nat_same : (a b : ℕ) → nat_eq a b ≡ true → a ≡ b
 nat_same a b h = grind arith

@@ -2,7 +2,7 @@
 use Rattle.smk_protocol.proofs.Acted.{outs_are}
 use Rattle.smk_protocol.proofs.Owners.{numbered_in}
 use Rattle.std.proofs.Common.{◌≡◌, ◌⊎◌, ℕ, Bool, true, false, List, [], ◌∷◌, ◌++◌, map, refl, sym, ap, subst, inl, inr, arith, ◌∙◌, Option, Some}
-use Rattle.std.specs.Prelude.{nat_eq, not, filter, flat_map, if◌then◌else◌, Ok}
+use Rattle.std.specs.Prelude.{nat_eq, not, filter, if◌then◌else◌, Ok}
 use Rattle.smk_world.specs.declared.event.Besides.TheVariants.{Anything}
 use Rattle.smk_world.specs.declared.event.Call.{Call}
 use Rattle.smk_world.specs.declared.event.Call.TheVariants.{Started, Waited}
@@ -46,11 +46,6 @@ not_false b h = grind arith
 
 not_true : (b : Bool) → not b ≡ true → b ≡ false
 not_true b h = grind arith
-
-flat_in : {A B : Type 0} (f : A → List B) (xs : List A) (x : A) (y : B) → IsIn xs x → IsIn (f x) y → IsIn (flat_map f xs) y
-flat_in f [] x y i k = absurd i
-flat_in f (z ∷ xs) x y (inl e) k = in_left (f z) (flat_map f xs) y (subst (λ a. IsIn (f a) y) e k)
-flat_in f (z ∷ xs) x y (inr i) k = in_right (f z) (flat_map f xs) y (flat_in f xs x y i k)
 
 module _
     (o : Outside) (texts : Texts o.read) (entry : World) (H : Versions) (s : RunState) (js ks : List OpenJob) (j : OpenJob) (w : World)

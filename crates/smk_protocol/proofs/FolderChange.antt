@@ -63,9 +63,6 @@ with_folder_reads Owned h = refl
 with_folder_reads (Known (Some m) besides) h = refl
 with_folder_reads (Known None besides) h = clash true refl h
 
-and_first : (a b c : Bool) → (a && b && c) ≡ true → a ≡ true
-and_first a b c h = grind arith
-
 and_second : (a b c : Bool) → (a && b && c) ≡ true → b ≡ true
 and_second a b c h = grind arith
 

@@ -14,13 +14,13 @@ use Rattle.smk_base.specs.Place.{lock_place}
 use Rattle.smk_store.specs.Soundness.{Outside}
 use Rattle.smk_protocol.specs.Protocol.{OpenJob, Marking, RunState, own, mark_places, runs, is_running, as_ok, IsLook, IsLock, IsFirst}
 use Rattle.smk_protocol.proofs.Rows.{IsFree, Mark, MakeFolders, Closes, AllUnmarked, Besides, Look, Lock, Settle, Spend, Protect, Step, Aside, Steady, Begin, Go, Close, Fail, FailWait}
-use Rattle.smk_protocol.proofs.Between.{Midway, Lets, ProtocolLaw}
+use Rattle.smk_protocol.proofs.Between.{Midway, Lets}
 use Rattle.smk_protocol.proofs.Aside.{idle, look_keeps, settle_keeps, lock_keeps, still}
 use Rattle.smk_protocol.proofs.Basics.{each_in, each_of, in_filter, clash}
 use Rattle.smk_protocol.proofs.Calls.{event, Allows}
 use Rattle.smk_protocol.proofs.Finish.{every_row, close, fail, allows_of, allows_failed, failed_quiet, not_running}
 use Rattle.smk_protocol.proofs.Jobs.{at_phase}
-use Rattle.smk_protocol.proofs.Law.{Keeps, law_from_step}
+use Rattle.smk_protocol.proofs.Law.{Keeps}
 use Rattle.smk_protocol.proofs.Opening.{opened}
 use Rattle.smk_protocol.proofs.Steadying.{steadied}
 use Rattle.smk_protocol.proofs.Spending.{spend_keeps}
@@ -272,7 +272,3 @@ texts_of laws read =
       formed = formed_after;
       grown = grown;
     }
-
--- The law, from facts on texts alone: from a sound entry every crash image is sound after every prefix of a run, with the entry's sources.
-pub protocol_law : TextLaws → ProtocolLaw
-protocol_law laws o entry H sound = law_from_step o entry H (keeps o (texts_of laws o.read) entry H) sound

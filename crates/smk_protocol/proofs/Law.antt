@@ -1,6 +1,6 @@
 -- The law from the lemma that one event keeps what holds between events.
 use Rattle.smk_protocol.proofs.Formed.{all_named}
-use Rattle.std.proofs.Common.{◌≡◌, ◌⊎◌, ℕ, true, false, List, [], ◌∷◌, refl, sym, subst, inl, inr, arith, ◌∙◌}
+use Rattle.std.proofs.Common.{◌≡◌, ◌⊎◌, ℕ, true, false, [], ◌∷◌, refl, sym, subst, inl, inr, arith, ◌∙◌}
 use Rattle.smk_world.specs.declared.event.NodeState.{NodeState}
 use Rattle.smk_world.specs.declared.event.NodeState.TheVariants.{Owned, Known}
 use Rattle.smk_record.specs.declared.record.Record.{Record}
@@ -9,11 +9,11 @@ use Rattle.smk_world.specs.Trees.{Path, Act, IsIn, Each}
 use Rattle.smk_store.specs.Trust.{Versions, Eased, none_eased}
 use Rattle.smk_protocol.proofs.View.{View, Sound, source_at}
 use Rattle.smk_protocol.proofs.Views.{reads, Leaves, view_of}
-use Rattle.smk_world.specs.World.{World, MayLeave, reading, after, run}
+use Rattle.smk_world.specs.World.{World, MayLeave, reading, after}
 use Rattle.smk_store.specs.Soundness.{Outside}
 use Rattle.smk_protocol.specs.Protocol.{RunState, Phase, Marking, Marked, Running, Ended, Firm, Recorded, Dropping, Dropped, is_running, eased}
-use Rattle.smk_protocol.proofs.Rows.{now, Step, Runs, Done, Next}
-use Rattle.smk_protocol.proofs.Between.{HasNoNested, IsOfJob, InPhase, Lets, Midway, SoundWorld, Follows, IsTop, at_entry, SafeImages, IsSafe}
+use Rattle.smk_protocol.proofs.Rows.{now, Step}
+use Rattle.smk_protocol.proofs.Between.{HasNoNested, IsOfJob, InPhase, Lets, Midway, SoundWorld, IsTop, at_entry, SafeImages}
 use Rattle.smk_protocol.proofs.Moves.{sound_on}
 use Rattle.smk_protocol.proofs.Basics.{each_in}
 
@@ -71,13 +71,6 @@ module _ (o : Outside) (entry : World) (H : Versions) where
         owned = λ q h. absurd (sound.no_owned q h);
       }
 
-  along :
-      Keeps o entry H → (s end : RunState) (w : World) (es : List Event) →
-      Midway o entry H s w → Follows o w es → Runs o s w es end → Midway o entry H end (run w es)
-  along keeps s end w [] m follows (Done _ _) = m
-  along keeps s end w (e ∷ es) m follows (Next _ mid _ _ _ _ step runs) =
-      along keeps mid end (after w e) es (keeps s mid w e m follows.0 step) follows.1 runs
-
   pub safe_images : (s : RunState) (w : World) → Midway o entry H s w → SafeImages o entry w H
   safe_images s w m names f rising complete covered leaves = (
     sound_less o.act H (view_of o.read names f) (eased s) none_eased (none_less (eased s)) (m.images.sound names f rising complete covered leaves),
@@ -115,13 +108,3 @@ module _ (o : Outside) (entry : World) (H : Versions) where
           runs Recorded e r in_phase = no_truth r
           runs Dropping e r in_phase = no_truth r
           runs Dropped e r in_phase = no_truth r
-
-  -- the law, from one event
-  pub law_from_step : Keeps o entry H → SoundWorld o entry H → IsSafe o entry H
-  law_from_step keeps sound =
-      record {
-        throughout = λ top es s is follows runs.
-            safe_images s (run entry es) (along keeps (at_entry o top) s entry es (entry_midway top is sound) follows runs);
-        at_exit = λ top es s is follows runs alone.
-            at_end s (run entry es) (along keeps (at_entry o top) s entry es (entry_midway top is sound) follows runs) alone;
-      }

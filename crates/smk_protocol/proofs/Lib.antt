@@ -61,7 +61,6 @@ pub mod Removing
 pub mod Rows
 pub mod Settled
 pub mod Settling
-pub mod Shrink
 pub mod Shrunk
 pub mod Sorted
 pub mod SoundViews

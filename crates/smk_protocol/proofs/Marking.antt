@@ -37,9 +37,6 @@ none_stays (Known (Some n) besides) h = absurd (no h)
     no : false ≡ true → ⊥
     no h = grind arith
 
-some_is_some : {A : Type 0} (x : A) (o : Option A) → o ≡ Some x → is_some o ≡ true
-some_is_some x o h = rw h refl
-
 pub reads_stay : (s : NodeState) → MayLeave s (reading s)
 reads_stay Owned = tt
 reads_stay (Known n besides) = inl refl

@@ -37,9 +37,6 @@ has_by_record read q (Some n) k = refl
 pub some_by : {A : Type 0} (x : Option A) (a : A) → x ≡ Some a → IsSome x
 some_by x a h = rw h refl
 
-pub or_true : (a b : Bool) → a ≡ true → (a || b) ≡ true
-or_true a b h = grind arith
-
 pub above_top : {A : Type 0} (n top : ℕ) → n ≤ top → n ≡ suc top → A
 above_top n top h k = absurd (no n top h k)
   where

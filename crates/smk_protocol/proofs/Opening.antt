@@ -14,7 +14,7 @@ use Rattle.smk_protocol.proofs.Views.{Nodes, EachImage, reads, view_of, place_no
 use Rattle.smk_base.specs.Place.{mark_place, record_place}
 use Rattle.smk_store.specs.Soundness.{Outside}
 use Rattle.smk_protocol.proofs.Rows.{IsApart, now, IsAtHand, IsKept, HasSerial, MayBegin}
-use Rattle.smk_protocol.proofs.Between.{IsKept as KeptNow, Midway, Fits, InPhase, Images, AreApart, IsOfJob, HasSources, HasNoNew, HasNoClash, HasNoRecordClash, HasKnown, IsBounded, IsUnnamed, IsUnused}
+use Rattle.smk_protocol.proofs.Between.{IsKept as KeptNow, Midway, Fits, InPhase, AreApart, IsOfJob, HasSources, HasNoNew, HasNoClash, HasNoRecordClash, HasKnown, IsBounded, IsUnnamed, IsUnused}
 use Rattle.smk_protocol.proofs.Apart.{free_of}
 use Rattle.smk_protocol.proofs.Basics.{each_in, each_of, each_on, any_by, clash, none_some, some_same}
 use Rattle.smk_protocol.proofs.Easing.{ease_sound}
@@ -41,9 +41,6 @@ module _
 
   here : IsImage w w.names (reads w)
   here = now_image w m.images.formed
-
-  sound_here : Images o entry H e s.top s.steady w
-  sound_here = m.images
 
   -- ---- the image to look at
 

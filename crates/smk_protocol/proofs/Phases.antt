@@ -80,9 +80,6 @@ each_with P Q xs on h = each_of Q xs (λ x i. on x i (each_in P xs x h i))
 module _
     (o : Outside) (laws : OverlapLaws) (naming : NamesLaws o.read) (entry : World) (H : Versions) (j k : OpenJob) (e e' : Eased) (w w' : World) (formed : IsFormed w)
     (change : Change o entry H j e e' w w') (other : IsOther j k) where
-  firm_on : (place : Path → Path) → (p : Path) → w'.nodes (place p) ≡ w.nodes (place p) → IsFirmly o w (place p) → IsFirmly o w' (place p)
-  firm_on place p same h = (h.0, same ∙ h.1)
-
   kept_on : ((p : Path) (r : Record) → kept_at k.kept p ≡ Some r → IsIn (outputs k) p) → IsKept o (now o w) k → IsKept o (now o w') k
   kept_on own_kept kept p r at = (change.differs_now.records p (not_output o laws j k other p (in_left (outputs k) k.logs p (own_kept p r at)))).at ∙ kept p r at
 

@@ -14,8 +14,6 @@ use Rattle.smk_protocol.proofs.Records.{RecordLaws}
 use Rattle.smk_base.proofs.Places.{same_place, place_itself}
 use Rattle.smk_protocol.proofs.TextFolders.{folders_are, folder_above, any_among}
 use Rattle.smk_base.proofs.Under.{or_cases, rest_under, never_under_itself, at_itself, at_when_under, at_or_under_further, overlaps_at, overlaps_over, overlaps_above_both, false_of_not}
-use Rattle.smk_protocol.proofs.Between.{ProtocolLaw}
-use Rattle.smk_protocol.proofs.Keeping.{protocol_law}
 use Rattle.smk_protocol.proofs.Texts.{NoteLaws, LockLaws, AboveLaws, OverlapLaws, FarLaws, DropLaws, TextLaws}
 use Rattle.smk_base.proofs.Apart as apart
 
@@ -188,8 +186,3 @@ text_laws =
       parts_of = drop_laws;
       folder_in = λ p q h. folders_are p q ∙ h;
     }
-
--- From a sound entry, after every prefix of a run, every image that a crash may leave is sound and has the sources of the entry; and
--- where no child is left the world is sound. All of it is said of views of images.
-pub law_of_views : ProtocolLaw
-law_of_views = protocol_law text_laws

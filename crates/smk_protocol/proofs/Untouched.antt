@@ -51,9 +51,6 @@ same_by w w' q h = record { reads_same = ap reading h; firm_same = λ n k. h ∙
 and_right_false : (a b : Bool) → b ≡ false → (a && b) ≡ false
 and_right_false a b h = grind arith
 
-and_left_false : (a b : Bool) → a ≡ false → (a && b) ≡ false
-and_left_false a b h = grind arith
-
 pub untouched_same : (w : World) (q : Path) (c : Call) (left : List LeftNode) → Untouched w q c → Same w (after w (event c left)) q
 untouched_same w q (Written p bytes r) left h = same_by w (after w (event (Written p bytes r) left)) q (rw h refl)
 untouched_same w q (Created p (Ok made)) left h = same_by w (after w (event (Created p (Ok made)) left)) q (rw (and_right_false made (bytes_eq q p) h) refl)

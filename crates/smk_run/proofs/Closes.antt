@@ -1,5 +1,5 @@
 -- From the calls that close a job to how it was closed.
-use Rattle.std.proofs.Common.{◌≡◌, ◌<◌, ℕ, zero, suc, true, false, List, [], ◌∷◌, ◌++◌, refl, ap, sym, subst, inl, inr, Option, Result, Ok, Err, is_ok, arith}
+use Rattle.std.proofs.Common.{◌≡◌, ◌<◌, ℕ, zero, suc, List, [], ◌∷◌, ◌++◌, refl, ap, sym, subst, inl, inr, Option, Result, Ok, Err, arith}
 use Rattle.std.specs.Prelude.{Contains}
 use Rattle.smk_world.specs.declared.event.Call.{Call}
 use Rattle.smk_world.specs.declared.event.Call.TheVariants.{Waited}
@@ -12,17 +12,15 @@ use Rattle.smk_world.specs.declared.event.WorkFault.TheVariants.{Failed as Faile
 use Rattle.smk_world.specs.World.{World, run}
 use Rattle.smk_world.specs.Calls.{Happened, Lets}
 use Rattle.smk_world.specs.Runs.{Did}
-use Rattle.smk_world.specs.Requests.{Carries}
 use Rattle.smk_world.specs.Trees.{Act}
 use Rattle.smk_world.proofs.Runs.{did_both}
 use Rattle.smk_store.proofs.Carried.{did_as}
 use Rattle.smk_job.specs.declared.fault.CloseFault.{CloseFault}
 use Rattle.smk_job.specs.declared.fault.CloseFault.TheVariants as fault
-use Rattle.smk_job.specs.Jobs.{Underway, abandon_requests}
-use Rattle.smk_job.specs.Sights.{HasFinished, failed_last}
+use Rattle.smk_job.specs.Jobs.{Underway}
+use Rattle.smk_job.specs.Sights.{HasFinished}
 use Rattle.smk_run.specs.declared.ending.Ending.{Ending}
-use Rattle.smk_run.specs.declared.ending.Ending.TheVariants.{Status}
-use Rattle.smk_run.specs.Closings.{wait_event, HasWaited, HasSettled, HasClosed, ending_of, device_failed}
+use Rattle.smk_run.specs.Closings.{wait_event, HasWaited, HasSettled, HasClosed, ending_of}
 
 -- ## One call
 
@@ -32,14 +30,6 @@ did_first act P a b call now more = λ w1 e.
     let h = now.told w1 e in (h.0, h.1, (record { call = call; left = h.2.0 } ∷ [], (h.2.1, tt), more h.0 h.2.0 h.2.1, h.2.2))
 
 -- ## After the wait
-
-pub failed_same : (closed : Result (Unit {0}) CloseFault) → device_failed (ending_of closed) ≡ failed_last closed
-failed_same (Ok u) = refl
-failed_same (Err (fault.NoOutput p)) = refl
-failed_same (Err (fault.WrongKind p)) = refl
-failed_same (Err (fault.BadMember p)) = refl
-failed_same (Err fault.Device) = refl
-failed_same (Err fault.OutOfMemory) = refl
 
 settled_zero : (j : Underway) (closed : Result (Unit {0}) CloseFault) (status : ℕ) (w : World) (es : List Event) → status ≡ 0 → HasFinished j closed w es → HasSettled j (ending_of closed) status w es
 settled_zero j (Ok u) status w es nought h = (nought, h)
@@ -55,19 +45,6 @@ pub finished : (act : Act) (j : Underway) (closed : Result (Unit {0}) CloseFault
 finished act j closed r status a b nought is h =
     subst (λ x. Did act a b (λ w es. HasSettled j x status w es)) (sym is)
     (did_as act (λ w es. HasFinished j closed w es) (λ w es. HasSettled j (ending_of closed) status w es) a b h (λ w es f. settled_zero j closed status w es nought f))
-
--- the job was abandoned
-pub abandoned : (act : Act) (j : Underway) (r : Result (Unit {0}) Failed) (status : ℕ) (a b : Option World)
-    → (status ≡ 0 → ⊥) → is_ok r ≡ true → Did act a b (λ w es. Carries (abandon_requests j) (is_ok r) es) → Did act a b (λ w es. HasSettled j (Ok (Status status)) status w es)
-abandoned act j r status a b never well h =
-    did_as act (λ w es. Carries (abandon_requests j) (is_ok r) es) (λ w es. HasSettled j (Ok (Status status)) status w es) a b h
-    (λ w es f. (refl, never, subst (λ ok. Carries (abandon_requests j) ok es) well f))
-
-pub abandoned_badly : (act : Act) (j : Underway) (r : Result (Unit {0}) Failed) (status : ℕ) (a b : Option World)
-    → (status ≡ 0 → ⊥) → is_ok r ≡ false → Did act a b (λ w es. Carries (abandon_requests j) (is_ok r) es) → Did act a b (λ w es. HasSettled j (Err FailedFault) status w es)
-abandoned_badly act j r status a b never ill h =
-    did_as act (λ w es. Carries (abandon_requests j) (is_ok r) es) (λ w es. HasSettled j (Err FailedFault) status w es) a b h
-    (λ w es f. inr (never, subst (λ ok. Carries (abandon_requests j) ok es) ill f))
 
 -- ## The wait
 

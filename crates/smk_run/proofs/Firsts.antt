@@ -1,5 +1,5 @@
 -- The first of lists that follow one another, and the names of jobs.
-use Rattle.std.proofs.Common.{◌≡◌, List, [], ◌∷◌, ◌++◌, refl, ap, ◌∙◌, Some, None}
+use Rattle.std.proofs.Common.{◌≡◌, [], ◌∷◌, ◌++◌, ap, ◌∙◌, Some}
 use Rattle.smk_world.specs.World.{out_paths}
 use Rattle.smk_world.specs.Trees.{Path, first}
 use Rattle.smk_pattern.specs.Reading.{or_empty}
@@ -7,18 +7,6 @@ use Rattle.smk_flow.specs.declared.job.Job.{Job}
 use Rattle.smk_flow.specs.Flows.{Flow}
 use Rattle.smk_report.specs.Lines.{Text, Named}
 use Rattle.smk_run.specs.Reports.{rule_name, named}
-
-pub first_later : (xs ys : List Path) → first xs ≡ None → first (xs ++ ys) ≡ first ys
-first_later [] ys h = refl
-first_later (x ∷ xs) ys h = cc
-
-pub first_here : (xs ys : List Path) (p : Path) → first xs ≡ Some p → first (xs ++ ys) ≡ Some p
-first_here [] ys p h = cc
-first_here (x ∷ xs) ys p h = h
-
-pub first_none : (xs : List Path) → first xs ≡ None → xs ≡ []
-first_none [] h = refl
-first_none (x ∷ xs) h = cc
 
 abbrev with_rule : Text → Path → Named
 with_rule r p = record { rule = r; path = p }

@@ -61,9 +61,6 @@ did_given_both act A B C a b c less fewer h k =
     did_both act (AreGiven act A) (AreGiven act B) (AreGiven act C) a b c h k
     (λ w es fs follows f follows2 g. given_append act C w es fs (given_weaker act A C w es less f) (given_weaker act B C (run w es) fs fewer g))
 
-pub did_given_weaker : (act : Act) (A B : Type 0) (a b : Option World) → (A → B) → Did act a b (AreGiven act A) → Did act a b (AreGiven act B)
-did_given_weaker act A B a b less h = did_as act (AreGiven act A) (AreGiven act B) a b h (λ w es f. given_weaker act A B w es less f)
-
 -- ## Calls that are no wait
 
 -- it is no wait

@@ -12,14 +12,12 @@ use Rattle.smk_world.specs.Runs.{Did}
 use Rattle.smk_world.specs.Requests.{Request, request, HasDone}
 use Rattle.smk_world.specs.Requests.Request.{Look}
 use Rattle.smk_world.specs.Trees.{Path, Act}
-use Rattle.smk_world.proofs.Runs.{did_both, did_nothing}
-use Rattle.smk_store.proofs.Carried.{did_as}
+use Rattle.smk_world.proofs.Runs.{did_both}
 use Rattle.smk_record.specs.declared.record.Stamp.{Stamp}
-use Rattle.smk_record.specs.declared.record.Stamp.TheVariants.{Time, Made}
 use Rattle.smk_job.specs.Jobs.{IsPart}
 use Rattle.smk_run.specs.declared.stop.Stop.{Stop}
 use Rattle.smk_run.specs.declared.stop.Stop.TheVariants.{TooLong, Gone, Device, Output, OutOfMemory}
-use Rattle.smk_run.specs.Stamps.{Serials, look_at, looks, IsStamped, AreStamped, is_file, EndsGone, HasStamped, HasTimed, HasStamp, HasPushed, IsTimeIn}
+use Rattle.smk_run.specs.Stamps.{Serials, look_at, looks, IsStamped, AreStamped, is_file, EndsGone, HasStamped, HasTimed, HasPushed, IsTimeIn}
 use Rattle.smk_run.proofs.Closes.{did_first}
 
 -- ## Parts of looks
@@ -126,62 +124,9 @@ timed_badly act a b p q e same now =
     did_first act (λ w es. HasTimed p (Err Device) es) a b (Looked p (Err e)) (subst (λ x. Happened act a b (Looked x (Err e))) same now)
     (λ w left lets. (refl, inl (refl, refl)))
 
-pub timed_nothing : (act : Act) (a : Option World) (p : Path) → Did act a a (λ w es. HasTimed p (Err OutOfMemory) es)
-timed_nothing act a p = did_nothing act (λ w es. HasTimed p (Err OutOfMemory) es) a (λ w. tt)
-
 -- ## One stamp
 
-pub stamp_made : (act : Act) (a : Option World) (m : Option ℕ) (p : Path) (serial : ℕ) → m ≡ Some serial → Did act a a (λ w es. HasStamp m p (Ok (Made serial)) es)
-stamp_made act a m p serial is =
-    subst (λ x. Did act a a (λ w es. HasStamp x p (Ok (Made serial)) es)) (sym is)
-    (did_nothing act (λ w es. HasStamp (Some serial) p (Ok (Made serial)) es) a (λ w. (refl, refl)))
-
--- a source's time as its stamp
-abbrev pub as_stamp : Result ℕ Stop → Result Stamp Stop
-as_stamp (Ok time) = Ok (Time time)
-as_stamp (Err stop) = Err stop
-
-timed_stamp : (p : Path) (r : Result ℕ Stop) (es : List Event) → HasTimed p r es → HasStamp None p (as_stamp r) es
-timed_stamp p (Ok time) es h = h
-timed_stamp p (Err (TooLong n)) es h = h
-timed_stamp p (Err (Gone q)) es h = h
-timed_stamp p (Err Device) es h = h
-timed_stamp p (Err Output) es h = h
-timed_stamp p (Err OutOfMemory) es h = h
-
-pub stamp_timed : (act : Act) (a b : Option World) (m : Option ℕ) (p : Path) (r k : Result ℕ Stop) → m ≡ None → r ≡ k
-    → Did act a b (λ w es. HasTimed p r es) → Did act a b (λ w es. HasStamp m p (as_stamp k) es)
-stamp_timed act a b m p r k source is h =
-    subst (λ x. Did act a b (λ w es. HasStamp x p (as_stamp k) es)) (sym source)
-    (did_as act (λ w es. HasTimed p k es) (λ w es. HasStamp None p (as_stamp k) es) a b (subst (λ x. Did act a b (λ w es. HasTimed p x es)) is h)
-    (λ w es f. timed_stamp p k es f))
-
 -- ## One stamp more
-
-pub pushed_well : (act : Act) (a b : Option World) (m : Option ℕ) (p : Path) (old new : List Stamp) (stamp : Stamp) (r : Result Stamp Stop) → r ≡ Ok stamp → new ≡ old ++ stamp ∷ []
-    → Did act a b (λ w es. HasStamp m p r es) → Did act a b (λ w es. HasPushed m p old new (Ok tt) es)
-pushed_well act a b m p old new stamp r is grown h =
-    did_as act (λ w es. HasStamp m p (Ok stamp) es) (λ w es. HasPushed m p old new (Ok tt) es) a b (subst (λ x. Did act a b (λ w es. HasStamp m p x es)) is h)
-    (λ w es f. (stamp, grown, f))
-
-pub pushed_not : (act : Act) (a b : Option World) (m : Option ℕ) (p : Path) (old new : List Stamp) (stamp : Stamp) (r : Result Stamp Stop) → r ≡ Ok stamp
-    → Did act a b (λ w es. HasStamp m p r es) → Did act a b (λ w es. HasPushed m p old new (Err OutOfMemory) es)
-pushed_not act a b m p old new stamp r is h =
-    did_as act (λ w es. HasStamp m p (Ok stamp) es) (λ w es. HasPushed m p old new (Err OutOfMemory) es) a b (subst (λ x. Did act a b (λ w es. HasStamp m p x es)) is h)
-    (λ w es f. done_part (look_at m p) es (stamped_done m p stamp es f))
-
-unpushed : (m : Option ℕ) (p : Path) (old new : List Stamp) (stop : Stop) (es : List Event) → HasStamp m p (Err stop) es → HasPushed m p old new (Err stop) es
-unpushed m p old new (TooLong n) es h = h
-unpushed m p old new (Gone q) es h = h
-unpushed m p old new Device es h = h
-unpushed m p old new Output es h = h
-unpushed m p old new OutOfMemory es h = h
-
-pub pushed_badly : (act : Act) (a b : Option World) (m : Option ℕ) (p : Path) (old new : List Stamp) (stop : Stop) (r : Result Stamp Stop) → r ≡ Err stop
-    → Did act a b (λ w es. HasStamp m p r es) → Did act a b (λ w es. HasPushed m p old new (Err stop) es)
-pushed_badly act a b m p old new stop r is h =
-    did_as act (λ w es. HasStamp m p (Err stop) es) (λ w es. HasPushed m p old new (Err stop) es) a b (subst (λ x. Did act a b (λ w es. HasStamp m p x es)) is h)
-    (λ w es f. unpushed m p old new stop es f)
 
 -- ## All stamps
 

@@ -1,5 +1,5 @@
 -- Turns that are ready are a run of the protocol.
-use Rattle.std.proofs.Common.{◌≡◌, inl, inr, ℕ, true, false, List, [], ◌∷◌, ◌++◌, refl, ap, sym, subst, ◌∙◌, append_assoc, IsTrue}
+use Rattle.std.proofs.Common.{◌≡◌, inl, inr, ℕ, true, List, [], ◌∷◌, ◌++◌, refl, ap, sym, subst, ◌∙◌, append_assoc, IsTrue}
 use Rattle.std.proofs.lemmas.List.{append-nil}
 use Rattle.smk_world.specs.declared.event.Event.{Event}
 use Rattle.smk_world.specs.declared.event.Child.{Child}
@@ -30,9 +30,6 @@ use Rattle.smk_safe.proofs.Joining.{runs_then, throughout_first, throughout_late
 use Rattle.smk_safe.proofs.Stamped.{turn_told}
 use Rattle.smk_safe.proofs.Turning.{turn_is_run}
 use Rattle.smk_safe.proofs.Coming.{IsMidRun, kept_by_draw, may_come}
-
-true_false : true ≡ false → ⊥
-true_false e = cc
 
 -- ## Lists of turns
 

@@ -27,9 +27,6 @@ use Rattle.smk_laws_plan.proofs.CurrentLists.{find_in}
 use Rattle.smk_laws_plan.proofs.CurrentMeaning.{source_file, source_reads}
 use Rattle.smk_laws_history.proofs.HistoryPlaces.{members_same}
 
-true_false : true ≡ false → ⊥
-true_false e = cc
-
 -- ## One path
 
 -- of a world w and a later one v

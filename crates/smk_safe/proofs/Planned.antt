@@ -39,7 +39,7 @@ use Rattle.smk_trigger.specs.declared.reason.Reason.{Reason}
 use Rattle.smk_trigger.specs.declared.reason.Reason.TheVariants.{Upstream}
 use Rattle.smk_trigger.specs.declared.reason.State.{State}
 use Rattle.smk_trigger.specs.declared.reason.State.TheVariants.{Open, Dirty, Restore, Clean}
-use Rattle.smk_trigger.specs.JobStates.{is_open, is_dirty, is_restore, is_to_run}
+use Rattle.smk_trigger.specs.JobStates.{is_open, is_dirty, is_to_run}
 use Rattle.smk_trigger.specs.Reasons.{once, own_reasons}
 use Rattle.smk_pick.specs.declared.settings.Settings.{Settings}
 use Rattle.smk_plan.specs.States.{Plan, IsPlan, awaits, directory_over, is_at_hand, is_ready, none_or_one, nothing_done, makes, maker_of, made_by, staged, test_some, reasons, is_open_now, is_to_restore, is_read_now, is_wanted_back, is_input, awaited, is_restored, state_of, by_reasons, gathers_from}
@@ -97,12 +97,6 @@ run_or_rest Open h = refl
 run_or_rest (Dirty rs) h = h
 run_or_rest Restore h = refl
 run_or_rest Clean h = refl
-
-pub restored_to_run : (s : State) → is_to_run s ≡ true → is_dirty s ≡ false → is_restore s ≡ true
-restored_to_run Open h k = h
-restored_to_run (Dirty rs) h k = absurd (true_false k)
-restored_to_run Restore h k = refl
-restored_to_run Clean h k = h
 
 pub none_now : (js : List Job) → list_any (λ (j : Job). false) js ≡ false
 none_now [] = refl

@@ -1,5 +1,5 @@
 -- Kinds of faults, by their statuses.
-use Rattle.std.proofs.Common.{◌≡◌, ◌==◌, not, true, false, refl, sym, Result, Ok, Err}
+use Rattle.std.proofs.Common.{◌≡◌, ◌==◌, not, refl, sym, Result, Ok, Err}
 use Rattle.smk_report.specs.declared.fault.Fault.{Fault}
 use Rattle.smk_report.specs.declared.fault.Fault.TheVariants as fault
 use Rattle.smk_report.specs.Faults.{fault_status}
@@ -104,9 +104,6 @@ output_same (fault.BadMember a b c) = refl
 output_same fault.Device = refl
 output_same fault.Output = refl
 output_same fault.OutOfMemory = refl
-
-true_false : true ≡ false → ⊥
-true_false e = cc
 
 pub device_as : {T : Type 0} (r : Result T Fault) → run.is_device r ≡ device_failed r
 device_as (Ok t) = refl

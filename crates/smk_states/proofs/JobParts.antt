@@ -1,9 +1,8 @@
 -- What is looked at of a job is what its definition says.
-use Rattle.std.proofs.Common.{◌≡◌, ◌∙◌, ℕ, zero, suc, ◌+◌, ◌<◌, length, take, get_or, Bool, true, false, not, cond, List, [], ◌∷◌, ◌++◌, map, filter, flat_map, find, zip, Option, Some, None, option_map, refl, sym, ap, append_assoc}
+use Rattle.std.proofs.Common.{◌≡◌, ◌∙◌, ℕ, zero, suc, ◌+◌, ◌<◌, Bool, true, false, not, cond, List, [], ◌∷◌, ◌++◌, map, filter, flat_map, find, zip, Option, Some, None, option_map, refl, sym, ap, append_assoc}
 use Rattle.std.specs.Option.{option_and_then}
 use Rattle.std.specs.List.{slice_get}
 use Rattle.std.proofs.lemmas.Grind.{flat_map-append}
-use Rattle.std.proofs.lemmas.List.{take_more}
 use Rattle.smk_base.specs.Path.{is_under}
 use Rattle.smk_world.specs.declared.recipe.Kind.{Kind}
 use Rattle.smk_world.specs.declared.recipe.Kind.TheVariants.{Plain, Folder}
@@ -29,15 +28,6 @@ gone_zip is (o ∷ os) = go (is o) (gone_zip is os)
     go : (b : Bool) → flat_map gone_of (zip os (map is os)) ≡ map (λ (o : Out). o.path) (filter (λ o. not (is o)) os) → gone_of (o, b) ++ flat_map gone_of (zip os (map is os)) ≡ map (λ (o : Out). o.path) (cond (not b) (o ∷ filter (λ o. not (is o)) os) (filter (λ o. not (is o)) os))
     go true ih = ih
     go false ih = ap (λ ps. o.path ∷ ps) ih
-
-map_append : {A B : Type 0} (f : A → B) (xs ys : List A) → map f (xs ++ ys) ≡ map f xs ++ map f ys
-map_append f [] ys = refl
-map_append f (x ∷ xs) ys = ap (λ zs. f x ∷ zs) (map_append f xs ys)
-
--- one more
-pub map_next : {A B : Type 0} (f : A → B) (xs : List A) (i : ℕ) (x : A) → i < length xs → x ≡ get_or xs i x → map f (take i xs) ++ f x ∷ [] ≡ map f (take (i + 1) xs)
-map_next f xs i x lt is =
-    sym (map_append f (take i xs) (x ∷ [])) ∙ ap (map f) (sym (take_more xs i x lt ∙ ap (λ y. take i xs ++ y ∷ []) (sym is)))
 
 module _ (image : Image) where
   abbrev whole_of : Out → Bool

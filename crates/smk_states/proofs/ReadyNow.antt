@@ -75,10 +75,6 @@ none_first : (o : Option (Job × State)) → option_map (λ (e : Job × State). 
 none_first None e = refl
 none_first (Some x) e = absurd (none_some None x.0 refl (sym e))
 
-clean_and : (o : Option State) (w : Bool) → test_some (λ s. is_clean s && w) o ≡ (test_some is_clean o && w)
-clean_and None w = refl
-clean_and (Some s) w = refl
-
 and_false : (b : Bool) → (b && false) ≡ false
 and_false true = refl
 and_false false = refl

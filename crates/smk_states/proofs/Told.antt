@@ -65,9 +65,6 @@ read_there J n (b ∷ before) j rest h m e = read_there J (suc n) before j rest 
 -- ## Sites
 
 module _ (image : Image) (J : Jobs) where
-  abbrev maker_in : Path → Option Job
-  maker_in q = find (λ j. makes j q) J.jobs
-
   -- what is known of a path is so
   pub record IsTold (q : Path) (s : Site) : Type 0 where
     pub found : site_at image J q ≡ Some s

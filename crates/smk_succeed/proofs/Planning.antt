@@ -80,9 +80,6 @@ none_of : {A : Type 0} (test : A → Bool) (xs : List A) → ((x : A) → In x x
 none_of test [] f = refl
 none_of test (x ∷ xs) f = let a = f x (inl refl) in let b = none_of test xs (λ y i. f y (inr i)) in λ i. a i || b i
 
-any_of : {A : Type 0} (test : A → Bool) (xs : List A) → list_any test xs ≡ true → (x : A) × In x xs × (test x ≡ true)
-any_of test xs h = any_in test xs h
-
 filter_none : {A : Type 0} (test : A → Bool) (xs : List A) → ((x : A) → In x xs → test x ≡ false) → filter test xs ≡ []
 filter_none test [] f = refl
 filter_none test (x ∷ xs) f = ap (λ b. cond b (x ∷ filter test xs) (filter test xs)) (f x (inl refl)) ∙ filter_none test xs (λ y i. f y (inr i))

@@ -13,8 +13,8 @@ use Rattle.smk_flow.specs.Flows.{Flow, Candidate, outputs, logs, first_wants}
 use Rattle.smk_flow.specs.Jobs.{path_texts, path_fault}
 use Rattle.smk_choose.specs.declared.choice.Making.{Making}
 use Rattle.smk_choose.specs.declared.choice.Chosen.TheVariants as told
-use Rattle.smk_choose.specs.Choose.{Sources, Choice, Source, Make, Nothing, Ambiguous, as_member, as_output, or_else, candidates, is_apart, is_viable, avail, choose}
-use Rattle.smk_choose.specs.Told.{making, told_choice}
+use Rattle.smk_choose.specs.Choose.{Sources, Make, as_member, as_output, or_else, candidates, is_apart, is_viable, avail, choose}
+use Rattle.smk_choose.specs.Told.{making}
 use Rattle.smk_choose.proofs.Picked.{chosen_candidate, chosen_placed, chosen_is_viable}
 use Rattle.smk_choose.proofs.Listed.{all_filter}
 use Rattle.smk_wants.proofs.Composed.{all_front}
@@ -152,13 +152,3 @@ declared_paths flow m part chosen at =
 pub no_fault_there : (flow : Flow) (m : Making) (part : RulePart) (f : JobFault) → IsChosen flow m → slice_get flow.rules m.rule ≡ Some part →
     path_fault (path_texts flow (candidate_of m part)) ≡ Some f → ⊥
 no_fault_there flow m part f chosen at e = none_some f (sym (declared_paths flow m part chosen at) ∙ e)
-
--- what a table tells of a path, where it tells a job, is chosen
-pub chosen_by : (flow : Flow) (sources : Sources) (p : Path) (m : Making) → told.Make m ≡ told_choice (choose flow sources p) → IsChosen flow m
-chosen_by flow sources p m e = go (choose flow sources p) refl e
-  where
-    go : (choice : Choice) → choose flow sources p ≡ choice → told.Make m ≡ told_choice choice → IsChosen flow m
-    go Source is e = absurd (cc)
-    go (Make c) is e = record { sources = sources; path = p; candidate = c; chosen = is; is = cc }
-    go (Nothing l) is e = absurd (cc)
-    go (Ambiguous a b) is e = absurd (cc)
