@@ -11,9 +11,9 @@ ghost use Rattle.smk_choose.specs.Index.{directories_at, outputs_at, IsIndex, Ar
 ghost use Rattle.smk_choose.specs.Readings.{is_apart_by, first_bound, filled_by, folder_at, by_folder, by_folders, members_from, outputs_from, or_others, is_free};
 
 use crate::binding::by_name;
-use crate::index::{Index, Readings};
+use crate::index::Index;
 use crate::readings::Reading;
-use crate::{Making, Sources};
+use crate::{Making, Readings, Sources};
 use smk_base::{OutOfMemory, PathFault, PathText, Text};
 use smk_flow::{Rule, Workflow};
 use smk_pattern::{Binding, Pattern, fill, fits};

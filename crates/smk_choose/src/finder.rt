@@ -5,31 +5,17 @@ ghost use Rattle.smk_world.specs.Trees.{Path};
 ghost use Rattle.smk_choose.specs.Choose.{candidates, as_member, as_output, or_else};
 ghost use Rattle.smk_choose.specs.Told.{told_by, making};
 ghost use Rattle.smk_choose.specs.Readings.{filled_by};
-ghost use Rattle.smk_choose.specs.Finding.{IsFinder, places_by};
+ghost use Rattle.smk_choose.specs.Index.{AreReadings};
+ghost use Rattle.smk_choose.specs.Finding.{places_by};
 
 use crate::candidates::{all_apart, filled, makings};
-use crate::index::{Readings, read};
-use crate::{Making, Sources};
+use crate::{Making, Readings, Sources};
 use smk_base::{List, OutOfMemory, PathText, Text};
 use smk_flow::{Rule, Workflow};
 use smk_pattern::{Binding, Pattern};
 use std::alloc::Global;
 
-/// What is read of each rule of a workflow, and an index of the rules by their outputs, so that the jobs that may make a path are found for many paths.
-#[derive(Debug, Drop)]
-pub struct Finder {
-    readings: Readings,
-}
-
-impl Finder {
-    /// What is read of the rules. `OutOfMemory` where there is no memory for it.
-    pub fn new(alloc: Global, flow: &Workflow) -> Result<Finder, OutOfMemory>
-        ensures { IfOk result (λ finder. IsFinder flow.now finder) }
-    {
-        let readings = read(alloc, flow)?;
-        Ok(Finder { readings })
-    }
-
+impl Readings {
     /// The jobs that fit the path by name, by their rules and bindings, whatever their outputs and logs hold. `OutOfMemory` where there is no
     /// memory for them.
     pub fn fitting(
@@ -38,10 +24,10 @@ impl Finder {
         flow: &Workflow,
         path: &PathText,
     ) -> Result<Vec<Making>, OutOfMemory>
-        requires { IsFinder flow.now self.now }
+        requires { AreReadings flow.now self.now }
         ensures { IfOk result (λ found. found.items ≡ map making (or_else (as_member flow.now path.now) (as_output flow.now path.now))) }
     {
-        makings(alloc, flow.rules().as_slice(), &self.readings, path)
+        makings(alloc, flow.rules().as_slice(), self, path)
     }
 }
 

@@ -21,9 +21,10 @@ pub(crate) struct Index {
     pub(crate) wild: List<u32>,
 }
 
-/// What is read of each rule, the numbers of those that make directories, and which rules have to be tried for a path.
+/// What is read of the rules of a workflow before paths are looked at: the patterns of each, the numbers of those that make directories, and
+/// which rules have to be tried for a path. Made once, it serves any number of tables and paths.
 #[derive(Debug, Drop)]
-pub(crate) struct Readings {
+pub struct Readings {
     pub(crate) rules: Vec<Reading>,
     pub(crate) folders: List<u32>,
     pub(crate) index: Index,
@@ -155,19 +156,21 @@ fn folders_of(alloc: Global, readings: &[Reading]) -> Result<List<u32>, OutOfMem
     Ok(numbers)
 }
 
-/// What is read of each rule, and which have to be tried for a path.
-pub(crate) fn read(alloc: Global, flow: &Workflow) -> Result<Readings, OutOfMemory>
-    ensures { IfOk result (λ made. AreReadings flow.now made) }
-{
-    let parts = flow.rules().as_slice();
-    let rules = readings(alloc, flow)?;
-    let folders = folders_of(alloc, &rules)?;
-    let index = indexed(alloc, parts)?;
-    Ok(Readings {
-        rules,
-        folders,
-        index,
-    })
+impl Readings {
+    /// What is read of the rules of this workflow. `OutOfMemory` where there is no memory for it.
+    pub fn of(alloc: Global, flow: &Workflow) -> Result<Readings, OutOfMemory>
+        ensures { IfOk result (λ made. AreReadings flow.now made) }
+    {
+        let parts = flow.rules().as_slice();
+        let rules = readings(alloc, flow)?;
+        let folders = folders_of(alloc, &rules)?;
+        let index = indexed(alloc, parts)?;
+        Ok(Readings {
+            rules,
+            folders,
+            index,
+        })
+    }
 }
 
 // The first of the numbers of two lists, each in order, with what is left of both.

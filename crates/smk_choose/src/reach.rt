@@ -14,10 +14,9 @@ ghost use Rattle.smk_choose.specs.Reach.{AreNumbered, Grows, HasNumber, Within, 
 
 use crate::candidates::{candidates, filled};
 use crate::heights::least_heights;
-use crate::index::Readings;
 use crate::nodes::{Node, Want, Way};
 use crate::readings::Reading;
-use crate::{Making, Sources};
+use crate::{Making, Readings, Sources};
 use smk_base::{List, OutOfMemory, PathFault, PathText, Text};
 use smk_flow::Workflow;
 use smk_pattern::{Binding, Pattern};

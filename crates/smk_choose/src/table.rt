@@ -8,12 +8,12 @@ ghost use Rattle.smk_choose.specs.declared.choice.Chosen.{Chosen};
 ghost use Rattle.smk_choose.specs.Heights.{node_at};
 ghost use Rattle.smk_choose.specs.Reach.{path_at};
 ghost use Rattle.smk_choose.specs.Decided.{is_deep_enough, chosen_by};
+ghost use Rattle.smk_choose.specs.Index.{AreReadings};
 ghost use Rattle.smk_choose.specs.Told.{told_by, choice_of, CoversAll};
 
 use crate::decide::chosen;
-use crate::index::read;
 use crate::reach::{Reach, deepen, depths, start};
-use crate::{Chosen, Sources};
+use crate::{Chosen, Readings, Sources};
 use smk_base::{List, OutOfMemory, PathText};
 use smk_flow::Workflow;
 use std::alloc::Global;
@@ -72,18 +72,19 @@ fn first_choices(
 
 impl Choices {
     /// The choices for these paths and for the paths that their candidates want, and so on: those that are wanted 200 levels deep are
-    /// covered too. `OutOfMemory` where there is no memory for the table.
+    /// covered too. What was read of the rules is given. `OutOfMemory` where there is no memory for the table.
     pub fn of(
         alloc: Global,
         flow: &Workflow,
+        readings: &Readings,
         sources: &Sources,
         paths: &List<PathText>,
     ) -> Result<Choices, OutOfMemory>
+        requires { AreReadings flow.now readings.now }
         ensures { IfOk result (λ made. CoversAll flow.now (told_by sources.now) made 201 paths.now) }
     {
-        let readings = read(alloc, flow)?;
         let mut reach = start(alloc, paths.as_slice())?;
-        let end = deepen(alloc, flow, &readings, sources, &mut reach, 200)?;
+        let end = deepen(alloc, flow, readings, sources, &mut reach, 200)?;
         let heights = depths(alloc, &reach)?;
         let chosen = first_choices(alloc, flow, &reach, &heights, end)?;
         Ok(Choices { chosen })

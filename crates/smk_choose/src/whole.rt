@@ -7,7 +7,7 @@ ghost use Rattle.smk_choose.specs.Choose.{choose};
 ghost use Rattle.smk_choose.specs.Told.{told_by};
 ghost use Rattle.smk_choose.specs.Whole.{whole_choice, IsWhole};
 
-use crate::{Choice, Choices, Chosen, Lack, Making, Sources};
+use crate::{Choice, Choices, Chosen, Lack, Making, Readings, Sources};
 use smk_base::{Copied, OutOfMemory, PathText, one};
 use smk_flow::jobs::job;
 use smk_flow::{Job, Workflow};
@@ -71,7 +71,8 @@ pub fn choose(
     ensures { IfOk result (λ made. made ≡ whole_choice flow.now (choose flow.now (told_by sources.now) path.now)) }
 {
     let paths = one(alloc, path.copy(alloc)?)?;
-    let table = Choices::of(alloc, flow, sources, &paths)?;
+    let readings = Readings::of(alloc, flow)?;
+    let table = Choices::of(alloc, flow, &readings, sources, &paths)?;
     match table.choice(path) {
         Some(chosen) => whole(alloc, flow, chosen),
         None => Err(OutOfMemory),

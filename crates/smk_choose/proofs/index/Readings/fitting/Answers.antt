@@ -6,11 +6,11 @@ use Rattle.smk_choose.specs.declared.readings.Reading.{Reading}
 use Rattle.smk_choose.specs.Index.{IsIndex}
 use Rattle.smk_choose.specs.Readings.{or_others, members_from, outputs_from}
 use Rattle.smk_choose.proofs.Listed.{fitting_listed}
-use Rattle.smk_choose.proofs.finder.Finder.fitting.Goals as goal
+use Rattle.smk_choose.proofs.index.Readings.fitting.Goals as goal
 
 pub makings-requires-clause-outputs : goal.makings-requires-clause-outputs
 makings-requires-clause-outputs c =
-    subst (λ (rs : List Rule). IsIndex rs c.args.self.now.readings.index) (sym (c.as_slice.ensures ∙ c.rules.ensures.rules)) c.requires.outputs
+    subst (λ (rs : List Rule). IsIndex rs c.args.self.now.index) (sym (c.as_slice.ensures ∙ c.rules.ensures.rules)) c.requires.outputs
 
 pub returns : goal.returns
 returns c =

@@ -5,7 +5,7 @@ use Rattle.smk_choose.specs.declared.readings.Reading.{Reading}
 use Rattle.smk_choose.specs.Readings.{reading_of}
 use Rattle.smk_choose.specs.Index.{AreFolders, AreIndexed}
 use Rattle.smk_choose.proofs.Tried.{index_is}
-use Rattle.smk_choose.proofs.index.read.Goals as goal
+use Rattle.smk_choose.proofs.index.Readings.of.Goals as goal
 
 pub folders_of-requires : goal.folders_of-requires
 folders_of-requires c =
