@@ -5,7 +5,6 @@ mod Apart
 mod Meaning
 mod Told
 mod ReadOthers
-mod Idle
 mod FirstPass
 mod LastPass
 mod Solved

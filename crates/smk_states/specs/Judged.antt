@@ -25,16 +25,6 @@ reasons_alone image settings progress jobs j =
     (map (λ q. (q, stamp_now image q)) (in_paths j.recipe))
     ++ when (is_forced image settings progress (with_states jobs []) j) Forced
 
--- No child runs; these are the reasons of the jobs, but for the inputs whose job is Dirty; and it is told rightly which of the jobs are
--- forced, and what is whole.
-pub record AreJudged
-    (image : Image) (settings : Settings) (progress : Progress) (jobs : Jobs)
-    (judged : List (List Reason)) (flags : List Bool) (seen : Wholes) : Type 0 where
-  pub idle : progress.running ≡ []
-  pub reasons : judged ≡ map (reasons_alone image settings progress jobs) jobs.jobs
-  pub forced : flags ≡ map (is_forced image settings progress (with_states jobs [])) jobs.jobs
-  pub wholes : seen ≡ wholes_of image jobs
-
 -- The same at any moment: marks of what is being restored don't count.
 abbrev pub reasons_now : Image → Settings → Progress → Jobs → Job → List Reason
 reasons_now image settings progress jobs j =

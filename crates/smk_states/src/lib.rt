@@ -16,5 +16,4 @@ mod upward;
 
 pub use holding::holds_back;
 pub use laws::linked_jobs_serve;
-pub use ready::{newly_ready, ready_targets};
-pub use table::{Table, states, states_now};
+pub use table::Table;

@@ -1,27 +1,18 @@
 //! What is ready by the states of jobs: targets, and directories that are awaited.
 
-ghost use Rattle.std.specs.Prelude.{◌≡◌, ◌&&◌, ◌||◌, ◌++◌, ◌∷◌, [], not, length, Bool, List as Items, map, filter, bytes_eq, is_none, IfOk, OnOk, if◌then◌else◌};
+ghost use Rattle.std.specs.Prelude.{◌≡◌, ◌&&◌, ◌||◌, ◌++◌, ◌∷◌, [], not, Bool, List as Items, map, filter, bytes_eq, IfOk, OnOk, if◌then◌else◌};
 ghost use Rattle.smk_states.specs.Keys.{at_key};
 ghost use Rattle.std.specs.BTreeSet.{contains_text};
 ghost use Rattle.std.specs.List.{flat_map};
 ghost use Rattle.smk_world.specs.Trees.{Path};
-ghost use Rattle.smk_store.specs.Images.{Image};
-ghost use Rattle.smk_chain.specs.Derive.{distinct, listing};
-ghost use Rattle.smk_pick.specs.declared.settings.Settings.{Settings as Asked};
-ghost use Rattle.smk_plan.specs.States.{Progress, is_ready, awaited, test_some};
-ghost use Rattle.smk_plan.specs.Sights.{wholes_of};
-ghost use Rattle.smk_states.specs.Served.{AreServed};
-ghost use Rattle.smk_states.specs.Judged.{with_states};
+ghost use Rattle.smk_chain.specs.Derive.{distinct};
 ghost use Rattle.smk_states.specs.Waits.{ready_told, over_waits, part_waits, waits_told, waits_of};
 
 use crate::opening::is_made_clean;
 use crate::parts::Parts;
 use crate::paths::put;
 use crate::sites::Site;
-use crate::table::Table;
 use smk_base::{List, OutOfMemory, PathText};
-use smk_chain::Jobs;
-use smk_plan::Wholes;
 use smk_trigger::State;
 use std::alloc::Global;
 use std::collections::{BTreeMap, BTreeSet};
@@ -194,43 +185,4 @@ pub(crate) fn ready_in(
         ready.push(is_ready(sites, states, target))?;
     }
     Ok(ready)
-}
-
-/// For each target whether it is ready by these states: a job makes it that is Clean, and it is whole. `OutOfMemory` where there is no
-/// memory for the answer.
-pub fn ready_targets(
-    alloc: Global,
-    jobs: &Jobs,
-    targets: &List<PathText>,
-    wholes: &Wholes,
-    states: &List<State>,
-) -> Result<List<bool>, OutOfMemory>
-    requires each { length states.now ≡ length jobs.now.jobs }
-    ensures { IfOk result (λ ready. (image : Image) (settings : Asked) (progress : Progress) → settings.targets ≡ targets.now → AreServed jobs.now targets.now
-        → wholes.now ≡ wholes_of image jobs.now
-        → ready ≡ map (is_ready image settings progress (with_states jobs.now states.now)) targets.now) }
-{
-    let table = Table::of(alloc, jobs, targets, wholes)?;
-    let ready = table.ready_targets(alloc, states)?;
-    Ok(ready)
-}
-
-/// The awaited directories that are ready by these states and have no listing yet, each once, in the order in which they are awaited.
-/// `OutOfMemory` where there is no memory for them.
-pub fn newly_ready(
-    alloc: Global,
-    jobs: &Jobs,
-    targets: &List<PathText>,
-    wholes: &Wholes,
-    states: &List<State>,
-) -> Result<List<PathText>, OutOfMemory>
-    requires each { length states.now ≡ length jobs.now.jobs }
-    ensures { IfOk result (λ found. (image : Image) (settings : Asked) (progress : Progress) → settings.targets ≡ targets.now → AreServed jobs.now targets.now
-        → wholes.now ≡ wholes_of image jobs.now
-        → found ≡ filter (λ d. is_ready image settings progress (with_states jobs.now states.now) d && is_none (listing jobs.now.lists d))
-        (awaited image settings progress (with_states jobs.now states.now))) }
-{
-    let table = Table::of(alloc, jobs, targets, wholes)?;
-    let found = table.newly_ready(alloc, states)?;
-    Ok(found)
 }

@@ -1,6 +1,6 @@
 //! The table of states: what is told of jobs, their targets and what is whole, and the states of the jobs by it.
 
-ghost use Rattle.std.specs.Prelude.{◌≡◌, ◌&&◌, [], List as Items, length, map, filter, is_none, None, IfOk};
+ghost use Rattle.std.specs.Prelude.{◌≡◌, ◌&&◌, [], List as Items, length, map, filter, is_none, IfOk};
 ghost use Rattle.std.specs.List.{list_any};
 ghost use Rattle.smk_world.specs.Trees.{Path};
 ghost use Rattle.smk_store.specs.Images.{Image};
@@ -12,7 +12,7 @@ ghost use Rattle.smk_plan.specs.States.{Progress, HasStates, is_ready, awaited, 
 ghost use Rattle.smk_plan.specs.Sights.{wholes_of};
 ghost use Rattle.smk_plan.specs.declared.wholes.Wholes.{Wholes as WholesValue};
 ghost use Rattle.smk_states.specs.Served.{AreServed};
-ghost use Rattle.smk_states.specs.Judged.{AreJudged, AreJudgedNow, with_states};
+ghost use Rattle.smk_states.specs.Judged.{AreJudgedNow, with_states};
 ghost use Rattle.smk_states.specs.Tables.{IsTableOf};
 
 use crate::downward::last_states;
@@ -24,7 +24,6 @@ use crate::ready::{new_in, ready_in, waits_in};
 use crate::upward::first_states;
 use smk_base::{List, OutOfMemory, PathText};
 use smk_chain::Jobs;
-use smk_flow::Job;
 use smk_plan::Wholes;
 use smk_trigger::{Reason, State};
 use std::alloc::Global;
@@ -100,7 +99,10 @@ impl<'j> Table<'j> {
 
     /// The state of each job, by the table of states. `OutOfMemory` where there is no memory for them.
     ///
-    /// `reasons`, `forced` and `running` are as in [`states_now`].
+    /// `reasons` has for each job its reasons but for the inputs whose job is Dirty, with Forced at the end where it is forced; `forced` tells
+    /// which jobs are forced. `running` has for each job the state that it had when it began, if its child runs: a job that began Dirty stays
+    /// so, and one that began as a Restore isn't Clean. A Restore counts as Clean while a child reads what it made. The time is near linear in
+    /// the jobs with their inputs and outputs, and the makers.
     pub fn states(
         &self,
         alloc: Global,
@@ -189,64 +191,4 @@ impl<'j> Table<'j> {
         )?;
         Ok(held)
     }
-}
-
-/// The state of each job, by the table of states. `OutOfMemory` where there is no memory for them.
-///
-/// `reasons` has for each job its reasons but for the inputs whose job is Dirty, with Forced at the end where it is forced; `forced` tells
-/// which jobs are forced; `wholes` what is whole. `running` has for each job the state that it had when it began, if its child runs: a job
-/// that began Dirty stays so, and one that began as a Restore isn't Clean. A Restore counts as Clean while a child reads what it made. The
-/// time is near linear in the jobs with their inputs and outputs, and the makers.
-pub fn states_now(
-    alloc: Global,
-    jobs: &Jobs,
-    targets: &List<PathText>,
-    reasons: List<List<Reason>>,
-    forced: &List<bool>,
-    wholes: &Wholes,
-    running: List<Option<State>>,
-) -> Result<List<State>, OutOfMemory>
-    ensures each { IfOk result (λ states. length states ≡ length jobs.now.jobs) }
-    ensures table { IfOk result (λ states. (image : Image) (settings : Asked) (progress : Progress)
-        → settings.targets ≡ targets.now → AreServed jobs.now targets.now
-        → AreJudgedNow image settings progress jobs.now reasons forced.now wholes.now running
-        → HasStates image settings progress (with_states jobs.now states)) }
-{
-    let table = Table::of(alloc, jobs, targets, wholes)?;
-    let found = table.states(alloc, reasons, forced, running)?;
-    Ok(found)
-}
-
-// No state for each job.
-fn none_running(alloc: Global, jobs: &[Job]) -> Result<List<Option<State>>, OutOfMemory>
-    ensures { IfOk result (λ none. none ≡ map (λ j. None) jobs.now) }
-{
-    let mut none = List::new(alloc);
-    for _job in jobs {
-        none.push(None)?;
-    }
-    Ok(none)
-}
-
-/// The state of each job, by the table of states, where no child runs. `OutOfMemory` where there is no memory for them.
-///
-/// `reasons` has for each job its reasons but for the inputs whose job is Dirty, with Forced at the end where it is forced; `forced` tells
-/// which jobs are forced; `wholes` what is whole. The time is near linear in the jobs with their inputs and outputs, and the makers.
-pub fn states(
-    alloc: Global,
-    jobs: &Jobs,
-    targets: &List<PathText>,
-    reasons: List<List<Reason>>,
-    forced: &List<bool>,
-    wholes: &Wholes,
-) -> Result<List<State>, OutOfMemory>
-    ensures each { IfOk result (λ states. length states ≡ length jobs.now.jobs) }
-    ensures table { IfOk result (λ states. (image : Image) (settings : Asked) (progress : Progress)
-        → settings.targets ≡ targets.now → AreServed jobs.now targets.now
-        → AreJudged image settings progress jobs.now reasons forced.now wholes.now
-        → HasStates image settings progress (with_states jobs.now states)) }
-{
-    let running = none_running(alloc, jobs.jobs.as_slice())?;
-    let found = states_now(alloc, jobs, targets, reasons, forced, wholes, running)?;
-    Ok(found)
 }
