@@ -1,4 +1,3 @@
-mod Ranges
 mod Lookups
 mod Firsts
 mod Spots

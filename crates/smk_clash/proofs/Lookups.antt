@@ -10,7 +10,7 @@ use Rattle.smk_base.proofs.Places.{and_first, and_second, same_place}
 use Rattle.smk_base.proofs.Under.{never_both, false_unless}
 use Rattle.smk_world.specs.Trees.{Path, among}
 use Rattle.smk_store.specs.Walking.{texts_of}
-use Rattle.smk_clash.proofs.Ranges.{is_between, between_is_under}
+use Rattle.smk_base.proofs.Ranges.{is_between, between_is_under}
 
 -- ## A set of paths
 

@@ -1,17 +1,16 @@
 -- What the store has is what the image has.
-use Rattle.std.proofs.Common.{◌≡◌, inl, inr, Bool, true, false, ◌||◌, ◌&&◌, not, List, [], ◌∷◌, ◌++◌, map, Some, None, refl, sym, ap, subst, ◌∙◌, bytes_eq}
+use Rattle.std.proofs.Common.{◌≡◌, Bool, true, false, ◌||◌, ◌&&◌, not, List, [], ◌∷◌, ◌++◌, map, Some, None, refl, sym, ap, subst, ◌∙◌, bytes_eq}
 use Rattle.std.specs.Prelude.{if◌then◌else◌, is_some}
-use Rattle.std.specs.List.{filter, AllByRecursion}
+use Rattle.std.specs.List.{filter}
 use Rattle.std.specs.Cmp.Lexicographic.{slice_cmp}
 use Rattle.std.specs.Ordering.{nat_cmp}
-use Rattle.std.specs.declared.cmp.Ordering.{Ordering}
-use Rattle.std.specs.declared.cmp.Ordering.TheVariants.{Less, Equal, Greater}
-use Rattle.std.proofs.lemmas.Cmp.{nat_list_cmp_total, tied_itself}
+use Rattle.std.specs.declared.cmp.Ordering.TheVariants.{Less}
 use Rattle.smk_base.specs.Path.{overlaps}
-use Rattle.smk_base.proofs.Places.{and_first, and_second, same_place, place_itself}
-use Rattle.smk_base.proofs.Under.{never_both, false_unless, or_first, or_cases}
+use Rattle.smk_base.proofs.Places.{same_place, place_itself}
+use Rattle.smk_base.proofs.Under.{never_both, false_unless}
 use Rattle.smk_world.specs.Trees.{Path, among}
-use Rattle.smk_record.specs.Records.{are_rising, is_less}
+use Rattle.smk_record.specs.Records.{are_rising}
+use Rattle.smk_record.proofs.Rising.{Above, less_itself, rising_rest, rising_first, above_among, among_first, same_first, or_apart}
 use Rattle.smk_store.specs.declared.store.Entry.{Entry}
 use Rattle.smk_store.specs.Images.{Image, is_known, stands}
 use Rattle.smk_store.specs.Stores.{Known, entry_of}
@@ -84,60 +83,7 @@ clashes_same image store s k earlier (spot ∷ rest) =
 
 -- ## The known paths
 
-abbrev Above : Path → List Path → Type 0
-Above k ps = AllByRecursion (λ y. slice_cmp nat_cmp k y ≡ Less) ps
-
-less_of : (o : Ordering) → is_less o ≡ true → o ≡ Less
-less_of Less h = refl
-less_of Equal h = absurd cc
-less_of Greater h = absurd cc
-
-less_itself : (p : Path) → slice_cmp nat_cmp p p ≡ Less → ⊥
-less_itself p h = let e : slice_cmp nat_cmp p p ≡ Equal = tied_itself nat_list_cmp_total p in cc
-
-less_both : (p q : Path) → slice_cmp nat_cmp p q ≡ Less → slice_cmp nat_cmp q p ≡ Less → ⊥
-less_both p q h k = less_itself p (nat_list_cmp_total.trans p q p h k)
-
-raised : (p q : Path) (ps : List Path) → slice_cmp nat_cmp p q ≡ Less → Above q ps → Above p ps
-raised p q [] h all = tt
-raised p q (r ∷ ps) h all = (nat_list_cmp_total.trans p q r h all.0, raised p q ps h all.1)
-
-rising_rest : (p : Path) (ps : List Path) → are_rising (p ∷ ps) ≡ true → are_rising ps ≡ true
-rising_rest p [] h = refl
-rising_rest p (q ∷ ps) h = and_second (is_less (slice_cmp nat_cmp p q)) (are_rising (q ∷ ps)) h
-
-rising_first : (p : Path) (ps : List Path) → are_rising (p ∷ ps) ≡ true → Above p ps
-rising_first p [] h = tt
-rising_first p (q ∷ ps) h =
-    let less = less_of (slice_cmp nat_cmp p q) (and_first (is_less (slice_cmp nat_cmp p q)) (are_rising (q ∷ ps)) h) in
-    (less, raised p q ps less (rising_first q ps (and_second (is_less (slice_cmp nat_cmp p q)) (are_rising (q ∷ ps)) h)))
-
-above_among : (p q : Path) (ps : List Path) → Above p ps → among ps q ≡ true → slice_cmp nat_cmp p q ≡ Less
-above_among p q [] all h = absurd (never_both false h refl)
-above_among p q (r ∷ ps) all h =
-    elim (or_cases (bytes_eq q r) (among ps q) h) [
-      | inl same ↦ subst (λ x. slice_cmp nat_cmp p x ≡ Less) (sym (same_place q r same)) all.0
-      | inr rest ↦ above_among p q ps all.1 rest
-    ]
-
-among_first : (p : Path) (ps : List Path) → among (p ∷ ps) p ≡ true
-among_first p ps = or_first (bytes_eq p p) (among ps p) (place_itself p)
-
--- the first of two rising lists with the same paths
-same_first : (p q : Path) (ps qs : List Path) → Above p ps → Above q qs → among (q ∷ qs) p ≡ true → among (p ∷ ps) q ≡ true → p ≡ q
-same_first p q ps qs a b h k =
-    elim (or_cases (bytes_eq p q) (among qs p) h) [
-      | inl same ↦ same_place p q same
-      | inr later ↦ elim (or_cases (bytes_eq q p) (among ps q) k) [
-        | inl same ↦ sym (same_place q p same)
-        | inr more ↦ absurd (less_both p q (above_among p q ps a more) (above_among q p qs b later))
-      ]
-    ]
-
-or_apart : (a b c : Bool) → (a ≡ true → b ≡ false) → (a ≡ true → c ≡ false) → (a || b) ≡ (a || c) → b ≡ c
-or_apart true b c f g e = f refl ∙ sym (g refl)
-or_apart false b c f g e = e
-
+-- two rising lists with the same paths are one
 pub rising_same : (ps qs : List Path) → are_rising ps ≡ true → are_rising qs ≡ true → ((r : Path) → among ps r ≡ among qs r) → ps ≡ qs
 rising_same [] [] h k same = refl
 rising_same [] (q ∷ qs) h k same = absurd (never_both (among (q ∷ qs) q) (among_first q qs) (sym (same q)))

@@ -5,7 +5,6 @@ use Rattle.std.specs.List.{AllByRecursion, find}
 use Rattle.std.specs.List.Sorted.{IsBinarySearchResult, IsSortedBy}
 use Rattle.std.specs.Cmp.Lexicographic.{slice_cmp}
 use Rattle.std.specs.Ordering.{nat_cmp, is_lt, is_eq, ordering_reverse}
-use Rattle.std.specs.declared.cmp.Ordering.{Ordering}
 use Rattle.std.specs.declared.cmp.Ordering.TheVariants.{Less, Equal, Greater}
 use Rattle.std.proofs.lemmas.Cmp.{nat_list_cmp_total, tied_itself}
 use Rattle.std.proofs.lemmas.Map.Text.{is_eq-slice_cmp}
@@ -15,14 +14,7 @@ use Rattle.smk_base.proofs.Places.{and_first, and_second, same_place, place_itse
 use Rattle.smk_base.proofs.Under.{false_unless}
 use Rattle.smk_world.specs.Trees.{Path}
 use Rattle.smk_record.specs.Records.{are_rising, is_less}
-
-less_of : (o : Ordering) → is_less o ≡ true → o ≡ Less
-less_of Less h = refl
-less_of Equal h = absurd cc
-less_of Greater h = absurd cc
-
-less_itself : (p : Path) → slice_cmp nat_cmp p p ≡ Less → ⊥
-less_itself p h = let e : slice_cmp nat_cmp p p ≡ Equal = tied_itself nat_list_cmp_total p in cc
+use Rattle.smk_record.proofs.Rising.{less_of, less_itself}
 
 falls_back : (p q : Path) → slice_cmp nat_cmp p q ≡ Less → is_lt (slice_cmp nat_cmp q p) ≡ false
 falls_back p q h = ap is_lt (nat_list_cmp_total.antisymm q p ∙ ap ordering_reverse h)

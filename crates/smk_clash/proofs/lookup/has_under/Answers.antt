@@ -2,7 +2,7 @@ use Rattle.std.proofs.Common.{ap, ◌∙◌, ◌++◌, ◌∷◌, [], string_byt
 use Rattle.std.specs.Ordering.{is_gt, nat_cmp}
 use Rattle.std.specs.Cmp.Lexicographic.{slice_cmp}
 use Rattle.smk_store.proofs.Loads.{contains_named}
-use Rattle.smk_clash.proofs.Ranges.{low_below_high}
+use Rattle.smk_base.proofs.Ranges.{low_below_high}
 use Rattle.smk_clash.proofs.Lookups.{none_under}
 use Rattle.smk_clash.proofs.lookup.has_under.Goals as goal
 
