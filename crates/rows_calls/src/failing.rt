@@ -2,7 +2,7 @@
 
 use crate::left::{Left, what_is_left, words_of};
 use crate::runs::{COPY, HALF, answer};
-use crate::trial::{Trial, call_by, trial};
+use crate::trial::{Trial, call_by, set_up};
 use crate::trouble::{Trouble, push_row};
 use std::alloc::{AllocError, Global};
 use std::thread::Threads;
@@ -20,7 +20,7 @@ fn calls_in<Rt: Threads + Sync>(
 
 // How many calls the device has in a run by the workflow.
 fn calls<Rt: Threads + Sync>(rt: &Rt, alloc: Global, workflow: &str) -> Result<u64, Trouble> {
-    let mut trial = trial(alloc, None, None)?;
+    let mut trial = set_up(alloc, None, None)?;
     calls_in(rt, alloc, workflow, &mut trial)
 }
 
@@ -44,7 +44,7 @@ fn is_told<Rt: Threads + Sync>(
     workflow: &str,
     number: u64,
 ) -> Result<bool, Trouble> {
-    let mut trial = trial(alloc, Some(number), None)?;
+    let mut trial = set_up(alloc, Some(number), None)?;
     is_told_in(rt, alloc, workflow, &mut trial)
 }
 
@@ -72,7 +72,6 @@ fn told_of_calls<Rt: Threads + Sync>(
 ) -> Result<String, Trouble> {
     match first_untold(rt, alloc, workflow, calls)? {
         Some(number) => Ok(format!(in alloc; "call {number} is not told, or tears something")?),
-        None if calls == 0 => Ok(String::from_str(alloc, "no call")?),
         None => Ok(String::from_str(alloc, "each is told, and nothing is torn")?),
     }
 }
@@ -80,6 +79,9 @@ fn told_of_calls<Rt: Threads + Sync>(
 // What is told of the runs by the workflow in which one call fails.
 fn told<Rt: Threads + Sync>(rt: &Rt, alloc: Global, workflow: &str) -> Result<String, Trouble> {
     let calls = calls(rt, alloc, workflow)?;
+    if calls == 0 {
+        return Ok(String::from_str(alloc, "no call")?);
+    }
     told_of_calls(rt, alloc, workflow, calls)
 }
 
@@ -100,7 +102,7 @@ fn end_without_sink<Rt: Threads + Sync>(
     alloc: Global,
     number: u64,
 ) -> Result<String, Trouble> {
-    let mut trial = trial(alloc, None, Some(number))?;
+    let mut trial = set_up(alloc, None, Some(number))?;
     end_in(rt, alloc, &mut trial)
 }
 

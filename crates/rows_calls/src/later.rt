@@ -1,7 +1,7 @@
 //! Runs after one that has made the target.
 
 use crate::runs::COPY;
-use crate::trial::{Trial, call, call_by, trial};
+use crate::trial::{Trial, call, call_by, set_up};
 use crate::trouble::{Trouble, push_row};
 use std::alloc::{AllocError, Global};
 use std::thread::Threads;
@@ -36,7 +36,7 @@ fn told_in<Rt: Threads + Sync>(
 
 // What is told of a run and 99 later ones.
 fn told<Rt: Threads + Sync>(rt: &Rt, alloc: Global) -> Result<String, Trouble> {
-    let mut trial = trial(alloc, None, None)?;
+    let mut trial = set_up(alloc, None, None)?;
     told_in(rt, alloc, &mut trial)
 }
 

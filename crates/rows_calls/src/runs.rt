@@ -1,7 +1,7 @@
 //! Runs and refusals, with their reports.
 
 use crate::left::{what_is_left, words_of};
-use crate::trial::{Trial, call_by, trial};
+use crate::trial::{Trial, call_by, set_up};
 use crate::trouble::{Trouble, push_row};
 use std::alloc::{AllocError, Global};
 use std::str;
@@ -77,7 +77,7 @@ fn told<Rt: Threads + Sync>(
     workflow: &str,
     target: &str,
 ) -> Result<String, Trouble> {
-    let mut trial = trial(alloc, None, None)?;
+    let mut trial = set_up(alloc, None, None)?;
     told_in(rt, alloc, workflow, target, &mut trial)
 }
 

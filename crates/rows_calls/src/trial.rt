@@ -58,7 +58,7 @@ fn fill(alloc: Global, work: &mut MemWork, workflow: &str) -> Result<(), Trouble
 }
 
 /// An empty workspace and its sinks, where the call of the device and the one of the first sink with these numbers fail.
-pub fn trial(
+pub fn set_up(
     alloc: Global,
     failing_call: Option<u64>,
     failing_put: Option<u64>,
