@@ -1,0 +1,27 @@
+//! Runs the whole call over workspaces in memory, and prints how each ends: its status, what is left of the job, its report, and the line of its fault.
+#![tactic(auto)]
+
+mod failing;
+mod later;
+mod left;
+mod runs;
+mod trial;
+mod trouble;
+
+use std::alloc::{AllocError, Global};
+use std::io;
+use std::thread::Threads;
+
+/// The lines of all cases.
+fn rows<Rt: Threads + Sync>(rt: &Rt, alloc: Global) -> Result<String, AllocError> {
+    let mut text = String::new(alloc);
+    runs::push_rows(rt, alloc, &mut text)?;
+    failing::push_rows(rt, alloc, &mut text)?;
+    later::push_rows(rt, alloc, &mut text)?;
+    Ok(text)
+}
+
+fn main(rt: HostRuntime) -> io::Result<()> {
+    let text = rows(&rt, rt.alloc())?;
+    rt.print(text)
+}

@@ -1,0 +1,35 @@
+//! The standard streams as sinks.
+
+use crate::trouble::{Trouble, push_row};
+use smk_real::RealSink;
+use smk_world::Sink;
+use std::alloc::{AllocError, Global};
+use std::io::{Stderr, Stdout};
+
+// Writes to both streams; how many calls failed.
+fn faults(output: &mut RealSink, errors: &mut RealSink) -> Result<u64, Trouble> {
+    output.put(b"to standard output\n")?;
+    output.flush()?;
+    errors.put(b"to standard error \xff\n")?;
+    errors.flush()?;
+    Ok(Sink::faults(output).saturating_add(Sink::faults(errors)))
+}
+
+// What is told of the streams.
+fn told(alloc: Global, output: Stdout, errors: Stderr) -> Result<String, Trouble> {
+    let mut output = RealSink::output(output);
+    let mut errors = RealSink::errors(errors);
+    let faults = faults(&mut output, &mut errors)?;
+    Ok(format!(in alloc; "{faults} calls failed")?)
+}
+
+/// Writes a line to each stream; the line that tells how that went.
+pub fn rows(alloc: Global, output: Stdout, errors: Stderr) -> Result<String, AllocError> {
+    let mut text = String::new(alloc);
+    push_row(
+        &mut text,
+        "bytes to both streams",
+        &told(alloc, output, errors),
+    )?;
+    Ok(text)
+}
