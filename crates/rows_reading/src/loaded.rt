@@ -1,0 +1,74 @@
+//! Workflows that are loaded from files in memory.
+
+use crate::parts::line_and_rest;
+use crate::shown_flow::workflow;
+use smk_base::{List, Pair, PathText, Text};
+use smk_load::{LoadFault, load};
+use smk_mem::{MemWork, Setup};
+use std::alloc::{AllocError, Global};
+
+/// Stands in front of each file.
+const FILE: u8 = 0x1d;
+
+/// The texts that are set: `KEY=VALUE`, with blanks between them, behind a `|`.
+fn sets_in(alloc: Global, line: &str) -> Result<List<Pair>, LoadFault> {
+    let mut sets = List::new(alloc);
+    if let Some((_, all)) = line.split_once('|') {
+        for set in all.split(' ') {
+            if let Some((name, value)) = set.split_once('=') {
+                sets.push(Pair {
+                    name: Text::of(alloc, name)?,
+                    value: Text::of(alloc, value)?,
+                })?;
+            }
+        }
+    }
+    Ok(sets)
+}
+
+/// The workspace with these files.
+fn workspace(alloc: Global, files: &[u8]) -> Result<MemWork, LoadFault> {
+    let mut work = MemWork::new(
+        alloc,
+        Setup {
+            failing: List::new(alloc),
+            stop_after: None,
+            order: List::new(alloc),
+            killed: List::new(alloc),
+        },
+    );
+    for file in files.split(|b| *b == FILE).skip(1) {
+        let (path, bytes) = line_and_rest(file);
+        if let Ok(path) = PathText::read(alloc, path) {
+            work.place(&path, bytes, 1)?;
+        }
+    }
+    Ok(work)
+}
+
+/// The rules and the clauses of the workspace.
+fn told(alloc: Global, line: &str, files: &[u8]) -> Result<String, LoadFault> {
+    let mut work = workspace(alloc, files)?;
+    let sets = sets_in(alloc, line)?;
+    let Ok(file) = PathText::read(alloc, "Snakefile") else {
+        return Err(LoadFault::OutOfMemory);
+    };
+    if !work.is_at_rest() {
+        return Err(LoadFault::Device);
+    }
+    let flow = load(alloc, &mut work, &file, &sets)?;
+    Ok(workflow(alloc, &flow)?)
+}
+
+/// Adds the rules and the clauses of the workspace with these files, or why there are none. The texts that are set stand in the line.
+pub fn push_workspace(
+    alloc: Global,
+    text: &mut String,
+    line: &str,
+    files: &[u8],
+) -> Result<(), AllocError> {
+    match told(alloc, line, files) {
+        Ok(told) => writeln!(text, "{}", told.as_str()),
+        Err(fault) => write!(text, "{fault:?}\n\n"),
+    }
+}

@@ -1,0 +1,14 @@
+//! The parts of what is read.
+
+use std::str;
+
+/// The first line, and what follows it.
+pub fn line_and_rest(part: &[u8]) -> (&str, &[u8]) {
+    match part.iter().position(|b| *b == b'\n') {
+        Some(end) => (
+            str::from_utf8(&part[..end]).unwrap_or("?"),
+            &part[end + 1..],
+        ),
+        None => (str::from_utf8(part).unwrap_or("?"), &[]),
+    }
+}

@@ -1,0 +1,85 @@
+//! Workflows, printed shortly.
+
+use smk_base::Text;
+use smk_flow::{Clause, InPart, OutPart, RulePart, Workflow};
+use std::alloc::{AllocError, Global};
+
+fn push_texts(text: &mut String, texts: &[Text]) -> Result<(), AllocError> {
+    for t in texts {
+        write!(text, " {}", t.as_str())?;
+    }
+    Ok(())
+}
+
+fn push_input(text: &mut String, item: &InPart) -> Result<(), AllocError> {
+    write!(text, "  in {}:", item.name.as_str())?;
+    push_texts(text, item.texts.as_slice())?;
+    if let Some(gather) = &item.gather {
+        write!(
+            text,
+            " {} of {} in {}",
+            gather.wanted.as_str(),
+            gather.listed.as_str(),
+            gather.checkpoint.as_str()
+        )?;
+    }
+    text.push_str("\n")
+}
+
+fn push_output(text: &mut String, item: &OutPart) -> Result<(), AllocError> {
+    write!(text, "  out {}:", item.name.as_str())?;
+    for out in item.outs.as_slice() {
+        write!(text, " {} {:?}", out.text.as_str(), out.flags)?;
+    }
+    text.push_str("\n")
+}
+
+fn push_rule(text: &mut String, part: &RulePart) -> Result<(), AllocError> {
+    write!(
+        text,
+        "{} at {}:{}, threads {}, priority {}\n",
+        part.name.as_str(),
+        part.file.as_str(),
+        part.line,
+        part.threads,
+        part.priority
+    )?;
+    for item in part.inputs.as_slice() {
+        push_input(text, item)?;
+    }
+    for item in part.outputs.as_slice() {
+        push_output(text, item)?;
+    }
+    for param in part.params.as_slice() {
+        write!(text, "  param {}:", param.name.as_str())?;
+        push_texts(text, param.values.as_slice())?;
+        text.push_str("\n")?;
+    }
+    for limit in part.limits.as_slice() {
+        write!(
+            text,
+            "  limit {}: {}\n",
+            limit.name.as_str(),
+            limit.value.as_str()
+        )?;
+    }
+    Ok(())
+}
+
+fn push_clause(text: &mut String, clause: &Clause) -> Result<(), AllocError> {
+    text.push_str("order")?;
+    push_texts(text, clause.names.as_slice())?;
+    text.push_str("\n")
+}
+
+/// The rules and the clauses.
+pub fn workflow(alloc: Global, flow: &Workflow) -> Result<String, AllocError> {
+    let mut text = String::new(alloc);
+    for rule in flow.rules().as_slice() {
+        push_rule(&mut text, &rule.part)?;
+    }
+    for clause in flow.orders().as_slice() {
+        push_clause(&mut text, clause)?;
+    }
+    Ok(text)
+}
