@@ -8,24 +8,23 @@ ghost use Rattle.smk_record.specs.declared.record.Record.{Record as RecordValue}
 ghost use Rattle.smk_store.specs.Images.{seen, Image};
 ghost use Rattle.smk_store.specs.Loading.{IsStoreOf, AreLooks};
 ghost use Rattle.smk_store.specs.Walking.{HasLooked};
-ghost use Rattle.smk_choose.specs.Finding.{IsFinder};
+ghost use Rattle.smk_choose.specs.Index.{AreReadings};
 ghost use Rattle.smk_choose.specs.Told.{told_by};
 ghost use Rattle.smk_chain.specs.Derive.{sources_of, distinct, reach, jobs, job_refusals, outcome};
-ghost use Rattle.smk_wants.specs.Wants.{ArePlaces};
 ghost use Rattle.smk_sight.specs.Sight.{SameOnReach, TellsReach, IsLarge, IsSmall};
 ghost use Rattle.smk_sight.specs.Viewing.{Viewed};
 ghost use Rattle.smk_sight.specs.Telling.{IsTrue};
 ghost use Rattle.smk_sight.specs.Reaching.{AreKept};
 ghost use Rattle.smk_sight.specs.Disk.{IsOnDisk};
 
-use crate::reaching::{Guide, LIMIT, Paths, add_paths, count, spread};
+use crate::reaching::{LIMIT, Paths, add_paths, count, spread};
 use crate::telling::Eye;
 use smk_base::{List, OutOfMemory, PathText};
 use smk_chain::{Listings, SightFault};
-use smk_choose::{Finder, Sources};
+use smk_choose::{Readings, Sources};
 use smk_flow::Workflow;
 use smk_store::Store;
-use smk_wants::Places;
+use smk_wants::Guide;
 use smk_world::{Files, WorkFault};
 use std::alloc::Global;
 use std::collections::{BTreeMap, BTreeSet};
@@ -58,16 +57,6 @@ fn no_eye(alloc: Global) -> Eye
     }
 }
 
-// What is read before paths are looked at.
-fn guide_of(alloc: Global, flow: &Workflow, lists: &Listings) -> Result<Guide, OutOfMemory>
-    ensures finder { IfOk result (λ guide. IsFinder flow.now guide.finder) }
-    ensures places { IfOk result (λ guide. ArePlaces lists.now guide.places) }
-{
-    let finder = Finder::new(alloc, flow)?;
-    let places = Places::of(alloc, lists)?;
-    Ok(Guide { finder, places })
-}
-
 // The targets, each once.
 fn started(alloc: Global, targets: &List<PathText>) -> Result<Paths, OutOfMemory>
     ensures kept { IfOk result (λ found. AreKept found) }
@@ -82,16 +71,18 @@ fn started(alloc: Global, targets: &List<PathText>) -> Result<Paths, OutOfMemory
 fn look_around<W: Files>(
     alloc: Global,
     flow: &Workflow,
+    readings: &Readings,
     store: &Store,
     lists: &Listings,
     targets: &List<PathText>,
     work: &mut W,
 ) -> Result<View, WorkFault>
+    requires { AreReadings flow.now readings.now }
     ensures looked { HasLooked W.act (W.world work.old) (W.world work.new) (W.faults work.old) (W.faults work.new) (W.running work.old) (W.running work.new) (IsErrOf result WorkFault.Failed) }
     ensures told { IfOk result (λ view. (w : World) (image : Image) → W.world work.old ≡ Some w → Viewed w.nodes store.now image
         → TellsReach flow.now (sources_of image) lists.now targets.now (told_by view.sources) view.count) }
 {
-    let guide = guide_of(alloc, flow, lists)?;
+    let guide = Guide::of(alloc, readings, lists)?;
     let mut found = started(alloc, targets)?;
     let mut eye = no_eye(alloc);
     spread(
@@ -118,18 +109,20 @@ fn sources_in(view: View) -> Result<Sources, SightFault>
 /// Looks at the working folder for the targets and for all that could be wanted for them, so that their jobs can be derived: tells of each
 /// path of their reach whether it is a source, and whether it holds one; and, where it is none, so of each output and log of the jobs
 /// that fit it by name. Nothing is changed. Each path is looked at once; a folder's tree is listed only where a folder stands at such
-/// a path, up to the first source in it.
+/// a path, up to the first source in it. What was read of the rules is given.
 ///
 /// `TooManyPaths`: the reach has more than 100,000 paths; with how many had been found then. `Device`: a call of the device failed.
 /// `OutOfMemory`: there is no memory for what is found.
 pub fn sight<W: Files>(
     alloc: Global,
     flow: &Workflow,
+    readings: &Readings,
     store: &Store,
     lists: &Listings,
     targets: &List<PathText>,
     work: &mut W,
 ) -> Result<Sources, SightFault>
+    requires { AreReadings flow.now readings.now }
     ensures did { Did W.act (W.world work.old) (W.world work.new) (λ w es. AreLooks es) }
 
     // Of the paths that count it tells what is so in the folder as it reads.
@@ -158,7 +151,7 @@ pub fn sight<W: Files>(
     ensures device { HasCause (W.faults work.old) (W.faults work.new) (IsErrOf result SightFault.Device) }
     ensures running { W.running work.new ≡ W.running work.old }
 {
-    match look_around(alloc, flow, store, lists, targets, work) {
+    match look_around(alloc, flow, readings, store, lists, targets, work) {
         Ok(view) => sources_in(view),
         Err(WorkFault::Failed) => Err(SightFault::Device),
         Err(WorkFault::OutOfMemory) => Err(SightFault::OutOfMemory),

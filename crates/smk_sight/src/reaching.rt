@@ -5,9 +5,10 @@ ghost use Rattle.std.specs.BTreeSet.{contains_text};
 ghost use Rattle.std.specs.List.{AllByRecursion, flat_map};
 ghost use Rattle.smk_world.specs.Trees.{Path};
 ghost use Rattle.smk_choose.specs.Choose.{Sources as Known};
-ghost use Rattle.smk_choose.specs.Finding.{IsFinder};
+ghost use Rattle.smk_choose.specs.Index.{AreReadings};
 ghost use Rattle.smk_store.specs.Walking.{HasLooked};
 ghost use Rattle.smk_chain.specs.Derive.{distinct, next};
+ghost use Rattle.smk_wants.specs.Guides.{IsGuide};
 ghost use Rattle.smk_wants.specs.Wants.{ArePlaces};
 ghost use Rattle.smk_sight.specs.Telling.{HasTold, IsListedAround, Says};
 ghost use Rattle.smk_sight.specs.Reaching.{AreKept, path_of, paths_by, IsPlaced, Advanced, grown, Closed};
@@ -15,10 +16,10 @@ ghost use Rattle.smk_sight.specs.Reaching.{AreKept, path_of, paths_by, IsPlaced,
 use crate::telling::{Eye, tell_around};
 use smk_base::{List, OutOfMemory, PathText};
 use smk_chain::Listings;
-use smk_choose::{Finder, Making};
+use smk_choose::{Making, Readings};
 use smk_flow::Workflow;
 use smk_store::Store;
-use smk_wants::{Places, Want, wants_of};
+use smk_wants::{Guide, Places, Want, wants_of};
 use smk_world::{Files, WorkFault};
 use std::alloc::Global;
 use std::collections::BTreeSet;
@@ -160,19 +161,12 @@ fn add_jobs(
     Ok(())
 }
 
-/// What is read once, before paths are looked at.
-#[derive(Drop)]
-pub(crate) struct Guide {
-    pub(crate) finder: Finder,
-    pub(crate) places: Places,
-}
-
 // Tells of the path and of where the jobs that fit it write, and adds what its candidates want.
 fn step<W: Files>(
     alloc: Global,
     flow: &Workflow,
     lists: &Listings,
-    guide: &Guide,
+    guide: &Guide<'_>,
     store: &Store,
     work: &mut W,
     eye: &mut Eye,
@@ -180,15 +174,14 @@ fn step<W: Files>(
     path: &PathText,
 ) -> Result<(), WorkFault>
     requires kept { AreKept found.old }
-    requires finder { IsFinder flow.now guide.now.finder }
-    requires places { ArePlaces lists.now guide.now.places }
+    requires guide { IsGuide flow.now lists.now guide.now }
     ensures looked { HasLooked W.act (W.world work.old) (W.world work.new) (W.faults work.old) (W.faults work.new) (W.running work.old) (W.running work.new) (IsErrOf result WorkFault.Failed) }
     ensures told { OnOk result (HasTold (W.world work.old) store.now eye.old eye.new) }
     ensures listed { OnOk result (IsListedAround flow.now eye.new path.now) }
     ensures kept { OnOk result (AreKept found.new) }
     ensures added { OnOk result ((S : Known) → Says eye.new S → found.new.paths.items ≡ distinct bytes_eq (found.old.paths.items ++ next flow.now S lists.now path.now)) }
 {
-    let jobs = tell_around(alloc, flow, &guide.finder, store, work, eye, path)?;
+    let jobs = tell_around(alloc, flow, guide.readings, store, work, eye, path)?;
     add_jobs(alloc, flow, lists, &guide.places, found, &jobs)?;
     Ok(())
 }
@@ -198,7 +191,7 @@ fn level<W: Files>(
     alloc: Global,
     flow: &Workflow,
     lists: &Listings,
-    guide: &Guide,
+    guide: &Guide<'_>,
     store: &Store,
     work: &mut W,
     eye: &mut Eye,
@@ -206,8 +199,7 @@ fn level<W: Files>(
     fresh: &[PathText],
 ) -> Result<(), WorkFault>
     requires kept { AreKept found.old }
-    requires finder { IsFinder flow.now guide.now.finder }
-    requires places { ArePlaces lists.now guide.now.places }
+    requires guide { IsGuide flow.now lists.now guide.now }
     ensures looked { HasLooked W.act (W.world work.old) (W.world work.new) (W.faults work.old) (W.faults work.new) (W.running work.old) (W.running work.new) (IsErrOf result WorkFault.Failed) }
     ensures told { OnOk result (HasTold (W.world work.old) store.now eye.old eye.new) }
     ensures kept { OnOk result (AreKept found.new) }
@@ -226,19 +218,19 @@ fn level<W: Files>(
 fn last<W: Files>(
     alloc: Global,
     flow: &Workflow,
-    guide: &Guide,
+    readings: &Readings,
     store: &Store,
     work: &mut W,
     eye: &mut Eye,
     fresh: &[PathText],
 ) -> Result<(), WorkFault>
-    requires finder { IsFinder flow.now guide.now.finder }
+    requires readings { AreReadings flow.now readings.now }
     ensures looked { HasLooked W.act (W.world work.old) (W.world work.new) (W.faults work.old) (W.faults work.new) (W.running work.old) (W.running work.new) (IsErrOf result WorkFault.Failed) }
     ensures told { OnOk result (HasTold (W.world work.old) store.now eye.old eye.new) }
     ensures listed { OnOk result (AllByRecursion (IsListedAround flow.now eye.new) fresh.now) }
 {
     for path in fresh {
-        tell_around(alloc, flow, &guide.finder, store, work, eye, path)?;
+        tell_around(alloc, flow, readings, store, work, eye, path)?;
     }
     Ok(())
 }
@@ -269,7 +261,7 @@ pub(crate) fn spread<W: Files>(
     alloc: Global,
     flow: &Workflow,
     lists: &Listings,
-    guide: &Guide,
+    guide: &Guide<'_>,
     store: &Store,
     work: &mut W,
     eye: &mut Eye,
@@ -278,8 +270,7 @@ pub(crate) fn spread<W: Files>(
     levels: u32,
 ) -> Result<(), WorkFault>
     requires kept { AreKept found.old }
-    requires finder { IsFinder flow.now guide.now.finder }
-    requires places { ArePlaces lists.now guide.now.places }
+    requires guide { IsGuide flow.now lists.now guide.now }
     requires within { from ≤ length found.old.paths.items }
     requires listed { AllByRecursion (IsListedAround flow.now eye.old) (take from found.old.paths.items) }
     requires closed { (S : Known) → Says eye.old S → Closed flow.now S lists.now from found.old.paths.items }
@@ -295,7 +286,7 @@ pub(crate) fn spread<W: Files>(
     let fresh = copies_from(alloc, found, from)?;
     let paths: &[PathText] = &fresh;
     if levels == 0 {
-        last(alloc, flow, guide, store, work, eye, paths)?;
+        last(alloc, flow, guide.readings, store, work, eye, paths)?;
         return Ok(());
     }
     level(alloc, flow, lists, guide, store, work, eye, found, paths)?;

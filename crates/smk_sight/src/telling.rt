@@ -7,13 +7,14 @@ ghost use Rattle.smk_pattern.specs.Shapes.{Text as TextValue};
 ghost use Rattle.smk_choose.specs.declared.choice.Making.{Making as MakingValue};
 ghost use Rattle.smk_choose.specs.Choose.{candidates};
 ghost use Rattle.smk_choose.specs.Told.{standing_of, told_by, making};
-ghost use Rattle.smk_choose.specs.Finding.{IsFinder, places_by};
+ghost use Rattle.smk_choose.specs.Finding.{places_by};
+ghost use Rattle.smk_choose.specs.Index.{AreReadings};
 ghost use Rattle.smk_store.specs.Walking.{HasLooked};
 ghost use Rattle.smk_sight.specs.Telling.{HasTold, IsListed, ArePlacesListed, IsListedAround, candidates_by};
 
 use crate::seeing::{Sighted, standing_at};
 use smk_base::{OutOfMemory, PathFault, PathText, Text};
-use smk_choose::{Finder, Making, Sources, apart, places};
+use smk_choose::{Making, Readings, Sources, apart, places};
 use smk_flow::Workflow;
 use smk_store::Store;
 use smk_world::{Files, WorkFault};
@@ -138,19 +139,19 @@ fn tell_jobs<W: Files>(
 fn candidates_of<W: Files>(
     alloc: Global,
     flow: &Workflow,
-    finder: &Finder,
+    readings: &Readings,
     store: &Store,
     work: &mut W,
     eye: &mut Eye,
     path: &PathText,
 ) -> Result<Vec<Making>, WorkFault>
-    requires { IsFinder flow.now finder.now }
+    requires { AreReadings flow.now readings.now }
     ensures looked { HasLooked W.act (W.world work.old) (W.world work.new) (W.faults work.old) (W.faults work.new) (W.running work.old) (W.running work.new) (IsErrOf result WorkFault.Failed) }
     ensures listed { OnOk result (ArePlacesListed flow.now eye.new path.now) }
     ensures told { OnOk result (HasTold (W.world work.old) store.now eye.old eye.new) }
     ensures jobs { IfOk result (λ jobs. jobs.items ≡ map making (candidates flow.now (told_by eye.new.sources) path.now)) }
 {
-    let fitting = finder.fitting(alloc, flow, path)?;
+    let fitting = readings.fitting(alloc, flow, path)?;
     tell_jobs(alloc, flow, store, work, eye, &fitting)?;
     let jobs = apart(alloc, flow, &eye.sources, fitting)?;
     Ok(jobs)
@@ -161,13 +162,13 @@ fn candidates_of<W: Files>(
 pub(crate) fn tell_around<W: Files>(
     alloc: Global,
     flow: &Workflow,
-    finder: &Finder,
+    readings: &Readings,
     store: &Store,
     work: &mut W,
     eye: &mut Eye,
     path: &PathText,
 ) -> Result<Vec<Making>, WorkFault>
-    requires { IsFinder flow.now finder.now }
+    requires { AreReadings flow.now readings.now }
     ensures looked { HasLooked W.act (W.world work.old) (W.world work.new) (W.faults work.old) (W.faults work.new) (W.running work.old) (W.running work.new) (IsErrOf result WorkFault.Failed) }
     ensures listed { OnOk result (IsListedAround flow.now eye.new path.now) }
     ensures told { OnOk result (HasTold (W.world work.old) store.now eye.old eye.new) }
@@ -177,6 +178,6 @@ pub(crate) fn tell_around<W: Files>(
     if eye.sources.is(path) {
         return Ok(Vec::new(alloc));
     }
-    let jobs = candidates_of(alloc, flow, finder, store, work, eye, path)?;
+    let jobs = candidates_of(alloc, flow, readings, store, work, eye, path)?;
     Ok(jobs)
 }

@@ -2,6 +2,7 @@
 #![tactic(auto)]
 
 mod gathering;
+mod guide;
 mod items;
 mod job;
 mod parts;
@@ -10,6 +11,7 @@ mod texts;
 mod wanted;
 mod wants;
 
+pub use guide::Guide;
 pub use job::{declared_of, job_of};
 pub use places::Places;
 pub use wanted::Want;

@@ -93,17 +93,14 @@ spread-requires g t c κs within =
         (
           c.in_ok-level.ensures.kept,
           (
-            c.requires.finder,
+            c.requires.guide,
             (
-              c.requires.places,
+              within_at c.args.flow.now c.args.lists.now c.level.new.eye c.args.from xs c.deref-paths.result.now new l c.count-end.result c.count-end.ensures,
               (
-                within_at c.args.flow.now c.args.lists.now c.level.new.eye c.args.from xs c.deref-paths.result.now new l c.count-end.result c.count-end.ensures,
-                (
-                  subst (λ (ys : List Path). AllByRecursion (IsListedAround c.args.flow.now c.level.new.eye) ys)
-                      (sym (first_at c.args.flow.now c.args.lists.now c.level.new.eye c.args.from xs c.deref-paths.result.now new l c.count-end.result c.count-end.ensures))
-                      (told_at c.args.flow.now c.args.lists.now c.level.new.eye c.args.from xs c.deref-paths.result.now new l c.args.eye.now c.in_ok-level.ensures.told.keeps c.requires.listed few),
-                  λ S says. closed_at c.args.flow.now c.args.lists.now c.level.new.eye c.args.from xs c.deref-paths.result.now new l c.count-end.result S says c.count-end.ensures few,
-                ),
+                subst (λ (ys : List Path). AllByRecursion (IsListedAround c.args.flow.now c.level.new.eye) ys)
+                    (sym (first_at c.args.flow.now c.args.lists.now c.level.new.eye c.args.from xs c.deref-paths.result.now new l c.count-end.result c.count-end.ensures))
+                    (told_at c.args.flow.now c.args.lists.now c.level.new.eye c.args.from xs c.deref-paths.result.now new l c.args.eye.now c.in_ok-level.ensures.told.keeps c.requires.listed few),
+                λ S says. closed_at c.args.flow.now c.args.lists.now c.level.new.eye c.args.from xs c.deref-paths.result.now new l c.count-end.result S says c.count-end.ensures few,
               ),
             ),
           ),
