@@ -1,5 +1,6 @@
 -- What looks leave.
-use Rattle.std.proofs.Common.{◌≡◌, ℕ, true, false, List, [], ◌∷◌, map, refl, sym, ap, ap₂, ◌∙◌, Option, Some, None, Ok, Err}
+use Rattle.std.proofs.Common.{◌≡◌, ℕ, true, List, [], ◌∷◌, map, refl, sym, ap, ap₂, ◌∙◌, Option, Some, None, Ok, Err, true≢false}
+use Rattle.std.proofs.lemmas.Option.{same_Some}
 use Rattle.std.specs.Prelude.{IsSome}
 use Rattle.std.proofs.lemmas.List.Elements.{All-head, All-tail}
 use Rattle.smk_world.specs.declared.event.Call.{Call}
@@ -18,9 +19,6 @@ use Rattle.smk_store.proofs.Looks.{looks_nodes}
 use Rattle.smk_members.proofs.Trees.{tree_still}
 use Rattle.smk_serve.specs.Serving.{IsAtHand}
 
-true_false : true ≡ false → ⊥
-true_false e = cc
-
 empty_names : (left : List Change) (names : List Path) → left ≡ [] → add_names (map (λ (c : Change). c.place) left) names ≡ names
 empty_names left names e = ap (λ (cs : List Change). add_names (map (λ (c : Change). c.place) cs) names) e
 
@@ -31,23 +29,20 @@ look_names act w (ReadFile p limit (Ok f)) left names h lets = empty_names left 
 look_names act w (ReadFile p limit (Err e)) left names h lets = empty_names left names lets
 look_names act w (ReadFolder p (Ok l)) left names h lets = empty_names left names lets.0
 look_names act w (ReadFolder p (Err e)) left names h lets = empty_names left names lets
-look_names act w (Written p bytes r) left names h lets = absurd (true_false (sym h))
-look_names act w (Created p r) left names h lets = absurd (true_false (sym h))
-look_names act w (Removed p r) left names h lets = absurd (true_false (sym h))
-look_names act w (MadeParents p r) left names h lets = absurd (true_false (sym h))
-look_names act w (Settled ps r) left names h lets = absurd (true_false (sym h))
-look_names act w (Protected p r) left names h lets = absurd (true_false (sym h))
-look_names act w (Started recipe logs command r) left names h lets = absurd (true_false (sym h))
-look_names act w (Waited r) left names h lets = absurd (true_false (sym h))
+look_names act w (Written p bytes r) left names h lets = absurd (true≢false (sym h))
+look_names act w (Created p r) left names h lets = absurd (true≢false (sym h))
+look_names act w (Removed p r) left names h lets = absurd (true≢false (sym h))
+look_names act w (MadeParents p r) left names h lets = absurd (true≢false (sym h))
+look_names act w (Settled ps r) left names h lets = absurd (true≢false (sym h))
+look_names act w (Protected p r) left names h lets = absurd (true≢false (sym h))
+look_names act w (Started recipe logs command r) left names h lets = absurd (true≢false (sym h))
+look_names act w (Waited r) left names h lets = absurd (true≢false (sym h))
 
 looks_names : (act : Act) (w : World) (es : List Event) → Follows act w es → AreLooks es → (run w es).names ≡ w.names
 looks_names act w [] follows h = refl
 looks_names act w (e ∷ es) follows h =
     looks_names act (after w e) es follows.1 (All-tail (λ (x : Event). is_look x.call ≡ true) e es h)
     ∙ look_names act w e.call e.left w.names (All-head (λ (x : Event). is_look x.call ≡ true) e es h) follows.0
-
-same_some : {A : Type 0} (x y : A) → Some x ≡ Some y → x ≡ y
-same_some x y e = cc
 
 -- nothing has come or gone
 pub record IsSameFolder (w v : World) : Type 0 where
@@ -60,7 +55,7 @@ looks_leave act w es follows h = record { nodes = looks_nodes w es h; names = lo
 pub moved : (act : Act) (a b : Option World) (w v : World) → Did act a b (λ u es. AreLooks es) → a ≡ Some w → b ≡ Some v → IsSameFolder w v
 moved act a b w v did e f =
     let d = did v f in
-    let same : d.0 ≡ w = same_some d.0 w (sym d.1 ∙ e) in
+    let same : d.0 ≡ w = same_Some d.0 w (sym d.1 ∙ e) in
     let left = looks_leave act d.0 d.2.0 d.2.1 d.2.2 in
     record {
       nodes = ap (λ (u : World). u.nodes) d.2.3 ∙ left.nodes ∙ ap (λ (u : World). u.nodes) same;
@@ -71,7 +66,7 @@ pub seen_moved : (read : List ℕ → Option Record) (w v : World) → IsSameFol
 seen_moved read w v same = ap₂ (λ (names : List Path) (nodes : Path → NodeState). image_by read names (λ q. reading (nodes q))) same.names same.nodes
 
 pub some_of : {A : Type 0} (o : Option A) → IsSome o → (x : A) × (o ≡ Some x)
-some_of None h = absurd (true_false (sym h))
+some_of None h = absurd (true≢false (sym h))
 some_of (Some x) h = (x, refl)
 
 -- what is at hand stays so

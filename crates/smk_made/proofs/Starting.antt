@@ -1,5 +1,5 @@
 -- The command's start, and its end.
-use Rattle.std.proofs.Common.{◌≡◌, ℕ, Bool, true, false, not, List, [], ◌∷◌, ◌++◌, refl, ap, sym, subst, ◌∙◌, Some, None, Ok, Err}
+use Rattle.std.proofs.Common.{◌≡◌, ℕ, Bool, true, false, not, List, [], ◌∷◌, ◌++◌, refl, ap, sym, subst, ◌∙◌, Some, None, Ok, Err, true≢false}
 use Rattle.std.specs.Prelude.{if◌then◌else◌, nat_eq}
 use Rattle.std.specs.List.{filter}
 use Rattle.std.proofs.lemmas.List.{append-nil}
@@ -20,9 +20,6 @@ use Rattle.smk_job.proofs.Children.{AreFiles, is_crew, children_by}
 use Rattle.smk_run.specs.Closings.{wait_event}
 use Rattle.smk_made.proofs.Keeping.{EachCall}
 
-true_false : true ≡ false → ⊥
-true_false e = cc
-
 -- ## Children
 
 -- calls that neither start a child nor wait for one
@@ -40,7 +37,7 @@ number_none (Removed p r) h = refl
 number_none (MadeParents p r) h = refl
 number_none (Settled ps r) h = refl
 number_none (Protected p r) h = refl
-number_none (Started recipe logs command r) h = absurd (true_false h)
+number_none (Started recipe logs command r) h = absurd (true≢false h)
 number_none (Waited r) h = refl
 
 -- the child that a start made
@@ -51,7 +48,7 @@ start_by (Started r ls command2 (Ok n)) cs recipe logs command number is quiet e
     let equal : ls ≡ logs = cc in
     let as_told : n ≡ number = cc in
     λ i. cs ++ record { number = as_told i; recipe = same i; logs = equal i } ∷ []
-start_by (Started r ls command2 (Err e)) cs recipe logs command number is quiet told = absurd (true_false quiet)
+start_by (Started r ls command2 (Err e)) cs recipe logs command number is quiet told = absurd (true≢false quiet)
 start_by (Looked x r) cs recipe logs command number is quiet e = cc
 start_by (ReadFile x limit r) cs recipe logs command number is quiet e = cc
 start_by (ReadFolder x r) cs recipe logs command number is quiet e = cc
