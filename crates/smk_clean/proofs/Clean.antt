@@ -1,5 +1,5 @@
 -- A run that ends without a fault leaves clean values.
-use Rattle.std.proofs.Common.{◌≡◌, inl, inr, ℕ, suc, Bool, true, false, List, [], ◌∷◌, ◌++◌, flat_map, map, zip, length, arith, refl, ap, sym, subst, ◌∙◌, Option, Some, None, Result, Ok, Err, is_none, if◌then◌else◌}
+use Rattle.std.proofs.Common.{◌≡◌, inl, inr, ℕ, suc, Bool, true, false, List, [], ◌∷◌, ◌++◌, flat_map, map, zip, length, arith, refl, ap, sym, subst, ◌∙◌, Option, Some, None, Result, Ok, Err, is_none, if◌then◌else◌, true≢false}
 use Rattle.std.proofs.lemmas.List.{append-nil, length-map}
 use Rattle.smk_world.specs.World.{World, IsFormed, run}
 use Rattle.smk_world.specs.Calls.{Rose}
@@ -64,9 +64,6 @@ use Rattle.smk_clean.proofs.Meant.{all_plain, asked_built, duties_meant, is_plan
 use Rattle.smk_serve.proofs.Plain.{each_from}
 use Rattle.smk_clean.proofs.Safe.{Answer, IsTurnRun, no_fault, ok_err, started, turns_run, turns_safe}
 
-true_false : true ≡ false → ⊥
-true_false e = cc
-
 some_none : (f : Fault) → Some f ≡ None → ⊥
 some_none f e = cc
 
@@ -80,9 +77,9 @@ good_by name (WrongKind p) e = absurd (some_none _ e)
 good_by name (BadMember p) e = absurd (some_none _ e)
 
 done_by : (flow : Flow) (job : Job) (course : Course) → is_closed course ≡ true → course_failure flow job course ≡ None → is_done course ≡ true
-done_by flow job Unbegun closed e = absurd (true_false (sym closed))
-done_by flow job Unstarted closed e = absurd (true_false (sym closed))
-done_by flow job Unclosed closed e = absurd (true_false (sym closed))
+done_by flow job Unbegun closed e = absurd (true≢false (sym closed))
+done_by flow job Unstarted closed e = absurd (true≢false (sym closed))
+done_by flow job Unclosed closed e = absurd (true≢false (sym closed))
 done_by flow job (Closed ending) closed e = good_by (named flow job) ending e
 
 both_none : (a b : Option Fault) → or_later a b ≡ None → (a ≡ None) × (b ≡ None)

@@ -1,5 +1,5 @@
 -- A call is safe.
-use Rattle.std.proofs.Common.{◌≡◌, inl, inr, ℕ, suc, Bool, true, false, List, [], ◌∷◌, ◌++◌, flat_map, fold, max, refl, ap, sym, subst, ◌∙◌, append_assoc, Option, Some, None, option_map, filter, Result, Ok, Err}
+use Rattle.std.proofs.Common.{◌≡◌, inl, inr, ℕ, suc, Bool, true, false, List, [], ◌∷◌, ◌++◌, flat_map, fold, max, refl, ap, sym, subst, ◌∙◌, append_assoc, Option, Some, None, option_map, filter, Result, Ok, Err, true≢false}
 use Rattle.std.specs.Option.{option_and_then}
 use Rattle.std.proofs.lemmas.List.{append-nil}
 use Rattle.std.proofs.lemmas.List.Elements.{All-head, All-tail}
@@ -72,9 +72,6 @@ use Rattle.smk_clean.proofs.Meant.{all_plain, asked_built, duties_meant, is_plan
 abbrev pub Answer : Type 0
 Answer = Result (Unit {0}) Fault
 
-true_false : true ≡ false → ⊥
-true_false e = cc
-
 pub ok_err : (u : Unit {0}) (f : Fault) → ◌≡◌ {A = Answer} (Ok u) (Err f) → ⊥
 ok_err u f e = cc
 
@@ -110,14 +107,14 @@ look_is : (o : Outside) (c : Call) → is_look c ≡ true → IsLook o c
 look_is o (Looked p r) h = tt
 look_is o (ReadFile p limit r) h = tt
 look_is o (ReadFolder p r) h = tt
-look_is o (Written p bytes r) h = true_false (sym h)
-look_is o (Created p r) h = true_false (sym h)
-look_is o (Removed p r) h = true_false (sym h)
-look_is o (MadeParents p r) h = true_false (sym h)
-look_is o (Settled ps r) h = true_false (sym h)
-look_is o (Protected p r) h = true_false (sym h)
-look_is o (Started recipe logs command r) h = true_false (sym h)
-look_is o (Waited r) h = true_false (sym h)
+look_is o (Written p bytes r) h = true≢false (sym h)
+look_is o (Created p r) h = true≢false (sym h)
+look_is o (Removed p r) h = true≢false (sym h)
+look_is o (MadeParents p r) h = true≢false (sym h)
+look_is o (Settled ps r) h = true≢false (sym h)
+look_is o (Protected p r) h = true≢false (sym h)
+look_is o (Started recipe logs command r) h = true≢false (sym h)
+look_is o (Waited r) h = true≢false (sym h)
 
 looks_are : (o : Outside) (es : List Event) → OnlyLooks es → AreLooks o es
 looks_are o [] h = tt
@@ -148,7 +145,7 @@ settled_done (Created p r) ps h f = cc
 settled_done (Removed p r) ps h f = cc
 settled_done (MadeParents p r) ps h f = cc
 settled_done (Settled qs (Ok u)) ps h f = settled_ok (Settled qs (Ok u)) ps h
-settled_done (Settled qs (Err x)) ps h f = absurd (true_false f)
+settled_done (Settled qs (Err x)) ps h f = absurd (true≢false f)
 settled_done (Protected p r) ps h f = cc
 settled_done (Started recipe logs command r) ps h f = cc
 settled_done (Waited r) ps h f = cc

@@ -1,14 +1,11 @@
 -- The outcome by the answer.
-use Rattle.std.proofs.Common.{◌≡◌, ◌⊎◌, true, false, inl, inr, sym, ap, ◌∙◌, Option, Some, None, Result, Ok, Err}
+use Rattle.std.proofs.Common.{◌≡◌, ◌⊎◌, true, inl, inr, sym, ap, ◌∙◌, Option, Some, None, Result, Ok, Err, true≢false}
 use Rattle.smk_report.specs.declared.fault.Fault.{Fault}
 use Rattle.smk_report.specs.declared.fault.Fault.TheVariants as fault
 use Rattle.smk_entry.specs.Faults.{is_device, is_sink, device_failed}
 use Rattle.smk_serve.specs.Ends.{sink_failed}
 use Rattle.smk_cli.specs.Faults.{fault_of}
 use Rattle.smk_cli.specs.Lines.{IsOutcome}
-
-true_false : true ≡ false → ⊥
-true_false e = cc
 
 told_fault : (r : Result (Unit {0}) Fault) (f : Fault) → fault_of r ≡ Some f → r ≡ Err f
 told_fault (Ok u) f e = absurd (none_some e)
@@ -25,11 +22,11 @@ memory_is f e = cc
 
 pub outcome_device : (r : Result (Unit {0}) Fault) (told : Option Fault) → IsOutcome (fault_of r) told → told ≡ Some fault.Device → device_failed r ≡ true
 outcome_device r told (inl same) e = ap device_failed (told_fault r fault.Device (sym same ∙ e))
-outcome_device r told (inr h) e = absurd (true_false (sym (ap is_device (memory_is fault.Device (sym h.1 ∙ e)))))
+outcome_device r told (inr h) e = absurd (true≢false (sym (ap is_device (memory_is fault.Device (sym h.1 ∙ e)))))
 
 pub outcome_output : (r : Result (Unit {0}) Fault) (told : Option Fault) → IsOutcome (fault_of r) told → told ≡ Some fault.Output → sink_failed r ≡ true
 outcome_output r told (inl same) e = ap sink_failed (told_fault r fault.Output (sym same ∙ e))
-outcome_output r told (inr h) e = absurd (true_false (sym (ap is_sink (memory_is fault.Output (sym h.1 ∙ e)))))
+outcome_output r told (inr h) e = absurd (true≢false (sym (ap is_sink (memory_is fault.Output (sym h.1 ∙ e)))))
 
 pub outcome_unread : (r : Result (Unit {0}) Fault) (told : Option Fault) → IsOutcome (fault_of r) told → (r ≡ Err fault.BadWords) ⊎ (r ≡ Err fault.OutOfMemory) → (told ≡ Some fault.BadWords) ⊎ (told ≡ Some fault.OutOfMemory)
 outcome_unread r told (inr memory) h = inr memory.1

@@ -1,6 +1,6 @@
 -- What is put of the line of a fault.
 use native.Mathlib.Omega.{arith}
-use Rattle.std.proofs.Common.{◌≡◌, ◌⊎◌, ℕ, Bool, true, false, [], inl, inr, refl, sym, subst, Option, Some, Result, Ok, Err, length, take, drop, is_ok}
+use Rattle.std.proofs.Common.{◌≡◌, ◌⊎◌, ℕ, Bool, true, false, [], inl, inr, refl, sym, subst, Option, Some, Result, Ok, Err, length, take, drop, is_ok, true≢false}
 use Rattle.std.specs.Prelude.{IsErr}
 use Rattle.std.proofs.lemmas.List.{take-append-drop, take_all}
 use Rattle.smk_world.specs.Calls.{HasPut}
@@ -10,9 +10,6 @@ use Rattle.smk_report.specs.declared.fault.Fault.TheVariants as fault
 use Rattle.smk_report.specs.Faults.{fault_text}
 use Rattle.smk_run.specs.Reports.{HasWritten, IsFront}
 use Rattle.smk_cli.specs.Lines.{IsFaultLine}
-
-true_false : true ≡ false → ⊥
-true_false e = cc
 
 put_or_rose : (ok : Bool) (rose : Type 0) (n : ℕ) (line : Text) → (ok ≡ true → n ≡ length line) → (ok ≡ false → rose) → (f : Fault) → (take n line ≡ line) ⊎ (rose ⊎ (f ≡ fault.OutOfMemory))
 put_or_rose true rose n line all bad f = inl (take_all n line (omega (arith, all refl)))
@@ -33,5 +30,5 @@ line_put f line ok old new rose is put bad = record {
 }
 
 pub not_ok : {A E : Type 0} (r : Result A E) → is_ok r ≡ false → IsErr r
-not_ok (Ok t) h = absurd (true_false h)
+not_ok (Ok t) h = absurd (true≢false h)
 not_ok (Err e) h = refl

@@ -1,5 +1,5 @@
 -- The turns of the jobs that are due are those of the plan by which they have their duties.
-use Rattle.std.proofs.Common.{◌≡◌, inl, inr, ℕ, zero, suc, ◌+◌, Bool, true, false, cond, List, [], ◌∷◌, ◌++◌, zip, filter, length, take, refl, ap, sym, subst, ◌∙◌, append_assoc, arith, Option, Some, None, option_map}
+use Rattle.std.proofs.Common.{◌≡◌, inl, inr, ℕ, zero, suc, ◌+◌, Bool, true, false, cond, List, [], ◌∷◌, ◌++◌, zip, filter, length, take, refl, ap, sym, subst, ◌∙◌, append_assoc, arith, Option, Some, None, option_map, true≢false}
 use Rattle.std.specs.Prelude.{nat_lt, if◌then◌else◌, slice_get}
 use Rattle.std.specs.Option.{option_and_then}
 use Rattle.smk_base.specs.Path.{overlaps}
@@ -40,9 +40,6 @@ use Rattle.smk_safe.specs.Planned.{AreTurnsOf, TellsSerials, IsPlain}
 use Rattle.smk_safe.proofs.Planned.{all_shut, maker_known, no_folders, planned_turns_are_ready, plain_makes}
 use Rattle.smk_safe.proofs.Safe.{run_is_safe}
 use Rattle.smk_dues.specs.Dues.{TellsMakers, DueTurnsAreReady, DueRunIsSafe}
-
-true_false : true ≡ false → ⊥
-true_false e = cc
 
 -- ## Lists
 
@@ -154,8 +151,8 @@ module _ (image : Image) (cores top : ℕ) (all : List Duty) where
 
       rest_is : (d : Duty) → rests d ≡ true → (m : ℕ) × (d ≡ Rest m)
       rest_is (Rest m) h = (m, refl)
-      rest_is (Again m) h = absurd (true_false (sym h))
-      rest_is Run h = absurd (true_false (sym h))
+      rest_is (Again m) h = absurd (true≢false (sym h))
+      rest_is Run h = absurd (true≢false (sym h))
 
       step : (s : State) (d : Duty) → IsMeant image j s d → all ≡ before ++ d ∷ duties → AreInOrder cores (due_from serial (length before) (d ∷ duties) (j ∷ jobs)) (t ∷ ts)
           → ((m : ℕ) → all ≡ before ++ Rest m ∷ duties → AreInOrder cores (due_from serial (suc (length before)) duties jobs) (t ∷ ts) → AreTurnsOf image greatest (zip jobs states) (t ∷ ts))
@@ -163,8 +160,8 @@ module _ (image : Image) (cores top : ℕ) (all : List Duty) where
           → (all ≡ before ++ Run ∷ duties → AreInOrder cores (due_from serial (suc (length before)) duties jobs) ts → AreTurnsOf image (suc greatest) (zip jobs states) ts)
           → AreTurnsOf image greatest ((j, s) ∷ zip jobs states) (t ∷ ts)
       step Open (Rest m) is e k rest again run = rest m e k
-      step Open (Again m) is e k rest again run = absurd (true_false (sym is))
-      step Open Run is e k rest again run = absurd (true_false (sym is))
+      step Open (Again m) is e k rest again run = absurd (true≢false (sym is))
+      step Open Run is e k rest again run = absurd (true≢false (sym is))
       step (Dirty rs) (Rest m) is e k rest again run = cc
       step (Dirty rs) (Again m) is e k rest again run = cc
       step (Dirty rs) Run is e (same, command, number, last, more) rest again run = (
@@ -281,9 +278,9 @@ due_tells o w flow settings plan makers duties cores top ts formed is_plan plain
 
     resting : (image : Image) (j : Job) (s : State) (d : Duty) (next : Option ℕ) (q : Path) (r : Record) → is_to_run s ≡ false → is_open s ≡ false → IsMeant image j s d → IsIn (out_paths j.recipe) q → core_at image q ≡ Some r
         → serial_by next d ≡ Some r.made
-    resting image j Open d next q r rests shut is out stands = absurd (true_false shut)
-    resting image j (Dirty rs) d next q r rests shut is out stands = absurd (true_false rests)
-    resting image j Restore d next q r rests shut is out stands = absurd (true_false rests)
+    resting image j Open d next q r rests shut is out stands = absurd (true≢false shut)
+    resting image j (Dirty rs) d next q r rests shut is out stands = absurd (true≢false rests)
+    resting image j Restore d next q r rests shut is out stands = absurd (true≢false rests)
     resting image j Clean d next q r rests shut (m, kept, is) out stands = ap (serial_by next) is ∙ ap Some (kept_serial image m j q r kept out stands)
 
 pub due_turns_are_ready : DueTurnsAreReady

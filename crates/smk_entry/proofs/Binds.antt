@@ -1,5 +1,5 @@
 -- Steps, each of which has an answer or a fault, with looks among them.
-use Rattle.std.proofs.Common.{◌≡◌, ℕ, true, false, List, refl, ap, sym, subst, inl, Option, Result, Ok, Err}
+use Rattle.std.proofs.Common.{◌≡◌, ℕ, true, false, List, refl, ap, sym, subst, inl, Option, Result, Ok, Err, true≢false}
 use Rattle.smk_base.specs.declared.tree.Tree.{Tree}
 use Rattle.smk_world.specs.declared.event.Call.TheVariants.{Looked}
 use Rattle.smk_world.specs.declared.event.Failed.{Failed}
@@ -15,9 +15,6 @@ use Rattle.smk_files.proofs.Looking.{IsEntry, idle_known, did_one, seen_both, se
 use Rattle.smk_report.specs.declared.fault.Fault.{Fault}
 use Rattle.smk_report.specs.declared.fault.Fault.TheVariants.{Device}
 use Rattle.smk_entry.specs.Faults.{is_device, device_failed, and_then, Answers}
-
-true_false : true ≡ false → ⊥
-true_false e = cc
 
 fault_told : {A B : Type 0} (m : Result A Fault) (next : A → Result B Fault) (f : Fault) → Answers m (Err f) → Answers (and_then m next) (Err f)
 fault_told m next f h = λ told. ap (λ r. and_then r next) (h told)
@@ -73,7 +70,7 @@ seen_stat act a b p stat idle now = did_one act (HasSeen false (λ nodes. meant 
     (λ w left e lets. record {
       looks = (refl, tt);
       quiet = λ h. (refl, tt);
-      failure = λ h. absurd (true_false (sym h));
+      failure = λ h. absurd (true≢false (sym h));
       seen = ap meant (stat_at (w.nodes p) stat (idle_known w (idle w e) p) lets.1);
     })
 
@@ -82,10 +79,10 @@ pub seen_failed : (act : Recipe → List Tree → Acted) (a b : Option World) (p
 seen_failed act a b p e G now h = did_one act (HasSeen true G) a b (Looked p (Err e)) now
     (λ w left told lets. record {
       looks = (refl, tt);
-      quiet = λ bad. absurd (true_false bad);
+      quiet = λ bad. absurd (true≢false bad);
       failure = λ bad. inl refl;
       seen = h w.nodes;
     })
 
 pub never_told : (m : Result Stat Fault) → Answers m (Err Device)
-never_told m = λ told. absurd (true_false (sym told))
+never_told m = λ told. absurd (true≢false (sym told))

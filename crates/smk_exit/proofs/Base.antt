@@ -1,5 +1,5 @@
 -- What the exit shows of a job that rests or is done, where so are those that make what it reads.
-use Rattle.std.proofs.Common.{◌≡◌, ◌⊎◌, inl, inr, ℕ, suc, Bool, true, false, ◌&&◌, not, List, [], ◌∷◌, map, filter, zip, refl, ap, sym, subst, ◌∙◌, bytes_eq, Option, Some, arith}
+use Rattle.std.proofs.Common.{◌≡◌, ◌⊎◌, inl, inr, ℕ, suc, Bool, true, false, ◌&&◌, not, List, [], ◌∷◌, map, filter, zip, refl, ap, sym, subst, ◌∙◌, bytes_eq, Option, Some, arith, true≢false}
 use Rattle.std.specs.Prelude.{is_some, if◌then◌else◌}
 use Rattle.std.specs.List.{list_any}
 use Rattle.std.specs.Option.{option_and_then}
@@ -46,9 +46,6 @@ use Rattle.smk_exit.specs.Exit.{IsDueRun}
 use Rattle.smk_exit.proofs.Calm.{HoldsOne, own_none}
 use Rattle.smk_exit.proofs.Done as is_done_so
 use Rattle.smk_exit.proofs.Left as at_exit
-
-true_false : true ≡ false → ⊥
-true_false e = cc
 
 pub bool_cases : (b : Bool) → (b ≡ true) ⊎ (b ≡ false)
 bool_cases true = inl refl
@@ -107,7 +104,7 @@ module _ (o : Outside) (entry : World) (H : Versions) (flow : Flow) (settings : 
       step Open e k skip take = skip k
       step Clean e k skip take = skip k
       step (Dirty rs) e (same, next, later) skip take = elim i [
-        | inl d ↦ absurd (true_false (sym (ap is_dirty e) ∙ sym (ap (λ z. is_dirty (st z)) (ap (λ (x : Turn). x.job) d ∙ same)) ∙ calm))
+        | inl d ↦ absurd (true≢false (sym (ap is_dirty e) ∙ sym (ap (λ z. is_dirty (st z)) (ap (λ (x : Turn). x.job) d ∙ same)) ∙ calm))
         | inr l ↦ take (suc greatest) later l
       ]
       step Restore e (same, keeps, later) skip take = elim i [
@@ -145,7 +142,7 @@ module _ (o : Outside) (entry : World) (H : Versions) (flow : Flow) (settings : 
           | inr e ↦ e
           | inl e ↦
               let here = each_in (λ (u : Turn). IsIn plan.jobs u.job × (is_to_run (st u.job) ≡ true)) ts t of_plan i in
-              absurd (true_false (sym here.1 ∙ ap (λ z. is_to_run (st z)) (one_maker t.job j p (here.0, own_makes t.job p (among_in (out_paths t.job.recipe) p e)) (ij, own_makes j p ip)) ∙ rests))
+              absurd (true≢false (sym here.1 ∙ ap (λ z. is_to_run (st z)) (one_maker t.job j p (here.0, own_makes t.job p (among_in (out_paths t.job.recipe) p e)) (ij, own_makes j p ip)) ∙ rests))
         ])
 
     rest_kept : after_run.kept p ≡ before.kept p
@@ -274,7 +271,7 @@ module _ (o : Outside) (entry : World) (H : Versions) (flow : Flow) (settings : 
 
   not_wanted : (w v a b : Bool) → v ≡ w → (b ≡ true → a ≡ true) → (not w && a) ≡ false → (not v && b) ≡ false
   not_wanted true v a b e h k = λ n. not (e n) && b
-  not_wanted false v a true e h k = absurd (true_false (sym (h refl) ∙ k))
+  not_wanted false v a true e h k = absurd (true≢false (sym (h refl) ∙ k))
   not_wanted false v a false e h k = λ n. not (e n) && false
 
   pub kind_is : (j : Job) (p : Path) → IsIn plan.jobs j → kind_in j.recipe p ≡ Plain

@@ -1,5 +1,5 @@
 -- Where all jobs that are due are done, all jobs are Clean at the exit.
-use Rattle.std.proofs.Common.{◌≡◌, inl, inr, ℕ, suc, true, false, ◌&&◌, not, List, [], ◌∷◌, map, filter, zip, find, length, refl, ap, sym, subst, ◌∙◌, Option, Some, None, arith}
+use Rattle.std.proofs.Common.{◌≡◌, inl, inr, ℕ, suc, true, false, ◌&&◌, not, List, [], ◌∷◌, map, filter, zip, find, length, refl, ap, sym, subst, ◌∙◌, Option, Some, None, arith, true≢false}
 use Rattle.std.specs.Prelude.{is_none}
 use Rattle.smk_base.specs.Path.{is_under}
 use Rattle.smk_world.specs.declared.event.Event.{Event}
@@ -45,9 +45,6 @@ use Rattle.smk_exit.proofs.Base as base
 use Rattle.smk_exit.proofs.Base.{bool_cases, map_on}
 use Rattle.smk_exit.proofs.Table as table
 
-true_false : true ≡ false → ⊥
-true_false e = cc
-
 abbrev listed_by : Image → Path → Known
 listed_by image d = record { folder = d; files = files_listed image d }
 
@@ -80,7 +77,7 @@ due_turn image serial cores n (j ∷ jobs) (s ∷ states) (d ∷ duties) ts mean
 
     -- without one
     rested : (s : State) (us : List Turn) → is_to_run s ≡ false → AreInOrder cores more us → length us ≡ length more → IsIn ((j, s) ∷ zip jobs states) e → Later → Goes us
-    rested s us rests h c (inl same) again = absurd (true_false (sym run ∙ ap (λ (x : Job × State). is_to_run x.1) same ∙ rests))
+    rested s us rests h c (inl same) again = absurd (true≢false (sym run ∙ ap (λ (x : Job × State). is_to_run x.1) same ∙ rests))
     rested s us rests h c (inr k) again = again us h c k
 
     step : (s : State) (d : Duty) → IsMeant image j s d → (us : List Turn) → AreInOrder cores (due_from serial n (d ∷ duties) (j ∷ jobs)) us → length us ≡ length (due_from serial n (d ∷ duties) (j ∷ jobs))

@@ -1,5 +1,5 @@
 -- Jobs that rest or are done, with all that they need, are Clean at the exit.
-use Rattle.std.proofs.Common.{◌≡◌, inl, inr, Bool, true, false, ◌&&◌, ◌||◌, not, cond, List, [], ◌∷◌, ◌++◌, map, filter, zip, find, refl, ap, sym, subst, ◌∙◌, bytes_eq, Some, None}
+use Rattle.std.proofs.Common.{◌≡◌, inl, inr, Bool, true, false, ◌&&◌, ◌||◌, not, cond, List, [], ◌∷◌, ◌++◌, map, filter, zip, find, refl, ap, sym, subst, ◌∙◌, bytes_eq, Some, None, true≢false}
 use Rattle.std.specs.Prelude.{if◌then◌else◌}
 use Rattle.std.specs.List.{list_any}
 use Rattle.smk_base.specs.Path.{is_under}
@@ -35,14 +35,11 @@ use Rattle.smk_exit.proofs.Base as base
 use Rattle.smk_exit.proofs.Base.{bool_cases, map_on}
 use Rattle.smk_exit.proofs.Table as table
 
-true_false : true ≡ false → ⊥
-true_false e = cc
-
 derived_inj : (xs ys : List Job) → Derived xs ≡ Derived ys → xs ≡ ys
 derived_inj xs ys e = cc
 
 open_by : (b : Bool) (rs : List Reason) (x : Bool) → is_open (if b then Open else by_reasons rs x) ≡ false → b ≡ false
-open_by true rs x h = absurd (true_false h)
+open_by true rs x h = absurd (true≢false h)
 open_by false rs x h = refl
 
 and_never : (b : Bool) → (b && false) ≡ false
@@ -61,7 +58,7 @@ still_wanted : (a b r u v : Bool) → (u ≡ true → r ≡ true) → (a || (b |
 still_wanted true b r u v h k = refl
 still_wanted false true r u v h k = refl
 still_wanted false false true u v h k = refl
-still_wanted false false false u v h k = absurd (true_false (sym (h k)))
+still_wanted false false false u v h k = absurd (true≢false (sym (h k)))
 
 module _ (o : Outside) (entry : World) (H : Versions) (flow : Flow) (settings : Settings) (plan : Plan) (ts : List Turn) (es : List Event) (ran : IsDueRun o entry H flow settings plan ts es)
     (free : settings.force ≡ No) (temps : Each (λ (j : Job). j.temps ≡ []) plan.jobs) (closed : Each (λ (t : Turn). is_closed t.course ≡ true) ts) (later : Plan)

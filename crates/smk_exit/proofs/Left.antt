@@ -1,5 +1,5 @@
 -- What a run of the jobs that are due leaves as it was at its entry, and what it derives from then.
-use Rattle.std.proofs.Common.{◌≡◌, ◌⊎◌, inl, inr, suc, Bool, true, false, ◌&&◌, ◌||◌, not, List, [], ◌∷◌, flat_map, refl, ap, sym, subst, ◌∙◌, bytes_eq, Some}
+use Rattle.std.proofs.Common.{◌≡◌, ◌⊎◌, inl, inr, suc, Bool, true, false, ◌&&◌, ◌||◌, not, List, [], ◌∷◌, flat_map, refl, ap, sym, subst, ◌∙◌, bytes_eq, Some, true≢false}
 use Rattle.std.specs.Prelude.{is_some}
 use Rattle.std.proofs.lemmas.List.{append-nil}
 use Rattle.smk_base.specs.Path.{own_folder, is_at_or_under, overlaps}
@@ -43,9 +43,6 @@ use Rattle.smk_dues.proofs.Dues.{turn_at, get_in, due_turns_are_ready, due_run_i
 use Rattle.smk_exit.specs.Exit.{IsDueRun, SameDerivation}
 use Rattle.smk_exit.proofs.Same.{IsFree, same_derivation}
 
-true_false : true ≡ false → ⊥
-true_false e = cc
-
 -- ## Spots
 
 -- spots that overlap are one
@@ -65,7 +62,7 @@ still_free true a b same a2 b2 h k = go a b same a2 b2 (h refl).0 (h refl).1 k
   where
     go : (a b same a2 b2 : Bool) → a2 ≡ a → (same ≡ true) ⊎ (b2 ≡ b) → (a || (b && not same)) ≡ false → (a2 || (b2 && not same)) ≡ false
     go a b same a2 b2 e (inr d) k = (λ i. e i || (d i && not same)) ∙ k
-    go true b same a2 b2 e (inl d) k = absurd (true_false k)
+    go true b same a2 b2 e (inl d) k = absurd (true≢false k)
     go false b same a2 true e (inl d) k = (λ i. e i || not (d i))
     go false b same a2 false e (inl d) k = (λ i. e i || false)
 
@@ -190,7 +187,7 @@ module _ (o : Outside) (entry : World) (H : Versions) (flow : Flow) (settings : 
     has_stays q none = λ i. stands (kept_stays q none i) || marked_stays q none i
 
     other_kind : (s u : Path × Bool) → s.1 ≡ true → u.1 ≡ false → s ≡ u → ⊥
-    other_kind s u is no_output e = true_false (sym is ∙ ap (λ (x : Path × Bool). x.1) e ∙ no_output)
+    other_kind s u is no_output e = true≢false (sym is ∙ ap (λ (x : Path × Bool). x.1) e ∙ no_output)
 
     same_spot_path : (s u : Path × Bool) → s ≡ u → bytes_eq s.0 u.0 ≡ true
     same_spot_path s u e = subst (λ (x : Path × Bool). bytes_eq s.0 x.0 ≡ true) e (place_itself s.0)

@@ -1,5 +1,5 @@
 -- What a job needs that is done rests or is done.
-use Rattle.std.proofs.Common.{◌≡◌, ◌⊎◌, inl, inr, ℕ, suc, true, false, List, [], ◌∷◌, map, zip, refl, ap, sym, subst, ◌∙◌, Option, Some, None, arith}
+use Rattle.std.proofs.Common.{◌≡◌, ◌⊎◌, inl, inr, ℕ, suc, true, false, List, [], ◌∷◌, map, zip, refl, ap, sym, subst, ◌∙◌, Option, Some, None, arith, true≢false}
 use Rattle.smk_world.specs.declared.event.Event.{Event}
 use Rattle.smk_world.specs.World.{World}
 use Rattle.smk_world.specs.Trees.{Path, IsIn}
@@ -26,9 +26,6 @@ use Rattle.smk_safe.specs.Ready.{AreDoneButLast}
 use Rattle.smk_dues.proofs.Dues.{done_but_last}
 use Rattle.smk_exit.specs.Exit.{DoneJobsAreKept, HadDoneTurn, IsDueRun, IsKept, Kept}
 use Rattle.smk_exit.proofs.Left as at_exit
-
-true_false : true ≡ false → ⊥
-true_false e = cc
 
 module _ (o : Outside) (entry : World) (H : Versions) (flow : Flow) (settings : Settings) (plan : Plan) (ts : List Turn) (es : List Event) (ran : IsDueRun o entry H flow settings plan ts es) where
   abbrev before : Image
@@ -58,7 +55,7 @@ module _ (o : Outside) (entry : World) (H : Versions) (flow : Flow) (settings : 
   walk [] seen (u ∷ us) greatest order sub kept among_ts h last t i done = absurd h
   walk (j ∷ js) seen (u ∷ us) greatest order sub kept among_ts h last t i done =
       step (st j) refl h
-      (λ rests k. walk js (j ∷ seen) (u ∷ us) greatest order.1 (λ x l. sub x (inr l)) (more (λ run. absurd (true_false (sym run ∙ rests)))) among_ts k last t i done)
+      (λ rests k. walk js (j ∷ seen) (u ∷ us) greatest order.1 (λ x l. sub x (inr l)) (more (λ run. absurd (true≢false (sym run ∙ rests)))) among_ts k last t i done)
       (λ next same k l. walk js (j ∷ seen) us next order.1 (λ x m. sub x (inr m)) (more (λ run. (u, among_ts u (inl refl), same, done_before last.0 l))) (λ x m. among_ts x (inr m)) k last.1 t l done)
     where
       ij : IsIn plan.jobs j

@@ -1,5 +1,5 @@
 -- Images with the same sources derive the same jobs, where nothing comes in the way of what is made.
-use Rattle.std.proofs.Common.{◌≡◌, inl, inr, Bool, true, false, cond, List, [], ◌∷◌, ◌++◌, map, filter, flat_map, refl, ap, sym, subst, ◌∙◌, Option, Some, None}
+use Rattle.std.proofs.Common.{◌≡◌, inl, inr, Bool, true, false, cond, List, [], ◌∷◌, ◌++◌, map, filter, flat_map, refl, ap, sym, subst, ◌∙◌, Option, Some, None, true≢false}
 use Rattle.std.specs.Prelude.{is_some}
 use Rattle.smk_base.specs.Path.{overlaps}
 use Rattle.smk_world.specs.declared.event.Node.{Node}
@@ -20,13 +20,10 @@ use Rattle.smk_laws_plan.proofs.CurrentApart.{spot_free}
 use Rattle.smk_laws_plan.proofs.PlanOne.{derived, derived_clear}
 use Rattle.smk_safe.proofs.Images.{source_of_both, same_back}
 
-true_false : true ≡ false → ⊥
-true_false e = cc
-
 -- two answers are the same, where each follows from the other
 same_answer : (a b : Bool) → (a ≡ true → b ≡ true) → (b ≡ true → a ≡ true) → b ≡ a
 same_answer true b h k = h refl
-same_answer false true h k = absurd (true_false (sym (k refl)))
+same_answer false true h k = absurd (true≢false (sym (k refl)))
 same_answer false false h k = refl
 
 some_node : (n : Option Node) (f : Content) → content_of n ≡ Some f → is_some n ≡ true

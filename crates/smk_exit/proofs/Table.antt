@@ -1,5 +1,5 @@
 -- The table of states where all jobs are Clean, of jobs that gather nothing and make plain files.
-use Rattle.std.proofs.Common.{◌≡◌, Bool, true, false, ◌&&◌, ◌||◌, not, cond, List, [], ◌∷◌, ◌++◌, map, filter, flat_map, zip, find, refl, ap, sym, subst, ◌∙◌, bytes_eq, Option, Some, None}
+use Rattle.std.proofs.Common.{◌≡◌, Bool, true, false, ◌&&◌, ◌||◌, not, cond, List, [], ◌∷◌, ◌++◌, map, filter, flat_map, zip, find, refl, ap, sym, subst, ◌∙◌, bytes_eq, Option, Some, None, true≢false}
 use Rattle.std.specs.Prelude.{is_none, if◌then◌else◌}
 use Rattle.std.specs.List.{list_any}
 use Rattle.smk_base.specs.Path.{is_under}
@@ -26,9 +26,6 @@ use Rattle.smk_laws_plan.proofs.PlanStates.{any_zip}
 use Rattle.smk_safe.specs.Planned.{IsPlain}
 use Rattle.smk_safe.proofs.Planned.{flat_none, no_folders}
 use Rattle.smk_exit.specs.Exit.{all_clean, begun_so}
-
-true_false : true ≡ false → ⊥
-true_false e = cc
 
 -- ## Plans of plain jobs
 
@@ -101,7 +98,7 @@ wanted_more : (a b c r : Bool) → (a || (b || (c || false))) ≡ true → (a ||
 wanted_more true b c r h = refl
 wanted_more false true c r h = refl
 wanted_more false false true r h = refl
-wanted_more false false false r h = absurd (true_false (sym h))
+wanted_more false false false r h = absurd (true≢false (sym h))
 
 module _ (image : Image) (settings : Settings) (plan : Plan) (begun : List Path) (plain : Each IsPlain plan.jobs) (free : settings.force ≡ No) where
   abbrev pub later : Plan

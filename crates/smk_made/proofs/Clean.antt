@@ -1,9 +1,9 @@
 -- What was made of clean inputs is clean.
-use Rattle.std.proofs.Common.{◌≡◌, inl, inr, ℕ, zero, suc, Bool, true, false, ◌&&◌, ◌||◌, not, ◌==◌, List, [], ◌∷◌, ◌++◌, refl, ap, sym, subst, ◌∙◌, Option, Some, None, option_map, bytes_eq}
+use Rattle.std.proofs.Common.{◌≡◌, inl, inr, ℕ, zero, suc, Bool, true, false, ◌&&◌, ◌||◌, not, ◌==◌, List, [], ◌∷◌, ◌++◌, refl, ap, sym, subst, ◌∙◌, Option, Some, None, option_map, bytes_eq, true≢false}
 use Rattle.std.specs.Prelude.{map, if◌then◌else◌}
 use Rattle.std.specs.List.{list_any, AllZip}
 use Rattle.std.specs.Option.{option_and_then}
-use Rattle.std.proofs.lemmas.Bool.{eq-eqb}
+use Rattle.std.proofs.lemmas.Bool.{eq-eqb, and_from}
 use Rattle.smk_base.specs.Path.{is_under, overlaps}
 use Rattle.smk_base.specs.declared.tree.Tree.{Tree}
 use Rattle.smk_base.specs.declared.tree.Tree.TheVariants.{File, Folder}
@@ -35,9 +35,6 @@ use Rattle.smk_made.proofs.Keeping.{or_false, none_of}
 use Rattle.smk_made.proofs.Sparing.{turns_keep_else}
 use Rattle.smk_made.proofs.Running.{done_turns_leave}
 
-true_false : true ≡ false → ⊥
-true_false e = cc
-
 -- ## One output
 
 -- a tree that stands where a file stands is that file
@@ -51,16 +48,16 @@ file_tree v p None file none = absurd (not_gone (v.nodes p) (none p (at_itself p
   where
     not_gone : (s : NodeState) → Reads None s → reads_file s ≡ true → ⊥
     not_gone Owned h k = h
-    not_gone (Known None besides) h k = true_false (sym k)
+    not_gone (Known None besides) h k = true≢false (sym k)
     not_gone (Known (Some n) besides) h k = cc
 file_tree v p (Some (File held)) file holds = record { held = held; holds = holds; is = refl }
 file_tree v p (Some (Folder entries)) file folder = absurd (not_folder (v.nodes p) folder.folder file)
   where
     not_folder : (s : NodeState) → Reads (Some Directory) s → reads_file s ≡ true → ⊥
     not_folder Owned h k = h
-    not_folder (Known None besides) h k = true_false (sym k)
+    not_folder (Known None besides) h k = true≢false (sym k)
     not_folder (Known (Some (Regular there time read_only)) besides) h k = cc
-    not_folder (Known (Some Directory) besides) h k = true_false (sym k)
+    not_folder (Known (Some Directory) besides) h k = true≢false (sym k)
 
 kind_file : (nodes : Nodes) (p : Path) (kind : Kind) (ms : List Member) → kind ≡ Plain → IsOfKind nodes p kind ms → reads_file (nodes p) ≡ true
 kind_file nodes p Plain ms e h = h.0
@@ -76,9 +73,6 @@ good_file : (p : Path) (kind : Kind) (held : List ℕ) → kind ≡ Plain → is
 good_file p Plain held e = refl
 good_file p FolderKind held e = cc
 
-and_both : (a b : Bool) → a ≡ true → b ≡ true → (a && b) ≡ true
-and_both a b h k = ap (λ v. v && b) h ∙ k
-
 all_good : (v : World) (outs : List Out) (trees : List (Option Tree)) → Each (λ (out : Out). out.kind ≡ Plain) outs → Each (λ (out : Out). reads_file (v.nodes out.path) ≡ true) outs
     → AllZip (λ p tree. MaybeTreeAt v p tree) (map (λ (out : Out). out.path) outs) trees → are_good outs trees ≡ true
 all_good v [] [] plain files h = refl
@@ -86,15 +80,15 @@ all_good v [] (t ∷ trees) plain files h = absurd h
 all_good v (out ∷ outs) [] plain files h = absurd h
 all_good v (out ∷ outs) (t ∷ trees) plain files h =
     let f = file_tree v out.path t files.0 h.0 in
-    and_both (is_good out.path out.kind t) (are_good outs trees) (ap (is_good out.path out.kind) f.is ∙ good_file out.path out.kind f.held plain.0) (all_good v outs trees plain.1 files.1 h.1)
+    and_from (is_good out.path out.kind t) (are_good outs trees) (ap (is_good out.path out.kind) f.is ∙ good_file out.path out.kind f.held plain.0) (all_good v outs trees plain.1 files.1 h.1)
 
 of_not : (b : Bool) → not b ≡ true → b ≡ false
-of_not true h = absurd (true_false (sym h))
+of_not true h = absurd (true≢false (sym h))
 of_not false h = refl
 
 and_true : (a b : Bool) → (a && b) ≡ true → (a ≡ true) × (b ≡ true)
 and_true true b h = (refl, h)
-and_true false b h = absurd (true_false (sym h))
+and_true false b h = absurd (true≢false (sym h))
 
 none_in : (p q : Path) (ps : List Path) → list_any (overlaps p) ps ≡ false → IsIn ps q → overlaps p q ≡ false
 none_in p q [] h i = absurd i
@@ -141,14 +135,14 @@ apart_first : (ps qs : List Path) → are_apart (ps ++ qs) ≡ true → are_apar
 apart_first [] qs h = refl
 apart_first (p ∷ ps) qs h =
     let both = and_true (not (list_any (overlaps p) (ps ++ qs))) (are_apart (ps ++ qs)) h in
-    and_both (not (list_any (overlaps p) ps)) (are_apart ps) (ap not (none_first ps (of_not (list_any (overlaps p) (ps ++ qs)) both.0))) (apart_first ps qs both.1)
+    and_from (not (list_any (overlaps p) ps)) (are_apart ps) (ap not (none_first ps (of_not (list_any (overlaps p) (ps ++ qs)) both.0))) (apart_first ps qs both.1)
   where
     none_first : (xs : List Path) → list_any (overlaps p) (xs ++ qs) ≡ false → list_any (overlaps p) xs ≡ false
     none_first [] k = refl
     none_first (x ∷ xs) k = let b = or_false (overlaps p x) (list_any (overlaps p) (xs ++ qs)) k in none_of (overlaps p x) (list_any (overlaps p) xs) b.0 (none_first xs b.1)
 
 given_by : (outs : List Out) (acted : Acted) (p : Path) (held : List ℕ) → acted.status ≡ 0 → are_good outs acted.outputs ≡ true → tree_among outs acted.outputs p ≡ Some (File held) → tree_given outs acted p ≡ Some (File held)
-given_by outs acted p held status good is = ap (λ b. if b then tree_among outs acted.outputs p else None) (and_both (acted.status == 0) (are_good outs acted.outputs) (eq-eqb acted.status 0 status) good) ∙ is
+given_by outs acted p held status good is = ap (λ b. if b then tree_among outs acted.outputs p else None) (and_from (acted.status == 0) (are_good outs acted.outputs) (eq-eqb acted.status 0 status) good) ∙ is
 
 -- ## Inputs
 

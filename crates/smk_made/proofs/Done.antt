@@ -1,5 +1,5 @@
 -- What a turn leaves that is done.
-use Rattle.std.proofs.Common.{◌≡◌, ℕ, Bool, true, false, ◌||◌, List, [], ◌∷◌, ◌++◌, refl, ap, sym, subst, ◌∙◌, Option, Ok, IsTrue, arith}
+use Rattle.std.proofs.Common.{◌≡◌, ℕ, Bool, true, false, ◌||◌, List, [], ◌∷◌, ◌++◌, refl, ap, sym, subst, ◌∙◌, Option, Ok, IsTrue, arith, true≢false}
 use Rattle.std.specs.Prelude.{map, nat_eq, Contains}
 use Rattle.std.specs.List.{list_any, IsDistinct}
 use Rattle.smk_base.specs.Path.{is_path, own_folder, is_at_or_under, overlaps}
@@ -36,9 +36,6 @@ use Rattle.smk_made.proofs.Kept.{IsAllKnown, AllFirm, has_kept, keep_files, apar
 use Rattle.smk_made.proofs.TreeMoves.{StaysUnder, stays_same, stays_firm, contents_moved, outputs_moved, IsMadeFirm, kind_firm}
 use Rattle.smk_run.proofs.Telling.{files_children, started_after}
 use Rattle.smk_made.proofs.Starting.{HasEnded, has_ended}
-
-true_false : true ≡ false → ⊥
-true_false e = cc
 
 -- ## Its events, one part after another
 
@@ -87,14 +84,14 @@ good_parts made t w es h =
     }
 
 parts_by : (made : Serials) (t : Turn) (c : Course) (w : World) (es : List Event) → IsTurnBy made t c w es → is_done c ≡ true → HasParts made t w es
-parts_by made t Unbegun w es h done = absurd (true_false (sym done))
-parts_by made t Unstarted w es h done = absurd (true_false (sym done))
-parts_by made t Unclosed w es h done = absurd (true_false (sym done))
+parts_by made t Unbegun w es h done = absurd (true≢false (sym done))
+parts_by made t Unstarted w es h done = absurd (true≢false (sym done))
+parts_by made t Unclosed w es h done = absurd (true≢false (sym done))
 parts_by made t (Closed Good) w es h done = good_parts made t w es h
-parts_by made t (Closed (Status n)) w es h done = absurd (true_false (sym done))
-parts_by made t (Closed (NoOutput p)) w es h done = absurd (true_false (sym done))
-parts_by made t (Closed (WrongKind p)) w es h done = absurd (true_false (sym done))
-parts_by made t (Closed (BadMember p)) w es h done = absurd (true_false (sym done))
+parts_by made t (Closed (Status n)) w es h done = absurd (true≢false (sym done))
+parts_by made t (Closed (NoOutput p)) w es h done = absurd (true≢false (sym done))
+parts_by made t (Closed (WrongKind p)) w es h done = absurd (true≢false (sym done))
+parts_by made t (Closed (BadMember p)) w es h done = absurd (true≢false (sym done))
 
 -- ## Nothing runs
 
@@ -120,7 +117,7 @@ known_else Owned never = absurd (never refl)
 known_else (Known now besides) never = tt
 
 pub idle_known : (w : World) → w.children ≡ [] → HasOwners w → IsAllKnown w
-idle_known w none owners = λ q. known_else (w.nodes q) (λ e. true_false (sym (owners q e) ∙ ap (λ cs. is_within q (owned_now cs)) none))
+idle_known w none owners = λ q. known_else (w.nodes q) (λ e. true≢false (sym (owners q e) ∙ ap (λ cs. is_within q (owned_now cs)) none))
 
 -- ## The inputs are as they were
 

@@ -1,5 +1,5 @@
 -- A turn leaves alone what isn't at, under or above the outputs and logs of its job.
-use Rattle.std.proofs.Common.{◌≡◌, ℕ, Bool, true, false, ◌&&◌, ◌||◌, not, List, [], ◌∷◌, ◌++◌, refl, ap, ◌∙◌, Option, Some, None, Ok, Err, bytes_eq}
+use Rattle.std.proofs.Common.{◌≡◌, ℕ, Bool, true, false, ◌&&◌, ◌||◌, not, List, [], ◌∷◌, ◌++◌, refl, ap, ◌∙◌, Option, Some, None, Ok, Err, bytes_eq, true≢false}
 use Rattle.std.specs.Prelude.{if◌then◌else◌, nat_eq, is_some}
 use Rattle.std.specs.List.{filter}
 use Rattle.smk_base.specs.Path.{is_under, is_at_or_under}
@@ -18,11 +18,8 @@ use Rattle.smk_world.specs.Requests.Request.{Look, ReadUpTo, ListFolder, Write, 
 use Rattle.smk_world.specs.Trees.{Path, Each}
 use Rattle.smk_run.proofs.Calls.{EachCall}
 
-true_false : true ≡ false → ⊥
-true_false e = cc
-
 pub or_false : (a b : Bool) → (a || b) ≡ false → (a ≡ false) × (b ≡ false)
-or_false true b h = absurd (true_false h)
+or_false true b h = absurd (true≢false h)
 or_false false b h = (refl, h)
 
 pub none_of : (a b : Bool) → a ≡ false → b ≡ false → (a || b) ≡ false
@@ -58,7 +55,7 @@ keeps_then true s t u h k = k ∙ h
 keeps_then false s t u h k = λ n e. k n (h n e)
 
 off : (b : Bool) (s t : NodeState) → b ≡ false → (if b then t else s) ≡ s
-off true s t h = absurd (true_false h)
+off true s t h = absurd (true≢false h)
 off false s t h = refl
 
 off_and : (a b : Bool) (s t : NodeState) → b ≡ false → (if a && b then t else s) ≡ s
@@ -85,8 +82,8 @@ firm_reads true (Known now besides) n e = e
 firm_reads false s n e = e
 
 settled_exactly : (a b c : Bool) (s : NodeState) → (a || b) ≡ false → (if a || (b && c) then firm s else s) ≡ s
-settled_exactly true b c s h = absurd (true_false h)
-settled_exactly false true c s h = absurd (true_false h)
+settled_exactly true b c s h = absurd (true≢false h)
+settled_exactly false true c s h = absurd (true≢false h)
 settled_exactly false false c s h = refl
 
 settled_keeps : (exactly a b c : Bool) (s : NodeState) → (a || (exactly && b)) ≡ false → Keeps exactly s (if a || (b && c) then firm s else s)

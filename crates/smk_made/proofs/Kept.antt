@@ -1,5 +1,6 @@
 -- What the calls leave that close a job whose outputs are good.
-use Rattle.std.proofs.Common.{◌≡◌, ◌⊎◌, inl, inr, ℕ, Bool, true, false, ◌&&◌, ◌||◌, not, List, [], ◌∷◌, ◌++◌, refl, ap, sym, subst, ◌∙◌, Some, None, IsTrue}
+use Rattle.std.proofs.Common.{◌≡◌, ◌⊎◌, inl, inr, ℕ, Bool, true, false, ◌&&◌, ◌||◌, not, List, [], ◌∷◌, ◌++◌, refl, ap, sym, subst, ◌∙◌, Some, None, IsTrue, true≢false}
+use Rattle.std.proofs.lemmas.Bool.{or_right}
 use Rattle.std.specs.Prelude.{map}
 use Rattle.std.specs.List.{list_any}
 use Rattle.smk_base.specs.Path.{is_path, own_folder, is_under, is_at_or_under, overlaps}
@@ -25,9 +26,6 @@ use Rattle.smk_job.proofs.Firmly.{reaches_split, reaches_keeps}
 use Rattle.smk_made.proofs.Keeping.{none_of, or_false, bothers}
 use Rattle.smk_made.proofs.Sparing.{Spared, spared_both, spared_put, spared_unmark, records_else, marks_else, at_outside}
 
-true_false : true ≡ false → ⊥
-true_false e = cc
-
 bool_cases : (b : Bool) → (b ≡ true) ⊎ (b ≡ false)
 bool_cases true = inl refl
 bool_cases false = inr refl
@@ -44,8 +42,8 @@ touches_by (Remove p) q k h = h
 touches_by (MakeParents p) q k h = h
 touches_by (Settle ps) q k h = h
 touches_by (Protect p) q k h = h
-touches_by (Start recipe logs command) q k h = absurd (true_false k)
-touches_by Wait q k h = absurd (true_false k)
+touches_by (Start recipe logs command) q k h = absurd (true≢false k)
+touches_by Wait q k h = absurd (true≢false k)
 
 keeps_off : (rs : List Request) (q : Path) → AreFiles rs → Spared true q rs → KeepsOff rs q
 keeps_off [] q k h = tt
@@ -66,7 +64,7 @@ no_start (Remove p) h = refl
 no_start (MakeParents p) h = refl
 no_start (Settle ps) h = refl
 no_start (Protect p) h = refl
-no_start (Start recipe logs command) h = absurd (true_false h)
+no_start (Start recipe logs command) h = absurd (true≢false h)
 no_start Wait h = refl
 
 pub all_known : (act : Act) (rs : List Request) (w v : World) → Reaches act rs w v → AreFiles rs → IsAllKnown w → IsAllKnown v
@@ -84,14 +82,14 @@ differ_from : (p : Path) (ps : List Path) → list_any (overlaps p) ps ≡ false
 differ_from p [] h = tt
 differ_from p (q ∷ ps) h =
     let both = or_false (overlaps p q) (list_any (overlaps p) ps) h in
-    (λ e. true_false (sym (ap (λ v. v || (is_under p p || is_under p p)) (place_itself p)) ∙ ap (overlaps p) e ∙ both.0), differ_from p ps both.1)
+    (λ e. true≢false (sym (ap (λ v. v || (is_under p p || is_under p p)) (place_itself p)) ∙ ap (overlaps p) e ∙ both.0), differ_from p ps both.1)
 
 and_true : (a b : Bool) → (a && b) ≡ true → (a ≡ true) × (b ≡ true)
 and_true true b h = (refl, h)
-and_true false b h = absurd (true_false (sym h))
+and_true false b h = absurd (true≢false (sym h))
 
 of_not : (b : Bool) → not b ≡ true → b ≡ false
-of_not true h = absurd (true_false (sym h))
+of_not true h = absurd (true≢false (sym h))
 of_not false h = refl
 
 pub apart_differ : (ps : List Path) → are_apart ps ≡ true → AreDifferent ps
@@ -152,13 +150,9 @@ settled_records act all w v st (p ∷ ps) (b ∷ bs) within h =
     let file = firm_file (w.nodes (record_place p)) b h.0 in
     ((file.0, file.1, settled_firm act all w v (record_place p) st within.0 ∙ file.2), settled_records act all w v st ps bs within.1 h.1)
 
-or_then : (a b : Bool) → b ≡ true → (a || b) ≡ true
-or_then true b h = refl
-or_then false b h = h
-
 within_more : (f : Path → Path) (x : Path) (all ps : List Path) → Each (λ p. is_within (f p) all ≡ true) ps → Each (λ p. is_within (f p) (x ∷ all) ≡ true) ps
 within_more f x all [] h = tt
-within_more f x all (p ∷ ps) h = (or_then (is_at_or_under (f p) x) (is_within (f p) all) h.0, within_more f x all ps h.1)
+within_more f x all (p ∷ ps) h = (or_right (is_at_or_under (f p) x) (is_within (f p) all) h.0, within_more f x all ps h.1)
 
 within_all : (f : Path → Path) (ps : List Path) → Each (λ p. is_within (f p) (map f ps) ≡ true) ps
 within_all f [] = tt
@@ -210,7 +204,7 @@ still_none act (p ∷ ps) w v q (u, st, more) none = still_none act ps u v q mor
 ])
 
 all_removed : (act : Act) (ps : List Path) (w v : World) (q : Path) → Reaches act (remove_each ps) w v → IsAllKnown w → is_within q ps ≡ true → Reads None (v.nodes q)
-all_removed act [] w v q h known within = absurd (true_false (sym within))
+all_removed act [] w v q h known within = absurd (true≢false (sym within))
 all_removed act (p ∷ ps) w v q (u, st, more) known within = elim (or_cases (is_at_or_under q p) (is_within q ps) within) [
   | inl at ↦ still_none act ps u v q more (removed act p w u q st at (known q))
   | inr later ↦ all_removed act ps u v q more (λ x. step_known act (Remove p) w u x st refl (known x)) later
@@ -237,7 +231,7 @@ pub record HasKept (outs : List Path) (bytes : List (List ℕ)) (w v : World) : 
   pub unmarked : Each (λ p. v.nodes (mark_place p) ≡ firmly None) outs
 
 pub within_outside : (q : Path) (ps : List Path) → Each (λ p. IsTrue (is_path p)) ps → is_within q ps ≡ true → is_at_or_under q own_folder ≡ false
-within_outside q [] paths within = absurd (true_false (sym within))
+within_outside q [] paths within = absurd (true≢false (sym within))
 within_outside q (p ∷ ps) paths within = elim (or_cases (is_at_or_under q p) (is_within q ps) within) [
   | inl at ↦ at_outside p q (path_outside p paths.0) at
   | inr later ↦ within_outside q ps paths.1 later

@@ -1,5 +1,5 @@
 -- What was made stays, while later turns go on.
-use Rattle.std.proofs.Common.{◌≡◌, inl, inr, true, false, ◌||◌, List, [], ◌∷◌, ◌++◌, refl, ap, sym, subst, ◌∙◌, None, IsTrue}
+use Rattle.std.proofs.Common.{◌≡◌, inl, inr, true, false, ◌||◌, List, [], ◌∷◌, ◌++◌, refl, ap, sym, subst, ◌∙◌, None, IsTrue, true≢false}
 use Rattle.std.specs.Prelude.{map}
 use Rattle.std.specs.List.{list_any}
 use Rattle.smk_base.specs.Path.{is_path, own_folder, is_under, is_at_or_under, overlaps}
@@ -25,13 +25,10 @@ use Rattle.smk_made.proofs.Sparing.{else_apart, IsOffTurn, turn_kept, turns_kept
 use Rattle.smk_made.proofs.TreeMoves.{StaysUnder, stays_same, contents_moved, outputs_moved, IsMadeFirm, kind_firm}
 use Rattle.smk_made.proofs.Done.{follows_split, or_then, done_turn_leaves}
 
-true_false : true ≡ false → ⊥
-true_false e = cc
-
 -- ## The engine's own files of paths that differ
 
 differ_overlap : (p q : Path) → overlaps p q ≡ false → p ≡ q → ⊥
-differ_overlap p q h e = true_false (sym (ap (λ v. v || (is_under p p || is_under p p)) (place_itself p)) ∙ ap (overlaps p) e ∙ h)
+differ_overlap p q h e = true≢false (sym (ap (λ v. v || (is_under p p || is_under p p)) (place_itself p)) ∙ ap (overlaps p) e ∙ h)
 
 users_apart : (x : Path) → is_at_or_under x own_folder ≡ true → (ps : List Path) → Each (λ p. IsTrue (is_path p)) ps → Each (λ p. IsApart p x) ps
 users_apart x own [] h = tt
@@ -159,7 +156,7 @@ same_by w v ts [] kept h = tt
 same_by w v ts (p ∷ ps) kept h = ((λ q at. kept q (off_later p q h.0.outside at ts h.0.clear)), same_by w v ts ps kept h.1)
 
 same_within : (w v : World) (ps : List Path) (q : Path) → SameUnder w v ps → is_within q ps ≡ true → v.nodes q ≡ w.nodes q
-same_within w v [] q h within = absurd (true_false (sym within))
+same_within w v [] q h within = absurd (true≢false (sym within))
 same_within w v (p ∷ ps) q h within = elim (or_cases (is_at_or_under q p) (is_within q ps) within) [
   | inl at ↦ h.0 q at
   | inr later ↦ same_within w v ps q h.1 later

@@ -1,6 +1,6 @@
 -- How many jobs are done tells which are: all turns but the last one are of jobs that are done.
 use native.Mathlib.Omega.{arith}
-use Rattle.std.proofs.Common.{◌≡◌, ◌⊎◌, ◌<◌, ◌≤◌, ◌+◌, ℕ, zero, suc, Bool, true, false, cond, List, [], ◌∷◌, inl, inr, refl, sym, ap, subst, ◌∙◌, Option, Some, None, slice_get}
+use Rattle.std.proofs.Common.{◌≡◌, ◌⊎◌, ◌<◌, ◌≤◌, ◌+◌, ℕ, zero, suc, Bool, true, false, cond, List, [], ◌∷◌, inl, inr, refl, sym, ap, subst, ◌∙◌, Option, Some, None, slice_get, true≢false}
 use Rattle.std.specs.List.{count_by}
 use Rattle.std.proofs.lemmas.List.Recursion.{is_count_by}
 use Rattle.smk_flow.specs.declared.job.Job.{Job}
@@ -24,9 +24,6 @@ count (t ∷ ts) = cond (is_done t.course) (1 + count ts) (count ts)
 pub counted : (turns : List Turn) → count turns ≡ count_by (λ (t : Turn). is_done t.course) turns
 counted = is_count_by count (λ (t : Turn). is_done t.course) refl (λ t ts. refl)
 
-true_false : true ≡ false → ⊥
-true_false e = cc
-
 none_done : (ts : List Turn) → ts ≡ [] → count ts ≡ 0
 none_done ts e = ap count e
 
@@ -39,13 +36,13 @@ below_done cores (due ∷ dues) (t ∷ ts) order zero lt = go (is_done t.course)
     go : (b : Bool) → is_done t.course ≡ b → (ts ≡ []) ⊎ (is_done t.course ≡ true) → 0 < cond b (1 + count ts) (count ts) → b ≡ true
     go true e last lt = refl
     go false e (inl end) lt = absurd (omega (arith, lt, none_done ts end))
-    go false e (inr d) lt = absurd (true_false (sym d ∙ e))
+    go false e (inr d) lt = absurd (true≢false (sym d ∙ e))
 below_done cores (due ∷ dues) (t ∷ ts) order (suc n) lt = go (is_done t.course) refl order.3 lt (λ less. below_done cores dues ts order.4 n less)
   where
     go : (b : Bool) → is_done t.course ≡ b → (ts ≡ []) ⊎ (is_done t.course ≡ true) → suc n < cond b (1 + count ts) (count ts) → (n < count ts → is_turn_done (slice_get ts n) ≡ true) → is_turn_done (slice_get ts n) ≡ true
     go true e last lt ih = ih (omega (arith, lt))
     go false e (inl end) lt ih = absurd (omega (arith, lt, none_done ts end))
-    go false e (inr d) lt ih = absurd (true_false (sym d ∙ e))
+    go false e (inr d) lt ih = absurd (true≢false (sym d ∙ e))
 
 no_turn : (ts : List Turn) (n : ℕ) → ts ≡ [] → is_turn_done (slice_get ts n) ≡ false
 no_turn ts n e = ap (λ xs. is_turn_done (slice_get xs n)) e
@@ -64,7 +61,7 @@ past_done cores (due ∷ dues) (t ∷ ts) order (suc n) le = go (is_done t.cours
     go : (b : Bool) → is_done t.course ≡ b → (ts ≡ []) ⊎ (is_done t.course ≡ true) → cond b (1 + count ts) (count ts) ≤ suc n → (count ts ≤ n → is_turn_done (slice_get ts n) ≡ false) → is_turn_done (slice_get ts n) ≡ false
     go true e last le ih = ih (omega (arith, le))
     go false e (inl end) le ih = no_turn ts n end
-    go false e (inr d) le ih = absurd (true_false (sym d ∙ e))
+    go false e (inr d) le ih = absurd (true≢false (sym d ∙ e))
 
 -- a turn of a job that isn't done is the last one, and comes after as many as are done
 pub undone_is_last : (cores : ℕ) (dues : List Due) (turns : List Turn) → AreInOrder cores dues turns → (n : ℕ) (t : Turn) → slice_get turns n ≡ Some t → is_done t.course ≡ false → n ≡ count turns
@@ -82,9 +79,9 @@ undone_is_last cores (due ∷ dues) (u ∷ ts) order zero t e bad = go (is_done 
     undone = subst (λ x. is_done x.course ≡ false) (sym (the e)) bad
 
     go : (b : Bool) → is_done u.course ≡ b → (ts ≡ []) ⊎ (is_done u.course ≡ true) → 0 ≡ cond b (1 + count ts) (count ts)
-    go true is last = absurd (true_false (sym is ∙ undone))
+    go true is last = absurd (true≢false (sym is ∙ undone))
     go false is (inl end) = sym (none_done ts end)
-    go false is (inr d) = absurd (true_false (sym d ∙ undone))
+    go false is (inr d) = absurd (true≢false (sym d ∙ undone))
 undone_is_last cores (due ∷ dues) (u ∷ ts) order (suc n) t e bad = go (is_done u.course) refl order.3 (undone_is_last cores dues ts order.4 n t e bad)
   where
     none_some : None ≡ Some t → ⊥
@@ -96,7 +93,7 @@ undone_is_last cores (due ∷ dues) (u ∷ ts) order (suc n) t e bad = go (is_do
     go : (b : Bool) → is_done u.course ≡ b → (ts ≡ []) ⊎ (is_done u.course ≡ true) → n ≡ count ts → suc n ≡ cond b (1 + count ts) (count ts)
     go true is last ih = omega (arith, ih)
     go false is (inl end) ih = absurd (gone end)
-    go false is (inr d) ih = absurd (true_false (sym d ∙ is))
+    go false is (inr d) ih = absurd (true≢false (sym d ∙ is))
 
 -- ## The first failure
 

@@ -1,6 +1,6 @@
 -- What is found current after a run, by its turns.
 use native.Mathlib.Omega.{arith}
-use Rattle.std.proofs.Common.{◌≡◌, ◌⊎◌, ◌<◌, ◌≤◌, ◌+◌, ◌-◌, ℕ, zero, suc, Bool, true, false, not, List, [], ◌∷◌, length, inl, inr, refl, sym, ap, subst, ◌∙◌, Option, Some, None, slice_get, nat_lt}
+use Rattle.std.proofs.Common.{◌≡◌, ◌⊎◌, ◌<◌, ◌≤◌, ◌+◌, ◌-◌, ℕ, zero, suc, Bool, true, false, not, List, [], ◌∷◌, length, inl, inr, refl, sym, ap, subst, ◌∙◌, Option, Some, None, slice_get, nat_lt, true≢false}
 use Rattle.std.specs.Prelude.{get_or}
 use Rattle.std.proofs.lemmas.Bool.{lt-ltb, le-ltb}
 use Rattle.smk_flow.specs.Flows.{Flow}
@@ -14,9 +14,6 @@ use Rattle.smk_needs.specs.Needs.{Needs, Says}
 use Rattle.smk_make.specs.After.{is_due_one, due_before, turn_at, is_turn_done, IsFailed, NeedsFailed, AreCurrent, IsDueAfter, IsDueNumber, IsFailedNumber, AreSpoilt, IsAfter}
 use Rattle.smk_make.proofs.Counting.{count, counted, below_done, past_done, undone_is_last}
 use Rattle.smk_make.proofs.Dues.{one_due}
-
-true_false : true ≡ false → ⊥
-true_false e = cc
 
 either : (a b : ℕ) → (a < b) ⊎ (b ≤ a)
 either zero zero = inr (omega arith)
@@ -113,7 +110,7 @@ module _ (flow : Flow) (cores : ℕ) (dues : List Due) (befores : List (List ℕ
 
       go : (o : Option ℕ) → number ≡ o → AreSpoilt befores o found → Says (NeedsFailed befores duties turns n) (get_or found n false)
       go None e spoilt = record {
-        only_so = λ yes. absurd (true_false (sym yes ∙ ap (λ xs. get_or xs n false) spoilt));
+        only_so = λ yes. absurd (true≢false (sym yes ∙ ap (λ xs. get_or xs n false) spoilt));
         if_so = λ needs. absurd (none_needed (why e (decide tally.failed)) needs);
       }
       go (Some k) e spoilt =
@@ -125,8 +122,8 @@ module _ (flow : Flow) (cores : ℕ) (dues : List Due) (befores : List (List ℕ
           }
 
   unless : (P : Type 0) (b : Bool) → Says P b → Says (¬ P) (not b)
-  unless P true h = record { only_so = λ e. absurd (true_false (sym e)); if_so = λ never. absurd (never (h.only_so refl)) }
-  unless P false h = record { only_so = λ e p. true_false (sym (h.if_so p)); if_so = λ never. refl }
+  unless P true h = record { only_so = λ e. absurd (true≢false (sym e)); if_so = λ never. absurd (never (h.only_so refl)) }
+  unless P false h = record { only_so = λ e p. true≢false (sym (h.if_so p)); if_so = λ never. refl }
 
   -- there is more to be done where fewer turns come before than jobs are done
   more_left : (a b : ℕ) → nat_lt 0 (b - a) ≡ nat_lt a b
@@ -147,8 +144,8 @@ module _ (flow : Flow) (cores : ℕ) (dues : List Due) (befores : List (List ℕ
       by_count n = more_left (due_before duties n) tally.done ∙ ap (nat_lt (due_before duties n)) done_is ∙ done_by_count cores dues turns order (due_before duties n)
 
       by_duty : (n : ℕ) (o : Option Duty) → slice_get duties n ≡ o → is_due_one o ≡ true → get_or after n false ≡ is_turn_done (turn_at duties turns n)
-      by_duty n None e due = absurd (true_false (sym due))
-      by_duty n (Some (Rest made)) e due = absurd (true_false (sym due))
+      by_duty n None e due = absurd (true≢false (sym due))
+      by_duty n (Some (Rest made)) e due = absurd (true≢false (sym due))
       by_duty n (Some (Restore made)) e due = h.by_spoilt.right n (Restore made) e ∙ by_count n
       by_duty n (Some Run) e due = h.by_spoilt.right n Run e ∙ by_count n
 
@@ -165,5 +162,5 @@ module _ (flow : Flow) (cores : ℕ) (dues : List Due) (befores : List (List ℕ
       by_rest n lt (Some (Rest made)) e rests =
           subst (Says (¬ NeedsFailed befores duties turns n)) (sym (h.by_spoilt.right n (Rest made) e))
           (unless (NeedsFailed befores duties turns n) (get_or h.spoilt n false) (spoilt_says h.failed h.spoilt n h.is_failed h.are_spoilt (subst (λ m. n < m) same lt)))
-      by_rest n lt (Some (Restore made)) e rests = absurd (true_false rests)
-      by_rest n lt (Some Run) e rests = absurd (true_false rests)
+      by_rest n lt (Some (Restore made)) e rests = absurd (true≢false rests)
+      by_rest n lt (Some Run) e rests = absurd (true≢false rests)

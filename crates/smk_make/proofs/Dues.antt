@@ -1,15 +1,12 @@
 -- Jobs that have their turns, counted.
 use native.Mathlib.Omega.{arith}
-use Rattle.std.proofs.Common.{◌≡◌, ◌⊎◌, ◌<◌, ◌≤◌, ◌+◌, ◌-◌, ℕ, zero, suc, Bool, true, false, List, [], ◌∷◌, ◌++◌, length, take, filter, cond, inl, inr, refl, sym, ap, subst, ◌∙◌, Some, None, slice_get, nat_lt}
+use Rattle.std.proofs.Common.{◌≡◌, ◌⊎◌, ◌<◌, ◌≤◌, ◌+◌, ◌-◌, ℕ, zero, suc, Bool, true, false, List, [], ◌∷◌, ◌++◌, length, take, filter, cond, inl, inr, refl, sym, ap, subst, ◌∙◌, Some, None, slice_get, nat_lt, true≢false}
 use Rattle.std.specs.Prelude.{get_or, if◌then◌else◌}
 use Rattle.std.proofs.lemmas.Bool.{ltb-true}
 use Rattle.smk_plan.specs.declared.duty.Duty.{Duty}
 use Rattle.smk_plan.specs.declared.duty.Duty.TheVariants.{Rest, Restore, Run}
 use Rattle.smk_plan.specs.Duties.{rests}
 use Rattle.smk_make.specs.After.{is_due, is_due_one, is_due_at, due_before, left_after, done_after, IsDueAfter, IsDueNumber, is_current_by, AreAfterBy}
-
-true_false : true ≡ false → ⊥
-true_false e = cc
 
 -- how many more there are behind a job
 abbrev pub more_by : Bool → ℕ → ℕ
@@ -42,14 +39,14 @@ before_next (d ∷ duties) (suc n) duty e = go (is_due d) (before_next duties n 
 
 -- a job that has its turn is counted before each later one
 pub counted_before : (duties : List Duty) (k n : ℕ) → k < n → is_due_at duties k ≡ true → suc (due_before duties k) ≤ due_before duties n
-counted_before [] zero n lt due = absurd (true_false (sym due))
-counted_before [] (suc k) n lt due = absurd (true_false (sym due))
+counted_before [] zero n lt due = absurd (true≢false (sym due))
+counted_before [] (suc k) n lt due = absurd (true≢false (sym due))
 counted_before (d ∷ duties) zero zero lt due = absurd (omega (arith, lt))
 counted_before (d ∷ duties) zero (suc n) lt due = go (is_due d) due
   where
     go : (b : Bool) → b ≡ true → 1 ≤ length (cond b (d ∷ filter is_due (take n duties)) (filter is_due (take n duties)))
     go true e = omega arith
-    go false e = absurd (true_false (sym e))
+    go false e = absurd (true≢false (sym e))
 counted_before (d ∷ duties) (suc k) zero lt due = absurd (omega (arith, lt))
 counted_before (d ∷ duties) (suc k) (suc n) lt due = go (is_due d) (counted_before duties k n (omega (arith, lt)) due)
   where
@@ -102,8 +99,8 @@ none_next duties index n none never k lt h = go (less_or_same k n lt)
 
 -- past the end no job has its turn
 due_within : (duties : List Duty) (k : ℕ) → is_due_at duties k ≡ true → k < length duties
-due_within [] zero e = absurd (true_false (sym e))
-due_within [] (suc k) e = absurd (true_false (sym e))
+due_within [] zero e = absurd (true≢false (sym e))
+due_within [] (suc k) e = absurd (true≢false (sym e))
 due_within (d ∷ duties) zero e = omega arith
 due_within (d ∷ duties) (suc k) e = let lt : k < length duties = due_within duties k e in omega (arith, lt)
 
@@ -120,7 +117,7 @@ pub seek_first : (duties : List Duty) (index : ℕ) → IsSeeking duties index 0
 seek_first duties index = record { sum = omega arith; none = λ k lt h. absurd (omega (arith, lt)) }
 
 rests_not : (duties : List Duty) (n : ℕ) (duty : Duty) → slice_get duties n ≡ Some duty → is_due duty ≡ false → is_due_at duties n ≡ true → ⊥
-rests_not duties n duty e rests due = true_false (sym due ∙ ap is_due_one e ∙ rests)
+rests_not duties n duty e rests due = true≢false (sym due ∙ ap is_due_one e ∙ rests)
 
 next_left : (duties : List Duty) (index n left rest : ℕ) (duty : Duty) → slice_get duties n ≡ Some duty → IsSeeking duties index n left → is_due duty ≡ true → (if nat_lt left 1 then None else Some (left - 1)) ≡ Some rest → IsSeeking duties index (n + 1) rest
 next_left duties index n zero rest duty e h due is = absurd (none_some is)

@@ -1,5 +1,5 @@
 -- The next turn may come, after turns that are done.
-use Rattle.std.proofs.Common.{◌≡◌, ◌≢◌, inl, inr, ℕ, suc, Bool, true, false, ◌||◌, List, [], ◌∷◌, ◌++◌, map, zip, refl, ap, sym, subst, ◌∙◌, bytes_eq, Option, Some, None, IsTrue}
+use Rattle.std.proofs.Common.{◌≡◌, ◌≢◌, inl, inr, ℕ, suc, Bool, true, false, ◌||◌, List, [], ◌∷◌, ◌++◌, map, zip, refl, ap, sym, subst, ◌∙◌, bytes_eq, Option, Some, None, IsTrue, true≢false}
 use Rattle.std.specs.Prelude.{is_some, option_map, if◌then◌else◌}
 use Rattle.std.specs.List.{list_any}
 use Rattle.smk_base.specs.Path.{is_path, own_folder, is_at_or_under, overlaps}
@@ -51,9 +51,6 @@ use Rattle.smk_safe.proofs.Product.{made_product}
 use Rattle.smk_safe.proofs.Stamped.{IsTold, AreTold, told_length}
 use Rattle.smk_safe.proofs.Turning.{recordable_as}
 
-true_false : true ≡ false → ⊥
-true_false e = cc
-
 -- ## Small facts
 
 pub content_time : (n : NodeState) (b : Bool) (f : Content) (time : ℕ) (read_only : Bool) → content_of (if b then reading n else None) ≡ Some f → StatIs (File time read_only) n → f.time ≡ time
@@ -100,7 +97,7 @@ kept_finds f (x ∷ ps) p i = go (bytes_eq x p) refl i (kept_finds f ps p)
   where
     go : (b : Bool) → bytes_eq x p ≡ b → IsIn (x ∷ ps) p → (IsIn ps p → kept_at (map (λ q. (q, f q)) ps) p ≡ Some (f p)) → (if b then Some (f x) else kept_at (map (λ q. (q, f q)) ps) p) ≡ Some (f p)
     go true e k again = ap (λ q. Some (f q)) (same_place x p e)
-    go false e (inl same) again = absurd (true_false (sym (place_itself x) ∙ ap (bytes_eq x) (sym same) ∙ e))
+    go false e (inl same) again = absurd (true≢false (sym (place_itself x) ∙ ap (bytes_eq x) (sym same) ∙ e))
     go false e (inr k) again = again k
 
 kept_among : (f : Path → Record) (ps : List Path) (p : Path) (r : Record) → kept_at (map (λ q. (q, f q)) ps) p ≡ Some r → IsIn ps p

@@ -1,5 +1,5 @@
 -- Runs of the protocol one after another, and looks as such a run.
-use Rattle.std.proofs.Common.{◌≡◌, inl, inr, true, false, ◌||◌, List, [], ◌∷◌, ◌++◌, refl, ap, sym, subst, ◌∙◌, IsTrue, Ok, Err}
+use Rattle.std.proofs.Common.{◌≡◌, inl, inr, true, false, ◌||◌, List, [], ◌∷◌, ◌++◌, refl, ap, sym, subst, ◌∙◌, IsTrue, Ok, Err, true≢false}
 use Rattle.std.specs.Prelude.{filter}
 use Rattle.smk_world.specs.declared.event.Call.{Call}
 use Rattle.smk_world.specs.declared.event.Call.TheVariants.{Looked, ReadFile, ReadFolder, Written, Created, Removed, MadeParents, Settled, Protected, Started, Waited}
@@ -19,9 +19,6 @@ use Rattle.smk_job.specs.Jobs.{IsPart}
 use Rattle.smk_run.proofs.Calls.{EachCall}
 use Rattle.smk_run.proofs.Calls.{OfLooks}
 use Rattle.smk_safe.specs.Turning.{has_failure}
-
-true_false : true ≡ false → ⊥
-true_false e = cc
 
 -- ## Runs
 
@@ -104,7 +101,7 @@ look_fails o s w e calm look bad =
 -- a part of some looks, of which the last may fail
 pub look_part : (o : Outside) (s : RunState) → s.faulted ≡ false → (rs : List Request) (w : World) (es : List Event)
     → Each IsLooking rs → IsPart rs es → (end : RunState) × Runs o s w es end × (has_failure es ≡ true → end.faulted ≡ true)
-look_part o s calm rs w [] each h = (s, Done s w, λ f. absurd (true_false (sym f)))
+look_part o s calm rs w [] each h = (s, Done s w, λ f. absurd (true≢false (sym f)))
 look_part o s calm [] w (e ∷ es) each h = absurd h
 look_part o s calm (r ∷ rs) w (e ∷ es) each (is, inl (bad, none)) =
     let look = look_by o e.call (subst IsLooking (sym is) each.0) in

@@ -1,5 +1,5 @@
 -- A job that failed leaves nothing of its outputs, their records and marks.
-use Rattle.std.proofs.Common.{◌≡◌, ◌⊎◌, inl, inr, ℕ, Bool, true, false, List, [], ◌∷◌, ◌++◌, map, refl, ap, sym, subst, ◌∙◌, None, Ok, append_assoc, IsTrue}
+use Rattle.std.proofs.Common.{◌≡◌, ◌⊎◌, inl, inr, ℕ, Bool, true, false, List, [], ◌∷◌, ◌++◌, map, refl, ap, sym, subst, ◌∙◌, None, Ok, append_assoc, IsTrue, true≢false}
 use Rattle.smk_base.specs.Path.{is_path, is_at_or_under}
 use Rattle.smk_base.specs.Place.{record_place, mark_place}
 use Rattle.smk_base.proofs.Under.{or_cases, or_first, or_second, at_itself}
@@ -44,9 +44,6 @@ use Rattle.smk_made.proofs.Starting.{has_ended}
 use Rattle.smk_safe.specs.Lost.{IsLost, FailedTurnLeaves}
 use Rattle.smk_safe.proofs.Off.{record_marks}
 
-true_false : true ≡ false → ⊥
-true_false e = cc
-
 bool_cases : (b : Bool) → (b ≡ true) ⊎ (b ≡ false)
 bool_cases true = inl refl
 bool_cases false = inr refl
@@ -63,8 +60,8 @@ off_one (Remove p) q k h = h
 off_one (MakeParents p) q k h = h
 off_one (Settle ps) q k h = h
 off_one (Protect p) q k h = h
-off_one (Start recipe logs command) q k h = absurd (true_false k)
-off_one Wait q k h = absurd (true_false k)
+off_one (Start recipe logs command) q k h = absurd (true≢false k)
+off_one Wait q k h = absurd (true≢false k)
 
 off_all : (rs : List Request) (q : Path) → AreFiles rs → Spared true q rs → KeepsOff rs q
 off_all [] q k h = tt
@@ -87,14 +84,14 @@ still_none act (p ∷ ps) w v q (u, st, more) none = still_none act ps u v q mor
 ])
 
 all_removed : (act : Act) (ps : List Path) (w v : World) (q : Path) → Reaches act (remove_each ps) w v → IsAllKnown w → is_within q ps ≡ true → Reads None (v.nodes q)
-all_removed act [] w v q h known within = absurd (true_false (sym within))
+all_removed act [] w v q h known within = absurd (true≢false (sym within))
 all_removed act (p ∷ ps) w v q (u, st, more) known within = elim (or_cases (is_at_or_under q p) (is_within q ps) within) [
   | inl at ↦ still_none act ps u v q more (removed act p w u q st at (known q))
   | inr later ↦ all_removed act ps u v q more (λ x. step_known act (Remove p) w u x st refl (known x)) later
 ]
 
 within_first : (q : Path) (ps qs : List Path) → is_within q ps ≡ true → is_within q (ps ++ qs) ≡ true
-within_first q [] qs h = absurd (true_false (sym h))
+within_first q [] qs h = absurd (true≢false (sym h))
 within_first q (p ∷ ps) qs h = elim (or_cases (is_at_or_under q p) (is_within q ps) h) [
   | inl at ↦ or_first (is_at_or_under q p) (is_within q (ps ++ qs)) at
   | inr later ↦ or_second (is_at_or_under q p) (is_within q (ps ++ qs)) (within_first q ps qs later)
@@ -245,7 +242,7 @@ module _ (act : Act) (made : Serials) (t : Turn) (w : World) (may : MayCome t w)
   quiet_looks es h = stamped_each (λ (r : Request). is_crew r ≡ false) crewless made (in_paths t.job.recipe) (found t.looked) es h
 
   closed_lost : (c : Ending) (es : List Event) → Follows act w es → is_done (Closed c) ≡ false → HasStampedAnd made t (HasGone t (Closed c)) w es → EndsLost act t w es
-  closed_lost Good es follows not_done h = absurd (true_false not_done)
+  closed_lost Good es follows not_done h = absurd (true≢false not_done)
   closed_lost (Status n) es follows not_done h =
       let b = h.then_did in
       let c = b.then_did in
@@ -262,9 +259,9 @@ module _ (act : Act) (made : Serials) (t : Turn) (w : World) (may : MayCome t w)
       (as_lost (fault.BadMember p) (λ n status x gs. HasSettled (as_underway t n) (Ok (BadMember p)) status x gs) (λ n status x gs k. k.1) (run w h.seen) h.rest h.then_did)
 
   turn_lost : (c : Course) (es : List Event) → Follows act w es → IsTurnBy made t c w es → is_closed c ≡ true → is_done c ≡ false → EndsLost act t w es
-  turn_lost Unbegun es follows h closed not_done = absurd (true_false (sym closed))
-  turn_lost Unstarted es follows h closed not_done = absurd (true_false (sym closed))
-  turn_lost Unclosed es follows h closed not_done = absurd (true_false (sym closed))
+  turn_lost Unbegun es follows h closed not_done = absurd (true≢false (sym closed))
+  turn_lost Unstarted es follows h closed not_done = absurd (true≢false (sym closed))
+  turn_lost Unclosed es follows h closed not_done = absurd (true≢false (sym closed))
   turn_lost (Closed c) es follows h closed not_done = closed_lost c es follows not_done h
 
 pub failed_turn_leaves : FailedTurnLeaves

@@ -1,5 +1,5 @@
 -- Records and marks of paths that a turn doesn't make are left alone by it.
-use Rattle.std.proofs.Common.{◌≡◌, ◌⊎◌, inl, inr, Bool, true, false, List, [], ◌∷◌, ◌++◌, map, refl, ap, sym, ◌∙◌, bytes_eq, IsTrue}
+use Rattle.std.proofs.Common.{◌≡◌, ◌⊎◌, inl, inr, Bool, true, false, List, [], ◌∷◌, ◌++◌, map, refl, ap, sym, ◌∙◌, bytes_eq, IsTrue, true≢false}
 use Rattle.std.specs.List.{list_any}
 use Rattle.smk_base.specs.Path.{is_path, own_folder, is_at_or_under, overlaps}
 use Rattle.smk_base.specs.Place.{record_place, mark_place, note_place}
@@ -16,9 +16,6 @@ use Rattle.smk_made.proofs.Keeping.{or_false}
 use Rattle.smk_made.proofs.Sparing.{else_apart, IsOffTurn, off_overlap}
 use Rattle.smk_protocol.proofs.Basics.{none_of}
 
-true_false : true ≡ false → ⊥
-true_false e = cc
-
 -- the turn makes the path
 abbrev pub makes : Path → Turn → Bool
 makes q t = among (out_paths t.job.recipe) q
@@ -27,7 +24,7 @@ named_differ : (q : Path) (ps : List Path) → is_named q ps ≡ false → Each 
 named_differ q [] h = tt
 named_differ q (p ∷ ps) h =
     let both = or_false (bytes_eq q p) (is_named q ps) h in
-    (λ e. true_false (sym (place_itself p) ∙ ap (λ x. bytes_eq x p) e ∙ both.0), named_differ q ps both.1)
+    (λ e. true≢false (sym (place_itself p) ∙ ap (λ x. bytes_eq x p) e ∙ both.0), named_differ q ps both.1)
 
 users_apart : (x : Path) → is_at_or_under x own_folder ≡ true → (ps : List Path) → Each (λ p. IsTrue (is_path p)) ps → Each (λ p. IsApart p x) ps
 users_apart x own [] h = tt

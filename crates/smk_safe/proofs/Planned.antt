@@ -1,5 +1,5 @@
 -- Turns of the jobs that a plan has to run are ready.
-use Rattle.std.proofs.Common.{◌≡◌, ◌≢◌, ◌⊎◌, inl, inr, ℕ, suc, ◌≤◌, Bool, true, false, ◌&&◌, ◌||◌, not, cond, List, [], ◌∷◌, ◌++◌, map, zip, filter, flat_map, find, length, refl, ap, sym, subst, ◌∙◌, arith, Option, Some, None, IsTrue}
+use Rattle.std.proofs.Common.{◌≡◌, ◌≢◌, ◌⊎◌, inl, inr, ℕ, suc, ◌≤◌, Bool, true, false, ◌&&◌, ◌||◌, not, cond, List, [], ◌∷◌, ◌++◌, map, zip, filter, flat_map, find, length, refl, ap, sym, subst, ◌∙◌, arith, Option, Some, None, IsTrue, true≢false}
 use Rattle.std.specs.Prelude.{nat_lt, is_none, is_some, bytes_eq, if◌then◌else◌}
 use Rattle.std.specs.List.{list_any, list_all}
 use Rattle.std.specs.Option.{option_and_then}
@@ -70,9 +70,6 @@ use Rattle.smk_safe.specs.Ready.{IsThere, FromSource, FromTurn, FromRest, stamp_
 use Rattle.smk_safe.specs.Planned.{KeepsSerial, AreTurnsOf, TellsSerials, IsPlain, IsFit, PlannedTurnsAreReady}
 use Rattle.smk_safe.proofs.Images.{holder_own}
 
-true_false : true ≡ false → ⊥
-true_false e = cc
-
 bool_cases : (b : Bool) → (b ≡ true) ⊎ (b ≡ false)
 bool_cases true = inl refl
 bool_cases false = inr refl
@@ -81,16 +78,16 @@ bool_cases false = inr refl
 
 -- what is neither Open nor Dirty
 pub table_calm : (b : Bool) (rs : List Reason) (x : Bool) → is_open (if b then Open else by_reasons rs x) ≡ false → is_dirty (if b then Open else by_reasons rs x) ≡ false → rs ≡ []
-table_calm true rs x h k = absurd (true_false h)
+table_calm true rs x h k = absurd (true≢false h)
 table_calm false [] x h k = refl
-table_calm false (r ∷ rs) x h k = absurd (true_false k)
+table_calm false (r ∷ rs) x h k = absurd (true≢false k)
 
 -- what is to rest isn't to be restored
 pub table_rests : (b : Bool) (rs : List Reason) (x : Bool) → is_open (if b then Open else by_reasons rs x) ≡ false → is_to_run (if b then Open else by_reasons rs x) ≡ false → x ≡ false
-table_rests true rs x h k = absurd (true_false h)
-table_rests false [] true h k = absurd (true_false k)
+table_rests true rs x h k = absurd (true≢false h)
+table_rests false [] true h k = absurd (true≢false k)
 table_rests false [] false h k = refl
-table_rests false (r ∷ rs) x h k = absurd (true_false k)
+table_rests false (r ∷ rs) x h k = absurd (true≢false k)
 
 pub run_or_rest : (s : State) → is_to_run s ≡ false → is_dirty s ≡ false
 run_or_rest Open h = refl
@@ -136,7 +133,7 @@ no_folders j h = ap (map (λ (out : Out). out.path)) (none_folders (outs_of j.re
 pub plain_makes : (j : Job) (q : Path) → IsPlain j → makes j q ≡ true → IsIn (out_paths j.recipe) q
 plain_makes j q plain h = elim (or_cases (among (out_paths j.recipe) q) (is_some (folder_over j.recipe q)) h) [
   | inl k ↦ among_in (out_paths j.recipe) q k
-  | inr k ↦ absurd (true_false (sym k ∙ ap (λ fs. is_some (find (is_under q) fs)) (no_folders j plain)))
+  | inr k ↦ absurd (true≢false (sym k ∙ ap (λ fs. is_some (find (is_under q) fs)) (no_folders j plain)))
 ]
 
 pub plain_kind : (r : Recipe) (p : Path) → folders_of r ≡ [] → kind_in r p ≡ Plain
@@ -202,7 +199,7 @@ spots_between f (z ∷ js) j k s u h i l a b x y = go i l (spots_append (spots z
     go : IsIn (z ∷ js) j → IsIn (z ∷ js) k
         → SpotsApart (spots z) × SpotsApart (flat_map spots js) × ((s t : Path × Bool) → IsIn (spots z) s → IsIn (flat_map spots js) t → overlaps t.0 s.0 ≡ false)
         → (SpotsApart (flat_map spots js) → IsIn js j → IsIn js k → overlaps u.0 s.0 ≡ false) → overlaps u.0 s.0 ≡ false
-    go (inl e) (inl d) r again = absurd (true_false (sym a ∙ ap f (e ∙ sym d) ∙ b))
+    go (inl e) (inl d) r again = absurd (true≢false (sym a ∙ ap f (e ∙ sym d) ∙ b))
     go (inl e) (inr n) r again = r.2 s u (subst (λ q. IsIn (spots q) s) e x) (in_flat spots js k u n y)
     go (inr m) (inl d) r again = flipped s.0 u.0 (r.2 u s (subst (λ q. IsIn (spots q) u) d y) (in_flat spots js j s m x))
     go (inr m) (inr n) r again = again r.1 m n
@@ -210,12 +207,12 @@ spots_between f (z ∷ js) j k s u h i l a b x y = go i l (spots_append (spots z
 -- ## The plan
 
 pub and_not : (a b : Bool) → b ≡ false → (a && not b) ≡ false → a ≡ false
-and_not true b h k = absurd (true_false (sym (ap not h) ∙ k))
+and_not true b h k = absurd (true≢false (sym (ap not h) ∙ k))
 and_not false b h k = refl
 
 pub not_and : (a b : Bool) → b ≡ true → (not a && b) ≡ false → a ≡ true
 not_and true b h k = refl
-not_and false b h k = absurd (true_false (sym h ∙ k))
+not_and false b h k = absurd (true≢false (sym h ∙ k))
 
 overlaps_back : (p q : Path) → overlaps p q ≡ true → overlaps q p ≡ true
 overlaps_back p q h = elim (bool_cases (overlaps q p)) [ inl e ↦ e | inr e ↦ absurd (never_both (overlaps p q) h (flipped q p e)) ]
@@ -226,21 +223,21 @@ once_paths ps p h = let d = in_distinct bytes_eq place_itself same_trans ps p h 
 pub known_of : (a b c : Bool) → (a || b) ≡ true → (a || (b || c)) ≡ true
 known_of true b c h = refl
 known_of false true c h = refl
-known_of false false c h = absurd (true_false (sym h))
+known_of false false c h = absurd (true≢false (sym h))
 
 -- an output's spot lets no record or mark of another path be
 own_spot : (over noted has same : Bool) → (over && (noted || (has && not same))) ≡ false → over ≡ true → has ≡ true → same ≡ true
 own_spot over noted has true h k l = refl
-own_spot true true has false h k l = absurd (true_false h)
-own_spot true false true false h k l = absurd (true_false h)
-own_spot true false false false h k l = absurd (true_false (sym l))
-own_spot false noted has false h k l = absurd (true_false (sym k))
+own_spot true true has false h k l = absurd (true≢false h)
+own_spot true false true false h k l = absurd (true≢false h)
+own_spot true false false false h k l = absurd (true≢false (sym l))
+own_spot false noted has false h k l = absurd (true≢false (sym k))
 
 -- a log's spot lets none be
 log_spot : (over noted has same : Bool) → (over && (has || (noted && not same))) ≡ false → over ≡ true → has ≡ true → ⊥
-log_spot true noted true same h k l = true_false h
-log_spot true noted false same h k l = true_false (sym l)
-log_spot false noted has same h k l = true_false (sym k)
+log_spot true noted true same h k l = true≢false h
+log_spot true noted false same h k l = true≢false (sym l)
+log_spot false noted has same h k l = true≢false (sym k)
 
 below_drawn : (top greatest n : ℕ) → top ≤ greatest → n ≡ suc greatest → nat_lt top n ≡ true
 below_drawn top greatest n le e = grind (arith, le, e)
@@ -251,14 +248,14 @@ not_drawn top n le = grind (arith, le)
 -- ## No job is Open
 
 table_shut : (b : Bool) (rs : List Reason) (x : Bool) → b ≡ false → is_open (if b then Open else by_reasons rs x) ≡ false
-table_shut true rs x h = absurd (true_false h)
+table_shut true rs x h = absurd (true≢false h)
 table_shut false [] true h = refl
 table_shut false [] false h = refl
 table_shut false (r ∷ rs) x h = refl
 
 or_none : (a b c : Bool) → a ≡ false → b ≡ false → c ≡ false → (a || (b || c)) ≡ false
-or_none true b c h k l = absurd (true_false h)
-or_none false true c h k l = absurd (true_false k)
+or_none true b c h k l = absurd (true≢false h)
+or_none false true c h k l = absurd (true≢false k)
 or_none false false c h k l = l
 
 pub flat_none : {A B : Type 0} (f : A → List B) (xs : List A) → ((x : A) → IsIn xs x → f x ≡ []) → flat_map f xs ≡ []
@@ -590,7 +587,7 @@ module _ (o : Outside) (w : World) (flow : Flow) (settings : Settings) (plan : P
       kept_serial t greatest f here calm served keeps =
           let old : draws top t ≡ false = first_old (out_paths t.job.recipe) (λ p i. i) f.makes in (
             record {
-              drawn = λ d. absurd (true_false (sym d ∙ old));
+              drawn = λ d. absurd (true≢false (sym d ∙ old));
               kept = λ d. each_of (IsRecordedSo image made t) (out_paths t.job.recipe) (λ p ip. recorded t p here.0 calm served keeps ip);
             },
             ap (λ b. if b then t.made else greatest) old,
@@ -606,7 +603,7 @@ module _ (o : Outside) (w : World) (flow : Flow) (settings : Settings) (plan : P
     drawn_serial : (t : Turn) (greatest : ℕ) → top ≤ greatest → t.made ≡ suc greatest → HasItsSerial image made top greatest t × (greatest_after top greatest t ≡ suc greatest)
     drawn_serial t greatest le next =
         let draw : draws top t ≡ true = below_drawn top greatest t.made le next in (
-          record { drawn = λ d. next; kept = λ d. absurd (true_false (sym draw ∙ d)) },
+          record { drawn = λ d. next; kept = λ d. absurd (true≢false (sym draw ∙ d)) },
           ap (λ b. if b then t.made else greatest) draw ∙ next,
         )
 
@@ -622,7 +619,7 @@ module _ (o : Outside) (w : World) (flow : Flow) (settings : Settings) (plan : P
         (h.0, λ run. let u = h.1 run in (u.0, in_left u.0 before (t ∷ []) u.1, u.2, u.3))
 
     rest_turns : (seen : List Job) (before : List Turn) (j : Job) → HaveTurns seen before → IsIn plan.jobs j → is_to_run (st j) ≡ false → HaveTurns (j ∷ seen) before
-    rest_turns seen before j have ij rests k (inl e) = (subst (IsIn plan.jobs) (sym e) ij, λ run. absurd (true_false (sym run ∙ ap (λ z. is_to_run (st z)) e ∙ rests)))
+    rest_turns seen before j have ij rests k (inl e) = (subst (IsIn plan.jobs) (sym e) ij, λ run. absurd (true≢false (sym run ∙ ap (λ z. is_to_run (st z)) e ∙ rests)))
     rest_turns seen before j have ij rests k (inr i) = have k i
 
     more_all : (before : List Turn) (t : Turn) → ((u : Turn) → IsIn before u → IsIn all u) → IsIn all t → (u : Turn) → IsIn (before ++ t ∷ []) u → IsIn all u
@@ -662,7 +659,7 @@ module _ (o : Outside) (w : World) (flow : Flow) (settings : Settings) (plan : P
               ready_at same (ap is_to_run e),
               serial.0,
               subst (λ g. AreReadyFrom o image made all top g (before ++ t ∷ []) ts) (sym serial.1)
-                  (take (suc greatest) same (λ calm. absurd (true_false (sym (ap is_dirty e) ∙ calm))) (omega (arith, le)) later),
+                  (take (suc greatest) same (λ calm. absurd (true≢false (sym (ap is_dirty e) ∙ calm))) (omega (arith, le)) later),
             )
         step Restore e (same, keeps, later) skip take =
             let calm : is_dirty (st t.job) ≡ false = ap (λ z. is_dirty (st z)) same ∙ ap is_dirty e in

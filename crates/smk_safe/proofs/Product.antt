@@ -1,5 +1,5 @@
 -- What was made by a turn is at hand afterwards.
-use Rattle.std.proofs.Common.{◌≡◌, inl, inr, ℕ, Bool, true, false, ◌&&◌, ◌||◌, not, List, [], ◌∷◌, map, refl, ap, sym, subst, ◌∙◌, bytes_eq, Option, Some, None, IsTrue}
+use Rattle.std.proofs.Common.{◌≡◌, inl, inr, ℕ, Bool, true, false, ◌&&◌, ◌||◌, not, List, [], ◌∷◌, map, refl, ap, sym, subst, ◌∙◌, bytes_eq, Option, Some, None, IsTrue, true≢false}
 use Rattle.std.specs.Prelude.{is_some, filter, option_map, if◌then◌else◌}
 use lib.Pointwise.{pointwise}
 use Rattle.smk_base.specs.Path.{is_path}
@@ -42,9 +42,6 @@ use Rattle.smk_made.specs.Running.{IsMade}
 use Rattle.smk_made.proofs.Kept.{AreDifferent}
 use Rattle.smk_safe.specs.Turning.{opened}
 use Rattle.smk_safe.proofs.Images.{holder_own, members_agree}
-
-true_false : true ≡ false → ⊥
-true_false e = cc
 
 -- ## The kind of an output
 
@@ -90,16 +87,16 @@ kind_by FolderKind b e = ap (λ x. if x then FolderKind else Plain) e
 -- ## What stands there
 
 file_there : (s : NodeState) → reads_file s ≡ true → is_some (content_of (reading s)) ≡ true
-file_there Owned h = absurd (true_false (sym h))
-file_there (Known None besides) h = absurd (true_false (sym h))
-file_there (Known (Some Directory) besides) h = absurd (true_false (sym h))
+file_there Owned h = absurd (true≢false (sym h))
+file_there (Known None besides) h = absurd (true≢false (sym h))
+file_there (Known (Some Directory) besides) h = absurd (true≢false (sym h))
 file_there (Known (Some (Regular bytes time read_only)) besides) h = refl
 
 folder_there : (s : NodeState) → reads_folder s ≡ true → is_directory (reading s) ≡ true
-folder_there Owned h = absurd (true_false (sym h))
-folder_there (Known None besides) h = absurd (true_false (sym h))
+folder_there Owned h = absurd (true≢false (sym h))
+folder_there (Known None besides) h = absurd (true≢false (sym h))
 folder_there (Known (Some Directory) besides) h = refl
-folder_there (Known (Some (Regular bytes time read_only)) besides) h = absurd (true_false (sym h))
+folder_there (Known (Some (Regular bytes time read_only)) besides) h = absurd (true≢false (sym h))
 
 node_there : (read : List ℕ → Option Record) (w : World) (p : Path) → is_path p ≡ true → (seen read w).node p ≡ reading (w.nodes p)
 node_there read w p path = ap (λ b. if not b then reading (w.nodes p) else None) (path_outside p path)

@@ -1,5 +1,5 @@
 -- What the looks at a job's inputs tell of its stamps.
-use Rattle.std.proofs.Common.{◌≡◌, ℕ, Bool, true, false, List, [], ◌∷◌, length, refl, sym, subst, ◌∙◌, Option, Some, None, Ok, arith}
+use Rattle.std.proofs.Common.{◌≡◌, ℕ, Bool, true, List, [], ◌∷◌, length, refl, sym, subst, ◌∙◌, Option, Some, None, Ok, arith, true≢false}
 use Rattle.std.proofs.lemmas.List.{append-nil}
 use Rattle.smk_world.specs.declared.event.Call.{Call}
 use Rattle.smk_world.specs.declared.event.Call.TheVariants.{Looked}
@@ -17,9 +17,6 @@ use Rattle.smk_run.specs.Turns.{Course, Unbegun, Unstarted, Unclosed, Closed, Tu
 use Rattle.smk_run.proofs.Calls.{stamped_each}
 use Rattle.smk_made.proofs.Done.{follows_split}
 use Rattle.smk_safe.proofs.Joining.{IsLooking, lookings, looks_by, looks_same}
-
-true_false : true ≡ false → ⊥
-true_false e = cc
 
 -- the stamp of a product is its serial; that of a source the time of the file that stands in this world
 abbrev pub IsTold : World → Option ℕ → Path → Stamp → Type 0
@@ -58,7 +55,7 @@ from_looks o made t c w es h follows =
 
 -- the stamps of a turn in which more was done than looks
 pub turn_told : (o : Outside) (made : Serials) (t : Turn) (c : Course) (w : World) (es : List Event) → is_begun c ≡ true → IsTurnBy made t c w es → Follows o.act w es → AreTold w made (in_paths t.job.recipe) (found t.looked)
-turn_told o made t Unbegun w es begun h follows = absurd (true_false (sym begun))
+turn_told o made t Unbegun w es begun h follows = absurd (true≢false (sym begun))
 turn_told o made t Unstarted w es begun h follows = from_looks o made t Unstarted w es h follows
 turn_told o made t Unclosed w es begun h follows = from_looks o made t Unclosed w es h follows
 turn_told o made t (Closed ending) w es begun h follows = from_looks o made t (Closed ending) w es h follows

@@ -1,5 +1,5 @@
 -- A turn is a run of the protocol, and so are turns one after another.
-use Rattle.std.proofs.Common.{◌≡◌, ◌≢◌, inl, inr, ℕ, true, false, ◌||◌, List, [], ◌∷◌, ◌++◌, refl, ap, sym, subst, ◌∙◌, Option, Some, None, Result, Ok, Err}
+use Rattle.std.proofs.Common.{◌≡◌, ◌≢◌, inl, inr, ℕ, true, false, ◌||◌, List, [], ◌∷◌, ◌++◌, refl, ap, sym, subst, ◌∙◌, Option, Some, None, Result, Ok, Err, true≢false}
 use Rattle.std.specs.List.{list_any}
 use Rattle.std.proofs.lemmas.List.{append-nil}
 use Rattle.std.proofs.lemmas.List.Folds.{list_any-append}
@@ -53,9 +53,6 @@ use Rattle.smk_made.proofs.Starting.{has_ended}
 use Rattle.smk_safe.specs.Turning.{IsAtRest, opened, MayComeNext, AllAreFound, has_failure, TurnIsRun, ComeInTurn, TurnsAreRun}
 use Rattle.smk_safe.proofs.Joining.{runs_then, throughout_later, throughout_first, throughout_on, IsLooking, lookings, AreLooks, looks_by, look_all, look_part, looks_same, now_same}
 use Rattle.smk_safe.proofs.Quiet.{IsQuiet, quiet_then, done_quiet, stamped_quiet, seen_quiet, wrong_quiet, looked_quiet}
-
-true_false : true ≡ false → ⊥
-true_false e = cc
 
 -- ## In a world that reads the same
 
@@ -158,7 +155,7 @@ module _ (o : Outside) (s : RunState) (t : Turn) (kept : List (Path × Record)) 
   left_open MemoryFault status v es may follows (zero_status, looked) = (
     ended_with s t kept top status,
     looking_runs o (ended_with s t kept top status) (outs_of t.job.recipe) v es calm looked,
-    λ bad. absurd (true_false (sym bad ∙ looked_quiet (outs_of t.job.recipe) es looked)),
+    λ bad. absurd (true≢false (sym bad ∙ looked_quiet (outs_of t.job.recipe) es looked)),
   )
 
   -- ## The wait for its child
@@ -248,11 +245,11 @@ module _ (o : Outside) (s : RunState) (t : Turn) (kept : List (Path × Record)) 
 
   gone_run : (c : Course) (w : World) (es : List Event) → is_begun c ≡ true → IsSet o s t kept top w → Throughout w es (AllAreFound (t ∷ [])) → Follows o.act w es → HasGone t c w es
       → (end : RunState) × Runs o s w es end × (is_closed c ≡ true → end ≡ record s { top = top }) × (has_failure es ≡ true → end.faulted ≡ true)
-  gone_run Unbegun w es begun set all follows h = absurd (true_false (sym begun))
+  gone_run Unbegun w es begun set all follows h = absurd (true≢false (sym begun))
   gone_run Unstarted w es begun set all follows h = (
     record (stopped o s) { top = top },
     beginning_fails o s (opened t kept) top t.command w es rest.calm rest.steady set.may set.serial refl makes set.owners (no_users w set.none_runs) follows h,
-    λ closed. absurd (true_false (sym closed)),
+    λ closed. absurd (true≢false (sym closed)),
     λ bad. refl,
   )
   gone_run Unclosed w es begun set all follows h =
@@ -264,7 +261,7 @@ module _ (o : Outside) (s : RunState) (t : Turn) (kept : List (Path × Record)) 
         r.0,
         subst (λ l. Runs o s w l r.0) (sym h.events)
             (runs_then o r.0 h.rest s (running s t kept top h.number) w h.first (begun_run h.number w h.first set split.0 h.begun h.started) r.1),
-        λ closed. absurd (true_false (sym closed)),
+        λ closed. absurd (true≢false (sym closed)),
         λ bad. r.2 (later_bad es h.first h.rest h.events (done_quiet (begin_requests t.job.recipe t.job.logs t.command) h.first h.begun) bad),
       )
   gone_run (Closed ending) w es begun set all follows h =
@@ -278,7 +275,7 @@ module _ (o : Outside) (s : RunState) (t : Turn) (kept : List (Path × Record)) 
         subst (λ l. Runs o s w l end) (sym h.events)
             (runs_then o end h.rest s (running s t kept top h.number) w h.first (begun_run h.number w h.first set split.0 h.begun h.started) r.0),
         λ closed. refl,
-        λ bad. absurd (true_false (sym bad ∙ quiet_then es h.first h.rest h.events (done_quiet (begin_requests t.job.recipe t.job.logs t.command) h.first h.begun) r.1)),
+        λ bad. absurd (true≢false (sym bad ∙ quiet_then es h.first h.rest h.events (done_quiet (begin_requests t.job.recipe t.job.logs t.command) h.first h.begun) r.1)),
       )
 
   set_after : (w : World) (seen : List Event) → MayComeNext o s w t kept top → is_begun t.course ≡ true → AreLooks o seen → Follows o.act w seen → IsSet o s t kept top (run w seen)
@@ -327,7 +324,7 @@ module _ (o : Outside) (s : RunState) (t : Turn) (kept : List (Path × Record)) 
 
   turn_by : (made : Serials) (c : Course) (w : World) (es : List Event) → t.course ≡ c → MayComeNext o s w t kept top → Throughout w es (AllAreFound (t ∷ [])) → Follows o.act w es → IsTurnBy made t c w es
       → (end : RunState) × Runs o s w es end × (is_closed c ≡ true → end ≡ record s { top = top }) × (has_failure es ≡ true → end.faulted ≡ true)
-  turn_by made Unbegun w es is next all follows h = let r = looked_only made t.looked w es h in (r.0, r.1, λ closed. absurd (true_false (sym closed)), r.2)
+  turn_by made Unbegun w es is next all follows h = let r = looked_only made t.looked w es h in (r.0, r.1, λ closed. absurd (true≢false (sym closed)), r.2)
   turn_by made Unstarted w es is next all follows h = begun_turn made Unstarted w es refl (set_from Unstarted w is next refl) all follows h
   turn_by made Unclosed w es is next all follows h = begun_turn made Unclosed w es refl (set_from Unclosed w is next refl) all follows h
   turn_by made (Closed ending) w es is next all follows h = begun_turn made (Closed ending) w es refl (set_from (Closed ending) w is next refl) all follows h

@@ -1,6 +1,6 @@
 -- Ends of calls, one after another.
 use native.Mathlib.Omega.{arith}
-use Rattle.std.proofs.Common.{◌≡◌, ◌⊎◌, ◌≤◌, ℕ, Bool, true, false, List, [], inl, inr, refl, sym, ap, ◌∙◌, Option, Some, None, Result, Ok, Err}
+use Rattle.std.proofs.Common.{◌≡◌, ◌⊎◌, ◌≤◌, ℕ, Bool, true, false, List, [], inl, inr, refl, sym, ap, ◌∙◌, Option, Some, None, Result, Ok, Err, true≢false}
 use Rattle.std.specs.Prelude.{IsSome, IfErr, IsOk}
 use Rattle.smk_world.specs.World.{World}
 use Rattle.smk_world.specs.Calls.{HasCause, Rose}
@@ -10,9 +10,6 @@ use Rattle.smk_entry.specs.Faults.{is_device, is_sink, device_failed}
 use Rattle.smk_run.specs.Runs as run
 use Rattle.smk_serve.specs.Ends.{HasEnded, sink_failed}
 use Rattle.smk_serve.proofs.SameKinds.{device_as, output_as}
-
-true_false : true ≡ false → ⊥
-true_false e = cc
 
 pub cause_as : (a b : ℕ) (F G : Type 0) → (G → F) → HasCause a b F → HasCause a b G
 cause_as a b F G back h = record { later = h.later; rose = λ g. h.rose (back g) }
@@ -33,7 +30,7 @@ pub early : (f : Fault) (a b : Option World) (fa fb : ℕ) (ra rb : List ℕ) (o
     → HasEnded (Err f) a b fa fb rb o o
 early f a b fa fb ra rb o cause stays same none quiet = record {
   device = cause;
-  output = no_cause o (is_sink f ≡ true) (λ e. true_false (sym e ∙ quiet));
+  output = no_cause o (is_sink f ≡ true) (λ e. true≢false (sym e ∙ quiet));
   quiet = λ e. refl;
   children = inl (same ∙ none);
   stays = by_kind (is_device f) refl;

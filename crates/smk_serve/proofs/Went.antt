@@ -1,5 +1,6 @@
 -- What was done, by what its parts did.
-use Rattle.std.proofs.Common.{◌≡◌, ◌≤◌, ℕ, Bool, true, false, List, [], ◌∷◌, inl, inr, refl, sym, ap, subst, ◌∙◌, Option, Some, None, Result, Ok, Err}
+use Rattle.std.proofs.Common.{◌≡◌, ◌≤◌, ℕ, Bool, true, false, List, [], ◌∷◌, inl, inr, refl, sym, ap, subst, ◌∙◌, Option, Some, None, Result, Ok, Err, true≢false}
+use Rattle.std.proofs.lemmas.Option.{same_Some}
 use Rattle.std.specs.Prelude.{IsSome}
 use Rattle.std.proofs.lemmas.List.Elements.{All-nil, All-cons, All-append}
 use Rattle.smk_world.specs.declared.event.Call.{Call}
@@ -32,59 +33,56 @@ use Rattle.smk_make.proofs.Further.{carried_more}
 use Rattle.smk_serve.specs.Serving.{IsWant, HasKept, HasOnlyLooked, HasWorked, Went, Refused, Stopped, Worked, HasListed, NotListed, Listed}
 use Rattle.smk_serve.specs.Serving as listing
 
-true_false : true ≡ false → ⊥
-true_false e = cc
-
 -- ## Kinds of faults
 
 -- a fault that is neither told nor of a sink
 wanting : (f : Fault) → is_told f ≡ false → is_sink f ≡ false → IsWant f
-wanting (fault.BadIndent a b) untold unsunk = absurd (true_false untold)
-wanting (fault.OpenText a b) untold unsunk = absurd (true_false untold)
-wanting (fault.BadByte a b) untold unsunk = absurd (true_false untold)
-wanting (fault.Unexpected a b) untold unsunk = absurd (true_false untold)
-wanting (fault.Unsupported a b c) untold unsunk = absurd (true_false untold)
-wanting (fault.Doubled a b c) untold unsunk = absurd (true_false untold)
-wanting (fault.BadPattern a b c) untold unsunk = absurd (true_false untold)
-wanting (fault.BadConstraint a b c) untold unsunk = absurd (true_false untold)
-wanting (fault.DoubledRule a b c) untold unsunk = absurd (true_false untold)
-wanting (fault.UnequalWildcards a b c) untold unsunk = absurd (true_false untold)
-wanting (fault.UnknownWildcard a b c d) untold unsunk = absurd (true_false untold)
-wanting (fault.BadFlag a b c d) untold unsunk = absurd (true_false untold)
-wanting (fault.BadConfig a b) untold unsunk = absurd (true_false untold)
-wanting (fault.NoKey a b c) untold unsunk = absurd (true_false untold)
-wanting (fault.UnknownName a b c) untold unsunk = absurd (true_false untold)
-wanting (fault.UnequalZip a b) untold unsunk = absurd (true_false untold)
-wanting (fault.TooMany a b) untold unsunk = absurd (true_false untold)
-wanting (fault.IncludeDepth a) untold unsunk = absurd (true_false untold)
-wanting (fault.ContradictoryOrder a b) untold unsunk = absurd (true_false untold)
-wanting (fault.NoRule a) untold unsunk = absurd (true_false untold)
-wanting (fault.NoInput a b c) untold unsunk = absurd (true_false untold)
-wanting (fault.Ambiguous a b c) untold unsunk = absurd (true_false untold)
-wanting (fault.Deep a) untold unsunk = absurd (true_false untold)
-wanting (fault.TooManyPaths a) untold unsunk = absurd (true_false untold)
-wanting (fault.Clash a b) untold unsunk = absurd (true_false untold)
-wanting (fault.MissingMember a) untold unsunk = absurd (true_false untold)
-wanting (fault.NoCommand a) untold unsunk = absurd (true_false untold)
-wanting fault.Locked untold unsunk = absurd (true_false untold)
-wanting (fault.StampSeen a) untold unsunk = absurd (true_false untold)
-wanting fault.Serials untold unsunk = absurd (true_false untold)
-wanting (fault.Incomplete a) untold unsunk = absurd (true_false untold)
-wanting (fault.Protected a) untold unsunk = absurd (true_false untold)
-wanting (fault.AboveLimit a b c d e) untold unsunk = absurd (true_false untold)
-wanting (fault.UnknownField a b) untold unsunk = absurd (true_false untold)
-wanting (fault.TooLong a b) untold unsunk = absurd (true_false untold)
-wanting (fault.JobFailed a b c) untold unsunk = absurd (true_false untold)
-wanting (fault.NoOutput a b c) untold unsunk = absurd (true_false untold)
-wanting (fault.WrongKind a b c) untold unsunk = absurd (true_false untold)
-wanting fault.BadWords untold unsunk = absurd (true_false untold)
-wanting fault.NoCores untold unsunk = absurd (true_false untold)
-wanting (fault.NoFile a) untold unsunk = absurd (true_false untold)
-wanting (fault.TooBig a) untold unsunk = absurd (true_false untold)
-wanting (fault.BadTarget a) untold unsunk = absurd (true_false untold)
-wanting (fault.BadMember a b c) untold unsunk = absurd (true_false untold)
+wanting (fault.BadIndent a b) untold unsunk = absurd (true≢false untold)
+wanting (fault.OpenText a b) untold unsunk = absurd (true≢false untold)
+wanting (fault.BadByte a b) untold unsunk = absurd (true≢false untold)
+wanting (fault.Unexpected a b) untold unsunk = absurd (true≢false untold)
+wanting (fault.Unsupported a b c) untold unsunk = absurd (true≢false untold)
+wanting (fault.Doubled a b c) untold unsunk = absurd (true≢false untold)
+wanting (fault.BadPattern a b c) untold unsunk = absurd (true≢false untold)
+wanting (fault.BadConstraint a b c) untold unsunk = absurd (true≢false untold)
+wanting (fault.DoubledRule a b c) untold unsunk = absurd (true≢false untold)
+wanting (fault.UnequalWildcards a b c) untold unsunk = absurd (true≢false untold)
+wanting (fault.UnknownWildcard a b c d) untold unsunk = absurd (true≢false untold)
+wanting (fault.BadFlag a b c d) untold unsunk = absurd (true≢false untold)
+wanting (fault.BadConfig a b) untold unsunk = absurd (true≢false untold)
+wanting (fault.NoKey a b c) untold unsunk = absurd (true≢false untold)
+wanting (fault.UnknownName a b c) untold unsunk = absurd (true≢false untold)
+wanting (fault.UnequalZip a b) untold unsunk = absurd (true≢false untold)
+wanting (fault.TooMany a b) untold unsunk = absurd (true≢false untold)
+wanting (fault.IncludeDepth a) untold unsunk = absurd (true≢false untold)
+wanting (fault.ContradictoryOrder a b) untold unsunk = absurd (true≢false untold)
+wanting (fault.NoRule a) untold unsunk = absurd (true≢false untold)
+wanting (fault.NoInput a b c) untold unsunk = absurd (true≢false untold)
+wanting (fault.Ambiguous a b c) untold unsunk = absurd (true≢false untold)
+wanting (fault.Deep a) untold unsunk = absurd (true≢false untold)
+wanting (fault.TooManyPaths a) untold unsunk = absurd (true≢false untold)
+wanting (fault.Clash a b) untold unsunk = absurd (true≢false untold)
+wanting (fault.MissingMember a) untold unsunk = absurd (true≢false untold)
+wanting (fault.NoCommand a) untold unsunk = absurd (true≢false untold)
+wanting fault.Locked untold unsunk = absurd (true≢false untold)
+wanting (fault.StampSeen a) untold unsunk = absurd (true≢false untold)
+wanting fault.Serials untold unsunk = absurd (true≢false untold)
+wanting (fault.Incomplete a) untold unsunk = absurd (true≢false untold)
+wanting (fault.Protected a) untold unsunk = absurd (true≢false untold)
+wanting (fault.AboveLimit a b c d e) untold unsunk = absurd (true≢false untold)
+wanting (fault.UnknownField a b) untold unsunk = absurd (true≢false untold)
+wanting (fault.TooLong a b) untold unsunk = absurd (true≢false untold)
+wanting (fault.JobFailed a b c) untold unsunk = absurd (true≢false untold)
+wanting (fault.NoOutput a b c) untold unsunk = absurd (true≢false untold)
+wanting (fault.WrongKind a b c) untold unsunk = absurd (true≢false untold)
+wanting fault.BadWords untold unsunk = absurd (true≢false untold)
+wanting fault.NoCores untold unsunk = absurd (true≢false untold)
+wanting (fault.NoFile a) untold unsunk = absurd (true≢false untold)
+wanting (fault.TooBig a) untold unsunk = absurd (true≢false untold)
+wanting (fault.BadTarget a) untold unsunk = absurd (true≢false untold)
+wanting (fault.BadMember a b c) untold unsunk = absurd (true≢false untold)
 wanting fault.Device untold unsunk = inl refl
-wanting fault.Output untold unsunk = absurd (true_false unsunk)
+wanting fault.Output untold unsunk = absurd (true≢false unsunk)
 wanting fault.OutOfMemory untold unsunk = inr refl
 
 told_quiet : (f : Fault) → is_told f ≡ true → is_device f ≡ false
@@ -132,7 +130,7 @@ told_quiet (fault.NoFile a) told = refl
 told_quiet (fault.TooBig a) told = refl
 told_quiet (fault.BadTarget a) told = refl
 told_quiet (fault.BadMember a b c) told = refl
-told_quiet fault.Device told = absurd (true_false (sym told))
+told_quiet fault.Device told = absurd (true≢false (sym told))
 told_quiet fault.Output told = refl
 told_quiet fault.OutOfMemory told = refl
 
@@ -142,14 +140,14 @@ look_as : (call : Call) → files.is_look call ≡ true → is_look call ≡ tru
 look_as (Looked p r) h = refl
 look_as (ReadFile p limit r) h = refl
 look_as (ReadFolder p r) h = refl
-look_as (Written p bytes r) h = absurd (true_false (sym h))
-look_as (Created p r) h = absurd (true_false (sym h))
-look_as (Removed p r) h = absurd (true_false (sym h))
-look_as (MadeParents p r) h = absurd (true_false (sym h))
-look_as (Settled ps r) h = absurd (true_false (sym h))
-look_as (Protected p r) h = absurd (true_false (sym h))
-look_as (Started recipe logs command r) h = absurd (true_false (sym h))
-look_as (Waited r) h = absurd (true_false (sym h))
+look_as (Written p bytes r) h = absurd (true≢false (sym h))
+look_as (Created p r) h = absurd (true≢false (sym h))
+look_as (Removed p r) h = absurd (true≢false (sym h))
+look_as (MadeParents p r) h = absurd (true≢false (sym h))
+look_as (Settled ps r) h = absurd (true≢false (sym h))
+look_as (Protected p r) h = absurd (true≢false (sym h))
+look_as (Started recipe logs command r) h = absurd (true≢false (sym h))
+look_as (Waited r) h = absurd (true≢false (sym h))
 
 looks_as : (es : List Event) → EachCall (λ call. files.is_look call ≡ true) es → AreLooks es
 looks_as [] h = All-nil (λ (e : Event). is_look e.call ≡ true)
@@ -159,11 +157,8 @@ looks_as (e ∷ es) h = All-cons (λ (x : Event). is_look x.call ≡ true) e es 
 pub seen_looks : (act : Act) (fails : Bool) (F : Nodes → Type 0) (a b : Option World) → Did act a b (HasSeen fails F) → Did act a b (λ w es. AreLooks es)
 seen_looks act fails F a b did = λ w e. let d = did w e in (d.0, d.1, (d.2.0, d.2.1, looks_as d.2.0 d.2.2.looks, d.2.3))
 
-same_some : {A : Type 0} (x y : A) → Some x ≡ Some y → x ≡ y
-same_some x y e = cc
-
 some_of : {A : Type 0} (o : Option A) → IsSome o → (x : A) × (o ≡ Some x)
-some_of None h = absurd (true_false (sym h))
+some_of None h = absurd (true≢false (sym h))
 some_of (Some x) h = (x, refl)
 
 -- and it is so of the world in which it was
@@ -171,7 +166,7 @@ pub seen_there : (act : Act) (fails : Bool) (F : Nodes → Type 0) (a b : Option
 seen_there act fails F a b w did e some =
     let v = some_of b some in
     let d = did v.0 v.1 in
-    subst (λ (u : World). F u.nodes) (same_some d.0 w (sym d.1 ∙ e)) d.2.2.seen
+    subst (λ (u : World). F u.nodes) (same_Some d.0 w (sym d.1 ∙ e)) d.2.2.seen
 
 pub kept : (act : Act) (a b : Option World) → Did act a b (λ w es. AreLooks es) → HasKept act a b
 kept act a b did = record { looks = did; same = λ w v e f. same_nodes act a b w v did e f }

@@ -1,5 +1,5 @@
 -- Turns that are fed by clean values succeed one after another.
-use Rattle.std.proofs.Common.{◌≡◌, inl, inr, ℕ, true, false, not, ◌&&◌, ◌||◌, List, [], ◌∷◌, ◌++◌, refl, ap, sym, subst, ◌∙◌, Option, Some, None, IsTrue, Bool}
+use Rattle.std.proofs.Common.{◌≡◌, inl, inr, ℕ, true, false, not, ◌&&◌, ◌||◌, List, [], ◌∷◌, ◌++◌, refl, ap, sym, subst, ◌∙◌, Option, Some, None, IsTrue, Bool, true≢false}
 use Rattle.std.specs.Prelude.{map, bytes_eq, if◌then◌else◌, ◌==◌}
 use Rattle.std.specs.List.{list_any, AllZip}
 use Rattle.std.specs.Option.{option_and_then}
@@ -38,9 +38,6 @@ use Rattle.smk_succeed.specs.Succeeding.{CanSucceed}
 use Rattle.smk_succeed.specs.Feeding.{AreFed, FedTurnsSucceed, IsGoodTurn, IsLeftAlone, NextTurnIsFed}
 use Rattle.smk_succeed.proofs.Succeeding.{good_jobs_can_succeed, told_split, turns_succeed}
 
-true_false : true ≡ false → ⊥
-true_false e = cc
-
 -- ## Lists
 
 each_in : {A : Type 0} (P : A → Type 0) (xs : List A) (x : A) → Each P xs → IsIn xs x → P x
@@ -63,10 +60,10 @@ in_first (y ∷ xs) ys x (inr h) = inr (in_first xs ys x h)
 
 and_parts : (a b : Bool) → (a && b) ≡ true → (a ≡ true) × (b ≡ true)
 and_parts true b h = (refl, h)
-and_parts false b h = absurd (true_false (sym h))
+and_parts false b h = absurd (true≢false (sym h))
 
 of_not : (b : Bool) → not b ≡ true → b ≡ false
-of_not true h = absurd (true_false (sym h))
+of_not true h = absurd (true≢false (sym h))
 of_not false h = refl
 
 -- ## The tree at one output
@@ -88,9 +85,9 @@ passed o p t rest h =
 
 plain_good : (p : Path) (kind : Kind) (t : Option Tree) → kind ≡ Plain → is_good p kind t ≡ true → (held : List ℕ) × (t ≡ Some (File held))
 plain_good p FolderKind t e h = cc
-plain_good p Plain None e h = absurd (true_false (sym h))
+plain_good p Plain None e h = absurd (true≢false (sym h))
 plain_good p Plain (Some (File held)) e h = (held, refl)
-plain_good p Plain (Some (Folder entries)) e h = absurd (true_false (sym h))
+plain_good p Plain (Some (Folder entries)) e h = absurd (true≢false (sym h))
 
 -- the file that the command made of an output stands there
 pub record IsMadeFile (outs : List Out) (trees : List (Option Tree)) (v : World) (p : Path) : Type 0 where

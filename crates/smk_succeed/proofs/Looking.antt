@@ -1,5 +1,5 @@
 -- Sources that stand are found by the looks at a turn's inputs.
-use Rattle.std.proofs.Common.{◌≡◌, inl, inr, ℕ, true, false, List, [], ◌∷◌, ◌++◌, refl, ap, sym, subst, ◌∙◌, Option, Some, None, Result}
+use Rattle.std.proofs.Common.{◌≡◌, inl, inr, ℕ, true, List, [], ◌∷◌, ◌++◌, refl, ap, sym, subst, ◌∙◌, Option, Some, None, Result, true≢false}
 use Rattle.smk_world.specs.declared.event.Call.{Call}
 use Rattle.smk_world.specs.declared.event.Event.{Event}
 use Rattle.smk_world.specs.declared.event.Node.TheVariants.{Regular, Directory}
@@ -24,9 +24,6 @@ use Rattle.smk_run.proofs.Calls.{part_each}
 use Rattle.smk_made.proofs.Done.{follows_split}
 use Rattle.smk_laws_plan.proofs.CurrentLists.{flat_in}
 use Rattle.smk_succeed.specs.Feeding.{InputsAreFound}
-
-true_false : true ≡ false → ⊥
-true_false e = cc
 
 -- the last of some of these calls is one of them
 last_in : (rs : List Request) (before : List Event) (e : Event) → IsPart rs (before ++ e ∷ []) → IsIn rs (request e.call)
@@ -72,9 +69,9 @@ spares_looks q made (p ∷ ps) = each_join (Spares true q) (look_at (made p) p) 
 
 -- a file is seen as one
 file_seen : (s : NodeState) (stat : Stat) → reads_file s ≡ true → StatIs stat s → is_file stat ≡ true
-file_seen Owned stat h k = absurd (true_false (sym h))
-file_seen (Known None besides) stat h k = absurd (true_false (sym h))
-file_seen (Known (Some Directory) besides) stat h k = absurd (true_false (sym h))
+file_seen Owned stat h k = absurd (true≢false (sym h))
+file_seen (Known None besides) stat h k = absurd (true≢false (sym h))
+file_seen (Known (Some Directory) besides) stat h k = absurd (true≢false (sym h))
 file_seen (Known (Some (Regular bytes time read_only)) besides) stat h k = ap is_file k
 
 never_gone :
@@ -89,7 +86,7 @@ never_gone act made ps w es p none files follows part (before, e, is, (stat, cal
     run_kept true p w before (first_calls before calls) (subst (AreAside p) (sym none) tt) in
     let lets = (follows_split act w before (e ∷ []) (subst (Follows act w) is follows)).1.0 in
     let seen = (subst (λ (c : Call). Lets act (run w before) c e.left) call lets).1 in
-    true_false (sym (file_seen ((run w before).nodes p) stat (ap reads_file same ∙ file) seen) ∙ no_file)
+    true≢false (sym (file_seen ((run w before).nodes p) stat (ap reads_file same ∙ file) seen) ∙ no_file)
   where
     first_calls : (before : List Event) → EachCall (Spares true p) (before ++ e ∷ []) → EachCall (Spares true p) before
     first_calls [] h = tt

@@ -1,5 +1,5 @@
 -- A job is done whose command makes all its outputs, if it is closed.
-use Rattle.std.proofs.Common.{◌≡◌, inl, inr, ℕ, Bool, true, false, ◌&&◌, List, [], ◌∷◌, ◌++◌, refl, ap, sym, subst, ◌∙◌, Option, Some, None, Ok}
+use Rattle.std.proofs.Common.{◌≡◌, inl, inr, ℕ, Bool, true, false, ◌&&◌, List, [], ◌∷◌, ◌++◌, refl, ap, sym, subst, ◌∙◌, Option, Some, None, Ok, true≢false}
 use Rattle.std.specs.Prelude.{◌≢◌, ◌==◌, map, if◌then◌else◌, nat_eq}
 use Rattle.std.proofs.lemmas.Bool.{eq-eqb, eqb-true}
 use Rattle.std.specs.List.{list_any, AllZip}
@@ -46,14 +46,11 @@ use Rattle.smk_made.proofs.Starting.{HasEnded, has_ended}
 use Rattle.smk_made.proofs.Done.{follows_split}
 use Rattle.smk_succeed.specs.Succeeding.{CanSucceed, GoodJobsCanSucceed, TurnsSucceed}
 
-true_false : true ≡ false → ⊥
-true_false e = cc
-
 -- ## What a good output is seen as
 
 and_parts : (a b : Bool) → (a && b) ≡ true → (a ≡ true) × (b ≡ true)
 and_parts true b h = (refl, h)
-and_parts false b h = absurd (true_false (sym h))
+and_parts false b h = absurd (true≢false (sym h))
 
 pub holds_file : (s : NodeState) (held : List ℕ) → HoldsBytes held s → reads_file s ≡ true
 holds_file Owned held h = absurd h
@@ -64,9 +61,9 @@ holds_file (Known (Some Directory) besides) held h = absurd h
 -- a good plain output that stands is a file
 good_file : (v : World) (p : Path) (kind : Kind) (tree : Option Tree) → kind ≡ Plain → is_good p kind tree ≡ true → MaybeTreeAt v p tree → reads_file (v.nodes p) ≡ true
 good_file v p FolderKind tree e h k = cc
-good_file v p Plain None e h k = absurd (true_false (sym h))
+good_file v p Plain None e h k = absurd (true≢false (sym h))
 good_file v p Plain (Some (File held)) e h k = holds_file (v.nodes p) held k
-good_file v p Plain (Some (Folder entries)) e h k = absurd (true_false (sym h))
+good_file v p Plain (Some (Folder entries)) e h k = absurd (true≢false (sym h))
 
 abbrev IsPlainFile : Nodes → Out → Type 0
 IsPlainFile nodes out = (out.kind ≡ Plain) × (reads_file (nodes out.path) ≡ true)
@@ -81,16 +78,16 @@ good_files v (out ∷ outs) (tree ∷ trees) plain good h =
     ((plain.0, good_file v out.path out.kind tree plain.0 both.0 h.0), good_files v outs trees plain.1 both.1 h.1)
 
 file_here : (s : NodeState) → reads_file s ≡ true → (reads_nothing s ≡ false) × (reads_folder s ≡ false)
-file_here Owned h = absurd (true_false (sym h))
-file_here (Known None besides) h = absurd (true_false (sym h))
-file_here (Known (Some Directory) besides) h = absurd (true_false (sym h))
+file_here Owned h = absurd (true≢false (sym h))
+file_here (Known None besides) h = absurd (true≢false (sym h))
+file_here (Known (Some Directory) besides) h = absurd (true≢false (sym h))
 file_here (Known (Some (Regular there time read_only)) besides) h = (refl, refl)
 
 -- nothing is wrong with it
 not_wrong : (nodes : Nodes) (p : Path) (kind : Kind) (f : CloseFault) → kind ≡ Plain → reads_file (nodes p) ≡ true → IsWrong nodes p kind f → ⊥
 not_wrong nodes p FolderKind f e file h = cc
-not_wrong nodes p Plain (fault.NoOutput q) e file h = true_false (sym h.1 ∙ (file_here (nodes p) file).0)
-not_wrong nodes p Plain (fault.WrongKind q) e file h = true_false (sym h.1 ∙ (file_here (nodes p) file).1)
+not_wrong nodes p Plain (fault.NoOutput q) e file h = true≢false (sym h.1 ∙ (file_here (nodes p) file).0)
+not_wrong nodes p Plain (fault.WrongKind q) e file h = true≢false (sym h.1 ∙ (file_here (nodes p) file).1)
 not_wrong nodes p Plain (fault.BadMember q) e file h = h
 not_wrong nodes p Plain fault.Device e file h = h
 not_wrong nodes p Plain fault.OutOfMemory e file h = h
@@ -111,7 +108,7 @@ equal_unless a b h = go (a == b) refl
   where
     go : (c : Bool) → (a == b) ≡ c → a ≡ b
     go true e = eqb-true a b e
-    go false e = absurd (h (λ same. true_false (sym (eq-eqb a b same) ∙ e)))
+    go false e = absurd (h (λ same. true≢false (sym (eq-eqb a b same) ∙ e)))
 
 one_numbered : (child other : Child) (n : ℕ) → child_numbered n (child ∷ []) ≡ Some other → child ≡ other
 one_numbered child other n h = go (nat_eq child.number n) h
@@ -211,9 +208,9 @@ by_course :
     (act : Act) (made : Serials) (t : Turn) (trees : List Tree) (w : World) (es : List Event) (course : Course) →
     CanSucceed act t trees → MayCome t w → AreInputsApart t → ContentsAre w t.job.recipe trees → Follows act w es → AreGiven act ⊥ w es →
     IsTurnBy made t course w es → is_closed course ≡ true → is_done course ≡ true
-by_course act made t trees w es Unbegun can may apart contents follows told h closed = absurd (true_false (sym closed))
-by_course act made t trees w es Unstarted can may apart contents follows told h closed = absurd (true_false (sym closed))
-by_course act made t trees w es Unclosed can may apart contents follows told h closed = absurd (true_false (sym closed))
+by_course act made t trees w es Unbegun can may apart contents follows told h closed = absurd (true≢false (sym closed))
+by_course act made t trees w es Unstarted can may apart contents follows told h closed = absurd (true≢false (sym closed))
+by_course act made t trees w es Unclosed can may apart contents follows told h closed = absurd (true≢false (sym closed))
 by_course act made t trees w es (Closed ending) can may apart contents follows told h closed =
     closed_well act made t trees w es ending can may apart contents follows told h
 

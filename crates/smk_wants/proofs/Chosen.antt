@@ -1,5 +1,6 @@
 -- A chosen job's texts are paths, and its rule is there.
 use Rattle.std.proofs.Common.{◌≡◌, ◌≢◌, ℕ, zero, suc, ◌<◌, ◌≤◌, ◌&&◌, not, Bool, true, false, cond, List, [], ◌∷◌, ◌++◌, length, map, filter, Option, Some, None, get_or, nat_lt, slice_get, refl, sym, ap, ◌∙◌, arith, subst}
+use Rattle.std.proofs.lemmas.Option.{same_Some, none-some}
 use Rattle.std.proofs.lemmas.Bool.Decides.{nat_tests}
 use Rattle.std.specs.List.{list_all, list_any, AllByRecursion}
 use Rattle.smk_base.specs.Path.{is_path}
@@ -73,16 +74,10 @@ chosen_paths flow sources p c e =
     let path : (t : Text) → free t ≡ true → is_path t ≡ true = λ t. front_true (is_path t) (not (sources.holds t)) in
     no_fault free path (outputs flow c) (logs flow c ++ first_wants flow c) parts.0 (no_fault free path (logs flow c) (first_wants flow c) parts.1 known)
 
-some_same : {A : Type 0} (x y : A) → Some x ≡ Some y → x ≡ y
-some_same x y e = cc
-
 within : (parts : List RulePart) (n : ℕ) (part : RulePart) → slice_get parts n ≡ Some part → n < length parts
 within [] n part e = absurd (cc)
 within (p ∷ parts) zero part e = omega arith
 within (p ∷ parts) (suc n) part e = let more : n < length parts = within parts n part e in omega (arith, more)
-
-none_some : {A : Type 0} (x : A) → None ≡ Some x → ⊥
-none_some x e = absurd (cc)
 
 pub not_memory : (f : JobFault) (t : Text) → f ≡ JobFault.NotPath t → f ≢ JobFault.OutOfMemory
 not_memory f t e = λ is. absurd (cc)
@@ -95,7 +90,7 @@ pub is_candidate : (flow : Flow) (c : Candidate) (m : Making) (part : RulePart) 
     slice_get flow.rules m.rule ≡ Some part → candidate_of m part ≡ c
 is_candidate flow c m part placed is at =
     ap (λ (x : Making). candidate_of x part) is
-    ∙ ap (λ (q : RulePart). candidate_of (making c) q) (some_same part c.part (sym at ∙ ap (at_rule flow) is ∙ placed))
+    ∙ ap (λ (q : RulePart). candidate_of (making c) q) (same_Some part c.part (sym at ∙ ap (at_rule flow) is ∙ placed))
 
 less : (m n : ℕ) → true ≡ nat_lt m n → m < n
 less m n h = grind (arith, nat_tests)
@@ -128,14 +123,14 @@ pub part_is : (flow : Flow) (c : Candidate) (m : Making) (part : RulePart) → S
 part_is flow c m part at placed is = is_candidate flow c m part placed is (sym at)
 
 pub no_part : (flow : Flow) (c : Candidate) (m : Making) → None ≡ slice_get flow.rules m.rule → slice_get flow.rules c.rule ≡ Some c.part → m ≡ making c → ⊥
-no_part flow c m at placed is = none_some c.part (at ∙ ap (at_rule flow) is ∙ placed)
+no_part flow c m at placed is = none-some c.part (at ∙ ap (at_rule flow) is ∙ placed)
 
 -- the rule of a choice is there
 pub rule_there : (flow : Flow) (m : Making) (chosen : IsChosen flow m) → slice_get flow.rules m.rule ≡ Some chosen.candidate.part
 rule_there flow m chosen = ap (at_rule flow) chosen.is ∙ chosen_placed flow chosen.sources chosen.path chosen.candidate chosen.chosen
 
 pub rule_missing : (flow : Flow) (m : Making) → IsChosen flow m → None ≡ slice_get flow.rules m.rule → ⊥
-rule_missing flow m chosen at = none_some chosen.candidate.part (at ∙ rule_there flow m chosen)
+rule_missing flow m chosen at = none-some chosen.candidate.part (at ∙ rule_there flow m chosen)
 
 pub rule_within : (flow : Flow) (m : Making) → IsChosen flow m → m.rule < length flow.rules
 rule_within flow m chosen = within flow.rules m.rule chosen.candidate.part (rule_there flow m chosen)
@@ -151,4 +146,4 @@ declared_paths flow m part chosen at =
 -- so the job of a choice has no fault
 pub no_fault_there : (flow : Flow) (m : Making) (part : RulePart) (f : JobFault) → IsChosen flow m → slice_get flow.rules m.rule ≡ Some part →
     path_fault (path_texts flow (candidate_of m part)) ≡ Some f → ⊥
-no_fault_there flow m part f chosen at e = none_some f (sym (declared_paths flow m part chosen at) ∙ e)
+no_fault_there flow m part f chosen at e = none-some f (sym (declared_paths flow m part chosen at) ∙ e)

@@ -1,5 +1,6 @@
 -- What is worked by a plan ends well where each target has a clean value.
-use Rattle.std.proofs.Common.{◌≡◌, ◌⊎◌, inl, inr, ℕ, Bool, true, false, List, [], ◌∷◌, ◌++◌, refl, ap, sym, subst, ◌∙◌, Option, Some, None, Ok, Err, Result, arith, is_none}
+use Rattle.std.proofs.Common.{◌≡◌, ◌⊎◌, inl, inr, ℕ, Bool, true, false, List, [], ◌∷◌, ◌++◌, refl, ap, sym, subst, ◌∙◌, Option, Some, None, Ok, Err, Result, arith, is_none, true≢false}
+use Rattle.std.proofs.lemmas.Option.{same_Some}
 use Rattle.std.specs.Prelude.{nat_eq, Contains, if◌then◌else◌, ◌&&◌, ◌||◌}
 use Rattle.std.specs.List.{AllByRecursion, IsDistinct}
 use Rattle.std.proofs.lemmas.List.{append-nil, append_assoc}
@@ -56,9 +57,6 @@ use Rattle.smk_succeed.specs.Completing.{EndsWell, KeepsFiles, MayBreakOff, NoMe
 use Rattle.smk_succeed.specs.Planning.{IsPlainPlan}
 use Rattle.smk_succeed.proofs.Completing.{runs_are_complete}
 use Rattle.smk_whole.specs.Complete.{EndsComplete, IsCleanAsked, IsCompleteAnswer, RefusedPlansMayStop, ServedListingsAreComplete, ServedRunsAreComplete, WorkIsComplete}
-
-true_false : true ≡ false → ⊥
-true_false e = cc
 
 pub refused_plans_may_stop : RefusedPlansMayStop
 refused_plans_may_stop act read asked cores w H f clean refused =
@@ -157,8 +155,8 @@ look_quiet (Removed p r) h = refl
 look_quiet (MadeParents p r) h = refl
 look_quiet (Settled ps r) h = refl
 look_quiet (Protected p r) h = refl
-look_quiet (Started recipe logs command r) h = absurd (true_false (sym h))
-look_quiet (Waited r) h = absurd (true_false (sym h))
+look_quiet (Started recipe logs command r) h = absurd (true≢false (sym h))
+look_quiet (Waited r) h = absurd (true≢false (sym h))
 
 looks_quiet : (es : List Event) → AreLooks es → EachCall (λ (r : Request). is_crew r ≡ false) es
 looks_quiet es h = go es (recursion_from_All (λ (e : Event). is_look e.call ≡ true) es h)
@@ -188,9 +186,6 @@ after_settling act x y ps (e ∷ []) none owners follows done is =
 
 still_then : (w x y : World) → StandsStill w x → StandsStill x y → StandsStill w y
 still_then w x y a b = record { files = λ p bytes h. b.files p bytes (a.files p bytes h); none_runs = b.none_runs; owners = b.owners }
-
-some_same : {A : Type 0} (x y : A) → Some x ≡ Some y → x ≡ y
-some_same x y h = cc
 
 -- ## The work
 
@@ -225,7 +220,7 @@ module _
   started y e u settling =
       let s = settling y e in
       let l = looking.looks s.0 s.1 in
-      let same : l.0 ≡ w = sym (some_same w l.0 l.1) in
+      let same : l.0 ≡ w = sym (same_Some w l.0 l.1) in
       let one : StandsStill w s.0 =
       after_looks act w s.0 l.2.0 clean.sound.no_child clean.sound.owners (subst (λ x. Follows act x l.2.0) same l.2.1) l.2.2 (subst (λ x. s.0 ≡ run x l.2.0) same l.2.3)
       (looking.same w s.0 refl s.1) in
@@ -238,7 +233,7 @@ module _
       let d = made.did v refl in
       let g = made.given v refl in
       let y = d.0 in
-      let same : g.0 ≡ y = some_same g.0 y (sym g.1 ∙ d.1) in
+      let same : g.0 ≡ y = same_Some g.0 y (sym g.1 ∙ d.1) in
       let events : g.2.0 ≡ d.2.0 = same_events y g.2.0 d.2.0 (subst (λ x. run x g.2.0 ≡ run y d.2.0) same (sym g.2.3 ∙ d.2.3)) in
       let given : AreGiven act ⊥ y d.2.0 =
       given_none act rose y d.2.0 never (subst (AreGiven act rose y) events (subst (λ x. AreGiven act rose x g.2.0) same g.2.2)) in

@@ -1,11 +1,8 @@
-use Rattle.std.proofs.Common.{◌≡◌, true, false, ap, sym, subst, ◌∙◌}
+use Rattle.std.proofs.Common.{◌≡◌, true, ap, sym, subst, ◌∙◌, true≢false}
 use Rattle.smk_world.specs.Calls.{HasCause}
 use Rattle.smk_run.specs.Runs.{is_output, is_device}
 use Rattle.smk_make.proofs.Made.{made_fault, made_ok, job_failed}
 use Rattle.smk_make.proofs.making.run.Goals as goal
-
-true_false : true ≡ false → ⊥
-true_false e = cc
 
 pub conclude-requires : goal.conclude-requires
 conclude-requires g c = record { lower = c.requires.lower; job_failed = job_failed g.W.Files.act _ _ c.args.targets.now c.args.jobs.now _ _ _ _ _ _ c.run_jobs.result c.in-Ok.tally _ _ c.in-Ok.is c.run_jobs.ensures.run }
@@ -27,7 +24,7 @@ returns-in-Ok-clause-made g c =
     made_ok g.W.Files.act _ _ c.args.targets.now c.args.jobs.now _ _ _ _ _ _ c.run_jobs.result c.in-Ok.tally c.conclude.result _ _ _ c.requires.each c.in-Ok.is c.run_jobs.ensures.run c.conclude.ensures.concluded c.conclude.ensures.text
 
 pub returns-in-Ok-clause-cause : goal.returns-in-Ok-clause-cause
-returns-in-Ok-clause-cause g c = record { later = c.run_jobs.ensures.cause.later; rose = λ e. absurd (true_false (sym e ∙ c.conclude.ensures.no_device)) }
+returns-in-Ok-clause-cause g c = record { later = c.run_jobs.ensures.cause.later; rose = λ e. absurd (true≢false (sym e ∙ c.conclude.ensures.no_device)) }
 
 pub returns-in-Ok-clause-output : goal.returns-in-Ok-clause-output
 returns-in-Ok-clause-output g c =

@@ -1,13 +1,10 @@
-use Rattle.std.proofs.Common.{◌≡◌, true, false, refl, ap, sym, subst, ◌∙◌}
+use Rattle.std.proofs.Common.{◌≡◌, refl, ap, sym, subst, ◌∙◌, true≢false}
 use Rattle.smk_entry.specs.Faults.{device_failed}
 use Rattle.smk_serve.specs.Serving.{IsRefusedPlan, IsServed, IsPlanned, Worked}
 use Rattle.smk_serve.proofs.Ended.{early, later_on, cause_as, ended_of}
 use Rattle.smk_make.proofs.Further.{carried_more, further_rose}
 use Rattle.smk_serve.proofs.Went.{kept, only_looked, refused_or_stopped}
 use Rattle.smk_serve.proofs.serving.make_targets.Goals as goal
-
-true_false : true ≡ false → ⊥
-true_false e = cc
 
 pub make-requires : goal.make-requires
 make-requires g c =
@@ -17,7 +14,7 @@ make-requires g c =
 pub returns-in-Err-clause-ended : goal.returns-in-Err-clause-ended
 returns-in-Err-clause-ended g c =
     let l = c.plan_for.ensures.looked.looked in
-    early c.in-Err.fault _ _ _ _ _ _ _ (cause_as _ _ _ _ (λ e. ap device_failed c.in-Err.is ∙ e) l.cause) (λ quiet. l.stays (λ h. true_false (sym h ∙ ap device_failed c.in-Err.is ∙ quiet))) l.running c.requires.none_runs
+    early c.in-Err.fault _ _ _ _ _ _ _ (cause_as _ _ _ _ (λ e. ap device_failed c.in-Err.is ∙ e) l.cause) (λ quiet. l.stays (λ h. true≢false (sym h ∙ ap device_failed c.in-Err.is ∙ quiet))) l.running c.requires.none_runs
     (c.plan_for.ensures.looked.no_sink c.in-Err.fault c.in-Err.is)
 
 pub returns-in-Err-clause-went : goal.returns-in-Err-clause-went
@@ -30,7 +27,7 @@ returns-in-Err-clause-went g c = λ w at read hand.
 pub returns-in-Ok-clause-ended : goal.returns-in-Ok-clause-ended
 returns-in-Ok-clause-ended g c =
     let l = c.plan_for.ensures.looked.looked in
-    later_on c.make.result _ _ _ _ _ _ _ _ _ l.cause.later (l.stays (λ h. true_false (sym h ∙ ap device_failed c.in-Ok.is)))
+    later_on c.make.result _ _ _ _ _ _ _ _ _ l.cause.later (l.stays (λ h. true≢false (sym h ∙ ap device_failed c.in-Ok.is)))
     (ended_of c.make.result _ _ _ _ _ _ _ c.make.ensures.cause c.make.ensures.output c.make.ensures.quiet c.make.ensures.children c.make.ensures.stays)
 
 pub returns-in-Ok-clause-went : goal.returns-in-Ok-clause-went
