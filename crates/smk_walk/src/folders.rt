@@ -7,18 +7,20 @@ ghost use Rattle.std.specs.List.{find};
 ghost use Rattle.smk_world.specs.Calls.{in_folder};
 ghost use Rattle.smk_world.specs.Trees.{Path, among};
 ghost use Rattle.smk_chain.specs.Derive.{is_missing, Listings as Lists};
+ghost use Rattle.smk_flow.specs.Flows.{Flow};
+ghost use Rattle.smk_wants.specs.Guides.{IsGuide};
 ghost use Rattle.smk_walk.specs.Folders.{AreFolders, is_file};
 
 use smk_base::{List, OutOfMemory, PathText};
 use smk_chain::{Known, Listings};
-use smk_wants::Places;
+use smk_wants::Guide;
 use std::alloc::Global;
 use std::collections::{BTreeMap, BTreeSet};
 
-/// Where the listings stand, and for each directory with a listing the paths of its files.
-#[derive(Debug, Drop)]
-pub(crate) struct Folders {
-    pub(crate) places: Places,
+/// What the walk goes by, and for each directory with a listing the paths of its files.
+#[derive(Drop)]
+pub(crate) struct Folders<'g> {
+    pub(crate) guide: &'g Guide<'g>,
     members: BTreeMap<String, BTreeSet<String>>,
 }
 
@@ -96,19 +98,22 @@ fn members_of(
     Ok(members)
 }
 
-impl Folders {
+impl<'g> Folders<'g> {
     /// What is to be kept of these listings; of two for one directory the first one counts.
-    pub(crate) fn of(alloc: Global, lists: &Listings) -> Result<Folders, OutOfMemory>
-        ensures { IfOk result (λ made. AreFolders lists.now made) }
+    pub(crate) fn of(
+        alloc: Global,
+        lists: &Listings,
+        guide: &'g Guide<'g>,
+    ) -> Result<Folders<'g>, OutOfMemory>
+        ensures { (flow : Flow) → IsGuide flow lists.now guide.now → IfOk result (AreFolders flow lists.now) }
     {
-        let places = Places::of(alloc, lists)?;
         let members = members_of(alloc, lists.as_slice())?;
-        Ok(Folders { places, members })
+        Ok(Folders { guide, members })
     }
 
     /// Whether the directory is known, and the path isn't there.
     pub(crate) fn lacks(&self, folder: &PathText, path: &PathText) -> bool
-        ensures { (L : Lists) → AreFolders L self.now → result ≡ is_missing L path.now (Some folder.now) }
+        ensures { (flow : Flow) (L : Lists) → AreFolders flow L self.now → result ≡ is_missing L path.now (Some folder.now) }
     {
         match self.members.get(folder.as_str()) {
             Some(files) => !files.contains(path.as_str()),

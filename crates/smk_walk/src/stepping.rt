@@ -5,6 +5,7 @@ ghost use Rattle.std.specs.List.{flat_map};
 ghost use Rattle.smk_world.specs.Trees.{Path, folder_over};
 ghost use Rattle.smk_flow.specs.Flows.{Candidate};
 ghost use Rattle.smk_choose.specs.Choose.{Sources as Which, Make, choose};
+ghost use Rattle.smk_choose.specs.Index.{AreReadings};
 ghost use Rattle.smk_choose.specs.Told.{told_by, told_choice, choice_of, making as making_of};
 ghost use Rattle.smk_chain.specs.Derive.{Listings as Lists, refused_at, recipe, is_missing, wants, gathered_files};
 ghost use Rattle.smk_chain.specs.Told.{TellsFirst};
@@ -17,7 +18,7 @@ use crate::folders::Folders;
 use crate::parts::part_at;
 use smk_base::{List, OutOfMemory, PathText};
 use smk_chain::{ChainFault, Listings};
-use smk_choose::{Choices, Chosen, Making, Sources};
+use smk_choose::{Choices, Chosen, Making, Readings, Sources};
 use smk_flow::Workflow;
 use smk_wants::{Want, declared_of, gathered_files_of, wants_of};
 use smk_world::{Kind, Out, OutItem};
@@ -53,11 +54,11 @@ fn is_missing(
     alloc: Global,
     flow: &Workflow,
     lists: &Listings,
-    folders: &Folders,
+    folders: &Folders<'_>,
     making: &Making,
     path: &PathText,
 ) -> Result<bool, OutOfMemory>
-    requires folders { AreFolders lists.now folders.now }
+    requires folders { AreFolders flow.now lists.now folders.now }
     requires chosen { IsChosen flow.now making.now }
     ensures { (sources : Which) (p : Path) (c : Candidate) → choose flow.now sources p ≡ Make c → making.now ≡ making_of c
         → IfOk result (λ lacks. lacks ≡ is_missing lists.now path.now (folder_over (recipe flow.now lists.now c) path.now)) }
@@ -88,11 +89,11 @@ fn check(
     alloc: Global,
     flow: &Workflow,
     lists: &Listings,
-    folders: &Folders,
+    folders: &Folders<'_>,
     making: &Making,
     path: &PathText,
 ) -> Result<(), ChainFault>
-    requires folders { AreFolders lists.now folders.now }
+    requires folders { AreFolders flow.now lists.now folders.now }
     requires chosen { IsChosen flow.now making.now }
     ensures fault { (sources : Which) (p : Path) (c : Candidate) → choose flow.now sources p ≡ Make c → making.now ≡ making_of c
         → IfErr result (TellsFirst flow.now (refused_at flow.now lists.now path.now (Make c))) }
@@ -114,11 +115,11 @@ fn permitted<'t>(
     flow: &Workflow,
     sources: &Sources,
     lists: &Listings,
-    folders: &Folders,
+    folders: &Folders<'_>,
     table: &'t Choices,
     path: &PathText,
 ) -> Result<Option<&'t Making>, ChainFault>
-    requires folders { AreFolders lists.now folders.now }
+    requires folders { AreFolders flow.now lists.now folders.now }
     requires known { choice_of table.now path.now ≡ Some (told_choice (choose flow.now (told_by sources.now) path.now)) }
     ensures fault { IfErr result (TellsFirst flow.now (refused_at flow.now lists.now path.now (choose flow.now (told_by sources.now) path.now))) }
     ensures permitted { IfOk result (λ found. IsPermitted flow.now (told_by sources.now) lists.now path.now (option_map (λ m. m.now) found)) }
@@ -163,10 +164,12 @@ fn paths_of(alloc: Global, wants: &[Want]) -> Result<List<PathText>, OutOfMemory
 fn own_table(
     alloc: Global,
     flow: &Workflow,
+    readings: &Readings,
     sources: &Sources,
     files: &[Want],
     wanted: &[Want],
 ) -> Result<Option<Choices>, OutOfMemory>
+    requires { AreReadings flow.now readings.now }
     ensures { (L : Lists) (c : Candidate) → files.now ≡ map want_of (gathered_files flow.now L c) → wanted.now ≡ map want_of (wants flow.now L c)
         → IfOk result (λ own. IsInner flow.now (told_by sources.now) L c own) }
 {
@@ -174,7 +177,7 @@ fn own_table(
         return Ok(None);
     }
     let paths = paths_of(alloc, wanted)?;
-    Ok(Some(Choices::of(alloc, flow, sources, &paths)?))
+    Ok(Some(Choices::of(alloc, flow, readings, sources, &paths)?))
 }
 
 /// What is walked at a path: the job that makes it, what that wants, and the choices for those, where they have a table of their own.
@@ -191,18 +194,25 @@ fn prepared(
     flow: &Workflow,
     sources: &Sources,
     lists: &Listings,
-    folders: &Folders,
+    folders: &Folders<'_>,
     making: &Making,
 ) -> Result<(List<Want>, Option<Choices>), ChainFault>
-    requires folders { AreFolders lists.now folders.now }
+    requires folders { AreFolders flow.now lists.now folders.now }
     requires chosen { IsChosen flow.now making.now }
     ensures memory { IfErr result (λ fault. fault ≡ ChainFault.OutOfMemory) }
     ensures wants { (p : Path) (c : Candidate) → choose flow.now (told_by sources.now) p ≡ Make c → making.now ≡ making_of c
         → IfOk result (λ made. (made.0 ≡ map want_of (wants flow.now lists.now c)) × IsInner flow.now (told_by sources.now) lists.now c made.1) }
 {
-    let wants = wants_of(alloc, flow, lists, &folders.places, making)?;
-    let files = gathered_files_of(alloc, flow, lists, &folders.places, making)?;
-    let own = own_table(alloc, flow, sources, files.as_slice(), wants.as_slice())?;
+    let wants = wants_of(alloc, flow, lists, &folders.guide.places, making)?;
+    let files = gathered_files_of(alloc, flow, lists, &folders.guide.places, making)?;
+    let own = own_table(
+        alloc,
+        flow,
+        folders.guide.readings,
+        sources,
+        files.as_slice(),
+        wants.as_slice(),
+    )?;
     Ok((wants, own))
 }
 
@@ -212,11 +222,11 @@ pub(crate) fn begun<'t>(
     flow: &Workflow,
     sources: &Sources,
     lists: &Listings,
-    folders: &Folders,
+    folders: &Folders<'_>,
     table: &'t Choices,
     path: &PathText,
 ) -> Result<Option<Step<'t>>, ChainFault>
-    requires folders { AreFolders lists.now folders.now }
+    requires folders { AreFolders flow.now lists.now folders.now }
     requires known { choice_of table.now path.now ≡ Some (told_choice (choose flow.now (told_by sources.now) path.now)) }
     ensures fault { IfErr result (TellsFirst flow.now (refused_at flow.now lists.now path.now (choose flow.now (told_by sources.now) path.now))) }
     ensures begun { IfOk result (IsBegun flow.now (told_by sources.now) lists.now path.now) }

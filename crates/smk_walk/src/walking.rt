@@ -8,6 +8,7 @@ ghost use Rattle.smk_chain.specs.Derive.{height, refused, jobs};
 ghost use Rattle.smk_chain.specs.declared.jobs.Jobs.{Jobs as Made};
 ghost use Rattle.smk_chain.specs.Told.{TellsFirst};
 ghost use Rattle.smk_wants.specs.Wants.{want_of};
+ghost use Rattle.smk_wants.specs.Guides.{IsGuide};
 ghost use Rattle.smk_walk.specs.Folders.{AreFolders};
 ghost use Rattle.smk_walk.specs.Links.{AreLinked};
 ghost use Rattle.smk_walk.specs.Stepping.{IsWanted};
@@ -21,7 +22,7 @@ use smk_base::{List, PathText};
 use smk_chain::{ChainFault, Jobs, Listings};
 use smk_choose::{Choices, Sources};
 use smk_flow::Workflow;
-use smk_wants::Want;
+use smk_wants::{Guide, Want};
 use std::alloc::Global;
 
 // The path that a job of this rule wants, which makes `path`.
@@ -47,13 +48,13 @@ fn visit(
     flow: &Workflow,
     sources: &Sources,
     lists: &Listings,
-    folders: &Folders,
+    folders: &Folders<'_>,
     table: &Choices,
     reached: &mut Reached,
     depth: u32,
     path: &PathText,
 ) -> Result<(), ChainFault>
-    requires folders { AreFolders lists.now folders.now }
+    requires folders { AreFolders flow.now lists.now folders.now }
     requires few { depth ≤ 200 }
     requires fits { Fits flow.now (told_by sources.now) lists.now depth path.now }
     requires covers { Covers flow.now (told_by sources.now) table.now (depth + 1) path.now }
@@ -86,7 +87,7 @@ fn visit(
         alloc,
         flow,
         lists,
-        &folders.places,
+        &folders.guide.places,
         path,
         making,
         wants.as_slice(),
@@ -99,8 +100,12 @@ fn visit_all(
     flow: &Workflow,
     sources: &Sources,
     lists: &Listings,
+    guide: &Guide<'_>,
+    table: &Choices,
     targets: &List<PathText>,
 ) -> Result<Reached, ChainFault>
+    requires guide { IsGuide flow.now lists.now guide.now }
+    requires covered { CoversAll flow.now (told_by sources.now) table.now 201 targets.now }
     requires shallow { AllByRecursion (λ t. (height flow.now (told_by sources.now) lists.now 201 t == 201) ≡ false) targets.now }
     ensures none { IfOk result (λ made. flat_map (refused flow.now (told_by sources.now) lists.now 201) targets.now ≡ []) }
     ensures jobs { IfOk result (λ made. made.jobs ≡ jobs flow.now (told_by sources.now) lists.now targets.now) }
@@ -108,8 +113,7 @@ fn visit_all(
         → AreLinked flow.now (told_by sources.now) lists.now targets.now made) }
     ensures fault { IfErr result (TellsFirst flow.now (flat_map (refused flow.now (told_by sources.now) lists.now 201) targets.now)) }
 {
-    let folders = Folders::of(alloc, lists)?;
-    let table = Choices::of(alloc, flow, sources, targets)?;
+    let folders = Folders::of(alloc, lists, guide)?;
     let mut reached = Reached::new(alloc);
     for target in targets.as_slice() {
         visit(
@@ -118,7 +122,7 @@ fn visit_all(
             sources,
             lists,
             &folders,
-            &table,
+            table,
             &mut reached,
             200,
             target,
@@ -132,15 +136,19 @@ fn visit_all(
 /// order. It is a `NoRule`, `NoInput`, `Ambiguous`, `MissingMember` or `NoCommand`, or `OutOfMemory` where there is no memory for the
 /// jobs, which is also the answer where there would be 2^32 of them.
 ///
-/// `makers` tells of each target and of all that the jobs want, once, what makes it; `befores` has for each job the numbers of the jobs that
+/// The table has the choices for the targets. `makers` tells of each target and of all that the jobs want, once, what makes it; `befores` has for each job the numbers of the jobs that
 /// make what it wants, each once.
 pub fn walk(
     alloc: Global,
     flow: &Workflow,
     sources: &Sources,
     lists: Listings,
+    guide: &Guide<'_>,
+    table: &Choices,
     targets: &List<PathText>,
 ) -> Result<Jobs, ChainFault>
+    requires guide { IsGuide flow.now lists guide.now }
+    requires covered { CoversAll flow.now (told_by sources.now) table.now 201 targets.now }
     requires shallow { AllByRecursion (λ t. (height flow.now (told_by sources.now) lists 201 t == 201) ≡ false) targets.now }
     ensures none { IfOk result (λ made. flat_map (refused flow.now (told_by sources.now) lists 201) targets.now ≡ []) }
     ensures jobs { IfOk result (λ made. made.jobs ≡ jobs flow.now (told_by sources.now) lists targets.now) }
@@ -148,7 +156,7 @@ pub fn walk(
     ensures lists { IfOk result (λ made. made.lists ≡ lists) }
     ensures fault { IfErr result (TellsFirst flow.now (flat_map (refused flow.now (told_by sources.now) lists 201) targets.now)) }
 {
-    let reached = visit_all(alloc, flow, sources, &lists, targets)?;
+    let reached = visit_all(alloc, flow, sources, &lists, guide, table, targets)?;
     Ok(Jobs {
         jobs: reached.jobs,
         befores: reached.befores,

@@ -18,7 +18,7 @@ returns-in-Some c = λ sources p d e is.
     let q = c.args.path.now in
     let over : Some c.in-Some.folder.now ≡ folder_over (recipe c.args.flow.now c.args.lists.now d) q =
     c.in-Some.ensures ∙ ap (λ (is : List OutItem). over_in (outs_in is) q) (c.as_slice.ensures ∙ ap (λ (j : Job). j.recipe.outputs) (c.in_ok-job.ensures sources p d e is)) in
-    c.lacks.ensures c.args.lists.now c.requires.folders ∙ ap (is_missing c.args.lists.now q) over
+    c.lacks.ensures c.args.flow.now c.args.lists.now c.requires.folders ∙ ap (is_missing c.args.lists.now q) over
 
 pub returns : goal.returns
 returns c = λ sources p d e is.

@@ -27,8 +27,8 @@ visit-requires-clause-covers c =
     let sources = told_by c.args.sources.now in
     let L = c.args.lists.now in
     let ts = c.as_slice-target-items.result.now in
-    target_covers flow sources L c.in_ok-table.table ts c.loop-target.target-index c.target-item.result c.loop-target-test.true c.target-item.is
-    (subst (CoversAll flow sources c.in_ok-table.table 201) (sym c.as_slice-target-items.ensures) c.in_ok-table.ensures)
+    target_covers flow sources L c.args.table.now ts c.loop-target.target-index c.target-item.result c.loop-target-test.true c.target-item.is
+    (subst (CoversAll flow sources c.args.table.now 201) (sym c.as_slice-target-items.ensures) c.requires.covered)
 
 pub returns-in_err-visit-clause-fault : goal.returns-in_err-visit-clause-fault
 returns-in_err-visit-clause-fault c =
