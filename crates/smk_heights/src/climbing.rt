@@ -5,6 +5,7 @@ ghost use Rattle.smk_base.specs.Path.{is_path};
 ghost use Rattle.smk_flow.specs.Flows.{Candidate, first_wants};
 ghost use Rattle.smk_choose.specs.Told.{told_by, making as told_of, choice_of, Covers};
 ghost use Rattle.smk_chain.specs.Derive.{wanted_paths, gathered_files};
+ghost use Rattle.smk_wants.specs.Guides.{IsGuide};
 ghost use Rattle.smk_wants.specs.Wants.{ArePlaces};
 ghost use Rattle.smk_heights.specs.Heights.{AreHeights, AreCovered, IsCovered, Tells, TellsMost, making_in, path_of, paths_in};
 
@@ -13,7 +14,7 @@ use smk_base::{List, OutOfMemory, PathText};
 use smk_chain::Listings;
 use smk_choose::{Choices, Chosen, Making, Sources};
 use smk_flow::Workflow;
-use smk_wants::{Places, Want, first_wants_of, gathered_files_of};
+use smk_wants::{Guide, Places, Want, first_wants_of, gathered_files_of};
 use std::alloc::Global;
 
 // Adds what is wanted where it is a path.
@@ -112,13 +113,13 @@ pub(crate) fn climb(
     flow: &Workflow,
     sources: &Sources,
     lists: &Listings,
-    places: &Places,
+    guide: &Guide<'_>,
     table: &Choices,
     heights: &mut Heights,
     left: u32,
     path: &PathText,
 ) -> Result<Option<u32>, OutOfMemory>
-    requires places { ArePlaces lists.now places.now }
+    requires guide { IsGuide flow.now lists.now guide.now }
     requires within { left ≤ 201 }
     requires covered { Covers flow.now (told_by sources.now) table.now left path.now }
     requires known { AreHeights flow.now (told_by sources.now) lists.now heights.old }
@@ -142,7 +143,7 @@ pub(crate) fn climb(
                 flow,
                 sources,
                 lists,
-                places,
+                guide,
                 table,
                 heights,
                 left - 1,
@@ -165,13 +166,13 @@ fn climb_job(
     flow: &Workflow,
     sources: &Sources,
     lists: &Listings,
-    places: &Places,
+    guide: &Guide<'_>,
     table: &Choices,
     heights: &mut Heights,
     left: u32,
     making: &Making,
 ) -> Result<Option<u32>, OutOfMemory>
-    requires places { ArePlaces lists.now places.now }
+    requires guide { IsGuide flow.now lists.now guide.now }
     requires within { left ≤ 200 }
     requires covered { IsCovered flow.now (told_by sources.now) table.now left making.now }
     requires known { AreHeights flow.now (told_by sources.now) lists.now heights.old }
@@ -185,7 +186,7 @@ fn climb_job(
         flow,
         sources,
         lists,
-        places,
+        guide,
         table,
         heights,
         left,
@@ -194,7 +195,7 @@ fn climb_job(
     else {
         return Ok(None);
     };
-    let files = climb_files(alloc, flow, sources, lists, places, heights, left, making)?;
+    let files = climb_files(alloc, flow, sources, lists, guide, heights, left, making)?;
     Ok(highest(height, files))
 }
 
@@ -206,29 +207,29 @@ fn climb_files(
     flow: &Workflow,
     sources: &Sources,
     lists: &Listings,
-    places: &Places,
+    guide: &Guide<'_>,
     heights: &mut Heights,
     left: u32,
     making: &Making,
 ) -> Result<Option<u32>, OutOfMemory>
-    requires places { ArePlaces lists.now places.now }
+    requires guide { IsGuide flow.now lists.now guide.now }
     requires within { left ≤ 200 }
     requires known { AreHeights flow.now (told_by sources.now) lists.now heights.old }
     ensures known { OnOk result (AreHeights flow.now (told_by sources.now) lists.now heights.new) }
     ensures tells { (c : Candidate) → slice_get flow.now.rules c.rule ≡ Some c.part → making.now ≡ told_of c
         → IfOk result (λ found. TellsMost flow.now (told_by sources.now) lists.now left (filter is_path (gathered_files flow.now lists.now c)) found) }
 {
-    let files = gathered_paths(alloc, flow, lists, places, making)?;
+    let files = gathered_paths(alloc, flow, lists, &guide.places, making)?;
     if files.is_empty() {
         return Ok(Some(0));
     }
-    let table = Choices::of(alloc, flow, sources, &files)?;
+    let table = Choices::of(alloc, flow, guide.readings, sources, &files)?;
     climb_all(
         alloc,
         flow,
         sources,
         lists,
-        places,
+        guide,
         &table,
         heights,
         left,
@@ -243,13 +244,13 @@ fn climb_all(
     flow: &Workflow,
     sources: &Sources,
     lists: &Listings,
-    places: &Places,
+    guide: &Guide<'_>,
     table: &Choices,
     heights: &mut Heights,
     left: u32,
     paths: &[PathText],
 ) -> Result<Option<u32>, OutOfMemory>
-    requires places { ArePlaces lists.now places.now }
+    requires guide { IsGuide flow.now lists.now guide.now }
     requires within { left ≤ 200 }
     requires covered { AreCovered flow.now (told_by sources.now) table.now left paths.now }
     requires known { AreHeights flow.now (told_by sources.now) lists.now heights.old }
@@ -259,7 +260,7 @@ fn climb_all(
     let mut height = 0;
     for path in paths {
         let Some(found) = climb(
-            alloc, flow, sources, lists, places, table, heights, left, path,
+            alloc, flow, sources, lists, guide, table, heights, left, path,
         )?
         else {
             return Ok(None);

@@ -3,9 +3,9 @@
 ghost use Rattle.std.specs.Prelude.{◌≡◌, ◌==◌, IfOk, OnOk};
 ghost use Rattle.std.specs.List.{find};
 ghost use Rattle.smk_world.specs.Trees.{Path};
-ghost use Rattle.smk_choose.specs.Told.{told_by, Covers};
+ghost use Rattle.smk_choose.specs.Told.{told_by, Covers, CoversAll};
 ghost use Rattle.smk_chain.specs.Derive.{height};
-ghost use Rattle.smk_wants.specs.Wants.{ArePlaces};
+ghost use Rattle.smk_wants.specs.Guides.{IsGuide};
 ghost use Rattle.smk_heights.specs.Heights.{AreHeights};
 
 use crate::climbing::climb;
@@ -14,7 +14,7 @@ use smk_base::{List, OutOfMemory, PathText};
 use smk_chain::Listings;
 use smk_choose::{Choices, Sources};
 use smk_flow::Workflow;
-use smk_wants::Places;
+use smk_wants::Guide;
 use std::alloc::Global;
 
 // Whether a chain of 201 jobs leads from the path.
@@ -24,19 +24,19 @@ fn is_deep(
     flow: &Workflow,
     sources: &Sources,
     lists: &Listings,
-    places: &Places,
+    guide: &Guide<'_>,
     table: &Choices,
     heights: &mut Heights,
     path: &PathText,
 ) -> Result<bool, OutOfMemory>
-    requires places { ArePlaces lists.now places.now }
+    requires guide { IsGuide flow.now lists.now guide.now }
     requires covered { Covers flow.now (told_by sources.now) table.now 201 path.now }
     requires known { AreHeights flow.now (told_by sources.now) lists.now heights.old }
     ensures known { OnOk result (AreHeights flow.now (told_by sources.now) lists.now heights.new) }
     ensures is { IfOk result (λ deep. deep ≡ (height flow.now (told_by sources.now) lists.now 201 path.now == 201)) }
 {
     match climb(
-        alloc, flow, sources, lists, places, table, heights, 201, path,
+        alloc, flow, sources, lists, guide, table, heights, 201, path,
     )? {
         Some(_) => Ok(false),
         None => Ok(true),
@@ -46,19 +46,21 @@ fn is_deep(
 /// The first of the targets from which a chain of 201 chosen jobs leads, each wanting something of the next; `None` where from none such
 /// a chain leads. `OutOfMemory` where there is no memory to find out.
 ///
-/// Each path is gone to once: its height is kept, and the search ends at the first chain that is too long, so at a cycle too. For the known
-/// files that a job gathers a table of choices is made for each such job.
+/// Each path is gone to once: its height is kept, and the search ends at the first chain that is too long, so at a cycle too. The table has the
+/// choices for the targets; for the known files that a job gathers one is made for each such job.
 pub fn first_deep(
     alloc: Global,
     flow: &Workflow,
     sources: &Sources,
     lists: &Listings,
+    guide: &Guide<'_>,
+    table: &Choices,
     targets: &List<PathText>,
 ) -> Result<Option<PathText>, OutOfMemory>
+    requires guide { IsGuide flow.now lists.now guide.now }
+    requires covered { CoversAll flow.now (told_by sources.now) table.now 201 targets.now }
     ensures { IfOk result (λ found. found ≡ find (λ (p : Path). height flow.now (told_by sources.now) lists.now 201 p == 201) targets.now) }
 {
-    let places = Places::of(alloc, lists)?;
-    let table = Choices::of(alloc, flow, sources, targets)?;
     let mut heights = Heights::new(alloc);
     for target in targets.as_slice() {
         if is_deep(
@@ -66,8 +68,8 @@ pub fn first_deep(
             flow,
             sources,
             lists,
-            &places,
-            &table,
+            guide,
+            table,
             &mut heights,
             target,
         )? {

@@ -32,7 +32,7 @@ climb-climb_job-requires _ c =
     let within = c.requires.within in
     let told = sym (ap (option_map (λ m. m.now)) c.in-Some-making_at.is) ∙ c.making_at.ensures in
     let covered = covered_here c.args.flow.now (told_by c.args.sources.now) c.args.table.now n c.args.left c.args.path.now c.in-Some-making_at.making.now whole c.requires.covered told in
-    (omega (arith, left), (c.requires.places, (omega (arith, within), (covered, c.requires.known))))
+    (omega (arith, left), (c.requires.guide, (omega (arith, within), (covered, c.requires.known))))
 
 pub climb-overflow_add-under : goal.climb-overflow_add-under
 climb-overflow_add-under _ c =
@@ -166,7 +166,7 @@ climb_files-climb_all-requires _ c =
     let within = c.requires.within in (
       omega arith,
       (
-        c.requires.places,
+        c.requires.guide,
         (
           within,
           (

@@ -10,8 +10,8 @@ pub is_deep-requires-clause-covered : goal.is_deep-requires-clause-covered
 is_deep-requires-clause-covered c =
     let flow = c.args.flow.now in
     let sources = told_by c.args.sources.now in
-    let covers = subst (λ (ps : List Path). CoversAll flow sources c.in_ok-table.table 201 ps) (sym c.as_slice-target-items.ensures) c.in_ok-table.ensures in
-    all_at (Covers flow sources c.in_ok-table.table 201) c.as_slice-target-items.result.now c.loop-target.target-index c.target-item.result covers c.loop-target-test.true c.target-item.is
+    let covers = subst (λ (ps : List Path). CoversAll flow sources c.args.table.now 201 ps) (sym c.as_slice-target-items.ensures) c.requires.covered in
+    all_at (Covers flow sources c.args.table.now 201) c.as_slice-target-items.result.now c.loop-target.target-index c.target-item.result covers c.loop-target-test.true c.target-item.is
 
 pub returns-then-branch : goal.returns-then-branch
 returns-then-branch c =
