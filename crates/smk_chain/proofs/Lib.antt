@@ -1,2 +1,3 @@
 pub mod Folders
 mod Rows
+pub mod Inputs

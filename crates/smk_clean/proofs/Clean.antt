@@ -61,7 +61,7 @@ use Rattle.smk_clean.proofs.Chained.{lists_stay, none_new}
 use Rattle.smk_clean.proofs.Firsts.{firsts_same}
 use Rattle.smk_clean.proofs.Fit.{all_fit}
 use Rattle.smk_clean.proofs.Meant.{all_plain, asked_built, duties_meant, is_plan, makers_told}
-use Rattle.smk_clean.proofs.Plain.{each_from}
+use Rattle.smk_serve.proofs.Plain.{each_from}
 use Rattle.smk_clean.proofs.Safe.{Answer, IsTurnRun, no_fault, ok_err, started, turns_run, turns_safe}
 
 some_none : (f : Fault) → Some f ≡ None → ⊥

@@ -1,4 +1,3 @@
-pub mod Owned
 pub mod Plain
 pub mod Told
 pub mod Firsts

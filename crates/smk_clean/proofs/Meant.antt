@@ -32,8 +32,9 @@ use Rattle.smk_safe.specs.Planned.{IsPlain}
 use Rattle.smk_safe.proofs.Images.{holder_own}
 use Rattle.smk_safe.proofs.Planned.{plain_makes}
 use Rattle.smk_dues.specs.Dues.{TellsMakers}
-use Rattle.smk_clean.proofs.Owned.{own_records}
-use Rattle.smk_clean.proofs.Plain.{each_from, neither, planned_plain}
+use Rattle.smk_preview.proofs.Agreed.{own_records}
+use Rattle.smk_serve.proofs.Plain.{each_from, neither}
+use Rattle.smk_clean.proofs.Plain.{planned_plain}
 use Rattle.smk_clean.proofs.Told.{tells_makers}
 
 pub last_is_plan : (flow : Flow) (image : Image) (settings : Settings) (progress : Progress) (L : Listings) (plan : Plan) → LastPlan flow image settings progress L plan → IsPlan flow image settings progress plan

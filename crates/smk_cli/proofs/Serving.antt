@@ -18,7 +18,7 @@ use Rattle.smk_serve.specs.Serving.{IsWant, IsRefusedPlan, IsServed, settings_of
 use Rattle.smk_serve.specs.Serving as serving
 use Rattle.smk_serve.proofs.Went.{looked_not}
 use Rattle.smk_cli.specs.Whole.{Serves, IsRefusal, OfPlan, IsToServe}
-use Rattle.smk_cli.proofs.Looked.{IsSameFolder, seen_moved}
+use Rattle.smk_preview.proofs.Looked.{IsSameFolder, seen_moved}
 
 pub no_device : (b : Bool) → b ≡ false → ¬ (b ≡ true)
 no_device b e h = never (sym h ∙ e)

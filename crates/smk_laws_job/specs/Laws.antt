@@ -23,7 +23,7 @@ use Rattle.smk_protocol.specs.Protocol.{OpenJob, RunState, Marking, Running, End
 use Rattle.smk_members.specs.Members.{AllIsFound}
 use Rattle.smk_job.specs.declared.fault.CloseFault.{CloseFault}
 use Rattle.smk_job.specs.Sights.{IsDone, IsAbandoned, IsUnclosed, AreLookedAt}
-use Rattle.smk_job.specs.Jobs.{Underway, underway, bare_bytes, is_long, ReadUsers, begin_requests, abandon_requests}
+use Rattle.smk_job.specs.Jobs.{IsPart, Underway, underway, bare_bytes, is_long, ReadUsers, begin_requests, abandon_requests}
 
 -- an open job whose child has this number, as `begin` answers it
 abbrev pub as_underway : OpenJob → ℕ → Underway

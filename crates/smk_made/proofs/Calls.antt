@@ -1,219 +1,45 @@
 -- What holds of all calls of a turn, where it holds of those of each of its parts.
-use Rattle.std.proofs.Common.{◌≡◌, inl, inr, ℕ, List, [], ◌∷◌, ◌++◌, ap, sym, subst, Option, Some, None, Result, Ok, Err}
-use Rattle.smk_world.specs.declared.event.Call.{Call}
+use Rattle.std.proofs.Common.{inl, inr, ℕ, List, sym, subst, Result, Ok, Err}
 use Rattle.smk_world.specs.declared.event.Event.{Event}
 use Rattle.smk_world.specs.declared.event.WorkFault.{WorkFault}
-use Rattle.smk_world.specs.declared.event.WorkFault.TheVariants.{Failed as FailedFault, OutOfMemory as MemoryFault}
-use Rattle.smk_world.specs.declared.recipe.Out.{Out}
 use Rattle.smk_world.specs.World.{World, run, in_paths}
-use Rattle.smk_world.specs.Requests.{Request, request, HasDone, IsCutShort}
-use Rattle.smk_world.specs.Requests.Request.{Look, ReadUpTo, ListFolder, Write, Create, Remove, MakeParents, Settle, Protect, Start, Wait}
-use Rattle.smk_world.specs.Trees.{Path, Each, outs_of}
-use Rattle.smk_record.specs.declared.record.Stamp.{Stamp}
-use Rattle.smk_record.specs.declared.record.Member.{Member}
-use Rattle.smk_job.specs.Jobs.{IsPart}
-use Rattle.smk_job.specs.declared.fault.CloseFault.{CloseFault}
-use Rattle.smk_job.specs.declared.fault.CloseFault.TheVariants as fault
-use Rattle.smk_job.specs.Jobs.{Underway, begin_requests, abandon_requests, finish_requests}
-use Rattle.smk_job.specs.Sights.{Nodes, IsListing, AreLooks, AreSeen, IsSeenWrong, IsBlind, AreLookedAt, HasSeen, HasFinished}
-use Rattle.smk_run.specs.declared.stop.Stop.{Stop}
-use Rattle.smk_run.specs.declared.stop.Stop.TheVariants as stop
+use Rattle.smk_world.specs.Requests.{Request}
+use Rattle.smk_world.specs.Requests.Request.{Wait}
+use Rattle.smk_world.specs.Trees.{Each}
+use Rattle.smk_job.specs.Jobs.{Underway, begin_requests}
 use Rattle.smk_run.specs.declared.ending.Ending.{Ending}
-use Rattle.smk_run.specs.declared.ending.Ending.TheVariants.{Good, Status, NoOutput, WrongKind, BadMember}
-use Rattle.smk_run.specs.Stamps.{Serials, look_at, looks, IsStamped, AreStamped, HasStamped}
+use Rattle.smk_run.specs.Stamps.{Serials}
 use Rattle.smk_run.specs.Closings.{HasWaited, HasSettled, HasClosed}
 use Rattle.smk_run.specs.Turns.{Course, Unbegun, Unstarted, Unclosed, Closed, Turn, found, as_underway, HasBegunAnd, HasGoneOn, HasGone, HasStampedAnd, IsTurnBy, IsTurn}
-use Rattle.smk_made.proofs.Keeping.{EachCall}
+use Rattle.smk_run.proofs.Calls.{EachCall, OfLooks, OfClosing, each_then, done_each, cut_each, stamped_each, has_stamped_each, settled_each}
 
--- ## Lists
+waited_each : (P : Request → Type 0) (j : Underway) (wait : P Wait) (all : OfClosing P j) (r : Result Ending WorkFault) (w : World) (es : List Event) → HasWaited j.number (HasSettled j r) w es → EachCall P es
+waited_each P j wait all r w es h = subst (EachCall P) (sym h.events) (wait, settled_each P j all r h.ended.status _ h.rest h.then_did)
 
-pub each_append : {A : Type 0} (P : A → Type 0) (xs ys : List A) → Each P xs → Each P ys → Each P (xs ++ ys)
-each_append P [] ys h k = k
-each_append P (x ∷ xs) ys h k = (h.0, each_append P xs ys h.1 k)
-
-pub each_first : {A : Type 0} (P : A → Type 0) (xs ys : List A) → Each P (xs ++ ys) → Each P xs
-each_first P [] ys h = tt
-each_first P (x ∷ xs) ys h = (h.0, each_first P xs ys h.1)
-
-pub each_then : (P : Request → Type 0) (es first more : List Event) → es ≡ first ++ more → EachCall P first → EachCall P more → EachCall P es
-each_then P es first more e h k = subst (EachCall P) (sym e) (each_append (λ (x : Event). P (request x.call)) first more h k)
-
--- ## Requests
-
-pub done_each : (P : Request → Type 0) (rs : List Request) (es : List Event) → Each P rs → HasDone rs es → EachCall P es
-done_each P [] [] h k = tt
-done_each P [] (e ∷ es) h k = absurd k
-done_each P (r ∷ rs) [] h k = absurd k
-done_each P (r ∷ rs) (e ∷ es) h k = (subst P (sym k.0) h.0, done_each P rs es h.1 k.2)
-
-pub cut_each : (P : Request → Type 0) (rs : List Request) (es : List Event) → Each P rs → IsCutShort rs es → EachCall P es
-cut_each P [] es h k = absurd k
-cut_each P (r ∷ rs) [] h k = absurd k
-cut_each P (r ∷ rs) (e ∷ []) h k = (subst P (sym k.0) h.0, tt)
-cut_each P (r ∷ rs) (e ∷ (f ∷ es)) h k = (subst P (sym k.0) h.0, cut_each P rs (f ∷ es) h.1 k.2)
-
-pub part_each : (P : Request → Type 0) (rs : List Request) (es : List Event) → Each P rs → IsPart rs es → EachCall P es
-part_each P rs [] h k = tt
-part_each P [] (e ∷ es) h k = absurd k
-part_each P (r ∷ rs) (e ∷ es) h k = elim k.1 [
-  | inl last ↦ subst (EachCall P) (ap (λ l. e ∷ l) (sym last.1)) (subst P (sym k.0) h.0, tt)
-  | inr more ↦ (subst P (sym k.0) h.0, part_each P rs es h.1 more.1)
-]
-
--- ## Looks
-
--- looks and listings are so
-pub record OfLooks (P : Request → Type 0) : Type 0 where
-  pub look : (p : Path) → P (Look p)
-  pub listed : (p : Path) → P (ListFolder p)
-
-listing_is : (P : Request → Type 0) (all : OfLooks P) (out : Out) (r : Request) → IsListing out r → P r
-listing_is P all out (ListFolder q) h = all.listed q
-listing_is P all out (Look q) h = absurd h
-listing_is P all out (ReadUpTo q limit) h = absurd h
-listing_is P all out (Write q bytes) h = absurd h
-listing_is P all out (Create q) h = absurd h
-listing_is P all out (Remove q) h = absurd h
-listing_is P all out (MakeParents q) h = absurd h
-listing_is P all out (Settle qs) h = absurd h
-listing_is P all out (Protect q) h = absurd h
-listing_is P all out (Start recipe logs command) h = absurd h
-listing_is P all out Wait h = absurd h
-
-listings_are : (P : Request → Type 0) (all : OfLooks P) (out : Out) (es : List Event) → Each (λ (d : Event). IsListing out (request d.call)) es → EachCall P es
-listings_are P all out [] h = tt
-listings_are P all out (e ∷ es) h = (listing_is P all out (request e.call) h.0, listings_are P all out es h.1)
-
-pub looks_each : (P : Request → Type 0) (all : OfLooks P) (out : Out) (es : List Event) → AreLooks out es → EachCall P es
-looks_each P all out [] h = absurd h
-looks_each P all out (e ∷ es) h = (subst P (sym h.0) (all.look out.path), listings_are P all out es h.1)
-
-pub seen_each : (P : Request → Type 0) (all : OfLooks P) (nodes : Nodes) (outs : List Out) (members : List (List Member)) (es : List Event) → AreSeen nodes outs members es → EachCall P es
-seen_each P all nodes [] [] es h = subst (EachCall P) (sym h) tt
-seen_each P all nodes [] (m ∷ members) es h = absurd h
-seen_each P all nodes (out ∷ outs) [] es h = absurd h
-seen_each P all nodes (out ∷ outs) (m ∷ members) es (first, more, e, looked, quiet, kind, next) =
-    each_then P es first more e (looks_each P all out first looked) (seen_each P all nodes outs members more next)
-
-pub wrong_each : (P : Request → Type 0) (all : OfLooks P) (nodes : Nodes) (outs : List Out) (f : CloseFault) (es : List Event) → IsSeenWrong nodes outs f es → EachCall P es
-wrong_each P all nodes [] f es h = absurd h
-wrong_each P all nodes (out ∷ outs) f es (first, more, e, looked, quiet, inl last) =
-    each_then P es first more e (looks_each P all out first looked) (subst (EachCall P) (sym last.0) tt)
-wrong_each P all nodes (out ∷ outs) f es (first, more, e, looked, quiet, inr next) =
-    each_then P es first more e (looks_each P all out first looked) (wrong_each P all nodes outs f more next.2)
-
-pub blind_each : (P : Request → Type 0) (all : OfLooks P) (outs : List Out) (es : List Event) → IsBlind outs es → EachCall P es
-blind_each P all [] es h = absurd h
-blind_each P all (out ∷ outs) es (first, more, e, looked, inl last) =
-    each_then P es first more e (looks_each P all out first looked) (subst (EachCall P) (sym last.0) tt)
-blind_each P all (out ∷ outs) es (first, more, e, looked, inr next) =
-    each_then P es first more e (looks_each P all out first looked) (blind_each P all outs more next.1)
-
-pub looked_each : (P : Request → Type 0) (all : OfLooks P) (outs : List Out) (es : List Event) → AreLookedAt outs es → EachCall P es
-looked_each P all [] es h = subst (EachCall P) (sym h) tt
-looked_each P all (out ∷ outs) es (inl none) = subst (EachCall P) (sym none) tt
-looked_each P all (out ∷ outs) es (inr (first, more, e, looked, quiet, next)) =
-    each_then P es first more e (looks_each P all out first looked) (looked_each P all outs more next)
-
--- ## Looks at inputs
-
-look_each : (P : Request → Type 0) (all : OfLooks P) (m : Option ℕ) (p : Path) → Each P (look_at m p)
-look_each P all (Some serial) p = tt
-look_each P all None p = (all.look p, tt)
-
-inputs_each : (P : Request → Type 0) (all : OfLooks P) (made : Serials) (ps : List Path) → Each P (looks made ps)
-inputs_each P all made [] = tt
-inputs_each P all made (p ∷ ps) = each_append P (look_at (made p) p) (looks made ps) (look_each P all (made p) p) (inputs_each P all made ps)
-
-stamp_each : (P : Request → Type 0) (all : OfLooks P) (m : Option ℕ) (p : Path) (s : Stamp) (es : List Event) → IsStamped m p s es → EachCall P es
-stamp_each P all (Some serial) p s es h = subst (EachCall P) (sym h.1) tt
-stamp_each P all None p s es (e, is, timed) = subst (EachCall P) (sym is) (subst (λ (c : Call). P (request c)) (sym timed.2) (all.look p), tt)
-
-pub stamped_each : (P : Request → Type 0) (all : OfLooks P) (made : Serials) (ps : List Path) (stamps : List Stamp) (es : List Event) → AreStamped made ps stamps es → EachCall P es
-stamped_each P all made [] [] es h = subst (EachCall P) (sym h) tt
-stamped_each P all made [] (s ∷ stamps) es h = absurd h
-stamped_each P all made (p ∷ ps) [] es h = absurd h
-stamped_each P all made (p ∷ ps) (s ∷ stamps) es (first, more, e, one, next) =
-    each_then P es first more e (stamp_each P all (made p) p s first one) (stamped_each P all made ps stamps more next)
-
-has_stamped_each : (P : Request → Type 0) (all : OfLooks P) (made : Serials) (ps : List Path) (r : Result (List Stamp) Stop) (es : List Event) → HasStamped made ps r es → EachCall P es
-has_stamped_each P all made ps (Ok stamps) es h = stamped_each P all made ps stamps es h
-has_stamped_each P all made ps (Err (stop.Gone p)) es h = part_each P (looks made ps) es (inputs_each P all made ps) h.0
-has_stamped_each P all made ps (Err (stop.TooLong n)) es h = part_each P (looks made ps) es (inputs_each P all made ps) h
-has_stamped_each P all made ps (Err stop.Device) es h = part_each P (looks made ps) es (inputs_each P all made ps) h
-has_stamped_each P all made ps (Err stop.Output) es h = part_each P (looks made ps) es (inputs_each P all made ps) h
-has_stamped_each P all made ps (Err stop.OutOfMemory) es h = part_each P (looks made ps) es (inputs_each P all made ps) h
-
--- ## The closing
-
--- All calls that close a job are so.
-pub record OfClosing (P : Request → Type 0) (j : Underway) : Type 0 where
-  pub looks : OfLooks P
-  pub wait : P Wait
-  pub finish : (members : List (List Member)) → Each P (finish_requests j members)
-  pub abandon : Each P (abandon_requests j)
-
-seen_then : (P : Request → Type 0) (A B : List Event → Type 0) (es : List Event) → ((fs : List Event) → A fs → EachCall P fs) → ((fs : List Event) → B fs → EachCall P fs) → HasSeen A B es → EachCall P es
-seen_then P A B es first next h = each_then P es h.looks h.rest h.events (first h.looks h.seen) (next h.rest h.done)
-
-abandoned_each : (P : Request → Type 0) (j : Underway) (all : OfClosing P j) (f : CloseFault) (w : World) (es : List Event)
-    → HasSeen (IsSeenWrong w.nodes (outs_of j.recipe) f) (HasDone (abandon_requests j)) es → EachCall P es
-abandoned_each P j all f w es h =
-    seen_then P (IsSeenWrong w.nodes (outs_of j.recipe) f) (HasDone (abandon_requests j)) es
-    (λ fs. wrong_each P all.looks w.nodes (outs_of j.recipe) f fs) (λ fs. done_each P (abandon_requests j) fs all.abandon) h
-
-finished_each : (P : Request → Type 0) (j : Underway) (all : OfClosing P j) (r : Result (Unit {0}) CloseFault) (w : World) (es : List Event) → HasFinished j r w es → EachCall P es
-finished_each P j all (Ok u) w es (members, h) =
-    seen_then P (AreSeen w.nodes (outs_of j.recipe) members) (HasDone (finish_requests j members)) es
-    (λ fs. seen_each P all.looks w.nodes (outs_of j.recipe) members fs) (λ fs. done_each P (finish_requests j members) fs (all.finish members)) h
-finished_each P j all (Err (fault.NoOutput p)) w es h = abandoned_each P j all (fault.NoOutput p) w es h
-finished_each P j all (Err (fault.WrongKind p)) w es h = abandoned_each P j all (fault.WrongKind p) w es h
-finished_each P j all (Err (fault.BadMember p)) w es h = abandoned_each P j all (fault.BadMember p) w es h
-finished_each P j all (Err fault.Device) w es (inl blind) = blind_each P all.looks (outs_of j.recipe) es blind
-finished_each P j all (Err fault.Device) w es (inr (inl (members, h))) =
-    seen_then P (AreSeen w.nodes (outs_of j.recipe) members) (IsCutShort (finish_requests j members)) es
-    (λ fs. seen_each P all.looks w.nodes (outs_of j.recipe) members fs) (λ fs. cut_each P (finish_requests j members) fs (all.finish members)) h
-finished_each P j all (Err fault.Device) w es (inr (inr (f, h))) =
-    seen_then P (IsSeenWrong w.nodes (outs_of j.recipe) f) (IsCutShort (abandon_requests j)) es
-    (λ fs. wrong_each P all.looks w.nodes (outs_of j.recipe) f fs) (λ fs. cut_each P (abandon_requests j) fs all.abandon) h
-finished_each P j all (Err fault.OutOfMemory) w es h = looked_each P all.looks (outs_of j.recipe) es h
-
-settled_each : (P : Request → Type 0) (j : Underway) (all : OfClosing P j) (r : Result Ending WorkFault) (status : ℕ) (w : World) (es : List Event) → HasSettled j r status w es → EachCall P es
-settled_each P j all (Ok Good) status w es h = finished_each P j all (Ok tt) w es h.1
-settled_each P j all (Ok (Status n)) status w es h = done_each P (abandon_requests j) es all.abandon h.2
-settled_each P j all (Ok (NoOutput p)) status w es h = finished_each P j all (Err (fault.NoOutput p)) w es h.1
-settled_each P j all (Ok (WrongKind p)) status w es h = finished_each P j all (Err (fault.WrongKind p)) w es h.1
-settled_each P j all (Ok (BadMember p)) status w es h = finished_each P j all (Err (fault.BadMember p)) w es h.1
-settled_each P j all (Err FailedFault) status w es (inl h) = finished_each P j all (Err fault.Device) w es h.1
-settled_each P j all (Err FailedFault) status w es (inr h) = cut_each P (abandon_requests j) es all.abandon h.1
-settled_each P j all (Err MemoryFault) status w es h = finished_each P j all (Err fault.OutOfMemory) w es h.1
-
-waited_each : (P : Request → Type 0) (j : Underway) (all : OfClosing P j) (r : Result Ending WorkFault) (w : World) (es : List Event) → HasWaited j.number (HasSettled j r) w es → EachCall P es
-waited_each P j all r w es h = subst (EachCall P) (sym h.events) (all.wait, settled_each P j all r h.ended.status _ h.rest h.then_did)
-
-closed_each : (P : Request → Type 0) (j : Underway) (all : OfClosing P j) (r : Result Ending WorkFault) (w : World) (es : List Event) → HasClosed j r w es → EachCall P es
-closed_each P j all (Ok ending) w es h = waited_each P j all (Ok ending) w es h
-closed_each P j all (Err f) w es (inl h) = subst (EachCall P) (sym h.1.1) (all.wait, tt)
-closed_each P j all (Err f) w es (inr h) = waited_each P j all (Err f) w es h
+closed_each : (P : Request → Type 0) (j : Underway) (wait : P Wait) (all : OfClosing P j) (r : Result Ending WorkFault) (w : World) (es : List Event) → HasClosed j r w es → EachCall P es
+closed_each P j wait all (Ok ending) w es h = waited_each P j wait all (Ok ending) w es h
+closed_each P j wait all (Err f) w es (inl h) = subst (EachCall P) (sym h.1.1) (wait, tt)
+closed_each P j wait all (Err f) w es (inr h) = waited_each P j wait all (Err f) w es h
 
 -- ## The turn
 
 -- All calls of a turn are so.
 pub record OfTurn (P : Request → Type 0) (t : Turn) : Type 0 where
   pub looks : OfLooks P
+  pub wait : P Wait
   pub begin : Each P (begin_requests t.job.recipe t.job.logs t.command)
   pub closing : (number : ℕ) → OfClosing P (as_underway t number)
 
-gone_on_each : (P : Request → Type 0) (j : Underway) (all : OfClosing P j) (c : Course) (w : World) (es : List Event) → HasGoneOn j c w es → EachCall P es
-gone_on_each P j all Unbegun w es h = absurd h
-gone_on_each P j all Unstarted w es h = absurd h
-gone_on_each P j all Unclosed w es (f, h) = closed_each P j all (Err f) w es h
-gone_on_each P j all (Closed ending) w es h = closed_each P j all (Ok ending) w es h
+gone_on_each : (P : Request → Type 0) (j : Underway) (wait : P Wait) (all : OfClosing P j) (c : Course) (w : World) (es : List Event) → HasGoneOn j c w es → EachCall P es
+gone_on_each P j wait all Unbegun w es h = absurd h
+gone_on_each P j wait all Unstarted w es h = absurd h
+gone_on_each P j wait all Unclosed w es (f, h) = closed_each P j wait all (Err f) w es h
+gone_on_each P j wait all (Closed ending) w es h = closed_each P j wait all (Ok ending) w es h
 
 begun_each : (P : Request → Type 0) (t : Turn) (all : OfTurn P t) (c : Course) (w : World) (es : List Event) → HasBegunAnd t (λ number v fs. HasGoneOn (as_underway t number) c v fs) w es → EachCall P es
 begun_each P t all c w es h =
     each_then P es h.first h.rest h.events (done_each P (begin_requests t.job.recipe t.job.logs t.command) h.first all.begin h.begun)
-    (gone_on_each P (as_underway t h.number) (all.closing h.number) c (run w h.first) h.rest h.then_did)
+    (gone_on_each P (as_underway t h.number) all.wait (all.closing h.number) c (run w h.first) h.rest h.then_did)
 
 gone_each : (P : Request → Type 0) (t : Turn) (all : OfTurn P t) (c : Course) (w : World) (es : List Event) → HasGone t c w es → EachCall P es
 gone_each P t all Unbegun w es h = subst (EachCall P) (sym h) tt

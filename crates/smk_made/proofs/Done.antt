@@ -30,11 +30,12 @@ use Rattle.smk_run.specs.Closings.{wait_event}
 use Rattle.smk_run.specs.Turns.{Course, Unbegun, Unstarted, Unclosed, Closed, Turn, found, as_underway, HasGone, HasStampedAnd, IsTurnBy, is_done}
 use Rattle.smk_made.specs.Leaving.{owned, MayCome, IsFirm, IsRecorded, HasLeft, DoneTurnLeaves}
 use Rattle.smk_made.proofs.Keeping.{Spares, AreAside, run_kept}
-use Rattle.smk_made.proofs.Calls.{each_first, OfLooks, done_each, seen_each, stamped_each}
+use Rattle.smk_run.proofs.Calls.{each_first, OfLooks, done_each, seen_each, stamped_each}
 use Rattle.smk_made.proofs.Sparing.{IsOffTurn, spared_begin, spared_looks, off_overlap}
 use Rattle.smk_made.proofs.Kept.{IsAllKnown, AllFirm, has_kept, keep_files, apart_differ, differ_first}
 use Rattle.smk_made.proofs.TreeMoves.{StaysUnder, stays_same, stays_firm, contents_moved, outputs_moved, IsMadeFirm, kind_firm}
-use Rattle.smk_made.proofs.Starting.{files_children, started_after, HasEnded, has_ended}
+use Rattle.smk_run.proofs.Telling.{files_children, started_after}
+use Rattle.smk_made.proofs.Starting.{HasEnded, has_ended}
 
 -- ## Its events, one part after another
 

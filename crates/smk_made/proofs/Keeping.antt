@@ -16,6 +16,7 @@ use Rattle.smk_world.specs.World.{World, after, run, node_after, children_after,
 use Rattle.smk_world.specs.Requests.{Request, request}
 use Rattle.smk_world.specs.Requests.Request.{Look, ReadUpTo, ListFolder, Write, Create, Remove, MakeParents, Settle, Protect, Start, Wait}
 use Rattle.smk_world.specs.Trees.{Path, Each}
+use Rattle.smk_run.proofs.Calls.{EachCall}
 
 pub or_false : (a b : Bool) → (a || b) ≡ false → (a ≡ false) × (b ≡ false)
 or_false true b h = absurd (true≢false h)
@@ -167,10 +168,6 @@ node_kept exactly (Waited (Ok ended)) left cs q s h k = keeps_same exactly s _ (
 node_kept exactly (Waited (Err e)) left cs q s h k = keeps_same exactly s s refl
 
 -- ## Many calls
-
--- what was called is so
-abbrev pub EachCall : (Request → Type 0) → List Event → Type 0
-EachCall P es = Each (λ (e : Event). P (request e.call)) es
 
 abbrev pub Spares : Bool → Path → Request → Type 0
 Spares exactly q r = bothers exactly r q ≡ false

@@ -20,7 +20,7 @@ use Rattle.smk_run.specs.Turns.{Turn, IsTurn}
 use Rattle.smk_made.specs.Leaving.{owned, MayCome, AreInputsApart, IsFirm, IsRecorded, HasLeft}
 use Rattle.smk_made.specs.Running.{IsOrderly, LeavesAlone, AreArranged, IsMade, HasMade, DoneTurnsLeave}
 use Rattle.smk_made.proofs.Keeping.{or_false}
-use Rattle.smk_made.proofs.Calls.{each_first}
+use Rattle.smk_run.proofs.Calls.{each_first}
 use Rattle.smk_made.proofs.Sparing.{else_apart, IsOffTurn, turn_kept, turns_kept, off_overlap}
 use Rattle.smk_made.proofs.TreeMoves.{StaysUnder, stays_same, contents_moved, outputs_moved, IsMadeFirm, kind_firm}
 use Rattle.smk_made.proofs.Done.{follows_split, or_then, done_turn_leaves}

@@ -17,8 +17,10 @@ use Rattle.smk_job.specs.Jobs.{Underway, parents_each, clear_requests, begin_req
 use Rattle.smk_run.specs.Stamps.{Serials}
 use Rattle.smk_run.specs.Turns.{Turn, IsTurn, AreTurns, as_underway}
 use Rattle.smk_made.specs.Leaving.{owned, TurnKeepsElse, TurnsKeepElse}
-use Rattle.smk_made.proofs.Keeping.{none_of, or_false, bothers, Keeps, Spares, AreAside, EachCall, run_kept}
-use Rattle.smk_made.proofs.Calls.{each_append, each_then, OfLooks, OfClosing, OfTurn, turn_each}
+use Rattle.smk_made.proofs.Keeping.{none_of, or_false, bothers, Keeps, Spares, AreAside, run_kept}
+use Rattle.smk_run.proofs.Calls.{EachCall}
+use Rattle.smk_run.proofs.Calls.{each_append, each_then, OfLooks, OfClosing}
+use Rattle.smk_made.proofs.Calls.{OfTurn, turn_each}
 
 and_false : (a : Bool) → (a && false) ≡ false
 and_false true = refl
@@ -190,7 +192,6 @@ spared_looks exactly q = record { look = λ p. refl; listed = λ p. refl }
 pub spared_closing : (exactly : Bool) (j : Underway) (q : Path) → IsOff exactly j.recipe j.logs q → OfClosing (Spares exactly q) j
 spared_closing exactly j q h = record {
   looks = spared_looks exactly q;
-  wait = refl;
   finish = λ members. spared_keep exactly j.recipe j.logs (bytes_with j (out_paths j.recipe) members) q h;
   abandon = spared_lose exactly j.recipe j.logs q h;
 }
@@ -201,6 +202,7 @@ IsOffTurn exactly q t = IsOff exactly t.job.recipe t.job.logs q
 pub spared_turn : (exactly : Bool) (t : Turn) (q : Path) → IsOffTurn exactly q t → OfTurn (Spares exactly q) t
 spared_turn exactly t q h = record {
   looks = spared_looks exactly q;
+  wait = refl;
   begin = spared_begin exactly t.job.recipe t.job.logs t.command q h;
   closing = λ number. spared_closing exactly (as_underway t number) q h;
 }

@@ -34,7 +34,8 @@ use Rattle.smk_preview.specs.Rounds.{IsSighted, AreReady}
 use Rattle.smk_preview.proofs.Derivations.{chain_derived}
 use Rattle.smk_preview.proofs.Reached.{WantsSame, targets_told as targets_same, chosen_told, none_first, none_second}
 use Rattle.smk_sight.proofs.Agree.{all_weaker}
-use Rattle.smk_preview.proofs.Links.{inputs_told, targets_told, reads_told, each_recursive}
+use Rattle.smk_preview.proofs.Links.{inputs_told, targets_told, reads_told}
+use Rattle.smk_chain.proofs.Inputs.{each_recursive}
 use Rattle.smk_linked.proofs.Made.{linked_made}
 use Rattle.smk_preview.proofs.Served.{linked_served}
 
@@ -95,7 +96,7 @@ own_kept read p (Some (Regular bytes time read_only)) r h = by (nat_le (length b
     by false k = absurd (wrong k)
 
 -- each record that reads is its path's own
-own_records : (read : List ℕ → Option Record) (w : World) → HasOwnRecords (seen read w)
+pub own_records : (read : List ℕ → Option Record) (w : World) → HasOwnRecords (seen read w)
 own_records read w p r h = by (is_path_text p) h
   where
     wrong : None ≡ Some r → ⊥

@@ -2,7 +2,6 @@
 use Rattle.std.proofs.Common.{◌≡◌, Bool, true, false, cond, not, eqb-true, ℕ, List, [], ◌∷◌, ◌++◌, map, filter, Option, Some, None, refl, sym, subst}
 use Rattle.std.specs.Prelude.{nat_eq}
 use Rattle.std.specs.List.{flat_map, filter_map, cons_option, AllByRecursion}
-use Rattle.smk_world.specs.Trees.{Each}
 use Rattle.smk_chain.specs.Derive.{distinct}
 
 -- what there is has P
@@ -13,14 +12,6 @@ OnSome P (Some x) = P x
 pub all_append : {A : Type 0} (P : A → Type 0) (xs ys : List A) → AllByRecursion P xs → AllByRecursion P ys → AllByRecursion P (xs ++ ys)
 all_append P [] ys a b = b
 all_append P (x ∷ xs) ys a b = (a.0, all_append P xs ys a.1 b)
-
-pub all_front : {A : Type 0} (P : A → Type 0) (xs ys : List A) → AllByRecursion P (xs ++ ys) → AllByRecursion P xs
-all_front P [] ys h = tt
-all_front P (x ∷ xs) ys h = (h.0, all_front P xs ys h.1)
-
-pub all_back : {A : Type 0} (P : A → Type 0) (xs ys : List A) → AllByRecursion P (xs ++ ys) → AllByRecursion P ys
-all_back P [] ys h = h
-all_back P (x ∷ xs) ys h = all_back P xs ys h.1
 
 pub all_map : {A : Type 0} (P Q : A → Type 0) → ((x : A) → P x → Q x) → (xs : List A) → AllByRecursion P xs → AllByRecursion Q xs
 all_map P Q f [] h = tt
@@ -74,14 +65,6 @@ unfiltered P x p (y ∷ ys) h = go (nat_eq x y) refl (λ k. unfiltered P x p ys 
 pub of_distinct : (P : ℕ → Type 0) (xs : List ℕ) → AllByRecursion P (distinct nat_eq xs) → AllByRecursion P xs
 of_distinct P [] h = tt
 of_distinct P (x ∷ xs) h = (h.0, of_distinct P xs (unfiltered P x h.0 (distinct nat_eq xs) h.1))
-
-pub each_of : {A : Type 0} (P : A → Type 0) (xs : List A) → AllByRecursion P xs → Each P xs
-each_of P [] h = tt
-each_of P (x ∷ xs) h = (h.0, each_of P xs h.1)
-
-pub each_append : {A : Type 0} (P : A → Type 0) (xs ys : List A) → Each P xs → Each P ys → Each P (xs ++ ys)
-each_append P [] ys a b = b
-each_append P (x ∷ xs) ys a b = (a.0, each_append P xs ys a.1 b)
 
 pub front_nil : {A : Type 0} (xs ys : List A) → xs ++ ys ≡ [] → xs ≡ []
 front_nil [] ys e = refl

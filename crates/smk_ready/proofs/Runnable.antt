@@ -3,30 +3,26 @@ use Rattle.std.proofs.Common.{◌≡◌, ℕ, suc, ◌<◌, true, List, [], ◌�
 use Rattle.std.specs.List.{find, flat_map, filter_map, AllByRecursion}
 use Rattle.std.specs.Option.{option_and_then}
 use Rattle.smk_base.specs.declared.tree.Pair.{Pair}
-use Rattle.smk_world.specs.declared.recipe.Item.{Item}
 use Rattle.smk_world.specs.declared.recipe.Out.{Out}
 use Rattle.smk_world.specs.declared.recipe.OutItem.{OutItem}
-use Rattle.smk_world.specs.World.{in_paths, owned_paths}
+use Rattle.smk_world.specs.World.{owned_paths}
 use Rattle.smk_world.specs.Calls.{are_apart}
 use Rattle.smk_world.specs.Trees.{Path, Each}
-use Rattle.smk_pattern.specs.Shapes.{Text}
-use Rattle.smk_pattern.specs.Reading.{fill}
-use Rattle.smk_flow.specs.declared.rule.InPart.{InPart}
 use Rattle.smk_flow.specs.declared.rule.OutPart.{OutPart}
-use Rattle.smk_flow.specs.declared.rule.GatherPart.{GatherPart}
 use Rattle.smk_flow.specs.declared.job.Job.{Job}
-use Rattle.smk_flow.specs.Flows.{Flow, Candidate, declared_inputs, gathered_folders}
+use Rattle.smk_flow.specs.Flows.{Flow, Candidate}
 use Rattle.smk_flow.specs.Jobs.{filled_out, filled_outs}
 use Rattle.smk_choose.specs.Choose.{Sources}
 use Rattle.smk_store.specs.Stores.{Known as Stored}
 use Rattle.smk_chain.specs.declared.jobs.Jobs.{Jobs}
 use Rattle.smk_chain.specs.declared.jobs.Maker.{Maker}
-use Rattle.smk_chain.specs.Derive.{Listings, item_paths, gathered_in, gathered_files, wants, recipe, job, jobs, chosen, spots}
+use Rattle.smk_chain.specs.Derive.{Listings, wants, recipe, job, jobs, chosen, spots}
+use Rattle.smk_chain.proofs.Inputs.{inputs_each}
 use Rattle.smk_clash.specs.Clashes.{clashes_in}
 use Rattle.smk_walk.specs.Links.{maker_told, AreLower, number_for, befores_of, AreLinked}
 use Rattle.smk_plan.specs.Duties.{maker_in}
 use Rattle.smk_plan.specs.Runnable.{IsEarlier, IsRunnable, AreRunnableFrom, AreRunnable}
-use Rattle.smk_ready.proofs.Lists.{OnSome, all_front, all_back, all_map, of_found, of_distinct, each_of, each_append, front_nil, back_nil, map_nil}
+use Rattle.smk_ready.proofs.Lists.{OnSome, all_map, of_found, of_distinct, front_nil, back_nil, map_nil}
 use Rattle.smk_ready.proofs.Spaced.{jobs_apart}
 use Rattle.smk_ready.proofs.Ordered.{by_name_rising}
 use Rattle.smk_ready.proofs.Chosen.{IsBound, all_bound}
@@ -38,32 +34,6 @@ no_outs binding (i ∷ items) e =
     let rest = flat_map (λ (item : OutItem). map (λ (out : Out). out.path) item.outs) (map (filled_outs binding) items) in
     let here = map (λ (out : Out). out.path) (map (filled_out binding) i.outs) in
     ap₂ ◌++◌ (map_nil (filled_out binding) i.outs (map_nil (λ (out : Out). out.path) (map (filled_out binding) i.outs) (front_nil here rest e))) (no_outs binding items (back_nil here rest e))
-
-module _ (flow : Flow) (L : Listings) (c : Candidate) (Q : Path → Type 0) where
-  item_each : (texts : List Text) (o : Option GatherPart) → AllByRecursion Q (map (fill c.binding) texts) → AllByRecursion Q (gathered_in flow L c o) → Each Q (item_paths flow L c texts o)
-  item_each texts None h k = each_of Q (map (fill c.binding) texts) h
-  item_each texts (Some g) h k = each_of Q (gathered_in flow L c (Some g)) k
-
-  abbrev item_of : InPart → Item
-  item_of i = record { name = i.name; paths = item_paths flow L c i.texts i.gather }
-
-  items_each : (inputs : List InPart) → AllByRecursion Q (flat_map (λ (i : InPart). map (fill c.binding) i.texts) inputs) → AllByRecursion Q (flat_map (λ (i : InPart). gathered_in flow L c i.gather) inputs) →
-      Each Q (flat_map (λ (item : Item). item.paths) (map item_of inputs))
-  items_each [] h k = tt
-  items_each (i ∷ inputs) h k =
-      let texts = map (fill c.binding) i.texts in
-      let files = gathered_in flow L c i.gather in
-      let more_texts = flat_map (λ (j : InPart). map (fill c.binding) j.texts) inputs in
-      let more_files = flat_map (λ (j : InPart). gathered_in flow L c j.gather) inputs in
-      each_append Q (item_paths flow L c i.texts i.gather) (flat_map (λ (item : Item). item.paths) (map item_of inputs))
-      (item_each i.texts i.gather (all_front Q texts more_texts h) (all_front Q files more_files k))
-      (items_each inputs (all_back Q texts more_texts h) (all_back Q files more_files k))
-
-  -- what holds of all that a job wants holds of its inputs
-  inputs_each : AllByRecursion Q (wants flow L c) → Each Q (in_paths (recipe flow L c))
-  inputs_each h =
-      let later = all_back Q (declared_inputs flow c) (gathered_folders flow c ++ gathered_files flow L c) h in
-      items_each c.part.inputs (all_front Q (declared_inputs flow c) (gathered_folders flow c ++ gathered_files flow L c) h) (all_back Q (gathered_folders flow c) (gathered_files flow L c) later)
 
 earlier_some : (n : ℕ) (o : Option ℕ) → OnSome (λ k. k < n) o → IsEarlier n o
 earlier_some n None h = tt

@@ -33,6 +33,10 @@ pub each_append : {A : Type 0} (P : A → Type 0) (xs ys : List A) → Each P xs
 each_append P [] ys h k = k
 each_append P (x ∷ xs) ys h k = (h.0, each_append P xs ys h.1 k)
 
+pub each_first : {A : Type 0} (P : A → Type 0) (xs ys : List A) → Each P (xs ++ ys) → Each P xs
+each_first P [] ys h = tt
+each_first P (x ∷ xs) ys h = (h.0, each_first P xs ys h.1)
+
 pub each_then : (P : Request → Type 0) (es first more : List Event) → es ≡ first ++ more → EachCall P first → EachCall P more → EachCall P es
 each_then P es first more e h k = subst (EachCall P) (sym e) (each_append (λ (x : Event). P (request x.call)) first more h k)
 

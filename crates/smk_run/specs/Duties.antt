@@ -5,6 +5,7 @@ use Rattle.smk_flow.specs.declared.job.Job.{Job}
 use Rattle.smk_chain.specs.declared.jobs.Maker.{Maker}
 use Rattle.smk_plan.specs.declared.duty.Duty.{Duty}
 use Rattle.smk_plan.specs.declared.duty.Duty.TheVariants.{Rest, Restore, Run}
+use Rattle.smk_plan.specs.Duties.{maker_in}
 use Rattle.smk_run.specs.Stamps.{Serials}
 
 -- ## Serials

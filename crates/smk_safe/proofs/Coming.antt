@@ -38,7 +38,7 @@ use Rattle.smk_run.specs.Stamps.{Serials}
 use Rattle.smk_run.specs.Turns.{Turn, found, AreTurns, is_begun, is_done}
 use Rattle.smk_made.specs.Leaving.{owned, AreInputsApart}
 use Rattle.smk_made.specs.Running.{IsOrderly, LeavesAlone, AreArranged, IsMade, HasMade}
-use Rattle.smk_made.proofs.Calls.{each_first}
+use Rattle.smk_run.proofs.Calls.{each_first}
 use Rattle.smk_made.proofs.Disjoint.{flipped}
 use Rattle.smk_made.proofs.Kept.{apart_differ, differ_first}
 use Rattle.smk_made.proofs.Running.{done_turns_leave}

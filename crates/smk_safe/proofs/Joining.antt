@@ -16,8 +16,8 @@ use Rattle.smk_store.specs.Images.{image_by}
 use Rattle.smk_store.specs.Soundness.{Outside}
 use Rattle.smk_protocol.specs.Protocol.{RunState, Runs, Done, Next, Aside, Look as LookMove, Fail, IsLook, as_ok, now, runs}
 use Rattle.smk_job.specs.Jobs.{IsPart}
-use Rattle.smk_made.proofs.Keeping.{EachCall}
-use Rattle.smk_made.proofs.Calls.{OfLooks}
+use Rattle.smk_run.proofs.Calls.{EachCall}
+use Rattle.smk_run.proofs.Calls.{OfLooks}
 use Rattle.smk_safe.specs.Turning.{has_failure}
 
 -- ## Runs

@@ -33,12 +33,14 @@ use Rattle.smk_run.specs.Stamps.{Serials, AreStamped}
 use Rattle.smk_run.specs.Closings.{wait_event, HasWaited, HasSettled}
 use Rattle.smk_run.specs.Turns.{Course, Unbegun, Unstarted, Unclosed, Closed, Turn, found, as_underway, HasGone, HasBegunAnd, HasStampedAnd, IsTurnBy, is_closed, is_done}
 use Rattle.smk_made.specs.Leaving.{MayCome}
-use Rattle.smk_made.proofs.Keeping.{bothers, EachCall}
-use Rattle.smk_made.proofs.Calls.{each_first, OfLooks, stamped_each, wrong_each}
+use Rattle.smk_made.proofs.Keeping.{bothers}
+use Rattle.smk_run.proofs.Calls.{EachCall}
+use Rattle.smk_run.proofs.Calls.{each_first, OfLooks, stamped_each, wrong_each}
 use Rattle.smk_made.proofs.Done.{follows_split, idle_known}
 use Rattle.smk_made.proofs.Kept.{IsAllKnown, all_known, within_outside}
 use Rattle.smk_made.proofs.Sparing.{Spared, else_apart, marks_else, spared_unmark}
-use Rattle.smk_made.proofs.Starting.{files_children, started_after, has_ended}
+use Rattle.smk_run.proofs.Telling.{files_children, started_after}
+use Rattle.smk_made.proofs.Starting.{has_ended}
 use Rattle.smk_safe.specs.Lost.{IsLost, FailedTurnLeaves}
 use Rattle.smk_safe.proofs.Off.{record_marks}
 

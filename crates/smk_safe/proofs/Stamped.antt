@@ -14,7 +14,7 @@ use Rattle.smk_record.specs.declared.record.Stamp.TheVariants.{Time, Made}
 use Rattle.smk_store.specs.Soundness.{Outside}
 use Rattle.smk_run.specs.Stamps.{Serials, IsStamped, AreStamped}
 use Rattle.smk_run.specs.Turns.{Course, Unbegun, Unstarted, Unclosed, Closed, Turn, found, HasGone, HasStampedAnd, IsTurnBy, is_begun}
-use Rattle.smk_made.proofs.Calls.{stamped_each}
+use Rattle.smk_run.proofs.Calls.{stamped_each}
 use Rattle.smk_made.proofs.Done.{follows_split}
 use Rattle.smk_safe.proofs.Joining.{IsLooking, lookings, looks_by, looks_same}
 

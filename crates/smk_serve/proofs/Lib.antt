@@ -4,3 +4,4 @@ pub mod Ended
 pub mod Went
 pub mod Making
 pub mod ListingKinds
+pub mod Plain

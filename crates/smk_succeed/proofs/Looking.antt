@@ -18,8 +18,9 @@ use Rattle.smk_job.specs.Sights.{reads_file}
 use Rattle.smk_run.specs.declared.stop.Stop.{Stop}
 use Rattle.smk_run.specs.Stamps.{EndsGone, HasStamped, Serials, is_file, look_at, looks}
 use Rattle.smk_run.specs.Turns.{Course, IsTurnBy}
-use Rattle.smk_made.proofs.Keeping.{EachCall, Spares, AreAside, run_kept}
-use Rattle.smk_made.proofs.Calls.{part_each}
+use Rattle.smk_run.proofs.Calls.{EachCall}
+use Rattle.smk_made.proofs.Keeping.{Spares, AreAside, run_kept}
+use Rattle.smk_run.proofs.Calls.{part_each}
 use Rattle.smk_made.proofs.Done.{follows_split}
 use Rattle.smk_laws_plan.proofs.CurrentLists.{flat_in}
 use Rattle.smk_succeed.specs.Feeding.{InputsAreFound}

@@ -38,10 +38,11 @@ use Rattle.smk_run.specs.Statuses.{AreGiven, IsGiven}
 use Rattle.smk_run.specs.Turns.{Course, Unbegun, Unstarted, Unclosed, Closed, Turn, as_underway, found, HasGone, HasStampedAnd, IsTurnBy, is_closed, is_done, is_good as ended_well}
 use Rattle.smk_made.specs.Leaving.{owned, AreInputsApart, MayCome}
 use Rattle.smk_made.proofs.Keeping.{Spares, AreAside, run_kept}
-use Rattle.smk_made.proofs.Calls.{OfLooks, done_each, stamped_each}
+use Rattle.smk_run.proofs.Calls.{OfLooks, done_each, stamped_each}
 use Rattle.smk_made.proofs.Sparing.{IsOffTurn, spared_begin, spared_looks, off_overlap}
 use Rattle.smk_made.proofs.TreeMoves.{StaysUnder, stays_same, contents_moved}
-use Rattle.smk_made.proofs.Starting.{files_children, started_after, HasEnded, has_ended}
+use Rattle.smk_run.proofs.Telling.{files_children, started_after}
+use Rattle.smk_made.proofs.Starting.{HasEnded, has_ended}
 use Rattle.smk_made.proofs.Done.{follows_split}
 use Rattle.smk_succeed.specs.Succeeding.{CanSucceed, GoodJobsCanSucceed, TurnsSucceed}
 

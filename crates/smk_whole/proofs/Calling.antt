@@ -21,7 +21,8 @@ use Rattle.smk_succeed.specs.Completing.{NoMemory as OfMemory}
 use Rattle.smk_complete.specs.Derived.{GathersAlone}
 use Rattle.smk_whole.specs.Complete.{EndsComplete}
 use Rattle.smk_whole.specs.Calls.{AllIsWell, BrokenOff, CallIsComplete, IsCleanCall, ListingIsComplete, MayTell, PlanRefused}
-use Rattle.smk_whole.proofs.Plain.{built_flows_gather_alone, built_plans_are_plain, neither}
+use Rattle.smk_whole.proofs.Plain.{built_flows_gather_alone, built_plans_are_plain}
+use Rattle.smk_serve.proofs.Plain.{neither}
 use Rattle.smk_whole.proofs.Working.{listed_ends, refused_plans_may_stop, want_stops, work_is_complete}
 
 -- ## What is asked of a run

@@ -38,8 +38,8 @@ use Rattle.smk_plan.specs.declared.duty.Duty.{Duty}
 use Rattle.smk_plan.specs.Duties.{AreFor}
 use Rattle.smk_run.specs.Duties.{serials}
 use Rattle.smk_run.specs.Statuses.{AreGiven, IsGiven}
-use Rattle.smk_made.proofs.Keeping.{EachCall}
-use Rattle.smk_made.proofs.Starting.{files_children}
+use Rattle.smk_run.proofs.Calls.{EachCall}
+use Rattle.smk_run.proofs.Telling.{files_children}
 use Rattle.smk_complete.proofs.Stops.{clean_targets_are_planned}
 use Rattle.smk_preview.specs.declared.previewing.Previewed.{Previewed}
 use Rattle.smk_preview.specs.Previewing.{plan_of, rules_for}

@@ -6,7 +6,8 @@ use Rattle.smk_serve.specs.Serving.{IsRefusedPlan, IsServed}
 use Rattle.smk_serve.proofs.Ended.{early, later_on, cause_as}
 use Rattle.smk_serve.proofs.Went.{seen_looks, seen_there, kept, kept_then, refused_or_stopped_listing, told_well, listed_wider}
 use Rattle.smk_cli.specs.Whole.{IsRefusal, IsToServe, OfWorkflow}
-use Rattle.smk_cli.proofs.Looked.{some_of, moved, hand_moved}
+use Rattle.smk_preview.proofs.Looked.{some_of, moved}
+use Rattle.smk_cli.proofs.Looked.{hand_moved}
 use Rattle.smk_cli.proofs.Serving.{plan_refused, plan_served}
 use Rattle.smk_cli.proofs.top.serve_listing.Goals as goal
 

@@ -7,7 +7,8 @@ use Rattle.smk_serve.proofs.Ended.{early, later_on, cause_as}
 use Rattle.smk_make.proofs.Further.{further_rose}
 use Rattle.smk_serve.proofs.Went.{seen_looks, seen_there, kept, only_looked, refused_or_stopped, told_well, went_later}
 use Rattle.smk_cli.specs.Whole.{IsRefusal, IsToServe, OfWorkflow}
-use Rattle.smk_cli.proofs.Looked.{some_of, moved, hand_moved}
+use Rattle.smk_preview.proofs.Looked.{some_of, moved}
+use Rattle.smk_cli.proofs.Looked.{hand_moved}
 use Rattle.smk_cli.proofs.Serving.{plan_refused, plan_served}
 use Rattle.smk_cli.proofs.top.serve_run.Goals as goal
 
