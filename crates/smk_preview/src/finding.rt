@@ -8,6 +8,7 @@ ghost use Rattle.smk_store.specs.Images.{seen, Image};
 ghost use Rattle.smk_store.specs.Loading.{IsStoreOf};
 ghost use Rattle.smk_store.specs.Walking.{HasLooked};
 ghost use Rattle.smk_members.specs.Disk.{IsTree};
+ghost use Rattle.smk_choose.specs.Index.{AreReadings};
 ghost use Rattle.smk_clash.specs.Clashes.{ListsKnown};
 ghost use Rattle.smk_plan.specs.Sights.{IsSeenOf};
 ghost use Rattle.smk_facts.specs.Facts.{NamesAll};
@@ -20,7 +21,7 @@ use crate::faults::{of_chain, of_look, of_sight, of_store};
 use crate::listing::listings_again;
 use smk_base::{List, PathText};
 use smk_chain::{ChainFault, Jobs, Listings, SightFault};
-use smk_choose::Sources;
+use smk_choose::{Readings, Sources};
 use smk_flow::Workflow;
 use smk_look::look;
 use smk_plan::{LookFault, Seen};
@@ -69,17 +70,19 @@ fn of_sources(sighted: Result<Sources, SightFault>) -> Result<Sources, Fault>
 pub(crate) fn sighted<W: Files>(
     alloc: Global,
     flow: &Workflow,
+    readings: &Readings,
     targets: &List<PathText>,
     lists: &Listings,
     store: &Store,
     work: &mut W,
 ) -> Result<Sources, Fault>
+    requires { AreReadings flow.now readings.now }
     ensures looked { HasLooked W.act (W.world work.old) (W.world work.new) (W.faults work.old) (W.faults work.new) (W.running work.old) (W.running work.new) (device_failed result ≡ true) }
     ensures no_sink { IfErr result (λ f. is_sink f ≡ false) }
     ensures told { (w : World) → W.world work.old ≡ Some w → IsTree w → (read : Items ℕ → Option RecordValue) → IsStoreOf (seen read w) store.now
         → spec.Sights flow.now targets.now lists.now (seen read w) result }
 {
-    let found = sight(alloc, flow, store, lists, targets, work);
+    let found = sight(alloc, flow, readings, store, lists, targets, work);
     of_sources(found)
 }
 
@@ -98,11 +101,13 @@ fn of_derived(derived: Result<Jobs, ChainFault>) -> Result<Jobs, Fault>
 fn derived_with(
     alloc: Global,
     flow: &Workflow,
+    readings: &Readings,
     targets: &List<PathText>,
     lists: Listings,
     store: &Store,
     sources: &Sources,
 ) -> Result<Jobs, Fault>
+    requires { AreReadings flow.now readings.now }
     ensures no_device { device_failed result ≡ false }
     ensures no_sink { IfErr result (λ f. is_sink f ≡ false) }
     ensures lists { IfOk result (λ jobs. jobs.lists ≡ lists) }
@@ -110,7 +115,7 @@ fn derived_with(
     ensures told { (image : Image) → NamesAll image → IsStoreOf image store.now → ListsKnown image → spec.IsSighted flow.now targets.now lists image sources.now
         → spec.Derives flow.now targets.now lists image result }
 {
-    let made = ready_jobs(alloc, flow, sources, lists, store, targets);
+    let made = ready_jobs(alloc, flow, readings, sources, lists, store, targets);
     of_derived(made)
 }
 
@@ -118,11 +123,13 @@ fn derived_with(
 pub(crate) fn derived(
     alloc: Global,
     flow: &Workflow,
+    readings: &Readings,
     targets: &List<PathText>,
     lists: &Listings,
     store: &Store,
     sources: &Sources,
 ) -> Result<Jobs, Fault>
+    requires { AreReadings flow.now readings.now }
     ensures no_device { device_failed result ≡ false }
     ensures no_sink { IfErr result (λ f. is_sink f ≡ false) }
     ensures lists { IfOk result (λ jobs. jobs.lists ≡ lists.now) }
@@ -131,7 +138,7 @@ pub(crate) fn derived(
         → spec.Derives flow.now targets.now lists.now image result }
 {
     match listings_again(alloc, lists) {
-        Ok(copy) => derived_with(alloc, flow, targets, copy, store, sources),
+        Ok(copy) => derived_with(alloc, flow, readings, targets, copy, store, sources),
         Err(fault) => Err(fault),
     }
 }

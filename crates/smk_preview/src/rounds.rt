@@ -8,6 +8,7 @@ ghost use Rattle.smk_store.specs.Images.{seen, Image};
 ghost use Rattle.smk_store.specs.Loading.{IsStoreOf};
 ghost use Rattle.smk_store.specs.Walking.{HasLooked};
 ghost use Rattle.smk_members.specs.Disk.{IsTree};
+ghost use Rattle.smk_choose.specs.Index.{AreReadings};
 ghost use Rattle.smk_clash.specs.Clashes.{ListsKnown};
 ghost use Rattle.smk_commands.specs.Commands.{command_fault};
 ghost use Rattle.smk_report.specs.declared.fault.Fault.TheVariants as fault;
@@ -21,7 +22,7 @@ use crate::faults::of_plan;
 use crate::finding::{derived, looked, sighted};
 use smk_base::List;
 use smk_chain::{Jobs, Listings};
-use smk_choose::Sources;
+use smk_choose::{Readings, Sources};
 use smk_commands::check_commands;
 use smk_flow::Workflow;
 use smk_pick::Settings;
@@ -32,6 +33,13 @@ use smk_store::Store;
 use smk_world::Files;
 use std::alloc::Global;
 use std::thread::Threads;
+
+/// What a round goes by: what was read of the rules, once for all rounds, and the listings that are known.
+#[derive(Clone, Copy)]
+pub(crate) struct Given<'g> {
+    pub(crate) readings: &'g Readings,
+    pub(crate) lists: &'g Listings,
+}
 
 /// Derived jobs with their plan.
 #[derive(Debug, Drop)]
@@ -134,20 +142,29 @@ fn plan_sources<W: Files, Rt: Threads + Sync>(
     flow: &Workflow,
     settings: &Settings,
     store: &Store,
-    lists: &Listings,
+    given: Given<'_>,
     sources: &Sources,
     work: &mut W,
 ) -> Result<Round, Fault>
+    requires { AreReadings flow.now given.readings.now }
     ensures looked { HasLooked W.act (W.world work.old) (W.world work.new) (W.faults work.old) (W.faults work.new) (W.running work.old) (W.running work.new) (device_failed result ≡ true) }
     ensures no_sink { IfErr result (λ f. is_sink f ≡ false) }
-    ensures lists { IfOk result (λ r. r.jobs.lists ≡ lists.now) }
+    ensures lists { IfOk result (λ r. r.jobs.lists ≡ given.lists.now) }
     ensures fit { IfOk result (λ r. AreFit r.jobs) }
     ensures sound { IfOk result (AreSound flow.now settings.now) }
     ensures told { (w : World) → W.world work.old ≡ Some w → IsTree w → (read : Items ℕ → Option RecordValue) → IsStoreOf (seen read w) store.now
-        → ListsKnown (seen read w) → spec.IsSighted flow.now settings.now.targets lists.now (seen read w) sources.now
-        → spec.HasRound read flow.now settings.now (seen read w) lists.now result }
+        → ListsKnown (seen read w) → spec.IsSighted flow.now settings.now.targets given.lists.now (seen read w) sources.now
+        → spec.HasRound read flow.now settings.now (seen read w) given.lists.now result }
 {
-    match derived(alloc, flow, &settings.targets, lists, store, sources) {
+    match derived(
+        alloc,
+        flow,
+        given.readings,
+        &settings.targets,
+        given.lists,
+        store,
+        sources,
+    ) {
         Ok(jobs) => plan_jobs(rt, alloc, flow, settings, store, jobs, work),
         Err(fault) => Err(fault),
     }
@@ -160,19 +177,28 @@ pub(crate) fn make_round<W: Files, Rt: Threads + Sync>(
     flow: &Workflow,
     settings: &Settings,
     store: &Store,
-    lists: &Listings,
+    given: Given<'_>,
     work: &mut W,
 ) -> Result<Round, Fault>
+    requires { AreReadings flow.now given.readings.now }
     ensures looked { HasLooked W.act (W.world work.old) (W.world work.new) (W.faults work.old) (W.faults work.new) (W.running work.old) (W.running work.new) (device_failed result ≡ true) }
     ensures no_sink { IfErr result (λ f. is_sink f ≡ false) }
-    ensures lists { IfOk result (λ r. r.jobs.lists ≡ lists.now) }
+    ensures lists { IfOk result (λ r. r.jobs.lists ≡ given.lists.now) }
     ensures fit { IfOk result (λ r. AreFit r.jobs) }
     ensures sound { IfOk result (AreSound flow.now settings.now) }
     ensures told { (w : World) → W.world work.old ≡ Some w → IsTree w → (read : Items ℕ → Option RecordValue) → IsStoreOf (seen read w) store.now
-        → spec.HasRound read flow.now settings.now (seen read w) lists.now result }
+        → spec.HasRound read flow.now settings.now (seen read w) given.lists.now result }
 {
-    match sighted(alloc, flow, &settings.targets, lists, store, work) {
-        Ok(sources) => plan_sources(rt, alloc, flow, settings, store, lists, &sources, work),
+    match sighted(
+        alloc,
+        flow,
+        given.readings,
+        &settings.targets,
+        given.lists,
+        store,
+        work,
+    ) {
+        Ok(sources) => plan_sources(rt, alloc, flow, settings, store, given, &sources, work),
         Err(fault) => Err(fault),
     }
 }

@@ -1,6 +1,7 @@
 //! Jobs that can be run.
 
 ghost use Rattle.std.specs.Prelude.{◌≡◌, [], IfOk, IfErr};
+ghost use Rattle.smk_choose.specs.Index.{AreReadings};
 ghost use Rattle.smk_choose.specs.Told.{told_by};
 ghost use Rattle.smk_store.specs.Images.{Image};
 ghost use Rattle.smk_store.specs.Loading.{IsStoreOf};
@@ -12,7 +13,7 @@ ghost use Rattle.smk_plan.specs.Runnable.{AreRunnable};
 
 use smk_base::{List, PathText};
 use smk_chain::{ChainFault, Jobs, Listings};
-use smk_choose::Sources;
+use smk_choose::{Readings, Sources};
 use smk_derive::derive;
 use smk_flow::Workflow;
 use smk_store::Store;
@@ -24,11 +25,13 @@ use std::alloc::Global;
 pub fn ready_jobs(
     alloc: Global,
     flow: &Workflow,
+    readings: &Readings,
     sources: &Sources,
     lists: Listings,
     store: &Store,
     targets: &List<PathText>,
 ) -> Result<Jobs, ChainFault>
+    requires { AreReadings flow.now readings.now }
     ensures none { IfOk result (λ made. (image : Image) → IsStoreOf image store.now → ListsKnown image
         → job_refusals flow.now (told_by sources.now) image lists targets.now ≡ []) }
     ensures jobs { IfOk result (λ made. made.jobs ≡ jobs flow.now (told_by sources.now) lists targets.now) }
@@ -38,5 +41,5 @@ pub fn ready_jobs(
     ensures fault { IfErr result (λ fault. (image : Image) → IsStoreOf image store.now → ListsKnown image
         → TellsFirst flow.now (job_refusals flow.now (told_by sources.now) image lists targets.now) fault) }
 {
-    derive(alloc, flow, sources, lists, store, targets)
+    derive(alloc, flow, readings, sources, lists, store, targets)
 }

@@ -6,7 +6,7 @@ use Rattle.smk_members.proofs.Trees.{tree_still}
 use Rattle.smk_preview.specs.Rounds as spec
 use Rattle.smk_preview.proofs.Looked.{looked_err, moved, seen_moved, not_failed, never_device, sink_as, is_not, memory_quiet}
 use Rattle.smk_preview.proofs.Chains.{leads_begun, leads_next, last_round, chain_refused, round_ok}
-use Rattle.smk_preview.proofs.chaining.chain.Goals as goal
+use Rattle.smk_preview.proofs.chaining.chain_by.Goals as goal
 
 pub loop-init : goal.loop-init
 loop-init g c = record { looked = looked_nothing g.W.Files.act _ _ _; told = λ w at tree read st. leads_begun read c.args.flow.now c.args.settings.now (seen read w) _ c.new-lists.ensures }

@@ -6,7 +6,7 @@ use Rattle.smk_store.specs.Loading.{IsStoreOf}
 use Rattle.smk_store.specs.Walking.{HasLooked}
 use Rattle.smk_members.specs.Disk.{IsTree}
 use Rattle.smk_preview.specs.Rounds.{Leads}
-use Rattle.smk_preview.proofs.chaining.chain.Given as goal
+use Rattle.smk_preview.proofs.chaining.chain_by.Given as goal
 
 abbrev pub invariant-loop : goal.invariant-loop
 invariant-loop g l = record {
