@@ -14,7 +14,7 @@ ghost use Rattle.smk_preview.specs.Fitness.{AreFit};
 ghost use Rattle.smk_preview.specs.Steps.{AreSound};
 
 use crate::listing::add_listings;
-use crate::rounds::{Given, Round, make_round};
+use crate::rounds::{Round, make_round};
 use smk_base::List;
 use smk_choose::Readings;
 use smk_flow::Workflow;
@@ -45,11 +45,7 @@ fn chain_by<W: Files, Rt: Threads + Sync>(
 {
     let mut lists = List::new(alloc);
     for _ in 0..u64::MAX {
-        let given = Given {
-            readings,
-            lists: &lists,
-        };
-        let found = make_round(rt, alloc, flow, settings, store, given, work)?;
+        let found = make_round(rt, alloc, flow, settings, store, readings, &lists, work)?;
         if found.plan.known.is_empty() {
             return Ok(found);
         }

@@ -34,13 +34,6 @@ use smk_world::Files;
 use std::alloc::Global;
 use std::thread::Threads;
 
-/// What a round goes by: what was read of the rules, once for all rounds, and the listings that are known.
-#[derive(Clone, Copy)]
-pub(crate) struct Given<'g> {
-    pub(crate) readings: &'g Readings,
-    pub(crate) lists: &'g Listings,
-}
-
 /// Derived jobs with their plan.
 #[derive(Debug, Drop)]
 pub(crate) struct Round {
@@ -142,26 +135,27 @@ fn plan_sources<W: Files, Rt: Threads + Sync>(
     flow: &Workflow,
     settings: &Settings,
     store: &Store,
-    given: Given<'_>,
+    readings: &Readings,
+    lists: &Listings,
     sources: &Sources,
     work: &mut W,
 ) -> Result<Round, Fault>
-    requires { AreReadings flow.now given.readings.now }
+    requires { AreReadings flow.now readings.now }
     ensures looked { HasLooked W.act (W.world work.old) (W.world work.new) (W.faults work.old) (W.faults work.new) (W.running work.old) (W.running work.new) (device_failed result ≡ true) }
     ensures no_sink { IfErr result (λ f. is_sink f ≡ false) }
-    ensures lists { IfOk result (λ r. r.jobs.lists ≡ given.lists.now) }
+    ensures lists { IfOk result (λ r. r.jobs.lists ≡ lists.now) }
     ensures fit { IfOk result (λ r. AreFit r.jobs) }
     ensures sound { IfOk result (AreSound flow.now settings.now) }
     ensures told { (w : World) → W.world work.old ≡ Some w → IsTree w → (read : Items ℕ → Option RecordValue) → IsStoreOf (seen read w) store.now
-        → ListsKnown (seen read w) → spec.IsSighted flow.now settings.now.targets given.lists.now (seen read w) sources.now
-        → spec.HasRound read flow.now settings.now (seen read w) given.lists.now result }
+        → ListsKnown (seen read w) → spec.IsSighted flow.now settings.now.targets lists.now (seen read w) sources.now
+        → spec.HasRound read flow.now settings.now (seen read w) lists.now result }
 {
     match derived(
         alloc,
         flow,
-        given.readings,
+        readings,
         &settings.targets,
-        given.lists,
+        lists,
         store,
         sources,
     ) {
@@ -177,28 +171,23 @@ pub(crate) fn make_round<W: Files, Rt: Threads + Sync>(
     flow: &Workflow,
     settings: &Settings,
     store: &Store,
-    given: Given<'_>,
+    readings: &Readings,
+    lists: &Listings,
     work: &mut W,
 ) -> Result<Round, Fault>
-    requires { AreReadings flow.now given.readings.now }
+    requires { AreReadings flow.now readings.now }
     ensures looked { HasLooked W.act (W.world work.old) (W.world work.new) (W.faults work.old) (W.faults work.new) (W.running work.old) (W.running work.new) (device_failed result ≡ true) }
     ensures no_sink { IfErr result (λ f. is_sink f ≡ false) }
-    ensures lists { IfOk result (λ r. r.jobs.lists ≡ given.lists.now) }
+    ensures lists { IfOk result (λ r. r.jobs.lists ≡ lists.now) }
     ensures fit { IfOk result (λ r. AreFit r.jobs) }
     ensures sound { IfOk result (AreSound flow.now settings.now) }
     ensures told { (w : World) → W.world work.old ≡ Some w → IsTree w → (read : Items ℕ → Option RecordValue) → IsStoreOf (seen read w) store.now
-        → spec.HasRound read flow.now settings.now (seen read w) given.lists.now result }
+        → spec.HasRound read flow.now settings.now (seen read w) lists.now result }
 {
-    match sighted(
-        alloc,
-        flow,
-        given.readings,
-        &settings.targets,
-        given.lists,
-        store,
-        work,
-    ) {
-        Ok(sources) => plan_sources(rt, alloc, flow, settings, store, given, &sources, work),
+    match sighted(alloc, flow, readings, &settings.targets, lists, store, work) {
+        Ok(sources) => plan_sources(
+            rt, alloc, flow, settings, store, readings, lists, &sources, work,
+        ),
         Err(fault) => Err(fault),
     }
 }
