@@ -3,10 +3,11 @@
 use crate::row::{Trouble, push_row, push_title};
 use smk_base::{List, PathText, Text, one};
 use smk_flow::Job;
-use smk_format::{FormatFault, command};
+use smk_format::command;
 use smk_world::{Item, Recipe};
 use std::alloc::{AllocError, Global};
 
+/// The inputs `reads`.
 fn item(alloc: Global) -> Result<Item, Trouble> {
     let input = PathText::read(alloc, "in.txt")?;
     Ok(Item {
@@ -15,6 +16,7 @@ fn item(alloc: Global) -> Result<Item, Trouble> {
     })
 }
 
+/// A recipe of this template.
 fn recipe(alloc: Global, template: &str) -> Result<Recipe, Trouble> {
     let inputs = one(alloc, item(alloc)?)?;
     Ok(Recipe {
@@ -26,7 +28,7 @@ fn recipe(alloc: Global, template: &str) -> Result<Recipe, Trouble> {
     })
 }
 
-// A job of this template, with 8 threads.
+/// A job of this template, with 8 threads.
 fn job(alloc: Global, template: &str) -> Result<Job, Trouble> {
     Ok(Job {
         rule: 0,
@@ -42,7 +44,7 @@ fn job(alloc: Global, template: &str) -> Result<Job, Trouble> {
     })
 }
 
-// The command of a job of this template, with 5 threads.
+/// The command of a job of this template, with 5 threads.
 fn made(alloc: Global, template: &str) -> Result<String, Trouble> {
     let job = job(alloc, template)?;
     match command(alloc, &job, 5) {

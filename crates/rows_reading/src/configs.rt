@@ -5,7 +5,7 @@ use smk_base::{List, OutOfMemory, Text};
 use smk_config::{Config, ConfigFault, Value};
 use std::alloc::{AllocError, Global};
 
-// The keys with points between them.
+/// The keys with points between them.
 fn keys(alloc: Global, words: &str) -> Result<List<Text>, OutOfMemory> {
     let mut keys = List::new(alloc);
     for word in words.split('.') {
@@ -14,7 +14,7 @@ fn keys(alloc: Global, words: &str) -> Result<List<Text>, OutOfMemory> {
     Ok(keys)
 }
 
-// The texts, each with a comma after it.
+/// The texts, each with a comma after it.
 fn listed(alloc: Global, words: &[Text]) -> Result<String, OutOfMemory> {
     let mut text = String::new(alloc);
     for word in words {
@@ -24,7 +24,7 @@ fn listed(alloc: Global, words: &[Text]) -> Result<String, OutOfMemory> {
     Ok(text)
 }
 
-// The word of the fault.
+/// The word of the fault.
 fn fault_word(fault: ConfigFault) -> &'static str {
     match fault {
         ConfigFault::BadConfig => "bad",
@@ -33,7 +33,7 @@ fn fault_word(fault: ConfigFault) -> &'static str {
     }
 }
 
-// The value under these keys, or the fault.
+/// The value under these keys, or the fault.
 fn shown(alloc: Global, config: &Config, words: &str) -> Result<String, Trouble> {
     let keys = keys(alloc, words)?;
     match config.get(alloc, &keys) {
@@ -43,7 +43,7 @@ fn shown(alloc: Global, config: &Config, words: &str) -> Result<String, Trouble>
     }
 }
 
-// A configuration over another, and a text that is set.
+/// A configuration over another, and a text that is set.
 fn configured(alloc: Global) -> Result<Config, ConfigFault> {
     let first = Config::read(
         alloc,
@@ -58,7 +58,7 @@ fn configured(alloc: Global) -> Result<Config, ConfigFault> {
     Ok(whole)
 }
 
-// What stands under keys.
+/// What stands under keys.
 fn push_values(alloc: Global, text: &mut String, config: &Config) -> Result<(), AllocError> {
     let table = [
         ("n", "y"),
@@ -77,7 +77,7 @@ fn push_values(alloc: Global, text: &mut String, config: &Config) -> Result<(), 
     Ok(())
 }
 
-// What is said of a file.
+/// What is said of a file.
 fn said(alloc: Global, file: &[u8]) -> Result<String, Trouble> {
     let word = match Config::read(alloc, file) {
         Ok(_) => "read",
@@ -86,7 +86,7 @@ fn said(alloc: Global, file: &[u8]) -> Result<String, Trouble> {
     Ok(String::from_str(alloc, word)?)
 }
 
-// Files that are no objects.
+/// Files that are no objects.
 fn push_files(alloc: Global, text: &mut String) -> Result<(), AllocError> {
     let table: [(&str, &[u8]); 5] = [
         ("an empty file", b""),

@@ -5,7 +5,7 @@ use smk_base::{List, OutOfMemory, Text, one};
 use smk_expand::{Choices, ExpandFault, expand};
 use std::alloc::{AllocError, Global};
 
-// The texts with blanks between them.
+/// The texts with blanks between them.
 fn texts(alloc: Global, words: &str) -> Result<List<Text>, OutOfMemory> {
     let mut texts = List::new(alloc);
     for word in words.split(' ') {
@@ -14,7 +14,7 @@ fn texts(alloc: Global, words: &str) -> Result<List<Text>, OutOfMemory> {
     Ok(texts)
 }
 
-// The names a, b and c with their values.
+/// The names a, b and c with their values.
 fn choices(alloc: Global) -> Result<List<Choices>, OutOfMemory> {
     let mut choices = List::new(alloc);
     for (name, values) in [("a", "1 2"), ("b", "x y"), ("c", "p {a} r")] {
@@ -26,7 +26,7 @@ fn choices(alloc: Global) -> Result<List<Choices>, OutOfMemory> {
     Ok(choices)
 }
 
-// The texts, each with a blank after it.
+/// The texts, each with a blank after it.
 fn listed(alloc: Global, results: &[Text]) -> Result<String, OutOfMemory> {
     let mut text = String::new(alloc);
     for result in results {
@@ -36,7 +36,7 @@ fn listed(alloc: Global, results: &[Text]) -> Result<String, OutOfMemory> {
     Ok(text)
 }
 
-// The fault in words.
+/// The fault in words.
 fn fault_words(alloc: Global, fault: ExpandFault) -> Result<String, Trouble> {
     match fault {
         ExpandFault::UnknownName(name) => Ok(format!(in alloc; "unknown {}", name.as_str())?),
@@ -46,7 +46,7 @@ fn fault_words(alloc: Global, fault: ExpandFault) -> Result<String, Trouble> {
     }
 }
 
-// The results of a pattern, or the fault.
+/// The results of a pattern, or the fault.
 fn shown(alloc: Global, pattern: &str, zip: bool, missing: bool) -> Result<String, Trouble> {
     let patterns = one(alloc, Text::of(alloc, pattern)?)?;
     let choices = choices(alloc)?;
@@ -56,7 +56,7 @@ fn shown(alloc: Global, pattern: &str, zip: bool, missing: bool) -> Result<Strin
     }
 }
 
-// The pattern, and how it is expanded.
+/// The pattern, and how it is expanded.
 fn name_of(alloc: Global, pattern: &str, zip: bool, missing: bool) -> Result<String, AllocError> {
     let zip = if zip { ", zip" } else { "" };
     let missing = if missing { ", allow_missing" } else { "" };

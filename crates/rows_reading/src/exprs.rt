@@ -7,7 +7,7 @@ use smk_lex::lex;
 use smk_tree::{Expr, ItemForm, copy};
 use std::alloc::{AllocError, Global};
 
-// The items that a source is.
+/// The items that a source is.
 fn read(alloc: Global, source: &str) -> Result<List<ItemForm>, ParseFault> {
     let Ok(tokens) = lex(alloc, source.as_bytes()) else {
         return Err(ParseFault::OutOfMemory);
@@ -16,7 +16,7 @@ fn read(alloc: Global, source: &str) -> Result<List<ItemForm>, ParseFault> {
     items(alloc, &mut Cursor::new(symbols.as_slice()))
 }
 
-// A copy of the first value, as it is written for debugging.
+/// A copy of the first value, as it is written for debugging.
 fn first(alloc: Global, found: &[ItemForm]) -> Result<String, Trouble> {
     match found {
         [first, ..] => {
@@ -27,7 +27,7 @@ fn first(alloc: Global, found: &[ItemForm]) -> Result<String, Trouble> {
     }
 }
 
-// The first item of a source, or its first fault.
+/// The first item of a source, or its first fault.
 fn shown(alloc: Global, source: &str) -> Result<String, Trouble> {
     match read(alloc, source) {
         Ok(found) => first(alloc, found.as_slice()),
@@ -35,7 +35,7 @@ fn shown(alloc: Global, source: &str) -> Result<String, Trouble> {
     }
 }
 
-// Expressions of each form.
+/// Expressions of each form.
 fn push_forms(alloc: Global, text: &mut String) -> Result<(), AllocError> {
     let table = [
         ("\"a\" r'b' 1.5\n", "Word(Text { text: \"ab1.5\" })"),
@@ -77,7 +77,7 @@ fn push_forms(alloc: Global, text: &mut String) -> Result<(), AllocError> {
     Ok(())
 }
 
-// Items with a fault.
+/// Items with a fault.
 fn push_faults(alloc: Global, text: &mut String) -> Result<(), AllocError> {
     let table = [
         ("x, f(\"y\")\n", "Unsupported(3)"),
@@ -101,7 +101,7 @@ fn push_faults(alloc: Global, text: &mut String) -> Result<(), AllocError> {
     Ok(())
 }
 
-// A name, a number, a text and an expression, which stand behind each other.
+/// A name, a number, a text and an expression, which stand behind each other.
 fn parts_in(alloc: Global, cursor: &mut Cursor<'_>) -> Result<(Text, u64, Text, Expr), ParseFault> {
     let word = name(alloc, cursor)?;
     let count = number(cursor)?;
@@ -110,7 +110,7 @@ fn parts_in(alloc: Global, cursor: &mut Cursor<'_>) -> Result<(Text, u64, Text, 
     Ok((word, count, alone, value))
 }
 
-// The parts of the source in words.
+/// The parts of the source in words.
 fn parts(alloc: Global, source: &str) -> Result<String, Trouble> {
     let Ok(tokens) = lex(alloc, source.as_bytes()) else {
         return Err(Trouble::NoSyntax);

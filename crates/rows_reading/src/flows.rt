@@ -5,6 +5,7 @@ use smk_base::{List, OutOfMemory, PathText, Text, one};
 use smk_flow::{FlaggedText, InPart, OutPart, RulePart, Workflow, targets};
 use std::alloc::{AllocError, Global};
 
+/// An item of inputs of one text.
 fn input(alloc: Global, text: &str) -> Result<InPart, OutOfMemory> {
     Ok(InPart {
         name: Text::of(alloc, "")?,
@@ -13,6 +14,7 @@ fn input(alloc: Global, text: &str) -> Result<InPart, OutOfMemory> {
     })
 }
 
+/// An item of outputs of one text.
 fn output(alloc: Global, text: &str) -> Result<OutPart, OutOfMemory> {
     let flagged = FlaggedText {
         text: Text::of(alloc, text)?,
@@ -24,6 +26,7 @@ fn output(alloc: Global, text: &str) -> Result<OutPart, OutOfMemory> {
     })
 }
 
+/// A rule of one input and one output.
 fn part(alloc: Global, name: &str, wanted: &str, made: &str) -> Result<RulePart, Trouble> {
     Ok(RulePart {
         name: Text::of(alloc, name)?,
@@ -44,7 +47,7 @@ fn part(alloc: Global, name: &str, wanted: &str, made: &str) -> Result<RulePart,
     })
 }
 
-// Two rules, the second without wildcards.
+/// Two rules, the second without wildcards.
 fn parts(alloc: Global) -> Result<List<RulePart>, Trouble> {
     let mut parts = List::new(alloc);
     parts.push(part(alloc, "sort", "{a}.in", "{a}.out")?)?;
@@ -52,7 +55,7 @@ fn parts(alloc: Global) -> Result<List<RulePart>, Trouble> {
     Ok(parts)
 }
 
-// The workflow of two rules.
+/// The workflow of two rules.
 fn two_rules(alloc: Global) -> Result<Workflow, Trouble> {
     match Workflow::build(alloc, parts(alloc)?, List::new(alloc)) {
         Ok(flow) => Ok(flow),
@@ -60,13 +63,13 @@ fn two_rules(alloc: Global) -> Result<Workflow, Trouble> {
     }
 }
 
-// The number of the rule with this name.
+/// The number of the rule with this name.
 fn number(alloc: Global, name: &str) -> Result<String, Trouble> {
     let number = two_rules(alloc)?.rule(name);
     Ok(format!(in alloc; "{number:?}")?)
 }
 
-// Whether the word stands for paths.
+/// Whether the word stands for paths.
 fn names(alloc: Global, word: &str) -> Result<String, Trouble> {
     let flow = two_rules(alloc)?;
     let words = one(alloc, Text::of(alloc, word)?)?;

@@ -15,6 +15,7 @@ enum Expression {
     Half(Boxed<Expression>),
 }
 
+/// The value of the expression.
 fn value(expression: &Expression) -> u64 {
     match expression {
         Expression::Number(number) => *number,
@@ -29,7 +30,7 @@ fn value(expression: &Expression) -> u64 {
     }
 }
 
-// Half of the greatest of two numbers.
+/// Half of the greatest of two numbers.
 fn half_of_greatest(alloc: Global) -> Result<Expression, OutOfMemory> {
     let mut operands = List::new(alloc);
     operands.push(Expression::Number(3))?;
@@ -38,13 +39,13 @@ fn half_of_greatest(alloc: Global) -> Result<Expression, OutOfMemory> {
     Ok(Expression::Half(Boxed::new(alloc, greatest)?))
 }
 
-// Its value.
+/// Its value.
 fn half(alloc: Global) -> Result<String, Trouble> {
     let number = value(&half_of_greatest(alloc)?);
     Ok(format!(in alloc; "{number}")?)
 }
 
-// A list, as it grows and shrinks at its end.
+/// A list, as it grows and shrinks at its end.
 fn grown(alloc: Global) -> Result<String, Trouble> {
     let mut list = List::new(alloc);
     let empty = list.is_empty();
@@ -59,54 +60,63 @@ fn grown(alloc: Global) -> Result<String, Trouble> {
     )?)
 }
 
+/// A list of one pair.
 fn pairs(alloc: Global) -> Result<List<Pair>, OutOfMemory> {
     let name = Text::of(alloc, "sample")?;
     let value = Text::of(alloc, "7")?;
     one(alloc, Pair { name, value })
 }
 
+/// An amount in a box.
 fn amount(alloc: Global) -> Result<Boxed<Amount>, OutOfMemory> {
     let name = Text::of(alloc, "mem_mb")?;
     Boxed::new(alloc, Amount { name, count: 100 })
 }
 
+/// A folder with a file in it.
 fn folder(alloc: Global) -> Result<Tree, Trouble> {
     let name = PathText::read(alloc, "x/y")?;
     let bytes = Some(Bytes::of(alloc, b"hi")?);
     Ok(Tree::Folder(one(alloc, TreeEntry { name, bytes })?))
 }
 
+/// What a copy of a text is.
 fn text_copy(alloc: Global) -> Result<String, Trouble> {
     let copy = Text::of(alloc, "a")?.copied(alloc)?;
     Ok(String::from_str(alloc, copy.as_str())?)
 }
 
+/// What a copy of a path is.
 fn path_copy(alloc: Global) -> Result<String, Trouble> {
     let copy = PathText::read(alloc, "a/b")?.copied(alloc)?;
     Ok(String::from_str(alloc, copy.as_str())?)
 }
 
+/// What a copy of a place is.
 fn place_copy(alloc: Global) -> Result<String, Trouble> {
     let copy = Place::lock(alloc)?.copied(alloc)?;
     Ok(String::from_str(alloc, copy.as_str())?)
 }
 
+/// What a copy of a list of pairs is.
 fn pairs_copy(alloc: Global) -> Result<String, Trouble> {
     let copy = pairs(alloc)?.copied(alloc)?;
     Ok(format!(in alloc; "{copy:?}")?)
 }
 
+/// What a copy of an amount in a box is.
 fn amount_copy(alloc: Global) -> Result<String, Trouble> {
     let copy = amount(alloc)?.copied(alloc)?;
     Ok(format!(in alloc; "{}", copy.get().count)?)
 }
 
+/// What a copy of a folder is.
 fn folder_copy(alloc: Global) -> Result<String, Trouble> {
     let copy = folder(alloc)?.copied(alloc)?;
     Ok(format!(in alloc; "{copy:?}")?)
 }
 
-// A copy of each kind of value.
+/// A copy of each kind of value.
 fn push_copies(alloc: Global, text: &mut String) -> Result<(), AllocError> {
     push_row(text, "a copy of a text", &text_copy(alloc), "a")?;
     push_row(text, "a copy of a path", &path_copy(alloc), "a/b")?;

@@ -38,7 +38,7 @@ const SECTION: u8 = 0x1c;
 /// Stands in front of each row.
 const ROW: u8 = 0x1e;
 
-// The rows that need no files.
+/// The rows that need no files.
 fn push_tables(alloc: Global, text: &mut String) -> Result<(), AllocError> {
     paths::push_rows(alloc, text)?;
     lists::push_rows(alloc, text)?;
@@ -53,7 +53,7 @@ fn push_tables(alloc: Global, text: &mut String) -> Result<(), AllocError> {
     commands::push_rows(alloc, text)
 }
 
-// Adds a row of the section with this title.
+/// Adds a row of the section with this title.
 fn push_row(
     alloc: Global,
     text: &mut String,
@@ -70,7 +70,7 @@ fn push_row(
     }
 }
 
-// Adds the rows of files or workspaces.
+/// Adds the rows of files or workspaces.
 fn push_files(
     alloc: Global,
     text: &mut String,
@@ -85,7 +85,7 @@ fn push_files(
     Ok(())
 }
 
-// Adds the rows of a section.
+/// Adds the rows of a section.
 fn push_section(alloc: Global, text: &mut String, section: &[u8]) -> Result<(), OutOfMemory> {
     let (title, rows) = line_and_rest(section);
     if title == "fitted" {
@@ -95,7 +95,7 @@ fn push_section(alloc: Global, text: &mut String, section: &[u8]) -> Result<(), 
     }
 }
 
-// All rows.
+/// All rows.
 fn rows(alloc: Global, input: &[u8]) -> Result<String, OutOfMemory> {
     let mut text = String::new(alloc);
     push_tables(alloc, &mut text)?;

@@ -1,10 +1,10 @@
 //! Paths, and the places of what is kept of them.
 
 use crate::row::{Trouble, push_line, push_row, push_title};
-use smk_base::{OutOfMemory, PathFault, PathText, Place};
+use smk_base::{PathFault, PathText, Place};
 use std::alloc::{AllocError, Global};
 
-// Whether the word is a path.
+/// Whether the word is a path.
 fn said(alloc: Global, word: &str) -> &'static str {
     match PathText::read(alloc, word) {
         Ok(_) => "a path",
@@ -13,12 +13,12 @@ fn said(alloc: Global, word: &str) -> &'static str {
     }
 }
 
-// The word for what is so or isn't.
+/// The word for what is so or isn't.
 fn word(good: bool) -> &'static str {
     if good { "a path" } else { "no path" }
 }
 
-// Texts that are paths, and texts that are none.
+/// Texts that are paths, and texts that are none.
 fn push_words(alloc: Global, text: &mut String) -> Result<(), AllocError> {
     let table = [
         ("a", true),
@@ -48,7 +48,7 @@ fn push_words(alloc: Global, text: &mut String) -> Result<(), AllocError> {
     Ok(())
 }
 
-// Parts of these many bytes with slashes between them.
+/// Parts of these many bytes with slashes between them.
 fn long_text(alloc: Global, lengths: &[usize]) -> Result<String, AllocError> {
     let mut text = String::new(alloc);
     for (i, length) in lengths.iter().enumerate() {
@@ -62,7 +62,7 @@ fn long_text(alloc: Global, lengths: &[usize]) -> Result<String, AllocError> {
     Ok(text)
 }
 
-// Parts that are as long as they may be, and others.
+/// Parts that are as long as they may be, and others.
 fn push_lengths(alloc: Global, text: &mut String) -> Result<(), AllocError> {
     let table: [(&[usize], bool); 4] = [
         (&[250], true),
@@ -78,7 +78,7 @@ fn push_lengths(alloc: Global, text: &mut String) -> Result<(), AllocError> {
     Ok(())
 }
 
-// The place that one function gives for the path.
+/// The place that one function gives for the path.
 fn place(alloc: Global, kind: &str) -> Result<Place, Trouble> {
     let path = PathText::read(alloc, "a/b/c")?;
     let place = match kind {
@@ -91,11 +91,12 @@ fn place(alloc: Global, kind: &str) -> Result<Place, Trouble> {
     Ok(place?)
 }
 
+/// Its text.
 fn place_text(alloc: Global, kind: &str) -> Result<String, Trouble> {
     Ok(String::from_str(alloc, place(alloc, kind)?.as_str())?)
 }
 
-// Where the files of `a/b/c` stand.
+/// Where the files of `a/b/c` stand.
 fn push_places(alloc: Global, text: &mut String) -> Result<(), AllocError> {
     let table = [
         ("user", "a/b/c"),
@@ -110,20 +111,20 @@ fn push_places(alloc: Global, text: &mut String) -> Result<(), AllocError> {
     Ok(())
 }
 
-// Whether the path lies under the folder, and whether they overlap.
+/// Whether the path lies under the folder, and whether they overlap.
 fn compared(alloc: Global, path: &str, folder: &str) -> Result<(bool, bool), Trouble> {
     let path = PathText::read(alloc, path)?;
     let folder = PathText::read(alloc, folder)?;
     Ok((path.is_under(&folder), path.overlaps(&folder)))
 }
 
-// The two answers in words.
+/// The two answers in words.
 fn compared_text(alloc: Global, path: &str, folder: &str) -> Result<String, Trouble> {
     let (under, overlap) = compared(alloc, path, folder)?;
     Ok(format!(in alloc; "under {under}, overlaps {overlap}")?)
 }
 
-// Paths beside one another.
+/// Paths beside one another.
 fn push_compared(alloc: Global, text: &mut String) -> Result<(), AllocError> {
     let table = [
         ("a/b", "a", true, true),
@@ -143,7 +144,7 @@ fn push_compared(alloc: Global, text: &mut String) -> Result<(), AllocError> {
     Ok(())
 }
 
-// The path of the second in the first.
+/// The path of the second in the first.
 fn joined(alloc: Global, folder: &str, rest: &str) -> Result<String, Trouble> {
     let folder = PathText::read(alloc, folder)?;
     let rest = PathText::read(alloc, rest)?;
@@ -151,7 +152,7 @@ fn joined(alloc: Global, folder: &str, rest: &str) -> Result<String, Trouble> {
     Ok(String::from_str(alloc, path.as_str())?)
 }
 
-// Paths in folders.
+/// Paths in folders.
 fn push_joined(alloc: Global, text: &mut String) -> Result<(), AllocError> {
     push_row(
         text,

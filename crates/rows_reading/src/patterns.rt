@@ -5,7 +5,7 @@ use smk_base::{List, OutOfMemory, Pair, PathFault, PathText, Text};
 use smk_pattern::{Binding, Limits, Pattern, PatternFault, fits};
 use std::alloc::{AllocError, Global};
 
-// A binding in words: each name with its value.
+/// A binding in words: each name with its value.
 fn told(alloc: Global, binding: &Binding) -> Result<String, OutOfMemory> {
     let mut words = String::new(alloc);
     for pair in binding.as_slice() {
@@ -17,7 +17,7 @@ fn told(alloc: Global, binding: &Binding) -> Result<String, OutOfMemory> {
     Ok(words)
 }
 
-// What is answered for a pattern and a path.
+/// What is answered for a pattern and a path.
 fn fitted(alloc: Global, pattern: &Pattern, path: &str) -> Result<String, OutOfMemory> {
     let path = match PathText::read(alloc, path) {
         Ok(path) => path,
@@ -30,7 +30,7 @@ fn fitted(alloc: Global, pattern: &Pattern, path: &str) -> Result<String, OutOfM
     }
 }
 
-// The fault of a pattern in words.
+/// The fault of a pattern in words.
 fn fault_words(alloc: Global, fault: PatternFault) -> Result<String, OutOfMemory> {
     match fault {
         PatternFault::BadPattern => Ok(String::from_str(alloc, "bad pattern")?),
@@ -41,7 +41,7 @@ fn fault_words(alloc: Global, fault: PatternFault) -> Result<String, OutOfMemory
     }
 }
 
-// What is answered for the text of a pattern and a path.
+/// What is answered for the text of a pattern and a path.
 fn answer(
     alloc: Global,
     text: &str,
@@ -54,7 +54,7 @@ fn answer(
     }
 }
 
-// Adds the row of a pattern and a path.
+/// Adds the row of a pattern and a path.
 fn push_answer(
     alloc: Global,
     text: &mut String,
@@ -70,7 +70,7 @@ fn push_answer(
     push_row(text, name.as_str(), &found, wanted)
 }
 
-// Patterns and paths.
+/// Patterns and paths.
 fn push_fits(alloc: Global, text: &mut String) -> Result<(), AllocError> {
     let table = [
         // the first wildcard takes as much as it can
@@ -141,6 +141,7 @@ fn push_fits(alloc: Global, text: &mut String) -> Result<(), AllocError> {
     Ok(())
 }
 
+/// The value under the name.
 fn pair(alloc: Global, name: &str, value: &str) -> Result<Pair, OutOfMemory> {
     Ok(Pair {
         name: Text::of(alloc, name)?,
@@ -148,7 +149,7 @@ fn pair(alloc: Global, name: &str, value: &str) -> Result<Pair, OutOfMemory> {
     })
 }
 
-// Constraints of a whole file: one of digits, and one that is none.
+/// Constraints of a whole file: one of digits, and one that is none.
 fn limits(alloc: Global) -> Result<List<Pair>, OutOfMemory> {
     let mut limits = List::new(alloc);
     limits.push(pair(alloc, "n", "[0-9]+")?)?;
@@ -156,7 +157,7 @@ fn limits(alloc: Global) -> Result<List<Pair>, OutOfMemory> {
     Ok(limits)
 }
 
-// Patterns with constraints that stand elsewhere.
+/// Patterns with constraints that stand elsewhere.
 fn push_limited(alloc: Global, text: &mut String) -> Result<(), AllocError> {
     let table = [
         ("{n}.txt", "7.txt", "n=7 "),
@@ -175,7 +176,7 @@ fn push_limited(alloc: Global, text: &mut String) -> Result<(), AllocError> {
     Ok(())
 }
 
-// The front, so many `x`, and then the end.
+/// The front, so many `x`, and then the end.
 fn many(alloc: Global, front: &str, count: usize, end: &str) -> Result<String, AllocError> {
     let mut text = String::from_str(alloc, front)?;
     for _ in 0..count {
@@ -185,7 +186,7 @@ fn many(alloc: Global, front: &str, count: usize, end: &str) -> Result<String, A
     Ok(text)
 }
 
-// Patterns that could be tried in very many ways.
+/// Patterns that could be tried in very many ways.
 fn push_hostile(alloc: Global, text: &mut String) -> Result<(), AllocError> {
     let none = List::new(alloc);
     let long = "{a}x{b}x{c}x{d}x{e}x{f}x{g}x{h}x{i}x{j}y";
@@ -211,7 +212,7 @@ pub fn push_rows(alloc: Global, text: &mut String) -> Result<(), AllocError> {
     push_hostile(alloc, text)
 }
 
-// What is answered for a line.
+/// What is answered for a line.
 fn line_answer(alloc: Global, line: &str, shared: &mut Limits) -> Result<String, OutOfMemory> {
     let Some((text, path)) = line.split_once('\t') else {
         return Ok(String::from_str(alloc, "no tab")?);

@@ -8,7 +8,7 @@ use smk_print::{print, spell_text};
 use std::alloc::{AllocError, Global};
 use std::str;
 
-// The spelling of the text.
+/// The spelling of the text.
 fn spelled(alloc: Global, text: &str) -> Result<String, Trouble> {
     let bytes = spell_text(alloc, text)?;
     let spelling = str::from_utf8(bytes.as_slice()).unwrap_or("?");
@@ -30,7 +30,7 @@ pub fn push_rows(alloc: Global, text: &mut String) -> Result<(), AllocError> {
     Ok(())
 }
 
-// What is printed of the syntax of a source, if it has one.
+/// What is printed of the syntax of a source, if it has one.
 fn printed(alloc: Global, source: &[u8]) -> Result<Option<Bytes>, AllocError> {
     let Ok(tokens) = lex(alloc, source) else {
         return Ok(None);
@@ -44,7 +44,7 @@ fn printed(alloc: Global, source: &[u8]) -> Result<Option<Bytes>, AllocError> {
     }
 }
 
-// Whether what is printed of these bytes is these bytes.
+/// Whether what is printed of these bytes is these bytes.
 fn is_printed(alloc: Global, bytes: &[u8]) -> Result<bool, AllocError> {
     match printed(alloc, bytes)? {
         Some(again) => Ok(again.as_slice() == bytes),

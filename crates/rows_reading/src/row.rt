@@ -50,7 +50,7 @@ impl From<ValueFault> for Trouble {
     }
 }
 
-// Its name.
+/// Its name.
 fn word(trouble: Trouble) -> &'static str {
     match trouble {
         Trouble::OutOfMemory => "out of memory",

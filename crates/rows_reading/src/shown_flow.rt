@@ -4,6 +4,7 @@ use smk_base::Text;
 use smk_flow::{Clause, InPart, OutPart, RulePart, Workflow};
 use std::alloc::{AllocError, Global};
 
+/// Adds the texts, each behind a blank.
 fn push_texts(text: &mut String, texts: &[Text]) -> Result<(), AllocError> {
     for t in texts {
         write!(text, " {}", t.as_str())?;
@@ -11,6 +12,7 @@ fn push_texts(text: &mut String, texts: &[Text]) -> Result<(), AllocError> {
     Ok(())
 }
 
+/// Adds the line of an item of inputs.
 fn push_input(text: &mut String, item: &InPart) -> Result<(), AllocError> {
     write!(text, "  in {}:", item.name.as_str())?;
     push_texts(text, item.texts.as_slice())?;
@@ -26,6 +28,7 @@ fn push_input(text: &mut String, item: &InPart) -> Result<(), AllocError> {
     text.push_str("\n")
 }
 
+/// Adds the line of an item of outputs.
 fn push_output(text: &mut String, item: &OutPart) -> Result<(), AllocError> {
     write!(text, "  out {}:", item.name.as_str())?;
     for out in item.outs.as_slice() {
@@ -34,6 +37,7 @@ fn push_output(text: &mut String, item: &OutPart) -> Result<(), AllocError> {
     text.push_str("\n")
 }
 
+/// Adds the lines of a rule.
 fn push_rule(text: &mut String, part: &RulePart) -> Result<(), AllocError> {
     write!(
         text,
@@ -66,6 +70,7 @@ fn push_rule(text: &mut String, part: &RulePart) -> Result<(), AllocError> {
     Ok(())
 }
 
+/// Adds the line of a clause.
 fn push_clause(text: &mut String, clause: &Clause) -> Result<(), AllocError> {
     text.push_str("order")?;
     push_texts(text, clause.names.as_slice())?;

@@ -23,6 +23,7 @@ fn quoted(text: &mut String, word: &Text) -> Result<(), AllocError> {
     text.push('"')
 }
 
+/// The words with a text between them.
 fn names(text: &mut String, words: &[Text], between: &str) -> Result<(), AllocError> {
     for (i, word) in words.iter().enumerate() {
         if i > 0 {
@@ -33,6 +34,7 @@ fn names(text: &mut String, words: &[Text], between: &str) -> Result<(), AllocEr
     Ok(())
 }
 
+/// Keys of the configuration.
 fn config(text: &mut String, keys: &[Text]) -> Result<(), AllocError> {
     text.push_str("config")?;
     for key in keys {
@@ -43,6 +45,7 @@ fn config(text: &mut String, keys: &[Text]) -> Result<(), AllocError> {
     Ok(())
 }
 
+/// The outputs of a rule.
 fn outputs(text: &mut String, rule: &Text, pick: &OutputPick) -> Result<(), AllocError> {
     let rule = rule.as_str();
     write!(text, "rules.{rule}.output")?;
@@ -56,6 +59,7 @@ fn outputs(text: &mut String, rule: &Text, pick: &OutputPick) -> Result<(), Allo
     }
 }
 
+/// What is gathered from a checkpoint.
 fn from_checkpoint(
     text: &mut String,
     name: &Text,
@@ -71,6 +75,7 @@ fn from_checkpoint(
     text.push(')')
 }
 
+/// An expression; sums in brackets.
 #[cycle(shown)]
 fn expr(text: &mut String, value: &Expr) -> Result<(), AllocError> {
     match value {
@@ -102,6 +107,7 @@ fn expr(text: &mut String, value: &Expr) -> Result<(), AllocError> {
     }
 }
 
+/// Expressions with a text between them.
 #[cycle(shown)]
 fn exprs(text: &mut String, parts: &[Expr], between: &str) -> Result<(), AllocError> {
     for (i, part) in parts.iter().enumerate() {
@@ -113,6 +119,7 @@ fn exprs(text: &mut String, parts: &[Expr], between: &str) -> Result<(), AllocEr
     Ok(())
 }
 
+/// A call of `expand`.
 #[cycle(shown)]
 fn expand(text: &mut String, form: &ExpandForm) -> Result<(), AllocError> {
     text.push_str("expand(")?;
@@ -129,6 +136,7 @@ fn expand(text: &mut String, form: &ExpandForm) -> Result<(), AllocError> {
     text.push(')')
 }
 
+/// Items with commas between them.
 fn items(text: &mut String, list: &[ItemForm]) -> Result<(), AllocError> {
     for (i, item) in list.iter().enumerate() {
         if i > 0 {
@@ -143,6 +151,7 @@ fn items(text: &mut String, list: &[ItemForm]) -> Result<(), AllocError> {
     Ok(())
 }
 
+/// The directives of a rule, each on a line of its own.
 fn directives(text: &mut String, list: &[DirectiveForm]) -> Result<(), AllocError> {
     for directive in list {
         let line = directive.line;
@@ -153,6 +162,7 @@ fn directives(text: &mut String, list: &[DirectiveForm]) -> Result<(), AllocErro
     Ok(())
 }
 
+/// What a statement is.
 fn form(text: &mut String, form: &Form) -> Result<(), AllocError> {
     match form {
         Form::Assign(name, value) => {
@@ -196,6 +206,7 @@ fn form(text: &mut String, form: &Form) -> Result<(), AllocError> {
     }
 }
 
+/// A statement behind the number of its line.
 fn statement(text: &mut String, statement: &Statement) -> Result<(), AllocError> {
     let line = statement.line;
     write!(text, "{line} ")?;

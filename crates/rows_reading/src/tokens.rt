@@ -6,14 +6,14 @@ use smk_lex::{Token, TokenKind, lex};
 use std::alloc::{AllocError, Global};
 use std::str;
 
-// The slice of the source that the token is.
+/// The slice of the source that the token is.
 fn slice_of(source: &[u8], token: Token) -> &str {
     let rest = &source[(token.start as usize).min(source.len())..];
     let len = (token.end.saturating_sub(token.start) as usize).min(rest.len());
     str::from_utf8(&rest[..len]).unwrap_or("?")
 }
 
-// The mark of the kind, and whether the token's slice is shown behind it.
+/// The mark of the kind, and whether the token's slice is shown behind it.
 fn mark(kind: TokenKind) -> (&'static str, bool) {
     match kind {
         TokenKind::Name => ("n", true),
@@ -27,7 +27,7 @@ fn mark(kind: TokenKind) -> (&'static str, bool) {
     }
 }
 
-// Each token by a letter and its slice; `/` for a `Newline`, `>` for an `Indent`, `<` for a `Dedent`.
+/// Each token by a letter and its slice; `/` for a `Newline`, `>` for an `Indent`, `<` for a `Dedent`.
 fn shown(alloc: Global, source: &[u8], tokens: &[Token]) -> Result<String, AllocError> {
     let mut text = String::new(alloc);
     for token in tokens {
@@ -43,7 +43,7 @@ fn shown(alloc: Global, source: &[u8], tokens: &[Token]) -> Result<String, Alloc
     Ok(text)
 }
 
-// The tokens of the source, or its first fault.
+/// The tokens of the source, or its first fault.
 fn cut(alloc: Global, source: &[u8]) -> Result<String, Trouble> {
     match lex(alloc, source) {
         Ok(tokens) => Ok(shown(alloc, source, tokens.as_slice())?),
@@ -51,7 +51,7 @@ fn cut(alloc: Global, source: &[u8]) -> Result<String, Trouble> {
     }
 }
 
-// Sources that are cut into tokens.
+/// Sources that are cut into tokens.
 fn push_tokens(alloc: Global, text: &mut String) -> Result<(), AllocError> {
     let table = [
         (
@@ -90,7 +90,7 @@ fn push_tokens(alloc: Global, text: &mut String) -> Result<(), AllocError> {
     Ok(())
 }
 
-// Sources with a fault.
+/// Sources with a fault.
 fn push_faults(alloc: Global, text: &mut String) -> Result<(), AllocError> {
     let table = [
         (
@@ -117,7 +117,7 @@ fn push_faults(alloc: Global, text: &mut String) -> Result<(), AllocError> {
     Ok(())
 }
 
-// Sources that aren't text.
+/// Sources that aren't text.
 fn push_bytes(alloc: Global, text: &mut String) -> Result<(), AllocError> {
     let table: [(&str, &[u8], &str); 3] = [
         ("a byte that is no text", b"\xff\n", "BadByte(0)"),
@@ -138,7 +138,7 @@ fn push_bytes(alloc: Global, text: &mut String) -> Result<(), AllocError> {
     Ok(())
 }
 
-// What the text that the source begins with stands for.
+/// What the text that the source begins with stands for.
 fn meant(alloc: Global, source: &str) -> Result<String, Trouble> {
     let Ok(tokens) = lex(alloc, source.as_bytes()) else {
         return Err(Trouble::NoSyntax);
@@ -148,7 +148,7 @@ fn meant(alloc: Global, source: &str) -> Result<String, Trouble> {
     Ok(String::from_str(alloc, text.as_str())?)
 }
 
-// Texts with escapes, between quotes here.
+/// Texts with escapes, between quotes here.
 fn push_texts(alloc: Global, text: &mut String) -> Result<(), AllocError> {
     let table = [
         ("\"\"", ""),

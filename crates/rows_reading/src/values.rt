@@ -10,7 +10,7 @@ use smk_value::{
 };
 use std::alloc::{AllocError, Global};
 
-// The texts, each with a blank after it.
+/// The texts, each with a blank after it.
 fn row(alloc: Global, texts: &List<Text>) -> Result<String, ValueFault> {
     let mut row = String::new(alloc);
     for text in texts.as_slice() {
@@ -20,11 +20,12 @@ fn row(alloc: Global, texts: &List<Text>) -> Result<String, ValueFault> {
     Ok(row)
 }
 
+/// The value that is this text.
 fn word(alloc: Global, text: &str) -> Result<Value, ValueFault> {
     Ok(Value::Word(Text::of(alloc, text)?))
 }
 
-// The texts of a value.
+/// The texts of a value.
 fn shown(alloc: Global, value: &Value) -> Result<String, ValueFault> {
     match value {
         Value::Flagged(flagged) => row(alloc, &flagged.flags),
@@ -32,13 +33,13 @@ fn shown(alloc: Global, value: &Value) -> Result<String, ValueFault> {
     }
 }
 
-// A flag about another.
+/// A flag about another.
 fn flagged(alloc: Global) -> Result<Value, ValueFault> {
     let inner = flag(alloc, "directory", &word(alloc, "a")?)?;
     flag(alloc, "temp", &inner)
 }
 
-// A pattern with the value of its name.
+/// A pattern with the value of its name.
 fn expanded(alloc: Global) -> Result<Value, ValueFault> {
     let choices = one(
         alloc,
@@ -58,7 +59,7 @@ fn expanded(alloc: Global) -> Result<Value, ValueFault> {
     )
 }
 
-// The text of a truth value.
+/// The text of a truth value.
 fn truth_text(alloc: Global) -> Result<Value, ValueFault> {
     match spelled(alloc, &Value::Truth(true))? {
         Some(text) => Ok(Value::Word(text)),
@@ -89,7 +90,7 @@ impl Scope for Names {
     }
 }
 
-// The value of three terms with `+` between.
+/// The value of three terms with `+` between.
 fn summed(alloc: Global) -> Result<Value, ValueFault> {
     let mut terms = List::new(alloc);
     terms.push(Expr::Word(Text::of(alloc, "a")?))?;
@@ -98,7 +99,7 @@ fn summed(alloc: Global) -> Result<Value, ValueFault> {
     value_of(alloc, &Expr::Sum(terms), &Names, &Text::of(alloc, "input")?)
 }
 
-// The texts of a value that was made.
+/// The texts of a value that was made.
 fn told(alloc: Global, made: Result<Value, ValueFault>) -> Result<String, Trouble> {
     Ok(shown(alloc, &made?)?)
 }
