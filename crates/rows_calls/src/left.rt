@@ -2,8 +2,8 @@
 
 use crate::trouble::Trouble;
 use smk_base::{PathText, Place};
-use smk_mem::MemWork;
 use smk_world::{Files, Found};
+use smk_world_mem::MemWork;
 use std::alloc::Global;
 
 const RECORD: &str =

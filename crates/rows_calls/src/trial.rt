@@ -1,12 +1,12 @@
 //! A workspace in memory with a workflow and its input, and the call in it.
 
 ghost use Rattle.std.specs.Prelude.{◌≡◌, [], IfOk};
-ghost use Rattle.smk_mem.specs.Work.{running_in};
+ghost use Rattle.smk_world_mem.specs.Work.{running_in};
 
 use crate::trouble::Trouble;
 use smk_base::{List, OutOfMemory, PathText, one};
 use smk_cli::smk;
-use smk_mem::{MemSink, MemWork, Setup};
+use smk_world_mem::{MemSink, MemWork, Setup};
 use std::alloc::{AllocError, Global};
 use std::thread::Threads;
 

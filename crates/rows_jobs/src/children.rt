@@ -2,8 +2,8 @@
 
 use crate::trouble::{Trouble, push_row};
 use smk_base::{List, PathText, Place, Text};
-use smk_real::RealWork;
 use smk_world::{Crew, Ended, Files, Recipe, Stat};
+use smk_world_real::RealWork;
 use std::alloc::{AllocError, Global};
 use std::process::Processes;
 use std::rt::Files as FileSystem;

@@ -5,8 +5,8 @@ use crate::seen::{line, push_seen};
 use crate::trouble::{Trouble, push_row};
 use smk_base::{List, PathText, Place};
 use smk_job::{CloseFault, Going};
-use smk_mem::MemWork;
 use smk_world::{Failed, Files, Kind};
+use smk_world_mem::MemWork;
 use std::alloc::{AllocError, Global};
 
 /// What is made by hand where the output of a job is to be.

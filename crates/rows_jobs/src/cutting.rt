@@ -4,8 +4,8 @@ use crate::closing::{Made, close, going, told_of_finish};
 use crate::jobs::workspace;
 use crate::trouble::{Trouble, push_row};
 use smk_base::{List, PathText, one};
-use smk_mem::MemWork;
 use smk_world::Kind;
+use smk_world_mem::MemWork;
 use std::alloc::{AllocError, Global};
 
 // The calls of the device in this workspace as the job is begun, and after it is finished.

@@ -6,10 +6,10 @@ use crate::seen::line;
 use crate::trouble::{Trouble, push_row};
 use smk_base::{List, OutOfMemory, PathText, Text, one};
 use smk_job::Going;
-use smk_mem::MemWork;
 use smk_record::Stamp;
 use smk_store::StoreFault;
 use smk_world::{Item, Kind};
+use smk_world_mem::MemWork;
 use std::alloc::{AllocError, Global};
 
 // What forgetting came to.

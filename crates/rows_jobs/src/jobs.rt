@@ -2,17 +2,17 @@
 
 ghost use Rattle.std.specs.Prelude.{◌≡◌, ◌≢◌, ◌∷◌, [], IfOk, IsOk, OnOk};
 ghost use Rattle.smk_world.specs.World.{out_paths};
-ghost use Rattle.smk_mem.specs.Work.{IsAtRest, running_in, world_in};
+ghost use Rattle.smk_world_mem.specs.Work.{IsAtRest, running_in, world_in};
 ghost use Rattle.rows_jobs.specs.Bare.{IsBare};
 
 use crate::trouble::Trouble;
 use smk_base::{Copied, List, OutOfMemory, PathText, Text, one};
 use smk_flow::Job;
 use smk_job::{CloseFault, Going, abandon, begin, finish};
-use smk_mem::{MemWork, Setup};
 use smk_record::{Record, Stamp};
 use smk_store::{StoreFault, forget, load};
 use smk_world::{Crew, Failed, Item, Kind, Out, OutItem, Recipe};
+use smk_world_mem::{MemWork, Setup};
 use std::alloc::Global;
 
 /// A workspace with nothing in it, of which the calls with these numbers fail.

@@ -3,8 +3,8 @@
 use crate::jobs::workspace;
 use crate::trouble::{Trouble, push_row};
 use smk_base::{List, PathText, Place};
-use smk_mem::MemWork;
 use smk_world::{Files, Listing, Name};
+use smk_world_mem::MemWork;
 use std::alloc::{AllocError, Global};
 
 // Writes the file by hand.

@@ -2,10 +2,10 @@
 
 use crate::trouble::Trouble;
 use smk_base::{PathText, Place};
-use smk_mem::MemWork;
 use smk_record::Member;
 use smk_store::{Entry, Kept, load};
 use smk_world::{Files, Stat};
+use smk_world_mem::MemWork;
 use std::alloc::{AllocError, Global};
 
 // What stands at the place.

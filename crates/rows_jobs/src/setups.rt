@@ -2,8 +2,8 @@
 
 use crate::trouble::{Trouble, push_row};
 use smk_base::{List, PathText, Place, one};
-use smk_mem::{MemSink, MemWork, Setup};
 use smk_world::{Failed, Files, Sink};
+use smk_world_mem::{MemSink, MemWork, Setup};
 use std::alloc::{AllocError, Global};
 use std::str;
 

@@ -1,8 +1,8 @@
 //! The standard streams as sinks.
 
 use crate::trouble::{Trouble, push_row};
-use smk_real::RealSink;
 use smk_world::Sink;
+use smk_world_real::RealSink;
 use std::alloc::{AllocError, Global};
 use std::io::{Stderr, Stdout};
 

@@ -3,9 +3,9 @@
 use smk_base::{List, OutOfMemory, PathText, Text, one};
 use smk_chain::{Jobs, Maker};
 use smk_flow::Job;
-use smk_mem::{MemWork, Setup};
 use smk_pick::{Force, Settings};
 use smk_world::{Item, Kind, Out, OutItem, Recipe};
+use smk_world_mem::{MemWork, Setup};
 use std::alloc::Global;
 
 /// The path of this text.

@@ -9,22 +9,22 @@ ghost use Rattle.std.specs.Prelude.{◌≡◌, ◌++◌, length, map, Some, IfOk
 ghost use Rattle.std.specs.List.{slice_get, flat_map};
 ghost use Rattle.smk_world.specs.World.{out_paths};
 ghost use Rattle.smk_flow.specs.declared.job.Job.{Job as JobValue};
-ghost use Rattle.smk_live.specs.Lives.{IsLive};
-ghost use Rattle.smk_live.specs.Sites.{out_path};
+ghost use Rattle.smk_plan_live.specs.Lives.{IsLive};
+ghost use Rattle.smk_plan_live.specs.Sites.{out_path};
 
 use counting::Counting;
 use flow::{jobs_of, path_of, settings_of, workspace};
 use smk_base::{Copied, List, OutOfMemory, PathText, one};
 use smk_chain::Jobs;
 use smk_flow::Job;
-use smk_live::{LivePlan, Phase};
-use smk_look::look;
-use smk_mem::MemWork;
 use smk_plan::{Seen, Sight};
+use smk_plan_live::{LivePlan, Phase};
+use smk_plan_look::look;
 use smk_record::{Record, Stamp};
 use smk_store::{Entry, Kept, Store, load};
 use smk_trigger::State;
 use smk_world::{Out, OutItem, Recipe, Stat};
+use smk_world_mem::MemWork;
 use std::alloc::{AllocError, Global};
 use std::io;
 use std::sync::atomic::Ordering;

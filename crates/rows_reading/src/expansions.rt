@@ -2,7 +2,7 @@
 
 use crate::row::{Trouble, push_row, push_title};
 use smk_base::{List, OutOfMemory, Text, one};
-use smk_expand::{Choices, ExpandFault, expand};
+use smk_eval_values::{Choices, ExpandFault, expand};
 use std::alloc::{AllocError, Global};
 
 /// The texts with blanks between them.

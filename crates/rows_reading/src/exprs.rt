@@ -2,9 +2,9 @@
 
 use crate::row::{Trouble, push_row, push_title};
 use smk_base::{List, Text};
-use smk_expr::{Cursor, ParseFault, expr, items, name, number, symbols, text as text_in};
 use smk_lex::lex;
-use smk_tree::{Expr, ItemForm, copy};
+use smk_parse_expr::{Cursor, ParseFault, expr, items, name, number, symbols, text as text_in};
+use smk_parse_tree::{Expr, ItemForm, copy};
 use std::alloc::{AllocError, Global};
 
 /// The items that a source is.

@@ -3,8 +3,8 @@
 use crate::parts::line_and_rest;
 use crate::shown_flow::workflow;
 use smk_base::{List, Pair, PathText, Text};
-use smk_load::{LoadFault, load};
-use smk_mem::{MemWork, Setup};
+use smk_eval::{LoadFault, load};
+use smk_world_mem::{MemWork, Setup};
 use std::alloc::{AllocError, Global};
 
 /// Stands in front of each file.

@@ -4,7 +4,7 @@ use crate::row::{Trouble, push_row, push_title};
 use smk_base::Bytes;
 use smk_lex::lex;
 use smk_parse::parse;
-use smk_print::{print, spell_text};
+use smk_parse_print::{print, spell_text};
 use std::alloc::{AllocError, Global};
 use std::str;
 

@@ -1,8 +1,8 @@
 //! The line of a row, and why a row has no answer.
 
 use smk_base::{OutOfMemory, PathFault};
-use smk_expr::ParseFault;
-use smk_value::ValueFault;
+use smk_eval_values::ValueFault;
+use smk_parse_expr::ParseFault;
 use std::alloc::AllocError;
 
 /// Why a row has no answer, which each row is to have.

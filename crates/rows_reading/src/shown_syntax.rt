@@ -3,7 +3,9 @@
 use smk_base::Text;
 use smk_lex::LexFault;
 use smk_parse::{Lines, ParseFault};
-use smk_tree::{DirectiveForm, ExpandForm, Expr, Form, ItemForm, OutputPick, Statement, Syntax};
+use smk_parse_tree::{
+    DirectiveForm, ExpandForm, Expr, Form, ItemForm, OutputPick, Statement, Syntax,
+};
 use std::alloc::AllocError;
 use std::str;
 

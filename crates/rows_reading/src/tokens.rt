@@ -1,8 +1,8 @@
 //! What sources are cut into.
 
 use crate::row::{Trouble, push_row, push_title};
-use smk_expr::{Cursor, symbols, text as text_in};
 use smk_lex::{Token, TokenKind, lex};
+use smk_parse_expr::{Cursor, symbols, text as text_in};
 use std::alloc::{AllocError, Global};
 use std::str;
 

@@ -2,12 +2,11 @@
 
 use crate::row::{Trouble, push_row, push_title};
 use smk_base::{List, Text, one};
-use smk_expand::Choices;
-use smk_tree::{Expr, OutputPick};
-use smk_value::{
-    Scope, Value, ValueFault, choice_values, expansion, flag, list_items, patterns, spelled, truth,
-    value_of,
+use smk_eval_values::{
+    Choices, Scope, Value, ValueFault, choice_values, expansion, flag, list_items, patterns,
+    spelled, truth, value_of,
 };
+use smk_parse_tree::{Expr, OutputPick};
 use std::alloc::{AllocError, Global};
 
 /// The texts, each with a blank after it.
@@ -72,8 +71,8 @@ struct Names;
 
 impl Scope for Names {
     ghost use Rattle.std.specs.Prelude.{Some, Err};
-    ghost use Rattle.smk_value.specs.declared.value.Value.TheVariants.{Word};
-    ghost use Rattle.smk_value.specs.declared.fault.ValueFault.TheVariants.{UnequalZip};
+    ghost use Rattle.smk_eval_values.specs.declared.value.Value.TheVariants.{Word};
+    ghost use Rattle.smk_eval_values.specs.declared.fault.ValueFault.TheVariants.{UnequalZip};
 
     ghost seen = { λ _. record { constant = λ n. Some (Word n); outputs = λ _ _. Err UnequalZip; config = λ _. Err UnequalZip } };
 

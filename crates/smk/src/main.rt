@@ -2,7 +2,7 @@
 #![tactic(auto)]
 
 use smk_cli::smk;
-use smk_real::{RealSink, RealWork};
+use smk_world_real::{RealSink, RealWork};
 use std::alloc::{AllocError, Global};
 use std::io::ErrorKind;
 use std::process::ExitCode;

@@ -3,11 +3,11 @@
 use smk_base::{PathText, one};
 use smk_config::Config;
 use smk_eval::{EvalFault, evaluate};
-use smk_files::ReadFile;
+use smk_eval_files::ReadFile;
 use smk_flow::Workflow;
 use smk_lex::{LexFault, lex};
 use smk_parse::{ParseFault, parse};
-use smk_tree::Syntax;
+use smk_parse_tree::Syntax;
 use std::alloc::{AllocError, Global};
 
 type Told<T> = Result<T, &'static str>;

@@ -1,10 +1,10 @@
 //! A store in the working folder is made and loaded.
 
 use smk_base::{List, PathText, Place, Text, one};
-use smk_real::RealWork;
 use smk_record::{Record, write};
 use smk_store::{Kept, Store, StoreFault, load};
 use smk_world::{Files, Kind, Out, OutItem, Recipe};
+use smk_world_real::RealWork;
 use std::alloc::{AllocError, Global};
 use std::process::Processes;
 use std::rt::Files as FileSystem;

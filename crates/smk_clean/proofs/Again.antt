@@ -20,12 +20,12 @@ use Rattle.smk_run.specs.Duties.{Due, due, due_from}
 use Rattle.smk_plan.specs.Duties.{AreFor}
 use Rattle.smk_run.specs.Runs.{AreInOrder}
 use Rattle.smk_run.specs.Turns.{Turn}
-use Rattle.smk_asked.specs.declared.words.RunWords.{RunWords}
-use Rattle.smk_entry.specs.declared.asking.Asked.{Asked}
-use Rattle.smk_entry.specs.Entry.{IsAskedIn}
+use Rattle.smk_words.specs.declared.words.RunWords.{RunWords}
+use Rattle.smk_cli_entry.specs.declared.asking.Asked.{Asked}
+use Rattle.smk_cli_entry.specs.Entry.{IsAskedIn}
 use Rattle.smk_make.specs.Making.{GoesOn, NotFirm, NoMemory, Made}
-use Rattle.smk_preview.specs.declared.previewing.Previewed.{Previewed}
-use Rattle.smk_preview.specs.Previewing.{plan_of}
+use Rattle.smk_plan_preview.specs.declared.previewing.Previewed.{Previewed}
+use Rattle.smk_plan_preview.specs.Previewing.{plan_of}
 use Rattle.smk_serve.specs.Serving.{Went, Refused, Stopped, Worked, settings_of}
 use Rattle.smk_cli.specs.Whole.{IsRefusal, IsToServe}
 use Rattle.smk_exit.specs.Exit.{RunLeavesAllClean}

@@ -5,13 +5,13 @@ use Rattle.smk_pattern.specs.Shapes.{Text}
 use Rattle.smk_flow.specs.Flows.{Flow}
 use Rattle.smk_flow.specs.Targets.{all_paths}
 use Rattle.smk_flow.proofs.NoFault.{no_fault}
-use Rattle.smk_files.specs.Looks.{Nodes}
-use Rattle.smk_load.specs.declared.fault.LoadFault.{LoadFault}
-use Rattle.smk_load.specs.Loading.{loaded, Gives, FailsAs}
+use Rattle.smk_eval_files.specs.Looks.{Nodes}
+use Rattle.smk_eval.specs.declared.load_fault.LoadFault.{LoadFault}
+use Rattle.smk_eval.specs.Loading.{loaded, Gives, FailsAs}
 use Rattle.smk_report.specs.declared.fault.Fault.{Fault}
-use Rattle.smk_entry.specs.declared.reading.Reading.{Reading}
-use Rattle.smk_entry.specs.declared.asking.Asked.{Asked}
-use Rattle.smk_entry.specs.Entry.{IsAskedIn, IsRead, FailsToAsk, asked_words, reading_of, refused_word}
+use Rattle.smk_cli_entry.specs.declared.reading.Reading.{Reading}
+use Rattle.smk_cli_entry.specs.declared.asking.Asked.{Asked}
+use Rattle.smk_cli_entry.specs.Entry.{IsAskedIn, IsRead, FailsToAsk, asked_words, reading_of, refused_word}
 
 file_same : (a b : Path) → ◌≡◌ {A = Result Path Fault} (Ok a) (Ok b) → a ≡ b
 file_same a b e = cc

@@ -9,13 +9,13 @@ use Rattle.smk_store.specs.Images.{Image, seen}
 use Rattle.smk_store.specs.Soundness.{Outside}
 use Rattle.smk_chain.specs.Derive.{Derived, Refused, Listings, Refusal, TooManyPaths, Deep, NoRule, NoInput, TwoJobs, MissingMember, NoCommand, Clash, derivation, distinct, listing}
 use Rattle.smk_plan.specs.States.{Plan, IsPlan, LastPlan, Last, Then, nothing_done, awaited, awaits, directory_over, files_listed, gathers_from, is_ready, new_listings}
-use Rattle.smk_protocol.proofs.Basics.{each_in}
+use Rattle.smk_laws_protocol.proofs.Basics.{each_in}
 use Rattle.smk_laws_history.proofs.CurrentComplete.{seen_is_complete}
 use Rattle.smk_laws_plan.proofs.PlanOne.{one_plan}
 use Rattle.smk_report.specs.declared.fault.Fault.{Fault}
 use Rattle.smk_drive.specs.Moments.{Rules}
 use Rattle.smk_drive.specs.Refusals.{IsFault, ChainRefuses, DerivationRefuses, PlanRefuses, NextRefuses, refused_of}
-use Rattle.smk_entry.specs.Forms.{unbuilt}
+use Rattle.smk_cli_entry.specs.Forms.{unbuilt}
 use Rattle.smk_safe.specs.Planned.{IsPlain}
 use Rattle.smk_safe.proofs.Planned.{flat_none, no_directory}
 use Rattle.smk_clean.specs.Standing.{IsSameFault}

@@ -19,7 +19,7 @@ use Rattle.smk_pick.specs.declared.settings.Settings.{Settings}
 use Rattle.smk_trigger.specs.declared.reason.State.{State}
 use Rattle.smk_trigger.specs.JobStates.{is_open}
 use Rattle.smk_plan.specs.States.{Plan, IsPlan, LastPlan, Last, gathers_from, is_current, nothing_done, staged, state_of}
-use Rattle.smk_protocol.proofs.Basics.{each_in}
+use Rattle.smk_laws_protocol.proofs.Basics.{each_in}
 use Rattle.smk_laws_plan.specs.Current.{IsClean}
 use Rattle.smk_laws_history.proofs.CurrentComplete.{seen_is_complete}
 use Rattle.smk_laws_plan.proofs.CurrentMeaning.{contains_from, in_from}
@@ -38,15 +38,15 @@ use Rattle.smk_run.specs.Duties.{Due, due, due_from, serials}
 use Rattle.smk_run.specs.Reports.{failure, named}
 use Rattle.smk_run.specs.Runs.{IsOutcome as IsRunOutcome, course_failure, first_failure, or_later}
 use Rattle.smk_run.specs.Turns.{Course, Unbegun, Unstarted, Unclosed, Closed, Turn, AreTurns, is_closed, is_done}
-use Rattle.smk_asked.specs.declared.words.RunWords.{RunWords}
-use Rattle.smk_asked.specs.declared.words.Request.TheVariants.{Run as Asks}
-use Rattle.smk_entry.specs.declared.asking.Asked.{Asked}
-use Rattle.smk_entry.specs.Forms.{unbuilt}
+use Rattle.smk_words.specs.declared.words.RunWords.{RunWords}
+use Rattle.smk_words.specs.declared.words.Request.TheVariants.{Run as Asks}
+use Rattle.smk_cli_entry.specs.declared.asking.Asked.{Asked}
+use Rattle.smk_cli_entry.specs.Forms.{unbuilt}
 use Rattle.smk_make.specs.Closing.{verdict_of}
 use Rattle.smk_make.specs.Faults.{of_store}
 use Rattle.smk_make.specs.Making.{AreWhatIsMeant, Concludes, GoesOn, NotFirm, NoMemory, Made}
-use Rattle.smk_preview.specs.declared.previewing.Previewed.{Previewed}
-use Rattle.smk_preview.specs.Previewing.{plan_of, rules_for}
+use Rattle.smk_plan_preview.specs.declared.previewing.Previewed.{Previewed}
+use Rattle.smk_plan_preview.specs.Previewing.{plan_of, rules_for}
 use Rattle.smk_serve.specs.Serving.{HasKept, IsAtHand, Went, Refused, Stopped, Worked, settings_of}
 use Rattle.smk_cli.specs.Whole.{HasServed, IsRefusal, IsToServe}
 use Rattle.smk_safe.specs.Planned.{IsPlain, IsFit}

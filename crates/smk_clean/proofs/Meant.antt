@@ -6,13 +6,13 @@ use Rattle.smk_pattern.specs.Shapes.{Text}
 use Rattle.smk_record.specs.declared.record.Record.{Record}
 use Rattle.smk_flow.specs.declared.job.Job.{Job}
 use Rattle.smk_flow.specs.Flows.{Flow}
-use Rattle.smk_files.specs.Looks.{Nodes}
+use Rattle.smk_eval_files.specs.Looks.{Nodes}
 use Rattle.smk_store.specs.Images.{Image, core_at, seen}
 use Rattle.smk_store.specs.Trust.{holder}
 use Rattle.smk_chain.specs.Derive.{Listings, distinct, job, same_candidate, sources_of, walk}
 use Rattle.smk_pick.specs.declared.settings.Settings.{Settings}
 use Rattle.smk_plan.specs.States.{Plan, Progress, IsPlan, LastPlan, Last, Then, nothing_done, makes}
-use Rattle.smk_protocol.proofs.Basics.{each_in}
+use Rattle.smk_laws_protocol.proofs.Basics.{each_in}
 use Rattle.smk_laws_plan.specs.Current.{IsComplete}
 use Rattle.smk_laws_history.proofs.CurrentComplete.{seen_is_complete}
 use Rattle.smk_laws_plan.proofs.CurrentLists.{distinct_in, flat_in, map_in}
@@ -20,19 +20,19 @@ use Rattle.smk_laws_plan.proofs.CurrentPaths.{in_among}
 use Rattle.smk_laws_plan.proofs.CurrentWalked.{walked_chosen}
 use Rattle.smk_laws_plan.proofs.PlanOne.{chosen_makes, derived}
 use Rattle.smk_plan.specs.declared.duty.Duty.{Duty}
-use Rattle.smk_duties.specs.Meaning.{IsSpokenFor, AreMeant}
+use Rattle.smk_plan_duties.specs.Meaning.{IsSpokenFor, AreMeant}
 use Rattle.smk_make.specs.Making.{AreWhatIsMeant}
-use Rattle.smk_entry.specs.declared.asking.Asked.{Asked}
-use Rattle.smk_entry.specs.Entry.{IsAskedIn}
-use Rattle.smk_entry.specs.Forms.{not_built, unbuilt}
-use Rattle.smk_preview.specs.declared.previewing.Previewed.{Previewed}
-use Rattle.smk_preview.specs.Previewing.{plan_of}
+use Rattle.smk_cli_entry.specs.declared.asking.Asked.{Asked}
+use Rattle.smk_cli_entry.specs.Entry.{IsAskedIn}
+use Rattle.smk_cli_entry.specs.Forms.{not_built, unbuilt}
+use Rattle.smk_plan_preview.specs.declared.previewing.Previewed.{Previewed}
+use Rattle.smk_plan_preview.specs.Previewing.{plan_of}
 use Rattle.smk_serve.specs.Serving.{IsPlanFor, settings_of}
 use Rattle.smk_safe.specs.Planned.{IsPlain}
 use Rattle.smk_safe.proofs.Images.{holder_own}
 use Rattle.smk_safe.proofs.Planned.{plain_makes}
-use Rattle.smk_dues.specs.Dues.{TellsMakers}
-use Rattle.smk_preview.proofs.Agreed.{own_records}
+use Rattle.smk_exit.specs.Dues.{TellsMakers}
+use Rattle.smk_plan_preview.proofs.Agreed.{own_records}
 use Rattle.smk_serve.proofs.Plain.{each_from, neither}
 use Rattle.smk_clean.proofs.Plain.{planned_plain}
 use Rattle.smk_clean.proofs.Told.{tells_makers}

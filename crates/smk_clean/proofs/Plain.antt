@@ -7,7 +7,7 @@ use Rattle.smk_flow.specs.declared.job.Job.{Job}
 use Rattle.smk_flow.specs.Flows.{Flow, Candidate, gathers}
 use Rattle.smk_choose.specs.Choose.{Sources, choose, Make}
 use Rattle.smk_chain.specs.Derive.{Listings, distinct, job, recipe, same_candidate, sources_of, walk}
-use Rattle.smk_entry.specs.Forms.{unbuilt}
+use Rattle.smk_cli_entry.specs.Forms.{unbuilt}
 use Rattle.smk_laws_plan.proofs.CurrentChosen.{origin}
 use Rattle.smk_store.specs.Images.{Image}
 use Rattle.smk_pick.specs.declared.settings.Settings.{Settings}

@@ -28,9 +28,9 @@ use Rattle.smk_store.specs.Soundness.{Outside, SoundWorld}
 use Rattle.smk_store.specs.Steadying.{HasTried, all_signs, steady_requests}
 use Rattle.smk_store.specs.Stores.{Known}
 use Rattle.smk_store.specs.Trust.{Versions}
-use Rattle.smk_protocol.specs.Protocol.{RunState, Runs, Done, Next, Aside, Besides, Settle as SettleMove, Fail, IsLook, as_ok, now, runs}
-use Rattle.smk_protocol.specs.Midway.{IsTop, at_entry}
-use Rattle.smk_protocol.proofs.ProtocolHolds.{protocol_law}
+use Rattle.smk_laws_protocol.specs.Protocol.{RunState, Runs, Done, Next, Aside, Besides, Settle as SettleMove, Fail, IsLook, as_ok, now, runs}
+use Rattle.smk_laws_protocol.specs.Midway.{IsTop, at_entry}
+use Rattle.smk_laws_protocol.proofs.ProtocolHolds.{protocol_law}
 use Rattle.smk_laws_history.proofs.CurrentComplete.{seen_is_complete}
 use Rattle.smk_laws_plan.proofs.CurrentLists.{in_flat}
 use Rattle.smk_laws_plan.proofs.CurrentPaths.{among_in}
@@ -45,14 +45,14 @@ use Rattle.smk_run.specs.Runs.{AreInOrder, IsOutcome as IsRunOutcome}
 use Rattle.smk_run.specs.Stamps.{Serials}
 use Rattle.smk_run.specs.Turns.{Turn, AreTurns, is_closed}
 use Rattle.smk_made.proofs.Done.{follows_split}
-use Rattle.smk_asked.specs.declared.words.Request.{Request as Asking}
-use Rattle.smk_asked.specs.declared.words.Request.TheVariants.{Run, Preview}
-use Rattle.smk_entry.specs.declared.asking.Asked.{Asked}
-use Rattle.smk_entry.specs.Forms.{unbuilt}
+use Rattle.smk_words.specs.declared.words.Request.{Request as Asking}
+use Rattle.smk_words.specs.declared.words.Request.TheVariants.{Run, Preview}
+use Rattle.smk_cli_entry.specs.declared.asking.Asked.{Asked}
+use Rattle.smk_cli_entry.specs.Forms.{unbuilt}
 use Rattle.smk_make.specs.Faults.{of_store}
 use Rattle.smk_make.specs.Making.{AreWhatIsMeant, Concludes, GoesOn, NotFirm, NoMemory, Made}
-use Rattle.smk_preview.specs.declared.previewing.Previewed.{Previewed}
-use Rattle.smk_preview.specs.Previewing.{plan_of}
+use Rattle.smk_plan_preview.specs.declared.previewing.Previewed.{Previewed}
+use Rattle.smk_plan_preview.specs.Previewing.{plan_of}
 use Rattle.smk_serve.specs.Serving.{HasKept, IsAtHand, Went, Refused, Stopped, Worked, settings_of}
 use Rattle.smk_cli.specs.Faults.{fault_of}
 use Rattle.smk_cli.specs.Lines.{IsOutcome}
@@ -63,7 +63,7 @@ use Rattle.smk_safe.proofs.Going.{safe_here}
 use Rattle.smk_safe.proofs.Joining.{AreLooks, look_all, looks_same}
 use Rattle.smk_safe.proofs.Safe.{front}
 use Rattle.smk_safe.proofs.Stored.{fold_holds, is_top, signs_are_all}
-use Rattle.smk_dues.proofs.Dues.{due_run_is_safe}
+use Rattle.smk_exit.proofs.Dues.{due_run_is_safe}
 use Rattle.smk_clean.specs.Safe.{CallIsSafe, IsSafeCall}
 use Rattle.smk_clean.proofs.Firsts.{firsts_same}
 use Rattle.smk_clean.proofs.Fit.{all_fit}

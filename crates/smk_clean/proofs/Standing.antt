@@ -9,10 +9,10 @@ use Rattle.smk_store.specs.Soundness.{Outside}
 use Rattle.smk_report.specs.declared.fault.Fault.{Fault}
 use Rattle.smk_report.specs.declared.fault.Fault.TheVariants as fault
 use Rattle.smk_report.specs.Lines.{Text}
-use Rattle.smk_entry.specs.declared.asking.Asked.{Asked}
-use Rattle.smk_entry.specs.Entry.{IsAskedIn}
-use Rattle.smk_preview.specs.declared.previewing.Previewed.{Previewed}
-use Rattle.smk_preview.specs.Previewing.{plan_of, rules_for}
+use Rattle.smk_cli_entry.specs.declared.asking.Asked.{Asked}
+use Rattle.smk_cli_entry.specs.Entry.{IsAskedIn}
+use Rattle.smk_plan_preview.specs.declared.previewing.Previewed.{Previewed}
+use Rattle.smk_plan_preview.specs.Previewing.{plan_of, rules_for}
 use Rattle.smk_serve.specs.Serving.{HasOnlyLooked, IsRefusedPlan, IsWant, Went, Refused, Stopped, Worked, settings_of}
 use Rattle.smk_cli.specs.Faults.{fault_of}
 use Rattle.smk_cli.specs.Lines.{IsOutcome}

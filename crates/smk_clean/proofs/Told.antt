@@ -8,18 +8,18 @@ use Rattle.smk_flow.specs.declared.job.Job.{Job}
 use Rattle.smk_store.specs.Images.{Image}
 use Rattle.smk_chain.specs.declared.jobs.Jobs.{Jobs}
 use Rattle.smk_chain.specs.declared.jobs.Maker.{Maker}
-use Rattle.smk_walk.specs.Links.{maker_told}
+use Rattle.smk_chain_walk.specs.Links.{maker_told}
 use Rattle.smk_trigger.specs.declared.reason.State.{State}
 use Rattle.smk_pick.specs.declared.settings.Settings.{Settings}
 use Rattle.smk_plan.specs.Sights.{job_at}
 use Rattle.smk_plan.specs.States.{Plan, HasStates, nothing_done, gathers_from, makes, maker_of, staged, state_of}
-use Rattle.smk_protocol.proofs.Basics.{each_in}
+use Rattle.smk_laws_protocol.proofs.Basics.{each_in}
 use Rattle.smk_laws_plan.proofs.CurrentLists.{in_left}
 use Rattle.smk_plan.specs.Duties.{maker_in}
-use Rattle.smk_states.specs.Served.{AreServed, IsBelow, IsToldOf, ReadEarlier}
-use Rattle.smk_states.specs.Judged.{with_states}
+use Rattle.smk_plan_states.specs.Served.{AreServed, IsBelow, IsToldOf, ReadEarlier}
+use Rattle.smk_plan_states.specs.Judged.{with_states}
 use Rattle.smk_safe.specs.Planned.{IsRead}
-use Rattle.smk_dues.specs.Dues.{TellsMakers}
+use Rattle.smk_exit.specs.Dues.{TellsMakers}
 
 -- ## What is told of a path
 

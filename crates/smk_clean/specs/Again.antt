@@ -16,12 +16,12 @@ use Rattle.smk_plan.specs.States.{Plan, LastPlan, is_current}
 use Rattle.smk_report.specs.declared.fault.Fault.{Fault}
 use Rattle.smk_report.specs.Lines.{Text}
 use Rattle.smk_run.specs.Turns.{Turn}
-use Rattle.smk_asked.specs.declared.words.RunWords.{RunWords}
-use Rattle.smk_asked.specs.declared.words.Request.TheVariants.{Run}
-use Rattle.smk_entry.specs.declared.asking.Asked.{Asked}
-use Rattle.smk_entry.specs.Entry.{IsAskedIn}
+use Rattle.smk_words.specs.declared.words.RunWords.{RunWords}
+use Rattle.smk_words.specs.declared.words.Request.TheVariants.{Run}
+use Rattle.smk_cli_entry.specs.declared.asking.Asked.{Asked}
+use Rattle.smk_cli_entry.specs.Entry.{IsAskedIn}
 use Rattle.smk_make.specs.Making.{GoesOn, NotFirm, NoMemory, Made}
-use Rattle.smk_preview.specs.declared.previewing.Previewed.{Previewed}
+use Rattle.smk_plan_preview.specs.declared.previewing.Previewed.{Previewed}
 use Rattle.smk_serve.specs.Serving.{IsAtHand, Went, Refused, Stopped, Worked, settings_of}
 use Rattle.smk_cli.specs.Whole.{HasServed}
 use Rattle.smk_exit.specs.Exit.{begun_so}

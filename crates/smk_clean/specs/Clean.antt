@@ -12,10 +12,10 @@ use Rattle.smk_chain.specs.Mean.{Setting, setting_of}
 use Rattle.smk_laws_plan.specs.Current.{IsClean}
 use Rattle.smk_report.specs.declared.fault.Fault.{Fault}
 use Rattle.smk_report.specs.Lines.{Text}
-use Rattle.smk_asked.specs.declared.words.RunWords.{RunWords}
-use Rattle.smk_asked.specs.declared.words.Request.TheVariants.{Run}
-use Rattle.smk_entry.specs.declared.asking.Asked.{Asked}
-use Rattle.smk_entry.specs.Entry.{IsAskedIn}
+use Rattle.smk_words.specs.declared.words.RunWords.{RunWords}
+use Rattle.smk_words.specs.declared.words.Request.TheVariants.{Run}
+use Rattle.smk_cli_entry.specs.declared.asking.Asked.{Asked}
+use Rattle.smk_cli_entry.specs.Entry.{IsAskedIn}
 use Rattle.smk_serve.specs.Serving.{IsAtHand}
 use Rattle.smk_cli.specs.Whole.{HasServed}
 

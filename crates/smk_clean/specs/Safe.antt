@@ -6,11 +6,11 @@ use Rattle.smk_world.specs.Calls.{Rose}
 use Rattle.smk_world.specs.Runs.{Follows}
 use Rattle.smk_store.specs.Soundness.{Outside, SoundWorld}
 use Rattle.smk_store.specs.Trust.{Versions}
-use Rattle.smk_protocol.specs.Protocol.{RunState, Runs}
-use Rattle.smk_protocol.specs.Midway.{HasSafeImages, IsTop, at_entry}
+use Rattle.smk_laws_protocol.specs.Protocol.{RunState, Runs}
+use Rattle.smk_laws_protocol.specs.Midway.{HasSafeImages, IsTop, at_entry}
 use Rattle.smk_report.specs.declared.fault.Fault.{Fault}
 use Rattle.smk_report.specs.Lines.{Text}
-use Rattle.smk_asked.specs.declared.words.Request.{Request}
+use Rattle.smk_words.specs.declared.words.Request.{Request}
 use Rattle.smk_serve.specs.Serving.{IsAtHand}
 use Rattle.smk_cli.specs.Whole.{HasServed}
 

@@ -7,10 +7,10 @@ use Rattle.smk_record.specs.declared.record.Record.{Record}
 use Rattle.smk_report.specs.declared.fault.Fault.{Fault}
 use Rattle.smk_report.specs.declared.fault.Fault.TheVariants as fault
 use Rattle.smk_report.specs.Lines.{Text}
-use Rattle.smk_asked.specs.declared.words.RunWords.{RunWords}
-use Rattle.smk_asked.specs.declared.words.Request.TheVariants.{Run}
-use Rattle.smk_entry.specs.declared.asking.Asked.{Asked}
-use Rattle.smk_entry.specs.Entry.{IsAskedIn}
+use Rattle.smk_words.specs.declared.words.RunWords.{RunWords}
+use Rattle.smk_words.specs.declared.words.Request.TheVariants.{Run}
+use Rattle.smk_cli_entry.specs.declared.asking.Asked.{Asked}
+use Rattle.smk_cli_entry.specs.Entry.{IsAskedIn}
 use Rattle.smk_serve.specs.Serving.{HasOnlyLooked, IsRefusedPlan, IsWant}
 use Rattle.smk_cli.specs.Whole.{HasServed, IsRefusal}
 

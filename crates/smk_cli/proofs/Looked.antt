@@ -2,8 +2,8 @@
 use Rattle.std.proofs.Common.{ℕ, List, Option}
 use Rattle.smk_world.specs.World.{World}
 use Rattle.smk_record.specs.declared.record.Record.{Record}
-use Rattle.smk_members.proofs.Trees.{tree_still}
-use Rattle.smk_preview.proofs.Looked.{IsSameFolder}
+use Rattle.smk_store_members.proofs.Trees.{tree_still}
+use Rattle.smk_plan_preview.proofs.Looked.{IsSameFolder}
 use Rattle.smk_serve.specs.Serving.{IsAtHand}
 
 -- what is at hand stays so

@@ -2,7 +2,7 @@
 use Rattle.std.proofs.Common.{◌≡◌, ◌⊎◌, true, inl, inr, sym, ap, ◌∙◌, Option, Some, None, Result, Ok, Err, true≢false}
 use Rattle.smk_report.specs.declared.fault.Fault.{Fault}
 use Rattle.smk_report.specs.declared.fault.Fault.TheVariants as fault
-use Rattle.smk_entry.specs.Faults.{is_device, is_sink, device_failed}
+use Rattle.smk_cli_entry.specs.Faults.{is_device, is_sink, device_failed}
 use Rattle.smk_serve.specs.Ends.{sink_failed}
 use Rattle.smk_cli.specs.Faults.{fault_of}
 use Rattle.smk_cli.specs.Lines.{IsOutcome}

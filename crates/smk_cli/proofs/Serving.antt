@@ -5,20 +5,20 @@ use Rattle.smk_world.specs.Trees.{Act}
 use Rattle.smk_pattern.specs.Shapes.{Text}
 use Rattle.smk_record.specs.declared.record.Record.{Record}
 use Rattle.smk_report.specs.declared.fault.Fault.{Fault}
-use Rattle.smk_asked.specs.declared.words.Request.{Request}
-use Rattle.smk_asked.specs.declared.words.Request.TheVariants.{Run, Preview}
+use Rattle.smk_words.specs.declared.words.Request.{Request}
+use Rattle.smk_words.specs.declared.words.Request.TheVariants.{Run, Preview}
 use Rattle.smk_store.specs.Images.{seen}
 use Rattle.smk_plan.specs.States.{nothing_done}
 use Rattle.smk_drive.specs.Refusals.{ChainRefuses}
-use Rattle.smk_entry.specs.declared.asking.Asked.{Asked}
-use Rattle.smk_entry.specs.Entry.{IsAskedIn}
-use Rattle.smk_preview.specs.declared.previewing.Previewed.{Previewed}
-use Rattle.smk_preview.specs.Previewing.{rules_for, IsPreviewed}
+use Rattle.smk_cli_entry.specs.declared.asking.Asked.{Asked}
+use Rattle.smk_cli_entry.specs.Entry.{IsAskedIn}
+use Rattle.smk_plan_preview.specs.declared.previewing.Previewed.{Previewed}
+use Rattle.smk_plan_preview.specs.Previewing.{rules_for, IsPreviewed}
 use Rattle.smk_serve.specs.Serving.{IsWant, IsRefusedPlan, IsServed, settings_of, Stopped}
 use Rattle.smk_serve.specs.Serving as serving
 use Rattle.smk_serve.proofs.Went.{looked_not}
 use Rattle.smk_cli.specs.Whole.{Serves, IsRefusal, OfPlan, IsToServe}
-use Rattle.smk_preview.proofs.Looked.{IsSameFolder, seen_moved}
+use Rattle.smk_plan_preview.proofs.Looked.{IsSameFolder, seen_moved}
 
 pub no_device : (b : Bool) → b ≡ false → ¬ (b ≡ true)
 no_device b e h = never (sym h ∙ e)

@@ -3,10 +3,10 @@ use native.Mathlib.Omega.{arith}
 use Rattle.std.proofs.Common.{◌≡◌, ◌⊎◌, ◌≤◌, ◌<◌, ℕ, List, ◌∷◌, inl, inr, sym, ap, ap₂, ◌∙◌, ◌^◌}
 use Rattle.std.specs.Prelude.{decimal, codes}
 use Rattle.std.proofs.lemmas.Fmt.{decimal_injective}
-use Rattle.smk_asked.specs.declared.words.Request.{Request}
-use Rattle.smk_asked.specs.declared.words.Request.TheVariants.{Run, Preview}
-use Rattle.smk_asked.specs.declared.words.RunWords.{RunWords}
-use Rattle.smk_asked.specs.Words.{IsAsked, Text}
+use Rattle.smk_words.specs.declared.words.Request.{Request}
+use Rattle.smk_words.specs.declared.words.Request.TheVariants.{Run, Preview}
+use Rattle.smk_words.specs.declared.words.RunWords.{RunWords}
+use Rattle.smk_words.specs.Words.{IsAsked, Text}
 use Rattle.smk_report.specs.declared.fault.Fault.{Fault}
 use Rattle.smk_report.specs.declared.fault.Fault.TheVariants as fault
 

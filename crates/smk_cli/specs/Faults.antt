@@ -1,7 +1,7 @@
 -- Faults of the parts as those of the call.
 use Rattle.std.specs.Prelude.{Option, Some, None, Result, Ok, Err}
-use Rattle.smk_asked.specs.declared.words.WordsFault.{WordsFault}
-use Rattle.smk_asked.specs.declared.words.WordsFault.TheVariants as words
+use Rattle.smk_words.specs.declared.words.WordsFault.{WordsFault}
+use Rattle.smk_words.specs.declared.words.WordsFault.TheVariants as words
 use Rattle.smk_report.specs.declared.fault.Fault.{Fault}
 use Rattle.smk_report.specs.declared.fault.Fault.TheVariants as fault
 

@@ -5,11 +5,11 @@ use Rattle.smk_world.specs.Trees.{Act}
 use Rattle.smk_pattern.specs.Shapes.{Text}
 use Rattle.smk_record.specs.declared.record.Record.{Record}
 use Rattle.smk_report.specs.declared.fault.Fault.{Fault}
-use Rattle.smk_asked.specs.declared.words.Request.{Request}
-use Rattle.smk_asked.specs.declared.words.Request.TheVariants.{Run, Preview}
-use Rattle.smk_entry.specs.declared.asking.Asked.{Asked}
-use Rattle.smk_entry.specs.Entry.{IsAskedIn, FailsToAsk}
-use Rattle.smk_preview.specs.declared.previewing.Previewed.{Previewed}
+use Rattle.smk_words.specs.declared.words.Request.{Request}
+use Rattle.smk_words.specs.declared.words.Request.TheVariants.{Run, Preview}
+use Rattle.smk_cli_entry.specs.declared.asking.Asked.{Asked}
+use Rattle.smk_cli_entry.specs.Entry.{IsAskedIn, FailsToAsk}
+use Rattle.smk_plan_preview.specs.declared.previewing.Previewed.{Previewed}
 use Rattle.smk_serve.specs.Serving.{IsRefusedPlan, IsPlanFor, HasKept, HasListed, Went}
 use Rattle.smk_cli.specs.Faults.{fault_of}
 use Rattle.smk_cli.specs.Lines.{IsOutcome}

@@ -3,8 +3,8 @@
 ghost use Rattle.std.specs.Prelude.{◌≡◌};
 ghost use Rattle.smk_cli.specs.Faults as spec;
 
-use smk_asked::WordsFault;
 use smk_report::Fault;
+use smk_words::WordsFault;
 
 pub(crate) fn of_words(fault: WordsFault) -> Fault
     ensures { result ≡ spec.of_words fault }

@@ -7,9 +7,9 @@ ghost use Rattle.smk_record.specs.declared.record.Record.{Record as RecordValue}
 ghost use Rattle.smk_report.specs.declared.fault.Fault.{Fault as FaultValue};
 ghost use Rattle.smk_report.specs.Faults as report;
 ghost use Rattle.smk_run.specs.Reports.{HasWritten};
-ghost use Rattle.smk_asked.specs.declared.words.Request.{Request as RequestValue};
-ghost use Rattle.smk_asked.specs.Words.{IsAsked};
-ghost use Rattle.smk_entry.specs.Faults.{device_failed, is_sink};
+ghost use Rattle.smk_words.specs.declared.words.Request.{Request as RequestValue};
+ghost use Rattle.smk_words.specs.Words.{IsAsked};
+ghost use Rattle.smk_cli_entry.specs.Faults.{device_failed, is_sink};
 ghost use Rattle.smk_serve.specs.Ends.{HasEnded};
 ghost use Rattle.smk_serve.specs.Serving.{IsAtHand, HasKept, HasListed, Went};
 ghost use Rattle.smk_cli.specs.Faults as faults;
@@ -18,11 +18,11 @@ ghost use Rattle.smk_cli.specs.Whole.{IsRefusal, IsToServe, Serves, HasServed};
 
 use crate::faults::of_words;
 use crate::outcome::Outcome;
-use smk_asked::{Request, RunWords, read_words};
 use smk_base::OutOfMemory;
-use smk_entry::ask;
+use smk_cli_entry::ask;
 use smk_report::{Fault, fault_line};
 use smk_serve::{list_plan, make_targets};
+use smk_words::{Request, RunWords, read_words};
 use smk_world::{Crew, Failed, Files, Sink};
 use std::alloc::Global;
 use std::thread::Threads;

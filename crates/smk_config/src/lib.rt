@@ -9,6 +9,3 @@ mod value;
 pub use config::Config;
 pub use fault::ConfigFault;
 pub use value::Value;
-
-#[cfg(test)]
-mod tests;

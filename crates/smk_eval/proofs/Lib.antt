@@ -1,3 +1,6 @@
 pub mod Placed
 pub mod Settings
 pub mod Told
+pub mod Merging
+pub mod Giving
+pub mod Steps

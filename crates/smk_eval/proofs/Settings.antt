@@ -5,8 +5,8 @@ use Rattle.serde_json.specs.Data.{Data, Members, object}
 use Rattle.smk_config.specs.declared.value.Value.{Value as Setting}
 use Rattle.smk_config.specs.declared.value.Value.TheVariants as of_config
 use Rattle.smk_config.specs.Settings.{under, given}
-use Rattle.smk_value.specs.declared.value.Value.TheVariants.{Word, Many}
-use Rattle.smk_value.specs.declared.fault.ValueFault.TheVariants.{NoKey, BadConfig}
+use Rattle.smk_eval_values.specs.declared.value.Value.TheVariants.{Word, Many}
+use Rattle.smk_eval_values.specs.declared.fault.ValueFault.TheVariants.{NoKey, BadConfig}
 use Rattle.smk_eval.specs.Settings.{joined, as_value, found_value, config_value}
 
 found_is : (keys : List (List ℕ)) (o : Option Data) (v : Setting) → option_and_then given o ≡ Some v → found_value keys o ≡ as_value keys (Some v)

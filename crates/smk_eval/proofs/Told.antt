@@ -1,7 +1,7 @@
 -- Faults of statements and of the checks.
 use Rattle.std.proofs.Common.{◌≡◌, ◌≢◌, ◌⊎◌, inl, inr, ℕ, List, Result, Ok, Err, ap, sym, subst, refl, ◌∙◌}
-use Rattle.smk_value.specs.declared.fault.ValueFault.{ValueFault}
-use Rattle.smk_value.specs.declared.fault.ValueFault.TheVariants as of_value
+use Rattle.smk_eval_values.specs.declared.fault.ValueFault.{ValueFault}
+use Rattle.smk_eval_values.specs.declared.fault.ValueFault.TheVariants as of_value
 use Rattle.smk_flow.specs.declared.fault.FlowFault.{FlowFault}
 use Rattle.smk_flow.specs.declared.fault.FlowFault.TheVariants as of_rules
 use Rattle.smk_flow.specs.Flows.{Flow}

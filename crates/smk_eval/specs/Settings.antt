@@ -4,9 +4,9 @@ use Rattle.serde_json.specs.Data.{Data, object, Members}
 use Rattle.smk_config.specs.declared.value.Value.{Value as Setting}
 use Rattle.smk_config.specs.declared.value.Value.TheVariants as of_config
 use Rattle.smk_config.specs.Settings.{under, given}
-use Rattle.smk_value.specs.declared.value.Value.TheVariants.{Word, Many}
-use Rattle.smk_value.specs.declared.fault.ValueFault.TheVariants.{NoKey, BadConfig}
-use Rattle.smk_value.specs.Expressions.{Valued}
+use Rattle.smk_eval_values.specs.declared.value.Value.TheVariants.{Word, Many}
+use Rattle.smk_eval_values.specs.declared.fault.ValueFault.TheVariants.{NoKey, BadConfig}
+use Rattle.smk_eval_values.specs.Expressions.{Valued}
 
 -- keys that follow a key, each behind a point
 abbrev pub more_keys : List (List ℕ) → List ℕ

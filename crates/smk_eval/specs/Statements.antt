@@ -2,26 +2,26 @@
 use Rattle.std.specs.Prelude.{◌≡◌, ◌⊎◌, ℕ, List, [], ◌∷◌, ◌++◌, map, bytes_eq, if◌then◌else◌, Option, Some, None, Result, Ok, Err}
 use Rattle.serde_json.specs.Data.{Members}
 use Rattle.smk_base.specs.declared.tree.Pair.{Pair}
-use Rattle.smk_tree.specs.declared.syntax.Form.{Form}
-use Rattle.smk_tree.specs.declared.syntax.Form.TheVariants.{Assign, Rule, Order, LocalRules, ConfigFile, Include, Container, Limits}
-use Rattle.smk_tree.specs.declared.syntax.OutputPick.{OutputPick}
-use Rattle.smk_tree.specs.declared.syntax.Expr.{Expr}
-use Rattle.smk_tree.specs.declared.syntax.RuleForm.{RuleForm}
-use Rattle.smk_tree.specs.declared.syntax.ItemForm.{ItemForm}
-use Rattle.smk_value.specs.declared.value.Value.{Value}
-use Rattle.smk_value.specs.declared.fault.ValueFault.{ValueFault}
-use Rattle.smk_value.specs.declared.fault.ValueFault.TheVariants as of_value
-use Rattle.smk_value.specs.Expressions.{Scope, Valued, value_in}
+use Rattle.smk_parse_tree.specs.declared.syntax.Form.{Form}
+use Rattle.smk_parse_tree.specs.declared.syntax.Form.TheVariants.{Assign, Rule, Order, LocalRules, ConfigFile, Include, Container, Limits}
+use Rattle.smk_parse_tree.specs.declared.syntax.OutputPick.{OutputPick}
+use Rattle.smk_parse_tree.specs.declared.syntax.Expr.{Expr}
+use Rattle.smk_parse_tree.specs.declared.syntax.RuleForm.{RuleForm}
+use Rattle.smk_parse_tree.specs.declared.syntax.ItemForm.{ItemForm}
+use Rattle.smk_eval_values.specs.declared.value.Value.{Value}
+use Rattle.smk_eval_values.specs.declared.fault.ValueFault.{ValueFault}
+use Rattle.smk_eval_values.specs.declared.fault.ValueFault.TheVariants as of_value
+use Rattle.smk_eval_values.specs.Expressions.{Scope, Valued, value_in}
 use Rattle.smk_flow.specs.declared.rule.RulePart.{RulePart}
 use Rattle.smk_flow.specs.declared.rule.Clause.{Clause}
 use Rattle.smk_flow.specs.declared.fault.FlowFault.{FlowFault}
 use Rattle.smk_flow.specs.declared.fault.FlowFault.TheVariants as of_rules
 use Rattle.smk_flow.specs.Flows.{Flow}
 use Rattle.smk_flow.specs.Checks.{rule_in, IsWorkflow, IsFault}
-use Rattle.smk_parts.specs.Rules.{rule_of, global_limits, with_globals}
-use Rattle.smk_parts.specs.Outputs.{outputs_of}
-use Rattle.smk_files.specs.declared.files.ReadFile.{ReadFile}
-use Rattle.smk_files.specs.Texts.{Entry, whole}
+use Rattle.smk_eval_rules.specs.Rules.{rule_of, global_limits, with_globals}
+use Rattle.smk_eval_rules.specs.Outputs.{outputs_of}
+use Rattle.smk_eval_files.specs.declared.files.ReadFile.{ReadFile}
+use Rattle.smk_eval_files.specs.Texts.{Entry, whole}
 use Rattle.smk_eval.specs.declared.fault.EvalFault.{EvalFault}
 use Rattle.smk_eval.specs.declared.fault.EvalFault.TheVariants as fault
 use Rattle.smk_eval.specs.Settings.{config_value}

@@ -2,12 +2,12 @@
 
 ghost use Rattle.std.specs.Prelude.{◌≡◌, ◌++◌, IfOk, string_bytes};
 ghost use Rattle.smk_config.specs.Settings.{members};
-ghost use Rattle.smk_value.specs.Values.{Tells};
+ghost use Rattle.smk_eval_values.specs.Values.{Tells};
 ghost use Rattle.smk_eval.specs.Settings.{more_keys, joined, config_value};
 
 use smk_base::{List, OutOfMemory, Text};
 use smk_config::{Config, ConfigFault, Value as Setting};
-use smk_value::{Value, ValueFault};
+use smk_eval_values::{Value, ValueFault};
 use std::alloc::Global;
 
 // The keys with points between them.

@@ -4,7 +4,7 @@ ghost use Rattle.std.specs.Prelude.{◌≡◌, ◌≢◌, [], IfOk, IfErr};
 ghost use Rattle.smk_config.specs.Settings.{members};
 ghost use Rattle.smk_flow.specs.Checks.{IsWorkflow, IsFault};
 ghost use Rattle.smk_flow.specs.declared.fault.FlowFault.{FlowFault};
-ghost use Rattle.smk_files.specs.Placing.{entries};
+ghost use Rattle.smk_eval_files.specs.Placing.{entries};
 ghost use Rattle.smk_eval.specs.declared.fault.EvalFault.{EvalFault};
 ghost use Rattle.smk_eval.specs.Statements as spec;
 ghost use Rattle.smk_eval.specs.Seen.{state_of, Leads, Says};
@@ -15,11 +15,11 @@ use crate::scope::Known;
 use crate::state::{Said, State};
 use smk_base::{List, PathText, Text};
 use smk_config::Config;
-use smk_files::{Placed, ReadFile, text_of};
+use smk_eval_files::{Placed, ReadFile, text_of};
+use smk_eval_rules::{global_limits, rule_part};
+use smk_eval_values::value_of;
 use smk_flow::Workflow;
-use smk_parts::{global_limits, rule_part};
-use smk_tree::{Expr, Form, ItemForm, RuleForm};
-use smk_value::value_of;
+use smk_parse_tree::{Expr, Form, ItemForm, RuleForm};
 use std::alloc::Global;
 
 // `NAME = ..`

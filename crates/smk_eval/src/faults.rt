@@ -5,8 +5,8 @@ ghost use Rattle.smk_eval.specs.Statements.{told, of_flow};
 
 use crate::fault::EvalFault;
 use smk_base::{OutOfMemory, PathText, Text};
+use smk_eval_values::ValueFault;
 use smk_flow::FlowFault;
-use smk_value::ValueFault;
 use std::alloc::Global;
 
 /// The fault of a statement, which stands in this file and line, and in this rule where it is one.

@@ -1,9 +1,9 @@
 //! What names stand for after some statements.
 
 ghost use Rattle.std.specs.Prelude.{◌≡◌, ◌≢◌, option_map};
-ghost use Rattle.smk_value.specs.declared.fault.ValueFault.{ValueFault};
-ghost use Rattle.smk_value.specs.Values.{Tells};
-ghost use Rattle.smk_value.specs.Expressions.{known};
+ghost use Rattle.smk_eval_values.specs.declared.fault.ValueFault.{ValueFault};
+ghost use Rattle.smk_eval_values.specs.Values.{Tells};
+ghost use Rattle.smk_eval_values.specs.Expressions.{known};
 ghost use Rattle.smk_eval.specs.Statements.{outputs_in};
 ghost use Rattle.smk_eval.specs.Kept.{kept};
 
@@ -12,10 +12,10 @@ use crate::state::State;
 use crate::values::copy;
 use smk_base::{List, Text};
 use smk_config::Config;
+use smk_eval_rules::outputs_of;
+use smk_eval_values::{Scope, Value, ValueFault};
 use smk_flow::RulePart;
-use smk_parts::outputs_of;
-use smk_tree::OutputPick;
-use smk_value::{Scope, Value, ValueFault};
+use smk_parse_tree::OutputPick;
 use std::alloc::Global;
 
 /// What the statements so far lead to, and the configuration.

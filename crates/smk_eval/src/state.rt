@@ -1,15 +1,15 @@
 //! What the statements so far lead to.
 
 ghost use Rattle.std.specs.Prelude.{◌≡◌, ◌++◌, ◌∷◌, [], map, reverse, IfOk};
-ghost use Rattle.smk_parts.specs.Rules as parts;
+ghost use Rattle.smk_eval_rules.specs.Rules as parts;
 ghost use Rattle.smk_eval.specs.Statements.{begun, with_constant, with_rule, with_limits, with_order, flow_of};
 ghost use Rattle.smk_eval.specs.Seen.{state_of};
 
 use crate::above::Above;
 use smk_base::{Copied, List, OutOfMemory, Pair, PathText, Text};
+use smk_eval_rules::with_globals;
+use smk_eval_values::Value;
 use smk_flow::{Clause, RulePart};
-use smk_parts::with_globals;
-use smk_value::Value;
 use std::alloc::Global;
 use std::collections::BTreeMap;
 

@@ -3,7 +3,7 @@
 ghost use Rattle.std.specs.Prelude.{◌≡◌, IfOk};
 
 use smk_base::{Copied, OutOfMemory};
-use smk_value::{Flagged, Gathered, Value};
+use smk_eval_values::{Flagged, Gathered, Value};
 use std::alloc::Global;
 
 /// A copy, which is the equal value. `OutOfMemory` where there is no memory for it.

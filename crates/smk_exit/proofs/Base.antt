@@ -19,8 +19,8 @@ use Rattle.smk_store.specs.Images.{Content, Image, content_of, is_source, is_who
 use Rattle.smk_store.specs.Soundness.{Outside}
 use Rattle.smk_store.specs.Trust.{Versions, holder, is_marked_but, stamp_now_but, time_stamp, unmarked_stamp_but}
 use Rattle.smk_chain.specs.Derive.{distinct}
-use Rattle.smk_protocol.specs.Protocol.{now}
-use Rattle.smk_protocol.proofs.Basics.{each_in, each_of, none_of, some_of}
+use Rattle.smk_laws_protocol.specs.Protocol.{now}
+use Rattle.smk_laws_protocol.proofs.Basics.{each_in, each_of, none_of, some_of}
 use Rattle.smk_trigger.specs.declared.reason.Reason.{Reason}
 use Rattle.smk_trigger.specs.declared.reason.Reason.TheVariants.{Upstream}
 use Rattle.smk_trigger.specs.declared.reason.State.{State}
@@ -41,7 +41,7 @@ use Rattle.smk_safe.specs.Planned.{AreTurnsOf, IsPlain, KeepsSerial, TellsSerial
 use Rattle.smk_safe.proofs.Images.{source_of_both}
 use Rattle.smk_safe.proofs.Off.{NoneMakes}
 use Rattle.smk_safe.proofs.Planned as by_plan
-use Rattle.smk_dues.proofs.Dues.{due_tells, turns_of}
+use Rattle.smk_exit.proofs.Dues.{due_tells, turns_of}
 use Rattle.smk_exit.specs.Exit.{IsDueRun}
 use Rattle.smk_exit.proofs.Calm.{HoldsOne, own_none}
 use Rattle.smk_exit.proofs.Done as is_done_so

@@ -18,8 +18,8 @@ use Rattle.smk_record.specs.declared.record.Stamp.TheVariants.{Time, Made}
 use Rattle.smk_record.specs.Records.{agrees, same_flag, same_pair, same_stamp}
 use Rattle.smk_store.specs.declared.store.Kept.{Kept}
 use Rattle.smk_store.specs.declared.store.Kept.TheVariants.{Held}
-use Rattle.smk_protocol.proofs.Basics.{none_by}
-use Rattle.smk_protocol.proofs.SoundViews.{itself}
+use Rattle.smk_laws_protocol.proofs.Basics.{none_by}
+use Rattle.smk_laws_protocol.proofs.SoundViews.{itself}
 use Rattle.smk_laws_plan.proofs.CurrentLists.{filter_in, map_in}
 use Rattle.smk_trigger.specs.declared.reason.Reason.TheVariants.{New, Marked, BadRecord, Code, Params, Inputs, Updated}
 use Rattle.smk_trigger.specs.Reasons.{once, changes, changes_from, has_bad_record, all_same, held, is_absent, is_unreadable, is_updated, own_reasons, same_code, same_inputs, same_item, same_job, same_out, same_out_item, same_params, same_recipe, same_values, when}

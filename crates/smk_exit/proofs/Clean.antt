@@ -13,8 +13,8 @@ use Rattle.smk_store.specs.Soundness.{Outside}
 use Rattle.smk_store.specs.Trust.{Versions}
 use Rattle.smk_chain.specs.declared.jobs.Known.{Known}
 use Rattle.smk_chain.specs.Derive.{job, listing, sources_of}
-use Rattle.smk_protocol.specs.Protocol.{now}
-use Rattle.smk_protocol.proofs.Basics.{each_in, each_of, none_by}
+use Rattle.smk_laws_protocol.specs.Protocol.{now}
+use Rattle.smk_laws_protocol.proofs.Basics.{each_in, each_of, none_by}
 use Rattle.smk_trigger.specs.declared.reason.State.{State}
 use Rattle.smk_trigger.specs.declared.reason.State.TheVariants.{Open, Dirty, Restore, Clean}
 use Rattle.smk_trigger.specs.JobStates.{is_clean, is_to_run}
@@ -34,7 +34,7 @@ use Rattle.smk_plan.specs.declared.duty.Duty.TheVariants.{Rest, Restore as Again
 use Rattle.smk_run.specs.Duties.{Due, due, due_from, serial_of}
 use Rattle.smk_run.specs.Runs.{AreInOrder}
 use Rattle.smk_run.specs.Turns.{Turn, is_closed, is_done}
-use Rattle.smk_duties.specs.Meaning.{IsMeant, AreMeant}
+use Rattle.smk_plan_duties.specs.Meaning.{IsMeant, AreMeant}
 use Rattle.smk_safe.specs.Planned.{IsPlain}
 use Rattle.smk_safe.proofs.Images.{source_of_both}
 use Rattle.smk_safe.proofs.Going.{done_closed}

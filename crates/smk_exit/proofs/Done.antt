@@ -31,8 +31,8 @@ use Rattle.smk_store.specs.declared.store.Kept.TheVariants.{Absent, Unreadable, 
 use Rattle.smk_store.specs.Images.{Image, core_at, is_source, is_whole, readable, source_at}
 use Rattle.smk_store.specs.Soundness.{Outside}
 use Rattle.smk_store.specs.Trust.{Versions, holder, made_stamp, stamp_now_but, time_stamp, unmarked_stamp_but}
-use Rattle.smk_protocol.specs.Protocol.{now}
-use Rattle.smk_protocol.proofs.Basics.{each_in, each_on}
+use Rattle.smk_laws_protocol.specs.Protocol.{now}
+use Rattle.smk_laws_protocol.proofs.Basics.{each_in, each_on}
 use Rattle.smk_pick.specs.declared.settings.Settings.{Settings}
 use Rattle.smk_plan.specs.States.{Plan}
 use Rattle.smk_laws_job.specs.Laws.{IsRecordable}
@@ -58,7 +58,7 @@ use Rattle.smk_safe.proofs.Images.{holder_own, source_of_both}
 use Rattle.smk_safe.proofs.Off.{AreClearOf, clear_none, marks_off, records_off, users_off}
 use Rattle.smk_safe.proofs.Product.{kept_there, whole_there, unmarked_there}
 use Rattle.smk_safe.proofs.Stamped.{IsTold, AreTold, turn_told}
-use Rattle.smk_dues.proofs.Dues.{done_but_last}
+use Rattle.smk_exit.proofs.Dues.{done_but_last}
 use Rattle.smk_exit.specs.Exit.{IsDueRun}
 use Rattle.smk_exit.proofs.Left as at_exit
 

@@ -12,8 +12,8 @@ use Rattle.smk_store.specs.Images.{Image, is_source, is_whole}
 use Rattle.smk_store.specs.Soundness.{Outside}
 use Rattle.smk_store.specs.Trust.{Versions}
 use Rattle.smk_chain.specs.Derive.{Derived, derivation, distinct}
-use Rattle.smk_protocol.specs.Protocol.{now}
-use Rattle.smk_protocol.proofs.Basics.{any_by, each_in, none_by, some_of}
+use Rattle.smk_laws_protocol.specs.Protocol.{now}
+use Rattle.smk_laws_protocol.proofs.Basics.{any_by, each_in, none_by, some_of}
 use Rattle.smk_trigger.specs.declared.reason.Reason.{Reason}
 use Rattle.smk_trigger.specs.declared.reason.Reason.TheVariants.{Upstream, Forced}
 use Rattle.smk_trigger.specs.declared.reason.State.{State}

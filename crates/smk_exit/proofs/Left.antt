@@ -14,8 +14,8 @@ use Rattle.smk_store.specs.Images.{Image, stands, is_known}
 use Rattle.smk_store.specs.Soundness.{Outside, SoundWorld, SameSources}
 use Rattle.smk_store.specs.Trust.{Versions}
 use Rattle.smk_chain.specs.Derive.{Derived, derivation, hinders, has_record_or_mark, spots}
-use Rattle.smk_protocol.specs.Protocol.{now}
-use Rattle.smk_protocol.proofs.Basics.{each_in, each_of}
+use Rattle.smk_laws_protocol.specs.Protocol.{now}
+use Rattle.smk_laws_protocol.proofs.Basics.{each_in, each_of}
 use Rattle.smk_pick.specs.declared.settings.Settings.{Settings}
 use Rattle.smk_plan.specs.States.{Plan}
 use Rattle.smk_laws_plan.specs.Current.{IsComplete}
@@ -27,7 +27,7 @@ use Rattle.smk_laws_plan.proofs.PlanOne.{derived_clear}
 use Rattle.smk_run.specs.Duties.{serials, due}
 use Rattle.smk_run.specs.Stamps.{Serials}
 use Rattle.smk_run.specs.Turns.{Turn, is_closed}
-use Rattle.smk_members.specs.Members.{AllIsFound}
+use Rattle.smk_store_members.specs.Members.{AllIsFound}
 use Rattle.smk_made.proofs.Disjoint.{flipped}
 use Rattle.smk_made.proofs.Sparing.{IsOffTurn, turns_kept}
 use Rattle.smk_safe.specs.Planned.{IsPlain}
@@ -39,7 +39,7 @@ use Rattle.smk_safe.proofs.Images.{kept_at, marked_at, node_at, sources_now}
 use Rattle.smk_safe.proofs.Off.{NoneMakes, NoneLogs, AreClearOf, records_off, marks_off, notes_off, users_off, made_or_none, logged_or_none}
 use Rattle.smk_safe.proofs.Planned.{no_folders, output_in_spots, log_in_spots}
 use Rattle.smk_safe.proofs.Safe.{HasStarted, has_started}
-use Rattle.smk_dues.proofs.Dues.{turn_at, get_in, due_turns_are_ready, due_run_is_safe, done_but_last, throughout_all}
+use Rattle.smk_exit.proofs.Dues.{turn_at, get_in, due_turns_are_ready, due_run_is_safe, done_but_last, throughout_all}
 use Rattle.smk_exit.specs.Exit.{IsDueRun, SameDerivation}
 use Rattle.smk_exit.proofs.Same.{IsFree, same_derivation}
 

@@ -7,3 +7,4 @@ pub mod Base
 pub mod Clean
 pub mod Kept
 pub mod Needed
+pub mod Dues

@@ -8,7 +8,7 @@ use Rattle.smk_flow.specs.Flows.{Flow}
 use Rattle.smk_store.specs.Images.{Image}
 use Rattle.smk_store.specs.Soundness.{Outside}
 use Rattle.smk_store.specs.Trust.{Versions}
-use Rattle.smk_protocol.specs.Protocol.{now}
+use Rattle.smk_laws_protocol.specs.Protocol.{now}
 use Rattle.smk_trigger.specs.declared.reason.State.{State}
 use Rattle.smk_trigger.specs.declared.reason.State.TheVariants.{Open, Dirty, Restore, Clean}
 use Rattle.smk_trigger.specs.JobStates.{is_to_run}
@@ -19,11 +19,11 @@ use Rattle.smk_run.specs.Duties.{due}
 use Rattle.smk_run.specs.Turns.{Turn, is_done}
 use Rattle.smk_safe.specs.Planned.{AreTurnsOf}
 use Rattle.smk_safe.proofs.Planned as by_plan
-use Rattle.smk_dues.proofs.Dues.{turns_of}
+use Rattle.smk_exit.proofs.Dues.{turns_of}
 use Rattle.smk_laws_plan.proofs.PlanOne.{derived_order}
 use Rattle.smk_laws_plan.proofs.PlanOrder.{InOrder, Served}
 use Rattle.smk_safe.specs.Ready.{AreDoneButLast}
-use Rattle.smk_dues.proofs.Dues.{done_but_last}
+use Rattle.smk_exit.proofs.Dues.{done_but_last}
 use Rattle.smk_exit.specs.Exit.{DoneJobsAreKept, HadDoneTurn, IsDueRun, IsKept, Kept}
 use Rattle.smk_exit.proofs.Left as at_exit
 

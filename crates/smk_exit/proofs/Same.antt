@@ -11,7 +11,7 @@ use Rattle.smk_store.specs.Images.{Content, Image, content_of, is_source, source
 use Rattle.smk_store.specs.Soundness.{SameSources}
 use Rattle.smk_chain.specs.Derive.{Listings, Clash, Deep, TooManyPaths, Derived, derivation, outcome, refused_if, reach, refused, is_deep, jobs, spots, clashes, hinders, sources_of}
 use Rattle.std.specs.Prelude.{nat_lt, length}
-use Rattle.smk_protocol.proofs.Basics.{some_of, any_by}
+use Rattle.smk_laws_protocol.proofs.Basics.{some_of, any_by}
 use Rattle.smk_laws_plan.specs.Current.{IsComplete}
 use Rattle.smk_laws_plan.proofs.CurrentLists.{filter_in, in_filter}
 use Rattle.smk_laws_plan.proofs.CurrentMeaning.{source_file}

@@ -10,7 +10,7 @@ use Rattle.smk_flow.specs.declared.job.Gather.{Gather}
 use Rattle.smk_store.specs.Images.{Image}
 use Rattle.smk_store.specs.Trust.{is_marked_but, stamp_now_but}
 use Rattle.smk_chain.specs.Derive.{distinct, listing}
-use Rattle.smk_protocol.proofs.Basics.{each_in}
+use Rattle.smk_laws_protocol.proofs.Basics.{each_in}
 use Rattle.smk_trigger.specs.declared.reason.Reason.{Reason}
 use Rattle.smk_trigger.specs.declared.reason.Reason.TheVariants.{Upstream, Forced}
 use Rattle.smk_trigger.specs.declared.reason.State.{State}

@@ -12,8 +12,8 @@ use Rattle.smk_store.specs.Soundness.{Outside, SoundWorld}
 use Rattle.smk_store.specs.Trust.{Versions}
 use Rattle.smk_chain.specs.declared.jobs.Maker.{Maker}
 use Rattle.smk_chain.specs.Derive.{Derived, derivation}
-use Rattle.smk_protocol.specs.Protocol.{now}
-use Rattle.smk_protocol.specs.Midway.{IsTop}
+use Rattle.smk_laws_protocol.specs.Protocol.{now}
+use Rattle.smk_laws_protocol.specs.Midway.{IsTop}
 use Rattle.smk_trigger.specs.declared.reason.State.{State}
 use Rattle.smk_trigger.specs.declared.reason.State.TheVariants.{Clean}
 use Rattle.smk_trigger.specs.JobStates.{is_to_run}
@@ -24,10 +24,10 @@ use Rattle.smk_plan.specs.declared.duty.Duty.{Duty}
 use Rattle.smk_run.specs.Duties.{serials, due}
 use Rattle.smk_run.specs.Runs.{AreInOrder}
 use Rattle.smk_run.specs.Turns.{Turn, is_closed, is_done}
-use Rattle.smk_duties.specs.Meaning.{AreMeant}
+use Rattle.smk_plan_duties.specs.Meaning.{AreMeant}
 use Rattle.smk_safe.specs.Planned.{IsPlain, IsFit}
 use Rattle.smk_safe.specs.Safe.{IsRunOf}
-use Rattle.smk_dues.specs.Dues.{TellsMakers}
+use Rattle.smk_exit.specs.Dues.{TellsMakers}
 
 -- ## The run
 

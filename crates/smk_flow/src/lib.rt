@@ -30,6 +30,3 @@ pub use laws::fault_means_none;
 pub use rule::{Clause, Flag, FlaggedText, GatherPart, InPart, OutPart, RulePart};
 pub use targeting::targets;
 pub use workflow::{Rule, Workflow};
-
-#[cfg(test)]
-mod tests;

@@ -2,3 +2,4 @@ pub mod Templates
 pub mod Fields
 pub mod Commands
 pub mod Found
+pub mod Refused

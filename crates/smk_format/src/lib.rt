@@ -1,15 +1,20 @@
-//! The text of a job's command.
+//! The commands of jobs: the text of each, and the first job of a plan whose command is refused.
 #![tactic(auto)]
 
+mod checking;
 mod fault;
+mod faults;
 mod fields;
 mod filling;
 mod items;
+mod making;
+mod names;
 mod picks;
 mod reading;
 
+pub use checking::check_commands;
 pub use fault::FormatFault;
+pub use faults::too_long;
 pub use filling::command;
-
-#[cfg(test)]
-mod tests;
+pub use making::command_of;
+pub use names::rule_name;

@@ -35,10 +35,10 @@ use Rattle.smk_record.specs.Records.{record_of, is_valid, are_valid_members, are
 use Rattle.smk_store.specs.Walking.{HasLooked}
 use Rattle.smk_store.proofs.Looks.{looked_call, looked_as}
 use Rattle.smk_store.proofs.Carried.{did_as}
-use Rattle.smk_members.specs.declared.listed.Listed.{Listed}
-use Rattle.smk_members.specs.declared.listed.Listed.TheVariants.{Members, BadMember}
-use Rattle.smk_members.specs.Members.{IsOpenFolder, IsListed}
-use Rattle.smk_members.specs.Walks.{IsListingIn, AreListings, is_device}
+use Rattle.smk_store_members.specs.declared.listed.Listed.{Listed}
+use Rattle.smk_store_members.specs.declared.listed.Listed.TheVariants.{Members, BadMember}
+use Rattle.smk_store_members.specs.Members.{IsOpenFolder, IsListed}
+use Rattle.smk_store_members.specs.Walks.{IsListingIn, AreListings, is_device}
 use Rattle.smk_job.specs.declared.folders.Sight.{Sight}
 use Rattle.smk_job.specs.declared.folders.Sight.TheVariants.{Good, Bad}
 use Rattle.smk_job.specs.declared.sight.Wrong.{Wrong}
@@ -48,7 +48,7 @@ use Rattle.smk_job.specs.declared.folders.View.{View}
 use Rattle.smk_job.specs.declared.folders.View.TheVariants.{Wrongly}
 use Rattle.smk_job.specs.Views.{Core, HasViewed, bytes_of, sight_of, folder_out, IsFree, AreListed, IsGood, IsSo, HasListed, HasView, bytes_all, AreGood}
 use Rattle.smk_job.proofs.Looking.{plain_fit, plain_wrong, seen_next, wrong_next, blind_next, around, next, path_of_at}
-use Rattle.smk_members.proofs.Lists.{each_at, each_unmap}
+use Rattle.smk_store_members.proofs.Lists.{each_at, each_unmap}
 use Rattle.smk_job.proofs.Outs.{paths_same}
 
 -- ## Records with members

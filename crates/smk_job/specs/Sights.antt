@@ -17,8 +17,8 @@ use Rattle.smk_world.specs.Requests.{Request, request, AreQuiet, HasDone, IsCutS
 use Rattle.smk_world.specs.Requests.Request.{Look, ListFolder}
 use Rattle.smk_world.specs.Trees.{Path, Each, outs_of, is_folder_kind}
 use Rattle.smk_record.specs.declared.record.Member.{Member}
-pub use Rattle.smk_members.specs.Members.{Nodes, IsFound, member_places, IsThere, AreMembers}
-pub use Rattle.smk_members.specs.Walks.{EndsFailed}
+pub use Rattle.smk_store_members.specs.Members.{Nodes, IsFound, member_places, IsThere, AreMembers}
+pub use Rattle.smk_store_members.specs.Walks.{EndsFailed}
 use Rattle.smk_job.specs.declared.fault.CloseFault.{CloseFault}
 use Rattle.smk_job.specs.declared.fault.CloseFault.TheVariants.{NoOutput, WrongKind, BadMember, Device, OutOfMemory}
 use Rattle.smk_job.specs.declared.sight.Wrong.{Wrong}

@@ -14,8 +14,8 @@ use crate::going::Ready;
 use crate::reserve::copy_stamps;
 use crate::sight::{Wrong, wrong_of};
 use smk_base::{Bytes, Copied, List, OutOfMemory, PathText, Place};
-use smk_members::{Listed, members_of};
 use smk_record::{Member, Record, write};
+use smk_store_members::{Listed, members_of};
 use smk_world::{Files, Kind, Out, WorkFault};
 use std::alloc::Global;
 

@@ -24,7 +24,7 @@ use Rattle.smk_laws_plan.proofs.CurrentLists.{and_left, and_right, not_true, or_
 use Rattle.smk_laws_plan.proofs.CurrentPaths.{among_in}
 use Rattle.smk_laws_history.proofs.HistoryPlaces.{node_same, whole_same, tree_same, members_same}
 use Rattle.smk_laws_history.proofs.HistoryChange.{Replaces, IsPair, IsFit, now_pair, image_pair, before, leaves_before, kept_on, marked_on, sound_change}
-use Rattle.smk_protocol.proofs.TextFolders.{folders_are}
+use Rattle.smk_laws_protocol.proofs.TextFolders.{folders_are}
 
 none_some : {A : Type 0} (x : A) → None ≡ Some x → ⊥
 none_some x h = cc

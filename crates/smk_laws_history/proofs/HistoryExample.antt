@@ -17,8 +17,8 @@ use Rattle.smk_store.specs.Images.{seen}
 use Rattle.smk_store.specs.Trust.{Versions}
 use Rattle.smk_store.specs.Soundness.{SoundWorld}
 use Rattle.smk_store.specs.Safety.{with_sources}
-use Rattle.smk_protocol.specs.Midway.{IsTop}
-use Rattle.smk_protocol.proofs.OneJob.{outside, recipe, follows, runs}
+use Rattle.smk_laws_protocol.specs.Midway.{IsTop}
+use Rattle.smk_laws_protocol.proofs.OneJob.{outside, recipe, follows, runs}
 use Rattle.smk_laws_history.specs.Histories.{IsNew, IsCall, removed, no_versions, History, Begin, Go, Call as WholeCall, Crash, Remove}
 use Rattle.smk_laws_history.proofs.HistoryLaw.{every_world_sound}
 use Rattle.smk_laws_history.proofs.HistoryListedRuns.{run_is_call}

@@ -17,8 +17,8 @@ use Rattle.smk_store.specs.Trust.{Versions, none_eased, is_folder_record, holder
 use Rattle.smk_store.specs.Soundness.{Sound}
 use Rattle.smk_laws_plan.proofs.CurrentLists.{or_left, or_right, and_right, not_true, any_none, find_in, clash_of}
 use Rattle.smk_laws_plan.proofs.CurrentPaths.{among_in}
-use Rattle.smk_protocol.proofs.Chains.{map_same}
-use Rattle.smk_protocol.proofs.TextFolders.{folders_are, folder_above}
+use Rattle.smk_laws_protocol.proofs.Chains.{map_same}
+use Rattle.smk_laws_protocol.proofs.TextFolders.{folders_are, folder_above}
 
 -- ## What is not covered has no record that speaks for it
 

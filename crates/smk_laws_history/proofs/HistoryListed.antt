@@ -14,14 +14,14 @@ use Rattle.smk_record.specs.Records.{core, members_of}
 use Rattle.smk_store.specs.Images.{Image, is_outside, is_directory, record_at}
 use Rattle.smk_laws_history.specs.Histories.{ListsAll}
 use Rattle.smk_laws_plan.proofs.CurrentLists.{and_left, and_right}
-use Rattle.smk_protocol.proofs.Basics.{in_filter}
-use Rattle.smk_protocol.proofs.Calls.{in_map}
-use Rattle.smk_protocol.proofs.Crux.{Outside_paths}
-use Rattle.smk_protocol.proofs.Marking.{reads_stay}
-use Rattle.smk_protocol.proofs.Members.{member, member_in}
-use Rattle.smk_protocol.proofs.Naming.{IsImage, IsWide}
-use Rattle.smk_protocol.proofs.View.{View, view, kind_in}
-use Rattle.smk_protocol.proofs.Views.{Nodes, reads, read_at, view_of, path_node}
+use Rattle.smk_laws_protocol.proofs.Basics.{in_filter}
+use Rattle.smk_laws_protocol.proofs.Calls.{in_map}
+use Rattle.smk_laws_protocol.proofs.Crux.{Outside_paths}
+use Rattle.smk_laws_protocol.proofs.Marking.{reads_stay}
+use Rattle.smk_laws_protocol.proofs.Members.{member, member_in}
+use Rattle.smk_laws_protocol.proofs.Naming.{IsImage, IsWide}
+use Rattle.smk_laws_protocol.proofs.View.{View, view, kind_in}
+use Rattle.smk_laws_protocol.proofs.Views.{Nodes, reads, read_at, view_of, path_node}
 
 -- the same as of images
 abbrev pub HasListed : View → Type 0

@@ -29,23 +29,23 @@ use Rattle.smk_record.specs.Records.{core}
 use Rattle.smk_store.specs.Images.{Content, is_outside, is_directory, bytes_of, kept_by, readable}
 use Rattle.smk_store.specs.Trust.{Versions}
 use Rattle.smk_store.specs.Soundness.{Outside}
-use Rattle.smk_protocol.specs.Protocol.{OpenJob, RunState, Recorded, Dropped, own, outputs, mark_places, record_of, eased}
-use Rattle.smk_protocol.proofs.Basics.{each_in, in_filter, any_by}
-use Rattle.smk_protocol.proofs.Between.{Midway, Fits, InPhase, Lets, IsFirmly, HasNoRecordClash, IsGone, IsKnown, HoldsGiven, has_firm_marks, is_made, IsOfJob}
-use Rattle.smk_protocol.proofs.Calls.{event, Allows, in_map}
-use Rattle.smk_protocol.proofs.Flags.{IsFlagged, flag_leaves, going_flag}
-use Rattle.smk_protocol.proofs.Guarded.{in_either}
-use Rattle.smk_protocol.proofs.Keeping.{AsideAllows}
-use Rattle.smk_protocol.proofs.Marking.{reads_stay}
-use Rattle.smk_protocol.proofs.Naming.{IsImage, IsWide, each_image, of_wide, now_image}
-use Rattle.smk_protocol.proofs.Members.{member}
-use Rattle.smk_protocol.proofs.Rows.{now}
-use Rattle.smk_protocol.proofs.Settling.{firm_leaves}
-use Rattle.smk_protocol.proofs.Shrunk.{going_some}
-use Rattle.smk_protocol.proofs.Stays.{in_left}
-use Rattle.smk_protocol.proofs.Texts.{Texts}
-use Rattle.smk_protocol.proofs.View.{View, kind_in, file_of}
-use Rattle.smk_protocol.proofs.Views.{Nodes, EachImage, reads, read_at, view_of, path_node, names_in}
+use Rattle.smk_laws_protocol.specs.Protocol.{OpenJob, RunState, Recorded, Dropped, own, outputs, mark_places, record_of, eased}
+use Rattle.smk_laws_protocol.proofs.Basics.{each_in, in_filter, any_by}
+use Rattle.smk_laws_protocol.proofs.Between.{Midway, Fits, InPhase, Lets, IsFirmly, HasNoRecordClash, IsGone, IsKnown, HoldsGiven, has_firm_marks, is_made, IsOfJob}
+use Rattle.smk_laws_protocol.proofs.Calls.{event, Allows, in_map}
+use Rattle.smk_laws_protocol.proofs.Flags.{IsFlagged, flag_leaves, going_flag}
+use Rattle.smk_laws_protocol.proofs.Guarded.{in_either}
+use Rattle.smk_laws_protocol.proofs.Keeping.{AsideAllows}
+use Rattle.smk_laws_protocol.proofs.Marking.{reads_stay}
+use Rattle.smk_laws_protocol.proofs.Naming.{IsImage, IsWide, each_image, of_wide, now_image}
+use Rattle.smk_laws_protocol.proofs.Members.{member}
+use Rattle.smk_laws_protocol.proofs.Rows.{now}
+use Rattle.smk_laws_protocol.proofs.Settling.{firm_leaves}
+use Rattle.smk_laws_protocol.proofs.Shrunk.{going_some}
+use Rattle.smk_laws_protocol.proofs.Stays.{in_left}
+use Rattle.smk_laws_protocol.proofs.Texts.{Texts}
+use Rattle.smk_laws_protocol.proofs.View.{View, kind_in, file_of}
+use Rattle.smk_laws_protocol.proofs.Views.{Nodes, EachImage, reads, read_at, view_of, path_node, names_in}
 use Rattle.smk_laws_plan.proofs.CurrentLists.{and_left, and_right}
 use Rattle.smk_laws_history.proofs.HistoryEdit.{path_outside}
 use Rattle.smk_laws_history.proofs.HistoryListed.{HasListed, MayStand, before, before_image, same_record, same_listed, mark_before, folder_before, members_before}

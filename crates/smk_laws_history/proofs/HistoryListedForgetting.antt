@@ -23,20 +23,20 @@ use Rattle.smk_world.proofs.Owners.{AreNumbered, numbered_after, numbered_image,
 use Rattle.smk_store.specs.Images.{image_of, seen}
 use Rattle.smk_store.specs.Trust.{Versions}
 use Rattle.smk_store.specs.Soundness.{Outside, SoundWorld}
-use Rattle.smk_protocol.specs.Protocol.{RunState, IsLook, IsLock, IsAbsent, as_ok}
-use Rattle.smk_protocol.specs.Forgetting.{Stage, Resting, Unrecording, Unmarking, Stopped, Forgets, Look, Lock, Settle, Hold, Unrecord, Unnote, Unrecorded, Unmark, Unmarked, Fail, ForgetsAll, Done, Next}
-use Rattle.smk_protocol.proofs.Answers.{remains}
-use Rattle.smk_protocol.proofs.Between.{Lets, IsOfJob}
-use Rattle.smk_protocol.proofs.Calls.{event}
-use Rattle.smk_protocol.proofs.EveryImage.{to_lists, from_lists}
-use Rattle.smk_protocol.proofs.ForgettingHolds.{forgetting_keeps_sound}
-use Rattle.smk_protocol.proofs.Keeping.{texts_of}
-use Rattle.smk_protocol.proofs.Naming.{each_image, now_image}
-use Rattle.smk_protocol.proofs.Reading.{in_of}
-use Rattle.smk_protocol.proofs.SoundWorlds.{now_is}
-use Rattle.smk_protocol.proofs.TextFacts.{text_laws}
-use Rattle.smk_protocol.proofs.Texts.{Texts}
-use Rattle.smk_protocol.proofs.Views.{EachImage, reads}
+use Rattle.smk_laws_protocol.specs.Protocol.{RunState, IsLook, IsLock, IsAbsent, as_ok}
+use Rattle.smk_laws_protocol.specs.Forgetting.{Stage, Resting, Unrecording, Unmarking, Stopped, Forgets, Look, Lock, Settle, Hold, Unrecord, Unnote, Unrecorded, Unmark, Unmarked, Fail, ForgetsAll, Done, Next}
+use Rattle.smk_laws_protocol.proofs.Answers.{remains}
+use Rattle.smk_laws_protocol.proofs.Between.{Lets, IsOfJob}
+use Rattle.smk_laws_protocol.proofs.Calls.{event}
+use Rattle.smk_laws_protocol.proofs.EveryImage.{to_lists, from_lists}
+use Rattle.smk_laws_protocol.proofs.ForgettingHolds.{forgetting_keeps_sound}
+use Rattle.smk_laws_protocol.proofs.Keeping.{texts_of}
+use Rattle.smk_laws_protocol.proofs.Naming.{each_image, now_image}
+use Rattle.smk_laws_protocol.proofs.Reading.{in_of}
+use Rattle.smk_laws_protocol.proofs.SoundWorlds.{now_is}
+use Rattle.smk_laws_protocol.proofs.TextFacts.{text_laws}
+use Rattle.smk_laws_protocol.proofs.Texts.{Texts}
+use Rattle.smk_laws_protocol.proofs.Views.{EachImage, reads}
 use Rattle.smk_laws_history.specs.Histories.{IsListed, ForgettingIsCall}
 use Rattle.smk_laws_history.proofs.HistoryListed.{HasListed, to_view, from_view}
 use Rattle.smk_laws_history.proofs.HistoryListedCalls.{HasOpen, listed_after, removed_after, unmarked_after}

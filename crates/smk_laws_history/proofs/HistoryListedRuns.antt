@@ -13,28 +13,28 @@ use Rattle.smk_world.proofs.Owners.{AreNumbered, numbered_after, numbered_image}
 use Rattle.smk_store.specs.Images.{image_of, seen}
 use Rattle.smk_store.specs.Trust.{Versions}
 use Rattle.smk_store.specs.Soundness.{Outside, SoundWorld}
-use Rattle.smk_protocol.specs.Protocol.{OpenJob, RunState, Marking, Runs, Done, Next, IsFirst, mark_places, as_ok}
-use Rattle.smk_protocol.specs.Midway.{IsTop as ImageTop, at_entry}
-use Rattle.smk_protocol.proofs.Answers.{answers}
-use Rattle.smk_protocol.proofs.Basics.{in_here}
-use Rattle.smk_protocol.proofs.Between.{Midway, IsTop}
-use Rattle.smk_protocol.proofs.Calls.{Allows}
-use Rattle.smk_protocol.proofs.EveryImage.{to_lists, from_lists}
-use Rattle.smk_protocol.proofs.Finish.{allows_of, allows_failed}
-use Rattle.smk_protocol.proofs.Keeping.{AsideAllows, aside_allows, keeps, texts_of}
-use Rattle.smk_protocol.proofs.Law.{entry_midway}
-use Rattle.smk_protocol.proofs.Naming.{each_image, now_image}
-use Rattle.smk_protocol.proofs.Opening.{opened}
-use Rattle.smk_protocol.proofs.ProtocolHolds.{keeps_sound}
-use Rattle.smk_protocol.proofs.Reading.{in_of}
-use Rattle.smk_protocol.proofs.Rows.{Closes, AllUnmarked, Step, Aside, Steady, Begin, Go, Close, Fail, FailWait}
-use Rattle.smk_protocol.proofs.SoundWorlds.{world_to, now_is}
-use Rattle.smk_protocol.proofs.StepViews.{step_to}
-use Rattle.smk_protocol.proofs.TextFacts.{text_laws}
-use Rattle.smk_protocol.proofs.Texts.{Texts}
-use Rattle.smk_protocol.proofs.Unowned.{step_unowned}
-use Rattle.smk_protocol.proofs.View.{View}
-use Rattle.smk_protocol.proofs.Views.{EachImage, reads}
+use Rattle.smk_laws_protocol.specs.Protocol.{OpenJob, RunState, Marking, Runs, Done, Next, IsFirst, mark_places, as_ok}
+use Rattle.smk_laws_protocol.specs.Midway.{IsTop as ImageTop, at_entry}
+use Rattle.smk_laws_protocol.proofs.Answers.{answers}
+use Rattle.smk_laws_protocol.proofs.Basics.{in_here}
+use Rattle.smk_laws_protocol.proofs.Between.{Midway, IsTop}
+use Rattle.smk_laws_protocol.proofs.Calls.{Allows}
+use Rattle.smk_laws_protocol.proofs.EveryImage.{to_lists, from_lists}
+use Rattle.smk_laws_protocol.proofs.Finish.{allows_of, allows_failed}
+use Rattle.smk_laws_protocol.proofs.Keeping.{AsideAllows, aside_allows, keeps, texts_of}
+use Rattle.smk_laws_protocol.proofs.Law.{entry_midway}
+use Rattle.smk_laws_protocol.proofs.Naming.{each_image, now_image}
+use Rattle.smk_laws_protocol.proofs.Opening.{opened}
+use Rattle.smk_laws_protocol.proofs.ProtocolHolds.{keeps_sound}
+use Rattle.smk_laws_protocol.proofs.Reading.{in_of}
+use Rattle.smk_laws_protocol.proofs.Rows.{Closes, AllUnmarked, Step, Aside, Steady, Begin, Go, Close, Fail, FailWait}
+use Rattle.smk_laws_protocol.proofs.SoundWorlds.{world_to, now_is}
+use Rattle.smk_laws_protocol.proofs.StepViews.{step_to}
+use Rattle.smk_laws_protocol.proofs.TextFacts.{text_laws}
+use Rattle.smk_laws_protocol.proofs.Texts.{Texts}
+use Rattle.smk_laws_protocol.proofs.Unowned.{step_unowned}
+use Rattle.smk_laws_protocol.proofs.View.{View}
+use Rattle.smk_laws_protocol.proofs.Views.{EachImage, reads}
 use Rattle.smk_laws_history.specs.Histories.{IsListed, RunIsCall}
 use Rattle.smk_laws_history.proofs.HistoryListed.{HasListed, to_view, from_view}
 use Rattle.smk_laws_history.proofs.HistoryListedCalls.{Who, open_of, listed_after}

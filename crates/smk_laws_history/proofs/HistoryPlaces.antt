@@ -19,8 +19,8 @@ use Rattle.smk_store.specs.Images.{seen, is_outside, kept_by, is_folder, is_whol
 use Rattle.smk_store.specs.declared.store.Kept.TheVariants.{Absent}
 use Rattle.smk_laws_plan.proofs.CurrentLists.{filter_in}
 use Rattle.smk_laws_history.proofs.CurrentComplete.{seen_is_complete}
-use Rattle.smk_protocol.proofs.Chains.{map_same}
-use Rattle.smk_protocol.proofs.Sorted.{rising_same, filter_rises, among_filter}
+use Rattle.smk_laws_protocol.proofs.Chains.{map_same}
+use Rattle.smk_laws_protocol.proofs.Sorted.{rising_same, filter_rises, among_filter}
 
 -- a file's tree has no entries
 file_tree :

@@ -23,7 +23,7 @@ use Rattle.smk_laws_plan.proofs.CurrentPaths.{among_in, in_among}
 use Rattle.smk_laws_plan.proofs.CurrentTrees.{members_same as same_members}
 use Rattle.smk_laws_history.proofs.HistoryPlaces.{node_same, whole_same, tree_same, file_whole_same, file_tree_same}
 use Rattle.smk_laws_history.proofs.HistoryChange.{Replaces, IsPair, IsFit, now_pair, image_pair, before, leaves_before, kept_on, marked_on, sound_change}
-use Rattle.smk_protocol.proofs.Sorted.{filter_rises, among_filter}
+use Rattle.smk_laws_protocol.proofs.Sorted.{filter_rises, among_filter}
 
 none_some : {A : Type 0} (x : A) → None ≡ Some x → ⊥
 none_some x h = cc

@@ -10,7 +10,7 @@ use Rattle.smk_world.specs.declared.event.Failed.{Failed}
 use Rattle.smk_world.specs.World.{World, after}
 use Rattle.smk_world.specs.Trees.{Path}
 use Rattle.smk_store.specs.Soundness.{Outside}
-use Rattle.smk_protocol.specs.Protocol.{OpenJob, Phase, RunState, IsWait, as_ok, IsLook, IsLock, IsFirst, Moves, MakeFolders, Mark, AllMarked, MakeRoom, Start, Wait, AllMade, Write, AllWritten, Drop, AllDropped, Unmark, Closes, AllUnmarked, Besides, Look, Lock, Settle, Spend, Protect, Step, Aside, Steady, Begin, Go, Close, Fail, FailWait, Runs, Next}
+use Rattle.smk_laws_protocol.specs.Protocol.{OpenJob, Phase, RunState, IsWait, as_ok, IsLook, IsLock, IsFirst, Moves, MakeFolders, Mark, AllMarked, MakeRoom, Start, Wait, AllMade, Write, AllWritten, Drop, AllDropped, Unmark, Closes, AllUnmarked, Besides, Look, Lock, Settle, Spend, Protect, Step, Aside, Steady, Begin, Go, Close, Fail, FailWait, Runs, Next}
 use Rattle.smk_laws_history.proofs.RefusedOrders.{out_mark, marked_anew, gone_on}
 
 is_not : {A : Type 0} → true ≡ false → A

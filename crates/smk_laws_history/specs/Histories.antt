@@ -16,9 +16,9 @@ use Rattle.smk_store.specs.Images.{Image, Content, seen, file_at, is_file, is_fo
 use Rattle.smk_store.specs.Trust.{Versions}
 use Rattle.smk_store.specs.Soundness.{Outside, EachImage, SoundWorld}
 use Rattle.smk_store.specs.Safety.{KeepsSound, with_sources}
-use Rattle.smk_protocol.specs.Protocol.{RunState, Runs}
-use Rattle.smk_protocol.specs.Midway.{IsTop, at_entry}
-use Rattle.smk_protocol.specs.Forgetting.{Stage, Resting, is_resting, ForgetsAll}
+use Rattle.smk_laws_protocol.specs.Protocol.{RunState, Runs}
+use Rattle.smk_laws_protocol.specs.Midway.{IsTop, at_entry}
+use Rattle.smk_laws_protocol.specs.Forgetting.{Stage, Resting, is_resting, ForgetsAll}
 
 -- ## Directories with no more than is listed
 

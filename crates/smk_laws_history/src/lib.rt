@@ -9,8 +9,8 @@ ghost use Rattle.smk_laws_history.specs.Histories.{ForgettingIsCall, HistoryIsLi
 ghost use Rattle.smk_laws_plan.specs.Plans.{InputsComeFirst, KeepsJobs, KeepsUnopened};
 ghost use Rattle.smk_laws_history.specs.Stamps.{StampTells};
 ghost use Rattle.smk_laws_history.specs.Trusted.{CurrentIsSafe, CurrentIsTrusted, NoneRuns, TrustedHolds};
-ghost use Rattle.smk_protocol.specs.Forgetting.{ForgettingKeepsSound, SettlingIsEnough};
-ghost use Rattle.smk_protocol.specs.Midway.{HoldsMidway, ProtocolKeepsSound, ProtocolLaw};
+ghost use Rattle.smk_laws_protocol.specs.Forgetting.{ForgettingKeepsSound, SettlingIsEnough};
+ghost use Rattle.smk_laws_protocol.specs.Midway.{HoldsMidway, ProtocolKeepsSound, ProtocolLaw};
 
 /// The law that what a plan calls current is clean: in a sound folder a target that is current by the last plan holds what a clean
 /// run from the sources gives, and so does all that a job of the plan reads. A sound world gives what is asked of the folder, and at

@@ -15,7 +15,7 @@ use Rattle.smk_world.specs.Calls.{Acted, Lets, failed}
 use Rattle.smk_world.specs.Requests.{Request, request}
 use Rattle.smk_world.specs.Requests.Request.{Remove, Settle}
 use Rattle.smk_world.specs.Trees.{Path, IsIn}
-use Rattle.smk_protocol.specs.Protocol.{IsAbsent}
+use Rattle.smk_laws_protocol.specs.Protocol.{IsAbsent}
 
 true_false : true ≡ false → ⊥
 true_false e = cc

@@ -18,8 +18,8 @@ use Rattle.smk_world.specs.Trees.{Path, IsIn, among}
 use Rattle.std.proofs.lemmas.List.{append-nil}
 use Rattle.smk_store.specs.Soundness.{Outside}
 use Rattle.smk_store.specs.Steps.{make_each, remove_each}
-use Rattle.smk_protocol.specs.Protocol.{OpenJob, RunState, Phase, Marking, Marked, Running, Runs, Done, Next, Begin, Go, Moves, MakeFolders, Mark, AllMarked, MakeRoom, Start as StartMove, MayBegin, HasSerial, outputs, own, mark_places, IsThere, IsFirst}
-use Rattle.smk_protocol.proofs.Basics.{each_of, each_in}
+use Rattle.smk_laws_protocol.specs.Protocol.{OpenJob, RunState, Phase, Marking, Marked, Running, Runs, Done, Next, Begin, Go, Moves, MakeFolders, Mark, AllMarked, MakeRoom, Start as StartMove, MayBegin, HasSerial, outputs, own, mark_places, IsThere, IsFirst}
+use Rattle.smk_laws_protocol.proofs.Basics.{each_of, each_in}
 use Rattle.smk_job.specs.Jobs.{parents_each}
 use Rattle.smk_laws_job.specs.Laws.{BeginningRuns}
 use Rattle.smk_job.proofs.Single.{IsKnown, Stepped, step_known, created}

@@ -14,7 +14,7 @@ use Rattle.smk_world.specs.Calls.{HoldsBytes, failed}
 use Rattle.smk_world.specs.Requests.{request}
 use Rattle.smk_world.specs.Requests.Request.{Create, MakeParents, Write, Remove, Settle, Start}
 use Rattle.smk_world.specs.Trees.{Path, Act}
-use Rattle.smk_protocol.specs.Protocol.{as_ok}
+use Rattle.smk_laws_protocol.specs.Protocol.{as_ok}
 use Rattle.smk_job.proofs.Single.{Stepped}
 use Rattle.smk_laws_job.proofs.Beginning.{parents_call}
 

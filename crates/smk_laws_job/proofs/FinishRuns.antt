@@ -33,10 +33,10 @@ use Rattle.smk_record.specs.Records.{are_valid_members, are_none}
 use Rattle.smk_store.specs.Images.{Image, is_directory, is_folder, bytes_of, members_under, entry_under, names_under, tree_now}
 use Rattle.smk_store.specs.Soundness.{Outside}
 use Rattle.smk_store.specs.Steps.{write_each, remove_each}
-use Rattle.smk_protocol.specs.Protocol.{OpenJob, RunState, Phase, Ended, Runs, Done, Next, Aside, Fail, Look as LookMove, outputs, record_places, listed_of, record_of, as_ok, now, runs, is_running, IsLook, IsGood}
-use Rattle.smk_protocol.proofs.Basics.{each_of, each_in, filter_in, in_filter, in_among}
-use Rattle.smk_protocol.proofs.Calls.{in_map}
-use Rattle.smk_members.specs.Members.{AreMembers, AllIsFound}
+use Rattle.smk_laws_protocol.specs.Protocol.{OpenJob, RunState, Phase, Ended, Runs, Done, Next, Aside, Fail, Look as LookMove, outputs, record_places, listed_of, record_of, as_ok, now, runs, is_running, IsLook, IsGood}
+use Rattle.smk_laws_protocol.proofs.Basics.{each_of, each_in, filter_in, in_filter, in_among}
+use Rattle.smk_laws_protocol.proofs.Calls.{in_map}
+use Rattle.smk_store_members.specs.Members.{AreMembers, AllIsFound}
 use Rattle.smk_job.specs.Jobs.{bytes_with, finish_requests, abandon_requests}
 use Rattle.smk_job.specs.declared.fault.CloseFault.{CloseFault}
 use Rattle.smk_job.specs.Sights.{IsSeenWrong, Nodes, reads_file, IsOfKind, IsListing, AreLooks, AreSeen, IsBlind, AreLookedAt, EndsFailed, HasSeen}

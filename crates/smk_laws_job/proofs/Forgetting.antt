@@ -35,9 +35,9 @@ use Rattle.smk_store.specs.Sources.{NoneOwned}
 use Rattle.smk_store.specs.Forgetting.{inputs_of, all_inputs, AreUnseen, forget_requests, LooksThen}
 use Rattle.smk_store.specs.Safety.{KeepsSound}
 use Rattle.smk_store.specs.Soundness.{Outside}
-use Rattle.smk_protocol.specs.Protocol.{IsLook, IsAbsent, as_ok, now}
-use Rattle.smk_protocol.specs.Forgetting.{Stage, Resting, Unrecording, Unmarking, Stopped, is_resting, IsUnseen, IsFirm, IsFirmAround, Forgets, Look as LookMove, Hold, Unrecord, Unnote, Unrecorded, Unmark, Unmarked, Fail, ForgetsAll, Done, Next}
-use Rattle.smk_protocol.proofs.ForgettingHolds.{forgetting_keeps_sound}
+use Rattle.smk_laws_protocol.specs.Protocol.{IsLook, IsAbsent, as_ok, now}
+use Rattle.smk_laws_protocol.specs.Forgetting.{Stage, Resting, Unrecording, Unmarking, Stopped, is_resting, IsUnseen, IsFirm, IsFirmAround, Forgets, Look as LookMove, Hold, Unrecord, Unnote, Unrecorded, Unmark, Unmarked, Fail, ForgetsAll, Done, Next}
+use Rattle.smk_laws_protocol.proofs.ForgettingHolds.{forgetting_keeps_sound}
 use Rattle.smk_laws_job.specs.Laws.{LeavesAt, ForgettingRuns, is_at_rest, ForgettingIsSafe}
 use Rattle.smk_laws_job.proofs.Called.{as_removed, as_settled}
 use Rattle.smk_job.proofs.Single.{Stepped}

@@ -23,8 +23,8 @@ use Rattle.smk_store.specs.declared.store.Kept.TheVariants.{Absent, Held}
 use Rattle.smk_store.specs.Images.{kept_by, readable, members_under}
 use Rattle.smk_store.specs.Soundness.{Outside}
 use Rattle.smk_store.specs.Steps.{write_each, remove_each}
-use Rattle.smk_protocol.specs.Protocol.{OpenJob, RunState, Phase, Ended, Firm, Recorded, Dropping, Dropped, Runs, Done, Next, Step, Go, Close, Fail, Moves, MakeFolders, AllMade, Write as WriteMove, AllWritten, Drop, AllDropped, Unmark, Closes, AllUnmarked, outputs, record_places, record_of, listed_of, as_ok, now, runs, is_running, IsGood, IsWritten, IsAbsent}
-use Rattle.smk_protocol.proofs.Basics.{each_of}
+use Rattle.smk_laws_protocol.specs.Protocol.{OpenJob, RunState, Phase, Ended, Firm, Recorded, Dropping, Dropped, Runs, Done, Next, Step, Go, Close, Fail, Moves, MakeFolders, AllMade, Write as WriteMove, AllWritten, Drop, AllDropped, Unmark, Closes, AllUnmarked, outputs, record_places, record_of, listed_of, as_ok, now, runs, is_running, IsGood, IsWritten, IsAbsent}
+use Rattle.smk_laws_protocol.proofs.Basics.{each_of}
 use Rattle.smk_job.proofs.Single.{IsKnown, Stepped, step_known, step_keeps, written}
 use Rattle.smk_laws_job.proofs.Still.{IsStill, still_settled, still_apart}
 use Rattle.smk_laws_job.proofs.Abandoning.{removed_call, settled_call, in_first, in_second, in_either, in_map, absent_now, absent_still}

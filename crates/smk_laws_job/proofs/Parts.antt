@@ -15,8 +15,8 @@ use Rattle.smk_world.specs.Requests.Request.{Create, MakeParents, Remove, Settle
 use Rattle.smk_world.specs.Trees.{Path, IsIn, among}
 use Rattle.smk_store.specs.Soundness.{Outside}
 use Rattle.smk_store.specs.Steps.{make_each, remove_each}
-use Rattle.smk_protocol.specs.Protocol.{OpenJob, RunState, Phase, Marking, Marked, Running, Ended, Dropping, Dropped, Runs, Done, Next, Step, Begin, Go, Close, Fail, Moves, MakeFolders, Mark, AllMarked, MakeRoom, Start as StartMove, Drop, AllDropped, Unmark, Closes, AllUnmarked, outputs, own, mark_places, record_places, as_ok, IsThere, IsAbsent, IsFirst, MayBegin, HasSerial, runs, is_running}
-use Rattle.smk_protocol.proofs.Basics.{each_of, each_in}
+use Rattle.smk_laws_protocol.specs.Protocol.{OpenJob, RunState, Phase, Marking, Marked, Running, Ended, Dropping, Dropped, Runs, Done, Next, Step, Begin, Go, Close, Fail, Moves, MakeFolders, Mark, AllMarked, MakeRoom, Start as StartMove, Drop, AllDropped, Unmark, Closes, AllUnmarked, outputs, own, mark_places, record_places, as_ok, IsThere, IsAbsent, IsFirst, MayBegin, HasSerial, runs, is_running}
+use Rattle.smk_laws_protocol.proofs.Basics.{each_of, each_in}
 use Rattle.smk_job.specs.Jobs.{ReadUsers, parents_each, begin_requests, abandon_requests}
 use Rattle.smk_job.specs.Jobs.{IsPart}
 use Rattle.smk_laws_job.specs.Laws.{as_underway, stopped, BeginningPartsRun, BeginningFails, AbandoningPartsRun, AbandoningFails}

@@ -14,8 +14,8 @@ use Rattle.smk_world.proofs.Names.{formed_after}
 use Rattle.smk_record.specs.declared.record.Member.{Member}
 use Rattle.smk_record.specs.declared.record.Record.{Record}
 use Rattle.smk_store.specs.Images.{seen, members_under}
-use Rattle.smk_members.specs.Members.{AreMembers, AllIsFound}
-use Rattle.smk_members.proofs.Under.{same_members, all_alike, members_alike}
+use Rattle.smk_store_members.specs.Members.{AreMembers, AllIsFound}
+use Rattle.smk_store_members.proofs.Under.{same_members, all_alike, members_alike}
 use Rattle.smk_job.proofs.Single.{Stepped, touches, step_keeps}
 use Rattle.smk_laws_job.proofs.Abandoning.{settled_call}
 

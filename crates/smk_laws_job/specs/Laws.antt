@@ -18,9 +18,9 @@ use Rattle.smk_store.specs.Sources.{NoneOwned}
 use Rattle.smk_store.specs.Forgetting.{HasForgotten}
 use Rattle.smk_store.specs.Safety.{KeepsSound}
 use Rattle.smk_store.specs.Soundness.{Outside}
-use Rattle.smk_protocol.specs.Forgetting.{Stage, Resting, Stopped, ForgetsAll}
-use Rattle.smk_protocol.specs.Protocol.{OpenJob, RunState, Marking, Running, Ended, MayBegin, HasSerial, Runs, outputs, record_of, runs}
-use Rattle.smk_members.specs.Members.{AllIsFound}
+use Rattle.smk_laws_protocol.specs.Forgetting.{Stage, Resting, Stopped, ForgetsAll}
+use Rattle.smk_laws_protocol.specs.Protocol.{OpenJob, RunState, Marking, Running, Ended, MayBegin, HasSerial, Runs, outputs, record_of, runs}
+use Rattle.smk_store_members.specs.Members.{AllIsFound}
 use Rattle.smk_job.specs.declared.fault.CloseFault.{CloseFault}
 use Rattle.smk_job.specs.Sights.{IsDone, IsAbandoned, IsUnclosed, AreLookedAt}
 use Rattle.smk_job.specs.Jobs.{IsPart, Underway, underway, bare_bytes, is_long, ReadUsers, begin_requests, abandon_requests}

@@ -18,7 +18,7 @@ use Rattle.smk_world.specs.Calls.{Reads, HoldsBytes, Stands, EntryIs, TreeAt, Ma
 use Rattle.smk_world.specs.Trees.{Path, Each}
 use Rattle.smk_record.specs.declared.record.Member.{Member}
 use Rattle.smk_job.specs.Sights.{Nodes, IsFound, IsThere, IsOfKind, reads_file}
-use Rattle.smk_members.specs.Members.IsFound.{Inside, Deeper}
+use Rattle.smk_store_members.specs.Members.IsFound.{Inside, Deeper}
 
 -- ## One place
 

@@ -10,7 +10,7 @@ use Rattle.smk_run.specs.declared.tally.Tally.{Tally}
 use Rattle.smk_run.specs.Duties.{Due}
 use Rattle.smk_run.specs.Turns.{Turn}
 use Rattle.smk_run.specs.Runs.{AreInOrder, IsTally}
-use Rattle.smk_needs.specs.Needs.{Needs, Says}
+use Rattle.smk_plan_duties.specs.Needs.{Needs, Says}
 use Rattle.smk_make.specs.After.{is_due_one, due_before, turn_at, is_turn_done, IsFailed, NeedsFailed, AreCurrent, IsDueAfter, IsDueNumber, IsFailedNumber, AreSpoilt, IsAfter}
 use Rattle.smk_make.proofs.Counting.{count, counted, below_done, past_done, undone_is_last}
 use Rattle.smk_make.proofs.Dues.{one_due}

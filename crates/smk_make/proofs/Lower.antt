@@ -3,8 +3,8 @@ use native.Mathlib.Omega.{arith}
 use Rattle.std.proofs.Common.{◌<◌, ◌+◌, ℕ, zero, suc, List, [], ◌∷◌, inl, inr, sym, subst}
 use Rattle.std.specs.List.{AllByRecursion}
 use Rattle.smk_world.specs.Trees.{IsIn}
-use Rattle.smk_walk.specs.Links.{AreLower}
-use Rattle.smk_needs.specs.Needs.{AreEarlier, before_at}
+use Rattle.smk_chain_walk.specs.Links.{AreLower}
+use Rattle.smk_plan_duties.specs.Needs.{AreEarlier, before_at}
 
 all_in : (P : ℕ → Type 0) (xs : List ℕ) (x : ℕ) → AllByRecursion P xs → IsIn xs x → P x
 all_in P [] x h i = absurd i

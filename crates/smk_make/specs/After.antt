@@ -5,7 +5,7 @@ use Rattle.smk_plan.specs.declared.duty.Duty.TheVariants.{Rest, Restore, Run}
 use Rattle.smk_run.specs.declared.tally.Tally.{Tally}
 use Rattle.smk_plan.specs.Duties.{rests}
 use Rattle.smk_run.specs.Turns.{Turn, is_done}
-use Rattle.smk_needs.specs.Needs.{Needs, Says, AreNeeding}
+use Rattle.smk_plan_duties.specs.Needs.{Needs, Says, AreNeeding}
 
 -- it has its turn in a run
 abbrev pub is_due : Duty → Bool

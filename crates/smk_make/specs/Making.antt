@@ -13,7 +13,7 @@ use Rattle.smk_store.specs.Serials.{next_serial}
 use Rattle.smk_store.specs.Steadying.{HasTried, steady_requests}
 use Rattle.smk_pick.specs.declared.settings.Settings.{Settings}
 use Rattle.smk_trigger.specs.declared.reason.State.{State}
-use Rattle.smk_duties.specs.Meaning.{IsPlanned, AreMeant}
+use Rattle.smk_plan_duties.specs.Meaning.{IsPlanned, AreMeant}
 use Rattle.smk_report.specs.declared.fault.Fault.{Fault}
 use Rattle.smk_report.specs.declared.fault.Fault.TheVariants as fault
 use Rattle.smk_report.specs.Lines.{Text}

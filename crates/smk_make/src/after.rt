@@ -1,12 +1,12 @@
 //! Which jobs are current after a run.
 
 ghost use Rattle.std.specs.Prelude.{◌≡◌, IfOk};
-ghost use Rattle.smk_walk.specs.Links.{AreLower};
+ghost use Rattle.smk_chain_walk.specs.Links.{AreLower};
 ghost use Rattle.smk_make.specs.After as spec;
 
 use smk_base::{List, OutOfMemory};
-use smk_needs::needing;
 use smk_plan::Duty;
+use smk_plan_duties::needing;
 use smk_run::Tally;
 use std::alloc::Global;
 

@@ -23,6 +23,3 @@ pub use laws::{bound_is_binding, fill_is_filled, reading_is_grammar};
 pub use limits::Limits;
 pub use naming::{has_no_constraint, wildcard_names};
 pub use pattern::{Binding, FillFault, Pattern, PatternFault};
-
-#[cfg(test)]
-mod tests;

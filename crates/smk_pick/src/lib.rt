@@ -8,6 +8,3 @@ mod settings;
 pub use choice::pick;
 pub use room::{Ask, Room, amount_of};
 pub use settings::{Force, Settings};
-
-#[cfg(test)]
-mod tests;

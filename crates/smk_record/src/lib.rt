@@ -20,6 +20,3 @@ pub fn spellings_are_apart()
     ensures one { BeginWithOne }
     ensures prefix { NoneIsPrefix }
 {}
-
-#[cfg(test)]
-mod tests;

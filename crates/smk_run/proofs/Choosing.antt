@@ -7,7 +7,7 @@ use Rattle.smk_trigger.specs.declared.reason.State.{State}
 use Rattle.smk_trigger.specs.declared.reason.State.TheVariants.{Open, Dirty, Restore as ToRestore, Clean}
 use Rattle.smk_trigger.specs.JobStates.{is_to_run}
 use Rattle.smk_report.specs.declared.fault.Fault.{Fault}
-use Rattle.smk_commands.specs.Commands.{job_fault, state_fault, or_later, command_fault}
+use Rattle.smk_format.specs.Refused.{job_fault, state_fault, or_later, command_fault}
 use Rattle.smk_plan.specs.declared.duty.Duty.{Duty}
 use Rattle.smk_plan.specs.declared.duty.Duty.TheVariants.{Rest, Restore, Run}
 use Rattle.smk_plan.specs.Duties.{AreFor}

@@ -14,7 +14,7 @@ use Rattle.smk_record.specs.declared.record.Stamp.{Stamp}
 use Rattle.smk_flow.specs.declared.job.Job.{Job}
 use Rattle.smk_flow.specs.Flows.{Flow}
 use Rattle.smk_job.specs.Jobs.{too_long}
-use Rattle.smk_members.proofs.Lists.{each_list_all}
+use Rattle.smk_store_members.proofs.Lists.{each_list_all}
 use Rattle.smk_report.specs.Lines.{Text, Named}
 use Rattle.smk_report.specs.declared.fault.Fault.{Fault}
 use Rattle.smk_report.specs.declared.fault.Fault.TheVariants as fault

@@ -11,7 +11,7 @@ use Rattle.smk_world.specs.Trees.{Act}
 use Rattle.smk_flow.specs.declared.job.Job.{Job}
 use Rattle.smk_flow.specs.Flows.{Flow}
 use Rattle.smk_trigger.specs.declared.reason.State.{State}
-use Rattle.smk_commands.specs.Commands.{command_fault}
+use Rattle.smk_format.specs.Refused.{command_fault}
 use Rattle.smk_plan.specs.declared.duty.Duty.{Duty}
 use Rattle.smk_run.specs.declared.ending.Ending.{Ending}
 use Rattle.smk_run.specs.declared.ending.Ending.TheVariants.{Good, Status, NoOutput, WrongKind, BadMember}

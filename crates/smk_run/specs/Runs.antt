@@ -24,7 +24,7 @@ use Rattle.smk_run.specs.Stamps.{Serials, IsBelow}
 use Rattle.smk_run.specs.Statuses.{AreGiven}
 use Rattle.smk_run.specs.Turns.{Course, Closed, Turn, found, IsTurn, is_begun, is_done, is_closed, AreTurns}
 use Rattle.smk_run.specs.Reports.{named, course_text, report_of, HasWritten, IsReport, HasTurned, IsAnswer, failure, stop_fault, is_refusal}
-pub use Rattle.smk_commands.specs.Commands.{command_of, fault_at, job_fault, or_later}
+pub use Rattle.smk_format.specs.Refused.{command_of, fault_at, job_fault, or_later}
 pub use Rattle.smk_plan.specs.Duties.{maker_in}
 pub use Rattle.smk_run.specs.Duties.{Due}
 

@@ -7,7 +7,7 @@ ghost use Rattle.smk_report.specs.declared.fault.Fault.TheVariants as fault;
 
 use crate::{Ending, Stop};
 use smk_base::{OutOfMemory, PathText, Text};
-use smk_commands::too_long;
+use smk_format::too_long;
 use smk_report::Fault;
 use std::alloc::Global;
 

@@ -26,11 +26,11 @@ use Rattle.smk_store.specs.declared.store.Kept.TheVariants.{Absent}
 use Rattle.smk_store.specs.Images.{Content, content_of, readable, kept_by, stands, file_at, core_at, is_source, source_at, seen}
 use Rattle.smk_store.specs.Soundness.{Outside, SoundWorld, SameSources}
 use Rattle.smk_store.specs.Trust.{Versions, holder, time_stamp}
-use Rattle.smk_members.specs.Members.{AllIsFound}
-use Rattle.smk_protocol.specs.Protocol.{RunState, Marking, MayBegin, HasSerial, IsKept, IsApart, IsSourceAt, IsProductAt, IsAtHand, kept_at, record_of, now}
-use Rattle.smk_protocol.specs.Midway.{HasSafeImages}
-use Rattle.smk_protocol.proofs.Basics.{each_in, each_of, none_of, none_by}
-use Rattle.smk_protocol.proofs.SoundViews.{itself}
+use Rattle.smk_store_members.specs.Members.{AllIsFound}
+use Rattle.smk_laws_protocol.specs.Protocol.{RunState, Marking, MayBegin, HasSerial, IsKept, IsApart, IsSourceAt, IsProductAt, IsAtHand, kept_at, record_of, now}
+use Rattle.smk_laws_protocol.specs.Midway.{HasSafeImages}
+use Rattle.smk_laws_protocol.proofs.Basics.{each_in, each_of, none_of, none_by}
+use Rattle.smk_laws_protocol.proofs.SoundViews.{itself}
 use Rattle.smk_laws_job.specs.Laws.{IsRecordable}
 use Rattle.smk_laws_history.proofs.HistoryImages.{held_no_source}
 use Rattle.smk_laws_plan.proofs.CurrentPaths.{among_in}

@@ -6,16 +6,16 @@ use Rattle.smk_world.specs.declared.event.Child.{Child}
 use Rattle.smk_world.specs.World.{World, Throughout, run, out_paths}
 use Rattle.smk_world.specs.Runs.{Follows}
 use Rattle.smk_world.specs.Trees.{Each, is_path_text, folders_of}
-use Rattle.smk_members.specs.Members.{AllIsFound}
+use Rattle.smk_store_members.specs.Members.{AllIsFound}
 use Rattle.smk_world.proofs.Runs.{run_append, follows_append, throughout_start}
 use Rattle.smk_record.specs.Spelling.{ReadsRecords}
 use Rattle.smk_store.specs.Soundness.{Outside, SoundWorld}
 use Rattle.smk_store.specs.Trust.{Versions}
-use Rattle.smk_protocol.specs.Protocol.{RunState, Runs, now}
-use Rattle.smk_protocol.specs.Midway.{IsTop, at_entry, HasSafeImages, IsOfJob}
-use Rattle.smk_protocol.proofs.Basics.{each_in, in_here}
-use Rattle.smk_protocol.proofs.MidwayHolds.{holds_midway}
-use Rattle.smk_protocol.proofs.ProtocolHolds.{protocol_law}
+use Rattle.smk_laws_protocol.specs.Protocol.{RunState, Runs, now}
+use Rattle.smk_laws_protocol.specs.Midway.{IsTop, at_entry, HasSafeImages, IsOfJob}
+use Rattle.smk_laws_protocol.proofs.Basics.{each_in, in_here}
+use Rattle.smk_laws_protocol.proofs.MidwayHolds.{holds_midway}
+use Rattle.smk_laws_protocol.proofs.ProtocolHolds.{protocol_law}
 use Rattle.smk_laws_job.specs.Laws.{IsRecordable}
 use Rattle.smk_run.specs.Stamps.{Serials}
 use Rattle.smk_run.specs.Turns.{Course, Unbegun, Unstarted, Unclosed, Closed, Turn, IsTurn, AreTurns, is_begun, is_closed, is_done}

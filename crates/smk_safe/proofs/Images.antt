@@ -19,10 +19,10 @@ use Rattle.smk_store.specs.declared.store.Kept.TheVariants.{Absent}
 use Rattle.smk_store.specs.Images.{Content, Image, content_of, is_directory, is_outside, readable, file_at, kept_by, core_at, is_source, source_at, is_whole, seen, image_of}
 use Rattle.smk_store.specs.Soundness.{Outside, SoundWorld, SameSources, told}
 use Rattle.smk_store.specs.Trust.{Versions, holder, is_folder_record}
-use Rattle.smk_protocol.specs.Protocol.{now}
-use Rattle.smk_protocol.specs.Midway.{HasSafeImages}
-use Rattle.smk_protocol.proofs.Marking.{reads_stay}
-use Rattle.smk_protocol.proofs.TextFolders.{folder_above}
+use Rattle.smk_laws_protocol.specs.Protocol.{now}
+use Rattle.smk_laws_protocol.specs.Midway.{HasSafeImages}
+use Rattle.smk_laws_protocol.proofs.Marking.{reads_stay}
+use Rattle.smk_laws_protocol.proofs.TextFolders.{folder_above}
 use Rattle.smk_laws_plan.proofs.CurrentLists.{find_in}
 use Rattle.smk_laws_plan.proofs.CurrentMeaning.{source_file, source_reads}
 use Rattle.smk_laws_history.proofs.HistoryPlaces.{members_same}

@@ -14,7 +14,7 @@ use Rattle.smk_world.specs.Requests.Request.{Look, ListFolder}
 use Rattle.smk_world.specs.Trees.{Path, Act, Each}
 use Rattle.smk_store.specs.Images.{image_by}
 use Rattle.smk_store.specs.Soundness.{Outside}
-use Rattle.smk_protocol.specs.Protocol.{RunState, Runs, Done, Next, Aside, Look as LookMove, Fail, IsLook, as_ok, now, runs}
+use Rattle.smk_laws_protocol.specs.Protocol.{RunState, Runs, Done, Next, Aside, Look as LookMove, Fail, IsLook, as_ok, now, runs}
 use Rattle.smk_job.specs.Jobs.{IsPart}
 use Rattle.smk_run.proofs.Calls.{EachCall}
 use Rattle.smk_run.proofs.Calls.{OfLooks}

@@ -17,8 +17,8 @@ use Rattle.smk_world.specs.Trees.{Path, Act, Each, IsIn, outs_of}
 use Rattle.smk_world.proofs.Runs.{run_append}
 use Rattle.smk_world.proofs.Owners.{numbered_after, numbered_run, owned_after, owned_run}
 use Rattle.smk_store.specs.Steps.{places_of, remove_each, unmark_requests}
-use Rattle.smk_protocol.proofs.ProtocolHolds.{numbered_alone}
-use Rattle.smk_protocol.proofs.Basics.{each_of}
+use Rattle.smk_laws_protocol.proofs.ProtocolHolds.{numbered_alone}
+use Rattle.smk_laws_protocol.proofs.Basics.{each_of}
 use Rattle.smk_job.specs.declared.fault.CloseFault.{CloseFault}
 use Rattle.smk_job.specs.declared.fault.CloseFault.TheVariants as fault
 use Rattle.smk_job.specs.Jobs.{begin_requests, abandon_requests, drop_all_requests, lose_requests}

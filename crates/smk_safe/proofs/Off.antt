@@ -14,7 +14,7 @@ use Rattle.smk_made.specs.Leaving.{owned}
 use Rattle.smk_made.specs.Running.{IsOrderly}
 use Rattle.smk_made.proofs.Keeping.{or_false}
 use Rattle.smk_made.proofs.Sparing.{else_apart, IsOffTurn, off_overlap}
-use Rattle.smk_protocol.proofs.Basics.{none_of}
+use Rattle.smk_laws_protocol.proofs.Basics.{none_of}
 
 -- the turn makes the path
 abbrev pub makes : Path → Turn → Bool

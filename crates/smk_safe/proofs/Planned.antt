@@ -31,10 +31,10 @@ use Rattle.smk_store.specs.Soundness.{Outside}
 use Rattle.smk_store.specs.Trust.{holder, made_stamp, is_marked_but, unmarked_stamp_but, stamp_now_but, time_stamp}
 use Rattle.smk_choose.specs.Choose.{choose, Make}
 use Rattle.smk_chain.specs.Derive.{Listings, listing, distinct, hinders, has_record_or_mark, job, recipe, same_candidate, sources_of, spots, walk}
-use Rattle.smk_protocol.specs.Protocol.{IsProductAt, now}
-use Rattle.smk_protocol.specs.Midway.{IsTop}
-use Rattle.smk_protocol.proofs.Basics.{each_in, each_of, each_on, none_of, none_by, some_of, any_by}
-use Rattle.smk_protocol.proofs.SoundViews.{itself}
+use Rattle.smk_laws_protocol.specs.Protocol.{IsProductAt, now}
+use Rattle.smk_laws_protocol.specs.Midway.{IsTop}
+use Rattle.smk_laws_protocol.proofs.Basics.{each_in, each_of, each_on, none_of, none_by, some_of, any_by}
+use Rattle.smk_laws_protocol.proofs.SoundViews.{itself}
 use Rattle.smk_trigger.specs.declared.reason.Reason.{Reason}
 use Rattle.smk_trigger.specs.declared.reason.Reason.TheVariants.{Upstream}
 use Rattle.smk_trigger.specs.declared.reason.State.{State}

@@ -24,15 +24,15 @@ use Rattle.smk_record.specs.Spelling.{ReadsRecords}
 use Rattle.smk_store.specs.declared.store.Kept.TheVariants.{Absent, Held}
 use Rattle.smk_store.specs.Images.{content_of, is_directory, readable, kept_by, core_at, is_folder, is_whole, members_under, seen}
 use Rattle.smk_store.specs.Soundness.{Outside}
-use Rattle.smk_members.specs.Members.{AllIsFound}
-use Rattle.smk_protocol.specs.Protocol.{IsProductAt, now}
-use Rattle.smk_protocol.proofs.Basics.{each_in}
-use Rattle.smk_protocol.proofs.SoundViews.{itself}
+use Rattle.smk_store_members.specs.Members.{AllIsFound}
+use Rattle.smk_laws_protocol.specs.Protocol.{IsProductAt, now}
+use Rattle.smk_laws_protocol.proofs.Basics.{each_in}
+use Rattle.smk_laws_protocol.proofs.SoundViews.{itself}
 use Rattle.smk_laws_job.specs.Laws.{IsRecordable}
 use Rattle.smk_job.specs.Sights.{IsOfKind, reads_file}
 use Rattle.smk_job.proofs.Outs.{paths_same}
 use Rattle.smk_laws_job.proofs.Readable.{read_back}
-use Rattle.smk_members.proofs.Under.{same_members}
+use Rattle.smk_store_members.proofs.Under.{same_members}
 use Rattle.smk_laws_plan.proofs.CurrentLists.{map_in, in_map}
 use Rattle.smk_laws_plan.proofs.CurrentPaths.{among_in}
 use Rattle.smk_laws_history.proofs.HistoryImages.{held_no_source}

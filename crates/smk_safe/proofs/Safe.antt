@@ -15,8 +15,8 @@ use Rattle.smk_record.specs.Spelling.{ReadsRecords}
 use Rattle.smk_store.specs.Images.{Image, image_by}
 use Rattle.smk_store.specs.Soundness.{Outside, SoundWorld}
 use Rattle.smk_store.specs.Trust.{Versions}
-use Rattle.smk_protocol.specs.Protocol.{RunState, Runs, Done, Next, Steady, HasAllMarks, now}
-use Rattle.smk_protocol.specs.Midway.{IsTop, at_entry}
+use Rattle.smk_laws_protocol.specs.Protocol.{RunState, Runs, Done, Next, Steady, HasAllMarks, now}
+use Rattle.smk_laws_protocol.specs.Midway.{IsTop, at_entry}
 use Rattle.smk_run.specs.Stamps.{Serials}
 use Rattle.smk_run.specs.Turns.{Turn, AreTurns, is_closed}
 use Rattle.smk_made.proofs.Done.{follows_split}

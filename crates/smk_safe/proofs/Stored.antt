@@ -19,8 +19,8 @@ use Rattle.smk_store.specs.Serials.{all_serials, greatest_serial, unmarked_seria
 use Rattle.smk_store.specs.Soundness.{Outside}
 use Rattle.smk_store.specs.Steadying.{all_signs, signs_of}
 use Rattle.smk_store.specs.Stores.{Known, entry_of}
-use Rattle.smk_protocol.specs.Protocol.{now}
-use Rattle.smk_protocol.specs.Midway.{IsTop}
+use Rattle.smk_laws_protocol.specs.Protocol.{now}
+use Rattle.smk_laws_protocol.specs.Midway.{IsTop}
 use Rattle.smk_laws_plan.proofs.CurrentLists.{in_flat}
 use Rattle.smk_laws_plan.proofs.CurrentPaths.{in_among}
 use Rattle.smk_safe.specs.Stored.{NextSerialIsAbove, SignsAreAll}

@@ -24,9 +24,9 @@ use Rattle.smk_record.specs.declared.record.Record.{Record}
 use Rattle.smk_record.specs.Spelling.{ReadsRecords}
 use Rattle.smk_store.specs.Images.{Image, stands, is_source, core_at, seen}
 use Rattle.smk_store.specs.Soundness.{Outside}
-use Rattle.smk_protocol.specs.Protocol.{OpenJob, Phase, RunState, Running, Ended as EndedPhase, MayBegin, HasSerial, IsKept, IsAtHand, Runs, Done, Next, Step, Go, FailWait, Wait, outputs, own, begun_with, record_of, now}
-use Rattle.smk_protocol.proofs.Basics.{each_on}
-use Rattle.smk_protocol.proofs.ProtocolHolds.{numbered_alone}
+use Rattle.smk_laws_protocol.specs.Protocol.{OpenJob, Phase, RunState, Running, Ended as EndedPhase, MayBegin, HasSerial, IsKept, IsAtHand, Runs, Done, Next, Step, Go, FailWait, Wait, outputs, own, begun_with, record_of, now}
+use Rattle.smk_laws_protocol.proofs.Basics.{each_on}
+use Rattle.smk_laws_protocol.proofs.ProtocolHolds.{numbered_alone}
 use Rattle.smk_job.specs.Jobs.{ReadUsers, begin_requests, abandon_requests, finish_requests}
 use Rattle.smk_job.specs.declared.fault.CloseFault.{CloseFault}
 use Rattle.smk_job.specs.declared.fault.CloseFault.TheVariants as fault

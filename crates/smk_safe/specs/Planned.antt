@@ -9,8 +9,8 @@ use Rattle.smk_flow.specs.declared.job.Job.{Job}
 use Rattle.smk_flow.specs.Flows.{Flow}
 use Rattle.smk_store.specs.Images.{Image, core_at}
 use Rattle.smk_store.specs.Soundness.{Outside}
-use Rattle.smk_protocol.specs.Protocol.{now}
-use Rattle.smk_protocol.specs.Midway.{IsTop}
+use Rattle.smk_laws_protocol.specs.Protocol.{now}
+use Rattle.smk_laws_protocol.specs.Midway.{IsTop}
 use Rattle.smk_trigger.specs.declared.reason.State.{State}
 use Rattle.smk_trigger.specs.declared.reason.State.TheVariants.{Open, Dirty, Restore, Clean}
 use Rattle.smk_trigger.specs.JobStates.{is_to_run}

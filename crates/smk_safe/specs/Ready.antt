@@ -10,7 +10,7 @@ use Rattle.smk_record.specs.Records.{record_of}
 use Rattle.smk_store.specs.Images.{Content, Image, stands, is_source, source_at, core_at}
 use Rattle.smk_store.specs.Soundness.{Outside}
 use Rattle.smk_store.specs.Trust.{time_stamp}
-use Rattle.smk_protocol.specs.Protocol.{IsProductAt}
+use Rattle.smk_laws_protocol.specs.Protocol.{IsProductAt}
 use Rattle.smk_run.specs.Stamps.{Serials}
 use Rattle.smk_run.specs.Turns.{Turn, is_begun, is_done}
 use Rattle.smk_laws_job.specs.Laws.{IsRecordable}

@@ -8,8 +8,8 @@ use Rattle.smk_world.specs.Trees.{Path, Each}
 use Rattle.smk_record.specs.Spelling.{ReadsRecords}
 use Rattle.smk_store.specs.Soundness.{Outside, SoundWorld}
 use Rattle.smk_store.specs.Trust.{Versions}
-use Rattle.smk_protocol.specs.Protocol.{RunState, Runs, HasAllMarks, IsLook, now}
-use Rattle.smk_protocol.specs.Midway.{IsTop, at_entry, HasSafeImages}
+use Rattle.smk_laws_protocol.specs.Protocol.{RunState, Runs, HasAllMarks, IsLook, now}
+use Rattle.smk_laws_protocol.specs.Midway.{IsTop, at_entry, HasSafeImages}
 use Rattle.smk_run.specs.Stamps.{Serials}
 use Rattle.smk_run.specs.Turns.{Turn, AreTurns, is_closed}
 use Rattle.smk_safe.specs.Turning.{IsAtRest, AllAreFound}

@@ -6,8 +6,8 @@ use Rattle.smk_store.specs.Serials.{next_serial}
 use Rattle.smk_store.specs.Soundness.{Outside}
 use Rattle.smk_store.specs.Steadying.{all_signs}
 use Rattle.smk_store.specs.Stores.{Known}
-use Rattle.smk_protocol.specs.Protocol.{HasAllMarks, now}
-use Rattle.smk_protocol.specs.Midway.{IsTop}
+use Rattle.smk_laws_protocol.specs.Protocol.{HasAllMarks, now}
+use Rattle.smk_laws_protocol.specs.Midway.{IsTop}
 
 -- The next serial is one above all that an unmarked record of the folder names.
 abbrev pub NextSerialIsAbove : Type 0

@@ -9,8 +9,8 @@ use Rattle.smk_world.specs.Trees.{Path, Each, folders_of}
 use Rattle.smk_record.specs.declared.record.Record.{Record}
 use Rattle.smk_record.specs.Spelling.{ReadsRecords}
 use Rattle.smk_store.specs.Soundness.{Outside}
-use Rattle.smk_members.specs.Members.{AllIsFound}
-use Rattle.smk_protocol.specs.Protocol.{OpenJob, RunState, Marking, MayBegin, HasSerial, Runs}
+use Rattle.smk_store_members.specs.Members.{AllIsFound}
+use Rattle.smk_laws_protocol.specs.Protocol.{OpenJob, RunState, Marking, MayBegin, HasSerial, Runs}
 use Rattle.smk_laws_job.specs.Laws.{IsRecordable}
 use Rattle.smk_run.specs.Stamps.{Serials}
 use Rattle.smk_run.specs.Turns.{Turn, found, IsTurn, is_begun, is_closed}

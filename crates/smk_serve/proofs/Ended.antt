@@ -6,7 +6,7 @@ use Rattle.smk_world.specs.World.{World}
 use Rattle.smk_world.specs.Calls.{HasCause, Rose}
 use Rattle.smk_report.specs.declared.fault.Fault.{Fault}
 use Rattle.smk_report.specs.declared.fault.Fault.TheVariants as fault
-use Rattle.smk_entry.specs.Faults.{is_device, is_sink, device_failed}
+use Rattle.smk_cli_entry.specs.Faults.{is_device, is_sink, device_failed}
 use Rattle.smk_run.specs.Runs as run
 use Rattle.smk_serve.specs.Ends.{HasEnded, sink_failed}
 use Rattle.smk_serve.proofs.SameKinds.{device_as, output_as}

@@ -5,3 +5,4 @@ pub mod Went
 pub mod Making
 pub mod ListingKinds
 pub mod Plain
+pub mod Texts

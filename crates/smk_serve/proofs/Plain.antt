@@ -17,7 +17,7 @@ use Rattle.smk_flow.specs.declared.rule.GatherPart.{GatherPart}
 use Rattle.smk_flow.specs.Flows.{Flow, Candidate, gather_at, gathers_from, is_directory}
 use Rattle.smk_flow.specs.Jobs.{filled_out, filled_outs, kind_of}
 use Rattle.smk_chain.specs.Derive.{Listings, recipe}
-use Rattle.smk_entry.specs.Forms.{flag_form, inputs_form, item_form, or_else, outputs_form, unbuilt, unbuilt_in}
+use Rattle.smk_cli_entry.specs.Forms.{flag_form, inputs_form, item_form, or_else, outputs_form, unbuilt, unbuilt_in}
 use Rattle.smk_laws_plan.proofs.CurrentLists.{flat_in, map_in}
 
 pub some_none : {A : Type 0} (x : A) → Some x ≡ None → ⊥

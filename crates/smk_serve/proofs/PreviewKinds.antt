@@ -2,8 +2,8 @@
 use Rattle.std.proofs.Common.{◌≡◌, true, refl, sym, ap, subst, ◌∙◌, Result, Ok, Err}
 use Rattle.std.specs.Prelude.{IfErr}
 use Rattle.smk_report.specs.declared.fault.Fault.{Fault}
-use Rattle.smk_entry.specs.Faults as call
-use Rattle.smk_preview.specs.Faults as preview
+use Rattle.smk_cli_entry.specs.Faults as call
+use Rattle.smk_plan_preview.specs.Faults as preview
 
 pub device_same : {T : Type 0} (r : Result T Fault) → preview.device_failed r ≡ call.device_failed r
 device_same (Ok t) = refl

@@ -4,7 +4,7 @@ use Rattle.smk_report.specs.declared.fault.Fault.{Fault}
 use Rattle.smk_report.specs.declared.fault.Fault.TheVariants as fault
 use Rattle.smk_report.specs.Faults.{fault_status}
 use Rattle.smk_run.specs.Runs as run
-use Rattle.smk_entry.specs.Faults.{is_device, is_sink, device_failed}
+use Rattle.smk_cli_entry.specs.Faults.{is_device, is_sink, device_failed}
 use Rattle.smk_serve.specs.Ends.{sink_failed}
 
 pub device_same : (f : Fault) → run.is_device_fault f ≡ is_device f

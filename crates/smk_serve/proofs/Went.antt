@@ -11,8 +11,8 @@ use Rattle.smk_world.specs.Calls.{Rose}
 use Rattle.smk_world.specs.Runs.{Did}
 use Rattle.smk_world.specs.Trees.{Path, Act}
 use Rattle.smk_world.proofs.Runs.{did_both}
-use Rattle.smk_files.specs.Looks.{Nodes, EachCall, HasSeen}
-use Rattle.smk_files.specs.Looks as files
+use Rattle.smk_eval_files.specs.Looks.{Nodes, EachCall, HasSeen}
+use Rattle.smk_eval_files.specs.Looks as files
 use Rattle.smk_pattern.specs.Shapes.{Text}
 use Rattle.smk_flow.specs.Flows.{Flow}
 use Rattle.smk_chain.specs.declared.jobs.Jobs.{Jobs}
@@ -25,10 +25,10 @@ use Rattle.smk_plan.specs.declared.duty.Duty.{Duty}
 use Rattle.smk_run.specs.Statuses.{IsGiven, AreGiven}
 use Rattle.smk_report.specs.declared.fault.Fault.{Fault}
 use Rattle.smk_report.specs.declared.fault.Fault.TheVariants as fault
-use Rattle.smk_entry.specs.declared.asking.Asked.{Asked}
-use Rattle.smk_entry.specs.Faults.{is_told, is_device, is_sink, device_failed}
+use Rattle.smk_cli_entry.specs.declared.asking.Asked.{Asked}
+use Rattle.smk_cli_entry.specs.Faults.{is_told, is_device, is_sink, device_failed}
 use Rattle.smk_make.specs.Making.{HasMade, HasCarriedOut, GoesOn, NotFirm, NoMemory, Made}
-use Rattle.smk_preview.specs.declared.previewing.Previewed.{Previewed}
+use Rattle.smk_plan_preview.specs.declared.previewing.Previewed.{Previewed}
 use Rattle.smk_make.proofs.Further.{carried_more}
 use Rattle.smk_serve.specs.Serving.{IsWant, HasKept, HasOnlyLooked, HasWorked, Went, Refused, Stopped, Worked, HasListed, NotListed, Listed}
 use Rattle.smk_serve.specs.Serving as listing

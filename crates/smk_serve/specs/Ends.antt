@@ -3,7 +3,7 @@ use Rattle.std.specs.Prelude.{◌≡◌, ◌⊎◌, ℕ, Bool, true, false, List
 use Rattle.smk_world.specs.World.{World}
 use Rattle.smk_world.specs.Calls.{HasCause, Rose}
 use Rattle.smk_report.specs.declared.fault.Fault.{Fault}
-use Rattle.smk_entry.specs.Faults.{device_failed, is_sink}
+use Rattle.smk_cli_entry.specs.Faults.{device_failed, is_sink}
 
 -- a put failed
 abbrev pub sink_failed : {T : Type 0} → Result T Fault → Bool

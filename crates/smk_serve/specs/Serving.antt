@@ -6,17 +6,17 @@ use Rattle.smk_world.specs.Runs.{Did}
 use Rattle.smk_world.specs.Trees.{Path, Act, Each}
 use Rattle.smk_record.specs.declared.record.Record.{Record}
 use Rattle.smk_record.specs.Spelling.{ReadsRecords}
-use Rattle.smk_members.specs.Disk.{IsTree}
+use Rattle.smk_store_members.specs.Disk.{IsTree}
 use Rattle.smk_store.specs.Images.{seen}
 use Rattle.smk_store.specs.Loading.{AreLooks}
 use Rattle.smk_store.specs.Walking.{HasLooked}
 use Rattle.smk_flow.specs.declared.job.Job.{Job}
 use Rattle.smk_flow.specs.Flows.{Flow}
-use Rattle.smk_walk.specs.Links.{AreLower}
+use Rattle.smk_chain_walk.specs.Links.{AreLower}
 use Rattle.smk_pick.specs.declared.settings.Force.TheVariants.{No}
 use Rattle.smk_pick.specs.declared.settings.Settings.{Settings}
 use Rattle.smk_plan.specs.States.{nothing_done}
-use Rattle.smk_commands.specs.Commands.{command_fault}
+use Rattle.smk_format.specs.Refused.{command_fault}
 use Rattle.smk_report.specs.declared.fault.Fault.{Fault}
 use Rattle.smk_report.specs.declared.fault.Fault.TheVariants as fault
 use Rattle.smk_report.specs.Lines.{Text}
@@ -24,10 +24,10 @@ use Rattle.smk_drive.specs.Refusals.{ChainRefuses}
 use Rattle.smk_drive.specs.Reports.{listing_text}
 use Rattle.smk_plan.specs.Runnable.{AreRunnable}
 use Rattle.smk_make.specs.Making.{HasCarriedOut}
-use Rattle.smk_preview.specs.declared.previewing.Previewed.{Previewed}
-use Rattle.smk_preview.specs.Previewing.{plan_of, rules_for, IsPreviewed, HasPreviewed}
-use Rattle.smk_entry.specs.declared.asking.Asked.{Asked}
-use Rattle.smk_entry.specs.Faults.{device_failed, is_sink}
+use Rattle.smk_plan_preview.specs.declared.previewing.Previewed.{Previewed}
+use Rattle.smk_plan_preview.specs.Previewing.{plan_of, rules_for, IsPreviewed, HasPreviewed}
+use Rattle.smk_cli_entry.specs.declared.asking.Asked.{Asked}
+use Rattle.smk_cli_entry.specs.Faults.{device_failed, is_sink}
 
 -- The folder stands as on a disk, and its records are read so.
 pub record IsAtHand (read : List ℕ → Option Record) (w : World) : Type 0 where

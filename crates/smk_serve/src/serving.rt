@@ -8,12 +8,12 @@ ghost use Rattle.smk_serve.specs.Ends.{HasEnded};
 ghost use Rattle.smk_serve.specs.Serving as spec;
 ghost use Rattle.smk_serve.specs.Serving.{IsAtHand, IsRefusedPlan, IsServed, Went, HasListed};
 
+use crate::put_listing;
 use smk_base::{Copied, List, OutOfMemory};
-use smk_entry::Asked;
-use smk_listing::put_listing;
+use smk_cli_entry::Asked;
 use smk_make::make;
 use smk_pick::{Force, Settings};
-use smk_preview::{Previewed, preview};
+use smk_plan_preview::{Previewed, preview};
 use smk_report::Fault;
 use smk_world::{Crew, Files, Sink};
 use std::alloc::Global;

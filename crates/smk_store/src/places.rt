@@ -104,24 +104,3 @@ impl JobPlaces {
         Ok(places)
     }
 }
-
-#[cfg(test)]
-mod tests {
-    use super::*;
-    use smk_base::one;
-    use std::test::Fail;
-
-    #[test]
-    fn a_job_has_its_places(rt: HostRuntime) -> Result<(), Fail> {
-        let alloc = rt.alloc();
-        let outputs = one(alloc, PathText::read(alloc, "a/b")?)?;
-        let logs = one(alloc, PathText::read(alloc, "log")?)?;
-        let places = JobPlaces::of(alloc, &outputs, &logs)?;
-        assert_eq!(rt; places.marking.len(), 2);
-        assert_eq!(rt;
-            places.records.as_slice().first().map_or("", Place::as_str),
-            ".snakemake/smk/records/+a/=b"
-        );
-        Ok(())
-    }
-}

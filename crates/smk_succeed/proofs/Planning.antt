@@ -57,11 +57,11 @@ use Rattle.smk_laws_plan.proofs.PlanOne.{chosen_makes, derived, derived_apart, d
 use Rattle.smk_laws_plan.proofs.PlanOrder.{InOrder, Served, some_node, source_unmade}
 use Rattle.smk_laws_plan.proofs.CurrentWalked.{walked_chosen}
 use Rattle.smk_laws_history.proofs.Valid.{records_valid}
-use Rattle.smk_complete.specs.Derived.{AllHaveValues, AreRight, GathersAlone, IsGoodJob}
-use Rattle.smk_complete.proofs.Came.{AllCame, next_came, none_came, one_of, plan_rested, right}
-use Rattle.smk_complete.proofs.Ends.{at_rest}
-use Rattle.smk_complete.proofs.Goods.{derived_jobs_are_good}
-use Rattle.smk_complete.proofs.Walked.{derived_walked, walked_derived}
+use Rattle.smk_laws_complete.specs.Derived.{AllHaveValues, AreRight, GathersAlone, IsGoodJob}
+use Rattle.smk_laws_complete.proofs.Came.{AllCame, next_came, none_came, one_of, plan_rested, right}
+use Rattle.smk_laws_complete.proofs.Ends.{at_rest}
+use Rattle.smk_laws_complete.proofs.Goods.{derived_jobs_are_good}
+use Rattle.smk_laws_complete.proofs.Walked.{derived_walked, walked_derived}
 use Rattle.smk_succeed.specs.Feeding.{AreFed, IsGoodTurn, IsLeftAlone}
 use Rattle.smk_succeed.specs.Planning.{AreRunOf, IsPlainPlan, PlannedTurnsAreArranged, PlannedTurnsAreFed}
 

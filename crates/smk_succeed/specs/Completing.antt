@@ -24,7 +24,7 @@ use Rattle.smk_run.specs.Runs.{AreInOrder, IsOutcome}
 use Rattle.smk_run.specs.Stamps.{Serials}
 use Rattle.smk_run.specs.Statuses.{AreGiven}
 use Rattle.smk_run.specs.Turns.{Turn, AreTurns}
-use Rattle.smk_complete.specs.Derived.{AllHaveValues, GathersAlone}
+use Rattle.smk_laws_complete.specs.Derived.{AllHaveValues, GathersAlone}
 use Rattle.smk_succeed.specs.Planning.{IsPlainPlan}
 
 -- A fault with which a run may stop although each target has a clean value: memory, the device or the sink; or no serial is left, or a record is too long.

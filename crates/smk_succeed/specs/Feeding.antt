@@ -21,7 +21,7 @@ use Rattle.smk_run.specs.Turns.{Turn, Unbegun, AreTurns, IsTurn, is_closed, is_d
 use Rattle.smk_made.specs.Leaving.{owned, MayCome}
 use Rattle.smk_made.specs.Running.{AreArranged}
 use Rattle.smk_made.specs.Clean.{IsCleanIn}
-use Rattle.smk_complete.specs.Derived.{IsGoodJob}
+use Rattle.smk_laws_complete.specs.Derived.{IsGoodJob}
 
 -- the path is outside of the engine's folder, and overlaps nothing that these turns' jobs make or log
 pub record IsLeftAlone (ts : List Turn) (p : Path) : Type 0 where

@@ -17,7 +17,7 @@ use Rattle.smk_plan.specs.States.{Plan, LastPlan, nothing_done, staged}
 use Rattle.smk_run.specs.Turns.{Turn}
 use Rattle.smk_made.specs.Running.{AreArranged}
 use Rattle.smk_made.specs.Clean.{IsCleanIn}
-use Rattle.smk_complete.specs.Derived.{AllHaveValues, GathersAlone}
+use Rattle.smk_laws_complete.specs.Derived.{AllHaveValues, GathersAlone}
 use Rattle.smk_succeed.specs.Feeding.{AreFed, IsLeftAlone}
 
 -- The jobs of the plan gather nothing and make plain files.

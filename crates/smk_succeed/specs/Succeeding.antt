@@ -15,7 +15,7 @@ use Rattle.smk_run.specs.Stamps.{Serials}
 use Rattle.smk_run.specs.Statuses.{AreGiven}
 use Rattle.smk_run.specs.Turns.{Turn, IsTurn, is_closed, is_done}
 use Rattle.smk_made.specs.Leaving.{MayCome, AreInputsApart}
-use Rattle.smk_complete.specs.Derived.{IsGoodJob}
+use Rattle.smk_laws_complete.specs.Derived.{IsGoodJob}
 
 -- The command of the turn's job makes plain files, and of these contents all of them, with status 0.
 pub record CanSucceed (act : Act) (t : Turn) (trees : List Tree) : Type 0 where

@@ -15,6 +15,3 @@ pub use judge::{Judge, Plain};
 pub use judged::all_reasons;
 pub use judging::reasons;
 pub use reason::{Reason, State};
-
-#[cfg(test)]
-mod tests;

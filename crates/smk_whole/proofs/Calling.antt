@@ -8,9 +8,9 @@ use Rattle.smk_record.specs.declared.record.Record.{Record}
 use Rattle.smk_store.specs.Trust.{Versions}
 use Rattle.smk_report.specs.declared.fault.Fault.{Fault}
 use Rattle.smk_report.specs.declared.fault.Fault.TheVariants as fault
-use Rattle.smk_entry.specs.declared.asking.Asked.{Asked}
-use Rattle.smk_entry.specs.Entry.{IsAskedIn}
-use Rattle.smk_entry.specs.Forms.{not_built, unbuilt}
+use Rattle.smk_cli_entry.specs.declared.asking.Asked.{Asked}
+use Rattle.smk_cli_entry.specs.Entry.{IsAskedIn}
+use Rattle.smk_cli_entry.specs.Forms.{not_built, unbuilt}
 use Rattle.smk_serve.specs.Serving.{HasListed, Went}
 use Rattle.smk_serve.specs.Serving.Went.{Refused, Stopped, Worked}
 use Rattle.smk_serve.specs.Serving.HasListed.{Listed, NotListed}
@@ -18,7 +18,7 @@ use Rattle.smk_cli.specs.Faults.{fault_of}
 use Rattle.smk_cli.specs.Lines.{IsOutcome}
 use Rattle.smk_cli.specs.Whole.{IsRefusal, IsToServe, OfPlan, OfWorkflow}
 use Rattle.smk_succeed.specs.Completing.{NoMemory as OfMemory}
-use Rattle.smk_complete.specs.Derived.{GathersAlone}
+use Rattle.smk_laws_complete.specs.Derived.{GathersAlone}
 use Rattle.smk_whole.specs.Complete.{EndsComplete}
 use Rattle.smk_whole.specs.Calls.{AllIsWell, BrokenOff, CallIsComplete, IsCleanCall, ListingIsComplete, MayTell, PlanRefused}
 use Rattle.smk_whole.proofs.Plain.{built_flows_gather_alone, built_plans_are_plain}

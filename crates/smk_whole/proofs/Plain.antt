@@ -11,7 +11,7 @@ use Rattle.smk_flow.specs.Flows.{Flow, Candidate, gathers}
 use Rattle.smk_choose.specs.Choose.{Sources, choose, Make}
 use Rattle.smk_chain.specs.Derive.{distinct, job, jobs, recipe, refusals, same_candidate, sources_of, walk}
 use Rattle.smk_plan.specs.States.{IsPlan}
-use Rattle.smk_entry.specs.Forms.{inputs_form, outputs_form}
+use Rattle.smk_cli_entry.specs.Forms.{inputs_form, outputs_form}
 use Rattle.smk_laws_plan.proofs.CurrentChosen.{origin}
 use Rattle.smk_laws_history.proofs.CurrentLaw.{last_is}
 use Rattle.smk_laws_plan.proofs.CurrentLists.{distinct_in, flat_in, map_in}

@@ -40,10 +40,10 @@ use Rattle.smk_run.specs.Duties.{serials}
 use Rattle.smk_run.specs.Statuses.{AreGiven, IsGiven}
 use Rattle.smk_run.proofs.Calls.{EachCall}
 use Rattle.smk_run.proofs.Telling.{files_children}
-use Rattle.smk_complete.proofs.Stops.{clean_targets_are_planned}
-use Rattle.smk_preview.specs.declared.previewing.Previewed.{Previewed}
-use Rattle.smk_preview.specs.Previewing.{plan_of, rules_for}
-use Rattle.smk_entry.specs.declared.asking.Asked.{Asked}
+use Rattle.smk_laws_complete.proofs.Stops.{clean_targets_are_planned}
+use Rattle.smk_plan_preview.specs.declared.previewing.Previewed.{Previewed}
+use Rattle.smk_plan_preview.specs.Previewing.{plan_of, rules_for}
+use Rattle.smk_cli_entry.specs.declared.asking.Asked.{Asked}
 use Rattle.smk_make.specs.Making.{Concludes, GoesOn, HasMade, Made, NoMemory, NotFirm}
 use Rattle.smk_make.specs.Closing.{verdict_of}
 use Rattle.smk_make.specs.Faults.{of_store}

@@ -5,8 +5,8 @@ use Rattle.smk_store.specs.Images.{Image}
 use Rattle.smk_chain.specs.Derive.{Listings}
 use Rattle.smk_pick.specs.declared.settings.Settings.{Settings}
 use Rattle.smk_plan.specs.States.{Plan, Progress, LastPlan}
-use Rattle.smk_entry.specs.Forms.{unbuilt}
-use Rattle.smk_complete.specs.Derived.{GathersAlone}
+use Rattle.smk_cli_entry.specs.Forms.{unbuilt}
+use Rattle.smk_laws_complete.specs.Derived.{GathersAlone}
 use Rattle.smk_succeed.specs.Planning.{IsPlainPlan}
 
 -- The jobs of their plans gather nothing and make plain files.

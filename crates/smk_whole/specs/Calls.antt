@@ -9,15 +9,15 @@ use Rattle.smk_store.specs.Images.{seen}
 use Rattle.smk_store.specs.Trust.{Versions}
 use Rattle.smk_store.specs.Soundness.{SoundWorld}
 use Rattle.smk_report.specs.declared.fault.Fault.{Fault}
-use Rattle.smk_asked.specs.declared.words.RunWords.{RunWords}
-use Rattle.smk_asked.specs.declared.words.Request.TheVariants.{Run, Preview}
-use Rattle.smk_entry.specs.declared.asking.Asked.{Asked}
-use Rattle.smk_entry.specs.Entry.{FailsToAsk, IsAskedIn}
-use Rattle.smk_preview.specs.Previewing.{rules_for}
+use Rattle.smk_words.specs.declared.words.RunWords.{RunWords}
+use Rattle.smk_words.specs.declared.words.Request.TheVariants.{Run, Preview}
+use Rattle.smk_cli_entry.specs.declared.asking.Asked.{Asked}
+use Rattle.smk_cli_entry.specs.Entry.{FailsToAsk, IsAskedIn}
+use Rattle.smk_plan_preview.specs.Previewing.{rules_for}
 use Rattle.smk_serve.specs.Serving.{settings_of}
 use Rattle.smk_cli.specs.Whole.{HasServed}
-use Rattle.smk_complete.specs.Derived.{AllHaveValues, GathersAlone}
-use Rattle.smk_complete.specs.Planned.{MayStop}
+use Rattle.smk_laws_complete.specs.Derived.{AllHaveValues, GathersAlone}
+use Rattle.smk_laws_complete.specs.Planned.{MayStop}
 use Rattle.smk_succeed.specs.Completing.{MayBreakOff}
 use Rattle.smk_whole.specs.Complete.{setting_in}
 

@@ -12,12 +12,12 @@ use Rattle.smk_store.specs.Soundness.{SoundWorld}
 use Rattle.smk_chain.specs.Mean.{Setting, setting_of}
 use Rattle.smk_plan.specs.States.{Plan, LastPlan, nothing_done}
 use Rattle.smk_report.specs.declared.fault.Fault.{Fault}
-use Rattle.smk_entry.specs.declared.asking.Asked.{Asked}
-use Rattle.smk_preview.specs.declared.previewing.Previewed.{Previewed}
-use Rattle.smk_preview.specs.Previewing.{rules_for}
+use Rattle.smk_cli_entry.specs.declared.asking.Asked.{Asked}
+use Rattle.smk_plan_preview.specs.declared.previewing.Previewed.{Previewed}
+use Rattle.smk_plan_preview.specs.Previewing.{rules_for}
 use Rattle.smk_serve.specs.Serving.{HasListed, HasWorked, IsPlanFor, IsRefusedPlan, IsServed, Went, settings_of}
-use Rattle.smk_complete.specs.Derived.{AllHaveValues, GathersAlone}
-use Rattle.smk_complete.specs.Planned.{MayStop}
+use Rattle.smk_laws_complete.specs.Derived.{AllHaveValues, GathersAlone}
+use Rattle.smk_laws_complete.specs.Planned.{MayStop}
 use Rattle.smk_succeed.specs.Completing.{MayBreakOff}
 use Rattle.smk_succeed.specs.Planning.{IsPlainPlan}
 

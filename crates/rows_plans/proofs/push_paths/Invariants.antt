@@ -1,5 +1,5 @@
 use Rattle.std.proofs.Common.{◌≡◌, ◌++◌, map, take}
-use Rattle.smk_live.specs.Sites.{out_path}
+use Rattle.smk_plan_live.specs.Sites.{out_path}
 use Rattle.rows_plans.proofs.push_paths.Given as goal
 
 abbrev pub invariant-loop-out : goal.invariant-loop-out

@@ -1,5 +1,5 @@
 use Rattle.std.proofs.Common.{refl}
-use Rattle.smk_mem.specs.Work.{world_in}
+use Rattle.smk_world_mem.specs.Work.{world_in}
 use Rattle.rows_jobs.proofs.Idle.{lets_close}
 use Rattle.rows_jobs.proofs.jobs.finished.Goals as goal
 

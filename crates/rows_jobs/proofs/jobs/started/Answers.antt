@@ -1,5 +1,5 @@
 use Rattle.std.proofs.Common.{refl}
-use Rattle.smk_mem.specs.Work.{world_in}
+use Rattle.smk_world_mem.specs.Work.{world_in}
 use Rattle.rows_jobs.proofs.Bare.{each_stamped, valid_each, one_output, some_run}
 use Rattle.rows_jobs.proofs.Idle.{lets_begin}
 use Rattle.rows_jobs.proofs.jobs.started.Goals as goal

@@ -1,13 +1,13 @@
 use Rattle.std.proofs.Common.{true, ap, subst, ◌∙◌}
 use Rattle.std.specs.Prelude.{is_some}
-use Rattle.smk_entry.specs.Faults.{device_failed}
-use Rattle.smk_entry.specs.Entry.{IsAskedIn}
+use Rattle.smk_cli_entry.specs.Faults.{device_failed}
+use Rattle.smk_cli_entry.specs.Entry.{IsAskedIn}
 use Rattle.smk_serve.specs.Serving.{IsRefusedPlan, IsServed}
 use Rattle.smk_serve.proofs.Ended.{early, later_on, cause_as}
 use Rattle.smk_make.proofs.Further.{further_rose}
 use Rattle.smk_serve.proofs.Went.{seen_looks, seen_there, kept, only_looked, refused_or_stopped, told_well, went_later}
 use Rattle.smk_cli.specs.Whole.{IsRefusal, IsToServe, OfWorkflow}
-use Rattle.smk_preview.proofs.Looked.{some_of, moved}
+use Rattle.smk_plan_preview.proofs.Looked.{some_of, moved}
 use Rattle.smk_cli.proofs.Looked.{hand_moved}
 use Rattle.smk_cli.proofs.Serving.{plan_refused, plan_served}
 use Rattle.smk_cli.proofs.top.serve_run.Goals as goal

@@ -1,6 +1,6 @@
 use Rattle.std.proofs.Common.{◌≡◌, drop}
 use Rattle.smk_config.specs.Settings.{members}
-use Rattle.smk_files.specs.Placing.{entries}
+use Rattle.smk_eval_files.specs.Placing.{entries}
 use Rattle.smk_eval.specs.Statements.{begun, all_stated}
 use Rattle.smk_eval.specs.Seen.{state_of}
 use Rattle.smk_eval.proofs.evaluating.all_stated.Given as goal

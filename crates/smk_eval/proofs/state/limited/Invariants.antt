@@ -1,6 +1,6 @@
 use Rattle.std.proofs.Common.{◌≡◌, ◌++◌, length, map}
 use Rattle.std.specs.Prelude.{reverse}
-use Rattle.smk_parts.specs.Rules.{with_globals}
+use Rattle.smk_eval_rules.specs.Rules.{with_globals}
 use Rattle.smk_eval.proofs.state.limited.Given as goal
 
 abbrev pub invariant-rules : goal.invariant-rules

@@ -1,5 +1,5 @@
 use Rattle.std.proofs.Common.{◌≡◌, refl, ap, sym, subst, ◌∙◌, true≢false}
-use Rattle.smk_entry.specs.Faults.{device_failed}
+use Rattle.smk_cli_entry.specs.Faults.{device_failed}
 use Rattle.smk_plan.specs.Duties.{maker_in}
 use Rattle.smk_serve.specs.Serving.{IsRefusedPlan, IsServed, IsPlanned, Listed}
 use Rattle.smk_serve.proofs.Making.{all_make}

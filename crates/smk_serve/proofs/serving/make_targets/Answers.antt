@@ -1,5 +1,5 @@
 use Rattle.std.proofs.Common.{◌≡◌, refl, ap, sym, subst, ◌∙◌, true≢false}
-use Rattle.smk_entry.specs.Faults.{device_failed}
+use Rattle.smk_cli_entry.specs.Faults.{device_failed}
 use Rattle.smk_serve.specs.Serving.{IsRefusedPlan, IsServed, IsPlanned, Worked}
 use Rattle.smk_serve.proofs.Ended.{early, later_on, cause_as, ended_of}
 use Rattle.smk_make.proofs.Further.{carried_more, further_rose}

@@ -1,8 +1,8 @@
 use Rattle.std.proofs.Common.{◌≡◌, true, false, refl, ap, sym, subst, ◌∙◌}
-use Rattle.smk_entry.specs.Faults.{device_failed, is_sink}
+use Rattle.smk_cli_entry.specs.Faults.{device_failed, is_sink}
 use Rattle.smk_store.proofs.Looks.{looked_as, looked_nothing}
 use Rattle.smk_store.specs.Images.{seen}
-use Rattle.smk_preview.specs.Previewing.{HasPreviewed}
+use Rattle.smk_plan_preview.specs.Previewing.{HasPreviewed}
 use Rattle.smk_serve.proofs.PreviewKinds.{device_same, of_error}
 use Rattle.smk_serve.proofs.serving.plan_for.Goals as goal
 

@@ -1,0 +1,247 @@
+-- What is kept of a walk stays right as jobs and paths are added.
+use Rattle.std.proofs.Common.{◌≡◌, ◌∙◌, ℕ, suc, ◌+◌, ◌<◌, Bool, true, false, cond, List, [], ◌∷◌, ◌++◌, map, length, Option, Some, None, Result, Ok, Err, IfOk, OnOk, refl, sym, ap, ap₂, subst, arith, true≢false}
+use Rattle.std.specs.Prelude.{bytes_eq, nat_eq, is_some}
+use Rattle.std.specs.BTreeMap.{get_by_text}
+use Rattle.std.specs.List.{filter_map, AllByRecursion}
+use Rattle.smk_pattern.specs.Shapes.{Text}
+use Rattle.smk_chain.specs.declared.jobs.Maker.{Maker}
+use Rattle.std.proofs.lemmas.Slice.Eq.{bytes_eq-Decides}
+use Rattle.smk_world.specs.Trees.{Path}
+use Rattle.smk_flow.specs.Flows.{Flow, Candidate}
+use Rattle.smk_choose.specs.declared.choice.Making.{Making}
+use Rattle.smk_choose.specs.Choose.{Sources, Choice, Source, Make, Nothing, Ambiguous, choose, maker}
+use Rattle.smk_choose.specs.Told.{making}
+use Rattle.smk_chain.specs.Derive.{Listings, job, wants, distinct}
+use Rattle.smk_chain_walk.specs.declared.reached.Reached.{Reached}
+use Rattle.smk_chain_walk.specs.Numbers.{is_job, place_of, number_in, has, added, key, IsSmall}
+use Rattle.smk_chain_walk.specs.Links.{number_for, befores_of, maker_told, AreOnce, AreLower}
+use Rattle.smk_chain_walk.specs.Steps.{refused_for, called_for, is_done, flat, number_done, told_also, IsDone, Holds, Keeps}
+use Rattle.smk_chain_walk.proofs.Depths.{all_map, called_own, called_source, refused_unmade}
+use Rattle.smk_chain_walk.proofs.Numbers.{place_low, all_low, filter_same}
+use Rattle.smk_chain_walk.proofs.Links.{or_told, told_if, told_push, once_push, lower_push}
+use Rattle.smk_chain_walk.proofs.Apart.{keys_one}
+use Rattle.smk_chain_walk.proofs.Adding.{is_its_job, job_is, or_place, place_if, place_push, placed, unplaced, has_place, Within, within_has, within_added}
+
+all_last : {A : Type 0} (P : A → Type 0) (xs : List A) (x : A) → AllByRecursion P (xs ++ x ∷ []) → P x
+all_last P [] x h = h.0
+all_last P (y ∷ xs) x h = all_last P xs x h.1
+
+map_push : {A B : Type 0} (f : A → B) (xs : List A) (x : A) → map f (xs ++ x ∷ []) ≡ map f xs ++ f x ∷ []
+map_push f [] x = refl
+map_push f (y ∷ xs) x = ap (λ ys. f y ∷ ys) (map_push f xs x)
+
+length_map : {A B : Type 0} (f : A → B) (xs : List A) → length (map f xs) ≡ length xs
+length_map f [] = refl
+length_map f (x ∷ xs) = ap suc (length_map f xs)
+
+map_same : {A B : Type 0} (f g : A → B) (xs : List A) → AllByRecursion (λ x. f x ≡ g x) xs → map f xs ≡ map g xs
+map_same f g [] e = refl
+map_same f g (x ∷ xs) e = ap₂ ◌∷◌ e.0 (map_same f g xs e.1)
+
+all_push : {A : Type 0} (P : A → Type 0) (xs : List A) (x : A) → AllByRecursion P xs → P x → AllByRecursion P (xs ++ x ∷ [])
+all_push P [] x e f = (f, tt)
+all_push P (y ∷ xs) x e f = (e.0, all_push P xs x e.1 f)
+
+-- what is done stays done
+keeps_note : (old new : Reached) (p : Path) (number : Option ℕ) → ((q : Path) → get_by_text new.done q ≡ cond (bytes_eq p q) (Some number) (get_by_text old.done q)) → Keeps old new
+keeps_note old new p number noted q h = ap is_some (noted q) ∙ go (bytes_eq p q)
+  where
+    go : (b : Bool) → is_some (cond b (Some number) (get_by_text old.done q)) ≡ true
+    go true = refl
+    go false = h
+
+pub note_keeps : (old new : Reached) (p : Path) (number : Option ℕ) → ((q : Path) → get_by_text new.done q ≡ cond (bytes_eq p q) (Some number) (get_by_text old.done q)) → Keeps old new
+note_keeps old new p number noted = keeps_note old new p number noted
+
+pub note_done : (old new : Reached) (p : Path) (number : Option ℕ) → ((q : Path) → get_by_text new.done q ≡ cond (bytes_eq p q) (Some number) (get_by_text old.done q)) → is_done new p ≡ true
+note_done old new p number noted = ap is_some (noted p ∙ ap (λ b. cond b (Some number) (get_by_text old.done p)) ((bytes_eq-Decides p p).1 refl))
+
+pub on_push : {E : Type 0} (r : Result ℕ E) (A B C R : Type 0) (o : Option ℕ) (n : ℕ) → IfOk r (λ m. m ≡ n) → OnOk r A → OnOk r B → OnOk r C → (A → B → C → R × (o ≡ Some n)) → IfOk r (λ m. R × (o ≡ Some m))
+on_push (Ok m) A B C R o n e a b c f = let r = f a b c in (r.0, r.1 ∙ ap Some (sym e))
+on_push (Err x) A B C R o n e a b c f = tt
+
+module _ (flow : Flow) (sources : Sources) (L : Listings) where
+  number_stays : (cs ds : List Candidate) → Within cs ds → (q : Path) → AllByRecursion (λ c. has cs c ≡ true) (called_for flow sources L q) → number_for flow sources L cs q ≡ number_for flow sources L ds q
+  number_stays cs ds w q all = go (choose flow sources q) refl
+    where
+      go : (ch : Choice) → choose flow sources q ≡ ch → number_in cs (maker ch) ≡ number_in ds (maker ch)
+      go Source e = refl
+      go (Make c) e =
+          let own = called_own flow sources L q c e in
+          let there = all_last (λ d. has cs d ≡ true) own.0 c (subst (AllByRecursion (λ d. has cs d ≡ true)) own.1 all) in
+          let p = has_place cs (making c) there in
+          p.1 ∙ sym (w.kept (making c) p.0 p.1)
+      go (Nothing l) e = refl
+      go (Ambiguous a b) e = refl
+
+  done_grows : (cs ds : List Candidate) → Within cs ds → (q : Path) (number : Option ℕ) → IsDone flow sources L cs q number → IsDone flow sources L ds q number
+  done_grows cs ds w q number d = record {
+    calm = d.calm;
+    called = all_map (λ c. has cs c ≡ true) (λ c. has ds c ≡ true) (λ c h. within_has cs ds w c h) (called_for flow sources L q) d.called;
+    is = d.is ∙ number_stays cs ds w q d.called;
+  }
+
+  pub done_source : (cs : List Candidate) (p : Path) → choose flow sources p ≡ Source → IsDone flow sources L cs p None
+  done_source cs p e = record {
+    calm = refused_unmade flow sources L p Source e refl;
+    called = subst (AllByRecursion (λ c. has cs c ≡ true)) (sym (called_source flow sources L p e)) tt;
+    is = ap (λ ch. number_in cs (maker ch)) (sym e);
+  }
+
+  pub done_job : (cs : List Candidate) (p : Path) (c : Candidate) (n : ℕ) → choose flow sources p ≡ Make c → refused_for flow sources L p ≡ [] →
+      AllByRecursion (λ d. has cs d ≡ true) (called_for flow sources L p) → place_of cs (making c) ≡ Some n → IsDone flow sources L cs p (Some n)
+  done_job cs p c n e calm all at = record {
+    calm = calm;
+    called = all;
+    is = sym at ∙ ap (λ ch. number_in cs (maker ch)) (sym e);
+  }
+
+  -- one more path is noted
+  pub holds_note : (old new : Reached) (cs : List Candidate) (p : Path) (number : Option ℕ) → new.jobs ≡ old.jobs → new.befores ≡ old.befores →
+      ((q : List ℕ) → get_by_text new.numbers q ≡ get_by_text old.numbers q) →
+      ((q : Path) → get_by_text new.done q ≡ cond (bytes_eq p q) (Some number) (get_by_text old.done q)) →
+      new.makers ≡ told_also (is_done old p) old.makers (record { path = p; job = number }) →
+      IsDone flow sources L cs p number → Holds flow sources L old cs → Holds flow sources L new cs
+  holds_note old new cs p number jobs befores numbers noted makers d h = record {
+    jobs = jobs ∙ h.jobs;
+    numbers = λ m small. numbers (key m) ∙ h.numbers m small;
+    done = λ q k e. go q k (bytes_eq p q) refl (sym (noted q) ∙ e);
+    served = all_map (λ (c : Candidate). AllByRecursion (λ (w : Text). is_done old w ≡ true) (wants flow L c)) (λ (c : Candidate). AllByRecursion (λ (w : Text). is_done new w ≡ true) (wants flow L c))
+        (λ c all. all_map (λ (w : Text). is_done old w ≡ true) (λ (w : Text). is_done new w ≡ true) (λ w e. keeps_note old new p number noted w e) (wants flow L c) all) cs h.served;
+    told = λ q. tell q (get_by_text old.done p) refl;
+    once = telling (get_by_text old.done p) refl;
+    befores = befores ∙ h.befores;
+    lower = subst (AreLower 0) (sym befores) h.lower;
+  }
+    where
+      go : (q : Path) (k : Option ℕ) (b : Bool) → bytes_eq p q ≡ b → cond b (Some number) (get_by_text old.done q) ≡ Some k → IsDone flow sources L cs q k
+      go q k true e is =
+          let same : p ≡ q = (bytes_eq-Decides p q).0 e in
+          let one : number ≡ k = cc in
+          subst (λ r. IsDone flow sources L cs r k) same (subst (IsDone flow sources L cs p) one d)
+      go q k false e is = h.done q k is
+
+      m : Maker
+      m = record { path = p; job = number }
+
+      new_makers : (o : Option (Option ℕ)) → get_by_text old.done p ≡ o → new.makers ≡ told_also (is_some o) old.makers m
+      new_makers o e = makers ∙ ap (λ x. told_also (is_some x) old.makers m) e
+
+      tell : (q : Path) (o : Option (Option ℕ)) → get_by_text old.done p ≡ o → maker_told new.makers q ≡ get_by_text new.done q
+      tell q (Some k) e = ap (λ ms. maker_told ms q) (new_makers (Some k) e) ∙ h.told q ∙ at (bytes_eq p q) refl ∙ sym (noted q)
+        where
+          at : (b : Bool) → bytes_eq p q ≡ b → get_by_text old.done q ≡ cond b (Some number) (get_by_text old.done q)
+          at true f = ap (get_by_text old.done) (sym ((bytes_eq-Decides p q).0 f)) ∙ e ∙ ap Some ((h.done p k e).is ∙ sym d.is)
+          at false f = refl
+      tell q None e = ap (λ ms. maker_told ms q) (new_makers None e) ∙ told_push old.makers m q ∙ ap (λ o. or_told o (told_if (bytes_eq p q) number)) (h.told q) ∙ at (bytes_eq p q) refl ∙ sym (noted q)
+        where
+          or_none : (o : Option (Option ℕ)) → or_told o None ≡ o
+          or_none None = refl
+          or_none (Some x) = refl
+
+          at : (b : Bool) → bytes_eq p q ≡ b → or_told (get_by_text old.done q) (told_if b number) ≡ cond b (Some number) (get_by_text old.done q)
+          at true f = ap (λ o. or_told o (Some number)) (ap (get_by_text old.done) (sym ((bytes_eq-Decides p q).0 f)) ∙ e)
+          at false f = or_none (get_by_text old.done q)
+
+      telling : (o : Option (Option ℕ)) → get_by_text old.done p ≡ o → AreOnce new.makers
+      telling (Some k) e = subst AreOnce (sym (new_makers (Some k) e)) h.once
+      telling None e = subst AreOnce (sym (new_makers None e)) (once_push old.makers m h.once (h.told p ∙ e))
+
+  -- the job is there
+  pub holds_there : (old : Reached) (cs : List Candidate) (c : Candidate) (n : ℕ) → IsSmall (making c) → get_by_text old.numbers (key (making c)) ≡ Some n →
+      Holds flow sources L old cs → Holds flow sources L old (added cs c) × (place_of (added cs c) (making c) ≡ Some n)
+  holds_there old cs c n small e h =
+      let at : place_of cs (making c) ≡ Some n = sym (h.numbers (making c) small) ∙ e in
+      let there : added cs c ≡ cs = ap (λ b. cond b cs (cs ++ c ∷ [])) (placed cs (making c) n at) in
+      (subst (Holds flow sources L old) (sym there) h, subst (λ ds. place_of ds (making c) ≡ Some n) (sym there) at)
+
+  number_low : (cs : List Candidate) (q : Path) (k : ℕ) → number_for flow sources L cs q ≡ Some k → k < length cs
+  number_low cs q k e = go (maker (choose flow sources q)) e
+    where
+      go : (o : Option Candidate) → number_in cs o ≡ Some k → k < length cs
+      go None e = absurd cc
+      go (Some c) e = place_low cs (making c) k e
+
+  -- one more job is there
+  pub holds_push : (old new : Reached) (cs : List Candidate) (c : Candidate) → IsSmall (making c) → get_by_text old.numbers (key (making c)) ≡ None →
+      new.jobs ≡ old.jobs ++ job flow L c ∷ [] → AllByRecursion (λ (w : Text). is_done old w ≡ true) (wants flow L c) →
+      new.befores ≡ old.befores ++ distinct nat_eq (filter_map (number_done old) (wants flow L c)) ∷ [] → new.makers ≡ old.makers →
+      ((q : List ℕ) → get_by_text new.numbers q ≡ cond (bytes_eq (key (making c)) q) (Some (length old.jobs)) (get_by_text old.numbers q)) →
+      ((q : Path) → get_by_text new.done q ≡ get_by_text old.done q) →
+      Holds flow sources L old cs → Holds flow sources L new (added cs c) × (place_of (added cs c) (making c) ≡ Some (length old.jobs))
+  holds_push old new cs c small none jobs ready befores makers numbers done h =
+      (subst (Holds flow sources L new) (sym grown) pushed, subst (λ ds. place_of ds (making c) ≡ Some (length old.jobs)) (sym grown) last)
+    where
+      unseen : place_of cs (making c) ≡ None
+      unseen = sym (h.numbers (making c) small) ∙ none
+
+      grown : added cs c ≡ cs ++ c ∷ []
+      grown = ap (λ b. cond b cs (cs ++ c ∷ [])) (unplaced cs (making c) unseen)
+
+      long : length old.jobs ≡ length cs
+      long = ap length h.jobs ∙ length_map (job flow L) cs
+
+      last : place_of (cs ++ c ∷ []) (making c) ≡ Some (length old.jobs)
+      last = place_push cs c (making c) ∙ ap (λ o. or_place o (place_if (is_job (making c) c) (length cs))) unseen ∙ ap (λ b. place_if b (length cs)) (is_its_job c) ∙ ap Some (sym long)
+
+      number : (m : Making) → IsSmall m → (b : Bool) → bytes_eq (key (making c)) (key m) ≡ b → cond b (Some (length old.jobs)) (get_by_text old.numbers (key m)) ≡ place_of (cs ++ c ∷ []) m
+      number m sm true e =
+          let same : making c ≡ m = keys_one (making c) m small sm ((bytes_eq-Decides (key (making c)) (key m)).0 e) in
+          sym last ∙ ap (place_of (cs ++ c ∷ [])) same
+      number m sm false e = h.numbers m sm ∙ go (is_job m c) refl ∙ sym (place_push cs c m)
+        where
+          or_none : (o : Option ℕ) → o ≡ or_place o None
+          or_none None = refl
+          or_none (Some n) = refl
+
+          go : (b : Bool) → is_job m c ≡ b → place_of cs m ≡ or_place (place_of cs m) (place_if (is_job m c) (length cs))
+          go true is = absurd (true≢false (sym ((bytes_eq-Decides (key (making c)) (key m)).1 (ap key (job_is m c is))) ∙ e))
+          go false is = or_none (place_of cs m) ∙ ap (λ b. or_place (place_of cs m) (place_if b (length cs))) (sym is)
+
+      more : Within cs (cs ++ c ∷ [])
+      more = subst (Within cs) grown (within_added cs c)
+
+      -- a path that is done has the number that it will have
+      settled_at : (w : Text) → is_done old w ≡ true → (number_done old w ≡ number_for flow sources L cs w) × (number_for flow sources L cs w ≡ number_for flow sources L (cs ++ c ∷ []) w)
+      settled_at w e = at (get_by_text old.done w) refl e
+        where
+          at : (o : Option (Option ℕ)) → get_by_text old.done w ≡ o → is_some o ≡ true → (flat o ≡ number_for flow sources L cs w) × (number_for flow sources L cs w ≡ number_for flow sources L (cs ++ c ∷ []) w)
+          at (Some k) f g = let d = h.done w k f in (d.is, number_stays cs (cs ++ c ∷ []) more w d.called)
+          at None f g = absurd (true≢false (sym g))
+
+      befores_stay : (d : Candidate) → AllByRecursion (λ (w : Text). is_done old w ≡ true) (wants flow L d) → befores_of flow sources L cs d ≡ befores_of flow sources L (cs ++ c ∷ []) d
+      befores_stay d all = ap (distinct nat_eq) (filter_same (number_for flow sources L cs) (number_for flow sources L (cs ++ c ∷ [])) (wants flow L d)
+          (all_map (λ (w : Text). is_done old w ≡ true) (λ (w : Text). number_for flow sources L cs w ≡ number_for flow sources L (cs ++ c ∷ []) w) (λ w e. (settled_at w e).1) (wants flow L d) all))
+
+      own_befores : distinct nat_eq (filter_map (number_done old) (wants flow L c)) ≡ befores_of flow sources L cs c
+      own_befores = ap (distinct nat_eq) (filter_same (number_done old) (number_for flow sources L cs) (wants flow L c)
+          (all_map (λ (w : Text). is_done old w ≡ true) (λ (w : Text). number_done old w ≡ number_for flow sources L cs w) (λ w e. (settled_at w e).0) (wants flow L c) ready))
+
+      low : AllByRecursion (λ k. k < length cs) (befores_of flow sources L cs c)
+      low = all_low (λ k. k < length cs) (number_for flow sources L cs) (λ w k e. number_low cs w k e) (wants flow L c)
+
+      long_befores : length old.befores ≡ length cs
+      long_befores = ap length h.befores ∙ length_map (befores_of flow sources L cs) cs
+
+      still : (d : Candidate) → AllByRecursion (λ (w : Text). is_done old w ≡ true) (wants flow L d) → AllByRecursion (λ (w : Text). is_done new w ≡ true) (wants flow L d)
+      still d all = all_map (λ (w : Text). is_done old w ≡ true) (λ (w : Text). is_done new w ≡ true) (λ w e. ap is_some (done w) ∙ e) (wants flow L d) all
+
+      zero_plus : length cs ≡ 0 + length old.befores
+      zero_plus = let e = long_befores in omega arith
+
+      pushed : Holds flow sources L new (cs ++ c ∷ [])
+      pushed = record {
+        jobs = jobs ∙ ap (λ js. js ++ job flow L c ∷ []) h.jobs ∙ sym (map_push (job flow L) cs c);
+        numbers = λ m sm. numbers (key m) ∙ number m sm (bytes_eq (key (making c)) (key m)) refl;
+        done = λ q k e. done_grows cs (cs ++ c ∷ []) more q k (h.done q k (sym (done q) ∙ e));
+        served = all_push (λ (d : Candidate). AllByRecursion (λ (w : Text). is_done new w ≡ true) (wants flow L d)) cs c
+            (all_map (λ (d : Candidate). AllByRecursion (λ (w : Text). is_done old w ≡ true) (wants flow L d)) (λ (d : Candidate). AllByRecursion (λ (w : Text). is_done new w ≡ true) (wants flow L d)) still cs h.served)
+            (still c ready);
+        told = λ q. ap (λ ms. maker_told ms q) makers ∙ h.told q ∙ sym (done q);
+        once = subst AreOnce (sym makers) h.once;
+        befores = befores ∙ ap₂ (λ bs b. bs ++ b ∷ []) (h.befores ∙ map_same (befores_of flow sources L cs) (befores_of flow sources L (cs ++ c ∷ [])) cs
+            (all_map (λ (d : Candidate). AllByRecursion (λ (w : Text). is_done old w ≡ true) (wants flow L d)) (λ (d : Candidate). befores_of flow sources L cs d ≡ befores_of flow sources L (cs ++ c ∷ []) d) befores_stay cs h.served))
+            (own_befores ∙ befores_stay c ready) ∙ sym (map_push (befores_of flow sources L (cs ++ c ∷ [])) cs c);
+        lower = subst (AreLower 0) (sym befores) (lower_push 0 old.befores (distinct nat_eq (filter_map (number_done old) (wants flow L c))) h.lower
+            (subst (AllByRecursion (λ k. k < 0 + length old.befores)) (sym own_befores) (subst (λ n. AllByRecursion (λ k. k < n) (befores_of flow sources L cs c)) zero_plus low)));
+      }

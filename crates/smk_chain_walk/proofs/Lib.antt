@@ -1,0 +1,15 @@
+mod Depths
+mod Apart
+mod Adding
+mod Numbers
+mod Links
+mod Keeping
+mod Visiting
+mod Missing
+mod RuleAt
+mod Taken
+mod Descent
+mod Targets
+pub mod Climbed
+pub mod Covering
+pub mod Tops

@@ -1,0 +1,7 @@
+pub mod Numbers
+pub mod Links
+pub mod Steps
+pub mod Folders
+pub mod Stepping
+pub mod Once
+pub mod Heights

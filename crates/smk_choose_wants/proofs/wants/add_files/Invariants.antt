@@ -1,0 +1,9 @@
+use Rattle.std.proofs.Common.{◌≡◌, ◌++◌, map, take}
+use Rattle.std.specs.List.{flat_map}
+use Rattle.smk_flow.specs.declared.rule.InPart.{InPart}
+use Rattle.smk_chain.specs.Derive.{gathered_in}
+use Rattle.smk_choose_wants.specs.Wants.{candidate_of, want_of}
+use Rattle.smk_choose_wants.proofs.wants.add_files.Given as goal
+
+abbrev pub invariant-loop-input : goal.invariant-loop-input
+invariant-loop-input l = l.found ≡ l.initial.found ++ map want_of (flat_map (λ (i : InPart). gathered_in l.flow l.lists (candidate_of l.making l.part) i.gather) (take l.input-index l.input-items))

@@ -1,5 +1,0 @@
-mod Lookups
-mod Firsts
-mod Spots
-mod Stored
-pub mod Seen

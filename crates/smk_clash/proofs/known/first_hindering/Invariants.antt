@@ -1,8 +1,0 @@
-use Rattle.std.proofs.Common.{◌≡◌, drop}
-use Rattle.std.specs.List.{filter}
-use Rattle.smk_world.specs.Trees.{first}
-use Rattle.smk_clash.specs.Clashes.{hinders_in}
-use Rattle.smk_clash.proofs.known.first_hindering.Given as goal
-
-abbrev pub invariant-loop-path : goal.invariant-loop-path
-invariant-loop-path l = first (filter (hinders_in l.store l.spot) l.paths) ≡ first (filter (hinders_in l.store l.spot) (drop l.path-index l.paths))

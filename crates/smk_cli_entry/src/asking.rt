@@ -1,0 +1,118 @@
+//! What words ask of a workflow.
+
+ghost use Rattle.std.specs.Prelude.{◌≡◌, [], Ok, Some, None, IfOk, IfErr, IsSome, option_map, false, true};
+ghost use Rattle.smk_world.specs.Calls.{HasCause};
+ghost use Rattle.smk_world.specs.Runs.{Did};
+ghost use Rattle.smk_eval_files.specs.Looks.{HasSeen};
+ghost use Rattle.smk_flow.specs.Targets.{words_of, all_paths, first_bad};
+ghost use Rattle.smk_cli_entry.specs.Faults.{device_failed, is_told, is_sink};
+ghost use Rattle.smk_cli_entry.specs.Forms as forms;
+ghost use Rattle.smk_cli_entry.specs.Entry as spec;
+
+use crate::forms::{not_built, unbuilt};
+use crate::reading::{Reading, read_workflow};
+use smk_base::{List, PathText, Text};
+use smk_flow::{TargetFault, Workflow, targets};
+use smk_report::Fault;
+use smk_world::Files;
+use std::alloc::Global;
+
+/// A workflow, the file that has it, and the paths that it is to make.
+#[derive(Debug, Drop)]
+pub struct Asked {
+    pub file: PathText,
+    pub flow: Workflow,
+    pub targets: List<PathText>,
+}
+
+// Refuses what no run can do yet.
+fn all_built(alloc: Global, reading: &Reading) -> Result<(), Fault>
+    ensures is { spec.Refuses (option_map (forms.not_built reading.now.file) (forms.unbuilt reading.now.flow.rules)) result }
+    ensures no_device { device_failed result ≡ false }
+    ensures no_sink { IfErr result (λ f. is_sink f ≡ false) }
+{
+    match unbuilt(reading.flow.rules().as_slice()) {
+        None => Ok(()),
+        Some(word) => Err(not_built(alloc, &reading.file, word)?),
+    }
+}
+
+// The same, for a run; a listing refuses none of it.
+fn built(alloc: Global, run: bool, reading: &Reading) -> Result<(), Fault>
+    ensures is { spec.Refuses (option_map (forms.not_built reading.now.file) (forms.unbuilt_for run reading.now.flow.rules)) result }
+    ensures no_device { device_failed result ≡ false }
+    ensures no_sink { IfErr result (λ f. is_sink f ≡ false) }
+{
+    if run {
+        all_built(alloc, reading)
+    } else {
+        Ok(())
+    }
+}
+
+// The paths that the words stand for.
+fn targets_of(alloc: Global, flow: &Workflow, words: &List<Text>) -> Result<List<PathText>, Fault>
+    ensures is { spec.Refuses (option_map Fault.BadTarget (first_bad flow.now (words_of flow.now words.now))) result }
+    ensures paths { IfOk result (λ paths. paths ≡ all_paths flow.now (words_of flow.now words.now)) }
+    ensures no_device { device_failed result ≡ false }
+    ensures no_sink { IfErr result (λ f. is_sink f ≡ false) }
+{
+    match targets(alloc, flow, words) {
+        Ok(paths) => Ok(paths),
+        Err(TargetFault::BadTarget(word)) => Err(Fault::BadTarget { word }),
+        Err(TargetFault::OutOfMemory) => Err(Fault::OutOfMemory),
+    }
+}
+
+// What the words ask of a workflow in which no form is refused.
+fn asked_of(alloc: Global, run: bool, reading: Reading, words: &List<Text>) -> Result<Asked, Fault>
+    requires built { forms.unbuilt_for run reading.flow.rules ≡ None }
+    ensures is { spec.Asks run words.now reading result }
+    ensures no_device { device_failed result ≡ false }
+    ensures no_sink { IfErr result (λ f. is_sink f ≡ false) }
+{
+    let paths = targets_of(alloc, &reading.flow, words)?;
+    Ok(Asked {
+        file: reading.file,
+        flow: reading.flow,
+        targets: paths,
+    })
+}
+
+// What the words ask of a workflow that was read.
+fn asked_in(alloc: Global, run: bool, reading: Reading, words: &List<Text>) -> Result<Asked, Fault>
+    ensures is { spec.Asks run words.now reading result }
+    ensures no_device { device_failed result ≡ false }
+    ensures no_sink { IfErr result (λ f. is_sink f ≡ false) }
+{
+    match built(alloc, run, &reading) {
+        Err(fault) => Err(fault),
+        Ok(()) => asked_of(alloc, run, reading, words),
+    }
+}
+
+/// What the words, rules' names and paths, ask of the workflow of the folder, for a run or else for a listing. Nothing in the folder changes. No child
+/// may run.
+///
+/// The faults come in this order: those of `read_workflow`; for a run `Unsupported` with line 1 of the workflow's file and the first form that no run can
+/// do yet, a word of `checkpoint`, `temp`, `protected`, `directory` and `from_checkpoint`; `BadTarget` with the first word that is no target.
+/// `Device` comes where the device failed, `OutOfMemory` where there is no memory for the workflow and its targets.
+pub fn ask<W: Files>(
+    alloc: Global,
+    run: bool,
+    work: &mut W,
+    words: &List<Text>,
+) -> Result<Asked, Fault>
+    requires none_runs { W.running work.old ≡ [] }
+    ensures did { Did W.act (W.world work.old) (W.world work.new)
+        (HasSeen (device_failed result) (λ nodes. spec.IsAskedIn run words.now nodes result)) }
+    ensures stays { device_failed result ≡ false → IsSome (W.world work.old) → IsSome (W.world work.new) }
+    ensures cause { HasCause (W.faults work.old) (W.faults work.new) (device_failed result ≡ true) }
+    ensures running { W.running work.new ≡ W.running work.old }
+    ensures no_sink { IfErr result (λ f. is_sink f ≡ false) }
+{
+    match read_workflow(alloc, work) {
+        Err(fault) => Err(fault),
+        Ok(reading) => asked_in(alloc, run, reading, words),
+    }
+}

@@ -1,0 +1,195 @@
+//! The file that has the workflow.
+
+ghost use Rattle.std.specs.Prelude.{◌≡◌, ◌∷◌, [], Ok, Some, None, IfErr, IsSome, codes, false, true};
+ghost use Rattle.smk_base.specs.Path.{is_path};
+ghost use Rattle.smk_world.specs.Calls.{HasCause, stat_of};
+ghost use Rattle.smk_world.specs.Runs.{Did};
+ghost use Rattle.smk_eval_files.specs.Looks.{HasSeen, at};
+ghost use Rattle.smk_cli_entry.specs.Faults.{Answers, device_failed, is_sink};
+ghost use Rattle.smk_cli_entry.specs.Forms.{or_else};
+ghost use Rattle.smk_cli_entry.specs.Names as spec;
+
+use smk_base::{PathFault, PathText, Place, Text};
+use smk_report::Fault;
+use smk_world::{Failed, Files, Stat};
+use std::alloc::Global;
+
+/// What stands at the place.
+fn stat<W: Files>(work: &mut W, place: &Place) -> Result<Stat, Fault>
+    requires none_runs { W.running work.old ≡ [] }
+    ensures did { Did W.act (W.world work.old) (W.world work.new)
+        (HasSeen (device_failed result) (λ nodes. Answers (Ok (stat_of (at nodes place.now))) result)) }
+    ensures stays { device_failed result ≡ false → IsSome (W.world work.old) → IsSome (W.world work.new) }
+    ensures cause { HasCause (W.faults work.old) (W.faults work.new) (device_failed result ≡ true) }
+    ensures running { W.running work.new ≡ W.running work.old }
+    ensures no_sink { IfErr result (λ f. is_sink f ≡ false) }
+{
+    match work.stat(place) {
+        Ok(stat) => Ok(stat),
+        Err(Failed) => Err(Fault::Device),
+    }
+}
+
+// The path, where a file stands there.
+fn where_file(path: PathText, stat: Stat) -> Option<PathText>
+    ensures { result ≡ spec.where_file path stat }
+{
+    match stat {
+        Stat::File { .. } => Some(path),
+        Stat::Nothing | Stat::Folder => None,
+    }
+}
+
+// The path, of this place, where a file is there.
+fn file_in<W: Files>(work: &mut W, place: &Place, path: PathText) -> Result<Option<PathText>, Fault>
+    requires none_runs { W.running work.old ≡ [] }
+    ensures did { Did W.act (W.world work.old) (W.world work.new)
+        (HasSeen (device_failed result) (λ nodes. Answers (Ok (spec.where_file path (stat_of (at nodes place.now)))) result)) }
+    ensures stays { device_failed result ≡ false → IsSome (W.world work.old) → IsSome (W.world work.new) }
+    ensures cause { HasCause (W.faults work.old) (W.faults work.new) (device_failed result ≡ true) }
+    ensures running { W.running work.new ≡ W.running work.old }
+    ensures no_sink { IfErr result (λ f. is_sink f ≡ false) }
+{
+    match stat(work, place) {
+        Err(fault) => Err(fault),
+        Ok(stat) => Ok(where_file(path, stat)),
+    }
+}
+
+// The path, where a file is there.
+fn file_at<W: Files>(alloc: Global, work: &mut W, path: PathText) -> Result<Option<PathText>, Fault>
+    requires none_runs { W.running work.old ≡ [] }
+    ensures did { Did W.act (W.world work.old) (W.world work.new)
+        (HasSeen (device_failed result) (λ nodes. Answers (Ok (spec.file_at nodes path)) result)) }
+    ensures stays { device_failed result ≡ false → IsSome (W.world work.old) → IsSome (W.world work.new) }
+    ensures cause { HasCause (W.faults work.old) (W.faults work.new) (device_failed result ≡ true) }
+    ensures running { W.running work.new ≡ W.running work.old }
+    ensures no_sink { IfErr result (λ f. is_sink f ≡ false) }
+{
+    let Ok(place) = Place::user(alloc, &path) else {
+        return Err(Fault::OutOfMemory);
+    };
+    file_in(work, &place, path)
+}
+
+// The file of this name, where it is there.
+fn file_named<W: Files>(alloc: Global, work: &mut W, name: &str) -> Result<Option<PathText>, Fault>
+    requires none_runs { W.running work.old ≡ [] }
+    requires named { is_path name.now ≡ true }
+    ensures did { Did W.act (W.world work.old) (W.world work.new)
+        (HasSeen (device_failed result) (λ nodes. Answers (Ok (spec.file_at nodes name.now)) result)) }
+    ensures stays { device_failed result ≡ false → IsSome (W.world work.old) → IsSome (W.world work.new) }
+    ensures cause { HasCause (W.faults work.old) (W.faults work.new) (device_failed result ≡ true) }
+    ensures running { W.running work.new ≡ W.running work.old }
+    ensures no_sink { IfErr result (λ f. is_sink f ≡ false) }
+{
+    match PathText::read(alloc, name) {
+        Ok(path) => file_at(alloc, work, path),
+        Err(PathFault::BadPath) => Ok(None),
+        Err(PathFault::OutOfMemory) => Err(Fault::OutOfMemory),
+    }
+}
+
+// The file that was found earlier, or else the one of this name.
+fn earlier_or<W: Files>(
+    alloc: Global,
+    work: &mut W,
+    earlier: Option<PathText>,
+    name: &str,
+) -> Result<Option<PathText>, Fault>
+    requires none_runs { W.running work.old ≡ [] }
+    requires named { is_path name.now ≡ true }
+    ensures did { Did W.act (W.world work.old) (W.world work.new)
+        (HasSeen (device_failed result) (λ nodes. Answers (Ok (or_else earlier (spec.file_at nodes name.now))) result)) }
+    ensures stays { device_failed result ≡ false → IsSome (W.world work.old) → IsSome (W.world work.new) }
+    ensures cause { HasCause (W.faults work.old) (W.faults work.new) (device_failed result ≡ true) }
+    ensures running { W.running work.new ≡ W.running work.old }
+    ensures no_sink { IfErr result (λ f. is_sink f ≡ false) }
+{
+    match earlier {
+        Some(path) => Ok(Some(path)),
+        None => file_named(alloc, work, name),
+    }
+}
+
+// The first of two files.
+fn first_of_two<W: Files>(alloc: Global, work: &mut W) -> Result<Option<PathText>, Fault>
+    requires none_runs { W.running work.old ≡ [] }
+    ensures did { Did W.act (W.world work.old) (W.world work.new) (HasSeen (device_failed result)
+        (λ nodes. Answers (Ok (spec.first_file nodes (codes "Snakefile" ∷ codes "snakefile" ∷ []))) result)) }
+    ensures stays { device_failed result ≡ false → IsSome (W.world work.old) → IsSome (W.world work.new) }
+    ensures cause { HasCause (W.faults work.old) (W.faults work.new) (device_failed result ≡ true) }
+    ensures running { W.running work.new ≡ W.running work.old }
+    ensures no_sink { IfErr result (λ f. is_sink f ≡ false) }
+{
+    match file_named(alloc, work, "Snakefile") {
+        Err(fault) => Err(fault),
+        Ok(earlier) => earlier_or(alloc, work, earlier, "snakefile"),
+    }
+}
+
+// The first of three files.
+fn first_of_three<W: Files>(alloc: Global, work: &mut W) -> Result<Option<PathText>, Fault>
+    requires none_runs { W.running work.old ≡ [] }
+    ensures did { Did W.act (W.world work.old) (W.world work.new) (HasSeen (device_failed result)
+        (λ nodes. Answers (Ok (spec.first_file nodes (codes "Snakefile" ∷ codes "snakefile" ∷ codes "workflow/Snakefile" ∷ []))) result)) }
+    ensures stays { device_failed result ≡ false → IsSome (W.world work.old) → IsSome (W.world work.new) }
+    ensures cause { HasCause (W.faults work.old) (W.faults work.new) (device_failed result ≡ true) }
+    ensures running { W.running work.new ≡ W.running work.old }
+    ensures no_sink { IfErr result (λ f. is_sink f ≡ false) }
+{
+    match first_of_two(alloc, work) {
+        Err(fault) => Err(fault),
+        Ok(earlier) => earlier_or(alloc, work, earlier, "workflow/Snakefile"),
+    }
+}
+
+// The first of all files.
+fn first_file<W: Files>(alloc: Global, work: &mut W) -> Result<Option<PathText>, Fault>
+    requires none_runs { W.running work.old ≡ [] }
+    ensures did { Did W.act (W.world work.old) (W.world work.new)
+        (HasSeen (device_failed result) (λ nodes. Answers (Ok (spec.first_file nodes spec.file_names)) result)) }
+    ensures stays { device_failed result ≡ false → IsSome (W.world work.old) → IsSome (W.world work.new) }
+    ensures cause { HasCause (W.faults work.old) (W.faults work.new) (device_failed result ≡ true) }
+    ensures running { W.running work.new ≡ W.running work.old }
+    ensures no_sink { IfErr result (λ f. is_sink f ≡ false) }
+{
+    match first_of_three(alloc, work) {
+        Err(fault) => Err(fault),
+        Ok(earlier) => earlier_or(alloc, work, earlier, "workflow/snakefile"),
+    }
+}
+
+// The file that was found, or the fault that there is none.
+fn or_no_file(alloc: Global, found: Option<PathText>) -> Result<PathText, Fault>
+    ensures is { Answers (spec.or_no_file found) result }
+    ensures no_device { device_failed result ≡ false }
+    ensures no_sink { IfErr result (λ f. is_sink f ≡ false) }
+{
+    match found {
+        Some(path) => Ok(path),
+        None => Err(Fault::NoFile {
+            file: Text::of(alloc, "Snakefile")?,
+        }),
+    }
+}
+
+/// The file with the workflow of the folder: the first that is there of `Snakefile`, `snakefile`, `workflow/Snakefile` and
+/// `workflow/snakefile`. Nothing in the folder changes. No child may run.
+///
+/// `NoFile` of `Snakefile` exactly where none of them is there; `Device` where the device failed; `OutOfMemory` where there is no memory for
+/// the path.
+pub fn workflow_file<W: Files>(alloc: Global, work: &mut W) -> Result<PathText, Fault>
+    requires none_runs { W.running work.old ≡ [] }
+    ensures did { Did W.act (W.world work.old) (W.world work.new)
+        (HasSeen (device_failed result) (λ nodes. Answers (spec.workflow_file nodes) result)) }
+    ensures stays { device_failed result ≡ false → IsSome (W.world work.old) → IsSome (W.world work.new) }
+    ensures cause { HasCause (W.faults work.old) (W.faults work.new) (device_failed result ≡ true) }
+    ensures running { W.running work.new ≡ W.running work.old }
+    ensures no_sink { IfErr result (λ f. is_sink f ≡ false) }
+{
+    match first_file(alloc, work) {
+        Err(fault) => Err(fault),
+        Ok(found) => or_no_file(alloc, found),
+    }
+}

@@ -1,0 +1,62 @@
+//! The workflow of a folder.
+
+ghost use Rattle.std.specs.Prelude.{◌≡◌, [], IfErr, IsSome, false, true};
+ghost use Rattle.smk_world.specs.Calls.{HasCause};
+ghost use Rattle.smk_world.specs.Runs.{Did};
+ghost use Rattle.smk_eval_files.specs.Looks.{HasSeen};
+ghost use Rattle.smk_cli_entry.specs.Faults.{device_failed, is_sink};
+ghost use Rattle.smk_cli_entry.specs.Entry as spec;
+
+use crate::faults::of_load;
+use crate::naming::workflow_file;
+use smk_base::{List, PathText};
+use smk_eval::load;
+use smk_flow::Workflow;
+use smk_report::Fault;
+use smk_world::Files;
+use std::alloc::Global;
+
+/// A workflow, and the file that has it.
+#[derive(Debug, Drop)]
+pub struct Reading {
+    pub file: PathText,
+    pub flow: Workflow,
+}
+
+// The workflow of the file.
+#[tactic(auto, using(crate::proofs::Loads::load_no_sink))]
+fn read_in<W: Files>(alloc: Global, work: &mut W, file: PathText) -> Result<Reading, Fault>
+    requires none_runs { W.running work.old ≡ [] }
+    ensures did { Did W.act (W.world work.old) (W.world work.new)
+        (HasSeen (device_failed result) (λ nodes. spec.IsReadIn nodes file result)) }
+    ensures stays { device_failed result ≡ false → IsSome (W.world work.old) → IsSome (W.world work.new) }
+    ensures cause { HasCause (W.faults work.old) (W.faults work.new) (device_failed result ≡ true) }
+    ensures running { W.running work.new ≡ W.running work.old }
+    ensures no_sink { IfErr result (λ f. is_sink f ≡ false) }
+{
+    match load(alloc, work, &file, &List::new(alloc)) {
+        Err(fault) => Err(of_load(fault)),
+        Ok(flow) => Ok(Reading { file, flow }),
+    }
+}
+
+/// The workflow of the folder, from the first of its files that is there. Nothing in the folder changes. No child may run.
+///
+/// The faults are `NoFile` of `Snakefile` where there is no such file, and then those of reading the file, its includes and
+/// its configurations: for each file, depth first, `NoFile`, `TooBig`, `IncludeDepth` and those of its tokens and its grammar; for each
+/// configuration, in order, `NoFile`, `TooBig` and `BadConfig` with an empty key; those of the statements, in order; those of the rules; those of
+/// the clauses. `Device` comes where the device failed, `OutOfMemory` where there is no memory for the workflow.
+pub fn read_workflow<W: Files>(alloc: Global, work: &mut W) -> Result<Reading, Fault>
+    requires none_runs { W.running work.old ≡ [] }
+    ensures did { Did W.act (W.world work.old) (W.world work.new)
+        (HasSeen (device_failed result) (λ nodes. spec.IsRead nodes result)) }
+    ensures stays { device_failed result ≡ false → IsSome (W.world work.old) → IsSome (W.world work.new) }
+    ensures cause { HasCause (W.faults work.old) (W.faults work.new) (device_failed result ≡ true) }
+    ensures running { W.running work.new ≡ W.running work.old }
+    ensures no_sink { IfErr result (λ f. is_sink f ≡ false) }
+{
+    match workflow_file(alloc, work) {
+        Err(fault) => Err(fault),
+        Ok(file) => read_in(alloc, work, file),
+    }
+}

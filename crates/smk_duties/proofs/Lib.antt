@@ -1,5 +1,0 @@
-pub mod Numbered
-pub mod Able
-pub mod Served
-pub mod Kept
-pub mod Meant

@@ -1,0 +1,99 @@
+//! The workflow of a working folder.
+
+ghost use Rattle.std.specs.Prelude.{◌≡◌, [], IfOk, IsSome, false, true};
+ghost use Rattle.smk_world.specs.Calls.{HasCause};
+ghost use Rattle.smk_world.specs.Runs.{Did};
+ghost use Rattle.smk_config.specs.Settings.{members};
+ghost use Rattle.smk_eval_files.specs.Looks.{HasSeen};
+ghost use Rattle.smk_eval_files.specs.Texts.{whole};
+ghost use Rattle.smk_eval.specs.Statements.{evaluated};
+ghost use Rattle.smk_eval.specs.Faults.{device_failed, from_said};
+ghost use Rattle.smk_eval.specs.Loading as spec;
+
+use crate::configs::{config_files, configs, with_sets};
+use crate::evaluate;
+use crate::load_fault::LoadFault;
+use crate::load_faults::{of_eval, of_file};
+use smk_base::{List, OutOfMemory, Pair, PathText, Text};
+use smk_config::Config;
+use smk_eval_files::{ReadFile, read_files, text_of};
+use smk_flow::Workflow;
+use smk_world::Files;
+use std::alloc::Global;
+
+// The texts of the `configfile` statements of the files, in order.
+fn configs_named(alloc: Global, files: &[ReadFile]) -> Result<List<Text>, OutOfMemory>
+    ensures { IfOk result (λ texts. texts ≡ spec.config_files (whole files.now)) }
+{
+    let text = text_of(alloc, files)?;
+    config_files(alloc, &text)
+}
+
+// The workflow of the files with this configuration and the texts that are set.
+#[tactic(auto, using(crate::proofs::Giving::gives_said, crate::proofs::Giving::fails_said))]
+fn evaluated(
+    alloc: Global,
+    files: &List<ReadFile>,
+    config: Config,
+    sets: &List<Pair>,
+) -> Result<Workflow, LoadFault>
+    ensures is { spec.Gives (from_said (evaluated (spec.with_sets (members config) sets.now) files.now)) result }
+    ensures no_device { device_failed result ≡ false }
+{
+    let config = with_sets(alloc, config, sets.as_slice())?;
+    match evaluate(alloc, files, &config) {
+        Ok(flow) => Ok(flow),
+        Err(fault) => Err(of_eval(fault)),
+    }
+}
+
+// The workflow of files that were read.
+fn said_by<W: Files>(
+    alloc: Global,
+    work: &mut W,
+    files: &List<ReadFile>,
+    sets: &List<Pair>,
+) -> Result<Workflow, LoadFault>
+    requires none_runs { W.running work.old ≡ [] }
+    ensures did { Did W.act (W.world work.old) (W.world work.new)
+        (HasSeen (device_failed result) (λ nodes. spec.Gives (spec.said_by nodes sets.now files.now) result)) }
+    ensures stays { device_failed result ≡ false → IsSome (W.world work.old) → IsSome (W.world work.new) }
+    ensures cause { HasCause (W.faults work.old) (W.faults work.new) (device_failed result ≡ true) }
+    ensures running { W.running work.new ≡ W.running work.old }
+{
+    match configs_named(alloc, files.as_slice()) {
+        Err(_) => Err(LoadFault::OutOfMemory),
+        Ok(texts) => match configs(alloc, work, texts.as_slice()) {
+            Err(fault) => Err(fault),
+            Ok(config) => evaluated(alloc, files, config, sets),
+        },
+    }
+}
+
+/// The workflow of this file, of its includes and configurations, with the texts of `sets` put into the configuration, later ones
+/// over earlier ones. Nothing in the folder changes. No child may run.
+///
+/// The faults come in this order: for each file, depth first, `NoFile`, `TooBig`, `IncludeDepth` and those of its tokens and its grammar;
+/// for each configuration, in order, `NoFile`, `TooBig` and `BadConfig` with an empty key; those of the statements, in order; those of the
+/// rules; those of the clauses. `Device` comes where the device failed, `OutOfMemory` where there is no memory for the workflow.
+pub fn load<W: Files>(
+    alloc: Global,
+    work: &mut W,
+    file: &PathText,
+    sets: &List<Pair>,
+) -> Result<Workflow, LoadFault>
+    requires none_runs { W.running work.old ≡ [] }
+    ensures did { Did W.act (W.world work.old) (W.world work.new)
+        (HasSeen (device_failed result) (λ nodes. spec.Gives (spec.loaded nodes file.now sets.now) result)) }
+    ensures stays { device_failed result ≡ false → IsSome (W.world work.old) → IsSome (W.world work.new) }
+    ensures cause { HasCause (W.faults work.old) (W.faults work.new) (device_failed result ≡ true) }
+    ensures running { W.running work.new ≡ W.running work.old }
+{
+    let Ok(path) = file.copy(alloc) else {
+        return Err(LoadFault::OutOfMemory);
+    };
+    match read_files(alloc, work, path) {
+        Err(fault) => Err(of_file(fault)),
+        Ok(files) => said_by(alloc, work, &files, sets),
+    }
+}

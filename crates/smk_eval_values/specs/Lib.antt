@@ -1,0 +1,5 @@
+pub mod Letters
+pub mod Expanding
+pub mod Counting
+pub mod Values
+pub mod Expressions

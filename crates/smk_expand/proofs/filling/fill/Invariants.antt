@@ -1,6 +1,0 @@
-use Rattle.std.proofs.Common.{◌≡◌, take, string_bytes}
-use Rattle.smk_expand.specs.Letters.{filled, letters_of}
-use Rattle.smk_expand.proofs.filling.fill.Given as goal
-
-abbrev pub invariant-loop-piece : goal.invariant-loop-piece
-invariant-loop-piece l = string_bytes l.text ≡ filled l.bound (letters_of (take l.piece-index l.pieces))

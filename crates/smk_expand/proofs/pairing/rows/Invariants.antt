@@ -1,7 +1,0 @@
-use Rattle.std.proofs.Common.{◌≡◌, drop}
-use Rattle.smk_expand.specs.Letters.{letters_of}
-use Rattle.smk_expand.specs.Expanding.{rows}
-use Rattle.smk_expand.proofs.pairing.rows.Given as goal
-
-abbrev pub invariant-loop-choice : goal.invariant-loop-choice
-invariant-loop-choice l = rows (letters_of l.pieces) (drop l.choice-index l.choices) ≡ rows (letters_of l.pieces) l.choices

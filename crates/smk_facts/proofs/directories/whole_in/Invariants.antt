@@ -1,8 +1,0 @@
-use Rattle.std.proofs.Common.{◌≡◌, map, take}
-use Rattle.std.specs.List.{flat_map}
-use Rattle.smk_world.specs.declared.recipe.OutItem.{OutItem}
-use Rattle.smk_facts.specs.Telling.{whole_at}
-use Rattle.smk_facts.proofs.directories.whole_in.Given as goal
-
-abbrev pub invariant-loop-item : goal.invariant-loop-item
-invariant-loop-item g l = l.flags ≡ flat_map (λ (item : OutItem). map (whole_at (g.T.Told.known l.told) (g.T.Told.seen l.told)) item.outs) (take l.item-index l.outputs)

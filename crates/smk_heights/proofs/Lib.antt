@@ -1,3 +1,0 @@
-pub mod Climbed
-pub mod Covering
-pub mod Tops

@@ -1,6 +1,0 @@
-use Rattle.smk_linked.proofs.Made.{linked_made}
-use Rattle.smk_linked.proofs.Telling.{linked_tell}
-use Rattle.smk_linked.proofs.links_tell.Goals as goal
-
-pub returns : goal.returns
-returns c = record { sources = linked_tell; made = linked_made }

@@ -1,7 +1,0 @@
-//! The listing of a plan.
-#![tactic(auto)]
-
-mod listing;
-mod names;
-
-pub use listing::put_listing;

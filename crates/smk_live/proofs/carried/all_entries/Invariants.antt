@@ -1,6 +1,0 @@
-use Rattle.std.proofs.Common.{◌≡◌, map, take}
-use Rattle.smk_live.specs.Carried.{entries_from}
-use Rattle.smk_live.proofs.carried.all_entries.Given as goal
-
-abbrev pub invariant-loop-job : goal.invariant-loop-job
-invariant-loop-job l = l.found.items ≡ map (entries_from l.base) (take l.job-index l.jobs)

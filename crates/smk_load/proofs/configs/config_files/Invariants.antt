@@ -1,7 +1,0 @@
-use Rattle.std.proofs.Common.{◌≡◌, take}
-use Rattle.smk_files.specs.Placing.{entries}
-use Rattle.smk_load.specs.Loading.{config_files}
-use Rattle.smk_load.proofs.configs.config_files.Given as goal
-
-abbrev pub invariant-loop-placed : goal.invariant-loop-placed
-invariant-loop-placed l = l.files ≡ config_files (entries (take l.placed-index l.text))

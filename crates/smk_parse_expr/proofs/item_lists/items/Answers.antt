@@ -1,0 +1,39 @@
+use Rattle.std.proofs.Common.{rules, arith}
+use Rattle.std.proofs.lemmas.Grind.{common_steps}
+use Rattle.smk_parse_expr.specs.Items.{items, items_from}
+use Rattle.smk_parse_expr.proofs.Turns.{one_more, no_more}
+use Rattle.smk_parse_expr.proofs.item_lists.items.Goals as goal
+
+pub loop-turn-init : goal.loop-turn-init
+unfolding items
+loop-turn-init c = first_of (search rules, grind (arith, common_steps))
+
+pub returns-in_err-next : goal.returns-in_err-next
+unfolding items_from
+returns-in_err-next c =
+    let e = one_more (λ n. items_from n c.loop-turn.found c.loop-turn.cursor) _ c.loop-turn._turn c.loop-turn-test.true c.loop-turn.invariant in
+    first_of (search rules, grind (arith, common_steps))
+
+pub returns-in_err-end : goal.returns-in_err-end
+unfolding items_from
+returns-in_err-end c =
+    let e = one_more (λ n. items_from n c.loop-turn.found c.loop-turn.cursor) _ c.loop-turn._turn c.loop-turn-test.true c.loop-turn.invariant in
+    first_of (search rules, grind (arith, common_steps))
+
+pub returns-then-not-another : goal.returns-then-not-another
+unfolding items_from
+returns-then-not-another c =
+    let e = one_more (λ n. items_from n c.loop-turn.found c.loop-turn.cursor) _ c.loop-turn._turn c.loop-turn-test.true c.loop-turn.invariant in
+    first_of (search rules, grind (arith, common_steps))
+
+pub loop-turn-preserved : goal.loop-turn-preserved
+unfolding items_from
+loop-turn-preserved c =
+    let e = one_more (λ n. items_from n c.loop-turn.found c.loop-turn.cursor) _ c.loop-turn._turn c.loop-turn-test.true c.loop-turn.invariant in
+    first_of (search rules, grind (arith, common_steps))
+
+pub returns : goal.returns
+unfolding items_from
+returns c =
+    let e = no_more (λ n. items_from n c.loop-turn.found c.loop-turn.cursor) _ c.loop-turn._turn c.loop-turn-test.false c.loop-turn.invariant in
+    first_of (search rules, grind (arith, common_steps))

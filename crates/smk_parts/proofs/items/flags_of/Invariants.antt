@@ -1,6 +1,0 @@
-use Rattle.std.proofs.Common.{◌≡◌, [], drop}
-use Rattle.smk_parts.specs.Items.{with_flags}
-use Rattle.smk_parts.proofs.items.flags_of.Given as goal
-
-abbrev pub invariant-loop-word : goal.invariant-loop-word
-invariant-loop-word l = with_flags l.flags (drop l.word-index l.words) ≡ with_flags [] l.words

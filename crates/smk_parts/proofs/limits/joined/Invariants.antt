@@ -1,6 +1,0 @@
-use Rattle.std.proofs.Common.{◌≡◌, ◌++◌, take}
-use Rattle.smk_parts.specs.Kept.{all_lent}
-use Rattle.smk_parts.proofs.limits.joined.Given as goal
-
-abbrev pub invariant-loop-pair : goal.invariant-loop-pair
-invariant-loop-pair l = l.all ≡ l.fn.own ++ all_lent (take l.pair-index l.more)

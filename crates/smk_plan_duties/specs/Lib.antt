@@ -1,0 +1,4 @@
+pub mod Choosing
+pub mod Numbers
+pub mod Meaning
+pub mod Needs

@@ -1,0 +1,28 @@
+//! What the reasons of jobs are judged by, and what of their outputs is whole.
+#![tactic(auto)]
+
+ghost use Rattle.smk_plan_facts.specs.Laws.{FactsAreSo, FactsGiveReasons, WholesAreSo};
+
+mod copies;
+mod directories;
+mod forced;
+mod judged;
+mod known;
+mod stamps;
+mod texts;
+mod whole;
+
+pub use judged::{facts, facts_told, kept_of, marks_of};
+pub use stamps::{sources_of, stamp_now};
+pub use whole::{wholes, wholes_told};
+
+/// The law of facts: they give the reasons by which the states of jobs are told, where nothing runs.
+pub fn facts_are_reasons()
+    ensures { FactsGiveReasons }
+{}
+
+/// The laws of what is told: where what is known and seen is so in an image of the folder, the facts and what is whole by it are those of the image.
+pub fn told_is_so()
+    ensures facts { FactsAreSo }
+    ensures wholes { WholesAreSo }
+{}

@@ -1,0 +1,261 @@
+-- What stays where a job begins or is closed.
+use Rattle.std.proofs.Common.{◌≡◌, ℕ, zero, suc, ◌<◌, Bool, true, false, ◌&&◌, ◌||◌, not, List, [], ◌∷◌, ◌++◌, length, Option, Some, None, is_some, refl, sym, ap, ap₂, subst, ◌∙◌, bytes_eq, arith}
+use Rattle.std.specs.Prelude.{if◌then◌else◌, slice_set, slice_index_or}
+use Rattle.std.specs.List.{list_any, slice_get}
+use Rattle.std.specs.BTreeMap.{get_by_text}
+use Rattle.std.specs.BTreeSet.{contains_text}
+use Rattle.smk_base.proofs.Under.{never_both, false_unless}
+use Rattle.smk_world.specs.World.{out_paths}
+use Rattle.smk_world.specs.Trees.{Path, among, first, outs_of}
+use Rattle.smk_pattern.specs.Reading.{or_empty}
+use Rattle.smk_flow.specs.declared.job.Job.{Job}
+use Rattle.smk_store.specs.declared.store.Entry.{Entry}
+use Rattle.smk_store.specs.Stores.{Known, entry_of}
+use Rattle.smk_trigger.specs.declared.facts.JobFacts.{JobFacts}
+use Rattle.smk_trigger.specs.declared.reason.State.{State}
+use Rattle.smk_trigger.specs.JobStates.{is_restore}
+use Rattle.smk_pick.specs.declared.settings.Settings.{Settings}
+use Rattle.smk_plan.specs.declared.seen.Sight.{Sight}
+use Rattle.smk_plan.specs.States.{job_path, by_force, makes, test_some}
+use Rattle.smk_plan_facts.specs.Facts.{told_sources}
+use Rattle.smk_plan_facts.specs.Telling.{forced_by}
+use Rattle.smk_plan_states.specs.Served.{AreServed}
+use Rattle.smk_plan_live.specs.declared.base.Base.{Base}
+use Rattle.smk_plan_live.specs.declared.sites.Site.{Site}
+use Rattle.smk_plan_live.specs.declared.phase.Phase.{Phase}
+use Rattle.smk_plan_live.specs.declared.phase.Phase.TheVariants.{Running, Closed}
+use Rattle.smk_plan_live.specs.Phases.{has_begun, begun_in}
+use Rattle.smk_plan_live.specs.Now.{joined, row_by, row_at, entry_now, own_sight, seen_before, restores_at, settled, known_now, seen_now}
+use Rattle.smk_plan_live.specs.Same.{AreSameBut, merged, renewed_from, renewed}
+use Rattle.smk_plan_live.specs.Lives.{IsSound, facts_now}
+use Rattle.smk_plan_live.specs.Carried.{has_name, turned, filled}
+use Rattle.smk_plan_live.proofs.Same.{renewed_are}
+use Rattle.smk_plan_live.proofs.Tables.{same_bytes, known_is, seen_is, among_parts}
+use Rattle.smk_plan_live.proofs.Restoring.{at_same, outs_are, site_has, one_name, zero_plus}
+
+-- ## Lists whose elements are replaced
+
+pub set_length : {A : Type 0} (xs : List A) (n : ℕ) (x : A) → length (slice_set xs n x) ≡ length xs
+set_length [] n x = refl
+set_length (y ∷ xs) zero x = refl
+set_length (y ∷ xs) (suc n) x = ap suc (set_length xs n x)
+
+pub set_back : {A : Type 0} (xs : List A) (n : ℕ) (x y : A) → y ≡ slice_index_or xs n y → slice_set (slice_set xs n x) n y ≡ xs
+set_back [] n x y e = refl
+set_back (z ∷ xs) zero x y e = ap (λ w. w ∷ xs) e
+set_back (z ∷ xs) (suc n) x y e = ap (λ ys. z ∷ ys) (set_back xs n x y e)
+
+get_other : {A : Type 0} (xs : List A) (n m : ℕ) (x : A) → (m ≡ n → ⊥) → slice_get (slice_set xs n x) m ≡ slice_get xs m
+get_other [] n m x other = refl
+get_other (y ∷ xs) zero zero x other = absurd (other refl)
+get_other (y ∷ xs) zero (suc m) x other = refl
+get_other (y ∷ xs) (suc n) zero x other = refl
+get_other (y ∷ xs) (suc n) (suc m) x other = get_other xs n m x (λ e. other (ap suc e))
+
+pub got_below : {A : Type 0} (xs : List A) (n : ℕ) (x : A) → slice_get xs n ≡ Some x → n < length xs
+got_below [] n x e = absurd cc
+got_below (y ∷ xs) zero x e = omega arith
+got_below (y ∷ xs) (suc n) x e = let h = got_below xs n x e in omega arith
+
+-- ## What is known and was seen elsewhere
+
+module _ (b : Base) (sound : IsSound b) (n : ℕ) (j : Job) (at : slice_get b.jobs.jobs n ≡ Some j) where
+  -- a path that is no output of the job stands elsewhere
+  elsewhere : (q : Path) → among (out_paths j.recipe) q ≡ false → (s : Site) → get_by_text b.sites q ≡ Some s → s.job ≡ n → ⊥
+  elsewhere q out s has same =
+      let r = site_has 0 b.jobs.jobs q s (sym (sound.sited q) ∙ has) in
+      let number : r.0 ≡ n = sym (zero_plus (r.0)) ∙ sym r.2 ∙ same in
+      let is : Some r.1 ≡ Some j = sym r.3 ∙ ap (slice_get b.jobs.jobs) number ∙ at in
+      never_both (among (out_paths j.recipe) q) (in_it r.1 is q r.4) out
+    where
+      in_it : (k : Job) → Some k ≡ Some j → (p : Path) → among (out_paths k.recipe) p ≡ true → among (out_paths j.recipe) p ≡ true
+      in_it k e p h = let same_job : k ≡ j = cc in subst (λ (x : Job). among (out_paths x.recipe) p ≡ true) same_job h
+
+  by_site : {A : Type 0} (q : Path) → among (out_paths j.recipe) q ≡ false → (f g : Option Site → A) → f None ≡ g None → ((s : Site) → (s.job ≡ n → ⊥) → f (Some s) ≡ g (Some s)) → f (get_by_text b.sites q) ≡ g (get_by_text b.sites q)
+  by_site q out f g none some = go (get_by_text b.sites q) refl
+    where
+      go : (o : Option Site) → get_by_text b.sites q ≡ o → f o ≡ g o
+      go None e = none
+      go (Some s) e = some s (elsewhere q out s e)
+
+  rows_same :
+      {A : Type 0} (q : Path) → among (out_paths j.recipe) q ≡ false → (rows : List (Option (List (Option A)))) (row : Option (List (Option A))) (before : Option A) →
+      row_at (slice_set rows n row) (get_by_text b.sites q) before ≡ row_at rows (get_by_text b.sites q) before
+  rows_same q out rows row before =
+      by_site q out (λ o. row_at (slice_set rows n row) o before) (λ o. row_at rows o before) refl
+      (λ s other. ap (λ r. row_by (joined r) s.place before) (get_other rows n s.job row other))
+
+  restores_same : (q : Path) → among (out_paths j.recipe) q ≡ false → (state : Option State) → restores_at (slice_set b.began n state) (get_by_text b.sites q) ≡ restores_at b.began (get_by_text b.sites q)
+  restores_same q out state =
+      by_site q out (restores_at (slice_set b.began n state)) (restores_at b.began) refl
+      (λ s other. ap (λ r. test_some is_restore (joined r)) (get_other b.began n s.job state other))
+
+  -- the job has turned, and maybe new rows came
+  abbrev pub next_base : Phase → Option State → Option (List (Option Entry)) → Option (List (Option Sight)) → Base
+  next_base phase state row sights = filled n row sights (turned n phase state b)
+
+  pub turned_but : (phase : Phase) (state : Option State) → AreSameBut (outs_of j.recipe) (known_now b) (known_now (turned n phase state b)) (seen_now b) (seen_now (turned n phase state b))
+  turned_but phase state =
+      record {
+        known = λ q out.
+            let away = ap (λ ps. among ps q) (outs_are j.recipe) ∙ out in
+            known_is (turned n phase state b) q ∙ ap (λ r. settled r (entry_now b q)) (restores_same q away state) ∙ sym (known_is b q);
+        seen = λ q out. seen_is (turned n phase state b) q ∙ sym (seen_is b q);
+      }
+
+  pub filled_but :
+      (phase : Phase) (state : Option State) (row : Option (List (Option Entry))) (sights : Option (List (Option Sight))) →
+      AreSameBut (outs_of j.recipe) (known_now b) (known_now (next_base phase state row sights)) (seen_now b) (seen_now (next_base phase state row sights))
+  filled_but phase state row sights =
+      record {
+        known = λ q out.
+            let away = ap (λ ps. among ps q) (outs_are j.recipe) ∙ out in
+            known_is (next_base phase state row sights) q
+            ∙ ap₂ settled (restores_same q away state) (rows_same q away b.entries row (entry_of b.store q))
+            ∙ sym (known_is b q);
+        seen = λ q out.
+            let away = ap (λ ps. among ps q) (outs_are j.recipe) ∙ out in
+            seen_is (next_base phase state row sights) q ∙ ap (own_sight q) (rows_same q away b.sights sights (seen_before b q)) ∙ sym (seen_is b q);
+      }
+
+-- ## What is sound stays so
+
+pub turned_sound : (b : Base) → IsSound b → (n : ℕ) (phase : Phase) (state : Option State) → IsSound (turned n phase state b)
+turned_sound b sound n phase state =
+    record {
+      phases = set_length b.phases n phase ∙ sound.phases;
+      began = set_length b.began n state ∙ sound.began;
+      entries = sound.entries;
+      sights = sound.sights;
+      sited = sound.sited;
+      unnamed = sound.unnamed;
+      came = sound.came;
+      sources = sound.sources;
+    }
+
+pub filled_sound : (b : Base) → IsSound b → (n : ℕ) (row : Option (List (Option Entry))) (sights : Option (List (Option Sight))) → IsSound (filled n row sights b)
+filled_sound b sound n row sights =
+    record {
+      phases = sound.phases;
+      began = sound.began;
+      entries = set_length b.entries n row ∙ sound.entries;
+      sights = set_length b.sights n sights ∙ sound.sights;
+      sited = sound.sited;
+      unnamed = sound.unnamed;
+      came = sound.came;
+      sources = sound.sources;
+    }
+
+-- ## What has begun
+
+abbrev name_if : Bool → Job → List Path
+name_if b j = if b then job_path j ∷ [] else []
+
+-- a job that began before is closed
+pub closed_begun : (jobs : List Job) (phases : List Phase) (n : ℕ) → slice_get phases n ≡ Some Running → begun_in jobs (slice_set phases n Closed) ≡ begun_in jobs phases
+closed_begun [] phases n at = refl
+closed_begun (j ∷ jobs) [] n at = refl
+closed_begun (j ∷ jobs) (p ∷ phases) zero at =
+    let is : p ≡ Running = cc in ap (λ x. name_if (has_begun x) j ++ begun_in jobs phases) (sym is)
+closed_begun (j ∷ jobs) (p ∷ phases) (suc n) at = ap (λ ps. name_if (has_begun p) j ++ ps) (closed_begun jobs phases n at)
+
+-- a job begins: others have begun as before, but for its name
+pub begun_other :
+    (jobs : List Job) (phases : List Phase) (n : ℕ) (j : Job) (q : Path) → slice_get jobs n ≡ Some j → bytes_eq q (job_path j) ≡ false → (phase : Phase) →
+    among (begun_in jobs (slice_set phases n phase)) q ≡ among (begun_in jobs phases) q
+begun_other [] phases n j q at other phase = refl
+begun_other (k ∷ jobs) [] n j q at other phase = refl
+begun_other (k ∷ jobs) (p ∷ phases) zero j q at other phase =
+    let is : k ≡ j = cc in
+    let away : bytes_eq q (job_path k) ≡ false = ap (λ (x : Job). bytes_eq q (job_path x)) is ∙ other in
+    among_parts (name_if (has_begun phase) k) (begun_in jobs phases) q ∙ ap (λ b. b || among (begun_in jobs phases) q) (gone (has_begun phase) away ∙ sym (gone (has_begun p) away))
+    ∙ sym (among_parts (name_if (has_begun p) k) (begun_in jobs phases) q)
+  where
+    gone : (b : Bool) → bytes_eq q (job_path k) ≡ false → among (name_if b k) q ≡ false
+    gone true away = ap (λ x. x || false) away
+    gone false away = refl
+begun_other (k ∷ jobs) (p ∷ phases) (suc n) j q at other phase =
+    among_parts (name_if (has_begun p) k) (begun_in jobs (slice_set phases n phase)) q
+    ∙ ap (λ b. among (name_if (has_begun p) k) q || b) (begun_other jobs phases n j q at other phase)
+    ∙ sym (among_parts (name_if (has_begun p) k) (begun_in jobs phases) q)
+
+-- the job that has begun is among them
+pub begun_here :
+    (jobs : List Job) (phases : List Phase) (n : ℕ) (j : Job) (phase : Phase) → slice_get jobs n ≡ Some j → slice_get phases n ≡ Some phase → has_begun phase ≡ true →
+    among (begun_in jobs phases) (job_path j) ≡ true
+begun_here [] phases n j phase at here begun = absurd cc
+begun_here (k ∷ jobs) [] n j phase at here begun = absurd cc
+begun_here (k ∷ jobs) (p ∷ phases) zero j phase at here begun =
+    let is : k ≡ j = cc in
+    let same : p ≡ phase = cc in
+    ap (λ b. among (name_if b k ++ begun_in jobs phases) (job_path j)) (ap has_begun same ∙ begun)
+    ∙ ap (λ (x : Job). bytes_eq (job_path j) (job_path x) || among (begun_in jobs phases) (job_path j)) is
+    ∙ ap (λ b. b || among (begun_in jobs phases) (job_path j)) (same_bytes (job_path j))
+begun_here (k ∷ jobs) (p ∷ phases) (suc n) j phase at here begun =
+    among_parts (name_if (has_begun p) k) (begun_in jobs phases) (job_path j)
+    ∙ or_last (among (name_if (has_begun p) k) (job_path j)) (among (begun_in jobs phases) (job_path j)) (begun_here jobs phases n j phase at here begun)
+  where
+    or_last : (a b : Bool) → b ≡ true → (a || b) ≡ true
+    or_last true b h = refl
+    or_last false b h = h
+
+set_here : {A : Type 0} (xs : List A) (n : ℕ) (x y : A) → slice_get xs n ≡ Some y → slice_get (slice_set xs n x) n ≡ Some x
+set_here [] n x y e = absurd cc
+set_here (z ∷ xs) zero x y e = refl
+set_here (z ∷ xs) (suc n) x y e = set_here xs n x y e
+
+-- ## The facts of jobs
+
+named_in : (ps : List Path) → is_some (first ps) ≡ true → among ps (or_empty (first ps)) ≡ true
+named_in [] h = absurd (never_both false h refl)
+named_in (p ∷ ps) h = ap (λ b. b || among ps p) (same_bytes p)
+
+module _ (settings : Settings) (b : Base) (sound : IsSound b) (n : ℕ) (j : Job) (at : slice_get b.jobs.jobs n ≡ Some j) (facts : List JobFacts) (served : AreServed b.jobs settings.targets) (were : facts ≡ facts_now settings b) where
+  abbrev told : Path → Bool
+  told = among (told_sources b.jobs.makers)
+
+  -- by the set of sources that is kept
+  by_set :
+      (known : List Known) (seen : List Sight) →
+      merged facts (renewed_from known seen (contains_text b.sources) false (outs_of j.recipe) n 0 b.jobs.jobs facts)
+      ≡ renewed known seen told false (outs_of j.recipe) n b.jobs.jobs facts
+  by_set known seen = λ i. merged facts (renewed_from known seen (λ q. sound.sources q i) false (outs_of j.recipe) n 0 b.jobs.jobs facts)
+
+  not_forced : (ran : List Path) → among ran (job_path j) ≡ true → forced_by settings ran j ≡ false
+  not_forced ran h = ap (λ x. not x && by_force settings.force (list_any (makes j) settings.targets)) h
+
+  -- once the job has begun
+  pub begun_facts :
+      has_name j ≡ true → (before : Phase) → slice_get b.phases n ≡ Some before → (state : State) →
+      merged facts
+      (renewed_from (known_now (turned n Running (Some state) b)) (seen_now (turned n Running (Some state) b)) (contains_text b.sources) false (outs_of j.recipe) n 0 b.jobs.jobs facts)
+      ≡ facts_now settings (turned n Running (Some state) b)
+  begun_facts named before was state =
+      let new : Base = turned n Running (Some state) b in
+      by_set (known_now new) (seen_now new)
+      ∙ renewed_are (known_now b) (known_now new) (seen_now b) (seen_now new) told (forced_by settings (begun_in b.jobs.jobs b.phases)) (forced_by settings (begun_in b.jobs.jobs new.phases)) false
+      n j b.jobs.jobs facts (turned_but b sound n j at Running (Some state)) (sym (at_same b.jobs.jobs n) ∙ at) served.apart
+      (not_forced (begun_in b.jobs.jobs new.phases) (begun_here b.jobs.jobs new.phases n j Running at (set_here b.phases n Running before was) refl))
+      (λ m k other here. ap (λ x. not x && by_force settings.force (list_any (makes k) settings.targets))
+      (begun_other b.jobs.jobs b.phases n j (job_path k) at
+      (false_unless (bytes_eq (job_path k) (job_path j))
+      (λ e. other (one_name b sound served.apart n j (job_path j) at (named_in (out_paths j.recipe) named) m k (at_same b.jobs.jobs m ∙ here) e)))
+      Running))
+      were
+
+  -- once it is closed
+  pub closed_facts :
+      slice_get b.phases n ≡ Some Running → (row : Option (List (Option Entry))) (sights : Option (List (Option Sight))) →
+      merged facts
+      (renewed_from (known_now (filled n row sights (turned n Closed None b))) (seen_now (filled n row sights (turned n Closed None b))) (contains_text b.sources) false (outs_of j.recipe) n 0
+      b.jobs.jobs facts)
+      ≡ facts_now settings (filled n row sights (turned n Closed None b))
+  closed_facts runs row sights =
+      let new : Base = filled n row sights (turned n Closed None b) in
+      let same : begun_in b.jobs.jobs new.phases ≡ begun_in b.jobs.jobs b.phases = closed_begun b.jobs.jobs b.phases n runs in
+      by_set (known_now new) (seen_now new)
+      ∙ renewed_are (known_now b) (known_now new) (seen_now b) (seen_now new) told (forced_by settings (begun_in b.jobs.jobs b.phases)) (forced_by settings (begun_in b.jobs.jobs new.phases)) false
+      n j b.jobs.jobs facts (filled_but b sound n j at Closed None row sights) (sym (at_same b.jobs.jobs n) ∙ at) served.apart
+      (ap (λ ran. forced_by settings ran j) same ∙ not_forced (begun_in b.jobs.jobs b.phases) (begun_here b.jobs.jobs b.phases n j Running at runs refl))
+      (λ m k other here. ap (λ ran. forced_by settings ran k) same)
+      were

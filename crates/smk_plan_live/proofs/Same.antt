@@ -1,0 +1,421 @@
+-- The facts of jobs stay, but for those that are told anew, where what is known and seen changes at the outputs of one job alone.
+use Rattle.std.proofs.Common.{◌≡◌, ℕ, zero, suc, ◌+◌, ◌<◌, Bool, true, false, not, ◌&&◌, ◌||◌, ◌==◌, List, [], ◌∷◌, ◌++◌, map, length, drop, Option, Some, None, refl, sym, ap, ap₂, subst, ◌∙◌, arith, inl, inr, bytes_eq}
+use Rattle.std.specs.Prelude.{if◌then◌else◌, is_some, ◌⊎◌}
+use Rattle.std.specs.List.{list_any, flat_map}
+use Rattle.std.proofs.lemmas.List.{drop_more}
+use Rattle.std.proofs.Math.ListN.{get_or}
+use Rattle.std.proofs.lemmas.Bool.{eqb-true, eqb-false, eq-eqb}
+use Rattle.smk_base.specs.Path.{is_under, is_at_or_under, overlaps}
+use Rattle.smk_base.proofs.Places.{same_place, place_itself}
+use Rattle.smk_base.proofs.Under.{never_both, false_unless, or_first, or_second, or_cases, at_itself, at_when_under, both_true}
+use Rattle.smk_world.specs.declared.recipe.Item.{Item}
+use Rattle.smk_world.specs.declared.recipe.Out.{Out}
+use Rattle.smk_world.specs.declared.recipe.OutItem.{OutItem}
+use Rattle.smk_world.specs.declared.recipe.Recipe.{Recipe}
+use Rattle.smk_world.specs.World.{in_paths, out_paths, folders_above}
+use Rattle.smk_world.specs.Trees.{Path, Each, among, outs_of}
+use Rattle.smk_record.specs.declared.record.Stamp.{Stamp}
+use Rattle.smk_record.specs.Records.{is_valid}
+use Rattle.smk_flow.specs.declared.job.Job.{Job}
+use Rattle.smk_store.specs.declared.store.Kept.{Kept}
+use Rattle.smk_store.specs.declared.store.Kept.TheVariants.{Absent, Unreadable, Held}
+use Rattle.smk_store.specs.Images.{readable}
+use Rattle.smk_store.specs.Stores.{Known, entry_of}
+use Rattle.smk_trigger.specs.declared.facts.JobFacts.{JobFacts}
+use Rattle.smk_plan.specs.declared.seen.Sight.{Sight}
+use Rattle.smk_plan.specs.Sights.{job_at}
+use Rattle.smk_plan_facts.specs.Telling.{kept_of, mark_of, copied, copied_at, marked_at, stamp_by, nearer, nearest, time_or, time_seen, stamp_in, facts_in}
+use Rattle.smk_plan_states.specs.Served.{AreApart, outputs_of}
+use Rattle.smk_plan_live.specs.Same.{paths_in, is_over, is_user, AreSameBut, or_old, merged, restamp, restamped, user_facts, renewed_of, renewed_from, renewed}
+
+-- ## Lists
+
+or_none : (a b : Bool) → (a || b) ≡ false → (a ≡ false) × (b ≡ false)
+or_none true b h = absurd (never_both true refl h)
+or_none false b h = (refl, h)
+
+each_not : {A : Type 0} (test : A → Bool) (xs : List A) → list_any test xs ≡ false → Each (λ x. test x ≡ false) xs
+each_not test [] h = tt
+each_not test (x ∷ xs) h = let r = or_none (test x) (list_any test xs) h in (r.0, each_not test xs r.1)
+
+map_append : {A B : Type 0} (f : A → B) (xs ys : List A) → map f (xs ++ ys) ≡ map f xs ++ map f ys
+map_append f [] ys = refl
+map_append f (x ∷ xs) ys = ap (λ zs. f x ∷ zs) (map_append f xs ys)
+
+map_twice : {A B C : Type 0} (g : B → C) (f : A → B) (xs : List A) → map g (map f xs) ≡ map (λ x. g (f x)) xs
+map_twice g f [] = refl
+map_twice g f (x ∷ xs) = ap (λ ys. g (f x) ∷ ys) (map_twice g f xs)
+
+map_each : {A B : Type 0} (f g : A → B) (xs : List A) → Each (λ x. f x ≡ g x) xs → map f xs ≡ map g xs
+map_each f g [] h = refl
+map_each f g (x ∷ xs) h = ap₂ (λ y ys. y ∷ ys) h.0 (map_each f g xs h.1)
+
+each_mapped : {A B : Type 0} (P : B → Type 0) (f : A → B) (xs : List A) → Each P (map f xs) → Each (λ x. P (f x)) xs
+each_mapped P f [] h = tt
+each_mapped P f (x ∷ xs) h = (h.0, each_mapped P f xs h.1)
+
+-- what is made of each element of each part is what is made of all elements
+pub map_parts : {A B C : Type 0} (f : B → C) (part : A → List B) (xs : List A) → flat_map (λ x. map f (part x)) xs ≡ map f (flat_map part xs)
+map_parts f part [] = refl
+map_parts f part (x ∷ xs) = ap (λ ys. map f (part x) ++ ys) (map_parts f part xs) ∙ sym (map_append f (part x) (flat_map part xs))
+
+any_append : {A : Type 0} (test : A → Bool) (xs ys : List A) → list_any test (xs ++ ys) ≡ (list_any test xs || list_any test ys)
+any_append test [] ys = refl
+any_append test (x ∷ xs) ys = ap (λ b. test x || b) (any_append test xs ys) ∙ again (test x) (list_any test xs) (list_any test ys)
+  where
+    again : (a b c : Bool) → (a || (b || c)) ≡ ((a || b) || c)
+    again true b c = refl
+    again false b c = refl
+
+-- an element of one of the parts passes where one of all elements does
+pub any_parts : {A B : Type 0} (test : B → Bool) (part : A → List B) (xs : List A) → list_any (λ x. list_any test (part x)) xs ≡ list_any test (flat_map part xs)
+any_parts test part [] = refl
+any_parts test part (x ∷ xs) = ap (λ b. list_any test (part x) || b) (any_parts test part xs) ∙ sym (any_append test (part x) (flat_map part xs))
+
+pub stamps_by : (f : Path → Option Stamp) (r : Recipe) → flat_map (λ (item : Item). map f item.paths) r.inputs ≡ map f (in_paths r)
+stamps_by f r = map_parts f (λ (item : Item). item.paths) r.inputs
+
+by_outs : {A : Type 0} (f : Out → A) (r : Recipe) → flat_map (λ (item : OutItem). map f item.outs) r.outputs ≡ map f (outs_of r)
+by_outs f r = map_parts f (λ (item : OutItem). item.outs) r.outputs
+
+-- ## Folders above a path
+
+each_longer : (b : ℕ) (text : Path) (folders : List Path) → Each (λ f. is_under text f ≡ true) folders → Each (λ f. is_under (b ∷ text) f ≡ true) (map (λ q. b ∷ q) folders)
+each_longer b text [] h = tt
+each_longer b text (f ∷ folders) h = (both_true (b == b) (is_under text f) (eq-eqb b b refl) h.0, each_longer b text folders h.1)
+
+-- the path lies under each folder above it
+each_above : (q : Path) → Each (λ f. is_under q f ≡ true) (folders_above q)
+each_above [] = tt
+each_above (b ∷ text) = go (b == 47) refl (each_longer b text (folders_above text) (each_above text))
+  where
+    go : (slash : Bool) → (b == 47) ≡ slash → Each (λ f. is_under (b ∷ text) f ≡ true) (map (λ q. b ∷ q) (folders_above text)) →
+        Each (λ f. is_under (b ∷ text) f ≡ true) (if slash then [] ∷ map (λ q. b ∷ q) (folders_above text) else map (λ q. b ∷ q) (folders_above text))
+    go true e h = (e, h)
+    go false e h = h
+
+over_at : (outs : List Out) (q p : Path) → is_at_or_under q p ≡ true → among (paths_in outs) p ≡ true → is_over outs q ≡ true
+over_at [] q p at h = h
+over_at (o ∷ outs) q p at h = go (or_cases (bytes_eq p o.path) (among (paths_in outs) p) h) (over_at outs q p at)
+  where
+    go : (bytes_eq p o.path ≡ true) ⊎ (among (paths_in outs) p ≡ true) → (among (paths_in outs) p ≡ true → is_over outs q ≡ true) → is_over (o ∷ outs) q ≡ true
+    go (inl e) more = or_first (is_at_or_under q o.path) (is_over outs q) (subst (λ x. is_at_or_under q x ≡ true) (same_place p o.path e) at)
+    go (inr e) more = or_second (is_at_or_under q o.path) (is_over outs q) (more e)
+
+-- what a path lies at or under is none of the outputs, where it lies at or under none
+free_at : (outs : List Out) (q p : Path) → is_over outs q ≡ false → is_at_or_under q p ≡ true → among (paths_in outs) p ≡ false
+free_at outs q p free at = false_unless (among (paths_in outs) p) (λ e. never_both (is_over outs q) (over_at outs q p at e) free)
+
+-- ## Copies
+
+copied_twice : (k : Kept) → copied (copied k) ≡ copied k
+copied_twice Absent = refl
+copied_twice Unreadable = refl
+copied_twice (Held r) = go (is_valid r) refl
+  where
+    go : (b : Bool) → is_valid r ≡ b → copied (if b then Held r else Unreadable) ≡ (if b then Held r else Unreadable)
+    go true e = ap (λ b. if b then Held r else Unreadable) e
+    go false e = refl
+
+-- ## Stamps of several lists of paths
+
+append_again : {A : Type 0} (xs ys zs : List A) → (xs ++ ys) ++ zs ≡ xs ++ (ys ++ zs)
+append_again [] ys zs = refl
+append_again (x ∷ xs) ys zs = ap (λ rest. x ∷ rest) (append_again xs ys zs)
+
+module _ (known : List Known) (seen : List Sight) (told : Path → Bool) (outs : List Out) where
+  restamped_none : (ps : List Path) → restamped known seen told outs ps [] ≡ []
+  restamped_none [] = refl
+  restamped_none (p ∷ ps) = refl
+
+  restamped_append :
+      (ps qs : List Path) (ss : List (Option Stamp)) →
+      restamped known seen told outs (ps ++ qs) ss ≡ restamped known seen told outs ps ss ++ restamped known seen told outs qs (drop (length ps) ss)
+  restamped_append [] qs ss = refl
+  restamped_append (p ∷ ps) qs [] = sym (restamped_none qs)
+  restamped_append (p ∷ ps) qs (s ∷ ss) = ap (λ rest. restamp known seen told outs p s ∷ rest) (restamped_append ps qs ss)
+
+  -- once the stamps of the first paths were added, those of the others are left
+  restamped_step :
+      (found new : List (Option Stamp)) (ps qs : List Path) (rest after whole : List (Option Stamp)) →
+      new ≡ found ++ restamped known seen told outs ps rest →
+      after ≡ drop (length ps) rest →
+      found ++ restamped known seen told outs (ps ++ qs) rest ≡ whole →
+      new ++ restamped known seen told outs qs after ≡ whole
+  restamped_step found new ps qs rest after whole added dropped all =
+      ap₂ (λ f a. f ++ restamped known seen told outs qs a) added dropped
+      ∙ append_again found (restamped known seen told outs ps rest) (restamped known seen told outs qs (drop (length ps) rest))
+      ∙ ap (λ ss. found ++ ss) (sym (restamped_append ps qs rest)) ∙ all
+
+  -- the same where the paths are those of an item, and the others those of the items behind it
+  pub restamped_item :
+      (found new : List (Option Stamp)) (items : List Item) (i : ℕ) (item : Item) (ps : List Path) (rest after whole : List (Option Stamp)) →
+      i < length items →
+      item ≡ get_or items i item →
+      ps ≡ item.paths →
+      new ≡ found ++ restamped known seen told outs ps rest →
+      after ≡ drop (length ps) rest →
+      found ++ restamped known seen told outs (flat_map (λ (x : Item). x.paths) (drop i items)) rest ≡ whole →
+      new ++ restamped known seen told outs (flat_map (λ (x : Item). x.paths) (drop (i + 1) items)) after ≡ whole
+  restamped_item found new items i item ps rest after whole below is paths added dropped all =
+      let more = flat_map (λ (x : Item). x.paths) (drop (i + 1) items) in
+      let split : drop i items ≡ item ∷ drop (i + 1) items = drop_more items i item below ∙ ap (λ (x : Item). x ∷ drop (i + 1) items) (sym is) in
+      let here : found ++ restamped known seen told outs (ps ++ more) rest ≡ found ++ restamped known seen told outs (flat_map (λ (x : Item). x.paths) (drop i items)) rest =
+      ap (λ qs. found ++ restamped known seen told outs (qs ++ more) rest) paths
+      ∙ ap (λ (xs : List Item). found ++ restamped known seen told outs (flat_map (λ (x : Item). x.paths) xs) rest) (sym split) in
+      restamped_step found new ps more rest after whole added dropped (here ∙ all)
+
+-- ## What stays
+
+module _ (outs : List Out) (old new : List Known) (saw sees : List Sight) (same : AreSameBut outs old new saw sees) (told : Path → Bool) where
+  each_entry : (q : Path) → is_over outs q ≡ false → (folders : List Path) → Each (λ f. is_under q f ≡ true) folders → Each (λ f. entry_of new f ≡ entry_of old f) folders
+  each_entry q free [] h = tt
+  each_entry q free (f ∷ folders) h = (same.known f (free_at outs q f free (at_when_under q f h.0)), each_entry q free folders h.1)
+
+  any_same : (ps : List Path) → Each (λ p. entry_of new p ≡ entry_of old p) ps → list_any (λ p. is_some (entry_of new p)) ps ≡ list_any (λ p. is_some (entry_of old p)) ps
+  any_same [] h = refl
+  any_same (p ∷ ps) h = ap₂ (λ a b. a || b) (ap is_some h.0) (any_same ps h.1)
+
+  nearest_same : (folders : List Path) (found : Option Stamp) → Each (λ f. entry_of new f ≡ entry_of old f) folders → nearest new found folders ≡ nearest old found folders
+  nearest_same [] found h = refl
+  nearest_same (f ∷ folders) found h = ap (λ e. nearest new (nearer e f found) folders) h.0 ∙ nearest_same folders (nearer (entry_of old f) f found) h.1
+
+  -- the stamp of a path at or under none of the outputs
+  pub stamp_same : (q : Path) → is_over outs q ≡ false → stamp_in new sees told q ≡ stamp_in old saw told q
+  stamp_same q free =
+      let own = free_at outs q q free (at_itself q) in
+      let entry = same.known q own in
+      let sight = same.seen q own in
+      let above = each_entry q free (folders_above q) (each_above q) in
+      let covered = any_same (q ∷ folders_above q) (entry, above) in
+      let near = nearest_same (folders_above q) None above in
+      λ i.
+      time_or (if told q && not (covered i) then time_seen (sight i) else None)
+      (if is_some (readable (kept_of (entry i))) then stamp_by (entry i) else near i)
+
+  each_stamp : (ps : List Path) → Each (λ q. is_over outs q ≡ false) ps → Each (λ q. stamp_in new sees told q ≡ stamp_in old saw told q) ps
+  each_stamp [] h = tt
+  each_stamp (q ∷ ps) h = (stamp_same q h.0, each_stamp ps h.1)
+
+  each_kept : (os : List Out) → Each (λ (o : Out). among (paths_in outs) o.path ≡ false) os → Each (λ (o : Out). copied_at new o ≡ copied_at old o) os
+  each_kept [] h = tt
+  each_kept (o ∷ os) h = (ap (λ e. copied (kept_of e)) (same.known o.path h.0), each_kept os h.1)
+
+  each_mark : (os : List Out) → Each (λ (o : Out). among (paths_in outs) o.path ≡ false) os → Each (λ (o : Out). marked_at new o ≡ marked_at old o) os
+  each_mark [] h = tt
+  each_mark (o ∷ os) h = (ap mark_of (same.known o.path h.0), each_mark os h.1)
+
+  -- none of a job's outputs is among these
+  abbrev pub IsOther : Job → Type 0
+  IsOther k = Each (λ q. among (paths_in outs) q ≡ false) (out_paths k.recipe)
+
+  others : (k : Job) → IsOther k → Each (λ (o : Out). among (paths_in outs) o.path ≡ false) (outs_of k.recipe)
+  others k other =
+      each_mapped (λ q. among (paths_in outs) q ≡ false) (λ (o : Out). o.path) (outs_of k.recipe)
+      (subst (Each (λ q. among (paths_in outs) q ≡ false)) (by_outs (λ (o : Out). o.path) k.recipe) other)
+
+  kept_same : (k : Job) → IsOther k → map (copied_at new) (outs_of k.recipe) ≡ map (copied_at old) (outs_of k.recipe)
+  kept_same k other = map_each (copied_at new) (copied_at old) (outs_of k.recipe) (each_kept (outs_of k.recipe) (others k other))
+
+  kept_stays :
+      (k : Job) → IsOther k →
+      flat_map (λ (item : OutItem). map (copied_at new) item.outs) k.recipe.outputs ≡ flat_map (λ (item : OutItem). map (copied_at old) item.outs) k.recipe.outputs
+  kept_stays k other = by_outs (copied_at new) k.recipe ∙ kept_same k other ∙ sym (by_outs (copied_at old) k.recipe)
+
+  marks_stay :
+      (k : Job) → IsOther k →
+      flat_map (λ (item : OutItem). map (marked_at new) item.outs) k.recipe.outputs ≡ flat_map (λ (item : OutItem). map (marked_at old) item.outs) k.recipe.outputs
+  marks_stay k other =
+      by_outs (marked_at new) k.recipe ∙ map_each (marked_at new) (marked_at old) (outs_of k.recipe) (each_mark (outs_of k.recipe) (others k other))
+      ∙ sym (by_outs (marked_at old) k.recipe)
+
+  stamps_stay :
+      (k : Job) → is_user outs k ≡ false →
+      flat_map (λ (item : Item). map (stamp_in new sees told) item.paths) k.recipe.inputs ≡ flat_map (λ (item : Item). map (stamp_in old saw told) item.paths) k.recipe.inputs
+  stamps_stay k free =
+      stamps_by (stamp_in new sees told) k.recipe
+      ∙ map_each (stamp_in new sees told) (stamp_in old saw told) (in_paths k.recipe) (each_stamp (in_paths k.recipe) (each_not (is_over outs) (in_paths k.recipe) free))
+      ∙ sym (stamps_by (stamp_in old saw told) k.recipe)
+
+  -- the facts of a job that reads at or under none of the outputs and makes none of them
+  pub facts_same :
+      (forced : Job → Bool) (k : Job) → is_user outs k ≡ false → IsOther k → facts_in new sees told forced k ≡ facts_in old saw told forced k
+  facts_same forced k free other =
+      let kept = kept_stays k other in
+      let marks = marks_stay k other in
+      let stamps = stamps_stay k free in
+      λ i. record { recipe = k.recipe; kept = kept i; marked = marks i; stamps = stamps i; forced = forced k }
+
+  -- ## Stamps told anew
+
+  restamp_is : (q : Path) → restamp new sees told outs q (stamp_in old saw told q) ≡ stamp_in new sees told q
+  restamp_is q = go (is_over outs q) refl
+    where
+      go : (b : Bool) → is_over outs q ≡ b → (if b then stamp_in new sees told q else stamp_in old saw told q) ≡ stamp_in new sees told q
+      go true e = refl
+      go false e = sym (stamp_same q e)
+
+  pub restamped_are : (ps : List Path) → restamped new sees told outs ps (map (stamp_in old saw told) ps) ≡ map (stamp_in new sees told) ps
+  restamped_are [] = refl
+  restamped_are (q ∷ ps) = ap₂ (λ s ss. s ∷ ss) (restamp_is q) (restamped_are ps)
+
+  copies_are : (k : Job) → map copied (flat_map (λ (item : OutItem). map (copied_at old) item.outs) k.recipe.outputs) ≡ flat_map (λ (item : OutItem). map (copied_at old) item.outs) k.recipe.outputs
+  copies_are k =
+      ap (map copied) (by_outs (copied_at old) k.recipe) ∙ map_twice copied (copied_at old) (outs_of k.recipe)
+      ∙ (λ i. map (λ (o : Out). copied_twice (kept_of (entry_of old o.path)) i) (outs_of k.recipe))
+      ∙ sym (by_outs (copied_at old) k.recipe)
+
+  -- the facts of a job that makes none of the outputs, with stamps told anew
+  pub user_same :
+      (forced after : Job → Bool) (k : Job) → IsOther k → after k ≡ forced k →
+      user_facts new sees told outs (facts_in old saw told forced k) ≡ facts_in new sees told after k
+  user_same forced after k other force =
+      let kept = copies_are k ∙ sym (kept_stays k other) in
+      let marks = sym (marks_stay k other) in
+      let stamps =
+      ap (restamped new sees told outs (in_paths k.recipe)) (stamps_by (stamp_in old saw told) k.recipe)
+      ∙ restamped_are (in_paths k.recipe) ∙ sym (stamps_by (stamp_in new sees told) k.recipe) in
+      let flag = sym force in
+      λ i. record { recipe = k.recipe; kept = kept i; marked = marks i; stamps = stamps i; forced = flag i }
+
+  -- ## The facts of all jobs
+
+  module _ (forced after : Job → Bool) (flag : Bool) where
+    -- what is asked of a job, as it is the one whose outputs these are or isn't
+    abbrev Fits : Bool → Job → Type 0
+    Fits true k = after k ≡ flag
+    Fits false k = IsOther k × (after k ≡ forced k)
+
+    one_is : (is_it : Bool) (k : Job) → Fits is_it k →
+        or_old (renewed_of new sees told flag outs is_it k (facts_in old saw told forced k)) (facts_in old saw told forced k) ≡ facts_in new sees told after k
+    one_is true k h = ap (λ b. facts_in new sees told (λ x. b) k) (sym h)
+    one_is false k h = go (is_user outs k) refl
+      where
+        go : (b : Bool) → is_user outs k ≡ b →
+            or_old (if b then Some (user_facts new sees told outs (facts_in old saw told forced k)) else None) (facts_in old saw told forced k) ≡ facts_in new sees told after k
+        go true e = user_same forced after k h.0 h.1
+        go false e = sym (facts_same forced k e h.0) ∙ ap (λ b. facts_in new sees told (λ x. b) k) (sym h.1)
+
+    abbrev AllFit : ℕ → ℕ → List Job → Type 0
+    AllFit n i [] = Unit {0}
+    AllFit n i (k ∷ jobs) = Fits (i == n) k × AllFit n (suc i) jobs
+
+    all_are : (n i : ℕ) (jobs : List Job) → AllFit n i jobs →
+        merged (map (facts_in old saw told forced) jobs) (renewed_from new sees told flag outs n i jobs (map (facts_in old saw told forced) jobs))
+        ≡ map (facts_in new sees told after) jobs
+    all_are n i [] h = refl
+    all_are n i (k ∷ jobs) h = ap₂ (λ f fs. f ∷ fs) (one_is (i == n) k h.0) (all_are n (suc i) jobs h.1)
+
+    all_fit : (n i : ℕ) (jobs : List Job) → ((m : ℕ) (k : Job) → job_at jobs m ≡ Some k → Fits (i + m == n) k) → AllFit n i jobs
+    all_fit n i [] h = tt
+    all_fit n i (k ∷ jobs) h =
+        let here : i + 0 ≡ i = omega arith in
+        (subst (λ x. Fits (x == n) k) here (h 0 k refl), all_fit n (suc i) jobs (λ m x e. subst (λ y. Fits (y == n) x) (further i m) (h (suc m) x e)))
+      where
+        further : (i m : ℕ) → i + suc m ≡ suc i + m
+        further i m = omega arith
+
+-- ## Outputs that lie apart
+
+some_same : (x y : Job) → Some x ≡ Some y → x ≡ y
+some_same x y e = ap or_it e
+  where
+    or_it : Option Job → Job
+    or_it None = y
+    or_it (Some z) = z
+
+each_among : (P : Path → Type 0) (ps : List Path) → Each P ps → (q : Path) → among ps q ≡ true → P q
+each_among P [] h q e = absurd (never_both false e refl)
+each_among P (p ∷ ps) h q e = go (or_cases (bytes_eq q p) (among ps q) e) (each_among P ps h.1 q)
+  where
+    go : (bytes_eq q p ≡ true) ⊎ (among ps q ≡ true) → (among ps q ≡ true → P q) → P q
+    go (inl same) more = subst P (sym (same_place q p same)) h.0
+    go (inr later) more = more later
+
+among_append : (ps qs : List Path) (q : Path) → among qs q ≡ true → among (ps ++ qs) q ≡ true
+among_append [] qs q e = e
+among_append (p ∷ ps) qs q e = or_second (bytes_eq q p) (among (ps ++ qs) q) (among_append ps qs q e)
+
+among_front : (ps qs : List Path) (q : Path) → among ps q ≡ true → among (ps ++ qs) q ≡ true
+among_front [] qs q e = absurd (never_both false e refl)
+among_front (p ∷ ps) qs q e = go (or_cases (bytes_eq q p) (among ps q) e) (among_front ps qs q)
+  where
+    go : (bytes_eq q p ≡ true) ⊎ (among ps q ≡ true) → (among ps q ≡ true → among (ps ++ qs) q ≡ true) → (bytes_eq q p || among (ps ++ qs) q) ≡ true
+    go (inl same) more = or_first (bytes_eq q p) (among (ps ++ qs) q) same
+    go (inr later) more = or_second (bytes_eq q p) (among (ps ++ qs) q) (more later)
+
+apart_parts : (ps qs : List Path) → AreApart (ps ++ qs) → (q : Path) → among ps q ≡ true → among qs q ≡ true → ⊥
+apart_parts [] qs h q a b = never_both false a refl
+apart_parts (p ∷ ps) qs h q a b = go (or_cases (bytes_eq q p) (among ps q) a) (apart_parts ps qs h.1 q)
+  where
+    go : (bytes_eq q p ≡ true) ⊎ (among ps q ≡ true) → (among ps q ≡ true → among qs q ≡ true → ⊥) → ⊥
+    go (inl same) more =
+        never_both (overlaps q p) (or_first (bytes_eq q p) (is_under q p || is_under p q) same)
+        (each_among (λ x. overlaps x p ≡ false) (ps ++ qs) h.0 q (among_append ps qs q b))
+    go (inr later) more = more later b
+
+apart_rest : (ps qs : List Path) → AreApart (ps ++ qs) → AreApart qs
+apart_rest [] qs h = h
+apart_rest (p ∷ ps) qs h = apart_rest ps qs h.1
+
+-- an output of one of the jobs is among those of all
+output_at : (jobs : List Job) (m : ℕ) (k : Job) → job_at jobs m ≡ Some k → (q : Path) → among (out_paths k.recipe) q ≡ true → among (outputs_of jobs) q ≡ true
+output_at [] m k e q h = absurd (never_both false (ap is_some e) refl)
+output_at (x ∷ jobs) zero k e q h =
+    among_front (out_paths x.recipe) (outputs_of jobs) q (subst (λ (y : Job). among (out_paths y.recipe) q ≡ true) (sym (some_same x k e)) h)
+output_at (x ∷ jobs) (suc m) k e q h = among_append (out_paths x.recipe) (outputs_of jobs) q (output_at jobs m k e q h)
+
+-- jobs of different numbers share no output
+pub outputs_apart :
+    (jobs : List Job) (m n : ℕ) (k j : Job) → AreApart (outputs_of jobs) → (m ≡ n → ⊥) → job_at jobs m ≡ Some k → job_at jobs n ≡ Some j →
+    (q : Path) → among (out_paths k.recipe) q ≡ true → among (out_paths j.recipe) q ≡ true → ⊥
+outputs_apart [] m n k j apart other at it q a b = never_both false (ap is_some at) refl
+outputs_apart (x ∷ jobs) zero zero k j apart other at it q a b = other refl
+outputs_apart (x ∷ jobs) zero (suc n) k j apart other at it q a b =
+    apart_parts (out_paths x.recipe) (outputs_of jobs) apart q (subst (λ (y : Job). among (out_paths y.recipe) q ≡ true) (sym (some_same x k at)) a) (output_at jobs n j it q b)
+outputs_apart (x ∷ jobs) (suc m) zero k j apart other at it q a b =
+    apart_parts (out_paths x.recipe) (outputs_of jobs) apart q (subst (λ (y : Job). among (out_paths y.recipe) q ≡ true) (sym (some_same x j it)) b) (output_at jobs m k at q a)
+outputs_apart (x ∷ jobs) (suc m) (suc n) k j apart other at it q a b =
+    outputs_apart jobs m n k j (apart_rest (out_paths x.recipe) (outputs_of jobs) apart) (λ e. other (ap suc e)) at it q a b
+
+none_shared : (ps qs : List Path) → ((q : Path) → among qs q ≡ true → among ps q ≡ true → ⊥) → Each (λ q. among ps q ≡ false) qs
+none_shared ps [] h = tt
+none_shared ps (q ∷ qs) h =
+    (false_unless (among ps q) (h q (or_first (bytes_eq q q) (among qs q) (place_itself q))), none_shared ps qs (λ p a. h p (or_second (bytes_eq p q) (among qs p) a)))
+
+-- no output of another job is one of a job's
+pub is_other :
+    (jobs : List Job) (m n : ℕ) (k j : Job) → AreApart (outputs_of jobs) → (m ≡ n → ⊥) → job_at jobs m ≡ Some k → job_at jobs n ≡ Some j →
+    Each (λ q. among (paths_in (outs_of j.recipe)) q ≡ false) (out_paths k.recipe)
+is_other jobs m n k j apart other at it =
+    subst (λ ps. Each (λ q. among ps q ≡ false) (out_paths k.recipe)) (by_outs (λ (o : Out). o.path) j.recipe)
+    (none_shared (out_paths j.recipe) (out_paths k.recipe) (outputs_apart jobs m n k j apart other at it))
+
+-- ## The facts of jobs with outputs that lie apart
+
+-- Once what is known and seen has changed at the outputs of the job of this number alone, and whether a job is forced has changed for that job alone, the facts of
+-- all jobs are those that were renewed.
+pub renewed_are :
+    (old new : List Known) (saw sees : List Sight) (told : Path → Bool) (forced after : Job → Bool) (flag : Bool) (n : ℕ) (j : Job) (jobs : List Job) (facts : List JobFacts) →
+    AreSameBut (outs_of j.recipe) old new saw sees →
+    job_at jobs n ≡ Some j →
+    AreApart (outputs_of jobs) →
+    after j ≡ flag →
+    ((m : ℕ) (k : Job) → (m ≡ n → ⊥) → job_at jobs m ≡ Some k → after k ≡ forced k) →
+    facts ≡ map (facts_in old saw told forced) jobs →
+    renewed new sees told flag (outs_of j.recipe) n jobs facts ≡ map (facts_in new sees told after) jobs
+renewed_are old new saw sees told forced after flag n j jobs facts same it apart flagged others were =
+    ap (renewed new sees told flag (outs_of j.recipe) n jobs) were
+    ∙ all_are (outs_of j.recipe) old new saw sees same told forced after flag n 0 jobs (all_fit (outs_of j.recipe) old new saw sees same told forced after flag n 0 jobs fits)
+  where
+    by_number : (m : ℕ) (k : Job) → job_at jobs m ≡ Some k → (b : Bool) → (m == n) ≡ b → Fits (outs_of j.recipe) old new saw sees same told forced after flag b k
+    by_number m k at true e =
+        ap after (some_same k j (sym at ∙ ap (job_at jobs) (eqb-true m n e) ∙ it)) ∙ flagged
+    by_number m k at false e =
+        let other = eqb-false m n e in
+        (is_other jobs m n k j apart other at it, others m k other at)
+
+    fits : (m : ℕ) (k : Job) → job_at jobs m ≡ Some k → Fits (outs_of j.recipe) old new saw sees same told forced after flag (0 + m == n) k
+    fits m k at =
+        let start : 0 + m ≡ m = omega arith in
+        subst (λ x. Fits (outs_of j.recipe) old new saw sees same told forced after flag (x == n) k) (sym start) (by_number m k at (m == n) refl)

@@ -1,0 +1,66 @@
+use Rattle.std.proofs.Common.{◌≡◌, false, Some, sym, ap, subst, ◌∙◌}
+use Rattle.std.specs.List.{slice_get}
+use Rattle.std.specs.BTreeSet.{contains_text}
+use Rattle.smk_world.specs.Trees.{outs_of}
+use Rattle.smk_plan.specs.States.{test_some}
+use Rattle.smk_plan_live.specs.declared.base.Base.{Base}
+use Rattle.smk_plan_live.specs.declared.phase.Phase.TheVariants.{Running}
+use Rattle.smk_plan_live.specs.Now.{known_now, seen_now}
+use Rattle.smk_plan_live.specs.Same.{renewed_from}
+use Rattle.smk_plan_live.specs.Carried.{has_name, turned}
+use Rattle.smk_plan_live.specs.Lives.{IsLive, IsSettled, IsRefusedNow}
+use Rattle.smk_plan_live.proofs.Installed.{some_named, turned_back, begun_settled, installed}
+use Rattle.smk_plan_live.proofs.live.LivePlan.begin.Goals as goal
+
+pub returns-in-Err-clause-err : goal.returns-in-Err-clause-err
+returns-in-Err-clause-err c =
+    let p = c.args.self.now in
+    let n = c.args.number in
+    let t = c.turn-before in
+    let back : c.turn.new.self ≡ p.base =
+    c.turn.ensures.now ∙ ap (turned n t.result.0 t.result.1) t.ensures.now ∙ turned_back p.base n Running t.result.0 (Some c.args.state) t.result.1 t.ensures.phase t.ensures.state
+    in λ i. record p { base = back i }
+
+pub returns-in-Err-clause-live : goal.returns-in-Err-clause-live
+returns-in-Err-clause-live c =
+    let p = c.args.self.now in
+    let n = c.args.number in
+    let t = c.turn-before in
+    let back : c.turn.new.self ≡ p.base =
+    c.turn.ensures.now ∙ ap (turned n t.result.0 t.result.1) t.ensures.now ∙ turned_back p.base n Running t.result.0 (Some c.args.state) t.result.1 t.ensures.phase t.ensures.state
+    in coe 1 0 (i. IsLive (record p { base = back i })) c.requires.live
+
+pub returns-in-Err-clause-refused : goal.returns-in-Err-clause-refused
+returns-in-Err-clause-refused c = λ other.
+    let p = c.args.self.now in
+    let n = c.args.number in
+    let is = c.turn-before.ensures.now in
+    let b = c.turn-before.new.self in
+    subst (λ (x : Base). IsRefusedNow p.settings x c.in-Err.fault) is
+    (c.in-Err.ensures.refused other
+    (λ k has.
+    let at : slice_get p.base.jobs.jobs n ≡ Some k = sym (ap (λ (x : Base). slice_get x.jobs.jobs n) is) ∙ has in
+    coe 1 0
+    (i.
+    IsSettled p.settings b (c.as_slice.ensures.value i) (c.as_slice-2.ensures.value i)
+    (renewed_from (known_now b) (seen_now b) (contains_text b.sources) false (outs_of k.recipe) n 0 b.jobs.jobs (c.as_slice.ensures.value i)))
+    (begun_settled p c.requires.live n c.args.state k at (sym (ap (test_some has_name) at) ∙ c.requires.named) c.requires.waiting b is)))
+
+pub returns-in-Ok-clause-live : goal.returns-in-Ok-clause-live
+returns-in-Ok-clause-live c =
+    let p = c.args.self.now in
+    let n = c.args.number in
+    let is = c.turn-before.ensures.now in
+    let b = c.turn-before.new.self in
+    let x = c.in-Ok.next in
+    let r = some_named (slice_get p.base.jobs.jobs n) c.requires.named in
+    let settled : IsSettled p.settings b p.facts.items p.reasons.items x.facts.items =
+    subst (λ l. IsSettled p.settings b p.facts.items p.reasons.items l)
+    (sym
+    (c.in-Ok.ensures.facts r.0 (ap (λ (y : Base). slice_get y.jobs.jobs n) is ∙ r.1)
+    ∙ (λ i. renewed_from (known_now b) (seen_now b) (contains_text b.sources) false (outs_of (r.0).recipe) n 0 b.jobs.jobs (c.as_slice.ensures.value i))))
+    (begun_settled p c.requires.live n c.args.state r.0 r.1 r.2 c.requires.waiting b is)
+    in
+    installed p c.install.new.self b x.facts.items x.reasons.items x.plan x.held settled c.in-Ok.ensures.reasons c.in-Ok.ensures.each c.in-Ok.ensures.targets
+    (c.in-Ok.ensures.now (coe 1 0 (i. IsSettled p.settings b (c.as_slice.ensures.value i) (c.as_slice-2.ensures.value i) x.facts.items) settled))
+    c.install.ensures.base.0 c.install.ensures.base.1 c.install.ensures.facts c.install.ensures.reasons c.install.ensures.plan.0 c.install.ensures.plan.1

@@ -1,0 +1,15 @@
+use Rattle.std.proofs.Common.{subst, ◌∙◌}
+use Rattle.smk_plan_live.specs.Carried.{with_seen}
+use Rattle.smk_plan_live.specs.Lives.{IsLive, IsRefusedNow}
+use Rattle.smk_plan_live.proofs.Grown.{seen_sound}
+use Rattle.smk_plan_live.proofs.live.LivePlan.stand.Goals as goal
+
+pub returns-in-Err-clause-live : goal.returns-in-Err-clause-live
+returns-in-Err-clause-live g c =
+    let p = c.args.self.now in
+    coe 1 0 (i. IsLive (record p { base = with_seen ((c.swap-in-Err.ensures.y_after ∙ c.swap.ensures.x_after) i) p.base })) c.requires.live
+
+pub returns-in-Err-clause-refused : goal.returns-in-Err-clause-refused
+returns-in-Err-clause-refused g c = λ other.
+    subst (λ s. IsRefusedNow c.args.self.now.settings (with_seen s c.args.base) c.in-Err.fault) c.swap.ensures.x_after
+    (c.in-Err.ensures.refused other (seen_sound c.args.base c.swap.new.x c.requires.sound))

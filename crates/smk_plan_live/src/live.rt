@@ -1,0 +1,85 @@
+//! A plan that is kept, and what it tells.
+
+ghost use Rattle.std.specs.Prelude.{◌≡◌, option_map};
+ghost use Rattle.std.specs.List.{slice_get, list_any};
+ghost use Rattle.smk_store.specs.Images.{Image};
+ghost use Rattle.smk_plan.specs.States.{is_held_back};
+ghost use Rattle.smk_plan_states.specs.Judged.{with_states};
+ghost use Rattle.smk_plan_table.specs.Plans.{HasMadeAt};
+
+use crate::Phase;
+use crate::base::Base;
+use crate::now::{entry_now, sight_now, site_of};
+use smk_base::{List, PathText};
+use smk_chain::Jobs;
+use smk_pick::Settings;
+use smk_plan::{Plan, Sight};
+use smk_store::Entry;
+use smk_trigger::{JobFacts, Reason};
+
+/// A plan that is kept while jobs begin and are closed and new ones come, with what each of its jobs is judged by and what the judge said of it.
+#[derive(Drop)]
+pub struct LivePlan {
+    pub(crate) base: Base,
+    pub(crate) settings: Settings,
+    pub(crate) facts: Vec<JobFacts>,
+    pub(crate) reasons: Vec<List<Reason>>,
+    pub(crate) plan: Plan,
+    /// Whether some job is to be restored but counts as Clean.
+    pub(crate) held: bool,
+}
+
+impl LivePlan {
+    ghost use Rattle.smk_plan_live.specs.Lives.{IsLive, IsAgreed, progress_of};
+    ghost use Rattle.smk_plan_live.specs.Now.{output_entry, sight_now};
+
+    /// The plan of this moment: the states of the jobs, which targets are current, and the listings that have become known. It takes no memory.
+    pub fn as_plan(&self) -> &Plan
+        ensures value { result.now ≡ self.now.plan }
+        ensures now { IsLive self.now → (image : Image) → IsAgreed image self.now.settings self.now.base
+            → HasMadeAt image self.now.settings (progress_of self.now.base) self.now.base.jobs result.now }
+    {
+        &self.plan
+    }
+
+    /// The jobs. It takes no memory.
+    pub fn jobs(&self) -> &Jobs
+        ensures { result.now ≡ self.now.base.jobs }
+    {
+        &self.base.jobs
+    }
+
+    /// How far the job has come. None where there is no job of this number. It takes no memory.
+    pub fn phase(&self, job: u32) -> Option<Phase>
+        ensures { result ≡ slice_get self.now.base.phases job }
+    {
+        self.base.phases.as_slice().get(job as usize).copied()
+    }
+
+    /// Whether some job is to be restored but counts as Clean, since a child reads what it made. It takes no memory.
+    pub fn holds_back(&self) -> bool
+        ensures value { result ≡ self.now.held }
+        ensures now { IsLive self.now → (image : Image) → IsAgreed image self.now.settings self.now.base
+            → result ≡ list_any (is_held_back image self.now.settings (progress_of self.now.base) (with_states self.now.base.jobs self.now.plan.states)) self.now.base.jobs.jobs }
+    {
+        self.held
+    }
+
+    /// What is known of an output of the jobs: what the last closing of its job gave, or else what the store of the call that brought the job has. None where the
+    /// path is no output, or nothing is known of it. It takes no memory.
+    pub fn entry(&self, path: &PathText) -> Option<&Entry>
+        ensures { option_map (λ e. e.now) result ≡ output_entry self.now.base path.now }
+    {
+        match site_of(&self.base, path) {
+            None => None,
+            Some(_) => entry_now(&self.base, path),
+        }
+    }
+
+    /// What was seen last at the path. None where nothing was looked at there. It takes no memory.
+    pub fn sight(&self, path: &PathText) -> Option<&Sight>
+        ensures { option_map (λ s. s.now) result ≡ sight_now self.now.base path.now }
+    {
+        sight_now(&self.base, path)
+    }
+}

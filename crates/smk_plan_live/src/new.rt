@@ -1,0 +1,218 @@
+//! How a kept plan begins.
+
+ghost use Rattle.std.specs.Prelude.{◌≡◌, ◌≢◌, [], map, length, true, None, IfOk, IfErr};
+ghost use Rattle.std.specs.List.{list_all};
+ghost use Rattle.smk_store.specs.Images.{Image};
+ghost use Rattle.smk_trigger.specs.Reasons.{reasons_of};
+ghost use Rattle.smk_plan_facts.specs.Telling.{has_path_texts};
+ghost use Rattle.smk_plan_table.specs.Plans.{Agree, IsRefused};
+ghost use Rattle.smk_plan_live.specs.Lives.{IsLive, IsAgreed, IsSound, IsNow, IsRefusedNow, facts_now};
+ghost use Rattle.smk_plan_live.specs.Changes.{IsFirst};
+
+use crate::LivePlan;
+use crate::base::Base;
+use crate::carried::first_rows;
+use crate::judged::{all_again, forced_of};
+use crate::sites::sited_of;
+use crate::slots::Slots;
+use crate::telling::{begun_of, tell};
+use smk_base::{List, OutOfMemory};
+use smk_chain::Jobs;
+use smk_pick::Settings;
+use smk_plan::{Plan, PlanFault, Seen};
+use smk_plan_facts::facts_told;
+use smk_store::Store;
+use smk_trigger::{JobFacts, Plain, Reason, all_reasons};
+use std::alloc::Global;
+use std::collections::BTreeMap;
+use std::thread::Threads;
+
+// What the jobs are judged by and what was judged, with copies for the plan.
+#[derive(Drop)]
+struct Judged {
+    facts: Vec<JobFacts>,
+    reasons: Vec<List<Reason>>,
+    own: List<List<Reason>>,
+    forced: List<bool>,
+}
+
+/// The same with the plan by it, and whether a job is held back.
+#[derive(Drop)]
+pub(crate) struct Told {
+    pub(crate) facts: Vec<JobFacts>,
+    pub(crate) reasons: Vec<List<Reason>>,
+    pub(crate) plan: Plan,
+    pub(crate) held: bool,
+}
+
+// The elements of the list.
+fn elements<T: Drop>(alloc: Global, list: List<T>) -> Result<Vec<T>, OutOfMemory>
+    ensures { IfOk result (λ found. found.items ≡ list) }
+{
+    let mut left = list;
+    let mut found = Vec::new(alloc);
+    'items: while let Some(item) = left.pop() {
+        found.push(item)?;
+    }
+    found.reverse();
+    Ok(found)
+}
+
+// What all jobs are judged by and what the judge says of them. It is told in several threads, where there are many.
+fn judge_jobs<Rt: Threads + Sync>(
+    rt: &Rt,
+    alloc: Global,
+    base: &Base,
+    settings: &Settings,
+) -> Result<Judged, OutOfMemory>
+    ensures facts { IfOk result (λ judged. judged.facts.items ≡ facts_now settings.now base.now) }
+    ensures reasons { IfOk result (λ judged. judged.reasons.items ≡ map reasons_of judged.facts.items) }
+    ensures own { IfOk result (λ judged. judged.own ≡ map reasons_of judged.facts.items) }
+    ensures forced { IfOk result (λ judged. judged.forced ≡ map (λ f. f.forced) judged.facts.items) }
+    ensures texts { IfOk result (λ judged. list_all has_path_texts base.now.jobs.jobs ≡ true) }
+{
+    let ran = begun_of(alloc, base.jobs.jobs.as_slice(), base.phases.as_slice())?;
+    let told = facts_told(alloc, &base.jobs, base, settings, &ran)?;
+    let own = all_reasons(rt, alloc, &told, &Plain)?;
+    let facts = elements(alloc, told)?;
+    let forced = forced_of(alloc, facts.as_slice())?;
+    let copy = all_again(alloc, own.as_slice())?;
+    let reasons = elements(alloc, own)?;
+    Ok(Judged {
+        facts,
+        reasons,
+        own: copy,
+        forced,
+    })
+}
+
+// The same with the plan by it.
+fn told_by(
+    alloc: Global,
+    base: &Base,
+    settings: &Settings,
+    judged: Judged,
+) -> Result<Told, PlanFault>
+    requires facts { judged.facts.items ≡ facts_now settings.now base.now }
+    requires reasons { judged.reasons.items ≡ map reasons_of judged.facts.items }
+    requires own { judged.own ≡ map reasons_of judged.facts.items }
+    requires forced { judged.forced ≡ map (λ f. f.forced) judged.facts.items }
+    requires texts { list_all has_path_texts base.now.jobs.jobs ≡ true }
+    ensures facts { IfOk result (λ told. told.facts.items ≡ facts_now settings.now base.now) }
+    ensures reasons { IfOk result (λ told. told.reasons.items ≡ map reasons_of told.facts.items) }
+    ensures texts { IfOk result (λ told. list_all has_path_texts base.now.jobs.jobs ≡ true) }
+    ensures each { IfOk result (λ told. length told.plan.states ≡ length base.now.jobs.jobs) }
+    ensures targets { IfOk result (λ told. length told.plan.current ≡ length settings.now.targets) }
+    ensures now { IfOk result (λ told. IsSound base.now → IsNow settings.now base.now told.plan told.held) }
+    ensures refused { IfErr result (λ fault. fault ≢ PlanFault.OutOfMemory → IsSound base.now → IsRefusedNow settings.now base.now fault) }
+{
+    let Judged {
+        facts,
+        reasons,
+        own,
+        forced,
+    } = judged;
+    match tell(alloc, base, settings, own, &forced) {
+        Err(fault) => Err(fault),
+        Ok(made) => Ok(Told {
+            facts,
+            reasons,
+            plan: made.plan,
+            held: made.held,
+        }),
+    }
+}
+
+/// What all jobs are judged by, what the judge says of them, and the plan by it.
+pub(crate) fn told_of<Rt: Threads + Sync>(
+    rt: &Rt,
+    alloc: Global,
+    base: &Base,
+    settings: &Settings,
+) -> Result<Told, PlanFault>
+    ensures facts { IfOk result (λ told. told.facts.items ≡ facts_now settings.now base.now) }
+    ensures reasons { IfOk result (λ told. told.reasons.items ≡ map reasons_of told.facts.items) }
+    ensures texts { IfOk result (λ told. list_all has_path_texts base.now.jobs.jobs ≡ true) }
+    ensures each { IfOk result (λ told. length told.plan.states ≡ length base.now.jobs.jobs) }
+    ensures targets { IfOk result (λ told. length told.plan.current ≡ length settings.now.targets) }
+    ensures now { IfOk result (λ told. IsSound base.now → IsNow settings.now base.now told.plan told.held) }
+    ensures refused { IfErr result (λ fault. fault ≢ PlanFault.OutOfMemory → IsSound base.now → IsRefusedNow settings.now base.now fault) }
+{
+    match judge_jobs(rt, alloc, base, settings) {
+        Err(_) => Err(PlanFault::OutOfMemory),
+        Ok(judged) => told_by(alloc, base, settings, judged),
+    }
+}
+
+// The base of these jobs, of which none has begun.
+fn first_base(alloc: Global, jobs: Jobs, store: Store, seen: Seen) -> Result<Base, OutOfMemory>
+    ensures sound { IfOk result IsSound }
+    ensures first { IfOk result (IsFirst jobs store seen) }
+{
+    let sited = sited_of(alloc, &jobs)?;
+    let rows = first_rows(alloc, jobs.jobs.as_slice())?;
+    Ok(Base {
+        jobs,
+        store,
+        seen,
+        later: BTreeMap::new(alloc),
+        came: List::new(alloc),
+        entries: Slots::of(rows.entries),
+        sights: Slots::of(rows.sights),
+        sites: sited.sites,
+        sources: sited.sources,
+        phases: Slots::of(rows.phases),
+        began: Slots::of(rows.began),
+    })
+}
+
+// The kept plan over this base.
+fn over<Rt: Threads + Sync>(
+    rt: &Rt,
+    alloc: Global,
+    base: Base,
+    settings: Settings,
+) -> Result<LivePlan, PlanFault>
+    requires { IsSound base }
+    ensures live { IfOk result IsLive }
+    ensures so { IfOk result (λ p. (p.base ≡ base) × (p.settings ≡ settings)) }
+    ensures refused { IfErr result (λ fault. fault ≢ PlanFault.OutOfMemory → IsRefusedNow settings base fault) }
+{
+    match told_of(rt, alloc, &base, &settings) {
+        Err(fault) => Err(fault),
+        Ok(told) => Ok(LivePlan {
+            base,
+            settings,
+            facts: told.facts,
+            reasons: told.reasons,
+            plan: told.plan,
+            held: told.held,
+        }),
+    }
+}
+
+impl LivePlan {
+    /// The plan of these jobs, none of which has begun, to be kept.
+    ///
+    /// The faults are those of a plan: the first thing that is refused of it, or `OutOfMemory` where there is no memory for it. What the store has, what was
+    /// seen and what the makers of the jobs tell is so in one image of the folder.
+    pub fn new<Rt: Threads + Sync>(
+        rt: &Rt,
+        alloc: Global,
+        jobs: Jobs,
+        store: Store,
+        seen: Seen,
+        settings: Settings,
+    ) -> Result<LivePlan, PlanFault>
+        ensures live { IfOk result IsLive }
+        ensures first { IfOk result (λ p. IsFirst jobs store seen p.base × (p.settings ≡ settings)) }
+        ensures so { IfOk result (λ p. (image : Image) → Agree image jobs store seen settings.targets → IsAgreed image settings p.base) }
+        ensures refused { IfErr result (λ fault. fault ≢ PlanFault.OutOfMemory → (image : Image) → Agree image jobs store seen settings.targets
+            → IsRefused image settings [] jobs fault) }
+    {
+        match first_base(alloc, jobs, store, seen) {
+            Err(_) => Err(PlanFault::OutOfMemory),
+            Ok(base) => over(rt, alloc, base, settings),
+        }
+    }
+}

@@ -1,0 +1,41 @@
+-- Paths that are looked at one after another.
+use Rattle.std.proofs.Common.{◌≡◌, List, [], ◌∷◌, ◌++◌, refl, sym, ap, subst, ◌∙◌, Result, Err}
+use Rattle.std.specs.Prelude.{IsErrOf}
+use Rattle.smk_world.specs.declared.event.WorkFault.{WorkFault}
+use Rattle.smk_world.specs.declared.event.WorkFault.TheVariants.{Failed, OutOfMemory}
+use Rattle.smk_world.specs.Trees.{Path, Each}
+use Rattle.smk_store_members.specs.Members.{Nodes}
+use Rattle.smk_store_members.proofs.Lists.{each_both}
+use Rattle.smk_plan.specs.declared.seen.Sight.{Sight}
+use Rattle.smk_plan.specs.declared.fault.LookFault.{LookFault}
+use Rattle.smk_plan.specs.declared.fault.LookFault.TheVariants.{Device}
+use Rattle.smk_plan_look.specs.Seeing.{IsSightOf, are_paths, look_fault}
+
+paths_append : (sights : List Sight) (s : Sight) → are_paths (sights ++ s ∷ []) ≡ are_paths sights ++ s.path ∷ []
+paths_append [] s = refl
+paths_append (x ∷ sights) s = ap (λ (ps : List Path). x.path ∷ ps) (paths_append sights s)
+
+-- one more
+pub path_pushed : (sights new : List Sight) (s : Sight) (path : Path) → new ≡ sights ++ s ∷ [] → s.path ≡ path → are_paths new ≡ are_paths sights ++ path ∷ []
+path_pushed sights new s path pushed is = ap are_paths pushed ∙ paths_append sights s ∙ ap (λ (p : Path). are_paths sights ++ p ∷ []) is
+
+pub sight_pushed : (a b : Nodes) (sights new : List Sight) (s : Sight) (path : Path) → new ≡ sights ++ s ∷ [] → s.path ≡ path → a ≡ b → IsSightOf a path s → Each (λ (x : Sight). IsSightOf b x.path x) sights → Each (λ (x : Sight). IsSightOf b x.path x) new
+sight_pushed a b sights new s path pushed is same told each =
+    subst (Each (λ (x : Sight). IsSightOf b x.path x)) (sym pushed)
+    (each_both (λ (x : Sight). IsSightOf b x.path x) sights (s ∷ []) each (subst (λ (n : Nodes). IsSightOf n s.path s) same (subst (λ (p : Path). IsSightOf a p s) (sym is) told), tt))
+
+-- ## Faults
+
+pub device_of : {T U : Type 0} (r : Result T WorkFault) (s : Result U LookFault) (fault : WorkFault) → r ≡ Err fault → s ≡ Err (look_fault fault) → IsErrOf s Device → IsErrOf r Failed
+device_of r s Failed is given h = is
+device_of r s OutOfMemory is given h = absurd (wrong h)
+  where
+    wrong : s ≡ Err Device → ⊥
+    wrong k = cc
+
+pub failed_of : {T U : Type 0} (r : Result T WorkFault) (s : Result U LookFault) (fault : WorkFault) → r ≡ Err fault → s ≡ Err (look_fault fault) → IsErrOf r Failed → IsErrOf s Device
+failed_of r s Failed is given h = given
+failed_of r s OutOfMemory is given h = absurd (wrong h)
+  where
+    wrong : r ≡ Err Failed → ⊥
+    wrong k = cc

@@ -1,0 +1,282 @@
+-- What is seen, as the image of the folder has it.
+use Rattle.std.proofs.Common.{◌≡◌, inl, inr, ℕ, suc, ◌+◌, length, drop, arith, Bool, true, false, ◌&&◌, ◌||◌, not, cond, List, [], ◌∷◌, ◌++◌, map, filter, refl, sym, ap, subst, ◌∙◌, Option, Some, None, bytes_eq}
+use Rattle.std.specs.Prelude.{is_some, if◌then◌else◌}
+use Rattle.std.specs.List.{list_any, find, flat_map}
+use Rattle.smk_base.specs.Path.{is_path, is_under, is_at_or_under, own_folder}
+use Rattle.smk_base.proofs.Apart.{path_outside, outside-own}
+use Rattle.smk_base.proofs.Places.{and_first, and_second, same_place, same_flipped}
+use Rattle.smk_base.proofs.Under.{never_both, false_unless, or_cases, or_first, or_second, both_true, under_folder, rest_under, under_further, at_itself, at_when_under}
+use Rattle.smk_world.specs.declared.event.Node.{Node}
+use Rattle.smk_world.specs.declared.event.Node.TheVariants.{Regular, Directory}
+use Rattle.smk_world.specs.declared.event.NodeState.{NodeState}
+use Rattle.smk_world.specs.declared.event.NodeState.TheVariants.{Owned, Known}
+use Rattle.smk_world.specs.declared.recipe.Out.{Out}
+use Rattle.smk_world.specs.declared.recipe.OutItem.{OutItem}
+use Rattle.smk_world.specs.World.{World, IsFormed, is_named, reading, reads_folder}
+use Rattle.smk_world.specs.Calls.{in_folder, Stands, stat_of}
+use Rattle.smk_world.specs.Trees.{Path, Each, IsIn, is_path_text, is_text, below, outs_of}
+use Rattle.smk_record.specs.declared.record.Member.{Member}
+use Rattle.smk_record.specs.declared.record.Record.{Record}
+use Rattle.smk_record.specs.Records.{are_valid_members}
+use Rattle.smk_flow.specs.declared.job.Job.{Job}
+use Rattle.smk_store.specs.Images.{Image, Content, content_of, is_directory, is_folder, is_outside, names_under, members_under, seen}
+use Rattle.smk_store.specs.Walking.{texts_of}
+use Rattle.smk_store.proofs.Loads.{named_filter, contains_named}
+use Rattle.smk_chain.specs.declared.jobs.Jobs.{Jobs}
+use Rattle.smk_chain.specs.declared.jobs.Maker.{Maker}
+use Rattle.smk_store_members.specs.Members.{Nodes, IsFound, member_places, IsThere, AreMembers}
+use Rattle.smk_store_members.specs.Members.IsFound.{Inside, Deeper}
+use Rattle.smk_store_members.specs.Disk.{IsTree}
+use Rattle.smk_store_members.proofs.Lists.{each_both, each_more, each_unmap}
+use Rattle.smk_store_members.proofs.Trees.{some_stands, stands_some, tree_found}
+use Rattle.smk_store_members.proofs.Under.{same_members}
+use Rattle.smk_plan.specs.declared.seen.Sight.{Sight}
+use Rattle.smk_plan.specs.States.{test_some}
+use Rattle.smk_plan.specs.Sights.{is_tellable, is_guarded, members_seen, sight_of, IsSeenAs, IsSeenOf}
+use Rattle.smk_plan_look.specs.Gathering.{Texts, IsHeld, item_paths, job_paths, source_path, unless_made, wanted}
+use Rattle.smk_plan_look.specs.Seeing.{TellsGuard, IsListedAs, IsSightOf, are_paths}
+use Rattle.smk_plan_look.proofs.Waiting.{guard_some}
+
+-- ## Lists
+
+any_named : (f : Path → Bool) (q : Path) (ps : List Path) → is_named q ps ≡ true → f q ≡ true → list_any f ps ≡ true
+any_named f q [] h k = absurd (never_both false h refl)
+any_named f q (p ∷ ps) h k =
+    elim (or_cases (bytes_eq q p) (is_named q ps) h) [
+      | inl here ↦ or_first (f p) (list_any f ps) (subst (λ t. f t ≡ true) (same_place q p here) k)
+      | inr there ↦ or_second (f p) (list_any f ps) (any_named f q ps there k)
+    ]
+
+none_any : (f : Path → Bool) (ps : List Path) → ((q : Path) → f q ≡ true → ⊥) → list_any f ps ≡ false
+none_any f [] never = refl
+none_any f (p ∷ ps) never = ap (λ b. b || list_any f ps) (false_unless (f p) (never p)) ∙ none_any f ps never
+
+units : (ps : List Path) → Each (λ (q : Path). Unit {0}) ps
+units [] = tt
+units (p ∷ ps) = (tt, units ps)
+
+each_kept : (t : Path → Bool) (Q : Path → Type 0) (ps : List Path) → Each Q ps → Each (λ (q : Path). (t q ≡ true) × Q q) (filter t ps)
+each_kept t Q [] h = tt
+each_kept t Q (p ∷ ps) h = go (t p) refl (each_kept t Q ps h.1)
+  where
+    go : (b : Bool) → t p ≡ b → Each (λ (q : Path). (t q ≡ true) × Q q) (filter t ps) → Each (λ (q : Path). (t q ≡ true) × Q q) (cond b (p ∷ filter t ps) (filter t ps))
+    go true e rest = ((e, h.0), rest)
+    go false e rest = rest
+
+each_front : {A : Type 0} (P : A → Type 0) (xs ys : List A) → Each P (xs ++ ys) → Each P xs
+each_front P [] ys h = tt
+each_front P (x ∷ xs) ys h = (h.0, each_front P xs ys h.1)
+
+each_back : {A : Type 0} (P : A → Type 0) (xs ys : List A) → Each P (xs ++ ys) → Each P ys
+each_back P [] ys h = h
+each_back P (x ∷ xs) ys h = each_back P xs ys h.1
+
+-- ## One place
+
+folder_read : (s : NodeState) → reads_folder s ≡ is_directory (reading s)
+folder_read Owned = refl
+folder_read (Known None besides) = refl
+folder_read (Known (Some Directory) besides) = refl
+folder_read (Known (Some (Regular bytes time read_only)) besides) = refl
+
+below_in : (p name : Path) → below p (in_folder p name) ≡ name
+below_in [] name = refl
+below_in (b ∷ p) name = ap (λ n. drop n (b ∷ p ++ 47 ∷ name)) (more (length p)) ∙ below_in p name
+  where
+    more : (n : ℕ) → suc n + 1 ≡ suc (n + 1)
+    more n = grind arith
+
+below_under : (p q : Path) → is_under q p ≡ true → in_folder p (below p q) ≡ q
+below_under p q under =
+    let r = rest_under q p under in
+    ap (λ (t : Path). in_folder p (below p t)) r.1 ∙ ap (in_folder p) (below_in p r.0) ∙ sym r.1
+
+found_inside : (nodes : Nodes) (p q : Path) → IsFound nodes p q → is_under q p ≡ true
+found_inside nodes p q (Inside name is st) = under_folder p name
+found_inside nodes p q (Deeper folder name before reads is st) = under_further (in_folder folder name) folder p (under_folder folder name) (found_inside nodes p folder before)
+
+found_stands : (nodes : Nodes) (p q : Path) → IsFound nodes p q → Stands (nodes q)
+found_stands nodes p q (Inside name is st) = st
+found_stands nodes p q (Deeper folder name before reads is st) = st
+
+module _ (read : List ℕ → Option Record) (w : World) (formed : IsFormed w) (tree : IsTree w) where
+  abbrev image : Image
+  image = seen read w
+
+  outside : (p q : Path) → is_path p ≡ true → is_at_or_under q p ≡ true → is_outside q ≡ true
+  outside p q path at = ap not (false_unless (is_at_or_under q own_folder) (λ own. never_both (is_at_or_under q p) at (outside-own p q (path_outside p path) own).at_or_over))
+
+  node_is : (p q : Path) → is_path p ≡ true → is_at_or_under q p ≡ true → image.node q ≡ reading (w.nodes q)
+  node_is p q path at = ap (λ (b : Bool). if b then reading (w.nodes q) else None) (outside p q path at)
+
+  in_names : (q : Path) (b : Bool) → is_named q w.names ≡ b → is_some (reading (w.nodes q)) ≡ true → b ≡ true
+  in_names q true e some = refl
+  in_names q false e some = absurd (never_both (is_some (reading (w.nodes q))) some (ap is_some (formed.complete q e)))
+
+  named : (p q : Path) → is_path p ≡ true → is_at_or_under q p ≡ true → is_some (reading (w.nodes q)) ≡ true → is_named q image.names ≡ true
+  named p q path at some =
+      named_filter (λ t. is_outside t && is_some (reading (w.nodes t))) q w.names
+      ∙ both_true (is_outside q && is_some (reading (w.nodes q))) (is_named q w.names)
+      (both_true (is_outside q) (is_some (reading (w.nodes q))) (outside p q path at) some) (in_names q (is_named q w.names) refl some)
+
+  -- ## Read-only files
+
+  abbrev flagged : Option Node → Bool
+  flagged n = test_some (λ (f : Content). f.read_only) (content_of n)
+
+  abbrev guards : Path → Path → Bool
+  guards p q = is_at_or_under q p && (is_tellable q && flagged (image.node q))
+
+  guarded_is : (p : Path) (found : Bool) → is_path p ≡ true → TellsGuard w.nodes p found → found ≡ is_guarded image p
+  guarded_is p true path t =
+      let h = t.some refl in
+      sym
+      (any_named (guards p) h.place image.names
+      (named p h.place path h.inside (guard_some (w.nodes h.place) h.guards.read_only))
+      (both_true (is_at_or_under h.place p) (is_tellable h.place && flagged (image.node h.place)) h.inside
+      (both_true (is_tellable h.place) (flagged (image.node h.place)) h.guards.tellable (ap flagged (node_is p h.place path h.inside) ∙ h.guards.read_only))))
+  guarded_is p false path t =
+      sym
+      (none_any (guards p) image.names
+      (λ q yes.
+      let inside = and_first (is_at_or_under q p) (is_tellable q && flagged (image.node q)) yes in
+      let both = and_second (is_at_or_under q p) (is_tellable q && flagged (image.node q)) yes in
+      t.none refl
+      (record {
+        place = q;
+        inside = inside;
+        guards = record {
+          tellable = and_first (is_tellable q) (flagged (image.node q)) both;
+          read_only = sym (ap flagged (node_is p q path inside)) ∙ and_second (is_tellable q) (flagged (image.node q)) both;
+        };
+      })))
+
+  -- ## Members
+
+  abbrev member_at : Path → Path → Member
+  member_at p q = record { folder = is_folder image q; name = below p q }
+
+  abbrev IsIn_it : Path → Path → Type 0
+  IsIn_it p q = (is_under q p ≡ true) × (((is_outside q && is_some (reading (w.nodes q))) ≡ true) × Unit {0})
+
+  all_inside : (p : Path) → Each (IsIn_it p) (names_under image p)
+  all_inside p =
+      each_kept (λ q. is_under q p) (λ q. ((is_outside q && is_some (reading (w.nodes q))) ≡ true) × Unit {0}) image.names
+      (each_kept (λ q. is_outside q && is_some (reading (w.nodes q))) (λ q. Unit {0}) w.names (units w.names))
+
+  there_one : (p q : Path) → is_path p ≡ true → IsIn_it p q → IsThere w.nodes p (member_at p q)
+  there_one p q path h =
+      let st = some_stands (w.nodes q) (and_second (is_outside q) (is_some (reading (w.nodes q))) h.1.0) in
+      subst (λ (x : Path). IsFound w.nodes p x × (reads_folder (w.nodes x) ≡ is_folder image q)) (sym (below_under p q h.0))
+      (tree_found w tree p q h.0 st, folder_read (w.nodes q) ∙ sym (ap is_directory (node_is p q path (at_when_under q p h.0))))
+
+  there_all : (p : Path) (qs : List Path) → is_path p ≡ true → Each (IsIn_it p) qs → Each (IsThere w.nodes p) (map (member_at p) qs)
+  there_all p [] path h = tt
+  there_all p (q ∷ qs) path h = (there_one p q path h.0, there_all p qs path h.1)
+
+  place_in : (p q : Path) (qs : List Path) → is_under q p ≡ true → is_named q qs ≡ true → IsIn (member_places p (map (member_at p) qs)) q
+  place_in p q [] under h = absurd (never_both false h refl)
+  place_in p q (x ∷ qs) under h =
+      elim (or_cases (bytes_eq q x) (is_named q qs) h) [
+        | inl here ↦ inl (sym (below_under p q under) ∙ ap (λ (t : Path). in_folder p (below p t)) (same_place q x here))
+        | inr there ↦ inr (place_in p q qs under there)
+      ]
+
+  -- what is under a folder are its members, where a record may have them
+  valid_members : (p : Path) → is_path p ≡ true → are_valid_members p (members_under image p) ≡ true → AreMembers w.nodes p (members_under image p)
+  valid_members p path valid =
+      record {
+        valid = valid;
+        there = there_all p (names_under image p) path (all_inside p);
+        all = λ q found.
+            let under = found_inside w.nodes p q found in
+            place_in p q (names_under image p) under
+            (named_filter (λ x. is_under x p) q image.names
+            ∙ both_true (is_under q p) (is_named q image.names) under (named p q path (at_when_under q p under) (stands_some (w.nodes q) (found_stands w.nodes p q found))));
+      }
+
+  abbrev unless_bad : Path → Bool → Option (List Member)
+  unless_bad p good = if good then Some (members_under image p) else None
+
+  listed_is : (p : Path) (members : Option (List Member)) → is_path p ≡ true → is_folder image p ≡ true → IsListedAs w.nodes p members → members ≡ members_seen image p
+  listed_is p (Some members) path folder are =
+      let same : members ≡ members_under image p = same_members read w p formed path members (tree_found w tree p) are in
+      ap Some same
+      ∙ sym (ap (unless_bad p) (both_true (is_folder image p) (are_valid_members p (members_under image p)) folder (sym (ap (are_valid_members p) same) ∙ are.valid)))
+  listed_is p None path folder none =
+      sym
+      (ap (λ (b : Bool). unless_bad p (is_folder image p && b)) (false_unless (are_valid_members p (members_under image p)) (λ valid. none (members_under image p) (valid_members p path valid)))
+      ∙ ap (λ (b : Bool). unless_bad p (b && false)) folder)
+
+  members_are : (p : Path) (s : Sight) → is_path p ≡ true → IsSightOf w.nodes p s → (b : Bool) → reads_folder (w.nodes p) ≡ b → s.members ≡ members_seen image p
+  members_are p s path h true e = listed_is p s.members path (ap is_directory (node_is p p path (at_itself p)) ∙ sym (folder_read (w.nodes p)) ∙ e) (h.folder e)
+  members_are p s path h false e =
+      h.plain e
+      ∙ sym (ap (λ (b : Bool). unless_bad p (b && are_valid_members p (members_under image p))) (ap is_directory (node_is p p path (at_itself p)) ∙ sym (folder_read (w.nodes p)) ∙ e))
+
+  -- ## Sights
+
+  sight_is : (p : Path) (s : Sight) → is_path p ≡ true → IsSightOf w.nodes p s → s ≡ sight_of image p
+  sight_is p s path h =
+      let stat : s.stat ≡ stat_of (image.node p) = h.stat ∙ sym (ap stat_of (node_is p p path (at_itself p))) in
+      let members : s.members ≡ members_seen image p = members_are p s path h (reads_folder (w.nodes p)) refl in
+      let guarded : s.guarded ≡ is_guarded image p = guarded_is p s.guarded path h.guarded in
+      λ i. record { path = h.path i; stat = stat i; members = members i; guarded = guarded i }
+
+  sights_are : (sights : List Sight) → Each (λ (p : Path). is_path_text p ≡ true) (are_paths sights) → Each (λ (s : Sight). IsSightOf w.nodes s.path s) sights → Each (λ (s : Sight). s ≡ sight_of image s.path) sights
+  sights_are [] paths h = tt
+  sights_are (s ∷ sights) paths h = (sight_is s.path s (and_first (is_path s.path) (is_text s.path) paths.0) h.0, sights_are sights paths.1 h.1)
+
+  seen_at : (sights : List Sight) (q : Path) → is_named q (are_paths sights) ≡ true → Each (λ (s : Sight). s ≡ sight_of image s.path) sights → IsSeenAs image sights q
+  seen_at [] q h are = absurd (never_both false h refl)
+  seen_at (s ∷ sights) q h are = go (bytes_eq s.path q) refl (λ k. seen_at sights q k are.1)
+    where
+      go : (b : Bool) → bytes_eq s.path q ≡ b → (is_named q (are_paths sights) ≡ true → IsSeenAs image sights q) → find (λ (x : Sight). bytes_eq x.path q) (s ∷ sights) ≡ Some (sight_of image q)
+      go true e again =
+          ap (λ (b : Bool). cond b (Some s) (find (λ (x : Sight). bytes_eq x.path q) sights)) e
+          ∙ ap Some (are.0 ∙ ap (sight_of image) (same_place s.path q e))
+      go false e again =
+          ap (λ (b : Bool). cond b (Some s) (find (λ (x : Sight). bytes_eq x.path q) sights)) e
+          ∙ again (sym (ap (λ (b : Bool). b || is_named q (are_paths sights)) (same_flipped q s.path ∙ e)) ∙ h)
+
+  -- ## Jobs
+
+  outs_seen : (P : Path → Type 0) (items : List OutItem) → Each P (flat_map item_paths items) → Each (λ (o : Out). P o.path) (flat_map (λ (item : OutItem). item.outs) items)
+  outs_seen P [] h = tt
+  outs_seen P (item ∷ items) h =
+      each_both (λ (o : Out). P o.path) item.outs (flat_map (λ (i : OutItem). i.outs) items)
+      (each_unmap P (λ (o : Out). o.path) item.outs (each_front P (item_paths item) (flat_map item_paths items) h))
+      (outs_seen P items (each_back P (item_paths item) (flat_map item_paths items) h))
+
+  jobs_seen : (P : Path → Type 0) (js : List Job) → Each P (flat_map job_paths js) → Each (λ (j : Job). Each (λ (o : Out). P o.path) (outs_of j.recipe)) js
+  jobs_seen P [] h = tt
+  jobs_seen P (j ∷ js) h = (
+    outs_seen P j.recipe.outputs (each_front P (job_paths j) (flat_map job_paths js) h),
+    jobs_seen P js (each_back P (job_paths j) (flat_map job_paths js) h),
+  )
+
+  sources_seen : (P : Path → Type 0) (ms : List Maker) → Each P (flat_map source_path ms) → Each (λ (m : Maker). m.job ≡ None → P m.path) ms
+  sources_seen P [] h = tt
+  sources_seen P (m ∷ ms) h = (
+    λ none. (subst (λ (o : Option ℕ). Each P (unless_made m.path o)) none (each_front P (source_path m) (flat_map source_path ms) h)).0,
+    sources_seen P ms (each_back P (source_path m) (flat_map source_path ms) h),
+  )
+
+  held_seen : (paths : Texts) (sights : List Sight) → are_paths sights ≡ filter is_path_text (texts_of paths.keys) → Each (λ (s : Sight). s ≡ sight_of image s.path) sights → (q : Path) → IsHeld paths q → IsSeenAs image sights q
+  held_seen paths sights all are q held =
+      seen_at sights q
+      (ap (is_named q) all ∙ named_filter is_path_text q (texts_of paths.keys)
+      ∙ both_true (is_path_text q) (is_named q (texts_of paths.keys)) held.0 (sym (contains_named q paths.keys) ∙ held.1)) are
+
+  path_texts : (ts : List Path) → Each (λ (p : Path). is_path_text p ≡ true) (filter is_path_text ts)
+  path_texts ts = each_more (λ (p : Path). (is_path_text p ≡ true) × Unit {0}) (λ (p : Path). is_path_text p ≡ true) (λ p h. h.0) (filter is_path_text ts) (each_kept is_path_text (λ p. Unit {0}) ts (units ts))
+
+  pub all_seen : (jobs : Jobs) (paths : Texts) (sights : List Sight) → Each (IsHeld paths) (wanted jobs) → are_paths sights ≡ filter is_path_text (texts_of paths.keys) → Each (λ (s : Sight). IsSightOf w.nodes s.path s) sights
+      → IsSeenOf image jobs sights
+  all_seen jobs paths sights held all told =
+      let are = sights_are sights (subst (Each (λ (p : Path). is_path_text p ≡ true)) (sym all) (path_texts (texts_of paths.keys))) told in
+      let each : Each (IsSeenAs image sights) (wanted jobs) = each_more (IsHeld paths) (IsSeenAs image sights) (held_seen paths sights all are) (wanted jobs) held in
+      record {
+        outputs = jobs_seen (IsSeenAs image sights) jobs.jobs (each_front (IsSeenAs image sights) (flat_map job_paths jobs.jobs) (flat_map source_path jobs.makers) each);
+        sources = sources_seen (IsSeenAs image sights) jobs.makers (each_back (IsSeenAs image sights) (flat_map job_paths jobs.jobs) (flat_map source_path jobs.makers) each);
+      }

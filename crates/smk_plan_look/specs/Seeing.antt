@@ -1,0 +1,72 @@
+-- What looks at a path tell of it.
+use Rattle.std.specs.Prelude.{◌≡◌, Bool, true, false, List, map, Option, Some, None}
+use Rattle.smk_base.specs.Path.{is_at_or_under}
+use Rattle.smk_world.specs.declared.event.Stat.{Stat}
+use Rattle.smk_world.specs.declared.event.Stat.TheVariants.{Nothing as NoStat, File as FileStat, Folder as FolderStat}
+use Rattle.smk_world.specs.declared.event.WorkFault.{WorkFault}
+use Rattle.smk_world.specs.declared.event.WorkFault.TheVariants.{Failed, OutOfMemory}
+use Rattle.smk_world.specs.World.{reading, reads_folder}
+use Rattle.smk_world.specs.Calls.{stat_of}
+use Rattle.smk_world.specs.Trees.{Path}
+use Rattle.smk_record.specs.declared.record.Member.{Member}
+use Rattle.smk_store.specs.Images.{Content, content_of}
+use Rattle.smk_store_members.specs.declared.listed.Listed.{Listed}
+use Rattle.smk_store_members.specs.declared.listed.Listed.TheVariants.{Members, BadMember}
+use Rattle.smk_store_members.specs.Members.{Nodes, AreMembers, HasNoMembers}
+use Rattle.smk_plan.specs.declared.seen.Sight.{Sight}
+use Rattle.smk_plan.specs.declared.fault.LookFault.{LookFault}
+use Rattle.smk_plan.specs.declared.fault.LookFault.TheVariants.{Device, OutOfMemory as NoMemory}
+use Rattle.smk_plan.specs.States.{test_some}
+use Rattle.smk_plan.specs.Sights.{is_tellable}
+
+abbrev pub is_read_only : Stat → Bool
+is_read_only NoStat = false
+is_read_only (FileStat time read_only) = read_only
+is_read_only FolderStat = false
+
+abbrev pub is_folder_stat : Stat → Bool
+is_folder_stat NoStat = false
+is_folder_stat (FileStat time read_only) = false
+is_folder_stat FolderStat = true
+
+-- a read-only file that looks can tell
+pub record IsGuard (nodes : Nodes) (q : Path) : Type 0 where
+  pub tellable : is_tellable q ≡ true
+  pub read_only : test_some (λ (f : Content). f.read_only) (content_of (reading (nodes q))) ≡ true
+
+-- one stands at the path or under it
+pub record HasGuard (nodes : Nodes) (p : Path) : Type 0 where
+  pub place : Path
+  pub inside : is_at_or_under place p ≡ true
+  pub guards : IsGuard nodes place
+
+-- whether one does
+pub record TellsGuard (nodes : Nodes) (p : Path) (found : Bool) : Type 0 where
+  pub some : found ≡ true → HasGuard nodes p
+  pub none : found ≡ false → ¬ (HasGuard nodes p)
+
+-- the members, or that there are none which a record may have
+abbrev pub IsListedAs : Nodes → Path → Option (List Member) → Type 0
+IsListedAs nodes p (Some members) = AreMembers nodes p members
+IsListedAs nodes p None = HasNoMembers nodes p
+
+abbrev pub members_in : Listed → Option (List Member)
+members_in (Members members) = Some members
+members_in BadMember = None
+
+-- what is seen of the path is so
+pub record IsSightOf (nodes : Nodes) (p : Path) (s : Sight) : Type 0 where
+  pub path : s.path ≡ p
+  pub stat : s.stat ≡ stat_of (reading (nodes p))
+  pub folder : reads_folder (nodes p) ≡ true → IsListedAs nodes p s.members
+  pub plain : reads_folder (nodes p) ≡ false → s.members ≡ None
+  pub guarded : TellsGuard nodes p s.guarded
+
+-- the paths of which something is seen
+abbrev pub are_paths : List Sight → List Path
+are_paths sights = map (λ (s : Sight). s.path) sights
+
+-- the fault of a call, as that of looking
+abbrev pub look_fault : WorkFault → LookFault
+look_fault Failed = Device
+look_fault OutOfMemory = NoMemory

@@ -1,0 +1,92 @@
+//! Looking at the outputs and the sources of jobs.
+
+ghost use Rattle.std.specs.Prelude.{◌≡◌, ℕ, List as Items, Option, Some, IsErrOf, IfOk, map};
+ghost use Rattle.std.specs.List.{filter};
+ghost use Rattle.smk_world.specs.World.{World};
+ghost use Rattle.smk_world.specs.Trees.{Each, is_path_text};
+ghost use Rattle.smk_record.specs.declared.record.Record.{Record as RecordValue};
+ghost use Rattle.smk_store.specs.Images.{seen};
+ghost use Rattle.smk_store.specs.Walking.{HasLooked, path_in, texts_of};
+ghost use Rattle.smk_store_members.specs.Disk.{IsTree};
+ghost use Rattle.smk_plan.specs.Sights.{IsSeenOf, AreRising};
+ghost use Rattle.smk_plan_look.specs.Seeing.{IsSightOf, are_paths, look_fault};
+
+use crate::paths::paths_in;
+use crate::sights::sight_at;
+use smk_base::{List, OutOfMemory, PathFault, PathText};
+use smk_chain::Jobs;
+use smk_plan::{LookFault, Seen, Sight};
+use smk_world::{Files, WorkFault};
+use std::alloc::Global;
+use std::collections::BTreeSet;
+
+// The path that the text is. None where it is none.
+fn path_in(alloc: Global, text: &str) -> Result<Option<PathText>, OutOfMemory>
+    ensures { IfOk result (λ path. path ≡ path_in text.now) }
+{
+    match PathText::read(alloc, text) {
+        Ok(path) => Ok(Some(path)),
+        Err(PathFault::BadPath) => Ok(None),
+        Err(PathFault::OutOfMemory) => Err(OutOfMemory),
+    }
+}
+
+// What is seen of these texts, where they are paths.
+fn sights_of<W: Files>(
+    alloc: Global,
+    work: &mut W,
+    paths: &BTreeSet<String>,
+) -> Result<List<Sight>, WorkFault>
+    ensures looked { HasLooked W.act (W.world work.old) (W.world work.new) (W.faults work.old) (W.faults work.new) (W.running work.old) (W.running work.new) (IsErrOf result WorkFault.Failed) }
+    ensures rising { IfOk result (λ sights. AreRising sights) }
+    ensures paths { IfOk result (λ sights. are_paths sights ≡ filter is_path_text (texts_of paths.now.keys)) }
+    ensures told { IfOk result (λ sights. (w : World) → W.world work.old ≡ Some w → IsTree w → Each (λ s. IsSightOf w.nodes s.path s) sights) }
+{
+    let mut sights = List::new(alloc);
+    for text in paths {
+        let Some(path) = path_in(alloc, text.as_str())? else {
+            continue;
+        };
+        let sight = sight_at(alloc, work, path)?;
+        sights.push(sight)?;
+    }
+    Ok(sights)
+}
+
+// What is seen of the outputs and the sources.
+fn seen_of<W: Files>(alloc: Global, work: &mut W, jobs: &Jobs) -> Result<Seen, WorkFault>
+    ensures looked { HasLooked W.act (W.world work.old) (W.world work.new) (W.faults work.old) (W.faults work.new) (W.running work.old) (W.running work.new) (IsErrOf result WorkFault.Failed) }
+    ensures told { IfOk result (λ sights. (w : World) → W.world work.old ≡ Some w → IsTree w
+        → (read : Items ℕ → Option RecordValue) → IsSeenOf (seen read w) jobs.now sights) }
+{
+    let paths = paths_in(alloc, jobs)?;
+    let sights = sights_of(alloc, work, &paths)?;
+    Ok(Seen::of(sights))
+}
+
+// The same fault.
+fn fault_of(fault: WorkFault) -> LookFault
+    ensures { result ≡ look_fault fault }
+{
+    match fault {
+        WorkFault::Failed => LookFault::Device,
+        WorkFault::OutOfMemory => LookFault::OutOfMemory,
+    }
+}
+
+/// Looks at each output of the jobs and each source among their makers, each once: what stands there; of a folder all that is under it, where a
+/// record may have it; and whether a read-only file stands there or under it. Nothing is changed. A folder with all that is under it is listed twice.
+///
+/// `Device`: a call of the device failed. `OutOfMemory`: there is no memory for what is found.
+pub fn look<W: Files>(alloc: Global, work: &mut W, jobs: &Jobs) -> Result<Seen, LookFault>
+    ensures looked { HasLooked W.act (W.world work.old) (W.world work.new) (W.faults work.old) (W.faults work.new) (W.running work.old) (W.running work.new) (IsErrOf result LookFault.Device) }
+
+    // Each output and each source is seen as it stands in the folder.
+    ensures told { IfOk result (λ sights. (w : World) → W.world work.old ≡ Some w → IsTree w
+        → (read : Items ℕ → Option RecordValue) → IsSeenOf (seen read w) jobs.now sights) }
+{
+    match seen_of(alloc, work, jobs) {
+        Ok(seen) => Ok(seen),
+        Err(fault) => Err(fault_of(fault)),
+    }
+}

@@ -1,0 +1,15 @@
+pub mod Sinks
+pub mod Looked
+pub mod Derivations
+pub mod Reached
+pub mod Agreed
+pub mod Links
+pub mod Served
+pub mod Derived
+pub mod Copies
+pub mod Commands
+pub mod Chains
+pub mod Rounded
+pub mod Previews
+pub mod Telling
+pub mod Made

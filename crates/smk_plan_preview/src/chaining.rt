@@ -1,0 +1,78 @@
+//! The chain of plans.
+
+ghost use Rattle.std.specs.Prelude.{◌≡◌, ℕ, List as Items, Option, Some, IfOk, IfErr, true, false};
+ghost use Rattle.smk_world.specs.World.{World};
+ghost use Rattle.smk_record.specs.declared.record.Record.{Record as RecordValue};
+ghost use Rattle.smk_store.specs.Images.{seen};
+ghost use Rattle.smk_store.specs.Loading.{IsStoreOf};
+ghost use Rattle.smk_store.specs.Walking.{HasLooked};
+ghost use Rattle.smk_choose.specs.Index.{AreReadings};
+ghost use Rattle.smk_store_members.specs.Disk.{IsTree};
+ghost use Rattle.smk_plan_preview.specs.Faults.{device_failed, is_sink};
+ghost use Rattle.smk_plan_preview.specs.Rounds as spec;
+ghost use Rattle.smk_plan_preview.specs.Fitness.{AreFit};
+ghost use Rattle.smk_plan_preview.specs.Steps.{AreSound};
+
+use crate::listing::add_listings;
+use crate::rounds::{Round, make_round};
+use smk_base::List;
+use smk_choose::Readings;
+use smk_flow::Workflow;
+use smk_pick::Settings;
+use smk_report::Fault;
+use smk_store::Store;
+use smk_world::Files;
+use std::alloc::Global;
+use std::thread::Threads;
+
+// The last plan of the chain, by what was read of the rules.
+fn chain_by<W: Files, Rt: Threads + Sync>(
+    rt: &Rt,
+    alloc: Global,
+    flow: &Workflow,
+    readings: &Readings,
+    settings: &Settings,
+    store: &Store,
+    work: &mut W,
+) -> Result<Round, Fault>
+    requires { AreReadings flow.now readings.now }
+    ensures looked { HasLooked W.act (W.world work.old) (W.world work.new) (W.faults work.old) (W.faults work.new) (W.running work.old) (W.running work.new) (device_failed result ≡ true) }
+    ensures no_sink { IfErr result (λ f. is_sink f ≡ false) }
+    ensures fit { IfOk result (λ r. AreFit r.jobs) }
+    ensures sound { IfOk result (AreSound flow.now settings.now) }
+    ensures told { (w : World) → W.world work.old ≡ Some w → IsTree w → (read : Items ℕ → Option RecordValue) → IsStoreOf (seen read w) store.now
+        → spec.HasChain read flow.now settings.now (seen read w) result }
+{
+    let mut lists = List::new(alloc);
+    for _ in 0..u64::MAX {
+        let found = make_round(rt, alloc, flow, settings, store, readings, &lists, work)?;
+        if found.plan.known.is_empty() {
+            return Ok(found);
+        }
+        add_listings(alloc, &mut lists, &found.plan.known)?;
+    }
+    Err(Fault::OutOfMemory)
+}
+
+/// The last plan of the chain: from no listings on, again and again with those that have become known besides. Each round but the last makes a listing known, so there are no more
+/// rounds than directories with a record, and one.
+pub(crate) fn chain<W: Files, Rt: Threads + Sync>(
+    rt: &Rt,
+    alloc: Global,
+    flow: &Workflow,
+    settings: &Settings,
+    store: &Store,
+    work: &mut W,
+) -> Result<Round, Fault>
+    ensures looked { HasLooked W.act (W.world work.old) (W.world work.new) (W.faults work.old) (W.faults work.new) (W.running work.old) (W.running work.new) (device_failed result ≡ true) }
+    ensures no_sink { IfErr result (λ f. is_sink f ≡ false) }
+    ensures fit { IfOk result (λ r. AreFit r.jobs) }
+    ensures sound { IfOk result (AreSound flow.now settings.now) }
+    ensures told { (w : World) → W.world work.old ≡ Some w → IsTree w → (read : Items ℕ → Option RecordValue) → IsStoreOf (seen read w) store.now
+        → spec.HasChain read flow.now settings.now (seen read w) result }
+{
+    match Readings::of(alloc, flow) {
+        Ok(readings) => chain_by(rt, alloc, flow, &readings, settings, store, work),
+        Err(_) => Err(Fault::OutOfMemory),
+    }
+}

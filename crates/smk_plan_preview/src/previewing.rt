@@ -1,0 +1,114 @@
+//! Previews.
+
+ghost use Rattle.std.specs.Prelude.{◌≡◌, ℕ, List as Items, Option, Some, None, IfOk, IfErr, length, true, false};
+ghost use Rattle.std.specs.List.{zip};
+ghost use Rattle.smk_world.specs.World.{World};
+ghost use Rattle.smk_record.specs.declared.record.Record.{Record as RecordValue};
+ghost use Rattle.smk_record.specs.Spelling.{ReadsRecords};
+ghost use Rattle.smk_store.specs.Images.{seen};
+ghost use Rattle.smk_store.specs.Loading.{IsStoreOf};
+ghost use Rattle.smk_store.specs.Walking.{HasLooked};
+ghost use Rattle.smk_store_members.specs.Disk.{IsTree};
+ghost use Rattle.smk_chain_walk.specs.Links.{AreLower};
+ghost use Rattle.smk_format.specs.Refused.{command_fault};
+ghost use Rattle.smk_plan.specs.Runnable.{AreRunnable};
+ghost use Rattle.smk_plan_preview.specs.Faults.{device_failed, is_sink};
+ghost use Rattle.smk_plan_preview.specs.Previewing.{HasPreviewed};
+ghost use Rattle.smk_plan_preview.specs.Fitness.{AreFit};
+ghost use Rattle.smk_plan_preview.specs.Steps.{HasLengths};
+
+use crate::chaining::chain;
+use crate::finding::stored;
+use smk_chain::Jobs;
+use smk_flow::Workflow;
+use smk_pick::Settings;
+use smk_plan::Plan;
+use smk_report::Fault;
+use smk_store::Store;
+use smk_world::Files;
+use std::alloc::Global;
+use std::thread::Threads;
+
+/// The last plan of a chain, with its jobs, and the store as it was found.
+#[derive(Debug, Drop)]
+pub struct Previewed {
+    pub store: Store,
+    pub jobs: Jobs,
+    pub plan: Plan,
+}
+
+// The same, by the store as it stands.
+fn preview_stored<W: Files, Rt: Threads + Sync>(
+    rt: &Rt,
+    alloc: Global,
+    flow: &Workflow,
+    settings: &Settings,
+    store: Store,
+    work: &mut W,
+) -> Result<Previewed, Fault>
+    ensures looked { HasLooked W.act (W.world work.old) (W.world work.new) (W.faults work.old) (W.faults work.new) (W.running work.old) (W.running work.new) (device_failed result ≡ true) }
+    ensures no_sink { IfErr result (λ f. is_sink f ≡ false) }
+    ensures told { (w : World) → W.world work.old ≡ Some w → IsTree w → (read : Items ℕ → Option RecordValue) → IsStoreOf (seen read w) store
+        → HasPreviewed read flow.now settings.now (seen read w) result }
+    ensures fit { IfOk result (λ p. AreFit p.jobs) }
+    ensures lengths { IfOk result (λ p. HasLengths p.jobs settings.now p.plan) }
+    ensures commands { IfOk result (λ p. command_fault flow.now settings.now.cores (zip p.jobs.jobs p.plan.states) ≡ None) }
+{
+    match chain(rt, alloc, flow, settings, &store, work) {
+        Ok(last) => Ok(Previewed {
+            store,
+            jobs: last.jobs,
+            plan: last.plan,
+        }),
+        Err(fault) => Err(fault),
+    }
+}
+
+// The preview, with what holds of its jobs in one fact each.
+fn preview_all<W: Files, Rt: Threads + Sync>(
+    rt: &Rt,
+    alloc: Global,
+    flow: &Workflow,
+    settings: &Settings,
+    work: &mut W,
+) -> Result<Previewed, Fault>
+    ensures looked { HasLooked W.act (W.world work.old) (W.world work.new) (W.faults work.old) (W.faults work.new) (W.running work.old) (W.running work.new) (device_failed result ≡ true) }
+    ensures no_sink { IfErr result (λ f. is_sink f ≡ false) }
+    ensures told { (w : World) → W.world work.old ≡ Some w → IsTree w → (read : Items ℕ → Option RecordValue) → ReadsRecords read
+        → HasPreviewed read flow.now settings.now (seen read w) result }
+    ensures fit { IfOk result (λ p. AreFit p.jobs) }
+    ensures lengths { IfOk result (λ p. HasLengths p.jobs settings.now p.plan) }
+    ensures commands { IfOk result (λ p. command_fault flow.now settings.now.cores (zip p.jobs.jobs p.plan.states) ≡ None) }
+{
+    match stored(alloc, work) {
+        Ok(store) => preview_stored(rt, alloc, flow, settings, store, work),
+        Err(fault) => Err(fault),
+    }
+}
+
+/// Derives and plans the jobs that the targets call for, again and again with the listings that have become known, until no further one does. Nothing is changed.
+///
+/// The fault is the first that is refused of one of these plans: `TooManyPaths`, `Deep`, `NoRule`, `NoInput`, `Ambiguous`, `MissingMember`, `NoCommand` and `Clash` of its derivation;
+/// then `Incomplete`, `Protected`, `AboveLimit`, and `UnknownField` and `TooLong` of a command. `Device`: a call of the device failed. `OutOfMemory`: there is no memory for a plan.
+pub fn preview<W: Files, Rt: Threads + Sync>(
+    rt: &Rt,
+    alloc: Global,
+    flow: &Workflow,
+    settings: &Settings,
+    work: &mut W,
+) -> Result<Previewed, Fault>
+    ensures looked { HasLooked W.act (W.world work.old) (W.world work.new) (W.faults work.old) (W.faults work.new) (W.running work.old) (W.running work.new) (device_failed result ≡ true) }
+    ensures no_sink { IfErr result (λ f. is_sink f ≡ false) }
+    ensures told { (w : World) → W.world work.old ≡ Some w → IsTree w → (read : Items ℕ → Option RecordValue) → ReadsRecords read
+        → HasPreviewed read flow.now settings.now (seen read w) result }
+
+    // What holds of the jobs whatever the folder is.
+    ensures runnable { IfOk result (λ p. AreRunnable p.jobs) }
+    ensures lower { IfOk result (λ p. AreLower 0 p.jobs.befores) }
+    ensures befores { IfOk result (λ p. length p.jobs.befores ≡ length p.jobs.jobs) }
+    ensures states { IfOk result (λ p. length p.plan.states ≡ length p.jobs.jobs) }
+    ensures current { IfOk result (λ p. length p.plan.current ≡ length settings.now.targets) }
+    ensures commands { IfOk result (λ p. command_fault flow.now settings.now.cores (zip p.jobs.jobs p.plan.states) ≡ None) }
+{
+    preview_all(rt, alloc, flow, settings, work)
+}

@@ -1,0 +1,193 @@
+//! One plan of a chain.
+
+ghost use Rattle.std.specs.Prelude.{◌≡◌, ◌⊎◌, ℕ, List as Items, Option, Some, None, IfOk, IfErr, length, true, false};
+ghost use Rattle.std.specs.List.{zip};
+ghost use Rattle.smk_world.specs.World.{World};
+ghost use Rattle.smk_record.specs.declared.record.Record.{Record as RecordValue};
+ghost use Rattle.smk_store.specs.Images.{seen, Image};
+ghost use Rattle.smk_store.specs.Loading.{IsStoreOf};
+ghost use Rattle.smk_store.specs.Walking.{HasLooked};
+ghost use Rattle.smk_store_members.specs.Disk.{IsTree};
+ghost use Rattle.smk_choose.specs.Index.{AreReadings};
+ghost use Rattle.smk_chain_derive.specs.Clashes.{ListsKnown};
+ghost use Rattle.smk_format.specs.Refused.{command_fault};
+ghost use Rattle.smk_report.specs.declared.fault.Fault.TheVariants as fault;
+ghost use Rattle.smk_plan_table.specs.Plans.{Agree};
+ghost use Rattle.smk_plan_preview.specs.Faults.{device_failed, is_sink};
+ghost use Rattle.smk_plan_preview.specs.Rounds as spec;
+ghost use Rattle.smk_plan_preview.specs.Fitness.{AreFit};
+ghost use Rattle.smk_plan_preview.specs.Steps.{AreSound, HasLengths, Plans};
+
+use crate::faults::of_plan;
+use crate::finding::{derived, looked, sighted};
+use smk_base::List;
+use smk_chain::{Jobs, Listings};
+use smk_choose::{Readings, Sources};
+use smk_flow::Workflow;
+use smk_format::check_commands;
+use smk_pick::Settings;
+use smk_plan::{Plan, Seen};
+use smk_plan_table::plan;
+use smk_report::Fault;
+use smk_store::Store;
+use smk_world::Files;
+use std::alloc::Global;
+use std::thread::Threads;
+
+/// Derived jobs with their plan.
+#[derive(Debug, Drop)]
+pub(crate) struct Round {
+    pub(crate) jobs: Jobs,
+    pub(crate) plan: Plan,
+}
+
+// The plan of the jobs, but for their commands.
+fn planned<Rt: Threads + Sync>(
+    rt: &Rt,
+    alloc: Global,
+    flow: &Workflow,
+    settings: &Settings,
+    store: &Store,
+    jobs: &Jobs,
+    seen: &Seen,
+) -> Result<Plan, Fault>
+    ensures no_device { device_failed result ≡ false }
+    ensures no_sink { IfErr result (λ f. is_sink f ≡ false) }
+    ensures lengths { IfOk result (λ made. HasLengths jobs.now settings.now made) }
+    ensures told { (image : Image) → Agree image jobs.now store.now seen.now settings.now.targets → Plans flow.now image settings.now jobs.now result }
+{
+    let none = List::new(alloc);
+    match plan(rt, alloc, jobs, store, seen, settings, &none) {
+        Ok(made) => Ok(made),
+        Err(fault) => Err(of_plan(alloc, flow, fault)),
+    }
+}
+
+// The jobs and their plan, where nothing is refused of their commands.
+fn checked(
+    alloc: Global,
+    flow: &Workflow,
+    settings: &Settings,
+    jobs: Jobs,
+    plan: Plan,
+) -> Result<Round, Fault>
+    requires each { length jobs.jobs ≡ length plan.states }
+    ensures same { IfOk result (λ r. (r.jobs ≡ jobs) × (r.plan ≡ plan)) }
+    ensures good { IfOk result (λ r. command_fault flow.now settings.now.cores (zip jobs.jobs plan.states) ≡ None) }
+    ensures not { IfErr result (λ f. (f ≡ fault.OutOfMemory) ⊎ (command_fault flow.now settings.now.cores (zip jobs.jobs plan.states) ≡ Some f)) }
+{
+    match check_commands(alloc, flow, settings.cores, &jobs.jobs, &plan.states) {
+        Ok(()) => Ok(Round { jobs, plan }),
+        Err(fault) => Err(fault),
+    }
+}
+
+// The plan of the jobs, by what was seen.
+fn plan_seen<Rt: Threads + Sync>(
+    rt: &Rt,
+    alloc: Global,
+    flow: &Workflow,
+    settings: &Settings,
+    store: &Store,
+    jobs: Jobs,
+    seen: &Seen,
+) -> Result<Round, Fault>
+    ensures no_device { device_failed result ≡ false }
+    ensures no_sink { IfErr result (λ f. is_sink f ≡ false) }
+    ensures jobs { IfOk result (λ r. r.jobs ≡ jobs) }
+    ensures sound { IfOk result (AreSound flow.now settings.now) }
+    ensures told { (image : Image) → Agree image jobs store.now seen.now settings.now.targets → spec.AreReady flow.now settings.now.targets jobs.lists image jobs
+        → (read : Items ℕ → Option RecordValue) → spec.HasRound read flow.now settings.now image jobs.lists result }
+{
+    match planned(rt, alloc, flow, settings, store, &jobs, seen) {
+        Ok(made) => checked(alloc, flow, settings, jobs, made),
+        Err(fault) => Err(fault),
+    }
+}
+
+// The plan of the jobs, as the folder stands.
+fn plan_jobs<W: Files, Rt: Threads + Sync>(
+    rt: &Rt,
+    alloc: Global,
+    flow: &Workflow,
+    settings: &Settings,
+    store: &Store,
+    jobs: Jobs,
+    work: &mut W,
+) -> Result<Round, Fault>
+    ensures looked { HasLooked W.act (W.world work.old) (W.world work.new) (W.faults work.old) (W.faults work.new) (W.running work.old) (W.running work.new) (device_failed result ≡ true) }
+    ensures no_sink { IfErr result (λ f. is_sink f ≡ false) }
+    ensures jobs { IfOk result (λ r. r.jobs ≡ jobs) }
+    ensures sound { IfOk result (AreSound flow.now settings.now) }
+    ensures told { (w : World) → W.world work.old ≡ Some w → IsTree w → (read : Items ℕ → Option RecordValue) → IsStoreOf (seen read w) store.now
+        → spec.AreReady flow.now settings.now.targets jobs.lists (seen read w) jobs → spec.HasRound read flow.now settings.now (seen read w) jobs.lists result }
+{
+    match looked(alloc, work, &jobs) {
+        Ok(seen) => plan_seen(rt, alloc, flow, settings, store, jobs, &seen),
+        Err(fault) => Err(fault),
+    }
+}
+
+// The plan with these sources, as the folder stands.
+fn plan_sources<W: Files, Rt: Threads + Sync>(
+    rt: &Rt,
+    alloc: Global,
+    flow: &Workflow,
+    settings: &Settings,
+    store: &Store,
+    readings: &Readings,
+    lists: &Listings,
+    sources: &Sources,
+    work: &mut W,
+) -> Result<Round, Fault>
+    requires { AreReadings flow.now readings.now }
+    ensures looked { HasLooked W.act (W.world work.old) (W.world work.new) (W.faults work.old) (W.faults work.new) (W.running work.old) (W.running work.new) (device_failed result ≡ true) }
+    ensures no_sink { IfErr result (λ f. is_sink f ≡ false) }
+    ensures lists { IfOk result (λ r. r.jobs.lists ≡ lists.now) }
+    ensures fit { IfOk result (λ r. AreFit r.jobs) }
+    ensures sound { IfOk result (AreSound flow.now settings.now) }
+    ensures told { (w : World) → W.world work.old ≡ Some w → IsTree w → (read : Items ℕ → Option RecordValue) → IsStoreOf (seen read w) store.now
+        → ListsKnown (seen read w) → spec.IsSighted flow.now settings.now.targets lists.now (seen read w) sources.now
+        → spec.HasRound read flow.now settings.now (seen read w) lists.now result }
+{
+    match derived(
+        alloc,
+        flow,
+        readings,
+        &settings.targets,
+        lists,
+        store,
+        sources,
+    ) {
+        Ok(jobs) => plan_jobs(rt, alloc, flow, settings, store, jobs, work),
+        Err(fault) => Err(fault),
+    }
+}
+
+/// The plan with these listings, as the folder stands.
+pub(crate) fn make_round<W: Files, Rt: Threads + Sync>(
+    rt: &Rt,
+    alloc: Global,
+    flow: &Workflow,
+    settings: &Settings,
+    store: &Store,
+    readings: &Readings,
+    lists: &Listings,
+    work: &mut W,
+) -> Result<Round, Fault>
+    requires { AreReadings flow.now readings.now }
+    ensures looked { HasLooked W.act (W.world work.old) (W.world work.new) (W.faults work.old) (W.faults work.new) (W.running work.old) (W.running work.new) (device_failed result ≡ true) }
+    ensures no_sink { IfErr result (λ f. is_sink f ≡ false) }
+    ensures lists { IfOk result (λ r. r.jobs.lists ≡ lists.now) }
+    ensures fit { IfOk result (λ r. AreFit r.jobs) }
+    ensures sound { IfOk result (AreSound flow.now settings.now) }
+    ensures told { (w : World) → W.world work.old ≡ Some w → IsTree w → (read : Items ℕ → Option RecordValue) → IsStoreOf (seen read w) store.now
+        → spec.HasRound read flow.now settings.now (seen read w) lists.now result }
+{
+    match sighted(alloc, flow, readings, &settings.targets, lists, store, work) {
+        Ok(sources) => plan_sources(
+            rt, alloc, flow, settings, store, readings, lists, &sources, work,
+        ),
+        Err(fault) => Err(fault),
+    }
+}

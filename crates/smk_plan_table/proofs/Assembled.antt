@@ -1,0 +1,112 @@
+-- The parts of a plan, put together.
+use Rattle.std.proofs.Common.{◌≡◌, Bool, true, List, [], ◌++◌, map, Option, Some, None, sym, ap, subst, ◌∙◌}
+use Rattle.std.specs.Prelude.{◌&&◌, is_none}
+use Rattle.std.specs.List.{filter}
+use Rattle.smk_world.specs.World.{in_paths, out_paths}
+use Rattle.smk_world.specs.Trees.{Path, among, first}
+use Rattle.smk_flow.specs.declared.job.Job.{Job}
+use Rattle.smk_store.specs.Images.{Image, is_source}
+use Rattle.smk_store.specs.Stores.{Known}
+use Rattle.smk_store.specs.Trust.{stamp_now}
+use Rattle.smk_chain.specs.Derive.{Listings, listing}
+use Rattle.smk_chain.specs.declared.jobs.Jobs.{Jobs}
+use Rattle.smk_trigger.specs.declared.facts.JobFacts.{JobFacts}
+use Rattle.smk_trigger.specs.declared.reason.Reason.{Reason}
+use Rattle.smk_trigger.specs.declared.reason.Reason.TheVariants.{Forced}
+use Rattle.smk_trigger.specs.declared.reason.State.{State}
+use Rattle.smk_trigger.specs.Reasons.{own_reasons, when, reasons_of}
+use Rattle.smk_pick.specs.declared.settings.Settings.{Settings}
+use Rattle.smk_plan.specs.declared.fault.PlanFault.{PlanFault}
+use Rattle.smk_plan.specs.declared.plan.Plan.{Plan as Told}
+use Rattle.smk_plan.specs.declared.seen.Sight.{Sight}
+use Rattle.smk_plan.specs.declared.wholes.Wholes.{Wholes}
+use Rattle.smk_plan.specs.Sights.{wholes_of}
+use Rattle.smk_plan.specs.States.{Plan, Progress, HasStates, is_forced, is_ready, is_current, awaited, files_listed, new_listings}
+use Rattle.smk_drive.specs.Moments.{Rules}
+use Rattle.smk_plan_facts.specs.Facts.{having_run, facts_of, told_sources}
+use Rattle.smk_plan_states.specs.Judged.{with_states, reasons_now, AreJudgedNow}
+use Rattle.smk_plan_table.specs.Parts.{is_source_in, each_or, listing_in, refusals_in}
+use Rattle.smk_plan_table.specs.Plans.{Agree, idle_at, HasMadeAt, IsUnrefused, IsRefusedAt}
+use Rattle.smk_plan_table.proofs.Lists.{each_turn, map_same, map_twice}
+use Rattle.smk_plan_table.proofs.Refused.{refused_first, unrefused_all}
+use Rattle.smk_plan_table.proofs.Idle.{now_alone}
+use Rattle.smk_plan_table.proofs.Told.{source_same, each_or_same, files_same, zip_same}
+
+module _ (image : Image) (settings : Settings) (progress : Progress) (jobs : Jobs) (store : List Known) (seen : List Sight) (agree : Agree image jobs store seen settings.targets) where
+  -- ## Refusals
+
+  abbrev pub first_of : List Path → List Job → List State → Option PlanFault
+  first_of ran idle states = first (refusals_in store seen settings ran idle jobs.jobs states)
+
+  pub refusal : (ran : List Path) → progress.begun ≡ ran → (idle : List Job) → idle ≡ idle_at progress jobs.jobs →
+      (states : List State) → HasStates image settings progress (with_states jobs states) →
+      (f : PlanFault) → Some f ≡ first_of ran idle states → IsRefusedAt image settings progress jobs f
+  refusal ran b idle i states table f e =
+      record {
+        states = states;
+        table = table;
+        first = λ rules same.
+            refused_first rules image progress (with_states jobs states) store seen agree.stored agree.sighted.outputs f
+            (subst (λ s. Some f ≡ first (refusals_in store seen s progress.begun (idle_at progress jobs.jobs) jobs.jobs states)) (sym same)
+            (e ∙ ap (λ r. first_of r idle states) (sym b) ∙ ap (λ js. first_of progress.begun js states) i));
+      }
+
+  pub nothing_refused : (states : List State) → None ≡ first_of progress.begun (idle_at progress jobs.jobs) states →
+      (rules : Rules) → rules.settings ≡ settings → IsUnrefused rules image progress (with_states jobs states)
+  nothing_refused states e rules same =
+      unrefused_all rules image progress (with_states jobs states) store seen agree.stored agree.sighted.outputs
+      (subst (λ s. None ≡ first (refusals_in store seen s progress.begun (idle_at progress jobs.jobs) jobs.jobs states)) (sym same) e)
+
+  pub made_of : (ran : List Path) → progress.begun ≡ ran → (idle : List Job) → idle ≡ idle_at progress jobs.jobs →
+      (states : List State) → HasStates image settings progress (with_states jobs states) → None ≡ first_of ran idle states →
+      (told : Told) → told.states ≡ states → told.current ≡ map (is_current image settings progress (with_states jobs states)) settings.targets →
+      told.known ≡ new_listings image settings progress (with_states jobs states) → HasMadeAt image settings progress jobs told
+  made_of ran b idle i states table none told e c k =
+      let free = nothing_refused states (none ∙ ap (λ r. first_of r idle states) (sym b) ∙ ap (λ js. first_of progress.begun js states) i) in
+      record {
+        states = subst (λ s. HasStates image settings progress (with_states jobs s)) (sym e) table;
+        current = c ∙ ap (λ s. map (is_current image settings progress (with_states jobs s)) settings.targets) (sym e);
+        known = k ∙ ap (λ s. new_listings image settings progress (with_states jobs s)) (sym e);
+        unrefused = λ rules same. subst (λ s. IsUnrefused rules image progress (with_states jobs s)) (sym e) (free rules same);
+      }
+
+-- ## What is judged where none runs
+
+module _ (image : Image) (settings : Settings) (ran : List Path) (jobs : Jobs) where
+  reasons_same : (j : Job) → reasons_of (facts_of image settings ran (with_states jobs []) j) ≡ reasons_now image settings (having_run ran) jobs j
+  reasons_same j =
+      ap (λ now. own_reasons j.recipe (map image.kept (out_paths j.recipe)) (map image.marked (out_paths j.recipe)) now ++ when (is_forced image settings (having_run ran) (with_states jobs []) j) Forced)
+      (zip_same (stamp_now image) (in_paths j.recipe))
+      ∙ now_alone image settings ran jobs j
+
+  pub judged : (facts : List JobFacts) (reasons : List (List Reason)) (forced : List Bool) (wholes : Wholes) (running : List (Option State)) →
+      facts ≡ map (facts_of image settings ran (with_states jobs [])) jobs.jobs → reasons ≡ map reasons_of facts → forced ≡ map (λ (f : JobFacts). f.forced) facts →
+      wholes ≡ wholes_of image jobs → running ≡ map (λ j. None) jobs.jobs → AreJudgedNow image settings (having_run ran) jobs reasons forced wholes running
+  judged facts reasons forced wholes running f r o w n =
+      record {
+        reasons =
+            r ∙ ap (map reasons_of) f ∙ map_twice reasons_of (facts_of image settings ran (with_states jobs [])) jobs.jobs
+            ∙ map_same (λ j. reasons_of (facts_of image settings ran (with_states jobs []) j)) (reasons_now image settings (having_run ran) jobs) reasons_same jobs.jobs;
+        forced = o ∙ ap (map (λ (x : JobFacts). x.forced)) f ∙ map_twice (λ (x : JobFacts). x.forced) (facts_of image settings ran (with_states jobs [])) jobs.jobs;
+        wholes = w;
+        running = n;
+      }
+
+-- ## What is told
+
+module _ (image : Image) (settings : Settings) (progress : Progress) (jobs : Jobs) (store : List Known) (seen : List Sight) (agree : Agree image jobs store seen settings.targets) (plan : Plan) where
+  pub current_same : (ready current : List Bool) → ready ≡ map (is_ready image settings progress plan) settings.targets →
+      current ≡ each_or (is_source_in jobs.makers store seen) settings.targets ready → current ≡ map (is_current image settings progress plan) settings.targets
+  current_same ready current r c =
+      c ∙ ap (each_or (is_source_in jobs.makers store seen) settings.targets) r
+      ∙ each_or_same (is_source_in jobs.makers store seen) (is_source image) (is_ready image settings progress plan) settings.targets
+      (each_turn (λ t. is_source image t ≡ true → among (told_sources jobs.makers) t ≡ true) (λ t. is_source_in jobs.makers store seen t ≡ is_source image t)
+      (λ t told. source_same image jobs.makers store seen t agree.stored agree.sighted.sources told) settings.targets agree.asked)
+
+  pub known_same : (folders : List Path) (known : Listings) →
+      folders ≡ filter (λ d. is_ready image settings progress plan d && is_none (listing plan.lists d)) (awaited image settings progress plan) →
+      known ≡ map (listing_in store) folders → known ≡ new_listings image settings progress plan
+  known_same folders known f k =
+      k ∙ ap (map (listing_in store)) f
+      ∙ map_same (listing_in store) (λ d. record { folder = d; files = files_listed image d }) (λ d. λ i. record { folder = d; files = files_same image store agree.stored d i })
+      (filter (λ d. is_ready image settings progress plan d && is_none (listing plan.lists d)) (awaited image settings progress plan))

@@ -1,0 +1,147 @@
+-- The parts of a plan, by what the store has, what was seen and what is told of makers.
+use Rattle.std.specs.Prelude.{ℕ, Bool, true, false, ◌&&◌, ◌||◌, not, List, [], ◌∷◌, ◌++◌, map, filter, nat_lt, if◌then◌else◌, Option, Some, None, option_map, is_none}
+use Rattle.std.specs.List.{flat_map}
+use denote.Ref.{Bor}
+use Rattle.smk_base.specs.declared.tree.Amount.{Amount}
+use Rattle.smk_world.specs.declared.event.Stat.{Stat}
+use Rattle.smk_world.specs.declared.event.Stat.TheVariants.{Nothing as NoStat, File as FileStat, Folder as FolderStat}
+use Rattle.smk_world.specs.declared.recipe.Out.{Out}
+use Rattle.smk_world.specs.declared.recipe.OutItem.{OutItem}
+use Rattle.smk_world.specs.World.{out_paths}
+use Rattle.smk_world.specs.Trees.{Path, among, is_path_text}
+use Rattle.smk_record.specs.declared.record.Member.{Member}
+use Rattle.smk_record.specs.Records.{members_of}
+use Rattle.smk_flow.specs.declared.job.Job.{Job}
+use Rattle.smk_store.specs.declared.store.Entry.{Entry}
+use Rattle.smk_store.specs.declared.store.Kept.{Kept}
+use Rattle.smk_store.specs.Images.{readable}
+use Rattle.smk_store.specs.Stores.{Known, entry_of, is_covered_in}
+use Rattle.smk_chain.specs.declared.jobs.Maker.{Maker}
+use Rattle.smk_chain.specs.declared.jobs.Known.{Known as Listed}
+use Rattle.smk_trigger.specs.declared.reason.State.{State}
+use Rattle.smk_trigger.specs.JobStates.{is_to_run}
+use Rattle.smk_pick.specs.declared.settings.Settings.{Settings}
+use Rattle.smk_pick.specs.Rooms.{amount}
+use Rattle.smk_plan.specs.declared.fault.PlanFault.{PlanFault}
+use Rattle.smk_plan.specs.declared.fault.PlanFault.TheVariants.{Incomplete, Protected, AboveLimit}
+use Rattle.smk_plan.specs.declared.seen.Sight.{Sight}
+use Rattle.smk_plan.specs.States.{job_path, test_some}
+use Rattle.smk_plan.specs.Sights.{sight_at}
+use Rattle.smk_plan_facts.specs.Facts.{told_sources}
+
+-- what is lent
+abbrev pub shown : {A : Type 0} → List (Bor A) → List A
+shown refs = map (λ r. r.now) refs
+
+abbrev pub paths_in : List OutItem → List Path
+paths_in items = flat_map (λ (i : OutItem). map (λ (o : Out). o.path) i.outs) items
+
+abbrev pub outputs_of : List Job → List Path
+outputs_of jobs = flat_map (λ (j : Job). out_paths j.recipe) jobs
+
+-- ## What is refused
+
+abbrev pub is_marked_in : List Known → Path → Bool
+is_marked_in store p = test_some (λ (e : Entry). e.marked) (entry_of store p)
+
+abbrev pub is_guarded_in : List Sight → Path → Bool
+is_guarded_in seen p = test_some (λ (s : Sight). s.guarded) (sight_at seen p)
+
+-- it has to run and isn't named by one of these paths
+abbrev pub is_before : (Path → Bool) → Job → State → Bool
+is_before begun j s = is_to_run s && not (begun (job_path j))
+
+-- such jobs, each with its state
+abbrev pub before_in : (Path → Bool) → List Job → List State → List Job
+before_in begun [] states = []
+before_in begun (j ∷ jobs) [] = []
+before_in begun (j ∷ jobs) (s ∷ states) = (if is_before begun j s then j ∷ [] else []) ++ before_in begun jobs states
+
+abbrev pub unless_none : List Path → List PlanFault
+unless_none [] = []
+unless_none (p ∷ paths) = Incomplete (p ∷ paths) ∷ []
+
+abbrev pub marked_in : List Known → Bool → List Job → List PlanFault
+marked_in store rerun jobs = if rerun then [] else unless_none (filter (is_marked_in store) (outputs_of jobs))
+
+abbrev pub guarded_in : List Sight → List Job → List PlanFault
+guarded_in seen jobs = map Protected (filter (is_guarded_in seen) (outputs_of jobs))
+
+abbrev pub above_by : Job → ℕ → Amount → PlanFault
+above_by j asked b = AboveLimit j.rule (job_path j) b.name asked b.count
+
+-- the job asks more of the resource than its bound
+abbrev pub above_of : Job → Amount → List PlanFault
+above_of j b = if nat_lt b.count (amount j.amounts b.name) then above_by j (amount j.amounts b.name) b ∷ [] else []
+
+abbrev pub above_in : List Amount → Job → List PlanFault
+above_in bounds j = flat_map (above_of j) bounds
+
+abbrev pub all_above : List Amount → List Job → List PlanFault
+all_above bounds jobs = flat_map (above_in bounds) jobs
+
+-- the jobs whose child doesn't run, where each has the state that it had when it began, if its child runs
+abbrev pub idle_in : List Job → List (Option State) → List Job
+idle_in [] kept = []
+idle_in (j ∷ jobs) [] = []
+idle_in (j ∷ jobs) (k ∷ kept) = (if is_none k then j ∷ [] else []) ++ idle_in jobs kept
+
+-- all that is refused, but for commands, in order; the children of these `idle` ones don't run
+abbrev pub refusals_in : List Known → List Sight → Settings → List Path → List Job → List Job → List State → List PlanFault
+refusals_in store seen settings ran idle jobs states =
+    let front = before_in (among ran) jobs states in
+    marked_in store settings.rerun_incomplete idle ++ (guarded_in seen front ++ all_above settings.bounds front)
+
+-- ## What is current
+
+abbrev pub is_file_stat : Stat → Bool
+is_file_stat NoStat = false
+is_file_stat (FileStat time read_only) = true
+is_file_stat FolderStat = false
+
+abbrev pub is_file_in : List Sight → Path → Bool
+is_file_in seen p = test_some (λ (s : Sight). is_file_stat s.stat) (sight_at seen p)
+
+-- the path of the maker, where no job makes it
+abbrev pub source_told : Maker → List Path
+source_told m = if is_none m.job then m.path ∷ [] else []
+
+-- it is told of as a source, and was seen as one
+abbrev pub is_source_in : List Maker → List Known → List Sight → Path → Bool
+is_source_in makers store seen p = among (told_sources makers) p && (is_path_text p && (is_file_in seen p && not (is_covered_in store p)))
+
+abbrev pub first_flag : List Bool → Bool
+first_flag [] = false
+first_flag (b ∷ flags) = b
+
+abbrev pub later_flags : List Bool → List Bool
+later_flags [] = []
+later_flags (b ∷ flags) = flags
+
+-- for each path whether it passes the test or the flag in its place is set
+abbrev pub each_or : (Path → Bool) → List Path → List Bool → List Bool
+each_or test [] flags = []
+each_or test (p ∷ paths) flags = (test p || first_flag flags) ∷ each_or test paths (later_flags flags)
+
+-- ## What has become known
+
+abbrev pub file_in : Member → List Path
+file_in m = if m.folder then [] else m.name ∷ []
+
+abbrev pub files_among : List Member → List Path
+files_among members = flat_map file_in members
+
+-- the files in the record that is kept
+abbrev pub files_kept : Kept → List Path
+files_kept kept = files_among (members_of (readable kept))
+
+abbrev pub files_told : Option Kept → List Path
+files_told None = []
+files_told (Some kept) = files_kept kept
+
+-- the files in the record of the directory
+abbrev pub files_in : List Known → Path → List Path
+files_in store d = files_told (option_map (λ (e : Entry). e.kept) (entry_of store d))
+
+abbrev pub listing_in : List Known → Path → Listed
+listing_in store d = record { folder = d; files = files_in store d }

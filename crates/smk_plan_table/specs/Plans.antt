@@ -1,0 +1,92 @@
+-- What a plan tells of an image of the folder, and what is refused of it.
+use Rattle.std.specs.Prelude.{◌≡◌, true, Bool, not, List, [], ◌∷◌, map, filter, bytes_eq}
+use Rattle.std.specs.List.{flat_map, list_any}
+use Rattle.smk_world.specs.Trees.{Path, Each, among}
+use Rattle.smk_flow.specs.declared.job.Job.{Job}
+use Rattle.smk_flow.specs.Flows.{Flow, rule_name}
+use Rattle.smk_store.specs.Images.{Image, is_source}
+use Rattle.smk_store.specs.Stores.{Known}
+use Rattle.smk_store.specs.Loading.{IsStoreOf}
+use Rattle.smk_chain.specs.declared.jobs.Jobs.{Jobs}
+use Rattle.smk_trigger.specs.declared.reason.State.{State}
+use Rattle.smk_pick.specs.declared.settings.Settings.{Settings}
+use Rattle.smk_plan.specs.declared.plan.Plan.{Plan as Told}
+use Rattle.smk_plan.specs.declared.fault.PlanFault.{PlanFault}
+use Rattle.smk_plan.specs.declared.fault.PlanFault.TheVariants as refused
+use Rattle.smk_plan.specs.declared.seen.Sight.{Sight}
+use Rattle.smk_plan.specs.Sights.{IsSeenOf}
+use Rattle.smk_plan.specs.States.{Plan, Progress, job_path, HasStates, is_current, new_listings}
+use Rattle.smk_report.specs.declared.fault.Fault.{Fault}
+use Rattle.smk_report.specs.declared.fault.Fault.TheVariants as fault
+use Rattle.smk_drive.specs.Moments.{Rules}
+use Rattle.smk_drive.specs.Refusals.{incomplete, guarded, above_limit, ahead, refused_of}
+use Rattle.smk_plan_facts.specs.Facts.{having_run, told_sources, TellSources, AreMade, NamesAll, HasOwnRecords}
+use Rattle.smk_plan_states.specs.Served.{AreServed}
+use Rattle.smk_plan_states.specs.Judged.{with_states}
+
+-- ## What a plan is made from
+
+-- each target that is a source is told of as one
+abbrev pub TellTargets : Image → Jobs → List Path → Type 0
+TellTargets image jobs targets = Each (λ t. is_source image t ≡ true → among (told_sources jobs.makers) t ≡ true) targets
+
+-- The store, what was seen, and what is told of what makes each path are as the image has it.
+pub record Agree (image : Image) (jobs : Jobs) (store : List Known) (seen : List Sight) (targets : List Path) : Type 0 where
+  pub named : NamesAll image
+  pub recorded : HasOwnRecords image
+  pub stored : IsStoreOf image store
+  pub sighted : IsSeenOf image jobs seen
+  pub served : AreServed jobs targets
+  pub made : AreMade jobs
+  -- each input, and each target, that is a source is told of as one
+  pub read : TellSources image jobs
+  pub asked : TellTargets image jobs targets
+
+-- a child of the job runs
+abbrev pub runs_at : Progress → Job → Bool
+runs_at progress j = list_any (λ (e : Path × State). bytes_eq e.0 (job_path j)) progress.running
+
+-- those of the jobs whose child doesn't run
+abbrev pub idle_at : Progress → List Job → List Job
+idle_at progress jobs = filter (λ j. not (runs_at progress j)) jobs
+
+-- ## What a plan tells
+
+-- nothing is refused of the plan, but maybe of commands
+pub record IsUnrefused (rules : Rules) (image : Image) (progress : Progress) (plan : Plan) : Type 0 where
+  pub complete : incomplete rules image progress plan ≡ []
+  pub unguarded : guarded rules image progress plan ≡ []
+  pub within : flat_map (above_limit rules image progress plan) (ahead rules image progress plan) ≡ []
+
+-- Where so much has been done: the states are those of the table, the targets are current and the listings have become known by them, and nothing is refused of
+-- the plan.
+pub record HasMadeAt (image : Image) (settings : Settings) (progress : Progress) (jobs : Jobs) (told : Told) : Type 0 where
+  pub states : HasStates image settings progress (with_states jobs told.states)
+  pub current : told.current ≡ map (is_current image settings progress (with_states jobs told.states)) settings.targets
+  pub known : told.known ≡ new_listings image settings progress (with_states jobs told.states)
+  pub unrefused : (rules : Rules) → rules.settings ≡ settings → IsUnrefused rules image progress (with_states jobs told.states)
+
+-- the same where these have begun and none runs
+abbrev pub HasMade : Image → Settings → List Path → Jobs → Told → Type 0
+HasMade image settings ran jobs told = HasMadeAt image settings (having_run ran) jobs told
+
+-- ## What is refused
+
+-- the refusal as a fault, which names the rule
+abbrev pub fault_in : Flow → PlanFault → Fault
+fault_in flow (refused.Incomplete paths) = fault.Incomplete paths
+fault_in flow (refused.Protected p) = fault.Protected p
+fault_in flow (refused.AboveLimit rule p name asked bound) = fault.AboveLimit (rule_name flow rule) p name asked bound
+fault_in flow refused.OutOfMemory = fault.OutOfMemory
+
+-- Where so much has been done, the plan whose states are those of the table is refused, and this is the first refusal.
+pub record IsRefusedAt (image : Image) (settings : Settings) (progress : Progress) (jobs : Jobs) (told : PlanFault) : Type 0 where
+  pub states : List State
+  pub table : HasStates image settings progress (with_states jobs states)
+  pub first :
+      (rules : Rules) → rules.settings ≡ settings →
+      (rest : List Fault) × (refused_of rules image progress (with_states jobs states) ≡ fault_in rules.flow told ∷ rest)
+
+-- the same where these have begun and none runs
+abbrev pub IsRefused : Image → Settings → List Path → Jobs → PlanFault → Type 0
+IsRefused image settings ran jobs told = IsRefusedAt image settings (having_run ran) jobs told

@@ -1,6 +1,0 @@
-use Rattle.std.proofs.Common.{◌≡◌, take}
-use Rattle.smk_planning.specs.Parts.{files_among}
-use Rattle.smk_planning.proofs.listings.files_among.Given as goal
-
-abbrev pub invariant-loop-member : goal.invariant-loop-member
-invariant-loop-member l = l.found ≡ files_among (take l.member-index l.members)

@@ -1,5 +1,0 @@
-pub mod Faults
-pub mod Previewing
-pub mod Rounds
-pub mod Fitness
-pub mod Steps

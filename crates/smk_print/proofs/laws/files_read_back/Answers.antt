@@ -1,5 +1,0 @@
-use Rattle.smk_print.proofs.Back.{reads_back}
-use Rattle.smk_print.proofs.laws.files_read_back.Goals as goal
-
-pub returns : goal.returns
-returns c = reads_back

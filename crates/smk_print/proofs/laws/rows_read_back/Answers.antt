@@ -1,5 +1,0 @@
-use Rattle.smk_print.proofs.Rows.{rows_read_back as rows}
-use Rattle.smk_print.proofs.laws.rows_read_back.Goals as goal
-
-pub returns : goal.returns
-returns c = rows

@@ -1,5 +1,0 @@
-use Rattle.smk_print.proofs.Texts.{spelt}
-use Rattle.smk_print.proofs.laws.texts_read_back.Goals as goal
-
-pub returns : goal.returns
-returns c = spelt

@@ -1,5 +1,0 @@
-mod Lists
-mod Spaced
-mod Ordered
-mod Chosen
-pub mod Runnable

@@ -1,4 +1,0 @@
-use Rattle.smk_sight.proofs.reaching.+spread.Given as goal
-
-abbrev pub decreases-spread : goal.decreases-spread
-decreases-spread g l = l.levels

@@ -1,5 +1,0 @@
-use Rattle.smk_states.proofs.Linked.{linked_are_served}
-use Rattle.smk_states.proofs.laws.linked_jobs_serve.Goals as goal
-
-pub returns : goal.returns
-returns c = linked_are_served

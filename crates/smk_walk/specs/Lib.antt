@@ -1,6 +1,0 @@
-pub mod Numbers
-pub mod Links
-pub mod Steps
-pub mod Folders
-pub mod Stepping
-pub mod Once

@@ -1,0 +1,78 @@
+-- What one more event makes of the workspace.
+use Rattle.std.proofs.Common.{◌≡◌, ◌+◌, length, ℕ, Bool, true, false, List, [], ◌∷◌, ◌++◌, refl, ap, sym, subst, ◌∙◌, Option, Some, None, bytes_eq, append_assoc}
+use Rattle.std.proofs.lemmas.List.{append-nil}
+use Rattle.std.specs.Prelude.{if◌then◌else◌}
+use Rattle.std.specs.Option.{option_map}
+use Rattle.smk_base.specs.Path.{is_under, is_at_or_under}
+use Rattle.smk_world.specs.declared.event.Node.{Node}
+use Rattle.smk_world.specs.declared.event.NodeState.{NodeState}
+use Rattle.smk_world.specs.declared.event.NodeState.TheVariants.{Owned, Known}
+use Rattle.smk_world.specs.declared.event.Call.{Call}
+use Rattle.smk_world.specs.declared.event.Child.{Child}
+use Rattle.smk_world.specs.declared.event.Event.{Event}
+use Rattle.smk_world.specs.World.{World, after, numbers, children_after, firmly, firm, with_folder}
+use Rattle.smk_world.specs.Calls.{Happened, started_number, started_numbers, HasOwners}
+use Rattle.smk_world_nodes.specs.Nodes.{node_at, or_folder}
+use Rattle.smk_world_nodes.specs.Steps.{seen, step_world, replay, empty_world, Agrees, told_world, Orderly, AllBelow}
+use Rattle.smk_world_mem.specs.Act.{mem_act}
+use Rattle.smk_world_mem.specs.Adds.{Adds, AddsIf}
+use Rattle.smk_world_nodes.proofs.Owners.{owners_after}
+use Rattle.smk_world_nodes.proofs.Replay.{replay_push}
+use Rattle.smk_world_nodes.specs.declared.nodes.Nodes.{Nodes}
+use Rattle.smk_world_nodes.specs.declared.step.Step.{Step}
+use Rattle.smk_world_nodes.specs.declared.step.Step.TheVariants as step
+
+some_same : (x y : World) → Some x ≡ Some y → x ≡ y
+some_same x y e = cc
+
+module _ (call : Call) (old new : Nodes) (steps more : List Step) (adds : Adds call old new steps more) where
+  pub world_is : replay empty_world more ≡ after (replay empty_world steps) (record { call = call; left = adds.left })
+  world_is = ap (replay empty_world) adds.steps_are ∙ replay_push empty_world steps (step.Happened (record { call = call; left = adds.left }))
+
+  pub agrees_after : (told : Bool) → Agrees told old steps → Agrees told new more
+  agrees_after told agrees = λ is q. subst (λ v. seen (node_at new q) (v.nodes q) ≡ node_at new q) (sym world_is) (adds.nodes_are (replay empty_world steps) (agrees is) q)
+
+  pub world_after : (told : Bool) → Agrees told old steps → Happened mem_act (told_world told steps) (told_world told more) call
+  world_after true agrees = record {
+    told = λ w1 e. (replay empty_world steps, refl, (adds.left, adds.lets (replay empty_world steps) (agrees refl), sym (some_same _ _ e) ∙ world_is));
+    stays = λ a b. refl;
+  }
+  world_after false agrees = record { told = λ w1 e. cc; stays = λ a b. a }
+
+  pub running_after : ((cs : List Child) → children_after call cs ≡ cs) → numbers (replay empty_world more).children ≡ numbers (replay empty_world steps).children
+  running_after keeps = ap (λ w. numbers w.children) world_is ∙ ap numbers (keeps (replay empty_world steps).children)
+
+module _ (P : World → Type 0) (call : Call) (old new : Nodes) (steps more : List Step) (adds : AddsIf P call old new steps more) where
+  pub world_is_if : replay empty_world more ≡ after (replay empty_world steps) (record { call = call; left = adds.left })
+  world_is_if = ap (replay empty_world) adds.steps_are ∙ replay_push empty_world steps (step.Happened (record { call = call; left = adds.left }))
+
+  pub agrees_after_if : (told : Bool) → Agrees told old steps → (told ≡ true → P (replay empty_world steps)) → Agrees told new more
+  agrees_after_if told agrees fits = λ is q. subst (λ v. seen (node_at new q) (v.nodes q) ≡ node_at new q) (sym world_is_if) (adds.nodes_are (replay empty_world steps) (agrees is) (fits is) q)
+
+  pub world_after_if : (told : Bool) → Agrees told old steps → (told ≡ true → P (replay empty_world steps)) → Happened mem_act (told_world told steps) (told_world told more) call
+  world_after_if true agrees fits = record {
+    told = λ w1 e. (replay empty_world steps, refl, (adds.left, adds.lets (replay empty_world steps) (agrees refl) (fits refl), sym (some_same _ _ e) ∙ world_is_if));
+    stays = λ a b. refl;
+  }
+  world_after_if false agrees fits = record { told = λ w1 e. cc; stays = λ a b. a }
+
+  pub children_after_if : (replay empty_world more).children ≡ children_after call (replay empty_world steps).children
+  children_after_if = ap (λ w. w.children) world_is_if
+
+pub started_append : (es : List Event) (e : Event) → started_numbers (es ++ e ∷ []) ≡ started_numbers es ++ started_number e.call
+started_append [] e = append-nil (started_number e.call)
+started_append (d ∷ es) e = ap (λ ns. started_number d.call ++ ns) (started_append es e) ∙ sym (append_assoc (started_number d.call) (started_numbers es) (started_number e.call))
+
+module _ (call : Call) (old new : Nodes) (steps more : List Step) (adds : Adds call old new steps more) where
+  pub orderly_after : (told : Bool) (children : List Child) (next : ℕ) → Orderly told steps children next → ((cs : List Child) → children_after call cs ≡ cs) → started_number call ≡ [] → Orderly told more children next
+  orderly_after told children next orderly keeps none = λ told_is.
+      let o = orderly told_is in
+      let is = world_is call old new steps more adds in record {
+        children_are = ap (λ w. w.children) is ∙ keeps (replay empty_world steps).children ∙ o.children_are;
+        started_below = subst (AllBelow next) (sym (ap (λ w. started_numbers w.log) is ∙ started_append (replay empty_world steps).log (record { call = call; left = adds.left }) ∙ ap (λ ns. started_numbers (replay empty_world steps).log ++ ns) none ∙ append-nil _)) o.started_below;
+        started_counted = ap (λ w. length (started_numbers w.log) + 1) is ∙ ap (λ ns. length ns + 1) (started_append (replay empty_world steps).log (record { call = call; left = adds.left }) ∙ ap (λ ns. started_numbers (replay empty_world steps).log ++ ns) none ∙ append-nil _) ∙ o.started_counted;
+        apart = o.apart;
+        below = o.below;
+        distinct = o.distinct;
+        owned = subst HasOwners (sym is) (owners_after (replay empty_world steps) call adds.left o.owned none (keeps _));
+      }

@@ -1,0 +1,322 @@
+//! What the start and the end of children add.
+ghost use Rattle.std.specs.Prelude.{◌≡◌, ◌++◌, ◌∷◌, [], true, false, None, Some, ℕ, List as Items, IsErr, IfOk, OnOk, OnErr, if◌then◌else◌, not, nat_eq, map, ◌≢◌, is_some};
+ghost use Rattle.std.specs.List.{filter};
+ghost use Rattle.std.specs.Option.{option_map};
+ghost use Rattle.smk_world.specs.declared.event.Call.TheVariants.{Started, Waited};
+ghost use Rattle.smk_world.specs.declared.event.Node.TheVariants.{Regular};
+ghost use Rattle.smk_world.specs.World.{children_after, is_within, is_named, standing, out_paths, in_paths, owned_paths, child_numbered};
+ghost use Rattle.smk_world_nodes.specs.Nodes.{node_at};
+ghost use Rattle.smk_world_nodes.specs.Steps.{AllApart};
+ghost use Rattle.smk_world_nodes.specs.declared.step.Step.TheVariants.{Happened};
+ghost use Rattle.smk_world_mem.specs.Act.{bytes_of, joined_at, first_time, files_at, logs_of, left_by, EndsAs};
+ghost use Rattle.smk_world_mem.specs.Adds.{AddsIf};
+
+use crate::calls::add;
+use crate::command::{command_of, has_log, status_of, text_of, time_with, written_of};
+use smk_base::{Bytes, Copied, List, OutOfMemory, PathText, Place, Text};
+use smk_world::{Call, Change, Child, Ended, Failed, Node, Out, Recipe};
+use smk_world_nodes::{Nodes, Step, new_file};
+use std::alloc::Global;
+
+pub fn start(
+    alloc: Global,
+    steps: &mut List<Step>,
+    children: &mut List<Child>,
+    next: u64,
+    recipe: &Recipe,
+    logs: &List<PathText>,
+    command: &str,
+    fails: bool,
+) -> Result<Result<u64, Failed>, OutOfMemory>
+    ensures steps { IfOk result (λ answer. steps.new ≡ steps.old ++ Happened (record { call = Started recipe.now logs.now command.now answer; left = [] }) ∷ []) }
+    ensures children { IfOk result (λ answer. children.new ≡ children_after (Started recipe.now logs.now command.now answer) children.old) }
+    ensures number { IfOk result (λ answer. IfOk answer (λ n. n ≡ next)) }
+    ensures went { IfOk result (λ answer. IfOk answer (λ _. fails ≡ false)) }
+    ensures err { IfOk result (λ answer. IsErr answer → fails ≡ true) }
+    ensures lost { OnErr result (steps.new ≡ steps.old) }
+{
+    if fails {
+        add(
+            steps,
+            Call::Started(
+                recipe.copied(alloc)?,
+                logs.copied(alloc)?,
+                Text::of(alloc, command)?,
+                Err(Failed),
+            ),
+            List::new(alloc),
+        )?;
+        return Ok(Err(Failed));
+    }
+    children.push(Child {
+        number: next,
+        recipe: recipe.copied(alloc)?,
+        logs: logs.copied(alloc)?,
+    })?;
+    add(
+        steps,
+        Call::Started(
+            recipe.copied(alloc)?,
+            logs.copied(alloc)?,
+            Text::of(alloc, command)?,
+            Ok(next),
+        ),
+        List::new(alloc),
+    )?;
+    Ok(Ok(next))
+}
+
+// The children with other numbers.
+fn others(alloc: Global, children: &List<Child>, number: u64) -> Result<List<Child>, OutOfMemory>
+    ensures { IfOk result (λ left. left ≡ filter (λ c. not (nat_eq c.number number)) children.now) }
+{
+    let mut left = List::new(alloc);
+    for child in children.as_slice() {
+        if child.number != number {
+            left.push(Child {
+                number: child.number,
+                recipe: child.recipe.copied(alloc)?,
+                logs: child.logs.copied(alloc)?,
+            })?;
+        }
+    }
+    Ok(left)
+}
+
+fn push_outs(alloc: Global, paths: &mut List<PathText>, outs: &List<Out>) -> Result<(), OutOfMemory>
+    ensures { OnOk result (paths.new ≡ paths.old ++ map (λ out. out.path) outs.now) }
+{
+    for out in outs.as_slice() {
+        paths.push(out.path.copied(alloc)?)?;
+    }
+    Ok(())
+}
+
+fn push_paths(
+    alloc: Global,
+    paths: &mut List<PathText>,
+    more: &List<PathText>,
+) -> Result<(), OutOfMemory>
+    ensures { OnOk result (paths.new ≡ paths.old ++ more.now) }
+{
+    for path in more.as_slice() {
+        paths.push(path.copied(alloc)?)?;
+    }
+    Ok(())
+}
+
+// The paths of the outputs.
+fn outputs(alloc: Global, recipe: &Recipe) -> Result<List<PathText>, OutOfMemory>
+    ensures { IfOk result (λ paths. paths ≡ out_paths recipe.now) }
+{
+    let mut paths = List::new(alloc);
+    for item in recipe.outputs.as_slice() {
+        push_outs(alloc, &mut paths, &item.outs)?;
+    }
+    Ok(paths)
+}
+
+// The paths of the inputs.
+fn inputs(alloc: Global, recipe: &Recipe) -> Result<List<PathText>, OutOfMemory>
+    ensures { IfOk result (λ paths. paths ≡ in_paths recipe.now) }
+{
+    let mut paths = List::new(alloc);
+    for item in recipe.inputs.as_slice() {
+        push_paths(alloc, &mut paths, &item.paths)?;
+    }
+    Ok(paths)
+}
+
+fn bytes_there<'a>(nodes: &'a Nodes, path: &str) -> &'a [u8]
+    ensures { result.now ≡ bytes_of (node_at nodes.now path.now) }
+{
+    match nodes.get(path) {
+        Some(Node::Regular { bytes, .. }) => bytes.as_slice(),
+        _ => &[],
+    }
+}
+
+// The bytes of the files there, joined.
+fn joined(alloc: Global, nodes: &Nodes, paths: &[PathText]) -> Result<Vec<u8>, OutOfMemory>
+    ensures { IfOk result (λ bytes. bytes.items ≡ joined_at nodes.now paths.now) }
+{
+    let mut bytes = Vec::new(alloc);
+    for path in paths {
+        bytes.extend_from_slice(bytes_there(nodes, path.as_str()))?;
+    }
+    Ok(bytes)
+}
+
+// The time of the first of the files there.
+fn first_time(nodes: &Nodes, paths: &[PathText]) -> Option<u64>
+    ensures { result ≡ first_time nodes.now paths.now }
+{
+    match paths {
+        [first, ..] => match nodes.get(first.as_str()) {
+            Some(Node::Regular { time, .. }) => Some(*time),
+            _ => None,
+        },
+        [] => None,
+    }
+}
+
+// Writes the file at each of the paths.
+fn write_each(
+    alloc: Global,
+    nodes: &mut Nodes,
+    paths: &[PathText],
+    bytes: &[u8],
+    time: u64,
+) -> Result<(), OutOfMemory>
+    ensures { OnOk result ((q : Items ℕ) → node_at nodes.new q ≡ (if is_named q paths.now then Some (Regular bytes.now time false) else node_at nodes.old q)) }
+{
+    for path in paths {
+        nodes.set(
+            alloc,
+            path.as_str(),
+            new_file(Bytes::of(alloc, bytes)?, time),
+        )?;
+    }
+    Ok(())
+}
+
+// Lists the file at each of the paths.
+fn list_each(
+    alloc: Global,
+    left: &mut List<Change>,
+    paths: &[PathText],
+    bytes: &[u8],
+    time: u64,
+) -> Result<(), OutOfMemory>
+    ensures { OnOk result (left.new ≡ left.old ++ files_at paths.now bytes.now time) }
+{
+    for path in paths {
+        left.push(Change {
+            place: Place::user(alloc, path)?,
+            node: new_file(Bytes::of(alloc, bytes)?, time),
+        })?;
+    }
+    Ok(())
+}
+
+// The logs that the command makes.
+fn logs_of<'a>(template: &str, logs: &'a [PathText]) -> &'a [PathText]
+    ensures { result.now ≡ logs_of template.now logs.now }
+{
+    if has_log(template.as_bytes()) {
+        logs
+    } else {
+        &[]
+    }
+}
+
+// The files that the end of the child leaves: what the command wrote, and its logs.
+fn leave(
+    alloc: Global,
+    nodes: &mut Nodes,
+    files: &[PathText],
+    text: &[u8],
+    time: u64,
+    logs: &[PathText],
+    now: u64,
+) -> Result<List<Change>, OutOfMemory>
+    ensures left { IfOk result (λ left. left ≡ files_at files.now text.now time ++ files_at logs.now [] now) }
+    ensures nodes { OnOk result ((q : Items ℕ) → node_at nodes.new q ≡ (if is_named q files.now then Some (Regular text.now time false) else (if is_named q logs.now then Some (Regular [] now false) else node_at nodes.old q))) }
+{
+    let mut left = List::new(alloc);
+    list_each(alloc, &mut left, files, text, time)?;
+    list_each(alloc, &mut left, logs, &[], now)?;
+    write_each(alloc, nodes, logs, &[], now)?;
+    write_each(alloc, nodes, files, text, time)?;
+    Ok(left)
+}
+
+// What the end of the child leaves.
+fn end(
+    alloc: Global,
+    nodes: &mut Nodes,
+    child: &Child,
+    now: u64,
+    killed: bool,
+) -> Result<List<Change>, OutOfMemory>
+    ensures left { IfOk result (λ left. left ≡ left_by killed child.now.recipe child.now.logs nodes.old now) }
+    ensures nodes { IfOk result (λ left. (q : Items ℕ) → node_at nodes.new q ≡ (if is_within q (owned_paths child.now.recipe child.now.logs) then standing left q else node_at nodes.old q)) }
+{
+    let outs = outputs(alloc, &child.recipe)?;
+    let ins = inputs(alloc, &child.recipe)?;
+    let command = command_of(child.recipe.template.as_str(), killed);
+    let bytes = joined(alloc, nodes, ins.as_slice())?;
+    let text = text_of(alloc, command, &child.recipe.params, bytes)?;
+    let time = time_with(command, first_time(nodes, ins.as_slice()), now);
+    let files = written_of(command, outs.as_slice());
+    let logs = logs_of(child.recipe.template.as_str(), child.logs.as_slice());
+    nodes.remove_trees(alloc, outs.as_slice())?;
+    nodes.remove_trees(alloc, child.logs.as_slice())?;
+    leave(alloc, nodes, files, text.as_slice(), time, logs, now)
+}
+
+/// The child of this number.
+pub fn find(children: &[Child], number: u64) -> Option<&Child>
+    ensures { option_map (λ c. c.now) result ≡ child_numbered number children.now }
+{
+    let mut rest = children;
+    while let [child, more @ ..] = rest {
+        if child.number == number {
+            return Some(child);
+        }
+        rest = more;
+    }
+    None
+}
+
+/// The child that ends next: the first in this order that runs, or else the one that was started first.
+pub fn next_to_end(order: &List<u64>, children: &[Child]) -> u64
+    ensures { children.now ≢ [] → is_some (child_numbered result children.now) ≡ true }
+{
+    for number in order.as_slice() {
+        if find(children, *number).is_some() {
+            return *number;
+        }
+    }
+    match children {
+        [first, ..] => first.number,
+        [] => 0,
+    }
+}
+
+pub fn wait(
+    alloc: Global,
+    nodes: &mut Nodes,
+    steps: &mut List<Step>,
+    children: &mut List<Child>,
+    number: u64,
+    killed: bool,
+    time: u64,
+    fails: bool,
+) -> Result<Result<Ended, Failed>, OutOfMemory>
+    ensures adds { IfOk result (λ answer. AddsIf (λ w. (w.children ≡ children.old) × AllApart children.old) (Waited answer) nodes.old nodes.new steps.old steps.new) }
+    ensures children { IfOk result (λ answer. children.new ≡ children_after (Waited answer) children.old) }
+    ensures err { IfOk result (λ answer. IsErr answer → is_some (child_numbered number children.old) ≡ true → fails ≡ true) }
+    ensures ends { IfOk result (λ answer. IfOk answer (λ ended. EndsAs killed ended (child_numbered ended.number children.old))) }
+    ensures number { IfOk result (λ answer. IfOk answer (λ ended. ended.number ≡ number)) }
+    ensures went { IfOk result (λ answer. IfOk answer (λ _. fails ≡ false)) }
+    ensures lost { OnErr result (steps.new ≡ steps.old) }
+{
+    match find(children.as_slice(), number) {
+        Some(child) if !fails => {
+            let left = end(alloc, nodes, child, time, killed)?;
+            let ended = Ended {
+                number,
+                status: status_of(command_of(child.recipe.template.as_str(), killed)),
+            };
+            let rest = others(alloc, children, number)?;
+            add(steps, Call::Waited(Ok(ended)), left)?;
+            *children = rest;
+            Ok(Ok(ended))
+        }
+        _ => {
+            add(steps, Call::Waited(Err(Failed)), List::new(alloc))?;
+            Ok(Err(Failed))
+        }
+    }
+}
