@@ -2,7 +2,7 @@
 
 ghost use Rattle.std.specs.Prelude.{◌≡◌, ◌<◌, ◌≤◌, [], ℕ, List as Items, Option, Some, IsErrOf, IfOk, IfErr, IsSome, bytes_eq};
 ghost use Rattle.smk_world.specs.World.{World};
-ghost use Rattle.smk_world.specs.Calls.{HasCause};
+ghost use Rattle.smk_world.specs.Calls.{IsCaused};
 ghost use Rattle.smk_world.specs.Runs.{Did};
 ghost use Rattle.smk_record.specs.declared.record.Record.{Record as RecordValue};
 ghost use Rattle.smk_store.specs.Images.{seen, Image};
@@ -78,8 +78,8 @@ fn look_around<W: Files>(
     work: &mut W,
 ) -> Result<View, WorkFault>
     requires { AreReadings flow.now readings.now }
-    ensures looked { HasLooked W.act (W.world work.old) (W.world work.new) (W.faults work.old) (W.faults work.new) (W.running work.old) (W.running work.new) (IsErrOf result WorkFault.Failed) }
-    ensures told { IfOk result (λ view. (w : World) (image : Image) → W.world work.old ≡ Some w → Viewed w.nodes store.now image
+    ensures looked { HasLooked W.act (W.device work.old).world (W.device work.new).world (W.device work.old).faults (W.device work.new).faults (W.device work.old).running (W.device work.new).running (IsErrOf result WorkFault.Failed) }
+    ensures told { IfOk result (λ view. (w : World) (image : Image) → (W.device work.old).world ≡ Some w → Viewed w.nodes store.now image
         → TellsReach flow.now (sources_of image) lists.now targets.now (told_by view.sources) view.count) }
 {
     let guide = Guide::of(alloc, readings, lists)?;
@@ -123,33 +123,33 @@ pub fn sight<W: Files>(
     work: &mut W,
 ) -> Result<Sources, SightFault>
     requires { AreReadings flow.now readings.now }
-    ensures did { Did W.act (W.world work.old) (W.world work.new) (λ w es. AreLooks es) }
+    ensures did { Did W.act (W.device work.old).world (W.device work.new).world (λ w es. AreLooks es) }
 
     // Of the paths that count it tells what is so in the folder as it reads.
-    ensures told { IfOk result (λ sources. (w : World) → W.world work.old ≡ Some w → IsOnDisk w
+    ensures told { IfOk result (λ sources. (w : World) → (W.device work.old).world ≡ Some w → IsOnDisk w
         → (read : Items ℕ → Option RecordValue) → IsStoreOf (seen read w) store.now
         → SameOnReach flow.now (sources_of (seen read w)) lists.now targets.now (told_by sources)) }
 
     // The reach is the same by what is told, and so is the derivation: the jobs, or the first of what is refused of them.
-    ensures same_reach { IfOk result (λ sources. (w : World) → W.world work.old ≡ Some w → IsOnDisk w
+    ensures same_reach { IfOk result (λ sources. (w : World) → (W.device work.old).world ≡ Some w → IsOnDisk w
         → (read : Items ℕ → Option RecordValue) → IsStoreOf (seen read w) store.now
         → reach flow.now (told_by sources) lists.now 400 targets.now ≡ reach flow.now (sources_of (seen read w)) lists.now 400 targets.now) }
-    ensures same_derivation { IfOk result (λ sources. (w : World) → W.world work.old ≡ Some w → IsOnDisk w
+    ensures same_derivation { IfOk result (λ sources. (w : World) → (W.device work.old).world ≡ Some w → IsOnDisk w
         → (read : Items ℕ → Option RecordValue) → IsStoreOf (seen read w) store.now → (image : Image)
         → outcome (job_refusals flow.now (told_by sources) image lists.now targets.now) (jobs flow.now (told_by sources) lists.now targets.now)
         ≡ outcome (job_refusals flow.now (sources_of (seen read w)) image lists.now targets.now) (jobs flow.now (sources_of (seen read w)) lists.now targets.now)) }
 
     // The reach has more than 100,000 paths just where that is the fault.
-    ensures few { IfOk result (λ sources. (w : World) → W.world work.old ≡ Some w → IsOnDisk w
+    ensures few { IfOk result (λ sources. (w : World) → (W.device work.old).world ≡ Some w → IsOnDisk w
         → (read : Items ℕ → Option RecordValue) → IsStoreOf (seen read w) store.now
         → IsSmall flow.now (sources_of (seen read w)) lists.now targets.now) }
-    ensures too_many { IfErr result (λ fault. (count : ℕ) → fault ≡ SightFault.TooManyPaths count → (w : World) → W.world work.old ≡ Some w → IsOnDisk w
+    ensures too_many { IfErr result (λ fault. (count : ℕ) → fault ≡ SightFault.TooManyPaths count → (w : World) → (W.device work.old).world ≡ Some w → IsOnDisk w
         → (read : Items ℕ → Option RecordValue) → IsStoreOf (seen read w) store.now
         → IsLarge flow.now (sources_of (seen read w)) lists.now targets.now) }
     ensures count { IfErr result (λ fault. (count : ℕ) → fault ≡ SightFault.TooManyPaths count → 100000 < count) }
-    ensures stays { ¬ (IsErrOf result SightFault.Device) → IsSome (W.world work.old) → IsSome (W.world work.new) }
-    ensures device { HasCause (W.faults work.old) (W.faults work.new) (IsErrOf result SightFault.Device) }
-    ensures running { W.running work.new ≡ W.running work.old }
+    ensures stays { ¬ (IsErrOf result SightFault.Device) → IsSome (W.device work.old).world → IsSome (W.device work.new).world }
+    ensures device { IsCaused (W.device work.old).faults (W.device work.new).faults (IsErrOf result SightFault.Device) }
+    ensures running { (W.device work.new).running ≡ (W.device work.old).running }
 {
     match look_around(alloc, flow, readings, store, lists, targets, work) {
         Ok(view) => sources_in(view),

@@ -175,8 +175,8 @@ fn step<W: Files>(
 ) -> Result<(), WorkFault>
     requires kept { AreKept found.old }
     requires guide { IsGuide flow.now lists.now guide.now }
-    ensures looked { HasLooked W.act (W.world work.old) (W.world work.new) (W.faults work.old) (W.faults work.new) (W.running work.old) (W.running work.new) (IsErrOf result WorkFault.Failed) }
-    ensures told { OnOk result (HasTold (W.world work.old) store.now eye.old eye.new) }
+    ensures looked { HasLooked W.act (W.device work.old).world (W.device work.new).world (W.device work.old).faults (W.device work.new).faults (W.device work.old).running (W.device work.new).running (IsErrOf result WorkFault.Failed) }
+    ensures told { OnOk result (HasTold (W.device work.old).world store.now eye.old eye.new) }
     ensures listed { OnOk result (IsListedAround flow.now eye.new path.now) }
     ensures kept { OnOk result (AreKept found.new) }
     ensures added { OnOk result ((S : Known) → Says eye.new S → found.new.paths.items ≡ distinct bytes_eq (found.old.paths.items ++ next flow.now S lists.now path.now)) }
@@ -200,8 +200,8 @@ fn level<W: Files>(
 ) -> Result<(), WorkFault>
     requires kept { AreKept found.old }
     requires guide { IsGuide flow.now lists.now guide.now }
-    ensures looked { HasLooked W.act (W.world work.old) (W.world work.new) (W.faults work.old) (W.faults work.new) (W.running work.old) (W.running work.new) (IsErrOf result WorkFault.Failed) }
-    ensures told { OnOk result (HasTold (W.world work.old) store.now eye.old eye.new) }
+    ensures looked { HasLooked W.act (W.device work.old).world (W.device work.new).world (W.device work.old).faults (W.device work.new).faults (W.device work.old).running (W.device work.new).running (IsErrOf result WorkFault.Failed) }
+    ensures told { OnOk result (HasTold (W.device work.old).world store.now eye.old eye.new) }
     ensures kept { OnOk result (AreKept found.new) }
     ensures advanced { OnOk result (Advanced flow.now lists.now eye.new fresh.now found.old.paths.items found.new.paths.items) }
 {
@@ -225,8 +225,8 @@ fn last<W: Files>(
     fresh: &[PathText],
 ) -> Result<(), WorkFault>
     requires readings { AreReadings flow.now readings.now }
-    ensures looked { HasLooked W.act (W.world work.old) (W.world work.new) (W.faults work.old) (W.faults work.new) (W.running work.old) (W.running work.new) (IsErrOf result WorkFault.Failed) }
-    ensures told { OnOk result (HasTold (W.world work.old) store.now eye.old eye.new) }
+    ensures looked { HasLooked W.act (W.device work.old).world (W.device work.new).world (W.device work.old).faults (W.device work.new).faults (W.device work.old).running (W.device work.new).running (IsErrOf result WorkFault.Failed) }
+    ensures told { OnOk result (HasTold (W.device work.old).world store.now eye.old eye.new) }
     ensures listed { OnOk result (AllByRecursion (IsListedAround flow.now eye.new) fresh.now) }
 {
     for path in fresh {
@@ -274,8 +274,8 @@ pub(crate) fn spread<W: Files>(
     requires within { from ≤ length found.old.paths.items }
     requires listed { AllByRecursion (IsListedAround flow.now eye.old) (take from found.old.paths.items) }
     requires closed { (S : Known) → Says eye.old S → Closed flow.now S lists.now from found.old.paths.items }
-    ensures looked { HasLooked W.act (W.world work.old) (W.world work.new) (W.faults work.old) (W.faults work.new) (W.running work.old) (W.running work.new) (IsErrOf result WorkFault.Failed) }
-    ensures told { OnOk result (HasTold (W.world work.old) store.now eye.old eye.new) }
+    ensures looked { HasLooked W.act (W.device work.old).world (W.device work.new).world (W.device work.old).faults (W.device work.new).faults (W.device work.old).running (W.device work.new).running (IsErrOf result WorkFault.Failed) }
+    ensures told { OnOk result (HasTold (W.device work.old).world store.now eye.old eye.new) }
     ensures listed { OnOk result (length found.new.paths.items ≤ 100000 → AllByRecursion (IsListedAround flow.now eye.new) found.new.paths.items) }
     ensures whole { OnOk result ((S : Known) → Says eye.new S → length found.new.paths.items ≤ 100000
         → found.new.paths.items ≡ grown flow.now S lists.now levels found.old.paths.items) }

@@ -50,8 +50,8 @@ fn look<W: Files>(
     work: &mut W,
     path: &PathText,
 ) -> Result<Sighted, WorkFault>
-    ensures looked { HasLooked W.act (W.world work.old) (W.world work.new) (W.faults work.old) (W.faults work.new) (W.running work.old) (W.running work.new) (IsErrOf result WorkFault.Failed) }
-    ensures told { IfOk result (λ s. (w : World) (image : Image) → W.world work.old ≡ Some w → Viewed w.nodes store.now image
+    ensures looked { HasLooked W.act (W.device work.old).world (W.device work.new).world (W.device work.old).faults (W.device work.new).faults (W.device work.old).running (W.device work.new).running (IsErrOf result WorkFault.Failed) }
+    ensures told { IfOk result (λ s. (w : World) (image : Image) → (W.device work.old).world ≡ Some w → Viewed w.nodes store.now image
         → is_path_text path.now ≡ true → IsSighted image path.now s) }
 {
     if store.covered(path) {
@@ -96,8 +96,8 @@ fn seen_at<W: Files>(
     path: &PathText,
 ) -> Result<Sighted, WorkFault>
     ensures text { is_path_text path.now ≡ true }
-    ensures looked { HasLooked W.act (W.world work.old) (W.world work.new) (W.faults work.old) (W.faults work.new) (W.running work.old) (W.running work.new) (IsErrOf result WorkFault.Failed) }
-    ensures told { IfOk result (λ s. (w : World) (image : Image) → W.world work.old ≡ Some w → Viewed w.nodes store.now image
+    ensures looked { HasLooked W.act (W.device work.old).world (W.device work.new).world (W.device work.old).faults (W.device work.new).faults (W.device work.old).running (W.device work.new).running (IsErrOf result WorkFault.Failed) }
+    ensures told { IfOk result (λ s. (w : World) (image : Image) → (W.device work.old).world ≡ Some w → Viewed w.nodes store.now image
         → AreSighted image seen.old → IsSighted image path.now s × AreSighted image seen.new) }
 {
     let text = text_of(path);
@@ -122,8 +122,8 @@ fn any_source<W: Files>(
     seen: &mut BTreeMap<String, Sighted>,
     paths: &[PathText],
 ) -> Result<bool, WorkFault>
-    ensures looked { HasLooked W.act (W.world work.old) (W.world work.new) (W.faults work.old) (W.faults work.new) (W.running work.old) (W.running work.new) (IsErrOf result WorkFault.Failed) }
-    ensures told { IfOk result (λ found. (w : World) (image : Image) → W.world work.old ≡ Some w → Viewed w.nodes store.now image
+    ensures looked { HasLooked W.act (W.device work.old).world (W.device work.new).world (W.device work.old).faults (W.device work.new).faults (W.device work.old).running (W.device work.new).running (IsErrOf result WorkFault.Failed) }
+    ensures told { IfOk result (λ found. (w : World) (image : Image) → (W.device work.old).world ≡ Some w → Viewed w.nodes store.now image
         → AreSighted image seen.old → (found ≡ list_any (is_source image) paths.now) × AreSighted image seen.new) }
 {
     for path in paths {
@@ -154,8 +154,8 @@ fn has_under<W: Files>(
     work: &mut W,
     folder: &PathText,
 ) -> Result<bool, WorkFault>
-    ensures looked { HasLooked W.act (W.world work.old) (W.world work.new) (W.faults work.old) (W.faults work.new) (W.running work.old) (W.running work.new) (IsErrOf result WorkFault.Failed) }
-    ensures told { IfOk result (λ found. (w : World) (image : Image) → W.world work.old ≡ Some w → Viewed w.nodes store.now image
+    ensures looked { HasLooked W.act (W.device work.old).world (W.device work.new).world (W.device work.old).faults (W.device work.new).faults (W.device work.old).running (W.device work.new).running (IsErrOf result WorkFault.Failed) }
+    ensures told { IfOk result (λ found. (w : World) (image : Image) → (W.device work.old).world ≡ Some w → Viewed w.nodes store.now image
         → is_path_text folder.now ≡ true → TellsUnder image folder.now found) }
 {
     let place = Place::user(alloc, folder)?;
@@ -187,8 +187,8 @@ fn has_around<W: Files>(
     path: &PathText,
     folder: bool,
 ) -> Result<bool, WorkFault>
-    ensures looked { HasLooked W.act (W.world work.old) (W.world work.new) (W.faults work.old) (W.faults work.new) (W.running work.old) (W.running work.new) (IsErrOf result WorkFault.Failed) }
-    ensures told { IfOk result (λ found. (w : World) (image : Image) → W.world work.old ≡ Some w → Viewed w.nodes store.now image
+    ensures looked { HasLooked W.act (W.device work.old).world (W.device work.new).world (W.device work.old).faults (W.device work.new).faults (W.device work.old).running (W.device work.new).running (IsErrOf result WorkFault.Failed) }
+    ensures told { IfOk result (λ found. (w : World) (image : Image) → (W.device work.old).world ≡ Some w → Viewed w.nodes store.now image
         → is_path_text path.now ≡ true → is_source image path.now ≡ false → (folder ≡ false → NoneUnder image path.now)
         → AreSighted image seen.old → (found ≡ holds_source image path.now) × AreSighted image seen.new) }
 {
@@ -212,8 +212,8 @@ pub(crate) fn standing_at<W: Files>(
     seen: &mut BTreeMap<String, Sighted>,
     path: &PathText,
 ) -> Result<Standing, WorkFault>
-    ensures looked { HasLooked W.act (W.world work.old) (W.world work.new) (W.faults work.old) (W.faults work.new) (W.running work.old) (W.running work.new) (IsErrOf result WorkFault.Failed) }
-    ensures told { IfOk result (λ s. (w : World) (image : Image) → W.world work.old ≡ Some w → Viewed w.nodes store.now image
+    ensures looked { HasLooked W.act (W.device work.old).world (W.device work.new).world (W.device work.old).faults (W.device work.new).faults (W.device work.old).running (W.device work.new).running (IsErrOf result WorkFault.Failed) }
+    ensures told { IfOk result (λ s. (w : World) (image : Image) → (W.device work.old).world ≡ Some w → Viewed w.nodes store.now image
         → AreSighted image seen.old → IsStanding image path.now s × AreSighted image seen.new) }
 {
     let here = seen_at(alloc, store, work, seen, path)?;

@@ -3,7 +3,7 @@ use native.Mathlib.Omega.{arith}
 use Rattle.std.proofs.Common.{◌≡◌, ◌⊎◌, ℕ, Bool, true, false, [], inl, inr, refl, sym, subst, Option, Some, Result, Ok, Err, length, take, drop, is_ok, true≢false}
 use Rattle.std.specs.Prelude.{IsErr}
 use Rattle.std.proofs.lemmas.List.{take-append-drop, take_all}
-use Rattle.smk_world.specs.Calls.{HasPut}
+use Rattle.smk_world.specs.Calls.{ArePut}
 use Rattle.smk_report.specs.Lines.{Text}
 use Rattle.smk_report.specs.declared.fault.Fault.{Fault}
 use Rattle.smk_report.specs.declared.fault.Fault.TheVariants as fault
@@ -20,7 +20,7 @@ well_put true rose bad never = refl
 well_put false rose bad never = absurd (never (bad refl))
 
 pub line_put : (f : Fault) (line : Text) (ok : Bool) (old new : Option Text) (rose : Type 0)
-    → line ≡ fault_text f → HasPut old new line ok → (ok ≡ false → rose) → HasWritten old new (¬ rose) (IsFaultLine (Some f) rose)
+    → line ≡ fault_text f → ArePut old new line ok → (ok ≡ false → rose) → HasWritten old new (¬ rose) (IsFaultLine (Some f) rose)
 line_put f line ok old new rose is put bad = record {
   told = λ now e.
       let h = put.told now e in

@@ -1,8 +1,8 @@
 //! The call that does what the words ask.
 
-ghost use Rattle.std.specs.Prelude.{◌≡◌, ◌⊎◌, ℕ, List as Items, Option, [], Some, None, Err, IfOk, IfErr, IsErr, IsSome, OnOk, is_ok, map, string_bytes, true, false};
+ghost use Rattle.std.specs.Prelude.{◌≡◌, ◌⊎◌, ℕ, List as Items, Option, [], Some, None, Err, IfOk, IfErr, IsSome, OnOk, is_ok, map, string_bytes, true, false, is_err};
 ghost use Rattle.smk_world.specs.World.{World};
-ghost use Rattle.smk_world.specs.Calls.{HasCause, HasPut, Rose};
+ghost use Rattle.smk_world.specs.Calls.{HasCause, ArePut, Rose, IsCaused};
 ghost use Rattle.smk_record.specs.declared.record.Record.{Record as RecordValue};
 ghost use Rattle.smk_report.specs.declared.fault.Fault.{Fault as FaultValue};
 ghost use Rattle.smk_report.specs.Faults as report;
@@ -35,11 +35,11 @@ fn serve_run<W: Crew, O: Sink, Rt: Threads + Sync>(
     work: &mut W,
     out: &mut O,
 ) -> Result<(), Fault>
-    requires none_runs { W.running work.old ≡ [] }
-    ensures ended { HasEnded result (W.world work.old) (W.world work.new) (W.faults work.old) (W.faults work.new) (W.running work.new) (O.faults out.old) (O.faults out.new) }
-    ensures went { (w : World) → W.world work.old ≡ Some w → (read : Items ℕ → Option RecordValue) → IsAtHand read w
+    requires none_runs { (W.device work.old).running ≡ [] }
+    ensures ended { HasEnded result (W.device work.old).world (W.device work.new).world (W.device work.old).faults (W.device work.new).faults (W.device work.new).running (O.sunk out.old).faults (O.sunk out.new).faults }
+    ensures went { (w : World) → (W.device work.old).world ≡ Some w → (read : Items ℕ → Option RecordValue) → IsAtHand read w
         → Went W.act words.now.cores result (IsRefusal read true words.now.targets words.now.cores w) (IsToServe read true words.now.targets words.now.cores w)
-        (W.world work.old) (W.world work.new) (Rose (W.faults work.old) (W.faults work.new)) (W.running work.new) (O.put_so_far out.old) (O.put_so_far out.new) }
+        (W.device work.old).world (W.device work.new).world (Rose (W.device work.old).faults (W.device work.new).faults) (W.device work.new).running (O.sunk out.old).put (O.sunk out.new).put }
 {
     match ask(alloc, true, work, &words.targets) {
         Err(fault) => Err(fault),
@@ -55,11 +55,11 @@ fn serve_listing<W: Files, O: Sink, Rt: Threads + Sync>(
     work: &mut W,
     out: &mut O,
 ) -> Result<(), Fault>
-    requires none_runs { W.running work.old ≡ [] }
-    ensures ended { HasEnded result (W.world work.old) (W.world work.new) (W.faults work.old) (W.faults work.new) (W.running work.new) (O.faults out.old) (O.faults out.new) }
-    ensures kept { HasKept W.act (W.world work.old) (W.world work.new) }
-    ensures listed { (w : World) → W.world work.old ≡ Some w → (read : Items ℕ → Option RecordValue) → IsAtHand read w
-        → HasListed (IsRefusal read false words.now.targets 1 w) (IsToServe read false words.now.targets 1 w) (O.put_so_far out.old) (O.put_so_far out.new) result }
+    requires none_runs { (W.device work.old).running ≡ [] }
+    ensures ended { HasEnded result (W.device work.old).world (W.device work.new).world (W.device work.old).faults (W.device work.new).faults (W.device work.new).running (O.sunk out.old).faults (O.sunk out.new).faults }
+    ensures kept { HasKept W.act (W.device work.old).world (W.device work.new).world }
+    ensures listed { (w : World) → (W.device work.old).world ≡ Some w → (read : Items ℕ → Option RecordValue) → IsAtHand read w
+        → HasListed (IsRefusal read false words.now.targets 1 w) (IsToServe read false words.now.targets 1 w) (O.sunk out.old).put (O.sunk out.new).put result }
 {
     match ask(alloc, false, work, &words.targets) {
         Err(fault) => Err(fault),
@@ -75,10 +75,10 @@ fn serve_request<W: Crew, O: Sink, Rt: Threads + Sync>(
     work: &mut W,
     out: &mut O,
 ) -> Result<(), Fault>
-    requires none_runs { W.running work.old ≡ [] }
-    ensures ended { HasEnded result (W.world work.old) (W.world work.new) (W.faults work.old) (W.faults work.new) (W.running work.new) (O.faults out.old) (O.faults out.new) }
-    ensures serves { (w : World) → W.world work.old ≡ Some w → (read : Items ℕ → Option RecordValue) → IsAtHand read w
-        → Serves W.act read w result (W.world work.old) (W.world work.new) (Rose (W.faults work.old) (W.faults work.new)) (W.running work.new) (O.put_so_far out.old) (O.put_so_far out.new) request.now }
+    requires none_runs { (W.device work.old).running ≡ [] }
+    ensures ended { HasEnded result (W.device work.old).world (W.device work.new).world (W.device work.old).faults (W.device work.new).faults (W.device work.new).running (O.sunk out.old).faults (O.sunk out.new).faults }
+    ensures serves { (w : World) → (W.device work.old).world ≡ Some w → (read : Items ℕ → Option RecordValue) → IsAtHand read w
+        → Serves W.act read w result (W.device work.old).world (W.device work.new).world (Rose (W.device work.old).faults (W.device work.new).faults) (W.device work.new).running (O.sunk out.old).put (O.sunk out.new).put request.now }
 {
     match request {
         Request::Run(words) => serve_run(rt, alloc, words, work, out),
@@ -108,13 +108,13 @@ fn serve<W: Crew, O: Sink, Rt: Threads + Sync>(
     work: &mut W,
     out: &mut O,
 ) -> Result<(), Fault>
-    requires none_runs { W.running work.old ≡ [] }
-    ensures ended { HasEnded result (W.world work.old) (W.world work.new) (W.faults work.old) (W.faults work.new) (W.running work.new) (O.faults out.old) (O.faults out.new) }
+    requires none_runs { (W.device work.old).running ≡ [] }
+    ensures ended { HasEnded result (W.device work.old).world (W.device work.new).world (W.device work.old).faults (W.device work.new).faults (W.device work.new).running (O.sunk out.old).faults (O.sunk out.new).faults }
     ensures unread { ¬ ((asked : RequestValue) × IsAsked (map string_bytes words.now) asked)
         → ((result ≡ Err Fault.BadWords) ⊎ (result ≡ Err Fault.OutOfMemory)) × (work.new ≡ work.old) × (out.new ≡ out.old) }
-    ensures serves { (asked : RequestValue) → IsAsked (map string_bytes words.now) asked → (w : World) → W.world work.old ≡ Some w
+    ensures serves { (asked : RequestValue) → IsAsked (map string_bytes words.now) asked → (w : World) → (W.device work.old).world ≡ Some w
         → (read : Items ℕ → Option RecordValue) → IsAtHand read w
-        → Serves W.act read w result (W.world work.old) (W.world work.new) (Rose (W.faults work.old) (W.faults work.new)) (W.running work.new) (O.put_so_far out.old) (O.put_so_far out.new) asked }
+        → Serves W.act read w result (W.device work.old).world (W.device work.new).world (Rose (W.device work.old).faults (W.device work.new).faults) (W.device work.new).running (O.sunk out.old).put (O.sunk out.new).put asked }
 {
     match requested(alloc, words) {
         Err(fault) => Err(fault),
@@ -124,9 +124,9 @@ fn serve<W: Crew, O: Sink, Rt: Threads + Sync>(
 
 // Puts the text, and hands it on.
 fn write_out<O: Sink>(out: &mut O, text: &str) -> Result<(), Failed>
-    ensures put { HasPut (O.put_so_far out.old) (O.put_so_far out.new) text.now (is_ok result) }
-    ensures cause { HasCause (O.faults out.old) (O.faults out.new) (IsErr result) }
-    ensures quiet { OnOk result (O.faults out.new ≡ O.faults out.old) }
+    ensures put { ArePut (O.sunk out.old).put (O.sunk out.new).put text.now (is_ok result) }
+    ensures cause { HasCause (O.sunk out.old).faults (O.sunk out.new).faults (is_err result) }
+    ensures quiet { OnOk result ((O.sunk out.new).faults ≡ (O.sunk out.old).faults) }
 {
     out.put(text.as_bytes())?;
     out.flush()
@@ -136,8 +136,8 @@ fn write_out<O: Sink>(out: &mut O, text: &str) -> Result<(), Failed>
 fn tell<O: Sink>(alloc: Global, answer: Result<(), Fault>, err: &mut O) -> Outcome
     ensures status { result.status ≡ report.status_of result.fault }
     ensures fault { IsOutcome (faults.fault_of answer) result.fault }
-    ensures line { HasWritten (O.put_so_far err.old) (O.put_so_far err.new) (¬ Rose (O.faults err.old) (O.faults err.new))
-        (IsFaultLine result.fault (Rose (O.faults err.old) (O.faults err.new))) }
+    ensures line { HasWritten (O.sunk err.old).put (O.sunk err.new).put (¬ Rose (O.sunk err.old).faults (O.sunk err.new).faults)
+        (IsFaultLine result.fault (Rose (O.sunk err.old).faults (O.sunk err.new).faults)) }
 {
     match answer {
         Ok(()) => Outcome::of(None),
@@ -165,7 +165,7 @@ pub fn smk<W: Crew, O: Sink, Rt: Threads + Sync>(
     out: &mut O,
     err: &mut O,
 ) -> Outcome
-    requires none_runs { W.running work.old ≡ [] }
+    requires none_runs { (W.device work.old).running ≡ [] }
 
     ensures status { result.status ≡ report.status_of result.fault }
 
@@ -174,24 +174,24 @@ pub fn smk<W: Crew, O: Sink, Rt: Threads + Sync>(
         → ((result.fault ≡ Some Fault.BadWords) ⊎ (result.fault ≡ Some Fault.OutOfMemory)) × (work.new ≡ work.old) × (out.new ≡ out.old) }
 
     // what is asked is served: it is refused, and nothing is done; or what its plan has to be run is run, in order; or the plan is listed
-    ensures serves { (asked : RequestValue) → IsAsked (map string_bytes words.now) asked → (w : World) → W.world work.old ≡ Some w
+    ensures serves { (asked : RequestValue) → IsAsked (map string_bytes words.now) asked → (w : World) → (W.device work.old).world ≡ Some w
         → (read : Items ℕ → Option RecordValue) → IsAtHand read w
         → HasServed W.act read asked w result.fault
-        (W.world work.old) (W.world work.new) (Rose (W.faults work.old) (W.faults work.new)) (W.running work.new) (O.put_so_far out.old) (O.put_so_far out.new) }
+        (W.device work.old).world (W.device work.new).world (Rose (W.device work.old).faults (W.device work.new).faults) (W.device work.new).running (O.sunk out.old).put (O.sunk out.new).put }
 
     // no child runs at the end, unless a call failed
-    ensures children { (W.running work.new ≡ []) ⊎ Rose (W.faults work.old) (W.faults work.new) }
+    ensures children { ((W.device work.new).running ≡ []) ⊎ Rose (W.device work.old).faults (W.device work.new).faults }
 
     // a fault of the device or of the sink comes only from one of its own in this call
-    ensures device { HasCause (W.faults work.old) (W.faults work.new) (result.fault ≡ Some Fault.Device) }
-    ensures output { HasCause (O.faults out.old) (O.faults out.new) (result.fault ≡ Some Fault.Output) }
+    ensures device { IsCaused (W.device work.old).faults (W.device work.new).faults (result.fault ≡ Some Fault.Device) }
+    ensures output { IsCaused (O.sunk out.old).faults (O.sunk out.new).faults (result.fault ≡ Some Fault.Output) }
 
     // what is told stays told, unless a call fails
-    ensures stays { (IsSome (W.world work.old) → IsSome (W.world work.new)) ⊎ Rose (W.faults work.old) (W.faults work.new) }
+    ensures stays { (IsSome (W.device work.old).world → IsSome (W.device work.new).world) ⊎ Rose (W.device work.old).faults (W.device work.new).faults }
 
     // the fault's line
-    ensures line { HasWritten (O.put_so_far err.old) (O.put_so_far err.new) (¬ Rose (O.faults err.old) (O.faults err.new))
-        (IsFaultLine result.fault (Rose (O.faults err.old) (O.faults err.new))) }
+    ensures line { HasWritten (O.sunk err.old).put (O.sunk err.new).put (¬ Rose (O.sunk err.old).faults (O.sunk err.new).faults)
+        (IsFaultLine result.fault (Rose (O.sunk err.old).faults (O.sunk err.new).faults)) }
 {
     let answer = serve(rt, alloc, words, work, out);
     tell(alloc, answer, err)

@@ -1,6 +1,6 @@
 //! What words ask of a workflow.
 
-ghost use Rattle.std.specs.Prelude.{◌≡◌, [], Ok, Some, None, IfOk, IfErr, IsSome, option_map, false, true};
+ghost use Rattle.std.specs.Prelude.{◌≡◌, [], Ok, Some, None, IfOk, IfErr, IsSome, option_map, false};
 ghost use Rattle.smk_world.specs.Calls.{HasCause};
 ghost use Rattle.smk_world.specs.Runs.{Did};
 ghost use Rattle.smk_eval_files.specs.Looks.{HasSeen};
@@ -103,12 +103,12 @@ pub fn ask<W: Files>(
     work: &mut W,
     words: &List<Text>,
 ) -> Result<Asked, Fault>
-    requires none_runs { W.running work.old ≡ [] }
-    ensures did { Did W.act (W.world work.old) (W.world work.new)
+    requires none_runs { (W.device work.old).running ≡ [] }
+    ensures did { Did W.act (W.device work.old).world (W.device work.new).world
         (HasSeen (device_failed result) (λ nodes. spec.IsAskedIn run words.now nodes result)) }
-    ensures stays { device_failed result ≡ false → IsSome (W.world work.old) → IsSome (W.world work.new) }
-    ensures cause { HasCause (W.faults work.old) (W.faults work.new) (device_failed result ≡ true) }
-    ensures running { W.running work.new ≡ W.running work.old }
+    ensures stays { device_failed result ≡ false → IsSome (W.device work.old).world → IsSome (W.device work.new).world }
+    ensures cause { HasCause (W.device work.old).faults (W.device work.new).faults (device_failed result) }
+    ensures running { (W.device work.new).running ≡ (W.device work.old).running }
     ensures no_sink { IfErr result (λ f. is_sink f ≡ false) }
 {
     match read_workflow(alloc, work) {

@@ -1,6 +1,6 @@
 //! The workflow of a folder.
 
-ghost use Rattle.std.specs.Prelude.{◌≡◌, [], IfErr, IsSome, false, true};
+ghost use Rattle.std.specs.Prelude.{◌≡◌, [], IfErr, IsSome, false};
 ghost use Rattle.smk_world.specs.Calls.{HasCause};
 ghost use Rattle.smk_world.specs.Runs.{Did};
 ghost use Rattle.smk_eval_files.specs.Looks.{HasSeen};
@@ -26,12 +26,12 @@ pub struct Reading {
 // The workflow of the file.
 #[tactic(auto, using(crate::proofs::Loads::load_no_sink))]
 fn read_in<W: Files>(alloc: Global, work: &mut W, file: PathText) -> Result<Reading, Fault>
-    requires none_runs { W.running work.old ≡ [] }
-    ensures did { Did W.act (W.world work.old) (W.world work.new)
+    requires none_runs { (W.device work.old).running ≡ [] }
+    ensures did { Did W.act (W.device work.old).world (W.device work.new).world
         (HasSeen (device_failed result) (λ nodes. spec.IsReadIn nodes file result)) }
-    ensures stays { device_failed result ≡ false → IsSome (W.world work.old) → IsSome (W.world work.new) }
-    ensures cause { HasCause (W.faults work.old) (W.faults work.new) (device_failed result ≡ true) }
-    ensures running { W.running work.new ≡ W.running work.old }
+    ensures stays { device_failed result ≡ false → IsSome (W.device work.old).world → IsSome (W.device work.new).world }
+    ensures cause { HasCause (W.device work.old).faults (W.device work.new).faults (device_failed result) }
+    ensures running { (W.device work.new).running ≡ (W.device work.old).running }
     ensures no_sink { IfErr result (λ f. is_sink f ≡ false) }
 {
     match load(alloc, work, &file, &List::new(alloc)) {
@@ -47,12 +47,12 @@ fn read_in<W: Files>(alloc: Global, work: &mut W, file: PathText) -> Result<Read
 /// configuration, in order, `NoFile`, `TooBig` and `BadConfig` with an empty key; those of the statements, in order; those of the rules; those of
 /// the clauses. `Device` comes where the device failed, `OutOfMemory` where there is no memory for the workflow.
 pub fn read_workflow<W: Files>(alloc: Global, work: &mut W) -> Result<Reading, Fault>
-    requires none_runs { W.running work.old ≡ [] }
-    ensures did { Did W.act (W.world work.old) (W.world work.new)
+    requires none_runs { (W.device work.old).running ≡ [] }
+    ensures did { Did W.act (W.device work.old).world (W.device work.new).world
         (HasSeen (device_failed result) (λ nodes. spec.IsRead nodes result)) }
-    ensures stays { device_failed result ≡ false → IsSome (W.world work.old) → IsSome (W.world work.new) }
-    ensures cause { HasCause (W.faults work.old) (W.faults work.new) (device_failed result ≡ true) }
-    ensures running { W.running work.new ≡ W.running work.old }
+    ensures stays { device_failed result ≡ false → IsSome (W.device work.old).world → IsSome (W.device work.new).world }
+    ensures cause { HasCause (W.device work.old).faults (W.device work.new).faults (device_failed result) }
+    ensures running { (W.device work.new).running ≡ (W.device work.old).running }
     ensures no_sink { IfErr result (λ f. is_sink f ≡ false) }
 {
     match workflow_file(alloc, work) {

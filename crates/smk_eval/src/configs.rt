@@ -1,6 +1,6 @@
 //! Configurations, read from the working folder one over another.
 
-ghost use Rattle.std.specs.Prelude.{◌≡◌, [], Ok, IfOk, IsSome, false, true};
+ghost use Rattle.std.specs.Prelude.{◌≡◌, [], Ok, IfOk, IsSome, false};
 ghost use Rattle.serde_json.specs.Data.{no_members};
 ghost use Rattle.smk_world.specs.Calls.{HasCause};
 ghost use Rattle.smk_world.specs.Runs.{Did};
@@ -74,12 +74,12 @@ fn config_path(alloc: Global, text: &Text) -> Result<PathText, LoadFault>
 
 // The configuration in the file of this path.
 fn config_file<W: Files>(alloc: Global, work: &mut W, path: &PathText) -> Result<Config, LoadFault>
-    requires none_runs { W.running work.old ≡ [] }
-    ensures did { Did W.act (W.world work.old) (W.world work.new)
+    requires none_runs { (W.device work.old).running ≡ [] }
+    ensures did { Did W.act (W.device work.old).world (W.device work.new).world
         (HasSeen (device_failed result) (λ nodes. Configures result (spec.config_file nodes path.now))) }
-    ensures stays { device_failed result ≡ false → IsSome (W.world work.old) → IsSome (W.world work.new) }
-    ensures cause { HasCause (W.faults work.old) (W.faults work.new) (device_failed result ≡ true) }
-    ensures running { W.running work.new ≡ W.running work.old }
+    ensures stays { device_failed result ≡ false → IsSome (W.device work.old).world → IsSome (W.device work.new).world }
+    ensures cause { HasCause (W.device work.old).faults (W.device work.new).faults (device_failed result) }
+    ensures running { (W.device work.new).running ≡ (W.device work.old).running }
 {
     match read_bytes(alloc, work, path) {
         Err(fault) => Err(of_file(fault)),
@@ -89,12 +89,12 @@ fn config_file<W: Files>(alloc: Global, work: &mut W, path: &PathText) -> Result
 
 // The configuration in the file of this text.
 fn config_at<W: Files>(alloc: Global, work: &mut W, text: &Text) -> Result<Config, LoadFault>
-    requires none_runs { W.running work.old ≡ [] }
-    ensures did { Did W.act (W.world work.old) (W.world work.new)
+    requires none_runs { (W.device work.old).running ≡ [] }
+    ensures did { Did W.act (W.device work.old).world (W.device work.new).world
         (HasSeen (device_failed result) (λ nodes. Configures result (spec.config_at nodes text.now))) }
-    ensures stays { device_failed result ≡ false → IsSome (W.world work.old) → IsSome (W.world work.new) }
-    ensures cause { HasCause (W.faults work.old) (W.faults work.new) (device_failed result ≡ true) }
-    ensures running { W.running work.new ≡ W.running work.old }
+    ensures stays { device_failed result ≡ false → IsSome (W.device work.old).world → IsSome (W.device work.new).world }
+    ensures cause { HasCause (W.device work.old).faults (W.device work.new).faults (device_failed result) }
+    ensures running { (W.device work.new).running ≡ (W.device work.old).running }
 {
     match config_path(alloc, text) {
         Err(fault) => Err(fault),
@@ -117,12 +117,12 @@ fn with_config<W: Files>(
     was: Config,
     text: &Text,
 ) -> Result<Config, LoadFault>
-    requires none_runs { W.running work.old ≡ [] }
-    ensures did { Did W.act (W.world work.old) (W.world work.new)
+    requires none_runs { (W.device work.old).running ≡ [] }
+    ensures did { Did W.act (W.device work.old).world (W.device work.new).world
         (HasSeen (device_failed result) (λ nodes. Configures result (spec.with_config nodes (members was) text.now))) }
-    ensures stays { device_failed result ≡ false → IsSome (W.world work.old) → IsSome (W.world work.new) }
-    ensures cause { HasCause (W.faults work.old) (W.faults work.new) (device_failed result ≡ true) }
-    ensures running { W.running work.new ≡ W.running work.old }
+    ensures stays { device_failed result ≡ false → IsSome (W.device work.old).world → IsSome (W.device work.new).world }
+    ensures cause { HasCause (W.device work.old).faults (W.device work.new).faults (device_failed result) }
+    ensures running { (W.device work.new).running ≡ (W.device work.old).running }
 {
     match config_at(alloc, work, text) {
         Err(fault) => Err(fault),
@@ -136,12 +136,12 @@ pub(crate) fn configs<W: Files>(
     work: &mut W,
     texts: &[Text],
 ) -> Result<Config, LoadFault>
-    requires none_runs { W.running work.old ≡ [] }
-    ensures did { Did W.act (W.world work.old) (W.world work.new)
+    requires none_runs { (W.device work.old).running ≡ [] }
+    ensures did { Did W.act (W.device work.old).world (W.device work.new).world
         (HasSeen (device_failed result) (λ nodes. Configures result (spec.configs nodes no_members texts.now))) }
-    ensures stays { device_failed result ≡ false → IsSome (W.world work.old) → IsSome (W.world work.new) }
-    ensures cause { HasCause (W.faults work.old) (W.faults work.new) (device_failed result ≡ true) }
-    ensures running { W.running work.new ≡ W.running work.old }
+    ensures stays { device_failed result ≡ false → IsSome (W.device work.old).world → IsSome (W.device work.new).world }
+    ensures cause { HasCause (W.device work.old).faults (W.device work.new).faults (device_failed result) }
+    ensures running { (W.device work.new).running ≡ (W.device work.old).running }
 {
     let mut config = Config::new(alloc);
     for text in texts {

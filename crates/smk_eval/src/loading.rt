@@ -1,6 +1,6 @@
 //! The workflow of a working folder.
 
-ghost use Rattle.std.specs.Prelude.{◌≡◌, [], IfOk, IsSome, false, true};
+ghost use Rattle.std.specs.Prelude.{◌≡◌, [], IfOk, IsSome, false};
 ghost use Rattle.smk_world.specs.Calls.{HasCause};
 ghost use Rattle.smk_world.specs.Runs.{Did};
 ghost use Rattle.smk_config.specs.Settings.{members};
@@ -54,12 +54,12 @@ fn said_by<W: Files>(
     files: &List<ReadFile>,
     sets: &List<Pair>,
 ) -> Result<Workflow, LoadFault>
-    requires none_runs { W.running work.old ≡ [] }
-    ensures did { Did W.act (W.world work.old) (W.world work.new)
+    requires none_runs { (W.device work.old).running ≡ [] }
+    ensures did { Did W.act (W.device work.old).world (W.device work.new).world
         (HasSeen (device_failed result) (λ nodes. spec.Gives (spec.said_by nodes sets.now files.now) result)) }
-    ensures stays { device_failed result ≡ false → IsSome (W.world work.old) → IsSome (W.world work.new) }
-    ensures cause { HasCause (W.faults work.old) (W.faults work.new) (device_failed result ≡ true) }
-    ensures running { W.running work.new ≡ W.running work.old }
+    ensures stays { device_failed result ≡ false → IsSome (W.device work.old).world → IsSome (W.device work.new).world }
+    ensures cause { HasCause (W.device work.old).faults (W.device work.new).faults (device_failed result) }
+    ensures running { (W.device work.new).running ≡ (W.device work.old).running }
 {
     match configs_named(alloc, files.as_slice()) {
         Err(_) => Err(LoadFault::OutOfMemory),
@@ -82,12 +82,12 @@ pub fn load<W: Files>(
     file: &PathText,
     sets: &List<Pair>,
 ) -> Result<Workflow, LoadFault>
-    requires none_runs { W.running work.old ≡ [] }
-    ensures did { Did W.act (W.world work.old) (W.world work.new)
+    requires none_runs { (W.device work.old).running ≡ [] }
+    ensures did { Did W.act (W.device work.old).world (W.device work.new).world
         (HasSeen (device_failed result) (λ nodes. spec.Gives (spec.loaded nodes file.now sets.now) result)) }
-    ensures stays { device_failed result ≡ false → IsSome (W.world work.old) → IsSome (W.world work.new) }
-    ensures cause { HasCause (W.faults work.old) (W.faults work.new) (device_failed result ≡ true) }
-    ensures running { W.running work.new ≡ W.running work.old }
+    ensures stays { device_failed result ≡ false → IsSome (W.device work.old).world → IsSome (W.device work.new).world }
+    ensures cause { HasCause (W.device work.old).faults (W.device work.new).faults (device_failed result) }
+    ensures running { (W.device work.new).running ≡ (W.device work.old).running }
 {
     let Ok(path) = file.copy(alloc) else {
         return Err(LoadFault::OutOfMemory);

@@ -1,6 +1,6 @@
 //! Files and their includes, read from the working folder.
 
-ghost use Rattle.std.specs.Prelude.{◌≡◌, ℕ, ◌<◌, ◌≤◌, [], IsSome, true, false};
+ghost use Rattle.std.specs.Prelude.{◌≡◌, ℕ, ◌<◌, ◌≤◌, [], IsSome, false};
 ghost use Rattle.smk_world.specs.Calls.{HasCause};
 ghost use Rattle.smk_world.specs.Runs.{Did};
 ghost use Rattle.smk_eval_files.specs.Looks.{HasSeen};
@@ -49,12 +49,12 @@ pub fn read_bytes<W: Files>(
     work: &mut W,
     file: &PathText,
 ) -> Result<Bytes, FileFault>
-    requires none_runs { W.running work.old ≡ [] }
-    ensures did { Did W.act (W.world work.old) (W.world work.new)
+    requires none_runs { (W.device work.old).running ≡ [] }
+    ensures did { Did W.act (W.device work.old).world (W.device work.new).world
         (HasSeen (device_failed result) (λ nodes. Answers (bytes_at nodes file.now) result)) }
-    ensures stays { device_failed result ≡ false → IsSome (W.world work.old) → IsSome (W.world work.new) }
-    ensures cause { HasCause (W.faults work.old) (W.faults work.new) (device_failed result ≡ true) }
-    ensures running { W.running work.new ≡ W.running work.old }
+    ensures stays { device_failed result ≡ false → IsSome (W.device work.old).world → IsSome (W.device work.new).world }
+    ensures cause { HasCause (W.device work.old).faults (W.device work.new).faults (device_failed result) }
+    ensures running { (W.device work.new).running ≡ (W.device work.old).running }
 {
     let Ok(place) = Place::user(alloc, file) else {
         return Err(FileFault::OutOfMemory);
@@ -103,12 +103,12 @@ fn with_file<W: Files>(
     file: PathText,
     depth: u64,
 ) -> Result<List<ReadFile>, FileFault>
-    requires none_runs { W.running work.old ≡ [] }
-    ensures did { Did W.act (W.world work.old) (W.world work.new)
+    requires none_runs { (W.device work.old).running ≡ [] }
+    ensures did { Did W.act (W.device work.old).world (W.device work.new).world
         (HasSeen (device_failed result) (λ nodes. Answers (onto files (files_from nodes depth file)) result)) }
-    ensures stays { device_failed result ≡ false → IsSome (W.world work.old) → IsSome (W.world work.new) }
-    ensures cause { HasCause (W.faults work.old) (W.faults work.new) (device_failed result ≡ true) }
-    ensures running { W.running work.new ≡ W.running work.old }
+    ensures stays { device_failed result ≡ false → IsSome (W.device work.old).world → IsSome (W.device work.new).world }
+    ensures cause { HasCause (W.device work.old).faults (W.device work.new).faults (device_failed result) }
+    ensures running { (W.device work.new).running ≡ (W.device work.old).running }
 {
     match read_bytes(alloc, work, &file) {
         Err(fault) => Err(fault),
@@ -141,12 +141,12 @@ fn with_include<W: Files>(
     text: &Text,
     depth: u64,
 ) -> Result<List<ReadFile>, FileFault>
-    requires none_runs { W.running work.old ≡ [] }
-    ensures did { Did W.act (W.world work.old) (W.world work.new)
+    requires none_runs { (W.device work.old).running ≡ [] }
+    ensures did { Did W.act (W.device work.old).world (W.device work.new).world
         (HasSeen (device_failed result) (λ nodes. Answers (onto files (include_from (files_from nodes depth) file.now text.now)) result)) }
-    ensures stays { device_failed result ≡ false → IsSome (W.world work.old) → IsSome (W.world work.new) }
-    ensures cause { HasCause (W.faults work.old) (W.faults work.new) (device_failed result ≡ true) }
-    ensures running { W.running work.new ≡ W.running work.old }
+    ensures stays { device_failed result ≡ false → IsSome (W.device work.old).world → IsSome (W.device work.new).world }
+    ensures cause { HasCause (W.device work.old).faults (W.device work.new).faults (device_failed result) }
+    ensures running { (W.device work.new).running ≡ (W.device work.old).running }
 {
     match target(alloc, file, text) {
         Err(fault) => Err(fault),
@@ -164,12 +164,12 @@ fn with_includes<W: Files>(
     texts: &[Text],
     depth: u64,
 ) -> Result<List<ReadFile>, FileFault>
-    requires none_runs { W.running work.old ≡ [] }
-    ensures did { Did W.act (W.world work.old) (W.world work.new)
+    requires none_runs { (W.device work.old).running ≡ [] }
+    ensures did { Did W.act (W.device work.old).world (W.device work.new).world
         (HasSeen (device_failed result) (λ nodes. Answers (onto files (included (files_from nodes depth) file.now texts.now)) result)) }
-    ensures stays { device_failed result ≡ false → IsSome (W.world work.old) → IsSome (W.world work.new) }
-    ensures cause { HasCause (W.faults work.old) (W.faults work.new) (device_failed result ≡ true) }
-    ensures running { W.running work.new ≡ W.running work.old }
+    ensures stays { device_failed result ≡ false → IsSome (W.device work.old).world → IsSome (W.device work.new).world }
+    ensures cause { HasCause (W.device work.old).faults (W.device work.new).faults (device_failed result) }
+    ensures running { (W.device work.new).running ≡ (W.device work.old).running }
 {
     let mut all = files;
     for text in texts {
@@ -191,12 +191,12 @@ pub fn read_files<W: Files>(
     work: &mut W,
     file: PathText,
 ) -> Result<List<ReadFile>, FileFault>
-    requires none_runs { W.running work.old ≡ [] }
-    ensures did { Did W.act (W.world work.old) (W.world work.new)
+    requires none_runs { (W.device work.old).running ≡ [] }
+    ensures did { Did W.act (W.device work.old).world (W.device work.new).world
         (HasSeen (device_failed result) (λ nodes. Answers (files_at nodes file) result)) }
-    ensures stays { device_failed result ≡ false → IsSome (W.world work.old) → IsSome (W.world work.new) }
-    ensures cause { HasCause (W.faults work.old) (W.faults work.new) (device_failed result ≡ true) }
-    ensures running { W.running work.new ≡ W.running work.old }
+    ensures stays { device_failed result ≡ false → IsSome (W.device work.old).world → IsSome (W.device work.new).world }
+    ensures cause { HasCause (W.device work.old).faults (W.device work.new).faults (device_failed result) }
+    ensures running { (W.device work.new).running ≡ (W.device work.old).running }
 {
     with_file(alloc, work, List::new(alloc), file, 17)
 }

@@ -1,6 +1,6 @@
 -- Marked and with room made, a job's command may be started; and what the start answers.
 use Rattle.std.proofs.Common.{◌≡◌, ℕ, true, false, List, [], ◌∷◌, ◌++◌, map, refl, sym, ap, subst, ◌∙◌, Option, Some, All, Result, Ok, Err}
-use Rattle.std.specs.Prelude.{IsErr}
+use Rattle.std.specs.Prelude.{IsErr, IfOk, OnErr}
 use Rattle.std.proofs.lemmas.List.{append-nil}
 use Rattle.std.proofs.lemmas.List.Elements.{All-nil, All-cons}
 use Rattle.smk_base.specs.Path.{is_path}
@@ -14,6 +14,7 @@ use Rattle.smk_world.specs.declared.event.Failed.{Failed}
 use Rattle.smk_world.specs.declared.recipe.Recipe.{Recipe}
 use Rattle.smk_world.specs.World.{World, run, in_paths, out_paths, owned_paths, is_within}
 use Rattle.smk_world.specs.Calls.{Acted, Happened, HasOwners, MayStart, IsFirmlyMarked, owned_now, used_now, any_overlap, started_number, started_numbers}
+use Rattle.smk_world.specs.Devices.{running_after}
 use Rattle.smk_world.specs.Runs.{Did, Follows}
 use Rattle.smk_world.specs.Requests.{Request, request, HasDone, IsCutShort, Carries}
 use Rattle.smk_world.specs.Requests.Request.{Start}
@@ -164,3 +165,13 @@ then_started act recipe logs command (Err f) a b c before now =
     (λ w es left follows done lets.
     let e : Event = record { call = Started recipe logs command (Err f); left = left } in
     (cut_append (before_start recipe logs) (Start recipe logs command ∷ []) es (e ∷ []) done (refl, refl), tt))
+
+-- ## The running children
+
+pub started_running : (recipe : Recipe) (logs : List Path) (command : List ℕ) (r : Result ℕ Failed) (old mid new : List ℕ) → mid ≡ old → new ≡ running_after (Started recipe logs command r) mid → IfOk r (λ number. new ≡ old ++ number ∷ [])
+started_running recipe logs command (Ok n) old mid new same is = is ∙ ap (λ ns. ns ++ n ∷ []) same
+started_running recipe logs command (Err f) old mid new same is = tt
+
+pub none_started : (recipe : Recipe) (logs : List Path) (command : List ℕ) (r : Result ℕ Failed) (old mid new : List ℕ) → mid ≡ old → new ≡ running_after (Started recipe logs command r) mid → OnErr r (new ≡ old)
+none_started recipe logs command (Ok n) old mid new same is = tt
+none_started recipe logs command (Err f) old mid new same is = is ∙ same

@@ -370,8 +370,8 @@ stat_quiet : (p : Path) (r : Result Stat Failed) → ¬ (IsErr r) → failed (Lo
 stat_quiet p (Ok s) never = refl
 stat_quiet p (Err f) never = absurd (never refl)
 
-pub looked_stat : (act : Act) (a b : Option World) (fa fb : ℕ) (ra rb : List ℕ) (p : Path) (r : Result Stat Failed) → Happened act a b (Looked p r) → HasCause fa fb (IsErr r) → rb ≡ ra → HasLooked act a b fa fb ra rb (IsErr r)
-looked_stat act a b fa fb ra rb p r happened cause same = looked_call act a b fa fb ra rb (Looked p r) (IsErr r) refl (stat_quiet p r) happened cause same
+pub looked_stat : (act : Act) (a b : Option World) (fa fb : ℕ) (ra rb : List ℕ) (p : Path) (r : Result Stat Failed) → Happened act a b (Looked p r) → HasCause fa fb (is_err r) → rb ≡ ra → HasLooked act a b fa fb ra rb (IsErr r)
+looked_stat act a b fa fb ra rb p r happened cause same = looked_call act a b fa fb ra rb (Looked p r) (IsErr r) refl (stat_quiet p r) happened (record { later = cause.later; rose = cause.rose }) same
 
 failed_of : {T : Type 0} (s : Result T WorkFault) → s ≡ Err FailedFault → IsErrOf s FailedFault
 failed_of s e = e
@@ -383,11 +383,11 @@ ok_err : (r : Result Stat Failed) (s : Stat) → r ≡ Ok s → ¬ (IsErr r)
 ok_err r s e h = cc
 
 pub looked_bad : {T : Type 0} (act : Act) (a b : Option World) (fa fb : ℕ) (ra rb : List ℕ) (p : Path) (r : Result Stat Failed) (f : Failed) (s : Result T WorkFault) → r ≡ Err f → IsErrAnd s (λ y. y ≡ FailedFault)
-    → Happened act a b (Looked p r) → HasCause fa fb (IsErr r) → rb ≡ ra → HasLooked act a b fa fb ra rb (IsErrOf s FailedFault)
+    → Happened act a b (Looked p r) → HasCause fa fb (is_err r) → rb ≡ ra → HasLooked act a b fa fb ra rb (IsErrOf s FailedFault)
 looked_bad act a b fa fb ra rb p r f s is err happened cause same =
     looked_as act a b fa fb ra rb (IsErr r) (IsErrOf s FailedFault) (λ h. failed_of s (err_is s FailedFault err)) (λ h. err_err r f is) (looked_stat act a b fa fb ra rb p r happened cause same)
 
-pub looked_fine : (act : Act) (a b : Option World) (fa fb : ℕ) (ra rb : List ℕ) (p : Path) (r : Result Stat Failed) (s : Stat) → r ≡ Ok s → Happened act a b (Looked p r) → HasCause fa fb (IsErr r) → rb ≡ ra → HasLooked act a b fa fb ra rb ⊥
+pub looked_fine : (act : Act) (a b : Option World) (fa fb : ℕ) (ra rb : List ℕ) (p : Path) (r : Result Stat Failed) (s : Stat) → r ≡ Ok s → Happened act a b (Looked p r) → HasCause fa fb (is_err r) → rb ≡ ra → HasLooked act a b fa fb ra rb ⊥
 looked_fine act a b fa fb ra rb p r s is happened cause same = looked_as act a b fa fb ra rb (IsErr r) ⊥ (ok_err r s is) (λ h. absurd h) (looked_stat act a b fa fb ra rb p r happened cause same)
 
 -- ## The outputs of a job

@@ -68,8 +68,8 @@ fn look_into<W: Files>(
 ) -> Result<Sight, WorkFault>
     requires folder { among (folders_of ready.now.recipe) path.now ≡ true }
     requires valid { is_valid (record_of path.now ready.now.made ready.now.recipe ready.now.stamps []) ≡ true }
-    ensures looked { HasLooked W.act (W.world work.old) (W.world work.new) (W.faults work.old) (W.faults work.new) (W.running work.old) (W.running work.new) (IsErrOf result WorkFault.Failed) }
-    ensures seen { Did W.act (W.world work.old) (W.world work.new)
+    ensures looked { HasLooked W.act (W.device work.old).world (W.device work.new).world (W.device work.old).faults (W.device work.new).faults (W.device work.old).running (W.device work.new).running (IsErrOf result WorkFault.Failed) }
+    ensures seen { Did W.act (W.device work.old).world (W.device work.new).world
         (λ w es. IsFree w.nodes path.now → reads_folder (w.nodes path.now) ≡ true
         → HasListed (core ready.now.recipe ready.now.stamps ready.now.made) w.nodes (folder_out path.now) result es) }
 {
@@ -90,8 +90,8 @@ fn look_one<W: Files>(
     requires at { place.now ≡ out.now.path }
     requires folder { is_folder_kind out.now.kind ≡ true → among (folders_of ready.now.recipe) out.now.path ≡ true }
     requires valid { is_valid (record_of out.now.path ready.now.made ready.now.recipe ready.now.stamps []) ≡ true }
-    ensures looked { HasLooked W.act (W.world work.old) (W.world work.new) (W.faults work.old) (W.faults work.new) (W.running work.old) (W.running work.new) (IsErrOf result WorkFault.Failed) }
-    ensures seen { Did W.act (W.world work.old) (W.world work.new)
+    ensures looked { HasLooked W.act (W.device work.old).world (W.device work.new).world (W.device work.old).faults (W.device work.new).faults (W.device work.old).running (W.device work.new).running (IsErrOf result WorkFault.Failed) }
+    ensures seen { Did W.act (W.device work.old).world (W.device work.new).world
         (λ w es. IsFree w.nodes out.now.path → HasView (core ready.now.recipe ready.now.stamps ready.now.made) w.nodes out.now result es) }
 {
     let stat = work.stat(place)?;
@@ -111,8 +111,8 @@ pub(crate) fn look_through<W: Files>(
     ready: &Ready,
 ) -> Result<View, WorkFault>
     requires ready { IsReady ready.now.recipe ready.now.logs ready.now.stamps ready.now.made ready.now.outs ready.now.places ready.now.records }
-    ensures looked { HasLooked W.act (W.world work.old) (W.world work.new) (W.faults work.old) (W.faults work.new) (W.running work.old) (W.running work.new) (IsErrOf result WorkFault.Failed) }
-    ensures seen { Did W.act (W.world work.old) (W.world work.new)
+    ensures looked { HasLooked W.act (W.device work.old).world (W.device work.new).world (W.device work.old).faults (W.device work.new).faults (W.device work.old).running (W.device work.new).running (IsErrOf result WorkFault.Failed) }
+    ensures seen { Did W.act (W.device work.old).world (W.device work.new).world
         (λ w es. AreKnown w.nodes ready.now.outs → HasViewed (core ready.now.recipe ready.now.stamps ready.now.made) w.nodes ready.now.outs result es) }
     ensures sizes { IfOk result (λ view. IsSized (length ready.now.outs) view) }
 {

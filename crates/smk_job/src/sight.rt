@@ -1,6 +1,6 @@
 //! Looks at the outputs of a job whose command succeeded.
 
-ghost use Rattle.std.specs.Prelude.{◌≡◌, ◌<◌, length, Option, Some, None, false, true, OnOk, IfOk, IfSome, IsErr, IsSome, map};
+ghost use Rattle.std.specs.Prelude.{◌≡◌, ◌<◌, length, Option, Some, None, false, true, OnOk, IfOk, IfSome, IsSome, map, is_err};
 ghost use Rattle.std.specs.List.{list_any};
 ghost use Rattle.smk_world.specs.Calls.{HasCause};
 ghost use Rattle.smk_world.specs.Runs.{Did};
@@ -53,12 +53,12 @@ pub(crate) fn look_over<W: Files>(
 ) -> Result<Option<(usize, Wrong)>, Failed>
     requires files { list_any is_folder_out outs.now ≡ false }
     requires at { places.now ≡ map (λ out. out.path) outs.now }
-    ensures did { Did W.act (W.world work.old) (W.world work.new) (λ w es. AreKnown w.nodes outs.now → HasLookedOver outs.now result w.nodes es) }
-    ensures same { SameChildren (W.world work.old) (W.world work.new) }
+    ensures did { Did W.act (W.device work.old).world (W.device work.new).world (λ w es. AreKnown w.nodes outs.now → HasLookedOver outs.now result w.nodes es) }
+    ensures same { SameChildren (W.device work.old).world (W.device work.new).world }
     ensures within { IfOk result (λ found. IfSome found (λ wrong. wrong.0 < length outs.now)) }
-    ensures stays { OnOk result (IsSome (W.world work.old) → IsSome (W.world work.new)) }
-    ensures cause { HasCause (W.faults work.old) (W.faults work.new) (IsErr result) }
-    ensures running { W.running work.new ≡ W.running work.old }
+    ensures stays { OnOk result (IsSome (W.device work.old).world → IsSome (W.device work.new).world) }
+    ensures cause { HasCause (W.device work.old).faults (W.device work.new).faults (is_err result) }
+    ensures running { (W.device work.new).running ≡ (W.device work.old).running }
 {
     for (i, out) in outs.iter().enumerate() {
         let stat = work.stat(&places[i])?;

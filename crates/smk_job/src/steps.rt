@@ -1,6 +1,6 @@
 //! The steps of a job besides those of the store.
 
-ghost use Rattle.std.specs.Prelude.{◌≡◌, IsErr, OnOk, IsSome, is_ok, length};
+ghost use Rattle.std.specs.Prelude.{◌≡◌, OnOk, IsSome, is_ok, length, is_err};
 ghost use Rattle.smk_world.specs.Calls.{HasCause};
 ghost use Rattle.smk_world.specs.Runs.{Did};
 ghost use Rattle.smk_world.specs.Requests.{Carries};
@@ -13,11 +13,11 @@ use smk_world::{Failed, Files};
 
 // Removes each of the places.
 fn remove_each<W: Files>(work: &mut W, places: &[Place]) -> Result<(), Failed>
-    requires unused { AreUnused (W.world work.old) places.now }
-    ensures did { Did W.act (W.world work.old) (W.world work.new) (λ w es. Carries (remove_each places.now) (is_ok result) es) }
-    ensures stays { OnOk result (IsSome (W.world work.old) → IsSome (W.world work.new)) }
-    ensures cause { HasCause (W.faults work.old) (W.faults work.new) (IsErr result) }
-    ensures running { W.running work.new ≡ W.running work.old }
+    requires unused { AreUnused (W.device work.old).world places.now }
+    ensures did { Did W.act (W.device work.old).world (W.device work.new).world (λ w es. Carries (remove_each places.now) (is_ok result) es) }
+    ensures stays { OnOk result (IsSome (W.device work.old).world → IsSome (W.device work.new).world) }
+    ensures cause { HasCause (W.device work.old).faults (W.device work.new).faults (is_err result) }
+    ensures running { (W.device work.new).running ≡ (W.device work.old).running }
 {
     for place in places {
         work.remove(place)?;
@@ -27,10 +27,10 @@ fn remove_each<W: Files>(work: &mut W, places: &[Place]) -> Result<(), Failed>
 
 // Makes the folders above each of the places.
 fn parents_each<W: Files>(work: &mut W, places: &[Place]) -> Result<(), Failed>
-    ensures did { Did W.act (W.world work.old) (W.world work.new) (λ w es. Carries (parents_each places.now) (is_ok result) es) }
-    ensures stays { OnOk result (IsSome (W.world work.old) → IsSome (W.world work.new)) }
-    ensures cause { HasCause (W.faults work.old) (W.faults work.new) (IsErr result) }
-    ensures running { W.running work.new ≡ W.running work.old }
+    ensures did { Did W.act (W.device work.old).world (W.device work.new).world (λ w es. Carries (parents_each places.now) (is_ok result) es) }
+    ensures stays { OnOk result (IsSome (W.device work.old).world → IsSome (W.device work.new).world) }
+    ensures cause { HasCause (W.device work.old).faults (W.device work.new).faults (is_err result) }
+    ensures running { (W.device work.new).running ≡ (W.device work.old).running }
 {
     for place in places {
         work.make_parents(place)?;
@@ -44,11 +44,11 @@ pub(crate) fn clear<W: Files>(
     outputs: &[Place],
     owned: &[Place],
 ) -> Result<(), Failed>
-    requires unused { AreUnused (W.world work.old) outputs.now }
-    ensures did { Did W.act (W.world work.old) (W.world work.new) (λ w es. Carries (clear_requests outputs.now owned.now) (is_ok result) es) }
-    ensures stays { OnOk result (IsSome (W.world work.old) → IsSome (W.world work.new)) }
-    ensures cause { HasCause (W.faults work.old) (W.faults work.new) (IsErr result) }
-    ensures running { W.running work.new ≡ W.running work.old }
+    requires unused { AreUnused (W.device work.old).world outputs.now }
+    ensures did { Did W.act (W.device work.old).world (W.device work.new).world (λ w es. Carries (clear_requests outputs.now owned.now) (is_ok result) es) }
+    ensures stays { OnOk result (IsSome (W.device work.old).world → IsSome (W.device work.new).world) }
+    ensures cause { HasCause (W.device work.old).faults (W.device work.new).faults (is_err result) }
+    ensures running { (W.device work.new).running ≡ (W.device work.old).running }
 {
     remove_each(work, outputs)?;
     parents_each(work, owned)
@@ -56,12 +56,12 @@ pub(crate) fn clear<W: Files>(
 
 // Removes the outputs and their records for good.
 fn drop_each<W: Files>(work: &mut W, places: &JobPlaces) -> Result<(), Failed>
-    requires outputs { AreUnused (W.world work.old) places.now.outputs }
-    requires records { AreUnused (W.world work.old) places.now.records }
-    ensures did { Did W.act (W.world work.old) (W.world work.new) (λ w es. Carries (drop_all_requests places.now) (is_ok result) es) }
-    ensures stays { OnOk result (IsSome (W.world work.old) → IsSome (W.world work.new)) }
-    ensures cause { HasCause (W.faults work.old) (W.faults work.new) (IsErr result) }
-    ensures running { W.running work.new ≡ W.running work.old }
+    requires outputs { AreUnused (W.device work.old).world places.now.outputs }
+    requires records { AreUnused (W.device work.old).world places.now.records }
+    ensures did { Did W.act (W.device work.old).world (W.device work.new).world (λ w es. Carries (drop_all_requests places.now) (is_ok result) es) }
+    ensures stays { OnOk result (IsSome (W.device work.old).world → IsSome (W.device work.new).world) }
+    ensures cause { HasCause (W.device work.old).faults (W.device work.new).faults (is_err result) }
+    ensures running { (W.device work.new).running ≡ (W.device work.old).running }
 {
     remove_each(work, places.outputs.as_slice())?;
     drop_records(work, places)
@@ -69,13 +69,13 @@ fn drop_each<W: Files>(work: &mut W, places: &JobPlaces) -> Result<(), Failed>
 
 /// Removes the outputs and their records for good, and then the marks.
 pub(crate) fn lose<W: Files>(work: &mut W, places: &JobPlaces) -> Result<(), Failed>
-    requires outputs { AreUnused (W.world work.old) places.now.outputs }
-    requires records { AreUnused (W.world work.old) places.now.records }
-    requires marks { AreUnused (W.world work.old) places.now.marks }
-    ensures did { Did W.act (W.world work.old) (W.world work.new) (λ w es. Carries (lose_requests places.now) (is_ok result) es) }
-    ensures stays { OnOk result (IsSome (W.world work.old) → IsSome (W.world work.new)) }
-    ensures cause { HasCause (W.faults work.old) (W.faults work.new) (IsErr result) }
-    ensures running { W.running work.new ≡ W.running work.old }
+    requires outputs { AreUnused (W.device work.old).world places.now.outputs }
+    requires records { AreUnused (W.device work.old).world places.now.records }
+    requires marks { AreUnused (W.device work.old).world places.now.marks }
+    ensures did { Did W.act (W.device work.old).world (W.device work.new).world (λ w es. Carries (lose_requests places.now) (is_ok result) es) }
+    ensures stays { OnOk result (IsSome (W.device work.old).world → IsSome (W.device work.new).world) }
+    ensures cause { HasCause (W.device work.old).faults (W.device work.new).faults (is_err result) }
+    ensures running { (W.device work.new).running ≡ (W.device work.old).running }
 {
     drop_each(work, places)?;
     unmark(work, places)
@@ -84,11 +84,11 @@ pub(crate) fn lose<W: Files>(work: &mut W, places: &JobPlaces) -> Result<(), Fai
 // Makes the outputs firm, and writes their records firmly.
 fn put_each<W: Files>(work: &mut W, places: &JobPlaces, bytes: &List<Bytes>) -> Result<(), Failed>
     requires each { length bytes.now ≡ length places.now.records }
-    requires records { AreUnused (W.world work.old) places.now.records }
-    ensures did { Did W.act (W.world work.old) (W.world work.new) (λ w es. Carries (put_all_requests places.now bytes.now) (is_ok result) es) }
-    ensures stays { OnOk result (IsSome (W.world work.old) → IsSome (W.world work.new)) }
-    ensures cause { HasCause (W.faults work.old) (W.faults work.new) (IsErr result) }
-    ensures running { W.running work.new ≡ W.running work.old }
+    requires records { AreUnused (W.device work.old).world places.now.records }
+    ensures did { Did W.act (W.device work.old).world (W.device work.new).world (λ w es. Carries (put_all_requests places.now bytes.now) (is_ok result) es) }
+    ensures stays { OnOk result (IsSome (W.device work.old).world → IsSome (W.device work.new).world) }
+    ensures cause { HasCause (W.device work.old).faults (W.device work.new).faults (is_err result) }
+    ensures running { (W.device work.new).running ≡ (W.device work.old).running }
 {
     work.settle(&places.outputs)?;
     put_records(work, places, bytes)
@@ -101,12 +101,12 @@ pub(crate) fn keep<W: Files>(
     bytes: &List<Bytes>,
 ) -> Result<(), Failed>
     requires each { length bytes.now ≡ length places.now.records }
-    requires records { AreUnused (W.world work.old) places.now.records }
-    requires marks { AreUnused (W.world work.old) places.now.marks }
-    ensures did { Did W.act (W.world work.old) (W.world work.new) (λ w es. Carries (keep_requests places.now bytes.now) (is_ok result) es) }
-    ensures stays { OnOk result (IsSome (W.world work.old) → IsSome (W.world work.new)) }
-    ensures cause { HasCause (W.faults work.old) (W.faults work.new) (IsErr result) }
-    ensures running { W.running work.new ≡ W.running work.old }
+    requires records { AreUnused (W.device work.old).world places.now.records }
+    requires marks { AreUnused (W.device work.old).world places.now.marks }
+    ensures did { Did W.act (W.device work.old).world (W.device work.new).world (λ w es. Carries (keep_requests places.now bytes.now) (is_ok result) es) }
+    ensures stays { OnOk result (IsSome (W.device work.old).world → IsSome (W.device work.new).world) }
+    ensures cause { HasCause (W.device work.old).faults (W.device work.new).faults (is_err result) }
+    ensures running { (W.device work.new).running ≡ (W.device work.old).running }
 {
     put_each(work, places, bytes)?;
     unmark(work, places)

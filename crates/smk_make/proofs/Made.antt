@@ -3,7 +3,7 @@ use Rattle.std.proofs.Common.{◌≡◌, ◌⊎◌, ℕ, Bool, true, false, List
 use Rattle.std.specs.Prelude.{IsSome, IfErr}
 use Rattle.std.proofs.lemmas.List.{append_assoc, take-append-drop}
 use Rattle.smk_world.specs.World.{World}
-use Rattle.smk_world.specs.Calls.{HasPut}
+use Rattle.smk_world.specs.Calls.{ArePut}
 use Rattle.smk_world.specs.Trees.{Path, Act}
 use Rattle.smk_flow.specs.Flows.{Flow}
 use Rattle.smk_chain.specs.declared.jobs.Jobs.{Jobs}
@@ -66,7 +66,7 @@ module _ (jobs : Jobs) (targets : List Path) (tally : Tally) (Current : List Boo
   }
 
   -- they were put, all of them or not
-  pub closed : (r : Result (Unit {0}) Fault) (after : List Bool) (old new : Option Text) → Current after → ((f : Fault) → r ≡ Err f → IsOfReport f) → HasPut old new (closing_text (is_current after) jobs.makers targets tally) (is_ok r)
+  pub closed : (r : Result (Unit {0}) Fault) (after : List Bool) (old new : Option Text) → Current after → ((f : Fault) → r ≡ Err f → IsOfReport f) → ArePut old new (closing_text (is_current after) jobs.makers targets tally) (is_ok r)
       → (is_output r ≡ false → IsSome old → IsSome new) → HasWritten old new (is_output r ≡ false) (IsClosing jobs targets tally Current r)
   closed (Ok u) after old new current kind put stays =
       let text = closing_text (is_current after) jobs.makers targets tally in

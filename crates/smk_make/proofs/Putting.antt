@@ -2,7 +2,7 @@
 use native.Mathlib.Omega.{arith}
 use Rattle.std.proofs.Common.{◌≡◌, ℕ, Bool, true, false, [], ◌++◌, refl, sym, ◌∙◌, Option, length, take, drop}
 use Rattle.std.proofs.lemmas.List.{take-append-drop, take_all}
-use Rattle.smk_world.specs.Calls.{HasPut}
+use Rattle.smk_world.specs.Calls.{ArePut}
 use Rattle.smk_report.specs.Lines.{Text}
 use Rattle.smk_run.specs.Reports.{HasWritten, IsReport}
 
@@ -11,7 +11,7 @@ front_or_whole true n text all = take_all n text (omega (arith, all refl))
 front_or_whole false n text all = (drop n text, sym (take-append-drop n text))
 
 -- what a put did, whole where it was Ok
-pub put_text : (text : Text) (ok : Bool) (old new : Option Text) (well : Type 0) → (well → ok ≡ true) → HasPut old new text ok → HasWritten old new well (IsReport ok text)
+pub put_text : (text : Text) (ok : Bool) (old new : Option Text) (well : Type 0) → (well → ok ≡ true) → ArePut old new text ok → HasWritten old new well (IsReport ok text)
 put_text text ok old new well good put = record {
   told = λ now e. let h = put.told now e in (h.0, h.1, (take h.2.0 text, front_or_whole ok h.2.0 text h.2.2, h.2.3));
   stays = λ w some. put.stays some (good w);

@@ -1,7 +1,7 @@
 //! The last lines of a run: its targets, and how many jobs it had.
 
-ghost use Rattle.std.specs.Prelude.{◌≡◌, ◌++◌, IfOk, IfErr, OnOk, IsErr, IsSome, is_ok, string_bytes, true, false};
-ghost use Rattle.smk_world.specs.Calls.{HasPut, HasCause};
+ghost use Rattle.std.specs.Prelude.{◌≡◌, ◌++◌, IfOk, IfErr, OnOk, IsSome, is_ok, string_bytes, true, false, is_err};
+ghost use Rattle.smk_world.specs.Calls.{ArePut, HasCause};
 ghost use Rattle.smk_report.specs.Lines.{target_line};
 ghost use Rattle.smk_run.specs.Runs.{is_output};
 ghost use Rattle.smk_run.specs.Stamps.{number_at};
@@ -99,9 +99,9 @@ fn closing_text(
 
 // Puts the text, and hands it on.
 fn write_out<O: Sink>(out: &mut O, text: &str) -> Result<(), Failed>
-    ensures put { HasPut (O.put_so_far out.old) (O.put_so_far out.new) text.now (is_ok result) }
-    ensures cause { HasCause (O.faults out.old) (O.faults out.new) (IsErr result) }
-    ensures quiet { OnOk result (O.faults out.new ≡ O.faults out.old) }
+    ensures put { ArePut (O.sunk out.old).put (O.sunk out.new).put text.now (is_ok result) }
+    ensures cause { HasCause (O.sunk out.old).faults (O.sunk out.new).faults (is_err result) }
+    ensures quiet { OnOk result ((O.sunk out.new).faults ≡ (O.sunk out.old).faults) }
 {
     out.put(text.as_bytes())?;
     out.flush()
@@ -118,10 +118,10 @@ pub(crate) fn close_report<O: Sink>(
     tally: &Tally,
     out: &mut O,
 ) -> Result<(), Fault>
-    ensures put { HasPut (O.put_so_far out.old) (O.put_so_far out.new) (spec.closing_text (spec.is_current after.now) makers.now targets.now tally.now) (is_ok result) }
-    ensures stays { is_output result ≡ false → IsSome (O.put_so_far out.old) → IsSome (O.put_so_far out.new) }
-    ensures cause { HasCause (O.faults out.old) (O.faults out.new) (is_output result ≡ true) }
-    ensures quiet { is_output result ≡ false → O.faults out.new ≡ O.faults out.old }
+    ensures put { ArePut (O.sunk out.old).put (O.sunk out.new).put (spec.closing_text (spec.is_current after.now) makers.now targets.now tally.now) (is_ok result) }
+    ensures stays { is_output result ≡ false → IsSome (O.sunk out.old).put → IsSome (O.sunk out.new).put }
+    ensures cause { HasCause (O.sunk out.old).faults (O.sunk out.new).faults (is_output result) }
+    ensures quiet { is_output result ≡ false → (O.sunk out.new).faults ≡ (O.sunk out.old).faults }
     ensures faults { IfErr result faults.IsOfReport }
 {
     let Ok(text) = closing_text(alloc, makers, after, targets.as_slice(), tally) else {

@@ -1,6 +1,6 @@
 //! Jobs are run, and the run is reported.
 
-ghost use Rattle.std.specs.Prelude.{◌≡◌, ◌⊎◌, Some, None, Ok, [], zip, length, IfErr, IsSome, true, false};
+ghost use Rattle.std.specs.Prelude.{◌≡◌, ◌⊎◌, Some, None, Ok, [], zip, length, IfErr, IsSome, false};
 ghost use Rattle.smk_world.specs.Calls.{HasCause, Rose};
 ghost use Rattle.smk_report.specs.declared.fault.Fault.{Fault as FaultValue};
 ghost use Rattle.smk_chain_walk.specs.Links.{AreLower};
@@ -49,11 +49,11 @@ fn report_end<O: Sink>(
     out: &mut O,
 ) -> Result<(), Fault>
     requires lower { AreLower 0 jobs.now.befores }
-    ensures text { HasWritten (O.put_so_far out.old) (O.put_so_far out.new) (is_output result ≡ false)
+    ensures text { HasWritten (O.sunk out.old).put (O.sunk out.new).put (is_output result ≡ false)
         (IsClosing jobs.now targets.now tally.now (IsAfter duties.now jobs.now.befores tally.now) result) }
     ensures faults { IfErr result faults.IsOfReport }
-    ensures output { HasCause (O.faults out.old) (O.faults out.new) (is_output result ≡ true) }
-    ensures quiet { is_output result ≡ false → O.faults out.new ≡ O.faults out.old }
+    ensures output { HasCause (O.sunk out.old).faults (O.sunk out.new).faults (is_output result) }
+    ensures quiet { is_output result ≡ false → (O.sunk out.new).faults ≡ (O.sunk out.old).faults }
 {
     let Ok(after) = after_run(alloc, duties.as_slice(), jobs.befores.as_slice(), tally) else {
         return Err(Fault::OutOfMemory);
@@ -80,11 +80,11 @@ fn conclude<O: Sink>(
     requires lower { AreLower 0 jobs.now.befores }
     requires job_failed { (f : FaultValue) → tally.first ≡ Some f → faults.IsOfJob f }
     ensures concluded { Concludes (Ok tally) result }
-    ensures text { HasWritten (O.put_so_far out.old) (O.put_so_far out.new) (is_output result ≡ false)
+    ensures text { HasWritten (O.sunk out.old).put (O.sunk out.new).put (is_output result ≡ false)
         (IsClosing jobs.now targets.now tally (IsAfter duties.now jobs.now.befores tally) result) }
     ensures no_device { is_device result ≡ false }
-    ensures output { HasCause (O.faults out.old) (O.faults out.new) (is_output result ≡ true) }
-    ensures quiet { is_output result ≡ false → O.faults out.new ≡ O.faults out.old }
+    ensures output { HasCause (O.sunk out.old).faults (O.sunk out.new).faults (is_output result) }
+    ensures quiet { is_output result ≡ false → (O.sunk out.new).faults ≡ (O.sunk out.old).faults }
 {
     match report_end(alloc, targets, jobs, duties, &tally, out) {
         Err(fault) => Err(fault),
@@ -104,18 +104,18 @@ fn run<W: Crew, O: Sink>(
     work: &mut W,
     out: &mut O,
 ) -> Result<(), Fault>
-    requires none_runs { W.running work.old ≡ [] }
+    requires none_runs { (W.device work.old).running ≡ [] }
     requires runnable { AreRunnable jobs.now }
     requires lower { AreLower 0 jobs.now.befores }
     requires each { length duties.now ≡ length jobs.now.befores }
     requires positive { IsOld first 0 }
     requires servable { AreServable first jobs.now duties.now }
     requires good { AreGood flow.now cores (due first duties.now jobs.now.jobs) }
-    ensures made { HasMade W.act flow.now cores targets.now jobs.now first duties.now result (W.world work.old) (W.world work.new)
-        (Rose (W.faults work.old) (W.faults work.new)) (W.running work.new) (O.put_so_far out.old) (O.put_so_far out.new) }
-    ensures cause { HasCause (W.faults work.old) (W.faults work.new) (is_device result ≡ true) }
-    ensures output { HasCause (O.faults out.old) (O.faults out.new) (is_output result ≡ true) }
-    ensures quiet { is_output result ≡ false → O.faults out.new ≡ O.faults out.old }
+    ensures made { HasMade W.act flow.now cores targets.now jobs.now first duties.now result (W.device work.old).world (W.device work.new).world
+        (Rose (W.device work.old).faults (W.device work.new).faults) (W.device work.new).running (O.sunk out.old).put (O.sunk out.new).put }
+    ensures cause { HasCause (W.device work.old).faults (W.device work.new).faults (is_device result) }
+    ensures output { HasCause (O.sunk out.old).faults (O.sunk out.new).faults (is_output result) }
+    ensures quiet { is_output result ≡ false → (O.sunk out.new).faults ≡ (O.sunk out.old).faults }
 {
     match run_jobs(alloc, flow, jobs, duties, first, cores, work, out) {
         Err(fault) => Err(fault),
@@ -135,19 +135,19 @@ fn serve<W: Crew, O: Sink>(
     work: &mut W,
     out: &mut O,
 ) -> Result<(), Fault>
-    requires none_runs { W.running work.old ≡ [] }
+    requires none_runs { (W.device work.old).running ≡ [] }
     requires runnable { AreRunnable jobs.now }
     requires lower { AreLower 0 jobs.now.befores }
     requires befores { length jobs.now.befores ≡ length jobs.now.jobs }
     requires states { length states.now ≡ length jobs.now.jobs }
     requires good { command_fault flow.now cores (zip jobs.now.jobs states.now) ≡ None }
-    ensures goes_on { GoesOn W.act flow.now cores targets.now jobs.now states.now store.now result (W.world work.old) (W.world work.new)
-        (Rose (W.faults work.old) (W.faults work.new)) (W.running work.new) (O.put_so_far out.old) (O.put_so_far out.new) (Ok tt) }
-    ensures children { (W.running work.new ≡ []) ⊎ Rose (W.faults work.old) (W.faults work.new) }
-    ensures stays { (IsSome (W.world work.old) → IsSome (W.world work.new)) ⊎ Rose (W.faults work.old) (W.faults work.new) }
-    ensures cause { HasCause (W.faults work.old) (W.faults work.new) (is_device result ≡ true) }
-    ensures output { HasCause (O.faults out.old) (O.faults out.new) (is_output result ≡ true) }
-    ensures quiet { is_output result ≡ false → O.faults out.new ≡ O.faults out.old }
+    ensures goes_on { GoesOn W.act flow.now cores targets.now jobs.now states.now store.now result (W.device work.old).world (W.device work.new).world
+        (Rose (W.device work.old).faults (W.device work.new).faults) (W.device work.new).running (O.sunk out.old).put (O.sunk out.new).put (Ok tt) }
+    ensures children { ((W.device work.new).running ≡ []) ⊎ Rose (W.device work.old).faults (W.device work.new).faults }
+    ensures stays { (IsSome (W.device work.old).world → IsSome (W.device work.new).world) ⊎ Rose (W.device work.old).faults (W.device work.new).faults }
+    ensures cause { HasCause (W.device work.old).faults (W.device work.new).faults (is_device result) }
+    ensures output { HasCause (O.sunk out.old).faults (O.sunk out.new).faults (is_output result) }
+    ensures quiet { is_output result ≡ false → (O.sunk out.new).faults ≡ (O.sunk out.old).faults }
 {
     let first = store.next_serial();
     let Ok(duties) = duties_of(alloc, jobs, states, store, first) else {
@@ -187,19 +187,19 @@ pub fn make<W: Crew, O: Sink>(
     work: &mut W,
     out: &mut O,
 ) -> Result<(), Fault>
-    requires none_runs { W.running work.old ≡ [] }
+    requires none_runs { (W.device work.old).running ≡ [] }
     requires runnable { AreRunnable jobs.now }
     requires lower { AreLower 0 jobs.now.befores }
     requires befores { length jobs.now.befores ≡ length jobs.now.jobs }
     requires states { length states.now ≡ length jobs.now.jobs }
     requires good { command_fault flow.now cores (zip jobs.now.jobs states.now) ≡ None }
-    ensures carried { HasCarriedOut W.act flow.now cores targets.now jobs.now states.now store.now result (W.world work.old) (W.world work.new)
-        (Rose (W.faults work.old) (W.faults work.new)) (W.running work.new) (O.put_so_far out.old) (O.put_so_far out.new) }
-    ensures children { (W.running work.new ≡ []) ⊎ Rose (W.faults work.old) (W.faults work.new) }
-    ensures stays { (IsSome (W.world work.old) → IsSome (W.world work.new)) ⊎ Rose (W.faults work.old) (W.faults work.new) }
-    ensures cause { HasCause (W.faults work.old) (W.faults work.new) (is_device result ≡ true) }
-    ensures output { HasCause (O.faults out.old) (O.faults out.new) (is_output result ≡ true) }
-    ensures quiet { is_output result ≡ false → O.faults out.new ≡ O.faults out.old }
+    ensures carried { HasCarriedOut W.act flow.now cores targets.now jobs.now states.now store.now result (W.device work.old).world (W.device work.new).world
+        (Rose (W.device work.old).faults (W.device work.new).faults) (W.device work.new).running (O.sunk out.old).put (O.sunk out.new).put }
+    ensures children { ((W.device work.new).running ≡ []) ⊎ Rose (W.device work.old).faults (W.device work.new).faults }
+    ensures stays { (IsSome (W.device work.old).world → IsSome (W.device work.new).world) ⊎ Rose (W.device work.old).faults (W.device work.new).faults }
+    ensures cause { HasCause (W.device work.old).faults (W.device work.new).faults (is_device result) }
+    ensures output { HasCause (O.sunk out.old).faults (O.sunk out.new).faults (is_output result) }
+    ensures quiet { is_output result ≡ false → (O.sunk out.new).faults ≡ (O.sunk out.old).faults }
 {
     match steady(alloc, work, store) {
         Err(fault) => Err(of_store(fault)),

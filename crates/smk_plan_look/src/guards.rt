@@ -32,8 +32,8 @@ fn note<W: Files>(
     place: Place,
     folder: bool,
 ) -> Result<bool, WorkFault>
-    ensures looked { HasLooked W.act (W.world work.old) (W.world work.new) (W.faults work.old) (W.faults work.new) (W.running work.old) (W.running work.new) (IsErrOf result WorkFault.Failed) }
-    ensures told { IfOk result (λ found. (w : World) → W.world work.old ≡ Some w → IsTree w → IsNoted w.nodes place folder waiting.old waiting.new found) }
+    ensures looked { HasLooked W.act (W.device work.old).world (W.device work.new).world (W.device work.old).faults (W.device work.new).faults (W.device work.old).running (W.device work.new).running (IsErrOf result WorkFault.Failed) }
+    ensures told { IfOk result (λ found. (w : World) → (W.device work.old).world ≡ Some w → IsTree w → IsNoted w.nodes place folder waiting.old waiting.new found) }
 {
     if folder {
         waiting.push(place)?;
@@ -50,8 +50,8 @@ fn look_in<W: Files>(
     waiting: &mut List<Place>,
     folder: &Place,
 ) -> Result<bool, WorkFault>
-    ensures looked { HasLooked W.act (W.world work.old) (W.world work.new) (W.faults work.old) (W.faults work.new) (W.running work.old) (W.running work.new) (IsErrOf result WorkFault.Failed) }
-    ensures told { IfOk result (λ found. (w : World) → W.world work.old ≡ Some w → IsTree w → (p : Path) → AreWaiting w.nodes p (waiting.old ++ folder.now ∷ [])
+    ensures looked { HasLooked W.act (W.device work.old).world (W.device work.new).world (W.device work.old).faults (W.device work.new).faults (W.device work.old).running (W.device work.new).running (IsErrOf result WorkFault.Failed) }
+    ensures told { IfOk result (λ found. (w : World) → (W.device work.old).world ≡ Some w → IsTree w → (p : Path) → AreWaiting w.nodes p (waiting.old ++ folder.now ∷ [])
         → Either found (HasGuard w.nodes p) (AreWaiting w.nodes p waiting.new)) }
 {
     let listing = work.list(alloc, folder)?;
@@ -71,8 +71,8 @@ pub(crate) fn has_guard<W: Files>(
     work: &mut W,
     folder: &Place,
 ) -> Result<bool, WorkFault>
-    ensures looked { HasLooked W.act (W.world work.old) (W.world work.new) (W.faults work.old) (W.faults work.new) (W.running work.old) (W.running work.new) (IsErrOf result WorkFault.Failed) }
-    ensures told { IfOk result (λ found. (w : World) → W.world work.old ≡ Some w → IsTree w → reads_folder (w.nodes folder.now) ≡ true → is_tellable folder.now ≡ true
+    ensures looked { HasLooked W.act (W.device work.old).world (W.device work.new).world (W.device work.old).faults (W.device work.new).faults (W.device work.old).running (W.device work.new).running (IsErrOf result WorkFault.Failed) }
+    ensures told { IfOk result (λ found. (w : World) → (W.device work.old).world ≡ Some w → IsTree w → reads_folder (w.nodes folder.now) ≡ true → is_tellable folder.now ≡ true
         → TellsGuard w.nodes folder.now found) }
 {
     let mut waiting = one(alloc, folder.copy(alloc)?)?;

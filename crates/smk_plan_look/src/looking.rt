@@ -37,10 +37,10 @@ fn sights_of<W: Files>(
     work: &mut W,
     paths: &BTreeSet<String>,
 ) -> Result<List<Sight>, WorkFault>
-    ensures looked { HasLooked W.act (W.world work.old) (W.world work.new) (W.faults work.old) (W.faults work.new) (W.running work.old) (W.running work.new) (IsErrOf result WorkFault.Failed) }
+    ensures looked { HasLooked W.act (W.device work.old).world (W.device work.new).world (W.device work.old).faults (W.device work.new).faults (W.device work.old).running (W.device work.new).running (IsErrOf result WorkFault.Failed) }
     ensures rising { IfOk result (λ sights. AreRising sights) }
     ensures paths { IfOk result (λ sights. are_paths sights ≡ filter is_path_text (texts_of paths.now.keys)) }
-    ensures told { IfOk result (λ sights. (w : World) → W.world work.old ≡ Some w → IsTree w → Each (λ s. IsSightOf w.nodes s.path s) sights) }
+    ensures told { IfOk result (λ sights. (w : World) → (W.device work.old).world ≡ Some w → IsTree w → Each (λ s. IsSightOf w.nodes s.path s) sights) }
 {
     let mut sights = List::new(alloc);
     for text in paths {
@@ -55,8 +55,8 @@ fn sights_of<W: Files>(
 
 // What is seen of the outputs and the sources.
 fn seen_of<W: Files>(alloc: Global, work: &mut W, jobs: &Jobs) -> Result<Seen, WorkFault>
-    ensures looked { HasLooked W.act (W.world work.old) (W.world work.new) (W.faults work.old) (W.faults work.new) (W.running work.old) (W.running work.new) (IsErrOf result WorkFault.Failed) }
-    ensures told { IfOk result (λ sights. (w : World) → W.world work.old ≡ Some w → IsTree w
+    ensures looked { HasLooked W.act (W.device work.old).world (W.device work.new).world (W.device work.old).faults (W.device work.new).faults (W.device work.old).running (W.device work.new).running (IsErrOf result WorkFault.Failed) }
+    ensures told { IfOk result (λ sights. (w : World) → (W.device work.old).world ≡ Some w → IsTree w
         → (read : Items ℕ → Option RecordValue) → IsSeenOf (seen read w) jobs.now sights) }
 {
     let paths = paths_in(alloc, jobs)?;
@@ -79,10 +79,10 @@ fn fault_of(fault: WorkFault) -> LookFault
 ///
 /// `Device`: a call of the device failed. `OutOfMemory`: there is no memory for what is found.
 pub fn look<W: Files>(alloc: Global, work: &mut W, jobs: &Jobs) -> Result<Seen, LookFault>
-    ensures looked { HasLooked W.act (W.world work.old) (W.world work.new) (W.faults work.old) (W.faults work.new) (W.running work.old) (W.running work.new) (IsErrOf result LookFault.Device) }
+    ensures looked { HasLooked W.act (W.device work.old).world (W.device work.new).world (W.device work.old).faults (W.device work.new).faults (W.device work.old).running (W.device work.new).running (IsErrOf result LookFault.Device) }
 
     // Each output and each source is seen as it stands in the folder.
-    ensures told { IfOk result (λ sights. (w : World) → W.world work.old ≡ Some w → IsTree w
+    ensures told { IfOk result (λ sights. (w : World) → (W.device work.old).world ≡ Some w → IsTree w
         → (read : Items ℕ → Option RecordValue) → IsSeenOf (seen read w) jobs.now sights) }
 {
     match seen_of(alloc, work, jobs) {

@@ -43,8 +43,8 @@ fn members_at<W: Files>(
     work: &mut W,
     path: &PathText,
 ) -> Result<Option<List<Member>>, WorkFault>
-    ensures looked { HasLooked W.act (W.world work.old) (W.world work.new) (W.faults work.old) (W.faults work.new) (W.running work.old) (W.running work.new) (IsErrOf result WorkFault.Failed) }
-    ensures told { IfOk result (λ members. (w : World) → W.world work.old ≡ Some w → IsTree w → reads_folder (w.nodes path.now) ≡ true → IsListedAs w.nodes path.now members) }
+    ensures looked { HasLooked W.act (W.device work.old).world (W.device work.new).world (W.device work.old).faults (W.device work.new).faults (W.device work.old).running (W.device work.new).running (IsErrOf result WorkFault.Failed) }
+    ensures told { IfOk result (λ members. (w : World) → (W.device work.old).world ≡ Some w → IsTree w → reads_folder (w.nodes path.now) ≡ true → IsListedAs w.nodes path.now members) }
 {
     let listed = members_of(alloc, work, path)?;
     Ok(members_in(listed))
@@ -59,9 +59,9 @@ fn folder_at<W: Files>(
     stat: Stat,
 ) -> Result<Sight, WorkFault>
     requires at { place.now ≡ path }
-    ensures looked { HasLooked W.act (W.world work.old) (W.world work.new) (W.faults work.old) (W.faults work.new) (W.running work.old) (W.running work.new) (IsErrOf result WorkFault.Failed) }
+    ensures looked { HasLooked W.act (W.device work.old).world (W.device work.new).world (W.device work.old).faults (W.device work.new).faults (W.device work.old).running (W.device work.new).running (IsErrOf result WorkFault.Failed) }
     ensures path { IfOk result (λ s. s.path ≡ path) }
-    ensures told { IfOk result (λ s. (w : World) → W.world work.old ≡ Some w → IsTree w → is_path_text path ≡ true → reads_folder (w.nodes path) ≡ true
+    ensures told { IfOk result (λ s. (w : World) → (W.device work.old).world ≡ Some w → IsTree w → is_path_text path ≡ true → reads_folder (w.nodes path) ≡ true
         → stat ≡ stat_of (reading (w.nodes path)) → IsSightOf w.nodes path s) }
 {
     let members = members_at(alloc, work, &path)?;
@@ -80,9 +80,9 @@ pub(crate) fn sight_at<W: Files>(
     work: &mut W,
     path: PathText,
 ) -> Result<Sight, WorkFault>
-    ensures looked { HasLooked W.act (W.world work.old) (W.world work.new) (W.faults work.old) (W.faults work.new) (W.running work.old) (W.running work.new) (IsErrOf result WorkFault.Failed) }
+    ensures looked { HasLooked W.act (W.device work.old).world (W.device work.new).world (W.device work.old).faults (W.device work.new).faults (W.device work.old).running (W.device work.new).running (IsErrOf result WorkFault.Failed) }
     ensures path { IfOk result (λ s. s.path ≡ path) }
-    ensures told { IfOk result (λ s. (w : World) → W.world work.old ≡ Some w → IsTree w → is_path_text path ≡ true → IsSightOf w.nodes path s) }
+    ensures told { IfOk result (λ s. (w : World) → (W.device work.old).world ≡ Some w → IsTree w → is_path_text path ≡ true → IsSightOf w.nodes path s) }
 {
     let place = Place::user(alloc, &path)?;
     let stat = work.stat(&place)?;

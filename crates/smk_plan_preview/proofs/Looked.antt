@@ -8,7 +8,7 @@ use Rattle.smk_world.specs.declared.event.Change.{Change}
 use Rattle.smk_world.specs.declared.event.Event.{Event}
 use Rattle.smk_world.specs.declared.event.NodeState.{NodeState}
 use Rattle.smk_world.specs.World.{World, after, run, names_after, add_names, reading}
-use Rattle.smk_world.specs.Calls.{Lets, HasCause}
+use Rattle.smk_world.specs.Calls.{Lets, IsCaused}
 use Rattle.smk_world.specs.Runs.{Did, Follows}
 use Rattle.smk_world.specs.Trees.{Path, Act}
 use Rattle.smk_record.specs.declared.record.Record.{Record}
@@ -54,7 +54,7 @@ pub store_to : {A : Type 0} (r : Result A StoreFault) (s : Result A Fault) → s
 store_to r s is h = ap device_failed (is ∙ ap (as_call of_store) h)
 
 pub store_looked : (act : Act) {A : Type 0} (r : Result A StoreFault) (s : Result A Fault) (a b : Option World) (fa fb : ℕ) (ra rb : List ℕ) → s ≡ as_call of_store r
-    → Did act a b (λ w es. AreLooks es) → (¬ (IsErrOf r store.Device) → IsSome a → IsSome b) → HasCause fa fb (IsErrOf r store.Device) → rb ≡ ra
+    → Did act a b (λ w es. AreLooks es) → (¬ (IsErrOf r store.Device) → IsSome a → IsSome b) → IsCaused fa fb (IsErrOf r store.Device) → rb ≡ ra
     → HasLooked act a b fa fb ra rb (device_failed s ≡ true)
 store_looked act r s a b fa fb ra rb is did stays cause same = record {
   did = did;
@@ -64,7 +64,7 @@ store_looked act r s a b fa fb ra rb is did stays cause same = record {
 }
 
 pub sight_looked : (act : Act) {A : Type 0} (r : Result A SightFault) (s : Result A Fault) (a b : Option World) (fa fb : ℕ) (ra rb : List ℕ) → s ≡ as_call of_sight r
-    → Did act a b (λ w es. AreLooks es) → (¬ (IsErrOf r sight.Device) → IsSome a → IsSome b) → HasCause fa fb (IsErrOf r sight.Device) → rb ≡ ra
+    → Did act a b (λ w es. AreLooks es) → (¬ (IsErrOf r sight.Device) → IsSome a → IsSome b) → IsCaused fa fb (IsErrOf r sight.Device) → rb ≡ ra
     → HasLooked act a b fa fb ra rb (device_failed s ≡ true)
 sight_looked act r s a b fa fb ra rb is did stays cause same = record {
   did = did;

@@ -36,11 +36,11 @@ fn chain_by<W: Files, Rt: Threads + Sync>(
     work: &mut W,
 ) -> Result<Round, Fault>
     requires { AreReadings flow.now readings.now }
-    ensures looked { HasLooked W.act (W.world work.old) (W.world work.new) (W.faults work.old) (W.faults work.new) (W.running work.old) (W.running work.new) (device_failed result ≡ true) }
+    ensures looked { HasLooked W.act (W.device work.old).world (W.device work.new).world (W.device work.old).faults (W.device work.new).faults (W.device work.old).running (W.device work.new).running (device_failed result ≡ true) }
     ensures no_sink { IfErr result (λ f. is_sink f ≡ false) }
     ensures fit { IfOk result (λ r. AreFit r.jobs) }
     ensures sound { IfOk result (AreSound flow.now settings.now) }
-    ensures told { (w : World) → W.world work.old ≡ Some w → IsTree w → (read : Items ℕ → Option RecordValue) → IsStoreOf (seen read w) store.now
+    ensures told { (w : World) → (W.device work.old).world ≡ Some w → IsTree w → (read : Items ℕ → Option RecordValue) → IsStoreOf (seen read w) store.now
         → spec.HasChain read flow.now settings.now (seen read w) result }
 {
     let mut lists = List::new(alloc);
@@ -64,11 +64,11 @@ pub(crate) fn chain<W: Files, Rt: Threads + Sync>(
     store: &Store,
     work: &mut W,
 ) -> Result<Round, Fault>
-    ensures looked { HasLooked W.act (W.world work.old) (W.world work.new) (W.faults work.old) (W.faults work.new) (W.running work.old) (W.running work.new) (device_failed result ≡ true) }
+    ensures looked { HasLooked W.act (W.device work.old).world (W.device work.new).world (W.device work.old).faults (W.device work.new).faults (W.device work.old).running (W.device work.new).running (device_failed result ≡ true) }
     ensures no_sink { IfErr result (λ f. is_sink f ≡ false) }
     ensures fit { IfOk result (λ r. AreFit r.jobs) }
     ensures sound { IfOk result (AreSound flow.now settings.now) }
-    ensures told { (w : World) → W.world work.old ≡ Some w → IsTree w → (read : Items ℕ → Option RecordValue) → IsStoreOf (seen read w) store.now
+    ensures told { (w : World) → (W.device work.old).world ≡ Some w → IsTree w → (read : Items ℕ → Option RecordValue) → IsStoreOf (seen read w) store.now
         → spec.HasChain read flow.now settings.now (seen read w) result }
 {
     match Readings::of(alloc, flow) {

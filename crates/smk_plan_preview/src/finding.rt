@@ -45,9 +45,9 @@ fn of_load(loaded: Result<Store, StoreFault>) -> Result<Store, Fault>
 
 /// The store as it stands.
 pub(crate) fn stored<W: Files>(alloc: Global, work: &mut W) -> Result<Store, Fault>
-    ensures looked { HasLooked W.act (W.world work.old) (W.world work.new) (W.faults work.old) (W.faults work.new) (W.running work.old) (W.running work.new) (device_failed result ≡ true) }
+    ensures looked { HasLooked W.act (W.device work.old).world (W.device work.new).world (W.device work.old).faults (W.device work.new).faults (W.device work.old).running (W.device work.new).running (device_failed result ≡ true) }
     ensures no_sink { IfErr result (λ f. is_sink f ≡ false) }
-    ensures told { IfOk result (λ store. (w : World) → W.world work.old ≡ Some w → IsTree w
+    ensures told { IfOk result (λ store. (w : World) → (W.device work.old).world ≡ Some w → IsTree w
         → (read : Items ℕ → Option RecordValue) → ReadsRecords read → IsStoreOf (seen read w) store) }
     ensures untold { IfErr result (λ f. is_told f ≡ false) }
 {
@@ -77,9 +77,9 @@ pub(crate) fn sighted<W: Files>(
     work: &mut W,
 ) -> Result<Sources, Fault>
     requires { AreReadings flow.now readings.now }
-    ensures looked { HasLooked W.act (W.world work.old) (W.world work.new) (W.faults work.old) (W.faults work.new) (W.running work.old) (W.running work.new) (device_failed result ≡ true) }
+    ensures looked { HasLooked W.act (W.device work.old).world (W.device work.new).world (W.device work.old).faults (W.device work.new).faults (W.device work.old).running (W.device work.new).running (device_failed result ≡ true) }
     ensures no_sink { IfErr result (λ f. is_sink f ≡ false) }
-    ensures told { (w : World) → W.world work.old ≡ Some w → IsTree w → (read : Items ℕ → Option RecordValue) → IsStoreOf (seen read w) store.now
+    ensures told { (w : World) → (W.device work.old).world ≡ Some w → IsTree w → (read : Items ℕ → Option RecordValue) → IsStoreOf (seen read w) store.now
         → spec.Sights flow.now targets.now lists.now (seen read w) result }
 {
     let found = sight(alloc, flow, readings, store, lists, targets, work);
@@ -156,9 +156,9 @@ fn of_seen(seen: Result<Seen, LookFault>) -> Result<Seen, Fault>
 
 /// What stands at the outputs and the sources of the jobs.
 pub(crate) fn looked<W: Files>(alloc: Global, work: &mut W, jobs: &Jobs) -> Result<Seen, Fault>
-    ensures looked { HasLooked W.act (W.world work.old) (W.world work.new) (W.faults work.old) (W.faults work.new) (W.running work.old) (W.running work.new) (device_failed result ≡ true) }
+    ensures looked { HasLooked W.act (W.device work.old).world (W.device work.new).world (W.device work.old).faults (W.device work.new).faults (W.device work.old).running (W.device work.new).running (device_failed result ≡ true) }
     ensures no_sink { IfErr result (λ f. is_sink f ≡ false) }
-    ensures told { IfOk result (λ sights. (w : World) → W.world work.old ≡ Some w → IsTree w
+    ensures told { IfOk result (λ sights. (w : World) → (W.device work.old).world ≡ Some w → IsTree w
         → (read : Items ℕ → Option RecordValue) → IsSeenOf (seen read w) jobs.now sights) }
     ensures untold { IfErr result (λ f. is_told f ≡ false) }
 {

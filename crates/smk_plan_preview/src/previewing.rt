@@ -46,9 +46,9 @@ fn preview_stored<W: Files, Rt: Threads + Sync>(
     store: Store,
     work: &mut W,
 ) -> Result<Previewed, Fault>
-    ensures looked { HasLooked W.act (W.world work.old) (W.world work.new) (W.faults work.old) (W.faults work.new) (W.running work.old) (W.running work.new) (device_failed result ≡ true) }
+    ensures looked { HasLooked W.act (W.device work.old).world (W.device work.new).world (W.device work.old).faults (W.device work.new).faults (W.device work.old).running (W.device work.new).running (device_failed result ≡ true) }
     ensures no_sink { IfErr result (λ f. is_sink f ≡ false) }
-    ensures told { (w : World) → W.world work.old ≡ Some w → IsTree w → (read : Items ℕ → Option RecordValue) → IsStoreOf (seen read w) store
+    ensures told { (w : World) → (W.device work.old).world ≡ Some w → IsTree w → (read : Items ℕ → Option RecordValue) → IsStoreOf (seen read w) store
         → HasPreviewed read flow.now settings.now (seen read w) result }
     ensures fit { IfOk result (λ p. AreFit p.jobs) }
     ensures lengths { IfOk result (λ p. HasLengths p.jobs settings.now p.plan) }
@@ -72,9 +72,9 @@ fn preview_all<W: Files, Rt: Threads + Sync>(
     settings: &Settings,
     work: &mut W,
 ) -> Result<Previewed, Fault>
-    ensures looked { HasLooked W.act (W.world work.old) (W.world work.new) (W.faults work.old) (W.faults work.new) (W.running work.old) (W.running work.new) (device_failed result ≡ true) }
+    ensures looked { HasLooked W.act (W.device work.old).world (W.device work.new).world (W.device work.old).faults (W.device work.new).faults (W.device work.old).running (W.device work.new).running (device_failed result ≡ true) }
     ensures no_sink { IfErr result (λ f. is_sink f ≡ false) }
-    ensures told { (w : World) → W.world work.old ≡ Some w → IsTree w → (read : Items ℕ → Option RecordValue) → ReadsRecords read
+    ensures told { (w : World) → (W.device work.old).world ≡ Some w → IsTree w → (read : Items ℕ → Option RecordValue) → ReadsRecords read
         → HasPreviewed read flow.now settings.now (seen read w) result }
     ensures fit { IfOk result (λ p. AreFit p.jobs) }
     ensures lengths { IfOk result (λ p. HasLengths p.jobs settings.now p.plan) }
@@ -97,9 +97,9 @@ pub fn preview<W: Files, Rt: Threads + Sync>(
     settings: &Settings,
     work: &mut W,
 ) -> Result<Previewed, Fault>
-    ensures looked { HasLooked W.act (W.world work.old) (W.world work.new) (W.faults work.old) (W.faults work.new) (W.running work.old) (W.running work.new) (device_failed result ≡ true) }
+    ensures looked { HasLooked W.act (W.device work.old).world (W.device work.new).world (W.device work.old).faults (W.device work.new).faults (W.device work.old).running (W.device work.new).running (device_failed result ≡ true) }
     ensures no_sink { IfErr result (λ f. is_sink f ≡ false) }
-    ensures told { (w : World) → W.world work.old ≡ Some w → IsTree w → (read : Items ℕ → Option RecordValue) → ReadsRecords read
+    ensures told { (w : World) → (W.device work.old).world ≡ Some w → IsTree w → (read : Items ℕ → Option RecordValue) → ReadsRecords read
         → HasPreviewed read flow.now settings.now (seen read w) result }
 
     // What holds of the jobs whatever the folder is.

@@ -115,11 +115,11 @@ fn plan_jobs<W: Files, Rt: Threads + Sync>(
     jobs: Jobs,
     work: &mut W,
 ) -> Result<Round, Fault>
-    ensures looked { HasLooked W.act (W.world work.old) (W.world work.new) (W.faults work.old) (W.faults work.new) (W.running work.old) (W.running work.new) (device_failed result ≡ true) }
+    ensures looked { HasLooked W.act (W.device work.old).world (W.device work.new).world (W.device work.old).faults (W.device work.new).faults (W.device work.old).running (W.device work.new).running (device_failed result ≡ true) }
     ensures no_sink { IfErr result (λ f. is_sink f ≡ false) }
     ensures jobs { IfOk result (λ r. r.jobs ≡ jobs) }
     ensures sound { IfOk result (AreSound flow.now settings.now) }
-    ensures told { (w : World) → W.world work.old ≡ Some w → IsTree w → (read : Items ℕ → Option RecordValue) → IsStoreOf (seen read w) store.now
+    ensures told { (w : World) → (W.device work.old).world ≡ Some w → IsTree w → (read : Items ℕ → Option RecordValue) → IsStoreOf (seen read w) store.now
         → spec.AreReady flow.now settings.now.targets jobs.lists (seen read w) jobs → spec.HasRound read flow.now settings.now (seen read w) jobs.lists result }
 {
     match looked(alloc, work, &jobs) {
@@ -141,12 +141,12 @@ fn plan_sources<W: Files, Rt: Threads + Sync>(
     work: &mut W,
 ) -> Result<Round, Fault>
     requires { AreReadings flow.now readings.now }
-    ensures looked { HasLooked W.act (W.world work.old) (W.world work.new) (W.faults work.old) (W.faults work.new) (W.running work.old) (W.running work.new) (device_failed result ≡ true) }
+    ensures looked { HasLooked W.act (W.device work.old).world (W.device work.new).world (W.device work.old).faults (W.device work.new).faults (W.device work.old).running (W.device work.new).running (device_failed result ≡ true) }
     ensures no_sink { IfErr result (λ f. is_sink f ≡ false) }
     ensures lists { IfOk result (λ r. r.jobs.lists ≡ lists.now) }
     ensures fit { IfOk result (λ r. AreFit r.jobs) }
     ensures sound { IfOk result (AreSound flow.now settings.now) }
-    ensures told { (w : World) → W.world work.old ≡ Some w → IsTree w → (read : Items ℕ → Option RecordValue) → IsStoreOf (seen read w) store.now
+    ensures told { (w : World) → (W.device work.old).world ≡ Some w → IsTree w → (read : Items ℕ → Option RecordValue) → IsStoreOf (seen read w) store.now
         → ListsKnown (seen read w) → spec.IsSighted flow.now settings.now.targets lists.now (seen read w) sources.now
         → spec.HasRound read flow.now settings.now (seen read w) lists.now result }
 {
@@ -176,12 +176,12 @@ pub(crate) fn make_round<W: Files, Rt: Threads + Sync>(
     work: &mut W,
 ) -> Result<Round, Fault>
     requires { AreReadings flow.now readings.now }
-    ensures looked { HasLooked W.act (W.world work.old) (W.world work.new) (W.faults work.old) (W.faults work.new) (W.running work.old) (W.running work.new) (device_failed result ≡ true) }
+    ensures looked { HasLooked W.act (W.device work.old).world (W.device work.new).world (W.device work.old).faults (W.device work.new).faults (W.device work.old).running (W.device work.new).running (device_failed result ≡ true) }
     ensures no_sink { IfErr result (λ f. is_sink f ≡ false) }
     ensures lists { IfOk result (λ r. r.jobs.lists ≡ lists.now) }
     ensures fit { IfOk result (λ r. AreFit r.jobs) }
     ensures sound { IfOk result (AreSound flow.now settings.now) }
-    ensures told { (w : World) → W.world work.old ≡ Some w → IsTree w → (read : Items ℕ → Option RecordValue) → IsStoreOf (seen read w) store.now
+    ensures told { (w : World) → (W.device work.old).world ≡ Some w → IsTree w → (read : Items ℕ → Option RecordValue) → IsStoreOf (seen read w) store.now
         → spec.HasRound read flow.now settings.now (seen read w) lists.now result }
 {
     match sighted(alloc, flow, readings, &settings.targets, lists, store, work) {

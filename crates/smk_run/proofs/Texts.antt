@@ -2,7 +2,7 @@
 use Rattle.std.proofs.Common.{◌≡◌, ℕ, Bool, true, false, [], ◌++◌, take, drop, length, refl, ap, sym, subst, ◌∙◌, Option, Result, Ok, Err, arith, append_assoc}
 use Rattle.std.specs.Prelude.{IsSome}
 use Rattle.std.proofs.lemmas.List.{append-nil, take_all, take-append-drop}
-use Rattle.smk_world.specs.Calls.{HasPut}
+use Rattle.smk_world.specs.Calls.{ArePut}
 use Rattle.smk_world.specs.declared.event.WorkFault.{WorkFault}
 use Rattle.smk_report.specs.Lines.{Text, Named, start_line}
 use Rattle.smk_run.specs.declared.ending.Ending.{Ending}
@@ -26,7 +26,7 @@ all_taken n text h = take_all n text (omega arith)
 
 -- the start's line wasn't put whole
 pub untold_text : (name : Named) (closed : Result Ending WorkFault) (line : Text) (old new : Option Text) (well : Type 0)
-    → line ≡ start_line name → HasPut old new line false → (well → ⊥) → HasWritten old new well (IsReport false (course_text name (course_of closed)))
+    → line ≡ start_line name → ArePut old new line false → (well → ⊥) → HasWritten old new well (IsReport false (course_text name (course_of closed)))
 untold_text name closed line old new well is put never = record {
   told = λ now e. let h = put.told now e in (h.0, h.1, (take h.2.0 line, start_front name closed (take h.2.0 line) (subst (λ l. IsFront (take h.2.0 line) l) is (front_of h.2.0 line)), h.2.3));
   stays = λ h some. absurd (never h);
@@ -34,7 +34,7 @@ untold_text name closed line old new well is put never = record {
 
 -- the start's line alone is due, and was put
 pub started_text : (name : Named) (whole : Bool) (line : Text) (old new : Option Text) (well : Type 0)
-    → line ≡ start_line name → HasPut old new line true → HasWritten old new well (IsReport whole (start_line name))
+    → line ≡ start_line name → ArePut old new line true → HasWritten old new well (IsReport whole (start_line name))
 started_text name whole line old new well is put = record {
   told = λ now e.
       let h = put.told now e in
@@ -58,7 +58,7 @@ ended_text_is name ending false n all = (
 
 -- the start's line was put, and then the end's or a front of it
 pub ended_text : (name : Named) (ending : Ending) (whole : Bool) (line : Text) (old mid new : Option Text) (well : Type 0)
-    → line ≡ start_line name → HasPut old mid line true → HasPut mid new (end_line name ending) whole → (well → IsSome mid → IsSome new)
+    → line ≡ start_line name → ArePut old mid line true → ArePut mid new (end_line name ending) whole → (well → IsSome mid → IsSome new)
     → HasWritten old new well (IsReport whole (course_text name (Closed ending)))
 ended_text name ending whole line old mid new well is first second stays = record {
   told = λ now e.

@@ -1,6 +1,6 @@
 //! A job is closed whose child runs.
 
-ghost use Rattle.std.specs.Prelude.{◌≡◌, ◌∷◌, [], false, true, IsSome};
+ghost use Rattle.std.specs.Prelude.{◌≡◌, ◌∷◌, [], false, IsSome};
 ghost use Rattle.smk_world.specs.Calls.{HasCause, Rose};
 ghost use Rattle.smk_world.specs.Runs.{Did};
 ghost use Rattle.smk_run.specs.Statuses.{AreGiven};
@@ -32,11 +32,11 @@ fn settle<W: Crew>(
     going: Going,
     status: u32,
 ) -> Result<Ending, WorkFault>
-    requires none_runs { W.running work.old ≡ [] }
-    ensures did { Did W.act (W.world work.old) (W.world work.new) (λ w es. HasSettled going result status w es) }
-    ensures stays { device_failed result ≡ false → IsSome (W.world work.old) → IsSome (W.world work.new) }
-    ensures cause { HasCause (W.faults work.old) (W.faults work.new) (device_failed result ≡ true) }
-    ensures running { W.running work.new ≡ W.running work.old }
+    requires none_runs { (W.device work.old).running ≡ [] }
+    ensures did { Did W.act (W.device work.old).world (W.device work.new).world (λ w es. HasSettled going result status w es) }
+    ensures stays { device_failed result ≡ false → IsSome (W.device work.old).world → IsSome (W.device work.new).world }
+    ensures cause { HasCause (W.device work.old).faults (W.device work.new).faults (device_failed result) }
+    ensures running { (W.device work.new).running ≡ (W.device work.old).running }
 {
     if status == 0 {
         let closed = finish(alloc, work, going);
@@ -51,12 +51,12 @@ fn settle<W: Crew>(
 
 // Waits for the job's child, and closes the job by its status.
 pub(crate) fn close<W: Crew>(alloc: Global, work: &mut W, going: Going) -> Result<Ending, WorkFault>
-    requires one_runs { W.running work.old ≡ going.number ∷ [] }
-    ensures did { Did W.act (W.world work.old) (W.world work.new) (λ w es. HasClosed going result w es) }
-    ensures given { Did W.act (W.world work.old) (W.world work.new) (AreGiven W.act (Rose (W.faults work.old) (W.faults work.new))) }
-    ensures stays { device_failed result ≡ false → IsSome (W.world work.old) → IsSome (W.world work.new) }
-    ensures cause { HasCause (W.faults work.old) (W.faults work.new) (device_failed result ≡ true) }
-    ensures running { device_failed result ≡ false → W.running work.new ≡ [] }
+    requires one_runs { (W.device work.old).running ≡ going.number ∷ [] }
+    ensures did { Did W.act (W.device work.old).world (W.device work.new).world (λ w es. HasClosed going result w es) }
+    ensures given { Did W.act (W.device work.old).world (W.device work.new).world (AreGiven W.act (Rose (W.device work.old).faults (W.device work.new).faults)) }
+    ensures stays { device_failed result ≡ false → IsSome (W.device work.old).world → IsSome (W.device work.new).world }
+    ensures cause { HasCause (W.device work.old).faults (W.device work.new).faults (device_failed result) }
+    ensures running { device_failed result ≡ false → (W.device work.new).running ≡ [] }
 {
     let Ok(ended) = work.wait() else {
         return Err(WorkFault::Failed);

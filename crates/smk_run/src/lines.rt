@@ -1,7 +1,7 @@
 //! The names and the lines of jobs.
 
-ghost use Rattle.std.specs.Prelude.{◌≡◌, ◌⊎◌, ◌++◌, map, IfOk, IfErr, IsErr, IsSome, OnOk, is_ok, false, true, option_map, string_bytes, codes, decimal};
-ghost use Rattle.smk_world.specs.Calls.{HasPut, HasCause};
+ghost use Rattle.std.specs.Prelude.{◌≡◌, ◌⊎◌, ◌++◌, map, IfOk, IfErr, IsSome, OnOk, is_ok, false, option_map, string_bytes, codes, decimal, is_err};
+ghost use Rattle.smk_world.specs.Calls.{ArePut, HasCause};
 ghost use Rattle.smk_world.specs.Trees.{first};
 ghost use Rattle.smk_world.specs.World.{out_paths};
 ghost use Rattle.smk_run.specs.Reports.{end_line, is_output};
@@ -38,9 +38,9 @@ pub(crate) fn first_output(job: &Job) -> Option<&PathText>
 
 /// Puts the text, and hands it on.
 pub(crate) fn write_out<O: Sink>(out: &mut O, text: &Text) -> Result<(), Failed>
-    ensures put { HasPut (O.put_so_far out.old) (O.put_so_far out.new) text.now (is_ok result) }
-    ensures cause { HasCause (O.faults out.old) (O.faults out.new) (IsErr result) }
-    ensures quiet { OnOk result (O.faults out.new ≡ O.faults out.old) }
+    ensures put { ArePut (O.sunk out.old).put (O.sunk out.new).put text.now (is_ok result) }
+    ensures cause { HasCause (O.sunk out.old).faults (O.sunk out.new).faults (is_err result) }
+    ensures quiet { OnOk result ((O.sunk out.new).faults ≡ (O.sunk out.old).faults) }
 {
     out.put(text.as_str().as_bytes())?;
     out.flush()
@@ -99,10 +99,10 @@ pub(crate) fn tell_end<O: Sink>(
     ending: &Ending,
     out: &mut O,
 ) -> Result<(), Stop>
-    ensures put { HasPut (O.put_so_far out.old) (O.put_so_far out.new) (end_line (record { rule = rule.now; path = path.now }) ending.now) (is_ok result) }
-    ensures stays { is_output result ≡ false → IsSome (O.put_so_far out.old) → IsSome (O.put_so_far out.new) }
-    ensures cause { HasCause (O.faults out.old) (O.faults out.new) (is_output result ≡ true) }
-    ensures quiet { is_output result ≡ false → O.faults out.new ≡ O.faults out.old }
+    ensures put { ArePut (O.sunk out.old).put (O.sunk out.new).put (end_line (record { rule = rule.now; path = path.now }) ending.now) (is_ok result) }
+    ensures stays { is_output result ≡ false → IsSome (O.sunk out.old).put → IsSome (O.sunk out.new).put }
+    ensures cause { HasCause (O.sunk out.old).faults (O.sunk out.new).faults (is_output result) }
+    ensures quiet { is_output result ≡ false → (O.sunk out.new).faults ≡ (O.sunk out.old).faults }
     ensures faults { IfErr result (λ s. (s ≡ stop.Output) ⊎ (s ≡ stop.OutOfMemory)) }
 {
     let text = end_line(alloc, rule, path, ending)?;

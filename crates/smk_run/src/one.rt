@@ -56,14 +56,14 @@ fn attend<W: Crew, O: Sink>(
     work: &mut W,
     out: &mut O,
 ) -> Result<Ending, Stop>
-    requires one_runs { W.running work.old ≡ going.number ∷ [] }
+    requires one_runs { (W.device work.old).running ≡ going.number ∷ [] }
     requires line { line.now ≡ start_line (record { rule = rule.now; path = path.now }) }
-    ensures run { HasTurned W.act (HasGoneOn going) (record { rule = rule.now; path = path.now }) None result (W.world work.old) (W.world work.new)
-        (Rose (W.faults work.old) (W.faults work.new)) (W.running work.new) (O.put_so_far out.old) (O.put_so_far out.new) }
+    ensures run { HasTurned W.act (HasGoneOn going) (record { rule = rule.now; path = path.now }) None result (W.device work.old).world (W.device work.new).world
+        (Rose (W.device work.old).faults (W.device work.new).faults) (W.device work.new).running (O.sunk out.old).put (O.sunk out.new).put }
     ensures never { (p : Path) → result ≢ Err (stop.Gone p) }
-    ensures cause { HasCause (W.faults work.old) (W.faults work.new) (is_device result ≡ true) }
-    ensures output { HasCause (O.faults out.old) (O.faults out.new) (is_output result ≡ true) }
-    ensures quiet { is_output result ≡ false → O.faults out.new ≡ O.faults out.old }
+    ensures cause { HasCause (W.device work.old).faults (W.device work.new).faults (is_device result) }
+    ensures output { HasCause (O.sunk out.old).faults (O.sunk out.new).faults (is_output result) }
+    ensures quiet { is_output result ≡ false → (O.sunk out.new).faults ≡ (O.sunk out.old).faults }
 {
     let told = write_out(out, line);
     let closed = close(alloc, work, going);
@@ -99,17 +99,17 @@ pub fn run_one<W: Crew, O: Sink>(
     work: &mut W,
     out: &mut O,
 ) -> Result<Ending, Stop>
-    requires none_runs { W.running work.old ≡ [] }
+    requires none_runs { (W.device work.old).running ≡ [] }
     requires each_stamped { length stamps.now ≡ length (in_paths job.now.recipe) }
     requires valid { Each (λ p. is_valid (record_of p made job.now.recipe stamps.now []) ≡ true) (out_paths job.now.recipe) }
     requires apart { are_apart (owned_paths job.now.recipe job.now.logs) ≡ true }
     requires makes { out_paths job.now.recipe ≢ [] }
     ensures run { HasTurned W.act (as_gone job.now command.now made stamps.now) (named flow.now job.now) (too_long made job.now.recipe stamps.now) result
-        (W.world work.old) (W.world work.new) (Rose (W.faults work.old) (W.faults work.new)) (W.running work.new) (O.put_so_far out.old) (O.put_so_far out.new) }
+        (W.device work.old).world (W.device work.new).world (Rose (W.device work.old).faults (W.device work.new).faults) (W.device work.new).running (O.sunk out.old).put (O.sunk out.new).put }
     ensures never { (p : Path) → result ≢ Err (stop.Gone p) }
-    ensures cause { HasCause (W.faults work.old) (W.faults work.new) (is_device result ≡ true) }
-    ensures output { HasCause (O.faults out.old) (O.faults out.new) (is_output result ≡ true) }
-    ensures quiet { is_output result ≡ false → O.faults out.new ≡ O.faults out.old }
+    ensures cause { HasCause (W.device work.old).faults (W.device work.new).faults (is_device result) }
+    ensures output { HasCause (O.sunk out.old).faults (O.sunk out.new).faults (is_output result) }
+    ensures quiet { is_output result ≡ false → (O.sunk out.new).faults ≡ (O.sunk out.old).faults }
 {
     let rule = rule_name(flow, job.rule);
     let Some(path) = first_output(job) else {

@@ -39,17 +39,17 @@ fn take<W: Crew, O: Sink>(
     work: &mut W,
     out: &mut O,
 ) -> Result<Ending, Stop>
-    requires none_runs { W.running work.old ≡ [] }
+    requires none_runs { (W.device work.old).running ≡ [] }
     requires below { Each (λ p. IsBelow made (number_at serials.now p)) (in_paths job.now.recipe) }
     requires positive { 1 ≤ made }
     requires makes { out_paths job.now.recipe ≢ [] }
     requires apart { are_apart (owned_paths job.now.recipe job.now.logs) ≡ true }
     requires wildcards { are_rising (map (λ (w : Pair). w.name) job.now.recipe.wildcards) ≡ true }
-    ensures run { HasTaken W.act flow.now (number_at serials.now) job.now command.now made result (W.world work.old) (W.world work.new)
-        (Rose (W.faults work.old) (W.faults work.new)) (W.running work.new) (O.put_so_far out.old) (O.put_so_far out.new) }
-    ensures cause { HasCause (W.faults work.old) (W.faults work.new) (one.is_device result ≡ true) }
-    ensures output { HasCause (O.faults out.old) (O.faults out.new) (one.is_output result ≡ true) }
-    ensures quiet { one.is_output result ≡ false → O.faults out.new ≡ O.faults out.old }
+    ensures run { HasTaken W.act flow.now (number_at serials.now) job.now command.now made result (W.device work.old).world (W.device work.new).world
+        (Rose (W.device work.old).faults (W.device work.new).faults) (W.device work.new).running (O.sunk out.old).put (O.sunk out.new).put }
+    ensures cause { HasCause (W.device work.old).faults (W.device work.new).faults (one.is_device result) }
+    ensures output { HasCause (O.sunk out.old).faults (O.sunk out.new).faults (one.is_output result) }
+    ensures quiet { one.is_output result ≡ false → (O.sunk out.new).faults ≡ (O.sunk out.old).faults }
 {
     let Ok(paths) = input_paths(alloc, job.recipe.inputs.as_slice()) else {
         return Err(Stop::OutOfMemory);
@@ -74,18 +74,18 @@ fn turn<W: Crew, O: Sink>(
     work: &mut W,
     out: &mut O,
 ) -> Result<Option<Fault>, Fault>
-    requires none_runs { W.running work.old ≡ [] }
+    requires none_runs { (W.device work.old).running ≡ [] }
     requires below { Each (λ p. IsBelow made (number_at serials.now p)) (in_paths job.now.recipe) }
     requires positive { 1 ≤ made }
     requires makes { out_paths job.now.recipe ≢ [] }
     requires apart { are_apart (owned_paths job.now.recipe job.now.logs) ≡ true }
     requires wildcards { are_rising (map (λ (w : Pair). w.name) job.now.recipe.wildcards) ≡ true }
     requires good { job_fault flow.now cores job.now ≡ None }
-    ensures run { HasHadTurn W.act flow.now (number_at serials.now) job.now (command_of cores job.now) made result (W.world work.old) (W.world work.new)
-        (Rose (W.faults work.old) (W.faults work.new)) (W.running work.new) (O.put_so_far out.old) (O.put_so_far out.new) }
-    ensures cause { HasCause (W.faults work.old) (W.faults work.new) (is_device result ≡ true) }
-    ensures output { HasCause (O.faults out.old) (O.faults out.new) (is_output result ≡ true) }
-    ensures quiet { is_output result ≡ false → O.faults out.new ≡ O.faults out.old }
+    ensures run { HasHadTurn W.act flow.now (number_at serials.now) job.now (command_of cores job.now) made result (W.device work.old).world (W.device work.new).world
+        (Rose (W.device work.old).faults (W.device work.new).faults) (W.device work.new).running (O.sunk out.old).put (O.sunk out.new).put }
+    ensures cause { HasCause (W.device work.old).faults (W.device work.new).faults (is_device result) }
+    ensures output { HasCause (O.sunk out.old).faults (O.sunk out.new).faults (is_output result) }
+    ensures quiet { is_output result ≡ false → (O.sunk out.new).faults ≡ (O.sunk out.old).faults }
 {
     see_outputs(job.recipe.outputs.as_slice());
     see_paths(job.logs.as_slice());
@@ -147,13 +147,13 @@ pub(crate) fn run_all<W: Crew, O: Sink>(
     work: &mut W,
     out: &mut O,
 ) -> Result<Tally, Fault>
-    requires none_runs { W.running work.old ≡ [] }
+    requires none_runs { (W.device work.old).running ≡ [] }
     requires ready { Each (IsReady flow.now cores (number_at made.now)) (due_from (serial_in serials.now) 0 duties.now jobs.now) }
-    ensures run { HasRun W.act flow.now cores (due_from (serial_in serials.now) 0 duties.now jobs.now) (number_at made.now) result (W.world work.old) (W.world work.new)
-        (Rose (W.faults work.old) (W.faults work.new)) (W.running work.new) (O.put_so_far out.old) (O.put_so_far out.new) }
-    ensures cause { HasCause (W.faults work.old) (W.faults work.new) (is_device result ≡ true) }
-    ensures output { HasCause (O.faults out.old) (O.faults out.new) (is_output result ≡ true) }
-    ensures quiet { is_output result ≡ false → O.faults out.new ≡ O.faults out.old }
+    ensures run { HasRun W.act flow.now cores (due_from (serial_in serials.now) 0 duties.now jobs.now) (number_at made.now) result (W.device work.old).world (W.device work.new).world
+        (Rose (W.device work.old).faults (W.device work.new).faults) (W.device work.new).running (O.sunk out.old).put (O.sunk out.new).put }
+    ensures cause { HasCause (W.device work.old).faults (W.device work.new).faults (is_device result) }
+    ensures output { HasCause (O.sunk out.old).faults (O.sunk out.new).faults (is_output result) }
+    ensures quiet { is_output result ≡ false → (O.sunk out.new).faults ≡ (O.sunk out.old).faults }
 {
     let mut done = 0;
     for (number, job) in jobs.iter().enumerate() {

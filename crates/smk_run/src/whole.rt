@@ -1,6 +1,6 @@
 //! All jobs, one after another.
 
-ghost use Rattle.std.specs.Prelude.{◌≡◌, [], true, false};
+ghost use Rattle.std.specs.Prelude.{◌≡◌, [], false};
 ghost use Rattle.smk_world.specs.Calls.{HasCause, Rose};
 ghost use Rattle.smk_plan.specs.Duties.{IsOld, AreServable};
 ghost use Rattle.smk_run.specs.Duties.{due, serials};
@@ -40,16 +40,16 @@ pub fn run_jobs<W: Crew, O: Sink>(
     work: &mut W,
     out: &mut O,
 ) -> Result<Tally, Fault>
-    requires none_runs { W.running work.old ≡ [] }
+    requires none_runs { (W.device work.old).running ≡ [] }
     requires runnable { AreRunnable jobs.now }
     requires positive { IsOld first 0 }
     requires servable { AreServable first jobs.now duties.now }
     requires good { AreGood flow.now cores (due first duties.now jobs.now.jobs) }
-    ensures run { HasRun W.act flow.now cores (due first duties.now jobs.now.jobs) (serials jobs.now.makers first duties.now) result (W.world work.old) (W.world work.new)
-        (Rose (W.faults work.old) (W.faults work.new)) (W.running work.new) (O.put_so_far out.old) (O.put_so_far out.new) }
-    ensures cause { HasCause (W.faults work.old) (W.faults work.new) (is_device result ≡ true) }
-    ensures output { HasCause (O.faults out.old) (O.faults out.new) (is_output result ≡ true) }
-    ensures quiet { is_output result ≡ false → O.faults out.new ≡ O.faults out.old }
+    ensures run { HasRun W.act flow.now cores (due first duties.now jobs.now.jobs) (serials jobs.now.makers first duties.now) result (W.device work.old).world (W.device work.new).world
+        (Rose (W.device work.old).faults (W.device work.new).faults) (W.device work.new).running (O.sunk out.old).put (O.sunk out.new).put }
+    ensures cause { HasCause (W.device work.old).faults (W.device work.new).faults (is_device result) }
+    ensures output { HasCause (O.sunk out.old).faults (O.sunk out.new).faults (is_output result) }
+    ensures quiet { is_output result ≡ false → (O.sunk out.new).faults ≡ (O.sunk out.old).faults }
 {
     let Ok(serials) = serials_of(alloc, first, duties.as_slice()) else {
         return Err(Fault::OutOfMemory);

@@ -3,7 +3,7 @@ use native.Mathlib.Omega.{arith}
 use Rattle.std.proofs.Common.{◌≡◌, ◌⊎◌, ◌≤◌, ℕ, Bool, true, false, List, [], inl, inr, refl, sym, ap, ◌∙◌, Option, Some, None, Result, Ok, Err, true≢false}
 use Rattle.std.specs.Prelude.{IsSome, IfErr, IsOk}
 use Rattle.smk_world.specs.World.{World}
-use Rattle.smk_world.specs.Calls.{HasCause, Rose}
+use Rattle.smk_world.specs.Calls.{HasCause, IsCaused, Rose}
 use Rattle.smk_report.specs.declared.fault.Fault.{Fault}
 use Rattle.smk_report.specs.declared.fault.Fault.TheVariants as fault
 use Rattle.smk_cli_entry.specs.Faults.{is_device, is_sink, device_failed}
@@ -11,10 +11,17 @@ use Rattle.smk_run.specs.Runs as run
 use Rattle.smk_serve.specs.Ends.{HasEnded, sink_failed}
 use Rattle.smk_serve.proofs.SameKinds.{device_as, output_as}
 
-pub cause_as : (a b : ℕ) (F G : Type 0) → (G → F) → HasCause a b F → HasCause a b G
+pub cause_as : (a b : ℕ) (F G : Bool) → (G ≡ true → F ≡ true) → HasCause a b F → HasCause a b G
 cause_as a b F G back h = record { later = h.later; rose = λ g. h.rose (back g) }
 
-pub no_cause : (a : ℕ) (F : Type 0) → ¬ F → HasCause a a F
+-- from a failure that a type tells
+pub cause_of : (a b : ℕ) (F : Type 0) (G : Bool) → (G ≡ true → F) → IsCaused a b F → HasCause a b G
+cause_of a b F G back h = record { later = h.later; rose = λ g. h.rose (back g) }
+
+pub caused_as : (a b : ℕ) (F : Bool) (G : Type 0) → (G → F ≡ true) → HasCause a b F → IsCaused a b G
+caused_as a b F G back h = record { later = h.later; rose = λ g. h.rose (back g) }
+
+pub no_cause : (a : ℕ) (F : Bool) → ¬ (F ≡ true) → HasCause a a F
 no_cause a F never = record { later = omega arith; rose = λ f. absurd (never f) }
 
 further : (a b c : ℕ) → a ≤ b → Rose b c → Rose a c
@@ -26,11 +33,11 @@ unless_rose P a b c le (inl p) = inl p
 unless_rose P a b c le (inr r) = inr (further a b c le r)
 
 -- a fault of a step that puts nothing
-pub early : (f : Fault) (a b : Option World) (fa fb : ℕ) (ra rb : List ℕ) (o : ℕ) → HasCause fa fb (is_device f ≡ true) → (is_device f ≡ false → IsSome a → IsSome b) → rb ≡ ra → ra ≡ [] → is_sink f ≡ false
+pub early : (f : Fault) (a b : Option World) (fa fb : ℕ) (ra rb : List ℕ) (o : ℕ) → HasCause fa fb (is_device f) → (is_device f ≡ false → IsSome a → IsSome b) → rb ≡ ra → ra ≡ [] → is_sink f ≡ false
     → HasEnded (Err f) a b fa fb rb o o
 early f a b fa fb ra rb o cause stays same none quiet = record {
   device = cause;
-  output = no_cause o (is_sink f ≡ true) (λ e. true≢false (sym e ∙ quiet));
+  output = no_cause o (is_sink f) (λ e. true≢false (sym e ∙ quiet));
   quiet = λ e. refl;
   children = inl (same ∙ none);
   stays = by_kind (is_device f) refl;
@@ -55,11 +62,11 @@ later_on r a b c fa fb fc running o p le first h = record {
 }
 
 -- the end of a part, by the kinds of its faults
-pub ended_of : (r : Result (Unit {0}) Fault) (old new : Option World) (fa fb : ℕ) (running : List ℕ) (o p : ℕ) → HasCause fa fb (run.is_device r ≡ true) → HasCause o p (run.is_output r ≡ true) → (run.is_output r ≡ false → p ≡ o)
+pub ended_of : (r : Result (Unit {0}) Fault) (old new : Option World) (fa fb : ℕ) (running : List ℕ) (o p : ℕ) → HasCause fa fb (run.is_device r) → HasCause o p (run.is_output r) → (run.is_output r ≡ false → p ≡ o)
     → (running ≡ []) ⊎ Rose fa fb → (IsSome old → IsSome new) ⊎ Rose fa fb → HasEnded r old new fa fb running o p
 ended_of r old new fa fb running o p cause output quiet children stays = record {
-  device = cause_as fa fb (run.is_device r ≡ true) (device_failed r ≡ true) (λ e. device_as r ∙ e) cause;
-  output = cause_as o p (run.is_output r ≡ true) (sink_failed r ≡ true) (λ e. output_as r ∙ e) output;
+  device = cause_as fa fb (run.is_device r) (device_failed r) (λ e. device_as r ∙ e) cause;
+  output = cause_as o p (run.is_output r) (sink_failed r) (λ e. output_as r ∙ e) output;
   quiet = λ e. quiet (output_as r ∙ e);
   children = children;
   stays = stays;

@@ -1,7 +1,7 @@
 -- What is done for what is asked: why nothing is run or listed, or what is.
 use Rattle.std.specs.Prelude.{◌≡◌, ◌⊎◌, ℕ, Bool, true, false, List, [], map, zip, length, Option, Some, None, Result, Ok, Err, is_ok}
 use Rattle.smk_world.specs.World.{World}
-use Rattle.smk_world.specs.Calls.{HasPut}
+use Rattle.smk_world.specs.Calls.{ArePut}
 use Rattle.smk_world.specs.Runs.{Did}
 use Rattle.smk_world.specs.Trees.{Path, Act, Each}
 use Rattle.smk_record.specs.declared.record.Record.{Record}
@@ -113,4 +113,4 @@ pub data HasListed (Refuses : Fault → Type 0) (Plans : Asked → Previewed →
       (asked : Asked) (told : Previewed) (result : Result (Unit {0}) Fault) →
       Plans asked told →
       ((f : Fault) → result ≡ Err f → (f ≡ fault.Output) ⊎ (f ≡ fault.OutOfMemory)) →
-      HasPut put_old put_new (listing_text asked.flow (plan_of told)) (is_ok result) → HasListed Refuses Plans put_old put_new result
+      ArePut put_old put_new (listing_text asked.flow (plan_of told)) (is_ok result) → HasListed Refuses Plans put_old put_new result

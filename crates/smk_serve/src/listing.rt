@@ -1,8 +1,8 @@
 //! The lines of the jobs, and the line of the plan.
 
-ghost use Rattle.std.specs.Prelude.{◌≡◌, ◌≢◌, ◌++◌, [], IfOk, IfErr, OnOk, IsErr, IsSome, is_ok, string_bytes, length, map, zip, true, false};
+ghost use Rattle.std.specs.Prelude.{◌≡◌, ◌≢◌, ◌++◌, [], IfOk, IfErr, OnOk, IsSome, is_ok, string_bytes, length, map, zip, false, is_err};
 ghost use Rattle.std.specs.List.{flat_map};
-ghost use Rattle.smk_world.specs.Calls.{HasPut, HasCause};
+ghost use Rattle.smk_world.specs.Calls.{ArePut, HasCause};
 ghost use Rattle.smk_world.specs.Trees.{Each};
 ghost use Rattle.smk_world.specs.World.{out_paths};
 ghost use Rattle.smk_report.specs.Lines as spec;
@@ -85,9 +85,9 @@ fn listing_text(
 
 // Puts the text, and hands it on.
 fn write_out<O: Sink>(out: &mut O, text: &str) -> Result<(), Failed>
-    ensures put { HasPut (O.put_so_far out.old) (O.put_so_far out.new) text.now (is_ok result) }
-    ensures cause { HasCause (O.faults out.old) (O.faults out.new) (IsErr result) }
-    ensures quiet { OnOk result (O.faults out.new ≡ O.faults out.old) }
+    ensures put { ArePut (O.sunk out.old).put (O.sunk out.new).put text.now (is_ok result) }
+    ensures cause { HasCause (O.sunk out.old).faults (O.sunk out.new).faults (is_err result) }
+    ensures quiet { OnOk result ((O.sunk out.new).faults ≡ (O.sunk out.old).faults) }
 {
     out.put(text.as_bytes())?;
     out.flush()
@@ -108,11 +108,11 @@ pub fn put_listing<O: Sink>(
 ) -> Result<(), Fault>
     requires each { length states.now ≡ length jobs.now.jobs }
     requires make { Each (λ job. out_paths job.recipe ≢ []) jobs.now.jobs }
-    ensures put { HasPut (O.put_so_far out.old) (O.put_so_far out.new)
+    ensures put { ArePut (O.sunk out.old).put (O.sunk out.new).put
         (listing_text flow.now (record { lists = jobs.now.lists; jobs = jobs.now.jobs; states = states.now })) (is_ok result) }
-    ensures stays { is_output result ≡ false → IsSome (O.put_so_far out.old) → IsSome (O.put_so_far out.new) }
-    ensures cause { HasCause (O.faults out.old) (O.faults out.new) (is_output result ≡ true) }
-    ensures quiet { is_output result ≡ false → O.faults out.new ≡ O.faults out.old }
+    ensures stays { is_output result ≡ false → IsSome (O.sunk out.old).put → IsSome (O.sunk out.new).put }
+    ensures cause { HasCause (O.sunk out.old).faults (O.sunk out.new).faults (is_output result) }
+    ensures quiet { is_output result ≡ false → (O.sunk out.new).faults ≡ (O.sunk out.old).faults }
     ensures faults { IfErr result IsFault }
 {
     let Ok(text) = listing_text(alloc, flow, jobs, states) else {

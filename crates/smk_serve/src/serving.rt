@@ -41,10 +41,10 @@ fn plan_for<W: Files, Rt: Threads + Sync>(
     cores: u64,
     work: &mut W,
 ) -> Result<Previewed, Fault>
-    requires none_runs { W.running work.old ≡ [] }
-    ensures looked { spec.HasOnlyAsked W.act (W.world work.old) (W.world work.new) (W.faults work.old) (W.faults work.new) (W.running work.old) (W.running work.new) result }
+    requires none_runs { (W.device work.old).running ≡ [] }
+    ensures looked { spec.HasOnlyAsked W.act (W.device work.old).world (W.device work.new).world (W.device work.old).faults (W.device work.new).faults (W.device work.old).running (W.device work.new).running result }
     ensures fit { IfOk result (spec.IsFit asked.now.flow cores) }
-    ensures told { (w : World) → W.world work.old ≡ Some w → (read : Items ℕ → Option RecordValue) → IsAtHand read w
+    ensures told { (w : World) → (W.device work.old).world ≡ Some w → (read : Items ℕ → Option RecordValue) → IsAtHand read w
         → spec.IsPlanned read asked.now cores w result }
 {
     let Ok(settings) = settings_of(alloc, asked, cores) else {
@@ -65,11 +65,11 @@ pub fn make_targets<W: Crew, O: Sink, Rt: Threads + Sync>(
     work: &mut W,
     out: &mut O,
 ) -> Result<(), Fault>
-    requires none_runs { W.running work.old ≡ [] }
-    ensures ended { HasEnded result (W.world work.old) (W.world work.new) (W.faults work.old) (W.faults work.new) (W.running work.new) (O.faults out.old) (O.faults out.new) }
-    ensures went { (w : World) → W.world work.old ≡ Some w → (read : Items ℕ → Option RecordValue) → IsAtHand read w
+    requires none_runs { (W.device work.old).running ≡ [] }
+    ensures ended { HasEnded result (W.device work.old).world (W.device work.new).world (W.device work.old).faults (W.device work.new).faults (W.device work.new).running (O.sunk out.old).faults (O.sunk out.new).faults }
+    ensures went { (w : World) → (W.device work.old).world ≡ Some w → (read : Items ℕ → Option RecordValue) → IsAtHand read w
         → Went W.act cores result (IsRefusedPlan read asked.now cores w) (IsServed read asked.now cores w)
-        (W.world work.old) (W.world work.new) (Rose (W.faults work.old) (W.faults work.new)) (W.running work.new) (O.put_so_far out.old) (O.put_so_far out.new) }
+        (W.device work.old).world (W.device work.new).world (Rose (W.device work.old).faults (W.device work.new).faults) (W.device work.new).running (O.sunk out.old).put (O.sunk out.new).put }
 {
     match plan_for(rt, alloc, asked, cores, work) {
         Err(fault) => Err(fault),
@@ -97,11 +97,11 @@ pub fn list_plan<W: Files, O: Sink, Rt: Threads + Sync>(
     work: &mut W,
     out: &mut O,
 ) -> Result<(), Fault>
-    requires none_runs { W.running work.old ≡ [] }
-    ensures ended { HasEnded result (W.world work.old) (W.world work.new) (W.faults work.old) (W.faults work.new) (W.running work.new) (O.faults out.old) (O.faults out.new) }
-    ensures looked { spec.HasKept W.act (W.world work.old) (W.world work.new) }
-    ensures listed { (w : World) → W.world work.old ≡ Some w → (read : Items ℕ → Option RecordValue) → IsAtHand read w
-        → HasListed (IsRefusedPlan read asked.now 1 w) (IsServed read asked.now 1 w) (O.put_so_far out.old) (O.put_so_far out.new) result }
+    requires none_runs { (W.device work.old).running ≡ [] }
+    ensures ended { HasEnded result (W.device work.old).world (W.device work.new).world (W.device work.old).faults (W.device work.new).faults (W.device work.new).running (O.sunk out.old).faults (O.sunk out.new).faults }
+    ensures looked { spec.HasKept W.act (W.device work.old).world (W.device work.new).world }
+    ensures listed { (w : World) → (W.device work.old).world ≡ Some w → (read : Items ℕ → Option RecordValue) → IsAtHand read w
+        → HasListed (IsRefusedPlan read asked.now 1 w) (IsServed read asked.now 1 w) (O.sunk out.old).put (O.sunk out.new).put result }
 {
     match plan_for(rt, alloc, asked, 1, work) {
         Err(fault) => Err(fault),

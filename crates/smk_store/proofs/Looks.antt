@@ -14,7 +14,7 @@ use Rattle.smk_world.specs.declared.event.NodeState.TheVariants.{Owned, Known}
 use Rattle.smk_world.specs.declared.event.WorkFault.{WorkFault}
 use Rattle.smk_world.specs.declared.event.WorkFault.TheVariants.{Failed as FailedFault, OutOfMemory as MemoryFault}
 use Rattle.smk_world.specs.World.{World, after, run, node_after, reading, reads_folder}
-use Rattle.smk_world.specs.Calls.{Happened, HasCause, Rose, Lets, ListingIs, FoundIs, found_of, failed, in_folder}
+use Rattle.smk_world.specs.Calls.{Happened, HasCause, IsCaused, Rose, Lets, ListingIs, FoundIs, found_of, failed, device_failed, in_folder}
 use Rattle.smk_world.specs.Runs.{Did}
 use Rattle.smk_world.specs.Trees.{Path, Act}
 use Rattle.smk_world.proofs.Runs.{did_nothing, did_more, did_both}
@@ -73,7 +73,7 @@ one : (e : Event) → is_look e.call ≡ true → AreLooks (e ∷ [])
 one e h = All-cons (λ (x : Event). is_look x.call ≡ true) e [] h (λ k d lt. absurd (omega arith))
 
 pub looked_call : (act : Act) (a b : Option World) (fa fb : ℕ) (ra rb : List ℕ) (call : Call) (F : Type 0) → is_look call ≡ true → (¬ F → failed call ≡ false)
-    → Happened act a b call → HasCause fa fb F → rb ≡ ra → HasLooked act a b fa fb ra rb F
+    → Happened act a b call → IsCaused fa fb F → rb ≡ ra → HasLooked act a b fa fb ra rb F
 looked_call act a b fa fb ra rb call F look quiet happened cause same =
     record {
       did = did_more act (λ w es. AreLooks es) (λ w es. AreLooks es) a a b call (did_nothing act (λ w es. AreLooks es) a (λ w. λ k d lt. absurd (omega arith))) happened
@@ -128,13 +128,17 @@ read_quiet p limit (Ok f) never = refl
 read_quiet p limit (Err FailedFault) never = absurd (never refl)
 read_quiet p limit (Err MemoryFault) never = refl
 
+-- a failure, as a type tells it
+caused : {T : Type 0} (fa fb : ℕ) (r : Result T WorkFault) → HasCause fa fb (device_failed r) → IsCaused fa fb (IsErrOf r FailedFault)
+caused fa fb r cause = record { later = cause.later; rose = λ e. cause.rose (ap device_failed e) }
+
 pub looked_list : (act : Act) (a b : Option World) (fa fb : ℕ) (ra rb : List ℕ) (p : Path) (r : Result Listing WorkFault)
-    → Happened act a b (ReadFolder p r) → HasCause fa fb (IsErrOf r FailedFault) → rb ≡ ra → HasLooked act a b fa fb ra rb (IsErrOf r FailedFault)
-looked_list act a b fa fb ra rb p r happened cause same = looked_call act a b fa fb ra rb (ReadFolder p r) (IsErrOf r FailedFault) refl (listed_quiet p r) happened cause same
+    → Happened act a b (ReadFolder p r) → HasCause fa fb (device_failed r) → rb ≡ ra → HasLooked act a b fa fb ra rb (IsErrOf r FailedFault)
+looked_list act a b fa fb ra rb p r happened cause same = looked_call act a b fa fb ra rb (ReadFolder p r) (IsErrOf r FailedFault) refl (listed_quiet p r) happened (caused fa fb r cause) same
 
 pub looked_read : (act : Act) (a b : Option World) (fa fb : ℕ) (ra rb : List ℕ) (p : Path) (limit : ℕ) (r : Result Found WorkFault)
-    → Happened act a b (ReadFile p limit r) → HasCause fa fb (IsErrOf r FailedFault) → rb ≡ ra → HasLooked act a b fa fb ra rb (IsErrOf r FailedFault)
-looked_read act a b fa fb ra rb p limit r happened cause same = looked_call act a b fa fb ra rb (ReadFile p limit r) (IsErrOf r FailedFault) refl (read_quiet p limit r) happened cause same
+    → Happened act a b (ReadFile p limit r) → HasCause fa fb (device_failed r) → rb ≡ ra → HasLooked act a b fa fb ra rb (IsErrOf r FailedFault)
+looked_read act a b fa fb ra rb p limit r happened cause same = looked_call act a b fa fb ra rb (ReadFile p limit r) (IsErrOf r FailedFault) refl (read_quiet p limit r) happened (caused fa fb r cause) same
 
 -- an answer is no fault
 pub ok_is_quiet : {T E : Type 0} (r : Result T E) (t : T) (e : E) → r ≡ Ok t → ¬ (IsErrOf r e)

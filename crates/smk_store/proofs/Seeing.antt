@@ -1,5 +1,5 @@
 -- Sources that are gone over, and looked at.
-use Rattle.std.proofs.Common.{◌≡◌, ◌≢◌, ℕ, suc, ◌+◌, ◌<◌, Bool, true, false, List, [], ◌∷◌, ◌++◌, length, take, drop, get_or, refl, sym, ap, subst, ◌∙◌, Option, Some, None, Result, Ok, Err, arith, append_assoc, add-one, drop-cons}
+use Rattle.std.proofs.Common.{◌≡◌, ◌≢◌, ℕ, suc, ◌+◌, ◌<◌, Bool, true, false, List, [], ◌∷◌, ◌++◌, length, take, drop, get_or, refl, sym, ap, subst, ◌∙◌, Option, Some, None, Result, Ok, Err, arith, append_assoc, add-one, drop-cons, is_err}
 use Rattle.std.specs.Prelude.{IsSome, is_some, IsErr, IsErrOf, IsErrAnd}
 use Rattle.std.specs.List.{zip}
 use Rattle.std.proofs.lemmas.List.{take_more}
@@ -12,7 +12,7 @@ use Rattle.smk_world.specs.declared.event.Stat.{Stat}
 use Rattle.smk_world.specs.declared.event.WorkFault.{WorkFault}
 use Rattle.smk_world.specs.declared.event.WorkFault.TheVariants.{Failed as FailedFault}
 use Rattle.smk_world.specs.World.{World, reading}
-use Rattle.smk_world.specs.Calls.{Happened, HasCause, Lets, StatIs, stat_of, failed, is_failed}
+use Rattle.smk_world.specs.Calls.{Happened, HasCause, Lets, StatIs, stat_of, failed}
 use Rattle.smk_world.specs.Trees.{Path, Act}
 use Rattle.smk_record.specs.declared.record.Stamp.{Stamp}
 use Rattle.smk_store.specs.declared.sources.Source.{Source}
@@ -45,16 +45,16 @@ dropped xs i x lt e = drop-cons xs i x lt ∙ ap (λ y. y ∷ drop (suc i) xs) (
 -- ## Looks at files
 
 pub looked_failed : {U : Type 0} (act : Act) (a b : Option World) (fa fb : ℕ) (ra rb : List ℕ) (p : Path) (r : Result Stat Failed) (s : Result U WorkFault) (e : Failed)
-    → r ≡ Err e → IsErrAnd s (λ y. y ≡ FailedFault) → Happened act a b (Looked p r) → HasCause fa fb (IsErr r) → rb ≡ ra → HasLooked act a b fa fb ra rb (IsErrOf s FailedFault)
+    → r ≡ Err e → IsErrAnd s (λ y. y ≡ FailedFault) → Happened act a b (Looked p r) → HasCause fa fb (is_err r) → rb ≡ ra → HasLooked act a b fa fb ra rb (IsErrOf s FailedFault)
 looked_failed act a b fa fb ra rb p r s e is h happened cause same =
     looked_as act a b fa fb ra rb (IsErr r) (IsErrOf s FailedFault) (λ f. fault s h) (λ g. subst (λ (x : Result Stat Failed). IsErr x) (sym is) refl)
-    (looked_call act a b fa fb ra rb (Looked p r) (IsErr r) refl (λ never. absurd (never (subst (λ (x : Result Stat Failed). IsErr x) (sym is) refl))) happened cause same)
+    (looked_call act a b fa fb ra rb (Looked p r) (IsErr r) refl (λ never. absurd (never (subst (λ (x : Result Stat Failed). IsErr x) (sym is) refl))) happened (record { later = cause.later; rose = cause.rose }) same)
   where
     fault : {V : Type 0} (t : Result V WorkFault) → IsErrAnd t (λ y. y ≡ FailedFault) → IsErrOf t FailedFault
     fault (Ok v) k = absurd k
     fault (Err y) k = ap (λ (z : WorkFault). Err z) k
 
-err_cases : (r : Result Stat Failed) → IsErr r → is_failed r ≡ true
+err_cases : (r : Result Stat Failed) → IsErr r → is_err r ≡ true
 err_cases (Ok t) h = cc
 err_cases (Err e) h = refl
 
@@ -62,13 +62,13 @@ true_false : true ≡ false → ⊥
 true_false e = cc
 
 err_never : (r : Result Stat Failed) (t : Stat) → r ≡ Ok t → ¬ (IsErr r)
-err_never r t is h = true_false (sym (err_cases r h) ∙ ap is_failed is)
+err_never r t is h = true_false (sym (err_cases r h) ∙ ap is_err is)
 
 pub looked_well_at : (act : Act) (a b : Option World) (fa fb : ℕ) (ra rb : List ℕ) (p : Path) (r : Result Stat Failed) (t : Stat) (G : Type 0)
-    → r ≡ Ok t → ¬ G → Happened act a b (Looked p r) → HasCause fa fb (IsErr r) → rb ≡ ra → HasLooked act a b fa fb ra rb G
+    → r ≡ Ok t → ¬ G → Happened act a b (Looked p r) → HasCause fa fb (is_err r) → rb ≡ ra → HasLooked act a b fa fb ra rb G
 looked_well_at act a b fa fb ra rb p r t G is never happened cause same =
     looked_as act a b fa fb ra rb (IsErr r) G (λ f. absurd (err_never r t is f)) (λ g. absurd (never g))
-    (looked_call act a b fa fb ra rb (Looked p r) (IsErr r) refl (λ quiet. ap (λ (x : Result Stat Failed). failed (Looked p x)) is) happened cause same)
+    (looked_call act a b fa fb ra rb (Looked p r) (IsErr r) refl (λ quiet. ap (λ (x : Result Stat Failed). failed (Looked p x)) is) happened (record { later = cause.later; rose = cause.rose }) same)
 
 some_of : {A : Type 0} (o : Option A) → IsSome o → (x : A) × (o ≡ Some x)
 some_of None h = absurd (true_false (sym h))

@@ -5,7 +5,7 @@ ghost use Rattle.std.specs.BTreeSet.{contains_text};
 ghost use Rattle.std.specs.List.{filter};
 ghost use Rattle.smk_base.specs.Place.{record_place};
 ghost use Rattle.smk_world.specs.World.{World, reading};
-ghost use Rattle.smk_world.specs.Calls.{HasCause, found_of};
+ghost use Rattle.smk_world.specs.Calls.{found_of, IsCaused};
 ghost use Rattle.smk_world.specs.declared.event.Node.{Node};
 ghost use Rattle.smk_world.specs.Runs.{Did};
 ghost use Rattle.smk_world.specs.Trees.{is_path_text};
@@ -36,8 +36,8 @@ struct Signs {
 
 // Looks for all of them.
 fn signs_in<W: Files>(alloc: Global, work: &mut W) -> Result<Signs, WorkFault>
-    ensures looked { HasLooked W.act (W.world work.old) (W.world work.new) (W.faults work.old) (W.faults work.new) (W.running work.old) (W.running work.new) (IsErrOf result WorkFault.Failed) }
-    ensures told { IfOk result (λ signs. (w : World) → W.world work.old ≡ Some w → IsFiled w
+    ensures looked { HasLooked W.act (W.device work.old).world (W.device work.new).world (W.device work.old).faults (W.device work.new).faults (W.device work.old).running (W.device work.new).running (IsErrOf result WorkFault.Failed) }
+    ensures told { IfOk result (λ signs. (w : World) → (W.device work.old).world ≡ Some w → IsFiled w
         → HasSigns w (λ q. contains_text signs.records q) (λ q. contains_text signs.marks q) (λ q. contains_text signs.notes q)) }
 {
     let records = paths_in(alloc, work, &Place::records(alloc)?)?;
@@ -104,8 +104,8 @@ fn kept_found(alloc: Global, path: &PathText, found: Found) -> Result<Kept, OutO
 
 // The record of the path, where something stands in its place.
 fn kept_at<W: Files>(alloc: Global, work: &mut W, path: &PathText) -> Result<Kept, WorkFault>
-    ensures looked { HasLooked W.act (W.world work.old) (W.world work.new) (W.faults work.old) (W.faults work.new) (W.running work.old) (W.running work.new) (IsErrOf result WorkFault.Failed) }
-    ensures told { IfOk result (λ kept. (w : World) → W.world work.old ≡ Some w → IsFiled w → IsSome (reading (w.nodes (record_place path.now)))
+    ensures looked { HasLooked W.act (W.device work.old).world (W.device work.new).world (W.device work.old).faults (W.device work.new).faults (W.device work.old).running (W.device work.new).running (IsErrOf result WorkFault.Failed) }
+    ensures told { IfOk result (λ kept. (w : World) → (W.device work.old).world ≡ Some w → IsFiled w → IsSome (reading (w.nodes (record_place path.now)))
         → (read : Items ℕ → Option RecordValue) → ReadsRecords read → kept ≡ kept_by read path.now (reading (w.nodes (record_place path.now)))) }
 {
     let place = Place::record_of(alloc, path)?;
@@ -120,8 +120,8 @@ fn kept_of<W: Files>(
     signs: &Signs,
     path: &PathText,
 ) -> Result<Kept, WorkFault>
-    ensures looked { HasLooked W.act (W.world work.old) (W.world work.new) (W.faults work.old) (W.faults work.new) (W.running work.old) (W.running work.new) (IsErrOf result WorkFault.Failed) }
-    ensures told { IfOk result (λ kept. (w : World) → W.world work.old ≡ Some w → IsFiled w
+    ensures looked { HasLooked W.act (W.device work.old).world (W.device work.new).world (W.device work.old).faults (W.device work.new).faults (W.device work.old).running (W.device work.new).running (IsErrOf result WorkFault.Failed) }
+    ensures told { IfOk result (λ kept. (w : World) → (W.device work.old).world ≡ Some w → IsFiled w
         → HasSigns w (λ q. contains_text signs.now.records q) (λ q. contains_text signs.now.marks q) (λ q. contains_text signs.now.notes q) → is_path_text path.now ≡ true
         → (read : Items ℕ → Option RecordValue) → ReadsRecords read → kept ≡ (seen read w).kept path.now) }
 {
@@ -139,8 +139,8 @@ fn entry_of<W: Files>(
     signs: &Signs,
     path: &PathText,
 ) -> Result<Entry, WorkFault>
-    ensures looked { HasLooked W.act (W.world work.old) (W.world work.new) (W.faults work.old) (W.faults work.new) (W.running work.old) (W.running work.new) (IsErrOf result WorkFault.Failed) }
-    ensures told { IfOk result (λ entry. (w : World) → W.world work.old ≡ Some w → IsFiled w
+    ensures looked { HasLooked W.act (W.device work.old).world (W.device work.new).world (W.device work.old).faults (W.device work.new).faults (W.device work.old).running (W.device work.new).running (IsErrOf result WorkFault.Failed) }
+    ensures told { IfOk result (λ entry. (w : World) → (W.device work.old).world ≡ Some w → IsFiled w
         → HasSigns w (λ q. contains_text signs.now.records q) (λ q. contains_text signs.now.marks q) (λ q. contains_text signs.now.notes q) → is_path_text path.now ≡ true
         → (read : Items ℕ → Option RecordValue) → ReadsRecords read → entry ≡ entry_at (seen read w) path.now) }
 {
@@ -170,8 +170,8 @@ fn store_of<W: Files>(
     signs: &Signs,
     all: &BTreeSet<String>,
 ) -> Result<Store, WorkFault>
-    ensures looked { HasLooked W.act (W.world work.old) (W.world work.new) (W.faults work.old) (W.faults work.new) (W.running work.old) (W.running work.new) (IsErrOf result WorkFault.Failed) }
-    ensures told { IfOk result (λ store. (w : World) → W.world work.old ≡ Some w → IsFiled w
+    ensures looked { HasLooked W.act (W.device work.old).world (W.device work.new).world (W.device work.old).faults (W.device work.new).faults (W.device work.old).running (W.device work.new).running (IsErrOf result WorkFault.Failed) }
+    ensures told { IfOk result (λ store. (w : World) → (W.device work.old).world ≡ Some w → IsFiled w
         → HasSigns w (λ q. contains_text signs.now.records q) (λ q. contains_text signs.now.marks q) (λ q. contains_text signs.now.notes q)
         → (read : Items ℕ → Option RecordValue) → ReadsRecords read → store ≡ known_all (seen read w) (filter is_path_text (texts_of all.now.keys))) }
 {
@@ -190,8 +190,8 @@ fn store_of<W: Files>(
 
 // The whole store.
 fn loaded<W: Files>(alloc: Global, work: &mut W) -> Result<Store, WorkFault>
-    ensures looked { HasLooked W.act (W.world work.old) (W.world work.new) (W.faults work.old) (W.faults work.new) (W.running work.old) (W.running work.new) (IsErrOf result WorkFault.Failed) }
-    ensures told { IfOk result (λ store. (w : World) → W.world work.old ≡ Some w → IsFiled w
+    ensures looked { HasLooked W.act (W.device work.old).world (W.device work.new).world (W.device work.old).faults (W.device work.new).faults (W.device work.old).running (W.device work.new).running (IsErrOf result WorkFault.Failed) }
+    ensures told { IfOk result (λ store. (w : World) → (W.device work.old).world ≡ Some w → IsFiled w
         → (read : Items ℕ → Option RecordValue) → ReadsRecords read → IsStoreOf (seen read w) store) }
 {
     let signs = signs_in(alloc, work)?;
@@ -203,15 +203,15 @@ fn loaded<W: Files>(alloc: Global, work: &mut W) -> Result<Store, WorkFault>
 ///
 /// `Device`: a call of the device failed. `OutOfMemory`: there is no memory for the store.
 pub fn load<W: Files>(alloc: Global, work: &mut W) -> Result<Store, StoreFault>
-    ensures did { Did W.act (W.world work.old) (W.world work.new) (λ w es. AreLooks es) }
+    ensures did { Did W.act (W.device work.old).world (W.device work.new).world (λ w es. AreLooks es) }
 
     // The store has just the records, marks and notes that stand.
-    ensures told { IfOk result (λ store. (w : World) → W.world work.old ≡ Some w → IsFiled w
+    ensures told { IfOk result (λ store. (w : World) → (W.device work.old).world ≡ Some w → IsFiled w
         → (read : Items ℕ → Option RecordValue) → ReadsRecords read → IsStoreOf (seen read w) store) }
-    ensures stays { ¬ (IsErrOf result StoreFault.Device) → IsSome (W.world work.old) → IsSome (W.world work.new) }
-    ensures device { HasCause (W.faults work.old) (W.faults work.new) (IsErrOf result StoreFault.Device) }
+    ensures stays { ¬ (IsErrOf result StoreFault.Device) → IsSome (W.device work.old).world → IsSome (W.device work.new).world }
+    ensures device { IsCaused (W.device work.old).faults (W.device work.new).faults (IsErrOf result StoreFault.Device) }
     ensures no_stamp { IfErr result (λ fault. (p : Items ℕ) → fault ≢ StoreFault.StampSeen p) }
-    ensures running { W.running work.new ≡ W.running work.old }
+    ensures running { (W.device work.new).running ≡ (W.device work.old).running }
 {
     match loaded(alloc, work) {
         Ok(store) => Ok(store),

@@ -87,8 +87,8 @@ fn walk<W: Files>(
 ) -> Result<(), WorkFault>
     requires own { IsTrue (is_under folder.now store_folder) }
     requires utf8 { IsUtf8 front.now }
-    ensures looked { HasLooked W.act (W.world work.old) (W.world work.new) (W.faults work.old) (W.faults work.new) (W.running work.old) (W.running work.new) (IsErrOf result WorkFault.Failed) }
-    ensures told { OnOk result ((w : World) → W.world work.old ≡ Some w → IsFiled w
+    ensures looked { HasLooked W.act (W.device work.old).world (W.device work.new).world (W.device work.old).faults (W.device work.new).faults (W.device work.old).running (W.device work.new).running (IsErrOf result WorkFault.Failed) }
+    ensures told { OnOk result ((w : World) → (W.device work.old).world ≡ Some w → IsFiled w
         → Walked w.nodes folder.now front.now (λ q. contains_text found.old q) (λ q. contains_text found.new q)) }
 {
     let listing = work.list(alloc, folder)?;
@@ -111,8 +111,8 @@ pub(crate) fn paths_in<W: Files>(
     folder: &Place,
 ) -> Result<BTreeSet<String>, WorkFault>
     requires own { IsTrue (is_under folder.now store_folder) }
-    ensures looked { HasLooked W.act (W.world work.old) (W.world work.new) (W.faults work.old) (W.faults work.new) (W.running work.old) (W.running work.new) (IsErrOf result WorkFault.Failed) }
-    ensures told { IfOk result (λ found. (w : World) → W.world work.old ≡ Some w → IsFiled w → HasAll w folder.now (λ q. contains_text found q)) }
+    ensures looked { HasLooked W.act (W.device work.old).world (W.device work.new).world (W.device work.old).faults (W.device work.new).faults (W.device work.old).running (W.device work.new).running (IsErrOf result WorkFault.Failed) }
+    ensures told { IfOk result (λ found. (w : World) → (W.device work.old).world ≡ Some w → IsFiled w → HasAll w folder.now (λ q. contains_text found q)) }
 {
     let mut found = BTreeSet::new(alloc);
     walk(alloc, work, &mut found, folder, "")?;

@@ -169,8 +169,8 @@ fn has_time(time: u64, stat: Stat) -> bool
 
 // Whether a file is there with the source's time.
 fn is_seen<W: Files>(alloc: Global, work: &mut W, source: &Source) -> Result<bool, WorkFault>
-    ensures looked { HasLooked W.act (W.world work.old) (W.world work.new) (W.faults work.old) (W.faults work.new) (W.running work.old) (W.running work.new) (IsErrOf result WorkFault.Failed) }
-    ensures told { IfOk result (λ seen. (w : World) → W.world work.old ≡ Some w → NoneOwned w → seen ≡ is_seen w source.now) }
+    ensures looked { HasLooked W.act (W.device work.old).world (W.device work.new).world (W.device work.old).faults (W.device work.new).faults (W.device work.old).running (W.device work.new).running (IsErrOf result WorkFault.Failed) }
+    ensures told { IfOk result (λ seen. (w : World) → (W.device work.old).world ≡ Some w → NoneOwned w → seen ≡ is_seen w source.now) }
 {
     let place = Place::user(alloc, &source.path)?;
     let stat = work.stat(&place)?;
@@ -208,8 +208,8 @@ fn first_seen<W: Files>(
     work: &mut W,
     sources: &[Source],
 ) -> Result<Option<PathText>, WorkFault>
-    ensures looked { HasLooked W.act (W.world work.old) (W.world work.new) (W.faults work.old) (W.faults work.new) (W.running work.old) (W.running work.new) (IsErrOf result WorkFault.Failed) }
-    ensures told { IfOk result (λ first. (w : World) → W.world work.old ≡ Some w → NoneOwned w → first ≡ first_seen (is_seen w) sources.now) }
+    ensures looked { HasLooked W.act (W.device work.old).world (W.device work.new).world (W.device work.old).faults (W.device work.new).faults (W.device work.old).running (W.device work.new).running (IsErrOf result WorkFault.Failed) }
+    ensures told { IfOk result (λ first. (w : World) → (W.device work.old).world ≡ Some w → NoneOwned w → first ≡ first_seen (is_seen w) sources.now) }
 {
     let mut first = None;
     for source in sources {
@@ -226,8 +226,8 @@ pub(crate) fn seen_under<W: Files>(
     store: &Store,
     p: &PathText,
 ) -> Result<Option<PathText>, WorkFault>
-    ensures looked { HasLooked W.act (W.world work.old) (W.world work.new) (W.faults work.old) (W.faults work.new) (W.running work.old) (W.running work.new) (IsErrOf result WorkFault.Failed) }
-    ensures told { IfOk result (λ first. (w : World) → W.world work.old ≡ Some w → NoneOwned w → first ≡ first_seen (is_seen w) (all_sources p.now store.now)) }
+    ensures looked { HasLooked W.act (W.device work.old).world (W.device work.new).world (W.device work.old).faults (W.device work.new).faults (W.device work.old).running (W.device work.new).running (IsErrOf result WorkFault.Failed) }
+    ensures told { IfOk result (λ first. (w : World) → (W.device work.old).world ≡ Some w → NoneOwned w → first ≡ first_seen (is_seen w) (all_sources p.now store.now)) }
 {
     let sources = sources_under(alloc, store, p)?;
     first_seen(alloc, work, sources.as_slice())

@@ -1,6 +1,6 @@
 //! What is made, written and removed of the engine's own files, each time firmly.
 
-ghost use Rattle.std.specs.Prelude.{◌≡◌, [], ◌∷◌, length, IsErr, IfOk, OnOk, IsSome, is_ok};
+ghost use Rattle.std.specs.Prelude.{◌≡◌, [], ◌∷◌, length, IfOk, OnOk, IsSome, is_ok, is_err};
 ghost use Rattle.smk_base.specs.Place.{lock_place};
 ghost use Rattle.smk_world.specs.Calls.{HasCause};
 ghost use Rattle.smk_world.specs.Runs.{Did};
@@ -13,10 +13,10 @@ use smk_world::{Failed, Files};
 
 // Makes each of the places that isn't there, its folders before it.
 fn make_each<W: Files>(work: &mut W, places: &[Place]) -> Result<(), Failed>
-    ensures did { Did W.act (W.world work.old) (W.world work.new) (λ w es. Carries (make_each places.now) (is_ok result) es) }
-    ensures stays { OnOk result (IsSome (W.world work.old) → IsSome (W.world work.new)) }
-    ensures cause { HasCause (W.faults work.old) (W.faults work.new) (IsErr result) }
-    ensures running { W.running work.new ≡ W.running work.old }
+    ensures did { Did W.act (W.device work.old).world (W.device work.new).world (λ w es. Carries (make_each places.now) (is_ok result) es) }
+    ensures stays { OnOk result (IsSome (W.device work.old).world → IsSome (W.device work.new).world) }
+    ensures cause { HasCause (W.device work.old).faults (W.device work.new).faults (is_err result) }
+    ensures running { (W.device work.new).running ≡ (W.device work.old).running }
 {
     for place in places {
         work.make_parents(place)?;
@@ -27,11 +27,11 @@ fn make_each<W: Files>(work: &mut W, places: &[Place]) -> Result<(), Failed>
 
 // Removes each of the places.
 pub(crate) fn remove_each<W: Files>(work: &mut W, places: &[Place]) -> Result<(), Failed>
-    requires unused { AreUnused (W.world work.old) places.now }
-    ensures did { Did W.act (W.world work.old) (W.world work.new) (λ w es. Carries (remove_each places.now) (is_ok result) es) }
-    ensures stays { OnOk result (IsSome (W.world work.old) → IsSome (W.world work.new)) }
-    ensures cause { HasCause (W.faults work.old) (W.faults work.new) (IsErr result) }
-    ensures running { W.running work.new ≡ W.running work.old }
+    requires unused { AreUnused (W.device work.old).world places.now }
+    ensures did { Did W.act (W.device work.old).world (W.device work.new).world (λ w es. Carries (remove_each places.now) (is_ok result) es) }
+    ensures stays { OnOk result (IsSome (W.device work.old).world → IsSome (W.device work.new).world) }
+    ensures cause { HasCause (W.device work.old).faults (W.device work.new).faults (is_err result) }
+    ensures running { (W.device work.new).running ≡ (W.device work.old).running }
 {
     for place in places {
         work.remove(place)?;
@@ -42,11 +42,11 @@ pub(crate) fn remove_each<W: Files>(work: &mut W, places: &[Place]) -> Result<()
 // Writes each of the places, its folders made before it.
 fn write_each<W: Files>(work: &mut W, places: &[Place], bytes: &[Bytes]) -> Result<(), Failed>
     requires each { length bytes.now ≡ length places.now }
-    requires unused { AreUnused (W.world work.old) places.now }
-    ensures did { Did W.act (W.world work.old) (W.world work.new) (λ w es. Carries (write_each places.now bytes.now) (is_ok result) es) }
-    ensures stays { OnOk result (IsSome (W.world work.old) → IsSome (W.world work.new)) }
-    ensures cause { HasCause (W.faults work.old) (W.faults work.new) (IsErr result) }
-    ensures running { W.running work.new ≡ W.running work.old }
+    requires unused { AreUnused (W.device work.old).world places.now }
+    ensures did { Did W.act (W.device work.old).world (W.device work.new).world (λ w es. Carries (write_each places.now bytes.now) (is_ok result) es) }
+    ensures stays { OnOk result (IsSome (W.device work.old).world → IsSome (W.device work.new).world) }
+    ensures cause { HasCause (W.device work.old).faults (W.device work.new).faults (is_err result) }
+    ensures running { (W.device work.new).running ≡ (W.device work.old).running }
 {
     for (i, place) in places.iter().enumerate() {
         work.make_parents(place)?;
@@ -59,10 +59,10 @@ fn write_each<W: Files>(work: &mut W, places: &[Place], bytes: &[Bytes]) -> Resu
 ///
 /// `Failed`: one of these calls failed, and none came after it.
 pub fn mark<W: Files>(work: &mut W, places: &JobPlaces) -> Result<(), Failed>
-    ensures did { Did W.act (W.world work.old) (W.world work.new) (λ w es. Carries (mark_requests places.now) (is_ok result) es) }
-    ensures stays { OnOk result (IsSome (W.world work.old) → IsSome (W.world work.new)) }
-    ensures cause { HasCause (W.faults work.old) (W.faults work.new) (IsErr result) }
-    ensures running { W.running work.new ≡ W.running work.old }
+    ensures did { Did W.act (W.device work.old).world (W.device work.new).world (λ w es. Carries (mark_requests places.now) (is_ok result) es) }
+    ensures stays { OnOk result (IsSome (W.device work.old).world → IsSome (W.device work.new).world) }
+    ensures cause { HasCause (W.device work.old).faults (W.device work.new).faults (is_err result) }
+    ensures running { (W.device work.new).running ≡ (W.device work.old).running }
 {
     make_each(work, places.marking.as_slice())?;
     work.settle(&places.marking)
@@ -77,11 +77,11 @@ pub fn put_records<W: Files>(
     bytes: &List<Bytes>,
 ) -> Result<(), Failed>
     requires each { length bytes.now ≡ length places.now.records }
-    requires unused { AreUnused (W.world work.old) places.now.records }
-    ensures did { Did W.act (W.world work.old) (W.world work.new) (λ w es. Carries (put_requests places.now bytes.now) (is_ok result) es) }
-    ensures stays { OnOk result (IsSome (W.world work.old) → IsSome (W.world work.new)) }
-    ensures cause { HasCause (W.faults work.old) (W.faults work.new) (IsErr result) }
-    ensures running { W.running work.new ≡ W.running work.old }
+    requires unused { AreUnused (W.device work.old).world places.now.records }
+    ensures did { Did W.act (W.device work.old).world (W.device work.new).world (λ w es. Carries (put_requests places.now bytes.now) (is_ok result) es) }
+    ensures stays { OnOk result (IsSome (W.device work.old).world → IsSome (W.device work.new).world) }
+    ensures cause { HasCause (W.device work.old).faults (W.device work.new).faults (is_err result) }
+    ensures running { (W.device work.new).running ≡ (W.device work.old).running }
 {
     write_each(work, places.records.as_slice(), bytes.as_slice())?;
     work.settle(&places.records)
@@ -91,11 +91,11 @@ pub fn put_records<W: Files>(
 ///
 /// `Failed`: one of these calls failed, and none came after it.
 pub fn drop_records<W: Files>(work: &mut W, places: &JobPlaces) -> Result<(), Failed>
-    requires unused { AreUnused (W.world work.old) places.now.records }
-    ensures did { Did W.act (W.world work.old) (W.world work.new) (λ w es. Carries (drop_requests places.now) (is_ok result) es) }
-    ensures stays { OnOk result (IsSome (W.world work.old) → IsSome (W.world work.new)) }
-    ensures cause { HasCause (W.faults work.old) (W.faults work.new) (IsErr result) }
-    ensures running { W.running work.new ≡ W.running work.old }
+    requires unused { AreUnused (W.device work.old).world places.now.records }
+    ensures did { Did W.act (W.device work.old).world (W.device work.new).world (λ w es. Carries (drop_requests places.now) (is_ok result) es) }
+    ensures stays { OnOk result (IsSome (W.device work.old).world → IsSome (W.device work.new).world) }
+    ensures cause { HasCause (W.device work.old).faults (W.device work.new).faults (is_err result) }
+    ensures running { (W.device work.new).running ≡ (W.device work.old).running }
 {
     remove_each(work, places.records.as_slice())?;
     work.settle(&places.dropping)
@@ -105,11 +105,11 @@ pub fn drop_records<W: Files>(work: &mut W, places: &JobPlaces) -> Result<(), Fa
 ///
 /// `Failed`: one of these calls failed, and none came after it.
 pub fn unmark<W: Files>(work: &mut W, places: &JobPlaces) -> Result<(), Failed>
-    requires unused { AreUnused (W.world work.old) places.now.marks }
-    ensures did { Did W.act (W.world work.old) (W.world work.new) (λ w es. Carries (unmark_requests places.now) (is_ok result) es) }
-    ensures stays { OnOk result (IsSome (W.world work.old) → IsSome (W.world work.new)) }
-    ensures cause { HasCause (W.faults work.old) (W.faults work.new) (IsErr result) }
-    ensures running { W.running work.new ≡ W.running work.old }
+    requires unused { AreUnused (W.device work.old).world places.now.marks }
+    ensures did { Did W.act (W.device work.old).world (W.device work.new).world (λ w es. Carries (unmark_requests places.now) (is_ok result) es) }
+    ensures stays { OnOk result (IsSome (W.device work.old).world → IsSome (W.device work.new).world) }
+    ensures cause { HasCause (W.device work.old).faults (W.device work.new).faults (is_err result) }
+    ensures running { (W.device work.new).running ≡ (W.device work.old).running }
 {
     remove_each(work, places.marks.as_slice())?;
     work.settle(&places.marks)
@@ -120,11 +120,11 @@ pub fn unmark<W: Files>(work: &mut W, places: &JobPlaces) -> Result<(), Failed>
 /// `Failed`: one of these calls failed, and none came after it.
 pub fn unlock<W: Files>(work: &mut W, place: &List<Place>) -> Result<(), Failed>
     requires lock { place.now ≡ lock_place ∷ [] }
-    requires unused { AreUnused (W.world work.old) place.now }
-    ensures did { Did W.act (W.world work.old) (W.world work.new) (λ w es. Carries (unlock_requests place.now) (is_ok result) es) }
-    ensures stays { OnOk result (IsSome (W.world work.old) → IsSome (W.world work.new)) }
-    ensures cause { HasCause (W.faults work.old) (W.faults work.new) (IsErr result) }
-    ensures running { W.running work.new ≡ W.running work.old }
+    requires unused { AreUnused (W.device work.old).world place.now }
+    ensures did { Did W.act (W.device work.old).world (W.device work.new).world (λ w es. Carries (unlock_requests place.now) (is_ok result) es) }
+    ensures stays { OnOk result (IsSome (W.device work.old).world → IsSome (W.device work.new).world) }
+    ensures cause { HasCause (W.device work.old).faults (W.device work.new).faults (is_err result) }
+    ensures running { (W.device work.new).running ≡ (W.device work.old).running }
 {
     remove_each(work, place.as_slice())?;
     work.settle(place)
@@ -135,10 +135,10 @@ pub fn unlock<W: Files>(work: &mut W, place: &List<Place>) -> Result<(), Failed>
 /// `Failed`: one of these calls failed, and none came after it.
 pub fn lock<W: Files>(work: &mut W, place: &List<Place>) -> Result<bool, Failed>
     requires lock { place.now ≡ lock_place ∷ [] }
-    ensures did { Did W.act (W.world work.old) (W.world work.new) (λ w es. HasLocked result es) }
-    ensures stays { IfOk result (λ made. IsSome (W.world work.old) → IsSome (W.world work.new)) }
-    ensures cause { HasCause (W.faults work.old) (W.faults work.new) (IsErr result) }
-    ensures running { W.running work.new ≡ W.running work.old }
+    ensures did { Did W.act (W.device work.old).world (W.device work.new).world (λ w es. HasLocked result es) }
+    ensures stays { IfOk result (λ made. IsSome (W.device work.old).world → IsSome (W.device work.new).world) }
+    ensures cause { HasCause (W.device work.old).faults (W.device work.new).faults (is_err result) }
+    ensures running { (W.device work.new).running ≡ (W.device work.old).running }
 {
     let lock = &place.as_slice()[0];
     work.make_parents(lock)?;

@@ -57,9 +57,9 @@ fn look_in<W: Files>(
     requires kept { AreKept walk.old.found walk.old.names walk.old.folders }
     requires inside { IsTrue (is_at_or_under folder.now path.now) }
     ensures kept { OnOk result (AreKept walk.new.found walk.new.names walk.new.folders) }
-    ensures looked { HasLooked W.act (W.world work.old) (W.world work.new) (W.faults work.old) (W.faults work.new) (W.running work.old) (W.running work.new) (IsErrOf result WorkFault.Failed) }
-    ensures listings { Did W.act (W.world work.old) (W.world work.new) (λ w es. AreListings path.now (is_device result) es) }
-    ensures told { IfOk result (λ good. (w : World) → W.world work.old ≡ Some w → IsOpenFolder w.nodes path.now
+    ensures looked { HasLooked W.act (W.device work.old).world (W.device work.new).world (W.device work.old).faults (W.device work.new).faults (W.device work.old).running (W.device work.new).running (IsErrOf result WorkFault.Failed) }
+    ensures listings { Did W.act (W.device work.old).world (W.device work.new).world (λ w es. AreListings path.now (is_device result) es) }
+    ensures told { IfOk result (λ good. (w : World) → (W.device work.old).world ≡ Some w → IsOpenFolder w.nodes path.now
         → IsListedIn w.nodes path.now front.now folder.now walk.old.found walk.new.found good) }
 {
     let listing = work.list(alloc, folder)?;
@@ -81,9 +81,9 @@ fn look_at<W: Files>(
     requires kept { AreKept walk.old.found walk.old.names walk.old.folders }
     requires within { at < length walk.old.found }
     ensures kept { OnOk result (AreKept walk.new.found walk.new.names walk.new.folders) }
-    ensures looked { HasLooked W.act (W.world work.old) (W.world work.new) (W.faults work.old) (W.faults work.new) (W.running work.old) (W.running work.new) (IsErrOf result WorkFault.Failed) }
-    ensures listings { Did W.act (W.world work.old) (W.world work.new) (λ w es. AreListings path.now (is_device result) es) }
-    ensures told { IfOk result (λ good. (w : World) → W.world work.old ≡ Some w → IsOpenFolder w.nodes path.now
+    ensures looked { HasLooked W.act (W.device work.old).world (W.device work.new).world (W.device work.old).faults (W.device work.new).faults (W.device work.old).running (W.device work.new).running (IsErrOf result WorkFault.Failed) }
+    ensures listings { Did W.act (W.device work.old).world (W.device work.new).world (λ w es. AreListings path.now (is_device result) es) }
+    ensures told { IfOk result (λ good. (w : World) → (W.device work.old).world ≡ Some w → IsOpenFolder w.nodes path.now
         → IsWalk w.nodes path.now walk.old.found (member_places path.now (drop at walk.old.found))
         → Either good (IsWalk w.nodes path.now walk.new.found (member_places path.now (drop (at + 1) walk.new.found))) (HasNoMembers w.nodes path.now)) }
 {
@@ -106,9 +106,9 @@ fn walk_all<W: Files>(
     requires kept { AreKept walk.old.found walk.old.names walk.old.folders }
     requires none { walk.old.found ≡ [] }
     ensures kept { OnOk result (AreKept walk.new.found walk.new.names walk.new.folders) }
-    ensures looked { HasLooked W.act (W.world work.old) (W.world work.new) (W.faults work.old) (W.faults work.new) (W.running work.old) (W.running work.new) (IsErrOf result WorkFault.Failed) }
-    ensures listings { Did W.act (W.world work.old) (W.world work.new) (λ w es. AreListings folder.now (is_device result) es) }
-    ensures told { IfOk result (λ good. (w : World) → W.world work.old ≡ Some w → IsOpenFolder w.nodes folder.now
+    ensures looked { HasLooked W.act (W.device work.old).world (W.device work.new).world (W.device work.old).faults (W.device work.new).faults (W.device work.old).running (W.device work.new).running (IsErrOf result WorkFault.Failed) }
+    ensures listings { Did W.act (W.device work.old).world (W.device work.new).world (λ w es. AreListings folder.now (is_device result) es) }
+    ensures told { IfOk result (λ good. (w : World) → (W.device work.old).world ≡ Some w → IsOpenFolder w.nodes folder.now
         → Either good (IsWalk w.nodes folder.now walk.new.found []) (HasNoMembers w.nodes folder.now)) }
 {
     let top = Place::user(alloc, folder)?;
@@ -136,9 +136,9 @@ pub fn members_of<W: Files>(
     work: &mut W,
     folder: &PathText,
 ) -> Result<Listed, WorkFault>
-    ensures looked { HasLooked W.act (W.world work.old) (W.world work.new) (W.faults work.old) (W.faults work.new) (W.running work.old) (W.running work.new) (IsErrOf result WorkFault.Failed) }
-    ensures listings { Did W.act (W.world work.old) (W.world work.new) (λ w es. AreListings folder.now (is_device result) es) }
-    ensures told { IfOk result (λ listed. (w : World) → W.world work.old ≡ Some w → IsOpenFolder w.nodes folder.now → IsListed w.nodes folder.now listed) }
+    ensures looked { HasLooked W.act (W.device work.old).world (W.device work.new).world (W.device work.old).faults (W.device work.new).faults (W.device work.old).running (W.device work.new).running (IsErrOf result WorkFault.Failed) }
+    ensures listings { Did W.act (W.device work.old).world (W.device work.new).world (λ w es. AreListings folder.now (is_device result) es) }
+    ensures told { IfOk result (λ listed. (w : World) → (W.device work.old).world ≡ Some w → IsOpenFolder w.nodes folder.now → IsListed w.nodes folder.now listed) }
 {
     let mut walk = nothing(alloc);
     if !walk_all(alloc, work, &mut walk, folder)? {

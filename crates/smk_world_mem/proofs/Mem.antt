@@ -1,7 +1,7 @@
 -- What one more event makes of the workspace.
-use Rattle.std.proofs.Common.{◌≡◌, ◌+◌, length, ℕ, Bool, true, false, List, [], ◌∷◌, ◌++◌, refl, ap, sym, subst, ◌∙◌, Option, Some, None, bytes_eq, append_assoc}
+use Rattle.std.proofs.Common.{◌≡◌, ◌+◌, ◌≤◌, Result, Ok, Err, length, ℕ, Bool, true, false, List, [], ◌∷◌, ◌++◌, refl, ap, sym, subst, ◌∙◌, Option, Some, None, bytes_eq, append_assoc}
 use Rattle.std.proofs.lemmas.List.{append-nil}
-use Rattle.std.specs.Prelude.{if◌then◌else◌}
+use Rattle.std.specs.Prelude.{if◌then◌else◌, IsErr}
 use Rattle.std.specs.Option.{option_map}
 use Rattle.smk_base.specs.Path.{is_under, is_at_or_under}
 use Rattle.smk_world.specs.declared.event.Node.{Node}
@@ -10,8 +10,11 @@ use Rattle.smk_world.specs.declared.event.NodeState.TheVariants.{Owned, Known}
 use Rattle.smk_world.specs.declared.event.Call.{Call}
 use Rattle.smk_world.specs.declared.event.Child.{Child}
 use Rattle.smk_world.specs.declared.event.Event.{Event}
+use Rattle.smk_world.specs.declared.event.WorkFault.{WorkFault}
 use Rattle.smk_world.specs.World.{World, after, numbers, children_after, firmly, firm, with_folder}
-use Rattle.smk_world.specs.Calls.{Happened, started_number, started_numbers, HasOwners}
+use Rattle.smk_world.specs.Calls.{Happened, Rose, failed, device_failed, started_number, started_numbers, HasOwners}
+use Rattle.smk_world.specs.Devices.{HasCalled, keeps_children}
+use Rattle.smk_world.proofs.Devices.{still_children, still_running}
 use Rattle.smk_world_nodes.specs.Nodes.{node_at, or_folder}
 use Rattle.smk_world_nodes.specs.Steps.{seen, step_world, replay, empty_world, Agrees, told_world, Orderly, AllBelow}
 use Rattle.smk_world_mem.specs.Act.{mem_act}
@@ -39,8 +42,14 @@ module _ (call : Call) (old new : Nodes) (steps more : List Step) (adds : Adds c
   }
   world_after false agrees = record { told = λ w1 e. cc; stays = λ a b. a }
 
-  pub running_after : ((cs : List Child) → children_after call cs ≡ cs) → numbers (replay empty_world more).children ≡ numbers (replay empty_world steps).children
-  running_after keeps = ap (λ w. numbers w.children) world_is ∙ ap numbers (keeps (replay empty_world steps).children)
+  -- the call as the device tells it
+  pub called_after : (told : Bool) → Agrees told old steps → (faults more_faults : ℕ) → faults ≤ more_faults → (failed call ≡ true → Rose faults more_faults) → keeps_children call ≡ true
+      → HasCalled mem_act (record { world = told_world told steps; faults = faults; running = numbers (replay empty_world steps).children }) (record { world = told_world told more; faults = more_faults; running = numbers (replay empty_world more).children }) call
+  called_after told agrees faults more_faults later rose keeps = record {
+    world = world_after told agrees;
+    cause = record { later = later; rose = rose };
+    running = ap (λ w. numbers w.children) world_is ∙ ap numbers (still_children call (replay empty_world steps).children keeps) ∙ sym (still_running call (numbers (replay empty_world steps).children) keeps);
+  }
 
 module _ (P : World → Type 0) (call : Call) (old new : Nodes) (steps more : List Step) (adds : AddsIf P call old new steps more) where
   pub world_is_if : replay empty_world more ≡ after (replay empty_world steps) (record { call = call; left = adds.left })
@@ -76,3 +85,11 @@ module _ (call : Call) (old new : Nodes) (steps more : List Step) (adds : Adds c
         distinct = o.distinct;
         owned = subst HasOwners (sym is) (owners_after (replay empty_world steps) call adds.left o.owned none (keeps _));
       }
+
+-- a failure of the device is an error
+pub failed_err : {T : Type 0} (r : Result T WorkFault) → device_failed r ≡ true → IsErr r
+failed_err (Ok t) h = h
+failed_err (Err e) h = refl
+
+pub never_failed : {P : Type 0} → false ≡ true → P
+never_failed e = cc

@@ -156,19 +156,15 @@ impl MemWork {
 }
 
 impl Files for MemWork {
-    ghost world = { λ m. told_world m.told m.steps };
-
-    ghost faults = { λ m. m.faults };
-
-    ghost running = { λ m. numbers (replay empty_world m.steps).children };
+    ghost device = { λ m. record { world = told_world m.told m.steps; faults = m.faults; running = numbers (replay empty_world m.steps).children } };
 
     ghost act = { mem_act };
 
-    ghost same_numbers = { λ m w h. same_numbers_told m.told m.steps w h };
-
-    ghost formed = { λ m w h. formed_told m.told m.steps w h };
-
-    ghost owned = { λ m w h. owned_told m.told m.steps m.children m.next m.orderly w h };
+    ghost sound = { λ m. record {
+      same_numbers = λ w h. same_numbers_told m.told m.steps w h;
+      formed = λ w h. formed_told m.told m.steps w h;
+      owned = λ w h. owned_told m.told m.steps m.children m.next m.orderly w h;
+    } };
 
     fn faults(&self) -> u64 {
         self.faults

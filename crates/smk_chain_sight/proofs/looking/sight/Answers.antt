@@ -14,7 +14,7 @@ pub returns-in-Ok-clause-told : goal.returns-in-Ok-clause-told
 returns-in-Ok-clause-told g c =
     if_ok c.sources_in.result _ _
     (λ sources h w at disk read stored.
-    let t = c.in-Ok.ensures.told w (seen read w) at (viewed_of read w c.args.store.now disk (g.met.W.Files.formed c.args.work.now w at) stored) in
+    let t = c.in-Ok.ensures.told w (seen read w) at (viewed_of read w c.args.store.now disk ((g.met.W.Files.sound c.args.work.now).formed w at) stored) in
     subst (λ (s : kept.Sources). SameOnReach c.args.flow.now (sources_of (seen read w)) c.args.lists.now c.args.targets.now (told_by s)) (sym h.0) (t.small h.1).0)
     c.sources_in.ensures.ok
 
@@ -22,7 +22,7 @@ pub returns-in-Ok-clause-same_reach : goal.returns-in-Ok-clause-same_reach
 returns-in-Ok-clause-same_reach g c =
     if_ok c.sources_in.result _ _
     (λ sources h w at disk read stored.
-    let t = c.in-Ok.ensures.told w (seen read w) at (viewed_of read w c.args.store.now disk (g.met.W.Files.formed c.args.work.now w at) stored) in
+    let t = c.in-Ok.ensures.told w (seen read w) at (viewed_of read w c.args.store.now disk ((g.met.W.Files.sound c.args.work.now).formed w at) stored) in
     let same : SameOnReach c.args.flow.now (sources_of (seen read w)) c.args.lists.now c.args.targets.now (told_by sources) =
     subst (λ (s : kept.Sources). SameOnReach c.args.flow.now (sources_of (seen read w)) c.args.lists.now c.args.targets.now (told_by s)) (sym h.0) (t.small h.1).0 in
     reach_same c.args.flow.now (sources_of (seen read w)) (told_by sources) c.args.lists.now c.args.targets.now same)
@@ -32,7 +32,7 @@ pub returns-in-Ok-clause-same_derivation : goal.returns-in-Ok-clause-same_deriva
 returns-in-Ok-clause-same_derivation g c =
     if_ok c.sources_in.result _ _
     (λ sources h w at disk read stored image.
-    let t = c.in-Ok.ensures.told w (seen read w) at (viewed_of read w c.args.store.now disk (g.met.W.Files.formed c.args.work.now w at) stored) in
+    let t = c.in-Ok.ensures.told w (seen read w) at (viewed_of read w c.args.store.now disk ((g.met.W.Files.sound c.args.work.now).formed w at) stored) in
     let same : SameOnReach c.args.flow.now (sources_of (seen read w)) c.args.lists.now c.args.targets.now (told_by sources) =
     subst (λ (s : kept.Sources). SameOnReach c.args.flow.now (sources_of (seen read w)) c.args.lists.now c.args.targets.now (told_by s)) (sym h.0) (t.small h.1).0 in
     derived_same c.args.flow.now (sources_of (seen read w)) (told_by sources) c.args.lists.now c.args.targets.now
@@ -43,7 +43,7 @@ pub returns-in-Ok-clause-few : goal.returns-in-Ok-clause-few
 returns-in-Ok-clause-few g c =
     if_ok c.sources_in.result _ _
     (λ sources h w at disk read stored.
-    let t = c.in-Ok.ensures.told w (seen read w) at (viewed_of read w c.args.store.now disk (g.met.W.Files.formed c.args.work.now w at) stored) in
+    let t = c.in-Ok.ensures.told w (seen read w) at (viewed_of read w c.args.store.now disk ((g.met.W.Files.sound c.args.work.now).formed w at) stored) in
     (t.small h.1).1)
     c.sources_in.ensures.ok
 
@@ -51,7 +51,7 @@ pub returns-in-Ok-clause-too_many : goal.returns-in-Ok-clause-too_many
 returns-in-Ok-clause-too_many g c =
     if_err c.sources_in.result _ _
     (λ fault h count e w at disk read stored.
-    let t = c.in-Ok.ensures.told w (seen read w) at (viewed_of read w c.args.store.now disk (g.met.W.Files.formed c.args.work.now w at) stored) in
+    let t = c.in-Ok.ensures.told w (seen read w) at (viewed_of read w c.args.store.now disk ((g.met.W.Files.sound c.args.work.now).formed w at) stored) in
     t.large h.1)
     c.sources_in.ensures.fault
 

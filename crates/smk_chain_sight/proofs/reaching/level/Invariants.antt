@@ -9,8 +9,8 @@ use Rattle.smk_chain_sight.proofs.reaching.level.Given as goal
 
 abbrev pub invariant-loop-path : goal.invariant-loop-path
 invariant-loop-path g l = record {
-  looked : HasLooked g.W.Files.act (g.W.Files.world l.fn.work) (g.W.Files.world l.work) (g.W.Files.faults l.fn.work) (g.W.Files.faults l.work) (g.W.Files.running l.fn.work) (g.W.Files.running l.work) ⊥;
-  told : HasTold (g.W.Files.world l.fn.work) l.store l.fn.eye l.eye;
+  looked : HasLooked g.W.Files.act (g.W.Files.device l.fn.work).world (g.W.Files.device l.work).world (g.W.Files.device l.fn.work).faults (g.W.Files.device l.work).faults (g.W.Files.device l.fn.work).running (g.W.Files.device l.work).running ⊥;
+  told : HasTold (g.W.Files.device l.fn.work).world l.store l.fn.eye l.eye;
   kept : AreKept l.found;
   added : (S : Sources) → Says l.eye S → l.found.paths.items ≡ distinct bytes_eq (l.fn.found.paths.items ++ flat_map (next l.flow S l.lists) (take l.path-index l.fresh));
   listed : AllByRecursion (IsListedAround l.flow l.eye) (take l.path-index l.fresh);

@@ -13,7 +13,7 @@ decreases-has_under g l = 1000 - length l.folder.now
 
 abbrev pub invariant-loop-name : goal.invariant-loop-name
 invariant-loop-name g l = record {
-  looked : HasLooked g.W.Files.act (g.W.Files.world l.fn.work) (g.W.Files.world l.work) (g.W.Files.faults l.fn.work) (g.W.Files.faults l.work) (g.W.Files.running l.fn.work) (g.W.Files.running l.work) ⊥;
-  told : (w : World) (image : Image) → g.W.Files.world l.fn.work ≡ Some w → Viewed w.nodes l.store image → is_path_text l.folder ≡ true
+  looked : HasLooked g.W.Files.act (g.W.Files.device l.fn.work).world (g.W.Files.device l.work).world (g.W.Files.device l.fn.work).faults (g.W.Files.device l.work).faults (g.W.Files.device l.fn.work).running (g.W.Files.device l.work).running ⊥;
+  told : (w : World) (image : Image) → (g.W.Files.device l.fn.work).world ≡ Some w → Viewed w.nodes l.store image → is_path_text l.folder ≡ true
       → All (NoneAt image l.folder) (take l.name-index l.name-items);
 }

@@ -8,7 +8,7 @@ use Rattle.smk_chain_sight.proofs.seeing.any_source.Given as goal
 
 abbrev pub invariant-loop-path : goal.invariant-loop-path
 invariant-loop-path g l = record {
-  looked : HasLooked g.W.Files.act (g.W.Files.world l.fn.work) (g.W.Files.world l.work) (g.W.Files.faults l.fn.work) (g.W.Files.faults l.work) (g.W.Files.running l.fn.work) (g.W.Files.running l.work) ⊥;
-  told : (w : World) (image : Image) → g.W.Files.world l.fn.work ≡ Some w → Viewed w.nodes l.store image → AreSighted image l.fn.seen
+  looked : HasLooked g.W.Files.act (g.W.Files.device l.fn.work).world (g.W.Files.device l.work).world (g.W.Files.device l.fn.work).faults (g.W.Files.device l.work).faults (g.W.Files.device l.fn.work).running (g.W.Files.device l.work).running ⊥;
+  told : (w : World) (image : Image) → (g.W.Files.device l.fn.work).world ≡ Some w → Viewed w.nodes l.store image → AreSighted image l.fn.seen
       → (list_any (is_source image) l.paths ≡ list_any (is_source image) (drop l.path-index l.paths)) × AreSighted image l.seen;
 }

@@ -7,7 +7,7 @@ use Rattle.smk_chain_sight.proofs.telling.tell_jobs.Given as goal
 
 abbrev pub invariant-loop-job : goal.invariant-loop-job
 invariant-loop-job g l = record {
-  looked : HasLooked g.W.Files.act (g.W.Files.world l.fn.work) (g.W.Files.world l.work) (g.W.Files.faults l.fn.work) (g.W.Files.faults l.work) (g.W.Files.running l.fn.work) (g.W.Files.running l.work) ⊥;
-  told : HasTold (g.W.Files.world l.fn.work) l.store l.fn.eye l.eye;
+  looked : HasLooked g.W.Files.act (g.W.Files.device l.fn.work).world (g.W.Files.device l.work).world (g.W.Files.device l.fn.work).faults (g.W.Files.device l.work).faults (g.W.Files.device l.fn.work).running (g.W.Files.device l.work).running ⊥;
+  told : HasTold (g.W.Files.device l.fn.work).world l.store l.fn.eye l.eye;
   listed : AllByRecursion (JobTold l.flow l.eye) (take l.job-index l.jobs);
 }

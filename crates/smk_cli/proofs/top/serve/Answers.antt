@@ -25,8 +25,8 @@ returns-in-Ok-clause-unread g c = λ never. absurd (never (c.in-Ok.request, c.in
 pub returns-in-Ok-clause-serves : goal.returns-in-Ok-clause-serves
 returns-in-Ok-clause-serves g c = λ asked is_asked w at read hand.
     subst
-    (λ r. Serves g.W.Files.act read w c.serve_request.result (g.W.Files.world c.args.work.now) (g.W.Files.world c.serve_request.new.work)
-    (Rose (g.W.Files.faults c.args.work.now) (g.W.Files.faults c.serve_request.new.work)) (g.W.Files.running c.serve_request.new.work)
-    (g.O.Sink.put_so_far c.args.out.now) (g.O.Sink.put_so_far c.serve_request.new.out) r)
+    (λ r. Serves g.W.Files.act read w c.serve_request.result (g.W.Files.device c.args.work.now).world (g.W.Files.device c.serve_request.new.work).world
+    (Rose (g.W.Files.device c.args.work.now).faults (g.W.Files.device c.serve_request.new.work).faults) (g.W.Files.device c.serve_request.new.work).running
+    (g.O.Sink.sunk c.args.out.now).put (g.O.Sink.sunk c.serve_request.new.out).put r)
     (one_request (map string_bytes c.args.words.now) c.in-Ok.request asked c.in-Ok.ensures.ok is_asked)
     (c.serve_request.ensures.serves w at read hand)

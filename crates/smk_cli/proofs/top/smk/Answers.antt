@@ -1,4 +1,4 @@
-use Rattle.smk_serve.proofs.Ended.{cause_as}
+use Rattle.smk_serve.proofs.Ended.{caused_as}
 use Rattle.smk_cli.proofs.Outcomes.{outcome_device, outcome_output, outcome_unread}
 use Rattle.smk_cli.proofs.top.smk.Goals as goal
 
@@ -8,10 +8,10 @@ returns-clause-unread g c = λ never.
     (outcome_unread c.serve-answer.result c.tell.result.fault c.tell.ensures.fault h.0, h.1, h.2)
 
 pub returns-clause-device : goal.returns-clause-device
-returns-clause-device g c = cause_as _ _ _ _ (outcome_device c.serve-answer.result c.tell.result.fault c.tell.ensures.fault) c.serve-answer.ensures.ended.device
+returns-clause-device g c = caused_as _ _ _ _ (outcome_device c.serve-answer.result c.tell.result.fault c.tell.ensures.fault) c.serve-answer.ensures.ended.device
 
 pub returns-clause-output : goal.returns-clause-output
-returns-clause-output g c = cause_as _ _ _ _ (outcome_output c.serve-answer.result c.tell.result.fault c.tell.ensures.fault) c.serve-answer.ensures.ended.output
+returns-clause-output g c = caused_as _ _ _ _ (outcome_output c.serve-answer.result c.tell.result.fault c.tell.ensures.fault) c.serve-answer.ensures.ended.output
 
 pub returns-clause-children : goal.returns-clause-children
 returns-clause-children g c = c.serve-answer.ensures.ended.children

@@ -8,7 +8,7 @@ use Rattle.smk_cli_entry.proofs.naming.stat.Goals as goal
 pub returns-in-Ok-clause-did : goal.returns-in-Ok-clause-did
 returns-in-Ok-clause-did g c =
     let files = g.W.Files in
-    let idle : IsEntry (files.world c.args.work.now) = λ w told. idle_of w _ (g.met.W.Files.same_numbers c.args.work.now w told) (g.met.W.Files.owned c.args.work.now w told) c.requires.none_runs in
+    let idle : IsEntry (files.device c.args.work.now).world = λ w told. idle_of w _ ((g.met.W.Files.sound c.args.work.now).same_numbers w told) ((g.met.W.Files.sound c.args.work.now).owned w told) c.requires.none_runs in
     seen_stat files.act _ _ c.args.place.now c.in-Ok.stat idle c.in-Ok.ensures.world
 
 pub returns-in-Err-clause-did : goal.returns-in-Err-clause-did

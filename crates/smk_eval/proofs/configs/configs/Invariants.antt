@@ -10,10 +10,10 @@ use Rattle.smk_eval.proofs.configs.configs.Given as goal
 abbrev pub invariant-loop-text : goal.invariant-loop-text
 invariant-loop-text g l =
     let files = g.W.Files in record {
-      did : Did files.act (files.world l.fn.work) (files.world l.work)
+      did : Did files.act (files.device l.fn.work).world (files.device l.work).world
           (HasSeen false (λ nodes. configs nodes (members l.config) (drop l.text-index l.texts) ≡ configs nodes no_members l.texts));
-      stays : IsSome (files.world l.fn.work) → IsSome (files.world l.work);
-      later : files.faults l.fn.work ≤ files.faults l.work;
-      running : files.running l.work ≡ [];
-      same : files.running l.work ≡ files.running l.fn.work;
+      stays : IsSome (files.device l.fn.work).world → IsSome (files.device l.work).world;
+      later : (files.device l.fn.work).faults ≤ (files.device l.work).faults;
+      running : (files.device l.work).running ≡ [];
+      same : (files.device l.work).running ≡ (files.device l.fn.work).running;
     }

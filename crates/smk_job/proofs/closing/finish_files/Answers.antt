@@ -38,8 +38,8 @@ returns-in-Ok-None-clause-did g c =
     let j = underway r.recipe r.logs r.stamps r.made c.going.inside.number in
     let ready : IsReady j.recipe j.logs j.stamps j.made outs r.places r.records = record { outputs = c.as_slice.ensures ∙ v.outputs; at_places = v.at_places; bytes = v.bytes; valid = v.valid } in
     let lets = lets_as _ j c.args.going c.going.view_is c.requires.room in
-    subst (λ k. Did act (g.W.Files.world c.args.work.now) (g.W.Files.world c.settle_files.new.work) (λ w es. HasFinished k (Ok tt) w es)) c.going.view_is
-    (finished_well j outs r.places r.records ready act _ _ (g.met.W.Files.owned c.args.work.now) lets c.settle_files.result (c.in-Ok-None.is ∙ ap Ok c.in-Ok-None.field-0-is) c.settle_files.ensures.did)
+    subst (λ k. Did act (g.W.Files.device c.args.work.now).world (g.W.Files.device c.settle_files.new.work).world (λ w es. HasFinished k (Ok tt) w es)) c.going.view_is
+    (finished_well j outs r.places r.records ready act _ _ ((g.met.W.Files.sound c.args.work.now).owned) lets c.settle_files.result (c.in-Ok-None.is ∙ ap Ok c.in-Ok-None.field-0-is) c.settle_files.ensures.did)
 
 pub returns-in-Ok-Some-clause-did : goal.returns-in-Ok-Some-clause-did
 returns-in-Ok-Some-clause-did g c =
@@ -50,8 +50,8 @@ returns-in-Ok-Some-clause-did g c =
     let j = underway r.recipe r.logs r.stamps r.made c.going.inside.number in
     let ready : IsReady j.recipe j.logs j.stamps j.made outs r.places r.records = record { outputs = c.as_slice.ensures ∙ v.outputs; at_places = v.at_places; bytes = v.bytes; valid = v.valid } in
     let lets = lets_as _ j c.args.going c.going.view_is c.requires.room in
-    subst (λ k. Did act (g.W.Files.world c.args.work.now) (g.W.Files.world c.settle_files.new.work) (λ w es. HasFinished k (Err c.fault_of.result) w es)) c.going.view_is
-    (finished_wrong j outs r.places r.records ready act _ _ (g.met.W.Files.owned c.args.work.now) lets c.settle_files.result c.in-Ok-Some.at c.in-Ok-Some.wrong c.path_of.result c.fault_of.result
+    subst (λ k. Did act (g.W.Files.device c.args.work.now).world (g.W.Files.device c.settle_files.new.work).world (λ w es. HasFinished k (Err c.fault_of.result) w es)) c.going.view_is
+    (finished_wrong j outs r.places r.records ready act _ _ ((g.met.W.Files.sound c.args.work.now).owned) lets c.settle_files.result c.in-Ok-Some.at c.in-Ok-Some.wrong c.path_of.result c.fault_of.result
     (c.in-Ok-Some.is ∙ ap Ok (c.in-Ok-Some.field-0-is))
     (c.path_of.ensures ∙ ap (λ os. path_at os c.in-Ok-Some.at) (sym c.as_slice.ensures)) c.fault_of.ensures.value c.settle_files.ensures.did)
 
@@ -64,5 +64,5 @@ returns-in-Err-clause-did g c =
     let j = underway r.recipe r.logs r.stamps r.made c.going.inside.number in
     let ready : IsReady j.recipe j.logs j.stamps j.made outs r.places r.records = record { outputs = c.as_slice.ensures ∙ v.outputs; at_places = v.at_places; bytes = v.bytes; valid = v.valid } in
     let lets = lets_as _ j c.args.going c.going.view_is c.requires.room in
-    subst (λ k. Did act (g.W.Files.world c.args.work.now) (g.W.Files.world c.settle_files.new.work) (λ w es. HasFinished k (Err Device) w es)) c.going.view_is
-    (finished_badly j outs r.places r.records ready act _ _ (g.met.W.Files.owned c.args.work.now) lets c.settle_files.result c.in-Err.field-0 c.in-Err.is c.settle_files.ensures.did)
+    subst (λ k. Did act (g.W.Files.device c.args.work.now).world (g.W.Files.device c.settle_files.new.work).world (λ w es. HasFinished k (Err Device) w es)) c.going.view_is
+    (finished_badly j outs r.places r.records ready act _ _ ((g.met.W.Files.sound c.args.work.now).owned) lets c.settle_files.result c.in-Err.field-0 c.in-Err.is c.settle_files.ensures.did)

@@ -31,8 +31,8 @@ returns-in-Ok-clause-did g c =
     let v = c.going.invariant in
     let j = underway r.recipe r.logs r.stamps r.made c.going.inside.number in
     let lets = lets_as _ j c.args.going c.going.view_is c.requires.room in
-    subst (λ k. Did act (g.W.Files.world c.args.work.now) (g.W.Files.world c.keep.new.work) (λ w es. HasFinished k (Ok tt) w es)) c.going.view_is
-    (all_kept j r.outs r.places r.records v act _ (g.met.W.Files.owned c.args.work.now) lets _ _ c.in-Ok-Records.records c.look_through.result (c.in-Ok-Records.is ∙ ap Ok c.in-Ok-Records.field-0-is) c.look_through.ensures.seen (fault_err c.keep.result (keep_requests r.places c.in-Ok-Records.records) act _ _ true (ap is_ok c.in-Ok.is) c.keep.ensures.did))
+    subst (λ k. Did act (g.W.Files.device c.args.work.now).world (g.W.Files.device c.keep.new.work).world (λ w es. HasFinished k (Ok tt) w es)) c.going.view_is
+    (all_kept j r.outs r.places r.records v act _ ((g.met.W.Files.sound c.args.work.now).owned) lets _ _ c.in-Ok-Records.records c.look_through.result (c.in-Ok-Records.is ∙ ap Ok c.in-Ok-Records.field-0-is) c.look_through.ensures.seen (fault_err c.keep.result (keep_requests r.places c.in-Ok-Records.records) act _ _ true (ap is_ok c.in-Ok.is) c.keep.ensures.did))
 
 pub returns-in-Ok-clause-memory : goal.returns-in-Ok-clause-memory
 returns-in-Ok-clause-memory g c = has_folders c.args.going.recipe c.requires.folders
@@ -44,8 +44,8 @@ returns-in-Ok-Records-clause-did g c =
     let v = c.going.invariant in
     let j = underway r.recipe r.logs r.stamps r.made c.going.inside.number in
     let lets = lets_as _ j c.args.going c.going.view_is c.requires.room in
-    subst (λ k. Did act (g.W.Files.world c.args.work.now) (g.W.Files.world c.keep.new.work) (λ w es. HasFinished k (Err Device) w es)) c.going.view_is
-    (kept_cut j r.outs r.places r.records v act _ (g.met.W.Files.owned c.args.work.now) lets _ _ c.in-Ok-Records.records c.look_through.result (c.in-Ok-Records.is ∙ ap Ok c.in-Ok-Records.field-0-is) c.look_through.ensures.seen (fault_err c.keep.result (keep_requests r.places c.in-Ok-Records.records) act _ _ false (ap is_ok c.in-Err-keep.is) c.keep.ensures.did))
+    subst (λ k. Did act (g.W.Files.device c.args.work.now).world (g.W.Files.device c.keep.new.work).world (λ w es. HasFinished k (Err Device) w es)) c.going.view_is
+    (kept_cut j r.outs r.places r.records v act _ ((g.met.W.Files.sound c.args.work.now).owned) lets _ _ c.in-Ok-Records.records c.look_through.result (c.in-Ok-Records.is ∙ ap Ok c.in-Ok-Records.field-0-is) c.look_through.ensures.seen (fault_err c.keep.result (keep_requests r.places c.in-Ok-Records.records) act _ _ false (ap is_ok c.in-Err-keep.is) c.keep.ensures.did))
 
 pub returns-in-Ok-Records-clause-memory : goal.returns-in-Ok-Records-clause-memory
 returns-in-Ok-Records-clause-memory g c = has_folders c.args.going.recipe c.requires.folders
@@ -72,8 +72,8 @@ returns-in-Ok-lose-clause-did g c =
     let v = c.going.invariant in
     let j = underway r.recipe r.logs r.stamps r.made c.going.inside.number in
     let lets = lets_as _ j c.args.going c.going.view_is c.requires.room in
-    subst (λ k. Did act (g.W.Files.world c.args.work.now) (g.W.Files.world c.lose.new.work) (λ w es. HasFinished k (Err c.fault_of.result) w es)) c.going.view_is
-    (all_lost j r.outs r.places r.records v act _ (g.met.W.Files.owned c.args.work.now) lets _ _ c.in-Ok-Wrongly.at c.in-Ok-Wrongly.wrong c.path_of.result c.fault_of.result c.look_through.result (c.in-Ok-Wrongly.is ∙ ap Ok c.in-Ok-Wrongly.field-0-is) c.path_of.ensures c.fault_of.ensures.value c.look_through.ensures.seen (fault_err c.lose.result _ act _ _ true (ap is_ok c.in-Ok-lose.is) c.lose.ensures.did))
+    subst (λ k. Did act (g.W.Files.device c.args.work.now).world (g.W.Files.device c.lose.new.work).world (λ w es. HasFinished k (Err c.fault_of.result) w es)) c.going.view_is
+    (all_lost j r.outs r.places r.records v act _ ((g.met.W.Files.sound c.args.work.now).owned) lets _ _ c.in-Ok-Wrongly.at c.in-Ok-Wrongly.wrong c.path_of.result c.fault_of.result c.look_through.result (c.in-Ok-Wrongly.is ∙ ap Ok c.in-Ok-Wrongly.field-0-is) c.path_of.ensures c.fault_of.ensures.value c.look_through.ensures.seen (fault_err c.lose.result _ act _ _ true (ap is_ok c.in-Ok-lose.is) c.lose.ensures.did))
 
 pub returns-in-Ok-lose-clause-memory : goal.returns-in-Ok-lose-clause-memory
 returns-in-Ok-lose-clause-memory g c = has_folders c.args.going.recipe c.requires.folders
@@ -85,8 +85,8 @@ returns-in-Ok-Wrongly-clause-did g c =
     let v = c.going.invariant in
     let j = underway r.recipe r.logs r.stamps r.made c.going.inside.number in
     let lets = lets_as _ j c.args.going c.going.view_is c.requires.room in
-    subst (λ k. Did act (g.W.Files.world c.args.work.now) (g.W.Files.world c.lose.new.work) (λ w es. HasFinished k (Err Device) w es)) c.going.view_is
-    (lost_cut j r.outs r.places r.records v act _ (g.met.W.Files.owned c.args.work.now) lets _ _ c.in-Ok-Wrongly.at c.in-Ok-Wrongly.wrong c.look_through.result (c.in-Ok-Wrongly.is ∙ ap Ok c.in-Ok-Wrongly.field-0-is) c.look_through.ensures.seen (fault_err c.lose.result _ act _ _ false (ap is_ok c.in-Err-lose.is) c.lose.ensures.did))
+    subst (λ k. Did act (g.W.Files.device c.args.work.now).world (g.W.Files.device c.lose.new.work).world (λ w es. HasFinished k (Err Device) w es)) c.going.view_is
+    (lost_cut j r.outs r.places r.records v act _ ((g.met.W.Files.sound c.args.work.now).owned) lets _ _ c.in-Ok-Wrongly.at c.in-Ok-Wrongly.wrong c.look_through.result (c.in-Ok-Wrongly.is ∙ ap Ok c.in-Ok-Wrongly.field-0-is) c.look_through.ensures.seen (fault_err c.lose.result _ act _ _ false (ap is_ok c.in-Err-lose.is) c.lose.ensures.did))
 
 pub returns-in-Ok-Wrongly-clause-memory : goal.returns-in-Ok-Wrongly-clause-memory
 returns-in-Ok-Wrongly-clause-memory g c = has_folders c.args.going.recipe c.requires.folders
@@ -98,8 +98,8 @@ returns-clause-did g c =
     let v = c.going.invariant in
     let j = underway r.recipe r.logs r.stamps r.made c.going.inside.number in
     let lets = lets_as _ j c.args.going c.going.view_is c.requires.room in
-    subst (λ k. Did act (g.W.Files.world c.args.work.now) (g.W.Files.world c.look_through.new.work) (λ w es. HasFinished k (Err c.fault_in.result) w es)) c.going.view_is
-    (looks_failed j r.outs r.places r.records v act _ (g.met.W.Files.owned c.args.work.now) lets _ c.in-Err.fault c.fault_in.result c.look_through.result c.in-Err.is c.fault_in.ensures c.look_through.ensures.seen)
+    subst (λ k. Did act (g.W.Files.device c.args.work.now).world (g.W.Files.device c.look_through.new.work).world (λ w es. HasFinished k (Err c.fault_in.result) w es)) c.going.view_is
+    (looks_failed j r.outs r.places r.records v act _ ((g.met.W.Files.sound c.args.work.now).owned) lets _ c.in-Err.fault c.fault_in.result c.look_through.result c.in-Err.is c.fault_in.ensures c.look_through.ensures.seen)
 
 pub returns-clause-memory : goal.returns-clause-memory
 returns-clause-memory g c = has_folders c.args.going.recipe c.requires.folders

@@ -7,8 +7,8 @@ use Rattle.smk_job.proofs.folders.look_through.Given as goal
 
 abbrev pub invariant-loop-i : goal.invariant-loop-i
 invariant-loop-i g l = record {
-  looked : HasLooked g.W.Files.act (g.W.Files.world l.initial.work) (g.W.Files.world l.work) (g.W.Files.faults l.initial.work) (g.W.Files.faults l.work) (g.W.Files.running l.initial.work) (g.W.Files.running l.work) ⊥;
-  seen : Did g.W.Files.act (g.W.Files.world l.initial.work) (g.W.Files.world l.work)
+  looked : HasLooked g.W.Files.act (g.W.Files.device l.initial.work).world (g.W.Files.device l.work).world (g.W.Files.device l.initial.work).faults (g.W.Files.device l.work).faults (g.W.Files.device l.initial.work).running (g.W.Files.device l.work).running ⊥;
+  seen : Did g.W.Files.act (g.W.Files.device l.initial.work).world (g.W.Files.device l.work).world
       (λ w es. AreKnown w.nodes l.outs → AreGood (core l.ready.recipe l.ready.stamps l.ready.made) w.nodes (take l.i l.outs) l.records es);
   sizes : length l.records ≡ l.i;
 }

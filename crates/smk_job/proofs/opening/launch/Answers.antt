@@ -1,5 +1,5 @@
 use Rattle.smk_job.proofs.Rooms.{begin_outputs}
-use Rattle.smk_job.proofs.Launching.{may_start_told, not_launched_by, then_started, before_same}
+use Rattle.smk_job.proofs.Launching.{may_start_told, not_launched_by, then_started, before_same, started_running, none_started}
 use Rattle.smk_job.proofs.opening.launch.Goals as goal
 
 pub prepare-requires : goal.prepare-requires
@@ -7,7 +7,7 @@ prepare-requires g c = record { unused = begin_outputs _ c.args.recipe.now c.arg
 
 pub start-requires : goal.start-requires
 start-requires g c = record {
-  may = may_start_told g.W.Files.act c.args.recipe.now c.args.logs.now _ _ c.requires.paths (g.met.W.Files.owned c.args.work.now) c.requires.room
+  may = may_start_told g.W.Files.act c.args.recipe.now c.args.logs.now _ _ c.requires.paths ((g.met.W.Files.sound c.args.work.now).owned) c.requires.room
       (before_same g.W.Files.act c.args.recipe.now c.args.logs.now c.args.places.now c.args.owned.now _ _ c.requires.at c.requires.own c.in_ok-prepare.ensures.did);
 }
 
@@ -19,4 +19,10 @@ pub returns-clause-did : goal.returns-clause-did
 returns-clause-did g c =
     then_started g.W.Files.act c.args.recipe.now c.args.logs.now c.args.command.now c.start.result _ _ _
     (before_same g.W.Files.act c.args.recipe.now c.args.logs.now c.args.places.now c.args.owned.now _ _ c.requires.at c.requires.own c.in_ok-prepare.ensures.did)
-    c.start.ensures.world
+    c.start.ensures.called.world
+
+pub returns-clause-running : goal.returns-clause-running
+returns-clause-running g c = started_running c.args.recipe.now c.args.logs.now c.args.command.now c.start.result _ _ _ c.prepare.ensures.running c.start.ensures.called.running
+
+pub returns-clause-not_started : goal.returns-clause-not_started
+returns-clause-not_started g c = none_started c.args.recipe.now c.args.logs.now c.args.command.now c.start.result _ _ _ c.prepare.ensures.running c.start.ensures.called.running

@@ -1,6 +1,5 @@
-use Rattle.std.proofs.Common.{Ok, refl, sym, ap, ◌∙◌, arith}
+use Rattle.std.proofs.Common.{Ok, refl, sym, ap, ◌∙◌, arith, is_err}
 use Rattle.smk_world.specs.declared.event.Call.TheVariants.{Looked}
-use Rattle.smk_world.specs.Calls.{is_failed}
 use Rattle.smk_store.proofs.Each.{children_kept}
 use Rattle.smk_job.proofs.Looking.{looked_well, looked_wrong, looked_blindly, place_at, blind_as, happened_as}
 use Rattle.smk_job.proofs.sight.look_over.Goals as goal
@@ -37,7 +36,7 @@ loop-i-preserved g c =
           (place_at outs c.args.places.now i out p c.requires.at c.loop-i-test.true c.index-outs-i.is c.index-places-i.is) (sym c.wrong_of.ensures ∙ c.in-None.is) v.did
           (happened_as g.W.Files.act _ _ p c.stat.result (Ok c.in_ok-stat.stat) c.in_ok-stat.was c.stat.ensures.world);
       same = children_kept g.W.Files.act _ _ _ (Looked p c.stat.result) (λ cs. refl) v.same c.stat.ensures.world;
-      stays = λ some. c.stat.ensures.world.stays (v.stays some) (ap is_failed c.in_ok-stat.was);
+      stays = λ some. c.stat.ensures.world.stays (v.stays some) (ap is_err c.in_ok-stat.was);
       later = omega (arith, v.later, c.stat.ensures.cause.later);
       running = c.stat.ensures.running ∙ v.running;
     }

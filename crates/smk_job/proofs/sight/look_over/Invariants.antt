@@ -7,9 +7,9 @@ use Rattle.smk_job.proofs.sight.look_over.Given as goal
 
 abbrev pub invariant-loop-i : goal.invariant-loop-i
 invariant-loop-i g l = record {
-  did : Did g.W.Files.act (g.W.Files.world l.initial.work) (g.W.Files.world l.work) (AreFilesSoFar l.outs (take l.i l.outs));
-  same : SameChildren (g.W.Files.world l.initial.work) (g.W.Files.world l.work);
-  stays : IsSome (g.W.Files.world l.initial.work) → IsSome (g.W.Files.world l.work);
-  later : g.W.Files.faults l.initial.work ≤ g.W.Files.faults l.work;
-  running : g.W.Files.running l.work ≡ g.W.Files.running l.initial.work;
+  did : Did g.W.Files.act (g.W.Files.device l.initial.work).world (g.W.Files.device l.work).world (AreFilesSoFar l.outs (take l.i l.outs));
+  same : SameChildren (g.W.Files.device l.initial.work).world (g.W.Files.device l.work).world;
+  stays : IsSome (g.W.Files.device l.initial.work).world → IsSome (g.W.Files.device l.work).world;
+  later : (g.W.Files.device l.initial.work).faults ≤ (g.W.Files.device l.work).faults;
+  running : (g.W.Files.device l.work).running ≡ (g.W.Files.device l.initial.work).running;
 }

@@ -4,7 +4,7 @@ use Rattle.smk_make.proofs.making.make.Goals as goal
 pub returns-in-Err-clause-carried : goal.returns-in-Err-clause-carried
 returns-in-Err-clause-carried g c = record {
   settled = c.steady.result;
-  firm = g.W.Files.world c.steady.new.work;
+  firm = (g.W.Files.device c.steady.new.work).world;
   settling = c.steady.ensures.did;
   goes_on = not_firm g.W.Files.act c.args.flow.now c.args.cores c.args.targets.now c.args.jobs.now c.args.states.now c.args.store.now c.steady.result c.in-Err.fault c.of_store.result _ _ _ _ c.in-Err.is c.of_store.ensures;
 }
@@ -12,7 +12,7 @@ returns-in-Err-clause-carried g c = record {
 pub returns-in-Ok-clause-carried : goal.returns-in-Ok-clause-carried
 returns-in-Ok-clause-carried g c = record {
   settled = c.steady.result;
-  firm = g.W.Files.world c.steady.new.work;
+  firm = (g.W.Files.device c.steady.new.work).world;
   settling = c.steady.ensures.did;
   goes_on =
       with_settled g.W.Files.act c.args.flow.now c.args.cores c.args.targets.now c.args.jobs.now c.args.states.now c.args.store.now c.serve.result c.steady.result c.in-Ok.field-0 _ _ _ _ _ _ c.in-Ok.is

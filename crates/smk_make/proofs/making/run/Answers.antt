@@ -28,4 +28,4 @@ returns-in-Ok-clause-cause g c = record { later = c.run_jobs.ensures.cause.later
 
 pub returns-in-Ok-clause-output : goal.returns-in-Ok-clause-output
 returns-in-Ok-clause-output g c =
-    subst (λ n. HasCause n (g.O.Sink.faults c.conclude.new.out) (is_output c.conclude.result ≡ true)) (c.run_jobs.ensures.quiet (ap is_output c.in-Ok.is)) c.conclude.ensures.output
+    subst (λ n. HasCause n (g.O.Sink.sunk c.conclude.new.out).faults (is_output c.conclude.result)) (c.run_jobs.ensures.quiet (ap is_output c.in-Ok.is)) c.conclude.ensures.output

@@ -8,6 +8,6 @@ use Rattle.smk_plan_look.proofs.guards.has_guard.Given as goal
 
 abbrev pub invariant-loop : goal.invariant-loop
 invariant-loop g l = record {
-  looked : HasLooked g.W.Files.act (g.W.Files.world l.fn.work) (g.W.Files.world l.work) (g.W.Files.faults l.fn.work) (g.W.Files.faults l.work) (g.W.Files.running l.fn.work) (g.W.Files.running l.work) ⊥;
-  told : (w : World) → g.W.Files.world l.fn.work ≡ Some w → IsTree w → reads_folder (w.nodes l.folder) ≡ true → is_tellable l.folder ≡ true → AreWaiting w.nodes l.folder l.waiting;
+  looked : HasLooked g.W.Files.act (g.W.Files.device l.fn.work).world (g.W.Files.device l.work).world (g.W.Files.device l.fn.work).faults (g.W.Files.device l.work).faults (g.W.Files.device l.fn.work).running (g.W.Files.device l.work).running ⊥;
+  told : (w : World) → (g.W.Files.device l.fn.work).world ≡ Some w → IsTree w → reads_folder (w.nodes l.folder) ≡ true → is_tellable l.folder ≡ true → AreWaiting w.nodes l.folder l.waiting;
 }

@@ -8,7 +8,7 @@ use Rattle.smk_plan_look.proofs.guards.look_in.Given as goal
 
 abbrev pub invariant-loop-name : goal.invariant-loop-name
 invariant-loop-name g l = record {
-  looked : HasLooked g.W.Files.act (g.W.Files.world l.fn.work) (g.W.Files.world l.work) (g.W.Files.faults l.fn.work) (g.W.Files.faults l.work) (g.W.Files.running l.fn.work) (g.W.Files.running l.work) ⊥;
-  told : (w : World) → g.W.Files.world l.fn.work ≡ Some w → IsTree w → is_tellable l.folder ≡ true → reads_folder (w.nodes l.folder) ≡ true
+  looked : HasLooked g.W.Files.act (g.W.Files.device l.fn.work).world (g.W.Files.device l.work).world (g.W.Files.device l.fn.work).faults (g.W.Files.device l.work).faults (g.W.Files.device l.fn.work).running (g.W.Files.device l.work).running ⊥;
+  told : (w : World) → (g.W.Files.device l.fn.work).world ≡ Some w → IsTree w → is_tellable l.folder ≡ true → reads_folder (w.nodes l.folder) ≡ true
       → HasGone w.nodes l.folder (take l.name-index l.name-items) l.fn.waiting l.waiting;
 }

@@ -17,4 +17,4 @@ returns-clause-looked g c =
 pub returns-clause-told : goal.returns-clause-told
 returns-clause-told g c = λ w at tree read.
     subst (IsSeenOf (seen read w) c.args.jobs.now) (sym c.of.ensures)
-    (all_seen read w (g.met.W.Files.formed _ w at) tree c.args.jobs.now c.in_ok-paths.paths c.in_ok-sights.sights c.in_ok-paths.ensures c.in_ok-sights.ensures.paths (c.in_ok-sights.ensures.told w at tree))
+    (all_seen read w ((g.met.W.Files.sound _).formed w at) tree c.args.jobs.now c.in_ok-paths.paths c.in_ok-sights.sights c.in_ok-paths.ensures c.in_ok-sights.ensures.paths (c.in_ok-sights.ensures.told w at tree))

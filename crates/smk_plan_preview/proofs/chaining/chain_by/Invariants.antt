@@ -10,7 +10,7 @@ use Rattle.smk_plan_preview.proofs.chaining.chain_by.Given as goal
 
 abbrev pub invariant-loop : goal.invariant-loop
 invariant-loop g l = record {
-  looked : HasLooked g.W.Files.act (g.W.Files.world l.fn.work) (g.W.Files.world l.work) (g.W.Files.faults l.fn.work) (g.W.Files.faults l.work) (g.W.Files.running l.fn.work) (g.W.Files.running l.work) ⊥;
-  told : (w : World) → g.W.Files.world l.fn.work ≡ Some w → IsTree w → (read : List ℕ → Option Record) → IsStoreOf (seen read w) l.store
+  looked : HasLooked g.W.Files.act (g.W.Files.device l.fn.work).world (g.W.Files.device l.work).world (g.W.Files.device l.fn.work).faults (g.W.Files.device l.work).faults (g.W.Files.device l.fn.work).running (g.W.Files.device l.work).running ⊥;
+  told : (w : World) → (g.W.Files.device l.fn.work).world ≡ Some w → IsTree w → (read : List ℕ → Option Record) → IsStoreOf (seen read w) l.store
       → Leads read l.flow l.settings (seen read w) l.lists;
 }

@@ -10,5 +10,5 @@ returns-clause-looked g c =
 pub returns-clause-told : goal.returns-clause-told
 returns-clause-told g c =
     let e = c.sight-found.ensures in
-    sights c.args.flow.now c.args.targets.now c.args.lists.now (g.W.Files.world c.args.work.now) c.args.store.now c.sight-found.result c.of_sources.result c.of_sources.ensures.is
+    sights c.args.flow.now c.args.targets.now c.args.lists.now (g.W.Files.device c.args.work.now).world c.args.store.now c.sight-found.result c.of_sources.result c.of_sources.ensures.is
     e.told e.same_derivation e.few e.too_many e.count

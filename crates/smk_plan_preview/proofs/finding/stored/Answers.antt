@@ -7,7 +7,7 @@ returns-clause-looked g c =
     store_looked g.W.Files.act l.result c.of_load.result _ _ _ _ _ _ c.of_load.ensures.is l.ensures.did l.ensures.stays l.ensures.device l.ensures.running
 
 pub returns-clause-told : goal.returns-clause-told
-returns-clause-told g c = store_told (g.W.Files.world c.args.work.now) c.load-loaded.result c.of_load.result c.of_load.ensures.is c.load-loaded.ensures.told
+returns-clause-told g c = store_told (g.W.Files.device c.args.work.now).world c.load-loaded.result c.of_load.result c.of_load.ensures.is c.load-loaded.ensures.told
 
 pub returns-clause-untold : goal.returns-clause-untold
 returns-clause-untold g c = store_untold c.load-loaded.result c.of_load.result c.of_load.ensures.is c.load-loaded.ensures.no_stamp

@@ -23,7 +23,7 @@ returns-in-Ok-clause-looked g c = looked_then g.W.Files.act _ _ _ _ _ _ _ _ _ _ 
 
 pub returns-in-Ok-clause-told : goal.returns-in-Ok-clause-told
 returns-in-Ok-clause-told g c = λ w at tree read reads.
-    let mid = some_of (g.W.Files.world c.stored.new.work) (c.stored.ensures.looked.stays (not_failed c.stored.result c.in-Ok.store c.in-Ok.is) (ap is_some at)) in
+    let mid = some_of (g.W.Files.device c.stored.new.work).world (c.stored.ensures.looked.stays (not_failed c.stored.result c.in-Ok.store c.in-Ok.is) (ap is_some at)) in
     let same = moved g.W.Files.act _ _ w mid.0 c.stored.ensures.looked.did at mid.1 in
     let image = seen_moved read w mid.0 same in
     subst (λ i. HasPreviewed read c.args.flow.now c.args.settings.now i c.preview_stored.result) image

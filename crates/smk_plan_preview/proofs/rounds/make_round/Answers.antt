@@ -24,11 +24,11 @@ returns-in-Ok-clause-looked g c = looked_then g.W.Files.act _ _ _ _ _ _ _ _ _ _ 
 
 pub returns-in-Ok-clause-told : goal.returns-in-Ok-clause-told
 returns-in-Ok-clause-told g c = λ w at tree read st.
-    let mid = some_of (g.W.Files.world c.sighted.new.work) (c.sighted.ensures.looked.stays (not_failed c.sighted.result c.in-Ok.sources c.in-Ok.is) (ap is_some at)) in
+    let mid = some_of (g.W.Files.device c.sighted.new.work).world (c.sighted.ensures.looked.stays (not_failed c.sighted.result c.in-Ok.sources c.in-Ok.is) (ap is_some at)) in
     let same = moved g.W.Files.act _ _ w mid.0 c.sighted.ensures.looked.did at mid.1 in
     let image = seen_moved read w mid.0 same in
     subst (λ i. spec.HasRound read c.args.flow.now c.args.settings.now i c.args.lists.now c.plan_sources.result) image
     (c.plan_sources.ensures.told mid.0 mid.1 (tree_still w mid.0 same.nodes tree) read (subst (λ i. IsStoreOf i c.args.store.now) (sym image) st)
-    (seen_lists_known mid.0 (g.met.W.Files.formed _ mid.0 mid.1) read)
+    (seen_lists_known mid.0 ((g.met.W.Files.sound _).formed mid.0 mid.1) read)
     (subst (λ i. spec.IsSighted c.args.flow.now c.args.settings.now.targets c.args.lists.now i c.in-Ok.sources) (sym image)
     (sighted_ok c.args.flow.now c.args.settings.now.targets c.args.lists.now (seen read w) c.sighted.result c.in-Ok.sources c.in-Ok.is (c.sighted.ensures.told w at tree read st))))

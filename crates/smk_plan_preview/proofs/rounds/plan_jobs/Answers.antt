@@ -21,4 +21,4 @@ returns-in-Ok-clause-looked g c = quiet_then g.W.Files.act c.looked.result c.in-
 pub returns-in-Ok-clause-told : goal.returns-in-Ok-clause-told
 returns-in-Ok-clause-told g c = λ w at tree read st ready.
     c.plan_seen.ensures.told (seen read w)
-    (agree_of read w c.args.flow.now c.args.settings.now.targets _ c.args.jobs c.args.store.now c.in-Ok.seen (g.met.W.Files.formed _ w at) st (c.in-Ok.ensures.told w at tree read) ready) ready read
+    (agree_of read w c.args.flow.now c.args.settings.now.targets _ c.args.jobs c.args.store.now c.in-Ok.seen ((g.met.W.Files.sound _).formed w at) st (c.in-Ok.ensures.told w at tree read) ready) ready read

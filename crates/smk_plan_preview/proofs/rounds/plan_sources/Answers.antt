@@ -15,7 +15,7 @@ returns-in-Err-clause-looked g c =
 
 pub returns-in-Err-clause-told : goal.returns-in-Err-clause-told
 returns-in-Err-clause-told g c = λ w at tree read st listed sighted.
-    derivation_told read c.args.flow.now c.args.settings.now (seen read w) c.args.lists.now c.derived.result c.in-Err.fault c.in-Err.is (c.derived.ensures.told (seen read w) (names_all read w (g.met.W.Files.formed _ w at)) st listed sighted)
+    derivation_told read c.args.flow.now c.args.settings.now (seen read w) c.args.lists.now c.derived.result c.in-Err.fault c.in-Err.is (c.derived.ensures.told (seen read w) (names_all read w ((g.met.W.Files.sound _).formed w at)) st listed sighted)
 
 pub returns-in-Ok-clause-lists : goal.returns-in-Ok-clause-lists
 returns-in-Ok-clause-lists g c = lists_of c.plan_jobs.result c.in-Ok.jobs c.args.lists.now c.in-Ok.ensures.lists c.plan_jobs.ensures.jobs
@@ -27,4 +27,4 @@ pub returns-in-Ok-clause-told : goal.returns-in-Ok-clause-told
 returns-in-Ok-clause-told g c = λ w at tree read st listed sighted.
     round_as read c.args.flow.now c.args.settings.now (seen read w) c.plan_jobs.result c.in-Ok.jobs c.args.lists.now c.in-Ok.ensures.lists
     (c.plan_jobs.ensures.told w at tree read st
-    (ready_as c.args.flow.now c.args.settings.now.targets (seen read w) c.in-Ok.jobs c.derived.result c.args.lists.now c.in-Ok.is c.in-Ok.ensures.lists (c.derived.ensures.told (seen read w) (names_all read w (g.met.W.Files.formed _ w at)) st listed sighted)))
+    (ready_as c.args.flow.now c.args.settings.now.targets (seen read w) c.in-Ok.jobs c.derived.result c.args.lists.now c.in-Ok.is c.in-Ok.ensures.lists (c.derived.ensures.told (seen read w) (names_all read w ((g.met.W.Files.sound _).formed w at)) st listed sighted)))

@@ -20,8 +20,8 @@ pub returns-in-Err-closed-clause-run : goal.returns-in-Err-closed-clause-run
 returns-in-Err-closed-clause-run g c =
     let name : Named = record { rule = c.args.rule.now; path = c.args.path.now } in
     let f = c.in-Err-closed.fault in
-    subst (λ stop. HasTurned g.W.Files.act (HasGoneOn c.args.going) name None (Err stop) (g.W.Files.world c.args.work.now) (g.W.Files.world c.close-closed.new.work)
-    (Rose (g.W.Files.faults c.args.work.now) (g.W.Files.faults c.close-closed.new.work)) (g.W.Files.running c.close-closed.new.work) (g.O.Sink.put_so_far c.args.out.now) (g.O.Sink.put_so_far c.write_out-told.new.out)) (sym c.left.ensures.value)
+    subst (λ stop. HasTurned g.W.Files.act (HasGoneOn c.args.going) name None (Err stop) (g.W.Files.device c.args.work.now).world (g.W.Files.device c.close-closed.new.work).world
+    (Rose (g.W.Files.device c.args.work.now).faults (g.W.Files.device c.close-closed.new.work).faults) (g.W.Files.device c.close-closed.new.work).running (g.O.Sink.sunk c.args.out.now).put (g.O.Sink.sunk c.write_out-told.new.out).put) (sym c.left.ensures.value)
     (attended g.W.Files.act c.args.going name c.close-closed.result (Err f) (Err (left_stop f)) _ _ _ _ _ _ c.in-Err-closed.is (left_answer f) c.close-closed.ensures.did
     (started_text name (leaves_whole (left_stop f)) c.args.line.now _ _ _ c.requires.line c.in-Ok.ensures.put)
     c.close-closed.ensures.cause.rose c.close-closed.ensures.running c.close-closed.ensures.stays c.close-closed.ensures.given)
@@ -41,6 +41,6 @@ returns-in-Err-tell_end-clause-run g c =
     let stop = c.in-Err-tell_end.stop in
     let why = c.in-Err-tell_end.ensures.faults in
     attended g.W.Files.act c.args.going name c.close-closed.result (Ok ending) (Err stop) _ _ _ _ _ _ c.in-Ok-closed.is (cut_answer ending stop why) c.close-closed.ensures.did
-    (subst (λ whole. HasWritten (g.O.Sink.put_so_far c.args.out.now) (g.O.Sink.put_so_far c.tell_end.new.out) (is_output_stop stop ≡ false) (IsReport whole (course_text name (Closed ending)))) (sym (cut_whole stop why))
+    (subst (λ whole. HasWritten (g.O.Sink.sunk c.args.out.now).put (g.O.Sink.sunk c.tell_end.new.out).put (is_output_stop stop ≡ false) (IsReport whole (course_text name (Closed ending)))) (sym (cut_whole stop why))
     (ended_text name ending false c.args.line.now _ _ _ _ c.requires.line c.in-Ok.ensures.put c.in-Err-tell_end.ensures.put c.in-Err-tell_end.ensures.stays))
     c.close-closed.ensures.cause.rose c.close-closed.ensures.running c.close-closed.ensures.stays c.close-closed.ensures.given

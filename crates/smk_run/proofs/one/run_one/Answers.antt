@@ -16,7 +16,7 @@ returns-in_default-job_line-clause-run g c =
 
 pub begin-requires-clause-room : goal.begin-requires-clause-room
 begin-requires-clause-room g c = λ w e.
-    lets_begin w c.args.job.now.recipe c.args.job.now.logs (g.met.W.Files.same_numbers c.args.work.now w e ∙ c.requires.none_runs) c.requires.apart
+    lets_begin w c.args.job.now.recipe c.args.job.now.logs ((g.met.W.Files.sound c.args.work.now).same_numbers w e ∙ c.requires.none_runs) c.requires.apart
 
 pub returns-in-Ok-begin-clause-run : goal.returns-in-Ok-begin-clause-run
 returns-in-Ok-begin-clause-run g c =
@@ -29,7 +29,7 @@ pub returns-clause-run : goal.returns-clause-run
 returns-clause-run g c =
     let job = c.args.job.now in
     subst (λ stop. HasTurned g.W.Files.act (as_gone job c.args.command.now c.args.made c.args.stamps.now) (named c.args.flow.now job) (too_long c.args.made job.recipe c.args.stamps.now) (Err stop)
-    (g.W.Files.world c.args.work.now) (g.W.Files.world c.begin.new.work) (Rose (g.W.Files.faults c.args.work.now) (g.W.Files.faults c.begin.new.work)) (g.W.Files.running c.begin.new.work)
-    (g.O.Sink.put_so_far c.args.out.now) (g.O.Sink.put_so_far c.args.out.now)) (sym c.stop_of.ensures.value)
+    (g.W.Files.device c.args.work.now).world (g.W.Files.device c.begin.new.work).world (Rose (g.W.Files.device c.args.work.now).faults (g.W.Files.device c.begin.new.work).faults) (g.W.Files.device c.begin.new.work).running
+    (g.O.Sink.sunk c.args.out.now).put (g.O.Sink.sunk c.args.out.now).put) (sym c.stop_of.ensures.value)
     (not_turned g.W.Files.act job c.args.command.now c.args.made c.args.stamps.now _ _ c.begin.result c.in-Err.fault _ _ _ _ _ c.in-Err.is c.begin.ensures.long
-    (λ never. ap g.W.Files.world (c.in-Err.ensures.untouched never)) c.begin.ensures.cause.rose (c.in-Err.ensures.not_started ∙ c.requires.none_runs) c.begin.ensures.did)
+    (λ never. ap (λ d. (g.W.Files.device d).world) (c.in-Err.ensures.untouched never)) c.begin.ensures.cause.rose (c.in-Err.ensures.not_started ∙ c.requires.none_runs) c.begin.ensures.did)

@@ -8,11 +8,11 @@ use Rattle.smk_run.proofs.stamps.stamps_of.Given as goal
 
 abbrev pub invariant-loop-number : goal.invariant-loop-number
 invariant-loop-number g l = record {
-  did : Did g.W.Files.act (g.W.Files.world l.initial.work) (g.W.Files.world l.work) (λ w es. AreStamped (number_at l.serials) (take l.number l.paths) l.stamps es);
+  did : Did g.W.Files.act (g.W.Files.device l.initial.work).world (g.W.Files.device l.work).world (λ w es. AreStamped (number_at l.serials) (take l.number l.paths) l.stamps es);
   each : length l.stamps ≡ l.number;
   earlier : list_all (is_earlier l.made) l.stamps ≡ true;
   small : list_all is_small l.stamps ≡ true;
-  stays : IsSome (g.W.Files.world l.initial.work) → IsSome (g.W.Files.world l.work);
-  later : g.W.Files.faults l.initial.work ≤ g.W.Files.faults l.work;
-  running : g.W.Files.running l.work ≡ g.W.Files.running l.initial.work;
+  stays : IsSome (g.W.Files.device l.initial.work).world → IsSome (g.W.Files.device l.work).world;
+  later : (g.W.Files.device l.initial.work).faults ≤ (g.W.Files.device l.work).faults;
+  running : (g.W.Files.device l.work).running ≡ (g.W.Files.device l.initial.work).running;
 }

@@ -8,9 +8,9 @@ use Rattle.smk_run.proofs.turns.run_all.Given as goal
 abbrev pub invariant-loop-number : goal.invariant-loop-number
 invariant-loop-number g l = record {
   so_far : HasRunSoFar g.W.Files.act l.flow l.cores (due_from (serial_in l.serials) 0 l.duties l.jobs) (number_at l.made) l.done
-      (g.W.Files.world l.initial.work) (g.W.Files.world l.work) (Rose (g.W.Files.faults l.initial.work) (g.W.Files.faults l.work)) (g.W.Files.running l.work) (g.O.Sink.put_so_far l.initial.out) (g.O.Sink.put_so_far l.out);
+      (g.W.Files.device l.initial.work).world (g.W.Files.device l.work).world (Rose (g.W.Files.device l.initial.work).faults (g.W.Files.device l.work).faults) (g.W.Files.device l.work).running (g.O.Sink.sunk l.initial.out).put (g.O.Sink.sunk l.out).put;
   next : drop l.done (due_from (serial_in l.serials) 0 l.duties l.jobs) ≡ due_from (serial_in l.serials) l.number (drop l.number l.duties) (drop l.number l.jobs);
   few : l.done ≤ l.number;
-  later : g.W.Files.faults l.initial.work ≤ g.W.Files.faults l.work;
-  quiet : g.O.Sink.faults l.out ≡ g.O.Sink.faults l.initial.out;
+  later : (g.W.Files.device l.initial.work).faults ≤ (g.W.Files.device l.work).faults;
+  quiet : (g.O.Sink.sunk l.out).faults ≡ (g.O.Sink.sunk l.initial.out).faults;
 }

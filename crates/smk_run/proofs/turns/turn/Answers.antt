@@ -16,8 +16,8 @@ returns-in-Ok-failure-clause-run g c =
     let flow = c.args.flow.now in
     let job = c.args.job.now in
     let made = number_at c.args.serials.now in
-    let taken = subst (λ text. HasTaken g.W.Files.act flow made job text c.args.made c.take.result (g.W.Files.world c.args.work.now) (g.W.Files.world c.take.new.work)
-    (Rose (g.W.Files.faults c.args.work.now) (g.W.Files.faults c.take.new.work)) (g.W.Files.running c.take.new.work) (g.O.Sink.put_so_far c.args.out.now) (g.O.Sink.put_so_far c.take.new.out))
+    let taken = subst (λ text. HasTaken g.W.Files.act flow made job text c.args.made c.take.result (g.W.Files.device c.args.work.now).world (g.W.Files.device c.take.new.work).world
+    (Rose (g.W.Files.device c.args.work.now).faults (g.W.Files.device c.take.new.work).faults) (g.W.Files.device c.take.new.work).running (g.O.Sink.sunk c.args.out.now).put (g.O.Sink.sunk c.take.new.out).put)
     (c.as_str.ensures ∙ c.in-Ok.ensures.text) c.take.ensures.run in
     had_turn g.W.Files.act flow made job (command_of c.args.cores job) c.args.made c.in-Ok-take.ending (record { rule = c.rule_name-rule.result.now; path = c.in-Some.path.now }) c.in-Ok-failure.first c.take.result
     _ _ _ _ _ _ (by_seen c.args.job.now c.as_slice.result.now c.as_slice-2.result.now c.requires.makes c.as_slice.ensures c.as_slice-2.ensures c.see_outputs.ensures c.see_paths.ensures)
@@ -28,8 +28,8 @@ returns-in-Ok-take-clause-run g c =
     let flow = c.args.flow.now in
     let job = c.args.job.now in
     let made = number_at c.args.serials.now in
-    let taken = subst (λ text. HasTaken g.W.Files.act flow made job text c.args.made c.take.result (g.W.Files.world c.args.work.now) (g.W.Files.world c.take.new.work)
-    (Rose (g.W.Files.faults c.args.work.now) (g.W.Files.faults c.take.new.work)) (g.W.Files.running c.take.new.work) (g.O.Sink.put_so_far c.args.out.now) (g.O.Sink.put_so_far c.take.new.out))
+    let taken = subst (λ text. HasTaken g.W.Files.act flow made job text c.args.made c.take.result (g.W.Files.device c.args.work.now).world (g.W.Files.device c.take.new.work).world
+    (Rose (g.W.Files.device c.args.work.now).faults (g.W.Files.device c.take.new.work).faults) (g.W.Files.device c.take.new.work).running (g.O.Sink.sunk c.args.out.now).put (g.O.Sink.sunk c.take.new.out).put)
     (c.as_str.ensures ∙ c.in-Ok.ensures.text) c.take.ensures.run in
     had_turn_untold g.W.Files.act flow made job (command_of c.args.cores job) c.args.made c.in-Ok-take.ending c.take.result _ _ _ _ _ _
     (by_seen c.args.job.now c.as_slice.result.now c.as_slice-2.result.now c.requires.makes c.as_slice.ensures c.as_slice-2.ensures c.see_outputs.ensures c.see_paths.ensures) c.in-Ok-take.is taken
@@ -39,8 +39,8 @@ returns-clause-run g c =
     let flow = c.args.flow.now in
     let job = c.args.job.now in
     let made = number_at c.args.serials.now in
-    let taken = subst (λ text. HasTaken g.W.Files.act flow made job text c.args.made c.take.result (g.W.Files.world c.args.work.now) (g.W.Files.world c.take.new.work)
-    (Rose (g.W.Files.faults c.args.work.now) (g.W.Files.faults c.take.new.work)) (g.W.Files.running c.take.new.work) (g.O.Sink.put_so_far c.args.out.now) (g.O.Sink.put_so_far c.take.new.out))
+    let taken = subst (λ text. HasTaken g.W.Files.act flow made job text c.args.made c.take.result (g.W.Files.device c.args.work.now).world (g.W.Files.device c.take.new.work).world
+    (Rose (g.W.Files.device c.args.work.now).faults (g.W.Files.device c.take.new.work).faults) (g.W.Files.device c.take.new.work).running (g.O.Sink.sunk c.args.out.now).put (g.O.Sink.sunk c.take.new.out).put)
     (c.as_str.ensures ∙ c.in-Ok.ensures.text) c.take.ensures.run in
     had_turn_stopped g.W.Files.act flow made job (command_of c.args.cores job) c.args.made c.in-Err.stop (record { rule = c.rule_name-rule.result.now; path = c.in-Some.path.now }) c.stopped.result c.take.result
     _ _ _ _ _ _ (by_seen c.args.job.now c.as_slice.result.now c.as_slice-2.result.now c.requires.makes c.as_slice.ensures c.as_slice-2.ensures c.see_outputs.ensures c.see_paths.ensures)

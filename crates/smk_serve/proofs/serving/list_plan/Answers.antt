@@ -4,14 +4,14 @@ use Rattle.smk_plan.specs.Duties.{maker_in}
 use Rattle.smk_serve.specs.Serving.{IsRefusedPlan, IsServed, IsPlanned, Listed}
 use Rattle.smk_serve.proofs.Making.{all_make}
 use Rattle.smk_serve.proofs.ListingKinds.{listing_faults}
-use Rattle.smk_serve.proofs.Ended.{early, cause_as}
+use Rattle.smk_serve.proofs.Ended.{early, cause_of}
 use Rattle.smk_serve.proofs.Went.{kept, refused_or_stopped_listing}
 use Rattle.smk_serve.proofs.serving.list_plan.Goals as goal
 
 pub returns-in-Err-clause-ended : goal.returns-in-Err-clause-ended
 returns-in-Err-clause-ended g c =
     let l = c.plan_for.ensures.looked.looked in
-    early c.in-Err.fault _ _ _ _ _ _ _ (cause_as _ _ _ _ (λ e. ap device_failed c.in-Err.is ∙ e) l.cause) (λ quiet. l.stays (λ h. true≢false (sym h ∙ ap device_failed c.in-Err.is ∙ quiet))) l.running c.requires.none_runs
+    early c.in-Err.fault _ _ _ _ _ _ _ (cause_of _ _ _ _ (λ e. ap device_failed c.in-Err.is ∙ e) l.cause) (λ quiet. l.stays (λ h. true≢false (sym h ∙ ap device_failed c.in-Err.is ∙ quiet))) l.running c.requires.none_runs
     (c.plan_for.ensures.looked.no_sink c.in-Err.fault c.in-Err.is)
 
 pub returns-in-Err-clause-looked : goal.returns-in-Err-clause-looked

@@ -15,4 +15,4 @@ returns-clause-did g c =
     settled_last g.W.Files.act remove_each c.as_slice.result.now c.args.places.now c.args.places.now _ _ _ c.settle.result c.as_slice.ensures c.in_ok-remove_each.ensures.did c.settle.ensures.world
 
 pub remove_each-requires : goal.remove_each-requires
-remove_each-requires g c = record { unused = λ w at. all_unused w c.as_slice.result.now (g.met.W.Files.same_numbers c.args.work.now w at ∙ c.requires.none_runs) }
+remove_each-requires g c = record { unused = λ w at. all_unused w c.as_slice.result.now ((g.met.W.Files.sound c.args.work.now).same_numbers w at ∙ c.requires.none_runs) }

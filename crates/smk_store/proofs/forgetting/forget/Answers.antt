@@ -10,7 +10,7 @@ returns-in-Ok-Some-clause-did g c =
     (λ w at.
     first_one c.args.store.now w c.args.p.now c.in-Ok-Some.seen
     (if_told _ _ (Some c.in-Ok-Some.seen) (c.in-Ok-Some.is ∙ ap Ok c.in-Ok-Some.field-0-is) c.seen_under.ensures.told w at
-    (none_owned w (g.met.W.Files.owned c.args.work.now w at) (g.met.W.Files.same_numbers c.args.work.now w at ∙ c.requires.none_runs))))
+    (none_owned w ((g.met.W.Files.sound c.args.work.now).owned w at) ((g.met.W.Files.sound c.args.work.now).same_numbers w at ∙ c.requires.none_runs))))
 
 pub returns-then-is_none-clause-did : goal.returns-then-is_none-clause-did
 returns-then-is_none-clause-did g c =
@@ -18,7 +18,7 @@ returns-then-is_none-clause-did g c =
     (λ w at.
     unseen c.args.store.now w c.args.p.now
     (if_told _ _ None (c.in-Ok-None.is ∙ ap Ok c.in-Ok-None.field-0-is) c.seen_under.ensures.told w at
-    (none_owned w (g.met.W.Files.owned c.args.work.now w at) (g.met.W.Files.same_numbers c.args.work.now w at ∙ c.requires.none_runs))))
+    (none_owned w ((g.met.W.Files.sound c.args.work.now).owned w at) ((g.met.W.Files.sound c.args.work.now).same_numbers w at ∙ c.requires.none_runs))))
 
 pub returns-in-Ok-clear_all-clause-did : goal.returns-in-Ok-clear_all-clause-did
 returns-in-Ok-clear_all-clause-did g c =
@@ -28,7 +28,7 @@ returns-in-Ok-clear_all-clause-did g c =
     (λ w at.
     unseen c.args.store.now w c.args.p.now
     (if_told _ _ None (c.in-Ok-None.is ∙ ap Ok c.in-Ok-None.field-0-is) c.seen_under.ensures.told w at
-    (none_owned w (g.met.W.Files.owned c.args.work.now w at) (g.met.W.Files.same_numbers c.args.work.now w at ∙ c.requires.none_runs))))
+    (none_owned w ((g.met.W.Files.sound c.args.work.now).owned w at) ((g.met.W.Files.sound c.args.work.now).same_numbers w at ∙ c.requires.none_runs))))
     c.in-Ok-clear_all.ensures.did
 
 pub returns-clause-did : goal.returns-clause-did
@@ -39,5 +39,5 @@ returns-clause-did g c =
     (λ w at.
     unseen c.args.store.now w c.args.p.now
     (if_told _ _ None (c.in-Ok-None.is ∙ ap Ok c.in-Ok-None.field-0-is) c.seen_under.ensures.told w at
-    (none_owned w (g.met.W.Files.owned c.args.work.now w at) (g.met.W.Files.same_numbers c.args.work.now w at ∙ c.requires.none_runs))))
+    (none_owned w ((g.met.W.Files.sound c.args.work.now).owned w at) ((g.met.W.Files.sound c.args.work.now).same_numbers w at ∙ c.requires.none_runs))))
     c.in-Err.ensures.did

@@ -12,10 +12,10 @@ use Rattle.smk_store.proofs.loading.store_of.Given as goal
 
 abbrev pub invariant-loop-text : goal.invariant-loop-text
 invariant-loop-text g l = record {
-  looked : HasLooked g.W.Files.act (g.W.Files.world l.fn.work) (g.W.Files.world l.work) (g.W.Files.faults l.fn.work) (g.W.Files.faults l.work) (g.W.Files.running l.fn.work) (g.W.Files.running l.work) ⊥;
+  looked : HasLooked g.W.Files.act (g.W.Files.device l.fn.work).world (g.W.Files.device l.work).world (g.W.Files.device l.fn.work).faults (g.W.Files.device l.work).faults (g.W.Files.device l.fn.work).running (g.W.Files.device l.work).running ⊥;
   found : l.paths ++ filter is_path_text (texts_of l.text-iterator) ≡ filter is_path_text (texts_of l.initial.text-iterator);
   each : length l.entries ≡ length l.paths;
-  told : (w : World) → g.W.Files.world l.fn.work ≡ Some w → IsFiled w
+  told : (w : World) → (g.W.Files.device l.fn.work).world ≡ Some w → IsFiled w
       → HasSigns w (λ q. contains_text l.signs.records q) (λ q. contains_text l.signs.marks q) (λ q. contains_text l.signs.notes q)
       → (read : List ℕ → Option Record) → ReadsRecords read → l.entries ≡ map (entry_at (seen read w)) l.paths;
 }

@@ -11,7 +11,7 @@ decreases-walk g l = 1000 - length l.front.now
 
 abbrev pub invariant-loop-name : goal.invariant-loop-name
 invariant-loop-name g l = record {
-  looked : HasLooked g.W.Files.act (g.W.Files.world l.fn.work) (g.W.Files.world l.work) (g.W.Files.faults l.fn.work) (g.W.Files.faults l.work) (g.W.Files.running l.fn.work) (g.W.Files.running l.work) ⊥;
-  told : (w : World) → g.W.Files.world l.fn.work ≡ Some w → IsFiled w
+  looked : HasLooked g.W.Files.act (g.W.Files.device l.fn.work).world (g.W.Files.device l.work).world (g.W.Files.device l.fn.work).faults (g.W.Files.device l.work).faults (g.W.Files.device l.fn.work).running (g.W.Files.device l.work).running ⊥;
+  told : (w : World) → (g.W.Files.device l.fn.work).world ≡ Some w → IsFiled w
       → SoFar w.nodes l.folder l.front (λ q. contains_text l.fn.found q) (λ q. contains_text l.found q) (take l.name-index l.names);
 }

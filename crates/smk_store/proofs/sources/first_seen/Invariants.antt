@@ -6,6 +6,6 @@ use Rattle.smk_store.proofs.sources.first_seen.Given as goal
 
 abbrev pub invariant-loop-source : goal.invariant-loop-source
 invariant-loop-source g l = record {
-  looked : HasLooked g.W.Files.act (g.W.Files.world l.fn.work) (g.W.Files.world l.work) (g.W.Files.faults l.fn.work) (g.W.Files.faults l.work) (g.W.Files.running l.fn.work) (g.W.Files.running l.work) ⊥;
-  told : (w : World) → g.W.Files.world l.fn.work ≡ Some w → NoneOwned w → l.first ≡ first_seen (is_seen w) (take l.source-index l.sources);
+  looked : HasLooked g.W.Files.act (g.W.Files.device l.fn.work).world (g.W.Files.device l.work).world (g.W.Files.device l.fn.work).faults (g.W.Files.device l.work).faults (g.W.Files.device l.fn.work).running (g.W.Files.device l.work).running ⊥;
+  told : (w : World) → (g.W.Files.device l.fn.work).world ≡ Some w → NoneOwned w → l.first ≡ first_seen (is_seen w) (take l.source-index l.sources);
 }

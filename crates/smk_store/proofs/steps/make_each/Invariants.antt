@@ -7,8 +7,8 @@ use Rattle.smk_store.proofs.steps.make_each.Given as goal
 
 abbrev pub invariant-loop-place : goal.invariant-loop-place
 invariant-loop-place g l = record {
-  did : Did g.W.Files.act (g.W.Files.world l.initial.work) (g.W.Files.world l.work) (λ w es. HasDone (make_each (take l.place-index l.places)) es);
-  stays : IsSome (g.W.Files.world l.initial.work) → IsSome (g.W.Files.world l.work);
-  later : g.W.Files.faults l.initial.work ≤ g.W.Files.faults l.work;
-  running : g.W.Files.running l.work ≡ g.W.Files.running l.initial.work;
+  did : Did g.W.Files.act (g.W.Files.device l.initial.work).world (g.W.Files.device l.work).world (λ w es. HasDone (make_each (take l.place-index l.places)) es);
+  stays : IsSome (g.W.Files.device l.initial.work).world → IsSome (g.W.Files.device l.work).world;
+  later : (g.W.Files.device l.initial.work).faults ≤ (g.W.Files.device l.work).faults;
+  running : (g.W.Files.device l.work).running ≡ (g.W.Files.device l.initial.work).running;
 }

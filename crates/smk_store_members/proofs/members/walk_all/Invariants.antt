@@ -13,7 +13,7 @@ decreases-members g l = 20000 - l.next
 abbrev pub invariant-members : goal.invariant-members
 invariant-members g l = record {
   kept : AreKept l.walk.found l.walk.names l.walk.folders;
-  looked : HasLooked g.W.Files.act (g.W.Files.world l.fn.work) (g.W.Files.world l.work) (g.W.Files.faults l.fn.work) (g.W.Files.faults l.work) (g.W.Files.running l.fn.work) (g.W.Files.running l.work) ⊥;
-  listings : Did g.W.Files.act (g.W.Files.world l.fn.work) (g.W.Files.world l.work) (λ w es. AreListings l.folder false es);
-  told : (w : World) → g.W.Files.world l.fn.work ≡ Some w → IsOpenFolder w.nodes l.folder → IsWalk w.nodes l.folder l.walk.found (member_places l.folder (drop l.next l.walk.found));
+  looked : HasLooked g.W.Files.act (g.W.Files.device l.fn.work).world (g.W.Files.device l.work).world (g.W.Files.device l.fn.work).faults (g.W.Files.device l.work).faults (g.W.Files.device l.fn.work).running (g.W.Files.device l.work).running ⊥;
+  listings : Did g.W.Files.act (g.W.Files.device l.fn.work).world (g.W.Files.device l.work).world (λ w es. AreListings l.folder false es);
+  told : (w : World) → (g.W.Files.device l.fn.work).world ≡ Some w → IsOpenFolder w.nodes l.folder → IsWalk w.nodes l.folder l.walk.found (member_places l.folder (drop l.next l.walk.found));
 }
