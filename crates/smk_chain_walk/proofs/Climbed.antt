@@ -10,6 +10,7 @@ use Rattle.smk_pattern.specs.Shapes.{Text}
 use Rattle.smk_flow.specs.Flows.{Flow, Candidate, first_wants, declared_inputs, gathered_folders}
 use Rattle.smk_choose.specs.Choose.{Sources, Choice, Make, choose, maker}
 use Rattle.smk_chain.specs.Derive.{Listings, height, wanted_paths, gathered_files}
+use Rattle.smk_chain.proofs.Heights.{height_within}
 use Rattle.smk_chain_walk.specs.declared.kept.Heights.{Heights}
 use Rattle.smk_choose_wants.specs.declared.wanted.Want.{Want}
 use Rattle.smk_choose_wants.specs.declared.wanted.Want.TheVariants as want
@@ -45,11 +46,8 @@ module _ (flow : Flow) (sources : Sources) (L : Listings) where
   height_less (suc n) zero p le = absurd (omega (arith, le))
   height_less (suc n) (suc m) p le = by_less n m (λ q. height_less n m q (omega (arith, le))) (maker (choose flow sources p))
 
-  pub height_within : (n : ℕ) (p : Path) → height flow sources L n p ≤ n
-  height_within n p = let e = height_less n n p (omega arith) in omega arith
-
   most_within : (n : ℕ) (ps : List Path) → most (height flow sources L n) ps ≤ n
-  most_within n ps = top_within (height flow sources L n) n (height_within n) ps
+  most_within n ps = top_within (height flow sources L n) n (height_within flow sources L n) ps
 
   -- a height that is known tells whether it is less
   pub tells_below : (n : ℕ) (p : Path) (h : ℕ) → IsHeight flow sources L p h → Tells flow sources L n p (cond (nat_lt h n) (Some h) None)
