@@ -3,6 +3,7 @@ use Rattle.std.proofs.Common.{◌≡◌, ℕ, zero, suc, ◌+◌, ◌<◌, ◌�
 use Rattle.std.specs.List.{fold}
 use Rattle.std.proofs.lemmas.Bool.Decides.{nat_tests}
 use Rattle.std.proofs.lemmas.List.{append_assoc}
+use Rattle.std.proofs.lemmas.Option.{same_Some}
 use Rattle.smk_base.proofs.Places.{same_place}
 use Rattle.smk_base.specs.Path.{is_path}
 use Rattle.smk_world.specs.Trees.{Path}
@@ -17,9 +18,6 @@ use Rattle.smk_choose_wants.specs.declared.wanted.Want.TheVariants as want
 use Rattle.smk_choose_wants.specs.Wants.{want_of}
 use Rattle.smk_chain_walk.specs.Heights.{noted, path_of, paths_in, most, IsHeight, AreHeights, Tells, TellsMost}
 use Rattle.smk_chain_walk.proofs.Tops.{top_both, top_within, top_above, top_min}
-
-some_same : {A : Type 0} (x y : A) → Some x ≡ Some y → x ≡ y
-some_same x y e = cc
 
 -- those of the wants that are paths
 pub paths_told : (ts : List Text) → paths_in (map want_of ts) ≡ filter is_path ts
@@ -140,7 +138,7 @@ module _ (flow : Flow) (sources : Sources) (L : Listings) where
   kept_more old new p h known is e = λ q k at. go q k (bytes_eq p q) refl (sym (e q) ∙ at)
     where
       go : (q : Path) (k : ℕ) (b : Bool) → bytes_eq p q ≡ b → cond b (Some h) (noted old q) ≡ Some k → IsHeight flow sources L q k
-      go q k true same at = subst (λ (x : Path). IsHeight flow sources L x k) (same_place p q same) (subst (λ (j : ℕ). IsHeight flow sources L p j) (some_same h k at) is)
+      go q k true same at = subst (λ (x : Path). IsHeight flow sources L x k) (same_place p q same) (subst (λ (j : ℕ). IsHeight flow sources L p j) (same_Some h k at) is)
       go q k false same at = known q k at
 
   -- ## The targets

@@ -1,5 +1,5 @@
 -- A walk comes to the same at every depth that is great enough.
-use Rattle.std.proofs.Common.{◌≡◌, ◌∙◌, ℕ, zero, suc, ◌+◌, ◌≤◌, max, eqb, Bool, true, false, cond, List, [], ◌∷◌, ◌++◌, map, filter, refl, sym, ap, ap₂, arith, Some, None, true≢false}
+use Rattle.std.proofs.Common.{◌≡◌, ◌∙◌, ℕ, zero, suc, ◌+◌, ◌≤◌, max, eqb, Bool, true, false, cond, List, [], ◌∷◌, ◌++◌, map, filter, refl, sym, ap, ap₂, arith, Some, None, true≢false, append_assoc, append-nil}
 use Rattle.std.specs.List.{flat_map, fold, AllByRecursion}
 use Rattle.smk_base.specs.Path.{is_path}
 use Rattle.smk_world.specs.Trees.{Path}
@@ -35,6 +35,14 @@ back_nil (x ∷ xs) ys e = absurd cc
 pub flat_nil : {A B : Type 0} (f : A → List B) (xs : List A) → flat_map f xs ≡ [] → AllByRecursion (λ x. f x ≡ []) xs
 flat_nil f [] e = tt
 flat_nil f (x ∷ xs) e = (front_nil (f x) (flat_map f xs) e, flat_nil f xs (back_nil (f x) (flat_map f xs) e))
+
+pub flat_push : {A B : Type 0} (f : A → List B) (xs : List A) (x : A) → flat_map f (xs ++ x ∷ []) ≡ flat_map f xs ++ f x
+flat_push f [] x = append-nil (f x)
+flat_push f (y ∷ xs) x = ap (λ ys. f y ++ ys) (flat_push f xs x) ∙ sym (append_assoc (f y) (flat_map f xs) (f x))
+
+pub all_push : {A : Type 0} (P : A → Type 0) (xs : List A) (x : A) → AllByRecursion P xs → P x → AllByRecursion P (xs ++ x ∷ [])
+all_push P [] x e f = (f, tt)
+all_push P (y ∷ xs) x e f = (e.0, all_push P xs x e.1 f)
 
 -- ---- heights
 
