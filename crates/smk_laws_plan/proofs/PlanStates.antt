@@ -32,7 +32,7 @@ pub any_same : {A : Type 0} (f g : A → Bool) (xs : List A) → ((x : A) → In
 any_same f g [] h = refl
 any_same f g (x ∷ xs) h = let e = h x (inl refl) in let r = any_same f g xs (λ y k. h y (inr k)) in λ i. e i || r i
 
-filter_same : {A : Type 0} (f g : A → Bool) (xs : List A) → ((x : A) → In x xs → f x ≡ g x) → filter f xs ≡ filter g xs
+pub filter_same : {A : Type 0} (f g : A → Bool) (xs : List A) → ((x : A) → In x xs → f x ≡ g x) → filter f xs ≡ filter g xs
 filter_same f g [] h = refl
 filter_same f g (x ∷ xs) h =
     let e = h x (inl refl) in let r = filter_same f g xs (λ y k. h y (inr k)) in λ i. cond (e i) (x ∷ r i) (r i)
