@@ -27,6 +27,7 @@ use Rattle.smk_plan_live.specs.Now.{joined, row_by, row_at, entry_now, own_sight
 use Rattle.smk_plan_live.specs.Lives.{IsAgreed, IsRefusedNow, progress_of}
 use Rattle.smk_plan_live.specs.Changes.{IsFirst}
 use Rattle.smk_plan_live.proofs.Tables.{known_is, seen_is, own_seen}
+use Rattle.smk_plan_states.proofs.Tests.{and_true}
 
 -- ## Rows of nothing
 
@@ -51,10 +52,6 @@ none_run : (js : List Job) → children_in js (map (λ (j : Job). None) js) ≡ 
 none_run [] = refl
 none_run (j ∷ js) = none_run js
 
-and_all : (b : Bool) → (b && true) ≡ b
-and_all true = refl
-and_all false = refl
-
 each_as : {A : Type 0} (P Q : A → Type 0) → ((x : A) → P x → Q x) → (xs : List A) → Each P xs → Each Q xs
 each_as P Q g [] h = tt
 each_as P Q g (x ∷ xs) h = (g x h.0, each_as P Q g xs h.1)
@@ -66,12 +63,12 @@ settled_image : (image : Image) (q : Path) → settled false (entry_in image q) 
 settled_image image q = go (is_known image q) refl
   where
     same : entry_at image q ≡ record { kept = image.kept q; marked = image.marked q && true; noted = image.noted q }
-    same = λ i. record { kept = image.kept q; marked = sym (and_all (image.marked q)) i; noted = image.noted q }
+    same = λ i. record { kept = image.kept q; marked = sym (and_true (image.marked q)) i; noted = image.noted q }
 
     go : (b : Bool) → is_known image q ≡ b → settled false (if b then Some (entry_at image q) else None) ≡ (if b then Some (entry_at image q) else None)
     go true e =
         ap (λ (b : Bool). if b then Some (record { kept = image.kept q; marked = image.marked q && true; noted = image.noted q }) else None)
-        (ap (λ m. stands (image.kept q) || (m || image.noted q)) (and_all (image.marked q)) ∙ e)
+        (ap (λ m. stands (image.kept q) || (m || image.noted q)) (and_true (image.marked q)) ∙ e)
         ∙ ap Some (sym same)
     go false e = refl
 
