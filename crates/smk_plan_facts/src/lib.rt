@@ -9,7 +9,6 @@ mod forced;
 mod judged;
 mod known;
 mod stamps;
-mod texts;
 mod whole;
 
 pub use copies::{kept_again, members_again};
