@@ -90,7 +90,7 @@ rise_by p ms h =
 -- ## Outputs
 
 -- a file, by its node
-file_by : (n : Option Node) → is_file_stat (stat_of n) ≡ is_some (content_of n)
+pub file_by : (n : Option Node) → is_file_stat (stat_of n) ≡ is_some (content_of n)
 file_by None = refl
 file_by (Some DirectoryNode) = refl
 file_by (Some (Regular bytes time read_only)) = refl

@@ -227,6 +227,17 @@ pub fn facts_told<T: Told>(
     told_facts(alloc, jobs, told, settings, ran)
 }
 
+/// Which jobs are forced, as their facts tell. `OutOfMemory` where there is no memory for the answer.
+pub fn forced_of(alloc: Global, facts: &[JobFacts]) -> Result<List<bool>, OutOfMemory>
+    ensures { IfOk result (λ found. found ≡ map (λ f. f.forced) facts.now) }
+{
+    let mut found = List::new(alloc);
+    for one in facts {
+        found.push(one.forced)?;
+    }
+    Ok(found)
+}
+
 /// The facts of each job, in plan order: its recipe, what the store has of its outputs, the stamps of its inputs now, and whether it is forced, where the jobs
 /// with the first outputs `ran` have begun in this run and none runs. `OutOfMemory` where there is no memory for them.
 ///

@@ -12,7 +12,7 @@ mod stamps;
 mod whole;
 
 pub use copies::{kept_again, members_again};
-pub use judged::{facts, facts_told, own_facts};
+pub use judged::{facts, facts_told, forced_of, own_facts};
 pub use stamps::{sources_of, stamp_now};
 pub use whole::{wholes, wholes_told};
 

@@ -18,6 +18,7 @@ use Rattle.smk_plan.specs.declared.seen.Sight.{Sight}
 use Rattle.smk_plan.specs.Sights.{IsSeenOf, IsSeenAs, IsSourceSeen, sight_at}
 use Rattle.smk_plan.specs.States.{test_some}
 use Rattle.smk_plan_facts.specs.Facts.{having_run}
+use Rattle.smk_plan_facts.proofs.Tests.{each_of}
 use Rattle.smk_plan_table.specs.Plans.{Agree, IsRefused, IsRefusedAt}
 use Rattle.smk_plan_live.specs.declared.base.Base.{Base}
 use Rattle.smk_plan_live.specs.declared.sites.Site.{Site}
@@ -51,10 +52,6 @@ none_begun (j ∷ js) = none_begun js
 none_run : (js : List Job) → children_in js (map (λ (j : Job). None) js) ≡ []
 none_run [] = refl
 none_run (j ∷ js) = none_run js
-
-each_as : {A : Type 0} (P Q : A → Type 0) → ((x : A) → P x → Q x) → (xs : List A) → Each P xs → Each Q xs
-each_as P Q g [] h = tt
-each_as P Q g (x ∷ xs) h = (g x h.0, each_as P Q g xs h.1)
 
 -- ## What the image has
 
@@ -100,9 +97,9 @@ module _ (b : Base) (jobs : Jobs) (store : List Known) (seen : List Sight) (f : 
   seen_so h =
       subst (λ (js : Jobs). IsSeenOf image js (seen_now b)) (sym f.now)
       (record {
-        outputs = each_as (λ (j : Job). Each (λ (o : Out). IsSeenAs image seen o.path) (outs_of j.recipe)) (λ (j : Job). Each (λ (o : Out). IsSeenAs image (seen_now b) o.path) (outs_of j.recipe))
-            (λ j. each_as (λ (o : Out). IsSeenAs image seen o.path) (λ (o : Out). IsSeenAs image (seen_now b) o.path) (λ o e. sight_first o.path ∙ e) (outs_of j.recipe)) jobs.jobs h.outputs;
-        sources = each_as (IsSourceSeen image seen) (IsSourceSeen image (seen_now b)) (λ m g none. sight_first m.path ∙ g none) jobs.makers h.sources;
+        outputs = each_of (λ (j : Job). Each (λ (o : Out). IsSeenAs image seen o.path) (outs_of j.recipe)) (λ (j : Job). Each (λ (o : Out). IsSeenAs image (seen_now b) o.path) (outs_of j.recipe))
+            (λ j. each_of (λ (o : Out). IsSeenAs image seen o.path) (λ (o : Out). IsSeenAs image (seen_now b) o.path) (λ o e. sight_first o.path ∙ e) (outs_of j.recipe)) jobs.jobs h.outputs;
+        sources = each_of (IsSourceSeen image seen) (IsSourceSeen image (seen_now b)) (λ m g none. sight_first m.path ∙ g none) jobs.makers h.sources;
       })
 
   -- what agrees with the store and with what was seen agrees with the plan that begins

@@ -15,14 +15,14 @@ use Rattle.smk_chain.specs.Derive.{Listings, Derived, Refusal, Deep, derivation,
 use Rattle.smk_chain.proofs.Inputs.{each_append}
 use Rattle.smk_chain_walk.specs.Links.{AreLinked, maker_told, number_for}
 use Rattle.smk_chain_walk.specs.Numbers.{is_job, number_in, place_of}
-use Rattle.smk_chain_walk.proofs.Adding.{is_its_job, job_is}
+use Rattle.smk_chain_walk.proofs.Adding.{is_its_job}
 use Rattle.smk_plan.specs.States.{makes, gathers_from}
 use Rattle.smk_plan.specs.Sights.{job_at}
 use Rattle.smk_laws_plan.specs.Current.{IsComplete}
 use Rattle.smk_laws_plan.proofs.CurrentLists.{In, in_left, in_right, in_either, in_flat, flat_in, map_in, in_distinct, distinct_in, append_nil_left, append_nil_right, map_nil, filter_nil, clash_of, none_some, some_inj}
 use Rattle.smk_laws_plan.proofs.CurrentReach.{Reached, reached_target, choice_known}
 use Rattle.smk_laws_plan.proofs.CurrentRecipes.{inputs_wanted, folders_wanted}
-use Rattle.smk_laws_plan.proofs.CurrentWalked.{walked_chosen, chosen_same}
+use Rattle.smk_laws_plan.proofs.CurrentWalked.{walked_chosen, chosen_same, candidate_trans}
 use Rattle.smk_laws_plan.proofs.CurrentApart.{JobsApart, Apart}
 use Rattle.smk_laws_plan.proofs.CurrentMeaning.{source_chosen}
 use Rattle.smk_laws_plan.proofs.PlanOrder.{Ordered, flat_ordered, walk_ordered, own_walked, distinct_ordered, source_unmade}
@@ -67,9 +67,6 @@ outputs_apart (j ∷ js) h =
     (λ p q i k. let r = flat_in (λ (j : Job). out_paths j.recipe) js q k in h.0 r.0 p q r.1 i r.2)
 
 -- ## Places of candidates
-
-same_trans : (a b c : Candidate) → same_candidate a b ≡ true → same_candidate b c ≡ true → same_candidate a c ≡ true
-same_trans a b c h k = subst (λ m. is_job m a ≡ true) (job_is (making c) b k) h
 
 place_front :
     (front rest : List Candidate) (m : Making) (d : Candidate) → In d front → is_job m d ≡ true →
@@ -180,7 +177,7 @@ module _
       go (inl e) = (told_source t e same h).0
       go (inr (c, e)) =
           let w = in_flat (walk flow sources L 200) targets t c i (own_walked flow sources L walked 200 t c (reached t i) e) in
-          let d = in_distinct same_candidate is_its_job same_trans walked c w in
+          let d = in_distinct same_candidate is_its_job candidate_trans walked c w in
           let p = place_front cs [] (making c) d.0 d.1 d.2 in
           (told_made t c p.0 e (ap (λ xs. place_of xs (making c)) (sym (append-nil cs)) ∙ p.2) h).0
 
