@@ -42,7 +42,7 @@ pub started_call : (act : Act) (P Q : World → List Event → Type 0) (a b c : 
     → HasActed act P a b false → HasCalled act b c (Started recipe logs command r) → HasStarted act Q (started_child r) a c (is_err r)
 started_call act P Q a b c recipe logs command r more before now =
     record {
-      did = did_more act P Q a.world b.world c.world (Started recipe logs command r) before.did now.world more;
+      did = did_more act P Q a.world b.world c.world (Started recipe logs command r) before.did now.world (λ w es left follows p h. more w es left follows p h.lets);
       stays = λ quiet some. now.world.stays (before.stays refl some) quiet;
       cause = record {
         later = omega (arith, before.cause.later, now.cause.later);
