@@ -1,5 +1,5 @@
 -- What the calls on the lock do and answer.
-use Rattle.std.proofs.Common.{◌≡◌, Bool, true, false, List, [], ◌∷◌, ◌++◌, refl, subst, ap₂, ◌∙◌, Result, Ok, Err}
+use Rattle.std.proofs.Common.{◌≡◌, Bool, true, false, List, [], ◌∷◌, ◌++◌, subst, ap₂, ◌∙◌, Result, Ok, Err}
 use Rattle.std.specs.Prelude.{IsErr, is_err}
 use Rattle.std.proofs.lemmas.List.{append-nil}
 use Rattle.std.proofs.lemmas.List.Concat.{flat_map-append, flat_map-cons}
@@ -7,7 +7,7 @@ use Rattle.smk_base.specs.Place.{lock_place}
 use Rattle.smk_world.specs.declared.event.Call.{Call}
 use Rattle.smk_world.specs.declared.event.Event.{Event}
 use Rattle.smk_world.specs.declared.event.Failed.{Failed}
-use Rattle.smk_world.specs.World.{World, run}
+use Rattle.smk_world.specs.World.{World}
 use Rattle.smk_world.specs.Calls.{failed}
 use Rattle.smk_world.specs.Devices.{Device, HasCalled, HasActed, HasCarried, keeps_children}
 use Rattle.smk_world.specs.Requests.{Request, request, HasDone}

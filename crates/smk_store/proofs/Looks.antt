@@ -1,5 +1,5 @@
 -- What looks tell of the world in which they were made.
-use Rattle.std.proofs.Common.{◌≡◌, ◌≢◌, ℕ, true, refl, sym, subst, Option, Some, None, Result, Ok, Err}
+use Rattle.std.proofs.Common.{◌≡◌, ◌≢◌, ℕ, true, refl, sym, subst, Some, Result, Ok, Err}
 use Rattle.std.specs.Prelude.{IsSome, IfOk}
 use Rattle.smk_world.specs.declared.event.Call.TheVariants.{Looked, ReadFile}
 use Rattle.smk_world.specs.declared.event.Failed.{Failed}

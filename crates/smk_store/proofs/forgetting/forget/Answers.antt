@@ -20,10 +20,10 @@ returns-in-Ok-Some-clause-acted g c =
     (none_owned w ((g.met.W.Files.sound c.args.work.now).owned w at) ((g.met.W.Files.sound c.args.work.now).same_numbers w at ∙ c.requires.none_runs))))
 
 pub returns-in-Err-Failed-clause-acted : goal.returns-in-Err-Failed-clause-acted
-returns-in-Err-Failed-clause-acted g c = look_failed g.W.Files.act c.args.store.now c.args.p.now _ _ (looked_as (ap device_failed c.in-Err-Failed.is) c.seen_under.ensures.looked)
+returns-in-Err-Failed-clause-acted g c = look_failed g.W.Files.act c.args.store.now c.args.p.now _ _ (looked_as (ap device_failed (c.in-Err-Failed.is ∙ ap Err c.in-Err-Failed.field-0-is)) c.seen_under.ensures.looked)
 
 pub returns-in-Err-OutOfMemory-clause-acted : goal.returns-in-Err-OutOfMemory-clause-acted
-returns-in-Err-OutOfMemory-clause-acted g c = none_left g.W.Files.act c.args.store.now c.args.p.now _ _ (looked_as (ap device_failed c.in-Err-OutOfMemory.is) c.seen_under.ensures.looked)
+returns-in-Err-OutOfMemory-clause-acted g c = none_left g.W.Files.act c.args.store.now c.args.p.now _ _ (looked_as (ap device_failed (c.in-Err-OutOfMemory.is ∙ ap Err c.in-Err-OutOfMemory.field-0-is)) c.seen_under.ensures.looked)
 
 pub returns-then-is_none-clause-acted : goal.returns-then-is_none-clause-acted
 returns-then-is_none-clause-acted g c =

@@ -1,6 +1,5 @@
-use Rattle.std.proofs.Common.{◌≡◌, [], ◌∷◌, ◌++◌, refl, sym, ap, subst, ◌∙◌, true, false, get_or}
+use Rattle.std.proofs.Common.{◌≡◌, [], ◌∷◌, refl, ap, subst, ◌∙◌, true, false, get_or}
 use Rattle.smk_base.specs.Place.{lock_place}
-use Rattle.smk_world.specs.Devices.{HasCarried}
 use Rattle.smk_world.specs.Requests.Request.{MakeParents, Create, Settle}
 use Rattle.smk_world.proofs.Devices.{carried_as, carried_call, carried_then, carried_cut}
 use Rattle.smk_store.proofs.Locking.{HasDoneSo, does_call, does_then, locked_cut}

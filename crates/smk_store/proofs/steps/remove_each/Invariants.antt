@@ -1,4 +1,4 @@
-use Rattle.std.proofs.Common.{◌≡◌, false, take}
+use Rattle.std.proofs.Common.{false, take}
 use Rattle.smk_world.specs.Devices.{HasCarried}
 use Rattle.smk_store.specs.Steps.{remove_each}
 use Rattle.smk_store.proofs.steps.remove_each.Given as goal

@@ -1,4 +1,4 @@
-use Rattle.std.proofs.Common.{[], ◌∷◌, ◌++◌, ◌+◌, ◌<◌, arith, take, drop, length, get_or, refl, sym, ap}
+use Rattle.std.proofs.Common.{[], ◌∷◌, ◌+◌, ◌<◌, arith, drop, length, get_or, refl, sym, ap}
 use Rattle.smk_world.specs.Requests.Request.{MakeParents, Write}
 use Rattle.smk_store.specs.Steps.{write_each}
 use Rattle.smk_store.proofs.Writing.{write_around, write_next, same_there}
