@@ -219,19 +219,19 @@ h3 = happens outside.act (run entry (take 3 log)) (Settled (mark_place to ∷ []
 h4 : Happens outside.act (run entry (take 4 log)) (call (Started recipe [] (codes "cp in.txt out.txt") (Ok 7)))
 h4 = happens outside.act (run entry (take 4 log)) (Started recipe [] (codes "cp in.txt out.txt") (Ok 7)) [] h3.tree (refl, λ h. in_of [] 7 h) tt
 
+abbrev the_copy : List Change
+the_copy = record { place = to; node = Regular (codes "hello\n") 1002 false } ∷ []
+
+abbrev reads_then : Path → Option Node
+reads_then = left_at (run entry (take 5 log)) (owned_by 7 (run entry (take 5 log)).children) the_copy
+
 h5 : Happens outside.act (run entry (take 5 log)) (leaving (Waited (Ok (record { number = 7; status = 0 }))) to (Regular (codes "hello\n") 1002 false))
 h5 =
-    happens outside.act (run entry (take 5 log)) (Waited (Ok (record { number = 7; status = 0 }))) left h4.tree
+    happens outside.act (run entry (take 5 log)) (Waited (Ok (record { number = 7; status = 0 }))) the_copy h4.tree
     (record { number = 7; recipe = recipe; logs = [] }, refl, λ zero trees contents. (refl, copies trees contents))
     (λ q owned some.
-    by_test (bytes_eq to q) (λ e. subst (CanHold at_end) (same_place to q e) (copy_held at_end))
+    by_test (bytes_eq to q) (λ e. subst (CanHold reads_then) (same_place to q e) (copy_held reads_then))
     (λ e. no_node (subst (λ (b : Bool). IsSome (if b then Some (Regular (codes "hello\n") 1002 false) else None)) e some)))
-  where
-    left : List Change
-    left = record { place = to; node = Regular (codes "hello\n") 1002 false } ∷ []
-
-    at_end : Path → Option Node
-    at_end = left_at (run entry (take 5 log)) (owned_by 7 (run entry (take 5 log)).children) left
 
 h6 : Happens outside.act (run entry (take 6 log)) (call (Settled (to ∷ []) (Ok tt)))
 h6 = happens outside.act (run entry (take 6 log)) (Settled (to ∷ []) (Ok tt)) [] h5.tree refl tt

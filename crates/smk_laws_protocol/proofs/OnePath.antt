@@ -1,5 +1,5 @@
 -- A copied file is forgotten, along the protocol; so it admits whole calls that forget.
-use Rattle.std.proofs.Common.{◌≡◌, ◌⊎◌, Bool, true, false, List, [], ◌∷◌, refl, sym, ap, subst, inl, inr, ◌∙◌, Some, None, take}
+use Rattle.std.proofs.Common.{◌≡◌, ◌⊎◌, Bool, true, false, List, [], ◌∷◌, refl, sym, ap, subst, inl, inr, ◌∙◌, Option, Some, None, take}
 use Rattle.std.specs.Prelude.{codes, bytes_eq, ◌&&◌, ◌||◌, IsSome, if◌then◌else◌, Ok}
 use Rattle.std.specs.Option.{option_map}
 use Rattle.smk_base.specs.Path.{is_under, is_at_or_under, own_folder}
@@ -120,22 +120,22 @@ forgets =
     (Next _ Resting _ _ _ _ (Unmarked _ to (mark_place to ∷ []) refl (removed_absent (run entry (take 3 log)) (mark_place to)) (refl, tt))
     (Done _ _)))))
 
+abbrev reads_now : Path → Option Node
+reads_now x = reading (entry.nodes x)
+
+put : (q p : Path) → bytes_eq q p ≡ true → CanHold reads_now p → CanHold reads_now q
+put q p e h = subst (CanHold reads_now) (sym (same_place q p e)) h
+
 -- what stands there stands in folders
 entry_tree : IsTree entry
 entry_tree q some =
-    by_test (bytes_eq q (record_place to)) (λ a. put q (record_place to) a (held_by at (record_place to) (refl, (refl, (refl, tt))) refl))
+    by_test (bytes_eq q (record_place to)) (λ a. put q (record_place to) a (held_by reads_now (record_place to) (refl, (refl, (refl, tt))) refl))
     (λ a. by_test (bytes_eq q from) (λ b. put q from b (record { folders = λ f u. clash (is_under from f) u (no_slash_under from f refl); named = refl }))
     (λ b. by_test (bytes_eq q to) (λ c. put q to c (record { folders = λ f u. clash (is_under to f) u (no_slash_under to f refl); named = refl }))
-    (λ c. by_test (bytes_eq q own_folder) (λ d. put q own_folder d (held_by at own_folder tt refl))
-    (λ d. by_test (bytes_eq q (codes ".snakemake/smk")) (λ e. put q (codes ".snakemake/smk") e (held_by at (codes ".snakemake/smk") (refl, tt) refl))
-    (λ e. by_test (bytes_eq q records_folder) (λ f. put q records_folder f (held_by at records_folder (refl, (refl, tt)) refl))
+    (λ c. by_test (bytes_eq q own_folder) (λ d. put q own_folder d (held_by reads_now own_folder tt refl))
+    (λ d. by_test (bytes_eq q (codes ".snakemake/smk")) (λ e. put q (codes ".snakemake/smk") e (held_by reads_now (codes ".snakemake/smk") (refl, tt) refl))
+    (λ e. by_test (bytes_eq q records_folder) (λ f. put q records_folder f (held_by reads_now records_folder (refl, (refl, tt)) refl))
     (λ f. no_node (subst (λ n. IsSome (reading (firmly n))) (nothing_at q a b c d e f) some)))))))
-  where
-    at : Path → Option Node
-    at x = reading (entry.nodes x)
-
-    put : (q p : Path) → bytes_eq q p ≡ true → CanHold at p → CanHold at q
-    put q p e h = subst (CanHold at) (sym (same_place q p e)) h
 
 h0 : Happens outside.act entry (call (Settled (to ∷ own_folder ∷ []) (Ok tt)))
 h0 = happens outside.act entry (Settled (to ∷ own_folder ∷ []) (Ok tt)) [] entry_tree refl tt
