@@ -191,7 +191,7 @@ copies (Folder es ∷ []) h = absurd (no h.0.folder)
 copies (t ∷ u ∷ trees) h = absurd h.1
 
 -- the file that is there stands in no folder
-entry_tree : IsTree entry
+pub entry_tree : IsTree entry
 entry_tree q some =
     by_test (bytes_eq q from) (λ e. subst (CanHold (λ x. reading (entry.nodes x))) (sym (same_place q from e)) (record { folders = λ f u. clash (is_under from f) u (no_slash_under from f refl); named = refl }))
     (λ e. no_node (subst (λ (b : Bool). IsSome (reading (firmly (if b then Some (Regular (codes "hello\n") 1000 false) else None)))) e some))
