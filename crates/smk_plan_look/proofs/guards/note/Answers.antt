@@ -1,7 +1,7 @@
 use Rattle.std.proofs.Common.{ap, ◌∙◌}
 use Rattle.std.specs.Prelude.{is_err}
 use Rattle.smk_world.proofs.Devices.{looked_stat, looked_as, looked_failed}
-use Rattle.smk_store.proofs.Seeing.{stat_told}
+use Rattle.smk_store.proofs.Looks.{stat_told}
 use Rattle.smk_plan_look.specs.Seeing.{is_read_only}
 use Rattle.smk_plan_look.proofs.Waiting.{noted_file}
 use Rattle.smk_plan_look.proofs.guards.note.Goals as goal

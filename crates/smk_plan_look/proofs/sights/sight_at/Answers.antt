@@ -3,7 +3,7 @@ use Rattle.std.specs.Prelude.{is_err}
 use Rattle.smk_world.specs.Calls.{stat_of}
 use Rattle.smk_world.specs.World.{reading}
 use Rattle.smk_world.proofs.Devices.{looked_stat, looked_as, looked_failed, looked_on, looked_then, still}
-use Rattle.smk_store.proofs.Seeing.{stat_told}
+use Rattle.smk_store.proofs.Looks.{stat_told}
 use Rattle.smk_store_members.proofs.Trees.{tree_still}
 use Rattle.smk_plan_look.proofs.Sighting.{plain_seen, folder_read_at, sight_still}
 use Rattle.smk_plan_look.proofs.sights.sight_at.Goals as goal
