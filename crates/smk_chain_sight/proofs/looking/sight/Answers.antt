@@ -28,10 +28,11 @@ pub returns-in-Ok-clause-too_many : goal.returns-in-Ok-clause-too_many
 returns-in-Ok-clause-too_many g c =
     if_err c.sources_in.result _ _
     (λ fault h count e. (
-    subst (λ n. 100000 < n) (same_count c.in-Ok.view.count count (sym h.0 ∙ e)) h.1,
-    λ w at disk read stored.
-    let t = c.in-Ok.ensures.told w at (seen read w) (viewed_of read w c.args.store.now disk ((g.met.W.Files.sound c.args.work.now).formed w at) stored) in
-    t.large h.1))
+      subst (λ n. 100000 < n) (same_count c.in-Ok.view.count count (sym h.0 ∙ e)) h.1,
+      λ w at disk read stored.
+          let t = c.in-Ok.ensures.told w at (seen read w) (viewed_of read w c.args.store.now disk ((g.met.W.Files.sound c.args.work.now).formed w at) stored) in
+          t.large h.1,
+    ))
     c.sources_in.ensures.fault
 
 pub returns-in-Err-Failed-clause-looked : goal.returns-in-Err-Failed-clause-looked
