@@ -1,10 +1,10 @@
 use Rattle.std.proofs.Common.{◌<◌, subst, sym, ap, ◌∙◌}
+use Rattle.std.proofs.lemmas.Result.{IfOk-weaker}
 use Rattle.smk_world.specs.Calls.{device_failed}
 use Rattle.smk_world.proofs.Devices.{looked_as}
 use Rattle.smk_choose.specs.declared.sources.Sources as kept
 use Rattle.smk_choose.specs.Told.{told_by}
 use Rattle.smk_store.specs.Images.{seen}
-use Rattle.smk_store.proofs.Looks.{if_ok}
 use Rattle.smk_chain.specs.Derive.{sources_of}
 use Rattle.smk_chain_sight.specs.Sight.{Suffices}
 use Rattle.smk_chain_sight.proofs.Agree.{suffices}
@@ -17,7 +17,7 @@ returns-in-Ok-clause-looked g c = looked_as (sym c.sources_in.ensures.quiet) c.i
 
 pub returns-in-Ok-clause-told : goal.returns-in-Ok-clause-told
 returns-in-Ok-clause-told g c =
-    if_ok c.sources_in.result _ _
+    IfOk-weaker c.sources_in.result _ _
     (λ sources h w at disk read stored.
     let t = c.in-Ok.ensures.told w at (seen read w) (viewed_of read w c.args.store.now disk ((g.met.W.Files.sound c.args.work.now).formed w at) stored) in
     subst (λ (s : kept.Sources). Suffices c.args.flow.now (sources_of (seen read w)) c.args.lists.now c.args.targets.now (told_by s)) (sym h.0)

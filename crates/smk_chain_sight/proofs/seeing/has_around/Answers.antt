@@ -1,8 +1,8 @@
 use Rattle.std.proofs.Common.{ap, sym, ◌∙◌}
 use Rattle.std.specs.List.{list_any}
+use Rattle.std.proofs.lemmas.Result.{IfOk-weaker}
 use Rattle.smk_world.proofs.Devices.{looked_then, still}
 use Rattle.smk_store.specs.Images.{is_source}
-use Rattle.smk_store.proofs.Looks.{if_ok}
 use Rattle.smk_chain_sight.proofs.Eyes.{viewed_still}
 use Rattle.smk_chain_sight.proofs.Stand.{holds_above, holds_none, holds_by}
 use Rattle.smk_chain_sight.proofs.seeing.has_around.Goals as goal
@@ -18,7 +18,7 @@ returns-then-folder-clause-looked g c =
 
 pub returns-then-folder-clause-told : goal.returns-then-folder-clause-told
 returns-then-folder-clause-told g c =
-    if_ok c.has_under.result _ _
+    IfOk-weaker c.has_under.result _ _
     (λ found h w at image v path here under known.
     let a = c.in_ok-over.ensures.told w at image v known in
     let u = still w c.in_ok-over.ensures.looked at in

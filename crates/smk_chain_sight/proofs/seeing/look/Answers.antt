@@ -1,8 +1,7 @@
 use Rattle.std.proofs.Common.{ap, sym, subst, ◌∙◌}
-use Rattle.std.specs.Prelude.{is_err}
 use Rattle.smk_world.specs.World.{reading}
 use Rattle.smk_world.specs.Calls.{stat_of}
-use Rattle.smk_world.proofs.Devices.{looked_stat, looked_as, looked_failed}
+use Rattle.smk_world.proofs.Devices.{looked_stat, looked_failed}
 use Rattle.smk_store.proofs.Looks.{stat_told}
 use Rattle.smk_chain_sight.specs.declared.seeing.Sighted.{Sighted}
 use Rattle.smk_chain_sight.specs.Viewing.{IsSighted, by_stat}
@@ -20,7 +19,7 @@ returns-in_err-stat-clause-looked g c =
 
 pub returns-clause-looked : goal.returns-clause-looked
 returns-clause-looked g c =
-    looked_as (ap is_err c.in_ok-stat.was) (looked_stat c.stat.ensures)
+    looked_stat c.in_ok-stat.ensures
 
 pub returns-clause-told : goal.returns-clause-told
 returns-clause-told g c = λ w at image v path.
