@@ -92,8 +92,8 @@ pub lists_of : (r : Result Round Fault) (jobs : Jobs) (L : Listings) → jobs.li
 lists_of (Ok x) jobs L lists same = ap (λ (j : Jobs). j.lists) same ∙ lists
 lists_of (Err f) jobs L lists same = tt
 
-pub good_of : (flow : Flow) (settings : Settings) (r : Result Round Fault) (jobs : Jobs) → AreFit jobs → IfOk r (λ x. x.jobs ≡ jobs) → IfOk r (AreSound flow settings) → IfOk r (IsGood flow settings)
-good_of flow settings (Ok x) jobs fit same sound = record { fit = subst AreFit (sym same) fit; sound = sound }
+pub good_of : (flow : Flow) (settings : Settings) (r : Result Round Fault) (jobs : Jobs) → AreFit jobs → IfOk r (λ x. x.jobs ≡ jobs) → IfOk r (AreSound flow settings) → IfOk r (λ x. IsGood flow settings x.jobs x.plan)
+good_of flow settings (Ok x) jobs fit same sound = record { fit = subst AreFit (sym same) fit; lengths = sound.lengths; commands = sound.commands }
 good_of flow settings (Err f) jobs fit same sound = tt
 
 pub ready_as : (flow : Flow) (targets : List Path) (image : Image) (jobs : Jobs) (d : Result Jobs Fault) (L : Listings) → d ≡ Ok jobs → jobs.lists ≡ L → Derives flow targets L image d → AreReady flow targets jobs.lists image jobs

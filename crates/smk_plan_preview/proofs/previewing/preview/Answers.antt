@@ -5,6 +5,7 @@ use Rattle.smk_store_members.proofs.Trees.{tree_still}
 use Rattle.smk_plan_preview.specs.Faults.{device_failed}
 use Rattle.smk_plan_preview.specs.Previewing.{HasPreviewed}
 use Rattle.smk_plan_preview.proofs.Looked.{kept, seen_moved}
+use Rattle.smk_plan_preview.proofs.OnDisk.{tree_of}
 use Rattle.smk_plan_preview.proofs.previewing.preview.Goals as goal
 
 never : true ≡ false → ⊥
@@ -14,13 +15,14 @@ pub returns-in-Err-clause-looked : goal.returns-in-Err-clause-looked
 returns-in-Err-clause-looked g c = looked_as (ap device_failed c.in-Err.is) c.stored.ensures.looked
 
 pub returns-in-Err-clause-told : goal.returns-in-Err-clause-told
-returns-in-Err-clause-told g c = λ w at tree read reads told. absurd (never (sym told ∙ c.in-Err.ensures.untold))
+returns-in-Err-clause-told g c = λ w at read reads told. absurd (never (sym told ∙ c.in-Err.ensures.untold))
 
 pub returns-in-Ok-clause-looked : goal.returns-in-Ok-clause-looked
 returns-in-Ok-clause-looked g c = looked_then c.in-Ok.ensures.looked c.preview_stored.ensures.looked
 
 pub returns-in-Ok-clause-told : goal.returns-in-Ok-clause-told
-returns-in-Ok-clause-told g c = λ w at tree read reads.
+returns-in-Ok-clause-told g c = λ w at read reads.
+    let tree = tree_of (g.met.W.Files.sound c.args.work.now) c.requires.none_runs w at in
     let u = kept w c.in-Ok.ensures.looked at in
     let image = seen_moved read w u.0 u.2 in
     subst (λ i. HasPreviewed read c.args.flow.now c.args.settings.now i c.preview_stored.result) image

@@ -16,11 +16,5 @@ returns-in-Err-clause-looked g c = looked_as (ap device_failed c.in-Err.is) c.ch
 pub returns-in-Err-clause-told : goal.returns-in-Err-clause-told
 returns-in-Err-clause-told g c = λ w at tree read st. unpreviewed read _ _ _ c.chain.result c.in-Err.fault c.in-Err.is (c.chain.ensures.told w at tree read st)
 
-pub returns-in-Ok-clause-fit : goal.returns-in-Ok-clause-fit
-returns-in-Ok-clause-fit g c = c.in-Ok.ensures.good.fit
-
-pub returns-in-Ok-clause-lengths : goal.returns-in-Ok-clause-lengths
-returns-in-Ok-clause-lengths g c = c.in-Ok.ensures.good.sound.lengths
-
-pub returns-in-Ok-clause-commands : goal.returns-in-Ok-clause-commands
-returns-in-Ok-clause-commands g c = c.in-Ok.ensures.good.sound.commands
+pub returns-in-Ok-clause-good : goal.returns-in-Ok-clause-good
+returns-in-Ok-clause-good g c = c.in-Ok.ensures.good
