@@ -1,4 +1,4 @@
-use Rattle.std.proofs.Common.{◌<◌, subst, sym, ap, ◌∙◌}
+use Rattle.std.proofs.Common.{◌<◌, Err, subst, sym, ap, ◌∙◌}
 use Rattle.std.proofs.lemmas.Result.{IfOk-weaker}
 use Rattle.smk_world.specs.Calls.{device_failed}
 use Rattle.smk_world.proofs.Devices.{looked_as}
@@ -36,7 +36,10 @@ returns-in-Ok-clause-too_many g c =
     c.sources_in.ensures.fault
 
 pub returns-in-Err-Failed-clause-looked : goal.returns-in-Err-Failed-clause-looked
-returns-in-Err-Failed-clause-looked g c = looked_as (ap device_failed c.in-Err.is) c.look_around.ensures.looked
+returns-in-Err-Failed-clause-looked g c = looked_as (ap device_failed (c.in-Err-Failed.is ∙ ap Err c.in-Err-Failed.field-0-is)) c.look_around.ensures.looked
+
+pub returns-in-Err-OutOfMemory-clause-looked : goal.returns-in-Err-OutOfMemory-clause-looked
+returns-in-Err-OutOfMemory-clause-looked g c = looked_as (ap device_failed (c.in-Err-OutOfMemory.is ∙ ap Err c.in-Err-OutOfMemory.field-0-is)) c.look_around.ensures.looked
 
 pub returns-in-Err-Failed-clause-too_many : goal.returns-in-Err-Failed-clause-too_many
 returns-in-Err-Failed-clause-too_many g c = λ count e. absurd (never_device count e)
