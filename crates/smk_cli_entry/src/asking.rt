@@ -1,9 +1,7 @@
 //! What words ask of a workflow.
 
-ghost use Rattle.std.specs.Prelude.{◌≡◌, [], Ok, Some, None, IfOk, IfErr, IsSome, option_map, false};
-ghost use Rattle.smk_world.specs.Calls.{HasCause};
-ghost use Rattle.smk_world.specs.Runs.{Did};
-ghost use Rattle.smk_eval_files.specs.Looks.{HasSeen};
+ghost use Rattle.std.specs.Prelude.{◌≡◌, [], Ok, Some, None, IfOk, IfErr, option_map, false};
+ghost use Rattle.smk_world.specs.Devices.{WhereTold, HasLooked};
 ghost use Rattle.smk_flow.specs.Targets.{words_of, all_paths, first_bad};
 ghost use Rattle.smk_cli_entry.specs.Faults.{device_failed, is_told, is_sink};
 ghost use Rattle.smk_cli_entry.specs.Forms as forms;
@@ -104,11 +102,8 @@ pub fn ask<W: Files>(
     words: &List<Text>,
 ) -> Result<Asked, Fault>
     requires none_runs { (W.device work.old).running ≡ [] }
-    ensures did { Did W.act (W.device work.old).world (W.device work.new).world
-        (HasSeen (device_failed result) (λ nodes. spec.IsAskedIn run words.now nodes result)) }
-    ensures stays { device_failed result ≡ false → IsSome (W.device work.old).world → IsSome (W.device work.new).world }
-    ensures cause { HasCause (W.device work.old).faults (W.device work.new).faults (device_failed result) }
-    ensures running { (W.device work.new).running ≡ (W.device work.old).running }
+    ensures looked { HasLooked W.act (W.device work.old) (W.device work.new) (device_failed result) }
+    ensures told { WhereTold (W.device work.old) (λ w. spec.IsAskedIn run words.now w.nodes result) }
     ensures no_sink { IfErr result (λ f. is_sink f ≡ false) }
 {
     match read_workflow(alloc, work) {

@@ -1,9 +1,7 @@
 //! The workflow of a folder.
 
-ghost use Rattle.std.specs.Prelude.{◌≡◌, [], IfErr, IsSome, false};
-ghost use Rattle.smk_world.specs.Calls.{HasCause};
-ghost use Rattle.smk_world.specs.Runs.{Did};
-ghost use Rattle.smk_eval_files.specs.Looks.{HasSeen};
+ghost use Rattle.std.specs.Prelude.{◌≡◌, [], IfErr};
+ghost use Rattle.smk_world.specs.Devices.{WhereTold, HasLooked};
 ghost use Rattle.smk_cli_entry.specs.Faults.{device_failed, is_sink};
 ghost use Rattle.smk_cli_entry.specs.Entry as spec;
 
@@ -27,11 +25,8 @@ pub struct Reading {
 #[tactic(auto, using(crate::proofs::Loads::load_no_sink))]
 fn read_in<W: Files>(alloc: Global, work: &mut W, file: PathText) -> Result<Reading, Fault>
     requires none_runs { (W.device work.old).running ≡ [] }
-    ensures did { Did W.act (W.device work.old).world (W.device work.new).world
-        (HasSeen (device_failed result) (λ nodes. spec.IsReadIn nodes file result)) }
-    ensures stays { device_failed result ≡ false → IsSome (W.device work.old).world → IsSome (W.device work.new).world }
-    ensures cause { HasCause (W.device work.old).faults (W.device work.new).faults (device_failed result) }
-    ensures running { (W.device work.new).running ≡ (W.device work.old).running }
+    ensures looked { HasLooked W.act (W.device work.old) (W.device work.new) (device_failed result) }
+    ensures told { WhereTold (W.device work.old) (λ w. spec.IsReadIn w.nodes file result) }
     ensures no_sink { IfErr result (λ f. is_sink f ≡ false) }
 {
     match load(alloc, work, &file, &List::new(alloc)) {
@@ -48,11 +43,8 @@ fn read_in<W: Files>(alloc: Global, work: &mut W, file: PathText) -> Result<Read
 /// the clauses. `Device` comes where the device failed, `OutOfMemory` where there is no memory for the workflow.
 pub fn read_workflow<W: Files>(alloc: Global, work: &mut W) -> Result<Reading, Fault>
     requires none_runs { (W.device work.old).running ≡ [] }
-    ensures did { Did W.act (W.device work.old).world (W.device work.new).world
-        (HasSeen (device_failed result) (λ nodes. spec.IsRead nodes result)) }
-    ensures stays { device_failed result ≡ false → IsSome (W.device work.old).world → IsSome (W.device work.new).world }
-    ensures cause { HasCause (W.device work.old).faults (W.device work.new).faults (device_failed result) }
-    ensures running { (W.device work.new).running ≡ (W.device work.old).running }
+    ensures looked { HasLooked W.act (W.device work.old) (W.device work.new) (device_failed result) }
+    ensures told { WhereTold (W.device work.old) (λ w. spec.IsRead w.nodes result) }
     ensures no_sink { IfErr result (λ f. is_sink f ≡ false) }
 {
     match workflow_file(alloc, work) {

@@ -1,12 +1,10 @@
 //! Configurations, read from the working folder one over another.
 
-ghost use Rattle.std.specs.Prelude.{◌≡◌, [], Ok, IfOk, IsSome, false};
+ghost use Rattle.std.specs.Prelude.{◌≡◌, [], Ok, IfOk, false};
 ghost use Rattle.serde_json.specs.Data.{no_members};
-ghost use Rattle.smk_world.specs.Calls.{HasCause};
-ghost use Rattle.smk_world.specs.Runs.{Did};
+ghost use Rattle.smk_world.specs.Devices.{WhereTold, HasLooked};
 ghost use Rattle.smk_config.specs.Settings.{members};
 ghost use Rattle.smk_config.specs.Settings as settings;
-ghost use Rattle.smk_eval_files.specs.Looks.{HasSeen};
 ghost use Rattle.smk_eval_files.specs.Placing.{entries};
 ghost use Rattle.smk_eval.specs.declared.load_fault.LoadFault.TheVariants as fault;
 ghost use Rattle.smk_eval.specs.Faults.{Answers, device_failed};
@@ -75,11 +73,8 @@ fn config_path(alloc: Global, text: &Text) -> Result<PathText, LoadFault>
 // The configuration in the file of this path.
 fn config_file<W: Files>(alloc: Global, work: &mut W, path: &PathText) -> Result<Config, LoadFault>
     requires none_runs { (W.device work.old).running ≡ [] }
-    ensures did { Did W.act (W.device work.old).world (W.device work.new).world
-        (HasSeen (device_failed result) (λ nodes. Configures result (spec.config_file nodes path.now))) }
-    ensures stays { device_failed result ≡ false → IsSome (W.device work.old).world → IsSome (W.device work.new).world }
-    ensures cause { HasCause (W.device work.old).faults (W.device work.new).faults (device_failed result) }
-    ensures running { (W.device work.new).running ≡ (W.device work.old).running }
+    ensures looked { HasLooked W.act (W.device work.old) (W.device work.new) (device_failed result) }
+    ensures told { WhereTold (W.device work.old) (λ w. Configures result (spec.config_file w.nodes path.now)) }
 {
     match read_bytes(alloc, work, path) {
         Err(fault) => Err(of_file(fault)),
@@ -90,11 +85,8 @@ fn config_file<W: Files>(alloc: Global, work: &mut W, path: &PathText) -> Result
 // The configuration in the file of this text.
 fn config_at<W: Files>(alloc: Global, work: &mut W, text: &Text) -> Result<Config, LoadFault>
     requires none_runs { (W.device work.old).running ≡ [] }
-    ensures did { Did W.act (W.device work.old).world (W.device work.new).world
-        (HasSeen (device_failed result) (λ nodes. Configures result (spec.config_at nodes text.now))) }
-    ensures stays { device_failed result ≡ false → IsSome (W.device work.old).world → IsSome (W.device work.new).world }
-    ensures cause { HasCause (W.device work.old).faults (W.device work.new).faults (device_failed result) }
-    ensures running { (W.device work.new).running ≡ (W.device work.old).running }
+    ensures looked { HasLooked W.act (W.device work.old) (W.device work.new) (device_failed result) }
+    ensures told { WhereTold (W.device work.old) (λ w. Configures result (spec.config_at w.nodes text.now)) }
 {
     match config_path(alloc, text) {
         Err(fault) => Err(fault),
@@ -118,11 +110,8 @@ fn with_config<W: Files>(
     text: &Text,
 ) -> Result<Config, LoadFault>
     requires none_runs { (W.device work.old).running ≡ [] }
-    ensures did { Did W.act (W.device work.old).world (W.device work.new).world
-        (HasSeen (device_failed result) (λ nodes. Configures result (spec.with_config nodes (members was) text.now))) }
-    ensures stays { device_failed result ≡ false → IsSome (W.device work.old).world → IsSome (W.device work.new).world }
-    ensures cause { HasCause (W.device work.old).faults (W.device work.new).faults (device_failed result) }
-    ensures running { (W.device work.new).running ≡ (W.device work.old).running }
+    ensures looked { HasLooked W.act (W.device work.old) (W.device work.new) (device_failed result) }
+    ensures told { WhereTold (W.device work.old) (λ w. Configures result (spec.with_config w.nodes (members was) text.now)) }
 {
     match config_at(alloc, work, text) {
         Err(fault) => Err(fault),
@@ -137,11 +126,8 @@ pub(crate) fn configs<W: Files>(
     texts: &[Text],
 ) -> Result<Config, LoadFault>
     requires none_runs { (W.device work.old).running ≡ [] }
-    ensures did { Did W.act (W.device work.old).world (W.device work.new).world
-        (HasSeen (device_failed result) (λ nodes. Configures result (spec.configs nodes no_members texts.now))) }
-    ensures stays { device_failed result ≡ false → IsSome (W.device work.old).world → IsSome (W.device work.new).world }
-    ensures cause { HasCause (W.device work.old).faults (W.device work.new).faults (device_failed result) }
-    ensures running { (W.device work.new).running ≡ (W.device work.old).running }
+    ensures looked { HasLooked W.act (W.device work.old) (W.device work.new) (device_failed result) }
+    ensures told { WhereTold (W.device work.old) (λ w. Configures result (spec.configs w.nodes no_members texts.now)) }
 {
     let mut config = Config::new(alloc);
     for text in texts {

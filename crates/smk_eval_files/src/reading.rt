@@ -1,9 +1,7 @@
 //! Files and their includes, read from the working folder.
 
-ghost use Rattle.std.specs.Prelude.{◌≡◌, ℕ, ◌<◌, ◌≤◌, [], IsSome, false};
-ghost use Rattle.smk_world.specs.Calls.{HasCause};
-ghost use Rattle.smk_world.specs.Runs.{Did};
-ghost use Rattle.smk_eval_files.specs.Looks.{HasSeen};
+ghost use Rattle.std.specs.Prelude.{◌≡◌, ℕ, ◌<◌, ◌≤◌, [], false};
+ghost use Rattle.smk_world.specs.Devices.{WhereTold, HasLooked};
 ghost use Rattle.smk_eval_files.specs.Reading.{Answers, device_failed, bytes_in, bytes_at, target, onto, included, files_from, files_at};
 ghost use Rattle.smk_eval_files.specs.Opening.{opened_as, include_from};
 
@@ -50,11 +48,8 @@ pub fn read_bytes<W: Files>(
     file: &PathText,
 ) -> Result<Bytes, FileFault>
     requires none_runs { (W.device work.old).running ≡ [] }
-    ensures did { Did W.act (W.device work.old).world (W.device work.new).world
-        (HasSeen (device_failed result) (λ nodes. Answers (bytes_at nodes file.now) result)) }
-    ensures stays { device_failed result ≡ false → IsSome (W.device work.old).world → IsSome (W.device work.new).world }
-    ensures cause { HasCause (W.device work.old).faults (W.device work.new).faults (device_failed result) }
-    ensures running { (W.device work.new).running ≡ (W.device work.old).running }
+    ensures looked { HasLooked W.act (W.device work.old) (W.device work.new) (device_failed result) }
+    ensures told { WhereTold (W.device work.old) (λ w. Answers (bytes_at w.nodes file.now) result) }
 {
     let Ok(place) = Place::user(alloc, file) else {
         return Err(FileFault::OutOfMemory);
@@ -104,11 +99,8 @@ fn with_file<W: Files>(
     depth: u64,
 ) -> Result<List<ReadFile>, FileFault>
     requires none_runs { (W.device work.old).running ≡ [] }
-    ensures did { Did W.act (W.device work.old).world (W.device work.new).world
-        (HasSeen (device_failed result) (λ nodes. Answers (onto files (files_from nodes depth file)) result)) }
-    ensures stays { device_failed result ≡ false → IsSome (W.device work.old).world → IsSome (W.device work.new).world }
-    ensures cause { HasCause (W.device work.old).faults (W.device work.new).faults (device_failed result) }
-    ensures running { (W.device work.new).running ≡ (W.device work.old).running }
+    ensures looked { HasLooked W.act (W.device work.old) (W.device work.new) (device_failed result) }
+    ensures told { WhereTold (W.device work.old) (λ w. Answers (onto files (files_from w.nodes depth file)) result) }
 {
     match read_bytes(alloc, work, &file) {
         Err(fault) => Err(fault),
@@ -142,11 +134,8 @@ fn with_include<W: Files>(
     depth: u64,
 ) -> Result<List<ReadFile>, FileFault>
     requires none_runs { (W.device work.old).running ≡ [] }
-    ensures did { Did W.act (W.device work.old).world (W.device work.new).world
-        (HasSeen (device_failed result) (λ nodes. Answers (onto files (include_from (files_from nodes depth) file.now text.now)) result)) }
-    ensures stays { device_failed result ≡ false → IsSome (W.device work.old).world → IsSome (W.device work.new).world }
-    ensures cause { HasCause (W.device work.old).faults (W.device work.new).faults (device_failed result) }
-    ensures running { (W.device work.new).running ≡ (W.device work.old).running }
+    ensures looked { HasLooked W.act (W.device work.old) (W.device work.new) (device_failed result) }
+    ensures told { WhereTold (W.device work.old) (λ w. Answers (onto files (include_from (files_from w.nodes depth) file.now text.now)) result) }
 {
     match target(alloc, file, text) {
         Err(fault) => Err(fault),
@@ -165,11 +154,8 @@ fn with_includes<W: Files>(
     depth: u64,
 ) -> Result<List<ReadFile>, FileFault>
     requires none_runs { (W.device work.old).running ≡ [] }
-    ensures did { Did W.act (W.device work.old).world (W.device work.new).world
-        (HasSeen (device_failed result) (λ nodes. Answers (onto files (included (files_from nodes depth) file.now texts.now)) result)) }
-    ensures stays { device_failed result ≡ false → IsSome (W.device work.old).world → IsSome (W.device work.new).world }
-    ensures cause { HasCause (W.device work.old).faults (W.device work.new).faults (device_failed result) }
-    ensures running { (W.device work.new).running ≡ (W.device work.old).running }
+    ensures looked { HasLooked W.act (W.device work.old) (W.device work.new) (device_failed result) }
+    ensures told { WhereTold (W.device work.old) (λ w. Answers (onto files (included (files_from w.nodes depth) file.now texts.now)) result) }
 {
     let mut all = files;
     for text in texts {
@@ -192,11 +178,8 @@ pub fn read_files<W: Files>(
     file: PathText,
 ) -> Result<List<ReadFile>, FileFault>
     requires none_runs { (W.device work.old).running ≡ [] }
-    ensures did { Did W.act (W.device work.old).world (W.device work.new).world
-        (HasSeen (device_failed result) (λ nodes. Answers (files_at nodes file) result)) }
-    ensures stays { device_failed result ≡ false → IsSome (W.device work.old).world → IsSome (W.device work.new).world }
-    ensures cause { HasCause (W.device work.old).faults (W.device work.new).faults (device_failed result) }
-    ensures running { (W.device work.new).running ≡ (W.device work.old).running }
+    ensures looked { HasLooked W.act (W.device work.old) (W.device work.new) (device_failed result) }
+    ensures told { WhereTold (W.device work.old) (λ w. Answers (files_at w.nodes file) result) }
 {
     with_file(alloc, work, List::new(alloc), file, 17)
 }
