@@ -3,6 +3,8 @@
 
 mod fault;
 mod jobs;
+mod naming;
 
 pub use fault::{ChainFault, SightFault};
 pub use jobs::{Jobs, Known, Listings, Maker};
+pub use naming::first_output;

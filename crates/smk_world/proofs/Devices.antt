@@ -22,7 +22,7 @@ use Rattle.smk_world.specs.declared.event.Stat.{Stat}
 use Rattle.smk_world.specs.declared.event.WorkFault.{WorkFault}
 use Rattle.smk_world.specs.declared.event.WorkFault.TheVariants.{Failed as FailedFault, OutOfMemory as MemoryFault}
 use Rattle.smk_world.specs.World.{World, after, run, node_after, children_after, without_number}
-use Rattle.smk_world.specs.Calls.{Rose, Lets, ListingIs, IsListing, IsUnused, any_overlap, used_now, failed, device_failed}
+use Rattle.smk_world.specs.Calls.{Rose, Happens, Lets, ListingIs, IsListing, IsUnused, any_overlap, used_now, failed, device_failed}
 use Rattle.smk_world.specs.Devices.{Device, WhereTold, HasCalled, HasActed, HasEnded, HasLooked, HasCarried, AreLooks, is_look, running_after, keeps_children}
 use Rattle.smk_world.specs.Requests.{Request, request, HasDone, IsCutShort, Carries}
 use Rattle.smk_world.specs.Runs.{Follows}
@@ -80,7 +80,7 @@ pub acted_call : (act : Act) (P : World → List Event → Type 0) (a b : Device
     → ((w : World) (left : List Change) → Lets act w call left → P w (record { call = call; left = left } ∷ [])) → HasCalled act a b call → HasActed act P a b (failed call)
 acted_call act P a b call same more h =
     record {
-      did = λ w1 e. let t = h.world.told w1 e in (t.0, t.1, (record { call = call; left = t.2.0 } ∷ [], (t.2.1, tt), more t.0 t.2.0 t.2.1, t.2.2));
+      did = λ w1 e. let t = h.world.told w1 e in (t.0, t.1, (record { call = call; left = t.2.0 } ∷ [], (t.2.1, tt), more t.0 t.2.0 t.2.1.lets, t.2.2));
       stays = λ quiet some. h.world.stays some quiet;
       cause = h.cause;
       running = h.running ∙ still_running call a.running same;
@@ -151,7 +151,7 @@ ended_child act P a b c recipe logs command number r is none started ran waited 
       did = λ w2 e.
           let t = waited.world.told w2 e in
           let s = started.world.told t.0 t.1 in
-          (s.0, s.1, (record { call = Started recipe logs command (Ok number); left = s.2.0 } ∷ record { call = Waited r; left = t.2.0 } ∷ [], (s.2.1, (subst (λ v. Lets act v (Waited r) t.2.0) s.2.2 t.2.1, tt)), is s.0 s.2.0 t.2.0, t.2.2 ∙ ap (λ v. after v (record { call = Waited r; left = t.2.0 })) s.2.2));
+          (s.0, s.1, (record { call = Started recipe logs command (Ok number); left = s.2.0 } ∷ record { call = Waited r; left = t.2.0 } ∷ [], (s.2.1, (subst (λ v. Happens act v (record { call = Waited r; left = t.2.0 })) s.2.2 t.2.1, tt)), is s.0 s.2.0 t.2.0, t.2.2 ∙ ap (λ v. after v (record { call = Waited r; left = t.2.0 })) s.2.2));
       stays = λ quiet some. waited.world.stays (started.world.stays some refl) quiet;
       cause = record { later = omega (arith, started.cause.later, waited.cause.later); rose = λ failure. further a.faults b.faults c.faults started.cause.later (waited.cause.rose failure) };
       idle = λ quiet. gone r quiet ran waited.running;
@@ -374,7 +374,7 @@ pub lets_of : {act : Act} {a b : Device} {call : Call} (w : World) → HasCalled
 lets_of {act} {a} {b} {call} w h quiet at =
     let v = some_of b.world (h.world.stays (ap is_some at) quiet) in
     let t = h.world.told v.0 v.1 in
-    (t.2.0, subst (λ u. Lets act u call t.2.0) (same_some t.0 w (sym t.1 ∙ at)) t.2.1)
+    (t.2.0, subst (λ u. Lets act u call t.2.0) (same_some t.0 w (sym t.1 ∙ at)) t.2.1.lets)
 
 pub listing_told : {act : Act} {a b : Device} {p : Path} {r : Result Listing WorkFault} {listing : Listing} (w : World) → HasCalled act a b (ReadFolder p r) → r ≡ Ok listing → a.world ≡ Some w → ListingIs w p listing (w.nodes p)
 listing_told {act} {a} {b} {p} w h is at = (lets_of w (subst (λ x. HasCalled act a b (ReadFolder p x)) is h) refl at).1.1

@@ -5,6 +5,7 @@ use Rattle.smk_world.specs.declared.event.Call.TheVariants.{Looked, ReadFile, Re
 use Rattle.smk_world.specs.declared.event.Event.{Event}
 use Rattle.smk_world.specs.World.{World, IsFormed, numbers, without_number}
 use Rattle.smk_world.specs.Calls.{Happened, HasCause, ArePut, HasOwners, failed}
+use Rattle.smk_world.specs.Folders.{IsTree}
 use Rattle.smk_world.specs.Requests.{Request, Carries}
 use Rattle.smk_world.specs.Runs.{Did}
 use Rattle.smk_world.specs.Trees.{Act}
@@ -28,11 +29,12 @@ abbrev pub WhereTold : Device → (World → Type 0) → Type 0
 WhereTold d P = (w : World) → d.world ≡ Some w → P w
 
 -- What is true of each device. Where its world is told, its running children have these numbers, its names rise and have each place where
--- something reads, and what is owned is so by a running child.
+-- something reads, what is owned is so by a running child, and what reads stands in folders.
 pub record IsSoundDevice (d : Device) : Type 0 where
   pub same_numbers : WhereTold d (λ w. numbers w.children ≡ d.running)
   pub formed : WhereTold d IsFormed
   pub owned : WhereTold d HasOwners
+  pub tree : WhereTold d IsTree
 
 -- ## One call
 
