@@ -1,10 +1,10 @@
 //! The names and the lines of jobs.
 
-ghost use Rattle.std.specs.Prelude.{◌≡◌, ◌⊎◌, ◌++◌, map, IfOk, IfErr, IsSome, OnOk, is_ok, false, option_map, string_bytes, codes, decimal, is_err};
-ghost use Rattle.smk_world.specs.Calls.{ArePut, HasCause};
+ghost use Rattle.std.specs.Prelude.{◌≡◌, ◌⊎◌, ◌++◌, map, IfOk, IfErr, is_ok, option_map, string_bytes, codes, decimal};
+ghost use Rattle.smk_world.specs.Devices.{HasPut};
 ghost use Rattle.smk_world.specs.Trees.{first};
 ghost use Rattle.smk_world.specs.World.{out_paths};
-ghost use Rattle.smk_run.specs.Reports.{end_line, is_output};
+ghost use Rattle.smk_run.specs.Reports.{HasReported, IsReport, end_line, is_output};
 ghost use Rattle.smk_run.specs.declared.stop.Stop.TheVariants as stop;
 
 use crate::{Ending, Stop};
@@ -36,13 +36,11 @@ pub(crate) fn first_output(job: &Job) -> Option<&PathText>
     None
 }
 
-/// Puts the text, and hands it on.
-pub(crate) fn write_out<O: Sink>(out: &mut O, text: &Text) -> Result<(), Failed>
-    ensures put { ArePut (O.sunk out.old).put (O.sunk out.new).put text.now (is_ok result) }
-    ensures cause { HasCause (O.sunk out.old).faults (O.sunk out.new).faults (is_err result) }
-    ensures quiet { OnOk result ((O.sunk out.new).faults ≡ (O.sunk out.old).faults) }
+/// Puts the text, and hands it on. `Failed`: the sink failed, and a front of the text was put.
+pub fn write_out<O: Sink>(out: &mut O, text: &str) -> Result<(), Failed>
+    ensures { HasPut (O.sunk out.old) (O.sunk out.new) text.now result }
 {
-    out.put(text.as_str().as_bytes())?;
+    out.put(text.as_bytes())?;
     out.flush()
 }
 
@@ -92,6 +90,8 @@ fn end_line(
 }
 
 /// Puts the line of a job's end.
+///
+/// `Output`: the sink failed, and a front of the line was put. `OutOfMemory`: there is no memory for the line; then nothing was put.
 pub(crate) fn tell_end<O: Sink>(
     alloc: Global,
     rule: &str,
@@ -99,14 +99,11 @@ pub(crate) fn tell_end<O: Sink>(
     ending: &Ending,
     out: &mut O,
 ) -> Result<(), Stop>
-    ensures put { ArePut (O.sunk out.old).put (O.sunk out.new).put (end_line (record { rule = rule.now; path = path.now }) ending.now) (is_ok result) }
-    ensures stays { is_output result ≡ false → IsSome (O.sunk out.old).put → IsSome (O.sunk out.new).put }
-    ensures cause { HasCause (O.sunk out.old).faults (O.sunk out.new).faults (is_output result) }
-    ensures quiet { is_output result ≡ false → (O.sunk out.new).faults ≡ (O.sunk out.old).faults }
+    ensures told { HasReported (IsReport (is_ok result) (end_line (record { rule = rule.now; path = path.now }) ending.now)) (O.sunk out.old) (O.sunk out.new) (is_output result) }
     ensures faults { IfErr result (λ s. (s ≡ stop.Output) ⊎ (s ≡ stop.OutOfMemory)) }
 {
     let text = end_line(alloc, rule, path, ending)?;
-    match write_out(out, &text) {
+    match write_out(out, text.as_str()) {
         Ok(()) => Ok(()),
         Err(Failed) => Err(Stop::Output),
     }
