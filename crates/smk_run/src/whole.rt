@@ -6,9 +6,9 @@ ghost use Rattle.smk_run.specs.Duties.{due, serials};
 ghost use Rattle.smk_plan.specs.Runnable.{AreRunnable};
 ghost use Rattle.smk_run.specs.Runs.{AreGood, HasRun};
 
-use crate::{Agenda, Tally};
 use crate::serials::{made_by, serials_of};
 use crate::turns::run_all;
+use crate::{Agenda, Tally};
 use smk_chain::Jobs;
 use smk_flow::Workflow;
 use smk_report::Fault;
