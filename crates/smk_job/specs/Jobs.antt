@@ -152,8 +152,8 @@ begin_failed (Err Device) = true
 begin_failed (Err OutOfMemory) = false
 
 -- all its calls, the last of which answered the number of the child; or those up to one that failed; or none
-abbrev pub HasBegun : Recipe → List Path → List ℕ → Result Underway BeginFault → List Event → Type 0
-HasBegun recipe logs command (Ok going) es = HasDone (begin_requests recipe logs command) es × (started_numbers es ≡ going.number ∷ [])
-HasBegun recipe logs command (Err (TooLong bytes)) es = es ≡ []
-HasBegun recipe logs command (Err Device) es = IsCutShort (begin_requests recipe logs command) es
-HasBegun recipe logs command (Err OutOfMemory) es = es ≡ []
+abbrev pub HasBegun : Recipe → List Path → List ℕ → Result Underway BeginFault → World → List Event → Type 0
+HasBegun recipe logs command (Ok going) w es = HasDone (begin_requests recipe logs command) es × (started_numbers es ≡ going.number ∷ [])
+HasBegun recipe logs command (Err (TooLong bytes)) w es = es ≡ []
+HasBegun recipe logs command (Err Device) w es = IsCutShort (begin_requests recipe logs command) es
+HasBegun recipe logs command (Err OutOfMemory) w es = es ≡ []

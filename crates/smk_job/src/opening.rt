@@ -1,13 +1,12 @@
 //! A job begins.
 
-ghost use Rattle.std.specs.Prelude.{◌≡◌, ◌≢◌, ◌++◌, [], All, length, true, IfErr, is_err};
+ghost use Rattle.std.specs.Prelude.{◌≡◌, ◌≢◌, ◌++◌, [], length, true, IfErr, is_err};
 ghost use Rattle.smk_base.specs.Path.{is_path};
 ghost use Rattle.smk_world.specs.World.{in_paths, out_paths, owned_paths};
-ghost use Rattle.smk_world.specs.Calls.{IsUnused};
 ghost use Rattle.smk_world.specs.Devices.{WhereTold, HasCarried};
 ghost use Rattle.smk_world.specs.Trees.{Each};
 ghost use Rattle.smk_record.specs.Records.{is_valid, record_of};
-ghost use Rattle.smk_store.specs.Steps.{places_of, mark_requests};
+ghost use Rattle.smk_store.specs.Steps.{AreUnused, places_of, mark_requests};
 ghost use Rattle.smk_job.specs.Jobs.{clear_requests, begin_failed, LetsBegin, IsBegunFor, HasBegun};
 ghost use Rattle.smk_job.specs.Reserves.{HasLaunched};
 ghost use Rattle.smk_job.specs.Starts.{HasStarted, begun_child, started_child};
@@ -25,7 +24,7 @@ use std::alloc::Global;
 
 // Marks the job, and makes room for its outputs.
 fn prepare<W: Files>(work: &mut W, places: &JobPlaces, owned: &[Place]) -> Result<(), Failed>
-    requires unused { WhereTold (W.device work.old) (λ w. All (IsUnused w) places.now.outputs) }
+    requires unused { AreUnused (W.device work.old) places.now.outputs }
     ensures { HasCarried W.act (mark_requests places.now ++ clear_requests places.now.outputs owned.now) (W.device work.old) (W.device work.new) (is_err result) }
 {
     mark(work, places)?;

@@ -1,9 +1,8 @@
 //! The steps of a job besides those of the store.
 
-ghost use Rattle.std.specs.Prelude.{◌≡◌, All, length, is_err};
-ghost use Rattle.smk_world.specs.Calls.{IsUnused};
+ghost use Rattle.std.specs.Prelude.{◌≡◌, length, is_err};
 ghost use Rattle.smk_world.specs.Devices.{WhereTold, HasCarried};
-ghost use Rattle.smk_store.specs.Steps.{remove_each};
+ghost use Rattle.smk_store.specs.Steps.{AreUnused, remove_each};
 ghost use Rattle.smk_job.specs.Jobs.{AreFree, parents_each, clear_requests, put_all_requests, keep_requests, drop_all_requests, lose_requests};
 
 use smk_base::{Bytes, List, Place};
@@ -12,7 +11,7 @@ use smk_world::{Failed, Files};
 
 // Removes each of the places.
 fn remove_each<W: Files>(work: &mut W, places: &[Place]) -> Result<(), Failed>
-    requires unused { WhereTold (W.device work.old) (λ w. All (IsUnused w) places.now) }
+    requires unused { AreUnused (W.device work.old) places.now }
     ensures { HasCarried W.act (remove_each places.now) (W.device work.old) (W.device work.new) (is_err result) }
 {
     for place in places {
@@ -37,7 +36,7 @@ pub(crate) fn clear<W: Files>(
     outputs: &[Place],
     owned: &[Place],
 ) -> Result<(), Failed>
-    requires unused { WhereTold (W.device work.old) (λ w. All (IsUnused w) outputs.now) }
+    requires unused { AreUnused (W.device work.old) outputs.now }
     ensures { HasCarried W.act (clear_requests outputs.now owned.now) (W.device work.old) (W.device work.new) (is_err result) }
 {
     remove_each(work, outputs)?;
@@ -65,7 +64,7 @@ pub(crate) fn lose<W: Files>(work: &mut W, places: &JobPlaces) -> Result<(), Fai
 // Makes the outputs firm, and writes their records firmly.
 fn put_each<W: Files>(work: &mut W, places: &JobPlaces, bytes: &List<Bytes>) -> Result<(), Failed>
     requires each { length bytes.now ≡ length places.now.records }
-    requires unused { WhereTold (W.device work.old) (λ w. All (IsUnused w) places.now.records) }
+    requires unused { AreUnused (W.device work.old) places.now.records }
     ensures { HasCarried W.act (put_all_requests places.now bytes.now) (W.device work.old) (W.device work.new) (is_err result) }
 {
     work.settle(&places.outputs)?;
