@@ -1,40 +1,15 @@
-//! The names and the lines of jobs.
+//! What is put: texts, and the lines of jobs.
 
-ghost use Rattle.std.specs.Prelude.{◌≡◌, ◌⊎◌, ◌++◌, map, IfOk, IfErr, is_ok, option_map, string_bytes, codes, decimal};
+ghost use Rattle.std.specs.Prelude.{◌≡◌, ◌⊎◌, ◌++◌, IfOk, IfErr, is_ok, string_bytes, codes, decimal};
 ghost use Rattle.smk_world.specs.Devices.{HasPut};
-ghost use Rattle.smk_world.specs.Trees.{first};
-ghost use Rattle.smk_world.specs.World.{out_paths};
 ghost use Rattle.smk_run.specs.Reports.{HasReported, IsReport, end_line, is_output};
 ghost use Rattle.smk_run.specs.declared.stop.Stop.TheVariants as stop;
 
 use crate::{Ending, Stop};
 use smk_base::{OutOfMemory, PathText, Text};
-use smk_flow::Job;
 use smk_report::job_line;
-use smk_world::{Failed, Out, Sink};
+use smk_world::{Failed, Sink};
 use std::alloc::{AllocError, Global};
-
-// The path of the first output.
-fn first_path(outs: &[Out]) -> Option<&PathText>
-    ensures { option_map (λ p. p.now) result ≡ first (map (λ out. out.path) outs.now) }
-{
-    match outs.first() {
-        Some(out) => Some(&out.path),
-        None => None,
-    }
-}
-
-/// The first output of the job.
-pub(crate) fn first_output(job: &Job) -> Option<&PathText>
-    ensures { option_map (λ p. p.now) result ≡ first (out_paths job.now.recipe) }
-{
-    for item in job.recipe.outputs.as_slice() {
-        if let Some(path) = first_path(item.outs.as_slice()) {
-            return Some(path);
-        }
-    }
-    None
-}
 
 /// Puts the text, and hands it on. `Failed`: the sink failed, and a front of the text was put.
 pub fn write_out<O: Sink>(out: &mut O, text: &str) -> Result<(), Failed>

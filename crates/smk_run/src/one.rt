@@ -12,9 +12,10 @@ ghost use Rattle.smk_run.specs.Turns.{HasGoneOn, as_gone, stop_of, left_stop};
 ghost use Rattle.smk_run.specs.Reports.{HasTurned, named};
 
 use crate::closing::close;
-use crate::lines::{first_output, tell_end, write_out};
+use crate::lines::{tell_end, write_out};
 use crate::{Ending, Stop};
 use smk_base::{List, PathText};
+use smk_chain::first_output;
 use smk_flow::{Job, Workflow};
 use smk_format::rule_name;
 use smk_job::{BeginFault, Going, begin};

@@ -12,13 +12,13 @@ ghost use Rattle.smk_run.specs.Duties.{due_from, due_serial, serial_in};
 ghost use Rattle.smk_run.specs.Runs.{HasTaken, HasHadTurn, HasRun, IsReady, command_of, job_fault};
 
 use crate::faults::{failure, stopped};
-use crate::lines::first_output;
 use crate::one::run_one;
 use crate::serials::serial_in;
 use crate::stamps::{input_paths, see_outputs, see_paths, stamps_of};
 use crate::wording::see_texts;
 use crate::{Ending, Stop, Tally};
 use smk_base::OutOfMemory;
+use smk_chain::first_output;
 use smk_flow::{Job, Workflow};
 use smk_format::{command_of, rule_name};
 use smk_plan::Duty;

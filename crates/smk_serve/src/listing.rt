@@ -9,9 +9,8 @@ ghost use Rattle.smk_run.specs.Reports.{HasReported, IsReport};
 ghost use Rattle.smk_run.specs.Runs.{is_output};
 ghost use Rattle.smk_serve.specs.Listing.{job_line, IsFault};
 
-use crate::names::first_output;
 use smk_base::{List, OutOfMemory};
-use smk_chain::Jobs;
+use smk_chain::{Jobs, first_output};
 use smk_flow::{Job, Workflow};
 use smk_format::rule_name;
 use smk_report::{Fault, plan_line, state_line};
