@@ -1,5 +1,5 @@
 -- What a look at an output with all that is under it came to.
-use Rattle.std.specs.Prelude.{◌≡◌, ℕ, ◌<◌, true, length, List, [], ◌∷◌, Result, Ok, Err, if◌then◌else◌}
+use Rattle.std.specs.Prelude.{◌≡◌, ℕ, ◌<◌, true, false, length, List, [], ◌∷◌, Result, Ok, Err, if◌then◌else◌}
 use Rattle.smk_base.specs.Path.{is_at_or_under}
 use Rattle.smk_world.specs.declared.event.Event.{Event}
 use Rattle.smk_world.specs.declared.event.NodeState.TheVariants.{Owned}
@@ -100,6 +100,11 @@ HasViewed k nodes outs (Ok (Records records)) es = AreGood k nodes outs records 
 HasViewed k nodes outs (Ok (Wrongly i wrong)) es = IsSeenWrong nodes outs (wrong_fault wrong (path_at outs i)) es
 HasViewed k nodes outs (Err Failed) es = IsBlind outs es
 HasViewed k nodes outs (Err OutOfMemory) es = AreLookedAt outs es
+
+-- Looks were made. Where no child owns what is at or under the outputs, those up to here were seen, and the records have these bytes.
+pub record AreGoodSoFar (k : Core) (outs seen : List Out) (records : List (List ℕ)) (w : World) (es : List Event) : Type 0 where
+  pub looks : OnlyLooks false es
+  pub good : AreKnown w.nodes outs → AreGood k w.nodes seen records es
 
 -- Looks were made. Where no child owns what is at or under the outputs, they were these.
 pub record HasLookedThrough (k : Core) (outs : List Out) (result : Result View WorkFault) (w : World) (es : List Event) : Type 0 where
