@@ -34,10 +34,11 @@ pub record AreSound (flow : Flow) (settings : Settings) (r : Round) : Type 0 whe
   pub lengths : HasLengths r.jobs settings r.plan
   pub commands : command_fault flow settings.cores (zip r.jobs.jobs r.plan.states) ≡ None
 
--- the jobs are fit besides
-pub record IsGood (flow : Flow) (settings : Settings) (r : Round) : Type 0 where
-  pub fit : AreFit r.jobs
-  pub sound : AreSound flow settings r
+-- the jobs can be run with this plan of theirs
+pub record IsGood (flow : Flow) (settings : Settings) (jobs : Jobs) (told : Told) : Type 0 where
+  pub fit : AreFit jobs
+  pub lengths : HasLengths jobs settings told
+  pub commands : command_fault flow settings.cores (zip jobs.jobs told.states) ≡ None
 
 -- the plan with the states of the table is refused, and this is the first refusal
 pub record IsPlanRefused (flow : Flow) (image : Image) (settings : Settings) (jobs : Jobs) (f : Fault) : Type 0 where

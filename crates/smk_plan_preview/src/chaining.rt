@@ -1,8 +1,7 @@
 //! The chain of plans.
 
-ghost use Rattle.std.specs.Prelude.{◌≡◌, ℕ, List as Items, Option, Some, IfOk, IfErr, true, false};
-ghost use Rattle.smk_world.specs.World.{World};
-ghost use Rattle.smk_world.specs.Devices.{HasLooked};
+ghost use Rattle.std.specs.Prelude.{◌≡◌, ℕ, List as Items, Option, IfOk, IfErr, false};
+ghost use Rattle.smk_world.specs.Devices.{HasLooked, WhereTold};
 ghost use Rattle.smk_record.specs.declared.record.Record.{Record as RecordValue};
 ghost use Rattle.smk_store.specs.Images.{seen};
 ghost use Rattle.smk_store.specs.Loading.{IsStoreOf};
@@ -33,9 +32,9 @@ fn chain_by<W: Files, Rt: Threads + Sync>(
     requires { IsGround ground.now }
     ensures looked { HasLooked W.act (W.device work.old) (W.device work.new) (device_failed result) }
     ensures no_sink { IfErr result (λ f. is_sink f ≡ false) }
-    ensures good { IfOk result (IsGood ground.now.flow.now ground.now.settings.now) }
-    ensures told { (w : World) → (W.device work.old).world ≡ Some w → IsTree w → (read : Items ℕ → Option RecordValue) → IsStoreOf (seen read w) ground.now.store.now
-        → spec.HasChain read ground.now.flow.now ground.now.settings.now (seen read w) result }
+    ensures good { IfOk result (λ r. IsGood ground.now.flow.now ground.now.settings.now r.jobs r.plan) }
+    ensures told { WhereTold (W.device work.old) (λ w. IsTree w → (read : Items ℕ → Option RecordValue) → IsStoreOf (seen read w) ground.now.store.now
+        → spec.HasChain read ground.now.flow.now ground.now.settings.now (seen read w) result) }
 {
     let mut lists = List::new(alloc);
     for _ in 0..u64::MAX {
@@ -60,9 +59,9 @@ pub(crate) fn chain<W: Files, Rt: Threads + Sync>(
 ) -> Result<Round, Fault>
     ensures looked { HasLooked W.act (W.device work.old) (W.device work.new) (device_failed result) }
     ensures no_sink { IfErr result (λ f. is_sink f ≡ false) }
-    ensures good { IfOk result (IsGood flow.now settings.now) }
-    ensures told { (w : World) → (W.device work.old).world ≡ Some w → IsTree w → (read : Items ℕ → Option RecordValue) → IsStoreOf (seen read w) store.now
-        → spec.HasChain read flow.now settings.now (seen read w) result }
+    ensures good { IfOk result (λ r. IsGood flow.now settings.now r.jobs r.plan) }
+    ensures told { WhereTold (W.device work.old) (λ w. IsTree w → (read : Items ℕ → Option RecordValue) → IsStoreOf (seen read w) store.now
+        → spec.HasChain read flow.now settings.now (seen read w) result) }
 {
     match Readings::of(alloc, flow) {
         Ok(readings) => {

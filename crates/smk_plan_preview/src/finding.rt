@@ -1,7 +1,6 @@
 //! What a plan is made from: the store, the sources, the jobs, and what stands at their outputs.
 
-ghost use Rattle.std.specs.Prelude.{◌≡◌, ℕ, List as Items, Option, Some, IfOk, IfErr, true, false};
-ghost use Rattle.smk_world.specs.World.{World};
+ghost use Rattle.std.specs.Prelude.{◌≡◌, ℕ, List as Items, Option, IfOk, IfErr, false};
 ghost use Rattle.smk_world.specs.Devices.{HasLooked, WhereTold};
 ghost use Rattle.smk_record.specs.declared.record.Record.{Record as RecordValue};
 ghost use Rattle.smk_record.specs.Spelling.{ReadsRecords};
@@ -79,8 +78,8 @@ pub(crate) fn sighted<W: Files>(
     requires { AreReadings flow.now readings.now }
     ensures looked { HasLooked W.act (W.device work.old) (W.device work.new) (device_failed result) }
     ensures no_sink { IfErr result (λ f. is_sink f ≡ false) }
-    ensures told { (w : World) → (W.device work.old).world ≡ Some w → IsTree w → (read : Items ℕ → Option RecordValue) → IsStoreOf (seen read w) store.now
-        → spec.Sights flow.now targets.now lists.now (seen read w) result }
+    ensures told { WhereTold (W.device work.old) (λ w. IsTree w → (read : Items ℕ → Option RecordValue) → IsStoreOf (seen read w) store.now
+        → spec.Sights flow.now targets.now lists.now (seen read w) result) }
 {
     let found = sight(alloc, flow, readings, store, lists, targets, work);
     of_sources(found)

@@ -1,9 +1,8 @@
 //! One plan of a chain.
 
-ghost use Rattle.std.specs.Prelude.{◌≡◌, ◌⊎◌, ℕ, List as Items, Option, Some, None, IfOk, IfErr, length, true, false};
+ghost use Rattle.std.specs.Prelude.{◌≡◌, ◌⊎◌, ℕ, List as Items, Option, Some, None, IfOk, IfErr, length, false};
 ghost use Rattle.std.specs.List.{zip};
-ghost use Rattle.smk_world.specs.World.{World};
-ghost use Rattle.smk_world.specs.Devices.{HasLooked};
+ghost use Rattle.smk_world.specs.Devices.{HasLooked, WhereTold};
 ghost use Rattle.smk_record.specs.declared.record.Record.{Record as RecordValue};
 ghost use Rattle.smk_store.specs.Images.{seen, Image};
 ghost use Rattle.smk_store.specs.Loading.{IsStoreOf};
@@ -128,8 +127,8 @@ fn plan_jobs<W: Files, Rt: Threads + Sync>(
     ensures no_sink { IfErr result (λ f. is_sink f ≡ false) }
     ensures jobs { IfOk result (λ r. r.jobs ≡ jobs) }
     ensures sound { IfOk result (AreSound flow.now settings.now) }
-    ensures told { (w : World) → (W.device work.old).world ≡ Some w → IsTree w → (read : Items ℕ → Option RecordValue) → IsStoreOf (seen read w) store.now
-        → spec.AreReady flow.now settings.now.targets jobs.lists (seen read w) jobs → spec.HasRound read flow.now settings.now (seen read w) jobs.lists result }
+    ensures told { WhereTold (W.device work.old) (λ w. IsTree w → (read : Items ℕ → Option RecordValue) → IsStoreOf (seen read w) store.now
+        → spec.AreReady flow.now settings.now.targets jobs.lists (seen read w) jobs → spec.HasRound read flow.now settings.now (seen read w) jobs.lists result) }
 {
     match looked(alloc, work, &jobs) {
         Ok(seen) => plan_seen(rt, alloc, flow, settings, store, jobs, &seen),
@@ -150,10 +149,10 @@ fn plan_sources<W: Files, Rt: Threads + Sync>(
     ensures looked { HasLooked W.act (W.device work.old) (W.device work.new) (device_failed result) }
     ensures no_sink { IfErr result (λ f. is_sink f ≡ false) }
     ensures lists { IfOk result (λ r. r.jobs.lists ≡ lists.now) }
-    ensures good { IfOk result (IsGood ground.now.flow.now ground.now.settings.now) }
-    ensures told { (w : World) → (W.device work.old).world ≡ Some w → IsTree w → (read : Items ℕ → Option RecordValue) → IsStoreOf (seen read w) ground.now.store.now
+    ensures good { IfOk result (λ r. IsGood ground.now.flow.now ground.now.settings.now r.jobs r.plan) }
+    ensures told { WhereTold (W.device work.old) (λ w. IsTree w → (read : Items ℕ → Option RecordValue) → IsStoreOf (seen read w) ground.now.store.now
         → ListsKnown (seen read w) → spec.IsSighted ground.now.flow.now ground.now.settings.now.targets lists.now (seen read w) sources.now
-        → spec.HasRound read ground.now.flow.now ground.now.settings.now (seen read w) lists.now result }
+        → spec.HasRound read ground.now.flow.now ground.now.settings.now (seen read w) lists.now result) }
 {
     match derived(
         alloc,
@@ -189,9 +188,9 @@ pub(crate) fn make_round<W: Files, Rt: Threads + Sync>(
     ensures looked { HasLooked W.act (W.device work.old) (W.device work.new) (device_failed result) }
     ensures no_sink { IfErr result (λ f. is_sink f ≡ false) }
     ensures lists { IfOk result (λ r. r.jobs.lists ≡ lists.now) }
-    ensures good { IfOk result (IsGood ground.now.flow.now ground.now.settings.now) }
-    ensures told { (w : World) → (W.device work.old).world ≡ Some w → IsTree w → (read : Items ℕ → Option RecordValue) → IsStoreOf (seen read w) ground.now.store.now
-        → spec.HasRound read ground.now.flow.now ground.now.settings.now (seen read w) lists.now result }
+    ensures good { IfOk result (λ r. IsGood ground.now.flow.now ground.now.settings.now r.jobs r.plan) }
+    ensures told { WhereTold (W.device work.old) (λ w. IsTree w → (read : Items ℕ → Option RecordValue) → IsStoreOf (seen read w) ground.now.store.now
+        → spec.HasRound read ground.now.flow.now ground.now.settings.now (seen read w) lists.now result) }
 {
     match sighted(
         alloc,

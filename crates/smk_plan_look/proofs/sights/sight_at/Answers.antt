@@ -1,9 +1,8 @@
 use Rattle.std.proofs.Common.{ap, sym, ◌∙◌}
-use Rattle.std.specs.Prelude.{is_err}
 use Rattle.smk_world.specs.Calls.{stat_of}
 use Rattle.smk_world.specs.World.{reading}
-use Rattle.smk_world.proofs.Devices.{looked_stat, looked_as, looked_failed, looked_on, looked_then, still}
-use Rattle.smk_store.proofs.Seeing.{stat_told}
+use Rattle.smk_world.proofs.Devices.{looked_stat, looked_failed, looked_on, looked_then, still}
+use Rattle.smk_store.proofs.Looks.{stat_told}
 use Rattle.smk_store_members.proofs.Trees.{tree_still}
 use Rattle.smk_plan_look.proofs.Sighting.{plain_seen, folder_read_at, sight_still}
 use Rattle.smk_plan_look.proofs.sights.sight_at.Goals as goal
@@ -13,23 +12,23 @@ returns-in_err-stat-clause-looked g c = looked_failed _ c.in_err-stat.was c.from
 
 pub returns-in_err-sight-clause-looked : goal.returns-in_err-sight-clause-looked
 returns-in_err-sight-clause-looked g c =
-    looked_then (looked_as (ap is_err c.in_ok-stat.was) (looked_stat c.stat.ensures))
+    looked_then (looked_stat c.in_ok-stat.ensures)
     (looked_on _ c.in_err-sight.was c.from_residual-in_err-sight.ensures.1 c.folder_at.ensures.looked)
 
 pub returns-then-is_folder-clause-looked : goal.returns-then-is_folder-clause-looked
-returns-then-is_folder-clause-looked g c = looked_then (looked_as (ap is_err c.in_ok-stat.was) (looked_stat c.stat.ensures)) c.in_ok-sight.ensures.looked
+returns-then-is_folder-clause-looked g c = looked_then (looked_stat c.in_ok-stat.ensures) c.in_ok-sight.ensures.looked
 
 pub returns-then-is_folder-clause-told : goal.returns-then-is_folder-clause-told
 returns-then-is_folder-clause-told g c = λ w at tree path.
     let p = c.args.path in
     let seen = stat_told w c.stat.ensures c.in_ok-stat.was at (tree.unowned c.in_ok-place.place) ∙ ap (λ q. stat_of (reading (w.nodes q))) c.in_ok-place.ensures in
-    let u = still w (looked_as (ap is_err c.in_ok-stat.was) (looked_stat c.stat.ensures)) at in
+    let u = still w (looked_stat c.in_ok-stat.ensures) at in
     let at_v = seen ∙ sym (ap (λ n. stat_of (reading (n p))) u.2) in
     sight_still u.0.nodes w.nodes p _ u.2
     (c.in_ok-sight.ensures.told u.0 u.1 (tree_still w u.0 u.2 tree) path (folder_read_at u.0.nodes p c.in_ok-stat.stat at_v (sym c.is_folder.ensures ∙ c.if-is_folder.true)) at_v)
 
 pub returns-clause-looked : goal.returns-clause-looked
-returns-clause-looked g c = looked_as (ap is_err c.in_ok-stat.was) (looked_stat c.stat.ensures)
+returns-clause-looked g c = looked_stat c.in_ok-stat.ensures
 
 pub returns-clause-told : goal.returns-clause-told
 returns-clause-told g c = λ w at tree path.
