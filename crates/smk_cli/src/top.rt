@@ -2,13 +2,14 @@
 
 ghost use Rattle.std.specs.Prelude.{◌≡◌, ◌⊎◌, ℕ, List as Items, Option, [], Some, Err, IfOk, IfErr, map, string_bytes, true, false};
 ghost use Rattle.smk_world.specs.Devices.{WhereTold, HasLooked};
+ghost use Rattle.smk_record.specs.Spelling.{ReadsRecords};
 ghost use Rattle.smk_record.specs.declared.record.Record.{Record as RecordValue};
 ghost use Rattle.smk_report.specs.Faults as report;
 ghost use Rattle.smk_words.specs.declared.words.Request.{Request as RequestValue};
 ghost use Rattle.smk_words.specs.Words.{IsAsked};
 ghost use Rattle.smk_cli_entry.specs.Faults.{device_failed, is_sink};
 ghost use Rattle.smk_serve.specs.Ends.{EndsAs, EndsWith, fault_of};
-ghost use Rattle.smk_serve.specs.Serving.{IsAtHand, HasListed, Went};
+ghost use Rattle.smk_serve.specs.Serving.{HasListed, Went};
 ghost use Rattle.smk_cli.specs.Lines.{IsOutcome, HasToldFault};
 ghost use Rattle.smk_cli.specs.Whole.{IsRefusal, IsToServe, Serves, HasServed};
 
@@ -34,7 +35,7 @@ fn serve_run<W: Crew, O: Sink, Rt: Threads + Sync>(
 ) -> Result<(), Fault>
     requires none_runs { (W.device work.old).running ≡ [] }
     ensures ended { EndsAs result (W.device work.old) (W.device work.new) (O.sunk out.old) (O.sunk out.new) }
-    ensures went { WhereTold (W.device work.old) (λ w. (read : Items ℕ → Option RecordValue) → IsAtHand read w
+    ensures went { WhereTold (W.device work.old) (λ w. (read : Items ℕ → Option RecordValue) → ReadsRecords read
         → Went W.act words.now.cores result (IsRefusal read true words.now.targets words.now.cores w) (IsToServe read true words.now.targets words.now.cores w)
         (W.device work.old) (W.device work.new) (O.sunk out.old) (O.sunk out.new)) }
 {
@@ -55,7 +56,7 @@ fn serve_listing<W: Files, O: Sink, Rt: Threads + Sync>(
     requires none_runs { (W.device work.old).running ≡ [] }
     ensures ended { EndsAs result (W.device work.old) (W.device work.new) (O.sunk out.old) (O.sunk out.new) }
     ensures looked { HasLooked W.act (W.device work.old) (W.device work.new) (device_failed result) }
-    ensures listed { WhereTold (W.device work.old) (λ w. (read : Items ℕ → Option RecordValue) → IsAtHand read w
+    ensures listed { WhereTold (W.device work.old) (λ w. (read : Items ℕ → Option RecordValue) → ReadsRecords read
         → HasListed (IsRefusal read false words.now.targets 1 w) (IsToServe read false words.now.targets 1 w) (O.sunk out.old) (O.sunk out.new) result) }
 {
     match ask(alloc, false, work, &words.targets) {
@@ -74,7 +75,7 @@ fn serve_request<W: Crew, O: Sink, Rt: Threads + Sync>(
 ) -> Result<(), Fault>
     requires none_runs { (W.device work.old).running ≡ [] }
     ensures ended { EndsAs result (W.device work.old) (W.device work.new) (O.sunk out.old) (O.sunk out.new) }
-    ensures serves { WhereTold (W.device work.old) (λ w. (read : Items ℕ → Option RecordValue) → IsAtHand read w
+    ensures serves { WhereTold (W.device work.old) (λ w. (read : Items ℕ → Option RecordValue) → ReadsRecords read
         → Serves W.act read w result (W.device work.old) (W.device work.new) (O.sunk out.old) (O.sunk out.new) request.now) }
 {
     match request {
@@ -110,7 +111,7 @@ fn serve<W: Crew, O: Sink, Rt: Threads + Sync>(
     ensures unread { ¬ ((asked : RequestValue) × IsAsked (map string_bytes words.now) asked)
         → ((result ≡ Err Fault.BadWords) ⊎ (result ≡ Err Fault.OutOfMemory)) × (work.new ≡ work.old) × (out.new ≡ out.old) }
     ensures serves { (asked : RequestValue) → IsAsked (map string_bytes words.now) asked
-        → WhereTold (W.device work.old) (λ w. (read : Items ℕ → Option RecordValue) → IsAtHand read w
+        → WhereTold (W.device work.old) (λ w. (read : Items ℕ → Option RecordValue) → ReadsRecords read
         → Serves W.act read w result (W.device work.old) (W.device work.new) (O.sunk out.old) (O.sunk out.new) asked) }
 {
     match requested(alloc, words) {
@@ -161,7 +162,7 @@ pub fn smk<W: Crew, O: Sink, Rt: Threads + Sync>(
 
     // what is asked is served: it is refused, and nothing is done; or what its plan has to be run is run, in order; or the plan is listed
     ensures serves { (asked : RequestValue) → IsAsked (map string_bytes words.now) asked
-        → WhereTold (W.device work.old) (λ w. (read : Items ℕ → Option RecordValue) → IsAtHand read w
+        → WhereTold (W.device work.old) (λ w. (read : Items ℕ → Option RecordValue) → ReadsRecords read
         → HasServed W.act read asked w result.fault (W.device work.old) (W.device work.new) (O.sunk out.old) (O.sunk out.new)) }
 
     // a fault of the device or of the sink comes only from one of its own in this call; and unless a call of the device failed, no child runs at the end, and what is told stays

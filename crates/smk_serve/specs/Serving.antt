@@ -4,8 +4,6 @@ use Rattle.smk_world.specs.World.{World}
 use Rattle.smk_world.specs.Devices.{Device, Sunk, HasLooked}
 use Rattle.smk_world.specs.Trees.{Act}
 use Rattle.smk_record.specs.declared.record.Record.{Record}
-use Rattle.smk_record.specs.Spelling.{ReadsRecords}
-use Rattle.smk_store_members.specs.Disk.{IsTree}
 use Rattle.smk_store.specs.Images.{seen}
 use Rattle.smk_pick.specs.declared.settings.Force.TheVariants.{No}
 use Rattle.smk_pick.specs.declared.settings.Settings.{Settings}
@@ -21,11 +19,6 @@ use Rattle.smk_cli_entry.specs.declared.asking.Asked.{Asked}
 use Rattle.smk_cli_entry.specs.Faults.{is_device}
 use Rattle.smk_run.specs.Reports.{HasReported, IsReport}
 use Rattle.smk_run.specs.Runs.{is_output}
-
--- The folder stands as on a disk, and its records are read so.
-pub record IsAtHand (read : List ℕ → Option Record) (w : World) : Type 0 where
-  pub tree : IsTree w
-  pub reads : ReadsRecords read
 
 -- what a plan for what is asked goes by: jobs that weren't finished are run again, and none is forced
 abbrev pub settings_of : Asked → ℕ → Settings

@@ -2,12 +2,13 @@
 
 ghost use Rattle.std.specs.Prelude.{◌≡◌, ℕ, List as Items, Option, [], IfOk, IfErr, false};
 ghost use Rattle.smk_world.specs.Devices.{WhereTold, HasLooked};
+ghost use Rattle.smk_record.specs.Spelling.{ReadsRecords};
 ghost use Rattle.smk_record.specs.declared.record.Record.{Record as RecordValue};
 ghost use Rattle.smk_cli_entry.specs.Faults.{device_failed, is_sink};
 ghost use Rattle.smk_make.specs.Making.{IsFit};
 ghost use Rattle.smk_serve.specs.Ends.{EndsAs};
 ghost use Rattle.smk_serve.specs.Serving as spec;
-ghost use Rattle.smk_serve.specs.Serving.{IsAtHand, IsPlanned, IsRefusedPlan, IsServed, Went, HasListed};
+ghost use Rattle.smk_serve.specs.Serving.{IsPlanned, IsRefusedPlan, IsServed, Went, HasListed};
 
 use crate::put_listing;
 use smk_base::{Copied, List, OutOfMemory};
@@ -46,7 +47,7 @@ fn plan_for<W: Files, Rt: Threads + Sync>(
     ensures looked { HasLooked W.act (W.device work.old) (W.device work.new) (device_failed result) }
     ensures no_sink { IfErr result (λ f. is_sink f ≡ false) }
     ensures fit { IfOk result (λ plan. IsFit asked.now.flow cores plan.jobs plan.plan.states) }
-    ensures told { WhereTold (W.device work.old) (λ w. (read : Items ℕ → Option RecordValue) → IsAtHand read w → IsPlanned read asked.now cores w result) }
+    ensures told { WhereTold (W.device work.old) (λ w. (read : Items ℕ → Option RecordValue) → ReadsRecords read → IsPlanned read asked.now cores w result) }
 {
     let Ok(settings) = settings_of(alloc, asked, cores) else {
         return Err(Fault::OutOfMemory);
@@ -68,7 +69,7 @@ pub fn make_targets<W: Crew, O: Sink, Rt: Threads + Sync>(
 ) -> Result<(), Fault>
     requires none_runs { (W.device work.old).running ≡ [] }
     ensures ended { EndsAs result (W.device work.old) (W.device work.new) (O.sunk out.old) (O.sunk out.new) }
-    ensures went { WhereTold (W.device work.old) (λ w. (read : Items ℕ → Option RecordValue) → IsAtHand read w
+    ensures went { WhereTold (W.device work.old) (λ w. (read : Items ℕ → Option RecordValue) → ReadsRecords read
         → Went W.act cores result (IsRefusedPlan read asked.now cores w) (IsServed read asked.now cores w)
         (W.device work.old) (W.device work.new) (O.sunk out.old) (O.sunk out.new)) }
 {
@@ -106,7 +107,7 @@ pub fn list_plan<W: Files, O: Sink, Rt: Threads + Sync>(
     requires none_runs { (W.device work.old).running ≡ [] }
     ensures ended { EndsAs result (W.device work.old) (W.device work.new) (O.sunk out.old) (O.sunk out.new) }
     ensures looked { HasLooked W.act (W.device work.old) (W.device work.new) (device_failed result) }
-    ensures listed { WhereTold (W.device work.old) (λ w. (read : Items ℕ → Option RecordValue) → IsAtHand read w
+    ensures listed { WhereTold (W.device work.old) (λ w. (read : Items ℕ → Option RecordValue) → ReadsRecords read
         → HasListed (IsRefusedPlan read asked.now 1 w) (IsServed read asked.now 1 w) (O.sunk out.old) (O.sunk out.new) result) }
 {
     match plan_for(rt, alloc, asked, 1, work) {
