@@ -4,6 +4,7 @@
 mod fault;
 mod jobs;
 mod naming;
+pub mod sets;
 
 pub use fault::{ChainFault, SightFault};
 pub use jobs::{Jobs, Known, Listings, Maker};

@@ -8,8 +8,8 @@ ghost use Rattle.smk_world.specs.Trees.{Path, is_folder_kind};
 ghost use Rattle.smk_plan.specs.States.{by_force};
 ghost use Rattle.smk_plan_facts.specs.Telling.{aims, aims_at, forced_in, is_aimed, Tells};
 
-use crate::texts::{put, set_of};
 use smk_base::{List, OutOfMemory, PathText};
+use smk_chain::sets::{put, set_of};
 use smk_choose::folders_above;
 use smk_flow::Job;
 use smk_pick::{Force, Settings};
@@ -71,8 +71,8 @@ impl Forcing {
         ensures { IfOk result (Tells settings.now ran.now) }
     {
         let force = settings.force;
-        let ran = set_of(alloc, ran)?;
-        let targets = set_of(alloc, &settings.targets)?;
+        let ran = set_of(alloc, ran.as_slice())?;
+        let targets = set_of(alloc, settings.targets.as_slice())?;
         let above = all_above(alloc, &settings.targets)?;
         Ok(Forcing {
             force,
