@@ -1,19 +1,16 @@
 //! The call that does what the words ask.
 
-ghost use Rattle.std.specs.Prelude.{◌≡◌, ◌⊎◌, ℕ, List as Items, Option, [], Some, None, Err, IfOk, IfErr, IsSome, OnOk, is_ok, map, string_bytes, true, false, is_err};
-ghost use Rattle.smk_world.specs.World.{World};
-ghost use Rattle.smk_world.specs.Calls.{HasCause, ArePut, Rose, IsCaused};
+ghost use Rattle.std.specs.Prelude.{◌≡◌, ◌⊎◌, ℕ, List as Items, Option, [], Some, Err, IfOk, IfErr, map, string_bytes, true, false};
+ghost use Rattle.smk_world.specs.Devices.{WhereTold, HasLooked};
+ghost use Rattle.smk_record.specs.Spelling.{ReadsRecords};
 ghost use Rattle.smk_record.specs.declared.record.Record.{Record as RecordValue};
-ghost use Rattle.smk_report.specs.declared.fault.Fault.{Fault as FaultValue};
 ghost use Rattle.smk_report.specs.Faults as report;
-ghost use Rattle.smk_run.specs.Reports.{HasWritten};
 ghost use Rattle.smk_words.specs.declared.words.Request.{Request as RequestValue};
 ghost use Rattle.smk_words.specs.Words.{IsAsked};
 ghost use Rattle.smk_cli_entry.specs.Faults.{device_failed, is_sink};
-ghost use Rattle.smk_serve.specs.Ends.{HasEnded};
-ghost use Rattle.smk_serve.specs.Serving.{IsAtHand, HasKept, HasListed, Went};
-ghost use Rattle.smk_cli.specs.Faults as faults;
-ghost use Rattle.smk_cli.specs.Lines.{IsOutcome, IsFaultLine};
+ghost use Rattle.smk_serve.specs.Ends.{EndsAs, EndsWith, fault_of};
+ghost use Rattle.smk_serve.specs.Serving.{HasListed, Went};
+ghost use Rattle.smk_cli.specs.Lines.{IsOutcome, HasToldFault};
 ghost use Rattle.smk_cli.specs.Whole.{IsRefusal, IsToServe, Serves, HasServed};
 
 use crate::faults::of_words;
@@ -21,9 +18,10 @@ use crate::outcome::Outcome;
 use smk_base::OutOfMemory;
 use smk_cli_entry::ask;
 use smk_report::{Fault, fault_line};
+use smk_run::write_out;
 use smk_serve::{list_plan, make_targets};
 use smk_words::{Request, RunWords, read_words};
-use smk_world::{Crew, Failed, Files, Sink};
+use smk_world::{Crew, Files, Sink};
 use std::alloc::Global;
 use std::thread::Threads;
 
@@ -36,10 +34,10 @@ fn serve_run<W: Crew, O: Sink, Rt: Threads + Sync>(
     out: &mut O,
 ) -> Result<(), Fault>
     requires none_runs { (W.device work.old).running ≡ [] }
-    ensures ended { HasEnded result (W.device work.old).world (W.device work.new).world (W.device work.old).faults (W.device work.new).faults (W.device work.new).running (O.sunk out.old).faults (O.sunk out.new).faults }
-    ensures went { (w : World) → (W.device work.old).world ≡ Some w → (read : Items ℕ → Option RecordValue) → IsAtHand read w
+    ensures ended { EndsAs result (W.device work.old) (W.device work.new) (O.sunk out.old) (O.sunk out.new) }
+    ensures went { WhereTold (W.device work.old) (λ w. (read : Items ℕ → Option RecordValue) → ReadsRecords read
         → Went W.act words.now.cores result (IsRefusal read true words.now.targets words.now.cores w) (IsToServe read true words.now.targets words.now.cores w)
-        (W.device work.old).world (W.device work.new).world (Rose (W.device work.old).faults (W.device work.new).faults) (W.device work.new).running (O.sunk out.old).put (O.sunk out.new).put }
+        (W.device work.old) (W.device work.new) (O.sunk out.old) (O.sunk out.new)) }
 {
     match ask(alloc, true, work, &words.targets) {
         Err(fault) => Err(fault),
@@ -56,10 +54,10 @@ fn serve_listing<W: Files, O: Sink, Rt: Threads + Sync>(
     out: &mut O,
 ) -> Result<(), Fault>
     requires none_runs { (W.device work.old).running ≡ [] }
-    ensures ended { HasEnded result (W.device work.old).world (W.device work.new).world (W.device work.old).faults (W.device work.new).faults (W.device work.new).running (O.sunk out.old).faults (O.sunk out.new).faults }
-    ensures kept { HasKept W.act (W.device work.old).world (W.device work.new).world }
-    ensures listed { (w : World) → (W.device work.old).world ≡ Some w → (read : Items ℕ → Option RecordValue) → IsAtHand read w
-        → HasListed (IsRefusal read false words.now.targets 1 w) (IsToServe read false words.now.targets 1 w) (O.sunk out.old).put (O.sunk out.new).put result }
+    ensures ended { EndsAs result (W.device work.old) (W.device work.new) (O.sunk out.old) (O.sunk out.new) }
+    ensures looked { HasLooked W.act (W.device work.old) (W.device work.new) (device_failed result) }
+    ensures listed { WhereTold (W.device work.old) (λ w. (read : Items ℕ → Option RecordValue) → ReadsRecords read
+        → HasListed (IsRefusal read false words.now.targets 1 w) (IsToServe read false words.now.targets 1 w) (O.sunk out.old) (O.sunk out.new) result) }
 {
     match ask(alloc, false, work, &words.targets) {
         Err(fault) => Err(fault),
@@ -76,9 +74,9 @@ fn serve_request<W: Crew, O: Sink, Rt: Threads + Sync>(
     out: &mut O,
 ) -> Result<(), Fault>
     requires none_runs { (W.device work.old).running ≡ [] }
-    ensures ended { HasEnded result (W.device work.old).world (W.device work.new).world (W.device work.old).faults (W.device work.new).faults (W.device work.new).running (O.sunk out.old).faults (O.sunk out.new).faults }
-    ensures serves { (w : World) → (W.device work.old).world ≡ Some w → (read : Items ℕ → Option RecordValue) → IsAtHand read w
-        → Serves W.act read w result (W.device work.old).world (W.device work.new).world (Rose (W.device work.old).faults (W.device work.new).faults) (W.device work.new).running (O.sunk out.old).put (O.sunk out.new).put request.now }
+    ensures ended { EndsAs result (W.device work.old) (W.device work.new) (O.sunk out.old) (O.sunk out.new) }
+    ensures serves { WhereTold (W.device work.old) (λ w. (read : Items ℕ → Option RecordValue) → ReadsRecords read
+        → Serves W.act read w result (W.device work.old) (W.device work.new) (O.sunk out.old) (O.sunk out.new) request.now) }
 {
     match request {
         Request::Run(words) => serve_run(rt, alloc, words, work, out),
@@ -109,12 +107,12 @@ fn serve<W: Crew, O: Sink, Rt: Threads + Sync>(
     out: &mut O,
 ) -> Result<(), Fault>
     requires none_runs { (W.device work.old).running ≡ [] }
-    ensures ended { HasEnded result (W.device work.old).world (W.device work.new).world (W.device work.old).faults (W.device work.new).faults (W.device work.new).running (O.sunk out.old).faults (O.sunk out.new).faults }
+    ensures ended { EndsAs result (W.device work.old) (W.device work.new) (O.sunk out.old) (O.sunk out.new) }
     ensures unread { ¬ ((asked : RequestValue) × IsAsked (map string_bytes words.now) asked)
         → ((result ≡ Err Fault.BadWords) ⊎ (result ≡ Err Fault.OutOfMemory)) × (work.new ≡ work.old) × (out.new ≡ out.old) }
-    ensures serves { (asked : RequestValue) → IsAsked (map string_bytes words.now) asked → (w : World) → (W.device work.old).world ≡ Some w
-        → (read : Items ℕ → Option RecordValue) → IsAtHand read w
-        → Serves W.act read w result (W.device work.old).world (W.device work.new).world (Rose (W.device work.old).faults (W.device work.new).faults) (W.device work.new).running (O.sunk out.old).put (O.sunk out.new).put asked }
+    ensures serves { (asked : RequestValue) → IsAsked (map string_bytes words.now) asked
+        → WhereTold (W.device work.old) (λ w. (read : Items ℕ → Option RecordValue) → ReadsRecords read
+        → Serves W.act read w result (W.device work.old) (W.device work.new) (O.sunk out.old) (O.sunk out.new) asked) }
 {
     match requested(alloc, words) {
         Err(fault) => Err(fault),
@@ -122,22 +120,11 @@ fn serve<W: Crew, O: Sink, Rt: Threads + Sync>(
     }
 }
 
-// Puts the text, and hands it on.
-fn write_out<O: Sink>(out: &mut O, text: &str) -> Result<(), Failed>
-    ensures put { ArePut (O.sunk out.old).put (O.sunk out.new).put text.now (is_ok result) }
-    ensures cause { HasCause (O.sunk out.old).faults (O.sunk out.new).faults (is_err result) }
-    ensures quiet { OnOk result ((O.sunk out.new).faults ≡ (O.sunk out.old).faults) }
-{
-    out.put(text.as_bytes())?;
-    out.flush()
-}
-
 // Puts the line of a fault. A sink that fails loses the line alone; without memory for the line, that is the fault.
 fn tell<O: Sink>(alloc: Global, answer: Result<(), Fault>, err: &mut O) -> Outcome
     ensures status { result.status ≡ report.status_of result.fault }
-    ensures fault { IsOutcome (faults.fault_of answer) result.fault }
-    ensures line { HasWritten (O.sunk err.old).put (O.sunk err.new).put (¬ Rose (O.sunk err.old).faults (O.sunk err.new).faults)
-        (IsFaultLine result.fault (Rose (O.sunk err.old).faults (O.sunk err.new).faults)) }
+    ensures fault { IsOutcome (fault_of answer) result.fault }
+    ensures line { HasToldFault result.fault (O.sunk err.old) (O.sunk err.new) }
 {
     match answer {
         Ok(()) => Outcome::of(None),
@@ -174,24 +161,16 @@ pub fn smk<W: Crew, O: Sink, Rt: Threads + Sync>(
         → ((result.fault ≡ Some Fault.BadWords) ⊎ (result.fault ≡ Some Fault.OutOfMemory)) × (work.new ≡ work.old) × (out.new ≡ out.old) }
 
     // what is asked is served: it is refused, and nothing is done; or what its plan has to be run is run, in order; or the plan is listed
-    ensures serves { (asked : RequestValue) → IsAsked (map string_bytes words.now) asked → (w : World) → (W.device work.old).world ≡ Some w
-        → (read : Items ℕ → Option RecordValue) → IsAtHand read w
-        → HasServed W.act read asked w result.fault
-        (W.device work.old).world (W.device work.new).world (Rose (W.device work.old).faults (W.device work.new).faults) (W.device work.new).running (O.sunk out.old).put (O.sunk out.new).put }
+    ensures serves { (asked : RequestValue) → IsAsked (map string_bytes words.now) asked
+        → WhereTold (W.device work.old) (λ w. (read : Items ℕ → Option RecordValue) → ReadsRecords read
+        → HasServed W.act read asked w result.fault (W.device work.old) (W.device work.new) (O.sunk out.old) (O.sunk out.new)) }
 
-    // no child runs at the end, unless a call failed
-    ensures children { ((W.device work.new).running ≡ []) ⊎ Rose (W.device work.old).faults (W.device work.new).faults }
-
-    // a fault of the device or of the sink comes only from one of its own in this call
-    ensures device { IsCaused (W.device work.old).faults (W.device work.new).faults (result.fault ≡ Some Fault.Device) }
-    ensures output { IsCaused (O.sunk out.old).faults (O.sunk out.new).faults (result.fault ≡ Some Fault.Output) }
-
-    // what is told stays told, unless a call fails
-    ensures stays { (IsSome (W.device work.old).world → IsSome (W.device work.new).world) ⊎ Rose (W.device work.old).faults (W.device work.new).faults }
+    // a fault of the device or of the sink comes only from one of its own in this call; and unless a call of the device failed, no child runs at the end, and what is told stays
+    // told
+    ensures ended { EndsWith result.fault (W.device work.old) (W.device work.new) (O.sunk out.old) (O.sunk out.new) }
 
     // the fault's line
-    ensures line { HasWritten (O.sunk err.old).put (O.sunk err.new).put (¬ Rose (O.sunk err.old).faults (O.sunk err.new).faults)
-        (IsFaultLine result.fault (Rose (O.sunk err.old).faults (O.sunk err.new).faults)) }
+    ensures line { HasToldFault result.fault (O.sunk err.old) (O.sunk err.new) }
 {
     let answer = serve(rt, alloc, words, work, out);
     tell(alloc, answer, err)

@@ -1,10 +1,10 @@
 //! A job is closed whose child runs.
 
-ghost use Rattle.std.specs.Prelude.{◌≡◌, ◌∷◌, [], false, IsSome};
-ghost use Rattle.smk_world.specs.Calls.{HasCause, Rose};
-ghost use Rattle.smk_world.specs.Runs.{Did};
-ghost use Rattle.smk_run.specs.Statuses.{AreGiven};
-ghost use Rattle.smk_run.specs.Closings.{HasSettled, HasClosed, ending_of, device_failed};
+ghost use Rattle.std.specs.Prelude.{◌≡◌, ◌∷◌, []};
+ghost use Rattle.smk_world.specs.Calls.{device_failed};
+ghost use Rattle.smk_world.specs.Devices.{HasActed, HasEnded};
+ghost use Rattle.smk_run.specs.Statuses.{HasGiven};
+ghost use Rattle.smk_run.specs.Closings.{HasSettled, HasClosed, ending_of};
 
 use crate::Ending;
 use smk_job::{CloseFault, Going, abandon, finish};
@@ -33,10 +33,7 @@ fn settle<W: Crew>(
     status: u32,
 ) -> Result<Ending, WorkFault>
     requires none_runs { (W.device work.old).running ≡ [] }
-    ensures did { Did W.act (W.device work.old).world (W.device work.new).world (λ w es. HasSettled going result status w es) }
-    ensures stays { device_failed result ≡ false → IsSome (W.device work.old).world → IsSome (W.device work.new).world }
-    ensures cause { HasCause (W.device work.old).faults (W.device work.new).faults (device_failed result) }
-    ensures running { (W.device work.new).running ≡ (W.device work.old).running }
+    ensures { HasActed W.act (HasSettled going result status) (W.device work.old) (W.device work.new) (device_failed result) }
 {
     if status == 0 {
         let closed = finish(alloc, work, going);
@@ -52,11 +49,8 @@ fn settle<W: Crew>(
 // Waits for the job's child, and closes the job by its status.
 pub(crate) fn close<W: Crew>(alloc: Global, work: &mut W, going: Going) -> Result<Ending, WorkFault>
     requires one_runs { (W.device work.old).running ≡ going.number ∷ [] }
-    ensures did { Did W.act (W.device work.old).world (W.device work.new).world (λ w es. HasClosed going result w es) }
-    ensures given { Did W.act (W.device work.old).world (W.device work.new).world (AreGiven W.act (Rose (W.device work.old).faults (W.device work.new).faults)) }
-    ensures stays { device_failed result ≡ false → IsSome (W.device work.old).world → IsSome (W.device work.new).world }
-    ensures cause { HasCause (W.device work.old).faults (W.device work.new).faults (device_failed result) }
-    ensures running { device_failed result ≡ false → (W.device work.new).running ≡ [] }
+    ensures closed { HasEnded W.act (HasClosed going result) (W.device work.old) (W.device work.new) (device_failed result) }
+    ensures given { HasGiven W.act (W.device work.old) (W.device work.new) }
 {
     let Ok(ended) = work.wait() else {
         return Err(WorkFault::Failed);

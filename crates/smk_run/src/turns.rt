@@ -1,25 +1,24 @@
 //! The turns of jobs, one after another.
 
-ghost use Rattle.std.specs.Prelude.{◌≡◌, ◌≢◌, ◌≤◌, ◌+◌, [], map, slice_get, Some, None, true, false};
+ghost use Rattle.std.specs.Prelude.{◌≡◌, ◌≢◌, ◌≤◌, ◌+◌, [], map, slice_get, Some, None, true};
 ghost use Rattle.std.specs.Option.{option_and_then};
 ghost use Rattle.smk_base.specs.declared.tree.Pair.{Pair};
 ghost use Rattle.smk_world.specs.World.{in_paths, out_paths, owned_paths};
-ghost use Rattle.smk_world.specs.Calls.{HasCause, Rose, are_apart};
+ghost use Rattle.smk_world.specs.Calls.{are_apart};
 ghost use Rattle.smk_world.specs.Trees.{Each};
 ghost use Rattle.smk_record.specs.Records.{are_rising};
 ghost use Rattle.smk_run.specs.Stamps.{IsBelow, number_at};
 ghost use Rattle.smk_run.specs.Duties.{due_from, due_serial, serial_in};
-ghost use Rattle.smk_run.specs.Reports as one;
-ghost use Rattle.smk_run.specs.Runs.{HasTaken, HasHadTurn, HasRun, IsReady, command_of, job_fault, is_output, is_device};
+ghost use Rattle.smk_run.specs.Runs.{HasTaken, HasHadTurn, HasRun, IsReady, command_of, job_fault};
 
 use crate::faults::{failure, stopped};
-use crate::lines::first_output;
 use crate::one::run_one;
 use crate::serials::serial_in;
 use crate::stamps::{input_paths, see_outputs, see_paths, stamps_of};
 use crate::wording::see_texts;
 use crate::{Ending, Stop, Tally};
 use smk_base::OutOfMemory;
+use smk_chain::first_output;
 use smk_flow::{Job, Workflow};
 use smk_format::{command_of, rule_name};
 use smk_plan::Duty;
@@ -45,11 +44,7 @@ fn take<W: Crew, O: Sink>(
     requires makes { out_paths job.now.recipe ≢ [] }
     requires apart { are_apart (owned_paths job.now.recipe job.now.logs) ≡ true }
     requires wildcards { are_rising (map (λ (w : Pair). w.name) job.now.recipe.wildcards) ≡ true }
-    ensures run { HasTaken W.act flow.now (number_at serials.now) job.now command.now made result (W.device work.old).world (W.device work.new).world
-        (Rose (W.device work.old).faults (W.device work.new).faults) (W.device work.new).running (O.sunk out.old).put (O.sunk out.new).put }
-    ensures cause { HasCause (W.device work.old).faults (W.device work.new).faults (one.is_device result) }
-    ensures output { HasCause (O.sunk out.old).faults (O.sunk out.new).faults (one.is_output result) }
-    ensures quiet { one.is_output result ≡ false → (O.sunk out.new).faults ≡ (O.sunk out.old).faults }
+    ensures run { HasTaken W.act flow.now (number_at serials.now) job.now command.now made result (W.device work.old) (W.device work.new) (O.sunk out.old) (O.sunk out.new) }
 {
     let Ok(paths) = input_paths(alloc, job.recipe.inputs.as_slice()) else {
         return Err(Stop::OutOfMemory);
@@ -81,11 +76,7 @@ fn turn<W: Crew, O: Sink>(
     requires apart { are_apart (owned_paths job.now.recipe job.now.logs) ≡ true }
     requires wildcards { are_rising (map (λ (w : Pair). w.name) job.now.recipe.wildcards) ≡ true }
     requires good { job_fault flow.now cores job.now ≡ None }
-    ensures run { HasHadTurn W.act flow.now (number_at serials.now) job.now (command_of cores job.now) made result (W.device work.old).world (W.device work.new).world
-        (Rose (W.device work.old).faults (W.device work.new).faults) (W.device work.new).running (O.sunk out.old).put (O.sunk out.new).put }
-    ensures cause { HasCause (W.device work.old).faults (W.device work.new).faults (is_device result) }
-    ensures output { HasCause (O.sunk out.old).faults (O.sunk out.new).faults (is_output result) }
-    ensures quiet { is_output result ≡ false → (O.sunk out.new).faults ≡ (O.sunk out.old).faults }
+    ensures run { HasHadTurn W.act flow.now (number_at serials.now) job.now (command_of cores job.now) made result (W.device work.old) (W.device work.new) (O.sunk out.old) (O.sunk out.new) }
 {
     see_outputs(job.recipe.outputs.as_slice());
     see_paths(job.logs.as_slice());
@@ -149,11 +140,7 @@ pub(crate) fn run_all<W: Crew, O: Sink>(
 ) -> Result<Tally, Fault>
     requires none_runs { (W.device work.old).running ≡ [] }
     requires ready { Each (IsReady flow.now cores (number_at made.now)) (due_from (serial_in serials.now) 0 duties.now jobs.now) }
-    ensures run { HasRun W.act flow.now cores (due_from (serial_in serials.now) 0 duties.now jobs.now) (number_at made.now) result (W.device work.old).world (W.device work.new).world
-        (Rose (W.device work.old).faults (W.device work.new).faults) (W.device work.new).running (O.sunk out.old).put (O.sunk out.new).put }
-    ensures cause { HasCause (W.device work.old).faults (W.device work.new).faults (is_device result) }
-    ensures output { HasCause (O.sunk out.old).faults (O.sunk out.new).faults (is_output result) }
-    ensures quiet { is_output result ≡ false → (O.sunk out.new).faults ≡ (O.sunk out.old).faults }
+    ensures run { HasRun W.act flow.now cores (due_from (serial_in serials.now) 0 duties.now jobs.now) (number_at made.now) result (W.device work.old) (W.device work.new) (O.sunk out.old) (O.sunk out.new) }
 {
     let mut done = 0;
     for (number, job) in jobs.iter().enumerate() {
