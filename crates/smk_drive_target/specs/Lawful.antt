@@ -14,8 +14,8 @@ use Rattle.smk_record.specs.declared.record.Record.{Record}
 use Rattle.smk_trigger.specs.declared.reason.State.{State}
 use Rattle.smk_pick.specs.Rooms.{threads_in}
 use Rattle.smk_plan.specs.States.{Plan, is_startable, is_read_now, none_or_one, staged}
-use Rattle.smk_drive.specs.Moments.{Rules, Moment, Begun, IsMoment, EachMoment, seen, places, runs, is_closed, is_changed, is_rest, begins, begun_after, is_spent_removal, staged_now, progress_of}
-use Rattle.smk_drive.specs.Lawful.{running_jobs, first_of, makes_folders, is_wait, is_failed_wait, fit_together, protects, lock_places, goes_on, IsSafeInput, record_for, ClosedWithCause}
+use Rattle.smk_drive.specs.Moments.{Rules, Moment, Begun, IsMoment, EachMoment, seen, places, runs, is_closed, is_closed_badly, is_changed, is_rest, begins, begun_after, is_spent_removal, staged_now, progress_of}
+use Rattle.smk_drive.specs.Lawful.{running_jobs, first_of, makes_folders, is_wait, is_failed_wait, fit_together, protects, lock_places, goes_on, IsSafeInput, record_for, is_good_end}
 use Rattle.smk_drive_target.specs.Moments.{AtEachEvent}
 
 module _ (rules : Rules) where
@@ -105,6 +105,10 @@ module _ (rules : Rules) where
   abbrev pub NothingLeft : Moment → Type 0
   NothingLeft m = IsTrue (goes_on rules m) → may_start m ≡ []
 
+  -- 7. A job is closed badly only where its child ended badly.
+  abbrev pub ClosedWithCause : Moment → Type 0
+  ClosedWithCause m = Each (λ (b : Begun). IsTrue (is_closed_badly rules m.world b) → is_good_end b.ended ≡ false) m.begun
+
   -- What holds of each event of a lawful log.
   pub record IsLawfulEvent (entry : World) (m : Moment) (e : Event) : Type 0 where
     pub changes : ChangesWell entry m e
@@ -121,6 +125,6 @@ pub record Lawful (rules : Rules) (entry : World) (log : List Event) (status : �
   -- 6. after status 0 or 1 nothing that may start was left at a wait or at the end
   pub nothing_left : status ≤ 1 → AtEachEvent rules entry log (λ m e. IsTrue (is_wait e.call) → NothingLeft rules m)
   pub nothing_left_at_the_end : status ≤ 1 → (m : Moment) → IsMoment rules entry log m → NothingLeft rules m
-  -- 7. every child was waited for, unless a wait failed; and a job is closed badly only where its child ended badly
+  -- every child was waited for, unless a wait failed
   pub all_waited : ((run entry log).children ≡ []) ⊎ ((e : Event) × IsIn log e × IsTrue (is_failed_wait e.call))
   pub closed_with_cause : EachMoment rules entry log (ClosedWithCause rules)

@@ -1,0 +1,6 @@
+pub mod Words
+pub mod Files
+pub mod Ends
+pub mod Refusing
+pub mod Clauses
+pub mod Stub
