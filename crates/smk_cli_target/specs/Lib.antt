@@ -4,3 +4,4 @@ pub mod Ends
 pub mod Refusing
 pub mod Clauses
 pub mod Stub
+pub mod Headline

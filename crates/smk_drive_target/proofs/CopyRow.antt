@@ -44,7 +44,7 @@ entry = world_of nodes
 
 rising : IsRising (places_in nodes)
 unfolding IsStrictlySortedBy
-rising = tt
+rising = (tt, tt)
 
 pub formed : IsFormed entry
 formed = formed_image nodes rising
@@ -110,7 +110,7 @@ is_last = last_is rules entry [] (first_moment rules entry) log begins_so settle
 
 -- ## The clauses
 
-pub AtEach : (Moment → Event → Type 0) → Type 0
+abbrev pub AtEach : (Moment → Event → Type 0) → Type 0
 AtEach P = AtEachEvent rules entry log P
 
 abbrev pub is_started : Call → Bool

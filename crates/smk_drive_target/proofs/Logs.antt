@@ -1,6 +1,6 @@
 -- Logs, computed: the moment after each event, and what is checked of each event.
 use Rattle.std.proofs.Common.{◌≡◌, ℕ, zero, suc, Bool, true, false, ◌&&◌, ◌||◌, cond, List, [], ◌∷◌, ◌++◌, map, filter, Option, Some, None, Ok, Err, refl, sym, ap, subst, ◌∙◌, IsTrue, true≢false, inl, inr}
-use Rattle.std.specs.Prelude.{not, bytes_eq, if◌then◌else◌}
+use Rattle.std.specs.Prelude.{not, bytes_eq, if◌then◌else◌, is_some}
 use Rattle.std.specs.List.{list_any, list_all, flat_map}
 use Rattle.smk_base.specs.Path.{is_at_or_under, is_under}
 use Rattle.smk_base.proofs.Places.{same_place}
@@ -9,7 +9,7 @@ use Rattle.smk_world.specs.declared.event.Call.{Call}
 use Rattle.smk_world.specs.declared.event.Call.TheVariants.{Looked, ReadFile, ReadFolder, Written, Created, Removed, MadeParents, Settled, Protected, Started, Waited}
 use Rattle.smk_world.specs.declared.event.Event.{Event}
 use Rattle.smk_world.specs.declared.event.Change.{Change}
-use Rattle.smk_world.specs.World.{World, IsFormed, after, is_within, is_named, folders_above, owned_paths, owned_by, reads_nothing}
+use Rattle.smk_world.specs.World.{World, IsFormed, after, is_within, is_named, folders_above, owned_paths, owned_by, reads_nothing, standing}
 use Rattle.smk_world.proofs.Names.{not_above}
 use Rattle.smk_world.specs.Trees.{Path, Each, IsIn}
 use Rattle.smk_flow.specs.declared.job.Job.{Job}
@@ -139,8 +139,8 @@ module _ (rules : Rules) (entry : World) where
   Holds test P events m (e ∷ es) = Unless (test m e) (P m e) × Holds test P (events ++ e ∷ []) (next events m e) es
 
   pub by_test : (P : Type 0) (b : Bool) → (b ≡ true → P) → Unless b P → P
-  by_test P true yes h = yes refl
-  by_test P false yes h = h
+  by_test P true sure h = sure refl
+  by_test P false sure h = h
 
   nil_right : (xs : List Event) → xs ++ [] ≡ xs
   nil_right [] = refl
@@ -170,14 +170,14 @@ module _ (rules : Rules) (entry : World) where
       AreSettled events m log →
       Holds test P events m log →
       (front : List Event) (e : Event) (rest : List Event) (k : Moment) → log ≡ front ++ e ∷ rest → IsMoment rules entry (events ++ front) k → P k e
-  at_each_from test P yes formed events m [] is settled holds front e rest k h isk = absurd (no_split front e rest h)
-  at_each_from test P yes formed events m (x ∷ xs) is settled holds [] e rest k h isk =
+  at_each_from test P sure formed events m [] is settled holds front e rest k h isk = absurd (no_split front e rest h)
+  at_each_from test P sure formed events m (x ∷ xs) is settled holds [] e rest k h isk =
       let same = one_moment rules entry events m k formed is (subst (λ es. IsMoment rules entry es k) (nil_right events) isk) in
-      subst (λ n. P n e) same (subst (λ d. P m d) (head_same x e xs rest h) (by_test (P m x) (test m x) (yes m x) holds.0))
-  at_each_from test P yes formed events m (x ∷ xs) is settled holds (y ∷ front) e rest k h isk =
+      subst (λ n. P n e) same (subst (λ d. P m d) (head_same x e xs rest h) (by_test (P m x) (test m x) (sure m x) holds.0))
+  at_each_from test P sure formed events m (x ∷ xs) is settled holds (y ∷ front) e rest k h isk =
       let first = head_same x y xs (front ++ e ∷ rest) h in
       let there = subst (λ d. IsMoment rules entry (events ++ d ∷ front) k) (sym first) isk in
-      at_each_from test P yes formed (events ++ x ∷ []) (next events m x) xs (next_is events m x is settled.0) settled.1 holds.1 front e rest k
+      at_each_from test P sure formed (events ++ x ∷ []) (next events m x) xs (next_is events m x is settled.0) settled.1 holds.1 front e rest k
       (tail_same x y xs (front ++ e ∷ rest) h) (subst (λ es. IsMoment rules entry es k) (moved events x front) there)
 
   pub at_each :
@@ -186,7 +186,7 @@ module _ (rules : Rules) (entry : World) where
       IsFormed entry →
       (log : List Event) →
       IsMoment rules entry [] first_moment → AreSettled [] first_moment log → Holds test P [] first_moment log → AtEachEvent rules entry log P
-  at_each test P yes formed log is settled holds front e rest k h isk = at_each_from test P yes formed [] first_moment log is settled holds front e rest k h isk
+  at_each test P sure formed log is settled holds front e rest k h isk = at_each_from test P sure formed [] first_moment log is settled holds front e rest k h isk
 
   -- the moment after all events
   abbrev pub last_from : List Event → Moment → List Event → Moment
@@ -239,11 +239,11 @@ module _ (rules : Rules) (entry : World) where
 
 pub at_within : (q p : Path) (ps : List Path) → is_at_or_under q p ≡ true → is_within p ps ≡ true → is_within q ps ≡ true
 at_within q p [] h k = k
-at_within q p (x ∷ xs) h k = go (is_at_or_under p x) refl k
+at_within q p (x ∷ xs) h k = go (is_at_or_under p x) refl k (at_within q p xs h)
   where
-    go : (b : Bool) → is_at_or_under p x ≡ b → (b || is_within p xs) ≡ true → (is_at_or_under q x || is_within q xs) ≡ true
-    go true e t = or_left (is_at_or_under q x) (is_within q xs) (at_or_under_further q p x h e)
-    go false e t = or_right (is_at_or_under q x) (is_within q xs) (at_within q p xs h t)
+    go : (b : Bool) → is_at_or_under p x ≡ b → (b || is_within p xs) ≡ true → (is_within p xs ≡ true → is_within q xs ≡ true) → (is_at_or_under q x || is_within q xs) ≡ true
+    go true e t deeper = or_left (is_at_or_under q x) (is_within q xs) (at_or_under_further q p x h e)
+    go false e t deeper = or_right (is_at_or_under q x) (is_within q xs) (deeper t)
 
 abbrev pub all_within : List Path → List Path → Bool
 all_within [] qs = true
@@ -251,19 +251,19 @@ all_within (p ∷ ps) qs = is_within p qs && all_within ps qs
 
 pub within_all : (q : Path) (ps qs : List Path) → is_within q ps ≡ true → all_within ps qs ≡ true → is_within q qs ≡ true
 within_all q [] qs h k = absurd (true≢false (sym h))
-within_all q (p ∷ ps) qs h k = go (is_at_or_under q p) refl h
+within_all q (p ∷ ps) qs h k = go (is_at_or_under q p) refl h (λ t. within_all q ps qs t (and_right (is_within p qs) (all_within ps qs) k))
   where
-    go : (b : Bool) → is_at_or_under q p ≡ b → (b || is_within q ps) ≡ true → is_within q qs ≡ true
-    go true e t = at_within q p qs e (and_left (is_within p qs) (all_within ps qs) k)
-    go false e t = within_all q ps qs t (and_right (is_within p qs) (all_within ps qs) k)
+    go : (b : Bool) → is_at_or_under q p ≡ b → (b || is_within q ps) ≡ true → (is_within q ps ≡ true → is_within q qs ≡ true) → is_within q qs ≡ true
+    go true e t later = at_within q p qs e (and_left (is_within p qs) (all_within ps qs) k)
+    go false e t later = later t
 
 pub each_named : (test : Path → Bool) (q : Path) (ps : List Path) → is_named q ps ≡ true → list_all test ps ≡ true → test q ≡ true
 each_named test q [] h k = absurd (true≢false (sym h))
-each_named test q (p ∷ ps) h k = go (bytes_eq q p) refl h
+each_named test q (p ∷ ps) h k = go (bytes_eq q p) refl h (λ t. each_named test q ps t (and_right (test p) (list_all test ps) k))
   where
-    go : (b : Bool) → bytes_eq q p ≡ b → (b || is_named q ps) ≡ true → test q ≡ true
-    go true e t = subst (λ x. test x ≡ true) (sym (same_place q p e)) (and_left (test p) (list_all test ps) k)
-    go false e t = each_named test q ps t (and_right (test p) (list_all test ps) k)
+    go : (b : Bool) → bytes_eq q p ≡ b → (b || is_named q ps) ≡ true → (is_named q ps ≡ true → test q ≡ true) → test q ≡ true
+    go true e t later = subst (λ x. test x ≡ true) (sym (same_place q p e)) (and_left (test p) (list_all test ps) k)
+    go false e t later = later t
 
 pub named_above : (p q : Path) → is_under p q ≡ true → is_named q (folders_above p) ≡ true
 named_above p q h = go (is_named q (folders_above p)) refl
@@ -301,27 +301,34 @@ module _ (rules : Rules) (entry : World) (m : Moment) where
   same_may e p q h k = subst (λ x. may e x ≡ true) (sym (same_place q p h)) k
 
   open_may : (e : Event) (q : Path) → is_within q (open_at e) ≡ true → may e q ≡ true
-  open_may e q h = or_right (among_lock q) _ (or_left (is_within q (open_at e)) _ h)
-    where
-      abbrev among_lock : Path → Bool
-      among_lock x = is_named x (lock_places rules)
+  open_may e q h = or_right (is_named q (lock_places rules)) _ (or_left (is_within q (open_at e)) _ h)
 
-  pub well : (call : Call) (left : List Change) → is_well (record { call = call; left = left }) call ≡ true → ChangesWell rules entry m (record { call = call; left = left })
+  abbrev by : Call → List Change → Event
+  by call left = record { call = call; left = left }
+
+  pub well : (call : Call) (left : List Change) → is_well (by call left) call ≡ true → ChangesWell rules entry m (by call left)
   well (Looked p r) left t q h = absurd (true≢false (sym h))
   well (ReadFile p limit r) left t q h = absurd (true≢false (sym h))
   well (ReadFolder p r) left t q h = absurd (true≢false (sym h))
-  well (Written p bytes r) left t q h = same_may _ p q h t
-  well (Created p (Ok made)) left t q h = same_may _ p q (and_right made (bytes_eq q p) h) t
+  well (Written p bytes r) left t q h = same_may (by (Written p bytes r) left) p q h t
+  well (Created p (Ok made)) left t q h = same_may (by (Created p (Ok made)) left) p q (and_right made (bytes_eq q p) h) t
   well (Created p (Err e)) left t q h =
-      same_may _ p q (and_left (bytes_eq q p) _ (and_right (reads_nothing (m.world.nodes q)) _ h)) t
-  well (Removed p r) left t q h = open_may _ q (at_within q p _ (and_left (is_at_or_under q p) _ h) t)
-  well (MadeParents p (Ok u)) left t q h = each_named (may _) q (folders_above p) (named_above p q (and_left (is_under p q) _ h)) t
-  well (MadeParents p (Err e)) left t q h = each_named (may _) q (folders_above p) (named_above p q (and_left (is_under p q) _ h)) t
+      same_may (by (Created p (Err e)) left) p q (and_left (bytes_eq q p) (is_some (standing left q)) (and_right (reads_nothing (m.world.nodes q)) (bytes_eq q p && is_some (standing left q)) h)) t
+  well (Removed p r) left t q h =
+      open_may (by (Removed p r) left) q (at_within q p (open_at (by (Removed p r) left)) (and_left (is_at_or_under q p) (not (reads_nothing (m.world.nodes q))) h) t)
+  well (MadeParents p (Ok u)) left t q h =
+      each_named (may (by (MadeParents p (Ok u)) left)) q (folders_above p) (named_above p q (and_left (is_under p q) (reads_nothing (m.world.nodes q)) h)) t
+  well (MadeParents p (Err e)) left t q h =
+      each_named (may (by (MadeParents p (Err e)) left)) q (folders_above p)
+      (named_above p q (and_left (is_under p q) (reads_nothing (m.world.nodes q) && is_some (standing left q)) h)) t
   well (Settled ps r) left t q h = absurd (true≢false (sym h))
-  well (Protected p r) left t q h = same_may _ p q h t
-  well (Started recipe logs command (Ok number)) left t q h = open_may _ q (within_all q (owned_paths recipe logs) _ h t)
+  well (Protected p r) left t q h = same_may (by (Protected p r) left) p q h t
+  well (Started recipe logs command (Ok number)) left t q h =
+      open_may (by (Started recipe logs command (Ok number)) left) q
+      (within_all q (owned_paths recipe logs) (open_at (by (Started recipe logs command (Ok number)) left)) h t)
   well (Started recipe logs command (Err e)) left t q h = absurd (true≢false (sym h))
-  well (Waited (Ok ended)) left t q h = open_may _ q (within_all q (owned_by ended.number m.world.children) _ h t)
+  well (Waited (Ok ended)) left t q h =
+      open_may (by (Waited (Ok ended)) left) q (within_all q (owned_by ended.number m.world.children) (open_at (by (Waited (Ok ended)) left)) h t)
   well (Waited (Err e)) left t q h = absurd (true≢false (sym h))
 
   pub changes_are_well : (e : Event) → changes_well e ≡ true → ChangesWell rules entry m e
