@@ -17,8 +17,8 @@ use Rattle.smk_eval_files.specs.Looks.{Nodes}
 use Rattle.smk_eval.specs.declared.load_fault.LoadFault.{LoadFault}
 use Rattle.smk_eval.specs.Faults as load
 use Rattle.smk_eval.specs.Loading.{loaded, Gives}
-use Rattle.smk_cli_target.specs.Stub.{of_load}
-use Rattle.smk_cli_target.specs.Stub.{workflow_file}
+use Rattle.smk_cli_target.specs.Entry.{of_load}
+use Rattle.smk_cli_target.specs.Entry.{workflow_file}
 use Rattle.smk_drive.specs.Moments.{Rules}
 use Rattle.smk_cli_target.specs.declared.asked.RunWords.{RunWords}
 

@@ -2,7 +2,7 @@
 use Rattle.std.specs.Prelude.{◌≡◌, ◌⊎◌, ℕ, Bool, true, false, List, [], ◌∷◌, ◌++◌, IsTrue, Some}
 use Rattle.smk_base.specs.Path.{own_folder, is_at_or_under}
 use Rattle.smk_world.specs.declared.event.Node.TheVariants.{Regular}
-use Rattle.smk_world.specs.declared.event.Call.{Call}
+use Rattle.smk_world.specs.declared.event.Call.{Call as EventCall}
 use Rattle.smk_world.specs.declared.event.Call.TheVariants.{Started}
 use Rattle.smk_world.specs.declared.event.Event.{Event}
 use Rattle.smk_world.specs.World.{World, Nodes, run, world_of, in_paths}
@@ -75,7 +75,7 @@ abbrev pub CameIsGood : Type 0
 CameIsGood = (act : Act) (w : World) (H : Versions) → Came act w H → IsGoodEntry act w
 
 -- what a child is started on is finished: a source, or whole and trusted, without a mark, and no running child owns it
-abbrev pub StartsOnFinished : Rules → Moment → Call → Type 0
+abbrev pub StartsOnFinished : Rules → Moment → EventCall → Type 0
 StartsOnFinished rules m (Started recipe logs command r) = Each (IsSafeInput rules m) (in_paths recipe)
 StartsOnFinished rules m call = Unit {0}
 

@@ -3,5 +3,6 @@ pub mod Files
 pub mod Ends
 pub mod Refusing
 pub mod Clauses
-pub mod Stub
+pub mod Entry
 pub mod Headline
+pub mod Thrift

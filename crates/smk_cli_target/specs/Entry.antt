@@ -1,4 +1,4 @@
--- a stub
+-- The file that a workflow stands in, and faults of loading as those of the call: as smk_cli_entry has them, until this crate may stand on it.
 use Rattle.std.specs.Prelude.{Bool, true, false, List, [], ◌∷◌, codes, Option, Some, None, Result, Ok, Err}
 use Rattle.std.specs.List.{find}
 use Rattle.smk_world.specs.declared.event.Stat.{Stat}
