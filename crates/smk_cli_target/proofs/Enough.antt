@@ -88,7 +88,7 @@ headline act w H words outcome old new out_old out_new log text came met has ask
     record {
       current = current (one_or_more outcome.status);
       finished = λ events e rest m h at.
-        starts_finished rules w m e e.call ((met.has_log.of_run good asked rules is by).lawful.each events e rest m h at).starts;
+          starts_finished rules w m e e.call ((met.has_log.of_run good asked rules is by).lawful.each events e rest m h at).starts;
       complete = λ steady clean. complete ((met.has_log.complete steady).of_run good asked rules is by clean);
     }
   where

@@ -45,6 +45,7 @@ or_no_file (Some p) = Ok p
 -- the file with the workflow
 abbrev pub workflow_file : Nodes → Result Path Fault
 workflow_file nodes = or_no_file (first_file nodes file_names)
+
 -- a fault of loading
 abbrev pub of_load : LoadFault → Fault
 of_load (said.BadIndent f n) = fault.BadIndent f n

@@ -189,11 +189,22 @@ changes =
 
 starts_well : AtEach (λ m e. StartsWell rules entry m e e.call)
 starts_well =
-    at_each rules entry (λ m e. not (is_started e.call)) (λ m e. StartsWell rules entry m e e.call) (λ m e h. none_starts m e e.call h) formed log begins_so settled
-    (tt, (tt, (tt, (tt, (
-      (_, inl refl, refl, refl, refl, record { unended = refl; idle = refl; has_fields = refl; inputs = (inl refl, tt); marks = ((_, refl), tt) }),
-      (tt, (tt, (tt, (tt, (tt, (tt, (tt, tt))))))),
-    )))))
+    at_each rules entry (λ m e. not (is_started e.call)) (λ m e. StartsWell rules entry m e e.call) (λ m e h. none_starts m e e.call h) formed log begins_so settled (
+      tt,
+      (
+        tt,
+        (
+          tt,
+          (
+            tt,
+            (
+              (_, inl refl, refl, refl, refl, record { unended = refl; idle = refl; has_fields = refl; inputs = (inl refl, tt); marks = ((_, refl), tt) }),
+              (tt, (tt, (tt, (tt, (tt, (tt, (tt, tt))))))),
+            ),
+          ),
+        ),
+      ),
+    )
 
 writes_well : AtEach (λ m e. WritesWell rules entry m e e.call)
 writes_well =
@@ -238,13 +249,13 @@ pub is_lawful : Lawful rules entry log 0
 is_lawful =
     record {
       each = λ events e rest m h is.
-        record {
-          changes = changes events e rest m h is;
-          begins = begins_well events e rest m h is;
-          starts = starts_well events e rest m h is;
-          writes = writes_well events e rest m h is;
-          waits = waits_well events e rest m h is;
-        };
+          record {
+            changes = changes events e rest m h is;
+            begins = begins_well events e rest m h is;
+            starts = starts_well events e rest m h is;
+            writes = writes_well events e rest m h is;
+            waits = waits_well events e rest m h is;
+          };
       within_room = in_room;
       nothing_left = λ done. nothing_left;
       nothing_left_at_the_end = λ done. at_end;
