@@ -4,6 +4,7 @@
 ghost use Rattle.smk_cli_target.specs.Headline.{CameIsGood, CameIsHistory, Headline};
 
 mod asked;
+mod call;
 
 pub use asked::{Asked, Outcome, RunWords};
 
