@@ -121,65 +121,65 @@ abbrev pub is_written : Call → Bool
 is_written (Written p bytes r) = true
 is_written call = false
 
-none_begins : (m : Moment) (e : Event) (ks : List (Job × State)) → list_all (λ (k : Job × State). not (begins rules m e k.0)) ks ≡ true → Each (λ (k : Job × State). IsTrue (begins rules m e k.0) → MayBegin rules m k) ks
-none_begins m e [] h = tt
-none_begins m e (k ∷ ks) h =
-    (λ b. absurd (true≢false (sym (and_left (not (begins rules m e k.0)) _ h) ∙ not_true (begins rules m e k.0) b)), none_begins m e ks (and_right (not (begins rules m e k.0)) _ h))
+pub none_begins : (rules : Rules) (m : Moment) (e : Event) (ks : List (Job × State)) → list_all (λ (k : Job × State). not (begins rules m e k.0)) ks ≡ true → Each (λ (k : Job × State). IsTrue (begins rules m e k.0) → MayBegin rules m k) ks
+none_begins rules m e [] h = tt
+none_begins rules m e (k ∷ ks) h =
+    (λ b. absurd (true≢false (sym (and_left (not (begins rules m e k.0)) _ h) ∙ not_true (begins rules m e k.0) b)), none_begins rules m e ks (and_right (not (begins rules m e k.0)) _ h))
   where
     not_true : (b : Bool) → b ≡ true → not b ≡ false
     not_true true e = refl
     not_true false e = absurd (true≢false (sym e))
 
-none_starts : (m : Moment) (e : Event) (c : Call) → not (is_started c) ≡ true → StartsWell rules entry m e c
-none_starts m e (Looked p r) h = tt
-none_starts m e (ReadFile p limit r) h = tt
-none_starts m e (ReadFolder p r) h = tt
-none_starts m e (Written p bytes r) h = tt
-none_starts m e (Created p r) h = tt
-none_starts m e (Removed p r) h = tt
-none_starts m e (MadeParents p r) h = tt
-none_starts m e (Settled ps r) h = tt
-none_starts m e (Protected p r) h = tt
-none_starts m e (Started recipe logs command r) h = absurd (true≢false (sym h))
-none_starts m e (Waited r) h = tt
+pub none_starts : (rules : Rules) (entry : World) (m : Moment) (e : Event) (c : Call) → not (is_started c) ≡ true → StartsWell rules entry m e c
+none_starts rules entry m e (Looked p r) h = tt
+none_starts rules entry m e (ReadFile p limit r) h = tt
+none_starts rules entry m e (ReadFolder p r) h = tt
+none_starts rules entry m e (Written p bytes r) h = tt
+none_starts rules entry m e (Created p r) h = tt
+none_starts rules entry m e (Removed p r) h = tt
+none_starts rules entry m e (MadeParents p r) h = tt
+none_starts rules entry m e (Settled ps r) h = tt
+none_starts rules entry m e (Protected p r) h = tt
+none_starts rules entry m e (Started recipe logs command r) h = absurd (true≢false (sym h))
+none_starts rules entry m e (Waited r) h = tt
 
-none_written : (m : Moment) (e : Event) (c : Call) → not (is_written c) ≡ true → WritesWell rules entry m e c
-none_written m e (Looked p r) h = tt
-none_written m e (ReadFile p limit r) h = tt
-none_written m e (ReadFolder p r) h = tt
-none_written m e (Written p bytes r) h = absurd (true≢false (sym h))
-none_written m e (Created p r) h = tt
-none_written m e (Removed p r) h = tt
-none_written m e (MadeParents p r) h = tt
-none_written m e (Settled ps r) h = tt
-none_written m e (Protected p r) h = tt
-none_written m e (Started recipe logs command r) h = tt
-none_written m e (Waited r) h = tt
+pub none_written : (rules : Rules) (entry : World) (m : Moment) (e : Event) (c : Call) → not (is_written c) ≡ true → WritesWell rules entry m e c
+none_written rules entry m e (Looked p r) h = tt
+none_written rules entry m e (ReadFile p limit r) h = tt
+none_written rules entry m e (ReadFolder p r) h = tt
+none_written rules entry m e (Written p bytes r) h = absurd (true≢false (sym h))
+none_written rules entry m e (Created p r) h = tt
+none_written rules entry m e (Removed p r) h = tt
+none_written rules entry m e (MadeParents p r) h = tt
+none_written rules entry m e (Settled ps r) h = tt
+none_written rules entry m e (Protected p r) h = tt
+none_written rules entry m e (Started recipe logs command r) h = tt
+none_written rules entry m e (Waited r) h = tt
 
-none_waits : (m : Moment) (c : Call) → not (is_wait c) ≡ true → WaitsWell rules m c
-none_waits m (Looked p r) h = tt
-none_waits m (ReadFile p limit r) h = tt
-none_waits m (ReadFolder p r) h = tt
-none_waits m (Written p bytes r) h = tt
-none_waits m (Created p r) h = tt
-none_waits m (Removed p r) h = tt
-none_waits m (MadeParents p r) h = tt
-none_waits m (Settled ps r) h = tt
-none_waits m (Protected p r) h = tt
-none_waits m (Started recipe logs command r) h = tt
-none_waits m (Waited r) h = absurd (true≢false (sym h))
+pub none_waits : (rules : Rules) (m : Moment) (c : Call) → not (is_wait c) ≡ true → WaitsWell rules m c
+none_waits rules m (Looked p r) h = tt
+none_waits rules m (ReadFile p limit r) h = tt
+none_waits rules m (ReadFolder p r) h = tt
+none_waits rules m (Written p bytes r) h = tt
+none_waits rules m (Created p r) h = tt
+none_waits rules m (Removed p r) h = tt
+none_waits rules m (MadeParents p r) h = tt
+none_waits rules m (Settled ps r) h = tt
+none_waits rules m (Protected p r) h = tt
+none_waits rules m (Started recipe logs command r) h = tt
+none_waits rules m (Waited r) h = absurd (true≢false (sym h))
 
-not_waiting : (b : Bool) → not b ≡ true → b ≡ true → ⊥
+pub not_waiting : (b : Bool) → not b ≡ true → b ≡ true → ⊥
 not_waiting true h k = true≢false (sym h)
 not_waiting false h k = true≢false (sym k)
 
-cons_nil : (c : Child) (cs : List Child) → c ∷ cs ≢ []
+pub cons_nil : (c : Child) (cs : List Child) → c ∷ cs ≢ []
 cons_nil c cs h = cc
 
 begins_well : AtEach (λ m e. BeginsWell rules m e)
 begins_well =
     at_each rules entry (λ m e. list_all (λ (k : Job × State). not (begins rules m e k.0)) (staged_now m.plan)) (λ m e. BeginsWell rules m e)
-    (λ m e h. none_begins m e (staged_now m.plan) h) formed log begins_so settled
+    (λ m e h. none_begins rules m e (staged_now m.plan) h) formed log begins_so settled
     (tt, ((λ b. record { at_rest = refl; first = refl; going = refl; quiet = refl }, tt), (tt, (tt, (tt, (tt, (tt, (tt, (tt, (tt, (tt, (tt, tt))))))))))))
 
 changes : AtEach (λ m e. ChangesWell rules entry m e)
@@ -189,31 +189,20 @@ changes =
 
 starts_well : AtEach (λ m e. StartsWell rules entry m e e.call)
 starts_well =
-    at_each rules entry (λ m e. not (is_started e.call)) (λ m e. StartsWell rules entry m e e.call) (λ m e h. none_starts m e e.call h) formed log begins_so settled (
-      tt,
-      (
-        tt,
-        (
-          tt,
-          (
-            tt,
-            (
-              (_, inl refl, refl, refl, refl, record { unended = refl; idle = refl; has_fields = refl; inputs = (inl refl, tt); marks = ((_, refl), tt) }),
-              (tt, (tt, (tt, (tt, (tt, (tt, (tt, tt))))))),
-            ),
-          ),
-        ),
-      ),
-    )
+    at_each rules entry (λ m e. not (is_started e.call)) (λ m e. StartsWell rules entry m e e.call) (λ m e h. none_starts rules entry m e e.call h) formed log begins_so settled
+    (tt, (tt, (tt, (tt, (
+      (_, inl refl, refl, refl, refl, record { unended = refl; idle = refl; has_fields = refl; inputs = (inl refl, tt); marks = ((_, refl), tt) }),
+      (tt, (tt, (tt, (tt, (tt, (tt, (tt, tt))))))),
+    )))))
 
 writes_well : AtEach (λ m e. WritesWell rules entry m e e.call)
 writes_well =
-    at_each rules entry (λ m e. not (is_written e.call)) (λ m e. WritesWell rules entry m e e.call) (λ m e h. none_written m e e.call h) formed log begins_so settled
+    at_each rules entry (λ m e. not (is_written e.call)) (λ m e. WritesWell rules entry m e e.call) (λ m e h. none_written rules entry m e e.call h) formed log begins_so settled
     (tt, (tt, (tt, (tt, (tt, (tt, (tt, (tt, (((λ same. refl, tt), tt), (tt, (tt, (tt, tt))))))))))))
 
 waits_well : AtEach (λ m e. WaitsWell rules m e.call)
 waits_well =
-    at_each rules entry (λ m e. not (is_wait e.call)) (λ m e. WaitsWell rules m e.call) (λ m e h. none_waits m e.call h) formed log begins_so settled
+    at_each rules entry (λ m e. not (is_wait e.call)) (λ m e. WaitsWell rules m e.call) (λ m e h. none_waits rules m e.call h) formed log begins_so settled
     (tt, (tt, (tt, (tt, (tt, (λ h. cons_nil _ _ h, (tt, (tt, (tt, (tt, (tt, (tt, tt))))))))))))
 
 nothing_left : AtEach (λ m e. IsTrue (is_wait e.call) → NothingLeft rules m)
@@ -232,14 +221,14 @@ in_room = tests (λ m. fit_together rules (running_jobs m)) (refl, (refl, (refl,
 abbrev pub none_badly : Moment → Bool
 none_badly m = list_all (λ (b : Begun). not (is_closed_badly rules m.world b)) m.begun
 
-closed_so : (m : Moment) (bs : List Begun) → list_all (λ (b : Begun). not (is_closed_badly rules m.world b)) bs ≡ true → Each (λ (b : Begun). IsTrue (is_closed_badly rules m.world b) → is_good_end b.ended ≡ false) bs
-closed_so m [] h = tt
-closed_so m (b ∷ bs) h =
-    (λ k. absurd (not_waiting (is_closed_badly rules m.world b) (and_left (not (is_closed_badly rules m.world b)) _ h) k), closed_so m bs (and_right (not (is_closed_badly rules m.world b)) _ h))
+pub closed_so : (rules : Rules) (m : Moment) (bs : List Begun) → list_all (λ (b : Begun). not (is_closed_badly rules m.world b)) bs ≡ true → Each (λ (b : Begun). IsTrue (is_closed_badly rules m.world b) → is_good_end b.ended ≡ false) bs
+closed_so rules m [] h = tt
+closed_so rules m (b ∷ bs) h =
+    (λ k. absurd (not_waiting (is_closed_badly rules m.world b) (and_left (not (is_closed_badly rules m.world b)) _ h) k), closed_so rules m bs (and_right (not (is_closed_badly rules m.world b)) _ h))
 
 closed_well : EachMoment rules entry log (ClosedWithCause rules)
 closed_well front rest m h is =
-    closed_so m m.begun (tests none_badly (refl, (refl, (refl, (refl, (refl, (refl, (refl, (refl, (refl, (refl, (refl, (refl, refl)))))))))))) front rest m h is)
+    closed_so rules m m.begun (tests none_badly (refl, (refl, (refl, (refl, (refl, (refl, (refl, (refl, (refl, (refl, (refl, (refl, refl)))))))))))) front rest m h is)
 
 at_end : (m : Moment) → IsMoment rules entry log m → NothingLeft rules m
 at_end m is = subst (NothingLeft rules) (one_moment rules entry log last m formed is_last is) (λ going. refl)
@@ -249,13 +238,13 @@ pub is_lawful : Lawful rules entry log 0
 is_lawful =
     record {
       each = λ events e rest m h is.
-          record {
-            changes = changes events e rest m h is;
-            begins = begins_well events e rest m h is;
-            starts = starts_well events e rest m h is;
-            writes = writes_well events e rest m h is;
-            waits = waits_well events e rest m h is;
-          };
+        record {
+          changes = changes events e rest m h is;
+          begins = begins_well events e rest m h is;
+          starts = starts_well events e rest m h is;
+          writes = writes_well events e rest m h is;
+          waits = waits_well events e rest m h is;
+        };
       within_room = in_room;
       nothing_left = λ done. nothing_left;
       nothing_left_at_the_end = λ done. at_end;

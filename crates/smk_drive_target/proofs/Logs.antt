@@ -142,11 +142,11 @@ module _ (rules : Rules) (entry : World) where
   by_test P true sure h = sure refl
   by_test P false sure h = h
 
-  nil_right : (xs : List Event) → xs ++ [] ≡ xs
+  pub nil_right : (xs : List Event) → xs ++ [] ≡ xs
   nil_right [] = refl
   nil_right (x ∷ xs) = ap (λ ys. x ∷ ys) (nil_right xs)
 
-  moved : (xs : List Event) (x : Event) (ys : List Event) → xs ++ x ∷ ys ≡ (xs ++ x ∷ []) ++ ys
+  pub moved : (xs : List Event) (x : Event) (ys : List Event) → xs ++ x ∷ ys ≡ (xs ++ x ∷ []) ++ ys
   moved [] x ys = refl
   moved (z ∷ xs) x ys = ap (λ zs. z ∷ zs) (moved xs x ys)
 
