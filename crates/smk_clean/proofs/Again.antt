@@ -1,5 +1,5 @@
 -- A run again takes no turn.
-use Rattle.std.proofs.Common.{◌≡◌, ℕ, suc, true, List, [], ◌∷◌, map, refl, ap, subst, ◌∙◌, Option, Some, Result, Ok}
+use Rattle.std.proofs.Common.{◌≡◌, ℕ, suc, true, List, [], ◌∷◌, map, refl, ap, subst, ◌∙◌, Option, Result, Ok}
 use Rattle.smk_world.specs.World.{World, IsFormed}
 use Rattle.smk_world.specs.Devices.{Device, Sunk}
 use Rattle.smk_flow.specs.declared.job.Job.{Job}

@@ -35,10 +35,10 @@ use Rattle.smk_plan.specs.declared.duty.Duty.{Duty}
 use Rattle.smk_run.specs.declared.ending.Ending.{Ending}
 use Rattle.smk_run.specs.declared.ending.Ending.TheVariants.{Good, Status, NoOutput, WrongKind, BadMember}
 use Rattle.smk_run.specs.declared.tally.Tally.{Tally}
-use Rattle.smk_run.specs.Duties.{Due, due, due_from, serials}
+use Rattle.smk_run.specs.Duties.{Due, due, due_from}
 use Rattle.smk_run.specs.Reports.{failure, named}
 use Rattle.smk_run.specs.Runs.{IsOutcome as IsRunOutcome, course_failure, first_failure, or_later}
-use Rattle.smk_run.specs.Turns.{Course, Unbegun, Unstarted, Unclosed, Closed, Turn, AreTurns, is_closed, is_done}
+use Rattle.smk_run.specs.Turns.{Course, Unbegun, Unstarted, Unclosed, Closed, Turn, is_closed, is_done}
 use Rattle.smk_words.specs.declared.words.RunWords.{RunWords}
 use Rattle.smk_words.specs.declared.words.Request.TheVariants.{Run as Asks}
 use Rattle.smk_cli_entry.specs.declared.asking.Asked.{Asked}

@@ -1,7 +1,6 @@
 -- What a call tells where each target has a clean value.
 use Rattle.std.proofs.Common.{◌≡◌, ◌⊎◌, inl, inr, ℕ, Bool, true, false, List, refl, sym, subst, Option, Some, None, Ok, Err, Result, option_map}
 use Rattle.smk_world.specs.World.{World}
-use Rattle.smk_world.specs.Devices.{Device, Sunk}
 use Rattle.smk_world.specs.Trees.{Act}
 use Rattle.smk_pattern.specs.Shapes.{Text}
 use Rattle.smk_record.specs.declared.record.Record.{Record}
