@@ -1,10 +1,10 @@
 -- Each step of a history keeps a tree.
-use Rattle.std.proofs.Common.{◌≡◌, ◌⊎◌, inl, inr, ℕ, Bool, true, false, not, ◌&&◌, ◌||◌, ◌==◌, List, [], ◌∷◌, ◌++◌, length, refl, sym, ap, subst, ◌∙◌, Option, Some, None}
+use Rattle.std.proofs.Common.{◌≡◌, ◌⊎◌, inl, inr, ℕ, Bool, true, false, not, ◌&&◌, ◌||◌, ◌==◌, List, [], ◌∷◌, ◌++◌, length, arith, refl, sym, ap, subst, ◌∙◌, Option, Some, None}
 use Rattle.std.specs.Prelude.{IsSome, is_some, if◌then◌else◌, bytes_eq, nat_le}
 use Rattle.std.specs.List.{list_all}
 use Rattle.smk_base.specs.Path.{own_folder, is_under, is_at_or_under, is_path, is_part, are_parts, are_path_bytes, parts}
 use Rattle.smk_base.proofs.Places.{same_place, and_first, and_second}
-use Rattle.smk_base.proofs.Under.{never_both, false_of_not, under_further, at_when_under, at_or_under_further}
+use Rattle.smk_base.proofs.Under.{never_both, both_true, false_of_not, under_further, at_when_under, at_or_under_further}
 use Rattle.smk_world.specs.declared.event.Node.{Node}
 use Rattle.smk_world.specs.declared.event.Node.TheVariants.{Regular, Directory}
 use Rattle.smk_world.specs.Folders.{has_names, CanHold, IsTree}
@@ -23,10 +23,8 @@ part_named (b ∷ part) h = grind arith
 
 all_named : (ps : List Path) → are_parts ps ≡ true → list_all (λ part. nat_le 1 (length part)) ps ≡ true
 all_named [] h = refl
-all_named (part ∷ ps) h = both (part_named part (and_first (is_part part) (are_parts ps) h)) (all_named ps (and_second (is_part part) (are_parts ps) h))
-  where
-    both : {a b : Bool} → a ≡ true → b ≡ true → (a && b) ≡ true
-    both e f = ap (λ v. v && _) e ∙ f
+all_named (part ∷ ps) h =
+    both_true (nat_le 1 (length part)) (list_all (λ x. nat_le 1 (length x)) ps) (part_named part (and_first (is_part part) (are_parts ps) h)) (all_named ps (and_second (is_part part) (are_parts ps) h))
 
 module _ (p : Path) (text : is_path_text p ≡ true) where
   is_path_here : is_path p ≡ true

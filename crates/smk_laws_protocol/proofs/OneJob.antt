@@ -1,5 +1,5 @@
 -- A job that copies a file goes along the protocol, from its first mark to its close; so the protocol admits whole runs.
-use Rattle.std.proofs.Common.{◌≡◌, Bool, true, false, List, [], ◌∷◌, map, refl, sym, ap, subst, inl, ◌∙◌, Option, Some, None, take}
+use Rattle.std.proofs.Common.{◌≡◌, Bool, true, false, List, [], ◌∷◌, map, refl, sym, ap, subst, inl, inr, ◌∙◌, Option, Some, None, take}
 use Rattle.std.specs.Prelude.{codes, bytes_eq, ◌&&◌, ◌||◌, not, is_some, IsSome, if◌then◌else◌, Ok}
 use Rattle.std.specs.List.{list_any}
 use Rattle.std.specs.Option.{option_map}
