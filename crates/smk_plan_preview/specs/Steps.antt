@@ -22,7 +22,7 @@ use Rattle.smk_plan_preview.specs.Fitness.{AreFit}
 
 -- what was read is that of the rules
 abbrev pub IsGround : Ground → Type 0
-IsGround ground = AreReadings ground.flow.now ground.readings.now
+IsGround base = AreReadings base.flow.now base.readings.now
 
 -- one state for each job, and for each target whether it is current
 pub record HasLengths (jobs : Jobs) (settings : Settings) (told : Told) : Type 0 where
