@@ -1,9 +1,9 @@
 //! What words ask of a workflow.
 
-ghost use Rattle.std.specs.Prelude.{◌≡◌, [], Ok, Some, None, IfOk, IfErr, option_map, false};
+ghost use Rattle.std.specs.Prelude.{◌≡◌, [], None, IfOk, IfErr, option_map, false};
 ghost use Rattle.smk_world.specs.Devices.{WhereTold, HasLooked};
 ghost use Rattle.smk_flow.specs.Targets.{words_of, all_paths, first_bad};
-ghost use Rattle.smk_cli_entry.specs.Faults.{device_failed, is_told, is_sink};
+ghost use Rattle.smk_cli_entry.specs.Faults.{device_failed, is_sink};
 ghost use Rattle.smk_cli_entry.specs.Forms as forms;
 ghost use Rattle.smk_cli_entry.specs.Entry as spec;
 

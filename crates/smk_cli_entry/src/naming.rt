@@ -1,6 +1,6 @@
 //! The file that has the workflow.
 
-ghost use Rattle.std.specs.Prelude.{◌≡◌, ◌∷◌, [], Ok, Some, None, IfErr, codes, false, true};
+ghost use Rattle.std.specs.Prelude.{◌≡◌, ◌∷◌, [], Ok, IfErr, codes, false, true};
 ghost use Rattle.smk_base.specs.Path.{is_path};
 ghost use Rattle.smk_world.specs.Calls.{stat_of};
 ghost use Rattle.smk_world.specs.Devices.{WhereTold, HasLooked};

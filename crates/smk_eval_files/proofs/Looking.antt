@@ -1,5 +1,5 @@
 -- Looks one after another, and what they tell.
-use Rattle.std.proofs.Common.{◌≡◌, ◌≢◌, ℕ, List, [], ◌∷◌, ap, refl, sym, subst, ◌∙◌, false, Result, Ok, Err, true≢false}
+use Rattle.std.proofs.Common.{◌≡◌, ◌≢◌, ℕ, List, [], ◌∷◌, ap, refl, sym, subst, ◌∙◌, false, Result, Ok, true≢false}
 use Rattle.smk_world.specs.declared.event.Call.TheVariants.{ReadFile}
 use Rattle.smk_world.specs.declared.event.Child.{Child}
 use Rattle.smk_world.specs.declared.event.Found.{Found}

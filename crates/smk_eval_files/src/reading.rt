@@ -1,8 +1,8 @@
 //! Files and their includes, read from the working folder.
 
-ghost use Rattle.std.specs.Prelude.{◌≡◌, ℕ, ◌<◌, ◌≤◌, [], false};
+ghost use Rattle.std.specs.Prelude.{◌≡◌, [], false};
 ghost use Rattle.smk_world.specs.Devices.{WhereTold, HasLooked};
-ghost use Rattle.smk_eval_files.specs.Reading.{Answers, device_failed, bytes_in, bytes_at, target, onto, included, files_from, files_at};
+ghost use Rattle.smk_eval_files.specs.Reading.{Answers, device_failed, bytes_in, bytes_at, onto, included, files_from, files_at};
 ghost use Rattle.smk_eval_files.specs.Opening.{opened_as, include_from};
 
 use crate::fault::FileFault;

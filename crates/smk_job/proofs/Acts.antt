@@ -18,7 +18,7 @@ pub acted_more : (act : Act) (P R : World → List Event → Type 0) (a b c : De
     → HasActed act P a b false → HasCalled act b c call → HasActed act R a c (failed call)
 acted_more act P R a b c call same more before now =
     acted_then act P (λ w es. (left : List Change) × (es ≡ record { call = call; left = left } ∷ []) × Lets act w call left) R a b c (failed call)
-    (λ w es fs follows p follows2 q. subst (λ t. R w (es ++ t)) (sym q.2.0) (more w es q.0 follows p q.2.1)) before
+    (λ w es fs follows p follows2 q. subst (λ t. R w (es ++ t)) (sym q.1) (more w es q.0 follows p q.2)) before
     (acted_call act (λ w es. (left : List Change) × (es ≡ record { call = call; left = left } ∷ []) × Lets act w call left) b c call same (λ w left lets. (left, refl, lets)) now)
 
 -- what holds of the events as well, in the world before

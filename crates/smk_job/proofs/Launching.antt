@@ -1,6 +1,6 @@
 -- Marked and with room made, a job's command may be started; and what the start answers.
 use Rattle.std.proofs.Common.{◌≡◌, ℕ, true, false, List, [], ◌∷◌, ◌++◌, map, refl, sym, ap, subst, ◌∙◌, All, Result, Ok, Err}
-use Rattle.std.specs.Prelude.{IsErrAnd, is_err}
+use Rattle.std.specs.Prelude.{is_err}
 use Rattle.std.proofs.lemmas.List.{append-nil}
 use Rattle.std.proofs.lemmas.List.Elements.{All-nil, All-cons}
 use Rattle.smk_base.specs.Path.{is_path}
@@ -19,16 +19,12 @@ use Rattle.smk_world.specs.Runs.{Follows}
 use Rattle.smk_world.specs.Requests.{Request, request, HasDone}
 use Rattle.smk_world.specs.Requests.Request.{Start}
 use Rattle.smk_world.specs.Trees.{Path, Act, Each}
-use Rattle.smk_world.proofs.Devices.{acted_nothing, done_append, cut_append, carried_cut}
-use Rattle.smk_record.specs.declared.record.Stamp.{Stamp}
+use Rattle.smk_world.proofs.Devices.{done_append, cut_append, carried_cut}
 use Rattle.smk_store.specs.declared.places.JobPlaces.{JobPlaces}
 use Rattle.smk_store.specs.Steps.{mark_requests, places_of}
-use Rattle.smk_job.specs.declared.fault.BeginFault.{BeginFault}
-use Rattle.smk_job.specs.declared.fault.BeginFault.TheVariants.{TooLong, Device as DeviceFault, OutOfMemory as MemoryFault}
-use Rattle.smk_job.specs.declared.going.Ready.{Ready}
-use Rattle.smk_job.specs.Jobs.{Underway, LetsBegin, ReadUsers, clear_requests, begin_requests, begin_failed, HasBegun}
-use Rattle.smk_job.specs.Reserves.{HasAll, HasLaunched}
-use Rattle.smk_job.specs.Starts.{HasStarted, started_child, begun_child}
+use Rattle.smk_job.specs.Jobs.{LetsBegin, ReadUsers, clear_requests, begin_requests}
+use Rattle.smk_job.specs.Reserves.{HasLaunched}
+use Rattle.smk_job.specs.Starts.{HasStarted, started_child}
 use Rattle.smk_job.proofs.Children.{AreFiles, is_crew, done_children, mark_files, clear_files, files_append}
 use Rattle.smk_job.proofs.Single.{IsKnown, Reaches, done_reaches}
 use Rattle.smk_job.proofs.Firmly.{reaches_split, reaches_keeps, IsFirmThere, marked_firm, clear_off, AreOff, known_own}
@@ -156,20 +152,3 @@ then_started act recipe logs command (Err f) a b c before now =
     let e : Event = record { call = Started recipe logs command (Err f); left = left } in
     cut_append (before_start recipe logs) (Start recipe logs command ∷ []) es (e ∷ []) done (refl, refl))
     before.acted now
-
--- ## A job that begins, or doesn't
-
-err_and : {T E : Type 0} (r : Result T E) (x : E) → IsErrAnd r (λ y. y ≡ x) → r ≡ Err x
-err_and (Ok t) x h = absurd h
-err_and (Err y) x h = ap Err h
-
--- what it needs couldn't be made
-pub not_begun : (act : Act) (recipe : Recipe) (logs : List Path) (stamps : List Stamp) (made : ℕ) (command : List ℕ) (a : Device) (r : Result (Ready × List Path) BeginFault) (fault : BeginFault) (result : Result Underway BeginFault)
-    → r ≡ Err fault → HasAll recipe logs stamps made r → IsErrAnd result (λ y. y ≡ fault) → HasStarted act (HasBegun recipe logs command result) (begun_child result) a a (begin_failed result)
-not_begun act recipe logs stamps made command a r fault result is all err =
-    subst (λ x. HasStarted act (HasBegun recipe logs command x) (begun_child x) a a (begin_failed x)) (sym (err_and result fault err)) (by fault (subst (HasAll recipe logs stamps made) is all))
-  where
-    by : (x : BeginFault) → HasAll recipe logs stamps made (Err x) → HasStarted act (HasBegun recipe logs command (Err x)) (begun_child (Err x)) a a (begin_failed {T = Underway} (Err x))
-    by (TooLong n) h = started_acted act (HasBegun recipe logs command (Err (TooLong n))) a a false (acted_nothing act (HasBegun recipe logs command (Err (TooLong n))) a (λ w. refl))
-    by DeviceFault h = absurd h
-    by MemoryFault h = started_acted act (HasBegun recipe logs command (Err MemoryFault)) a a false (acted_nothing act (HasBegun recipe logs command (Err MemoryFault)) a (λ w. refl))

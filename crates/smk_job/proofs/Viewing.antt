@@ -3,12 +3,11 @@ use Rattle.std.proofs.Common.{◌≡◌, inl, inr, ℕ, zero, suc, ◌+◌, ◌<
 use Rattle.std.specs.Prelude.{IsErrAnd, if◌then◌else◌, nat_le}
 use Rattle.std.specs.List.{list_all}
 use Rattle.std.proofs.lemmas.List.{append-nil, take_all}
-use Rattle.std.proofs.lemmas.List.Elements.{All-nil, All-cons, All-head, All-tail}
+use Rattle.std.proofs.lemmas.List.Elements.{All-nil, All-cons}
 use Rattle.smk_base.proofs.Places.{and_first, and_second, place_itself}
 use Rattle.smk_base.proofs.Under.{both_true, at_itself, or_first, or_second}
 use Rattle.smk_base.specs.declared.tree.Pair.{Pair}
-use Rattle.smk_world.specs.declared.event.Call.{Call}
-use Rattle.smk_world.specs.declared.event.Call.TheVariants.{Looked, ReadFile, ReadFolder, Written, Created, Removed, MadeParents, Settled, Protected, Started, Waited}
+use Rattle.smk_world.specs.declared.event.Call.TheVariants.{Looked}
 use Rattle.smk_world.specs.declared.event.Change.{Change}
 use Rattle.smk_world.specs.declared.event.Event.{Event}
 use Rattle.smk_world.specs.declared.event.Failed.{Failed}
@@ -25,7 +24,7 @@ use Rattle.smk_world.specs.declared.recipe.Out.{Out}
 use Rattle.smk_world.specs.declared.recipe.Recipe.{Recipe}
 use Rattle.smk_world.specs.World.{World, run, in_paths, out_paths, reads_nothing, reads_folder}
 use Rattle.smk_world.specs.Calls.{StatIs, failed, device_failed}
-use Rattle.smk_world.specs.Devices.{Device, WhereTold, HasCalled, HasActed, is_look, AreLooks as OnlyLooks}
+use Rattle.smk_world.specs.Devices.{Device, WhereTold, HasCalled, HasActed, AreLooks as OnlyLooks}
 use Rattle.smk_world.specs.Requests.{Request, request, AreQuiet}
 use Rattle.smk_world.specs.Requests.Request.{Look, ReadUpTo, ListFolder, Write, Create, Remove, MakeParents, Settle, Protect, Start, Wait}
 use Rattle.smk_world.specs.Trees.{Path, Act, Each, among, folders_of, outs_of, is_folder_kind, is_path_text}
@@ -47,6 +46,7 @@ use Rattle.smk_job.specs.Views.{Core, HasViewed, bytes_of, sight_of, folder_out,
 use Rattle.smk_job.proofs.Acts.{acted_in}
 use Rattle.smk_job.proofs.Looking.{plain_fit, plain_wrong, seen_next, wrong_next, blind_next, around, next, path_of_at}
 use Rattle.smk_store_members.proofs.Lists.{each_at, each_unmap}
+use Rattle.smk_store_members.proofs.Listings.{listings_look}
 use Rattle.smk_job.proofs.Outs.{paths_same}
 
 -- ## Records with members
@@ -95,40 +95,6 @@ listing_as p Wait h = absurd h
 listed_as : (p : Path) (es : List Event) → Each (λ (e : Event). IsListingIn p (request e.call)) es → AreListed (folder_out p) es
 listed_as p [] h = tt
 listed_as p (e ∷ es) h = (listing_as p (request e.call) h.0, listed_as p es h.1)
-
-look_of : (p : Path) (c : Call) → IsListingIn p (request c) → is_look c ≡ true
-look_of p (Looked q r) h = refl
-look_of p (ReadFile q limit r) h = refl
-look_of p (ReadFolder q r) h = refl
-look_of p (Written q bytes r) h = absurd h
-look_of p (Created q r) h = absurd h
-look_of p (Removed q r) h = absurd h
-look_of p (MadeParents q r) h = absurd h
-look_of p (Settled qs r) h = absurd h
-look_of p (Protected q r) h = absurd h
-look_of p (Started recipe logs command r) h = absurd h
-look_of p (Waited r) h = absurd h
-
-quiet_looks : (p : Path) (es : List Event) → Each (λ (e : Event). IsListingIn p (request e.call)) es → AreQuiet es → OnlyLooks false es
-quiet_looks p [] h q = refl
-quiet_looks p (e ∷ []) h q = (look_of p e.call h.0, All-head (λ (d : Event). failed d.call ≡ false) e [] q)
-quiet_looks p (e ∷ (f ∷ es)) h q =
-    (look_of p e.call h.0, All-head (λ (d : Event). failed d.call ≡ false) e (f ∷ es) q, quiet_looks p (f ∷ es) h.1 (All-tail (λ (d : Event). failed d.call ≡ false) e (f ∷ es) q))
-
-failed_looks : (p : Path) (before : List Event) (last : Event) → Each (λ (e : Event). IsListingIn p (request e.call)) (before ++ last ∷ []) → AreQuiet before → failed last.call ≡ true → OnlyLooks true (before ++ last ∷ [])
-failed_looks p [] last h q bad = (look_of p last.call h.0, bad)
-failed_looks p (e ∷ []) last h q bad = (look_of p e.call h.0, All-head (λ (d : Event). failed d.call ≡ false) e [] q, look_of p last.call h.1.0, bad)
-failed_looks p (e ∷ (f ∷ es)) last h q bad = (
-  look_of p e.call h.0,
-  All-head (λ (d : Event). failed d.call ≡ false) e (f ∷ es) q,
-  failed_looks p (f ∷ es) last h.1 (All-tail (λ (d : Event). failed d.call ≡ false) e (f ∷ es) q) bad,
-)
-
--- listings are looks
-listings_look : (p : Path) (bad : Bool) (es : List Event) → AreListings p bad es → OnlyLooks bad es
-listings_look p false es h = quiet_looks p es h.0 h.1
-listings_look p true es (all, (before, last, is, q, bad)) =
-    subst (OnlyLooks true) (sym is) (failed_looks p before last (subst (Each (λ (e : Event). IsListingIn p (request e.call))) is all) q bad)
 
 pub err_is : {T : Type 0} (s : Result T WorkFault) (x : WorkFault) → IsErrAnd s (λ y. y ≡ x) → s ≡ Err x
 err_is (Ok t) x h = absurd h

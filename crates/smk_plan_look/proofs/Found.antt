@@ -25,6 +25,6 @@ sight_pushed a b sights new s path pushed is same told each =
 
 -- ## Faults
 
-pub failed_as : {T U : Type 0} (fault : WorkFault) (f : LookFault) → f ≡ look_fault fault → device_failed {T = T} (Err fault) ≡ look_failed {T = U} (Err f)
-failed_as {T} {U} Failed f is = sym (ap (λ (x : LookFault). look_failed {T = U} (Err x)) is)
-failed_as {T} {U} OutOfMemory f is = sym (ap (λ (x : LookFault). look_failed {T = U} (Err x)) is)
+pub failed_as : (T U : Type 0) (fault : WorkFault) (f : LookFault) → f ≡ look_fault fault → device_failed {T = T} (Err fault) ≡ look_failed {T = U} (Err f)
+failed_as T U Failed f is = sym (ap (λ (x : LookFault). look_failed {T = U} (Err x)) is)
+failed_as T U OutOfMemory f is = sym (ap (λ (x : LookFault). look_failed {T = U} (Err x)) is)

@@ -35,11 +35,11 @@ with_file-returns-clause-told g t c = λ w here.
     let o = c.in-Ok-open_file.opened in
     let rest : Nodes → Files = λ nodes. onto o.files (included (files_from nodes (depth - 1)) o.file c.as_slice-in-Ok-open_file.result.now) in
     let steps : onto c.args.files (files_from w.nodes depth file) ≡ rest w.nodes =
-        file_steps depth w.nodes c.args.files file
-        ∙ ap (λ r. and_then r (λ source. and_then (opened_as depth c.args.files file source) (later depth w.nodes))) (c.in-Ok.ensures.told w here ∙ ap Ok (sym c.as_slice.ensures))
-        ∙ ap (λ r. and_then r (later depth w.nodes)) c.in-Ok-open_file.ensures.is
-        ∙ later_is depth w.nodes o c.if-depth-eq0.false
-        ∙ ap (λ ts. onto o.files (included (files_from w.nodes (depth - 1)) o.file ts)) (sym c.as_slice-in-Ok-open_file.ensures) in
+    file_steps depth w.nodes c.args.files file
+    ∙ ap (λ r. and_then r (λ source. and_then (opened_as depth c.args.files file source) (later depth w.nodes))) (c.in-Ok.ensures.told w here ∙ ap Ok (sym c.as_slice.ensures))
+    ∙ ap (λ r. and_then r (later depth w.nodes)) c.in-Ok-open_file.ensures.is
+    ∙ later_is depth w.nodes o c.if-depth-eq0.false
+    ∙ ap (λ ts. onto o.files (included (files_from w.nodes (depth - 1)) o.file ts)) (sym c.as_slice-in-Ok-open_file.ensures) in
     subst (λ m. Answers m c.with_includes.result) (sym steps) (told_then (λ nodes. Answers (rest nodes) c.with_includes.result) c.in-Ok.ensures.looked c.with_includes.ensures.told w here)
 
 pub with_include-returns-in-Err-clause-looked : goal.with_include-returns-in-Err-clause-looked

@@ -7,7 +7,7 @@ use Rattle.smk_job.proofs.closing.abandon.Goals as goal
 pub lose-requires : goal.lose-requires
 lose-requires g c =
     let r = c.going.inside.ready in
-    record { unused = close_free _ r.recipe r.logs r.places c.going.invariant.at_places (lets_as _ _ _ c.going.view_is c.requires.room) }
+    record { unused = close_free (g.W.Files.device c.args.work.now) r.recipe r.logs r.places c.going.invariant.at_places (lets_as (g.W.Files.device c.args.work.now) _ _ c.going.view_is c.requires.room) }
 
 pub returns : goal.returns
 returns g c = carried_as (ap lose_requests c.going.invariant.at_places ∙ ap abandon_requests c.going.view_is) refl c.lose.ensures

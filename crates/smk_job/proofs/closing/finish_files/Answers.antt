@@ -17,7 +17,7 @@ settle_files-requires-clause-at g c =
 pub settle_files-requires-clause-unused : goal.settle_files-requires-clause-unused
 settle_files-requires-clause-unused g c =
     let r = c.going.inside.ready in
-    close_free _ r.recipe r.logs r.places c.going.invariant.at_places (lets_as _ _ _ c.going.view_is c.requires.room)
+    close_free (g.W.Files.device c.args.work.now) r.recipe r.logs r.places c.going.invariant.at_places (lets_as (g.W.Files.device c.args.work.now) _ _ c.going.view_is c.requires.room)
 
 pub returns-in-Ok-None-clause-acted : goal.returns-in-Ok-None-clause-acted
 returns-in-Ok-None-clause-acted g c =
@@ -27,7 +27,7 @@ returns-in-Ok-None-clause-acted g c =
     let outs = c.as_slice.result.now in
     let j = underway r.recipe r.logs r.stamps r.made c.going.inside.number in
     let ready : IsReady j.recipe j.logs j.stamps j.made outs r.places r.records = record { outputs = c.as_slice.ensures ∙ v.outputs; at_places = v.at_places; bytes = v.bytes; valid = v.valid } in
-    let lets = lets_as _ j c.args.going c.going.view_is c.requires.room in
+    let lets = lets_as (g.W.Files.device c.args.work.now) j c.args.going c.going.view_is c.requires.room in
     subst (λ k. HasActed act (HasFinished k (Ok tt)) (g.W.Files.device c.args.work.now) (g.W.Files.device c.settle_files.new.work) false) c.going.view_is
     (finished_well j outs r.places r.records ready act _ _ (g.met.W.Files.sound c.args.work.now).owned lets c.settle_files.result (c.in-Ok-None.is ∙ ap Ok c.in-Ok-None.field-0-is) c.settle_files.ensures.acted)
 
@@ -39,7 +39,7 @@ returns-in-Ok-Some-clause-acted g c =
     let outs = c.as_slice.result.now in
     let j = underway r.recipe r.logs r.stamps r.made c.going.inside.number in
     let ready : IsReady j.recipe j.logs j.stamps j.made outs r.places r.records = record { outputs = c.as_slice.ensures ∙ v.outputs; at_places = v.at_places; bytes = v.bytes; valid = v.valid } in
-    let lets = lets_as _ j c.args.going c.going.view_is c.requires.room in
+    let lets = lets_as (g.W.Files.device c.args.work.now) j c.args.going c.going.view_is c.requires.room in
     subst (λ k. HasActed act (HasFinished k (Err c.fault_of.result)) (g.W.Files.device c.args.work.now) (g.W.Files.device c.settle_files.new.work) (close_failed (Err c.fault_of.result))) c.going.view_is
     (finished_wrong j outs r.places r.records ready act _ _ (g.met.W.Files.sound c.args.work.now).owned lets c.settle_files.result c.in-Ok-Some.at c.in-Ok-Some.wrong c.path_of.result c.fault_of.result
     (c.in-Ok-Some.is ∙ ap Ok c.in-Ok-Some.field-0-is)
@@ -53,6 +53,6 @@ returns-in-Err-clause-acted g c =
     let outs = c.as_slice.result.now in
     let j = underway r.recipe r.logs r.stamps r.made c.going.inside.number in
     let ready : IsReady j.recipe j.logs j.stamps j.made outs r.places r.records = record { outputs = c.as_slice.ensures ∙ v.outputs; at_places = v.at_places; bytes = v.bytes; valid = v.valid } in
-    let lets = lets_as _ j c.args.going c.going.view_is c.requires.room in
+    let lets = lets_as (g.W.Files.device c.args.work.now) j c.args.going c.going.view_is c.requires.room in
     subst (λ k. HasActed act (HasFinished k (Err Device)) (g.W.Files.device c.args.work.now) (g.W.Files.device c.settle_files.new.work) true) c.going.view_is
     (finished_badly j outs r.places r.records ready act _ _ (g.met.W.Files.sound c.args.work.now).owned lets c.settle_files.result c.in-Err.field-0 c.in-Err.is c.settle_files.ensures.acted)

@@ -18,12 +18,12 @@ keep-requires-clause-each g c =
 pub keep-requires-clause-unused : goal.keep-requires-clause-unused
 keep-requires-clause-unused g c =
     let r = c.going.inside.ready in
-    free_still r.places c.look_through.ensures.looked (close_free _ r.recipe r.logs r.places c.going.invariant.at_places (lets_as _ _ _ c.going.view_is c.requires.room))
+    free_still r.places c.look_through.ensures.looked (close_free (g.W.Files.device c.args.work.now) r.recipe r.logs r.places c.going.invariant.at_places (lets_as (g.W.Files.device c.args.work.now) _ _ c.going.view_is c.requires.room))
 
 pub lose-requires : goal.lose-requires
 lose-requires g c =
     let r = c.going.inside.ready in
-    record { unused = free_still r.places c.look_through.ensures.looked (close_free _ r.recipe r.logs r.places c.going.invariant.at_places (lets_as _ _ _ c.going.view_is c.requires.room)) }
+    record { unused = free_still r.places c.look_through.ensures.looked (close_free (g.W.Files.device c.args.work.now) r.recipe r.logs r.places c.going.invariant.at_places (lets_as (g.W.Files.device c.args.work.now) _ _ c.going.view_is c.requires.room)) }
 
 pub returns-in-Ok-clause-acted : goal.returns-in-Ok-clause-acted
 returns-in-Ok-clause-acted g c =
@@ -31,7 +31,7 @@ returns-in-Ok-clause-acted g c =
     let r = c.going.inside.ready in
     let v = c.going.invariant in
     let j = underway r.recipe r.logs r.stamps r.made c.going.inside.number in
-    let lets = lets_as _ j c.args.going c.going.view_is c.requires.room in
+    let lets = lets_as (g.W.Files.device c.args.work.now) j c.args.going c.going.view_is c.requires.room in
     subst (λ k. HasActed act (HasFinished k (Ok tt)) (g.W.Files.device c.args.work.now) (g.W.Files.device c.keep.new.work) false) c.going.view_is
     (all_kept j r.outs r.places r.records v act _ (g.met.W.Files.sound c.args.work.now).owned lets _ _ c.in-Ok-Records.records c.look_through.result (c.in-Ok-Records.is ∙ ap Ok c.in-Ok-Records.field-0-is) c.look_through.ensures.looked c.in-Ok.ensures)
 
@@ -44,7 +44,7 @@ returns-in-Ok-Records-clause-acted g c =
     let r = c.going.inside.ready in
     let v = c.going.invariant in
     let j = underway r.recipe r.logs r.stamps r.made c.going.inside.number in
-    let lets = lets_as _ j c.args.going c.going.view_is c.requires.room in
+    let lets = lets_as (g.W.Files.device c.args.work.now) j c.args.going c.going.view_is c.requires.room in
     subst (λ k. HasActed act (HasFinished k (Err Device)) (g.W.Files.device c.args.work.now) (g.W.Files.device c.keep.new.work) true) c.going.view_is
     (kept_cut j r.outs r.places r.records v act _ (g.met.W.Files.sound c.args.work.now).owned lets _ _ c.in-Ok-Records.records c.look_through.result (c.in-Ok-Records.is ∙ ap Ok c.in-Ok-Records.field-0-is) c.look_through.ensures.looked c.in-Err-keep.ensures)
 
@@ -57,7 +57,7 @@ returns-in-Ok-lose-clause-acted g c =
     let r = c.going.inside.ready in
     let v = c.going.invariant in
     let j = underway r.recipe r.logs r.stamps r.made c.going.inside.number in
-    let lets = lets_as _ j c.args.going c.going.view_is c.requires.room in
+    let lets = lets_as (g.W.Files.device c.args.work.now) j c.args.going c.going.view_is c.requires.room in
     subst (λ k. HasActed act (HasFinished k (Err c.fault_of.result)) (g.W.Files.device c.args.work.now) (g.W.Files.device c.lose.new.work) (close_failed (Err c.fault_of.result))) c.going.view_is
     (all_lost j r.outs r.places r.records v act _ (g.met.W.Files.sound c.args.work.now).owned lets _ _ c.in-Ok-Wrongly.at c.in-Ok-Wrongly.wrong c.path_of.result c.fault_of.result c.look_through.result (c.in-Ok-Wrongly.is ∙ ap Ok c.in-Ok-Wrongly.field-0-is)
     c.path_of.ensures c.fault_of.ensures.value c.look_through.ensures.looked c.in-Ok-lose.ensures)
@@ -71,7 +71,7 @@ returns-in-Ok-Wrongly-clause-acted g c =
     let r = c.going.inside.ready in
     let v = c.going.invariant in
     let j = underway r.recipe r.logs r.stamps r.made c.going.inside.number in
-    let lets = lets_as _ j c.args.going c.going.view_is c.requires.room in
+    let lets = lets_as (g.W.Files.device c.args.work.now) j c.args.going c.going.view_is c.requires.room in
     subst (λ k. HasActed act (HasFinished k (Err Device)) (g.W.Files.device c.args.work.now) (g.W.Files.device c.lose.new.work) true) c.going.view_is
     (lost_cut j r.outs r.places r.records v act _ (g.met.W.Files.sound c.args.work.now).owned lets _ _ c.in-Ok-Wrongly.at c.in-Ok-Wrongly.wrong c.look_through.result (c.in-Ok-Wrongly.is ∙ ap Ok c.in-Ok-Wrongly.field-0-is) c.look_through.ensures.looked c.in-Err-lose.ensures)
 
@@ -84,7 +84,7 @@ returns-clause-acted g c =
     let r = c.going.inside.ready in
     let v = c.going.invariant in
     let j = underway r.recipe r.logs r.stamps r.made c.going.inside.number in
-    let lets = lets_as _ j c.args.going c.going.view_is c.requires.room in
+    let lets = lets_as (g.W.Files.device c.args.work.now) j c.args.going c.going.view_is c.requires.room in
     subst (λ k. HasActed act (HasFinished k (Err c.fault_in.result)) (g.W.Files.device c.args.work.now) (g.W.Files.device c.look_through.new.work) (close_failed (Err c.fault_in.result))) c.going.view_is
     (looks_failed j r.outs r.places r.records v act _ (g.met.W.Files.sound c.args.work.now).owned lets _ c.in-Err.fault c.fault_in.result c.look_through.result c.in-Err.is c.fault_in.ensures c.look_through.ensures.looked)
 

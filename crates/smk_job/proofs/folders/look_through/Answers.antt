@@ -1,4 +1,4 @@
-use Rattle.std.proofs.Common.{[], refl, sym, ap, ◌∙◌, map, ◌≡◌, true, false, Ok}
+use Rattle.std.proofs.Common.{[], sym, ap, ◌∙◌, map, ◌≡◌, true, false, Ok}
 use Rattle.smk_record.specs.Records.{record_of, is_valid}
 use Rattle.smk_world.specs.Calls.{device_failed}
 use Rattle.smk_job.specs.Jobs.{underway}
@@ -6,7 +6,7 @@ use Rattle.smk_job.specs.declared.folders.View.TheVariants.{Wrongly, Records}
 use Rattle.smk_job.specs.Views.{core}
 use Rattle.smk_job.proofs.Finishing.{at_outputs}
 use Rattle.smk_job.proofs.Looking.{place_at}
-use Rattle.smk_job.proofs.Viewing.{within_places, folder_among, valid_at, outs_as, one_longer, good_more, viewed_none, viewed_all, viewed_wrong, viewed_failed, viewed_short}
+use Rattle.smk_job.proofs.Viewing.{within_places, folder_among, valid_at, outs_as, one_longer, good_more, viewed_all, viewed_wrong, viewed_failed, viewed_short}
 use Rattle.smk_job.proofs.folders.look_through.Goals as goal
 
 pub bounds-places-i : goal.bounds-places-i
@@ -29,11 +29,6 @@ pub look_one-requires-clause-valid : goal.look_one-requires-clause-valid
 look_one-requires-clause-valid g c =
     let r = c.args.ready.now in
     valid_at (λ p. is_valid (record_of p r.made r.recipe r.stamps []) ≡ true) r.recipe c.as_slice-outs.result.now c.loop-i.i c.index-outs-i.result (c.as_slice-outs.ensures ∙ c.requires.ready.outputs) c.loop-i-test.true c.index-outs-i.is c.requires.ready.valid
-
-pub loop-i-start : goal.loop-i-start
-loop-i-start g c =
-    let r = c.args.ready.now in
-    record { looked = viewed_none g.W.Files.act (core r.recipe r.stamps r.made) c.as_slice-outs.result.now _; sizes = refl }
 
 pub returns-in_err-bytes-clause-looked : goal.returns-in_err-bytes-clause-looked
 returns-in_err-bytes-clause-looked g c =
@@ -75,4 +70,4 @@ returns-clause-looked g c =
     let r = c.args.ready.now in
     let k = core r.recipe r.stamps r.made in
     outs_as g.W.Files.act _ _ k c.as_slice-outs.result.now r.outs (Ok (Records c.loop-i.records)) false c.as_slice-outs.ensures
-    (viewed_all g.W.Files.act k c.as_slice-outs.result.now c.loop-i.i c.loop-i.records _ _ ? c.loop-i.invariant.looked)
+    (viewed_all g.W.Files.act k c.as_slice-outs.result.now c.loop-i.i c.loop-i.records _ _ c.loop-i-test.false c.loop-i.invariant.looked)

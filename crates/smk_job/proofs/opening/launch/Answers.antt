@@ -5,7 +5,7 @@ use Rattle.smk_job.proofs.Launching.{may_start_told, not_launched, then_started,
 use Rattle.smk_job.proofs.opening.launch.Goals as goal
 
 pub prepare-requires : goal.prepare-requires
-prepare-requires g c = record { unused = begin_outputs _ c.args.recipe.now c.args.logs.now c.args.places.now c.requires.at c.requires.room }
+prepare-requires g c = record { unused = begin_outputs (g.W.Files.device c.args.work.now) c.args.recipe.now c.args.logs.now c.args.places.now c.requires.at c.requires.room }
 
 pub start-requires : goal.start-requires
 start-requires g c = record {

@@ -5,7 +5,7 @@ use Rattle.smk_job.specs.Jobs.{clear_requests}
 use Rattle.smk_job.proofs.opening.prepare.Goals as goal
 
 pub clear-requires : goal.clear-requires
-clear-requires g c = record { unused = subst (AreUnused _) (sym c.as_slice.ensures) (unused_still c.args.places.now.outputs c.in_ok-mark.ensures.acted c.requires.unused) }
+clear-requires g c = record { unused = subst (AreUnused (g.W.Files.device c.mark.new.work)) (sym c.as_slice.ensures) (unused_still c.args.places.now.outputs c.in_ok-mark.ensures.acted c.requires.unused) }
 
 pub returns-in_err-mark : goal.returns-in_err-mark
 returns-in_err-mark g c =

@@ -1,9 +1,6 @@
 use Rattle.std.proofs.Common.{sym, ◌∙◌}
-use Rattle.smk_job.proofs.Looking.{looked_none, looked_well, looked_wrong, looked_blindly, looked_all, place_at}
+use Rattle.smk_job.proofs.Looking.{looked_well, looked_wrong, looked_blindly, looked_all, place_at}
 use Rattle.smk_job.proofs.sight.look_over.Goals as goal
-
-pub loop-i-start : goal.loop-i-start
-loop-i-start g c = looked_none g.W.Files.act c.args.outs.now _
 
 pub returns-in_err-stat-clause-acted : goal.returns-in_err-stat-clause-acted
 returns-in_err-stat-clause-acted g c =
@@ -33,4 +30,4 @@ loop-i-preserved g c =
     (place_at outs c.args.places.now i out p c.requires.at c.loop-i-test.true c.index-outs-i.is c.index-places-i.is) (sym c.wrong_of.ensures ∙ c.in-None.is) c.loop-i.invariant c.in_ok-stat.ensures
 
 pub returns-clause-acted : goal.returns-clause-acted
-returns-clause-acted g c = looked_all g.W.Files.act c.args.outs.now c.loop-i.i _ _ ? c.loop-i.invariant
+returns-clause-acted g c = looked_all g.W.Files.act c.args.outs.now c.loop-i.i _ _ c.loop-i-test.false c.loop-i.invariant
