@@ -5,13 +5,13 @@ use Rattle.smk_run.proofs.Firsts.{named_by}
 use Rattle.smk_run.proofs.Taking.{by_seen, had_turn, had_turn_untold, had_turn_stopped, no_turn}
 use Rattle.smk_run.proofs.turns.turn.Goals as goal
 
-pub returns-in_default-command_of-clause-run : goal.returns-in_default-command_of-clause-run
-returns-in_default-command_of-clause-run g c =
+pub returns-in_default-command_of : goal.returns-in_default-command_of
+returns-in_default-command_of g c =
     no_turn g.W.Files.act c.args.flow.now (number_at c.args.serials.now) c.args.job.now (command_of c.args.cores c.args.job.now) c.args.made _ _
     (by_seen c.args.job.now c.as_slice.result.now c.as_slice-2.result.now c.requires.makes c.as_slice.ensures c.as_slice-2.ensures c.see_outputs.ensures c.see_paths.ensures) c.requires.none_runs
 
-pub returns-in-Ok-failure-clause-run : goal.returns-in-Ok-failure-clause-run
-returns-in-Ok-failure-clause-run g c =
+pub returns-in-Ok-failure : goal.returns-in-Ok-failure
+returns-in-Ok-failure g c =
     let flow = c.args.flow.now in
     let job = c.args.job.now in
     let made = number_at c.args.serials.now in
@@ -21,8 +21,8 @@ returns-in-Ok-failure-clause-run g c =
     _ _ _ _ (by_seen c.args.job.now c.as_slice.result.now c.as_slice-2.result.now c.requires.makes c.as_slice.ensures c.as_slice-2.ensures c.see_outputs.ensures c.see_paths.ensures)
     (named_by flow job c.rule_name-rule.result.now c.in-Some.path.now c.rule_name-rule.ensures c.in-Some.ensures) c.in-Ok-take.is c.in-Ok-failure.ensures taken
 
-pub returns-in-Ok-take-clause-run : goal.returns-in-Ok-take-clause-run
-returns-in-Ok-take-clause-run g c =
+pub returns-in-Ok-take : goal.returns-in-Ok-take
+returns-in-Ok-take g c =
     let flow = c.args.flow.now in
     let job = c.args.job.now in
     let made = number_at c.args.serials.now in
@@ -31,8 +31,8 @@ returns-in-Ok-take-clause-run g c =
     had_turn_untold g.W.Files.act flow made job (command_of c.args.cores job) c.args.made c.in-Ok-take.ending c.take.result _ _ _ _
     (by_seen c.args.job.now c.as_slice.result.now c.as_slice-2.result.now c.requires.makes c.as_slice.ensures c.as_slice-2.ensures c.see_outputs.ensures c.see_paths.ensures) c.in-Ok-take.is taken
 
-pub returns-clause-run : goal.returns-clause-run
-returns-clause-run g c =
+pub returns : goal.returns
+returns g c =
     let flow = c.args.flow.now in
     let job = c.args.job.now in
     let made = number_at c.args.serials.now in
