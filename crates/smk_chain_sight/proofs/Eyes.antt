@@ -19,7 +19,7 @@ use Rattle.smk_choose.specs.Finding.{places_in, places_by}
 use Rattle.smk_choose.proofs.Listed.{Placed, listed_placed}
 use Rattle.smk_store.specs.Images.{Image}
 use Rattle.smk_store.specs.Stores.{Known}
-use Rattle.smk_chain.specs.declared.fault.SightFault.TheVariants.{TooManyPaths, Device, OutOfMemory as MemoryFault}
+use Rattle.smk_chain.specs.declared.fault.SightFault.TheVariants.{TooManyPaths, Device as DeviceFault, OutOfMemory as MemoryFault}
 use Rattle.smk_chain.specs.Derive.{sources_of}
 use Rattle.smk_chain_sight.specs.declared.telling.Eye.{Eye}
 use Rattle.smk_chain_sight.specs.Sight.{fitting, places, SameAt, SameAround}
@@ -169,5 +169,5 @@ if_err (Err e) P Q more h = more e h
 pub same_count : (a b : ℕ) → TooManyPaths a ≡ TooManyPaths b → a ≡ b
 same_count a b e = cc
 
-pub never_device : (count : ℕ) → Device ≡ TooManyPaths count → ⊥
+pub never_device : (count : ℕ) → DeviceFault ≡ TooManyPaths count → ⊥
 never_device count e = cc

@@ -3,7 +3,7 @@ use Rattle.smk_cli_contract.proofs.Empty.{five, log_at_start, text_at_start}
 use Rattle.smk_cli_contract.proofs.form.gives_up.Goals as goal
 
 pub returns-clause-leaves : goal.returns-clause-leaves
-returns-clause-leaves g c = record { children = inl c.requires; cause = tt; quiet = λ h. five h }
+returns-clause-leaves g c = record { children = inl c.requires.1.1; cause = tt; quiet = λ h. five h }
 
 pub returns-clause-log : goal.returns-clause-log
 returns-clause-log g c = λ w told. (w, told, ([], tt, log_at_start g.g g.W.Files.act _ _ _ w, refl))
