@@ -76,7 +76,7 @@ returns-in-Ok-Some g c =
     c.turn.result c.in-Ok-Some.fault c.ended.result _ _ _ _ _ _ (record { is = at; serial_is = c.in-Some-serial.is })
     (c.in-Ok-Some.is ∙ ap Ok c.in-Ok-Some.field-0-is)
     (record { started_is = c.ended.ensures.started; done_is = c.ended.ensures.done; failed_is = c.ended.ensures.failed; first_is = c.ended.ensures.first })
-    c.loop-number.invariant.so_far c.turn.ensures.run
+    c.loop-number.invariant.so_far c.turn.ensures
 
 pub returns-in-Err : goal.returns-in-Err
 returns-in-Err g c =
@@ -91,7 +91,7 @@ returns-in-Err g c =
     let at = next_due serial duties jobs c.loop-number.done i job c.in-Some.serial c.loop-number.invariant.next (sym c.due_at.ensures ∙ c.in-Some.is) (at_place jobs i job c.loop-number-test.true c.index-jobs-number.is) in
     run_stopped g.W.Files.act c.args.flow.now c.args.cores dues rest due (number_at c.args.made.now) c.loop-number.done c.in-Some-serial.serial
     c.turn.result c.in-Err.fault _ _ _ _ _ _ (record { is = at; serial_is = c.in-Some-serial.is }) c.in-Err.is
-    c.loop-number.invariant.so_far c.turn.ensures.run
+    c.loop-number.invariant.so_far c.turn.ensures
 
 pub loop-number-preserved : goal.loop-number-preserved
 loop-number-preserved g c =
@@ -107,7 +107,7 @@ loop-number-preserved g c =
     record {
       so_far = so_far_next g.W.Files.act c.args.flow.now c.args.cores dues rest due (number_at c.args.made.now) c.loop-number.done c.in-Some-serial.serial
           c.turn.result _ _ _ _ _ _ (record { is = at; serial_is = c.in-Some-serial.is }) (c.in-Ok-None.is ∙ ap Ok c.in-Ok-None.field-0-is)
-          c.loop-number.invariant.so_far c.turn.ensures.run;
+          c.loop-number.invariant.so_far c.turn.ensures;
       next = left_taken serial duties jobs c.loop-number.done i due at;
       few = omega (arith, c.loop-number.invariant.few);
     }
