@@ -44,7 +44,7 @@ fn take<W: Crew, O: Sink>(
     requires makes { out_paths job.now.recipe ≢ [] }
     requires apart { are_apart (owned_paths job.now.recipe job.now.logs) ≡ true }
     requires wildcards { are_rising (map (λ (w : Pair). w.name) job.now.recipe.wildcards) ≡ true }
-    ensures run { HasTaken W.act flow.now (number_at serials.now) job.now command.now made result (W.device work.old) (W.device work.new) (O.sunk out.old) (O.sunk out.new) }
+    ensures { HasTaken W.act flow.now (number_at serials.now) job.now command.now made result (W.device work.old) (W.device work.new) (O.sunk out.old) (O.sunk out.new) }
 {
     let Ok(paths) = input_paths(alloc, job.recipe.inputs.as_slice()) else {
         return Err(Stop::OutOfMemory);
@@ -76,7 +76,7 @@ fn turn<W: Crew, O: Sink>(
     requires apart { are_apart (owned_paths job.now.recipe job.now.logs) ≡ true }
     requires wildcards { are_rising (map (λ (w : Pair). w.name) job.now.recipe.wildcards) ≡ true }
     requires good { job_fault flow.now cores job.now ≡ None }
-    ensures run { HasHadTurn W.act flow.now (number_at serials.now) job.now (command_of cores job.now) made result (W.device work.old) (W.device work.new) (O.sunk out.old) (O.sunk out.new) }
+    ensures { HasHadTurn W.act flow.now (number_at serials.now) job.now (command_of cores job.now) made result (W.device work.old) (W.device work.new) (O.sunk out.old) (O.sunk out.new) }
 {
     see_outputs(job.recipe.outputs.as_slice());
     see_paths(job.logs.as_slice());
@@ -140,7 +140,7 @@ pub(crate) fn run_all<W: Crew, O: Sink>(
 ) -> Result<Tally, Fault>
     requires none_runs { (W.device work.old).running ≡ [] }
     requires ready { Each (IsReady flow.now cores (number_at made.now)) (due_from (serial_in serials.now) 0 duties.now jobs.now) }
-    ensures run { HasRun W.act flow.now cores (due_from (serial_in serials.now) 0 duties.now jobs.now) (number_at made.now) result (W.device work.old) (W.device work.new) (O.sunk out.old) (O.sunk out.new) }
+    ensures { HasRun W.act flow.now cores (due_from (serial_in serials.now) 0 duties.now jobs.now) (number_at made.now) result (W.device work.old) (W.device work.new) (O.sunk out.old) (O.sunk out.new) }
 {
     let mut done = 0;
     for (number, job) in jobs.iter().enumerate() {

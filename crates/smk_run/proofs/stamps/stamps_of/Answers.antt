@@ -1,16 +1,23 @@
-use Rattle.std.proofs.Common.{[], Ok, refl, ap, take, drop, ◌+◌, ◌∙◌}
+use Rattle.std.proofs.Common.{[], Ok, refl, sym, ap, subst, take, drop, length, false, ◌+◌, ◌∙◌}
+use Rattle.std.specs.List.{list_all}
+use Rattle.smk_world.specs.Devices.{HasActed}
 use Rattle.smk_world.proofs.Devices.{acted_nothing, around, next}
-use Rattle.smk_run.specs.Stamps.{HasStamped, number_at}
+use Rattle.smk_record.specs.Records.{is_earlier}
+use Rattle.smk_run.specs.Stamps.{HasStamped, is_small, number_at}
 use Rattle.smk_run.proofs.Stamping.{stamps_next, stamps_stop}
 use Rattle.smk_run.proofs.stamps.stamps_of.Goals as goal
 
 pub loop-number-init : goal.loop-number-init
-loop-number-init g c = record {
-  acted = acted_nothing g.W.Files.act (HasStamped (number_at c.args.serials.now) [] (Ok [])) _ (λ w. refl);
-  each = refl;
-  earlier = refl;
-  small = refl;
-}
+loop-number-init g c =
+    let act = g.W.Files.act in
+    let made = number_at c.args.serials.now in
+    let work = g.W.Files.device c.args.work.now in
+    record {
+      acted = subst (λ stamps. HasActed act (HasStamped made [] (Ok stamps)) work work false) (sym c.new-stamps.ensures) (acted_nothing act (HasStamped made [] (Ok [])) work (λ w. refl));
+      each = ap length c.new-stamps.ensures;
+      earlier = ap (list_all (is_earlier c.args.made)) c.new-stamps.ensures;
+      small = ap (list_all is_small) c.new-stamps.ensures;
+    }
 
 pub returns-in-Err-clause-acted : goal.returns-in-Err-clause-acted
 returns-in-Err-clause-acted g c =

@@ -25,8 +25,8 @@ loop-number-preserved-in_default g c =
       few = omega (arith, v.few);
     }
 
-pub returns-in_default-serial-clause-run : goal.returns-in_default-serial-clause-run
-returns-in_default-serial-clause-run g c =
+pub returns-in_default-serial : goal.returns-in_default-serial
+returns-in_default-serial g c =
     let i = c.loop-number.number in
     let duties = c.args.duties.now in
     let jobs = c.args.jobs.now in
@@ -61,8 +61,8 @@ turn-requires g c =
       good = ready.good;
     }
 
-pub returns-in-Ok-Some-clause-run : goal.returns-in-Ok-Some-clause-run
-returns-in-Ok-Some-clause-run g c =
+pub returns-in-Ok-Some : goal.returns-in-Ok-Some
+returns-in-Ok-Some g c =
     let i = c.loop-number.number in
     let duties = c.args.duties.now in
     let jobs = c.args.jobs.now in
@@ -76,10 +76,10 @@ returns-in-Ok-Some-clause-run g c =
     c.turn.result c.in-Ok-Some.fault c.ended.result _ _ _ _ _ _ (record { is = at; serial_is = c.in-Some-serial.is })
     (c.in-Ok-Some.is ∙ ap Ok c.in-Ok-Some.field-0-is)
     (record { started_is = c.ended.ensures.started; done_is = c.ended.ensures.done; failed_is = c.ended.ensures.failed; first_is = c.ended.ensures.first })
-    c.loop-number.invariant.so_far c.turn.ensures.run
+    c.loop-number.invariant.so_far c.turn.ensures
 
-pub returns-in-Err-clause-run : goal.returns-in-Err-clause-run
-returns-in-Err-clause-run g c =
+pub returns-in-Err : goal.returns-in-Err
+returns-in-Err g c =
     let i = c.loop-number.number in
     let duties = c.args.duties.now in
     let jobs = c.args.jobs.now in
@@ -91,7 +91,7 @@ returns-in-Err-clause-run g c =
     let at = next_due serial duties jobs c.loop-number.done i job c.in-Some.serial c.loop-number.invariant.next (sym c.due_at.ensures ∙ c.in-Some.is) (at_place jobs i job c.loop-number-test.true c.index-jobs-number.is) in
     run_stopped g.W.Files.act c.args.flow.now c.args.cores dues rest due (number_at c.args.made.now) c.loop-number.done c.in-Some-serial.serial
     c.turn.result c.in-Err.fault _ _ _ _ _ _ (record { is = at; serial_is = c.in-Some-serial.is }) c.in-Err.is
-    c.loop-number.invariant.so_far c.turn.ensures.run
+    c.loop-number.invariant.so_far c.turn.ensures
 
 pub loop-number-preserved : goal.loop-number-preserved
 loop-number-preserved g c =
@@ -106,14 +106,14 @@ loop-number-preserved g c =
     let at = next_due serial duties jobs c.loop-number.done i job c.in-Some.serial c.loop-number.invariant.next (sym c.due_at.ensures ∙ c.in-Some.is) (at_place jobs i job c.loop-number-test.true c.index-jobs-number.is) in
     record {
       so_far = so_far_next g.W.Files.act c.args.flow.now c.args.cores dues rest due (number_at c.args.made.now) c.loop-number.done c.in-Some-serial.serial
-          c.turn.result _ _ _ _ _ _ _ _ _ _ _ (record { is = at; serial_is = c.in-Some-serial.is }) (c.in-Ok-None.is ∙ ap Ok c.in-Ok-None.field-0-is)
-          c.loop-number.invariant.so_far c.turn.ensures.run;
+          c.turn.result _ _ _ _ _ _ (record { is = at; serial_is = c.in-Some-serial.is }) (c.in-Ok-None.is ∙ ap Ok c.in-Ok-None.field-0-is)
+          c.loop-number.invariant.so_far c.turn.ensures;
       next = left_taken serial duties jobs c.loop-number.done i due at;
       few = omega (arith, c.loop-number.invariant.few);
     }
 
-pub returns-clause-run : goal.returns-clause-run
-returns-clause-run g c =
+pub returns : goal.returns
+returns g c =
     let duties = c.args.duties.now in
     let jobs = c.args.jobs.now in
     let serial = serial_in c.args.serials.now in

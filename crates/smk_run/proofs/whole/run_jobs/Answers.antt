@@ -34,4 +34,4 @@ returns g c =
     let first = c.args.agenda.now.first in
     let dues = dues_same c.as_slice-4.result.now first c.as_slice.result.now c.as_slice-5.result.now duties c.as_slice-6.result.now jobs.jobs (c.as_slice-4.ensures ∙ c.in-Ok.ensures) c.as_slice.ensures c.as_slice-5.ensures c.as_slice-6.ensures in
     let made = made_same c.in-Ok-made_by.made c.as_slice-2.result.now jobs.makers c.as_slice-3.result.now first c.as_slice.result.now duties c.as_slice-2.ensures (c.as_slice-3.ensures ∙ c.in-Ok.ensures) c.as_slice.ensures c.in-Ok-made_by.ensures in
-    run_as g.W.Files.act c.args.flow.now c.args.cores _ (due first duties jobs.jobs) _ (serials jobs.makers first duties) c.run_all.result _ _ _ _ dues made c.run_all.ensures.run
+    run_as g.W.Files.act c.args.flow.now c.args.cores _ (due first duties jobs.jobs) _ (serials jobs.makers first duties) c.run_all.result _ _ _ _ dues made c.run_all.ensures
