@@ -34,7 +34,7 @@ first_more nodes [] p = first_one nodes p
 first_more nodes (q ∷ ps) p = go (is_file_at nodes q) q (first_file nodes ps) (first_file nodes (ps ++ p ∷ [])) (file_at nodes p) (first_more nodes ps p)
 
 -- the earlier ones were looked at, and then the next one
-pub next_file : (nodes : Nodes) (ps : List Path) (p : Path) (o : Option Path) (s : Result (Option Path) Fault) → Ok (first_file nodes ps) ≡ Ok o → Answers (Ok (or_else o (file_at nodes p))) s
+pub next_file : (nodes : Nodes) (ps : List Path) (p : Path) (o : Option Path) (s : Result (Option Path) Fault) → Answers (Ok (first_file nodes ps)) (Ok o) → Answers (Ok (or_else o (file_at nodes p))) s
     → Answers (Ok (first_file nodes (ps ++ p ∷ []))) s
 next_file nodes ps p o s is h =
     subst (λ x. Answers (Ok x) s) (first_more nodes ps p) (answers_then (Ok (first_file nodes ps)) o (λ x. Ok (or_else x (file_at nodes p))) s is h)

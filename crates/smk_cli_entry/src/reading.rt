@@ -1,6 +1,6 @@
 //! The workflow of a folder.
 
-ghost use Rattle.std.specs.Prelude.{◌≡◌, [], IfErr};
+ghost use Rattle.std.specs.Prelude.{◌≡◌, [], IfErr, false};
 ghost use Rattle.smk_world.specs.Devices.{WhereTold, HasLooked};
 ghost use Rattle.smk_cli_entry.specs.Faults.{device_failed, is_sink};
 ghost use Rattle.smk_cli_entry.specs.Entry as spec;
