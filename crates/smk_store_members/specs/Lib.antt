@@ -1,4 +1,4 @@
+pub mod Disk
 pub mod Members
 pub mod Walks
 pub mod Steps
-pub mod Disk
