@@ -1,23 +1,19 @@
 -- The image of a world, as looks at its folder see it.
-use Rattle.std.proofs.Common.{◌≡◌, ℕ, Bool, true, false, ◌&&◌, not, List, refl, sym, ap, ◌∙◌, Option, Some, None}
+use Rattle.std.proofs.Common.{◌≡◌, ℕ, Bool, true, false, ◌&&◌, not, List, refl, sym, ap, ◌∙◌, Option, None}
 use Rattle.std.specs.Prelude.{is_some, if◌then◌else◌}
 use Rattle.smk_base.specs.Path.{is_path}
 use Rattle.smk_base.proofs.Places.{and_first}
-use Rattle.smk_base.proofs.Under.{never_both, both_true, under_folder}
+use Rattle.smk_base.proofs.Under.{never_both, both_true}
 use Rattle.smk_world.specs.declared.event.Node.{Node}
-use Rattle.smk_world.specs.declared.event.Node.TheVariants.{Regular, Directory}
-use Rattle.smk_world.specs.declared.event.NodeState.{NodeState}
-use Rattle.smk_world.specs.declared.event.NodeState.TheVariants.{Owned, Known as Reads}
-use Rattle.smk_world.specs.World.{World, IsFormed, reading, reads_folder, is_named}
-use Rattle.smk_world.specs.Calls.{in_folder}
+use Rattle.smk_world.specs.World.{World, IsFormed, reading, is_named}
 use Rattle.smk_world.specs.Folders.{IsTree}
-use Rattle.smk_world.proofs.Folders.{no_folder}
 use Rattle.smk_world.specs.Trees.{Path, is_path_text, is_text}
 use Rattle.smk_record.specs.declared.record.Record.{Record}
 use Rattle.smk_store.specs.Images.{is_source, content_of, is_outside, seen}
 use Rattle.smk_store.specs.Stores.{Known}
 use Rattle.smk_store.specs.Loading.{IsStoreOf}
 use Rattle.smk_store.proofs.Loads.{named_filter}
+use Rattle.smk_store.proofs.Standing.{tree_folder}
 use Rattle.smk_chain_sight.specs.Disk.{IsOwnedCovered}
 use Rattle.smk_chain_sight.specs.Viewing.{Viewed}
 use Rattle.smk_chain_sight.proofs.Stand.{source_parts, path_outside, file_some}
@@ -41,16 +37,10 @@ source_named read w q formed s =
     (both_true (is_outside q) (is_some (reading (w.nodes q))) (outside q p.path) some)
     (named_by w q (is_named q w.names) formed refl some)
 
-folder_reads : (s : NodeState) → reading s ≡ Some Directory → reads_folder s ≡ true
-folder_reads Owned h = no_folder h
-folder_reads (Reads None besides) h = no_folder h
-folder_reads (Reads (Some Directory) besides) h = refl
-folder_reads (Reads (Some (Regular bytes time read_only)) besides) h = absurd (cc)
-
 pub viewed_of : (read : List ℕ → Option Record) (w : World) (store : List Known) → IsOwnedCovered w store → IsFormed w → IsTree w → IsStoreOf (seen read w) store → Viewed w.nodes store (seen read w)
 viewed_of read w store owned formed tree stored =
     record {
-      in_folders = λ folder name path some. folder_reads (w.nodes folder) ((tree (in_folder folder name) some).folders folder (under_folder folder name));
+      in_folders = λ folder name path some. tree_folder w tree folder name some;
       owned = owned;
       node = node_is read w;
       covered = stored.covered;

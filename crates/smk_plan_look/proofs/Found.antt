@@ -5,7 +5,7 @@ use Rattle.smk_world.specs.declared.event.WorkFault.TheVariants.{Failed, OutOfMe
 use Rattle.smk_world.specs.Calls.{device_failed}
 use Rattle.smk_world.specs.Trees.{Path, Each}
 use Rattle.smk_store_members.specs.Members.{Nodes}
-use Rattle.smk_store_members.specs.Disk.{IsUnownedUnder}
+use Rattle.smk_store.specs.Unowned.{IsUnownedUnder}
 use Rattle.smk_store_members.proofs.Lists.{each_both}
 use Rattle.smk_plan.specs.declared.seen.Sight.{Sight}
 use Rattle.smk_plan.specs.declared.fault.LookFault.{LookFault}

@@ -27,7 +27,7 @@ use Rattle.smk_chain.specs.declared.jobs.Jobs.{Jobs}
 use Rattle.smk_chain.specs.declared.jobs.Maker.{Maker}
 use Rattle.smk_store_members.specs.Members.{Nodes, IsFound, member_places, IsThere, AreMembers}
 use Rattle.smk_store_members.specs.Members.IsFound.{Inside, Deeper}
-use Rattle.smk_store_members.specs.Disk.{IsUnownedUnder}
+use Rattle.smk_store.specs.Unowned.{IsUnownedUnder}
 use Rattle.smk_store_members.proofs.Lists.{each_both, each_more, each_unmap}
 use Rattle.smk_store_members.proofs.Trees.{some_stands, stands_some, tree_found}
 use Rattle.smk_store_members.proofs.Under.{same_members}

@@ -14,8 +14,9 @@ use Rattle.smk_record.specs.declared.record.Member.{Member}
 use Rattle.smk_store_members.specs.declared.listed.Listed.{Listed}
 use Rattle.smk_store_members.specs.declared.listed.Listed.TheVariants.{Members, BadMember}
 use Rattle.smk_store_members.specs.Members.{Nodes, IsOpenFolder, IsListed}
-use Rattle.smk_store_members.specs.Disk.{IsUnownedUnder}
-use Rattle.smk_store_members.proofs.Trees.{tree_folder, unowned_still}
+use Rattle.smk_store.specs.Unowned.{IsUnownedUnder}
+use Rattle.smk_store.proofs.Looks.{unowned_still}
+use Rattle.smk_store.proofs.Standing.{tree_folder}
 use Rattle.smk_plan.specs.declared.seen.Sight.{Sight}
 use Rattle.smk_plan.specs.Sights.{is_tellable}
 use Rattle.smk_plan_look.specs.Seeing.{TellsGuard, IsListedAs, IsSightOf, is_read_only, is_folder_stat, members_in}

@@ -26,10 +26,12 @@ use Rattle.smk_store.specs.Images.{Content, content_of}
 use Rattle.smk_store.proofs.Walks.{utf8_before, utf8_behind, path_bytes, path_utf8}
 use Rattle.smk_store_members.specs.Members.{Nodes, IsFound}
 use Rattle.smk_store_members.specs.Members.IsFound.{Inside, Deeper}
-use Rattle.smk_store_members.specs.Disk.{IsUnownedUnder}
+use Rattle.smk_store.specs.Unowned.{IsUnownedUnder}
 use Rattle.smk_store_members.specs.Steps.{Either}
 use Rattle.smk_store_members.proofs.Lists.{each_both, each_more, in_first, in_second}
-use Rattle.smk_store_members.proofs.Trees.{some_stands, tree_folder, tree_found, unowned_still}
+use Rattle.smk_store.proofs.Looks.{unowned_still}
+use Rattle.smk_store.proofs.Standing.{tree_folder}
+use Rattle.smk_store_members.proofs.Trees.{some_stands, tree_found}
 use Rattle.smk_plan.specs.States.{test_some}
 use Rattle.smk_plan.specs.Sights.{is_tellable}
 use Rattle.smk_plan_look.specs.Seeing.{IsGuard, HasGuard, TellsGuard, is_read_only}

@@ -11,7 +11,7 @@ use Rattle.smk_world.specs.Calls.{stat_of}
 use Rattle.smk_world.specs.Trees.{Path, Each, outs_of}
 use Rattle.smk_record.specs.declared.record.Member.{Member}
 use Rattle.smk_store.specs.Images.{Image, Content, content_of}
-use Rattle.smk_store_members.specs.Disk.{IsUnownedUnder}
+use Rattle.smk_store.specs.Unowned.{IsUnownedUnder}
 use Rattle.smk_store_members.specs.declared.listed.Listed.{Listed}
 use Rattle.smk_store_members.specs.declared.listed.Listed.TheVariants.{Members, BadMember}
 use Rattle.smk_store_members.specs.Members.{Nodes, AreMembers, HasNoMembers}

@@ -7,7 +7,7 @@ ghost use Rattle.smk_world.specs.Calls.{device_failed};
 ghost use Rattle.smk_world.specs.Devices.{HasLooked, WhereTold};
 ghost use Rattle.smk_world.specs.Trees.{Path};
 ghost use Rattle.smk_store_members.specs.Steps.{Either};
-ghost use Rattle.smk_store_members.specs.Disk.{IsUnownedUnder};
+ghost use Rattle.smk_store.specs.Unowned.{IsUnownedUnder};
 ghost use Rattle.smk_plan.specs.Sights.{is_tellable};
 ghost use Rattle.smk_plan_look.specs.Seeing.{HasGuard, TellsGuard, is_read_only};
 ghost use Rattle.smk_plan_look.specs.Guards.{AreWaiting, IsNoted};

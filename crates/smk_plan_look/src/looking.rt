@@ -8,7 +8,7 @@ ghost use Rattle.smk_world.specs.Trees.{Each, is_path_text};
 ghost use Rattle.smk_record.specs.declared.record.Record.{Record as RecordValue};
 ghost use Rattle.smk_store.specs.Images.{seen};
 ghost use Rattle.smk_store.specs.Walking.{path_in, texts_of};
-ghost use Rattle.smk_store_members.specs.Disk.{IsUnownedUnder};
+ghost use Rattle.smk_store.specs.Unowned.{IsUnownedUnder};
 ghost use Rattle.smk_plan.specs.Sights.{AreRising};
 ghost use Rattle.smk_plan_look.specs.Seeing.{IsSightOf, AreSeenUnowned, are_paths, look_fault, look_failed};
 

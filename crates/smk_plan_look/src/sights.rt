@@ -5,7 +5,7 @@ ghost use Rattle.smk_world.specs.World.{reading, reads_folder};
 ghost use Rattle.smk_world.specs.Calls.{stat_of, device_failed};
 ghost use Rattle.smk_world.specs.Devices.{HasLooked, WhereTold};
 ghost use Rattle.smk_world.specs.Trees.{is_path_text};
-ghost use Rattle.smk_store_members.specs.Disk.{IsUnownedUnder};
+ghost use Rattle.smk_store.specs.Unowned.{IsUnownedUnder};
 ghost use Rattle.smk_plan_look.specs.Seeing.{IsListedAs, IsSightOf, is_folder_stat, members_in};
 
 use crate::guards::{has_guard, is_read_only};

@@ -13,7 +13,7 @@ use Rattle.smk_record.specs.declared.record.Record.{Record}
 use Rattle.smk_store.specs.Images.{Image, seen}
 use Rattle.smk_store.specs.Stores.{Known as Entry}
 use Rattle.smk_store.specs.Loading.{IsStoreOf}
-use Rattle.smk_store.specs.Sources.{NoneOwned}
+use Rattle.smk_store.specs.Unowned.{NoneOwned}
 use Rattle.smk_chain.specs.declared.fault.ChainFault.{ChainFault}
 use Rattle.smk_chain.specs.declared.fault.SightFault.{SightFault}
 use Rattle.smk_chain.specs.declared.fault.SightFault.TheVariants as sight

@@ -18,8 +18,8 @@ use Rattle.smk_store.specs.declared.fault.StoreFault.{StoreFault}
 use Rattle.smk_store.specs.declared.fault.StoreFault.TheVariants as store
 use Rattle.smk_store.specs.Images.{seen, image_by}
 use Rattle.smk_store.specs.Faults.{store_failed}
-use Rattle.smk_store.specs.Loading.{IsFiled, IsStoreOf}
-use Rattle.smk_store.specs.Sources.{NoneOwned}
+use Rattle.smk_store.specs.Loading.{store_folder, IsStoreOf}
+use Rattle.smk_store.specs.Unowned.{IsUnownedUnder, NoneOwned}
 use Rattle.smk_store.specs.Stores.{Known}
 use Rattle.smk_record.specs.Spelling.{ReadsRecords}
 use Rattle.smk_chain.specs.declared.jobs.Jobs.{Jobs}
@@ -144,7 +144,7 @@ none_still w v same none = subst (λ (n : Path → NodeState). (q : Path) → n 
 
 -- what is loaded is the store of the folder
 pub store_told : (d : Device) (r : Result (List Known) StoreFault) (s : Result (List Known) Fault) → s ≡ as_call of_store r
-    → IfOk r (λ store. WhereTold d (λ w. IsFiled w → (read : List ℕ → Option Record) → ReadsRecords read → IsStoreOf (seen read w) store))
+    → IfOk r (λ store. WhereTold d (λ w. IsUnownedUnder w.nodes store_folder → (read : List ℕ → Option Record) → ReadsRecords read → IsStoreOf (seen read w) store))
     → IfOk s (λ store. WhereTold d (λ w. NoneOwned w → (read : List ℕ → Option Record) → ReadsRecords read → IsStoreOf (seen read w) store))
 store_told d (Ok store) s is h =
     subst (λ (v : Result (List Known) Fault). IfOk v (λ store. WhereTold d (λ w. NoneOwned w → (read : List ℕ → Option Record) → ReadsRecords read → IsStoreOf (seen read w) store))) (sym is)

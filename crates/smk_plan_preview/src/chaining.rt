@@ -5,7 +5,7 @@ ghost use Rattle.smk_world.specs.Devices.{HasLooked, WhereTold};
 ghost use Rattle.smk_record.specs.declared.record.Record.{Record as RecordValue};
 ghost use Rattle.smk_store.specs.Images.{seen};
 ghost use Rattle.smk_store.specs.Loading.{IsStoreOf};
-ghost use Rattle.smk_store.specs.Sources.{NoneOwned};
+ghost use Rattle.smk_store.specs.Unowned.{NoneOwned};
 ghost use Rattle.smk_plan_preview.specs.Faults.{device_failed, is_sink};
 ghost use Rattle.smk_plan_preview.specs.Rounds as spec;
 ghost use Rattle.smk_plan_preview.specs.Steps.{IsGood, IsGround};

@@ -6,7 +6,7 @@ ghost use Rattle.smk_record.specs.declared.record.Record.{Record as RecordValue}
 ghost use Rattle.smk_record.specs.Spelling.{ReadsRecords};
 ghost use Rattle.smk_store.specs.Images.{seen, Image};
 ghost use Rattle.smk_store.specs.Loading.{IsStoreOf};
-ghost use Rattle.smk_store.specs.Sources.{NoneOwned};
+ghost use Rattle.smk_store.specs.Unowned.{NoneOwned};
 ghost use Rattle.smk_choose.specs.Index.{AreReadings};
 ghost use Rattle.smk_chain_derive.specs.Clashes.{ListsKnown};
 ghost use Rattle.smk_plan.specs.Sights.{IsSeenOf};

@@ -6,7 +6,7 @@ ghost use Rattle.smk_world.specs.Devices.{HasLooked, WhereTold};
 ghost use Rattle.smk_record.specs.declared.record.Record.{Record as RecordValue};
 ghost use Rattle.smk_store.specs.Images.{seen, Image};
 ghost use Rattle.smk_store.specs.Loading.{IsStoreOf};
-ghost use Rattle.smk_store.specs.Sources.{NoneOwned};
+ghost use Rattle.smk_store.specs.Unowned.{NoneOwned};
 ghost use Rattle.smk_chain_derive.specs.Clashes.{ListsKnown};
 ghost use Rattle.smk_format.specs.Refused.{command_fault};
 ghost use Rattle.smk_report.specs.declared.fault.Fault.TheVariants as fault;

@@ -14,9 +14,9 @@ use Rattle.smk_world.specs.World.{World, reading, reads_folder}
 use Rattle.smk_world.specs.Calls.{in_folder, is_name, Stands}
 use Rattle.smk_world.specs.Folders.{has_names, IsTree}
 use Rattle.smk_world.specs.Trees.{Path}
-use Rattle.smk_world.proofs.Folders.{no_folder, parts_append}
+use Rattle.smk_world.proofs.Folders.{parts_append}
 use Rattle.smk_world.proofs.Names.{or_false}
-use Rattle.smk_store_members.specs.Disk.{IsUnownedUnder}
+use Rattle.smk_store.proofs.Standing.{tree_folder}
 use Rattle.smk_store_members.specs.Members.{Nodes, IsFound, AllIsFound}
 use Rattle.smk_store_members.specs.Members.IsFound.{Inside, Deeper}
 
@@ -108,21 +108,11 @@ some_stands Owned h = absurd (never_both false h refl)
 some_stands (Known None besides) h = absurd (never_both false h refl)
 some_stands (Known (Some node) besides) h = tt
 
-folder_reads : (s : NodeState) → reading s ≡ Some Directory → reads_folder s ≡ true
-folder_reads Owned h = no_folder h
-folder_reads (Known None besides) h = no_folder h
-folder_reads (Known (Some Directory) besides) h = refl
-folder_reads (Known (Some (Regular bytes time read_only)) besides) h = absurd (cc)
-
 -- the place has a name in a folder
 abbrev IsInFolder : Nodes → Path → Type 0
 IsInFolder nodes q = (folder : Path) × (name : Path) × (q ≡ in_folder folder name) × (is_name name ≡ true) × (reads_folder (nodes folder) ≡ true)
 
 module _ (w : World) (tree : IsTree w) where
-  -- what has something under it is a folder
-  pub tree_folder : (folder name : Path) → IsSome (reading (w.nodes (in_folder folder name))) → reads_folder (w.nodes folder) ≡ true
-  tree_folder folder name some = folder_reads (w.nodes folder) ((tree (in_folder folder name) some).folders folder (under_folder folder name))
-
   -- what stands has a name, at the top or in a folder
   placed : (q : Path) → IsSome (reading (w.nodes q)) → (is_name q ≡ true) ⊎ IsInFolder w.nodes q
   placed q some = by (last_split q)
@@ -134,7 +124,7 @@ module _ (w : World) (tree : IsTree w) where
         h.1,
         h.2,
         one_name h.1 h.3 (last_name h.0 h.1 (ap has_names (sym h.2) ∙ (tree q some).named)),
-        tree_folder h.0 h.1 (subst (λ x. IsSome (reading (w.nodes x))) h.2 some),
+        tree_folder w tree h.0 h.1 (subst (λ x. IsSome (reading (w.nodes x))) h.2 some),
       )
 
   found_in : (n : ℕ) (p q : Path) → length q ≤ n → is_under q p ≡ true → Stands (w.nodes q) → IsFound w.nodes p q
@@ -162,8 +152,3 @@ module _ (w : World) (tree : IsTree w) where
   -- going from folder to folder finds all
   pub tree_found : (p : Path) → AllIsFound w.nodes p
   tree_found p q under st = found_in (length q) p q (omega arith) under st
-
--- ## What children own
-
-pub unowned_still : (a b : Nodes) (p : Path) → b ≡ a → IsUnownedUnder a p → IsUnownedUnder b p
-unowned_still a b p same free = subst (λ (n : Nodes). IsUnownedUnder n p) (sym same) free

@@ -1,4 +1,3 @@
-pub mod Disk
 pub mod Members
 pub mod Walks
 pub mod Steps

@@ -7,7 +7,7 @@ use Rattle.smk_world.specs.Calls.{Stands, in_folder, is_name}
 use Rattle.smk_world.specs.Trees.{Path, Each, IsIn}
 use Rattle.smk_record.specs.declared.record.Member.{Member}
 use Rattle.smk_record.specs.Records.{are_valid_members}
-use Rattle.smk_store_members.specs.Disk.{IsUnownedUnder}
+use Rattle.smk_store.specs.Unowned.{IsUnownedUnder}
 use Rattle.smk_store_members.specs.declared.listed.Listed.{Listed}
 use Rattle.smk_store_members.specs.declared.listed.Listed.TheVariants.{Members, BadMember}
 

@@ -1,7 +1,7 @@
 use Rattle.std.proofs.Common.{◌≡◌, true, false}
 use Rattle.smk_world.specs.World.{reads_folder}
 use Rattle.smk_world.specs.Devices.{WhereTold, HasLooked}
-use Rattle.smk_store_members.specs.Disk.{IsUnownedUnder}
+use Rattle.smk_store.specs.Unowned.{IsUnownedUnder}
 use Rattle.smk_plan.specs.Sights.{is_tellable}
 use Rattle.smk_plan_look.specs.Guards.{AreWaiting}
 use Rattle.smk_plan_look.proofs.guards.has_guard.Given as goal

@@ -1,7 +1,7 @@
 use Rattle.std.proofs.Common.{◌≡◌, true, false, take}
 use Rattle.smk_world.specs.World.{reads_folder}
 use Rattle.smk_world.specs.Devices.{WhereTold, HasLooked}
-use Rattle.smk_store_members.specs.Disk.{IsUnownedUnder}
+use Rattle.smk_store.specs.Unowned.{IsUnownedUnder}
 use Rattle.smk_plan.specs.Sights.{is_tellable}
 use Rattle.smk_plan_look.proofs.Waiting.{HasGone}
 use Rattle.smk_plan_look.proofs.guards.look_in.Given as goal

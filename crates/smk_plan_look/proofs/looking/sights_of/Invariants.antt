@@ -3,7 +3,7 @@ use Rattle.std.specs.List.{filter}
 use Rattle.smk_world.specs.Devices.{WhereTold, HasLooked}
 use Rattle.smk_world.specs.Trees.{Each, is_path_text}
 use Rattle.smk_store.specs.Walking.{texts_of}
-use Rattle.smk_store_members.specs.Disk.{IsUnownedUnder}
+use Rattle.smk_store.specs.Unowned.{IsUnownedUnder}
 use Rattle.smk_plan_look.specs.Seeing.{IsSightOf, are_paths}
 use Rattle.smk_plan_look.proofs.looking.sights_of.Given as goal
 

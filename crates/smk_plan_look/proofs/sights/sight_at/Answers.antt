@@ -2,8 +2,7 @@ use Rattle.std.proofs.Common.{ap, sym, ◌∙◌}
 use Rattle.smk_world.specs.Calls.{stat_of}
 use Rattle.smk_world.specs.World.{reading}
 use Rattle.smk_world.proofs.Devices.{looked_stat, looked_failed, looked_on, looked_then, still}
-use Rattle.smk_store.proofs.Looks.{stat_told}
-use Rattle.smk_store_members.proofs.Trees.{unowned_still}
+use Rattle.smk_store.proofs.Looks.{stat_told, unowned_still}
 use Rattle.smk_plan_look.proofs.Sighting.{itself_free, plain_seen, folder_read_at, sight_still}
 use Rattle.smk_plan_look.proofs.sights.sight_at.Goals as goal
 

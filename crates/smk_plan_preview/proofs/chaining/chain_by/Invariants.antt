@@ -3,7 +3,7 @@ use Rattle.smk_world.specs.Devices.{WhereTold, HasLooked}
 use Rattle.smk_record.specs.declared.record.Record.{Record}
 use Rattle.smk_store.specs.Images.{seen}
 use Rattle.smk_store.specs.Loading.{IsStoreOf}
-use Rattle.smk_store.specs.Sources.{NoneOwned}
+use Rattle.smk_store.specs.Unowned.{NoneOwned}
 use Rattle.smk_plan_preview.specs.Rounds.{Leads}
 use Rattle.smk_plan_preview.proofs.chaining.chain_by.Given as goal
 
