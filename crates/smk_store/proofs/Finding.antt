@@ -1,6 +1,6 @@
 -- What a folder's listing tells, and what is found in the folder name by name.
 use Rattle.std.proofs.Common.{◌≡◌, ◌⊎◌, inl, inr, ◌≢◌, ℕ, ◌+◌, ◌<◌, ◌≤◌, ◌==◌, Bool, true, false, ◌||◌, List, [], ◌∷◌, ◌++◌, map, length, take, get_or, refl, sym, ap, subst, ◌∙◌, Option, Some, None, arith, append_assoc, length-append}
-use Rattle.std.specs.Prelude.{IsSome, IsTrue, All, Contains, if◌then◌else◌, nat_le, nat_lt}
+use Rattle.std.specs.Prelude.{IsSome, is_some, IsTrue, All, Contains, if◌then◌else◌, nat_le, nat_lt}
 use Rattle.std.specs.List.{list_any}
 use Rattle.std.specs.Str.{IsUtf8}
 use Rattle.std.proofs.lemmas.Bool.{eqb-true, leb-true, lt-ltb, ltb-true}
@@ -23,7 +23,7 @@ use Rattle.smk_world.specs.Calls.{in_folder, is_name, IsTextName, Stands, MaySta
 use Rattle.smk_world.specs.Trees.{Path, is_path_text}
 use Rattle.smk_store.specs.Loading.{store_folder}
 use Rattle.smk_store.specs.Unowned.{IsUnownedUnder}
-use Rattle.smk_store.specs.Walking.{after_sign, is_it, tells_of, all_tell_of, front_in, front_below, StandsIn, Walked}
+use Rattle.smk_store.specs.Walking.{after_sign, is_it, tells_of, all_tell_of, front_in, front_below, StandsIn, Walked, HasAll}
 use Rattle.smk_store.proofs.Standing.{tree_folder}
 use Rattle.smk_store.proofs.Walks.{flat, name_flat, name_join, split, Deeper, utf8_behind, utf8_before, bytes_behind, bytes_before, path_bytes, path_short, path_utf8, signed_text, signed_name, not_or_second}
 
@@ -316,3 +316,17 @@ all_taken names i done = take_all i names done
 -- the folder of the name that was walked, and its front
 pub walked_at : (nodes other : Path → NodeState) (folder folder2 front front2 : Path) (old new : Path → Bool) → other ≡ nodes → folder2 ≡ folder → front2 ≡ front → Walked other folder2 front2 old new → Walked nodes folder front old new
 walked_at nodes other folder folder2 front front2 old new e f h w = subst (λ t. Walked nodes folder t old new) h (subst (λ t. Walked nodes t front2 old new) f (subst (λ t. Walked t folder2 front2 old new) e w))
+
+-- what is found in a folder that is walked where nothing was found before
+pub all_by : (w : World) (folder : Path) (old new : Path → Bool) → Walked w.nodes folder [] old new → ((q : Path) → old q ≡ false) → HasAll w folder new
+all_by w folder old new walked none p path = by (new p) (is_some (reading (w.nodes (in_folder folder (name_of p))))) refl refl
+  where
+    by : (a b : Bool) → new p ≡ a → is_some (reading (w.nodes (in_folder folder (name_of p)))) ≡ b → new p ≡ is_some (reading (w.nodes (in_folder folder (name_of p))))
+    by true true e f = e ∙ sym f
+    by false false e f = e ∙ sym f
+    by false true e f = absurd (never_both (new p) (walked.complete p path f) e)
+    by true false e f =
+        elim (walked.sound p e) [
+          | inl before ↦ absurd (never_both (old p) before (none p))
+          | inr r ↦ absurd (never_both (is_some (reading (w.nodes (in_folder folder (name_of p))))) (subst (StandsIn w.nodes folder) (sym r.1) r.2) f)
+        ]

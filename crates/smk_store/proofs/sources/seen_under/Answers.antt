@@ -1,5 +1,4 @@
 use Rattle.std.proofs.Common.{◌≡◌, subst, ◌∙◌}
-use Rattle.smk_world.proofs.Devices.{looked_memory}
 use Rattle.smk_store.specs.Sources.{AreUnowned, first_seen, is_seen}
 use Rattle.smk_store.proofs.Looks.{if_ok}
 use Rattle.smk_store.proofs.Meaning.{all_free}
