@@ -1,6 +1,6 @@
 -- What is under a folder, name by name.
 use Rattle.std.proofs.Common.{◌≡◌, ℕ, ◌<◌, ◌≤◌, Bool, true, false, List, ◌∷◌, length, take, get_or, refl, sym, ap, subst, ◌∙◌, Some, None, arith, length-append}
-use Rattle.std.specs.Prelude.{All, IsSome, if◌then◌else◌}
+use Rattle.std.specs.Prelude.{All, if◌then◌else◌}
 use Rattle.std.proofs.lemmas.List.{take_all}
 use Rattle.std.proofs.lemmas.List.Elements.{All-get_or}
 use Rattle.std.proofs.lemmas.Bool.{leb-true}
@@ -9,7 +9,7 @@ use Rattle.smk_base.proofs.Under.{under_folder, under_further}
 use Rattle.smk_world.specs.declared.event.Listing.{Listing}
 use Rattle.smk_world.specs.declared.event.Name.{Name}
 use Rattle.smk_world.specs.declared.event.NodeState.{NodeState}
-use Rattle.smk_world.specs.World.{World, reading, reads_folder}
+use Rattle.smk_world.specs.World.{World}
 use Rattle.smk_world.specs.Calls.{in_folder, ListingIs}
 use Rattle.smk_world.specs.Trees.{Path, is_path_text}
 use Rattle.smk_store.specs.Images.{Image}
