@@ -127,7 +127,8 @@ pub fn sight<W: Files>(
     requires { AreReadings flow.now readings.now }
     ensures looked { HasLooked W.act (W.device work.old) (W.device work.new) (sight_failed result) }
 
-    // What it tells is so in the folder as it reads wherever it matters, and leads to the same reach and derivation.
+    // What it tells is so in the folder as it reads wherever it matters, and leads to the same reach and derivation: where what
+    // running children own is covered, as what is covered is no source.
     ensures told { IfOk result (λ sources. WhereTold (W.device work.old) (λ w. IsOwnedCovered w store.now
         → (read : Items ℕ → Option RecordValue) → IsStoreOf (seen read w) store.now
         → Suffices flow.now (sources_of (seen read w)) lists.now targets.now (told_by sources))) }
