@@ -37,6 +37,7 @@ use Rattle.smk_laws_plan.proofs.CurrentLists.{in_flat}
 use Rattle.smk_laws_plan.proofs.CurrentPaths.{among_in}
 use Rattle.smk_report.specs.declared.fault.Fault.{Fault}
 use Rattle.smk_report.specs.declared.fault.Fault.TheVariants as fault
+use Rattle.smk_report.specs.Lines.{Text}
 use Rattle.smk_plan.specs.declared.duty.Duty.{Duty}
 use Rattle.smk_run.specs.declared.tally.Tally.{Tally}
 use Rattle.smk_run.specs.Duties.{Due, due, due_from, serials}
