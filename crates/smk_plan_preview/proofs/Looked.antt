@@ -34,7 +34,8 @@ use Rattle.smk_plan.specs.declared.seen.Sight.{Sight}
 use Rattle.smk_plan.specs.Sights.{IsSeenOf}
 use Rattle.smk_plan_look.specs.Seeing.{look_failed, AreSeenUnowned}
 use Rattle.smk_plan_look.proofs.Images.{seen_of}
-use Rattle.smk_plan_preview.specs.Faults.{device_failed, is_told, is_device, is_sink, as_call, of_store, of_sight, of_look}
+use Rattle.smk_report.specs.Faults.{of_store}
+use Rattle.smk_plan_preview.specs.Faults.{device_failed, is_told, is_device, is_sink, as_call, of_sight, of_look}
 
 true_false : true ≡ false → ⊥
 true_false e = cc
