@@ -14,6 +14,8 @@ use std::alloc::{AllocError, Global};
 pub enum Made {
     Nothing,
     File,
+    /// A folder with nothing in it.
+    Empty,
     /// A folder with these in it: a name that ends in `/` is that of a folder.
     Folder(&'static [&'static str]),
     /// A folder with a file of this many bytes of name in it.
@@ -75,6 +77,7 @@ fn make_at(
     match made {
         Made::Nothing => Ok(()),
         Made::File => Ok(work.place(path, b"1", 1)?),
+        Made::Empty => Ok(work.make_parents(&place.within(alloc, "a")?)?),
         Made::Folder(names) => put_each(alloc, work, place, names),
         Made::Deep(len) => put(alloc, work, place, deep_name(alloc, len)?.as_str()),
     }
@@ -204,7 +207,7 @@ pub fn push_rows(alloc: Global, text: &mut String) -> Result<(), AllocError> {
             Kind::Folder,
             Made::Folder(&["b", "a/x", "a-b", "a/y/z", "c/"]),
         ),
-        ("an empty directory", Kind::Folder, Made::Folder(&["/"])),
+        ("an empty directory", Kind::Folder, Made::Empty),
         ("a name of 996 bytes", Kind::Folder, Made::Deep(996)),
         ("nothing", Kind::Plain, Made::Nothing),
         ("nothing for a directory", Kind::Folder, Made::Nothing),

@@ -1,3 +1,4 @@
 pub mod Folders
 mod Rows
 pub mod Inputs
+pub mod Heights

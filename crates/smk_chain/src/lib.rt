@@ -3,6 +3,9 @@
 
 mod fault;
 mod jobs;
+mod naming;
+pub mod sets;
 
 pub use fault::{ChainFault, SightFault};
 pub use jobs::{Jobs, Known, Listings, Maker};
+pub use naming::first_output;

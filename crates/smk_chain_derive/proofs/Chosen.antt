@@ -10,8 +10,9 @@ use Rattle.smk_flow.specs.declared.rule.FlaggedText.{FlaggedText}
 use Rattle.smk_flow.specs.Flows.{Flow, Candidate, outs, makes_folder, numbered}
 use Rattle.smk_choose.specs.Choose.{Sources, Choice, Source, Make, Nothing, Ambiguous, candidate, fit, as_member, as_output, or_else, is_apart, choose, maker}
 use Rattle.smk_choose.proofs.Picked.{chosen_candidate}
+use Rattle.smk_choose.proofs.Listed.{all_filter}
 use Rattle.smk_chain.specs.Derive.{Listings, wants, walk, chosen, same_candidate}
-use Rattle.smk_chain_derive.proofs.Lists.{OnSome, all_append, all_filter, all_flat, all_found, all_distinct}
+use Rattle.smk_chain_derive.proofs.Lists.{OnSome, all_append, all_flat, all_found, all_distinct}
 use Rattle.smk_chain_derive.proofs.Ordered.{NamesApart, binding_apart}
 
 -- a binding by one of these outputs

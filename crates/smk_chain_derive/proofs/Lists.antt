@@ -3,6 +3,7 @@ use Rattle.std.proofs.Common.{◌≡◌, Bool, true, false, cond, not, eqb-true,
 use Rattle.std.specs.Prelude.{nat_eq}
 use Rattle.std.specs.List.{flat_map, filter_map, cons_option, AllByRecursion}
 use Rattle.smk_chain.specs.Derive.{distinct}
+use Rattle.smk_choose.proofs.Listed.{all_filter}
 
 -- what there is has P
 abbrev pub OnSome : {A : Type 0} → (A → Type 0) → Option A → Type 0
@@ -12,18 +13,6 @@ OnSome P (Some x) = P x
 pub all_append : {A : Type 0} (P : A → Type 0) (xs ys : List A) → AllByRecursion P xs → AllByRecursion P ys → AllByRecursion P (xs ++ ys)
 all_append P [] ys a b = b
 all_append P (x ∷ xs) ys a b = (a.0, all_append P xs ys a.1 b)
-
-pub all_map : {A : Type 0} (P Q : A → Type 0) → ((x : A) → P x → Q x) → (xs : List A) → AllByRecursion P xs → AllByRecursion Q xs
-all_map P Q f [] h = tt
-all_map P Q f (x ∷ xs) h = (f x h.0, all_map P Q f xs h.1)
-
-pub all_filter : {A : Type 0} (P : A → Type 0) (test : A → Bool) (xs : List A) → AllByRecursion P xs → AllByRecursion P (filter test xs)
-all_filter P test [] h = tt
-all_filter P test (x ∷ xs) h = go (test x) (all_filter P test xs h.1)
-  where
-    go : (b : Bool) → AllByRecursion P (filter test xs) → AllByRecursion P (cond b (x ∷ filter test xs) (filter test xs))
-    go true rest = (h.0, rest)
-    go false rest = rest
 
 pub all_flat : {A B : Type 0} (P : B → Type 0) (f : A → List B) → ((x : A) → AllByRecursion P (f x)) → (xs : List A) → AllByRecursion P (flat_map f xs)
 all_flat P f h [] = tt
@@ -65,14 +54,6 @@ unfiltered P x p (y ∷ ys) h = go (nat_eq x y) refl (λ k. unfiltered P x p ys 
 pub of_distinct : (P : ℕ → Type 0) (xs : List ℕ) → AllByRecursion P (distinct nat_eq xs) → AllByRecursion P xs
 of_distinct P [] h = tt
 of_distinct P (x ∷ xs) h = (h.0, of_distinct P xs (unfiltered P x h.0 (distinct nat_eq xs) h.1))
-
-pub front_nil : {A : Type 0} (xs ys : List A) → xs ++ ys ≡ [] → xs ≡ []
-front_nil [] ys e = refl
-front_nil (x ∷ xs) ys e = absurd cc
-
-pub back_nil : {A : Type 0} (xs ys : List A) → xs ++ ys ≡ [] → ys ≡ []
-back_nil [] ys e = e
-back_nil (x ∷ xs) ys e = absurd cc
 
 pub map_nil : {A B : Type 0} (f : A → B) (xs : List A) → map f xs ≡ [] → xs ≡ []
 map_nil f [] e = refl

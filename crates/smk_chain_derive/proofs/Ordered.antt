@@ -14,7 +14,8 @@ use Rattle.smk_pattern.specs.Grammar.{Piece, plain, hole, limit_for, inline_limi
 use Rattle.smk_pattern.specs.Reading.{pieces, names_in, shape_of, is_below, put, by_name}
 use Rattle.smk_pattern.specs.Fitting.{bound_pairs}
 use Rattle.smk_pattern.specs.Bound.{bound, binding_of}
-use Rattle.smk_chain_derive.proofs.Lists.{OnSome, all_filter}
+use Rattle.smk_chain_derive.proofs.Lists.{OnSome}
+use Rattle.smk_choose.proofs.Listed.{all_filter}
 
 -- ## Byte order
 

@@ -1,5 +1,5 @@
 -- What is refused, in the order in which it is looked for.
-use Rattle.std.proofs.Common.{◌≡◌, Result, Ok, Err, IfOk, IfErr, ◌==◌, Bool, true, false, cond, List, [], ◌∷◌, ◌++◌, map, filter, Some, None, option_map, refl, sym, ap, ◌∙◌}
+use Rattle.std.proofs.Common.{◌≡◌, ◌==◌, Bool, true, false, cond, List, [], ◌∷◌, ◌++◌, map, filter, Some, None, option_map, refl, sym, ap, ◌∙◌}
 use Rattle.std.specs.List.{find, flat_map, AllByRecursion}
 use Rattle.smk_world.specs.Trees.{Path, first}
 use Rattle.smk_flow.specs.Flows.{Flow}
@@ -9,14 +9,6 @@ use Rattle.smk_chain.specs.declared.fault.ChainFault.{ChainFault}
 use Rattle.smk_chain.specs.declared.fault.ChainFault.TheVariants as told
 use Rattle.smk_chain.specs.Derive.{Listings, Refusal, Deep, height, refused, jobs, spots, clashes, job_refusals}
 use Rattle.smk_chain.specs.Told.{told_refusal, first_told, TellsFirst}
-
-pub if_ok : {A E : Type 0} (r : Result A E) (Q R : A → Type 0) → ((x : A) → Q x → R x) → IfOk r Q → IfOk r R
-if_ok (Ok x) Q R f q = f x q
-if_ok (Err e) Q R f q = tt
-
-pub if_err : {A E : Type 0} (r : Result A E) (Q R : E → Type 0) → ((e : E) → Q e → R e) → IfErr r Q → IfErr r R
-if_err (Ok x) Q R f q = tt
-if_err (Err e) Q R f q = f e q
 
 -- ## The first of some refusals
 

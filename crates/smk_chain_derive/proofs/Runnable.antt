@@ -20,9 +20,10 @@ use Rattle.smk_chain.specs.Derive.{Listings, wants, recipe, job, jobs, chosen, s
 use Rattle.smk_chain.proofs.Inputs.{inputs_each}
 use Rattle.smk_chain_derive.specs.Clashes.{clashes_in}
 use Rattle.smk_chain_walk.specs.Links.{maker_told, AreLower, number_for, befores_of, AreLinked}
+use Rattle.smk_chain_walk.proofs.Depths.{all_map, front_nil, back_nil}
 use Rattle.smk_plan.specs.Duties.{maker_in}
 use Rattle.smk_plan.specs.Runnable.{IsEarlier, IsRunnable, AreRunnableFrom, AreRunnable}
-use Rattle.smk_chain_derive.proofs.Lists.{OnSome, all_map, of_found, of_distinct, front_nil, back_nil, map_nil}
+use Rattle.smk_chain_derive.proofs.Lists.{OnSome, of_found, of_distinct, map_nil}
 use Rattle.smk_chain_derive.proofs.Spaced.{jobs_apart}
 use Rattle.smk_chain_derive.proofs.Ordered.{by_name_rising}
 use Rattle.smk_chain_derive.proofs.Chosen.{IsBound, all_bound}

@@ -2,6 +2,7 @@
 use Rattle.std.proofs.Common.{◌≡◌, ◌∙◌, Bool, true, false, cond, not, ◌||◌, List, [], ◌∷◌, ◌++◌, map, filter, refl, ap, ap₂, subst, append_assoc}
 use Rattle.std.specs.List.{flat_map, list_any}
 use Rattle.std.proofs.lemmas.List.{map-append}
+use Rattle.std.proofs.lemmas.Bool.{or_from}
 use Rattle.smk_base.specs.Path.{overlaps, is_under}
 use Rattle.smk_base.proofs.Places.{and_first, and_second, same_flipped}
 use Rattle.smk_base.proofs.Under.{both_true, false_of_not}
@@ -12,7 +13,8 @@ use Rattle.smk_flow.specs.declared.job.Job.{Job}
 use Rattle.smk_store.specs.Stores.{Known}
 use Rattle.smk_chain.specs.Derive.{Clash, spots}
 use Rattle.smk_chain_derive.specs.Clashes.{spot_paths, paths_in, hinders_in, clashes_in}
-use Rattle.smk_chain_derive.proofs.Lists.{front_nil, back_nil, map_nil}
+use Rattle.smk_chain_derive.proofs.Lists.{map_nil}
+use Rattle.smk_chain_walk.proofs.Depths.{front_nil, back_nil}
 
 abbrev Spot : Type 0
 Spot = Path × Bool
@@ -25,9 +27,6 @@ or_turned false false = refl
 
 overlaps_turned : (p q : Path) → overlaps p q ≡ overlaps q p
 overlaps_turned p q = ap₂ ◌||◌ (same_flipped p q) (or_turned (is_under p q) (is_under q p))
-
-neither : (a b : Bool) → a ≡ false → b ≡ false → (a || b) ≡ false
-neither a b h k = ap (λ v. v || b) h ∙ k
 
 first_not : (a b : Bool) → (a || b) ≡ false → a ≡ false
 first_not true b h = h
@@ -63,7 +62,7 @@ none_later store earlier s rest h =
 misses : (store : List Known) (before : List Path) (p : Path) (after : List Path) (ss : List Spot) → clashes_in store (before ++ p ∷ after) ss ≡ [] → list_any (overlaps p) (spot_paths ss) ≡ false
 misses store before p after [] h = refl
 misses store before p after (s ∷ ss) h =
-    neither (overlaps p s.0) (list_any (overlaps p) (spot_paths ss))
+    or_from (overlaps p s.0) (list_any (overlaps p) (spot_paths ss))
     (overlaps_turned p s.0 ∙ none_at (overlaps s.0) before p after (none_earlier store (before ++ p ∷ after) s ss h))
     (misses store before p (after ++ s.0 ∷ []) ss
     (subst (λ (e : List Path). clashes_in store e ss ≡ []) (append_assoc before (p ∷ after) (s.0 ∷ [])) (none_later store (before ++ p ∷ after) s ss h)))
@@ -77,7 +76,7 @@ spots_apart store earlier (s ∷ ss) h =
 any_front : (test : Path → Bool) (xs ys : List Path) → list_any test (xs ++ ys) ≡ false → list_any test xs ≡ false
 any_front test [] ys h = refl
 any_front test (x ∷ xs) ys h =
-    neither (test x) (list_any test xs) (first_not (test x) (list_any test (xs ++ ys)) h) (any_front test xs ys (second_not (test x) (list_any test (xs ++ ys)) h))
+    or_from (test x) (list_any test xs) (first_not (test x) (list_any test (xs ++ ys)) h) (any_front test xs ys (second_not (test x) (list_any test (xs ++ ys)) h))
 
 front_apart : (xs ys : List Path) → are_apart (xs ++ ys) ≡ true → are_apart xs ≡ true
 front_apart [] ys h = refl

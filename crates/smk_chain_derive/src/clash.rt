@@ -11,9 +11,10 @@ ghost use Rattle.smk_chain.specs.Derive.{spots, clashes};
 ghost use Rattle.smk_chain_derive.specs.Clashes.{clash_of, ListsKnown, paths_in, hinders_in, clashes_in, spot_paths};
 
 use crate::known::known_in;
-use crate::lookup::{has_other, put, set_of};
+use crate::lookup::has_other;
 use crate::spot::{Spot, spots_of};
 use smk_base::{List, OutOfMemory, PathText};
+use smk_chain::sets::{put, set_of};
 use smk_flow::Job;
 use smk_store::Store;
 use std::alloc::Global;

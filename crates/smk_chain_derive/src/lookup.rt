@@ -1,37 +1,13 @@
 //! Paths in a set, looked up by what they overlap.
 
-ghost use Rattle.std.specs.Prelude.{◌≡◌, ◌||◌, ◌++◌, ℕ, List as Items, ◌<◌, length, take, slice_index, IfOk, OnOk, bytes_eq, string_bytes, false, true};
+ghost use Rattle.std.specs.Prelude.{◌≡◌, ◌++◌, ℕ, List as Items, ◌<◌, length, take, slice_index, IfOk, bytes_eq, string_bytes, false, true};
 ghost use Rattle.std.specs.BTreeSet.{contains_text};
 ghost use Rattle.smk_base.specs.Path.{is_under, overlaps};
-ghost use Rattle.smk_world.specs.Trees.{Path, among};
+ghost use Rattle.smk_world.specs.Trees.{Path};
 
 use smk_base::{OutOfMemory, PathText};
 use std::alloc::{AllocError, Global};
 use std::collections::BTreeSet;
-
-/// Adds the path.
-pub(crate) fn put(
-    alloc: Global,
-    set: &mut BTreeSet<String>,
-    path: &PathText,
-) -> Result<(), OutOfMemory>
-    ensures { OnOk result ((q : Path) → contains_text set.new q ≡ (bytes_eq q path.now || contains_text set.old q)) }
-{
-    let text = String::from_str(alloc, path.as_str())?;
-    set.insert(text)?;
-    Ok(())
-}
-
-/// The set of the paths.
-pub(crate) fn set_of(alloc: Global, paths: &[PathText]) -> Result<BTreeSet<String>, OutOfMemory>
-    ensures { IfOk result (λ set. (q : Path) → contains_text set q ≡ among paths.now q) }
-{
-    let mut set = BTreeSet::new(alloc);
-    for path in paths {
-        put(alloc, &mut set, path)?;
-    }
-    Ok(set)
-}
 
 // Whether the text has a slash there, and the set what stands before it.
 fn has_front(set: &BTreeSet<String>, text: &str, i: usize) -> bool

@@ -12,7 +12,7 @@ use Rattle.smk_choose.specs.Choose.{Sources, Choice, Lack, Source, choice, leade
 use Rattle.smk_choose.proofs.Picked.{chosen_candidate, chosen_no_source}
 use Rattle.smk_store.specs.Images.{Image}
 use Rattle.smk_chain.specs.Derive.{Listings, gathered_files, wants, wanted_paths, distinct, walk, height, Refusal, NoInput, Deep, refused_at, refused, next, reach, spots, clashes, same_candidate, jobs, job, job_refusals, outcome}
-use Rattle.smk_chain_sight.specs.Sight.{fitting, places, SameAt, SameAround, SameOnReach}
+use Rattle.smk_chain_sight.specs.Sight.{fitting, places, SameAt, SameAround, SameOnReach, IsSmall, Suffices}
 
 -- ## Members of lists
 
@@ -482,7 +482,7 @@ reach_at flow S T L targets (suc k) d all same =
     (all_of_each (λ p. next flow T L p ≡ next flow S L p) (reach flow S L d targets)
     (λ p h. next_same flow S T L p (all_in (SameAround flow S T) (reach flow S L (more k (suc d)) targets) p all (further_in flow S L targets k (suc d) p (nearer_in flow S L targets d p h)))))))
 
-pub reach_same : (flow : Flow) (S T : Sources) (L : Listings) (targets : List Path) → SameOnReach flow S L targets T → reach flow T L 400 targets ≡ reach flow S L 400 targets
+reach_same : (flow : Flow) (S T : Sources) (L : Listings) (targets : List Path) → SameOnReach flow S L targets T → reach flow T L 400 targets ≡ reach flow S L 400 targets
 reach_same flow S T L targets all = by 400 levels all
   where
     levels : 400 ≡ more 400 0
@@ -526,3 +526,13 @@ module _ (flow : Flow) (S T : Sources) (L : Listings) (targets : List Path) (all
       ∙ outcome_same (map Deep (filter (λ p. height flow S L 201 p == 201) targets)) (flat_map (refused flow S L 201) targets)
       (clashes image [] (flat_map spots (jobs flow T L targets))) (clashes image [] (flat_map spots (jobs flow S L targets))) (jobs flow T L targets) (jobs flow S L targets)
       (λ none. (ap (λ js. clashes image [] (flat_map spots js)) (jobs_same none), jobs_same none))
+
+-- what tells the same on the reach suffices, where the reach isn't too large
+pub suffices : (flow : Flow) (S T : Sources) (L : Listings) (targets : List Path) → SameOnReach flow S L targets T → IsSmall flow S L targets → Suffices flow S L targets T
+suffices flow S T L targets same small =
+    record {
+      few = small;
+      same = same;
+      same_reach = reach_same flow S T L targets same;
+      same_derivation = derived_same flow S T L targets (targets_good flow S T L targets same);
+    }

@@ -1,12 +1,13 @@
 -- What is told, call after call.
-use Rattle.std.proofs.Common.{◌≡◌, ◌≢◌, ℕ, Bool, true, false, List, [], ◌∷◌, map, refl, sym, ap, subst, ◌∙◌, Option, Some, Result, Ok, Err}
+use Rattle.std.proofs.Common.{◌≡◌, ◌≢◌, ℕ, Bool, true, false, List, [], ◌∷◌, map, refl, sym, ap, subst, ◌∙◌, Some, Result, Ok, Err}
 use Rattle.std.specs.Prelude.{if◌then◌else◌, OnOk, IfErr}
 use Rattle.std.specs.List.{AllByRecursion}
 use Rattle.smk_base.specs.Path.{is_path}
-use Rattle.smk_world.specs.World.{World}
 use Rattle.smk_world.specs.declared.event.NodeState.{NodeState}
 use Rattle.smk_world.specs.declared.event.NodeState.TheVariants.{Owned}
+use Rattle.smk_world.specs.Devices.{Device, HasLooked}
 use Rattle.smk_world.specs.Trees.{Path, Act, is_path_text}
+use Rattle.smk_world.proofs.Devices.{still}
 use Rattle.smk_pattern.specs.Shapes.{Text}
 use Rattle.smk_flow.specs.Flows.{Flow, Candidate}
 use Rattle.smk_choose.specs.declared.sources.Standing.{Standing}
@@ -18,9 +19,7 @@ use Rattle.smk_choose.specs.Finding.{places_in, places_by}
 use Rattle.smk_choose.proofs.Listed.{Placed, listed_placed}
 use Rattle.smk_store.specs.Images.{Image}
 use Rattle.smk_store.specs.Stores.{Known}
-use Rattle.smk_store.specs.Walking.{HasLooked}
-use Rattle.smk_store.proofs.Looks.{still}
-use Rattle.smk_chain.specs.declared.fault.SightFault.TheVariants.{TooManyPaths, Device, OutOfMemory as MemoryFault}
+use Rattle.smk_chain.specs.declared.fault.SightFault.TheVariants.{TooManyPaths, Device as DeviceFault, OutOfMemory as MemoryFault}
 use Rattle.smk_chain.specs.Derive.{sources_of}
 use Rattle.smk_chain_sight.specs.declared.telling.Eye.{Eye}
 use Rattle.smk_chain_sight.specs.Sight.{fitting, places, SameAt, SameAround}
@@ -30,17 +29,16 @@ use Rattle.smk_chain_sight.proofs.Agree.{all_weaker, candidates_same}
 
 -- ## One call after another
 
-pub told_nothing : (a : Option World) (store : List Known) (x : Eye) → HasTold a store x x
-told_nothing a store x = record { keeps = λ q s h. h; stays = λ w image at v t. t }
+pub told_nothing : (a : Device) (store : List Known) (x : Eye) → HasTold a store x x
+told_nothing a store x = record { keeps = λ q s h. h; stays = λ w at image v t. t }
 
-pub told_then : (act : Act) (a b : Option World) (fa fb : ℕ) (ra rb : List ℕ) (F : Type 0) (store : List Known) (x y z : Eye) → HasLooked act a b fa fb ra rb F → ¬ F
-    → HasTold a store x y → HasTold b store y z → HasTold a store x z
-told_then act a b fa fb ra rb F store x y z looked quiet first second =
+pub told_then : {act : Act} {a b : Device} {store : List Known} {x y z : Eye} → HasLooked act a b false → HasTold a store x y → HasTold b store y z → HasTold a store x z
+told_then {store = store} looked first second =
     record {
       keeps = λ q s h. second.keeps q s (first.keeps q s h);
-      stays = λ w image at v t.
-          let u = still act a b fa fb ra rb F w looked quiet at in
-          second.stays u.0 image u.1 (subst (λ (n : Path → NodeState). Viewed n store image) (sym u.2) v) (first.stays w image at v t);
+      stays = λ w at image v t.
+          let u = still w looked at in
+          second.stays u.0 u.1 image (subst (λ (n : Path → NodeState). Viewed n store image) (sym u.2) v) (first.stays w at image v t);
     }
 
 pub viewed_still : (a b : Path → NodeState) (store : List Known) (image : Image) → b ≡ a → Viewed a store image → Viewed b store image
@@ -148,11 +146,6 @@ pub on_ok : {T E : Type 0} (r : Result T E) (P Q : Type 0) → (P → Q) → OnO
 on_ok (Ok t) P Q more h = more h
 on_ok (Err e) P Q more h = h
 
-pub on_told : {T E : Type 0} (act : Act) (a b : Option World) (fa fb : ℕ) (ra rb : List ℕ) (F : Type 0) (store : List Known) (x y z : Eye) (r : Result T E) → HasLooked act a b fa fb ra rb F → ¬ F
-    → HasTold a store x y → OnOk r (HasTold b store y z) → OnOk r (HasTold a store x z)
-on_told act a b fa fb ra rb F store x y z r looked quiet first second =
-    on_ok r (HasTold b store y z) (HasTold a store x z) (λ h. told_then act a b fa fb ra rb F store x y z looked quiet first h) second
-
 never_path : (b : Bool) (P : Type 0) → b ≡ false → b ≡ true → P
 never_path true P e h = absurd (wrong e)
   where
@@ -176,5 +169,5 @@ if_err (Err e) P Q more h = more e h
 pub same_count : (a b : ℕ) → TooManyPaths a ≡ TooManyPaths b → a ≡ b
 same_count a b e = cc
 
-pub never_device : (count : ℕ) → Device ≡ TooManyPaths count → ⊥
+pub never_device : (count : ℕ) → DeviceFault ≡ TooManyPaths count → ⊥
 never_device count e = cc

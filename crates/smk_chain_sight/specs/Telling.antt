@@ -1,5 +1,5 @@
 -- What is told of the sources in a working folder, and of which paths.
-use Rattle.std.specs.Prelude.{◌≡◌, true, false, List, [], Option, Some, if◌then◌else◌}
+use Rattle.std.specs.Prelude.{◌≡◌, true, false, List, [], Some, if◌then◌else◌}
 use Rattle.std.specs.List.{AllByRecursion}
 use Rattle.smk_base.specs.Path.{is_path}
 use Rattle.smk_world.specs.Trees.{Path}
@@ -8,7 +8,7 @@ use Rattle.smk_flow.specs.Flows.{Flow, Candidate}
 use Rattle.smk_choose.specs.declared.sources.Standing.{Standing}
 use Rattle.smk_choose.specs.Choose.{Sources, candidates}
 use Rattle.smk_choose.specs.Told.{standing_of, told_by}
-use Rattle.smk_world.specs.World.{World}
+use Rattle.smk_world.specs.Devices.{Device, WhereTold}
 use Rattle.smk_store.specs.Images.{Image}
 use Rattle.smk_store.specs.Stores.{Known}
 use Rattle.smk_chain_sight.specs.declared.telling.Eye.{Eye}
@@ -29,9 +29,9 @@ abbrev pub Keeps : Eye → Eye → Type 0
 Keeps old new = (q : Path) (s : Standing) → standing_of old.sources q ≡ Some s → standing_of new.sources q ≡ Some s
 
 -- In this world, whose files these calls began with, what was told was kept, and what was true stayed so.
-pub record HasTold (begun : Option World) (store : List Known) (old new : Eye) : Type 0 where
+pub record HasTold (begun : Device) (store : List Known) (old new : Eye) : Type 0 where
   pub keeps : Keeps old new
-  pub stays : (w : World) (image : Image) → begun ≡ Some w → Viewed w.nodes store image → IsTrue image old → IsTrue image new
+  pub stays : WhereTold begun (λ w. (image : Image) → Viewed w.nodes store image → IsTrue image old → IsTrue image new)
 
 -- so it is of the paths at which the jobs that fit the path by name write
 abbrev pub ArePlacesListed : Flow → Eye → Path → Type 0

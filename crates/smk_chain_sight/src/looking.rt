@@ -1,23 +1,21 @@
 //! Looking at the working folder for some targets.
 
-ghost use Rattle.std.specs.Prelude.{◌≡◌, ◌<◌, ◌≤◌, [], ℕ, List as Items, Option, Some, IsErrOf, IfOk, IfErr, IsSome, bytes_eq};
-ghost use Rattle.smk_world.specs.World.{World};
-ghost use Rattle.smk_world.specs.Calls.{HasCause};
-ghost use Rattle.smk_world.specs.Runs.{Did};
+ghost use Rattle.std.specs.Prelude.{◌≡◌, ◌<◌, ◌≤◌, [], ℕ, List as Items, Option, false, IfOk, IfErr, bytes_eq};
+ghost use Rattle.smk_world.specs.Calls.{device_failed};
+ghost use Rattle.smk_world.specs.Devices.{HasLooked, WhereTold};
 ghost use Rattle.smk_record.specs.declared.record.Record.{Record as RecordValue};
 ghost use Rattle.smk_store.specs.Images.{seen, Image};
-ghost use Rattle.smk_store.specs.Loading.{IsStoreOf, AreLooks};
-ghost use Rattle.smk_store.specs.Walking.{HasLooked};
+ghost use Rattle.smk_store.specs.Loading.{IsStoreOf};
 ghost use Rattle.smk_choose.specs.Index.{AreReadings};
 ghost use Rattle.smk_choose.specs.Told.{told_by};
-ghost use Rattle.smk_chain.specs.Derive.{sources_of, distinct, reach, jobs, job_refusals, outcome};
-ghost use Rattle.smk_chain_sight.specs.Sight.{SameOnReach, TellsReach, IsLarge, IsSmall};
+ghost use Rattle.smk_chain.specs.Derive.{sources_of, distinct};
+ghost use Rattle.smk_chain_sight.specs.Sight.{Suffices, TellsReach, IsLarge, sight_failed};
 ghost use Rattle.smk_chain_sight.specs.Viewing.{Viewed};
 ghost use Rattle.smk_chain_sight.specs.Telling.{IsTrue};
 ghost use Rattle.smk_chain_sight.specs.Reaching.{AreKept};
 ghost use Rattle.smk_chain_sight.specs.Disk.{IsOnDisk};
 
-use crate::reaching::{LIMIT, Paths, add_paths, count, spread};
+use crate::reaching::{Ground, LIMIT, Paths, add_paths, count, spread};
 use crate::telling::Eye;
 use smk_base::{List, OutOfMemory, PathText};
 use smk_chain::{Listings, SightFault};
@@ -78,16 +76,20 @@ fn look_around<W: Files>(
     work: &mut W,
 ) -> Result<View, WorkFault>
     requires { AreReadings flow.now readings.now }
-    ensures looked { HasLooked W.act (W.world work.old) (W.world work.new) (W.faults work.old) (W.faults work.new) (W.running work.old) (W.running work.new) (IsErrOf result WorkFault.Failed) }
-    ensures told { IfOk result (λ view. (w : World) (image : Image) → W.world work.old ≡ Some w → Viewed w.nodes store.now image
-        → TellsReach flow.now (sources_of image) lists.now targets.now (told_by view.sources) view.count) }
+    ensures looked { HasLooked W.act (W.device work.old) (W.device work.new) (device_failed result) }
+    ensures told { IfOk result (λ view. WhereTold (W.device work.old) (λ w. (image : Image) → Viewed w.nodes store.now image
+        → TellsReach flow.now (sources_of image) lists.now targets.now (told_by view.sources) view.count)) }
 {
     let guide = Guide::of(alloc, readings, lists)?;
     let mut found = started(alloc, targets)?;
     let mut eye = no_eye(alloc);
-    spread(
-        alloc, flow, lists, &guide, store, work, &mut eye, &mut found, 0, 400,
-    )?;
+    let ground = Ground {
+        flow,
+        lists,
+        guide: &guide,
+        store,
+    };
+    spread(alloc, &ground, work, &mut eye, &mut found, 0, 400)?;
     Ok(View {
         sources: eye.sources,
         count: count(&found),
@@ -97,7 +99,7 @@ fn look_around<W: Files>(
 // What is told, unless there are too many paths.
 fn sources_in(view: View) -> Result<Sources, SightFault>
     ensures ok { IfOk result (λ sources. (sources ≡ view.sources) × (view.count ≤ 100000)) }
-    ensures quiet { ¬ (IsErrOf result SightFault.Device) }
+    ensures quiet { sight_failed result ≡ false }
     ensures fault { IfErr result (λ fault. (fault ≡ SightFault.TooManyPaths view.count) × (100000 < view.count)) }
 {
     if view.count > LIMIT {
@@ -123,33 +125,17 @@ pub fn sight<W: Files>(
     work: &mut W,
 ) -> Result<Sources, SightFault>
     requires { AreReadings flow.now readings.now }
-    ensures did { Did W.act (W.world work.old) (W.world work.new) (λ w es. AreLooks es) }
+    ensures looked { HasLooked W.act (W.device work.old) (W.device work.new) (sight_failed result) }
 
-    // Of the paths that count it tells what is so in the folder as it reads.
-    ensures told { IfOk result (λ sources. (w : World) → W.world work.old ≡ Some w → IsOnDisk w
+    // What it tells is so in the folder as it reads wherever it matters, and leads to the same reach and derivation.
+    ensures told { IfOk result (λ sources. WhereTold (W.device work.old) (λ w. IsOnDisk w
         → (read : Items ℕ → Option RecordValue) → IsStoreOf (seen read w) store.now
-        → SameOnReach flow.now (sources_of (seen read w)) lists.now targets.now (told_by sources)) }
-
-    // The reach is the same by what is told, and so is the derivation: the jobs, or the first of what is refused of them.
-    ensures same_reach { IfOk result (λ sources. (w : World) → W.world work.old ≡ Some w → IsOnDisk w
-        → (read : Items ℕ → Option RecordValue) → IsStoreOf (seen read w) store.now
-        → reach flow.now (told_by sources) lists.now 400 targets.now ≡ reach flow.now (sources_of (seen read w)) lists.now 400 targets.now) }
-    ensures same_derivation { IfOk result (λ sources. (w : World) → W.world work.old ≡ Some w → IsOnDisk w
-        → (read : Items ℕ → Option RecordValue) → IsStoreOf (seen read w) store.now → (image : Image)
-        → outcome (job_refusals flow.now (told_by sources) image lists.now targets.now) (jobs flow.now (told_by sources) lists.now targets.now)
-        ≡ outcome (job_refusals flow.now (sources_of (seen read w)) image lists.now targets.now) (jobs flow.now (sources_of (seen read w)) lists.now targets.now)) }
+        → Suffices flow.now (sources_of (seen read w)) lists.now targets.now (told_by sources))) }
 
     // The reach has more than 100,000 paths just where that is the fault.
-    ensures few { IfOk result (λ sources. (w : World) → W.world work.old ≡ Some w → IsOnDisk w
+    ensures too_many { IfErr result (λ fault. (count : ℕ) → fault ≡ SightFault.TooManyPaths count → (100000 < count) × WhereTold (W.device work.old) (λ w. IsOnDisk w
         → (read : Items ℕ → Option RecordValue) → IsStoreOf (seen read w) store.now
-        → IsSmall flow.now (sources_of (seen read w)) lists.now targets.now) }
-    ensures too_many { IfErr result (λ fault. (count : ℕ) → fault ≡ SightFault.TooManyPaths count → (w : World) → W.world work.old ≡ Some w → IsOnDisk w
-        → (read : Items ℕ → Option RecordValue) → IsStoreOf (seen read w) store.now
-        → IsLarge flow.now (sources_of (seen read w)) lists.now targets.now) }
-    ensures count { IfErr result (λ fault. (count : ℕ) → fault ≡ SightFault.TooManyPaths count → 100000 < count) }
-    ensures stays { ¬ (IsErrOf result SightFault.Device) → IsSome (W.world work.old) → IsSome (W.world work.new) }
-    ensures device { HasCause (W.faults work.old) (W.faults work.new) (IsErrOf result SightFault.Device) }
-    ensures running { W.running work.new ≡ W.running work.old }
+        → IsLarge flow.now (sources_of (seen read w)) lists.now targets.now)) }
 {
     match look_around(alloc, flow, readings, store, lists, targets, work) {
         Ok(view) => sources_in(view),

@@ -1,12 +1,13 @@
 //! The paths of a reach, level by level.
 
-ghost use Rattle.std.specs.Prelude.{◌≡◌, ◌<◌, ◌≤◌, ◌++◌, ◌∷◌, [], ◌||◌, ℕ, nat_lt, length, take, drop, bytes_eq, IsErrOf, IfOk, OnOk};
+ghost use Rattle.std.specs.Prelude.{◌≡◌, ◌<◌, ◌≤◌, ◌++◌, ◌∷◌, [], ◌||◌, ℕ, nat_lt, length, take, drop, bytes_eq, IfOk, OnOk};
 ghost use Rattle.std.specs.BTreeSet.{contains_text};
 ghost use Rattle.std.specs.List.{AllByRecursion, flat_map};
+ghost use Rattle.smk_world.specs.Calls.{device_failed};
+ghost use Rattle.smk_world.specs.Devices.{HasLooked};
 ghost use Rattle.smk_world.specs.Trees.{Path};
 ghost use Rattle.smk_choose.specs.Choose.{Sources as Known};
 ghost use Rattle.smk_choose.specs.Index.{AreReadings};
-ghost use Rattle.smk_store.specs.Walking.{HasLooked};
 ghost use Rattle.smk_chain.specs.Derive.{distinct, next};
 ghost use Rattle.smk_choose_wants.specs.Guides.{IsGuide};
 ghost use Rattle.smk_choose_wants.specs.Wants.{ArePlaces};
@@ -32,6 +33,16 @@ pub(crate) const LIMIT: usize = 100_000;
 pub(crate) struct Paths {
     pub(crate) known: BTreeSet<String>,
     pub(crate) paths: Vec<PathText>,
+}
+
+/// What the paths of a reach are told of by.
+#[derive(Drop)]
+pub(crate) struct Ground<'a> {
+    pub(crate) flow: &'a Workflow,
+    pub(crate) lists: &'a Listings,
+    /// What was read of the rules, and where the listings stand.
+    pub(crate) guide: &'a Guide<'a>,
+    pub(crate) store: &'a Store,
 }
 
 // Keeps the path's text.
@@ -164,49 +175,58 @@ fn add_jobs(
 // Tells of the path and of where the jobs that fit it write, and adds what its candidates want.
 fn step<W: Files>(
     alloc: Global,
-    flow: &Workflow,
-    lists: &Listings,
-    guide: &Guide<'_>,
-    store: &Store,
+    ground: &Ground<'_>,
     work: &mut W,
     eye: &mut Eye,
     found: &mut Paths,
     path: &PathText,
 ) -> Result<(), WorkFault>
     requires kept { AreKept found.old }
-    requires guide { IsGuide flow.now lists.now guide.now }
-    ensures looked { HasLooked W.act (W.world work.old) (W.world work.new) (W.faults work.old) (W.faults work.new) (W.running work.old) (W.running work.new) (IsErrOf result WorkFault.Failed) }
-    ensures told { OnOk result (HasTold (W.world work.old) store.now eye.old eye.new) }
-    ensures listed { OnOk result (IsListedAround flow.now eye.new path.now) }
+    requires guide { IsGuide ground.now.flow.now ground.now.lists.now ground.now.guide.now }
+    ensures looked { HasLooked W.act (W.device work.old) (W.device work.new) (device_failed result) }
+    ensures told { OnOk result (HasTold (W.device work.old) ground.now.store.now eye.old eye.new) }
+    ensures listed { OnOk result (IsListedAround ground.now.flow.now eye.new path.now) }
     ensures kept { OnOk result (AreKept found.new) }
-    ensures added { OnOk result ((S : Known) → Says eye.new S → found.new.paths.items ≡ distinct bytes_eq (found.old.paths.items ++ next flow.now S lists.now path.now)) }
+    ensures added { OnOk result ((S : Known) → Says eye.new S → found.new.paths.items ≡ distinct bytes_eq (found.old.paths.items ++ next ground.now.flow.now S ground.now.lists.now path.now)) }
 {
-    let jobs = tell_around(alloc, flow, guide.readings, store, work, eye, path)?;
-    add_jobs(alloc, flow, lists, &guide.places, found, &jobs)?;
+    let jobs = tell_around(
+        alloc,
+        ground.flow,
+        ground.guide.readings,
+        ground.store,
+        work,
+        eye,
+        path,
+    )?;
+    add_jobs(
+        alloc,
+        ground.flow,
+        ground.lists,
+        &ground.guide.places,
+        found,
+        &jobs,
+    )?;
     Ok(())
 }
 
 // Tells of each of these paths, and adds what their candidates want, unless there are too many paths.
 fn level<W: Files>(
     alloc: Global,
-    flow: &Workflow,
-    lists: &Listings,
-    guide: &Guide<'_>,
-    store: &Store,
+    ground: &Ground<'_>,
     work: &mut W,
     eye: &mut Eye,
     found: &mut Paths,
     fresh: &[PathText],
 ) -> Result<(), WorkFault>
     requires kept { AreKept found.old }
-    requires guide { IsGuide flow.now lists.now guide.now }
-    ensures looked { HasLooked W.act (W.world work.old) (W.world work.new) (W.faults work.old) (W.faults work.new) (W.running work.old) (W.running work.new) (IsErrOf result WorkFault.Failed) }
-    ensures told { OnOk result (HasTold (W.world work.old) store.now eye.old eye.new) }
+    requires guide { IsGuide ground.now.flow.now ground.now.lists.now ground.now.guide.now }
+    ensures looked { HasLooked W.act (W.device work.old) (W.device work.new) (device_failed result) }
+    ensures told { OnOk result (HasTold (W.device work.old) ground.now.store.now eye.old eye.new) }
     ensures kept { OnOk result (AreKept found.new) }
-    ensures advanced { OnOk result (Advanced flow.now lists.now eye.new fresh.now found.old.paths.items found.new.paths.items) }
+    ensures advanced { OnOk result (Advanced ground.now.flow.now ground.now.lists.now eye.new fresh.now found.old.paths.items found.new.paths.items) }
 {
     for path in fresh {
-        step(alloc, flow, lists, guide, store, work, eye, found, path)?;
+        step(alloc, ground, work, eye, found, path)?;
         if is_over(found) {
             return Ok(());
         }
@@ -225,8 +245,8 @@ fn last<W: Files>(
     fresh: &[PathText],
 ) -> Result<(), WorkFault>
     requires readings { AreReadings flow.now readings.now }
-    ensures looked { HasLooked W.act (W.world work.old) (W.world work.new) (W.faults work.old) (W.faults work.new) (W.running work.old) (W.running work.new) (IsErrOf result WorkFault.Failed) }
-    ensures told { OnOk result (HasTold (W.world work.old) store.now eye.old eye.new) }
+    ensures looked { HasLooked W.act (W.device work.old) (W.device work.new) (device_failed result) }
+    ensures told { OnOk result (HasTold (W.device work.old) store.now eye.old eye.new) }
     ensures listed { OnOk result (AllByRecursion (IsListedAround flow.now eye.new) fresh.now) }
 {
     for path in fresh {
@@ -259,10 +279,7 @@ fn copies_from(alloc: Global, found: &Paths, from: usize) -> Result<Vec<PathText
 /// want was added. It ends before that where no path is added, or where there are too many.
 pub(crate) fn spread<W: Files>(
     alloc: Global,
-    flow: &Workflow,
-    lists: &Listings,
-    guide: &Guide<'_>,
-    store: &Store,
+    ground: &Ground<'_>,
     work: &mut W,
     eye: &mut Eye,
     found: &mut Paths,
@@ -270,26 +287,34 @@ pub(crate) fn spread<W: Files>(
     levels: u32,
 ) -> Result<(), WorkFault>
     requires kept { AreKept found.old }
-    requires guide { IsGuide flow.now lists.now guide.now }
+    requires guide { IsGuide ground.now.flow.now ground.now.lists.now ground.now.guide.now }
     requires within { from ≤ length found.old.paths.items }
-    requires listed { AllByRecursion (IsListedAround flow.now eye.old) (take from found.old.paths.items) }
-    requires closed { (S : Known) → Says eye.old S → Closed flow.now S lists.now from found.old.paths.items }
-    ensures looked { HasLooked W.act (W.world work.old) (W.world work.new) (W.faults work.old) (W.faults work.new) (W.running work.old) (W.running work.new) (IsErrOf result WorkFault.Failed) }
-    ensures told { OnOk result (HasTold (W.world work.old) store.now eye.old eye.new) }
-    ensures listed { OnOk result (length found.new.paths.items ≤ 100000 → AllByRecursion (IsListedAround flow.now eye.new) found.new.paths.items) }
+    requires listed { AllByRecursion (IsListedAround ground.now.flow.now eye.old) (take from found.old.paths.items) }
+    requires closed { (S : Known) → Says eye.old S → Closed ground.now.flow.now S ground.now.lists.now from found.old.paths.items }
+    ensures looked { HasLooked W.act (W.device work.old) (W.device work.new) (device_failed result) }
+    ensures told { OnOk result (HasTold (W.device work.old) ground.now.store.now eye.old eye.new) }
+    ensures listed { OnOk result (length found.new.paths.items ≤ 100000 → AllByRecursion (IsListedAround ground.now.flow.now eye.new) found.new.paths.items) }
     ensures whole { OnOk result ((S : Known) → Says eye.new S → length found.new.paths.items ≤ 100000
-        → found.new.paths.items ≡ grown flow.now S lists.now levels found.old.paths.items) }
+        → found.new.paths.items ≡ grown ground.now.flow.now S ground.now.lists.now levels found.old.paths.items) }
     ensures many { OnOk result ((S : Known) → Says eye.new S → 100000 < length found.new.paths.items
-        → 100000 < length (grown flow.now S lists.now levels found.old.paths.items)) }
+        → 100000 < length (grown ground.now.flow.now S ground.now.lists.now levels found.old.paths.items)) }
 {
     let end = count(found);
     let fresh = copies_from(alloc, found, from)?;
     let paths: &[PathText] = &fresh;
     if levels == 0 {
-        last(alloc, flow, guide.readings, store, work, eye, paths)?;
+        last(
+            alloc,
+            ground.flow,
+            ground.guide.readings,
+            ground.store,
+            work,
+            eye,
+            paths,
+        )?;
         return Ok(());
     }
-    level(alloc, flow, lists, guide, store, work, eye, found, paths)?;
+    level(alloc, ground, work, eye, found, paths)?;
     if is_over(found) {
         return Ok(());
     }
@@ -297,17 +322,6 @@ pub(crate) fn spread<W: Files>(
     if now == end {
         return Ok(());
     }
-    spread(
-        alloc,
-        flow,
-        lists,
-        guide,
-        store,
-        work,
-        eye,
-        found,
-        end,
-        levels - 1,
-    )?;
+    spread(alloc, ground, work, eye, found, end, levels - 1)?;
     Ok(())
 }

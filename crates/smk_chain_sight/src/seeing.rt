@@ -1,12 +1,14 @@
 //! Looking at one path: whether it is a source, and whether it holds one.
 
-ghost use Rattle.std.specs.Prelude.{◌≡◌, ◌++◌, ◌∷◌, true, false, Some, IsErrOf, IfOk, OnOk, bytes_eq, if◌then◌else◌};
+ghost use Rattle.std.specs.Prelude.{◌≡◌, ◌++◌, ◌∷◌, true, false, Some, IfOk, OnOk, bytes_eq, if◌then◌else◌};
 ghost use Rattle.std.specs.BTreeMap.{get_by_text};
 ghost use Rattle.std.specs.List.{list_any};
-ghost use Rattle.smk_world.specs.World.{World, folders_above};
+ghost use Rattle.smk_world.specs.World.{folders_above};
+ghost use Rattle.smk_world.specs.Calls.{device_failed};
+ghost use Rattle.smk_world.specs.Devices.{HasLooked, WhereTold};
 ghost use Rattle.smk_world.specs.Trees.{Path, is_path_text};
 ghost use Rattle.smk_store.specs.Images.{Image, is_source, holds_source};
-ghost use Rattle.smk_store.specs.Walking.{HasLooked, path_in};
+ghost use Rattle.smk_store.specs.Walking.{path_in};
 ghost use Rattle.smk_chain_sight.specs.Viewing.{Viewed, NoneUnder, TellsUnder, IsSighted, AreSighted, IsStanding, by_stat};
 
 use smk_base::{OutOfMemory, PathFault, PathText, Place};
@@ -50,9 +52,9 @@ fn look<W: Files>(
     work: &mut W,
     path: &PathText,
 ) -> Result<Sighted, WorkFault>
-    ensures looked { HasLooked W.act (W.world work.old) (W.world work.new) (W.faults work.old) (W.faults work.new) (W.running work.old) (W.running work.new) (IsErrOf result WorkFault.Failed) }
-    ensures told { IfOk result (λ s. (w : World) (image : Image) → W.world work.old ≡ Some w → Viewed w.nodes store.now image
-        → is_path_text path.now ≡ true → IsSighted image path.now s) }
+    ensures looked { HasLooked W.act (W.device work.old) (W.device work.new) (device_failed result) }
+    ensures told { IfOk result (λ s. WhereTold (W.device work.old) (λ w. (image : Image) → Viewed w.nodes store.now image
+        → is_path_text path.now ≡ true → IsSighted image path.now s)) }
 {
     if store.covered(path) {
         return Ok(Sighted {
@@ -96,9 +98,9 @@ fn seen_at<W: Files>(
     path: &PathText,
 ) -> Result<Sighted, WorkFault>
     ensures text { is_path_text path.now ≡ true }
-    ensures looked { HasLooked W.act (W.world work.old) (W.world work.new) (W.faults work.old) (W.faults work.new) (W.running work.old) (W.running work.new) (IsErrOf result WorkFault.Failed) }
-    ensures told { IfOk result (λ s. (w : World) (image : Image) → W.world work.old ≡ Some w → Viewed w.nodes store.now image
-        → AreSighted image seen.old → IsSighted image path.now s × AreSighted image seen.new) }
+    ensures looked { HasLooked W.act (W.device work.old) (W.device work.new) (device_failed result) }
+    ensures told { IfOk result (λ s. WhereTold (W.device work.old) (λ w. (image : Image) → Viewed w.nodes store.now image
+        → AreSighted image seen.old → IsSighted image path.now s × AreSighted image seen.new)) }
 {
     let text = text_of(path);
     match seen.get(text) {
@@ -122,9 +124,9 @@ fn any_source<W: Files>(
     seen: &mut BTreeMap<String, Sighted>,
     paths: &[PathText],
 ) -> Result<bool, WorkFault>
-    ensures looked { HasLooked W.act (W.world work.old) (W.world work.new) (W.faults work.old) (W.faults work.new) (W.running work.old) (W.running work.new) (IsErrOf result WorkFault.Failed) }
-    ensures told { IfOk result (λ found. (w : World) (image : Image) → W.world work.old ≡ Some w → Viewed w.nodes store.now image
-        → AreSighted image seen.old → (found ≡ list_any (is_source image) paths.now) × AreSighted image seen.new) }
+    ensures looked { HasLooked W.act (W.device work.old) (W.device work.new) (device_failed result) }
+    ensures told { IfOk result (λ found. WhereTold (W.device work.old) (λ w. (image : Image) → Viewed w.nodes store.now image
+        → AreSighted image seen.old → (found ≡ list_any (is_source image) paths.now) × AreSighted image seen.new)) }
 {
     for path in paths {
         let here = seen_at(alloc, store, work, seen, path)?;
@@ -154,9 +156,9 @@ fn has_under<W: Files>(
     work: &mut W,
     folder: &PathText,
 ) -> Result<bool, WorkFault>
-    ensures looked { HasLooked W.act (W.world work.old) (W.world work.new) (W.faults work.old) (W.faults work.new) (W.running work.old) (W.running work.new) (IsErrOf result WorkFault.Failed) }
-    ensures told { IfOk result (λ found. (w : World) (image : Image) → W.world work.old ≡ Some w → Viewed w.nodes store.now image
-        → is_path_text folder.now ≡ true → TellsUnder image folder.now found) }
+    ensures looked { HasLooked W.act (W.device work.old) (W.device work.new) (device_failed result) }
+    ensures told { IfOk result (λ found. WhereTold (W.device work.old) (λ w. (image : Image) → Viewed w.nodes store.now image
+        → is_path_text folder.now ≡ true → TellsUnder image folder.now found)) }
 {
     let place = Place::user(alloc, folder)?;
     let listing = work.list(alloc, &place)?;
@@ -187,10 +189,10 @@ fn has_around<W: Files>(
     path: &PathText,
     folder: bool,
 ) -> Result<bool, WorkFault>
-    ensures looked { HasLooked W.act (W.world work.old) (W.world work.new) (W.faults work.old) (W.faults work.new) (W.running work.old) (W.running work.new) (IsErrOf result WorkFault.Failed) }
-    ensures told { IfOk result (λ found. (w : World) (image : Image) → W.world work.old ≡ Some w → Viewed w.nodes store.now image
+    ensures looked { HasLooked W.act (W.device work.old) (W.device work.new) (device_failed result) }
+    ensures told { IfOk result (λ found. WhereTold (W.device work.old) (λ w. (image : Image) → Viewed w.nodes store.now image
         → is_path_text path.now ≡ true → is_source image path.now ≡ false → (folder ≡ false → NoneUnder image path.now)
-        → AreSighted image seen.old → (found ≡ holds_source image path.now) × AreSighted image seen.new) }
+        → AreSighted image seen.old → (found ≡ holds_source image path.now) × AreSighted image seen.new)) }
 {
     let above = folders_above(alloc, path)?;
     let over = any_source(alloc, store, work, seen, &above)?;
@@ -212,9 +214,9 @@ pub(crate) fn standing_at<W: Files>(
     seen: &mut BTreeMap<String, Sighted>,
     path: &PathText,
 ) -> Result<Standing, WorkFault>
-    ensures looked { HasLooked W.act (W.world work.old) (W.world work.new) (W.faults work.old) (W.faults work.new) (W.running work.old) (W.running work.new) (IsErrOf result WorkFault.Failed) }
-    ensures told { IfOk result (λ s. (w : World) (image : Image) → W.world work.old ≡ Some w → Viewed w.nodes store.now image
-        → AreSighted image seen.old → IsStanding image path.now s × AreSighted image seen.new) }
+    ensures looked { HasLooked W.act (W.device work.old) (W.device work.new) (device_failed result) }
+    ensures told { IfOk result (λ s. WhereTold (W.device work.old) (λ w. (image : Image) → Viewed w.nodes store.now image
+        → AreSighted image seen.old → IsStanding image path.now s × AreSighted image seen.new)) }
 {
     let here = seen_at(alloc, store, work, seen, path)?;
     if here.source {

@@ -1,15 +1,16 @@
 //! Telling of paths, and of where the jobs that fit them by name write.
 
-ghost use Rattle.std.specs.Prelude.{◌≡◌, true, false, is_some, IsErrOf, IfOk, OnOk, map};
+ghost use Rattle.std.specs.Prelude.{◌≡◌, true, false, is_some, IfOk, OnOk, map};
 ghost use Rattle.std.specs.List.{AllByRecursion};
 ghost use Rattle.smk_base.specs.Path.{is_path};
+ghost use Rattle.smk_world.specs.Calls.{device_failed};
+ghost use Rattle.smk_world.specs.Devices.{HasLooked};
 ghost use Rattle.smk_pattern.specs.Shapes.{Text as TextValue};
 ghost use Rattle.smk_choose.specs.declared.choice.Making.{Making as MakingValue};
 ghost use Rattle.smk_choose.specs.Choose.{candidates};
 ghost use Rattle.smk_choose.specs.Told.{standing_of, told_by, making};
 ghost use Rattle.smk_choose.specs.Finding.{places_by};
 ghost use Rattle.smk_choose.specs.Index.{AreReadings};
-ghost use Rattle.smk_store.specs.Walking.{HasLooked};
 ghost use Rattle.smk_chain_sight.specs.Telling.{HasTold, IsListed, ArePlacesListed, IsListedAround, candidates_by};
 
 use crate::seeing::{Sighted, standing_at};
@@ -44,9 +45,9 @@ fn tell<W: Files>(
     eye: &mut Eye,
     path: &PathText,
 ) -> Result<(), WorkFault>
-    ensures looked { HasLooked W.act (W.world work.old) (W.world work.new) (W.faults work.old) (W.faults work.new) (W.running work.old) (W.running work.new) (IsErrOf result WorkFault.Failed) }
+    ensures looked { HasLooked W.act (W.device work.old) (W.device work.new) (device_failed result) }
     ensures listed { OnOk result (IsListed eye.new path.now) }
-    ensures told { OnOk result (HasTold (W.world work.old) store.now eye.old eye.new) }
+    ensures told { OnOk result (HasTold (W.device work.old) store.now eye.old eye.new) }
 {
     if is_told(eye, path) {
         return Ok(());
@@ -66,9 +67,9 @@ fn tell_text<W: Files>(
     eye: &mut Eye,
     text: &str,
 ) -> Result<(), WorkFault>
-    ensures looked { HasLooked W.act (W.world work.old) (W.world work.new) (W.faults work.old) (W.faults work.new) (W.running work.old) (W.running work.new) (IsErrOf result WorkFault.Failed) }
+    ensures looked { HasLooked W.act (W.device work.old) (W.device work.new) (device_failed result) }
     ensures listed { OnOk result (is_path text.now ≡ true → IsListed eye.new text.now) }
-    ensures told { OnOk result (HasTold (W.world work.old) store.now eye.old eye.new) }
+    ensures told { OnOk result (HasTold (W.device work.old) store.now eye.old eye.new) }
 {
     match PathText::read(alloc, text) {
         Ok(path) => tell(alloc, store, work, eye, &path),
@@ -86,9 +87,9 @@ fn tell_texts<W: Files>(
     eye: &mut Eye,
     texts: &[Text],
 ) -> Result<(), WorkFault>
-    ensures looked { HasLooked W.act (W.world work.old) (W.world work.new) (W.faults work.old) (W.faults work.new) (W.running work.old) (W.running work.new) (IsErrOf result WorkFault.Failed) }
+    ensures looked { HasLooked W.act (W.device work.old) (W.device work.new) (device_failed result) }
     ensures listed { OnOk result (AllByRecursion (λ (t : TextValue). is_path t ≡ true → IsListed eye.new t) texts.now) }
-    ensures told { OnOk result (HasTold (W.world work.old) store.now eye.old eye.new) }
+    ensures told { OnOk result (HasTold (W.device work.old) store.now eye.old eye.new) }
 {
     for text in texts {
         tell_text(alloc, store, work, eye, text.as_str())?;
@@ -106,9 +107,9 @@ fn tell_places<W: Files>(
     eye: &mut Eye,
     job: &Making,
 ) -> Result<(), WorkFault>
-    ensures looked { HasLooked W.act (W.world work.old) (W.world work.new) (W.faults work.old) (W.faults work.new) (W.running work.old) (W.running work.new) (IsErrOf result WorkFault.Failed) }
+    ensures looked { HasLooked W.act (W.device work.old) (W.device work.new) (device_failed result) }
     ensures listed { OnOk result (AllByRecursion (λ (t : TextValue). is_path t ≡ true → IsListed eye.new t) (places_by flow.now job.now)) }
-    ensures told { OnOk result (HasTold (W.world work.old) store.now eye.old eye.new) }
+    ensures told { OnOk result (HasTold (W.device work.old) store.now eye.old eye.new) }
 {
     let texts = places(alloc, flow, job)?;
     tell_texts(alloc, store, work, eye, texts.as_slice())?;
@@ -125,9 +126,9 @@ fn tell_jobs<W: Files>(
     eye: &mut Eye,
     jobs: &[Making],
 ) -> Result<(), WorkFault>
-    ensures looked { HasLooked W.act (W.world work.old) (W.world work.new) (W.faults work.old) (W.faults work.new) (W.running work.old) (W.running work.new) (IsErrOf result WorkFault.Failed) }
+    ensures looked { HasLooked W.act (W.device work.old) (W.device work.new) (device_failed result) }
     ensures listed { OnOk result (AllByRecursion (λ (m : MakingValue). AllByRecursion (λ (t : TextValue). is_path t ≡ true → IsListed eye.new t) (places_by flow.now m)) jobs.now) }
-    ensures told { OnOk result (HasTold (W.world work.old) store.now eye.old eye.new) }
+    ensures told { OnOk result (HasTold (W.device work.old) store.now eye.old eye.new) }
 {
     for job in jobs {
         tell_places(alloc, flow, store, work, eye, job)?;
@@ -146,9 +147,9 @@ fn candidates_of<W: Files>(
     path: &PathText,
 ) -> Result<Vec<Making>, WorkFault>
     requires { AreReadings flow.now readings.now }
-    ensures looked { HasLooked W.act (W.world work.old) (W.world work.new) (W.faults work.old) (W.faults work.new) (W.running work.old) (W.running work.new) (IsErrOf result WorkFault.Failed) }
+    ensures looked { HasLooked W.act (W.device work.old) (W.device work.new) (device_failed result) }
     ensures listed { OnOk result (ArePlacesListed flow.now eye.new path.now) }
-    ensures told { OnOk result (HasTold (W.world work.old) store.now eye.old eye.new) }
+    ensures told { OnOk result (HasTold (W.device work.old) store.now eye.old eye.new) }
     ensures jobs { IfOk result (λ jobs. jobs.items ≡ map making (candidates flow.now (told_by eye.new.sources) path.now)) }
 {
     let fitting = readings.fitting(alloc, flow, path)?;
@@ -169,9 +170,9 @@ pub(crate) fn tell_around<W: Files>(
     path: &PathText,
 ) -> Result<Vec<Making>, WorkFault>
     requires { AreReadings flow.now readings.now }
-    ensures looked { HasLooked W.act (W.world work.old) (W.world work.new) (W.faults work.old) (W.faults work.new) (W.running work.old) (W.running work.new) (IsErrOf result WorkFault.Failed) }
+    ensures looked { HasLooked W.act (W.device work.old) (W.device work.new) (device_failed result) }
     ensures listed { OnOk result (IsListedAround flow.now eye.new path.now) }
-    ensures told { OnOk result (HasTold (W.world work.old) store.now eye.old eye.new) }
+    ensures told { OnOk result (HasTold (W.device work.old) store.now eye.old eye.new) }
     ensures jobs { IfOk result (λ jobs. jobs.items ≡ map making (candidates_by flow.now (told_by eye.new.sources) path.now)) }
 {
     tell(alloc, store, work, eye, path)?;

@@ -3,6 +3,7 @@ use Rattle.std.proofs.Common.{◌≡◌, ◌∙◌, ℕ, suc, eqb, eqb-true, Boo
 use Rattle.std.specs.Prelude.{bytes_eq}
 use Rattle.std.specs.List.{list_any, AllByRecursion}
 use Rattle.std.proofs.lemmas.Slice.Eq.{bytes_eq-Decides}
+use Rattle.std.proofs.lemmas.Bool.{or_right}
 use lib.Pointwise.{pointwise}
 use Rattle.smk_base.specs.declared.tree.Pair.{Pair}
 use Rattle.smk_base.proofs.Places.{and_first, and_second}
@@ -92,10 +93,6 @@ has_place cs m h = go (place_of cs m) refl
     go None e = absurd (true≢false (sym h ∙ unplaced cs m e))
 
 -- ---- what is there stays there
-
-or_right : (a b : Bool) → b ≡ true → a || b ≡ true
-or_right true b e = refl
-or_right false b e = e
 
 pub any_push : {A : Type 0} (f : A → Bool) (xs : List A) (x : A) → list_any f (xs ++ x ∷ []) ≡ list_any f xs || f x
 any_push f [] x = or_nil (f x)

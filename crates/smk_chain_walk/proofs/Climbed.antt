@@ -3,6 +3,7 @@ use Rattle.std.proofs.Common.{◌≡◌, ℕ, zero, suc, ◌+◌, ◌<◌, ◌�
 use Rattle.std.specs.List.{fold}
 use Rattle.std.proofs.lemmas.Bool.Decides.{nat_tests}
 use Rattle.std.proofs.lemmas.List.{append_assoc}
+use Rattle.std.proofs.lemmas.Option.{same_Some}
 use Rattle.smk_base.proofs.Places.{same_place}
 use Rattle.smk_base.specs.Path.{is_path}
 use Rattle.smk_world.specs.Trees.{Path}
@@ -10,15 +11,13 @@ use Rattle.smk_pattern.specs.Shapes.{Text}
 use Rattle.smk_flow.specs.Flows.{Flow, Candidate, first_wants, declared_inputs, gathered_folders}
 use Rattle.smk_choose.specs.Choose.{Sources, Choice, Make, choose, maker}
 use Rattle.smk_chain.specs.Derive.{Listings, height, wanted_paths, gathered_files}
+use Rattle.smk_chain.proofs.Heights.{height_within}
 use Rattle.smk_chain_walk.specs.declared.kept.Heights.{Heights}
 use Rattle.smk_choose_wants.specs.declared.wanted.Want.{Want}
 use Rattle.smk_choose_wants.specs.declared.wanted.Want.TheVariants as want
 use Rattle.smk_choose_wants.specs.Wants.{want_of}
 use Rattle.smk_chain_walk.specs.Heights.{noted, path_of, paths_in, most, IsHeight, AreHeights, Tells, TellsMost}
 use Rattle.smk_chain_walk.proofs.Tops.{top_both, top_within, top_above, top_min}
-
-some_same : {A : Type 0} (x y : A) → Some x ≡ Some y → x ≡ y
-some_same x y e = cc
 
 -- those of the wants that are paths
 pub paths_told : (ts : List Text) → paths_in (map want_of ts) ≡ filter is_path ts
@@ -45,11 +44,8 @@ module _ (flow : Flow) (sources : Sources) (L : Listings) where
   height_less (suc n) zero p le = absurd (omega (arith, le))
   height_less (suc n) (suc m) p le = by_less n m (λ q. height_less n m q (omega (arith, le))) (maker (choose flow sources p))
 
-  pub height_within : (n : ℕ) (p : Path) → height flow sources L n p ≤ n
-  height_within n p = let e = height_less n n p (omega arith) in omega arith
-
   most_within : (n : ℕ) (ps : List Path) → most (height flow sources L n) ps ≤ n
-  most_within n ps = top_within (height flow sources L n) n (height_within n) ps
+  most_within n ps = top_within (height flow sources L n) n (height_within flow sources L n) ps
 
   -- a height that is known tells whether it is less
   pub tells_below : (n : ℕ) (p : Path) (h : ℕ) → IsHeight flow sources L p h → Tells flow sources L n p (cond (nat_lt h n) (Some h) None)
@@ -142,7 +138,7 @@ module _ (flow : Flow) (sources : Sources) (L : Listings) where
   kept_more old new p h known is e = λ q k at. go q k (bytes_eq p q) refl (sym (e q) ∙ at)
     where
       go : (q : Path) (k : ℕ) (b : Bool) → bytes_eq p q ≡ b → cond b (Some h) (noted old q) ≡ Some k → IsHeight flow sources L q k
-      go q k true same at = subst (λ (x : Path). IsHeight flow sources L x k) (same_place p q same) (subst (λ (j : ℕ). IsHeight flow sources L p j) (some_same h k at) is)
+      go q k true same at = subst (λ (x : Path). IsHeight flow sources L x k) (same_place p q same) (subst (λ (j : ℕ). IsHeight flow sources L p j) (same_Some h k at) is)
       go q k false same at = known q k at
 
   -- ## The targets

@@ -11,10 +11,7 @@ use Rattle.smk_choose.specs.Choose.{Sources, Choice, Source, Make, Nothing, Ambi
 use Rattle.smk_choose.specs.Told.{Covers, making, choice_of, told_choice}
 use Rattle.smk_choose.proofs.Picked.{chosen_candidate, chosen_placed, chosen_no_source}
 use Rattle.smk_chain_walk.specs.Heights.{AreCovered, IsCovered, making_in}
-
-all_as : {A : Type 0} (P Q : A → Type 0) → ((x : A) → P x → Q x) → (xs : List A) → AllByRecursion P xs → AllByRecursion Q xs
-all_as P Q f [] all = tt
-all_as P Q f (x ∷ xs) all = (f x all.0, all_as P Q f xs all.1)
+use Rattle.smk_chain_walk.proofs.Depths.{all_map}
 
 -- a table that covers more levels covers fewer
 covers_less : (flow : Flow) (sources : Sources) (table : Choices) (n m : ℕ) (p : Path) → n ≤ m → Covers flow sources table m p → Covers flow sources table n p
@@ -22,15 +19,15 @@ covers_less flow sources table zero m p le covers = tt
 covers_less flow sources table (suc n) zero p le covers = absurd (omega (arith, le))
 covers_less flow sources table (suc n) (suc m) p le covers = (
   covers.0,
-  λ none. all_as (λ (c : Candidate). AllByRecursion (λ (w : Text). is_path w ≡ true → Covers flow sources table m w) (first_wants flow c))
+  λ none. all_map (λ (c : Candidate). AllByRecursion (λ (w : Text). is_path w ≡ true → Covers flow sources table m w) (first_wants flow c))
       (λ (c : Candidate). AllByRecursion (λ (w : Text). is_path w ≡ true → Covers flow sources table n w) (first_wants flow c))
-      (λ c all. all_as (λ (w : Text). is_path w ≡ true → Covers flow sources table m w) (λ (w : Text). is_path w ≡ true → Covers flow sources table n w)
+      (λ c all. all_map (λ (w : Text). is_path w ≡ true → Covers flow sources table m w) (λ (w : Text). is_path w ≡ true → Covers flow sources table n w)
       (λ w f is. covers_less flow sources table n m w (omega (arith, le)) (f is)) (first_wants flow c) all)
       (candidates flow sources p) (covers.1 none),
 )
 
 pub all_less : (flow : Flow) (sources : Sources) (table : Choices) (n m : ℕ) (ps : List Path) → n ≤ m → AreCovered flow sources table m ps → AreCovered flow sources table n ps
-all_less flow sources table n m ps le all = all_as (Covers flow sources table m) (Covers flow sources table n) (λ p c. covers_less flow sources table n m p le c) ps all
+all_less flow sources table n m ps le all = all_map (Covers flow sources table m) (Covers flow sources table n) (λ p c. covers_less flow sources table n m p le c) ps all
 
 kept_all : (P : Path → Type 0) (ws : List Text) → AllByRecursion (λ (w : Text). is_path w ≡ true → P w) ws → AllByRecursion P (filter is_path ws)
 kept_all P [] all = tt

@@ -1,5 +1,5 @@
 -- A walk comes to the same at every depth that is great enough.
-use Rattle.std.proofs.Common.{◌≡◌, ◌∙◌, ℕ, zero, suc, ◌+◌, ◌≤◌, max, eqb, false-eqb, zero-le, Bool, true, false, cond, List, [], ◌∷◌, ◌++◌, map, filter, refl, sym, ap, ap₂, arith, Some, None, true≢false}
+use Rattle.std.proofs.Common.{◌≡◌, ◌∙◌, ℕ, zero, suc, ◌+◌, ◌≤◌, max, eqb, Bool, true, false, cond, List, [], ◌∷◌, ◌++◌, map, filter, refl, sym, ap, ap₂, arith, Some, None, true≢false, append_assoc, append-nil}
 use Rattle.std.specs.List.{flat_map, fold, AllByRecursion}
 use Rattle.smk_base.specs.Path.{is_path}
 use Rattle.smk_world.specs.Trees.{Path}
@@ -7,6 +7,7 @@ use Rattle.smk_pattern.specs.Shapes.{Text}
 use Rattle.smk_flow.specs.Flows.{Flow, Candidate}
 use Rattle.smk_choose.specs.Choose.{Sources, Choice, Source, Make, Nothing, Ambiguous, choose, maker}
 use Rattle.smk_chain.specs.Derive.{Listings, Refusal, NoInput, wants, wanted_paths, walk, height, refused, refused_at}
+use Rattle.smk_chain.proofs.Heights.{fold_above, below_top, height_by, height_within}
 use Rattle.smk_chain_walk.specs.Steps.{Fits, refused_for, called_for, asked_by, asked}
 
 -- ---- lists
@@ -35,15 +36,15 @@ pub flat_nil : {A B : Type 0} (f : A → List B) (xs : List A) → flat_map f xs
 flat_nil f [] e = tt
 flat_nil f (x ∷ xs) e = (front_nil (f x) (flat_map f xs) e, flat_nil f xs (back_nil (f x) (flat_map f xs) e))
 
+pub flat_push : {A B : Type 0} (f : A → List B) (xs : List A) (x : A) → flat_map f (xs ++ x ∷ []) ≡ flat_map f xs ++ f x
+flat_push f [] x = append-nil (f x)
+flat_push f (y ∷ xs) x = ap (λ ys. f y ++ ys) (flat_push f xs x) ∙ sym (append_assoc (f y) (flat_map f xs) (f x))
+
+pub all_push : {A : Type 0} (P : A → Type 0) (xs : List A) (x : A) → AllByRecursion P xs → P x → AllByRecursion P (xs ++ x ∷ [])
+all_push P [] x e f = (f, tt)
+all_push P (y ∷ xs) x e f = (e.0, all_push P xs x e.1 f)
+
 -- ---- heights
-
-fold_above : (xs : List ℕ) (a : ℕ) → a ≤ fold max a xs
-fold_above [] a = omega arith
-fold_above (x ∷ xs) a = let h = fold_above xs (max a x) in omega arith
-
-fold_least : {A : Type 0} (f : A → ℕ) (n : ℕ) → ((x : A) → f x ≤ n) → (xs : List A) (a : ℕ) → a ≤ n → fold max a (map f xs) ≤ n
-fold_least f n h [] a k = k
-fold_least f n h (x ∷ xs) a k = fold_least f n h xs (max a (f x)) (let e = h x in omega arith)
 
 fold_each : {A : Type 0} (f : A → ℕ) (test : A → Bool) (n : ℕ) (xs : List A) (a : ℕ) → fold max a (map f (filter test xs)) ≤ n → AllByRecursion (λ x. test x ≡ true → f x ≤ n) xs
 fold_each f test n [] a h = tt
@@ -52,9 +53,6 @@ fold_each f test n (x ∷ xs) a h = go (λ b k. fold_each f test n xs b k) (test
     go : ((b : ℕ) → fold max b (map f (filter test xs)) ≤ n → AllByRecursion (λ y. test y ≡ true → f y ≤ n) xs) → (b : Bool) → test x ≡ b → fold max a (map f (cond b (x ∷ filter test xs) (filter test xs))) ≤ n → AllByRecursion (λ y. test y ≡ true → f y ≤ n) (x ∷ xs)
     go rest true e k = (λ _. let top = fold_above (map f (filter test xs)) (max a (f x)) in omega arith, rest (max a (f x)) k)
     go rest false e k = (λ t. absurd (true≢false (sym t ∙ e)), rest a k)
-
-below_top : (a n : ℕ) → a ≤ suc n → eqb a (suc n) ≡ false → a ≤ n
-below_top a n h e = grind (arith, false-eqb)
 
 -- ---- one want
 
@@ -88,30 +86,16 @@ module _ (flow : Flow) (sources : Sources) (L : Listings) where
         | Some c ↦ flat_map (asked_by (refused flow sources L n) p c.rule) (wants flow L c)
       ]
 
-  abbrev height_by : ℕ → Choice → ℕ
-  height_by n ch =
-      elim (maker ch) as (λ _. ℕ) [ None ↦ 0 | Some c ↦ 1 + fold max 0 (map (height flow sources L n) (wanted_paths flow L c)) ]
-
-  height_within : (n : ℕ) (p : Path) → height flow sources L n p ≤ n
-  height_within zero p = omega arith
-  height_within (suc n) p = go (choose flow sources p) refl (height_within n)
-    where
-      go : (ch : Choice) → choose flow sources p ≡ ch → ((q : Path) → height flow sources L n q ≤ n) → height_by n ch ≤ suc n
-      go Source e ih = omega arith
-      go (Make c) e ih = let h = fold_least (height flow sources L n) n ih (wanted_paths flow L c) 0 (zero-le) in omega arith
-      go (Nothing lack) e ih = omega arith
-      go (Ambiguous a b) e ih = omega arith
-
   fits_low : (n : ℕ) (p : Path) → height flow sources L (suc n) p ≤ n → Fits flow sources L n p
-  fits_low zero p h = λ c e. let tall : height flow sources L 1 p ≡ 1 + fold max 0 (map (height flow sources L 0) (wanted_paths flow L c)) = ap (height_by 0) e in omega arith
+  fits_low zero p h = λ c e. let tall : height flow sources L 1 p ≡ 1 + fold max 0 (map (height flow sources L 0) (wanted_paths flow L c)) = ap (height_by flow sources L 0) e in omega arith
   fits_low (suc n) p h = λ c e.
-      let tall : height flow sources L (suc (suc n)) p ≡ 1 + fold max 0 (map (height flow sources L (suc n)) (wanted_paths flow L c)) = ap (height_by (suc n)) e in
+      let tall : height flow sources L (suc (suc n)) p ≡ 1 + fold max 0 (map (height flow sources L (suc n)) (wanted_paths flow L c)) = ap (height_by flow sources L (suc n)) e in
       all_map (λ w. is_path w ≡ true → height flow sources L (suc n) w ≤ n) (λ w. is_path w ≡ true → Fits flow sources L n w) (λ w f t. fits_low n w (f t)) (wants flow L c)
       (fold_each (height flow sources L (suc n)) is_path n (wants flow L c) 0 (omega arith))
 
   -- a target from which no chain of 201 jobs leads
   pub fits_shallow : (p : Path) → eqb (height flow sources L 201 p) 201 ≡ false → Fits flow sources L 200 p
-  fits_shallow p h = fits_low 200 p (below_top (height flow sources L 201 p) 200 (height_within 201 p) h)
+  fits_shallow p h = fits_low 200 p (below_top (height flow sources L 201 p) 200 (height_within flow sources L 201 p) h)
 
   -- ---- refusals
 

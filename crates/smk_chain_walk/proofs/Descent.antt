@@ -24,6 +24,7 @@ use Rattle.smk_chain_walk.specs.Stepping.{IsInner, IsStep, IsWanted, text_in, in
 use Rattle.smk_chain_walk.specs.Steps.{Fits, refused_for, called_for, is_done, Holds, Keeps, Walked}
 use Rattle.smk_chain_walk.proofs.Depths.{all_map}
 use Rattle.smk_chain_walk.proofs.Visiting.{SoFar, walked_memory, walked_source, so_far_more, stopped_under, stopped_here, settled}
+use Rattle.smk_chain_walk.proofs.Taken.{text_back}
 
 -- a fault that is handed on
 pub at_err : {A E : Type 0} (P : Result A E → Type 0) (r : Result A E) (x : E) → IsErrAnd r (λ y. y ≡ x) → P (Err x) → P r
@@ -31,13 +32,6 @@ at_err P (Ok a) x e h = absurd e
 at_err P (Err y) x e h = subst (λ z. P (Err z)) (sym e) h
 
 -- ---- wants and their texts
-
-text_back : (t : Text) → text_in (want_of t) ≡ t
-text_back t = go (is_path t)
-  where
-    go : (b : Bool) → text_in (elim b as (λ _. Want) [ true ↦ want.Path t | false ↦ want.NoPath t ]) ≡ t
-    go true = refl
-    go false = refl
 
 texts_back : (ts : List Text) → map text_in (map want_of ts) ≡ ts
 texts_back [] = refl

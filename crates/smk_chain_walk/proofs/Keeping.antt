@@ -6,6 +6,7 @@ use Rattle.std.specs.List.{filter_map, AllByRecursion}
 use Rattle.smk_pattern.specs.Shapes.{Text}
 use Rattle.smk_chain.specs.declared.jobs.Maker.{Maker}
 use Rattle.std.proofs.lemmas.Slice.Eq.{bytes_eq-Decides}
+use Rattle.std.proofs.lemmas.List.{map_push}
 use Rattle.smk_world.specs.Trees.{Path}
 use Rattle.smk_flow.specs.Flows.{Flow, Candidate}
 use Rattle.smk_choose.specs.declared.choice.Making.{Making}
@@ -16,7 +17,7 @@ use Rattle.smk_chain_walk.specs.declared.reached.Reached.{Reached}
 use Rattle.smk_chain_walk.specs.Numbers.{is_job, place_of, number_in, has, added, key, IsSmall}
 use Rattle.smk_chain_walk.specs.Links.{number_for, befores_of, maker_told, AreOnce, AreLower}
 use Rattle.smk_chain_walk.specs.Steps.{refused_for, called_for, is_done, flat, number_done, told_also, IsDone, Holds, Keeps}
-use Rattle.smk_chain_walk.proofs.Depths.{all_map, called_own, called_source, refused_unmade}
+use Rattle.smk_chain_walk.proofs.Depths.{all_map, called_own, called_source, refused_unmade, all_push}
 use Rattle.smk_chain_walk.proofs.Numbers.{place_low, all_low, filter_same}
 use Rattle.smk_chain_walk.proofs.Links.{or_told, told_if, told_push, once_push, lower_push}
 use Rattle.smk_chain_walk.proofs.Apart.{keys_one}
@@ -26,10 +27,6 @@ all_last : {A : Type 0} (P : A → Type 0) (xs : List A) (x : A) → AllByRecurs
 all_last P [] x h = h.0
 all_last P (y ∷ xs) x h = all_last P xs x h.1
 
-map_push : {A B : Type 0} (f : A → B) (xs : List A) (x : A) → map f (xs ++ x ∷ []) ≡ map f xs ++ f x ∷ []
-map_push f [] x = refl
-map_push f (y ∷ xs) x = ap (λ ys. f y ∷ ys) (map_push f xs x)
-
 length_map : {A B : Type 0} (f : A → B) (xs : List A) → length (map f xs) ≡ length xs
 length_map f [] = refl
 length_map f (x ∷ xs) = ap suc (length_map f xs)
@@ -37,10 +34,6 @@ length_map f (x ∷ xs) = ap suc (length_map f xs)
 map_same : {A B : Type 0} (f g : A → B) (xs : List A) → AllByRecursion (λ x. f x ≡ g x) xs → map f xs ≡ map g xs
 map_same f g [] e = refl
 map_same f g (x ∷ xs) e = ap₂ ◌∷◌ e.0 (map_same f g xs e.1)
-
-all_push : {A : Type 0} (P : A → Type 0) (xs : List A) (x : A) → AllByRecursion P xs → P x → AllByRecursion P (xs ++ x ∷ [])
-all_push P [] x e f = (f, tt)
-all_push P (y ∷ xs) x e f = (e.0, all_push P xs x e.1 f)
 
 -- what is done stays done
 keeps_note : (old new : Reached) (p : Path) (number : Option ℕ) → ((q : Path) → get_by_text new.done q ≡ cond (bytes_eq p q) (Some number) (get_by_text old.done q)) → Keeps old new

@@ -1,6 +1,6 @@
-mod Depths
+pub mod Depths
 mod Apart
-mod Adding
+pub mod Adding
 mod Numbers
 mod Links
 mod Keeping

@@ -5,7 +5,7 @@ use Rattle.std.specs.List.{find, AllByRecursion}
 use Rattle.smk_world.specs.Trees.{Path}
 use Rattle.smk_chain.specs.declared.jobs.Maker.{Maker}
 use Rattle.smk_chain_walk.specs.Links.{maker_told, AreOnce, AreLower}
-use Rattle.smk_chain_walk.proofs.Missing.{either_way}
+use Rattle.smk_base.proofs.Places.{same_flipped}
 
 abbrev pub or_told : Option (Option ℕ) → Option (Option ℕ) → Option (Option ℕ)
 or_told None later = later
@@ -36,7 +36,7 @@ once_push (x ∷ ms) m o e = go (bytes_eq x.path m.path) refl (λ h. once_push m
         option_map (λ (y : Maker). y.job) (cond b (Some x) (find (λ (y : Maker). bytes_eq y.path m.path) ms)) ≡ None → AreOnce ((x ∷ ms) ++ m ∷ [])
     go true f rest h = absurd cc
     go false f rest h =
-        (told_push ms m x.path ∙ ap (λ t. or_told t (told_if (bytes_eq m.path x.path) m.job)) o.0 ∙ ap (λ b. told_if b m.job) (either_way m.path x.path ∙ f), rest h)
+        (told_push ms m x.path ∙ ap (λ t. or_told t (told_if (bytes_eq m.path x.path) m.job)) o.0 ∙ ap (λ b. told_if b m.job) (same_flipped m.path x.path ∙ f), rest h)
 
 pub lower_push : (n : ℕ) (bs : List (List ℕ)) (b : List ℕ) → AreLower n bs → AllByRecursion (λ k. k < n + length bs) b → AreLower n (bs ++ b ∷ [])
 lower_push n [] b h low = (subst (λ m. AllByRecursion (λ k. k < m) b) here low, tt)

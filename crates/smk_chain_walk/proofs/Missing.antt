@@ -1,5 +1,5 @@
 -- What a directory lacks.
-use Rattle.std.proofs.Common.{◌≡◌, ◌∙◌, ℕ, Bool, true, false, ◌&&◌, ◌||◌, not, List, ◌∷◌, map, Option, Some, None, option_map, refl, sym, ap, ap₂, cond, true≢false}
+use Rattle.std.proofs.Common.{◌≡◌, ◌∙◌, Bool, true, false, ◌&&◌, ◌||◌, not, List, ◌∷◌, map, Option, Some, None, option_map, refl, sym, ap, ap₂, cond}
 use Rattle.std.specs.Prelude.{bytes_eq, is_some}
 use Rattle.std.specs.List.{find}
 use Rattle.std.proofs.lemmas.Slice.Eq.{bytes_eq-Decides}
@@ -8,6 +8,7 @@ use Rattle.smk_world.specs.Trees.{Path, among}
 use Rattle.smk_chain.specs.declared.jobs.Known.{Known}
 use Rattle.smk_chain.specs.Derive.{Listings, is_missing, or_none}
 use Rattle.smk_chain_walk.specs.Folders.{is_file}
+use Rattle.smk_base.proofs.Places.{same_flipped}
 
 -- whether a path is lacking, by whether it is among the files, where they are known
 abbrev pub lacks_by : Option Bool → Bool
@@ -35,16 +36,7 @@ file_step k L S has set old new are put before folder p = ap (option_map (λ s. 
     go true e = ap Some (are p ∙ ap (λ f. among (map (in_folder f) k.files) p) ((bytes_eq-Decides k.folder folder).0 e))
     go false e = before folder p
 
-pub either_way : (a b : List ℕ) → bytes_eq a b ≡ bytes_eq b a
-either_way a b = go (bytes_eq a b) (bytes_eq b a) refl refl
-  where
-    go : (x y : Bool) → bytes_eq a b ≡ x → bytes_eq b a ≡ y → x ≡ y
-    go true true e f = refl
-    go true false e f = absurd (true≢false (sym ((bytes_eq-Decides b a).1 (sym ((bytes_eq-Decides a b).0 e))) ∙ f))
-    go false true e f = absurd (true≢false (sym ((bytes_eq-Decides a b).1 (sym ((bytes_eq-Decides b a).0 f))) ∙ e))
-    go false false e f = refl
-
 -- one more file before the others
 pub path_step : (folder file : Path) (files : List Path) (old new : Path → Bool) → ((q : Path) → new q ≡ bytes_eq (in_folder folder file) q || old q) →
     ((q : Path) → old q ≡ among (map (in_folder folder) files) q) → (q : Path) → new q ≡ among (map (in_folder folder) (file ∷ files)) q
-path_step folder file files old new put before q = put q ∙ ap₂ ◌||◌ (either_way (in_folder folder file) q) (before q)
+path_step folder file files old new put before q = put q ∙ ap₂ ◌||◌ (same_flipped (in_folder folder file) q) (before q)

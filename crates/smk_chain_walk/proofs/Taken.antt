@@ -3,6 +3,7 @@ use Rattle.std.proofs.Common.{◌≡◌, ◌∙◌, ℕ, Bool, true, false, cond
 use Rattle.std.specs.Prelude.{slice_get}
 use Rattle.std.specs.List.{flat_map, find, filter_map, cons_option}
 use Rattle.std.specs.Result.{IsErrAnd}
+use Rattle.std.proofs.lemmas.Option.{none-some}
 use Rattle.smk_base.specs.Path.{is_path, is_under}
 use Rattle.smk_world.specs.declared.recipe.Out.{Out}
 use Rattle.smk_world.specs.Trees.{Path, is_folder_kind}
@@ -22,14 +23,11 @@ use Rattle.smk_chain_walk.specs.Stepping.{over_in, path_in, text_in}
 some_is : (x y : RulePart) → Some x ≡ Some y → x ≡ y
 some_is x y e = cc
 
-none_some : (x : RulePart) → None ≡ Some x → ⊥
-none_some x e = cc
-
 pub part_taken : (flow : Flow) (m : Making) (c : Candidate) (part : RulePart) → Some part ≡ slice_get flow.rules m.rule → m ≡ making c → slice_get flow.rules c.rule ≡ Some c.part → part ≡ c.part
 part_taken flow m c part at is placed = some_is part c.part (at ∙ ap (λ (x : Making). slice_get flow.rules x.rule) is ∙ placed)
 
 pub none_taken : (flow : Flow) (m : Making) (c : Candidate) → None ≡ slice_get flow.rules m.rule → m ≡ making c → slice_get flow.rules c.rule ≡ Some c.part → ⊥
-none_taken flow m c at is placed = none_some c.part (at ∙ ap (λ (x : Making). slice_get flow.rules x.rule) is ∙ placed)
+none_taken flow m c at is placed = none-some c.part (at ∙ ap (λ (x : Making). slice_get flow.rules x.rule) is ∙ placed)
 
 -- ---- choices
 
@@ -101,7 +99,7 @@ pub if_err : {A E : Type 0} (r : Result A E) (x : E) (P : E → Type 0) → IsEr
 if_err (Ok a) x P e h = absurd e
 if_err (Err y) x P e h = subst P (sym e) h
 
-text_back : (t : Text) → text_in (want_of t) ≡ t
+pub text_back : (t : Text) → text_in (want_of t) ≡ t
 text_back t = go (is_path t)
   where
     go : (b : Bool) → text_in (elim b as (λ _. Want) [ true ↦ want.Path t | false ↦ want.NoPath t ]) ≡ t

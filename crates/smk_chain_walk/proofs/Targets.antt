@@ -1,5 +1,5 @@
 -- A walk from each target, one after another.
-use Rattle.std.proofs.Common.{◌≡◌, ◌∙◌, ℕ, zero, suc, ◌<◌, ◌≤◌, eqb, false, List, [], ◌∷◌, ◌++◌, map, length, take, get_or, Ok, Err, refl, sym, ap, subst, append_assoc, append-nil, arith}
+use Rattle.std.proofs.Common.{◌≡◌, ◌∙◌, ℕ, zero, suc, ◌<◌, ◌≤◌, eqb, false, List, [], ◌∷◌, ◌++◌, map, length, take, get_or, Ok, Err, refl, sym, ap, subst, arith}
 use Rattle.std.specs.List.{flat_map, AllByRecursion}
 use Rattle.std.proofs.lemmas.List.Concat.{flat_map-append}
 use Rattle.smk_world.specs.Trees.{Path}
@@ -9,7 +9,7 @@ use Rattle.smk_choose.specs.Choose.{Sources}
 use Rattle.smk_choose.specs.Told.{Covers, CoversAll}
 use Rattle.smk_chain.specs.declared.fault.ChainFault.{ChainFault}
 use Rattle.smk_chain.specs.declared.jobs.Jobs.{Jobs}
-use Rattle.smk_chain.specs.Derive.{Listings, Refusal, height, refused, job, jobs, wants, chosen}
+use Rattle.smk_chain.specs.Derive.{Listings, height, refused, job, jobs, wants, chosen}
 use Rattle.std.specs.Prelude.{is_some, true}
 use Rattle.std.specs.BTreeMap.{get_by_text}
 use Rattle.smk_pattern.specs.Shapes.{Text}
@@ -18,13 +18,9 @@ use Rattle.smk_chain.specs.Told.{TellsFirst}
 use Rattle.smk_chain_walk.specs.declared.reached.Reached.{Reached}
 use Rattle.smk_chain_walk.specs.Numbers.{all_added}
 use Rattle.smk_chain_walk.specs.Steps.{Fits, refused_for, called_for, is_done, Holds, Walked}
-use Rattle.smk_chain_walk.proofs.Depths.{all_map, fits_shallow, refused_all, called_all}
+use Rattle.smk_chain_walk.proofs.Depths.{all_map, fits_shallow, refused_all, called_all, all_push, flat_push}
 use Rattle.smk_chain_walk.proofs.Adding.{all_added_append, distinct_is}
 use Rattle.smk_chain_walk.proofs.Visiting.{tells_in}
-
-all_push : {A : Type 0} (P : A → Type 0) (xs : List A) (x : A) → AllByRecursion P xs → P x → AllByRecursion P (xs ++ x ∷ [])
-all_push P [] x e f = (f, tt)
-all_push P (y ∷ xs) x e f = (e.0, all_push P xs x e.1 f)
 
 pub split_of : {A : Type 0} (xs : List A) (i : ℕ) (x : A) → i < length xs → x ≡ get_or xs i x → (rest : List A) × (xs ≡ take i xs ++ x ∷ rest)
 split_of [] i x lt e = absurd (omega arith)
@@ -46,10 +42,6 @@ take_whole [] zero h = refl
 take_whole [] (suc i) h = refl
 take_whole (x ∷ xs) zero h = absurd (omega arith)
 take_whole (x ∷ xs) (suc i) h = ap (λ ys. x ∷ ys) (take_whole xs i (omega arith))
-
-flat_push : {A B : Type 0} (f : A → List B) (xs : List A) (x : A) → flat_map f (xs ++ x ∷ []) ≡ flat_map f xs ++ f x
-flat_push f [] x = append-nil (f x)
-flat_push f (y ∷ xs) x = ap (λ ys. f y ++ ys) (flat_push f xs x) ∙ sym (append_assoc (f y) (flat_map f xs) (f x))
 
 module _ (flow : Flow) (sources : Sources) (L : Listings) where
   -- nothing was refused of these targets, and what they call for was reached

@@ -1,5 +1,5 @@
 -- What a walk from a path comes to, put together from its steps.
-use Rattle.std.proofs.Common.{◌≡◌, ◌≢◌, ◌∙◌, ℕ, suc, ◌≤◌, true, false, List, [], ◌∷◌, ◌++◌, Option, Some, None, Ok, Err, refl, sym, ap, subst, append_assoc, append-nil, true≢false}
+use Rattle.std.proofs.Common.{◌≡◌, ◌≢◌, ◌∙◌, ℕ, suc, ◌≤◌, true, false, List, [], ◌∷◌, ◌++◌, Option, Some, None, Ok, Err, refl, sym, ap, subst, true≢false}
 use Rattle.std.specs.Prelude.{is_some}
 use Rattle.std.specs.BTreeMap.{get_by_text}
 use Rattle.std.specs.List.{flat_map, AllByRecursion, list_all}
@@ -16,12 +16,8 @@ use Rattle.smk_chain.specs.Told.{first_told, TellsFirst}
 use Rattle.smk_chain_walk.specs.declared.reached.Reached.{Reached}
 use Rattle.smk_chain_walk.specs.Numbers.{has, added, all_added}
 use Rattle.smk_chain_walk.specs.Steps.{Fits, refused_for, called_for, asked, is_done, Holds, Keeps, Walked}
-use Rattle.smk_chain_walk.proofs.Depths.{refused_make, called_make, refused_front, called_source, refused_unmade, flat_nil, all_map, want_calm}
+use Rattle.smk_chain_walk.proofs.Depths.{refused_make, called_make, refused_front, called_source, refused_unmade, flat_nil, all_map, want_calm, all_push, flat_push}
 use Rattle.smk_chain_walk.proofs.Adding.{all_there, all_added_append, all_added_has}
-
-all_push : {A : Type 0} (P : A → Type 0) (xs : List A) (x : A) → AllByRecursion P xs → P x → AllByRecursion P (xs ++ x ∷ [])
-all_push P [] x e f = (f, tt)
-all_push P (y ∷ xs) x e f = (e.0, all_push P xs x e.1 f)
 
 -- ---- faults
 
@@ -77,10 +73,6 @@ module _ (flow : Flow) (sources : Sources) (L : Listings) where
 
   no_asked : (p : Path) (rule : ℕ) (w : Text) → is_path w ≡ false → asked flow sources L p rule w ≡ NoInput p rule w ∷ []
   no_asked p rule w e = ap (λ b. elim b as (λ _. List Refusal) [ true ↦ refused_for flow sources L w | false ↦ NoInput p rule w ∷ [] ]) e
-
-  flat_push : {A B : Type 0} (f : A → List B) (xs : List A) (x : A) → flat_map f (xs ++ x ∷ []) ≡ flat_map f xs ++ f x
-  flat_push f [] x = append-nil (f x)
-  flat_push f (y ∷ xs) x = ap (λ ys. f y ++ ys) (flat_push f xs x) ∙ sym (append_assoc (f y) (flat_map f xs) (f x))
 
   pub so_far_more : (old now new : Reached) (p : Path) (rule : ℕ) (ws : List Text) (w : Text) → SoFar old now p rule ws → is_path w ≡ true →
       Walked flow sources L now new w (Ok tt) → SoFar old new p rule (ws ++ w ∷ [])

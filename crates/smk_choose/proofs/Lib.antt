@@ -10,7 +10,6 @@ mod Spanning
 mod Deep
 mod Deciding
 mod Covering
-mod Wholes
 mod Placed
 pub mod Picked
 pub mod Indexed

@@ -1,14 +1,11 @@
 -- Which of two rules is preferred, found step by step.
-use Rattle.std.proofs.Common.{◌≡◌, ℕ, zero, suc, ◌+◌, ◌-◌, ◌<◌, ◌==◌, ◌||◌, ◌&&◌, Bool, true, false, cond, List, [], ◌∷◌, map, reverse, get_or, drop, length, Some, bytes_eq, slice_get, refl, sym, ap, ◌∙◌, arith, true≢false}
+use Rattle.std.proofs.Common.{◌≡◌, ℕ, zero, suc, ◌+◌, ◌-◌, ◌<◌, ◌==◌, ◌||◌, ◌&&◌, Bool, true, false, cond, List, [], ◌∷◌, reverse, get_or, drop, length, bytes_eq, refl, sym, ap, ◌∙◌, arith, true≢false}
 use Rattle.std.proofs.lemmas.List.{at_drop_more}
 use Rattle.std.proofs.lemmas.List.Folds.{list_any-append}
 use Rattle.std.specs.List.{list_any, flat_map}
 use Rattle.smk_world.specs.Trees.{among}
 use Rattle.smk_pattern.specs.Shapes.{Text}
 use Rattle.smk_pattern.specs.Reading.{is_hole, has_wildcards, pieces_from, ended, depth_after, held_after, plain_of, hole_of}
-use Rattle.smk_flow.specs.declared.rule.RulePart.{RulePart}
-use Rattle.smk_flow.specs.declared.workflow.Rule.{Rule}
-use Rattle.smk_flow.specs.PatternsOf.{rule_of}
 use Rattle.smk_choose.specs.Choose.{has_before}
 
 -- ---- wildcards
@@ -120,18 +117,7 @@ before_here a b names i name lt at e =
     ∙ ap (λ n. before_from a b true (n ∷ drop (i + 1) names)) (sym at)
     ∙ ap (λ x. (x || among (drop (i + 1) names) b) || has_before a b (name ∷ drop (i + 1) names)) e
 
--- ---- rules
-
-pub rule_is : (rules : List RulePart) (n : ℕ) (one : RulePart) (found : Rule) → slice_get rules n ≡ Some one → found ≡ get_or (map rule_of rules) n found → found.part ≡ one
-rule_is [] n one found e at = absurd (none e)
-  where
-    none : slice_get [] n ≡ Some one → ⊥
-    none e = cc
-rule_is (r ∷ rules) zero one found e at = ap (λ (f : Rule). f.part) at ∙ some r one e
-  where
-    some : (x y : RulePart) → Some x ≡ Some y → x ≡ y
-    some x y e = cc
-rule_is (r ∷ rules) (suc n) one found e at = rule_is rules n one found e at
+-- ---- both
 
 pub not_both : (a b : Bool) → b ≡ false → (a && b) ≡ false
 not_both true b e = e

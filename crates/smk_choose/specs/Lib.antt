@@ -4,6 +4,5 @@ pub mod Heights
 pub mod Readings
 pub mod Reach
 pub mod Decided
-pub mod Whole
 pub mod Index
 pub mod Finding

@@ -1,6 +1,6 @@
 //! Which of two rules is preferred.
 
-ghost use Rattle.std.specs.Prelude.{◌≡◌, ◌<◌, ◌||◌, ℕ, List as Items, Some, length, slice_get};
+ghost use Rattle.std.specs.Prelude.{◌≡◌};
 ghost use Rattle.std.specs.List.{list_any};
 ghost use Rattle.smk_pattern.specs.Reading.{has_wildcards};
 ghost use Rattle.smk_flow.specs.declared.rule.FlaggedText.{FlaggedText};
@@ -87,7 +87,8 @@ fn any_orders(a: &str, b: &str, clauses: &[Clause]) -> bool
     false
 }
 
-// Whether the first rule precedes the second.
+/// Whether the first rule precedes the second: some clause has it before that one; or no clause has both, and only the second has
+/// wildcards. Clauses aren't chained. It takes no memory.
 pub(crate) fn part_precedes(flow: &Workflow, a: &RulePart, b: &RulePart) -> bool
     ensures { result ≡ precedes flow.now a.now b.now }
 {
@@ -95,16 +96,4 @@ pub(crate) fn part_precedes(flow: &Workflow, a: &RulePart, b: &RulePart) -> bool
     any_orders(a.name.as_str(), b.name.as_str(), clauses)
         || (!any_orders(b.name.as_str(), a.name.as_str(), clauses)
             && (!rule_has_wildcards(a) && rule_has_wildcards(b)))
-}
-
-/// Whether the first rule precedes the second: some clause has it before that one; or no clause has both, and only the second has
-/// wildcards. Clauses aren't chained. Both numbers are rules'. It takes no memory.
-pub fn precedes(flow: &Workflow, a: u32, b: u32) -> bool
-    requires first { a < length flow.now.rules }
-    requires second { b < length flow.now.rules }
-    ensures { (one other : RulePart) → slice_get flow.now.rules a ≡ Some one → slice_get flow.now.rules b ≡ Some other
-        → result ≡ precedes flow.now one other }
-{
-    let rules = flow.rules().as_slice();
-    part_precedes(flow, &rules[a as usize].part, &rules[b as usize].part)
 }

@@ -1,9 +1,10 @@
 -- A chosen job's texts are paths, and its rule is there.
-use Rattle.std.proofs.Common.{◌≡◌, ◌≢◌, ℕ, zero, suc, ◌<◌, ◌≤◌, ◌&&◌, not, Bool, true, false, cond, List, [], ◌∷◌, ◌++◌, length, map, filter, Option, Some, None, get_or, nat_lt, slice_get, refl, sym, ap, ◌∙◌, arith, subst}
+use Rattle.std.proofs.Common.{◌≡◌, ◌≢◌, ℕ, zero, suc, ◌<◌, ◌≤◌, ◌&&◌, not, Bool, true, false, cond, List, [], ◌∷◌, ◌++◌, length, map, filter, Option, Some, None, get_or, nat_lt, slice_get, refl, sym, ap, ◌∙◌, arith}
 use Rattle.std.proofs.lemmas.Option.{same_Some, none-some}
 use Rattle.std.proofs.lemmas.Bool.Decides.{nat_tests}
 use Rattle.std.specs.List.{list_all, list_any, AllByRecursion}
 use Rattle.smk_base.specs.Path.{is_path}
+use Rattle.smk_base.proofs.Places.{and_first}
 use Rattle.smk_world.specs.Trees.{Path}
 use Rattle.smk_pattern.specs.Shapes.{Text}
 use Rattle.smk_flow.specs.declared.rule.RulePart.{RulePart}
@@ -14,10 +15,9 @@ use Rattle.smk_flow.specs.Flows.{Flow, Candidate, outputs, logs, first_wants}
 use Rattle.smk_flow.specs.Jobs.{path_texts, path_fault}
 use Rattle.smk_choose.specs.declared.choice.Making.{Making}
 use Rattle.smk_choose.specs.declared.choice.Chosen.TheVariants as told
-use Rattle.smk_choose.specs.Choose.{Sources, Make, as_member, as_output, or_else, candidates, is_apart, is_viable, avail, choose}
+use Rattle.smk_choose.specs.Choose.{Sources, Make, as_member, as_output, or_else, candidates, is_apart, avail, choose}
 use Rattle.smk_choose.specs.Told.{making}
 use Rattle.smk_choose.proofs.Picked.{chosen_candidate, chosen_placed, chosen_is_viable}
-use Rattle.smk_choose.proofs.Listed.{all_filter}
 use Rattle.smk_choose_wants.proofs.Composed.{all_front}
 use Rattle.smk_choose_wants.specs.Wants.{IsChosen, candidate_of}
 
@@ -43,10 +43,6 @@ all_pass f (x ∷ xs) = go (f x) refl (all_pass f xs)
     go true e rest = (e, rest)
     go false e rest = rest
 
-front_true : (a b : Bool) → (a && b) ≡ true → a ≡ true
-front_true true b e = refl
-front_true false b e = e
-
 -- what has only texts of which a test says that they are paths has no fault
 no_fault : (test : Text → Bool) → ((t : Text) → test t ≡ true → is_path t ≡ true) → (ts rest : List Text) → list_all test ts ≡ true → path_fault rest ≡ None →
     path_fault (ts ++ rest) ≡ None
@@ -71,7 +67,7 @@ chosen_paths flow sources p c e =
     let known : path_fault (first_wants flow c) ≡ None =
     ap path_fault (sym (append_none (first_wants flow c)))
     ∙ no_fault (avail flow sources 199) (avail_path flow sources 198) (first_wants flow c) [] (chosen_is_viable flow sources p c e) refl in
-    let path : (t : Text) → free t ≡ true → is_path t ≡ true = λ t. front_true (is_path t) (not (sources.holds t)) in
+    let path : (t : Text) → free t ≡ true → is_path t ≡ true = λ t. and_first (is_path t) (not (sources.holds t)) in
     no_fault free path (outputs flow c) (logs flow c ++ first_wants flow c) parts.0 (no_fault free path (logs flow c) (first_wants flow c) parts.1 known)
 
 within : (parts : List RulePart) (n : ℕ) (part : RulePart) → slice_get parts n ≡ Some part → n < length parts

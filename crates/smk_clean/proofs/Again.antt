@@ -1,7 +1,7 @@
 -- A run again takes no turn.
-use Rattle.std.proofs.Common.{◌≡◌, ℕ, suc, true, List, [], ◌∷◌, map, refl, ap, subst, ◌∙◌, Option, Some, Result, Ok}
+use Rattle.std.proofs.Common.{◌≡◌, ℕ, suc, true, List, [], ◌∷◌, map, refl, ap, subst, ◌∙◌, Option, Result, Ok}
 use Rattle.smk_world.specs.World.{World, IsFormed}
-use Rattle.smk_world.specs.Calls.{Rose}
+use Rattle.smk_world.specs.Devices.{Device, Sunk}
 use Rattle.smk_flow.specs.declared.job.Job.{Job}
 use Rattle.smk_store.specs.declared.fault.StoreFault.{StoreFault}
 use Rattle.smk_store.specs.Images.{seen}
@@ -13,7 +13,6 @@ use Rattle.smk_plan.specs.States.{Plan, LastPlan, nothing_done}
 use Rattle.smk_laws_history.proofs.CurrentComplete.{seen_is_complete}
 use Rattle.smk_laws_plan.proofs.PlanOne.{one_last_plan}
 use Rattle.smk_report.specs.declared.fault.Fault.{Fault}
-use Rattle.smk_report.specs.Lines.{Text}
 use Rattle.smk_plan.specs.declared.duty.Duty.{Duty}
 use Rattle.smk_plan.specs.declared.duty.Duty.TheVariants.{Rest, Restore, Run as RunIt}
 use Rattle.smk_run.specs.Duties.{Due, due, due_from}
@@ -69,22 +68,22 @@ module _ (o : Outside) (words : RunWords) (w v : World) (formed : IsFormed v) (l
   clean_again asked told serve = states_same (plan_of told) left.plan (plan_again asked told serve) ∙ left.clean
 
   none_made :
-      (asked : Asked) (told : Previewed) → IsToServe o.read true words.targets words.cores v asked told → (answer : Result (Unit {0}) Fault) (old new : Option World) (rose : Type 0) (running : List ℕ) (p q : Option Text)
-      (settled : Result (Unit {0}) StoreFault) (g : GoesOn o.act asked.flow words.cores asked.targets told.jobs told.plan.states told.store answer old new rose running p q settled) → turns_made g ≡ []
-  none_made asked told serve answer old new rose running p q settled (NotFirm f is unchanged unput) = refl
-  none_made asked told serve answer old new rose running p q settled (NoMemory u is unchanged unput) = refl
-  none_made asked told serve answer old new rose running p q settled (Made u duties for meant made) =
+      (asked : Asked) (told : Previewed) → IsToServe o.read true words.targets words.cores v asked told → (answer : Result (Unit {0}) Fault) (old new : Device) (p q : Sunk)
+      (settled : Result (Unit {0}) StoreFault) (g : GoesOn o.act asked.flow words.cores asked.targets told.jobs told.plan.states told.store answer old new p q settled) → turns_made g ≡ []
+  none_made asked told serve answer old new p q settled (NotFirm f is unchanged unput) = refl
+  none_made asked told serve answer old new p q settled (NoMemory u is unchanged unput) = refl
+  none_made asked told serve answer old new p q settled (Made u duties for meant made) =
       no_turns words.cores (due (next_serial told.store) duties told.jobs.jobs) made.turns (none_due _ 0 told.jobs.jobs left.plan.jobs told.plan.states duties (clean_again asked told serve) for) made.in_order
 
   none_went :
-      (answer : Result (Unit {0}) Fault) (new : Option World) (rose : Type 0) (running : List ℕ) (p q : Option Text)
-      (h : Went o.act words.cores answer (IsRefusal o.read true words.targets words.cores v) (IsToServe o.read true words.targets words.cores v) (Some v) new rose running p q) → turns_went h ≡ []
-  none_went answer new rose running p q (Refused f is why looked) = refl
-  none_went answer new rose running p q (Stopped f is want looked) = refl
-  none_went answer new rose running p q (Worked asked told plans worked) =
-      none_made asked told plans answer worked.carried.firm new rose running p q worked.carried.settled worked.carried.goes_on
+      (answer : Result (Unit {0}) Fault) (old new : Device) (p q : Sunk)
+      (h : Went o.act words.cores answer (IsRefusal o.read true words.targets words.cores v) (IsToServe o.read true words.targets words.cores v) old new p q) → turns_went h ≡ []
+  none_went answer old new p q (Refused f is why looked) = refl
+  none_went answer old new p q (Stopped f is want looked) = refl
+  none_went answer old new p q (Worked asked told plans worked) =
+      none_made asked told plans answer worked.carried.firm new p q worked.carried.settled worked.carried.goes_on
 
 pub next_takes_no_turn : RunLeavesAllClean → NextCallTakesNoTurn
-next_takes_no_turn exit o H words told again w v new before after last running later p q r hand sound served none same next =
-    let well = ended_well exit o H words told w v before after running p q hand sound served none in
-    none_went o words w v well.formed well.none_left same next.answer new (Rose after last) later q r next.serves
+next_takes_no_turn exit o H words told again w v old new next_old next_new p q next_p next_q at end next_at reads sound served none same next =
+    let well = ended_well exit o H words told w v old new p q at end reads sound served none in
+    none_went o words w v well.formed well.none_left same next.answer next_old next_new next_p next_q next.serves

@@ -2,17 +2,18 @@
 use Rattle.std.proofs.Common.{◌≡◌, inl, inr, ℕ, suc, Bool, true, false, List, [], ◌∷◌, ◌++◌, flat_map, map, zip, length, arith, refl, ap, sym, subst, ◌∙◌, Option, Some, None, Result, Ok, Err, is_none, if◌then◌else◌, true≢false}
 use Rattle.std.proofs.lemmas.List.{append-nil, length-map}
 use Rattle.smk_world.specs.World.{World, IsFormed, run}
-use Rattle.smk_world.specs.Calls.{Rose}
-use Rattle.smk_world.specs.Runs.{Did}
+use Rattle.smk_world.specs.Devices.{Device, Sunk, HasActed, HasLooked}
 use Rattle.smk_world.specs.Trees.{Each, IsIn}
 use Rattle.smk_flow.specs.declared.job.Job.{Job}
 use Rattle.smk_flow.specs.declared.job.Gather.{Gather}
 use Rattle.smk_flow.specs.Flows.{Flow, rule_name}
 use Rattle.smk_format.specs.Commands.{missing}
+use Rattle.smk_record.specs.Spelling.{ReadsRecords}
 use Rattle.smk_store.specs.declared.fault.StoreFault.{StoreFault}
 use Rattle.smk_store.specs.Images.{Image, seen}
 use Rattle.smk_store.specs.Serials.{greatest_serial, next_serial}
 use Rattle.smk_store.specs.Soundness.{Outside, SoundWorld, SameSources}
+use Rattle.smk_store.specs.Faults.{store_failed}
 use Rattle.smk_store.specs.Steadying.{HasTried, steady_requests}
 use Rattle.smk_store.specs.Trust.{Versions}
 use Rattle.smk_pick.specs.declared.settings.Settings.{Settings}
@@ -34,10 +35,10 @@ use Rattle.smk_plan.specs.declared.duty.Duty.{Duty}
 use Rattle.smk_run.specs.declared.ending.Ending.{Ending}
 use Rattle.smk_run.specs.declared.ending.Ending.TheVariants.{Good, Status, NoOutput, WrongKind, BadMember}
 use Rattle.smk_run.specs.declared.tally.Tally.{Tally}
-use Rattle.smk_run.specs.Duties.{Due, due, due_from, serials}
+use Rattle.smk_run.specs.Duties.{Due, due, due_from}
 use Rattle.smk_run.specs.Reports.{failure, named}
 use Rattle.smk_run.specs.Runs.{IsOutcome as IsRunOutcome, course_failure, first_failure, or_later}
-use Rattle.smk_run.specs.Turns.{Course, Unbegun, Unstarted, Unclosed, Closed, Turn, AreTurns, is_closed, is_done}
+use Rattle.smk_run.specs.Turns.{Course, Unbegun, Unstarted, Unclosed, Closed, Turn, is_closed, is_done}
 use Rattle.smk_words.specs.declared.words.RunWords.{RunWords}
 use Rattle.smk_words.specs.declared.words.Request.TheVariants.{Run as Asks}
 use Rattle.smk_cli_entry.specs.declared.asking.Asked.{Asked}
@@ -47,7 +48,7 @@ use Rattle.smk_make.specs.Faults.{of_store}
 use Rattle.smk_make.specs.Making.{AreWhatIsMeant, Concludes, GoesOn, NotFirm, NoMemory, Made}
 use Rattle.smk_plan_preview.specs.declared.previewing.Previewed.{Previewed}
 use Rattle.smk_plan_preview.specs.Previewing.{plan_of, rules_for}
-use Rattle.smk_serve.specs.Serving.{HasKept, IsAtHand, Went, Refused, Stopped, Worked, settings_of}
+use Rattle.smk_serve.specs.Serving.{Went, Refused, Stopped, Worked, settings_of}
 use Rattle.smk_cli.specs.Whole.{HasServed, IsRefusal, IsToServe}
 use Rattle.smk_safe.specs.Planned.{IsPlain, IsFit}
 use Rattle.smk_safe.specs.Safe.{IsSafeRun}
@@ -157,7 +158,7 @@ pub record HasEndedWell (o : Outside) (words : RunWords) (w v : World) : Type 0 
   pub none_left : HasNoneLeft o words w v
   pub formed : IsFormed v
 
-module _ (exit : RunLeavesAllClean) (o : Outside) (H : Versions) (w : World) (sound : SoundWorld o w H) (hand : IsAtHand o.read w) (words : RunWords) (asked : Asked) (told : Previewed)
+module _ (exit : RunLeavesAllClean) (o : Outside) (H : Versions) (w : World) (sound : SoundWorld o w H) (reads : ReadsRecords o.read) (words : RunWords) (asked : Asked) (told : Previewed)
     (to_serve : IsToServe o.read true words.targets words.cores w asked told) where
   abbrev plan : Plan
   plan = plan_of told
@@ -186,14 +187,14 @@ module _ (exit : RunLeavesAllClean) (o : Outside) (H : Versions) (w : World) (so
       (ap length planned.states ∙ length-map plan.jobs (state_of (seen o.read w) settings nothing_done plan)) to_serve.plan.unrefused
 
   module _ (v : World) (duties : List Duty) (ts : List Turn) (meant : AreWhatIsMeant told.jobs told.plan.states told.store duties) (fit : Each IsFit ts)
-      (r : IsTurnRun o H w sound hand words.targets asked words.cores told to_serve v duties ts) (all : HaveAllTurns (due (next_serial told.store) duties told.jobs.jobs) ts) where
+      (r : IsTurnRun o H w sound reads words.targets asked words.cores told to_serve v duties ts) (all : HaveAllTurns (due (next_serial told.store) duties told.jobs.jobs) ts) where
     abbrev ran : IsDueRun o w H asked.flow settings plan ts r.es
     ran = record {
       makers = told.jobs.makers;
       duties = duties;
       cores = words.cores;
       top = top;
-      reads = hand.reads;
+      reads = reads;
       sound = sound;
       is_top = is_top o w told.store to_serve.plan.stored;
       planned = planned;
@@ -213,7 +214,7 @@ module _ (exit : RunLeavesAllClean) (o : Outside) (H : Versions) (w : World) (so
     all_is = all.all ∙ ap (λ (f : ℕ → Option ℕ). length (due_from f 0 duties told.jobs.jobs)) (firsts_same top duties)
 
     safe : IsSafeRun o w H top ts r.es
-    safe = turns_safe o H w sound hand words.targets asked words.cores told to_serve v duties ts meant fit r
+    safe = turns_safe o H w sound reads words.targets asked words.cores told to_serve v duties ts meant fit r
 
     sound_end : SoundWorld o end H
     sound_end = safe.at_end all.closed
@@ -257,17 +258,15 @@ module _ (exit : RunLeavesAllClean) (o : Outside) (H : Versions) (w : World) (so
         none_gathered j i = ap (map (λ (g : Gather). g.folder)) (each_in IsPlain plan.jobs j plainly i).gathers_none
 
   goes_clean :
-      (u : Unit {0}) (v : World) (looked firm : Option World) (rose : Type 0) (running : List ℕ) (p q : Option Text) (r : Result (Unit {0}) StoreFault) →
-      HasKept o.act (Some w) looked → Did o.act looked firm (λ u es. HasTried (steady_requests told.store) r es) →
-      (g : GoesOn o.act asked.flow words.cores asked.targets told.jobs told.plan.states told.store (Ok u) firm (Some v) rose running p q r) → HasEndedWell o words w v
-  goes_clean u v looked firm rose running p q r kept settling (NotFirm f is same unput) = absurd (ok_err u (of_store f) is)
-  goes_clean u v looked firm rose running p q r kept settling (NoMemory t is same unput) = absurd (ok_err u fault.OutOfMemory is)
-  goes_clean u v looked firm rose running p q r kept settling (Made t duties for meant made) =
-      let d = made.did v refl in
-      let start = started o H w sound d.0 looked firm (HasTried (steady_requests told.store) (Ok t)) kept settling d.1 in
-      let run_is =
-      turns_run o H w sound hand words.targets asked words.cores told to_serve t d.0 v duties made.turns start made.in_order
-      (subst (λ y. Did o.act y (Some v) (AreTurns (serials told.jobs.makers (next_serial told.store) duties) made.turns)) d.1 made.did) in
+      (u : Unit {0}) (v : World) (old looked firm new : Device) (p q : Sunk) (r : Result (Unit {0}) StoreFault) (bad : Bool) → old.world ≡ Some w → new.world ≡ Some v →
+      HasLooked o.act old looked false → HasActed o.act (HasTried (steady_requests told.store) r) looked firm bad →
+      (g : GoesOn o.act asked.flow words.cores asked.targets told.jobs told.plan.states told.store (Ok u) firm new p q r) → HasEndedWell o words w v
+  goes_clean u v old looked firm new p q r bad at ends looking settling (NotFirm f is same unput) = absurd (ok_err u (of_store f) is)
+  goes_clean u v old looked firm new p q r bad at ends looking settling (NoMemory t is same unput) = absurd (ok_err u fault.OutOfMemory is)
+  goes_clean u v old looked firm new p q r bad at ends looking settling (Made t duties for meant made) =
+      let d = made.ran.did v ends in
+      let start = started o H w sound d.0 old looked firm (HasTried (steady_requests told.store) (Ok t)) bad at looking settling d.1 in
+      let run_is = turns_run o H w sound reads words.targets asked words.cores told to_serve t d.0 v duties made.turns d.2.0 start made.in_order d.2.1 d.2.2 d.2.3 in
       let fit = all_fit made.turns made.fits in
       let all = all_turns u asked.flow (due (next_serial told.store) duties told.jobs.jobs) made.turns made.failed made.ended made.answer made.concluded in
       subst (HasEndedWell o words w) (sym run_is.is) (record {
@@ -276,28 +275,29 @@ module _ (exit : RunLeavesAllClean) (o : Outside) (H : Versions) (w : World) (so
         formed = (sound_end v duties made.turns meant fit run_is all).formed;
       })
 
-module _ (exit : RunLeavesAllClean) (o : Outside) (H : Versions) (w : World) (sound : SoundWorld o w H) (hand : IsAtHand o.read w) (words : RunWords) where
+module _ (exit : RunLeavesAllClean) (o : Outside) (H : Versions) (w : World) (sound : SoundWorld o w H) (reads : ReadsRecords o.read) (words : RunWords) where
   went_clean :
-      (u : Unit {0}) (answer : Answer) (v : World) (rose : Type 0) (running : List ℕ) (p q : Option Text) → answer ≡ Ok u →
-      (h : Went o.act words.cores answer (IsRefusal o.read true words.targets words.cores w) (IsToServe o.read true words.targets words.cores w) (Some w) (Some v) rose running p q) →
+      (u : Unit {0}) (answer : Answer) (v : World) (old new : Device) (p q : Sunk) → old.world ≡ Some w → new.world ≡ Some v → answer ≡ Ok u →
+      (h : Went o.act words.cores answer (IsRefusal o.read true words.targets words.cores w) (IsToServe o.read true words.targets words.cores w) old new p q) →
       HasEndedWell o words w v
-  went_clean u (Err g) v rose running p q e h = absurd (ok_err u g (sym e))
-  went_clean u (Ok t) v rose running p q e (Refused f is why looked) = absurd (ok_err t f is)
-  went_clean u (Ok t) v rose running p q e (Stopped f is want looked) = absurd (ok_err t f is)
-  went_clean u (Ok t) v rose running p q e (Worked asked told plans worked) =
-      goes_clean exit o H w sound hand words asked told plans t v worked.looked worked.carried.firm rose running p q worked.carried.settled worked.looking worked.carried.settling worked.carried.goes_on
+  went_clean u (Err g) v old new p q at ends e h = absurd (ok_err u g (sym e))
+  went_clean u (Ok t) v old new p q at ends e (Refused f is why looked) = absurd (ok_err t f is)
+  went_clean u (Ok t) v old new p q at ends e (Stopped f is want looked) = absurd (ok_err t f is)
+  went_clean u (Ok t) v old new p q at ends e (Worked asked told plans worked) =
+      goes_clean exit o H w sound reads words asked told plans t v old worked.looked worked.carried.firm new p q worked.carried.settled (store_failed worked.carried.settled) at ends
+      worked.looking worked.carried.settling worked.carried.goes_on
 
 module _ (exit : RunLeavesAllClean) where
   -- by what a run leaves
   pub ended_well :
-      (o : Outside) (H : Versions) (words : RunWords) (told : Option Fault) (w v : World) (before after : ℕ) (running : List ℕ) (p q : Option Text) →
-      IsAtHand o.read w → SoundWorld o w H → HasServed o.act o.read (Asks words) w told (Some w) (Some v) (Rose before after) running p q → told ≡ None → HasEndedWell o words w v
-  ended_well o H words told w v before after running p q hand sound served none =
+      (o : Outside) (H : Versions) (words : RunWords) (told : Option Fault) (w v : World) (old new : Device) (p q : Sunk) → old.world ≡ Some w → new.world ≡ Some v →
+      ReadsRecords o.read → SoundWorld o w H → HasServed o.act o.read (Asks words) w told old new p q → told ≡ None → HasEndedWell o words w v
+  ended_well o H words told w v old new p q at ends reads sound served none =
       let a = no_fault served.answer told served.told_is none in
-      went_clean exit o H w sound hand words a.0 served.answer v (Rose before after) running p q a.1 served.serves
+      went_clean exit o H w sound reads words a.0 served.answer v old new p q at ends a.1 served.serves
 
   pub call_is_clean : CallIsClean
-  call_is_clean o H words told w v before after running p q hand sound served none = (ended_well o H words told w v before after running p q hand sound served none).clean
+  call_is_clean o H words told w v old new p q at ends reads sound served none = (ended_well o H words told w v old new p q at ends reads sound served none).clean
 
   pub call_leaves_none : CallLeavesNone
-  call_leaves_none o H words told w v before after running p q hand sound served none = (ended_well o H words told w v before after running p q hand sound served none).none_left
+  call_leaves_none o H words told w v old new p q at ends reads sound served none = (ended_well o H words told w v old new p q at ends reads sound served none).none_left

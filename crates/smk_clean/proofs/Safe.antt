@@ -2,29 +2,30 @@
 use Rattle.std.proofs.Common.{◌≡◌, inl, inr, ℕ, suc, Bool, true, false, List, [], ◌∷◌, ◌++◌, flat_map, fold, max, refl, ap, sym, subst, ◌∙◌, append_assoc, Option, Some, None, option_map, filter, Result, Ok, Err, true≢false}
 use Rattle.std.specs.Option.{option_and_then}
 use Rattle.std.proofs.lemmas.List.{append-nil}
-use Rattle.std.proofs.lemmas.List.Elements.{All-head, All-tail}
 use Rattle.smk_base.proofs.Under.{or_first}
 use Rattle.smk_world.specs.declared.event.Call.{Call}
 use Rattle.smk_world.specs.declared.event.Call.TheVariants.{Looked, ReadFile, ReadFolder, Written, Created, Removed, MadeParents, Settled, Protected, Started, Waited}
 use Rattle.smk_world.specs.declared.event.Event.{Event}
 use Rattle.smk_world.specs.World.{World, IsFormed, after, run}
-use Rattle.smk_world.specs.Calls.{failed, Rose}
+use Rattle.smk_world.specs.Calls.{failed}
+use Rattle.smk_world.specs.Devices.{Device, Sunk, AreLooks as OnlyLooks, HasActed, HasLooked, is_look}
 use Rattle.smk_world.specs.Requests.{request, HasDone}
 use Rattle.smk_world.specs.Requests.Request.{Settle}
-use Rattle.smk_world.specs.Runs.{Did, Follows}
+use Rattle.smk_world.specs.Runs.{Follows}
 use Rattle.smk_world.specs.Trees.{Path, Each, IsIn}
 use Rattle.smk_world.proofs.Runs.{follows_append, run_append}
 use Rattle.smk_record.specs.declared.record.Record.{Record}
 use Rattle.smk_record.specs.Records.{core}
+use Rattle.smk_record.specs.Spelling.{ReadsRecords}
 use Rattle.smk_flow.specs.Flows.{Flow}
 use Rattle.smk_store.specs.declared.fault.StoreFault.{StoreFault}
-use Rattle.smk_store.specs.declared.fault.StoreFault.TheVariants.{StampSeen, Device, OutOfMemory}
+use Rattle.smk_store.specs.declared.fault.StoreFault.TheVariants.{StampSeen, Device as DeviceFault, OutOfMemory}
 use Rattle.smk_store.specs.declared.store.Kept.{Kept}
 use Rattle.smk_store.specs.declared.store.Kept.TheVariants.{Absent, Unreadable, Held}
 use Rattle.smk_store.specs.Images.{Image, core_at, readable, stands}
-use Rattle.smk_store.specs.Loading.{is_look, AreLooks as OnlyLooks}
 use Rattle.smk_store.specs.Serials.{all_serials, greatest_serial, next_serial}
 use Rattle.smk_store.specs.Soundness.{Outside, SoundWorld}
+use Rattle.smk_store.specs.Faults.{store_failed}
 use Rattle.smk_store.specs.Steadying.{HasTried, all_signs, steady_requests}
 use Rattle.smk_store.specs.Stores.{Known}
 use Rattle.smk_store.specs.Trust.{Versions}
@@ -48,13 +49,14 @@ use Rattle.smk_made.proofs.Done.{follows_split}
 use Rattle.smk_words.specs.declared.words.Request.{Request as Asking}
 use Rattle.smk_words.specs.declared.words.Request.TheVariants.{Run, Preview}
 use Rattle.smk_cli_entry.specs.declared.asking.Asked.{Asked}
+use Rattle.smk_cli_entry.specs.Faults.{device_failed, is_device}
 use Rattle.smk_cli_entry.specs.Forms.{unbuilt}
 use Rattle.smk_make.specs.Faults.{of_store}
 use Rattle.smk_make.specs.Making.{AreWhatIsMeant, Concludes, GoesOn, NotFirm, NoMemory, Made}
 use Rattle.smk_plan_preview.specs.declared.previewing.Previewed.{Previewed}
 use Rattle.smk_plan_preview.specs.Previewing.{plan_of}
-use Rattle.smk_serve.specs.Serving.{HasKept, IsAtHand, Went, Refused, Stopped, Worked, settings_of}
-use Rattle.smk_cli.specs.Faults.{fault_of}
+use Rattle.smk_serve.specs.Ends.{fault_of}
+use Rattle.smk_serve.specs.Serving.{Went, Refused, Stopped, Worked, settings_of}
 use Rattle.smk_cli.specs.Lines.{IsOutcome}
 use Rattle.smk_cli.specs.Whole.{IsRefusal, IsToServe, Serves}
 use Rattle.smk_safe.specs.Planned.{IsFit}
@@ -116,9 +118,10 @@ look_is o (Protected p r) h = true≢false (sym h)
 look_is o (Started recipe logs command r) h = true≢false (sym h)
 look_is o (Waited r) h = true≢false (sym h)
 
-looks_are : (o : Outside) (es : List Event) → OnlyLooks es → AreLooks o es
-looks_are o [] h = tt
-looks_are o (e ∷ es) h = (look_is o e.call (All-head (λ (x : Event). is_look x.call ≡ true) e es h), looks_are o es (All-tail (λ (x : Event). is_look x.call ≡ true) e es h))
+looks_are : (o : Outside) (bad : Bool) (es : List Event) → OnlyLooks bad es → AreLooks o es
+looks_are o bad [] h = tt
+looks_are o bad (e ∷ []) h = (look_is o e.call h.0, tt)
+looks_are o bad (e ∷ (f ∷ es)) h = (look_is o e.call h.0, looks_are o bad (f ∷ es) h.2)
 
 settled_ok : (c : Call) (ps : List Path) → request c ≡ Settle ps → as_ok c ≡ Settled ps (Ok tt)
 settled_ok (Looked p r) ps h = cc
@@ -174,40 +177,41 @@ module _ (o : Outside) (H : Versions) (w : World) (sound : SoundWorld o w H) whe
       (look_all o (at_entry o top) (at_entry o top) [] refl w es only (Done (at_entry o top) (run w es)))
 
   -- only looks
-  kept_safe : (answer : Answer) (v : World) → HasKept o.act (Some w) (Some v) → Safely answer v
-  kept_safe answer v kept =
-      let d = kept.looks v refl in
-      let here = world_same w d.0 d.1 in
+  looked_safe : (answer : Answer) (v : World) (old new : Device) (bad : Bool) → old.world ≡ Some w → new.world ≡ Some v → HasLooked o.act old new bad → Safely answer v
+  looked_safe answer v old new bad at end looked =
+      let d = looked.acted.did v end in
+      let here = world_same w d.0 (sym at ∙ d.1) in
       let follows : Follows o.act w d.2.0 = subst (λ x. Follows o.act x d.2.0) (sym here) d.2.1 in
       let is : v ≡ run w d.2.0 = d.2.3 ∙ ap (λ x. run x d.2.0) (sym here) in
-      let only = looks_are o d.2.0 d.2.2 in
+      let only = looks_are o bad d.2.0 d.2.2 in
       let bound = bounded o w sound.formed in
       let safe = safe_by bound.0 d.2.0 (at_entry o bound.0) bound.1 follows (look_runs bound.0 d.2.0 only) in
       (d.2.0, follows, is, safe, λ u e. subst (λ x. SoundWorld o x H) (sym is) (safe.at_end ((looks_same o w d.2.0 only follows).children ∙ sound.no_child)))
 
   -- looks, and then these events
-  pub record HasStarted (x : World) (P : List Event → Type 0) : Type 0 where
+  pub record HasStarted (x : World) (P : World → List Event → Type 0) : Type 0 where
     pub looks : List Event
     pub more : List Event
     pub only : AreLooks o looks
     pub follows : Follows o.act w (looks ++ more)
     pub is : x ≡ run w (looks ++ more)
-    pub tried : P more
+    pub tried : P (run w looks) more
 
-  pub started : (x : World) (looked firm : Option World) (P : List Event → Type 0) → HasKept o.act (Some w) looked → Did o.act looked firm (λ u es. P es) → firm ≡ Some x → HasStarted x P
-  started x looked firm P kept did is =
-      let b = did x is in
-      let a = kept.looks b.0 b.1 in
-      let here = world_same w a.0 a.1 in
+  pub started : (x : World) (old looked firm : Device) (P : World → List Event → Type 0) (bad : Bool) → old.world ≡ Some w → HasLooked o.act old looked false
+      → HasActed o.act P looked firm bad → firm.world ≡ Some x → HasStarted x P
+  started x old looked firm P bad at looking acted is =
+      let b = acted.did x is in
+      let a = looking.acted.did b.0 b.1 in
+      let here = world_same w a.0 (sym at ∙ a.1) in
       let first : Follows o.act w a.2.0 = subst (λ y. Follows o.act y a.2.0) (sym here) a.2.1 in
       let mid : b.0 ≡ run w a.2.0 = a.2.3 ∙ ap (λ y. run y a.2.0) (sym here) in
       record {
         looks = a.2.0;
         more = b.2.0;
-        only = looks_are o a.2.0 a.2.2;
+        only = looks_are o false a.2.0 a.2.2;
         follows = follows_append o.act w a.2.0 b.2.0 first (subst (λ y. Follows o.act y b.2.0) mid b.2.1);
         is = b.2.3 ∙ ap (λ y. run y b.2.0) mid ∙ sym (run_append w a.2.0 b.2.0);
-        tried = b.2.2;
+        tried = subst (λ y. P y b.2.0) mid b.2.2;
       }
 
   -- a settling, or one that failed
@@ -227,14 +231,14 @@ module _ (o : Outside) (H : Versions) (w : World) (sound : SoundWorld o w H) whe
   one_of ps (e ∷ []) h = (e, refl, settled_done e.call ps h.0 h.1)
   one_of ps (e ∷ (f ∷ es)) h = absurd h.2
 
-  tried_runs : (ps : List Path) (s : RunState) (u : World) (es : List Event) (r : Result (Unit {0}) StoreFault) → s.faulted ≡ false → HasTried (Settle ps ∷ []) r es → (end : RunState) × Runs o s u es end
+  tried_runs : (ps : List Path) (s : RunState) (u : World) (es : List Event) (r : Result (Unit {0}) StoreFault) → s.faulted ≡ false → HasTried (Settle ps ∷ []) r u es → (end : RunState) × Runs o s u es end
   tried_runs ps s u [] (Ok t) calm h = absurd h
   tried_runs ps s u (e ∷ []) (Ok t) calm h = settle_runs ps s u e calm h.0 false h.1
   tried_runs ps s u (e ∷ (f ∷ es)) (Ok t) calm h = absurd h.2
   tried_runs ps s u es (Err (StampSeen p)) calm h = absurd h
-  tried_runs ps s u [] (Err Device) calm h = absurd h
-  tried_runs ps s u (e ∷ []) (Err Device) calm h = settle_runs ps s u e calm h.0 true h.1
-  tried_runs ps s u (e ∷ (f ∷ es)) (Err Device) calm h = absurd h.2
+  tried_runs ps s u [] (Err DeviceFault) calm h = absurd h
+  tried_runs ps s u (e ∷ []) (Err DeviceFault) calm h = settle_runs ps s u e calm h.0 true h.1
+  tried_runs ps s u (e ∷ (f ∷ es)) (Err DeviceFault) calm h = absurd h.2
   tried_runs ps s u es (Err OutOfMemory) calm h = (s, subst (λ l. Runs o s u l s) (sym h) (Done s u))
 
   -- nothing comes after the settling
@@ -247,7 +251,7 @@ module _ (o : Outside) (H : Versions) (w : World) (sound : SoundWorld o w H) whe
 
   -- ## The turns
 
-  module _ (hand : IsAtHand o.read w) (words : List Text) (asked : Asked) (cores : ℕ) (told : Previewed) (to_serve : IsToServe o.read true words cores w asked told) where
+  module _ (reads : ReadsRecords o.read) (words : List Text) (asked : Asked) (cores : ℕ) (told : Previewed) (to_serve : IsToServe o.read true words cores w asked told) where
     abbrev top : ℕ
     top = greatest_serial told.store
 
@@ -263,23 +267,20 @@ module _ (o : Outside) (H : Versions) (w : World) (sound : SoundWorld o w H) whe
     built = asked_built words w.nodes asked to_serve.is_asked
 
     pub turns_run :
-        (u : Unit {0}) (x v : World) (duties : List Duty) (ts : List Turn) → HasStarted x (HasTried (steady_requests told.store) (Ok u)) →
-        AreInOrder cores (due (next_serial told.store) duties told.jobs.jobs) ts → Did o.act (Some x) (Some v) (AreTurns (serials told.jobs.makers (next_serial told.store) duties) ts) → IsTurnRun v duties ts
-    turns_run u x v duties ts h in_order did =
-        let d = did v refl in
-        let here = world_same x d.0 d.1 in
+        (u : Unit {0}) (x v : World) (duties : List Duty) (ts : List Turn) (gs : List Event) → HasStarted x (HasTried (steady_requests told.store) (Ok u)) →
+        AreInOrder cores (due (next_serial told.store) duties told.jobs.jobs) ts → Follows o.act x gs → AreTurns (serials told.jobs.makers (next_serial told.store) duties) ts x gs → v ≡ run x gs → IsTurnRun v duties ts
+    turns_run u x v duties ts gs h in_order goes_on have_turns end =
         let one = one_of (all_signs told.store) h.more h.tried in
-        let es = (h.looks ++ h.more) ++ d.2.0 in
-        let at : d.0 ≡ run w (h.looks ++ h.more) = sym here ∙ h.is in
-        let follows : Follows o.act w es = follows_append o.act w (h.looks ++ h.more) d.2.0 h.follows (subst (λ y. Follows o.act y d.2.0) at d.2.1) in
-        let is : v ≡ run w es = d.2.3 ∙ ap (λ y. run y d.2.0) at ∙ sym (run_append w (h.looks ++ h.more) d.2.0) in
+        let es = (h.looks ++ h.more) ++ gs in
+        let follows : Follows o.act w es = follows_append o.act w (h.looks ++ h.more) gs h.follows (subst (λ y. Follows o.act y gs) h.is goes_on) in
+        let is : v ≡ run w es = end ∙ ap (λ y. run y gs) h.is ∙ sym (run_append w (h.looks ++ h.more) gs) in
         let firsts = firsts_same top duties in
         let by_serials : (ℕ → Option ℕ) → Serials = λ f p. option_and_then f (maker_in told.jobs.makers p) in
         let made_same : serials told.jobs.makers (next_serial told.store) duties ≡ serials told.jobs.makers (Some (suc top)) duties = ap by_serials firsts in
-        let turns : AreTurns (serials told.jobs.makers (Some (suc top)) duties) ts (run w (h.looks ++ one.0 ∷ [])) d.2.0 =
-        subst (λ l. AreTurns (serials told.jobs.makers (Some (suc top)) duties) ts (run w (h.looks ++ l)) d.2.0) one.1
-        (subst (λ y. AreTurns (serials told.jobs.makers (Some (suc top)) duties) ts y d.2.0) at
-        (subst (λ m. AreTurns m ts d.0 d.2.0) made_same d.2.2)) in
+        let turns : AreTurns (serials told.jobs.makers (Some (suc top)) duties) ts (run w (h.looks ++ one.0 ∷ [])) gs =
+        subst (λ l. AreTurns (serials told.jobs.makers (Some (suc top)) duties) ts (run w (h.looks ++ l)) gs) one.1
+        (subst (λ y. AreTurns (serials told.jobs.makers (Some (suc top)) duties) ts y gs) h.is
+        (subst (λ m. AreTurns m ts x gs) made_same have_turns)) in
         record {
           es = es;
           follows = follows;
@@ -288,8 +289,8 @@ module _ (o : Outside) (H : Versions) (w : World) (sound : SoundWorld o w H) whe
           is_run = record {
             looks = h.looks;
             settling = one.0;
-            turns = d.2.0;
-            events = ap (λ l. (h.looks ++ l) ++ d.2.0) one.1 ∙ append_assoc h.looks (one.0 ∷ []) d.2.0;
+            turns = gs;
+            events = ap (λ l. (h.looks ++ l) ++ gs) one.1 ∙ append_assoc h.looks (one.0 ∷ []) gs;
             only_look = h.only;
             places = all_signs told.store;
             settles = one.2;
@@ -300,7 +301,7 @@ module _ (o : Outside) (H : Versions) (w : World) (sound : SoundWorld o w H) whe
 
     pub turns_safe : (v : World) (duties : List Duty) (ts : List Turn) → AreWhatIsMeant told.jobs told.plan.states told.store duties → Each IsFit ts → (r : IsTurnRun v duties ts) → IsSafeRun o w H top ts r.es
     turns_safe v duties ts meant fit r =
-        due_run_is_safe o w H asked.flow (settings_of asked cores) (plan_of told) told.jobs.makers duties cores top ts r.es hand.reads sound
+        due_run_is_safe o w H asked.flow (settings_of asked cores) (plan_of told) told.jobs.makers duties cores top ts r.es reads sound
         (is_top o w told.store to_serve.plan.stored)
         (is_plan o.read w sound.formed asked built cores told to_serve.plan)
         (all_plain o.read w sound.formed asked built cores told to_serve.plan)
@@ -315,17 +316,19 @@ module _ (o : Outside) (H : Versions) (w : World) (sound : SoundWorld o w H) whe
     all_closed u flow dues ts bad (Err f) outcome concluded = absurd (ok_err u f concluded)
 
     goes_safe :
-        (answer : Answer) (v : World) (looked firm : Option World) (rose : Type 0) (running : List ℕ) (p q : Option Text) (r : Result (Unit {0}) StoreFault) →
-        HasKept o.act (Some w) looked → Did o.act looked firm (λ u es. HasTried (steady_requests told.store) r es) →
-        (g : GoesOn o.act asked.flow cores asked.targets told.jobs told.plan.states told.store answer firm (Some v) rose running p q r) → Safely answer v
-    goes_safe answer v looked firm rose running p q r kept settling (NotFirm f is same unput) =
-        begun_safe answer v told.store (Err f) (λ u e. ok_err u (of_store f) (sym e ∙ is)) (started v looked firm (HasTried (steady_requests told.store) (Err f)) kept settling (sym same))
-    goes_safe answer v looked firm rose running p q r kept settling (NoMemory u is same unput) =
-        begun_safe answer v told.store (Ok u) (λ t e. ok_err t fault.OutOfMemory (sym e ∙ is)) (started v looked firm (HasTried (steady_requests told.store) (Ok u)) kept settling (sym same))
-    goes_safe answer v looked firm rose running p q r kept settling (Made u duties for meant made) =
-        let d = made.did v refl in
-        let start = started d.0 looked firm (HasTried (steady_requests told.store) (Ok u)) kept settling d.1 in
-        let r = turns_run u d.0 v duties made.turns start made.in_order (subst (λ y. Did o.act y (Some v) (AreTurns (serials told.jobs.makers (next_serial told.store) duties) made.turns)) d.1 made.did) in
+        (answer : Answer) (v : World) (old looked firm new : Device) (p q : Sunk) (r : Result (Unit {0}) StoreFault) (bad : Bool) → old.world ≡ Some w → new.world ≡ Some v →
+        HasLooked o.act old looked false → HasActed o.act (HasTried (steady_requests told.store) r) looked firm bad →
+        (g : GoesOn o.act asked.flow cores asked.targets told.jobs told.plan.states told.store answer firm new p q r) → Safely answer v
+    goes_safe answer v old looked firm new p q r bad at end looking settling (NotFirm f is same unput) =
+        begun_safe answer v told.store (Err f) (λ u e. ok_err u (of_store f) (sym e ∙ is))
+        (started v old looked firm (HasTried (steady_requests told.store) (Err f)) bad at looking settling (ap (λ (d : Device). d.world) (sym same) ∙ end))
+    goes_safe answer v old looked firm new p q r bad at end looking settling (NoMemory u is same unput) =
+        begun_safe answer v told.store (Ok u) (λ t e. ok_err t fault.OutOfMemory (sym e ∙ is))
+        (started v old looked firm (HasTried (steady_requests told.store) (Ok u)) bad at looking settling (ap (λ (d : Device). d.world) (sym same) ∙ end))
+    goes_safe answer v old looked firm new p q r bad at end looking settling (Made u duties for meant made) =
+        let d = made.ran.did v end in
+        let start = started d.0 old looked firm (HasTried (steady_requests told.store) (Ok u)) bad at looking settling d.1 in
+        let r = turns_run u d.0 v duties made.turns d.2.0 start made.in_order d.2.1 d.2.2 d.2.3 in
         let safe = turns_safe v duties made.turns meant (all_fit made.turns made.fits) r in (
           r.es,
           r.follows,
@@ -336,18 +339,19 @@ module _ (o : Outside) (H : Versions) (w : World) (sound : SoundWorld o w H) whe
         )
 
   went_safe :
-      (hand : IsAtHand o.read w) (words : List Text) (cores : ℕ) (answer : Answer) (v : World) (rose : Type 0) (running : List ℕ) (p q : Option Text)
-      (h : Went o.act cores answer (IsRefusal o.read true words cores w) (IsToServe o.read true words cores w) (Some w) (Some v) rose running p q) → Safely answer v
-  went_safe hand words cores answer v rose running p q (Refused f is why looked) = kept_safe answer v looked.kept
-  went_safe hand words cores answer v rose running p q (Stopped f is want looked) = kept_safe answer v looked.kept
-  went_safe hand words cores answer v rose running p q (Worked asked told plans worked) =
-      goes_safe hand words asked cores told plans answer v worked.looked worked.carried.firm rose running p q worked.carried.settled worked.looking worked.carried.settling worked.carried.goes_on
+      (reads : ReadsRecords o.read) (words : List Text) (cores : ℕ) (answer : Answer) (v : World) (old new : Device) (p q : Sunk) → old.world ≡ Some w → new.world ≡ Some v →
+      (h : Went o.act cores answer (IsRefusal o.read true words cores w) (IsToServe o.read true words cores w) old new p q) → Safely answer v
+  went_safe reads words cores answer v old new p q at end (Refused f is why looked) = looked_safe answer v old new (is_device f) at end looked.looked
+  went_safe reads words cores answer v old new p q at end (Stopped f is want looked) = looked_safe answer v old new (is_device f) at end looked.looked
+  went_safe reads words cores answer v old new p q at end (Worked asked told plans worked) =
+      goes_safe reads words asked cores told plans answer v old worked.looked worked.carried.firm new p q worked.carried.settled (store_failed worked.carried.settled) at end
+      worked.looking worked.carried.settling worked.carried.goes_on
 
   serves_safe :
-      (hand : IsAtHand o.read w) (request : Asking) (answer : Answer) (v : World) (rose : Type 0) (running : List ℕ) (p q : Option Text)
-      (h : Serves o.act o.read w answer (Some w) (Some v) rose running p q request) → Safely answer v
-  serves_safe hand (Run words) answer v rose running p q h = went_safe hand words.targets words.cores answer v rose running p q h
-  serves_safe hand (Preview words) answer v rose running p q h = kept_safe answer v h.0
+      (reads : ReadsRecords o.read) (request : Asking) (answer : Answer) (v : World) (old new : Device) (p q : Sunk) → old.world ≡ Some w → new.world ≡ Some v →
+      (h : Serves o.act o.read w answer old new p q request) → Safely answer v
+  serves_safe reads (Run words) answer v old new p q at end h = went_safe reads words.targets words.cores answer v old new p q at end h
+  serves_safe reads (Preview words) answer v old new p q at end h = looked_safe answer v old new (device_failed answer) at end h.0
 
 -- the call has no fault only where the answer is none
 pub no_fault : (answer : Answer) (told : Option Fault) → IsOutcome (fault_of answer) told → told ≡ None → (u : Unit {0}) × (answer ≡ Ok u)
@@ -362,6 +366,6 @@ no_fault (Err f) told (inr e) none = absurd (wrong (sym e.1 ∙ none))
     wrong x = cc
 
 pub call_is_safe : CallIsSafe
-call_is_safe o H request told w v before after running p q hand sound served =
-    let s = serves_safe o H w sound hand request served.answer v (Rose before after) running p q served.serves in
+call_is_safe o H request told w v old new p q at end reads sound served =
+    let s = serves_safe o H w sound reads request served.answer v old new p q at end served.serves in
     (s.0, s.1, s.2, s.3, λ none. let a = no_fault served.answer told served.told_is none in s.4 a.0 a.1)

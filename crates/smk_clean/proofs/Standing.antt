@@ -1,20 +1,20 @@
 -- A refusal stands.
-use Rattle.std.proofs.Common.{◌≡◌, ◌⊎◌, inl, inr, ℕ, true, List, [], refl, ap, subst, ◌∙◌, Option, Result, Ok, Err}
+use Rattle.std.proofs.Common.{◌≡◌, ◌⊎◌, inl, inr, ℕ, Bool, true, List, [], refl, ap, subst, ◌∙◌, Option, Result, Ok, Err}
 use Rattle.smk_world.specs.World.{World, IsFormed}
-use Rattle.smk_world.specs.Calls.{Rose}
+use Rattle.smk_world.specs.Devices.{Device, Sunk}
 use Rattle.smk_world.specs.Trees.{Act}
 use Rattle.smk_record.specs.declared.record.Record.{Record}
 use Rattle.smk_pattern.specs.Shapes.{Text as Word}
 use Rattle.smk_store.specs.Soundness.{Outside}
 use Rattle.smk_report.specs.declared.fault.Fault.{Fault}
 use Rattle.smk_report.specs.declared.fault.Fault.TheVariants as fault
-use Rattle.smk_report.specs.Lines.{Text}
 use Rattle.smk_cli_entry.specs.declared.asking.Asked.{Asked}
 use Rattle.smk_cli_entry.specs.Entry.{IsAskedIn}
+use Rattle.smk_cli_entry.specs.Faults.{is_device}
 use Rattle.smk_plan_preview.specs.declared.previewing.Previewed.{Previewed}
 use Rattle.smk_plan_preview.specs.Previewing.{plan_of, rules_for}
 use Rattle.smk_serve.specs.Serving.{HasOnlyLooked, IsRefusedPlan, IsWant, Went, Refused, Stopped, Worked, settings_of}
-use Rattle.smk_cli.specs.Faults.{fault_of}
+use Rattle.smk_serve.specs.Ends.{fault_of}
 use Rattle.smk_cli.specs.Lines.{IsOutcome}
 use Rattle.smk_cli.specs.Whole.{IsRefusal, OfWorkflow, OfPlan, IsToServe}
 use Rattle.smk_clean.specs.Standing.{IsSameFault, HasStood, RefusalStands, PlanRefusalStands}
@@ -23,10 +23,10 @@ use Rattle.smk_clean.proofs.Chained.{one_refusal, unrefused}
 use Rattle.smk_clean.proofs.Meant.{asked_built}
 
 -- the fault that is told is that of the answer, or want of memory
-stood : (act : Act) (Why : Fault → Type 0) (answer : Result (Unit {0}) Fault) (told : Option Fault) (old new : Option World) (p q : Option Text) (g : Fault)
-    → IsOutcome (fault_of answer) told → answer ≡ Err g → IsWant g ⊎ Why g → HasOnlyLooked act old new p q → HasStood act Why told old new p q
-stood act Why answer told old new p q g (inl e) is why looked = record { fault = g; told_is = e ∙ ap fault_of is; why = why; looked = looked }
-stood act Why answer told old new p q g (inr e) is why looked = record { fault = fault.OutOfMemory; told_is = e.1; why = inl (inr refl); looked = looked }
+stood : (act : Act) (Why : Fault → Type 0) (answer : Result (Unit {0}) Fault) (told : Option Fault) (old new : Device) (p q : Sunk) (g : Fault) (failed : Bool)
+    → IsOutcome (fault_of answer) told → answer ≡ Err g → IsWant g ⊎ Why g → HasOnlyLooked act old new failed p q → HasStood act Why told old new p q
+stood act Why answer told old new p q g failed (inl e) is why looked = record { fault = g; told_is = e ∙ ap fault_of is; why = why; failed = failed; looked = looked }
+stood act Why answer told old new p q g failed (inr e) is why looked = record { fault = fault.OutOfMemory; told_is = e.1; why = inl (inr refl); failed = failed; looked = looked }
 
 module _ (act : Act) (read : List ℕ → Option Record) (targets : List Word) (cores : ℕ) (w : World) (formed : IsFormed w) where
   abbrev outside : Outside
@@ -49,17 +49,17 @@ module _ (act : Act) (read : List ℕ → Option Record) (targets : List Word) (
       (subst (λ a. IsRefusedPlan read a cores w g) same refuses) refl
 
   module _ (f : Fault) (refusal : IsRefusal read true targets cores w f) (Why : Fault → Type 0) (why : (g : Fault) → IsRefusal read true targets cores w g → Why g)
-      (answer : Result (Unit {0}) Fault) (told : Option Fault) (outcome : IsOutcome (fault_of answer) told) (old new : Option World) (rose : Type 0) (running : List ℕ) (p q : Option Text) where
-    stands : Went act cores answer (IsRefusal read true targets cores w) (IsToServe read true targets cores w) old new rose running p q → HasStood act Why told old new p q
-    stands (Refused g is refuses looked) = stood act Why answer told old new p q g outcome is (inr (why g refuses)) looked
-    stands (Stopped g is want looked) = stood act Why answer told old new p q g outcome is (inl want) looked
+      (answer : Result (Unit {0}) Fault) (told : Option Fault) (outcome : IsOutcome (fault_of answer) told) (old new : Device) (p q : Sunk) where
+    stands : Went act cores answer (IsRefusal read true targets cores w) (IsToServe read true targets cores w) old new p q → HasStood act Why told old new p q
+    stands (Refused g is refuses looked) = stood act Why answer told old new p q g (is_device g) outcome is (inr (why g refuses)) looked
+    stands (Stopped g is want looked) = stood act Why answer told old new p q g (is_device g) outcome is (inl want) looked
     stands (Worked asked previewed serve worked) = absurd (not_to_serve f asked previewed refusal serve)
 
 pub refusal_stands : RefusalStands
-refusal_stands act read words f w told old new before after running p q formed refusal served =
-    stands act read words.targets words.cores w formed f refusal (IsRefusal read true words.targets words.cores w) (λ g h. h) served.answer told served.told_is old new (Rose before after) running p q served.serves
+refusal_stands act read words f w told old new p q formed refusal served =
+    stands act read words.targets words.cores w formed f refusal (IsRefusal read true words.targets words.cores w) (λ g h. h) served.answer told served.told_is old new p q served.serves
 
 pub plan_refusal_stands : PlanRefusalStands
-plan_refusal_stands act read words asked f w told old new before after running p q formed is refused served =
+plan_refusal_stands act read words asked f w told old new p q formed is refused served =
     stands act read words.targets words.cores w formed f (OfPlan asked is refused) (IsSameFault f) (λ g h. only_one act read words.targets words.cores w formed f g asked is refused h) served.answer told served.told_is
-    old new (Rose before after) running p q served.serves
+    old new p q served.serves

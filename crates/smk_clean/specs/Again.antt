@@ -1,9 +1,10 @@
 -- What a run leaves to be done that ends with status 0: nothing.
 use Rattle.std.specs.Prelude.{◌≡◌, ℕ, true, List, [], map, Option, Some, None, Result, Ok}
 use Rattle.smk_world.specs.World.{World}
-use Rattle.smk_world.specs.Calls.{Rose}
+use Rattle.smk_world.specs.Devices.{Device, Sunk}
 use Rattle.smk_world.specs.Trees.{Path, Act, Each}
 use Rattle.smk_flow.specs.Flows.{Flow}
+use Rattle.smk_record.specs.Spelling.{ReadsRecords}
 use Rattle.smk_store.specs.declared.fault.StoreFault.{StoreFault}
 use Rattle.smk_store.specs.Images.{seen}
 use Rattle.smk_store.specs.Soundness.{Outside, SoundWorld}
@@ -14,7 +15,6 @@ use Rattle.smk_trigger.specs.declared.reason.State.{State}
 use Rattle.smk_trigger.specs.declared.reason.State.TheVariants.{Clean}
 use Rattle.smk_plan.specs.States.{Plan, LastPlan, is_current}
 use Rattle.smk_report.specs.declared.fault.Fault.{Fault}
-use Rattle.smk_report.specs.Lines.{Text}
 use Rattle.smk_run.specs.Turns.{Turn}
 use Rattle.smk_words.specs.declared.words.RunWords.{RunWords}
 use Rattle.smk_words.specs.declared.words.Request.TheVariants.{Run}
@@ -22,7 +22,7 @@ use Rattle.smk_cli_entry.specs.declared.asking.Asked.{Asked}
 use Rattle.smk_cli_entry.specs.Entry.{IsAskedIn}
 use Rattle.smk_make.specs.Making.{GoesOn, NotFirm, NoMemory, Made}
 use Rattle.smk_plan_preview.specs.declared.previewing.Previewed.{Previewed}
-use Rattle.smk_serve.specs.Serving.{IsAtHand, Went, Refused, Stopped, Worked, settings_of}
+use Rattle.smk_serve.specs.Serving.{Went, Refused, Stopped, Worked, settings_of}
 use Rattle.smk_cli.specs.Whole.{HasServed}
 use Rattle.smk_exit.specs.Exit.{begun_so}
 
@@ -40,44 +40,48 @@ pub record HasNoneLeft (o : Outside) (words : RunWords) (w v : World) : Type 0 w
       (begun : List Path) →
       Each (λ p. is_current (seen o.read v) (settings_of asked words.cores) (begun_so begun) plan p ≡ true) asked.targets
 
--- A run that ends without a fault, in a sound folder that is at hand.
+-- A run that ends without a fault, in a sound folder.
 abbrev pub CallLeavesNone : Type 0
 CallLeavesNone =
-    (o : Outside) (H : Versions) (words : RunWords) (told : Option Fault) (w v : World) (faults_old faults_new : ℕ) (running : List ℕ)
-    (put_old put_new : Option Text) →
-    IsAtHand o.read w →
+    (o : Outside) (H : Versions) (words : RunWords) (told : Option Fault) (w v : World) (old new : Device) (out_old out_new : Sunk) →
+    old.world ≡ Some w →
+    new.world ≡ Some v →
+    ReadsRecords o.read →
     SoundWorld o w H →
-    HasServed o.act o.read (Run words) w told (Some w) (Some v) (Rose faults_old faults_new) running put_old put_new → told ≡ None → HasNoneLeft o words w v
+    HasServed o.act o.read (Run words) w told old new out_old out_new → told ≡ None → HasNoneLeft o words w v
 
 -- ## A run again
 
 -- the turns that were taken once all was firm
 abbrev pub turns_made :
     {act : Act} {flow : Flow} {cores : ℕ} {targets : List Path} {jobs : Jobs} {states : List State} {stored : List Known} {result : Result (Unit {0}) Fault}
-    {old new : Option World} {rose : Type 0} {running : List ℕ} {put_old put_new : Option Text} {settled : Result (Unit {0}) StoreFault} →
-    GoesOn act flow cores targets jobs states stored result old new rose running put_old put_new settled → List Turn
+    {old new : Device} {out_old out_new : Sunk} {settled : Result (Unit {0}) StoreFault} →
+    GoesOn act flow cores targets jobs states stored result old new out_old out_new settled → List Turn
 turns_made (NotFirm f is same unput) = []
 turns_made (NoMemory u is same unput) = []
 turns_made (Made u duties for meant made) = made.turns
 
 -- the turns of a run
 abbrev pub turns_went :
-    {act : Act} {cores : ℕ} {result : Result (Unit {0}) Fault} {refuses : Fault → Type 0} {plans : Asked → Previewed → Type 0} {old new : Option World}
-    {rose : Type 0} {running : List ℕ} {put_old put_new : Option Text} →
-    Went act cores result refuses plans old new rose running put_old put_new → List Turn
+    {act : Act} {cores : ℕ} {result : Result (Unit {0}) Fault} {refuses : Fault → Type 0} {plans : Asked → Previewed → Type 0} {old new : Device}
+    {out_old out_new : Sunk} →
+    Went act cores result refuses plans old new out_old out_new → List Turn
 turns_went (Refused f is why looked) = []
 turns_went (Stopped f is want looked) = []
 turns_went (Worked asked told plans worked) = turns_made worked.carried.goes_on
 
--- After a run that ended without a fault, in a sound folder at hand, a run with the same words takes no turn: in the folder that the first one left, where they ask for
--- the same of the workflow in it.
+-- After a run that ended without a fault, in a sound folder, a run with the same words takes no turn: in the folder that the first one left, where they ask for the same of
+-- the workflow in it.
 abbrev pub NextCallTakesNoTurn : Type 0
 NextCallTakesNoTurn =
-    (o : Outside) (H : Versions) (words : RunWords) (told again : Option Fault) (w v : World) (new : Option World) (faults_old faults_new faults_last : ℕ)
-    (running running_last : List ℕ) (put_old put_new put_last : Option Text) →
-    IsAtHand o.read w →
+    (o : Outside) (H : Versions) (words : RunWords) (told again : Option Fault) (w v : World) (old new next_old next_new : Device)
+    (out_old out_new next_out_old next_out_new : Sunk) →
+    old.world ≡ Some w →
+    new.world ≡ Some v →
+    next_old.world ≡ Some v →
+    ReadsRecords o.read →
     SoundWorld o w H →
-    HasServed o.act o.read (Run words) w told (Some w) (Some v) (Rose faults_old faults_new) running put_old put_new →
+    HasServed o.act o.read (Run words) w told old new out_old out_new →
     told ≡ None →
     ((asked : Asked) → IsAskedIn true words.targets w.nodes (Ok asked) → IsAskedIn true words.targets v.nodes (Ok asked)) →
-    (next : HasServed o.act o.read (Run words) v again (Some v) new (Rose faults_new faults_last) running_last put_new put_last) → turns_went next.serves ≡ []
+    (next : HasServed o.act o.read (Run words) v again next_old next_new next_out_old next_out_new) → turns_went next.serves ≡ []

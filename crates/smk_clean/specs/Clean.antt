@@ -1,8 +1,9 @@
 -- What a run leaves that ends with status 0.
-use Rattle.std.specs.Prelude.{◌≡◌, ℕ, true, List, Option, Some, None, Ok, is_none}
+use Rattle.std.specs.Prelude.{◌≡◌, true, Option, Some, None, Ok, is_none}
 use Rattle.smk_world.specs.World.{World}
-use Rattle.smk_world.specs.Calls.{Rose}
+use Rattle.smk_world.specs.Devices.{Device, Sunk}
 use Rattle.smk_world.specs.Trees.{Each}
+use Rattle.smk_record.specs.Spelling.{ReadsRecords}
 use Rattle.smk_store.specs.Images.{seen}
 use Rattle.smk_store.specs.Soundness.{Outside, SoundWorld, SameSources}
 use Rattle.smk_store.specs.Trust.{Versions}
@@ -11,12 +12,10 @@ use Rattle.smk_format.specs.Commands as format
 use Rattle.smk_chain.specs.Mean.{Setting, setting_of}
 use Rattle.smk_laws_plan.specs.Current.{IsClean}
 use Rattle.smk_report.specs.declared.fault.Fault.{Fault}
-use Rattle.smk_report.specs.Lines.{Text}
 use Rattle.smk_words.specs.declared.words.RunWords.{RunWords}
 use Rattle.smk_words.specs.declared.words.Request.TheVariants.{Run}
 use Rattle.smk_cli_entry.specs.declared.asking.Asked.{Asked}
 use Rattle.smk_cli_entry.specs.Entry.{IsAskedIn}
-use Rattle.smk_serve.specs.Serving.{IsAtHand}
 use Rattle.smk_cli.specs.Whole.{HasServed}
 
 -- what a clean run has of this flow, from the sources that stand in the folder
@@ -31,11 +30,12 @@ pub record HasMadeClean (o : Outside) (words : RunWords) (w v : World) : Type 0 
   pub targets : Each (IsClean (setting_in o w asked.flow) (seen o.read v)) asked.targets
   pub sources : SameSources (seen o.read w) (seen o.read v)
 
--- A run that ends without a fault, in a sound folder that is at hand.
+-- A run that ends without a fault, in a sound folder.
 abbrev pub CallIsClean : Type 0
 CallIsClean =
-    (o : Outside) (H : Versions) (words : RunWords) (told : Option Fault) (w v : World) (faults_old faults_new : ℕ) (running : List ℕ)
-    (put_old put_new : Option Text) →
-    IsAtHand o.read w →
+    (o : Outside) (H : Versions) (words : RunWords) (told : Option Fault) (w v : World) (old new : Device) (out_old out_new : Sunk) →
+    old.world ≡ Some w →
+    new.world ≡ Some v →
+    ReadsRecords o.read →
     SoundWorld o w H →
-    HasServed o.act o.read (Run words) w told (Some w) (Some v) (Rose faults_old faults_new) running put_old put_new → told ≡ None → HasMadeClean o words w v
+    HasServed o.act o.read (Run words) w told old new out_old out_new → told ≡ None → HasMadeClean o words w v

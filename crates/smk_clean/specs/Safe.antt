@@ -2,16 +2,15 @@
 use Rattle.std.specs.Prelude.{◌≡◌, ℕ, List, [], ◌++◌, Option, Some, None}
 use Rattle.smk_world.specs.declared.event.Event.{Event}
 use Rattle.smk_world.specs.World.{World, run}
-use Rattle.smk_world.specs.Calls.{Rose}
+use Rattle.smk_world.specs.Devices.{Device, Sunk}
 use Rattle.smk_world.specs.Runs.{Follows}
+use Rattle.smk_record.specs.Spelling.{ReadsRecords}
 use Rattle.smk_store.specs.Soundness.{Outside, SoundWorld}
 use Rattle.smk_store.specs.Trust.{Versions}
 use Rattle.smk_laws_protocol.specs.Protocol.{RunState, Runs}
 use Rattle.smk_laws_protocol.specs.Midway.{HasSafeImages, IsTop, at_entry}
 use Rattle.smk_report.specs.declared.fault.Fault.{Fault}
-use Rattle.smk_report.specs.Lines.{Text}
 use Rattle.smk_words.specs.declared.words.Request.{Request}
-use Rattle.smk_serve.specs.Serving.{IsAtHand}
 use Rattle.smk_cli.specs.Whole.{HasServed}
 
 -- The events of a call keep the folder safe: after every prefix of them whatever a crash leaves is sound, and has the sources of the entry; and where no child is
@@ -22,12 +21,13 @@ pub record IsSafeCall (o : Outside) (entry : World) (H : Versions) (es : List Ev
   pub throughout : (events rest : List Event) → es ≡ events ++ rest → HasSafeImages o entry (run entry events) H
   pub at_end : (run entry es).children ≡ [] → SoundWorld o (run entry es) H
 
--- A call in a sound folder that is at hand is safe, whatever is asked and however it ends; and where it ends without a fault, the folder is sound.
+-- A call in a sound folder is safe, whatever is asked and however it ends; and where it ends without a fault, the folder is sound.
 abbrev pub CallIsSafe : Type 0
 CallIsSafe =
-    (o : Outside) (H : Versions) (request : Request) (told : Option Fault) (w v : World) (faults_old faults_new : ℕ) (running : List ℕ)
-    (put_old put_new : Option Text) →
-    IsAtHand o.read w →
+    (o : Outside) (H : Versions) (request : Request) (told : Option Fault) (w v : World) (old new : Device) (out_old out_new : Sunk) →
+    old.world ≡ Some w →
+    new.world ≡ Some v →
+    ReadsRecords o.read →
     SoundWorld o w H →
-    HasServed o.act o.read request w told (Some w) (Some v) (Rose faults_old faults_new) running put_old put_new →
+    HasServed o.act o.read request w told old new out_old out_new →
     (es : List Event) × Follows o.act w es × (v ≡ run w es) × IsSafeCall o w H es × (told ≡ None → SoundWorld o v H)

@@ -1,12 +1,11 @@
 -- A refusal stands: what is refused isn't run.
-use Rattle.std.specs.Prelude.{◌≡◌, ◌⊎◌, ℕ, true, List, Option, Some, Ok}
+use Rattle.std.specs.Prelude.{◌≡◌, ◌⊎◌, ℕ, Bool, true, List, Option, Some, Ok}
 use Rattle.smk_world.specs.World.{World, IsFormed}
-use Rattle.smk_world.specs.Calls.{Rose}
+use Rattle.smk_world.specs.Devices.{Device, Sunk}
 use Rattle.smk_world.specs.Trees.{Act}
 use Rattle.smk_record.specs.declared.record.Record.{Record}
 use Rattle.smk_report.specs.declared.fault.Fault.{Fault}
 use Rattle.smk_report.specs.declared.fault.Fault.TheVariants as fault
-use Rattle.smk_report.specs.Lines.{Text}
 use Rattle.smk_words.specs.declared.words.RunWords.{RunWords}
 use Rattle.smk_words.specs.declared.words.Request.TheVariants.{Run}
 use Rattle.smk_cli_entry.specs.declared.asking.Asked.{Asked}
@@ -19,29 +18,29 @@ abbrev pub IsSameFault : Fault → Fault → Type 0
 IsSameFault f g = (f ≡ g) ⊎ ((m : ℕ) × (n : ℕ) × (f ≡ fault.TooManyPaths m) × (g ≡ fault.TooManyPaths n))
 
 -- The call ends with a fault, of the device, of memory, or such a one; and nothing is done but looks, and nothing is put.
-pub record HasStood (act : Act) (Why : Fault → Type 0) (told : Option Fault) (old new : Option World) (put_old put_new : Option Text) : Type 0 where
+pub record HasStood (act : Act) (Why : Fault → Type 0) (told : Option Fault) (old new : Device) (out_old out_new : Sunk) : Type 0 where
   pub fault : Fault
   pub told_is : told ≡ Some fault
   pub why : IsWant fault ⊎ Why fault
-  pub looked : HasOnlyLooked act old new put_old put_new
+  -- a look failed
+  pub failed : Bool
+  pub looked : HasOnlyLooked act old new failed out_old out_new
 
 -- What a run refuses isn't run: where something is refused of what is asked, the call ends with a refusal.
 abbrev pub RefusalStands : Type 0
 RefusalStands =
-    (act : Act) (read : List ℕ → Option Record) (words : RunWords) (f : Fault) (w : World) (told : Option Fault) (old new : Option World)
-    (faults_old faults_new : ℕ) (running : List ℕ) (put_old put_new : Option Text) →
+    (act : Act) (read : List ℕ → Option Record) (words : RunWords) (f : Fault) (w : World) (told : Option Fault) (old new : Device)
+    (out_old out_new : Sunk) →
     IsFormed w →
     IsRefusal read true words.targets words.cores w f →
-    HasServed act read (Run words) w told old new (Rose faults_old faults_new) running put_old put_new →
-    HasStood act (IsRefusal read true words.targets words.cores w) told old new put_old put_new
+    HasServed act read (Run words) w told old new out_old out_new → HasStood act (IsRefusal read true words.targets words.cores w) told old new out_old out_new
 
 -- Where the plan for what is asked is refused, the call ends with that refusal.
 abbrev pub PlanRefusalStands : Type 0
 PlanRefusalStands =
-    (act : Act) (read : List ℕ → Option Record) (words : RunWords) (asked : Asked) (f : Fault) (w : World) (told : Option Fault) (old new : Option World)
-    (faults_old faults_new : ℕ) (running : List ℕ) (put_old put_new : Option Text) →
+    (act : Act) (read : List ℕ → Option Record) (words : RunWords) (asked : Asked) (f : Fault) (w : World) (told : Option Fault) (old new : Device)
+    (out_old out_new : Sunk) →
     IsFormed w →
     IsAskedIn true words.targets w.nodes (Ok asked) →
     IsRefusedPlan read asked words.cores w f →
-    HasServed act read (Run words) w told old new (Rose faults_old faults_new) running put_old put_new →
-    HasStood act (IsSameFault f) told old new put_old put_new
+    HasServed act read (Run words) w told old new out_old out_new → HasStood act (IsSameFault f) told old new out_old out_new

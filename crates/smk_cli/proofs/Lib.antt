@@ -1,5 +1,4 @@
 pub mod Putting
-pub mod Looked
 pub mod Outcomes
 pub mod Words
 pub mod Serving

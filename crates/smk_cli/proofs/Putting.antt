@@ -1,34 +1,33 @@
 -- What is put of the line of a fault.
-use native.Mathlib.Omega.{arith}
-use Rattle.std.proofs.Common.{◌≡◌, ◌⊎◌, ℕ, Bool, true, false, [], inl, inr, refl, sym, subst, Option, Some, Result, Ok, Err, length, take, drop, is_ok, true≢false}
-use Rattle.std.specs.Prelude.{IsErr}
-use Rattle.std.proofs.lemmas.List.{take-append-drop, take_all}
-use Rattle.smk_world.specs.Calls.{HasPut}
+use Rattle.std.proofs.Common.{◌≡◌, Bool, true, false, [], ◌++◌, Some, None, Option, inl, inr, refl, sym, subst, ◌∙◌, Result, Ok, Err, is_ok}
+use Rattle.std.specs.Prelude.{is_err}
+use Rattle.std.proofs.lemmas.List.{append-nil}
+use Rattle.smk_world.specs.declared.event.Failed.{Failed}
+use Rattle.smk_world.specs.Devices.{Sunk, HasPut}
 use Rattle.smk_report.specs.Lines.{Text}
 use Rattle.smk_report.specs.declared.fault.Fault.{Fault}
 use Rattle.smk_report.specs.declared.fault.Fault.TheVariants as fault
 use Rattle.smk_report.specs.Faults.{fault_text}
-use Rattle.smk_run.specs.Reports.{HasWritten, IsFront}
-use Rattle.smk_cli.specs.Lines.{IsFaultLine}
+use Rattle.smk_run.specs.Reports.{HasReported, IsReport}
+use Rattle.smk_run.proofs.Texts.{reported_put, reported_as, reported_nothing}
+use Rattle.smk_cli.specs.Lines.{IsFaultLine, HasToldFault}
 
-put_or_rose : (ok : Bool) (rose : Type 0) (n : ℕ) (line : Text) → (ok ≡ true → n ≡ length line) → (ok ≡ false → rose) → (f : Fault) → (take n line ≡ line) ⊎ (rose ⊎ (f ≡ fault.OutOfMemory))
-put_or_rose true rose n line all bad f = inl (take_all n line (omega (arith, all refl)))
-put_or_rose false rose n line all bad f = inr (inl (bad refl))
+line_as : (f : Fault) (line : Text) (r : Result (Unit {0}) Failed) (text : Text) → line ≡ fault_text f → IsReport (is_ok r) line text → IsFaultLine (Some f) (is_err r) text
+line_as f line (Ok u) text is whole = (([], sym (whole ∙ is) ∙ sym (append-nil text)), inl (whole ∙ is))
+line_as f line (Err e) text is front = ((front.0, sym is ∙ front.1), inr (inl refl))
 
-well_put : (ok : Bool) (rose : Type 0) → (ok ≡ false → rose) → ¬ rose → ok ≡ true
-well_put true rose bad never = refl
-well_put false rose bad never = absurd (never (bad refl))
+-- the line was put, or a front of it where the sink failed
+pub told_line : (f : Fault) (line : Text) (a b : Sunk) (r : Result (Unit {0}) Failed) → line ≡ fault_text f → HasPut a b line r → HasToldFault (Some f) a b
+told_line f line a b r is h =
+    record {
+      failed = is_err r;
+      line = reported_as (IsReport (is_ok r) line) (IsFaultLine (Some f) (is_err r)) a b (is_err r) (is_err r) refl (λ t report. line_as f line r t is report) (reported_put line a b r h);
+    }
 
-pub line_put : (f : Fault) (line : Text) (ok : Bool) (old new : Option Text) (rose : Type 0)
-    → line ≡ fault_text f → HasPut old new line ok → (ok ≡ false → rose) → HasWritten old new (¬ rose) (IsFaultLine (Some f) rose)
-line_put f line ok old new rose is put bad = record {
-  told = λ now e.
-      let h = put.told now e in
-      let n = h.2.0 in
-      (h.0, h.1, (take n line, subst (λ l. IsFront (take n line) l × ((take n line ≡ l) ⊎ (rose ⊎ (f ≡ fault.OutOfMemory)))) is ((drop n line, sym (take-append-drop n line)), put_or_rose ok rose n line h.2.2 bad f), h.2.3));
-  stays = λ never some. put.stays some (well_put ok rose bad never);
-}
+-- nothing was put: there is no fault
+pub told_none : (a : Sunk) → HasToldFault None a a
+told_none a = record { failed = false; line = reported_nothing (IsFaultLine None false) a refl }
 
-pub not_ok : {A E : Type 0} (r : Result A E) → is_ok r ≡ false → IsErr r
-not_ok (Ok t) h = absurd (true≢false h)
-not_ok (Err e) h = refl
+-- or no memory for its line
+pub told_short : (a : Sunk) → HasToldFault (Some fault.OutOfMemory) a a
+told_short a = record { failed = false; line = reported_nothing (IsFaultLine (Some fault.OutOfMemory) false) a ((fault_text fault.OutOfMemory, refl), inr (inr refl)) }

@@ -1,7 +1,9 @@
 -- What is served.
 use Rattle.std.proofs.Common.{◌≡◌, Bool, true, false, List, [], ℕ, refl, sym, subst, ◌∙◌, Option, Ok, Err}
 use Rattle.smk_world.specs.World.{World}
+use Rattle.smk_world.specs.Devices.{Device, Sunk}
 use Rattle.smk_world.specs.Trees.{Act}
+use Rattle.smk_world.proofs.Devices.{looked_nothing, looked_as}
 use Rattle.smk_pattern.specs.Shapes.{Text}
 use Rattle.smk_record.specs.declared.record.Record.{Record}
 use Rattle.smk_report.specs.declared.fault.Fault.{Fault}
@@ -12,25 +14,19 @@ use Rattle.smk_plan.specs.States.{nothing_done}
 use Rattle.smk_drive.specs.Refusals.{ChainRefuses}
 use Rattle.smk_cli_entry.specs.declared.asking.Asked.{Asked}
 use Rattle.smk_cli_entry.specs.Entry.{IsAskedIn}
+use Rattle.smk_cli_entry.specs.Faults.{is_device}
 use Rattle.smk_plan_preview.specs.declared.previewing.Previewed.{Previewed}
 use Rattle.smk_plan_preview.specs.Previewing.{rules_for, IsPreviewed}
 use Rattle.smk_serve.specs.Serving.{IsWant, IsRefusedPlan, IsServed, settings_of, Stopped}
 use Rattle.smk_serve.specs.Serving as serving
-use Rattle.smk_serve.proofs.Went.{looked_not}
+use Rattle.smk_serve.proofs.Went.{only_looked}
 use Rattle.smk_cli.specs.Whole.{Serves, IsRefusal, OfPlan, IsToServe}
 use Rattle.smk_plan_preview.proofs.Looked.{IsSameFolder, seen_moved}
 
-pub no_device : (b : Bool) → b ≡ false → ¬ (b ≡ true)
-no_device b e h = never (sym h ∙ e)
-  where
-    never : true ≡ false → ⊥
-    never x = cc
-
 -- before anything was looked at memory was wanting
-pub stopped : (act : Act) (read : List ℕ → Option Record) (w : World) (f : Fault) (request : Request) (old : Option World) (rose : Type 0) (running : List ℕ) (put : Option Text) → IsWant f
-    → Serves act read w (Err f) old old rose running put put request
-stopped act read w f (Run words) old rose running put want = Stopped f refl want (looked_not act old put)
-stopped act read w f (Preview words) old rose running put want = ((looked_not act old put).kept, serving.Stopped f want refl)
+pub stopped : (act : Act) (read : List ℕ → Option Record) (w : World) (f : Fault) (request : Request) (a : Device) (p : Sunk) → IsWant f → is_device f ≡ false → Serves act read w (Err f) a a p p request
+stopped act read w f (Run words) a p want quiet = Stopped f refl want (only_looked p (looked_as (sym quiet) (looked_nothing act a)))
+stopped act read w f (Preview words) a p want quiet = (looked_as (sym quiet) (looked_nothing act a), serving.Stopped f want refl)
 
 -- after looks a plan is that of the folder as it was
 pub plan_refused : (read : List ℕ → Option Record) (run : Bool) (words : List Text) (cores : ℕ) (w v : World) (asked : Asked) (f : Fault) → IsSameFolder w v → IsAskedIn run words w.nodes (Ok asked) → IsRefusedPlan read asked cores v f

@@ -1,5 +1,4 @@
 -- Faults of the parts as those of the call.
-use Rattle.std.specs.Prelude.{Option, Some, None, Result, Ok, Err}
 use Rattle.smk_words.specs.declared.words.WordsFault.{WordsFault}
 use Rattle.smk_words.specs.declared.words.WordsFault.TheVariants as words
 use Rattle.smk_report.specs.declared.fault.Fault.{Fault}
@@ -8,8 +7,3 @@ use Rattle.smk_report.specs.declared.fault.Fault.TheVariants as fault
 abbrev pub of_words : WordsFault → Fault
 of_words words.BadWords = fault.BadWords
 of_words words.OutOfMemory = fault.OutOfMemory
-
--- the fault of an answer
-abbrev pub fault_of : Result (Unit {0}) Fault → Option Fault
-fault_of (Ok u) = None
-fault_of (Err f) = Some f

@@ -1,6 +1,7 @@
 -- What the whole call does for what the words ask.
 use Rattle.std.specs.Prelude.{ℕ, Bool, true, false, List, Option, Result, Ok}
 use Rattle.smk_world.specs.World.{World}
+use Rattle.smk_world.specs.Devices.{Device, Sunk, HasLooked}
 use Rattle.smk_world.specs.Trees.{Act}
 use Rattle.smk_pattern.specs.Shapes.{Text}
 use Rattle.smk_record.specs.declared.record.Record.{Record}
@@ -9,9 +10,10 @@ use Rattle.smk_words.specs.declared.words.Request.{Request}
 use Rattle.smk_words.specs.declared.words.Request.TheVariants.{Run, Preview}
 use Rattle.smk_cli_entry.specs.declared.asking.Asked.{Asked}
 use Rattle.smk_cli_entry.specs.Entry.{IsAskedIn, FailsToAsk}
+use Rattle.smk_cli_entry.specs.Faults.{device_failed}
 use Rattle.smk_plan_preview.specs.declared.previewing.Previewed.{Previewed}
-use Rattle.smk_serve.specs.Serving.{IsRefusedPlan, IsPlanFor, HasKept, HasListed, Went}
-use Rattle.smk_cli.specs.Faults.{fault_of}
+use Rattle.smk_serve.specs.Serving.{IsRefusedPlan, IsPlanFor, HasListed, Went}
+use Rattle.smk_serve.specs.Ends.{fault_of}
 use Rattle.smk_cli.specs.Lines.{IsOutcome}
 
 module _ (read : List ℕ → Option Record) (run : Bool) (targets : List Text) (cores : ℕ) (w : World) where
@@ -27,20 +29,15 @@ module _ (read : List ℕ → Option Record) (run : Bool) (targets : List Text) 
     pub plan : IsPlanFor read asked cores w told
 
 -- What is done for a request: a run, or a listing that leaves all as it stands.
-abbrev pub Serves :
-    Act → (List ℕ → Option Record) → World → Result (Unit {0}) Fault → Option World → Option World → Type 0 → List ℕ → Option Text → Option Text → Request →
-    Type 0
-Serves act read w answer old new rose running put_old put_new (Run words) =
-    Went act words.cores answer (IsRefusal read true words.targets words.cores w) (IsToServe read true words.targets words.cores w) old new rose running
-    put_old put_new
-Serves act read w answer old new rose running put_old put_new (Preview words) =
-    HasKept act old new
-    × HasListed (IsRefusal read false words.targets 1 w) (IsToServe read false words.targets 1 w) put_old put_new answer
+abbrev pub Serves : Act → (List ℕ → Option Record) → World → Result (Unit {0}) Fault → Device → Device → Sunk → Sunk → Request → Type 0
+Serves act read w answer old new out_old out_new (Run words) =
+    Went act words.cores answer (IsRefusal read true words.targets words.cores w) (IsToServe read true words.targets words.cores w) old new out_old out_new
+Serves act read w answer old new out_old out_new (Preview words) =
+    HasLooked act old new (device_failed answer)
+    × HasListed (IsRefusal read false words.targets 1 w) (IsToServe read false words.targets 1 w) out_old out_new answer
 
 -- What the call did for this request, and its fault: that of the answer, or want of memory in place of it.
-pub record HasServed
-    (act : Act) (read : List ℕ → Option Record) (request : Request) (w : World) (told : Option Fault) (old new : Option World) (rose : Type 0)
-    (running : List ℕ) (put_old put_new : Option Text) : Type 0 where
+pub record HasServed (act : Act) (read : List ℕ → Option Record) (request : Request) (w : World) (told : Option Fault) (old new : Device) (out_old out_new : Sunk) : Type 0 where
   pub answer : Result (Unit {0}) Fault
   pub told_is : IsOutcome (fault_of answer) told
-  pub serves : Serves act read w answer old new rose running put_old put_new request
+  pub serves : Serves act read w answer old new out_old out_new request

@@ -1,19 +1,16 @@
 //! The call that does what the words ask.
 
-ghost use Rattle.std.specs.Prelude.{◌≡◌, ◌⊎◌, ℕ, List as Items, Option, [], Some, None, Err, IfOk, IfErr, IsErr, IsSome, OnOk, is_ok, map, string_bytes, true, false};
-ghost use Rattle.smk_world.specs.World.{World};
-ghost use Rattle.smk_world.specs.Calls.{HasCause, HasPut, Rose};
+ghost use Rattle.std.specs.Prelude.{◌≡◌, ◌⊎◌, ℕ, List as Items, Option, [], Some, Err, IfOk, IfErr, map, string_bytes, true, false};
+ghost use Rattle.smk_world.specs.Devices.{WhereTold, HasLooked};
+ghost use Rattle.smk_record.specs.Spelling.{ReadsRecords};
 ghost use Rattle.smk_record.specs.declared.record.Record.{Record as RecordValue};
-ghost use Rattle.smk_report.specs.declared.fault.Fault.{Fault as FaultValue};
 ghost use Rattle.smk_report.specs.Faults as report;
-ghost use Rattle.smk_run.specs.Reports.{HasWritten};
 ghost use Rattle.smk_words.specs.declared.words.Request.{Request as RequestValue};
 ghost use Rattle.smk_words.specs.Words.{IsAsked};
 ghost use Rattle.smk_cli_entry.specs.Faults.{device_failed, is_sink};
-ghost use Rattle.smk_serve.specs.Ends.{HasEnded};
-ghost use Rattle.smk_serve.specs.Serving.{IsAtHand, HasKept, HasListed, Went};
-ghost use Rattle.smk_cli.specs.Faults as faults;
-ghost use Rattle.smk_cli.specs.Lines.{IsOutcome, IsFaultLine};
+ghost use Rattle.smk_serve.specs.Ends.{EndsAs, EndsWith, fault_of};
+ghost use Rattle.smk_serve.specs.Serving.{HasListed, Went};
+ghost use Rattle.smk_cli.specs.Lines.{IsOutcome, HasToldFault};
 ghost use Rattle.smk_cli.specs.Whole.{IsRefusal, IsToServe, Serves, HasServed};
 
 use crate::faults::of_words;
@@ -21,9 +18,10 @@ use crate::outcome::Outcome;
 use smk_base::OutOfMemory;
 use smk_cli_entry::ask;
 use smk_report::{Fault, fault_line};
+use smk_run::write_out;
 use smk_serve::{list_plan, make_targets};
 use smk_words::{Request, RunWords, read_words};
-use smk_world::{Crew, Failed, Files, Sink};
+use smk_world::{Crew, Files, Sink};
 use std::alloc::Global;
 use std::thread::Threads;
 
@@ -35,11 +33,11 @@ fn serve_run<W: Crew, O: Sink, Rt: Threads + Sync>(
     work: &mut W,
     out: &mut O,
 ) -> Result<(), Fault>
-    requires none_runs { W.running work.old ≡ [] }
-    ensures ended { HasEnded result (W.world work.old) (W.world work.new) (W.faults work.old) (W.faults work.new) (W.running work.new) (O.faults out.old) (O.faults out.new) }
-    ensures went { (w : World) → W.world work.old ≡ Some w → (read : Items ℕ → Option RecordValue) → IsAtHand read w
+    requires none_runs { (W.device work.old).running ≡ [] }
+    ensures ended { EndsAs result (W.device work.old) (W.device work.new) (O.sunk out.old) (O.sunk out.new) }
+    ensures went { WhereTold (W.device work.old) (λ w. (read : Items ℕ → Option RecordValue) → ReadsRecords read
         → Went W.act words.now.cores result (IsRefusal read true words.now.targets words.now.cores w) (IsToServe read true words.now.targets words.now.cores w)
-        (W.world work.old) (W.world work.new) (Rose (W.faults work.old) (W.faults work.new)) (W.running work.new) (O.put_so_far out.old) (O.put_so_far out.new) }
+        (W.device work.old) (W.device work.new) (O.sunk out.old) (O.sunk out.new)) }
 {
     match ask(alloc, true, work, &words.targets) {
         Err(fault) => Err(fault),
@@ -55,11 +53,11 @@ fn serve_listing<W: Files, O: Sink, Rt: Threads + Sync>(
     work: &mut W,
     out: &mut O,
 ) -> Result<(), Fault>
-    requires none_runs { W.running work.old ≡ [] }
-    ensures ended { HasEnded result (W.world work.old) (W.world work.new) (W.faults work.old) (W.faults work.new) (W.running work.new) (O.faults out.old) (O.faults out.new) }
-    ensures kept { HasKept W.act (W.world work.old) (W.world work.new) }
-    ensures listed { (w : World) → W.world work.old ≡ Some w → (read : Items ℕ → Option RecordValue) → IsAtHand read w
-        → HasListed (IsRefusal read false words.now.targets 1 w) (IsToServe read false words.now.targets 1 w) (O.put_so_far out.old) (O.put_so_far out.new) result }
+    requires none_runs { (W.device work.old).running ≡ [] }
+    ensures ended { EndsAs result (W.device work.old) (W.device work.new) (O.sunk out.old) (O.sunk out.new) }
+    ensures looked { HasLooked W.act (W.device work.old) (W.device work.new) (device_failed result) }
+    ensures listed { WhereTold (W.device work.old) (λ w. (read : Items ℕ → Option RecordValue) → ReadsRecords read
+        → HasListed (IsRefusal read false words.now.targets 1 w) (IsToServe read false words.now.targets 1 w) (O.sunk out.old) (O.sunk out.new) result) }
 {
     match ask(alloc, false, work, &words.targets) {
         Err(fault) => Err(fault),
@@ -75,10 +73,10 @@ fn serve_request<W: Crew, O: Sink, Rt: Threads + Sync>(
     work: &mut W,
     out: &mut O,
 ) -> Result<(), Fault>
-    requires none_runs { W.running work.old ≡ [] }
-    ensures ended { HasEnded result (W.world work.old) (W.world work.new) (W.faults work.old) (W.faults work.new) (W.running work.new) (O.faults out.old) (O.faults out.new) }
-    ensures serves { (w : World) → W.world work.old ≡ Some w → (read : Items ℕ → Option RecordValue) → IsAtHand read w
-        → Serves W.act read w result (W.world work.old) (W.world work.new) (Rose (W.faults work.old) (W.faults work.new)) (W.running work.new) (O.put_so_far out.old) (O.put_so_far out.new) request.now }
+    requires none_runs { (W.device work.old).running ≡ [] }
+    ensures ended { EndsAs result (W.device work.old) (W.device work.new) (O.sunk out.old) (O.sunk out.new) }
+    ensures serves { WhereTold (W.device work.old) (λ w. (read : Items ℕ → Option RecordValue) → ReadsRecords read
+        → Serves W.act read w result (W.device work.old) (W.device work.new) (O.sunk out.old) (O.sunk out.new) request.now) }
 {
     match request {
         Request::Run(words) => serve_run(rt, alloc, words, work, out),
@@ -108,13 +106,13 @@ fn serve<W: Crew, O: Sink, Rt: Threads + Sync>(
     work: &mut W,
     out: &mut O,
 ) -> Result<(), Fault>
-    requires none_runs { W.running work.old ≡ [] }
-    ensures ended { HasEnded result (W.world work.old) (W.world work.new) (W.faults work.old) (W.faults work.new) (W.running work.new) (O.faults out.old) (O.faults out.new) }
+    requires none_runs { (W.device work.old).running ≡ [] }
+    ensures ended { EndsAs result (W.device work.old) (W.device work.new) (O.sunk out.old) (O.sunk out.new) }
     ensures unread { ¬ ((asked : RequestValue) × IsAsked (map string_bytes words.now) asked)
         → ((result ≡ Err Fault.BadWords) ⊎ (result ≡ Err Fault.OutOfMemory)) × (work.new ≡ work.old) × (out.new ≡ out.old) }
-    ensures serves { (asked : RequestValue) → IsAsked (map string_bytes words.now) asked → (w : World) → W.world work.old ≡ Some w
-        → (read : Items ℕ → Option RecordValue) → IsAtHand read w
-        → Serves W.act read w result (W.world work.old) (W.world work.new) (Rose (W.faults work.old) (W.faults work.new)) (W.running work.new) (O.put_so_far out.old) (O.put_so_far out.new) asked }
+    ensures serves { (asked : RequestValue) → IsAsked (map string_bytes words.now) asked
+        → WhereTold (W.device work.old) (λ w. (read : Items ℕ → Option RecordValue) → ReadsRecords read
+        → Serves W.act read w result (W.device work.old) (W.device work.new) (O.sunk out.old) (O.sunk out.new) asked) }
 {
     match requested(alloc, words) {
         Err(fault) => Err(fault),
@@ -122,22 +120,11 @@ fn serve<W: Crew, O: Sink, Rt: Threads + Sync>(
     }
 }
 
-// Puts the text, and hands it on.
-fn write_out<O: Sink>(out: &mut O, text: &str) -> Result<(), Failed>
-    ensures put { HasPut (O.put_so_far out.old) (O.put_so_far out.new) text.now (is_ok result) }
-    ensures cause { HasCause (O.faults out.old) (O.faults out.new) (IsErr result) }
-    ensures quiet { OnOk result (O.faults out.new ≡ O.faults out.old) }
-{
-    out.put(text.as_bytes())?;
-    out.flush()
-}
-
 // Puts the line of a fault. A sink that fails loses the line alone; without memory for the line, that is the fault.
 fn tell<O: Sink>(alloc: Global, answer: Result<(), Fault>, err: &mut O) -> Outcome
     ensures status { result.status ≡ report.status_of result.fault }
-    ensures fault { IsOutcome (faults.fault_of answer) result.fault }
-    ensures line { HasWritten (O.put_so_far err.old) (O.put_so_far err.new) (¬ Rose (O.faults err.old) (O.faults err.new))
-        (IsFaultLine result.fault (Rose (O.faults err.old) (O.faults err.new))) }
+    ensures fault { IsOutcome (fault_of answer) result.fault }
+    ensures line { HasToldFault result.fault (O.sunk err.old) (O.sunk err.new) }
 {
     match answer {
         Ok(()) => Outcome::of(None),
@@ -165,7 +152,7 @@ pub fn smk<W: Crew, O: Sink, Rt: Threads + Sync>(
     out: &mut O,
     err: &mut O,
 ) -> Outcome
-    requires none_runs { W.running work.old ≡ [] }
+    requires none_runs { (W.device work.old).running ≡ [] }
 
     ensures status { result.status ≡ report.status_of result.fault }
 
@@ -174,24 +161,16 @@ pub fn smk<W: Crew, O: Sink, Rt: Threads + Sync>(
         → ((result.fault ≡ Some Fault.BadWords) ⊎ (result.fault ≡ Some Fault.OutOfMemory)) × (work.new ≡ work.old) × (out.new ≡ out.old) }
 
     // what is asked is served: it is refused, and nothing is done; or what its plan has to be run is run, in order; or the plan is listed
-    ensures serves { (asked : RequestValue) → IsAsked (map string_bytes words.now) asked → (w : World) → W.world work.old ≡ Some w
-        → (read : Items ℕ → Option RecordValue) → IsAtHand read w
-        → HasServed W.act read asked w result.fault
-        (W.world work.old) (W.world work.new) (Rose (W.faults work.old) (W.faults work.new)) (W.running work.new) (O.put_so_far out.old) (O.put_so_far out.new) }
+    ensures serves { (asked : RequestValue) → IsAsked (map string_bytes words.now) asked
+        → WhereTold (W.device work.old) (λ w. (read : Items ℕ → Option RecordValue) → ReadsRecords read
+        → HasServed W.act read asked w result.fault (W.device work.old) (W.device work.new) (O.sunk out.old) (O.sunk out.new)) }
 
-    // no child runs at the end, unless a call failed
-    ensures children { (W.running work.new ≡ []) ⊎ Rose (W.faults work.old) (W.faults work.new) }
-
-    // a fault of the device or of the sink comes only from one of its own in this call
-    ensures device { HasCause (W.faults work.old) (W.faults work.new) (result.fault ≡ Some Fault.Device) }
-    ensures output { HasCause (O.faults out.old) (O.faults out.new) (result.fault ≡ Some Fault.Output) }
-
-    // what is told stays told, unless a call fails
-    ensures stays { (IsSome (W.world work.old) → IsSome (W.world work.new)) ⊎ Rose (W.faults work.old) (W.faults work.new) }
+    // a fault of the device or of the sink comes only from one of its own in this call; and unless a call of the device failed, no child runs at the end, and what is told stays
+    // told
+    ensures ended { EndsWith result.fault (W.device work.old) (W.device work.new) (O.sunk out.old) (O.sunk out.new) }
 
     // the fault's line
-    ensures line { HasWritten (O.put_so_far err.old) (O.put_so_far err.new) (¬ Rose (O.faults err.old) (O.faults err.new))
-        (IsFaultLine result.fault (Rose (O.faults err.old) (O.faults err.new))) }
+    ensures line { HasToldFault result.fault (O.sunk err.old) (O.sunk err.new) }
 {
     let answer = serve(rt, alloc, words, work, out);
     tell(alloc, answer, err)

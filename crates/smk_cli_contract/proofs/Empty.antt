@@ -1,24 +1,30 @@
 -- A call whose log is empty meets the clauses, with want of memory.
-use Rattle.std.proofs.Common.{◌≡◌, ◌≤◌, ℕ, Bool, true, false, List, [], ◌∷◌, ◌++◌, Option, Some, None, refl, sym, subst, inl, IsTrue, arith, All}
+use Rattle.std.proofs.Common.{◌≡◌, ◌≤◌, ℕ, Bool, true, false, List, [], ◌∷◌, ◌++◌, Option, Some, None, refl, sym, subst, inl, inr, IsTrue, arith, All}
 use Rattle.std.specs.Prelude.{nat_le, nat_eq, cond, codes}
 use Rattle.std.specs.List.{list_all}
 use mathlib.Core.Path.{fun_ext}
 use Rattle.smk_base.specs.declared.tree.Amount.{Amount}
 use Rattle.smk_world.specs.declared.event.Event.{Event}
 use Rattle.smk_world.specs.World.{World, run}
-use Rattle.smk_world.specs.Trees.{Path}
+use Rattle.smk_world.specs.Devices.{Device, Sunk}
+use Rattle.smk_world.specs.Trees.{Path, Act}
+use Rattle.smk_base.specs.Place.{mark_place}
 use Rattle.smk_store.specs.Images.{Image, Content, image_of, seen, source_at}
 use Rattle.smk_store.specs.Trust.{Versions, none_eased}
 use Rattle.smk_store.specs.Soundness.{Outside, Sound, SoundWorld, EachImage}
 use Rattle.smk_laws_history.specs.Histories.{ListsAll, IsListed, KeepsListed}
 use Rattle.smk_store.specs.Safety.{SafeThroughout, SourcesOf, KeepsSound, with_sources, or_put, forgotten_so_far}
+use Rattle.smk_report.specs.declared.fault.Fault.{Fault}
+use Rattle.smk_report.specs.declared.fault.Fault.TheVariants as fault
 use Rattle.smk_report.specs.Lines.{joined, target_line}
 use Rattle.smk_drive.specs.Moments.{Rules, Moment, Begun, IsMoment, AtEntry, AtRest, Between, EachEvent, is_closed_badly}
 use Rattle.smk_drive.specs.Lawful.{Lawful, fit_together, running_jobs, ClosedWithCause, is_good_end}
+use Rattle.smk_drive.specs.Reports.{NoLines}
+use Rattle.smk_cli_contract.specs.declared.asked.Outcome.{Outcome}
 use Rattle.smk_cli_contract.specs.declared.asked.Asked.TheVariants.{Run, Preview, Unlock, Forget, Generate}
 use Rattle.smk_cli_contract.specs.Meanings.{Meanings, Request, Does, BadWords, NoCores, rules_of}
 use Rattle.smk_cli_contract.specs.Ends.{AsRun, HasLine, Stays}
-use Rattle.smk_cli_contract.specs.Clauses.{OtherCommands}
+use Rattle.smk_cli_contract.specs.Clauses.{Same, SameWorld, IsRefusal, ListingEnds, Complete, OtherCommands, OtherText, LeavesLittle, Leftovers, HasLog, HasText}
 
 pub no_split : (events : List Event) (e : Event) (rest : List Event) → [] ≡ events ++ e ∷ rest → ⊥
 no_split [] e rest h = grind arith
@@ -168,3 +174,87 @@ others_at_start g NoCores w = (λ q. refl, refl)
 
 pub not_four : ◌≡◌ {A = ℕ} 5 4 → ⊥
 not_four h = omega arith
+
+same_world : (w : World) → Same w w
+same_world w = (λ q. refl, refl)
+
+not_two : ◌≡◌ {A = ℕ} 5 2 → ⊥
+not_two h = omega arith
+
+same_at_start : (request : Request) (w : World) → SameWorld request 5 w []
+same_at_start (Does (Run words)) w = λ h. absurd (not_two h)
+same_at_start (Does (Preview words)) w = same_world w
+same_at_start (Does Unlock) w = λ h. absurd (not_two h)
+same_at_start (Does (Forget paths nolock)) w = λ h. absurd (not_two h)
+same_at_start (Does (Generate seed size)) w = λ h. absurd (not_two h)
+same_at_start BadWords w = λ h. absurd (not_two h)
+same_at_start NoCores w = λ h. absurd (not_two h)
+
+little_left : (g : Meanings) (act : Act) (request : Request) (w : World) → LeavesLittle g act request 5 w []
+little_left g act request w = λ sound quiet which. (refl, as_run g request w _ (λ r p m marked is. inl (stays_same w (mark_place p))))
+
+leftovers_at_start : (g : Meanings) (act : Act) (request : Request) (w : World) → Leftovers g act request 5 w []
+leftovers_at_start g act (Does (Run words)) w = little_left g act (Does (Run words)) w
+leftovers_at_start g act (Does (Preview words)) w = tt
+leftovers_at_start g act (Does Unlock) w = tt
+leftovers_at_start g act (Does (Forget paths nolock)) w = little_left g act (Does (Forget paths nolock)) w
+leftovers_at_start g act (Does (Generate seed size)) w = tt
+leftovers_at_start g act BadWords w = tt
+leftovers_at_start g act NoCores w = tt
+
+-- want of memory
+abbrev pub gone : Outcome
+gone = record { status = 5; fault = Some fault.OutOfMemory }
+
+complete_at_start : (g : Meanings) (act : Act) (request : Request) (old new : Device) (out_old out_new : Sunk) (w : World) → Complete g act request gone old new out_old out_new w
+complete_at_start g act (Does (Run words)) old new out_old out_new w = λ steady still sound flow paths read targets clean. inr (inl refl)
+complete_at_start g act (Does (Preview words)) old new out_old out_new w = λ steady still sound flow paths read targets clean. inr (inl refl)
+complete_at_start g act (Does Unlock) old new out_old out_new w = λ steady still. inr (inl refl)
+complete_at_start g act (Does (Forget paths nolock)) old new out_old out_new w = λ steady still. inr (inl refl)
+complete_at_start g act (Does (Generate seed size)) old new out_old out_new w = λ still. inr (inl refl)
+complete_at_start g act BadWords old new out_old out_new w = tt
+complete_at_start g act NoCores old new out_old out_new w = tt
+
+not_device : ◌≡◌ {A = Option Fault} (Some fault.OutOfMemory) (Some fault.Device) → ⊥
+not_device h = cc
+
+no_refusal : IsRefusal 5 → ⊥
+no_refusal (inl h) = not_two h
+no_refusal (inr h) = not_three h
+
+pub log_at_start : (g : Meanings) (act : Act) (request : Request) (a : Device) (p : Sunk) (w : World) → HasLog g act request gone a a p p w []
+log_at_start g act request a p w =
+    record {
+      quiet = λ h. five h;
+      outside = λ h start q out. stays_same w q;
+      unchanged = same_at_start request w;
+      lawful = λ sound. as_run g request w _ (λ r. (lawful_at_start r w sound.1.no_child, no_event r w _));
+      crashes = λ to_the_end h. (kept_at_start _ w _ to_the_end, listed_at_start _ w to_the_end);
+      device = λ h. absurd (not_device h);
+      refusal = (λ f is h. absurd (no_refusal h), λ f refuses steady still. inr refl);
+      job_faults = λ sound. as_run g request w _ (λ r. (tt, tt));
+      others = others_at_start g request w;
+      leftovers = leftovers_at_start g act request w;
+      complete = complete_at_start g act request a a p p w;
+    }
+
+listing_at_start : (g : Meanings) (act : Act) (request : Request) (w : World) → ListingEnds g act request 5 w []
+listing_at_start g act request w = λ sound h. not_zero h
+
+no_text : (g : Meanings) (request : Request) (w : World) → OtherText g request 5 w []
+no_text g (Does (Run words)) w = tt
+no_text g (Does (Preview words)) w = tt
+no_text g (Does Unlock) w = λ h. not_zero h
+no_text g (Does (Forget paths nolock)) w = λ h. not_zero h
+no_text g (Does (Generate seed size)) w = tt
+no_text g BadWords w = tt
+no_text g NoCores w = tt
+
+pub text_at_start : (g : Meanings) (act : Act) (request : Request) (w : World) → HasText g act request gone w [] []
+text_at_start g act request w =
+    record {
+      run = λ sound h. five h;
+      listing = listing_at_start g act request w;
+      partial = λ sound late. as_run g request w _ (λ r. (inl ([], NoLines, ([], refl)), λ p is_target has. absurd (no_current p has), λ h. absurd (not_three h), λ h. absurd (not_four h)));
+      others = no_text g request w;
+    }

@@ -5,6 +5,7 @@ use Rattle.smk_base.specs.Path.{own_folder}
 use Rattle.smk_world.specs.declared.event.Event.{Event}
 use Rattle.smk_world.specs.World.{World, run, reading, is_within, is_above}
 use Rattle.smk_world.specs.Calls.{failed, Rose}
+use Rattle.smk_world.specs.Devices.{Device, Sunk}
 use Rattle.smk_world.specs.Trees.{Path, Act, among}
 use Rattle.smk_store.specs.Images.{Image, is_known}
 use Rattle.smk_store.specs.Safety.{KeepsSound}
@@ -22,7 +23,7 @@ use Rattle.smk_cli_contract.specs.declared.asked.Asked.TheVariants.{Run, Preview
 use Rattle.smk_cli_contract.specs.declared.asked.Outcome.{Outcome}
 use Rattle.smk_cli_contract.specs.declared.asked.RunWords.{RunWords}
 use Rattle.smk_cli_contract.specs.Meanings.{Meanings, Request, Does, BadWords, NoCores, outside, image_at}
-use Rattle.smk_cli_contract.specs.Ends.{WhereReads, AsRun, AsPreview, IsSound, HasStart, Stays, EndsWell, CurrentIsClean, HasCleanTargets, IsFront, HasStarts, HasLinesBefore, OnlyFolderMarks, FailedSo, HasOwnStatus}
+use Rattle.smk_cli_contract.specs.Ends.{Put, HasFailedCall, WhereReads, AsRun, AsPreview, IsSound, HasStart, Stays, EndsWell, CurrentIsClean, HasCleanTargets, IsFront, HasStarts, HasLinesBefore, OnlyFolderMarks, FailedSo, HasOwnStatus}
 use Rattle.smk_cli_contract.specs.Refusing.{forgettable, Refuses, IsNamed, IsNamedInListing, IsNamedInForgetting, none_named}
 
 -- ## What stays
@@ -92,39 +93,39 @@ is_forgetting (Does (Forget paths nolock)) = true
 is_forgetting request = false
 
 -- What the call keeps of soundness, and of listed directories; to its end, but for a `--cleanup-metadata` in which the device failed.
-abbrev pub Crashes : Meanings → Act → Request → ℕ → ℕ → World → List Event → Type 0
+abbrev pub Crashes : Meanings → Act → Request → Device → Device → World → List Event → Type 0
 Crashes g act request old new entry log =
     (to_the_end : Bool) →
-    (to_the_end ≡ true → (is_forgetting request ≡ false) ⊎ IsSteady old new) →
+    (to_the_end ≡ true → (is_forgetting request ≡ false) ⊎ IsSteady old.faults new.faults) →
     KeepsSound (outside g act) entry log (forgotten_by request) to_the_end × KeepsListed (outside g act) entry log to_the_end
 
 -- ## Faults
 
 -- faults of the device and the sink come only where a count rose
-abbrev pub HasCause : Option Fault → ℕ → ℕ → ℕ → ℕ → Type 0
-HasCause (Some fault.Device) work_old work_new out_old out_new = Rose work_old work_new
-HasCause (Some fault.Output) work_old work_new out_old out_new = Rose out_old out_new
-HasCause f work_old work_new out_old out_new = Unit {0}
+abbrev pub HasCause : Option Fault → Device → Device → Sunk → Sunk → Type 0
+HasCause (Some fault.Device) old new out_old out_new = Rose old.faults new.faults
+HasCause (Some fault.Output) old new out_old out_new = Rose out_old.faults out_new.faults
+HasCause f old new out_old out_new = Unit {0}
 
 abbrev pub IsRefusal : ℕ → Type 0
 IsRefusal status = (status ≡ 2) ⊎ (status ≡ 3)
 
 -- A fault of status 2 or 3 is the first refusal that the call meets; and where it meets one and no count rose, that is the fault,
 -- or want of memory.
-abbrev pub IsRefused : Meanings → Request → Outcome → ℕ → ℕ → ℕ → ℕ → World → List Event → Type 0
-IsRefused g request outcome work_old work_new out_old out_new entry log =
+abbrev pub IsRefused : Meanings → Request → Outcome → Device → Device → Sunk → Sunk → World → List Event → Type 0
+IsRefused g request outcome old new out_old out_new entry log =
     ((f : Fault) → outcome.fault ≡ Some f → IsRefusal outcome.status → Refuses g request entry log f)
     × ((f : Fault) →
     Refuses g request entry log f →
-    IsSteady work_old work_new → IsSteady out_old out_new → (outcome.fault ≡ Some f) ⊎ (outcome.fault ≡ Some fault.OutOfMemory))
+    IsSteady old.faults new.faults → IsSteady out_old.faults out_new.faults → (outcome.fault ≡ Some f) ⊎ (outcome.fault ≡ Some fault.OutOfMemory))
 
 -- a status that isn't the command's own comes only where the count rose
-abbrev pub OwnStatus : Act → ℕ → ℕ → World → List Event → Fault → Type 0
-OwnStatus act old new entry log (fault.JobFailed rule path code) = HasOwnStatus act entry log path code ⊎ Rose old new
+abbrev pub OwnStatus : Act → Device → Device → World → List Event → Fault → Type 0
+OwnStatus act old new entry log (fault.JobFailed rule path code) = HasOwnStatus act entry log path code ⊎ Rose old.faults new.faults
 OwnStatus act old new entry log f = Unit {0}
 
 -- the fault of a failed job is how its child ended
-abbrev pub JobFaults : Meanings → Act → Request → Option Fault → ℕ → ℕ → World → List Event → Type 0
+abbrev pub JobFaults : Meanings → Act → Request → Option Fault → Device → Device → World → List Event → Type 0
 JobFaults g act request None old new entry log = Unit {0}
 JobFaults g act request (Some f) old new entry log =
     IsSound g act entry → AsRun g request entry (λ rules. FailedSo rules entry log f × OwnStatus act old new entry log f)
@@ -141,19 +142,19 @@ IsDoneFor g act w entry Named outcome =
     IsSound g act entry → WhereReads g w entry (λ rules. HasCleanTargets act rules entry → IsDoneUnless Named outcome)
 
 -- Where no count rose the call is done, unless a named refusal stands. `--generate` doesn't touch the device.
-abbrev pub Complete : Meanings → Act → Request → Outcome → ℕ → ℕ → ℕ → ℕ → World → Type 0
-Complete g act (Does (Run w)) outcome work_old work_new out_old out_new entry =
-    IsSteady work_old work_new → IsSteady out_old out_new → IsDoneFor g act w entry IsNamed outcome
-Complete g act (Does (Preview w)) outcome work_old work_new out_old out_new entry =
-    IsSteady work_old work_new → IsSteady out_old out_new → IsDoneFor g act w entry IsNamedInListing outcome
-Complete g act (Does Unlock) outcome work_old work_new out_old out_new entry =
-    IsSteady work_old work_new → IsSteady out_old out_new → IsDoneUnless none_named outcome
-Complete g act (Does (Forget paths nolock)) outcome work_old work_new out_old out_new entry =
-    IsSteady work_old work_new → IsSteady out_old out_new → IsDoneUnless IsNamedInForgetting outcome
-Complete g act (Does (Generate seed size)) outcome work_old work_new out_old out_new entry =
-    IsSteady out_old out_new → IsDoneUnless none_named outcome
-Complete g act BadWords outcome work_old work_new out_old out_new entry = Unit {0}
-Complete g act NoCores outcome work_old work_new out_old out_new entry = Unit {0}
+abbrev pub Complete : Meanings → Act → Request → Outcome → Device → Device → Sunk → Sunk → World → Type 0
+Complete g act (Does (Run w)) outcome old new out_old out_new entry =
+    IsSteady old.faults new.faults → IsSteady out_old.faults out_new.faults → IsDoneFor g act w entry IsNamed outcome
+Complete g act (Does (Preview w)) outcome old new out_old out_new entry =
+    IsSteady old.faults new.faults → IsSteady out_old.faults out_new.faults → IsDoneFor g act w entry IsNamedInListing outcome
+Complete g act (Does Unlock) outcome old new out_old out_new entry =
+    IsSteady old.faults new.faults → IsSteady out_old.faults out_new.faults → IsDoneUnless none_named outcome
+Complete g act (Does (Forget paths nolock)) outcome old new out_old out_new entry =
+    IsSteady old.faults new.faults → IsSteady out_old.faults out_new.faults → IsDoneUnless IsNamedInForgetting outcome
+Complete g act (Does (Generate seed size)) outcome old new out_old out_new entry =
+    IsSteady out_old.faults out_new.faults → IsDoneUnless none_named outcome
+Complete g act BadWords outcome old new out_old out_new entry = Unit {0}
+Complete g act NoCores outcome old new out_old out_new entry = Unit {0}
 
 -- ## The other commands
 
@@ -217,8 +218,57 @@ Leftovers g act (Does (Forget paths nolock)) status entry log = LeavesLittle g a
 Leftovers g act request status entry log = Unit {0}
 
 -- each fault puts its line on `err`, unless `err` failed or the fault is of a sink or of memory
-abbrev pub HasErrorLine : Option Fault → ℕ → ℕ → List ℕ → Type 0
+abbrev pub HasErrorLine : Option Fault → Sunk → Sunk → List ℕ → Type 0
 HasErrorLine None old new text = text ≡ []
 HasErrorLine (Some fault.Output) old new text = Unit {0}
 HasErrorLine (Some fault.OutOfMemory) old new text = Unit {0}
-HasErrorLine (Some f) old new text = IsSteady old new → text ≡ fault_text f
+HasErrorLine (Some f) old new text = IsSteady old.faults new.faults → text ≡ fault_text f
+
+-- ## All of them
+
+-- What is left of the device and of `out`.
+pub record Leaves (outcome : Outcome) (old new : Device) (out_old out_new : Sunk) : Type 0 where
+  -- no child runs at the end, unless a call of the device failed
+  pub children : (new.running ≡ []) ⊎ Rose old.faults new.faults
+  -- a fault of the device or of `out` has its cause
+  pub cause : HasCause outcome.fault old new out_old out_new
+  -- with status 0 or 1 no put failed
+  pub quiet : outcome.status ≤ 1 → out_new.faults ≡ out_old.faults
+
+module _ (g : Meanings) (act : Act) (request : Request) (outcome : Outcome) where
+  -- What the events of the call are, which lead from its entry to its exit.
+  pub record HasLog (old new : Device) (out_old out_new : Sunk) (entry : World) (log : List Event) : Type 0 where
+    -- with status 0 or 1 no call of the device failed
+    pub quiet : outcome.status ≤ 1 → Quiet log
+    -- with status 2 or 3 and no start nothing outside `.snakemake` has changed
+    pub outside : IsRefusal outcome.status → OutsideStays entry log
+    -- with status 2, and after a listing whatever comes, the world is as it was
+    pub unchanged : SameWorld request outcome.status entry log
+    -- the log of a run is lawful, whatever comes
+    pub lawful : RunIsLawful g act request outcome.status entry log
+    -- after every prefix of the log a crash leaves something sound in which directories are listed, and so is the world at the end
+    pub crashes : Crashes g act request old new entry log
+    -- a fault of the device is that of a call
+    pub device : outcome.fault ≡ Some fault.Device → HasFailedCall log
+    pub refusal : IsRefused g request outcome old new out_old out_new entry log
+    pub job_faults : JobFaults g act request outcome.fault old new entry log
+    -- the commands on the lock and on what is known
+    pub others : OtherCommands g request outcome.status entry log
+    -- what a refusal, want of memory or a sink's fault leaves
+    pub leftovers : Leftovers g act request outcome.status entry log
+    -- a run whose targets a clean run gives reports them all, unless a named refusal stands
+    pub complete : Complete g act request outcome old new out_old out_new entry
+
+  -- The text that was put, by the entry and the log.
+  pub record HasText (entry : World) (log : List Event) (text : List ℕ) : Type 0 where
+    -- a run from a sound entry with status 0 or 1
+    pub run : RunEnds g act request outcome.status entry log text
+    -- a listing with status 0 prints the plan of the entry
+    pub listing : ListingEnds g act request outcome.status entry text
+    -- any other status of a run: a front of the report, in which what is called current is clean
+    pub partial : Partial g act request outcome.status entry log text
+    -- the commands on the lock and on what is known
+    pub others : OtherText g request outcome.status entry text
+
+  abbrev pub Puts : Sunk → Sunk → World → List Event → Type 0
+  Puts out_old out_new entry log = Put out_old out_new (HasText entry log)

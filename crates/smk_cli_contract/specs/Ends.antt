@@ -10,6 +10,7 @@ use Rattle.smk_world.specs.declared.event.Node.{Node}
 use Rattle.smk_world.specs.declared.event.NodeState.{NodeState}
 use Rattle.smk_world.specs.World.{World, run, reading, MayLeave, out_paths, child_numbered}
 use Rattle.smk_world.specs.Calls.{failed, ContentsAre}
+use Rattle.smk_world.specs.Devices.{Sunk}
 use Rattle.smk_world.specs.Trees.{Path, Act, first, folders_of}
 use Rattle.smk_pattern.specs.Shapes.{Text}
 use Rattle.smk_flow.specs.declared.job.Job.{Job}
@@ -34,9 +35,9 @@ use Rattle.smk_cli_contract.specs.Meanings.{Meanings, Request, Does, Reads, Path
 -- ## A call
 
 -- where the bytes of a sink are told now: they were before, and this text was put, of which P holds
-abbrev pub Put : Option (List ℕ) → Option (List ℕ) → (List ℕ → Type 0) → Type 0
+abbrev pub Put : Sunk → Sunk → (List ℕ → Type 0) → Type 0
 Put old new P =
-    (after : List ℕ) → new ≡ Some after → (before : List ℕ) × (old ≡ Some before) × ((text : List ℕ) × (after ≡ before ++ text) × P text)
+    (after : List ℕ) → new.put ≡ Some after → (before : List ℕ) × (old.put ≡ Some before) × ((text : List ℕ) × (after ≡ before ++ text) × P text)
 
 -- P of what a run of these words goes by, where the files read and the targets are some
 abbrev pub WhereReads : Meanings → RunWords → World → (Rules → Type 0) → Type 0

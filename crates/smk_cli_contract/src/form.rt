@@ -1,10 +1,9 @@
-ghost use Rattle.std.specs.Prelude.{◌≡◌, ◌⊎◌, ◌≤◌, List, [], map, string_bytes, Some};
+ghost use Rattle.std.specs.Prelude.{◌≡◌, List, [], map, string_bytes};
 ghost use Rattle.smk_world.specs.Runs.{Did};
-ghost use Rattle.smk_world.specs.Calls.{Rose};
 ghost use Rattle.smk_report.specs.Faults.{status_of};
 ghost use Rattle.smk_cli_contract.specs.Meanings.{Meanings};
-ghost use Rattle.smk_cli_contract.specs.Ends.{Put, HasFailedCall};
-ghost use Rattle.smk_cli_contract.specs.Clauses.{Quiet, IsSteady, OutsideStays, SameWorld, RunEnds, RunIsLawful, ListingEnds, Partial, Crashes, HasCause, IsRefused, Complete, JobFaults, OtherCommands, OtherText, Leftovers, HasErrorLine};
+ghost use Rattle.smk_cli_contract.specs.Ends.{Put};
+ghost use Rattle.smk_cli_contract.specs.Clauses.{Leaves, HasLog, Puts, HasErrorLine};
 
 use crate::Outcome;
 use smk_report::Fault;
@@ -21,71 +20,22 @@ fn gives_up<W: Crew, O: Sink>(
     err: &mut O,
 ) -> Outcome
     ghost g: { Meanings }
-    requires { W.running work.old ≡ [] }
+    requires { (W.device work.old).running ≡ [] }
 
     // the status is that of the fault
     ensures status { result.status ≡ status_of result.fault }
 
-    // no child runs at the end, unless a call of the device failed
-    ensures children { W.running work.new ≡ [] ⊎ Rose (W.faults work.old) (W.faults work.new) }
+    // what is left of the device and of `out`
+    ensures leaves { Leaves result (W.device work.old) (W.device work.new) (O.sunk out.old) (O.sunk out.new) }
 
-    // status 0 or 1: no call of the device was answered Failed, and none of the sink
-    ensures quiet { result.status ≤ 1 → Did W.act (W.world work.old) (W.world work.new) (λ entry log. Quiet log) }
-    ensures quiet_sink { result.status ≤ 1 → O.faults out.new ≡ O.faults out.old }
+    // what was done
+    ensures log { Did W.act (W.device work.old).world (W.device work.new).world
+        (HasLog g W.act (g.asks (map string_bytes words.now)) result (W.device work.old) (W.device work.new) (O.sunk out.old) (O.sunk out.new)) }
 
-    // status 2 or 3 and no start: nothing outside `.snakemake` has changed
-    ensures outside { (result.status ≡ 2) ⊎ (result.status ≡ 3) →
-        Did W.act (W.world work.old) (W.world work.new) (λ entry log. OutsideStays entry log) }
-
-    // status 2, and a listing whatever comes: the world is as it was
-    ensures unchanged { Did W.act (W.world work.old) (W.world work.new) (λ entry log.
-        SameWorld (g.asks (map string_bytes words.now)) result.status entry log) }
-
-    // a run from a sound entry with status 0 or 1
-    ensures run { Did W.act (W.world work.old) (W.world work.new) (λ entry log. Put (O.put_so_far out.old) (O.put_so_far out.new) (λ text.
-        RunEnds g W.act (g.asks (map string_bytes words.now)) result.status entry log text)) }
-
-    // the log of a run is lawful, whatever comes
-    ensures lawful { Did W.act (W.world work.old) (W.world work.new) (λ entry log.
-        RunIsLawful g W.act (g.asks (map string_bytes words.now)) result.status entry log) }
-
-    // a listing with status 0 prints the plan of the entry
-    ensures listing { Did W.act (W.world work.old) (W.world work.new) (λ entry log. Put (O.put_so_far out.old) (O.put_so_far out.new) (λ text.
-        ListingEnds g W.act (g.asks (map string_bytes words.now)) result.status entry text)) }
-
-    // any other status of a run: a front of the report, in which what is called current is clean
-    ensures partial { Did W.act (W.world work.old) (W.world work.new) (λ entry log. Put (O.put_so_far out.old) (O.put_so_far out.new) (λ text.
-        Partial g W.act (g.asks (map string_bytes words.now)) result.status entry log text)) }
-
-    // after every prefix of the log a crash leaves something sound in which directories are listed, and so is the world at the end
-    ensures crashes { Did W.act (W.world work.old) (W.world work.new) (λ entry log.
-        Crashes g W.act (g.asks (map string_bytes words.now)) (W.faults work.old) (W.faults work.new) entry log) }
-
-    // each fault has its cause
-    ensures cause { HasCause result.fault (W.faults work.old) (W.faults work.new) (O.faults out.old) (O.faults out.new) }
-    ensures device { result.fault ≡ Some Fault.Device → Did W.act (W.world work.old) (W.world work.new) (λ entry log. HasFailedCall log) }
-    ensures refusal { Did W.act (W.world work.old) (W.world work.new) (λ entry log.
-        IsRefused g (g.asks (map string_bytes words.now)) result
-        (W.faults work.old) (W.faults work.new) (O.faults out.old) (O.faults out.new) entry log) }
-    ensures job_faults { Did W.act (W.world work.old) (W.world work.new) (λ entry log.
-        JobFaults g W.act (g.asks (map string_bytes words.now)) result.fault (W.faults work.old) (W.faults work.new) entry log) }
-
-    // the commands on the lock and on what is known
-    ensures others { Did W.act (W.world work.old) (W.world work.new) (λ entry log.
-        OtherCommands g (g.asks (map string_bytes words.now)) result.status entry log) }
-    ensures others_text { Did W.act (W.world work.old) (W.world work.new) (λ entry log. Put (O.put_so_far out.old) (O.put_so_far out.new) (λ text.
-        OtherText g (g.asks (map string_bytes words.now)) result.status entry text)) }
-
-    // what a refusal, want of memory or a sink's fault leaves
-    ensures leftovers { Did W.act (W.world work.old) (W.world work.new) (λ entry log.
-        Leftovers g W.act (g.asks (map string_bytes words.now)) result.status entry log) }
-    ensures error_line { Put (O.put_so_far err.old) (O.put_so_far err.new) (λ text.
-        HasErrorLine result.fault (O.faults err.old) (O.faults err.new) text) }
-
-    // a run whose targets a clean run gives reports them all, unless a named refusal stands
-    ensures complete { Did W.act (W.world work.old) (W.world work.new) (λ entry log.
-        Complete g W.act (g.asks (map string_bytes words.now)) result
-        (W.faults work.old) (W.faults work.new) (O.faults out.old) (O.faults out.new) entry) }
+    // what was put
+    ensures text { Did W.act (W.device work.old).world (W.device work.new).world
+        (Puts g W.act (g.asks (map string_bytes words.now)) result (O.sunk out.old) (O.sunk out.new)) }
+    ensures error_line { Put (O.sunk err.old) (O.sunk err.new) (HasErrorLine result.fault (O.sunk err.old) (O.sunk err.new)) }
 {
     Outcome {
         status: 5,

@@ -1,4 +1,4 @@
-pub mod Binds
+pub mod Stats
 pub mod Firsts
 pub mod Joins
 pub mod Loads

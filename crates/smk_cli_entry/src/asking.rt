@@ -1,11 +1,9 @@
 //! What words ask of a workflow.
 
-ghost use Rattle.std.specs.Prelude.{◌≡◌, [], Ok, Some, None, IfOk, IfErr, IsSome, option_map, false, true};
-ghost use Rattle.smk_world.specs.Calls.{HasCause};
-ghost use Rattle.smk_world.specs.Runs.{Did};
-ghost use Rattle.smk_eval_files.specs.Looks.{HasSeen};
+ghost use Rattle.std.specs.Prelude.{◌≡◌, [], None, IfOk, IfErr, option_map, false};
+ghost use Rattle.smk_world.specs.Devices.{WhereTold, HasLooked};
 ghost use Rattle.smk_flow.specs.Targets.{words_of, all_paths, first_bad};
-ghost use Rattle.smk_cli_entry.specs.Faults.{device_failed, is_told, is_sink};
+ghost use Rattle.smk_cli_entry.specs.Faults.{device_failed, is_sink};
 ghost use Rattle.smk_cli_entry.specs.Forms as forms;
 ghost use Rattle.smk_cli_entry.specs.Entry as spec;
 
@@ -103,12 +101,9 @@ pub fn ask<W: Files>(
     work: &mut W,
     words: &List<Text>,
 ) -> Result<Asked, Fault>
-    requires none_runs { W.running work.old ≡ [] }
-    ensures did { Did W.act (W.world work.old) (W.world work.new)
-        (HasSeen (device_failed result) (λ nodes. spec.IsAskedIn run words.now nodes result)) }
-    ensures stays { device_failed result ≡ false → IsSome (W.world work.old) → IsSome (W.world work.new) }
-    ensures cause { HasCause (W.faults work.old) (W.faults work.new) (device_failed result ≡ true) }
-    ensures running { W.running work.new ≡ W.running work.old }
+    requires none_runs { (W.device work.old).running ≡ [] }
+    ensures looked { HasLooked W.act (W.device work.old) (W.device work.new) (device_failed result) }
+    ensures told { WhereTold (W.device work.old) (λ w. spec.IsAskedIn run words.now w.nodes result) }
     ensures no_sink { IfErr result (λ f. is_sink f ≡ false) }
 {
     match read_workflow(alloc, work) {

@@ -1,10 +1,10 @@
 //! The file that has the workflow.
 
-ghost use Rattle.std.specs.Prelude.{◌≡◌, ◌∷◌, [], Ok, Some, None, IfErr, IsSome, codes, false, true};
+ghost use Rattle.std.specs.Prelude.{◌≡◌, ◌∷◌, [], Ok, IfErr, codes, false, true};
 ghost use Rattle.smk_base.specs.Path.{is_path};
-ghost use Rattle.smk_world.specs.Calls.{HasCause, stat_of};
-ghost use Rattle.smk_world.specs.Runs.{Did};
-ghost use Rattle.smk_eval_files.specs.Looks.{HasSeen, at};
+ghost use Rattle.smk_world.specs.Calls.{stat_of};
+ghost use Rattle.smk_world.specs.Devices.{WhereTold, HasLooked};
+ghost use Rattle.smk_eval_files.specs.Looks.{at};
 ghost use Rattle.smk_cli_entry.specs.Faults.{Answers, device_failed, is_sink};
 ghost use Rattle.smk_cli_entry.specs.Forms.{or_else};
 ghost use Rattle.smk_cli_entry.specs.Names as spec;
@@ -16,12 +16,9 @@ use std::alloc::Global;
 
 /// What stands at the place.
 fn stat<W: Files>(work: &mut W, place: &Place) -> Result<Stat, Fault>
-    requires none_runs { W.running work.old ≡ [] }
-    ensures did { Did W.act (W.world work.old) (W.world work.new)
-        (HasSeen (device_failed result) (λ nodes. Answers (Ok (stat_of (at nodes place.now))) result)) }
-    ensures stays { device_failed result ≡ false → IsSome (W.world work.old) → IsSome (W.world work.new) }
-    ensures cause { HasCause (W.faults work.old) (W.faults work.new) (device_failed result ≡ true) }
-    ensures running { W.running work.new ≡ W.running work.old }
+    requires none_runs { (W.device work.old).running ≡ [] }
+    ensures looked { HasLooked W.act (W.device work.old) (W.device work.new) (device_failed result) }
+    ensures told { WhereTold (W.device work.old) (λ w. Answers (Ok (stat_of (at w.nodes place.now))) result) }
     ensures no_sink { IfErr result (λ f. is_sink f ≡ false) }
 {
     match work.stat(place) {
@@ -42,12 +39,9 @@ fn where_file(path: PathText, stat: Stat) -> Option<PathText>
 
 // The path, of this place, where a file is there.
 fn file_in<W: Files>(work: &mut W, place: &Place, path: PathText) -> Result<Option<PathText>, Fault>
-    requires none_runs { W.running work.old ≡ [] }
-    ensures did { Did W.act (W.world work.old) (W.world work.new)
-        (HasSeen (device_failed result) (λ nodes. Answers (Ok (spec.where_file path (stat_of (at nodes place.now)))) result)) }
-    ensures stays { device_failed result ≡ false → IsSome (W.world work.old) → IsSome (W.world work.new) }
-    ensures cause { HasCause (W.faults work.old) (W.faults work.new) (device_failed result ≡ true) }
-    ensures running { W.running work.new ≡ W.running work.old }
+    requires none_runs { (W.device work.old).running ≡ [] }
+    ensures looked { HasLooked W.act (W.device work.old) (W.device work.new) (device_failed result) }
+    ensures told { WhereTold (W.device work.old) (λ w. Answers (Ok (spec.where_file path (stat_of (at w.nodes place.now)))) result) }
     ensures no_sink { IfErr result (λ f. is_sink f ≡ false) }
 {
     match stat(work, place) {
@@ -58,12 +52,9 @@ fn file_in<W: Files>(work: &mut W, place: &Place, path: PathText) -> Result<Opti
 
 // The path, where a file is there.
 fn file_at<W: Files>(alloc: Global, work: &mut W, path: PathText) -> Result<Option<PathText>, Fault>
-    requires none_runs { W.running work.old ≡ [] }
-    ensures did { Did W.act (W.world work.old) (W.world work.new)
-        (HasSeen (device_failed result) (λ nodes. Answers (Ok (spec.file_at nodes path)) result)) }
-    ensures stays { device_failed result ≡ false → IsSome (W.world work.old) → IsSome (W.world work.new) }
-    ensures cause { HasCause (W.faults work.old) (W.faults work.new) (device_failed result ≡ true) }
-    ensures running { W.running work.new ≡ W.running work.old }
+    requires none_runs { (W.device work.old).running ≡ [] }
+    ensures looked { HasLooked W.act (W.device work.old) (W.device work.new) (device_failed result) }
+    ensures told { WhereTold (W.device work.old) (λ w. Answers (Ok (spec.file_at w.nodes path)) result) }
     ensures no_sink { IfErr result (λ f. is_sink f ≡ false) }
 {
     let Ok(place) = Place::user(alloc, &path) else {
@@ -74,13 +65,10 @@ fn file_at<W: Files>(alloc: Global, work: &mut W, path: PathText) -> Result<Opti
 
 // The file of this name, where it is there.
 fn file_named<W: Files>(alloc: Global, work: &mut W, name: &str) -> Result<Option<PathText>, Fault>
-    requires none_runs { W.running work.old ≡ [] }
+    requires none_runs { (W.device work.old).running ≡ [] }
     requires named { is_path name.now ≡ true }
-    ensures did { Did W.act (W.world work.old) (W.world work.new)
-        (HasSeen (device_failed result) (λ nodes. Answers (Ok (spec.file_at nodes name.now)) result)) }
-    ensures stays { device_failed result ≡ false → IsSome (W.world work.old) → IsSome (W.world work.new) }
-    ensures cause { HasCause (W.faults work.old) (W.faults work.new) (device_failed result ≡ true) }
-    ensures running { W.running work.new ≡ W.running work.old }
+    ensures looked { HasLooked W.act (W.device work.old) (W.device work.new) (device_failed result) }
+    ensures told { WhereTold (W.device work.old) (λ w. Answers (Ok (spec.file_at w.nodes name.now)) result) }
     ensures no_sink { IfErr result (λ f. is_sink f ≡ false) }
 {
     match PathText::read(alloc, name) {
@@ -97,13 +85,10 @@ fn earlier_or<W: Files>(
     earlier: Option<PathText>,
     name: &str,
 ) -> Result<Option<PathText>, Fault>
-    requires none_runs { W.running work.old ≡ [] }
+    requires none_runs { (W.device work.old).running ≡ [] }
     requires named { is_path name.now ≡ true }
-    ensures did { Did W.act (W.world work.old) (W.world work.new)
-        (HasSeen (device_failed result) (λ nodes. Answers (Ok (or_else earlier (spec.file_at nodes name.now))) result)) }
-    ensures stays { device_failed result ≡ false → IsSome (W.world work.old) → IsSome (W.world work.new) }
-    ensures cause { HasCause (W.faults work.old) (W.faults work.new) (device_failed result ≡ true) }
-    ensures running { W.running work.new ≡ W.running work.old }
+    ensures looked { HasLooked W.act (W.device work.old) (W.device work.new) (device_failed result) }
+    ensures told { WhereTold (W.device work.old) (λ w. Answers (Ok (or_else earlier (spec.file_at w.nodes name.now))) result) }
     ensures no_sink { IfErr result (λ f. is_sink f ≡ false) }
 {
     match earlier {
@@ -114,12 +99,9 @@ fn earlier_or<W: Files>(
 
 // The first of two files.
 fn first_of_two<W: Files>(alloc: Global, work: &mut W) -> Result<Option<PathText>, Fault>
-    requires none_runs { W.running work.old ≡ [] }
-    ensures did { Did W.act (W.world work.old) (W.world work.new) (HasSeen (device_failed result)
-        (λ nodes. Answers (Ok (spec.first_file nodes (codes "Snakefile" ∷ codes "snakefile" ∷ []))) result)) }
-    ensures stays { device_failed result ≡ false → IsSome (W.world work.old) → IsSome (W.world work.new) }
-    ensures cause { HasCause (W.faults work.old) (W.faults work.new) (device_failed result ≡ true) }
-    ensures running { W.running work.new ≡ W.running work.old }
+    requires none_runs { (W.device work.old).running ≡ [] }
+    ensures looked { HasLooked W.act (W.device work.old) (W.device work.new) (device_failed result) }
+    ensures told { WhereTold (W.device work.old) (λ w. Answers (Ok (spec.first_file w.nodes (codes "Snakefile" ∷ codes "snakefile" ∷ []))) result) }
     ensures no_sink { IfErr result (λ f. is_sink f ≡ false) }
 {
     match file_named(alloc, work, "Snakefile") {
@@ -130,12 +112,9 @@ fn first_of_two<W: Files>(alloc: Global, work: &mut W) -> Result<Option<PathText
 
 // The first of three files.
 fn first_of_three<W: Files>(alloc: Global, work: &mut W) -> Result<Option<PathText>, Fault>
-    requires none_runs { W.running work.old ≡ [] }
-    ensures did { Did W.act (W.world work.old) (W.world work.new) (HasSeen (device_failed result)
-        (λ nodes. Answers (Ok (spec.first_file nodes (codes "Snakefile" ∷ codes "snakefile" ∷ codes "workflow/Snakefile" ∷ []))) result)) }
-    ensures stays { device_failed result ≡ false → IsSome (W.world work.old) → IsSome (W.world work.new) }
-    ensures cause { HasCause (W.faults work.old) (W.faults work.new) (device_failed result ≡ true) }
-    ensures running { W.running work.new ≡ W.running work.old }
+    requires none_runs { (W.device work.old).running ≡ [] }
+    ensures looked { HasLooked W.act (W.device work.old) (W.device work.new) (device_failed result) }
+    ensures told { WhereTold (W.device work.old) (λ w. Answers (Ok (spec.first_file w.nodes (codes "Snakefile" ∷ codes "snakefile" ∷ codes "workflow/Snakefile" ∷ []))) result) }
     ensures no_sink { IfErr result (λ f. is_sink f ≡ false) }
 {
     match first_of_two(alloc, work) {
@@ -146,12 +125,9 @@ fn first_of_three<W: Files>(alloc: Global, work: &mut W) -> Result<Option<PathTe
 
 // The first of all files.
 fn first_file<W: Files>(alloc: Global, work: &mut W) -> Result<Option<PathText>, Fault>
-    requires none_runs { W.running work.old ≡ [] }
-    ensures did { Did W.act (W.world work.old) (W.world work.new)
-        (HasSeen (device_failed result) (λ nodes. Answers (Ok (spec.first_file nodes spec.file_names)) result)) }
-    ensures stays { device_failed result ≡ false → IsSome (W.world work.old) → IsSome (W.world work.new) }
-    ensures cause { HasCause (W.faults work.old) (W.faults work.new) (device_failed result ≡ true) }
-    ensures running { W.running work.new ≡ W.running work.old }
+    requires none_runs { (W.device work.old).running ≡ [] }
+    ensures looked { HasLooked W.act (W.device work.old) (W.device work.new) (device_failed result) }
+    ensures told { WhereTold (W.device work.old) (λ w. Answers (Ok (spec.first_file w.nodes spec.file_names)) result) }
     ensures no_sink { IfErr result (λ f. is_sink f ≡ false) }
 {
     match first_of_three(alloc, work) {
@@ -180,12 +156,9 @@ fn or_no_file(alloc: Global, found: Option<PathText>) -> Result<PathText, Fault>
 /// `NoFile` of `Snakefile` exactly where none of them is there; `Device` where the device failed; `OutOfMemory` where there is no memory for
 /// the path.
 pub fn workflow_file<W: Files>(alloc: Global, work: &mut W) -> Result<PathText, Fault>
-    requires none_runs { W.running work.old ≡ [] }
-    ensures did { Did W.act (W.world work.old) (W.world work.new)
-        (HasSeen (device_failed result) (λ nodes. Answers (spec.workflow_file nodes) result)) }
-    ensures stays { device_failed result ≡ false → IsSome (W.world work.old) → IsSome (W.world work.new) }
-    ensures cause { HasCause (W.faults work.old) (W.faults work.new) (device_failed result ≡ true) }
-    ensures running { W.running work.new ≡ W.running work.old }
+    requires none_runs { (W.device work.old).running ≡ [] }
+    ensures looked { HasLooked W.act (W.device work.old) (W.device work.new) (device_failed result) }
+    ensures told { WhereTold (W.device work.old) (λ w. Answers (spec.workflow_file w.nodes) result) }
     ensures no_sink { IfErr result (λ f. is_sink f ≡ false) }
 {
     match first_file(alloc, work) {

@@ -1,9 +1,7 @@
 //! The workflow of a folder.
 
-ghost use Rattle.std.specs.Prelude.{◌≡◌, [], IfErr, IsSome, false, true};
-ghost use Rattle.smk_world.specs.Calls.{HasCause};
-ghost use Rattle.smk_world.specs.Runs.{Did};
-ghost use Rattle.smk_eval_files.specs.Looks.{HasSeen};
+ghost use Rattle.std.specs.Prelude.{◌≡◌, [], IfErr, false};
+ghost use Rattle.smk_world.specs.Devices.{WhereTold, HasLooked};
 ghost use Rattle.smk_cli_entry.specs.Faults.{device_failed, is_sink};
 ghost use Rattle.smk_cli_entry.specs.Entry as spec;
 
@@ -26,12 +24,9 @@ pub struct Reading {
 // The workflow of the file.
 #[tactic(auto, using(crate::proofs::Loads::load_no_sink))]
 fn read_in<W: Files>(alloc: Global, work: &mut W, file: PathText) -> Result<Reading, Fault>
-    requires none_runs { W.running work.old ≡ [] }
-    ensures did { Did W.act (W.world work.old) (W.world work.new)
-        (HasSeen (device_failed result) (λ nodes. spec.IsReadIn nodes file result)) }
-    ensures stays { device_failed result ≡ false → IsSome (W.world work.old) → IsSome (W.world work.new) }
-    ensures cause { HasCause (W.faults work.old) (W.faults work.new) (device_failed result ≡ true) }
-    ensures running { W.running work.new ≡ W.running work.old }
+    requires none_runs { (W.device work.old).running ≡ [] }
+    ensures looked { HasLooked W.act (W.device work.old) (W.device work.new) (device_failed result) }
+    ensures told { WhereTold (W.device work.old) (λ w. spec.IsReadIn w.nodes file result) }
     ensures no_sink { IfErr result (λ f. is_sink f ≡ false) }
 {
     match load(alloc, work, &file, &List::new(alloc)) {
@@ -47,12 +42,9 @@ fn read_in<W: Files>(alloc: Global, work: &mut W, file: PathText) -> Result<Read
 /// configuration, in order, `NoFile`, `TooBig` and `BadConfig` with an empty key; those of the statements, in order; those of the rules; those of
 /// the clauses. `Device` comes where the device failed, `OutOfMemory` where there is no memory for the workflow.
 pub fn read_workflow<W: Files>(alloc: Global, work: &mut W) -> Result<Reading, Fault>
-    requires none_runs { W.running work.old ≡ [] }
-    ensures did { Did W.act (W.world work.old) (W.world work.new)
-        (HasSeen (device_failed result) (λ nodes. spec.IsRead nodes result)) }
-    ensures stays { device_failed result ≡ false → IsSome (W.world work.old) → IsSome (W.world work.new) }
-    ensures cause { HasCause (W.faults work.old) (W.faults work.new) (device_failed result ≡ true) }
-    ensures running { W.running work.new ≡ W.running work.old }
+    requires none_runs { (W.device work.old).running ≡ [] }
+    ensures looked { HasLooked W.act (W.device work.old) (W.device work.new) (device_failed result) }
+    ensures told { WhereTold (W.device work.old) (λ w. spec.IsRead w.nodes result) }
     ensures no_sink { IfErr result (λ f. is_sink f ≡ false) }
 {
     match workflow_file(alloc, work) {

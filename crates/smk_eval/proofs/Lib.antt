@@ -3,4 +3,3 @@ pub mod Settings
 pub mod Told
 pub mod Merging
 pub mod Giving
-pub mod Steps

@@ -1,12 +1,10 @@
 //! Configurations, read from the working folder one over another.
 
-ghost use Rattle.std.specs.Prelude.{◌≡◌, [], Ok, IfOk, IsSome, false, true};
+ghost use Rattle.std.specs.Prelude.{◌≡◌, [], Ok, IfOk, false};
 ghost use Rattle.serde_json.specs.Data.{no_members};
-ghost use Rattle.smk_world.specs.Calls.{HasCause};
-ghost use Rattle.smk_world.specs.Runs.{Did};
+ghost use Rattle.smk_world.specs.Devices.{WhereTold, HasLooked};
 ghost use Rattle.smk_config.specs.Settings.{members};
 ghost use Rattle.smk_config.specs.Settings as settings;
-ghost use Rattle.smk_eval_files.specs.Looks.{HasSeen};
 ghost use Rattle.smk_eval_files.specs.Placing.{entries};
 ghost use Rattle.smk_eval.specs.declared.load_fault.LoadFault.TheVariants as fault;
 ghost use Rattle.smk_eval.specs.Faults.{Answers, device_failed};
@@ -74,12 +72,9 @@ fn config_path(alloc: Global, text: &Text) -> Result<PathText, LoadFault>
 
 // The configuration in the file of this path.
 fn config_file<W: Files>(alloc: Global, work: &mut W, path: &PathText) -> Result<Config, LoadFault>
-    requires none_runs { W.running work.old ≡ [] }
-    ensures did { Did W.act (W.world work.old) (W.world work.new)
-        (HasSeen (device_failed result) (λ nodes. Configures result (spec.config_file nodes path.now))) }
-    ensures stays { device_failed result ≡ false → IsSome (W.world work.old) → IsSome (W.world work.new) }
-    ensures cause { HasCause (W.faults work.old) (W.faults work.new) (device_failed result ≡ true) }
-    ensures running { W.running work.new ≡ W.running work.old }
+    requires none_runs { (W.device work.old).running ≡ [] }
+    ensures looked { HasLooked W.act (W.device work.old) (W.device work.new) (device_failed result) }
+    ensures told { WhereTold (W.device work.old) (λ w. Configures result (spec.config_file w.nodes path.now)) }
 {
     match read_bytes(alloc, work, path) {
         Err(fault) => Err(of_file(fault)),
@@ -89,12 +84,9 @@ fn config_file<W: Files>(alloc: Global, work: &mut W, path: &PathText) -> Result
 
 // The configuration in the file of this text.
 fn config_at<W: Files>(alloc: Global, work: &mut W, text: &Text) -> Result<Config, LoadFault>
-    requires none_runs { W.running work.old ≡ [] }
-    ensures did { Did W.act (W.world work.old) (W.world work.new)
-        (HasSeen (device_failed result) (λ nodes. Configures result (spec.config_at nodes text.now))) }
-    ensures stays { device_failed result ≡ false → IsSome (W.world work.old) → IsSome (W.world work.new) }
-    ensures cause { HasCause (W.faults work.old) (W.faults work.new) (device_failed result ≡ true) }
-    ensures running { W.running work.new ≡ W.running work.old }
+    requires none_runs { (W.device work.old).running ≡ [] }
+    ensures looked { HasLooked W.act (W.device work.old) (W.device work.new) (device_failed result) }
+    ensures told { WhereTold (W.device work.old) (λ w. Configures result (spec.config_at w.nodes text.now)) }
 {
     match config_path(alloc, text) {
         Err(fault) => Err(fault),
@@ -117,12 +109,9 @@ fn with_config<W: Files>(
     was: Config,
     text: &Text,
 ) -> Result<Config, LoadFault>
-    requires none_runs { W.running work.old ≡ [] }
-    ensures did { Did W.act (W.world work.old) (W.world work.new)
-        (HasSeen (device_failed result) (λ nodes. Configures result (spec.with_config nodes (members was) text.now))) }
-    ensures stays { device_failed result ≡ false → IsSome (W.world work.old) → IsSome (W.world work.new) }
-    ensures cause { HasCause (W.faults work.old) (W.faults work.new) (device_failed result ≡ true) }
-    ensures running { W.running work.new ≡ W.running work.old }
+    requires none_runs { (W.device work.old).running ≡ [] }
+    ensures looked { HasLooked W.act (W.device work.old) (W.device work.new) (device_failed result) }
+    ensures told { WhereTold (W.device work.old) (λ w. Configures result (spec.with_config w.nodes (members was) text.now)) }
 {
     match config_at(alloc, work, text) {
         Err(fault) => Err(fault),
@@ -136,12 +125,9 @@ pub(crate) fn configs<W: Files>(
     work: &mut W,
     texts: &[Text],
 ) -> Result<Config, LoadFault>
-    requires none_runs { W.running work.old ≡ [] }
-    ensures did { Did W.act (W.world work.old) (W.world work.new)
-        (HasSeen (device_failed result) (λ nodes. Configures result (spec.configs nodes no_members texts.now))) }
-    ensures stays { device_failed result ≡ false → IsSome (W.world work.old) → IsSome (W.world work.new) }
-    ensures cause { HasCause (W.faults work.old) (W.faults work.new) (device_failed result ≡ true) }
-    ensures running { W.running work.new ≡ W.running work.old }
+    requires none_runs { (W.device work.old).running ≡ [] }
+    ensures looked { HasLooked W.act (W.device work.old) (W.device work.new) (device_failed result) }
+    ensures told { WhereTold (W.device work.old) (λ w. Configures result (spec.configs w.nodes no_members texts.now)) }
 {
     let mut config = Config::new(alloc);
     for text in texts {

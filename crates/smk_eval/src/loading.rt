@@ -1,10 +1,8 @@
 //! The workflow of a working folder.
 
-ghost use Rattle.std.specs.Prelude.{◌≡◌, [], IfOk, IsSome, false, true};
-ghost use Rattle.smk_world.specs.Calls.{HasCause};
-ghost use Rattle.smk_world.specs.Runs.{Did};
+ghost use Rattle.std.specs.Prelude.{◌≡◌, [], IfOk, false};
+ghost use Rattle.smk_world.specs.Devices.{WhereTold, HasLooked};
 ghost use Rattle.smk_config.specs.Settings.{members};
-ghost use Rattle.smk_eval_files.specs.Looks.{HasSeen};
 ghost use Rattle.smk_eval_files.specs.Texts.{whole};
 ghost use Rattle.smk_eval.specs.Statements.{evaluated};
 ghost use Rattle.smk_eval.specs.Faults.{device_failed, from_said};
@@ -54,12 +52,9 @@ fn said_by<W: Files>(
     files: &List<ReadFile>,
     sets: &List<Pair>,
 ) -> Result<Workflow, LoadFault>
-    requires none_runs { W.running work.old ≡ [] }
-    ensures did { Did W.act (W.world work.old) (W.world work.new)
-        (HasSeen (device_failed result) (λ nodes. spec.Gives (spec.said_by nodes sets.now files.now) result)) }
-    ensures stays { device_failed result ≡ false → IsSome (W.world work.old) → IsSome (W.world work.new) }
-    ensures cause { HasCause (W.faults work.old) (W.faults work.new) (device_failed result ≡ true) }
-    ensures running { W.running work.new ≡ W.running work.old }
+    requires none_runs { (W.device work.old).running ≡ [] }
+    ensures looked { HasLooked W.act (W.device work.old) (W.device work.new) (device_failed result) }
+    ensures told { WhereTold (W.device work.old) (λ w. spec.Gives (spec.said_by w.nodes sets.now files.now) result) }
 {
     match configs_named(alloc, files.as_slice()) {
         Err(_) => Err(LoadFault::OutOfMemory),
@@ -82,12 +77,9 @@ pub fn load<W: Files>(
     file: &PathText,
     sets: &List<Pair>,
 ) -> Result<Workflow, LoadFault>
-    requires none_runs { W.running work.old ≡ [] }
-    ensures did { Did W.act (W.world work.old) (W.world work.new)
-        (HasSeen (device_failed result) (λ nodes. spec.Gives (spec.loaded nodes file.now sets.now) result)) }
-    ensures stays { device_failed result ≡ false → IsSome (W.world work.old) → IsSome (W.world work.new) }
-    ensures cause { HasCause (W.faults work.old) (W.faults work.new) (device_failed result ≡ true) }
-    ensures running { W.running work.new ≡ W.running work.old }
+    requires none_runs { (W.device work.old).running ≡ [] }
+    ensures looked { HasLooked W.act (W.device work.old) (W.device work.new) (device_failed result) }
+    ensures told { WhereTold (W.device work.old) (λ w. spec.Gives (spec.loaded w.nodes file.now sets.now) result) }
 {
     let Ok(path) = file.copy(alloc) else {
         return Err(LoadFault::OutOfMemory);

@@ -1,5 +1,5 @@
 -- The faults of a source.
-use Rattle.std.proofs.Common.{◌≡◌, ◌≢◌, ℕ, List, true, ap, sym, ◌∙◌, subst}
+use Rattle.std.proofs.Common.{◌≡◌, ◌≢◌, ℕ, List, true, ap, sym, ◌∙◌}
 use Rattle.std.specs.Prelude.{Result, Err}
 use Rattle.smk_lex.specs.declared.token.Token.{Token}
 use Rattle.smk_lex.specs.declared.token.LexFault.{LexFault}

@@ -5,7 +5,7 @@ use Rattle.smk_eval_files.specs.declared.reading.Opened.{Opened}
 use Rattle.smk_eval_files.specs.declared.fault.FileFault.{FileFault}
 use Rattle.smk_eval_files.specs.declared.fault.FileFault.TheVariants.{IncludeDepth}
 use Rattle.smk_eval_files.specs.Looks.{Nodes}
-use Rattle.smk_eval_files.specs.Reading.{Answers, Files, target, and_then, bytes_at, syntax_in, read_as, onto, included, with_includes, files_from}
+use Rattle.smk_eval_files.specs.Reading.{Files, and_then, bytes_at, syntax_in, read_as, onto, included, with_includes, files_from}
 use Rattle.smk_eval_files.specs.Opening.{opened, opened_as, include_from}
 
 then_same : {A B : Type 0} (m : Result A FileFault) (f g : A → Result B FileFault) → ((x : A) → f x ≡ g x) → and_then m f ≡ and_then m g
@@ -57,7 +57,3 @@ later_is zero nodes o h = absurd (h refl)
 later_is (suc depth) nodes o h =
     let e : depth ≡ suc depth - 1 = omega arith in
     ap (λ n. onto o.files (included (files_from nodes n) o.file o.includes)) e
-
--- what a fault of a target tells of its include
-pub target_fault : (read : List ℕ → Files) (made : List ReadFile) (file t : List ℕ) (f : FileFault) → Answers (target file t) (Err f) → Answers (onto made (include_from read file t)) (Err f)
-target_fault read made file t f h = λ told. ap (λ r. onto made (and_then r read)) (h told)

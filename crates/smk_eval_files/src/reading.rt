@@ -1,10 +1,8 @@
 //! Files and their includes, read from the working folder.
 
-ghost use Rattle.std.specs.Prelude.{◌≡◌, ℕ, ◌<◌, ◌≤◌, [], IsSome, true, false};
-ghost use Rattle.smk_world.specs.Calls.{HasCause};
-ghost use Rattle.smk_world.specs.Runs.{Did};
-ghost use Rattle.smk_eval_files.specs.Looks.{HasSeen};
-ghost use Rattle.smk_eval_files.specs.Reading.{Answers, device_failed, bytes_in, bytes_at, target, onto, included, files_from, files_at};
+ghost use Rattle.std.specs.Prelude.{◌≡◌, [], false};
+ghost use Rattle.smk_world.specs.Devices.{WhereTold, HasLooked};
+ghost use Rattle.smk_eval_files.specs.Reading.{Answers, device_failed, bytes_in, bytes_at, onto, included, files_from, files_at};
 ghost use Rattle.smk_eval_files.specs.Opening.{opened_as, include_from};
 
 use crate::fault::FileFault;
@@ -49,12 +47,9 @@ pub fn read_bytes<W: Files>(
     work: &mut W,
     file: &PathText,
 ) -> Result<Bytes, FileFault>
-    requires none_runs { W.running work.old ≡ [] }
-    ensures did { Did W.act (W.world work.old) (W.world work.new)
-        (HasSeen (device_failed result) (λ nodes. Answers (bytes_at nodes file.now) result)) }
-    ensures stays { device_failed result ≡ false → IsSome (W.world work.old) → IsSome (W.world work.new) }
-    ensures cause { HasCause (W.faults work.old) (W.faults work.new) (device_failed result ≡ true) }
-    ensures running { W.running work.new ≡ W.running work.old }
+    requires none_runs { (W.device work.old).running ≡ [] }
+    ensures looked { HasLooked W.act (W.device work.old) (W.device work.new) (device_failed result) }
+    ensures told { WhereTold (W.device work.old) (λ w. Answers (bytes_at w.nodes file.now) result) }
 {
     let Ok(place) = Place::user(alloc, file) else {
         return Err(FileFault::OutOfMemory);
@@ -103,12 +98,9 @@ fn with_file<W: Files>(
     file: PathText,
     depth: u64,
 ) -> Result<List<ReadFile>, FileFault>
-    requires none_runs { W.running work.old ≡ [] }
-    ensures did { Did W.act (W.world work.old) (W.world work.new)
-        (HasSeen (device_failed result) (λ nodes. Answers (onto files (files_from nodes depth file)) result)) }
-    ensures stays { device_failed result ≡ false → IsSome (W.world work.old) → IsSome (W.world work.new) }
-    ensures cause { HasCause (W.faults work.old) (W.faults work.new) (device_failed result ≡ true) }
-    ensures running { W.running work.new ≡ W.running work.old }
+    requires none_runs { (W.device work.old).running ≡ [] }
+    ensures looked { HasLooked W.act (W.device work.old) (W.device work.new) (device_failed result) }
+    ensures told { WhereTold (W.device work.old) (λ w. Answers (onto files (files_from w.nodes depth file)) result) }
 {
     match read_bytes(alloc, work, &file) {
         Err(fault) => Err(fault),
@@ -141,12 +133,9 @@ fn with_include<W: Files>(
     text: &Text,
     depth: u64,
 ) -> Result<List<ReadFile>, FileFault>
-    requires none_runs { W.running work.old ≡ [] }
-    ensures did { Did W.act (W.world work.old) (W.world work.new)
-        (HasSeen (device_failed result) (λ nodes. Answers (onto files (include_from (files_from nodes depth) file.now text.now)) result)) }
-    ensures stays { device_failed result ≡ false → IsSome (W.world work.old) → IsSome (W.world work.new) }
-    ensures cause { HasCause (W.faults work.old) (W.faults work.new) (device_failed result ≡ true) }
-    ensures running { W.running work.new ≡ W.running work.old }
+    requires none_runs { (W.device work.old).running ≡ [] }
+    ensures looked { HasLooked W.act (W.device work.old) (W.device work.new) (device_failed result) }
+    ensures told { WhereTold (W.device work.old) (λ w. Answers (onto files (include_from (files_from w.nodes depth) file.now text.now)) result) }
 {
     match target(alloc, file, text) {
         Err(fault) => Err(fault),
@@ -164,12 +153,9 @@ fn with_includes<W: Files>(
     texts: &[Text],
     depth: u64,
 ) -> Result<List<ReadFile>, FileFault>
-    requires none_runs { W.running work.old ≡ [] }
-    ensures did { Did W.act (W.world work.old) (W.world work.new)
-        (HasSeen (device_failed result) (λ nodes. Answers (onto files (included (files_from nodes depth) file.now texts.now)) result)) }
-    ensures stays { device_failed result ≡ false → IsSome (W.world work.old) → IsSome (W.world work.new) }
-    ensures cause { HasCause (W.faults work.old) (W.faults work.new) (device_failed result ≡ true) }
-    ensures running { W.running work.new ≡ W.running work.old }
+    requires none_runs { (W.device work.old).running ≡ [] }
+    ensures looked { HasLooked W.act (W.device work.old) (W.device work.new) (device_failed result) }
+    ensures told { WhereTold (W.device work.old) (λ w. Answers (onto files (included (files_from w.nodes depth) file.now texts.now)) result) }
 {
     let mut all = files;
     for text in texts {
@@ -191,12 +177,9 @@ pub fn read_files<W: Files>(
     work: &mut W,
     file: PathText,
 ) -> Result<List<ReadFile>, FileFault>
-    requires none_runs { W.running work.old ≡ [] }
-    ensures did { Did W.act (W.world work.old) (W.world work.new)
-        (HasSeen (device_failed result) (λ nodes. Answers (files_at nodes file) result)) }
-    ensures stays { device_failed result ≡ false → IsSome (W.world work.old) → IsSome (W.world work.new) }
-    ensures cause { HasCause (W.faults work.old) (W.faults work.new) (device_failed result ≡ true) }
-    ensures running { W.running work.new ≡ W.running work.old }
+    requires none_runs { (W.device work.old).running ≡ [] }
+    ensures looked { HasLooked W.act (W.device work.old) (W.device work.new) (device_failed result) }
+    ensures told { WhereTold (W.device work.old) (λ w. Answers (files_at w.nodes file) result) }
 {
     with_file(alloc, work, List::new(alloc), file, 17)
 }

@@ -1,19 +1,16 @@
 -- Calls that neither start a child nor wait for one leave the children as they are.
-use Rattle.std.proofs.Common.{◌≡◌, Bool, true, false, List, [], ◌∷◌, ◌++◌, refl, sym, ap, subst, ◌∙◌, Option, All}
-use Rattle.smk_base.specs.declared.tree.Tree.{Tree}
+use Rattle.std.proofs.Common.{◌≡◌, Bool, true, false, List, [], ◌∷◌, ◌++◌, refl, ap, ◌∙◌}
 use Rattle.smk_world.specs.declared.event.Call.{Call}
 use Rattle.smk_world.specs.declared.event.Call.TheVariants.{Looked, ReadFile, ReadFolder, Written, Created, Removed, MadeParents, Settled, Protected, Started, Waited}
 use Rattle.smk_world.specs.declared.event.Child.{Child}
 use Rattle.smk_world.specs.declared.event.Event.{Event}
 use Rattle.smk_world.specs.declared.recipe.Recipe.{Recipe}
 use Rattle.smk_world.specs.World.{World, after, run, children_after}
-use Rattle.smk_world.specs.Calls.{Acted, any_overlap, used_now}
-use Rattle.smk_world.specs.Runs.{Did}
-use Rattle.smk_world.specs.Requests.{Request, request, HasDone, Carries}
+use Rattle.smk_world.specs.Requests.{Request, request, HasDone}
 use Rattle.smk_world.specs.Requests.Request.{Start, Wait, Settle}
 use Rattle.smk_world.specs.Trees.{Path, Each}
 use Rattle.smk_store.specs.declared.places.JobPlaces.{JobPlaces}
-use Rattle.smk_store.specs.Steps.{AreUnused, SameChildren, make_each, remove_each, write_each, mark_requests, drop_requests}
+use Rattle.smk_store.specs.Steps.{make_each, remove_each, write_each, mark_requests, drop_requests}
 use Rattle.smk_job.specs.Jobs.{parents_each, clear_requests, put_all_requests, drop_all_requests}
 
 true_false : true ≡ false → ⊥
@@ -45,28 +42,6 @@ done_children [] w [] k h = refl
 done_children [] w (e ∷ es) k h = absurd h
 done_children (r ∷ rs) w [] k h = absurd h
 done_children (r ∷ rs) w (e ∷ es) k h = done_children rs (after w e) es k.1 h.2 ∙ children_by e.call w.children (ap is_crew h.0 ∙ k.0)
-
-pub same_children : (a : Option World) → SameChildren a a
-same_children a = λ w e. (w, e, refl)
-
-pub same_after : (act : Recipe → List Tree → Acted) (rs : List Request) (a b : Option World) → AreFiles rs → Did act a b (λ w es. HasDone rs es) → SameChildren a b
-same_after act rs a b k did = λ w1 e. let d = did w1 e in (d.0, d.1, ap (λ (w : World). w.children) d.2.3 ∙ done_children rs d.0 d.2.0 k d.2.2)
-
-pub unused_after : (a b : Option World) (ps : List Path) → SameChildren a b → AreUnused a ps → AreUnused b ps
-unused_after a b ps same unused = λ w1 e.
-    let d = same w1 e in subst (λ cs. All (λ p. any_overlap (p ∷ []) (used_now cs) ≡ false) ps) (sym d.2) (unused d.0 d.1)
-
--- the calls of an equal list of places
-pub done_as : (act : Recipe → List Tree → Acted) (f : List Path → List Request) (ps qs : List Path) (a b : Option World)
-    → ps ≡ qs → Did act a b (λ w es. HasDone (f ps) es) → Did act a b (λ w es. HasDone (f qs) es)
-done_as act f ps qs a b e h = subst (λ t. Did act a b (λ w es. HasDone (f t) es)) e h
-
-pub carried_as : (act : Recipe → List Tree → Acted) (f : List Path → List Request) (ps qs : List Path) (ok : Bool) (a b : Option World)
-    → ps ≡ qs → Did act a b (λ w es. Carries (f ps) ok es) → Did act a b (λ w es. Carries (f qs) ok es)
-carried_as act f ps qs ok a b e h = subst (λ t. Did act a b (λ w es. Carries (f t) ok es)) e h
-
-pub unused_as : (a : Option World) (ps qs : List Path) → ps ≡ qs → AreUnused a qs → AreUnused a ps
-unused_as a ps qs e h = subst (λ t. AreUnused a t) (sym e) h
 
 -- ## The steps are such calls
 

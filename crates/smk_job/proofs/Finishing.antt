@@ -1,9 +1,8 @@
 -- A job whose outputs are files is kept or abandoned by what stands at them.
 use Rattle.std.proofs.Common.{◌≡◌, ◌≢◌, ◌⊎◌, inl, inr, ℕ, Bool, true, false, ◌||◌, List, [], ◌∷◌, ◌++◌, map, refl, sym, ap, subst, ◌∙◌, Option, Some, None, Result, Ok, Err, filter}
-use Rattle.std.specs.Prelude.{IsErr, if◌then◌else◌}
+use Rattle.std.specs.Prelude.{is_err, not, if◌then◌else◌}
 use Rattle.std.specs.List.{list_any}
 use Rattle.smk_base.specs.Path.{is_at_or_under, overlaps}
-use Rattle.smk_base.specs.declared.tree.Tree.{Tree}
 use Rattle.smk_base.proofs.Under.{never_both, or_cases, overlaps_above_both}
 use Rattle.smk_world.specs.declared.event.Child.{Child}
 use Rattle.smk_world.specs.declared.event.Event.{Event}
@@ -11,20 +10,20 @@ use Rattle.smk_world.specs.declared.event.Failed.{Failed}
 use Rattle.smk_world.specs.declared.recipe.Out.{Out}
 use Rattle.smk_world.specs.declared.recipe.Recipe.{Recipe}
 use Rattle.smk_world.specs.World.{World, out_paths, in_paths, owned_paths, is_within}
-use Rattle.smk_world.specs.Calls.{Acted, HasOwners, owned_now, used_now, any_overlap}
-use Rattle.smk_world.specs.Runs.{Did}
-use Rattle.smk_world.specs.Requests.{Request, HasDone, IsCutShort}
-use Rattle.smk_world.specs.Trees.{Path, outs_of, folders_of}
-use Rattle.smk_world.proofs.Runs.{did_both}
+use Rattle.smk_world.specs.Calls.{HasOwners, owned_now, used_now, any_overlap}
+use Rattle.smk_world.specs.Devices.{Device, WhereTold, HasActed, HasCarried}
+use Rattle.smk_world.specs.Requests.{Request, HasDone, IsCutShort, Carries}
+use Rattle.smk_world.specs.Trees.{Path, Act, outs_of, folders_of}
+use Rattle.smk_world.proofs.Devices.{acted_then, acted_as}
 use Rattle.smk_store.specs.declared.places.JobPlaces.{JobPlaces}
 use Rattle.smk_store.specs.Steps.{places_of}
-use Rattle.smk_store.proofs.Carried.{did_as}
 use Rattle.smk_job.specs.declared.fault.CloseFault.{CloseFault}
-use Rattle.smk_job.specs.declared.fault.CloseFault.TheVariants.{Device}
+use Rattle.smk_job.specs.declared.fault.CloseFault.TheVariants.{Device as DeviceFault}
 use Rattle.smk_job.specs.declared.sight.Wrong.{Wrong}
 use Rattle.smk_job.specs.declared.sight.Wrong.TheVariants.{Absent, OtherKind, Unlisted}
 use Rattle.smk_job.specs.Jobs.{Underway, bare_bytes, bytes_with, IsReady, LetsClose, keep_requests, lose_requests, finish_requests, abandon_requests}
-use Rattle.smk_job.specs.Sights.{Nodes, AreKnown, AreSeen, IsSeenWrong, IsBlind, HasSeen, HasFinished, is_folder_out, nones, wrong_fault, path_at, HasLookedOver, HasSettled}
+use Rattle.smk_job.specs.Sights.{Nodes, AreKnown, AreSeen, IsSeenWrong, IsBlind, HasSeen, HasFinished, is_folder_out, nones, wrong_fault, path_at, HasSettled, HasSeenFiles, HasSettledFiles, close_failed}
+use Rattle.smk_job.proofs.Acts.{acted_in}
 use Rattle.smk_job.proofs.Outs.{paths_same}
 
 true_false : true ≡ false → ⊥
@@ -32,41 +31,46 @@ true_false e = cc
 
 -- ## After the looks
 
--- the looks, and then these calls
-pub seen_then : (act : Recipe → List Tree → Acted) (outs : List Out) (P : Nodes → List Event → Type 0) (rs : List Request) (a b c : Option World)
-    → Did act a b (λ w es. AreKnown w.nodes outs → P w.nodes es) → Did act b c (λ w es. HasDone rs es) → Did act a c (λ w es. AreKnown w.nodes outs → HasSeen (P w.nodes) (HasDone rs) es)
-seen_then act outs P rs a b c before now =
-    did_both act (λ w es. AreKnown w.nodes outs → P w.nodes es) (λ w es. HasDone rs es) (λ w es. AreKnown w.nodes outs → HasSeen (P w.nodes) (HasDone rs) es) a b c before now
-    (λ w es fs follows seen more done known. record { looks = es; rest = fs; events = refl; seen = seen known; done = done })
+-- the looks, and then these calls: all of them, or up to one that failed
+pub seen_then : (act : Act) (outs : List Out) (P : Nodes → List Event → Type 0) (rs : List Request) (a b c : Device) (f : Bool)
+    → HasActed act (λ w es. AreKnown w.nodes outs → P w.nodes es) a b false → HasCarried act rs b c f → HasActed act (λ w es. AreKnown w.nodes outs → HasSeen (P w.nodes) (Carries rs (not f)) es) a c f
+seen_then act outs P rs a b c f before now =
+    acted_then act (λ w es. AreKnown w.nodes outs → P w.nodes es) (λ w es. Carries rs (not f) es) (λ w es. AreKnown w.nodes outs → HasSeen (P w.nodes) (Carries rs (not f)) es) a b c f
+    (λ w es fs follows seen more done known. record { looks = es; rest = fs; events = refl; seen = seen known; done = done }) before now.acted
 
-pub seen_cut : (act : Recipe → List Tree → Acted) (outs : List Out) (P : Nodes → List Event → Type 0) (rs : List Request) (a b c : Option World)
-    → Did act a b (λ w es. AreKnown w.nodes outs → P w.nodes es) → Did act b c (λ w es. IsCutShort rs es) → Did act a c (λ w es. AreKnown w.nodes outs → HasSeen (P w.nodes) (IsCutShort rs) es)
-seen_cut act outs P rs a b c before now =
-    did_both act (λ w es. AreKnown w.nodes outs → P w.nodes es) (λ w es. IsCutShort rs es) (λ w es. AreKnown w.nodes outs → HasSeen (P w.nodes) (IsCutShort rs) es) a b c before now
-    (λ w es fs follows seen more cut known. record { looks = es; rest = fs; events = refl; seen = seen known; done = cut })
+module _ (act : Act) (outs : List Out) (places : JobPlaces) (records : List (List ℕ)) where
+  -- a look failed
+  pub settled_blindly : (a b : Device) (f : Failed) (r : Result (Option (ℕ × Wrong)) Failed) → is_err r ≡ true → HasActed act (HasSeenFiles outs (Err f)) a b true → HasActed act (HasSettledFiles outs places records r) a b (is_err r)
+  settled_blindly a b f (Ok x) bad h = absurd (true_false (sym bad))
+  settled_blindly a b f (Err e) bad h = acted_as act (HasSeenFiles outs (Err f)) (HasSettledFiles outs places records (Err e)) a b true true refl (λ w es blind known. inl (blind known)) h
 
--- what was found, as the answer says it
-pub found_as : (act : Recipe → List Tree → Acted) (outs : List Out) (r s : Result (Option (ℕ × Wrong)) Failed) (a b : Option World) → r ≡ s
-    → Did act a b (λ w es. AreKnown w.nodes outs → HasLookedOver outs r w.nodes es) → Did act a b (λ w es. AreKnown w.nodes outs → HasLookedOver outs s w.nodes es)
-found_as act outs r s a b e h = subst (λ x. Did act a b (λ w es. AreKnown w.nodes outs → HasLookedOver outs x w.nodes es)) e h
+  -- all were files
+  pub settled_well : (a b c : Device) (found : Option (ℕ × Wrong)) → found ≡ None → HasActed act (HasSeenFiles outs (Ok found)) a b false → HasCarried act (keep_requests places records) b c false
+      → HasActed act (HasSettledFiles outs places records (Ok None)) a c false
+  settled_well a b c found is before now =
+      seen_then act outs (λ ns es. AreSeen ns outs (nones outs) es) (keep_requests places records) a b c false (subst (λ x. HasActed act (HasSeenFiles outs (Ok x)) a b false) is before) now
 
-module _ (act : Recipe → List Tree → Acted) (outs : List Out) (places : JobPlaces) (records : List (List ℕ)) where
-  abbrev pub Settled : Result (Option (ℕ × Wrong)) Failed → World → List Event → Type 0
-  Settled r w es = AreKnown w.nodes outs → HasSettled outs places records r w.nodes es
+  pub settled_uncut : (a b c : Device) (found : Option (ℕ × Wrong)) (r : Result (Option (ℕ × Wrong)) Failed) → found ≡ None → is_err r ≡ true
+      → HasActed act (HasSeenFiles outs (Ok found)) a b false → HasCarried act (keep_requests places records) b c true → HasActed act (HasSettledFiles outs places records r) a c (is_err r)
+  settled_uncut a b c found (Ok x) is bad before now = absurd (true_false (sym bad))
+  settled_uncut a b c found (Err e) is bad before now =
+      acted_as act (λ w es. AreKnown w.nodes outs → HasSeen (AreSeen w.nodes outs (nones outs)) (IsCutShort (keep_requests places records)) es) (HasSettledFiles outs places records (Err e)) a c true true refl
+      (λ w es h known. inr (inl (h known)))
+      (seen_then act outs (λ ns es. AreSeen ns outs (nones outs) es) (keep_requests places records) a b c true (subst (λ x. HasActed act (HasSeenFiles outs (Ok x)) a b false) is before) now)
 
-  pub settled_err : (r : Result (Option (ℕ × Wrong)) Failed) (f : Failed) (a b : Option World) → IsErr r → Did act a b (Settled (Err f)) → Did act a b (Settled r)
-  settled_err (Ok x) f a b h did = cc
-  settled_err (Err e) f a b h did = did
+  -- one was not
+  pub settled_wrongly : (a b c : Device) (found : Option (ℕ × Wrong)) (at : ℕ × Wrong) → found ≡ Some at → HasActed act (HasSeenFiles outs (Ok found)) a b false → HasCarried act (lose_requests places) b c false
+      → HasActed act (HasSettledFiles outs places records (Ok (Some at))) a c false
+  settled_wrongly a b c found (i, x) is before now =
+      seen_then act outs (λ ns es. IsSeenWrong ns outs (wrong_fault x (path_at outs i)) es) (lose_requests places) a b c false (subst (λ y. HasActed act (HasSeenFiles outs (Ok y)) a b false) is before) now
 
-  pub settled_uncut : (f : Failed) (a b : Option World) → Did act a b (λ w es. AreKnown w.nodes outs → HasSeen (AreSeen w.nodes outs (nones outs)) (IsCutShort (keep_requests places records)) es) → Did act a b (Settled (Err f))
-  settled_uncut f a b did =
-      did_as act (λ w es. AreKnown w.nodes outs → HasSeen (AreSeen w.nodes outs (nones outs)) (IsCutShort (keep_requests places records)) es) (Settled (Err f)) a b did (λ w es h known. inr (inl (h known)))
-
-  pub settled_lost : (f : Failed) (i : ℕ) (x : Wrong) (a b : Option World)
-      → Did act a b (λ w es. AreKnown w.nodes outs → HasSeen (IsSeenWrong w.nodes outs (wrong_fault x (path_at outs i))) (IsCutShort (lose_requests places)) es) → Did act a b (Settled (Err f))
-  settled_lost f i x a b did =
-      did_as act (λ w es. AreKnown w.nodes outs → HasSeen (IsSeenWrong w.nodes outs (wrong_fault x (path_at outs i))) (IsCutShort (lose_requests places)) es) (Settled (Err f)) a b did
+  pub settled_lost : (a b c : Device) (found : Option (ℕ × Wrong)) (at : ℕ × Wrong) (r : Result (Option (ℕ × Wrong)) Failed) → found ≡ Some at → is_err r ≡ true
+      → HasActed act (HasSeenFiles outs (Ok found)) a b false → HasCarried act (lose_requests places) b c true → HasActed act (HasSettledFiles outs places records r) a c (is_err r)
+  settled_lost a b c found (i, x) (Ok y) is bad before now = absurd (true_false (sym bad))
+  settled_lost a b c found (i, x) (Err e) is bad before now =
+      acted_as act (λ w es. AreKnown w.nodes outs → HasSeen (IsSeenWrong w.nodes outs (wrong_fault x (path_at outs i))) (IsCutShort (lose_requests places)) es) (HasSettledFiles outs places records (Err e)) a c true true refl
       (λ w es h known. inr (inr (wrong_fault x (path_at outs i), h known)))
+      (seen_then act outs (λ ns es. IsSeenWrong ns outs (wrong_fault x (path_at outs i)) es) (lose_requests places) a b c true (subst (λ y. HasActed act (HasSeenFiles outs (Ok y)) a b false) is before) now)
 
 -- ## Where no child uses an output, none owns what stands there
 
@@ -141,6 +145,12 @@ bare_records j =
     ap (λ ps. bytes_with j ps (nones (outs_of j.recipe))) (sym (paths_same j.recipe.outputs)) ∙ bare_with j (outs_of j.recipe)
     ∙ ap (map (bare_bytes j.made j.recipe j.stamps)) (paths_same j.recipe.outputs)
 
+-- the device didn't fail
+pub wrong_quiet : (x : Wrong) (p : Path) → close_failed (Err (wrong_fault x p)) ≡ false
+wrong_quiet Absent p = refl
+wrong_quiet OtherKind p = refl
+wrong_quiet Unlisted p = refl
+
 module _ (j : Underway) (outs : List Out) (places : JobPlaces) (records : List (List ℕ)) (ready : IsReady j.recipe j.logs j.stamps j.made outs places records) where
   pub at_outputs : places.outputs ≡ map (λ (out : Out). out.path) outs
   at_outputs = ap (λ (x : JobPlaces). x.outputs) ready.at_places ∙ sym (paths_same j.recipe.outputs) ∙ ap (map (λ (out : Out). out.path)) (sym ready.outputs)
@@ -179,7 +189,7 @@ module _ (j : Underway) (outs : List Out) (places : JobPlaces) (records : List (
   as_wrong OtherKind p w es h = abandoned (wrong_fault OtherKind p) w es h
   as_wrong Unlisted p w es h = abandoned (wrong_fault Unlisted p) w es h
 
-  as_unclosed : (f : Failed) (w : World) (es : List Event) → HasSettled outs places records (Err f) w.nodes es → HasFinished j (Err Device) w es
+  as_unclosed : (f : Failed) (w : World) (es : List Event) → HasSettled outs places records (Err f) w.nodes es → HasFinished j (Err DeviceFault) w es
   as_unclosed f w es (inl h) = inl (subst (λ os. IsBlind os es) ready.outputs h)
   as_unclosed f w es (inr (inl h)) =
       inr (inl (
@@ -204,24 +214,25 @@ module _ (j : Underway) (outs : List Out) (places : JobPlaces) (records : List (
         },
       ))
 
-  module _ (act : Recipe → List Tree → Acted) (a b : Option World) (owners : (w : World) → a ≡ Some w → HasOwners w) (lets : (w : World) → a ≡ Some w → LetsClose w j.recipe) where
-    finished_by : (r : Result (Option (ℕ × Wrong)) Failed) (s : Result (Unit {0}) CloseFault) → ((w : World) (es : List Event) → HasSettled outs places records r w.nodes es → HasFinished j s w es)
-        → Did act a b (λ w es. AreKnown w.nodes outs → HasSettled outs places records r w.nodes es) → Did act a b (λ w es. HasFinished j s w es)
-    finished_by r s more did = λ w1 e.
-        let d = did w1 e in
-        (d.0, d.1, (d.2.0, d.2.1, more d.0 d.2.0 (d.2.2 (known_outs d.0 j.recipe outs ready.outputs (owners d.0 d.1) (lets d.0 d.1))), d.2.3))
+  module _ (act : Act) (a b : Device) (owners : WhereTold a HasOwners) (lets : WhereTold a (λ w. LetsClose w j.recipe)) where
+    finished_by : (r : Result (Option (ℕ × Wrong)) Failed) (s : Result (Unit {0}) CloseFault) → is_err r ≡ close_failed s → ((w : World) (es : List Event) → HasSettled outs places records r w.nodes es → HasFinished j s w es)
+        → HasActed act (HasSettledFiles outs places records r) a b (is_err r) → HasActed act (HasFinished j s) a b (close_failed s)
+    finished_by r s same more h =
+        acted_in act (HasSettledFiles outs places records r) (HasFinished j s) a b (is_err r) (close_failed s) same
+        (λ w es at settled. more w es (settled (known_outs w j.recipe outs ready.outputs (owners w at) (lets w at)))) h
 
-    pub finished_well : (r : Result (Option (ℕ × Wrong)) Failed) → r ≡ Ok None → Did act a b (λ w es. AreKnown w.nodes outs → HasSettled outs places records r w.nodes es) → Did act a b (λ w es. HasFinished j (Ok tt) w es)
-    finished_well r e did = finished_by (Ok None) (Ok tt) as_done (subst (λ x. Did act a b (λ w es. AreKnown w.nodes outs → HasSettled outs places records x w.nodes es)) e did)
+    pub finished_well : (r : Result (Option (ℕ × Wrong)) Failed) → r ≡ Ok None → HasActed act (HasSettledFiles outs places records r) a b (is_err r) → HasActed act (HasFinished j (Ok tt)) a b false
+    finished_well r e h = finished_by (Ok None) (Ok tt) refl as_done (subst (λ x. HasActed act (HasSettledFiles outs places records x) a b (is_err x)) e h)
 
     pub finished_wrong : (r : Result (Option (ℕ × Wrong)) Failed) (i : ℕ) (x : Wrong) (p : Path) (fault : CloseFault) → r ≡ Ok (Some (i, x)) → p ≡ path_at outs i → fault ≡ wrong_fault x p
-        → Did act a b (λ w es. AreKnown w.nodes outs → HasSettled outs places records r w.nodes es) → Did act a b (λ w es. HasFinished j (Err fault) w es)
-    finished_wrong r i x p fault e at is did =
-        subst (λ f. Did act a b (λ w es. HasFinished j (Err f) w es)) (sym (is ∙ ap (wrong_fault x) at))
-        (finished_by (Ok (Some (i, x))) (Err (wrong_fault x (path_at outs i))) (as_wrong x (path_at outs i)) (subst (λ y. Did act a b (λ w es. AreKnown w.nodes outs → HasSettled outs places records y w.nodes es)) e did))
+        → HasActed act (HasSettledFiles outs places records r) a b (is_err r) → HasActed act (HasFinished j (Err fault)) a b (close_failed (Err fault))
+    finished_wrong r i x p fault e at is h =
+        subst (λ f. HasActed act (HasFinished j (Err f)) a b (close_failed (Err f))) (sym (is ∙ ap (wrong_fault x) at))
+        (finished_by (Ok (Some (i, x))) (Err (wrong_fault x (path_at outs i))) (sym (wrong_quiet x (path_at outs i))) (as_wrong x (path_at outs i))
+        (subst (λ y. HasActed act (HasSettledFiles outs places records y) a b (is_err y)) e h))
 
-    pub finished_badly : (r : Result (Option (ℕ × Wrong)) Failed) (f : Failed) → r ≡ Err f → Did act a b (λ w es. AreKnown w.nodes outs → HasSettled outs places records r w.nodes es) → Did act a b (λ w es. HasFinished j (Err Device) w es)
-    finished_badly r f e did = finished_by (Err f) (Err Device) (as_unclosed f) (subst (λ x. Did act a b (λ w es. AreKnown w.nodes outs → HasSettled outs places records x w.nodes es)) e did)
+    pub finished_badly : (r : Result (Option (ℕ × Wrong)) Failed) (f : Failed) → r ≡ Err f → HasActed act (HasSettledFiles outs places records r) a b (is_err r) → HasActed act (HasFinished j (Err DeviceFault)) a b true
+    finished_badly r f e h = finished_by (Err f) (Err DeviceFault) refl (as_unclosed f) (subst (λ x. HasActed act (HasSettledFiles outs places records x) a b (is_err x)) e h)
 
 -- ## Directories
 

@@ -1,6 +1,6 @@
 -- Marked and with room made, a job's command may be started; and what the start answers.
-use Rattle.std.proofs.Common.{◌≡◌, ℕ, true, false, List, [], ◌∷◌, ◌++◌, map, refl, sym, ap, subst, ◌∙◌, Option, Some, All, Result, Ok, Err}
-use Rattle.std.specs.Prelude.{IsErr}
+use Rattle.std.proofs.Common.{◌≡◌, ℕ, true, false, List, [], ◌∷◌, ◌++◌, map, refl, sym, ap, subst, ◌∙◌, All, Result, Ok, Err}
+use Rattle.std.specs.Prelude.{is_err}
 use Rattle.std.proofs.lemmas.List.{append-nil}
 use Rattle.std.proofs.lemmas.List.Elements.{All-nil, All-cons}
 use Rattle.smk_base.specs.Path.{is_path}
@@ -13,20 +13,22 @@ use Rattle.smk_world.specs.declared.event.Event.{Event}
 use Rattle.smk_world.specs.declared.event.Failed.{Failed}
 use Rattle.smk_world.specs.declared.recipe.Recipe.{Recipe}
 use Rattle.smk_world.specs.World.{World, run, in_paths, out_paths, owned_paths, is_within}
-use Rattle.smk_world.specs.Calls.{Acted, Happened, HasOwners, MayStart, IsFirmlyMarked, owned_now, used_now, any_overlap, started_number, started_numbers}
-use Rattle.smk_world.specs.Runs.{Did, Follows}
-use Rattle.smk_world.specs.Requests.{Request, request, HasDone, IsCutShort, Carries}
+use Rattle.smk_world.specs.Calls.{Acted, HasOwners, MayStart, IsFirmlyMarked, owned_now, used_now, any_overlap, started_number, started_numbers}
+use Rattle.smk_world.specs.Devices.{Device, WhereTold, HasCalled, HasCarried}
+use Rattle.smk_world.specs.Runs.{Follows}
+use Rattle.smk_world.specs.Requests.{Request, request, HasDone}
 use Rattle.smk_world.specs.Requests.Request.{Start}
-use Rattle.smk_world.specs.Trees.{Path, Each}
-use Rattle.smk_world.proofs.Runs.{did_more}
+use Rattle.smk_world.specs.Trees.{Path, Act, Each}
+use Rattle.smk_world.proofs.Devices.{done_append, cut_append, carried_cut}
 use Rattle.smk_store.specs.declared.places.JobPlaces.{JobPlaces}
 use Rattle.smk_store.specs.Steps.{mark_requests, places_of}
-use Rattle.smk_store.proofs.Carried.{done_append, cut_append, did_as, carried_cut}
 use Rattle.smk_job.specs.Jobs.{LetsBegin, ReadUsers, clear_requests, begin_requests}
 use Rattle.smk_job.specs.Reserves.{HasLaunched}
+use Rattle.smk_job.specs.Starts.{HasStarted, started_child}
 use Rattle.smk_job.proofs.Children.{AreFiles, is_crew, done_children, mark_files, clear_files, files_append}
 use Rattle.smk_job.proofs.Single.{IsKnown, Reaches, done_reaches}
 use Rattle.smk_job.proofs.Firmly.{reaches_split, reaches_keeps, IsFirmThere, marked_firm, clear_off, AreOff, known_own}
+use Rattle.smk_job.proofs.Starts.{started_acted, started_call}
 
 true_false : true ≡ false → ⊥
 true_false e = cc
@@ -35,19 +37,11 @@ true_false e = cc
 abbrev pub before_start : Recipe → List Path → List Request
 before_start recipe logs = mark_requests (places_of (out_paths recipe) logs) ++ clear_requests (out_paths recipe) (owned_paths recipe logs)
 
-pub before_same : (act : Recipe → List Tree → Acted) (recipe : Recipe) (logs : List Path) (places : JobPlaces) (owned : List Path) (a b : Option World)
-    → places ≡ places_of (out_paths recipe) logs → owned ≡ owned_paths recipe logs
-    → Did act a b (λ w es. HasDone (mark_requests places ++ clear_requests places.outputs owned) es) → Did act a b (λ w es. HasDone (before_start recipe logs) es)
-before_same act recipe logs places owned a b at own h =
-    subst (λ (x : JobPlaces). Did act a b (λ w es. HasDone (mark_requests x ++ clear_requests x.outputs (owned_paths recipe logs)) es)) at
-    (subst (λ (x : List Path). Did act a b (λ w es. HasDone (mark_requests places ++ clear_requests places.outputs x) es)) own h)
-
-cut_same : (act : Recipe → List Tree → Acted) (recipe : Recipe) (logs : List Path) (places : JobPlaces) (owned : List Path) (a b : Option World)
-    → places ≡ places_of (out_paths recipe) logs → owned ≡ owned_paths recipe logs
-    → Did act a b (λ w es. IsCutShort (mark_requests places ++ clear_requests places.outputs owned) es) → Did act a b (λ w es. IsCutShort (before_start recipe logs) es)
-cut_same act recipe logs places owned a b at own h =
-    subst (λ (x : JobPlaces). Did act a b (λ w es. IsCutShort (mark_requests x ++ clear_requests x.outputs (owned_paths recipe logs)) es)) at
-    (subst (λ (x : List Path). Did act a b (λ w es. IsCutShort (mark_requests places ++ clear_requests places.outputs x) es)) own h)
+pub before_same : (recipe : Recipe) (logs : List Path) (places : JobPlaces) (owned : List Path) → places ≡ places_of (out_paths recipe) logs → owned ≡ owned_paths recipe logs
+    → mark_requests places ++ clear_requests places.outputs owned ≡ before_start recipe logs
+before_same recipe logs places owned at own =
+    ap (λ (x : JobPlaces). mark_requests x ++ clear_requests x.outputs owned) at
+    ∙ ap (λ (x : List Path). mark_requests (places_of (out_paths recipe) logs) ++ clear_requests (out_paths recipe) x) own
 
 pub before_files : (recipe : Recipe) (logs : List Path) → AreFiles (before_start recipe logs)
 before_files recipe logs =
@@ -107,11 +101,10 @@ may_start act recipe logs w es paths owners lets follows done =
     }
 
 -- the same of a world that is told
-pub may_start_told : (act : Recipe → List Tree → Acted) (recipe : Recipe) (logs : List Path) (a b : Option World)
-    → ArePaths (owned_paths recipe logs) → ((w : World) → a ≡ Some w → HasOwners w) → ((w : World) → a ≡ Some w → LetsBegin w recipe logs)
-    → Did act a b (λ w es. HasDone (before_start recipe logs) es) → (w : World) → b ≡ Some w → MayStart w recipe logs
-may_start_told act recipe logs a b paths owners lets did w told =
-    let d = did w told in
+pub may_start_told : (act : Act) (recipe : Recipe) (logs : List Path) (a b : Device) → ArePaths (owned_paths recipe logs) → WhereTold a HasOwners → WhereTold a (λ w. LetsBegin w recipe logs)
+    → HasCarried act (before_start recipe logs) a b false → WhereTold b (λ w. MayStart w recipe logs)
+may_start_told act recipe logs a b paths owners lets h w told =
+    let d = h.acted.did w told in
     subst (λ x. MayStart x recipe logs) (sym d.2.3) (may_start act recipe logs d.0 d.2.0 paths (owners d.0 d.1) (lets d.0 d.1) d.2.1 d.2.2)
 
 -- ## The start
@@ -137,30 +130,25 @@ last_number (r ∷ rs) [] e n k h is = absurd h
 last_number (r ∷ rs) (d ∷ es) e n k h is =
     ap (λ l. l ++ started_numbers (es ++ e ∷ [])) (number_none d.call (ap is_crew h.0 ∙ k.0)) ∙ last_number rs es e n k.1 h.2 is
 
-pub not_launched : (act : Recipe → List Tree → Acted) (recipe : Recipe) (logs : List Path) (command : List ℕ) (r : Result ℕ Failed) (a b : Option World)
-    → IsErr r → Did act a b (λ w es. Carries (begin_requests recipe logs command) false es) → Did act a b (λ w es. HasLaunched recipe logs command r es)
-not_launched act recipe logs command (Ok n) a b failed did = cc
-not_launched act recipe logs command (Err e) a b failed did =
-    did_as act (λ w es. Carries (begin_requests recipe logs command) false es) (λ w es. HasLaunched recipe logs command (Err e) es) a b did (λ w es cut. (cut, tt))
+pub not_launched : (act : Act) (recipe : Recipe) (logs : List Path) (command : List ℕ) (r : Result ℕ Failed) (a b : Device)
+    → is_err r ≡ true → HasCarried act (before_start recipe logs) a b true → HasStarted act (HasLaunched recipe logs command r) (started_child r) a b (is_err r)
+not_launched act recipe logs command (Ok n) a b failed h = absurd (true_false (sym failed))
+not_launched act recipe logs command (Err e) a b failed h =
+    started_acted act (HasLaunched recipe logs command (Err e)) a b true (carried_cut (Start recipe logs command ∷ []) h).acted
 
-pub not_launched_by : (act : Recipe → List Tree → Acted) (recipe : Recipe) (logs : List Path) (places : JobPlaces) (owned : List Path) (command : List ℕ) (r : Result ℕ Failed) (a b : Option World)
-    → places ≡ places_of (out_paths recipe) logs → owned ≡ owned_paths recipe logs → IsErr r
-    → Did act a b (λ w es. IsCutShort (mark_requests places ++ clear_requests places.outputs owned) es) → Did act a b (λ w es. HasLaunched recipe logs command r es)
-not_launched_by act recipe logs places owned command r a b at own failed did =
-    not_launched act recipe logs command r a b failed
-    (carried_cut act (before_start recipe logs) (Start recipe logs command ∷ []) a b false refl (cut_same act recipe logs places owned a b at own did))
-
-pub then_started : (act : Recipe → List Tree → Acted) (recipe : Recipe) (logs : List Path) (command : List ℕ) (r : Result ℕ Failed) (a b c : Option World)
-    → Did act a b (λ w es. HasDone (before_start recipe logs) es) → Happened act b c (Started recipe logs command r) → Did act a c (λ w es. HasLaunched recipe logs command r es)
+pub then_started : (act : Act) (recipe : Recipe) (logs : List Path) (command : List ℕ) (r : Result ℕ Failed) (a b c : Device)
+    → HasCarried act (before_start recipe logs) a b false → HasCalled act b c (Started recipe logs command r) → HasStarted act (HasLaunched recipe logs command r) (started_child r) a c (is_err r)
 then_started act recipe logs command (Ok n) a b c before now =
-    did_more act (λ w es. HasDone (before_start recipe logs) es) (λ w es. HasLaunched recipe logs command (Ok n) es) a b c (Started recipe logs command (Ok n)) before now
+    started_call act (λ w es. HasDone (before_start recipe logs) es) (HasLaunched recipe logs command (Ok n)) a b c recipe logs command (Ok n)
     (λ w es left follows done lets.
     let e : Event = record { call = Started recipe logs command (Ok n); left = left } in (
       done_append (before_start recipe logs) (Start recipe logs command ∷ []) es (e ∷ []) done (refl, refl, tt),
       last_number (before_start recipe logs) es e n (before_files recipe logs) done refl,
     ))
+    before.acted now
 then_started act recipe logs command (Err f) a b c before now =
-    did_more act (λ w es. HasDone (before_start recipe logs) es) (λ w es. HasLaunched recipe logs command (Err f) es) a b c (Started recipe logs command (Err f)) before now
+    started_call act (λ w es. HasDone (before_start recipe logs) es) (HasLaunched recipe logs command (Err f)) a b c recipe logs command (Err f)
     (λ w es left follows done lets.
     let e : Event = record { call = Started recipe logs command (Err f); left = left } in
-    (cut_append (before_start recipe logs) (Start recipe logs command ∷ []) es (e ∷ []) done (refl, refl), tt))
+    cut_append (before_start recipe logs) (Start recipe logs command ∷ []) es (e ∷ []) done (refl, refl))
+    before.acted now

@@ -1,3 +1,5 @@
+pub mod Acts
+pub mod Starts
 pub mod Lists
 pub mod Children
 pub mod Rooms

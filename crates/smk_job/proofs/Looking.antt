@@ -1,11 +1,10 @@
 -- Looks at outputs that are to be files, one after the other.
 use Rattle.std.proofs.Common.{◌≡◌, ℕ, zero, suc, ◌+◌, ◌<◌, ◌≤◌, Bool, true, false, ◌||◌, List, [], ◌∷◌, ◌++◌, map, length, take, drop, get_or, inl, inr, refl, sym, ap, subst, ◌∙◌, arith, append_assoc, Option, Some, None, Result, Ok, Err, drop-cons}
-use Rattle.std.specs.Prelude.{IsErr}
+use Rattle.std.specs.Prelude.{is_err}
 use Rattle.std.specs.List.{list_any}
-use Rattle.std.proofs.lemmas.List.{append-nil, take_more, take-append-drop}
+use Rattle.std.proofs.lemmas.List.{append-nil, take_more, take_all, take-append-drop}
 use Rattle.std.proofs.lemmas.List.Elements.{All-nil, All-cons}
 use Rattle.smk_base.proofs.Under.{at_itself}
-use Rattle.smk_base.specs.declared.tree.Tree.{Tree}
 use Rattle.smk_world.specs.declared.event.Call.TheVariants.{Looked}
 use Rattle.smk_world.specs.declared.event.Change.{Change}
 use Rattle.smk_world.specs.declared.event.Event.{Event}
@@ -18,19 +17,20 @@ use Rattle.smk_world.specs.declared.event.Stat.TheVariants.{Nothing, File, Folde
 use Rattle.smk_world.specs.declared.recipe.Kind.{Kind}
 use Rattle.smk_world.specs.declared.recipe.Kind.TheVariants.{Plain, Folder}
 use Rattle.smk_world.specs.declared.recipe.Out.{Out}
-use Rattle.smk_world.specs.declared.recipe.Recipe.{Recipe}
 use Rattle.smk_world.specs.World.{World, run, reads_nothing, reads_folder}
-use Rattle.smk_world.specs.Calls.{Acted, Happened, StatIs, failed}
-use Rattle.smk_world.specs.Runs.{Did}
+use Rattle.smk_world.specs.Calls.{StatIs, failed}
+use Rattle.smk_world.specs.Devices.{Device, HasCalled, HasActed}
 use Rattle.smk_world.specs.Requests.{AreQuiet}
 use Rattle.smk_world.specs.Requests.Request.{Look}
-use Rattle.smk_world.specs.Trees.{Path, is_folder_kind}
-use Rattle.smk_world.proofs.Runs.{did_more, run_append}
+use Rattle.smk_world.specs.Trees.{Path, Act, is_folder_kind}
+use Rattle.smk_world.proofs.Devices.{acted_nothing, acted_as}
+use Rattle.smk_world.proofs.Runs.{run_append}
 use Rattle.smk_record.specs.declared.record.Member.{Member}
 use Rattle.smk_job.specs.declared.fault.CloseFault.{CloseFault}
 use Rattle.smk_job.specs.declared.sight.Wrong.{Wrong}
 use Rattle.smk_job.specs.declared.sight.Wrong.TheVariants.{Absent, OtherKind}
-use Rattle.smk_job.specs.Sights.{Nodes, reads_file, IsOfKind, IsWrong, AreKnown, AreLooks, EndsFailed, AreSeen, IsSeenWrong, IsBlind, is_folder_out, nones, wrong_of, wrong_fault, path_at, AreFilesSoFar, HasLookedOver}
+use Rattle.smk_job.specs.Sights.{Nodes, reads_file, IsOfKind, IsWrong, AreKnown, AreLooks, EndsFailed, AreSeen, IsSeenWrong, IsBlind, is_folder_out, nones, wrong_of, wrong_fault, path_at, AreFilesSoFar, HasSeenFiles}
+use Rattle.smk_job.proofs.Acts.{acted_more}
 
 -- ## One more output
 
@@ -69,6 +69,9 @@ around outs i out lt e = sym (take-append-drop i outs) ∙ ap (λ t. take i outs
 
 pub next : (outs : List Out) (i : ℕ) (out : Out) → i < length outs → out ≡ get_or outs i out → take (i + 1) outs ≡ take i outs ++ out ∷ []
 next outs i out lt e = take_more outs i out lt ∙ ap (λ o. take i outs ++ o ∷ []) (sym e)
+
+true_false : true ≡ false → ⊥
+true_false e = cc
 
 or_left : (a b : Bool) → (a || b) ≡ false → a ≡ false
 or_left true b h = h
@@ -144,11 +147,11 @@ nodes_on : (w : World) (es : List Event) (p : Path) (r : Result Stat Failed) (le
     → (run w es).nodes ≡ w.nodes → (run w (es ++ record { call = Looked p r; left = left } ∷ [])).nodes ≡ w.nodes
 nodes_on w es p r left h = ap (λ (v : World). v.nodes) (run_append w es (record { call = Looked p r; left = left } ∷ [])) ∙ h
 
-module _ (act : Recipe → List Tree → Acted) (outs : List Out) (i : ℕ) (out : Out) (p : Path) where
-  pub looked_well : (a b c : Option World) (s : Stat) → list_any is_folder_out outs ≡ false → i < length outs → out ≡ get_or outs i out → p ≡ out.path → wrong_of out.kind s ≡ None
-      → Did act a b (AreFilesSoFar outs (take i outs)) → Happened act b c (Looked p (Ok s)) → Did act a c (AreFilesSoFar outs (take (i + 1) outs))
+module _ (act : Act) (outs : List Out) (i : ℕ) (out : Out) (p : Path) where
+  pub looked_well : (a b c : Device) (s : Stat) → list_any is_folder_out outs ≡ false → i < length outs → out ≡ get_or outs i out → p ≡ out.path → wrong_of out.kind s ≡ None
+      → HasActed act (AreFilesSoFar outs (take i outs)) a b false → HasCalled act b c (Looked p (Ok s)) → HasActed act (AreFilesSoFar outs (take (i + 1) outs)) a c false
   looked_well a b c s plain lt e at fits before now =
-      did_more act (AreFilesSoFar outs (take i outs)) (AreFilesSoFar outs (take (i + 1) outs)) a b c (Looked p (Ok s)) before now
+      acted_more act (AreFilesSoFar outs (take i outs)) (AreFilesSoFar outs (take (i + 1) outs)) a b c (Looked p (Ok s)) refl
       (λ w es left follows done lets.
       let event : Event = record { call = Looked p (Ok s); left = left } in
       let kind : out.kind ≡ Plain = ap (λ (o : Out). o.kind) e ∙ plain_at outs i out plain lt in (
@@ -162,11 +165,12 @@ module _ (act : Recipe → List Tree → Acted) (outs : List Out) (i : ℕ) (out
             (subst (λ ms. AreSeen w.nodes (take i outs ++ out ∷ []) ms (es ++ event ∷ [])) (sym (nones_next (take i outs) out))
             (seen_next w.nodes (take i outs) (nones (take i outs)) es out [] (event ∷ []) (done.1 known) (ap Look at, tt) (quiet_one event refl) fit)),
       ))
+      before now
 
-  pub looked_wrong : (a b c : Option World) (s : Stat) (x : Wrong) → list_any is_folder_out outs ≡ false → i < length outs → out ≡ get_or outs i out → p ≡ out.path → wrong_of out.kind s ≡ Some x
-      → Did act a b (AreFilesSoFar outs (take i outs)) → Happened act b c (Looked p (Ok s)) → Did act a c (λ w es. AreKnown w.nodes outs → HasLookedOver outs (Ok (Some (i, x))) w.nodes es)
+  pub looked_wrong : (a b c : Device) (s : Stat) (x : Wrong) → list_any is_folder_out outs ≡ false → i < length outs → out ≡ get_or outs i out → p ≡ out.path → wrong_of out.kind s ≡ Some x
+      → HasActed act (AreFilesSoFar outs (take i outs)) a b false → HasCalled act b c (Looked p (Ok s)) → HasActed act (HasSeenFiles outs (Ok (Some (i, x)))) a c false
   looked_wrong a b c s x plain lt e at wrong before now =
-      did_more act (AreFilesSoFar outs (take i outs)) (λ w es. AreKnown w.nodes outs → HasLookedOver outs (Ok (Some (i, x))) w.nodes es) a b c (Looked p (Ok s)) before now
+      acted_more act (AreFilesSoFar outs (take i outs)) (HasSeenFiles outs (Ok (Some (i, x)))) a b c (Looked p (Ok s)) refl
       (λ w es left follows done lets known.
       let event : Event = record { call = Looked p (Ok s); left = left } in
       let kind : out.kind ≡ Plain = ap (λ (o : Out). o.kind) e ∙ plain_at outs i out plain lt in
@@ -177,22 +181,26 @@ module _ (act : Recipe → List Tree → Acted) (outs : List Out) (i : ℕ) (out
       subst (λ q. IsWrong w.nodes out.path out.kind (wrong_fault x q)) (sym (path_of_at outs i out lt e)) (subst (λ k. IsWrong w.nodes out.path k (wrong_fault x out.path)) (sym kind) bad) in
       subst (λ (os : List Out). IsSeenWrong w.nodes os (wrong_fault x (path_at outs i)) (es ++ event ∷ [])) (sym (around outs i out lt e))
       (wrong_next w.nodes (take i outs) (nones (take i outs)) es out (drop (suc i) outs) (wrong_fault x (path_at outs i)) (event ∷ []) (done.1 known) (ap Look at, tt) (quiet_one event refl) told))
+      before now
 
-  pub looked_blindly : (a b c : Option World) (r : Result Stat Failed) (f : Failed) → r ≡ Err f → i < length outs → out ≡ get_or outs i out → p ≡ out.path
-      → Did act a b (AreFilesSoFar outs (take i outs)) → Happened act b c (Looked p r) → Did act a c (λ w es. AreKnown w.nodes outs → IsBlind outs es)
-  looked_blindly a b c r f is_err lt e at before now =
-      did_more act (AreFilesSoFar outs (take i outs)) (λ w es. AreKnown w.nodes outs → IsBlind outs es) a b c (Looked p r) before now
+  pub looked_blindly : (a b c : Device) (f : Failed) (r : Result (Option (ℕ × Wrong)) Failed) → is_err r ≡ true → i < length outs → out ≡ get_or outs i out → p ≡ out.path
+      → HasActed act (AreFilesSoFar outs (take i outs)) a b false → HasCalled act b c (Looked p (Err f)) → HasActed act (HasSeenFiles outs r) a c (is_err r)
+  looked_blindly a b c f (Ok x) bad lt e at before now = absurd (true_false (sym bad))
+  looked_blindly a b c f (Err x) bad lt e at before now =
+      acted_more act (AreFilesSoFar outs (take i outs)) (HasSeenFiles outs (Err x)) a b c (Looked p (Err f)) refl
       (λ w es left follows done lets known.
-      let event : Event = record { call = Looked p r; left = left } in
+      let event : Event = record { call = Looked p (Err f); left = left } in
       subst (λ (os : List Out). IsBlind os (es ++ event ∷ [])) (sym (around outs i out lt e))
       (blind_next w.nodes (take i outs) (nones (take i outs)) es out (drop (suc i) outs) (event ∷ []) (done.1 known) (ap Look at, tt)
-      ([], event, refl, All-nil (λ (d : Event). failed d.call ≡ false), ap (λ x. failed (Looked p x)) is_err)))
+      ([], event, refl, All-nil (λ (d : Event). failed d.call ≡ false), refl)))
+      before now
 
-pub blind_as : (act : Recipe → List Tree → Acted) (outs : List Out) (r : Result (Option (ℕ × Wrong)) Failed) (a b : Option World) → IsErr r
-    → Did act a b (λ w es. AreKnown w.nodes outs → IsBlind outs es) → Did act a b (λ w es. AreKnown w.nodes outs → HasLookedOver outs r w.nodes es)
-blind_as act outs (Ok x) a b h did = cc
-blind_as act outs (Err f) a b h did = did
+-- nothing was looked at
+pub looked_none : (act : Act) (outs : List Out) (a : Device) → HasActed act (AreFilesSoFar outs []) a a false
+looked_none act outs a = acted_nothing act (AreFilesSoFar outs []) a (λ w. (refl, λ known. refl))
 
--- a look with this answer
-pub happened_as : (act : Recipe → List Tree → Acted) (a b : Option World) (p : Path) (r s : Result Stat Failed) → r ≡ s → Happened act a b (Looked p r) → Happened act a b (Looked p s)
-happened_as act a b p r s e h = subst (λ x. Happened act a b (Looked p x)) e h
+-- all of them are files
+pub looked_all : (act : Act) (outs : List Out) (i : ℕ) (a b : Device) → length outs ≤ i → HasActed act (AreFilesSoFar outs (take i outs)) a b false → HasActed act (HasSeenFiles outs (Ok None)) a b false
+looked_all act outs i a b le h =
+    acted_as act (AreFilesSoFar outs (take i outs)) (HasSeenFiles outs (Ok None)) a b false false refl
+    (λ w es so known. subst (λ (os : List Out). AreSeen w.nodes os (nones os) es) (take_all i outs le) (so.1 known)) h

@@ -1,5 +1,5 @@
 -- Where running children leave room, the places of a job are unused.
-use Rattle.std.proofs.Common.{◌≡◌, Bool, true, false, ◌||◌, List, [], ◌∷◌, ◌++◌, map, refl, sym, ap, subst, Option, Some, All}
+use Rattle.std.proofs.Common.{◌≡◌, Bool, true, false, ◌||◌, List, [], ◌∷◌, ◌++◌, map, refl, sym, ap, subst, All}
 use Rattle.std.specs.List.{list_any}
 use Rattle.std.proofs.lemmas.List.Elements.{All-nil, All-cons}
 use Rattle.smk_base.specs.Path.{is_path, overlaps}
@@ -8,11 +8,12 @@ use Rattle.smk_base.proofs.Apart.{path-record, path-mark}
 use Rattle.smk_world.specs.declared.recipe.Recipe.{Recipe}
 use Rattle.smk_world.specs.World.{World, out_paths}
 use Rattle.smk_world.specs.Calls.{IsUnused, any_overlap, used_now}
+use Rattle.smk_world.specs.Devices.{Device, WhereTold}
 use Rattle.smk_world.specs.Trees.{Path}
 use Rattle.smk_store.specs.declared.places.JobPlaces.{JobPlaces}
 use Rattle.smk_store.specs.Steps.{AreUnused, places_of}
 use Rattle.smk_job.proofs.Lists.{each_in, none_by}
-use Rattle.smk_job.specs.Jobs.{Underway, LetsBegin, LetsClose, ReadUsers}
+use Rattle.smk_job.specs.Jobs.{Underway, LetsBegin, LetsClose, AreFree, ReadUsers}
 
 or_none : (a b : Bool) → a ≡ false → b ≡ false → (a || b) ≡ false
 or_none true b h k = h
@@ -57,29 +58,25 @@ overlap_first (p ∷ ps) qs used h =
     or_none (list_any (overlaps p) used) (any_overlap ps used) (or_left (list_any (overlaps p) used) (any_overlap (ps ++ qs) used) h)
     (overlap_first ps qs used (or_right (list_any (overlaps p) used) (any_overlap (ps ++ qs) used) h))
 
-pub begin_outputs : (a : Option World) (recipe : Recipe) (logs : List Path) (places : JobPlaces) → places ≡ places_of (out_paths recipe) logs
-    → ((w : World) → a ≡ Some w → LetsBegin w recipe logs) → AreUnused a places.outputs
+pub begin_outputs : (a : Device) (recipe : Recipe) (logs : List Path) (places : JobPlaces) → places ≡ places_of (out_paths recipe) logs → WhereTold a (λ w. LetsBegin w recipe logs) → AreUnused a places.outputs
 begin_outputs a recipe logs places at lets = λ w e.
     subst (λ ps. All (IsUnused w) ps) (ap (λ (x : JobPlaces). x.outputs) (sym at))
     (each_unused w (out_paths recipe) (overlap_first (out_paths recipe) logs (used_now w.children) (lets w e).apart))
 
 -- ## A job that is closed
 
-abbrev pub Lets : Option World → Recipe → Type 0
-Lets a recipe = (w : World) → a ≡ Some w → LetsClose w recipe
+abbrev pub Lets : Device → Recipe → Type 0
+Lets a recipe = WhereTold a (λ w. LetsClose w recipe)
 
 -- as the job's value says it
-pub lets_as : (a : Option World) (j k : Underway) → j ≡ k → Lets a k.recipe → Lets a j.recipe
+pub lets_as : (a : Device) (j k : Underway) → j ≡ k → Lets a k.recipe → Lets a j.recipe
 lets_as a j k e h = subst (λ (x : Underway). Lets a x.recipe) (sym e) h
 
-pub close_outputs : (a : Option World) (recipe : Recipe) (logs : List Path) (places : JobPlaces) → places ≡ places_of (out_paths recipe) logs → Lets a recipe → AreUnused a places.outputs
-close_outputs a recipe logs places at lets = λ w e.
-    subst (λ ps. All (IsUnused w) ps) (ap (λ (x : JobPlaces). x.outputs) (sym at)) (each_unused w (out_paths recipe) (lets w e).apart)
-
-pub close_records : (a : Option World) (recipe : Recipe) (logs : List Path) (places : JobPlaces) → places ≡ places_of (out_paths recipe) logs → Lets a recipe → AreUnused a places.records
-close_records a recipe logs places at lets = λ w e.
-    subst (λ ps. All (IsUnused w) ps) (ap (λ (x : JobPlaces). x.records) (sym at)) (records_unused w (lets w e).users (out_paths recipe))
-
-pub close_marks : (a : Option World) (recipe : Recipe) (logs : List Path) (places : JobPlaces) → places ≡ places_of (out_paths recipe) logs → Lets a recipe → AreUnused a places.marks
-close_marks a recipe logs places at lets = λ w e.
-    subst (λ ps. All (IsUnused w) ps) (ap (λ (x : JobPlaces). x.marks) (sym at)) (marks_unused w (lets w e).users (out_paths recipe))
+pub close_free : (a : Device) (recipe : Recipe) (logs : List Path) (places : JobPlaces) → places ≡ places_of (out_paths recipe) logs → Lets a recipe → WhereTold a (AreFree places)
+close_free a recipe logs places at lets = λ w e.
+    subst (λ x. AreFree x w) (sym at)
+    (record {
+      outputs = each_unused w (out_paths recipe) (lets w e).apart;
+      records = records_unused w (lets w e).users (out_paths recipe);
+      marks = marks_unused w (lets w e).users (out_paths recipe);
+    })

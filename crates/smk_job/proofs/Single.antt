@@ -100,7 +100,7 @@ pub done_reaches : (act : Recipe → List Tree → Acted) (rs : List Request) (w
 done_reaches act [] w [] f h = refl
 done_reaches act [] w (e ∷ es) f h = absurd h
 done_reaches act (r ∷ rs) w [] f h = absurd h
-done_reaches act (r ∷ rs) w (e ∷ es) f h = (after w e, record { event = e; lets = f.0; is = h.0; quiet = h.1; now = refl }, done_reaches act rs (after w e) es f.1 h.2)
+done_reaches act (r ∷ rs) w (e ∷ es) f h = (after w e, record { event = e; lets = f.0.lets; is = h.0; quiet = h.1; now = refl }, done_reaches act rs (after w e) es f.1 h.2)
 
 pub step_keeps : (act : Recipe → List Tree → Acted) (r : Request) (w v : World) (q : List ℕ) → Stepped act r w v → touches r q ≡ false → v.nodes q ≡ w.nodes q
 step_keeps act r w v q st h = ap (λ x. x.nodes q) st.now ∙ kept_by st.event.call st.event.left w.children q (w.nodes q) (ap (λ x. touches x q) st.is ∙ h)

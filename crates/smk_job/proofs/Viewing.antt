@@ -1,12 +1,11 @@
 -- Looks at outputs with directories among them, one after the other.
-use Rattle.std.proofs.Common.{◌≡◌, inl, inr, ℕ, zero, suc, ◌+◌, ◌<◌, ◌==◌, Bool, true, false, List, [], ◌∷◌, ◌++◌, map, length, take, drop, get_or, refl, sym, ap, subst, ◌∙◌, arith, append_assoc, length-append, filter, bytes_eq, Option, Some, None, Result, Ok, Err}
-use Rattle.std.specs.Prelude.{IsErr, IsErrOf, IsErrAnd, is_err, if◌then◌else◌, nat_le}
+use Rattle.std.proofs.Common.{◌≡◌, inl, inr, ℕ, zero, suc, ◌+◌, ◌<◌, ◌≤◌, ◌==◌, Bool, true, false, List, [], ◌∷◌, ◌++◌, map, length, take, drop, get_or, refl, sym, ap, subst, ◌∙◌, arith, append_assoc, length-append, filter, bytes_eq, Option, Some, None, Result, Ok, Err}
+use Rattle.std.specs.Prelude.{IsErrAnd, if◌then◌else◌, nat_le}
 use Rattle.std.specs.List.{list_all}
-use Rattle.std.proofs.lemmas.List.{append-nil}
+use Rattle.std.proofs.lemmas.List.{append-nil, take_all}
 use Rattle.std.proofs.lemmas.List.Elements.{All-nil, All-cons}
 use Rattle.smk_base.proofs.Places.{and_first, and_second, place_itself}
 use Rattle.smk_base.proofs.Under.{both_true, at_itself, or_first, or_second}
-use Rattle.smk_base.specs.declared.tree.Tree.{Tree}
 use Rattle.smk_base.specs.declared.tree.Pair.{Pair}
 use Rattle.smk_world.specs.declared.event.Call.TheVariants.{Looked}
 use Rattle.smk_world.specs.declared.event.Change.{Change}
@@ -24,31 +23,30 @@ use Rattle.smk_world.specs.declared.recipe.Kind.TheVariants.{Plain, Folder}
 use Rattle.smk_world.specs.declared.recipe.Out.{Out}
 use Rattle.smk_world.specs.declared.recipe.Recipe.{Recipe}
 use Rattle.smk_world.specs.World.{World, run, in_paths, out_paths, reads_nothing, reads_folder}
-use Rattle.smk_world.specs.Calls.{Acted, Happened, HasCause, StatIs, failed}
-use Rattle.smk_world.specs.Runs.{Did}
+use Rattle.smk_world.specs.Calls.{StatIs, failed, device_failed}
+use Rattle.smk_world.specs.Devices.{Device, WhereTold, HasCalled, HasActed, AreLooks as OnlyLooks}
 use Rattle.smk_world.specs.Requests.{Request, request, AreQuiet}
 use Rattle.smk_world.specs.Requests.Request.{Look, ReadUpTo, ListFolder, Write, Create, Remove, MakeParents, Settle, Protect, Start, Wait}
 use Rattle.smk_world.specs.Trees.{Path, Act, Each, among, folders_of, outs_of, is_folder_kind, is_path_text}
-use Rattle.smk_world.proofs.Runs.{did_nothing, did_more, did_both}
+use Rattle.smk_world.proofs.Devices.{acted_nothing, acted_call, acted_then, acted_as, looks_append, looks_nodes}
 use Rattle.smk_record.specs.declared.record.Member.{Member}
 use Rattle.smk_record.specs.Records.{record_of, is_valid, are_valid_members, are_none, is_earlier, are_rising}
-use Rattle.smk_store.specs.Walking.{HasLooked}
-use Rattle.smk_store.proofs.Looks.{looked_call, looked_as}
-use Rattle.smk_store.proofs.Carried.{did_as}
 use Rattle.smk_store_members.specs.declared.listed.Listed.{Listed}
 use Rattle.smk_store_members.specs.declared.listed.Listed.TheVariants.{Members, BadMember}
 use Rattle.smk_store_members.specs.Members.{IsOpenFolder, IsListed}
-use Rattle.smk_store_members.specs.Walks.{IsListingIn, AreListings, is_device}
+use Rattle.smk_store_members.specs.Walks.{IsListingIn, AreListings}
 use Rattle.smk_job.specs.declared.folders.Sight.{Sight}
 use Rattle.smk_job.specs.declared.folders.Sight.TheVariants.{Good, Bad}
 use Rattle.smk_job.specs.declared.sight.Wrong.{Wrong}
 use Rattle.smk_job.specs.declared.sight.Wrong.TheVariants.{Absent, OtherKind, Unlisted}
 use Rattle.smk_job.specs.Sights.{Nodes, reads_file, AreMembers, IsOfKind, IsWrong, IsListing, AreLooks, AreSeen, IsSeenWrong, IsBlind, AreLookedAt, AreKnown, path_at, wrong_of, wrong_fault}
 use Rattle.smk_job.specs.declared.folders.View.{View}
-use Rattle.smk_job.specs.declared.folders.View.TheVariants.{Wrongly}
-use Rattle.smk_job.specs.Views.{Core, HasViewed, bytes_of, sight_of, folder_out, IsFree, AreListed, IsGood, IsSo, HasListed, HasView, bytes_all, AreGood}
+use Rattle.smk_job.specs.declared.folders.View.TheVariants.{Records, Wrongly}
+use Rattle.smk_job.specs.Views.{Core, HasViewed, bytes_of, sight_of, folder_out, IsFree, AreListed, IsGood, IsSo, HasListed, HasView, HasLookedInto, HasLookedAt, HasLookedThrough, bytes_all, AreGood, AreGoodSoFar}
+use Rattle.smk_job.proofs.Acts.{acted_in}
 use Rattle.smk_job.proofs.Looking.{plain_fit, plain_wrong, seen_next, wrong_next, blind_next, around, next, path_of_at}
 use Rattle.smk_store_members.proofs.Lists.{each_at, each_unmap}
+use Rattle.smk_store_members.proofs.Listings.{listings_look}
 use Rattle.smk_job.proofs.Outs.{paths_same}
 
 -- ## Records with members
@@ -98,66 +96,58 @@ listed_as : (p : Path) (es : List Event) → Each (λ (e : Event). IsListingIn p
 listed_as p [] h = tt
 listed_as p (e ∷ es) h = (listing_as p (request e.call) h.0, listed_as p es h.1)
 
-quiet_of : (p : Path) (bad : Bool) (es : List Event) → bad ≡ false → AreListings p bad es → AreListed (folder_out p) es × AreQuiet es
-quiet_of p true es e h = absurd cc
-quiet_of p false es e h = (listed_as p es h.0, h.1)
-
-failed_by : (k : Core) (nodes : Nodes) (p : Path) (x : WorkFault) (es : List Event) → AreListings p (is_device {T = Listed} (Err x)) es → HasListed k nodes (folder_out p) (Err x) es
-failed_by k nodes p FailedFault es h = (listed_as p es h.0, h.1)
-failed_by k nodes p MemoryFault es h = (listed_as p es h.0, h.1)
-
 pub err_is : {T : Type 0} (s : Result T WorkFault) (x : WorkFault) → IsErrAnd s (λ y. y ≡ x) → s ≡ Err x
 err_is (Ok t) x h = absurd h
 err_is (Err y) x h = ap (λ (z : WorkFault). Err z) h
 
-abbrev Listed-so : Core → Path → Result Sight WorkFault → World → List Event → Type 0
-Listed-so k p s w es = IsFree w.nodes p → reads_folder (w.nodes p) ≡ true → HasListed k w.nodes (folder_out p) s es
-
 -- the listing failed
-pub listed_badly : (act : Recipe → List Tree → Acted) (a b : Option World) (k : Core) (p : Path) (r : Result Listed WorkFault) (s : Result Sight WorkFault) (x : WorkFault)
-    → r ≡ Err x → IsErrAnd s (λ y. y ≡ x) → Did act a b (λ w es. AreListings p (is_device r) es) → Did act a b (Listed-so k p s)
-listed_badly act a b k p r s x is same did =
-    did_as act (λ w es. AreListings p (is_device r) es) (Listed-so k p s) a b did
-    (λ w es h free folder. subst (λ (t : Result Sight WorkFault). HasListed k w.nodes (folder_out p) t es) (sym (err_is s x same)) (failed_by k w.nodes p x es (subst (λ (t : Result Listed WorkFault). AreListings p (is_device t) es) is h)))
-
--- what the listing told, of the world in which it began
-did_told : (act : Recipe → List Tree → Acted) (a b : Option World) (P : World → List Event → Type 0) (X : World → Type 0) → Did act a b P → ((w : World) → a ≡ Some w → X w) → Did act a b (λ w es. P w es × X w)
-did_told act a b P X did told = λ v e.
-    let d = did v e in
-    (d.0, d.1, (d.2.0, d.2.1, (d.2.2, told d.0 d.1), d.2.3))
+pub listed_badly : (act : Act) (a b : Device) (k : Core) (p : Path) (x : WorkFault) (s : Result Sight WorkFault) → IsErrAnd s (λ y. y ≡ x)
+    → HasActed act (λ w es. AreListings p (device_failed {T = Listed} (Err x)) es) a b (device_failed {T = Listed} (Err x)) → HasActed act (HasLookedInto k p s) a b (device_failed s)
+listed_badly act a b k p x s same h = subst (λ t. HasActed act (HasLookedInto k p t) a b (device_failed t)) (sym (err_is s x same)) (by x h)
+  where
+    by : (x : WorkFault) → HasActed act (λ w es. AreListings p (device_failed {T = Listed} (Err x)) es) a b (device_failed {T = Listed} (Err x)) → HasActed act (HasLookedInto k p (Err x)) a b (device_failed {T = Sight} (Err x))
+    by FailedFault g =
+        acted_as act (λ w es. AreListings p true es) (HasLookedInto k p (Err FailedFault)) a b true true refl
+        (λ w es are. record { looks = listings_look p true es are; listed = λ free folder. (listed_as p es are.0, are.1) }) g
+    by MemoryFault g =
+        acted_as act (λ w es. AreListings p false es) (HasLookedInto k p (Err MemoryFault)) a b false false refl
+        (λ w es are. record { looks = listings_look p false es are; listed = λ free folder. (listed_as p es are.0, are.1) }) g
 
 abbrev Told : Path → Listed → World → Type 0
 Told p l w = IsOpenFolder w.nodes p → IsListed w.nodes p l
 
-ok_quiet : (p : Path) (r : Result Listed WorkFault) (l : Listed) (es : List Event) → r ≡ Ok l → AreListings p (is_device r) es → AreListed (folder_out p) es × AreQuiet es
-ok_quiet p r l es is h = quiet_of p (is_device r) es (ap is_device is) h
-
 -- a record can't tell what is there
-pub listed_none : (act : Recipe → List Tree → Acted) (a b : Option World) (k : Core) (p : Path) (r : Result Listed WorkFault) (l : Listed) → r ≡ Ok l → l ≡ BadMember
-    → Did act a b (λ w es. AreListings p (is_device r) es) → ((w : World) → a ≡ Some w → Told p l w) → Did act a b (Listed-so k p (Ok (Bad Unlisted)))
-listed_none act a b k p r l is none did told =
-    did_as act (λ w es. AreListings p (is_device r) es × Told p l w) (Listed-so k p (Ok (Bad Unlisted))) a b (did_told act a b (λ w es. AreListings p (is_device r) es) (Told p l) did told)
-    (λ w es h free folder.
-    let q = ok_quiet p r l es is h.0 in
-    (q.0, q.1, (refl, folder, subst (λ (x : Listed). IsListed w.nodes p x) none (h.1 (record { folder = folder; unowned = free })))))
+pub listed_none : (act : Act) (a b : Device) (k : Core) (p : Path) (l : Listed) → l ≡ BadMember → HasActed act (λ w es. AreListings p false es) a b false → WhereTold a (Told p l)
+    → HasActed act (HasLookedInto k p (Ok (Bad Unlisted))) a b false
+listed_none act a b k p l none h told =
+    acted_in act (λ w es. AreListings p false es) (HasLookedInto k p (Ok (Bad Unlisted))) a b false false refl
+    (λ w es at are. record {
+      looks = listings_look p false es are;
+      listed = λ free folder. (listed_as p es are.0, are.1, (refl, folder, subst (λ (x : Listed). IsListed w.nodes p x) none (told w at (record { folder = folder; unowned = free }))));
+    })
+    h
 
 -- all that is there
-pub listed_well : (act : Recipe → List Tree → Acted) (a b : Option World) (k : Core) (p : Path) (r : Result Listed WorkFault) (l : Listed) (members : List Member) (s : Sight) → r ≡ Ok l → l ≡ Members members
-    → s ≡ sight_of k p members → among (folders_of k.recipe) p ≡ true → is_valid (record_of p k.made k.recipe k.stamps []) ≡ true
-    → Did act a b (λ w es. AreListings p (is_device r) es) → ((w : World) → a ≡ Some w → Told p l w) → Did act a b (Listed-so k p (Ok s))
-listed_well act a b k p r l members s is some sight folder_in valid did told =
-    did_as act (λ w es. AreListings p (is_device r) es × Told p l w) (Listed-so k p (Ok s)) a b (did_told act a b (λ w es. AreListings p (is_device r) es) (Told p l) did told)
-    (λ w es h free folder.
-    let q = ok_quiet p r l es is h.0 in
-    let are : AreMembers w.nodes p members = subst (λ (x : Listed). IsListed w.nodes p x) some (h.1 (record { folder = folder; unowned = free })) in
-    (q.0, q.1, subst (IsSo k w.nodes (folder_out p)) (sym (good_sight k p members s sight (valid_with k p members folder_in valid are.valid))) (members, (folder, are), refl)))
+pub listed_well : (act : Act) (a b : Device) (k : Core) (p : Path) (l : Listed) (members : List Member) (s : Sight) → l ≡ Members members → s ≡ sight_of k p members
+    → among (folders_of k.recipe) p ≡ true → is_valid (record_of p k.made k.recipe k.stamps []) ≡ true → HasActed act (λ w es. AreListings p false es) a b false → WhereTold a (Told p l)
+    → HasActed act (HasLookedInto k p (Ok s)) a b false
+listed_well act a b k p l members s some sight folder_in valid h told =
+    acted_in act (λ w es. AreListings p false es) (HasLookedInto k p (Ok s)) a b false false refl
+    (λ w es at are. record {
+      looks = listings_look p false es are;
+      listed = λ free folder.
+          let them : AreMembers w.nodes p members = subst (λ (x : Listed). IsListed w.nodes p x) some (told w at (record { folder = folder; unowned = free })) in
+          (listed_as p es are.0, are.1, subst (IsSo k w.nodes (folder_out p)) (sym (good_sight k p members s sight (valid_with k p members folder_in valid them.valid))) (members, (folder, them), refl));
+    })
+    h
 
 -- memory was short
-pub listed_short : (act : Recipe → List Tree → Acted) (a b : Option World) (k : Core) (p : Path) (r : Result Listed WorkFault) (l : Listed) (s : Result Sight WorkFault) → r ≡ Ok l → IsErrAnd s (λ y. y ≡ MemoryFault)
-    → Did act a b (λ w es. AreListings p (is_device r) es) → Did act a b (Listed-so k p s)
-listed_short act a b k p r l s is short did =
-    did_as act (λ w es. AreListings p (is_device r) es) (Listed-so k p s) a b did
-    (λ w es h free folder. subst (λ (t : Result Sight WorkFault). HasListed k w.nodes (folder_out p) t es) (sym (err_is s MemoryFault short)) (ok_quiet p r l es is h))
+pub listed_short : (act : Act) (a b : Device) (k : Core) (p : Path) (s : Result Sight WorkFault) → IsErrAnd s (λ y. y ≡ MemoryFault) → HasActed act (λ w es. AreListings p false es) a b false
+    → HasActed act (HasLookedInto k p s) a b (device_failed s)
+listed_short act a b k p s short h =
+    subst (λ t. HasActed act (HasLookedInto k p t) a b (device_failed t)) (sym (err_is s MemoryFault short))
+    (acted_as act (λ w es. AreListings p false es) (HasLookedInto k p (Err MemoryFault)) a b false false refl
+    (λ w es are. record { looks = listings_look p false es are; listed = λ free folder. (listed_as p es are.0, are.1) }) h)
 
 -- ## A look at one output
 
@@ -193,73 +183,65 @@ any_wrong : (kind : Kind) (nodes : Nodes) (p : Path) (s : Stat) (x : Wrong) → 
 any_wrong Plain nodes p s x known is wrong = plain_wrong nodes p s x known is wrong
 any_wrong Folder nodes p s x known is wrong = folder_wrong nodes p s x known is wrong
 
--- one look at the place, which answered this
-abbrev pub HasStat : Path → Result Stat Failed → World → List Event → Type 0
-HasStat p r w es = (left : List Change) × (es ≡ record { call = Looked p r; left = left } ∷ []) × ((s : Stat) → r ≡ Ok s → StatIs s (w.nodes p))
-
-ok_same : (s t : Stat) (r q : Result Stat Failed) → r ≡ Ok s → q ≡ Ok t → r ≡ q → s ≡ t
-ok_same s t r q e f h = cc
-
-pub stat_did : (act : Recipe → List Tree → Acted) (a b : Option World) (p : Path) (r : Result Stat Failed) → Happened act a b (Looked p r) → Did act a b (HasStat p r)
-stat_did act a b p (Ok s) happened =
-    did_more act (λ w es. es ≡ []) (HasStat p (Ok s)) a a b (Looked p (Ok s)) (did_nothing act (λ w es. es ≡ []) a (λ w. refl)) happened
-    (λ w es left follows none lets. (
-      left,
-      ap (λ (t : List Event). t ++ record { call = Looked p (Ok s); left = left } ∷ []) none,
-      λ t e. subst (λ (x : Stat). StatIs x (w.nodes p)) (ok_same s t (Ok s) (Ok t) refl refl e) (subst (λ (t : List Event). StatIs s ((run w t).nodes p)) none lets.1),
-    ))
-stat_did act a b p (Err f) happened =
-    did_more act (λ w es. es ≡ []) (HasStat p (Err f)) a a b (Looked p (Err f)) (did_nothing act (λ w es. es ≡ []) a (λ w. refl)) happened
-    (λ w es left follows none lets. (left, ap (λ (t : List Event). t ++ record { call = Looked p (Err f); left = left } ∷ []) none, λ t e. absurd cc))
-
-abbrev View-so : Core → Out → Result Sight WorkFault → World → List Event → Type 0
-View-so k out r w es = IsFree w.nodes out.path → HasView k w.nodes out r es
+abbrev look_event : Path → Result Stat Failed → List Change → Event
+look_event p r left = record { call = Looked p r; left = left }
 
 quiet_one : (e : Event) → failed e.call ≡ false → AreQuiet (e ∷ [])
 quiet_one e h = All-cons (λ (d : Event). failed d.call ≡ false) e [] h (All-nil (λ (d : Event). failed d.call ≡ false))
 
--- the look itself
-looked_first : (out : Out) (p : Path) (r : Result Stat Failed) (w : World) (es : List Event) → p ≡ out.path → HasStat p r w es → AreLooks out es
-looked_first out p r w es at h = subst (AreLooks out) (sym h.1) (ap Look at, tt)
+-- the look failed
+pub view_blind : (act : Act) (a b : Device) (k : Core) (out : Out) (p : Path) (f : Failed) (s : Result Sight WorkFault) → p ≡ out.path → IsErrAnd s (λ y. y ≡ FailedFault) → HasCalled act a b (Looked p (Err f))
+    → HasActed act (HasLookedAt k out s) a b (device_failed s)
+view_blind act a b k out p f s at fault h =
+    subst (λ t. HasActed act (HasLookedAt k out t) a b (device_failed t)) (sym (err_is s FailedFault fault))
+    (acted_call act (HasLookedAt k out (Err FailedFault)) a b (Looked p (Err f)) refl
+    (λ w left lets. record {
+      looks = (refl, refl);
+      view = λ free. ((ap Look at, tt), ([], look_event p (Err f) left, refl, All-nil (λ (d : Event). failed d.call ≡ false), refl));
+    })
+    h)
 
-looked_quietly : (p : Path) (r : Result Stat Failed) (s : Stat) (w : World) (es : List Event) → r ≡ Ok s → HasStat p r w es → AreQuiet es
-looked_quietly p r s w es is h = subst AreQuiet (sym h.1) (quiet_one (record { call = Looked p r; left = h.0 }) (ap (λ (x : Result Stat Failed). failed (Looked p x)) is))
-
-stat_at : (out : Out) (p : Path) (r : Result Stat Failed) (s : Stat) (w : World) (es : List Event) → p ≡ out.path → r ≡ Ok s → HasStat p r w es → StatIs s (w.nodes out.path)
-stat_at out p r s w es at is h = subst (λ (q : Path). StatIs s (w.nodes q)) at (h.2 s is)
-
-pub view_blind : (act : Recipe → List Tree → Acted) (a b : Option World) (k : Core) (out : Out) (p : Path) (r : Result Stat Failed) (f : Failed) (s : Result Sight WorkFault) → p ≡ out.path → r ≡ Err f → s ≡ Err FailedFault
-    → Happened act a b (Looked p r) → Did act a b (View-so k out s)
-view_blind act a b k out p r f s at is fault happened =
-    did_as act (HasStat p r) (View-so k out s) a b (stat_did act a b p r happened)
-    (λ w es h free. subst (λ (t : Result Sight WorkFault). HasView k w.nodes out t es) (sym fault)
-    (looked_first out p r w es at h, ([], record { call = Looked p r; left = h.0 }, h.1, All-nil (λ (d : Event). failed d.call ≡ false), ap (λ (x : Result Stat Failed). failed (Looked p x)) is)))
-
-pub view_wrong : (act : Recipe → List Tree → Acted) (a b : Option World) (k : Core) (out : Out) (p : Path) (r : Result Stat Failed) (s : Stat) (x : Wrong) → p ≡ out.path → r ≡ Ok s → wrong_of out.kind s ≡ Some x
-    → Happened act a b (Looked p r) → Did act a b (View-so k out (Ok (Bad x)))
-view_wrong act a b k out p r s x at is wrong happened =
-    did_as act (HasStat p r) (View-so k out (Ok (Bad x))) a b (stat_did act a b p r happened)
-    (λ w es h free. (looked_first out p r w es at h, looked_quietly p r s w es is h, any_wrong out.kind w.nodes out.path s x (free out.path (at_itself out.path)) (stat_at out p r s w es at is h) wrong))
+-- something is wrong
+pub view_wrong : (act : Act) (a b : Device) (k : Core) (out : Out) (p : Path) (s : Stat) (x : Wrong) → p ≡ out.path → wrong_of out.kind s ≡ Some x → HasCalled act a b (Looked p (Ok s))
+    → HasActed act (HasLookedAt k out (Ok (Bad x))) a b false
+view_wrong act a b k out p s x at wrong h =
+    acted_call act (HasLookedAt k out (Ok (Bad x))) a b (Looked p (Ok s)) refl
+    (λ w left lets. record {
+      looks = (refl, refl);
+      view = λ free. (
+        (ap Look at, tt),
+        quiet_one (look_event p (Ok s) left) refl,
+        any_wrong out.kind w.nodes out.path s x (free out.path (at_itself out.path)) (subst (λ (q : Path). StatIs s (w.nodes q)) at lets.1) wrong,
+      );
+    })
+    h
 
 kind_plain : (k : Core) (nodes : Nodes) (out : Out) (b : List ℕ) → out.kind ≡ Plain → reads_file (nodes out.path) ≡ true → b ≡ bytes_of k out.path [] → IsGood k nodes out b
 kind_plain k nodes out b plain reads is = ([], subst (λ (x : Kind). IsOfKind nodes out.path x []) (sym plain) (reads, refl), is)
 
-pub view_plain : (act : Recipe → List Tree → Acted) (a b : Option World) (k : Core) (out : Out) (p : Path) (r : Result Stat Failed) (s : Stat) (sight : Sight) → p ≡ out.path → r ≡ Ok s → wrong_of out.kind s ≡ None → out.kind ≡ Plain
-    → sight ≡ sight_of k out.path [] → is_valid (record_of out.path k.made k.recipe k.stamps []) ≡ true → Happened act a b (Looked p r) → Did act a b (View-so k out (Ok sight))
-view_plain act a b k out p r s sight at is fits plain sight_is valid happened =
-    did_as act (HasStat p r) (View-so k out (Ok sight)) a b (stat_did act a b p r happened)
-    (λ w es h free.
-    let reads : reads_file (w.nodes out.path) ≡ true = plain_fit s (w.nodes out.path) (free out.path (at_itself out.path)) (stat_at out p r s w es at is h) (ap (λ (x : Kind). wrong_of x s) (sym plain) ∙ fits) in (
-      looked_first out p r w es at h,
-      looked_quietly p r s w es is h,
-      subst (IsSo k w.nodes out) (sym (good_sight k out.path [] sight sight_is valid)) (kind_plain k w.nodes out (bytes_of k out.path []) plain reads refl),
-    ))
+-- it is a file, as it is to be
+pub view_plain : (act : Act) (a b : Device) (k : Core) (out : Out) (p : Path) (s : Stat) (sight : Sight) → p ≡ out.path → wrong_of out.kind s ≡ None → out.kind ≡ Plain → sight ≡ sight_of k out.path []
+    → is_valid (record_of out.path k.made k.recipe k.stamps []) ≡ true → HasCalled act a b (Looked p (Ok s)) → HasActed act (HasLookedAt k out (Ok sight)) a b false
+view_plain act a b k out p s sight at fits plain sight_is valid h =
+    acted_call act (HasLookedAt k out (Ok sight)) a b (Looked p (Ok s)) refl
+    (λ w left lets. record {
+      looks = (refl, refl);
+      view = λ free.
+          let reads : reads_file (w.nodes out.path) ≡ true = plain_fit s (w.nodes out.path) (free out.path (at_itself out.path)) (subst (λ (q : Path). StatIs s (w.nodes q)) at lets.1) (ap (λ (x : Kind). wrong_of x s) (sym plain) ∙ fits) in (
+            (ap Look at, tt),
+            quiet_one (look_event p (Ok s) left) refl,
+            subst (IsSo k w.nodes out) (sym (good_sight k out.path [] sight sight_is valid)) (kind_plain k w.nodes out (bytes_of k out.path []) plain reads refl),
+          );
+    })
+    h
 
-pub view_short : (act : Recipe → List Tree → Acted) (a b : Option World) (k : Core) (out : Out) (p : Path) (r : Result Stat Failed) (s : Stat) (result : Result Sight WorkFault) → p ≡ out.path → r ≡ Ok s → IsErrAnd result (λ y. y ≡ MemoryFault)
-    → Happened act a b (Looked p r) → Did act a b (View-so k out result)
-view_short act a b k out p r s result at is short happened =
-    did_as act (HasStat p r) (View-so k out result) a b (stat_did act a b p r happened)
-    (λ w es h free. subst (λ (t : Result Sight WorkFault). HasView k w.nodes out t es) (sym (err_is result MemoryFault short)) (looked_first out p r w es at h, looked_quietly p r s w es is h))
+-- memory was short
+pub view_short : (act : Act) (a b : Device) (k : Core) (out : Out) (p : Path) (s : Stat) (result : Result Sight WorkFault) → p ≡ out.path → IsErrAnd result (λ y. y ≡ MemoryFault) → HasCalled act a b (Looked p (Ok s))
+    → HasActed act (HasLookedAt k out result) a b (device_failed result)
+view_short act a b k out p s result at short h =
+    subst (λ t. HasActed act (HasLookedAt k out t) a b (device_failed t)) (sym (err_is result MemoryFault short))
+    (acted_call act (HasLookedAt k out (Err MemoryFault)) a b (Looked p (Ok s)) refl
+    (λ w left lets. record { looks = (refl, refl); view = λ free. ((ap Look at, tt), quiet_one (look_event p (Ok s) left) refl) }) h)
 
 with_listing : (k : Core) (nodes : Nodes) (out : Out) (e : Event) (r : Result Sight WorkFault) (es : List Event) → request e.call ≡ Look out.path → failed e.call ≡ false → HasListed k nodes out r es → HasView k nodes out r (e ∷ es)
 with_listing k nodes out e (Ok sight) es at quiet (all, q, so) = ((at, all), All-cons (λ (d : Event). failed d.call ≡ false) e es quiet q, so)
@@ -270,17 +252,25 @@ with_listing k nodes out e (Err MemoryFault) es at quiet (all, q) = ((at, all), 
 out_is : (out : Out) → out.kind ≡ Folder → folder_out out.path ≡ out
 out_is out h = λ i. record { path = out.path; kind = sym h i }
 
-pub view_folder : (act : Recipe → List Tree → Acted) (a b c : Option World) (k : Core) (out : Out) (p : Path) (r : Result Stat Failed) (s : Stat) (result : Result Sight WorkFault) → p ≡ out.path → r ≡ Ok s → wrong_of out.kind s ≡ None
-    → out.kind ≡ Folder → Happened act a b (Looked p r) → Did act b c (Listed-so k out.path result) → Did act a c (View-so k out result)
-view_folder act a b c k out p r s result at is fits folder happened did =
-    did_both act (HasStat p r) (Listed-so k out.path result) (View-so k out result) a b c (stat_did act a b p r happened) did
-    (λ w es fs follows h follows2 listed free.
-    let e : Event = record { call = Looked p r; left = h.0 } in
-    let same : (run w es).nodes ≡ w.nodes = ap (λ (t : List Event). (run w t).nodes) h.1 in
-    let reads : reads_folder (w.nodes out.path) ≡ true = folder_fit s (w.nodes out.path) (free out.path (at_itself out.path)) (stat_at out p r s w es at is h) (ap (λ (x : Kind). wrong_of x s) (sym folder) ∙ fits) in
-    let so : HasListed k w.nodes (folder_out out.path) result fs = (subst (λ (ns : Nodes). IsFree ns out.path → reads_folder (ns out.path) ≡ true → HasListed k ns (folder_out out.path) result fs) same listed) free reads in
-    subst (λ (t : List Event). HasView k w.nodes out result (t ++ fs)) (sym h.1)
-    (with_listing k w.nodes out e result fs (ap Look at) (ap (λ (x : Result Stat Failed). failed (Looked p x)) is) (subst (λ (o : Out). HasListed k w.nodes o result fs) (out_is out folder) so)))
+-- one look at the place, which answered this
+abbrev HasStat : Path → Stat → World → List Event → Type 0
+HasStat p s w es = (left : List Change) × (es ≡ look_event p (Ok s) left ∷ []) × StatIs s (w.nodes p)
+
+-- it is a directory, as it is to be, and was listed
+pub view_folder : (act : Act) (a b c : Device) (k : Core) (out : Out) (p : Path) (s : Stat) (result : Result Sight WorkFault) → p ≡ out.path → wrong_of out.kind s ≡ None → out.kind ≡ Folder
+    → HasCalled act a b (Looked p (Ok s)) → HasActed act (HasLookedInto k out.path result) b c (device_failed result) → HasActed act (HasLookedAt k out result) a c (device_failed result)
+view_folder act a b c k out p s result at fits folder h into =
+    acted_then act (HasStat p s) (HasLookedInto k out.path result) (HasLookedAt k out result) a b c (device_failed result)
+    (λ w es fs follows stat follows2 so. record {
+      looks = looks_append (device_failed result) es fs (subst (OnlyLooks false) (sym stat.1) (refl, refl)) so.looks;
+      view = λ free.
+          let same : (run w es).nodes ≡ w.nodes = ap (λ (t : List Event). (run w t).nodes) stat.1 in
+          let reads : reads_folder (w.nodes out.path) ≡ true = folder_fit s (w.nodes out.path) (free out.path (at_itself out.path)) (subst (λ (q : Path). StatIs s (w.nodes q)) at stat.2) (ap (λ (x : Kind). wrong_of x s) (sym folder) ∙ fits) in
+          let listed : HasListed k w.nodes (folder_out out.path) result fs = (subst (λ (ns : Nodes). IsFree ns out.path → reads_folder (ns out.path) ≡ true → HasListed k ns (folder_out out.path) result fs) same so.listed) free reads in
+          subst (λ (t : List Event). HasView k w.nodes out result (t ++ fs)) (sym stat.1)
+          (with_listing k w.nodes out (look_event p (Ok s) stat.0) result fs (ap Look at) refl (subst (λ (o : Out). HasListed k w.nodes o result fs) (out_is out folder) listed));
+    })
+    (acted_call act (HasStat p s) a b (Looked p (Ok s)) refl (λ w left lets. (left, refl, lets.1)) h) into
 
 -- ## One output after another
 
@@ -309,86 +299,87 @@ looked_next nodes (o ∷ outs) [] es out later first h looks quiet = absurd h
 looked_next nodes (o ∷ outs) (x ∷ ms) es out later first (f, more, e, l, q, kind, rest) looks quiet =
     inr (f, more ++ first, ap (λ (t : List Event). t ++ first) e ∙ append_assoc f more first, l, q, looked_next nodes outs ms more out later first rest looks quiet)
 
-module _ (act : Recipe → List Tree → Acted) (k : Core) (outs : List Out) (i : ℕ) (out : Out) (lt : i < length outs) (is : out ≡ get_or outs i out) where
-  abbrev So-far : List (List ℕ) → World → List Event → Type 0
-  So-far records w es = AreKnown w.nodes outs → AreGood k w.nodes (take i outs) records es
-
+module _ (act : Act) (k : Core) (outs : List Out) (i : ℕ) (out : Out) (lt : i < length outs) (is : out ≡ get_or outs i out) where
   known_here : (nodes : Nodes) → AreKnown nodes outs → IsFree nodes out.path
   known_here nodes known = subst (λ (o : Out). IsFree nodes o.path) (sym is) (each_at (λ (o : Out). IsFree nodes o.path) outs i out lt known)
 
-  view_next : (a b c : Option World) (R : World → List Event → Type 0) (records : List (List ℕ)) (r : Result Sight WorkFault) → ((w v : World) → a ≡ Some w → b ≡ Some v → v.nodes ≡ w.nodes)
-      → Did act a b (So-far records) → Did act b c (View-so k out r)
-      → ((w : World) (es fs : List Event) → AreKnown w.nodes outs → AreGood k w.nodes (take i outs) records es → HasView k w.nodes out r fs → R w (es ++ fs)) → Did act a c (λ w es. AreKnown w.nodes outs → R w es)
-  view_next a b c R records r same before now more =
-      did_both act (λ w es. ((run w es).nodes ≡ w.nodes) × So-far records w es) (View-so k out r) (λ w es. AreKnown w.nodes outs → R w es) a b c
-      (λ v e. let d = before v e in (d.0, d.1, (d.2.0, d.2.1, (ap (λ (u : World). u.nodes) (sym d.2.3) ∙ same d.0 v d.1 e, d.2.2), d.2.3))) now
-      (λ w es fs follows h follows2 view known.
-      more w es fs known (h.1 known) ((subst (λ (ns : Nodes). IsFree ns out.path → HasView k ns out r fs) h.0 view) (known_here w.nodes known)))
+  view_next : (a b c : Device) (R : World → List Event → Type 0) (records : List (List ℕ)) (r : Result Sight WorkFault)
+      → HasActed act (AreGoodSoFar k outs (take i outs) records) a b false → HasActed act (HasLookedAt k out r) b c (device_failed r)
+      → ((w : World) (es fs : List Event) → AreKnown w.nodes outs → AreGood k w.nodes (take i outs) records es → HasView k w.nodes out r fs → R w (es ++ fs))
+      → HasActed act (λ w es. OnlyLooks (device_failed r) es × (AreKnown w.nodes outs → R w es)) a c (device_failed r)
+  view_next a b c R records r before now more =
+      acted_then act (AreGoodSoFar k outs (take i outs) records) (HasLookedAt k out r) (λ w es. OnlyLooks (device_failed r) es × (AreKnown w.nodes outs → R w es)) a b c (device_failed r)
+      (λ w es fs follows so follows2 at. (
+        looks_append (device_failed r) es fs so.looks at.looks,
+        λ known. more w es fs known (so.good known) ((subst (λ (ns : Nodes). IsFree ns out.path → HasView k ns out r fs) (looks_nodes false w es so.looks) at.view) (known_here w.nodes known)),
+      ))
+      before now
 
-  pub good_more : (a b c : Option World) (records new : List (List ℕ)) (r : Result Sight WorkFault) (bytes : List ℕ) → ((w v : World) → a ≡ Some w → b ≡ Some v → v.nodes ≡ w.nodes) → r ≡ Ok (Good bytes) → new ≡ records ++ bytes ∷ []
-      → Did act a b (So-far records) → Did act b c (View-so k out r) → Did act a c (λ w es. AreKnown w.nodes outs → AreGood k w.nodes (take (i + 1) outs) new es)
-  good_more a b c records new r bytes same good pushed before now =
-      view_next a b c (λ w es. AreGood k w.nodes (take (i + 1) outs) new es) records r same before now
+  -- it is as it should be
+  pub good_more : (a b c : Device) (records new : List (List ℕ)) (s : Sight) (bytes : List ℕ) → s ≡ Good bytes → new ≡ records ++ bytes ∷ []
+      → HasActed act (AreGoodSoFar k outs (take i outs) records) a b false → HasActed act (HasLookedAt k out (Ok s)) b c false → HasActed act (AreGoodSoFar k outs (take (i + 1) outs) new) a c false
+  good_more a b c records new s bytes good pushed before now =
+      acted_as act (λ w es. OnlyLooks false es × (AreKnown w.nodes outs → AreGood k w.nodes (take (i + 1) outs) new es)) (AreGoodSoFar k outs (take (i + 1) outs) new) a c false false refl
+      (λ w es h. record { looks = h.0; good = h.1 })
+      (view_next a b c (λ w es. AreGood k w.nodes (take (i + 1) outs) new es) records (Ok s) before now
       (λ w es fs known so view.
       subst (λ (os : List Out). AreGood k w.nodes os new (es ++ fs)) (sym (next outs i out lt is))
-      (good_next k w.nodes (take i outs) records new es fs out bytes so (subst (λ (x : Result Sight WorkFault). HasView k w.nodes out x fs) good view) pushed))
+      (good_next k w.nodes (take i outs) records new es fs out bytes so (subst (λ (x : Sight). HasView k w.nodes out (Ok x) fs) good view) pushed)))
 
-  pub viewed_wrong : (a b c : Option World) (records : List (List ℕ)) (r : Result Sight WorkFault) (x : Wrong) → ((w v : World) → a ≡ Some w → b ≡ Some v → v.nodes ≡ w.nodes) → r ≡ Ok (Bad x)
-      → Did act a b (So-far records) → Did act b c (View-so k out r) → Did act a c (λ w es. AreKnown w.nodes outs → HasViewed k w.nodes outs (Ok (Wrongly i x)) es)
-  viewed_wrong a b c records r x same bad before now =
-      view_next a b c (λ w es. HasViewed k w.nodes outs (Ok (Wrongly i x)) es) records r same before now
+  through : (a b : Device) (r : Result View WorkFault) (f : Bool) → f ≡ device_failed r → HasActed act (λ w es. OnlyLooks f es × (AreKnown w.nodes outs → HasViewed k w.nodes outs r es)) a b f
+      → HasActed act (HasLookedThrough k outs r) a b (device_failed r)
+  through a b r f same h =
+      acted_as act (λ w es. OnlyLooks f es × (AreKnown w.nodes outs → HasViewed k w.nodes outs r es)) (HasLookedThrough k outs r) a b f (device_failed r) same
+      (λ w es so. record { looks = subst (λ x. OnlyLooks x es) same so.0; viewed = so.1 }) h
+
+  -- something is wrong with it
+  pub viewed_wrong : (a b c : Device) (records : List (List ℕ)) (s : Sight) (x : Wrong) → s ≡ Bad x → HasActed act (AreGoodSoFar k outs (take i outs) records) a b false → HasActed act (HasLookedAt k out (Ok s)) b c false
+      → HasActed act (HasLookedThrough k outs (Ok (Wrongly i x))) a c false
+  viewed_wrong a b c records s x bad before now =
+      through a c (Ok (Wrongly i x)) false refl
+      (view_next a b c (λ w es. HasViewed k w.nodes outs (Ok (Wrongly i x)) es) records (Ok s) before now
       (λ w es fs known so view.
-      let v : HasView k w.nodes out (Ok (Bad x)) fs = subst (λ (y : Result Sight WorkFault). HasView k w.nodes out y fs) bad view in
+      let v : HasView k w.nodes out (Ok (Bad x)) fs = subst (λ (y : Sight). HasView k w.nodes out (Ok y) fs) bad view in
       subst (λ (os : List Out). IsSeenWrong w.nodes os (wrong_fault x (path_at outs i)) (es ++ fs)) (sym (around outs i out lt is))
       (wrong_next w.nodes (take i outs) so.0 es out (drop (suc i) outs) (wrong_fault x (path_at outs i)) fs so.1 v.0 v.1
-      (subst (λ (q : Path). IsWrong w.nodes out.path out.kind (wrong_fault x q)) (sym (path_of_at outs i out lt is)) v.2)))
+      (subst (λ (q : Path). IsWrong w.nodes out.path out.kind (wrong_fault x q)) (sym (path_of_at outs i out lt is)) v.2))))
 
-  pub viewed_failed : (a b c : Option World) (records : List (List ℕ)) (r : Result Sight WorkFault) (s : Result View WorkFault) (x : WorkFault) → ((w v : World) → a ≡ Some w → b ≡ Some v → v.nodes ≡ w.nodes) → r ≡ Err x → IsErrAnd s (λ y. y ≡ x)
-      → Did act a b (So-far records) → Did act b c (View-so k out r) → Did act a c (λ w es. AreKnown w.nodes outs → HasViewed k w.nodes outs s es)
-  viewed_failed a b c records r s x same failed_is err before now =
-      view_next a b c (λ w es. HasViewed k w.nodes outs s es) records r same before now
-      (λ w es fs known so view.
-      subst (λ (y : Result View WorkFault). HasViewed k w.nodes outs y (es ++ fs)) (sym (err_is s x err))
-      (by w.nodes x es fs so (subst (λ (y : Result Sight WorkFault). HasView k w.nodes out y fs) failed_is view)))
+  -- the look failed, or memory was short for it
+  pub viewed_failed : (a b c : Device) (records : List (List ℕ)) (x : WorkFault) (s : Result View WorkFault) → IsErrAnd s (λ y. y ≡ x)
+      → HasActed act (AreGoodSoFar k outs (take i outs) records) a b false → HasActed act (HasLookedAt k out (Err x)) b c (device_failed {T = Sight} (Err x)) → HasActed act (HasLookedThrough k outs s) a c (device_failed s)
+  viewed_failed a b c records x s err before now = subst (λ t. HasActed act (HasLookedThrough k outs t) a c (device_failed t)) (sym (err_is s x err)) (by x now)
     where
-      by : (nodes : Nodes) (x : WorkFault) (es fs : List Event) → AreGood k nodes (take i outs) records es → HasView k nodes out (Err x) fs → HasViewed k nodes outs (Err x) (es ++ fs)
-      by nodes FailedFault es fs so view = subst (λ (os : List Out). IsBlind os (es ++ fs)) (sym (around outs i out lt is)) (blind_next nodes (take i outs) so.0 es out (drop (suc i) outs) fs so.1 view.0 view.1)
-      by nodes MemoryFault es fs so view = subst (λ (os : List Out). AreLookedAt os (es ++ fs)) (sym (around outs i out lt is)) (looked_next nodes (take i outs) so.0 es out (drop (suc i) outs) fs so.1 view.0 view.1)
+      by : (x : WorkFault) → HasActed act (HasLookedAt k out (Err x)) b c (device_failed {T = Sight} (Err x)) → HasActed act (HasLookedThrough k outs (Err x)) a c (device_failed {T = View} (Err x))
+      by FailedFault h =
+          through a c (Err FailedFault) true refl
+          (view_next a b c (λ w es. IsBlind outs es) records (Err FailedFault) before h
+          (λ w es fs known so view. subst (λ (os : List Out). IsBlind os (es ++ fs)) (sym (around outs i out lt is)) (blind_next w.nodes (take i outs) so.0 es out (drop (suc i) outs) fs so.1 view.0 view.1)))
+      by MemoryFault h =
+          through a c (Err MemoryFault) false refl
+          (view_next a b c (λ w es. AreLookedAt outs es) records (Err MemoryFault) before h
+          (λ w es fs known so view. subst (λ (os : List Out). AreLookedAt os (es ++ fs)) (sym (around outs i out lt is)) (looked_next w.nodes (take i outs) so.0 es out (drop (suc i) outs) fs so.1 view.0 view.1)))
 
-  pub viewed_short : (a b c : Option World) (records : List (List ℕ)) (r : Result Sight WorkFault) (s : Result View WorkFault) (bytes : List ℕ) → ((w v : World) → a ≡ Some w → b ≡ Some v → v.nodes ≡ w.nodes) → r ≡ Ok (Good bytes) → IsErrAnd s (λ y. y ≡ MemoryFault)
-      → Did act a b (So-far records) → Did act b c (View-so k out r) → Did act a c (λ w es. AreKnown w.nodes outs → HasViewed k w.nodes outs s es)
-  viewed_short a b c records r s bytes same good err before now =
-      view_next a b c (λ w es. HasViewed k w.nodes outs s es) records r same before now
+  -- memory was short for the records
+  pub viewed_short : (a b c : Device) (records : List (List ℕ)) (x : Sight) (s : Result View WorkFault) (bytes : List ℕ) → x ≡ Good bytes → IsErrAnd s (λ y. y ≡ MemoryFault)
+      → HasActed act (AreGoodSoFar k outs (take i outs) records) a b false → HasActed act (HasLookedAt k out (Ok x)) b c false → HasActed act (HasLookedThrough k outs s) a c (device_failed s)
+  viewed_short a b c records x s bytes good err before now =
+      subst (λ t. HasActed act (HasLookedThrough k outs t) a c (device_failed t)) (sym (err_is s MemoryFault err))
+      (through a c (Err MemoryFault) false refl
+      (view_next a b c (λ w es. AreLookedAt outs es) records (Ok x) before now
       (λ w es fs known so view.
-      let v : HasView k w.nodes out (Ok (Good bytes)) fs = subst (λ (y : Result Sight WorkFault). HasView k w.nodes out y fs) good view in
-      subst (λ (y : Result View WorkFault). HasViewed k w.nodes outs y (es ++ fs)) (sym (err_is s MemoryFault err))
-      (subst (λ (os : List Out). AreLookedAt os (es ++ fs)) (sym (around outs i out lt is)) (looked_next w.nodes (take i outs) so.0 es out (drop (suc i) outs) fs so.1 v.0 v.1)))
+      let v : HasView k w.nodes out (Ok (Good bytes)) fs = subst (λ (y : Sight). HasView k w.nodes out (Ok y) fs) good view in
+      subst (λ (os : List Out). AreLookedAt os (es ++ fs)) (sym (around outs i out lt is)) (looked_next w.nodes (take i outs) so.0 es out (drop (suc i) outs) fs so.1 v.0 v.1))))
 
--- ## A look, and nothing else
+-- none was looked at
+pub viewed_none : (act : Act) (k : Core) (outs : List Out) (a : Device) → HasActed act (AreGoodSoFar k outs [] []) a a false
+viewed_none act k outs a = acted_nothing act (AreGoodSoFar k outs [] []) a (λ w. record { looks = refl; good = λ known. ([], refl, refl) })
 
-stat_quiet : (p : Path) (r : Result Stat Failed) → ¬ (IsErr r) → failed (Looked p r) ≡ false
-stat_quiet p (Ok s) never = refl
-stat_quiet p (Err f) never = absurd (never refl)
-
-pub looked_stat : (act : Act) (a b : Option World) (fa fb : ℕ) (ra rb : List ℕ) (p : Path) (r : Result Stat Failed) → Happened act a b (Looked p r) → HasCause fa fb (IsErr r) → rb ≡ ra → HasLooked act a b fa fb ra rb (IsErr r)
-looked_stat act a b fa fb ra rb p r happened cause same = looked_call act a b fa fb ra rb (Looked p r) (IsErr r) refl (stat_quiet p r) happened cause same
-
-failed_of : {T : Type 0} (s : Result T WorkFault) → s ≡ Err FailedFault → IsErrOf s FailedFault
-failed_of s e = e
-
-err_err : (r : Result Stat Failed) (f : Failed) → r ≡ Err f → IsErr r
-err_err r f e = ap is_err e
-
-ok_err : (r : Result Stat Failed) (s : Stat) → r ≡ Ok s → ¬ (IsErr r)
-ok_err r s e h = cc
-
-pub looked_bad : {T : Type 0} (act : Act) (a b : Option World) (fa fb : ℕ) (ra rb : List ℕ) (p : Path) (r : Result Stat Failed) (f : Failed) (s : Result T WorkFault) → r ≡ Err f → IsErrAnd s (λ y. y ≡ FailedFault)
-    → Happened act a b (Looked p r) → HasCause fa fb (IsErr r) → rb ≡ ra → HasLooked act a b fa fb ra rb (IsErrOf s FailedFault)
-looked_bad act a b fa fb ra rb p r f s is err happened cause same =
-    looked_as act a b fa fb ra rb (IsErr r) (IsErrOf s FailedFault) (λ h. failed_of s (err_is s FailedFault err)) (λ h. err_err r f is) (looked_stat act a b fa fb ra rb p r happened cause same)
-
-pub looked_fine : (act : Act) (a b : Option World) (fa fb : ℕ) (ra rb : List ℕ) (p : Path) (r : Result Stat Failed) (s : Stat) → r ≡ Ok s → Happened act a b (Looked p r) → HasCause fa fb (IsErr r) → rb ≡ ra → HasLooked act a b fa fb ra rb ⊥
-looked_fine act a b fa fb ra rb p r s is happened cause same = looked_as act a b fa fb ra rb (IsErr r) ⊥ (ok_err r s is) (λ h. absurd h) (looked_stat act a b fa fb ra rb p r happened cause same)
+-- all were as they should be
+pub viewed_all : (act : Act) (k : Core) (outs : List Out) (i : ℕ) (records : List (List ℕ)) (a b : Device) → length outs ≤ i → HasActed act (AreGoodSoFar k outs (take i outs) records) a b false
+    → HasActed act (HasLookedThrough k outs (Ok (Records records))) a b false
+viewed_all act k outs i records a b le h =
+    acted_as act (AreGoodSoFar k outs (take i outs) records) (HasLookedThrough k outs (Ok (Records records))) a b false false refl
+    (λ w es so. record { looks = so.looks; viewed = λ known. subst (λ (os : List Out). AreGood k w.nodes os records es) (take_all i outs le) (so.good known) }) h
 
 -- ## The outputs of a job
 
@@ -427,8 +418,8 @@ valid_at P recipe outs i out are lt is valid =
     (each_at (λ (o : Out). P o.path) outs i out lt
     (each_unmap P (λ (out : Out). out.path) outs (subst (Each P) (sym (ap (map (λ (out : Out). out.path)) are ∙ paths_same recipe.outputs)) valid)))
 
-pub outs_as : (act : Act) (a b : Option World) (k : Core) (outs others : List Out) (r : Result View WorkFault) → outs ≡ others → Did act a b (λ w es. AreKnown w.nodes outs → HasViewed k w.nodes outs r es) → Did act a b (λ w es. AreKnown w.nodes others → HasViewed k w.nodes others r es)
-outs_as act a b k outs others r e did = subst (λ (os : List Out). Did act a b (λ w es. AreKnown w.nodes os → HasViewed k w.nodes os r es)) e did
+pub outs_as : (act : Act) (a b : Device) (k : Core) (outs others : List Out) (r : Result View WorkFault) (f : Bool) → outs ≡ others → HasActed act (HasLookedThrough k outs r) a b f → HasActed act (HasLookedThrough k others r) a b f
+outs_as act a b k outs others r f e h = subst (λ (os : List Out). HasActed act (HasLookedThrough k os r) a b f) e h
 
 pub one_longer : (records new : List (List ℕ)) (b : List ℕ) (i : ℕ) → length records ≡ i → new ≡ records ++ b ∷ [] → length new ≡ i + 1
 one_longer records new b i size pushed = ap length pushed ∙ length-append records (b ∷ []) ∙ ap (λ (n : ℕ). n + 1) size

@@ -1,12 +1,12 @@
 -- One job: its records, when it may begin and be closed, and its calls in order.
-use Rattle.std.specs.Prelude.{◌≡◌, ◌⊎◌, ℕ, Bool, true, false, List, [], ◌∷◌, ◌++◌, map, length, nat_lt, Option, Some, None, Result, Ok, Err, All}
+use Rattle.std.specs.Prelude.{◌≡◌, ◌⊎◌, ℕ, Bool, true, false, List, [], ◌∷◌, ◌++◌, map, length, nat_lt, Option, Some, None, Result, Ok, Err, IfOk, All}
 use Rattle.std.specs.List.{flat_map, find}
 use Rattle.smk_base.specs.Path.{is_path}
 use Rattle.smk_world.specs.declared.event.Event.{Event}
 use Rattle.smk_world.specs.declared.recipe.Out.{Out}
 use Rattle.smk_world.specs.declared.recipe.Recipe.{Recipe}
 use Rattle.smk_world.specs.World.{World, in_paths, out_paths, owned_paths, is_within}
-use Rattle.smk_world.specs.Calls.{owned_now, used_now, any_overlap, are_apart, started_numbers, failed}
+use Rattle.smk_world.specs.Calls.{IsUnused, owned_now, used_now, any_overlap, are_apart, started_numbers, failed}
 use Rattle.smk_world.specs.Requests.{Request, request, HasDone, IsCutShort}
 use Rattle.smk_world.specs.Requests.Request.{MakeParents, Settle, Start}
 use Rattle.smk_world.specs.Trees.{Path, Each, outs_of}
@@ -76,6 +76,12 @@ pub record LetsClose (w : World) (recipe : Recipe) : Type 0 where
   pub apart : any_overlap (out_paths recipe) (used_now w.children) ≡ false
   pub users : ReadUsers w
 
+-- No running child owns or reads what is at or under one of the job's outputs, records and marks.
+pub record AreFree (places : JobPlaces) (w : World) : Type 0 where
+  pub outputs : All (IsUnused w) places.outputs
+  pub records : All (IsUnused w) places.records
+  pub marks : All (IsUnused w) places.marks
+
 -- ## Calls
 
 abbrev pub parents_each : List Path → List Request
@@ -133,9 +139,21 @@ MayAnswer long (Err (TooLong bytes)) = long ≡ Some bytes
 MayAnswer long (Err Device) = long ≡ None
 MayAnswer long (Err OutOfMemory) = Unit {0}
 
+-- What it answers: the job with these parts, underway; or why it doesn't begin.
+pub record IsBegunFor (recipe : Recipe) (logs : List Path) (stamps : List Stamp) (made : ℕ) (result : Result Underway BeginFault) : Type 0 where
+  pub going : IfOk result (λ going. going ≡ underway recipe logs stamps made going.number)
+  pub long : MayAnswer (too_long made recipe stamps) result
+
+-- the device failed
+abbrev pub begin_failed : {T : Type 0} → Result T BeginFault → Bool
+begin_failed (Ok going) = false
+begin_failed (Err (TooLong bytes)) = false
+begin_failed (Err Device) = true
+begin_failed (Err OutOfMemory) = false
+
 -- all its calls, the last of which answered the number of the child; or those up to one that failed; or none
-abbrev pub HasBegun : Recipe → List Path → List ℕ → Result Underway BeginFault → List Event → Type 0
-HasBegun recipe logs command (Ok going) es = HasDone (begin_requests recipe logs command) es × (started_numbers es ≡ going.number ∷ [])
-HasBegun recipe logs command (Err (TooLong bytes)) es = es ≡ []
-HasBegun recipe logs command (Err Device) es = IsCutShort (begin_requests recipe logs command) es
-HasBegun recipe logs command (Err OutOfMemory) es = es ≡ []
+abbrev pub HasBegun : Recipe → List Path → List ℕ → Result Underway BeginFault → World → List Event → Type 0
+HasBegun recipe logs command (Ok going) w es = HasDone (begin_requests recipe logs command) es × (started_numbers es ≡ going.number ∷ [])
+HasBegun recipe logs command (Err (TooLong bytes)) w es = es ≡ []
+HasBegun recipe logs command (Err Device) w es = IsCutShort (begin_requests recipe logs command) es
+HasBegun recipe logs command (Err OutOfMemory) w es = es ≡ []

@@ -1,4 +1,5 @@
 pub mod Jobs
 pub mod Reserves
 pub mod Sights
+pub mod Starts
 pub mod Views

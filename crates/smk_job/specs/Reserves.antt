@@ -1,5 +1,5 @@
 -- What is made before a job begins.
-use Rattle.std.specs.Prelude.{◌≡◌, ℕ, true, false, List, [], ◌∷◌, map, length, Option, Some, None, Result, Ok, Err, IfOk, is_ok}
+use Rattle.std.specs.Prelude.{◌≡◌, ℕ, true, false, List, [], ◌∷◌, map, length, Option, Some, None, Result, Ok, Err}
 use Rattle.std.specs.List.{find}
 use Rattle.smk_world.specs.declared.recipe.Out.{Out}
 use Rattle.smk_world.specs.declared.recipe.Recipe.{Recipe}
@@ -7,8 +7,8 @@ use Rattle.smk_base.specs.Path.{is_path}
 use Rattle.smk_world.specs.declared.event.Event.{Event}
 use Rattle.smk_world.specs.declared.event.Failed.{Failed}
 use Rattle.smk_world.specs.Calls.{started_numbers}
-use Rattle.smk_world.specs.Requests.{Carries}
-use Rattle.smk_world.specs.World.{owned_paths}
+use Rattle.smk_world.specs.Requests.{HasDone, IsCutShort}
+use Rattle.smk_world.specs.World.{World, owned_paths}
 use Rattle.smk_world.specs.Trees.{Path, Each}
 use Rattle.smk_record.specs.declared.record.Stamp.{Stamp}
 use Rattle.smk_store.specs.Steps.{places_of}
@@ -70,5 +70,6 @@ HasAll recipe logs stamps made (Err Device) = ⊥
 HasAll recipe logs stamps made (Err OutOfMemory) = Unit {0}
 
 -- the calls up to the start, which answered this number; or those up to one that failed
-abbrev pub HasLaunched : Recipe → List Path → List ℕ → Result ℕ Failed → List Event → Type 0
-HasLaunched recipe logs command result es = Carries (begin_requests recipe logs command) (is_ok result) es × IfOk result (λ n. started_numbers es ≡ n ∷ [])
+abbrev pub HasLaunched : Recipe → List Path → List ℕ → Result ℕ Failed → World → List Event → Type 0
+HasLaunched recipe logs command (Ok number) w es = HasDone (begin_requests recipe logs command) es × (started_numbers es ≡ number ∷ [])
+HasLaunched recipe logs command (Err e) w es = IsCutShort (begin_requests recipe logs command) es

@@ -96,13 +96,14 @@ AreLookedAt (out ∷ outs) es =
 
 -- ## What `finish` does
 
-abbrev pub failed_last : Result (Unit {0}) CloseFault → Bool
-failed_last (Ok u) = false
-failed_last (Err (NoOutput p)) = false
-failed_last (Err (WrongKind p)) = false
-failed_last (Err (BadMember p)) = false
-failed_last (Err Device) = true
-failed_last (Err OutOfMemory) = false
+-- the device failed
+abbrev pub close_failed : Result (Unit {0}) CloseFault → Bool
+close_failed (Ok u) = false
+close_failed (Err (NoOutput p)) = false
+close_failed (Err (WrongKind p)) = false
+close_failed (Err (BadMember p)) = false
+close_failed (Err Device) = true
+close_failed (Err OutOfMemory) = false
 
 -- the outputs were looked at, and then this was done
 pub record HasSeen (P Q : List Event → Type 0) (es : List Event) : Type 0 where
@@ -171,6 +172,10 @@ HasLookedOver outs (Ok None) nodes es = AreSeen nodes outs (nones outs) es
 HasLookedOver outs (Ok (Some (i, wrong))) nodes es = IsSeenWrong nodes outs (wrong_fault wrong (path_at outs i)) es
 HasLookedOver outs (Err e) nodes es = IsBlind outs es
 
+-- the same of outputs that no child owns
+abbrev pub HasSeenFiles : List Out → Result (Option (ℕ × Wrong)) Failed → World → List Event → Type 0
+HasSeenFiles outs result w es = AreKnown w.nodes outs → HasLookedOver outs result w.nodes es
+
 -- what was done with a job whose outputs are files: all calls, or those up to one that failed
 abbrev pub HasSettled : List Out → JobPlaces → List (List ℕ) → Result (Option (ℕ × Wrong)) Failed → Nodes → List Event → Type 0
 HasSettled outs places records (Ok None) nodes es = HasSeen (AreSeen nodes outs (nones outs)) (HasDone (keep_requests places records)) es
@@ -180,3 +185,7 @@ HasSettled outs places records (Err e) nodes es =
     IsBlind outs es
     ⊎ (HasSeen (AreSeen nodes outs (nones outs)) (IsCutShort (keep_requests places records)) es
     ⊎ ((fault : CloseFault) × HasSeen (IsSeenWrong nodes outs fault) (IsCutShort (lose_requests places)) es))
+
+-- the same of outputs that no child owns
+abbrev pub HasSettledFiles : List Out → JobPlaces → List (List ℕ) → Result (Option (ℕ × Wrong)) Failed → World → List Event → Type 0
+HasSettledFiles outs places records result w es = AreKnown w.nodes outs → HasSettled outs places records result w.nodes es

@@ -1,5 +1,5 @@
 -- What a look at an output with all that is under it came to.
-use Rattle.std.specs.Prelude.{◌≡◌, ℕ, ◌<◌, true, length, List, [], ◌∷◌, Result, Ok, Err, if◌then◌else◌}
+use Rattle.std.specs.Prelude.{◌≡◌, ℕ, ◌<◌, true, false, length, List, [], ◌∷◌, Result, Ok, Err, if◌then◌else◌}
 use Rattle.smk_base.specs.Path.{is_at_or_under}
 use Rattle.smk_world.specs.declared.event.Event.{Event}
 use Rattle.smk_world.specs.declared.event.NodeState.TheVariants.{Owned}
@@ -8,6 +8,9 @@ use Rattle.smk_world.specs.declared.event.WorkFault.TheVariants.{Failed, OutOfMe
 use Rattle.smk_world.specs.declared.recipe.Kind.TheVariants.{Folder}
 use Rattle.smk_world.specs.declared.recipe.Out.{Out}
 use Rattle.smk_world.specs.declared.recipe.Recipe.{Recipe}
+use Rattle.smk_world.specs.World.{World, reads_folder}
+use Rattle.smk_world.specs.Calls.{device_failed}
+use Rattle.smk_world.specs.Devices.{AreLooks as OnlyLooks}
 use Rattle.smk_world.specs.Requests.{request, AreQuiet}
 use Rattle.smk_world.specs.Trees.{Path, Each}
 use Rattle.smk_record.specs.declared.record.Stamp.{Stamp}
@@ -21,7 +24,7 @@ use Rattle.smk_job.specs.declared.folders.Sight.TheVariants.{Good, Bad}
 use Rattle.smk_job.specs.declared.folders.View.{View}
 use Rattle.smk_job.specs.declared.folders.View.TheVariants.{Records, Wrongly}
 use Rattle.smk_job.specs.declared.sight.Wrong.TheVariants.{Unlisted}
-use Rattle.smk_job.specs.Sights.{Nodes, IsOfKind, IsWrong, IsListing, AreLooks, EndsFailed, AreSeen, IsSeenWrong, IsBlind, AreLookedAt, wrong_fault, path_at}
+use Rattle.smk_job.specs.Sights.{Nodes, IsOfKind, IsWrong, IsListing, AreKnown, AreLooks, EndsFailed, AreSeen, IsSeenWrong, IsBlind, AreLookedAt, wrong_fault, path_at}
 
 -- what the records of a job have in common
 pub record Core : Type 0 where
@@ -65,11 +68,21 @@ HasListed k nodes out (Ok sight) es = AreListed out es × AreQuiet es × IsSo k 
 HasListed k nodes out (Err Failed) es = AreListed out es × EndsFailed es
 HasListed k nodes out (Err OutOfMemory) es = AreListed out es × AreQuiet es
 
+-- Looks were made. Where a folder stands at the path, and no child owns what is at or under it, they were these.
+pub record HasLookedInto (k : Core) (p : Path) (result : Result Sight WorkFault) (w : World) (es : List Event) : Type 0 where
+  pub looks : OnlyLooks (device_failed result) es
+  pub listed : IsFree w.nodes p → reads_folder (w.nodes p) ≡ true → HasListed k w.nodes (folder_out p) result es
+
 -- the output was looked at
 abbrev pub HasView : Core → Nodes → Out → Result Sight WorkFault → List Event → Type 0
 HasView k nodes out (Ok sight) es = AreLooks out es × AreQuiet es × IsSo k nodes out sight
 HasView k nodes out (Err Failed) es = AreLooks out es × EndsFailed es
 HasView k nodes out (Err OutOfMemory) es = AreLooks out es × AreQuiet es
+
+-- Looks were made. Where no child owns what is at or under the output, they were these.
+pub record HasLookedAt (k : Core) (out : Out) (result : Result Sight WorkFault) (w : World) (es : List Event) : Type 0 where
+  pub looks : OnlyLooks (device_failed result) es
+  pub view : IsFree w.nodes out.path → HasView k w.nodes out result es
 
 -- the bytes of the records of the outputs, each with its members
 abbrev pub bytes_all : Core → List Out → List (List Member) → List (List ℕ)
@@ -87,6 +100,16 @@ HasViewed k nodes outs (Ok (Records records)) es = AreGood k nodes outs records 
 HasViewed k nodes outs (Ok (Wrongly i wrong)) es = IsSeenWrong nodes outs (wrong_fault wrong (path_at outs i)) es
 HasViewed k nodes outs (Err Failed) es = IsBlind outs es
 HasViewed k nodes outs (Err OutOfMemory) es = AreLookedAt outs es
+
+-- Looks were made. Where no child owns what is at or under the outputs, those up to here were seen, and the records have these bytes.
+pub record AreGoodSoFar (k : Core) (outs seen : List Out) (records : List (List ℕ)) (w : World) (es : List Event) : Type 0 where
+  pub looks : OnlyLooks false es
+  pub good : AreKnown w.nodes outs → AreGood k w.nodes seen records es
+
+-- Looks were made. Where no child owns what is at or under the outputs, they were these.
+pub record HasLookedThrough (k : Core) (outs : List Out) (result : Result View WorkFault) (w : World) (es : List Event) : Type 0 where
+  pub looks : OnlyLooks (device_failed result) es
+  pub viewed : AreKnown w.nodes outs → HasViewed k w.nodes outs result es
 
 -- there is a record for each of so many outputs, or the number is that of one of them
 abbrev pub IsSized : ℕ → View → Type 0

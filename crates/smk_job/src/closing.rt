@@ -1,15 +1,11 @@
 //! A job whose command has ended is closed.
 
-ghost use Rattle.std.specs.Prelude.{◌≡◌, ◌≢◌, [], map, length, Some, Err, ◌<◌, IfOk, IfSome, false, true, IfErr, OnOk, IsErr, IsErrOf, IsSome, is_ok};
+ghost use Rattle.std.specs.Prelude.{◌≡◌, ◌≢◌, [], map, length, Err, ◌<◌, IfOk, IfSome, false, true, IfErr, is_err};
 ghost use Rattle.std.specs.List.{list_any};
-ghost use Rattle.smk_world.specs.World.{World};
-ghost use Rattle.smk_world.specs.Calls.{HasCause};
-ghost use Rattle.smk_world.specs.Runs.{Did};
-ghost use Rattle.smk_world.specs.Requests.{Carries};
+ghost use Rattle.smk_world.specs.Devices.{WhereTold, HasActed, HasCarried};
 ghost use Rattle.smk_world.specs.Trees.{folders_of, outs_of};
-ghost use Rattle.smk_store.specs.Steps.{AreUnused};
-ghost use Rattle.smk_job.specs.Jobs.{LetsClose, abandon_requests};
-ghost use Rattle.smk_job.specs.Sights.{HasFinished, HasSettled, AreKnown, failed_last, is_folder_out, wrong_fault};
+ghost use Rattle.smk_job.specs.Jobs.{LetsClose, AreFree, abandon_requests};
+ghost use Rattle.smk_job.specs.Sights.{HasFinished, HasSettledFiles, close_failed, is_folder_out, wrong_fault};
 ghost use Rattle.smk_job.specs.Views.{close_fault};
 
 use crate::fault::CloseFault;
@@ -25,7 +21,7 @@ use std::alloc::Global;
 // The fault of the output at the path.
 fn fault_of(wrong: Wrong, path: PathText) -> CloseFault
     ensures value { result ≡ wrong_fault wrong path }
-    ensures no_failure { failed_last (Err result) ≡ false }
+    ensures no_failure { close_failed (Err result) ≡ false }
     ensures memory { result ≢ CloseFault.OutOfMemory }
 {
     match wrong {
@@ -45,15 +41,9 @@ fn settle_files<W: Files>(
     requires files { list_any is_folder_out outs.now ≡ false }
     requires at { places.now.outputs ≡ map (λ out. out.path) outs.now }
     requires each { length records.now ≡ length places.now.records }
-    requires outputs { AreUnused (W.world work.old) places.now.outputs }
-    requires records { AreUnused (W.world work.old) places.now.records }
-    requires marks { AreUnused (W.world work.old) places.now.marks }
-    ensures did { Did W.act (W.world work.old) (W.world work.new)
-        (λ w es. AreKnown w.nodes outs.now → HasSettled outs.now places.now records.now result w.nodes es) }
+    requires unused { WhereTold (W.device work.old) (AreFree places.now) }
+    ensures acted { HasActed W.act (HasSettledFiles outs.now places.now records.now result) (W.device work.old) (W.device work.new) (is_err result) }
     ensures within { IfOk result (λ found. IfSome found (λ wrong. wrong.0 < length outs.now)) }
-    ensures stays { OnOk result (IsSome (W.world work.old) → IsSome (W.world work.new)) }
-    ensures cause { HasCause (W.faults work.old) (W.faults work.new) (IsErr result) }
-    ensures running { W.running work.new ≡ W.running work.old }
 {
     match look_over(work, outs, places.outputs.as_slice())? {
         None => {
@@ -70,12 +60,9 @@ fn settle_files<W: Files>(
 // Closes a job whose outputs are files.
 fn finish_files<W: Files>(work: &mut W, going: Going) -> Result<(), CloseFault>
     requires files { list_any is_folder_out (outs_of going.recipe) ≡ false }
-    requires room { (w : World) → W.world work.old ≡ Some w → LetsClose w going.recipe }
-    ensures did { Did W.act (W.world work.old) (W.world work.new) (λ w es. HasFinished going result w es) }
+    requires room { WhereTold (W.device work.old) (λ w. LetsClose w going.recipe) }
+    ensures acted { HasActed W.act (HasFinished going result) (W.device work.old) (W.device work.new) (close_failed result) }
     ensures memory { IfErr result (λ fault. fault ≢ CloseFault.OutOfMemory) }
-    ensures stays { failed_last result ≡ false → IsSome (W.world work.old) → IsSome (W.world work.new) }
-    ensures cause { HasCause (W.faults work.old) (W.faults work.new) (failed_last result ≡ true) }
-    ensures running { W.running work.new ≡ W.running work.old }
 {
     let ready = going.ready;
     match settle_files(work, ready.outs.as_slice(), &ready.places, &ready.records) {
@@ -98,12 +85,9 @@ fn fault_in(fault: WorkFault) -> CloseFault
 // Closes a job that has directories among its outputs.
 fn finish_folders<W: Files>(alloc: Global, work: &mut W, going: Going) -> Result<(), CloseFault>
     requires folders { list_any is_folder_out (outs_of going.recipe) ≡ true }
-    requires room { (w : World) → W.world work.old ≡ Some w → LetsClose w going.recipe }
-    ensures did { Did W.act (W.world work.old) (W.world work.new) (λ w es. HasFinished going result w es) }
+    requires room { WhereTold (W.device work.old) (λ w. LetsClose w going.recipe) }
+    ensures acted { HasActed W.act (HasFinished going result) (W.device work.old) (W.device work.new) (close_failed result) }
     ensures memory { folders_of going.recipe ≢ [] }
-    ensures stays { failed_last result ≡ false → IsSome (W.world work.old) → IsSome (W.world work.new) }
-    ensures cause { HasCause (W.faults work.old) (W.faults work.new) (failed_last result ≡ true) }
-    ensures running { W.running work.new ≡ W.running work.old }
 {
     let ready = going.ready;
     match look_through(alloc, work, &ready) {
@@ -128,12 +112,9 @@ fn finish_folders<W: Files>(alloc: Global, work: &mut W, going: Going) -> Result
 ///
 /// Where the world is told, no running child owns or reads an output.
 pub fn finish<W: Crew>(alloc: Global, work: &mut W, going: Going) -> Result<(), CloseFault>
-    requires room { (w : World) → W.world work.old ≡ Some w → LetsClose w going.recipe }
-    ensures did { Did W.act (W.world work.old) (W.world work.new) (λ w es. HasFinished going result w es) }
+    requires room { WhereTold (W.device work.old) (λ w. LetsClose w going.recipe) }
+    ensures acted { HasActed W.act (HasFinished going result) (W.device work.old) (W.device work.new) (close_failed result) }
     ensures memory { IfErr result (λ fault. fault ≡ CloseFault.OutOfMemory → folders_of going.recipe ≢ []) }
-    ensures stays { failed_last result ≡ false → IsSome (W.world work.old) → IsSome (W.world work.new) }
-    ensures cause { HasCause (W.faults work.old) (W.faults work.new) (failed_last result ≡ true) }
-    ensures running { W.running work.new ≡ W.running work.old }
 {
     if has_folder(going.ready.outs.as_slice()) {
         finish_folders(alloc, work, going)
@@ -149,11 +130,8 @@ pub fn finish<W: Crew>(alloc: Global, work: &mut W, going: Going) -> Result<(), 
 ///
 /// Where the world is told, no running child owns or reads an output.
 pub fn abandon<W: Crew>(work: &mut W, going: Going) -> Result<(), Failed>
-    requires room { (w : World) → W.world work.old ≡ Some w → LetsClose w going.recipe }
-    ensures did { Did W.act (W.world work.old) (W.world work.new) (λ w es. Carries (abandon_requests going) (is_ok result) es) }
-    ensures stays { OnOk result (IsSome (W.world work.old) → IsSome (W.world work.new)) }
-    ensures cause { HasCause (W.faults work.old) (W.faults work.new) (IsErr result) }
-    ensures running { W.running work.new ≡ W.running work.old }
+    requires room { WhereTold (W.device work.old) (λ w. LetsClose w going.recipe) }
+    ensures { HasCarried W.act (abandon_requests going) (W.device work.old) (W.device work.new) (is_err result) }
 {
     lose(work, &going.ready.places)
 }

@@ -1,14 +1,12 @@
 //! Looks at the outputs of a job that has directories among them.
 
-ghost use Rattle.std.specs.Prelude.{◌≡◌, ◌<◌, [], length, true, IfOk, IsErrOf};
-ghost use Rattle.smk_world.specs.World.{reads_folder};
-ghost use Rattle.smk_world.specs.Runs.{Did};
+ghost use Rattle.std.specs.Prelude.{◌≡◌, ◌<◌, [], length, true, IfOk};
+ghost use Rattle.smk_world.specs.Calls.{device_failed};
+ghost use Rattle.smk_world.specs.Devices.{HasActed};
 ghost use Rattle.smk_world.specs.Trees.{among, folders_of, is_folder_kind};
 ghost use Rattle.smk_record.specs.Records.{record_of, is_valid};
-ghost use Rattle.smk_store.specs.Walking.{HasLooked};
 ghost use Rattle.smk_job.specs.Jobs.{IsReady};
-ghost use Rattle.smk_job.specs.Sights.{AreKnown};
-ghost use Rattle.smk_job.specs.Views.{core, sight_of, folder_out, IsFree, HasListed, HasView, HasViewed, IsSized};
+ghost use Rattle.smk_job.specs.Views.{core, sight_of, HasLookedInto, HasLookedAt, HasLookedThrough, IsSized};
 
 use crate::going::Ready;
 use crate::reserve::copy_stamps;
@@ -68,10 +66,7 @@ fn look_into<W: Files>(
 ) -> Result<Sight, WorkFault>
     requires folder { among (folders_of ready.now.recipe) path.now ≡ true }
     requires valid { is_valid (record_of path.now ready.now.made ready.now.recipe ready.now.stamps []) ≡ true }
-    ensures looked { HasLooked W.act (W.world work.old) (W.world work.new) (W.faults work.old) (W.faults work.new) (W.running work.old) (W.running work.new) (IsErrOf result WorkFault.Failed) }
-    ensures seen { Did W.act (W.world work.old) (W.world work.new)
-        (λ w es. IsFree w.nodes path.now → reads_folder (w.nodes path.now) ≡ true
-        → HasListed (core ready.now.recipe ready.now.stamps ready.now.made) w.nodes (folder_out path.now) result es) }
+    ensures { HasActed W.act (HasLookedInto (core ready.now.recipe ready.now.stamps ready.now.made) path.now result) (W.device work.old) (W.device work.new) (device_failed result) }
 {
     match members_of(alloc, work, path)? {
         Listed::BadMember => Ok(Sight::Bad(Wrong::Unlisted)),
@@ -90,9 +85,7 @@ fn look_one<W: Files>(
     requires at { place.now ≡ out.now.path }
     requires folder { is_folder_kind out.now.kind ≡ true → among (folders_of ready.now.recipe) out.now.path ≡ true }
     requires valid { is_valid (record_of out.now.path ready.now.made ready.now.recipe ready.now.stamps []) ≡ true }
-    ensures looked { HasLooked W.act (W.world work.old) (W.world work.new) (W.faults work.old) (W.faults work.new) (W.running work.old) (W.running work.new) (IsErrOf result WorkFault.Failed) }
-    ensures seen { Did W.act (W.world work.old) (W.world work.new)
-        (λ w es. IsFree w.nodes out.now.path → HasView (core ready.now.recipe ready.now.stamps ready.now.made) w.nodes out.now result es) }
+    ensures { HasActed W.act (HasLookedAt (core ready.now.recipe ready.now.stamps ready.now.made) out.now result) (W.device work.old) (W.device work.new) (device_failed result) }
 {
     let stat = work.stat(place)?;
     match wrong_of(out.kind, stat) {
@@ -111,9 +104,7 @@ pub(crate) fn look_through<W: Files>(
     ready: &Ready,
 ) -> Result<View, WorkFault>
     requires ready { IsReady ready.now.recipe ready.now.logs ready.now.stamps ready.now.made ready.now.outs ready.now.places ready.now.records }
-    ensures looked { HasLooked W.act (W.world work.old) (W.world work.new) (W.faults work.old) (W.faults work.new) (W.running work.old) (W.running work.new) (IsErrOf result WorkFault.Failed) }
-    ensures seen { Did W.act (W.world work.old) (W.world work.new)
-        (λ w es. AreKnown w.nodes ready.now.outs → HasViewed (core ready.now.recipe ready.now.stamps ready.now.made) w.nodes ready.now.outs result es) }
+    ensures looked { HasActed W.act (HasLookedThrough (core ready.now.recipe ready.now.stamps ready.now.made) ready.now.outs result) (W.device work.old) (W.device work.new) (device_failed result) }
     ensures sizes { IfOk result (λ view. IsSized (length ready.now.outs) view) }
 {
     let outs = ready.outs.as_slice();

@@ -1,16 +1,15 @@
 //! A job begins.
 
-ghost use Rattle.std.specs.Prelude.{◌≡◌, ◌≢◌, ◌++◌, ◌∷◌, [], length, true, Some, IfOk, IfErr, OnOk, OnErr, IsOk, IsErr, IsErrOf, IsSome, is_ok};
+ghost use Rattle.std.specs.Prelude.{◌≡◌, ◌≢◌, ◌++◌, [], length, true, IfErr, is_err};
 ghost use Rattle.smk_base.specs.Path.{is_path};
-ghost use Rattle.smk_world.specs.World.{World, in_paths, out_paths, owned_paths};
-ghost use Rattle.smk_world.specs.Calls.{HasCause};
-ghost use Rattle.smk_world.specs.Runs.{Did};
-ghost use Rattle.smk_world.specs.Requests.{Carries};
+ghost use Rattle.smk_world.specs.World.{in_paths, out_paths, owned_paths};
+ghost use Rattle.smk_world.specs.Devices.{WhereTold, HasCarried};
 ghost use Rattle.smk_world.specs.Trees.{Each};
 ghost use Rattle.smk_record.specs.Records.{is_valid, record_of};
 ghost use Rattle.smk_store.specs.Steps.{AreUnused, places_of, mark_requests};
+ghost use Rattle.smk_job.specs.Jobs.{clear_requests, begin_failed, LetsBegin, IsBegunFor, HasBegun};
 ghost use Rattle.smk_job.specs.Reserves.{HasLaunched};
-ghost use Rattle.smk_job.specs.Jobs.{clear_requests, underway, too_long, LetsBegin, MayAnswer, HasBegun};
+ghost use Rattle.smk_job.specs.Starts.{HasStarted, begun_child, started_child};
 
 use crate::fault::BeginFault;
 use crate::going::Going;
@@ -25,12 +24,8 @@ use std::alloc::Global;
 
 // Marks the job, and makes room for its outputs.
 fn prepare<W: Files>(work: &mut W, places: &JobPlaces, owned: &[Place]) -> Result<(), Failed>
-    requires unused { AreUnused (W.world work.old) places.now.outputs }
-    ensures did { Did W.act (W.world work.old) (W.world work.new)
-        (λ w es. Carries (mark_requests places.now ++ clear_requests places.now.outputs owned.now) (is_ok result) es) }
-    ensures stays { OnOk result (IsSome (W.world work.old) → IsSome (W.world work.new)) }
-    ensures cause { HasCause (W.faults work.old) (W.faults work.new) (IsErr result) }
-    ensures running { W.running work.new ≡ W.running work.old }
+    requires unused { AreUnused (W.device work.old) places.now.outputs }
+    ensures { HasCarried W.act (mark_requests places.now ++ clear_requests places.now.outputs owned.now) (W.device work.old) (W.device work.new) (is_err result) }
 {
     mark(work, places)?;
     clear(work, places.outputs.as_slice(), owned)
@@ -48,12 +43,8 @@ fn launch<W: Crew>(
     requires at { places.now ≡ places_of (out_paths recipe.now) logs.now }
     requires own { owned.now ≡ owned_paths recipe.now logs.now }
     requires paths { Each (λ p. is_path p ≡ true) (owned_paths recipe.now logs.now) }
-    requires room { (w : World) → W.world work.old ≡ Some w → LetsBegin w recipe.now logs.now }
-    ensures did { Did W.act (W.world work.old) (W.world work.new) (λ w es. HasLaunched recipe.now logs.now command.now result es) }
-    ensures stays { OnOk result (IsSome (W.world work.old) → IsSome (W.world work.new)) }
-    ensures cause { HasCause (W.faults work.old) (W.faults work.new) (IsErr result) }
-    ensures running { IfOk result (λ number. W.running work.new ≡ W.running work.old ++ number ∷ []) }
-    ensures not_started { OnErr result (W.running work.new ≡ W.running work.old) }
+    requires room { WhereTold (W.device work.old) (λ w. LetsBegin w recipe.now logs.now) }
+    ensures { HasStarted W.act (HasLaunched recipe.now logs.now command.now result) (started_child result) (W.device work.old) (W.device work.new) (is_err result) }
 {
     prepare(work, places, owned)?;
     work.start(recipe, logs, command)
@@ -78,15 +69,10 @@ pub fn begin<W: Crew>(
 ) -> Result<Going, BeginFault>
     requires each_stamped { length stamps.now ≡ length (in_paths job.now.recipe) }
     requires valid { Each (λ p. is_valid (record_of p made job.now.recipe stamps.now []) ≡ true) (out_paths job.now.recipe) }
-    requires room { (w : World) → W.world work.old ≡ Some w → LetsBegin w job.now.recipe job.now.logs }
-    ensures did { Did W.act (W.world work.old) (W.world work.new) (λ w es. HasBegun job.now.recipe job.now.logs command.now result es) }
-    ensures going { IfOk result (λ going. going ≡ underway job.now.recipe job.now.logs stamps.now made going.number) }
-    ensures long { MayAnswer (too_long made job.now.recipe stamps.now) result }
+    requires room { WhereTold (W.device work.old) (λ w. LetsBegin w job.now.recipe job.now.logs) }
+    ensures begun { HasStarted W.act (HasBegun job.now.recipe job.now.logs command.now result) (begun_child result) (W.device work.old) (W.device work.new) (begin_failed result) }
+    ensures answer { IsBegunFor job.now.recipe job.now.logs stamps.now made result }
     ensures untouched { IfErr result (λ fault. fault ≢ BeginFault.Device → work.new ≡ work.old) }
-    ensures stays { IsOk result → IsSome (W.world work.old) → IsSome (W.world work.new) }
-    ensures cause { HasCause (W.faults work.old) (W.faults work.new) (IsErrOf result BeginFault.Device) }
-    ensures running { IfOk result (λ going. W.running work.new ≡ W.running work.old ++ going.number ∷ []) }
-    ensures not_started { OnErr result (W.running work.new ≡ W.running work.old) }
 {
     let (ready, owned) = reserve(alloc, job, stamps, made)?;
     match launch(

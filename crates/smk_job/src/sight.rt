@@ -1,11 +1,9 @@
 //! Looks at the outputs of a job whose command succeeded.
 
-ghost use Rattle.std.specs.Prelude.{◌≡◌, ◌<◌, length, Option, Some, None, false, true, OnOk, IfOk, IfSome, IsErr, IsSome, map};
+ghost use Rattle.std.specs.Prelude.{◌≡◌, ◌<◌, length, Option, Some, None, false, true, IfOk, IfSome, map, is_err};
 ghost use Rattle.std.specs.List.{list_any};
-ghost use Rattle.smk_world.specs.Calls.{HasCause};
-ghost use Rattle.smk_world.specs.Runs.{Did};
-ghost use Rattle.smk_store.specs.Steps.{SameChildren};
-ghost use Rattle.smk_job.specs.Sights.{is_folder_out, wrong_of, AreKnown, HasLookedOver, path_at};
+ghost use Rattle.smk_world.specs.Devices.{HasActed};
+ghost use Rattle.smk_job.specs.Sights.{is_folder_out, wrong_of, HasSeenFiles, path_at};
 
 use smk_base::{List, PathText, Place};
 use smk_world::{Failed, Files, Kind, Out, Stat};
@@ -53,12 +51,8 @@ pub(crate) fn look_over<W: Files>(
 ) -> Result<Option<(usize, Wrong)>, Failed>
     requires files { list_any is_folder_out outs.now ≡ false }
     requires at { places.now ≡ map (λ out. out.path) outs.now }
-    ensures did { Did W.act (W.world work.old) (W.world work.new) (λ w es. AreKnown w.nodes outs.now → HasLookedOver outs.now result w.nodes es) }
-    ensures same { SameChildren (W.world work.old) (W.world work.new) }
+    ensures acted { HasActed W.act (HasSeenFiles outs.now result) (W.device work.old) (W.device work.new) (is_err result) }
     ensures within { IfOk result (λ found. IfSome found (λ wrong. wrong.0 < length outs.now)) }
-    ensures stays { OnOk result (IsSome (W.world work.old) → IsSome (W.world work.new)) }
-    ensures cause { HasCause (W.faults work.old) (W.faults work.new) (IsErr result) }
-    ensures running { W.running work.new ≡ W.running work.old }
 {
     for (i, out) in outs.iter().enumerate() {
         let stat = work.stat(&places[i])?;

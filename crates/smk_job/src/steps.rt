@@ -1,11 +1,9 @@
 //! The steps of a job besides those of the store.
 
-ghost use Rattle.std.specs.Prelude.{◌≡◌, IsErr, OnOk, IsSome, is_ok, length};
-ghost use Rattle.smk_world.specs.Calls.{HasCause};
-ghost use Rattle.smk_world.specs.Runs.{Did};
-ghost use Rattle.smk_world.specs.Requests.{Carries};
+ghost use Rattle.std.specs.Prelude.{◌≡◌, length, is_err};
+ghost use Rattle.smk_world.specs.Devices.{WhereTold, HasCarried};
 ghost use Rattle.smk_store.specs.Steps.{AreUnused, remove_each};
-ghost use Rattle.smk_job.specs.Jobs.{parents_each, clear_requests, put_all_requests, keep_requests, drop_all_requests, lose_requests};
+ghost use Rattle.smk_job.specs.Jobs.{AreFree, parents_each, clear_requests, put_all_requests, keep_requests, drop_all_requests, lose_requests};
 
 use smk_base::{Bytes, List, Place};
 use smk_store::{JobPlaces, drop_records, put_records, unmark};
@@ -13,11 +11,8 @@ use smk_world::{Failed, Files};
 
 // Removes each of the places.
 fn remove_each<W: Files>(work: &mut W, places: &[Place]) -> Result<(), Failed>
-    requires unused { AreUnused (W.world work.old) places.now }
-    ensures did { Did W.act (W.world work.old) (W.world work.new) (λ w es. Carries (remove_each places.now) (is_ok result) es) }
-    ensures stays { OnOk result (IsSome (W.world work.old) → IsSome (W.world work.new)) }
-    ensures cause { HasCause (W.faults work.old) (W.faults work.new) (IsErr result) }
-    ensures running { W.running work.new ≡ W.running work.old }
+    requires unused { AreUnused (W.device work.old) places.now }
+    ensures { HasCarried W.act (remove_each places.now) (W.device work.old) (W.device work.new) (is_err result) }
 {
     for place in places {
         work.remove(place)?;
@@ -27,10 +22,7 @@ fn remove_each<W: Files>(work: &mut W, places: &[Place]) -> Result<(), Failed>
 
 // Makes the folders above each of the places.
 fn parents_each<W: Files>(work: &mut W, places: &[Place]) -> Result<(), Failed>
-    ensures did { Did W.act (W.world work.old) (W.world work.new) (λ w es. Carries (parents_each places.now) (is_ok result) es) }
-    ensures stays { OnOk result (IsSome (W.world work.old) → IsSome (W.world work.new)) }
-    ensures cause { HasCause (W.faults work.old) (W.faults work.new) (IsErr result) }
-    ensures running { W.running work.new ≡ W.running work.old }
+    ensures { HasCarried W.act (parents_each places.now) (W.device work.old) (W.device work.new) (is_err result) }
 {
     for place in places {
         work.make_parents(place)?;
@@ -44,11 +36,8 @@ pub(crate) fn clear<W: Files>(
     outputs: &[Place],
     owned: &[Place],
 ) -> Result<(), Failed>
-    requires unused { AreUnused (W.world work.old) outputs.now }
-    ensures did { Did W.act (W.world work.old) (W.world work.new) (λ w es. Carries (clear_requests outputs.now owned.now) (is_ok result) es) }
-    ensures stays { OnOk result (IsSome (W.world work.old) → IsSome (W.world work.new)) }
-    ensures cause { HasCause (W.faults work.old) (W.faults work.new) (IsErr result) }
-    ensures running { W.running work.new ≡ W.running work.old }
+    requires unused { AreUnused (W.device work.old) outputs.now }
+    ensures { HasCarried W.act (clear_requests outputs.now owned.now) (W.device work.old) (W.device work.new) (is_err result) }
 {
     remove_each(work, outputs)?;
     parents_each(work, owned)
@@ -56,12 +45,8 @@ pub(crate) fn clear<W: Files>(
 
 // Removes the outputs and their records for good.
 fn drop_each<W: Files>(work: &mut W, places: &JobPlaces) -> Result<(), Failed>
-    requires outputs { AreUnused (W.world work.old) places.now.outputs }
-    requires records { AreUnused (W.world work.old) places.now.records }
-    ensures did { Did W.act (W.world work.old) (W.world work.new) (λ w es. Carries (drop_all_requests places.now) (is_ok result) es) }
-    ensures stays { OnOk result (IsSome (W.world work.old) → IsSome (W.world work.new)) }
-    ensures cause { HasCause (W.faults work.old) (W.faults work.new) (IsErr result) }
-    ensures running { W.running work.new ≡ W.running work.old }
+    requires unused { WhereTold (W.device work.old) (AreFree places.now) }
+    ensures { HasCarried W.act (drop_all_requests places.now) (W.device work.old) (W.device work.new) (is_err result) }
 {
     remove_each(work, places.outputs.as_slice())?;
     drop_records(work, places)
@@ -69,13 +54,8 @@ fn drop_each<W: Files>(work: &mut W, places: &JobPlaces) -> Result<(), Failed>
 
 /// Removes the outputs and their records for good, and then the marks.
 pub(crate) fn lose<W: Files>(work: &mut W, places: &JobPlaces) -> Result<(), Failed>
-    requires outputs { AreUnused (W.world work.old) places.now.outputs }
-    requires records { AreUnused (W.world work.old) places.now.records }
-    requires marks { AreUnused (W.world work.old) places.now.marks }
-    ensures did { Did W.act (W.world work.old) (W.world work.new) (λ w es. Carries (lose_requests places.now) (is_ok result) es) }
-    ensures stays { OnOk result (IsSome (W.world work.old) → IsSome (W.world work.new)) }
-    ensures cause { HasCause (W.faults work.old) (W.faults work.new) (IsErr result) }
-    ensures running { W.running work.new ≡ W.running work.old }
+    requires unused { WhereTold (W.device work.old) (AreFree places.now) }
+    ensures { HasCarried W.act (lose_requests places.now) (W.device work.old) (W.device work.new) (is_err result) }
 {
     drop_each(work, places)?;
     unmark(work, places)
@@ -84,11 +64,8 @@ pub(crate) fn lose<W: Files>(work: &mut W, places: &JobPlaces) -> Result<(), Fai
 // Makes the outputs firm, and writes their records firmly.
 fn put_each<W: Files>(work: &mut W, places: &JobPlaces, bytes: &List<Bytes>) -> Result<(), Failed>
     requires each { length bytes.now ≡ length places.now.records }
-    requires records { AreUnused (W.world work.old) places.now.records }
-    ensures did { Did W.act (W.world work.old) (W.world work.new) (λ w es. Carries (put_all_requests places.now bytes.now) (is_ok result) es) }
-    ensures stays { OnOk result (IsSome (W.world work.old) → IsSome (W.world work.new)) }
-    ensures cause { HasCause (W.faults work.old) (W.faults work.new) (IsErr result) }
-    ensures running { W.running work.new ≡ W.running work.old }
+    requires unused { AreUnused (W.device work.old) places.now.records }
+    ensures { HasCarried W.act (put_all_requests places.now bytes.now) (W.device work.old) (W.device work.new) (is_err result) }
 {
     work.settle(&places.outputs)?;
     put_records(work, places, bytes)
@@ -101,12 +78,8 @@ pub(crate) fn keep<W: Files>(
     bytes: &List<Bytes>,
 ) -> Result<(), Failed>
     requires each { length bytes.now ≡ length places.now.records }
-    requires records { AreUnused (W.world work.old) places.now.records }
-    requires marks { AreUnused (W.world work.old) places.now.marks }
-    ensures did { Did W.act (W.world work.old) (W.world work.new) (λ w es. Carries (keep_requests places.now bytes.now) (is_ok result) es) }
-    ensures stays { OnOk result (IsSome (W.world work.old) → IsSome (W.world work.new)) }
-    ensures cause { HasCause (W.faults work.old) (W.faults work.new) (IsErr result) }
-    ensures running { W.running work.new ≡ W.running work.old }
+    requires unused { WhereTold (W.device work.old) (AreFree places.now) }
+    ensures { HasCarried W.act (keep_requests places.now bytes.now) (W.device work.old) (W.device work.new) (is_err result) }
 {
     put_each(work, places, bytes)?;
     unmark(work, places)

@@ -8,9 +8,10 @@ use Rattle.smk_base.proofs.Places.{same_place}
 use Rattle.smk_world.specs.declared.event.Node.{Node}
 use Rattle.smk_world.specs.declared.event.Node.TheVariants.{Regular}
 use Rattle.smk_world.specs.declared.event.Call.{Call}
-use Rattle.smk_world.specs.declared.event.Call.TheVariants.{Created, Settled, Started, Waited, Written, Removed}
+use Rattle.smk_world.specs.declared.event.Call.TheVariants.{Created, MadeParents, Settled, Started, Waited, Written, Removed}
 use Rattle.smk_world.specs.declared.event.Event.{Event}
-use Rattle.smk_world.specs.World.{World, Nodes, Leaves, node_in, world_of, run}
+use Rattle.smk_world.specs.Folders.{IsLeft}
+use Rattle.smk_world.specs.World.{World, Nodes, node_in, world_of, run}
 use Rattle.smk_world.specs.Trees.{Path}
 use Rattle.smk_world.proofs.Names.{formed_image}
 use Rattle.smk_store.specs.Images.{seen}
@@ -18,7 +19,7 @@ use Rattle.smk_store.specs.Trust.{Versions}
 use Rattle.smk_store.specs.Soundness.{SoundWorld}
 use Rattle.smk_store.specs.Safety.{with_sources}
 use Rattle.smk_laws_protocol.specs.Midway.{IsTop}
-use Rattle.smk_laws_protocol.proofs.OneJob.{outside, recipe, follows, runs}
+use Rattle.smk_laws_protocol.proofs.OneJob.{outside, recipe, entry_tree, follows, runs}
 use Rattle.smk_laws_history.specs.Histories.{IsNew, IsCall, removed, no_versions, History, Begin, Go, Call as WholeCall, Crash, Remove}
 use Rattle.smk_laws_history.proofs.HistoryLaw.{every_world_sound}
 use Rattle.smk_laws_history.proofs.HistoryListedRuns.{run_is_call}
@@ -38,6 +39,7 @@ unfolding IsStrictlySortedBy
 entry_new =
     record {
       formed = formed_image source (tt, tt);
+      tree = entry_tree;
       none_own = λ q own. nothing q own (bytes_eq q (codes "in.txt")) refl;
       no_child = refl;
       all_firm = λ q. (node_in source q, refl);
@@ -61,6 +63,7 @@ leaving c p n = record { call = c; left = record { place = p; node = n } ∷ [] 
 abbrev until_ended : List Event
 until_ended =
     quiet (Settled [] (Ok tt))
+    ∷ quiet (MadeParents (mark_place (codes "out.txt")) (Ok tt))
     ∷ leaving (Created (mark_place (codes "out.txt")) (Ok true)) (mark_place (codes "out.txt")) (Regular [] 1001 false)
     ∷ quiet (Settled (mark_place (codes "out.txt") ∷ []) (Ok tt))
     ∷ quiet (Started recipe [] (codes "cp in.txt out.txt") (Ok 7))
@@ -71,6 +74,7 @@ until_ended =
 abbrev to_the_close : List Event
 to_the_close =
     quiet (Settled (codes "out.txt" ∷ []) (Ok tt))
+    ∷ quiet (MadeParents (record_place (codes "out.txt")) (Ok tt))
     ∷ leaving (Written (record_place (codes "out.txt")) (codes "r") (Ok tt)) (record_place (codes "out.txt")) (Regular (codes "r") 1003 false)
     ∷ quiet (Settled (record_place (codes "out.txt") ∷ []) (Ok tt))
     ∷ quiet (Removed (mark_place (codes "out.txt")) (Ok tt))
@@ -94,8 +98,8 @@ pub copy_taken_away : History outside (removed copied (codes "out.txt")) (with_s
 copy_taken_away = Go copied _ _ (Go entry copied first (Begin entry entry_new) (WholeCall log [] copying refl)) (Remove (codes "out.txt") refl)
 
 -- the machine stops while the output isn't firm yet: whatever is left goes on
-pub cut_off : (nodes : Nodes) → Leaves (run entry until_ended) nodes → History outside (world_of nodes) (with_sources first (seen outside.read (world_of nodes)))
-cut_off nodes leaves = Go entry (world_of nodes) first (Begin entry entry_new) (Crash log until_ended to_the_close [] true nodes copying refl leaves)
+pub cut_off : (nodes : Nodes) → IsLeft (run entry until_ended) nodes → History outside (world_of nodes) (with_sources first (seen outside.read (world_of nodes)))
+cut_off nodes left = Go entry (world_of nodes) first (Begin entry entry_new) (Crash log until_ended to_the_close [] true nodes copying refl left)
 
 -- so the folder is sound in the end
 pub taken_away_sound : SoundWorld outside (removed copied (codes "out.txt")) (with_sources (with_sources first (seen outside.read copied)) (seen outside.read (removed copied (codes "out.txt"))))

@@ -8,11 +8,12 @@ use Rattle.smk_store.specs.Images.{image_of, seen}
 use Rattle.smk_store.specs.Trust.{Versions}
 use Rattle.smk_store.specs.Soundness.{Outside, SoundWorld}
 use Rattle.smk_store.specs.Safety.{with_sources}
-use Rattle.smk_laws_history.specs.Histories.{ListsAll, IsListed, IsCall, Step, Edit, Remove, Call, Crash, History, Begin, Go, HistoryLaw, HistoryIsListed}
+use Rattle.smk_laws_history.specs.Histories.{ListsAll, IsListed, IsCall, Step, Edit, Remove, Call, Crash, History, Begin, Go, HistoryLaw, HistoryIsTree, HistoryIsListed}
 use Rattle.smk_laws_history.proofs.Same.{leaves_same}
 use Rattle.smk_laws_history.proofs.Steps.{call_keeps, crash_keeps}
 use Rattle.smk_laws_history.proofs.HistoryNew.{new_sound, new_lists}
 use Rattle.smk_laws_history.proofs.HistoryEdit.{edit_keeps, edit_lists}
+use Rattle.smk_laws_history.proofs.HistoryTrees.{step_tree}
 use Rattle.smk_laws_history.proofs.HistoryRemove.{remove_keeps, remove_lists}
 
 -- what a history keeps of a world
@@ -49,10 +50,10 @@ step_keeps o w _ H kept (Remove p outside) =
     record { sound = remove_keeps o w p H kept.sound outside kept.listed; listed = remove_lists o w p H kept.sound outside kept.listed }
 step_keeps o w _ H kept (Call log paths call alone) =
     record { sound = call_keeps o w H log paths kept.sound call.sound alone; listed = call_lists o w H log paths kept call alone }
-step_keeps o w _ H kept (Crash log events rest paths to_the_end nodes call split leaves) =
+step_keeps o w _ H kept (Crash log events rest paths to_the_end nodes call split left) =
     record {
-      sound = crash_keeps o w H log events rest paths to_the_end nodes kept.sound call.sound split leaves;
-      listed = crash_lists o w H log events rest paths to_the_end nodes kept call split leaves;
+      sound = crash_keeps o w H log events rest paths to_the_end nodes kept.sound call.sound split left.leaves;
+      listed = crash_lists o w H log events rest paths to_the_end nodes kept call split left.leaves;
     }
 
 history_keeps : (o : Outside) (w : World) (H : Versions) → History o w H → IsKept o w H
@@ -64,3 +65,7 @@ every_world_sound o w H past = (history_keeps o w H past).sound
 
 pub every_world_listed : HistoryIsListed
 every_world_listed o w H past = (history_keeps o w H past).listed
+
+pub every_world_tree : HistoryIsTree
+every_world_tree o _ _ (Begin w new) = new.tree
+every_world_tree o _ _ (Go w next H past step) = step_tree o w next (every_world_tree o w H past) step

@@ -260,9 +260,9 @@ module _ (o : Outside) where
       (record {
         formed = formed_after w e kept.formed;
         owners = owned_after w e kept.numbered kept.owners;
-        numbered = numbered_after o.act w e follows.0 kept.numbered;
+        numbered = numbered_after o.act w e follows.0.lets kept.numbered;
         alone = children_same w e.call w.children turn ∙ kept.alone;
-        listed = lists s w kept e.call e.left follows.0 turn;
+        listed = lists s w kept e.call e.left follows.0.lets turn;
         gone = gone_after s w kept paths e mid step;
       })
       follows.1 rest

@@ -115,14 +115,14 @@ module _ (o : Outside) (entry : World) (H : Versions) where
   along s end w [] kept numbered follows (Done _ _) = kept
   along s end w (e ∷ es) kept numbered follows (Next _ mid _ _ _ _ step runs) =
       let by = step_to o w s e mid step in
-      let lets = answers o entry H s w kept.midway numbered e.call e.left (step_unowned o entry H s w kept.midway e mid by) follows.0 in
+      let lets = answers o entry H s w kept.midway numbered e.call e.left (step_unowned o entry H s w kept.midway e mid by) follows.0.lets in
       let by_whom = allowed o texts entry H s w kept.midway e mid by in
       along mid end (after w e) es
       (record {
         midway = keeps o texts entry H s mid w e kept.midway lets by;
         listed = listed_after o texts by_whom.state w (open_of o entry H by_whom.state w by_whom.midway) kept.listed e.call e.left lets by_whom.who;
       })
-      (numbered_after o.act w e follows.0 numbered) follows.1 runs
+      (numbered_after o.act w e follows.0.lets numbered) follows.1 runs
 
   -- where no child runs
   numbered_alone : entry.children ≡ [] → AreNumbered entry

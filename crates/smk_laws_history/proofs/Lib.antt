@@ -26,6 +26,7 @@ pub mod HistoryChange
 pub mod HistoryNew
 pub mod HistoryEdit
 pub mod HistoryRemove
+pub mod HistoryTrees
 pub mod HistoryLaw
 pub mod HistoryListed
 pub mod HistoryListedCalls

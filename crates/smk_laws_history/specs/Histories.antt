@@ -5,7 +5,8 @@ use Rattle.smk_base.specs.Path.{own_folder, is_under, is_at_or_under}
 use Rattle.smk_world.specs.declared.event.Node.{Node}
 use Rattle.smk_world.specs.declared.event.Node.TheVariants.{Regular, Directory}
 use Rattle.smk_world.specs.declared.event.Event.{Event}
-use Rattle.smk_world.specs.World.{World, Nodes, IsFormed, Leaves, reading, run, world_of, firmly, folders_above, add_names}
+use Rattle.smk_world.specs.World.{World, Nodes, IsFormed, reading, run, world_of, firmly, folders_above, add_names}
+use Rattle.smk_world.specs.Folders.{IsTree, IsLeft}
 use Rattle.smk_world.specs.Runs.{Follows}
 use Rattle.smk_world.specs.Trees.{Path, IsIn, is_folder_kind, kind_in}
 use Rattle.smk_record.specs.declared.record.Stamp.TheVariants.{Time}
@@ -45,9 +46,10 @@ pub record KeepsListed (o : Outside) (entry : World) (log : List Event) (to_the_
 
 -- ## Worlds that follow one another
 
--- a world to begin with: nothing of the engine's, no child, every node firm
+-- a world to begin with: a tree with nothing of the engine's, no child, every node firm
 pub record IsNew (w : World) : Type 0 where
   pub formed : IsFormed w
+  pub tree : IsTree w
   pub none_own : (q : Path) → is_at_or_under q own_folder ≡ true → reading (w.nodes q) ≡ None
   pub no_child : w.children ≡ []
   pub all_firm : (q : Path) → (n : Option Node) × (w.nodes q ≡ firmly n)
@@ -99,7 +101,7 @@ pub data Step (o : Outside) (w : World) : World → Type 0 where
   Call : (log : List Event) (paths : List Path) → IsCall o w log paths true → (run w log).children ≡ [] → Step o w (run w log)
   Crash :
       (log events rest : List Event) (paths : List Path) (to_the_end : Bool) (nodes : Nodes) →
-      IsCall o w log paths to_the_end → log ≡ events ++ rest → Leaves (run w events) nodes → Step o w (world_of nodes)
+      IsCall o w log paths to_the_end → log ≡ events ++ rest → IsLeft (run w events) nodes → Step o w (world_of nodes)
 
 -- no path has a version
 abbrev pub no_versions : Versions
@@ -113,6 +115,10 @@ pub data History (o : Outside) : World → Versions → Type 0 where
 -- Every world of every history is sound for its versions.
 abbrev pub HistoryLaw : Type 0
 HistoryLaw = (o : Outside) (w : World) (H : Versions) → History o w H → SoundWorld o w H
+
+-- It is a tree: what stands has a name, and stands in folders.
+abbrev pub HistoryIsTree : Type 0
+HistoryIsTree = (o : Outside) (w : World) (H : Versions) → History o w H → IsTree w
 
 -- And its directories have no more than their records list.
 abbrev pub HistoryIsListed : Type 0

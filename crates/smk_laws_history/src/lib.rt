@@ -5,7 +5,7 @@ ghost use Rattle.smk_pattern.specs.Bound.{BoundFills};
 ghost use Rattle.smk_laws_history.specs.AtExit.{CurrentAtExitIsClean};
 ghost use Rattle.smk_laws_history.specs.Choices.{OneChoice, SameChoice, StaysAvailable};
 ghost use Rattle.smk_laws_plan.specs.Current.{CurrentMeansClean, CurrentMeansCleanInWorlds, ListingsAreMeant, ReadsAreClean, SameValues, SeenIsComplete};
-ghost use Rattle.smk_laws_history.specs.Histories.{ForgettingIsCall, HistoryIsListed, HistoryLaw, RunIsCall};
+ghost use Rattle.smk_laws_history.specs.Histories.{ForgettingIsCall, HistoryIsListed, HistoryIsTree, HistoryLaw, RunIsCall};
 ghost use Rattle.smk_laws_plan.specs.Plans.{InputsComeFirst, KeepsJobs, KeepsUnopened};
 ghost use Rattle.smk_laws_history.specs.Stamps.{StampTells};
 ghost use Rattle.smk_laws_history.specs.Trusted.{CurrentIsSafe, CurrentIsTrusted, NoneRuns, TrustedHolds};
@@ -57,6 +57,7 @@ pub fn protocol_law()
 /// a call that may stand in a history, and so is that of a call that forgets paths.
 pub fn history_law()
     ensures sound { HistoryLaw }
+    ensures tree { HistoryIsTree }
     ensures listed { HistoryIsListed }
     ensures run { RunIsCall }
     ensures forgetting { ForgettingIsCall }

@@ -113,8 +113,8 @@ module _ (o : Outside) (s : RunState) (j : OpenJob) (top number : ℕ) (calm : s
   makes (p ∷ ps) w (e ∷ (f ∷ es)) qs end places known comes more =
       let is = parents_call e.call p comes.1.0 comes.1.1 in
       let made = created_call f.call p comes.1.2.0 comes.1.2.1 in
-      let s1 = stepped o.act (MakeParents p) w e comes.0.0 comes.1.0 comes.1.1 in
-      let s2 = stepped o.act (Create p) (after w e) f comes.0.1.0 comes.1.2.0 comes.1.2.1 in
+      let s1 = stepped o.act (MakeParents p) w e comes.0.0.lets comes.1.0 comes.1.1 in
+      let s2 = stepped o.act (Create p) (after w e) f comes.0.1.0.lets comes.1.2.0 comes.1.2.1 in
       let v = after (after w e) f in
       Next (at_phase Marking) (at_phase Marking) end w e (f ∷ es)
       (Go e [] s.jobs (record j { phase = Marking }) Marking refl (inl calm)
@@ -197,8 +197,8 @@ module _ (o : Outside) (s : RunState) (j : OpenJob) (top number : ℕ) (calm : s
   begins (p ∷ ps) w (e ∷ (f ∷ es)) qs end steady may serial marking some places known comes more =
       let is = parents_call e.call p comes.1.0 comes.1.1 in
       let made = created_call f.call p comes.1.2.0 comes.1.2.1 in
-      let s1 = stepped o.act (MakeParents p) w e comes.0.0 comes.1.0 comes.1.1 in
-      let s2 = stepped o.act (Create p) (after w e) f comes.0.1.0 comes.1.2.0 comes.1.2.1 in
+      let s1 = stepped o.act (MakeParents p) w e comes.0.0.lets comes.1.0 comes.1.1 in
+      let s2 = stepped o.act (Create p) (after w e) f comes.0.1.0.lets comes.1.2.0 comes.1.2.1 in
       let v = after (after w e) f in
       let begun : RunState = record s { jobs = j ∷ s.jobs; top = top } in
       Next s begun end w e (f ∷ es)

@@ -1,7 +1,7 @@
 -- What `forget` does of a path is a run of the protocol of forgetting.
 use Rattle.std.proofs.Common.{◌≡◌, ◌⊎◌, inl, inr, Bool, true, false, ◌&&◌, ◌||◌, List, [], ◌∷◌, ◌++◌, refl, sym, ap, subst, ◌∙◌, append-nil, bytes_eq, Option, Some, None, Result, Ok, Err}
-use Rattle.std.specs.Prelude.{IsTrue, option_map, if◌then◌else◌}
-use Rattle.std.proofs.lemmas.List.Elements.{All-head, All-tail}
+use Rattle.std.specs.Prelude.{All, IsTrue, option_map, if◌then◌else◌}
+use Rattle.std.proofs.lemmas.List.Elements.{All-nil, All-cons, All-head, All-tail}
 use Rattle.std.proofs.lemmas.List.Concat.{flat_map-cons}
 use Rattle.smk_base.specs.Path.{is_at_or_under}
 use Rattle.smk_base.specs.Place.{record_place, mark_place, note_place, records_folder, marks_folder, notes_folder}
@@ -15,10 +15,12 @@ use Rattle.smk_world.specs.declared.event.Call.TheVariants.{Looked, ReadFile, Re
 use Rattle.smk_world.specs.declared.event.Event.{Event}
 use Rattle.smk_world.specs.World.{World, after, run, reading, node_after, is_within, is_above, reads_folder, firm, firmly}
 use Rattle.smk_world.specs.Calls.{failed}
+use Rattle.smk_world.specs.Devices.{is_look, AreLooks}
 use Rattle.smk_world.specs.Runs.{Follows}
 use Rattle.smk_world.specs.Requests.{Request, request, HasDone, Carries}
 use Rattle.smk_world.specs.Requests.Request.{Remove, Settle}
 use Rattle.smk_world.specs.Trees.{Path, IsIn, among, is_path_text}
+use Rattle.smk_world.proofs.Devices.{looks_nodes}
 use Rattle.smk_record.specs.declared.record.Stamp.{Stamp}
 use Rattle.smk_record.specs.declared.record.Stamp.TheVariants.{Time}
 use Rattle.smk_record.specs.declared.record.Record.{Record}
@@ -30,7 +32,7 @@ use Rattle.smk_store.specs.declared.store.Kept.{Kept}
 use Rattle.smk_store.specs.declared.store.Kept.TheVariants.{Absent, Unreadable, Held}
 use Rattle.smk_store.specs.Images.{Content, content_of, seen, image_by, readable, stands, is_known, is_outside}
 use Rattle.smk_store.specs.Stores.{Known, entry_of}
-use Rattle.smk_store.specs.Loading.{is_look, AreLooks, IsStoreOf, entry_at}
+use Rattle.smk_store.specs.Loading.{IsStoreOf, entry_at}
 use Rattle.smk_store.specs.Sources.{NoneOwned}
 use Rattle.smk_store.specs.Forgetting.{inputs_of, all_inputs, AreUnseen, forget_requests, LooksThen}
 use Rattle.smk_store.specs.Safety.{KeepsSound}
@@ -168,12 +170,12 @@ module _ (o : Outside) (paths : List Path) (ok : Bool) where
           → ForgetsAll o paths from w es (end_of good)
       by true [] follows carries more = absurd carries
       by true (e ∷ es) follows carries more =
-          Next from to Resting w e es (move e (as_done e.call carries.0 carries.1)) (more (after w e) es (stepped o.act r w e follows.0 carries.0 carries.1) follows.1 carries.2)
+          Next from to Resting w e es (move e (as_done e.call carries.0 carries.1)) (more (after w e) es (stepped o.act r w e follows.0.lets carries.0 carries.1) follows.1 carries.2)
       by false [] follows carries more = absurd carries
       by false (e ∷ []) follows carries more =
           Next from Stopped Stopped w e [] (Fail from to e carries.1 (move (record e { call = as_ok e.call }) (as_good e.call carries.0))) (Done Stopped (after w e))
       by false (e ∷ (f ∷ es)) follows carries more =
-          Next from to Stopped w e (f ∷ es) (move e (as_done e.call carries.0 carries.1)) (more (after w e) (f ∷ es) (stepped o.act r w e follows.0 carries.0 carries.1) follows.1 carries.2)
+          Next from to Stopped w e (f ∷ es) (move e (as_done e.call carries.0 carries.1)) (more (after w e) (f ∷ es) (stepped o.act r w e follows.0.lets carries.0 carries.1) follows.1 carries.2)
 
   over : (w : World) (es : List Event) → Carries [] ok es → Goes Resting w es
   over w es carries = by ok es carries
@@ -238,25 +240,15 @@ look_of o (Protected x r) h = absurd (true_false (sym h))
 look_of o (Started recipe logs command r) h = absurd (true_false (sym h))
 look_of o (Waited r) h = absurd (true_false (sym h))
 
-nodes_kept : (call : Call) (w : World) (e : Event) → e.call ≡ call → is_look call ≡ true → (after w e).nodes ≡ w.nodes
-nodes_kept (Looked x r) w e is h = λ i q. node_after (is i) e.left w.children q (w.nodes q)
-nodes_kept (ReadFile x limit r) w e is h = λ i q. node_after (is i) e.left w.children q (w.nodes q)
-nodes_kept (ReadFolder x r) w e is h = λ i q. node_after (is i) e.left w.children q (w.nodes q)
-nodes_kept (Written x bytes r) w e is h = absurd (true_false (sym h))
-nodes_kept (Created x r) w e is h = absurd (true_false (sym h))
-nodes_kept (Removed x r) w e is h = absurd (true_false (sym h))
-nodes_kept (MadeParents x r) w e is h = absurd (true_false (sym h))
-nodes_kept (Settled xs r) w e is h = absurd (true_false (sym h))
-nodes_kept (Protected x r) w e is h = absurd (true_false (sym h))
-nodes_kept (Started recipe logs command r) w e is h = absurd (true_false (sym h))
-nodes_kept (Waited r) w e is h = absurd (true_false (sym h))
+abbrev EachLook : List Event → Type 0
+EachLook es = All (λ (x : Event). is_look x.call ≡ true) es
 
-looks_nodes : (es : List Event) (w : World) → AreLooks es → (run w es).nodes ≡ w.nodes
-looks_nodes [] w h = refl
-looks_nodes (e ∷ es) w h =
-    looks_nodes es (after w e) (All-tail (λ (x : Event). is_look x.call ≡ true) e es h) ∙ nodes_kept e.call w e refl (All-head (λ (x : Event). is_look x.call ≡ true) e es h)
+each_look : (f : Bool) (es : List Event) → AreLooks f es → EachLook es
+each_look f [] h = All-nil (λ (x : Event). is_look x.call ≡ true)
+each_look f (e ∷ []) h = All-cons (λ (x : Event). is_look x.call ≡ true) e [] h.0 (All-nil (λ (x : Event). is_look x.call ≡ true))
+each_look f (e ∷ (g ∷ es)) h = All-cons (λ (x : Event). is_look x.call ≡ true) e (g ∷ es) h.0 (each_look f (g ∷ es) h.2)
 
-looks_first : (o : Outside) (paths : List Path) (es fs : List Event) (w : World) (end : Stage) → AreLooks es → ForgetsAll o paths Resting (run w es) fs end → ForgetsAll o paths Resting w (es ++ fs) end
+looks_first : (o : Outside) (paths : List Path) (es fs : List Event) (w : World) (end : Stage) → EachLook es → ForgetsAll o paths Resting (run w es) fs end → ForgetsAll o paths Resting w (es ++ fs) end
 looks_first o paths [] fs w end h later = later
 looks_first o paths (e ∷ es) fs w end h later =
     Next Resting Resting end w e (es ++ fs) (LookMove Resting e (look_of o e.call (All-head (λ (x : Event). is_look x.call ≡ true) e es h)))
@@ -270,15 +262,15 @@ follows_rest o (e ∷ es) fs w h = follows_rest o es fs (after w e) h.1
 
 module _ (o : Outside) (store : List Known) (paths : List Path) (p : Path) (w : World) (es : List Event)
     (own : IsIn paths p) (text : is_path_text p ≡ true) (stored : IsStoreOf (seen o.read w) store) (free : NoneOwned w) (follows : Follows o.act w es) where
-  only_looks : AreLooks es → ForgetsAll o paths Resting w es Resting
+  only_looks : EachLook es → ForgetsAll o paths Resting w es Resting
   only_looks h = subst (λ fs. ForgetsAll o paths Resting w fs Resting) (append-nil es) (looks_first o paths es [] w Resting h (Done Resting (run w es)))
 
   looks_then : (ok : Bool) → AreUnseen store w p → LooksThen (λ calls. Carries (forget_requests p) ok calls) es → ForgetsAll o paths Resting w es (end_of ok)
   looks_then ok unseen (looks, calls, is, look, carries) =
       let v = run w looks in
-      let same : v.nodes ≡ w.nodes = looks_nodes looks w look in
+      let same : v.nodes ≡ w.nodes = looks_nodes false w looks look in
       subst (λ fs. ForgetsAll o paths Resting w fs (end_of ok)) (sym is)
-      (looks_first o paths looks calls w (end_of ok) look
+      (looks_first o paths looks calls w (end_of ok) (each_look false looks look)
       (forgets o paths ok p v calls own text
       (subst (λ ns. IsUnseen (image_by o.read v.names (λ q. reading (ns q))) p) (sym same) (unseen_now o w store p stored unseen))
       (λ q owned. free q (sym (ap (λ ns. ns q) same) ∙ owned))
@@ -288,19 +280,19 @@ pub forgetting_runs : ForgettingRuns
 forgetting_runs o store paths p (Ok true) w es own text stored free follows (unseen, later) =
     (Resting, looks_then o store paths p w es own text stored free follows true unseen later, refl)
 forgetting_runs o store paths p (Ok false) w es own text stored free follows (unseen, (looks, calls, is, look, none)) =
-    (Resting, only_looks o store paths p w es own text stored free follows (subst AreLooks (sym (is ∙ ap (λ t. looks ++ t) (no_calls calls none) ∙ append-nil looks)) look), refl)
+    (Resting, only_looks o store paths p w es own text stored free follows (subst EachLook (sym (is ∙ ap (λ t. looks ++ t) (no_calls calls none) ∙ append-nil looks)) (each_look false looks look)), refl)
   where
     no_calls : (cs : List Event) → HasDone [] cs → cs ≡ []
     no_calls [] h = refl
     no_calls (c ∷ cs) h = absurd h
 forgetting_runs o store paths p (Err (StampSeen q)) w es own text stored free follows (first, look) =
-    (Resting, only_looks o store paths p w es own text stored free follows look, refl)
+    (Resting, only_looks o store paths p w es own text stored free follows (each_look false es look), refl)
 forgetting_runs o store paths p (Err Device) w es own text stored free follows (inl look) =
-    (Resting, only_looks o store paths p w es own text stored free follows look, inl refl)
+    (Resting, only_looks o store paths p w es own text stored free follows (each_look true es look), inl refl)
 forgetting_runs o store paths p (Err Device) w es own text stored free follows (inr (unseen, later)) =
     (Stopped, looks_then o store paths p w es own text stored free follows false unseen later, inr refl)
 forgetting_runs o store paths p (Err OutOfMemory) w es own text stored free follows look =
-    (Resting, only_looks o store paths p w es own text stored free follows look, refl)
+    (Resting, only_looks o store paths p w es own text stored free follows (each_look false es look), refl)
 
 -- So it keeps soundness.
 pub forgetting_safe : ForgettingIsSafe

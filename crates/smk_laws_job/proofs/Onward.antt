@@ -57,12 +57,12 @@ module _ (o : Outside) (ok : Bool) where
           → Runs o s w es goal
       by true [] halts carries follows more = absurd carries
       by true (e ∷ es) halts carries follows more =
-          Next s mid goal w e es (go e carries.0 carries.1) (more (after w e) es (stepped o.act r w e follows.0 carries.0 carries.1) follows.1 carries.2)
+          Next s mid goal w e es (go e carries.0 carries.1) (more (after w e) es (stepped o.act r w e follows.0.lets carries.0 carries.1) follows.1 carries.2)
       by false [] halts carries follows more = absurd carries
       by false (e ∷ []) halts carries follows more =
           subst (λ x. Runs o s w (e ∷ []) x) (halts refl) (Next s _ _ w e [] (Fail e mid carries.1 (may e carries.0)) (Done _ (after w e)))
       by false (e ∷ (f ∷ es)) halts carries follows more =
-          Next s mid goal w e (f ∷ es) (go e carries.0 carries.1) (more (after w e) (f ∷ es) (stepped o.act r w e follows.0 carries.0 carries.1) follows.1 carries.2)
+          Next s mid goal w e (f ∷ es) (go e carries.0 carries.1) (more (after w e) (f ∷ es) (stepped o.act r w e follows.0.lets carries.0 carries.1) follows.1 carries.2)
 
 -- ## What was removed
 

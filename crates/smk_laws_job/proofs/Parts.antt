@@ -56,7 +56,7 @@ module _ (o : Outside) (goal : RunState) where
   one_part s mid w (e ∷ es) r rs halts (is, inl (bad, none)) follows ok go more =
       subst (λ fs. Ends s w (e ∷ fs)) (sym none) (_, Next s _ _ w e [] (Fail e mid bad (ok e is)) (Done _ (after w e)), λ b. halts)
   one_part s mid w (e ∷ es) r rs halts (is, inr (quiet, rest)) follows ok go more =
-      let later = more e es is quiet follows.0 follows.1 rest in
+      let later = more e es is quiet follows.0.lets follows.1 rest in
       (later.0, Next s mid later.0 w e es (go e is quiet) later.1, λ bad. later.2 (sym (ap (λ b. b || fails es) quiet) ∙ bad))
 
   -- ## One job

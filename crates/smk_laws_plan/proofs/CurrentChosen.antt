@@ -1,6 +1,7 @@
 -- What a chosen job is: a candidate of its path, which makes it, and of which no output or log holds a source.
 use Rattle.std.proofs.Common.{◌≡◌, ◌∙◌, ◌⊎◌, ℕ, ◌+◌, Bool, true, false, List, [], ◌∷◌, map, filter, filter_map, flat_map, ◌++◌, cond, refl, sym, ap, subst, inl, inr, arith, Option, Some, None, option_map}
 use Rattle.std.specs.List.{enumerate_from}
+use Rattle.std.proofs.lemmas.List.{map-append}
 use Rattle.smk_laws_plan.proofs.CurrentLists.{In, filter_in, flat_in, chosen_in, find_in, map_in, in_map, in_flat, in_filter, some_inj, none_some}
 use Rattle.smk_laws_plan.proofs.CurrentPaths.{folders_under}
 use Rattle.smk_world.specs.declared.recipe.Kind.TheVariants.{Plain, Folder}
@@ -128,15 +129,11 @@ module _ (flow : Flow) (p : Path) (c : Candidate) where
 
 -- ## the outputs of a job
 
-map_append : {A B : Type 0} (f : A → B) (xs ys : List A) → map f (xs ++ ys) ≡ map f xs ++ map f ys
-map_append f [] ys = refl
-map_append f (x ∷ xs) ys = ap (λ zs. f x ∷ zs) (map_append f xs ys)
-
 paths_of_items : (items : List OutItem) → flat_map (λ (i : OutItem). map (λ (o : Out). o.path) i.outs) items ≡ map (λ (o : Out). o.path) (flat_map (λ (i : OutItem). i.outs) items)
 paths_of_items [] = refl
 paths_of_items (i ∷ items) =
     ap (λ ps. map (λ (o : Out). o.path) i.outs ++ ps) (paths_of_items items)
-    ∙ sym (map_append (λ (o : Out). o.path) i.outs (flat_map (λ (i : OutItem). i.outs) items))
+    ∙ sym (map-append (λ (o : Out). o.path) i.outs (flat_map (λ (i : OutItem). i.outs) items))
 
 -- the output paths of a recipe are those of its outputs
 pub paths_are : (r : Recipe) → out_paths r ≡ map (λ (o : Out). o.path) (outs_of r)

@@ -1,6 +1,8 @@
 -- Membership, and what tests, filters and look-ups say of members.
 use Rattle.std.proofs.Common.{◌≡◌, ◌⊎◌, Bool, true, false, not, ◌&&◌, ◌||◌, cond, List, [], ◌∷◌, ◌++◌, map, refl, sym, ap, subst, inl, inr, ◌∙◌, arith, Option, Some, None, filter, flat_map, filter_map, find, zip, true≢false}
 use Rattle.std.specs.List.{list_any, list_all, cons_option}
+pub use Rattle.std.proofs.lemmas.Bool.{or_cases, and_from as and_both, or_left as or_first, or_right as or_second, cases_Bool as both}
+pub use Rattle.std.proofs.lemmas.Option.{same_Some as some_inj}
 use Rattle.smk_chain.specs.Derive.{distinct}
 use Rattle.smk_world.specs.Trees.{IsIn}
 
@@ -17,10 +19,6 @@ pub or_right : (a b : Bool) → (a || b) ≡ false → b ≡ false
 or_right true b h = absurd (true≢false h)
 or_right false b h = h
 
-pub or_cases : (a b : Bool) → (a || b) ≡ true → (a ≡ true) ⊎ (b ≡ true)
-or_cases true b h = inl refl
-or_cases false b h = inr h
-
 pub and_left : (a b : Bool) → (a && b) ≡ true → a ≡ true
 and_left true b h = refl
 and_left false b h = h
@@ -28,16 +26,6 @@ and_left false b h = h
 pub and_right : (a b : Bool) → (a && b) ≡ true → b ≡ true
 and_right true b h = h
 and_right false b h = absurd (true≢false (sym h))
-
-pub and_both : (a b : Bool) → a ≡ true → b ≡ true → (a && b) ≡ true
-and_both a b h k = rw (h, k) refl
-
-pub or_first : (a b : Bool) → a ≡ true → (a || b) ≡ true
-or_first a b h = rw h refl
-
-pub or_second : (a b : Bool) → b ≡ true → (a || b) ≡ true
-or_second true b h = refl
-or_second false b h = h
 
 pub not_true : (a : Bool) → not a ≡ true → a ≡ false
 not_true true h = sym h
@@ -47,17 +35,10 @@ pub not_false : (a : Bool) → not a ≡ false → a ≡ true
 not_false true h = refl
 not_false false h = sym h
 
-pub both : (b : Bool) → (b ≡ true) ⊎ (b ≡ false)
-both true = inl refl
-both false = inr refl
-
 pub clash_of : (b : Bool) → b ≡ true → b ≡ false → ⊥
 clash_of b h k = true≢false (sym h ∙ k)
 
 -- ## options
-
-pub some_inj : {A : Type 0} (x y : A) → Some x ≡ Some y → x ≡ y
-some_inj x y h = cc
 
 pub none_some : {A : Type 0} (o : Option A) (n : A) → o ≡ None → o ≡ Some n → ⊥
 none_some o n h k = grind arith

@@ -95,7 +95,7 @@ plain_record r h plain =
     go true x k = absurd (true≢false x)
     go false x k = k
 
-once_paths : (ps : List Path) (p : Path) → In p ps → In p (distinct bytes_eq ps)
+pub once_paths : (ps : List Path) (p : Path) → In p ps → In p (distinct bytes_eq ps)
 once_paths ps p h = let d = in_distinct bytes_eq place_itself same_trans ps p h in subst (λ w. In w (distinct bytes_eq ps)) (same_place d.0 p d.2) d.1
 
 -- A plan in an image whose lists are complete and whose records are valid.

@@ -1,5 +1,5 @@
 -- What a derivation without refusals says of each path that its walk comes to.
-use Rattle.std.proofs.Common.{◌≡◌, ◌⊎◌, ℕ, zero, suc, ◌≤◌, ◌+◌, max, Bool, true, false, List, [], ◌∷◌, ◌++◌, map, refl, sym, ap, subst, inl, inr, ◌∙◌, arith, Some, None, is_some, flat_map, fold, eqb, false-eqb, zero-le}
+use Rattle.std.proofs.Common.{◌≡◌, ◌⊎◌, ℕ, zero, suc, ◌≤◌, ◌+◌, max, Bool, true, false, List, [], ◌∷◌, ◌++◌, map, refl, sym, ap, subst, inl, inr, ◌∙◌, arith, Some, None, is_some, flat_map, fold, eqb}
 use Rattle.smk_laws_plan.proofs.CurrentLists.{In, in_left, in_right, in_flat, in_map, in_filter, flat_nil, append_nil_left, append_nil_right, cons_nil}
 use Rattle.std.specs.Prelude.{is_none, Option}
 use Rattle.smk_pattern.specs.Shapes.{Text}
@@ -7,26 +7,16 @@ use Rattle.smk_world.specs.Trees.{folder_over}
 use Rattle.smk_chain.specs.Derive.{refused_if, is_missing, recipe}
 use Rattle.smk_base.specs.Path.{is_path}
 use Rattle.smk_chain.specs.Derive.{Derived, Listings, NoInput, Refusal, Refused, height, lacking, outcome, refused, refused_at, walk, wanted_paths, wants}
+use Rattle.smk_chain.proofs.Heights.{fold_above, below_top, height_by, height_within}
 use Rattle.smk_choose.specs.Choose.{Ambiguous, Choice, Make, Nothing, Source, Sources, choose, maker}
 use Rattle.smk_flow.specs.Flows.{Candidate, Flow}
 use Rattle.smk_flow.specs.declared.job.Job.{Job}
 use Rattle.smk_world.specs.Trees.{Path}
 
-fold_above : (xs : List ℕ) (a : ℕ) → a ≤ fold max a xs
-fold_above [] a = omega arith
-fold_above (x ∷ xs) a = let h = fold_above xs (max a x) in omega arith
-
 pub fold_max : (xs : List ℕ) (a x : ℕ) → In x xs → x ≤ fold max a xs
 fold_max [] a x h = absurd h
 fold_max (y ∷ xs) a x (inl e) = let h = fold_above xs (max a y) in omega arith
 fold_max (y ∷ xs) a x (inr h) = fold_max xs (max a y) x h
-
-fold_least : {A : Type 0} (f : A → ℕ) (n : ℕ) → ((x : A) → f x ≤ n) → (xs : List A) (a : ℕ) → a ≤ n → fold max a (map f xs) ≤ n
-fold_least f n h [] a k = k
-fold_least f n h (x ∷ xs) a k = fold_least f n h xs (max a (f x)) (let e = h x in omega arith)
-
-below_top : (a n : ℕ) → a ≤ suc n → eqb a (suc n) ≡ false → a ≤ n
-below_top a n h e = grind (arith, false-eqb)
 
 module _ (flow : Flow) (sources : Sources) (L : Listings) where
   abbrev pub walk_by : ℕ → Choice → List Candidate
@@ -41,14 +31,10 @@ module _ (flow : Flow) (sources : Sources) (L : Listings) where
       walk flow sources L (suc n) p ≡ flat_map (walk flow sources L n) (wants flow L c) ++ c ∷ []
   walk_make n p c e = ap (walk_by n) e
 
-  abbrev height_by : ℕ → Choice → ℕ
-  height_by n ch =
-      elim (maker ch) as (λ _. ℕ) [ None ↦ 0 | Some c ↦ 1 + fold max 0 (map (height flow sources L n) (wanted_paths flow L c)) ]
-
   pub height_make :
       (n : ℕ) (p : Path) (c : Candidate) → choose flow sources p ≡ Make c →
       height flow sources L (suc n) p ≡ 1 + fold max 0 (map (height flow sources L n) (wanted_paths flow L c))
-  height_make n p c e = ap (height_by n) e
+  height_make n p c e = ap (height_by flow sources L n) e
 
   abbrev refused_by : ℕ → Path → Choice → List Refusal
   refused_by n p ch =
@@ -131,16 +117,6 @@ module _ (flow : Flow) (sources : Sources) (L : Listings) where
   reached_own all n p c r e =
       r.within c (subst (In c) (sym (walk_make n p c e)) (in_right c (flat_map (walk flow sources L n) (wants flow L c)) (c ∷ []) (inl refl)))
 
-  pub height_within : (n : ℕ) (p : Path) → height flow sources L n p ≤ n
-  height_within zero p = omega arith
-  height_within (suc n) p = go (choose flow sources p) refl (height_within n)
-    where
-      go : (ch : Choice) → choose flow sources p ≡ ch → ((q : Path) → height flow sources L n q ≤ n) → height_by n ch ≤ suc n
-      go Source e ih = omega arith
-      go (Make c) e ih = let h = fold_least (height flow sources L n) n ih (wanted_paths flow L c) 0 (zero-le) in omega arith
-      go (Nothing lack) e ih = omega arith
-      go (Ambiguous a b) e ih = omega arith
-
   pub reached_target :
       (targets : List Path) (n : ℕ) (p : Path) →
       eqb (height flow sources L (suc n) p) (suc n) ≡ false →
@@ -148,7 +124,7 @@ module _ (flow : Flow) (sources : Sources) (L : Listings) where
       In p targets → Reached (flat_map (walk flow sources L n) targets) n p
   reached_target targets n p deep calm h =
       record {
-        fits = below_top (height flow sources L (suc n) p) n (height_within (suc n) p) deep;
+        fits = below_top (height flow sources L (suc n) p) n (height_within flow sources L (suc n) p) deep;
         calm = flat_nil (refused flow sources L (suc n)) targets p calm h;
         within = λ c k. in_flat (walk flow sources L n) targets p c h k;
       }

@@ -38,7 +38,7 @@ same_parts a b h = (eqb-true a.rule b.rule (and_left (eqb a.rule b.rule) _ h), p
 candidate_self : (a : Candidate) → same_candidate a a ≡ true
 candidate_self a = and_both _ _ (eq-eqb a.rule a.rule refl) (list_self a.binding)
 
-candidate_trans : (a b c : Candidate) → same_candidate a b ≡ true → same_candidate b c ≡ true → same_candidate a c ≡ true
+pub candidate_trans : (a b c : Candidate) → same_candidate a b ≡ true → same_candidate b c ≡ true → same_candidate a c ≡ true
 candidate_trans a b c h k =
     let p = same_parts b c k in
     and_both (eqb a.rule c.rule) _ (subst (λ n. eqb a.rule n ≡ true) p.0 (and_left (eqb a.rule b.rule) _ h))

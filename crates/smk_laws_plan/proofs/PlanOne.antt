@@ -60,7 +60,21 @@ module _ (all : List Job) where
       shift x (inl (inr l)) = inl l
       shift x (inr l) = inr (inr l)
 
-twice : (before : List Job) (k : Job) (after : List Job) (p : Path) → JobsApart (before ++ k ∷ after) → In k before → In p (out_paths k.recipe) → ⊥
+-- a chosen job makes its path
+pub job_makes : (flow : Flow) (sources : Sources) (L : Listings) (q : Path) (c : Candidate) → choose flow sources q ≡ Make c → makes (job flow L c) q ≡ true
+job_makes flow sources L q c e = let o = origin flow q c sources e in go o o.at_or_above
+  where
+    fills : BoundFills
+    fills = bound_fills_from numbered_all
+
+    go : (o : Origin flow q c) → (q ≡ o.place) ⊎ (is_under q o.place ≡ true) × In o.place (folders_above q) × (makes_folder o.out ≡ true) → makes (job flow L c) q ≡ true
+    go o (inl s) =
+        or_first _ _ (in_among (out_paths (recipe flow L c)) q (subst (λ w. In w (out_paths (recipe flow L c))) (sym s) (output_in flow L c fills o.place o.out o.is_out o.binds)))
+    go o (inr u) =
+        or_second _ _ (let r = find_some (is_under q) (folders_of (recipe flow L c)) o.place (folder_made flow L c fills o.place o.out o.is_out o.binds u.2) u.0 in ap is_some r.1)
+
+-- a job stands in one place
+pub twice : (before : List Job) (k : Job) (after : List Job) (p : Path) → JobsApart (before ++ k ∷ after) → In k before → In p (out_paths k.recipe) → ⊥
 twice [] k after p h i o = i
 twice (b ∷ before) k after p h (inl e) o =
     clash_of (overlaps p p) (touch_overlaps p p (inl refl))
@@ -276,18 +290,8 @@ module _ (flow : Flow) (image : Image) (L : Listings) (targets : List Path) (js 
       let shallow = map_nil Deep (filter (is_deep flow srcs image L targets) targets) none_refused.0 in
       reached_target flow srcs L targets 200 p (filter_nil (is_deep flow srcs image L targets) targets p shallow h) none_refused.1 h
 
-  -- a chosen job makes its path
   pub chosen_makes : (q : Path) (c : Candidate) → choose flow srcs q ≡ Make c → makes (job flow L c) q ≡ true
-  chosen_makes q c e = let o = origin flow q c srcs e in go o o.at_or_above
-    where
-      fills : BoundFills
-      fills = bound_fills_from numbered_all
-
-      go : (o : Origin flow q c) → (q ≡ o.place) ⊎ (is_under q o.place ≡ true) × In o.place (folders_above q) × (makes_folder o.out ≡ true) → makes (job flow L c) q ≡ true
-      go o (inl s) =
-          or_first _ _ (in_among (out_paths (recipe flow L c)) q (subst (λ w. In w (out_paths (recipe flow L c))) (sym s) (output_in flow L c fills o.place o.out o.is_out o.binds)))
-      go o (inr u) =
-          or_second _ _ (let r = find_some (is_under q) (folders_of (recipe flow L c)) o.place (folder_made flow L c fills o.place o.out o.is_out o.binds u.2) u.0 in ap is_some r.1)
+  chosen_makes q c e = job_makes flow srcs L q c e
 
   walked_for : (c : Candidate) → In c walked → (q : Path) × (choose flow srcs q ≡ Make c)
   walked_for c h = let t = flat_in (walk flow srcs L 200) targets c h in walked_chosen flow srcs L 200 t.0 c t.2

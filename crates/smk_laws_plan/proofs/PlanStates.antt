@@ -3,7 +3,6 @@ use Rattle.std.proofs.Common.{◌≡◌, ◌⊎◌, Bool, true, false, not, cond
 use Rattle.std.specs.List.{list_any}
 use Rattle.std.specs.Prelude.{bytes_eq}
 use Rattle.smk_base.specs.Path.{is_under}
-use Rattle.smk_base.proofs.Places.{same_place, place_itself}
 use Rattle.smk_world.specs.World.{in_paths, out_paths}
 use Rattle.smk_world.specs.Trees.{Path, among, folder_over, folders_of, kind_in}
 use Rattle.smk_flow.specs.declared.job.Job.{Job}
@@ -19,11 +18,11 @@ use Rattle.smk_store.specs.Trust.{is_marked_but, stamp_now_but}
 use Rattle.smk_pick.specs.declared.settings.Settings.{Settings}
 use Rattle.smk_plan.specs.States.{Plan, Progress, makes, gathers_from, stands_whole, by_reasons, while_running, test_some, none_or_one, maker_of, made_by, directory_over, awaits, is_input, is_ready, is_at_hand, awaited, is_open_now, is_forced, reasons, is_wanted_back, is_to_restore, kept_state, is_restored, is_read_now, state_of}
 use Rattle.smk_laws_plan.proofs.CurrentStates.{unless_open, unless_dirty}
-use Rattle.smk_laws_plan.proofs.CurrentLists.{In, in_left, in_right, in_either, in_flat, flat_in, in_distinct, distinct_in, any_in, any_from, or_cases, or_first, and_left, and_both, find_in}
+use Rattle.smk_laws_plan.proofs.CurrentLists.{In, in_left, in_right, in_either, in_flat, flat_in, distinct_in, any_in, any_from, or_cases, or_first, and_left, and_both, find_in}
 use Rattle.smk_laws_plan.proofs.CurrentPaths.{among_in, in_among}
-use Rattle.smk_laws_plan.proofs.CurrentApart.{JobsApart, maker_found, same_trans}
+use Rattle.smk_laws_plan.proofs.CurrentApart.{JobsApart, maker_found}
 use Rattle.smk_laws_plan.proofs.CurrentChosen.{folders_paths}
-use Rattle.smk_laws_plan.proofs.CurrentProducts.{some_of}
+use Rattle.smk_laws_plan.proofs.CurrentProducts.{some_of, once_paths}
 use Rattle.smk_laws_plan.proofs.PlanOrder.{Within, Reads, Served}
 
 -- ## Lists and tests
@@ -32,7 +31,7 @@ pub any_same : {A : Type 0} (f g : A → Bool) (xs : List A) → ((x : A) → In
 any_same f g [] h = refl
 any_same f g (x ∷ xs) h = let e = h x (inl refl) in let r = any_same f g xs (λ y k. h y (inr k)) in λ i. e i || r i
 
-filter_same : {A : Type 0} (f g : A → Bool) (xs : List A) → ((x : A) → In x xs → f x ≡ g x) → filter f xs ≡ filter g xs
+pub filter_same : {A : Type 0} (f g : A → Bool) (xs : List A) → ((x : A) → In x xs → f x ≡ g x) → filter f xs ≡ filter g xs
 filter_same f g [] h = refl
 filter_same f g (x ∷ xs) h =
     let e = h x (inl refl) in let r = filter_same f g xs (λ y k. h y (inr k)) in λ i. cond (e i) (x ∷ r i) (r i)
@@ -66,12 +65,9 @@ same_found F G (j ∷ js) q = go (makes j q) (same_found F G js q)
     go true ih = refl
     go false ih = ih
 
-once_paths : (ps : List Path) (p : Path) → In p ps → In p (distinct bytes_eq ps)
-once_paths ps p h = let d = in_distinct bytes_eq place_itself same_trans ps p h in subst (λ w. In w (distinct bytes_eq ps)) (same_place d.0 p d.2) d.1
-
 -- ## One state
 
-table_open : (b : Bool) (rs : List Reason) (x y : Bool) → is_open (cond b Open (by_reasons rs x)) ≡ is_open (cond b Open (by_reasons rs y))
+pub table_open : (b : Bool) (rs : List Reason) (x y : Bool) → is_open (cond b Open (by_reasons rs x)) ≡ is_open (cond b Open (by_reasons rs y))
 table_open true rs x y = refl
 table_open false (r ∷ rs) x y = refl
 table_open false [] true true = refl
@@ -79,7 +75,7 @@ table_open false [] true false = refl
 table_open false [] false true = refl
 table_open false [] false false = refl
 
-table_dirty : (b : Bool) (rs : List Reason) (x y : Bool) → is_dirty (cond b Open (by_reasons rs x)) ≡ is_dirty (cond b Open (by_reasons rs y))
+pub table_dirty : (b : Bool) (rs : List Reason) (x y : Bool) → is_dirty (cond b Open (by_reasons rs x)) ≡ is_dirty (cond b Open (by_reasons rs y))
 table_dirty true rs x y = refl
 table_dirty false (r ∷ rs) x y = refl
 table_dirty false [] true true = refl

@@ -336,7 +336,7 @@ module _ (o : Outside) (entry : World) (H : Versions) (paths : List Path) where
   along s end w before (e ∷ es) h follows (Next _ mid _ _ _ _ first rest) =
       subst (λ l. Holds end (IsForgotten paths l) (run (after w e) es)) (append_assoc before (e ∷ []) es)
       (along mid end (after w e) (before ++ e ∷ []) es
-      (step (IsForgotten paths before) (IsForgotten paths (before ++ e ∷ [])) (forgotten_more paths before e) w s mid e (λ p i told q u. forgotten_now paths before e p q i told u) follows.0 h first) follows.1 rest)
+      (step (IsForgotten paths before) (IsForgotten paths (before ++ e ∷ [])) (forgotten_more paths before e) w s mid e (λ p i told q u. forgotten_now paths before e p q i told u) follows.0.lets h first) follows.1 rest)
 
   -- a sound image's sources are already versions
   put_same : (v : View) → Sound o.act H v none_eased → put H v ≡ H

@@ -1,3 +1,4 @@
+pub mod Above
 pub mod Acted
 pub mod After
 pub mod Alike

@@ -42,8 +42,8 @@ module _ (o : Outside) (entry : World) (H : Versions) where
   along s end w [] m numbered follows (Done _ _) = m
   along s end w (e ∷ es) m numbered follows (Next _ mid _ _ _ _ step runs) =
       let by = step_to o w s e mid step in
-      let lets = answers o entry H s w m numbered e.call e.left (step_unowned o entry H s w m e mid by) follows.0 in
-      along mid end (after w e) es (keeps o (texts_of text_laws o.read) entry H s mid w e m lets by) (numbered_after o.act w e follows.0 numbered) follows.1 runs
+      let lets = answers o entry H s w m numbered e.call e.left (step_unowned o entry H s w m e mid by) follows.0.lets in
+      along mid end (after w e) es (keeps o (texts_of text_laws o.read) entry H s mid w e m lets by) (numbered_after o.act w e follows.0.lets numbered) follows.1 runs
 
   top_to : (w : World) (top : ℕ) → ImageTop o w top → IsTop o w top
   top_to w top is p r n at unmarked i =

@@ -53,7 +53,7 @@ stamped_and_each P made t all c w es h =
     (gone_each P t all c (run w h.seen) h.rest h.then_did)
 
 turn_by_each : (P : Request → Type 0) (made : Serials) (t : Turn) (all : OfTurn P t) (c : Course) (w : World) (es : List Event) → IsTurnBy made t c w es → EachCall P es
-turn_by_each P made t all Unbegun w es h = has_stamped_each P all.looks made (in_paths t.job.recipe) t.looked es h
+turn_by_each P made t all Unbegun w es h = has_stamped_each P all.looks made (in_paths t.job.recipe) t.looked w es h
 turn_by_each P made t all Unstarted w es h = stamped_and_each P made t all Unstarted w es h
 turn_by_each P made t all Unclosed w es h = stamped_and_each P made t all Unclosed w es h
 turn_by_each P made t all (Closed ending) w es h = stamped_and_each P made t all (Closed ending) w es h

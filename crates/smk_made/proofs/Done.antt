@@ -253,7 +253,7 @@ left_parts act made t w es may follows h =
     let end : run w es ≡ run (run v0 h.looks) h.last =
     ap (run w) h.events ∙ run_append w h.seen (h.first ++ (wait ∷ (h.looks ++ h.last))) ∙ run_append w1 h.first (wait ∷ (h.looks ++ h.last)) ∙ run_append v0 h.looks h.last in
     subst (HasLeft act t w) (sym end)
-    (left_by act made t w h.seen h.first h.looks h.last h.number h.ended h.left h.members may a.0 b.0 b.1.0 c.0 c.1 h.stamped h.begun h.started h.good h.outputs h.kept)
+    (left_by act made t w h.seen h.first h.looks h.last h.number h.ended h.left h.members may a.0 b.0 b.1.0.lets c.0 c.1 h.stamped h.begun h.started h.good h.outputs h.kept)
 
 pub done_turn_leaves : DoneTurnLeaves
 done_turn_leaves act made t w es may follows is done = left_parts act made t w es may follows (parts_by made t t.course w es is done)

@@ -1,9 +1,8 @@
 pub mod Numbered
 pub mod Counting
-pub mod Putting
 pub mod Dues
 pub mod Lower
 pub mod Good
 pub mod Current
 pub mod Made
-pub mod Further
+pub mod Ends

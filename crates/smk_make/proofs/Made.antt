@@ -1,12 +1,11 @@
 -- What a run did, with its last lines.
-use Rattle.std.proofs.Common.{◌≡◌, ◌⊎◌, ℕ, Bool, true, false, List, [], ◌++◌, inl, inr, refl, sym, ap, subst, ◌∙◌, Option, Some, None, Result, Ok, Err, is_ok, take, drop, length}
-use Rattle.std.specs.Prelude.{IsSome, IfErr}
-use Rattle.std.proofs.lemmas.List.{append_assoc, take-append-drop}
-use Rattle.smk_world.specs.World.{World}
-use Rattle.smk_world.specs.Calls.{HasPut}
+use Rattle.std.proofs.Common.{◌≡◌, ◌⊎◌, ℕ, Bool, true, false, List, [], ◌++◌, inl, inr, refl, sym, ap, subst, ◌∙◌, Option, Some, None, Result, Ok, Err, is_ok, length}
+use Rattle.std.specs.Prelude.{IfErr}
+use Rattle.smk_world.specs.Devices.{Device, Sunk}
 use Rattle.smk_world.specs.Trees.{Path, Act}
 use Rattle.smk_flow.specs.Flows.{Flow}
 use Rattle.smk_chain.specs.declared.jobs.Jobs.{Jobs}
+use Rattle.smk_store.specs.declared.fault.StoreFault.{StoreFault}
 use Rattle.smk_store.specs.Stores.{Known}
 use Rattle.smk_store.specs.Serials.{next_serial}
 use Rattle.smk_trigger.specs.declared.reason.State.{State}
@@ -17,15 +16,15 @@ use Rattle.smk_plan.specs.declared.duty.Duty.{Duty}
 use Rattle.smk_run.specs.declared.tally.Tally.{Tally}
 use Rattle.smk_run.specs.Duties.{due, serials}
 use Rattle.smk_plan.specs.Duties.{AreFor}
-use Rattle.smk_run.specs.Reports.{HasWritten, IsReport, report_of}
+use Rattle.smk_run.specs.Reports.{HasReported, IsReport, report_of}
 use Rattle.smk_run.specs.Runs.{HasRun, IsOutcome, IsTally, is_whole, is_output, is_device, leaves_whole, is_device_fault}
+use Rattle.smk_run.proofs.Texts.{reported_as, reported_then}
 use Rattle.smk_make.specs.After.{AreCurrent, IsAfter}
 use Rattle.smk_make.specs.Closing.{is_current, closing_text, verdict_of, answer_of}
-use Rattle.smk_make.specs.Faults.{IsOfReport, IsOfJob}
-use Rattle.smk_make.specs.Making.{HasMade, Concludes, IsClosing, GoesOn, Made, AreWhatIsMeant}
+use Rattle.smk_make.specs.Faults.{IsOfReport, IsOfJob, of_store}
+use Rattle.smk_make.specs.Making.{HasMade, Concludes, IsClosing, IsText, GoesOn, NotFirm, Made, AreWhatIsMeant}
 use Rattle.smk_make.proofs.Counting.{first_status}
 use Rattle.smk_make.proofs.Current.{are_current}
-use Rattle.smk_make.proofs.Putting.{put_text}
 
 abbrev pub fails : Fault → Result (Unit {0}) Fault
 fails f = Err f
@@ -59,35 +58,23 @@ module _ (jobs : Jobs) (targets : List Path) (tally : Tally) (Current : List Boo
   closing_as : (r : Result (Unit {0}) Fault) (after : List Bool) (text : Text) → Current after → IsReport (is_whole r) (closing_text (is_current after) jobs.makers targets tally) text → IsClosing jobs targets tally Current r text
   closing_as r after text current report = inr (after, current, report)
 
-  written_as : (old new : Option Text) (first second : Type 0) (P Q : Text → Type 0) → (second → first) → ((t : Text) → P t → Q t) → HasWritten old new first P → HasWritten old new second Q
-  written_as old new first second P Q back more h = record {
-    told = λ now e. let k = h.told now e in (k.0, k.1, (k.2.0, more k.2.0 k.2.1, k.2.2));
-    stays = λ w. h.stays (back w);
-  }
-
   -- they were put, all of them or not
-  pub closed : (r : Result (Unit {0}) Fault) (after : List Bool) (old new : Option Text) → Current after → ((f : Fault) → r ≡ Err f → IsOfReport f) → HasPut old new (closing_text (is_current after) jobs.makers targets tally) (is_ok r)
-      → (is_output r ≡ false → IsSome old → IsSome new) → HasWritten old new (is_output r ≡ false) (IsClosing jobs targets tally Current r)
-  closed (Ok u) after old new current kind put stays =
+  pub closed : (r : Result (Unit {0}) Fault) (after : List Bool) (a b : Sunk) → Current after → ((f : Fault) → r ≡ Err f → IsOfReport f) → HasReported (IsReport (is_ok r) (closing_text (is_current after) jobs.makers targets tally)) a b (is_output r)
+      → HasReported (IsClosing jobs targets tally Current r) a b (is_output r)
+  closed (Ok u) after a b current kind told =
+      reported_as (IsReport true (closing_text (is_current after) jobs.makers targets tally)) (IsClosing jobs targets tally Current (Ok u)) a b false false refl (λ t report. closing_as (Ok u) after t current report) told
+  closed (Err f) after a b current kind told =
       let text = closing_text (is_current after) jobs.makers targets tally in
-      written_as old new (is_output (Ok u) ≡ false) (is_output (Ok u) ≡ false) (IsReport true text) (IsClosing jobs targets tally Current (Ok u)) (λ w. w) (λ t report. closing_as (Ok u) after t current report)
-      (put_text text true old new (is_output (Ok u) ≡ false) (λ w. refl) put)
-  closed (Err f) after old new current kind put stays =
-      let text = closing_text (is_current after) jobs.makers targets tally in
-      record {
-        told = λ now e.
-            let h = put.told now e in
-            (h.0, h.1, (take h.2.0 text, closing_as (fails f) after (take h.2.0 text) current (subst (λ b. IsReport b text (take h.2.0 text)) (sym (of_report_front f (kind f refl))) (drop h.2.0 text, sym (take-append-drop h.2.0 text))), h.2.3));
-        stays = stays;
-      }
+      reported_as (IsReport false text) (IsClosing jobs targets tally Current (fails f)) a b (is_output (fails f)) (is_output (fails f)) refl
+      (λ t front. closing_as (fails f) after t current (subst (λ x. IsReport x text t) (sym (of_report_front f (kind f refl))) front)) told
 
   no_memory : (u : Unit {0}) → ◌≡◌ {A = Result (Unit {0}) Fault} (Ok u) (Err fault.OutOfMemory) → ⊥
   no_memory u e = cc
 
   -- they were put, and the answer is a verdict
-  pub closed_by : (r cr : Result (Unit {0}) Fault) (u : Unit {0}) (old new : Option Text) → cr ≡ Ok u → IsVerdict r → HasWritten old new (is_output cr ≡ false) (IsClosing jobs targets tally Current cr) → HasWritten old new (is_output r ≡ false) (IsClosing jobs targets tally Current r)
-  closed_by r cr u old new is v h =
-      written_as old new (is_output cr ≡ false) (is_output r ≡ false) (IsClosing jobs targets tally Current cr) (IsClosing jobs targets tally Current r) (λ w. ap is_output is)
+  pub closed_by : (r cr : Result (Unit {0}) Fault) (u : Unit {0}) (a b : Sunk) → cr ≡ Ok u → IsVerdict r → HasReported (IsClosing jobs targets tally Current cr) a b (is_output cr) → HasReported (IsClosing jobs targets tally Current r) a b (is_output r)
+  closed_by r cr u a b is v h =
+      reported_as (IsClosing jobs targets tally Current cr) (IsClosing jobs targets tally Current r) a b (is_output cr) (is_output r) (ap is_output is ∙ sym v.output)
       (λ t closing. go t (subst (λ x. IsClosing jobs targets tally Current x t) is closing)) h
     where
       go : (t : Text) → IsClosing jobs targets tally Current (Ok u) t → IsClosing jobs targets tally Current r t
@@ -101,19 +88,13 @@ module _ (jobs : Jobs) (targets : List Path) (tally : Tally) (Current : List Boo
 
 -- ## The run and its last lines
 
-module _ (act : Act) (flow : Flow) (cores : ℕ) (targets : List Path) (jobs : Jobs) (first : Option ℕ) (duties : List Duty) (old new : Option World) (rose : Type 0) (running : List ℕ) where
-  abbrev pub Ran : Result Tally Fault → Option Text → Option Text → Type 0
-  Ran r po pn = HasRun act flow cores (due first duties jobs.jobs) (serials jobs.makers first duties) r old new rose running po pn
-
-  output_err : (r : Result Tally Fault) (f : Fault) → r ≡ Err f → is_output r ≡ is_output (fails f)
-  output_err r f is = ap is_output is
-
-  whole_err : (r : Result Tally Fault) (f : Fault) → r ≡ Err f → is_whole r ≡ is_whole (fails f)
-  whole_err r f is = ap is_whole is
+module _ (act : Act) (flow : Flow) (cores : ℕ) (targets : List Path) (jobs : Jobs) (first : Option ℕ) (duties : List Duty) (a b : Device) where
+  abbrev pub Ran : Result Tally Fault → Sunk → Sunk → Type 0
+  Ran r p q = HasRun act flow cores (due first duties jobs.jobs) (serials jobs.makers first duties) r a b p q
 
   -- the run itself has a fault
-  pub made_fault : (r : Result Tally Fault) (f : Fault) (po pn : Option Text) → r ≡ Err f → Ran r po pn → HasMade act flow cores targets jobs first duties (Err f) old new rose running po pn
-  made_fault r f po pn is h = record {
+  pub made_fault : (r : Result Tally Fault) (f : Fault) (p q : Sunk) → r ≡ Err f → Ran r p q → HasMade act flow cores targets jobs first duties (Err f) a b p q
+  made_fault r f p q is h = record {
     turns = h.turns;
     failed = h.failed;
     ended = Err f;
@@ -121,30 +102,24 @@ module _ (act : Act) (flow : Flow) (cores : ℕ) (targets : List Path) (jobs : J
     answer = subst (λ x. IsOutcome flow (due first duties jobs.jobs) h.turns h.failed x) is h.answer;
     concluded = refl;
     fits = h.fits;
-    did = h.did;
+    ran = h.ran;
     given = h.given;
-    text = record {
-      told = λ now e. let k = h.text.told now e in (k.0, k.1, (k.2.0, subst (λ b. IsReport b (report_of flow h.turns) k.2.0) (whole_err r f is) k.2.1, k.2.2));
-      stays = λ w. h.text.stays (output_err r f is ∙ w);
-    };
-    failed_rose = h.failed_rose;
-    none_runs = h.none_runs;
-    stays = h.stays;
+    text = subst (λ x. HasReported (IsReport (is_whole x) (report_of flow h.turns)) p q (is_output x)) is h.text;
   }
 
-  tally_of : (r : Result Tally Fault) (tally : Tally) (po pn : Option Text) → r ≡ Ok tally → (h : Ran r po pn) → (h.failed ≡ false) × IsTally flow (due first duties jobs.jobs) h.turns tally
-  tally_of r tally po pn is h = subst (λ x. IsOutcome flow (due first duties jobs.jobs) h.turns h.failed x) is h.answer
+  tally_of : (r : Result Tally Fault) (tally : Tally) (p q : Sunk) → r ≡ Ok tally → (h : Ran r p q) → (h.failed ≡ false) × IsTally flow (due first duties jobs.jobs) h.turns tally
+  tally_of r tally p q is h = subst (λ x. IsOutcome flow (due first duties jobs.jobs) h.turns h.failed x) is h.answer
 
-  pub job_failed : (r : Result Tally Fault) (tally : Tally) (po pn : Option Text) → r ≡ Ok tally → Ran r po pn → (f : Fault) → tally.first ≡ Some f → IsOfJob f
-  job_failed r tally po pn is h f e =
-      first_status flow h.turns f (sym (tally_of r tally po pn is h).1.first ∙ e)
+  pub job_failed : (r : Result Tally Fault) (tally : Tally) (p q : Sunk) → r ≡ Ok tally → Ran r p q → (f : Fault) → tally.first ≡ Some f → IsOfJob f
+  job_failed r tally p q is h f e = first_status flow h.turns f (sym (tally_of r tally p q is h).1.first ∙ e)
 
   -- the run came to its end, and its last lines were put or not
-  pub made_ok : (r : Result Tally Fault) (tally : Tally) (result : Result (Unit {0}) Fault) (po pm pn : Option Text) → length duties ≡ length jobs.befores → r ≡ Ok tally → Ran r po pm → Concludes (Ok tally) result
-      → HasWritten pm pn (is_output result ≡ false) (IsClosing jobs targets tally (IsAfter duties jobs.befores tally) result)
-      → HasMade act flow cores targets jobs first duties result old new rose running po pn
-  made_ok r tally result po pm pn each is h concluded closing =
-      let t = tally_of r tally po pm is h in
+  pub made_ok : (r : Result Tally Fault) (tally : Tally) (result : Result (Unit {0}) Fault) (p m q : Sunk) → length duties ≡ length jobs.befores → r ≡ Ok tally → Ran r p m → Concludes (Ok tally) result
+      → HasReported (IsClosing jobs targets tally (IsAfter duties jobs.befores tally) result) m q (is_output result)
+      → HasMade act flow cores targets jobs first duties result a b p q
+  made_ok r tally result p m q each is h concluded closing =
+      let t = tally_of r tally p m is h in
+      let lines : HasReported (IsReport true (report_of flow h.turns)) p m false = subst (λ x. HasReported (IsReport (is_whole x) (report_of flow h.turns)) p m (is_output x)) is h.text in
       record {
         turns = h.turns;
         failed = h.failed;
@@ -153,45 +128,33 @@ module _ (act : Act) (flow : Flow) (cores : ℕ) (targets : List Path) (jobs : J
         answer = t;
         concluded = concluded;
         fits = h.fits;
-        did = h.did;
+        ran = h.ran;
         given = h.given;
-        text = record {
-          told = λ now e.
-              let k = closing.told now e in
-              let l = h.text.told k.0 k.1 in (
-                l.0,
-                l.1,
-                (
-                  report_of flow h.turns ++ k.2.0,
-                  (
-                    k.2.0,
-                    refl,
-                    closing_by jobs targets tally (IsAfter duties jobs.befores tally) (AreCurrent jobs.befores duties h.turns) result k.2.0
-                        (λ after current. are_current flow cores (due first duties jobs.jobs) jobs.befores duties h.turns tally h.in_order t.1 after each current) k.2.1,
-                  ),
-                  k.2.2 ∙ ap (λ x. x ++ k.2.0) (l.2.2 ∙ ap (λ x. l.0 ++ x) (subst (λ b. IsReport b (report_of flow h.turns) l.2.0) (ap is_whole is) l.2.1)) ∙ append_assoc l.0 (report_of flow h.turns) k.2.0,
-                ),
-              );
-          stays = λ w some. closing.stays w (h.text.stays (ap is_output is) some);
-        };
-        failed_rose = h.failed_rose;
-        none_runs = h.none_runs;
-        stays = h.stays;
+        text = reported_then (IsReport true (report_of flow h.turns)) (IsClosing jobs targets tally (IsAfter duties jobs.befores tally) result) (IsText act flow cores targets jobs first duties h.turns (Ok tally) result) p m q (is_output result)
+            (λ x y one last. (
+              y,
+              ap (λ l. l ++ y) one,
+              closing_by jobs targets tally (IsAfter duties jobs.befores tally) (AreCurrent jobs.befores duties h.turns) result y
+                  (λ after current. are_current flow cores (due first duties jobs.jobs) jobs.befores duties h.turns tally h.in_order t.1 after each current) last,
+            )) lines closing;
       }
 
 pub of_error : (r : Result (Unit {0}) Fault) → IfErr r IsOfReport → (f : Fault) → r ≡ Err f → IsOfReport f
 of_error r h f is = subst (λ x. IfErr x IsOfReport) is h
 
--- ## What comes of it
+-- ## What is made once all is firm
 
-stays_by : (failed : Bool) (old new : Option World) (rose : Type 0) → (failed ≡ true → rose) → (failed ≡ false → IsSome old → IsSome new) → (IsSome old → IsSome new) ⊎ rose
-stays_by true old new rose bad well = inr (bad refl)
-stays_by false old new rose bad well = inl (well refl)
+pub goes_made : (act : Act) (flow : Flow) (cores : ℕ) (targets : List Path) (jobs : Jobs) (first : Option ℕ) (duties : List Duty) (r : Result (Unit {0}) Fault) (a b : Device) (p q : Sunk) (states : List State) (stored : List Known)
+    → first ≡ next_serial stored → AreFor states duties → AreWhatIsMeant jobs states stored duties → HasMade act flow cores targets jobs first duties r a b p q
+    → GoesOn act flow cores targets jobs states stored r a b p q (Ok tt)
+goes_made act flow cores targets jobs first duties r a b p q states stored is for meant h = Made tt duties for meant (subst (λ n. HasMade act flow cores targets jobs n duties r a b p q) is h)
 
-module _ (act : Act) (flow : Flow) (cores : ℕ) (targets : List Path) (jobs : Jobs) (first : Option ℕ) (duties : List Duty) (r : Result (Unit {0}) Fault) (old new : Option World) (rose : Type 0) (running : List ℕ) (po pn : Option Text) where
-  pub made_stays : HasMade act flow cores targets jobs first duties r old new rose running po pn → (IsSome old → IsSome new) ⊎ rose
-  made_stays h = stays_by h.failed old new rose h.failed_rose h.stays
+module _ (act : Act) (flow : Flow) (cores : ℕ) (targets : List Path) (jobs : Jobs) (states : List State) (stored : List Known) where
+  -- the marks and notes weren't made firm
+  pub not_firm : (settled : Result (Unit {0}) StoreFault) (f : StoreFault) (told : Fault) (a : Device) (p : Sunk) → settled ≡ Err f → told ≡ of_store f → GoesOn act flow cores targets jobs states stored (Err told) a a p p settled
+  not_firm settled f told a p is told_is = subst (GoesOn act flow cores targets jobs states stored (Err told) a a p p) (sym is) (NotFirm f (ap (λ x. Err x) told_is) refl refl)
 
-  pub goes_made : (states : List State) (stored : List Known) → first ≡ next_serial stored → AreFor states duties → AreWhatIsMeant jobs states stored duties → HasMade act flow cores targets jobs first duties r old new rose running po pn
-      → GoesOn act flow cores targets jobs states stored r old new rose running po pn (Ok tt)
-  goes_made states stored is for meant h = Made tt duties for meant (subst (λ n. HasMade act flow cores targets jobs n duties r old new rose running po pn) is h)
+  -- they were
+  pub with_settled : (result : Result (Unit {0}) Fault) (settled : Result (Unit {0}) StoreFault) (u : Unit {0}) (a b : Device) (p q : Sunk)
+      → settled ≡ Ok u → GoesOn act flow cores targets jobs states stored result a b p q (Ok tt) → GoesOn act flow cores targets jobs states stored result a b p q settled
+  with_settled result settled u a b p q is h = subst (GoesOn act flow cores targets jobs states stored result a b p q) (sym is) h

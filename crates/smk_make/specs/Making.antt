@@ -1,11 +1,14 @@
 -- What is done to make what was planned, and what of it is reported.
-use Rattle.std.specs.Prelude.{◌≡◌, ◌⊎◌, ℕ, Bool, true, false, List, [], ◌++◌, Option, Result, Ok, Err, IsSome}
-use Rattle.smk_world.specs.World.{World}
-use Rattle.smk_world.specs.Runs.{Did}
+use Rattle.std.specs.Prelude.{◌≡◌, ◌⊎◌, ℕ, Bool, List, [], ◌++◌, length, Option, None, Result, Ok, Err}
+use Rattle.std.specs.List.{zip}
+use Rattle.smk_world.specs.Devices.{Device, Sunk, HasActed, HasEnded}
 use Rattle.smk_world.specs.Trees.{Path, Act, Each}
 use Rattle.smk_flow.specs.Flows.{Flow}
 use Rattle.smk_chain.specs.declared.jobs.Jobs.{Jobs}
+use Rattle.smk_chain_walk.specs.Links.{AreLower}
+use Rattle.smk_format.specs.Refused.{command_fault}
 use Rattle.smk_store.specs.declared.fault.StoreFault.{StoreFault}
+use Rattle.smk_store.specs.Faults.{store_failed}
 use Rattle.smk_store.specs.Images.{Image}
 use Rattle.smk_store.specs.Loading.{IsStoreOf}
 use Rattle.smk_store.specs.Stores.{Known}
@@ -21,9 +24,10 @@ use Rattle.smk_plan.specs.declared.duty.Duty.{Duty}
 use Rattle.smk_run.specs.declared.tally.Tally.{Tally}
 use Rattle.smk_run.specs.Duties.{due, serials}
 use Rattle.smk_plan.specs.Duties.{AreFor}
-use Rattle.smk_run.specs.Statuses.{AreGiven}
+use Rattle.smk_plan.specs.Runnable.{AreRunnable}
+use Rattle.smk_run.specs.Statuses.{HasGiven}
 use Rattle.smk_run.specs.Turns.{Turn, AreTurns}
-use Rattle.smk_run.specs.Reports.{report_of, HasWritten, IsReport}
+use Rattle.smk_run.specs.Reports.{report_of, HasReported, IsReport}
 use Rattle.smk_run.specs.Runs.{AreInOrder, IsOutcome, Fits, is_whole, is_output}
 use Rattle.smk_make.specs.After.{AreCurrent}
 use Rattle.smk_make.specs.Closing.{is_current, closing_text, answer_of}
@@ -48,7 +52,7 @@ module _ (act : Act) (flow : Flow) (cores : ℕ) (targets : List Path) (jobs : J
       (last : Text) × (text ≡ report_of flow turns ++ last) × IsClosing jobs targets tally (AreCurrent jobs.befores duties turns) result last
 
   -- The jobs were run by these duties, one after another, and reported.
-  pub record HasMade (duties : List Duty) (result : Result (Unit {0}) Fault) (old new : Option World) (rose : Type 0) (running : List ℕ) (put_old put_new : Option Text) : Type 0 where
+  pub record HasMade (duties : List Duty) (result : Result (Unit {0}) Fault) (old new : Device) (out_old out_new : Sunk) : Type 0 where
     pub turns : List Turn
     -- a call of the device failed
     pub failed : Bool
@@ -58,13 +62,9 @@ module _ (act : Act) (flow : Flow) (cores : ℕ) (targets : List Path) (jobs : J
     pub answer : IsOutcome flow (due first duties jobs.jobs) turns failed ended
     pub concluded : Concludes ended result
     pub fits : Each Fits turns
-    pub did : Did act old new (AreTurns (serials jobs.makers first duties) turns)
-    -- each status that a wait told is the one that the command gives, or the count of failures rose
-    pub given : Did act old new (AreGiven act rose)
-    pub text : HasWritten put_old put_new (is_output result ≡ false) (IsText duties turns ended result)
-    pub failed_rose : failed ≡ true → rose
-    pub none_runs : failed ≡ false → running ≡ []
-    pub stays : failed ≡ false → IsSome old → IsSome new
+    pub ran : HasEnded act (AreTurns (serials jobs.makers first duties) turns) old new failed
+    pub given : HasGiven act old new
+    pub text : HasReported (IsText duties turns ended result) out_old out_new (is_output result)
 
 -- The duties are those that the states mean, where the store is that of the folder and the states are those of the table.
 abbrev pub AreWhatIsMeant : Jobs → List State → List Known → List Duty → Type 0
@@ -74,19 +74,28 @@ AreWhatIsMeant jobs states stored duties =
 
 module _ (act : Act) (flow : Flow) (cores : ℕ) (targets : List Path) (jobs : Jobs) (states : List State) (stored : List Known) where
   -- What comes once all marks and notes that were found are firm: the run; or nothing, where the device failed or memory was wanting.
-  pub data GoesOn (result : Result (Unit {0}) Fault) (old new : Option World) (rose : Type 0) (running : List ℕ) (put_old put_new : Option Text) : Result (Unit {0}) StoreFault → Type 0 where
-    NotFirm : (f : StoreFault) → result ≡ Err (of_store f) → new ≡ old → put_new ≡ put_old → GoesOn result old new rose running put_old put_new (Err f)
-    NoMemory : (u : Unit {0}) → result ≡ Err fault.OutOfMemory → new ≡ old → put_new ≡ put_old → GoesOn result old new rose running put_old put_new (Ok u)
+  pub data GoesOn (result : Result (Unit {0}) Fault) (old new : Device) (out_old out_new : Sunk) : Result (Unit {0}) StoreFault → Type 0 where
+    NotFirm : (f : StoreFault) → result ≡ Err (of_store f) → new ≡ old → out_new ≡ out_old → GoesOn result old new out_old out_new (Err f)
+    NoMemory : (u : Unit {0}) → result ≡ Err fault.OutOfMemory → new ≡ old → out_new ≡ out_old → GoesOn result old new out_old out_new (Ok u)
     Made :
         (u : Unit {0}) (duties : List Duty) →
         AreFor states duties →
         AreWhatIsMeant jobs states stored duties →
-        HasMade act flow cores targets jobs (next_serial stored) duties result old new rose running put_old put_new →
-        GoesOn result old new rose running put_old put_new (Ok u)
+        HasMade act flow cores targets jobs (next_serial stored) duties result old new out_old out_new → GoesOn result old new out_old out_new (Ok u)
 
   -- All marks and notes that were found are made firm, and then the jobs that must be run are run, and reported with these targets.
-  pub record HasCarriedOut (result : Result (Unit {0}) Fault) (old new : Option World) (rose : Type 0) (running : List ℕ) (put_old put_new : Option Text) : Type 0 where
+  pub record HasCarriedOut (result : Result (Unit {0}) Fault) (old new : Device) (out_old out_new : Sunk) : Type 0 where
     pub settled : Result (Unit {0}) StoreFault
-    pub firm : Option World
-    pub settling : Did act old firm (λ w es. HasTried (steady_requests stored) settled es)
-    pub goes_on : GoesOn result firm new rose running put_old put_new settled
+    -- the device once they are firm
+    pub firm : Device
+    pub settling : HasActed act (HasTried (steady_requests stored) settled) old firm (store_failed settled)
+    pub goes_on : GoesOn result firm new out_old out_new settled
+
+-- Jobs that can be made, whatever the folder is: they can be run, and come after those that they need; there is a state for each, and the commands of those that
+-- are to run have no fault.
+pub record IsFit (flow : Flow) (cores : ℕ) (jobs : Jobs) (with_states : List State) : Type 0 where
+  pub runnable : AreRunnable jobs
+  pub lower : AreLower 0 jobs.befores
+  pub befores : length jobs.befores ≡ length jobs.jobs
+  pub states : length with_states ≡ length jobs.jobs
+  pub commands : command_fault flow cores (zip jobs.jobs with_states) ≡ None

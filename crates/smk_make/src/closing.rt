@@ -1,8 +1,8 @@
 //! The last lines of a run: its targets, and how many jobs it had.
 
-ghost use Rattle.std.specs.Prelude.{◌≡◌, ◌++◌, IfOk, IfErr, OnOk, IsErr, IsSome, is_ok, string_bytes, true, false};
-ghost use Rattle.smk_world.specs.Calls.{HasPut, HasCause};
+ghost use Rattle.std.specs.Prelude.{◌≡◌, ◌++◌, IfOk, IfErr, OnOk, is_ok, string_bytes};
 ghost use Rattle.smk_report.specs.Lines.{target_line};
+ghost use Rattle.smk_run.specs.Reports.{HasReported, IsReport};
 ghost use Rattle.smk_run.specs.Runs.{is_output};
 ghost use Rattle.smk_run.specs.Stamps.{number_at};
 ghost use Rattle.smk_make.specs.Closing as spec;
@@ -12,7 +12,7 @@ use crate::makers::{number_of, numbers_of};
 use smk_base::{List, OutOfMemory, PathText, Text};
 use smk_chain::Maker;
 use smk_report::{Fault, summary_line, target_line};
-use smk_run::Tally;
+use smk_run::{Tally, write_out};
 use smk_world::{Failed, Sink};
 use std::alloc::Global;
 use std::collections::BTreeMap;
@@ -97,19 +97,9 @@ fn closing_text(
     text_by(alloc, &numbers, after, targets, tally)
 }
 
-// Puts the text, and hands it on.
-fn write_out<O: Sink>(out: &mut O, text: &str) -> Result<(), Failed>
-    ensures put { HasPut (O.put_so_far out.old) (O.put_so_far out.new) text.now (is_ok result) }
-    ensures cause { HasCause (O.faults out.old) (O.faults out.new) (IsErr result) }
-    ensures quiet { OnOk result (O.faults out.new ≡ O.faults out.old) }
-{
-    out.put(text.as_bytes())?;
-    out.flush()
-}
-
 /// Puts the lines of the targets and of the counts of a run, after which these jobs are current.
 ///
-/// `Output`: the sink failed. `OutOfMemory`: there is no memory for the lines; then nothing was put.
+/// `Output`: the sink failed, and a front of the lines was put. `OutOfMemory`: there is no memory for the lines; then nothing was put.
 pub(crate) fn close_report<O: Sink>(
     alloc: Global,
     makers: &[Maker],
@@ -118,10 +108,7 @@ pub(crate) fn close_report<O: Sink>(
     tally: &Tally,
     out: &mut O,
 ) -> Result<(), Fault>
-    ensures put { HasPut (O.put_so_far out.old) (O.put_so_far out.new) (spec.closing_text (spec.is_current after.now) makers.now targets.now tally.now) (is_ok result) }
-    ensures stays { is_output result ≡ false → IsSome (O.put_so_far out.old) → IsSome (O.put_so_far out.new) }
-    ensures cause { HasCause (O.faults out.old) (O.faults out.new) (is_output result ≡ true) }
-    ensures quiet { is_output result ≡ false → O.faults out.new ≡ O.faults out.old }
+    ensures told { HasReported (IsReport (is_ok result) (spec.closing_text (spec.is_current after.now) makers.now targets.now tally.now)) (O.sunk out.old) (O.sunk out.new) (is_output result) }
     ensures faults { IfErr result faults.IsOfReport }
 {
     let Ok(text) = closing_text(alloc, makers, after, targets.as_slice(), tally) else {

@@ -5,5 +5,7 @@ mod after;
 mod closing;
 mod makers;
 mod making;
+mod planned;
 
 pub use making::make;
+pub use planned::Planned;

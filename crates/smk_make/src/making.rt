@@ -1,20 +1,19 @@
 //! Jobs are run, and the run is reported.
 
-ghost use Rattle.std.specs.Prelude.{◌≡◌, ◌⊎◌, Some, None, Ok, [], zip, length, IfErr, IsSome, true, false};
-ghost use Rattle.smk_world.specs.Calls.{HasCause, Rose};
+ghost use Rattle.std.specs.Prelude.{◌≡◌, Some, Ok, [], length, IfErr, false};
 ghost use Rattle.smk_report.specs.declared.fault.Fault.{Fault as FaultValue};
 ghost use Rattle.smk_chain_walk.specs.Links.{AreLower};
-ghost use Rattle.smk_format.specs.Refused.{command_fault};
 ghost use Rattle.smk_plan.specs.Duties.{AreServable, IsOld};
 ghost use Rattle.smk_run.specs.Duties.{due};
-ghost use Rattle.smk_run.specs.Reports.{HasWritten};
+ghost use Rattle.smk_run.specs.Reports.{HasReported};
 ghost use Rattle.smk_plan.specs.Runnable.{AreRunnable};
 ghost use Rattle.smk_run.specs.Runs.{AreGood, is_device, is_output};
 ghost use Rattle.smk_make.specs.After.{IsAfter};
 ghost use Rattle.smk_make.specs.Closing as closing;
 ghost use Rattle.smk_make.specs.Faults as faults;
-ghost use Rattle.smk_make.specs.Making.{Concludes, IsClosing, HasMade, HasCarriedOut, GoesOn};
+ghost use Rattle.smk_make.specs.Making.{Concludes, IsClosing, IsFit, HasMade, HasCarriedOut, GoesOn};
 
+use crate::Planned;
 use crate::after::after_run;
 use crate::closing::close_report;
 use smk_base::{List, OutOfMemory, PathText};
@@ -23,9 +22,8 @@ use smk_flow::Workflow;
 use smk_plan::Duty;
 use smk_plan_duties::duties_of;
 use smk_report::Fault;
-use smk_run::{Tally, run_jobs};
-use smk_store::{Store, StoreFault, steady};
-use smk_trigger::State;
+use smk_run::{Agenda, Tally, run_jobs};
+use smk_store::{StoreFault, steady};
 use smk_world::{Crew, Sink};
 use std::alloc::Global;
 
@@ -49,11 +47,8 @@ fn report_end<O: Sink>(
     out: &mut O,
 ) -> Result<(), Fault>
     requires lower { AreLower 0 jobs.now.befores }
-    ensures text { HasWritten (O.put_so_far out.old) (O.put_so_far out.new) (is_output result ≡ false)
-        (IsClosing jobs.now targets.now tally.now (IsAfter duties.now jobs.now.befores tally.now) result) }
+    ensures told { HasReported (IsClosing jobs.now targets.now tally.now (IsAfter duties.now jobs.now.befores tally.now) result) (O.sunk out.old) (O.sunk out.new) (is_output result) }
     ensures faults { IfErr result faults.IsOfReport }
-    ensures output { HasCause (O.faults out.old) (O.faults out.new) (is_output result ≡ true) }
-    ensures quiet { is_output result ≡ false → O.faults out.new ≡ O.faults out.old }
 {
     let Ok(after) = after_run(alloc, duties.as_slice(), jobs.befores.as_slice(), tally) else {
         return Err(Fault::OutOfMemory);
@@ -80,11 +75,8 @@ fn conclude<O: Sink>(
     requires lower { AreLower 0 jobs.now.befores }
     requires job_failed { (f : FaultValue) → tally.first ≡ Some f → faults.IsOfJob f }
     ensures concluded { Concludes (Ok tally) result }
-    ensures text { HasWritten (O.put_so_far out.old) (O.put_so_far out.new) (is_output result ≡ false)
-        (IsClosing jobs.now targets.now tally (IsAfter duties.now jobs.now.befores tally) result) }
+    ensures told { HasReported (IsClosing jobs.now targets.now tally (IsAfter duties.now jobs.now.befores tally) result) (O.sunk out.old) (O.sunk out.new) (is_output result) }
     ensures no_device { is_device result ≡ false }
-    ensures output { HasCause (O.faults out.old) (O.faults out.new) (is_output result ≡ true) }
-    ensures quiet { is_output result ≡ false → O.faults out.new ≡ O.faults out.old }
 {
     match report_end(alloc, targets, jobs, duties, &tally, out) {
         Err(fault) => Err(fault),
@@ -98,28 +90,23 @@ fn run<W: Crew, O: Sink>(
     flow: &Workflow,
     targets: &List<PathText>,
     jobs: &Jobs,
-    duties: &List<Duty>,
-    first: Option<u64>,
+    agenda: &Agenda,
     cores: u64,
     work: &mut W,
     out: &mut O,
 ) -> Result<(), Fault>
-    requires none_runs { W.running work.old ≡ [] }
+    requires none_runs { (W.device work.old).running ≡ [] }
     requires runnable { AreRunnable jobs.now }
     requires lower { AreLower 0 jobs.now.befores }
-    requires each { length duties.now ≡ length jobs.now.befores }
-    requires positive { IsOld first 0 }
-    requires servable { AreServable first jobs.now duties.now }
-    requires good { AreGood flow.now cores (due first duties.now jobs.now.jobs) }
-    ensures made { HasMade W.act flow.now cores targets.now jobs.now first duties.now result (W.world work.old) (W.world work.new)
-        (Rose (W.faults work.old) (W.faults work.new)) (W.running work.new) (O.put_so_far out.old) (O.put_so_far out.new) }
-    ensures cause { HasCause (W.faults work.old) (W.faults work.new) (is_device result ≡ true) }
-    ensures output { HasCause (O.faults out.old) (O.faults out.new) (is_output result ≡ true) }
-    ensures quiet { is_output result ≡ false → O.faults out.new ≡ O.faults out.old }
+    requires each { length agenda.now.duties ≡ length jobs.now.befores }
+    requires positive { IsOld agenda.now.first 0 }
+    requires servable { AreServable agenda.now.first jobs.now agenda.now.duties }
+    requires good { AreGood flow.now cores (due agenda.now.first agenda.now.duties jobs.now.jobs) }
+    ensures { HasMade W.act flow.now cores targets.now jobs.now agenda.now.first agenda.now.duties result (W.device work.old) (W.device work.new) (O.sunk out.old) (O.sunk out.new) }
 {
-    match run_jobs(alloc, flow, jobs, duties, first, cores, work, out) {
+    match run_jobs(alloc, flow, jobs, agenda, cores, work, out) {
         Err(fault) => Err(fault),
-        Ok(tally) => conclude(alloc, targets, jobs, duties, tally, out),
+        Ok(tally) => conclude(alloc, targets, jobs, &agenda.duties, tally, out),
     }
 }
 
@@ -128,32 +115,22 @@ fn serve<W: Crew, O: Sink>(
     alloc: Global,
     flow: &Workflow,
     targets: &List<PathText>,
-    jobs: &Jobs,
-    states: &List<State>,
-    store: &Store,
+    plan: &Planned<'_>,
     cores: u64,
     work: &mut W,
     out: &mut O,
 ) -> Result<(), Fault>
-    requires none_runs { W.running work.old ≡ [] }
-    requires runnable { AreRunnable jobs.now }
-    requires lower { AreLower 0 jobs.now.befores }
-    requires befores { length jobs.now.befores ≡ length jobs.now.jobs }
-    requires states { length states.now ≡ length jobs.now.jobs }
-    requires good { command_fault flow.now cores (zip jobs.now.jobs states.now) ≡ None }
-    ensures goes_on { GoesOn W.act flow.now cores targets.now jobs.now states.now store.now result (W.world work.old) (W.world work.new)
-        (Rose (W.faults work.old) (W.faults work.new)) (W.running work.new) (O.put_so_far out.old) (O.put_so_far out.new) (Ok tt) }
-    ensures children { (W.running work.new ≡ []) ⊎ Rose (W.faults work.old) (W.faults work.new) }
-    ensures stays { (IsSome (W.world work.old) → IsSome (W.world work.new)) ⊎ Rose (W.faults work.old) (W.faults work.new) }
-    ensures cause { HasCause (W.faults work.old) (W.faults work.new) (is_device result ≡ true) }
-    ensures output { HasCause (O.faults out.old) (O.faults out.new) (is_output result ≡ true) }
-    ensures quiet { is_output result ≡ false → O.faults out.new ≡ O.faults out.old }
+    requires none_runs { (W.device work.old).running ≡ [] }
+    requires fit { IsFit flow.now cores plan.now.jobs.now plan.now.states.now }
+    ensures { GoesOn W.act flow.now cores targets.now plan.now.jobs.now plan.now.states.now plan.now.store.now result
+        (W.device work.old) (W.device work.new) (O.sunk out.old) (O.sunk out.new) (Ok tt) }
 {
-    let first = store.next_serial();
-    let Ok(duties) = duties_of(alloc, jobs, states, store, first) else {
+    let first = plan.store.next_serial();
+    let Ok(duties) = duties_of(alloc, plan.jobs, plan.states, plan.store, first) else {
         return Err(Fault::OutOfMemory);
     };
-    run(alloc, flow, targets, jobs, &duties, first, cores, work, out)
+    let agenda = Agenda { duties, first };
+    run(alloc, flow, targets, plan.jobs, &agenda, cores, work, out)
 }
 
 // The fault of what couldn't be made firm.
@@ -180,29 +157,18 @@ pub fn make<W: Crew, O: Sink>(
     alloc: Global,
     flow: &Workflow,
     targets: &List<PathText>,
-    jobs: &Jobs,
-    states: &List<State>,
-    store: &Store,
+    plan: &Planned<'_>,
     cores: u64,
     work: &mut W,
     out: &mut O,
 ) -> Result<(), Fault>
-    requires none_runs { W.running work.old ≡ [] }
-    requires runnable { AreRunnable jobs.now }
-    requires lower { AreLower 0 jobs.now.befores }
-    requires befores { length jobs.now.befores ≡ length jobs.now.jobs }
-    requires states { length states.now ≡ length jobs.now.jobs }
-    requires good { command_fault flow.now cores (zip jobs.now.jobs states.now) ≡ None }
-    ensures carried { HasCarriedOut W.act flow.now cores targets.now jobs.now states.now store.now result (W.world work.old) (W.world work.new)
-        (Rose (W.faults work.old) (W.faults work.new)) (W.running work.new) (O.put_so_far out.old) (O.put_so_far out.new) }
-    ensures children { (W.running work.new ≡ []) ⊎ Rose (W.faults work.old) (W.faults work.new) }
-    ensures stays { (IsSome (W.world work.old) → IsSome (W.world work.new)) ⊎ Rose (W.faults work.old) (W.faults work.new) }
-    ensures cause { HasCause (W.faults work.old) (W.faults work.new) (is_device result ≡ true) }
-    ensures output { HasCause (O.faults out.old) (O.faults out.new) (is_output result ≡ true) }
-    ensures quiet { is_output result ≡ false → O.faults out.new ≡ O.faults out.old }
+    requires none_runs { (W.device work.old).running ≡ [] }
+    requires fit { IsFit flow.now cores plan.now.jobs.now plan.now.states.now }
+    ensures { HasCarriedOut W.act flow.now cores targets.now plan.now.jobs.now plan.now.states.now plan.now.store.now result
+        (W.device work.old) (W.device work.new) (O.sunk out.old) (O.sunk out.new) }
 {
-    match steady(alloc, work, store) {
+    match steady(alloc, work, plan.store) {
         Err(fault) => Err(of_store(fault)),
-        Ok(()) => serve(alloc, flow, targets, jobs, states, store, cores, work, out),
+        Ok(()) => serve(alloc, flow, targets, plan, cores, work, out),
     }
 }

@@ -3,6 +3,7 @@
 
 mod duty;
 mod fault;
+mod naming;
 mod plan;
 mod seen;
 mod told;
@@ -10,6 +11,7 @@ mod wholes;
 
 pub use duty::Duty;
 pub use fault::{LookFault, PlanFault};
+pub use naming::name_of;
 pub use plan::Plan;
 pub use seen::{Seen, Sight};
 pub use told::{Loaded, Told};

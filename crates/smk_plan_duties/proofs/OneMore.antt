@@ -2,7 +2,7 @@
 use native.Mathlib.Omega.{arith}
 use Rattle.std.proofs.Common.{◌≡◌, ◌<◌, ◌+◌, ◌⊎◌, ℕ, zero, suc, Bool, true, false, ◌||◌, List, [], ◌∷◌, ◌++◌, length, inl, inr, refl, sym, ap, subst, ◌∙◌}
 use Rattle.std.specs.Prelude.{get_or, nat_eq}
-use Rattle.std.proofs.lemmas.Bool.{eqb-true, eq-eqb}
+use Rattle.std.proofs.lemmas.Bool.{eqb-true, eq-eqb, or_right}
 use Rattle.std.specs.List.{list_any}
 use Rattle.smk_world.specs.Trees.{IsIn}
 use Rattle.smk_plan_duties.specs.Needs.{Needs, Itself, Through, Says, AreEarlier, before_at, answer_at}
@@ -73,14 +73,10 @@ needs_now befores k n found told h = go (nat_eq n k) refl h
         let lt : one.0 < n = subst (λ l. one.0 < l) told.each (got_true found one.0 one.2) in
         Through n one.0 one.1 ((told.right one.0 lt).only_so one.2)
 
-or_true : (a b : Bool) → b ≡ true → a || b ≡ true
-or_true true b e = refl
-or_true false b e = e
-
 tells_now : (befores : List (List ℕ)) (k n : ℕ) (found : List Bool) → AreEarlier befores → AreTold befores k n found → Needs befores k n → answer_at found (before_at befores n) n k ≡ true
 tells_now befores k n found lower told Itself = ap (λ b. b || list_any (λ m. get_or found m false) (before_at befores n)) (same_eq n n refl)
 tells_now befores k n found lower told (Through _ m i needs) =
-    or_true (nat_eq n k) (list_any (λ j. get_or found j false) (before_at befores n)) (any_in (λ j. get_or found j false) (before_at befores n) m i ((told.right m (lower n m i)).if_so needs))
+    or_right (nat_eq n k) (list_any (λ j. get_or found j false) (before_at befores n)) (any_in (λ j. get_or found j false) (before_at befores n) m i ((told.right m (lower n m i)).if_so needs))
 
 same_or_less : (i n : ℕ) → i < suc n → (i < n) ⊎ (i ≡ n)
 same_or_less zero zero lt = inr refl

@@ -1,17 +1,17 @@
 //! The serials of records, and which of them are below others.
 
-ghost use Rattle.std.specs.Prelude.{◌≡◌, map, option_map};
-ghost use Rattle.std.specs.List.{flat_map, list_all};
-ghost use Rattle.smk_world.specs.Trees.{first};
+ghost use Rattle.std.specs.Prelude.{◌≡◌, option_map};
+ghost use Rattle.std.specs.List.{list_all};
 ghost use Rattle.smk_plan_duties.specs.Choosing.{is_job_below, is_kept_below, is_old, made_in, made_of};
 ghost use Rattle.smk_plan_duties.specs.Numbers.{are_item_below, is_input_at};
 
 use crate::numbers::number_of;
 use smk_base::PathText;
+use smk_chain::first_output;
 use smk_flow::Job;
 use smk_plan::Duty;
 use smk_store::{Entry, Kept, Store};
-use smk_world::{Item, OutItem};
+use smk_world::Item;
 use std::collections::BTreeMap;
 
 // The serial of the record that is known, where it reads.
@@ -28,23 +28,11 @@ fn made_in(entry: Option<&Entry>) -> Option<u64>
     }
 }
 
-// The first of the outputs.
-fn first_output(outputs: &[OutItem]) -> Option<&PathText>
-    ensures { option_map (λ p. p.now) result ≡ first (flat_map (λ item. map (λ out. out.path) item.outs) outputs.now) }
-{
-    for item in outputs {
-        if let Some(out) = item.outs.as_slice().first() {
-            return Some(&out.path);
-        }
-    }
-    None
-}
-
 /// The serial of the record of the job's first output.
 pub(crate) fn made_of(store: &Store, job: &Job) -> Option<u64>
     ensures { result ≡ made_of store.now job.now }
 {
-    match first_output(job.recipe.outputs.as_slice()) {
+    match first_output(job) {
         None => None,
         Some(path) => made_in(store.entry(path)),
     }

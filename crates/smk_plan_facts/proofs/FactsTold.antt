@@ -2,6 +2,7 @@
 use Rattle.std.proofs.Common.{◌≡◌, Bool, true, false, cond, ◌&&◌, ◌||◌, not, List, [], ◌∷◌, ◌++◌, map, Some, refl, sym, ap, ap₂, ◌∙◌, bytes_eq, arith}
 use Rattle.std.specs.Prelude.{is_some}
 use Rattle.std.specs.List.{list_any, list_all, find, filter, flat_map}
+use Rattle.std.proofs.lemmas.List.{map-append}
 use Rattle.smk_base.specs.Path.{is_under}
 use Rattle.smk_base.proofs.Places.{same_flipped}
 use Rattle.smk_world.specs.declared.recipe.Item.{Item}
@@ -24,7 +25,7 @@ use Rattle.smk_plan_facts.specs.declared.forced.Forcing.{Forcing}
 use Rattle.smk_plan_facts.specs.Facts.{facts_of, told_sources, HasOwnRecords, TellSources}
 use Rattle.smk_plan_facts.specs.Laws.{FactsAreSo}
 use Rattle.smk_plan_facts.specs.Telling.{kept_of, mark_of, copied, stamp_in, facts_in, forced_by, forced_in, has_path_texts, is_aimed, aims_at, Tells}
-use Rattle.smk_plan_facts.proofs.Tests.{map_all, map_each, map_both, map_twice, each_two, each_tested, paths_of_outs}
+use Rattle.smk_plan_facts.proofs.Tests.{map_all, map_each, map_twice, each_two, each_tested, paths_of_outs}
 use Rattle.smk_plan_facts.proofs.Outs.{any_items}
 use Rattle.smk_plan_facts.proofs.Stamped.{mark_is, copy_is, stamp_told, source_seen}
 
@@ -34,13 +35,13 @@ items_of_outs : {A : Type 0} (f : Path → A) (outputs : List OutItem) → flat_
 items_of_outs f [] = refl
 items_of_outs f (item ∷ outputs) =
     ap₂ ◌++◌ (sym (map_twice f (λ (o : Out). o.path) item.outs)) (items_of_outs f outputs)
-    ∙ sym (map_both f (map (λ (o : Out). o.path) item.outs) (flat_map (λ (i : OutItem). map (λ (o : Out). o.path) i.outs) outputs))
+    ∙ sym (map-append f (map (λ (o : Out). o.path) item.outs) (flat_map (λ (i : OutItem). map (λ (o : Out). o.path) i.outs) outputs))
 
 items_of_paths : {A : Type 0} (f : Path → A) (inputs : List Item) → flat_map (λ (item : Item). map f item.paths) inputs ≡ map f (flat_map (λ (item : Item). item.paths) inputs)
 items_of_paths f [] = refl
 items_of_paths f (item ∷ inputs) =
     ap (λ xs. map f item.paths ++ xs) (items_of_paths f inputs)
-    ∙ sym (map_both f item.paths (flat_map (λ (i : Item). i.paths) inputs))
+    ∙ sym (map-append f item.paths (flat_map (λ (i : Item). i.paths) inputs))
 
 -- ## Facts
 

@@ -1,8 +1,9 @@
 -- Directory outputs of a recipe, folders above paths, and sets that are filled by them.
-use Rattle.std.proofs.Common.{◌≡◌, ℕ, ◌≤◌, Bool, true, false, cond, ◌&&◌, ◌||◌, ◌==◌, List, [], ◌∷◌, ◌++◌, map, length, drop, refl, sym, ap, ◌∙◌, bytes_eq, arith}
+use Rattle.std.proofs.Common.{◌≡◌, ℕ, ◌≤◌, Bool, true, false, cond, ◌&&◌, ◌||◌, ◌==◌, List, [], ◌∷◌, map, length, drop, refl, sym, ap, ◌∙◌, bytes_eq, arith}
 use Rattle.std.specs.Prelude.{if◌then◌else◌}
 use Rattle.std.specs.List.{list_any, filter, flat_map}
 use Rattle.std.proofs.lemmas.List.{drop_all}
+use Rattle.std.proofs.lemmas.List.Folds.{list_any-append}
 use Rattle.smk_base.specs.Path.{is_under}
 use Rattle.smk_world.specs.declared.recipe.Out.{Out}
 use Rattle.smk_world.specs.declared.recipe.OutItem.{OutItem}
@@ -23,17 +24,9 @@ folder_among p (o ∷ outs) = go (is_folder_kind o.kind) (folder_among p outs)
     go true more = ap (λ b. bytes_eq p o.path || b) more
     go false more = more
 
-any_append : {A : Type 0} (test : A → Bool) (xs ys : List A) → list_any test (xs ++ ys) ≡ (list_any test xs || list_any test ys)
-any_append test [] ys = refl
-any_append test (x ∷ xs) ys = ap (λ b. test x || b) (any_append test xs ys) ∙ again (test x) (list_any test xs) (list_any test ys)
-  where
-    again : (a b c : Bool) → (a || (b || c)) ≡ ((a || b) || c)
-    again true b c = refl
-    again false b c = refl
-
 pub any_items : (test : Out → Bool) (items : List OutItem) → list_any (λ (item : OutItem). list_any test item.outs) items ≡ list_any test (flat_map (λ (item : OutItem). item.outs) items)
 any_items test [] = refl
-any_items test (item ∷ items) = ap (λ b. list_any test item.outs || b) (any_items test items) ∙ sym (any_append test item.outs (flat_map (λ (i : OutItem). i.outs) items))
+any_items test (item ∷ items) = ap (λ b. list_any test item.outs || b) (any_items test items) ∙ sym (list_any-append test item.outs (flat_map (λ (i : OutItem). i.outs) items))
 
 -- the recipe has a directory output at the path
 pub makes_folder : (p : Path) (r : Recipe) → list_any (makes_directory_at p) r.outputs ≡ among (folders_of r) p

@@ -3,8 +3,9 @@ use Rattle.std.proofs.Common.{◌≡◌, Bool, true, false, cond, ◌||◌, List
 use Rattle.std.specs.Prelude.{if◌then◌else◌, reverse, option_map}
 use Rattle.std.specs.List.{list_any, list_all, find, flat_map, zip}
 use Rattle.std.specs.Option.{option_or}
-use Rattle.std.proofs.lemmas.List.{reverse-append}
+use Rattle.std.proofs.lemmas.List.{reverse-append, map-append}
 use Rattle.std.proofs.lemmas.List.Folds.{find-append}
+pub use Rattle.std.proofs.lemmas.Option.{same_Some as some_same, none-some as none_some}
 use Rattle.smk_base.proofs.Places.{and_first, and_second, same_place, same_flipped}
 use Rattle.smk_base.proofs.Under.{never_both}
 use Rattle.smk_world.specs.declared.recipe.Out.{Out}
@@ -24,10 +25,6 @@ map_all f g same (x ∷ xs) = λ i. same x i ∷ map_all f g same xs i
 pub map_twice : {A B C : Type 0} (g : B → C) (f : A → B) (xs : List A) → map g (map f xs) ≡ map (λ x. g (f x)) xs
 map_twice g f [] = refl
 map_twice g f (x ∷ xs) = ap (λ ys. g (f x) ∷ ys) (map_twice g f xs)
-
-pub map_both : {A B : Type 0} (f : A → B) (xs ys : List A) → map f (xs ++ ys) ≡ map f xs ++ map f ys
-map_both f [] ys = refl
-map_both f (x ∷ xs) ys = ap (λ zs. f x ∷ zs) (map_both f xs ys)
 
 pub zip_map : {A B : Type 0} (f : A → B) (xs : List A) → map (λ x. (x, f x)) xs ≡ zip xs (map f xs)
 zip_map f [] = refl
@@ -94,12 +91,6 @@ find_path (p ∷ ps) q = go (bytes_eq q p) refl (find_path ps q)
         ap (λ b. cond b (Some p) (find (λ r. bytes_eq r q) ps)) (same_flipped p q ∙ e) ∙ more
         ∙ ap (λ b. if (b || among ps q) then Some q else None) (sym e)
 
-pub some_same : {A : Type 0} (x y : A) → Some x ≡ Some y → x ≡ y
-some_same x y e = cc
-
-pub none_some : {A : Type 0} (x : A) → None ≡ Some x → ⊥
-none_some x e = cc
-
 passes_if : {A : Type 0} (test : A → Bool) (y x : A) (o : Option A) (b : Bool) → test y ≡ b → cond b (Some y) o ≡ Some x → (o ≡ Some x → test x ≡ true) → test x ≡ true
 passes_if test y x o true t e more = ap test (sym (some_same y x e)) ∙ t
 passes_if test y x o false t e more = more e
@@ -124,4 +115,4 @@ pub paths_of_outs : (outputs : List OutItem) → flat_map (λ (item : OutItem). 
 paths_of_outs [] = refl
 paths_of_outs (item ∷ outputs) =
     ap (λ ps. map (λ (o : Out). o.path) item.outs ++ ps) (paths_of_outs outputs)
-    ∙ sym (map_both (λ (o : Out). o.path) item.outs (flat_map (λ (i : OutItem). i.outs) outputs))
+    ∙ sym (map-append (λ (o : Out). o.path) item.outs (flat_map (λ (i : OutItem). i.outs) outputs))

@@ -3,6 +3,8 @@ use Rattle.std.proofs.Common.{◌≡◌, ℕ, zero, suc, Bool, true, false, cond
 use Rattle.std.specs.Prelude.{if◌then◌else◌, option_map, is_some, nat_le}
 use Rattle.std.specs.List.{list_all, find, filter, flat_map}
 use Rattle.std.specs.Option.{option_and_then}
+use Rattle.std.proofs.lemmas.List.Concat.{flat_map-append}
+use Rattle.std.proofs.lemmas.List.{map-append}
 use lib.Pointwise.{pointwise}
 use Rattle.smk_base.specs.Path.{is_under}
 use Rattle.smk_base.proofs.Places.{and_first, and_second, same_place}
@@ -32,7 +34,7 @@ use Rattle.smk_plan_facts.specs.declared.directories.Directory.{Directory}
 use Rattle.smk_plan_facts.specs.Facts.{AreMade, HasOwnRecords, IsMade, NamesAll}
 use Rattle.smk_plan_facts.specs.Laws.{WholesAreSo}
 use Rattle.smk_plan_facts.specs.Telling.{are_recorded, directories_of, directory_at, directory_in, is_file_member, is_file_stat, is_folder_stat, is_made_by, is_made_in, is_member_in, is_output_in, is_plain_in, is_told_whole, is_whole_in, is_whole_sight, kept_of, member_names, nth, or_no_members, outputs_in, whole_at, wholes_in, IsSorted}
-use Rattle.smk_plan_facts.proofs.Tests.{each_among, each_map, each_of, each_found, find_map, find_passes, find_path, map_both, map_each, paths_of_outs}
+use Rattle.smk_plan_facts.proofs.Tests.{each_among, each_map, each_of, each_found, find_map, find_passes, find_path, map_each, paths_of_outs}
 use Rattle.smk_plan_facts.proofs.Stamped.{kept_is}
 use Rattle.smk_plan_facts.proofs.Members.{file_among}
 
@@ -88,7 +90,7 @@ rise_by p ms h =
 -- ## Outputs
 
 -- a file, by its node
-file_by : (n : Option Node) → is_file_stat (stat_of n) ≡ is_some (content_of n)
+pub file_by : (n : Option Node) → is_file_stat (stat_of n) ≡ is_some (content_of n)
 file_by None = refl
 file_by (Some DirectoryNode) = refl
 file_by (Some (Regular bytes time read_only)) = refl
@@ -169,21 +171,13 @@ directories_by store sights (o ∷ outs) = go (is_folder_kind o.kind) (directori
     go true more = ap (λ ds. directory_in store sights o.path ∷ ds) more
     go false more = more
 
-flat_append : {A B : Type 0} (f : A → List B) (xs ys : List A) → flat_map f (xs ++ ys) ≡ flat_map f xs ++ flat_map f ys
-flat_append f [] ys = refl
-flat_append f (x ∷ xs) ys = ap (λ zs. f x ++ zs) (flat_append f xs ys) ∙ sym (append_again (f x) (flat_map f xs) (flat_map f ys))
-  where
-    append_again : {B : Type 0} (xs ys zs : List B) → (xs ++ ys) ++ zs ≡ xs ++ (ys ++ zs)
-    append_again [] ys zs = refl
-    append_again (x ∷ xs) ys zs = ap (λ l. x ∷ l) (append_again xs ys zs)
-
 flat_items : {B : Type 0} (f : Out → List B) (items : List OutItem) → flat_map (λ (item : OutItem). flat_map f item.outs) items ≡ flat_map f (flat_map (λ (item : OutItem). item.outs) items)
 flat_items f [] = refl
-flat_items f (item ∷ items) = ap (λ zs. flat_map f item.outs ++ zs) (flat_items f items) ∙ sym (flat_append f item.outs (flat_map (λ (i : OutItem). i.outs) items))
+flat_items f (item ∷ items) = ap (λ zs. flat_map f item.outs ++ zs) (flat_items f items) ∙ sym (flat_map-append f item.outs (flat_map (λ (i : OutItem). i.outs) items))
 
 map_items : {B : Type 0} (f : Out → B) (items : List OutItem) → flat_map (λ (item : OutItem). map f item.outs) items ≡ map f (flat_map (λ (item : OutItem). item.outs) items)
 map_items f [] = refl
-map_items f (item ∷ items) = ap (λ zs. map f item.outs ++ zs) (map_items f items) ∙ sym (map_both f item.outs (flat_map (λ (i : OutItem). i.outs) items))
+map_items f (item ∷ items) = ap (λ zs. map f item.outs ++ zs) (map_items f items) ∙ sym (map-append f item.outs (flat_map (λ (i : OutItem). i.outs) items))
 
 directories_are : (store : List Known) (sights : List Sight) (j : Job) → directories_of store sights j ≡ map (directory_in store sights) (folders_of j.recipe)
 directories_are store sights j = flat_items (directory_at store sights) j.recipe.outputs ∙ directories_by store sights (outs_of j.recipe)

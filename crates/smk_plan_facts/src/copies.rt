@@ -31,8 +31,8 @@ fn member_again(alloc: Global, member: &Member) -> Result<Member, OutOfMemory>
     })
 }
 
-// A copy of the members.
-fn members_again(alloc: Global, members: &[Member]) -> Result<List<Member>, OutOfMemory>
+/// A copy of the members. `OutOfMemory` where there is no memory for it.
+pub fn members_again(alloc: Global, members: &[Member]) -> Result<List<Member>, OutOfMemory>
     ensures { IfOk result (λ copy. copy ≡ members.now) }
 {
     let mut copy = List::new(alloc);
@@ -63,8 +63,8 @@ fn record_again(alloc: Global, held: &Record) -> Result<Kept, OutOfMemory>
     Ok(kept_by(Record::new(path, held.made(), recipe, stamps, members)))
 }
 
-// A copy of what is kept; a record only where it is valid.
-fn kept_again(alloc: Global, kept: &Kept) -> Result<Kept, OutOfMemory>
+/// A copy of what is kept; a record only where it is valid. `OutOfMemory` where there is no memory for it.
+pub fn kept_again(alloc: Global, kept: &Kept) -> Result<Kept, OutOfMemory>
     ensures { IfOk result (λ copy. copy ≡ copied kept.now) }
 {
     match kept {

@@ -1,18 +1,19 @@
 //! Which jobs are forced.
 
-ghost use Rattle.std.specs.Prelude.{◌≡◌, ◌||◌, IfOk, OnOk, map, option_map};
-ghost use Rattle.std.specs.List.{list_any, flat_map};
+ghost use Rattle.std.specs.Prelude.{◌≡◌, ◌||◌, IfOk, OnOk};
+ghost use Rattle.std.specs.List.{list_any};
 ghost use Rattle.std.specs.BTreeSet.{contains_text};
 ghost use Rattle.smk_base.specs.Path.{is_under};
-ghost use Rattle.smk_world.specs.Trees.{Path, first, is_folder_kind};
-ghost use Rattle.smk_plan.specs.States.{by_force, job_path};
+ghost use Rattle.smk_world.specs.Trees.{Path, is_folder_kind};
+ghost use Rattle.smk_plan.specs.States.{by_force};
 ghost use Rattle.smk_plan_facts.specs.Telling.{aims, aims_at, forced_in, is_aimed, Tells};
 
-use crate::texts::{put, set_of};
 use smk_base::{List, OutOfMemory, PathText};
+use smk_chain::sets::{put, set_of};
 use smk_choose::folders_above;
 use smk_flow::Job;
 use smk_pick::{Force, Settings};
+use smk_plan::name_of;
 use smk_world::{Kind, Out, OutItem};
 use std::alloc::Global;
 use std::collections::BTreeSet;
@@ -60,28 +61,6 @@ fn all_above(alloc: Global, paths: &List<PathText>) -> Result<BTreeSet<String>, 
     Ok(set)
 }
 
-// The first of the outputs.
-fn first_output(outputs: &[OutItem]) -> Option<&PathText>
-    ensures { option_map (λ p. p.now) result ≡ first (flat_map (λ item. map (λ out. out.path) item.outs) outputs.now) }
-{
-    for item in outputs {
-        if let Some(out) = item.outs.as_slice().first() {
-            return Some(&out.path);
-        }
-    }
-    None
-}
-
-// The text of the first of the outputs; an empty one where there is none.
-fn name_of(job: &Job) -> &str
-    ensures { result.now ≡ job_path job.now }
-{
-    match first_output(job.recipe.outputs.as_slice()) {
-        Some(path) => path.as_str(),
-        None => "",
-    }
-}
-
 impl Forcing {
     /// What forces jobs by these settings, where the jobs with these first outputs have begun.
     pub(crate) fn of(
@@ -92,8 +71,8 @@ impl Forcing {
         ensures { IfOk result (Tells settings.now ran.now) }
     {
         let force = settings.force;
-        let ran = set_of(alloc, ran)?;
-        let targets = set_of(alloc, &settings.targets)?;
+        let ran = set_of(alloc, ran.as_slice())?;
+        let targets = set_of(alloc, settings.targets.as_slice())?;
         let above = all_above(alloc, &settings.targets)?;
         Ok(Forcing {
             force,

@@ -71,12 +71,8 @@ fn add_kept<T: Told>(
     Ok(())
 }
 
-/// What is kept of the outputs of these items, in their order; a record only where it is valid. `OutOfMemory` where there is no memory for it.
-pub fn kept_of<T: Told>(
-    alloc: Global,
-    told: &T,
-    outputs: &[OutItem],
-) -> Result<List<Kept>, OutOfMemory>
+// What is kept of the outputs of these items, in their order; a record only where it is valid.
+fn kept_of<T: Told>(alloc: Global, told: &T, outputs: &[OutItem]) -> Result<List<Kept>, OutOfMemory>
     ensures { IfOk result (λ kept. kept ≡ flat_map (λ item. map (copied_at (T.known told.now)) item.outs) outputs.now) }
 {
     let mut kept = List::new(alloc);
@@ -96,8 +92,8 @@ fn add_marks<T: Told>(marked: &mut List<bool>, told: &T, outs: &[Out]) -> Result
     Ok(())
 }
 
-/// Which outputs of these items are marked, in their order. `OutOfMemory` where there is no memory for the answer.
-pub fn marks_of<T: Told>(
+// Which outputs of these items are marked, in their order.
+fn marks_of<T: Told>(
     alloc: Global,
     told: &T,
     outputs: &[OutItem],
@@ -144,7 +140,31 @@ fn stamps_in<T: Told>(
     Ok(stamps)
 }
 
-// The facts of the job.
+/// The facts of the job, which is forced or not, where these are the paths that no job makes: its recipe, what is kept and marked of its outputs, and the stamps of
+/// its inputs now. `OutOfMemory` where there is no memory for them.
+pub fn own_facts<T: Told>(
+    alloc: Global,
+    told: &T,
+    sources: &BTreeSet<String>,
+    forced: bool,
+    job: &Job,
+) -> Result<JobFacts, OutOfMemory>
+    ensures { IfOk result (λ found. found ≡ facts_in (T.known told.now) (T.seen told.now) (contains_text sources.now) (λ k. forced) job.now) }
+{
+    let recipe = job.recipe.copied(alloc)?;
+    let kept = kept_of(alloc, told, job.recipe.outputs.as_slice())?;
+    let marked = marks_of(alloc, told, job.recipe.outputs.as_slice())?;
+    let stamps = stamps_in(alloc, told, sources, job.recipe.inputs.as_slice())?;
+    Ok(JobFacts {
+        recipe,
+        kept,
+        marked,
+        stamps,
+        forced,
+    })
+}
+
+// The facts of the job, forced or not as this tells.
 fn job_facts<T: Told>(
     alloc: Global,
     told: &T,
@@ -154,18 +174,7 @@ fn job_facts<T: Told>(
 ) -> Result<JobFacts, OutOfMemory>
     ensures { IfOk result (λ found. found ≡ facts_in (T.known told.now) (T.seen told.now) (contains_text sources.now) (forced_in forcing.now) job.now) }
 {
-    let recipe = job.recipe.copied(alloc)?;
-    let kept = kept_of(alloc, told, job.recipe.outputs.as_slice())?;
-    let marked = marks_of(alloc, told, job.recipe.outputs.as_slice())?;
-    let stamps = stamps_in(alloc, told, sources, job.recipe.inputs.as_slice())?;
-    let forced = forcing.is_forced(job);
-    Ok(JobFacts {
-        recipe,
-        kept,
-        marked,
-        stamps,
-        forced,
-    })
+    own_facts(alloc, told, sources, forcing.is_forced(job), job)
 }
 
 // The facts of the jobs.
@@ -216,6 +225,17 @@ pub fn facts_told<T: Told>(
 {
     see_jobs(jobs.jobs.as_slice());
     told_facts(alloc, jobs, told, settings, ran)
+}
+
+/// Which jobs are forced, as their facts tell. `OutOfMemory` where there is no memory for the answer.
+pub fn forced_of(alloc: Global, facts: &[JobFacts]) -> Result<List<bool>, OutOfMemory>
+    ensures { IfOk result (λ found. found ≡ map (λ f. f.forced) facts.now) }
+{
+    let mut found = List::new(alloc);
+    for one in facts {
+        found.push(one.forced)?;
+    }
+    Ok(found)
 }
 
 /// The facts of each job, in plan order: its recipe, what the store has of its outputs, the stamps of its inputs now, and whether it is forced, where the jobs

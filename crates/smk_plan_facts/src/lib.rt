@@ -9,10 +9,10 @@ mod forced;
 mod judged;
 mod known;
 mod stamps;
-mod texts;
 mod whole;
 
-pub use judged::{facts, facts_told, kept_of, marks_of};
+pub use copies::{kept_again, members_again};
+pub use judged::{facts, facts_told, forced_of, own_facts};
 pub use stamps::{sources_of, stamp_now};
 pub use whole::{wholes, wholes_told};
 

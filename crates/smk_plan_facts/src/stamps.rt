@@ -11,9 +11,9 @@ ghost use Rattle.smk_plan_facts.specs.Facts.{told_sources};
 ghost use Rattle.smk_plan_facts.specs.Telling.{is_directory_at, makes_directory_at, nearer, nearest, product_in, stamp_in, time_by, time_in, time_seen};
 
 use crate::known::{is_marked, record_at};
-use crate::texts::put;
 use smk_base::{List, OutOfMemory, PathText};
 use smk_chain::Maker;
+use smk_chain::sets::put;
 use smk_choose::folders_above;
 use smk_plan::{Sight, Told};
 use smk_record::{Record, Stamp};

@@ -16,23 +16,13 @@ use Rattle.smk_trigger.specs.Reasons.{own_reasons, when, reasons_of}
 use Rattle.smk_pick.specs.declared.settings.Settings.{Settings}
 use Rattle.smk_plan.specs.States.{Progress, is_forced, is_restored}
 use Rattle.smk_plan_facts.specs.Facts.{facts_of}
+use Rattle.smk_plan_facts.proofs.Tests.{map_twice}
 use Rattle.smk_plan_states.specs.Judged.{with_states, reasons_now}
-
-map_twice : {A B C : Type 0} (g : B → C) (f : A → B) (xs : List A) → map g (map f xs) ≡ map (λ x. g (f x)) xs
-map_twice g f [] = refl
-map_twice g f (x ∷ xs) = ap (λ ys. g (f x) ∷ ys) (map_twice g f xs)
+use Rattle.smk_plan_states.proofs.Tests.{and_true, and_false}
 
 zip_same : {A B : Type 0} (f : A → B) (xs : List A) → zip xs (map f xs) ≡ map (λ x. (x, f x)) xs
 zip_same f [] = refl
 zip_same f (x ∷ xs) = ap (λ ys. (x, f x) ∷ ys) (zip_same f xs)
-
-and_true : (b : Bool) → (b && true) ≡ b
-and_true true = refl
-and_true false = refl
-
-and_false : (b : Bool) → (b && false) ≡ false
-and_false true = refl
-and_false false = refl
 
 -- ## Marks that don't count
 

@@ -20,6 +20,7 @@ use Rattle.smk_plan.specs.States.{job_path, by_force, makes, test_some}
 use Rattle.smk_plan_facts.specs.Facts.{told_sources}
 use Rattle.smk_plan_facts.specs.Telling.{forced_by}
 use Rattle.smk_plan_states.specs.Served.{AreServed}
+use Rattle.smk_plan_states.proofs.Tests.{among_append}
 use Rattle.smk_plan_live.specs.declared.base.Base.{Base}
 use Rattle.smk_plan_live.specs.declared.sites.Site.{Site}
 use Rattle.smk_plan_live.specs.declared.phase.Phase.{Phase}
@@ -30,7 +31,7 @@ use Rattle.smk_plan_live.specs.Same.{AreSameBut, merged, renewed_from, renewed}
 use Rattle.smk_plan_live.specs.Lives.{IsSound, facts_now}
 use Rattle.smk_plan_live.specs.Carried.{has_name, turned, filled}
 use Rattle.smk_plan_live.proofs.Same.{renewed_are}
-use Rattle.smk_plan_live.proofs.Tables.{same_bytes, known_is, seen_is, among_parts}
+use Rattle.smk_plan_live.proofs.Tables.{same_bytes, known_is, seen_is}
 use Rattle.smk_plan_live.proofs.Restoring.{at_same, outs_are, site_has, one_name, zero_plus}
 
 -- ## Lists whose elements are replaced
@@ -168,16 +169,16 @@ begun_other (k ∷ jobs) [] n j q at other phase = refl
 begun_other (k ∷ jobs) (p ∷ phases) zero j q at other phase =
     let is : k ≡ j = cc in
     let away : bytes_eq q (job_path k) ≡ false = ap (λ (x : Job). bytes_eq q (job_path x)) is ∙ other in
-    among_parts (name_if (has_begun phase) k) (begun_in jobs phases) q ∙ ap (λ b. b || among (begun_in jobs phases) q) (gone (has_begun phase) away ∙ sym (gone (has_begun p) away))
-    ∙ sym (among_parts (name_if (has_begun p) k) (begun_in jobs phases) q)
+    among_append (name_if (has_begun phase) k) (begun_in jobs phases) q ∙ ap (λ b. b || among (begun_in jobs phases) q) (gone (has_begun phase) away ∙ sym (gone (has_begun p) away))
+    ∙ sym (among_append (name_if (has_begun p) k) (begun_in jobs phases) q)
   where
     gone : (b : Bool) → bytes_eq q (job_path k) ≡ false → among (name_if b k) q ≡ false
     gone true away = ap (λ x. x || false) away
     gone false away = refl
 begun_other (k ∷ jobs) (p ∷ phases) (suc n) j q at other phase =
-    among_parts (name_if (has_begun p) k) (begun_in jobs (slice_set phases n phase)) q
+    among_append (name_if (has_begun p) k) (begun_in jobs (slice_set phases n phase)) q
     ∙ ap (λ b. among (name_if (has_begun p) k) q || b) (begun_other jobs phases n j q at other phase)
-    ∙ sym (among_parts (name_if (has_begun p) k) (begun_in jobs phases) q)
+    ∙ sym (among_append (name_if (has_begun p) k) (begun_in jobs phases) q)
 
 -- the job that has begun is among them
 pub begun_here :
@@ -192,7 +193,7 @@ begun_here (k ∷ jobs) (p ∷ phases) zero j phase at here begun =
     ∙ ap (λ (x : Job). bytes_eq (job_path j) (job_path x) || among (begun_in jobs phases) (job_path j)) is
     ∙ ap (λ b. b || among (begun_in jobs phases) (job_path j)) (same_bytes (job_path j))
 begun_here (k ∷ jobs) (p ∷ phases) (suc n) j phase at here begun =
-    among_parts (name_if (has_begun p) k) (begun_in jobs phases) (job_path j)
+    among_append (name_if (has_begun p) k) (begun_in jobs phases) (job_path j)
     ∙ or_last (among (name_if (has_begun p) k) (job_path j)) (among (begun_in jobs phases) (job_path j)) (begun_here jobs phases n j phase at here begun)
   where
     or_last : (a b : Bool) → b ≡ true → (a || b) ≡ true

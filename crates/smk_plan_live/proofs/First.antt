@@ -18,6 +18,7 @@ use Rattle.smk_plan.specs.declared.seen.Sight.{Sight}
 use Rattle.smk_plan.specs.Sights.{IsSeenOf, IsSeenAs, IsSourceSeen, sight_at}
 use Rattle.smk_plan.specs.States.{test_some}
 use Rattle.smk_plan_facts.specs.Facts.{having_run}
+use Rattle.smk_plan_facts.proofs.Tests.{each_of}
 use Rattle.smk_plan_table.specs.Plans.{Agree, IsRefused, IsRefusedAt}
 use Rattle.smk_plan_live.specs.declared.base.Base.{Base}
 use Rattle.smk_plan_live.specs.declared.sites.Site.{Site}
@@ -27,6 +28,7 @@ use Rattle.smk_plan_live.specs.Now.{joined, row_by, row_at, entry_now, own_sight
 use Rattle.smk_plan_live.specs.Lives.{IsAgreed, IsRefusedNow, progress_of}
 use Rattle.smk_plan_live.specs.Changes.{IsFirst}
 use Rattle.smk_plan_live.proofs.Tables.{known_is, seen_is, own_seen}
+use Rattle.smk_plan_states.proofs.Tests.{and_true}
 
 -- ## Rows of nothing
 
@@ -51,14 +53,6 @@ none_run : (js : List Job) → children_in js (map (λ (j : Job). None) js) ≡ 
 none_run [] = refl
 none_run (j ∷ js) = none_run js
 
-and_all : (b : Bool) → (b && true) ≡ b
-and_all true = refl
-and_all false = refl
-
-each_as : {A : Type 0} (P Q : A → Type 0) → ((x : A) → P x → Q x) → (xs : List A) → Each P xs → Each Q xs
-each_as P Q g [] h = tt
-each_as P Q g (x ∷ xs) h = (g x h.0, each_as P Q g xs h.1)
-
 -- ## What the image has
 
 -- what an image has of a path is settled
@@ -66,12 +60,12 @@ settled_image : (image : Image) (q : Path) → settled false (entry_in image q) 
 settled_image image q = go (is_known image q) refl
   where
     same : entry_at image q ≡ record { kept = image.kept q; marked = image.marked q && true; noted = image.noted q }
-    same = λ i. record { kept = image.kept q; marked = sym (and_all (image.marked q)) i; noted = image.noted q }
+    same = λ i. record { kept = image.kept q; marked = sym (and_true (image.marked q)) i; noted = image.noted q }
 
     go : (b : Bool) → is_known image q ≡ b → settled false (if b then Some (entry_at image q) else None) ≡ (if b then Some (entry_at image q) else None)
     go true e =
         ap (λ (b : Bool). if b then Some (record { kept = image.kept q; marked = image.marked q && true; noted = image.noted q }) else None)
-        (ap (λ m. stands (image.kept q) || (m || image.noted q)) (and_all (image.marked q)) ∙ e)
+        (ap (λ m. stands (image.kept q) || (m || image.noted q)) (and_true (image.marked q)) ∙ e)
         ∙ ap Some (sym same)
     go false e = refl
 
@@ -103,9 +97,9 @@ module _ (b : Base) (jobs : Jobs) (store : List Known) (seen : List Sight) (f : 
   seen_so h =
       subst (λ (js : Jobs). IsSeenOf image js (seen_now b)) (sym f.now)
       (record {
-        outputs = each_as (λ (j : Job). Each (λ (o : Out). IsSeenAs image seen o.path) (outs_of j.recipe)) (λ (j : Job). Each (λ (o : Out). IsSeenAs image (seen_now b) o.path) (outs_of j.recipe))
-            (λ j. each_as (λ (o : Out). IsSeenAs image seen o.path) (λ (o : Out). IsSeenAs image (seen_now b) o.path) (λ o e. sight_first o.path ∙ e) (outs_of j.recipe)) jobs.jobs h.outputs;
-        sources = each_as (IsSourceSeen image seen) (IsSourceSeen image (seen_now b)) (λ m g none. sight_first m.path ∙ g none) jobs.makers h.sources;
+        outputs = each_of (λ (j : Job). Each (λ (o : Out). IsSeenAs image seen o.path) (outs_of j.recipe)) (λ (j : Job). Each (λ (o : Out). IsSeenAs image (seen_now b) o.path) (outs_of j.recipe))
+            (λ j. each_of (λ (o : Out). IsSeenAs image seen o.path) (λ (o : Out). IsSeenAs image (seen_now b) o.path) (λ o e. sight_first o.path ∙ e) (outs_of j.recipe)) jobs.jobs h.outputs;
+        sources = each_of (IsSourceSeen image seen) (IsSourceSeen image (seen_now b)) (λ m g none. sight_first m.path ∙ g none) jobs.makers h.sources;
       })
 
   -- what agrees with the store and with what was seen agrees with the plan that begins

@@ -1,5 +1,5 @@
 -- What was seen, as new jobs come.
-use Rattle.std.proofs.Common.{◌≡◌, suc, Bool, true, false, ◌||◌, List, [], ◌∷◌, ◌++◌, map, length, Option, Some, None, refl, sym, ap, ◌∙◌, bytes_eq}
+use Rattle.std.proofs.Common.{◌≡◌, Bool, true, false, ◌||◌, List, [], ◌∷◌, ◌++◌, map, Option, Some, None, refl, sym, ap, ◌∙◌, bytes_eq}
 use Rattle.std.specs.Prelude.{if◌then◌else◌}
 use Rattle.std.specs.Option.{option_or}
 use Rattle.smk_base.proofs.Places.{same_place}
@@ -9,7 +9,8 @@ use Rattle.smk_plan.specs.Sights.{sight_at}
 use Rattle.smk_plan_live.specs.declared.base.Base.{Base}
 use Rattle.smk_plan_live.specs.Carried.{told_upon, with_seen}
 use Rattle.smk_plan_live.specs.Lives.{IsSound}
-use Rattle.smk_plan_live.proofs.Tables.{flipped, left_none, right_none, not_seen, among_parts}
+use Rattle.smk_plan_live.proofs.Tables.{flipped, left_none, right_none, not_seen}
+use Rattle.smk_plan_states.proofs.Tests.{among_append}
 
 -- ## Sights that are kept at a path
 
@@ -55,7 +56,7 @@ last_sight (t ∷ ss) s q x = go (bytes_eq t.path q) (last_sight ss s q x)
 pub last_path : (ss : List Sight) (s : Sight) (came : List Path) (q : Path) →
     (among (map (λ (x : Sight). x.path) ss) q || among (came ++ s.path ∷ []) q) ≡ (among (map (λ (x : Sight). x.path) (ss ++ s ∷ [])) q || among came q)
 last_path [] s came q =
-    among_parts came (s.path ∷ []) q ∙ turn (among came q) (bytes_eq q s.path)
+    among_append came (s.path ∷ []) q ∙ turn (among came q) (bytes_eq q s.path)
   where
     turn : (a b : Bool) → (a || (b || false)) ≡ ((b || false) || a)
     turn true true = refl
@@ -90,10 +91,6 @@ no_later fresh before after q was is paths told none out =
     let both = sym paths ∙ out in
     told ∙ ap (λ o. option_or o was) (not_seen fresh q (left_none (among (map (λ (s : Sight). s.path) fresh) q) (among before q) both))
     ∙ none (right_none (among (map (λ (s : Sight). s.path) fresh) q) (among before q) both)
-
-pub map_length : {A B : Type 0} (f : A → B) (xs : List A) → length (map f xs) ≡ length xs
-map_length f [] = refl
-map_length f (x ∷ xs) = ap suc (map_length f xs)
 
 -- a base is sound whatever was seen as the plan began
 pub seen_sound : (b : Base) (seen : List Sight) → IsSound b → IsSound (with_seen seen b)

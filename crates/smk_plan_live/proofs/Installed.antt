@@ -1,6 +1,6 @@
 -- A plan that is kept, once what is new was put in.
 use Rattle.std.proofs.Common.{◌≡◌, ℕ, zero, suc, ◌<◌, Bool, true, false, List, [], ◌∷◌, map, length, Option, Some, None, option_map, refl, sym, ap, ap₂, subst, ◌∙◌, arith}
-use Rattle.std.specs.Prelude.{slice_index_or, Result, Ok, Err, IfOk, IfErr}
+use Rattle.std.specs.Prelude.{slice_index_or}
 use Rattle.std.specs.List.{list_all, slice_get}
 use Rattle.std.specs.BTreeSet.{contains_text}
 use Rattle.smk_base.proofs.Under.{never_both}
@@ -27,16 +27,6 @@ use Rattle.smk_plan_live.specs.Carried.{has_name, turned, filled}
 use Rattle.smk_plan_live.specs.Lives.{IsSound, IsSettled, IsNow, IsLive, AreJudgedBy, facts_now}
 use Rattle.smk_plan_live.proofs.Merged.{merged_map}
 use Rattle.smk_plan_live.proofs.Changed.{set_back, turned_sound, filled_sound, begun_facts, closed_facts}
-
--- ## Answers
-
-pub if_err_then : {A E : Type 0} (r : Result A E) (P Q : E → Type 0) → ((x : E) → P x → Q x) → IfErr r P → IfErr r Q
-if_err_then (Ok x) P Q f h = h
-if_err_then (Err e) P Q f h = f e h
-
-pub if_ok_both : {A E : Type 0} (r : Result A E) (P Q R : A → Type 0) → ((x : A) → P x → Q x → R x) → IfOk r P → IfOk r Q → IfOk r R
-if_ok_both (Ok x) P Q R f h g = f x h g
-if_ok_both (Err e) P Q R f h g = g
 
 -- ## Numbers of jobs
 

@@ -2,8 +2,9 @@
 use Rattle.std.proofs.Common.{◌≡◌, ◌⊎◌, inl, inr, ℕ, zero, suc, ◌+◌, Bool, true, false, cond, ◌&&◌, ◌||◌, not, ◌==◌, List, [], ◌∷◌, ◌++◌, map, Option, Some, None, option_map, refl, sym, ap, subst, ◌∙◌, bytes_eq, arith}
 use Rattle.std.specs.Prelude.{if◌then◌else◌}
 use Rattle.std.specs.List.{find, list_any, slice_get}
-use Rattle.std.proofs.lemmas.Bool.{eqb-true, eqb-false}
-use Rattle.smk_base.proofs.Places.{same_place}
+use Rattle.std.proofs.lemmas.Bool.{eqb-true, eqb-false, or_right}
+use Rattle.std.proofs.lemmas.Option.{same_Some, none-some}
+use Rattle.smk_base.proofs.Places.{same_place, and_first, and_second}
 use Rattle.smk_base.proofs.Under.{never_both, false_unless}
 use Rattle.smk_world.specs.declared.recipe.Out.{Out}
 use Rattle.smk_world.specs.declared.recipe.OutItem.{OutItem}
@@ -22,6 +23,7 @@ use Rattle.smk_plan.specs.States.{job_path, kept_state, is_restored, test_some}
 use Rattle.smk_plan.specs.Sights.{job_at}
 use Rattle.smk_plan_states.specs.Served.{AreApart, outputs_of}
 use Rattle.smk_plan_states.specs.Judged.{with_states}
+use Rattle.smk_plan_states.proofs.Tests.{and_false}
 use Rattle.smk_plan_live.specs.declared.base.Base.{Base}
 use Rattle.smk_plan_live.specs.declared.sites.Site.{Site}
 use Rattle.smk_plan_live.specs.declared.children.Child.{Child}
@@ -34,12 +36,6 @@ use Rattle.smk_plan_live.proofs.Same.{map_parts, outputs_apart}
 use Rattle.smk_plan_live.proofs.Tables.{same_bytes, flipped, known_is, mark_left, left_none, right_none}
 
 -- ## Lists and numbers
-
-some_in : {A : Type 0} (x y : A) → Some x ≡ Some y → x ≡ y
-some_in x y e = cc
-
-none_some : {A : Type 0} (x : A) → None ≡ Some x → ⊥
-none_some x e = absurd cc
 
 pub at_same : (js : List Job) (n : ℕ) → slice_get js n ≡ job_at js n
 at_same [] n = refl
@@ -64,29 +60,17 @@ any_at {A = A} test (x ∷ xs) h = go (test x) refl h (any_at test xs)
     go true e h more = (zero, x, refl, e)
     go false e h more = let r = more h in (suc r.0, r.1, r.2, r.3)
 
-and_left : (a b : Bool) → (a && b) ≡ true → a ≡ true
-and_left true b h = refl
-and_left false b h = h
-
-and_right : (a b : Bool) → (a && b) ≡ true → b ≡ true
-and_right true b h = h
-and_right false b h = absurd (never_both false h refl)
-
 pub outs_are : (r : Recipe) → out_paths r ≡ paths_in (outs_of r)
 outs_are r = map_parts (λ (o : Out). o.path) (λ (item : OutItem). item.outs) r.outputs
 
 -- ## Where outputs stand
-
-or_true : (a b : Bool) → b ≡ true → (a || b) ≡ true
-or_true true b h = refl
-or_true false b h = h
 
 outs_site : (n k : ℕ) (outs : List Out) (later : Option Site) (q : Path) (s : Site) → site_outs n k outs later q ≡ Some s → ((s.job ≡ n) × (among (paths_in outs) q ≡ true)) ⊎ (later ≡ Some s)
 outs_site n k [] later q s e = inr e
 outs_site n k (o ∷ outs) later q s e = go (bytes_eq o.path q) refl e (outs_site n (suc k) outs later q s)
   where
     later_too : ((s.job ≡ n) × (among (paths_in outs) q ≡ true)) ⊎ (later ≡ Some s) → ((s.job ≡ n) × ((bytes_eq q o.path || among (paths_in outs) q) ≡ true)) ⊎ (later ≡ Some s)
-    later_too (inl h) = inl (h.0, or_true (bytes_eq q o.path) (among (paths_in outs) q) h.1)
+    later_too (inl h) = inl (h.0, or_right (bytes_eq q o.path) (among (paths_in outs) q) h.1)
     later_too (inr h) = inr h
 
     go :
@@ -94,12 +78,12 @@ outs_site n k (o ∷ outs) later q s e = go (bytes_eq o.path q) refl e (outs_sit
         (site_outs n (suc k) outs later q ≡ Some s → ((s.job ≡ n) × (among (paths_in outs) q ≡ true)) ⊎ (later ≡ Some s)) →
         ((s.job ≡ n) × ((bytes_eq q o.path || among (paths_in outs) q) ≡ true)) ⊎ (later ≡ Some s)
     go true same e more =
-        inl (ap (λ (x : Site). x.job) (sym (some_in (record { job = n; place = k }) s e)), ap (λ b. b || among (paths_in outs) q) (flipped q o.path ∙ same))
+        inl (ap (λ (x : Site). x.job) (sym (same_Some (record { job = n; place = k }) s e)), ap (λ b. b || among (paths_in outs) q) (flipped q o.path ∙ same))
     go false same e more = later_too (more e)
 
 -- the site of a path is of a job that has it as an output
 pub site_has : (k : ℕ) (jobs : List Job) (q : Path) (s : Site) → site_in k jobs q ≡ Some s → (m : ℕ) × (j : Job) × (s.job ≡ k + m) × (slice_get jobs m ≡ Some j) × (among (out_paths j.recipe) q ≡ true)
-site_has k [] q s e = absurd (none_some s e)
+site_has k [] q s e = absurd (none-some s e)
 site_has k (j ∷ jobs) q s e = go (outs_site k 0 (outs_of j.recipe) (site_in (suc k) jobs q) q s e) (site_has (suc k) jobs q s)
   where
     go :
@@ -133,10 +117,10 @@ outs_found n k (o ∷ outs) later q h = go (bytes_eq o.path q) refl (outs_found 
     go false e more = more (sym (ap (λ b. b || among (paths_in outs) q) (flipped q o.path ∙ e)) ∙ h)
 
 pub site_found : (k : ℕ) (jobs : List Job) (m : ℕ) (j : Job) (q : Path) → slice_get jobs m ≡ Some j → among (out_paths j.recipe) q ≡ true → (t : Site) × (site_in k jobs q ≡ Some t)
-site_found k [] m j q at h = absurd (none_some j at)
+site_found k [] m j q at h = absurd (none-some j at)
 site_found k (x ∷ jobs) zero j q at h =
     outs_found k 0 (outs_of x.recipe) (site_in (suc k) jobs q) q
-    (sym (ap (λ ps. among ps q) (outs_are x.recipe)) ∙ ap (λ (y : Job). among (out_paths y.recipe) q) (some_in x j at) ∙ h)
+    (sym (ap (λ ps. among ps q) (outs_are x.recipe)) ∙ ap (λ (y : Job). among (out_paths y.recipe) q) (same_Some x j at) ∙ h)
 site_found k (x ∷ jobs) (suc m) j q at h =
     let r = site_found (suc k) jobs m j q at h in
     subst (λ o. (t : Site) × (site_outs k 0 (outs_of x.recipe) o q ≡ Some t)) (sym r.1) (outs_later k 0 (outs_of x.recipe) q r.0)
@@ -172,10 +156,10 @@ pub kept_at :
     (jobs : List Job) (began : List (Option State)) (m : ℕ) (j : Job) → slice_get jobs m ≡ Some j →
     ((i : ℕ) (k : Job) → slice_get jobs i ≡ Some k → bytes_eq (job_path k) (job_path j) ≡ true → i ≡ m) →
     pair_state (running_in jobs began) (job_path j) ≡ joined (slice_get began m)
-kept_at [] began m j at unique = absurd (none_some j at)
+kept_at [] began m j at unique = absurd (none-some j at)
 kept_at (k ∷ jobs) [] m j at unique = refl
 kept_at (k ∷ jobs) (b ∷ began) zero j at unique =
-    named_here k j b (children_in jobs began) (some_in k j at)
+    named_here k j b (children_in jobs began) (same_Some k j at)
     (named_none jobs began (job_path j) (λ i x here. false_unless (bytes_eq (job_path x) (job_path j)) (λ e. zero_suc i (unique (suc i) x here e))))
 kept_at (k ∷ jobs) (b ∷ began) (suc m) j at unique =
     named_later k b (children_in jobs began) (job_path j) (false_unless (bytes_eq (job_path k) (job_path j)) (λ e. zero_suc m (sym (unique zero k refl e))))
@@ -205,7 +189,7 @@ module _ (b : Base) (sound : IsSound b) (apart : AreApart (outputs_of b.jobs.job
   never_empty : (m : ℕ) (j : Job) → slice_get b.jobs.jobs m ≡ Some j → among (out_paths j.recipe) [] ≡ true → ⊥
   never_empty m j at h =
       let r = site_found 0 b.jobs.jobs m j [] at h in
-      none_some (r.0) (sym sound.unnamed ∙ sound.sited [] ∙ r.1)
+      none-some (r.0) (sym sound.unnamed ∙ sound.sited [] ∙ r.1)
 
   -- no other job has the name of one with an output
   pub one_name :
@@ -226,7 +210,7 @@ module _ (b : Base) (sound : IsSound b) (apart : AreApart (outputs_of b.jobs.job
   restored_so : (image : Image) (settings : Settings) (q : Path) → is_restored image settings (progress_of b) (with_states b.jobs []) q ≡ true → restored_now b q ≡ true
   restored_so image settings q h =
       let r = any_at (λ j. test_some is_restore (kept_state image settings (progress_of b) (with_states b.jobs []) j) && among (out_paths j.recipe) q) b.jobs.jobs h in
-      of r.0 r.1 r.2 (and_left _ _ r.3) (and_right _ _ r.3)
+      of r.0 r.1 r.2 (and_first _ _ r.3) (and_second _ _ r.3)
     where
       of :
           (m : ℕ) (j : Job) → slice_get b.jobs.jobs m ≡ Some j → test_some is_restore (kept_state image settings (progress_of b) (with_states b.jobs []) j) ≡ true →
@@ -240,13 +224,9 @@ module _ (b : Base) (sound : IsSound b) (apart : AreApart (outputs_of b.jobs.job
 
 -- ## No mark is known there
 
-and_never : (b : Bool) → (b && false) ≡ false
-and_never true = refl
-and_never false = refl
-
 no_mark : (e : Option Entry) (restored : Bool) → restored ≡ true → test_some (λ (x : Entry). x.marked) (settled restored e) ≡ false
 no_mark None restored is = refl
-no_mark (Some x) restored is = sym (mark_left restored x) ∙ ap (λ b. x.marked && not b) is ∙ and_never x.marked
+no_mark (Some x) restored is = sym (mark_left restored x) ∙ ap (λ b. x.marked && not b) is ∙ and_false x.marked
 
 mark_known : (image : Image) (q : Path) (e : Option Entry) (restored : Bool) → restored ≡ true → settled restored e ≡ entry_in image q → image.marked q ≡ false
 mark_known image q e restored is same = go (is_known image q) refl

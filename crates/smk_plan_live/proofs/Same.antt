@@ -2,9 +2,10 @@
 use Rattle.std.proofs.Common.{◌≡◌, ℕ, zero, suc, ◌+◌, ◌<◌, Bool, true, false, not, ◌&&◌, ◌||◌, ◌==◌, List, [], ◌∷◌, ◌++◌, map, length, drop, Option, Some, None, refl, sym, ap, ap₂, subst, ◌∙◌, arith, inl, inr, bytes_eq}
 use Rattle.std.specs.Prelude.{if◌then◌else◌, is_some, ◌⊎◌}
 use Rattle.std.specs.List.{list_any, flat_map}
-use Rattle.std.proofs.lemmas.List.{drop_more}
+use Rattle.std.proofs.lemmas.List.{drop_more, map-append}
 use Rattle.std.proofs.Math.ListN.{get_or}
-use Rattle.std.proofs.lemmas.Bool.{eqb-true, eqb-false, eq-eqb}
+use Rattle.std.proofs.lemmas.Bool.{eqb-true, eqb-false, eq-eqb, or_parts}
+use Rattle.std.proofs.lemmas.List.Folds.{list_any-append}
 use Rattle.smk_base.specs.Path.{is_under, is_at_or_under, overlaps}
 use Rattle.smk_base.proofs.Places.{same_place, place_itself}
 use Rattle.smk_base.proofs.Under.{never_both, false_unless, or_first, or_second, or_cases, at_itself, at_when_under, both_true}
@@ -25,30 +26,15 @@ use Rattle.smk_trigger.specs.declared.facts.JobFacts.{JobFacts}
 use Rattle.smk_plan.specs.declared.seen.Sight.{Sight}
 use Rattle.smk_plan.specs.Sights.{job_at}
 use Rattle.smk_plan_facts.specs.Telling.{kept_of, mark_of, copied, copied_at, marked_at, stamp_by, nearer, nearest, time_or, time_seen, stamp_in, facts_in}
+use Rattle.smk_plan_facts.proofs.Tests.{map_twice, map_each}
 use Rattle.smk_plan_states.specs.Served.{AreApart, outputs_of}
 use Rattle.smk_plan_live.specs.Same.{paths_in, is_over, is_user, AreSameBut, or_old, merged, restamp, restamped, user_facts, renewed_of, renewed_from, renewed}
 
 -- ## Lists
 
-or_none : (a b : Bool) → (a || b) ≡ false → (a ≡ false) × (b ≡ false)
-or_none true b h = absurd (never_both true refl h)
-or_none false b h = (refl, h)
-
 each_not : {A : Type 0} (test : A → Bool) (xs : List A) → list_any test xs ≡ false → Each (λ x. test x ≡ false) xs
 each_not test [] h = tt
-each_not test (x ∷ xs) h = let r = or_none (test x) (list_any test xs) h in (r.0, each_not test xs r.1)
-
-map_append : {A B : Type 0} (f : A → B) (xs ys : List A) → map f (xs ++ ys) ≡ map f xs ++ map f ys
-map_append f [] ys = refl
-map_append f (x ∷ xs) ys = ap (λ zs. f x ∷ zs) (map_append f xs ys)
-
-map_twice : {A B C : Type 0} (g : B → C) (f : A → B) (xs : List A) → map g (map f xs) ≡ map (λ x. g (f x)) xs
-map_twice g f [] = refl
-map_twice g f (x ∷ xs) = ap (λ ys. g (f x) ∷ ys) (map_twice g f xs)
-
-map_each : {A B : Type 0} (f g : A → B) (xs : List A) → Each (λ x. f x ≡ g x) xs → map f xs ≡ map g xs
-map_each f g [] h = refl
-map_each f g (x ∷ xs) h = ap₂ (λ y ys. y ∷ ys) h.0 (map_each f g xs h.1)
+each_not test (x ∷ xs) h = let r = or_parts (test x) (list_any test xs) h in (r.0, each_not test xs r.1)
 
 each_mapped : {A B : Type 0} (P : B → Type 0) (f : A → B) (xs : List A) → Each P (map f xs) → Each (λ x. P (f x)) xs
 each_mapped P f [] h = tt
@@ -57,20 +43,12 @@ each_mapped P f (x ∷ xs) h = (h.0, each_mapped P f xs h.1)
 -- what is made of each element of each part is what is made of all elements
 pub map_parts : {A B C : Type 0} (f : B → C) (part : A → List B) (xs : List A) → flat_map (λ x. map f (part x)) xs ≡ map f (flat_map part xs)
 map_parts f part [] = refl
-map_parts f part (x ∷ xs) = ap (λ ys. map f (part x) ++ ys) (map_parts f part xs) ∙ sym (map_append f (part x) (flat_map part xs))
-
-any_append : {A : Type 0} (test : A → Bool) (xs ys : List A) → list_any test (xs ++ ys) ≡ (list_any test xs || list_any test ys)
-any_append test [] ys = refl
-any_append test (x ∷ xs) ys = ap (λ b. test x || b) (any_append test xs ys) ∙ again (test x) (list_any test xs) (list_any test ys)
-  where
-    again : (a b c : Bool) → (a || (b || c)) ≡ ((a || b) || c)
-    again true b c = refl
-    again false b c = refl
+map_parts f part (x ∷ xs) = ap (λ ys. map f (part x) ++ ys) (map_parts f part xs) ∙ sym (map-append f (part x) (flat_map part xs))
 
 -- an element of one of the parts passes where one of all elements does
 pub any_parts : {A B : Type 0} (test : B → Bool) (part : A → List B) (xs : List A) → list_any (λ x. list_any test (part x)) xs ≡ list_any test (flat_map part xs)
 any_parts test part [] = refl
-any_parts test part (x ∷ xs) = ap (λ b. list_any test (part x) || b) (any_parts test part xs) ∙ sym (any_append test (part x) (flat_map part xs))
+any_parts test part (x ∷ xs) = ap (λ b. list_any test (part x) || b) (any_parts test part xs) ∙ sym (list_any-append test (part x) (flat_map part xs))
 
 pub stamps_by : (f : Path → Option Stamp) (r : Recipe) → flat_map (λ (item : Item). map f item.paths) r.inputs ≡ map f (in_paths r)
 stamps_by f r = map_parts f (λ (item : Item). item.paths) r.inputs

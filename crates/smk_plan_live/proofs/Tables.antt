@@ -1,6 +1,6 @@
 -- What is known and was seen now, by a function of paths and as lists.
 use Rattle.std.proofs.Common.{◌≡◌, Bool, true, false, cond, not, ◌&&◌, ◌||◌, List, [], ◌∷◌, ◌++◌, map, Option, Some, None, is_some, refl, sym, ap, ◌∙◌, string_bytes, bytes_eq}
-use Rattle.std.specs.Prelude.{if◌then◌else◌, String, Result, Ok, Err, IfOk}
+use Rattle.std.specs.Prelude.{if◌then◌else◌, String}
 use Rattle.std.specs.Global.{Global}
 use Rattle.std.specs.List.{list_any}
 use Rattle.std.specs.Option.{option_or}
@@ -23,6 +23,7 @@ use Rattle.smk_plan.specs.States.{test_some}
 use Rattle.smk_plan_live.specs.declared.base.Base.{Base}
 use Rattle.smk_plan_live.specs.declared.sites.Site.{Site}
 use Rattle.smk_plan_live.specs.Now.{row_at, own_sight, seen_before, sight_now, is_left, settled, settled_now, restored_now, known_one, known_table, seen_one, seen_table, output_names, known_now, seen_now}
+use Rattle.smk_plan_states.proofs.Tests.{among_append}
 
 -- ## Texts
 
@@ -72,14 +73,6 @@ sight_of f own (x ∷ qs) q out = go (bytes_eq q x) refl (sight_of f own qs q)
 
 -- ## What stands in no list
 
-pub among_parts : (xs ys : List Path) (q : Path) → among (xs ++ ys) q ≡ (among xs q || among ys q)
-among_parts [] ys q = refl
-among_parts (x ∷ xs) ys q = ap (λ (b : Bool). bytes_eq q x || b) (among_parts xs ys q) ∙ again (bytes_eq q x) (among xs q) (among ys q)
-  where
-    again : (a b c : Bool) → (a || (b || c)) ≡ ((a || b) || c)
-    again true b c = refl
-    again false b c = refl
-
 pub left_none : (a b : Bool) → (a || b) ≡ false → a ≡ false
 left_none true b h = absurd cc
 left_none false b h = refl
@@ -115,7 +108,7 @@ no_site b q h = no_key b.sites.entries q h
 nothing_known : (b : Base) (q : Path) → among (output_names b ++ map (λ (k : Known). k.path) b.store) q ≡ false → settled_now b q ≡ None
 nothing_known b q h =
     let stored = map (λ (k : Known). k.path) b.store in
-    let both = sym (among_parts (output_names b) stored q) ∙ h in
+    let both = sym (among_append (output_names b) stored q) ∙ h in
     let site = no_site b q (left_none (among (output_names b) q) (among stored q) both) in
     let entry = not_stored b.store q (right_none (among (output_names b) q) (among stored q) both) in
     ap (settled (restored_now b q)) (ap (λ (s : Option Site). row_at b.entries s (entry_of b.store q)) site ∙ entry)
@@ -127,8 +120,8 @@ nothing_seen : (b : Base) (q : Path) → among (output_names b ++ (texts_of (key
 nothing_seen b q h =
     let seen = map (λ (s : Sight). s.path) b.seen in
     let later = texts_of (keys b.later) in
-    let both = sym (among_parts (output_names b) (later ++ seen) q) ∙ h in
-    let rest = sym (among_parts later seen q) ∙ right_none (among (output_names b) q) (among (later ++ seen) q) both in
+    let both = sym (among_append (output_names b) (later ++ seen) q) ∙ h in
+    let rest = sym (among_append later seen q) ∙ right_none (among (output_names b) q) (among (later ++ seen) q) both in
     let site = no_site b q (left_none (among (output_names b) q) (among (later ++ seen) q) both) in
     let late : get_by_text b.later q ≡ None = no_key b.later.entries q (left_none (among later q) (among seen q) rest) in
     let sight = not_seen b.seen q (right_none (among later q) (among seen q) rest) in
@@ -169,10 +162,6 @@ some_left restored e = go (is_left restored e)
     go : (b : Bool) → b ≡ is_some {T = Entry} (if b then Some (record { kept = e.kept; marked = e.marked && not restored; noted = e.noted }) else None)
     go true = refl
     go false = refl
-
-pub if_ok_then : {A E : Type 0} (r : Result A E) (P Q : A → Type 0) → ((x : A) → P x → Q x) → IfOk r P → IfOk r Q
-if_ok_then (Ok x) P Q f h = f x h
-if_ok_then (Err e) P Q f h = h
 
 -- a path isn't the empty text
 pub never_empty : (p : Path) → is_path p ≡ true → bytes_eq p [] ≡ false

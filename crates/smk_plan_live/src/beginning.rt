@@ -10,9 +10,9 @@ ghost use Rattle.smk_plan_live.specs.Changes.{HasBegun};
 
 use crate::base::Base;
 use crate::children::state_again;
-use crate::made::first_output;
 use crate::next::next_of;
 use crate::{LivePlan, Phase};
+use smk_chain::first_output;
 use smk_flow::Job;
 use smk_plan::PlanFault;
 use smk_trigger::{Plain, State};
@@ -32,7 +32,7 @@ fn has_output(jobs: &[Job], number: usize) -> bool
 {
     match jobs.get(number) {
         None => false,
-        Some(job) => first_output(job.recipe.outputs.as_slice()).is_some(),
+        Some(job) => first_output(job).is_some(),
     }
 }
 

@@ -10,14 +10,15 @@ ghost use Rattle.smk_plan_live.specs.Carried.{copied_entry, if_first, origin, or
 use crate::Phase;
 use crate::base::Base;
 use crate::children::state_if_any;
-use crate::copies::{kept_again, sight_if_any};
-use crate::made::first_output;
+use crate::copies::sight_if_any;
 use crate::now::{entry_now, sight_now, site_of};
 use crate::outs::out_paths_in;
 use crate::slots::Slots;
 use smk_base::{OutOfMemory, PathText};
+use smk_chain::first_output;
 use smk_flow::Job;
 use smk_plan::Sight;
+use smk_plan_facts::kept_again;
 use smk_store::Entry;
 use smk_trigger::State;
 use std::alloc::Global;
@@ -98,7 +99,7 @@ fn number_of(base: &Base, path: &PathText) -> Option<usize>
 fn origin(base: &Base, job: &Job) -> Option<usize>
     ensures { result ≡ origin base.now job.now }
 {
-    match first_output(job.recipe.outputs.as_slice()) {
+    match first_output(job) {
         None => None,
         Some(path) => number_of(base, path),
     }

@@ -6,9 +6,9 @@ ghost use Rattle.smk_plan.specs.States.{job_path};
 ghost use Rattle.smk_plan_live.specs.Phases.{child_in, children_in, named_state};
 
 use crate::judged::reasons_again;
-use crate::made::name_of;
 use smk_base::{List, OutOfMemory, Text};
 use smk_flow::Job;
+use smk_plan::name_of;
 use smk_trigger::State;
 use std::alloc::Global;
 

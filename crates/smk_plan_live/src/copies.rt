@@ -1,77 +1,14 @@
-//! Copies of what is kept of a path.
+//! Copies of what is kept and was seen of paths.
 
 ghost use Rattle.std.specs.Prelude.{◌≡◌, map, option_map, IfOk};
-ghost use Rattle.smk_plan_facts.specs.Telling.{copied, held_by};
+ghost use Rattle.smk_plan_facts.specs.Telling.{copied};
 
 use smk_base::{Copied, List, OutOfMemory};
 use smk_plan::Sight;
-use smk_record::{Member, Record, Stamp};
+use smk_plan_facts::{kept_again, members_again};
+use smk_record::Member;
 use smk_store::Kept;
 use std::alloc::Global;
-
-// A copy of the stamps.
-fn stamps_again(alloc: Global, stamps: &[Stamp]) -> Result<List<Stamp>, OutOfMemory>
-    ensures { IfOk result (λ copy. copy ≡ stamps.now) }
-{
-    let mut copy = List::new(alloc);
-    for stamp in stamps {
-        copy.push(*stamp)?;
-    }
-    Ok(copy)
-}
-
-// A copy of the member.
-fn member_again(alloc: Global, member: &Member) -> Result<Member, OutOfMemory>
-    ensures { IfOk result (λ copy. copy ≡ member.now) }
-{
-    Ok(Member {
-        folder: member.folder,
-        name: member.name.copied(alloc)?,
-    })
-}
-
-// A copy of the members.
-fn members_again(alloc: Global, members: &[Member]) -> Result<List<Member>, OutOfMemory>
-    ensures { IfOk result (λ copy. copy ≡ members.now) }
-{
-    let mut copy = List::new(alloc);
-    for member in members {
-        copy.push(member_again(alloc, member)?)?;
-    }
-    Ok(copy)
-}
-
-// What is kept where the record is this one.
-fn kept_by(found: Option<Record>) -> Kept
-    ensures { result ≡ held_by found }
-{
-    match found {
-        None => Kept::Unreadable,
-        Some(found) => Kept::Held(found),
-    }
-}
-
-// A copy of the record, where it is valid.
-fn record_again(alloc: Global, held: &Record) -> Result<Kept, OutOfMemory>
-    ensures { IfOk result (λ kept. kept ≡ copied (Kept.Held held.now)) }
-{
-    let path = held.path().copied(alloc)?;
-    let recipe = held.recipe().copied(alloc)?;
-    let stamps = stamps_again(alloc, held.stamps().as_slice())?;
-    let members = members_again(alloc, held.members().as_slice())?;
-    Ok(kept_by(Record::new(path, held.made(), recipe, stamps, members)))
-}
-
-/// A copy of what is kept; a record only where it is valid.
-pub(crate) fn kept_again(alloc: Global, kept: &Kept) -> Result<Kept, OutOfMemory>
-    ensures { IfOk result (λ copy. copy ≡ copied kept.now) }
-{
-    match kept {
-        Kept::Absent => Ok(Kept::Absent),
-        Kept::Unreadable => Ok(Kept::Unreadable),
-        Kept::Held(record) => record_again(alloc, record),
-    }
-}
 
 /// A copy of what is kept of each path; a record only where it is valid.
 pub(crate) fn all_kept_again(alloc: Global, kept: &[Kept]) -> Result<List<Kept>, OutOfMemory>

@@ -49,17 +49,6 @@ pub(crate) fn all_again(
     Ok(copy)
 }
 
-/// Which jobs are forced.
-pub(crate) fn forced_of(alloc: Global, facts: &[JobFacts]) -> Result<List<bool>, OutOfMemory>
-    ensures { IfOk result (λ found. found ≡ map (λ f. f.forced) facts.now) }
-{
-    let mut found = List::new(alloc);
-    for one in facts {
-        found.push(one.forced)?;
-    }
-    Ok(found)
-}
-
 // What the judge says of the facts, where there are new ones.
 fn judge_one<J: Judge>(
     alloc: Global,

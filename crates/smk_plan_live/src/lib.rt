@@ -11,7 +11,6 @@ mod growing;
 mod judged;
 mod later;
 mod live;
-mod made;
 mod new;
 mod next;
 mod now;

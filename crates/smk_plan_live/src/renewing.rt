@@ -1,11 +1,10 @@
 //! The facts that are told anew once what is known and seen has changed at the outputs of one job.
 
-ghost use Rattle.std.specs.Prelude.{◌≡◌, ◌++◌, false, drop, map, IfOk, OnOk};
+ghost use Rattle.std.specs.Prelude.{◌≡◌, ◌++◌, false, drop, IfOk, OnOk};
 ghost use Rattle.std.specs.List.{list_any, flat_map};
 ghost use Rattle.std.specs.BTreeSet.{contains_text};
 ghost use Rattle.smk_base.specs.Path.{is_at_or_under};
 ghost use Rattle.smk_world.specs.Trees.{outs_of};
-ghost use Rattle.smk_plan_facts.specs.Telling.{stamp_in, facts_in};
 ghost use Rattle.smk_plan_live.specs.Same.{is_over, is_user, restamp, restamped, user_facts, renewed_of, renewed_from};
 
 use crate::copies::{all_kept_again, flags_again};
@@ -13,7 +12,7 @@ use crate::outs::outs_in;
 use smk_base::{Copied, List, OutOfMemory, PathText};
 use smk_flow::Job;
 use smk_plan::Told;
-use smk_plan_facts::{kept_of, marks_of, stamp_now};
+use smk_plan_facts::{own_facts, stamp_now};
 use smk_record::Stamp;
 use smk_trigger::JobFacts;
 use smk_world::{Item, Out};
@@ -68,62 +67,6 @@ fn is_user(outs: &[Out], job: &Job) -> bool
     ensures { result ≡ is_user outs.now job.now }
 {
     any_item_over(outs, job.recipe.inputs.as_slice())
-}
-
-// Adds the stamps of these paths.
-fn add_stamps<T: Told>(
-    alloc: Global,
-    stamps: &mut List<Option<Stamp>>,
-    told: &T,
-    sources: &BTreeSet<String>,
-    paths: &[PathText],
-) -> Result<(), OutOfMemory>
-    ensures { OnOk result (stamps.new ≡ stamps.old ++ map (stamp_in (T.known told.now) (T.seen told.now) (contains_text sources.now)) paths.now) }
-{
-    for path in paths {
-        let stamp = stamp_now(alloc, told, sources, path)?;
-        stamps.push(stamp)?;
-    }
-    Ok(())
-}
-
-// The stamps of the inputs of these items.
-fn stamps_in<T: Told>(
-    alloc: Global,
-    told: &T,
-    sources: &BTreeSet<String>,
-    inputs: &[Item],
-) -> Result<List<Option<Stamp>>, OutOfMemory>
-    ensures { IfOk result (λ stamps. stamps ≡ flat_map (λ item. map (stamp_in (T.known told.now) (T.seen told.now) (contains_text sources.now)) item.paths) inputs.now) }
-{
-    let mut stamps = List::new(alloc);
-    for item in inputs {
-        add_stamps(alloc, &mut stamps, told, sources, item.paths.as_slice())?;
-    }
-    Ok(stamps)
-}
-
-// All that a job is judged by, told anew.
-fn own_facts<T: Told>(
-    alloc: Global,
-    told: &T,
-    sources: &BTreeSet<String>,
-    forced: bool,
-    job: &Job,
-) -> Result<JobFacts, OutOfMemory>
-    ensures { IfOk result (λ found. found ≡ facts_in (T.known told.now) (T.seen told.now) (contains_text sources.now) (λ k. forced) job.now) }
-{
-    let recipe = job.recipe.copied(alloc)?;
-    let kept = kept_of(alloc, told, job.recipe.outputs.as_slice())?;
-    let marked = marks_of(alloc, told, job.recipe.outputs.as_slice())?;
-    let stamps = stamps_in(alloc, told, sources, job.recipe.inputs.as_slice())?;
-    Ok(JobFacts {
-        recipe,
-        kept,
-        marked,
-        stamps,
-        forced,
-    })
 }
 
 // The stamp of the path, told anew where it is one of the outputs or lies under one.

@@ -9,8 +9,8 @@ ghost use Rattle.smk_plan_live.specs.Lives.{AreJudgedBy, IsNow, IsRefusedNow, Ar
 use crate::Phase;
 use crate::base::Base;
 use crate::children::kept_states;
-use crate::made::first_output;
 use smk_base::{List, OutOfMemory, PathText};
+use smk_chain::first_output;
 use smk_flow::Job;
 use smk_pick::Settings;
 use smk_plan::{Plan, PlanFault, Wholes};
@@ -52,7 +52,7 @@ fn has_begun(phase: Phase) -> bool
 fn push_name(alloc: Global, found: &mut List<PathText>, job: &Job) -> Result<(), OutOfMemory>
     ensures { OnOk result (found.new ≡ found.old ++ job_path job.now ∷ []) }
 {
-    let Some(path) = first_output(job.recipe.outputs.as_slice()) else {
+    let Some(path) = first_output(job) else {
         return Err(OutOfMemory);
     };
     found.push(path.copy(alloc)?)

@@ -1,15 +1,14 @@
 -- Paths that are looked at one after another.
-use Rattle.std.proofs.Common.{◌≡◌, List, [], ◌∷◌, ◌++◌, refl, sym, ap, subst, ◌∙◌, Result, Err}
-use Rattle.std.specs.Prelude.{IsErrOf}
+use Rattle.std.proofs.Common.{◌≡◌, List, [], ◌∷◌, ◌++◌, refl, sym, ap, subst, ◌∙◌, Err}
 use Rattle.smk_world.specs.declared.event.WorkFault.{WorkFault}
 use Rattle.smk_world.specs.declared.event.WorkFault.TheVariants.{Failed, OutOfMemory}
+use Rattle.smk_world.specs.Calls.{device_failed}
 use Rattle.smk_world.specs.Trees.{Path, Each}
 use Rattle.smk_store_members.specs.Members.{Nodes}
 use Rattle.smk_store_members.proofs.Lists.{each_both}
 use Rattle.smk_plan.specs.declared.seen.Sight.{Sight}
 use Rattle.smk_plan.specs.declared.fault.LookFault.{LookFault}
-use Rattle.smk_plan.specs.declared.fault.LookFault.TheVariants.{Device}
-use Rattle.smk_plan_look.specs.Seeing.{IsSightOf, are_paths, look_fault}
+use Rattle.smk_plan_look.specs.Seeing.{IsSightOf, are_paths, look_fault, look_failed}
 
 paths_append : (sights : List Sight) (s : Sight) → are_paths (sights ++ s ∷ []) ≡ are_paths sights ++ s.path ∷ []
 paths_append [] s = refl
@@ -26,16 +25,6 @@ sight_pushed a b sights new s path pushed is same told each =
 
 -- ## Faults
 
-pub device_of : {T U : Type 0} (r : Result T WorkFault) (s : Result U LookFault) (fault : WorkFault) → r ≡ Err fault → s ≡ Err (look_fault fault) → IsErrOf s Device → IsErrOf r Failed
-device_of r s Failed is given h = is
-device_of r s OutOfMemory is given h = absurd (wrong h)
-  where
-    wrong : s ≡ Err Device → ⊥
-    wrong k = cc
-
-pub failed_of : {T U : Type 0} (r : Result T WorkFault) (s : Result U LookFault) (fault : WorkFault) → r ≡ Err fault → s ≡ Err (look_fault fault) → IsErrOf r Failed → IsErrOf s Device
-failed_of r s Failed is given h = given
-failed_of r s OutOfMemory is given h = absurd (wrong h)
-  where
-    wrong : r ≡ Err Failed → ⊥
-    wrong k = cc
+pub failed_as : (T U : Type 0) (fault : WorkFault) (f : LookFault) → f ≡ look_fault fault → device_failed {T = T} (Err fault) ≡ look_failed {T = U} (Err f)
+failed_as T U Failed f is = sym (ap (λ (x : LookFault). look_failed {T = U} (Err x)) is)
+failed_as T U OutOfMemory f is = sym (ap (λ (x : LookFault). look_failed {T = U} (Err x)) is)

@@ -1,5 +1,5 @@
 -- What looks at a path tell of it.
-use Rattle.std.specs.Prelude.{◌≡◌, Bool, true, false, List, map, Option, Some, None}
+use Rattle.std.specs.Prelude.{◌≡◌, Bool, true, false, List, map, Option, Some, None, Result, Ok, Err}
 use Rattle.smk_base.specs.Path.{is_at_or_under}
 use Rattle.smk_world.specs.declared.event.Stat.{Stat}
 use Rattle.smk_world.specs.declared.event.Stat.TheVariants.{Nothing as NoStat, File as FileStat, Folder as FolderStat}
@@ -70,3 +70,9 @@ are_paths sights = map (λ (s : Sight). s.path) sights
 abbrev pub look_fault : WorkFault → LookFault
 look_fault Failed = Device
 look_fault OutOfMemory = NoMemory
+
+-- the device failed
+abbrev pub look_failed : {T : Type 0} → Result T LookFault → Bool
+look_failed (Ok t) = false
+look_failed (Err Device) = true
+look_failed (Err NoMemory) = false

@@ -1,9 +1,10 @@
 //! Read-only files under a folder.
 
-ghost use Rattle.std.specs.Prelude.{◌≡◌, ◌++◌, ◌∷◌, [], true, Some, IsErrOf, IfOk};
-ghost use Rattle.smk_world.specs.World.{World, reads_folder};
+ghost use Rattle.std.specs.Prelude.{◌≡◌, ◌++◌, ◌∷◌, [], true, IfOk};
+ghost use Rattle.smk_world.specs.World.{reads_folder};
+ghost use Rattle.smk_world.specs.Calls.{device_failed};
+ghost use Rattle.smk_world.specs.Devices.{HasLooked, WhereTold};
 ghost use Rattle.smk_world.specs.Trees.{Path};
-ghost use Rattle.smk_store.specs.Walking.{HasLooked};
 ghost use Rattle.smk_store_members.specs.Steps.{Either};
 ghost use Rattle.smk_store_members.specs.Disk.{IsTree};
 ghost use Rattle.smk_plan.specs.Sights.{is_tellable};
@@ -32,8 +33,8 @@ fn note<W: Files>(
     place: Place,
     folder: bool,
 ) -> Result<bool, WorkFault>
-    ensures looked { HasLooked W.act (W.world work.old) (W.world work.new) (W.faults work.old) (W.faults work.new) (W.running work.old) (W.running work.new) (IsErrOf result WorkFault.Failed) }
-    ensures told { IfOk result (λ found. (w : World) → W.world work.old ≡ Some w → IsTree w → IsNoted w.nodes place folder waiting.old waiting.new found) }
+    ensures looked { HasLooked W.act (W.device work.old) (W.device work.new) (device_failed result) }
+    ensures told { IfOk result (λ found. WhereTold (W.device work.old) (λ w. IsTree w → IsNoted w.nodes place folder waiting.old waiting.new found)) }
 {
     if folder {
         waiting.push(place)?;
@@ -50,9 +51,9 @@ fn look_in<W: Files>(
     waiting: &mut List<Place>,
     folder: &Place,
 ) -> Result<bool, WorkFault>
-    ensures looked { HasLooked W.act (W.world work.old) (W.world work.new) (W.faults work.old) (W.faults work.new) (W.running work.old) (W.running work.new) (IsErrOf result WorkFault.Failed) }
-    ensures told { IfOk result (λ found. (w : World) → W.world work.old ≡ Some w → IsTree w → (p : Path) → AreWaiting w.nodes p (waiting.old ++ folder.now ∷ [])
-        → Either found (HasGuard w.nodes p) (AreWaiting w.nodes p waiting.new)) }
+    ensures looked { HasLooked W.act (W.device work.old) (W.device work.new) (device_failed result) }
+    ensures told { IfOk result (λ found. WhereTold (W.device work.old) (λ w. IsTree w → (p : Path) → AreWaiting w.nodes p (waiting.old ++ folder.now ∷ [])
+        → Either found (HasGuard w.nodes p) (AreWaiting w.nodes p waiting.new))) }
 {
     let listing = work.list(alloc, folder)?;
     for name in listing.names.as_slice() {
@@ -71,9 +72,9 @@ pub(crate) fn has_guard<W: Files>(
     work: &mut W,
     folder: &Place,
 ) -> Result<bool, WorkFault>
-    ensures looked { HasLooked W.act (W.world work.old) (W.world work.new) (W.faults work.old) (W.faults work.new) (W.running work.old) (W.running work.new) (IsErrOf result WorkFault.Failed) }
-    ensures told { IfOk result (λ found. (w : World) → W.world work.old ≡ Some w → IsTree w → reads_folder (w.nodes folder.now) ≡ true → is_tellable folder.now ≡ true
-        → TellsGuard w.nodes folder.now found) }
+    ensures looked { HasLooked W.act (W.device work.old) (W.device work.new) (device_failed result) }
+    ensures told { IfOk result (λ found. WhereTold (W.device work.old) (λ w. IsTree w → reads_folder (w.nodes folder.now) ≡ true → is_tellable folder.now ≡ true
+        → TellsGuard w.nodes folder.now found)) }
 {
     let mut waiting = one(alloc, folder.copy(alloc)?)?;
     for _ in 0..u64::MAX {

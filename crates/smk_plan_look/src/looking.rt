@@ -1,15 +1,16 @@
 //! Looking at the outputs and the sources of jobs.
 
-ghost use Rattle.std.specs.Prelude.{◌≡◌, ℕ, List as Items, Option, Some, IsErrOf, IfOk, map};
+ghost use Rattle.std.specs.Prelude.{◌≡◌, ℕ, List as Items, Option, IfOk};
 ghost use Rattle.std.specs.List.{filter};
-ghost use Rattle.smk_world.specs.World.{World};
+ghost use Rattle.smk_world.specs.Calls.{device_failed};
+ghost use Rattle.smk_world.specs.Devices.{HasLooked, WhereTold};
 ghost use Rattle.smk_world.specs.Trees.{Each, is_path_text};
 ghost use Rattle.smk_record.specs.declared.record.Record.{Record as RecordValue};
 ghost use Rattle.smk_store.specs.Images.{seen};
-ghost use Rattle.smk_store.specs.Walking.{HasLooked, path_in, texts_of};
+ghost use Rattle.smk_store.specs.Walking.{path_in, texts_of};
 ghost use Rattle.smk_store_members.specs.Disk.{IsTree};
 ghost use Rattle.smk_plan.specs.Sights.{IsSeenOf, AreRising};
-ghost use Rattle.smk_plan_look.specs.Seeing.{IsSightOf, are_paths, look_fault};
+ghost use Rattle.smk_plan_look.specs.Seeing.{IsSightOf, are_paths, look_fault, look_failed};
 
 use crate::paths::paths_in;
 use crate::sights::sight_at;
@@ -37,10 +38,10 @@ fn sights_of<W: Files>(
     work: &mut W,
     paths: &BTreeSet<String>,
 ) -> Result<List<Sight>, WorkFault>
-    ensures looked { HasLooked W.act (W.world work.old) (W.world work.new) (W.faults work.old) (W.faults work.new) (W.running work.old) (W.running work.new) (IsErrOf result WorkFault.Failed) }
+    ensures looked { HasLooked W.act (W.device work.old) (W.device work.new) (device_failed result) }
     ensures rising { IfOk result (λ sights. AreRising sights) }
     ensures paths { IfOk result (λ sights. are_paths sights ≡ filter is_path_text (texts_of paths.now.keys)) }
-    ensures told { IfOk result (λ sights. (w : World) → W.world work.old ≡ Some w → IsTree w → Each (λ s. IsSightOf w.nodes s.path s) sights) }
+    ensures told { IfOk result (λ sights. WhereTold (W.device work.old) (λ w. IsTree w → Each (λ s. IsSightOf w.nodes s.path s) sights)) }
 {
     let mut sights = List::new(alloc);
     for text in paths {
@@ -55,9 +56,9 @@ fn sights_of<W: Files>(
 
 // What is seen of the outputs and the sources.
 fn seen_of<W: Files>(alloc: Global, work: &mut W, jobs: &Jobs) -> Result<Seen, WorkFault>
-    ensures looked { HasLooked W.act (W.world work.old) (W.world work.new) (W.faults work.old) (W.faults work.new) (W.running work.old) (W.running work.new) (IsErrOf result WorkFault.Failed) }
-    ensures told { IfOk result (λ sights. (w : World) → W.world work.old ≡ Some w → IsTree w
-        → (read : Items ℕ → Option RecordValue) → IsSeenOf (seen read w) jobs.now sights) }
+    ensures looked { HasLooked W.act (W.device work.old) (W.device work.new) (device_failed result) }
+    ensures told { IfOk result (λ sights. WhereTold (W.device work.old) (λ w. IsTree w
+        → (read : Items ℕ → Option RecordValue) → IsSeenOf (seen read w) jobs.now sights)) }
 {
     let paths = paths_in(alloc, jobs)?;
     let sights = sights_of(alloc, work, &paths)?;
@@ -79,11 +80,11 @@ fn fault_of(fault: WorkFault) -> LookFault
 ///
 /// `Device`: a call of the device failed. `OutOfMemory`: there is no memory for what is found.
 pub fn look<W: Files>(alloc: Global, work: &mut W, jobs: &Jobs) -> Result<Seen, LookFault>
-    ensures looked { HasLooked W.act (W.world work.old) (W.world work.new) (W.faults work.old) (W.faults work.new) (W.running work.old) (W.running work.new) (IsErrOf result LookFault.Device) }
+    ensures looked { HasLooked W.act (W.device work.old) (W.device work.new) (look_failed result) }
 
     // Each output and each source is seen as it stands in the folder.
-    ensures told { IfOk result (λ sights. (w : World) → W.world work.old ≡ Some w → IsTree w
-        → (read : Items ℕ → Option RecordValue) → IsSeenOf (seen read w) jobs.now sights) }
+    ensures told { IfOk result (λ sights. WhereTold (W.device work.old) (λ w. IsTree w
+        → (read : Items ℕ → Option RecordValue) → IsSeenOf (seen read w) jobs.now sights)) }
 {
     match seen_of(alloc, work, jobs) {
         Ok(seen) => Ok(seen),

@@ -1,10 +1,10 @@
 //! One path: what stands there.
 
-ghost use Rattle.std.specs.Prelude.{◌≡◌, true, Some, IsErrOf, IfOk};
-ghost use Rattle.smk_world.specs.World.{World, reading, reads_folder};
-ghost use Rattle.smk_world.specs.Calls.{stat_of};
+ghost use Rattle.std.specs.Prelude.{◌≡◌, true, IfOk};
+ghost use Rattle.smk_world.specs.World.{reading, reads_folder};
+ghost use Rattle.smk_world.specs.Calls.{stat_of, device_failed};
+ghost use Rattle.smk_world.specs.Devices.{HasLooked, WhereTold};
 ghost use Rattle.smk_world.specs.Trees.{is_path_text};
-ghost use Rattle.smk_store.specs.Walking.{HasLooked};
 ghost use Rattle.smk_store_members.specs.Disk.{IsTree};
 ghost use Rattle.smk_plan_look.specs.Seeing.{IsListedAs, IsSightOf, is_folder_stat, members_in};
 
@@ -43,8 +43,8 @@ fn members_at<W: Files>(
     work: &mut W,
     path: &PathText,
 ) -> Result<Option<List<Member>>, WorkFault>
-    ensures looked { HasLooked W.act (W.world work.old) (W.world work.new) (W.faults work.old) (W.faults work.new) (W.running work.old) (W.running work.new) (IsErrOf result WorkFault.Failed) }
-    ensures told { IfOk result (λ members. (w : World) → W.world work.old ≡ Some w → IsTree w → reads_folder (w.nodes path.now) ≡ true → IsListedAs w.nodes path.now members) }
+    ensures looked { HasLooked W.act (W.device work.old) (W.device work.new) (device_failed result) }
+    ensures told { IfOk result (λ members. WhereTold (W.device work.old) (λ w. IsTree w → reads_folder (w.nodes path.now) ≡ true → IsListedAs w.nodes path.now members)) }
 {
     let listed = members_of(alloc, work, path)?;
     Ok(members_in(listed))
@@ -59,10 +59,10 @@ fn folder_at<W: Files>(
     stat: Stat,
 ) -> Result<Sight, WorkFault>
     requires at { place.now ≡ path }
-    ensures looked { HasLooked W.act (W.world work.old) (W.world work.new) (W.faults work.old) (W.faults work.new) (W.running work.old) (W.running work.new) (IsErrOf result WorkFault.Failed) }
+    ensures looked { HasLooked W.act (W.device work.old) (W.device work.new) (device_failed result) }
     ensures path { IfOk result (λ s. s.path ≡ path) }
-    ensures told { IfOk result (λ s. (w : World) → W.world work.old ≡ Some w → IsTree w → is_path_text path ≡ true → reads_folder (w.nodes path) ≡ true
-        → stat ≡ stat_of (reading (w.nodes path)) → IsSightOf w.nodes path s) }
+    ensures told { IfOk result (λ s. WhereTold (W.device work.old) (λ w. IsTree w → is_path_text path ≡ true → reads_folder (w.nodes path) ≡ true
+        → stat ≡ stat_of (reading (w.nodes path)) → IsSightOf w.nodes path s)) }
 {
     let members = members_at(alloc, work, &path)?;
     let guarded = has_guard(alloc, work, place)?;
@@ -80,9 +80,9 @@ pub(crate) fn sight_at<W: Files>(
     work: &mut W,
     path: PathText,
 ) -> Result<Sight, WorkFault>
-    ensures looked { HasLooked W.act (W.world work.old) (W.world work.new) (W.faults work.old) (W.faults work.new) (W.running work.old) (W.running work.new) (IsErrOf result WorkFault.Failed) }
+    ensures looked { HasLooked W.act (W.device work.old) (W.device work.new) (device_failed result) }
     ensures path { IfOk result (λ s. s.path ≡ path) }
-    ensures told { IfOk result (λ s. (w : World) → W.world work.old ≡ Some w → IsTree w → is_path_text path ≡ true → IsSightOf w.nodes path s) }
+    ensures told { IfOk result (λ s. WhereTold (W.device work.old) (λ w. IsTree w → is_path_text path ≡ true → IsSightOf w.nodes path s)) }
 {
     let place = Place::user(alloc, &path)?;
     let stat = work.stat(&place)?;

@@ -3,6 +3,7 @@ use Rattle.std.proofs.Common.{◌≡◌, ◌<◌, ℕ, true, false, List, [], �
 use Rattle.std.specs.Prelude.{IfOk, IfErr}
 use Rattle.std.proofs.lemmas.Bool.{le-ltb, lt-ltb}
 use Rattle.smk_world.specs.World.{World}
+use Rattle.smk_world.specs.Devices.{Device, WhereTold}
 use Rattle.smk_world.specs.Trees.{Path}
 use Rattle.smk_flow.specs.declared.job.Job.{Job}
 use Rattle.smk_flow.specs.Flows.{Flow}
@@ -19,7 +20,7 @@ use Rattle.smk_chain.specs.Derive.{Listings, Refusal, TooManyPaths, Deep, NoRule
 use Rattle.smk_chain.specs.Told.{first_told, told_refusal, TellsFirst}
 use Rattle.smk_store_members.specs.Disk.{IsTree}
 use Rattle.smk_store_members.proofs.Trees.{tree_folder}
-use Rattle.smk_chain_sight.specs.Sight.{SameOnReach, IsSmall, IsLarge}
+use Rattle.smk_chain_sight.specs.Sight.{IsSmall, IsLarge, Suffices}
 use Rattle.smk_chain_sight.specs.Disk.{IsOnDisk}
 use Rattle.smk_report.specs.declared.fault.Fault.{Fault}
 use Rattle.smk_drive.specs.Refusals.{IsFault}
@@ -35,25 +36,21 @@ tree_disk w tree = record { in_folders = λ folder name path some. tree_folder w
 -- ## Sources
 
 -- of the world in which the look was, with the store of its image
-abbrev pub Where : Option World → List Entry → (Image → Type 0) → Type 0
-Where o store P = (w : World) → o ≡ Some w → IsOnDisk w → (read : List ℕ → Option Record) → IsStoreOf (seen read w) store → P (seen read w)
+abbrev pub Where : Device → List Entry → (Image → Type 0) → Type 0
+Where d store P = WhereTold d (λ w. IsOnDisk w → (read : List ℕ → Option Record) → IsStoreOf (seen read w) store → P (seen read w))
 
-pub sights : (flow : Flow) (targets : List Path) (L : Listings) (o : Option World) (store : List Entry) (r : Result Told SightFault) (s : Result Told Fault) → s ≡ as_call of_sight r
-    → IfOk r (λ sources. Where o store (λ image. SameOnReach flow (sources_of image) L targets (told_by sources)))
-    → IfOk r (λ sources. (w : World) → o ≡ Some w → IsOnDisk w → (read : List ℕ → Option Record) → IsStoreOf (seen read w) store → (image : Image)
-    → outcome (job_refusals flow (told_by sources) image L targets) (jobs flow (told_by sources) L targets)
-    ≡ outcome (job_refusals flow (sources_of (seen read w)) image L targets) (jobs flow (sources_of (seen read w)) L targets))
-    → IfOk r (λ sources. Where o store (λ image. IsSmall flow (sources_of image) L targets))
-    → IfErr r (λ f. (count : ℕ) → f ≡ sight.TooManyPaths count → Where o store (λ image. IsLarge flow (sources_of image) L targets))
-    → IfErr r (λ f. (count : ℕ) → f ≡ sight.TooManyPaths count → 100000 < count)
-    → (w : World) → o ≡ Some w → IsTree w → (read : List ℕ → Option Record) → IsStoreOf (seen read w) store → Sights flow targets L (seen read w) s
-sights flow targets L o store (Ok sources) s is reached same few many count w e tree read st =
-    let disk = tree_disk w tree in
-    subst (λ v. Sights flow targets L (seen read w) v) (sym is) (record { few = few w e disk read st; reached = reached w e disk read st; same = same w e disk read st (seen read w) })
-sights flow targets L o store (Err (sight.TooManyPaths n)) s is reached same few many count w e tree read st =
-    subst (λ v. Sights flow targets L (seen read w) v) (sym is) (λ told. record { count = n; is = refl; found = count n refl; many = many n refl w e (tree_disk w tree) read st })
-sights flow targets L o store (Err sight.Device) s is reached same few many count w e tree read st = subst (λ v. Sights flow targets L (seen read w) v) (sym is) (λ told. absurd (true_false (sym told)))
-sights flow targets L o store (Err sight.OutOfMemory) s is reached same few many count w e tree read st = subst (λ v. Sights flow targets L (seen read w) v) (sym is) (λ told. absurd (true_false (sym told)))
+pub sights : (flow : Flow) (targets : List Path) (L : Listings) (d : Device) (store : List Entry) (r : Result Told SightFault) (s : Result Told Fault) → s ≡ as_call of_sight r
+    → IfOk r (λ sources. Where d store (λ image. Suffices flow (sources_of image) L targets (told_by sources)))
+    → IfErr r (λ f. (count : ℕ) → f ≡ sight.TooManyPaths count → (100000 < count) × Where d store (λ image. IsLarge flow (sources_of image) L targets))
+    → (w : World) → d.world ≡ Some w → IsTree w → (read : List ℕ → Option Record) → IsStoreOf (seen read w) store → Sights flow targets L (seen read w) s
+sights flow targets L d store (Ok sources) s is told many w at tree read st =
+    let t = told w at (tree_disk w tree) read st in
+    subst (λ v. Sights flow targets L (seen read w) v) (sym is) (record { few = t.few; reached = t.same; same = t.same_derivation (seen read w) })
+sights flow targets L d store (Err (sight.TooManyPaths n)) s is told many w at tree read st =
+    let m = many n refl in
+    subst (λ v. Sights flow targets L (seen read w) v) (sym is) (λ h. record { count = n; is = refl; found = m.0; many = m.1 w at (tree_disk w tree) read st })
+sights flow targets L d store (Err sight.Device) s is told many w at tree read st = subst (λ v. Sights flow targets L (seen read w) v) (sym is) (λ h. absurd (true_false (sym h)))
+sights flow targets L d store (Err sight.OutOfMemory) s is told many w at tree read st = subst (λ v. Sights flow targets L (seen read w) v) (sym is) (λ h. absurd (true_false (sym h)))
 
 -- ## Refusals
 

@@ -13,3 +13,4 @@ pub mod Rounded
 pub mod Previews
 pub mod Telling
 pub mod Made
+pub mod OnDisk

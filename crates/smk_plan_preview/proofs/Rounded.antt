@@ -20,7 +20,8 @@ use Rattle.smk_plan_preview.specs.declared.rounds.Round.{Round}
 use Rattle.smk_plan_preview.specs.Faults.{is_device, is_sink, device_failed}
 use Rattle.smk_world.specs.Trees.{Path}
 use Rattle.smk_plan_preview.specs.Rounds.{AreReady, Derives, HasRound}
-use Rattle.smk_plan_preview.specs.Steps.{HasLengths, AreSound, Plans}
+use Rattle.smk_plan_preview.specs.Fitness.{AreFit}
+use Rattle.smk_plan_preview.specs.Steps.{HasLengths, AreSound, IsGood, Plans}
 use Rattle.smk_plan_preview.proofs.Chains.{round_made, command_refused, planned_refused}
 
 -- ## Faults of commands
@@ -91,9 +92,9 @@ pub lists_of : (r : Result Round Fault) (jobs : Jobs) (L : Listings) → jobs.li
 lists_of (Ok x) jobs L lists same = ap (λ (j : Jobs). j.lists) same ∙ lists
 lists_of (Err f) jobs L lists same = tt
 
-pub fit_of : (r : Result Round Fault) (jobs : Jobs) (P : Jobs → Type 0) → P jobs → IfOk r (λ x. x.jobs ≡ jobs) → IfOk r (λ x. P x.jobs)
-fit_of (Ok x) jobs P fit same = subst P (sym same) fit
-fit_of (Err f) jobs P fit same = tt
+pub good_of : (flow : Flow) (settings : Settings) (r : Result Round Fault) (jobs : Jobs) → AreFit jobs → IfOk r (λ x. x.jobs ≡ jobs) → IfOk r (AreSound flow settings) → IfOk r (λ x. IsGood flow settings x.jobs x.plan)
+good_of flow settings (Ok x) jobs fit same sound = record { fit = subst AreFit (sym same) fit; lengths = sound.lengths; commands = sound.commands }
+good_of flow settings (Err f) jobs fit same sound = tt
 
 pub ready_as : (flow : Flow) (targets : List Path) (image : Image) (jobs : Jobs) (d : Result Jobs Fault) (L : Listings) → d ≡ Ok jobs → jobs.lists ≡ L → Derives flow targets L image d → AreReady flow targets jobs.lists image jobs
 ready_as flow targets image jobs d L is lists h = subst (λ (l : Listings). AreReady flow targets l image jobs) (sym lists) (subst (Derives flow targets L image) is h)

@@ -2,6 +2,7 @@
 use Rattle.std.specs.Prelude.{◌≡◌, true, List, [], ◌∷◌, length, None, Result, Ok, Err}
 use Rattle.std.specs.List.{zip}
 use Rattle.smk_flow.specs.Flows.{Flow}
+use Rattle.smk_choose.specs.Index.{AreReadings}
 use Rattle.smk_store.specs.Images.{Image}
 use Rattle.smk_chain.specs.declared.jobs.Jobs.{Jobs}
 use Rattle.smk_trigger.specs.declared.reason.State.{State}
@@ -14,8 +15,14 @@ use Rattle.smk_drive.specs.Moments.{Rules}
 use Rattle.smk_drive.specs.Refusals.{refused_of}
 use Rattle.smk_plan_states.specs.Judged.{with_states}
 use Rattle.smk_plan_table.specs.Plans.{HasMade}
+use Rattle.smk_plan_preview.specs.declared.rounds.Ground.{Ground}
 use Rattle.smk_plan_preview.specs.declared.rounds.Round.{Round}
 use Rattle.smk_plan_preview.specs.Faults.{is_told}
+use Rattle.smk_plan_preview.specs.Fitness.{AreFit}
+
+-- what was read is that of the rules
+abbrev pub IsGround : Ground → Type 0
+IsGround base = AreReadings base.flow.now base.readings.now
 
 -- one state for each job, and for each target whether it is current
 pub record HasLengths (jobs : Jobs) (settings : Settings) (told : Told) : Type 0 where
@@ -26,6 +33,12 @@ pub record HasLengths (jobs : Jobs) (settings : Settings) (told : Told) : Type 0
 pub record AreSound (flow : Flow) (settings : Settings) (r : Round) : Type 0 where
   pub lengths : HasLengths r.jobs settings r.plan
   pub commands : command_fault flow settings.cores (zip r.jobs.jobs r.plan.states) ≡ None
+
+-- the jobs can be run with this plan of theirs
+pub record IsGood (flow : Flow) (settings : Settings) (jobs : Jobs) (told : Told) : Type 0 where
+  pub fit : AreFit jobs
+  pub lengths : HasLengths jobs settings told
+  pub commands : command_fault flow settings.cores (zip jobs.jobs told.states) ≡ None
 
 -- the plan with the states of the table is refused, and this is the first refusal
 pub record IsPlanRefused (flow : Flow) (image : Image) (settings : Settings) (jobs : Jobs) (f : Fault) : Type 0 where

@@ -1,20 +1,17 @@
 //! The chain of plans.
 
-ghost use Rattle.std.specs.Prelude.{◌≡◌, ℕ, List as Items, Option, Some, IfOk, IfErr, true, false};
-ghost use Rattle.smk_world.specs.World.{World};
+ghost use Rattle.std.specs.Prelude.{◌≡◌, ℕ, List as Items, Option, IfOk, IfErr, false};
+ghost use Rattle.smk_world.specs.Devices.{HasLooked, WhereTold};
 ghost use Rattle.smk_record.specs.declared.record.Record.{Record as RecordValue};
 ghost use Rattle.smk_store.specs.Images.{seen};
 ghost use Rattle.smk_store.specs.Loading.{IsStoreOf};
-ghost use Rattle.smk_store.specs.Walking.{HasLooked};
-ghost use Rattle.smk_choose.specs.Index.{AreReadings};
 ghost use Rattle.smk_store_members.specs.Disk.{IsTree};
 ghost use Rattle.smk_plan_preview.specs.Faults.{device_failed, is_sink};
 ghost use Rattle.smk_plan_preview.specs.Rounds as spec;
-ghost use Rattle.smk_plan_preview.specs.Fitness.{AreFit};
-ghost use Rattle.smk_plan_preview.specs.Steps.{AreSound};
+ghost use Rattle.smk_plan_preview.specs.Steps.{IsGood, IsGround};
 
 use crate::listing::add_listings;
-use crate::rounds::{Round, make_round};
+use crate::rounds::{Ground, Round, make_round};
 use smk_base::List;
 use smk_choose::Readings;
 use smk_flow::Workflow;
@@ -25,27 +22,23 @@ use smk_world::Files;
 use std::alloc::Global;
 use std::thread::Threads;
 
-// The last plan of the chain, by what was read of the rules.
+// The last plan of the chain.
 fn chain_by<W: Files, Rt: Threads + Sync>(
     rt: &Rt,
     alloc: Global,
-    flow: &Workflow,
-    readings: &Readings,
-    settings: &Settings,
-    store: &Store,
+    ground: &Ground<'_>,
     work: &mut W,
 ) -> Result<Round, Fault>
-    requires { AreReadings flow.now readings.now }
-    ensures looked { HasLooked W.act (W.world work.old) (W.world work.new) (W.faults work.old) (W.faults work.new) (W.running work.old) (W.running work.new) (device_failed result ≡ true) }
+    requires { IsGround ground.now }
+    ensures looked { HasLooked W.act (W.device work.old) (W.device work.new) (device_failed result) }
     ensures no_sink { IfErr result (λ f. is_sink f ≡ false) }
-    ensures fit { IfOk result (λ r. AreFit r.jobs) }
-    ensures sound { IfOk result (AreSound flow.now settings.now) }
-    ensures told { (w : World) → W.world work.old ≡ Some w → IsTree w → (read : Items ℕ → Option RecordValue) → IsStoreOf (seen read w) store.now
-        → spec.HasChain read flow.now settings.now (seen read w) result }
+    ensures good { IfOk result (λ r. IsGood ground.now.flow.now ground.now.settings.now r.jobs r.plan) }
+    ensures told { WhereTold (W.device work.old) (λ w. IsTree w → (read : Items ℕ → Option RecordValue) → IsStoreOf (seen read w) ground.now.store.now
+        → spec.HasChain read ground.now.flow.now ground.now.settings.now (seen read w) result) }
 {
     let mut lists = List::new(alloc);
     for _ in 0..u64::MAX {
-        let found = make_round(rt, alloc, flow, settings, store, readings, &lists, work)?;
+        let found = make_round(rt, alloc, ground, &lists, work)?;
         if found.plan.known.is_empty() {
             return Ok(found);
         }
@@ -64,15 +57,22 @@ pub(crate) fn chain<W: Files, Rt: Threads + Sync>(
     store: &Store,
     work: &mut W,
 ) -> Result<Round, Fault>
-    ensures looked { HasLooked W.act (W.world work.old) (W.world work.new) (W.faults work.old) (W.faults work.new) (W.running work.old) (W.running work.new) (device_failed result ≡ true) }
+    ensures looked { HasLooked W.act (W.device work.old) (W.device work.new) (device_failed result) }
     ensures no_sink { IfErr result (λ f. is_sink f ≡ false) }
-    ensures fit { IfOk result (λ r. AreFit r.jobs) }
-    ensures sound { IfOk result (AreSound flow.now settings.now) }
-    ensures told { (w : World) → W.world work.old ≡ Some w → IsTree w → (read : Items ℕ → Option RecordValue) → IsStoreOf (seen read w) store.now
-        → spec.HasChain read flow.now settings.now (seen read w) result }
+    ensures good { IfOk result (λ r. IsGood flow.now settings.now r.jobs r.plan) }
+    ensures told { WhereTold (W.device work.old) (λ w. IsTree w → (read : Items ℕ → Option RecordValue) → IsStoreOf (seen read w) store.now
+        → spec.HasChain read flow.now settings.now (seen read w) result) }
 {
     match Readings::of(alloc, flow) {
-        Ok(readings) => chain_by(rt, alloc, flow, &readings, settings, store, work),
+        Ok(readings) => {
+            let ground = Ground {
+                flow,
+                settings,
+                store,
+                readings: &readings,
+            };
+            chain_by(rt, alloc, &ground, work)
+        }
         Err(_) => Err(Fault::OutOfMemory),
     }
 }

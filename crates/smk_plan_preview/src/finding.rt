@@ -1,12 +1,11 @@
 //! What a plan is made from: the store, the sources, the jobs, and what stands at their outputs.
 
-ghost use Rattle.std.specs.Prelude.{◌≡◌, ℕ, List as Items, Option, Some, IfOk, IfErr, true, false};
-ghost use Rattle.smk_world.specs.World.{World};
+ghost use Rattle.std.specs.Prelude.{◌≡◌, ℕ, List as Items, Option, IfOk, IfErr, false};
+ghost use Rattle.smk_world.specs.Devices.{HasLooked, WhereTold};
 ghost use Rattle.smk_record.specs.declared.record.Record.{Record as RecordValue};
 ghost use Rattle.smk_record.specs.Spelling.{ReadsRecords};
 ghost use Rattle.smk_store.specs.Images.{seen, Image};
 ghost use Rattle.smk_store.specs.Loading.{IsStoreOf};
-ghost use Rattle.smk_store.specs.Walking.{HasLooked};
 ghost use Rattle.smk_store_members.specs.Disk.{IsTree};
 ghost use Rattle.smk_choose.specs.Index.{AreReadings};
 ghost use Rattle.smk_chain_derive.specs.Clashes.{ListsKnown};
@@ -45,10 +44,10 @@ fn of_load(loaded: Result<Store, StoreFault>) -> Result<Store, Fault>
 
 /// The store as it stands.
 pub(crate) fn stored<W: Files>(alloc: Global, work: &mut W) -> Result<Store, Fault>
-    ensures looked { HasLooked W.act (W.world work.old) (W.world work.new) (W.faults work.old) (W.faults work.new) (W.running work.old) (W.running work.new) (device_failed result ≡ true) }
+    ensures looked { HasLooked W.act (W.device work.old) (W.device work.new) (device_failed result) }
     ensures no_sink { IfErr result (λ f. is_sink f ≡ false) }
-    ensures told { IfOk result (λ store. (w : World) → W.world work.old ≡ Some w → IsTree w
-        → (read : Items ℕ → Option RecordValue) → ReadsRecords read → IsStoreOf (seen read w) store) }
+    ensures told { IfOk result (λ store. WhereTold (W.device work.old) (λ w. IsTree w
+        → (read : Items ℕ → Option RecordValue) → ReadsRecords read → IsStoreOf (seen read w) store)) }
     ensures untold { IfErr result (λ f. is_told f ≡ false) }
 {
     let loaded = load(alloc, work);
@@ -77,10 +76,10 @@ pub(crate) fn sighted<W: Files>(
     work: &mut W,
 ) -> Result<Sources, Fault>
     requires { AreReadings flow.now readings.now }
-    ensures looked { HasLooked W.act (W.world work.old) (W.world work.new) (W.faults work.old) (W.faults work.new) (W.running work.old) (W.running work.new) (device_failed result ≡ true) }
+    ensures looked { HasLooked W.act (W.device work.old) (W.device work.new) (device_failed result) }
     ensures no_sink { IfErr result (λ f. is_sink f ≡ false) }
-    ensures told { (w : World) → W.world work.old ≡ Some w → IsTree w → (read : Items ℕ → Option RecordValue) → IsStoreOf (seen read w) store.now
-        → spec.Sights flow.now targets.now lists.now (seen read w) result }
+    ensures told { WhereTold (W.device work.old) (λ w. IsTree w → (read : Items ℕ → Option RecordValue) → IsStoreOf (seen read w) store.now
+        → spec.Sights flow.now targets.now lists.now (seen read w) result) }
 {
     let found = sight(alloc, flow, readings, store, lists, targets, work);
     of_sources(found)
@@ -156,10 +155,10 @@ fn of_seen(seen: Result<Seen, LookFault>) -> Result<Seen, Fault>
 
 /// What stands at the outputs and the sources of the jobs.
 pub(crate) fn looked<W: Files>(alloc: Global, work: &mut W, jobs: &Jobs) -> Result<Seen, Fault>
-    ensures looked { HasLooked W.act (W.world work.old) (W.world work.new) (W.faults work.old) (W.faults work.new) (W.running work.old) (W.running work.new) (device_failed result ≡ true) }
+    ensures looked { HasLooked W.act (W.device work.old) (W.device work.new) (device_failed result) }
     ensures no_sink { IfErr result (λ f. is_sink f ≡ false) }
-    ensures told { IfOk result (λ sights. (w : World) → W.world work.old ≡ Some w → IsTree w
-        → (read : Items ℕ → Option RecordValue) → IsSeenOf (seen read w) jobs.now sights) }
+    ensures told { IfOk result (λ sights. WhereTold (W.device work.old) (λ w. IsTree w
+        → (read : Items ℕ → Option RecordValue) → IsSeenOf (seen read w) jobs.now sights)) }
     ensures untold { IfErr result (λ f. is_told f ≡ false) }
 {
     let found = look(alloc, work, jobs);

@@ -1,21 +1,15 @@
 //! Previews.
 
-ghost use Rattle.std.specs.Prelude.{◌≡◌, ℕ, List as Items, Option, Some, None, IfOk, IfErr, length, true, false};
-ghost use Rattle.std.specs.List.{zip};
-ghost use Rattle.smk_world.specs.World.{World};
+ghost use Rattle.std.specs.Prelude.{◌≡◌, ℕ, List as Items, Option, [], IfOk, IfErr, false};
+ghost use Rattle.smk_world.specs.Devices.{HasLooked, WhereTold};
 ghost use Rattle.smk_record.specs.declared.record.Record.{Record as RecordValue};
 ghost use Rattle.smk_record.specs.Spelling.{ReadsRecords};
 ghost use Rattle.smk_store.specs.Images.{seen};
 ghost use Rattle.smk_store.specs.Loading.{IsStoreOf};
-ghost use Rattle.smk_store.specs.Walking.{HasLooked};
 ghost use Rattle.smk_store_members.specs.Disk.{IsTree};
-ghost use Rattle.smk_chain_walk.specs.Links.{AreLower};
-ghost use Rattle.smk_format.specs.Refused.{command_fault};
-ghost use Rattle.smk_plan.specs.Runnable.{AreRunnable};
 ghost use Rattle.smk_plan_preview.specs.Faults.{device_failed, is_sink};
 ghost use Rattle.smk_plan_preview.specs.Previewing.{HasPreviewed};
-ghost use Rattle.smk_plan_preview.specs.Fitness.{AreFit};
-ghost use Rattle.smk_plan_preview.specs.Steps.{HasLengths};
+ghost use Rattle.smk_plan_preview.specs.Steps.{IsGood};
 
 use crate::chaining::chain;
 use crate::finding::stored;
@@ -46,13 +40,11 @@ fn preview_stored<W: Files, Rt: Threads + Sync>(
     store: Store,
     work: &mut W,
 ) -> Result<Previewed, Fault>
-    ensures looked { HasLooked W.act (W.world work.old) (W.world work.new) (W.faults work.old) (W.faults work.new) (W.running work.old) (W.running work.new) (device_failed result ≡ true) }
+    ensures looked { HasLooked W.act (W.device work.old) (W.device work.new) (device_failed result) }
     ensures no_sink { IfErr result (λ f. is_sink f ≡ false) }
-    ensures told { (w : World) → W.world work.old ≡ Some w → IsTree w → (read : Items ℕ → Option RecordValue) → IsStoreOf (seen read w) store
-        → HasPreviewed read flow.now settings.now (seen read w) result }
-    ensures fit { IfOk result (λ p. AreFit p.jobs) }
-    ensures lengths { IfOk result (λ p. HasLengths p.jobs settings.now p.plan) }
-    ensures commands { IfOk result (λ p. command_fault flow.now settings.now.cores (zip p.jobs.jobs p.plan.states) ≡ None) }
+    ensures told { WhereTold (W.device work.old) (λ w. IsTree w → (read : Items ℕ → Option RecordValue) → IsStoreOf (seen read w) store
+        → HasPreviewed read flow.now settings.now (seen read w) result) }
+    ensures good { IfOk result (λ p. IsGood flow.now settings.now p.jobs p.plan) }
 {
     match chain(rt, alloc, flow, settings, &store, work) {
         Ok(last) => Ok(Previewed {
@@ -64,29 +56,7 @@ fn preview_stored<W: Files, Rt: Threads + Sync>(
     }
 }
 
-// The preview, with what holds of its jobs in one fact each.
-fn preview_all<W: Files, Rt: Threads + Sync>(
-    rt: &Rt,
-    alloc: Global,
-    flow: &Workflow,
-    settings: &Settings,
-    work: &mut W,
-) -> Result<Previewed, Fault>
-    ensures looked { HasLooked W.act (W.world work.old) (W.world work.new) (W.faults work.old) (W.faults work.new) (W.running work.old) (W.running work.new) (device_failed result ≡ true) }
-    ensures no_sink { IfErr result (λ f. is_sink f ≡ false) }
-    ensures told { (w : World) → W.world work.old ≡ Some w → IsTree w → (read : Items ℕ → Option RecordValue) → ReadsRecords read
-        → HasPreviewed read flow.now settings.now (seen read w) result }
-    ensures fit { IfOk result (λ p. AreFit p.jobs) }
-    ensures lengths { IfOk result (λ p. HasLengths p.jobs settings.now p.plan) }
-    ensures commands { IfOk result (λ p. command_fault flow.now settings.now.cores (zip p.jobs.jobs p.plan.states) ≡ None) }
-{
-    match stored(alloc, work) {
-        Ok(store) => preview_stored(rt, alloc, flow, settings, store, work),
-        Err(fault) => Err(fault),
-    }
-}
-
-/// Derives and plans the jobs that the targets call for, again and again with the listings that have become known, until no further one does. Nothing is changed.
+/// Derives and plans the jobs that the targets call for, again and again with the listings that have become known, until no further one does. Nothing is changed. No child runs before.
 ///
 /// The fault is the first that is refused of one of these plans: `TooManyPaths`, `Deep`, `NoRule`, `NoInput`, `Ambiguous`, `MissingMember`, `NoCommand` and `Clash` of its derivation;
 /// then `Incomplete`, `Protected`, `AboveLimit`, and `UnknownField` and `TooLong` of a command. `Device`: a call of the device failed. `OutOfMemory`: there is no memory for a plan.
@@ -97,18 +67,17 @@ pub fn preview<W: Files, Rt: Threads + Sync>(
     settings: &Settings,
     work: &mut W,
 ) -> Result<Previewed, Fault>
-    ensures looked { HasLooked W.act (W.world work.old) (W.world work.new) (W.faults work.old) (W.faults work.new) (W.running work.old) (W.running work.new) (device_failed result ≡ true) }
+    requires none_runs { (W.device work.old).running ≡ [] }
+    ensures looked { HasLooked W.act (W.device work.old) (W.device work.new) (device_failed result) }
     ensures no_sink { IfErr result (λ f. is_sink f ≡ false) }
-    ensures told { (w : World) → W.world work.old ≡ Some w → IsTree w → (read : Items ℕ → Option RecordValue) → ReadsRecords read
-        → HasPreviewed read flow.now settings.now (seen read w) result }
+    ensures told { WhereTold (W.device work.old) (λ w. (read : Items ℕ → Option RecordValue) → ReadsRecords read
+        → HasPreviewed read flow.now settings.now (seen read w) result) }
 
-    // What holds of the jobs whatever the folder is.
-    ensures runnable { IfOk result (λ p. AreRunnable p.jobs) }
-    ensures lower { IfOk result (λ p. AreLower 0 p.jobs.befores) }
-    ensures befores { IfOk result (λ p. length p.jobs.befores ≡ length p.jobs.jobs) }
-    ensures states { IfOk result (λ p. length p.plan.states ≡ length p.jobs.jobs) }
-    ensures current { IfOk result (λ p. length p.plan.current ≡ length settings.now.targets) }
-    ensures commands { IfOk result (λ p. command_fault flow.now settings.now.cores (zip p.jobs.jobs p.plan.states) ≡ None) }
+    // The jobs can be run with this plan, whatever the folder is.
+    ensures good { IfOk result (λ p. IsGood flow.now settings.now p.jobs p.plan) }
 {
-    preview_all(rt, alloc, flow, settings, work)
+    match stored(alloc, work) {
+        Ok(store) => preview_stored(rt, alloc, flow, settings, store, work),
+        Err(fault) => Err(fault),
+    }
 }

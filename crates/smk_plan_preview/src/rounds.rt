@@ -1,22 +1,19 @@
 //! One plan of a chain.
 
-ghost use Rattle.std.specs.Prelude.{◌≡◌, ◌⊎◌, ℕ, List as Items, Option, Some, None, IfOk, IfErr, length, true, false};
+ghost use Rattle.std.specs.Prelude.{◌≡◌, ◌⊎◌, ℕ, List as Items, Option, Some, None, IfOk, IfErr, length, false};
 ghost use Rattle.std.specs.List.{zip};
-ghost use Rattle.smk_world.specs.World.{World};
+ghost use Rattle.smk_world.specs.Devices.{HasLooked, WhereTold};
 ghost use Rattle.smk_record.specs.declared.record.Record.{Record as RecordValue};
 ghost use Rattle.smk_store.specs.Images.{seen, Image};
 ghost use Rattle.smk_store.specs.Loading.{IsStoreOf};
-ghost use Rattle.smk_store.specs.Walking.{HasLooked};
 ghost use Rattle.smk_store_members.specs.Disk.{IsTree};
-ghost use Rattle.smk_choose.specs.Index.{AreReadings};
 ghost use Rattle.smk_chain_derive.specs.Clashes.{ListsKnown};
 ghost use Rattle.smk_format.specs.Refused.{command_fault};
 ghost use Rattle.smk_report.specs.declared.fault.Fault.TheVariants as fault;
 ghost use Rattle.smk_plan_table.specs.Plans.{Agree};
 ghost use Rattle.smk_plan_preview.specs.Faults.{device_failed, is_sink};
 ghost use Rattle.smk_plan_preview.specs.Rounds as spec;
-ghost use Rattle.smk_plan_preview.specs.Fitness.{AreFit};
-ghost use Rattle.smk_plan_preview.specs.Steps.{AreSound, HasLengths, Plans};
+ghost use Rattle.smk_plan_preview.specs.Steps.{AreSound, HasLengths, IsGood, IsGround, Plans};
 
 use crate::faults::of_plan;
 use crate::finding::{derived, looked, sighted};
@@ -33,6 +30,17 @@ use smk_store::Store;
 use smk_world::Files;
 use std::alloc::Global;
 use std::thread::Threads;
+
+/// What each plan of a chain is made by.
+#[derive(Drop)]
+pub(crate) struct Ground<'a> {
+    pub(crate) flow: &'a Workflow,
+    pub(crate) settings: &'a Settings,
+    /// The store as it was found.
+    pub(crate) store: &'a Store,
+    /// What was read of the workflow's rules.
+    pub(crate) readings: &'a Readings,
+}
 
 /// Derived jobs with their plan.
 #[derive(Debug, Drop)]
@@ -115,12 +123,12 @@ fn plan_jobs<W: Files, Rt: Threads + Sync>(
     jobs: Jobs,
     work: &mut W,
 ) -> Result<Round, Fault>
-    ensures looked { HasLooked W.act (W.world work.old) (W.world work.new) (W.faults work.old) (W.faults work.new) (W.running work.old) (W.running work.new) (device_failed result ≡ true) }
+    ensures looked { HasLooked W.act (W.device work.old) (W.device work.new) (device_failed result) }
     ensures no_sink { IfErr result (λ f. is_sink f ≡ false) }
     ensures jobs { IfOk result (λ r. r.jobs ≡ jobs) }
     ensures sound { IfOk result (AreSound flow.now settings.now) }
-    ensures told { (w : World) → W.world work.old ≡ Some w → IsTree w → (read : Items ℕ → Option RecordValue) → IsStoreOf (seen read w) store.now
-        → spec.AreReady flow.now settings.now.targets jobs.lists (seen read w) jobs → spec.HasRound read flow.now settings.now (seen read w) jobs.lists result }
+    ensures told { WhereTold (W.device work.old) (λ w. IsTree w → (read : Items ℕ → Option RecordValue) → IsStoreOf (seen read w) store.now
+        → spec.AreReady flow.now settings.now.targets jobs.lists (seen read w) jobs → spec.HasRound read flow.now settings.now (seen read w) jobs.lists result) }
 {
     match looked(alloc, work, &jobs) {
         Ok(seen) => plan_seen(rt, alloc, flow, settings, store, jobs, &seen),
@@ -132,34 +140,38 @@ fn plan_jobs<W: Files, Rt: Threads + Sync>(
 fn plan_sources<W: Files, Rt: Threads + Sync>(
     rt: &Rt,
     alloc: Global,
-    flow: &Workflow,
-    settings: &Settings,
-    store: &Store,
-    readings: &Readings,
+    ground: &Ground<'_>,
     lists: &Listings,
     sources: &Sources,
     work: &mut W,
 ) -> Result<Round, Fault>
-    requires { AreReadings flow.now readings.now }
-    ensures looked { HasLooked W.act (W.world work.old) (W.world work.new) (W.faults work.old) (W.faults work.new) (W.running work.old) (W.running work.new) (device_failed result ≡ true) }
+    requires { IsGround ground.now }
+    ensures looked { HasLooked W.act (W.device work.old) (W.device work.new) (device_failed result) }
     ensures no_sink { IfErr result (λ f. is_sink f ≡ false) }
     ensures lists { IfOk result (λ r. r.jobs.lists ≡ lists.now) }
-    ensures fit { IfOk result (λ r. AreFit r.jobs) }
-    ensures sound { IfOk result (AreSound flow.now settings.now) }
-    ensures told { (w : World) → W.world work.old ≡ Some w → IsTree w → (read : Items ℕ → Option RecordValue) → IsStoreOf (seen read w) store.now
-        → ListsKnown (seen read w) → spec.IsSighted flow.now settings.now.targets lists.now (seen read w) sources.now
-        → spec.HasRound read flow.now settings.now (seen read w) lists.now result }
+    ensures good { IfOk result (λ r. IsGood ground.now.flow.now ground.now.settings.now r.jobs r.plan) }
+    ensures told { WhereTold (W.device work.old) (λ w. IsTree w → (read : Items ℕ → Option RecordValue) → IsStoreOf (seen read w) ground.now.store.now
+        → ListsKnown (seen read w) → spec.IsSighted ground.now.flow.now ground.now.settings.now.targets lists.now (seen read w) sources.now
+        → spec.HasRound read ground.now.flow.now ground.now.settings.now (seen read w) lists.now result) }
 {
     match derived(
         alloc,
-        flow,
-        readings,
-        &settings.targets,
+        ground.flow,
+        ground.readings,
+        &ground.settings.targets,
         lists,
-        store,
+        ground.store,
         sources,
     ) {
-        Ok(jobs) => plan_jobs(rt, alloc, flow, settings, store, jobs, work),
+        Ok(jobs) => plan_jobs(
+            rt,
+            alloc,
+            ground.flow,
+            ground.settings,
+            ground.store,
+            jobs,
+            work,
+        ),
         Err(fault) => Err(fault),
     }
 }
@@ -168,26 +180,28 @@ fn plan_sources<W: Files, Rt: Threads + Sync>(
 pub(crate) fn make_round<W: Files, Rt: Threads + Sync>(
     rt: &Rt,
     alloc: Global,
-    flow: &Workflow,
-    settings: &Settings,
-    store: &Store,
-    readings: &Readings,
+    ground: &Ground<'_>,
     lists: &Listings,
     work: &mut W,
 ) -> Result<Round, Fault>
-    requires { AreReadings flow.now readings.now }
-    ensures looked { HasLooked W.act (W.world work.old) (W.world work.new) (W.faults work.old) (W.faults work.new) (W.running work.old) (W.running work.new) (device_failed result ≡ true) }
+    requires { IsGround ground.now }
+    ensures looked { HasLooked W.act (W.device work.old) (W.device work.new) (device_failed result) }
     ensures no_sink { IfErr result (λ f. is_sink f ≡ false) }
     ensures lists { IfOk result (λ r. r.jobs.lists ≡ lists.now) }
-    ensures fit { IfOk result (λ r. AreFit r.jobs) }
-    ensures sound { IfOk result (AreSound flow.now settings.now) }
-    ensures told { (w : World) → W.world work.old ≡ Some w → IsTree w → (read : Items ℕ → Option RecordValue) → IsStoreOf (seen read w) store.now
-        → spec.HasRound read flow.now settings.now (seen read w) lists.now result }
+    ensures good { IfOk result (λ r. IsGood ground.now.flow.now ground.now.settings.now r.jobs r.plan) }
+    ensures told { WhereTold (W.device work.old) (λ w. IsTree w → (read : Items ℕ → Option RecordValue) → IsStoreOf (seen read w) ground.now.store.now
+        → spec.HasRound read ground.now.flow.now ground.now.settings.now (seen read w) lists.now result) }
 {
-    match sighted(alloc, flow, readings, &settings.targets, lists, store, work) {
-        Ok(sources) => plan_sources(
-            rt, alloc, flow, settings, store, readings, lists, &sources, work,
-        ),
+    match sighted(
+        alloc,
+        ground.flow,
+        ground.readings,
+        &ground.settings.targets,
+        lists,
+        ground.store,
+        work,
+    ) {
+        Ok(sources) => plan_sources(rt, alloc, ground, lists, &sources, work),
         Err(fault) => Err(fault),
     }
 }

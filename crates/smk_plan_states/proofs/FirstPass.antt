@@ -1,8 +1,9 @@
 -- The first pass, job by job.
-use Rattle.std.proofs.Common.{◌≡◌, ℕ, zero, suc, ◌+◌, ◌<◌, ◌≤◌, length, get_or, arith, Bool, false, not, cond, ◌&&◌, List, [], ◌∷◌, ◌++◌, map, filter, reverse, refl, sym, ap, subst, inl, ◌∙◌, append_assoc, length-append, Option}
+use Rattle.std.proofs.Common.{◌≡◌, ℕ, zero, suc, ◌+◌, ◌<◌, ◌≤◌, length, get_or, arith, Bool, false, not, cond, ◌&&◌, List, [], ◌∷◌, ◌++◌, map, filter, reverse, refl, sym, ap, subst, inl, ◌∙◌, append_assoc, length-append, Option, append-nil}
 use Rattle.std.specs.Prelude.{bytes_eq, slice_index_or}
 use Rattle.smk_plan_states.specs.Keys.{at_key, has_key}
 use Rattle.std.specs.BTreeSet.{contains_text}
+use Rattle.std.proofs.lemmas.List.{map_push, length-map}
 use Rattle.smk_world.specs.World.{in_paths, out_paths}
 use Rattle.smk_world.specs.Trees.{Path}
 use Rattle.smk_flow.specs.declared.job.Job.{Job}
@@ -28,7 +29,7 @@ use Rattle.smk_plan_states.specs.InUse.{is_in_use_told}
 use Rattle.smk_plan_states.specs.First.{first_state, first_by_table, first_told, IsSolved}
 use Rattle.smk_laws_plan.proofs.CurrentLists.{In, in_right, distinct_in}
 use Rattle.smk_laws_plan.proofs.CurrentApart.{JobsApart, own_apart}
-use Rattle.smk_plan_states.proofs.Tests.{filter_same}
+use Rattle.smk_laws_plan.proofs.PlanStates.{filter_same}
 use Rattle.smk_plan_states.proofs.Apart.{jobs_apart_from}
 use Rattle.smk_plan_states.proofs.Told.{opens_is, kept_is, dirty_same}
 use Rattle.smk_plan_states.proofs.ReadOthers.{read_is}
@@ -46,14 +47,6 @@ at_split f [] x after zero d e = refl
 at_split f [] x after (suc n) d e = absurd (omega arith)
 at_split f (b ∷ before) x after zero d e = absurd (omega arith)
 at_split f (b ∷ before) x after (suc n) d e = at_split f before x after n d (omega arith)
-
-map_end : {A B : Type 0} (f : A → B) (xs : List A) (x : A) → map f (xs ++ x ∷ []) ≡ map f xs ++ f x ∷ []
-map_end f [] x = refl
-map_end f (y ∷ xs) x = ap (λ ys. f y ∷ ys) (map_end f xs x)
-
-pub length_map : {A B : Type 0} (f : A → B) (xs : List A) → length (map f xs) ≡ length xs
-length_map f [] = refl
-length_map f (x ∷ xs) = ap suc (length_map f xs)
 
 -- ## One job
 
@@ -131,7 +124,7 @@ module _
           IsUp (number + 1) new rest later
       go [] all l b =
           let count = up.count in
-          let size : length parts ≡ length up.before = ap length h.parts ∙ length_map (parts_of image) jobs.jobs ∙ ap length all ∙ length-append up.before [] ∙ omega arith in
+          let size : length parts ≡ length up.before = ap length h.parts ∙ length-map jobs.jobs (parts_of image) ∙ ap length all ∙ length-append up.before [] ∙ omega arith in
           absurd (omega arith)
       go (k ∷ after) all l b =
           let r = popped (kept_by k) (map kept_by after) b in
@@ -149,7 +142,7 @@ module _
             after = after;
             all = all ∙ sym (append_assoc up.before (k ∷ []) after);
             count = omega (arith, length-append up.before (k ∷ []));
-            made = pushed ∙ (λ i. up.made i ++ is i ∷ []) ∙ sym (map_end early up.before k);
+            made = pushed ∙ (λ i. up.made i ++ is i ∷ []) ∙ sym (map_push early up.before k);
             rest = t.1;
             kept = r.1;
           }
@@ -160,12 +153,8 @@ module _
   all_up number states left begun done up = go up.after up.all
     where
       go : (after : List Job) → jobs.jobs ≡ up.before ++ after → states ≡ map early jobs.jobs
-      go [] all = up.made ∙ ap (map early) (sym (all ∙ append_none up.before))
-        where
-          append_none : (xs : List Job) → xs ++ [] ≡ xs
-          append_none [] = refl
-          append_none (x ∷ xs) = ap (λ ys. x ∷ ys) (append_none xs)
+      go [] all = up.made ∙ ap (map early) (sym (all ∙ append-nil up.before))
       go (k ∷ after) all =
           let count = up.count in
-          let size : length parts ≡ length up.before + suc (length after) = ap length h.parts ∙ length_map (parts_of image) jobs.jobs ∙ ap length all ∙ length-append up.before (k ∷ after) in
+          let size : length parts ≡ length up.before + suc (length after) = ap length h.parts ∙ length-map jobs.jobs (parts_of image) ∙ ap length all ∙ length-append up.before (k ∷ after) in
           absurd (omega arith)

@@ -1,10 +1,9 @@
 -- The second pass, job by job.
-use Rattle.std.proofs.Common.{◌≡◌, ℕ, zero, suc, ◌+◌, ◌<◌, length, arith, Bool, true, false, not, ◌&&◌, ◌||◌, List, [], ◌∷◌, ◌++◌, map, filter, find, zip, reverse, refl, sym, ap, subst, inl, inr, ◌∙◌, Option, Some, None, append_assoc, length-append}
+use Rattle.std.proofs.Common.{◌≡◌, ℕ, zero, suc, ◌+◌, ◌<◌, length, arith, Bool, true, false, not, ◌&&◌, ◌||◌, List, [], ◌∷◌, ◌++◌, map, filter, find, zip, reverse, refl, sym, ap, subst, inl, inr, ◌∙◌, Option, Some, None, append_assoc, length-append, append-nil}
 use Rattle.std.specs.List.{list_any, slice_get}
 use Rattle.std.specs.Option.{option_and_then}
 use Rattle.std.proofs.lemmas.List.Folds.{list_any-append}
-use Rattle.std.proofs.lemmas.List.{reverse-append, reverse-reverse}
-use Rattle.smk_base.specs.Path.{overlaps}
+use Rattle.std.proofs.lemmas.List.{reverse-append, reverse-reverse, length-map}
 use Rattle.smk_world.specs.declared.recipe.Out.{Out}
 use Rattle.smk_world.specs.World.{in_paths, out_paths}
 use Rattle.smk_world.specs.Trees.{Path, Each, among, outs_of}
@@ -22,17 +21,17 @@ use Rattle.smk_plan_states.specs.Served.{IsBelow, ReadEarlier}
 use Rattle.smk_plan_states.specs.Parts.{gone_outputs, parts_of}
 use Rattle.smk_plan_states.specs.InUse.{is_in_use_told}
 use Rattle.smk_plan_states.specs.First.{unless_needed, IsSolved}
-use Rattle.smk_laws_plan.proofs.CurrentLists.{In, in_left, in_right, map_in, filter_in, clash_of, none_some, or_first, some_inj}
-use Rattle.smk_laws_plan.proofs.CurrentPaths.{among_in, in_among, touch_overlaps}
+use Rattle.smk_laws_plan.proofs.CurrentLists.{In, in_left, in_right, map_in, filter_in, none_some, or_first, some_inj}
+use Rattle.smk_laws_plan.proofs.CurrentPaths.{among_in, in_among}
 use Rattle.smk_laws_plan.proofs.CurrentApart.{JobsApart, own_apart}
 use Rattle.smk_laws_plan.proofs.CurrentChosen.{path_in}
 use Rattle.smk_laws_plan.proofs.PlanStates.{any_same, any_zip}
+use Rattle.smk_laws_plan.proofs.PlanOne.{twice}
 use Rattle.smk_plan_states.proofs.Tests.{any_never}
 use Rattle.smk_plan_states.proofs.Apart.{each_in, jobs_apart_from}
 use Rattle.smk_plan_states.proofs.Meaning.{final, first, needs, final_from}
 use Rattle.smk_plan_states.proofs.Told.{IsReadOf, told_below}
 use Rattle.smk_plan_states.proofs.ReadOthers.{found_one, read_is}
-use Rattle.smk_plan_states.proofs.FirstPass.{length_map}
 
 -- ## Lists
 
@@ -85,10 +84,6 @@ job_in_front [] rest n k lt e = absurd (omega arith)
 job_in_front (b ∷ before) rest zero k lt e = inl (sym (some_inj b k e))
 job_in_front (b ∷ before) rest (suc n) k lt e = inr (job_in_front before rest n k (omega arith) e)
 
-pub append_none : {A : Type 0} (xs : List A) → xs ++ [] ≡ xs
-append_none [] = refl
-append_none (x ∷ xs) = ap (λ ys. x ∷ ys) (append_none xs)
-
 -- what the jobs of the front read is told to be made by jobs below
 read_front :
     (J : Jobs) (n : ℕ) (front rest : List Job) (j : Job) → ReadEarlier J n (front ++ rest) → In j front →
@@ -96,14 +91,6 @@ read_front :
 read_front J n [] rest j h i = absurd i
 read_front J n (k ∷ front) rest j h (inl e) = (n, omega arith, subst (λ (x : Job). Each (IsReadOf J n) (in_paths x.recipe ++ gathers_from x)) (sym e) h.0)
 read_front J n (k ∷ front) rest j h (inr i) = let r = read_front J (suc n) front rest j h.1 i in let lt = r.1 in (r.0, omega arith, r.2)
-
--- a job stands in one place
-twice : (before : List Job) (k : Job) (after : List Job) (p : Path) → JobsApart (before ++ k ∷ after) → In k before → In p (out_paths k.recipe) → ⊥
-twice [] k after p h i o = i
-twice (b ∷ before) k after p h (inl e) o =
-    clash_of (overlaps p p) (touch_overlaps p p (inl refl))
-    (h.0 k p p (in_right k before (k ∷ after) (inl refl)) (subst (λ (x : Job). In p (out_paths x.recipe)) e o) o)
-twice (b ∷ before) k after p h (inr i) o = twice before k after p h.2 i o
 
 module _
     (image : Image) (settings : Settings) (progress : Progress) (jobs : Jobs) (targets : List Path) (ss : List State) (paths : Paths) (parts : List Parts) (used : Path → Bool)
@@ -189,7 +176,7 @@ module _
 
   pub none_down : (left found : List State) (needed : Path → Bool) → left ≡ map early jobs.jobs → found ≡ [] → ((q : Path) → needed q ≡ false) → IsDown left found needed
   none_down left found needed l f n =
-      record { before = jobs.jobs; after = []; all = sym (append_none jobs.jobs); rest = l; made = f; reads = n }
+      record { before = jobs.jobs; after = []; all = sym (append-nil jobs.jobs); rest = l; made = f; reads = n }
 
   pub more_down :
       (left front found more : List State) (needed later : Path → Bool) (one state : State) (part : Option Parts) →
@@ -201,7 +188,7 @@ module _
       let e = map_ends early down.before front one (sym down.rest ∙ popped) in
       let k = e.1 in
       let all : jobs.jobs ≡ e.0 ++ k ∷ down.after = down.all ∙ ap (λ js. js ++ down.after) e.2 ∙ append_assoc e.0 (k ∷ []) down.after in
-      let size : length front ≡ length e.0 = ap length e.3 ∙ length_map early e.0 in
+      let size : length front ≡ length e.0 = ap length e.3 ∙ length-map e.0 early in
       let s = stepped (parts_of image k) (got ∙ ap (λ ps. slice_get ps (length front)) (h.parts ∙ ap (map (parts_of image)) all) ∙ got_at (parts_of image) e.0 k down.after (length front) size) in
       let is : state ≡ late k = s.0 ∙ ap (unless_needed (list_any needed (gone_outputs image k) && not (is_in_use_told used (parts_of image k)))) e.4 ∙ last_here e.0 k down.after all needed down.reads in
       record {

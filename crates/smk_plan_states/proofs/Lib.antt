@@ -1,6 +1,6 @@
 mod JobParts
 mod Upstream
-mod Tests
+pub mod Tests
 mod Apart
 mod Meaning
 mod Told

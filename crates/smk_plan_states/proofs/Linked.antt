@@ -1,46 +1,37 @@
 -- Jobs that are derived and linked serve their targets.
-use Rattle.std.proofs.Common.{◌≡◌, ◌⊎◌, ℕ, suc, ◌<◌, length, arith, eqb, Bool, true, false, cond, List, [], ◌∷◌, ◌++◌, map, filter, flat_map, find, refl, sym, ap, subst, inl, inr, ◌∙◌, Option, Some, None, option_map, is_some, append_assoc, length-append}
-use Rattle.std.specs.Prelude.{bytes_eq}
+use Rattle.std.proofs.Common.{◌≡◌, ◌⊎◌, ℕ, suc, ◌<◌, length, arith, Bool, true, false, cond, List, [], ◌∷◌, ◌++◌, map, filter, flat_map, find, refl, sym, ap, subst, inl, inr, ◌∙◌, Option, Some, None, option_map, is_some, append_assoc, length-append, append-nil}
 use Rattle.std.specs.List.{AllByRecursion}
-use Rattle.std.proofs.lemmas.Bool.{eqb-true, eq-eqb}
-use lib.Pointwise.{pointwise}
-use Rattle.smk_base.specs.declared.tree.Pair.{Pair}
-use Rattle.smk_base.proofs.Places.{same_place, place_itself}
-use Rattle.smk_record.specs.Records.{same_pair}
-use Rattle.smk_base.specs.Path.{is_under, overlaps}
-use Rattle.smk_world.specs.World.{in_paths, out_paths, folders_above}
-use Rattle.smk_world.specs.Trees.{Path, Each, folders_of}
-use Rattle.smk_pattern.specs.Bound.{BoundFills}
-use Rattle.smk_pattern.proofs.Names.{numbered_all}
+use Rattle.smk_base.specs.Path.{overlaps}
+use Rattle.smk_world.specs.World.{in_paths, out_paths}
+use Rattle.smk_world.specs.Trees.{Path, Each}
 use Rattle.smk_flow.specs.declared.job.Job.{Job}
-use Rattle.smk_flow.specs.Flows.{Flow, Candidate, makes_folder}
+use Rattle.smk_flow.specs.Flows.{Flow, Candidate}
 use Rattle.smk_choose.specs.declared.choice.Making.{Making}
 use Rattle.smk_choose.specs.Choose.{Sources, Source, Make, choose, maker}
 use Rattle.smk_choose.specs.Told.{making}
 use Rattle.smk_store.specs.Images.{Image, is_source}
 use Rattle.smk_chain.specs.declared.jobs.Jobs.{Jobs}
 use Rattle.smk_chain.specs.Derive.{Listings, Derived, Refusal, Deep, derivation, job, jobs, recipe, wants, walk, chosen, same_candidate, sources_of, refused, is_deep, job_refusals}
+use Rattle.smk_chain.proofs.Inputs.{each_append}
 use Rattle.smk_chain_walk.specs.Links.{AreLinked, maker_told, number_for}
 use Rattle.smk_chain_walk.specs.Numbers.{is_job, number_in, place_of}
+use Rattle.smk_chain_walk.proofs.Adding.{is_its_job}
 use Rattle.smk_plan.specs.States.{makes, gathers_from}
 use Rattle.smk_plan.specs.Sights.{job_at}
 use Rattle.smk_laws_plan.specs.Current.{IsComplete}
-use Rattle.smk_laws_plan.proofs.CurrentLists.{In, in_left, in_right, in_either, in_flat, flat_in, map_in, in_distinct, distinct_in, find_some, and_left, and_right, and_both, append_nil_left, append_nil_right, map_nil, filter_nil, or_first, or_second, clash_of, none_some, some_inj}
-use Rattle.smk_laws_plan.proofs.CurrentPaths.{in_among}
+use Rattle.smk_laws_plan.proofs.CurrentLists.{In, in_left, in_right, in_either, in_flat, flat_in, map_in, in_distinct, distinct_in, append_nil_left, append_nil_right, map_nil, filter_nil, clash_of, none_some, some_inj}
 use Rattle.smk_laws_plan.proofs.CurrentReach.{Reached, reached_target, choice_known}
 use Rattle.smk_laws_plan.proofs.CurrentRecipes.{inputs_wanted, folders_wanted}
-use Rattle.smk_laws_plan.proofs.CurrentWalked.{walked_chosen, chosen_same}
+use Rattle.smk_laws_plan.proofs.CurrentWalked.{walked_chosen, chosen_same, candidate_trans}
 use Rattle.smk_laws_plan.proofs.CurrentApart.{JobsApart, Apart}
-use Rattle.smk_laws_plan.proofs.CurrentChosen.{Origin, origin, output_in, folder_made}
-use Rattle.smk_laws_plan.proofs.CurrentFills.{bound_fills_from}
 use Rattle.smk_laws_plan.proofs.CurrentMeaning.{source_chosen}
 use Rattle.smk_laws_plan.proofs.PlanOrder.{Ordered, flat_ordered, walk_ordered, own_walked, distinct_ordered, source_unmade}
-use Rattle.smk_laws_plan.proofs.PlanOne.{derived, derived_apart}
+use Rattle.smk_laws_plan.proofs.PlanOne.{derived, derived_apart, job_makes}
+use Rattle.smk_laws_plan.proofs.CurrentProducts.{some_of}
 use Rattle.smk_plan_states.specs.Served.{AreApart, IsToldOf, IsBelow, ReadEarlier, outputs_of}
 use Rattle.smk_plan_states.specs.Laws.{LinkedAreServed}
 use Rattle.smk_plan_states.proofs.Apart.{each_in}
 use Rattle.smk_plan_states.proofs.ReadOthers.{found_one}
-use Rattle.smk_plan_states.proofs.LastPass.{append_none}
 use Rattle.smk_plan_states.proofs.ReadyNow.{job_there}
 
 -- ## Lists
@@ -54,17 +45,9 @@ all_in P [] x h i = absurd i
 all_in P (y ∷ xs) x h (inl e) = subst P (sym e) h.0
 all_in P (y ∷ xs) x h (inr i) = all_in P xs x h.1 i
 
-some_in : {A : Type 0} (o : Option A) → is_some o ≡ true → (x : A) × (o ≡ Some x)
-some_in None h = absurd (clash_of false h refl)
-some_in (Some x) h = (x, refl)
-
 none_found : {A : Type 0} (test : A → Bool) (xs : List A) → ((x : A) → In x xs → test x ≡ false) → find test xs ≡ None
 none_found test [] h = refl
 none_found test (x ∷ xs) h = ap (λ b. cond b (Some x) (find test xs)) (h x (inl refl)) ∙ none_found test xs (λ y i. h y (inr i))
-
-each_append : {A : Type 0} (P : A → Type 0) (xs ys : List A) → Each P xs → Each P ys → Each P (xs ++ ys)
-each_append P [] ys h k = k
-each_append P (x ∷ xs) ys h k = (h.0, each_append P xs ys h.1 k)
 
 -- ## Outputs that lie apart
 
@@ -83,49 +66,7 @@ outputs_apart (j ∷ js) h =
     apart_both (out_paths j.recipe) (outputs_of js) (apart_from (out_paths j.recipe) h.1) (outputs_apart js h.2)
     (λ p q i k. let r = flat_in (λ (j : Job). out_paths j.recipe) js q k in h.0 r.0 p q r.1 i r.2)
 
--- ## A chosen job makes its path
-
-chosen_makes : (flow : Flow) (sources : Sources) (L : Listings) (q : Path) (c : Candidate) → choose flow sources q ≡ Make c → makes (job flow L c) q ≡ true
-chosen_makes flow sources L q c e = let o = origin flow q c sources e in go o o.at_or_above
-  where
-    fills : BoundFills
-    fills = bound_fills_from numbered_all
-
-    go : (o : Origin flow q c) → (q ≡ o.place) ⊎ (is_under q o.place ≡ true) × In o.place (folders_above q) × (makes_folder o.out ≡ true) → makes (job flow L c) q ≡ true
-    go o (inl s) =
-        or_first _ _ (in_among (out_paths (recipe flow L c)) q (subst (λ w. In w (out_paths (recipe flow L c))) (sym s) (output_in flow L c fills o.place o.out o.is_out o.binds)))
-    go o (inr u) =
-        or_second _ _ (let r = find_some (is_under q) (folders_of (recipe flow L c)) o.place (folder_made flow L c fills o.place o.out o.is_out o.binds u.2) u.0 in ap is_some r.1)
-
 -- ## Places of candidates
-
-pairs_same : (xs ys : List Pair) → pointwise same_pair xs ys ≡ true → xs ≡ ys
-pairs_same [] [] h = refl
-pairs_same [] (y ∷ ys) h = cc
-pairs_same (x ∷ xs) [] h = cc
-pairs_same (x ∷ xs) (y ∷ ys) h =
-    let one = and_left (same_pair x y) (pointwise same_pair xs ys) h in
-    let name = same_place x.name y.name (and_left (bytes_eq x.name y.name) (bytes_eq x.value y.value) one) in
-    let value = same_place x.value y.value (and_right (bytes_eq x.name y.name) (bytes_eq x.value y.value) one) in
-    let rest = pairs_same xs ys (and_right (same_pair x y) (pointwise same_pair xs ys) h) in
-    λ i. record { name = name i; value = value i } ∷ rest i
-
-pairs_own : (xs : List Pair) → pointwise same_pair xs xs ≡ true
-pairs_own [] = refl
-pairs_own (x ∷ xs) =
-    and_both (same_pair x x) (pointwise same_pair xs xs) (and_both (bytes_eq x.name x.name) (bytes_eq x.value x.value) (place_itself x.name) (place_itself x.value)) (pairs_own xs)
-
-is_its_job : (c : Candidate) → is_job (making c) c ≡ true
-is_its_job c = and_both (eqb c.rule c.rule) (pointwise same_pair c.binding c.binding) (eq-eqb c.rule c.rule refl) (pairs_own c.binding)
-
-job_is : (m : Making) (c : Candidate) → is_job m c ≡ true → making c ≡ m
-job_is m c h =
-    let rule = eqb-true c.rule m.rule (and_left (eqb c.rule m.rule) (pointwise same_pair c.binding m.binding) h) in
-    let binding = pairs_same c.binding m.binding (and_right (eqb c.rule m.rule) (pointwise same_pair c.binding m.binding) h) in
-    λ i. record { rule = rule i; binding = binding i }
-
-same_trans : (a b c : Candidate) → same_candidate a b ≡ true → same_candidate b c ≡ true → same_candidate a c ≡ true
-same_trans a b c h k = subst (λ m. is_job m a ≡ true) (job_is (making c) b k) h
 
 place_front :
     (front rest : List Candidate) (m : Making) (d : Candidate) → In d front → is_job m d ≡ true →
@@ -189,7 +130,7 @@ module _
       alike a b i k e = let p = chosen_for a i in let q = chosen_for b k in sym (chosen_same flow sources L p.0 q.0 a b p.1 q.1 e)
 
   number_told : (q : Path) → is_some (maker_told made.makers q) ≡ true → maker_told made.makers q ≡ Some (number_for flow sources L cs q)
-  number_told q h = let t = some_in (maker_told made.makers q) h in t.1 ∙ ap Some (links.right q t.0 t.1)
+  number_told q h = let t = some_of (maker_told made.makers q) h in t.1 ∙ ap Some (links.right q t.0 t.1)
 
   -- a path for which a job is chosen
   told_made : (q : Path) (c : Candidate) (n : ℕ) → choose flow sources q ≡ Make c → place_of cs (making c) ≡ Some n → is_some (maker_told made.makers q) ≡ true → (t : IsToldOf made q) × (t.number ≡ Some n)
@@ -198,7 +139,7 @@ module _
       let w = chosen_for d.0 (distinct_in same_candidate walked d.0 d.1) in
       let same : d.0 ≡ c = chosen_same flow sources L w.0 q d.0 c w.1 e d.2 in
       let there : job_at made.jobs n ≡ Some (job flow L d.0) = ap (λ js. job_at js n) are ∙ d.3 in
-      let own : makes (job flow L d.0) q ≡ true = subst (λ x. makes (job flow L x) q ≡ true) (sym same) (chosen_makes flow sources L q c e) in (
+      let own : makes (job flow L d.0) q ≡ true = subst (λ x. makes (job flow L x) q ≡ true) (sym same) (job_makes flow sources L q c e) in (
         record {
           number = Some n;
           told = number_told q h ∙ ap Some (ap (λ ch. number_in cs (maker ch)) e ∙ p);
@@ -236,9 +177,9 @@ module _
       go (inl e) = (told_source t e same h).0
       go (inr (c, e)) =
           let w = in_flat (walk flow sources L 200) targets t c i (own_walked flow sources L walked 200 t c (reached t i) e) in
-          let d = in_distinct same_candidate is_its_job same_trans walked c w in
+          let d = in_distinct same_candidate is_its_job candidate_trans walked c w in
           let p = place_front cs [] (making c) d.0 d.1 d.2 in
-          (told_made t c p.0 e (ap (λ xs. place_of xs (making c)) (sym (append_none cs)) ∙ p.2) h).0
+          (told_made t c p.0 e (ap (λ xs. place_of xs (making c)) (sym (append-nil cs)) ∙ p.2) h).0
 
   module _ (same : Each (λ (j : Job). Each (λ q. sources.is q ≡ is_source image q) (in_paths j.recipe ++ gathers_from j)) made.jobs) where
     read_from :

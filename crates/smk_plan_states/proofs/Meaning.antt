@@ -25,7 +25,7 @@ use Rattle.smk_laws_plan.proofs.CurrentLists.{In, in_left, in_right, in_either, 
 use Rattle.smk_laws_plan.proofs.CurrentPaths.{among_in, in_among, touch_overlaps}
 use Rattle.smk_laws_plan.proofs.CurrentApart.{Apart, JobsApart, maker_found, apart_same, own_apart}
 use Rattle.smk_laws_plan.proofs.CurrentChosen.{paths_are, folders_paths}
-use Rattle.smk_laws_plan.proofs.PlanStates.{any_same}
+use Rattle.smk_laws_plan.proofs.PlanStates.{any_same, table_open, table_dirty}
 use Rattle.smk_plan_states.proofs.Tests.{and_true, and_or, any_or, any_map, any_filter, among_once}
 
 -- ## Outputs of a job that lie apart
@@ -110,31 +110,15 @@ running_clean false [] true false = refl
 running_clean false [] false true = refl
 running_clean false [] false false = refl
 
-plain_open : (b : Bool) (rs : List Reason) (x y : Bool) → is_open (cond b Open (by_reasons rs x)) ≡ is_open (cond b Open (by_reasons rs y))
-plain_open true rs x y = refl
-plain_open false (r ∷ rs) x y = refl
-plain_open false [] true true = refl
-plain_open false [] true false = refl
-plain_open false [] false true = refl
-plain_open false [] false false = refl
-
-plain_dirty : (b : Bool) (rs : List Reason) (x y : Bool) → is_dirty (cond b Open (by_reasons rs x)) ≡ is_dirty (cond b Open (by_reasons rs y))
-plain_dirty true rs x y = refl
-plain_dirty false (r ∷ rs) x y = refl
-plain_dirty false [] true true = refl
-plain_dirty false [] true false = refl
-plain_dirty false [] false true = refl
-plain_dirty false [] false false = refl
-
 state_open : (o : Option State) (b : Bool) (rs : List Reason) (x y : Bool) → is_open (while_running o (cond b Open (by_reasons rs x))) ≡ is_open (while_running o (cond b Open (by_reasons rs y)))
-state_open None b rs x y = plain_open b rs x y
+state_open None b rs x y = table_open b rs x y
 state_open (Some (Dirty own)) b rs x y = refl
 state_open (Some Open) b rs x y = ap is_open (running_clean b rs x y)
 state_open (Some Restore) b rs x y = ap is_open (running_clean b rs x y)
 state_open (Some Clean) b rs x y = ap is_open (running_clean b rs x y)
 
 state_dirty : (o : Option State) (b : Bool) (rs : List Reason) (x y : Bool) → is_dirty (while_running o (cond b Open (by_reasons rs x))) ≡ is_dirty (while_running o (cond b Open (by_reasons rs y)))
-state_dirty None b rs x y = plain_dirty b rs x y
+state_dirty None b rs x y = table_dirty b rs x y
 state_dirty (Some (Dirty own)) b rs x y = refl
 state_dirty (Some Open) b rs x y = ap is_dirty (running_clean b rs x y)
 state_dirty (Some Restore) b rs x y = ap is_dirty (running_clean b rs x y)

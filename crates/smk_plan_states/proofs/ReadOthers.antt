@@ -24,7 +24,7 @@ use Rattle.smk_laws_plan.proofs.CurrentLists.{In, in_left, find_in, find_some, n
 use Rattle.smk_laws_plan.proofs.CurrentPaths.{in_among}
 use Rattle.smk_laws_plan.proofs.CurrentApart.{JobsApart, maker_found, makes_above}
 use Rattle.smk_laws_plan.proofs.PlanStates.{any_same}
-use Rattle.smk_plan_states.proofs.Tests.{same_test, any_never, and_true}
+use Rattle.smk_plan_states.proofs.Tests.{same_test, any_never, and_true, and_false}
 use Rattle.smk_plan_states.proofs.Apart.{each_in, jobs_apart_from}
 use Rattle.smk_plan_states.proofs.Meaning.{found_with}
 use Rattle.smk_plan_states.proofs.Told.{IsReadOf, told_below, read_of}
@@ -59,10 +59,6 @@ any_zipped f g h (x ∷ xs) = ap (λ b. f (g x, h x) || b) (any_zipped f g h xs)
 any_and : {A : Type 0} (c : Bool) (f : A → Bool) (xs : List A) → list_any (λ x. c && f x) xs ≡ (c && list_any f xs)
 any_and true f xs = refl
 any_and false f xs = any_never xs
-
-and_false : (b : Bool) → (b && false) ≡ false
-and_false true = refl
-and_false false = refl
 
 parts_at : (image : Image) (js : List Job) (n : Option ℕ) → option_and_then (slice_get (map (parts_of image) js)) n ≡ option_map (parts_of image) (option_and_then (job_at js) n)
 parts_at image js None = refl

@@ -24,7 +24,7 @@ use Rattle.smk_plan_states.specs.Sites.{over_of}
 use Rattle.smk_plan_states.specs.Paths.{site_at}
 use Rattle.smk_plan_states.specs.Passes.{state_at}
 use Rattle.smk_plan_states.specs.Waits.{ready_told, waits_of, over_waits, part_waits, waits_told}
-use Rattle.smk_laws_plan.proofs.CurrentLists.{In, in_left, find_in, some_inj, none_some, clash_of, or_first}
+use Rattle.smk_laws_plan.proofs.CurrentLists.{In, find_in, some_inj, none_some, clash_of, or_first}
 use Rattle.smk_laws_plan.proofs.CurrentPaths.{in_among, touch_overlaps, above_touch}
 use Rattle.smk_laws_plan.proofs.CurrentApart.{JobsApart, makes_above, own_apart}
 use Rattle.smk_laws_plan.proofs.CurrentChosen.{folders_paths}
@@ -32,6 +32,7 @@ use Rattle.smk_laws_plan.proofs.CurrentRecipes.{map_same}
 use Rattle.smk_plan_states.proofs.Apart.{each_in, jobs_apart_from}
 use Rattle.smk_plan_states.proofs.Meaning.{directory_whole}
 use Rattle.smk_plan_states.proofs.Told.{IsReadOf, IsTold, told_below, told_some, read_of}
+use Rattle.smk_plan_states.proofs.Tests.{and_false}
 
 -- ## Makers by number
 
@@ -74,10 +75,6 @@ first_found (j ∷ js) (s ∷ ss) q e = go (makes j q) (first_found js ss q (ome
 none_first : (o : Option (Job × State)) → option_map (λ (e : Job × State). e.0) o ≡ None → o ≡ None
 none_first None e = refl
 none_first (Some x) e = absurd (none_some None x.0 refl (sym e))
-
-and_false : (b : Bool) → (b && false) ≡ false
-and_false true = refl
-and_false false = refl
 
 module _
     (image : Image) (settings : Settings) (progress : Progress) (J : Jobs) (asked : List Path) (ss : List State) (each : length ss ≡ length J.jobs) (served : AreServed J asked) where

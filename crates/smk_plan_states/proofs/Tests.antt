@@ -1,18 +1,21 @@
 -- Tests of lists: sums of tests, tests of parts, and tests that agree on the members.
-use Rattle.std.proofs.Common.{◌≡◌, ◌∙◌, Bool, true, false, not, cond, ◌&&◌, ◌||◌, List, [], ◌∷◌, ◌++◌, map, filter, flat_map, inl, inr, refl, sym, ap, Option, Some, is_some}
+use Rattle.std.proofs.Common.{◌≡◌, ◌∙◌, Bool, true, false, not, cond, ◌&&◌, ◌||◌, List, [], ◌∷◌, ◌++◌, map, filter, flat_map, refl, sym, ap, Option, Some, is_some}
 use Rattle.std.specs.Prelude.{bytes_eq}
 use Rattle.std.specs.List.{list_any}
 use Rattle.std.proofs.lemmas.List.Folds.{list_any-append}
 use Rattle.smk_base.proofs.Places.{same_place}
 use Rattle.smk_world.specs.Trees.{Path, among}
 use Rattle.smk_chain.specs.Derive.{distinct}
-use Rattle.smk_laws_plan.proofs.CurrentLists.{In}
 
 -- ## Booleans
 
 pub and_true : (b : Bool) → (b && true) ≡ b
 and_true true = refl
 and_true false = refl
+
+pub and_false : (b : Bool) → (b && false) ≡ false
+and_false true = refl
+and_false false = refl
 
 pub or_false : (b : Bool) → (b || false) ≡ b
 or_false true = refl
@@ -38,11 +41,6 @@ some_by true x o = refl
 some_by false x o = refl
 
 -- ## Lists
-
-pub filter_same : {A : Type 0} (f g : A → Bool) (xs : List A) → ((x : A) → In x xs → f x ≡ g x) → filter f xs ≡ filter g xs
-filter_same f g [] h = refl
-filter_same f g (x ∷ xs) h =
-    let e = h x (inl refl) in let r = filter_same f g xs (λ y k. h y (inr k)) in λ i. cond (e i) (x ∷ r i) (r i)
 
 pub any_or : {A : Type 0} (f g : A → Bool) (xs : List A) → list_any (λ x. f x || g x) xs ≡ (list_any f xs || list_any g xs)
 any_or f g [] = refl

@@ -2,6 +2,7 @@
 use Rattle.std.proofs.Common.{◌≡◌, ◌∙◌, ℕ, zero, suc, arith, ◌+◌, ◌<◌, length, get_or, drop, add-one, Bool, true, false, not, cond, ◌&&◌, ◌||◌, List, [], ◌∷◌, ◌++◌, map, filter, refl, sym, ap, append_assoc}
 use Rattle.std.specs.Prelude.{bytes_eq, if◌then◌else◌}
 use Rattle.std.proofs.Math.Seq.{drop-cons}
+use Rattle.std.proofs.lemmas.List.{length-map}
 use Rattle.smk_base.proofs.Places.{same_place, same_flipped}
 use Rattle.smk_world.specs.Trees.{Path}
 use Rattle.smk_chain.specs.Derive.{distinct}
@@ -97,10 +98,6 @@ made_at f [] i d e lt = absurd (omega arith)
 made_at f (x ∷ xs) zero d e lt = refl
 made_at f (x ∷ xs) (suc i) d e lt = made_at f xs i d e (omega arith)
 
-length_made : {A B : Type 0} (f : A → B) (xs : List A) → length (map f xs) ≡ length xs
-length_made f [] = refl
-length_made f (x ∷ xs) = ap suc (length_made f xs)
-
 -- one more of the directories that are awaited
 pub new_step :
     (listed seen later ready : Path → Bool) (waits : List Wait) (paths : List Path) (i : ℕ) (wait : Wait) (fresh : Bool) (found new : List Path) →
@@ -112,7 +109,7 @@ pub new_step :
     new ++ filter (λ d. (ready d && not (listed d)) && not (later d)) (distinct bytes_eq (drop (i + 1) paths)) ≡ whole
 new_step listed seen later ready waits paths i wait fresh found new e lt is told after made whole before =
     let x = wait.path in
-    let size : length waits ≡ length paths = ap length e ∙ length_made _ paths in
+    let size : length waits ≡ length paths = ap length e ∙ length-map paths _ in
     let lt' : i < length paths = omega arith in
     let same = is ∙ ap (λ ws. get_or ws i wait) e ∙ made_at (λ (d : Path). to_wait d) paths i x wait lt' in
     let path : x ≡ get_or paths i x = ap (λ (w : Wait). w.path) same in

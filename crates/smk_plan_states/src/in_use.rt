@@ -9,8 +9,9 @@ ghost use Rattle.smk_pattern.specs.Reading.{or_empty};
 ghost use Rattle.smk_plan_states.specs.InUse.{maker_parts, maker_name, is_made_for, in_use_told, is_in_use_told};
 
 use crate::parts::Parts;
-use crate::paths::{Paths, put};
+use crate::paths::Paths;
 use smk_base::{OutOfMemory, PathText};
+use smk_chain::sets::put;
 use smk_trigger::State;
 use std::alloc::Global;
 use std::collections::BTreeSet;

@@ -13,6 +13,7 @@ ghost use Rattle.smk_plan_states.specs.Paths.{over_paths, awaits_told, awaited_t
 use crate::parts::{Parts, push_paths};
 use crate::sites::{Site, sites_of};
 use smk_base::{List, OutOfMemory, PathText};
+use smk_chain::sets::{put, set_of};
 use smk_chain::{Jobs, Known};
 use smk_flow::Job;
 use smk_world::Item;
@@ -33,19 +34,6 @@ pub(crate) struct Paths<'j> {
     pub(crate) listed: BTreeSet<String>,
 }
 
-/// Adds the path.
-pub(crate) fn put(
-    alloc: Global,
-    set: &mut BTreeSet<String>,
-    path: &PathText,
-) -> Result<(), OutOfMemory>
-    ensures { OnOk result ((q : Path) → contains_text set.new q ≡ (bytes_eq q path.now || contains_text set.old q)) }
-{
-    let text = String::from_str(alloc, path.as_str())?;
-    set.insert(text)?;
-    Ok(())
-}
-
 /// Adds the paths.
 pub(crate) fn put_all(
     alloc: Global,
@@ -58,15 +46,6 @@ pub(crate) fn put_all(
         put(alloc, set, path)?;
     }
     Ok(())
-}
-
-/// The set of the paths.
-pub(crate) fn set_of(alloc: Global, paths: &[PathText]) -> Result<BTreeSet<String>, OutOfMemory>
-    ensures { IfOk result (λ set. (q : Path) → contains_text set q ≡ among paths.now q) }
-{
-    let mut set = BTreeSet::new(alloc);
-    put_all(alloc, &mut set, paths)?;
-    Ok(set)
 }
 
 // Adds the path, which a job reads.

@@ -10,9 +10,9 @@ ghost use Rattle.smk_plan_states.specs.Waits.{ready_told, over_waits, part_waits
 
 use crate::opening::is_made_clean;
 use crate::parts::Parts;
-use crate::paths::put;
 use crate::sites::Site;
 use smk_base::{List, OutOfMemory, PathText};
+use smk_chain::sets::put;
 use smk_trigger::State;
 use std::alloc::Global;
 use std::collections::{BTreeMap, BTreeSet};

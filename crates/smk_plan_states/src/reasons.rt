@@ -10,8 +10,9 @@ ghost use Rattle.smk_trigger.specs.Reasons.{when};
 ghost use Rattle.smk_plan_states.specs.Passes.{is_dirty_told};
 
 use crate::opening::is_made_dirty;
-use crate::paths::{Paths, put};
+use crate::paths::Paths;
 use smk_base::{List, OutOfMemory, PathText};
+use smk_chain::sets::put;
 use smk_trigger::{Reason, State};
 use std::alloc::Global;
 use std::collections::BTreeSet;

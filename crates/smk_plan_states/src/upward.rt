@@ -20,10 +20,11 @@ ghost use Rattle.smk_plan_states.specs.First.{first_state, first_told, IsSolved}
 use crate::in_use::is_in_use;
 use crate::opening::is_open;
 use crate::parts::Parts;
-use crate::paths::{Paths, set_of};
+use crate::paths::Paths;
 use crate::reasons::all_reasons;
 use crate::sites::flag_at;
 use smk_base::{List, OutOfMemory, PathText};
+use smk_chain::sets::set_of;
 use smk_trigger::{Reason, State};
 use std::alloc::Global;
 use std::collections::BTreeSet;

@@ -24,10 +24,11 @@ use Rattle.smk_plan.specs.Sights.{wholes_of}
 use Rattle.smk_plan.specs.States.{Plan, Progress, HasStates, is_forced, is_ready, is_current, awaited, files_listed, new_listings}
 use Rattle.smk_drive.specs.Moments.{Rules}
 use Rattle.smk_plan_facts.specs.Facts.{having_run, facts_of, told_sources}
+use Rattle.smk_plan_facts.proofs.Tests.{map_twice}
 use Rattle.smk_plan_states.specs.Judged.{with_states, reasons_now, AreJudgedNow}
 use Rattle.smk_plan_table.specs.Parts.{is_source_in, each_or, listing_in, refusals_in}
 use Rattle.smk_plan_table.specs.Plans.{Agree, idle_at, HasMadeAt, IsUnrefused, IsRefusedAt}
-use Rattle.smk_plan_table.proofs.Lists.{each_turn, map_same, map_twice}
+use Rattle.smk_plan_table.proofs.Lists.{each_turn, map_same}
 use Rattle.smk_plan_table.proofs.Refused.{refused_first, unrefused_all}
 use Rattle.smk_plan_table.proofs.Idle.{now_alone}
 use Rattle.smk_plan_table.proofs.Told.{source_same, each_or_same, files_same, zip_same}

@@ -16,6 +16,7 @@ use Rattle.smk_pick.specs.declared.settings.Settings.{Settings}
 use Rattle.smk_plan.specs.States.{Progress, job_path, is_forced, kept_state, is_restored}
 use Rattle.smk_plan_facts.specs.Facts.{having_run}
 use Rattle.smk_plan_states.specs.Judged.{with_states, reasons_alone, reasons_now}
+use Rattle.smk_plan_states.proofs.Tests.{and_true, any_never}
 use Rattle.smk_plan_table.specs.Parts.{idle_in}
 use Rattle.smk_plan_table.specs.Plans.{runs_at, idle_at}
 
@@ -51,17 +52,9 @@ module _ (image : Image) (settings : Settings) (progress : Progress) (all : Jobs
 
 -- ## Where none runs
 
-none_of : {A : Type 0} (xs : List A) → list_any (λ x. false) xs ≡ false
-none_of [] = refl
-none_of (x ∷ xs) = none_of xs
-
-and_true : (b : Bool) → (b && true) ≡ b
-and_true true = refl
-and_true false = refl
-
 module _ (image : Image) (settings : Settings) (ran : List Path) (jobs : Jobs) where
   marks : (h : Path) → is_marked_but image (is_restored image settings (having_run ran) (with_states jobs [])) h ≡ image.marked h
-  marks h = ap (λ b. image.marked h && not b) (none_of jobs.jobs) ∙ and_true (image.marked h)
+  marks h = ap (λ b. image.marked h && not b) (any_never jobs.jobs) ∙ and_true (image.marked h)
 
   -- every mark counts
   pub now_alone : (j : Job) → reasons_alone image settings (having_run ran) jobs j ≡ reasons_now image settings (having_run ran) jobs j

@@ -74,10 +74,6 @@ module _ {A B : Type 0} where
   tested test f (x ∷ xs) = ap (λ ys. (if test x then f x ∷ [] else []) ++ ys) (tested test f xs) ∙ one_tested f x (filter test xs) (test x)
 
 module _ {A B C : Type 0} where
-  pub map_twice : (f : B → C) (g : A → B) (xs : List A) → map f (map g xs) ≡ map (λ x. f (g x)) xs
-  map_twice f g [] = refl
-  map_twice f g (x ∷ xs) = ap (λ ys. f (g x) ∷ ys) (map_twice f g xs)
-
   pub map_flat : (f : B → C) (g : A → List B) (k : A → List C) → ((x : A) → map f (g x) ≡ k x) → (xs : List A) → map f (flat_map g xs) ≡ flat_map k xs
   map_flat f g k h [] = refl
   map_flat f g k h (x ∷ xs) =

@@ -29,7 +29,8 @@ use Rattle.smk_drive.specs.Moments.{Rules}
 use Rattle.smk_drive.specs.Refusals.{unless_empty, incomplete, guarded, above_limit, is_ahead, ahead, of_command, refused_of}
 use Rattle.smk_plan_table.specs.Parts.{is_marked_in, is_guarded_in, is_before, before_in, unless_none, marked_in, guarded_in, above_by, above_of, above_in, all_above, paths_in, outputs_of, refusals_in}
 use Rattle.smk_plan_table.specs.Plans.{idle_at, IsUnrefused, fault_in}
-use Rattle.smk_plan_table.proofs.Lists.{each_join, each_front, each_back, filter_same, behind, none_there, empty_front, empty_back, each_mapped, each_flat, each_turn, map_twice, map_flat, tested}
+use Rattle.smk_plan_table.proofs.Lists.{each_join, each_front, each_back, filter_same, behind, none_there, empty_front, empty_back, each_mapped, each_flat, each_turn, map_flat, tested}
+use Rattle.smk_plan_facts.proofs.Tests.{map_twice}
 
 -- ## Outputs
 

@@ -1,11 +1,7 @@
 -- What a plan tells by its parts is so in the image with which they agree.
-use Rattle.std.proofs.Common.{◌≡◌, ℕ, suc, length, Bool, true, false, cond, ◌&&◌, ◌||◌, not, List, [], ◌∷◌, ◌++◌, map, Option, Some, None, refl, sym, ap, subst, ◌∙◌, bytes_eq}
-use Rattle.std.specs.Prelude.{if◌then◌else◌, zip, option_map, is_none, is_some}
+use Rattle.std.proofs.Common.{◌≡◌, suc, length, Bool, true, false, cond, ◌&&◌, ◌||◌, not, List, [], ◌∷◌, ◌++◌, map, Some, None, refl, sym, ap, ◌∙◌}
+use Rattle.std.specs.Prelude.{if◌then◌else◌, zip, option_map, is_some}
 use Rattle.std.specs.List.{filter}
-use Rattle.smk_base.proofs.Places.{same_place}
-use Rattle.smk_world.specs.declared.event.Node.{Node}
-use Rattle.smk_world.specs.declared.event.Node.TheVariants.{Regular, Directory}
-use Rattle.smk_world.specs.Calls.{stat_of}
 use Rattle.smk_world.specs.Trees.{Path, Each, among, is_path_text}
 use Rattle.smk_record.specs.declared.record.Member.{Member}
 use Rattle.smk_record.specs.Records.{members_of}
@@ -20,34 +16,12 @@ use Rattle.smk_plan.specs.declared.seen.Sight.{Sight}
 use Rattle.smk_plan.specs.Sights.{IsSeenAs, IsSourceSeen}
 use Rattle.smk_plan.specs.States.{files_listed, test_some}
 use Rattle.smk_plan_facts.specs.Facts.{told_sources}
-use Rattle.smk_plan_table.specs.Parts.{is_file_stat, is_file_in, is_source_in, later_flags, each_or, file_in, files_among, files_kept, files_told, files_in}
+use Rattle.smk_plan_facts.specs.Telling.{is_file_stat}
+use Rattle.smk_plan_facts.proofs.Stamped.{source_seen}
+use Rattle.smk_plan_facts.proofs.WholesTold.{file_by}
+use Rattle.smk_plan_table.specs.Parts.{is_file_in, is_source_in, later_flags, each_or, file_in, files_among, files_kept, files_told, files_in}
 
 -- ## Sources
-
--- a path that is told of as a source is seen
-pub source_seen : (image : Image) (seen : List Sight) (makers : List Maker) (t : Path) →
-    Each (IsSourceSeen image seen) makers → among (told_sources makers) t ≡ true → IsSeenAs image seen t
-source_seen image seen [] t h e = absurd cc
-source_seen image seen (m ∷ makers) t h e = by_job (source_seen image seen makers t h.1) m.job refl
-  where
-    rest : List Maker
-    rest = filter (λ (x : Maker). is_none x.job) makers
-
-    here : (among (told_sources makers) t ≡ true → IsSeenAs image seen t) → m.job ≡ None →
-        (b : Bool) → bytes_eq t m.path ≡ b → (b || among (told_sources makers) t) ≡ true → IsSeenAs image seen t
-    here again none true same k = subst (IsSeenAs image seen) (sym (same_place t m.path same)) (h.0 none)
-    here again none false other k = again k
-
-    by_job : (among (told_sources makers) t ≡ true → IsSeenAs image seen t) → (o : Option ℕ) → m.job ≡ o → IsSeenAs image seen t
-    by_job again None is =
-        here again is (bytes_eq t m.path) refl (sym (ap (λ (o : Option ℕ). among (map (λ (x : Maker). x.path) (cond (is_none o) (m ∷ rest) rest)) t) is) ∙ e)
-    by_job again (Some n) is =
-        again (sym (ap (λ (o : Option ℕ). among (map (λ (x : Maker). x.path) (cond (is_none o) (m ∷ rest) rest)) t) is) ∙ e)
-
-file_seen : (node : Option Node) → is_file_stat (stat_of node) ≡ is_some (content_of node)
-file_seen None = refl
-file_seen (Some Directory) = refl
-file_seen (Some (Regular bytes time read_only)) = refl
 
 -- a target is a source just where it is told of as one and was seen as one
 pub source_same : (image : Image) (makers : List Maker) (store : List Known) (seen : List Sight) (t : Path) →
@@ -64,7 +38,7 @@ source_same image makers store seen t s h told = go (among (told_sources makers)
         let sight : IsSeenAs image seen t = source_seen image seen makers t h e in
         ap (λ b. b && (is_path_text t && (is_file_in seen t && not (is_covered_in store t)))) e
         ∙ ap (λ o. is_path_text t && (test_some (λ (x : Sight). is_file_stat x.stat) o && not (is_covered_in store t))) sight
-        ∙ ap (λ b. is_path_text t && (b && not (is_covered_in store t))) (file_seen (image.node t))
+        ∙ ap (λ b. is_path_text t && (b && not (is_covered_in store t))) (file_by (image.node t))
         ∙ ap (λ b. is_path_text t && (is_some (content_of (image.node t)) && not b)) (s.covered t)
     go false e =
         ap (λ b. b && (is_path_text t && (is_file_in seen t && not (is_covered_in store t)))) e ∙ none (is_source image t) refl e

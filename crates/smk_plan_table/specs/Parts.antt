@@ -1,10 +1,8 @@
 -- The parts of a plan, by what the store has, what was seen and what is told of makers.
-use Rattle.std.specs.Prelude.{ℕ, Bool, true, false, ◌&&◌, ◌||◌, not, List, [], ◌∷◌, ◌++◌, map, filter, nat_lt, if◌then◌else◌, Option, Some, None, option_map, is_none}
+use Rattle.std.specs.Prelude.{ℕ, Bool, false, ◌&&◌, ◌||◌, not, List, [], ◌∷◌, ◌++◌, map, filter, nat_lt, if◌then◌else◌, Option, Some, None, option_map, is_none}
 use Rattle.std.specs.List.{flat_map}
 use denote.Ref.{Bor}
 use Rattle.smk_base.specs.declared.tree.Amount.{Amount}
-use Rattle.smk_world.specs.declared.event.Stat.{Stat}
-use Rattle.smk_world.specs.declared.event.Stat.TheVariants.{Nothing as NoStat, File as FileStat, Folder as FolderStat}
 use Rattle.smk_world.specs.declared.recipe.Out.{Out}
 use Rattle.smk_world.specs.declared.recipe.OutItem.{OutItem}
 use Rattle.smk_world.specs.World.{out_paths}
@@ -28,6 +26,7 @@ use Rattle.smk_plan.specs.declared.seen.Sight.{Sight}
 use Rattle.smk_plan.specs.States.{job_path, test_some}
 use Rattle.smk_plan.specs.Sights.{sight_at}
 use Rattle.smk_plan_facts.specs.Facts.{told_sources}
+use Rattle.smk_plan_facts.specs.Telling.{is_file_stat}
 
 -- what is lent
 abbrev pub shown : {A : Type 0} → List (Bor A) → List A
@@ -93,11 +92,6 @@ refusals_in store seen settings ran idle jobs states =
     marked_in store settings.rerun_incomplete idle ++ (guarded_in seen front ++ all_above settings.bounds front)
 
 -- ## What is current
-
-abbrev pub is_file_stat : Stat → Bool
-is_file_stat NoStat = false
-is_file_stat (FileStat time read_only) = true
-is_file_stat FolderStat = false
 
 abbrev pub is_file_in : List Sight → Path → Bool
 is_file_in seen p = test_some (λ (s : Sight). is_file_stat s.stat) (sight_at seen p)

@@ -11,9 +11,9 @@ use smk_chain::Jobs;
 use smk_flow::Job;
 use smk_pick::Settings;
 use smk_plan::{Seen, Wholes};
-use smk_plan_facts::{facts, wholes};
+use smk_plan_facts::{facts, forced_of, wholes};
 use smk_store::Store;
-use smk_trigger::{JobFacts, Plain, Reason, State, all_reasons};
+use smk_trigger::{Plain, Reason, State, all_reasons};
 use std::alloc::Global;
 use std::thread::Threads;
 
@@ -27,17 +27,6 @@ pub(crate) struct Judged {
     pub(crate) wholes: Wholes,
     /// For each job the state that it had when it began, if its child runs.
     pub(crate) running: List<Option<State>>,
-}
-
-// Which jobs are forced.
-fn forced_of(alloc: Global, facts: &[JobFacts]) -> Result<List<bool>, OutOfMemory>
-    ensures { IfOk result (λ found. found ≡ map (λ f. f.forced) facts.now) }
-{
-    let mut found = List::new(alloc);
-    for one in facts {
-        found.push(one.forced)?;
-    }
-    Ok(found)
 }
 
 // No state for each job.

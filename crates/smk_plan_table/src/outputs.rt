@@ -1,14 +1,11 @@
 //! The outputs of jobs.
 
-ghost use Rattle.std.specs.Prelude.{◌≡◌, ◌++◌, map, option_map, IfOk, OnOk};
-ghost use Rattle.std.specs.List.{flat_map};
-ghost use Rattle.smk_world.specs.World.{out_paths};
-ghost use Rattle.smk_world.specs.Trees.{first};
+ghost use Rattle.std.specs.Prelude.{◌≡◌, ◌++◌, map, IfOk, OnOk};
 ghost use Rattle.smk_plan_table.specs.Parts.{shown, paths_in, outputs_of};
 
 use smk_base::{OutOfMemory, PathText};
 use smk_flow::Job;
-use smk_world::{Out, OutItem, Recipe};
+use smk_world::{Out, OutItem};
 use std::alloc::Global;
 
 // Adds the paths of the outputs.
@@ -43,34 +40,4 @@ pub(crate) fn outputs_of<'j>(
         push_items(&mut found, job.recipe.outputs.as_slice())?;
     }
     Ok(found)
-}
-
-// The path of the first of these outputs.
-fn first_path(outs: &[Out]) -> Option<&PathText>
-    ensures { option_map (λ p. p.now) result ≡ first (map (λ o. o.path) outs.now) }
-{
-    match outs.split_first() {
-        Some((out, _)) => Some(&out.path),
-        None => None,
-    }
-}
-
-// The first path of the outputs of these items.
-fn first_in(items: &[OutItem]) -> Option<&PathText>
-    ensures { option_map (λ p. p.now) result ≡ first (paths_in items.now) }
-{
-    for item in items {
-        match first_path(item.outs.as_slice()) {
-            Some(path) => return Some(path),
-            None => continue,
-        }
-    }
-    None
-}
-
-/// The first output of the recipe.
-pub(crate) fn first_output(recipe: &Recipe) -> Option<&PathText>
-    ensures { option_map (λ p. p.now) result ≡ first (out_paths recipe.now) }
-{
-    first_in(recipe.outputs.as_slice())
 }

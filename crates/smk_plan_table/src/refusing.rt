@@ -9,13 +9,13 @@ ghost use Rattle.smk_plan_table.specs.Parts.{shown, is_before, before_in, idle_i
 
 use crate::guarding::first_guarded;
 use crate::marking::marked_among;
-use crate::outputs::{first_output, outputs_of};
+use crate::outputs::outputs_of;
 use crate::room::first_above;
-use crate::sets::set_of;
 use smk_base::{List, OutOfMemory, PathText};
+use smk_chain::sets::set_of;
 use smk_flow::Job;
 use smk_pick::Settings;
-use smk_plan::{PlanFault, Told};
+use smk_plan::{PlanFault, Told, name_of};
 use smk_trigger::State;
 use std::alloc::Global;
 use std::collections::BTreeSet;
@@ -36,10 +36,7 @@ fn has_to_run(state: &State) -> bool
 fn has_begun(begun: &BTreeSet<String>, job: &Job) -> bool
     ensures { result ≡ contains_text begun.now (job_path job.now) }
 {
-    match first_output(&job.recipe) {
-        Some(path) => begun.contains(path.as_str()),
-        None => begun.contains(""),
-    }
+    begun.contains(name_of(job))
 }
 
 // Adds the job where this holds.

@@ -4,8 +4,8 @@ ghost use Rattle.std.specs.Prelude.{◌≡◌, IfOk};
 ghost use Rattle.smk_world.specs.Trees.{first};
 ghost use Rattle.smk_plan_table.specs.Parts.{shown, above_by, above_of, above_in, all_above};
 
-use crate::outputs::first_output;
 use smk_base::{Amount, List, OutOfMemory};
+use smk_chain::first_output;
 use smk_flow::Job;
 use smk_pick::amount_of;
 use smk_plan::PlanFault;
@@ -15,7 +15,7 @@ use std::alloc::Global;
 fn above(alloc: Global, job: &Job, bound: &Amount, asked: u64) -> Result<PlanFault, OutOfMemory>
     ensures { IfOk result (λ fault. fault ≡ above_by job.now asked bound.now) }
 {
-    let Some(path) = first_output(&job.recipe) else {
+    let Some(path) = first_output(job) else {
         return Err(OutOfMemory);
     };
     Ok(PlanFault::AboveLimit {

@@ -1,35 +1,16 @@
-//! Sets of paths.
+//! The set of the sources.
 
-ghost use Rattle.std.specs.Prelude.{◌≡◌, ◌||◌, IfOk, OnOk, bytes_eq};
+ghost use Rattle.std.specs.Prelude.{◌≡◌, ◌||◌, IfOk, OnOk};
 ghost use Rattle.std.specs.BTreeSet.{contains_text};
 ghost use Rattle.smk_world.specs.Trees.{Path, among};
 ghost use Rattle.smk_plan_facts.specs.Facts.{told_sources};
 ghost use Rattle.smk_plan_table.specs.Parts.{source_told};
 
-use smk_base::{OutOfMemory, PathText};
+use smk_base::OutOfMemory;
 use smk_chain::Maker;
+use smk_chain::sets::put;
 use std::alloc::Global;
 use std::collections::BTreeSet;
-
-// Adds the path.
-fn put(alloc: Global, set: &mut BTreeSet<String>, path: &PathText) -> Result<(), OutOfMemory>
-    ensures { OnOk result ((q : Path) → contains_text set.new q ≡ (bytes_eq q path.now || contains_text set.old q)) }
-{
-    let text = String::from_str(alloc, path.as_str())?;
-    set.insert(text)?;
-    Ok(())
-}
-
-/// The set of the paths.
-pub(crate) fn set_of(alloc: Global, paths: &[PathText]) -> Result<BTreeSet<String>, OutOfMemory>
-    ensures { IfOk result (λ set. (q : Path) → contains_text set q ≡ among paths.now q) }
-{
-    let mut set = BTreeSet::new(alloc);
-    for path in paths {
-        put(alloc, &mut set, path)?;
-    }
-    Ok(set)
-}
 
 // Adds the path of the maker, where no job makes it.
 fn put_source(alloc: Global, set: &mut BTreeSet<String>, maker: &Maker) -> Result<(), OutOfMemory>

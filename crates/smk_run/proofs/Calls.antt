@@ -138,13 +138,13 @@ stamped_each P all made (p ∷ ps) [] es h = absurd h
 stamped_each P all made (p ∷ ps) (s ∷ stamps) es (first, more, e, one, next) =
     each_then P es first more e (stamp_each P all (made p) p s first one) (stamped_each P all made ps stamps more next)
 
-pub has_stamped_each : (P : Request → Type 0) (all : OfLooks P) (made : Serials) (ps : List Path) (r : Result (List Stamp) Stop) (es : List Event) → HasStamped made ps r es → EachCall P es
-has_stamped_each P all made ps (Ok stamps) es h = stamped_each P all made ps stamps es h
-has_stamped_each P all made ps (Err (stop.Gone p)) es h = part_each P (looks made ps) es (inputs_each P all made ps) h.0
-has_stamped_each P all made ps (Err (stop.TooLong n)) es h = part_each P (looks made ps) es (inputs_each P all made ps) h
-has_stamped_each P all made ps (Err stop.Device) es h = part_each P (looks made ps) es (inputs_each P all made ps) h
-has_stamped_each P all made ps (Err stop.Output) es h = part_each P (looks made ps) es (inputs_each P all made ps) h
-has_stamped_each P all made ps (Err stop.OutOfMemory) es h = part_each P (looks made ps) es (inputs_each P all made ps) h
+pub has_stamped_each : (P : Request → Type 0) (all : OfLooks P) (made : Serials) (ps : List Path) (r : Result (List Stamp) Stop) (w : World) (es : List Event) → HasStamped made ps r w es → EachCall P es
+has_stamped_each P all made ps (Ok stamps) w es h = stamped_each P all made ps stamps es h
+has_stamped_each P all made ps (Err (stop.Gone p)) w es h = part_each P (looks made ps) es (inputs_each P all made ps) h.0
+has_stamped_each P all made ps (Err (stop.TooLong n)) w es h = part_each P (looks made ps) es (inputs_each P all made ps) h
+has_stamped_each P all made ps (Err stop.Device) w es h = part_each P (looks made ps) es (inputs_each P all made ps) h
+has_stamped_each P all made ps (Err stop.Output) w es h = part_each P (looks made ps) es (inputs_each P all made ps) h
+has_stamped_each P all made ps (Err stop.OutOfMemory) w es h = part_each P (looks made ps) es (inputs_each P all made ps) h
 
 -- ## The closing
 

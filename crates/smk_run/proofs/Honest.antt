@@ -1,6 +1,5 @@
 -- Which statuses are told: a wait's by the device, and none else.
-use Rattle.std.proofs.Common.{◌≡◌, ◌≢◌, ◌≤◌, ℕ, Bool, true, false, List, [], ◌∷◌, ◌++◌, map, refl, sym, subst, inl, inr, Option, Some, Result, Ok, Err, arith}
-use Rattle.std.specs.Prelude.{nat_lt}
+use Rattle.std.proofs.Common.{◌≡◌, ◌≢◌, ◌≤◌, ℕ, List, [], ◌∷◌, ◌++◌, map, refl, sym, subst, Option, Some, Result, Ok, Err}
 use Rattle.smk_base.specs.Place.{mark_place, record_place, note_place}
 use Rattle.smk_base.specs.declared.tree.Tree.{Tree}
 use Rattle.smk_world.specs.declared.event.Call.{Call}
@@ -12,14 +11,14 @@ use Rattle.smk_world.specs.declared.event.Failed.{Failed}
 use Rattle.smk_world.specs.declared.event.WorkFault.{WorkFault}
 use Rattle.smk_world.specs.declared.recipe.Recipe.{Recipe}
 use Rattle.smk_world.specs.World.{World, after, run, out_paths, owned_paths, child_numbered}
-use Rattle.smk_world.specs.Calls.{ContentsAre, Happened, Rose}
+use Rattle.smk_world.specs.Calls.{ContentsAre, Rose, device_failed}
 use Rattle.smk_world.specs.Requests.{Request, request}
 use Rattle.smk_world.specs.Requests.Request.{Look, ReadUpTo, ListFolder, Write, Create, Remove, MakeParents, Settle, Protect, Start, Wait}
+use Rattle.smk_world.specs.Devices.{Device, WhereTold, HasCalled, HasActed}
 use Rattle.smk_world.specs.Runs.{Did}
 use Rattle.smk_world.specs.Trees.{Path, Act, Each}
 use Rattle.smk_world.proofs.Runs.{did_both}
 use Rattle.smk_store.specs.Steps.{make_each, remove_each, write_each, mark_requests, drop_requests, unmark_requests, places_of}
-use Rattle.smk_store.proofs.Carried.{did_as}
 use Rattle.smk_record.specs.declared.record.Stamp.{Stamp}
 use Rattle.smk_job.specs.declared.fault.BeginFault.{BeginFault}
 use Rattle.smk_job.specs.declared.fault.BeginFault.TheVariants as begin
@@ -28,9 +27,11 @@ use Rattle.smk_run.specs.declared.ending.Ending.{Ending}
 use Rattle.smk_run.specs.declared.stop.Stop.{Stop}
 use Rattle.smk_run.specs.Closings.{wait_event, HasSettled}
 use Rattle.smk_run.specs.Stamps.{Serials, HasStamped}
-use Rattle.smk_run.specs.Statuses.{IsGiven, AreGiven}
+use Rattle.smk_run.specs.Statuses.{IsGiven, AreGiven, HasGiven}
 use Rattle.smk_run.proofs.Calls.{EachCall, OfLooks, OfClosing, each_append, done_each, cut_each, has_stamped_each, settled_each}
 use Rattle.smk_run.proofs.Closes.{did_first}
+use Rattle.smk_run.proofs.Ends.{did_as}
+use Rattle.smk_run.proofs.Rising.{rose_earlier, rose_later}
 
 -- ## Events
 
@@ -56,10 +57,16 @@ pub given_append : (act : Act) (A : Type 0) (w : World) (es fs : List Event) →
 given_append act A w [] fs h k = k
 given_append act A w (e ∷ es) fs h k = (h.0, given_append act A (after w e) es fs h.1 k)
 
-pub did_given_both : (act : Act) (A B C : Type 0) (a b c : Option World) → (A → C) → (B → C) → Did act a b (AreGiven act A) → Did act b c (AreGiven act B) → Did act a c (AreGiven act C)
+did_given_both : (act : Act) (A B C : Type 0) (a b c : Option World) → (A → C) → (B → C) → Did act a b (AreGiven act A) → Did act b c (AreGiven act B) → Did act a c (AreGiven act C)
 did_given_both act A B C a b c less fewer h k =
     did_both act (AreGiven act A) (AreGiven act B) (AreGiven act C) a b c h k
     (λ w es fs follows f follows2 g. given_append act C w es fs (given_weaker act A C w es less f) (given_weaker act B C (run w es) fs fewer g))
+
+-- one function after another
+pub given_then : (act : Act) (a b c : Device) → a.faults ≤ b.faults → b.faults ≤ c.faults → HasGiven act a b → HasGiven act b c → HasGiven act a c
+given_then act a b c le more h k =
+    did_given_both act (Rose a.faults b.faults) (Rose b.faults c.faults) (Rose a.faults c.faults) a.world b.world c.world
+    (rose_later a.faults b.faults c.faults le more) (rose_earlier a.faults b.faults c.faults le) h k
 
 -- ## Calls that are no wait
 
@@ -153,61 +160,49 @@ quiet_closing j = record {
 -- ## Parts of a turn
 
 -- nothing is done
-pub did_none_given : (act : Act) (A : Type 0) (a : Option World) → Did act a a (AreGiven act A)
-did_none_given act A a = λ w e. (w, e, ([], tt, tt, refl))
+pub given_none : (act : Act) (a : Device) → HasGiven act a a
+given_none act a = λ w e. (w, e, ([], tt, tt, refl))
 
 -- looks at inputs
-pub stamped_given : (act : Act) (A : Type 0) (made : Serials) (ps : List Path) (r : Result (List Stamp) Stop) (a b : Option World)
-    → Did act a b (λ w es. HasStamped made ps r es) → Did act a b (AreGiven act A)
-stamped_given act A made ps r a b h =
-    did_as act (λ w es. HasStamped made ps r es) (AreGiven act A) a b h (λ w es f. quiet_given act A w es (has_stamped_each IsQuiet quiet_looks made ps r es f))
+pub stamped_given : (act : Act) (made : Serials) (ps : List Path) (r : Result (List Stamp) Stop) (a b : Device) → Did act a.world b.world (HasStamped made ps r) → HasGiven act a b
+stamped_given act made ps r a b h =
+    did_as act (HasStamped made ps r) (AreGiven act (Rose a.faults b.faults)) a.world b.world h
+    (λ w es f. quiet_given act (Rose a.faults b.faults) w es (has_stamped_each IsQuiet quiet_looks made ps r w es f))
 
-begun_quiet : (recipe : Recipe) (logs : List Path) (command : List ℕ) (r : Result Underway BeginFault) (es : List Event) → HasBegun recipe logs command r es → EachCall IsQuiet es
-begun_quiet recipe logs command (Ok going) es h = done_each IsQuiet (begin_requests recipe logs command) es (quiet_begin recipe logs command) h.0
-begun_quiet recipe logs command (Err (begin.TooLong bytes)) es h = subst (EachCall IsQuiet) (sym h) tt
-begun_quiet recipe logs command (Err begin.Device) es h = cut_each IsQuiet (begin_requests recipe logs command) es (quiet_begin recipe logs command) h
-begun_quiet recipe logs command (Err begin.OutOfMemory) es h = subst (EachCall IsQuiet) (sym h) tt
+begun_quiet : (recipe : Recipe) (logs : List Path) (command : List ℕ) (r : Result Underway BeginFault) (w : World) (es : List Event) → HasBegun recipe logs command r w es → EachCall IsQuiet es
+begun_quiet recipe logs command (Ok going) w es h = done_each IsQuiet (begin_requests recipe logs command) es (quiet_begin recipe logs command) h.0
+begun_quiet recipe logs command (Err (begin.TooLong bytes)) w es h = subst (EachCall IsQuiet) (sym h) tt
+begun_quiet recipe logs command (Err begin.Device) w es h = cut_each IsQuiet (begin_requests recipe logs command) es (quiet_begin recipe logs command) h
+begun_quiet recipe logs command (Err begin.OutOfMemory) w es h = subst (EachCall IsQuiet) (sym h) tt
 
 -- the beginning of a job
-pub begun_given : (act : Act) (A : Type 0) (recipe : Recipe) (logs : List Path) (command : List ℕ) (r : Result Underway BeginFault) (a b : Option World)
-    → Did act a b (λ w es. HasBegun recipe logs command r es) → Did act a b (AreGiven act A)
-begun_given act A recipe logs command r a b h =
-    did_as act (λ w es. HasBegun recipe logs command r es) (AreGiven act A) a b h (λ w es f. quiet_given act A w es (begun_quiet recipe logs command r es f))
+pub begun_given : (act : Act) (recipe : Recipe) (logs : List Path) (command : List ℕ) (r : Result Underway BeginFault) (a b : Device) → Did act a.world b.world (HasBegun recipe logs command r) → HasGiven act a b
+begun_given act recipe logs command r a b h =
+    did_as act (HasBegun recipe logs command r) (AreGiven act (Rose a.faults b.faults)) a.world b.world h
+    (λ w es f. quiet_given act (Rose a.faults b.faults) w es (begun_quiet recipe logs command r w es f))
 
 -- what is done once a child has ended
-pub settled_given : (act : Act) (A : Type 0) (j : Underway) (r : Result Ending WorkFault) (status : ℕ) (a b : Option World)
-    → Did act a b (λ w es. HasSettled j r status w es) → Did act a b (AreGiven act A)
-settled_given act A j r status a b h =
-    did_as act (λ w es. HasSettled j r status w es) (AreGiven act A) a b h (λ w es f. quiet_given act A w es (settled_each IsQuiet j (quiet_closing j) r status w es f))
+settled_given : (act : Act) (j : Underway) (r : Result Ending WorkFault) (status : ℕ) (a b : Device) → Did act a.world b.world (HasSettled j r status) → HasGiven act a b
+settled_given act j r status a b h =
+    did_as act (HasSettled j r status) (AreGiven act (Rose a.faults b.faults)) a.world b.world h
+    (λ w es f. quiet_given act (Rose a.faults b.faults) w es (settled_each IsQuiet j (quiet_closing j) r status w es f))
 
 -- ## The wait
 
 -- the device's word on the status of a child that ended
-abbrev pub IsOtherStatus : Act → Type 0 → Option World → Ended → Type 0
-IsOtherStatus act rose old ended =
-    (w : World) → old ≡ Some w → (c : Child) → child_numbered ended.number w.children ≡ Some c → (trees : List Tree) → ContentsAre w c.recipe trees
-    → ended.status ≢ (act c.recipe trees).status → rose
+abbrev pub IsOtherStatus : Act → Device → Device → Ended → Type 0
+IsOtherStatus act old new ended =
+    WhereTold old (λ w. (c : Child) → child_numbered ended.number w.children ≡ Some c → (trees : List Tree) → ContentsAre w c.recipe trees → ended.status ≢ (act c.recipe trees).status → Rose old.faults new.faults)
 
-waited_given : (act : Act) (A : Type 0) (ended : Ended) (a b : Option World) → IsOtherStatus act A a ended → Happened act a b (Waited (Ok ended)) → Did act a b (AreGiven act A)
-waited_given act A ended a b other now = λ w1 e.
-    let h = now.told w1 e in (h.0, h.1, (wait_event ended h.2.0 ∷ [], (h.2.1, tt), ((λ c is trees at differ. other h.0 h.1 c is trees at differ), tt), h.2.2))
+waited_given : (act : Act) (ended : Ended) (a b : Device) → IsOtherStatus act a b ended → HasCalled act a b (Waited (Ok ended)) → HasGiven act a b
+waited_given act ended a b other now = λ w1 e.
+    let h = now.world.told w1 e in (h.0, h.1, (wait_event ended h.2.0 ∷ [], (h.2.1, tt), ((λ c is trees at differ. other h.0 h.1 c is trees at differ), tt), h.2.2))
 
-pub closed_given : (act : Act) (A B : Type 0) (j : Underway) (r : Result Ending WorkFault) (ended : Ended) (a b c : Option World)
-    → (A → B) → IsOtherStatus act A a ended → Happened act a b (Waited (Ok ended)) → Did act b c (λ w es. HasSettled j r ended.status w es) → Did act a c (AreGiven act B)
-closed_given act A B j r ended a b c less other now settled =
-    did_given_both act A B B a b c less (λ x. x) (waited_given act A ended a b other now) (settled_given act B j r ended.status b c settled)
+pub closed_given : (act : Act) (j : Underway) (r : Result Ending WorkFault) (ended : Ended) (a b c : Device)
+    → IsOtherStatus act a b ended → HasCalled act a b (Waited (Ok ended)) → HasActed act (HasSettled j r ended.status) b c (device_failed r) → HasGiven act a c
+closed_given act j r ended a b c other now settled =
+    given_then act a b c now.cause.later settled.cause.later (waited_given act ended a b other now) (settled_given act j r ended.status b c settled.did)
 
 -- the wait failed
-pub unwaited_given : (act : Act) (A : Type 0) (r : Result Ended Failed) (e : Failed) (a b : Option World) → r ≡ Err e → Happened act a b (Waited r) → Did act a b (AreGiven act A)
-unwaited_given act A r e a b failed now =
-    did_first act (AreGiven act A) a b (Waited (Err e)) (subst (λ v. Happened act a b (Waited v)) failed now) (λ w left lets. (tt, tt))
-
--- ## Counts
-
-pub rose_later : (a b c : ℕ) → a ≤ b → b ≤ c → Rose a b → Rose a c
-rose_later a b c le more (inl lt) = inl (omega (arith, lt, more))
-rose_later a b c le more (inr e) = go (nat_lt a c) refl
-  where
-    go : (less : Bool) → nat_lt a c ≡ less → Rose a c
-    go true h = inl (grind (arith, h))
-    go false h = inr (grind (arith, h, le, more, e))
+pub unwaited_given : (act : Act) (e : Failed) (a b : Device) → HasCalled act a b (Waited (Err e)) → HasGiven act a b
+unwaited_given act e a b now = did_first act (AreGiven act (Rose a.faults b.faults)) a.world b.world (Waited (Err e)) now.world (λ w left lets. (tt, tt))

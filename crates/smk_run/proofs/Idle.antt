@@ -6,7 +6,7 @@ use Rattle.smk_world.specs.declared.recipe.Recipe.{Recipe}
 use Rattle.smk_world.specs.World.{World, in_paths, out_paths, owned_paths, is_within, numbers}
 use Rattle.smk_world.specs.Calls.{any_overlap, are_apart, owned_now, used_now}
 use Rattle.smk_world.specs.Trees.{Path, Each}
-use Rattle.smk_store.proofs.Carried.{no_children}
+use Rattle.smk_store.proofs.Idle.{no_children}
 use Rattle.smk_job.specs.Jobs.{LetsBegin, LetsClose}
 
 none_overlap : (ps : List Path) → any_overlap ps [] ≡ false

@@ -1,4 +1,5 @@
 pub mod Idle
+pub mod Ends
 pub mod Closes
 pub mod Calls
 pub mod Honest

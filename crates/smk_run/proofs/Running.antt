@@ -1,29 +1,36 @@
 -- Turns, one after another.
-use Rattle.std.proofs.Common.{◌≡◌, ◌≤◌, ℕ, suc, Bool, true, false, List, [], ◌∷◌, ◌++◌, ◌+◌, length, drop, refl, ap, sym, subst, ◌∙◌, inl, inr, Option, Some, None, Result, Ok, Err, append_assoc, arith}
+use Rattle.std.proofs.Common.{◌≡◌, ◌≤◌, ℕ, suc, Bool, true, false, List, [], ◌∷◌, ◌++◌, ◌+◌, length, drop, refl, ap, sym, subst, ◌∙◌, inl, inr, Option, Some, None, Result, Ok, Err, append_assoc, arith, true≢false}
 use Rattle.std.proofs.lemmas.List.{append-nil}
 use Rattle.std.proofs.lemmas.List.Sums.{sum_by-cons}
 use Rattle.std.specs.Prelude.{cond}
 use Rattle.std.specs.List.{count_by}
 use Rattle.smk_world.specs.declared.event.Event.{Event}
 use Rattle.smk_world.specs.World.{World, run}
-use Rattle.smk_world.specs.Runs.{Did}
+use Rattle.smk_world.specs.Calls.{HasCause}
+use Rattle.smk_world.specs.Devices.{Device, Sunk, HasEnded}
 use Rattle.smk_world.specs.Trees.{Act, Each}
-use Rattle.smk_world.proofs.Runs.{did_both, did_nothing, run_append}
+use Rattle.smk_world.proofs.Devices.{ended_then}
+use Rattle.smk_world.proofs.Runs.{run_append}
 use Rattle.smk_flow.specs.declared.job.Job.{Job}
 use Rattle.smk_flow.specs.Flows.{Flow}
-use Rattle.smk_report.specs.Lines.{Text, Named}
+use Rattle.smk_job.specs.Jobs.{too_long}
+use Rattle.smk_report.specs.Lines.{Named}
 use Rattle.smk_report.specs.declared.fault.Fault.{Fault}
 use Rattle.smk_report.specs.declared.fault.Fault.TheVariants as fault
 use Rattle.smk_run.specs.declared.ending.Ending.{Ending}
 use Rattle.smk_run.specs.declared.ending.Ending.TheVariants.{Good, Status, NoOutput, WrongKind, BadMember}
+use Rattle.smk_run.specs.declared.stop.Stop.{Stop}
+use Rattle.smk_run.specs.declared.stop.Stop.TheVariants.{TooLong, Gone, Device as DeviceStop, Output, OutOfMemory}
 use Rattle.smk_run.specs.declared.tally.Tally.{Tally}
 use Rattle.smk_run.specs.Stamps.{Serials}
-use Rattle.smk_run.specs.Turns.{Course, Unbegun, Unstarted, Unclosed, Closed, Turn, IsTurn, AreTurns, is_done, is_closed, is_good}
-use Rattle.smk_run.specs.Reports.{named, course_text, report_of, IsReport, HasWritten, failure}
+use Rattle.smk_run.specs.Turns.{Course, Unbegun, Unstarted, Unclosed, Closed, Turn, found, IsTurn, AreTurns, is_done, is_closed, is_good}
+use Rattle.smk_run.specs.Reports.{named, course_text, report_of, IsReport, HasReported, IsAnswer, failure, stop_fault}
 use Rattle.smk_run.specs.Duties.{Due}
-use Rattle.smk_run.specs.Runs.{command_of, or_later, AreInOrder, course_failure, first_failure, IsOutcome, is_whole, is_output, HasRun, IsTurnAnswer, HasHadTurn, HasRunSoFar, Fits}
+use Rattle.smk_run.specs.Runs.{command_of, or_later, AreInOrder, course_failure, first_failure, IsOutcome, is_whole, is_output, is_device, is_device_fault, HasRun, IsTurnAnswer, HasHadTurn, HasRunSoFar, Fits}
 use Rattle.smk_run.proofs.Coming.{got_at}
-use Rattle.smk_run.proofs.Honest.{did_none_given, did_given_both}
+use Rattle.smk_run.proofs.Ends.{ended_nothing}
+use Rattle.smk_run.proofs.Texts.{no_text, reported_more}
+use Rattle.smk_run.proofs.Honest.{given_none, given_then}
 
 -- ## Events
 
@@ -38,9 +45,9 @@ turns_next made (u ∷ ts) t w es fs (first, more, is, one, rest) k = (
   turns_next made ts t (run w first) more fs rest (subst (λ v. IsTurn made t v fs) (ap (run w) is ∙ run_append w first more) k),
 )
 
-did_turn : (act : Act) (made : Serials) (ts : List Turn) (t : Turn) (a b c : Option World) → Did act a b (AreTurns made ts) → Did act b c (IsTurn made t) → Did act a c (AreTurns made (ts ++ t ∷ []))
-did_turn act made ts t a b c h k =
-    did_both act (AreTurns made ts) (IsTurn made t) (AreTurns made (ts ++ t ∷ [])) a b c h k (λ w es fs follows f follows2 g. turns_next made ts t w es fs f g)
+ran_turn : (act : Act) (made : Serials) (ts : List Turn) (t : Turn) (a b c : Device) (f : Bool) → HasEnded act (AreTurns made ts) a b false → HasEnded act (IsTurn made t) b c f → HasEnded act (AreTurns made (ts ++ t ∷ [])) a c f
+ran_turn act made ts t a b c f h k =
+    ended_then act (AreTurns made ts) (IsTurn made t) (AreTurns made (ts ++ t ∷ [])) a b c f (λ w es fs follows x follows2 y. turns_next made ts t w es fs x y) h k
 
 -- ## Lines
 
@@ -50,28 +57,11 @@ report_next flow (u ∷ ts) t =
     ap (λ l. course_text (named flow u.job) u.course ++ l) (report_next flow ts t)
     ∙ sym (append_assoc (course_text (named flow u.job) u.course) (report_of flow ts) (course_text (named flow t.job) t.course))
 
-report_after : (whole : Bool) (x y text : Text) → IsReport whole y text → IsReport whole (x ++ y) (x ++ text)
-report_after true x y text h = ap (λ l. x ++ l) h
-report_after false x y text h = (h.0, ap (λ l. x ++ l) h.1 ∙ sym (append_assoc x text h.0))
-
-written_next : (flow : Flow) (ts : List Turn) (t : Turn) (whole : Bool) (well : Type 0) (a b c : Option Text)
-    → HasWritten a b (Unit {0}) (IsReport true (report_of flow ts)) → HasWritten b c well (IsReport whole (course_text (named flow t.job) t.course))
-    → HasWritten a c well (IsReport whole (report_of flow (ts ++ t ∷ [])))
-written_next flow ts t whole well a b c h k = record {
-  told = λ now e.
-      let m = k.told now e in
-      let n = h.told m.0 m.1 in
-      let text = m.2.0 in (
-        n.0,
-        n.1,
-        (
-          report_of flow ts ++ text,
-          subst (λ l. IsReport whole l (report_of flow ts ++ text)) (sym (report_next flow ts t)) (report_after whole (report_of flow ts) (course_text (named flow t.job) t.course) text m.2.1),
-          m.2.2 ∙ ap (λ l. l ++ text) (n.2.2 ∙ ap (λ l. n.0 ++ l) n.2.1) ∙ append_assoc n.0 (report_of flow ts) text,
-        ),
-      );
-  stays = λ e some. k.stays e (h.stays tt some);
-}
+told_next : (flow : Flow) (ts : List Turn) (t : Turn) (whole : Bool) (p q r : Sunk) (f : Bool)
+    → HasReported (IsReport true (report_of flow ts)) p q false → HasReported (IsReport whole (course_text (named flow t.job) t.course)) q r f
+    → HasReported (IsReport whole (report_of flow (ts ++ t ∷ []))) p r f
+told_next flow ts t whole p q r f h k =
+    subst (λ l. HasReported (IsReport whole l) p r f) (sym (report_next flow ts t)) (reported_more (report_of flow ts) (course_text (named flow t.job) t.course) whole p q r f h k)
 
 -- ## Order
 
@@ -105,62 +95,54 @@ good_is name (BadMember p) h = cc
 done_is : (course : Course) (name : Named) (ending : Ending) → course ≡ Closed ending → failure name ending ≡ None → is_done course ≡ true
 done_is course name ending is none = ap is_done is ∙ good_is name ending none
 
-pub so_far_start : (act : Act) (flow : Flow) (cores : ℕ) (dues : List Due) (made : Serials) (a : Option World) (rose : Type 0) (running : List ℕ) (put : Option Text)
-    → running ≡ [] → HasRunSoFar act flow cores dues made 0 a a rose running put put
-so_far_start act flow cores dues made a rose running put none = record {
-  turns = [];
-  counted = refl;
-  done = tt;
-  in_order = tt;
-  fits = tt;
-  did = did_nothing act (AreTurns made []) a (λ w. refl);
-  given = did_none_given act rose a;
-  text = record { told = λ now e. (now, e, ([], refl, sym (append-nil now))); stays = λ e some. some };
-  none_runs = none;
-  stays = λ some. some;
-}
+module _ (act : Act) (flow : Flow) (cores : ℕ) (dues : List Due) (made : Serials) where
+  pub so_far_start : (a : Device) (p : Sunk) → a.running ≡ [] → HasRunSoFar act flow cores dues made 0 a a p p
+  so_far_start a p none = record {
+    turns = [];
+    counted = refl;
+    done = tt;
+    in_order = tt;
+    fits = tt;
+    ran = ended_nothing act (AreTurns made []) a none (λ w. refl);
+    given = given_none act a;
+    text = no_text true p;
+  }
 
 -- the next job that is due, and its serial
 pub record IsNext (dues : List Due) (count : ℕ) (due : Due) (rest : List Due) (serial : ℕ) : Type 0 where
   pub is : drop count dues ≡ due ∷ rest
   pub serial_is : due.serial ≡ Some serial
 
-next_in_order : (act : Act) (flow : Flow) (cores : ℕ) (dues rest : List Due) (due : Due) (made : Serials) (count serial : ℕ)
-    (result : Result (Option Fault) Fault) (a b c : Option World) (before rose : Type 0) (ra rb : List ℕ) (pa pb pc : Option Text)
-    → IsNext dues count due rest serial
-    → (h : HasRunSoFar act flow cores dues made count a b before ra pa pb) → (k : HasHadTurn act flow made due.job (command_of cores due.job) serial result b c rose rb pb pc)
+-- what a turn of the next one did
+abbrev pub HadNext : Act → Flow → ℕ → Due → Serials → ℕ → Result (Option Fault) Fault → Device → Device → Sunk → Sunk → Type 0
+HadNext act flow cores due made serial result a b p q = HasHadTurn act flow made due.job (command_of cores due.job) serial result a b p q
+
+next_in_order : (act : Act) (flow : Flow) (cores : ℕ) (dues rest : List Due) (due : Due) (made : Serials) (count serial : ℕ) (result : Result (Option Fault) Fault) (a b c : Device) (p q r : Sunk)
+    → IsNext dues count due rest serial → (h : HasRunSoFar act flow cores dues made count a b p q) → (k : HadNext act flow cores due made serial result b c q r)
     → AreInOrder cores dues (h.turns ++ k.turn ∷ [])
-next_in_order act flow cores dues rest due made count serial result a b c before rose ra rb pa pb pc n h k =
+next_in_order act flow cores dues rest due made count serial result a b c p q r n h k =
     in_order_next cores dues rest due h.turns k.turn h.in_order h.done (ap (λ i. drop i dues) h.counted ∙ n.is) k.job_is k.command_is (n.serial_is ∙ ap Some (sym k.made_is))
 
-pub so_far_next : (act : Act) (flow : Flow) (cores : ℕ) (dues rest : List Due) (due : Due) (made : Serials) (count serial : ℕ)
-    (result : Result (Option Fault) Fault) (a b c : Option World) (before later rose : Type 0) (ra rb : List ℕ) (pa pb pc : Option Text)
-    → IsNext dues count due rest serial → result ≡ Ok None → (before → rose) → (later → rose)
-    → HasRunSoFar act flow cores dues made count a b before ra pa pb → HasHadTurn act flow made due.job (command_of cores due.job) serial result b c later rb pb pc
-    → HasRunSoFar act flow cores dues made (count + 1) a c rose rb pa pc
-so_far_next act flow cores dues rest due made count serial result a b c before later rose ra rb pa pb pc n is stands rises h k =
-    let answer = subst (λ r. IsTurnAnswer flow k.turn k.failed r) is k.answer in
+-- the text of a turn, by its answer
+abbrev Told : Flow → Turn → Result (Option Fault) Fault → Sunk → Sunk → Type 0
+Told flow t result p q = HasReported (IsReport (is_whole result) (course_text (named flow t.job) t.course)) p q (is_output result)
+
+pub so_far_next : (act : Act) (flow : Flow) (cores : ℕ) (dues rest : List Due) (due : Due) (made : Serials) (count serial : ℕ) (result : Result (Option Fault) Fault) (a b c : Device) (p q r : Sunk)
+    → IsNext dues count due rest serial → result ≡ Ok None
+    → HasRunSoFar act flow cores dues made count a b p q → HadNext act flow cores due made serial result b c q r
+    → HasRunSoFar act flow cores dues made (count + 1) a c p r
+so_far_next act flow cores dues rest due made count serial result a b c p q r n is h k =
+    let answer = subst (λ x. IsTurnAnswer flow k.turn k.failed x) is k.answer in
     record {
       turns = h.turns ++ k.turn ∷ [];
       counted = length_next h.turns k.turn ∙ omega (arith, h.counted);
       done = each_next (λ (u : Turn). is_done u.course ≡ true) h.turns k.turn h.done (done_is k.turn.course (named flow k.turn.job) answer.1.0 answer.1.1 (sym answer.1.2));
-      in_order = next_in_order act flow cores dues rest due made count serial result a b c before later ra rb pa pb pc n h k;
+      in_order = next_in_order act flow cores dues rest due made count serial result a b c p q r n h k;
       fits = each_next Fits h.turns k.turn h.fits k.fits;
-      did = did_turn act made h.turns k.turn a b c h.did k.did;
-      given = did_given_both act before later rose a b c stands rises h.given k.given;
-      text = written_well flow h.turns k.turn result pa pb pc is h.text k.text;
-      none_runs = k.none_runs answer.0;
-      stays = λ some. k.stays answer.0 (h.stays some);
+      ran = ran_turn act made h.turns k.turn a b c false h.ran (subst (HasEnded act (IsTurn made k.turn) b c) answer.0 k.ran);
+      given = given_then act a b c h.ran.cause.later k.ran.cause.later h.given k.given;
+      text = told_next flow h.turns k.turn true p q r false h.text (subst (λ x. Told flow k.turn x q r) is k.text);
     }
-  where
-    written_well : (flow : Flow) (ts : List Turn) (t : Turn) (r : Result (Option Fault) Fault) (pa pb pc : Option Text) → r ≡ Ok None
-        → HasWritten pa pb (Unit {0}) (IsReport true (report_of flow ts)) → HasWritten pb pc (is_output r ≡ false) (IsReport (is_whole r) (course_text (named flow t.job) t.course))
-        → HasWritten pa pc (Unit {0}) (IsReport true (report_of flow (ts ++ t ∷ [])))
-    written_well flow ts t r pa pb pc is h k =
-        let whole : HasWritten pb pc (false ≡ false) (IsReport true (course_text (named flow t.job) t.course))
-        = subst (λ x. HasWritten pb pc (is_output x ≡ false) (IsReport (is_whole x) (course_text (named flow t.job) t.course))) is k in
-        let all = written_next flow ts t true (false ≡ false) pa pb pc h whole in
-        record { told = all.told; stays = λ e some. all.stays refl some }
 
 -- ## The end of a run
 
@@ -236,11 +218,11 @@ pub record IsCounted (tally : Tally) (done failed : ℕ) (first : Option Fault) 
   pub first_is : tally.first ≡ first
 
 -- all jobs are done
-pub run_done : (act : Act) (flow : Flow) (cores : ℕ) (dues : List Due) (made : Serials) (count : ℕ) (tally : Tally) (a b : Option World) (rose : Type 0) (running : List ℕ) (pa pb : Option Text)
+pub run_done : (act : Act) (flow : Flow) (cores : ℕ) (dues : List Due) (made : Serials) (count : ℕ) (tally : Tally) (a b : Device) (p q : Sunk)
     → count ≡ length dues → IsCounted tally count 0 None
-    → HasRunSoFar act flow cores dues made count a b rose running pa pb
-    → HasRun act flow cores dues made (Ok tally) a b rose running pa pb
-run_done act flow cores dues made count tally a b rose running pa pb all is h = record {
+    → HasRunSoFar act flow cores dues made count a b p q
+    → HasRun act flow cores dues made (Ok tally) a b p q
+run_done act flow cores dues made count tally a b p q all is h = record {
   turns = h.turns;
   failed = false;
   in_order = h.in_order;
@@ -256,31 +238,25 @@ run_done act flow cores dues made count tally a b rose running pa pb all is h = 
     },
   );
   fits = h.fits;
-  did = h.did;
+  ran = h.ran;
   given = h.given;
-  text = record { told = h.text.told; stays = λ e some. h.text.stays tt some };
-  failed_rose = λ e. cc;
-  none_runs = λ e. h.none_runs;
-  stays = λ e some. h.stays some;
+  text = h.text;
 }
 
 -- a job failed
-pub run_failed : (act : Act) (flow : Flow) (cores : ℕ) (dues rest : List Due) (due : Due) (made : Serials) (count serial : ℕ)
-    (result : Result (Option Fault) Fault) (what : Fault) (tally : Tally) (a b c : Option World) (rose before later : Type 0) (ra rb : List ℕ) (pa pb pc : Option Text)
-    → IsNext dues count due rest serial → result ≡ Ok (Some what) → IsCounted tally count 1 (Some what) → (before → rose) → (later → rose)
-    → HasRunSoFar act flow cores dues made count a b before ra pa pb → HasHadTurn act flow made due.job (command_of cores due.job) serial result b c later rb pb pc
-    → HasRun act flow cores dues made (Ok tally) a c rose rb pa pc
-run_failed act flow cores dues rest due made count serial result what tally a b c rose before later ra rb pa pb pc n ok is stands rises h k =
-    let answer = subst (λ r. IsTurnAnswer flow k.turn k.failed r) ok k.answer in
+pub run_failed : (act : Act) (flow : Flow) (cores : ℕ) (dues rest : List Due) (due : Due) (made : Serials) (count serial : ℕ) (result : Result (Option Fault) Fault) (what : Fault) (tally : Tally) (a b c : Device) (p q r : Sunk)
+    → IsNext dues count due rest serial → result ≡ Ok (Some what) → IsCounted tally count 1 (Some what)
+    → HasRunSoFar act flow cores dues made count a b p q → HadNext act flow cores due made serial result b c q r
+    → HasRun act flow cores dues made (Ok tally) a c p r
+run_failed act flow cores dues rest due made count serial result what tally a b c p q r n ok is h k =
+    let answer = subst (λ x. IsTurnAnswer flow k.turn k.failed x) ok k.answer in
     let ending : Ending = answer.1.0 in
     let at : k.turn.course ≡ Closed ending = answer.1.1 in
     let first : Some what ≡ failure (named flow k.turn.job) ending = answer.1.2 in
-    let text : HasWritten pb pc (false ≡ false) (IsReport true (course_text (named flow k.turn.job) k.turn.course))
-    = subst (λ x. HasWritten pb pc (is_output x ≡ false) (IsReport (is_whole x) (course_text (named flow k.turn.job) k.turn.course))) ok k.text in
     record {
       turns = h.turns ++ k.turn ∷ [];
       failed = k.failed;
-      in_order = next_in_order act flow cores dues rest due made count serial result a b c before later ra rb pa pb pc n h k;
+      in_order = next_in_order act flow cores dues rest due made count serial result a b c p q r n h k;
       answer = (
         answer.0,
         record {
@@ -293,33 +269,25 @@ run_failed act flow cores dues rest due made count serial result what tally a b 
         },
       );
       fits = each_next Fits h.turns k.turn h.fits k.fits;
-      did = did_turn act made h.turns k.turn a b c h.did k.did;
-      given = did_given_both act before later rose a b c stands rises h.given k.given;
-      text = written_next flow h.turns k.turn true (false ≡ false) pa pb pc h.text text;
-      failed_rose = λ e. rises (k.failed_rose e);
-      none_runs = k.none_runs;
-      stays = λ e some. k.stays e (h.stays some);
+      ran = ran_turn act made h.turns k.turn a b c k.failed h.ran k.ran;
+      given = given_then act a b c h.ran.cause.later k.ran.cause.later h.given k.given;
+      text = told_next flow h.turns k.turn true p q r false h.text (subst (λ x. Told flow k.turn x q r) ok k.text);
     }
 
 -- the run stops at a job
-pub run_stopped : (act : Act) (flow : Flow) (cores : ℕ) (dues rest : List Due) (due : Due) (made : Serials) (count serial : ℕ)
-    (result : Result (Option Fault) Fault) (f : Fault) (a b c : Option World) (rose before later : Type 0) (ra rb : List ℕ) (pa pb pc : Option Text)
-    → IsNext dues count due rest serial → result ≡ Err f → (before → rose) → (later → rose)
-    → HasRunSoFar act flow cores dues made count a b before ra pa pb → HasHadTurn act flow made due.job (command_of cores due.job) serial result b c later rb pb pc
-    → HasRun act flow cores dues made (Err f) a c rose rb pa pc
-run_stopped act flow cores dues rest due made count serial result f a b c rose before later ra rb pa pb pc n is stands rises h k = record {
+pub run_stopped : (act : Act) (flow : Flow) (cores : ℕ) (dues rest : List Due) (due : Due) (made : Serials) (count serial : ℕ) (result : Result (Option Fault) Fault) (f : Fault) (a b c : Device) (p q r : Sunk)
+    → IsNext dues count due rest serial → result ≡ Err f
+    → HasRunSoFar act flow cores dues made count a b p q → HadNext act flow cores due made serial result b c q r
+    → HasRun act flow cores dues made (Err f) a c p r
+run_stopped act flow cores dues rest due made count serial result f a b c p q r n is h k = record {
   turns = h.turns ++ k.turn ∷ [];
   failed = k.failed;
-  in_order = next_in_order act flow cores dues rest due made count serial result a b c before later ra rb pa pb pc n h k;
-  answer = by (subst (λ r. IsTurnAnswer flow k.turn k.failed r) is k.answer);
+  in_order = next_in_order act flow cores dues rest due made count serial result a b c p q r n h k;
+  answer = by (subst (λ x. IsTurnAnswer flow k.turn k.failed x) is k.answer);
   fits = each_next Fits h.turns k.turn h.fits k.fits;
-  did = did_turn act made h.turns k.turn a b c h.did k.did;
-  given = did_given_both act before later rose a b c stands rises h.given k.given;
-  text = written_next flow h.turns k.turn (is_whole {T = Tally} (Err f)) (is_output {T = Tally} (Err f) ≡ false) pa pb pc h.text
-      (subst (λ x. HasWritten pb pc (is_output x ≡ false) (IsReport (is_whole x) (course_text (named flow k.turn.job) k.turn.course))) is k.text);
-  failed_rose = λ e. rises (k.failed_rose e);
-  none_runs = k.none_runs;
-  stays = λ e some. k.stays e (h.stays some);
+  ran = ran_turn act made h.turns k.turn a b c k.failed h.ran k.ran;
+  given = given_then act a b c h.ran.cause.later k.ran.cause.later h.given k.given;
+  text = told_next flow h.turns k.turn (is_whole {T = Tally} (Err f)) p q r (is_output {T = Tally} (Err f)) h.text (subst (λ x. Told flow k.turn x q r) is k.text);
 }
   where
     by : IsTurnAnswer flow k.turn k.failed (Err f) → IsOutcome flow dues (h.turns ++ k.turn ∷ []) k.failed (Err f)
@@ -327,39 +295,32 @@ run_stopped act flow cores dues rest due made count serial result f a b c rose b
     by (inr (stop, e, answer, looked)) = inr (inr (record { before = h.turns; last = k.turn; stop = stop; turns_are = refl; is = e; answer = answer; looked = looked }))
 
 -- there is no serial
-pub run_serials : (act : Act) (flow : Flow) (cores : ℕ) (dues rest : List Due) (due : Due) (made : Serials) (count : ℕ) (a b : Option World) (rose : Type 0) (running : List ℕ) (pa pb : Option Text)
+pub run_serials : (act : Act) (flow : Flow) (cores : ℕ) (dues rest : List Due) (due : Due) (made : Serials) (count : ℕ) (a b : Device) (p q : Sunk)
     → drop count dues ≡ due ∷ rest → due.serial ≡ None
-    → HasRunSoFar act flow cores dues made count a b rose running pa pb
-    → HasRun act flow cores dues made (Err fault.Serials) a b rose running pa pb
-run_serials act flow cores dues rest due made count a b rose running pa pb next none h = record {
+    → HasRunSoFar act flow cores dues made count a b p q
+    → HasRun act flow cores dues made (Err fault.Serials) a b p q
+run_serials act flow cores dues rest due made count a b p q next none h = record {
   turns = h.turns;
   failed = false;
   in_order = h.in_order;
   answer = inr (inl (refl, record { is = refl; next = due; is_next = got_at dues rest (length h.turns) due (ap (λ i. drop i dues) h.counted ∙ next); none = none; done = h.done }));
   fits = h.fits;
-  did = h.did;
+  ran = h.ran;
   given = h.given;
-  text = record { told = h.text.told; stays = λ e some. h.text.stays tt some };
-  failed_rose = λ e. cc;
-  none_runs = λ e. h.none_runs;
-  stays = λ e some. h.stays some;
+  text = h.text;
 }
 
 -- there is no memory, and nothing was done
-pub run_not : (act : Act) (flow : Flow) (cores : ℕ) (dues : List Due) (made : Serials) (a : Option World) (rose : Type 0) (running : List ℕ) (put : Option Text)
-    → running ≡ [] → HasRun act flow cores dues made (Err fault.OutOfMemory) a a rose running put put
-run_not act flow cores dues made a rose running put none = record {
+pub run_not : (act : Act) (flow : Flow) (cores : ℕ) (dues : List Due) (made : Serials) (a : Device) (p : Sunk) → a.running ≡ [] → HasRun act flow cores dues made (Err fault.OutOfMemory) a a p p
+run_not act flow cores dues made a p none = record {
   turns = [];
   failed = false;
   in_order = tt;
   answer = inl (refl, refl);
   fits = tt;
-  did = did_nothing act (AreTurns made []) a (λ w. refl);
-  given = did_none_given act rose a;
-  text = record { told = λ now e. (now, e, ([], ([], refl), sym (append-nil now))); stays = λ e some. some };
-  failed_rose = λ e. cc;
-  none_runs = λ e. none;
-  stays = λ e some. some;
+  ran = ended_nothing act (AreTurns made []) a none (λ w. refl);
+  given = given_none act a;
+  text = no_text false p;
 }
 
 -- there are no more turns than jobs that are due
@@ -370,14 +331,36 @@ few_turns cores (due ∷ dues) (t ∷ ts) h =
     let more = few_turns cores dues ts h.4 in
     omega (arith, more)
 
-pub all_turns : (act : Act) (flow : Flow) (cores : ℕ) (dues : List Due) (made : Serials) (count : ℕ) (a b : Option World) (rose : Type 0) (running : List ℕ) (pa pb : Option Text)
-    → length dues ≤ count → HasRunSoFar act flow cores dues made count a b rose running pa pb → count ≡ length dues
-all_turns act flow cores dues made count a b rose running pa pb le h =
+pub all_turns : (act : Act) (flow : Flow) (cores : ℕ) (dues : List Due) (made : Serials) (count : ℕ) (a b : Device) (p q : Sunk)
+    → length dues ≤ count → HasRunSoFar act flow cores dues made count a b p q → count ≡ length dues
+all_turns act flow cores dues made count a b p q le h =
     let few = few_turns cores dues h.turns h.in_order in
     omega (arith, le, few, h.counted)
 
 -- the same jobs and serials
-pub run_as : (act : Act) (flow : Flow) (cores : ℕ) (ds dues : List Due) (m made : Serials) (r : Result Tally Fault) (a b : Option World) (rose : Type 0) (running : List ℕ) (pa pb : Option Text)
-    → ds ≡ dues → m ≡ made → HasRun act flow cores ds m r a b rose running pa pb → HasRun act flow cores dues made r a b rose running pa pb
-run_as act flow cores ds dues m made r a b rose running pa pb e f h =
-    subst (λ x. HasRun act flow cores dues x r a b rose running pa pb) f (subst (λ x. HasRun act flow cores x m r a b rose running pa pb) e h)
+pub run_as : (act : Act) (flow : Flow) (cores : ℕ) (ds dues : List Due) (m made : Serials) (r : Result Tally Fault) (a b : Device) (p q : Sunk)
+    → ds ≡ dues → m ≡ made → HasRun act flow cores ds m r a b p q → HasRun act flow cores dues made r a b p q
+run_as act flow cores ds dues m made r a b p q e f h =
+    subst (λ x. HasRun act flow cores dues x r a b p q) f (subst (λ x. HasRun act flow cores x m r a b p q) e h)
+
+-- ## A fault of the device
+
+stop_device : (name : Named) (stop : Stop) (long : Option ℕ) (course : Course) (failed : Bool) → is_device_fault (stop_fault name stop) ≡ true → IsAnswer long course failed (Err stop) → failed ≡ true
+stop_device name (TooLong bytes) long course failed h answer = absurd (true≢false (sym h))
+stop_device name (Gone p) long course failed h answer = absurd (true≢false (sym h))
+stop_device name DeviceStop long course failed h answer = answer.1
+stop_device name Output long course failed h answer = absurd (true≢false (sym h))
+stop_device name OutOfMemory long course failed h answer = absurd (true≢false (sym h))
+
+-- it comes only where a call of the device failed
+pub device_outcome : (flow : Flow) (dues : List Due) (turns : List Turn) (failed : Bool) (r : Result Tally Fault) → is_device r ≡ true → IsOutcome flow dues turns failed r → failed ≡ true
+device_outcome flow dues turns failed (Ok tally) h answer = absurd (true≢false (sym h))
+device_outcome flow dues turns failed (Err f) h (inl x) = absurd (true≢false (sym h ∙ ap is_device_fault x.1))
+device_outcome flow dues turns failed (Err f) h (inr (inl x)) = absurd (true≢false (sym h ∙ ap is_device_fault x.1.is))
+device_outcome flow dues turns failed (Err f) h (inr (inr x)) =
+    stop_device (named flow x.last.job) x.stop (too_long x.last.made x.last.job.recipe (found x.last.looked)) x.last.course failed (sym (ap is_device_fault x.is) ∙ h) x.answer
+
+-- so such a fault of a run has its cause
+pub run_cause : (act : Act) (flow : Flow) (cores : ℕ) (dues : List Due) (made : Serials) (r : Result Tally Fault) (a b : Device) (p q : Sunk)
+    → HasRun act flow cores dues made r a b p q → HasCause a.faults b.faults (is_device r)
+run_cause act flow cores dues made r a b p q h = record { later = h.ran.cause.later; rose = λ e. h.ran.cause.rose (device_outcome flow dues h.turns h.failed r e h.answer) }

@@ -1,24 +1,25 @@
 -- From the looks at a job's inputs to their stamps.
-use Rattle.std.proofs.Common.{◌≡◌, ◌⊎◌, ℕ, Bool, false, List, [], ◌∷◌, ◌++◌, refl, ap, sym, subst, ◌∙◌, inl, inr, Option, Some, None, Result, Ok, Err, append_assoc}
+use Rattle.std.proofs.Common.{◌≡◌, ◌⊎◌, ℕ, Bool, false, true, List, [], ◌∷◌, ◌++◌, refl, ap, sym, subst, ◌∙◌, inl, inr, Option, Some, None, Result, Ok, Err, append_assoc}
 use Rattle.std.proofs.lemmas.List.{append-nil}
 use Rattle.smk_world.specs.declared.event.Call.TheVariants.{Looked}
 use Rattle.smk_world.specs.declared.event.Event.{Event}
 use Rattle.smk_world.specs.declared.event.Failed.{Failed}
 use Rattle.smk_world.specs.declared.event.Stat.{Stat}
 use Rattle.smk_world.specs.declared.event.Stat.TheVariants.{Nothing, File, Folder}
-use Rattle.smk_world.specs.World.{World}
-use Rattle.smk_world.specs.Calls.{Happened, failed}
-use Rattle.smk_world.specs.Runs.{Did}
+use Rattle.smk_world.specs.World.{World, run}
+use Rattle.smk_world.specs.Calls.{failed}
+use Rattle.smk_world.specs.Devices.{Device, HasCalled, HasActed}
 use Rattle.smk_world.specs.Requests.{Request, request, HasDone}
 use Rattle.smk_world.specs.Requests.Request.{Look}
 use Rattle.smk_world.specs.Trees.{Path, Act}
-use Rattle.smk_world.proofs.Runs.{did_both}
+use Rattle.smk_world.proofs.Devices.{acted_nothing, acted_call, acted_as, acted_then}
 use Rattle.smk_record.specs.declared.record.Stamp.{Stamp}
+use Rattle.smk_record.specs.declared.record.Stamp.TheVariants.{Time, Made}
 use Rattle.smk_job.specs.Jobs.{IsPart}
 use Rattle.smk_run.specs.declared.stop.Stop.{Stop}
-use Rattle.smk_run.specs.declared.stop.Stop.TheVariants.{TooLong, Gone, Device, Output, OutOfMemory}
-use Rattle.smk_run.specs.Stamps.{Serials, look_at, looks, IsStamped, AreStamped, is_file, EndsGone, HasStamped, HasTimed, HasPushed, IsTimeIn}
-use Rattle.smk_run.proofs.Closes.{did_first}
+use Rattle.smk_run.specs.declared.stop.Stop.TheVariants.{TooLong, Gone, Device as DeviceStop, Output, OutOfMemory}
+use Rattle.smk_run.specs.Stamps.{Serials, look_at, looks, IsStamped, AreStamped, is_file, EndsGone, HasStamped, HasTimed, HasStamp, HasPushed, IsTimeIn}
+use Rattle.smk_run.specs.Reports.{is_device, is_device_stop}
 
 -- ## Parts of looks
 
@@ -89,69 +90,106 @@ gone_later p es fs (before, e, is, k) = (es ++ before, e, ap (λ l. es ++ l) is 
 
 -- ## One look
 
-pub timed_well : (act : Act) (a b : Option World) (p : Path) (time : ℕ) (read_only : Bool) (r : Result Stat Failed)
-    → r ≡ Ok (File time read_only) → Happened act a b (Looked p r) → Did act a b (λ w es. HasTimed p (Ok time) es)
-timed_well act a b p time read_only r is now =
-    did_first act (λ w es. HasTimed p (Ok time) es) a b (Looked p (Ok (File time read_only))) (subst (λ x. Happened act a b (Looked p x)) is now)
-    (λ w left lets. (record { call = Looked p (Ok (File time read_only)); left = left }, refl, (time, read_only, refl, refl)))
+pub timed_well : {act : Act} {a b : Device} (p : Path) (time : ℕ) (read_only : Bool) → HasCalled act a b (Looked p (Ok (File time read_only))) → HasActed act (HasTimed p (Ok time)) a b false
+timed_well {act} {a} {b} p time read_only now =
+    acted_call act (HasTimed p (Ok time)) a b (Looked p (Ok (File time read_only))) refl (λ w left lets. (record { call = Looked p (Ok (File time read_only)); left = left }, refl, (time, read_only, refl, refl))) now
 
-pub timed_gone : (act : Act) (a b : Option World) (p : Path) (stat : Stat) (stop : Stop) (r : Result Stat Failed)
-    → r ≡ Ok stat → is_file stat ≡ false → (stop ≡ Gone p) ⊎ (stop ≡ OutOfMemory) → Happened act a b (Looked p r) → Did act a b (λ w es. HasTimed p (Err stop) es)
-timed_gone act a b p stat stop r is none (inl e) now =
-    subst (λ s. Did act a b (λ w es. HasTimed p (Err s) es)) (sym e)
-    (did_first act (λ w es. HasTimed p (Err (Gone p)) es) a b (Looked p (Ok stat)) (subst (λ x. Happened act a b (Looked p x)) is now)
-    (λ w left lets. ((refl, inr (refl, tt)), ([], record { call = Looked p (Ok stat); left = left }, refl, (stat, refl, none)))))
-timed_gone act a b p stat stop r is none (inr e) now =
-    subst (λ s. Did act a b (λ w es. HasTimed p (Err s) es)) (sym e)
-    (did_first act (λ w es. HasTimed p (Err OutOfMemory) es) a b (Looked p (Ok stat)) (subst (λ x. Happened act a b (Looked p x)) is now)
-    (λ w left lets. (refl, inr (refl, tt))))
+timed_gone : {act : Act} {a b : Device} (p : Path) (stat : Stat) → is_file stat ≡ false → HasCalled act a b (Looked p (Ok stat)) → HasActed act (HasTimed p (Err (Gone p))) a b false
+timed_gone {act} {a} {b} p stat none now =
+    acted_call act (HasTimed p (Err (Gone p))) a b (Looked p (Ok stat)) refl
+    (λ w left lets. ((refl, inr (refl, tt)), ([], record { call = Looked p (Ok stat); left = left }, refl, (stat, refl, none)))) now
+
+timed_short : {act : Act} {a b : Device} (p : Path) (stat : Stat) → HasCalled act a b (Looked p (Ok stat)) → HasActed act (HasTimed p (Err OutOfMemory)) a b false
+timed_short {act} {a} {b} p stat now = acted_call act (HasTimed p (Err OutOfMemory)) a b (Looked p (Ok stat)) refl (λ w left lets. (refl, inr (refl, tt))) now
 
 -- the look didn't fail
-pub timed_seen : (act : Act) (a b : Option World) (p q : Path) (stat : Stat) (r : Result ℕ Stop) → q ≡ p → IsTimeIn p stat r → Happened act a b (Looked q (Ok stat)) → Did act a b (λ w es. HasTimed p r es)
-timed_seen act a b p q stat r same seen now = by stat seen (subst (λ x. Happened act a b (Looked x (Ok stat))) same now)
+pub timed_seen : (act : Act) (a b : Device) (p q : Path) (stat : Stat) (r : Result ℕ Stop) → q ≡ p → IsTimeIn p stat r → HasCalled act a b (Looked q (Ok stat)) → HasActed act (HasTimed p r) a b (is_device r)
+timed_seen act a b p q stat r same seen now = by stat seen (subst (λ x. HasCalled act a b (Looked x (Ok stat))) same now)
   where
-    none : (stat : Stat) → is_file stat ≡ false → (r ≡ Err (Gone p)) ⊎ (r ≡ Err OutOfMemory) → Happened act a b (Looked p (Ok stat)) → Did act a b (λ w es. HasTimed p r es)
-    none stat nought (inl e) now = subst (λ x. Did act a b (λ w es. HasTimed p x es)) (sym e) (timed_gone act a b p stat (Gone p) (Ok stat) refl nought (inl refl) now)
-    none stat nought (inr e) now = subst (λ x. Did act a b (λ w es. HasTimed p x es)) (sym e) (timed_gone act a b p stat OutOfMemory (Ok stat) refl nought (inr refl) now)
+    Timed : Result ℕ Stop → Type 0
+    Timed x = HasActed act (HasTimed p x) a b (is_device x)
 
-    by : (stat : Stat) → IsTimeIn p stat r → Happened act a b (Looked p (Ok stat)) → Did act a b (λ w es. HasTimed p r es)
+    none : (stat : Stat) → is_file stat ≡ false → (r ≡ Err (Gone p)) ⊎ (r ≡ Err OutOfMemory) → HasCalled act a b (Looked p (Ok stat)) → Timed r
+    none stat nought (inl e) now = subst Timed (sym e) (timed_gone p stat nought now)
+    none stat nought (inr e) now = subst Timed (sym e) (timed_short p stat now)
+
+    by : (stat : Stat) → IsTimeIn p stat r → HasCalled act a b (Looked p (Ok stat)) → Timed r
     by Nothing e now = none Nothing refl e now
     by Folder e now = none Folder refl e now
-    by (File time read_only) e now = subst (λ x. Did act a b (λ w es. HasTimed p x es)) (sym e) (timed_well act a b p time read_only (Ok (File time read_only)) refl now)
+    by (File time read_only) e now = subst Timed (sym e) (timed_well p time read_only now)
 
-pub timed_badly : (act : Act) (a b : Option World) (p q : Path) (e : Failed) → q ≡ p → Happened act a b (Looked q (Err e)) → Did act a b (λ w es. HasTimed p (Err Device) es)
+pub timed_badly : (act : Act) (a b : Device) (p q : Path) (e : Failed) → q ≡ p → HasCalled act a b (Looked q (Err e)) → HasActed act (HasTimed p (Err DeviceStop)) a b true
 timed_badly act a b p q e same now =
-    did_first act (λ w es. HasTimed p (Err Device) es) a b (Looked p (Err e)) (subst (λ x. Happened act a b (Looked x (Err e))) same now)
-    (λ w left lets. (refl, inl (refl, refl)))
+    acted_call act (HasTimed p (Err DeviceStop)) a b (Looked p (Err e)) refl (λ w left lets. (refl, inl (refl, refl))) (subst (λ x. HasCalled act a b (Looked x (Err e))) same now)
 
 -- ## One stamp
 
+-- a product's is known, and nothing was looked at
+pub stamped_made : (act : Act) (m : Option ℕ) (p : Path) (serial : ℕ) (a : Device) → m ≡ Some serial → HasActed act (HasStamp m p (Ok (Made serial))) a a false
+stamped_made act m p serial a is = subst (λ x. HasActed act (HasStamp x p (Ok (Made serial))) a a false) (sym is) (acted_nothing act (HasStamp (Some serial) p (Ok (Made serial))) a (λ w. (refl, refl)))
+
+pub stamped_at : (act : Act) (m : Option ℕ) (p : Path) (time : ℕ) (a b : Device) → m ≡ None → HasActed act (HasTimed p (Ok time)) a b false → HasActed act (HasStamp m p (Ok (Time time))) a b false
+stamped_at act m p time a b is h =
+    subst (λ x. HasActed act (HasStamp x p (Ok (Time time))) a b false) (sym is) (acted_as act (HasTimed p (Ok time)) (HasStamp None p (Ok (Time time))) a b false false refl (λ w es f. f) h)
+
+unstamped_by : (p : Path) (stop : Stop) (w : World) (es : List Event) → HasTimed p (Err stop) w es → HasStamp None p (Err stop) w es
+unstamped_by p (TooLong n) w es h = h
+unstamped_by p (Gone q) w es h = h
+unstamped_by p DeviceStop w es h = h
+unstamped_by p Output w es h = h
+unstamped_by p OutOfMemory w es h = h
+
+pub unstamped : (act : Act) (m : Option ℕ) (p : Path) (stop : Stop) (a b : Device) → m ≡ None → HasActed act (HasTimed p (Err stop)) a b (is_device_stop stop) → HasActed act (HasStamp m p (Err stop)) a b (is_device_stop stop)
+unstamped act m p stop a b is h =
+    subst (λ x. HasActed act (HasStamp x p (Err stop)) a b (is_device_stop stop)) (sym is)
+    (acted_as act (HasTimed p (Err stop)) (HasStamp None p (Err stop)) a b (is_device_stop stop) (is_device_stop stop) refl (λ w es f. unstamped_by p stop w es f) h)
+
 -- ## One stamp more
+
+pub pushed : (act : Act) (m : Option ℕ) (p : Path) (stamp : Stamp) (old new : List Stamp) (a b : Device) → new ≡ old ++ stamp ∷ [] → HasActed act (HasStamp m p (Ok stamp)) a b false → HasActed act (HasPushed m p old new (Ok tt)) a b false
+pushed act m p stamp old new a b grown h = acted_as act (HasStamp m p (Ok stamp)) (HasPushed m p old new (Ok tt)) a b false false refl (λ w es f. (stamp, grown, f)) h
+
+stamped_part : (m : Option ℕ) (p : Path) (s : Stamp) (es : List Event) → IsStamped m p s es → IsPart (look_at m p) es
+stamped_part m p s es h = done_part (look_at m p) es (stamped_done m p s es h)
+
+-- there is no memory for it
+pub pushed_short : (act : Act) (m : Option ℕ) (p : Path) (stamp : Stamp) (old new : List Stamp) (a b : Device) → HasActed act (HasStamp m p (Ok stamp)) a b false → HasActed act (HasPushed m p old new (Err OutOfMemory)) a b false
+pushed_short act m p stamp old new a b h =
+    acted_as act (HasStamp m p (Ok stamp)) (HasPushed m p old new (Err OutOfMemory)) a b false false refl (λ w es f. stamped_part m p stamp es f) h
+
+unpushed_by : (m : Option ℕ) (p : Path) (old new : List Stamp) (stop : Stop) (w : World) (es : List Event) → HasStamp m p (Err stop) w es → HasPushed m p old new (Err stop) w es
+unpushed_by m p old new (TooLong n) w es h = h
+unpushed_by m p old new (Gone q) w es h = h
+unpushed_by m p old new DeviceStop w es h = h
+unpushed_by m p old new Output w es h = h
+unpushed_by m p old new OutOfMemory w es h = h
+
+pub unpushed : (act : Act) (m : Option ℕ) (p : Path) (old new : List Stamp) (stop : Stop) (a b : Device) → HasActed act (HasStamp m p (Err stop)) a b (is_device_stop stop) → HasActed act (HasPushed m p old new (Err stop)) a b (is_device_stop stop)
+unpushed act m p old new stop a b h =
+    acted_as act (HasStamp m p (Err stop)) (HasPushed m p old new (Err stop)) a b (is_device_stop stop) (is_device_stop stop) refl (λ w es f. unpushed_by m p old new stop w es f) h
 
 -- ## All stamps
 
-pub stamps_next : (act : Act) (made : Serials) (before all : List Path) (p : Path) (old new : List Stamp) (r : Result (Unit {0}) Stop) (a b c : Option World)
-    → all ≡ before ++ p ∷ [] → r ≡ Ok tt → Did act a b (λ w es. AreStamped made before old es) → Did act b c (λ w es. HasPushed (made p) p old new r es)
-    → Did act a c (λ w es. AreStamped made all new es)
-stamps_next act made before all p old new r a b c grown is h k =
-    did_both act (λ w es. AreStamped made before old es) (λ w es. HasPushed (made p) p old new (Ok tt) es) (λ w es. AreStamped made all new es) a b c h
-    (subst (λ x. Did act b c (λ w es. HasPushed (made p) p old new x es)) is k)
+pub stamps_next : (act : Act) (made : Serials) (before all : List Path) (p : Path) (old new : List Stamp) (a b c : Device)
+    → all ≡ before ++ p ∷ [] → HasActed act (HasStamped made before (Ok old)) a b false → HasActed act (HasPushed (made p) p old new (Ok tt)) b c false
+    → HasActed act (HasStamped made all (Ok new)) a c false
+stamps_next act made before all p old new a b c grown h k =
+    acted_then act (HasStamped made before (Ok old)) (HasPushed (made p) p old new (Ok tt)) (HasStamped made all (Ok new)) a b c false
     (λ w es fs follows f follows2 g.
     subst (λ l. AreStamped made l new (es ++ fs)) (sym grown)
-    (subst (λ l. AreStamped made (before ++ p ∷ []) l (es ++ fs)) (sym g.1) (stamped_next made before old es fs p g.0 f g.2)))
+    (subst (λ l. AreStamped made (before ++ p ∷ []) l (es ++ fs)) (sym g.1) (stamped_next made before old es fs p g.0 f g.2))) h k
 
-stopped_at : (made : Serials) (before after : List Path) (p : Path) (ss new : List Stamp) (stop : Stop) (es fs : List Event)
-    → AreStamped made before ss es → HasPushed (made p) p ss new (Err stop) fs → HasStamped made (before ++ p ∷ after) (Err stop) (es ++ fs)
-stopped_at made before after p ss new (TooLong n) es fs h k = part_at made before after p ss es fs h k
-stopped_at made before after p ss new (Gone q) es fs h k = (part_at made before after p ss es fs h k.0, gone_later q es fs k.1)
-stopped_at made before after p ss new Device es fs h k = part_at made before after p ss es fs h k
-stopped_at made before after p ss new Output es fs h k = part_at made before after p ss es fs h k
-stopped_at made before after p ss new OutOfMemory es fs h k = part_at made before after p ss es fs h k
+stopped_at : (made : Serials) (before after : List Path) (p : Path) (ss new : List Stamp) (stop : Stop) (w v : World) (es fs : List Event)
+    → AreStamped made before ss es → HasPushed (made p) p ss new (Err stop) v fs → HasStamped made (before ++ p ∷ after) (Err stop) w (es ++ fs)
+stopped_at made before after p ss new (TooLong n) w v es fs h k = part_at made before after p ss es fs h k
+stopped_at made before after p ss new (Gone q) w v es fs h k = (part_at made before after p ss es fs h k.0, gone_later q es fs k.1)
+stopped_at made before after p ss new DeviceStop w v es fs h k = part_at made before after p ss es fs h k
+stopped_at made before after p ss new Output w v es fs h k = part_at made before after p ss es fs h k
+stopped_at made before after p ss new OutOfMemory w v es fs h k = part_at made before after p ss es fs h k
 
-pub stamps_stop : (act : Act) (made : Serials) (before after all : List Path) (p : Path) (old new : List Stamp) (stop : Stop) (r : Result (Unit {0}) Stop) (a b c : Option World)
-    → all ≡ before ++ p ∷ after → r ≡ Err stop → Did act a b (λ w es. AreStamped made before old es) → Did act b c (λ w es. HasPushed (made p) p old new r es)
-    → Did act a c (λ w es. HasStamped made all (Err stop) es)
-stamps_stop act made before after all p old new stop r a b c whole is h k =
-    did_both act (λ w es. AreStamped made before old es) (λ w es. HasPushed (made p) p old new (Err stop) es) (λ w es. HasStamped made all (Err stop) es) a b c h
-    (subst (λ x. Did act b c (λ w es. HasPushed (made p) p old new x es)) is k)
-    (λ w es fs follows f follows2 g. subst (λ l. HasStamped made l (Err stop) (es ++ fs)) (sym whole) (stopped_at made before after p old new stop es fs f g))
+pub stamps_stop : (act : Act) (made : Serials) (before after all : List Path) (p : Path) (old new : List Stamp) (stop : Stop) (a b c : Device)
+    → all ≡ before ++ p ∷ after → HasActed act (HasStamped made before (Ok old)) a b false → HasActed act (HasPushed (made p) p old new (Err stop)) b c (is_device_stop stop)
+    → HasActed act (HasStamped made all (Err stop)) a c (is_device_stop stop)
+stamps_stop act made before after all p old new stop a b c whole h k =
+    acted_then act (HasStamped made before (Ok old)) (HasPushed (made p) p old new (Err stop)) (HasStamped made all (Err stop)) a b c (is_device_stop stop)
+    (λ w es fs follows f follows2 g. subst (λ l. HasStamped made l (Err stop) w (es ++ fs)) (sym whole) (stopped_at made before after p old new stop w (run w es) es fs f g)) h k

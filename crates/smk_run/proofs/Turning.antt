@@ -1,55 +1,51 @@
 -- From the calls and the lines of one job to its turn.
-use Rattle.std.proofs.Common.{◌≡◌, ◌⊎◌, ℕ, Bool, true, false, List, [], ◌++◌, refl, ap, sym, subst, ◌∙◌, inl, inr, Option, Some, None, Result, Ok, Err}
-use Rattle.std.specs.Prelude.{IsSome}
+use Rattle.std.proofs.Common.{◌≡◌, ◌⊎◌, ℕ, Bool, true, false, List, [], ◌++◌, refl, ap, sym, subst, ◌∙◌, inl, inr, Option, Some, None, Result, Ok, Err, true≢false}
 use Rattle.smk_world.specs.declared.event.Event.{Event}
 use Rattle.smk_world.specs.declared.event.WorkFault.{WorkFault}
 use Rattle.smk_world.specs.declared.event.WorkFault.TheVariants.{Failed as FailedFault, OutOfMemory as MemoryFault}
 use Rattle.smk_world.specs.World.{World, run}
-use Rattle.smk_world.specs.Runs.{Did}
+use Rattle.smk_world.specs.Calls.{device_failed}
+use Rattle.smk_world.specs.Devices.{Device, Sunk, HasEnded}
 use Rattle.smk_world.specs.Trees.{Act}
-use Rattle.smk_world.proofs.Runs.{did_both, did_nothing}
-use Rattle.smk_store.proofs.Carried.{did_as}
 use Rattle.smk_record.specs.declared.record.Stamp.{Stamp}
 use Rattle.smk_flow.specs.declared.job.Job.{Job}
 use Rattle.smk_job.specs.declared.fault.BeginFault.{BeginFault}
 use Rattle.smk_job.specs.declared.fault.BeginFault.TheVariants as begin
-use Rattle.smk_job.specs.Jobs.{Underway, underway, HasBegun, MayAnswer}
+use Rattle.smk_job.specs.Jobs.{Underway, underway, HasBegun, IsBegunFor, begin_failed, too_long}
+use Rattle.smk_job.specs.Starts.{HasStarted, begun_child}
+use Rattle.smk_job.proofs.Starts.{started_ended}
 use Rattle.smk_report.specs.Lines.{Text, Named}
 use Rattle.smk_run.specs.declared.ending.Ending.{Ending}
 use Rattle.smk_run.specs.declared.stop.Stop.{Stop}
-use Rattle.smk_run.specs.declared.stop.Stop.TheVariants.{TooLong, Gone, Device, Output, OutOfMemory}
-use Rattle.smk_run.specs.Closings.{HasClosed, device_failed}
+use Rattle.smk_run.specs.declared.stop.Stop.TheVariants.{TooLong, Gone, Device as DeviceStop, Output, OutOfMemory}
+use Rattle.smk_run.specs.Closings.{HasClosed}
 use Rattle.smk_run.specs.Turns.{Course, Unbegun, Unstarted, Unclosed, Closed, HasGoneOn, as_gone, stop_of, left_stop}
-use Rattle.smk_run.specs.Reports.{course_text, IsReport, HasWritten, HasTurned, IsAnswer, is_whole, is_output}
-use Rattle.smk_run.specs.Statuses.{AreGiven}
+use Rattle.smk_run.specs.Reports.{course_text, IsReport, HasReported, HasTurned, IsAnswer, is_whole, is_output}
+use Rattle.smk_run.specs.Statuses.{HasGiven}
+use Rattle.smk_run.proofs.Ends.{ended_as, ended_nothing}
 use Rattle.smk_run.proofs.Texts.{course_of, no_text}
-use Rattle.smk_run.proofs.Honest.{did_none_given, did_given_both, begun_given}
+use Rattle.smk_run.proofs.Honest.{given_none, given_then, begun_given}
 
 -- ## A child that runs
 
-gone_on : (act : Act) (j : Underway) (closed : Result Ending WorkFault) (a b : Option World) → Did act a b (λ w es. HasClosed j closed w es) → Did act a b (HasGoneOn j (course_of closed))
-gone_on act j (Ok ending) a b h = h
-gone_on act j (Err f) a b h = did_as act (λ w es. HasClosed j (Err f) w es) (λ w es. HasGoneOn j Unclosed w es) a b h (λ w es x. (f, x))
+gone_on : (j : Underway) (closed : Result Ending WorkFault) (w : World) (es : List Event) → HasClosed j closed w es → HasGoneOn j (course_of closed) w es
+gone_on j (Ok ending) w es h = h
+gone_on j (Err f) w es h = (f, h)
 
 -- its job was closed so, or not
-pub attended : (act : Act) (j : Underway) (name : Named) (closed k : Result Ending WorkFault) (result : Result Ending Stop) (a b : Option World) (rose : Type 0) (running : List ℕ) (put_old put_new : Option Text)
+pub attended : (act : Act) (j : Underway) (name : Named) (closed k : Result Ending WorkFault) (result : Result Ending Stop) (a b : Device) (p q : Sunk)
     → closed ≡ k → IsAnswer None (course_of k) (device_failed k) result
-    → Did act a b (λ w es. HasClosed j closed w es)
-    → HasWritten put_old put_new (is_output result ≡ false) (IsReport (is_whole result) (course_text name (course_of k)))
-    → (device_failed closed ≡ true → rose) → (device_failed closed ≡ false → running ≡ []) → (device_failed closed ≡ false → IsSome a → IsSome b)
-    → Did act a b (AreGiven act rose)
-    → HasTurned act (HasGoneOn j) name None result a b rose running put_old put_new
-attended act j name closed k result a b rose running put_old put_new same answer did text failed_rose none_runs stays given = record {
+    → HasEnded act (HasClosed j closed) a b (device_failed closed) → HasGiven act a b
+    → HasReported (IsReport (is_whole result) (course_text name (course_of k))) p q (is_output result)
+    → HasTurned act (HasGoneOn j) name None result a b p q
+attended act j name closed k result a b p q same answer ended given text = record {
   course = course_of k;
   failed = device_failed k;
   answer = answer;
-  did = gone_on act j k a b (subst (λ x. Did act a b (λ w es. HasClosed j x w es)) same did);
+  ran = ended_as act (HasClosed j k) (HasGoneOn j (course_of k)) a b (device_failed k) (device_failed k) refl (gone_on j k) (subst (λ x. HasEnded act (HasClosed j x) a b (device_failed x)) same ended);
   given = given;
   text = text;
   fits = λ e. refl;
-  failed_rose = λ h. failed_rose (ap device_failed same ∙ h);
-  none_runs = λ h. none_runs (ap device_failed same ∙ h);
-  stays = λ h. stays (ap device_failed same ∙ h);
 }
 
 pub untold_answer : (closed : Result Ending WorkFault) → IsAnswer None (course_of closed) (device_failed closed) (Err Output)
@@ -78,13 +74,13 @@ longer : (long : Option ℕ) (course : Course) (failed : Bool) (result : Result 
 longer long course failed (Ok ending) h = h
 longer long course failed (Err (TooLong bytes)) h = absurd (no_bytes bytes h.2)
 longer long course failed (Err (Gone p)) h = h
-longer long course failed (Err Device) h = h
+longer long course failed (Err DeviceStop) h = h
 longer long course failed (Err Output) h = h
 longer long course failed (Err OutOfMemory) h = h
 
 begun_and : (job : Job) (command : Text) (made : ℕ) (stamps : List Stamp) (going : Underway) (course : Course) (w : World) (es fs : List Event)
     → going ≡ underway job.recipe job.logs stamps made going.number
-    → HasBegun job.recipe job.logs command (Ok going) es → HasGoneOn going course (run w es) fs → as_gone job command made stamps course w (es ++ fs)
+    → HasBegun job.recipe job.logs command (Ok going) w es → HasGoneOn going course (run w es) fs → as_gone job command made stamps course w (es ++ fs)
 begun_and job command made stamps going Unbegun w es fs is begun gone = absurd gone
 begun_and job command made stamps going Unstarted w es fs is begun gone = absurd gone
 begun_and job command made stamps going Unclosed w es fs is begun gone = record {
@@ -106,63 +102,61 @@ begun_and job command made stamps going (Closed ending) w es fs is begun gone = 
   then_did = subst (λ (u : Underway). HasGoneOn u (Closed ending) (run w es) fs) is gone;
 }
 
--- it began, and then its child was attended to
-pub turned : (act : Act) (job : Job) (command : Text) (made : ℕ) (stamps : List Stamp) (name called : Named) (long : Option ℕ) (going : Underway) (r : Result Underway BeginFault)
-    (result : Result Ending Stop) (a b c : Option World) (rose later : Type 0) (running : List ℕ) (put_old put_new : Option Text)
-    → called ≡ name → r ≡ Ok going → MayAnswer long r → going ≡ underway job.recipe job.logs stamps made going.number
-    → Did act a b (λ w es. HasBegun job.recipe job.logs command r es) → (IsSome a → IsSome b) → (later → rose)
-    → HasTurned act (HasGoneOn going) called None result b c later running put_old put_new
-    → HasTurned act (as_gone job command made stamps) name long result a c rose running put_old put_new
-turned act job command made stamps name called long going r result a b c rose later running put_old put_new same ok may is begun stays rises h = record {
-  course = h.course;
-  failed = h.failed;
-  answer = longer long h.course h.failed result h.answer;
-  did = did_both act (λ w es. HasBegun job.recipe job.logs command (Ok going) es) (HasGoneOn going h.course) (as_gone job command made stamps h.course) a b c
-      (subst (λ x. Did act a b (λ w es. HasBegun job.recipe job.logs command x es)) ok begun) h.did
-      (λ w es fs follows f follows2 g. begun_and job command made stamps going h.course w es fs is f g);
-  given = did_given_both act rose later rose a b c (λ x. x) rises (begun_given act rose job.recipe job.logs command r a b begun) h.given;
-  text = subst (λ n. HasWritten put_old put_new (is_output result ≡ false) (IsReport (is_whole result) (course_text n h.course))) same h.text;
-  fits = λ e. subst (λ x. MayAnswer long x) ok may;
-  failed_rose = λ e. rises (h.failed_rose e);
-  none_runs = h.none_runs;
-  stays = λ e some. h.stays e (stays some);
-}
+module _ (act : Act) (job : Job) (command : Text) (made : ℕ) (stamps : List Stamp) where
+  abbrev pub Began : Result Underway BeginFault → Device → Device → Type 0
+  Began r a b = HasStarted act (HasBegun job.recipe job.logs command r) (begun_child r) a b (begin_failed r)
 
--- nothing was done
-pub unturned : (act : Act) (job : Job) (command : Text) (made : ℕ) (stamps : List Stamp) (name : Named) (long : Option ℕ) (stop : Stop) (a b : Option World) (rose : Type 0) (running : List ℕ) (put : Option Text)
-    → b ≡ a → IsAnswer long Unbegun false (Err stop) → running ≡ [] → HasTurned act (as_gone job command made stamps) name long (Err stop) a b rose running put put
-unturned act job command made stamps name long stop a b rose running put same answer none = record {
-  course = Unbegun;
-  failed = false;
-  answer = answer;
-  did = subst (λ x. Did act a x (as_gone job command made stamps Unbegun)) (sym same) (did_nothing act (as_gone job command made stamps Unbegun) a (λ w. refl));
-  given = subst (λ x. Did act a x (AreGiven act rose)) (sym same) (did_none_given act rose a);
-  text = no_text (is_whole {T = Ending} (Err stop)) put (is_output {T = Ending} (Err stop) ≡ false);
-  fits = λ e. cc;
-  failed_rose = λ e. cc;
-  none_runs = λ e. none;
-  stays = λ e some. subst IsSome (sym same) some;
-}
+  -- it began, and then its child was attended to
+  pub turned : (name called : Named) (going : Underway) (r : Result Underway BeginFault) (result : Result Ending Stop) (a b c : Device) (p q : Sunk)
+      → called ≡ name → r ≡ Ok going → IsBegunFor job.recipe job.logs stamps made r → Began r a b → HasTurned act (HasGoneOn going) called None result b c p q
+      → HasTurned act (as_gone job command made stamps) name (too_long made job.recipe stamps) result a c p q
+  turned name called going r result a b c p q same ok for begun h =
+      let well = subst (IsBegunFor job.recipe job.logs stamps made) ok for in
+      record {
+        course = h.course;
+        failed = h.failed;
+        answer = longer (too_long made job.recipe stamps) h.course h.failed result h.answer;
+        ran = started_ended act (HasBegun job.recipe job.logs command (Ok going)) (HasGoneOn going h.course) (as_gone job command made stamps h.course) (Some going.number) a b c h.failed
+            (λ w es fs follows f follows2 g. begun_and job command made stamps going h.course w es fs well.going f g) (subst (λ x. Began x a b) ok begun) h.ran;
+        given = given_then act a b c begun.cause.later h.ran.cause.later (begun_given act job.recipe job.logs command r a b begun.did) h.given;
+        text = subst (λ n. HasReported (IsReport (is_whole result) (course_text n h.course)) p q (is_output result)) same h.text;
+        fits = λ e. well.long;
+      }
 
--- it didn't begin
-pub not_turned : (act : Act) (job : Job) (command : Text) (made : ℕ) (stamps : List Stamp) (name : Named) (long : Option ℕ) (r : Result Underway BeginFault) (fault : BeginFault)
-    (a b : Option World) (rose : Type 0) (running : List ℕ) (put : Option Text)
-    → r ≡ Err fault → MayAnswer long r → ((fault ≡ begin.Device → ⊥) → b ≡ a) → (r ≡ Err begin.Device → rose) → running ≡ []
-    → Did act a b (λ w es. HasBegun job.recipe job.logs command r es)
-    → HasTurned act (as_gone job command made stamps) name long (Err (stop_of fault)) a b rose running put put
-not_turned act job command made stamps name long r (begin.TooLong bytes) a b rose running put is may untouched rises none begun =
-    unturned act job command made stamps name long (TooLong bytes) a b rose running put (untouched (λ e. cc)) (refl, refl, subst (λ x. MayAnswer long x) is may) none
-not_turned act job command made stamps name long r begin.OutOfMemory a b rose running put is may untouched rises none begun =
-    unturned act job command made stamps name long OutOfMemory a b rose running put (untouched (λ e. cc)) refl none
-not_turned act job command made stamps name long r begin.Device a b rose running put is may untouched rises none begun = record {
-  course = Unstarted;
-  failed = true;
-  answer = (refl, refl);
-  did = subst (λ x. Did act a b (λ w es. HasBegun job.recipe job.logs command x es)) is begun;
-  given = begun_given act rose job.recipe job.logs command r a b begun;
-  text = no_text true put (false ≡ false);
-  fits = λ e. subst (λ x. MayAnswer long x) is may;
-  failed_rose = λ e. rises is;
-  none_runs = λ e. cc;
-  stays = λ e. cc;
-}
+  -- nothing was done
+  pub unturned : (name : Named) (long : Option ℕ) (stop : Stop) (a b : Device) (p : Sunk)
+      → b ≡ a → is_output {T = Ending} (Err stop) ≡ false → IsAnswer long Unbegun false (Err stop) → a.running ≡ [] → HasTurned act (as_gone job command made stamps) name long (Err stop) a b p p
+  unturned name long stop a b p same quiet answer none =
+      subst (λ d. HasTurned act (as_gone job command made stamps) name long (Err stop) a d p p) (sym same) (record {
+        course = Unbegun;
+        failed = false;
+        answer = answer;
+        ran = ended_nothing act (as_gone job command made stamps Unbegun) a none (λ w. refl);
+        given = given_none act a;
+        text = subst (HasReported (IsReport (is_whole {T = Ending} (Err stop)) []) p p) (sym quiet) (no_text (is_whole {T = Ending} (Err stop)) p);
+        fits = λ e. absurd (true≢false (sym e));
+      })
+
+  -- it didn't begin
+  pub not_turned : (name : Named) (r : Result Underway BeginFault) (fault : BeginFault) (a b : Device) (p : Sunk)
+      → r ≡ Err fault → IsBegunFor job.recipe job.logs stamps made r → ((fault ≡ begin.Device → ⊥) → b ≡ a) → a.running ≡ [] → Began r a b
+      → HasTurned act (as_gone job command made stamps) name (too_long made job.recipe stamps) (Err (stop_of fault)) a b p p
+  not_turned name r (begin.TooLong bytes) a b p is for untouched none begun =
+      unturned name (too_long made job.recipe stamps) (TooLong bytes) a b p (untouched (λ e. cc)) refl (refl, refl, (subst (IsBegunFor job.recipe job.logs stamps made) is for).long) none
+  not_turned name r begin.OutOfMemory a b p is for untouched none begun = unturned name (too_long made job.recipe stamps) OutOfMemory a b p (untouched (λ e. cc)) refl refl none
+  not_turned name r begin.Device a b p is for untouched none begun =
+      let failed = subst (λ x. Began x a b) is begun in
+      record {
+        course = Unstarted;
+        failed = true;
+        answer = (refl, refl);
+        ran = record {
+          did = failed.did;
+          stays = failed.stays;
+          cause = failed.cause;
+          idle = λ quiet. absurd (true≢false quiet);
+        };
+        given = begun_given act job.recipe job.logs command r a b begun.did;
+        text = no_text true p;
+        fits = λ e. (subst (IsBegunFor job.recipe job.logs stamps made) is for).long;
+      }

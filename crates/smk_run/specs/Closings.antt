@@ -1,5 +1,5 @@
 -- How a job is closed whose child runs.
-use Rattle.std.specs.Prelude.{◌≡◌, ◌≢◌, ◌⊎◌, ℕ, Bool, true, false, List, [], ◌∷◌, Result, Ok, Err}
+use Rattle.std.specs.Prelude.{◌≡◌, ◌≢◌, ◌⊎◌, ℕ, List, [], ◌∷◌, Result, Ok, Err}
 use Rattle.smk_world.specs.declared.event.Call.TheVariants.{Waited}
 use Rattle.smk_world.specs.declared.event.Change.{Change}
 use Rattle.smk_world.specs.declared.event.Ended.{Ended}
@@ -63,9 +63,3 @@ ending_of (Err (fault.WrongKind p)) = Ok (WrongKind p)
 ending_of (Err (fault.BadMember p)) = Ok (BadMember p)
 ending_of (Err fault.Device) = Err FailedFault
 ending_of (Err fault.OutOfMemory) = Err MemoryFault
-
--- the device failed
-abbrev pub device_failed : {T : Type 0} → Result T WorkFault → Bool
-device_failed (Ok t) = false
-device_failed (Err FailedFault) = true
-device_failed (Err MemoryFault) = false

@@ -3,7 +3,8 @@ use Rattle.std.specs.Prelude.{◌≡◌, ℕ, Bool, true, false, List, [], ◌++
 use Rattle.std.specs.List.{flat_map}
 use Rattle.smk_world.specs.World.{World, out_paths}
 use Rattle.smk_world.specs.declared.event.Event.{Event}
-use Rattle.smk_world.specs.Runs.{Did}
+use Rattle.smk_world.specs.Calls.{HasCause}
+use Rattle.smk_world.specs.Devices.{Device, Sunk, HasEnded}
 use Rattle.smk_world.specs.Trees.{Act, first}
 use Rattle.smk_pattern.specs.Reading.{or_empty}
 use Rattle.smk_flow.specs.declared.job.Job.{Job}
@@ -16,8 +17,8 @@ use Rattle.smk_report.specs.declared.fault.Fault.TheVariants as fault
 use Rattle.smk_run.specs.declared.ending.Ending.{Ending}
 use Rattle.smk_run.specs.declared.ending.Ending.TheVariants.{Good, Status, NoOutput, WrongKind, BadMember}
 use Rattle.smk_run.specs.declared.stop.Stop.{Stop}
-use Rattle.smk_run.specs.declared.stop.Stop.TheVariants.{TooLong, Gone, Device, Output, OutOfMemory}
-use Rattle.smk_run.specs.Statuses.{AreGiven}
+use Rattle.smk_run.specs.declared.stop.Stop.TheVariants.{TooLong, Gone, Device as DeviceStop, Output, OutOfMemory}
+use Rattle.smk_run.specs.Statuses.{HasGiven}
 use Rattle.smk_run.specs.Turns.{Course, Unbegun, Unstarted, Unclosed, Closed, Turn, is_closed, is_begun, is_started}
 
 -- ## Names
@@ -55,10 +56,12 @@ abbrev pub IsReport : Bool → Text → Text → Type 0
 IsReport true whole text = text ≡ whole
 IsReport false whole text = IsFront text whole
 
--- Text was put that P allows; what was told stays told where all is well.
-pub record HasWritten (old new : Option Text) (is_well : Type 0) (P : Text → Type 0) : Type 0 where
-  pub told : (now : Text) → new ≡ Some now → (before : Text) × (old ≡ Some before) × ((text : Text) × P text × (now ≡ before ++ text))
-  pub stays : is_well → IsSome old → IsSome new
+-- Text was put that P allows. What was told stays told unless the sink failed; that has its cause, and without it the count stays.
+pub record HasReported (P : Text → Type 0) (old new : Sunk) (failure : Bool) : Type 0 where
+  pub told : (now : Text) → new.put ≡ Some now → (before : Text) × (old.put ≡ Some before) × ((text : Text) × P text × (now ≡ before ++ text))
+  pub stays : failure ≡ false → IsSome old.put → IsSome new.put
+  pub cause : HasCause old.faults new.faults failure
+  pub quiet : failure ≡ false → new.faults ≡ old.faults
 
 -- ## Answers
 
@@ -74,7 +77,7 @@ failure name (BadMember p) = Some (fault.BadMember name.rule name.path p)
 abbrev pub stop_fault : Named → Stop → Fault
 stop_fault name (TooLong bytes) = fault.TooLong name.rule bytes
 stop_fault name (Gone p) = fault.NoInput name.path name.rule p
-stop_fault name Device = fault.Device
+stop_fault name DeviceStop = fault.Device
 stop_fault name Output = fault.Output
 stop_fault name OutOfMemory = fault.OutOfMemory
 
@@ -82,7 +85,7 @@ stop_fault name OutOfMemory = fault.OutOfMemory
 abbrev pub is_refusal : Stop → Bool
 is_refusal (TooLong bytes) = true
 is_refusal (Gone p) = true
-is_refusal Device = false
+is_refusal DeviceStop = false
 is_refusal Output = false
 is_refusal OutOfMemory = false
 
@@ -90,21 +93,21 @@ is_refusal OutOfMemory = false
 abbrev pub leaves_whole : Stop → Bool
 leaves_whole (TooLong bytes) = true
 leaves_whole (Gone p) = true
-leaves_whole Device = true
+leaves_whole DeviceStop = true
 leaves_whole Output = false
 leaves_whole OutOfMemory = false
 
 abbrev pub is_output_stop : Stop → Bool
 is_output_stop (TooLong bytes) = false
 is_output_stop (Gone p) = false
-is_output_stop Device = false
+is_output_stop DeviceStop = false
 is_output_stop Output = true
 is_output_stop OutOfMemory = false
 
 abbrev pub is_device_stop : Stop → Bool
 is_device_stop (TooLong bytes) = false
 is_device_stop (Gone p) = false
-is_device_stop Device = true
+is_device_stop DeviceStop = true
 is_device_stop Output = false
 is_device_stop OutOfMemory = false
 
@@ -126,22 +129,18 @@ abbrev pub IsAnswer : Option ℕ → Course → Bool → Result Ending Stop → 
 IsAnswer long course failed (Ok ending) = (course ≡ Closed ending) × (failed ≡ false)
 IsAnswer long course failed (Err (TooLong bytes)) = (course ≡ Unbegun) × (failed ≡ false) × (long ≡ Some bytes)
 IsAnswer long course failed (Err (Gone p)) = (course ≡ Unbegun) × (failed ≡ false)
-IsAnswer long course failed (Err Device) = (is_closed course ≡ false) × (failed ≡ true)
+IsAnswer long course failed (Err DeviceStop) = (is_closed course ≡ false) × (failed ≡ true)
 IsAnswer long course failed (Err Output) = is_started course ≡ true
 IsAnswer long course failed (Err OutOfMemory) = failed ≡ false
 
 -- What the turn of a job did: its calls, the lines that were put, and what is left.
-pub record HasTurned (act : Act) (P : Course → World → List Event → Type 0) (name : Named) (long : Option ℕ) (result : Result Ending Stop) (old new : Option World) (rose : Type 0) (running : List ℕ) (put_old put_new : Option Text) : Type 0 where
+pub record HasTurned (act : Act) (P : Course → World → List Event → Type 0) (name : Named) (long : Option ℕ) (result : Result Ending Stop) (old new : Device) (out_old out_new : Sunk) : Type 0 where
   pub course : Course
   -- a call of the device failed
   pub failed : Bool
   pub answer : IsAnswer long course failed result
-  pub did : Did act old new (P course)
-  -- each status that was told is the command's own, or the count of faults rose
-  pub given : Did act old new (AreGiven act rose)
-  pub text : HasWritten put_old put_new (is_output result ≡ false) (IsReport (is_whole result) (course_text name course))
+  pub ran : HasEnded act (P course) old new failed
+  pub given : HasGiven act old new
+  pub text : HasReported (IsReport (is_whole result) (course_text name course)) out_old out_new (is_output result)
   -- where anything was done but looks, nothing was too long
   pub fits : is_begun course ≡ true → long ≡ None
-  pub failed_rose : failed ≡ true → rose
-  pub none_runs : failed ≡ false → running ≡ []
-  pub stays : failed ≡ false → IsSome old → IsSome new

@@ -1,11 +1,11 @@
 -- A run of jobs, one after another, in plan order.
-use Rattle.std.specs.Prelude.{◌≡◌, ◌⊎◌, ◌≤◌, ℕ, Bool, true, false, List, [], ◌∷◌, ◌++◌, ◌+◌, length, map, Option, Some, None, slice_get, Result, Ok, Err, IsSome}
+use Rattle.std.specs.Prelude.{◌≡◌, ◌⊎◌, ◌≤◌, ℕ, Bool, true, false, List, [], ◌∷◌, ◌++◌, ◌+◌, length, map, Option, Some, None, slice_get, Result, Ok, Err}
 use Rattle.std.specs.List.{count_by}
 use Rattle.smk_base.specs.declared.tree.Pair.{Pair}
 use Rattle.smk_world.specs.declared.recipe.Recipe.{Recipe}
 use Rattle.smk_world.specs.World.{World, in_paths, out_paths, owned_paths}
 use Rattle.smk_world.specs.Calls.{are_apart}
-use Rattle.smk_world.specs.Runs.{Did}
+use Rattle.smk_world.specs.Devices.{Device, Sunk, HasEnded}
 use Rattle.smk_world.specs.Trees.{Act, Each, is_path_text}
 use Rattle.smk_record.specs.Records.{is_valid, record_of, are_rising}
 use Rattle.smk_record.specs.Spelling.{is_writable}
@@ -21,9 +21,9 @@ use Rattle.smk_run.specs.declared.stop.Stop.{Stop}
 use Rattle.smk_run.specs.declared.stop.Stop.TheVariants as stopping
 use Rattle.smk_run.specs.declared.tally.Tally.{Tally}
 use Rattle.smk_run.specs.Stamps.{Serials, IsBelow}
-use Rattle.smk_run.specs.Statuses.{AreGiven}
+use Rattle.smk_run.specs.Statuses.{HasGiven}
 use Rattle.smk_run.specs.Turns.{Course, Closed, Turn, found, IsTurn, is_begun, is_done, is_closed, AreTurns}
-use Rattle.smk_run.specs.Reports.{named, course_text, report_of, HasWritten, IsReport, HasTurned, IsAnswer, failure, stop_fault, is_refusal}
+use Rattle.smk_run.specs.Reports.{named, course_text, report_of, HasReported, IsReport, HasTurned, IsAnswer, failure, stop_fault, is_refusal}
 pub use Rattle.smk_format.specs.Refused.{command_of, fault_at, job_fault, or_later}
 pub use Rattle.smk_plan.specs.Duties.{maker_in}
 pub use Rattle.smk_run.specs.Duties.{Due}
@@ -133,20 +133,16 @@ is_device (Ok t) = false
 is_device (Err f) = is_device_fault f
 
 -- What a run did of the jobs that are due: their turns, the lines that were put, and what is left.
-pub record HasRun (act : Act) (flow : Flow) (cores : ℕ) (dues : List Due) (made : Serials) (result : Result Tally Fault) (old new : Option World) (rose : Type 0) (running : List ℕ) (put_old put_new : Option Text) : Type 0 where
+pub record HasRun (act : Act) (flow : Flow) (cores : ℕ) (dues : List Due) (made : Serials) (result : Result Tally Fault) (old new : Device) (out_old out_new : Sunk) : Type 0 where
   pub turns : List Turn
   -- a call of the device failed
   pub failed : Bool
   pub in_order : AreInOrder cores dues turns
   pub answer : IsOutcome flow dues turns failed result
   pub fits : Each Fits turns
-  pub did : Did act old new (AreTurns made turns)
-  -- each status that was told of a child is the one that its command gives, or the count of faults rose
-  pub given : Did act old new (AreGiven act rose)
-  pub text : HasWritten put_old put_new (is_output result ≡ false) (IsReport (is_whole result) (report_of flow turns))
-  pub failed_rose : failed ≡ true → rose
-  pub none_runs : failed ≡ false → running ≡ []
-  pub stays : failed ≡ false → IsSome old → IsSome new
+  pub ran : HasEnded act (AreTurns made turns) old new failed
+  pub given : HasGiven act old new
+  pub text : HasReported (IsReport (is_whole result) (report_of flow turns)) out_old out_new (is_output result)
 
 -- ## Steps
 
@@ -160,10 +156,10 @@ IsLookedBy looked (Ok ending) = Unit {0}
 IsLookedBy looked (Err stop) = IsLooked looked stop
 
 -- The turn of a job was taken; this is what the looks at its inputs gave.
-pub record HasTaken (act : Act) (flow : Flow) (made : Serials) (job : Job) (command : Text) (serial : ℕ) (result : Result Ending Stop) (old new : Option World) (rose : Type 0) (running : List ℕ) (put_old put_new : Option Text) : Type 0 where
+pub record HasTaken (act : Act) (flow : Flow) (made : Serials) (job : Job) (command : Text) (serial : ℕ) (result : Result Ending Stop) (old new : Device) (out_old out_new : Sunk) : Type 0 where
   pub looked : Result (List Stamp) Stop
   pub why : IsLookedBy looked result
-  pub turned : HasTurned act (λ course. IsTurn made (turn_of job command serial looked course)) (named flow job) (too_long serial job.recipe (found looked)) result old new rose running put_old put_new
+  pub turned : HasTurned act (λ course. IsTurn made (turn_of job command serial looked course)) (named flow job) (too_long serial job.recipe (found looked)) result old new out_old out_new
   pub records : is_begun turned.course ≡ true → AreWritable serial job.recipe (found looked)
 
 -- What a turn answers: nothing of a job that is done, the fault of one that failed, or why the run stops.
@@ -174,7 +170,7 @@ IsTurnAnswer flow t failed (Err f) =
     ⊎ ((stop : Stop) × (f ≡ stop_fault (named flow t.job) stop) × IsAnswer (too_long t.made t.job.recipe (found t.looked)) t.course failed (Err stop) × IsLooked t.looked stop)
 
 -- What the turn of a job did.
-pub record HasHadTurn (act : Act) (flow : Flow) (made : Serials) (job : Job) (command : Text) (serial : ℕ) (result : Result (Option Fault) Fault) (old new : Option World) (rose : Type 0) (running : List ℕ) (put_old put_new : Option Text) : Type 0 where
+pub record HasHadTurn (act : Act) (flow : Flow) (made : Serials) (job : Job) (command : Text) (serial : ℕ) (result : Result (Option Fault) Fault) (old new : Device) (out_old out_new : Sunk) : Type 0 where
   pub turn : Turn
   pub failed : Bool
   pub job_is : turn.job ≡ job
@@ -182,25 +178,20 @@ pub record HasHadTurn (act : Act) (flow : Flow) (made : Serials) (job : Job) (co
   pub made_is : turn.made ≡ serial
   pub answer : IsTurnAnswer flow turn failed result
   pub fits : Fits turn
-  pub did : Did act old new (IsTurn made turn)
-  pub given : Did act old new (AreGiven act rose)
-  pub text : HasWritten put_old put_new (is_output result ≡ false) (IsReport (is_whole result) (course_text (named flow turn.job) turn.course))
-  pub failed_rose : failed ≡ true → rose
-  pub none_runs : failed ≡ false → running ≡ []
-  pub stays : failed ≡ false → IsSome old → IsSome new
+  pub ran : HasEnded act (IsTurn made turn) old new failed
+  pub given : HasGiven act old new
+  pub text : HasReported (IsReport (is_whole result) (course_text (named flow turn.job) turn.course)) out_old out_new (is_output result)
 
 -- The turns so far: those of so many jobs, each of which is done.
-pub record HasRunSoFar (act : Act) (flow : Flow) (cores : ℕ) (dues : List Due) (made : Serials) (count : ℕ) (old new : Option World) (rose : Type 0) (running : List ℕ) (put_old put_new : Option Text) : Type 0 where
+pub record HasRunSoFar (act : Act) (flow : Flow) (cores : ℕ) (dues : List Due) (made : Serials) (count : ℕ) (old new : Device) (out_old out_new : Sunk) : Type 0 where
   pub turns : List Turn
   pub counted : length turns ≡ count
   pub done : Each (λ (t : Turn). is_done t.course ≡ true) turns
   pub in_order : AreInOrder cores dues turns
   pub fits : Each Fits turns
-  pub did : Did act old new (AreTurns made turns)
-  pub given : Did act old new (AreGiven act rose)
-  pub text : HasWritten put_old put_new (Unit {0}) (IsReport true (report_of flow turns))
-  pub none_runs : running ≡ []
-  pub stays : IsSome old → IsSome new
+  pub ran : HasEnded act (AreTurns made turns) old new false
+  pub given : HasGiven act old new
+  pub text : HasReported (IsReport true (report_of flow turns)) out_old out_new false
 
 -- The turn of a job that is due can be taken: it makes something, its outputs and logs don't overlap one another, the names of its wildcards rise, its command
 -- has no fault, and its serial, where it has one, isn't 0 and is above those of the products that it reads.

@@ -11,6 +11,7 @@ use Rattle.smk_world.specs.declared.event.Stat.TheVariants.{Nothing, File, Folde
 use Rattle.smk_world.specs.Requests.{Request}
 use Rattle.smk_world.specs.Requests.Request.{Look}
 use Rattle.smk_world.specs.Trees.{Path}
+use Rattle.smk_world.specs.World.{World}
 use Rattle.smk_record.specs.declared.record.Stamp.{Stamp}
 use Rattle.smk_record.specs.declared.record.Stamp.TheVariants.{Time, Made}
 use Rattle.smk_record.specs.Spelling.{number}
@@ -58,30 +59,30 @@ abbrev pub EndsGone : Path → List Event → Type 0
 EndsGone p es = (before : List Event) × (e : Event) × (es ≡ before ++ e ∷ []) × ((stat : Stat) × (e.call ≡ Looked p (Ok stat)) × (is_file stat ≡ false))
 
 -- the looks at the inputs gave all stamps, or ended early
-abbrev pub HasStamped : Serials → List Path → Result (List Stamp) Stop → List Event → Type 0
-HasStamped made paths (Ok stamps) es = AreStamped made paths stamps es
-HasStamped made paths (Err (Gone p)) es = IsPart (looks made paths) es × EndsGone p es
-HasStamped made paths (Err stop) es = IsPart (looks made paths) es
+abbrev pub HasStamped : Serials → List Path → Result (List Stamp) Stop → World → List Event → Type 0
+HasStamped made paths (Ok stamps) w es = AreStamped made paths stamps es
+HasStamped made paths (Err (Gone p)) w es = IsPart (looks made paths) es × EndsGone p es
+HasStamped made paths (Err stop) w es = IsPart (looks made paths) es
 
 -- ## Steps
 
 -- a file was seen there at this time, or the look ended otherwise
-abbrev pub HasTimed : Path → Result ℕ Stop → List Event → Type 0
-HasTimed p (Ok time) es = (e : Event) × (es ≡ e ∷ []) × IsTimed p (Time time) e
-HasTimed p (Err (Gone q)) es = IsPart (Look p ∷ []) es × EndsGone q es
-HasTimed p (Err stop) es = IsPart (Look p ∷ []) es
+abbrev pub HasTimed : Path → Result ℕ Stop → World → List Event → Type 0
+HasTimed p (Ok time) w es = (e : Event) × (es ≡ e ∷ []) × IsTimed p (Time time) e
+HasTimed p (Err (Gone q)) w es = IsPart (Look p ∷ []) es × EndsGone q es
+HasTimed p (Err stop) w es = IsPart (Look p ∷ []) es
 
 -- the stamp of one input, or why there is none
-abbrev pub HasStamp : Option ℕ → Path → Result Stamp Stop → List Event → Type 0
-HasStamp m p (Ok stamp) es = IsStamped m p stamp es
-HasStamp m p (Err (Gone q)) es = IsPart (look_at m p) es × EndsGone q es
-HasStamp m p (Err stop) es = IsPart (look_at m p) es
+abbrev pub HasStamp : Option ℕ → Path → Result Stamp Stop → World → List Event → Type 0
+HasStamp m p (Ok stamp) w es = IsStamped m p stamp es
+HasStamp m p (Err (Gone q)) w es = IsPart (look_at m p) es × EndsGone q es
+HasStamp m p (Err stop) w es = IsPart (look_at m p) es
 
 -- the stamp of one input was added, or why not
-abbrev pub HasPushed : Option ℕ → Path → List Stamp → List Stamp → Result (Unit {0}) Stop → List Event → Type 0
-HasPushed m p old new (Ok u) es = (stamp : Stamp) × (new ≡ old ++ stamp ∷ []) × IsStamped m p stamp es
-HasPushed m p old new (Err (Gone q)) es = IsPart (look_at m p) es × EndsGone q es
-HasPushed m p old new (Err stop) es = IsPart (look_at m p) es
+abbrev pub HasPushed : Option ℕ → Path → List Stamp → List Stamp → Result (Unit {0}) Stop → World → List Event → Type 0
+HasPushed m p old new (Ok u) w es = (stamp : Stamp) × (new ≡ old ++ stamp ∷ []) × IsStamped m p stamp es
+HasPushed m p old new (Err (Gone q)) w es = IsPart (look_at m p) es × EndsGone q es
+HasPushed m p old new (Err stop) w es = IsPart (look_at m p) es
 
 -- what a look may end with
 abbrev pub is_of_look : Stop → Bool

@@ -79,7 +79,7 @@ pub record HasStampedAnd (made : Serials) (t : Turn) (P : World → List Event �
   pub then_did : P (run w seen) rest
 
 abbrev pub IsTurnBy : Serials → Turn → Course → World → List Event → Type 0
-IsTurnBy made t Unbegun w es = HasStamped made (in_paths t.job.recipe) t.looked es
+IsTurnBy made t Unbegun w es = HasStamped made (in_paths t.job.recipe) t.looked w es
 IsTurnBy made t Unstarted w es = HasStampedAnd made t (HasGone t Unstarted) w es
 IsTurnBy made t Unclosed w es = HasStampedAnd made t (HasGone t Unclosed) w es
 IsTurnBy made t (Closed ending) w es = HasStampedAnd made t (HasGone t (Closed ending)) w es

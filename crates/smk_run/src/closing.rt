@@ -1,10 +1,10 @@
 //! A job is closed whose child runs.
 
-ghost use Rattle.std.specs.Prelude.{◌≡◌, ◌∷◌, [], false, true, IsSome};
-ghost use Rattle.smk_world.specs.Calls.{HasCause, Rose};
-ghost use Rattle.smk_world.specs.Runs.{Did};
-ghost use Rattle.smk_run.specs.Statuses.{AreGiven};
-ghost use Rattle.smk_run.specs.Closings.{HasSettled, HasClosed, ending_of, device_failed};
+ghost use Rattle.std.specs.Prelude.{◌≡◌, ◌∷◌, []};
+ghost use Rattle.smk_world.specs.Calls.{device_failed};
+ghost use Rattle.smk_world.specs.Devices.{HasActed, HasEnded};
+ghost use Rattle.smk_run.specs.Statuses.{HasGiven};
+ghost use Rattle.smk_run.specs.Closings.{HasSettled, HasClosed, ending_of};
 
 use crate::Ending;
 use smk_job::{CloseFault, Going, abandon, finish};
@@ -32,11 +32,8 @@ fn settle<W: Crew>(
     going: Going,
     status: u32,
 ) -> Result<Ending, WorkFault>
-    requires none_runs { W.running work.old ≡ [] }
-    ensures did { Did W.act (W.world work.old) (W.world work.new) (λ w es. HasSettled going result status w es) }
-    ensures stays { device_failed result ≡ false → IsSome (W.world work.old) → IsSome (W.world work.new) }
-    ensures cause { HasCause (W.faults work.old) (W.faults work.new) (device_failed result ≡ true) }
-    ensures running { W.running work.new ≡ W.running work.old }
+    requires none_runs { (W.device work.old).running ≡ [] }
+    ensures { HasActed W.act (HasSettled going result status) (W.device work.old) (W.device work.new) (device_failed result) }
 {
     if status == 0 {
         let closed = finish(alloc, work, going);
@@ -51,12 +48,9 @@ fn settle<W: Crew>(
 
 // Waits for the job's child, and closes the job by its status.
 pub(crate) fn close<W: Crew>(alloc: Global, work: &mut W, going: Going) -> Result<Ending, WorkFault>
-    requires one_runs { W.running work.old ≡ going.number ∷ [] }
-    ensures did { Did W.act (W.world work.old) (W.world work.new) (λ w es. HasClosed going result w es) }
-    ensures given { Did W.act (W.world work.old) (W.world work.new) (AreGiven W.act (Rose (W.faults work.old) (W.faults work.new))) }
-    ensures stays { device_failed result ≡ false → IsSome (W.world work.old) → IsSome (W.world work.new) }
-    ensures cause { HasCause (W.faults work.old) (W.faults work.new) (device_failed result ≡ true) }
-    ensures running { device_failed result ≡ false → W.running work.new ≡ [] }
+    requires one_runs { (W.device work.old).running ≡ going.number ∷ [] }
+    ensures closed { HasEnded W.act (HasClosed going result) (W.device work.old) (W.device work.new) (device_failed result) }
+    ensures given { HasGiven W.act (W.device work.old) (W.device work.new) }
 {
     let Ok(ended) = work.wait() else {
         return Err(WorkFault::Failed);

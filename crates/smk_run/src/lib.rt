@@ -1,6 +1,7 @@
 //! Jobs run one after another, and what is reported of them.
 #![tactic(auto)]
 
+mod agenda;
 mod closing;
 mod ending;
 mod faults;
@@ -15,9 +16,10 @@ mod turns;
 mod whole;
 mod wording;
 
+pub use agenda::Agenda;
 pub use ending::Ending;
 pub use laws::{closed_turns_tell_status, due_commands_are_good};
-pub use one::run_one;
+pub use lines::write_out;
 pub use stop::Stop;
 pub use tally::Tally;
 pub use whole::run_jobs;

@@ -1,48 +1,21 @@
-//! The names and the lines of jobs.
+//! What is put: texts, and the lines of jobs.
 
-ghost use Rattle.std.specs.Prelude.{◌≡◌, ◌⊎◌, ◌++◌, map, IfOk, IfErr, IsErr, IsSome, OnOk, is_ok, false, true, option_map, string_bytes, codes, decimal};
-ghost use Rattle.smk_world.specs.Calls.{HasPut, HasCause};
-ghost use Rattle.smk_world.specs.Trees.{first};
-ghost use Rattle.smk_world.specs.World.{out_paths};
-ghost use Rattle.smk_run.specs.Reports.{end_line, is_output};
+ghost use Rattle.std.specs.Prelude.{◌≡◌, ◌⊎◌, ◌++◌, IfOk, IfErr, is_ok, string_bytes, codes, decimal};
+ghost use Rattle.smk_world.specs.Devices.{HasPut};
+ghost use Rattle.smk_run.specs.Reports.{HasReported, IsReport, end_line, is_output};
 ghost use Rattle.smk_run.specs.declared.stop.Stop.TheVariants as stop;
 
 use crate::{Ending, Stop};
 use smk_base::{OutOfMemory, PathText, Text};
-use smk_flow::Job;
 use smk_report::job_line;
-use smk_world::{Failed, Out, Sink};
+use smk_world::{Failed, Sink};
 use std::alloc::{AllocError, Global};
 
-// The path of the first output.
-fn first_path(outs: &[Out]) -> Option<&PathText>
-    ensures { option_map (λ p. p.now) result ≡ first (map (λ out. out.path) outs.now) }
+/// Puts the text, and hands it on. `Failed`: the sink failed, and a front of the text was put.
+pub fn write_out<O: Sink>(out: &mut O, text: &str) -> Result<(), Failed>
+    ensures { HasPut (O.sunk out.old) (O.sunk out.new) text.now result }
 {
-    match outs.first() {
-        Some(out) => Some(&out.path),
-        None => None,
-    }
-}
-
-/// The first output of the job.
-pub(crate) fn first_output(job: &Job) -> Option<&PathText>
-    ensures { option_map (λ p. p.now) result ≡ first (out_paths job.now.recipe) }
-{
-    for item in job.recipe.outputs.as_slice() {
-        if let Some(path) = first_path(item.outs.as_slice()) {
-            return Some(path);
-        }
-    }
-    None
-}
-
-/// Puts the text, and hands it on.
-pub(crate) fn write_out<O: Sink>(out: &mut O, text: &Text) -> Result<(), Failed>
-    ensures put { HasPut (O.put_so_far out.old) (O.put_so_far out.new) text.now (is_ok result) }
-    ensures cause { HasCause (O.faults out.old) (O.faults out.new) (IsErr result) }
-    ensures quiet { OnOk result (O.faults out.new ≡ O.faults out.old) }
-{
-    out.put(text.as_str().as_bytes())?;
+    out.put(text.as_bytes())?;
     out.flush()
 }
 
@@ -92,6 +65,8 @@ fn end_line(
 }
 
 /// Puts the line of a job's end.
+///
+/// `Output`: the sink failed, and a front of the line was put. `OutOfMemory`: there is no memory for the line; then nothing was put.
 pub(crate) fn tell_end<O: Sink>(
     alloc: Global,
     rule: &str,
@@ -99,14 +74,11 @@ pub(crate) fn tell_end<O: Sink>(
     ending: &Ending,
     out: &mut O,
 ) -> Result<(), Stop>
-    ensures put { HasPut (O.put_so_far out.old) (O.put_so_far out.new) (end_line (record { rule = rule.now; path = path.now }) ending.now) (is_ok result) }
-    ensures stays { is_output result ≡ false → IsSome (O.put_so_far out.old) → IsSome (O.put_so_far out.new) }
-    ensures cause { HasCause (O.faults out.old) (O.faults out.new) (is_output result ≡ true) }
-    ensures quiet { is_output result ≡ false → O.faults out.new ≡ O.faults out.old }
+    ensures told { HasReported (IsReport (is_ok result) (end_line (record { rule = rule.now; path = path.now }) ending.now)) (O.sunk out.old) (O.sunk out.new) (is_output result) }
     ensures faults { IfErr result (λ s. (s ≡ stop.Output) ⊎ (s ≡ stop.OutOfMemory)) }
 {
     let text = end_line(alloc, rule, path, ending)?;
-    match write_out(out, &text) {
+    match write_out(out, text.as_str()) {
         Ok(()) => Ok(()),
         Err(Failed) => Err(Stop::Output),
     }

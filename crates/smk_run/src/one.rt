@@ -1,20 +1,21 @@
 //! One job: its start, its end, and its lines.
 
-ghost use Rattle.std.specs.Prelude.{◌≡◌, ◌≢◌, ◌∷◌, [], length, None, Err, true, false};
+ghost use Rattle.std.specs.Prelude.{◌≡◌, ◌≢◌, ◌∷◌, [], length, None, Err, true};
 ghost use Rattle.smk_world.specs.World.{in_paths, out_paths, owned_paths};
-ghost use Rattle.smk_world.specs.Calls.{HasCause, Rose, are_apart};
+ghost use Rattle.smk_world.specs.Calls.{are_apart};
 ghost use Rattle.smk_world.specs.Trees.{Path, Each};
 ghost use Rattle.smk_run.specs.declared.stop.Stop.TheVariants as stop;
 ghost use Rattle.smk_record.specs.Records.{is_valid, record_of};
 ghost use Rattle.smk_job.specs.Jobs.{too_long};
 ghost use Rattle.smk_report.specs.Lines.{start_line};
 ghost use Rattle.smk_run.specs.Turns.{HasGoneOn, as_gone, stop_of, left_stop};
-ghost use Rattle.smk_run.specs.Reports.{HasTurned, named, is_output, is_device};
+ghost use Rattle.smk_run.specs.Reports.{HasTurned, named};
 
 use crate::closing::close;
-use crate::lines::{first_output, tell_end, write_out};
+use crate::lines::{tell_end, write_out};
 use crate::{Ending, Stop};
-use smk_base::{List, PathText, Text};
+use smk_base::{List, PathText};
+use smk_chain::first_output;
 use smk_flow::{Job, Workflow};
 use smk_format::rule_name;
 use smk_job::{BeginFault, Going, begin};
@@ -51,19 +52,15 @@ fn attend<W: Crew, O: Sink>(
     alloc: Global,
     rule: &str,
     path: &PathText,
-    line: &Text,
+    line: &str,
     going: Going,
     work: &mut W,
     out: &mut O,
 ) -> Result<Ending, Stop>
-    requires one_runs { W.running work.old ≡ going.number ∷ [] }
+    requires one_runs { (W.device work.old).running ≡ going.number ∷ [] }
     requires line { line.now ≡ start_line (record { rule = rule.now; path = path.now }) }
-    ensures run { HasTurned W.act (HasGoneOn going) (record { rule = rule.now; path = path.now }) None result (W.world work.old) (W.world work.new)
-        (Rose (W.faults work.old) (W.faults work.new)) (W.running work.new) (O.put_so_far out.old) (O.put_so_far out.new) }
+    ensures run { HasTurned W.act (HasGoneOn going) (record { rule = rule.now; path = path.now }) None result (W.device work.old) (W.device work.new) (O.sunk out.old) (O.sunk out.new) }
     ensures never { (p : Path) → result ≢ Err (stop.Gone p) }
-    ensures cause { HasCause (W.faults work.old) (W.faults work.new) (is_device result ≡ true) }
-    ensures output { HasCause (O.faults out.old) (O.faults out.new) (is_output result ≡ true) }
-    ensures quiet { is_output result ≡ false → O.faults out.new ≡ O.faults out.old }
 {
     let told = write_out(out, line);
     let closed = close(alloc, work, going);
@@ -89,7 +86,7 @@ fn attend<W: Crew, O: Sink>(
 ///
 /// No child runs before. There is a stamp for each path of the recipe's inputs, in order; the records with these stamps, this serial and no members are
 /// valid; outputs and logs don't overlap one another; and there is an output.
-pub fn run_one<W: Crew, O: Sink>(
+pub(crate) fn run_one<W: Crew, O: Sink>(
     alloc: Global,
     flow: &Workflow,
     job: &Job,
@@ -99,17 +96,14 @@ pub fn run_one<W: Crew, O: Sink>(
     work: &mut W,
     out: &mut O,
 ) -> Result<Ending, Stop>
-    requires none_runs { W.running work.old ≡ [] }
+    requires none_runs { (W.device work.old).running ≡ [] }
     requires each_stamped { length stamps.now ≡ length (in_paths job.now.recipe) }
     requires valid { Each (λ p. is_valid (record_of p made job.now.recipe stamps.now []) ≡ true) (out_paths job.now.recipe) }
     requires apart { are_apart (owned_paths job.now.recipe job.now.logs) ≡ true }
     requires makes { out_paths job.now.recipe ≢ [] }
     ensures run { HasTurned W.act (as_gone job.now command.now made stamps.now) (named flow.now job.now) (too_long made job.now.recipe stamps.now) result
-        (W.world work.old) (W.world work.new) (Rose (W.faults work.old) (W.faults work.new)) (W.running work.new) (O.put_so_far out.old) (O.put_so_far out.new) }
+        (W.device work.old) (W.device work.new) (O.sunk out.old) (O.sunk out.new) }
     ensures never { (p : Path) → result ≢ Err (stop.Gone p) }
-    ensures cause { HasCause (W.faults work.old) (W.faults work.new) (is_device result ≡ true) }
-    ensures output { HasCause (O.faults out.old) (O.faults out.new) (is_output result ≡ true) }
-    ensures quiet { is_output result ≡ false → O.faults out.new ≡ O.faults out.old }
 {
     let rule = rule_name(flow, job.rule);
     let Some(path) = first_output(job) else {
@@ -119,7 +113,7 @@ pub fn run_one<W: Crew, O: Sink>(
         return Err(Stop::OutOfMemory);
     };
     match begin(alloc, work, job, stamps, made, command) {
-        Ok(going) => attend(alloc, rule, path, &line, going, work, out),
+        Ok(going) => attend(alloc, rule, path, line.as_str(), going, work, out),
         Err(fault) => Err(stop_of(fault)),
     }
 }

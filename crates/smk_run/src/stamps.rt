@@ -1,9 +1,8 @@
 //! The stamps of a job's inputs.
 
-ghost use Rattle.std.specs.Prelude.{◌≡◌, ◌⊎◌, ◌+◌, ◌++◌, map, IfOk, IfErr, OnOk, IsSome, length, true, false};
+ghost use Rattle.std.specs.Prelude.{◌≡◌, ◌⊎◌, ◌+◌, ◌++◌, map, IfOk, IfErr, OnOk, length, true};
 ghost use Rattle.std.specs.List.{flat_map, list_all};
-ghost use Rattle.smk_world.specs.Calls.{HasCause};
-ghost use Rattle.smk_world.specs.Runs.{Did};
+ghost use Rattle.smk_world.specs.Devices.{HasActed};
 ghost use Rattle.smk_world.specs.Trees.{Path, Each, is_path_text};
 ghost use Rattle.smk_world.specs.World.{in_paths, out_paths};
 ghost use Rattle.smk_record.specs.Records.{is_earlier};
@@ -106,10 +105,7 @@ fn time_in(alloc: Global, path: &PathText, stat: Stat) -> Result<u64, Stop>
 
 // The time of the file at the path.
 fn time_of<W: Files>(alloc: Global, path: &PathText, work: &mut W) -> Result<u64, Stop>
-    ensures did { Did W.act (W.world work.old) (W.world work.new) (λ w es. HasTimed path.now result es) }
-    ensures stays { is_device result ≡ false → IsSome (W.world work.old) → IsSome (W.world work.new) }
-    ensures cause { HasCause (W.faults work.old) (W.faults work.new) (is_device result ≡ true) }
-    ensures running { W.running work.new ≡ W.running work.old }
+    ensures acted { HasActed W.act (HasTimed path.now result) (W.device work.old) (W.device work.new) (is_device result) }
     ensures kind { IfErr result (λ stop. is_of_look stop ≡ true) }
 {
     let Ok(place) = Place::user(alloc, path) else {
@@ -130,12 +126,9 @@ fn stamp_of<W: Files>(
     work: &mut W,
 ) -> Result<Stamp, Stop>
     requires below { IsBelow made (number_at serials.now path.now) }
-    ensures did { Did W.act (W.world work.old) (W.world work.new) (λ w es. HasStamp (number_at serials.now path.now) path.now result es) }
+    ensures acted { HasActed W.act (HasStamp (number_at serials.now path.now) path.now result) (W.device work.old) (W.device work.new) (is_device result) }
     ensures earlier { IfOk result (λ stamp. is_earlier made stamp ≡ true) }
     ensures small { IfOk result (λ stamp. is_small stamp ≡ true) }
-    ensures stays { is_device result ≡ false → IsSome (W.world work.old) → IsSome (W.world work.new) }
-    ensures cause { HasCause (W.faults work.old) (W.faults work.new) (is_device result ≡ true) }
-    ensures running { W.running work.new ≡ W.running work.old }
     ensures kind { IfErr result (λ stop. is_of_look stop ≡ true) }
 {
     match serial_at(serials, path) {
@@ -157,13 +150,10 @@ fn push_stamp<W: Files>(
     work: &mut W,
 ) -> Result<(), Stop>
     requires below { IsBelow made (number_at serials.now path.now) }
-    ensures did { Did W.act (W.world work.old) (W.world work.new) (λ w es. HasPushed (number_at serials.now path.now) path.now stamps.old stamps.new result es) }
+    ensures acted { HasActed W.act (HasPushed (number_at serials.now path.now) path.now stamps.old stamps.new result) (W.device work.old) (W.device work.new) (is_device result) }
     ensures longer { OnOk result (length stamps.new ≡ length stamps.old + 1) }
     ensures earlier { OnOk result (list_all (is_earlier made) stamps.old ≡ true → list_all (is_earlier made) stamps.new ≡ true) }
     ensures small { OnOk result (list_all is_small stamps.old ≡ true → list_all is_small stamps.new ≡ true) }
-    ensures stays { is_device result ≡ false → IsSome (W.world work.old) → IsSome (W.world work.new) }
-    ensures cause { HasCause (W.faults work.old) (W.faults work.new) (is_device result ≡ true) }
-    ensures running { W.running work.new ≡ W.running work.old }
     ensures kind { IfErr result (λ stop. is_of_look stop ≡ true) }
 {
     match stamp_of(alloc, serials, made, path, work) {
@@ -184,13 +174,10 @@ pub(crate) fn stamps_of<W: Files>(
     work: &mut W,
 ) -> Result<List<Stamp>, Stop>
     requires below { Each (λ p. IsBelow made (number_at serials.now p)) paths.now }
-    ensures did { Did W.act (W.world work.old) (W.world work.new) (λ w es. HasStamped (number_at serials.now) paths.now result es) }
+    ensures acted { HasActed W.act (HasStamped (number_at serials.now) paths.now result) (W.device work.old) (W.device work.new) (is_device result) }
     ensures each { IfOk result (λ stamps. length stamps ≡ length paths.now) }
     ensures earlier { IfOk result (λ stamps. list_all (is_earlier made) stamps ≡ true) }
     ensures small { IfOk result (λ stamps. list_all is_small stamps ≡ true) }
-    ensures stays { is_device result ≡ false → IsSome (W.world work.old) → IsSome (W.world work.new) }
-    ensures cause { HasCause (W.faults work.old) (W.faults work.new) (is_device result ≡ true) }
-    ensures running { W.running work.new ≡ W.running work.old }
     ensures kind { IfErr result (λ stop. is_of_look stop ≡ true) }
 {
     let mut stamps = List::new(alloc);

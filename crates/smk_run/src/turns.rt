@@ -1,25 +1,24 @@
 //! The turns of jobs, one after another.
 
-ghost use Rattle.std.specs.Prelude.{◌≡◌, ◌≢◌, ◌≤◌, ◌+◌, [], map, slice_get, Some, None, true, false};
+ghost use Rattle.std.specs.Prelude.{◌≡◌, ◌≢◌, ◌≤◌, ◌+◌, [], map, slice_get, Some, None, true};
 ghost use Rattle.std.specs.Option.{option_and_then};
 ghost use Rattle.smk_base.specs.declared.tree.Pair.{Pair};
 ghost use Rattle.smk_world.specs.World.{in_paths, out_paths, owned_paths};
-ghost use Rattle.smk_world.specs.Calls.{HasCause, Rose, are_apart};
+ghost use Rattle.smk_world.specs.Calls.{are_apart};
 ghost use Rattle.smk_world.specs.Trees.{Each};
 ghost use Rattle.smk_record.specs.Records.{are_rising};
 ghost use Rattle.smk_run.specs.Stamps.{IsBelow, number_at};
 ghost use Rattle.smk_run.specs.Duties.{due_from, due_serial, serial_in};
-ghost use Rattle.smk_run.specs.Reports as one;
-ghost use Rattle.smk_run.specs.Runs.{HasTaken, HasHadTurn, HasRun, IsReady, command_of, job_fault, is_output, is_device};
+ghost use Rattle.smk_run.specs.Runs.{HasTaken, HasHadTurn, HasRun, IsReady, command_of, job_fault};
 
 use crate::faults::{failure, stopped};
-use crate::lines::first_output;
 use crate::one::run_one;
 use crate::serials::serial_in;
 use crate::stamps::{input_paths, see_outputs, see_paths, stamps_of};
 use crate::wording::see_texts;
 use crate::{Ending, Stop, Tally};
 use smk_base::OutOfMemory;
+use smk_chain::first_output;
 use smk_flow::{Job, Workflow};
 use smk_format::{command_of, rule_name};
 use smk_plan::Duty;
@@ -39,17 +38,13 @@ fn take<W: Crew, O: Sink>(
     work: &mut W,
     out: &mut O,
 ) -> Result<Ending, Stop>
-    requires none_runs { W.running work.old ≡ [] }
+    requires none_runs { (W.device work.old).running ≡ [] }
     requires below { Each (λ p. IsBelow made (number_at serials.now p)) (in_paths job.now.recipe) }
     requires positive { 1 ≤ made }
     requires makes { out_paths job.now.recipe ≢ [] }
     requires apart { are_apart (owned_paths job.now.recipe job.now.logs) ≡ true }
     requires wildcards { are_rising (map (λ (w : Pair). w.name) job.now.recipe.wildcards) ≡ true }
-    ensures run { HasTaken W.act flow.now (number_at serials.now) job.now command.now made result (W.world work.old) (W.world work.new)
-        (Rose (W.faults work.old) (W.faults work.new)) (W.running work.new) (O.put_so_far out.old) (O.put_so_far out.new) }
-    ensures cause { HasCause (W.faults work.old) (W.faults work.new) (one.is_device result ≡ true) }
-    ensures output { HasCause (O.faults out.old) (O.faults out.new) (one.is_output result ≡ true) }
-    ensures quiet { one.is_output result ≡ false → O.faults out.new ≡ O.faults out.old }
+    ensures { HasTaken W.act flow.now (number_at serials.now) job.now command.now made result (W.device work.old) (W.device work.new) (O.sunk out.old) (O.sunk out.new) }
 {
     let Ok(paths) = input_paths(alloc, job.recipe.inputs.as_slice()) else {
         return Err(Stop::OutOfMemory);
@@ -74,18 +69,14 @@ fn turn<W: Crew, O: Sink>(
     work: &mut W,
     out: &mut O,
 ) -> Result<Option<Fault>, Fault>
-    requires none_runs { W.running work.old ≡ [] }
+    requires none_runs { (W.device work.old).running ≡ [] }
     requires below { Each (λ p. IsBelow made (number_at serials.now p)) (in_paths job.now.recipe) }
     requires positive { 1 ≤ made }
     requires makes { out_paths job.now.recipe ≢ [] }
     requires apart { are_apart (owned_paths job.now.recipe job.now.logs) ≡ true }
     requires wildcards { are_rising (map (λ (w : Pair). w.name) job.now.recipe.wildcards) ≡ true }
     requires good { job_fault flow.now cores job.now ≡ None }
-    ensures run { HasHadTurn W.act flow.now (number_at serials.now) job.now (command_of cores job.now) made result (W.world work.old) (W.world work.new)
-        (Rose (W.faults work.old) (W.faults work.new)) (W.running work.new) (O.put_so_far out.old) (O.put_so_far out.new) }
-    ensures cause { HasCause (W.faults work.old) (W.faults work.new) (is_device result ≡ true) }
-    ensures output { HasCause (O.faults out.old) (O.faults out.new) (is_output result ≡ true) }
-    ensures quiet { is_output result ≡ false → O.faults out.new ≡ O.faults out.old }
+    ensures { HasHadTurn W.act flow.now (number_at serials.now) job.now (command_of cores job.now) made result (W.device work.old) (W.device work.new) (O.sunk out.old) (O.sunk out.new) }
 {
     see_outputs(job.recipe.outputs.as_slice());
     see_paths(job.logs.as_slice());
@@ -147,13 +138,9 @@ pub(crate) fn run_all<W: Crew, O: Sink>(
     work: &mut W,
     out: &mut O,
 ) -> Result<Tally, Fault>
-    requires none_runs { W.running work.old ≡ [] }
+    requires none_runs { (W.device work.old).running ≡ [] }
     requires ready { Each (IsReady flow.now cores (number_at made.now)) (due_from (serial_in serials.now) 0 duties.now jobs.now) }
-    ensures run { HasRun W.act flow.now cores (due_from (serial_in serials.now) 0 duties.now jobs.now) (number_at made.now) result (W.world work.old) (W.world work.new)
-        (Rose (W.faults work.old) (W.faults work.new)) (W.running work.new) (O.put_so_far out.old) (O.put_so_far out.new) }
-    ensures cause { HasCause (W.faults work.old) (W.faults work.new) (is_device result ≡ true) }
-    ensures output { HasCause (O.faults out.old) (O.faults out.new) (is_output result ≡ true) }
-    ensures quiet { is_output result ≡ false → O.faults out.new ≡ O.faults out.old }
+    ensures { HasRun W.act flow.now cores (due_from (serial_in serials.now) 0 duties.now jobs.now) (number_at made.now) result (W.device work.old) (W.device work.new) (O.sunk out.old) (O.sunk out.new) }
 {
     let mut done = 0;
     for (number, job) in jobs.iter().enumerate() {

@@ -1,19 +1,16 @@
 //! All jobs, one after another.
 
-ghost use Rattle.std.specs.Prelude.{◌≡◌, [], true, false};
-ghost use Rattle.smk_world.specs.Calls.{HasCause, Rose};
+ghost use Rattle.std.specs.Prelude.{◌≡◌, []};
 ghost use Rattle.smk_plan.specs.Duties.{IsOld, AreServable};
 ghost use Rattle.smk_run.specs.Duties.{due, serials};
 ghost use Rattle.smk_plan.specs.Runnable.{AreRunnable};
-ghost use Rattle.smk_run.specs.Runs.{AreGood, HasRun, is_output, is_device};
+ghost use Rattle.smk_run.specs.Runs.{AreGood, HasRun};
 
-use crate::Tally;
 use crate::serials::{made_by, serials_of};
 use crate::turns::run_all;
-use smk_base::List;
+use crate::{Agenda, Tally};
 use smk_chain::Jobs;
 use smk_flow::Workflow;
-use smk_plan::Duty;
 use smk_report::Fault;
 use smk_world::{Crew, Files, Sink};
 use std::alloc::Global;
@@ -34,24 +31,20 @@ pub fn run_jobs<W: Crew, O: Sink>(
     alloc: Global,
     flow: &Workflow,
     jobs: &Jobs,
-    duties: &List<Duty>,
-    first: Option<u64>,
+    agenda: &Agenda,
     cores: u64,
     work: &mut W,
     out: &mut O,
 ) -> Result<Tally, Fault>
-    requires none_runs { W.running work.old ≡ [] }
+    requires none_runs { (W.device work.old).running ≡ [] }
     requires runnable { AreRunnable jobs.now }
-    requires positive { IsOld first 0 }
-    requires servable { AreServable first jobs.now duties.now }
-    requires good { AreGood flow.now cores (due first duties.now jobs.now.jobs) }
-    ensures run { HasRun W.act flow.now cores (due first duties.now jobs.now.jobs) (serials jobs.now.makers first duties.now) result (W.world work.old) (W.world work.new)
-        (Rose (W.faults work.old) (W.faults work.new)) (W.running work.new) (O.put_so_far out.old) (O.put_so_far out.new) }
-    ensures cause { HasCause (W.faults work.old) (W.faults work.new) (is_device result ≡ true) }
-    ensures output { HasCause (O.faults out.old) (O.faults out.new) (is_output result ≡ true) }
-    ensures quiet { is_output result ≡ false → O.faults out.new ≡ O.faults out.old }
+    requires positive { IsOld agenda.now.first 0 }
+    requires servable { AreServable agenda.now.first jobs.now agenda.now.duties }
+    requires good { AreGood flow.now cores (due agenda.now.first agenda.now.duties jobs.now.jobs) }
+    ensures { HasRun W.act flow.now cores (due agenda.now.first agenda.now.duties jobs.now.jobs) (serials jobs.now.makers agenda.now.first agenda.now.duties) result
+        (W.device work.old) (W.device work.new) (O.sunk out.old) (O.sunk out.new) }
 {
-    let Ok(serials) = serials_of(alloc, first, duties.as_slice()) else {
+    let Ok(serials) = serials_of(alloc, agenda.first, agenda.duties.as_slice()) else {
         return Err(Fault::OutOfMemory);
     };
     let Ok(made) = made_by(alloc, jobs.makers.as_slice(), serials.as_slice()) else {
@@ -62,7 +55,7 @@ pub fn run_jobs<W: Crew, O: Sink>(
         flow,
         &made,
         serials.as_slice(),
-        duties.as_slice(),
+        agenda.duties.as_slice(),
         cores,
         jobs.jobs.as_slice(),
         work,

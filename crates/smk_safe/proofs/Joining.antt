@@ -167,7 +167,7 @@ looks_same o w (e ∷ es) h follows =
     let more = looks_same o (after w e) es h.1 follows.1 in
     record {
       nodes = more.nodes ∙ look_nodes o e.call e.left w.children w h.0;
-      names = more.names ∙ look_names o o.act w e.call e.left h.0 follows.0;
+      names = more.names ∙ look_names o o.act w e.call e.left h.0 follows.0.lets;
       children = more.children ∙ look_children o e.call w.children h.0;
     }
 

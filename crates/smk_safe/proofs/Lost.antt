@@ -189,13 +189,13 @@ module _ (act : Act) (made : Serials) (t : Turn) (w : World) (may : MayCome t w)
       let owners1 = owned_run act w seen a.0 numbered may.owners in
       let numbered_u = numbered_run act w1 first b.0 numbered1 in
       let owners_u = owned_run act w1 first b.0 numbered1 owners1 in
-      let numbered_v0 = numbered_after act u wait b.1.0 numbered_u in
+      let numbered_v0 = numbered_after act u wait b.1.0.lets numbered_u in
       let owners_v0 = owned_after u wait numbered_u owners_u in
       let none1 : w1.children ≡ [] = files_children w seen quiet_seen ∙ may.none_runs in
       let one =
       started_after (before_start t.job.recipe t.job.logs) t.job.recipe t.job.logs t.command number w1 first (before_files t.job.recipe t.job.logs) begun started
       ∙ ap (λ cs. cs ++ record { number = number; recipe = t.job.recipe; logs = t.job.logs } ∷ []) none1 in
-      let end = has_ended act t.job.recipe t.job.logs number u ended left one b.1.0 in
+      let end = has_ended act t.job.recipe t.job.logs number u ended left one b.1.0.lets in
       let none_v1 : v1.children ≡ [] = files_children v0 looks quiet_looks ∙ end.children in
       let front = seen ++ (first ++ (wait ∷ looks)) in
       let there : run w front ≡ v1 = run_append w seen (first ++ (wait ∷ looks)) ∙ run_append w1 first (wait ∷ looks) in

@@ -88,7 +88,7 @@ module _ (o : Outside) (entry : World) (H : Versions) (top : ℕ) (made : Serial
       let same = looks_same o entry h.looks h.only_look first.0 in
       let looked : now o v ≡ now o entry = now_same o entry v same in
       let end_before : run entry before ≡ after v h.settling = run_append entry h.looks (h.settling ∷ []) in
-      let seen : now o (run entry before) ≡ now o entry = ap (now o) end_before ∙ settled_now o v h.settling h.places h.settles first.1.0 ∙ looked in
+      let seen : now o (run entry before) ≡ now o entry = ap (now o) end_before ∙ settled_now o v h.settling h.places h.settles first.1.0.lets ∙ looked in
       let alone : (run entry before).children ≡ [] = ap (λ (x : World). x.children) end_before ∙ settled_children v h.settling h.places h.settles ∙ same.children ∙ sound.no_child in
       let runs = steadied o top entry h.looks h.settling h.places h.only_look h.settles (subst (λ (i : Image). HasAllMarks o i h.places) (sym looked) h.all_marks) in
       let r =
@@ -118,7 +118,7 @@ module _ (o : Outside) (entry : World) (H : Versions) (top : ℕ) (made : Serial
       let runs = steadied o top entry h.looks h.settling h.places h.only_look h.settles (subst (λ (i : Image). HasAllMarks o i h.places) (sym looked) h.all_marks) in
       record {
         start = run entry before;
-        seen = ap (now o) end_before ∙ settled_now o v h.settling h.places h.settles first.1.0 ∙ looked;
+        seen = ap (now o) end_before ∙ settled_now o v h.settling h.places h.settles first.1.0.lets ∙ looked;
         alone = ap (λ (x : World). x.children) end_before ∙ settled_children v h.settling h.places h.settles ∙ same.children ∙ sound.no_child;
         sound_then = sound_at_rest o entry H top sound is_top before (steady_state o top) split.0 runs (at_rest o top);
         follows_on = split.1;

@@ -34,7 +34,7 @@ told_by : (act : Act) (w v : World) (m : Option ℕ) (p : Path) (s : Stamp) (es 
 told_by act w v (Some serial) p s es same h follows = h.0
 told_by act w v None p s es same (e, is, (time, read_only, call, stamp)) follows =
     let one = subst (Follows act v) is follows in
-    let lets : Lets act v (Looked p (Ok (File time read_only))) e.left = subst (λ (c : Call). Lets act v c e.left) call one.0 in
+    let lets : Lets act v (Looked p (Ok (File time read_only))) e.left = subst (λ (c : Call). Lets act v c e.left) call one.0.lets in
     (time, read_only, stamp, subst (λ f. StatIs (File time read_only) (f p)) same lets.1)
 
 pub all_told : (o : Outside) (w v : World) (made : Serials) (ps : List Path) (ss : List Stamp) (es : List Event) → v.nodes ≡ w.nodes → AreStamped made ps ss es → Follows o.act v es → AreTold w made ps ss

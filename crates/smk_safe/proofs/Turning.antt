@@ -233,7 +233,7 @@ module _ (o : Outside) (s : RunState) (t : Turn) (kept : List (Path × Record)) 
       let one : u.children ≡ child ∷ [] =
       started_after (before_start t.job.recipe t.job.logs) t.job.recipe t.job.logs t.command number w first (before_files t.job.recipe t.job.logs) done started
       ∙ ap (λ cs. cs ++ child ∷ []) set.none_runs in
-      let alone : v.children ≡ [] = (has_ended o.act t.job.recipe t.job.logs number u ended left one next.0).children in
+      let alone : v.children ≡ [] = (has_ended o.act t.job.recipe t.job.logs number u ended left one next.0.lets).children in
       record {
         reads = reads;
         records = recordable_as t kept kept (EndedPhase ended.status) (out_paths t.job.recipe) set.records;
@@ -306,11 +306,11 @@ module _ (o : Outside) (s : RunState) (t : Turn) (kept : List (Path × Record)) 
         λ bad. r.3 (later_bad es h.seen h.rest h.events (stamped_quiet made (in_paths t.job.recipe) (found t.looked) h.seen h.stamped) bad),
       )
 
-  looked_only : (made : Serials) (r : Result (List Stamp) Stop) (w : World) (es : List Event) → HasStamped made (in_paths t.job.recipe) r es
+  looked_only : (made : Serials) (r : Result (List Stamp) Stop) (w : World) (es : List Event) → HasStamped made (in_paths t.job.recipe) r w es
       → (end : RunState) × Runs o s w es end × (has_failure es ≡ true → end.faulted ≡ true)
   looked_only made r w es h = look_part o s rest.calm (looks made (in_paths t.job.recipe)) w es (all_looking made (in_paths t.job.recipe)) (as_part r h)
     where
-      as_part : (x : Result (List Stamp) Stop) → HasStamped made (in_paths t.job.recipe) x es → IsPart (looks made (in_paths t.job.recipe)) es
+      as_part : (x : Result (List Stamp) Stop) → HasStamped made (in_paths t.job.recipe) x w es → IsPart (looks made (in_paths t.job.recipe)) es
       as_part (Ok stamps) k = all_part made (in_paths t.job.recipe) stamps es k
       as_part (Err (stop.Gone p)) k = k.0
       as_part (Err (stop.TooLong n)) k = k

@@ -4,8 +4,8 @@ use Rattle.smk_report.specs.declared.fault.Fault.{Fault}
 use Rattle.smk_report.specs.declared.fault.Fault.TheVariants as fault
 use Rattle.smk_report.specs.Faults.{fault_status}
 use Rattle.smk_run.specs.Runs as run
-use Rattle.smk_cli_entry.specs.Faults.{is_device, is_sink, device_failed}
-use Rattle.smk_serve.specs.Ends.{sink_failed}
+use Rattle.smk_cli_entry.specs.Faults.{is_device, is_sink}
+use Rattle.smk_serve.specs.Ends.{fault_of, of_device, of_sink}
 
 pub device_same : (f : Fault) → run.is_device_fault f ≡ is_device f
 device_same (fault.BadIndent a b) = refl
@@ -105,10 +105,10 @@ output_same fault.Device = refl
 output_same fault.Output = refl
 output_same fault.OutOfMemory = refl
 
-pub device_as : {T : Type 0} (r : Result T Fault) → run.is_device r ≡ device_failed r
+pub device_as : {T : Type 0} (r : Result T Fault) → run.is_device r ≡ of_device (fault_of r)
 device_as (Ok t) = refl
 device_as (Err f) = device_same f
 
-pub output_as : {T : Type 0} (r : Result T Fault) → run.is_output r ≡ sink_failed r
+pub output_as : {T : Type 0} (r : Result T Fault) → run.is_output r ≡ of_sink (fault_of r)
 output_as (Ok t) = refl
 output_as (Err f) = output_same f

@@ -1,5 +1,5 @@
 -- The lines of a listing.
-use Rattle.std.specs.Prelude.{◌≡◌, ◌⊎◌, Bool, true, false, Result, Ok, Err}
+use Rattle.std.specs.Prelude.{◌≡◌, ◌⊎◌}
 use Rattle.smk_flow.specs.declared.job.Job.{Job}
 use Rattle.smk_flow.specs.Flows.{Flow}
 use Rattle.smk_trigger.specs.declared.reason.State.{State}
@@ -15,12 +15,3 @@ job_line flow e = state_line (named_job flow e.0, e.1)
 -- the sink failed, or memory was wanting
 abbrev pub IsFault : Fault → Type 0
 IsFault f = (f ≡ fault.Output) ⊎ (f ≡ fault.OutOfMemory)
-
-abbrev pub is_output_fault : Fault → Bool
-is_output_fault fault.Output = true
-is_output_fault f = false
-
--- the sink failed
-abbrev pub is_output : {T : Type 0} → Result T Fault → Bool
-is_output (Ok t) = false
-is_output (Err f) = is_output_fault f

@@ -2,7 +2,6 @@
 #![tactic(auto)]
 
 mod listing;
-mod names;
 mod serving;
 
 pub use listing::put_listing;

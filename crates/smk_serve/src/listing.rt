@@ -1,20 +1,20 @@
 //! The lines of the jobs, and the line of the plan.
 
-ghost use Rattle.std.specs.Prelude.{◌≡◌, ◌≢◌, ◌++◌, [], IfOk, IfErr, OnOk, IsErr, IsSome, is_ok, string_bytes, length, map, zip, true, false};
+ghost use Rattle.std.specs.Prelude.{◌≡◌, ◌≢◌, ◌++◌, [], IfOk, IfErr, OnOk, is_ok, string_bytes, length, zip};
 ghost use Rattle.std.specs.List.{flat_map};
-ghost use Rattle.smk_world.specs.Calls.{HasPut, HasCause};
 ghost use Rattle.smk_world.specs.Trees.{Each};
 ghost use Rattle.smk_world.specs.World.{out_paths};
-ghost use Rattle.smk_report.specs.Lines as spec;
-ghost use Rattle.smk_drive.specs.Reports.{named_job, listing_text};
-ghost use Rattle.smk_serve.specs.Listing.{job_line, IsFault, is_output};
+ghost use Rattle.smk_drive.specs.Reports.{listing_text};
+ghost use Rattle.smk_run.specs.Reports.{HasReported, IsReport};
+ghost use Rattle.smk_run.specs.Runs.{is_output};
+ghost use Rattle.smk_serve.specs.Listing.{job_line, IsFault};
 
-use crate::names::first_output;
 use smk_base::{List, OutOfMemory};
-use smk_chain::Jobs;
+use smk_chain::{Jobs, first_output};
 use smk_flow::{Job, Workflow};
 use smk_format::rule_name;
 use smk_report::{Fault, plan_line, state_line};
+use smk_run::write_out;
 use smk_trigger::State;
 use smk_world::{Failed, Sink};
 use std::alloc::Global;
@@ -83,16 +83,6 @@ fn listing_text(
     Ok(text)
 }
 
-// Puts the text, and hands it on.
-fn write_out<O: Sink>(out: &mut O, text: &str) -> Result<(), Failed>
-    ensures put { HasPut (O.put_so_far out.old) (O.put_so_far out.new) text.now (is_ok result) }
-    ensures cause { HasCause (O.faults out.old) (O.faults out.new) (IsErr result) }
-    ensures quiet { OnOk result (O.faults out.new ≡ O.faults out.old) }
-{
-    out.put(text.as_bytes())?;
-    out.flush()
-}
-
 /// Puts the listing of a plan: a line for each job that isn't clean, in plan order, with its reasons where it is to run; and the line of how many jobs there
 /// are of each state.
 ///
@@ -108,11 +98,8 @@ pub fn put_listing<O: Sink>(
 ) -> Result<(), Fault>
     requires each { length states.now ≡ length jobs.now.jobs }
     requires make { Each (λ job. out_paths job.recipe ≢ []) jobs.now.jobs }
-    ensures put { HasPut (O.put_so_far out.old) (O.put_so_far out.new)
-        (listing_text flow.now (record { lists = jobs.now.lists; jobs = jobs.now.jobs; states = states.now })) (is_ok result) }
-    ensures stays { is_output result ≡ false → IsSome (O.put_so_far out.old) → IsSome (O.put_so_far out.new) }
-    ensures cause { HasCause (O.faults out.old) (O.faults out.new) (is_output result ≡ true) }
-    ensures quiet { is_output result ≡ false → O.faults out.new ≡ O.faults out.old }
+    ensures told { HasReported (IsReport (is_ok result) (listing_text flow.now (record { lists = jobs.now.lists; jobs = jobs.now.jobs; states = states.now })))
+        (O.sunk out.old) (O.sunk out.new) (is_output result) }
     ensures faults { IfErr result IsFault }
 {
     let Ok(text) = listing_text(alloc, flow, jobs, states) else {

@@ -1,17 +1,19 @@
 //! A plan, and then the run that makes it or its listing.
 
-ghost use Rattle.std.specs.Prelude.{◌≡◌, ℕ, List as Items, Option, [], Some, IfOk};
-ghost use Rattle.smk_world.specs.World.{World};
-ghost use Rattle.smk_world.specs.Calls.{Rose};
+ghost use Rattle.std.specs.Prelude.{◌≡◌, ℕ, List as Items, Option, [], IfOk, IfErr, false};
+ghost use Rattle.smk_world.specs.Devices.{WhereTold, HasLooked};
+ghost use Rattle.smk_record.specs.Spelling.{ReadsRecords};
 ghost use Rattle.smk_record.specs.declared.record.Record.{Record as RecordValue};
-ghost use Rattle.smk_serve.specs.Ends.{HasEnded};
+ghost use Rattle.smk_cli_entry.specs.Faults.{device_failed, is_sink};
+ghost use Rattle.smk_make.specs.Making.{IsFit};
+ghost use Rattle.smk_serve.specs.Ends.{EndsAs};
 ghost use Rattle.smk_serve.specs.Serving as spec;
-ghost use Rattle.smk_serve.specs.Serving.{IsAtHand, IsRefusedPlan, IsServed, Went, HasListed};
+ghost use Rattle.smk_serve.specs.Serving.{IsPlanned, IsRefusedPlan, IsServed, Went, HasListed};
 
 use crate::put_listing;
 use smk_base::{Copied, List, OutOfMemory};
 use smk_cli_entry::Asked;
-use smk_make::make;
+use smk_make::{Planned, make};
 use smk_pick::{Force, Settings};
 use smk_plan_preview::{Previewed, preview};
 use smk_report::Fault;
@@ -41,11 +43,11 @@ fn plan_for<W: Files, Rt: Threads + Sync>(
     cores: u64,
     work: &mut W,
 ) -> Result<Previewed, Fault>
-    requires none_runs { W.running work.old ≡ [] }
-    ensures looked { spec.HasOnlyAsked W.act (W.world work.old) (W.world work.new) (W.faults work.old) (W.faults work.new) (W.running work.old) (W.running work.new) result }
-    ensures fit { IfOk result (spec.IsFit asked.now.flow cores) }
-    ensures told { (w : World) → W.world work.old ≡ Some w → (read : Items ℕ → Option RecordValue) → IsAtHand read w
-        → spec.IsPlanned read asked.now cores w result }
+    requires none_runs { (W.device work.old).running ≡ [] }
+    ensures looked { HasLooked W.act (W.device work.old) (W.device work.new) (device_failed result) }
+    ensures no_sink { IfErr result (λ f. is_sink f ≡ false) }
+    ensures fit { IfOk result (λ plan. IsFit asked.now.flow cores plan.jobs plan.plan.states) }
+    ensures told { WhereTold (W.device work.old) (λ w. (read : Items ℕ → Option RecordValue) → ReadsRecords read → IsPlanned read asked.now cores w result) }
 {
     let Ok(settings) = settings_of(alloc, asked, cores) else {
         return Err(Fault::OutOfMemory);
@@ -65,25 +67,30 @@ pub fn make_targets<W: Crew, O: Sink, Rt: Threads + Sync>(
     work: &mut W,
     out: &mut O,
 ) -> Result<(), Fault>
-    requires none_runs { W.running work.old ≡ [] }
-    ensures ended { HasEnded result (W.world work.old) (W.world work.new) (W.faults work.old) (W.faults work.new) (W.running work.new) (O.faults out.old) (O.faults out.new) }
-    ensures went { (w : World) → W.world work.old ≡ Some w → (read : Items ℕ → Option RecordValue) → IsAtHand read w
+    requires none_runs { (W.device work.old).running ≡ [] }
+    ensures ended { EndsAs result (W.device work.old) (W.device work.new) (O.sunk out.old) (O.sunk out.new) }
+    ensures went { WhereTold (W.device work.old) (λ w. (read : Items ℕ → Option RecordValue) → ReadsRecords read
         → Went W.act cores result (IsRefusedPlan read asked.now cores w) (IsServed read asked.now cores w)
-        (W.world work.old) (W.world work.new) (Rose (W.faults work.old) (W.faults work.new)) (W.running work.new) (O.put_so_far out.old) (O.put_so_far out.new) }
+        (W.device work.old) (W.device work.new) (O.sunk out.old) (O.sunk out.new)) }
 {
     match plan_for(rt, alloc, asked, cores, work) {
         Err(fault) => Err(fault),
-        Ok(plan) => make(
-            alloc,
-            &asked.flow,
-            &asked.targets,
-            &plan.jobs,
-            &plan.plan.states,
-            &plan.store,
-            cores,
-            work,
-            out,
-        ),
+        Ok(plan) => {
+            let planned = Planned {
+                jobs: &plan.jobs,
+                states: &plan.plan.states,
+                store: &plan.store,
+            };
+            make(
+                alloc,
+                &asked.flow,
+                &asked.targets,
+                &planned,
+                cores,
+                work,
+                out,
+            )
+        }
     }
 }
 
@@ -97,11 +104,11 @@ pub fn list_plan<W: Files, O: Sink, Rt: Threads + Sync>(
     work: &mut W,
     out: &mut O,
 ) -> Result<(), Fault>
-    requires none_runs { W.running work.old ≡ [] }
-    ensures ended { HasEnded result (W.world work.old) (W.world work.new) (W.faults work.old) (W.faults work.new) (W.running work.new) (O.faults out.old) (O.faults out.new) }
-    ensures looked { spec.HasKept W.act (W.world work.old) (W.world work.new) }
-    ensures listed { (w : World) → W.world work.old ≡ Some w → (read : Items ℕ → Option RecordValue) → IsAtHand read w
-        → HasListed (IsRefusedPlan read asked.now 1 w) (IsServed read asked.now 1 w) (O.put_so_far out.old) (O.put_so_far out.new) result }
+    requires none_runs { (W.device work.old).running ≡ [] }
+    ensures ended { EndsAs result (W.device work.old) (W.device work.new) (O.sunk out.old) (O.sunk out.new) }
+    ensures looked { HasLooked W.act (W.device work.old) (W.device work.new) (device_failed result) }
+    ensures listed { WhereTold (W.device work.old) (λ w. (read : Items ℕ → Option RecordValue) → ReadsRecords read
+        → HasListed (IsRefusedPlan read asked.now 1 w) (IsServed read asked.now 1 w) (O.sunk out.old) (O.sunk out.new) result) }
 {
     match plan_for(rt, alloc, asked, 1, work) {
         Err(fault) => Err(fault),

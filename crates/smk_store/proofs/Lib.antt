@@ -1,5 +1,3 @@
-pub mod Carried
-pub mod Each
 pub mod Locking
 pub mod Writing
 pub mod Stored

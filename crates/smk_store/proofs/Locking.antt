@@ -1,50 +1,43 @@
--- The lock is made, and what that answered.
-use Rattle.std.proofs.Common.{◌≡◌, Bool, false, List, [], ◌∷◌, ◌++◌, refl, ap, ◌∙◌, Option, Result, Ok, Err}
-use Rattle.std.specs.List.{flat_map}
+-- What the calls on the lock do and answer.
+use Rattle.std.proofs.Common.{◌≡◌, Bool, true, false, List, [], ◌∷◌, ◌++◌, subst, ap₂, ◌∙◌, Result, Ok, Err}
+use Rattle.std.specs.Prelude.{IsErr, is_err}
 use Rattle.std.proofs.lemmas.List.{append-nil}
 use Rattle.std.proofs.lemmas.List.Concat.{flat_map-append, flat_map-cons}
-use Rattle.smk_base.specs.declared.tree.Tree.{Tree}
+use Rattle.smk_base.specs.Place.{lock_place}
 use Rattle.smk_world.specs.declared.event.Call.{Call}
 use Rattle.smk_world.specs.declared.event.Event.{Event}
 use Rattle.smk_world.specs.declared.event.Failed.{Failed}
-use Rattle.smk_world.specs.declared.recipe.Recipe.{Recipe}
 use Rattle.smk_world.specs.World.{World}
-use Rattle.smk_world.specs.Calls.{Acted, Happened, failed}
-use Rattle.smk_world.specs.Runs.{Did}
-use Rattle.smk_world.specs.Requests.{Request, request, HasDone, Carries}
+use Rattle.smk_world.specs.Calls.{failed}
+use Rattle.smk_world.specs.Devices.{Device, HasCalled, HasActed, HasCarried, keeps_children}
+use Rattle.smk_world.specs.Requests.{Request, request, HasDone}
 use Rattle.smk_world.specs.Requests.Request.{Settle}
-use Rattle.smk_base.specs.Place.{lock_place}
-use Rattle.std.specs.Prelude.{IsErr}
-use Rattle.smk_world.proofs.Runs.{did_more}
-use Rattle.smk_store.specs.Steps.{made_by, all_made, make_each, HasLocked}
-use Rattle.smk_store.proofs.Carried.{done_append, did_as, done_nothing}
+use Rattle.smk_world.specs.Trees.{Act}
+use Rattle.smk_world.proofs.Devices.{acted_call, acted_then, done_append}
+use Rattle.smk_store.specs.Steps.{HasLocked, make_each, made_by, all_made}
 
--- these calls were carried out, and those that make a file answered so
-abbrev pub Answered : List Request → List Bool → List Event → Type 0
-Answered rs made es = HasDone rs es × (all_made es ≡ made)
+-- these calls, of which those that make a file answered so
+abbrev pub Does : List Request → List Bool → World → List Event → Type 0
+Does rs ms w es = HasDone rs es × (all_made es ≡ ms)
 
-pub answered_nothing : (act : Recipe → List Tree → Acted) (a : Option World) → Did act a a (λ w es. Answered [] [] es)
-answered_nothing act a = did_as act (λ w es. HasDone [] es) (λ w es. Answered [] [] es) a a (done_nothing act a) (λ w es h. (h, none es h))
-  where
-    none : (es : List Event) → HasDone [] es → all_made es ≡ []
-    none [] h = refl
-    none (e ∷ es) h = absurd h
+-- so it was, and none of them failed
+pub record HasDoneSo (act : Act) (rs : List Request) (ms : List Bool) (a b : Device) : Type 0 where
+  pub acted : HasActed act (Does rs ms) a b false
 
-pub answered_next : (act : Recipe → List Tree → Acted) (rs : List Request) (made more : List Bool) (r : Request) (a b c : Option World) (call : Call)
-    → Did act a b (λ w es. Answered rs made es) → Happened act b c call → request call ≡ r → failed call ≡ false → made_by call ≡ more → Did act a c (λ w es. Answered (rs ++ r ∷ []) (made ++ more) es)
-answered_next act rs made more r a b c call before now is quiet told =
-    did_more act (λ w es. Answered rs made es) (λ w es. Answered (rs ++ r ∷ []) (made ++ more) es) a b c call before now
-    (λ w es left follows h lets. (
-      done_append rs (r ∷ []) es (record { call = call; left = left } ∷ []) h.0 (is, quiet, tt),
-      flat_map-append (λ (e : Event). made_by e.call) es (record { call = call; left = left } ∷ [])
-          ∙ ap (λ t. t ++ flat_map (λ (e : Event). made_by e.call) (record { call = call; left = left } ∷ [])) h.1
-          ∙ ap (λ t. made ++ t) (flat_map-cons (λ (e : Event). made_by e.call) (record { call = call; left = left }) [] ∙ append-nil (made_by call) ∙ told),
-    ))
+pub does_call : {act : Act} {a b : Device} {call : Call} (r : Request) (ms : List Bool) → keeps_children call ≡ true → request call ≡ r → failed call ≡ false → made_by call ≡ ms → HasCalled act a b call → HasDoneSo act (r ∷ []) ms a b
+does_call {act} {a} {b} {call} r ms keeps is quiet made h =
+    record {
+      acted = subst (HasActed act (Does (r ∷ []) ms) a b) quiet
+          (acted_call act (Does (r ∷ []) ms) a b call keeps (λ w left lets. ((is, quiet, tt), flat_map-cons (λ (e : Event). made_by e.call) (record { call = call; left = left }) [] ∙ append-nil (made_by call) ∙ made)) h);
+    }
 
-pub done_of : (act : Recipe → List Tree → Acted) (rs : List Request) (made : List Bool) (a b : Option World) → Did act a b (λ w es. Answered rs made es) → Did act a b (λ w es. HasDone rs es)
-done_of act rs made a b h = did_as act (λ w es. Answered rs made es) (λ w es. HasDone rs es) a b h (λ w es k. k.0)
+pub does_then : {act : Act} {rs qs : List Request} {ms ns : List Bool} {a b c : Device} → HasDoneSo act rs ms a b → HasDoneSo act qs ns b c → HasDoneSo act (rs ++ qs) (ms ++ ns) a c
+does_then {act} {rs} {qs} {ms} {ns} {a} {b} {c} first second =
+    record {
+      acted = acted_then act (Does rs ms) (Does qs ns) (Does (rs ++ qs) (ms ++ ns)) a b c false
+          (λ w es fs follows does follows2 does2. (done_append rs qs es fs does.0 does2.0, flat_map-append (λ (e : Event). made_by e.call) es fs ∙ ap₂ (λ x y. x ++ y) does.1 does2.1)) first.acted second.acted;
+    }
 
-pub locked_cut : (act : Recipe → List Tree → Acted) (a b : Option World) (r : Result Bool Failed) → IsErr r
-    → Did act a b (λ w es. Carries (make_each (lock_place ∷ []) ++ Settle (lock_place ∷ []) ∷ []) false es) → Did act a b (λ w es. HasLocked r es)
-locked_cut act a b (Ok made) h d = absurd cc
-locked_cut act a b (Err e) h d = d
+pub locked_cut : {act : Act} {a b : Device} (s : Result Bool Failed) → IsErr s → HasCarried act (make_each (lock_place ∷ []) ++ Settle (lock_place ∷ []) ∷ []) a b true → HasActed act (HasLocked s) a b (is_err s)
+locked_cut (Ok made) h carried = cc
+locked_cut (Err e) h carried = carried.acted

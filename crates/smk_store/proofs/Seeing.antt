@@ -1,24 +1,14 @@
 -- Sources that are gone over, and looked at.
-use Rattle.std.proofs.Common.{◌≡◌, ◌≢◌, ℕ, suc, ◌+◌, ◌<◌, Bool, true, false, List, [], ◌∷◌, ◌++◌, length, take, drop, get_or, refl, sym, ap, subst, ◌∙◌, Option, Some, None, Result, Ok, Err, arith, append_assoc, add-one, drop-cons}
-use Rattle.std.specs.Prelude.{IsSome, is_some, IsErr, IsErrOf, IsErrAnd}
+use Rattle.std.proofs.Common.{◌≡◌, ℕ, suc, ◌+◌, ◌<◌, Bool, List, [], ◌∷◌, ◌++◌, length, take, drop, get_or, refl, sym, ap, ◌∙◌, None, arith, append_assoc, add-one, drop-cons}
 use Rattle.std.specs.List.{zip}
 use Rattle.std.proofs.lemmas.List.{take_more}
 use Rattle.std.proofs.lemmas.List.Sums.{fold-append}
-use Rattle.smk_world.specs.declared.event.Call.TheVariants.{Looked}
-use Rattle.smk_world.specs.declared.event.Failed.{Failed}
 use Rattle.smk_world.specs.declared.event.NodeState.{NodeState}
-use Rattle.smk_world.specs.declared.event.NodeState.TheVariants.{Owned, Known}
-use Rattle.smk_world.specs.declared.event.Stat.{Stat}
-use Rattle.smk_world.specs.declared.event.WorkFault.{WorkFault}
-use Rattle.smk_world.specs.declared.event.WorkFault.TheVariants.{Failed as FailedFault}
-use Rattle.smk_world.specs.World.{World, reading}
-use Rattle.smk_world.specs.Calls.{Happened, HasCause, Lets, StatIs, stat_of, failed, is_failed}
-use Rattle.smk_world.specs.Trees.{Path, Act}
+use Rattle.smk_world.specs.World.{World}
+use Rattle.smk_world.specs.Trees.{Path}
 use Rattle.smk_record.specs.declared.record.Stamp.{Stamp}
 use Rattle.smk_store.specs.declared.sources.Source.{Source}
 use Rattle.smk_store.specs.Sources.{source_of, sources_of, first_seen, is_seen, earlier}
-use Rattle.smk_store.specs.Walking.{HasLooked}
-use Rattle.smk_store.proofs.Looks.{looked_call, looked_as}
 
 -- ## Inputs, each with its stamp
 
@@ -41,54 +31,6 @@ one_left p found now q s rest ss later cut e =
 
 pub dropped : {X : Type 0} (xs : List X) (i : ℕ) (x : X) → i < length xs → x ≡ get_or xs i x → drop i xs ≡ x ∷ drop (i + 1) xs
 dropped xs i x lt e = drop-cons xs i x lt ∙ ap (λ y. y ∷ drop (suc i) xs) (sym e) ∙ ap (λ k. x ∷ drop k xs) (sym (add-one i))
-
--- ## Looks at files
-
-pub looked_failed : {U : Type 0} (act : Act) (a b : Option World) (fa fb : ℕ) (ra rb : List ℕ) (p : Path) (r : Result Stat Failed) (s : Result U WorkFault) (e : Failed)
-    → r ≡ Err e → IsErrAnd s (λ y. y ≡ FailedFault) → Happened act a b (Looked p r) → HasCause fa fb (IsErr r) → rb ≡ ra → HasLooked act a b fa fb ra rb (IsErrOf s FailedFault)
-looked_failed act a b fa fb ra rb p r s e is h happened cause same =
-    looked_as act a b fa fb ra rb (IsErr r) (IsErrOf s FailedFault) (λ f. fault s h) (λ g. subst (λ (x : Result Stat Failed). IsErr x) (sym is) refl)
-    (looked_call act a b fa fb ra rb (Looked p r) (IsErr r) refl (λ never. absurd (never (subst (λ (x : Result Stat Failed). IsErr x) (sym is) refl))) happened cause same)
-  where
-    fault : {V : Type 0} (t : Result V WorkFault) → IsErrAnd t (λ y. y ≡ FailedFault) → IsErrOf t FailedFault
-    fault (Ok v) k = absurd k
-    fault (Err y) k = ap (λ (z : WorkFault). Err z) k
-
-err_cases : (r : Result Stat Failed) → IsErr r → is_failed r ≡ true
-err_cases (Ok t) h = cc
-err_cases (Err e) h = refl
-
-true_false : true ≡ false → ⊥
-true_false e = cc
-
-err_never : (r : Result Stat Failed) (t : Stat) → r ≡ Ok t → ¬ (IsErr r)
-err_never r t is h = true_false (sym (err_cases r h) ∙ ap is_failed is)
-
-pub looked_well_at : (act : Act) (a b : Option World) (fa fb : ℕ) (ra rb : List ℕ) (p : Path) (r : Result Stat Failed) (t : Stat) (G : Type 0)
-    → r ≡ Ok t → ¬ G → Happened act a b (Looked p r) → HasCause fa fb (IsErr r) → rb ≡ ra → HasLooked act a b fa fb ra rb G
-looked_well_at act a b fa fb ra rb p r t G is never happened cause same =
-    looked_as act a b fa fb ra rb (IsErr r) G (λ f. absurd (err_never r t is f)) (λ g. absurd (never g))
-    (looked_call act a b fa fb ra rb (Looked p r) (IsErr r) refl (λ quiet. ap (λ (x : Result Stat Failed). failed (Looked p x)) is) happened cause same)
-
-some_of : {A : Type 0} (o : Option A) → IsSome o → (x : A) × (o ≡ Some x)
-some_of None h = absurd (true_false (sym h))
-some_of (Some x) h = (x, refl)
-
-same_some : {A : Type 0} (x y : A) → Some x ≡ Some y → x ≡ y
-same_some x y e = cc
-
-pub stat_told : (act : Act) (a b : Option World) (p : Path) (r : Result Stat Failed) (stat : Stat) (w : World) → Happened act a b (Looked p r) → r ≡ Ok stat → a ≡ Some w → w.nodes p ≢ Owned
-    → stat ≡ stat_of (reading (w.nodes p))
-stat_told act a b p r stat w happened is at own =
-    let v = some_of b (happened.stays (ap is_some at) (ap (λ (x : Result Stat Failed). failed (Looked p x)) is)) in
-    let t = happened.told v.0 v.1 in
-    let same : t.0 ≡ w = same_some t.0 w (sym t.1 ∙ at) in
-    let lets : Lets act t.0 (Looked p (Ok stat)) t.2.0 = subst (λ (x : Result Stat Failed). Lets act t.0 (Looked p x) t.2.0) is t.2.1 in
-    by (w.nodes p) own (subst (λ (u : World). StatIs stat (u.nodes p)) same lets.1)
-  where
-    by : (s : NodeState) → s ≢ Owned → StatIs stat s → stat ≡ stat_of (reading s)
-    by Owned other h = absurd (other refl)
-    by (Known n besides) other h = h
 
 -- ## The first of them
 

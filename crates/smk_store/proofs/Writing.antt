@@ -1,5 +1,5 @@
 -- One record after the other is written.
-use Rattle.std.proofs.Common.{◌≡◌, ℕ, zero, suc, ◌+◌, ◌<◌, ◌≤◌, List, [], ◌∷◌, ◌++◌, length, take, drop, get_or, refl, sym, ap, ◌∙◌, arith, add-one}
+use Rattle.std.proofs.Common.{◌≡◌, ℕ, zero, suc, ◌+◌, ◌<◌, List, [], ◌∷◌, ◌++◌, length, take, drop, get_or, refl, sym, ap, ◌∙◌, arith, add-one}
 use Rattle.smk_world.specs.Requests.{Request}
 use Rattle.smk_world.specs.Requests.Request.{Write, MakeParents}
 use Rattle.smk_world.specs.Trees.{Path}

@@ -8,6 +8,7 @@ use Rattle.smk_base.specs.Path.{is_at_or_under}
 use Rattle.smk_base.specs.Place.{record_place, mark_place, note_place, records_folder, marks_folder, notes_folder}
 use Rattle.smk_world.specs.declared.event.Event.{Event}
 use Rattle.smk_world.specs.World.{World, reading}
+use Rattle.smk_world.specs.Devices.{AreLooks}
 use Rattle.smk_world.specs.Requests.{Request, HasDone, IsCutShort}
 use Rattle.smk_world.specs.Requests.Request.{Remove, Settle}
 use Rattle.smk_world.specs.Trees.{Path, IsIn}
@@ -18,7 +19,6 @@ use Rattle.smk_record.specs.Records.{stamped}
 use Rattle.smk_store.specs.declared.fault.StoreFault.{StoreFault}
 use Rattle.smk_store.specs.declared.fault.StoreFault.TheVariants.{StampSeen, Device, OutOfMemory}
 use Rattle.smk_store.specs.Images.{Content, content_of, readable}
-use Rattle.smk_store.specs.Loading.{AreLooks}
 use Rattle.smk_store.specs.Stores.{Known}
 
 -- ## Times that were seen before
@@ -67,14 +67,14 @@ abbrev pub forget_if : Bool → Path → List Request
 forget_if true p = forget_requests p
 forget_if false p = []
 
--- first looks, and then events that are in P
+-- first looks, none of which failed, and then events that are in P
 abbrev pub LooksThen : (List Event → Type 0) → List Event → Type 0
-LooksThen P es = (looks : List Event) × (calls : List Event) × (es ≡ looks ++ calls) × AreLooks looks × P calls
+LooksThen P es = (looks : List Event) × (calls : List Event) × (es ≡ looks ++ calls) × AreLooks false looks × P calls
 
 -- What was done, by the answer: after looks the path was forgotten, where no time was seen before and something was known of it; or
 -- nothing came after the looks; or a call failed, which was a look or one of the others.
 abbrev pub HasForgotten : List Known → Path → Result Bool StoreFault → World → List Event → Type 0
 HasForgotten ks p (Ok was_known) w es = AreUnseen ks w p × LooksThen (λ calls. HasDone (forget_if was_known p) calls) es
-HasForgotten ks p (Err (StampSeen q)) w es = IsFirstSeen ks w p q × AreLooks es
-HasForgotten ks p (Err Device) w es = AreLooks es ⊎ (AreUnseen ks w p × LooksThen (λ calls. IsCutShort (forget_requests p) calls) es)
-HasForgotten ks p (Err OutOfMemory) w es = AreLooks es
+HasForgotten ks p (Err (StampSeen q)) w es = IsFirstSeen ks w p q × AreLooks false es
+HasForgotten ks p (Err Device) w es = AreLooks true es ⊎ (AreUnseen ks w p × LooksThen (λ calls. IsCutShort (forget_requests p) calls) es)
+HasForgotten ks p (Err OutOfMemory) w es = AreLooks false es

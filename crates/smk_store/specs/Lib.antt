@@ -4,6 +4,7 @@ pub mod Soundness
 pub mod Safety
 pub mod Steps
 pub mod Stores
+pub mod Faults
 pub mod Loading
 pub mod Walking
 pub mod Serials

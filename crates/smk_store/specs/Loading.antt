@@ -1,9 +1,6 @@
 -- What a store that was loaded has: just the records, marks and notes that stand.
-use Rattle.std.specs.Prelude.{◌≡◌, ◌≢◌, Bool, true, false, List, All, codes, if◌then◌else◌, Option, Some, None, IsTrue, IsSome}
+use Rattle.std.specs.Prelude.{◌≡◌, ◌≢◌, true, List, codes, if◌then◌else◌, Option, Some, None, IsTrue, IsSome}
 use Rattle.smk_base.specs.Path.{is_under}
-use Rattle.smk_world.specs.declared.event.Call.{Call}
-use Rattle.smk_world.specs.declared.event.Call.TheVariants.{Looked, ReadFile, ReadFolder, Written, Created, Removed, MadeParents, Settled, Protected, Started, Waited}
-use Rattle.smk_world.specs.declared.event.Event.{Event}
 use Rattle.smk_world.specs.declared.event.NodeState.TheVariants.{Owned}
 use Rattle.smk_world.specs.World.{World, reading, reads_folder}
 use Rattle.smk_world.specs.Calls.{in_folder}
@@ -36,23 +33,3 @@ pub record IsFiled (w : World) : Type 0 where
   pub in_folders :
       (folder name : Path) → IsTrue (is_under folder store_folder) → IsSome (reading (w.nodes (in_folder folder name))) → reads_folder (w.nodes folder) ≡ true
   pub unowned : (q : Path) → IsTrue (is_under q store_folder) → w.nodes q ≢ Owned
-
--- ## How it is loaded
-
--- a call that changes no node
-abbrev pub is_look : Call → Bool
-is_look (Looked p r) = true
-is_look (ReadFile p limit r) = true
-is_look (ReadFolder p r) = true
-is_look (Written p bytes r) = false
-is_look (Created p r) = false
-is_look (Removed p r) = false
-is_look (MadeParents p r) = false
-is_look (Settled ps r) = false
-is_look (Protected p r) = false
-is_look (Started recipe logs command r) = false
-is_look (Waited r) = false
-
--- the calls change no node
-abbrev pub AreLooks : List Event → Type 0
-AreLooks es = All (λ e. is_look e.call ≡ true) es

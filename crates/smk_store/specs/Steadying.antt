@@ -3,6 +3,7 @@ use Rattle.std.specs.Prelude.{◌≡◌, List, [], ◌∷◌, ◌++◌, if◌the
 use Rattle.std.specs.List.{flat_map}
 use Rattle.smk_base.specs.Place.{mark_place, note_place}
 use Rattle.smk_world.specs.declared.event.Event.{Event}
+use Rattle.smk_world.specs.World.{World}
 use Rattle.smk_world.specs.Requests.{Request, HasDone, IsCutShort}
 use Rattle.smk_world.specs.Requests.Request.{Settle}
 use Rattle.smk_world.specs.Trees.{Path}
@@ -11,11 +12,11 @@ use Rattle.smk_store.specs.declared.fault.StoreFault.TheVariants.{StampSeen, Dev
 use Rattle.smk_store.specs.Stores.{Known}
 
 -- The calls were carried out: all of them, or up to one that failed, or none where there was no memory.
-abbrev pub HasTried : List Request → Result (Unit {0}) StoreFault → List Event → Type 0
-HasTried requests (Ok u) es = HasDone requests es
-HasTried requests (Err Device) es = IsCutShort requests es
-HasTried requests (Err OutOfMemory) es = es ≡ []
-HasTried requests (Err (StampSeen p)) es = ⊥
+abbrev pub HasTried : List Request → Result (Unit {0}) StoreFault → World → List Event → Type 0
+HasTried requests (Ok u) w es = HasDone requests es
+HasTried requests (Err Device) w es = IsCutShort requests es
+HasTried requests (Err OutOfMemory) w es = es ≡ []
+HasTried requests (Err (StampSeen p)) w es = ⊥
 
 -- the places of the path's mark and note, where they stand
 abbrev pub signs_of : Known → List Path

@@ -1,5 +1,5 @@
 -- The calls of the store's steps on a job, on the lock and on what was loaded, in order.
-use Rattle.std.specs.Prelude.{◌≡◌, ℕ, Bool, false, List, [], ◌∷◌, ◌++◌, map, Option, Some, Result, Ok, Err, All, if◌then◌else◌}
+use Rattle.std.specs.Prelude.{◌≡◌, ℕ, Bool, false, List, [], ◌∷◌, ◌++◌, map, Result, Ok, Err, All, if◌then◌else◌}
 use Rattle.std.specs.List.{flat_map}
 use Rattle.smk_base.specs.Place.{record_place, mark_place, note_place, lock_place}
 use Rattle.smk_world.specs.declared.event.Call.{Call}
@@ -8,6 +8,7 @@ use Rattle.smk_world.specs.declared.event.Event.{Event}
 use Rattle.smk_world.specs.declared.event.Failed.{Failed}
 use Rattle.smk_world.specs.World.{World}
 use Rattle.smk_world.specs.Calls.{IsUnused}
+use Rattle.smk_world.specs.Devices.{Device, WhereTold}
 use Rattle.smk_world.specs.Requests.{Request, Carries, HasDone}
 use Rattle.smk_world.specs.Requests.Request.{Write, Create, Remove, MakeParents, Settle}
 use Rattle.smk_world.specs.Trees.{Path}
@@ -24,13 +25,9 @@ places_of outputs logs = record {
   dropping = outputs ++ map record_place outputs;
 }
 
--- No running child owns or reads one of the places or anything under it.
-abbrev pub AreUnused : Option World → List Path → Type 0
-AreUnused world places = (w : World) → world ≡ Some w → All (IsUnused w) places
-
--- The same children run.
-abbrev pub SameChildren : Option World → Option World → Type 0
-SameChildren old new = (w1 : World) → new ≡ Some w1 → (w0 : World) × (old ≡ Some w0) × (w1.children ≡ w0.children)
+-- No running child owns or reads one of the places or anything under it, where the world is told.
+abbrev pub AreUnused : Device → List Path → Type 0
+AreUnused d places = WhereTold d (λ w. All (IsUnused w) places)
 
 -- each is made, its folders before it
 abbrev pub make_each : List Path → List Request
@@ -71,10 +68,10 @@ abbrev pub all_made : List Event → List Bool
 all_made es = flat_map (λ e. made_by e.call) es
 
 -- The lock is made, its folders before it, and where it wasn't there it is made firm; whether it wasn't there is the answer.
-abbrev pub HasLocked : Result Bool Failed → List Event → Type 0
-HasLocked (Ok made) es =
+abbrev pub HasLocked : Result Bool Failed → World → List Event → Type 0
+HasLocked (Ok made) w es =
     HasDone (make_each (lock_place ∷ []) ++ (if made then Settle (lock_place ∷ []) ∷ [] else [])) es × (all_made es ≡ made ∷ [])
-HasLocked (Err e) es = Carries (make_each (lock_place ∷ []) ++ Settle (lock_place ∷ []) ∷ []) false es
+HasLocked (Err e) w es = Carries (make_each (lock_place ∷ []) ++ Settle (lock_place ∷ []) ∷ []) false es
 
 -- the lock is removed, and then that is made firm
 abbrev pub unlock_requests : List Path → List Request

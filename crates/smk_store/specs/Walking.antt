@@ -6,21 +6,11 @@ use Rattle.smk_base.specs.Place.{name_of, records_folder, marks_folder, notes_fo
 use Rattle.smk_world.specs.declared.event.Name.{Name}
 use Rattle.smk_world.specs.declared.event.NodeState.{NodeState}
 use Rattle.smk_world.specs.World.{World, reading}
-use Rattle.smk_world.specs.Calls.{in_folder, HasCause}
-use Rattle.smk_world.specs.Runs.{Did}
-use Rattle.smk_world.specs.Trees.{Path, Act, is_path_text}
+use Rattle.smk_world.specs.Calls.{in_folder}
+use Rattle.smk_world.specs.Trees.{Path, is_path_text}
 use Rattle.smk_store.specs.Images.{Image}
 use Rattle.smk_store.specs.Stores.{Known}
-use Rattle.smk_store.specs.Loading.{AreLooks, entry_at}
-
--- ## What looks do
-
--- Looks were made, and nothing else happened: where it failed, in the last of them.
-pub record HasLooked (act : Act) (old new : Option World) (faults_old faults_new : ℕ) (running_old running_new : List ℕ) (failure : Type 0) : Type 0 where
-  pub did : Did act old new (λ w es. AreLooks es)
-  pub stays : ¬ failure → IsSome old → IsSome new
-  pub cause : HasCause faults_old faults_new failure
-  pub running : running_new ≡ running_old
+use Rattle.smk_store.specs.Loading.{entry_at}
 
 -- ## Names
 

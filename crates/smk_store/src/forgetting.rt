@@ -1,11 +1,10 @@
 //! Forgetting what is known of a path.
 
-ghost use Rattle.std.specs.Prelude.{◌≡◌, [], ◌∷◌, ◌++◌, IsErr, IsErrOf, IfOk, OnOk, IsSome, is_ok, is_some};
+ghost use Rattle.std.specs.Prelude.{◌≡◌, [], ◌∷◌, ◌++◌, IfOk, is_some, is_err};
 ghost use Rattle.smk_base.specs.Place.{record_place, mark_place, note_place, records_folder, marks_folder, notes_folder};
-ghost use Rattle.smk_world.specs.Calls.{HasCause};
-ghost use Rattle.smk_world.specs.Requests.{Carries};
+ghost use Rattle.smk_world.specs.Devices.{HasActed, HasCarried};
 ghost use Rattle.smk_world.specs.Requests.Request.{Settle};
-ghost use Rattle.smk_world.specs.Runs.{Did};
+ghost use Rattle.smk_store.specs.Faults.{store_failed};
 ghost use Rattle.smk_store.specs.Forgetting.{HasForgotten};
 ghost use Rattle.smk_store.specs.Steps.{remove_each};
 ghost use Rattle.smk_store.specs.Stores.{entry_of};
@@ -49,11 +48,8 @@ fn places_of(alloc: Global, p: &PathText) -> Result<ForgetPlaces, OutOfMemory>
 
 // Removes the places, and makes that firm.
 fn clear<W: Files>(work: &mut W, places: &List<Place>) -> Result<(), Failed>
-    requires none_runs { W.running work.old ≡ [] }
-    ensures did { Did W.act (W.world work.old) (W.world work.new) (λ w es. Carries (remove_each places.now ++ Settle places.now ∷ []) (is_ok result) es) }
-    ensures stays { OnOk result (IsSome (W.world work.old) → IsSome (W.world work.new)) }
-    ensures cause { HasCause (W.faults work.old) (W.faults work.new) (IsErr result) }
-    ensures running { W.running work.new ≡ W.running work.old }
+    requires none_runs { (W.device work.old).running ≡ [] }
+    ensures { HasCarried W.act (remove_each places.now ++ Settle places.now ∷ []) (W.device work.old) (W.device work.new) (is_err result) }
 {
     remove_each(work, places.as_slice())?;
     work.settle(places)
@@ -61,13 +57,9 @@ fn clear<W: Files>(work: &mut W, places: &List<Place>) -> Result<(), Failed>
 
 // All calls that come after the looks.
 fn clear_all<W: Files>(work: &mut W, places: &ForgetPlaces) -> Result<(), Failed>
-    requires none_runs { W.running work.old ≡ [] }
-    ensures did { Did W.act (W.world work.old) (W.world work.new)
-        (λ w es. Carries (Settle places.now.around ∷ ((remove_each places.now.records ++ Settle places.now.records ∷ [])
-        ++ (remove_each places.now.marks ++ Settle places.now.marks ∷ []))) (is_ok result) es) }
-    ensures stays { OnOk result (IsSome (W.world work.old) → IsSome (W.world work.new)) }
-    ensures cause { HasCause (W.faults work.old) (W.faults work.new) (IsErr result) }
-    ensures running { W.running work.new ≡ W.running work.old }
+    requires none_runs { (W.device work.old).running ≡ [] }
+    ensures { HasCarried W.act (Settle places.now.around ∷ ((remove_each places.now.records ++ Settle places.now.records ∷ [])
+        ++ (remove_each places.now.marks ++ Settle places.now.marks ∷ []))) (W.device work.old) (W.device work.new) (is_err result) }
 {
     work.settle(&places.around)?;
     clear(work, &places.records)?;
@@ -86,12 +78,9 @@ pub fn forget<W: Files>(
     store: &Store,
     p: &PathText,
 ) -> Result<bool, StoreFault>
-    requires none_runs { W.running work.old ≡ [] }
-    ensures did { Did W.act (W.world work.old) (W.world work.new) (λ w es. HasForgotten store.now p.now result w es) }
+    requires none_runs { (W.device work.old).running ≡ [] }
+    ensures acted { HasActed W.act (HasForgotten store.now p.now result) (W.device work.old) (W.device work.new) (store_failed result) }
     ensures known { IfOk result (λ was_known. was_known ≡ is_some (entry_of store.now p.now)) }
-    ensures stays { ¬ (IsErrOf result StoreFault.Device) → IsSome (W.world work.old) → IsSome (W.world work.new) }
-    ensures device { HasCause (W.faults work.old) (W.faults work.new) (IsErrOf result StoreFault.Device) }
-    ensures running { W.running work.new ≡ W.running work.old }
 {
     let Ok(places) = places_of(alloc, p) else {
         return Err(StoreFault::OutOfMemory);

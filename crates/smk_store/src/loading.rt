@@ -1,19 +1,20 @@
 //! Loading what stands of the engine's own files.
 
-ghost use Rattle.std.specs.Prelude.{◌≡◌, ◌≢◌, ◌||◌, ◌^◌, ◌<◌, ℕ, List as Items, Option, Some, IsErrOf, IfOk, IfErr, OnOk, IsSome, length, option_map, map, true};
+ghost use Rattle.std.specs.Prelude.{◌≡◌, ◌≢◌, ◌||◌, ◌^◌, ◌<◌, ℕ, List as Items, Option, IfOk, IfErr, OnOk, IsSome, length, option_map, map, true};
 ghost use Rattle.std.specs.BTreeSet.{contains_text};
 ghost use Rattle.std.specs.List.{filter};
 ghost use Rattle.smk_base.specs.Place.{record_place};
-ghost use Rattle.smk_world.specs.World.{World, reading};
-ghost use Rattle.smk_world.specs.Calls.{HasCause, found_of};
+ghost use Rattle.smk_world.specs.World.{reading};
+ghost use Rattle.smk_world.specs.Calls.{found_of, device_failed};
+ghost use Rattle.smk_world.specs.Devices.{WhereTold, HasLooked};
 ghost use Rattle.smk_world.specs.declared.event.Node.{Node};
-ghost use Rattle.smk_world.specs.Runs.{Did};
 ghost use Rattle.smk_world.specs.Trees.{is_path_text};
 ghost use Rattle.smk_record.specs.declared.record.Record.{Record as RecordValue};
 ghost use Rattle.smk_record.specs.Spelling.{ReadsRecords};
 ghost use Rattle.smk_store.specs.Images.{seen, for_path, kept_by};
-ghost use Rattle.smk_store.specs.Loading.{IsStoreOf, IsFiled, AreLooks, entry_at};
-ghost use Rattle.smk_store.specs.Walking.{HasLooked, HasSigns, texts_of, path_in, known_all};
+ghost use Rattle.smk_store.specs.Faults.{store_failed};
+ghost use Rattle.smk_store.specs.Loading.{IsStoreOf, IsFiled, entry_at};
+ghost use Rattle.smk_store.specs.Walking.{HasSigns, texts_of, path_in, known_all};
 
 use crate::names::paths_in;
 use crate::{Entry, Kept, Store, StoreFault};
@@ -36,9 +37,9 @@ struct Signs {
 
 // Looks for all of them.
 fn signs_in<W: Files>(alloc: Global, work: &mut W) -> Result<Signs, WorkFault>
-    ensures looked { HasLooked W.act (W.world work.old) (W.world work.new) (W.faults work.old) (W.faults work.new) (W.running work.old) (W.running work.new) (IsErrOf result WorkFault.Failed) }
-    ensures told { IfOk result (λ signs. (w : World) → W.world work.old ≡ Some w → IsFiled w
-        → HasSigns w (λ q. contains_text signs.records q) (λ q. contains_text signs.marks q) (λ q. contains_text signs.notes q)) }
+    ensures looked { HasLooked W.act (W.device work.old) (W.device work.new) (device_failed result) }
+    ensures told { IfOk result (λ signs. WhereTold (W.device work.old) (λ w. IsFiled w
+        → HasSigns w (λ q. contains_text signs.records q) (λ q. contains_text signs.marks q) (λ q. contains_text signs.notes q))) }
 {
     let records = paths_in(alloc, work, &Place::records(alloc)?)?;
     let marks = paths_in(alloc, work, &Place::marks(alloc)?)?;
@@ -104,9 +105,9 @@ fn kept_found(alloc: Global, path: &PathText, found: Found) -> Result<Kept, OutO
 
 // The record of the path, where something stands in its place.
 fn kept_at<W: Files>(alloc: Global, work: &mut W, path: &PathText) -> Result<Kept, WorkFault>
-    ensures looked { HasLooked W.act (W.world work.old) (W.world work.new) (W.faults work.old) (W.faults work.new) (W.running work.old) (W.running work.new) (IsErrOf result WorkFault.Failed) }
-    ensures told { IfOk result (λ kept. (w : World) → W.world work.old ≡ Some w → IsFiled w → IsSome (reading (w.nodes (record_place path.now)))
-        → (read : Items ℕ → Option RecordValue) → ReadsRecords read → kept ≡ kept_by read path.now (reading (w.nodes (record_place path.now)))) }
+    ensures looked { HasLooked W.act (W.device work.old) (W.device work.new) (device_failed result) }
+    ensures told { IfOk result (λ kept. WhereTold (W.device work.old) (λ w. IsFiled w → IsSome (reading (w.nodes (record_place path.now)))
+        → (read : Items ℕ → Option RecordValue) → ReadsRecords read → kept ≡ kept_by read path.now (reading (w.nodes (record_place path.now))))) }
 {
     let place = Place::record_of(alloc, path)?;
     let found = work.read(alloc, &place, RECORD_LIMIT)?;
@@ -120,10 +121,10 @@ fn kept_of<W: Files>(
     signs: &Signs,
     path: &PathText,
 ) -> Result<Kept, WorkFault>
-    ensures looked { HasLooked W.act (W.world work.old) (W.world work.new) (W.faults work.old) (W.faults work.new) (W.running work.old) (W.running work.new) (IsErrOf result WorkFault.Failed) }
-    ensures told { IfOk result (λ kept. (w : World) → W.world work.old ≡ Some w → IsFiled w
+    ensures looked { HasLooked W.act (W.device work.old) (W.device work.new) (device_failed result) }
+    ensures told { IfOk result (λ kept. WhereTold (W.device work.old) (λ w. IsFiled w
         → HasSigns w (λ q. contains_text signs.now.records q) (λ q. contains_text signs.now.marks q) (λ q. contains_text signs.now.notes q) → is_path_text path.now ≡ true
-        → (read : Items ℕ → Option RecordValue) → ReadsRecords read → kept ≡ (seen read w).kept path.now) }
+        → (read : Items ℕ → Option RecordValue) → ReadsRecords read → kept ≡ (seen read w).kept path.now)) }
 {
     if signs.records.contains(path.as_str()) {
         kept_at(alloc, work, path)
@@ -139,10 +140,10 @@ fn entry_of<W: Files>(
     signs: &Signs,
     path: &PathText,
 ) -> Result<Entry, WorkFault>
-    ensures looked { HasLooked W.act (W.world work.old) (W.world work.new) (W.faults work.old) (W.faults work.new) (W.running work.old) (W.running work.new) (IsErrOf result WorkFault.Failed) }
-    ensures told { IfOk result (λ entry. (w : World) → W.world work.old ≡ Some w → IsFiled w
+    ensures looked { HasLooked W.act (W.device work.old) (W.device work.new) (device_failed result) }
+    ensures told { IfOk result (λ entry. WhereTold (W.device work.old) (λ w. IsFiled w
         → HasSigns w (λ q. contains_text signs.now.records q) (λ q. contains_text signs.now.marks q) (λ q. contains_text signs.now.notes q) → is_path_text path.now ≡ true
-        → (read : Items ℕ → Option RecordValue) → ReadsRecords read → entry ≡ entry_at (seen read w) path.now) }
+        → (read : Items ℕ → Option RecordValue) → ReadsRecords read → entry ≡ entry_at (seen read w) path.now)) }
 {
     let kept = kept_of(alloc, work, signs, path)?;
     Ok(Entry {
@@ -170,10 +171,10 @@ fn store_of<W: Files>(
     signs: &Signs,
     all: &BTreeSet<String>,
 ) -> Result<Store, WorkFault>
-    ensures looked { HasLooked W.act (W.world work.old) (W.world work.new) (W.faults work.old) (W.faults work.new) (W.running work.old) (W.running work.new) (IsErrOf result WorkFault.Failed) }
-    ensures told { IfOk result (λ store. (w : World) → W.world work.old ≡ Some w → IsFiled w
+    ensures looked { HasLooked W.act (W.device work.old) (W.device work.new) (device_failed result) }
+    ensures told { IfOk result (λ store. WhereTold (W.device work.old) (λ w. IsFiled w
         → HasSigns w (λ q. contains_text signs.now.records q) (λ q. contains_text signs.now.marks q) (λ q. contains_text signs.now.notes q)
-        → (read : Items ℕ → Option RecordValue) → ReadsRecords read → store ≡ known_all (seen read w) (filter is_path_text (texts_of all.now.keys))) }
+        → (read : Items ℕ → Option RecordValue) → ReadsRecords read → store ≡ known_all (seen read w) (filter is_path_text (texts_of all.now.keys)))) }
 {
     let mut paths = List::new(alloc);
     let mut entries = List::new(alloc);
@@ -190,9 +191,9 @@ fn store_of<W: Files>(
 
 // The whole store.
 fn loaded<W: Files>(alloc: Global, work: &mut W) -> Result<Store, WorkFault>
-    ensures looked { HasLooked W.act (W.world work.old) (W.world work.new) (W.faults work.old) (W.faults work.new) (W.running work.old) (W.running work.new) (IsErrOf result WorkFault.Failed) }
-    ensures told { IfOk result (λ store. (w : World) → W.world work.old ≡ Some w → IsFiled w
-        → (read : Items ℕ → Option RecordValue) → ReadsRecords read → IsStoreOf (seen read w) store) }
+    ensures looked { HasLooked W.act (W.device work.old) (W.device work.new) (device_failed result) }
+    ensures told { IfOk result (λ store. WhereTold (W.device work.old) (λ w. IsFiled w
+        → (read : Items ℕ → Option RecordValue) → ReadsRecords read → IsStoreOf (seen read w) store)) }
 {
     let signs = signs_in(alloc, work)?;
     let all = all_texts(alloc, &signs)?;
@@ -203,15 +204,12 @@ fn loaded<W: Files>(alloc: Global, work: &mut W) -> Result<Store, WorkFault>
 ///
 /// `Device`: a call of the device failed. `OutOfMemory`: there is no memory for the store.
 pub fn load<W: Files>(alloc: Global, work: &mut W) -> Result<Store, StoreFault>
-    ensures did { Did W.act (W.world work.old) (W.world work.new) (λ w es. AreLooks es) }
+    ensures looked { HasLooked W.act (W.device work.old) (W.device work.new) (store_failed result) }
 
     // The store has just the records, marks and notes that stand.
-    ensures told { IfOk result (λ store. (w : World) → W.world work.old ≡ Some w → IsFiled w
-        → (read : Items ℕ → Option RecordValue) → ReadsRecords read → IsStoreOf (seen read w) store) }
-    ensures stays { ¬ (IsErrOf result StoreFault.Device) → IsSome (W.world work.old) → IsSome (W.world work.new) }
-    ensures device { HasCause (W.faults work.old) (W.faults work.new) (IsErrOf result StoreFault.Device) }
+    ensures told { IfOk result (λ store. WhereTold (W.device work.old) (λ w. IsFiled w
+        → (read : Items ℕ → Option RecordValue) → ReadsRecords read → IsStoreOf (seen read w) store)) }
     ensures no_stamp { IfErr result (λ fault. (p : Items ℕ) → fault ≢ StoreFault.StampSeen p) }
-    ensures running { W.running work.new ≡ W.running work.old }
 {
     match loaded(alloc, work) {
         Ok(store) => Ok(store),

@@ -2,13 +2,14 @@
 //!
 //! A file or folder `=c` in the folder `+a/+b` tells of the path `a/b/c`. Every other name is passed over.
 
-ghost use Rattle.std.specs.Prelude.{◌≡◌, ◌<◌, ◌++◌, ◌∷◌, [], ◌||◌, ℕ, List as Items, Option, Some, IsErrOf, IfOk, OnOk, IsTrue, bytes_eq, option_map, string_bytes};
+ghost use Rattle.std.specs.Prelude.{◌≡◌, ◌<◌, ◌++◌, ◌∷◌, [], ◌||◌, ℕ, List as Items, Option, Some, IfOk, OnOk, IsTrue, bytes_eq, option_map, string_bytes};
 ghost use Rattle.std.specs.BTreeSet.{contains_text};
 ghost use Rattle.std.specs.Str.{IsUtf8};
 ghost use Rattle.smk_base.specs.Path.{is_under};
-ghost use Rattle.smk_world.specs.World.{World};
+ghost use Rattle.smk_world.specs.Calls.{device_failed};
+ghost use Rattle.smk_world.specs.Devices.{WhereTold, HasLooked};
 ghost use Rattle.smk_store.specs.Loading.{IsFiled, store_folder};
-ghost use Rattle.smk_store.specs.Walking.{after_sign, all_tell_of, front_below, HasLooked, HasAll, Walked};
+ghost use Rattle.smk_store.specs.Walking.{after_sign, all_tell_of, front_below, HasAll, Walked};
 
 use smk_base::{OutOfMemory, Place};
 use smk_world::{Files, Name, WorkFault};
@@ -87,9 +88,9 @@ fn walk<W: Files>(
 ) -> Result<(), WorkFault>
     requires own { IsTrue (is_under folder.now store_folder) }
     requires utf8 { IsUtf8 front.now }
-    ensures looked { HasLooked W.act (W.world work.old) (W.world work.new) (W.faults work.old) (W.faults work.new) (W.running work.old) (W.running work.new) (IsErrOf result WorkFault.Failed) }
-    ensures told { OnOk result ((w : World) → W.world work.old ≡ Some w → IsFiled w
-        → Walked w.nodes folder.now front.now (λ q. contains_text found.old q) (λ q. contains_text found.new q)) }
+    ensures looked { HasLooked W.act (W.device work.old) (W.device work.new) (device_failed result) }
+    ensures told { OnOk result (WhereTold (W.device work.old) (λ w. IsFiled w
+        → Walked w.nodes folder.now front.now (λ q. contains_text found.old q) (λ q. contains_text found.new q))) }
 {
     let listing = work.list(alloc, folder)?;
     let names = listing.names.as_slice();
@@ -111,8 +112,8 @@ pub(crate) fn paths_in<W: Files>(
     folder: &Place,
 ) -> Result<BTreeSet<String>, WorkFault>
     requires own { IsTrue (is_under folder.now store_folder) }
-    ensures looked { HasLooked W.act (W.world work.old) (W.world work.new) (W.faults work.old) (W.faults work.new) (W.running work.old) (W.running work.new) (IsErrOf result WorkFault.Failed) }
-    ensures told { IfOk result (λ found. (w : World) → W.world work.old ≡ Some w → IsFiled w → HasAll w folder.now (λ q. contains_text found q)) }
+    ensures looked { HasLooked W.act (W.device work.old) (W.device work.new) (device_failed result) }
+    ensures told { IfOk result (λ found. WhereTold (W.device work.old) (λ w. IsFiled w → HasAll w folder.now (λ q. contains_text found q))) }
 {
     let mut found = BTreeSet::new(alloc);
     walk(alloc, work, &mut found, folder, "")?;

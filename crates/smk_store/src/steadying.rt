@@ -1,9 +1,9 @@
 //! Making firm what was loaded.
 
-ghost use Rattle.std.specs.Prelude.{◌≡◌, ◌≢◌, ◌++◌, ℕ, List as Items, length, map, IsOk, IfOk, OnOk, IfErr, IsErrOf, IsSome};
+ghost use Rattle.std.specs.Prelude.{◌≡◌, ◌≢◌, ◌++◌, ℕ, List as Items, length, map, IfOk, OnOk, IfErr};
 ghost use Rattle.std.specs.List.{flat_map};
-ghost use Rattle.smk_world.specs.Calls.{HasCause};
-ghost use Rattle.smk_world.specs.Runs.{Did};
+ghost use Rattle.smk_world.specs.Devices.{HasActed};
+ghost use Rattle.smk_store.specs.Faults.{store_failed};
 ghost use Rattle.smk_store.specs.Stores.{known};
 ghost use Rattle.smk_store.specs.Steadying.{HasTried, signs_of, all_signs, steady_requests};
 
@@ -57,12 +57,8 @@ fn signs_of(alloc: Global, store: &Store) -> Result<List<Place>, OutOfMemory>
 ///
 /// `Device`: that call failed. `OutOfMemory`: there is no memory for the places; then no call was made.
 pub fn steady<W: Files>(alloc: Global, work: &mut W, store: &Store) -> Result<(), StoreFault>
-    ensures did { Did W.act (W.world work.old) (W.world work.new) (λ w es. HasTried (steady_requests store.now) result es) }
-    ensures untouched { IfErr result (λ fault. fault ≢ StoreFault.Device → work.new ≡ work.old) }
-    ensures stays { IsOk result → IsSome (W.world work.old) → IsSome (W.world work.new) }
-    ensures device { HasCause (W.faults work.old) (W.faults work.new) (IsErrOf result StoreFault.Device) }
+    ensures acted { HasActed W.act (HasTried (steady_requests store.now) result) (W.device work.old) (W.device work.new) (store_failed result) }
     ensures no_stamp { IfErr result (λ fault. (p : Items ℕ) → fault ≢ StoreFault.StampSeen p) }
-    ensures running { W.running work.new ≡ W.running work.old }
 {
     let Ok(places) = signs_of(alloc, store) else {
         return Err(StoreFault::OutOfMemory);

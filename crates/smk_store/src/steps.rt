@@ -1,10 +1,8 @@
 //! What is made, written and removed of the engine's own files, each time firmly.
 
-ghost use Rattle.std.specs.Prelude.{◌≡◌, [], ◌∷◌, length, IsErr, IfOk, OnOk, IsSome, is_ok};
+ghost use Rattle.std.specs.Prelude.{◌≡◌, [], ◌∷◌, length, is_err};
 ghost use Rattle.smk_base.specs.Place.{lock_place};
-ghost use Rattle.smk_world.specs.Calls.{HasCause};
-ghost use Rattle.smk_world.specs.Runs.{Did};
-ghost use Rattle.smk_world.specs.Requests.{Carries};
+ghost use Rattle.smk_world.specs.Devices.{HasActed, HasCarried};
 ghost use Rattle.smk_store.specs.Steps.{AreUnused, HasLocked, make_each, remove_each, write_each, mark_requests, put_requests, drop_requests, unmark_requests, unlock_requests};
 
 use crate::JobPlaces;
@@ -13,10 +11,7 @@ use smk_world::{Failed, Files};
 
 // Makes each of the places that isn't there, its folders before it.
 fn make_each<W: Files>(work: &mut W, places: &[Place]) -> Result<(), Failed>
-    ensures did { Did W.act (W.world work.old) (W.world work.new) (λ w es. Carries (make_each places.now) (is_ok result) es) }
-    ensures stays { OnOk result (IsSome (W.world work.old) → IsSome (W.world work.new)) }
-    ensures cause { HasCause (W.faults work.old) (W.faults work.new) (IsErr result) }
-    ensures running { W.running work.new ≡ W.running work.old }
+    ensures { HasCarried W.act (make_each places.now) (W.device work.old) (W.device work.new) (is_err result) }
 {
     for place in places {
         work.make_parents(place)?;
@@ -27,11 +22,8 @@ fn make_each<W: Files>(work: &mut W, places: &[Place]) -> Result<(), Failed>
 
 // Removes each of the places.
 pub(crate) fn remove_each<W: Files>(work: &mut W, places: &[Place]) -> Result<(), Failed>
-    requires unused { AreUnused (W.world work.old) places.now }
-    ensures did { Did W.act (W.world work.old) (W.world work.new) (λ w es. Carries (remove_each places.now) (is_ok result) es) }
-    ensures stays { OnOk result (IsSome (W.world work.old) → IsSome (W.world work.new)) }
-    ensures cause { HasCause (W.faults work.old) (W.faults work.new) (IsErr result) }
-    ensures running { W.running work.new ≡ W.running work.old }
+    requires unused { AreUnused (W.device work.old) places.now }
+    ensures { HasCarried W.act (remove_each places.now) (W.device work.old) (W.device work.new) (is_err result) }
 {
     for place in places {
         work.remove(place)?;
@@ -42,11 +34,8 @@ pub(crate) fn remove_each<W: Files>(work: &mut W, places: &[Place]) -> Result<()
 // Writes each of the places, its folders made before it.
 fn write_each<W: Files>(work: &mut W, places: &[Place], bytes: &[Bytes]) -> Result<(), Failed>
     requires each { length bytes.now ≡ length places.now }
-    requires unused { AreUnused (W.world work.old) places.now }
-    ensures did { Did W.act (W.world work.old) (W.world work.new) (λ w es. Carries (write_each places.now bytes.now) (is_ok result) es) }
-    ensures stays { OnOk result (IsSome (W.world work.old) → IsSome (W.world work.new)) }
-    ensures cause { HasCause (W.faults work.old) (W.faults work.new) (IsErr result) }
-    ensures running { W.running work.new ≡ W.running work.old }
+    requires unused { AreUnused (W.device work.old) places.now }
+    ensures { HasCarried W.act (write_each places.now bytes.now) (W.device work.old) (W.device work.new) (is_err result) }
 {
     for (i, place) in places.iter().enumerate() {
         work.make_parents(place)?;
@@ -59,10 +48,7 @@ fn write_each<W: Files>(work: &mut W, places: &[Place], bytes: &[Bytes]) -> Resu
 ///
 /// `Failed`: one of these calls failed, and none came after it.
 pub fn mark<W: Files>(work: &mut W, places: &JobPlaces) -> Result<(), Failed>
-    ensures did { Did W.act (W.world work.old) (W.world work.new) (λ w es. Carries (mark_requests places.now) (is_ok result) es) }
-    ensures stays { OnOk result (IsSome (W.world work.old) → IsSome (W.world work.new)) }
-    ensures cause { HasCause (W.faults work.old) (W.faults work.new) (IsErr result) }
-    ensures running { W.running work.new ≡ W.running work.old }
+    ensures { HasCarried W.act (mark_requests places.now) (W.device work.old) (W.device work.new) (is_err result) }
 {
     make_each(work, places.marking.as_slice())?;
     work.settle(&places.marking)
@@ -77,11 +63,8 @@ pub fn put_records<W: Files>(
     bytes: &List<Bytes>,
 ) -> Result<(), Failed>
     requires each { length bytes.now ≡ length places.now.records }
-    requires unused { AreUnused (W.world work.old) places.now.records }
-    ensures did { Did W.act (W.world work.old) (W.world work.new) (λ w es. Carries (put_requests places.now bytes.now) (is_ok result) es) }
-    ensures stays { OnOk result (IsSome (W.world work.old) → IsSome (W.world work.new)) }
-    ensures cause { HasCause (W.faults work.old) (W.faults work.new) (IsErr result) }
-    ensures running { W.running work.new ≡ W.running work.old }
+    requires unused { AreUnused (W.device work.old) places.now.records }
+    ensures { HasCarried W.act (put_requests places.now bytes.now) (W.device work.old) (W.device work.new) (is_err result) }
 {
     write_each(work, places.records.as_slice(), bytes.as_slice())?;
     work.settle(&places.records)
@@ -91,11 +74,8 @@ pub fn put_records<W: Files>(
 ///
 /// `Failed`: one of these calls failed, and none came after it.
 pub fn drop_records<W: Files>(work: &mut W, places: &JobPlaces) -> Result<(), Failed>
-    requires unused { AreUnused (W.world work.old) places.now.records }
-    ensures did { Did W.act (W.world work.old) (W.world work.new) (λ w es. Carries (drop_requests places.now) (is_ok result) es) }
-    ensures stays { OnOk result (IsSome (W.world work.old) → IsSome (W.world work.new)) }
-    ensures cause { HasCause (W.faults work.old) (W.faults work.new) (IsErr result) }
-    ensures running { W.running work.new ≡ W.running work.old }
+    requires unused { AreUnused (W.device work.old) places.now.records }
+    ensures { HasCarried W.act (drop_requests places.now) (W.device work.old) (W.device work.new) (is_err result) }
 {
     remove_each(work, places.records.as_slice())?;
     work.settle(&places.dropping)
@@ -105,11 +85,8 @@ pub fn drop_records<W: Files>(work: &mut W, places: &JobPlaces) -> Result<(), Fa
 ///
 /// `Failed`: one of these calls failed, and none came after it.
 pub fn unmark<W: Files>(work: &mut W, places: &JobPlaces) -> Result<(), Failed>
-    requires unused { AreUnused (W.world work.old) places.now.marks }
-    ensures did { Did W.act (W.world work.old) (W.world work.new) (λ w es. Carries (unmark_requests places.now) (is_ok result) es) }
-    ensures stays { OnOk result (IsSome (W.world work.old) → IsSome (W.world work.new)) }
-    ensures cause { HasCause (W.faults work.old) (W.faults work.new) (IsErr result) }
-    ensures running { W.running work.new ≡ W.running work.old }
+    requires unused { AreUnused (W.device work.old) places.now.marks }
+    ensures { HasCarried W.act (unmark_requests places.now) (W.device work.old) (W.device work.new) (is_err result) }
 {
     remove_each(work, places.marks.as_slice())?;
     work.settle(&places.marks)
@@ -120,11 +97,8 @@ pub fn unmark<W: Files>(work: &mut W, places: &JobPlaces) -> Result<(), Failed>
 /// `Failed`: one of these calls failed, and none came after it.
 pub fn unlock<W: Files>(work: &mut W, place: &List<Place>) -> Result<(), Failed>
     requires lock { place.now ≡ lock_place ∷ [] }
-    requires unused { AreUnused (W.world work.old) place.now }
-    ensures did { Did W.act (W.world work.old) (W.world work.new) (λ w es. Carries (unlock_requests place.now) (is_ok result) es) }
-    ensures stays { OnOk result (IsSome (W.world work.old) → IsSome (W.world work.new)) }
-    ensures cause { HasCause (W.faults work.old) (W.faults work.new) (IsErr result) }
-    ensures running { W.running work.new ≡ W.running work.old }
+    requires unused { AreUnused (W.device work.old) place.now }
+    ensures { HasCarried W.act (unlock_requests place.now) (W.device work.old) (W.device work.new) (is_err result) }
 {
     remove_each(work, place.as_slice())?;
     work.settle(place)
@@ -135,10 +109,7 @@ pub fn unlock<W: Files>(work: &mut W, place: &List<Place>) -> Result<(), Failed>
 /// `Failed`: one of these calls failed, and none came after it.
 pub fn lock<W: Files>(work: &mut W, place: &List<Place>) -> Result<bool, Failed>
     requires lock { place.now ≡ lock_place ∷ [] }
-    ensures did { Did W.act (W.world work.old) (W.world work.new) (λ w es. HasLocked result es) }
-    ensures stays { IfOk result (λ made. IsSome (W.world work.old) → IsSome (W.world work.new)) }
-    ensures cause { HasCause (W.faults work.old) (W.faults work.new) (IsErr result) }
-    ensures running { W.running work.new ≡ W.running work.old }
+    ensures { HasActed W.act (HasLocked result) (W.device work.old) (W.device work.new) (is_err result) }
 {
     let lock = &place.as_slice()[0];
     work.make_parents(lock)?;

@@ -1,13 +1,12 @@
 -- How what is under a folder is looked for.
-use Rattle.std.specs.Prelude.{◌≡◌, Bool, true, false, List, [], ◌∷◌, ◌++◌, Result, Ok, Err}
+use Rattle.std.specs.Prelude.{◌≡◌, Bool, true, false, List, [], ◌∷◌, ◌++◌}
 use Rattle.smk_base.specs.Path.{is_at_or_under}
 use Rattle.smk_world.specs.declared.event.Event.{Event}
-use Rattle.smk_world.specs.declared.event.WorkFault.{WorkFault}
-use Rattle.smk_world.specs.declared.event.WorkFault.TheVariants.{Failed, OutOfMemory}
 use Rattle.smk_world.specs.Calls.{failed}
+use Rattle.smk_world.specs.Devices.{Device, HasActed}
 use Rattle.smk_world.specs.Requests.{Request, request, AreQuiet}
 use Rattle.smk_world.specs.Requests.Request.{ListFolder}
-use Rattle.smk_world.specs.Trees.{Path, Each}
+use Rattle.smk_world.specs.Trees.{Path, Act, Each}
 
 -- a folder at or under p is listed
 abbrev pub IsListingIn : Path → Request → Type 0
@@ -23,8 +22,6 @@ abbrev pub AreListings : Path → Bool → List Event → Type 0
 AreListings p false es = Each (λ (e : Event). IsListingIn p (request e.call)) es × AreQuiet es
 AreListings p true es = Each (λ (e : Event). IsListingIn p (request e.call)) es × EndsFailed es
 
--- the device failed
-abbrev pub is_device : {T : Type 0} → Result T WorkFault → Bool
-is_device (Ok t) = false
-is_device (Err Failed) = true
-is_device (Err OutOfMemory) = false
+-- Folders at or under p were listed, and nothing else happened.
+pub record HasListings (act : Act) (p : Path) (old new : Device) (failure : Bool) : Type 0 where
+  pub acted : HasActed act (λ w es. AreListings p failure es) old new failure

@@ -1,12 +1,11 @@
 //! What is under a directory output.
 
-ghost use Rattle.std.specs.Prelude.{◌≡◌, ◌≤◌, ◌<◌, ◌+◌, ◌++◌, ◌∷◌, [], string_bytes, Some, IfOk, OnOk, IsErrOf, IsTrue, length, map, drop};
+ghost use Rattle.std.specs.Prelude.{◌≡◌, ◌≤◌, ◌<◌, ◌+◌, ◌++◌, ◌∷◌, [], string_bytes, IfOk, OnOk, IsTrue, length, map, drop};
 ghost use Rattle.smk_base.specs.Path.{is_at_or_under};
-ghost use Rattle.smk_world.specs.World.{World};
-ghost use Rattle.smk_world.specs.Runs.{Did};
-ghost use Rattle.smk_store.specs.Walking.{HasLooked};
+ghost use Rattle.smk_world.specs.Calls.{device_failed};
+ghost use Rattle.smk_world.specs.Devices.{WhereTold};
 ghost use Rattle.smk_store_members.specs.Members.{IsOpenFolder, IsListed, HasNoMembers, member_places};
-ghost use Rattle.smk_store_members.specs.Walks.{AreListings, is_device};
+ghost use Rattle.smk_store_members.specs.Walks.{HasListings};
 ghost use Rattle.smk_store_members.specs.Steps.{AreKept, AreAdded, IsListedIn, IsWalk, HasGoneOn, Either};
 
 use crate::found::{Walk, add, in_order, nothing};
@@ -57,10 +56,9 @@ fn look_in<W: Files>(
     requires kept { AreKept walk.old.found walk.old.names walk.old.folders }
     requires inside { IsTrue (is_at_or_under folder.now path.now) }
     ensures kept { OnOk result (AreKept walk.new.found walk.new.names walk.new.folders) }
-    ensures looked { HasLooked W.act (W.world work.old) (W.world work.new) (W.faults work.old) (W.faults work.new) (W.running work.old) (W.running work.new) (IsErrOf result WorkFault.Failed) }
-    ensures listings { Did W.act (W.world work.old) (W.world work.new) (λ w es. AreListings path.now (is_device result) es) }
-    ensures told { IfOk result (λ good. (w : World) → W.world work.old ≡ Some w → IsOpenFolder w.nodes path.now
-        → IsListedIn w.nodes path.now front.now folder.now walk.old.found walk.new.found good) }
+    ensures listings { HasListings W.act path.now (W.device work.old) (W.device work.new) (device_failed result) }
+    ensures told { IfOk result (λ good. WhereTold (W.device work.old) (λ w. IsOpenFolder w.nodes path.now
+        → IsListedIn w.nodes path.now front.now folder.now walk.old.found walk.new.found good)) }
 {
     let listing = work.list(alloc, folder)?;
     if listing.strange {
@@ -81,11 +79,10 @@ fn look_at<W: Files>(
     requires kept { AreKept walk.old.found walk.old.names walk.old.folders }
     requires within { at < length walk.old.found }
     ensures kept { OnOk result (AreKept walk.new.found walk.new.names walk.new.folders) }
-    ensures looked { HasLooked W.act (W.world work.old) (W.world work.new) (W.faults work.old) (W.faults work.new) (W.running work.old) (W.running work.new) (IsErrOf result WorkFault.Failed) }
-    ensures listings { Did W.act (W.world work.old) (W.world work.new) (λ w es. AreListings path.now (is_device result) es) }
-    ensures told { IfOk result (λ good. (w : World) → W.world work.old ≡ Some w → IsOpenFolder w.nodes path.now
+    ensures listings { HasListings W.act path.now (W.device work.old) (W.device work.new) (device_failed result) }
+    ensures told { IfOk result (λ good. WhereTold (W.device work.old) (λ w. IsOpenFolder w.nodes path.now
         → IsWalk w.nodes path.now walk.old.found (member_places path.now (drop at walk.old.found))
-        → Either good (IsWalk w.nodes path.now walk.new.found (member_places path.now (drop (at + 1) walk.new.found))) (HasNoMembers w.nodes path.now)) }
+        → Either good (IsWalk w.nodes path.now walk.new.found (member_places path.now (drop (at + 1) walk.new.found))) (HasNoMembers w.nodes path.now))) }
 {
     let member = &walk.found.as_slice()[at];
     if !member.folder {
@@ -106,10 +103,9 @@ fn walk_all<W: Files>(
     requires kept { AreKept walk.old.found walk.old.names walk.old.folders }
     requires none { walk.old.found ≡ [] }
     ensures kept { OnOk result (AreKept walk.new.found walk.new.names walk.new.folders) }
-    ensures looked { HasLooked W.act (W.world work.old) (W.world work.new) (W.faults work.old) (W.faults work.new) (W.running work.old) (W.running work.new) (IsErrOf result WorkFault.Failed) }
-    ensures listings { Did W.act (W.world work.old) (W.world work.new) (λ w es. AreListings folder.now (is_device result) es) }
-    ensures told { IfOk result (λ good. (w : World) → W.world work.old ≡ Some w → IsOpenFolder w.nodes folder.now
-        → Either good (IsWalk w.nodes folder.now walk.new.found []) (HasNoMembers w.nodes folder.now)) }
+    ensures listings { HasListings W.act folder.now (W.device work.old) (W.device work.new) (device_failed result) }
+    ensures told { IfOk result (λ good. WhereTold (W.device work.old) (λ w. IsOpenFolder w.nodes folder.now
+        → Either good (IsWalk w.nodes folder.now walk.new.found []) (HasNoMembers w.nodes folder.now))) }
 {
     let top = Place::user(alloc, folder)?;
     if !look_in(alloc, work, walk, folder, &top, "")? {
@@ -136,9 +132,8 @@ pub fn members_of<W: Files>(
     work: &mut W,
     folder: &PathText,
 ) -> Result<Listed, WorkFault>
-    ensures looked { HasLooked W.act (W.world work.old) (W.world work.new) (W.faults work.old) (W.faults work.new) (W.running work.old) (W.running work.new) (IsErrOf result WorkFault.Failed) }
-    ensures listings { Did W.act (W.world work.old) (W.world work.new) (λ w es. AreListings folder.now (is_device result) es) }
-    ensures told { IfOk result (λ listed. (w : World) → W.world work.old ≡ Some w → IsOpenFolder w.nodes folder.now → IsListed w.nodes folder.now listed) }
+    ensures listings { HasListings W.act folder.now (W.device work.old) (W.device work.new) (device_failed result) }
+    ensures told { IfOk result (λ listed. WhereTold (W.device work.old) (λ w. IsOpenFolder w.nodes folder.now → IsListed w.nodes folder.now listed)) }
 {
     let mut walk = nothing(alloc);
     if !walk_all(alloc, work, &mut walk, folder)? {

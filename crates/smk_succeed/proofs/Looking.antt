@@ -84,7 +84,7 @@ never_gone act made ps w es p none files follows part (before, e, is, (stat, cal
     let calls = part_each (Spares true p) (looks made ps) (before ++ e ∷ []) (spares_looks p made ps) parts in
     let same : (run w before).nodes p ≡ w.nodes p =
     run_kept true p w before (first_calls before calls) (subst (AreAside p) (sym none) tt) in
-    let lets = (follows_split act w before (e ∷ []) (subst (Follows act w) is follows)).1.0 in
+    let lets = (follows_split act w before (e ∷ []) (subst (Follows act w) is follows)).1.0.lets in
     let seen = (subst (λ (c : Call). Lets act (run w before) c e.left) call lets).1 in
     true≢false (sym (file_seen ((run w before).nodes p) stat (ap reads_file same ∙ file) seen) ∙ no_file)
   where
@@ -94,6 +94,6 @@ never_gone act made ps w es p none files follows part (before, e, is, (stat, cal
 
 pub inputs_are_found : InputsAreFound
 inputs_are_found act made t w es p none files follows is course looked =
-    let stamped : HasStamped made (in_paths t.job.recipe) t.looked es = subst (λ (c : Course). IsTurnBy made t c w es) course is in
-    let gone = subst (λ (r : Result (List Stamp) Stop). HasStamped made (in_paths t.job.recipe) r es) looked stamped in
+    let stamped : HasStamped made (in_paths t.job.recipe) t.looked w es = subst (λ (c : Course). IsTurnBy made t c w es) course is in
+    let gone = subst (λ (r : Result (List Stamp) Stop). HasStamped made (in_paths t.job.recipe) r w es) looked stamped in
     never_gone act made (in_paths t.job.recipe) w es p none files follows gone.0 gone.1

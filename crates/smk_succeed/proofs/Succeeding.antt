@@ -201,7 +201,7 @@ closed_well act made t trees w es ending can may apart contents follows told h =
     let f2 = follows_split act (run w h.seen) b.first (wait ∷ c.rest) f1.1 in
     let t1 = told_split act w h.seen (b.first ++ (wait ∷ c.rest)) (subst (AreGiven act ⊥ w) events told) in
     let t2 = told_split act (run w h.seen) b.first (wait ∷ c.rest) t1.1 in
-    let well = ended_so act made t trees w h.seen b.first b.number c.ended c.left can may apart contents f2.1.0 t2.1.0 h.stamped b.begun b.started in
+    let well = ended_so act made t trees w h.seen b.first b.number c.ended c.left can may apart contents f2.1.0.lets t2.1.0 h.stamped b.begun b.started in
     good_ending t b.number ending c.ended.status (after u wait) c.rest well c.then_did
 
 by_course :

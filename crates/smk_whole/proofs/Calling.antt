@@ -1,7 +1,6 @@
 -- What a call tells where each target has a clean value.
 use Rattle.std.proofs.Common.{◌≡◌, ◌⊎◌, inl, inr, ℕ, Bool, true, false, List, refl, sym, subst, Option, Some, None, Ok, Err, Result, option_map}
 use Rattle.smk_world.specs.World.{World}
-use Rattle.smk_world.specs.Calls.{Rose}
 use Rattle.smk_world.specs.Trees.{Act}
 use Rattle.smk_pattern.specs.Shapes.{Text}
 use Rattle.smk_record.specs.declared.record.Record.{Record}
@@ -14,7 +13,7 @@ use Rattle.smk_cli_entry.specs.Forms.{not_built, unbuilt}
 use Rattle.smk_serve.specs.Serving.{HasListed, Went}
 use Rattle.smk_serve.specs.Serving.Went.{Refused, Stopped, Worked}
 use Rattle.smk_serve.specs.Serving.HasListed.{Listed, NotListed}
-use Rattle.smk_cli.specs.Faults.{fault_of}
+use Rattle.smk_serve.specs.Ends.{fault_of}
 use Rattle.smk_cli.specs.Lines.{IsOutcome}
 use Rattle.smk_cli.specs.Whole.{IsRefusal, IsToServe, OfPlan, OfWorkflow}
 use Rattle.smk_succeed.specs.Completing.{NoMemory as OfMemory}
@@ -60,15 +59,15 @@ refused_tells act read run targets cores w H f clean alone (OfPlan asked is refu
     (refused_plans_may_stop act read asked cores w H f (record { sound = clean.sound; alone = alone asked is; values = clean.values asked is }) refused)
 
 pub call_is_complete : CallIsComplete
-call_is_complete act read words w v H told faults_old faults_new running put_old put_new clean never served =
+call_is_complete act read words w v H told old new out_old out_new at end clean never served =
     told_of read true words.targets words.cores w served.answer told (go served.serves) served.told_is
   where
     alone : (asked : Asked) → IsAskedIn true words.targets w.nodes (Ok asked) → GathersAlone asked.flow
     alone asked is = built_flows_gather_alone asked.flow (asked_built words.targets w.nodes asked is)
 
     go :
-        Went act words.cores served.answer (IsRefusal read true words.targets words.cores w) (IsToServe read true words.targets words.cores w) (Some w) (Some v)
-        (Rose faults_old faults_new) running put_old put_new → MayTell read true words.targets words.cores w (fault_of served.answer)
+        Went act words.cores served.answer (IsRefusal read true words.targets words.cores w) (IsToServe read true words.targets words.cores w) old new out_old out_new →
+        MayTell read true words.targets words.cores w (fault_of served.answer)
     go (Refused f e refused kept) =
         subst (λ r. MayTell read true words.targets words.cores w (fault_of r)) (sym e) (refused_tells act read true words.targets words.cores w H f clean alone refused)
     go (Stopped f e want kept) =
@@ -76,16 +75,16 @@ call_is_complete act read words w v H told faults_old faults_new running put_old
     go (Worked asked told planned worked) =
         let is = planned.is_asked in
         ended read true words.targets words.cores w served.answer
-        (work_is_complete act read asked told words.cores w v H served.answer faults_old faults_new running put_old put_new
+        (work_is_complete act read asked told words.cores w v H served.answer old new out_old out_new at end
         (record { sound = clean.sound; alone = alone asked is; values = clean.values asked is }) planned.plan
         (λ plan last. built_plans_are_plain asked.flow _ _ _ _ plan (asked_built words.targets w.nodes asked is) last) never worked)
 
 pub listing_is_complete : ListingIsComplete
-listing_is_complete act read words w H told old new faults_old faults_new running put_old put_new clean alone served =
+listing_is_complete act read words w H told old new out_old out_new clean alone served =
     told_of read false words.targets 1 w served.answer told (go served.answer served.serves.1) served.told_is
   where
     go :
-        (r : Result (Unit {0}) Fault) → HasListed (IsRefusal read false words.targets 1 w) (IsToServe read false words.targets 1 w) put_old put_new r →
+        (r : Result (Unit {0}) Fault) → HasListed (IsRefusal read false words.targets 1 w) (IsToServe read false words.targets 1 w) out_old out_new r →
         MayTell read false words.targets 1 w (fault_of r)
     go r (NotListed f refused unput) = refused_tells act read false words.targets 1 w H f clean alone refused
     go r (HasListed.Stopped f want unput) = BrokenOff f (want_stops f want)

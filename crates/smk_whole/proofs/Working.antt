@@ -2,9 +2,8 @@
 use Rattle.std.proofs.Common.{◌≡◌, ◌⊎◌, inl, inr, ℕ, Bool, true, false, List, [], ◌∷◌, ◌++◌, refl, ap, sym, subst, ◌∙◌, Option, Some, None, Ok, Err, Result, arith, is_none, true≢false}
 use Rattle.std.proofs.lemmas.Option.{same_Some}
 use Rattle.std.specs.Prelude.{nat_eq, Contains, if◌then◌else◌, ◌&&◌, ◌||◌}
-use Rattle.std.specs.List.{AllByRecursion, IsDistinct}
+use Rattle.std.specs.List.{IsDistinct}
 use Rattle.std.proofs.lemmas.List.{append-nil, append_assoc}
-use Rattle.std.proofs.lemmas.List.Elements.{recursion_from_All}
 use Rattle.smk_world.specs.declared.event.Call.{Call}
 use Rattle.smk_world.specs.declared.event.Call.TheVariants.{Looked, ReadFile, ReadFolder, Written, Created, Removed, MadeParents, Settled, Protected, Started, Waited}
 use Rattle.smk_world.specs.declared.event.Change.{Change}
@@ -15,19 +14,19 @@ use Rattle.smk_world.specs.declared.event.NodeState.{NodeState}
 use Rattle.smk_world.specs.declared.event.NodeState.TheVariants.{Owned, Known}
 use Rattle.smk_world.specs.World.{World, after, firm, is_above, is_within, node_after, numbers, reads_folder, run, reading}
 use Rattle.smk_world.specs.Calls.{HasOwners, HoldsBytes, Rose}
+use Rattle.smk_world.specs.Devices.{Device, Sunk, AreLooks, HasActed, HasLooked, is_look}
 use Rattle.smk_world.specs.Requests.{Request, HasDone, request}
 use Rattle.smk_world.specs.Requests.Request.{Settle}
-use Rattle.smk_world.specs.Runs.{Did, Follows}
+use Rattle.smk_world.specs.Runs.{Follows}
 use Rattle.smk_world.specs.Trees.{Path, Act}
+use Rattle.smk_world.proofs.Devices.{looks_nodes}
 use Rattle.smk_world.proofs.Owners.{AreNumbered, owned_run}
 use Rattle.smk_record.specs.declared.record.Record.{Record}
-use Rattle.smk_pattern.specs.Shapes.{Text}
 use Rattle.smk_format.specs.Commands.{missing}
 use Rattle.smk_store.specs.Images.{seen}
 use Rattle.smk_store.specs.Serials.{next_serial}
 use Rattle.smk_store.specs.Trust.{Versions}
 use Rattle.smk_plan.specs.States.{Plan, LastPlan, nothing_done}
-use Rattle.smk_store.specs.Loading.{AreLooks, is_look}
 use Rattle.smk_laws_history.proofs.CurrentComplete.{seen_is_complete}
 use Rattle.smk_laws_history.proofs.Valid.{records_valid}
 use Rattle.smk_job.proofs.Children.{is_crew}
@@ -39,6 +38,7 @@ use Rattle.smk_plan.specs.Duties.{AreFor}
 use Rattle.smk_run.specs.Duties.{serials}
 use Rattle.smk_run.specs.Statuses.{AreGiven, IsGiven}
 use Rattle.smk_run.proofs.Calls.{EachCall}
+use Rattle.smk_run.proofs.Rising.{rose_earlier}
 use Rattle.smk_run.proofs.Telling.{files_children}
 use Rattle.smk_laws_complete.proofs.Stops.{clean_targets_are_planned}
 use Rattle.smk_plan_preview.specs.declared.previewing.Previewed.{Previewed}
@@ -49,8 +49,9 @@ use Rattle.smk_make.specs.Closing.{verdict_of}
 use Rattle.smk_make.specs.Faults.{of_store}
 use Rattle.smk_store.specs.declared.fault.StoreFault.{StoreFault}
 use Rattle.smk_store.specs.declared.fault.StoreFault.TheVariants as store
+use Rattle.smk_store.specs.Faults.{store_failed}
 use Rattle.smk_store.specs.Steadying.{HasTried, all_signs, steady_requests}
-use Rattle.smk_serve.specs.Serving.{HasKept, HasListed, HasWorked, IsPlanFor, IsWant, settings_of}
+use Rattle.smk_serve.specs.Serving.{HasListed, HasWorked, IsPlanFor, IsWant, settings_of}
 use Rattle.smk_serve.specs.Serving.Went.{Refused, Stopped, Worked}
 use Rattle.smk_serve.specs.Serving.HasListed.{Listed, NotListed}
 use Rattle.smk_succeed.specs.Completing.{EndsWell, KeepsFiles, MayBreakOff, NoMemory as OfMemory, DeviceFailed, SinkFailed}
@@ -158,17 +159,15 @@ look_quiet (Protected p r) h = refl
 look_quiet (Started recipe logs command r) h = absurd (true≢false (sym h))
 look_quiet (Waited r) h = absurd (true≢false (sym h))
 
-looks_quiet : (es : List Event) → AreLooks es → EachCall (λ (r : Request). is_crew r ≡ false) es
-looks_quiet es h = go es (recursion_from_All (λ (e : Event). is_look e.call ≡ true) es h)
-  where
-    go : (es : List Event) → AllByRecursion (λ (e : Event). is_look e.call ≡ true) es → EachCall (λ (r : Request). is_crew r ≡ false) es
-    go [] k = tt
-    go (e ∷ es) k = (look_quiet e.call k.0, go es k.1)
+looks_quiet : (es : List Event) → AreLooks false es → EachCall (λ (r : Request). is_crew r ≡ false) es
+looks_quiet [] h = tt
+looks_quiet (e ∷ []) h = (look_quiet e.call h.0, tt)
+looks_quiet (e ∷ (f ∷ es)) h = (look_quiet e.call h.0, looks_quiet (f ∷ es) h.2)
 
-after_looks : (act : Act) (w x : World) (es : List Event) → w.children ≡ [] → HasOwners w → Follows act w es → AreLooks es → x ≡ run w es → x.nodes ≡ w.nodes → StandsStill w x
-after_looks act w x es none owners follows looks is nodes =
+after_looks : (act : Act) (w x : World) (es : List Event) → w.children ≡ [] → HasOwners w → Follows act w es → AreLooks false es → x ≡ run w es → StandsStill w x
+after_looks act w x es none owners follows looks is =
     record {
-      files = λ p bytes h. subst (λ (n : Path → NodeState). HoldsBytes bytes (n p)) (sym nodes) h;
+      files = λ p bytes h. subst (λ (n : Path → NodeState). HoldsBytes bytes (n p)) (sym (ap (λ (v : World). v.nodes) is ∙ looks_nodes false w es looks)) h;
       none_runs = ap (λ (v : World). v.children) is ∙ (files_children w es (looks_quiet es looks) ∙ none);
       owners = subst HasOwners (sym is) (owned_run act w es follows (idle_numbered w none) owners);
     }
@@ -192,10 +191,10 @@ still_then w x y a b = record { files = λ p bytes h. b.files p bytes (a.files p
 broke_off : (f : Fault) → MayBreakOff f → (result : Result (Unit {0}) Fault) → result ≡ Err f → EndsComplete result
 broke_off f may result e = subst EndsComplete (sym e) may
 
-store_stops : (f : StoreFault) (requests : List Request) (es : List Event) → HasTried requests (Err f) es → MayBreakOff (of_store f)
-store_stops (store.StampSeen p) requests es h = absurd h
-store_stops store.Device requests es h = DeviceFailed
-store_stops store.OutOfMemory requests es h = OfMemory
+store_stops : (f : StoreFault) (requests : List Request) (x : World) (es : List Event) → HasTried requests (Err f) x es → MayBreakOff (of_store f)
+store_stops (store.StampSeen p) requests x es h = absurd h
+store_stops store.Device requests x es h = DeviceFailed
+store_stops store.OutOfMemory requests x es h = OfMemory
 
 concluded : (ended : Result Tally Fault) (result : Result (Unit {0}) Fault) → EndsWell ended → Concludes ended result → EndsComplete result
 concluded (Err f) result may e = broke_off f may result e
@@ -205,38 +204,36 @@ concluded (Ok tally) result none (inr (f, e, inr memory)) = broke_off f (subst M
 
 module _
     (act : Act) (read : List ℕ → Option Record) (asked : Asked) (told : Previewed) (cores : ℕ) (w v : World) (H : Versions) (result : Result (Unit {0}) Fault)
-    (faults_old faults_new : ℕ) (running : List ℕ) (put_old put_new : Option Text)
+    (old looked steady new : Device) (out_old out_new : Sunk) (at : old.world ≡ Some w) (end : new.world ≡ Some v)
     (clean : IsCleanAsked act read asked w H) (planned : IsPlanFor read asked cores w told)
     (plain : (plan : Plan) → LastPlan asked.flow (seen read w) (settings_of asked cores) nothing_done [] plan → IsPlainPlan plan)
-    (never : Rose faults_old faults_new → ⊥) (looked steady : Option World) (looking : HasKept act (Some w) looked) where
-  abbrev rose : Type 0
-  rose = Rose faults_old faults_new
-
+    (never : Rose old.faults new.faults → ⊥) (looking : HasLooked act old looked false) where
   abbrev Settling : Result (Unit {0}) StoreFault → Type 0
-  Settling settled = Did act looked steady (λ x es. HasTried (steady_requests told.store) settled es)
+  Settling settled = HasActed act (HasTried (steady_requests told.store) settled) looked steady (store_failed settled)
 
   -- the world at the start of the turns
-  started : (y : World) → steady ≡ Some y → (u : Unit {0}) → Settling (Ok u) → StandsStill w y
+  started : (y : World) → steady.world ≡ Some y → (u : Unit {0}) → Settling (Ok u) → StandsStill w y
   started y e u settling =
-      let s = settling y e in
-      let l = looking.looks s.0 s.1 in
-      let same : l.0 ≡ w = sym (same_Some w l.0 l.1) in
+      let s = settling.did y e in
+      let l = looking.acted.did s.0 s.1 in
+      let same : l.0 ≡ w = same_Some l.0 w (sym l.1 ∙ at) in
       let one : StandsStill w s.0 =
-      after_looks act w s.0 l.2.0 clean.sound.no_child clean.sound.owners (subst (λ x. Follows act x l.2.0) same l.2.1) l.2.2 (subst (λ x. s.0 ≡ run x l.2.0) same l.2.3)
-      (looking.same w s.0 refl s.1) in
+      after_looks act w s.0 l.2.0 clean.sound.no_child clean.sound.owners (subst (λ x. Follows act x l.2.0) same l.2.1) l.2.2 (subst (λ x. s.0 ≡ run x l.2.0) same l.2.3) in
       still_then w s.0 y one (after_settling act s.0 y (all_signs told.store) s.2.0 one.none_runs one.owners s.2.1 s.2.2 s.2.3)
 
   ran :
       (duties : List Duty) → AreFor told.plan.states duties → (u : Unit {0}) → Settling (Ok u) →
-      HasMade act asked.flow cores asked.targets told.jobs (next_serial told.store) duties result steady (Some v) rose running put_old put_new → EndsComplete result
+      HasMade act asked.flow cores asked.targets told.jobs (next_serial told.store) duties result steady new out_old out_new → EndsComplete result
   ran duties fit u settling made =
-      let d = made.did v refl in
-      let g = made.given v refl in
+      let d = made.ran.did v end in
+      let g = made.given v end in
       let y = d.0 in
       let same : g.0 ≡ y = same_Some g.0 y (sym g.1 ∙ d.1) in
       let events : g.2.0 ≡ d.2.0 = same_events y g.2.0 d.2.0 (subst (λ x. run x g.2.0 ≡ run y d.2.0) same (sym g.2.3 ∙ d.2.3)) in
       let given : AreGiven act ⊥ y d.2.0 =
-      given_none act rose y d.2.0 never (subst (AreGiven act rose y) events (subst (λ x. AreGiven act rose x g.2.0) same g.2.2)) in
+      given_none act (Rose steady.faults new.faults) y d.2.0
+      (λ rose. never (rose_earlier old.faults steady.faults new.faults (omega (arith, looking.acted.cause.later, settling.cause.later)) rose))
+      (subst (AreGiven act (Rose steady.faults new.faults) y) events (subst (λ x. AreGiven act (Rose steady.faults new.faults) x g.2.0) same g.2.2)) in
       let still = started y d.1 u settling in
       let ends =
       runs_are_complete asked.flow (record { read = read; act = act }) (λ j. is_none (missing j)) w y H (settings_of asked cores) (plan_of told) cores (next_serial told.store) duties made.turns
@@ -246,15 +243,15 @@ module _
 
   went_on :
       (settled : Result (Unit {0}) StoreFault) → Settling settled →
-      GoesOn act asked.flow cores asked.targets told.jobs told.plan.states told.store result steady (Some v) rose running put_old put_new settled → EndsComplete result
+      GoesOn act asked.flow cores asked.targets told.jobs told.plan.states told.store result steady new out_old out_new settled → EndsComplete result
   went_on settled settling (NotFirm f e same unput) =
-      let s = settling v (sym same) in broke_off (of_store f) (store_stops f (steady_requests told.store) s.2.0 s.2.2) result e
+      let s = settling.did v (ap (λ (d : Device). d.world) (sym same) ∙ end) in broke_off (of_store f) (store_stops f (steady_requests told.store) s.0 s.2.0 s.2.2) result e
   went_on settled settling (NoMemory u e same unput) = broke_off fault.OutOfMemory OfMemory result e
   went_on settled settling (Made u duties fit meant made) = ran duties fit u settling made
 
 pub work_is_complete : WorkIsComplete
-work_is_complete act read asked told cores w v H result faults_old faults_new running put_old put_new clean planned plain never worked =
-    went_on act read asked told cores w v H result faults_old faults_new running put_old put_new clean planned plain never worked.looked worked.carried.firm worked.looking
+work_is_complete act read asked told cores w v H result old new out_old out_new at end clean planned plain never worked =
+    went_on act read asked told cores w v H result old worked.looked worked.carried.firm new out_old out_new at end clean planned plain never worked.looking
     worked.carried.settled worked.carried.settling worked.carried.goes_on
 
 -- ## What is served
@@ -278,18 +275,18 @@ completes read asked cores w (Ok u) h = tt
 completes read asked cores w (Err f) h = inr h
 
 pub served_runs_are_complete : ServedRunsAreComplete
-served_runs_are_complete act read asked cores w v H result faults_old faults_new running put_old put_new clean plain never (Refused f e refused kept) =
+served_runs_are_complete act read asked cores w v H result old new out_old out_new at end clean plain never (Refused f e refused kept) =
     subst (IsCompleteAnswer read asked cores w) (sym e) (inl (refused_plans_may_stop act read asked cores w H f clean refused))
-served_runs_are_complete act read asked cores w v H result faults_old faults_new running put_old put_new clean plain never (Stopped f e want kept) =
+served_runs_are_complete act read asked cores w v H result old new out_old out_new at end clean plain never (Stopped f e want kept) =
     subst (IsCompleteAnswer read asked cores w) (sym e) (inr (want_stops f want))
-served_runs_are_complete act read asked cores w v H result faults_old faults_new running put_old put_new clean plain never (Worked served told (same, planned) worked) =
+served_runs_are_complete act read asked cores w v H result old new out_old out_new at end clean plain never (Worked served told (same, planned) worked) =
     completes read asked cores w result
-    (work_is_complete act read asked told cores w v H result faults_old faults_new running put_old put_new clean planned plain never
-    (subst (λ (a : Asked). HasWorked act cores result a told (Some w) (Some v) (Rose faults_old faults_new) running put_old put_new) same worked))
+    (work_is_complete act read asked told cores w v H result old new out_old out_new at end clean planned plain never
+    (subst (λ (a : Asked). HasWorked act cores result a told old new out_old out_new) same worked))
 
 pub served_listings_are_complete : ServedListingsAreComplete
-served_listings_are_complete act read asked cores w H result put_old put_new clean (NotListed f refused unput) =
+served_listings_are_complete act read asked cores w H result out_old out_new clean (NotListed f refused unput) =
     inl (refused_plans_may_stop act read asked cores w H f clean refused)
-served_listings_are_complete act read asked cores w H result put_old put_new clean (HasListed.Stopped f want unput) = inr (want_stops f want)
-served_listings_are_complete act read asked cores w H result put_old put_new clean (Listed served told r planned faults put) =
+served_listings_are_complete act read asked cores w H result out_old out_new clean (HasListed.Stopped f want unput) = inr (want_stops f want)
+served_listings_are_complete act read asked cores w H result out_old out_new clean (Listed served told r planned faults put) =
     completes read asked cores w r (listed_ends r faults)

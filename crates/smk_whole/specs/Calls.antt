@@ -1,7 +1,8 @@
 -- What a call may tell where each target has a clean value.
-use Rattle.std.specs.Prelude.{ℕ, Bool, true, false, List, Option, Some, None, Ok}
+use Rattle.std.specs.Prelude.{◌≡◌, ℕ, Bool, true, false, List, Option, Some, None, Ok}
 use Rattle.smk_world.specs.World.{World}
 use Rattle.smk_world.specs.Calls.{Rose}
+use Rattle.smk_world.specs.Devices.{Device, Sunk}
 use Rattle.smk_world.specs.Trees.{Act}
 use Rattle.smk_pattern.specs.Shapes.{Text}
 use Rattle.smk_record.specs.declared.record.Record.{Record}
@@ -42,17 +43,18 @@ pub data MayTell (read : List ℕ → Option Record) (run : Bool) (targets : Lis
 abbrev pub CallIsComplete : Type 0
 CallIsComplete =
     (act : Act) (read : List ℕ → Option Record) (words : RunWords) (w v : World) (H : Versions) (told : Option Fault)
-    (faults_old faults_new : ℕ) (running : List ℕ) (put_old put_new : Option Text) →
+    (old new : Device) (out_old out_new : Sunk) →
+    old.world ≡ Some w →
+    new.world ≡ Some v →
     IsCleanCall act read true words.targets w H →
-    (Rose faults_old faults_new → ⊥) →
-    HasServed act read (Run words) w told (Some w) (Some v) (Rose faults_old faults_new) running put_old put_new →
-    MayTell read true words.targets words.cores w told
+    (Rose old.faults new.faults → ⊥) →
+    HasServed act read (Run words) w told old new out_old out_new → MayTell read true words.targets words.cores w told
 
 -- Nor does a call for a listing, of a workflow in which an item that gathers has no texts besides.
 abbrev pub ListingIsComplete : Type 0
 ListingIsComplete =
-    (act : Act) (read : List ℕ → Option Record) (words : RunWords) (w : World) (H : Versions) (told : Option Fault) (old new : Option World)
-    (faults_old faults_new : ℕ) (running : List ℕ) (put_old put_new : Option Text) →
+    (act : Act) (read : List ℕ → Option Record) (words : RunWords) (w : World) (H : Versions) (told : Option Fault)
+    (old new : Device) (out_old out_new : Sunk) →
     IsCleanCall act read false words.targets w H →
     ((asked : Asked) → IsAskedIn false words.targets w.nodes (Ok asked) → GathersAlone asked.flow) →
-    HasServed act read (Preview words) w told old new (Rose faults_old faults_new) running put_old put_new → MayTell read false words.targets 1 w told
+    HasServed act read (Preview words) w told old new out_old out_new → MayTell read false words.targets 1 w told

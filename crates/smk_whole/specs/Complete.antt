@@ -1,9 +1,9 @@
 -- How a call ends where each target has a clean value.
-use Rattle.std.specs.Prelude.{◌⊎◌, ℕ, List, [], Option, Some, Result, Ok, Err, is_none}
+use Rattle.std.specs.Prelude.{◌≡◌, ◌⊎◌, ℕ, List, [], Option, Some, Result, Ok, Err, is_none}
 use Rattle.smk_world.specs.World.{World}
 use Rattle.smk_world.specs.Calls.{Rose}
+use Rattle.smk_world.specs.Devices.{Device, Sunk}
 use Rattle.smk_world.specs.Trees.{Act}
-use Rattle.smk_pattern.specs.Shapes.{Text}
 use Rattle.smk_format.specs.Commands.{missing}
 use Rattle.smk_record.specs.declared.record.Record.{Record}
 use Rattle.smk_store.specs.Images.{seen}
@@ -48,12 +48,13 @@ EndsComplete (Err f) = MayBreakOff f
 abbrev pub WorkIsComplete : Type 0
 WorkIsComplete =
     (act : Act) (read : List ℕ → Option Record) (asked : Asked) (told : Previewed) (cores : ℕ) (w v : World) (H : Versions) (result : Result (Unit {0}) Fault)
-    (faults_old faults_new : ℕ) (running : List ℕ) (put_old put_new : Option Text) →
+    (old new : Device) (out_old out_new : Sunk) →
+    old.world ≡ Some w →
+    new.world ≡ Some v →
     IsCleanAsked act read asked w H →
     IsPlanFor read asked cores w told →
     ((plan : Plan) → LastPlan asked.flow (seen read w) (settings_of asked cores) nothing_done [] plan → IsPlainPlan plan) →
-    (Rose faults_old faults_new → ⊥) →
-    HasWorked act cores result asked told (Some w) (Some v) (Rose faults_old faults_new) running put_old put_new → EndsComplete result
+    (Rose old.faults new.faults → ⊥) → HasWorked act cores result asked told old new out_old out_new → EndsComplete result
 
 -- ## What is served
 
@@ -66,17 +67,18 @@ IsCompleteAnswer read asked cores w (Err f) = MayStop (rules_for read asked.flow
 abbrev pub ServedRunsAreComplete : Type 0
 ServedRunsAreComplete =
     (act : Act) (read : List ℕ → Option Record) (asked : Asked) (cores : ℕ) (w v : World) (H : Versions) (result : Result (Unit {0}) Fault)
-    (faults_old faults_new : ℕ) (running : List ℕ) (put_old put_new : Option Text) →
+    (old new : Device) (out_old out_new : Sunk) →
+    old.world ≡ Some w →
+    new.world ≡ Some v →
     IsCleanAsked act read asked w H →
     ((plan : Plan) → LastPlan asked.flow (seen read w) (settings_of asked cores) nothing_done [] plan → IsPlainPlan plan) →
-    (Rose faults_old faults_new → ⊥) →
-    Went act cores result (IsRefusedPlan read asked cores w) (IsServed read asked cores w) (Some w) (Some v) (Rose faults_old faults_new) running put_old put_new →
-    IsCompleteAnswer read asked cores w result
+    (Rose old.faults new.faults → ⊥) →
+    Went act cores result (IsRefusedPlan read asked cores w) (IsServed read asked cores w) old new out_old out_new → IsCompleteAnswer read asked cores w result
 
 -- And so does a listing.
 abbrev pub ServedListingsAreComplete : Type 0
 ServedListingsAreComplete =
     (act : Act) (read : List ℕ → Option Record) (asked : Asked) (cores : ℕ) (w : World) (H : Versions) (result : Result (Unit {0}) Fault)
-    (put_old put_new : Option Text) →
+    (out_old out_new : Sunk) →
     IsCleanAsked act read asked w H →
-    HasListed (IsRefusedPlan read asked cores w) (IsServed read asked cores w) put_old put_new result → IsCompleteAnswer read asked cores w result
+    HasListed (IsRefusedPlan read asked cores w) (IsServed read asked cores w) out_old out_new result → IsCompleteAnswer read asked cores w result

@@ -9,24 +9,25 @@ use Rattle.smk_world.specs.declared.event.Child.{Child}
 use Rattle.smk_world.specs.declared.event.Ended.{Ended}
 use Rattle.smk_world.specs.declared.recipe.Recipe.{Recipe}
 use Rattle.smk_world.specs.World.{World, child_numbered, owned_paths, numbers, without_number, children_after}
-use Rattle.smk_world.specs.Calls.{started_number, started_numbers, are_apart, ContentsAre, MayStart, HasOwners}
+use Rattle.smk_world.specs.Calls.{started_number, started_numbers, are_apart, owned_now, ContentsAre, MayStart, HasOwners}
 use Rattle.smk_world_mem.specs.Act.{mem_act, EndsAs}
 use Rattle.smk_world_mem.specs.Adds.{AddsIf}
-use Rattle.smk_world_nodes.specs.Steps.{AllBelow, AllApart, AllDistinct, IsOrderly, Orderly, replay, empty_world, told_world}
+use Rattle.smk_world_nodes.specs.Steps.{AllBelow, AllApart, AllDistinct, AreAlone, AllAlone, IsHeld, IsOrderly, Orderly, replay, empty_world, told_world}
 use Rattle.smk_world_nodes.specs.declared.nodes.Nodes.{Nodes}
 use Rattle.smk_world_nodes.specs.declared.step.Step.{Step}
 use Rattle.smk_world_mem.proofs.Mem.{world_is_if, children_after_if, started_append}
 use Rattle.std.proofs.lemmas.Bool.{eqb-true}
-use Rattle.smk_world_nodes.proofs.Owners.{owners_after, owners_started, owners_waited, distinct_more, distinct_less}
-use Rattle.smk_world_mem.proofs.Starts.{below_not, below_more, apart_more, numbers_more, numbers_without, apart_less, below_less}
+use Rattle.smk_world_nodes.proofs.Owners.{owners_after, owners_started, owners_waited}
+use Rattle.smk_world_nodes.proofs.Held.{leaves_children, held_after, held_started, held_waited, alone_more, alone_less, alone_when_apart}
+use Rattle.smk_world_mem.proofs.Starts.{below_not, below_more, apart_more, numbers_more, numbers_without, apart_less, below_less, distinct_more, distinct_less}
 
 module _ (P : World → Type 0) (call : Call) (old new : Nodes) (steps more : List Step) (adds : AddsIf P call old new steps more) where
   started_after : started_numbers (replay empty_world more).log ≡ started_numbers (replay empty_world steps).log ++ started_number call
   started_after = ap (λ w. started_numbers w.log) (world_is_if P call old new steps more adds) ∙ started_append (replay empty_world steps).log (record { call = call; left = adds.left })
 
   -- no child was started or ended
-  pub orderly_same : (told : Bool) (children now : List Child) (next : ℕ) → Orderly told steps children next → ((cs : List Child) → children_after call cs ≡ cs) → started_number call ≡ [] → now ≡ children → Orderly told more now next
-  orderly_same told children now next orderly keeps none same = λ told_is.
+  pub orderly_same : (told : Bool) (children now : List Child) (next : ℕ) → Orderly told steps children next → ((cs : List Child) → children_after call cs ≡ cs) → started_number call ≡ [] → leaves_children call ≡ true → now ≡ children → Orderly told more now next
+  orderly_same told children now next orderly keeps none leaves same = λ told_is.
       let o = orderly told_is in record {
         children_are = children_after_if P call old new steps more adds ∙ keeps _ ∙ o.children_are ∙ sym same;
         started_below = subst (AllBelow next) (sym (started_after ∙ ap (λ ns. started_numbers (replay empty_world steps).log ++ ns) none ∙ append-nil _)) o.started_below;
@@ -35,12 +36,15 @@ module _ (P : World → Type 0) (call : Call) (old new : Nodes) (steps more : Li
         below = subst (λ cs. AllBelow next (numbers cs)) (sym same) o.below;
         distinct = subst (λ cs. AllDistinct (numbers cs)) (sym same) o.distinct;
         owned = subst HasOwners (sym (world_is_if P call old new steps more adds)) (owners_after (replay empty_world steps) call adds.left o.owned none (keeps _));
+        held = subst IsHeld (sym (world_is_if P call old new steps more adds)) (held_after (replay empty_world steps) call adds.left leaves (keeps _) o.held);
+        alone = subst AllAlone (sym same) o.alone;
       }
 
 module _ (P : World → Type 0) (recipe : Recipe) (logs : List (List ℕ)) (command : List ℕ) (number : ℕ) (old new : Nodes) (steps more : List Step) (adds : AddsIf P (Started recipe logs command (Ok number)) old new steps more) where
   pub orderly_started : (told : Bool) (children now : List Child) → Orderly told steps children number
-      → now ≡ children_after (Started recipe logs command (Ok number)) children → (told ≡ true → are_apart (owned_paths recipe logs) ≡ true) → Orderly told more now (number + 1)
-  orderly_started told children now orderly now_is apart = λ told_is.
+      → now ≡ children_after (Started recipe logs command (Ok number)) children → (told ≡ true → are_apart (owned_paths recipe logs) ≡ true)
+      → (told ≡ true → AreAlone (owned_paths recipe logs) (owned_now children)) → Orderly told more now (number + 1)
+  orderly_started told children now orderly now_is apart alone = λ told_is.
       let o = orderly told_is in
       let call = Started recipe logs command (Ok number) in
       let child : Child = record { number = number; recipe = recipe; logs = logs } in record {
@@ -51,6 +55,8 @@ module _ (P : World → Type 0) (recipe : Recipe) (logs : List (List ℕ)) (comm
         below = subst (AllBelow (number + 1)) (sym (ap numbers now_is ∙ numbers_more children child)) (below_more number _ o.below);
         distinct = subst AllDistinct (sym (ap numbers now_is ∙ numbers_more children child)) (distinct_more number _ o.distinct o.below);
         owned = subst HasOwners (sym (world_is_if P call old new steps more adds)) (owners_started (replay empty_world steps) recipe logs command number adds.left o.owned);
+        held = subst IsHeld (sym (world_is_if P call old new steps more adds)) (held_started (replay empty_world steps) recipe logs command number adds.left o.held);
+        alone = subst AllAlone (sym now_is) (alone_more children child o.alone (alone told_is));
       }
 
   pub running_started : numbers (replay empty_world more).children ≡ numbers (replay empty_world steps).children ++ number ∷ []
@@ -72,6 +78,8 @@ module _ (P : World → Type 0) (ended : Ended) (old new : Nodes) (steps more : 
         below = subst (λ cs. AllBelow next (numbers cs)) (sym now_is) (below_less next others children o.below);
         distinct = subst (λ cs. AllDistinct (numbers cs)) (sym now_is) (distinct_less others children o.distinct);
         owned = subst HasOwners (sym (world_is_if P call old new steps more adds)) (owners_waited (replay empty_world steps) ended adds.left (subst (λ cs. AllDistinct (numbers cs)) (sym o.children_are) o.distinct) o.owned);
+        held = subst IsHeld (sym (world_is_if P call old new steps more adds)) (held_waited (replay empty_world steps) ended adds.left (subst AllAlone (sym o.children_are) o.alone) o.held);
+        alone = subst AllAlone (sym now_is) (alone_less others children o.alone);
       }
 
   pub running_waited : numbers (replay empty_world more).children ≡ without_number ended.number (numbers (replay empty_world steps).children)
@@ -120,3 +128,9 @@ no_other_status R false rose ended false steps children next orderly ends w is c
 pub told_apart : (told : Bool) (steps : List Step) (recipe : Recipe) (logs : List (List ℕ)) → ((w : World) → told_world told steps ≡ Some w → MayStart w recipe logs) → told ≡ true → are_apart (owned_paths recipe logs) ≡ true
 told_apart true steps recipe logs may is = (may (replay empty_world steps) refl).own_apart
 told_apart false steps recipe logs may is = cc
+
+-- what a started child owns is no other's
+pub told_alone : (told : Bool) (steps : List Step) (children : List Child) (next : ℕ) (recipe : Recipe) (logs : List (List ℕ)) → Orderly told steps children next → ((w : World) → told_world told steps ≡ Some w → MayStart w recipe logs) → told ≡ true
+    → AreAlone (owned_paths recipe logs) (owned_now children)
+told_alone true steps children next recipe logs orderly may is = subst (λ cs. AreAlone (owned_paths recipe logs) (owned_now cs)) (orderly refl).children_are (alone_when_apart (owned_paths recipe logs) (replay empty_world steps).children (may (replay empty_world steps) refl).apart)
+told_alone false steps children next recipe logs orderly may is = cc

@@ -2,6 +2,7 @@
 use Rattle.std.proofs.Common.{cond, ◌≡◌, ◌+◌, ℕ, zero, suc, Bool, true, false, List, [], ◌∷◌, ◌++◌, refl, ap, ◌∙◌, Option, Ok, Err, arith, not}
 use Rattle.std.specs.Prelude.{if◌then◌else◌, nat_eq, Contains}
 use Rattle.std.specs.List.{filter}
+use Rattle.std.proofs.lemmas.Bool.{ne_eqb}
 use Rattle.std.proofs.lemmas.List.{map-append}
 use Rattle.smk_world.specs.declared.event.Node.{Node}
 use Rattle.smk_world.specs.declared.event.NodeState.{NodeState}
@@ -14,7 +15,7 @@ use Rattle.smk_world.specs.World.{is_within, owned_paths, numbers, without_numbe
 use Rattle.smk_world.specs.Calls.{started_numbers, are_apart}
 use Rattle.smk_world_mem.specs.Adds.{AddsIf}
 use Rattle.smk_world_nodes.specs.Nodes.{node_at}
-use Rattle.smk_world_nodes.specs.Steps.{seen, AllBelow, AllApart}
+use Rattle.smk_world_nodes.specs.Steps.{seen, AllBelow, AllApart, AllOther, AllDistinct}
 use Rattle.smk_world_nodes.specs.declared.nodes.Nodes.{Nodes}
 use Rattle.smk_world_nodes.specs.declared.step.Step.{Step}
 use Rattle.smk_world_nodes.specs.declared.step.Step.TheVariants.{Happened}
@@ -77,3 +78,29 @@ module _ (recipe : Recipe) (logs : List (List ℕ)) (command : List ℕ) (nodes 
   pub not_started_adds : (e : Failed) → more ≡ steps ++ Happened (record { call = Started recipe logs command (Err e); left = [] }) ∷ []
       → AddsIf (λ w. Unit {0}) (Started recipe logs command (Err e)) nodes nodes steps more
   not_started_adds e is = record { left = []; steps_are = is; lets = λ w agrees p. refl; nodes_are = λ w agrees p. agrees }
+
+-- ## Distinct numbers
+
+other_more : (n number : ℕ) (ns : List ℕ) → AllOther number ns → nat_eq n number ≡ false → AllOther number (ns ++ n ∷ [])
+other_more n number [] all h = (h, tt)
+other_more n number (m ∷ ms) all h = (all.0, other_more n number ms all.1 h)
+
+pub distinct_more : (n : ℕ) (ns : List ℕ) → AllDistinct ns → AllBelow n ns → AllDistinct (ns ++ n ∷ [])
+distinct_more n [] distinct below = (tt, tt)
+distinct_more n (m ∷ ms) distinct below = (other_more n m ms distinct.0 (ne_eqb n m (λ e. absurd (omega arith))), distinct_more n ms distinct.1 below.1)
+
+other_less : (number : ℕ) (test : Child → Bool) (cs : List Child) → AllOther number (numbers cs) → AllOther number (numbers (filter test cs))
+other_less number test [] all = tt
+other_less number test (c ∷ cs) all = go (test c) (other_less number test cs all.1)
+  where
+    go : (b : Bool) → AllOther number (numbers (filter test cs)) → AllOther number (numbers (cond b (c ∷ filter test cs) (filter test cs)))
+    go true ih = (all.0, ih)
+    go false ih = ih
+
+pub distinct_less : (test : Child → Bool) (cs : List Child) → AllDistinct (numbers cs) → AllDistinct (numbers (filter test cs))
+distinct_less test [] distinct = tt
+distinct_less test (c ∷ cs) distinct = go (test c) (distinct_less test cs distinct.1)
+  where
+    go : (b : Bool) → AllDistinct (numbers (filter test cs)) → AllDistinct (numbers (cond b (c ∷ filter test cs) (filter test cs)))
+    go true ih = (other_less c.number test cs distinct.0, ih)
+    go false ih = ih

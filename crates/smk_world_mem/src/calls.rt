@@ -9,6 +9,7 @@ ghost use Rattle.smk_world.specs.declared.event.Change.{Change as ChangeValue};
 ghost use Rattle.std.specs.Option.{option_map};
 ghost use Rattle.smk_world.specs.World.{protected};
 ghost use Rattle.smk_world.specs.Calls.{found_of};
+ghost use Rattle.smk_world.specs.Folders.{AreInFolders};
 ghost use Rattle.smk_world_mem.specs.Adds.{Adds};
 ghost use Rattle.smk_world_nodes.specs.declared.step.Step.TheVariants.{Happened};
 
@@ -30,6 +31,23 @@ pub fn add(steps: &mut List<Step>, call: Call, left: List<Change>) -> Result<(),
     ensures lost { OnErr result (steps.new ≡ steps.old) }
 {
     steps.push(Step::Happened(Event { call, left }))
+}
+
+// The same, if all nodes stand in folders now. Else the world can't be told on, as for want of memory.
+pub fn add_standing(
+    nodes: &Nodes,
+    steps: &mut List<Step>,
+    call: Call,
+    left: List<Change>,
+) -> Result<(), OutOfMemory>
+    ensures ok { OnOk result (steps.new ≡ steps.old ++ Happened (record { call = call; left = left }) ∷ []) }
+    ensures stand { OnOk result (AreInFolders (node_at nodes.now)) }
+    ensures lost { OnErr result (steps.new ≡ steps.old) }
+{
+    if !nodes.are_in_folders() {
+        return Err(OutOfMemory);
+    }
+    add(steps, call, left)
 }
 
 pub fn look(
@@ -61,11 +79,13 @@ pub fn remove(
 ) -> Result<Result<(), Failed>, OutOfMemory>
     ensures adds { IfOk result (λ answer. Adds (Removed p.now answer) nodes.old nodes.new steps.old steps.new) }
     ensures err { IfOk result (λ answer. IsErr answer → fails ≡ true) }
+    ensures stand { OnOk result (AreInFolders (node_at nodes.new)) }
     ensures lost { OnErr result (steps.new ≡ steps.old) }
 {
     let answer = answer_unless(fails);
     nodes.remove_tree(alloc, p.as_str())?;
-    add(
+    add_standing(
+        nodes,
         steps,
         Call::Removed(p.copy(alloc)?, answer),
         List::new(alloc),
@@ -134,11 +154,13 @@ pub fn write(
 ) -> Result<Result<(), Failed>, OutOfMemory>
     ensures adds { IfOk result (λ answer. Adds (Written p.now bytes.now answer) nodes.old nodes.new steps.old steps.new) }
     ensures err { IfOk result (λ answer. IsErr answer → fails ≡ true) }
+    ensures stand { OnOk result (AreInFolders (node_at nodes.new)) }
     ensures lost { OnErr result (steps.new ≡ steps.old) }
 {
     if fails {
         nodes.drop_one(p.as_str());
-        add(
+        add_standing(
+            nodes,
             steps,
             Call::Written(p.copy(alloc)?, Bytes::of(alloc, bytes)?, Err(Failed)),
             List::new(alloc),
@@ -146,7 +168,8 @@ pub fn write(
         return Ok(Err(Failed));
     }
     let left = put(alloc, nodes, p, bytes, time)?;
-    add(
+    add_standing(
+        nodes,
         steps,
         Call::Written(p.copy(alloc)?, Bytes::of(alloc, bytes)?, Ok(())),
         left,
@@ -164,10 +187,12 @@ pub fn create(
 ) -> Result<Result<bool, Failed>, OutOfMemory>
     ensures adds { IfOk result (λ answer. Adds (Created p.now answer) nodes.old nodes.new steps.old steps.new) }
     ensures err { IfOk result (λ answer. IsErr answer → fails ≡ true) }
+    ensures stand { OnOk result (AreInFolders (node_at nodes.new)) }
     ensures lost { OnErr result (steps.new ≡ steps.old) }
 {
     if fails {
-        add(
+        add_standing(
+            nodes,
             steps,
             Call::Created(p.copy(alloc)?, Err(Failed)),
             List::new(alloc),
@@ -175,7 +200,8 @@ pub fn create(
         return Ok(Err(Failed));
     }
     if nodes.get(p.as_str()).is_some() {
-        add(
+        add_standing(
+            nodes,
             steps,
             Call::Created(p.copy(alloc)?, Ok(false)),
             List::new(alloc),
@@ -183,7 +209,7 @@ pub fn create(
         return Ok(Ok(false));
     }
     let left = put(alloc, nodes, p, &[], time)?;
-    add(steps, Call::Created(p.copy(alloc)?, Ok(true)), left)?;
+    add_standing(nodes, steps, Call::Created(p.copy(alloc)?, Ok(true)), left)?;
     Ok(Ok(true))
 }
 
@@ -272,11 +298,13 @@ pub fn protect(
 ) -> Result<Result<(), Failed>, OutOfMemory>
     ensures adds { IfOk result (λ answer. Adds (Protected p.now answer) nodes.old nodes.new steps.old steps.new) }
     ensures err { IfOk result (λ answer. IsErr answer → fails ≡ true) }
+    ensures stand { OnOk result (AreInFolders (node_at nodes.new)) }
     ensures lost { OnErr result (steps.new ≡ steps.old) }
 {
     if fails {
         nodes.drop_one(p.as_str());
-        add(
+        add_standing(
+            nodes,
             steps,
             Call::Protected(p.copy(alloc)?, Err(Failed)),
             List::new(alloc),
@@ -284,7 +312,8 @@ pub fn protect(
         return Ok(Err(Failed));
     }
     protect_node(alloc, nodes, p)?;
-    add(
+    add_standing(
+        nodes,
         steps,
         Call::Protected(p.copy(alloc)?, Ok(())),
         List::new(alloc),
@@ -329,10 +358,12 @@ pub fn make_parents(
 ) -> Result<Result<(), Failed>, OutOfMemory>
     ensures adds { IfOk result (λ answer. Adds (MadeParents p.now answer) nodes.old nodes.new steps.old steps.new) }
     ensures err { IfOk result (λ answer. IsErr answer → fails ≡ true) }
+    ensures stand { OnOk result (AreInFolders (node_at nodes.new)) }
     ensures lost { OnErr result (steps.new ≡ steps.old) }
 {
     if fails {
-        add(
+        add_standing(
+            nodes,
             steps,
             Call::MadeParents(p.copy(alloc)?, Err(Failed)),
             List::new(alloc),
@@ -341,7 +372,8 @@ pub fn make_parents(
     }
     let mut made = Vec::new(alloc);
     make_folders(alloc, nodes, p, &mut made)?;
-    add(
+    add_standing(
+        nodes,
         steps,
         Call::MadeParents(p.copy(alloc)?, Ok(())),
         List::new(alloc),

@@ -5,13 +5,14 @@ ghost use Rattle.std.specs.Option.{option_map};
 ghost use Rattle.smk_world.specs.declared.event.Call.TheVariants.{Started, Waited};
 ghost use Rattle.smk_world.specs.declared.event.Node.TheVariants.{Regular};
 ghost use Rattle.smk_world.specs.World.{children_after, is_within, is_named, standing, out_paths, in_paths, owned_paths, child_numbered};
+ghost use Rattle.smk_world.specs.Folders.{AreInFolders};
 ghost use Rattle.smk_world_nodes.specs.Nodes.{node_at};
 ghost use Rattle.smk_world_nodes.specs.Steps.{AllApart};
 ghost use Rattle.smk_world_nodes.specs.declared.step.Step.TheVariants.{Happened};
 ghost use Rattle.smk_world_mem.specs.Act.{bytes_of, joined_at, first_time, files_at, logs_of, left_by, EndsAs};
 ghost use Rattle.smk_world_mem.specs.Adds.{AddsIf};
 
-use crate::calls::add;
+use crate::calls::{add, add_standing};
 use crate::command::{command_of, has_log, status_of, text_of, time_with, written_of};
 use smk_base::{Bytes, Copied, List, OutOfMemory, PathText, Place, Text};
 use smk_world::{Call, Change, Child, Ended, Failed, Node, Out, Recipe};
@@ -300,6 +301,7 @@ pub fn wait(
     ensures ends { IfOk result (λ answer. IfOk answer (λ ended. EndsAs killed ended (child_numbered ended.number children.old))) }
     ensures number { IfOk result (λ answer. IfOk answer (λ ended. ended.number ≡ number)) }
     ensures went { IfOk result (λ answer. IfOk answer (λ _. fails ≡ false)) }
+    ensures stand { OnOk result (AreInFolders (node_at nodes.old) → AreInFolders (node_at nodes.new)) }
     ensures lost { OnErr result (steps.new ≡ steps.old) }
 {
     match find(children.as_slice(), number) {
@@ -310,7 +312,7 @@ pub fn wait(
                 status: status_of(command_of(child.recipe.template.as_str(), killed)),
             };
             let rest = others(alloc, children, number)?;
-            add(steps, Call::Waited(Ok(ended)), left)?;
+            add_standing(nodes, steps, Call::Waited(Ok(ended)), left)?;
             *children = rest;
             Ok(Ok(ended))
         }

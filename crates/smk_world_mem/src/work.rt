@@ -1,9 +1,12 @@
 //! The workspace: its files and children in memory, its world where these steps lead, its calls failing as set up.
 ghost use Rattle.std.specs.Prelude.{◌≡◌, ℕ, [], Some, true};
 ghost use Rattle.smk_world.specs.World.{numbers};
+ghost use Rattle.smk_world.specs.Folders.{AreInFolders};
+ghost use Rattle.smk_world_nodes.specs.Nodes.{node_at};
 ghost use Rattle.smk_world_mem.specs.Act.{mem_act};
 ghost use Rattle.smk_world_mem.specs.Setup.{Caused, Caused-prop};
-ghost use Rattle.smk_world_nodes.specs.Steps.{Agrees, Agrees-prop, Orderly, Orderly-prop, told_world, replay, empty_world, same_numbers_told, formed_told, owned_told};
+ghost use Rattle.smk_world_nodes.specs.Steps.{Agrees, Agrees-prop, Orderly, Orderly-prop, told_world, replay, empty_world, Rooted, Rooted-prop, same_numbers_told, formed_told, owned_told};
+ghost use Rattle.smk_world_mem.specs.Trees.{tree_told};
 
 use crate::answers::{bumped, is_failing};
 use crate::{calls, crew};
@@ -30,6 +33,7 @@ pub struct MemWork {
     next: u64,
     ghost agrees: { Agrees told nodes steps } by { Agrees-prop told nodes steps },
     ghost orderly: { Orderly told steps children next } by { Orderly-prop told steps children next },
+    ghost rooted: { Rooted told nodes } by { Rooted-prop told nodes },
     ghost caused: { Caused told failing stop_after killed calls faults next steps } by { Caused-prop told failing stop_after killed calls faults next steps },
 }
 
@@ -44,6 +48,14 @@ pub struct Setup {
     pub order: List<u64>,
     /// The numbers of the children that are killed.
     pub killed: List<u64>,
+}
+
+// Whether a world is told on: it was told, and these nodes stand in folders.
+fn tells_on(told: bool, nodes: &Nodes) -> bool
+    ensures told { result ≡ true → told ≡ true }
+    ensures stand { result ≡ true → AreInFolders (node_at nodes.now) }
+{
+    told && nodes.are_in_folders()
 }
 
 impl MemWork {
@@ -81,11 +93,10 @@ impl MemWork {
         }
     }
 
-    /// Puts a firm file there and firm folders above it, whatever stood there. It is no call of the device.
-    /// Want of memory leaves the world as it was.
+    /// Puts a firm file there and firm folders above it. It is no call of the device.
+    /// Where a file stands above the place or something under it, the world is told no more. Want of memory leaves the world as it was.
     pub fn place(&mut self, p: &PathText, bytes: &[u8], time: u64) -> Result<(), OutOfMemory>
-        ensures ok { OnOk result (world_in self.new
-            ≡ option_map (λ w. step_world w (Put p.now (Regular bytes.now time false))) (world_in self.old)) }
+        ensures ok { OnOk result ((w : World) → world_in self.new ≡ Some w → IsStepFrom (world_in self.old) (Put p.now (Regular bytes.now time false)) w) }
         ensures err { OnErr result (world_in self.new ≡ world_in self.old) }
         ensures faults { faults_in self.new ≡ faults_in self.old }
         ensures setup { setup_in self.new ≡ setup_in self.old }
@@ -93,6 +104,7 @@ impl MemWork {
         match put_firmly(self.alloc, &mut self.nodes, &mut self.steps, p, bytes, time) {
             Ok(()) => {
                 self.latest = self.latest.max(time);
+                self.told = tells_on(self.told, &self.nodes);
                 Ok(())
             }
             Err(fault) => Err(fault),
@@ -107,7 +119,7 @@ impl MemWork {
         ensures setup { setup_in self.new ≡ setup_in self.old }
     {
         match take_firmly(self.alloc, &mut self.nodes, &mut self.steps, p) {
-            Ok(()) => {}
+            Ok(()) => self.told = tells_on(self.told, &self.nodes),
             Err(_) => self.told = false,
         }
     }
@@ -156,19 +168,16 @@ impl MemWork {
 }
 
 impl Files for MemWork {
-    ghost world = { λ m. told_world m.told m.steps };
-
-    ghost faults = { λ m. m.faults };
-
-    ghost running = { λ m. numbers (replay empty_world m.steps).children };
+    ghost device = { λ m. record { world = told_world m.told m.steps; faults = m.faults; running = numbers (replay empty_world m.steps).children } };
 
     ghost act = { mem_act };
 
-    ghost same_numbers = { λ m w h. same_numbers_told m.told m.steps w h };
-
-    ghost formed = { λ m w h. formed_told m.told m.steps w h };
-
-    ghost owned = { λ m w h. owned_told m.told m.steps m.children m.next m.orderly w h };
+    ghost sound = { λ m. record {
+      same_numbers = λ w h. same_numbers_told m.told m.steps w h;
+      formed = λ w h. formed_told m.told m.steps w h;
+      owned = λ w h. owned_told m.told m.steps m.children m.next m.orderly w h;
+      tree = λ w h. tree_told m.told m.nodes m.steps m.children m.next m.agrees m.orderly m.rooted w h;
+    } };
 
     fn faults(&self) -> u64 {
         self.faults

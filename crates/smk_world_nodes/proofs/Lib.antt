@@ -1,7 +1,9 @@
 pub mod Above
 pub mod Changes
+pub mod Held
 pub mod Lists
 pub mod Owners
 pub mod Replay
+pub mod Stood
 pub mod Undone
 pub mod Within

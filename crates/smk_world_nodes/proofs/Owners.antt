@@ -15,9 +15,9 @@ use Rattle.smk_world.specs.declared.event.Change.{Change}
 use Rattle.smk_world.specs.declared.event.Child.{Child}
 use Rattle.smk_world.specs.declared.event.Ended.{Ended}
 use Rattle.smk_world.specs.declared.recipe.Recipe.{Recipe}
-use Rattle.smk_world.specs.World.{World, after, node_after, children_after, loose, going, firm, firmly, with_folder, with_flag, standing, is_within, is_above, reads_folder, reads_nothing, owned_paths, owned_of, owned_by, child_numbered, numbers}
+use Rattle.smk_world.specs.World.{World, after, node_after, children_after, loose, going, firm, with_folder, with_flag, standing, is_within, is_above, reads_folder, reads_nothing, owned_paths, owned_of, owned_by, child_numbered, numbers}
 use Rattle.smk_world.specs.Calls.{started_number, owned_now, HasOwners}
-use Rattle.smk_world_nodes.specs.Steps.{AllBelow, AllOther, AllDistinct, step_world}
+use Rattle.smk_world_nodes.specs.Steps.{AllBelow, AllOther, AllDistinct, now_there, step_world}
 use Rattle.smk_world_nodes.specs.declared.step.Step.TheVariants.{Put, Gone}
 use Rattle.smk_world_nodes.proofs.Within.{within_both, or_assoc}
 
@@ -70,15 +70,15 @@ pub owners_after : (w : World) (call : Call) (left : List Change) → HasOwners 
 owners_after w call left owners starts keeps = λ q h.
     subst (λ cs. is_within q (owned_now cs) ≡ true) (sym keeps) (owners q (owned_before call left w.children q (w.nodes q) starts h))
 
-or_second : (a b : Bool) → b ≡ true → (a || b) ≡ true
+pub or_second : (a b : Bool) → b ≡ true → (a || b) ≡ true
 or_second true b h = refl
 or_second false b h = h
 
-or_first : (a b : Bool) → a ≡ true → (a || b) ≡ true
+pub or_first : (a b : Bool) → a ≡ true → (a || b) ≡ true
 or_first true b h = refl
 or_first false b h = cc
 
-own_more : (q : List ℕ) (cs : List Child) (c : Child) → is_within q (owned_now (cs ++ c ∷ [])) ≡ (is_within q (owned_now cs) || is_within q (owned_paths c.recipe c.logs))
+pub own_more : (q : List ℕ) (cs : List Child) (c : Child) → is_within q (owned_now (cs ++ c ∷ [])) ≡ (is_within q (owned_now cs) || is_within q (owned_paths c.recipe c.logs))
 own_more q [] c = ap (is_within q) (append-nil (owned_paths c.recipe c.logs))
 own_more q (d ∷ cs) c =
     within_both q (owned_paths d.recipe d.logs) (owned_now (cs ++ c ∷ []))
@@ -137,42 +137,16 @@ owners_waited w ended left distinct owners = λ q h. go q (is_within q (owned_by
     go q true e k = cc
     go q false e k = own_less q ended.number w.children distinct e (owners q k)
 
+now_owned : (n : Option Node) (s : NodeState) → now_there n s ≡ Owned → s ≡ Owned
+now_owned n Owned h = refl
+now_owned n (Known now besides) h = cc
+
 pub owners_put : (w : World) (p : List ℕ) (n : Node) → HasOwners w → HasOwners (step_world w (Put p n))
 owners_put w p n owners = λ q h. owners q (go (bytes_eq q p) (is_under p q) (w.nodes q) h)
   where
-    go : (b u : Bool) (s : NodeState) → (if b then firmly (Some n) else (if u then firm (with_folder s) else s)) ≡ Owned → s ≡ Owned
-    go true u s k = cc
+    go : (b u : Bool) (s : NodeState) → (if b then now_there (Some n) s else (if u then firm (with_folder s) else s)) ≡ Owned → s ≡ Owned
+    go true u s k = now_owned (Some n) s k
     go false u s k = either u s (firm (with_folder s)) (λ j. folder_owned s (firm_owned (with_folder s) j)) k
 
 pub owners_gone : (w : World) (p : List ℕ) → HasOwners w → HasOwners (step_world w (Gone p))
-owners_gone w p owners = λ q h. owners q (go (is_at_or_under q p) (w.nodes q) h)
-  where
-    go : (b : Bool) (s : NodeState) → (if b then firmly None else s) ≡ Owned → s ≡ Owned
-    go true s k = cc
-    go false s k = k
-
--- ## Distinct numbers
-
-other_more : (n number : ℕ) (ns : List ℕ) → AllOther number ns → nat_eq n number ≡ false → AllOther number (ns ++ n ∷ [])
-other_more n number [] all h = (h, tt)
-other_more n number (m ∷ ms) all h = (all.0, other_more n number ms all.1 h)
-
-pub distinct_more : (n : ℕ) (ns : List ℕ) → AllDistinct ns → AllBelow n ns → AllDistinct (ns ++ n ∷ [])
-distinct_more n [] distinct below = (tt, tt)
-distinct_more n (m ∷ ms) distinct below = (other_more n m ms distinct.0 (ne_eqb n m (λ e. absurd (omega arith))), distinct_more n ms distinct.1 below.1)
-
-other_less : (number : ℕ) (test : Child → Bool) (cs : List Child) → AllOther number (numbers cs) → AllOther number (numbers (filter test cs))
-other_less number test [] all = tt
-other_less number test (c ∷ cs) all = go (test c) (other_less number test cs all.1)
-  where
-    go : (b : Bool) → AllOther number (numbers (filter test cs)) → AllOther number (numbers (cond b (c ∷ filter test cs) (filter test cs)))
-    go true ih = (all.0, ih)
-    go false ih = ih
-
-pub distinct_less : (test : Child → Bool) (cs : List Child) → AllDistinct (numbers cs) → AllDistinct (numbers (filter test cs))
-distinct_less test [] distinct = tt
-distinct_less test (c ∷ cs) distinct = go (test c) (distinct_less test cs distinct.1)
-  where
-    go : (b : Bool) → AllDistinct (numbers (filter test cs)) → AllDistinct (numbers (cond b (c ∷ filter test cs) (filter test cs)))
-    go true ih = (other_less c.number test cs distinct.0, ih)
-    go false ih = ih
+owners_gone w p owners = λ q h. owners q (either (is_at_or_under q p) (w.nodes q) (now_there None (w.nodes q)) (now_owned None (w.nodes q)) h)

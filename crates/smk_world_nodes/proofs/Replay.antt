@@ -7,14 +7,15 @@ use Rattle.smk_world.specs.declared.event.Node.{Node}
 use Rattle.smk_world.specs.declared.event.NodeState.{NodeState}
 use Rattle.smk_world.specs.declared.event.NodeState.TheVariants.{Owned, Known}
 use Rattle.smk_world.specs.declared.event.Child.{Child}
-use Rattle.smk_world.specs.World.{World, firmly, firm, with_folder}
+use Rattle.smk_world.specs.World.{World, firm, with_folder}
 use Rattle.smk_world.specs.Calls.{started_numbers, HasOwners}
 use Rattle.smk_world_nodes.specs.Nodes.{node_at, or_folder}
-use Rattle.smk_world_nodes.specs.Steps.{seen, step_world, replay, empty_world, Agrees, told_world, Orderly, AllBelow}
+use Rattle.smk_world_nodes.specs.Steps.{seen, now_there, step_world, replay, empty_world, Agrees, told_world, Orderly, IsHeld, AllBelow}
 use Rattle.smk_world_nodes.specs.declared.nodes.Nodes.{Nodes}
 use Rattle.smk_world_nodes.specs.declared.step.Step.{Step}
 use Rattle.smk_world_nodes.specs.declared.step.Step.TheVariants as step
 use Rattle.smk_world_nodes.proofs.Owners.{owners_put, owners_gone}
+use Rattle.smk_world_nodes.proofs.Held.{held_put, held_gone}
 
 pub replay_push : (w : World) (ss : List Step) (s : Step) → replay w (ss ++ s ∷ []) ≡ step_world (replay w ss) s
 replay_push w [] s = refl
@@ -31,6 +32,8 @@ orderly_put told p n children steps more next orderly is = λ told_is.
       below = o.below;
       distinct = o.distinct;
       owned = subst HasOwners (sym there) (owners_put (replay empty_world steps) p n o.owned);
+      held = subst IsHeld (sym there) (held_put (replay empty_world steps) p n o.held);
+      alone = o.alone;
     }
 
 pub orderly_gone : (told : Bool) (p : List ℕ) (children : List Child) (steps more : List Step) (next : ℕ) → Orderly told steps children next → more ≡ steps ++ step.Gone p ∷ [] → Orderly told more children next
@@ -44,18 +47,22 @@ orderly_gone told p children steps more next orderly is = λ told_is.
       below = o.below;
       distinct = o.distinct;
       owned = subst HasOwners (sym there) (owners_gone (replay empty_world steps) p o.owned);
+      held = subst IsHeld (sym there) (held_gone (replay empty_world steps) p o.held);
+      alone = o.alone;
     }
 
 seen_put : (b u : Bool) (n : Node) (m : Option Node) (s : NodeState) → seen m s ≡ m
-    → seen (if b then Some n else (if u then or_folder m else m)) (if b then firmly (Some n) else (if u then firm (with_folder s) else s)) ≡ (if b then Some n else (if u then or_folder m else m))
-seen_put true u n m s a = refl
+    → seen (if b then Some n else (if u then or_folder m else m)) (if b then now_there (Some n) s else (if u then firm (with_folder s) else s)) ≡ (if b then Some n else (if u then or_folder m else m))
+seen_put true u n m Owned a = refl
+seen_put true u n m (Known now besides) a = refl
 seen_put false true n m Owned a = refl
 seen_put false true n m (Known None besides) a = ap or_folder a
 seen_put false true n m (Known (Some k) besides) a = ap or_folder a
 seen_put false false n m s a = a
 
-seen_gone : (b : Bool) (m : Option Node) (s : NodeState) → seen m s ≡ m → seen (if b then None else m) (if b then firmly None else s) ≡ (if b then None else m)
-seen_gone true m s a = refl
+seen_gone : (b : Bool) (m : Option Node) (s : NodeState) → seen m s ≡ m → seen (if b then None else m) (if b then now_there None s else s) ≡ (if b then None else m)
+seen_gone true m Owned a = refl
+seen_gone true m (Known now besides) a = refl
 seen_gone false m s a = a
 
 module _ (told : Bool) (old new : Nodes) (steps more : List Step) (agrees : Agrees told old steps) where

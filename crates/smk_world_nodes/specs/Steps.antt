@@ -3,16 +3,17 @@ use Rattle.std.specs.Prelude.{◌≡◌, ◌<◌, ◌+◌, length, nat_eq, ℕ, 
 use Rattle.std.proofs.Props.{props}
 use Rattle.std.specs.Coded.{×_prop, Unit-prop, le_prop}
 use Rattle.smk_world.specs.declared.event.Child.{Child}
-use Rattle.smk_world.specs.Calls.{started_numbers, are_apart, HasOwners}
+use Rattle.smk_world.specs.Calls.{started_numbers, are_apart, owned_now, HasOwners}
 use Rattle.std.proofs.Common.{ap, sym, subst, refl, ◌∙◌}
 use Rattle.std.specs.List.Sorted.{IsStrictlySortedBy}
-use Rattle.smk_world.specs.World.{reading}
+use Rattle.smk_world.specs.World.{reading, is_within}
 use Rattle.smk_world.proofs.Names.{adds_rising, not_added_any, not_above, if_reading, or_false, formed_after}
 use Rattle.smk_base.specs.Path.{is_under, is_at_or_under}
 use Rattle.smk_world.specs.declared.event.Node.{Node}
 use Rattle.smk_world.specs.declared.event.NodeState.{NodeState}
 use Rattle.smk_world.specs.declared.event.NodeState.TheVariants.{Owned, Known}
 use Rattle.smk_world.specs.World.{World, after, firmly, firm, with_folder, numbers, owned_paths, IsFormed, add_names, folders_above}
+use Rattle.smk_world.specs.Folders.{AreInFolders}
 use Rattle.smk_world_nodes.specs.Nodes.{node_at}
 use Rattle.smk_world_nodes.specs.declared.nodes.Nodes.{Nodes}
 use Rattle.smk_world_nodes.specs.declared.step.Step.{Step}
@@ -21,10 +22,15 @@ use Rattle.smk_world_nodes.specs.declared.step.Step.TheVariants.{Happened, Put, 
 abbrev pub empty_world : World
 empty_world = record { names = []; nodes = λ q. firmly None; children = []; log = [] }
 
+-- the node stands there firmly, or nothing does; where a child owns the place, that stays
+abbrev pub now_there : Option Node → NodeState → NodeState
+now_there n Owned = Owned
+now_there n (Known now besides) = firmly n
+
 abbrev pub step_world : World → Step → World
 step_world w (Happened e) = after w e
-step_world w (Put p n) = record w { names = add_names (p ∷ folders_above p) w.names; nodes = λ q. if bytes_eq q p then firmly (Some n) else (if is_under p q then firm (with_folder (w.nodes q)) else w.nodes q) }
-step_world w (Gone p) = record w { nodes = λ q. if is_at_or_under q p then firmly None else w.nodes q }
+step_world w (Put p n) = record w { names = add_names (p ∷ folders_above p) w.names; nodes = λ q. if bytes_eq q p then now_there (Some n) (w.nodes q) else (if is_under p q then firm (with_folder (w.nodes q)) else w.nodes q) }
+step_world w (Gone p) = record w { nodes = λ q. if is_at_or_under q p then now_there None (w.nodes q) else w.nodes q }
 
 abbrev pub replay : World → List Step → World
 replay w [] = w
@@ -81,7 +87,24 @@ abbrev pub AllDistinct : List ℕ → Type 0
 AllDistinct [] = Unit {0}
 AllDistinct (n ∷ ns) = AllOther n ns × AllDistinct ns
 
--- These are the world's children, the next number is new, and what is owned is so by one of them.
+abbrev pub is_owned : NodeState → Bool
+is_owned Owned = true
+is_owned (Known now besides) = false
+
+-- what a running child's outputs and logs have is owned
+abbrev pub IsHeld : World → Type 0
+IsHeld w = (q : List ℕ) → is_within q (owned_now w.children) ≡ true → is_owned (w.nodes q) ≡ true
+
+-- no place is at or under both one of these and one of those
+abbrev pub AreAlone : List (List ℕ) → List (List ℕ) → Type 0
+AreAlone ps qs = (x : List ℕ) → is_within x ps ≡ true → is_within x qs ≡ true → ⊥
+
+-- no two children own the same place
+abbrev pub AllAlone : List Child → Type 0
+AllAlone [] = Unit {0}
+AllAlone (c ∷ cs) = AreAlone (owned_paths c.recipe c.logs) (owned_now cs) × AllAlone cs
+
+-- These are the world's children, the next number is new, and what is owned is so by just one of them.
 pub record IsOrderly (w : World) (children : List Child) (next : ℕ) : Type 0 where
   pub children_are : w.children ≡ children
   pub started_below : AllBelow next (started_numbers w.log)
@@ -90,6 +113,8 @@ pub record IsOrderly (w : World) (children : List Child) (next : ℕ) : Type 0 w
   pub below : AllBelow next (numbers children)
   pub distinct : AllDistinct (numbers children)
   pub owned : HasOwners w
+  pub held : IsHeld w
+  pub alone : AllAlone children
 
 abbrev pub Orderly : Bool → List Step → List Child → ℕ → Type 0
 Orderly told steps children next = told ≡ true → IsOrderly (replay empty_world steps) children next
@@ -119,6 +144,13 @@ AllDistinct-prop : (ns : List ℕ) → IsProp (AllDistinct ns)
 AllDistinct-prop [] = Unit-prop
 AllDistinct-prop (n ∷ ns) = ×_prop (AllOther-prop n ns) (AllDistinct-prop ns)
 
+⊥-prop : IsProp ⊥
+⊥-prop a b = absurd a
+
+AllAlone-prop : (cs : List Child) → IsProp (AllAlone cs)
+AllAlone-prop [] = Unit-prop
+AllAlone-prop (c ∷ cs) = ×_prop (λ f g i x h k. ⊥-prop (f x h k) (g x h k) i) (AllAlone-prop cs)
+
 pub Orderly-prop : (told : Bool) (steps : List Step) (children : List Child) (next : ℕ) → IsProp (Orderly told steps children next)
 Orderly-prop told steps children next = λ f g i told_is. record {
   children_are = ListChild-set _ _ (f told_is).children_are (g told_is).children_are i;
@@ -128,6 +160,8 @@ Orderly-prop told steps children next = λ f g i told_is. record {
   below = AllBelow-prop next _ (f told_is).below (g told_is).below i;
   distinct = AllDistinct-prop _ (f told_is).distinct (g told_is).distinct i;
   owned = λ q h. Bool-set _ _ ((f told_is).owned q h) ((g told_is).owned q h) i;
+  held = λ q h. Bool-set _ _ ((f told_is).held q h) ((g told_is).held q h) i;
+  alone = AllAlone-prop children (f told_is).alone (g told_is).alone i;
 }
 
 pub owned_told : (told : Bool) (steps : List Step) (children : List Child) (next : ℕ) → Orderly told steps children next → (w : World) → told_world told steps ≡ Some w → HasOwners w
@@ -144,13 +178,17 @@ formed_put w p n f = record {
   complete = λ q h.
       let both = not_added_any q (p ∷ folders_above p) w.names h in
       let here = or_false (bytes_eq q p) _ both.0 in
-      ap (λ b. reading (if b then firmly (Some n) else (if is_under p q then firm (with_folder (w.nodes q)) else w.nodes q))) here.0
+      ap (λ b. reading (if b then now_there (Some n) (w.nodes q) else (if is_under p q then firm (with_folder (w.nodes q)) else w.nodes q))) here.0
       ∙ ap (λ b. reading (if b then firm (with_folder (w.nodes q)) else w.nodes q)) (not_above p q here.1)
       ∙ f.complete q both.1;
 }
 
+gone_reads : (s : NodeState) → reading (now_there None s) ≡ None
+gone_reads Owned = refl
+gone_reads (Known now besides) = refl
+
 formed_gone : (w : World) (p : List ℕ) → IsFormed w → IsFormed (step_world w (Gone p))
-formed_gone w p f = record { rising = f.rising; complete = λ q h. if_reading (is_at_or_under q p) (firmly None) (w.nodes q) refl (f.complete q h) }
+formed_gone w p f = record { rising = f.rising; complete = λ q h. if_reading (is_at_or_under q p) (now_there None (w.nodes q)) (w.nodes q) (gone_reads (w.nodes q)) (f.complete q h) }
 
 formed_replay : (w : World) (ss : List Step) → IsFormed w → IsFormed (replay w ss)
 formed_replay w [] f = f
@@ -161,3 +199,15 @@ formed_replay w (Gone p ∷ ss) f = formed_replay (step_world w (Gone p)) ss (fo
 pub formed_told : (told : Bool) (steps : List Step) (w : World) → told_world told steps ≡ Some w → IsFormed w
 formed_told true steps w e = subst IsFormed (some_same _ _ e) (formed_replay empty_world steps formed_empty)
 formed_told false steps w e = cc
+
+-- ## Trees
+
+-- where the world is told, these nodes stand in folders
+abbrev pub Rooted : Bool → Nodes → Type 0
+Rooted told nodes = told ≡ true → AreInFolders (node_at nodes)
+
+pub Rooted-prop : (told : Bool) (nodes : Nodes) → IsProp (Rooted told nodes)
+Rooted-prop told nodes = λ f g i told_is q some. record {
+  folders = λ h u. OptionNode-set _ _ ((f told_is q some).folders h u) ((g told_is q some).folders h u) i;
+  named = Bool-set _ _ (f told_is q some).named (g told_is q some).named i;
+}

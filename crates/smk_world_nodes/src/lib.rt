@@ -5,6 +5,7 @@ mod firm;
 mod folders;
 mod listing;
 mod nodes;
+mod rooted;
 mod step;
 
 pub use firm::{new_file, put_firmly, take_firmly};

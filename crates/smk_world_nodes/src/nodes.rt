@@ -3,8 +3,10 @@ ghost use Rattle.std.specs.Prelude.{◌≡◌, ◌++◌, ℕ, List as Items, Opt
 ghost use Rattle.std.specs.Option.{option_map};
 ghost use Rattle.smk_base.specs.Path.{is_under, is_at_or_under};
 ghost use Rattle.smk_world.specs.World.{IsRising, is_within};
+ghost use Rattle.smk_world.specs.Folders.{AreInFolders};
 ghost use Rattle.smk_world_nodes.specs.Nodes.{is_listed, keys_under};
 
+use crate::rooted::can_hold;
 use smk_base::{OutOfMemory, PathText};
 use smk_world::Node;
 use std::alloc::{AllocError, Global};
@@ -95,6 +97,18 @@ impl Nodes {
             self.remove_tree(alloc, path.as_str())?;
         }
         Ok(())
+    }
+
+    /// Whether each node has a name and stands in folders. The contract tells what follows from true.
+    pub fn are_in_folders(&self) -> bool
+        ensures { result ≡ true → AreInFolders (node_at self.now) }
+    {
+        for (key, _) in self.nodes.iter() {
+            if !can_hold(self, key.as_str()) {
+                return false;
+            }
+        }
+        true
     }
 }
 

@@ -1,6 +1,6 @@
-ghost use Rattle.std.specs.Prelude.{◌≡◌, ◌<◌, ℕ, [], map, All, Option, None};
+ghost use Rattle.std.specs.Prelude.{◌≡◌, ◌<◌, [], map, All, None};
 ghost use Rattle.smk_world_real.specs.Act.{unknown_act};
-ghost use Rattle.smk_world_real.specs.Untold.{untold};
+ghost use Rattle.smk_world_real.specs.Untold.{untold_sound};
 
 use crate::children::Running;
 use crate::fault::{Fault, counted, counted_work};
@@ -39,21 +39,13 @@ impl<R: FileSystem + Processes + Clock> RealWork<R> {
     }
 }
 
-#[tactic(auto, using(crate::proofs::Events::untold_happened))]
+#[tactic(auto, using(crate::proofs::Events::untold_called))]
 impl<R: FileSystem + Processes + Clock> Files for RealWork<R> {
-    ghost world = { λ _. None };
-
-    ghost faults = { λ w. w.faults };
-
-    ghost running = { λ w. map (λ c. c.number) w.children.items };
+    ghost device = { λ w. record { world = None; faults = w.faults; running = map (λ c. c.number) w.children.items } };
 
     ghost act = { unknown_act };
 
-    ghost same_numbers = { λ _ w e. untold w e };
-
-    ghost formed = { λ _ w e. untold w e };
-
-    ghost owned = { λ _ w e. untold w e };
+    ghost sound = { λ w. untold_sound w.faults (map (λ c. c.number) w.children.items) };
 
     fn faults(&self) -> u64 {
         self.faults
@@ -104,7 +96,7 @@ impl<R: FileSystem + Processes + Clock> Files for RealWork<R> {
     }
 }
 
-#[tactic(auto, using(crate::proofs::Events::untold_happened))]
+#[tactic(auto, using(crate::proofs::Events::untold_called))]
 impl<R: FileSystem + Processes + Clock> Crew for RealWork<R> {
     fn start(
         &mut self,

@@ -17,4 +17,4 @@ begin-requires-clause-room c =
     (one_output c.args.kept.now c.args.job.now.recipe c.requires.bare c.requires.recipe) c.requires.logs
 
 pub returns-in-Ok : goal.returns-in-Ok
-returns-in-Ok c = some_run _ _ _ c.in-Ok.ensures.running
+returns-in-Ok c = some_run _ _ _ c.in-Ok.ensures.begun.running

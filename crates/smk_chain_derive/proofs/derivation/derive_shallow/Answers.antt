@@ -1,5 +1,6 @@
 use Rattle.std.proofs.Common.{◌≡◌, ◌∙◌, List, [], ap, sym, subst}
 use Rattle.std.specs.List.{flat_map}
+use Rattle.std.proofs.lemmas.Result.{IfOk-weaker, IfErr-weaker}
 use Rattle.smk_flow.specs.declared.job.Job.{Job}
 use Rattle.smk_choose.specs.Told.{told_by}
 use Rattle.smk_store.specs.Images.{Image}
@@ -10,7 +11,7 @@ use Rattle.smk_chain.specs.Derive.{clashes, spots, job_refusals}
 use Rattle.smk_chain.specs.Told.{TellsFirst}
 use Rattle.smk_chain_derive.specs.Clashes.{ListsKnown}
 use Rattle.smk_chain_walk.specs.Links.{AreLinked}
-use Rattle.smk_chain_derive.proofs.Refused.{if_ok, if_err, walk_told, clash_told, none_refused}
+use Rattle.smk_chain_derive.proofs.Refused.{walk_told, clash_told, none_refused}
 use Rattle.smk_chain_derive.proofs.derivation.derive_shallow.Goals as goal
 
 pub returns-in-Ok-clause-none : goal.returns-in-Ok-clause-none
@@ -19,7 +20,7 @@ returns-in-Ok-clause-none c =
     let sources = told_by c.args.sources.now in
     let store = c.args.store.now in
     let walked = c.in-Ok.ensures in
-    if_ok c.unless_clashing.result
+    IfOk-weaker c.unless_clashing.result
     (λ (kept : Jobs). (image : Image) → IsStoreOf image store → ListsKnown image → clashes image [] (flat_map spots c.in-Ok.made.jobs) ≡ [])
     (λ (kept : Jobs). (image : Image) → IsStoreOf image store → ListsKnown image → job_refusals flow sources image c.args.lists c.args.targets.now ≡ [])
     (λ kept clear image is known. none_refused flow sources image c.args.lists c.args.targets.now c.requires.shallow walked.none
@@ -31,7 +32,7 @@ returns-in-Ok-clause-links c =
     let flow = c.args.flow.now in
     let sources = told_by c.args.sources.now in
     let targets = c.args.targets.now in
-    if_ok c.unless_clashing.result (λ (kept : Jobs). kept ≡ c.in-Ok.made) (λ (kept : Jobs). AreLinked flow sources c.args.lists targets kept)
+    IfOk-weaker c.unless_clashing.result (λ (kept : Jobs). kept ≡ c.in-Ok.made) (λ (kept : Jobs). AreLinked flow sources c.args.lists targets kept)
     (λ kept same. subst (λ (made : Jobs). AreLinked flow sources c.args.lists targets made) (sym same) c.in-Ok.ensures.links) c.unless_clashing.ensures.same
 
 pub returns-in-Ok-clause-fault : goal.returns-in-Ok-clause-fault
@@ -40,7 +41,7 @@ returns-in-Ok-clause-fault c =
     let sources = told_by c.args.sources.now in
     let store = c.args.store.now in
     let walked = c.in-Ok.ensures in
-    if_err c.unless_clashing.result
+    IfErr-weaker c.unless_clashing.result
     (λ (f : ChainFault). (image : Image) → IsStoreOf image store → ListsKnown image → TellsFirst flow (clashes image [] (flat_map spots c.in-Ok.made.jobs)) f)
     (λ (f : ChainFault). (image : Image) → IsStoreOf image store → ListsKnown image → TellsFirst flow (job_refusals flow sources image c.args.lists c.args.targets.now) f)
     (λ f tells image is known. clash_told flow sources image c.args.lists c.args.targets.now f c.requires.shallow walked.none

@@ -1,4 +1,4 @@
-use Rattle.smk_store.proofs.Looks.{looked_on, looked_well, looked_short, ok_is_quiet, never_ok}
+use Rattle.smk_world.proofs.Devices.{looked_on}
 use Rattle.smk_chain.specs.Derive.{sources_of}
 use Rattle.smk_chain_sight.proofs.Eyes.{says_true}
 use Rattle.smk_chain_sight.proofs.Spreading.{reach_told, nothing_next}
@@ -9,16 +9,16 @@ spread-requires-clause-closed g c = λ S says. nothing_next c.args.flow.now S c.
 
 pub returns-in_err-spread-clause-looked : goal.returns-in_err-spread-clause-looked
 returns-in_err-spread-clause-looked g c =
-    looked_on g.W.Files.act _ _ _ _ _ _ c.spread.result c.from_residual-in_err-spread.result _ c.in_err-spread.was c.from_residual-in_err-spread.ensures.1 c.spread.ensures.looked
+    looked_on _ c.in_err-spread.was c.from_residual-in_err-spread.ensures.1 c.spread.ensures.looked
 
 pub returns-clause-looked : goal.returns-clause-looked
 returns-clause-looked g c =
-    looked_short g.W.Files.act _ _ _ _ _ _ _ (never_ok _ _) (looked_well g.W.Files.act _ _ _ _ _ _ _ (ok_is_quiet c.spread.result _ _ c.in_ok-spread.was) c.spread.ensures.looked)
+    c.in_ok-spread.ensures.looked
 
 pub returns-clause-told : goal.returns-clause-told
-returns-clause-told g c = λ w image at v.
+returns-clause-told g c = λ w at image v.
     let S = sources_of image in
-    let t = c.in_ok-spread.ensures.told.stays w image at v (c.no_eye-eye.ensures image) in
+    let t = c.in_ok-spread.ensures.told.stays w at image v (c.no_eye-eye.ensures image) in
     let says = says_true image c.spread.new.eye t in
     reach_told c.args.flow.now c.args.lists.now c.spread.new.eye S c.args.targets.now c.in_ok-found.found.paths.items c.spread.new.found.paths.items c.count.result says c.in_ok-found.ensures.are c.count.ensures
     c.in_ok-spread.ensures.listed (c.in_ok-spread.ensures.whole S says) (c.in_ok-spread.ensures.many S says)

@@ -1,7 +1,7 @@
 use Rattle.std.proofs.Common.{arith, ◌-◌, ◌<◌, ◌∙◌, subst, sym, length, List}
 use Rattle.std.specs.List.{AllByRecursion}
 use Rattle.smk_world.specs.Trees.{Path}
-use Rattle.smk_store.proofs.Looks.{looked_on, looked_well, looked_then, looked_short, ok_is_quiet, never_ok}
+use Rattle.smk_world.proofs.Devices.{looked_then, looked_on}
 use Rattle.smk_chain_sight.specs.Telling.{IsListedAround}
 use Rattle.smk_chain_sight.proofs.Eyes.{told_then, says_before}
 use Rattle.smk_chain_sight.proofs.Spreading.{Level, many_at, same_at, still_at, within_at, first_at, closed_at, grown_at, more_at, told_at, told_last, grown_none, too_many, few_enough, never_few}
@@ -9,33 +9,33 @@ use Rattle.smk_chain_sight.proofs.reaching.+spread.Goals as goal
 
 pub returns-in_err-last-clause-looked : goal.returns-in_err-last-clause-looked
 returns-in_err-last-clause-looked g t c =
-    looked_on g.W.Files.act _ _ _ _ _ _ c.last.result c.from_residual-in_err-last.result _ c.in_err-last.was c.from_residual-in_err-last.ensures.1 c.last.ensures.looked
+    looked_on _ c.in_err-last.was c.from_residual-in_err-last.ensures.1 c.last.ensures.looked
 
 pub returns-then-levels-eq0-clause-looked : goal.returns-then-levels-eq0-clause-looked
 returns-then-levels-eq0-clause-looked g t c =
-    looked_short g.W.Files.act _ _ _ _ _ _ _ (never_ok _ _) (looked_well g.W.Files.act _ _ _ _ _ _ _ (ok_is_quiet c.last.result _ _ c.in_ok-last.was) c.last.ensures.looked)
+    c.in_ok-last.ensures.looked
 
 pub returns-then-levels-eq0-clause-told : goal.returns-then-levels-eq0-clause-told
 returns-then-levels-eq0-clause-told g t c = c.in_ok-last.ensures.told
 
 pub returns-then-levels-eq0-clause-listed : goal.returns-then-levels-eq0-clause-listed
 returns-then-levels-eq0-clause-listed g t c = λ few.
-    told_last c.args.flow.now c.args.eye.now c.last.new.eye c.args.from c.args.found.now.paths.items c.deref-paths.result.now c.in_ok-last.ensures.told.keeps (c.deref-paths.ensures.value ∙ c.in_ok-fresh.ensures) c.requires.listed c.in_ok-last.ensures.listed
+    told_last c.args.ground.now.flow.now c.args.eye.now c.last.new.eye c.args.from c.args.found.now.paths.items c.deref-paths.result.now c.in_ok-last.ensures.told.keeps (c.deref-paths.ensures.value ∙ c.in_ok-fresh.ensures) c.requires.listed c.in_ok-last.ensures.listed
 
 pub returns-then-levels-eq0-clause-whole : goal.returns-then-levels-eq0-clause-whole
-returns-then-levels-eq0-clause-whole g t c = λ S says few. grown_none c.args.flow.now S c.args.lists.now c.args.levels c.args.found.now.paths.items c.if-levels-eq0.true
+returns-then-levels-eq0-clause-whole g t c = λ S says few. grown_none c.args.ground.now.flow.now S c.args.ground.now.lists.now c.args.levels c.args.found.now.paths.items c.if-levels-eq0.true
 
 pub returns-then-levels-eq0-clause-many : goal.returns-then-levels-eq0-clause-many
 returns-then-levels-eq0-clause-many g t c = λ S says many.
-    subst (λ (ys : List Path). 100000 < length ys) (grown_none c.args.flow.now S c.args.lists.now c.args.levels c.args.found.now.paths.items c.if-levels-eq0.true) many
+    subst (λ (ys : List Path). 100000 < length ys) (grown_none c.args.ground.now.flow.now S c.args.ground.now.lists.now c.args.levels c.args.found.now.paths.items c.if-levels-eq0.true) many
 
 pub returns-in_err-level-clause-looked : goal.returns-in_err-level-clause-looked
 returns-in_err-level-clause-looked g t c =
-    looked_on g.W.Files.act _ _ _ _ _ _ c.level.result c.from_residual-in_err-level.result _ c.in_err-level.was c.from_residual-in_err-level.ensures.1 c.level.ensures.looked
+    looked_on _ c.in_err-level.was c.from_residual-in_err-level.ensures.1 c.level.ensures.looked
 
 pub returns-then-is_over-clause-looked : goal.returns-then-is_over-clause-looked
 returns-then-is_over-clause-looked g t c =
-    looked_short g.W.Files.act _ _ _ _ _ _ _ (never_ok _ _) (looked_well g.W.Files.act _ _ _ _ _ _ _ (ok_is_quiet c.level.result _ _ c.in_ok-level.was) c.level.ensures.looked)
+    c.in_ok-level.ensures.looked
 
 pub returns-then-is_over-clause-told : goal.returns-then-is_over-clause-told
 returns-then-is_over-clause-told g t c = c.in_ok-level.ensures.told
@@ -48,13 +48,13 @@ returns-then-is_over-clause-whole g t c = λ S says few. absurd (never_few c.lev
 
 pub returns-then-is_over-clause-many : goal.returns-then-is_over-clause-many
 returns-then-is_over-clause-many g t c = λ S says many.
-    let l : Level c.args.flow.now c.args.lists.now c.level.new.eye c.args.from c.args.found.now.paths.items c.deref-paths.result.now c.level.new.found.paths.items =
+    let l : Level c.args.ground.now.flow.now c.args.ground.now.lists.now c.level.new.eye c.args.from c.args.found.now.paths.items c.deref-paths.result.now c.level.new.found.paths.items =
     record { each = c.requires.kept.each; closed = λ S2 says2. c.requires.closed S2 (says_before c.args.eye.now c.level.new.eye S2 c.in_ok-level.ensures.told.keeps says2); is = c.deref-paths.ensures.value ∙ c.in_ok-fresh.ensures; advanced = c.in_ok-level.ensures.advanced } in
-    many_at c.args.flow.now c.args.lists.now c.level.new.eye c.args.from c.args.found.now.paths.items c.deref-paths.result.now c.level.new.found.paths.items l c.args.levels (c.args.levels - 1) S says (omega (arith, c.if-levels-eq0.false)) many
+    many_at c.args.ground.now.flow.now c.args.ground.now.lists.now c.level.new.eye c.args.from c.args.found.now.paths.items c.deref-paths.result.now c.level.new.found.paths.items l c.args.levels (c.args.levels - 1) S says (omega (arith, c.if-levels-eq0.false)) many
 
 pub returns-then-now-end-clause-looked : goal.returns-then-now-end-clause-looked
 returns-then-now-end-clause-looked g t c =
-    looked_short g.W.Files.act _ _ _ _ _ _ _ (never_ok _ _) (looked_well g.W.Files.act _ _ _ _ _ _ _ (ok_is_quiet c.level.result _ _ c.in_ok-level.was) c.level.ensures.looked)
+    c.in_ok-level.ensures.looked
 
 pub returns-then-now-end-clause-told : goal.returns-then-now-end-clause-told
 returns-then-now-end-clause-told g t c = c.in_ok-level.ensures.told
@@ -63,19 +63,19 @@ pub returns-then-now-end-clause-listed : goal.returns-then-now-end-clause-listed
 returns-then-now-end-clause-listed g t c = λ few.
     let xs = c.args.found.now.paths.items in
     let new = c.level.new.found.paths.items in
-    let l : Level c.args.flow.now c.args.lists.now c.level.new.eye c.args.from xs c.deref-paths.result.now new =
+    let l : Level c.args.ground.now.flow.now c.args.ground.now.lists.now c.level.new.eye c.args.from xs c.deref-paths.result.now new =
     record { each = c.requires.kept.each; closed = λ S2 says2. c.requires.closed S2 (says_before c.args.eye.now c.level.new.eye S2 c.in_ok-level.ensures.told.keeps says2); is = c.deref-paths.ensures.value ∙ c.in_ok-fresh.ensures; advanced = c.in_ok-level.ensures.advanced } in
-    subst (λ (ys : List Path). AllByRecursion (IsListedAround c.args.flow.now c.level.new.eye) ys)
-    (sym (same_at c.args.flow.now c.args.lists.now c.level.new.eye c.args.from xs c.deref-paths.result.now new l (sym c.count-now.ensures ∙ c.if-now-end.true ∙ c.count-end.ensures)))
-    (told_at c.args.flow.now c.args.lists.now c.level.new.eye c.args.from xs c.deref-paths.result.now new l c.args.eye.now c.in_ok-level.ensures.told.keeps c.requires.listed few)
+    subst (λ (ys : List Path). AllByRecursion (IsListedAround c.args.ground.now.flow.now c.level.new.eye) ys)
+    (sym (same_at c.args.ground.now.flow.now c.args.ground.now.lists.now c.level.new.eye c.args.from xs c.deref-paths.result.now new l (sym c.count-now.ensures ∙ c.if-now-end.true ∙ c.count-end.ensures)))
+    (told_at c.args.ground.now.flow.now c.args.ground.now.lists.now c.level.new.eye c.args.from xs c.deref-paths.result.now new l c.args.eye.now c.in_ok-level.ensures.told.keeps c.requires.listed few)
 
 pub returns-then-now-end-clause-whole : goal.returns-then-now-end-clause-whole
 returns-then-now-end-clause-whole g t c = λ S says few.
     let xs = c.args.found.now.paths.items in
     let new = c.level.new.found.paths.items in
-    let l : Level c.args.flow.now c.args.lists.now c.level.new.eye c.args.from xs c.deref-paths.result.now new =
+    let l : Level c.args.ground.now.flow.now c.args.ground.now.lists.now c.level.new.eye c.args.from xs c.deref-paths.result.now new =
     record { each = c.requires.kept.each; closed = λ S2 says2. c.requires.closed S2 (says_before c.args.eye.now c.level.new.eye S2 c.in_ok-level.ensures.told.keeps says2); is = c.deref-paths.ensures.value ∙ c.in_ok-fresh.ensures; advanced = c.in_ok-level.ensures.advanced } in
-    still_at c.args.flow.now c.args.lists.now c.level.new.eye c.args.from xs c.deref-paths.result.now new l c.args.levels S says few (sym c.count-now.ensures ∙ c.if-now-end.true ∙ c.count-end.ensures)
+    still_at c.args.ground.now.flow.now c.args.ground.now.lists.now c.level.new.eye c.args.from xs c.deref-paths.result.now new l c.args.levels S says few (sym c.count-now.ensures ∙ c.if-now-end.true ∙ c.count-end.ensures)
 
 pub returns-then-now-end-clause-many : goal.returns-then-now-end-clause-many
 returns-then-now-end-clause-many g t c = λ S says many. absurd (never_few c.level.new.found.paths.items many (few_enough c.level.new.found.paths.items c.is_over.result c.if-is_over.false c.is_over.ensures))
@@ -85,7 +85,7 @@ spread-requires g t c κs within =
     let xs = c.args.found.now.paths.items in
     let new = c.level.new.found.paths.items in
     let few = few_enough new c.is_over.result c.if-is_over.false c.is_over.ensures in
-    let l : Level c.args.flow.now c.args.lists.now c.level.new.eye c.args.from xs c.deref-paths.result.now new =
+    let l : Level c.args.ground.now.flow.now c.args.ground.now.lists.now c.level.new.eye c.args.from xs c.deref-paths.result.now new =
     record { each = c.requires.kept.each; closed = λ S2 says2. c.requires.closed S2 (says_before c.args.eye.now c.level.new.eye S2 c.in_ok-level.ensures.told.keeps says2); is = c.deref-paths.ensures.value ∙ c.in_ok-fresh.ensures; advanced = c.in_ok-level.ensures.advanced } in (
       omega (arith, c.if-levels-eq0.false),
       (
@@ -95,12 +95,12 @@ spread-requires g t c κs within =
           (
             c.requires.guide,
             (
-              within_at c.args.flow.now c.args.lists.now c.level.new.eye c.args.from xs c.deref-paths.result.now new l c.count-end.result c.count-end.ensures,
+              within_at c.args.ground.now.flow.now c.args.ground.now.lists.now c.level.new.eye c.args.from xs c.deref-paths.result.now new l c.count-end.result c.count-end.ensures,
               (
-                subst (λ (ys : List Path). AllByRecursion (IsListedAround c.args.flow.now c.level.new.eye) ys)
-                    (sym (first_at c.args.flow.now c.args.lists.now c.level.new.eye c.args.from xs c.deref-paths.result.now new l c.count-end.result c.count-end.ensures))
-                    (told_at c.args.flow.now c.args.lists.now c.level.new.eye c.args.from xs c.deref-paths.result.now new l c.args.eye.now c.in_ok-level.ensures.told.keeps c.requires.listed few),
-                λ S says. closed_at c.args.flow.now c.args.lists.now c.level.new.eye c.args.from xs c.deref-paths.result.now new l c.count-end.result S says c.count-end.ensures few,
+                subst (λ (ys : List Path). AllByRecursion (IsListedAround c.args.ground.now.flow.now c.level.new.eye) ys)
+                    (sym (first_at c.args.ground.now.flow.now c.args.ground.now.lists.now c.level.new.eye c.args.from xs c.deref-paths.result.now new l c.count-end.result c.count-end.ensures))
+                    (told_at c.args.ground.now.flow.now c.args.ground.now.lists.now c.level.new.eye c.args.from xs c.deref-paths.result.now new l c.args.eye.now c.in_ok-level.ensures.told.keeps c.requires.listed few),
+                λ S says. closed_at c.args.ground.now.flow.now c.args.ground.now.lists.now c.level.new.eye c.args.from xs c.deref-paths.result.now new l c.count-end.result S says c.count-end.ensures few,
               ),
             ),
           ),
@@ -110,17 +110,14 @@ spread-requires g t c κs within =
 
 pub returns-in_err-spread-clause-looked : goal.returns-in_err-spread-clause-looked
 returns-in_err-spread-clause-looked g t c =
-    looked_on g.W.Files.act _ _ _ _ _ _ c.spread.result c.from_residual-in_err-spread.result _ c.in_err-spread.was c.from_residual-in_err-spread.ensures.1
-    (looked_then g.W.Files.act _ _ _ _ _ _ _ _ _ _ _ (ok_is_quiet c.level.result _ _ c.in_ok-level.was) c.level.ensures.looked c.spread.ensures.looked)
+    looked_then c.in_ok-level.ensures.looked (looked_on _ c.in_err-spread.was c.from_residual-in_err-spread.ensures.1 c.spread.ensures.looked)
 
 pub returns-clause-looked : goal.returns-clause-looked
 returns-clause-looked g t c =
-    looked_short g.W.Files.act _ _ _ _ _ _ _ (never_ok _ _)
-    (looked_well g.W.Files.act _ _ _ _ _ _ _ (ok_is_quiet c.spread.result _ _ c.in_ok-spread.was)
-    (looked_then g.W.Files.act _ _ _ _ _ _ _ _ _ _ _ (ok_is_quiet c.level.result _ _ c.in_ok-level.was) c.level.ensures.looked c.spread.ensures.looked))
+    looked_then c.in_ok-level.ensures.looked c.in_ok-spread.ensures.looked
 
 pub returns-clause-told : goal.returns-clause-told
-returns-clause-told g t c = told_then g.W.Files.act _ _ _ _ _ _ _ _ _ _ _ c.level.ensures.looked (ok_is_quiet c.level.result _ _ c.in_ok-level.was) c.in_ok-level.ensures.told c.in_ok-spread.ensures.told
+returns-clause-told g t c = told_then c.in_ok-level.ensures.looked c.in_ok-level.ensures.told c.in_ok-spread.ensures.told
 
 pub returns-clause-listed : goal.returns-clause-listed
 returns-clause-listed g t c = c.in_ok-spread.ensures.listed
@@ -129,16 +126,16 @@ pub returns-clause-whole : goal.returns-clause-whole
 returns-clause-whole g t c = λ S says few.
     let xs = c.args.found.now.paths.items in
     let new = c.level.new.found.paths.items in
-    let l : Level c.args.flow.now c.args.lists.now c.level.new.eye c.args.from xs c.deref-paths.result.now new =
+    let l : Level c.args.ground.now.flow.now c.args.ground.now.lists.now c.level.new.eye c.args.from xs c.deref-paths.result.now new =
     record { each = c.requires.kept.each; closed = λ S2 says2. c.requires.closed S2 (says_before c.args.eye.now c.level.new.eye S2 c.in_ok-level.ensures.told.keeps says2); is = c.deref-paths.ensures.value ∙ c.in_ok-fresh.ensures; advanced = c.in_ok-level.ensures.advanced } in
-    grown_at c.args.flow.now c.args.lists.now c.level.new.eye c.args.from xs c.deref-paths.result.now new l c.args.levels (c.args.levels - 1) S _ (says_before c.level.new.eye c.spread.new.eye S c.in_ok-spread.ensures.told.keeps says) (omega (arith, c.if-levels-eq0.false))
+    grown_at c.args.ground.now.flow.now c.args.ground.now.lists.now c.level.new.eye c.args.from xs c.deref-paths.result.now new l c.args.levels (c.args.levels - 1) S _ (says_before c.level.new.eye c.spread.new.eye S c.in_ok-spread.ensures.told.keeps says) (omega (arith, c.if-levels-eq0.false))
     (few_enough new c.is_over.result c.if-is_over.false c.is_over.ensures) (c.in_ok-spread.ensures.whole S says few)
 
 pub returns-clause-many : goal.returns-clause-many
 returns-clause-many g t c = λ S says many.
     let xs = c.args.found.now.paths.items in
     let new = c.level.new.found.paths.items in
-    let l : Level c.args.flow.now c.args.lists.now c.level.new.eye c.args.from xs c.deref-paths.result.now new =
+    let l : Level c.args.ground.now.flow.now c.args.ground.now.lists.now c.level.new.eye c.args.from xs c.deref-paths.result.now new =
     record { each = c.requires.kept.each; closed = λ S2 says2. c.requires.closed S2 (says_before c.args.eye.now c.level.new.eye S2 c.in_ok-level.ensures.told.keeps says2); is = c.deref-paths.ensures.value ∙ c.in_ok-fresh.ensures; advanced = c.in_ok-level.ensures.advanced } in
-    more_at c.args.flow.now c.args.lists.now c.level.new.eye c.args.from xs c.deref-paths.result.now new l c.args.levels (c.args.levels - 1) S (says_before c.level.new.eye c.spread.new.eye S c.in_ok-spread.ensures.told.keeps says) (omega (arith, c.if-levels-eq0.false))
+    more_at c.args.ground.now.flow.now c.args.ground.now.lists.now c.level.new.eye c.args.from xs c.deref-paths.result.now new l c.args.levels (c.args.levels - 1) S (says_before c.level.new.eye c.spread.new.eye S c.in_ok-spread.ensures.told.keeps says) (omega (arith, c.if-levels-eq0.false))
     (few_enough new c.is_over.result c.if-is_over.false c.is_over.ensures) (c.in_ok-spread.ensures.many S says many)

@@ -1,6 +1,6 @@
 use Rattle.std.proofs.Common.{◌+◌, take}
+use Rattle.smk_world.proofs.Devices.{looked_then, looked_on, looked_nothing}
 use Rattle.smk_chain.specs.Derive.{next}
-use Rattle.smk_store.proofs.Looks.{looked_on, looked_well, looked_then, looked_short, looked_nothing, ok_is_quiet, never_ok}
 use Rattle.smk_chain_sight.specs.Telling.{IsListedAround}
 use Rattle.smk_chain_sight.proofs.Eyes.{told_nothing, told_then, arounds_on, says_before}
 use Rattle.smk_chain_sight.proofs.Taken.{all_taken, all_done}
@@ -10,10 +10,10 @@ use Rattle.smk_chain_sight.proofs.reaching.level.Goals as goal
 pub loop-path-init : goal.loop-path-init
 loop-path-init g c =
     record {
-      looked = looked_nothing g.W.Files.act _ _ _;
+      looked = looked_nothing g.W.Files.act _;
       told = told_nothing _ _ _;
       kept = c.requires.kept;
-      added = λ S says. loop_begun (next c.args.flow.now S c.args.lists.now) c.args.fresh.now c.args.found.now.paths.items c.requires.kept.each;
+      added = λ S says. loop_begun (next c.args.ground.now.flow.now S c.args.ground.now.lists.now) c.args.fresh.now c.args.found.now.paths.items c.requires.kept.each;
       listed = tt;
     }
 
@@ -22,18 +22,15 @@ step-requires-clause-kept g c = c.loop-path.invariant.kept
 
 pub returns-in_err-step-clause-looked : goal.returns-in_err-step-clause-looked
 returns-in_err-step-clause-looked g c =
-    looked_on g.W.Files.act _ _ _ _ _ _ c.step.result c.from_residual.result _ c.in_err-step.was c.from_residual.ensures.1
-    (looked_then g.W.Files.act _ _ _ _ _ _ _ _ _ ⊥ _ (λ f. f) c.loop-path.invariant.looked c.step.ensures.looked)
+    looked_then c.loop-path.invariant.looked (looked_on _ c.in_err-step.was c.from_residual.ensures.1 c.step.ensures.looked)
 
 pub returns-then-is_over-clause-looked : goal.returns-then-is_over-clause-looked
 returns-then-is_over-clause-looked g c =
-    looked_short g.W.Files.act _ _ _ _ _ _ _ (never_ok _ _)
-    (looked_well g.W.Files.act _ _ _ _ _ _ _ (ok_is_quiet c.step.result _ _ c.in_ok-step.was)
-    (looked_then g.W.Files.act _ _ _ _ _ _ _ _ _ ⊥ _ (λ f. f) c.loop-path.invariant.looked c.step.ensures.looked))
+    looked_then c.loop-path.invariant.looked c.in_ok-step.ensures.looked
 
 pub returns-then-is_over-clause-told : goal.returns-then-is_over-clause-told
 returns-then-is_over-clause-told g c =
-    told_then g.W.Files.act _ _ _ _ _ _ ⊥ _ _ _ _ c.loop-path.invariant.looked (λ f. f) c.loop-path.invariant.told c.in_ok-step.ensures.told
+    told_then c.loop-path.invariant.looked c.loop-path.invariant.told c.in_ok-step.ensures.told
 
 pub returns-then-is_over-clause-advanced : goal.returns-then-is_over-clause-advanced
 returns-then-is_over-clause-advanced g c =
@@ -42,7 +39,7 @@ returns-then-is_over-clause-advanced g c =
     record {
       some = λ S says. (
         c.loop-path.path-index + 1,
-        loop_step (next c.args.flow.now S c.args.lists.now) c.args.fresh.now c.loop-path.path-index c.path-item.result c.args.found.now.paths.items c.loop-path.found.paths.items c.step.new.found.paths.items
+        loop_step (next c.args.ground.now.flow.now S c.args.ground.now.lists.now) c.args.fresh.now c.loop-path.path-index c.path-item.result c.args.found.now.paths.items c.loop-path.found.paths.items c.step.new.found.paths.items
             c.loop-path-test.true c.path-item.is (v.added S (says_before c.loop-path.eye c.step.new.eye S c.in_ok-step.ensures.told.keeps says)) (c.in_ok-step.ensures.added S says),
         λ few. absurd (never_few c.step.new.found.paths.items many few),
       );
@@ -53,20 +50,19 @@ pub loop-path-preserved : goal.loop-path-preserved
 loop-path-preserved g c =
     let v = c.loop-path.invariant in
     record {
-      looked = looked_well g.W.Files.act _ _ _ _ _ _ _ (ok_is_quiet c.step.result _ _ c.in_ok-step.was)
-          (looked_then g.W.Files.act _ _ _ _ _ _ _ _ _ ⊥ _ (λ f. f) v.looked c.step.ensures.looked);
-      told = told_then g.W.Files.act _ _ _ _ _ _ ⊥ _ _ _ _ v.looked (λ f. f) v.told c.in_ok-step.ensures.told;
+      looked = looked_then v.looked c.in_ok-step.ensures.looked;
+      told = told_then v.looked v.told c.in_ok-step.ensures.told;
       kept = c.in_ok-step.ensures.kept;
       added = λ S says.
-          loop_step (next c.args.flow.now S c.args.lists.now) c.args.fresh.now c.loop-path.path-index c.path-item.result c.args.found.now.paths.items c.loop-path.found.paths.items c.step.new.found.paths.items
+          loop_step (next c.args.ground.now.flow.now S c.args.ground.now.lists.now) c.args.fresh.now c.loop-path.path-index c.path-item.result c.args.found.now.paths.items c.loop-path.found.paths.items c.step.new.found.paths.items
           c.loop-path-test.true c.path-item.is (v.added S (says_before c.loop-path.eye c.step.new.eye S c.in_ok-step.ensures.told.keeps says)) (c.in_ok-step.ensures.added S says);
-      listed = all_taken (IsListedAround c.args.flow.now c.step.new.eye) c.args.fresh.now c.loop-path.path-index c.path-item.result c.loop-path-test.true c.path-item.is
-          (arounds_on c.args.flow.now c.loop-path.eye c.step.new.eye (take c.loop-path.path-index c.args.fresh.now) c.in_ok-step.ensures.told.keeps v.listed)
+      listed = all_taken (IsListedAround c.args.ground.now.flow.now c.step.new.eye) c.args.fresh.now c.loop-path.path-index c.path-item.result c.loop-path-test.true c.path-item.is
+          (arounds_on c.args.ground.now.flow.now c.loop-path.eye c.step.new.eye (take c.loop-path.path-index c.args.fresh.now) c.in_ok-step.ensures.told.keeps v.listed)
           c.in_ok-step.ensures.listed;
     }
 
 pub returns-clause-looked : goal.returns-clause-looked
-returns-clause-looked g c = looked_short g.W.Files.act _ _ _ _ _ _ _ (never_ok _ _) c.loop-path.invariant.looked
+returns-clause-looked g c = c.loop-path.invariant.looked
 
 pub returns-clause-told : goal.returns-clause-told
 returns-clause-told g c = c.loop-path.invariant.told
@@ -76,5 +72,5 @@ returns-clause-advanced g c =
     let v = c.loop-path.invariant in
     record {
       some = λ S says. (c.loop-path.path-index, v.added S says, λ few. c.loop-path-test.false);
-      listed = λ few. all_done (IsListedAround c.args.flow.now c.loop-path.eye) c.args.fresh.now c.loop-path.path-index c.loop-path-test.false v.listed;
+      listed = λ few. all_done (IsListedAround c.args.ground.now.flow.now c.loop-path.eye) c.args.fresh.now c.loop-path.path-index c.loop-path-test.false v.listed;
     }

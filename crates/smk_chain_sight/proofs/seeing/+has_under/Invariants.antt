@@ -1,9 +1,8 @@
-use Rattle.std.proofs.Common.{◌≡◌, ◌-◌, Some, true, length, take}
+use Rattle.std.proofs.Common.{◌≡◌, ◌-◌, true, false, length, take}
 use Rattle.std.specs.Prelude.{All}
-use Rattle.smk_world.specs.World.{World}
 use Rattle.smk_world.specs.Trees.{is_path_text}
+use Rattle.smk_world.specs.Devices.{WhereTold, HasLooked}
 use Rattle.smk_store.specs.Images.{Image}
-use Rattle.smk_store.specs.Walking.{HasLooked}
 use Rattle.smk_chain_sight.specs.Viewing.{Viewed}
 use Rattle.smk_chain_sight.proofs.Stand.{NoneAt}
 use Rattle.smk_chain_sight.proofs.seeing.+has_under.Given as goal
@@ -13,7 +12,7 @@ decreases-has_under g l = 1000 - length l.folder.now
 
 abbrev pub invariant-loop-name : goal.invariant-loop-name
 invariant-loop-name g l = record {
-  looked : HasLooked g.W.Files.act (g.W.Files.world l.fn.work) (g.W.Files.world l.work) (g.W.Files.faults l.fn.work) (g.W.Files.faults l.work) (g.W.Files.running l.fn.work) (g.W.Files.running l.work) ⊥;
-  told : (w : World) (image : Image) → g.W.Files.world l.fn.work ≡ Some w → Viewed w.nodes l.store image → is_path_text l.folder ≡ true
-      → All (NoneAt image l.folder) (take l.name-index l.name-items);
+  looked : HasLooked g.W.Files.act (g.W.Files.device l.fn.work) (g.W.Files.device l.work) false;
+  told : WhereTold (g.W.Files.device l.fn.work) (λ w. (image : Image) → Viewed w.nodes l.store image → is_path_text l.folder ≡ true
+      → All (NoneAt image l.folder) (take l.name-index l.name-items));
 }

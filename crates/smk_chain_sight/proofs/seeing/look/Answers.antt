@@ -1,8 +1,8 @@
 use Rattle.std.proofs.Common.{ap, sym, subst, ◌∙◌}
 use Rattle.smk_world.specs.World.{reading}
 use Rattle.smk_world.specs.Calls.{stat_of}
-use Rattle.smk_store.proofs.Looks.{never_ok}
-use Rattle.smk_store.proofs.Seeing.{looked_failed, looked_well_at, stat_told}
+use Rattle.smk_world.proofs.Devices.{looked_stat, looked_failed}
+use Rattle.smk_store.proofs.Looks.{stat_told}
 use Rattle.smk_chain_sight.specs.declared.seeing.Sighted.{Sighted}
 use Rattle.smk_chain_sight.specs.Viewing.{IsSighted, by_stat}
 use Rattle.smk_chain_sight.proofs.Stand.{sighted_covered, sighted_is}
@@ -10,22 +10,21 @@ use Rattle.smk_chain_sight.proofs.Eyes.{still_owned}
 use Rattle.smk_chain_sight.proofs.seeing.look.Goals as goal
 
 pub returns-then-covered-clause-told : goal.returns-then-covered-clause-told
-returns-then-covered-clause-told g c = λ w image at v path.
+returns-then-covered-clause-told g c = λ w at image v path.
     sighted_covered w.nodes c.args.store.now image v c.args.path.now (sym c.covered.ensures ∙ c.if-covered.true)
 
 pub returns-in_err-stat-clause-looked : goal.returns-in_err-stat-clause-looked
 returns-in_err-stat-clause-looked g c =
-    looked_failed g.W.Files.act _ _ _ _ _ _ c.in_ok-place.place c.stat.result c.from_residual-in_err-stat.result _ c.in_err-stat.was c.from_residual-in_err-stat.ensures.1
-    c.stat.ensures.world c.stat.ensures.cause c.stat.ensures.running
+    looked_failed _ c.in_err-stat.was c.from_residual-in_err-stat.ensures.1 (looked_stat c.stat.ensures)
 
 pub returns-clause-looked : goal.returns-clause-looked
 returns-clause-looked g c =
-    looked_well_at g.W.Files.act _ _ _ _ _ _ c.in_ok-place.place c.stat.result _ _ c.in_ok-stat.was (never_ok _ _) c.stat.ensures.world c.stat.ensures.cause c.stat.ensures.running
+    looked_stat c.in_ok-stat.ensures
 
 pub returns-clause-told : goal.returns-clause-told
-returns-clause-told g c = λ w image at v path.
+returns-clause-told g c = λ w at image v path.
     let stat =
-    stat_told g.W.Files.act _ _ c.in_ok-place.place c.stat.result _ w c.stat.ensures.world c.in_ok-stat.was at (still_owned w.nodes _ image v c.args.path.now c.in_ok-place.place c.in_ok-place.ensures path)
+    stat_told w c.stat.ensures c.in_ok-stat.was at (still_owned w.nodes _ image v c.args.path.now c.in_ok-place.place c.in_ok-place.ensures path)
     ∙ ap (λ q. stat_of (reading (w.nodes q))) c.in_ok-place.ensures in
     subst (λ (s : Sighted). IsSighted image c.args.path.now s) (sym (c.by_stat.ensures ∙ ap by_stat stat))
     (sighted_is w.nodes c.args.store.now image v c.args.path.now path (sym c.covered.ensures ∙ c.if-covered.false))

@@ -1,23 +1,21 @@
 use Rattle.std.proofs.Common.{subst, List}
 use Rattle.std.specs.List.{AllByRecursion}
+use Rattle.smk_world.proofs.Devices.{looked_on, looked_memory}
 use Rattle.smk_choose.specs.declared.choice.Making.{Making}
-use Rattle.smk_store.proofs.Looks.{looked_on, looked_memory, looked_well, looked_short, ok_is_quiet, never_ok}
 use Rattle.smk_chain_sight.proofs.Eyes.{fitting_told, JobTold}
 use Rattle.smk_chain_sight.proofs.telling.candidates_of.Goals as goal
 
 pub returns-in_err-tell_jobs-clause-looked : goal.returns-in_err-tell_jobs-clause-looked
 returns-in_err-tell_jobs-clause-looked g c =
-    looked_on g.W.Files.act _ _ _ _ _ _ c.tell_jobs.result c.from_residual-in_err-tell_jobs.result _ c.in_err-tell_jobs.was c.from_residual-in_err-tell_jobs.ensures.1 c.tell_jobs.ensures.looked
+    looked_on _ c.in_err-tell_jobs.was c.from_residual-in_err-tell_jobs.ensures.1 c.tell_jobs.ensures.looked
 
 pub returns-in_err-jobs-clause-looked : goal.returns-in_err-jobs-clause-looked
 returns-in_err-jobs-clause-looked g c =
-    looked_memory g.W.Files.act _ _ _ _ _ _ c.from_residual-in_err-jobs.result c.from_residual-in_err-jobs.ensures.1
-    (looked_well g.W.Files.act _ _ _ _ _ _ _ (ok_is_quiet c.tell_jobs.result _ _ c.in_ok-tell_jobs.was) c.tell_jobs.ensures.looked)
+    looked_memory _ c.from_residual-in_err-jobs.ensures.1 c.in_ok-tell_jobs.ensures.looked
 
 pub returns-clause-looked : goal.returns-clause-looked
 returns-clause-looked g c =
-    looked_short g.W.Files.act _ _ _ _ _ _ _ (never_ok _ _)
-    (looked_well g.W.Files.act _ _ _ _ _ _ _ (ok_is_quiet c.tell_jobs.result _ _ c.in_ok-tell_jobs.was) c.tell_jobs.ensures.looked)
+    c.in_ok-tell_jobs.ensures.looked
 
 pub returns-clause-listed : goal.returns-clause-listed
 returns-clause-listed g c =

@@ -2,9 +2,9 @@ use Rattle.std.proofs.Common.{◌≡◌, ap, ◌∙◌, Some, bytes_eq, subst}
 use Rattle.std.specs.Prelude.{if◌then◌else◌}
 use Rattle.smk_base.proofs.Places.{place_itself}
 use Rattle.smk_world.specs.Trees.{Path}
+use Rattle.smk_world.proofs.Devices.{looked_on, looked_memory}
 use Rattle.smk_choose.specs.declared.sources.Standing.{Standing}
 use Rattle.smk_choose.specs.Told.{standing_of}
-use Rattle.smk_store.proofs.Looks.{looked_on, looked_memory, looked_well, looked_short, ok_is_quiet, never_ok}
 use Rattle.smk_chain_sight.proofs.Noted.{there, not_there, told_more, keeps_more}
 use Rattle.smk_chain_sight.proofs.telling.tell.Goals as goal
 
@@ -13,22 +13,19 @@ returns-then-is_told-clause-listed g c = there (standing_of c.args.eye.now.sourc
 
 pub returns-in_err-found-clause-looked : goal.returns-in_err-found-clause-looked
 returns-in_err-found-clause-looked g c =
-    looked_on g.W.Files.act _ _ _ _ _ _ c.standing_at.result c.from_residual.result _ c.in_err-found.was c.from_residual.ensures.1 c.standing_at.ensures.looked
+    looked_on _ c.in_err-found.was c.from_residual.ensures.1 c.standing_at.ensures.looked
 
 pub returns-in_err-copy-clause-looked : goal.returns-in_err-copy-clause-looked
 returns-in_err-copy-clause-looked g c =
-    looked_memory g.W.Files.act _ _ _ _ _ _ c.from_residual-in_err-copy.result c.from_residual-in_err-copy.ensures.1
-    (looked_well g.W.Files.act _ _ _ _ _ _ _ (ok_is_quiet c.standing_at.result _ _ c.in_ok-found.was) c.standing_at.ensures.looked)
+    looked_memory _ c.from_residual-in_err-copy.ensures.1 c.in_ok-found.ensures.looked
 
 pub returns-in_err-add-clause-looked : goal.returns-in_err-add-clause-looked
 returns-in_err-add-clause-looked g c =
-    looked_memory g.W.Files.act _ _ _ _ _ _ c.from_residual-in_err-add.result c.from_residual-in_err-add.ensures.1
-    (looked_well g.W.Files.act _ _ _ _ _ _ _ (ok_is_quiet c.standing_at.result _ _ c.in_ok-found.was) c.standing_at.ensures.looked)
+    looked_memory _ c.from_residual-in_err-add.ensures.1 c.in_ok-found.ensures.looked
 
 pub returns-clause-looked : goal.returns-clause-looked
 returns-clause-looked g c =
-    looked_short g.W.Files.act _ _ _ _ _ _ _ (never_ok _ _)
-    (looked_well g.W.Files.act _ _ _ _ _ _ _ (ok_is_quiet c.standing_at.result _ _ c.in_ok-found.was) c.standing_at.ensures.looked)
+    c.in_ok-found.ensures.looked
 
 pub returns-clause-listed : goal.returns-clause-listed
 returns-clause-listed g c =
@@ -43,7 +40,7 @@ returns-clause-told g c =
     let changed = subst (λ (p : Path). (q : Path) → new q ≡ (if bytes_eq p q then Some s else old q)) c.in_ok-copy.ensures c.in_ok-add.ensures.ok in
     record {
       keeps = keeps_more old new c.args.path.now s (not_there (old c.args.path.now) c.is_told.result c.if-is_told.false c.is_told.ensures) changed;
-      stays = λ w image at v t.
-          let u = c.in_ok-found.ensures.told w image at v t.seen in
+      stays = λ w at image v t.
+          let u = c.in_ok-found.ensures.told w at image v t.seen in
           record { seen = u.1; told = told_more image old new c.args.path.now s changed u.0 t.told };
     }

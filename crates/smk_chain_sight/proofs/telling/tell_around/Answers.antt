@@ -1,17 +1,17 @@
 use Rattle.std.proofs.Common.{◌∙◌, sym, ap, map}
 use Rattle.smk_base.proofs.Under.{never_both}
+use Rattle.smk_world.proofs.Devices.{looked_then, looked_on}
 use Rattle.smk_choose.specs.Told.{told_by, making}
-use Rattle.smk_store.proofs.Looks.{looked_on, looked_well, looked_then, looked_short, ok_is_quiet, never_ok}
 use Rattle.smk_chain_sight.proofs.Eyes.{told_then, listed_on, is_by, no_candidates, its_candidates}
 use Rattle.smk_chain_sight.proofs.telling.tell_around.Goals as goal
 
 pub returns-in_err-tell-clause-looked : goal.returns-in_err-tell-clause-looked
 returns-in_err-tell-clause-looked g c =
-    looked_on g.W.Files.act _ _ _ _ _ _ c.tell.result c.from_residual.result _ c.in_err-tell.was c.from_residual.ensures.1 c.tell.ensures.looked
+    looked_on _ c.in_err-tell.was c.from_residual.ensures.1 c.tell.ensures.looked
 
 pub returns-then-is-clause-looked : goal.returns-then-is-clause-looked
 returns-then-is-clause-looked g c =
-    looked_short g.W.Files.act _ _ _ _ _ _ _ (never_ok _ _) (looked_well g.W.Files.act _ _ _ _ _ _ _ (ok_is_quiet c.tell.result _ _ c.in_ok-tell.was) c.tell.ensures.looked)
+    c.in_ok-tell.ensures.looked
 
 pub returns-then-is-clause-listed : goal.returns-then-is-clause-listed
 returns-then-is-clause-listed g c = (c.in_ok-tell.ensures.listed, λ e. absurd (never_both ((told_by c.tell.new.eye.sources).is c.args.path.now) (sym c.is.ensures ∙ c.if-is.true) e))
@@ -24,21 +24,18 @@ returns-then-is-clause-jobs g c = c.new.ensures.items ∙ no_candidates c.args.f
 
 pub returns-in_err-jobs-clause-looked : goal.returns-in_err-jobs-clause-looked
 returns-in_err-jobs-clause-looked g c =
-    looked_on g.W.Files.act _ _ _ _ _ _ c.candidates_of.result c.from_residual-in_err-jobs.result _ c.in_err-jobs.was c.from_residual-in_err-jobs.ensures.1
-    (looked_then g.W.Files.act _ _ _ _ _ _ _ _ _ _ _ (ok_is_quiet c.tell.result _ _ c.in_ok-tell.was) c.tell.ensures.looked c.candidates_of.ensures.looked)
+    looked_then c.in_ok-tell.ensures.looked (looked_on _ c.in_err-jobs.was c.from_residual-in_err-jobs.ensures.1 c.candidates_of.ensures.looked)
 
 pub returns-clause-looked : goal.returns-clause-looked
 returns-clause-looked g c =
-    looked_short g.W.Files.act _ _ _ _ _ _ _ (never_ok _ _)
-    (looked_well g.W.Files.act _ _ _ _ _ _ _ (ok_is_quiet c.candidates_of.result _ _ c.in_ok-jobs.was)
-    (looked_then g.W.Files.act _ _ _ _ _ _ _ _ _ _ _ (ok_is_quiet c.tell.result _ _ c.in_ok-tell.was) c.tell.ensures.looked c.candidates_of.ensures.looked))
+    looked_then c.in_ok-tell.ensures.looked c.in_ok-jobs.ensures.looked
 
 pub returns-clause-listed : goal.returns-clause-listed
 returns-clause-listed g c =
     (listed_on c.tell.new.eye c.candidates_of.new.eye c.args.path.now c.in_ok-jobs.ensures.told.keeps c.in_ok-tell.ensures.listed, λ e. c.in_ok-jobs.ensures.listed)
 
 pub returns-clause-told : goal.returns-clause-told
-returns-clause-told g c = told_then g.W.Files.act _ _ _ _ _ _ _ _ _ _ _ c.tell.ensures.looked (ok_is_quiet c.tell.result _ _ c.in_ok-tell.was) c.in_ok-tell.ensures.told c.in_ok-jobs.ensures.told
+returns-clause-told g c = told_then c.in_ok-tell.ensures.looked c.in_ok-tell.ensures.told c.in_ok-jobs.ensures.told
 
 pub returns-clause-jobs : goal.returns-clause-jobs
 returns-clause-jobs g c =

@@ -1,6 +1,6 @@
 use Rattle.std.proofs.Common.{◌∙◌}
-use Rattle.smk_chain_walk.proofs.RuleAt.{part_found, part_lacking}
 use Rattle.smk_chain_walk.proofs.parts.part_at.Goals as goal
+use Rattle.smk_choose_wants.proofs.Chosen.{part_found, part_lacking}
 
 pub returns-in-Some : goal.returns-in-Some
 returns-in-Some c =

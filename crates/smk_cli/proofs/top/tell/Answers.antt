@@ -1,13 +1,12 @@
-use Rattle.std.proofs.Common.{◌∙◌, subst, sym, is_ok}
-use Rattle.smk_world.specs.Calls.{Rose}
-use Rattle.smk_run.specs.Reports.{HasWritten}
-use Rattle.smk_cli.specs.Lines.{IsFaultLine}
-use Rattle.smk_cli.proofs.Putting.{line_put, not_ok}
+use Rattle.std.proofs.Common.{◌∙◌, subst, sym}
+use Rattle.smk_cli.specs.Lines.{HasToldFault}
+use Rattle.smk_cli.proofs.Putting.{told_line, told_none, told_short}
 use Rattle.smk_cli.proofs.top.tell.Goals as goal
+
+pub returns-in-Ok-clause-line : goal.returns-in-Ok-clause-line
+returns-in-Ok-clause-line g c = subst (λ f. HasToldFault f (g.O.Sink.sunk c.args.err.now) (g.O.Sink.sunk c.args.err.now)) (sym c.of.ensures.fault) (told_none _)
 
 pub returns-in-Ok-fault_line-clause-line : goal.returns-in-Ok-fault_line-clause-line
 returns-in-Ok-fault_line-clause-line g c =
-    let sink = g.O.Sink in
-    let rose = Rose (sink.faults c.args.err.now) (sink.faults c.write_out.new.out) in
-    subst (λ fault. HasWritten (sink.put_so_far c.args.err.now) (sink.put_so_far c.write_out.new.out) (¬ rose) (IsFaultLine fault rose)) (sym c.of-in-Ok-fault_line.ensures.fault)
-    (line_put c.in-Err.fault c.as_str.result.now (is_ok c.write_out.result) _ _ rose (c.as_str.ensures ∙ c.in-Ok-fault_line.ensures) c.write_out.ensures.put (λ bad. c.write_out.ensures.cause.rose (not_ok c.write_out.result bad)))
+    subst (λ f. HasToldFault f (g.O.Sink.sunk c.args.err.now) (g.O.Sink.sunk c.write_out.new.out)) (sym c.of-in-Ok-fault_line.ensures.fault)
+    (told_line c.in-Err.fault c.as_str.result.now _ _ c.write_out.result (c.as_str.ensures ∙ c.in-Ok-fault_line.ensures) c.write_out.ensures)

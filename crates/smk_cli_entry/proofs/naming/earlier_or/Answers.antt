@@ -1,8 +1,13 @@
-use Rattle.smk_cli_entry.proofs.Firsts.{found_earlier, found_none}
+use Rattle.std.proofs.Common.{Ok, ap, sym, subst}
+use Rattle.smk_world.proofs.Devices.{looked_nothing}
+use Rattle.smk_cli_entry.specs.Faults.{Answers}
+use Rattle.smk_cli_entry.specs.Forms.{or_else}
+use Rattle.smk_cli_entry.specs.Names.{file_at}
 use Rattle.smk_cli_entry.proofs.naming.earlier_or.Goals as goal
 
-pub returns-in-Some-clause-did : goal.returns-in-Some-clause-did
-returns-in-Some-clause-did g c = found_earlier g.W.Files.act c.args.earlier c.in-Some.path c.args.name.now _ c.in-Some.is
+pub returns-in-Some-clause-told : goal.returns-in-Some-clause-told
+returns-in-Some-clause-told g c = λ w here. ap (λ o. Ok (or_else o (file_at w.nodes c.args.name.now))) c.in-Some.is
 
-pub returns-in-None-clause-did : goal.returns-in-None-clause-did
-returns-in-None-clause-did g c = found_none g.W.Files.act c.args.earlier c.file_named.result c.args.name.now _ _ c.in-None.is c.file_named.ensures.did
+pub returns-in-None-clause-told : goal.returns-in-None-clause-told
+returns-in-None-clause-told g c = λ w here.
+    subst (λ o. Answers (Ok (or_else o (file_at w.nodes c.args.name.now))) c.file_named.result) (sym c.in-None.is) (c.file_named.ensures.told w here)

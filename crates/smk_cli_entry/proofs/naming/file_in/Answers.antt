@@ -1,15 +1,16 @@
-use Rattle.std.proofs.Common.{Ok, refl, ap, sym}
+use Rattle.std.proofs.Common.{Ok, ap, sym, ◌∙◌}
 use Rattle.smk_world.specs.Calls.{stat_of}
 use Rattle.smk_eval_files.specs.Looks.{at}
+use Rattle.smk_cli_entry.specs.Faults.{and_then}
 use Rattle.smk_cli_entry.specs.Names as spec
-use Rattle.smk_cli_entry.proofs.Binds.{bind_fault, bind_still}
+use Rattle.smk_cli_entry.proofs.Stats.{unread}
 use Rattle.smk_cli_entry.proofs.naming.file_in.Goals as goal
 
-pub returns-in-Err-clause-did : goal.returns-in-Err-clause-did
-returns-in-Err-clause-did g c =
-    bind_fault g.W.Files.act c.stat.result c.in-Err.fault (λ nodes. Ok (stat_of (at nodes c.args.place.now))) (λ nodes s. Ok (spec.where_file c.args.path s)) _ _ c.in-Err.is c.stat.ensures.did
+pub returns-in-Err-clause-told : goal.returns-in-Err-clause-told
+returns-in-Err-clause-told g c = λ w here.
+    let stat = stat_of (at w.nodes c.args.place.now) in
+    unread stat (spec.where_file c.args.path stat) c.in-Err.fault (c.in-Err.ensures.told w here)
 
-pub returns-in-Ok-clause-did : goal.returns-in-Ok-clause-did
-returns-in-Ok-clause-did g c =
-    bind_still g.W.Files.act c.stat.result c.in-Ok.stat (Ok c.where_file.result) (λ nodes. Ok (stat_of (at nodes c.args.place.now))) (λ nodes s. Ok (spec.where_file c.args.path s)) _ _ c.in-Ok.is c.stat.ensures.did refl
-    (λ nodes. ap Ok (sym c.where_file.ensures))
+pub returns-in-Ok-clause-told : goal.returns-in-Ok-clause-told
+returns-in-Ok-clause-told g c = λ w here.
+    ap (λ r. and_then r (λ s. Ok (spec.where_file c.args.path s))) (c.in-Ok.ensures.told w here) ∙ ap Ok (sym c.where_file.ensures)

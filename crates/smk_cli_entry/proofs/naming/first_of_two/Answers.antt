@@ -1,19 +1,24 @@
-use Rattle.std.proofs.Common.{Ok, [], ◌∷◌, subst}
+use Rattle.std.proofs.Common.{Ok, [], ◌∷◌, ap, sym, ◌∙◌}
 use Rattle.std.specs.Prelude.{codes}
-use Rattle.smk_eval_files.proofs.Looking.{seen_map}
-use Rattle.smk_cli_entry.specs.Faults.{device_failed, Answers}
-use Rattle.smk_cli_entry.specs.Names as spec
-use Rattle.smk_cli_entry.proofs.Firsts.{first_one, step, step_fault}
+use Rattle.smk_world.proofs.Devices.{looked_then}
+use Rattle.smk_eval_files.proofs.Looking.{told_then}
+use Rattle.smk_cli_entry.specs.Faults.{Answers}
+use Rattle.smk_cli_entry.specs.Forms.{or_else}
+use Rattle.smk_cli_entry.specs.Names.{file_at, first_file}
+use Rattle.smk_cli_entry.proofs.Stats.{unread}
+use Rattle.smk_cli_entry.proofs.Firsts.{first_one, next_file}
 use Rattle.smk_cli_entry.proofs.naming.first_of_two.Goals as goal
 
-pub returns-in-Err-clause-did : goal.returns-in-Err-clause-did
-returns-in-Err-clause-did g c =
-    step_fault g.W.Files.act c.file_named.result c.in-Err.fault (codes "Snakefile" ∷ []) (codes "snakefile") _ _ c.in-Err.is
-    (seen_map g.W.Files.act (device_failed c.file_named.result) (λ nodes. Answers (Ok (spec.file_at nodes (codes "Snakefile"))) c.file_named.result) (λ nodes. Answers (Ok (spec.first_file nodes (codes "Snakefile" ∷ []))) c.file_named.result) _ _ c.file_named.ensures.did
-    (λ nodes h. subst (λ o. Answers (Ok o) c.file_named.result) (first_one nodes (codes "Snakefile")) h))
+pub returns-in-Err-clause-told : goal.returns-in-Err-clause-told
+returns-in-Err-clause-told g c = λ w here.
+    unread (file_at w.nodes (codes "Snakefile")) (first_file w.nodes (codes "Snakefile" ∷ codes "snakefile" ∷ [])) c.in-Err.fault (c.in-Err.ensures.told w here)
 
-pub returns-in-Ok-clause-did : goal.returns-in-Ok-clause-did
-returns-in-Ok-clause-did g c =
-    step g.W.Files.act c.file_named.result c.earlier_or.result c.in-Ok.earlier (codes "Snakefile" ∷ []) (codes "snakefile") _ _ _ c.in-Ok.is
-    (seen_map g.W.Files.act (device_failed c.file_named.result) (λ nodes. Answers (Ok (spec.file_at nodes (codes "Snakefile"))) c.file_named.result) (λ nodes. Answers (Ok (spec.first_file nodes (codes "Snakefile" ∷ []))) c.file_named.result) _ _ c.file_named.ensures.did
-    (λ nodes h. subst (λ o. Answers (Ok o) c.file_named.result) (first_one nodes (codes "Snakefile")) h)) c.earlier_or.ensures.did
+pub returns-in-Ok-clause-looked : goal.returns-in-Ok-clause-looked
+returns-in-Ok-clause-looked g c = looked_then c.in-Ok.ensures.looked c.earlier_or.ensures.looked
+
+pub returns-in-Ok-clause-told : goal.returns-in-Ok-clause-told
+returns-in-Ok-clause-told g c = λ w here.
+    let o = c.in-Ok.earlier in
+    let s = c.earlier_or.result in
+    next_file w.nodes (codes "Snakefile" ∷ []) (codes "snakefile") o s (ap Ok (sym (first_one w.nodes (codes "Snakefile"))) ∙ c.in-Ok.ensures.told w here)
+    (told_then (λ nodes. Answers (Ok (or_else o (file_at nodes (codes "snakefile")))) s) c.in-Ok.ensures.looked c.earlier_or.ensures.told w here)

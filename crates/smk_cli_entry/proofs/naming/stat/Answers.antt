@@ -1,16 +1,14 @@
-use Rattle.std.proofs.Common.{Ok}
-use Rattle.smk_world.specs.Calls.{stat_of}
-use Rattle.smk_eval_files.specs.Looks.{at}
-use Rattle.smk_eval_files.proofs.Looking.{IsEntry, idle_of}
-use Rattle.smk_cli_entry.proofs.Binds.{seen_stat, seen_failed, never_told}
+use Rattle.std.proofs.Common.{Ok, ap, sym, true≢false}
+use Rattle.smk_world.proofs.Devices.{looked_stat}
+use Rattle.smk_cli_entry.proofs.Stats.{stat_seen}
 use Rattle.smk_cli_entry.proofs.naming.stat.Goals as goal
 
-pub returns-in-Ok-clause-did : goal.returns-in-Ok-clause-did
-returns-in-Ok-clause-did g c =
-    let files = g.W.Files in
-    let idle : IsEntry (files.world c.args.work.now) = λ w told. idle_of w _ (g.met.W.Files.same_numbers c.args.work.now w told) (g.met.W.Files.owned c.args.work.now w told) c.requires.none_runs in
-    seen_stat files.act _ _ c.args.place.now c.in-Ok.stat idle c.in-Ok.ensures.world
+pub returns-in-Ok-clause-looked : goal.returns-in-Ok-clause-looked
+returns-in-Ok-clause-looked g c = looked_stat c.in-Ok.ensures
 
-pub returns-in-Err-clause-did : goal.returns-in-Err-clause-did
-returns-in-Err-clause-did g c =
-    seen_failed g.W.Files.act _ _ c.args.place.now _ _ c.in-Err.ensures.world (λ nodes. never_told (Ok (stat_of (at nodes c.args.place.now))))
+pub returns-in-Ok-clause-told : goal.returns-in-Ok-clause-told
+returns-in-Ok-clause-told g c = λ w here.
+    ap Ok (stat_seen c.args.place.now c.in-Ok.stat (g.met.W.Files.sound c.args.work.now) c.requires.none_runs c.in-Ok.ensures w here)
+
+pub returns-in-Err-clause-looked : goal.returns-in-Err-clause-looked
+returns-in-Err-clause-looked g c = looked_stat c.in-Err.ensures

@@ -1,13 +1,16 @@
-use Rattle.std.proofs.Common.{Ok}
-use Rattle.smk_cli_entry.specs.Names as spec
-use Rattle.smk_cli_entry.proofs.Binds.{bind_fault, bind_still}
+use Rattle.std.proofs.Common.{Ok, ap, sym}
+use Rattle.smk_world.proofs.Devices.{looked_as}
+use Rattle.smk_cli_entry.specs.Faults.{and_then}
+use Rattle.smk_cli_entry.specs.Names.{first_file, file_names, or_no_file}
+use Rattle.smk_cli_entry.proofs.Stats.{answers_then}
 use Rattle.smk_cli_entry.proofs.naming.workflow_file.Goals as goal
 
-pub returns-in-Err-clause-did : goal.returns-in-Err-clause-did
-returns-in-Err-clause-did g c =
-    bind_fault g.W.Files.act c.first_file.result c.in-Err.fault (λ nodes. Ok (spec.first_file nodes spec.file_names)) (λ nodes o. spec.or_no_file o) _ _ c.in-Err.is c.first_file.ensures.did
+pub returns-in-Err-clause-told : goal.returns-in-Err-clause-told
+returns-in-Err-clause-told g c = λ w here told. ap (λ r. and_then r (λ o. or_no_file o)) (c.in-Err.ensures.told w here told)
 
-pub returns-in-Ok-clause-did : goal.returns-in-Ok-clause-did
-returns-in-Ok-clause-did g c =
-    bind_still g.W.Files.act c.first_file.result c.in-Ok.found c.or_no_file.result (λ nodes. Ok (spec.first_file nodes spec.file_names)) (λ nodes o. spec.or_no_file o) _ _ c.in-Ok.is c.first_file.ensures.did c.or_no_file.ensures.no_device
-    (λ nodes. c.or_no_file.ensures.is)
+pub returns-in-Ok-clause-looked : goal.returns-in-Ok-clause-looked
+returns-in-Ok-clause-looked g c = looked_as (sym c.or_no_file.ensures.no_device) c.in-Ok.ensures.looked
+
+pub returns-in-Ok-clause-told : goal.returns-in-Ok-clause-told
+returns-in-Ok-clause-told g c = λ w here.
+    answers_then (Ok (first_file w.nodes file_names)) c.in-Ok.found (λ o. or_no_file o) c.or_no_file.result (c.in-Ok.ensures.told w here) c.or_no_file.ensures.is

@@ -1,12 +1,11 @@
-use Rattle.std.proofs.Common.{◌≡◌, Ok, Err, ap, sym, subst, ◌∙◌, false}
-use Rattle.smk_eval.specs.Faults.{is_device, device_failed, and_then}
-use Rattle.smk_eval.specs.Loading.{config_file, config_at}
-use Rattle.smk_eval.specs.Configured.{Configures}
-use Rattle.smk_eval.proofs.Steps.{without_looks}
+use Rattle.std.proofs.Common.{ap, sym}
+use Rattle.smk_world.proofs.Devices.{looked_nothing, looked_as}
+use Rattle.smk_eval.specs.Faults.{and_then}
+use Rattle.smk_eval.specs.Loading.{config_file}
 use Rattle.smk_eval.proofs.configs.config_at.Goals as goal
 
-pub returns-in-Err-clause-did : goal.returns-in-Err-clause-did
-returns-in-Err-clause-did g c =
-    let f = c.in-Err.fault in
-    without_looks g.W.Files.act (is_device f) (λ nodes. Configures (Err f) (config_at nodes c.args.text.now)) _ c.in-Err.ensures.no_device
-    (λ nodes. λ told. ap (λ r. and_then r (config_file nodes)) (c.in-Err.ensures.is told))
+pub returns-in-Err-clause-looked : goal.returns-in-Err-clause-looked
+returns-in-Err-clause-looked g c = looked_as (sym c.in-Err.ensures.no_device) (looked_nothing g.W.Files.act (g.W.Files.device c.args.work.now))
+
+pub returns-in-Err-clause-told : goal.returns-in-Err-clause-told
+returns-in-Err-clause-told g c = λ w here told. ap (λ r. and_then r (config_file w.nodes)) (c.in-Err.ensures.is told)

@@ -1,47 +1,43 @@
-use Rattle.std.proofs.Common.{◌≡◌, ◌∷◌, ◌+◌, ◌<◌, List, ℕ, length, get_or, drop, Ok, Err, ap, sym, subst, ◌∙◌, false, arith}
+use Rattle.std.proofs.Common.{◌≡◌, ◌∷◌, ◌+◌, ◌<◌, List, ℕ, length, get_or, drop, ap, sym, ◌∙◌}
 use Rattle.std.proofs.lemmas.List.{at_drop_more}
-use Rattle.serde_json.specs.Data.{no_members}
+use Rattle.smk_world.proofs.Devices.{looked_then, still}
 use Rattle.smk_config.specs.Settings.{members}
-use Rattle.smk_eval.specs.Faults.{is_device, device_failed, and_then}
+use Rattle.smk_eval_files.specs.Looks.{Nodes}
+use Rattle.smk_eval.specs.Faults.{and_then}
 use Rattle.smk_eval.specs.Loading.{with_config, configs}
-use Rattle.smk_eval.specs.Configured.{Configures}
-use Rattle.smk_eval.proofs.Steps.{answered, then_looks}
 use Rattle.smk_eval.proofs.configs.configs.Goals as goal
 
 next_text : (texts : List (List ℕ)) (i : ℕ) (text : List ℕ) → i < length texts → text ≡ get_or texts i text → drop i texts ≡ text ∷ drop (i + 1) texts
 next_text texts i text lt is = at_drop_more (λ (xs : List (List ℕ)). xs) texts i text lt ∙ ap (λ (t : List ℕ). t ∷ drop (i + 1) texts) (sym is)
 
-pub returns-in-Err-clause-did : goal.returns-in-Err-clause-did
-returns-in-Err-clause-did g c =
-    let act = g.W.Files.act in
-    let f = c.in-Err.fault in
+pub returns-in-Err-clause-looked : goal.returns-in-Err-clause-looked
+returns-in-Err-clause-looked g c = looked_then c.loop-text.invariant.looked c.in-Err.ensures.looked
+
+pub returns-in-Err-clause-told : goal.returns-in-Err-clause-told
+returns-in-Err-clause-told g c = λ w here told.
     let texts = c.args.texts.now in
     let i = c.loop-text.text-index in
     let text = c.text-item.result in
     let was = members c.loop-text.config in
-    then_looks act (is_device f) (λ nodes. configs nodes was (drop i texts) ≡ configs nodes no_members texts) (λ nodes. Configures (Err f) (with_config nodes was text)) (λ nodes. Configures (Err f) (configs nodes no_members texts)) _ _ _
-    c.loop-text.invariant.did
-    (answered act c.with_config.result (Err f) device_failed (λ nodes r. Configures r (with_config nodes was text)) (λ nodes. Configures (Err f) (with_config nodes was text)) _ _ c.in-Err.is c.with_config.ensures.did (λ nodes h. h))
-    (λ nodes same h. λ told.
-    sym same ∙ ap (λ ts. configs nodes was ts) (next_text texts i text c.loop-text-test.true c.text-item.is) ∙ ap (λ r. and_then r (λ now. configs nodes now (drop (i + 1) texts))) (h told))
+    let u = still w c.loop-text.invariant.looked here in
+    let fault = ap (λ (nodes : Nodes). with_config nodes was text) (sym u.2) ∙ c.in-Err.ensures.told u.0 u.1 told in
+    sym (c.loop-text.invariant.told w here)
+    ∙ ap (λ ts. configs w.nodes was ts) (next_text texts i text c.loop-text-test.true c.text-item.is)
+    ∙ ap (λ r. and_then r (λ now. configs w.nodes now (drop (i + 1) texts))) fault
 
 pub loop-text-preserved : goal.loop-text-preserved
 loop-text-preserved g c =
-    let act = g.W.Files.act in
-    let more = c.in-Ok.more in
-    let texts = c.args.texts.now in
-    let i = c.loop-text.text-index in
-    let text = c.text-item.result in
-    let was = members c.loop-text.config in
     let inv = c.loop-text.invariant in
     record {
-      did = then_looks act false (λ nodes. configs nodes was (drop i texts) ≡ configs nodes no_members texts) (λ nodes. with_config nodes was text ≡ Ok (members more)) (λ nodes. configs nodes (members more) (drop (i + 1) texts) ≡ configs nodes no_members texts) _ _ _
-          inv.did
-          (answered act c.with_config.result (Ok more) device_failed (λ nodes r. Configures r (with_config nodes was text)) (λ nodes. with_config nodes was text ≡ Ok (members more)) _ _ c.in-Ok.is c.with_config.ensures.did (λ nodes h. h))
-          (λ nodes same h.
-          ap (λ r. and_then r (λ now. configs nodes now (drop (i + 1) texts))) (sym h) ∙ sym (ap (λ ts. configs nodes was ts) (next_text texts i text c.loop-text-test.true c.text-item.is)) ∙ same);
-      stays = λ h. c.with_config.ensures.stays (ap device_failed c.in-Ok.is) (inv.stays h);
-      later = omega (arith, inv.later, c.with_config.ensures.cause.later);
-      running = c.with_config.ensures.running ∙ inv.running;
-      same = c.with_config.ensures.running ∙ inv.same;
+      looked = looked_then inv.looked c.in-Ok.ensures.looked;
+      told = λ w here.
+          let texts = c.args.texts.now in
+          let i = c.loop-text.text-index in
+          let text = c.text-item.result in
+          let was = members c.loop-text.config in
+          let u = still w inv.looked here in
+          let more = ap (λ (nodes : Nodes). with_config nodes was text) (sym u.2) ∙ c.in-Ok.ensures.told u.0 u.1 in
+          ap (λ r. and_then r (λ now. configs w.nodes now (drop (i + 1) texts))) (sym more)
+          ∙ ap (λ ts. configs w.nodes was ts) (sym (next_text texts i text c.loop-text-test.true c.text-item.is))
+          ∙ inv.told w here;
     }

@@ -1,4 +1,4 @@
-use Rattle.std.proofs.Common.{◌≡◌, ◌++◌, take, drop, length}
+use Rattle.std.proofs.Common.{◌≡◌, ◌++◌, drop, length}
 use Rattle.smk_eval_files.specs.Texts.{texts}
 use Rattle.smk_eval_files.specs.Placing.{waiting}
 use Rattle.smk_eval_files.proofs.placing.text_of.Given as goal

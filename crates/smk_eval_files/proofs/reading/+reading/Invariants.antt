@@ -1,7 +1,5 @@
-use Rattle.std.proofs.Common.{◌≡◌, ◌≤◌, ◌+◌, ◌*◌, [], false, drop}
-use Rattle.std.specs.Prelude.{IsSome}
-use Rattle.smk_world.specs.Runs.{Did}
-use Rattle.smk_eval_files.specs.Looks.{HasSeen}
+use Rattle.std.proofs.Common.{◌≡◌, ◌+◌, ◌*◌, false, drop}
+use Rattle.smk_world.specs.Devices.{WhereTold, HasLooked}
 use Rattle.smk_eval_files.specs.Reading.{onto, included, files_from}
 use Rattle.smk_eval_files.proofs.reading.+reading.Given as goal
 
@@ -17,10 +15,7 @@ decreases-with_includes g l = 3 * l.depth + 2
 abbrev pub invariant-with_includes-loop-text : goal.invariant-with_includes-loop-text
 invariant-with_includes-loop-text g l =
     let files = g.W.Files in record {
-      did : Did files.act (files.world l.fn.work) (files.world l.work)
-          (HasSeen false (λ nodes. onto l.all (included (files_from nodes l.depth) l.file (drop l.text-index l.texts)) ≡ onto l.fn.files (included (files_from nodes l.depth) l.file l.texts)));
-      stays : IsSome (files.world l.fn.work) → IsSome (files.world l.work);
-      later : files.faults l.fn.work ≤ files.faults l.work;
-      running : files.running l.work ≡ [];
-      same : files.running l.work ≡ files.running l.fn.work;
+      looked : HasLooked files.act (files.device l.fn.work) (files.device l.work) false;
+      told : WhereTold (files.device l.fn.work) (λ w.
+          onto l.all (included (files_from w.nodes l.depth) l.file (drop l.text-index l.texts)) ≡ onto l.fn.files (included (files_from w.nodes l.depth) l.file l.texts));
     }

@@ -1,4 +1,4 @@
-use Rattle.std.proofs.Common.{◌≡◌, ℕ, List, take, subst, sym}
+use Rattle.std.proofs.Common.{ℕ, take, subst, sym}
 use Rattle.std.specs.Str.{IsUtf8}
 use Rattle.smk_eval_files.proofs.Words.{word_utf8}
 use Rattle.smk_eval_files.proofs.sources.front_word.Goals as goal

@@ -1,9 +1,9 @@
-use Rattle.std.proofs.Common.{Ok, Err, sym, ap, ◌∙◌, subst}
-use Rattle.smk_world.specs.Runs.{Did}
+use Rattle.std.proofs.Common.{Ok, Err, true, false, sym, ap, ◌∙◌, subst}
+use Rattle.smk_world.specs.Devices.{HasActed}
 use Rattle.smk_job.specs.declared.fault.CloseFault.TheVariants.{Device}
 use Rattle.smk_job.specs.Jobs.{underway, IsReady}
-use Rattle.smk_job.specs.Sights.{HasFinished, path_at}
-use Rattle.smk_job.proofs.Rooms.{lets_as, close_outputs, close_records, close_marks}
+use Rattle.smk_job.specs.Sights.{HasFinished, close_failed, path_at}
+use Rattle.smk_job.proofs.Rooms.{lets_as, close_free}
 use Rattle.smk_job.proofs.Finishing.{at_outputs, finished_well, finished_wrong, finished_badly}
 use Rattle.smk_job.proofs.closing.finish_files.Goals as goal
 
@@ -14,55 +14,45 @@ settle_files-requires-clause-at g c =
     at_outputs (underway r.recipe r.logs r.stamps r.made c.going.inside.number) c.as_slice.result.now r.places r.records
     (record { outputs = c.as_slice.ensures ∙ v.outputs; at_places = v.at_places; bytes = v.bytes; valid = v.valid })
 
-pub settle_files-requires-clause-outputs : goal.settle_files-requires-clause-outputs
-settle_files-requires-clause-outputs g c =
+pub settle_files-requires-clause-unused : goal.settle_files-requires-clause-unused
+settle_files-requires-clause-unused g c =
     let r = c.going.inside.ready in
-    close_outputs _ r.recipe r.logs r.places c.going.invariant.at_places (lets_as _ _ _ c.going.view_is c.requires.room)
+    close_free (g.W.Files.device c.args.work.now) r.recipe r.logs r.places c.going.invariant.at_places (lets_as (g.W.Files.device c.args.work.now) _ _ c.going.view_is c.requires.room)
 
-pub settle_files-requires-clause-records : goal.settle_files-requires-clause-records
-settle_files-requires-clause-records g c =
-    let r = c.going.inside.ready in
-    close_records _ r.recipe r.logs r.places c.going.invariant.at_places (lets_as _ _ _ c.going.view_is c.requires.room)
-
-pub settle_files-requires-clause-marks : goal.settle_files-requires-clause-marks
-settle_files-requires-clause-marks g c =
-    let r = c.going.inside.ready in
-    close_marks _ r.recipe r.logs r.places c.going.invariant.at_places (lets_as _ _ _ c.going.view_is c.requires.room)
-
-pub returns-in-Ok-None-clause-did : goal.returns-in-Ok-None-clause-did
-returns-in-Ok-None-clause-did g c =
+pub returns-in-Ok-None-clause-acted : goal.returns-in-Ok-None-clause-acted
+returns-in-Ok-None-clause-acted g c =
     let act = g.W.Files.act in
     let r = c.going.inside.ready in
     let v = c.going.invariant in
     let outs = c.as_slice.result.now in
     let j = underway r.recipe r.logs r.stamps r.made c.going.inside.number in
     let ready : IsReady j.recipe j.logs j.stamps j.made outs r.places r.records = record { outputs = c.as_slice.ensures ∙ v.outputs; at_places = v.at_places; bytes = v.bytes; valid = v.valid } in
-    let lets = lets_as _ j c.args.going c.going.view_is c.requires.room in
-    subst (λ k. Did act (g.W.Files.world c.args.work.now) (g.W.Files.world c.settle_files.new.work) (λ w es. HasFinished k (Ok tt) w es)) c.going.view_is
-    (finished_well j outs r.places r.records ready act _ _ (g.met.W.Files.owned c.args.work.now) lets c.settle_files.result (c.in-Ok-None.is ∙ ap Ok c.in-Ok-None.field-0-is) c.settle_files.ensures.did)
+    let lets = lets_as (g.W.Files.device c.args.work.now) j c.args.going c.going.view_is c.requires.room in
+    subst (λ k. HasActed act (HasFinished k (Ok tt)) (g.W.Files.device c.args.work.now) (g.W.Files.device c.settle_files.new.work) false) c.going.view_is
+    (finished_well j outs r.places r.records ready act _ _ (g.met.W.Files.sound c.args.work.now).owned lets c.settle_files.result (c.in-Ok-None.is ∙ ap Ok c.in-Ok-None.field-0-is) c.settle_files.ensures.acted)
 
-pub returns-in-Ok-Some-clause-did : goal.returns-in-Ok-Some-clause-did
-returns-in-Ok-Some-clause-did g c =
+pub returns-in-Ok-Some-clause-acted : goal.returns-in-Ok-Some-clause-acted
+returns-in-Ok-Some-clause-acted g c =
     let act = g.W.Files.act in
     let r = c.going.inside.ready in
     let v = c.going.invariant in
     let outs = c.as_slice.result.now in
     let j = underway r.recipe r.logs r.stamps r.made c.going.inside.number in
     let ready : IsReady j.recipe j.logs j.stamps j.made outs r.places r.records = record { outputs = c.as_slice.ensures ∙ v.outputs; at_places = v.at_places; bytes = v.bytes; valid = v.valid } in
-    let lets = lets_as _ j c.args.going c.going.view_is c.requires.room in
-    subst (λ k. Did act (g.W.Files.world c.args.work.now) (g.W.Files.world c.settle_files.new.work) (λ w es. HasFinished k (Err c.fault_of.result) w es)) c.going.view_is
-    (finished_wrong j outs r.places r.records ready act _ _ (g.met.W.Files.owned c.args.work.now) lets c.settle_files.result c.in-Ok-Some.at c.in-Ok-Some.wrong c.path_of.result c.fault_of.result
-    (c.in-Ok-Some.is ∙ ap Ok (c.in-Ok-Some.field-0-is))
-    (c.path_of.ensures ∙ ap (λ os. path_at os c.in-Ok-Some.at) (sym c.as_slice.ensures)) c.fault_of.ensures.value c.settle_files.ensures.did)
+    let lets = lets_as (g.W.Files.device c.args.work.now) j c.args.going c.going.view_is c.requires.room in
+    subst (λ k. HasActed act (HasFinished k (Err c.fault_of.result)) (g.W.Files.device c.args.work.now) (g.W.Files.device c.settle_files.new.work) (close_failed (Err c.fault_of.result))) c.going.view_is
+    (finished_wrong j outs r.places r.records ready act _ _ (g.met.W.Files.sound c.args.work.now).owned lets c.settle_files.result c.in-Ok-Some.at c.in-Ok-Some.wrong c.path_of.result c.fault_of.result
+    (c.in-Ok-Some.is ∙ ap Ok c.in-Ok-Some.field-0-is)
+    (c.path_of.ensures ∙ ap (λ os. path_at os c.in-Ok-Some.at) (sym c.as_slice.ensures)) c.fault_of.ensures.value c.settle_files.ensures.acted)
 
-pub returns-in-Err-clause-did : goal.returns-in-Err-clause-did
-returns-in-Err-clause-did g c =
+pub returns-in-Err-clause-acted : goal.returns-in-Err-clause-acted
+returns-in-Err-clause-acted g c =
     let act = g.W.Files.act in
     let r = c.going.inside.ready in
     let v = c.going.invariant in
     let outs = c.as_slice.result.now in
     let j = underway r.recipe r.logs r.stamps r.made c.going.inside.number in
     let ready : IsReady j.recipe j.logs j.stamps j.made outs r.places r.records = record { outputs = c.as_slice.ensures ∙ v.outputs; at_places = v.at_places; bytes = v.bytes; valid = v.valid } in
-    let lets = lets_as _ j c.args.going c.going.view_is c.requires.room in
-    subst (λ k. Did act (g.W.Files.world c.args.work.now) (g.W.Files.world c.settle_files.new.work) (λ w es. HasFinished k (Err Device) w es)) c.going.view_is
-    (finished_badly j outs r.places r.records ready act _ _ (g.met.W.Files.owned c.args.work.now) lets c.settle_files.result c.in-Err.field-0 c.in-Err.is c.settle_files.ensures.did)
+    let lets = lets_as (g.W.Files.device c.args.work.now) j c.args.going c.going.view_is c.requires.room in
+    subst (λ k. HasActed act (HasFinished k (Err Device)) (g.W.Files.device c.args.work.now) (g.W.Files.device c.settle_files.new.work) true) c.going.view_is
+    (finished_badly j outs r.places r.records ready act _ _ (g.met.W.Files.sound c.args.work.now).owned lets c.settle_files.result c.in-Err.field-0 c.in-Err.is c.settle_files.ensures.acted)

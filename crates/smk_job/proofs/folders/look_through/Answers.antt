@@ -1,12 +1,12 @@
-use Rattle.std.proofs.Common.{[], sym, ap, ◌∙◌, map, ◌≡◌, true, Ok}
+use Rattle.std.proofs.Common.{[], sym, ap, ◌∙◌, map, ◌≡◌, true, false, Ok}
 use Rattle.smk_record.specs.Records.{record_of, is_valid}
-use Rattle.smk_store.proofs.Looks.{looked_on, looked_memory, looked_short, looked_well, looked_then, never_ok, ok_is_quiet, same_nodes}
+use Rattle.smk_world.specs.Calls.{device_failed}
 use Rattle.smk_job.specs.Jobs.{underway}
-use Rattle.smk_job.specs.declared.folders.View.TheVariants.{Wrongly}
+use Rattle.smk_job.specs.declared.folders.View.TheVariants.{Wrongly, Records}
 use Rattle.smk_job.specs.Views.{core}
 use Rattle.smk_job.proofs.Finishing.{at_outputs}
 use Rattle.smk_job.proofs.Looking.{place_at}
-use Rattle.smk_job.proofs.Viewing.{within_places, folder_among, valid_at, outs_as, one_longer, good_more, viewed_wrong, viewed_failed, viewed_short}
+use Rattle.smk_job.proofs.Viewing.{within_places, folder_among, valid_at, outs_as, one_longer, good_more, viewed_all, viewed_wrong, viewed_failed, viewed_short}
 use Rattle.smk_job.proofs.folders.look_through.Goals as goal
 
 pub bounds-places-i : goal.bounds-places-i
@@ -32,57 +32,42 @@ look_one-requires-clause-valid g c =
 
 pub returns-in_err-bytes-clause-looked : goal.returns-in_err-bytes-clause-looked
 returns-in_err-bytes-clause-looked g c =
-    looked_on g.W.Files.act _ _ _ _ _ _ c.look_one.result c.from_residual.result _ c.in_err-bytes.was c.from_residual.ensures.1
-    (looked_then g.W.Files.act _ _ _ _ _ _ _ _ _ _ _ (λ f. f) c.loop-i.invariant.looked c.look_one.ensures.looked)
-
-pub returns-in_err-bytes-clause-seen : goal.returns-in_err-bytes-clause-seen
-returns-in_err-bytes-clause-seen g c =
     let r = c.args.ready.now in
     let k = core r.recipe r.stamps r.made in
     let act = g.W.Files.act in
-    outs_as act _ _ k c.as_slice-outs.result.now r.outs c.from_residual.result c.as_slice-outs.ensures
-    (viewed_failed act k c.as_slice-outs.result.now c.loop-i.i c.index-outs-i.result c.loop-i-test.true c.index-outs-i.is _ _ _ c.loop-i.records c.look_one.result c.from_residual.result _
-    (λ w v e f. same_nodes act _ _ w v c.loop-i.invariant.looked.did e f) c.in_err-bytes.was c.from_residual.ensures.1 c.loop-i.invariant.seen c.look_one.ensures.seen)
+    outs_as act _ _ k c.as_slice-outs.result.now r.outs c.from_residual.result (device_failed c.from_residual.result) c.as_slice-outs.ensures
+    (viewed_failed act k c.as_slice-outs.result.now c.loop-i.i c.index-outs-i.result c.loop-i-test.true c.index-outs-i.is _ _ _ c.loop-i.records _ c.from_residual.result
+    c.from_residual.ensures.1 c.loop-i.invariant.looked c.in_err-bytes.ensures)
 
 pub returns-in_err-push-in-Good-clause-looked : goal.returns-in_err-push-in-Good-clause-looked
 returns-in_err-push-in-Good-clause-looked g c =
-    looked_memory g.W.Files.act _ _ _ _ _ _ c.from_residual-in_err-push-in-Good.result c.from_residual-in_err-push-in-Good.ensures.1
-    (looked_well g.W.Files.act _ _ _ _ _ _ _ (ok_is_quiet c.look_one.result _ _ c.in_ok-bytes.was)
-    (looked_then g.W.Files.act _ _ _ _ _ _ _ _ _ _ _ (λ f. f) c.loop-i.invariant.looked c.look_one.ensures.looked))
-
-pub returns-in_err-push-in-Good-clause-seen : goal.returns-in_err-push-in-Good-clause-seen
-returns-in_err-push-in-Good-clause-seen g c =
     let r = c.args.ready.now in
     let k = core r.recipe r.stamps r.made in
     let act = g.W.Files.act in
-    outs_as act _ _ k c.as_slice-outs.result.now r.outs c.from_residual-in_err-push-in-Good.result c.as_slice-outs.ensures
-    (viewed_short act k c.as_slice-outs.result.now c.loop-i.i c.index-outs-i.result c.loop-i-test.true c.index-outs-i.is _ _ _ c.loop-i.records c.look_one.result c.from_residual-in_err-push-in-Good.result c.in-Good.bytes
-    (λ w v e f. same_nodes act _ _ w v c.loop-i.invariant.looked.did e f) (c.in_ok-bytes.was ∙ ap Ok c.in-Good.is) c.from_residual-in_err-push-in-Good.ensures.1 c.loop-i.invariant.seen c.look_one.ensures.seen)
+    outs_as act _ _ k c.as_slice-outs.result.now r.outs c.from_residual-in_err-push-in-Good.result (device_failed c.from_residual-in_err-push-in-Good.result) c.as_slice-outs.ensures
+    (viewed_short act k c.as_slice-outs.result.now c.loop-i.i c.index-outs-i.result c.loop-i-test.true c.index-outs-i.is _ _ _ c.loop-i.records _ c.from_residual-in_err-push-in-Good.result c.in-Good.bytes
+    c.in-Good.is c.from_residual-in_err-push-in-Good.ensures.1 c.loop-i.invariant.looked c.in_ok-bytes.ensures)
 
 pub returns-in-Bad-clause-looked : goal.returns-in-Bad-clause-looked
 returns-in-Bad-clause-looked g c =
-    looked_short g.W.Files.act _ _ _ _ _ _ _ (never_ok _ _)
-    (looked_well g.W.Files.act _ _ _ _ _ _ _ (ok_is_quiet c.look_one.result _ _ c.in_ok-bytes.was)
-    (looked_then g.W.Files.act _ _ _ _ _ _ _ _ _ _ _ (λ f. f) c.loop-i.invariant.looked c.look_one.ensures.looked))
-
-pub returns-in-Bad-clause-seen : goal.returns-in-Bad-clause-seen
-returns-in-Bad-clause-seen g c =
     let r = c.args.ready.now in
     let k = core r.recipe r.stamps r.made in
     let act = g.W.Files.act in
-    outs_as act _ _ k c.as_slice-outs.result.now r.outs (Ok (Wrongly c.loop-i.i c.in-Bad.wrong)) c.as_slice-outs.ensures
-    (viewed_wrong act k c.as_slice-outs.result.now c.loop-i.i c.index-outs-i.result c.loop-i-test.true c.index-outs-i.is _ _ _ c.loop-i.records c.look_one.result c.in-Bad.wrong
-    (λ w v e f. same_nodes act _ _ w v c.loop-i.invariant.looked.did e f) (c.in_ok-bytes.was ∙ ap Ok c.in-Bad.is) c.loop-i.invariant.seen c.look_one.ensures.seen)
+    outs_as act _ _ k c.as_slice-outs.result.now r.outs (Ok (Wrongly c.loop-i.i c.in-Bad.wrong)) false c.as_slice-outs.ensures
+    (viewed_wrong act k c.as_slice-outs.result.now c.loop-i.i c.index-outs-i.result c.loop-i-test.true c.index-outs-i.is _ _ _ c.loop-i.records _ c.in-Bad.wrong c.in-Bad.is c.loop-i.invariant.looked c.in_ok-bytes.ensures)
 
 pub loop-i-preserved : goal.loop-i-preserved
 loop-i-preserved g c =
     let r = c.args.ready.now in
-    let k = core r.recipe r.stamps r.made in
-    let act = g.W.Files.act in
     record {
-      looked = looked_well act _ _ _ _ _ _ _ (ok_is_quiet c.look_one.result _ _ c.in_ok-bytes.was)
-          (looked_then act _ _ _ _ _ _ _ _ _ _ _ (λ f. f) c.loop-i.invariant.looked c.look_one.ensures.looked);
-      seen = good_more act k c.as_slice-outs.result.now c.loop-i.i c.index-outs-i.result c.loop-i-test.true c.index-outs-i.is _ _ _ c.loop-i.records c.push.new.self c.look_one.result c.in-Good.bytes
-          (λ w v e f. same_nodes act _ _ w v c.loop-i.invariant.looked.did e f) (c.in_ok-bytes.was ∙ ap Ok c.in-Good.is) c.in_ok-push-in-Good.ensures.ok c.loop-i.invariant.seen c.look_one.ensures.seen;
+      looked = good_more g.W.Files.act (core r.recipe r.stamps r.made) c.as_slice-outs.result.now c.loop-i.i c.index-outs-i.result c.loop-i-test.true c.index-outs-i.is _ _ _ c.loop-i.records c.push.new.self _ c.in-Good.bytes
+          c.in-Good.is c.in_ok-push-in-Good.ensures.ok c.loop-i.invariant.looked c.in_ok-bytes.ensures;
       sizes = one_longer c.loop-i.records c.push.new.self c.in-Good.bytes c.loop-i.i c.loop-i.invariant.sizes c.in_ok-push-in-Good.ensures.ok;
     }
+
+pub returns-clause-looked : goal.returns-clause-looked
+returns-clause-looked g c =
+    let r = c.args.ready.now in
+    let k = core r.recipe r.stamps r.made in
+    outs_as g.W.Files.act _ _ k c.as_slice-outs.result.now r.outs (Ok (Records c.loop-i.records)) false c.as_slice-outs.ensures
+    (viewed_all g.W.Files.act k c.as_slice-outs.result.now c.loop-i.i c.loop-i.records _ _ c.loop-i-test.false c.loop-i.invariant.looked)

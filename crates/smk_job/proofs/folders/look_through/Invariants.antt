@@ -1,14 +1,10 @@
-use Rattle.std.proofs.Common.{◌≡◌, length, take}
-use Rattle.smk_world.specs.Runs.{Did}
-use Rattle.smk_store.specs.Walking.{HasLooked}
-use Rattle.smk_job.specs.Sights.{AreKnown}
-use Rattle.smk_job.specs.Views.{core, AreGood}
+use Rattle.std.proofs.Common.{◌≡◌, false, length, take}
+use Rattle.smk_world.specs.Devices.{HasActed}
+use Rattle.smk_job.specs.Views.{core, AreGoodSoFar}
 use Rattle.smk_job.proofs.folders.look_through.Given as goal
 
 abbrev pub invariant-loop-i : goal.invariant-loop-i
 invariant-loop-i g l = record {
-  looked : HasLooked g.W.Files.act (g.W.Files.world l.initial.work) (g.W.Files.world l.work) (g.W.Files.faults l.initial.work) (g.W.Files.faults l.work) (g.W.Files.running l.initial.work) (g.W.Files.running l.work) ⊥;
-  seen : Did g.W.Files.act (g.W.Files.world l.initial.work) (g.W.Files.world l.work)
-      (λ w es. AreKnown w.nodes l.outs → AreGood (core l.ready.recipe l.ready.stamps l.ready.made) w.nodes (take l.i l.outs) l.records es);
+  looked : HasActed g.W.Files.act (AreGoodSoFar (core l.ready.recipe l.ready.stamps l.ready.made) l.outs (take l.i l.outs) l.records) (g.W.Files.device l.fn.work) (g.W.Files.device l.work) false;
   sizes : length l.records ≡ l.i;
 }

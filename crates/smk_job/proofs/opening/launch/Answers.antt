@@ -1,22 +1,25 @@
+use Rattle.smk_world.proofs.Devices.{carried_as}
+use Rattle.std.proofs.Common.{refl}
 use Rattle.smk_job.proofs.Rooms.{begin_outputs}
-use Rattle.smk_job.proofs.Launching.{may_start_told, not_launched_by, then_started, before_same}
+use Rattle.smk_job.proofs.Launching.{may_start_told, not_launched, then_started, before_same}
 use Rattle.smk_job.proofs.opening.launch.Goals as goal
 
 pub prepare-requires : goal.prepare-requires
-prepare-requires g c = record { unused = begin_outputs _ c.args.recipe.now c.args.logs.now c.args.places.now c.requires.at c.requires.room }
+prepare-requires g c = record { unused = begin_outputs (g.W.Files.device c.args.work.now) c.args.recipe.now c.args.logs.now c.args.places.now c.requires.at c.requires.room }
 
 pub start-requires : goal.start-requires
 start-requires g c = record {
-  may = may_start_told g.W.Files.act c.args.recipe.now c.args.logs.now _ _ c.requires.paths (g.met.W.Files.owned c.args.work.now) c.requires.room
-      (before_same g.W.Files.act c.args.recipe.now c.args.logs.now c.args.places.now c.args.owned.now _ _ c.requires.at c.requires.own c.in_ok-prepare.ensures.did);
+  may = may_start_told g.W.Files.act c.args.recipe.now c.args.logs.now _ _ c.requires.paths (g.met.W.Files.sound c.args.work.now).owned c.requires.room
+      (carried_as (before_same c.args.recipe.now c.args.logs.now c.args.places.now c.args.owned.now c.requires.at c.requires.own) refl c.in_ok-prepare.ensures);
 }
 
-pub returns-in_err-prepare-clause-did : goal.returns-in_err-prepare-clause-did
-returns-in_err-prepare-clause-did g c =
-    not_launched_by g.W.Files.act c.args.recipe.now c.args.logs.now c.args.places.now c.args.owned.now c.args.command.now _ _ _ c.requires.at c.requires.own c.from_residual.ensures.0 c.in_err-prepare.ensures.did
+pub returns-in_err-prepare : goal.returns-in_err-prepare
+returns-in_err-prepare g c =
+    not_launched g.W.Files.act c.args.recipe.now c.args.logs.now c.args.command.now c.from_residual.result _ _ c.from_residual.ensures.0
+    (carried_as (before_same c.args.recipe.now c.args.logs.now c.args.places.now c.args.owned.now c.requires.at c.requires.own) refl c.in_err-prepare.ensures)
 
-pub returns-clause-did : goal.returns-clause-did
-returns-clause-did g c =
+pub returns : goal.returns
+returns g c =
     then_started g.W.Files.act c.args.recipe.now c.args.logs.now c.args.command.now c.start.result _ _ _
-    (before_same g.W.Files.act c.args.recipe.now c.args.logs.now c.args.places.now c.args.owned.now _ _ c.requires.at c.requires.own c.in_ok-prepare.ensures.did)
-    c.start.ensures.world
+    (carried_as (before_same c.args.recipe.now c.args.logs.now c.args.places.now c.args.owned.now c.requires.at c.requires.own) refl c.in_ok-prepare.ensures)
+    c.start.ensures.called

@@ -1,19 +1,16 @@
-use Rattle.std.proofs.Common.{is_ok}
+use Rattle.std.proofs.Common.{refl, sym}
+use Rattle.smk_world.proofs.Devices.{carried_as, carried_then, carried_cut, unused_still}
 use Rattle.smk_store.specs.Steps.{unmark_requests}
-use Rattle.smk_store.proofs.Carried.{is_ok_err, carried_cut, carried_then}
-use Rattle.smk_job.specs.Jobs.{put_all_requests}
-use Rattle.smk_job.proofs.Children.{put_files, same_after, unused_after}
 use Rattle.smk_job.proofs.steps.keep.Goals as goal
 
+pub put_each-requires : goal.put_each-requires
+put_each-requires g c = record { each = c.requires.each; unused = λ w at. (c.requires.unused w at).records }
+
 pub unmark-requires : goal.unmark-requires
-unmark-requires g c = record {
-  unused = unused_after _ _ _ (same_after g.W.Files.act (put_all_requests c.args.places.now c.args.bytes.now) _ _ (put_files c.args.places.now c.args.bytes.now) c.in_ok-put_each.ensures.did) c.requires.marks;
-}
+unmark-requires g c = record { unused = unused_still c.args.places.now.marks c.in_ok-put_each.ensures.acted (λ w at. (c.requires.unused w at).marks) }
 
-pub returns-in_err-put_each-clause-did : goal.returns-in_err-put_each-clause-did
-returns-in_err-put_each-clause-did g c =
-    carried_cut g.W.Files.act (put_all_requests c.args.places.now c.args.bytes.now) (unmark_requests c.args.places.now) _ _ _ (is_ok_err _ c.from_residual.ensures.0) c.in_err-put_each.ensures.did
+pub returns-in_err-put_each : goal.returns-in_err-put_each
+returns-in_err-put_each g c = carried_as refl (sym c.from_residual.ensures.0) (carried_cut (unmark_requests c.args.places.now) c.in_err-put_each.ensures)
 
-pub returns-clause-did : goal.returns-clause-did
-returns-clause-did g c =
-    carried_then g.W.Files.act (put_all_requests c.args.places.now c.args.bytes.now) (unmark_requests c.args.places.now) (is_ok c.unmark.result) _ _ _ c.in_ok-put_each.ensures.did c.unmark.ensures.did
+pub returns : goal.returns
+returns g c = carried_then c.in_ok-put_each.ensures c.unmark.ensures

@@ -1,15 +1,7 @@
-use Rattle.std.proofs.Common.{◌≡◌, ◌≤◌, take}
-use Rattle.std.specs.Prelude.{IsSome}
-use Rattle.smk_world.specs.Runs.{Did}
-use Rattle.smk_world.specs.Requests.{HasDone}
-use Rattle.smk_store.specs.Steps.{SameChildren, remove_each}
+use Rattle.std.proofs.Common.{◌≡◌, false, take}
+use Rattle.smk_world.specs.Devices.{HasCarried}
+use Rattle.smk_store.specs.Steps.{remove_each}
 use Rattle.smk_job.proofs.steps.remove_each.Given as goal
 
 abbrev pub invariant-loop-place : goal.invariant-loop-place
-invariant-loop-place g l = record {
-  did : Did g.W.Files.act (g.W.Files.world l.initial.work) (g.W.Files.world l.work) (λ w es. HasDone (remove_each (take l.place-index l.places)) es);
-  same : SameChildren (g.W.Files.world l.initial.work) (g.W.Files.world l.work);
-  stays : IsSome (g.W.Files.world l.initial.work) → IsSome (g.W.Files.world l.work);
-  later : g.W.Files.faults l.initial.work ≤ g.W.Files.faults l.work;
-  running : g.W.Files.running l.work ≡ g.W.Files.running l.initial.work;
-}
+invariant-loop-place g l = HasCarried g.W.Files.act (remove_each (take l.place-index l.places)) (g.W.Files.device l.fn.work) (g.W.Files.device l.work) false

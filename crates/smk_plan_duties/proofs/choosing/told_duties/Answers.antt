@@ -1,5 +1,5 @@
 use Rattle.std.proofs.Common.{ap, ap₂, ◌∙◌, []}
-use Rattle.smk_store.proofs.Looks.{if_ok}
+use Rattle.std.proofs.lemmas.Result.{IfOk-weaker}
 use Rattle.smk_plan_duties.specs.Choosing.{duties_in, Able}
 use Rattle.smk_plan_duties.specs.Numbers.{is_able_by}
 use Rattle.smk_plan.specs.Duties.{maker_in}
@@ -10,7 +10,7 @@ pub returns : goal.returns
 returns c =
     let first = c.args.first in
     let store = c.args.store.now in
-    if_ok c.all_duties.result _ _ (
+    IfOk-weaker c.all_duties.result _ _ (
     λ duties told.
     told
     ∙ ap₂ (duties_in first (is_able_by first c.in_ok-numbers.numbers) store []) c.as_slice-2.ensures c.as_slice-3.ensures

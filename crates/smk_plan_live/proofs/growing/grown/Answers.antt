@@ -1,10 +1,11 @@
 use Rattle.std.proofs.Common.{None, length, map, refl, ap, ◌∙◌}
 use Rattle.std.specs.Option.{option_or}
 use Rattle.std.specs.BTreeMap.{get_by_text}
+use Rattle.std.proofs.lemmas.List.{length-map}
 use Rattle.smk_world.specs.Trees.{among}
 use Rattle.smk_plan.specs.Sights.{sight_at}
 use Rattle.smk_plan_live.specs.Carried.{told_upon, phase_from, began_from, entries_from, sights_from}
-use Rattle.smk_plan_live.proofs.Grown.{map_length, no_later, all_later, or_three}
+use Rattle.smk_plan_live.proofs.Grown.{no_later, all_later, or_three}
 use Rattle.smk_plan_live.proofs.growing.grown.Goals as goal
 
 pub returns-clause-sound : goal.returns-clause-sound
@@ -12,10 +13,10 @@ returns-clause-sound c =
     let b = c.args.base.now in
     let js = c.args.jobs.jobs in
     record {
-      phases = ap length (c.of-4.ensures ∙ c.in_ok-rows.ensures.phases ∙ ap (map (phase_from b)) c.as_slice.ensures) ∙ map_length (phase_from b) js;
-      began = ap length (c.of-5.ensures ∙ c.in_ok-rows.ensures.began ∙ ap (map (began_from b)) c.as_slice.ensures) ∙ map_length (began_from b) js;
-      entries = ap length (c.of-2.ensures ∙ c.in_ok-rows.ensures.entries ∙ ap (map (entries_from b)) c.as_slice.ensures) ∙ map_length (entries_from b) js;
-      sights = ap length (c.of-3.ensures ∙ c.in_ok-rows.ensures.sights ∙ ap (map (sights_from b)) c.as_slice.ensures) ∙ map_length (sights_from b) js;
+      phases = ap length (c.of-4.ensures ∙ c.in_ok-rows.ensures.phases ∙ ap (map (phase_from b)) c.as_slice.ensures) ∙ length-map js (phase_from b);
+      began = ap length (c.of-5.ensures ∙ c.in_ok-rows.ensures.began ∙ ap (map (began_from b)) c.as_slice.ensures) ∙ length-map js (began_from b);
+      entries = ap length (c.of-2.ensures ∙ c.in_ok-rows.ensures.entries ∙ ap (map (entries_from b)) c.as_slice.ensures) ∙ length-map js (entries_from b);
+      sights = ap length (c.of-3.ensures ∙ c.in_ok-rows.ensures.sights ∙ ap (map (sights_from b)) c.as_slice.ensures) ∙ length-map js (sights_from b);
       sited = c.in_ok-sited.ensures.sited;
       unnamed = c.in_ok-sited.ensures.named;
       came = λ q.

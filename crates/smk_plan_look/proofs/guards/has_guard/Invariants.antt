@@ -1,6 +1,6 @@
-use Rattle.std.proofs.Common.{◌≡◌, Some, true}
-use Rattle.smk_world.specs.World.{World, reads_folder}
-use Rattle.smk_store.specs.Walking.{HasLooked}
+use Rattle.std.proofs.Common.{◌≡◌, true, false}
+use Rattle.smk_world.specs.World.{reads_folder}
+use Rattle.smk_world.specs.Devices.{WhereTold, HasLooked}
 use Rattle.smk_store_members.specs.Disk.{IsTree}
 use Rattle.smk_plan.specs.Sights.{is_tellable}
 use Rattle.smk_plan_look.specs.Guards.{AreWaiting}
@@ -8,6 +8,6 @@ use Rattle.smk_plan_look.proofs.guards.has_guard.Given as goal
 
 abbrev pub invariant-loop : goal.invariant-loop
 invariant-loop g l = record {
-  looked : HasLooked g.W.Files.act (g.W.Files.world l.fn.work) (g.W.Files.world l.work) (g.W.Files.faults l.fn.work) (g.W.Files.faults l.work) (g.W.Files.running l.fn.work) (g.W.Files.running l.work) ⊥;
-  told : (w : World) → g.W.Files.world l.fn.work ≡ Some w → IsTree w → reads_folder (w.nodes l.folder) ≡ true → is_tellable l.folder ≡ true → AreWaiting w.nodes l.folder l.waiting;
+  looked : HasLooked g.W.Files.act (g.W.Files.device l.fn.work) (g.W.Files.device l.work) false;
+  told : WhereTold (g.W.Files.device l.fn.work) (λ w. IsTree w → reads_folder (w.nodes l.folder) ≡ true → is_tellable l.folder ≡ true → AreWaiting w.nodes l.folder l.waiting);
 }

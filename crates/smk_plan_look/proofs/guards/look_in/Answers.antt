@@ -1,38 +1,30 @@
 use Rattle.std.proofs.Common.{ap, ◌∙◌}
 use Rattle.smk_world.specs.Calls.{in_folder}
-use Rattle.smk_store.proofs.Looks.{looked_list, looked_on, looked_memory, looked_short, looked_well, looked_then, ok_is_quiet, never_ok, still, listing_told}
+use Rattle.smk_world.proofs.Devices.{looked_list, looked_on, looked_memory, looked_then, still, listing_told}
 use Rattle.smk_store_members.proofs.Trees.{tree_still}
 use Rattle.smk_plan_look.specs.Guards.{IsToList}
 use Rattle.smk_plan_look.proofs.Waiting.{listed_in, gone_begun, gone_next, gone_found, gone_all, last_of, note_still}
 use Rattle.smk_plan_look.proofs.guards.look_in.Goals as goal
 
 pub returns-in_err-listing-clause-looked : goal.returns-in_err-listing-clause-looked
-returns-in_err-listing-clause-looked g c =
-    looked_on g.W.Files.act _ _ _ _ _ _ c.list.result c.from_residual.result _ c.in_err-listing.was c.from_residual.ensures.1
-    (looked_list g.W.Files.act _ _ _ _ _ _ c.args.folder.now c.list.result c.list.ensures.world c.list.ensures.cause c.list.ensures.running)
+returns-in_err-listing-clause-looked g c = looked_on _ c.in_err-listing.was c.from_residual.ensures.1 (looked_list c.list.ensures)
 
 pub loop-name-init : goal.loop-name-init
 loop-name-init g c =
     record {
-      looked = looked_well g.W.Files.act _ _ _ _ _ _ _ (ok_is_quiet c.list.result _ _ c.in_ok-listing.was)
-          (looked_list g.W.Files.act _ _ _ _ _ _ c.args.folder.now c.list.result c.list.ensures.world c.list.ensures.cause c.list.ensures.running);
+      looked = looked_list c.in_ok-listing.ensures;
       told = λ w at tree told reads. gone_begun w.nodes c.args.folder.now c.as_slice-name-items.result.now c.args.waiting.now;
     }
 
 pub returns-in_err-place-clause-looked : goal.returns-in_err-place-clause-looked
-returns-in_err-place-clause-looked g c =
-    looked_memory g.W.Files.act _ _ _ _ _ _ c.from_residual-in_err-place.result c.from_residual-in_err-place.ensures.1 c.loop-name.invariant.looked
+returns-in_err-place-clause-looked g c = looked_memory _ c.from_residual-in_err-place.ensures.1 c.loop-name.invariant.looked
 
 pub returns-in_err-found-clause-looked : goal.returns-in_err-found-clause-looked
 returns-in_err-found-clause-looked g c =
-    looked_on g.W.Files.act _ _ _ _ _ _ c.note.result c.from_residual-in_err-found.result _ c.in_err-found.was c.from_residual-in_err-found.ensures.1
-    (looked_then g.W.Files.act _ _ _ _ _ _ _ _ _ ⊥ _ (λ f. f) c.loop-name.invariant.looked c.note.ensures.looked)
+    looked_then c.loop-name.invariant.looked (looked_on _ c.in_err-found.was c.from_residual-in_err-found.ensures.1 c.note.ensures.looked)
 
 pub returns-then-found-clause-looked : goal.returns-then-found-clause-looked
-returns-then-found-clause-looked g c =
-    looked_short g.W.Files.act _ _ _ _ _ _ _ (never_ok _ _)
-    (looked_well g.W.Files.act _ _ _ _ _ _ _ (ok_is_quiet c.note.result _ _ c.in_ok-found.was)
-    (looked_then g.W.Files.act _ _ _ _ _ _ _ _ _ ⊥ _ (λ f. f) c.loop-name.invariant.looked c.note.ensures.looked))
+returns-then-found-clause-looked g c = looked_then c.loop-name.invariant.looked c.in_ok-found.ensures.looked
 
 pub returns-then-found-clause-told : goal.returns-then-found-clause-told
 returns-then-found-clause-told g c = λ w at tree p waiting.
@@ -40,8 +32,8 @@ returns-then-found-clause-told g c = λ w at tree p waiting.
     let folder = c.args.folder.now in
     let last = last_of (IsToList w.nodes p) c.args.waiting.now folder waiting.folders in
     let l = listed_in w folder c.in_ok-listing.listing names tree last.reads c.as_slice-name-items.ensures
-    (listing_told g.W.Files.act _ _ folder c.list.result c.in_ok-listing.listing w c.list.ensures.world c.in_ok-listing.was at) in
-    let u = still g.W.Files.act _ _ _ _ _ _ ⊥ w c.loop-name.invariant.looked (λ f. f) at in
+    (listing_told w c.list.ensures c.in_ok-listing.was at) in
+    let u = still w c.loop-name.invariant.looked at in
     let same = c.in_ok-place.ensures ∙ ap (in_folder folder) c.as_str.ensures in
     gone_found w tree folder last.tellable names l c.loop-name.name-index c.name-item.result c.loop-name-test.true c.name-item.is _ c.loop-name.waiting _ _ same
     (note_still u.0.nodes w.nodes _ _ c.loop-name.waiting _ _ u.2 (c.in_ok-found.ensures.told u.0 u.1 (tree_still w u.0 u.2 tree))) c.if-found.true p last.inside
@@ -49,21 +41,17 @@ returns-then-found-clause-told g c = λ w at tree p waiting.
 pub loop-name-preserved : goal.loop-name-preserved
 loop-name-preserved g c =
     record {
-      looked = looked_well g.W.Files.act _ _ _ _ _ _ _ (ok_is_quiet c.note.result _ _ c.in_ok-found.was)
-          (looked_then g.W.Files.act _ _ _ _ _ _ _ _ _ ⊥ _ (λ f. f) c.loop-name.invariant.looked c.note.ensures.looked);
+      looked = looked_then c.loop-name.invariant.looked c.in_ok-found.ensures.looked;
       told = λ w at tree told reads.
           let names = c.as_slice-name-items.result.now in
           let folder = c.args.folder.now in
           let l = listed_in w folder c.in_ok-listing.listing names tree reads c.as_slice-name-items.ensures
-          (listing_told g.W.Files.act _ _ folder c.list.result c.in_ok-listing.listing w c.list.ensures.world c.in_ok-listing.was at) in
-          let u = still g.W.Files.act _ _ _ _ _ _ ⊥ w c.loop-name.invariant.looked (λ f. f) at in
+          (listing_told w c.list.ensures c.in_ok-listing.was at) in
+          let u = still w c.loop-name.invariant.looked at in
           let same = c.in_ok-place.ensures ∙ ap (in_folder folder) c.as_str.ensures in
           gone_next w tree folder told names l c.loop-name.name-index c.name-item.result c.loop-name-test.true c.name-item.is _ c.args.waiting.now c.loop-name.waiting _ _ same
           (note_still u.0.nodes w.nodes _ _ c.loop-name.waiting _ _ u.2 (c.in_ok-found.ensures.told u.0 u.1 (tree_still w u.0 u.2 tree))) c.if-found.false (c.loop-name.invariant.told w at tree told reads);
     }
-
-pub returns-clause-looked : goal.returns-clause-looked
-returns-clause-looked g c = looked_short g.W.Files.act _ _ _ _ _ _ _ (never_ok _ _) c.loop-name.invariant.looked
 
 pub returns-clause-told : goal.returns-clause-told
 returns-clause-told g c = λ w at tree p waiting.
@@ -71,5 +59,5 @@ returns-clause-told g c = λ w at tree p waiting.
     let folder = c.args.folder.now in
     let last = last_of (IsToList w.nodes p) c.args.waiting.now folder waiting.folders in
     let l = listed_in w folder c.in_ok-listing.listing names tree last.reads c.as_slice-name-items.ensures
-    (listing_told g.W.Files.act _ _ folder c.list.result c.in_ok-listing.listing w c.list.ensures.world c.in_ok-listing.was at) in
+    (listing_told w c.list.ensures c.in_ok-listing.was at) in
     gone_all w tree folder last.tellable names l c.loop-name.name-index c.args.waiting.now c.loop-name.waiting c.loop-name-test.false (c.loop-name.invariant.told w at tree last.tellable last.reads) p waiting

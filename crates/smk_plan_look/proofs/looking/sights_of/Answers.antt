@@ -2,7 +2,7 @@ use Rattle.std.proofs.Common.{◌≡◌, Some, sym, ap, ◌++◌, ◌∙◌, str
 use Rattle.std.specs.List.{filter}
 use Rattle.smk_world.specs.Trees.{is_path_text}
 use Rattle.smk_store.specs.Walking.{texts_of, path_in}
-use Rattle.smk_store.proofs.Looks.{looked_on, looked_memory, looked_well, looked_then, ok_is_quiet, still}
+use Rattle.smk_world.proofs.Devices.{looked_on, looked_memory, looked_then, still}
 use Rattle.smk_store.proofs.Loads.{one_more, all_found, paths_rise, is_text_path}
 use Rattle.smk_record.specs.Records.{are_rising}
 use Rattle.smk_store_members.proofs.Trees.{tree_still}
@@ -10,19 +10,15 @@ use Rattle.smk_plan_look.proofs.Found.{path_pushed, sight_pushed}
 use Rattle.smk_plan_look.proofs.looking.sights_of.Goals as goal
 
 pub returns-in_err-path-clause-looked : goal.returns-in_err-path-clause-looked
-returns-in_err-path-clause-looked g c =
-    looked_memory g.W.Files.act _ _ _ _ _ _ c.from_residual.result c.from_residual.ensures.1 c.loop-text.invariant.looked
+returns-in_err-path-clause-looked g c = looked_memory _ c.from_residual.ensures.1 c.loop-text.invariant.looked
 
 pub returns-in_err-sight-clause-looked : goal.returns-in_err-sight-clause-looked
 returns-in_err-sight-clause-looked g c =
-    looked_on g.W.Files.act _ _ _ _ _ _ c.sight_at.result c.from_residual-in_err-sight.result _ c.in_err-sight.was c.from_residual-in_err-sight.ensures.1
-    (looked_then g.W.Files.act _ _ _ _ _ _ _ _ _ ⊥ _ (λ f. f) c.loop-text.invariant.looked c.sight_at.ensures.looked)
+    looked_then c.loop-text.invariant.looked (looked_on _ c.in_err-sight.was c.from_residual-in_err-sight.ensures.1 c.sight_at.ensures.looked)
 
 pub returns-in_err-push-clause-looked : goal.returns-in_err-push-clause-looked
 returns-in_err-push-clause-looked g c =
-    looked_memory g.W.Files.act _ _ _ _ _ _ c.from_residual-in_err-push.result c.from_residual-in_err-push.ensures.1
-    (looked_well g.W.Files.act _ _ _ _ _ _ _ (ok_is_quiet c.sight_at.result _ _ c.in_ok-sight.was)
-    (looked_then g.W.Files.act _ _ _ _ _ _ _ _ _ ⊥ _ (λ f. f) c.loop-text.invariant.looked c.sight_at.ensures.looked))
+    looked_memory _ c.from_residual-in_err-push.ensures.1 (looked_then c.loop-text.invariant.looked c.in_ok-sight.ensures.looked)
 
 pub loop-text-preserved : goal.loop-text-preserved
 loop-text-preserved g c =
@@ -31,12 +27,11 @@ loop-text-preserved g c =
     let path = c.in-Some-2.path in
     let is : Some path ≡ path_in text = sym c.in-Some-2.is ∙ c.in_ok-path.ensures ∙ ap path_in c.as_str.ensures.value in
     record {
-      looked = looked_well g.W.Files.act _ _ _ _ _ _ _ (ok_is_quiet c.sight_at.result _ _ c.in_ok-sight.was)
-          (looked_then g.W.Files.act _ _ _ _ _ _ _ _ _ ⊥ _ (λ f. f) v.looked c.sight_at.ensures.looked);
+      looked = looked_then v.looked c.in_ok-sight.ensures.looked;
       found = ap (λ l. l ++ filter is_path_text (texts_of c.next.new.self)) (path_pushed c.loop-text.sights _ c.in_ok-sight.sight path c.in_ok-push.ensures.ok c.in_ok-sight.ensures.path)
           ∙ one_more _ text (texts_of c.next.new.self) (texts_of c.loop-text.text-iterator) _ path is (ap texts_of c.in-Some.ensures.steps) v.found;
       told = λ w at tree.
-          let u = still g.W.Files.act _ _ _ _ _ _ ⊥ w v.looked (λ f. f) at in
+          let u = still w v.looked at in
           sight_pushed u.0.nodes w.nodes c.loop-text.sights _ c.in_ok-sight.sight path c.in_ok-push.ensures.ok c.in_ok-sight.ensures.path u.2
           (c.in_ok-sight.ensures.told u.0 u.1 (tree_still w u.0 u.2 tree) (is_text_path text path is)) (v.told w at tree);
     }

@@ -1,15 +1,13 @@
-use Rattle.smk_store.proofs.Looks.{looked_on, looked_short, looked_well, ok_is_quiet, never_ok}
+use Rattle.smk_world.proofs.Devices.{looked_on}
+use Rattle.smk_store_members.proofs.Listings.{listings_looked}
 use Rattle.smk_plan_look.proofs.Sighting.{listed_as, open_folder}
 use Rattle.smk_plan_look.proofs.sights.members_at.Goals as goal
 
 pub returns-in_err-listed-clause-looked : goal.returns-in_err-listed-clause-looked
-returns-in_err-listed-clause-looked g c =
-    looked_on g.W.Files.act _ _ _ _ _ _ c.members_of.result c.from_residual.result _ c.in_err-listed.was c.from_residual.ensures.1 c.members_of.ensures.looked
+returns-in_err-listed-clause-looked g c = looked_on _ c.in_err-listed.was c.from_residual.ensures.1 (listings_looked c.members_of.ensures.listings)
 
 pub returns-clause-looked : goal.returns-clause-looked
-returns-clause-looked g c =
-    looked_short g.W.Files.act _ _ _ _ _ _ _ (never_ok _ _)
-    (looked_well g.W.Files.act _ _ _ _ _ _ _ (ok_is_quiet c.members_of.result _ _ c.in_ok-listed.was) c.members_of.ensures.looked)
+returns-clause-looked g c = listings_looked c.in_ok-listed.ensures.listings
 
 pub returns-clause-told : goal.returns-clause-told
 returns-clause-told g c = λ w at tree reads.

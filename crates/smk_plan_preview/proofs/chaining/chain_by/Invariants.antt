@@ -1,16 +1,15 @@
-use Rattle.std.proofs.Common.{◌≡◌, Some, List, ℕ, Option}
-use Rattle.smk_world.specs.World.{World}
+use Rattle.std.proofs.Common.{false, List, ℕ, Option}
+use Rattle.smk_world.specs.Devices.{WhereTold, HasLooked}
 use Rattle.smk_record.specs.declared.record.Record.{Record}
 use Rattle.smk_store.specs.Images.{seen}
 use Rattle.smk_store.specs.Loading.{IsStoreOf}
-use Rattle.smk_store.specs.Walking.{HasLooked}
 use Rattle.smk_store_members.specs.Disk.{IsTree}
 use Rattle.smk_plan_preview.specs.Rounds.{Leads}
 use Rattle.smk_plan_preview.proofs.chaining.chain_by.Given as goal
 
 abbrev pub invariant-loop : goal.invariant-loop
 invariant-loop g l = record {
-  looked : HasLooked g.W.Files.act (g.W.Files.world l.fn.work) (g.W.Files.world l.work) (g.W.Files.faults l.fn.work) (g.W.Files.faults l.work) (g.W.Files.running l.fn.work) (g.W.Files.running l.work) ⊥;
-  told : (w : World) → g.W.Files.world l.fn.work ≡ Some w → IsTree w → (read : List ℕ → Option Record) → IsStoreOf (seen read w) l.store
-      → Leads read l.flow l.settings (seen read w) l.lists;
+  looked : HasLooked g.W.Files.act (g.W.Files.device l.fn.work) (g.W.Files.device l.work) false;
+  told : WhereTold (g.W.Files.device l.fn.work) (λ w. IsTree w → (read : List ℕ → Option Record) → IsStoreOf (seen read w) l.ground.store.now
+      → Leads read l.ground.flow.now l.ground.settings.now (seen read w) l.lists);
 }

@@ -1,8 +1,9 @@
-use Rattle.smk_plan_preview.proofs.Looked.{look_looked, look_untold, look_told}
+use Rattle.smk_world.proofs.Devices.{looked_as}
+use Rattle.smk_plan_preview.proofs.Looked.{look_same, look_untold, look_told}
 use Rattle.smk_plan_preview.proofs.finding.looked.Goals as goal
 
 pub returns-clause-looked : goal.returns-clause-looked
-returns-clause-looked g c = look_looked g.W.Files.act c.look-found.result c.of_seen.result _ _ _ _ _ _ c.of_seen.ensures.is c.look-found.ensures.looked
+returns-clause-looked g c = looked_as (look_same c.look-found.result c.of_seen.result c.of_seen.ensures.is) c.look-found.ensures.looked
 
 pub returns-clause-untold : goal.returns-clause-untold
 returns-clause-untold g c = look_untold c.look-found.result c.of_seen.result c.of_seen.ensures.is

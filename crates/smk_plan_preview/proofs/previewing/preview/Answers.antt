@@ -1,17 +1,29 @@
-use Rattle.smk_plan_preview.proofs.Previews.{runnable_of, lower_of, befores_of, states_of, current_of}
+use Rattle.std.proofs.Common.{◌≡◌, true, false, ap, sym, subst, ◌∙◌}
+use Rattle.smk_world.proofs.Devices.{looked_as, looked_then}
+use Rattle.smk_store.specs.Loading.{IsStoreOf}
+use Rattle.smk_store_members.proofs.Trees.{tree_still}
+use Rattle.smk_plan_preview.specs.Faults.{device_failed}
+use Rattle.smk_plan_preview.specs.Previewing.{HasPreviewed}
+use Rattle.smk_plan_preview.proofs.Looked.{kept, seen_moved}
+use Rattle.smk_plan_preview.proofs.OnDisk.{tree_of}
 use Rattle.smk_plan_preview.proofs.previewing.preview.Goals as goal
 
-pub returns-clause-runnable : goal.returns-clause-runnable
-returns-clause-runnable g c = runnable_of c.preview_all.result c.preview_all.ensures.fit
+never : true ≡ false → ⊥
+never e = cc
 
-pub returns-clause-lower : goal.returns-clause-lower
-returns-clause-lower g c = lower_of c.preview_all.result c.preview_all.ensures.fit
+pub returns-in-Err-clause-looked : goal.returns-in-Err-clause-looked
+returns-in-Err-clause-looked g c = looked_as (ap device_failed c.in-Err.is) c.stored.ensures.looked
 
-pub returns-clause-befores : goal.returns-clause-befores
-returns-clause-befores g c = befores_of c.preview_all.result c.preview_all.ensures.fit
+pub returns-in-Err-clause-told : goal.returns-in-Err-clause-told
+returns-in-Err-clause-told g c = λ w at read reads told. absurd (never (sym told ∙ c.in-Err.ensures.untold))
 
-pub returns-clause-states : goal.returns-clause-states
-returns-clause-states g c = states_of _ c.preview_all.result c.preview_all.ensures.lengths
+pub returns-in-Ok-clause-looked : goal.returns-in-Ok-clause-looked
+returns-in-Ok-clause-looked g c = looked_then c.in-Ok.ensures.looked c.preview_stored.ensures.looked
 
-pub returns-clause-current : goal.returns-clause-current
-returns-clause-current g c = current_of _ c.preview_all.result c.preview_all.ensures.lengths
+pub returns-in-Ok-clause-told : goal.returns-in-Ok-clause-told
+returns-in-Ok-clause-told g c = λ w at read reads.
+    let tree = tree_of (g.met.W.Files.sound c.args.work.now) c.requires.none_runs w at in
+    let u = kept w c.in-Ok.ensures.looked at in
+    let image = seen_moved read w u.0 u.2 in
+    subst (λ i. HasPreviewed read c.args.flow.now c.args.settings.now i c.preview_stored.result) image
+    (c.preview_stored.ensures.told u.0 u.1 (tree_still w u.0 u.2.nodes tree) read (subst (λ i. IsStoreOf i c.in-Ok.store) (sym image) (c.in-Ok.ensures.told w at tree read reads)))

@@ -1,18 +1,20 @@
-use Rattle.std.proofs.Common.{Ok, Err, ap}
+use Rattle.std.proofs.Common.{ap}
+use Rattle.smk_world.proofs.Devices.{looked_as}
 use Rattle.smk_plan_preview.specs.Faults.{device_failed}
-use Rattle.smk_plan_preview.specs.declared.previewing.Previewed.{Previewed}
-use Rattle.smk_plan_preview.proofs.Looked.{looked_like}
-use Rattle.smk_plan_preview.proofs.Previews.{told, previewed, unpreviewed}
+use Rattle.smk_plan_preview.proofs.Previews.{previewed, unpreviewed}
 use Rattle.smk_plan_preview.proofs.previewing.preview_stored.Goals as goal
 
 pub returns-in-Ok-clause-looked : goal.returns-in-Ok-clause-looked
-returns-in-Ok-clause-looked g c = looked_like g.W.Files.act {B = Previewed} c.chain.result (Ok (told c.args.store c.in-Ok.last)) _ _ _ _ _ _ (ap device_failed c.in-Ok.is) c.chain.ensures.looked
+returns-in-Ok-clause-looked g c = c.in-Ok.ensures.looked
 
 pub returns-in-Ok-clause-told : goal.returns-in-Ok-clause-told
 returns-in-Ok-clause-told g c = λ w at tree read st. previewed read _ _ _ c.args.store c.chain.result c.in-Ok.last c.in-Ok.is st (c.chain.ensures.told w at tree read st)
 
 pub returns-in-Err-clause-looked : goal.returns-in-Err-clause-looked
-returns-in-Err-clause-looked g c = looked_like g.W.Files.act {B = Previewed} c.chain.result (Err c.in-Err.fault) _ _ _ _ _ _ (ap device_failed c.in-Err.is) c.chain.ensures.looked
+returns-in-Err-clause-looked g c = looked_as (ap device_failed c.in-Err.is) c.chain.ensures.looked
 
 pub returns-in-Err-clause-told : goal.returns-in-Err-clause-told
 returns-in-Err-clause-told g c = λ w at tree read st. unpreviewed read _ _ _ c.chain.result c.in-Err.fault c.in-Err.is (c.chain.ensures.told w at tree read st)
+
+pub returns-in-Ok-clause-good : goal.returns-in-Ok-clause-good
+returns-in-Ok-clause-good g c = c.in-Ok.ensures.good

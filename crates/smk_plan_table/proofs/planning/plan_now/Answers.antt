@@ -1,5 +1,4 @@
-use Rattle.smk_store.proofs.Looks.{if_ok}
-use Rattle.smk_plan_table.proofs.Results.{if_err}
+use Rattle.std.proofs.lemmas.Result.{IfOk-weaker, IfErr-weaker}
 use Rattle.smk_plan_table.proofs.planning.plan_now.Goals as goal
 
 pub plan_of-requires : goal.plan_of-requires
@@ -7,8 +6,8 @@ plan_of-requires g c = record { table = (c.args.wholes.now, c.in-Ok.ensures) }
 
 pub returns-in-Ok-clause-made : goal.returns-in-Ok-clause-made
 returns-in-Ok-clause-made g c =
-    if_ok c.plan_of.result _ _ (λ made told. λ image progress begun agree judged. told image progress c.args.wholes.now c.in-Ok.ensures begun agree judged) c.plan_of.ensures.made
+    IfOk-weaker c.plan_of.result _ _ (λ made told. λ image progress begun agree judged. told image progress c.args.wholes.now c.in-Ok.ensures begun agree judged) c.plan_of.ensures.made
 
 pub returns-in-Ok-clause-refused : goal.returns-in-Ok-clause-refused
 returns-in-Ok-clause-refused g c =
-    if_err c.plan_of.result _ _ (λ fault told. λ real image progress begun agree judged. told real image progress c.args.wholes.now c.in-Ok.ensures begun agree judged) c.plan_of.ensures.refused
+    IfErr-weaker c.plan_of.result _ _ (λ fault told. λ real image progress begun agree judged. told real image progress c.args.wholes.now c.in-Ok.ensures begun agree judged) c.plan_of.ensures.refused

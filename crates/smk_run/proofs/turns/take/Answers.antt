@@ -1,18 +1,17 @@
-use Rattle.std.proofs.Common.{◌≡◌, List, length, map, refl, ap, subst, ◌∙◌, true}
+use Rattle.std.proofs.Common.{◌≡◌, List, length, map, ap, subst, ◌∙◌, true}
 use Rattle.std.specs.List.{flat_map, list_all}
 use Rattle.smk_world.specs.declared.recipe.Item.{Item}
 use Rattle.smk_world.specs.declared.recipe.Out.{Out}
 use Rattle.smk_world.specs.declared.recipe.OutItem.{OutItem}
 use Rattle.smk_world.specs.Trees.{is_path_text}
 use Rattle.smk_run.specs.Stamps.{number_at}
-use Rattle.smk_run.proofs.Rising.{rose_earlier}
 use Rattle.smk_run.proofs.Taking.{taken, not_taken, nothing_taken}
 use Rattle.smk_run.proofs.Valid.{valid_each, writable_each}
 use Rattle.smk_run.proofs.turns.take.Goals as goal
 
-pub returns-in_default-clause-run : goal.returns-in_default-clause-run
-returns-in_default-clause-run g c =
-    nothing_taken g.W.Files.act c.args.flow.now (number_at c.args.serials.now) c.args.job.now c.args.command.now c.args.made _ _ _ _ c.requires.none_runs
+pub returns-in_default : goal.returns-in_default
+returns-in_default g c =
+    nothing_taken g.W.Files.act c.args.flow.now (number_at c.args.serials.now) c.args.job.now c.args.command.now c.args.made _ _ c.requires.none_runs
 
 pub run_one-requires-clause-valid : goal.run_one-requires-clause-valid
 run_one-requires-clause-valid g c =
@@ -22,11 +21,11 @@ run_one-requires-clause-valid g c =
     (subst (λ ps. list_all is_path_text ps ≡ true) (c.as_slice-2.ensures ∙ at) c.see_paths.ensures)
     (subst (λ (items : List OutItem). list_all is_path_text (flat_map (λ (item : OutItem). map (λ (out : Out). out.path) item.outs) items) ≡ true) c.as_slice-3.ensures c.see_outputs.ensures)
 
-pub returns-in-Ok-stamps_of-clause-run : goal.returns-in-Ok-stamps_of-clause-run
-returns-in-Ok-stamps_of-clause-run g c =
+pub returns-in-Ok-stamps_of : goal.returns-in-Ok-stamps_of
+returns-in-Ok-stamps_of g c =
     let at = c.in-Ok.ensures ∙ ap (λ (xs : List Item). flat_map (λ (item : Item). item.paths) xs) c.as_slice.ensures in
     taken g.W.Files.act c.args.flow.now (number_at c.args.serials.now) c.args.job.now c.args.command.now c.args.made c.as_slice-4.result.now c.in-Ok-stamps_of.stamps c.stamps_of.result c.run_one.result
-    _ _ _ _ _ _ _ _ (c.as_slice-4.ensures ∙ at) c.in-Ok-stamps_of.is c.stamps_of.ensures.did (c.in-Ok-stamps_of.ensures.stays refl) (rose_earlier _ _ _ c.stamps_of.ensures.cause.later) c.run_one.ensures.never
+    _ _ _ _ _ (c.as_slice-4.ensures ∙ at) c.in-Ok-stamps_of.is c.stamps_of.ensures.acted c.run_one.ensures.never
     (record {
       valid = valid_each c.args.made c.args.job.now.recipe c.in-Ok-stamps_of.stamps (c.in-Ok-stamps_of.ensures.each ∙ ap length (c.as_slice-4.ensures ∙ at)) c.requires.positive c.in-Ok-stamps_of.ensures.earlier c.requires.wildcards
           (subst (λ ps. list_all is_path_text ps ≡ true) (c.as_slice-2.ensures ∙ at) c.see_paths.ensures)
@@ -34,8 +33,8 @@ returns-in-Ok-stamps_of-clause-run g c =
       writable = writable_each c.args.made c.args.job.now.recipe c.in-Ok-stamps_of.stamps c.ranges.made.fits c.in-Ok-stamps_of.ensures.small c.see_texts.ensures;
     }) c.run_one.ensures.run
 
-pub returns-clause-run : goal.returns-clause-run
-returns-clause-run g c =
+pub returns : goal.returns
+returns g c =
     let at = c.in-Ok.ensures ∙ ap (λ (xs : List Item). flat_map (λ (item : Item). item.paths) xs) c.as_slice.ensures in
     not_taken g.W.Files.act c.args.flow.now (number_at c.args.serials.now) c.args.job.now c.args.command.now c.args.made c.as_slice-4.result.now c.in-Err.stop c.stamps_of.result
-    _ _ _ _ _ (c.as_slice-4.ensures ∙ at) c.in-Err.is c.in-Err.ensures.kind c.stamps_of.ensures.did c.stamps_of.ensures.cause.rose c.stamps_of.ensures.stays (c.stamps_of.ensures.running ∙ c.requires.none_runs)
+    _ _ _ (c.as_slice-4.ensures ∙ at) c.in-Err.is c.in-Err.ensures.kind c.stamps_of.ensures.acted c.requires.none_runs

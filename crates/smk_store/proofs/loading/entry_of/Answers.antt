@@ -1,7 +1,11 @@
 use Rattle.std.proofs.Common.{ap, ◌∙◌}
 use Rattle.std.specs.BTreeSet.{contains_text}
+use Rattle.smk_world.proofs.Devices.{looked_on}
 use Rattle.smk_store.proofs.Loads.{entry_is}
 use Rattle.smk_store.proofs.loading.entry_of.Goals as goal
+
+pub returns-in_err-kept-clause-looked : goal.returns-in_err-kept-clause-looked
+returns-in_err-kept-clause-looked g c = looked_on _ c.in_err-kept.was c.from_residual.ensures.1 c.kept_of.ensures.looked
 
 pub returns-clause-told : goal.returns-clause-told
 returns-clause-told g c = λ w at filed signs path read reads.

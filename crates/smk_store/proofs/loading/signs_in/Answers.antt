@@ -1,41 +1,35 @@
 use Rattle.std.proofs.Common.{refl}
 use Rattle.smk_base.specs.Place.{records_folder, marks_folder, notes_folder}
-use Rattle.smk_store.proofs.Looks.{looked_on, looked_memory, looked_short, looked_well, looked_then, never_ok, ok_is_quiet, still, filed_still}
+use Rattle.smk_world.proofs.Devices.{looked_then, looked_on, looked_memory, still}
+use Rattle.smk_store.proofs.Looks.{filed_still}
 use Rattle.smk_store.proofs.Loads.{all_still}
 use Rattle.smk_store.proofs.loading.signs_in.Goals as goal
 
+pub returns-in_err-records-2-clause-looked : goal.returns-in_err-records-2-clause-looked
+returns-in_err-records-2-clause-looked g c = looked_on _ c.in_err-records-2.was c.from_residual-in_err-records-2.ensures.1 c.paths_in-2.ensures.looked
+
+pub returns-in_err-marks-clause-looked : goal.returns-in_err-marks-clause-looked
+returns-in_err-marks-clause-looked g c = looked_memory _ c.from_residual-in_err-marks.ensures.1 c.in_ok-records-2.ensures.looked
+
 pub returns-in_err-marks-2-clause-looked : goal.returns-in_err-marks-2-clause-looked
 returns-in_err-marks-2-clause-looked g c =
-    looked_on g.W.Files.act _ _ _ _ _ _ c.paths_in-4.result c.from_residual-in_err-marks-2.result _ c.in_err-marks-2.was c.from_residual-in_err-marks-2.ensures.1
-    (looked_then g.W.Files.act _ _ _ _ _ _ _ _ _ _ _ (ok_is_quiet c.paths_in-2.result _ _ c.in_ok-records-2.was) c.paths_in-2.ensures.looked c.paths_in-4.ensures.looked)
+    looked_then c.in_ok-records-2.ensures.looked (looked_on _ c.in_err-marks-2.was c.from_residual-in_err-marks-2.ensures.1 c.paths_in-4.ensures.looked)
 
 pub returns-in_err-notes-clause-looked : goal.returns-in_err-notes-clause-looked
-returns-in_err-notes-clause-looked g c =
-    looked_memory g.W.Files.act _ _ _ _ _ _ c.from_residual-in_err-notes.result c.from_residual-in_err-notes.ensures.1
-    (looked_well g.W.Files.act _ _ _ _ _ _ _ (ok_is_quiet c.paths_in-4.result _ _ c.in_ok-marks-2.was)
-    (looked_then g.W.Files.act _ _ _ _ _ _ _ _ _ _ _ (ok_is_quiet c.paths_in-2.result _ _ c.in_ok-records-2.was) c.paths_in-2.ensures.looked c.paths_in-4.ensures.looked))
+returns-in_err-notes-clause-looked g c = looked_memory _ c.from_residual-in_err-notes.ensures.1 (looked_then c.in_ok-records-2.ensures.looked c.in_ok-marks-2.ensures.looked)
 
 pub returns-in_err-notes-2-clause-looked : goal.returns-in_err-notes-2-clause-looked
 returns-in_err-notes-2-clause-looked g c =
-    looked_on g.W.Files.act _ _ _ _ _ _ c.paths_in-6.result c.from_residual-in_err-notes-2.result _ c.in_err-notes-2.was c.from_residual-in_err-notes-2.ensures.1
-    (looked_then g.W.Files.act _ _ _ _ _ _ _ _ _ _ _ (ok_is_quiet c.paths_in-4.result _ _ c.in_ok-marks-2.was)
-    (looked_then g.W.Files.act _ _ _ _ _ _ _ _ _ _ _ (ok_is_quiet c.paths_in-2.result _ _ c.in_ok-records-2.was) c.paths_in-2.ensures.looked c.paths_in-4.ensures.looked)
-    c.paths_in-6.ensures.looked)
+    looked_then (looked_then c.in_ok-records-2.ensures.looked c.in_ok-marks-2.ensures.looked)
+    (looked_on _ c.in_err-notes-2.was c.from_residual-in_err-notes-2.ensures.1 c.paths_in-6.ensures.looked)
 
 pub returns-clause-looked : goal.returns-clause-looked
-returns-clause-looked g c =
-    looked_short g.W.Files.act _ _ _ _ _ _ _ (never_ok _ _)
-    (looked_well g.W.Files.act _ _ _ _ _ _ _ (ok_is_quiet c.paths_in-6.result _ _ c.in_ok-notes-2.was)
-    (looked_then g.W.Files.act _ _ _ _ _ _ _ _ _ _ _ (ok_is_quiet c.paths_in-4.result _ _ c.in_ok-marks-2.was)
-    (looked_then g.W.Files.act _ _ _ _ _ _ _ _ _ _ _ (ok_is_quiet c.paths_in-2.result _ _ c.in_ok-records-2.was) c.paths_in-2.ensures.looked c.paths_in-4.ensures.looked)
-    c.paths_in-6.ensures.looked))
+returns-clause-looked g c = looked_then (looked_then c.in_ok-records-2.ensures.looked c.in_ok-marks-2.ensures.looked) c.in_ok-notes-2.ensures.looked
 
 pub returns-clause-told : goal.returns-clause-told
 returns-clause-told g c = λ w at filed.
-    let first = looked_well g.W.Files.act _ _ _ _ _ _ _ (ok_is_quiet c.paths_in-2.result _ _ c.in_ok-records-2.was) c.paths_in-2.ensures.looked in
-    let second = looked_well g.W.Files.act _ _ _ _ _ _ _ (ok_is_quiet c.paths_in-4.result _ _ c.in_ok-marks-2.was) (looked_then g.W.Files.act _ _ _ _ _ _ _ _ _ _ _ (λ f. f) first c.paths_in-4.ensures.looked) in
-    let u = still g.W.Files.act _ _ _ _ _ _ _ w first (λ f. f) at in
-    let v = still g.W.Files.act _ _ _ _ _ _ _ w second (λ f. f) at in
+    let u = still w c.in_ok-records-2.ensures.looked at in
+    let v = still w (looked_then c.in_ok-records-2.ensures.looked c.in_ok-marks-2.ensures.looked) at in
     record {
       recorded = all_still w w records_folder c.in_ok-records.field-0 _ refl c.in_ok-records.ensures (c.in_ok-records-2.ensures.told w at filed);
       marked = all_still w u.0 marks_folder c.in_ok-marks.field-0 _ u.2 c.in_ok-marks.ensures (c.in_ok-marks-2.ensures.told u.0 u.1 (filed_still w u.0 u.2 filed));

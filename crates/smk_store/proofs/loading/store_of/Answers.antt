@@ -3,30 +3,23 @@ use Rattle.std.specs.List.{filter}
 use Rattle.smk_world.specs.Trees.{is_path_text}
 use Rattle.smk_store.specs.Images.{seen}
 use Rattle.smk_store.specs.Walking.{texts_of, path_in}
-use Rattle.smk_store.proofs.Looks.{looked_on, looked_memory, looked_well, looked_then, ok_is_quiet, still, filed_still}
+use Rattle.smk_world.proofs.Devices.{looked_on, looked_memory, looked_then, still}
+use Rattle.smk_store.proofs.Looks.{filed_still}
 use Rattle.smk_store.proofs.Loads.{one_more, all_found, are_kept, store_known, entry_still, signs_still, entry_pushed, lengths_pushed, is_text_path}
 use Rattle.smk_store.proofs.loading.store_of.Goals as goal
 
 pub returns-in_err-path-clause-looked : goal.returns-in_err-path-clause-looked
-returns-in_err-path-clause-looked g c =
-    looked_memory g.W.Files.act _ _ _ _ _ _ c.from_residual.result c.from_residual.ensures.1 c.loop-text.invariant.looked
+returns-in_err-path-clause-looked g c = looked_memory _ c.from_residual.ensures.1 c.loop-text.invariant.looked
 
 pub returns-in_err-entry-clause-looked : goal.returns-in_err-entry-clause-looked
 returns-in_err-entry-clause-looked g c =
-    looked_on g.W.Files.act _ _ _ _ _ _ c.entry_of.result c.from_residual-in_err-entry.result _ c.in_err-entry.was c.from_residual-in_err-entry.ensures.1
-    (looked_then g.W.Files.act _ _ _ _ _ _ _ _ _ ⊥ _ (λ f. f) c.loop-text.invariant.looked c.entry_of.ensures.looked)
+    looked_then c.loop-text.invariant.looked (looked_on _ c.in_err-entry.was c.from_residual-in_err-entry.ensures.1 c.entry_of.ensures.looked)
 
 pub returns-in_err-push-clause-looked : goal.returns-in_err-push-clause-looked
-returns-in_err-push-clause-looked g c =
-    looked_memory g.W.Files.act _ _ _ _ _ _ c.from_residual-in_err-push.result c.from_residual-in_err-push.ensures.1
-    (looked_well g.W.Files.act _ _ _ _ _ _ _ (ok_is_quiet c.entry_of.result _ _ c.in_ok-entry.was)
-    (looked_then g.W.Files.act _ _ _ _ _ _ _ _ _ ⊥ _ (λ f. f) c.loop-text.invariant.looked c.entry_of.ensures.looked))
+returns-in_err-push-clause-looked g c = looked_memory _ c.from_residual-in_err-push.ensures.1 (looked_then c.loop-text.invariant.looked c.in_ok-entry.ensures.looked)
 
 pub returns-in_err-push-2-clause-looked : goal.returns-in_err-push-2-clause-looked
-returns-in_err-push-2-clause-looked g c =
-    looked_memory g.W.Files.act _ _ _ _ _ _ c.from_residual-in_err-push-2.result c.from_residual-in_err-push-2.ensures.1
-    (looked_well g.W.Files.act _ _ _ _ _ _ _ (ok_is_quiet c.entry_of.result _ _ c.in_ok-entry.was)
-    (looked_then g.W.Files.act _ _ _ _ _ _ _ _ _ ⊥ _ (λ f. f) c.loop-text.invariant.looked c.entry_of.ensures.looked))
+returns-in_err-push-2-clause-looked g c = looked_memory _ c.from_residual-in_err-push-2.ensures.1 (looked_then c.loop-text.invariant.looked c.in_ok-entry.ensures.looked)
 
 pub loop-text-preserved : goal.loop-text-preserved
 loop-text-preserved g c =
@@ -35,13 +28,12 @@ loop-text-preserved g c =
     let path = c.in-Some-2.path in
     let is : Some path ≡ path_in text = sym c.in-Some-2.is ∙ c.in_ok-path.ensures ∙ ap path_in c.as_str.ensures.value in
     record {
-      looked = looked_well g.W.Files.act _ _ _ _ _ _ _ (ok_is_quiet c.entry_of.result _ _ c.in_ok-entry.was)
-          (looked_then g.W.Files.act _ _ _ _ _ _ _ _ _ ⊥ _ (λ f. f) v.looked c.entry_of.ensures.looked);
+      looked = looked_then v.looked c.in_ok-entry.ensures.looked;
       found = ap (λ l. l ++ filter is_path_text (texts_of c.next.new.self)) c.in_ok-push.ensures.ok
           ∙ one_more c.loop-text.paths text (texts_of c.next.new.self) (texts_of c.loop-text.text-iterator) _ path is (ap texts_of c.in-Some.ensures.steps) v.found;
       each = lengths_pushed c.loop-text.paths c.push.new.self path c.loop-text.entries c.push-in-loop-text.new.self c.in_ok-entry.entry c.in_ok-push.ensures.ok c.in_ok-push-2.ensures.ok v.each;
       told = λ w at filed signs read reads.
-          let u = still g.W.Files.act _ _ _ _ _ _ ⊥ w v.looked (λ f. f) at in
+          let u = still w v.looked at in
           entry_pushed (seen read w) c.loop-text.paths c.push.new.self path c.loop-text.entries c.push-in-loop-text.new.self c.in_ok-entry.entry c.in_ok-push.ensures.ok c.in_ok-push-2.ensures.ok (v.told w at filed signs read reads)
           (c.in_ok-entry.ensures.told u.0 u.1 (filed_still w u.0 u.2 filed) (signs_still w u.0 _ _ _ u.2 signs) (is_text_path text path is) read reads ∙ entry_still read w u.0 path u.2);
     }

@@ -1,8 +1,7 @@
-use Rattle.std.proofs.Common.{◌≡◌, ◌-◌, Some, length, take}
+use Rattle.std.proofs.Common.{◌-◌, false, length, take}
 use Rattle.std.specs.BTreeSet.{contains_text}
-use Rattle.smk_world.specs.World.{World}
+use Rattle.smk_world.specs.Devices.{WhereTold, HasLooked}
 use Rattle.smk_store.specs.Loading.{IsFiled}
-use Rattle.smk_store.specs.Walking.{HasLooked}
 use Rattle.smk_store.proofs.Finding.{SoFar}
 use Rattle.smk_store.proofs.names.+walk.Given as goal
 
@@ -11,7 +10,7 @@ decreases-walk g l = 1000 - length l.front.now
 
 abbrev pub invariant-loop-name : goal.invariant-loop-name
 invariant-loop-name g l = record {
-  looked : HasLooked g.W.Files.act (g.W.Files.world l.fn.work) (g.W.Files.world l.work) (g.W.Files.faults l.fn.work) (g.W.Files.faults l.work) (g.W.Files.running l.fn.work) (g.W.Files.running l.work) ⊥;
-  told : (w : World) → g.W.Files.world l.fn.work ≡ Some w → IsFiled w
-      → SoFar w.nodes l.folder l.front (λ q. contains_text l.fn.found q) (λ q. contains_text l.found q) (take l.name-index l.names);
+  looked : HasLooked g.W.Files.act (g.W.Files.device l.fn.work) (g.W.Files.device l.work) false;
+  told : WhereTold (g.W.Files.device l.fn.work) (λ w. IsFiled w
+      → SoFar w.nodes l.folder l.front (λ q. contains_text l.fn.found q) (λ q. contains_text l.found q) (take l.name-index l.names));
 }

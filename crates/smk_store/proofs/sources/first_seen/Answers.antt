@@ -4,38 +4,30 @@ use Rattle.smk_world.specs.declared.event.NodeState.{NodeState}
 use Rattle.smk_world.specs.declared.event.NodeState.TheVariants.{Owned}
 use Rattle.smk_world.specs.Trees.{Path}
 use Rattle.smk_store.specs.Sources.{earlier, is_seen, first_seen}
-use Rattle.smk_store.proofs.Looks.{looked_on, looked_memory, looked_well, looked_then, looked_short, ok_is_quiet, never_ok, still}
+use Rattle.smk_world.proofs.Devices.{looked_on, looked_memory, looked_then, still}
 use Rattle.smk_store.proofs.Seeing.{seen_next, seen_same}
 use Rattle.smk_store.proofs.sources.first_seen.Goals as goal
 
 pub returns-in_err-seen-clause-looked : goal.returns-in_err-seen-clause-looked
 returns-in_err-seen-clause-looked g c =
-    looked_on g.W.Files.act _ _ _ _ _ _ c.is_seen.result c.from_residual.result _ c.in_err-seen.was c.from_residual.ensures.1
-    (looked_then g.W.Files.act _ _ _ _ _ _ _ _ _ ⊥ _ (λ f. f) c.loop-source.invariant.looked c.is_seen.ensures.looked)
+    looked_then c.loop-source.invariant.looked (looked_on _ c.in_err-seen.was c.from_residual.ensures.1 c.is_seen.ensures.looked)
 
 pub returns-in_err-first-clause-looked : goal.returns-in_err-first-clause-looked
-returns-in_err-first-clause-looked g c =
-    looked_memory g.W.Files.act _ _ _ _ _ _ c.from_residual-in_err-first.result c.from_residual-in_err-first.ensures.1
-    (looked_well g.W.Files.act _ _ _ _ _ _ _ (ok_is_quiet c.is_seen.result _ _ c.in_ok-seen.was)
-    (looked_then g.W.Files.act _ _ _ _ _ _ _ _ _ ⊥ _ (λ f. f) c.loop-source.invariant.looked c.is_seen.ensures.looked))
+returns-in_err-first-clause-looked g c = looked_memory _ c.from_residual-in_err-first.ensures.1 (looked_then c.loop-source.invariant.looked c.in_ok-seen.ensures.looked)
 
 pub loop-source-preserved : goal.loop-source-preserved
 loop-source-preserved g c =
     let v = c.loop-source.invariant in
     let x = c.source-item.result in
     record {
-      looked = looked_well g.W.Files.act _ _ _ _ _ _ _ (ok_is_quiet c.is_seen.result _ _ c.in_ok-seen.was)
-          (looked_then g.W.Files.act _ _ _ _ _ _ _ _ _ ⊥ _ (λ f. f) v.looked c.is_seen.ensures.looked);
+      looked = looked_then v.looked c.in_ok-seen.ensures.looked;
       told = λ w at none.
-          let u = still g.W.Files.act _ _ _ _ _ _ ⊥ w v.looked (λ f. f) at in
+          let u = still w v.looked at in
           let seen : c.in_ok-seen.seen ≡ is_seen w x =
           c.in_ok-seen.ensures.told u.0 u.1 (subst (λ (n : Path → NodeState). (q : Path) → n q ≢ Owned) (sym u.2) none) ∙ seen_same w u.0 x u.2 in
           c.in_ok-first.ensures ∙ ap (λ f. earlier f x.path c.in_ok-seen.seen) (v.told w at none) ∙ ap (earlier (first_seen (is_seen w) (take c.loop-source.source-index c.args.sources.now)) x.path) seen
           ∙ seen_next (is_seen w) c.args.sources.now c.loop-source.source-index x c.loop-source-test.true c.source-item.is;
     }
-
-pub returns-clause-looked : goal.returns-clause-looked
-returns-clause-looked g c = looked_short g.W.Files.act _ _ _ _ _ _ _ (never_ok _ _) c.loop-source.invariant.looked
 
 pub returns-clause-told : goal.returns-clause-told
 returns-clause-told g c = λ w at none.

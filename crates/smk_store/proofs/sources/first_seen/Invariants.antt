@@ -1,11 +1,10 @@
-use Rattle.std.proofs.Common.{◌≡◌, Some, take}
-use Rattle.smk_world.specs.World.{World}
+use Rattle.std.proofs.Common.{◌≡◌, false, take}
+use Rattle.smk_world.specs.Devices.{WhereTold, HasLooked}
 use Rattle.smk_store.specs.Sources.{NoneOwned, first_seen, is_seen}
-use Rattle.smk_store.specs.Walking.{HasLooked}
 use Rattle.smk_store.proofs.sources.first_seen.Given as goal
 
 abbrev pub invariant-loop-source : goal.invariant-loop-source
 invariant-loop-source g l = record {
-  looked : HasLooked g.W.Files.act (g.W.Files.world l.fn.work) (g.W.Files.world l.work) (g.W.Files.faults l.fn.work) (g.W.Files.faults l.work) (g.W.Files.running l.fn.work) (g.W.Files.running l.work) ⊥;
-  told : (w : World) → g.W.Files.world l.fn.work ≡ Some w → NoneOwned w → l.first ≡ first_seen (is_seen w) (take l.source-index l.sources);
+  looked : HasLooked g.W.Files.act (g.W.Files.device l.fn.work) (g.W.Files.device l.work) false;
+  told : WhereTold (g.W.Files.device l.fn.work) (λ w. NoneOwned w → l.first ≡ first_seen (is_seen w) (take l.source-index l.sources));
 }

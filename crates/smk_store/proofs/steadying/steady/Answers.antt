@@ -1,19 +1,15 @@
-use Rattle.std.proofs.Common.{[], refl, ap, false}
-use Rattle.smk_world.specs.declared.event.Call.TheVariants.{Settled}
-use Rattle.smk_world.specs.Calls.{is_failed}
+use Rattle.std.proofs.Common.{Err, refl, ap}
 use Rattle.smk_world.specs.Requests.Request.{Settle}
-use Rattle.smk_store.specs.Steadying.{all_signs}
-use Rattle.smk_store.proofs.Carried.{done_nothing, done_next, cut_next}
+use Rattle.smk_world.proofs.Devices.{acted_nothing, carried_call}
+use Rattle.smk_store.specs.declared.fault.StoreFault.TheVariants.{OutOfMemory}
+use Rattle.smk_store.specs.Steadying.{HasTried, all_signs, steady_requests}
 use Rattle.smk_store.proofs.steadying.steady.Goals as goal
 
-pub returns-in-Ok-settle-clause-did : goal.returns-in-Ok-settle-clause-did
-returns-in-Ok-settle-clause-did g c =
-    let act = g.W.Files.act in
-    done_next act [] (Settle (all_signs c.args.store.now)) _ _ _ (Settled c.in-Ok.places c.settle.result) (done_nothing act _) c.settle.ensures.world
-    (ap Settle c.in-Ok.ensures) (ap is_failed c.in-Ok-settle.is)
+pub returns-in_default-clause-acted : goal.returns-in_default-clause-acted
+returns-in_default-clause-acted g c = acted_nothing g.W.Files.act (HasTried (steady_requests c.args.store.now) (Err OutOfMemory)) _ (λ w. refl)
 
-pub returns-clause-did : goal.returns-clause-did
-returns-clause-did g c =
-    let act = g.W.Files.act in
-    cut_next act [] (Settle (all_signs c.args.store.now)) [] _ _ _ (Settled c.in-Ok.places c.settle.result) false refl (done_nothing act _) c.settle.ensures.world
-    (ap Settle c.in-Ok.ensures) (ap is_failed c.in-Err.is)
+pub returns-in-Ok-settle-clause-acted : goal.returns-in-Ok-settle-clause-acted
+returns-in-Ok-settle-clause-acted g c = (carried_call (Settle (all_signs c.args.store.now)) refl (ap Settle c.in-Ok.ensures) c.in-Ok-settle.ensures).acted
+
+pub returns-clause-acted : goal.returns-clause-acted
+returns-clause-acted g c = (carried_call (Settle (all_signs c.args.store.now)) refl (ap Settle c.in-Ok.ensures) c.in-Err.ensures).acted

@@ -1,61 +1,46 @@
-use Rattle.std.proofs.Common.{◌≡◌, [], ◌∷◌, refl, ap, ◌∙◌, true, false, get_or}
+use Rattle.std.proofs.Common.{◌≡◌, [], ◌∷◌, refl, ap, subst, ◌∙◌, true, false, get_or}
 use Rattle.smk_base.specs.Place.{lock_place}
-use Rattle.smk_world.specs.declared.event.Call.TheVariants.{MadeParents, Created, Settled}
-use Rattle.smk_world.specs.Calls.{is_failed}
 use Rattle.smk_world.specs.Requests.Request.{MakeParents, Create, Settle}
-use Rattle.smk_store.specs.Steps.{made_by}
-use Rattle.smk_store.proofs.Carried.{cut_next, done_nothing}
-use Rattle.smk_store.proofs.Locking.{answered_nothing, answered_next, done_of, locked_cut}
+use Rattle.smk_world.proofs.Devices.{carried_as, carried_call, carried_then, carried_cut}
+use Rattle.smk_store.proofs.Locking.{HasDoneSo, does_call, does_then, locked_cut}
 use Rattle.smk_store.proofs.steps.lock.Goals as goal
 
-pub returns-in_err-make_parents-clause-did : goal.returns-in_err-make_parents-clause-did
-returns-in_err-make_parents-clause-did g c =
-    let files = g.W.Files in
+pub returns-in_err-make_parents : goal.returns-in_err-make_parents
+returns-in_err-make_parents g c =
     let p = c.index-as_slice-0.result in
     let is : p ≡ lock_place = c.index-as_slice-0.is ∙ ap (λ l. get_or l 0 p) (c.as_slice.ensures ∙ c.requires.lock) in
-    locked_cut files.act _ _ c.from_residual.result c.from_residual.ensures.0
-    (cut_next files.act [] (MakeParents lock_place) (Create lock_place ∷ Settle (lock_place ∷ []) ∷ []) _ _ _ (MadeParents p c.make_parents.result) false refl
-    (done_nothing files.act _) c.make_parents.ensures.world (ap MakeParents is) (ap is_failed c.in_err-make_parents.was))
+    locked_cut _ c.from_residual.ensures.0
+    (carried_as (ap (λ q. MakeParents q ∷ Create lock_place ∷ Settle (lock_place ∷ []) ∷ []) is) refl
+    (carried_cut (Create lock_place ∷ Settle (lock_place ∷ []) ∷ []) (carried_call (MakeParents p) refl refl c.in_err-make_parents.ensures)))
 
-pub returns-in_err-create_new-clause-did : goal.returns-in_err-create_new-clause-did
-returns-in_err-create_new-clause-did g c =
-    let files = g.W.Files in
+pub returns-in_err-create_new : goal.returns-in_err-create_new
+returns-in_err-create_new g c =
     let p = c.index-as_slice-0.result in
     let is : p ≡ lock_place = c.index-as_slice-0.is ∙ ap (λ l. get_or l 0 p) (c.as_slice.ensures ∙ c.requires.lock) in
-    locked_cut files.act _ _ c.from_residual-in_err-create_new.result c.from_residual-in_err-create_new.ensures.0
-    (cut_next files.act (MakeParents lock_place ∷ []) (Create lock_place) (Settle (lock_place ∷ []) ∷ []) _ _ _ (Created p c.create_new.result) false refl
-    (done_of files.act (MakeParents lock_place ∷ []) [] _ _ (answered_next files.act [] [] [] (MakeParents lock_place) _ _ _ (MadeParents p c.make_parents.result) (answered_nothing files.act _) c.make_parents.ensures.world (ap MakeParents is) (ap is_failed c.in_ok-make_parents.was) refl))
-    c.create_new.ensures.world (ap Create is) (ap is_failed c.in_err-create_new.was))
+    locked_cut _ c.from_residual-in_err-create_new.ensures.0
+    (carried_as (ap (λ q. MakeParents q ∷ Create q ∷ Settle (lock_place ∷ []) ∷ []) is) refl
+    (carried_then (carried_call (MakeParents p) refl refl c.in_ok-make_parents.ensures) (carried_cut (Settle (lock_place ∷ []) ∷ []) (carried_call (Create p) refl refl c.in_err-create_new.ensures))))
 
-pub returns-then-not-branch-clause-did : goal.returns-then-not-branch-clause-did
-returns-then-not-branch-clause-did g c =
-    let files = g.W.Files in
+pub returns-then-not-branch : goal.returns-then-not-branch
+returns-then-not-branch g c =
     let p = c.index-as_slice-0.result in
     let is : p ≡ lock_place = c.index-as_slice-0.is ∙ ap (λ l. get_or l 0 p) (c.as_slice.ensures ∙ c.requires.lock) in
-    answered_next files.act (MakeParents lock_place ∷ []) [] (false ∷ []) (Create lock_place) _ _ _ (Created p c.create_new.result)
-    (answered_next files.act [] [] [] (MakeParents lock_place) _ _ _ (MadeParents p c.make_parents.result) (answered_nothing files.act _) c.make_parents.ensures.world (ap MakeParents is) (ap is_failed c.in_ok-make_parents.was) refl)
-    c.create_new.ensures.world (ap Create is) (ap is_failed c.in_ok-create_new.was) (ap (λ r. made_by (Created p r)) c.in_ok-create_new.was ∙ ap (λ b. b ∷ []) c.if-not-branch.true)
+    (subst (λ q. HasDoneSo g.W.Files.act (MakeParents q ∷ Create q ∷ []) (false ∷ []) (g.W.Files.device c.args.work.now) (g.W.Files.device c.create_new.new.self)) is
+    (does_then (does_call (MakeParents p) [] refl refl refl refl c.in_ok-make_parents.ensures) (does_call (Create p) (false ∷ []) refl refl refl (ap (λ m. m ∷ []) c.if-not-branch.true) c.in_ok-create_new.ensures))).acted
 
-pub returns-in_err-settle-clause-did : goal.returns-in_err-settle-clause-did
-returns-in_err-settle-clause-did g c =
-    let files = g.W.Files in
+pub returns-in_err-settle : goal.returns-in_err-settle
+returns-in_err-settle g c =
     let p = c.index-as_slice-0.result in
     let is : p ≡ lock_place = c.index-as_slice-0.is ∙ ap (λ l. get_or l 0 p) (c.as_slice.ensures ∙ c.requires.lock) in
-    locked_cut files.act _ _ c.from_residual-in_err-settle.result c.from_residual-in_err-settle.ensures.0
-    (cut_next files.act (MakeParents lock_place ∷ Create lock_place ∷ []) (Settle (lock_place ∷ [])) [] _ _ _ (Settled c.args.place.now c.settle.result) false refl
-    (done_of files.act (MakeParents lock_place ∷ Create lock_place ∷ []) (true ∷ []) _ _
-    (answered_next files.act (MakeParents lock_place ∷ []) [] (true ∷ []) (Create lock_place) _ _ _ (Created p c.create_new.result)
-    (answered_next files.act [] [] [] (MakeParents lock_place) _ _ _ (MadeParents p c.make_parents.result) (answered_nothing files.act _) c.make_parents.ensures.world (ap MakeParents is) (ap is_failed c.in_ok-make_parents.was) refl)
-    c.create_new.ensures.world (ap Create is) (ap is_failed c.in_ok-create_new.was) (ap (λ r. made_by (Created p r)) c.in_ok-create_new.was ∙ ap (λ b. b ∷ []) c.if-not-branch.false)))
-    c.settle.ensures.world (ap Settle c.requires.lock) (ap is_failed c.in_err-settle.was))
+    locked_cut _ c.from_residual-in_err-settle.ensures.0
+    (carried_as (ap (λ q. MakeParents q ∷ Create q ∷ Settle (lock_place ∷ []) ∷ []) is) refl
+    (carried_then (carried_then (carried_call (MakeParents p) refl refl c.in_ok-make_parents.ensures) (carried_call (Create p) refl refl c.in_ok-create_new.ensures))
+    (carried_call (Settle (lock_place ∷ [])) refl (ap Settle c.requires.lock) c.in_err-settle.ensures)))
 
-pub returns-clause-did : goal.returns-clause-did
-returns-clause-did g c =
-    let files = g.W.Files in
+pub returns : goal.returns
+returns g c =
     let p = c.index-as_slice-0.result in
     let is : p ≡ lock_place = c.index-as_slice-0.is ∙ ap (λ l. get_or l 0 p) (c.as_slice.ensures ∙ c.requires.lock) in
-    answered_next files.act (MakeParents lock_place ∷ Create lock_place ∷ []) (true ∷ []) [] (Settle (lock_place ∷ [])) _ _ _ (Settled c.args.place.now c.settle.result)
-    (answered_next files.act (MakeParents lock_place ∷ []) [] (true ∷ []) (Create lock_place) _ _ _ (Created p c.create_new.result)
-    (answered_next files.act [] [] [] (MakeParents lock_place) _ _ _ (MadeParents p c.make_parents.result) (answered_nothing files.act _) c.make_parents.ensures.world (ap MakeParents is) (ap is_failed c.in_ok-make_parents.was) refl)
-    c.create_new.ensures.world (ap Create is) (ap is_failed c.in_ok-create_new.was) (ap (λ r. made_by (Created p r)) c.in_ok-create_new.was ∙ ap (λ b. b ∷ []) c.if-not-branch.false))
-    c.settle.ensures.world (ap Settle c.requires.lock) (ap is_failed c.in_ok-settle.was) refl
+    (subst (λ q. HasDoneSo g.W.Files.act (MakeParents q ∷ Create q ∷ Settle (lock_place ∷ []) ∷ []) (true ∷ []) (g.W.Files.device c.args.work.now) (g.W.Files.device c.settle.new.self)) is
+    (does_then (does_then (does_call (MakeParents p) [] refl refl refl refl c.in_ok-make_parents.ensures) (does_call (Create p) (true ∷ []) refl refl refl (ap (λ m. m ∷ []) c.if-not-branch.false) c.in_ok-create_new.ensures))
+    (does_call (Settle (lock_place ∷ [])) [] refl (ap Settle c.requires.lock) refl refl c.in_ok-settle.ensures))).acted

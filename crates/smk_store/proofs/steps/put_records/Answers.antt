@@ -1,20 +1,12 @@
-use Rattle.std.proofs.Common.{[], ◌∷◌, subst}
+use Rattle.std.proofs.Common.{[], ◌∷◌, refl, sym, ap₂}
 use Rattle.smk_world.specs.Requests.Request.{Settle}
-use Rattle.smk_world.specs.Requests.{HasDone, IsCutShort}
-use Rattle.smk_world.specs.Runs.{Did}
 use Rattle.smk_store.specs.Steps.{write_each}
-use Rattle.smk_store.proofs.Carried.{is_ok_err}
-use Rattle.smk_store.proofs.Each.{settled_cut, settled_last}
+use Rattle.smk_world.proofs.Devices.{carried_as, carried_call, carried_then, carried_cut}
 use Rattle.smk_store.proofs.steps.put_records.Goals as goal
 
-pub returns-in_err-write_each-clause-did : goal.returns-in_err-write_each-clause-did
-returns-in_err-write_each-clause-did g c =
-    let ps = c.args.places.now.records in
-    settled_cut g.W.Files.act (λ qs. write_each qs c.args.bytes.now) c.as_slice.result.now ps (Settle ps ∷ []) _ _ _ (is_ok_err _ c.from_residual.ensures.0) c.as_slice.ensures
-    (subst (λ bs. Did g.W.Files.act (g.W.Files.world c.args.work.now) (g.W.Files.world c.write_each.new.work) (λ w es. IsCutShort (write_each c.as_slice.result.now bs) es)) c.as_slice-2.ensures c.in_err-write_each.ensures.did)
+pub returns-in_err-write_each : goal.returns-in_err-write_each
+returns-in_err-write_each g c =
+    carried_as refl (sym c.from_residual.ensures.0) (carried_cut (Settle c.args.places.now.records ∷ []) (carried_as (ap₂ write_each c.as_slice.ensures c.as_slice-2.ensures) refl c.in_err-write_each.ensures))
 
-pub returns-clause-did : goal.returns-clause-did
-returns-clause-did g c =
-    let ps = c.args.places.now.records in
-    settled_last g.W.Files.act (λ qs. write_each qs c.args.bytes.now) c.as_slice.result.now ps ps _ _ _ c.settle.result c.as_slice.ensures
-    (subst (λ bs. Did g.W.Files.act (g.W.Files.world c.args.work.now) (g.W.Files.world c.write_each.new.work) (λ w es. HasDone (write_each c.as_slice.result.now bs) es)) c.as_slice-2.ensures c.in_ok-write_each.ensures.did) c.settle.ensures.world
+pub returns : goal.returns
+returns g c = carried_then (carried_as (ap₂ write_each c.as_slice.ensures c.as_slice-2.ensures) refl c.in_ok-write_each.ensures) (carried_call (Settle c.args.places.now.records) refl refl c.settle.ensures)

@@ -1,14 +1,11 @@
+use Rattle.std.proofs.Common.{[], ◌∷◌, refl, sym, ap}
 use Rattle.smk_world.specs.Requests.Request.{Settle}
-use Rattle.std.proofs.Common.{[], ◌∷◌}
 use Rattle.smk_store.specs.Steps.{remove_each}
-use Rattle.smk_store.proofs.Carried.{is_ok_err}
-use Rattle.smk_store.proofs.Each.{settled_cut, settled_last}
+use Rattle.smk_world.proofs.Devices.{carried_as, carried_call, carried_then, carried_cut}
 use Rattle.smk_store.proofs.steps.unlock.Goals as goal
 
-pub returns-in_err-remove_each-clause-did : goal.returns-in_err-remove_each-clause-did
-returns-in_err-remove_each-clause-did g c =
-    settled_cut g.W.Files.act remove_each c.as_slice.result.now c.args.place.now (Settle c.args.place.now ∷ []) _ _ _ (is_ok_err _ c.from_residual.ensures.0) c.as_slice.ensures c.in_err-remove_each.ensures.did
+pub returns-in_err-remove_each : goal.returns-in_err-remove_each
+returns-in_err-remove_each g c = carried_as refl (sym c.from_residual.ensures.0) (carried_cut (Settle c.args.place.now ∷ []) (carried_as (ap remove_each c.as_slice.ensures) refl c.in_err-remove_each.ensures))
 
-pub returns-clause-did : goal.returns-clause-did
-returns-clause-did g c =
-    settled_last g.W.Files.act remove_each c.as_slice.result.now c.args.place.now c.args.place.now _ _ _ c.settle.result c.as_slice.ensures c.in_ok-remove_each.ensures.did c.settle.ensures.world
+pub returns : goal.returns
+returns g c = carried_then (carried_as (ap remove_each c.as_slice.ensures) refl c.in_ok-remove_each.ensures) (carried_call (Settle c.args.place.now) refl refl c.settle.ensures)

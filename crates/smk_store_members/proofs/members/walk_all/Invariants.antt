@@ -1,9 +1,7 @@
-use Rattle.std.proofs.Common.{◌≡◌, ◌-◌, Some, false, drop}
-use Rattle.smk_world.specs.World.{World}
-use Rattle.smk_world.specs.Runs.{Did}
-use Rattle.smk_store.specs.Walking.{HasLooked}
+use Rattle.std.proofs.Common.{◌-◌, false, drop}
+use Rattle.smk_world.specs.Devices.{WhereTold}
 use Rattle.smk_store_members.specs.Members.{IsOpenFolder, member_places}
-use Rattle.smk_store_members.specs.Walks.{AreListings}
+use Rattle.smk_store_members.specs.Walks.{HasListings}
 use Rattle.smk_store_members.specs.Steps.{AreKept, IsWalk}
 use Rattle.smk_store_members.proofs.members.walk_all.Given as goal
 
@@ -13,7 +11,6 @@ decreases-members g l = 20000 - l.next
 abbrev pub invariant-members : goal.invariant-members
 invariant-members g l = record {
   kept : AreKept l.walk.found l.walk.names l.walk.folders;
-  looked : HasLooked g.W.Files.act (g.W.Files.world l.fn.work) (g.W.Files.world l.work) (g.W.Files.faults l.fn.work) (g.W.Files.faults l.work) (g.W.Files.running l.fn.work) (g.W.Files.running l.work) ⊥;
-  listings : Did g.W.Files.act (g.W.Files.world l.fn.work) (g.W.Files.world l.work) (λ w es. AreListings l.folder false es);
-  told : (w : World) → g.W.Files.world l.fn.work ≡ Some w → IsOpenFolder w.nodes l.folder → IsWalk w.nodes l.folder l.walk.found (member_places l.folder (drop l.next l.walk.found));
+  listings : HasListings g.W.Files.act l.folder (g.W.Files.device l.fn.work) (g.W.Files.device l.work) false;
+  told : WhereTold (g.W.Files.device l.fn.work) (λ w. IsOpenFolder w.nodes l.folder → IsWalk w.nodes l.folder l.walk.found (member_places l.folder (drop l.next l.walk.found)));
 }

@@ -1,24 +1,23 @@
 use Rattle.std.proofs.Common.{sym, subst}
+use Rattle.std.proofs.lemmas.Result.{IfOk-weaker, IfErr-weaker}
 use Rattle.smk_plan_live.specs.Lives.{IsAgreed}
 use Rattle.smk_plan_live.specs.Changes.{IsFirst}
-use Rattle.smk_plan_live.proofs.Tables.{if_ok_then}
-use Rattle.smk_plan_live.proofs.Installed.{if_err_then}
 use Rattle.smk_plan_live.proofs.First.{agrees_first, refused_first}
 use Rattle.smk_plan_live.proofs.live.LivePlan.new.Goals as goal
 
 pub returns-in-Ok-clause-first : goal.returns-in-Ok-clause-first
 returns-in-Ok-clause-first g c =
-    if_ok_then c.over.result _ _ (λ p same. (subst (IsFirst c.args.jobs c.args.store c.args.seen) (sym same.0) c.in-Ok.ensures.first, same.1)) c.over.ensures.so
+    IfOk-weaker c.over.result _ _ (λ p same. (subst (IsFirst c.args.jobs c.args.store c.args.seen) (sym same.0) c.in-Ok.ensures.first, same.1)) c.over.ensures.so
 
 pub returns-in-Ok-clause-so : goal.returns-in-Ok-clause-so
 returns-in-Ok-clause-so g c =
-    if_ok_then c.over.result _ _
+    IfOk-weaker c.over.result _ _
     (λ p same. λ image agree.
     subst (IsAgreed image c.args.settings) (sym same.0) (agrees_first c.in-Ok.base c.args.jobs c.args.store c.args.seen c.in-Ok.ensures.first image c.args.settings agree))
     c.over.ensures.so
 
 pub returns-in-Ok-clause-refused : goal.returns-in-Ok-clause-refused
 returns-in-Ok-clause-refused g c =
-    if_err_then c.over.result _ _
+    IfErr-weaker c.over.result _ _
     (λ fault told. λ other image agree. refused_first c.in-Ok.base c.args.jobs c.args.store c.args.seen c.in-Ok.ensures.first image c.args.settings fault (told other) agree)
     c.over.ensures.refused

@@ -6,9 +6,9 @@ use Rattle.smk_world.specs.Calls.{started_numbers}
 use Rattle.smk_world_mem.specs.Adds.{AddsIf}
 use Rattle.smk_world_nodes.specs.Steps.{AllBelow}
 use Rattle.smk_world_nodes.specs.declared.step.Step.TheVariants.{Happened}
-use Rattle.smk_world_mem.proofs.Mem.{agrees_after_if, world_after_if, children_after_if}
+use Rattle.smk_world_mem.proofs.Mem.{agrees_after_if, world_after_if, children_after_if, never_failed}
 use Rattle.smk_world_mem.proofs.Starts.{started_adds, not_started_adds}
-use Rattle.smk_world_mem.proofs.Crewed.{orderly_same, orderly_started, running_started, fresh_number, told_apart}
+use Rattle.smk_world_mem.proofs.Crewed.{orderly_same, orderly_started, running_started, fresh_number, told_apart, told_alone}
 use Rattle.smk_world_mem.proofs.Causes.{caused_crew}
 use Rattle.smk_world_mem.specs.Setup.{fails_at}
 use Rattle.std.proofs.lemmas.Bool.{eqb-true}
@@ -26,7 +26,9 @@ invariant_of-self c =
       orderly =
           orderly_started _ c.args.recipe.now c.args.logs.now c.args.command.now c.args.self.now.next _ _ _ _ adds c.args.self.now.told c.args.self.now.children c.start.new.children c.args.self.now.orderly
           (c.in-Ok-Ok.ensures.children ∙ ap (λ r. children_after (Started c.args.recipe.now c.args.logs.now c.args.command.now r) c.args.self.now.children) c.in-Ok-Ok.field-0-is ∙ ap (λ m. children_after (Started c.args.recipe.now c.args.logs.now c.args.command.now (Ok m)) c.args.self.now.children) number)
-          (told_apart c.args.self.now.told c.args.self.now.steps c.args.recipe.now c.args.logs.now c.requires.may);
+          (told_apart c.args.self.now.told c.args.self.now.steps c.args.recipe.now c.args.logs.now c.requires.may)
+          (told_alone c.args.self.now.told c.args.self.now.steps c.args.self.now.children c.args.self.now.next c.args.recipe.now c.args.logs.now c.args.self.now.orderly c.requires.may);
+      rooted = c.args.self.now.rooted;
       caused = caused_crew _ c.args.self.now.told false c.args.self.now.failing c.args.self.now.stop_after c.args.self.now.killed c.args.self.now.calls c.saturating_add-self.result c.args.self.now.faults c.args.self.now.faults c.args.self.now.next (c.args.self.now.next + 1) _ _ _ _ _ adds c.args.self.now.caused c.saturating_add-self.ensures (omega arith) (omega arith) (λ ks. refl) (λ is failed counts below. cc);
     }
 
@@ -55,37 +57,42 @@ invariant_of-self-in-Ok-Err c =
     = not_started_adds c.args.recipe.now c.args.logs.now c.args.command.now c.args.self.now.nodes c.args.self.now.steps c.start.new.steps c.in-Ok-Err.field-0-0 (c.in-Ok-Err.ensures.steps ∙ ap (λ r. c.args.self.now.steps ++ Happened (record { call = Started c.args.recipe.now c.args.logs.now c.args.command.now r; left = [] }) ∷ []) c.in-Ok-Err.field-0-is) in
     record {
       agrees = agrees_after_if _ _ _ _ _ _ adds c.args.self.now.told c.args.self.now.agrees (λ is. tt);
-      orderly = orderly_same _ _ _ _ _ _ adds c.args.self.now.told c.args.self.now.children c.start.new.children c.args.self.now.next c.args.self.now.orderly (λ cs. refl) refl (c.in-Ok-Err.ensures.children ∙ ap (λ r. children_after (Started c.args.recipe.now c.args.logs.now c.args.command.now r) c.args.self.now.children) c.in-Ok-Err.field-0-is);
+      orderly = orderly_same _ _ _ _ _ _ adds c.args.self.now.told c.args.self.now.children c.start.new.children c.args.self.now.next c.args.self.now.orderly (λ cs. refl) refl refl (c.in-Ok-Err.ensures.children ∙ ap (λ r. children_after (Started c.args.recipe.now c.args.logs.now c.args.command.now r) c.args.self.now.children) c.in-Ok-Err.field-0-is);
+      rooted = c.args.self.now.rooted;
       caused = caused_crew _ c.args.self.now.told true c.args.self.now.failing c.args.self.now.stop_after c.args.self.now.killed c.args.self.now.calls c.saturating_add-self.result c.args.self.now.faults c.bumped-self.result c.args.self.now.next c.args.self.now.next _ _ _ _ _ adds c.args.self.now.caused c.saturating_add-self.ensures (omega arith) c.bumped-self.ensures.bound (λ ks. refl) (because c);
     }
 
-pub returns-in-Ok-Ok-clause-world : goal.returns-in-Ok-Ok-clause-world
-returns-in-Ok-Ok-clause-world c =
+pub returns-in-Ok-Ok-clause-called : goal.returns-in-Ok-Ok-clause-called
+returns-in-Ok-Ok-clause-called c =
     let number : c.in-Ok-Ok.field-0-0 ≡ c.args.self.now.next = subst (λ r. IfOk r (λ n. n ≡ c.args.self.now.next)) c.in-Ok-Ok.field-0-is c.in-Ok-Ok.ensures.number in
     let adds : AddsIf (λ w. AllBelow c.args.self.now.next (started_numbers w.log)) (Started c.args.recipe.now c.args.logs.now c.args.command.now (Ok c.args.self.now.next)) c.args.self.now.nodes c.args.self.now.nodes c.args.self.now.steps c.start.new.steps
     = started_adds c.args.recipe.now c.args.logs.now c.args.command.now c.args.self.now.nodes c.args.self.now.steps c.start.new.steps c.args.self.now.next c.in-Ok-Ok.field-0-0 number (c.in-Ok-Ok.ensures.steps ∙ ap (λ r. c.args.self.now.steps ++ Happened (record { call = Started c.args.recipe.now c.args.logs.now c.args.command.now r; left = [] }) ∷ []) c.in-Ok-Ok.field-0-is) in
-    world_after_if _ _ _ _ _ _ adds c.args.self.now.told c.args.self.now.agrees (λ is. (c.args.self.now.orderly is).started_below)
-
-pub returns-in-Ok-Ok-clause-running : goal.returns-in-Ok-Ok-clause-running
-returns-in-Ok-Ok-clause-running c =
-    let number : c.in-Ok-Ok.field-0-0 ≡ c.args.self.now.next = subst (λ r. IfOk r (λ n. n ≡ c.args.self.now.next)) c.in-Ok-Ok.field-0-is c.in-Ok-Ok.ensures.number in
-    let adds : AddsIf (λ w. AllBelow c.args.self.now.next (started_numbers w.log)) (Started c.args.recipe.now c.args.logs.now c.args.command.now (Ok c.args.self.now.next)) c.args.self.now.nodes c.args.self.now.nodes c.args.self.now.steps c.start.new.steps
-    = started_adds c.args.recipe.now c.args.logs.now c.args.command.now c.args.self.now.nodes c.args.self.now.steps c.start.new.steps c.args.self.now.next c.in-Ok-Ok.field-0-0 number (c.in-Ok-Ok.ensures.steps ∙ ap (λ r. c.args.self.now.steps ++ Happened (record { call = Started c.args.recipe.now c.args.logs.now c.args.command.now r; left = [] }) ∷ []) c.in-Ok-Ok.field-0-is) in
-    running_started _ c.args.recipe.now c.args.logs.now c.args.command.now c.args.self.now.next _ _ _ _ adds
+    record {
+      world =
+          world_after_if _ _ _ _ _ _ adds c.args.self.now.told c.args.self.now.agrees (λ is. (c.args.self.now.orderly is).started_below) c.start.new.children (c.args.self.now.next + 1)
+          (orderly_started _ c.args.recipe.now c.args.logs.now c.args.command.now c.args.self.now.next _ _ _ _ adds c.args.self.now.told c.args.self.now.children c.start.new.children c.args.self.now.orderly
+          (c.in-Ok-Ok.ensures.children ∙ ap (λ r. children_after (Started c.args.recipe.now c.args.logs.now c.args.command.now r) c.args.self.now.children) c.in-Ok-Ok.field-0-is ∙ ap (λ m. children_after (Started c.args.recipe.now c.args.logs.now c.args.command.now (Ok m)) c.args.self.now.children) number)
+          (told_apart c.args.self.now.told c.args.self.now.steps c.args.recipe.now c.args.logs.now c.requires.may)
+          (told_alone c.args.self.now.told c.args.self.now.steps c.args.self.now.children c.args.self.now.next c.args.recipe.now c.args.logs.now c.args.self.now.orderly c.requires.may))
+          c.args.self.now.rooted;
+      cause = record { later = omega arith; rose = λ failure. never_failed failure };
+      running = running_started _ c.args.recipe.now c.args.logs.now c.args.command.now c.args.self.now.next _ _ _ _ adds;
+    }
 
 pub returns-in-Ok-Ok-clause-fresh : goal.returns-in-Ok-Ok-clause-fresh
 returns-in-Ok-Ok-clause-fresh c =
     let told_is : c.args.self.now.told ≡ true = search rules in
     fresh_number c.args.self.now.steps c.args.self.now.children c.args.self.now.next (c.args.self.now.orderly told_is)
 
-pub returns-in-Ok-Err-clause-world : goal.returns-in-Ok-Err-clause-world
-returns-in-Ok-Err-clause-world c =
+pub returns-in-Ok-Err-clause-called : goal.returns-in-Ok-Err-clause-called
+returns-in-Ok-Err-clause-called c =
     let adds : AddsIf (λ w. Unit {0}) (Started c.args.recipe.now c.args.logs.now c.args.command.now (Err c.in-Ok-Err.field-0-0)) c.args.self.now.nodes c.args.self.now.nodes c.args.self.now.steps c.start.new.steps
     = not_started_adds c.args.recipe.now c.args.logs.now c.args.command.now c.args.self.now.nodes c.args.self.now.steps c.start.new.steps c.in-Ok-Err.field-0-0 (c.in-Ok-Err.ensures.steps ∙ ap (λ r. c.args.self.now.steps ++ Happened (record { call = Started c.args.recipe.now c.args.logs.now c.args.command.now r; left = [] }) ∷ []) c.in-Ok-Err.field-0-is) in
-    world_after_if _ _ _ _ _ _ adds c.args.self.now.told c.args.self.now.agrees (λ is. tt)
-
-pub returns-in-Ok-Err-clause-not_started : goal.returns-in-Ok-Err-clause-not_started
-returns-in-Ok-Err-clause-not_started c =
-    let adds : AddsIf (λ w. Unit {0}) (Started c.args.recipe.now c.args.logs.now c.args.command.now (Err c.in-Ok-Err.field-0-0)) c.args.self.now.nodes c.args.self.now.nodes c.args.self.now.steps c.start.new.steps
-    = not_started_adds c.args.recipe.now c.args.logs.now c.args.command.now c.args.self.now.nodes c.args.self.now.steps c.start.new.steps c.in-Ok-Err.field-0-0 (c.in-Ok-Err.ensures.steps ∙ ap (λ r. c.args.self.now.steps ++ Happened (record { call = Started c.args.recipe.now c.args.logs.now c.args.command.now r; left = [] }) ∷ []) c.in-Ok-Err.field-0-is) in
-    ap (λ cs. numbers cs) (children_after_if _ _ _ _ _ _ adds)
+    record {
+      world =
+          world_after_if _ _ _ _ _ _ adds c.args.self.now.told c.args.self.now.agrees (λ is. tt) c.start.new.children c.args.self.now.next
+          (orderly_same _ _ _ _ _ _ adds c.args.self.now.told c.args.self.now.children c.start.new.children c.args.self.now.next c.args.self.now.orderly (λ cs. refl) refl refl (c.in-Ok-Err.ensures.children ∙ ap (λ r. children_after (Started c.args.recipe.now c.args.logs.now c.args.command.now r) c.args.self.now.children) c.in-Ok-Err.field-0-is))
+          c.args.self.now.rooted;
+      cause = record { later = c.bumped-self.ensures.later; rose = λ failure. c.bumped-self.ensures.rose refl };
+      running = ap (λ cs. numbers cs) (children_after_if _ _ _ _ _ _ adds);
+    }

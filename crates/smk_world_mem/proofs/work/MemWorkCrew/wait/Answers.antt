@@ -6,7 +6,7 @@ use Rattle.smk_world.specs.World.{children_after, child_numbered, numbers}
 use Rattle.smk_world_mem.specs.Act.{EndsAs}
 use Rattle.smk_world_mem.specs.Adds.{AddsIf}
 use Rattle.smk_world_nodes.specs.Steps.{AllApart}
-use Rattle.smk_world_mem.proofs.Mem.{agrees_after_if, world_after_if, children_after_if}
+use Rattle.smk_world_mem.proofs.Mem.{agrees_after_if, world_after_if, children_after_if, never_failed}
 use Rattle.smk_world_mem.proofs.Crewed.{orderly_same, orderly_waited, running_waited, ran, no_other_status}
 use Rattle.smk_world_mem.proofs.Causes.{caused_crew, caused_end}
 use Rattle.smk_world_mem.specs.Setup.{fails_at, killed_end}
@@ -46,6 +46,7 @@ invariant_of-self c =
     record {
       agrees = agrees_after_if _ _ _ _ _ _ adds c.args.self.now.told c.args.self.now.agrees (λ is. ((c.args.self.now.orderly is).children_are, (c.args.self.now.orderly is).apart));
       orderly = orderly_waited _ c.in-Ok-Ok.ended _ _ _ _ adds c.args.self.now.told c.args.self.now.children c.wait.new.children c.args.self.now.next c.args.self.now.orderly (c.in-Ok-Ok.ensures.children ∙ ap (λ r. children_after (Waited r) c.args.self.now.children) c.in-Ok-Ok.field-0-is);
+      rooted = (λ is. c.in-Ok-Ok.ensures.stand (c.args.self.now.rooted is));
       caused = caused_end _ c.args.self.now.told c.contains-killed.result c.args.self.now.failing c.args.self.now.stop_after c.args.self.now.killed c.args.self.now.calls c.saturating_add-self.result c.args.self.now.faults c.bumped-self.result c.args.self.now.next _ _ _ _ _ adds c.args.self.now.caused c.saturating_add-self.ensures c.bumped-self.ensures.bound (killed_is c);
     }
 
@@ -56,21 +57,23 @@ invariant_of-self-in-Ok-Err c =
     = subst (λ r. AddsIf (λ w. (w.children ≡ c.args.self.now.children) × AllApart c.args.self.now.children) (Waited r) c.args.self.now.nodes c.wait.new.nodes c.args.self.now.steps c.wait.new.steps) c.in-Ok-Err.field-0-is c.in-Ok-Err.ensures.adds in
     record {
       agrees = agrees_after_if _ _ _ _ _ _ adds c.args.self.now.told c.args.self.now.agrees (λ is. ((c.args.self.now.orderly is).children_are, (c.args.self.now.orderly is).apart));
-      orderly = orderly_same _ _ _ _ _ _ adds c.args.self.now.told c.args.self.now.children c.wait.new.children c.args.self.now.next c.args.self.now.orderly (λ cs. refl) refl (c.in-Ok-Err.ensures.children ∙ ap (λ r. children_after (Waited r) c.args.self.now.children) c.in-Ok-Err.field-0-is);
+      orderly = orderly_same _ _ _ _ _ _ adds c.args.self.now.told c.args.self.now.children c.wait.new.children c.args.self.now.next c.args.self.now.orderly (λ cs. refl) refl refl (c.in-Ok-Err.ensures.children ∙ ap (λ r. children_after (Waited r) c.args.self.now.children) c.in-Ok-Err.field-0-is);
+      rooted = (λ is. c.in-Ok-Err.ensures.stand (c.args.self.now.rooted is));
       caused = caused_crew _ c.args.self.now.told true c.args.self.now.failing c.args.self.now.stop_after c.args.self.now.killed c.args.self.now.calls c.saturating_add-self.result c.args.self.now.faults c.bumped-self-in-Ok-Err.result c.args.self.now.next c.args.self.now.next _ _ _ _ _ adds c.args.self.now.caused c.saturating_add-self.ensures (omega arith) c.bumped-self-in-Ok-Err.ensures.bound (λ ks. refl) (because c);
     }
 
-pub returns-in-Ok-Ok-clause-world : goal.returns-in-Ok-Ok-clause-world
-returns-in-Ok-Ok-clause-world c =
+pub returns-in-Ok-Ok-clause-called : goal.returns-in-Ok-Ok-clause-called
+returns-in-Ok-Ok-clause-called c =
     let adds : AddsIf (λ w. (w.children ≡ c.args.self.now.children) × AllApart c.args.self.now.children) (Waited (Ok c.in-Ok-Ok.ended)) c.args.self.now.nodes c.wait.new.nodes c.args.self.now.steps c.wait.new.steps
     = subst (λ r. AddsIf (λ w. (w.children ≡ c.args.self.now.children) × AllApart c.args.self.now.children) (Waited r) c.args.self.now.nodes c.wait.new.nodes c.args.self.now.steps c.wait.new.steps) c.in-Ok-Ok.field-0-is c.in-Ok-Ok.ensures.adds in
-    world_after_if _ _ _ _ _ _ adds c.args.self.now.told c.args.self.now.agrees (λ is. ((c.args.self.now.orderly is).children_are, (c.args.self.now.orderly is).apart))
-
-pub returns-in-Ok-Ok-clause-running : goal.returns-in-Ok-Ok-clause-running
-returns-in-Ok-Ok-clause-running c =
-    let adds : AddsIf (λ w. (w.children ≡ c.args.self.now.children) × AllApart c.args.self.now.children) (Waited (Ok c.in-Ok-Ok.ended)) c.args.self.now.nodes c.wait.new.nodes c.args.self.now.steps c.wait.new.steps
-    = subst (λ r. AddsIf (λ w. (w.children ≡ c.args.self.now.children) × AllApart c.args.self.now.children) (Waited r) c.args.self.now.nodes c.wait.new.nodes c.args.self.now.steps c.wait.new.steps) c.in-Ok-Ok.field-0-is c.in-Ok-Ok.ensures.adds in
-    running_waited _ c.in-Ok-Ok.ended _ _ _ _ adds
+    record {
+      world =
+          world_after_if _ _ _ _ _ _ adds c.args.self.now.told c.args.self.now.agrees (λ is. ((c.args.self.now.orderly is).children_are, (c.args.self.now.orderly is).apart)) c.wait.new.children c.args.self.now.next
+          (orderly_waited _ c.in-Ok-Ok.ended _ _ _ _ adds c.args.self.now.told c.args.self.now.children c.wait.new.children c.args.self.now.next c.args.self.now.orderly (c.in-Ok-Ok.ensures.children ∙ ap (λ r. children_after (Waited r) c.args.self.now.children) c.in-Ok-Ok.field-0-is))
+          (λ is. c.in-Ok-Ok.ensures.stand (c.args.self.now.rooted is));
+      cause = record { later = c.bumped-self.ensures.later; rose = λ failure. never_failed failure };
+      running = running_waited _ c.in-Ok-Ok.ended _ _ _ _ adds;
+    }
 
 pub returns-in-Ok-Ok-clause-ran : goal.returns-in-Ok-Ok-clause-ran
 returns-in-Ok-Ok-clause-ran c =
@@ -83,16 +86,16 @@ returns-in-Ok-Ok-clause-other_status c =
     let first : EndsAs c.contains-killed.result c.in-Ok-Ok.ended (child_numbered c.in-Ok-Ok.ended.number c.args.self.now.children) = subst (λ r. IfOk r (λ e. EndsAs c.contains-killed.result e (child_numbered e.number c.args.self.now.children))) c.in-Ok-Ok.field-0-is c.in-Ok-Ok.ensures.ends in
     no_other_status _ c.contains-killed.result (λ k. c.bumped-self.ensures.rose k) c.in-Ok-Ok.ended c.args.self.now.told c.args.self.now.steps c.args.self.now.children c.args.self.now.next c.args.self.now.orderly first
 
-pub returns-in-Ok-Err-clause-world : goal.returns-in-Ok-Err-clause-world
-returns-in-Ok-Err-clause-world c =
+pub returns-in-Ok-Err-clause-called : goal.returns-in-Ok-Err-clause-called
+returns-in-Ok-Err-clause-called c =
     let none : Failed = record {} in
     let adds : AddsIf (λ w. (w.children ≡ c.args.self.now.children) × AllApart c.args.self.now.children) (Waited (Err none)) c.args.self.now.nodes c.wait.new.nodes c.args.self.now.steps c.wait.new.steps
     = subst (λ r. AddsIf (λ w. (w.children ≡ c.args.self.now.children) × AllApart c.args.self.now.children) (Waited r) c.args.self.now.nodes c.wait.new.nodes c.args.self.now.steps c.wait.new.steps) c.in-Ok-Err.field-0-is c.in-Ok-Err.ensures.adds in
-    world_after_if _ _ _ _ _ _ adds c.args.self.now.told c.args.self.now.agrees (λ is. ((c.args.self.now.orderly is).children_are, (c.args.self.now.orderly is).apart))
-
-pub returns-in-Ok-Err-clause-not_ended : goal.returns-in-Ok-Err-clause-not_ended
-returns-in-Ok-Err-clause-not_ended c =
-    let none : Failed = record {} in
-    let adds : AddsIf (λ w. (w.children ≡ c.args.self.now.children) × AllApart c.args.self.now.children) (Waited (Err none)) c.args.self.now.nodes c.wait.new.nodes c.args.self.now.steps c.wait.new.steps
-    = subst (λ r. AddsIf (λ w. (w.children ≡ c.args.self.now.children) × AllApart c.args.self.now.children) (Waited r) c.args.self.now.nodes c.wait.new.nodes c.args.self.now.steps c.wait.new.steps) c.in-Ok-Err.field-0-is c.in-Ok-Err.ensures.adds in
-    ap (λ cs. numbers cs) (children_after_if _ _ _ _ _ _ adds)
+    record {
+      world =
+          world_after_if _ _ _ _ _ _ adds c.args.self.now.told c.args.self.now.agrees (λ is. ((c.args.self.now.orderly is).children_are, (c.args.self.now.orderly is).apart)) c.wait.new.children c.args.self.now.next
+          (orderly_same _ _ _ _ _ _ adds c.args.self.now.told c.args.self.now.children c.wait.new.children c.args.self.now.next c.args.self.now.orderly (λ cs. refl) refl refl (c.in-Ok-Err.ensures.children ∙ ap (λ r. children_after (Waited r) c.args.self.now.children) c.in-Ok-Err.field-0-is))
+          (λ is. c.in-Ok-Err.ensures.stand (c.args.self.now.rooted is));
+      cause = record { later = c.bumped-self-in-Ok-Err.ensures.later; rose = λ failure. c.bumped-self-in-Ok-Err.ensures.rose refl };
+      running = ap (λ cs. numbers cs) (children_after_if _ _ _ _ _ _ adds);
+    }

@@ -1,0 +1,7 @@
+use Rattle.smk_job.proofs.opening.begin.Goals as goal
+
+pub returns-in-Ok-clause-begun : goal.returns-in-Ok-clause-begun
+returns-in-Ok-clause-begun g c = c.in-Ok.ensures
+
+pub returns-in-Err-clause-begun : goal.returns-in-Err-clause-begun
+returns-in-Err-clause-begun g c = c.in-Err.ensures

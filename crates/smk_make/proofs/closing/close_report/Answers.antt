@@ -1,0 +1,11 @@
+use Rattle.std.proofs.Common.{◌∙◌, ap, subst, true, false}
+use Rattle.smk_run.specs.Reports.{HasReported, IsReport}
+use Rattle.smk_run.proofs.Texts.{reported_put}
+use Rattle.smk_make.specs.Closing as spec
+use Rattle.smk_make.proofs.closing.close_report.Goals as goal
+
+pub returns-clause-told : goal.returns-clause-told
+returns-clause-told g c =
+    subst (λ text. HasReported (IsReport false text) (g.O.Sink.sunk c.args.out.now) (g.O.Sink.sunk c.write_out.new.out) true)
+    (c.as_str.ensures.value ∙ c.in-Ok.ensures ∙ ap (λ targets. spec.closing_text (spec.is_current c.args.after.now) c.args.makers.now targets c.args.tally.now) c.as_slice.ensures)
+    (reported_put _ _ _ _ c.in-Err.ensures)
