@@ -112,7 +112,7 @@ fn told_by(
         own,
         forced,
     } = judged;
-    match tell(alloc, base, settings, own, &forced) {
+    match tell(alloc, base, settings, own, forced) {
         Err(fault) => Err(fault),
         Ok(made) => Ok(Told {
             facts,

@@ -189,7 +189,7 @@ fn next_by(alloc: Global, base: &Base, settings: &Settings, news: News) -> Resul
         own,
         forced,
     } = news;
-    match tell(alloc, base, settings, own, &forced) {
+    match tell(alloc, base, settings, own, forced) {
         Err(fault) => Err(fault),
         Ok(made) => Ok(Next {
             facts,
