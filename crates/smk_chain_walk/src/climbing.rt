@@ -3,11 +3,11 @@
 ghost use Rattle.std.specs.Prelude.{◌≡◌, ◌≤◌, ◌++◌, max, nat_lt, slice_get, Some, None, option_map, filter, IfOk, OnOk, if◌then◌else◌};
 ghost use Rattle.smk_base.specs.Path.{is_path};
 ghost use Rattle.smk_flow.specs.Flows.{Candidate, first_wants};
-ghost use Rattle.smk_choose.specs.Told.{told_by, making as told_of, choice_of, Covers};
+ghost use Rattle.smk_choose.specs.Told.{making as told_of, choice_of};
 ghost use Rattle.smk_chain.specs.Derive.{wanted_paths, gathered_files};
-ghost use Rattle.smk_choose_wants.specs.Guides.{IsGuide};
 ghost use Rattle.smk_choose_wants.specs.Wants.{ArePlaces};
-ghost use Rattle.smk_chain_walk.specs.Heights.{AreHeights, AreCovered, IsCovered, Tells, TellsMost, making_in, path_of, paths_in};
+ghost use Rattle.smk_chain_walk.specs.Heights.{making_in, path_of, paths_in};
+ghost use Rattle.smk_chain_walk.specs.Queries.{AreTabled, IsGuided, IsJobTabled, IsTabled, KnowsHeights, TellsHeight, TellsHighest};
 
 use crate::kept::Heights;
 use crate::query::Query;
@@ -117,12 +117,12 @@ pub(crate) fn climb(
     left: u32,
     path: &PathText,
 ) -> Result<Option<u32>, OutOfMemory>
-    requires guide { IsGuide query.now.flow.now query.now.lists.now query.now.guide.now }
+    requires guide { IsGuided query.now }
     requires within { left ≤ 201 }
-    requires covered { Covers query.now.flow.now (told_by query.now.sources.now) table.now left path.now }
-    requires known { AreHeights query.now.flow.now (told_by query.now.sources.now) query.now.lists.now heights.old }
-    ensures known { OnOk result (AreHeights query.now.flow.now (told_by query.now.sources.now) query.now.lists.now heights.new) }
-    ensures tells { IfOk result (λ found. Tells query.now.flow.now (told_by query.now.sources.now) query.now.lists.now left path.now found) }
+    requires covered { IsTabled query.now table.now left path.now }
+    requires known { KnowsHeights query.now heights.old }
+    ensures known { OnOk result (KnowsHeights query.now heights.new) }
+    ensures tells { IfOk result (λ found. TellsHeight query.now left path.now found) }
 {
     if let Some(height) = heights.of(path) {
         return Ok(below(height, left));
@@ -157,13 +157,13 @@ fn climb_job(
     left: u32,
     making: &Making,
 ) -> Result<Option<u32>, OutOfMemory>
-    requires guide { IsGuide query.now.flow.now query.now.lists.now query.now.guide.now }
+    requires guide { IsGuided query.now }
     requires within { left ≤ 200 }
-    requires covered { IsCovered query.now.flow.now (told_by query.now.sources.now) table.now left making.now }
-    requires known { AreHeights query.now.flow.now (told_by query.now.sources.now) query.now.lists.now heights.old }
-    ensures known { OnOk result (AreHeights query.now.flow.now (told_by query.now.sources.now) query.now.lists.now heights.new) }
+    requires covered { IsJobTabled query.now table.now left making.now }
+    requires known { KnowsHeights query.now heights.old }
+    ensures known { OnOk result (KnowsHeights query.now heights.new) }
     ensures tells { (c : Candidate) → slice_get query.now.flow.now.rules c.rule ≡ Some c.part → making.now ≡ told_of c
-        → IfOk result (λ found. TellsMost query.now.flow.now (told_by query.now.sources.now) query.now.lists.now left (wanted_paths query.now.flow.now query.now.lists.now c) found) }
+        → IfOk result (λ found. TellsHighest query.now left (wanted_paths query.now.flow.now query.now.lists.now c) found) }
 {
     let first = first_paths(alloc, query.flow, making)?;
     let Some(height) = climb_all(alloc, query, table, heights, left, first.as_slice())? else {
@@ -183,12 +183,12 @@ fn climb_files(
     left: u32,
     making: &Making,
 ) -> Result<Option<u32>, OutOfMemory>
-    requires guide { IsGuide query.now.flow.now query.now.lists.now query.now.guide.now }
+    requires guide { IsGuided query.now }
     requires within { left ≤ 200 }
-    requires known { AreHeights query.now.flow.now (told_by query.now.sources.now) query.now.lists.now heights.old }
-    ensures known { OnOk result (AreHeights query.now.flow.now (told_by query.now.sources.now) query.now.lists.now heights.new) }
+    requires known { KnowsHeights query.now heights.old }
+    ensures known { OnOk result (KnowsHeights query.now heights.new) }
     ensures tells { (c : Candidate) → slice_get query.now.flow.now.rules c.rule ≡ Some c.part → making.now ≡ told_of c
-        → IfOk result (λ found. TellsMost query.now.flow.now (told_by query.now.sources.now) query.now.lists.now left (filter is_path (gathered_files query.now.flow.now query.now.lists.now c)) found) }
+        → IfOk result (λ found. TellsHighest query.now left (filter is_path (gathered_files query.now.flow.now query.now.lists.now c)) found) }
 {
     let files = gathered_paths(alloc, query.flow, query.lists, &query.guide.places, making)?;
     if files.is_empty() {
@@ -214,12 +214,12 @@ fn climb_all(
     left: u32,
     paths: &[PathText],
 ) -> Result<Option<u32>, OutOfMemory>
-    requires guide { IsGuide query.now.flow.now query.now.lists.now query.now.guide.now }
+    requires guide { IsGuided query.now }
     requires within { left ≤ 200 }
-    requires covered { AreCovered query.now.flow.now (told_by query.now.sources.now) table.now left paths.now }
-    requires known { AreHeights query.now.flow.now (told_by query.now.sources.now) query.now.lists.now heights.old }
-    ensures known { OnOk result (AreHeights query.now.flow.now (told_by query.now.sources.now) query.now.lists.now heights.new) }
-    ensures tells { IfOk result (λ found. TellsMost query.now.flow.now (told_by query.now.sources.now) query.now.lists.now left paths.now found) }
+    requires covered { AreTabled query.now table.now left paths.now }
+    requires known { KnowsHeights query.now heights.old }
+    ensures known { OnOk result (KnowsHeights query.now heights.new) }
+    ensures tells { IfOk result (λ found. TellsHighest query.now left paths.now found) }
 {
     let mut height = 0;
     for path in paths {

@@ -3,10 +3,10 @@
 ghost use Rattle.std.specs.Prelude.{◌≡◌, ◌==◌, IfOk, OnOk};
 ghost use Rattle.std.specs.List.{find};
 ghost use Rattle.smk_world.specs.Trees.{Path};
-ghost use Rattle.smk_choose.specs.Told.{told_by, Covers, CoversAll};
+ghost use Rattle.smk_choose.specs.Told.{told_by, CoversAll};
 ghost use Rattle.smk_chain.specs.Derive.{height};
 ghost use Rattle.smk_choose_wants.specs.Guides.{IsGuide};
-ghost use Rattle.smk_chain_walk.specs.Heights.{AreHeights};
+ghost use Rattle.smk_chain_walk.specs.Queries.{IsGuided, IsTabled, KnowsHeights};
 
 use crate::climbing::climb;
 use crate::kept::Heights;
@@ -27,10 +27,10 @@ fn is_deep(
     heights: &mut Heights,
     path: &PathText,
 ) -> Result<bool, OutOfMemory>
-    requires guide { IsGuide query.now.flow.now query.now.lists.now query.now.guide.now }
-    requires covered { Covers query.now.flow.now (told_by query.now.sources.now) table.now 201 path.now }
-    requires known { AreHeights query.now.flow.now (told_by query.now.sources.now) query.now.lists.now heights.old }
-    ensures known { OnOk result (AreHeights query.now.flow.now (told_by query.now.sources.now) query.now.lists.now heights.new) }
+    requires guide { IsGuided query.now }
+    requires covered { IsTabled query.now table.now 201 path.now }
+    requires known { KnowsHeights query.now heights.old }
+    ensures known { OnOk result (KnowsHeights query.now heights.new) }
     ensures is { IfOk result (λ deep. deep ≡ (height query.now.flow.now (told_by query.now.sources.now) query.now.lists.now 201 path.now == 201)) }
 {
     match climb(alloc, query, table, heights, 201, path)? {

@@ -1,6 +1,6 @@
 //! What a walk has reached.
 
-ghost use Rattle.std.specs.Prelude.{◌≡◌, ℕ, [], ◌∷◌, ◌++◌, List as Items, true, bytes_eq, length, Some, None, IfOk, IfErr, OnOk, if◌then◌else◌, string_bytes, map, option_to_list};
+ghost use Rattle.std.specs.Prelude.{◌≡◌, ℕ, [], ◌∷◌, ◌++◌, List as Items, true, bytes_eq, length, Some, None, IfOk, IfErr, OnOk, if◌then◌else◌, string_bytes, option_to_list};
 ghost use Rattle.std.specs.BTreeMap.{get_by_text};
 ghost use Rattle.std.specs.List.{filter_map};
 ghost use Rattle.smk_world.specs.Trees.{Path};
@@ -9,11 +9,11 @@ ghost use Rattle.smk_choose.specs.Choose.{Sources as Which, Source, choose};
 ghost use Rattle.smk_choose.specs.Told.{making as making_of};
 ghost use Rattle.smk_chain.specs.Derive.{Listings as Lists};
 ghost use Rattle.smk_choose_wants.specs.Wants.{IsChosen};
-ghost use Rattle.smk_choose_wants.specs.Guides.{IsGuide};
 ghost use Rattle.smk_chain_walk.specs.Numbers.{place_of, added};
 ghost use Rattle.smk_chain_walk.specs.Once.{one_added, all_once, IsSeen};
 ghost use Rattle.smk_chain_walk.specs.Stepping.{text_in};
 ghost use Rattle.smk_chain_walk.specs.Steps.{is_done, number_done, told_also, Holds, IsServed, Keeps, MayClose};
+ghost use Rattle.smk_chain_walk.specs.Queries.{IsGuided};
 
 use crate::keys::key_of;
 use crate::query::Query;
@@ -150,7 +150,7 @@ impl Reached {
         making: &Making,
         wanted: &[Want],
     ) -> Result<u32, OutOfMemory>
-        requires guide { IsGuide query.now.flow.now query.now.lists.now query.now.guide.now }
+        requires guide { IsGuided query.now }
         requires chosen { IsChosen query.now.flow.now making.now }
         ensures done { (q : Path) → get_by_text self.new.done q ≡ get_by_text self.old.done q }
         ensures put { (S : Which) (p : Path) (c : Candidate) (cs : Items Candidate)
@@ -175,7 +175,7 @@ impl Reached {
         making: &Making,
         wanted: &[Want],
     ) -> Result<(), ChainFault>
-        requires guide { IsGuide query.now.flow.now query.now.lists.now query.now.guide.now }
+        requires guide { IsGuided query.now }
         requires chosen { IsChosen query.now.flow.now making.now }
         ensures memory { IfErr result (λ fault. fault ≡ ChainFault.OutOfMemory) }
         ensures done { OnOk result (is_done self.new path.now ≡ true) }

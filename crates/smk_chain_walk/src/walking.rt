@@ -1,18 +1,15 @@
 //! The walk from the targets.
 
-ghost use Rattle.std.specs.Prelude.{◌≡◌, ◌≤◌, ◌+◌, [], ℕ, false, true, IfOk, IfErr, ◌==◌};
+ghost use Rattle.std.specs.Prelude.{◌≡◌, ◌≤◌, ◌+◌, [], false, IfOk, IfErr, ◌==◌};
 ghost use Rattle.std.specs.List.{flat_map, AllByRecursion};
-ghost use Rattle.smk_base.specs.Path.{is_path};
-ghost use Rattle.smk_choose.specs.Told.{told_by, CoversAll, Covers};
+ghost use Rattle.smk_choose.specs.Told.{told_by, CoversAll};
 ghost use Rattle.smk_chain.specs.Derive.{height, refused, jobs};
 ghost use Rattle.smk_chain.specs.declared.jobs.Jobs.{Jobs as Made};
 ghost use Rattle.smk_chain.specs.Told.{TellsFirst};
-ghost use Rattle.smk_choose_wants.specs.Wants.{want_of};
 ghost use Rattle.smk_choose_wants.specs.Guides.{IsGuide};
-ghost use Rattle.smk_chain_walk.specs.Folders.{AreFolders};
 ghost use Rattle.smk_chain_walk.specs.Links.{AreLinked, IsWalk};
 ghost use Rattle.smk_chain_walk.specs.Stepping.{IsWanted};
-ghost use Rattle.smk_chain_walk.specs.Steps.{Fits, Walked};
+ghost use Rattle.smk_chain_walk.specs.Queries.{HasFolders, HasWalked, IsGuided, IsShallow, IsTabled};
 
 use crate::faults;
 use crate::folders::Folders;
@@ -53,12 +50,12 @@ fn visit(
     depth: u32,
     path: &PathText,
 ) -> Result<(), ChainFault>
-    requires guide { IsGuide query.now.flow.now query.now.lists.now query.now.guide.now }
-    requires folders { AreFolders query.now.flow.now query.now.lists.now folders.now }
+    requires guide { IsGuided query.now }
+    requires folders { HasFolders query.now folders.now }
     requires few { depth ≤ 200 }
-    requires fits { Fits query.now.flow.now (told_by query.now.sources.now) query.now.lists.now depth path.now }
-    requires covers { Covers query.now.flow.now (told_by query.now.sources.now) table.now (depth + 1) path.now }
-    ensures { Walked query.now.flow.now (told_by query.now.sources.now) query.now.lists.now reached.old reached.new path.now result }
+    requires fits { IsShallow query.now depth path.now }
+    requires covers { IsTabled query.now table.now (depth + 1) path.now }
+    ensures { HasWalked query.now reached.old reached.new path.now result }
 {
     if reached.is_done(path) {
         return Ok(());
