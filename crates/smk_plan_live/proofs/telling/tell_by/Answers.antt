@@ -15,15 +15,15 @@ returns-clause-now c = λ facts judged image agree.
     let at = judging_of image s b in
     let told = table_at at b.jobs r.wholes c.in-Ok.table c.in-Ok.ensures (wholes_are c.told_is_so.ensures.facts c.told_is_so.ensures.wholes b s image agree r.wholes c.requires.wholes) agree.served in
     let right = judged_now c.told_is_so.ensures.facts c.told_is_so.ensures.wholes b s image agree facts c.args.reasons c.args.forced judged r.running c.requires.running in
-    let made = c.in-Ok-Ok.ensures.made image (progress_of b) agree (record { begun = sym c.requires.ran; told = told; right = right }) in
-    record { made = made; back = c.in-Ok-Ok-holds_back.ensures at b.jobs told (c.requires.kept ∙ kept_are b image s) made.states }
+    let made = c.in-Ok-plan_now.ensures.made image (progress_of b) agree (record { begun = sym c.requires.ran; told = told; right = right }) in
+    record { made = made; back = c.in-Ok-holds_back.ensures at b.jobs told (c.requires.kept ∙ kept_are b image s) made.states }
 
-pub returns-in-Ok-Err-clause-refused : goal.returns-in-Ok-Err-clause-refused
-returns-in-Ok-Err-clause-refused c = λ other facts judged image agree.
+pub returns-in-Err-plan_now-clause-refused : goal.returns-in-Err-plan_now-clause-refused
+returns-in-Err-plan_now-clause-refused c = λ other facts judged image agree.
     let b = c.args.base.now in
     let s = c.args.settings.now in
     let r = c.args.ready in
     let at = judging_of image s b in
     let told = table_at at b.jobs r.wholes c.in-Ok.table c.in-Ok.ensures (wholes_are c.told_is_so.ensures.facts c.told_is_so.ensures.wholes b s image agree r.wholes c.requires.wholes) agree.served in
     let right = judged_now c.told_is_so.ensures.facts c.told_is_so.ensures.wholes b s image agree facts c.args.reasons c.args.forced judged r.running c.requires.running in
-    c.in-Ok-Err.ensures.refused other image (progress_of b) agree (record { begun = sym c.requires.ran; told = told; right = right })
+    c.in-Err-plan_now.ensures.refused other image (progress_of b) agree (record { begun = sym c.requires.ran; told = told; right = right })
