@@ -2,11 +2,12 @@
 use Rattle.std.proofs.Common.{◌≡◌, ◌≢◌, ◌⊎◌, inl, inr, true, false, Result, Ok, Err, refl, ap, sym, subst, ◌∙◌}
 use Rattle.smk_flow.specs.Flows.{Flow}
 use Rattle.smk_flow.specs.Checks.{IsWorkflow}
-use Rattle.smk_eval.specs.declared.fault.EvalFault.{EvalFault}
-use Rattle.smk_eval.specs.declared.fault.EvalFault.TheVariants as said
+use Rattle.smk_flaws.specs.declared.fault.EvalFault.{EvalFault}
+use Rattle.smk_flaws.specs.declared.fault.EvalFault.TheVariants as said
+use Rattle.smk_flaws.specs.declared.fault.LoadFault.{LoadFault}
+use Rattle.smk_flaws.specs.Faults.{of_eval}
 use Rattle.smk_eval.specs.Statements as statements
-use Rattle.smk_eval.specs.declared.load_fault.LoadFault.{LoadFault}
-use Rattle.smk_eval.specs.Faults.{of_eval, is_told, from_said, and_then}
+use Rattle.smk_eval.specs.Faults.{is_told, from_said, and_then}
 use Rattle.smk_eval.specs.Loading.{FailsAs, Gives}
 
 pub gives_said : (m : Result Flow EvalFault) (flow : Flow) → (m ≡ Ok flow) × IsWorkflow flow.rules flow.orders → (from_said m ≡ Ok flow) × IsWorkflow flow.rules flow.orders

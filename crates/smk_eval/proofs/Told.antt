@@ -6,9 +6,10 @@ use Rattle.smk_flow.specs.declared.fault.FlowFault.{FlowFault}
 use Rattle.smk_flow.specs.declared.fault.FlowFault.TheVariants as of_rules
 use Rattle.smk_flow.specs.Flows.{Flow}
 use Rattle.smk_flow.specs.Checks.{IsWorkflow, IsFault}
-use Rattle.smk_eval.specs.declared.fault.EvalFault.{EvalFault}
-use Rattle.smk_eval.specs.declared.fault.EvalFault.TheVariants as fault
-use Rattle.smk_eval.specs.Statements.{State, told, made, of_flow, IsFirstFault}
+use Rattle.smk_flaws.specs.declared.fault.EvalFault.{EvalFault}
+use Rattle.smk_flaws.specs.declared.fault.EvalFault.TheVariants as fault
+use Rattle.smk_flaws.specs.Faults.{of_flow}
+use Rattle.smk_eval.specs.Statements.{State, told, made, IsFirstFault}
 
 is_told : {A : Type 0} (file : List ℕ) (line : ℕ) (rule : List ℕ) (m : Result A ValueFault) (now : A → State) (e : ValueFault) (f : EvalFault)
     → m ≡ Err e → f ≡ told file line rule e → made file line rule m now ≡ Err f
@@ -16,13 +17,7 @@ is_told file line rule m now e f h is = ap (λ r. made file line rule r now) h �
 
 pub made_fault : {A : Type 0} (file : List ℕ) (line : ℕ) (rule : List ℕ) (m : Result A ValueFault) (now : A → State) (e : ValueFault) (f : EvalFault)
     → (e ≢ of_value.OutOfMemory → m ≡ Err e) → f ≡ told file line rule e → f ≢ fault.OutOfMemory → made file line rule m now ≡ Err f
-made_fault file line rule m now (of_value.BadFlag w) f h is known = is_told file line rule m now _ f (h (λ e. cc)) is
-made_fault file line rule m now (of_value.UnknownName n) f h is known = is_told file line rule m now _ f (h (λ e. cc)) is
-made_fault file line rule m now (of_value.NoKey k) f h is known = is_told file line rule m now _ f (h (λ e. cc)) is
-made_fault file line rule m now (of_value.BadConfig k) f h is known = is_told file line rule m now _ f (h (λ e. cc)) is
-made_fault file line rule m now of_value.UnequalZip f h is known = is_told file line rule m now _ f (h (λ e. cc)) is
-made_fault file line rule m now of_value.TooMany f h is known = is_told file line rule m now _ f (h (λ e. cc)) is
-made_fault file line rule m now of_value.OutOfMemory f h is known = absurd (known is)
+made_fault file line rule m now e f h is known = is_told file line rule m now e f (h (λ memory. known (is ∙ ap (told file line rule) memory))) is
 
 -- what is told of the checks is no want of memory
 pub known_fault : (e : FlowFault) (f : EvalFault) → f ≡ of_flow e → f ≢ fault.OutOfMemory → e ≢ of_rules.OutOfMemory
