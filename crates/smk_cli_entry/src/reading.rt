@@ -5,7 +5,6 @@ ghost use Rattle.smk_world.specs.Devices.{WhereTold, HasLooked};
 ghost use Rattle.smk_cli_entry.specs.Faults.{device_failed, is_sink};
 ghost use Rattle.smk_cli_entry.specs.Entry as spec;
 
-use crate::faults::of_load;
 use crate::naming::workflow_file;
 use smk_base::{List, PathText};
 use smk_eval::load;
@@ -22,17 +21,14 @@ pub struct Reading {
 }
 
 // The workflow of the file.
-#[tactic(auto, using(crate::proofs::Loads::load_no_sink))]
 fn read_in<W: Files>(alloc: Global, work: &mut W, file: PathText) -> Result<Reading, Fault>
     requires none_runs { (W.device work.old).running ≡ [] }
     ensures looked { HasLooked W.act (W.device work.old) (W.device work.new) (device_failed result) }
     ensures told { WhereTold (W.device work.old) (λ w. spec.IsReadIn w.nodes file result) }
     ensures no_sink { IfErr result (λ f. is_sink f ≡ false) }
 {
-    match load(alloc, work, &file, &List::new(alloc)) {
-        Err(fault) => Err(of_load(fault)),
-        Ok(flow) => Ok(Reading { file, flow }),
-    }
+    let flow = load(alloc, work, &file, &List::new(alloc))?;
+    Ok(Reading { file, flow })
 }
 
 /// The workflow of the folder, from the first of its files that is there. Nothing in the folder changes. No child may run.
