@@ -30,7 +30,8 @@ use Rattle.smk_report.specs.declared.fault.Fault.TheVariants as fault
 use Rattle.smk_plan.specs.declared.fault.LookFault.{LookFault}
 use Rattle.smk_plan.specs.declared.fault.LookFault.TheVariants as look
 use Rattle.smk_plan_look.specs.Seeing.{look_failed}
-use Rattle.smk_plan_preview.specs.Faults.{device_failed, is_told, is_device, is_sink, as_call, of_store, of_sight, of_look}
+use Rattle.smk_report.specs.Faults.{of_store}
+use Rattle.smk_plan_preview.specs.Faults.{device_failed, is_told, is_device, is_sink, as_call, of_sight, of_look}
 
 true_false : true ≡ false → ⊥
 true_false e = cc

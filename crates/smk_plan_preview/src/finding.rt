@@ -11,12 +11,13 @@ ghost use Rattle.smk_choose.specs.Index.{AreReadings};
 ghost use Rattle.smk_chain_derive.specs.Clashes.{ListsKnown};
 ghost use Rattle.smk_plan.specs.Sights.{IsSeenOf};
 ghost use Rattle.smk_plan_facts.specs.Facts.{NamesAll};
+ghost use Rattle.smk_report.specs.Faults.{of_store};
 ghost use Rattle.smk_plan_preview.specs.Faults as faults;
 ghost use Rattle.smk_plan_preview.specs.Faults.{as_call, device_failed, is_told, is_sink};
 ghost use Rattle.smk_plan_preview.specs.Rounds as spec;
 ghost use Rattle.smk_plan_preview.specs.Fitness.{AreFit};
 
-use crate::faults::{of_chain, of_look, of_sight, of_store};
+use crate::faults::{of_chain, of_look, of_sight};
 use crate::listing::listings_again;
 use smk_base::{List, PathText};
 use smk_chain::{ChainFault, Jobs, Listings, SightFault};
@@ -33,13 +34,10 @@ use std::alloc::Global;
 
 #[tactic(auto, using(crate::proofs::Sinks::store_no_sink))]
 fn of_load(loaded: Result<Store, StoreFault>) -> Result<Store, Fault>
-    ensures is { result ≡ as_call faults.of_store loaded }
+    ensures is { result ≡ as_call of_store loaded }
     ensures no_sink { IfErr result (λ f. is_sink f ≡ false) }
 {
-    match loaded {
-        Ok(store) => Ok(store),
-        Err(fault) => Err(of_store(fault)),
-    }
+    Ok(loaded?)
 }
 
 /// The store as it stands.
