@@ -35,7 +35,7 @@ fn read_in<W: Files>(alloc: Global, work: &mut W, file: PathText) -> Result<Read
 ///
 /// The faults are `NoFile` of `Snakefile` where there is no such file, and then those of reading the file, its includes and
 /// its configurations: for each file, depth first, `NoFile`, `TooBig`, `IncludeDepth` and those of its tokens and its grammar; for each
-/// configuration, in order, `NoFile`, `TooBig` and `BadConfig` with an empty key; those of the statements, in order; those of the rules; those of
+/// configuration, in order, `NoFile`, `TooBig` and `BadConfig`; those of the statements, in order; those of the rules; those of
 /// the clauses. `Device` comes where the device failed, `OutOfMemory` where there is no memory for the workflow.
 pub fn read_workflow<W: Files>(alloc: Global, work: &mut W) -> Result<Reading, Fault>
     requires none_runs { (W.device work.old).running ≡ [] }

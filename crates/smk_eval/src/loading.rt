@@ -65,7 +65,7 @@ fn said_by<W: Files>(
 /// over earlier ones. Nothing in the folder changes. No child may run.
 ///
 /// The faults come in this order: for each file, depth first, `NoFile`, `TooBig`, `IncludeDepth` and those of its tokens and its grammar;
-/// for each configuration, in order, `NoFile`, `TooBig` and `BadConfig` with an empty key; those of the statements, in order; those of the
+/// for each configuration, in order, `NoFile`, `TooBig` and `BadConfig`; those of the statements, in order; those of the
 /// rules; those of the clauses. `Device` comes where the device failed, `OutOfMemory` where there is no memory for the workflow.
 pub fn load<W: Files>(
     alloc: Global,

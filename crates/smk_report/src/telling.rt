@@ -309,9 +309,7 @@ fn flaw_words(alloc: Global, flaw: &Flaw) -> Result<String, AllocError>
     match flaw {
         Flaw::File(flaw) => file_words(alloc, flaw),
         Flaw::Said(flaw) => said_words(alloc, flaw),
-        Flaw::BadConfig { file } => {
-            of_two(alloc, "bad configuration: ", file.as_str(), " ", "")
-        }
+        Flaw::BadConfig { file } => { of_two(alloc, "bad configuration: ", file.as_str(), " ", "") }
     }
 }
 
