@@ -1,9 +1,12 @@
 -- Faults of statements and of the checks.
 use Rattle.std.proofs.Common.{◌≡◌, ◌≢◌, ◌⊎◌, inl, inr, ℕ, List, Result, Ok, Err, ap, sym, subst, refl, ◌∙◌}
+use Rattle.std.specs.Prelude.{IfErr, IsErrAnd}
 use Rattle.smk_eval_values.specs.declared.fault.ValueFault.{ValueFault}
 use Rattle.smk_eval_values.specs.declared.fault.ValueFault.TheVariants as of_value
 use Rattle.smk_flow.specs.declared.fault.FlowFault.{FlowFault}
 use Rattle.smk_flow.specs.declared.fault.FlowFault.TheVariants as of_rules
+use Rattle.smk_flow.specs.declared.rule.RulePart.{RulePart}
+use Rattle.smk_flow.specs.declared.rule.Clause.{Clause}
 use Rattle.smk_flow.specs.Flows.{Flow}
 use Rattle.smk_flow.specs.Checks.{IsWorkflow, IsFault}
 use Rattle.smk_flaws.specs.declared.fault.EvalFault.{EvalFault}
@@ -28,3 +31,9 @@ gives_ok said flow whole h is passes = (h ∙ ap Ok (sym is), subst (λ (w : Flo
 
 pub gives_checks : (said : Result Flow EvalFault) (whole : Flow) (f : EvalFault) → said ≡ Ok whole → (g : FlowFault) × IsFault whole.rules whole.orders g × (f ≡ of_flow g) → IsFirstFault said f
 gives_checks said whole f h g = subst (λ (s : Result Flow EvalFault). IsFirstFault s f) (sym h) (inr (g.0, g.1, g.2))
+
+-- a fault of the checks that `?` carries on
+pub carried_check : {A : Type 0} (rules : List RulePart) (orders : List Clause) (e : FlowFault) (s : Result A EvalFault) → IsErrAnd s (λ f. f ≡ of_flow e)
+    → (e ≢ of_rules.OutOfMemory → IsFault rules orders e) → IfErr s (λ f. f ≢ fault.OutOfMemory → (g : FlowFault) × IsFault rules orders g × (f ≡ of_flow g))
+carried_check rules orders e (Ok a) is h = absurd is
+carried_check rules orders e (Err f) is h = λ known. (e, h (known_fault e f is known), is)
