@@ -3,7 +3,7 @@ use Rattle.std.proofs.Common.{◌≡◌, List, [], ℕ, true, false, Result, Ok,
 use Rattle.std.specs.Prelude.{IfErr, IsErrAnd}
 use Rattle.smk_flaws.specs.declared.fault.LoadFault.{LoadFault}
 use Rattle.smk_flaws.specs.declared.fault.LoadFault.TheVariants as load
-use Rattle.smk_flow.specs.Flows.{Flow}
+use Rattle.smk_base.specs.declared.tree.Pair.{Pair}
 use Rattle.smk_eval_files.specs.Looks.{Nodes}
 use Rattle.smk_eval.specs.Faults as loading
 use Rattle.smk_eval.specs.Loading.{loaded, Gives}
@@ -37,12 +37,13 @@ carried_no_sink e (Ok a) is = absurd is
 carried_no_sink e (Err f) is = load_no_sink e f is
 
 -- the device failed in the one exactly where it did in the other
-pub carried_device : {A B : Type 0} {r : Result A LoadFault} {e : LoadFault} (s : Result B Fault) → r ≡ Err e → IsErrAnd s (λ f. f ≡ of_load e) → loading.device_failed r ≡ device_failed s
-carried_device (Ok b) was is = absurd is
-carried_device {e = e} (Err f) was is = ap loading.device_failed was ∙ same_device e ∙ ap is_device (sym is)
+pub carried_device : {B : Type 0} (e : LoadFault) (s : Result B Fault) → IsErrAnd s (λ f. f ≡ of_load e) → loading.is_device e ≡ device_failed s
+carried_device e (Ok b) is = absurd is
+carried_device e (Err f) is = same_device e ∙ ap is_device (sym is)
 
--- a refusal is that of the file's workflow
-pub carried_refusal : (nodes : Nodes) (file : List ℕ) (r : Result Flow LoadFault) (e : LoadFault) (s : Result Reading Fault) → r ≡ Err e → IsErrAnd s (λ f. f ≡ of_load e)
-    → Gives (loaded nodes file []) r → IsReadIn nodes file s
-carried_refusal nodes file r e (Ok reading) was is h = absurd is
-carried_refusal nodes file r e (Err f) was is h = λ told. (e, sym (same_told e) ∙ ap is_told (sym is) ∙ told, subst (Gives (loaded nodes file [])) was h, is)
+-- a refusal is that of the file's workflow, with nothing set
+pub carried_refusal : (nodes : Nodes) (file : List ℕ) (sets : List Pair) (e : LoadFault) (s : Result Reading Fault) → sets ≡ [] → IsErrAnd s (λ f. f ≡ of_load e)
+    → Gives (loaded nodes file sets) (Err e) → IsReadIn nodes file s
+carried_refusal nodes file sets e (Ok reading) none is h = absurd is
+carried_refusal nodes file sets e (Err f) none is h = λ told.
+    (e, sym (same_told e) ∙ ap is_told (sym is) ∙ told, subst (λ (x : List Pair). Gives (loaded nodes file x) (Err e)) none h, is)

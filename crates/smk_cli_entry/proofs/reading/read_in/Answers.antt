@@ -5,12 +5,11 @@ use Rattle.smk_cli_entry.proofs.Loads.{carried_device, carried_no_sink, carried_
 use Rattle.smk_cli_entry.proofs.reading.read_in.Goals as goal
 
 pub returns-in_err-flow-clause-looked : goal.returns-in_err-flow-clause-looked
-returns-in_err-flow-clause-looked g c = looked_as (carried_device _ c.in_err-flow.was c.from_residual.ensures.1) c.load.ensures.looked
+returns-in_err-flow-clause-looked g c = looked_as (carried_device _ _ c.from_residual.ensures.1) c.in_err-flow.ensures.looked
 
 pub returns-in_err-flow-clause-told : goal.returns-in_err-flow-clause-told
 returns-in_err-flow-clause-told g c = λ w here.
-    let r = c.load.result in
-    carried_refusal w.nodes c.args.file r _ _ c.in_err-flow.was c.from_residual.ensures.1 (subst (λ s. Gives (loaded w.nodes c.args.file s) r) c.new.ensures (c.load.ensures.told w here))
+    carried_refusal w.nodes c.args.file _ _ _ c.new.ensures c.from_residual.ensures.1 (c.in_err-flow.ensures.told w here)
 
 pub returns-in_err-flow-clause-no_sink : goal.returns-in_err-flow-clause-no_sink
 returns-in_err-flow-clause-no_sink g c = carried_no_sink _ _ c.from_residual.ensures.1
