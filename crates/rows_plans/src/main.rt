@@ -7,9 +7,9 @@ mod flow;
 
 ghost use Rattle.std.specs.Prelude.{◌≡◌, ◌++◌, length, map, Some, IfOk, OnOk};
 ghost use Rattle.std.specs.List.{slice_get, flat_map};
-ghost use Rattle.smk_world.specs.World.{out_paths};
 ghost use Rattle.smk_flow.specs.declared.job.Job.{Job as JobValue};
 ghost use Rattle.smk_plan_live.specs.Lives.{IsLive};
+ghost use Rattle.smk_plan_live.specs.Steps.{AreOfOutputs};
 ghost use Rattle.smk_plan_live.specs.Sites.{out_path};
 
 use counting::Counting;
@@ -150,8 +150,7 @@ struct Came {
 
 // What comes of the job.
 fn came_of(alloc: Global, job: &Job) -> Result<Came, RowFault>
-    ensures entries { IfOk result (λ came. length came.entries ≡ length (out_paths job.now.recipe)) }
-    ensures sights { IfOk result (λ came. map (λ s. s.path) came.sights ≡ out_paths job.now.recipe) }
+    ensures { IfOk result (λ came. AreOfOutputs came.entries came.sights job.now) }
 {
     let paths = paths_of(alloc, job.recipe.outputs.as_slice())?;
     let entries = entries_of(alloc, &job.recipe, paths.as_slice())?;
@@ -161,8 +160,7 @@ fn came_of(alloc: Global, job: &Job) -> Result<Came, RowFault>
 
 // What comes of the first of the jobs.
 fn first_came(alloc: Global, jobs: &[Job]) -> Result<Came, RowFault>
-    ensures entries { IfOk result (λ came. (j : JobValue) → slice_get jobs.now 0 ≡ Some j → length came.entries ≡ length (out_paths j.recipe)) }
-    ensures sights { IfOk result (λ came. (j : JobValue) → slice_get jobs.now 0 ≡ Some j → map (λ s. s.path) came.sights ≡ out_paths j.recipe) }
+    ensures { IfOk result (λ came. (j : JobValue) → slice_get jobs.now 0 ≡ Some j → AreOfOutputs came.entries came.sights j) }
 {
     match jobs.split_first() {
         None => Err(RowFault::Phase),

@@ -2,8 +2,9 @@
 
 use crate::parts::line_and_rest;
 use crate::shown_flow::workflow;
-use smk_base::{List, Pair, PathText, Text};
+use smk_base::{List, OutOfMemory, Pair, PathText, Text};
 use smk_eval::{LoadFault, load};
+use smk_report::{Fault, fault_line};
 use smk_world_mem::{MemWork, Setup};
 use std::alloc::{AllocError, Global};
 
@@ -69,6 +70,9 @@ pub fn push_workspace(
 ) -> Result<(), AllocError> {
     match told(alloc, line, files) {
         Ok(told) => writeln!(text, "{}", told.as_str()),
-        Err(fault) => write!(text, "{fault:?}\n\n"),
+        Err(fault) => match fault_line(alloc, &Fault::from(fault)) {
+            Ok(line) => writeln!(text, "{}", line.as_str()),
+            Err(OutOfMemory) => text.push_str("out of memory\n\n"),
+        },
     }
 }

@@ -1,5 +1,6 @@
 -- What is refused, in the order in which it is looked for.
 use Rattle.std.proofs.Common.{◌≡◌, ◌==◌, Bool, true, false, cond, List, [], ◌∷◌, ◌++◌, map, filter, Some, None, option_map, refl, sym, ap, ◌∙◌}
+use Rattle.std.specs.Prelude.{Result, Ok, Err, IfOk}
 use Rattle.std.specs.List.{find, flat_map, AllByRecursion}
 use Rattle.smk_world.specs.Trees.{Path, first}
 use Rattle.smk_flow.specs.Flows.{Flow}
@@ -9,6 +10,11 @@ use Rattle.smk_chain.specs.declared.fault.ChainFault.{ChainFault}
 use Rattle.smk_chain.specs.declared.fault.ChainFault.TheVariants as told
 use Rattle.smk_chain.specs.Derive.{Listings, Refusal, Deep, height, refused, jobs, spots, clashes, job_refusals}
 use Rattle.smk_chain.specs.Told.{told_refusal, first_told, TellsFirst}
+
+-- what three clauses say of an answer
+pub if_three : {A E : Type 0} (r : Result A E) (P Q R S : A → Type 0) → ((x : A) → P x → Q x → R x → S x) → IfOk r P → IfOk r Q → IfOk r R → IfOk r S
+if_three (Ok x) P Q R S f p q s = f x p q s
+if_three (Err e) P Q R S f p q s = tt
 
 -- ## The first of some refusals
 

@@ -6,11 +6,11 @@ ghost use Rattle.smk_choose.specs.Index.{AreReadings};
 ghost use Rattle.smk_choose.specs.Told.{told_by, CoversAll};
 ghost use Rattle.smk_store.specs.Images.{Image};
 ghost use Rattle.smk_store.specs.Loading.{IsStoreOf};
-ghost use Rattle.smk_chain.specs.Derive.{height, jobs, job_refusals, clashes, spots};
+ghost use Rattle.smk_chain.specs.Derive.{height, clashes, spots};
 ghost use Rattle.smk_chain.specs.Told.{TellsFirst};
 ghost use Rattle.smk_chain_derive.specs.Clashes.{ListsKnown, clashes_in};
+ghost use Rattle.smk_chain_derive.specs.Derived.{IsDerived, IsFirstRefusal};
 ghost use Rattle.smk_choose_wants.specs.Guides.{IsGuide};
-ghost use Rattle.smk_chain_walk.specs.Links.{AreLinked};
 
 use crate::first_clash;
 use smk_base::{List, OutOfMemory, PathText};
@@ -80,14 +80,8 @@ fn derive_shallow(
     requires guide { IsGuide flow.now lists ground.now.guide }
     requires covered { CoversAll flow.now (told_by sources.now) ground.now.table 201 targets.now }
     requires shallow { AllByRecursion (λ t. (height flow.now (told_by sources.now) lists 201 t == 201) ≡ false) targets.now }
-    ensures none { IfOk result (λ made. (image : Image) → IsStoreOf image store.now → ListsKnown image
-        → job_refusals flow.now (told_by sources.now) image lists targets.now ≡ []) }
-    ensures jobs { IfOk result (λ made. made.jobs ≡ jobs flow.now (told_by sources.now) lists targets.now) }
-    ensures links { IfOk result (AreLinked flow.now (told_by sources.now) lists targets.now) }
-    ensures lists { IfOk result (λ made. made.lists ≡ lists) }
-    ensures apart { IfOk result (λ made. clashes_in store.now [] (flat_map spots made.jobs) ≡ []) }
-    ensures fault { IfErr result (λ fault. (image : Image) → IsStoreOf image store.now → ListsKnown image
-        → TellsFirst flow.now (job_refusals flow.now (told_by sources.now) image lists targets.now) fault) }
+    ensures derived { IfOk result (IsDerived flow.now (told_by sources.now) lists store.now targets.now) }
+    ensures fault { IfErr result (IsFirstRefusal flow.now (told_by sources.now) lists store.now targets.now) }
 {
     match walk(
         alloc,
@@ -115,14 +109,8 @@ fn derive_by(
 ) -> Result<Jobs, ChainFault>
     requires guide { IsGuide flow.now lists ground.now.guide }
     requires covered { CoversAll flow.now (told_by sources.now) ground.now.table 201 targets.now }
-    ensures none { IfOk result (λ made. (image : Image) → IsStoreOf image store.now → ListsKnown image
-        → job_refusals flow.now (told_by sources.now) image lists targets.now ≡ []) }
-    ensures jobs { IfOk result (λ made. made.jobs ≡ jobs flow.now (told_by sources.now) lists targets.now) }
-    ensures links { IfOk result (AreLinked flow.now (told_by sources.now) lists targets.now) }
-    ensures lists { IfOk result (λ made. made.lists ≡ lists) }
-    ensures apart { IfOk result (λ made. clashes_in store.now [] (flat_map spots made.jobs) ≡ []) }
-    ensures fault { IfErr result (λ fault. (image : Image) → IsStoreOf image store.now → ListsKnown image
-        → TellsFirst flow.now (job_refusals flow.now (told_by sources.now) image lists targets.now) fault) }
+    ensures derived { IfOk result (IsDerived flow.now (told_by sources.now) lists store.now targets.now) }
+    ensures fault { IfErr result (IsFirstRefusal flow.now (told_by sources.now) lists store.now targets.now) }
 {
     match first_deep(
         alloc,
@@ -153,14 +141,8 @@ pub fn derive(
     targets: &List<PathText>,
 ) -> Result<Jobs, ChainFault>
     requires { AreReadings flow.now readings.now }
-    ensures none { IfOk result (λ made. (image : Image) → IsStoreOf image store.now → ListsKnown image
-        → job_refusals flow.now (told_by sources.now) image lists targets.now ≡ []) }
-    ensures jobs { IfOk result (λ made. made.jobs ≡ jobs flow.now (told_by sources.now) lists targets.now) }
-    ensures links { IfOk result (AreLinked flow.now (told_by sources.now) lists targets.now) }
-    ensures lists { IfOk result (λ made. made.lists ≡ lists) }
-    ensures apart { IfOk result (λ made. clashes_in store.now [] (flat_map spots made.jobs) ≡ []) }
-    ensures fault { IfErr result (λ fault. (image : Image) → IsStoreOf image store.now → ListsKnown image
-        → TellsFirst flow.now (job_refusals flow.now (told_by sources.now) image lists targets.now) fault) }
+    ensures derived { IfOk result (IsDerived flow.now (told_by sources.now) lists store.now targets.now) }
+    ensures fault { IfErr result (IsFirstRefusal flow.now (told_by sources.now) lists store.now targets.now) }
 {
     match ground_of(alloc, flow, readings, sources, &lists, targets) {
         Ok(ground) => derive_by(alloc, flow, sources, lists, &ground, store, targets),

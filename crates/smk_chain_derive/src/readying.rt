@@ -1,14 +1,9 @@
 //! Jobs that can be run.
 
-ghost use Rattle.std.specs.Prelude.{◌≡◌, [], IfOk, IfErr};
+ghost use Rattle.std.specs.Prelude.{IfOk, IfErr};
 ghost use Rattle.smk_choose.specs.Index.{AreReadings};
 ghost use Rattle.smk_choose.specs.Told.{told_by};
-ghost use Rattle.smk_store.specs.Images.{Image};
-ghost use Rattle.smk_store.specs.Loading.{IsStoreOf};
-ghost use Rattle.smk_chain.specs.Derive.{jobs, job_refusals};
-ghost use Rattle.smk_chain.specs.Told.{TellsFirst};
-ghost use Rattle.smk_chain_derive.specs.Clashes.{ListsKnown};
-ghost use Rattle.smk_chain_walk.specs.Links.{AreLinked};
+ghost use Rattle.smk_chain_derive.specs.Derived.{IsDerived, IsFirstRefusal};
 ghost use Rattle.smk_plan.specs.Runnable.{AreRunnable};
 
 use crate::derive;
@@ -32,14 +27,9 @@ pub fn ready_jobs(
     targets: &List<PathText>,
 ) -> Result<Jobs, ChainFault>
     requires { AreReadings flow.now readings.now }
-    ensures none { IfOk result (λ made. (image : Image) → IsStoreOf image store.now → ListsKnown image
-        → job_refusals flow.now (told_by sources.now) image lists targets.now ≡ []) }
-    ensures jobs { IfOk result (λ made. made.jobs ≡ jobs flow.now (told_by sources.now) lists targets.now) }
-    ensures links { IfOk result (AreLinked flow.now (told_by sources.now) lists targets.now) }
-    ensures lists { IfOk result (λ made. made.lists ≡ lists) }
+    ensures derived { IfOk result (IsDerived flow.now (told_by sources.now) lists store.now targets.now) }
     ensures runnable { IfOk result AreRunnable }
-    ensures fault { IfErr result (λ fault. (image : Image) → IsStoreOf image store.now → ListsKnown image
-        → TellsFirst flow.now (job_refusals flow.now (told_by sources.now) image lists targets.now) fault) }
+    ensures fault { IfErr result (IsFirstRefusal flow.now (told_by sources.now) lists store.now targets.now) }
 {
     derive(alloc, flow, readings, sources, lists, store, targets)
 }

@@ -3,6 +3,7 @@ use Rattle.std.proofs.Common.{◌≡◌, ◌≢◌, ℕ, Bool, true, false, List
 use Rattle.std.specs.Prelude.{if◌then◌else◌, OnOk, IfErr}
 use Rattle.std.specs.List.{AllByRecursion}
 use Rattle.smk_base.specs.Path.{is_path}
+use Rattle.smk_base.proofs.Under.{never_both}
 use Rattle.smk_world.specs.declared.event.NodeState.{NodeState}
 use Rattle.smk_world.specs.declared.event.NodeState.TheVariants.{Owned}
 use Rattle.smk_world.specs.Devices.{Device, HasLooked}
@@ -18,7 +19,7 @@ use Rattle.smk_choose.specs.Told.{standing_of, is_told, told_by, making}
 use Rattle.smk_choose.specs.Finding.{places_in, places_by}
 use Rattle.smk_choose.proofs.Listed.{Placed, listed_placed}
 use Rattle.smk_store.specs.Images.{Image}
-use Rattle.smk_store.specs.Stores.{Known}
+use Rattle.smk_store.specs.Stores.{Known, is_covered_in}
 use Rattle.smk_chain.specs.declared.fault.SightFault.TheVariants.{TooManyPaths, Device as DeviceFault, OutOfMemory as MemoryFault}
 use Rattle.smk_chain.specs.Derive.{sources_of}
 use Rattle.smk_chain_sight.specs.declared.telling.Eye.{Eye}
@@ -132,9 +133,9 @@ no_candidates flow S p e = sym (ap (λ (b : Bool). map making (if b then [] else
 pub its_candidates : (flow : Flow) (S : Sources) (p : Path) → S.is p ≡ false → candidates flow S p ≡ candidates_by flow S p
 its_candidates flow S p e = sym (ap (λ (b : Bool). if b then [] else candidates flow S p) e)
 
--- no child owns the place of a path
-pub still_owned : (nodes : Path → NodeState) (store : List Known) (image : Image) → Viewed nodes store image → (p q : Path) → q ≡ p → is_path_text p ≡ true → nodes q ≢ Owned
-still_owned nodes store image v p q e path = subst (λ t. nodes t ≢ Owned) (sym e) (v.unowned p path)
+-- no child owns the place of a path that isn't covered
+pub unowned_at : (nodes : Path → NodeState) (store : List Known) (image : Image) → Viewed nodes store image → (p q : Path) → q ≡ p → is_path_text p ≡ true → is_covered_in store p ≡ false → nodes q ≢ Owned
+unowned_at nodes store image v p q e path uncovered = subst (λ t. nodes t ≢ Owned) (sym e) (λ owned. never_both (is_covered_in store p) (v.owned p path owned) uncovered)
 
 -- want of memory is another fault
 pub never_many : (count : ℕ) → MemoryFault ≡ TooManyPaths count → ⊥

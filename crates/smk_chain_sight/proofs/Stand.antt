@@ -191,7 +191,7 @@ module _ (nodes : Path → NodeState) (store : List Entries) (image : Image) (v 
       record { source = sym (covered_none image p covered); none = λ plain q under. covered_none image q (covered_under image q p covered under) }
 
   sighted_by : (p : Path) (s : NodeState) → nodes p ≡ s → is_path_text p ≡ true → is_covered_in store p ≡ false → IsSighted image p (by_stat (stat_of (reading s)))
-  sighted_by p Owned e path uncovered = absurd (v.unowned p path e)
+  sighted_by p Owned e path uncovered = absurd (never_both (is_covered_in store p) (v.owned p path e) uncovered)
   sighted_by p (Known None besides) e path uncovered =
       record {
         source = sym (no_source_unless image p (λ s. never_both false (sym (ap (λ (t : NodeState). is_some (content_of (reading t))) e) ∙ source_reads p s) refl));
@@ -354,10 +354,18 @@ name_of_part a part rest h ends is_flat utf8 =
     let bytes = bytes_before part rest (bytes_behind (47 ∷ []) (part ++ rest) (bytes_behind a (47 ∷ (part ++ rest)) (path_bytes (a ++ 47 ∷ (part ++ rest)) path))) in
     (both_true (nat_le 1 (length part)) (flat part) (long_enough part (some_part a part rest path ends)) is_flat, (utf8, no_feed part bytes))
 
--- of each name that stands for a path, what stands there; and each such name where something stands is among them
-pub record ListedIn (nodes : Path → NodeState) (folder : Path) (names : List Name) : Type 0 where
-  pub each : All (λ (n : Name). is_path_text (in_folder folder n.name) ≡ true → IsSome (reading (nodes (in_folder folder n.name))) × (n.folder ≡ reads_folder (nodes (in_folder folder n.name)))) names
-  pub all : (name : Path) → is_name name ≡ true → IsTextName name → IsSome (reading (nodes (in_folder folder name))) → Contains (map (λ (n : Name). n.name) names) name
+-- the name stands in the folder, and is a folder's where it says so
+abbrev pub NameStands : (Path → NodeState) → Path → Name → Type 0
+NameStands nodes folder n = IsSome (reading (nodes (in_folder folder n.name))) × (n.folder ≡ reads_folder (nodes (in_folder folder n.name)))
+
+-- the same of a name that stands for a path, unless that is covered
+abbrev pub NameTells : (Path → NodeState) → List Entries → Path → Name → Type 0
+NameTells nodes store folder n = is_path_text (in_folder folder n.name) ≡ true → is_covered_in store (in_folder folder n.name) ≡ false → NameStands nodes folder n
+
+-- So it is of each of these names; and in a folder that isn't covered each name where something stands is among them.
+pub record ListedIn (nodes : Path → NodeState) (store : List Entries) (folder : Path) (names : List Name) : Type 0 where
+  pub each : All (NameTells nodes store folder) names
+  pub all : is_covered_in store folder ≡ false → (name : Path) → is_name name ≡ true → IsTextName name → IsSome (reading (nodes (in_folder folder name))) → Contains (map (λ (n : Name). n.name) names) name
 
 may_stand : (folder : Bool) (s : NodeState) → s ≢ Owned → MayStand folder s → IsSome (reading s) × (folder ≡ reads_folder s)
 may_stand folder Owned other h = absurd (other refl)
@@ -373,30 +381,43 @@ stands_there Owned h = absurd (none_some Node h)
 stands_there (Known None besides) h = absurd (none_some Node h)
 stands_there (Known (Some node) besides) h = tt
 
-none_listed : (nodes : Path → NodeState) (store : List Entries) (image : Image) (folder : Path) (names : List Name) → Viewed nodes store image → is_path_text folder ≡ true → names ≡ [] → reads_folder (nodes folder) ≡ false → ListedIn nodes folder names
+none_listed : (nodes : Path → NodeState) (store : List Entries) (image : Image) (folder : Path) (names : List Name) → Viewed nodes store image → is_path_text folder ≡ true → names ≡ [] → reads_folder (nodes folder) ≡ false → ListedIn nodes store folder names
 none_listed nodes store image folder names v path none plain =
     record {
-      each = subst (All (λ (n : Name). is_path_text (in_folder folder n.name) ≡ true → IsSome (reading (nodes (in_folder folder n.name))) × (n.folder ≡ reads_folder (nodes (in_folder folder n.name))))) (sym none) (λ k d lt. absurd (omega arith));
-      all = λ name is text some. absurd (never_both (reads_folder (nodes folder)) (v.in_folders folder name path some) plain);
+      each = subst (All (NameTells nodes store folder)) (sym none) (λ k d lt. absurd (omega arith));
+      all = λ uncovered name is text some. absurd (never_both (reads_folder (nodes folder)) (v.in_folders folder name path some) plain);
     }
 
-all_listed : (w : World) (store : List Entries) (image : Image) (folder : Path) (listing : Listing) → Viewed w.nodes store image → IsListing w folder listing → ListedIn w.nodes folder listing.names
+all_listed : (w : World) (store : List Entries) (image : Image) (folder : Path) (listing : Listing) → Viewed w.nodes store image → IsListing w folder listing → ListedIn w.nodes store folder listing.names
 all_listed w store image folder listing v h =
     record {
-      each = All-weaker (λ (n : Name). IsTrue (is_name n.name) × IsTextName n.name × MayStand n.folder (w.nodes (in_folder folder n.name)))
-          (λ (n : Name). is_path_text (in_folder folder n.name) ≡ true → IsSome (reading (w.nodes (in_folder folder n.name))) × (n.folder ≡ reads_folder (w.nodes (in_folder folder n.name))))
-          (λ n p path. may_stand n.folder (w.nodes (in_folder folder n.name)) (v.unowned (in_folder folder n.name) path) p.2)
+      each = All-weaker (λ (n : Name). IsTrue (is_name n.name) × IsTextName n.name × MayStand n.folder (w.nodes (in_folder folder n.name))) (NameTells w.nodes store folder)
+          (λ n p path uncovered.
+          may_stand n.folder (w.nodes (in_folder folder n.name)) (λ owned. never_both (is_covered_in store (in_folder folder n.name)) (v.owned (in_folder folder n.name) path owned) uncovered) p.2)
           listing.names h.stand;
-      all = λ name is text some. h.all name is text (stands_there (w.nodes (in_folder folder name)) some);
+      all = λ uncovered name is text some. h.all name is text (stands_there (w.nodes (in_folder folder name)) some);
     }
 
-listed_by : (w : World) (store : List Entries) (image : Image) (folder : Path) (listing : Listing) (s : NodeState) → Viewed w.nodes store image → is_path_text folder ≡ true → w.nodes folder ≡ s → ListingIs w folder listing s → ListedIn w.nodes folder listing.names
-listed_by w store image folder listing Owned v path at h = absurd (v.unowned folder path at)
+-- what is in a covered folder is covered
+covered_in : (nodes : Path → NodeState) (store : List Entries) (image : Image) (folder name : Path) → Viewed nodes store image → is_covered_in store folder ≡ true → is_covered_in store (in_folder folder name) ≡ true
+covered_in nodes store image folder name v h = v.covered (in_folder folder name) ∙ covered_under image (in_folder folder name) folder (sym (v.covered folder) ∙ h) (under_folder folder name)
+
+-- a covered folder tells nothing
+covered_listed : (nodes : Path → NodeState) (store : List Entries) (image : Image) (folder : Path) (names : List Name) → Viewed nodes store image → is_covered_in store folder ≡ true → ListedIn nodes store folder names
+covered_listed nodes store image folder names v h =
+    record {
+      each = All-weaker (Contains names) (NameTells nodes store folder)
+          (λ n c path uncovered. absurd (never_both (is_covered_in store (in_folder folder n.name)) (covered_in nodes store image folder n.name v h) uncovered)) names (All-contains_itself names);
+      all = λ uncovered. absurd (never_both (is_covered_in store folder) h uncovered);
+    }
+
+listed_by : (w : World) (store : List Entries) (image : Image) (folder : Path) (listing : Listing) (s : NodeState) → Viewed w.nodes store image → is_path_text folder ≡ true → w.nodes folder ≡ s → ListingIs w folder listing s → ListedIn w.nodes store folder listing.names
+listed_by w store image folder listing Owned v path at h = covered_listed w.nodes store image folder listing.names v (v.owned folder path at)
 listed_by w store image folder listing (Known None besides) v path at h = none_listed w.nodes store image folder listing.names v path (ap (λ (l : Listing). l.names) h) (ap reads_folder at)
 listed_by w store image folder listing (Known (Some (Regular bytes time read_only)) besides) v path at h = none_listed w.nodes store image folder listing.names v path (ap (λ (l : Listing). l.names) h) (ap reads_folder at)
 listed_by w store image folder listing (Known (Some Directory) besides) v path at h = all_listed w store image folder listing v h.1
 
-pub listed_in : (w : World) (store : List Entries) (image : Image) (folder : Path) (listing : Listing) → Viewed w.nodes store image → is_path_text folder ≡ true → ListingIs w folder listing (w.nodes folder) → ListedIn w.nodes folder listing.names
+pub listed_in : (w : World) (store : List Entries) (image : Image) (folder : Path) (listing : Listing) → Viewed w.nodes store image → is_path_text folder ≡ true → ListingIs w folder listing (w.nodes folder) → ListedIn w.nodes store folder listing.names
 listed_in w store image folder listing v path h = listed_by w store image folder listing (w.nodes folder) v path refl h
 
 -- ## Name by name
@@ -411,7 +432,7 @@ named_in names name h =
     (All-map (λ (x : Path). (n : Name) × Contains names n × (n.name ≡ x)) (λ (n : Name). n.name) names
     (All-weaker (Contains names) (λ (m : Name). (n : Name) × Contains names n × (n.name ≡ m.name)) (λ m c. (m, c, refl)) names (All-contains_itself names))) h
 
-module _ (nodes : Path → NodeState) (store : List Entries) (image : Image) (v : Viewed nodes store image) (folder : Path) (names : List Name) (l : ListedIn nodes folder names) where
+module _ (nodes : Path → NodeState) (store : List Entries) (image : Image) (v : Viewed nodes store image) (folder : Path) (names : List Name) (l : ListedIn nodes store folder names) where
   -- a place that isn't a path's, or is covered, or that of a folder with no source under it
   pub at_no_path : (n : Name) → is_path_text (in_folder folder n.name) ≡ false → NoneAt image folder n
   at_no_path n other q at = none_at_none image (in_folder folder n.name) q other at
@@ -426,9 +447,9 @@ module _ (nodes : Path → NodeState) (store : List Entries) (image : Image) (v 
         | inr under ↦ none q under
       ]
 
-  -- all names were gone over
-  pub none_in : All (NoneAt image folder) names → NoneUnder image folder
-  none_in all q under =
+  -- all names in a folder that isn't covered were gone over
+  none_in_open : is_covered_in store folder ≡ false → All (NoneAt image folder) names → NoneUnder image folder
+  none_in_open uncovered all q under =
       no_source_unless image q (λ s.
       let r = rest_under q folder under in
       let path : is_path_text (in_folder folder r.0) ≡ true = subst (λ t. is_path_text t ≡ true) r.1 (source_parts image q s).path in
@@ -439,7 +460,7 @@ module _ (nodes : Path → NodeState) (store : List Entries) (image : Image) (v 
       by rest path some (inl is_flat) =
           let whole : is_path_text (folder ++ 47 ∷ (rest ++ [])) ≡ true = subst (λ t. is_path_text (folder ++ 47 ∷ t) ≡ true) (sym (append-nil rest)) path in
           let name = name_of_part folder rest [] whole (inl refl) is_flat (rest_utf8 folder rest path) in
-          let n = named_in names rest (l.all rest name.0 name.1 some) in
+          let n = named_in names rest (l.all uncovered rest name.0 name.1 some) in
           All-contains (NoneAt image folder) names n.0 all n.1 (in_folder folder rest) (subst (λ t. is_at_or_under (in_folder folder rest) (in_folder folder t) ≡ true) (sym n.2) (at_itself (in_folder folder rest)))
       by rest path some (inr d) =
           let inner = in_folder folder d.part in
@@ -449,7 +470,15 @@ module _ (nodes : Path → NodeState) (store : List Entries) (image : Image) (v 
           let name = name_of_part folder d.part (47 ∷ d.rest) whole (inr (d.rest, refl)) d.is_flat utf8 in
           let inner_path : is_path_text inner ≡ true = text_above inner d.rest (subst (λ t. is_path_text t ≡ true) joined path) in
           let is = v.in_folders inner d.rest inner_path (subst (λ t. IsSome (reading (nodes t))) joined some) in
-          let n = named_in names d.part (l.all d.part name.0 name.1 (folder_some (nodes inner) is)) in
+          let n = named_in names d.part (l.all uncovered d.part name.0 name.1 (folder_some (nodes inner) is)) in
           let under : is_under (in_folder folder rest) inner ≡ true = subst (λ t. is_under t inner ≡ true) (sym joined) (under_folder inner d.rest) in
           All-contains (NoneAt image folder) names n.0 all n.1 (in_folder folder rest)
           (subst (λ t. is_at_or_under (in_folder folder rest) (in_folder folder t) ≡ true) (sym n.2) (at_when_under (in_folder folder rest) inner under))
+
+  -- all names were gone over
+  pub none_in : All (NoneAt image folder) names → NoneUnder image folder
+  none_in all q under = with_cover (is_covered_in store folder) refl
+    where
+      with_cover : (b : Bool) → is_covered_in store folder ≡ b → is_source image q ≡ false
+      with_cover true h = covered_none image q (covered_under image q folder (sym (v.covered folder) ∙ h) under)
+      with_cover false h = none_in_open h all q under

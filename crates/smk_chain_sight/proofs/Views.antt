@@ -6,13 +6,15 @@ use Rattle.smk_base.proofs.Places.{and_first}
 use Rattle.smk_base.proofs.Under.{never_both, both_true}
 use Rattle.smk_world.specs.declared.event.Node.{Node}
 use Rattle.smk_world.specs.World.{World, IsFormed, reading, is_named}
+use Rattle.smk_world.specs.Folders.{IsTree}
 use Rattle.smk_world.specs.Trees.{Path, is_path_text, is_text}
 use Rattle.smk_record.specs.declared.record.Record.{Record}
 use Rattle.smk_store.specs.Images.{is_source, content_of, is_outside, seen}
 use Rattle.smk_store.specs.Stores.{Known}
 use Rattle.smk_store.specs.Loading.{IsStoreOf}
 use Rattle.smk_store.proofs.Loads.{named_filter}
-use Rattle.smk_chain_sight.specs.Disk.{IsOnDisk}
+use Rattle.smk_store.proofs.Standing.{tree_folder}
+use Rattle.smk_chain_sight.specs.Disk.{IsOwnedCovered}
 use Rattle.smk_chain_sight.specs.Viewing.{Viewed}
 use Rattle.smk_chain_sight.proofs.Stand.{source_parts, path_outside, file_some}
 
@@ -35,11 +37,11 @@ source_named read w q formed s =
     (both_true (is_outside q) (is_some (reading (w.nodes q))) (outside q p.path) some)
     (named_by w q (is_named q w.names) formed refl some)
 
-pub viewed_of : (read : List ℕ → Option Record) (w : World) (store : List Known) → IsOnDisk w → IsFormed w → IsStoreOf (seen read w) store → Viewed w.nodes store (seen read w)
-viewed_of read w store disk formed stored =
+pub viewed_of : (read : List ℕ → Option Record) (w : World) (store : List Known) → IsOwnedCovered w store → IsFormed w → IsTree w → IsStoreOf (seen read w) store → Viewed w.nodes store (seen read w)
+viewed_of read w store owned formed tree stored =
     record {
-      in_folders = disk.in_folders;
-      unowned = disk.unowned;
+      in_folders = λ folder name path some. tree_folder w tree folder name some;
+      owned = owned;
       node = node_is read w;
       covered = stored.covered;
       named = λ q s. source_named read w q formed s;

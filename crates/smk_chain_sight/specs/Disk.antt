@@ -1,12 +1,10 @@
--- What a working folder is looked at as.
-use Rattle.std.specs.Prelude.{◌≡◌, ◌≢◌, true, IsSome}
+-- What running children own, as far as sources are looked for.
+use Rattle.std.specs.Prelude.{◌≡◌, true, List}
 use Rattle.smk_world.specs.declared.event.NodeState.TheVariants.{Owned}
-use Rattle.smk_world.specs.World.{World, reading, reads_folder}
-use Rattle.smk_world.specs.Calls.{in_folder}
+use Rattle.smk_world.specs.World.{World}
 use Rattle.smk_world.specs.Trees.{Path, is_path_text}
+use Rattle.smk_store.specs.Stores.{Known, is_covered_in}
 
--- What stands at users' paths stands as on a disk: each in a folder, and none of it is a running child's.
-pub record IsOnDisk (w : World) : Type 0 where
-  pub in_folders :
-      (folder name : Path) → is_path_text folder ≡ true → IsSome (reading (w.nodes (in_folder folder name))) → reads_folder (w.nodes folder) ≡ true
-  pub unowned : (q : Path) → is_path_text q ≡ true → w.nodes q ≢ Owned
+-- Each user's path that a running child owns has a record, a mark or a note, at itself or at a folder above it: so it is no source, whatever stands there.
+abbrev pub IsOwnedCovered : World → List Known → Type 0
+IsOwnedCovered w store = (q : Path) → is_path_text q ≡ true → w.nodes q ≡ Owned → is_covered_in store q ≡ true

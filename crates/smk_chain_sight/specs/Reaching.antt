@@ -1,5 +1,5 @@
 -- How a reach grows.
-use Rattle.std.specs.Prelude.{◌≡◌, ◌≤◌, ℕ, zero, suc, List, [], ◌∷◌, ◌++◌, filter, length, take, bytes_eq, Option, Some, None, slice_get}
+use Rattle.std.specs.Prelude.{◌≡◌, ◌≤◌, ◌<◌, ℕ, zero, suc, List, [], ◌∷◌, ◌++◌, filter, length, take, bytes_eq, Option, Some, None, slice_get}
 use Rattle.std.specs.BTreeSet.{contains_text}
 use Rattle.std.specs.List.{AllByRecursion, flat_map}
 use Rattle.smk_base.specs.Path.{is_path}
@@ -56,3 +56,16 @@ module _ (flow : Flow) (S : Sources) (L : Listings) where
 pub record Advanced (flow : Flow) (L : Listings) (eye : Eye) (fresh old new : List Path) : Type 0 where
   pub some : (S : Sources) → Says eye S → (n : ℕ) × (new ≡ with_next flow S L old (take n fresh)) × (length new ≤ 100000 → length fresh ≤ n)
   pub listed : length new ≤ 100000 → AllByRecursion (IsListedAround flow eye) fresh
+
+-- So far: each path stands once; of the first of them all is told, and what their candidates want was added.
+pub record IsSpread (flow : Flow) (L : Listings) (eye : Eye) (from : ℕ) (found : Paths) : Type 0 where
+  pub kept : AreKept found
+  pub within : from ≤ length found.paths.items
+  pub listed : AllByRecursion (IsListedAround flow eye) (take from found.paths.items)
+  pub closed : (S : Sources) → Says eye S → Closed flow S L from found.paths.items
+
+-- What the candidates of all paths want was added so many times, and all is told of all of them; or there are too many.
+pub record HasSpread (flow : Flow) (L : Listings) (levels : ℕ) (eye : Eye) (old new : List Path) : Type 0 where
+  pub listed : length new ≤ 100000 → AllByRecursion (IsListedAround flow eye) new
+  pub whole : (S : Sources) → Says eye S → length new ≤ 100000 → new ≡ grown flow S L levels old
+  pub many : (S : Sources) → Says eye S → 100000 < length new → 100000 < length (grown flow S L levels old)

@@ -1,5 +1,5 @@
 -- What looks at a working folder tell of the sources in it.
-use Rattle.std.specs.Prelude.{◌≡◌, ◌≢◌, Bool, true, false, List, Some, IsSome}
+use Rattle.std.specs.Prelude.{◌≡◌, Bool, true, false, List, Some, IsSome}
 use Rattle.std.specs.BTreeMap.{BTreeMap, get_by_text}
 use Rattle.std.specs.Global.{Global}
 use Rattle.std.specs.Prelude.{String}
@@ -16,10 +16,10 @@ use Rattle.smk_store.specs.Images.{Image, is_covered, is_source, holds_source}
 use Rattle.smk_store.specs.Stores.{Known, is_covered_in}
 use Rattle.smk_chain_sight.specs.declared.seeing.Sighted.{Sighted}
 
--- The nodes are those of the image, of which this is the store, and stand as on a disk.
+-- The nodes are those of the image, of which this is the store, and stand in folders; what a running child owns is covered.
 pub record Viewed (nodes : Path → NodeState) (store : List Known) (image : Image) : Type 0 where
   pub in_folders : (folder name : Path) → is_path_text folder ≡ true → IsSome (reading (nodes (in_folder folder name))) → reads_folder (nodes folder) ≡ true
-  pub unowned : (q : Path) → is_path_text q ≡ true → nodes q ≢ Owned
+  pub owned : (q : Path) → is_path_text q ≡ true → nodes q ≡ Owned → is_covered_in store q ≡ true
   pub node : (p : Path) → is_path_text p ≡ true → image.node p ≡ reading (nodes p)
   pub covered : (p : Path) → is_covered_in store p ≡ is_covered image p
   pub named : (q : Path) → is_source image q ≡ true → is_named q image.names ≡ true

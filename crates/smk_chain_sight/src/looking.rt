@@ -13,7 +13,7 @@ ghost use Rattle.smk_chain_sight.specs.Sight.{Suffices, TellsReach, IsLarge, sig
 ghost use Rattle.smk_chain_sight.specs.Viewing.{Viewed};
 ghost use Rattle.smk_chain_sight.specs.Telling.{IsTrue};
 ghost use Rattle.smk_chain_sight.specs.Reaching.{AreKept};
-ghost use Rattle.smk_chain_sight.specs.Disk.{IsOnDisk};
+ghost use Rattle.smk_chain_sight.specs.Disk.{IsOwnedCovered};
 
 use crate::reaching::{Ground, LIMIT, Paths, add_paths, count, spread};
 use crate::telling::Eye;
@@ -127,13 +127,14 @@ pub fn sight<W: Files>(
     requires { AreReadings flow.now readings.now }
     ensures looked { HasLooked W.act (W.device work.old) (W.device work.new) (sight_failed result) }
 
-    // What it tells is so in the folder as it reads wherever it matters, and leads to the same reach and derivation.
-    ensures told { IfOk result (λ sources. WhereTold (W.device work.old) (λ w. IsOnDisk w
+    // What it tells is so in the folder as it reads wherever it matters, and leads to the same reach and derivation: where what
+    // running children own is covered, as what is covered is no source.
+    ensures told { IfOk result (λ sources. WhereTold (W.device work.old) (λ w. IsOwnedCovered w store.now
         → (read : Items ℕ → Option RecordValue) → IsStoreOf (seen read w) store.now
         → Suffices flow.now (sources_of (seen read w)) lists.now targets.now (told_by sources))) }
 
     // The reach has more than 100,000 paths just where that is the fault.
-    ensures too_many { IfErr result (λ fault. (count : ℕ) → fault ≡ SightFault.TooManyPaths count → (100000 < count) × WhereTold (W.device work.old) (λ w. IsOnDisk w
+    ensures too_many { IfErr result (λ fault. (count : ℕ) → fault ≡ SightFault.TooManyPaths count → (100000 < count) × WhereTold (W.device work.old) (λ w. IsOwnedCovered w store.now
         → (read : Items ℕ → Option RecordValue) → IsStoreOf (seen read w) store.now
         → IsLarge flow.now (sources_of (seen read w)) lists.now targets.now)) }
 {

@@ -1,6 +1,6 @@
 //! The paths of a reach, level by level.
 
-ghost use Rattle.std.specs.Prelude.{◌≡◌, ◌<◌, ◌≤◌, ◌++◌, ◌∷◌, [], ◌||◌, ℕ, nat_lt, length, take, drop, bytes_eq, IfOk, OnOk};
+ghost use Rattle.std.specs.Prelude.{◌≡◌, ◌++◌, ◌∷◌, [], ◌||◌, ℕ, nat_lt, length, drop, bytes_eq, IfOk, OnOk};
 ghost use Rattle.std.specs.BTreeSet.{contains_text};
 ghost use Rattle.std.specs.List.{AllByRecursion, flat_map};
 ghost use Rattle.smk_world.specs.Calls.{device_failed};
@@ -12,7 +12,7 @@ ghost use Rattle.smk_chain.specs.Derive.{distinct, next};
 ghost use Rattle.smk_choose_wants.specs.Guides.{IsGuide};
 ghost use Rattle.smk_choose_wants.specs.Wants.{ArePlaces};
 ghost use Rattle.smk_chain_sight.specs.Telling.{HasTold, IsListedAround, Says};
-ghost use Rattle.smk_chain_sight.specs.Reaching.{AreKept, path_of, paths_by, IsPlaced, Advanced, grown, Closed};
+ghost use Rattle.smk_chain_sight.specs.Reaching.{AreKept, path_of, paths_by, IsPlaced, Advanced, HasSpread, IsSpread};
 
 use crate::telling::{Eye, tell_around};
 use smk_base::{List, OutOfMemory, PathText};
@@ -286,18 +286,11 @@ pub(crate) fn spread<W: Files>(
     from: usize,
     levels: u32,
 ) -> Result<(), WorkFault>
-    requires kept { AreKept found.old }
     requires guide { IsGuide ground.now.flow.now ground.now.lists.now ground.now.guide.now }
-    requires within { from ≤ length found.old.paths.items }
-    requires listed { AllByRecursion (IsListedAround ground.now.flow.now eye.old) (take from found.old.paths.items) }
-    requires closed { (S : Known) → Says eye.old S → Closed ground.now.flow.now S ground.now.lists.now from found.old.paths.items }
+    requires so_far { IsSpread ground.now.flow.now ground.now.lists.now eye.old from found.old }
     ensures looked { HasLooked W.act (W.device work.old) (W.device work.new) (device_failed result) }
     ensures told { OnOk result (HasTold (W.device work.old) ground.now.store.now eye.old eye.new) }
-    ensures listed { OnOk result (length found.new.paths.items ≤ 100000 → AllByRecursion (IsListedAround ground.now.flow.now eye.new) found.new.paths.items) }
-    ensures whole { OnOk result ((S : Known) → Says eye.new S → length found.new.paths.items ≤ 100000
-        → found.new.paths.items ≡ grown ground.now.flow.now S ground.now.lists.now levels found.old.paths.items) }
-    ensures many { OnOk result ((S : Known) → Says eye.new S → 100000 < length found.new.paths.items
-        → 100000 < length (grown ground.now.flow.now S ground.now.lists.now levels found.old.paths.items)) }
+    ensures reached { OnOk result (HasSpread ground.now.flow.now ground.now.lists.now levels eye.new found.old.paths.items found.new.paths.items) }
 {
     let end = count(found);
     let fresh = copies_from(alloc, found, from)?;

@@ -5,3 +5,4 @@ pub mod Folders
 pub mod Stepping
 pub mod Once
 pub mod Heights
+pub mod Queries

@@ -1,12 +1,12 @@
 -- Which jobs make what: the numbers of jobs, by their places in plan order.
 use Rattle.std.specs.Prelude.{◌≡◌, ◌<◌, ℕ, suc, true, List, [], ◌∷◌, map, bytes_eq, nat_eq, Option, Some, None, option_map, is_some}
-use Rattle.std.specs.List.{find, filter_map, AllByRecursion}
+use Rattle.std.specs.List.{find, filter_map, flat_map, AllByRecursion}
 use Rattle.smk_world.specs.Trees.{Path}
 use Rattle.smk_flow.specs.Flows.{Flow, Candidate}
 use Rattle.smk_choose.specs.Choose.{Sources, choose, maker}
 use Rattle.smk_chain.specs.declared.jobs.Jobs.{Jobs}
 use Rattle.smk_chain.specs.declared.jobs.Maker.{Maker}
-use Rattle.smk_chain.specs.Derive.{Listings, wants, distinct, chosen}
+use Rattle.smk_chain.specs.Derive.{Listings, wants, distinct, chosen, jobs, refused}
 use Rattle.smk_chain_walk.specs.Numbers.{number_in}
 
 -- what is told to make the path: a job's number, or none for a source; nothing where the path isn't among them
@@ -46,3 +46,11 @@ pub record AreLinked (flow : Flow) (sources : Sources) (L : Listings) (targets :
   pub befores : made.befores ≡ map (befores_of flow sources L (chosen flow sources L targets)) (chosen flow sources L targets)
   -- their numbers are below its own
   pub lower : AreLower 0 made.befores
+
+-- The jobs of a walk from the targets: nothing is refused on the way, they are those that the targets call for, in plan order, with the links between them, and
+-- they have the listings by which they were derived.
+pub record IsWalk (flow : Flow) (sources : Sources) (L : Listings) (targets : List Path) (made : Jobs) : Type 0 where
+  pub none : flat_map (refused flow sources L 201) targets ≡ []
+  pub called : made.jobs ≡ jobs flow sources L targets
+  pub links : AreLinked flow sources L targets made
+  pub lists : made.lists ≡ L

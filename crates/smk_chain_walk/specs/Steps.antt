@@ -1,19 +1,22 @@
 -- How far a walk goes from a path, what it comes to, and what is kept of it on the way.
 use Rattle.std.specs.Prelude.{◌≡◌, ℕ, zero, suc, Bool, true, false, List, [], ◌∷◌, ◌++◌, map, Option, Some, None, is_some, Result, Ok, Err, if◌then◌else◌}
 use Rattle.std.specs.BTreeMap.{get_by_text}
-use Rattle.std.specs.List.{AllByRecursion}
+use Rattle.std.specs.List.{list_all, AllByRecursion}
 use Rattle.smk_base.specs.Path.{is_path}
 use Rattle.smk_world.specs.Trees.{Path}
 use Rattle.smk_pattern.specs.Shapes.{Text}
 use Rattle.smk_flow.specs.Flows.{Flow, Candidate}
 use Rattle.smk_choose.specs.declared.choice.Making.{Making}
 use Rattle.smk_choose.specs.Choose.{Sources, Make, choose}
+use Rattle.smk_choose.specs.Told.{making}
+use Rattle.smk_choose_wants.specs.declared.wanted.Want.{Want}
+use Rattle.smk_choose_wants.specs.Wants.{want_of}
 use Rattle.smk_chain.specs.declared.fault.ChainFault.{ChainFault}
 use Rattle.smk_chain.specs.declared.jobs.Maker.{Maker}
 use Rattle.smk_chain.specs.Told.{TellsFirst}
 use Rattle.smk_chain.specs.Derive.{Listings, Refusal, NoInput, wants, job, walk, refused}
 use Rattle.smk_chain_walk.specs.declared.reached.Reached.{Reached}
-use Rattle.smk_chain_walk.specs.Numbers.{place_of, has, all_added, key, IsSmall}
+use Rattle.smk_chain_walk.specs.Numbers.{place_of, has, added, all_added, key, IsSmall}
 use Rattle.smk_chain_walk.specs.Links.{number_for, maker_told, befores_of, AreOnce, AreLower}
 
 -- no chain of more than n jobs leads from the path, each wanting something of the next
@@ -72,6 +75,20 @@ pub record Holds (flow : Flow) (sources : Sources) (L : Listings) (reached : Rea
   -- before a job come those that make what it wants, and their numbers are below its own
   pub befores : reached.befores ≡ map (befores_of flow sources L cs) cs
   pub lower : AreLower 0 reached.befores
+
+-- The job of this rule and these values is chosen for the path, this is what it wants, and all of that is a path that is done.
+pub record IsServed (flow : Flow) (sources : Sources) (L : Listings) (reached : Reached) (p : Path) (m : Making) (ws : List Want) (c : Candidate) : Type 0 where
+  pub chosen : choose flow sources p ≡ Make c
+  pub is : m ≡ making c
+  pub wanted : ws ≡ map want_of (wants flow L c)
+  pub paths : list_all is_path (wants flow L c) ≡ true
+  pub done : AllByRecursion (λ w. is_done reached w ≡ true) (wants flow L c)
+
+-- What was reached is these jobs; nothing is refused of the path, and once the job is added all jobs that the path calls for are among them.
+pub record MayClose (flow : Flow) (sources : Sources) (L : Listings) (reached : Reached) (p : Path) (c : Candidate) (cs : List Candidate) : Type 0 where
+  pub calm : refused_for flow sources L p ≡ []
+  pub called : AllByRecursion (λ d. has (added cs c) d ≡ true) (called_for flow sources L p)
+  pub holds : Holds flow sources L reached cs
 
 -- what was done before is done
 abbrev pub Keeps : Reached → Reached → Type 0

@@ -3,17 +3,18 @@
 ghost use Rattle.std.specs.Prelude.{◌≡◌, ◌≤◌, ◌++◌, max, nat_lt, slice_get, Some, None, option_map, filter, IfOk, OnOk, if◌then◌else◌};
 ghost use Rattle.smk_base.specs.Path.{is_path};
 ghost use Rattle.smk_flow.specs.Flows.{Candidate, first_wants};
-ghost use Rattle.smk_choose.specs.Told.{told_by, making as told_of, choice_of, Covers};
+ghost use Rattle.smk_choose.specs.Told.{making as told_of, choice_of};
 ghost use Rattle.smk_chain.specs.Derive.{wanted_paths, gathered_files};
-ghost use Rattle.smk_choose_wants.specs.Guides.{IsGuide};
 ghost use Rattle.smk_choose_wants.specs.Wants.{ArePlaces};
-ghost use Rattle.smk_chain_walk.specs.Heights.{AreHeights, AreCovered, IsCovered, Tells, TellsMost, making_in, path_of, paths_in};
+ghost use Rattle.smk_chain_walk.specs.Heights.{making_in, path_of, paths_in};
+ghost use Rattle.smk_chain_walk.specs.Queries.{AreTabled, IsGuided, IsJobTabled, IsTabled, KnowsHeights, TellsHeight, TellsHighest};
 
 use crate::kept::Heights;
+use crate::query::Query;
 use smk_base::{List, OutOfMemory, PathText};
 use smk_chain::Listings;
-use smk_choose::{Choices, Chosen, Making, Sources};
-use smk_choose_wants::{Guide, Places, Want, first_wants_of, gathered_files_of};
+use smk_choose::{Choices, Chosen, Making};
+use smk_choose_wants::{Places, Want, first_wants_of, gathered_files_of};
 use smk_flow::Workflow;
 use std::alloc::Global;
 
@@ -110,21 +111,18 @@ fn making_at<'c>(table: &'c Choices, path: &PathText) -> Option<&'c Making>
 #[cycle(climb)]
 pub(crate) fn climb(
     alloc: Global,
-    flow: &Workflow,
-    sources: &Sources,
-    lists: &Listings,
-    guide: &Guide<'_>,
+    query: &Query<'_>,
     table: &Choices,
     heights: &mut Heights,
     left: u32,
     path: &PathText,
 ) -> Result<Option<u32>, OutOfMemory>
-    requires guide { IsGuide flow.now lists.now guide.now }
+    requires guide { IsGuided query.now }
     requires within { left ≤ 201 }
-    requires covered { Covers flow.now (told_by sources.now) table.now left path.now }
-    requires known { AreHeights flow.now (told_by sources.now) lists.now heights.old }
-    ensures known { OnOk result (AreHeights flow.now (told_by sources.now) lists.now heights.new) }
-    ensures tells { IfOk result (λ found. Tells flow.now (told_by sources.now) lists.now left path.now found) }
+    requires covered { IsTabled query.now table.now left path.now }
+    requires known { KnowsHeights query.now heights.old }
+    ensures known { OnOk result (KnowsHeights query.now heights.new) }
+    ensures tells { IfOk result (λ found. TellsHeight query.now left path.now found) }
 {
     if let Some(height) = heights.of(path) {
         return Ok(below(height, left));
@@ -138,17 +136,7 @@ pub(crate) fn climb(
             Ok(Some(0))
         }
         Some(making) => {
-            match climb_job(
-                alloc,
-                flow,
-                sources,
-                lists,
-                guide,
-                table,
-                heights,
-                left - 1,
-                making,
-            )? {
+            match climb_job(alloc, query, table, heights, left - 1, making)? {
                 None => Ok(None),
                 Some(under) => {
                     heights.keep(alloc, path, under + 1)?;
@@ -163,39 +151,25 @@ pub(crate) fn climb(
 #[cycle(climb)]
 fn climb_job(
     alloc: Global,
-    flow: &Workflow,
-    sources: &Sources,
-    lists: &Listings,
-    guide: &Guide<'_>,
+    query: &Query<'_>,
     table: &Choices,
     heights: &mut Heights,
     left: u32,
     making: &Making,
 ) -> Result<Option<u32>, OutOfMemory>
-    requires guide { IsGuide flow.now lists.now guide.now }
+    requires guide { IsGuided query.now }
     requires within { left ≤ 200 }
-    requires covered { IsCovered flow.now (told_by sources.now) table.now left making.now }
-    requires known { AreHeights flow.now (told_by sources.now) lists.now heights.old }
-    ensures known { OnOk result (AreHeights flow.now (told_by sources.now) lists.now heights.new) }
-    ensures tells { (c : Candidate) → slice_get flow.now.rules c.rule ≡ Some c.part → making.now ≡ told_of c
-        → IfOk result (λ found. TellsMost flow.now (told_by sources.now) lists.now left (wanted_paths flow.now lists.now c) found) }
+    requires covered { IsJobTabled query.now table.now left making.now }
+    requires known { KnowsHeights query.now heights.old }
+    ensures known { OnOk result (KnowsHeights query.now heights.new) }
+    ensures tells { (c : Candidate) → slice_get query.now.flow.now.rules c.rule ≡ Some c.part → making.now ≡ told_of c
+        → IfOk result (λ found. TellsHighest query.now left (wanted_paths query.now.flow.now query.now.lists.now c) found) }
 {
-    let first = first_paths(alloc, flow, making)?;
-    let Some(height) = climb_all(
-        alloc,
-        flow,
-        sources,
-        lists,
-        guide,
-        table,
-        heights,
-        left,
-        first.as_slice(),
-    )?
-    else {
+    let first = first_paths(alloc, query.flow, making)?;
+    let Some(height) = climb_all(alloc, query, table, heights, left, first.as_slice())? else {
         return Ok(None);
     };
-    let files = climb_files(alloc, flow, sources, lists, guide, heights, left, making)?;
+    let files = climb_files(alloc, query, heights, left, making)?;
     Ok(highest(height, files))
 }
 
@@ -204,65 +178,52 @@ fn climb_job(
 #[cycle(climb)]
 fn climb_files(
     alloc: Global,
-    flow: &Workflow,
-    sources: &Sources,
-    lists: &Listings,
-    guide: &Guide<'_>,
+    query: &Query<'_>,
     heights: &mut Heights,
     left: u32,
     making: &Making,
 ) -> Result<Option<u32>, OutOfMemory>
-    requires guide { IsGuide flow.now lists.now guide.now }
+    requires guide { IsGuided query.now }
     requires within { left ≤ 200 }
-    requires known { AreHeights flow.now (told_by sources.now) lists.now heights.old }
-    ensures known { OnOk result (AreHeights flow.now (told_by sources.now) lists.now heights.new) }
-    ensures tells { (c : Candidate) → slice_get flow.now.rules c.rule ≡ Some c.part → making.now ≡ told_of c
-        → IfOk result (λ found. TellsMost flow.now (told_by sources.now) lists.now left (filter is_path (gathered_files flow.now lists.now c)) found) }
+    requires known { KnowsHeights query.now heights.old }
+    ensures known { OnOk result (KnowsHeights query.now heights.new) }
+    ensures tells { (c : Candidate) → slice_get query.now.flow.now.rules c.rule ≡ Some c.part → making.now ≡ told_of c
+        → IfOk result (λ found. TellsHighest query.now left (filter is_path (gathered_files query.now.flow.now query.now.lists.now c)) found) }
 {
-    let files = gathered_paths(alloc, flow, lists, &guide.places, making)?;
+    let files = gathered_paths(alloc, query.flow, query.lists, &query.guide.places, making)?;
     if files.is_empty() {
         return Ok(Some(0));
     }
-    let table = Choices::of(alloc, flow, guide.readings, sources, &files)?;
-    climb_all(
+    let table = Choices::of(
         alloc,
-        flow,
-        sources,
-        lists,
-        guide,
-        &table,
-        heights,
-        left,
-        files.as_slice(),
-    )
+        query.flow,
+        query.guide.readings,
+        query.sources,
+        &files,
+    )?;
+    climb_all(alloc, query, &table, heights, left, files.as_slice())
 }
 
 // The greatest height of the paths, where no chain of so many jobs leads from any.
 #[cycle(climb)]
 fn climb_all(
     alloc: Global,
-    flow: &Workflow,
-    sources: &Sources,
-    lists: &Listings,
-    guide: &Guide<'_>,
+    query: &Query<'_>,
     table: &Choices,
     heights: &mut Heights,
     left: u32,
     paths: &[PathText],
 ) -> Result<Option<u32>, OutOfMemory>
-    requires guide { IsGuide flow.now lists.now guide.now }
+    requires guide { IsGuided query.now }
     requires within { left ≤ 200 }
-    requires covered { AreCovered flow.now (told_by sources.now) table.now left paths.now }
-    requires known { AreHeights flow.now (told_by sources.now) lists.now heights.old }
-    ensures known { OnOk result (AreHeights flow.now (told_by sources.now) lists.now heights.new) }
-    ensures tells { IfOk result (λ found. TellsMost flow.now (told_by sources.now) lists.now left paths.now found) }
+    requires covered { AreTabled query.now table.now left paths.now }
+    requires known { KnowsHeights query.now heights.old }
+    ensures known { OnOk result (KnowsHeights query.now heights.new) }
+    ensures tells { IfOk result (λ found. TellsHighest query.now left paths.now found) }
 {
     let mut height = 0;
     for path in paths {
-        let Some(found) = climb(
-            alloc, flow, sources, lists, guide, table, heights, left, path,
-        )?
-        else {
+        let Some(found) = climb(alloc, query, table, heights, left, path)? else {
             return Ok(None);
         };
         height = higher(height, found);

@@ -3,13 +3,14 @@
 ghost use Rattle.std.specs.Prelude.{◌≡◌, ◌==◌, IfOk, OnOk};
 ghost use Rattle.std.specs.List.{find};
 ghost use Rattle.smk_world.specs.Trees.{Path};
-ghost use Rattle.smk_choose.specs.Told.{told_by, Covers, CoversAll};
+ghost use Rattle.smk_choose.specs.Told.{told_by, CoversAll};
 ghost use Rattle.smk_chain.specs.Derive.{height};
 ghost use Rattle.smk_choose_wants.specs.Guides.{IsGuide};
-ghost use Rattle.smk_chain_walk.specs.Heights.{AreHeights};
+ghost use Rattle.smk_chain_walk.specs.Queries.{IsGuided, IsTabled, KnowsHeights};
 
 use crate::climbing::climb;
 use crate::kept::Heights;
+use crate::query::Query;
 use smk_base::{List, OutOfMemory, PathText};
 use smk_chain::Listings;
 use smk_choose::{Choices, Sources};
@@ -21,23 +22,18 @@ use std::alloc::Global;
 #[tactic(auto, using(crate::proofs::Climbed::is_deep, crate::proofs::Climbed::is_flat))]
 fn is_deep(
     alloc: Global,
-    flow: &Workflow,
-    sources: &Sources,
-    lists: &Listings,
-    guide: &Guide<'_>,
+    query: &Query<'_>,
     table: &Choices,
     heights: &mut Heights,
     path: &PathText,
 ) -> Result<bool, OutOfMemory>
-    requires guide { IsGuide flow.now lists.now guide.now }
-    requires covered { Covers flow.now (told_by sources.now) table.now 201 path.now }
-    requires known { AreHeights flow.now (told_by sources.now) lists.now heights.old }
-    ensures known { OnOk result (AreHeights flow.now (told_by sources.now) lists.now heights.new) }
-    ensures is { IfOk result (λ deep. deep ≡ (height flow.now (told_by sources.now) lists.now 201 path.now == 201)) }
+    requires guide { IsGuided query.now }
+    requires covered { IsTabled query.now table.now 201 path.now }
+    requires known { KnowsHeights query.now heights.old }
+    ensures known { OnOk result (KnowsHeights query.now heights.new) }
+    ensures is { IfOk result (λ deep. deep ≡ (height query.now.flow.now (told_by query.now.sources.now) query.now.lists.now 201 path.now == 201)) }
 {
-    match climb(
-        alloc, flow, sources, lists, guide, table, heights, 201, path,
-    )? {
+    match climb(alloc, query, table, heights, 201, path)? {
         Some(_) => Ok(false),
         None => Ok(true),
     }
@@ -61,18 +57,15 @@ pub fn first_deep(
     requires covered { CoversAll flow.now (told_by sources.now) table.now 201 targets.now }
     ensures { IfOk result (λ found. found ≡ find (λ (p : Path). height flow.now (told_by sources.now) lists.now 201 p == 201) targets.now) }
 {
+    let query = Query {
+        flow,
+        sources,
+        lists,
+        guide,
+    };
     let mut heights = Heights::new(alloc);
     for target in targets.as_slice() {
-        if is_deep(
-            alloc,
-            flow,
-            sources,
-            lists,
-            guide,
-            table,
-            &mut heights,
-            target,
-        )? {
+        if is_deep(alloc, &query, table, &mut heights, target)? {
             return Ok(Some(target.copy(alloc)?));
         }
     }

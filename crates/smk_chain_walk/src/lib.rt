@@ -9,6 +9,7 @@ mod folders;
 mod kept;
 mod keys;
 mod parts;
+mod query;
 mod reached;
 mod stepping;
 mod walking;

@@ -1,26 +1,27 @@
 //! What a walk has reached.
 
-ghost use Rattle.std.specs.Prelude.{◌≡◌, ℕ, [], ◌∷◌, ◌++◌, List as Items, true, bytes_eq, length, Some, None, IfOk, IfErr, OnOk, if◌then◌else◌, string_bytes, map, option_to_list};
+ghost use Rattle.std.specs.Prelude.{◌≡◌, ℕ, [], ◌∷◌, ◌++◌, List as Items, true, bytes_eq, length, Some, None, IfOk, IfErr, OnOk, if◌then◌else◌, string_bytes, option_to_list};
 ghost use Rattle.std.specs.BTreeMap.{get_by_text};
-ghost use Rattle.std.specs.List.{list_all, filter_map, AllByRecursion};
-ghost use Rattle.smk_base.specs.Path.{is_path};
+ghost use Rattle.std.specs.List.{filter_map};
 ghost use Rattle.smk_world.specs.Trees.{Path};
 ghost use Rattle.smk_flow.specs.Flows.{Flow, Candidate};
-ghost use Rattle.smk_choose.specs.Choose.{Sources as Which, Source, Make, choose};
+ghost use Rattle.smk_choose.specs.Choose.{Sources as Which, Source, choose};
 ghost use Rattle.smk_choose.specs.Told.{making as making_of};
-ghost use Rattle.smk_chain.specs.Derive.{Listings as Lists, wants};
-ghost use Rattle.smk_choose_wants.specs.Wants.{ArePlaces, IsChosen, want_of};
-ghost use Rattle.smk_chain_walk.specs.Numbers.{place_of, has, added};
+ghost use Rattle.smk_chain.specs.Derive.{Listings as Lists};
+ghost use Rattle.smk_choose_wants.specs.Wants.{IsChosen};
+ghost use Rattle.smk_chain_walk.specs.Numbers.{place_of, added};
 ghost use Rattle.smk_chain_walk.specs.Once.{one_added, all_once, IsSeen};
 ghost use Rattle.smk_chain_walk.specs.Stepping.{text_in};
-ghost use Rattle.smk_chain_walk.specs.Steps.{is_done, number_done, told_also, refused_for, called_for, Holds, Keeps};
+ghost use Rattle.smk_chain_walk.specs.Steps.{is_done, number_done, told_also, Holds, IsServed, Keeps, MayClose};
+ghost use Rattle.smk_chain_walk.specs.Queries.{IsGuided};
 
 use crate::keys::key_of;
+use crate::query::Query;
 use smk_base::{List, OutOfMemory, PathText};
-use smk_chain::{ChainFault, Listings, Maker};
+use smk_chain::{ChainFault, Maker};
 use smk_choose::Making;
-use smk_choose_wants::{Places, Want, job_of};
-use smk_flow::{Job, Workflow};
+use smk_choose_wants::{Want, job_of};
+use smk_flow::Job;
 use std::alloc::Global;
 use std::collections::{BTreeMap, BTreeSet};
 
@@ -145,26 +146,22 @@ impl Reached {
     fn put(
         &mut self,
         alloc: Global,
-        flow: &Workflow,
-        lists: &Listings,
-        places: &Places,
+        query: &Query<'_>,
         making: &Making,
         wanted: &[Want],
     ) -> Result<u32, OutOfMemory>
-        requires places { ArePlaces lists.now places.now }
-        requires chosen { IsChosen flow.now making.now }
+        requires guide { IsGuided query.now }
+        requires chosen { IsChosen query.now.flow.now making.now }
         ensures done { (q : Path) → get_by_text self.new.done q ≡ get_by_text self.old.done q }
-        ensures put { (sources : Which) (p : Path) (c : Candidate) (cs : Items Candidate) → choose flow.now sources p ≡ Make c → making.now ≡ making_of c
-            → wanted.now ≡ map want_of (wants flow.now lists.now c)
-            → list_all is_path (wants flow.now lists.now c) ≡ true → AllByRecursion (λ w. is_done self.old w ≡ true) (wants flow.now lists.now c)
-            → Holds flow.now sources lists.now self.old cs
-            → IfOk result (λ number. Holds flow.now sources lists.now self.new (added cs c) × (place_of (added cs c) (making_of c) ≡ Some number)) }
+        ensures put { (S : Which) (p : Path) (c : Candidate) (cs : Items Candidate)
+            → IsServed query.now.flow.now S query.now.lists.now self.old p making.now wanted.now c → Holds query.now.flow.now S query.now.lists.now self.old cs
+            → IfOk result (λ number. Holds query.now.flow.now S query.now.lists.now self.new (added cs c) × (place_of (added cs c) (making_of c) ≡ Some number)) }
     {
         let key = key_of(alloc, making)?;
         if let Some(number) = self.numbers.get(key.as_str()) {
             return Ok(*number);
         }
-        let job = job_of(alloc, flow, lists, places, making)?;
+        let job = job_of(alloc, query.flow, query.lists, &query.guide.places, making)?;
         let befores = self.numbers_of(alloc, wanted)?;
         self.push(key, job, befores)
     }
@@ -173,26 +170,20 @@ impl Reached {
     pub(crate) fn settle(
         &mut self,
         alloc: Global,
-        flow: &Workflow,
-        lists: &Listings,
-        places: &Places,
+        query: &Query<'_>,
         path: &PathText,
         making: &Making,
         wanted: &[Want],
     ) -> Result<(), ChainFault>
-        requires places { ArePlaces lists.now places.now }
-        requires chosen { IsChosen flow.now making.now }
+        requires guide { IsGuided query.now }
+        requires chosen { IsChosen query.now.flow.now making.now }
         ensures memory { IfErr result (λ fault. fault ≡ ChainFault.OutOfMemory) }
         ensures done { OnOk result (is_done self.new path.now ≡ true) }
         ensures keeps { OnOk result (Keeps self.old self.new) }
-        ensures settled { (sources : Which) (c : Candidate) (cs : Items Candidate) → choose flow.now sources path.now ≡ Make c → making.now ≡ making_of c
-            → wanted.now ≡ map want_of (wants flow.now lists.now c)
-            → list_all is_path (wants flow.now lists.now c) ≡ true → AllByRecursion (λ w. is_done self.old w ≡ true) (wants flow.now lists.now c)
-            → refused_for flow.now sources lists.now path.now ≡ []
-            → AllByRecursion (λ d. has (added cs c) d ≡ true) (called_for flow.now sources lists.now path.now)
-            → Holds flow.now sources lists.now self.old cs → OnOk result (Holds flow.now sources lists.now self.new (added cs c)) }
+        ensures settled { (S : Which) (c : Candidate) (cs : Items Candidate) → IsServed query.now.flow.now S query.now.lists.now self.old path.now making.now wanted.now c
+            → MayClose query.now.flow.now S query.now.lists.now self.old path.now c cs → OnOk result (Holds query.now.flow.now S query.now.lists.now self.new (added cs c)) }
     {
-        let number = self.put(alloc, flow, lists, places, making, wanted)?;
+        let number = self.put(alloc, query, making, wanted)?;
         self.note(alloc, path, Some(number))?;
         Ok(())
     }

@@ -1,21 +1,19 @@
 //! The walk from the targets.
 
-ghost use Rattle.std.specs.Prelude.{◌≡◌, ◌≤◌, ◌+◌, [], ℕ, false, true, IfOk, IfErr, ◌==◌};
+ghost use Rattle.std.specs.Prelude.{◌≡◌, ◌≤◌, ◌+◌, [], false, IfOk, IfErr, ◌==◌};
 ghost use Rattle.std.specs.List.{flat_map, AllByRecursion};
-ghost use Rattle.smk_base.specs.Path.{is_path};
-ghost use Rattle.smk_choose.specs.Told.{told_by, CoversAll, Covers};
+ghost use Rattle.smk_choose.specs.Told.{told_by, CoversAll};
 ghost use Rattle.smk_chain.specs.Derive.{height, refused, jobs};
 ghost use Rattle.smk_chain.specs.declared.jobs.Jobs.{Jobs as Made};
 ghost use Rattle.smk_chain.specs.Told.{TellsFirst};
-ghost use Rattle.smk_choose_wants.specs.Wants.{want_of};
 ghost use Rattle.smk_choose_wants.specs.Guides.{IsGuide};
-ghost use Rattle.smk_chain_walk.specs.Folders.{AreFolders};
-ghost use Rattle.smk_chain_walk.specs.Links.{AreLinked};
+ghost use Rattle.smk_chain_walk.specs.Links.{AreLinked, IsWalk};
 ghost use Rattle.smk_chain_walk.specs.Stepping.{IsWanted};
-ghost use Rattle.smk_chain_walk.specs.Steps.{Fits, Walked};
+ghost use Rattle.smk_chain_walk.specs.Queries.{HasFolders, HasWalked, IsGuided, IsShallow, IsTabled};
 
 use crate::faults;
 use crate::folders::Folders;
+use crate::query::Query;
 use crate::reached::Reached;
 use crate::stepping::{Step, begun, inner};
 use smk_base::{List, PathText};
@@ -45,53 +43,43 @@ fn wanted_in<'w>(
 // nothing. From the path lead chains of at most `depth` jobs, and the table has the choices for them.
 fn visit(
     alloc: Global,
-    flow: &Workflow,
-    sources: &Sources,
-    lists: &Listings,
+    query: &Query<'_>,
     folders: &Folders<'_>,
     table: &Choices,
     reached: &mut Reached,
     depth: u32,
     path: &PathText,
 ) -> Result<(), ChainFault>
-    requires folders { AreFolders flow.now lists.now folders.now }
+    requires guide { IsGuided query.now }
+    requires folders { HasFolders query.now folders.now }
     requires few { depth ≤ 200 }
-    requires fits { Fits flow.now (told_by sources.now) lists.now depth path.now }
-    requires covers { Covers flow.now (told_by sources.now) table.now (depth + 1) path.now }
-    ensures { Walked flow.now (told_by sources.now) lists.now reached.old reached.new path.now result }
+    requires fits { IsShallow query.now depth path.now }
+    requires covers { IsTabled query.now table.now (depth + 1) path.now }
+    ensures { HasWalked query.now reached.old reached.new path.now result }
 {
     if reached.is_done(path) {
         return Ok(());
     }
-    let Some(step) = begun(alloc, flow, sources, lists, folders, table, path)? else {
+    let Some(step) = begun(
+        alloc,
+        query.flow,
+        query.sources,
+        query.lists,
+        folders,
+        table,
+        path,
+    )?
+    else {
         return reached.note_source(alloc, path);
     };
     let Step { making, wants, own } = step;
     let rule = making.rule;
     let table = inner(&own, table);
     for want in wants.as_slice() {
-        let wanted = wanted_in(alloc, flow, path, rule, want)?;
-        visit(
-            alloc,
-            flow,
-            sources,
-            lists,
-            folders,
-            table,
-            reached,
-            depth - 1,
-            wanted,
-        )?;
+        let wanted = wanted_in(alloc, query.flow, path, rule, want)?;
+        visit(alloc, query, folders, table, reached, depth - 1, wanted)?;
     }
-    reached.settle(
-        alloc,
-        flow,
-        lists,
-        &folders.guide.places,
-        path,
-        making,
-        wants.as_slice(),
-    )
+    reached.settle(alloc, query, path, making, wants.as_slice())
 }
 
 // Walks from each target.
@@ -113,20 +101,16 @@ fn visit_all(
         → AreLinked flow.now (told_by sources.now) lists.now targets.now made) }
     ensures fault { IfErr result (TellsFirst flow.now (flat_map (refused flow.now (told_by sources.now) lists.now 201) targets.now)) }
 {
+    let query = Query {
+        flow,
+        sources,
+        lists,
+        guide,
+    };
     let folders = Folders::of(alloc, lists, guide)?;
     let mut reached = Reached::new(alloc);
     for target in targets.as_slice() {
-        visit(
-            alloc,
-            flow,
-            sources,
-            lists,
-            &folders,
-            table,
-            &mut reached,
-            200,
-            target,
-        )?;
+        visit(alloc, &query, &folders, table, &mut reached, 200, target)?;
     }
     Ok(reached)
 }
@@ -150,10 +134,7 @@ pub fn walk(
     requires guide { IsGuide flow.now lists guide.now }
     requires covered { CoversAll flow.now (told_by sources.now) table.now 201 targets.now }
     requires shallow { AllByRecursion (λ t. (height flow.now (told_by sources.now) lists 201 t == 201) ≡ false) targets.now }
-    ensures none { IfOk result (λ made. flat_map (refused flow.now (told_by sources.now) lists 201) targets.now ≡ []) }
-    ensures jobs { IfOk result (λ made. made.jobs ≡ jobs flow.now (told_by sources.now) lists targets.now) }
-    ensures links { IfOk result (AreLinked flow.now (told_by sources.now) lists targets.now) }
-    ensures lists { IfOk result (λ made. made.lists ≡ lists) }
+    ensures walked { IfOk result (IsWalk flow.now (told_by sources.now) lists targets.now) }
     ensures fault { IfErr result (TellsFirst flow.now (flat_map (refused flow.now (told_by sources.now) lists 201) targets.now)) }
 {
     let reached = visit_all(alloc, flow, sources, &lists, guide, table, targets)?;

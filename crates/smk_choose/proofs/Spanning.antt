@@ -116,6 +116,10 @@ flags_more sources old new node known pushed same flag n lt = ⊎_elim
     paths n = ap (λ v. sources.is (path_at v.items n)) (sym same)
 
 -- what holds of a success for two reasons
+pub on_one : {A E : Type 0} (r : Result A E) (P Q : Type 0) → (P → Q) → OnOk r P → OnOk r Q
+on_one (Ok x) P Q f p = f p
+on_one (Err e) P Q f p = tt
+
 pub on_both : {A E : Type 0} (r : Result A E) (P Q R : Type 0) → (P → Q → R) → OnOk r P → OnOk r Q → OnOk r R
 on_both (Ok x) P Q R f p q = f p q
 on_both (Err e) P Q R f p q = tt

@@ -83,6 +83,16 @@ pub record Grows (old new : Reach) : Type 0 where
 abbrev pub AreNodes : Flow → Sources → Reach → Type 0
 AreNodes flow sources r = (n : ℕ) → n < length r.nodes.items → IsNode flow sources r.paths.items (node_at r.nodes.items n) (path_at r.paths.items n)
 
+-- each number stands for a path, and what is known of the first paths is so
+pub record IsReach (flow : Flow) (sources : Sources) (r : Reach) : Type 0 where
+  pub numbered : AreNumbered r
+  pub nodes : AreNodes flow sources r
+
+-- paths and nodes were added, and each number stands for a path
+pub record HasGrown (old new : Reach) : Type 0 where
+  pub numbered : AreNumbered new
+  pub grows : Grows old new
+
 -- the paths among these wants
 abbrev pub AllPaths : (ℕ → Type 0) → List Want → Type 0
 AllPaths P [] = Unit {0}

@@ -10,7 +10,7 @@ ghost use Rattle.smk_choose.specs.Told.{told_by, making};
 ghost use Rattle.smk_choose.specs.Index.{AreReadings};
 ghost use Rattle.smk_choose.specs.Readings.{filled_by};
 ghost use Rattle.smk_choose.specs.declared.nodes.Want.{Want};
-ghost use Rattle.smk_choose.specs.Reach.{AreNumbered, Grows, HasNumber, Within, path_at, IsWant, AreWants, shapes_in, IsMade, AreMade, IsNode, AreNodes, AreFlagged, Spans};
+ghost use Rattle.smk_choose.specs.Reach.{AreNumbered, Grows, HasNumber, Within, path_at, IsWant, AreWants, shapes_in, IsMade, AreMade, IsNode, AreNodes, AreFlagged, Spans, IsReach, HasGrown};
 
 use crate::candidates::{candidates, filled};
 use crate::heights::least_heights;
@@ -254,11 +254,9 @@ pub(crate) fn expand(
     reach: &mut Reach,
     levels: u32,
 ) -> Result<(), OutOfMemory>
-    requires numbered { AreNumbered reach.old }
     requires readings { AreReadings flow.now readings.now }
-    requires known { AreNodes flow.now (told_by sources.now) reach.old }
-    ensures numbered { OnOk result (AreNumbered reach.new) }
-    ensures grows { OnOk result (Grows reach.old reach.new) }
+    requires reach { IsReach flow.now (told_by sources.now) reach.old }
+    ensures grown { OnOk result (HasGrown reach.old reach.new) }
     ensures spans { OnOk result ((n : ℕ) → n < length reach.old.paths.items → Spans flow.now (told_by sources.now) reach.new levels n) }
     ensures count { OnOk result (length reach.old.paths.items ≤ length reach.new.nodes.items) }
 {
@@ -281,11 +279,9 @@ pub(crate) fn deepen(
     reach: &mut Reach,
     levels: u32,
 ) -> Result<usize, OutOfMemory>
-    requires numbered { AreNumbered reach.old }
     requires readings { AreReadings flow.now readings.now }
-    requires known { AreNodes flow.now (told_by sources.now) reach.old }
-    ensures numbered { OnOk result (AreNumbered reach.new) }
-    ensures grows { OnOk result (Grows reach.old reach.new) }
+    requires reach { IsReach flow.now (told_by sources.now) reach.old }
+    ensures grown { OnOk result (HasGrown reach.old reach.new) }
     ensures spans { IfOk result (λ end. (n : ℕ) → n < end → Spans flow.now (told_by sources.now) reach.new 200 n) }
     ensures count { IfOk result (λ end. end ≤ length reach.new.nodes.items) }
     ensures within { IfOk result (λ end. (n : ℕ) → n < length reach.old.paths.items → Within (told_by sources.now) reach.new end levels n) }

@@ -6,7 +6,7 @@ use Rattle.smk_flow.specs.Flows.{Flow}
 use Rattle.smk_flow.specs.Targets.{all_paths}
 use Rattle.smk_flow.proofs.NoFault.{no_fault}
 use Rattle.smk_eval_files.specs.Looks.{Nodes}
-use Rattle.smk_eval.specs.declared.load_fault.LoadFault.{LoadFault}
+use Rattle.smk_flaws.specs.declared.fault.LoadFault.{LoadFault}
 use Rattle.smk_eval.specs.Loading.{loaded, Gives, FailsAs}
 use Rattle.smk_report.specs.declared.fault.Fault.{Fault}
 use Rattle.smk_cli_entry.specs.declared.reading.Reading.{Reading}

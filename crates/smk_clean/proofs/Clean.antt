@@ -44,7 +44,7 @@ use Rattle.smk_words.specs.declared.words.Request.TheVariants.{Run as Asks}
 use Rattle.smk_cli_entry.specs.declared.asking.Asked.{Asked}
 use Rattle.smk_cli_entry.specs.Forms.{unbuilt}
 use Rattle.smk_make.specs.Closing.{verdict_of}
-use Rattle.smk_make.specs.Faults.{of_store}
+use Rattle.smk_report.specs.Faults.{of_store}
 use Rattle.smk_make.specs.Making.{AreWhatIsMeant, Concludes, GoesOn, NotFirm, NoMemory, Made}
 use Rattle.smk_plan_preview.specs.declared.previewing.Previewed.{Previewed}
 use Rattle.smk_plan_preview.specs.Previewing.{plan_of, rules_for}

@@ -1,7 +1,6 @@
 //! The program's one call: it reads words, does what they ask by the workflow of the working folder, and reports.
 #![tactic(auto)]
 
-mod faults;
 mod outcome;
 mod top;
 

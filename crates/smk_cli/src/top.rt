@@ -13,7 +13,6 @@ ghost use Rattle.smk_serve.specs.Serving.{HasListed, Went};
 ghost use Rattle.smk_cli.specs.Lines.{IsOutcome, HasToldFault};
 ghost use Rattle.smk_cli.specs.Whole.{IsRefusal, IsToServe, Serves, HasServed};
 
-use crate::faults::of_words;
 use crate::outcome::Outcome;
 use smk_base::OutOfMemory;
 use smk_cli_entry::ask;
@@ -94,7 +93,7 @@ fn requested(alloc: Global, words: &[String]) -> Result<Request, Fault>
 {
     match read_words(alloc, words) {
         Ok(asked) => Ok(asked),
-        Err(fault) => Err(of_words(fault)),
+        Err(fault) => Err(Fault::from(fault)),
     }
 }
 

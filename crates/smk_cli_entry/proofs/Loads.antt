@@ -1,86 +1,49 @@
--- Faults of loading as those of the call.
-use Rattle.std.proofs.Common.{◌≡◌, false, refl, ap, ◌∙◌}
-use Rattle.smk_eval.specs.declared.load_fault.LoadFault.{LoadFault}
-use Rattle.smk_eval.specs.declared.load_fault.LoadFault.TheVariants as said
-use Rattle.smk_eval.specs.Faults as load
+-- A fault of loading that `?` carries on as one of the call.
+use Rattle.std.proofs.Common.{◌≡◌, List, [], ℕ, true, false, Result, Ok, Err, refl, ap, sym, subst, ◌∙◌}
+use Rattle.std.specs.Prelude.{IfErr, IsErrAnd}
+use Rattle.smk_flaws.specs.declared.fault.LoadFault.{LoadFault}
+use Rattle.smk_flaws.specs.declared.fault.LoadFault.TheVariants as load
+use Rattle.smk_base.specs.declared.tree.Pair.{Pair}
+use Rattle.smk_eval_files.specs.Looks.{Nodes}
+use Rattle.smk_eval.specs.Faults as loading
+use Rattle.smk_eval.specs.Loading.{loaded, Gives}
 use Rattle.smk_report.specs.declared.fault.Fault.{Fault}
-use Rattle.smk_cli_entry.specs.Faults.{is_told, is_device, is_sink, of_load}
+use Rattle.smk_report.specs.Faults.{of_load}
+use Rattle.smk_cli_entry.specs.declared.reading.Reading.{Reading}
+use Rattle.smk_cli_entry.specs.Faults.{is_told, is_device, is_sink, device_failed}
+use Rattle.smk_cli_entry.specs.Entry.{IsReadIn}
 
-pub same_device : (f : LoadFault) → load.is_device f ≡ is_device (of_load f)
-same_device (said.BadIndent a b) = refl
-same_device (said.OpenText a b) = refl
-same_device (said.BadByte a b) = refl
-same_device (said.Unexpected a b) = refl
-same_device (said.Unsupported a b c) = refl
-same_device (said.Doubled a b c) = refl
-same_device (said.BadPattern a b c) = refl
-same_device (said.BadConstraint a b c) = refl
-same_device (said.DoubledRule a b c) = refl
-same_device (said.UnequalWildcards a b c) = refl
-same_device (said.UnknownWildcard a b c d) = refl
-same_device (said.BadFlag a b c d) = refl
-same_device (said.BadConfig a b) = refl
-same_device (said.NoKey a b c) = refl
-same_device (said.UnknownName a b c) = refl
-same_device (said.UnequalZip a b) = refl
-same_device (said.TooMany a b) = refl
-same_device (said.IncludeDepth a) = refl
-same_device (said.ContradictoryOrder a b) = refl
-same_device (said.NoFile a) = refl
-same_device (said.TooBig a) = refl
-same_device said.Device = refl
-same_device said.OutOfMemory = refl
+pub same_device : (f : LoadFault) → loading.is_device f ≡ is_device (of_load f)
+same_device (load.Flawed flaw) = refl
+same_device load.Device = refl
+same_device load.OutOfMemory = refl
 
-pub same_told : (f : LoadFault) → is_told (of_load f) ≡ load.is_told f
-same_told (said.BadIndent a b) = refl
-same_told (said.OpenText a b) = refl
-same_told (said.BadByte a b) = refl
-same_told (said.Unexpected a b) = refl
-same_told (said.Unsupported a b c) = refl
-same_told (said.Doubled a b c) = refl
-same_told (said.BadPattern a b c) = refl
-same_told (said.BadConstraint a b c) = refl
-same_told (said.DoubledRule a b c) = refl
-same_told (said.UnequalWildcards a b c) = refl
-same_told (said.UnknownWildcard a b c d) = refl
-same_told (said.BadFlag a b c d) = refl
-same_told (said.BadConfig a b) = refl
-same_told (said.NoKey a b c) = refl
-same_told (said.UnknownName a b c) = refl
-same_told (said.UnequalZip a b) = refl
-same_told (said.TooMany a b) = refl
-same_told (said.IncludeDepth a) = refl
-same_told (said.ContradictoryOrder a b) = refl
-same_told (said.NoFile a) = refl
-same_told (said.TooBig a) = refl
-same_told said.Device = refl
-same_told said.OutOfMemory = refl
+pub same_told : (f : LoadFault) → is_told (of_load f) ≡ loading.is_told f
+same_told (load.Flawed flaw) = refl
+same_told load.Device = refl
+same_told load.OutOfMemory = refl
 
 -- no fault of a sink
 pub no_sink_of : (f : LoadFault) → is_sink (of_load f) ≡ false
-no_sink_of (said.BadIndent a b) = refl
-no_sink_of (said.OpenText a b) = refl
-no_sink_of (said.BadByte a b) = refl
-no_sink_of (said.Unexpected a b) = refl
-no_sink_of (said.Unsupported a b c) = refl
-no_sink_of (said.Doubled a b c) = refl
-no_sink_of (said.BadPattern a b c) = refl
-no_sink_of (said.BadConstraint a b c) = refl
-no_sink_of (said.DoubledRule a b c) = refl
-no_sink_of (said.UnequalWildcards a b c) = refl
-no_sink_of (said.UnknownWildcard a b c d) = refl
-no_sink_of (said.BadFlag a b c d) = refl
-no_sink_of (said.BadConfig a b) = refl
-no_sink_of (said.NoKey a b c) = refl
-no_sink_of (said.UnknownName a b c) = refl
-no_sink_of (said.UnequalZip a b) = refl
-no_sink_of (said.TooMany a b) = refl
-no_sink_of (said.IncludeDepth a) = refl
-no_sink_of (said.ContradictoryOrder a b) = refl
-no_sink_of (said.NoFile a) = refl
-no_sink_of (said.TooBig a) = refl
-no_sink_of said.Device = refl
-no_sink_of said.OutOfMemory = refl
+no_sink_of (load.Flawed flaw) = refl
+no_sink_of load.Device = refl
+no_sink_of load.OutOfMemory = refl
 
 pub load_no_sink : (f : LoadFault) (g : Fault) → g ≡ of_load f → is_sink g ≡ false
 load_no_sink f g is = ap is_sink is ∙ no_sink_of f
+
+pub carried_no_sink : {A : Type 0} (e : LoadFault) (s : Result A Fault) → IsErrAnd s (λ f. f ≡ of_load e) → IfErr s (λ f. is_sink f ≡ false)
+carried_no_sink e (Ok a) is = absurd is
+carried_no_sink e (Err f) is = load_no_sink e f is
+
+-- the device failed in the one exactly where it did in the other
+pub carried_device : {B : Type 0} (e : LoadFault) (s : Result B Fault) → IsErrAnd s (λ f. f ≡ of_load e) → loading.is_device e ≡ device_failed s
+carried_device e (Ok b) is = absurd is
+carried_device e (Err f) is = same_device e ∙ ap is_device (sym is)
+
+-- a refusal is that of the file's workflow, with nothing set
+pub carried_refusal : (nodes : Nodes) (file : List ℕ) (sets : List Pair) (e : LoadFault) (s : Result Reading Fault) → sets ≡ [] → IsErrAnd s (λ f. f ≡ of_load e)
+    → Gives (loaded nodes file sets) (Err e) → IsReadIn nodes file s
+carried_refusal nodes file sets e (Ok reading) none is h = absurd is
+carried_refusal nodes file sets e (Err f) none is h = λ told.
+    (e, sym (same_told e) ∙ ap is_told (sym is) ∙ told, subst (λ (x : List Pair). Gives (loaded nodes file x) (Err e)) none h, is)

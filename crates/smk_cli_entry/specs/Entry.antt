@@ -4,14 +4,15 @@ use Rattle.smk_world.specs.Trees.{Path}
 use Rattle.smk_pattern.specs.Shapes.{Text}
 use Rattle.smk_flow.specs.Targets.{words_of, all_paths, first_bad}
 use Rattle.smk_eval_files.specs.Looks.{Nodes}
-use Rattle.smk_eval.specs.declared.load_fault.LoadFault.{LoadFault}
+use Rattle.smk_flaws.specs.declared.fault.LoadFault.{LoadFault}
 use Rattle.smk_eval.specs.Faults as load
 use Rattle.smk_eval.specs.Loading.{loaded, Gives}
 use Rattle.smk_report.specs.declared.fault.Fault.{Fault}
 use Rattle.smk_report.specs.declared.fault.Fault.TheVariants.{BadTarget}
+use Rattle.smk_report.specs.Faults.{of_load}
 use Rattle.smk_cli_entry.specs.declared.reading.Reading.{Reading}
 use Rattle.smk_cli_entry.specs.declared.asking.Asked.{Asked}
-use Rattle.smk_cli_entry.specs.Faults.{is_told, of_load}
+use Rattle.smk_cli_entry.specs.Faults.{is_told}
 use Rattle.smk_cli_entry.specs.Forms.{unbuilt_for, not_built, or_else}
 use Rattle.smk_cli_entry.specs.Names.{workflow_file}
 

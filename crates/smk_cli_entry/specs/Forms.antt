@@ -8,8 +8,10 @@ use Rattle.smk_flow.specs.declared.rule.OutPart.{OutPart}
 use Rattle.smk_flow.specs.declared.rule.FlaggedText.{FlaggedText}
 use Rattle.smk_flow.specs.declared.rule.Flag.{Flag}
 use Rattle.smk_flow.specs.declared.rule.Flag.TheVariants.{Temp, Protected, Folder}
+use Rattle.smk_flaws.specs.declared.flaw.FileFlaw.TheVariants.{Unsupported}
+use Rattle.smk_flaws.specs.declared.flaw.Flaw.TheVariants.{File}
 use Rattle.smk_report.specs.declared.fault.Fault.{Fault}
-use Rattle.smk_report.specs.declared.fault.Fault.TheVariants as fault
+use Rattle.smk_report.specs.declared.fault.Fault.TheVariants.{Workflow}
 
 -- the first of two
 abbrev pub or_else : {A : Type 0} → Option A → Option A → Option A
@@ -53,4 +55,4 @@ unbuilt_for run parts = if run then unbuilt parts else None
 
 -- the fault of such a form, in the workflow of this file
 abbrev pub not_built : Path → Text → Fault
-not_built file word = fault.Unsupported file 1 word
+not_built file word = Workflow (File (Unsupported file 1 word))

@@ -6,8 +6,10 @@ use Rattle.smk_world.specs.declared.event.Stat.TheVariants.{Nothing, File, Folde
 use Rattle.smk_world.specs.Calls.{stat_of}
 use Rattle.smk_world.specs.Trees.{Path}
 use Rattle.smk_eval_files.specs.Looks.{Nodes, at}
+use Rattle.smk_flaws.specs.declared.flaw.FileFlaw.TheVariants.{NoFile}
+use Rattle.smk_flaws.specs.declared.flaw.Flaw.TheVariants as flaw
 use Rattle.smk_report.specs.declared.fault.Fault.{Fault}
-use Rattle.smk_report.specs.declared.fault.Fault.TheVariants.{NoFile}
+use Rattle.smk_report.specs.declared.fault.Fault.TheVariants.{Workflow}
 
 abbrev pub is_file : Stat → Bool
 is_file Nothing = false
@@ -36,7 +38,7 @@ abbrev pub first_file : Nodes → List Path → Option Path
 first_file nodes names = find (is_file_at nodes) names
 
 abbrev pub or_no_file : Option Path → Result Path Fault
-or_no_file None = Err (NoFile (codes "Snakefile"))
+or_no_file None = Err (Workflow (flaw.File (NoFile (codes "Snakefile"))))
 or_no_file (Some p) = Ok p
 
 -- the file with the workflow

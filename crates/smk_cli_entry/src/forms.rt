@@ -5,6 +5,7 @@ ghost use Rattle.smk_flow.specs.Numbers.{parts_of};
 ghost use Rattle.smk_cli_entry.specs.Forms as spec;
 
 use smk_base::{OutOfMemory, PathText, Text};
+use smk_flaws::{FileFlaw, Flaw};
 use smk_flow::{Flag, FlaggedText, InPart, OutPart, Rule, RulePart};
 use smk_report::Fault;
 use std::alloc::Global;
@@ -101,9 +102,9 @@ pub(crate) fn unbuilt(rules: &[Rule]) -> Option<&'static str>
 pub(crate) fn not_built(alloc: Global, file: &PathText, word: &str) -> Result<Fault, OutOfMemory>
     ensures { IfOk result (λ fault. fault ≡ spec.not_built file.now word.now) }
 {
-    Ok(Fault::Unsupported {
+    Ok(Fault::Workflow(Flaw::File(FileFlaw::Unsupported {
         file: Text::of(alloc, file.as_str())?,
         line: 1,
         word: Text::of(alloc, word)?,
-    })
+    })))
 }

@@ -2,7 +2,6 @@
 #![tactic(auto)]
 
 mod asking;
-mod faults;
 mod forms;
 mod naming;
 mod reading;

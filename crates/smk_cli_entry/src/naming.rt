@@ -10,6 +10,7 @@ ghost use Rattle.smk_cli_entry.specs.Forms.{or_else};
 ghost use Rattle.smk_cli_entry.specs.Names as spec;
 
 use smk_base::{PathFault, PathText, Place, Text};
+use smk_flaws::{FileFlaw, Flaw};
 use smk_report::Fault;
 use smk_world::{Failed, Files, Stat};
 use std::alloc::Global;
@@ -144,9 +145,9 @@ fn or_no_file(alloc: Global, found: Option<PathText>) -> Result<PathText, Fault>
 {
     match found {
         Some(path) => Ok(path),
-        None => Err(Fault::NoFile {
+        None => Err(Fault::Workflow(Flaw::File(FileFlaw::NoFile {
             file: Text::of(alloc, "Snakefile")?,
-        }),
+        }))),
     }
 }
 

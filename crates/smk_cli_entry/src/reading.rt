@@ -5,7 +5,6 @@ ghost use Rattle.smk_world.specs.Devices.{WhereTold, HasLooked};
 ghost use Rattle.smk_cli_entry.specs.Faults.{device_failed, is_sink};
 ghost use Rattle.smk_cli_entry.specs.Entry as spec;
 
-use crate::faults::of_load;
 use crate::naming::workflow_file;
 use smk_base::{List, PathText};
 use smk_eval::load;
@@ -22,24 +21,21 @@ pub struct Reading {
 }
 
 // The workflow of the file.
-#[tactic(auto, using(crate::proofs::Loads::load_no_sink))]
 fn read_in<W: Files>(alloc: Global, work: &mut W, file: PathText) -> Result<Reading, Fault>
     requires none_runs { (W.device work.old).running ≡ [] }
     ensures looked { HasLooked W.act (W.device work.old) (W.device work.new) (device_failed result) }
     ensures told { WhereTold (W.device work.old) (λ w. spec.IsReadIn w.nodes file result) }
     ensures no_sink { IfErr result (λ f. is_sink f ≡ false) }
 {
-    match load(alloc, work, &file, &List::new(alloc)) {
-        Err(fault) => Err(of_load(fault)),
-        Ok(flow) => Ok(Reading { file, flow }),
-    }
+    let flow = load(alloc, work, &file, &List::new(alloc))?;
+    Ok(Reading { file, flow })
 }
 
 /// The workflow of the folder, from the first of its files that is there. Nothing in the folder changes. No child may run.
 ///
 /// The faults are `NoFile` of `Snakefile` where there is no such file, and then those of reading the file, its includes and
 /// its configurations: for each file, depth first, `NoFile`, `TooBig`, `IncludeDepth` and those of its tokens and its grammar; for each
-/// configuration, in order, `NoFile`, `TooBig` and `BadConfig` with an empty key; those of the statements, in order; those of the rules; those of
+/// configuration, in order, `NoFile`, `TooBig` and `BadConfig`; those of the statements, in order; those of the rules; those of
 /// the clauses. `Device` comes where the device failed, `OutOfMemory` where there is no memory for the workflow.
 pub fn read_workflow<W: Files>(alloc: Global, work: &mut W) -> Result<Reading, Fault>
     requires none_runs { (W.device work.old).running ≡ [] }

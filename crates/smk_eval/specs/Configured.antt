@@ -3,7 +3,7 @@ use Rattle.std.specs.Prelude.{◌≡◌, true, Result, Ok, Err}
 use Rattle.serde_json.specs.Data.{Members}
 use Rattle.smk_config.specs.declared.config.Config.{Config}
 use Rattle.smk_config.specs.Settings.{members}
-use Rattle.smk_eval.specs.declared.load_fault.LoadFault.{LoadFault}
+use Rattle.smk_flaws.specs.declared.fault.LoadFault.{LoadFault}
 use Rattle.smk_eval.specs.Faults.{is_told}
 
 -- The answer is what is meant, unless the device failed or memory was short.

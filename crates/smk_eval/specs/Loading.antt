@@ -14,11 +14,14 @@ use Rattle.smk_eval_files.specs.declared.files.ReadFile.{ReadFile}
 use Rattle.smk_eval_files.specs.Texts.{Entry, whole}
 use Rattle.smk_eval_files.specs.Looks.{Nodes}
 use Rattle.smk_eval_files.specs.Reading.{bytes_at, files_at}
-use Rattle.smk_eval.specs.declared.fault.EvalFault.{EvalFault}
+use Rattle.smk_flaws.specs.declared.flaw.FileFlaw.TheVariants.{NoFile}
+use Rattle.smk_flaws.specs.declared.flaw.Flaw.TheVariants.{File, BadConfig}
+use Rattle.smk_flaws.specs.declared.fault.EvalFault.{EvalFault}
+use Rattle.smk_flaws.specs.declared.fault.LoadFault.{LoadFault}
+use Rattle.smk_flaws.specs.declared.fault.LoadFault.TheVariants.{Flawed}
+use Rattle.smk_flaws.specs.Faults.{of_eval}
 use Rattle.smk_eval.specs.Statements.{evaluated, FailsChecks}
-use Rattle.smk_eval.specs.declared.load_fault.LoadFault.{LoadFault}
-use Rattle.smk_eval.specs.declared.load_fault.LoadFault.TheVariants.{NoFile, BadConfig}
-use Rattle.smk_eval.specs.Faults.{and_then, from_files, from_said, of_eval, is_told}
+use Rattle.smk_eval.specs.Faults.{and_then, from_files, from_said, is_told}
 
 -- ## Configurations
 
@@ -37,7 +40,7 @@ abbrev pub config_files : List Entry → List (List ℕ)
 config_files = flat_map (λ (e : Entry). config_of e.statement.form)
 
 abbrev pub object_or : List ℕ → Option Members → Result Members LoadFault
-object_or file None = Err (BadConfig file [])
+object_or file None = Err (Flawed (BadConfig file))
 object_or file (Some members) = Ok members
 
 -- the configuration that the bytes of a file are
@@ -46,7 +49,7 @@ config_in file source = object_or file (if is_utf8 source then configured source
 
 -- the path from the working folder that a text names
 abbrev pub config_path : List ℕ → Result (List ℕ) LoadFault
-config_path t = if is_path t then Ok t else Err (NoFile t)
+config_path t = if is_path t then Ok t else Err (Flawed (File (NoFile t)))
 
 -- the configuration in the file at this path
 abbrev pub config_file : Nodes → List ℕ → Result Members LoadFault

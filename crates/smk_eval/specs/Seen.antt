@@ -3,8 +3,8 @@ use Rattle.std.specs.Prelude.{◌≡◌, ◌≢◌, Result, Ok, Err}
 use Rattle.smk_flow.specs.Flows.{Flow}
 use Rattle.smk_eval.specs.declared.state.State.{State}
 use Rattle.smk_eval.specs.declared.state.Said.{Said}
-use Rattle.smk_eval.specs.declared.fault.EvalFault.{EvalFault}
-use Rattle.smk_eval.specs.declared.fault.EvalFault.TheVariants.{OutOfMemory}
+use Rattle.smk_flaws.specs.declared.fault.EvalFault.{EvalFault}
+use Rattle.smk_flaws.specs.declared.fault.EvalFault.TheVariants.{OutOfMemory}
 use Rattle.smk_eval.specs.Statements as spec
 use Rattle.smk_eval.specs.Kept.{kept}
 

@@ -15,15 +15,16 @@ use Rattle.smk_eval_values.specs.Expressions.{Scope, Valued, value_in}
 use Rattle.smk_flow.specs.declared.rule.RulePart.{RulePart}
 use Rattle.smk_flow.specs.declared.rule.Clause.{Clause}
 use Rattle.smk_flow.specs.declared.fault.FlowFault.{FlowFault}
-use Rattle.smk_flow.specs.declared.fault.FlowFault.TheVariants as of_rules
 use Rattle.smk_flow.specs.Flows.{Flow}
 use Rattle.smk_flow.specs.Checks.{rule_in, IsWorkflow, IsFault}
 use Rattle.smk_eval_rules.specs.Rules.{rule_of, global_limits, with_globals}
 use Rattle.smk_eval_rules.specs.Outputs.{outputs_of}
 use Rattle.smk_eval_files.specs.declared.files.ReadFile.{ReadFile}
 use Rattle.smk_eval_files.specs.Texts.{Entry, whole}
-use Rattle.smk_eval.specs.declared.fault.EvalFault.{EvalFault}
-use Rattle.smk_eval.specs.declared.fault.EvalFault.TheVariants as fault
+use Rattle.smk_flaws.specs.declared.flaw.SaidFlaw.TheVariants as flaw
+use Rattle.smk_flaws.specs.declared.fault.EvalFault.{EvalFault}
+use Rattle.smk_flaws.specs.declared.fault.EvalFault.TheVariants as fault
+use Rattle.smk_flaws.specs.Faults.{of_flow}
 use Rattle.smk_eval.specs.Settings.{config_value}
 
 abbrev pub and_then : {A B : Type 0} → Result A EvalFault → (A → Result B EvalFault) → Result B EvalFault
@@ -60,13 +61,8 @@ scope config s =
 
 -- the fault of a statement, which stands in this file and line, and in this rule where it is one
 abbrev pub told : List ℕ → ℕ → List ℕ → ValueFault → EvalFault
-told file line rule (of_value.BadFlag word) = fault.BadFlag file line rule word
-told file line rule (of_value.UnknownName name) = fault.UnknownName file line name
-told file line rule (of_value.NoKey key) = fault.NoKey file line key
-told file line rule (of_value.BadConfig key) = fault.BadConfig [] key
-told file line rule of_value.UnequalZip = fault.UnequalZip file line
-told file line rule of_value.TooMany = fault.TooMany file line
 told file line rule of_value.OutOfMemory = fault.OutOfMemory
+told file line rule f = fault.Flawed (flaw.Value file line rule f)
 
 abbrev pub made : {A : Type 0} → List ℕ → ℕ → List ℕ → Result A ValueFault → (A → State) → Result State EvalFault
 made file line rule (Ok a) now = Ok (now a)
@@ -122,17 +118,6 @@ abbrev pub evaluated : Members → List ReadFile → Result Flow EvalFault
 evaluated config files = and_then (all_stated config begun (whole files)) (λ s. Ok (flow_of s))
 
 -- ## The checked workflow
-
-abbrev pub of_flow : FlowFault → EvalFault
-of_flow (of_rules.DoubledRule file line name) = fault.DoubledRule file line name
-of_flow (of_rules.BadPattern file line t) = fault.BadPattern file line t
-of_flow (of_rules.BadConstraint file line name) = fault.BadConstraint file line name
-of_flow (of_rules.UnequalWildcards file line rule) = fault.UnequalWildcards file line rule
-of_flow (of_rules.UnknownWildcard file line rule name) = fault.UnknownWildcard file line rule name
-of_flow (of_rules.BadFlag file line rule word) = fault.BadFlag file line rule word
-of_flow (of_rules.UnknownName file line name) = fault.UnknownName file line name
-of_flow (of_rules.ContradictoryOrder a b) = fault.ContradictoryOrder a b
-of_flow of_rules.OutOfMemory = fault.OutOfMemory
 
 -- Rules and clauses, where they are said, make no workflow, and this is their first fault.
 abbrev pub FailsChecks : Result Flow EvalFault → EvalFault → Type 0

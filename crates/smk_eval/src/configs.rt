@@ -6,16 +6,16 @@ ghost use Rattle.smk_world.specs.Devices.{WhereTold, HasLooked};
 ghost use Rattle.smk_config.specs.Settings.{members};
 ghost use Rattle.smk_config.specs.Settings as settings;
 ghost use Rattle.smk_eval_files.specs.Placing.{entries};
-ghost use Rattle.smk_eval.specs.declared.load_fault.LoadFault.TheVariants as fault;
+ghost use Rattle.smk_flaws.specs.declared.flaw.Flaw.TheVariants.{BadConfig};
+ghost use Rattle.smk_flaws.specs.declared.fault.LoadFault.TheVariants.{Flawed};
 ghost use Rattle.smk_eval.specs.Faults.{Answers, device_failed};
 ghost use Rattle.smk_eval.specs.Loading as spec;
 ghost use Rattle.smk_eval.specs.Configured.{Configures};
 
-use crate::load_fault::LoadFault;
-use crate::load_faults::of_file;
 use smk_base::{List, OutOfMemory, Pair, PathFault, PathText, Text};
 use smk_config::{Config, ConfigFault};
 use smk_eval_files::{Placed, read_bytes};
+use smk_flaws::{FileFlaw, Flaw, LoadFault};
 use smk_parse_tree::Form;
 use smk_world::Files;
 use std::alloc::Global;
@@ -35,12 +35,11 @@ pub(crate) fn config_files(alloc: Global, text: &[Placed<'_>]) -> Result<List<Te
 
 // The fault of a file that is no configuration.
 fn bad_config(alloc: Global, file: &PathText) -> Result<LoadFault, OutOfMemory>
-    ensures { IfOk result (λ f. f ≡ fault.BadConfig file.now []) }
+    ensures { IfOk result (λ f. f ≡ Flawed (BadConfig file.now)) }
 {
-    Ok(LoadFault::BadConfig {
+    Ok(LoadFault::Flawed(Flaw::BadConfig {
         file: Text::of(alloc, file.as_str())?,
-        key: Text::of(alloc, "")?,
-    })
+    }))
 }
 
 // The configuration that the bytes of the file are.
@@ -63,9 +62,9 @@ fn config_path(alloc: Global, text: &Text) -> Result<PathText, LoadFault>
 {
     match PathText::read(alloc, text.as_str()) {
         Ok(path) => Ok(path),
-        Err(PathFault::BadPath) => Err(LoadFault::NoFile {
+        Err(PathFault::BadPath) => Err(LoadFault::Flawed(Flaw::File(FileFlaw::NoFile {
             file: text.copy(alloc)?,
-        }),
+        }))),
         Err(PathFault::OutOfMemory) => Err(LoadFault::OutOfMemory),
     }
 }
@@ -76,10 +75,8 @@ fn config_file<W: Files>(alloc: Global, work: &mut W, path: &PathText) -> Result
     ensures looked { HasLooked W.act (W.device work.old) (W.device work.new) (device_failed result) }
     ensures told { WhereTold (W.device work.old) (λ w. Configures result (spec.config_file w.nodes path.now)) }
 {
-    match read_bytes(alloc, work, path) {
-        Err(fault) => Err(of_file(fault)),
-        Ok(source) => config_in(alloc, path, source.as_slice()),
-    }
+    let source = read_bytes(alloc, work, path)?;
+    config_in(alloc, path, source.as_slice())
 }
 
 // The configuration in the file of this text.

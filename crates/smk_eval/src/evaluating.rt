@@ -5,12 +5,12 @@ ghost use Rattle.smk_config.specs.Settings.{members};
 ghost use Rattle.smk_flow.specs.Checks.{IsWorkflow, IsFault};
 ghost use Rattle.smk_flow.specs.declared.fault.FlowFault.{FlowFault};
 ghost use Rattle.smk_eval_files.specs.Placing.{entries};
-ghost use Rattle.smk_eval.specs.declared.fault.EvalFault.{EvalFault};
+ghost use Rattle.smk_flaws.specs.declared.fault.EvalFault.{EvalFault};
+ghost use Rattle.smk_flaws.specs.Faults.{of_flow};
 ghost use Rattle.smk_eval.specs.Statements as spec;
 ghost use Rattle.smk_eval.specs.Seen.{state_of, Leads, Says};
 
-use crate::fault::EvalFault;
-use crate::faults::{of_flow, told};
+use crate::faults::told;
 use crate::scope::Known;
 use crate::state::{Said, State};
 use smk_base::{List, PathText, Text};
@@ -18,6 +18,7 @@ use smk_config::Config;
 use smk_eval_files::{Placed, ReadFile, text_of};
 use smk_eval_rules::{global_limits, rule_part};
 use smk_eval_values::value_of;
+use smk_flaws::EvalFault;
 use smk_flow::Workflow;
 use smk_parse_tree::{Expr, Form, ItemForm, RuleForm};
 use std::alloc::Global;
@@ -148,12 +149,9 @@ fn said(alloc: Global, files: &[ReadFile], config: &Config) -> Result<Said, Eval
 #[tactic(auto, using(crate::proofs::Told::known_fault))]
 fn checked(alloc: Global, said: Said) -> Result<Workflow, EvalFault>
     ensures ok { IfOk result (λ flow. (flow ≡ record { rules = said.rules; orders = said.orders }) × IsWorkflow said.rules said.orders) }
-    ensures fault { IfErr result (λ f. f ≢ EvalFault.OutOfMemory → (g : FlowFault) × IsFault said.rules said.orders g × (f ≡ spec.of_flow g)) }
+    ensures fault { IfErr result (λ f. f ≢ EvalFault.OutOfMemory → (g : FlowFault) × IsFault said.rules said.orders g × (f ≡ of_flow g)) }
 {
-    match Workflow::build(alloc, said.rules, said.orders) {
-        Ok(flow) => Ok(flow),
-        Err(fault) => Err(of_flow(fault)),
-    }
+    Ok(Workflow::build(alloc, said.rules, said.orders)?)
 }
 
 /// The workflow that the files say, with this configuration. The first file is the one to begin with; after it come the files of its

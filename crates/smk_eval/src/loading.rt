@@ -10,11 +10,10 @@ ghost use Rattle.smk_eval.specs.Loading as spec;
 
 use crate::configs::{config_files, configs, with_sets};
 use crate::evaluate;
-use crate::load_fault::LoadFault;
-use crate::load_faults::{of_eval, of_file};
 use smk_base::{List, OutOfMemory, Pair, PathText, Text};
 use smk_config::Config;
 use smk_eval_files::{ReadFile, read_files, text_of};
+use smk_flaws::LoadFault;
 use smk_flow::Workflow;
 use smk_world::Files;
 use std::alloc::Global;
@@ -39,10 +38,7 @@ fn evaluated(
     ensures no_device { device_failed result ≡ false }
 {
     let config = with_sets(alloc, config, sets.as_slice())?;
-    match evaluate(alloc, files, &config) {
-        Ok(flow) => Ok(flow),
-        Err(fault) => Err(of_eval(fault)),
-    }
+    Ok(evaluate(alloc, files, &config)?)
 }
 
 // The workflow of files that were read.
@@ -69,7 +65,7 @@ fn said_by<W: Files>(
 /// over earlier ones. Nothing in the folder changes. No child may run.
 ///
 /// The faults come in this order: for each file, depth first, `NoFile`, `TooBig`, `IncludeDepth` and those of its tokens and its grammar;
-/// for each configuration, in order, `NoFile`, `TooBig` and `BadConfig` with an empty key; those of the statements, in order; those of the
+/// for each configuration, in order, `NoFile`, `TooBig` and `BadConfig`; those of the statements, in order; those of the
 /// rules; those of the clauses. `Device` comes where the device failed, `OutOfMemory` where there is no memory for the workflow.
 pub fn load<W: Files>(
     alloc: Global,
@@ -84,8 +80,6 @@ pub fn load<W: Files>(
     let Ok(path) = file.copy(alloc) else {
         return Err(LoadFault::OutOfMemory);
     };
-    match read_files(alloc, work, path) {
-        Err(fault) => Err(of_file(fault)),
-        Ok(files) => said_by(alloc, work, &files, sets),
-    }
+    let files = read_files(alloc, work, path)?;
+    said_by(alloc, work, &files, sets)
 }

@@ -7,7 +7,7 @@ use Rattle.smk_lex.specs.declared.token.LexFault.TheVariants as lex
 use Rattle.smk_parse_expr.specs.declared.symbol.ParseFault.{ParseFault}
 use Rattle.smk_parse_expr.specs.declared.symbol.ParseFault.TheVariants as grammar
 use Rattle.smk_parse_tree.specs.declared.syntax.Syntax.{Syntax}
-use Rattle.smk_eval_files.specs.declared.fault.FileFault.{FileFault}
+use Rattle.smk_flaws.specs.declared.fault.FileFault.{FileFault}
 use Rattle.smk_eval_files.specs.Reading.{is_told, of_lex, of_parse, lexed_in, parsed_in}
 
 pub lex_fault : (file source : List ℕ) (e : LexFault) (m : Result (List Token) LexFault) (f : FileFault)

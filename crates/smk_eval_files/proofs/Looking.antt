@@ -11,7 +11,7 @@ use Rattle.smk_world.specs.Devices.{Device, WhereTold, IsSoundDevice, HasCalled,
 use Rattle.smk_world.specs.Trees.{Act}
 use Rattle.smk_world.proofs.Devices.{still, lets_of}
 use Rattle.smk_eval_files.specs.Looks.{Nodes, at}
-use Rattle.smk_eval_files.specs.declared.fault.FileFault.{FileFault}
+use Rattle.smk_flaws.specs.declared.fault.FileFault.{FileFault}
 use Rattle.smk_eval_files.specs.Reading.{Answers, bytes_in, bytes_at}
 
 -- what is told after looks was so before them

@@ -2,8 +2,9 @@
 use Rattle.std.proofs.Common.{◌≡◌, ◌≢◌, ◌-◌, arith, ℕ, zero, suc, List, [], ◌∷◌, ◌++◌, Result, Ok, Err, refl, ap, sym, ◌∙◌, append_assoc}
 use Rattle.smk_eval_files.specs.declared.files.ReadFile.{ReadFile}
 use Rattle.smk_eval_files.specs.declared.reading.Opened.{Opened}
-use Rattle.smk_eval_files.specs.declared.fault.FileFault.{FileFault}
-use Rattle.smk_eval_files.specs.declared.fault.FileFault.TheVariants.{IncludeDepth}
+use Rattle.smk_flaws.specs.declared.flaw.FileFlaw.TheVariants.{IncludeDepth}
+use Rattle.smk_flaws.specs.declared.fault.FileFault.{FileFault}
+use Rattle.smk_flaws.specs.declared.fault.FileFault.TheVariants.{Flawed}
 use Rattle.smk_eval_files.specs.Looks.{Nodes}
 use Rattle.smk_eval_files.specs.Reading.{Files, and_then, bytes_at, syntax_in, read_as, onto, included, with_includes, files_from}
 use Rattle.smk_eval_files.specs.Opening.{opened, opened_as, include_from}
@@ -33,7 +34,7 @@ later (suc depth) nodes o = onto o.files (included (files_from nodes depth) o.fi
 
 pub file_steps : (depth : ℕ) (nodes : Nodes) (made : List ReadFile) (file : List ℕ)
     → onto made (files_from nodes depth file) ≡ and_then (bytes_at nodes file) (λ source. and_then (opened_as depth made file source) (later depth nodes))
-file_steps zero nodes made file = onto_then made (bytes_at nodes file) (λ source. Err (IncludeDepth file))
+file_steps zero nodes made file = onto_then made (bytes_at nodes file) (λ source. Err (Flawed (IncludeDepth file)))
 file_steps (suc depth) nodes made file =
     onto_then made (bytes_at nodes file) (λ source. and_then (read_as file (syntax_in file source)) (with_includes (files_from nodes depth)))
     ∙ then_same (bytes_at nodes file) _ _ (λ source.

@@ -19,8 +19,9 @@ use Rattle.smk_parse_expr.specs.declared.symbol.ParseFault.TheVariants as gramma
 use Rattle.smk_parse.specs.Lines.{line_of}
 use Rattle.smk_parse.specs.Files.{parsed}
 use Rattle.smk_eval_files.specs.declared.files.ReadFile.{ReadFile}
-use Rattle.smk_eval_files.specs.declared.fault.FileFault.{FileFault}
-use Rattle.smk_eval_files.specs.declared.fault.FileFault.TheVariants.{BadIndent, OpenText, BadByte, Unexpected, Unsupported, Doubled, IncludeDepth, NoFile, TooBig, Device, OutOfMemory}
+use Rattle.smk_flaws.specs.declared.flaw.FileFlaw.TheVariants.{BadIndent, OpenText, BadByte, Unexpected, Unsupported, Doubled, IncludeDepth, NoFile, TooBig}
+use Rattle.smk_flaws.specs.declared.fault.FileFault.{FileFault}
+use Rattle.smk_flaws.specs.declared.fault.FileFault.TheVariants.{Flawed, Device, OutOfMemory}
 use Rattle.smk_eval_files.specs.Looks.{Nodes, at}
 
 abbrev pub and_then : {A B : Type 0} → Result A FileFault → (A → Result B FileFault) → Result B FileFault
@@ -29,28 +30,12 @@ and_then (Err fault) next = Err fault
 
 -- a fault of the files, and not of the device or of memory
 abbrev pub is_told : FileFault → Bool
-is_told (BadIndent file line) = true
-is_told (OpenText file line) = true
-is_told (BadByte file line) = true
-is_told (Unexpected file line) = true
-is_told (Unsupported file line word) = true
-is_told (Doubled file line word) = true
-is_told (IncludeDepth file) = true
-is_told (NoFile file) = true
-is_told (TooBig file) = true
+is_told (Flawed flaw) = true
 is_told Device = false
 is_told OutOfMemory = false
 
 abbrev pub is_device : FileFault → Bool
-is_device (BadIndent file line) = false
-is_device (OpenText file line) = false
-is_device (BadByte file line) = false
-is_device (Unexpected file line) = false
-is_device (Unsupported file line word) = false
-is_device (Doubled file line word) = false
-is_device (IncludeDepth file) = false
-is_device (NoFile file) = false
-is_device (TooBig file) = false
+is_device (Flawed flaw) = false
 is_device Device = true
 is_device OutOfMemory = false
 
@@ -70,8 +55,8 @@ abbrev pub file_limit : ℕ
 file_limit = 1048576
 
 abbrev pub bytes_in : List ℕ → Found → Result (List ℕ) FileFault
-bytes_in file Nothing = Err (NoFile file)
-bytes_in file (FoundTooBig size) = Err (TooBig file)
+bytes_in file Nothing = Err (Flawed (NoFile file))
+bytes_in file (FoundTooBig size) = Err (Flawed (TooBig file))
 bytes_in file (Held bytes) = Ok bytes
 
 -- the bytes of the file at this path
@@ -93,15 +78,15 @@ abbrev pub word_at : List ℕ → ℕ → List ℕ
 word_at source place = front_word (drop place source)
 
 abbrev pub of_lex : List ℕ → List ℕ → LexFault → FileFault
-of_lex file source (lex.BadIndent place) = BadIndent file (line_of source place)
-of_lex file source (lex.OpenText place) = OpenText file (line_of source place)
-of_lex file source (lex.BadByte place) = BadByte file (line_of source place)
+of_lex file source (lex.BadIndent place) = Flawed (BadIndent file (line_of source place))
+of_lex file source (lex.OpenText place) = Flawed (OpenText file (line_of source place))
+of_lex file source (lex.BadByte place) = Flawed (BadByte file (line_of source place))
 of_lex file source lex.OutOfMemory = OutOfMemory
 
 abbrev pub of_parse : List ℕ → List ℕ → ParseFault → FileFault
-of_parse file source (grammar.Unexpected place) = Unexpected file (line_of source place)
-of_parse file source (grammar.Unsupported place) = Unsupported file (line_of source place) (word_at source place)
-of_parse file source (grammar.Doubled place) = Doubled file (line_of source place) (word_at source place)
+of_parse file source (grammar.Unexpected place) = Flawed (Unexpected file (line_of source place))
+of_parse file source (grammar.Unsupported place) = Flawed (Unsupported file (line_of source place) (word_at source place))
+of_parse file source (grammar.Doubled place) = Flawed (Doubled file (line_of source place) (word_at source place))
 of_parse file source grammar.OutOfMemory = OutOfMemory
 
 abbrev pub parsed_in : List ℕ → List ℕ → Result Syntax ParseFault → Result Syntax FileFault
@@ -147,7 +132,7 @@ beside file t = take (folder_end 0 0 file) file ++ t
 
 -- the path that an include of a file names
 abbrev pub target : List ℕ → List ℕ → Result (List ℕ) FileFault
-target file t = if is_path (beside file t) then Ok (beside file t) else Err (NoFile t)
+target file t = if is_path (beside file t) then Ok (beside file t) else Err (Flawed (NoFile t))
 
 abbrev pub Files : Type 0
 Files = Result (List ReadFile) FileFault
@@ -167,7 +152,7 @@ with_includes read f = onto (f ∷ []) (included read f.file (includes f.syntax.
 
 -- The file at this path and its includes, which lie less than `depth` deep within each other: depth first, in order.
 abbrev pub files_from : Nodes → ℕ → List ℕ → Files
-files_from nodes zero file = and_then (bytes_at nodes file) (λ source. Err (IncludeDepth file))
+files_from nodes zero file = and_then (bytes_at nodes file) (λ source. Err (Flawed (IncludeDepth file)))
 files_from nodes (suc depth) file =
     and_then (bytes_at nodes file) (λ source. and_then (read_as file (syntax_in file source)) (with_includes (files_from nodes depth)))
 

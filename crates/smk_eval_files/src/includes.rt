@@ -3,8 +3,8 @@
 ghost use Rattle.std.specs.Prelude.{◌≡◌, ◌++◌, [], take, false, IfOk, IsCharBoundary};
 ghost use Rattle.smk_eval_files.specs.Reading.{Answers, device_failed, include_of, includes, folder_end, beside, target};
 
-use crate::fault::FileFault;
 use smk_base::{List, OutOfMemory, PathFault, PathText, Text};
+use smk_flaws::{FileFault, FileFlaw};
 use smk_parse_tree::{Form, Statement};
 use std::alloc::Global;
 
@@ -40,9 +40,9 @@ pub(crate) fn target(alloc: Global, file: &PathText, text: &Text) -> Result<Path
     let path = beside(alloc, file, text)?;
     match PathText::read(alloc, path.as_str()) {
         Ok(path) => Ok(path),
-        Err(PathFault::BadPath) => Err(FileFault::NoFile {
+        Err(PathFault::BadPath) => Err(FileFault::Flawed(FileFlaw::NoFile {
             file: text.copy(alloc)?,
-        }),
+        })),
         Err(PathFault::OutOfMemory) => Err(FileFault::OutOfMemory),
     }
 }

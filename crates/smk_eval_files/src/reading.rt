@@ -5,11 +5,11 @@ ghost use Rattle.smk_world.specs.Devices.{WhereTold, HasLooked};
 ghost use Rattle.smk_eval_files.specs.Reading.{Answers, device_failed, bytes_in, bytes_at, onto, included, files_from, files_at};
 ghost use Rattle.smk_eval_files.specs.Opening.{opened_as, include_from};
 
-use crate::fault::FileFault;
 use crate::files::ReadFile;
 use crate::includes::{includes, target};
 use crate::sources::syntax_in;
 use smk_base::{Bytes, List, PathText, Place, Text};
+use smk_flaws::{FileFault, FileFlaw};
 use smk_world::{Files, Found, WorkFault};
 use std::alloc::Global;
 
@@ -31,12 +31,12 @@ fn held(alloc: Global, file: &PathText, found: Found) -> Result<Bytes, FileFault
 {
     match found {
         Found::Held(bytes) => Ok(bytes),
-        Found::Nothing => Err(FileFault::NoFile {
+        Found::Nothing => Err(FileFault::Flawed(FileFlaw::NoFile {
             file: Text::of(alloc, file.as_str())?,
-        }),
-        Found::TooBig(_) => Err(FileFault::TooBig {
+        })),
+        Found::TooBig(_) => Err(FileFault::Flawed(FileFlaw::TooBig {
             file: Text::of(alloc, file.as_str())?,
-        }),
+        })),
     }
 }
 
@@ -73,9 +73,9 @@ fn open_file(
     ensures no_device { device_failed result ≡ false }
 {
     if depth == 0 {
-        return Err(FileFault::IncludeDepth {
+        return Err(FileFault::Flawed(FileFlaw::IncludeDepth {
             file: Text::of(alloc, file.as_str())?,
-        });
+        }));
     }
     let syntax = syntax_in(alloc, &file, source)?;
     let mut files = files;

@@ -6,8 +6,8 @@ ghost use Rattle.smk_lex.specs.Layout.{lexed};
 ghost use Rattle.smk_parse.specs.Files as grammar;
 ghost use Rattle.smk_eval_files.specs.Reading.{Answers, is_device, device_failed, is_word_byte, front_word, word_at, of_lex, of_parse, parsed_in, syntax_in};
 
-use crate::fault::FileFault;
 use smk_base::{List, OutOfMemory, PathText, Text};
+use smk_flaws::{FileFault, FileFlaw};
 use smk_lex::{LexFault, Token, lex};
 use smk_parse::{Lines, ParseFault, parse};
 use smk_parse_tree::Syntax;
@@ -72,18 +72,18 @@ fn of_lex(
 {
     let lines = Lines::new(alloc, source)?;
     Ok(match fault {
-        LexFault::BadIndent(place) => FileFault::BadIndent {
+        LexFault::BadIndent(place) => FileFault::Flawed(FileFlaw::BadIndent {
             file: Text::of(alloc, file.as_str())?,
             line: lines.number(place),
-        },
-        LexFault::OpenText(place) => FileFault::OpenText {
+        }),
+        LexFault::OpenText(place) => FileFault::Flawed(FileFlaw::OpenText {
             file: Text::of(alloc, file.as_str())?,
             line: lines.number(place),
-        },
-        LexFault::BadByte(place) => FileFault::BadByte {
+        }),
+        LexFault::BadByte(place) => FileFault::Flawed(FileFlaw::BadByte {
             file: Text::of(alloc, file.as_str())?,
             line: lines.number(place),
-        },
+        }),
         LexFault::OutOfMemory => FileFault::OutOfMemory,
     })
 }
@@ -100,20 +100,20 @@ fn of_parse(
 {
     let lines = Lines::new(alloc, source)?;
     Ok(match fault {
-        ParseFault::Unexpected(place) => FileFault::Unexpected {
+        ParseFault::Unexpected(place) => FileFault::Flawed(FileFlaw::Unexpected {
             file: Text::of(alloc, file.as_str())?,
             line: lines.number(place),
-        },
-        ParseFault::Unsupported(place) => FileFault::Unsupported {
-            file: Text::of(alloc, file.as_str())?,
-            line: lines.number(place),
-            word: word_at(alloc, source, place)?,
-        },
-        ParseFault::Doubled(place) => FileFault::Doubled {
+        }),
+        ParseFault::Unsupported(place) => FileFault::Flawed(FileFlaw::Unsupported {
             file: Text::of(alloc, file.as_str())?,
             line: lines.number(place),
             word: word_at(alloc, source, place)?,
-        },
+        }),
+        ParseFault::Doubled(place) => FileFault::Flawed(FileFlaw::Doubled {
+            file: Text::of(alloc, file.as_str())?,
+            line: lines.number(place),
+            word: word_at(alloc, source, place)?,
+        }),
         ParseFault::OutOfMemory => FileFault::OutOfMemory,
     })
 }

@@ -33,7 +33,7 @@ use Rattle.smk_store.specs.declared.store.Kept.TheVariants.{Absent, Unreadable, 
 use Rattle.smk_store.specs.Images.{Content, content_of, seen, image_by, readable, stands, is_known, is_outside}
 use Rattle.smk_store.specs.Stores.{Known, entry_of}
 use Rattle.smk_store.specs.Loading.{IsStoreOf, entry_at}
-use Rattle.smk_store.specs.Sources.{NoneOwned}
+use Rattle.smk_store.specs.Unowned.{NoneOwned}
 use Rattle.smk_store.specs.Forgetting.{inputs_of, all_inputs, AreUnseen, forget_requests, LooksThen}
 use Rattle.smk_store.specs.Safety.{KeepsSound}
 use Rattle.smk_store.specs.Soundness.{Outside}

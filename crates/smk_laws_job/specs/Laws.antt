@@ -14,7 +14,7 @@ use Rattle.smk_store.specs.declared.fault.StoreFault.TheVariants.{StampSeen, Dev
 use Rattle.smk_store.specs.Images.{seen}
 use Rattle.smk_store.specs.Stores.{Known}
 use Rattle.smk_store.specs.Loading.{IsStoreOf}
-use Rattle.smk_store.specs.Sources.{NoneOwned}
+use Rattle.smk_store.specs.Unowned.{NoneOwned}
 use Rattle.smk_store.specs.Forgetting.{HasForgotten}
 use Rattle.smk_store.specs.Safety.{KeepsSound}
 use Rattle.smk_store.specs.Soundness.{Outside}

@@ -20,7 +20,7 @@ use Rattle.smk_run.specs.Turns.{Turn}
 use Rattle.smk_run.specs.Runs.{IsOutcome, is_output, is_device, is_output_fault, is_device_fault}
 use Rattle.smk_run.proofs.Rising.{rose_earlier}
 use Rattle.smk_run.proofs.Running.{device_outcome}
-use Rattle.smk_make.specs.Faults.{of_store}
+use Rattle.smk_report.specs.Faults.{of_store}
 use Rattle.smk_make.specs.Making.{Concludes, HasMade, HasCarriedOut, GoesOn, NotFirm, NoMemory, Made}
 use Rattle.smk_make.proofs.Counting.{first_status}
 use Rattle.smk_make.proofs.Made.{verdict, of_report_quiet}

@@ -21,7 +21,8 @@ use Rattle.smk_run.specs.Runs.{HasRun, IsOutcome, IsTally, is_whole, is_output, 
 use Rattle.smk_run.proofs.Texts.{reported_as, reported_then}
 use Rattle.smk_make.specs.After.{AreCurrent, IsAfter}
 use Rattle.smk_make.specs.Closing.{is_current, closing_text, verdict_of, answer_of}
-use Rattle.smk_make.specs.Faults.{IsOfReport, IsOfJob, of_store}
+use Rattle.smk_report.specs.Faults.{of_store}
+use Rattle.smk_make.specs.Faults.{IsOfReport, IsOfJob}
 use Rattle.smk_make.specs.Making.{HasMade, Concludes, IsClosing, IsText, GoesOn, NotFirm, Made, AreWhatIsMeant}
 use Rattle.smk_make.proofs.Counting.{first_status}
 use Rattle.smk_make.proofs.Current.{are_current}

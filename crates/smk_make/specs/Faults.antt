@@ -2,19 +2,11 @@
 use Rattle.std.specs.Prelude.{◌≡◌, ◌⊎◌, true, false}
 use Rattle.smk_report.specs.declared.fault.Fault.{Fault}
 use Rattle.smk_report.specs.declared.fault.Fault.TheVariants as fault
-use Rattle.smk_store.specs.declared.fault.StoreFault.{StoreFault}
-use Rattle.smk_store.specs.declared.fault.StoreFault.TheVariants as store
 use Rattle.smk_run.specs.Runs.{leaves_whole, is_output_fault, is_device_fault}
 
 -- of the sink, or of memory
 abbrev pub IsOfReport : Fault → Type 0
 IsOfReport f = (f ≡ fault.Output) ⊎ (f ≡ fault.OutOfMemory)
-
--- the same fault
-abbrev pub of_store : StoreFault → Fault
-of_store (store.StampSeen p) = fault.StampSeen p
-of_store store.Device = fault.Device
-of_store store.OutOfMemory = fault.OutOfMemory
 
 -- of a job that failed: all lines that are due were put, and neither the sink nor the device failed
 abbrev pub IsOfJob : Fault → Type 0

@@ -31,7 +31,8 @@ use Rattle.smk_run.specs.Reports.{report_of, HasReported, IsReport}
 use Rattle.smk_run.specs.Runs.{AreInOrder, IsOutcome, Fits, is_whole, is_output}
 use Rattle.smk_make.specs.After.{AreCurrent}
 use Rattle.smk_make.specs.Closing.{is_current, closing_text, answer_of}
-use Rattle.smk_make.specs.Faults.{IsOfReport, of_store}
+use Rattle.smk_report.specs.Faults.{of_store}
+use Rattle.smk_make.specs.Faults.{IsOfReport}
 
 -- The call answers as the run did: the fault of the first job that failed, or none; or the last lines couldn't be put.
 abbrev pub Concludes : Result Tally Fault → Result (Unit {0}) Fault → Type 0

@@ -23,7 +23,7 @@ use smk_plan::Duty;
 use smk_plan_duties::duties_of;
 use smk_report::Fault;
 use smk_run::{Agenda, Tally, run_jobs};
-use smk_store::{StoreFault, steady};
+use smk_store::steady;
 use smk_world::{Crew, Sink};
 use std::alloc::Global;
 
@@ -133,17 +133,6 @@ fn serve<W: Crew, O: Sink>(
     run(alloc, flow, targets, plan.jobs, &agenda, cores, work, out)
 }
 
-// The fault of what couldn't be made firm.
-fn of_store(fault: StoreFault) -> Fault
-    ensures { result ≡ faults.of_store fault }
-{
-    match fault {
-        StoreFault::StampSeen(path) => Fault::StampSeen { path },
-        StoreFault::Device => Fault::Device,
-        StoreFault::OutOfMemory => Fault::OutOfMemory,
-    }
-}
-
 /// Makes what was planned: makes firm what was found of earlier runs, runs the jobs that are Dirty or to be restored, one after another in plan order, and
 /// reports them; and at the end, for each target whether it is current, and how many jobs were started, done and failed. A job that is Dirty draws a new
 /// serial, one that is restored keeps its own. After a job that failed none is started.
@@ -168,7 +157,7 @@ pub fn make<W: Crew, O: Sink>(
         (W.device work.old) (W.device work.new) (O.sunk out.old) (O.sunk out.new) }
 {
     match steady(alloc, work, plan.store) {
-        Err(fault) => Err(of_store(fault)),
+        Err(fault) => Err(Fault::from(fault)),
         Ok(()) => serve(alloc, flow, targets, plan, cores, work, out),
     }
 }

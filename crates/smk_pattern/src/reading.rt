@@ -260,6 +260,7 @@ impl Pattern {
     /// `BadPattern` where the text isn't written as a pattern. `BadConstraint` with the first name, in the order in which they first
     /// stand, in whose constraint `regex` reads no pattern or finds one that nests too deep. `OutOfMemory` where there is no memory,
     /// also for what `regex` makes of a constraint.
+    // (Seven clauses: each answer is told both by the text's letters, which a reader can compute, and by the relation that means a pattern.)
     pub fn read(alloc: Global, text: &str, limits: &List<Pair>) -> Result<Pattern, PatternFault>
         ensures written { OnOk result (is_written text.now ≡ true) }
         ensures shape { IfOk result (λ p. p ≡ shape_of limits.now text.now) }
@@ -275,6 +276,7 @@ impl Pattern {
     }
 
     /// The same, with constraints that are shared by all patterns that are read with the same `shared`: each is compiled once.
+    // (Seven clauses, as for `read`.)
     pub fn read_sharing(
         alloc: Global,
         text: &str,

@@ -125,4 +125,4 @@ module _ (b : Base) (jobs : Jobs) (store : List Known) (seen : List Sight) (f : 
   -- and what is refused of it is refused where none has begun
   pub refused_first : (settings : Settings) (fault : PlanFault) → IsRefusedNow settings b fault → Agree image jobs store seen settings.targets → IsRefused image settings [] jobs fault
   refused_first settings fault refused a =
-      coe 0 1 (i. IsRefusedAt image settings (idle i) (f.now i) fault) (refused image (agrees_first settings a))
+      coe 0 1 (i. IsRefusedAt (record { image = image; settings = settings; progress = idle i }) (f.now i) fault) (refused image (agrees_first settings a))

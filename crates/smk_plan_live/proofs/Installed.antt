@@ -1,4 +1,5 @@
 -- A plan that is kept, once what is new was put in.
+use Rattle.std.specs.Prelude.{Result, Ok, Err, IfOk}
 use Rattle.std.proofs.Common.{◌≡◌, ℕ, zero, suc, ◌<◌, Bool, true, false, List, [], ◌∷◌, map, length, Option, Some, None, option_map, refl, sym, ap, ap₂, subst, ◌∙◌, arith}
 use Rattle.std.specs.Prelude.{slice_index_or}
 use Rattle.std.specs.List.{list_all, slice_get}
@@ -27,6 +28,11 @@ use Rattle.smk_plan_live.specs.Carried.{has_name, turned, filled}
 use Rattle.smk_plan_live.specs.Lives.{IsSound, IsSettled, IsNow, IsLive, AreJudgedBy, facts_now}
 use Rattle.smk_plan_live.proofs.Merged.{merged_map}
 use Rattle.smk_plan_live.proofs.Changed.{set_back, turned_sound, filled_sound, begun_facts, closed_facts}
+
+-- what four clauses say of an answer
+pub if_four : {T E : Type 0} (r : Result T E) (P Q R S U : T → Type 0) → ((t : T) → P t → Q t → R t → S t → U t) → IfOk r P → IfOk r Q → IfOk r R → IfOk r S → IfOk r U
+if_four (Ok t) P Q R S U f p q r s = f t p q r s
+if_four (Err e) P Q R S U f p q r s = tt
 
 -- ## Numbers of jobs
 

@@ -14,12 +14,12 @@ use Rattle.smk_plan.specs.Sights.{wholes_of}
 use Rattle.smk_plan.specs.States.{job_path, kept_state}
 use Rattle.smk_plan_facts.specs.Facts.{facts_of}
 use Rattle.smk_plan_facts.specs.Laws.{FactsAreSo, WholesAreSo}
-use Rattle.smk_plan_states.specs.Judged.{AreJudgedNow, with_states}
+use Rattle.smk_plan_states.specs.Judged.{AreJudged, with_states}
 use Rattle.smk_plan_live.specs.declared.base.Base.{Base}
 use Rattle.smk_plan_live.specs.declared.children.Child.{Child}
 use Rattle.smk_plan_live.specs.Phases.{named, named_state, children_in, begun_in}
 use Rattle.smk_plan_live.specs.Now.{known_now, seen_now}
-use Rattle.smk_plan_live.specs.Lives.{IsAgreed, AreWhole, AreJudgedBy, progress_of}
+use Rattle.smk_plan_live.specs.Lives.{IsAgreed, AreWhole, AreJudgedBy, judging_of, progress_of}
 use Rattle.smk_plan_live.proofs.Bridge.{reasons_are, forced_are}
 use Rattle.smk_plan_live.proofs.Restoring.{unmarked}
 
@@ -49,10 +49,10 @@ module _ (facts_law : FactsAreSo) (wholes_law : WholesAreSo) (b : Base) (setting
       whole law.0 ∙ law.1
 
   pub judged_now :
-      (facts : List JobFacts) (reasons : List (List Reason)) (forced : List Bool) → AreJudgedBy settings b facts reasons forced → (wholes : Wholes) → AreWhole b wholes →
+      (facts : List JobFacts) (reasons : List (List Reason)) (forced : List Bool) → AreJudgedBy settings b facts reasons forced →
       (running : List (Option State)) → running ≡ map (λ (j : Job). named_state (children_in b.jobs.jobs b.began) (job_path j)) b.jobs.jobs →
-      AreJudgedNow image settings (progress_of b) b.jobs reasons forced wholes running
-  judged_now facts reasons forced judged wholes whole running runs =
+      AreJudged (judging_of image settings b) b.jobs (record { reasons = reasons; forced = forced; running = running })
+  judged_now facts reasons forced judged running runs =
       let are : facts ≡ map (facts_of image settings (begun_in b.jobs.jobs b.phases) (with_states b.jobs [])) b.jobs.jobs =
       judged.facts_are agree.served
       ∙ facts_law image settings (begun_in b.jobs.jobs b.phases) (with_states b.jobs []) b.jobs (known_now b) (seen_now b) agree.stored agree.sighted agree.recorded agree.read judged.texts
@@ -60,6 +60,5 @@ module _ (facts_law : FactsAreSo) (wholes_law : WholesAreSo) (b : Base) (setting
       record {
         reasons = judged.told ∙ reasons_are image settings (progress_of b) b.jobs none facts are;
         forced = judged.flags ∙ forced_are image settings (progress_of b) b.jobs none facts are;
-        wholes = wholes_are wholes whole;
         running = runs ∙ kept_are b image settings;
       }

@@ -5,3 +5,4 @@ pub mod Same
 pub mod Carried
 pub mod Lives
 pub mod Changes
+pub mod Steps

@@ -1,6 +1,6 @@
 -- What is true of each plan that is kept, whatever was called.
 use Rattle.std.specs.Prelude.{◌≡◌, Bool, true, false, List, [], map, length, Option, None}
-use Rattle.std.specs.List.{list_all, list_any}
+use Rattle.std.specs.List.{list_all}
 use Rattle.std.specs.BTreeMap.{get_by_text}
 use Rattle.std.specs.BTreeSet.{contains_text}
 use Rattle.smk_world.specs.Trees.{Path, Each, among}
@@ -12,11 +12,11 @@ use Rattle.smk_pick.specs.declared.settings.Settings.{Settings}
 use Rattle.smk_plan.specs.declared.plan.Plan.{Plan as Told}
 use Rattle.smk_plan.specs.declared.fault.PlanFault.{PlanFault}
 use Rattle.smk_plan.specs.declared.wholes.Wholes.{Wholes}
-use Rattle.smk_plan.specs.States.{Progress, is_held_back}
+use Rattle.smk_plan.specs.States.{Progress}
 use Rattle.smk_plan_facts.specs.Facts.{told_sources}
 use Rattle.smk_plan_facts.specs.Telling.{facts_in, forced_by, has_path_texts, IsSorted, directories_of, wholes_in}
 use Rattle.smk_plan_states.specs.Served.{AreServed}
-use Rattle.smk_plan_states.specs.Judged.{with_states}
+use Rattle.smk_plan_states.specs.Judged.{Judging, any_held_back}
 use Rattle.smk_plan_table.specs.Plans.{Agree, HasMadeAt, IsRefusedAt}
 use Rattle.smk_plan_live.specs.declared.base.Base.{Base}
 use Rattle.smk_plan_live.specs.declared.live.LivePlan.{LivePlan}
@@ -28,6 +28,10 @@ use Rattle.smk_plan_live.specs.Now.{known_now, seen_now}
 -- what has begun, and what runs with the states at their beginning
 abbrev pub progress_of : Base → Progress
 progress_of b = progress_in b.jobs.jobs b.phases b.began
+
+-- what the jobs are judged by in the image now
+abbrev pub judging_of : Image → Settings → Base → Judging
+judging_of image settings b = record { image = image; settings = settings; progress = progress_of b }
 
 -- what the jobs are judged by: what is known and was seen now
 abbrev pub facts_now : Settings → Base → List JobFacts
@@ -41,8 +45,8 @@ IsAgreed image settings b = Agree image b.jobs (known_now b) (seen_now b) settin
 
 -- the states, the current targets and the known listings are those of the definitions, and so it is told whether a job is held back
 pub record IsTold (settings : Settings) (b : Base) (told : Told) (held : Bool) (image : Image) : Type 0 where
-  pub made : HasMadeAt image settings (progress_of b) b.jobs told
-  pub back : held ≡ list_any (is_held_back image settings (progress_of b) (with_states b.jobs told.states)) b.jobs.jobs
+  pub made : HasMadeAt (judging_of image settings b) b.jobs told
+  pub back : held ≡ any_held_back (judging_of image settings b) b.jobs told.states
 
 -- so it is in each image that has what is known and was seen now
 abbrev pub IsNow : Settings → Base → Told → Bool → Type 0
@@ -50,7 +54,7 @@ IsNow settings b told held = (image : Image) → IsAgreed image settings b → I
 
 -- in each such image the plan of this moment is refused, and this is the first refusal
 abbrev pub IsRefusedNow : Settings → Base → PlanFault → Type 0
-IsRefusedNow settings b fault = (image : Image) → IsAgreed image settings b → IsRefusedAt image settings (progress_of b) b.jobs fault
+IsRefusedNow settings b fault = (image : Image) → IsAgreed image settings b → IsRefusedAt (judging_of image settings b) b.jobs fault
 
 -- There is a row for each job; and it is told where each output stands, which is never the empty path, and which paths no job makes.
 pub record IsSound (b : Base) : Type 0 where

@@ -2,11 +2,11 @@
 
 ghost use Rattle.std.specs.Prelude.{◌≡◌, ◌≢◌, ◌<◌, length, map, slice_index_or, Some, None, IfOk, OnOk, OnErr, IfErr};
 ghost use Rattle.std.specs.List.{slice_get};
-ghost use Rattle.smk_world.specs.World.{out_paths};
 ghost use Rattle.smk_flow.specs.declared.job.Job.{Job as JobValue};
 ghost use Rattle.smk_plan_live.specs.Lives.{IsLive, IsRefusedNow};
 ghost use Rattle.smk_plan_live.specs.Carried.{turned, filled};
 ghost use Rattle.smk_plan_live.specs.Changes.{HasClosed};
+ghost use Rattle.smk_plan_live.specs.Steps.{AreOfOutputs, IsRunningIn};
 
 use crate::base::Base;
 use crate::next::next_of;
@@ -123,12 +123,10 @@ impl LivePlan {
         sights: List<Sight>,
         judge: &J,
     ) -> Result<(), PlanFault>
-        requires live { IsLive self.old }
-        requires running { slice_get self.old.base.phases job ≡ Some Phase.Running }
+        requires runs { IsRunningIn self.old job }
 
         // One entry and one sight for each output, in their order, each sight with its output's path.
-        requires each { (j : JobValue) → slice_get self.old.base.jobs.jobs job ≡ Some j → length entries ≡ length (out_paths j.recipe) }
-        requires seen { (j : JobValue) → slice_get self.old.base.jobs.jobs job ≡ Some j → map (λ s. s.path) sights ≡ out_paths j.recipe }
+        requires rows { (j : JobValue) → slice_get self.old.base.jobs.jobs job ≡ Some j → AreOfOutputs entries sights j }
         ensures live { IsLive self.new }
         ensures ok { OnOk result (HasClosed job entries sights self.old self.new) }
         ensures err { OnErr result (self.new ≡ self.old) }

@@ -1,10 +1,9 @@
 //! A plan that is kept, and what it tells.
 
 ghost use Rattle.std.specs.Prelude.{◌≡◌, option_map};
-ghost use Rattle.std.specs.List.{slice_get, list_any};
+ghost use Rattle.std.specs.List.{slice_get};
 ghost use Rattle.smk_store.specs.Images.{Image};
-ghost use Rattle.smk_plan.specs.States.{is_held_back};
-ghost use Rattle.smk_plan_states.specs.Judged.{with_states};
+ghost use Rattle.smk_plan_states.specs.Judged.{any_held_back};
 ghost use Rattle.smk_plan_table.specs.Plans.{HasMadeAt};
 
 use crate::Phase;
@@ -30,14 +29,14 @@ pub struct LivePlan {
 }
 
 impl LivePlan {
-    ghost use Rattle.smk_plan_live.specs.Lives.{IsLive, IsAgreed, progress_of};
+    ghost use Rattle.smk_plan_live.specs.Lives.{IsLive, IsAgreed, judging_of};
     ghost use Rattle.smk_plan_live.specs.Now.{output_entry, sight_now};
 
     /// The plan of this moment: the states of the jobs, which targets are current, and the listings that have become known. It takes no memory.
     pub fn as_plan(&self) -> &Plan
         ensures value { result.now ≡ self.now.plan }
         ensures now { IsLive self.now → (image : Image) → IsAgreed image self.now.settings self.now.base
-            → HasMadeAt image self.now.settings (progress_of self.now.base) self.now.base.jobs result.now }
+            → HasMadeAt (judging_of image self.now.settings self.now.base) self.now.base.jobs result.now }
     {
         &self.plan
     }
@@ -60,7 +59,7 @@ impl LivePlan {
     pub fn holds_back(&self) -> bool
         ensures value { result ≡ self.now.held }
         ensures now { IsLive self.now → (image : Image) → IsAgreed image self.now.settings self.now.base
-            → result ≡ list_any (is_held_back image self.now.settings (progress_of self.now.base) (with_states self.now.base.jobs self.now.plan.states)) self.now.base.jobs.jobs }
+            → result ≡ any_held_back (judging_of image self.now.settings self.now.base) self.now.base.jobs self.now.plan.states }
     {
         self.held
     }

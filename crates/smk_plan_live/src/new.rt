@@ -1,12 +1,13 @@
 //! How a kept plan begins.
 
-ghost use Rattle.std.specs.Prelude.{◌≡◌, ◌≢◌, [], map, length, true, None, IfOk, IfErr};
+ghost use Rattle.std.specs.Prelude.{◌≡◌, ◌≢◌, [], map, true, None, IfOk, IfErr};
 ghost use Rattle.std.specs.List.{list_all};
 ghost use Rattle.smk_store.specs.Images.{Image};
 ghost use Rattle.smk_trigger.specs.Reasons.{reasons_of};
 ghost use Rattle.smk_plan_facts.specs.Telling.{has_path_texts};
 ghost use Rattle.smk_plan_table.specs.Plans.{Agree, IsRefused};
-ghost use Rattle.smk_plan_live.specs.Lives.{IsLive, IsAgreed, IsSound, IsNow, IsRefusedNow, facts_now};
+ghost use Rattle.smk_plan_live.specs.Lives.{IsLive, IsAgreed, IsSound, IsRefusedNow, facts_now};
+ghost use Rattle.smk_plan_live.specs.Steps.{IsToldAnew};
 ghost use Rattle.smk_plan_live.specs.Changes.{IsFirst};
 
 use crate::LivePlan;
@@ -98,12 +99,7 @@ fn told_by(
     requires own { judged.own ≡ map reasons_of judged.facts.items }
     requires forced { judged.forced ≡ map (λ f. f.forced) judged.facts.items }
     requires texts { list_all has_path_texts base.now.jobs.jobs ≡ true }
-    ensures facts { IfOk result (λ told. told.facts.items ≡ facts_now settings.now base.now) }
-    ensures reasons { IfOk result (λ told. told.reasons.items ≡ map reasons_of told.facts.items) }
-    ensures texts { IfOk result (λ told. list_all has_path_texts base.now.jobs.jobs ≡ true) }
-    ensures each { IfOk result (λ told. length told.plan.states ≡ length base.now.jobs.jobs) }
-    ensures targets { IfOk result (λ told. length told.plan.current ≡ length settings.now.targets) }
-    ensures now { IfOk result (λ told. IsSound base.now → IsNow settings.now base.now told.plan told.held) }
+    ensures told { IfOk result (IsToldAnew settings.now base.now) }
     ensures refused { IfErr result (λ fault. fault ≢ PlanFault.OutOfMemory → IsSound base.now → IsRefusedNow settings.now base.now fault) }
 {
     let Judged {
@@ -112,7 +108,7 @@ fn told_by(
         own,
         forced,
     } = judged;
-    match tell(alloc, base, settings, own, &forced) {
+    match tell(alloc, base, settings, own, forced) {
         Err(fault) => Err(fault),
         Ok(made) => Ok(Told {
             facts,
@@ -130,12 +126,7 @@ pub(crate) fn told_of<Rt: Threads + Sync>(
     base: &Base,
     settings: &Settings,
 ) -> Result<Told, PlanFault>
-    ensures facts { IfOk result (λ told. told.facts.items ≡ facts_now settings.now base.now) }
-    ensures reasons { IfOk result (λ told. told.reasons.items ≡ map reasons_of told.facts.items) }
-    ensures texts { IfOk result (λ told. list_all has_path_texts base.now.jobs.jobs ≡ true) }
-    ensures each { IfOk result (λ told. length told.plan.states ≡ length base.now.jobs.jobs) }
-    ensures targets { IfOk result (λ told. length told.plan.current ≡ length settings.now.targets) }
-    ensures now { IfOk result (λ told. IsSound base.now → IsNow settings.now base.now told.plan told.held) }
+    ensures told { IfOk result (IsToldAnew settings.now base.now) }
     ensures refused { IfErr result (λ fault. fault ≢ PlanFault.OutOfMemory → IsSound base.now → IsRefusedNow settings.now base.now fault) }
 {
     match judge_jobs(rt, alloc, base, settings) {

@@ -1,16 +1,14 @@
 //! What is new as a job begins or is closed, and how it is put in.
 
-ghost use Rattle.std.specs.Prelude.{◌≡◌, ◌≢◌, ◌<◌, false, List as Items, map, length, option_map, Some, IfOk, IfErr};
+ghost use Rattle.std.specs.Prelude.{◌≡◌, ◌≢◌, ◌<◌, List as Items, map, length, option_map, Some, IfOk, IfErr};
 ghost use Rattle.smk_trigger.specs.declared.facts.JobFacts.{JobFacts as FactsValue};
 ghost use Rattle.smk_trigger.specs.Reasons.{reasons_of};
-ghost use Rattle.smk_plan_live.specs.Same.{or_old, merged, renewed_from};
+ghost use Rattle.smk_plan_live.specs.Same.{or_old, merged};
 ghost use Rattle.smk_plan_live.specs.Carried.{put_in};
-ghost use Rattle.std.specs.BTreeSet.{contains_text};
 ghost use Rattle.std.specs.List.{slice_get};
-ghost use Rattle.smk_world.specs.Trees.{outs_of};
 ghost use Rattle.smk_flow.specs.declared.job.Job.{Job as JobValue};
-ghost use Rattle.smk_plan_live.specs.Now.{known_now, seen_now};
-ghost use Rattle.smk_plan_live.specs.Lives.{AreJudgedBy, IsSettled, IsNow, IsRefusedNow};
+ghost use Rattle.smk_plan_live.specs.Lives.{AreJudgedBy, IsNow, IsRefusedNow};
+ghost use Rattle.smk_plan_live.specs.Steps.{IsNext, IsSettledAt, renewed_at};
 
 use crate::LivePlan;
 use crate::base::Base;
@@ -155,14 +153,14 @@ fn news_of<J: Judge>(
 ) -> Result<News, OutOfMemory>
     requires { number < length base.now.jobs.jobs }
     ensures facts { IfOk result (λ news. (j : JobValue) → slice_get base.now.jobs.jobs number ≡ Some j
-        → news.facts.items ≡ renewed_from (known_now base.now) (seen_now base.now) (contains_text base.now.sources) false (outs_of j.recipe) number 0 base.now.jobs.jobs facts.now) }
+        → news.facts.items ≡ renewed_at base.now number j facts.now) }
     ensures reasons { IfOk result (λ news. news.reasons.items ≡ map (option_map reasons_of) news.facts.items) }
     ensures own { IfOk result (λ news. news.own ≡ merged reasons.now news.reasons.items) }
     ensures forced { IfOk result (λ news. news.forced ≡ map (λ f. f.forced) (merged facts.now news.facts.items)) }
 {
     let jobs = base.jobs.jobs.as_slice();
     let job = job_at(jobs, number);
-    let fresh = renewed_facts(alloc, number, job, jobs, facts, base, &base.sources, false)?;
+    let fresh = renewed_facts(alloc, number, job, jobs, facts, base, &base.sources)?;
     let judged = judge_each(alloc, judge, fresh.as_slice())?;
     let own = merged_reasons(alloc, reasons, judged.as_slice())?;
     let forced = merged_forced(alloc, facts, fresh.as_slice())?;
@@ -189,7 +187,7 @@ fn next_by(alloc: Global, base: &Base, settings: &Settings, news: News) -> Resul
         own,
         forced,
     } = news;
-    match tell(alloc, base, settings, own, &forced) {
+    match tell(alloc, base, settings, own, forced) {
         Err(fault) => Err(fault),
         Ok(made) => Ok(Next {
             facts,
@@ -212,15 +210,8 @@ pub(crate) fn next_of<J: Judge>(
     judge: &J,
 ) -> Result<Next, PlanFault>
     requires { number < length base.now.jobs.jobs }
-    ensures facts { IfOk result (λ next. (j : JobValue) → slice_get base.now.jobs.jobs number ≡ Some j
-        → next.facts.items ≡ renewed_from (known_now base.now) (seen_now base.now) (contains_text base.now.sources) false (outs_of j.recipe) number 0 base.now.jobs.jobs facts.now) }
-    ensures reasons { IfOk result (λ next. next.reasons.items ≡ map (option_map reasons_of) next.facts.items) }
-    ensures each { IfOk result (λ next. length next.plan.states ≡ length base.now.jobs.jobs) }
-    ensures targets { IfOk result (λ next. length next.plan.current ≡ length settings.now.targets) }
-    ensures now { IfOk result (λ next. IsSettled settings.now base.now facts.now reasons.now next.facts.items → IsNow settings.now base.now next.plan next.held) }
-    ensures refused { IfErr result (λ fault. fault ≢ PlanFault.OutOfMemory → ((j : JobValue) → slice_get base.now.jobs.jobs number ≡ Some j
-        → IsSettled settings.now base.now facts.now reasons.now
-        (renewed_from (known_now base.now) (seen_now base.now) (contains_text base.now.sources) false (outs_of j.recipe) number 0 base.now.jobs.jobs facts.now))
+    ensures next { IfOk result (IsNext settings.now base.now number facts.now reasons.now) }
+    ensures refused { IfErr result (λ fault. fault ≢ PlanFault.OutOfMemory → IsSettledAt settings.now base.now number facts.now reasons.now
         → IsRefusedNow settings.now base.now fault) }
 {
     match news_of(alloc, number, base, facts, reasons, judge) {

@@ -15,7 +15,7 @@ use smk_flow::Job;
 use smk_pick::Settings;
 use smk_plan::{Plan, PlanFault, Wholes};
 use smk_plan_facts::{told_is_so, wholes_told};
-use smk_plan_states::holds_back;
+use smk_plan_states::{Judged, Table};
 use smk_plan_table::plan_now;
 use smk_trigger::{Reason, State};
 use std::alloc::Global;
@@ -119,7 +119,7 @@ fn tell_by(
     base: &Base,
     settings: &Settings,
     reasons: List<List<Reason>>,
-    forced: &List<bool>,
+    forced: List<bool>,
     ready: Ready,
 ) -> Result<Made, PlanFault>
     requires wholes { AreWhole base.now ready.wholes }
@@ -128,8 +128,8 @@ fn tell_by(
     requires kept { ready.kept ≡ map (λ j. named_state (children_in base.now.jobs.jobs base.now.began) (job_path j)) base.now.jobs.jobs }
     ensures each { IfOk result (λ made. length made.plan.states ≡ length base.now.jobs.jobs) }
     ensures targets { IfOk result (λ made. length made.plan.current ≡ length settings.now.targets) }
-    ensures now { IfOk result (λ made. (facts : Items FactsValue) → AreJudgedBy settings.now base.now facts reasons forced.now → IsNow settings.now base.now made.plan made.held) }
-    ensures refused { IfErr result (λ fault. fault ≢ PlanFault.OutOfMemory → (facts : Items FactsValue) → AreJudgedBy settings.now base.now facts reasons forced.now → IsRefusedNow settings.now base.now fault) }
+    ensures now { IfOk result (λ made. (facts : Items FactsValue) → AreJudgedBy settings.now base.now facts reasons forced → IsNow settings.now base.now made.plan made.held) }
+    ensures refused { IfErr result (λ fault. fault ≢ PlanFault.OutOfMemory → (facts : Items FactsValue) → AreJudgedBy settings.now base.now facts reasons forced → IsRefusedNow settings.now base.now fault) }
 {
     told_is_so();
     let Ready {
@@ -138,23 +138,20 @@ fn tell_by(
         running,
         kept,
     } = ready;
-    match plan_now(
-        alloc, &base.jobs, base, settings, reasons, forced, &wholes, &ran, running,
-    ) {
-        Err(fault) => Err(fault),
-        Ok(plan) => {
-            match holds_back(
-                alloc,
-                &base.jobs,
-                &settings.targets,
-                &wholes,
-                &kept,
-                &plan.states,
-            ) {
+    let judged = Judged {
+        reasons,
+        forced,
+        running,
+    };
+    match Table::of(alloc, &base.jobs, &settings.targets, &wholes) {
+        Err(_) => Err(PlanFault::OutOfMemory),
+        Ok(table) => match plan_now(alloc, &base.jobs, &table, base, settings, &ran, judged) {
+            Err(fault) => Err(fault),
+            Ok(plan) => match table.holds_back(alloc, &kept, &plan.states) {
                 Err(_) => Err(PlanFault::OutOfMemory),
                 Ok(held) => Ok(Made { plan, held }),
-            }
-        }
+            },
+        },
     }
 }
 
@@ -166,12 +163,12 @@ pub(crate) fn tell(
     base: &Base,
     settings: &Settings,
     reasons: List<List<Reason>>,
-    forced: &List<bool>,
+    forced: List<bool>,
 ) -> Result<Made, PlanFault>
     ensures each { IfOk result (λ made. length made.plan.states ≡ length base.now.jobs.jobs) }
     ensures targets { IfOk result (λ made. length made.plan.current ≡ length settings.now.targets) }
-    ensures now { IfOk result (λ made. (facts : Items FactsValue) → AreJudgedBy settings.now base.now facts reasons forced.now → IsNow settings.now base.now made.plan made.held) }
-    ensures refused { IfErr result (λ fault. fault ≢ PlanFault.OutOfMemory → (facts : Items FactsValue) → AreJudgedBy settings.now base.now facts reasons forced.now → IsRefusedNow settings.now base.now fault) }
+    ensures now { IfOk result (λ made. (facts : Items FactsValue) → AreJudgedBy settings.now base.now facts reasons forced → IsNow settings.now base.now made.plan made.held) }
+    ensures refused { IfErr result (λ fault. fault ≢ PlanFault.OutOfMemory → (facts : Items FactsValue) → AreJudgedBy settings.now base.now facts reasons forced → IsRefusedNow settings.now base.now fault) }
 {
     match make_ready(alloc, base) {
         Err(_) => Err(PlanFault::OutOfMemory),

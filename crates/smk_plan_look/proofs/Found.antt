@@ -5,6 +5,7 @@ use Rattle.smk_world.specs.declared.event.WorkFault.TheVariants.{Failed, OutOfMe
 use Rattle.smk_world.specs.Calls.{device_failed}
 use Rattle.smk_world.specs.Trees.{Path, Each}
 use Rattle.smk_store_members.specs.Members.{Nodes}
+use Rattle.smk_store.specs.Unowned.{IsUnownedUnder}
 use Rattle.smk_store_members.proofs.Lists.{each_both}
 use Rattle.smk_plan.specs.declared.seen.Sight.{Sight}
 use Rattle.smk_plan.specs.declared.fault.LookFault.{LookFault}
@@ -18,10 +19,16 @@ paths_append (x ∷ sights) s = ap (λ (ps : List Path). x.path ∷ ps) (paths_a
 pub path_pushed : (sights new : List Sight) (s : Sight) (path : Path) → new ≡ sights ++ s ∷ [] → s.path ≡ path → are_paths new ≡ are_paths sights ++ path ∷ []
 path_pushed sights new s path pushed is = ap are_paths pushed ∙ paths_append sights s ∙ ap (λ (p : Path). are_paths sights ++ p ∷ []) is
 
-pub sight_pushed : (a b : Nodes) (sights new : List Sight) (s : Sight) (path : Path) → new ≡ sights ++ s ∷ [] → s.path ≡ path → a ≡ b → IsSightOf a path s → Each (λ (x : Sight). IsSightOf b x.path x) sights → Each (λ (x : Sight). IsSightOf b x.path x) new
+-- what a sight tells where no child owns the path or anything under it
+abbrev pub TellsUnowned : Nodes → Sight → Type 0
+TellsUnowned nodes s = IsUnownedUnder nodes s.path → IsSightOf nodes s.path s
+
+pub sight_pushed : (a b : Nodes) (sights new : List Sight) (s : Sight) (path : Path) → new ≡ sights ++ s ∷ [] → s.path ≡ path → a ≡ b → (IsUnownedUnder a path → IsSightOf a path s)
+    → Each (TellsUnowned b) sights → Each (TellsUnowned b) new
 sight_pushed a b sights new s path pushed is same told each =
-    subst (Each (λ (x : Sight). IsSightOf b x.path x)) (sym pushed)
-    (each_both (λ (x : Sight). IsSightOf b x.path x) sights (s ∷ []) each (subst (λ (n : Nodes). IsSightOf n s.path s) same (subst (λ (p : Path). IsSightOf a p s) (sym is) told), tt))
+    subst (Each (TellsUnowned b)) (sym pushed)
+    (each_both (TellsUnowned b) sights (s ∷ []) each
+    (subst (λ (n : Nodes). TellsUnowned n s) same (subst (λ (p : Path). IsUnownedUnder a p → IsSightOf a p s) (sym is) told), tt))
 
 -- ## Faults
 

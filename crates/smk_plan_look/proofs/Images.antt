@@ -1,5 +1,5 @@
 -- What is seen, as the image of the folder has it.
-use Rattle.std.proofs.Common.{◌≡◌, inl, inr, ℕ, suc, ◌+◌, length, drop, arith, Bool, true, false, ◌&&◌, ◌||◌, not, cond, List, [], ◌∷◌, ◌++◌, map, filter, refl, sym, ap, subst, ◌∙◌, Option, Some, None, bytes_eq}
+use Rattle.std.proofs.Common.{◌≡◌, ◌≢◌, inl, inr, ℕ, suc, ◌+◌, length, drop, arith, Bool, true, false, ◌&&◌, ◌||◌, not, cond, List, [], ◌∷◌, ◌++◌, map, filter, refl, sym, ap, subst, ◌∙◌, Option, Some, None, bytes_eq}
 use Rattle.std.specs.Prelude.{is_some, if◌then◌else◌}
 use Rattle.std.specs.List.{list_any, find, flat_map}
 use Rattle.smk_base.specs.Path.{is_path, is_under, is_at_or_under, own_folder}
@@ -14,6 +14,7 @@ use Rattle.smk_world.specs.declared.recipe.Out.{Out}
 use Rattle.smk_world.specs.declared.recipe.OutItem.{OutItem}
 use Rattle.smk_world.specs.World.{World, IsFormed, is_named, reading, reads_folder}
 use Rattle.smk_world.specs.Calls.{in_folder, Stands, stat_of}
+use Rattle.smk_world.specs.Folders.{IsTree}
 use Rattle.smk_world.specs.Trees.{Path, Each, IsIn, is_path_text, is_text, below, outs_of}
 use Rattle.smk_record.specs.declared.record.Member.{Member}
 use Rattle.smk_record.specs.declared.record.Record.{Record}
@@ -26,16 +27,17 @@ use Rattle.smk_chain.specs.declared.jobs.Jobs.{Jobs}
 use Rattle.smk_chain.specs.declared.jobs.Maker.{Maker}
 use Rattle.smk_store_members.specs.Members.{Nodes, IsFound, member_places, IsThere, AreMembers}
 use Rattle.smk_store_members.specs.Members.IsFound.{Inside, Deeper}
-use Rattle.smk_store_members.specs.Disk.{IsTree}
+use Rattle.smk_store.specs.Unowned.{IsUnownedUnder}
 use Rattle.smk_store_members.proofs.Lists.{each_both, each_more, each_unmap}
 use Rattle.smk_store_members.proofs.Trees.{some_stands, stands_some, tree_found}
 use Rattle.smk_store_members.proofs.Under.{same_members}
 use Rattle.smk_plan.specs.declared.seen.Sight.{Sight}
 use Rattle.smk_plan.specs.States.{test_some}
-use Rattle.smk_plan.specs.Sights.{is_tellable, is_guarded, members_seen, sight_of, IsSeenAs, IsSeenOf}
+use Rattle.smk_plan.specs.Sights.{is_tellable, is_guarded, members_seen, sight_of, IsSeenAs, IsSourceSeen, IsSeenOf}
 use Rattle.smk_plan_look.specs.Gathering.{Texts, IsHeld, item_paths, job_paths, source_path, unless_made, wanted}
-use Rattle.smk_plan_look.specs.Seeing.{TellsGuard, IsListedAs, IsSightOf, are_paths}
+use Rattle.smk_plan_look.specs.Seeing.{TellsGuard, IsListedAs, IsSightOf, IsSeenUnowned, AreSeenUnowned, are_paths}
 use Rattle.smk_plan_look.proofs.Waiting.{guard_some}
+use Rattle.smk_plan_look.proofs.Found.{TellsUnowned}
 
 -- ## Lists
 
@@ -223,18 +225,22 @@ module _ (read : List ℕ → Option Record) (w : World) (formed : IsFormed w) (
       let guarded : s.guarded ≡ is_guarded image p = guarded_is p s.guarded path h.guarded in
       λ i. record { path = h.path i; stat = stat i; members = members i; guarded = guarded i }
 
-  sights_are : (sights : List Sight) → Each (λ (p : Path). is_path_text p ≡ true) (are_paths sights) → Each (λ (s : Sight). IsSightOf w.nodes s.path s) sights → Each (λ (s : Sight). s ≡ sight_of image s.path) sights
-  sights_are [] paths h = tt
-  sights_are (s ∷ sights) paths h = (sight_is s.path s (and_first (is_path s.path) (is_text s.path) paths.0) h.0, sights_are sights paths.1 h.1)
+  -- what was seen, where no child owns the path or anything under it
+  abbrev IsAsSeen : Sight → Type 0
+  IsAsSeen s = IsUnownedUnder w.nodes s.path → s ≡ sight_of image s.path
 
-  seen_at : (sights : List Sight) (q : Path) → is_named q (are_paths sights) ≡ true → Each (λ (s : Sight). s ≡ sight_of image s.path) sights → IsSeenAs image sights q
-  seen_at [] q h are = absurd (never_both false h refl)
-  seen_at (s ∷ sights) q h are = go (bytes_eq s.path q) refl (λ k. seen_at sights q k are.1)
+  sights_are : (sights : List Sight) → Each (λ (p : Path). is_path_text p ≡ true) (are_paths sights) → Each (TellsUnowned w.nodes) sights → Each IsAsSeen sights
+  sights_are [] paths h = tt
+  sights_are (s ∷ sights) paths h = (λ free. sight_is s.path s (and_first (is_path s.path) (is_text s.path) paths.0) (h.0 free), sights_are sights paths.1 h.1)
+
+  seen_at : (sights : List Sight) (q : Path) → is_named q (are_paths sights) ≡ true → Each IsAsSeen sights → IsSeenUnowned w image sights q
+  seen_at [] q h are free = absurd (never_both false h refl)
+  seen_at (s ∷ sights) q h are free = go (bytes_eq s.path q) refl (λ k. seen_at sights q k are.1 free)
     where
       go : (b : Bool) → bytes_eq s.path q ≡ b → (is_named q (are_paths sights) ≡ true → IsSeenAs image sights q) → find (λ (x : Sight). bytes_eq x.path q) (s ∷ sights) ≡ Some (sight_of image q)
       go true e again =
           ap (λ (b : Bool). cond b (Some s) (find (λ (x : Sight). bytes_eq x.path q) sights)) e
-          ∙ ap Some (are.0 ∙ ap (sight_of image) (same_place s.path q e))
+          ∙ ap Some (are.0 (subst (IsUnownedUnder w.nodes) (sym (same_place s.path q e)) free) ∙ ap (sight_of image) (same_place s.path q e))
       go false e again =
           ap (λ (b : Bool). cond b (Some s) (find (λ (x : Sight). bytes_eq x.path q) sights)) e
           ∙ again (sym (ap (λ (b : Bool). b || is_named q (are_paths sights)) (same_flipped q s.path ∙ e)) ∙ h)
@@ -262,7 +268,7 @@ module _ (read : List ℕ → Option Record) (w : World) (formed : IsFormed w) (
     sources_seen P ms (each_back P (source_path m) (flat_map source_path ms) h),
   )
 
-  held_seen : (paths : Texts) (sights : List Sight) → are_paths sights ≡ filter is_path_text (texts_of paths.keys) → Each (λ (s : Sight). s ≡ sight_of image s.path) sights → (q : Path) → IsHeld paths q → IsSeenAs image sights q
+  held_seen : (paths : Texts) (sights : List Sight) → are_paths sights ≡ filter is_path_text (texts_of paths.keys) → Each IsAsSeen sights → (q : Path) → IsHeld paths q → IsSeenUnowned w image sights q
   held_seen paths sights all are q held =
       seen_at sights q
       (ap (is_named q) all ∙ named_filter is_path_text q (texts_of paths.keys)
@@ -271,12 +277,21 @@ module _ (read : List ℕ → Option Record) (w : World) (formed : IsFormed w) (
   path_texts : (ts : List Path) → Each (λ (p : Path). is_path_text p ≡ true) (filter is_path_text ts)
   path_texts ts = each_more (λ (p : Path). (is_path_text p ≡ true) × Unit {0}) (λ (p : Path). is_path_text p ≡ true) (λ p h. h.0) (filter is_path_text ts) (each_kept is_path_text (λ p. Unit {0}) ts (units ts))
 
-  pub all_seen : (jobs : Jobs) (paths : Texts) (sights : List Sight) → Each (IsHeld paths) (wanted jobs) → are_paths sights ≡ filter is_path_text (texts_of paths.keys) → Each (λ (s : Sight). IsSightOf w.nodes s.path s) sights
-      → IsSeenOf image jobs sights
+  pub all_seen : (jobs : Jobs) (paths : Texts) (sights : List Sight) → Each (IsHeld paths) (wanted jobs) → are_paths sights ≡ filter is_path_text (texts_of paths.keys) → Each (TellsUnowned w.nodes) sights
+      → AreSeenUnowned w image jobs sights
   all_seen jobs paths sights held all told =
       let are = sights_are sights (subst (Each (λ (p : Path). is_path_text p ≡ true)) (sym all) (path_texts (texts_of paths.keys))) told in
-      let each : Each (IsSeenAs image sights) (wanted jobs) = each_more (IsHeld paths) (IsSeenAs image sights) (held_seen paths sights all are) (wanted jobs) held in
+      let each : Each (IsSeenUnowned w image sights) (wanted jobs) = each_more (IsHeld paths) (IsSeenUnowned w image sights) (held_seen paths sights all are) (wanted jobs) held in
       record {
-        outputs = jobs_seen (IsSeenAs image sights) jobs.jobs (each_front (IsSeenAs image sights) (flat_map job_paths jobs.jobs) (flat_map source_path jobs.makers) each);
-        sources = sources_seen (IsSeenAs image sights) jobs.makers (each_back (IsSeenAs image sights) (flat_map job_paths jobs.jobs) (flat_map source_path jobs.makers) each);
+        outputs = jobs_seen (IsSeenUnowned w image sights) jobs.jobs (each_front (IsSeenUnowned w image sights) (flat_map job_paths jobs.jobs) (flat_map source_path jobs.makers) each);
+        sources = sources_seen (IsSeenUnowned w image sights) jobs.makers (each_back (IsSeenUnowned w image sights) (flat_map job_paths jobs.jobs) (flat_map source_path jobs.makers) each);
       }
+
+-- where no child owns a place, all is seen
+pub seen_of : (w : World) (image : Image) (jobs : Jobs) (sights : List Sight) → ((q : Path) → w.nodes q ≢ Owned) → AreSeenUnowned w image jobs sights → IsSeenOf image jobs sights
+seen_of w image jobs sights none seen =
+    record {
+      outputs = each_more (λ (j : Job). Each (λ (o : Out). IsSeenUnowned w image sights o.path) (outs_of j.recipe)) (λ (j : Job). Each (λ (o : Out). IsSeenAs image sights o.path) (outs_of j.recipe))
+          (λ j h. each_more (λ (o : Out). IsSeenUnowned w image sights o.path) (λ (o : Out). IsSeenAs image sights o.path) (λ o t. t (λ q at. none q)) (outs_of j.recipe) h) jobs.jobs seen.outputs;
+      sources = each_more (λ (m : Maker). m.job ≡ None → IsSeenUnowned w image sights m.path) (IsSourceSeen image sights) (λ m h none_made. h none_made (λ q at. none q)) jobs.makers seen.sources;
+    }

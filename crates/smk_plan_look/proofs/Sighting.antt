@@ -1,5 +1,5 @@
 -- What is seen at one path.
-use Rattle.std.proofs.Common.{◌≡◌, inl, inr, Bool, true, false, List, refl, sym, ap, subst, ◌∙◌, Option, Some, None}
+use Rattle.std.proofs.Common.{◌≡◌, ◌≢◌, inl, inr, Bool, true, false, List, refl, sym, ap, subst, ◌∙◌, Option, Some, None}
 use Rattle.std.specs.Prelude.{IsSome}
 use Rattle.smk_base.proofs.Under.{never_both, rest_under, at_itself, at_or_under_cases}
 use Rattle.smk_world.specs.declared.event.Node.TheVariants.{Regular, Directory}
@@ -8,20 +8,26 @@ use Rattle.smk_world.specs.declared.event.NodeState.TheVariants.{Owned, Known}
 use Rattle.smk_world.specs.declared.event.Stat.{Stat}
 use Rattle.smk_world.specs.World.{World, reading, reads_folder}
 use Rattle.smk_world.specs.Calls.{stat_of}
+use Rattle.smk_world.specs.Folders.{IsTree}
 use Rattle.smk_world.specs.Trees.{Path, is_path_text}
 use Rattle.smk_record.specs.declared.record.Member.{Member}
 use Rattle.smk_store_members.specs.declared.listed.Listed.{Listed}
 use Rattle.smk_store_members.specs.declared.listed.Listed.TheVariants.{Members, BadMember}
 use Rattle.smk_store_members.specs.Members.{Nodes, IsOpenFolder, IsListed}
-use Rattle.smk_store_members.specs.Disk.{IsTree}
-use Rattle.smk_store_members.proofs.Trees.{tree_folder, tree_still}
+use Rattle.smk_store.specs.Unowned.{IsUnownedUnder}
+use Rattle.smk_store.proofs.Looks.{unowned_still}
+use Rattle.smk_store.proofs.Standing.{tree_folder}
 use Rattle.smk_plan.specs.declared.seen.Sight.{Sight}
 use Rattle.smk_plan.specs.Sights.{is_tellable}
 use Rattle.smk_plan_look.specs.Seeing.{TellsGuard, IsListedAs, IsSightOf, is_read_only, is_folder_stat, members_in}
 use Rattle.smk_plan_look.proofs.Waiting.{flag, read_only_same, guard_some, path_tellable}
 
-pub open_folder : (w : World) (p : Path) → IsTree w → reads_folder (w.nodes p) ≡ true → IsOpenFolder w.nodes p
-open_folder w p tree reads = record { folder = reads; unowned = λ q inside owned. tree.unowned q owned }
+pub open_folder : (nodes : Nodes) (p : Path) → IsUnownedUnder nodes p → reads_folder (nodes p) ≡ true → IsOpenFolder nodes p
+open_folder nodes p free reads = record { folder = reads; unowned = free }
+
+-- no child owns the path itself
+pub itself_free : (nodes : Nodes) (p place : Path) → place ≡ p → IsUnownedUnder nodes p → nodes place ≢ Owned
+itself_free nodes p place same free = subst (λ (q : Path). nodes q ≢ Owned) (sym same) (free p (at_itself p))
 
 listed_in : (nodes : Nodes) (p : Path) (listed : Listed) → IsListed nodes p listed → IsListedAs nodes p (members_in listed)
 listed_in nodes p (Members members) h = h
@@ -43,10 +49,10 @@ pub sight_still : (a b : Nodes) (p : Path) (s : Sight) → a ≡ b → IsSightOf
 sight_still a b p s same h = subst (λ (n : Nodes). IsSightOf n p s) same h
 
 -- a folder, with what is under it
-pub folder_seen : (w v : World) → v.nodes ≡ w.nodes → (p place : Path) (stat : Stat) (members : Option (List Member)) (guarded : Bool) → IsTree w → place ≡ p → is_path_text p ≡ true → reads_folder (w.nodes p) ≡ true → stat ≡ stat_of (reading (w.nodes p))
-    → IsListedAs w.nodes p members → (IsTree v → reads_folder (v.nodes place) ≡ true → is_tellable place ≡ true → TellsGuard v.nodes place guarded)
+pub folder_seen : (w v : World) → v.nodes ≡ w.nodes → (p place : Path) (stat : Stat) (members : Option (List Member)) (guarded : Bool) → IsUnownedUnder w.nodes p → place ≡ p → is_path_text p ≡ true → reads_folder (w.nodes p) ≡ true → stat ≡ stat_of (reading (w.nodes p))
+    → IsListedAs w.nodes p members → (IsUnownedUnder v.nodes place → reads_folder (v.nodes place) ≡ true → is_tellable place ≡ true → TellsGuard v.nodes place guarded)
     → IsSightOf w.nodes p (record { path = p; stat = stat; members = members; guarded = guarded })
-folder_seen w v same p place stat members guarded tree at path reads is listed told =
+folder_seen w v same p place stat members guarded free at path reads is listed told =
     record {
       path = refl;
       stat = is;
@@ -54,7 +60,7 @@ folder_seen w v same p place stat members guarded tree at path reads is listed t
       plain = λ h. absurd (never_both (reads_folder (w.nodes p)) reads h);
       guarded = subst (λ (n : Nodes). TellsGuard n p guarded) same
           (subst (λ (q : Path). TellsGuard v.nodes q guarded) at
-          (told (tree_still w v same tree) (ap (λ (q : Path). reads_folder (v.nodes q)) at ∙ ap (λ (n : Nodes). reads_folder (n p)) same ∙ reads) (ap is_tellable at ∙ path_tellable p path)));
+          (told (subst (IsUnownedUnder v.nodes) (sym at) (unowned_still w.nodes v.nodes p same free)) (ap (λ (q : Path). reads_folder (v.nodes q)) at ∙ ap (λ (n : Nodes). reads_folder (n p)) same ∙ reads) (ap is_tellable at ∙ path_tellable p path)));
     }
 
 -- anything else: nothing is under it

@@ -19,16 +19,19 @@ use Rattle.smk_world.specs.declared.event.NodeState.{NodeState}
 use Rattle.smk_world.specs.declared.event.NodeState.TheVariants.{Owned, Known}
 use Rattle.smk_world.specs.World.{World, reading, reads_folder}
 use Rattle.smk_world.specs.Calls.{in_folder, is_name, stat_of, IsTextName, MayStand, Stands, ListingIs}
+use Rattle.smk_world.specs.Folders.{IsTree}
 use Rattle.smk_world.specs.Trees.{Path, Each, IsIn, is_path_text, is_text}
 use Rattle.smk_record.proofs.Digits.{text_is_utf8, utf8_is_text}
 use Rattle.smk_store.specs.Images.{Content, content_of}
 use Rattle.smk_store.proofs.Walks.{utf8_before, utf8_behind, path_bytes, path_utf8}
 use Rattle.smk_store_members.specs.Members.{Nodes, IsFound}
 use Rattle.smk_store_members.specs.Members.IsFound.{Inside, Deeper}
-use Rattle.smk_store_members.specs.Disk.{IsTree}
+use Rattle.smk_store.specs.Unowned.{IsUnownedUnder}
 use Rattle.smk_store_members.specs.Steps.{Either}
 use Rattle.smk_store_members.proofs.Lists.{each_both, each_more, in_first, in_second}
-use Rattle.smk_store_members.proofs.Trees.{some_stands, tree_folder, tree_found, tree_still}
+use Rattle.smk_store.proofs.Looks.{unowned_still}
+use Rattle.smk_store.proofs.Standing.{tree_folder}
+use Rattle.smk_store_members.proofs.Trees.{some_stands, tree_found}
 use Rattle.smk_plan.specs.States.{test_some}
 use Rattle.smk_plan.specs.Sights.{is_tellable}
 use Rattle.smk_plan_look.specs.Seeing.{IsGuard, HasGuard, TellsGuard, is_read_only}
@@ -134,26 +137,36 @@ kind_of folder (Known None besides) other h = absurd h
 kind_of folder (Known (Some (Regular bytes time read_only)) besides) other h = sym h
 kind_of folder (Known (Some Directory) besides) other h = sym h
 
-listed_by : (w : World) (folder : Path) (listing : Listing) (s : NodeState) → IsTree w → reads_folder s ≡ true → ListingIs w folder listing s → ListedIn w.nodes folder listing.names
-listed_by w folder listing Owned tree reads h = absurd (never_both false reads refl)
-listed_by w folder listing (Known None besides) tree reads h = absurd (never_both false reads refl)
-listed_by w folder listing (Known (Some (Regular bytes time read_only)) besides) tree reads h = absurd (never_both false reads refl)
-listed_by w folder listing (Known (Some Directory) besides) tree reads h =
+listed_by : (w : World) (folder : Path) (listing : Listing) (s : NodeState) → IsUnownedUnder w.nodes folder → reads_folder s ≡ true → ListingIs w folder listing s → ListedIn w.nodes folder listing.names
+listed_by w folder listing Owned free reads h = absurd (never_both false reads refl)
+listed_by w folder listing (Known None besides) free reads h = absurd (never_both false reads refl)
+listed_by w folder listing (Known (Some (Regular bytes time read_only)) besides) free reads h = absurd (never_both false reads refl)
+listed_by w folder listing (Known (Some Directory) besides) free reads h =
     record {
       each = All-weaker (λ (n : Name). IsTrue (is_name n.name) × IsTextName n.name × MayStand n.folder (w.nodes (in_folder folder n.name))) (IsNameThere w.nodes folder)
-          (λ n p. record { text = p.1; kind = kind_of n.folder (w.nodes (in_folder folder n.name)) (tree.unowned (in_folder folder n.name)) p.2 }) listing.names h.1.stand;
+          (λ n p. record { text = p.1; kind = kind_of n.folder (w.nodes (in_folder folder n.name)) (free (in_folder folder n.name) (at_when_under (in_folder folder n.name) folder (under_folder folder n.name))) p.2 }) listing.names h.1.stand;
       all = h.1.all;
     }
 
-pub listed_in : (w : World) (folder : Path) (listing : Listing) (names : List Name) → IsTree w → reads_folder (w.nodes folder) ≡ true → names ≡ listing.names → ListingIs w folder listing (w.nodes folder)
+pub listed_in : (w : World) (folder : Path) (listing : Listing) (names : List Name) → IsUnownedUnder w.nodes folder → reads_folder (w.nodes folder) ≡ true → names ≡ listing.names → ListingIs w folder listing (w.nodes folder)
     → ListedIn w.nodes folder names
-listed_in w folder listing names tree reads are h = subst (ListedIn w.nodes folder) (sym are) (listed_by w folder listing (w.nodes folder) tree reads h)
+listed_in w folder listing names free reads are h = subst (ListedIn w.nodes folder) (sym are) (listed_by w folder listing (w.nodes folder) free reads h)
 
 named_in : (names : List Name) (name : Path) → Contains (map (λ (n : Name). n.name) names) name → (n : Name) × Contains names n × (n.name ≡ name)
 named_in names name h =
     All-contains (λ (x : Path). (n : Name) × Contains names n × (n.name ≡ x)) (map (λ (n : Name). n.name) names) name
     (All-map (λ (x : Path). (n : Name) × Contains names n × (n.name ≡ x)) (λ (n : Name). n.name) names
     (All-weaker (Contains names) (λ (m : Name). (n : Name) × Contains names n × (n.name ≡ m.name)) (λ m c. (m, c, refl)) names (All-contains_itself names))) h
+
+-- what is inside the folder is no child's either
+pub unowned_inside : (nodes : Nodes) (p folder : Path) → is_at_or_under folder p ≡ true → IsUnownedUnder nodes p → IsUnownedUnder nodes folder
+unowned_inside nodes p folder inside free q at = free q (at_or_under_further q folder p at inside)
+
+-- nor is a name in it, after looks
+pub name_free : (a b : Nodes) (folder place name : Path) → b ≡ a → place ≡ in_folder folder name → IsUnownedUnder a folder → b place ≢ Owned
+name_free a b folder place name same at free =
+    subst (λ (n : Nodes). n place ≢ Owned) (sym same)
+    (subst (λ (q : Path). a q ≢ Owned) (sym at) (free (in_folder folder name) (at_when_under (in_folder folder name) folder (under_folder folder name))))
 
 -- ## From name to name
 
@@ -340,8 +353,8 @@ pub either_is : (found : Bool) (A B : Type 0) → found ≡ true → Either foun
 either_is found A B is h = subst (λ (b : Bool). Either b A B) is h
 
 -- what a look in the last folder that waited told
-pub look_told : (w v : World) → v.nodes ≡ w.nodes → (p : Path) (old middle new : List Path) (last : Path) (found : Bool) → IsTree w → old ≡ middle ++ last ∷ [] → AreWaiting w.nodes p old
-    → (IsTree v → (q : Path) → AreWaiting v.nodes q (middle ++ last ∷ []) → Either found (HasGuard v.nodes q) (AreWaiting v.nodes q new)) → Either found (HasGuard w.nodes p) (AreWaiting w.nodes p new)
-look_told w v same p old middle new last found tree taken waiting told =
+pub look_told : (w v : World) → v.nodes ≡ w.nodes → (p : Path) (old middle new : List Path) (last : Path) (found : Bool) → IsUnownedUnder w.nodes p → old ≡ middle ++ last ∷ [] → AreWaiting w.nodes p old
+    → ((q : Path) → IsUnownedUnder v.nodes q → AreWaiting v.nodes q (middle ++ last ∷ []) → Either found (HasGuard v.nodes q) (AreWaiting v.nodes q new)) → Either found (HasGuard w.nodes p) (AreWaiting w.nodes p new)
+look_told w v same p old middle new last found free taken waiting told =
     subst (λ (n : Nodes). Either found (HasGuard n p) (AreWaiting n p new)) same
-    (told (tree_still w v same tree) p (waiting_still w.nodes v.nodes p (middle ++ last ∷ []) (sym same) (waiting_taken w.nodes p old middle last taken waiting)))
+    (told p (unowned_still w.nodes v.nodes p same free) (waiting_still w.nodes v.nodes p (middle ++ last ∷ []) (sym same) (waiting_taken w.nodes p old middle last taken waiting)))

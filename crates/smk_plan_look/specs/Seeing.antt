@@ -1,23 +1,28 @@
 -- What looks at a path tell of it.
 use Rattle.std.specs.Prelude.{◌≡◌, Bool, true, false, List, map, Option, Some, None, Result, Ok, Err}
 use Rattle.smk_base.specs.Path.{is_at_or_under}
+use Rattle.smk_world.specs.declared.recipe.Out.{Out}
 use Rattle.smk_world.specs.declared.event.Stat.{Stat}
 use Rattle.smk_world.specs.declared.event.Stat.TheVariants.{Nothing as NoStat, File as FileStat, Folder as FolderStat}
 use Rattle.smk_world.specs.declared.event.WorkFault.{WorkFault}
 use Rattle.smk_world.specs.declared.event.WorkFault.TheVariants.{Failed, OutOfMemory}
-use Rattle.smk_world.specs.World.{reading, reads_folder}
+use Rattle.smk_world.specs.World.{World, reading, reads_folder}
 use Rattle.smk_world.specs.Calls.{stat_of}
-use Rattle.smk_world.specs.Trees.{Path}
+use Rattle.smk_world.specs.Trees.{Path, Each, outs_of}
 use Rattle.smk_record.specs.declared.record.Member.{Member}
-use Rattle.smk_store.specs.Images.{Content, content_of}
+use Rattle.smk_store.specs.Images.{Image, Content, content_of}
+use Rattle.smk_store.specs.Unowned.{IsUnownedUnder}
 use Rattle.smk_store_members.specs.declared.listed.Listed.{Listed}
 use Rattle.smk_store_members.specs.declared.listed.Listed.TheVariants.{Members, BadMember}
 use Rattle.smk_store_members.specs.Members.{Nodes, AreMembers, HasNoMembers}
+use Rattle.smk_flow.specs.declared.job.Job.{Job}
+use Rattle.smk_chain.specs.declared.jobs.Jobs.{Jobs}
+use Rattle.smk_chain.specs.declared.jobs.Maker.{Maker}
 use Rattle.smk_plan.specs.declared.seen.Sight.{Sight}
 use Rattle.smk_plan.specs.declared.fault.LookFault.{LookFault}
 use Rattle.smk_plan.specs.declared.fault.LookFault.TheVariants.{Device, OutOfMemory as NoMemory}
 use Rattle.smk_plan.specs.States.{test_some}
-use Rattle.smk_plan.specs.Sights.{is_tellable}
+use Rattle.smk_plan.specs.Sights.{is_tellable, IsSeenAs}
 
 abbrev pub is_read_only : Stat → Bool
 is_read_only NoStat = false
@@ -61,6 +66,15 @@ pub record IsSightOf (nodes : Nodes) (p : Path) (s : Sight) : Type 0 where
   pub folder : reads_folder (nodes p) ≡ true → IsListedAs nodes p s.members
   pub plain : reads_folder (nodes p) ≡ false → s.members ≡ None
   pub guarded : TellsGuard nodes p s.guarded
+
+-- the path is seen as it stands, where no running child owns it or anything under it
+abbrev pub IsSeenUnowned : World → Image → List Sight → Path → Type 0
+IsSeenUnowned w image sights p = IsUnownedUnder w.nodes p → IsSeenAs image sights p
+
+-- So is each output of these jobs, and each source.
+pub record AreSeenUnowned (w : World) (image : Image) (jobs : Jobs) (sights : List Sight) : Type 0 where
+  pub outputs : Each (λ (j : Job). Each (λ (o : Out). IsSeenUnowned w image sights o.path) (outs_of j.recipe)) jobs.jobs
+  pub sources : Each (λ (m : Maker). m.job ≡ None → IsSeenUnowned w image sights m.path) jobs.makers
 
 -- the paths of which something is seen
 abbrev pub are_paths : List Sight → List Path

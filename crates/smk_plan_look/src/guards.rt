@@ -1,12 +1,13 @@
 //! Read-only files under a folder.
 
-ghost use Rattle.std.specs.Prelude.{◌≡◌, ◌++◌, ◌∷◌, [], true, IfOk};
+ghost use Rattle.std.specs.Prelude.{◌≡◌, ◌≢◌, ◌++◌, ◌∷◌, [], true, IfOk};
+ghost use Rattle.smk_world.specs.declared.event.NodeState.TheVariants.{Owned};
 ghost use Rattle.smk_world.specs.World.{reads_folder};
 ghost use Rattle.smk_world.specs.Calls.{device_failed};
 ghost use Rattle.smk_world.specs.Devices.{HasLooked, WhereTold};
 ghost use Rattle.smk_world.specs.Trees.{Path};
 ghost use Rattle.smk_store_members.specs.Steps.{Either};
-ghost use Rattle.smk_store_members.specs.Disk.{IsTree};
+ghost use Rattle.smk_store.specs.Unowned.{IsUnownedUnder};
 ghost use Rattle.smk_plan.specs.Sights.{is_tellable};
 ghost use Rattle.smk_plan_look.specs.Seeing.{HasGuard, TellsGuard, is_read_only};
 ghost use Rattle.smk_plan_look.specs.Guards.{AreWaiting, IsNoted};
@@ -34,7 +35,7 @@ fn note<W: Files>(
     folder: bool,
 ) -> Result<bool, WorkFault>
     ensures looked { HasLooked W.act (W.device work.old) (W.device work.new) (device_failed result) }
-    ensures told { IfOk result (λ found. WhereTold (W.device work.old) (λ w. IsTree w → IsNoted w.nodes place folder waiting.old waiting.new found)) }
+    ensures told { IfOk result (λ found. WhereTold (W.device work.old) (λ w. w.nodes place ≢ Owned → IsNoted w.nodes place folder waiting.old waiting.new found)) }
 {
     if folder {
         waiting.push(place)?;
@@ -52,7 +53,7 @@ fn look_in<W: Files>(
     folder: &Place,
 ) -> Result<bool, WorkFault>
     ensures looked { HasLooked W.act (W.device work.old) (W.device work.new) (device_failed result) }
-    ensures told { IfOk result (λ found. WhereTold (W.device work.old) (λ w. IsTree w → (p : Path) → AreWaiting w.nodes p (waiting.old ++ folder.now ∷ [])
+    ensures told { IfOk result (λ found. WhereTold (W.device work.old) (λ w. (p : Path) → IsUnownedUnder w.nodes p → AreWaiting w.nodes p (waiting.old ++ folder.now ∷ [])
         → Either found (HasGuard w.nodes p) (AreWaiting w.nodes p waiting.new))) }
 {
     let listing = work.list(alloc, folder)?;
@@ -73,7 +74,7 @@ pub(crate) fn has_guard<W: Files>(
     folder: &Place,
 ) -> Result<bool, WorkFault>
     ensures looked { HasLooked W.act (W.device work.old) (W.device work.new) (device_failed result) }
-    ensures told { IfOk result (λ found. WhereTold (W.device work.old) (λ w. IsTree w → reads_folder (w.nodes folder.now) ≡ true → is_tellable folder.now ≡ true
+    ensures told { IfOk result (λ found. WhereTold (W.device work.old) (λ w. IsUnownedUnder w.nodes folder.now → reads_folder (w.nodes folder.now) ≡ true → is_tellable folder.now ≡ true
         → TellsGuard w.nodes folder.now found)) }
 {
     let mut waiting = one(alloc, folder.copy(alloc)?)?;

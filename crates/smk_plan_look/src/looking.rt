@@ -8,9 +8,9 @@ ghost use Rattle.smk_world.specs.Trees.{Each, is_path_text};
 ghost use Rattle.smk_record.specs.declared.record.Record.{Record as RecordValue};
 ghost use Rattle.smk_store.specs.Images.{seen};
 ghost use Rattle.smk_store.specs.Walking.{path_in, texts_of};
-ghost use Rattle.smk_store_members.specs.Disk.{IsTree};
-ghost use Rattle.smk_plan.specs.Sights.{IsSeenOf, AreRising};
-ghost use Rattle.smk_plan_look.specs.Seeing.{IsSightOf, are_paths, look_fault, look_failed};
+ghost use Rattle.smk_store.specs.Unowned.{IsUnownedUnder};
+ghost use Rattle.smk_plan.specs.Sights.{AreRising};
+ghost use Rattle.smk_plan_look.specs.Seeing.{IsSightOf, AreSeenUnowned, are_paths, look_fault, look_failed};
 
 use crate::paths::paths_in;
 use crate::sights::sight_at;
@@ -41,7 +41,7 @@ fn sights_of<W: Files>(
     ensures looked { HasLooked W.act (W.device work.old) (W.device work.new) (device_failed result) }
     ensures rising { IfOk result (λ sights. AreRising sights) }
     ensures paths { IfOk result (λ sights. are_paths sights ≡ filter is_path_text (texts_of paths.now.keys)) }
-    ensures told { IfOk result (λ sights. WhereTold (W.device work.old) (λ w. IsTree w → Each (λ s. IsSightOf w.nodes s.path s) sights)) }
+    ensures told { IfOk result (λ sights. WhereTold (W.device work.old) (λ w. Each (λ s. IsUnownedUnder w.nodes s.path → IsSightOf w.nodes s.path s) sights)) }
 {
     let mut sights = List::new(alloc);
     for text in paths {
@@ -57,8 +57,8 @@ fn sights_of<W: Files>(
 // What is seen of the outputs and the sources.
 fn seen_of<W: Files>(alloc: Global, work: &mut W, jobs: &Jobs) -> Result<Seen, WorkFault>
     ensures looked { HasLooked W.act (W.device work.old) (W.device work.new) (device_failed result) }
-    ensures told { IfOk result (λ sights. WhereTold (W.device work.old) (λ w. IsTree w
-        → (read : Items ℕ → Option RecordValue) → IsSeenOf (seen read w) jobs.now sights)) }
+    ensures told { IfOk result (λ sights. WhereTold (W.device work.old) (λ w. (read : Items ℕ → Option RecordValue)
+        → AreSeenUnowned w (seen read w) jobs.now sights)) }
 {
     let paths = paths_in(alloc, jobs)?;
     let sights = sights_of(alloc, work, &paths)?;
@@ -82,9 +82,9 @@ fn fault_of(fault: WorkFault) -> LookFault
 pub fn look<W: Files>(alloc: Global, work: &mut W, jobs: &Jobs) -> Result<Seen, LookFault>
     ensures looked { HasLooked W.act (W.device work.old) (W.device work.new) (look_failed result) }
 
-    // Each output and each source is seen as it stands in the folder.
-    ensures told { IfOk result (λ sights. WhereTold (W.device work.old) (λ w. IsTree w
-        → (read : Items ℕ → Option RecordValue) → IsSeenOf (seen read w) jobs.now sights)) }
+    // Each output and each source is seen as it stands in the folder, where no running child owns it or anything under it.
+    ensures told { IfOk result (λ sights. WhereTold (W.device work.old) (λ w. (read : Items ℕ → Option RecordValue)
+        → AreSeenUnowned w (seen read w) jobs.now sights)) }
 {
     match seen_of(alloc, work, jobs) {
         Ok(seen) => Ok(seen),

@@ -5,7 +5,7 @@ ghost use Rattle.smk_world.specs.World.{reading, reads_folder};
 ghost use Rattle.smk_world.specs.Calls.{stat_of, device_failed};
 ghost use Rattle.smk_world.specs.Devices.{HasLooked, WhereTold};
 ghost use Rattle.smk_world.specs.Trees.{is_path_text};
-ghost use Rattle.smk_store_members.specs.Disk.{IsTree};
+ghost use Rattle.smk_store.specs.Unowned.{IsUnownedUnder};
 ghost use Rattle.smk_plan_look.specs.Seeing.{IsListedAs, IsSightOf, is_folder_stat, members_in};
 
 use crate::guards::{has_guard, is_read_only};
@@ -44,7 +44,7 @@ fn members_at<W: Files>(
     path: &PathText,
 ) -> Result<Option<List<Member>>, WorkFault>
     ensures looked { HasLooked W.act (W.device work.old) (W.device work.new) (device_failed result) }
-    ensures told { IfOk result (λ members. WhereTold (W.device work.old) (λ w. IsTree w → reads_folder (w.nodes path.now) ≡ true → IsListedAs w.nodes path.now members)) }
+    ensures told { IfOk result (λ members. WhereTold (W.device work.old) (λ w. IsUnownedUnder w.nodes path.now → reads_folder (w.nodes path.now) ≡ true → IsListedAs w.nodes path.now members)) }
 {
     let listed = members_of(alloc, work, path)?;
     Ok(members_in(listed))
@@ -61,7 +61,7 @@ fn folder_at<W: Files>(
     requires at { place.now ≡ path }
     ensures looked { HasLooked W.act (W.device work.old) (W.device work.new) (device_failed result) }
     ensures path { IfOk result (λ s. s.path ≡ path) }
-    ensures told { IfOk result (λ s. WhereTold (W.device work.old) (λ w. IsTree w → is_path_text path ≡ true → reads_folder (w.nodes path) ≡ true
+    ensures told { IfOk result (λ s. WhereTold (W.device work.old) (λ w. IsUnownedUnder w.nodes path → is_path_text path ≡ true → reads_folder (w.nodes path) ≡ true
         → stat ≡ stat_of (reading (w.nodes path)) → IsSightOf w.nodes path s)) }
 {
     let members = members_at(alloc, work, &path)?;
@@ -82,7 +82,7 @@ pub(crate) fn sight_at<W: Files>(
 ) -> Result<Sight, WorkFault>
     ensures looked { HasLooked W.act (W.device work.old) (W.device work.new) (device_failed result) }
     ensures path { IfOk result (λ s. s.path ≡ path) }
-    ensures told { IfOk result (λ s. WhereTold (W.device work.old) (λ w. IsTree w → is_path_text path ≡ true → IsSightOf w.nodes path s)) }
+    ensures told { IfOk result (λ s. WhereTold (W.device work.old) (λ w. IsUnownedUnder w.nodes path → is_path_text path ≡ true → IsSightOf w.nodes path s)) }
 {
     let place = Place::user(alloc, &path)?;
     let stat = work.stat(&place)?;

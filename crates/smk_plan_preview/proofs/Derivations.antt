@@ -13,15 +13,14 @@ use Rattle.smk_record.specs.declared.record.Record.{Record}
 use Rattle.smk_store.specs.Images.{Image, seen}
 use Rattle.smk_store.specs.Stores.{Known as Entry}
 use Rattle.smk_store.specs.Loading.{IsStoreOf}
+use Rattle.smk_store.specs.Unowned.{NoneOwned}
 use Rattle.smk_chain.specs.declared.fault.ChainFault.{ChainFault}
 use Rattle.smk_chain.specs.declared.fault.SightFault.{SightFault}
 use Rattle.smk_chain.specs.declared.fault.SightFault.TheVariants as sight
 use Rattle.smk_chain.specs.Derive.{Listings, Refusal, TooManyPaths, Deep, NoRule, NoInput, TwoJobs, MissingMember, NoCommand, Clash, Derived, Refused, sources_of, jobs, job_refusals, refused_if, outcome, derivation, reach}
 use Rattle.smk_chain.specs.Told.{first_told, told_refusal, TellsFirst}
-use Rattle.smk_store_members.specs.Disk.{IsTree}
-use Rattle.smk_store_members.proofs.Trees.{tree_folder}
 use Rattle.smk_chain_sight.specs.Sight.{IsSmall, IsLarge, Suffices}
-use Rattle.smk_chain_sight.specs.Disk.{IsOnDisk}
+use Rattle.smk_chain_sight.specs.Disk.{IsOwnedCovered}
 use Rattle.smk_report.specs.declared.fault.Fault.{Fault}
 use Rattle.smk_drive.specs.Refusals.{IsFault}
 use Rattle.smk_plan_preview.specs.Faults.{is_told, as_call, of_sight, of_chain}
@@ -30,27 +29,28 @@ use Rattle.smk_plan_preview.specs.Rounds.{HasTooMany, IsSighted, Sights, IsRefus
 true_false : true ≡ false → ⊥
 true_false e = cc
 
-tree_disk : (w : World) → IsTree w → IsOnDisk w
-tree_disk w tree = record { in_folders = λ folder name path some. tree_folder w tree folder name some; unowned = λ q path. tree.unowned q }
+-- where no child owns a place, what it owns is covered
+none_covered : (w : World) (store : List Entry) → NoneOwned w → IsOwnedCovered w store
+none_covered w store none = λ q path owned. absurd (none q owned)
 
 -- ## Sources
 
 -- of the world in which the look was, with the store of its image
 abbrev pub Where : Device → List Entry → (Image → Type 0) → Type 0
-Where d store P = WhereTold d (λ w. IsOnDisk w → (read : List ℕ → Option Record) → IsStoreOf (seen read w) store → P (seen read w))
+Where d store P = WhereTold d (λ w. IsOwnedCovered w store → (read : List ℕ → Option Record) → IsStoreOf (seen read w) store → P (seen read w))
 
 pub sights : (flow : Flow) (targets : List Path) (L : Listings) (d : Device) (store : List Entry) (r : Result Told SightFault) (s : Result Told Fault) → s ≡ as_call of_sight r
     → IfOk r (λ sources. Where d store (λ image. Suffices flow (sources_of image) L targets (told_by sources)))
     → IfErr r (λ f. (count : ℕ) → f ≡ sight.TooManyPaths count → (100000 < count) × Where d store (λ image. IsLarge flow (sources_of image) L targets))
-    → (w : World) → d.world ≡ Some w → IsTree w → (read : List ℕ → Option Record) → IsStoreOf (seen read w) store → Sights flow targets L (seen read w) s
-sights flow targets L d store (Ok sources) s is told many w at tree read st =
-    let t = told w at (tree_disk w tree) read st in
+    → (w : World) → d.world ≡ Some w → NoneOwned w → (read : List ℕ → Option Record) → IsStoreOf (seen read w) store → Sights flow targets L (seen read w) s
+sights flow targets L d store (Ok sources) s is told many w at none read st =
+    let t = told w at (none_covered w store none) read st in
     subst (λ v. Sights flow targets L (seen read w) v) (sym is) (record { few = t.few; reached = t.same; same = t.same_derivation (seen read w) })
-sights flow targets L d store (Err (sight.TooManyPaths n)) s is told many w at tree read st =
+sights flow targets L d store (Err (sight.TooManyPaths n)) s is told many w at none read st =
     let m = many n refl in
-    subst (λ v. Sights flow targets L (seen read w) v) (sym is) (λ h. record { count = n; is = refl; found = m.0; many = m.1 w at (tree_disk w tree) read st })
-sights flow targets L d store (Err sight.Device) s is told many w at tree read st = subst (λ v. Sights flow targets L (seen read w) v) (sym is) (λ h. absurd (true_false (sym h)))
-sights flow targets L d store (Err sight.OutOfMemory) s is told many w at tree read st = subst (λ v. Sights flow targets L (seen read w) v) (sym is) (λ h. absurd (true_false (sym h)))
+    subst (λ v. Sights flow targets L (seen read w) v) (sym is) (λ h. record { count = n; is = refl; found = m.0; many = m.1 w at (none_covered w store none) read st })
+sights flow targets L d store (Err sight.Device) s is told many w at none read st = subst (λ v. Sights flow targets L (seen read w) v) (sym is) (λ h. absurd (true_false (sym h)))
+sights flow targets L d store (Err sight.OutOfMemory) s is told many w at none read st = subst (λ v. Sights flow targets L (seen read w) v) (sym is) (λ h. absurd (true_false (sym h)))
 
 -- ## Refusals
 

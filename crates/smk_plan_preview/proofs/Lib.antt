@@ -13,4 +13,3 @@ pub mod Rounded
 pub mod Previews
 pub mod Telling
 pub mod Made
-pub mod OnDisk

@@ -1,11 +1,12 @@
 -- Looks, by answers of the parts and of a preview.
-use Rattle.std.proofs.Common.{◌≡◌, ℕ, Bool, true, false, List, [], ◌∷◌, map, refl, sym, ap, ap₂, subst, ◌∙◌, Option, Some, None, Result, Ok, Err}
+use Rattle.std.proofs.Common.{◌≡◌, ◌≢◌, ℕ, Bool, true, false, List, [], ◌∷◌, map, refl, sym, ap, ap₂, subst, ◌∙◌, Option, Some, None, Result, Ok, Err}
 use Rattle.std.specs.Prelude.{IsSome, is_some, IsErrAnd, IfOk, IfErr}
 use Rattle.smk_world.specs.declared.event.Call.{Call}
 use Rattle.smk_world.specs.declared.event.Call.TheVariants.{Looked, ReadFile, ReadFolder, Written, Created, Removed, MadeParents, Settled, Protected, Started, Waited}
 use Rattle.smk_world.specs.declared.event.Change.{Change}
 use Rattle.smk_world.specs.declared.event.Event.{Event}
 use Rattle.smk_world.specs.declared.event.NodeState.{NodeState}
+use Rattle.smk_world.specs.declared.event.NodeState.TheVariants.{Owned}
 use Rattle.smk_world.specs.World.{World, after, run, names_after, add_names, reading}
 use Rattle.smk_world.specs.Calls.{Lets}
 use Rattle.smk_world.specs.Devices.{Device, WhereTold, HasLooked, is_look, AreLooks}
@@ -17,11 +18,11 @@ use Rattle.smk_store.specs.declared.fault.StoreFault.{StoreFault}
 use Rattle.smk_store.specs.declared.fault.StoreFault.TheVariants as store
 use Rattle.smk_store.specs.Images.{seen, image_by}
 use Rattle.smk_store.specs.Faults.{store_failed}
-use Rattle.smk_store.specs.Loading.{IsFiled, IsStoreOf}
+use Rattle.smk_store.specs.Loading.{store_folder, IsStoreOf}
+use Rattle.smk_store.specs.Unowned.{IsUnownedUnder, NoneOwned}
 use Rattle.smk_store.specs.Stores.{Known}
 use Rattle.smk_record.specs.Spelling.{ReadsRecords}
-use Rattle.smk_store_members.specs.Disk.{IsTree}
-use Rattle.smk_store_members.proofs.Trees.{tree_filed}
+use Rattle.smk_chain.specs.declared.jobs.Jobs.{Jobs}
 use Rattle.smk_chain.specs.declared.fault.SightFault.{SightFault}
 use Rattle.smk_chain.specs.declared.fault.SightFault.TheVariants as sight
 use Rattle.smk_chain_sight.specs.Sight.{sight_failed}
@@ -29,8 +30,12 @@ use Rattle.smk_report.specs.declared.fault.Fault.{Fault}
 use Rattle.smk_report.specs.declared.fault.Fault.TheVariants as fault
 use Rattle.smk_plan.specs.declared.fault.LookFault.{LookFault}
 use Rattle.smk_plan.specs.declared.fault.LookFault.TheVariants as look
-use Rattle.smk_plan_look.specs.Seeing.{look_failed}
-use Rattle.smk_plan_preview.specs.Faults.{device_failed, is_told, is_device, is_sink, as_call, of_store, of_sight, of_look}
+use Rattle.smk_plan.specs.declared.seen.Sight.{Sight}
+use Rattle.smk_plan.specs.Sights.{IsSeenOf}
+use Rattle.smk_plan_look.specs.Seeing.{look_failed, AreSeenUnowned}
+use Rattle.smk_plan_look.proofs.Images.{seen_of}
+use Rattle.smk_report.specs.Faults.{of_store}
+use Rattle.smk_plan_preview.specs.Faults.{device_failed, is_told, is_device, is_sink, as_call, of_sight, of_look}
 
 true_false : true ≡ false → ⊥
 true_false e = cc
@@ -135,15 +140,18 @@ kept {b = b} w looked at =
 pub seen_moved : (read : List ℕ → Option Record) (w v : World) → IsSameFolder w v → seen read v ≡ seen read w
 seen_moved read w v same = ap₂ (λ (names : List Path) (nodes : Path → NodeState). image_by read names (λ q. reading (nodes q))) same.names same.nodes
 
+pub none_still : (w v : World) → v.nodes ≡ w.nodes → NoneOwned w → NoneOwned v
+none_still w v same none = subst (λ (n : Path → NodeState). (q : Path) → n q ≢ Owned) (sym same) none
+
 -- what is loaded is the store of the folder
 pub store_told : (d : Device) (r : Result (List Known) StoreFault) (s : Result (List Known) Fault) → s ≡ as_call of_store r
-    → IfOk r (λ store. WhereTold d (λ w. IsFiled w → (read : List ℕ → Option Record) → ReadsRecords read → IsStoreOf (seen read w) store))
-    → IfOk s (λ store. WhereTold d (λ w. IsTree w → (read : List ℕ → Option Record) → ReadsRecords read → IsStoreOf (seen read w) store))
+    → IfOk r (λ store. WhereTold d (λ w. IsUnownedUnder w.nodes store_folder → (read : List ℕ → Option Record) → ReadsRecords read → IsStoreOf (seen read w) store))
+    → IfOk s (λ store. WhereTold d (λ w. NoneOwned w → (read : List ℕ → Option Record) → ReadsRecords read → IsStoreOf (seen read w) store))
 store_told d (Ok store) s is h =
-    subst (λ (v : Result (List Known) Fault). IfOk v (λ store. WhereTold d (λ w. IsTree w → (read : List ℕ → Option Record) → ReadsRecords read → IsStoreOf (seen read w) store))) (sym is)
-    (λ w at tree read reads. h w at (tree_filed w tree) read reads)
+    subst (λ (v : Result (List Known) Fault). IfOk v (λ store. WhereTold d (λ w. NoneOwned w → (read : List ℕ → Option Record) → ReadsRecords read → IsStoreOf (seen read w) store))) (sym is)
+    (λ w at none read reads. h w at (λ q under. none q) read reads)
 store_told d (Err f) s is h =
-    subst (λ (v : Result (List Known) Fault). IfOk v (λ store. WhereTold d (λ w. IsTree w → (read : List ℕ → Option Record) → ReadsRecords read → IsStoreOf (seen read w) store))) (sym is) tt
+    subst (λ (v : Result (List Known) Fault). IfOk v (λ store. WhereTold d (λ w. NoneOwned w → (read : List ℕ → Option Record) → ReadsRecords read → IsStoreOf (seen read w) store))) (sym is) tt
 
 -- ## The fault of a call is handed on
 
@@ -160,9 +168,15 @@ sink_as r s x is h sink = subst (λ v. IfErr v (λ f. is_sink f ≡ false)) (sym
 pub is_not : (b : Bool) → b ≡ false → b ≡ true → ⊥
 is_not b e h = true_false (sym h ∙ e)
 
-pub look_told : {A : Type 0} (r : Result A LookFault) (s : Result A Fault) (P : A → Type 0) → s ≡ as_call of_look r → IfOk r P → IfOk s P
-look_told (Ok a) s P is h = subst (λ v. IfOk v P) (sym is) h
-look_told (Err f) s P is h = subst (λ v. IfOk v P) (sym is) h
+-- what stands at the outputs and the sources is seen
+pub look_told : (d : Device) (jobs : Jobs) (r : Result (List Sight) LookFault) (s : Result (List Sight) Fault) → s ≡ as_call of_look r
+    → IfOk r (λ sights. WhereTold d (λ w. (read : List ℕ → Option Record) → AreSeenUnowned w (seen read w) jobs sights))
+    → IfOk s (λ sights. WhereTold d (λ w. NoneOwned w → (read : List ℕ → Option Record) → IsSeenOf (seen read w) jobs sights))
+look_told d jobs (Ok sights) s is h =
+    subst (λ v. IfOk v (λ sights. WhereTold d (λ w. NoneOwned w → (read : List ℕ → Option Record) → IsSeenOf (seen read w) jobs sights))) (sym is)
+    (λ w at none read. seen_of w (seen read w) jobs sights none (h w at read))
+look_told d jobs (Err f) s is h =
+    subst (λ v. IfOk v (λ sights. WhereTold d (λ w. NoneOwned w → (read : List ℕ → Option Record) → IsSeenOf (seen read w) jobs sights))) (sym is) h
 
 pub memory_quiet : {A B : Type 0} (r : Result A Fault) (s : Result B Fault) (x : Fault) → r ≡ Err x → IsErrAnd s (λ y. y ≡ x) → IfErr r (λ f. f ≡ fault.OutOfMemory) → device_failed s ≡ false
 memory_quiet r s x is h memory = ap device_failed (err_is s x h) ∙ ap is_device (subst (λ v. IfErr v (λ f. f ≡ fault.OutOfMemory)) is memory)

@@ -9,7 +9,8 @@ use Rattle.smk_chain.specs.declared.fault.SightFault.TheVariants as sight
 use Rattle.smk_plan.specs.declared.fault.LookFault.{LookFault}
 use Rattle.smk_plan.specs.declared.fault.LookFault.TheVariants as look
 use Rattle.smk_report.specs.declared.fault.Fault.{Fault}
-use Rattle.smk_plan_preview.specs.Faults.{is_sink, of_store, of_sight, of_look, of_chain}
+use Rattle.smk_report.specs.Faults.{of_store}
+use Rattle.smk_plan_preview.specs.Faults.{is_sink, of_sight, of_look, of_chain}
 
 of_store_no_sink : (f : StoreFault) → is_sink (of_store f) ≡ false
 of_store_no_sink (store.StampSeen p) = refl

@@ -1,7 +1,5 @@
 -- Faults of the parts of a preview as its own.
 use Rattle.std.specs.Prelude.{◌==◌, Bool, false, nat_lt, Result, Ok, Err}
-use Rattle.smk_store.specs.declared.fault.StoreFault.{StoreFault}
-use Rattle.smk_store.specs.declared.fault.StoreFault.TheVariants as store
 use Rattle.smk_chain.specs.declared.fault.ChainFault.{ChainFault}
 use Rattle.smk_chain.specs.declared.fault.ChainFault.TheVariants as chain
 use Rattle.smk_chain.specs.declared.fault.SightFault.{SightFault}
@@ -30,11 +28,6 @@ device_failed (Err f) = is_device f
 abbrev pub as_call : {A F : Type 0} → (F → Fault) → Result A F → Result A Fault
 as_call of_fault (Ok a) = Ok a
 as_call of_fault (Err f) = Err (of_fault f)
-
-abbrev pub of_store : StoreFault → Fault
-of_store (store.StampSeen p) = fault.StampSeen p
-of_store store.Device = fault.Device
-of_store store.OutOfMemory = fault.OutOfMemory
 
 abbrev pub of_sight : SightFault → Fault
 of_sight (sight.TooManyPaths count) = fault.TooManyPaths count

@@ -5,7 +5,7 @@ ghost use Rattle.smk_world.specs.Devices.{HasLooked, WhereTold};
 ghost use Rattle.smk_record.specs.declared.record.Record.{Record as RecordValue};
 ghost use Rattle.smk_store.specs.Images.{seen};
 ghost use Rattle.smk_store.specs.Loading.{IsStoreOf};
-ghost use Rattle.smk_store_members.specs.Disk.{IsTree};
+ghost use Rattle.smk_store.specs.Unowned.{NoneOwned};
 ghost use Rattle.smk_plan_preview.specs.Faults.{device_failed, is_sink};
 ghost use Rattle.smk_plan_preview.specs.Rounds as spec;
 ghost use Rattle.smk_plan_preview.specs.Steps.{IsGood, IsGround};
@@ -33,7 +33,7 @@ fn chain_by<W: Files, Rt: Threads + Sync>(
     ensures looked { HasLooked W.act (W.device work.old) (W.device work.new) (device_failed result) }
     ensures no_sink { IfErr result (λ f. is_sink f ≡ false) }
     ensures good { IfOk result (λ r. IsGood ground.now.flow.now ground.now.settings.now r.jobs r.plan) }
-    ensures told { WhereTold (W.device work.old) (λ w. IsTree w → (read : Items ℕ → Option RecordValue) → IsStoreOf (seen read w) ground.now.store.now
+    ensures told { WhereTold (W.device work.old) (λ w. NoneOwned w → (read : Items ℕ → Option RecordValue) → IsStoreOf (seen read w) ground.now.store.now
         → spec.HasChain read ground.now.flow.now ground.now.settings.now (seen read w) result) }
 {
     let mut lists = List::new(alloc);
@@ -60,7 +60,7 @@ pub(crate) fn chain<W: Files, Rt: Threads + Sync>(
     ensures looked { HasLooked W.act (W.device work.old) (W.device work.new) (device_failed result) }
     ensures no_sink { IfErr result (λ f. is_sink f ≡ false) }
     ensures good { IfOk result (λ r. IsGood flow.now settings.now r.jobs r.plan) }
-    ensures told { WhereTold (W.device work.old) (λ w. IsTree w → (read : Items ℕ → Option RecordValue) → IsStoreOf (seen read w) store.now
+    ensures told { WhereTold (W.device work.old) (λ w. NoneOwned w → (read : Items ℕ → Option RecordValue) → IsStoreOf (seen read w) store.now
         → spec.HasChain read flow.now settings.now (seen read w) result) }
 {
     match Readings::of(alloc, flow) {

@@ -11,19 +11,7 @@ use smk_flow::Workflow;
 use smk_format::rule_name;
 use smk_plan::{LookFault, PlanFault};
 use smk_report::Fault;
-use smk_store::StoreFault;
 use std::alloc::Global;
-
-/// The fault of a store.
-pub fn of_store(fault: StoreFault) -> Fault
-    ensures { result ≡ spec.of_store fault }
-{
-    match fault {
-        StoreFault::StampSeen(path) => Fault::StampSeen { path },
-        StoreFault::Device => Fault::Device,
-        StoreFault::OutOfMemory => Fault::OutOfMemory,
-    }
-}
 
 /// The fault of looking for sources.
 pub fn of_sight(fault: SightFault) -> Fault

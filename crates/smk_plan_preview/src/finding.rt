@@ -6,17 +6,18 @@ ghost use Rattle.smk_record.specs.declared.record.Record.{Record as RecordValue}
 ghost use Rattle.smk_record.specs.Spelling.{ReadsRecords};
 ghost use Rattle.smk_store.specs.Images.{seen, Image};
 ghost use Rattle.smk_store.specs.Loading.{IsStoreOf};
-ghost use Rattle.smk_store_members.specs.Disk.{IsTree};
+ghost use Rattle.smk_store.specs.Unowned.{NoneOwned};
 ghost use Rattle.smk_choose.specs.Index.{AreReadings};
 ghost use Rattle.smk_chain_derive.specs.Clashes.{ListsKnown};
 ghost use Rattle.smk_plan.specs.Sights.{IsSeenOf};
 ghost use Rattle.smk_plan_facts.specs.Facts.{NamesAll};
+ghost use Rattle.smk_report.specs.Faults.{of_store};
 ghost use Rattle.smk_plan_preview.specs.Faults as faults;
 ghost use Rattle.smk_plan_preview.specs.Faults.{as_call, device_failed, is_told, is_sink};
 ghost use Rattle.smk_plan_preview.specs.Rounds as spec;
 ghost use Rattle.smk_plan_preview.specs.Fitness.{AreFit};
 
-use crate::faults::{of_chain, of_look, of_sight, of_store};
+use crate::faults::{of_chain, of_look, of_sight};
 use crate::listing::listings_again;
 use smk_base::{List, PathText};
 use smk_chain::{ChainFault, Jobs, Listings, SightFault};
@@ -33,20 +34,17 @@ use std::alloc::Global;
 
 #[tactic(auto, using(crate::proofs::Sinks::store_no_sink))]
 fn of_load(loaded: Result<Store, StoreFault>) -> Result<Store, Fault>
-    ensures is { result ≡ as_call faults.of_store loaded }
+    ensures is { result ≡ as_call of_store loaded }
     ensures no_sink { IfErr result (λ f. is_sink f ≡ false) }
 {
-    match loaded {
-        Ok(store) => Ok(store),
-        Err(fault) => Err(of_store(fault)),
-    }
+    Ok(loaded?)
 }
 
 /// The store as it stands.
 pub(crate) fn stored<W: Files>(alloc: Global, work: &mut W) -> Result<Store, Fault>
     ensures looked { HasLooked W.act (W.device work.old) (W.device work.new) (device_failed result) }
     ensures no_sink { IfErr result (λ f. is_sink f ≡ false) }
-    ensures told { IfOk result (λ store. WhereTold (W.device work.old) (λ w. IsTree w
+    ensures told { IfOk result (λ store. WhereTold (W.device work.old) (λ w. NoneOwned w
         → (read : Items ℕ → Option RecordValue) → ReadsRecords read → IsStoreOf (seen read w) store)) }
     ensures untold { IfErr result (λ f. is_told f ≡ false) }
 {
@@ -78,7 +76,7 @@ pub(crate) fn sighted<W: Files>(
     requires { AreReadings flow.now readings.now }
     ensures looked { HasLooked W.act (W.device work.old) (W.device work.new) (device_failed result) }
     ensures no_sink { IfErr result (λ f. is_sink f ≡ false) }
-    ensures told { WhereTold (W.device work.old) (λ w. IsTree w → (read : Items ℕ → Option RecordValue) → IsStoreOf (seen read w) store.now
+    ensures told { WhereTold (W.device work.old) (λ w. NoneOwned w → (read : Items ℕ → Option RecordValue) → IsStoreOf (seen read w) store.now
         → spec.Sights flow.now targets.now lists.now (seen read w) result) }
 {
     let found = sight(alloc, flow, readings, store, lists, targets, work);
@@ -157,7 +155,7 @@ fn of_seen(seen: Result<Seen, LookFault>) -> Result<Seen, Fault>
 pub(crate) fn looked<W: Files>(alloc: Global, work: &mut W, jobs: &Jobs) -> Result<Seen, Fault>
     ensures looked { HasLooked W.act (W.device work.old) (W.device work.new) (device_failed result) }
     ensures no_sink { IfErr result (λ f. is_sink f ≡ false) }
-    ensures told { IfOk result (λ sights. WhereTold (W.device work.old) (λ w. IsTree w
+    ensures told { IfOk result (λ sights. WhereTold (W.device work.old) (λ w. NoneOwned w
         → (read : Items ℕ → Option RecordValue) → IsSeenOf (seen read w) jobs.now sights)) }
     ensures untold { IfErr result (λ f. is_told f ≡ false) }
 {

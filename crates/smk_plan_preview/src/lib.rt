@@ -10,7 +10,7 @@ mod listing;
 mod previewing;
 mod rounds;
 
-pub use faults::{of_chain, of_look, of_sight, of_store};
+pub use faults::{of_chain, of_look, of_sight};
 pub use previewing::{Previewed, preview};
 
 /// Laws of links, which give what `facts` and `wholes` ask of the jobs that are derived for some targets. The makers tell of each source among their inputs. And a

@@ -6,7 +6,7 @@ ghost use Rattle.smk_record.specs.declared.record.Record.{Record as RecordValue}
 ghost use Rattle.smk_record.specs.Spelling.{ReadsRecords};
 ghost use Rattle.smk_store.specs.Images.{seen};
 ghost use Rattle.smk_store.specs.Loading.{IsStoreOf};
-ghost use Rattle.smk_store_members.specs.Disk.{IsTree};
+ghost use Rattle.smk_store.specs.Unowned.{NoneOwned};
 ghost use Rattle.smk_plan_preview.specs.Faults.{device_failed, is_sink};
 ghost use Rattle.smk_plan_preview.specs.Previewing.{HasPreviewed};
 ghost use Rattle.smk_plan_preview.specs.Steps.{IsGood};
@@ -42,7 +42,7 @@ fn preview_stored<W: Files, Rt: Threads + Sync>(
 ) -> Result<Previewed, Fault>
     ensures looked { HasLooked W.act (W.device work.old) (W.device work.new) (device_failed result) }
     ensures no_sink { IfErr result (λ f. is_sink f ≡ false) }
-    ensures told { WhereTold (W.device work.old) (λ w. IsTree w → (read : Items ℕ → Option RecordValue) → IsStoreOf (seen read w) store
+    ensures told { WhereTold (W.device work.old) (λ w. NoneOwned w → (read : Items ℕ → Option RecordValue) → IsStoreOf (seen read w) store
         → HasPreviewed read flow.now settings.now (seen read w) result) }
     ensures good { IfOk result (λ p. IsGood flow.now settings.now p.jobs p.plan) }
 {

@@ -6,7 +6,7 @@ ghost use Rattle.smk_world.specs.Devices.{HasLooked, WhereTold};
 ghost use Rattle.smk_record.specs.declared.record.Record.{Record as RecordValue};
 ghost use Rattle.smk_store.specs.Images.{seen, Image};
 ghost use Rattle.smk_store.specs.Loading.{IsStoreOf};
-ghost use Rattle.smk_store_members.specs.Disk.{IsTree};
+ghost use Rattle.smk_store.specs.Unowned.{NoneOwned};
 ghost use Rattle.smk_chain_derive.specs.Clashes.{ListsKnown};
 ghost use Rattle.smk_format.specs.Refused.{command_fault};
 ghost use Rattle.smk_report.specs.declared.fault.Fault.TheVariants as fault;
@@ -127,7 +127,7 @@ fn plan_jobs<W: Files, Rt: Threads + Sync>(
     ensures no_sink { IfErr result (λ f. is_sink f ≡ false) }
     ensures jobs { IfOk result (λ r. r.jobs ≡ jobs) }
     ensures sound { IfOk result (AreSound flow.now settings.now) }
-    ensures told { WhereTold (W.device work.old) (λ w. IsTree w → (read : Items ℕ → Option RecordValue) → IsStoreOf (seen read w) store.now
+    ensures told { WhereTold (W.device work.old) (λ w. NoneOwned w → (read : Items ℕ → Option RecordValue) → IsStoreOf (seen read w) store.now
         → spec.AreReady flow.now settings.now.targets jobs.lists (seen read w) jobs → spec.HasRound read flow.now settings.now (seen read w) jobs.lists result) }
 {
     match looked(alloc, work, &jobs) {
@@ -150,7 +150,7 @@ fn plan_sources<W: Files, Rt: Threads + Sync>(
     ensures no_sink { IfErr result (λ f. is_sink f ≡ false) }
     ensures lists { IfOk result (λ r. r.jobs.lists ≡ lists.now) }
     ensures good { IfOk result (λ r. IsGood ground.now.flow.now ground.now.settings.now r.jobs r.plan) }
-    ensures told { WhereTold (W.device work.old) (λ w. IsTree w → (read : Items ℕ → Option RecordValue) → IsStoreOf (seen read w) ground.now.store.now
+    ensures told { WhereTold (W.device work.old) (λ w. NoneOwned w → (read : Items ℕ → Option RecordValue) → IsStoreOf (seen read w) ground.now.store.now
         → ListsKnown (seen read w) → spec.IsSighted ground.now.flow.now ground.now.settings.now.targets lists.now (seen read w) sources.now
         → spec.HasRound read ground.now.flow.now ground.now.settings.now (seen read w) lists.now result) }
 {
@@ -189,7 +189,7 @@ pub(crate) fn make_round<W: Files, Rt: Threads + Sync>(
     ensures no_sink { IfErr result (λ f. is_sink f ≡ false) }
     ensures lists { IfOk result (λ r. r.jobs.lists ≡ lists.now) }
     ensures good { IfOk result (λ r. IsGood ground.now.flow.now ground.now.settings.now r.jobs r.plan) }
-    ensures told { WhereTold (W.device work.old) (λ w. IsTree w → (read : Items ℕ → Option RecordValue) → IsStoreOf (seen read w) ground.now.store.now
+    ensures told { WhereTold (W.device work.old) (λ w. NoneOwned w → (read : Items ℕ → Option RecordValue) → IsStoreOf (seen read w) ground.now.store.now
         → spec.HasRound read ground.now.flow.now ground.now.settings.now (seen read w) lists.now result) }
 {
     match sighted(

@@ -18,6 +18,7 @@ use Rattle.smk_plan.specs.Sights.{job_at}
 use Rattle.smk_plan_states.specs.declared.parts.Parts.{Parts}
 use Rattle.smk_plan_states.specs.declared.paths.Paths.{Paths}
 use Rattle.smk_plan_states.specs.Served.{IsBelow, ReadEarlier}
+use Rattle.smk_plan_states.specs.Judged.{Judging}
 use Rattle.smk_plan_states.specs.Parts.{gone_outputs, parts_of}
 use Rattle.smk_plan_states.specs.InUse.{is_in_use_told}
 use Rattle.smk_plan_states.specs.First.{unless_needed, IsSolved}
@@ -93,16 +94,15 @@ read_front J n (k ∷ front) rest j h (inl e) = (n, omega arith, subst (λ (x : 
 read_front J n (k ∷ front) rest j h (inr i) = let r = read_front J (suc n) front rest j h.1 i in let lt = r.1 in (r.0, omega arith, r.2)
 
 module _
-    (image : Image) (settings : Settings) (progress : Progress) (jobs : Jobs) (targets : List Path) (ss : List State) (paths : Paths) (parts : List Parts) (used : Path → Bool)
-    (h : IsSolved image settings progress jobs targets ss paths parts used) where
+    (at : Judging) (jobs : Jobs) (ss : List State) (paths : Paths) (parts : List Parts) (used : Path → Bool) (h : IsSolved at jobs ss paths parts used) where
   abbrev apart : JobsApart jobs.jobs
   apart = jobs_apart_from jobs.jobs h.served.apart
 
   abbrev late : Job → State
-  late = final image settings progress jobs ss
+  late = final at.image at.settings at.progress jobs ss
 
   abbrev early : Job → State
-  early = first image settings progress jobs ss
+  early = first at.image at.settings at.progress jobs ss
 
   module _ (before : List Job) (k : Job) (after : List Job) (all : jobs.jobs ≡ before ++ k ∷ after) where
     here : In k jobs.jobs
@@ -115,9 +115,9 @@ module _
         m : (m : ℕ) × (m < 0 + length (before ++ k ∷ [])) × Each (IsReadOf jobs m) (in_paths j.recipe ++ gathers_from j)
         m = read_front jobs 0 (before ++ k ∷ []) after j (subst (ReadEarlier jobs 0) (all ∙ sym (append_assoc before (k ∷ []) after)) h.served.reads) i
 
-        t : (s : Rattle.smk_plan_states.specs.declared.sites.Site.Site) × Rattle.smk_plan_states.proofs.Told.IsTold image jobs p s × IsBelow m.0 s.job
+        t : (s : Rattle.smk_plan_states.specs.declared.sites.Site.Site) × Rattle.smk_plan_states.proofs.Told.IsTold at.image jobs p s × IsBelow m.0 s.job
         t =
-            told_below image jobs m.0 p
+            told_below at.image jobs m.0 p
             (each_in (IsReadOf jobs m.0) (in_paths j.recipe ++ gathers_from j) p m.2 (in_left p (in_paths j.recipe) (gathers_from j) r))
 
         own : makes k p ≡ true
@@ -134,7 +134,7 @@ module _
             (job_in_front before (k ∷ after) n k (omega (arith, length-append before (k ∷ []))) (ap (λ js. job_at js n) (sym all) ∙ e)) o
 
     -- what is needed of its outputs is needed by the jobs after it
-    pub needed_after : (p : Path) → In p (out_paths k.recipe) → needs image settings progress jobs ss p ≡ list_any (λ (j : Job). among (in_paths j.recipe) p && is_to_run (late j)) after
+    pub needed_after : (p : Path) → In p (out_paths k.recipe) → needs at.image at.settings at.progress jobs ss p ≡ list_any (λ (j : Job). among (in_paths j.recipe) p && is_to_run (late j)) after
     needed_after p o =
         ap (λ (xs : List State). list_any (λ (e : Job × State). among (in_paths e.0.recipe) p && is_to_run e.1) (zip jobs.jobs xs)) h.solved
         ∙ any_zip late (λ (e : Job × State). among (in_paths e.0.recipe) p && is_to_run e.1) jobs.jobs
@@ -154,16 +154,16 @@ module _
 
     pub last_here :
         (needed : Path → Bool) → ((q : Path) → needed q ≡ list_any (λ (j : Job). among (in_paths j.recipe) q && is_to_run (late j)) after) →
-        unless_needed (list_any needed (gone_outputs image k) && not (is_in_use_told used (parts_of image k))) (early k) ≡ late k
+        unless_needed (list_any needed (gone_outputs at.image k) && not (is_in_use_told used (parts_of at.image k))) (early k) ≡ late k
     last_here needed is =
-        final_from image settings progress jobs ss k (list_any needed (gone_outputs image k)) (is_in_use_told used (parts_of image k)) (own_apart jobs.jobs k apart here)
-        (any_same needed (needs image settings progress jobs ss) (gone_outputs image k) (λ p i. is p ∙ sym (needed_after p (output p i))))
-        (read_is image settings progress jobs ss targets h.served.apart h.served.reads used h.in_use k here)
+        final_from at.image at.settings at.progress jobs ss k (list_any needed (gone_outputs at.image k)) (is_in_use_told used (parts_of at.image k)) (own_apart jobs.jobs k apart here)
+        (any_same needed (needs at.image at.settings at.progress jobs ss) (gone_outputs at.image k) (λ p i. is p ∙ sym (needed_after p (output p i))))
+        (read_is at.image at.settings at.progress jobs ss at.settings.targets h.served.apart h.served.reads used h.in_use k here)
       where
-        output : (p : Path) → In p (gone_outputs image k) → In p (out_paths k.recipe)
+        output : (p : Path) → In p (gone_outputs at.image k) → In p (out_paths k.recipe)
         output p i =
-            let o = map_in (λ (o : Out). o.path) (filter (λ (o : Out). not (is_whole image o.path o.kind)) (outs_of k.recipe)) p i in
-            subst (λ x. In x (out_paths k.recipe)) (sym o.2) (path_in k.recipe o.0 (filter_in (λ (o : Out). not (is_whole image o.path o.kind)) (outs_of k.recipe) o.0 o.1).0)
+            let o = map_in (λ (o : Out). o.path) (filter (λ (o : Out). not (is_whole at.image o.path o.kind)) (outs_of k.recipe)) p i in
+            subst (λ x. In x (out_paths k.recipe)) (sym o.2) (path_in k.recipe o.0 (filter_in (λ (o : Out). not (is_whole at.image o.path o.kind)) (outs_of k.recipe) o.0 o.1).0)
 
   -- So far: the jobs after have their states, and what those of them that are to run read is needed.
   pub record IsDown (left found : List State) (needed : Path → Bool) : Type 0 where
@@ -189,8 +189,8 @@ module _
       let k = e.1 in
       let all : jobs.jobs ≡ e.0 ++ k ∷ down.after = down.all ∙ ap (λ js. js ++ down.after) e.2 ∙ append_assoc e.0 (k ∷ []) down.after in
       let size : length front ≡ length e.0 = ap length e.3 ∙ length-map e.0 early in
-      let s = stepped (parts_of image k) (got ∙ ap (λ ps. slice_get ps (length front)) (h.parts ∙ ap (map (parts_of image)) all) ∙ got_at (parts_of image) e.0 k down.after (length front) size) in
-      let is : state ≡ late k = s.0 ∙ ap (unless_needed (list_any needed (gone_outputs image k) && not (is_in_use_told used (parts_of image k)))) e.4 ∙ last_here e.0 k down.after all needed down.reads in
+      let s = stepped (parts_of at.image k) (got ∙ ap (λ ps. slice_get ps (length front)) (h.parts ∙ ap (map (parts_of at.image)) all) ∙ got_at (parts_of at.image) e.0 k down.after (length front) size) in
+      let is : state ≡ late k = s.0 ∙ ap (unless_needed (list_any needed (gone_outputs at.image k) && not (is_in_use_told used (parts_of at.image k)))) e.4 ∙ last_here e.0 k down.after all needed down.reads in
       record {
         before = e.0;
         after = k ∷ down.after;

@@ -9,5 +9,6 @@ mod FirstPass
 mod LastPass
 mod Solved
 mod ReadyNow
+pub mod Tabled
 mod HeldBack
 pub mod Linked

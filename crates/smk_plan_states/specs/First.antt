@@ -13,12 +13,12 @@ use Rattle.smk_trigger.specs.declared.reason.State.{State}
 use Rattle.smk_trigger.specs.declared.reason.State.TheVariants.{Open, Dirty, Restore, Clean}
 use Rattle.smk_trigger.specs.Reasons.{when}
 use Rattle.smk_pick.specs.declared.settings.Settings.{Settings}
-use Rattle.smk_plan.specs.States.{Plan, Progress, HasStates, by_reasons, while_running, awaited, is_input, is_temporary, is_open_now, is_read_now, kept_state, reasons}
+use Rattle.smk_plan.specs.States.{Plan, Progress, by_reasons, while_running, awaited, is_input, is_temporary, is_open_now, is_read_now, kept_state, reasons}
 use Rattle.smk_plan_states.specs.declared.parts.Parts.{Parts}
 use Rattle.smk_plan_states.specs.declared.paths.Paths.{Paths}
 use Rattle.smk_plan_states.specs.declared.sites.Site.{Site}
 use Rattle.smk_plan_states.specs.Served.{AreServed}
-use Rattle.smk_plan_states.specs.Judged.{with_states}
+use Rattle.smk_plan_states.specs.Judged.{Judging, with_states, began, AreStates}
 use Rattle.smk_plan_states.specs.Parts.{parts_of}
 use Rattle.smk_plan_states.specs.Paths.{ArePaths, site_at}
 use Rattle.smk_plan_states.specs.Passes.{opens, is_dirty_told}
@@ -63,13 +63,13 @@ unless_needed needed Clean = if needed then Restore else Clean
 
 -- These are the states of the jobs by the table, and what is kept of paths and jobs is so: also of which jobs children run, and from which
 -- of them these read.
-pub record IsSolved
-    (image : Image) (settings : Settings) (progress : Progress) (jobs : Jobs) (asked : List Path) (states : List State)
-    (kept : Paths) (split : List Parts) (used : Path → Bool) : Type 0 where
-  pub targets : settings.targets ≡ asked
-  pub served : AreServed jobs asked
-  pub solved : HasStates image settings progress (with_states jobs states)
-  pub paths : ArePaths image jobs asked kept
-  pub parts : split ≡ map (parts_of image) jobs.jobs
-  pub in_use : (name : Path) →
-      used name ≡ in_use_told (site_at image jobs) (map (parts_of image) jobs.jobs) (map (kept_state image settings progress (with_states jobs [])) jobs.jobs) name
+pub record IsSolved (at : Judging) (jobs : Jobs) (states : List State) (kept : Paths) (split : List Parts) (used : Path → Bool) : Type 0 where
+  pub served : AreServed jobs at.settings.targets
+  pub solved : AreStates at jobs states
+  pub paths : ArePaths at.image jobs at.settings.targets kept
+  pub parts : split ≡ map (parts_of at.image) jobs.jobs
+  pub in_use : (name : Path) → used name ≡ in_use_told (site_at at.image jobs) (map (parts_of at.image) jobs.jobs) (began at jobs) name
+
+-- the states of the first pass, where these are those of the table
+abbrev pub first_states : Judging → Jobs → List State → List State
+first_states at jobs states = map (first_state at.image at.settings at.progress (with_states jobs states)) jobs.jobs

@@ -4,16 +4,13 @@ ghost use Rattle.std.specs.Prelude.{◌≡◌, ◌&&◌, ◌||◌, not, List as 
 ghost use Rattle.std.specs.BTreeSet.{contains_text};
 ghost use Rattle.std.specs.List.{list_any, slice_get};
 ghost use Rattle.smk_world.specs.Trees.{Path, among};
-ghost use Rattle.smk_store.specs.Images.{Image};
 ghost use Rattle.smk_chain.specs.declared.jobs.Jobs.{Jobs as JobsValue};
 ghost use Rattle.smk_trigger.specs.declared.reason.State.{State as StateValue};
 ghost use Rattle.smk_trigger.specs.JobStates.{is_to_run};
-ghost use Rattle.smk_pick.specs.declared.settings.Settings.{Settings as Asked};
-ghost use Rattle.smk_plan.specs.States.{Progress};
-ghost use Rattle.smk_plan_states.specs.Judged.{with_states};
+ghost use Rattle.smk_plan_states.specs.Judged.{Judging};
 ghost use Rattle.smk_plan_states.specs.declared.parts.Parts.{Parts as PartsValue};
 ghost use Rattle.smk_plan_states.specs.declared.paths.Paths.{Paths as PathsValue};
-ghost use Rattle.smk_plan_states.specs.First.{first_state, unless_needed, IsSolved};
+ghost use Rattle.smk_plan_states.specs.First.{first_states, unless_needed, IsSolved};
 ghost use Rattle.smk_plan_states.specs.InUse.{is_in_use_told};
 
 use crate::in_use::is_in_use;
@@ -106,10 +103,8 @@ pub(crate) fn last_states(
     first: List<State>,
 ) -> Result<List<State>, OutOfMemory>
     ensures each { IfOk result (λ found. length found ≡ length first) }
-    ensures states { IfOk result (λ found. (image : Image) (settings : Asked) (progress : Progress) (jobs : JobsValue) (targets : Items Path) (states : Items StateValue) (paths : PathsValue)
-        → IsSolved image settings progress jobs targets states paths parts.now (λ p. contains_text in_use.now p)
-        → first ≡ map (first_state image settings progress (with_states jobs states)) jobs.jobs
-        → found ≡ states) }
+    ensures states { IfOk result (λ found. (at : Judging) (jobs : JobsValue) (states : Items StateValue) (paths : PathsValue)
+        → IsSolved at jobs states paths parts.now (λ p. contains_text in_use.now p) → first ≡ first_states at jobs states → found ≡ states) }
 {
     let mut left = first;
     let mut needed = BTreeSet::new(alloc);

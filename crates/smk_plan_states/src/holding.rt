@@ -1,27 +1,18 @@
 //! Which jobs are held back: to be restored, but counted as Clean while a child reads what they made.
 
-ghost use Rattle.std.specs.Prelude.{◌≡◌, ◌&&◌, [], map, is_none, IfOk};
+ghost use Rattle.std.specs.Prelude.{◌≡◌, ◌&&◌, is_none, IfOk};
 ghost use Rattle.std.specs.BTreeSet.{contains_text};
 ghost use Rattle.std.specs.List.{list_any, zip};
 ghost use Rattle.smk_world.specs.Trees.{Path};
-ghost use Rattle.smk_store.specs.Images.{Image};
 ghost use Rattle.smk_trigger.specs.JobStates.{is_clean};
-ghost use Rattle.smk_pick.specs.declared.settings.Settings.{Settings as Asked};
-ghost use Rattle.smk_plan.specs.States.{Progress, HasStates, is_held_back, kept_state};
-ghost use Rattle.smk_plan.specs.Sights.{wholes_of};
-ghost use Rattle.smk_plan_states.specs.Served.{AreServed};
-ghost use Rattle.smk_plan_states.specs.Judged.{with_states};
 ghost use Rattle.smk_plan_states.specs.Held.{needed_told, is_kept_in, is_held_told, any_held_told};
 
 use crate::downward::{any_needed, need};
 use crate::in_use::{in_use_of, is_in_use};
 use crate::parts::Parts;
 use crate::paths::Paths;
-use crate::table::Table;
 use crate::upward::is_kept;
-use smk_base::{List, OutOfMemory, PathText};
-use smk_chain::Jobs;
-use smk_plan::Wholes;
+use smk_base::{OutOfMemory, PathText};
 use smk_trigger::State;
 use std::alloc::Global;
 use std::collections::BTreeSet;
@@ -116,30 +107,5 @@ pub(crate) fn any_held(
     let in_use = in_use_of(alloc, paths, parts, running)?;
     let needed = needed_in(alloc, parts, states)?;
     let held = is_any_held(alloc, paths, &needed, &in_use, parts, states, running)?;
-    Ok(held)
-}
-
-/// Whether some job is to be restored but counts as Clean, since a child reads what it made: the child of another job, and its own doesn't
-/// run. `OutOfMemory` where there is no memory to tell.
-///
-/// `wholes` tells what is whole; `running` has for each job the state that it had when it began, if its child runs; `states` are those of
-/// the table. The time is near linear in the jobs with their inputs and outputs, and the makers.
-pub fn holds_back(
-    alloc: Global,
-    jobs: &Jobs,
-    targets: &List<PathText>,
-    wholes: &Wholes,
-    running: &List<Option<State>>,
-    states: &List<State>,
-) -> Result<bool, OutOfMemory>
-    ensures { IfOk result (λ held. (image : Image) (settings : Asked) (progress : Progress)
-        → settings.targets ≡ targets.now → AreServed jobs.now targets.now
-        → wholes.now ≡ wholes_of image jobs.now
-        → running.now ≡ map (kept_state image settings progress (with_states jobs.now [])) jobs.now.jobs
-        → HasStates image settings progress (with_states jobs.now states.now)
-        → held ≡ list_any (is_held_back image settings progress (with_states jobs.now states.now)) jobs.now.jobs) }
-{
-    let table = Table::of(alloc, jobs, targets, wholes)?;
-    let held = table.holds_back(alloc, running, states)?;
     Ok(held)
 }

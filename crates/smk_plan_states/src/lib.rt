@@ -4,6 +4,7 @@
 mod downward;
 mod holding;
 mod in_use;
+mod judged;
 mod laws;
 mod opening;
 mod parts;
@@ -14,6 +15,6 @@ mod sites;
 mod table;
 mod upward;
 
-pub use holding::holds_back;
+pub use judged::Judged;
 pub use laws::linked_jobs_serve;
 pub use table::Table;

@@ -1,23 +1,16 @@
 //! The table of states: what is told of jobs, their targets and what is whole, and the states of the jobs by it.
 
-ghost use Rattle.std.specs.Prelude.{◌≡◌, ◌&&◌, [], List as Items, length, map, filter, is_none, IfOk};
-ghost use Rattle.std.specs.List.{list_any};
+ghost use Rattle.std.specs.Prelude.{◌≡◌, List as Items, length, IfOk};
 ghost use Rattle.smk_world.specs.Trees.{Path};
-ghost use Rattle.smk_store.specs.Images.{Image};
 ghost use Rattle.smk_chain.specs.declared.jobs.Jobs.{Jobs as JobsValue};
-ghost use Rattle.smk_chain.specs.Derive.{listing};
 ghost use Rattle.smk_trigger.specs.declared.reason.State.{State as StateValue};
-ghost use Rattle.smk_pick.specs.declared.settings.Settings.{Settings as Asked};
-ghost use Rattle.smk_plan.specs.States.{Progress, HasStates, is_ready, awaited, is_held_back, kept_state};
-ghost use Rattle.smk_plan.specs.Sights.{wholes_of};
-ghost use Rattle.smk_plan.specs.declared.wholes.Wholes.{Wholes as WholesValue};
-ghost use Rattle.smk_plan_states.specs.Served.{AreServed};
-ghost use Rattle.smk_plan_states.specs.Judged.{AreJudgedNow, with_states};
-ghost use Rattle.smk_plan_states.specs.Tables.{IsTableOf};
+ghost use Rattle.smk_plan_states.specs.Judged.{Judging, AreJudged, AreStates, any_held_back, began, new_directories, targets_ready};
+ghost use Rattle.smk_plan_states.specs.Tables.{IsTable, IsTableAt, IsTableOf};
 
 use crate::downward::last_states;
 use crate::holding::any_held;
 use crate::in_use::in_use_of;
+use crate::judged::Judged;
 use crate::parts::{Parts, parts_of_jobs};
 use crate::paths::Paths;
 use crate::ready::{new_in, ready_in, waits_in};
@@ -25,7 +18,7 @@ use crate::upward::first_states;
 use smk_base::{List, OutOfMemory, PathText};
 use smk_chain::Jobs;
 use smk_plan::Wholes;
-use smk_trigger::{Reason, State};
+use smk_trigger::State;
 use std::alloc::Global;
 
 /// What is told of the jobs of a plan, their targets and what is whole: made once, it answers each question of the states without going over
@@ -38,20 +31,16 @@ pub struct Table<'j> {
 }
 
 // The states are those of the table, if there are any.
-fn solve(
-    alloc: Global,
-    table: &Table<'_>,
-    reasons: List<List<Reason>>,
-    forced: &List<bool>,
-    running: List<Option<State>>,
-) -> Result<List<State>, OutOfMemory>
+fn solve(alloc: Global, table: &Table<'_>, judged: Judged) -> Result<List<State>, OutOfMemory>
     ensures each { IfOk result (λ found. length found ≡ length table.now.parts) }
-    ensures states { IfOk result (λ found. (jobs : JobsValue) (targets : Items Path) (wholes : WholesValue) → IsTableOf jobs targets wholes table.now
-        → (image : Image) (settings : Asked) (progress : Progress) (states : Items StateValue)
-        → settings.targets ≡ targets → AreServed jobs targets
-        → AreJudgedNow image settings progress jobs reasons forced.now wholes running
-        → HasStates image settings progress (with_states jobs states) → found ≡ states) }
+    ensures states { IfOk result (λ found. (at : Judging) (jobs : JobsValue) (states : Items StateValue)
+        → IsTableAt at jobs table.now → AreJudged at jobs judged → AreStates at jobs states → found ≡ states) }
 {
+    let Judged {
+        reasons,
+        forced,
+        running,
+    } = judged;
     let in_use = in_use_of(
         alloc,
         &table.paths,
@@ -99,26 +88,13 @@ impl<'j> Table<'j> {
 
     /// The state of each job, by the table of states. `OutOfMemory` where there is no memory for them.
     ///
-    /// `reasons` has for each job its reasons but for the inputs whose job is Dirty, with Forced at the end where it is forced; `forced` tells
-    /// which jobs are forced. `running` has for each job the state that it had when it began, if its child runs: a job that began Dirty stays
-    /// so, and one that began as a Restore isn't Clean. A Restore counts as Clean while a child reads what it made. The time is near linear in
-    /// the jobs with their inputs and outputs, and the makers.
-    pub fn states(
-        &self,
-        alloc: Global,
-        reasons: List<List<Reason>>,
-        forced: &List<bool>,
-        running: List<Option<State>>,
-    ) -> Result<List<State>, OutOfMemory>
-        ensures each { IfOk result (λ states. (jobs : JobsValue) (targets : Items Path) (wholes : WholesValue) → IsTableOf jobs targets wholes self.now
-            → length states ≡ length jobs.jobs) }
-        ensures table { IfOk result (λ states. (jobs : JobsValue) (targets : Items Path) (wholes : WholesValue) → IsTableOf jobs targets wholes self.now
-            → (image : Image) (settings : Asked) (progress : Progress)
-            → settings.targets ≡ targets → AreServed jobs targets
-            → AreJudgedNow image settings progress jobs reasons forced.now wholes running
-            → HasStates image settings progress (with_states jobs states)) }
+    /// A job that began Dirty stays so while its child runs, and one that began as a Restore isn't Clean. A Restore counts as Clean while a child
+    /// reads what it made. The time is near linear in the jobs with their inputs and outputs, and the makers.
+    pub fn states(&self, alloc: Global, judged: Judged) -> Result<List<State>, OutOfMemory>
+        ensures each { IfOk result (λ states. (jobs : JobsValue) (targets : Items Path) → IsTable jobs targets self.now → length states ≡ length jobs.jobs) }
+        ensures table { IfOk result (λ states. (at : Judging) (jobs : JobsValue) → IsTableAt at jobs self.now → AreJudged at jobs judged → AreStates at jobs states) }
     {
-        let found = solve(alloc, self, reasons, forced, running)?;
+        let found = solve(alloc, self, judged)?;
         Ok(found)
     }
 
@@ -129,11 +105,8 @@ impl<'j> Table<'j> {
         alloc: Global,
         states: &List<State>,
     ) -> Result<List<bool>, OutOfMemory>
-        ensures { IfOk result (λ ready. (jobs : JobsValue) (targets : Items Path) (wholes : WholesValue) → IsTableOf jobs targets wholes self.now
-            → length states.now ≡ length jobs.jobs
-            → (image : Image) (settings : Asked) (progress : Progress) → settings.targets ≡ targets → AreServed jobs targets
-            → wholes ≡ wholes_of image jobs
-            → ready ≡ map (is_ready image settings progress (with_states jobs states.now)) targets) }
+        ensures { IfOk result (λ ready. (at : Judging) (jobs : JobsValue) → IsTableAt at jobs self.now → length states.now ≡ length jobs.jobs
+            → ready ≡ targets_ready at jobs states.now) }
     {
         let ready = ready_in(alloc, &self.paths.sites, states.as_slice(), self.targets)?;
         Ok(ready)
@@ -146,12 +119,8 @@ impl<'j> Table<'j> {
         alloc: Global,
         states: &List<State>,
     ) -> Result<List<PathText>, OutOfMemory>
-        ensures { IfOk result (λ found. (jobs : JobsValue) (targets : Items Path) (wholes : WholesValue) → IsTableOf jobs targets wholes self.now
-            → length states.now ≡ length jobs.jobs
-            → (image : Image) (settings : Asked) (progress : Progress) → settings.targets ≡ targets → AreServed jobs targets
-            → wholes ≡ wholes_of image jobs
-            → found ≡ filter (λ d. is_ready image settings progress (with_states jobs states.now) d && is_none (listing jobs.lists d))
-            (awaited image settings progress (with_states jobs states.now))) }
+        ensures { IfOk result (λ found. (at : Judging) (jobs : JobsValue) → IsTableAt at jobs self.now → length states.now ≡ length jobs.jobs
+            → found ≡ new_directories at jobs states.now) }
     {
         let waits = waits_in(
             alloc,
@@ -174,13 +143,8 @@ impl<'j> Table<'j> {
         running: &List<Option<State>>,
         states: &List<State>,
     ) -> Result<bool, OutOfMemory>
-        ensures { IfOk result (λ held. (jobs : JobsValue) (targets : Items Path) (wholes : WholesValue) → IsTableOf jobs targets wholes self.now
-            → (image : Image) (settings : Asked) (progress : Progress)
-            → settings.targets ≡ targets → AreServed jobs targets
-            → wholes ≡ wholes_of image jobs
-            → running.now ≡ map (kept_state image settings progress (with_states jobs [])) jobs.jobs
-            → HasStates image settings progress (with_states jobs states.now)
-            → held ≡ list_any (is_held_back image settings progress (with_states jobs states.now)) jobs.jobs) }
+        ensures { IfOk result (λ held. (at : Judging) (jobs : JobsValue) → IsTableAt at jobs self.now → running.now ≡ began at jobs
+            → AreStates at jobs states.now → held ≡ any_held_back at jobs states.now) }
     {
         let held = any_held(
             alloc,

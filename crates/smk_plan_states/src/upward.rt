@@ -5,17 +5,15 @@ ghost use Rattle.smk_plan_states.specs.Keys.{at_key, has_key};
 ghost use Rattle.std.specs.BTreeSet.{contains_text};
 ghost use Rattle.std.specs.List.{list_any};
 ghost use Rattle.smk_world.specs.Trees.{Path};
-ghost use Rattle.smk_store.specs.Images.{Image};
 ghost use Rattle.smk_chain.specs.declared.jobs.Jobs.{Jobs as JobsValue};
 ghost use Rattle.smk_trigger.specs.declared.reason.Reason.{Reason as ReasonValue};
 ghost use Rattle.smk_trigger.specs.declared.reason.State.{State as StateValue};
 ghost use Rattle.smk_trigger.specs.Reasons.{when};
-ghost use Rattle.smk_pick.specs.declared.settings.Settings.{Settings as Asked};
-ghost use Rattle.smk_plan.specs.States.{Progress, by_reasons, unless_clean, while_running, is_forced, kept_state};
-ghost use Rattle.smk_plan_states.specs.Judged.{with_states, reasons_now};
+ghost use Rattle.smk_plan.specs.States.{by_reasons, unless_clean, while_running};
+ghost use Rattle.smk_plan_states.specs.Judged.{Judging, AreJudged};
 ghost use Rattle.smk_plan_states.specs.Passes.{is_kept_told};
 ghost use Rattle.smk_plan_states.specs.InUse.{is_in_use_told};
-ghost use Rattle.smk_plan_states.specs.First.{first_state, first_told, IsSolved};
+ghost use Rattle.smk_plan_states.specs.First.{first_states, first_told, IsSolved};
 
 use crate::in_use::is_in_use;
 use crate::opening::is_open;
@@ -172,12 +170,9 @@ pub(crate) fn first_states(
     running: List<Option<State>>,
 ) -> Result<List<State>, OutOfMemory>
     ensures each { IfOk result (λ found. length found ≡ length parts.now) }
-    ensures states { IfOk result (λ found. (image : Image) (settings : Asked) (progress : Progress) (jobs : JobsValue) (targets : Items Path) (states : Items StateValue)
-        → IsSolved image settings progress jobs targets states paths.now parts.now (λ p. contains_text in_use.now p)
-        → reasons ≡ map (reasons_now image settings progress jobs) jobs.jobs
-        → forced.now ≡ map (is_forced image settings progress (with_states jobs [])) jobs.jobs
-        → running ≡ map (kept_state image settings progress (with_states jobs [])) jobs.jobs
-        → found ≡ map (first_state image settings progress (with_states jobs states)) jobs.jobs) }
+    ensures states { IfOk result (λ found. (at : Judging) (jobs : JobsValue) (states : Items StateValue)
+        → IsSolved at jobs states paths.now parts.now (λ p. contains_text in_use.now p)
+        → AreJudged at jobs (record { reasons = reasons; forced = forced.now; running = running }) → found ≡ first_states at jobs states) }
 {
     let mut left = reversed(alloc, reasons)?;
     let mut left_kept = reversed(alloc, running)?;

@@ -19,15 +19,13 @@ use Rattle.smk_pick.specs.declared.settings.Settings.{Settings}
 use Rattle.smk_plan.specs.declared.fault.PlanFault.{PlanFault}
 use Rattle.smk_plan.specs.declared.plan.Plan.{Plan as Told}
 use Rattle.smk_plan.specs.declared.seen.Sight.{Sight}
-use Rattle.smk_plan.specs.declared.wholes.Wholes.{Wholes}
-use Rattle.smk_plan.specs.Sights.{wholes_of}
 use Rattle.smk_plan.specs.States.{Plan, Progress, HasStates, is_forced, is_ready, is_current, awaited, files_listed, new_listings}
 use Rattle.smk_drive.specs.Moments.{Rules}
 use Rattle.smk_plan_facts.specs.Facts.{having_run, facts_of, told_sources}
 use Rattle.smk_plan_facts.proofs.Tests.{map_twice}
-use Rattle.smk_plan_states.specs.Judged.{with_states, reasons_now, AreJudgedNow}
+use Rattle.smk_plan_states.specs.Judged.{with_states, reasons_now, AreJudged}
 use Rattle.smk_plan_table.specs.Parts.{is_source_in, each_or, listing_in, refusals_in}
-use Rattle.smk_plan_table.specs.Plans.{Agree, idle_at, HasMadeAt, IsUnrefused, IsRefusedAt}
+use Rattle.smk_plan_table.specs.Plans.{Agree, idle_at, at_rest, HasMadeAt, IsUnrefused, IsRefusedAt}
 use Rattle.smk_plan_table.proofs.Lists.{each_turn, map_same}
 use Rattle.smk_plan_table.proofs.Refused.{refused_first, unrefused_all}
 use Rattle.smk_plan_table.proofs.Idle.{now_alone}
@@ -41,7 +39,7 @@ module _ (image : Image) (settings : Settings) (progress : Progress) (jobs : Job
 
   pub refusal : (ran : List Path) → progress.begun ≡ ran → (idle : List Job) → idle ≡ idle_at progress jobs.jobs →
       (states : List State) → HasStates image settings progress (with_states jobs states) →
-      (f : PlanFault) → Some f ≡ first_of ran idle states → IsRefusedAt image settings progress jobs f
+      (f : PlanFault) → Some f ≡ first_of ran idle states → IsRefusedAt (record { image = image; settings = settings; progress = progress }) jobs f
   refusal ran b idle i states table f e =
       record {
         states = states;
@@ -61,7 +59,7 @@ module _ (image : Image) (settings : Settings) (progress : Progress) (jobs : Job
   pub made_of : (ran : List Path) → progress.begun ≡ ran → (idle : List Job) → idle ≡ idle_at progress jobs.jobs →
       (states : List State) → HasStates image settings progress (with_states jobs states) → None ≡ first_of ran idle states →
       (told : Told) → told.states ≡ states → told.current ≡ map (is_current image settings progress (with_states jobs states)) settings.targets →
-      told.known ≡ new_listings image settings progress (with_states jobs states) → HasMadeAt image settings progress jobs told
+      told.known ≡ new_listings image settings progress (with_states jobs states) → HasMadeAt (record { image = image; settings = settings; progress = progress }) jobs told
   made_of ran b idle i states table none told e c k =
       let free = nothing_refused states (none ∙ ap (λ r. first_of r idle states) (sym b) ∙ ap (λ js. first_of progress.begun js states) i) in
       record {
@@ -80,16 +78,15 @@ module _ (image : Image) (settings : Settings) (ran : List Path) (jobs : Jobs) w
       (zip_same (stamp_now image) (in_paths j.recipe))
       ∙ now_alone image settings ran jobs j
 
-  pub judged : (facts : List JobFacts) (reasons : List (List Reason)) (forced : List Bool) (wholes : Wholes) (running : List (Option State)) →
+  pub judged : (facts : List JobFacts) (reasons : List (List Reason)) (forced : List Bool) (running : List (Option State)) →
       facts ≡ map (facts_of image settings ran (with_states jobs [])) jobs.jobs → reasons ≡ map reasons_of facts → forced ≡ map (λ (f : JobFacts). f.forced) facts →
-      wholes ≡ wholes_of image jobs → running ≡ map (λ j. None) jobs.jobs → AreJudgedNow image settings (having_run ran) jobs reasons forced wholes running
-  judged facts reasons forced wholes running f r o w n =
+      running ≡ map (λ j. None) jobs.jobs → AreJudged (at_rest image settings ran) jobs (record { reasons = reasons; forced = forced; running = running })
+  judged facts reasons forced running f r o n =
       record {
         reasons =
             r ∙ ap (map reasons_of) f ∙ map_twice reasons_of (facts_of image settings ran (with_states jobs [])) jobs.jobs
             ∙ map_same (λ j. reasons_of (facts_of image settings ran (with_states jobs []) j)) (reasons_now image settings (having_run ran) jobs) reasons_same jobs.jobs;
         forced = o ∙ ap (map (λ (x : JobFacts). x.forced)) f ∙ map_twice (λ (x : JobFacts). x.forced) (facts_of image settings ran (with_states jobs [])) jobs.jobs;
-        wholes = w;
         running = n;
       }
 

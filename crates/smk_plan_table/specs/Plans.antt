@@ -8,6 +8,7 @@ use Rattle.smk_store.specs.Images.{Image, is_source}
 use Rattle.smk_store.specs.Stores.{Known}
 use Rattle.smk_store.specs.Loading.{IsStoreOf}
 use Rattle.smk_chain.specs.declared.jobs.Jobs.{Jobs}
+use Rattle.smk_chain.specs.Derive.{Listings}
 use Rattle.smk_trigger.specs.declared.reason.State.{State}
 use Rattle.smk_pick.specs.declared.settings.Settings.{Settings}
 use Rattle.smk_plan.specs.declared.plan.Plan.{Plan as Told}
@@ -15,14 +16,17 @@ use Rattle.smk_plan.specs.declared.fault.PlanFault.{PlanFault}
 use Rattle.smk_plan.specs.declared.fault.PlanFault.TheVariants as refused
 use Rattle.smk_plan.specs.declared.seen.Sight.{Sight}
 use Rattle.smk_plan.specs.Sights.{IsSeenOf}
-use Rattle.smk_plan.specs.States.{Plan, Progress, job_path, HasStates, is_current, new_listings}
+use Rattle.smk_plan.specs.States.{Plan, Progress, job_path, is_current, new_listings}
 use Rattle.smk_report.specs.declared.fault.Fault.{Fault}
 use Rattle.smk_report.specs.declared.fault.Fault.TheVariants as fault
 use Rattle.smk_drive.specs.Moments.{Rules}
 use Rattle.smk_drive.specs.Refusals.{incomplete, guarded, above_limit, ahead, refused_of}
 use Rattle.smk_plan_facts.specs.Facts.{having_run, told_sources, TellSources, AreMade, NamesAll, HasOwnRecords}
 use Rattle.smk_plan_states.specs.Served.{AreServed}
-use Rattle.smk_plan_states.specs.Judged.{with_states}
+use Rattle.smk_plan_states.specs.declared.judged.Judged.{Judged}
+use Rattle.smk_plan_states.specs.declared.table.Table.{Table}
+use Rattle.smk_plan_states.specs.Judged.{Judging, AreJudged, AreStates, with_states}
+use Rattle.smk_plan_states.specs.Tables.{IsTableAt}
 
 -- ## What a plan is made from
 
@@ -42,6 +46,21 @@ pub record Agree (image : Image) (jobs : Jobs) (store : List Known) (seen : List
   pub read : TellSources image jobs
   pub asked : TellTargets image jobs targets
 
+-- the jobs are judged by this image and these settings where these have begun, and no child runs
+abbrev pub at_rest : Image → Settings → List Path → Judging
+at_rest image settings ran = record { image = image; settings = settings; progress = having_run ran }
+
+-- Wherever the jobs are judged by these settings and an image that has what is known and was seen.
+abbrev pub WhereAgreed : Jobs → List Known → List Sight → Settings → (Judging → Type 0) → Type 0
+WhereAgreed jobs store seen settings Q =
+    (image : Image) (progress : Progress) → Agree image jobs store seen settings.targets → Q (record { image = image; settings = settings; progress = progress })
+
+-- What a plan is made of is so: these have begun, the table is that of the jobs, and this is judged of them.
+pub record IsGiven (at : Judging) (jobs : Jobs) (table : Table) (ran : List Path) (judged : Judged) : Type 0 where
+  pub begun : at.progress.begun ≡ ran
+  pub told : IsTableAt at jobs table
+  pub right : AreJudged at jobs judged
+
 -- a child of the job runs
 abbrev pub runs_at : Progress → Job → Bool
 runs_at progress j = list_any (λ (e : Path × State). bytes_eq e.0 (job_path j)) progress.running
@@ -50,7 +69,22 @@ runs_at progress j = list_any (λ (e : Path × State). bytes_eq e.0 (job_path j)
 abbrev pub idle_at : Progress → List Job → List Job
 idle_at progress jobs = filter (λ j. not (runs_at progress j)) jobs
 
+-- These have begun, those of the jobs whose child doesn't run are the idle ones, and the states are those of the table.
+pub record AreRanked (at : Judging) (jobs : Jobs) (ran : List Path) (idle : List Job) (states : List State) : Type 0 where
+  pub begun : at.progress.begun ≡ ran
+  pub rests : idle ≡ idle_at at.progress jobs.jobs
+  pub table : AreStates at jobs states
+
 -- ## What a plan tells
+
+module _ (at : Judging) (jobs : Jobs) (states : List State) where
+  -- for each target whether it is current, where the jobs have these states
+  abbrev pub targets_current : List Bool
+  targets_current = map (is_current at.image at.settings at.progress (with_states jobs states)) at.settings.targets
+
+  -- the listings that have become known
+  abbrev pub listings_known : Listings
+  listings_known = new_listings at.image at.settings at.progress (with_states jobs states)
 
 -- nothing is refused of the plan, but maybe of commands
 pub record IsUnrefused (rules : Rules) (image : Image) (progress : Progress) (plan : Plan) : Type 0 where
@@ -58,17 +92,17 @@ pub record IsUnrefused (rules : Rules) (image : Image) (progress : Progress) (pl
   pub unguarded : guarded rules image progress plan ≡ []
   pub within : flat_map (above_limit rules image progress plan) (ahead rules image progress plan) ≡ []
 
--- Where so much has been done: the states are those of the table, the targets are current and the listings have become known by them, and nothing is refused of
--- the plan.
-pub record HasMadeAt (image : Image) (settings : Settings) (progress : Progress) (jobs : Jobs) (told : Told) : Type 0 where
-  pub states : HasStates image settings progress (with_states jobs told.states)
-  pub current : told.current ≡ map (is_current image settings progress (with_states jobs told.states)) settings.targets
-  pub known : told.known ≡ new_listings image settings progress (with_states jobs told.states)
-  pub unrefused : (rules : Rules) → rules.settings ≡ settings → IsUnrefused rules image progress (with_states jobs told.states)
+-- By what the jobs are judged: the states are those of the table, the targets are current and the listings have become known by them, and nothing is
+-- refused of the plan.
+pub record HasMadeAt (at : Judging) (jobs : Jobs) (told : Told) : Type 0 where
+  pub states : AreStates at jobs told.states
+  pub current : told.current ≡ targets_current at jobs told.states
+  pub known : told.known ≡ listings_known at jobs told.states
+  pub unrefused : (rules : Rules) → rules.settings ≡ at.settings → IsUnrefused rules at.image at.progress (with_states jobs told.states)
 
 -- the same where these have begun and none runs
 abbrev pub HasMade : Image → Settings → List Path → Jobs → Told → Type 0
-HasMade image settings ran jobs told = HasMadeAt image settings (having_run ran) jobs told
+HasMade image settings ran jobs told = HasMadeAt (at_rest image settings ran) jobs told
 
 -- ## What is refused
 
@@ -79,14 +113,14 @@ fault_in flow (refused.Protected p) = fault.Protected p
 fault_in flow (refused.AboveLimit rule p name asked bound) = fault.AboveLimit (rule_name flow rule) p name asked bound
 fault_in flow refused.OutOfMemory = fault.OutOfMemory
 
--- Where so much has been done, the plan whose states are those of the table is refused, and this is the first refusal.
-pub record IsRefusedAt (image : Image) (settings : Settings) (progress : Progress) (jobs : Jobs) (told : PlanFault) : Type 0 where
+-- By what the jobs are judged: the plan whose states are those of the table is refused, and this is the first refusal.
+pub record IsRefusedAt (at : Judging) (jobs : Jobs) (told : PlanFault) : Type 0 where
   pub states : List State
-  pub table : HasStates image settings progress (with_states jobs states)
+  pub table : AreStates at jobs states
   pub first :
-      (rules : Rules) → rules.settings ≡ settings →
-      (rest : List Fault) × (refused_of rules image progress (with_states jobs states) ≡ fault_in rules.flow told ∷ rest)
+      (rules : Rules) → rules.settings ≡ at.settings →
+      (rest : List Fault) × (refused_of rules at.image at.progress (with_states jobs states) ≡ fault_in rules.flow told ∷ rest)
 
 -- the same where these have begun and none runs
 abbrev pub IsRefused : Image → Settings → List Path → Jobs → PlanFault → Type 0
-IsRefused image settings ran jobs told = IsRefusedAt image settings (having_run ran) jobs told
+IsRefused image settings ran jobs told = IsRefusedAt (at_rest image settings ran) jobs told

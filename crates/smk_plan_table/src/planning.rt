@@ -1,30 +1,25 @@
 //! A plan of derived jobs.
 
-ghost use Rattle.std.specs.Prelude.{◌≡◌, ◌≢◌, List as Items, map, length, IfOk, IfErr};
+ghost use Rattle.std.specs.Prelude.{◌≡◌, ◌≢◌, List as Items, length, IfOk, IfErr};
 ghost use Rattle.smk_world.specs.Trees.{Path};
 ghost use Rattle.smk_store.specs.Images.{Image};
-ghost use Rattle.smk_pick.specs.declared.settings.Settings.{Settings as Asked};
-ghost use Rattle.smk_plan.specs.States.{Progress, HasStates, is_current, new_listings};
-ghost use Rattle.smk_plan.specs.Sights.{wholes_of};
-ghost use Rattle.smk_plan.specs.declared.wholes.Wholes.{Wholes as WholesValue};
-ghost use Rattle.smk_plan_states.specs.Tables.{IsTableOf};
-ghost use Rattle.smk_plan_states.specs.Served.{AreServed};
-ghost use Rattle.smk_plan_states.specs.Judged.{with_states, AreJudgedNow};
+ghost use Rattle.smk_plan_states.specs.Tables.{IsTable, IsTableAt};
+ghost use Rattle.smk_plan_states.specs.Judged.{Judging, AreJudged, AreStates};
 ghost use Rattle.smk_plan_table.specs.Parts.{shown, idle_in};
-ghost use Rattle.smk_plan_table.specs.Plans.{Agree, idle_at, HasMade, HasMadeAt, IsRefused, IsRefusedAt};
+ghost use Rattle.smk_plan_table.specs.Plans.{Agree, AreRanked, HasMade, HasMadeAt, IsGiven, IsRefused, IsRefusedAt, WhereAgreed, listings_known, targets_current};
 
 use crate::current::current;
-use crate::judging::{Judged, judge};
+use crate::judging::{Basis, judge};
 use crate::listings::listings_of;
 use crate::refusing::{first_refusal, idle_among};
 use smk_base::{List, OutOfMemory, PathText};
 use smk_chain::Jobs;
 use smk_flow::Job;
 use smk_pick::Settings;
-use smk_plan::{Loaded, Plan, PlanFault, Seen, Told, Wholes};
-use smk_plan_states::Table;
+use smk_plan::{Loaded, Plan, PlanFault, Seen, Told};
+use smk_plan_states::{Judged, Table};
 use smk_store::Store;
-use smk_trigger::{Reason, State};
+use smk_trigger::State;
 use std::alloc::Global;
 use std::thread::Threads;
 
@@ -33,19 +28,14 @@ fn idle_and_states<'j>(
     alloc: Global,
     jobs: &'j Jobs,
     table: &Table<'_>,
-    reasons: List<List<Reason>>,
-    forced: &List<bool>,
-    running: List<Option<State>>,
+    judged: Judged,
 ) -> Result<(Vec<&'j Job>, List<State>), OutOfMemory>
-    ensures each { IfOk result (λ made. (targets : Items Path) (wholes : WholesValue) → IsTableOf jobs.now targets wholes table.now → length made.1 ≡ length jobs.now.jobs) }
-    ensures idle { IfOk result (λ made. shown made.0.items ≡ idle_in jobs.now.jobs running) }
-    ensures states { IfOk result (λ made. (image : Image) (settings : Asked) (progress : Progress) (wholes : WholesValue)
-        → IsTableOf jobs.now settings.targets wholes table.now → AreServed jobs.now settings.targets
-        → AreJudgedNow image settings progress jobs.now reasons forced.now wholes running
-        → HasStates image settings progress (with_states jobs.now made.1)) }
+    ensures each { IfOk result (λ made. (targets : Items Path) → IsTable jobs.now targets table.now → length made.1 ≡ length jobs.now.jobs) }
+    ensures idle { IfOk result (λ made. shown made.0.items ≡ idle_in jobs.now.jobs judged.running) }
+    ensures states { IfOk result (λ made. (at : Judging) → IsTableAt at jobs.now table.now → AreJudged at jobs.now judged → AreStates at jobs.now made.1) }
 {
-    let idle = idle_among(alloc, jobs.jobs.as_slice(), running.as_slice())?;
-    let states = table.states(alloc, reasons, forced, running)?;
+    let idle = idle_among(alloc, jobs.jobs.as_slice(), judged.running.as_slice())?;
+    let states = table.states(alloc, judged)?;
     Ok((idle, states))
 }
 
@@ -61,12 +51,10 @@ fn tell<T: Told>(
     requires each { length states ≡ length jobs.now.jobs }
     ensures targets { IfOk result (λ made. length made.current ≡ length settings.now.targets) }
     ensures states { IfOk result (λ made. made.states ≡ states) }
-    ensures current { IfOk result (λ made. (image : Image) (progress : Progress) (wholes : WholesValue) → IsTableOf jobs.now settings.now.targets wholes table.now
-        → Agree image jobs.now (T.known told.now) (T.seen told.now) settings.now.targets → wholes ≡ wholes_of image jobs.now
-        → made.current ≡ map (is_current image settings.now progress (with_states jobs.now states)) settings.now.targets) }
-    ensures known { IfOk result (λ made. (image : Image) (progress : Progress) (wholes : WholesValue) → IsTableOf jobs.now settings.now.targets wholes table.now
-        → Agree image jobs.now (T.known told.now) (T.seen told.now) settings.now.targets → wholes ≡ wholes_of image jobs.now
-        → made.known ≡ new_listings image settings.now progress (with_states jobs.now states)) }
+    ensures current { IfOk result (λ made. WhereAgreed jobs.now (T.known told.now) (T.seen told.now) settings.now
+        (λ at. IsTableAt at jobs.now table.now → made.current ≡ targets_current at jobs.now states)) }
+    ensures known { IfOk result (λ made. WhereAgreed jobs.now (T.known told.now) (T.seen told.now) settings.now
+        (λ at. IsTableAt at jobs.now table.now → made.known ≡ listings_known at jobs.now states)) }
 {
     let ready = table.ready_targets(alloc, &states)?;
     let folders = table.newly_ready(alloc, &states)?;
@@ -93,13 +81,10 @@ fn plan_by<T: Told>(
     requires each { length states ≡ length jobs.now.jobs }
     ensures targets { IfOk result (λ made. length made.current ≡ length settings.now.targets) }
     ensures states { IfOk result (λ made. made.states ≡ states) }
-    ensures made { IfOk result (λ made. (image : Image) (progress : Progress) (wholes : WholesValue) → IsTableOf jobs.now settings.now.targets wholes table.now
-        → progress.begun ≡ ran.now → Agree image jobs.now (T.known told.now) (T.seen told.now) settings.now.targets
-        → wholes ≡ wholes_of image jobs.now → shown idle.now ≡ idle_at progress jobs.now.jobs
-        → HasStates image settings.now progress (with_states jobs.now states) → HasMadeAt image settings.now progress jobs.now made) }
-    ensures refused { IfErr result (λ fault. fault ≢ PlanFault.OutOfMemory → (image : Image) (progress : Progress) → progress.begun ≡ ran.now
-        → Agree image jobs.now (T.known told.now) (T.seen told.now) settings.now.targets → shown idle.now ≡ idle_at progress jobs.now.jobs
-        → HasStates image settings.now progress (with_states jobs.now states) → IsRefusedAt image settings.now progress jobs.now fault) }
+    ensures made { IfOk result (λ made. WhereAgreed jobs.now (T.known told.now) (T.seen told.now) settings.now
+        (λ at. IsTableAt at jobs.now table.now → AreRanked at jobs.now ran.now (shown idle.now) states → HasMadeAt at jobs.now made)) }
+    ensures refused { IfErr result (λ fault. fault ≢ PlanFault.OutOfMemory → WhereAgreed jobs.now (T.known told.now) (T.seen told.now) settings.now
+        (λ at. AreRanked at jobs.now ran.now (shown idle.now) states → IsRefusedAt at jobs.now fault)) }
 {
     match first_refusal(alloc, &jobs.jobs, idle, &states, told, settings, ran) {
         Err(_) => Err(PlanFault::OutOfMemory),
@@ -111,30 +96,33 @@ fn plan_by<T: Told>(
     }
 }
 
-// The same by a table of the jobs and targets.
-fn plan_of<T: Told>(
+/// The plan of these jobs at any moment, by their table and what is told of paths then: their states, which targets are current, and the listings that have
+/// become known besides those with which the jobs were derived. The jobs with the first outputs `ran` have begun in this run.
+///
+/// What is told, and what the table, these and the makers of the jobs say, is so in one image of the folder.
+///
+/// The fault is the first thing that is refused: all marked outputs of jobs whose child doesn't run, unless incomplete jobs are to be run again; the first
+/// read-only file in the way of a job that is to run and hasn't begun; the first such job that asks more of a resource than its bound, with the first such
+/// bound. `OutOfMemory` where there is no memory for the plan, or where the last of these can't be told: no number of 64 bits tells how much is asked, or the
+/// job has no output to be named by. The time is near linear in the jobs, their inputs, outputs and makers and the targets.
+pub fn plan_now<T: Told>(
     alloc: Global,
     jobs: &Jobs,
     table: &Table<'_>,
     told: &T,
     settings: &Settings,
-    reasons: List<List<Reason>>,
-    forced: &List<bool>,
     ran: &List<PathText>,
-    running: List<Option<State>>,
+    judged: Judged,
 ) -> Result<Plan, PlanFault>
-    requires table { (wholes : WholesValue) × IsTableOf jobs.now settings.now.targets wholes table.now }
+    requires table { IsTable jobs.now settings.now.targets table.now }
     ensures each { IfOk result (λ made. length made.states ≡ length jobs.now.jobs) }
     ensures targets { IfOk result (λ made. length made.current ≡ length settings.now.targets) }
-    ensures made { IfOk result (λ made. (image : Image) (progress : Progress) (wholes : WholesValue) → IsTableOf jobs.now settings.now.targets wholes table.now
-        → progress.begun ≡ ran.now → Agree image jobs.now (T.known told.now) (T.seen told.now) settings.now.targets
-        → AreJudgedNow image settings.now progress jobs.now reasons forced.now wholes running → HasMadeAt image settings.now progress jobs.now made) }
-    ensures refused { IfErr result (λ fault. fault ≢ PlanFault.OutOfMemory → (image : Image) (progress : Progress) (wholes : WholesValue)
-        → IsTableOf jobs.now settings.now.targets wholes table.now → progress.begun ≡ ran.now
-        → Agree image jobs.now (T.known told.now) (T.seen told.now) settings.now.targets
-        → AreJudgedNow image settings.now progress jobs.now reasons forced.now wholes running → IsRefusedAt image settings.now progress jobs.now fault) }
+    ensures made { IfOk result (λ made. WhereAgreed jobs.now (T.known told.now) (T.seen told.now) settings.now
+        (λ at. IsGiven at jobs.now table.now ran.now judged → HasMadeAt at jobs.now made)) }
+    ensures refused { IfErr result (λ fault. fault ≢ PlanFault.OutOfMemory → WhereAgreed jobs.now (T.known told.now) (T.seen told.now) settings.now
+        (λ at. IsGiven at jobs.now table.now ran.now judged → IsRefusedAt at jobs.now fault)) }
 {
-    match idle_and_states(alloc, jobs, table, reasons, forced, running) {
+    match idle_and_states(alloc, jobs, table, judged) {
         Err(_) => Err(PlanFault::OutOfMemory),
         Ok((idle, states)) => plan_by(
             alloc,
@@ -145,44 +133,6 @@ fn plan_of<T: Told>(
             settings,
             ran,
             states,
-        ),
-    }
-}
-
-/// The plan of these jobs at any moment, by what is told of paths then: their states, which targets are current, and the listings that have become known
-/// besides those with which the jobs were derived. The jobs with the first outputs `ran` have begun in this run.
-///
-/// `reasons` has for each job its reasons but for the inputs whose job is Dirty, with Forced at the end where it is forced; `forced` tells which jobs are
-/// forced; `wholes` what is whole. `running` has for each job the state that it had when it began, if its child runs. What is told, and what these and the
-/// makers of the jobs say, is so in one image of the folder.
-///
-/// The fault is the first thing that is refused: all marked outputs of jobs whose child doesn't run, unless incomplete jobs are to be run again; the first
-/// read-only file in the way of a job that is to run and hasn't begun; the first such job that asks more of a resource than its bound, with the first such
-/// bound. `OutOfMemory` where there is no memory for the plan, or where the last of these can't be told: no number of 64 bits tells how much is asked, or the
-/// job has no output to be named by. The time is near linear in the jobs, their inputs, outputs and makers and the targets.
-pub fn plan_now<T: Told>(
-    alloc: Global,
-    jobs: &Jobs,
-    told: &T,
-    settings: &Settings,
-    reasons: List<List<Reason>>,
-    forced: &List<bool>,
-    wholes: &Wholes,
-    ran: &List<PathText>,
-    running: List<Option<State>>,
-) -> Result<Plan, PlanFault>
-    ensures each { IfOk result (λ made. length made.states ≡ length jobs.now.jobs) }
-    ensures targets { IfOk result (λ made. length made.current ≡ length settings.now.targets) }
-    ensures made { IfOk result (λ made. (image : Image) (progress : Progress) → progress.begun ≡ ran.now → Agree image jobs.now (T.known told.now) (T.seen told.now) settings.now.targets
-        → AreJudgedNow image settings.now progress jobs.now reasons forced.now wholes.now running → HasMadeAt image settings.now progress jobs.now made) }
-    ensures refused { IfErr result (λ fault. fault ≢ PlanFault.OutOfMemory → (image : Image) (progress : Progress) → progress.begun ≡ ran.now
-        → Agree image jobs.now (T.known told.now) (T.seen told.now) settings.now.targets
-        → AreJudgedNow image settings.now progress jobs.now reasons forced.now wholes.now running → IsRefusedAt image settings.now progress jobs.now fault) }
-{
-    match Table::of(alloc, jobs, &settings.targets, wholes) {
-        Err(_) => Err(PlanFault::OutOfMemory),
-        Ok(table) => plan_of(
-            alloc, jobs, &table, told, settings, reasons, forced, ran, running,
         ),
     }
 }
@@ -215,17 +165,13 @@ pub fn plan<Rt: Threads + Sync>(
 {
     match judge(rt, alloc, jobs, store, seen, settings, ran) {
         Err(_) => Err(PlanFault::OutOfMemory),
-        Ok(judged) => {
-            let Judged {
-                reasons,
-                forced,
-                wholes,
-                running,
-            } = judged;
+        Ok(basis) => {
+            let Basis { judged, wholes } = basis;
             let told = Loaded { store, seen };
-            plan_now(
-                alloc, jobs, &told, settings, reasons, &forced, &wholes, ran, running,
-            )
+            match Table::of(alloc, jobs, &settings.targets, &wholes) {
+                Err(_) => Err(PlanFault::OutOfMemory),
+                Ok(table) => plan_now(alloc, jobs, &table, &told, settings, ran, judged),
+            }
         }
     }
 }

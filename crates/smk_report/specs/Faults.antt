@@ -1,5 +1,21 @@
 -- The texts of faults, and the statuses with which they end a call.
 use Rattle.std.specs.Prelude.{ℕ, [], ◌∷◌, ◌++◌, decimal, codes, Option, Some, None}
+use Rattle.smk_words.specs.declared.words.WordsFault.{WordsFault}
+use Rattle.smk_words.specs.declared.words.WordsFault.TheVariants as words
+use Rattle.smk_store.specs.declared.fault.StoreFault.{StoreFault}
+use Rattle.smk_store.specs.declared.fault.StoreFault.TheVariants as store
+use Rattle.smk_flow.specs.declared.fault.FlowFault.{FlowFault}
+use Rattle.smk_flow.specs.declared.fault.FlowFault.TheVariants as rules
+use Rattle.smk_eval_values.specs.declared.fault.ValueFault.{ValueFault}
+use Rattle.smk_eval_values.specs.declared.fault.ValueFault.TheVariants as value
+use Rattle.smk_flaws.specs.declared.flaw.FileFlaw.{FileFlaw}
+use Rattle.smk_flaws.specs.declared.flaw.FileFlaw.TheVariants as file_flaw
+use Rattle.smk_flaws.specs.declared.flaw.SaidFlaw.{SaidFlaw}
+use Rattle.smk_flaws.specs.declared.flaw.SaidFlaw.TheVariants.{Value, Rules}
+use Rattle.smk_flaws.specs.declared.flaw.Flaw.{Flaw}
+use Rattle.smk_flaws.specs.declared.flaw.Flaw.TheVariants as flaw
+use Rattle.smk_flaws.specs.declared.fault.LoadFault.{LoadFault}
+use Rattle.smk_flaws.specs.declared.fault.LoadFault.TheVariants as load
 use Rattle.smk_report.specs.declared.fault.Fault.{Fault}
 use Rattle.smk_report.specs.declared.fault.Fault.TheVariants as fault
 use Rattle.smk_report.specs.Lines.{Text, joined}
@@ -8,27 +24,54 @@ use Rattle.smk_report.specs.Lines.{Text, joined}
 abbrev pub at_line : Text → ℕ → Text
 at_line file row = file ++ (codes ":" ++ decimal row)
 
+-- what is said of a file that isn't read
+abbrev pub file_words : FileFlaw → Text
+file_words (file_flaw.BadIndent file row) = at_line file row ++ codes ": indentation does not fit"
+file_words (file_flaw.OpenText file row) = at_line file row ++ codes ": text is not closed"
+file_words (file_flaw.BadByte file row) = at_line file row ++ codes ": byte not allowed"
+file_words (file_flaw.Unexpected file row) = at_line file row ++ codes ": not expected here"
+file_words (file_flaw.Unsupported file row word) = at_line file row ++ (codes ": not supported: " ++ word)
+file_words (file_flaw.Doubled file row word) = at_line file row ++ (codes ": given twice: " ++ word)
+file_words (file_flaw.IncludeDepth file) = codes "includes too deep: " ++ file
+file_words (file_flaw.NoFile file) = codes "no file " ++ file
+file_words (file_flaw.TooBig file) = codes "file too big: " ++ file
+
+-- what is said of an expression without a value, in a statement of this file, line and rule
+abbrev pub value_words : Text → ℕ → Text → ValueFault → Text
+value_words file row rule (value.BadFlag word) = at_line file row ++ (codes ": does not stand in " ++ (rule ++ (codes ": " ++ word)))
+value_words file row rule (value.UnknownName name) = at_line file row ++ (codes ": unknown name: " ++ name)
+value_words file row rule (value.NoKey key) = at_line file row ++ (codes ": no configuration for " ++ key)
+value_words file row rule (value.BadConfig key) = codes "bad configuration:  " ++ key
+value_words file row rule value.UnequalZip = at_line file row ++ codes ": zip over unequal lists"
+value_words file row rule value.TooMany = at_line file row ++ codes ": expand gives too many"
+value_words file row rule value.OutOfMemory = codes "out of memory"
+
+-- what is said of rules and clauses that make no workflow
+abbrev pub rules_words : FlowFault → Text
+rules_words (rules.DoubledRule file row name) = at_line file row ++ (codes ": rule given twice: " ++ name)
+rules_words (rules.BadPattern file row text) = at_line file row ++ (codes ": not a path pattern: " ++ text)
+rules_words (rules.BadConstraint file row name) = at_line file row ++ (codes ": not a constraint: " ++ name)
+rules_words (rules.UnequalWildcards file row rule) = at_line file row ++ (codes ": unequal wildcards in " ++ rule)
+rules_words (rules.UnknownWildcard file row rule name) = at_line file row ++ (codes ": unknown wildcard in " ++ (rule ++ (codes ": " ++ name)))
+rules_words (rules.BadFlag file row rule word) = at_line file row ++ (codes ": does not stand in " ++ (rule ++ (codes ": " ++ word)))
+rules_words (rules.UnknownName file row name) = at_line file row ++ (codes ": unknown name: " ++ name)
+rules_words (rules.ContradictoryOrder a b) = codes "contradictory order: " ++ (a ++ (codes " and " ++ b))
+rules_words rules.OutOfMemory = codes "out of memory"
+
+-- what is said of what files say
+abbrev pub said_words : SaidFlaw → Text
+said_words (Value file row rule f) = value_words file row rule f
+said_words (Rules f) = rules_words f
+
+-- what is said of a workflow
+abbrev pub flaw_words : Flaw → Text
+flaw_words (flaw.File f) = file_words f
+flaw_words (flaw.Said f) = said_words f
+flaw_words (flaw.BadConfig file) = codes "bad configuration: " ++ (file ++ codes " ")
+
 -- what is said of a fault
 abbrev pub fault_words : Fault → Text
-fault_words (fault.BadIndent file row) = at_line file row ++ codes ": indentation does not fit"
-fault_words (fault.OpenText file row) = at_line file row ++ codes ": text is not closed"
-fault_words (fault.BadByte file row) = at_line file row ++ codes ": byte not allowed"
-fault_words (fault.Unexpected file row) = at_line file row ++ codes ": not expected here"
-fault_words (fault.Unsupported file row word) = at_line file row ++ (codes ": not supported: " ++ word)
-fault_words (fault.Doubled file row word) = at_line file row ++ (codes ": given twice: " ++ word)
-fault_words (fault.BadPattern file row text) = at_line file row ++ (codes ": not a path pattern: " ++ text)
-fault_words (fault.BadConstraint file row name) = at_line file row ++ (codes ": not a constraint: " ++ name)
-fault_words (fault.DoubledRule file row name) = at_line file row ++ (codes ": rule given twice: " ++ name)
-fault_words (fault.UnequalWildcards file row rule) = at_line file row ++ (codes ": unequal wildcards in " ++ rule)
-fault_words (fault.UnknownWildcard file row rule name) = at_line file row ++ (codes ": unknown wildcard in " ++ (rule ++ (codes ": " ++ name)))
-fault_words (fault.BadFlag file row rule word) = at_line file row ++ (codes ": does not stand in " ++ (rule ++ (codes ": " ++ word)))
-fault_words (fault.BadConfig file key) = codes "bad configuration: " ++ (file ++ (codes " " ++ key))
-fault_words (fault.NoKey file row key) = at_line file row ++ (codes ": no configuration for " ++ key)
-fault_words (fault.UnknownName file row name) = at_line file row ++ (codes ": unknown name: " ++ name)
-fault_words (fault.UnequalZip file row) = at_line file row ++ codes ": zip over unequal lists"
-fault_words (fault.TooMany file row) = at_line file row ++ codes ": expand gives too many"
-fault_words (fault.IncludeDepth file) = codes "includes too deep: " ++ file
-fault_words (fault.ContradictoryOrder a b) = codes "contradictory order: " ++ (a ++ (codes " and " ++ b))
+fault_words (fault.Workflow f) = flaw_words f
 fault_words (fault.NoRule path) = codes "no rule for " ++ path
 fault_words (fault.NoInput path rule wanted) = codes "no input for " ++ (path ++ (codes ": rule " ++ (rule ++ (codes " wants " ++ wanted))))
 fault_words (fault.Ambiguous path a b) = codes "ambiguous: " ++ (path ++ (codes " by " ++ (a ++ (codes " and " ++ b))))
@@ -50,8 +93,6 @@ fault_words (fault.NoOutput rule path missing) = codes "job failed: " ++ (rule +
 fault_words (fault.WrongKind rule path wrong) = codes "job failed: " ++ (rule ++ (codes " " ++ (path ++ (codes ": wrong kind " ++ wrong))))
 fault_words fault.BadWords = codes "words not read"
 fault_words fault.NoCores = codes "no --cores"
-fault_words (fault.NoFile file) = codes "no file " ++ file
-fault_words (fault.TooBig file) = codes "file too big: " ++ file
 fault_words (fault.BadTarget word) = codes "not a target: " ++ word
 fault_words (fault.BadMember rule path bad) = codes "job failed: " ++ (rule ++ (codes " " ++ (path ++ (codes ": bad member " ++ bad))))
 fault_words fault.Device = codes "device failed"
@@ -63,25 +104,7 @@ abbrev pub fault_text : Fault → Text
 fault_text f = codes "smk: " ++ (fault_words f ++ 10 ∷ [])
 
 abbrev pub fault_status : Fault → ℕ
-fault_status (fault.BadIndent file row) = 3
-fault_status (fault.OpenText file row) = 3
-fault_status (fault.BadByte file row) = 3
-fault_status (fault.Unexpected file row) = 3
-fault_status (fault.Unsupported file row word) = 3
-fault_status (fault.Doubled file row word) = 3
-fault_status (fault.BadPattern file row text) = 3
-fault_status (fault.BadConstraint file row name) = 3
-fault_status (fault.DoubledRule file row name) = 3
-fault_status (fault.UnequalWildcards file row rule) = 3
-fault_status (fault.UnknownWildcard file row rule name) = 3
-fault_status (fault.BadFlag file row rule word) = 3
-fault_status (fault.BadConfig file key) = 3
-fault_status (fault.NoKey file row key) = 3
-fault_status (fault.UnknownName file row name) = 3
-fault_status (fault.UnequalZip file row) = 3
-fault_status (fault.TooMany file row) = 3
-fault_status (fault.IncludeDepth file) = 3
-fault_status (fault.ContradictoryOrder a b) = 3
+fault_status (fault.Workflow f) = 3
 fault_status (fault.NoRule path) = 3
 fault_status (fault.NoInput path rule wanted) = 3
 fault_status (fault.Ambiguous path a b) = 3
@@ -103,8 +126,6 @@ fault_status (fault.NoOutput rule path missing) = 1
 fault_status (fault.WrongKind rule path wrong) = 1
 fault_status fault.BadWords = 2
 fault_status fault.NoCores = 2
-fault_status (fault.NoFile file) = 3
-fault_status (fault.TooBig file) = 3
 fault_status (fault.BadTarget word) = 3
 fault_status (fault.BadMember rule path bad) = 1
 fault_status fault.Device = 4
@@ -115,3 +136,20 @@ fault_status fault.OutOfMemory = 5
 abbrev pub status_of : Option Fault → ℕ
 status_of None = 0
 status_of (Some f) = fault_status f
+
+-- the fault of a call that has this one of its workflow
+abbrev pub of_load : LoadFault → Fault
+of_load (load.Flawed f) = fault.Workflow f
+of_load load.Device = fault.Device
+of_load load.OutOfMemory = fault.OutOfMemory
+
+-- the fault of a call that has this one of its store
+abbrev pub of_store : StoreFault → Fault
+of_store (store.StampSeen p) = fault.StampSeen p
+of_store store.Device = fault.Device
+of_store store.OutOfMemory = fault.OutOfMemory
+
+-- the fault of a call that has this one of its words
+abbrev pub of_words : WordsFault → Fault
+of_words words.BadWords = fault.BadWords
+of_words words.OutOfMemory = fault.OutOfMemory

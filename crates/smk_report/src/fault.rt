@@ -4,116 +4,15 @@ ghost use Rattle.std.specs.Prelude.{◌≡◌};
 ghost use Rattle.smk_report.specs.Faults.{fault_status};
 
 use smk_base::{List, OutOfMemory, PathText, Text};
+use smk_flaws::{Flaw, LoadFault};
+use smk_store::StoreFault;
+use smk_words::WordsFault;
 
-/// Why a call ended without being done. A file and line are those at which the fault stands.
+/// Why a call ended without being done.
 #[derive(Debug, Drop)]
 pub enum Fault {
-    /// An indentation fits none above.
-    BadIndent {
-        file: Text,
-        line: u64,
-    },
-    /// A text isn't closed.
-    OpenText {
-        file: Text,
-        line: u64,
-    },
-    /// A byte may not stand there.
-    BadByte {
-        file: Text,
-        line: u64,
-    },
-    /// The grammar has no such thing there.
-    Unexpected {
-        file: Text,
-        line: u64,
-    },
-    /// The word is left out of this tool.
-    Unsupported {
-        file: Text,
-        line: u64,
-        word: Text,
-    },
-    /// The word stands twice.
-    Doubled {
-        file: Text,
-        line: u64,
-        word: Text,
-    },
-    /// The text isn't written as a pattern.
-    BadPattern {
-        file: Text,
-        line: u64,
-        text: Text,
-    },
-    /// The constraint of this name is none.
-    BadConstraint {
-        file: Text,
-        line: u64,
-        name: Text,
-    },
-    /// The rule's name was used above.
-    DoubledRule {
-        file: Text,
-        line: u64,
-        name: Text,
-    },
-    /// The rule's outputs and logs don't all have the same wildcards.
-    UnequalWildcards {
-        file: Text,
-        line: u64,
-        rule: Text,
-    },
-    /// The rule's outputs don't have the wildcard.
-    UnknownWildcard {
-        file: Text,
-        line: u64,
-        rule: Text,
-        name: Text,
-    },
-    /// The word, or a value of its, may not stand there.
-    BadFlag {
-        file: Text,
-        line: u64,
-        rule: Text,
-        word: Text,
-    },
-    /// The file doesn't read, or the value of the key is of a wrong kind.
-    BadConfig {
-        file: Text,
-        key: Text,
-    },
-    /// The configuration doesn't have the key.
-    NoKey {
-        file: Text,
-        line: u64,
-        key: Text,
-    },
-    /// The name has no value.
-    UnknownName {
-        file: Text,
-        line: u64,
-        name: Text,
-    },
-    /// Lists that are paired have unequal lengths.
-    UnequalZip {
-        file: Text,
-        line: u64,
-    },
-    /// One call gives more than 100,000 texts.
-    TooMany {
-        file: Text,
-        line: u64,
-    },
-    /// Includes are nested more than 16 deep.
-    IncludeDepth {
-        file: Text,
-    },
-    /// Each of the two is preferred to the other.
-    ContradictoryOrder {
-        a: Text,
-        b: Text,
-    },
+    /// The workflow is wrong.
+    Workflow(Flaw),
     /// No rule has the path as an output.
     NoRule {
         path: PathText,
@@ -207,14 +106,6 @@ pub enum Fault {
     BadWords,
     /// A run has no `--cores`.
     NoCores,
-    /// The file isn't there.
-    NoFile {
-        file: Text,
-    },
-    /// The file has more than 1,048,576 bytes.
-    TooBig {
-        file: Text,
-    },
     /// The word is no target.
     BadTarget {
         word: Text,
@@ -244,6 +135,50 @@ impl From<OutOfMemory> for Fault {
     }
 }
 
+impl From<LoadFault> for Fault {
+    ghost use Rattle.std.specs.Prelude.{◌≡◌};
+    ghost use Rattle.smk_report.specs.Faults.{of_load};
+
+    ghost from_gives = { λ load fault. fault ≡ of_load load };
+
+    fn from(fault: LoadFault) -> Fault {
+        match fault {
+            LoadFault::Flawed(flaw) => Fault::Workflow(flaw),
+            LoadFault::Device => Fault::Device,
+            LoadFault::OutOfMemory => Fault::OutOfMemory,
+        }
+    }
+}
+
+impl From<StoreFault> for Fault {
+    ghost use Rattle.std.specs.Prelude.{◌≡◌};
+    ghost use Rattle.smk_report.specs.Faults.{of_store};
+
+    ghost from_gives = { λ store fault. fault ≡ of_store store };
+
+    fn from(fault: StoreFault) -> Fault {
+        match fault {
+            StoreFault::StampSeen(path) => Fault::StampSeen { path },
+            StoreFault::Device => Fault::Device,
+            StoreFault::OutOfMemory => Fault::OutOfMemory,
+        }
+    }
+}
+
+impl From<WordsFault> for Fault {
+    ghost use Rattle.std.specs.Prelude.{◌≡◌};
+    ghost use Rattle.smk_report.specs.Faults.{of_words};
+
+    ghost from_gives = { λ words fault. fault ≡ of_words words };
+
+    fn from(fault: WordsFault) -> Fault {
+        match fault {
+            WordsFault::BadWords => Fault::BadWords,
+            WordsFault::OutOfMemory => Fault::OutOfMemory,
+        }
+    }
+}
+
 /// The exit status of a call that ends with the fault: 1 where a job failed, 2 for the words of the command line, 4 for the device, 5
 /// for want of memory, 6 for the report, and 3 for every other refusal.
 pub fn status_of(fault: &Fault) -> u8
@@ -258,25 +193,7 @@ pub fn status_of(fault: &Fault) -> u8
         Fault::Device => 4,
         Fault::OutOfMemory => 5,
         Fault::Output => 6,
-        Fault::BadIndent { .. }
-        | Fault::OpenText { .. }
-        | Fault::BadByte { .. }
-        | Fault::Unexpected { .. }
-        | Fault::Unsupported { .. }
-        | Fault::Doubled { .. }
-        | Fault::BadPattern { .. }
-        | Fault::BadConstraint { .. }
-        | Fault::DoubledRule { .. }
-        | Fault::UnequalWildcards { .. }
-        | Fault::UnknownWildcard { .. }
-        | Fault::BadFlag { .. }
-        | Fault::BadConfig { .. }
-        | Fault::NoKey { .. }
-        | Fault::UnknownName { .. }
-        | Fault::UnequalZip { .. }
-        | Fault::TooMany { .. }
-        | Fault::IncludeDepth { .. }
-        | Fault::ContradictoryOrder { .. }
+        Fault::Workflow(_)
         | Fault::NoRule { .. }
         | Fault::NoInput { .. }
         | Fault::Ambiguous { .. }
@@ -293,8 +210,6 @@ pub fn status_of(fault: &Fault) -> u8
         | Fault::AboveLimit { .. }
         | Fault::UnknownField { .. }
         | Fault::TooLong { .. }
-        | Fault::NoFile { .. }
-        | Fault::TooBig { .. }
         | Fault::BadTarget { .. } => 3,
     }
 }

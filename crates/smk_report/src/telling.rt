@@ -2,10 +2,13 @@
 
 ghost use Rattle.std.specs.Prelude.{◌≡◌, ◌++◌, ◌∷◌, [], IfOk, OnOk, string_bytes, codes, decimal};
 ghost use Rattle.smk_report.specs.Lines.{joined, later};
-ghost use Rattle.smk_report.specs.Faults.{at_line, fault_words, fault_text};
+ghost use Rattle.smk_report.specs.Faults.{at_line, file_words, value_words, rules_words, said_words, flaw_words, fault_words, fault_text};
 
 use crate::fault::Fault;
 use smk_base::{OutOfMemory, PathText, Text};
+use smk_eval_values::ValueFault;
+use smk_flaws::{FileFlaw, Flaw, SaidFlaw};
+use smk_flow::FlowFault;
 use std::alloc::{AllocError, Global};
 
 // The file, the line and the words.
@@ -186,79 +189,92 @@ fn bad_member(
     format!(in alloc; "job failed: {rule} {path}: bad member {bad}")
 }
 
-// What is said of the fault.
-fn fault_words(alloc: Global, fault: &Fault) -> Result<String, AllocError>
-    ensures { IfOk result (λ text. string_bytes text ≡ fault_words fault.now) }
+// What is said of a file that isn't read.
+fn file_words(alloc: Global, flaw: &FileFlaw) -> Result<String, AllocError>
+    ensures { IfOk result (λ text. string_bytes text ≡ file_words flaw.now) }
 {
-    match fault {
-        Fault::BadIndent { file, line } => at_line(
+    match flaw {
+        FileFlaw::BadIndent { file, line } => at_line(
             alloc,
             file,
             *line,
             ": indentation does not fit",
         ),
-        Fault::OpenText { file, line } => at_line(alloc, file, *line, ": text is not closed"),
-        Fault::BadByte { file, line } => at_line(alloc, file, *line, ": byte not allowed"),
-        Fault::Unexpected { file, line } => at_line(alloc, file, *line, ": not expected here"),
-        Fault::Unsupported { file, line, word } => {
+        FileFlaw::OpenText { file, line } => at_line(alloc, file, *line, ": text is not closed"),
+        FileFlaw::BadByte { file, line } => at_line(alloc, file, *line, ": byte not allowed"),
+        FileFlaw::Unexpected { file, line } => at_line(alloc, file, *line, ": not expected here"),
+        FileFlaw::Unsupported { file, line, word } => {
             at_line_of(alloc, file, *line, ": not supported: ", word.as_str())
         }
-        Fault::Doubled { file, line, word } => {
+        FileFlaw::Doubled { file, line, word } => {
             at_line_of(alloc, file, *line, ": given twice: ", word.as_str())
         }
-        Fault::BadPattern { file, line, text } => {
-            at_line_of(alloc, file, *line, ": not a path pattern: ", text.as_str())
+        FileFlaw::IncludeDepth { file } => of_one(alloc, "includes too deep: ", file.as_str()),
+        FileFlaw::NoFile { file } => of_one(alloc, "no file ", file.as_str()),
+        FileFlaw::TooBig { file } => of_one(alloc, "file too big: ", file.as_str()),
+    }
+}
+
+// What is said of an expression without a value, in a statement of this file, line and rule.
+fn value_words(
+    alloc: Global,
+    file: &Text,
+    line: u64,
+    rule: &Text,
+    fault: &ValueFault,
+) -> Result<String, AllocError>
+    ensures { IfOk result (λ text. string_bytes text ≡ value_words file.now line rule.now fault.now) }
+{
+    match fault {
+        ValueFault::BadFlag(word) => {
+            at_line_in(alloc, file, line, ": does not stand in ", rule, word)
         }
-        Fault::BadConstraint { file, line, name } => {
-            at_line_of(alloc, file, *line, ": not a constraint: ", name.as_str())
+        ValueFault::UnknownName(name) => {
+            at_line_of(alloc, file, line, ": unknown name: ", name.as_str())
         }
-        Fault::DoubledRule { file, line, name } => {
+        ValueFault::NoKey(key) => {
+            at_line_of(alloc, file, line, ": no configuration for ", key.as_str())
+        }
+        ValueFault::BadConfig(key) => of_one(alloc, "bad configuration:  ", key.as_str()),
+        ValueFault::UnequalZip => at_line(alloc, file, line, ": zip over unequal lists"),
+        ValueFault::TooMany => at_line(alloc, file, line, ": expand gives too many"),
+        ValueFault::OutOfMemory => String::from_str(alloc, "out of memory"),
+    }
+}
+
+// What is said of rules and clauses that make no workflow.
+fn rules_words(alloc: Global, fault: &FlowFault) -> Result<String, AllocError>
+    ensures { IfOk result (λ text. string_bytes text ≡ rules_words fault.now) }
+{
+    match fault {
+        FlowFault::DoubledRule { file, line, name } => {
             at_line_of(alloc, file, *line, ": rule given twice: ", name.as_str())
         }
-        Fault::UnequalWildcards { file, line, rule } => {
+        FlowFault::BadPattern { file, line, text } => {
+            at_line_of(alloc, file, *line, ": not a path pattern: ", text.as_str())
+        }
+        FlowFault::BadConstraint { file, line, name } => {
+            at_line_of(alloc, file, *line, ": not a constraint: ", name.as_str())
+        }
+        FlowFault::UnequalWildcards { file, line, rule } => {
             at_line_of(alloc, file, *line, ": unequal wildcards in ", rule.as_str())
         }
-        Fault::UnknownWildcard {
+        FlowFault::UnknownWildcard {
             file,
             line,
             rule,
             name,
         } => { at_line_in(alloc, file, *line, ": unknown wildcard in ", rule, name) }
-        Fault::BadFlag {
+        FlowFault::BadFlag {
             file,
             line,
             rule,
             word,
         } => { at_line_in(alloc, file, *line, ": does not stand in ", rule, word) }
-        Fault::NoKey { file, line, key } => {
-            at_line_of(alloc, file, *line, ": no configuration for ", key.as_str())
-        }
-        Fault::UnknownName { file, line, name } => {
+        FlowFault::UnknownName { file, line, name } => {
             at_line_of(alloc, file, *line, ": unknown name: ", name.as_str())
         }
-        Fault::UnequalZip { file, line } => at_line(alloc, file, *line, ": zip over unequal lists"),
-        Fault::TooMany { file, line } => at_line(alloc, file, *line, ": expand gives too many"),
-        Fault::IncludeDepth { file } => of_one(alloc, "includes too deep: ", file.as_str()),
-        Fault::NoRule { path } => of_one(alloc, "no rule for ", path.as_str()),
-        Fault::Deep { path } => of_one(alloc, "chain too deep: ", path.as_str()),
-        Fault::MissingMember { path } => of_one(alloc, "not in its directory: ", path.as_str()),
-        Fault::NoCommand { rule } => of_one(alloc, "no command: ", rule.as_str()),
-        Fault::StampSeen { path } => of_one(alloc, "time seen before: ", path.as_str()),
-        Fault::Protected { path } => of_one(alloc, "protected: ", path.as_str()),
-        Fault::NoFile { file } => of_one(alloc, "no file ", file.as_str()),
-        Fault::TooBig { file } => of_one(alloc, "file too big: ", file.as_str()),
-        Fault::BadTarget { word } => of_one(alloc, "not a target: ", word.as_str()),
-        Fault::TooLong { rule, .. } => of_one(alloc, "too long: ", rule.as_str()),
-        Fault::BadConfig { file, key } => {
-            of_two(
-                alloc,
-                "bad configuration: ",
-                file.as_str(),
-                " ",
-                key.as_str(),
-            )
-        }
-        Fault::ContradictoryOrder { a, b } => {
+        FlowFault::ContradictoryOrder { a, b } => {
             of_two(
                 alloc,
                 "contradictory order: ",
@@ -267,6 +283,50 @@ fn fault_words(alloc: Global, fault: &Fault) -> Result<String, AllocError>
                 b.as_str(),
             )
         }
+        FlowFault::OutOfMemory => String::from_str(alloc, "out of memory"),
+    }
+}
+
+// What is said of what files say.
+fn said_words(alloc: Global, flaw: &SaidFlaw) -> Result<String, AllocError>
+    ensures { IfOk result (λ text. string_bytes text ≡ said_words flaw.now) }
+{
+    match flaw {
+        SaidFlaw::Value {
+            file,
+            line,
+            rule,
+            fault,
+        } => value_words(alloc, file, *line, rule, fault),
+        SaidFlaw::Rules(fault) => rules_words(alloc, fault),
+    }
+}
+
+// What is said of a workflow.
+fn flaw_words(alloc: Global, flaw: &Flaw) -> Result<String, AllocError>
+    ensures { IfOk result (λ text. string_bytes text ≡ flaw_words flaw.now) }
+{
+    match flaw {
+        Flaw::File(flaw) => file_words(alloc, flaw),
+        Flaw::Said(flaw) => said_words(alloc, flaw),
+        Flaw::BadConfig { file } => { of_two(alloc, "bad configuration: ", file.as_str(), " ", "") }
+    }
+}
+
+// What is said of the fault.
+fn fault_words(alloc: Global, fault: &Fault) -> Result<String, AllocError>
+    ensures { IfOk result (λ text. string_bytes text ≡ fault_words fault.now) }
+{
+    match fault {
+        Fault::Workflow(flaw) => flaw_words(alloc, flaw),
+        Fault::NoRule { path } => of_one(alloc, "no rule for ", path.as_str()),
+        Fault::Deep { path } => of_one(alloc, "chain too deep: ", path.as_str()),
+        Fault::MissingMember { path } => of_one(alloc, "not in its directory: ", path.as_str()),
+        Fault::NoCommand { rule } => of_one(alloc, "no command: ", rule.as_str()),
+        Fault::StampSeen { path } => of_one(alloc, "time seen before: ", path.as_str()),
+        Fault::Protected { path } => of_one(alloc, "protected: ", path.as_str()),
+        Fault::BadTarget { word } => of_one(alloc, "not a target: ", word.as_str()),
+        Fault::TooLong { rule, .. } => of_one(alloc, "too long: ", rule.as_str()),
         Fault::Clash { path, other } => {
             of_two(alloc, "clash: ", path.as_str(), " and ", other.as_str())
         }

@@ -1,6 +1,6 @@
 -- What a folder's listing tells, and what is found in the folder name by name.
 use Rattle.std.proofs.Common.{◌≡◌, ◌⊎◌, inl, inr, ◌≢◌, ℕ, ◌+◌, ◌<◌, ◌≤◌, ◌==◌, Bool, true, false, ◌||◌, List, [], ◌∷◌, ◌++◌, map, length, take, get_or, refl, sym, ap, subst, ◌∙◌, Option, Some, None, arith, append_assoc, length-append}
-use Rattle.std.specs.Prelude.{IsSome, IsTrue, All, Contains, if◌then◌else◌, nat_le, nat_lt}
+use Rattle.std.specs.Prelude.{IsSome, is_some, IsTrue, All, Contains, if◌then◌else◌, nat_le, nat_lt}
 use Rattle.std.specs.List.{list_any}
 use Rattle.std.specs.Str.{IsUtf8}
 use Rattle.std.proofs.lemmas.Bool.{eqb-true, leb-true, lt-ltb, ltb-true}
@@ -10,7 +10,7 @@ use Rattle.std.proofs.lemmas.List.Folds.{list_any_at}
 use Rattle.smk_base.specs.Path.{is_under}
 use Rattle.smk_base.specs.Place.{name_of}
 use Rattle.smk_base.proofs.Places.{and_second, same_place, place_itself}
-use Rattle.smk_base.proofs.Under.{never_both, or_cases, or_first, or_second, under_folder, under_further}
+use Rattle.smk_base.proofs.Under.{never_both, or_cases, or_first, or_second, under_folder, under_further, at_when_under}
 use Rattle.smk_world.specs.declared.event.Listing.{Listing}
 use Rattle.smk_world.specs.declared.event.Name.{Name}
 use Rattle.smk_world.specs.declared.event.Node.{Node}
@@ -18,10 +18,13 @@ use Rattle.smk_world.specs.declared.event.Node.TheVariants.{Regular, Directory}
 use Rattle.smk_world.specs.declared.event.NodeState.{NodeState}
 use Rattle.smk_world.specs.declared.event.NodeState.TheVariants.{Owned, Known}
 use Rattle.smk_world.specs.World.{World, reading, reads_folder}
+use Rattle.smk_world.specs.Folders.{IsTree}
 use Rattle.smk_world.specs.Calls.{in_folder, is_name, IsTextName, Stands, MayStand, IsListing, ListingIs}
 use Rattle.smk_world.specs.Trees.{Path, is_path_text}
-use Rattle.smk_store.specs.Loading.{IsFiled, store_folder}
-use Rattle.smk_store.specs.Walking.{after_sign, is_it, tells_of, all_tell_of, front_in, front_below, StandsIn, Walked}
+use Rattle.smk_store.specs.Loading.{store_folder}
+use Rattle.smk_store.specs.Unowned.{IsUnownedUnder}
+use Rattle.smk_store.specs.Walking.{after_sign, is_it, tells_of, all_tell_of, front_in, front_below, StandsIn, Walked, HasAll}
+use Rattle.smk_store.proofs.Standing.{tree_folder}
 use Rattle.smk_store.proofs.Walks.{flat, name_flat, name_join, split, Deeper, utf8_behind, utf8_before, bytes_behind, bytes_before, path_bytes, path_short, path_utf8, signed_text, signed_name, not_or_second}
 
 -- ## What a listing tells
@@ -55,36 +58,36 @@ stands (Known (Some node) besides) h = tt
 pub under_store : (folder name : Path) → is_under folder store_folder ≡ true → is_under (in_folder folder name) store_folder ≡ true
 under_store folder name h = under_further (in_folder folder name) folder store_folder (under_folder folder name) h
 
-none_listed : (w : World) (folder : Path) (names : List Name) → IsFiled w → is_under folder store_folder ≡ true → names ≡ [] → reads_folder (w.nodes folder) ≡ false → Listed w.nodes folder names
-none_listed w folder names filed under none plain =
+none_listed : (w : World) (folder : Path) (names : List Name) → IsTree w → names ≡ [] → reads_folder (w.nodes folder) ≡ false → Listed w.nodes folder names
+none_listed w folder names tree none plain =
     record {
       each = subst (All (Stood w.nodes folder)) (sym none) (λ k d lt. absurd (omega arith));
-      all = λ name is text some. absurd (never_both (reads_folder (w.nodes folder)) (filed.in_folders folder name under some) plain);
-      deeper = λ name rest some. filed.in_folders (in_folder folder name) rest (under_store folder name under) some;
-      above = λ name some. filed.in_folders folder name under some;
+      all = λ name is text some. absurd (never_both (reads_folder (w.nodes folder)) (tree_folder w tree folder name some) plain);
+      deeper = λ name rest some. tree_folder w tree (in_folder folder name) rest some;
+      above = λ name some. tree_folder w tree folder name some;
     }
 
-all_listed : (w : World) (folder : Path) (listing : Listing) → IsFiled w → is_under folder store_folder ≡ true → IsListing w folder listing → Listed w.nodes folder listing.names
-all_listed w folder listing filed under h =
+all_listed : (w : World) (folder : Path) (listing : Listing) → IsTree w → IsUnownedUnder w.nodes store_folder → is_under folder store_folder ≡ true → IsListing w folder listing → Listed w.nodes folder listing.names
+all_listed w folder listing tree free under h =
     record {
       each = All-weaker (λ (n : Name). IsTrue (is_name n.name) × IsTextName n.name × MayStand n.folder (w.nodes (in_folder folder n.name))) (Stood w.nodes folder)
           (λ n p.
-          let stood = may_stand n.folder (w.nodes (in_folder folder n.name)) (filed.unowned (in_folder folder n.name) (under_store folder n.name under)) p.2 in
+          let stood = may_stand n.folder (w.nodes (in_folder folder n.name)) (free (in_folder folder n.name) (at_when_under (in_folder folder n.name) store_folder (under_store folder n.name under))) p.2 in
           record { name = p.0; some = stood.0; kind = stood.1 })
           listing.names h.stand;
       all = λ name is text some. h.all name is text (stands (w.nodes (in_folder folder name)) some);
-      deeper = λ name rest some. filed.in_folders (in_folder folder name) rest (under_store folder name under) some;
-      above = λ name some. filed.in_folders folder name under some;
+      deeper = λ name rest some. tree_folder w tree (in_folder folder name) rest some;
+      above = λ name some. tree_folder w tree folder name some;
     }
 
-listed_by : (w : World) (folder : Path) (listing : Listing) (s : NodeState) → IsFiled w → is_under folder store_folder ≡ true → w.nodes folder ≡ s → ListingIs w folder listing s → Listed w.nodes folder listing.names
-listed_by w folder listing Owned filed under at h = absurd (filed.unowned folder under at)
-listed_by w folder listing (Known None besides) filed under at h = none_listed w folder listing.names filed under (ap (λ (l : Listing). l.names) h) (ap reads_folder at)
-listed_by w folder listing (Known (Some (Regular bytes time read_only)) besides) filed under at h = none_listed w folder listing.names filed under (ap (λ (l : Listing). l.names) h) (ap reads_folder at)
-listed_by w folder listing (Known (Some Directory) besides) filed under at h = all_listed w folder listing filed under h.1
+listed_by : (w : World) (folder : Path) (listing : Listing) (s : NodeState) → IsTree w → IsUnownedUnder w.nodes store_folder → is_under folder store_folder ≡ true → w.nodes folder ≡ s → ListingIs w folder listing s → Listed w.nodes folder listing.names
+listed_by w folder listing Owned tree free under at h = absurd (free folder (at_when_under folder store_folder under) at)
+listed_by w folder listing (Known None besides) tree free under at h = none_listed w folder listing.names tree (ap (λ (l : Listing). l.names) h) (ap reads_folder at)
+listed_by w folder listing (Known (Some (Regular bytes time read_only)) besides) tree free under at h = none_listed w folder listing.names tree (ap (λ (l : Listing). l.names) h) (ap reads_folder at)
+listed_by w folder listing (Known (Some Directory) besides) tree free under at h = all_listed w folder listing tree free under h.1
 
-pub listed : (w : World) (folder : Path) (listing : Listing) → IsFiled w → is_under folder store_folder ≡ true → ListingIs w folder listing (w.nodes folder) → Listed w.nodes folder listing.names
-listed w folder listing filed under h = listed_by w folder listing (w.nodes folder) filed under refl h
+pub listed : (w : World) (folder : Path) (listing : Listing) → IsTree w → IsUnownedUnder w.nodes store_folder → is_under folder store_folder ≡ true → ListingIs w folder listing (w.nodes folder) → Listed w.nodes folder listing.names
+listed w folder listing tree free under h = listed_by w folder listing (w.nodes folder) tree free under refl h
 
 -- ## Signs
 
@@ -313,3 +316,17 @@ all_taken names i done = take_all i names done
 -- the folder of the name that was walked, and its front
 pub walked_at : (nodes other : Path → NodeState) (folder folder2 front front2 : Path) (old new : Path → Bool) → other ≡ nodes → folder2 ≡ folder → front2 ≡ front → Walked other folder2 front2 old new → Walked nodes folder front old new
 walked_at nodes other folder folder2 front front2 old new e f h w = subst (λ t. Walked nodes folder t old new) h (subst (λ t. Walked nodes t front2 old new) f (subst (λ t. Walked t folder2 front2 old new) e w))
+
+-- what is found in a folder that is walked where nothing was found before
+pub all_by : (w : World) (folder : Path) (old new : Path → Bool) → Walked w.nodes folder [] old new → ((q : Path) → old q ≡ false) → HasAll w folder new
+all_by w folder old new walked none p path = by (new p) (is_some (reading (w.nodes (in_folder folder (name_of p))))) refl refl
+  where
+    by : (a b : Bool) → new p ≡ a → is_some (reading (w.nodes (in_folder folder (name_of p)))) ≡ b → new p ≡ is_some (reading (w.nodes (in_folder folder (name_of p))))
+    by true true e f = e ∙ sym f
+    by false false e f = e ∙ sym f
+    by false true e f = absurd (never_both (new p) (walked.complete p path f) e)
+    by true false e f =
+        elim (walked.sound p e) [
+          | inl before ↦ absurd (never_both (old p) before (none p))
+          | inr r ↦ absurd (never_both (is_some (reading (w.nodes (in_folder folder (name_of p))))) (subst (StandsIn w.nodes folder) (sym r.1) r.2) f)
+        ]

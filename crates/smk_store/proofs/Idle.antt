@@ -5,7 +5,7 @@ use Rattle.smk_world.specs.declared.event.Child.{Child}
 use Rattle.smk_world.specs.World.{World, numbers, is_within}
 use Rattle.smk_world.specs.Calls.{IsUnused, HasOwners, owned_now, any_overlap, used_now}
 use Rattle.smk_world.specs.Trees.{Path}
-use Rattle.smk_store.specs.Sources.{NoneOwned}
+use Rattle.smk_store.specs.Unowned.{NoneOwned}
 
 -- without running numbers there are no children
 pub no_children : (cs : List Child) → numbers cs ≡ [] → cs ≡ []

@@ -3,6 +3,7 @@ pub mod Writing
 pub mod Stored
 pub mod Covering
 pub mod Looks
+pub mod Standing
 pub mod Walks
 pub mod Finding
 pub mod Greatest

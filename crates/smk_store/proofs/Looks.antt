@@ -1,6 +1,6 @@
 -- What looks tell of the world in which they were made.
-use Rattle.std.proofs.Common.{◌≡◌, ◌≢◌, ℕ, true, refl, sym, subst, Some, Result, Ok, Err}
-use Rattle.std.specs.Prelude.{IsSome, IfOk}
+use Rattle.std.proofs.Common.{◌≡◌, ◌≢◌, ℕ, refl, sym, subst, Some, Result, Ok, Err}
+use Rattle.std.specs.Prelude.{IfOk}
 use Rattle.smk_world.specs.declared.event.Call.TheVariants.{Looked, ReadFile}
 use Rattle.smk_world.specs.declared.event.Failed.{Failed}
 use Rattle.smk_world.specs.declared.event.Found.{Found}
@@ -8,12 +8,12 @@ use Rattle.smk_world.specs.declared.event.NodeState.{NodeState}
 use Rattle.smk_world.specs.declared.event.NodeState.TheVariants.{Owned, Known}
 use Rattle.smk_world.specs.declared.event.Stat.{Stat}
 use Rattle.smk_world.specs.declared.event.WorkFault.{WorkFault}
-use Rattle.smk_world.specs.World.{World, reading, reads_folder}
-use Rattle.smk_world.specs.Calls.{FoundIs, found_of, StatIs, stat_of, in_folder}
+use Rattle.smk_world.specs.World.{World, reading}
+use Rattle.smk_world.specs.Calls.{FoundIs, found_of, StatIs, stat_of}
 use Rattle.smk_world.specs.Devices.{Device, HasCalled}
 use Rattle.smk_world.specs.Trees.{Path, Act}
 use Rattle.smk_world.proofs.Devices.{lets_of}
-use Rattle.smk_store.specs.Loading.{IsFiled}
+use Rattle.smk_store.specs.Unowned.{IsUnownedUnder}
 
 -- what a file's read says
 pub found_told : {act : Act} {a b : Device} {p : Path} {limit : ℕ} {r : Result Found WorkFault} {found : Found} (w : World) → HasCalled act a b (ReadFile p limit r) → r ≡ Ok found → a.world ≡ Some w → w.nodes p ≢ Owned
@@ -33,13 +33,9 @@ stat_told {act} {a} {b} {p} {r} {stat} w h is at own = by (w.nodes p) own (lets_
     by Owned other k = absurd (other refl)
     by (Known n besides) other k = k
 
-pub filed_still : (w v : World) → v.nodes ≡ w.nodes → IsFiled w → IsFiled v
-filed_still w v same filed =
-    record {
-      in_folders = λ folder name under some. subst (λ (n : Path → NodeState). reads_folder (n folder) ≡ true) (sym same)
-          (filed.in_folders folder name under (subst (λ (n : Path → NodeState). IsSome (reading (n (in_folder folder name)))) same some));
-      unowned = λ q under. subst (λ (n : Path → NodeState). n q ≢ Owned) (sym same) (filed.unowned q under);
-    }
+-- what no child owns stays so while the folder does
+pub unowned_still : (a b : Path → NodeState) (p : Path) → b ≡ a → IsUnownedUnder a p → IsUnownedUnder b p
+unowned_still a b p same free = subst (λ (n : Path → NodeState). IsUnownedUnder n p) (sym same) free
 
 -- a fact on every Ok answer
 pub if_ok : {T E : Type 0} (r : Result T E) (P Q : T → Type 0) → ((t : T) → P t → Q t) → IfOk r P → IfOk r Q

@@ -1,9 +1,11 @@
 -- The sources that are looked at are those that a record holds.
-use Rattle.std.proofs.Common.{◌≡◌, ◌⊎◌, inl, inr, ℕ, Bool, true, false, List, [], ◌∷◌, ◌++◌, refl, sym, ap, subst, ◌∙◌, Option, Some, None, eq-eqb, eqb-true}
-use Rattle.std.specs.Prelude.{if◌then◌else◌, ◌==◌}
+use Rattle.std.proofs.Common.{◌≡◌, ◌≢◌, ◌⊎◌, inl, inr, ℕ, Bool, true, false, List, [], ◌∷◌, ◌++◌, refl, sym, ap, subst, ◌∙◌, Option, Some, None, eq-eqb, eqb-true}
+use Rattle.std.specs.Prelude.{if◌then◌else◌, ◌==◌, All}
+use Rattle.std.proofs.lemmas.List.Elements.{All-nil, All-cons}
 use Rattle.smk_base.specs.Path.{is_at_or_under}
 use Rattle.smk_world.specs.declared.event.Node.{Node}
 use Rattle.smk_world.specs.declared.event.Node.TheVariants.{Regular, Directory}
+use Rattle.smk_world.specs.declared.event.NodeState.TheVariants.{Owned}
 use Rattle.smk_world.specs.World.{World, reading}
 use Rattle.smk_world.specs.Calls.{stat_of}
 use Rattle.smk_world.specs.Trees.{Path, IsIn}
@@ -12,8 +14,9 @@ use Rattle.smk_record.specs.declared.record.Stamp.TheVariants.{Time, Made}
 use Rattle.smk_store.specs.declared.sources.Source.{Source}
 use Rattle.smk_store.specs.Forgetting.{IsSeen, IsFirstSeen, AreUnseen, inputs_of, all_inputs}
 use Rattle.smk_store.specs.Images.{Content, content_of, readable}
-use Rattle.smk_store.specs.Sources.{source_of, sources_of, entry_sources, all_sources, has_time, is_seen, first_seen}
+use Rattle.smk_store.specs.Sources.{source_of, sources_of, entry_sources, all_sources, has_time, is_seen, first_seen, AreUnowned}
 use Rattle.smk_store.specs.Stores.{Known}
+use Rattle.smk_store.specs.Unowned.{IsUnownedUnder}
 use Rattle.smk_store.proofs.Earliest.{first_none, first_from, first_least}
 
 in_left : {A : Type 0} (xs ys : List A) (x : A) → IsIn xs x → IsIn (xs ++ ys) x
@@ -64,6 +67,14 @@ of_records p (k ∷ ks) s h = by (in_either (entry_sources p k.entry) (all_sourc
     by : IsIn (entry_sources p k.entry) s ⊎ IsIn (all_sources p ks) s → (IsIn (all_sources p ks) s → IsOf p (all_inputs ks) s) → IsOf p (all_inputs (k ∷ ks)) s
     by (inl i) more = let r = of_inputs p (inputs_of (readable k.entry.kept)) s i in (r.0, in_left (inputs_of (readable k.entry.kept)) (all_inputs ks) (timed s.path s.time) r.1)
     by (inr i) more = let r = more i in (r.0, in_right (inputs_of (readable k.entry.kept)) (all_inputs ks) (timed s.path s.time) r.1)
+
+all_in : {A : Type 0} (P : A → Type 0) (xs : List A) → ((x : A) → IsIn xs x → P x) → All P xs
+all_in P [] h = All-nil P
+all_in P (x ∷ xs) h = All-cons P x xs (h x (inl refl)) (all_in P xs (λ y i. h y (inr i)))
+
+-- where no child owns what is at or under the path, none owns one of the sources there
+pub all_free : (w : World) (p : Path) (ks : List Known) → IsUnownedUnder w.nodes p → AreUnowned w (all_sources p ks)
+all_free w p ks free = all_in (λ (s : Source). w.nodes s.path ≢ Owned) (all_sources p ks) (λ s i. free s.path (of_records p ks s i).0)
 
 abbrev the_source : Path → ℕ → Source
 the_source q t = record { path = q; time = t }

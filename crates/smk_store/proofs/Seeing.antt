@@ -1,9 +1,12 @@
 -- Sources that are gone over, and looked at.
-use Rattle.std.proofs.Common.{◌≡◌, ℕ, suc, ◌+◌, ◌<◌, Bool, List, [], ◌∷◌, ◌++◌, length, take, drop, get_or, refl, sym, ap, ◌∙◌, None, arith, append_assoc, add-one, drop-cons}
+use Rattle.std.proofs.Common.{◌≡◌, ◌≢◌, ℕ, suc, ◌+◌, ◌<◌, Bool, List, [], ◌∷◌, ◌++◌, length, take, drop, get_or, refl, sym, ap, subst, ◌∙◌, None, arith, append_assoc, add-one, drop-cons}
+use Rattle.std.specs.Prelude.{All}
 use Rattle.std.specs.List.{zip}
 use Rattle.std.proofs.lemmas.List.{take_more}
+use Rattle.std.proofs.lemmas.List.Elements.{All-get_or}
 use Rattle.std.proofs.lemmas.List.Sums.{fold-append}
 use Rattle.smk_world.specs.declared.event.NodeState.{NodeState}
+use Rattle.smk_world.specs.declared.event.NodeState.TheVariants.{Owned}
 use Rattle.smk_world.specs.World.{World}
 use Rattle.smk_world.specs.Trees.{Path}
 use Rattle.smk_record.specs.declared.record.Stamp.{Stamp}
@@ -38,6 +41,12 @@ pub seen_next : (seen : Source → Bool) (xs : List Source) (i : ℕ) (x : Sourc
     → earlier (first_seen seen (take i xs)) x.path (seen x) ≡ first_seen seen (take (i + 1) xs)
 seen_next seen xs i x lt e =
     sym (ap (first_seen seen) (take_more xs i x lt ∙ ap (λ q. take i xs ++ q ∷ []) (sym e)) ∙ fold-append (λ first (s : Source). earlier first s.path (seen s)) None (take i xs) (x ∷ []))
+
+-- no child owns the source of this number, after looks
+pub source_free : (a b : Path → NodeState) (xs : List Source) (i : ℕ) (x : Source) → i < length xs → x ≡ get_or xs i x → b ≡ a → All (λ (s : Source). a s.path ≢ Owned) xs → b x.path ≢ Owned
+source_free a b xs i x lt e same free =
+    subst (λ (n : Path → NodeState). n x.path ≢ Owned) (sym same)
+    (subst (λ (s : Source). a s.path ≢ Owned) (sym e) (All-get_or (λ (s : Source). a s.path ≢ Owned) xs i x lt free))
 
 pub seen_same : (w v : World) (s : Source) → v.nodes ≡ w.nodes → is_seen v s ≡ is_seen w s
 seen_same w v s same = ap (λ (n : Path → NodeState). is_seen (record w { nodes = n }) s) same

@@ -5,6 +5,7 @@ pub mod Safety
 pub mod Steps
 pub mod Stores
 pub mod Faults
+pub mod Unowned
 pub mod Loading
 pub mod Walking
 pub mod Serials

@@ -1,9 +1,5 @@
 -- What a store that was loaded has: just the records, marks and notes that stand.
-use Rattle.std.specs.Prelude.{◌≡◌, ◌≢◌, true, List, codes, if◌then◌else◌, Option, Some, None, IsTrue, IsSome}
-use Rattle.smk_base.specs.Path.{is_under}
-use Rattle.smk_world.specs.declared.event.NodeState.TheVariants.{Owned}
-use Rattle.smk_world.specs.World.{World, reading, reads_folder}
-use Rattle.smk_world.specs.Calls.{in_folder}
+use Rattle.std.specs.Prelude.{◌≡◌, List, codes, if◌then◌else◌, Option, Some, None}
 use Rattle.smk_world.specs.Trees.{Path}
 use Rattle.smk_store.specs.declared.store.Entry.{Entry}
 use Rattle.smk_store.specs.Images.{Image, is_known, is_covered}
@@ -28,8 +24,3 @@ pub record IsStoreOf (image : Image) (store : List Known) : Type 0 where
 abbrev pub store_folder : Path
 store_folder = codes ".snakemake/smk"
 
--- The engine's own files stand as on a disk: each in a folder, and none of them is a running child's.
-pub record IsFiled (w : World) : Type 0 where
-  pub in_folders :
-      (folder name : Path) → IsTrue (is_under folder store_folder) → IsSome (reading (w.nodes (in_folder folder name))) → reads_folder (w.nodes folder) ≡ true
-  pub unowned : (q : Path) → IsTrue (is_under q store_folder) → w.nodes q ≢ Owned

@@ -1,5 +1,5 @@
 -- The sources that records name, and which of them are seen.
-use Rattle.std.specs.Prelude.{◌≢◌, ℕ, Bool, true, false, ◌&&◌, List, [], ◌∷◌, ◌==◌, if◌then◌else◌, Option, Some, None}
+use Rattle.std.specs.Prelude.{◌≢◌, ℕ, Bool, true, false, ◌&&◌, List, [], ◌∷◌, ◌==◌, if◌then◌else◌, Option, Some, None, All}
 use Rattle.std.specs.List.{fold, flat_map}
 use Rattle.std.specs.Cmp.Lexicographic.{slice_cmp}
 use Rattle.std.specs.Ordering.{nat_cmp}
@@ -58,6 +58,6 @@ earlier first p counts = if counts && comes_before p first then Some p else firs
 abbrev pub first_seen : (Source → Bool) → List Source → Option Path
 first_seen seen sources = fold (λ first (s : Source). earlier first s.path (seen s)) None sources
 
--- no running child owns a place
-abbrev pub NoneOwned : World → Type 0
-NoneOwned w = (q : Path) → w.nodes q ≢ Owned
+-- no running child owns one of these sources
+abbrev pub AreUnowned : World → List Source → Type 0
+AreUnowned w sources = All (λ (s : Source). w.nodes s.path ≢ Owned) sources

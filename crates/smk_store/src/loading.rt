@@ -13,7 +13,8 @@ ghost use Rattle.smk_record.specs.declared.record.Record.{Record as RecordValue}
 ghost use Rattle.smk_record.specs.Spelling.{ReadsRecords};
 ghost use Rattle.smk_store.specs.Images.{seen, for_path, kept_by};
 ghost use Rattle.smk_store.specs.Faults.{store_failed};
-ghost use Rattle.smk_store.specs.Loading.{IsStoreOf, IsFiled, entry_at};
+ghost use Rattle.smk_store.specs.Loading.{IsStoreOf, store_folder, entry_at};
+ghost use Rattle.smk_store.specs.Unowned.{IsUnownedUnder};
 ghost use Rattle.smk_store.specs.Walking.{HasSigns, texts_of, path_in, known_all};
 
 use crate::names::paths_in;
@@ -38,7 +39,7 @@ struct Signs {
 // Looks for all of them.
 fn signs_in<W: Files>(alloc: Global, work: &mut W) -> Result<Signs, WorkFault>
     ensures looked { HasLooked W.act (W.device work.old) (W.device work.new) (device_failed result) }
-    ensures told { IfOk result (λ signs. WhereTold (W.device work.old) (λ w. IsFiled w
+    ensures told { IfOk result (λ signs. WhereTold (W.device work.old) (λ w. IsUnownedUnder w.nodes store_folder
         → HasSigns w (λ q. contains_text signs.records q) (λ q. contains_text signs.marks q) (λ q. contains_text signs.notes q))) }
 {
     let records = paths_in(alloc, work, &Place::records(alloc)?)?;
@@ -106,7 +107,7 @@ fn kept_found(alloc: Global, path: &PathText, found: Found) -> Result<Kept, OutO
 // The record of the path, where something stands in its place.
 fn kept_at<W: Files>(alloc: Global, work: &mut W, path: &PathText) -> Result<Kept, WorkFault>
     ensures looked { HasLooked W.act (W.device work.old) (W.device work.new) (device_failed result) }
-    ensures told { IfOk result (λ kept. WhereTold (W.device work.old) (λ w. IsFiled w → IsSome (reading (w.nodes (record_place path.now)))
+    ensures told { IfOk result (λ kept. WhereTold (W.device work.old) (λ w. IsUnownedUnder w.nodes store_folder → IsSome (reading (w.nodes (record_place path.now)))
         → (read : Items ℕ → Option RecordValue) → ReadsRecords read → kept ≡ kept_by read path.now (reading (w.nodes (record_place path.now))))) }
 {
     let place = Place::record_of(alloc, path)?;
@@ -122,7 +123,7 @@ fn kept_of<W: Files>(
     path: &PathText,
 ) -> Result<Kept, WorkFault>
     ensures looked { HasLooked W.act (W.device work.old) (W.device work.new) (device_failed result) }
-    ensures told { IfOk result (λ kept. WhereTold (W.device work.old) (λ w. IsFiled w
+    ensures told { IfOk result (λ kept. WhereTold (W.device work.old) (λ w. IsUnownedUnder w.nodes store_folder
         → HasSigns w (λ q. contains_text signs.now.records q) (λ q. contains_text signs.now.marks q) (λ q. contains_text signs.now.notes q) → is_path_text path.now ≡ true
         → (read : Items ℕ → Option RecordValue) → ReadsRecords read → kept ≡ (seen read w).kept path.now)) }
 {
@@ -141,7 +142,7 @@ fn entry_of<W: Files>(
     path: &PathText,
 ) -> Result<Entry, WorkFault>
     ensures looked { HasLooked W.act (W.device work.old) (W.device work.new) (device_failed result) }
-    ensures told { IfOk result (λ entry. WhereTold (W.device work.old) (λ w. IsFiled w
+    ensures told { IfOk result (λ entry. WhereTold (W.device work.old) (λ w. IsUnownedUnder w.nodes store_folder
         → HasSigns w (λ q. contains_text signs.now.records q) (λ q. contains_text signs.now.marks q) (λ q. contains_text signs.now.notes q) → is_path_text path.now ≡ true
         → (read : Items ℕ → Option RecordValue) → ReadsRecords read → entry ≡ entry_at (seen read w) path.now)) }
 {
@@ -172,7 +173,7 @@ fn store_of<W: Files>(
     all: &BTreeSet<String>,
 ) -> Result<Store, WorkFault>
     ensures looked { HasLooked W.act (W.device work.old) (W.device work.new) (device_failed result) }
-    ensures told { IfOk result (λ store. WhereTold (W.device work.old) (λ w. IsFiled w
+    ensures told { IfOk result (λ store. WhereTold (W.device work.old) (λ w. IsUnownedUnder w.nodes store_folder
         → HasSigns w (λ q. contains_text signs.now.records q) (λ q. contains_text signs.now.marks q) (λ q. contains_text signs.now.notes q)
         → (read : Items ℕ → Option RecordValue) → ReadsRecords read → store ≡ known_all (seen read w) (filter is_path_text (texts_of all.now.keys)))) }
 {
@@ -192,7 +193,7 @@ fn store_of<W: Files>(
 // The whole store.
 fn loaded<W: Files>(alloc: Global, work: &mut W) -> Result<Store, WorkFault>
     ensures looked { HasLooked W.act (W.device work.old) (W.device work.new) (device_failed result) }
-    ensures told { IfOk result (λ store. WhereTold (W.device work.old) (λ w. IsFiled w
+    ensures told { IfOk result (λ store. WhereTold (W.device work.old) (λ w. IsUnownedUnder w.nodes store_folder
         → (read : Items ℕ → Option RecordValue) → ReadsRecords read → IsStoreOf (seen read w) store)) }
 {
     let signs = signs_in(alloc, work)?;
@@ -207,7 +208,7 @@ pub fn load<W: Files>(alloc: Global, work: &mut W) -> Result<Store, StoreFault>
     ensures looked { HasLooked W.act (W.device work.old) (W.device work.new) (store_failed result) }
 
     // The store has just the records, marks and notes that stand.
-    ensures told { IfOk result (λ store. WhereTold (W.device work.old) (λ w. IsFiled w
+    ensures told { IfOk result (λ store. WhereTold (W.device work.old) (λ w. IsUnownedUnder w.nodes store_folder
         → (read : Items ℕ → Option RecordValue) → ReadsRecords read → IsStoreOf (seen read w) store)) }
     ensures no_stamp { IfErr result (λ fault. (p : Items ℕ) → fault ≢ StoreFault.StampSeen p) }
 {

@@ -8,7 +8,8 @@ ghost use Rattle.std.specs.Str.{IsUtf8};
 ghost use Rattle.smk_base.specs.Path.{is_under};
 ghost use Rattle.smk_world.specs.Calls.{device_failed};
 ghost use Rattle.smk_world.specs.Devices.{WhereTold, HasLooked};
-ghost use Rattle.smk_store.specs.Loading.{IsFiled, store_folder};
+ghost use Rattle.smk_store.specs.Loading.{store_folder};
+ghost use Rattle.smk_store.specs.Unowned.{IsUnownedUnder};
 ghost use Rattle.smk_store.specs.Walking.{after_sign, all_tell_of, front_below, HasAll, Walked};
 
 use smk_base::{OutOfMemory, Place};
@@ -89,7 +90,7 @@ fn walk<W: Files>(
     requires own { IsTrue (is_under folder.now store_folder) }
     requires utf8 { IsUtf8 front.now }
     ensures looked { HasLooked W.act (W.device work.old) (W.device work.new) (device_failed result) }
-    ensures told { OnOk result (WhereTold (W.device work.old) (λ w. IsFiled w
+    ensures told { OnOk result (WhereTold (W.device work.old) (λ w. IsUnownedUnder w.nodes store_folder
         → Walked w.nodes folder.now front.now (λ q. contains_text found.old q) (λ q. contains_text found.new q))) }
 {
     let listing = work.list(alloc, folder)?;
@@ -113,7 +114,7 @@ pub(crate) fn paths_in<W: Files>(
 ) -> Result<BTreeSet<String>, WorkFault>
     requires own { IsTrue (is_under folder.now store_folder) }
     ensures looked { HasLooked W.act (W.device work.old) (W.device work.new) (device_failed result) }
-    ensures told { IfOk result (λ found. WhereTold (W.device work.old) (λ w. IsFiled w → HasAll w folder.now (λ q. contains_text found q))) }
+    ensures told { IfOk result (λ found. WhereTold (W.device work.old) (λ w. IsUnownedUnder w.nodes store_folder → HasAll w folder.now (λ q. contains_text found q))) }
 {
     let mut found = BTreeSet::new(alloc);
     walk(alloc, work, &mut found, folder, "")?;

@@ -1,12 +1,14 @@
 //! The sources that records name, and which of them are seen.
 
-ghost use Rattle.std.specs.Prelude.{◌≡◌, ◌∷◌, ◌++◌, ℕ, List as Items, Some, IfOk, OnOk};
+ghost use Rattle.std.specs.Prelude.{◌≡◌, ◌≢◌, ◌∷◌, ◌++◌, ℕ, List as Items, Some, IfOk, OnOk};
 ghost use Rattle.std.specs.List.{flat_map, zip};
 ghost use Rattle.smk_base.specs.Path.{is_at_or_under};
 ghost use Rattle.smk_record.specs.Records.{stamped};
+ghost use Rattle.smk_world.specs.declared.event.NodeState.TheVariants.{Owned};
 ghost use Rattle.smk_world.specs.Calls.{device_failed};
 ghost use Rattle.smk_world.specs.Devices.{WhereTold, HasLooked};
-ghost use Rattle.smk_store.specs.Sources.{source_of, sources_of, entry_sources, all_sources, has_time, is_seen, comes_before, earlier, first_seen, NoneOwned};
+ghost use Rattle.smk_store.specs.Sources.{source_of, sources_of, entry_sources, all_sources, has_time, is_seen, comes_before, earlier, first_seen, AreUnowned};
+ghost use Rattle.smk_store.specs.Unowned.{IsUnownedUnder};
 
 use crate::{Entry, Kept, Store};
 use smk_base::{List, OutOfMemory, PathText, Place};
@@ -170,7 +172,7 @@ fn has_time(time: u64, stat: Stat) -> bool
 // Whether a file is there with the source's time.
 fn is_seen<W: Files>(alloc: Global, work: &mut W, source: &Source) -> Result<bool, WorkFault>
     ensures looked { HasLooked W.act (W.device work.old) (W.device work.new) (device_failed result) }
-    ensures told { IfOk result (λ seen. WhereTold (W.device work.old) (λ w. NoneOwned w → seen ≡ is_seen w source.now)) }
+    ensures told { IfOk result (λ seen. WhereTold (W.device work.old) (λ w. w.nodes source.now.path ≢ Owned → seen ≡ is_seen w source.now)) }
 {
     let place = Place::user(alloc, &source.path)?;
     let stat = work.stat(&place)?;
@@ -209,7 +211,7 @@ fn first_seen<W: Files>(
     sources: &[Source],
 ) -> Result<Option<PathText>, WorkFault>
     ensures looked { HasLooked W.act (W.device work.old) (W.device work.new) (device_failed result) }
-    ensures told { IfOk result (λ first. WhereTold (W.device work.old) (λ w. NoneOwned w → first ≡ first_seen (is_seen w) sources.now)) }
+    ensures told { IfOk result (λ first. WhereTold (W.device work.old) (λ w. AreUnowned w sources.now → first ≡ first_seen (is_seen w) sources.now)) }
 {
     let mut first = None;
     for source in sources {
@@ -227,7 +229,7 @@ pub(crate) fn seen_under<W: Files>(
     p: &PathText,
 ) -> Result<Option<PathText>, WorkFault>
     ensures looked { HasLooked W.act (W.device work.old) (W.device work.new) (device_failed result) }
-    ensures told { IfOk result (λ first. WhereTold (W.device work.old) (λ w. NoneOwned w → first ≡ first_seen (is_seen w) (all_sources p.now store.now))) }
+    ensures told { IfOk result (λ first. WhereTold (W.device work.old) (λ w. IsUnownedUnder w.nodes p.now → first ≡ first_seen (is_seen w) (all_sources p.now store.now))) }
 {
     let sources = sources_under(alloc, store, p)?;
     first_seen(alloc, work, sources.as_slice())

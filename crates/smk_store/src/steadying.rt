@@ -58,6 +58,7 @@ fn signs_of(alloc: Global, store: &Store) -> Result<List<Place>, OutOfMemory>
 /// `Device`: that call failed. `OutOfMemory`: there is no memory for the places; then no call was made.
 pub fn steady<W: Files>(alloc: Global, work: &mut W, store: &Store) -> Result<(), StoreFault>
     ensures acted { HasActed W.act (HasTried (steady_requests store.now) result) (W.device work.old) (W.device work.new) (store_failed result) }
+    ensures untouched { IfErr result (λ fault. fault ≢ StoreFault.Device → work.new ≡ work.old) }
     ensures no_stamp { IfErr result (λ fault. (p : Items ℕ) → fault ≢ StoreFault.StampSeen p) }
 {
     let Ok(places) = signs_of(alloc, store) else {

@@ -1,20 +1,27 @@
--- A working folder as on a disk: what stands under a folder is found there.
-use Rattle.std.proofs.Common.{◌≡◌, ◌⊎◌, inl, inr, ◌≢◌, ℕ, zero, suc, ◌+◌, ◌≤◌, ◌==◌, true, false, not, [], ◌∷◌, ◌++◌, length, refl, sym, ap, ap₂, subst, ◌∙◌, arith, length-append, Some, None}
-use Rattle.std.specs.Prelude.{IsSome, nat_le}
-use Rattle.std.specs.List.{list_any}
-use Rattle.smk_base.specs.Path.{is_under}
-use Rattle.smk_base.proofs.Places.{and_second}
-use Rattle.smk_base.proofs.Under.{never_both, false_of_not, or_second, under_folder, rest_under}
+-- The folder is a tree: what stands under a folder is found there.
+use Rattle.std.proofs.Common.{◌≡◌, ◌⊎◌, inl, inr, ℕ, zero, suc, ◌+◌, ◌≤◌, ◌==◌, Bool, true, false, ◌||◌, not, [], ◌∷◌, ◌++◌, length, refl, sym, ap, ap₂, subst, ◌∙◌, arith, length-append, Some, None}
+use Rattle.std.specs.Prelude.{IsSome, nat_le, if◌then◌else◌}
+use Rattle.std.specs.List.{list_all, list_any}
+use Rattle.std.proofs.lemmas.Bool.{eqb-true}
+use Rattle.std.proofs.lemmas.List.Folds.{list_all-append}
+use Rattle.smk_base.specs.Path.{parts, to_first, is_under}
+use Rattle.smk_base.proofs.Places.{and_first, and_second}
+use Rattle.smk_base.proofs.Under.{never_both, false_of_not, both_true, or_second, under_folder, rest_under}
 use Rattle.smk_world.specs.declared.event.Node.TheVariants.{Regular, Directory}
 use Rattle.smk_world.specs.declared.event.NodeState.{NodeState}
 use Rattle.smk_world.specs.declared.event.NodeState.TheVariants.{Owned, Known}
 use Rattle.smk_world.specs.World.{World, reading, reads_folder}
 use Rattle.smk_world.specs.Calls.{in_folder, is_name, Stands}
+use Rattle.smk_world.specs.Folders.{has_names, IsTree}
 use Rattle.smk_world.specs.Trees.{Path}
-use Rattle.smk_store.specs.Loading.{IsFiled}
+use Rattle.smk_world.proofs.Folders.{parts_append}
+use Rattle.smk_world.proofs.Names.{or_false}
+use Rattle.smk_store.proofs.Standing.{tree_folder}
 use Rattle.smk_store_members.specs.Members.{Nodes, IsFound, AllIsFound}
 use Rattle.smk_store_members.specs.Members.IsFound.{Inside, Deeper}
-use Rattle.smk_store_members.specs.Disk.{IsInFolder, IsTree}
+
+abbrev slashed : Path → Bool
+slashed q = list_any (λ b. b == 47) q
 
 -- ## Names
 
@@ -47,6 +54,36 @@ last_part (b ∷ front) rest (c ∷ folder) name is e =
       | inr m ↦ inr (m.0, ap₂ (λ (x : ℕ) (xs : Path). x ∷ xs) (sym head) m.1, m.2)
     ]
 
+-- a text ends with a slash and a name, or has none
+last_split : (q : Path) → (slashed q ≡ false) ⊎ ((folder : Path) × (name : Path) × (q ≡ in_folder folder name) × (slashed name ≡ false))
+last_split [] = inl refl
+last_split (b ∷ q) = more (last_split q)
+  where
+    here : (x : Bool) → (b == 47) ≡ x → slashed q ≡ false → (slashed (b ∷ q) ≡ false) ⊎ ((folder : Path) × (name : Path) × (b ∷ q ≡ in_folder folder name) × (slashed name ≡ false))
+    here true e none = inr ([], q, ap (λ x. x ∷ q) (eqb-true b 47 e), none)
+    here false e none = inl (ap (λ x. x || slashed q) e ∙ none)
+
+    more : (slashed q ≡ false) ⊎ ((folder : Path) × (name : Path) × (q ≡ in_folder folder name) × (slashed name ≡ false)) → (slashed (b ∷ q) ≡ false) ⊎ ((folder : Path) × (name : Path) × (b ∷ q ≡ in_folder folder name) × (slashed name ≡ false))
+    more (inl none) = here (b == 47) refl none
+    more (inr h) = inr (b ∷ h.0, h.1, ap (λ t. b ∷ t) h.2, h.3)
+
+parts_one : (q : Path) → slashed q ≡ false → parts q ≡ q ∷ []
+parts_one [] h = refl
+parts_one (b ∷ q) h =
+    let both = or_false (b == 47) (slashed q) h in
+    ap (λ x. if x then [] ∷ parts q else to_first b (parts q)) both.0 ∙ ap (to_first b) (parts_one q both.1)
+
+-- a text without slashes that has names is one
+one_name : (q : Path) → slashed q ≡ false → has_names q ≡ true → is_name q ≡ true
+one_name q none named =
+    let f : Path → Bool = λ part. nat_le 1 (length part) in
+    both_true (nat_le 1 (length q)) (not (slashed q)) (and_first (nat_le 1 (length q)) true (sym (ap (list_all f) (parts_one q none)) ∙ named)) (ap not none)
+
+last_name : (folder name : Path) → has_names (in_folder folder name) ≡ true → has_names name ≡ true
+last_name folder name named =
+    let f : Path → Bool = λ part. nat_le 1 (length part) in
+    and_second (list_all f (parts folder)) (list_all f (parts name)) (sym (ap (list_all f) (parts_append folder name) ∙ list_all-append f (parts folder) (parts name)) ∙ named)
+
 -- ## What stands
 
 pub folder_some : (s : NodeState) → reads_folder s ≡ true → IsSome (reading s)
@@ -71,33 +108,24 @@ some_stands Owned h = absurd (never_both false h refl)
 some_stands (Known None besides) h = absurd (never_both false h refl)
 some_stands (Known (Some node) besides) h = tt
 
+-- the place has a name in a folder
+abbrev IsInFolder : Nodes → Path → Type 0
+IsInFolder nodes q = (folder : Path) × (name : Path) × (q ≡ in_folder folder name) × (is_name name ≡ true) × (reads_folder (nodes folder) ≡ true)
+
 module _ (w : World) (tree : IsTree w) where
-  in_tree : (n : ℕ) (folder name : Path) → length name ≤ n → IsSome (reading (w.nodes (in_folder folder name))) → reads_folder (w.nodes folder) ≡ true
-  in_tree zero folder name few some =
-      elim (tree.placed (in_folder folder name) some) [
-        | inl is ↦ absurd (no_name folder name is)
-        | inr h ↦ elim (last_part folder name h.0 h.1 h.3 h.2) [
-          | inl same ↦ ap (λ (q : Path). reads_folder (w.nodes q)) same.0 ∙ h.4
-          | inr m ↦ let len : length name ≡ length m.0 + suc (length h.1) = ap length m.2 ∙ length-append m.0 (47 ∷ h.1) in absurd (omega (arith, few, len))
-        ]
-      ]
-  in_tree (suc n) folder name few some =
-      elim (tree.placed (in_folder folder name) some) [
-        | inl is ↦ absurd (no_name folder name is)
-        | inr h ↦ elim (last_part folder name h.0 h.1 h.3 h.2) [
-          | inl same ↦ ap (λ (q : Path). reads_folder (w.nodes q)) same.0 ∙ h.4
-          | inr m ↦
-              let len : length name ≡ length m.0 + suc (length h.1) = ap length m.2 ∙ length-append m.0 (47 ∷ h.1) in
-              in_tree n folder m.0 (omega (arith, few, len)) (folder_some (w.nodes (in_folder folder m.0)) (sym (ap (λ (q : Path). reads_folder (w.nodes q)) m.1) ∙ h.4))
-        ]
-      ]
-
-  -- what has something under it is a folder
-  pub tree_folder : (folder name : Path) → IsSome (reading (w.nodes (in_folder folder name))) → reads_folder (w.nodes folder) ≡ true
-  tree_folder folder name some = in_tree (length name) folder name (omega arith) some
-
-  pub tree_filed : IsFiled w
-  tree_filed = record { in_folders = λ folder name under some. tree_folder folder name some; unowned = λ q under. tree.unowned q }
+  -- what stands has a name, at the top or in a folder
+  placed : (q : Path) → IsSome (reading (w.nodes q)) → (is_name q ≡ true) ⊎ IsInFolder w.nodes q
+  placed q some = by (last_split q)
+    where
+      by : (slashed q ≡ false) ⊎ ((folder : Path) × (name : Path) × (q ≡ in_folder folder name) × (slashed name ≡ false)) → (is_name q ≡ true) ⊎ IsInFolder w.nodes q
+      by (inl none) = inl (one_name q none (tree q some).named)
+      by (inr h) = inr (
+        h.0,
+        h.1,
+        h.2,
+        one_name h.1 h.3 (last_name h.0 h.1 (ap has_names (sym h.2) ∙ (tree q some).named)),
+        tree_folder w tree h.0 h.1 (subst (λ x. IsSome (reading (w.nodes x))) h.2 some),
+      )
 
   found_in : (n : ℕ) (p q : Path) → length q ≤ n → is_under q p ≡ true → Stands (w.nodes q) → IsFound w.nodes p q
   found_in zero p q few under st =
@@ -106,7 +134,7 @@ module _ (w : World) (tree : IsTree w) where
       absurd (omega (arith, few, len))
   found_in (suc n) p q few under st =
       let r = rest_under q p under in
-      elim (tree.placed q (stands_some (w.nodes q) st)) [
+      elim (placed q (stands_some (w.nodes q) st)) [
         | inl is ↦ absurd (no_name p r.0 (subst (λ (t : Path). is_name t ≡ true) r.1 is))
         | inr h ↦ elim (last_part p r.0 h.0 h.1 h.3 (sym r.1 ∙ h.2)) [
           | inl same ↦
@@ -124,10 +152,3 @@ module _ (w : World) (tree : IsTree w) where
   -- going from folder to folder finds all
   pub tree_found : (p : Path) → AllIsFound w.nodes p
   tree_found p q under st = found_in (length q) p q (omega arith) under st
-
-pub tree_still : (w v : World) → v.nodes ≡ w.nodes → IsTree w → IsTree v
-tree_still w v same tree =
-    record {
-      placed = λ q some. subst (λ (n : Nodes). (is_name q ≡ true) ⊎ IsInFolder n q) (sym same) (tree.placed q (subst (λ (n : Nodes). IsSome (reading (n q))) same some));
-      unowned = λ q. subst (λ (n : Nodes). n q ≢ Owned) (sym same) (tree.unowned q);
-    }

@@ -1,4 +1,3 @@
 pub mod Members
 pub mod Walks
 pub mod Steps
-pub mod Disk

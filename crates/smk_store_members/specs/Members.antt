@@ -1,13 +1,13 @@
 -- What is under a folder.
 use Rattle.std.specs.Prelude.{◌≡◌, ℕ, true, List, map}
-use Rattle.smk_base.specs.Path.{is_under, is_at_or_under}
+use Rattle.smk_base.specs.Path.{is_under}
 use Rattle.smk_world.specs.declared.event.NodeState.{NodeState}
-use Rattle.smk_world.specs.declared.event.NodeState.TheVariants.{Owned}
 use Rattle.smk_world.specs.World.{reads_folder}
 use Rattle.smk_world.specs.Calls.{Stands, in_folder, is_name}
 use Rattle.smk_world.specs.Trees.{Path, Each, IsIn}
 use Rattle.smk_record.specs.declared.record.Member.{Member}
 use Rattle.smk_record.specs.Records.{are_valid_members}
+use Rattle.smk_store.specs.Unowned.{IsUnownedUnder}
 use Rattle.smk_store_members.specs.declared.listed.Listed.{Listed}
 use Rattle.smk_store_members.specs.declared.listed.Listed.TheVariants.{Members, BadMember}
 
@@ -48,7 +48,7 @@ AllIsFound nodes p = (q : Path) → is_under q p ≡ true → Stands (nodes q) �
 -- a folder stands at p, and no child owns what is at or under it
 pub record IsOpenFolder (nodes : Nodes) (p : Path) : Type 0 where
   pub folder : reads_folder (nodes p) ≡ true
-  pub unowned : (q : Path) → is_at_or_under q p ≡ true → nodes q ≡ Owned → ⊥
+  pub unowned : IsUnownedUnder nodes p
 
 -- the members, or that there are none which a record may have
 abbrev pub IsListed : Nodes → Path → Listed → Type 0

@@ -46,7 +46,7 @@ use Rattle.smk_plan_preview.specs.Previewing.{plan_of, rules_for}
 use Rattle.smk_cli_entry.specs.declared.asking.Asked.{Asked}
 use Rattle.smk_make.specs.Making.{Concludes, GoesOn, HasMade, Made, NoMemory, NotFirm}
 use Rattle.smk_make.specs.Closing.{verdict_of}
-use Rattle.smk_make.specs.Faults.{of_store}
+use Rattle.smk_report.specs.Faults.{of_store}
 use Rattle.smk_store.specs.declared.fault.StoreFault.{StoreFault}
 use Rattle.smk_store.specs.declared.fault.StoreFault.TheVariants as store
 use Rattle.smk_store.specs.Faults.{store_failed}

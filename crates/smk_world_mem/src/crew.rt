@@ -285,6 +285,7 @@ pub fn next_to_end(order: &List<u64>, children: &[Child]) -> u64
     }
 }
 
+// (Eight clauses: the answer is told by what ended and by what fails, each of which one call of the device asks alone.)
 pub fn wait(
     alloc: Global,
     nodes: &mut Nodes,

@@ -51,6 +51,8 @@ pub struct Setup {
 }
 
 // Whether a world is told on: it was told, and these nodes stand in folders.
+// (Each changing call goes over all nodes for it, in linear time: this device serves rows and trials, whose folders have a few dozen
+// nodes, and the check is what its proofs rest on instead of an invariant over maps.)
 fn tells_on(told: bool, nodes: &Nodes) -> bool
     ensures told { result ≡ true → told ≡ true }
     ensures stand { result ≡ true → AreInFolders (node_at nodes.now) }
@@ -94,7 +96,8 @@ impl MemWork {
     }
 
     /// Puts a firm file there and firm folders above it. It is no call of the device.
-    /// Where a file stands above the place or something under it, the world is told no more. Want of memory leaves the world as it was.
+    /// Where a file stands above the place or something under it, the world is told no more; that it is told on elsewhere isn't said.
+    /// Want of memory leaves the world as it was.
     pub fn place(&mut self, p: &PathText, bytes: &[u8], time: u64) -> Result<(), OutOfMemory>
         ensures ok { OnOk result ((w : World) → world_in self.new ≡ Some w → IsStepFrom (world_in self.old) (Put p.now (Regular bytes.now time false)) w) }
         ensures err { OnErr result (world_in self.new ≡ world_in self.old) }

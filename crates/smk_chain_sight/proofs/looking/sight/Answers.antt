@@ -18,8 +18,8 @@ returns-in-Ok-clause-looked g c = looked_as (sym c.sources_in.ensures.quiet) c.i
 pub returns-in-Ok-clause-told : goal.returns-in-Ok-clause-told
 returns-in-Ok-clause-told g c =
     IfOk-weaker c.sources_in.result _ _
-    (λ sources h w at disk read stored.
-    let t = c.in-Ok.ensures.told w at (seen read w) (viewed_of read w c.args.store.now disk ((g.met.W.Files.sound c.args.work.now).formed w at) stored) in
+    (λ sources h w at owned read stored.
+    let t = c.in-Ok.ensures.told w at (seen read w) (viewed_of read w c.args.store.now owned ((g.met.W.Files.sound c.args.work.now).formed w at) ((g.met.W.Files.sound c.args.work.now).tree w at) stored) in
     subst (λ (s : kept.Sources). Suffices c.args.flow.now (sources_of (seen read w)) c.args.lists.now c.args.targets.now (told_by s)) (sym h.0)
     (suffices c.args.flow.now (sources_of (seen read w)) (told_by c.in-Ok.view.sources) c.args.lists.now c.args.targets.now (t.small h.1).0 (t.small h.1).1))
     c.sources_in.ensures.ok
@@ -29,8 +29,8 @@ returns-in-Ok-clause-too_many g c =
     if_err c.sources_in.result _ _
     (λ fault h count e. (
       subst (λ n. 100000 < n) (same_count c.in-Ok.view.count count (sym h.0 ∙ e)) h.1,
-      λ w at disk read stored.
-          let t = c.in-Ok.ensures.told w at (seen read w) (viewed_of read w c.args.store.now disk ((g.met.W.Files.sound c.args.work.now).formed w at) stored) in
+      λ w at owned read stored.
+          let t = c.in-Ok.ensures.told w at (seen read w) (viewed_of read w c.args.store.now owned ((g.met.W.Files.sound c.args.work.now).formed w at) ((g.met.W.Files.sound c.args.work.now).tree w at) stored) in
           t.large h.1,
     ))
     c.sources_in.ensures.fault

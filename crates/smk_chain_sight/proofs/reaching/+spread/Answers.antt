@@ -18,16 +18,15 @@ returns-then-levels-eq0-clause-looked g t c =
 pub returns-then-levels-eq0-clause-told : goal.returns-then-levels-eq0-clause-told
 returns-then-levels-eq0-clause-told g t c = c.in_ok-last.ensures.told
 
-pub returns-then-levels-eq0-clause-listed : goal.returns-then-levels-eq0-clause-listed
-returns-then-levels-eq0-clause-listed g t c = λ few.
-    told_last c.args.ground.now.flow.now c.args.eye.now c.last.new.eye c.args.from c.args.found.now.paths.items c.deref-paths.result.now c.in_ok-last.ensures.told.keeps (c.deref-paths.ensures.value ∙ c.in_ok-fresh.ensures) c.requires.listed c.in_ok-last.ensures.listed
-
-pub returns-then-levels-eq0-clause-whole : goal.returns-then-levels-eq0-clause-whole
-returns-then-levels-eq0-clause-whole g t c = λ S says few. grown_none c.args.ground.now.flow.now S c.args.ground.now.lists.now c.args.levels c.args.found.now.paths.items c.if-levels-eq0.true
-
-pub returns-then-levels-eq0-clause-many : goal.returns-then-levels-eq0-clause-many
-returns-then-levels-eq0-clause-many g t c = λ S says many.
-    subst (λ (ys : List Path). 100000 < length ys) (grown_none c.args.ground.now.flow.now S c.args.ground.now.lists.now c.args.levels c.args.found.now.paths.items c.if-levels-eq0.true) many
+pub returns-then-levels-eq0-clause-reached : goal.returns-then-levels-eq0-clause-reached
+returns-then-levels-eq0-clause-reached g t c =
+    record {
+      listed = λ few.
+          told_last c.args.ground.now.flow.now c.args.eye.now c.last.new.eye c.args.from c.args.found.now.paths.items c.deref-paths.result.now c.in_ok-last.ensures.told.keeps (c.deref-paths.ensures.value ∙ c.in_ok-fresh.ensures) c.requires.so_far.listed c.in_ok-last.ensures.listed;
+      whole = λ S says few. grown_none c.args.ground.now.flow.now S c.args.ground.now.lists.now c.args.levels c.args.found.now.paths.items c.if-levels-eq0.true;
+      many = λ S says many.
+          subst (λ (ys : List Path). 100000 < length ys) (grown_none c.args.ground.now.flow.now S c.args.ground.now.lists.now c.args.levels c.args.found.now.paths.items c.if-levels-eq0.true) many;
+    }
 
 pub returns-in_err-level-clause-looked : goal.returns-in_err-level-clause-looked
 returns-in_err-level-clause-looked g t c =
@@ -40,17 +39,16 @@ returns-then-is_over-clause-looked g t c =
 pub returns-then-is_over-clause-told : goal.returns-then-is_over-clause-told
 returns-then-is_over-clause-told g t c = c.in_ok-level.ensures.told
 
-pub returns-then-is_over-clause-listed : goal.returns-then-is_over-clause-listed
-returns-then-is_over-clause-listed g t c = λ few. absurd (never_few c.level.new.found.paths.items (too_many c.level.new.found.paths.items c.is_over.result c.if-is_over.true c.is_over.ensures) few)
-
-pub returns-then-is_over-clause-whole : goal.returns-then-is_over-clause-whole
-returns-then-is_over-clause-whole g t c = λ S says few. absurd (never_few c.level.new.found.paths.items (too_many c.level.new.found.paths.items c.is_over.result c.if-is_over.true c.is_over.ensures) few)
-
-pub returns-then-is_over-clause-many : goal.returns-then-is_over-clause-many
-returns-then-is_over-clause-many g t c = λ S says many.
-    let l : Level c.args.ground.now.flow.now c.args.ground.now.lists.now c.level.new.eye c.args.from c.args.found.now.paths.items c.deref-paths.result.now c.level.new.found.paths.items =
-    record { each = c.requires.kept.each; closed = λ S2 says2. c.requires.closed S2 (says_before c.args.eye.now c.level.new.eye S2 c.in_ok-level.ensures.told.keeps says2); is = c.deref-paths.ensures.value ∙ c.in_ok-fresh.ensures; advanced = c.in_ok-level.ensures.advanced } in
-    many_at c.args.ground.now.flow.now c.args.ground.now.lists.now c.level.new.eye c.args.from c.args.found.now.paths.items c.deref-paths.result.now c.level.new.found.paths.items l c.args.levels (c.args.levels - 1) S says (omega (arith, c.if-levels-eq0.false)) many
+pub returns-then-is_over-clause-reached : goal.returns-then-is_over-clause-reached
+returns-then-is_over-clause-reached g t c =
+    record {
+      listed = λ few. absurd (never_few c.level.new.found.paths.items (too_many c.level.new.found.paths.items c.is_over.result c.if-is_over.true c.is_over.ensures) few);
+      whole = λ S says few. absurd (never_few c.level.new.found.paths.items (too_many c.level.new.found.paths.items c.is_over.result c.if-is_over.true c.is_over.ensures) few);
+      many = λ S says many.
+          let l : Level c.args.ground.now.flow.now c.args.ground.now.lists.now c.level.new.eye c.args.from c.args.found.now.paths.items c.deref-paths.result.now c.level.new.found.paths.items =
+          record { each = c.requires.so_far.kept.each; closed = λ S2 says2. c.requires.so_far.closed S2 (says_before c.args.eye.now c.level.new.eye S2 c.in_ok-level.ensures.told.keeps says2); is = c.deref-paths.ensures.value ∙ c.in_ok-fresh.ensures; advanced = c.in_ok-level.ensures.advanced } in
+          many_at c.args.ground.now.flow.now c.args.ground.now.lists.now c.level.new.eye c.args.from c.args.found.now.paths.items c.deref-paths.result.now c.level.new.found.paths.items l c.args.levels (c.args.levels - 1) S says (omega (arith, c.if-levels-eq0.false)) many;
+    }
 
 pub returns-then-now-end-clause-looked : goal.returns-then-now-end-clause-looked
 returns-then-now-end-clause-looked g t c =
@@ -59,26 +57,25 @@ returns-then-now-end-clause-looked g t c =
 pub returns-then-now-end-clause-told : goal.returns-then-now-end-clause-told
 returns-then-now-end-clause-told g t c = c.in_ok-level.ensures.told
 
-pub returns-then-now-end-clause-listed : goal.returns-then-now-end-clause-listed
-returns-then-now-end-clause-listed g t c = λ few.
-    let xs = c.args.found.now.paths.items in
-    let new = c.level.new.found.paths.items in
-    let l : Level c.args.ground.now.flow.now c.args.ground.now.lists.now c.level.new.eye c.args.from xs c.deref-paths.result.now new =
-    record { each = c.requires.kept.each; closed = λ S2 says2. c.requires.closed S2 (says_before c.args.eye.now c.level.new.eye S2 c.in_ok-level.ensures.told.keeps says2); is = c.deref-paths.ensures.value ∙ c.in_ok-fresh.ensures; advanced = c.in_ok-level.ensures.advanced } in
-    subst (λ (ys : List Path). AllByRecursion (IsListedAround c.args.ground.now.flow.now c.level.new.eye) ys)
-    (sym (same_at c.args.ground.now.flow.now c.args.ground.now.lists.now c.level.new.eye c.args.from xs c.deref-paths.result.now new l (sym c.count-now.ensures ∙ c.if-now-end.true ∙ c.count-end.ensures)))
-    (told_at c.args.ground.now.flow.now c.args.ground.now.lists.now c.level.new.eye c.args.from xs c.deref-paths.result.now new l c.args.eye.now c.in_ok-level.ensures.told.keeps c.requires.listed few)
-
-pub returns-then-now-end-clause-whole : goal.returns-then-now-end-clause-whole
-returns-then-now-end-clause-whole g t c = λ S says few.
-    let xs = c.args.found.now.paths.items in
-    let new = c.level.new.found.paths.items in
-    let l : Level c.args.ground.now.flow.now c.args.ground.now.lists.now c.level.new.eye c.args.from xs c.deref-paths.result.now new =
-    record { each = c.requires.kept.each; closed = λ S2 says2. c.requires.closed S2 (says_before c.args.eye.now c.level.new.eye S2 c.in_ok-level.ensures.told.keeps says2); is = c.deref-paths.ensures.value ∙ c.in_ok-fresh.ensures; advanced = c.in_ok-level.ensures.advanced } in
-    still_at c.args.ground.now.flow.now c.args.ground.now.lists.now c.level.new.eye c.args.from xs c.deref-paths.result.now new l c.args.levels S says few (sym c.count-now.ensures ∙ c.if-now-end.true ∙ c.count-end.ensures)
-
-pub returns-then-now-end-clause-many : goal.returns-then-now-end-clause-many
-returns-then-now-end-clause-many g t c = λ S says many. absurd (never_few c.level.new.found.paths.items many (few_enough c.level.new.found.paths.items c.is_over.result c.if-is_over.false c.is_over.ensures))
+pub returns-then-now-end-clause-reached : goal.returns-then-now-end-clause-reached
+returns-then-now-end-clause-reached g t c =
+    record {
+      listed = λ few.
+          let xs = c.args.found.now.paths.items in
+          let new = c.level.new.found.paths.items in
+          let l : Level c.args.ground.now.flow.now c.args.ground.now.lists.now c.level.new.eye c.args.from xs c.deref-paths.result.now new =
+          record { each = c.requires.so_far.kept.each; closed = λ S2 says2. c.requires.so_far.closed S2 (says_before c.args.eye.now c.level.new.eye S2 c.in_ok-level.ensures.told.keeps says2); is = c.deref-paths.ensures.value ∙ c.in_ok-fresh.ensures; advanced = c.in_ok-level.ensures.advanced } in
+          subst (λ (ys : List Path). AllByRecursion (IsListedAround c.args.ground.now.flow.now c.level.new.eye) ys)
+          (sym (same_at c.args.ground.now.flow.now c.args.ground.now.lists.now c.level.new.eye c.args.from xs c.deref-paths.result.now new l (sym c.count-now.ensures ∙ c.if-now-end.true ∙ c.count-end.ensures)))
+          (told_at c.args.ground.now.flow.now c.args.ground.now.lists.now c.level.new.eye c.args.from xs c.deref-paths.result.now new l c.args.eye.now c.in_ok-level.ensures.told.keeps c.requires.so_far.listed few);
+      whole = λ S says few.
+          let xs = c.args.found.now.paths.items in
+          let new = c.level.new.found.paths.items in
+          let l : Level c.args.ground.now.flow.now c.args.ground.now.lists.now c.level.new.eye c.args.from xs c.deref-paths.result.now new =
+          record { each = c.requires.so_far.kept.each; closed = λ S2 says2. c.requires.so_far.closed S2 (says_before c.args.eye.now c.level.new.eye S2 c.in_ok-level.ensures.told.keeps says2); is = c.deref-paths.ensures.value ∙ c.in_ok-fresh.ensures; advanced = c.in_ok-level.ensures.advanced } in
+          still_at c.args.ground.now.flow.now c.args.ground.now.lists.now c.level.new.eye c.args.from xs c.deref-paths.result.now new l c.args.levels S says few (sym c.count-now.ensures ∙ c.if-now-end.true ∙ c.count-end.ensures);
+      many = λ S says many. absurd (never_few c.level.new.found.paths.items many (few_enough c.level.new.found.paths.items c.is_over.result c.if-is_over.false c.is_over.ensures));
+    }
 
 pub spread-requires : goal.spread-requires
 spread-requires g t c κs within =
@@ -86,24 +83,20 @@ spread-requires g t c κs within =
     let new = c.level.new.found.paths.items in
     let few = few_enough new c.is_over.result c.if-is_over.false c.is_over.ensures in
     let l : Level c.args.ground.now.flow.now c.args.ground.now.lists.now c.level.new.eye c.args.from xs c.deref-paths.result.now new =
-    record { each = c.requires.kept.each; closed = λ S2 says2. c.requires.closed S2 (says_before c.args.eye.now c.level.new.eye S2 c.in_ok-level.ensures.told.keeps says2); is = c.deref-paths.ensures.value ∙ c.in_ok-fresh.ensures; advanced = c.in_ok-level.ensures.advanced } in (
+    record { each = c.requires.so_far.kept.each; closed = λ S2 says2. c.requires.so_far.closed S2 (says_before c.args.eye.now c.level.new.eye S2 c.in_ok-level.ensures.told.keeps says2); is = c.deref-paths.ensures.value ∙ c.in_ok-fresh.ensures; advanced = c.in_ok-level.ensures.advanced } in (
       omega (arith, c.if-levels-eq0.false),
       (
         within,
         (
-          c.in_ok-level.ensures.kept,
-          (
-            c.requires.guide,
-            (
-              within_at c.args.ground.now.flow.now c.args.ground.now.lists.now c.level.new.eye c.args.from xs c.deref-paths.result.now new l c.count-end.result c.count-end.ensures,
-              (
-                subst (λ (ys : List Path). AllByRecursion (IsListedAround c.args.ground.now.flow.now c.level.new.eye) ys)
-                    (sym (first_at c.args.ground.now.flow.now c.args.ground.now.lists.now c.level.new.eye c.args.from xs c.deref-paths.result.now new l c.count-end.result c.count-end.ensures))
-                    (told_at c.args.ground.now.flow.now c.args.ground.now.lists.now c.level.new.eye c.args.from xs c.deref-paths.result.now new l c.args.eye.now c.in_ok-level.ensures.told.keeps c.requires.listed few),
-                λ S says. closed_at c.args.ground.now.flow.now c.args.ground.now.lists.now c.level.new.eye c.args.from xs c.deref-paths.result.now new l c.count-end.result S says c.count-end.ensures few,
-              ),
-            ),
-          ),
+          c.requires.guide,
+          record {
+            kept = c.in_ok-level.ensures.kept;
+            within = within_at c.args.ground.now.flow.now c.args.ground.now.lists.now c.level.new.eye c.args.from xs c.deref-paths.result.now new l c.count-end.result c.count-end.ensures;
+            listed = subst (λ (ys : List Path). AllByRecursion (IsListedAround c.args.ground.now.flow.now c.level.new.eye) ys)
+                (sym (first_at c.args.ground.now.flow.now c.args.ground.now.lists.now c.level.new.eye c.args.from xs c.deref-paths.result.now new l c.count-end.result c.count-end.ensures))
+                (told_at c.args.ground.now.flow.now c.args.ground.now.lists.now c.level.new.eye c.args.from xs c.deref-paths.result.now new l c.args.eye.now c.in_ok-level.ensures.told.keeps c.requires.so_far.listed few);
+            closed = λ S says. closed_at c.args.ground.now.flow.now c.args.ground.now.lists.now c.level.new.eye c.args.from xs c.deref-paths.result.now new l c.count-end.result S says c.count-end.ensures few;
+          },
         ),
       ),
     )
@@ -119,23 +112,22 @@ returns-clause-looked g t c =
 pub returns-clause-told : goal.returns-clause-told
 returns-clause-told g t c = told_then c.in_ok-level.ensures.looked c.in_ok-level.ensures.told c.in_ok-spread.ensures.told
 
-pub returns-clause-listed : goal.returns-clause-listed
-returns-clause-listed g t c = c.in_ok-spread.ensures.listed
-
-pub returns-clause-whole : goal.returns-clause-whole
-returns-clause-whole g t c = λ S says few.
-    let xs = c.args.found.now.paths.items in
-    let new = c.level.new.found.paths.items in
-    let l : Level c.args.ground.now.flow.now c.args.ground.now.lists.now c.level.new.eye c.args.from xs c.deref-paths.result.now new =
-    record { each = c.requires.kept.each; closed = λ S2 says2. c.requires.closed S2 (says_before c.args.eye.now c.level.new.eye S2 c.in_ok-level.ensures.told.keeps says2); is = c.deref-paths.ensures.value ∙ c.in_ok-fresh.ensures; advanced = c.in_ok-level.ensures.advanced } in
-    grown_at c.args.ground.now.flow.now c.args.ground.now.lists.now c.level.new.eye c.args.from xs c.deref-paths.result.now new l c.args.levels (c.args.levels - 1) S _ (says_before c.level.new.eye c.spread.new.eye S c.in_ok-spread.ensures.told.keeps says) (omega (arith, c.if-levels-eq0.false))
-    (few_enough new c.is_over.result c.if-is_over.false c.is_over.ensures) (c.in_ok-spread.ensures.whole S says few)
-
-pub returns-clause-many : goal.returns-clause-many
-returns-clause-many g t c = λ S says many.
-    let xs = c.args.found.now.paths.items in
-    let new = c.level.new.found.paths.items in
-    let l : Level c.args.ground.now.flow.now c.args.ground.now.lists.now c.level.new.eye c.args.from xs c.deref-paths.result.now new =
-    record { each = c.requires.kept.each; closed = λ S2 says2. c.requires.closed S2 (says_before c.args.eye.now c.level.new.eye S2 c.in_ok-level.ensures.told.keeps says2); is = c.deref-paths.ensures.value ∙ c.in_ok-fresh.ensures; advanced = c.in_ok-level.ensures.advanced } in
-    more_at c.args.ground.now.flow.now c.args.ground.now.lists.now c.level.new.eye c.args.from xs c.deref-paths.result.now new l c.args.levels (c.args.levels - 1) S (says_before c.level.new.eye c.spread.new.eye S c.in_ok-spread.ensures.told.keeps says) (omega (arith, c.if-levels-eq0.false))
-    (few_enough new c.is_over.result c.if-is_over.false c.is_over.ensures) (c.in_ok-spread.ensures.many S says many)
+pub returns-clause-reached : goal.returns-clause-reached
+returns-clause-reached g t c =
+    record {
+      listed = c.in_ok-spread.ensures.reached.listed;
+      whole = λ S says few.
+          let xs = c.args.found.now.paths.items in
+          let new = c.level.new.found.paths.items in
+          let l : Level c.args.ground.now.flow.now c.args.ground.now.lists.now c.level.new.eye c.args.from xs c.deref-paths.result.now new =
+          record { each = c.requires.so_far.kept.each; closed = λ S2 says2. c.requires.so_far.closed S2 (says_before c.args.eye.now c.level.new.eye S2 c.in_ok-level.ensures.told.keeps says2); is = c.deref-paths.ensures.value ∙ c.in_ok-fresh.ensures; advanced = c.in_ok-level.ensures.advanced } in
+          grown_at c.args.ground.now.flow.now c.args.ground.now.lists.now c.level.new.eye c.args.from xs c.deref-paths.result.now new l c.args.levels (c.args.levels - 1) S _ (says_before c.level.new.eye c.spread.new.eye S c.in_ok-spread.ensures.told.keeps says) (omega (arith, c.if-levels-eq0.false))
+          (few_enough new c.is_over.result c.if-is_over.false c.is_over.ensures) (c.in_ok-spread.ensures.reached.whole S says few);
+      many = λ S says many.
+          let xs = c.args.found.now.paths.items in
+          let new = c.level.new.found.paths.items in
+          let l : Level c.args.ground.now.flow.now c.args.ground.now.lists.now c.level.new.eye c.args.from xs c.deref-paths.result.now new =
+          record { each = c.requires.so_far.kept.each; closed = λ S2 says2. c.requires.so_far.closed S2 (says_before c.args.eye.now c.level.new.eye S2 c.in_ok-level.ensures.told.keeps says2); is = c.deref-paths.ensures.value ∙ c.in_ok-fresh.ensures; advanced = c.in_ok-level.ensures.advanced } in
+          more_at c.args.ground.now.flow.now c.args.ground.now.lists.now c.level.new.eye c.args.from xs c.deref-paths.result.now new l c.args.levels (c.args.levels - 1) S (says_before c.level.new.eye c.spread.new.eye S c.in_ok-spread.ensures.told.keeps says) (omega (arith, c.if-levels-eq0.false))
+          (few_enough new c.is_over.result c.if-is_over.false c.is_over.ensures) (c.in_ok-spread.ensures.reached.many S says many);
+    }

@@ -29,7 +29,7 @@ loop-name-preserved-in_default g t c =
     record {
       looked = c.loop-name.invariant.looked;
       told = λ w at image v path.
-          let l : ListedIn w.nodes folder names = folder_listed w c.args.store.now image folder c.in_ok-place.place c.in_ok-listing.listing names v path c.in_ok-place.ensures c.as_slice-name-items.ensures
+          let l : ListedIn w.nodes c.args.store.now folder names = folder_listed w c.args.store.now image folder c.in_ok-place.place c.in_ok-listing.listing names v path c.in_ok-place.ensures c.as_slice-name-items.ensures
           (listing_told w c.list.ensures c.in_ok-listing.was at) in
           one_further (NoneAt image folder) names i n c.loop-name-test.true c.name-item.is (c.loop-name.invariant.told w at image v path)
           (no_path_at w.nodes c.args.store.now image v folder names l i n c.loop-name-test.true c.name-item.is
@@ -46,7 +46,7 @@ loop-name-preserved-then-covered g t c =
     record {
       looked = c.loop-name.invariant.looked;
       told = λ w at image v path.
-          let l : ListedIn w.nodes folder names = folder_listed w c.args.store.now image folder c.in_ok-place.place c.in_ok-listing.listing names v path c.in_ok-place.ensures c.as_slice-name-items.ensures
+          let l : ListedIn w.nodes c.args.store.now folder names = folder_listed w c.args.store.now image folder c.in_ok-place.place c.in_ok-listing.listing names v path c.in_ok-place.ensures c.as_slice-name-items.ensures
           (listing_told w c.list.ensures c.in_ok-listing.was at) in
           one_further (NoneAt image folder) names i n c.loop-name-test.true c.name-item.is (c.loop-name.invariant.told w at image v path)
           (covered_at w.nodes c.args.store.now image v folder names l i n c.loop-name-test.true c.name-item.is c.in-Some.path is (sym c.covered.ensures ∙ c.if-covered.true));
@@ -59,7 +59,7 @@ returns-then-not-name-clause-told g t c = λ w at image v path.
     let i = c.loop-name.name-index in
     let n = c.name-item.result in
     let is = sym c.in-Some.is ∙ c.in_ok-path.ensures ∙ ap (λ (p : Path). path_in (in_folder p c.as_str.result.now)) c.in_ok-place.ensures ∙ ap (λ (p : Path). path_in (in_folder folder p)) c.as_str.ensures in
-    let l : ListedIn w.nodes folder names = folder_listed w c.args.store.now image folder c.in_ok-place.place c.in_ok-listing.listing names v path c.in_ok-place.ensures c.as_slice-name-items.ensures
+    let l : ListedIn w.nodes c.args.store.now folder names = folder_listed w c.args.store.now image folder c.in_ok-place.place c.in_ok-listing.listing names v path c.in_ok-place.ensures c.as_slice-name-items.ensures
     (listing_told w c.list.ensures c.in_ok-listing.was at) in
     found_there image folder (some_at w.nodes c.args.store.now image v folder names l i n c.loop-name-test.true c.name-item.is c.in-Some.path is c.if-not-name.true (sym c.covered.ensures ∙ c.if-covered.false))
 
@@ -78,7 +78,7 @@ returns-then-inner-clause-told g t c = λ w at image v path.
     let i = c.loop-name.name-index in
     let n = c.name-item.result in
     let is = sym c.in-Some.is ∙ c.in_ok-path.ensures ∙ ap (λ (p : Path). path_in (in_folder p c.as_str.result.now)) c.in_ok-place.ensures ∙ ap (λ (p : Path). path_in (in_folder folder p)) c.as_str.ensures in
-    let l : ListedIn w.nodes folder names = folder_listed w c.args.store.now image folder c.in_ok-place.place c.in_ok-listing.listing names v path c.in_ok-place.ensures c.as_slice-name-items.ensures
+    let l : ListedIn w.nodes c.args.store.now folder names = folder_listed w c.args.store.now image folder c.in_ok-place.place c.in_ok-listing.listing names v path c.in_ok-place.ensures c.as_slice-name-items.ensures
     (listing_told w c.list.ensures c.in_ok-listing.was at) in
     let p = path_at (in_folder folder n.name) c.in-Some.path is in
     let u = still w c.loop-name.invariant.looked at in
@@ -95,20 +95,20 @@ loop-name-preserved g t c =
     record {
       looked = looked_then c.loop-name.invariant.looked c.in_ok-inner.ensures.looked;
       told = λ w at image v path.
-          let l : ListedIn w.nodes folder names = folder_listed w c.args.store.now image folder c.in_ok-place.place c.in_ok-listing.listing names v path c.in_ok-place.ensures c.as_slice-name-items.ensures
+          let l : ListedIn w.nodes c.args.store.now folder names = folder_listed w c.args.store.now image folder c.in_ok-place.place c.in_ok-listing.listing names v path c.in_ok-place.ensures c.as_slice-name-items.ensures
           (listing_told w c.list.ensures c.in_ok-listing.was at) in
           let p = path_at (in_folder folder n.name) c.in-Some.path is in
           let u = still w c.loop-name.invariant.looked at in
           let inner = c.in_ok-inner.ensures.told u.0 u.1 image (viewed_still w.nodes u.0.nodes c.args.store.now image u.2 v) (subst (λ q. is_path_text q ≡ true) (sym p.1) p.0) in
           one_further (NoneAt image folder) names i n c.loop-name-test.true c.name-item.is (c.loop-name.invariant.told w at image v path)
-          (folder_at w.nodes c.args.store.now image v folder names l i n c.loop-name-test.true c.name-item.is c.in-Some.path is c.if-not-name.false (inner.none c.if-inner.false));
+          (folder_at w.nodes c.args.store.now image v folder names l i n c.loop-name-test.true c.name-item.is c.in-Some.path is c.if-not-name.false (sym c.covered.ensures ∙ c.if-covered.false) (inner.none c.if-inner.false));
     }
 
 pub returns-clause-told : goal.returns-clause-told
 returns-clause-told g t c = λ w at image v path.
     let names = c.as_slice-name-items.result.now in
     let folder = c.args.folder.now in
-    let l : ListedIn w.nodes folder names = folder_listed w c.args.store.now image folder c.in_ok-place.place c.in_ok-listing.listing names v path c.in_ok-place.ensures c.as_slice-name-items.ensures
+    let l : ListedIn w.nodes c.args.store.now folder names = folder_listed w c.args.store.now image folder c.in_ok-place.place c.in_ok-listing.listing names v path c.in_ok-place.ensures c.as_slice-name-items.ensures
     (listing_told w c.list.ensures c.in_ok-listing.was at) in
     none_there w.nodes c.args.store.now image v folder names l c.loop-name.name-index c.loop-name-test.false (c.loop-name.invariant.told w at image v path)
 

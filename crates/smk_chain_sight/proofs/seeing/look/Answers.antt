@@ -6,7 +6,7 @@ use Rattle.smk_store.proofs.Looks.{stat_told}
 use Rattle.smk_chain_sight.specs.declared.seeing.Sighted.{Sighted}
 use Rattle.smk_chain_sight.specs.Viewing.{IsSighted, by_stat}
 use Rattle.smk_chain_sight.proofs.Stand.{sighted_covered, sighted_is}
-use Rattle.smk_chain_sight.proofs.Eyes.{still_owned}
+use Rattle.smk_chain_sight.proofs.Eyes.{unowned_at}
 use Rattle.smk_chain_sight.proofs.seeing.look.Goals as goal
 
 pub returns-then-covered-clause-told : goal.returns-then-covered-clause-told
@@ -24,7 +24,7 @@ returns-clause-looked g c =
 pub returns-clause-told : goal.returns-clause-told
 returns-clause-told g c = λ w at image v path.
     let stat =
-    stat_told w c.stat.ensures c.in_ok-stat.was at (still_owned w.nodes _ image v c.args.path.now c.in_ok-place.place c.in_ok-place.ensures path)
+    stat_told w c.stat.ensures c.in_ok-stat.was at (unowned_at w.nodes c.args.store.now image v c.args.path.now c.in_ok-place.place c.in_ok-place.ensures path (sym c.covered.ensures ∙ c.if-covered.false))
     ∙ ap (λ q. stat_of (reading (w.nodes q))) c.in_ok-place.ensures in
     subst (λ (s : Sighted). IsSighted image c.args.path.now s) (sym (c.by_stat.ensures ∙ ap by_stat stat))
     (sighted_is w.nodes c.args.store.now image v c.args.path.now path (sym c.covered.ensures ∙ c.if-covered.false))

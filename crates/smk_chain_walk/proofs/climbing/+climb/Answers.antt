@@ -17,9 +17,9 @@ use Rattle.smk_chain_walk.proofs.climbing.+climb.Goals as goal
 
 pub climb-returns-in-Some-clause-tells : goal.climb-returns-in-Some-clause-tells
 climb-returns-in-Some-clause-tells _ c =
-    let flow = c.args.flow.now in
-    let sources = told_by c.args.sources.now in
-    let L = c.args.lists.now in
+    let flow = c.args.query.now.flow.now in
+    let sources = told_by c.args.query.now.sources.now in
+    let L = c.args.query.now.lists.now in
     let p = c.args.path.now in
     subst (λ (o : Option ℕ). Tells flow sources L c.args.left p o) (sym c.below.ensures)
     (tells_below flow sources L c.args.left p c.in-Some.height (c.requires.known p c.in-Some.height (sym c.of.ensures ∙ c.in-Some.is)))
@@ -31,14 +31,14 @@ climb-climb_job-requires _ c =
     let whole : suc n ≡ c.args.left = omega (arith, left) in
     let within = c.requires.within in
     let told = sym (ap (option_map (λ m. m.now)) c.in-Some-making_at.is) ∙ c.making_at.ensures in
-    let covered = covered_here c.args.flow.now (told_by c.args.sources.now) c.args.table.now n c.args.left c.args.path.now c.in-Some-making_at.making.now whole c.requires.covered told in
+    let covered = covered_here c.args.query.now.flow.now (told_by c.args.query.now.sources.now) c.args.table.now n c.args.left c.args.path.now c.in-Some-making_at.making.now whole c.requires.covered told in
     (omega (arith, left), (c.requires.guide, (omega (arith, within), (covered, c.requires.known))))
 
 pub climb-overflow_add-under : goal.climb-overflow_add-under
 climb-overflow_add-under _ c =
-    let flow = c.args.flow.now in
-    let sources = told_by c.args.sources.now in
-    let L = c.args.lists.now in
+    let flow = c.args.query.now.flow.now in
+    let sources = told_by c.args.query.now.sources.now in
+    let L = c.args.query.now.lists.now in
     let n = c.args.left - 1 in
     let left = c.if-left-eq0.false in
     let whole : suc n ≡ c.args.left = omega (arith, left) in
@@ -52,9 +52,9 @@ climb-overflow_add-under _ c =
 
 pub climb-overflow_add-under-in-Some-2 : goal.climb-overflow_add-under-in-Some-2
 climb-overflow_add-under-in-Some-2 _ c =
-    let flow = c.args.flow.now in
-    let sources = told_by c.args.sources.now in
-    let L = c.args.lists.now in
+    let flow = c.args.query.now.flow.now in
+    let sources = told_by c.args.query.now.sources.now in
+    let L = c.args.query.now.lists.now in
     let n = c.args.left - 1 in
     let left = c.if-left-eq0.false in
     let whole : suc n ≡ c.args.left = omega (arith, left) in
@@ -68,9 +68,9 @@ climb-overflow_add-under-in-Some-2 _ c =
 
 pub climb-returns-in-None-2-clause-tells : goal.climb-returns-in-None-2-clause-tells
 climb-returns-in-None-2-clause-tells _ c =
-    let flow = c.args.flow.now in
-    let sources = told_by c.args.sources.now in
-    let L = c.args.lists.now in
+    let flow = c.args.query.now.flow.now in
+    let sources = told_by c.args.query.now.sources.now in
+    let L = c.args.query.now.lists.now in
     let p = c.args.path.now in
     let n = c.args.left - 1 in
     let left = c.if-left-eq0.false in
@@ -83,9 +83,9 @@ climb-returns-in-None-2-clause-tells _ c =
 
 pub climb-returns-in_ok-keep-in-Some-2-clause-known : goal.climb-returns-in_ok-keep-in-Some-2-clause-known
 climb-returns-in_ok-keep-in-Some-2-clause-known _ c =
-    let flow = c.args.flow.now in
-    let sources = told_by c.args.sources.now in
-    let L = c.args.lists.now in
+    let flow = c.args.query.now.flow.now in
+    let sources = told_by c.args.query.now.sources.now in
+    let L = c.args.query.now.lists.now in
     let p = c.args.path.now in
     let n = c.args.left - 1 in
     let left = c.if-left-eq0.false in
@@ -99,9 +99,9 @@ climb-returns-in_ok-keep-in-Some-2-clause-known _ c =
 
 pub climb-returns-in_ok-keep-in-Some-2-clause-tells : goal.climb-returns-in_ok-keep-in-Some-2-clause-tells
 climb-returns-in_ok-keep-in-Some-2-clause-tells _ c =
-    let flow = c.args.flow.now in
-    let sources = told_by c.args.sources.now in
-    let L = c.args.lists.now in
+    let flow = c.args.query.now.flow.now in
+    let sources = told_by c.args.query.now.sources.now in
+    let L = c.args.query.now.lists.now in
     let p = c.args.path.now in
     let n = c.args.left - 1 in
     let left = c.if-left-eq0.false in
@@ -117,17 +117,17 @@ climb-returns-in_ok-keep-in-Some-2-clause-tells _ c =
 
 pub climb_all-returns-in_default-clause-tells : goal.climb_all-returns-in_default-clause-tells
 climb_all-returns-in_default-clause-tells _ c =
-    let flow = c.args.flow.now in
-    let sources = told_by c.args.sources.now in
-    let L = c.args.lists.now in
+    let flow = c.args.query.now.flow.now in
+    let sources = told_by c.args.query.now.sources.now in
+    let L = c.args.query.now.lists.now in
     one_deep flow sources L c.args.left c.args.paths.now c.loop-path.path-index c.path-item.result c.loop-path-test.true c.path-item.is
     (subst (λ (o : Option ℕ). Tells flow sources L c.args.left c.path-item.result o) (is_none c.in_ok-found.field-0 c.in_default.not-Some) c.in_ok-found.ensures.tells)
 
 pub climb_all-loop-path-preserved : goal.climb_all-loop-path-preserved
 climb_all-loop-path-preserved _ c =
-    let flow = c.args.flow.now in
-    let sources = told_by c.args.sources.now in
-    let L = c.args.lists.now in
+    let flow = c.args.query.now.flow.now in
+    let sources = told_by c.args.query.now.sources.now in
+    let L = c.args.query.now.lists.now in
     let paths = c.args.paths.now in
     let i = c.loop-path.path-index in
     let p = c.path-item.result in
@@ -148,9 +148,9 @@ climb_all-loop-path-preserved _ c =
 
 pub climb_all-returns-clause-tells : goal.climb_all-returns-clause-tells
 climb_all-returns-clause-tells _ c =
-    let flow = c.args.flow.now in
-    let sources = told_by c.args.sources.now in
-    let L = c.args.lists.now in
+    let flow = c.args.query.now.flow.now in
+    let sources = told_by c.args.query.now.sources.now in
+    let L = c.args.query.now.lists.now in
     let l = c.loop-path.invariant in (
       l.within,
       λ m lt. l.reaches m lt
@@ -161,8 +161,8 @@ climb_all-returns-clause-tells _ c =
 
 pub climb_files-climb_all-requires : goal.climb_files-climb_all-requires
 climb_files-climb_all-requires _ c =
-    let flow = c.args.flow.now in
-    let sources = told_by c.args.sources.now in
+    let flow = c.args.query.now.flow.now in
+    let sources = told_by c.args.query.now.sources.now in
     let within = c.requires.within in (
       omega arith,
       (
@@ -182,9 +182,9 @@ climb_files-climb_all-requires _ c =
 
 pub climb_job-returns-in_default-clause-tells : goal.climb_job-returns-in_default-clause-tells
 climb_job-returns-in_default-clause-tells _ c = λ d placed is.
-    let flow = c.args.flow.now in
-    let sources = told_by c.args.sources.now in
-    let L = c.args.lists.now in
+    let flow = c.args.query.now.flow.now in
+    let sources = told_by c.args.query.now.sources.now in
+    let L = c.args.query.now.lists.now in
     let first = filter is_path (first_wants flow d) in
     let tells = subst (λ (o : Option ℕ). TellsMost flow sources L c.args.left first o) (is_none c.in_ok-height.field-0 c.in_default.not-Some)
     (subst (λ (ps : List Path). TellsMost flow sources L c.args.left ps c.in_ok-height.field-0) (c.as_slice.ensures ∙ c.in_ok-first.ensures d placed is) c.in_ok-height.ensures.tells) in
@@ -193,9 +193,9 @@ climb_job-returns-in_default-clause-tells _ c = λ d placed is.
 
 pub climb_job-returns-clause-tells : goal.climb_job-returns-clause-tells
 climb_job-returns-clause-tells _ c = λ d placed is.
-    let flow = c.args.flow.now in
-    let sources = told_by c.args.sources.now in
-    let L = c.args.lists.now in
+    let flow = c.args.query.now.flow.now in
+    let sources = told_by c.args.query.now.sources.now in
+    let L = c.args.query.now.lists.now in
     let first = filter is_path (first_wants flow d) in
     let files = filter is_path (gathered_files flow L d) in
     let tells = subst (λ (o : Option ℕ). TellsMost flow sources L c.args.left first o) c.in-Some.is

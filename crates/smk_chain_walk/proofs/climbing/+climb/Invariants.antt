@@ -18,7 +18,7 @@ decreases-climb_all a = 4 * a.left + 1
 
 abbrev pub invariant-climb_all-loop-path : goal.invariant-climb_all-loop-path
 invariant-climb_all-loop-path l = record {
-  known : AreHeights l.flow (told_by l.sources) l.lists l.heights;
+  known : AreHeights l.query.flow.now (told_by l.query.sources.now) l.query.lists.now l.heights;
   within : l.height ≤ l.left;
-  reaches : Reaches l.flow (told_by l.sources) l.lists l.paths (drop l.path-index l.paths) l.height;
+  reaches : Reaches l.query.flow.now (told_by l.query.sources.now) l.query.lists.now l.paths (drop l.path-index l.paths) l.height;
 }

@@ -6,7 +6,7 @@ use Rattle.smk_chain_walk.proofs.deep.is_deep.Goals as goal
 
 pub returns-in-Some-clause-is : goal.returns-in-Some-clause-is
 returns-in-Some-clause-is c =
-    let flow = c.args.flow.now in
-    let sources = told_by c.args.sources.now in
-    let L = c.args.lists.now in
+    let flow = c.args.query.now.flow.now in
+    let sources = told_by c.args.query.now.sources.now in
+    let L = c.args.query.now.lists.now in
     is_flat flow sources L c.args.path.now c.in-Some.field-0 (subst (λ (o : Option ℕ). Tells flow sources L 201 c.args.path.now o) c.in-Some.is c.in_ok-climb.ensures.tells)

@@ -11,22 +11,22 @@ use Rattle.smk_chain_walk.proofs.walking.+visit.Goals as goal
 
 pub returns-then-is_done : goal.returns-then-is_done
 returns-then-is_done t c =
-    walked_done c.args.flow.now (told_by c.args.sources.now) c.args.lists.now c.args.reached.now c.args.path.now (sym c.is_done.ensures ∙ c.if-is_done.true)
+    walked_done c.args.query.now.flow.now (told_by c.args.query.now.sources.now) c.args.query.now.lists.now c.args.reached.now c.args.path.now (sym c.is_done.ensures ∙ c.if-is_done.true)
 
 pub returns-in_err-step : goal.returns-in_err-step
 returns-in_err-step t c =
-    let flow = c.args.flow.now in
-    let sources = told_by c.args.sources.now in
-    let L = c.args.lists.now in
+    let flow = c.args.query.now.flow.now in
+    let sources = told_by c.args.query.now.sources.now in
+    let L = c.args.query.now.lists.now in
     let p = c.args.path.now in
     at_err (λ r. Walked flow sources L c.args.reached.now c.args.reached.now p r) c.from_residual.result c.in_err-step.field-0.0 c.from_residual.ensures.1
     (walked_refused flow sources L c.args.reached.now c.args.reached.now p c.in_err-step.field-0.0 c.in_err-step.ensures.fault)
 
 pub returns-in_default : goal.returns-in_default
 returns-in_default t c =
-    let flow = c.args.flow.now in
-    let sources = told_by c.args.sources.now in
-    let L = c.args.lists.now in
+    let flow = c.args.query.now.flow.now in
+    let sources = told_by c.args.query.now.sources.now in
+    let L = c.args.query.now.lists.now in
     let p = c.args.path.now in
     let source = subst (IsBegun flow sources L p) c.in_default.is c.in_ok-step.ensures.begun in
     noted_source flow sources L c.args.reached.now c.note_source.new.self p c.note_source.result c.note_source.ensures.memory c.note_source.ensures.done c.note_source.ensures.keeps
@@ -34,9 +34,9 @@ returns-in_default t c =
 
 pub returns-in_err-wanted : goal.returns-in_err-wanted
 returns-in_err-wanted t c =
-    let flow = c.args.flow.now in
-    let sources = told_by c.args.sources.now in
-    let L = c.args.lists.now in
+    let flow = c.args.query.now.flow.now in
+    let sources = told_by c.args.query.now.sources.now in
+    let L = c.args.query.now.lists.now in
     let p = c.args.path.now in
     let m = c.in-Some.step.making.now in
     let own = c.in-Some.step.own in
@@ -53,9 +53,9 @@ returns-in_err-wanted t c =
 
 pub visit-requires : goal.visit-requires
 visit-requires t c =
-    let flow = c.args.flow.now in
-    let sources = told_by c.args.sources.now in
-    let L = c.args.lists.now in
+    let flow = c.args.query.now.flow.now in
+    let sources = told_by c.args.query.now.sources.now in
+    let L = c.args.query.now.lists.now in
     let p = c.args.path.now in
     let m = c.in-Some.step.making.now in
     let own = c.in-Some.step.own in
@@ -69,13 +69,16 @@ visit-requires t c =
     let few = c.requires.few in (
       omega (arith, deep, c.decreases),
       (
-        c.requires.folders,
+        c.requires.guide,
         (
-          omega (arith, few),
+          c.requires.folders,
           (
-            below_fits flow sources L c.args.depth p m ws own c.requires.few c.requires.fits s i w c.loop-want-test.true c.want-item.is found c.in_ok-wanted.ensures,
-            subst (λ (k : Choices). Covers flow sources k (c.args.depth - 1 + 1) found.now) (sym c.inner-table.ensures)
-                (below_covers flow sources L c.args.depth p m ws own c.requires.few c.requires.fits s i w c.loop-want-test.true c.want-item.is c.args.table.now found c.in_ok-wanted.ensures c.requires.covers),
+            omega (arith, few),
+            (
+              below_fits flow sources L c.args.depth p m ws own c.requires.few c.requires.fits s i w c.loop-want-test.true c.want-item.is found c.in_ok-wanted.ensures,
+              subst (λ (k : Choices). Covers flow sources k (c.args.depth - 1 + 1) found.now) (sym c.inner-table.ensures)
+                  (below_covers flow sources L c.args.depth p m ws own c.requires.few c.requires.fits s i w c.loop-want-test.true c.want-item.is c.args.table.now found c.in_ok-wanted.ensures c.requires.covers),
+            ),
           ),
         ),
       ),
@@ -83,9 +86,9 @@ visit-requires t c =
 
 pub returns-in_err-visit : goal.returns-in_err-visit
 returns-in_err-visit t c =
-    let flow = c.args.flow.now in
-    let sources = told_by c.args.sources.now in
-    let L = c.args.lists.now in
+    let flow = c.args.query.now.flow.now in
+    let sources = told_by c.args.query.now.sources.now in
+    let L = c.args.query.now.lists.now in
     let p = c.args.path.now in
     let m = c.in-Some.step.making.now in
     let own = c.in-Some.step.own in
@@ -104,9 +107,9 @@ returns-in_err-visit t c =
 
 pub loop-want-preserved : goal.loop-want-preserved
 loop-want-preserved t c =
-    let flow = c.args.flow.now in
-    let sources = told_by c.args.sources.now in
-    let L = c.args.lists.now in
+    let flow = c.args.query.now.flow.now in
+    let sources = told_by c.args.query.now.sources.now in
+    let L = c.args.query.now.lists.now in
     let p = c.args.path.now in
     let m = c.in-Some.step.making.now in
     let own = c.in-Some.step.own in
@@ -125,9 +128,9 @@ loop-want-preserved t c =
 
 pub returns : goal.returns
 returns t c =
-    let flow = c.args.flow.now in
-    let sources = told_by c.args.sources.now in
-    let L = c.args.lists.now in
+    let flow = c.args.query.now.flow.now in
+    let sources = told_by c.args.query.now.sources.now in
+    let L = c.args.query.now.lists.now in
     let p = c.args.path.now in
     let m = c.in-Some.step.making.now in
     let own = c.in-Some.step.own in
@@ -136,5 +139,7 @@ returns t c =
     let s : IsStep flow sources L p m ws own = subst (λ (xs : List Want). IsStep flow sources L p m xs own) (sym c.as_slice-want-items.ensures) begun in
     let now = c.loop-want.reached in
     done_here flow sources L c.args.depth p m ws own c.requires.few c.requires.fits s c.args.reached.now now c.settle.new.self c.settle.result c.settle.ensures.memory c.settle.ensures.done c.settle.ensures.keeps
-    (λ cs paths ready calm all h. c.settle.ensures.settled sources s.candidate cs s.chosen s.is (c.as_slice.ensures ∙ sym c.as_slice-want-items.ensures ∙ s.wants) paths ready calm all h)
+    (λ cs paths ready calm all h. c.settle.ensures.settled sources s.candidate cs
+    (record { chosen = s.chosen; is = s.is; wanted = c.as_slice.ensures ∙ sym c.as_slice-want-items.ensures ∙ s.wants; paths = paths; done = ready })
+    (record { calm = calm; called = all; holds = h }))
     (subst (λ (xs : List Want). SoFar flow sources L c.args.reached.now now p m.rule (map text_in xs)) (take_whole ws c.loop-want.want-index c.loop-want-test.false) c.loop-want.invariant)

@@ -8,4 +8,4 @@ abbrev pub decreases-visit : goal.decreases-visit
 decreases-visit l = l.depth
 
 abbrev pub invariant-loop-want : goal.invariant-loop-want
-invariant-loop-want l = SoFar l.flow (told_by l.sources) l.lists l.fn.reached l.reached l.path l.rule (map text_in (take l.want-index l.want-items))
+invariant-loop-want l = SoFar l.query.flow.now (told_by l.query.sources.now) l.query.lists.now l.fn.reached l.reached l.path l.rule (map text_in (take l.want-index l.want-items))

@@ -1,7 +1,13 @@
 use Rattle.std.proofs.Common.{refl}
 use Rattle.smk_chain_walk.proofs.walking.walk.Goals as goal
 
-pub returns-clause-links : goal.returns-clause-links
-returns-clause-links c =
-    c.in_ok-reached.ensures.links
-    (record { jobs = c.in_ok-reached.reached.jobs; befores = c.in_ok-reached.reached.befores; makers = c.in_ok-reached.reached.makers; lists = c.args.lists }) refl refl
+pub returns-clause-walked : goal.returns-clause-walked
+returns-clause-walked c =
+    let reached = c.in_ok-reached in
+    record {
+      none = reached.ensures.none;
+      called = reached.ensures.jobs;
+      links = reached.ensures.links
+          (record { jobs = reached.reached.jobs; befores = reached.reached.befores; makers = reached.reached.makers; lists = c.args.lists }) refl refl;
+      lists = refl;
+    }

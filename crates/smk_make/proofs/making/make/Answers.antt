@@ -9,7 +9,7 @@ returns-in-Err g c =
       settled = c.steady.result;
       firm = g.W.Files.device c.steady.new.work;
       settling = c.steady.ensures.acted;
-      goes_on = not_firm g.W.Files.act c.args.flow.now c.args.cores c.args.targets.now plan.jobs.now plan.states.now plan.store.now c.steady.result c.in-Err.fault c.of_store.result _ _ c.in-Err.is c.of_store.ensures;
+      goes_on = not_firm g.W.Files.act c.args.flow.now c.args.cores c.args.targets.now plan.jobs.now plan.states.now plan.store.now c.steady.result c.in-Err.fault c.from.result _ _ c.in-Err.is c.from.ensures;
     }
 
 pub serve-requires : goal.serve-requires

@@ -1,27 +1,29 @@
-use Rattle.std.proofs.Common.{refl, sym, ◌∙◌}
-use Rattle.smk_plan_live.specs.Lives.{progress_of}
+use Rattle.std.proofs.Common.{sym, ◌∙◌}
+use Rattle.smk_plan_states.proofs.Tabled.{table_at}
+use Rattle.smk_plan_live.specs.Lives.{progress_of, judging_of}
 use Rattle.smk_plan_live.proofs.Judging.{kept_are, wholes_are, judged_now}
 use Rattle.smk_plan_live.proofs.telling.tell_by.Goals as goal
+
+pub plan_now-requires : goal.plan_now-requires
+plan_now-requires c = record { table = (c.args.ready.wholes, c.in-Ok.ensures) }
 
 pub returns-clause-now : goal.returns-clause-now
 returns-clause-now c = λ facts judged image agree.
     let b = c.args.base.now in
     let s = c.args.settings.now in
     let r = c.args.ready in
-    let now = judged_now c.told_is_so.ensures.facts c.told_is_so.ensures.wholes b s image agree facts c.args.reasons c.args.forced.now judged r.wholes c.requires.wholes r.running c.requires.running in
-    let made = c.in-Ok.ensures.made image (progress_of b) (sym c.requires.ran) agree now in
-    record {
-      made = made;
-      back =
-          c.in-Ok-holds_back.ensures image s (progress_of b) refl agree.served
-          (wholes_are c.told_is_so.ensures.facts c.told_is_so.ensures.wholes b s image agree r.wholes c.requires.wholes)
-          (c.requires.kept ∙ kept_are b image s) made.states;
-    }
+    let at = judging_of image s b in
+    let told = table_at at b.jobs r.wholes c.in-Ok.table c.in-Ok.ensures (wholes_are c.told_is_so.ensures.facts c.told_is_so.ensures.wholes b s image agree r.wholes c.requires.wholes) agree.served in
+    let right = judged_now c.told_is_so.ensures.facts c.told_is_so.ensures.wholes b s image agree facts c.args.reasons c.args.forced judged r.running c.requires.running in
+    let made = c.in-Ok-plan_now.ensures.made image (progress_of b) agree (record { begun = sym c.requires.ran; told = told; right = right }) in
+    record { made = made; back = c.in-Ok-holds_back.ensures at b.jobs told (c.requires.kept ∙ kept_are b image s) made.states }
 
-pub returns-in-Err-clause-refused : goal.returns-in-Err-clause-refused
-returns-in-Err-clause-refused c = λ other facts judged image agree.
+pub returns-in-Err-plan_now-clause-refused : goal.returns-in-Err-plan_now-clause-refused
+returns-in-Err-plan_now-clause-refused c = λ other facts judged image agree.
     let b = c.args.base.now in
     let s = c.args.settings.now in
     let r = c.args.ready in
-    c.in-Err.ensures.refused other image (progress_of b) (sym c.requires.ran) agree
-    (judged_now c.told_is_so.ensures.facts c.told_is_so.ensures.wholes b s image agree facts c.args.reasons c.args.forced.now judged r.wholes c.requires.wholes r.running c.requires.running)
+    let at = judging_of image s b in
+    let told = table_at at b.jobs r.wholes c.in-Ok.table c.in-Ok.ensures (wholes_are c.told_is_so.ensures.facts c.told_is_so.ensures.wholes b s image agree r.wholes c.requires.wholes) agree.served in
+    let right = judged_now c.told_is_so.ensures.facts c.told_is_so.ensures.wholes b s image agree facts c.args.reasons c.args.forced judged r.running c.requires.running in
+    c.in-Err-plan_now.ensures.refused other image (progress_of b) agree (record { begun = sym c.requires.ran; told = told; right = right })

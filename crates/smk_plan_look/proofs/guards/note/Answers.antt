@@ -12,6 +12,6 @@ pub returns-clause-looked : goal.returns-clause-looked
 returns-clause-looked g c = looked_stat c.in_ok-stat.ensures
 
 pub returns-clause-told : goal.returns-clause-told
-returns-clause-told g c = λ w at tree.
+returns-clause-told g c = λ w at free.
     noted_file w.nodes c.args.place c.args.folder c.args.waiting.now _ c.if-folder.false
-    (c.is_read_only.ensures ∙ ap is_read_only (stat_told w c.stat.ensures c.in_ok-stat.was at (tree.unowned c.args.place)))
+    (c.is_read_only.ensures ∙ ap is_read_only (stat_told w c.stat.ensures c.in_ok-stat.was at free))

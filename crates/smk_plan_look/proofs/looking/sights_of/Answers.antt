@@ -5,7 +5,6 @@ use Rattle.smk_store.specs.Walking.{texts_of, path_in}
 use Rattle.smk_world.proofs.Devices.{looked_on, looked_memory, looked_then, still}
 use Rattle.smk_store.proofs.Loads.{one_more, all_found, paths_rise, is_text_path}
 use Rattle.smk_record.specs.Records.{are_rising}
-use Rattle.smk_store_members.proofs.Trees.{tree_still}
 use Rattle.smk_plan_look.proofs.Found.{path_pushed, sight_pushed}
 use Rattle.smk_plan_look.proofs.looking.sights_of.Goals as goal
 
@@ -30,10 +29,10 @@ loop-text-preserved g c =
       looked = looked_then v.looked c.in_ok-sight.ensures.looked;
       found = ap (λ l. l ++ filter is_path_text (texts_of c.next.new.self)) (path_pushed c.loop-text.sights _ c.in_ok-sight.sight path c.in_ok-push.ensures.ok c.in_ok-sight.ensures.path)
           ∙ one_more _ text (texts_of c.next.new.self) (texts_of c.loop-text.text-iterator) _ path is (ap texts_of c.in-Some.ensures.steps) v.found;
-      told = λ w at tree.
+      told = λ w at.
           let u = still w v.looked at in
           sight_pushed u.0.nodes w.nodes c.loop-text.sights _ c.in_ok-sight.sight path c.in_ok-push.ensures.ok c.in_ok-sight.ensures.path u.2
-          (c.in_ok-sight.ensures.told u.0 u.1 (tree_still w u.0 u.2 tree) (is_text_path text path is)) (v.told w at tree);
+          (λ free. c.in_ok-sight.ensures.told u.0 u.1 free (is_text_path text path is)) (v.told w at);
     }
 
 pub returns-clause-rising : goal.returns-clause-rising

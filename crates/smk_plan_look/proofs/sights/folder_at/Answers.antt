@@ -13,7 +13,7 @@ pub returns-clause-looked : goal.returns-clause-looked
 returns-clause-looked g c = looked_then c.in_ok-members.ensures.looked c.in_ok-guarded.ensures.looked
 
 pub returns-clause-told : goal.returns-clause-told
-returns-clause-told g c = λ w at tree path reads stat.
+returns-clause-told g c = λ w at free path reads stat.
     let u = still w c.in_ok-members.ensures.looked at in
-    folder_seen w u.0 u.2 c.args.path c.args.place.now c.args.stat c.in_ok-members.members c.in_ok-guarded.guarded tree c.requires.at path reads stat
-    (c.in_ok-members.ensures.told w at tree reads) (c.in_ok-guarded.ensures.told u.0 u.1)
+    folder_seen w u.0 u.2 c.args.path c.args.place.now c.args.stat c.in_ok-members.members c.in_ok-guarded.guarded free c.requires.at path reads stat
+    (c.in_ok-members.ensures.told w at free reads) (c.in_ok-guarded.ensures.told u.0 u.1)

@@ -10,5 +10,5 @@ pub returns-clause-looked : goal.returns-clause-looked
 returns-clause-looked g c = listings_looked c.in_ok-listed.ensures.listings
 
 pub returns-clause-told : goal.returns-clause-told
-returns-clause-told g c = λ w at tree reads.
-    listed_as w.nodes c.args.path.now _ _ c.members_in.ensures (c.in_ok-listed.ensures.told w at (open_folder w c.args.path.now tree reads))
+returns-clause-told g c = λ w at free reads.
+    listed_as w.nodes c.args.path.now _ _ c.members_in.ensures (c.in_ok-listed.ensures.told w at (open_folder w.nodes c.args.path.now free reads))

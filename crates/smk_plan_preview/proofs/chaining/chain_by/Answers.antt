@@ -2,14 +2,13 @@ use Rattle.std.proofs.Common.{sym, subst}
 use Rattle.smk_world.proofs.Devices.{looked_nothing, looked_as, looked_then}
 use Rattle.smk_store.specs.Loading.{IsStoreOf}
 use Rattle.smk_store.specs.Images.{seen}
-use Rattle.smk_store_members.proofs.Trees.{tree_still}
 use Rattle.smk_plan_preview.specs.Rounds as spec
-use Rattle.smk_plan_preview.proofs.Looked.{failed_on, kept, seen_moved, sink_as, is_not, memory_quiet}
+use Rattle.smk_plan_preview.proofs.Looked.{failed_on, kept, seen_moved, sink_as, is_not, memory_quiet, none_still}
 use Rattle.smk_plan_preview.proofs.Chains.{leads_begun, leads_next, last_round, chain_refused, round_ok}
 use Rattle.smk_plan_preview.proofs.chaining.chain_by.Goals as goal
 
 pub loop-init : goal.loop-init
-loop-init g c = record { looked = looked_nothing g.W.Files.act _; told = λ w at tree read st. leads_begun read c.args.ground.now.flow.now c.args.ground.now.settings.now (seen read w) _ c.new-lists.ensures }
+loop-init g c = record { looked = looked_nothing g.W.Files.act _; told = λ w at none read st. leads_begun read c.args.ground.now.flow.now c.args.ground.now.settings.now (seen read w) _ c.new-lists.ensures }
 
 pub returns-in_err-found-clause-looked : goal.returns-in_err-found-clause-looked
 returns-in_err-found-clause-looked g c =
@@ -19,41 +18,41 @@ pub returns-in_err-found-clause-no_sink : goal.returns-in_err-found-clause-no_si
 returns-in_err-found-clause-no_sink g c = sink_as c.make_round.result c.from_residual.result _ c.in_err-found.was c.from_residual.ensures.1 c.make_round.ensures.no_sink
 
 pub returns-in_err-found-clause-told : goal.returns-in_err-found-clause-told
-returns-in_err-found-clause-told g c = λ w at tree read st.
+returns-in_err-found-clause-told g c = λ w at none read st.
     let u = kept w c.loop.invariant.looked at in
     let image = seen_moved read w u.0 u.2 in
     chain_refused read c.args.ground.now.flow.now c.args.ground.now.settings.now (seen read w) c.loop.lists c.make_round.result c.from_residual.result _ c.in_err-found.was c.from_residual.ensures.1
     (subst (λ i. spec.HasRound read c.args.ground.now.flow.now c.args.ground.now.settings.now i c.loop.lists c.make_round.result) image
-    (c.make_round.ensures.told u.0 u.1 (tree_still w u.0 u.2.nodes tree) read (subst (λ i. IsStoreOf i c.args.ground.now.store.now) (sym image) st)))
-    (c.loop.invariant.told w at tree read st)
+    (c.make_round.ensures.told u.0 u.1 (none_still w u.0 u.2.nodes none) read (subst (λ i. IsStoreOf i c.args.ground.now.store.now) (sym image) st)))
+    (c.loop.invariant.told w at none read st)
 
 pub returns-then-is_empty-clause-looked : goal.returns-then-is_empty-clause-looked
 returns-then-is_empty-clause-looked g c =
     looked_then c.loop.invariant.looked c.in_ok-found.ensures.looked
 
 pub returns-then-is_empty-clause-told : goal.returns-then-is_empty-clause-told
-returns-then-is_empty-clause-told g c = λ w at tree read st.
+returns-then-is_empty-clause-told g c = λ w at none read st.
     let u = kept w c.loop.invariant.looked at in
     let image = seen_moved read w u.0 u.2 in
     last_round read c.args.ground.now.flow.now c.args.ground.now.settings.now (seen read w) c.loop.lists c.in_ok-found.found c.in_ok-found.ensures.lists (c.is_empty.ensures.0 c.if-is_empty.true)
     (round_ok read c.args.ground.now.flow.now c.args.ground.now.settings.now (seen read w) c.loop.lists c.make_round.result c.in_ok-found.found c.in_ok-found.was
     (subst (λ i. spec.HasRound read c.args.ground.now.flow.now c.args.ground.now.settings.now i c.loop.lists c.make_round.result) image
-    (c.make_round.ensures.told u.0 u.1 (tree_still w u.0 u.2.nodes tree) read (subst (λ i. IsStoreOf i c.args.ground.now.store.now) (sym image) st))))
-    (c.loop.invariant.told w at tree read st)
+    (c.make_round.ensures.told u.0 u.1 (none_still w u.0 u.2.nodes none) read (subst (λ i. IsStoreOf i c.args.ground.now.store.now) (sym image) st))))
+    (c.loop.invariant.told w at none read st)
 
 pub loop-preserved : goal.loop-preserved
 loop-preserved g c =
     record {
       looked = looked_then c.loop.invariant.looked c.in_ok-found.ensures.looked;
-      told = λ w at tree read st.
+      told = λ w at none read st.
           let u = kept w c.loop.invariant.looked at in
           let image = seen_moved read w u.0 u.2 in
           leads_next read c.args.ground.now.flow.now c.args.ground.now.settings.now (seen read w) c.loop.lists _ c.in_ok-found.found c.in_ok-found.ensures.lists c.in_ok-add_listings.ensures.ok
           (λ none. is_not c.is_empty.result c.if-is_empty.false (c.is_empty.ensures.1 none))
           (round_ok read c.args.ground.now.flow.now c.args.ground.now.settings.now (seen read w) c.loop.lists c.make_round.result c.in_ok-found.found c.in_ok-found.was
           (subst (λ i. spec.HasRound read c.args.ground.now.flow.now c.args.ground.now.settings.now i c.loop.lists c.make_round.result) image
-          (c.make_round.ensures.told u.0 u.1 (tree_still w u.0 u.2.nodes tree) read (subst (λ i. IsStoreOf i c.args.ground.now.store.now) (sym image) st))))
-          (c.loop.invariant.told w at tree read st);
+          (c.make_round.ensures.told u.0 u.1 (none_still w u.0 u.2.nodes none) read (subst (λ i. IsStoreOf i c.args.ground.now.store.now) (sym image) st))))
+          (c.loop.invariant.told w at none read st);
     }
 
 pub returns-in_err-add_listings-clause-looked : goal.returns-in_err-add_listings-clause-looked

@@ -3,13 +3,13 @@ use Rattle.smk_world.specs.Devices.{WhereTold, HasLooked}
 use Rattle.smk_record.specs.declared.record.Record.{Record}
 use Rattle.smk_store.specs.Images.{seen}
 use Rattle.smk_store.specs.Loading.{IsStoreOf}
-use Rattle.smk_store_members.specs.Disk.{IsTree}
+use Rattle.smk_store.specs.Unowned.{NoneOwned}
 use Rattle.smk_plan_preview.specs.Rounds.{Leads}
 use Rattle.smk_plan_preview.proofs.chaining.chain_by.Given as goal
 
 abbrev pub invariant-loop : goal.invariant-loop
 invariant-loop g l = record {
   looked : HasLooked g.W.Files.act (g.W.Files.device l.fn.work) (g.W.Files.device l.work) false;
-  told : WhereTold (g.W.Files.device l.fn.work) (λ w. IsTree w → (read : List ℕ → Option Record) → IsStoreOf (seen read w) l.ground.store.now
+  told : WhereTold (g.W.Files.device l.fn.work) (λ w. NoneOwned w → (read : List ℕ → Option Record) → IsStoreOf (seen read w) l.ground.store.now
       → Leads read l.ground.flow.now l.ground.settings.now (seen read w) l.lists);
 }

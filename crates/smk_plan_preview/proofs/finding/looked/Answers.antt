@@ -9,4 +9,4 @@ pub returns-clause-untold : goal.returns-clause-untold
 returns-clause-untold g c = look_untold c.look-found.result c.of_seen.result c.of_seen.ensures.is
 
 pub returns-clause-told : goal.returns-clause-told
-returns-clause-told g c = look_told c.look-found.result c.of_seen.result _ c.of_seen.ensures.is c.look-found.ensures.told
+returns-clause-told g c = look_told (g.W.Files.device c.args.work.now) c.args.jobs.now c.look-found.result c.of_seen.result c.of_seen.ensures.is c.look-found.ensures.told

@@ -1,11 +1,10 @@
 use Rattle.std.proofs.Common.{◌≡◌, true, false, ap, sym, subst, ◌∙◌}
 use Rattle.smk_world.proofs.Devices.{looked_as, looked_then}
 use Rattle.smk_store.specs.Loading.{IsStoreOf}
-use Rattle.smk_store_members.proofs.Trees.{tree_still}
+use Rattle.smk_store.proofs.Idle.{none_owned}
 use Rattle.smk_plan_preview.specs.Faults.{device_failed}
 use Rattle.smk_plan_preview.specs.Previewing.{HasPreviewed}
-use Rattle.smk_plan_preview.proofs.Looked.{kept, seen_moved}
-use Rattle.smk_plan_preview.proofs.OnDisk.{tree_of}
+use Rattle.smk_plan_preview.proofs.Looked.{kept, seen_moved, none_still}
 use Rattle.smk_plan_preview.proofs.previewing.preview.Goals as goal
 
 never : true ≡ false → ⊥
@@ -22,8 +21,9 @@ returns-in-Ok-clause-looked g c = looked_then c.in-Ok.ensures.looked c.preview_s
 
 pub returns-in-Ok-clause-told : goal.returns-in-Ok-clause-told
 returns-in-Ok-clause-told g c = λ w at read reads.
-    let tree = tree_of (g.met.W.Files.sound c.args.work.now) c.requires.none_runs w at in
+    let sound = g.met.W.Files.sound c.args.work.now in
+    let none = none_owned w (sound.owned w at) (sound.same_numbers w at ∙ c.requires.none_runs) in
     let u = kept w c.in-Ok.ensures.looked at in
     let image = seen_moved read w u.0 u.2 in
     subst (λ i. HasPreviewed read c.args.flow.now c.args.settings.now i c.preview_stored.result) image
-    (c.preview_stored.ensures.told u.0 u.1 (tree_still w u.0 u.2.nodes tree) read (subst (λ i. IsStoreOf i c.in-Ok.store) (sym image) (c.in-Ok.ensures.told w at tree read reads)))
+    (c.preview_stored.ensures.told u.0 u.1 (none_still w u.0 u.2.nodes none) read (subst (λ i. IsStoreOf i c.in-Ok.store) (sym image) (c.in-Ok.ensures.told w at none read reads)))

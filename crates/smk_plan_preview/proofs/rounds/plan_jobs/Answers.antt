@@ -12,12 +12,12 @@ pub returns-in-Err-clause-looked : goal.returns-in-Err-clause-looked
 returns-in-Err-clause-looked g c = looked_as (ap device_failed c.in-Err.is) c.looked.ensures.looked
 
 pub returns-in-Err-clause-told : goal.returns-in-Err-clause-told
-returns-in-Err-clause-told g c = λ w at tree read st ready told. absurd (never (sym told ∙ c.in-Err.ensures.untold))
+returns-in-Err-clause-told g c = λ w at none read st ready told. absurd (never (sym told ∙ c.in-Err.ensures.untold))
 
 pub returns-in-Ok-clause-looked : goal.returns-in-Ok-clause-looked
 returns-in-Ok-clause-looked g c = looked_as (sym c.plan_seen.ensures.no_device) c.in-Ok.ensures.looked
 
 pub returns-in-Ok-clause-told : goal.returns-in-Ok-clause-told
-returns-in-Ok-clause-told g c = λ w at tree read st ready.
+returns-in-Ok-clause-told g c = λ w at none read st ready.
     c.plan_seen.ensures.told (seen read w)
-    (agree_of read w c.args.flow.now c.args.settings.now.targets _ c.args.jobs c.args.store.now c.in-Ok.seen ((g.met.W.Files.sound _).formed w at) st (c.in-Ok.ensures.told w at tree read) ready) ready read
+    (agree_of read w c.args.flow.now c.args.settings.now.targets _ c.args.jobs c.args.store.now c.in-Ok.seen ((g.met.W.Files.sound _).formed w at) st (c.in-Ok.ensures.told w at none read) ready) ready read

@@ -12,7 +12,7 @@ returns-in-Err-clause-looked g c =
     looked_as (sym c.derived.ensures.no_device ∙ ap device_failed c.in-Err.is) (looked_nothing g.W.Files.act _)
 
 pub returns-in-Err-clause-told : goal.returns-in-Err-clause-told
-returns-in-Err-clause-told g c = λ w at tree read st listed sighted.
+returns-in-Err-clause-told g c = λ w at none read st listed sighted.
     derivation_told read c.args.ground.now.flow.now c.args.ground.now.settings.now (seen read w) c.args.lists.now c.derived.result c.in-Err.fault c.in-Err.is (c.derived.ensures.told (seen read w) (names_all read w ((g.met.W.Files.sound _).formed w at)) st listed sighted)
 
 pub returns-in-Ok-clause-lists : goal.returns-in-Ok-clause-lists
@@ -22,7 +22,7 @@ pub returns-in-Ok-clause-good : goal.returns-in-Ok-clause-good
 returns-in-Ok-clause-good g c = good_of c.args.ground.now.flow.now c.args.ground.now.settings.now c.plan_jobs.result c.in-Ok.jobs c.in-Ok.ensures.fit c.plan_jobs.ensures.jobs c.plan_jobs.ensures.sound
 
 pub returns-in-Ok-clause-told : goal.returns-in-Ok-clause-told
-returns-in-Ok-clause-told g c = λ w at tree read st listed sighted.
+returns-in-Ok-clause-told g c = λ w at none read st listed sighted.
     round_as read c.args.ground.now.flow.now c.args.ground.now.settings.now (seen read w) c.plan_jobs.result c.in-Ok.jobs c.args.lists.now c.in-Ok.ensures.lists
-    (c.plan_jobs.ensures.told w at tree read st
+    (c.plan_jobs.ensures.told w at none read st
     (ready_as c.args.ground.now.flow.now c.args.ground.now.settings.now.targets (seen read w) c.in-Ok.jobs c.derived.result c.args.lists.now c.in-Ok.is c.in-Ok.ensures.lists (c.derived.ensures.told (seen read w) (names_all read w ((g.met.W.Files.sound _).formed w at)) st listed sighted)))

@@ -4,11 +4,13 @@ use Rattle.smk_plan_states.specs.Judged.{with_states}
 use Rattle.smk_plan_table.proofs.Assembled.{judged}
 use Rattle.smk_plan_table.proofs.judging.judge.Goals as goal
 
-pub returns : goal.returns
-returns g c = λ image agree.
+pub returns-clause-judged : goal.returns-clause-judged
+returns-clause-judged g c = λ image agree.
     judged image c.args.settings.now c.args.ran.now c.args.jobs.now
-    c.in_ok-facts.facts c.in_ok-reasons.reasons c.in_ok-forced.forced c.in_ok-wholes.wholes c.in_ok-running.running
+    c.in_ok-facts.facts c.in_ok-reasons.reasons c.in_ok-forced.forced c.in_ok-running.running
     (c.in_ok-facts.ensures image (with_states c.args.jobs.now []) agree.stored agree.sighted agree.recorded agree.read)
     c.in_ok-reasons.ensures (c.in_ok-forced.ensures ∙ ap (map (λ (f : JobFacts). f.forced)) c.as_slice.ensures)
-    (c.in_ok-wholes.ensures image agree.stored agree.sighted agree.named agree.recorded agree.made)
     (c.in_ok-running.ensures ∙ ap (map (λ j. None)) c.as_slice-2.ensures)
+
+pub returns-clause-wholes : goal.returns-clause-wholes
+returns-clause-wholes g c = λ image agree. c.in_ok-wholes.ensures image agree.stored agree.sighted agree.named agree.recorded agree.made

@@ -17,7 +17,7 @@ returns-in-Ok-Some-clause-acted g c =
     (λ w at.
     first_one c.args.store.now w c.args.p.now c.in-Ok-Some.seen
     (if_told _ _ (Some c.in-Ok-Some.seen) (c.in-Ok-Some.is ∙ ap Ok c.in-Ok-Some.field-0-is) c.seen_under.ensures.told w at
-    (none_owned w ((g.met.W.Files.sound c.args.work.now).owned w at) ((g.met.W.Files.sound c.args.work.now).same_numbers w at ∙ c.requires.none_runs))))
+    (λ q inside. none_owned w ((g.met.W.Files.sound c.args.work.now).owned w at) ((g.met.W.Files.sound c.args.work.now).same_numbers w at ∙ c.requires.none_runs) q)))
 
 pub returns-in-Err-Failed-clause-acted : goal.returns-in-Err-Failed-clause-acted
 returns-in-Err-Failed-clause-acted g c = look_failed g.W.Files.act c.args.store.now c.args.p.now _ _ (looked_as (ap device_failed (c.in-Err-Failed.is ∙ ap Err c.in-Err-Failed.field-0-is)) c.seen_under.ensures.looked)
@@ -31,7 +31,7 @@ returns-then-is_none-clause-acted g c =
     (λ w at.
     unseen c.args.store.now w c.args.p.now
     (if_told _ _ None (c.in-Ok-None.is ∙ ap Ok c.in-Ok-None.field-0-is) c.seen_under.ensures.told w at
-    (none_owned w ((g.met.W.Files.sound c.args.work.now).owned w at) ((g.met.W.Files.sound c.args.work.now).same_numbers w at ∙ c.requires.none_runs))))
+    (λ q inside. none_owned w ((g.met.W.Files.sound c.args.work.now).owned w at) ((g.met.W.Files.sound c.args.work.now).same_numbers w at ∙ c.requires.none_runs) q)))
 
 pub returns-in-Ok-clear_all-clause-acted : goal.returns-in-Ok-clear_all-clause-acted
 returns-in-Ok-clear_all-clause-acted g c =
@@ -41,7 +41,7 @@ returns-in-Ok-clear_all-clause-acted g c =
     (λ w at.
     unseen c.args.store.now w c.args.p.now
     (if_told _ _ None (c.in-Ok-None.is ∙ ap Ok c.in-Ok-None.field-0-is) c.seen_under.ensures.told w at
-    (none_owned w ((g.met.W.Files.sound c.args.work.now).owned w at) ((g.met.W.Files.sound c.args.work.now).same_numbers w at ∙ c.requires.none_runs))))
+    (λ q inside. none_owned w ((g.met.W.Files.sound c.args.work.now).owned w at) ((g.met.W.Files.sound c.args.work.now).same_numbers w at ∙ c.requires.none_runs) q)))
     c.in-Ok-clear_all.ensures
 
 pub returns-clause-acted : goal.returns-clause-acted
@@ -52,5 +52,5 @@ returns-clause-acted g c =
     (λ w at.
     unseen c.args.store.now w c.args.p.now
     (if_told _ _ None (c.in-Ok-None.is ∙ ap Ok c.in-Ok-None.field-0-is) c.seen_under.ensures.told w at
-    (none_owned w ((g.met.W.Files.sound c.args.work.now).owned w at) ((g.met.W.Files.sound c.args.work.now).same_numbers w at ∙ c.requires.none_runs))))
+    (λ q inside. none_owned w ((g.met.W.Files.sound c.args.work.now).owned w at) ((g.met.W.Files.sound c.args.work.now).same_numbers w at ∙ c.requires.none_runs) q)))
     c.in-Err.ensures

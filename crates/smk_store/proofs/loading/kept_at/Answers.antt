@@ -1,9 +1,11 @@
 use Rattle.std.proofs.Common.{◌≡◌, ◌≢◌, subst, sym}
 use Rattle.smk_base.specs.Place.{record_place}
+use Rattle.smk_base.proofs.Under.{at_when_under}
 use Rattle.smk_world.specs.declared.event.NodeState.TheVariants.{Owned}
 use Rattle.smk_world.specs.World.{reading}
 use Rattle.smk_world.specs.Calls.{found_of}
 use Rattle.smk_world.proofs.Devices.{looked_read, looked_on, looked_memory}
+use Rattle.smk_store.specs.Loading.{store_folder}
 use Rattle.smk_store.proofs.Looks.{found_told}
 use Rattle.smk_store.proofs.Loads.{record_under}
 use Rattle.smk_store.proofs.loading.kept_at.Goals as goal
@@ -18,8 +20,8 @@ pub returns-clause-looked : goal.returns-clause-looked
 returns-clause-looked g c = looked_read c.in_ok-found.ensures
 
 pub returns-clause-told : goal.returns-clause-told
-returns-clause-told g c = λ w at filed some read reads.
+returns-clause-told g c = λ w at free some read reads.
     c.in_ok-kept_found.ensures read reads (reading (w.nodes (record_place c.args.path.now))) some
     (subst (λ q. c.in_ok-found.found ≡ found_of 33554432 (reading (w.nodes q))) c.in_ok-place.ensures
     (found_told w c.read.ensures c.in_ok-found.was at
-    (subst (λ q. w.nodes q ≢ Owned) (sym c.in_ok-place.ensures) (filed.unowned (record_place c.args.path.now) (record_under c.args.path.now)))))
+    (subst (λ q. w.nodes q ≢ Owned) (sym c.in_ok-place.ensures) (free (record_place c.args.path.now) (at_when_under (record_place c.args.path.now) store_folder (record_under c.args.path.now))))))

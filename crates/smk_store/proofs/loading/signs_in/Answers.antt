@@ -1,7 +1,8 @@
 use Rattle.std.proofs.Common.{refl}
 use Rattle.smk_base.specs.Place.{records_folder, marks_folder, notes_folder}
 use Rattle.smk_world.proofs.Devices.{looked_then, looked_on, looked_memory, still}
-use Rattle.smk_store.proofs.Looks.{filed_still}
+use Rattle.smk_store.specs.Loading.{store_folder}
+use Rattle.smk_store.proofs.Looks.{unowned_still}
 use Rattle.smk_store.proofs.Loads.{all_still}
 use Rattle.smk_store.proofs.loading.signs_in.Goals as goal
 
@@ -27,11 +28,11 @@ pub returns-clause-looked : goal.returns-clause-looked
 returns-clause-looked g c = looked_then (looked_then c.in_ok-records-2.ensures.looked c.in_ok-marks-2.ensures.looked) c.in_ok-notes-2.ensures.looked
 
 pub returns-clause-told : goal.returns-clause-told
-returns-clause-told g c = λ w at filed.
+returns-clause-told g c = λ w at free.
     let u = still w c.in_ok-records-2.ensures.looked at in
     let v = still w (looked_then c.in_ok-records-2.ensures.looked c.in_ok-marks-2.ensures.looked) at in
     record {
-      recorded = all_still w w records_folder c.in_ok-records.field-0 _ refl c.in_ok-records.ensures (c.in_ok-records-2.ensures.told w at filed);
-      marked = all_still w u.0 marks_folder c.in_ok-marks.field-0 _ u.2 c.in_ok-marks.ensures (c.in_ok-marks-2.ensures.told u.0 u.1 (filed_still w u.0 u.2 filed));
-      noted = all_still w v.0 notes_folder c.in_ok-notes.field-0 _ v.2 c.in_ok-notes.ensures (c.in_ok-notes-2.ensures.told v.0 v.1 (filed_still w v.0 v.2 filed));
+      recorded = all_still w w records_folder c.in_ok-records.field-0 _ refl c.in_ok-records.ensures (c.in_ok-records-2.ensures.told w at free);
+      marked = all_still w u.0 marks_folder c.in_ok-marks.field-0 _ u.2 c.in_ok-marks.ensures (c.in_ok-marks-2.ensures.told u.0 u.1 (unowned_still w.nodes u.0.nodes store_folder u.2 free));
+      noted = all_still w v.0 notes_folder c.in_ok-notes.field-0 _ v.2 c.in_ok-notes.ensures (c.in_ok-notes-2.ensures.told v.0 v.1 (unowned_still w.nodes v.0.nodes store_folder v.2 free));
     }

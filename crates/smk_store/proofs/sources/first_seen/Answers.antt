@@ -1,11 +1,8 @@
-use Rattle.std.proofs.Common.{◌≡◌, ◌≢◌, ap, sym, subst, take, ◌∙◌}
+use Rattle.std.proofs.Common.{◌≡◌, ap, take, ◌∙◌}
 use Rattle.std.proofs.lemmas.List.{take_all}
-use Rattle.smk_world.specs.declared.event.NodeState.{NodeState}
-use Rattle.smk_world.specs.declared.event.NodeState.TheVariants.{Owned}
-use Rattle.smk_world.specs.Trees.{Path}
 use Rattle.smk_store.specs.Sources.{earlier, is_seen, first_seen}
 use Rattle.smk_world.proofs.Devices.{looked_on, looked_memory, looked_then, still}
-use Rattle.smk_store.proofs.Seeing.{seen_next, seen_same}
+use Rattle.smk_store.proofs.Seeing.{seen_next, seen_same, source_free}
 use Rattle.smk_store.proofs.sources.first_seen.Goals as goal
 
 pub returns-in_err-seen-clause-looked : goal.returns-in_err-seen-clause-looked
@@ -21,14 +18,14 @@ loop-source-preserved g c =
     let x = c.source-item.result in
     record {
       looked = looked_then v.looked c.in_ok-seen.ensures.looked;
-      told = λ w at none.
+      told = λ w at free.
           let u = still w v.looked at in
           let seen : c.in_ok-seen.seen ≡ is_seen w x =
-          c.in_ok-seen.ensures.told u.0 u.1 (subst (λ (n : Path → NodeState). (q : Path) → n q ≢ Owned) (sym u.2) none) ∙ seen_same w u.0 x u.2 in
-          c.in_ok-first.ensures ∙ ap (λ f. earlier f x.path c.in_ok-seen.seen) (v.told w at none) ∙ ap (earlier (first_seen (is_seen w) (take c.loop-source.source-index c.args.sources.now)) x.path) seen
+          c.in_ok-seen.ensures.told u.0 u.1 (source_free w.nodes u.0.nodes c.args.sources.now c.loop-source.source-index x c.loop-source-test.true c.source-item.is u.2 free) ∙ seen_same w u.0 x u.2 in
+          c.in_ok-first.ensures ∙ ap (λ f. earlier f x.path c.in_ok-seen.seen) (v.told w at free) ∙ ap (earlier (first_seen (is_seen w) (take c.loop-source.source-index c.args.sources.now)) x.path) seen
           ∙ seen_next (is_seen w) c.args.sources.now c.loop-source.source-index x c.loop-source-test.true c.source-item.is;
     }
 
 pub returns-clause-told : goal.returns-clause-told
-returns-clause-told g c = λ w at none.
-    c.loop-source.invariant.told w at none ∙ ap (first_seen (is_seen w)) (take_all c.loop-source.source-index c.args.sources.now c.loop-source-test.false)
+returns-clause-told g c = λ w at free.
+    c.loop-source.invariant.told w at free ∙ ap (first_seen (is_seen w)) (take_all c.loop-source.source-index c.args.sources.now c.loop-source-test.false)

@@ -1,4 +1,5 @@
-use Rattle.std.proofs.Common.{ap, ◌∙◌}
+use Rattle.std.proofs.Common.{◌≢◌, ap, sym, subst, ◌∙◌}
+use Rattle.smk_world.specs.declared.event.NodeState.TheVariants.{Owned}
 use Rattle.smk_world.specs.World.{reading}
 use Rattle.smk_world.specs.Calls.{stat_of}
 use Rattle.smk_store.specs.Sources.{has_time}
@@ -13,7 +14,7 @@ pub returns-clause-looked : goal.returns-clause-looked
 returns-clause-looked g c = looked_stat c.in_ok-stat.ensures
 
 pub returns-clause-told : goal.returns-clause-told
-returns-clause-told g c = λ w at none.
+returns-clause-told g c = λ w at free.
     c.has_time.ensures ∙ ap (has_time c.args.source.now.time)
-    (stat_told w c.stat.ensures c.in_ok-stat.was at (none c.in_ok-place.place)
+    (stat_told w c.stat.ensures c.in_ok-stat.was at (subst (λ q. w.nodes q ≢ Owned) (sym c.in_ok-place.ensures) free)
     ∙ ap (λ q. stat_of (reading (w.nodes q))) c.in_ok-place.ensures)

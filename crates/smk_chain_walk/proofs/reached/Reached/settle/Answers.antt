@@ -11,10 +11,10 @@ pub returns-clause-keeps : goal.returns-clause-keeps
 returns-clause-keeps c = λ q e. note_keeps c.put.new.self c.note.new.self c.args.path.now (Some c.in_ok-number.number) c.in_ok-note.ensures.done q (ap is_some (c.put.ensures.done q) ∙ e)
 
 pub returns-clause-settled : goal.returns-clause-settled
-returns-clause-settled c = λ sources d cs e is wanted paths ready calm all h.
-    let flow = c.args.flow.now in
-    let L = c.args.lists.now in
+returns-clause-settled c = λ sources d cs served closes.
+    let flow = c.args.query.now.flow.now in
+    let L = c.args.query.now.lists.now in
     let p = c.args.path.now in
-    let put = c.in_ok-number.ensures.put sources p d cs e is wanted paths ready h in
+    let put = c.in_ok-number.ensures.put sources p d cs served closes.holds in
     holds_note flow sources L c.put.new.self c.note.new.self (added cs d) p (Some c.in_ok-number.number) c.note.ensures.jobs c.note.ensures.befores c.note.ensures.numbers c.in_ok-note.ensures.done
-    c.in_ok-note.ensures.makers (done_job flow sources L (added cs d) p d c.in_ok-number.number e calm all put.1) put.0
+    c.in_ok-note.ensures.makers (done_job flow sources L (added cs d) p d c.in_ok-number.number served.chosen closes.calm closes.called put.1) put.0

@@ -23,5 +23,5 @@ returns c =
     (c.in_ok-chosen.ensures (λ p. told_choice (choose flow sources p))
     (λ n lt. right_choice flow sources reach these n (one.spans n lt)
     (λ j s. ap (λ (hs : List (Option ℕ)). is_within 199 (height_at hs j)) c.deref.ensures.value ∙ c.in_ok-heights.ensures flow sources 199 199 j (omega arith) (omega arith) s)))
-    first one.grows 200 one.within c.args.paths.now
+    first one.grown.grows 200 one.within c.args.paths.now
     (subst (λ (ps : List Path). AllByRecursion (HasNumber first.paths.items) ps) c.as_slice.ensures c.in_ok-reach.ensures.are)

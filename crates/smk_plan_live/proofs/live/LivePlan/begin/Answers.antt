@@ -57,10 +57,10 @@ returns-in-Ok-clause-live c =
     let settled : IsSettled p.settings b p.facts.items p.reasons.items x.facts.items =
     subst (λ l. IsSettled p.settings b p.facts.items p.reasons.items l)
     (sym
-    (c.in-Ok.ensures.facts r.0 (ap (λ (y : Base). slice_get y.jobs.jobs n) is ∙ r.1)
+    (c.in-Ok.ensures.next.facts r.0 (ap (λ (y : Base). slice_get y.jobs.jobs n) is ∙ r.1)
     ∙ (λ i. renewed_from (known_now b) (seen_now b) (contains_text b.sources) false (outs_of (r.0).recipe) n 0 b.jobs.jobs (c.as_slice.ensures.value i))))
     (begun_settled p c.requires.live n c.args.state r.0 r.1 r.2 c.requires.waiting b is)
     in
-    installed p c.install.new.self b x.facts.items x.reasons.items x.plan x.held settled c.in-Ok.ensures.reasons c.in-Ok.ensures.each c.in-Ok.ensures.targets
-    (c.in-Ok.ensures.now (coe 1 0 (i. IsSettled p.settings b (c.as_slice.ensures.value i) (c.as_slice-2.ensures.value i) x.facts.items) settled))
+    installed p c.install.new.self b x.facts.items x.reasons.items x.plan x.held settled c.in-Ok.ensures.next.reasons c.in-Ok.ensures.next.each c.in-Ok.ensures.next.targets
+    (c.in-Ok.ensures.next.now (coe 1 0 (i. IsSettled p.settings b (c.as_slice.ensures.value i) (c.as_slice-2.ensures.value i) x.facts.items) settled))
     c.install.ensures.base.0 c.install.ensures.base.1 c.install.ensures.facts c.install.ensures.reasons c.install.ensures.plan.0 c.install.ensures.plan.1

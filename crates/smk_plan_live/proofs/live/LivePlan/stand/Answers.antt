@@ -13,3 +13,9 @@ pub returns-in-Err-clause-refused : goal.returns-in-Err-clause-refused
 returns-in-Err-clause-refused g c = λ other.
     subst (λ s. IsRefusedNow c.args.self.now.settings (with_seen s c.args.base) c.in-Err.fault) c.swap.ensures.x_after
     (c.in-Err.ensures.refused other (seen_sound c.args.base c.swap.new.x c.requires.sound))
+
+pub returns-in-Ok-clause-live : goal.returns-in-Ok-clause-live
+returns-in-Ok-clause-live g c =
+    let t = c.in-Ok.ensures.told in
+    let sound = seen_sound c.args.base c.swap.new.x c.requires.sound in
+    record { sound = sound; texts = t.texts; each = t.each; targets = t.targets; facts = λ served. t.facts; reasons = t.reasons; now = t.now sound }

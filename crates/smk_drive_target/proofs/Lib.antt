@@ -1,0 +1,3 @@
+pub mod OneMoment
+pub mod Logs
+pub mod CopyRow

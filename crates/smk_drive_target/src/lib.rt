@@ -1,0 +1,2 @@
+//! A run, from the plan to the report, as the call is to make it.
+#![tactic(auto)]
