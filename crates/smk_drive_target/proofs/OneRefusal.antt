@@ -19,7 +19,8 @@ use Rattle.smk_laws_history.proofs.CurrentComplete.{seen_is_complete}
 use Rattle.smk_drive.specs.Moments.{Rules, Moment, IsMoment, begun_of, progress_of, seen, serial_of}
 use Rattle.smk_drive.specs.Refusals.{ChainRefuses, DerivationRefuses, IsFault, NextRefuses, PlanRefuses, record_length, refused_of}
 use Rattle.smk_drive_target.specs.Refusals.{IsSameFault, MomentRefuses, PlansAreRefused, NoSerial, LongRecord, RunRefuses, OneChainRefusal, OneRefusal}
-use Rattle.smk_drive_target.proofs.OneMoment.{formed_at, head_same, one_moment, tail_same}
+use Rattle.smk_drive_target.proofs.Fronts.{GoesOn, fronts, head_same, tail_same}
+use Rattle.smk_drive_target.proofs.OneMoment.{formed_at, one_moment}
 
 -- ## Derivations
 
@@ -134,27 +135,6 @@ module _ (rules : Rules) (entry : World) (m : Moment) where
       (long_one e k o p (some_inj e k (sym next.first ∙ next2.first)) (before, after, split, none, long) (before2, after2, split2, none2, long2))
 
 -- ## Runs
-
-abbrev GoesOn : List Event → List Event → Type 0
-GoesOn xs ys = (z : Event) × (zs : List Event) × (ys ≡ xs ++ z ∷ zs)
-
-longer : (x y : Event) (xs ys : List Event) → x ≡ y → GoesOn xs ys → GoesOn (x ∷ xs) (y ∷ ys)
-longer x y xs ys e (z, zs, h) = (z, zs, λ i. sym e i ∷ h i)
-
--- of two fronts of a log one goes on to the other
-fronts : (xs ys later later2 : List Event) → xs ++ later ≡ ys ++ later2 → (xs ≡ ys) ⊎ GoesOn xs ys ⊎ GoesOn ys xs
-fronts [] [] later later2 h = inl refl
-fronts [] (y ∷ ys) later later2 h = inr (inl (y, ys, refl))
-fronts (x ∷ xs) [] later later2 h = inr (inr (x, xs, refl))
-fronts (x ∷ xs) (y ∷ ys) later later2 h = go (fronts xs ys later later2 (tail_same x y (xs ++ later) (ys ++ later2) h))
-  where
-    first : x ≡ y
-    first = head_same x y (xs ++ later) (ys ++ later2) h
-
-    go : (xs ≡ ys) ⊎ GoesOn xs ys ⊎ GoesOn ys xs → (x ∷ xs ≡ y ∷ ys) ⊎ GoesOn (x ∷ xs) (y ∷ ys) ⊎ GoesOn (y ∷ ys) (x ∷ xs)
-    go (inl e) = inl (λ i. first i ∷ e i)
-    go (inr (inl more)) = inr (inl (longer x y xs ys first more))
-    go (inr (inr more)) = inr (inr (longer y x ys xs (sym first) more))
 
 pub one_refusal : OneRefusal
 one_refusal rules entry log f g formed x y = go (fronts x.events y.events x.rest y.rest (sym x.split ∙ y.split))
