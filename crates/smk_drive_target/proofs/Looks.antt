@@ -115,17 +115,17 @@ module _ (rules : Rules) where
     after_look : (events : List Event) (m : Moment) (call : Call) → is_look call ≡ true → IsMoment rules entry events m → Follow events (look call) m
     after_look events m (Looked p r) h is =
         still events m (look (Looked p r))
-        (begun_kept (with_end m.world (after m.world (look (Looked p r))) (Looked p r)) (λ k. begins rules m (look (Looked p r)) k.0) (begun_of rules entry m) m.begun (staged_now m.plan)
+        (begun_kept (with_end rules m.world (after m.world (look (Looked p r))) (Looked p r)) (λ k. begins rules m (look (Looked p r)) k.0) (begun_of rules entry m) m.begun (staged_now m.plan)
         (λ b. refl) (λ k. never _ _ (none_any (places k.0))))
         refl refl refl is
     after_look events m (ReadFile p limit r) h is =
         still events m (look (ReadFile p limit r))
-        (begun_kept (with_end m.world (after m.world (look (ReadFile p limit r))) (ReadFile p limit r)) (λ k. begins rules m (look (ReadFile p limit r)) k.0) (begun_of rules entry m) m.begun
+        (begun_kept (with_end rules m.world (after m.world (look (ReadFile p limit r))) (ReadFile p limit r)) (λ k. begins rules m (look (ReadFile p limit r)) k.0) (begun_of rules entry m) m.begun
         (staged_now m.plan) (λ b. refl) (λ k. never _ _ (none_any (places k.0))))
         refl refl refl is
     after_look events m (ReadFolder p r) h is =
         still events m (look (ReadFolder p r))
-        (begun_kept (with_end m.world (after m.world (look (ReadFolder p r))) (ReadFolder p r)) (λ k. begins rules m (look (ReadFolder p r)) k.0) (begun_of rules entry m) m.begun
+        (begun_kept (with_end rules m.world (after m.world (look (ReadFolder p r))) (ReadFolder p r)) (λ k. begins rules m (look (ReadFolder p r)) k.0) (begun_of rules entry m) m.begun
         (staged_now m.plan) (λ b. refl) (λ k. never _ _ (none_any (places k.0))))
         refl refl refl is
     after_look events m (Written p bytes r) h is = absurd (true≢false (sym h))
