@@ -1,5 +1,6 @@
 pub mod Empty
 mod OneWorkflow
+mod FirstFault
 mod Called
 mod Enough
 mod Rows

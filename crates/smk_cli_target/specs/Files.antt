@@ -61,6 +61,10 @@ OneWorkflow = (w : RunWords) (entry : World) (a b : Flow) → ReadsAs w entry a 
 abbrev pub NoFaultyWorkflow : Type 0
 NoFaultyWorkflow = (w : RunWords) (entry : World) (flow : Flow) (f : Fault) → ReadsAs w entry flow → ¬ FailsToRead w entry f
 
+-- What is wrong with them first is one fault.
+abbrev pub OneFirstFault : Type 0
+OneFirstFault = (w : RunWords) (entry : World) (f g : Fault) → FailsToRead w entry f → FailsToRead w entry g → f ≡ g
+
 -- ## What is made
 
 abbrev pub settings_of : RunWords → List Path → Settings

@@ -99,8 +99,8 @@ module _ (rules : Rules) where
             let there = at_rest events m is r in (
               _,
               AtRest events m e m.plan is (subst (λ bs. is_rest (after m.world e) bs ≡ true) (sym begun) (sym rests ∙ r))
-              (subst (λ bs. IsInForce rules (after m.world e) bs m.lists m.plan) (sym begun)
-              (force_same m.world (after m.world e) m.begun m.lists m.plan reads runs there.0)),
+                  (subst (λ bs. IsInForce rules (after m.world e) bs m.lists m.plan) (sym begun)
+                  (force_same m.world (after m.world e) m.begun m.lists m.plan reads runs there.0)),
               record { begun = begun; plan = refl; lists = there.1 },
             )
         go false r = (
