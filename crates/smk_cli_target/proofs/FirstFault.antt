@@ -1,5 +1,5 @@
 -- Rules and clauses that make no workflow have one first fault, and so have files.
-use Rattle.std.proofs.Common.{◌≡◌, ◌⊎◌, ℕ, zero, suc, Bool, true, false, true≢false, List, [], ◌∷◌, ◌++◌, Option, Some, None, Result, Ok, Err, refl, sym, ap, subst, inl, inr, ◌∙◌}
+use Rattle.std.proofs.Common.{◌≡◌, ◌⊎◌, ℕ, zero, suc, Bool, true, false, true≢false, List, [], ◌∷◌, ◌++◌, Option, Some, Result, Ok, Err, sym, ap, subst, inl, inr, ◌∙◌}
 use Rattle.std.specs.Prelude.{slice_get, take}
 use Rattle.std.proofs.lemmas.Option.{same_Some, none-some}
 use Rattle.smk_pattern.specs.Limits.{IsLimit}
@@ -12,10 +12,9 @@ use Rattle.smk_flow.specs.declared.rule.Clause.{Clause}
 use Rattle.smk_flow.specs.declared.rule.RulePart.{RulePart}
 use Rattle.smk_flaws.specs.declared.fault.LoadFault.{LoadFault}
 use Rattle.smk_flaws.specs.Faults.{of_eval, of_flow}
-use Rattle.smk_report.specs.declared.fault.Fault.{Fault}
 use Rattle.smk_report.specs.Faults.{of_load}
 use Rattle.smk_eval.specs.Loading.{loaded, FailsAs}
-use Rattle.smk_cli_target.specs.Files.{IsNoFile, IsFaulty, OneFirstFault, file_of}
+use Rattle.smk_cli_target.specs.Files.{IsNoFile, IsFaulty, OneFirstFault}
 use Rattle.smk_cli_target.proofs.OneWorkflow.{err_same, ok_err, ok_same}
 
 both : {A : Type 0} (b : Bool) → b ≡ true → b ≡ false → A

@@ -1,12 +1,11 @@
 -- A look leaves what has begun and the plan in force.
-use Rattle.std.proofs.Common.{◌≡◌, Bool, true, false, ◌&&◌, List, [], ◌∷◌, ◌++◌, map, filter, refl, sym, ap, subst, ◌∙◌, Option, Some, None, IsTrue, append-nil, true≢false}
+use Rattle.std.proofs.Common.{◌≡◌, Bool, true, false, ◌&&◌, List, [], ◌∷◌, ◌++◌, map, filter, refl, sym, ap, subst, ◌∙◌, Option, Some, None, append-nil, true≢false}
 use Rattle.std.specs.List.{list_any}
 use Rattle.smk_world.specs.declared.event.Call.{Call}
 use Rattle.smk_world.specs.declared.event.Call.TheVariants.{Looked, ReadFile, ReadFolder, Written, Created, Removed, MadeParents, Settled, Protected, Started, Waited}
 use Rattle.smk_world.specs.declared.event.Event.{Event}
 use Rattle.smk_world.specs.Devices.{is_look}
 use Rattle.smk_world.specs.World.{World, after}
-use Rattle.smk_world.specs.Trees.{Path}
 use Rattle.smk_flow.specs.declared.job.Job.{Job}
 use Rattle.smk_flow.specs.Flows.{Flow}
 use Rattle.smk_store.specs.Images.{Image}
@@ -14,7 +13,7 @@ use Rattle.smk_chain.specs.Derive.{Listings}
 use Rattle.smk_trigger.specs.declared.reason.State.{State}
 use Rattle.smk_pick.specs.declared.settings.Settings.{Settings}
 use Rattle.smk_plan.specs.States.{Plan, Progress, LastPlan, Last, Then}
-use Rattle.smk_drive.specs.Moments.{Rules, Moment, Begun, IsMoment, AtEntry, AtRest, Between, IsInForce, begins, begun_after, begun_of, has_begun, is_rest, lists_of, places, progress_of, seen, staged_now, with_end}
+use Rattle.smk_drive.specs.Moments.{Rules, Moment, Begun, IsMoment, AtEntry, AtRest, Between, IsInForce, begins, begun_after, begun_of, is_rest, lists_of, places, progress_of, seen, staged_now, with_end}
 use Rattle.smk_drive_target.specs.Moments.{IsStill, LooksKeepMoments}
 use Rattle.smk_drive_target.proofs.OneMoment.{one_moment}
 
