@@ -1,2 +1,6 @@
-mod Empty
+pub mod Empty
+mod OneWorkflow
+mod FirstFault
+mod Called
 mod Enough
+mod Rows

@@ -1,5 +1,5 @@
 -- What a run goes by: the workflow that the files of a folder are, the paths that target words stand for, and how records read.
-use Rattle.std.specs.Prelude.{◌≡◌, ◌⊎◌, Bool, true, List, Option, Some, None, Result, Ok, Err, is_none}
+use Rattle.std.specs.Prelude.{◌≡◌, true, List, Option, Some, None, Result, Ok, Err, is_none}
 use Rattle.smk_world.specs.World.{World}
 use Rattle.smk_world.specs.Trees.{Path, Act}
 use Rattle.smk_pattern.specs.Shapes.{Text}
@@ -12,13 +12,13 @@ use Rattle.smk_store.specs.Images as images
 use Rattle.smk_store.specs.Soundness.{Outside}
 use Rattle.smk_chain.specs.Mean.{Setting, setting_of}
 use Rattle.smk_pick.specs.declared.settings.Settings.{Settings}
+use Rattle.smk_flaws.specs.declared.fault.LoadFault.{LoadFault}
 use Rattle.smk_report.specs.declared.fault.Fault.{Fault}
+use Rattle.smk_report.specs.Faults.{of_load}
 use Rattle.smk_eval_files.specs.Looks.{Nodes}
-use Rattle.smk_eval.specs.declared.load_fault.LoadFault.{LoadFault}
 use Rattle.smk_eval.specs.Faults as load
 use Rattle.smk_eval.specs.Loading.{loaded, Gives}
-use Rattle.smk_cli_target.specs.Entry.{of_load}
-use Rattle.smk_cli_target.specs.Entry.{workflow_file}
+use Rattle.smk_cli_entry.specs.Names.{workflow_file}
 use Rattle.smk_drive.specs.Moments.{Rules}
 use Rattle.smk_cli_target.specs.declared.asked.RunWords.{RunWords}
 
@@ -56,6 +56,14 @@ pub data FailsToRead (w : RunWords) (entry : World) : Fault → Type 0 where
 -- Files are one workflow.
 abbrev pub OneWorkflow : Type 0
 OneWorkflow = (w : RunWords) (entry : World) (a b : Flow) → ReadsAs w entry a → ReadsAs w entry b → a ≡ b
+
+-- And where they are one, nothing is wrong with them.
+abbrev pub NoFaultyWorkflow : Type 0
+NoFaultyWorkflow = (w : RunWords) (entry : World) (flow : Flow) (f : Fault) → ReadsAs w entry flow → ¬ FailsToRead w entry f
+
+-- What is wrong with them first is one fault.
+abbrev pub OneFirstFault : Type 0
+OneFirstFault = (w : RunWords) (entry : World) (f g : Fault) → FailsToRead w entry f → FailsToRead w entry g → f ≡ g
 
 -- ## What is made
 

@@ -1,3 +1,6 @@
+pub mod Fronts
+mod Listed
 pub mod OneMoment
-pub mod Logs
-pub mod CopyRow
+pub mod HasMoment
+pub mod Looks
+pub mod OneRefusal
