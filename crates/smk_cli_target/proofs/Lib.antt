@@ -4,3 +4,4 @@ mod FirstFault
 mod Called
 mod Enough
 mod Rows
+mod ClashRow

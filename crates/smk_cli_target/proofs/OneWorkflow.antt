@@ -1,5 +1,5 @@
 -- Files are one workflow, or else something is wrong with them.
-use Rattle.std.proofs.Common.{◌≡◌, ◌⊎◌, sym, ap, subst, inl, inr, ◌∙◌, Result, Ok, Err}
+use Rattle.std.proofs.Common.{◌≡◌, ◌⊎◌, sym, ap, subst, inl, inr, ◌∙◌, Result, Ok, Err, arith}
 use Rattle.smk_flow.specs.Checks.{IsWorkflow}
 use Rattle.smk_flow.specs.Flows.{Flow}
 use Rattle.smk_flow.proofs.NoFault.{no_fault}
