@@ -1,0 +1,110 @@
+-- A temporary file is made, read by two jobs, and taken away; and runs that take it away too early or don't settle it.
+use Rattle.std.proofs.Common.{◌≡◌, ◌⊎◌, ℕ, Bool, true, false, List, [], ◌∷◌, ◌++◌, map, codes, Ok, refl, sym, subst, inl, inr, true≢false, arith}
+use Rattle.std.specs.Fmt.{digits}
+use Rattle.smk_base.specs.Path.{is_at_or_under, is_under}
+use Rattle.smk_base.proofs.Under.{at_or_under_cases, rest_under}
+use Rattle.smk_world.specs.declared.event.Node.TheVariants.{Regular}
+use Rattle.smk_world.specs.declared.event.Event.{Event}
+use Rattle.smk_world.specs.declared.event.Call.TheVariants.{Removed, Settled}
+use Rattle.smk_world.specs.World.{World, Nodes, IsFormed, world_of, run, firmly, reading}
+use Rattle.smk_world.specs.Trees.{Path}
+use Rattle.smk_flow.specs.declared.job.Job.{Job}
+use Rattle.smk_plan.specs.States.{job_path}
+use Rattle.smk_drive.specs.Moments.{Rules}
+use Rattle.smk_flow.proofs.Examples.{temporary_with, cat}
+use Rattle.smk_plan.proofs.Plans.{u_and_v, temporary_jobs, temporary_records}
+use Rattle.smk_drive.proofs.Turns.{reader, event}
+use Rattle.smk_drive_target.specs.Lawful.{Lawful}
+use Rattle.smk_drive_target.specs.Keeping.{KeepsOutputs, IsSettled as IsSettledAt}
+use Rattle.smk_drive_target.specs.Reports.{IsRunText}
+use Rattle.smk_drive_rows.proofs.Logs.{IsSettled, last, last_is}
+use Rattle.smk_drive_rows.proofs.Checker.{IsChecked, started}
+use Rattle.smk_drive_rows.proofs.Keeping.{Keeps}
+use Rattle.smk_drive_rows.proofs.Telling.{lines_of, is_report}
+use Rattle.smk_drive_rows.proofs.Events.{formed_of, rules_by, doing, of_job, IsGood, good}
+
+abbrev pub t : Path
+t = codes "t"
+
+abbrev pub nodes : Nodes
+nodes = (codes "s", Regular (codes "q") 1 false) ∷ []
+
+abbrev pub entry : World
+entry = world_of nodes
+
+formed : IsFormed entry
+formed = formed_of nodes refl
+
+abbrev pub rules : Rules
+rules = rules_by (temporary_with cat) u_and_v (reader temporary_records)
+
+pub their_order : map job_path temporary_jobs ≡ t ∷ codes "u" ∷ codes "v" ∷ []
+their_order = refl
+
+-- the temporary file and its first reader
+abbrev pub half : List Event
+half = of_job temporary_jobs 0 (doing 1 t (codes "q")) ++ of_job temporary_jobs 1 (doing 2 (codes "u") (codes "q"))
+
+abbrev pub removal : Event
+removal = event (Removed t (Ok tt)) []
+
+abbrev pub log : List Event
+log = half ++ (of_job temporary_jobs 2 (doing 3 (codes "v") (codes "q")) ++ (removal ∷ event (Settled (t ∷ []) (Ok tt)) [] ∷ []))
+
+settled : IsSettled rules entry log
+settled = record { entry = refl; rests = (refl, (refl, (refl, (refl, (refl, (refl, (refl, (refl, (refl, (refl, (refl, tt))))))))))) }
+
+is_checked : IsChecked rules entry log 0
+is_checked =
+    record {
+      settled = settled;
+      events = refl;
+      end = refl;
+      starts = (
+        (_, inl refl, refl, refl, refl, started rules entry _ _ refl),
+        (
+          (_, inr (inl refl), refl, refl, refl, started rules entry _ _ refl),
+          ((_, inr (inr (inl refl)), refl, refl, refl, started rules entry _ _ refl), tt),
+        ),
+      );
+      writes = (refl, (refl, (refl, tt)));
+      waited = inl refl;
+    }
+
+-- nothing at or under it may come back
+gone_for_good : IsSettledAt (run entry log) t
+gone_for_good q h = go (at_or_under_cases q t h)
+  where
+    go : (q ≡ t) ⊎ (is_under q t ≡ true) → (run entry log).nodes q ≡ firmly (reading ((run entry log).nodes q))
+    go (inl e) = subst (λ x. (run entry log).nodes x ≡ firmly (reading ((run entry log).nodes x))) (sym e) refl
+    go (inr u) = let r = rest_under q t u in subst (λ x. (run entry log).nodes x ≡ firmly (reading ((run entry log).nodes x))) (sym r.1) refl
+
+kept : Keeps rules entry log
+kept = record { late = refl; settled = ((λ spent. gone_for_good), tt); protected = refl }
+
+pub is_good : IsGood rules entry log 0
+is_good = good rules entry log 0 formed is_checked refl kept
+
+pub its_report : IsRunText rules entry log (lines_of
+    (codes "start t t"
+    ∷ codes "done t t"
+    ∷ codes "start u u"
+    ∷ codes "done u u"
+    ∷ codes "start v v"
+    ∷ codes "done v v"
+    ∷ codes "current u"
+    ∷ codes "current v"
+    ∷ codes "summary: 3 started, 3 done, 0 failed"
+    ∷ []))
+unfolding digits
+its_report = is_report rules entry formed log settled _ refl
+
+-- ## Wrong runs
+
+half_settled : IsSettled rules entry half
+half_settled = record { entry = refl; rests = (refl, (refl, (refl, (refl, (refl, (refl, tt)))))) }
+
+-- it is taken away while the other reader still waits for it
+pub removes_early : (status : ℕ) → Lawful rules entry (half ++ removal ∷ []) status → ⊥
+removes_early status l =
+    true≢false (sym ((l.each half removal [] (last rules entry half) refl (last_is rules entry formed half half_settled)).changes t refl))
