@@ -1,5 +1,5 @@
 -- A call whose log is empty meets the clauses, with want of memory.
-use Rattle.std.proofs.Common.{◌≡◌, ◌≤◌, ℕ, Bool, true, false, List, [], ◌∷◌, ◌++◌, Option, Some, None, refl, sym, subst, inl, inr, IsTrue, arith}
+use Rattle.std.proofs.Common.{◌≡◌, ◌≤◌, ℕ, Bool, true, false, List, [], ◌∷◌, ◌++◌, Option, Some, None, refl, sym, subst, inl, inr, IsTrue, arith, true≢false}
 use Rattle.std.specs.Prelude.{nat_le, nat_eq, cond, codes}
 use Rattle.std.specs.List.{list_all}
 use mathlib.Core.Path.{fun_ext}
@@ -30,6 +30,8 @@ use Rattle.smk_cli_target.specs.declared.asked.Outcome.{Outcome}
 use Rattle.smk_cli_target.specs.Ends.{CurrentIsClean, Stays, IsClean}
 use Rattle.smk_cli_target.specs.Clauses.{IsRefusal, RunsWell, EndsEarly, HasUnlocked, HasForgotten, LeavesLittle, IsComplete, HasLog, HasText, HasTold, Leaves, forgotten_lines}
 use Rattle.smk_cli_target.specs.Files as files
+use Rattle.smk_cli_target.specs.Generating.{generated_lines}
+use Rattle.smk_cli_target.specs.Refusing.{is_met_at_once}
 
 pub no_split : (events : List Event) (e : Event) (rest : List Event) → [] ≡ events ++ e ∷ rest → ⊥
 no_split [] e rest h = grind arith
@@ -174,6 +176,12 @@ gone = record { status = 5; fault = Some fault.OutOfMemory }
 not_device : ◌≡◌ {A = Option Fault} (Some fault.OutOfMemory) (Some fault.Device) → ⊥
 not_device h = cc
 
+some_same : (f g : Fault) → Some f ≡ Some g → f ≡ g
+some_same f g h = cc
+
+not_early : (f : Fault) → fault.OutOfMemory ≡ f → IsTrue (is_met_at_once f) → ⊥
+not_early f same early = absurd (true≢false (sym (subst (λ g. is_met_at_once g ≡ true) (sym same) early)))
+
 no_refusal : {A : Type 0} → IsRefusal 5 → A
 no_refusal (inl h) = not_two h
 no_refusal (inr h) = not_three h
@@ -203,7 +211,6 @@ module _ (act : Act) (words : List (List ℕ)) (w : World) where
         of_listing = λ good asked rules is by clean. inr (inl refl);
         of_unlock = λ is. inr (inl refl);
         of_forgetting = λ paths nolock is. inr (inl refl);
-        of_generate = λ seed size is. inr (inl refl);
       }
 
   little_left : LeavesLittle act words 5 w []
@@ -229,10 +236,17 @@ module _ (act : Act) (words : List (List ℕ)) (w : World) where
         outside = λ h start q out. stays_same w q;
         of_run = λ good asked rules is by. runs_at_start rules w good.sound.no_child;
         crashes = λ good paths to_the_end forgets h. (kept_at_start _ w paths to_the_end, listed_at_start _ w to_the_end);
-        refusal = record { only = λ f is h. no_refusal h; always = λ f refuses steady. inr refl };
+        refusal =
+            record {
+              only_at_once = λ f is early. absurd (not_early f (some_same fault.OutOfMemory f is) early);
+              only = λ good f is h. no_refusal h;
+              always_at_once = λ steady f refuses. inr refl;
+              always = λ good steady f refuses. inr refl;
+            };
         job_fault = λ f is h. not_one h;
         unlock = λ is. unlocked_at_start;
         forgetting = λ paths nolock is. forgotten_at_start paths nolock;
+        generating = λ seed size is. record { untouched = refl; done = λ steady. inr (inl refl) };
         leftovers = little_left;
         complete = λ steady. complete_at_start;
       }
@@ -259,4 +273,5 @@ module _ (act : Act) (words : List (List ℕ)) (w : World) where
         listing = λ asked rules is by. (λ h. not_zero h, λ h. inl refl, λ h. refl);
         unlock = λ is. ((unlocked_line, refl), λ h. not_zero h);
         forgetting = λ paths nolock is. ((forgotten_lines (files.seen w) [] paths, refl), λ h. not_zero h);
+        generating = λ seed size is. ((generated_lines seed size, refl), λ h. not_zero h);
       }

@@ -1,2 +1,5 @@
 mod Empty
+mod OneWorkflow
+mod Called
 mod Enough
+mod Rows

@@ -28,7 +28,8 @@ use Rattle.smk_cli_target.specs.declared.asked.RunWords.{RunWords}
 use Rattle.smk_cli_target.specs.Words.{IsAsked}
 use Rattle.smk_cli_target.specs.Files.{GoesBy, outside, seen}
 use Rattle.smk_cli_target.specs.Ends.{IsGoodEntry, Put, AsRun, AsListing, AreQuiet, HasFailedCall, IsSame, Stays, EndsWell, CurrentIsClean, HasCleanTargets, HasOnlyFolderMarks, FailedSo, HasOwnStatus}
-use Rattle.smk_cli_target.specs.Refusing.{RefusesAtOnce, Refuses, is_let_in, forgettable, IsNamed, IsNamedInListing, IsNamedInForgetting, none_named}
+use Rattle.smk_cli_target.specs.Generating.{generated_lines}
+use Rattle.smk_cli_target.specs.Refusing.{RefusesAtOnce, Refuses, is_met_at_once, is_let_in, forgettable, IsNamed, IsNamedInListing, IsNamedInForgetting, none_named}
 
 -- ## Counts
 
@@ -124,14 +125,17 @@ KeepsGood act words old new entry log =
 
 -- ## Refusals and faults
 
+-- the fault is this refusal, or want of memory
+abbrev pub TellsRefusal : Outcome → Fault → Type 0
+TellsRefusal outcome f = ((g : Fault) × (outcome.fault ≡ Some g) × IsSameFault f g) ⊎ (outcome.fault ≡ Some fault.OutOfMemory)
+
 -- A fault of status 2 or 3 is the first refusal that the call meets; and where it meets one and no count rose, that is the fault, or
--- want of memory.
-pub record IsRefused (words : List Text) (outcome : Outcome) (old new : Device) (out_old out_new : Sunk) (entry : World) (log : List Event) : Type 0 where
-  pub only : (f : Fault) → outcome.fault ≡ Some f → IsRefusal outcome.status → Refuses words entry log f
-  pub always :
-      (f : Fault) →
-      Refuses words entry log f →
-      AreSteady old new out_old out_new → ((g : Fault) × (outcome.fault ≡ Some g) × IsSameFault f g) ⊎ (outcome.fault ≡ Some fault.OutOfMemory)
+-- want of memory. What is met at once needs no good entry.
+pub record IsRefused (act : Act) (words : List Text) (outcome : Outcome) (old new : Device) (out_old out_new : Sunk) (entry : World) (log : List Event) : Type 0 where
+  pub only_at_once : (f : Fault) → outcome.fault ≡ Some f → IsTrue (is_met_at_once f) → RefusesAtOnce words entry f
+  pub only : IsGoodEntry act entry → (f : Fault) → outcome.fault ≡ Some f → IsRefusal outcome.status → Refuses words entry log f
+  pub always_at_once : AreSteady old new out_old out_new → (f : Fault) → RefusesAtOnce words entry f → TellsRefusal outcome f
+  pub always : IsGoodEntry act entry → AreSteady old new out_old out_new → (f : Fault) → Refuses words entry log f → TellsRefusal outcome f
 
 -- a status that isn't the command's own comes only where the count rose
 abbrev pub OwnStatus : Act → Device → Device → World → List Event → Fault → Type 0
@@ -166,7 +170,6 @@ pub record IsComplete (act : Act) (words : List Text) (outcome : Outcome) (entry
       HasCleanTargets act rules entry → IsDoneUnless (λ f. IsNamedInListing f ⊎ ClashingChainRefuses rules (seen entry) nothing_done [] f) outcome)
   pub of_unlock : IsAsked words Unlock → IsDoneUnless none_named outcome
   pub of_forgetting : (paths : List Path) (nolock : Bool) → IsAsked words (Forget paths nolock) → IsDoneUnless IsNamedInForgetting outcome
-  pub of_generate : (seed size : ℕ) → IsAsked words (Generate seed size) → IsDoneUnless none_named outcome
 
 -- ## The other commands
 
@@ -195,6 +198,11 @@ pub record HasForgotten (paths : List Path) (nolock : Bool) (status : ℕ) (entr
   pub all : status ≡ 0 → AreForgotten paths exit
   pub lock : status ≡ 0 → reading (exit.nodes lock_place) ≡ reading (entry.nodes lock_place)
   pub front : status ≡ 3 → IsTrue (is_let_in nolock entry) → AreForgotten (forgettable (seen entry) paths) exit
+
+-- `--generate` makes no call of the device, and is done unless a put failed or memory is wanting.
+pub record HasGenerated (outcome : Outcome) (out_old out_new : Sunk) (log : List Event) : Type 0 where
+  pub untouched : log ≡ []
+  pub done : IsSteady out_old.faults out_new.faults → IsDoneUnless none_named outcome
 
 -- the line of each path in its turn; a path that comes again is known no more
 abbrev pub forgotten_lines : Image → List Path → List Path → Text
@@ -240,11 +248,12 @@ module _ (act : Act) (words : List Text) (outcome : Outcome) where
     pub of_run : IsGoodEntry act entry → AsRun words entry (λ rules. RunsWell rules entry log outcome.status)
     -- after every prefix of the log a crash leaves something sound in which directories are listed, and so is the world at the end
     pub crashes : KeepsGood act words old new entry log
-    pub refusal : IsRefused words outcome old new out_old out_new entry log
+    pub refusal : IsRefused act words outcome old new out_old out_new entry log
     pub job_fault : HasJobFault act words outcome old new entry log
-    -- the commands on the lock and on what is known
+    -- the other commands
     pub unlock : IsAsked words Unlock → HasUnlocked outcome.status entry (run entry log)
     pub forgetting : (paths : List Path) (nolock : Bool) → IsAsked words (Forget paths nolock) → HasForgotten paths nolock outcome.status entry (run entry log)
+    pub generating : (seed size : ℕ) → IsAsked words (Generate seed size) → HasGenerated outcome out_old out_new log
     -- what a refusal, want of memory or a sink's fault leaves
     pub leftovers : LeavesLittle act words outcome.status entry log
     -- what a clean run gives is made, unless a named refusal stands
@@ -258,11 +267,12 @@ module _ (act : Act) (words : List Text) (outcome : Outcome) where
     pub of_run : IsGoodEntry act entry → outcome.status ≤ 1 → AsRun words entry (λ rules. EndsWell act rules entry log outcome.status text)
     pub early : IsGoodEntry act entry → 2 ≤ outcome.status → AsRun words entry (λ rules. EndsEarly act rules entry log outcome.status text)
     pub listing : AsListing words entry (λ rules. HasListed rules entry outcome.status text)
-    -- the commands on the lock and on what is known
+    -- the other commands
     pub unlock : IsAsked words Unlock → IsWholeFor outcome.status unlocked_line text
     pub forgetting :
         (paths : List Path) (nolock : Bool) →
         IsAsked words (Forget paths nolock) → IsWholeFor outcome.status (forgotten_lines (seen entry) [] paths) text
+    pub generating : (seed size : ℕ) → IsAsked words (Generate seed size) → IsWholeFor outcome.status (generated_lines seed size) text
 
 -- ## `err`
 

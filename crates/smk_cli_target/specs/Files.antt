@@ -12,13 +12,13 @@ use Rattle.smk_store.specs.Images as images
 use Rattle.smk_store.specs.Soundness.{Outside}
 use Rattle.smk_chain.specs.Mean.{Setting, setting_of}
 use Rattle.smk_pick.specs.declared.settings.Settings.{Settings}
+use Rattle.smk_flaws.specs.declared.fault.LoadFault.{LoadFault}
 use Rattle.smk_report.specs.declared.fault.Fault.{Fault}
+use Rattle.smk_report.specs.Faults.{of_load}
 use Rattle.smk_eval_files.specs.Looks.{Nodes}
-use Rattle.smk_eval.specs.declared.load_fault.LoadFault.{LoadFault}
 use Rattle.smk_eval.specs.Faults as load
 use Rattle.smk_eval.specs.Loading.{loaded, Gives}
-use Rattle.smk_cli_target.specs.Entry.{of_load}
-use Rattle.smk_cli_target.specs.Entry.{workflow_file}
+use Rattle.smk_cli_entry.specs.Names.{workflow_file}
 use Rattle.smk_drive.specs.Moments.{Rules}
 use Rattle.smk_cli_target.specs.declared.asked.RunWords.{RunWords}
 
@@ -56,6 +56,10 @@ pub data FailsToRead (w : RunWords) (entry : World) : Fault → Type 0 where
 -- Files are one workflow.
 abbrev pub OneWorkflow : Type 0
 OneWorkflow = (w : RunWords) (entry : World) (a b : Flow) → ReadsAs w entry a → ReadsAs w entry b → a ≡ b
+
+-- And where they are one, nothing is wrong with them.
+abbrev pub NoFaultyWorkflow : Type 0
+NoFaultyWorkflow = (w : RunWords) (entry : World) (flow : Flow) (f : Fault) → ReadsAs w entry flow → ¬ FailsToRead w entry f
 
 -- ## What is made
 

@@ -8,7 +8,7 @@ use Rattle.smk_world.specs.declared.event.Event.{Event}
 use Rattle.smk_world.specs.World.{World, Nodes, run, world_of, in_paths}
 use Rattle.smk_world.specs.Devices.{Device, Sunk}
 use Rattle.smk_world.specs.Folders.{IsLeft}
-use Rattle.smk_world.specs.Runs.{Follows}
+use Rattle.smk_world.specs.Runs.{Did, Follows}
 use Rattle.smk_world.specs.Trees.{Path, Act, Each}
 use Rattle.smk_pattern.specs.Shapes.{Text}
 use Rattle.smk_store.specs.Images.{is_source}
@@ -26,7 +26,7 @@ use Rattle.smk_drive_target.specs.Reports.{HasLine}
 use Rattle.smk_record.specs.Reading.{record_in}
 use Rattle.smk_cli_target.specs.declared.asked.Outcome.{Outcome}
 use Rattle.smk_cli_target.specs.Files.{outside, seen}
-use Rattle.smk_cli_target.specs.Ends.{IsGoodEntry, AsRun, CurrentIsClean, HasCleanTargets}
+use Rattle.smk_cli_target.specs.Ends.{IsGoodEntry, Put, AsRun, CurrentIsClean, HasCleanTargets}
 use Rattle.smk_cli_target.specs.Refusing.{IsNamed}
 use Rattle.smk_cli_target.specs.Clauses.{HasLog, HasText, AreToForget, AreSteady, IsSteady}
 
@@ -36,6 +36,32 @@ pub record IsMet (act : Act) (words : List Text) (outcome : Outcome) (old new : 
   pub has_log : HasLog act words outcome old new out_old out_new entry log
   pub paths : List Path
   pub to_forget : AreToForget words paths
+
+-- What its clauses say of a call's world and of its `out`.
+pub record IsCalled (act : Act) (words : List Text) (outcome : Outcome) (old new : Device) (out_old out_new : Sunk) : Type 0 where
+  pub log : Did act old.world new.world (HasLog act words outcome old new out_old out_new)
+  pub text : Did act old.world new.world (λ entry log. Put out_old out_new (HasText act words outcome entry log))
+
+-- The call led from a told folder to this one, by one log that meets the contract, and put a text by that log.
+pub record HasLed (act : Act) (words : List Text) (outcome : Outcome) (old new : Device) (out_old out_new : Sunk) (exit : World) (bytes : Text) : Type 0 where
+  pub entry : World
+  pub log : List Event
+  pub text : Text
+  pub before : Text
+  pub begins : old.world ≡ Some entry
+  pub ends : exit ≡ run entry log
+  pub was_put : out_old.put ≡ Some before
+  pub is_put : bytes ≡ before ++ text
+  pub met : IsMet act words outcome old new out_old out_new entry log
+  pub has_text : HasText act words outcome entry log text
+
+-- So the clauses give, where the folder and the bytes of `out` are told at the end.
+abbrev pub ClausesAreMet : Type 0
+ClausesAreMet =
+    (act : Act) (words : List Text) (outcome : Outcome) (old new : Device) (out_old out_new : Sunk) (paths : List Path) (exit : World) (bytes : Text) →
+    AreToForget words paths →
+    IsCalled act words outcome old new out_old out_new →
+    new.world ≡ Some exit → out_new.put ≡ Some bytes → HasLed act words outcome old new out_old out_new exit bytes
 
 -- it was whole: it isn't a `--cleanup-metadata` in which the device failed
 abbrev pub IsWhole : List Path → Device → Device → Type 0

@@ -1,8 +1,8 @@
 pub mod Words
 pub mod Files
 pub mod Ends
+pub mod Generating
 pub mod Refusing
 pub mod Clauses
-pub mod Entry
 pub mod Headline
 pub mod Thrift

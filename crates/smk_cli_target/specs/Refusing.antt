@@ -1,5 +1,5 @@
 -- The first refusal that a call meets.
-use Rattle.std.specs.Prelude.{◌≡◌, ◌⊎◌, ℕ, Bool, false, ◌&&◌, ◌||◌, not, List, [], ◌∷◌, ◌++◌, filter, bytes_eq, if◌then◌else◌, IsTrue, Some}
+use Rattle.std.specs.Prelude.{◌≡◌, ◌⊎◌, ℕ, Bool, true, false, ◌&&◌, ◌||◌, not, List, [], ◌∷◌, ◌++◌, filter, bytes_eq, if◌then◌else◌, IsTrue, Some}
 use Rattle.std.specs.List.{list_any}
 use Rattle.smk_base.specs.Path.{is_at_or_under}
 use Rattle.smk_world.specs.declared.event.Event.{Event}
@@ -43,6 +43,15 @@ pub data RefusesAtOnce (words : List Text) (entry : World) : Fault → Type 0 wh
       IsAsked words (Run w) → GoesBy w entry rules → w.nolock ≡ false → IsTrue (seen entry).locked → RefusesAtOnce words entry fault.Locked
   LockRefusesForgetting :
       (paths : List Path) → IsAsked words (Forget paths false) → IsTrue (seen entry).locked → RefusesAtOnce words entry fault.Locked
+
+-- faults that are told of nothing else
+abbrev pub is_met_at_once : Fault → Bool
+is_met_at_once fault.BadWords = true
+is_met_at_once fault.NoCores = true
+is_met_at_once (fault.Workflow flaw) = true
+is_met_at_once (fault.BadTarget word) = true
+is_met_at_once fault.Locked = true
+is_met_at_once f = false
 
 -- the call may go on: no lock stands at the entry, or none is heeded
 abbrev pub is_let_in : Bool → World → Bool

@@ -1,17 +1,26 @@
 //! The call of the program as it is to be: what it promises.
 #![tactic(auto)]
 
-ghost use Rattle.smk_cli_target.specs.Headline.{CameIsGood, CameIsHistory, Headline};
+ghost use Rattle.smk_cli_target.specs.Files.{NoFaultyWorkflow, OneWorkflow};
+ghost use Rattle.smk_cli_target.specs.Headline.{CameIsGood, CameIsHistory, ClausesAreMet, Headline};
 
 mod asked;
 mod call;
 
 pub use asked::{Asked, Outcome, RunWords};
 
-/// A program that meets the contract has the headline. Folders that come by its calls, by edits, removals and crashes are those of a
-/// history, and each is a good entry for the next call. So after any of these a run reports current only what a clean run from the
-/// sources would give, starts no job on an output of an unfinished one, and makes what a clean run gives, unless a named refusal stands.
+/// The files of a folder are one workflow, with what the words set; and then nothing is wrong with them.
+pub fn workflow_is_one()
+    ensures one { OneWorkflow }
+    ensures faultless { NoFaultyWorkflow }
+{}
+
+/// A program that meets the contract has the headline. Its clauses speak of one log, where the folder and the bytes of `out` are told.
+/// Folders that come by its calls, by edits, removals and crashes are those of a history, and each is a good entry for the next call.
+/// So after any of these a run reports current only what a clean run from the sources would give, starts no job on an output of an
+/// unfinished one, and makes what a clean run gives, unless a named refusal stands.
 pub fn contract_is_enough()
+    ensures met { ClausesAreMet }
     ensures history { CameIsHistory }
     ensures good { CameIsGood }
     ensures headline { Headline }

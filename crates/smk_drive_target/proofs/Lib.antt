@@ -1,3 +1,8 @@
+pub mod Fronts
+mod Listed
 pub mod OneMoment
+pub mod HasMoment
+pub mod Looks
+pub mod OneRefusal
 pub mod Logs
 pub mod CopyRow

@@ -9,33 +9,7 @@ use Rattle.smk_drive.specs.Moments.{Rules, Moment, Begun, IsMoment, AtEntry, AtR
 use Rattle.smk_laws_plan.proofs.PlanOne.{one_last_plan}
 use Rattle.smk_laws_history.proofs.CurrentComplete.{seen_is_complete}
 use Rattle.smk_drive_target.specs.Moments.{OneMoment}
-
--- ## Lists of events
-
-head_same : {A : Type 0} (x y : A) (xs ys : List A) → x ∷ xs ≡ y ∷ ys → x ≡ y
-head_same x y xs ys h = cc
-
-tail_same : {A : Type 0} (x y : A) (xs ys : List A) → x ∷ xs ≡ y ∷ ys → xs ≡ ys
-tail_same x y xs ys h = cc
-
-pub none_last : {A : Type 0} (xs : List A) (x : A) → [] ≡ xs ++ x ∷ [] → ⊥
-none_last [] x h = cc
-none_last (y ∷ xs) x h = cc
-
-front_same : {A : Type 0} (xs ys : List A) (x y : A) → xs ++ x ∷ [] ≡ ys ++ y ∷ [] → xs ≡ ys
-front_same [] [] x y h = refl
-front_same [] (z ∷ ys) x y h = absurd (none_last ys y (tail_same x z [] (ys ++ y ∷ []) h))
-front_same (z ∷ xs) [] x y h = absurd (none_last xs x (sym (tail_same z y (xs ++ x ∷ []) [] h)))
-front_same (z ∷ xs) (w ∷ ys) x y h =
-    let first = head_same z w (xs ++ x ∷ []) (ys ++ y ∷ []) h in
-    let rest = front_same xs ys x y (tail_same z w (xs ++ x ∷ []) (ys ++ y ∷ []) h) in
-    λ i. first i ∷ rest i
-
-last_same : {A : Type 0} (xs ys : List A) (x y : A) → xs ++ x ∷ [] ≡ ys ++ y ∷ [] → x ≡ y
-last_same [] [] x y h = head_same x y [] [] h
-last_same [] (z ∷ ys) x y h = absurd (none_last ys y (tail_same x z [] (ys ++ y ∷ []) h))
-last_same (z ∷ xs) [] x y h = absurd (none_last xs x (sym (tail_same z y (xs ++ x ∷ []) [] h)))
-last_same (z ∷ xs) (w ∷ ys) x y h = last_same xs ys x y (tail_same z w (xs ++ x ∷ []) (ys ++ y ∷ []) h)
+use Rattle.smk_drive_target.proofs.Fronts.{front_same, last_same, none_last}
 
 -- ## Plans in force
 

@@ -1,11 +1,12 @@
 -- What a run has started, and what is said of each event of its log.
-use Rattle.std.specs.Prelude.{◌≡◌, Bool, false, List, ◌∷◌, ◌++◌, filter, bytes_eq, Ok}
+use Rattle.std.specs.Prelude.{◌≡◌, Bool, true, false, List, [], ◌∷◌, ◌++◌, filter, bytes_eq, Ok}
 use Rattle.std.specs.List.{list_any}
 use lib.Pointwise.{pointwise}
 use Rattle.smk_world.specs.declared.event.Call.{Call}
 use Rattle.smk_world.specs.declared.event.Call.TheVariants.{Started}
 use Rattle.smk_world.specs.declared.event.Event.{Event}
 use Rattle.smk_world.specs.World.{World, IsFormed, out_paths}
+use Rattle.smk_world.specs.Devices.{is_look}
 use Rattle.smk_flow.specs.declared.job.Job.{Job}
 use Rattle.smk_drive.specs.Moments.{Rules, Moment, Begun, IsMoment}
 
@@ -38,3 +39,17 @@ OneMoment =
 -- After any events there is a moment.
 abbrev pub HasMoment : Type 0
 HasMoment = (rules : Rules) (entry : World) (events : List Event) → IsFormed entry → (m : Moment) × IsMoment rules entry events m
+
+-- the same jobs have begun, and the same plan is in force
+pub record IsStill (before now : Moment) : Type 0 where
+  pub begun : now.begun ≡ before.begun
+  pub plan : now.plan ≡ before.plan
+  pub lists : now.lists ≡ before.lists
+
+-- So it is after a look.
+abbrev pub LooksKeepMoments : Type 0
+LooksKeepMoments =
+    (rules : Rules) (entry : World) (events : List Event) (call : Call) (before now : Moment) →
+    IsFormed entry →
+    is_look call ≡ true →
+    IsMoment rules entry events before → IsMoment rules entry (events ++ record { call = call; left = [] } ∷ []) now → IsStill before now

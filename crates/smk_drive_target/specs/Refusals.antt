@@ -1,7 +1,7 @@
 -- The refusals that a run meets, at its entry and at rests.
 use Rattle.std.specs.Prelude.{◌≡◌, ◌≢◌, ◌⊎◌, ◌<◌, ℕ, List, [], ◌∷◌, ◌++◌, ◌^◌, IsTrue, Option, Some}
 use Rattle.std.specs.List.{flat_map}
-use Rattle.smk_world.specs.World.{World}
+use Rattle.smk_world.specs.World.{World, IsFormed}
 use Rattle.smk_world.specs.Trees.{Each, outs_of}
 use Rattle.smk_world.specs.declared.recipe.Out.{Out}
 use Rattle.smk_world.specs.declared.event.Event.{Event}
@@ -15,7 +15,8 @@ use Rattle.smk_report.specs.declared.fault.Fault.{Fault}
 use Rattle.smk_report.specs.declared.fault.Fault.TheVariants as fault
 use Rattle.smk_drive.specs.Moments.{Rules, Moment, IsMoment, seen, is_rest, progress_of, serial_of, begun_of, begins, staged_now}
 use Rattle.smk_drive.specs.Lawful.{goes_on, first_of}
-use Rattle.smk_drive.specs.Refusals.{IsFault, PlansRefuse, record_length, refused_of}
+use Rattle.smk_drive.specs.Refusals.{ChainRefuses, IsFault, PlansRefuse, record_length, refused_of}
+use Rattle.smk_laws_plan.specs.Current.{IsComplete}
 use Rattle.smk_drive_target.specs.Moments.{AtEachEvent}
 use Rattle.smk_drive_target.specs.Lawful.{may_start}
 
@@ -68,6 +69,20 @@ abbrev pub BeginsUnrefused : Rules → World → List Event → Type 0
 BeginsUnrefused rules entry log =
     AtEachEvent rules entry log (λ m e.
     Each (λ (k : Job × State). IsTrue (begins rules m e k.0) → ((f : Fault) → ¬ MomentRefuses rules entry m f) × NoneBefore rules entry m.events) (staged_now m.plan))
+
+-- ## One refusal
+
+-- A chain of plans of a complete image is refused in one way;
+abbrev pub OneChainRefusal : Type 0
+OneChainRefusal =
+    (rules : Rules) (image : Image) (progress : Progress) (lists : Listings) (f g : Fault) →
+    IsComplete image → ChainRefuses rules image progress lists f → ChainRefuses rules image progress lists g → IsSameFault f g
+
+-- and of a run there is one first refusal.
+abbrev pub OneRefusal : Type 0
+OneRefusal =
+    (rules : Rules) (entry : World) (log : List Event) (f g : Fault) →
+    IsFormed entry → RunRefuses rules entry log f → RunRefuses rules entry log g → IsSameFault f g
 
 -- ## Clashes
 

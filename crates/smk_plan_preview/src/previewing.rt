@@ -1,6 +1,6 @@
 //! Previews.
 
-ghost use Rattle.std.specs.Prelude.{◌≡◌, ℕ, List as Items, Option, [], IfOk, IfErr, false};
+ghost use Rattle.std.specs.Prelude.{◌≡◌, ℕ, List as Items, Option, IfOk, IfErr, false};
 ghost use Rattle.smk_world.specs.Devices.{HasLooked, WhereTold};
 ghost use Rattle.smk_record.specs.declared.record.Record.{Record as RecordValue};
 ghost use Rattle.smk_record.specs.Spelling.{ReadsRecords};
@@ -56,7 +56,7 @@ fn preview_stored<W: Files, Rt: Threads + Sync>(
     }
 }
 
-/// Derives and plans the jobs that the targets call for, again and again with the listings that have become known, until no further one does. Nothing is changed. No child runs before.
+/// Derives and plans the jobs that the targets call for, again and again with the listings that have become known, until no further one does. Nothing is changed.
 ///
 /// The fault is the first that is refused of one of these plans: `TooManyPaths`, `Deep`, `NoRule`, `NoInput`, `Ambiguous`, `MissingMember`, `NoCommand` and `Clash` of its derivation;
 /// then `Incomplete`, `Protected`, `AboveLimit`, and `UnknownField` and `TooLong` of a command. `Device`: a call of the device failed. `OutOfMemory`: there is no memory for a plan.
@@ -67,10 +67,11 @@ pub fn preview<W: Files, Rt: Threads + Sync>(
     settings: &Settings,
     work: &mut W,
 ) -> Result<Previewed, Fault>
-    requires none_runs { (W.device work.old).running ≡ [] }
     ensures looked { HasLooked W.act (W.device work.old) (W.device work.new) (device_failed result) }
     ensures no_sink { IfErr result (λ f. is_sink f ≡ false) }
-    ensures told { WhereTold (W.device work.old) (λ w. (read : Items ℕ → Option RecordValue) → ReadsRecords read
+
+    // Where no running child owns a place, it is the preview of the folder as it stands.
+    ensures told { WhereTold (W.device work.old) (λ w. NoneOwned w → (read : Items ℕ → Option RecordValue) → ReadsRecords read
         → HasPreviewed read flow.now settings.now (seen read w) result) }
 
     // The jobs can be run with this plan, whatever the folder is.

@@ -23,4 +23,3 @@ pub record IsStoreOf (image : Image) (store : List Known) : Type 0 where
 -- the folder under which records, marks and notes stand
 abbrev pub store_folder : Path
 store_folder = codes ".snakemake/smk"
-

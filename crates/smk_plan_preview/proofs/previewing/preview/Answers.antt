@@ -1,7 +1,6 @@
 use Rattle.std.proofs.Common.{◌≡◌, true, false, ap, sym, subst, ◌∙◌}
 use Rattle.smk_world.proofs.Devices.{looked_as, looked_then}
 use Rattle.smk_store.specs.Loading.{IsStoreOf}
-use Rattle.smk_store.proofs.Idle.{none_owned}
 use Rattle.smk_plan_preview.specs.Faults.{device_failed}
 use Rattle.smk_plan_preview.specs.Previewing.{HasPreviewed}
 use Rattle.smk_plan_preview.proofs.Looked.{kept, seen_moved, none_still}
@@ -14,15 +13,13 @@ pub returns-in-Err-clause-looked : goal.returns-in-Err-clause-looked
 returns-in-Err-clause-looked g c = looked_as (ap device_failed c.in-Err.is) c.stored.ensures.looked
 
 pub returns-in-Err-clause-told : goal.returns-in-Err-clause-told
-returns-in-Err-clause-told g c = λ w at read reads told. absurd (never (sym told ∙ c.in-Err.ensures.untold))
+returns-in-Err-clause-told g c = λ w at none read reads told. absurd (never (sym told ∙ c.in-Err.ensures.untold))
 
 pub returns-in-Ok-clause-looked : goal.returns-in-Ok-clause-looked
 returns-in-Ok-clause-looked g c = looked_then c.in-Ok.ensures.looked c.preview_stored.ensures.looked
 
 pub returns-in-Ok-clause-told : goal.returns-in-Ok-clause-told
-returns-in-Ok-clause-told g c = λ w at read reads.
-    let sound = g.met.W.Files.sound c.args.work.now in
-    let none = none_owned w (sound.owned w at) (sound.same_numbers w at ∙ c.requires.none_runs) in
+returns-in-Ok-clause-told g c = λ w at none read reads.
     let u = kept w c.in-Ok.ensures.looked at in
     let image = seen_moved read w u.0 u.2 in
     subst (λ i. HasPreviewed read c.args.flow.now c.args.settings.now i c.preview_stored.result) image

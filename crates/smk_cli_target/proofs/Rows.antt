@@ -1,11 +1,15 @@
--- Times that were seen before, computed.
-use Rattle.std.specs.Prelude.{◌≡◌, false, [], ◌∷◌, codes, refl}
+-- Computed: times that were seen before, and what `--generate` tells.
+use Rattle.std.specs.Prelude.{◌≡◌, false, [], ◌∷◌, ◌++◌, codes, refl}
+use Rattle.std.specs.Fmt.{digits}
 use Rattle.smk_flow.specs.Flows.{Flow}
 use Rattle.smk_record.specs.declared.record.Stamp.TheVariants.{Time}
 use Rattle.smk_store.specs.Images.{Image}
-use Rattle.smk_cli_contract.specs.Refusing.{seen_in_turn, forgettable}
+use Rattle.smk_cli_target.specs.Generating.{generated_lines}
+use Rattle.smk_cli_target.specs.Refusing.{seen_in_turn, forgettable}
 use Rattle.smk_flow.proofs.Examples.{cp, rule, input, output, flow_of}
 use Rattle.smk_chain.proofs.Folders.{file, fresh, image_with, recorded, jobs_in}
+
+-- ## Times
 
 abbrev other : Flow
 other = flow_of (rule false (codes "other") (input (codes "out.txt") ∷ []) (output [] (codes "other.txt")) cp ∷ [])
@@ -28,3 +32,10 @@ in_turn = refl
 
 pub both_forgotten : forgettable back (codes "other.txt" ∷ codes "out.txt" ∷ []) ≡ codes "other.txt" ∷ codes "out.txt" ∷ []
 both_forgotten = refl
+
+-- ## Generated files
+
+pub seven_three :
+    generated_lines 7 3
+    ≡ codes "generated 3 samples" ++ 10 ∷ codes "first run: 4 started" ++ 10 ∷ codes "second run: 0 started" ++ 10 ∷ codes "after an edit: 2 started" ++ 10 ∷ codes "total: 15 bytes" ++ 10 ∷ []
+seven_three = refl

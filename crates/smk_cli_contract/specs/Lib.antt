@@ -1,4 +1,0 @@
-pub mod Meanings
-pub mod Ends
-pub mod Refusing
-pub mod Clauses
