@@ -1,4 +1,4 @@
-mod Empty
+pub mod Empty
 mod OneWorkflow
 mod Called
 mod Enough

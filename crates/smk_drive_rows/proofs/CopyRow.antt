@@ -10,6 +10,7 @@ use Rattle.smk_world.specs.declared.event.Node.{Node}
 use Rattle.smk_world.specs.World.{World, Nodes, IsFormed, world_of, firmly, out_paths}
 use Rattle.smk_world.specs.Calls.{IsFirmlyMarked}
 use Rattle.smk_world.specs.Trees.{Path, Each}
+use Rattle.smk_pattern.specs.Shapes.{Text}
 use Rattle.smk_flow.specs.declared.job.Job.{Job}
 use Rattle.smk_drive.specs.Moments.{Rules, Moment, Begun, runs}
 use Rattle.smk_flow.proofs.Examples.{copy}
@@ -55,7 +56,7 @@ abbrev pub log : List Event
 log = of_job the_jobs 0 (doing 1 out (codes "hello\n"))
 
 -- the plans at the entry, before the mark, at the start and at the end
-settled : IsSettled rules entry log
+pub settled : IsSettled rules entry log
 settled = record { entry = refl; rests = (refl, (refl, (refl, tt))) }
 
 is_checked : IsChecked rules entry log 0
@@ -75,10 +76,14 @@ kept = record { late = refl; settled = tt; protected = refl }
 pub is_good : IsGood rules entry log 0
 is_good = good rules entry log 0 formed is_checked refl kept
 
-pub its_report : IsRunText rules entry log (lines_of
-    (codes "start copy out.txt" ∷ codes "done copy out.txt" ∷ codes "current out.txt" ∷ codes "summary: 1 started, 1 done, 0 failed" ∷ []))
+abbrev pub its_text : Text
+its_text =
+    lines_of
+    (codes "start copy out.txt" ∷ codes "done copy out.txt" ∷ codes "current out.txt" ∷ codes "summary: 1 started, 1 done, 0 failed" ∷ [])
+
+pub its_report : IsRunText rules entry log its_text
 unfolding digits
-its_report = is_report rules entry formed log settled _ refl
+its_report = is_report rules entry formed log settled its_text refl
 
 -- no refusal is met: in the midst of the job its own mark stands, but that is no rest
 pub refuses_nothing : (f : Fault) → RunRefuses rules entry log f → ⊥

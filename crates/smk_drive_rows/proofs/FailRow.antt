@@ -2,6 +2,7 @@
 use Rattle.std.proofs.Common.{◌≡◌, ℕ, List, [], ◌∷◌, ◌++◌, codes, Ok, refl, sym, inl, true≢false}
 use Rattle.std.specs.Fmt.{digits}
 use Rattle.smk_world.specs.declared.event.Event.{Event}
+use Rattle.smk_pattern.specs.Shapes.{Text}
 use Rattle.smk_flow.specs.declared.job.Job.{Job}
 use Rattle.smk_flow.specs.Flows.{Flow}
 use Rattle.smk_drive.specs.Moments.{Rules}
@@ -55,10 +56,14 @@ kept = record { late = refl; settled = tt; protected = refl }
 pub is_good : IsGood rules entry log 1
 is_good = good rules entry log 1 formed is_checked refl kept
 
-pub its_report : IsRunText rules entry log (lines_of
-    (codes "start copy out.txt" ∷ codes "failed copy out.txt: status 1" ∷ codes "not current out.txt" ∷ codes "summary: 1 started, 0 done, 1 failed" ∷ []))
+abbrev pub its_text : Text
+its_text =
+    lines_of
+    (codes "start copy out.txt" ∷ codes "failed copy out.txt: status 1" ∷ codes "not current out.txt" ∷ codes "summary: 1 started, 0 done, 1 failed" ∷ [])
+
+pub its_report : IsRunText rules entry log its_text
 unfolding digits
-its_report = is_report rules entry formed log settled _ refl
+its_report = is_report rules entry formed log settled its_text refl
 
 -- ## Wrong runs
 

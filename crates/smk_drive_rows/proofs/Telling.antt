@@ -68,7 +68,7 @@ has_line text l = stands_in true l text
 itself : (b : ℕ) → (b == b) ≡ true
 itself b = and_left (b == b) true (place_itself (b ∷ []))
 
-begins_joined : (l after : Text) → begins_so l (l ++ after) ≡ true
+pub begins_joined : (l after : Text) → begins_so l (l ++ after) ≡ true
 begins_joined [] after = refl
 begins_joined (b ∷ l) after = subst (λ c. (c && begins_so l (l ++ after)) ≡ true) (sym (itself b)) (begins_joined l after)
 
