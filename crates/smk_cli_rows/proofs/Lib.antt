@@ -5,3 +5,5 @@ pub mod ListingRow
 pub mod CopyEnd
 pub mod FailEnd
 pub mod DeviceEnd
+pub mod Confined
+pub mod ForgetRow
