@@ -1,5 +1,5 @@
 -- A call that is refused at once, and does nothing: it meets every clause on its log and its text, if just this is what it meets.
-use Rattle.std.proofs.Common.{◌≡◌, ◌⊎◌, ◌≤◌, ℕ, Bool, true, false, List, [], ◌∷◌, ◌++◌, Option, Some, None, refl, sym, subst, inl, inr, IsTrue, arith, true≢false}
+use Rattle.std.proofs.Common.{◌≡◌, ◌⊎◌, ◌≤◌, ℕ, Bool, true, false, List, [], ◌∷◌, ◌++◌, filter, Option, Some, None, refl, sym, subst, inl, inr, IsTrue, arith, true≢false}
 use Rattle.smk_base.specs.Place.{mark_place}
 use Rattle.smk_world.specs.declared.event.Event.{Event}
 use Rattle.smk_world.specs.World.{World}
@@ -13,7 +13,7 @@ use Rattle.smk_drive.specs.Moments.{Rules, Moment, Begun, IsMoment}
 use Rattle.smk_drive.specs.Reports.{NoLines, start_line_of}
 use Rattle.smk_drive_target.specs.Lawful.{Lawful}
 use Rattle.smk_drive_target.specs.Keeping.{KeepsOutputs}
-use Rattle.smk_drive_target.specs.Moments.{started, was_started}
+use Rattle.smk_drive_target.specs.Moments.{was_started}
 use Rattle.smk_drive_target.specs.Reports.{HasLine, HasStarts}
 use Rattle.smk_cli_target.specs.declared.asked.Asked.{Asked}
 use Rattle.smk_cli_target.specs.declared.asked.Asked.TheVariants.{Run, Preview, Unlock, Forget, Generate}
@@ -82,7 +82,7 @@ none_current act r w [] = tt
 none_current act r w (p ∷ ps) = (λ has. absurd (no_current p has), none_current act r w ps)
 
 no_starts : (r : Rules) (w : World) → HasStarts r w [] []
-no_starts r w m is = subst (λ (bs : List Begun). Each (λ b. HasLine [] (start_line_of r b)) (started (record m { begun = bs }))) (sym (none_begun r w [] m is refl)) tt
+no_starts r w m is = subst (λ (bs : List Begun). Each (λ b. HasLine [] (start_line_of r b)) (filter (was_started m.events) bs)) (sym (none_begun r w [] m is refl)) tt
 
 early_so : (act : Act) (r : Rules) (w : World) (n : ℕ) → IsLow n → EndsEarly act r w [] n []
 early_so act r w n low =

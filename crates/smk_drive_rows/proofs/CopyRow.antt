@@ -57,7 +57,7 @@ log = of_job the_jobs 0 (doing 1 out (codes "hello\n"))
 
 -- the plans at the entry, before the mark, at the start and at the end
 pub settled : IsSettled rules entry log
-settled = record { entry = refl; rests = (refl, (refl, (refl, tt))) }
+settled = record { start = refl; rests = (refl, (refl, (refl, tt))) }
 
 is_checked : IsChecked rules entry log 0
 is_checked =
@@ -122,7 +122,7 @@ abbrev once_more : List Event
 once_more = of_job the_jobs 0 (λ j. start 2 j ∷ [])
 
 once_settled : IsSettled rules entry begun_once
-once_settled = record { entry = refl; rests = (refl, (refl, tt)) }
+once_settled = record { start = refl; rests = (refl, (refl, tt)) }
 
 pub starts_twice : (status : ℕ) → Lawful rules entry (begun_once ++ once_more) status → ⊥
 starts_twice status l =
@@ -149,7 +149,7 @@ abbrev unrecorded : List Event
 unrecorded = of_job the_jobs 0 (λ j. marking out ++ (start 1 j ∷ (ends 1 0 (put out (codes "hello\n") ∷ []) ∷ unmarking out)))
 
 unrecorded_settled : IsSettled rules entry unrecorded
-unrecorded_settled = record { entry = refl; rests = (refl, (refl, (refl, tt))) }
+unrecorded_settled = record { start = refl; rests = (refl, (refl, (refl, tt))) }
 
 pub closes_unrecorded : (status : ℕ) → Lawful rules entry unrecorded status → ⊥
 closes_unrecorded status l =

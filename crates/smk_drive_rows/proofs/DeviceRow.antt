@@ -57,7 +57,7 @@ log failed =
     ∷ [])
 
 settled : (failed : Failed) → IsSettled rules entry (log failed)
-settled failed = record { entry = refl; rests = (refl, (refl, (refl, (refl, tt)))) }
+settled failed = record { start = refl; rests = (refl, (refl, (refl, (refl, tt)))) }
 
 is_checked : (failed : Failed) → IsChecked rules entry (log failed) 4
 is_checked failed =
@@ -97,7 +97,7 @@ abbrev begun_too : Failed → List Event
 begun_too failed = after_failure failed ++ drop 1 (marking b)
 
 after_settled : (failed : Failed) → IsSettled rules entry (after_failure failed)
-after_settled failed = record { entry = refl; rests = (refl, (refl, (refl, (refl, tt)))) }
+after_settled failed = record { start = refl; rests = (refl, (refl, (refl, (refl, tt)))) }
 
 pub begins_after_failure : (failed : Failed) (status : ℕ) → Lawful rules entry (begun_too failed) status → ⊥
 begins_after_failure failed status l =

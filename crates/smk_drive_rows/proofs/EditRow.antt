@@ -57,7 +57,7 @@ abbrev pub log : List Event
 log = of_job the_jobs 0 (λ j. marking out ++ (start 1 j ∷ (ends 1 0 (put out (codes "bye\n") ∷ []) ∷ keeping out (codes "second"))))
 
 settled : IsSettled rules entry log
-settled = record { entry = refl; rests = (refl, (refl, (refl, tt))) }
+settled = record { start = refl; rests = (refl, (refl, (refl, tt))) }
 
 is_checked : IsChecked rules entry log 0
 is_checked =

@@ -37,7 +37,7 @@ abbrev pub log : List Event
 log = ended_with 1
 
 pub settled : IsSettled rules entry log
-settled = record { entry = refl; rests = (refl, (refl, (refl, tt))) }
+settled = record { start = refl; rests = (refl, (refl, (refl, tt))) }
 
 is_checked : IsChecked rules entry log 1
 is_checked =
@@ -72,7 +72,7 @@ abbrev lost : List Event
 lost = of_job the_jobs 0 (λ j. marking out ++ (start 1 j ∷ (ends 1 0 (put out (codes "hello\n") ∷ []) ∷ losing out)))
 
 lost_settled : IsSettled rules entry lost
-lost_settled = record { entry = refl; rests = (refl, (refl, (refl, tt))) }
+lost_settled = record { start = refl; rests = (refl, (refl, (refl, tt))) }
 
 pub loses_without_cause : (status : ℕ) → Lawful rules entry lost status → ⊥
 loses_without_cause status l =

@@ -60,7 +60,7 @@ log =
     ++ (of_job the_jobs 1 (doing 2 (codes "post/a/1.txt") (codes "x\n")) ++ of_job the_jobs 2 (doing 3 (codes "aggregated/a.txt") (codes "x\n")))
 
 settled : IsSettled rules entry log
-settled = record { entry = refl; rests = (refl, (refl, ((refl, refl), (refl, (refl, (refl, (refl, (refl, (refl, tt))))))))) }
+settled = record { start = refl; rests = (refl, (refl, ((refl, refl), (refl, (refl, (refl, (refl, (refl, (refl, tt))))))))) }
 
 is_checked : IsChecked rules entry log 0
 is_checked =

@@ -67,7 +67,7 @@ module _ (rules : Rules) (entry : World) where
 
   -- at the entry, and at each rest
   pub record IsSettled (log : List Event) : Type 0 where
-    pub entry : IsSettledChain rules entry [] 3 []
+    pub start : IsSettledChain rules entry [] 3 []
     pub rests : AreSettled [] first_moment log
 
   pub first_is : IsFormed entry → IsSettledChain rules entry [] 3 [] → IsMoment rules entry [] first_moment
@@ -119,7 +119,7 @@ module _ (rules : Rules) (entry : World) where
       (last_at (events ++ e ∷ []) (next events m e) es (next_is events m e Rest at settled) (settled_later m e Rest settled))
 
   pub last_whole : IsFormed entry → (log : List Event) → IsSettled log → IsAt log (last log)
-  last_whole formed log s = last_at [] first_moment log (first_at formed s.entry) s.rests
+  last_whole formed log s = last_at [] first_moment log (first_at formed s.start) s.rests
 
   pub last_is : IsFormed entry → (log : List Event) → IsSettled log → IsMoment rules entry log (last log)
   last_is formed log s = (last_whole formed log s).is
@@ -175,7 +175,7 @@ module _ (rules : Rules) (entry : World) where
       ((m : Moment) (e : Event) → test m e ≡ true → P m e) →
       IsFormed entry → (log : List Event) → IsSettled log → Holds test P [] first_moment log → AtEachEvent rules entry log P
   at_each test P sure formed log s holds front e rest k h isk =
-      holds_from test P (λ events m d at t. sure m d t) formed [] first_moment log (first_at formed s.entry) s.rests holds front e rest k h isk
+      holds_from test P (λ events m d at t. sure m d t) formed [] first_moment log (first_at formed s.start) s.rests holds front e rest k h isk
 
   pub by_tests :
       (test : Moment → Event → Bool) (P : Moment → Event → Type 0) →
@@ -188,4 +188,4 @@ module _ (rules : Rules) (entry : World) where
       ((events : List Event) (m : Moment) (e : Event) → IsAt events m → test m e ≡ true → P m e) →
       IsFormed entry → (log : List Event) → IsSettled log → all_events test [] first_moment log ≡ true → AtEachEvent rules entry log P
   by_tests_at test P sure formed log s t front e rest k h isk =
-      holds_from test P sure formed [] first_moment log (first_at formed s.entry) s.rests (holds_by_test test P [] first_moment log t) front e rest k h isk
+      holds_from test P sure formed [] first_moment log (first_at formed s.start) s.rests (holds_by_test test P [] first_moment log t) front e rest k h isk

@@ -74,7 +74,7 @@ abbrev pub log : List Event
 log = until_refused ++ closing
 
 settled : IsSettled rules entry log
-settled = record { entry = refl; rests = (refl, (refl, (refl, (refl, ((refl, tt), ((refl, tt), tt)))))) }
+settled = record { start = refl; rests = (refl, (refl, (refl, (refl, ((refl, tt), ((refl, tt), tt)))))) }
 
 is_checked : IsChecked rules entry log 3
 is_checked =
@@ -99,7 +99,7 @@ is_good = good rules entry log 3 formed is_checked refl kept
 -- ## What is refused
 
 until_settled : IsSettled rules entry until_refused
-until_settled = record { entry = refl; rests = (refl, (refl, (refl, (refl, ((refl, tt), tt))))) }
+until_settled = record { start = refl; rests = (refl, (refl, (refl, (refl, ((refl, tt), tt))))) }
 
 abbrev refusal : Fault
 refusal = fault.NoInput (codes "g.txt") (codes "g") (codes "y/1.txt")
@@ -132,7 +132,7 @@ abbrev begun_then : List Event
 begun_then = alone ++ take 1 (marking out)
 
 begun_settled : IsSettled rules entry begun_then
-begun_settled = record { entry = refl; rests = (refl, (refl, ((refl, tt), ((refl, tt), tt)))) }
+begun_settled = record { start = refl; rests = (refl, (refl, ((refl, tt), ((refl, tt), tt)))) }
 
 pub begins_after_refusal : (status : ℕ) → Lawful rules entry (begun_then ++ drop 1 (marking out)) status → ⊥
 begins_after_refusal status l =

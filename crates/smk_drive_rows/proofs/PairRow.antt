@@ -60,7 +60,7 @@ going_on = of_job the_jobs 1 (doing 2 b (codes "hello\n"))
 -- ## The run ends
 
 pub settled : IsSettled (rules false) entry failing
-settled = record { entry = refl; rests = (refl, (refl, (refl, tt))) }
+settled = record { start = refl; rests = (refl, (refl, (refl, tt))) }
 
 is_checked : IsChecked (rules false) entry failing 1
 is_checked =
@@ -95,7 +95,7 @@ abbrev pub log : List Event
 log = failing ++ going_on
 
 pub going_settled : IsSettled (rules true) entry log
-going_settled = record { entry = refl; rests = (refl, (refl, (refl, (refl, (refl, (refl, tt)))))) }
+going_settled = record { start = refl; rests = (refl, (refl, (refl, (refl, (refl, (refl, tt)))))) }
 
 going_checked : IsChecked (rules true) entry log 1
 going_checked =
@@ -132,7 +132,7 @@ going_report = is_report (rules true) entry formed log going_settled _ refl
 -- ## Wrong runs
 
 stopped_settled : IsSettled (rules true) entry failing
-stopped_settled = record { entry = refl; rests = (refl, (refl, (refl, tt))) }
+stopped_settled = record { start = refl; rests = (refl, (refl, (refl, tt))) }
 
 -- it is told to keep going, and leaves the second job undone
 pub stops_early : Lawful (rules true) entry failing 1 → ⊥
@@ -144,7 +144,7 @@ abbrev begun_too : List Event
 begun_too = failing ++ take 1 going_on
 
 begun_settled : IsSettled (rules false) entry begun_too
-begun_settled = record { entry = refl; rests = (refl, (refl, (refl, (refl, tt)))) }
+begun_settled = record { start = refl; rests = (refl, (refl, (refl, (refl, tt)))) }
 
 pub goes_on_anyway : (status : ℕ) → Lawful (rules false) entry log status → ⊥
 goes_on_anyway status l =

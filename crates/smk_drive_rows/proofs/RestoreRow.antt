@@ -131,7 +131,7 @@ log =
     ++ of_job the_jobs 0 (λ j. preparing ++ (start 3 j ∷ restored)))
 
 settled : IsSettled rules entry log
-settled = record { entry = refl; rests = (refl, (refl, (refl, (refl, ((refl, refl), (refl, (refl, (refl, (refl, tt))))))))) }
+settled = record { start = refl; rests = (refl, (refl, (refl, (refl, ((refl, refl), (refl, (refl, (refl, (refl, tt))))))))) }
 
 is_checked : IsChecked rules entry log 5
 is_checked =
@@ -172,7 +172,7 @@ abbrev begun : List Event
 begun = while_read ++ take 1 preparing
 
 begun_settled : IsSettled rules entry begun
-begun_settled = record { entry = refl; rests = (refl, (refl, (refl, (refl, ((refl, refl), (refl, tt)))))) }
+begun_settled = record { start = refl; rests = (refl, (refl, (refl, (refl, ((refl, refl), (refl, tt)))))) }
 
 none_first : {A : Type 0} (k : A) → None ≡ Some k → ⊥
 none_first k h = cc

@@ -59,7 +59,7 @@ abbrev pub rules : Rules
 rules = rules_by (temporary_with cat) u_and_v (reader temporary_records)
 
 settled : IsSettled rules entry taking
-settled = record { entry = refl; rests = (refl, (refl, tt)) }
+settled = record { start = refl; rests = (refl, (refl, tt)) }
 
 is_checked : IsChecked rules entry taking 0
 is_checked = record { settled = settled; events = refl; end = refl; starts = tt; writes = tt; waited = inl refl }

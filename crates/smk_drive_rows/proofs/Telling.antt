@@ -40,7 +40,7 @@ module _ (rules : Rules) (entry : World) where
       (AndThen events text e m (next rules entry events m e) lines at.is now.is))
 
   pub has_lines : IsFormed entry → (log : List Event) → IsSettled rules entry log → HasLines rules entry log (told log)
-  has_lines formed log s = says [] (first_moment rules entry) [] log (first_at rules entry formed s.entry) s.rests NoLines
+  has_lines formed log s = says [] (first_moment rules entry) [] log (first_at rules entry formed s.start) s.rests NoLines
 
   -- the whole report
   abbrev pub report : List Event → Text

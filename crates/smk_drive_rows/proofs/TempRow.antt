@@ -52,7 +52,7 @@ abbrev pub log : List Event
 log = half ++ (of_job temporary_jobs 2 (doing 3 (codes "v") (codes "q")) ++ (removal ∷ event (Settled (t ∷ []) (Ok tt)) [] ∷ []))
 
 settled : IsSettled rules entry log
-settled = record { entry = refl; rests = (refl, (refl, (refl, (refl, (refl, (refl, (refl, (refl, (refl, (refl, (refl, tt))))))))))) }
+settled = record { start = refl; rests = (refl, (refl, (refl, (refl, (refl, (refl, (refl, (refl, (refl, (refl, (refl, tt))))))))))) }
 
 is_checked : IsChecked rules entry log 0
 is_checked =
@@ -102,7 +102,7 @@ its_report = is_report rules entry formed log settled _ refl
 -- ## Wrong runs
 
 half_settled : IsSettled rules entry half
-half_settled = record { entry = refl; rests = (refl, (refl, (refl, (refl, (refl, (refl, tt)))))) }
+half_settled = record { start = refl; rests = (refl, (refl, (refl, (refl, (refl, (refl, tt)))))) }
 
 -- it is taken away while the other reader still waits for it
 pub removes_early : (status : ℕ) → Lawful rules entry (half ++ removal ∷ []) status → ⊥

@@ -91,9 +91,9 @@ module _ (rules : Rules) (entry : World) where
 
   -- ## A log
 
-  abbrev free_from : Bool → Bool → Bool → Bool
-  free_from true later stopped = later
-  free_from false later stopped = stopped
+  abbrev free_from : Bool → (Unit {0} → Bool) → (Unit {0} → Bool) → Bool
+  free_from true later stopped = later tt
+  free_from false later stopped = stopped tt
 
   -- no job begins from here on
   abbrev begins_none : List Event → Moment → List Event → Bool
@@ -104,10 +104,7 @@ module _ (rules : Rules) (entry : World) where
   abbrev pub unrefused_from : List Event → Moment → List Event → Bool
   unrefused_from events m [] = true
   unrefused_from events m (e ∷ es) =
-      elim (is_unrefused m) as (λ b. Bool) [
-        | true ↦ unrefused_from (events ++ e ∷ []) (next rules entry events m e) es
-        | false ↦ begins_none events m (e ∷ es)
-      ]
+      free_from (is_unrefused m) (λ u. unrefused_from (events ++ e ∷ []) (next rules entry events m e) es) (λ u. begins_none events m (e ∷ es))
 
   events_of : (events : List Event) (m : Moment) → IsMoment rules entry events m → m.events ≡ events
   events_of events m (AtEntry plan force) = refl
@@ -169,7 +166,7 @@ module _ (rules : Rules) (entry : World) where
           (front : List Event) (e : Event) (rest : List Event) (k : Moment) → xs ≡ front ++ e ∷ rest → IsMoment rules entry ((events ++ x ∷ []) ++ front) k → Begins k e
 
       go :
-          (b : Bool) → is_unrefused m ≡ b → free_from b later (begins_none events m (x ∷ xs)) ≡ true →
+          (b : Bool) → is_unrefused m ≡ b → free_from b (λ u. later) (λ u. begins_none events m (x ∷ xs)) ≡ true →
           (front : List Event) → x ∷ xs ≡ front ++ e ∷ rest → IsMoment rules entry (events ++ front) k → Deeper → Begins k e
       go false u t front h isk deeper = still formed events m (x ∷ xs) at s t front e rest k h isk
       go true u t [] h isk deeper =
@@ -201,7 +198,7 @@ module _ (rules : Rules) (entry : World) where
   pub unrefused :
       IsFormed entry → (log : List Event) → IsSettled rules entry log → unrefused_from [] (first_moment rules entry) log ≡ true → BeginsUnrefused rules entry log
   unrefused formed log s t events e rest m h is =
-      each_free m e (free_log formed [] (first_moment rules entry) log (first_at rules entry formed s.entry) s.rests none_before_all t events e rest m h is)
+      each_free m e (free_log formed [] (first_moment rules entry) log (first_at rules entry formed s.start) s.rests none_before_all t events e rest m h is)
 
   -- nothing is refused at any moment before an event of the log
   pub none_before :
