@@ -66,7 +66,7 @@ is_checked =
       events = refl;
       end = refl;
       starts = ((_, inl refl, refl, refl, refl, started rules entry _ _ refl), tt);
-      writes = (refl, tt);
+      writes = ((refl, tt), tt);
       waited = inl refl;
     }
 
@@ -74,6 +74,7 @@ kept : Keeps rules entry log
 kept = record { late = refl; settled = tt; protected = refl }
 
 pub is_good : IsGood rules entry log 0
+unfolding digits
 is_good = good rules entry log 0 formed is_checked refl kept
 
 abbrev pub its_text : Text
@@ -87,6 +88,7 @@ its_report = is_report rules entry formed log settled its_text refl
 
 -- no refusal is met: in the midst of the job its own mark stands, but that is no rest
 pub refuses_nothing : (f : Fault) → RunRefuses rules entry log f → ⊥
+unfolding digits
 refuses_nothing f r = never_refused rules entry formed log settled refl refl f r
 
 -- ## Wrong runs

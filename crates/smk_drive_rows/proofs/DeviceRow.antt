@@ -1,5 +1,6 @@
 -- Two children run side by side as the device fails: the other one is waited for, and nothing more begins.
 use Rattle.std.proofs.Common.{◌≡◌, ◌⊎◌, ℕ, Bool, true, false, not, List, [], ◌∷◌, ◌++◌, codes, take, drop, Ok, Err, refl, sym, subst, inl, inr, IsTrue, true≢false}
+use Rattle.std.specs.Fmt.{digits}
 use Rattle.std.specs.List.{list_all}
 use Rattle.smk_world.specs.declared.event.Event.{Event}
 use Rattle.smk_world.specs.declared.event.Failed.{Failed}
@@ -77,6 +78,7 @@ kept : (failed : Failed) → Keeps rules entry (log failed)
 kept failed = record { late = refl; settled = tt; protected = refl }
 
 pub is_good : (failed : Failed) → IsGood rules entry (log failed) 4
+unfolding digits
 is_good failed = good rules entry (log failed) 4 formed (is_checked failed) refl (kept failed)
 
 -- it tells of the starts alone

@@ -66,7 +66,7 @@ is_checked =
       events = refl;
       end = refl;
       starts = ((_, inl refl, refl, refl, refl, started rules entry _ _ refl), tt);
-      writes = (refl, tt);
+      writes = ((refl, tt), tt);
       waited = inl refl;
     }
 
@@ -74,6 +74,7 @@ kept : Keeps rules entry log
 kept = record { late = refl; settled = tt; protected = refl }
 
 pub is_good : IsGood rules entry log 0
+unfolding digits
 is_good = good rules entry log 0 formed is_checked refl kept
 
 pub its_report : IsRunText rules entry log (lines_of

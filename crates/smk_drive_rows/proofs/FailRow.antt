@@ -54,6 +54,7 @@ kept : Keeps rules entry log
 kept = record { late = refl; settled = tt; protected = refl }
 
 pub is_good : IsGood rules entry log 1
+unfolding digits
 is_good = good rules entry log 1 formed is_checked refl kept
 
 abbrev pub its_text : Text

@@ -1,5 +1,6 @@
 -- A checkpoint is closed, and what it lists calls for a file that no rule makes, while another job runs: that one is closed, and nothing begins.
 use Rattle.std.proofs.Common.{◌≡◌, ℕ, Bool, true, false, List, [], ◌∷◌, ◌++◌, map, codes, take, drop, Some, refl, sym, inl, inr, true≢false}
+use Rattle.std.specs.Fmt.{digits}
 use Rattle.smk_base.specs.Place.{mark_place}
 use Rattle.smk_world.specs.declared.event.Node.TheVariants.{Directory}
 use Rattle.smk_world.specs.declared.event.Event.{Event}
@@ -86,7 +87,7 @@ is_checked =
         (_, inl refl, refl, refl, refl, started rules entry _ _ refl),
         ((_, inr (inl refl), refl, refl, refl, started rules entry _ _ refl), tt),
       );
-      writes = (refl, (refl, tt));
+      writes = ((refl, tt), ((refl, tt), tt));
       waited = inl refl;
     }
 
@@ -94,6 +95,7 @@ kept : Keeps rules entry log
 kept = record { late = refl; settled = tt; protected = refl }
 
 pub is_good : IsGood rules entry log 3
+unfolding digits
 is_good = good rules entry log 3 formed is_checked refl kept
 
 -- ## What is refused
@@ -105,6 +107,7 @@ abbrev refusal : Fault
 refusal = fault.NoInput (codes "g.txt") (codes "g") (codes "y/1.txt")
 
 pub is_refused : RunRefuses rules entry log refusal
+unfolding digits
 is_refused =
     record {
       events = until_refused;

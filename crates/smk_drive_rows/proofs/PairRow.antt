@@ -77,6 +77,7 @@ kept : Keeps (rules false) entry failing
 kept = record { late = refl; settled = tt; protected = refl }
 
 pub is_good : IsGood (rules false) entry failing 1
+unfolding digits
 is_good = good (rules false) entry failing 1 formed is_checked refl kept
 
 pub its_report : IsRunText (rules false) entry failing (lines_of
@@ -107,7 +108,7 @@ going_checked =
         (_, inl refl, refl, refl, refl, started (rules true) entry _ _ refl),
         ((_, inr (inl refl), refl, refl, refl, started (rules true) entry _ _ refl), tt),
       );
-      writes = (refl, tt);
+      writes = ((refl, tt), tt);
       waited = inl refl;
     }
 
@@ -115,6 +116,7 @@ going_kept : Keeps (rules true) entry log
 going_kept = record { late = refl; settled = tt; protected = refl }
 
 pub going_good : IsGood (rules true) entry log 1
+unfolding digits
 going_good = good (rules true) entry log 1 formed going_checked refl going_kept
 
 pub going_report : IsRunText (rules true) entry log (lines_of

@@ -1,5 +1,6 @@
 -- A lost output is wanted back while a child reads the other output of its job: that child is waited for, and then both are made again.
 use Rattle.std.proofs.Common.{◌≡◌, ℕ, Bool, true, false, List, [], ◌∷◌, ◌++◌, map, codes, take, drop, Option, Some, None, Ok, refl, inl, inr}
+use Rattle.std.specs.Fmt.{digits}
 use Rattle.smk_base.specs.Place.{mark_place, record_place}
 use Rattle.smk_world.specs.declared.event.Node.TheVariants.{Regular, Directory}
 use Rattle.smk_world.specs.declared.event.Event.{Event}
@@ -146,7 +147,7 @@ is_checked =
           ((_, inr (inr (inl refl)), refl, refl, refl, started rules entry _ _ refl), tt),
         ),
       );
-      writes = (refl, (refl, (refl, (refl, tt))));
+      writes = ((refl, tt), ((refl, tt), ((refl, tt), ((refl, tt), tt))));
       waited = inl refl;
     }
 
@@ -154,6 +155,7 @@ kept : Keeps rules entry log
 kept = record { late = refl; settled = tt; protected = refl }
 
 pub is_good : IsGood rules entry log 5
+unfolding digits
 is_good = good rules entry log 5 formed is_checked refl kept
 
 pub its_front : IsFront rules entry log (lines_of

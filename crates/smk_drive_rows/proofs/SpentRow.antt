@@ -75,6 +75,7 @@ kept : Keeps rules entry taking
 kept = record { late = refl; settled = ((λ spent. gone_for_good), tt); protected = refl }
 
 pub is_good : IsGood rules entry taking 0
+unfolding digits
 is_good = good rules entry taking 0 formed is_checked refl kept
 
 pub its_report : IsRunText rules entry taking (lines_of (codes "current u" ∷ codes "current v" ∷ codes "summary: 0 started, 0 done, 0 failed" ∷ []))

@@ -67,7 +67,7 @@ is_checked =
           ((_, inr (inr (inl refl)), refl, refl, refl, started rules entry _ _ refl), tt),
         ),
       );
-      writes = (refl, (refl, (refl, tt)));
+      writes = ((refl, tt), ((refl, tt), ((refl, tt), tt)));
       waited = inl refl;
     }
 
@@ -83,6 +83,7 @@ kept : Keeps rules entry log
 kept = record { late = refl; settled = ((λ spent. gone_for_good), tt); protected = refl }
 
 pub is_good : IsGood rules entry log 0
+unfolding digits
 is_good = good rules entry log 0 formed is_checked refl kept
 
 pub its_report : IsRunText rules entry log (lines_of
