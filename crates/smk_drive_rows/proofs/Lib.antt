@@ -18,3 +18,5 @@ pub mod GrowRow
 pub mod TempRow
 pub mod SpentRow
 pub mod RestoreRow
+pub mod SteadyRow
+pub mod MarkedRow
