@@ -17,7 +17,9 @@ use Rattle.smk_drive_target.specs.Lawful.{Lawful}
 use Rattle.smk_drive_rows.proofs.Truth.{only}
 use Rattle.smk_drive_rows.proofs.Logs.{IsSettled, last, last_is}
 use Rattle.smk_drive_rows.proofs.Events.{formed_of, rules_by, marking, start, of_job}
-use Rattle.smk_drive_rows.proofs.TempRow.{t}
+
+abbrev t : Path
+t = codes "t"
 
 -- a crash has left the mark of `t`, though its record stands
 abbrev nodes : Nodes
