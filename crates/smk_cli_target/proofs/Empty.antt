@@ -17,7 +17,6 @@ use Rattle.smk_laws_history.specs.Histories.{ListsAll, IsListed, KeepsListed}
 use Rattle.smk_store.specs.Safety.{SafeThroughout, SourcesOf, KeepsSound, with_sources, or_put, forgotten_so_far}
 use Rattle.smk_report.specs.declared.fault.Fault.{Fault}
 use Rattle.smk_report.specs.declared.fault.Fault.TheVariants as fault
-use Rattle.smk_report.specs.Faults.{fault_text}
 use Rattle.smk_report.specs.Lines.{joined, target_line, unlocked_line}
 use Rattle.smk_drive.specs.Moments.{Rules, Moment, Begun, IsMoment, AtEntry, AtRest, Between, is_closed_badly}
 use Rattle.smk_drive.specs.Lawful.{fit_together, running_jobs, is_good_end}
@@ -27,8 +26,8 @@ use Rattle.smk_drive_target.specs.Lawful.{Lawful, ClosedWithCause}
 use Rattle.smk_drive_target.specs.Keeping.{KeepsOutputs}
 use Rattle.smk_drive_target.specs.Reports.{HasLine}
 use Rattle.smk_cli_target.specs.declared.asked.Outcome.{Outcome}
-use Rattle.smk_cli_target.specs.Ends.{CurrentIsClean, Stays, IsClean}
-use Rattle.smk_cli_target.specs.Clauses.{IsRefusal, RunsWell, EndsEarly, HasUnlocked, HasForgotten, LeavesLittle, IsComplete, HasLog, HasText, HasTold, Leaves, forgotten_lines}
+use Rattle.smk_cli_target.specs.Ends.{Stays, IsClean}
+use Rattle.smk_cli_target.specs.Clauses.{IsRefusal, RunsWell, EndsEarly, HasUnlocked, HasForgotten, LeavesLittle, IsComplete, HasLog, HasText, Leaves, forgotten_lines}
 use Rattle.smk_cli_target.specs.Files as files
 use Rattle.smk_cli_target.specs.Generating.{generated_lines}
 use Rattle.smk_cli_target.specs.Refusing.{is_met_at_once}

@@ -1,5 +1,5 @@
 -- Calls that meet the contract, one after another, are a history; so the headline holds.
-use Rattle.std.proofs.Common.{◌≡◌, ◌⊎◌, ◌≤◌, ℕ, zero, suc, Bool, true, false, List, [], ◌∷◌, ◌++◌, refl, sym, subst, inl, inr, true≢false, arith}
+use Rattle.std.proofs.Common.{◌≡◌, ◌⊎◌, ◌≤◌, ℕ, zero, suc, Bool, true, false, List, [], sym, subst, inl, inr, true≢false, arith}
 use Rattle.smk_world.specs.declared.event.Call.{Call}
 use Rattle.smk_world.specs.declared.event.Call.TheVariants.{Looked, ReadFile, ReadFolder, Written, Created, Removed, MadeParents, Settled, Protected, Started, Waited}
 use Rattle.smk_world.specs.declared.event.Event.{Event}
@@ -21,8 +21,8 @@ use Rattle.smk_cli_target.specs.declared.asked.Outcome.{Outcome}
 use Rattle.smk_cli_target.specs.Files.{outside}
 use Rattle.smk_cli_target.specs.Ends.{IsGoodEntry, CurrentIsClean}
 use Rattle.smk_cli_target.specs.Refusing.{IsNamed}
-use Rattle.smk_cli_target.specs.Clauses.{HasText, IsSteady, IsDoneUnless}
-use Rattle.smk_cli_target.specs.Headline.{Came, Begin, Edit, Remove, Call as CallCame, Crash, CameIsHistory, CameIsGood, Headline, IsMet, IsStopped, RunGives, StartsOnFinished}
+use Rattle.smk_cli_target.specs.Clauses.{IsSteady, IsDoneUnless}
+use Rattle.smk_cli_target.specs.Headline.{Begin, Edit, Remove, Call as CallCame, Crash, CameIsHistory, CameIsGood, Headline, IsMet, IsStopped, StartsOnFinished}
 
 good_in : (act : Act) (w : World) (H : Versions) → History (outside act) w H → IsGoodEntry act w
 good_in act w H h =

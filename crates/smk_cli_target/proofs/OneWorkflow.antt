@@ -1,5 +1,5 @@
 -- Files are one workflow, or else something is wrong with them.
-use Rattle.std.proofs.Common.{◌≡◌, ◌⊎◌, refl, sym, ap, subst, inl, inr, ◌∙◌, Result, Ok, Err}
+use Rattle.std.proofs.Common.{◌≡◌, ◌⊎◌, sym, ap, subst, inl, inr, ◌∙◌, Result, Ok, Err, arith}
 use Rattle.smk_flow.specs.Checks.{IsWorkflow}
 use Rattle.smk_flow.specs.Flows.{Flow}
 use Rattle.smk_flow.proofs.NoFault.{no_fault}
@@ -7,10 +7,13 @@ use Rattle.smk_flaws.specs.declared.fault.LoadFault.{LoadFault}
 use Rattle.smk_eval.specs.Loading.{loaded, FailsAs}
 use Rattle.smk_cli_target.specs.Files.{IsNoFile, IsFaulty, NoFaultyWorkflow, OneWorkflow}
 
-ok_same : {A E : Type 0} (a b : A) → ◌≡◌ {A = Result A E} (Ok a) (Ok b) → a ≡ b
+pub ok_same : {A E : Type 0} (a b : A) → ◌≡◌ {A = Result A E} (Ok a) (Ok b) → a ≡ b
 ok_same a b h = cc
 
-ok_err : {A E : Type 0} (a : A) (e : E) → ◌≡◌ {A = Result A E} (Ok a) (Err e) → ⊥
+pub err_same : {A E : Type 0} (d e : E) → ◌≡◌ {A = Result A E} (Err d) (Err e) → d ≡ e
+err_same d e h = cc
+
+pub ok_err : {A E : Type 0} (a : A) (e : E) → ◌≡◌ {A = Result A E} (Ok a) (Err e) → ⊥
 ok_err a e h = grind arith
 
 pub one_workflow : OneWorkflow

@@ -1,5 +1,5 @@
 -- Computed: times that were seen before, and what `--generate` tells.
-use Rattle.std.specs.Prelude.{◌≡◌, false, [], ◌∷◌, ◌++◌, codes, refl}
+use Rattle.std.proofs.Common.{◌≡◌, ℕ, false, List, [], ◌∷◌, ◌++◌, codes, refl}
 use Rattle.std.specs.Fmt.{digits}
 use Rattle.smk_flow.specs.Flows.{Flow}
 use Rattle.smk_record.specs.declared.record.Stamp.TheVariants.{Time}
@@ -35,7 +35,13 @@ both_forgotten = refl
 
 -- ## Generated files
 
+abbrev told : List ℕ → List ℕ
+told text = text ++ 10 ∷ []
+
 pub seven_three :
     generated_lines 7 3
-    ≡ codes "generated 3 samples" ++ 10 ∷ codes "first run: 4 started" ++ 10 ∷ codes "second run: 0 started" ++ 10 ∷ codes "after an edit: 2 started" ++ 10 ∷ codes "total: 15 bytes" ++ 10 ∷ []
+    ≡ told (codes "generated 3 samples")
+    ++ (told (codes "first run: 4 started")
+    ++ (told (codes "second run: 0 started") ++ (told (codes "after an edit: 2 started") ++ told (codes "total: 15 bytes"))))
+unfolding digits
 seven_three = refl

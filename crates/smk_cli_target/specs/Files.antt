@@ -1,5 +1,5 @@
 -- What a run goes by: the workflow that the files of a folder are, the paths that target words stand for, and how records read.
-use Rattle.std.specs.Prelude.{◌≡◌, ◌⊎◌, Bool, true, List, Option, Some, None, Result, Ok, Err, is_none}
+use Rattle.std.specs.Prelude.{◌≡◌, true, List, Option, Some, None, Result, Ok, Err, is_none}
 use Rattle.smk_world.specs.World.{World}
 use Rattle.smk_world.specs.Trees.{Path, Act}
 use Rattle.smk_pattern.specs.Shapes.{Text}
@@ -60,6 +60,10 @@ OneWorkflow = (w : RunWords) (entry : World) (a b : Flow) → ReadsAs w entry a 
 -- And where they are one, nothing is wrong with them.
 abbrev pub NoFaultyWorkflow : Type 0
 NoFaultyWorkflow = (w : RunWords) (entry : World) (flow : Flow) (f : Fault) → ReadsAs w entry flow → ¬ FailsToRead w entry f
+
+-- What is wrong with them first is one fault.
+abbrev pub OneFirstFault : Type 0
+OneFirstFault = (w : RunWords) (entry : World) (f g : Fault) → FailsToRead w entry f → FailsToRead w entry g → f ≡ g
 
 -- ## What is made
 

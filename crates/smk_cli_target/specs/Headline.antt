@@ -1,5 +1,5 @@
 -- What a program that meets the contract gives, whatever has come before.
-use Rattle.std.specs.Prelude.{◌≡◌, ◌⊎◌, ℕ, Bool, true, false, List, [], ◌∷◌, ◌++◌, IsTrue, Some}
+use Rattle.std.specs.Prelude.{◌≡◌, ◌⊎◌, ℕ, Bool, true, false, List, [], ◌++◌, IsTrue, Some}
 use Rattle.smk_base.specs.Path.{own_folder, is_at_or_under}
 use Rattle.smk_world.specs.declared.event.Node.TheVariants.{Regular}
 use Rattle.smk_world.specs.declared.event.Call.{Call as EventCall}

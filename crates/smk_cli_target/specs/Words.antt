@@ -1,6 +1,6 @@
 -- What words ask.
-use Rattle.std.specs.Prelude.{◌≡◌, ◌≢◌, ◌⊎◌, ◌≤◌, ◌<◌, ℕ, Bool, true, false, ◌&&◌, ◌||◌, not, List, [], ◌∷◌, ◌++◌, map, filter, length, codes, decimal, bytes_eq, nat_le, nat_lt, ◌==◌, ◌+◌, ◌^◌, if◌then◌else◌, IsTrue, Option, Some, None, option_to_list}
-use Rattle.std.specs.List.{list_all, list_any, flat_map, filter_map}
+use Rattle.std.specs.Prelude.{◌≡◌, ◌≢◌, ◌⊎◌, ◌≤◌, ◌<◌, ℕ, Bool, true, false, ◌&&◌, ◌||◌, not, List, [], ◌∷◌, ◌++◌, map, filter, length, codes, decimal, bytes_eq, nat_le, ◌==◌, ◌+◌, ◌^◌, if◌then◌else◌, IsTrue, Option, Some, None, option_to_list}
+use Rattle.std.specs.List.{list_all, list_any, flat_map}
 use Rattle.smk_base.specs.declared.tree.Amount.{Amount}
 use Rattle.smk_base.specs.declared.tree.Pair.{Pair}
 use Rattle.smk_world.specs.Trees.{Each, is_path_text}

@@ -1,5 +1,4 @@
-ghost use Rattle.std.specs.Prelude.{◌≡◌, ◌⊎◌, [], map, string_bytes, IsSome};
-ghost use Rattle.smk_world.specs.Calls.{Rose};
+ghost use Rattle.std.specs.Prelude.{◌≡◌, [], map, string_bytes};
 ghost use Rattle.smk_world.specs.Runs.{Did};
 ghost use Rattle.smk_report.specs.Faults.{status_of};
 ghost use Rattle.smk_cli_target.specs.Ends.{Put};

@@ -1,7 +1,7 @@
 //! The call of the program as it is to be: what it promises.
 #![tactic(auto)]
 
-ghost use Rattle.smk_cli_target.specs.Files.{NoFaultyWorkflow, OneWorkflow};
+ghost use Rattle.smk_cli_target.specs.Files.{NoFaultyWorkflow, OneFirstFault, OneWorkflow};
 ghost use Rattle.smk_cli_target.specs.Headline.{CameIsGood, CameIsHistory, ClausesAreMet, Headline};
 
 mod asked;
@@ -9,10 +9,12 @@ mod call;
 
 pub use asked::{Asked, Outcome, RunWords};
 
-/// The files of a folder are one workflow, with what the words set; and then nothing is wrong with them.
+/// The files of a folder are one workflow, with what the words set, and then nothing is wrong with them; or what is wrong with them first is
+/// one fault.
 pub fn workflow_is_one()
     ensures one { OneWorkflow }
     ensures faultless { NoFaultyWorkflow }
+    ensures fault { OneFirstFault }
 {}
 
 /// A program that meets the contract has the headline. Its clauses speak of one log, where the folder and the bytes of `out` are told.

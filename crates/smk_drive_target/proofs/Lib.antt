@@ -4,5 +4,3 @@ pub mod OneMoment
 pub mod HasMoment
 pub mod Looks
 pub mod OneRefusal
-pub mod Logs
-pub mod CopyRow

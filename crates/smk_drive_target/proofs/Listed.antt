@@ -1,5 +1,5 @@
 -- A chain of plans comes to its end: each plan but the last one lists a name that stands and wasn't listed before.
-use Rattle.std.proofs.Common.{◌≡◌, ◌⊎◌, ◌≢◌, ℕ, suc, ◌≤◌, arith, Bool, true, false, cond, ◌&&◌, List, [], ◌∷◌, ◌++◌, map, filter, length, refl, sym, ap, subst, inl, inr, ◌∙◌, Option, Some, None, option_map, is_some, is_none, true≢false}
+use Rattle.std.proofs.Common.{◌≡◌, ◌≢◌, ℕ, suc, ◌≤◌, arith, Bool, true, false, cond, ◌&&◌, List, [], ◌∷◌, ◌++◌, map, filter, length, refl, sym, ap, subst, inl, inr, ◌∙◌, Option, Some, None, option_map, is_some, is_none, true≢false}
 use Rattle.std.specs.Prelude.{bytes_eq}
 use Rattle.smk_base.proofs.Places.{place_itself}
 use Rattle.smk_world.specs.declared.event.Node.{Node}

@@ -1,12 +1,11 @@
 -- A look leaves what has begun and the plan in force.
-use Rattle.std.proofs.Common.{◌≡◌, Bool, true, false, ◌&&◌, List, [], ◌∷◌, ◌++◌, map, filter, refl, sym, ap, subst, ◌∙◌, Option, Some, None, IsTrue, append-nil, true≢false}
+use Rattle.std.proofs.Common.{◌≡◌, Bool, true, false, ◌&&◌, List, [], ◌∷◌, ◌++◌, map, filter, refl, sym, ap, subst, ◌∙◌, Option, Some, None, append-nil, true≢false}
 use Rattle.std.specs.List.{list_any}
 use Rattle.smk_world.specs.declared.event.Call.{Call}
 use Rattle.smk_world.specs.declared.event.Call.TheVariants.{Looked, ReadFile, ReadFolder, Written, Created, Removed, MadeParents, Settled, Protected, Started, Waited}
 use Rattle.smk_world.specs.declared.event.Event.{Event}
 use Rattle.smk_world.specs.Devices.{is_look}
 use Rattle.smk_world.specs.World.{World, after}
-use Rattle.smk_world.specs.Trees.{Path}
 use Rattle.smk_flow.specs.declared.job.Job.{Job}
 use Rattle.smk_flow.specs.Flows.{Flow}
 use Rattle.smk_store.specs.Images.{Image}
@@ -14,7 +13,7 @@ use Rattle.smk_chain.specs.Derive.{Listings}
 use Rattle.smk_trigger.specs.declared.reason.State.{State}
 use Rattle.smk_pick.specs.declared.settings.Settings.{Settings}
 use Rattle.smk_plan.specs.States.{Plan, Progress, LastPlan, Last, Then}
-use Rattle.smk_drive.specs.Moments.{Rules, Moment, Begun, IsMoment, AtEntry, AtRest, Between, IsInForce, begins, begun_after, begun_of, has_begun, is_rest, lists_of, places, progress_of, seen, staged_now, with_end}
+use Rattle.smk_drive.specs.Moments.{Rules, Moment, Begun, IsMoment, AtEntry, AtRest, Between, IsInForce, begins, begun_after, begun_of, is_rest, lists_of, places, progress_of, seen, staged_now, with_end}
 use Rattle.smk_drive_target.specs.Moments.{IsStill, LooksKeepMoments}
 use Rattle.smk_drive_target.proofs.OneMoment.{one_moment}
 
@@ -99,8 +98,8 @@ module _ (rules : Rules) where
             let there = at_rest events m is r in (
               _,
               AtRest events m e m.plan is (subst (λ bs. is_rest (after m.world e) bs ≡ true) (sym begun) (sym rests ∙ r))
-              (subst (λ bs. IsInForce rules (after m.world e) bs m.lists m.plan) (sym begun)
-              (force_same m.world (after m.world e) m.begun m.lists m.plan reads runs there.0)),
+                  (subst (λ bs. IsInForce rules (after m.world e) bs m.lists m.plan) (sym begun)
+                  (force_same m.world (after m.world e) m.begun m.lists m.plan reads runs there.0)),
               record { begun = begun; plan = refl; lists = there.1 },
             )
         go false r = (
@@ -115,17 +114,17 @@ module _ (rules : Rules) where
     after_look : (events : List Event) (m : Moment) (call : Call) → is_look call ≡ true → IsMoment rules entry events m → Follow events (look call) m
     after_look events m (Looked p r) h is =
         still events m (look (Looked p r))
-        (begun_kept (with_end m.world (after m.world (look (Looked p r))) (Looked p r)) (λ k. begins rules m (look (Looked p r)) k.0) (begun_of rules entry m) m.begun (staged_now m.plan)
+        (begun_kept (with_end rules m.world (after m.world (look (Looked p r))) (Looked p r)) (λ k. begins rules m (look (Looked p r)) k.0) (begun_of rules entry m) m.begun (staged_now m.plan)
         (λ b. refl) (λ k. never _ _ (none_any (places k.0))))
         refl refl refl is
     after_look events m (ReadFile p limit r) h is =
         still events m (look (ReadFile p limit r))
-        (begun_kept (with_end m.world (after m.world (look (ReadFile p limit r))) (ReadFile p limit r)) (λ k. begins rules m (look (ReadFile p limit r)) k.0) (begun_of rules entry m) m.begun
+        (begun_kept (with_end rules m.world (after m.world (look (ReadFile p limit r))) (ReadFile p limit r)) (λ k. begins rules m (look (ReadFile p limit r)) k.0) (begun_of rules entry m) m.begun
         (staged_now m.plan) (λ b. refl) (λ k. never _ _ (none_any (places k.0))))
         refl refl refl is
     after_look events m (ReadFolder p r) h is =
         still events m (look (ReadFolder p r))
-        (begun_kept (with_end m.world (after m.world (look (ReadFolder p r))) (ReadFolder p r)) (λ k. begins rules m (look (ReadFolder p r)) k.0) (begun_of rules entry m) m.begun
+        (begun_kept (with_end rules m.world (after m.world (look (ReadFolder p r))) (ReadFolder p r)) (λ k. begins rules m (look (ReadFolder p r)) k.0) (begun_of rules entry m) m.begun
         (staged_now m.plan) (λ b. refl) (λ k. never _ _ (none_any (places k.0))))
         refl refl refl is
     after_look events m (Written p bytes r) h is = absurd (true≢false (sym h))

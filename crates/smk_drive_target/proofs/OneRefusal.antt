@@ -1,8 +1,7 @@
 -- A run meets one first refusal, and so does a chain of plans.
-use Rattle.std.proofs.Common.{◌≡◌, ◌⊎◌, ◌<◌, ◌^◌, ℕ, arith, List, [], ◌∷◌, ◌++◌, refl, sym, ap, subst, inl, inr, ◌∙◌, Some}
-use Rattle.smk_world.specs.declared.event.Event.{Event}
+use Rattle.std.proofs.Common.{◌≡◌, ◌⊎◌, ◌<◌, ◌^◌, ℕ, arith, List, [], ◌∷◌, ◌++◌, refl, sym, ap, subst, inl, inr, ◌∙◌}
 use Rattle.smk_world.specs.declared.recipe.Out.{Out}
-use Rattle.smk_world.specs.World.{World, IsFormed}
+use Rattle.smk_world.specs.World.{World}
 use Rattle.smk_world.specs.Trees.{Each, outs_of}
 use Rattle.smk_flow.specs.declared.job.Job.{Job}
 use Rattle.smk_flow.specs.Flows.{Flow, rule_name}
@@ -18,7 +17,7 @@ use Rattle.smk_laws_plan.proofs.PlanOne.{one_plan}
 use Rattle.smk_laws_history.proofs.CurrentComplete.{seen_is_complete}
 use Rattle.smk_drive.specs.Moments.{Rules, Moment, IsMoment, begun_of, progress_of, seen, serial_of}
 use Rattle.smk_drive.specs.Refusals.{ChainRefuses, DerivationRefuses, IsFault, NextRefuses, PlanRefuses, record_length, refused_of}
-use Rattle.smk_drive_target.specs.Refusals.{IsSameFault, MomentRefuses, PlansAreRefused, NoSerial, LongRecord, RunRefuses, OneChainRefusal, OneRefusal}
+use Rattle.smk_drive_target.specs.Refusals.{IsSameFault, MomentRefuses, PlansAreRefused, NoSerial, LongRecord, OneChainRefusal, OneRefusal}
 use Rattle.smk_drive_target.proofs.Fronts.{GoesOn, fronts, head_same, tail_same}
 use Rattle.smk_drive_target.proofs.OneMoment.{formed_at, one_moment}
 

@@ -1,14 +1,14 @@
 -- What a run keeps and takes away: temporary outputs that are spent, and protected ones.
-use Rattle.std.specs.Prelude.{◌≡◌, ◌⊎◌, ◌≤◌, ℕ, Bool, true, false, List, IsTrue, Option, Some, Ok}
+use Rattle.std.specs.Prelude.{◌≡◌, ◌⊎◌, ◌≤◌, ℕ, Bool, true, false, List, IsTrue, Some, Ok}
 use Rattle.std.specs.List.{list_any}
 use Rattle.smk_base.specs.Path.{is_at_or_under}
 use Rattle.smk_world.specs.declared.event.Call.{Call}
 use Rattle.smk_world.specs.declared.event.Call.TheVariants.{Started, Removed}
 use Rattle.smk_world.specs.declared.event.Event.{Event}
 use Rattle.smk_world.specs.World.{World, run, firmly, reading}
-use Rattle.smk_world.specs.Trees.{Path, Each, IsIn}
+use Rattle.smk_world.specs.Trees.{Path, IsIn}
 use Rattle.smk_store.specs.Images.{Content, file_at}
-use Rattle.smk_drive.specs.Moments.{Rules, Moment, Begun, IsMoment, EachMoment, seen, is_spent_now, is_closed_well}
+use Rattle.smk_drive.specs.Moments.{Rules, Moment, Begun, IsMoment, seen, is_spent_now, is_closed_well}
 use Rattle.smk_drive_target.specs.Moments.{AtEachEvent}
 
 -- a child was started

@@ -1,6 +1,6 @@
 -- The law of a run's log: what each event may change, when a job may begin, and what must not be left undone.
-use Rattle.std.specs.Prelude.{◌≡◌, ◌⊎◌, ◌≤◌, ◌≢◌, ℕ, Bool, false, ◌&&◌, ◌||◌, not, List, [], ◌∷◌, ◌++◌, filter, IsTrue, Option, Some, None}
-use Rattle.std.specs.List.{list_any, list_all, flat_map}
+use Rattle.std.specs.Prelude.{◌≡◌, ◌⊎◌, ◌≤◌, ◌≢◌, ℕ, Bool, false, ◌&&◌, ◌||◌, not, List, [], ◌∷◌, ◌++◌, filter, IsTrue, Some, None}
+use Rattle.std.specs.List.{list_all, flat_map}
 use Rattle.smk_base.specs.Place.{record_place}
 use Rattle.smk_world.specs.declared.event.Call.{Call}
 use Rattle.smk_world.specs.declared.event.Call.TheVariants.{Written, Started, Waited}
@@ -10,7 +10,6 @@ use Rattle.smk_world.specs.World.{World, run, in_paths, out_paths, is_within, is
 use Rattle.smk_world.specs.Calls.{failed, IsFirmlyMarked}
 use Rattle.smk_world.specs.Trees.{Path, Each, IsIn, among, outs_of}
 use Rattle.smk_flow.specs.declared.job.Job.{Job}
-use Rattle.smk_record.specs.declared.record.Record.{Record}
 use Rattle.smk_trigger.specs.declared.reason.State.{State}
 use Rattle.smk_pick.specs.Rooms.{threads_in}
 use Rattle.smk_plan.specs.States.{Plan, is_startable, is_read_now, none_or_one, staged}

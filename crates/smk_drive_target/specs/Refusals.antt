@@ -1,5 +1,5 @@
 -- The refusals that a run meets, at its entry and at rests.
-use Rattle.std.specs.Prelude.{◌≡◌, ◌≢◌, ◌⊎◌, ◌<◌, ℕ, List, [], ◌∷◌, ◌++◌, ◌^◌, IsTrue, Option, Some}
+use Rattle.std.specs.Prelude.{◌≡◌, ◌≢◌, ◌⊎◌, ◌<◌, ℕ, List, [], ◌∷◌, ◌++◌, ◌^◌, IsTrue, Some}
 use Rattle.std.specs.List.{flat_map}
 use Rattle.smk_world.specs.World.{World, IsFormed}
 use Rattle.smk_world.specs.Trees.{Each, outs_of}

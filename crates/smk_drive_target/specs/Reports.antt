@@ -1,5 +1,5 @@
 -- The text of a run's report, by its log and its targets.
-use Rattle.std.specs.Prelude.{◌≡◌, ◌⊎◌, Bool, false, List, [], ◌∷◌, ◌++◌, filter, length, IsTrue}
+use Rattle.std.specs.Prelude.{◌≡◌, ◌⊎◌, false, List, [], ◌∷◌, ◌++◌, filter, length, IsTrue}
 use Rattle.smk_world.specs.declared.event.Event.{Event}
 use Rattle.smk_world.specs.World.{World}
 use Rattle.smk_world.specs.Calls.{failed}
