@@ -29,7 +29,12 @@ use Rattle.smk_drive_rows.proofs.Keeping.{Keeps}
 use Rattle.smk_drive_rows.proofs.Telling.{lines_of, is_report}
 use Rattle.smk_drive_rows.proofs.Events.{formed_of, rules_by, doing, of_job, IsGood, good}
 use Rattle.smk_drive_rows.proofs.CopyRow.{out}
-use Rattle.smk_drive_rows.proofs.TempRow.{t, removal}
+
+abbrev pub t : Path
+t = codes "t"
+
+abbrev pub removal : Event
+removal = event (Removed t (Ok tt)) []
 
 -- all is made, and the temporary file still stands
 abbrev pub nodes : Nodes

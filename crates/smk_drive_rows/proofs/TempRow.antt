@@ -1,4 +1,4 @@
--- A temporary file is made, read by two jobs, and taken away; and runs that take it away too early or don't settle it.
+-- A temporary file is made, read by a job, and taken away; and a run that takes it away too early.
 use Rattle.std.proofs.Common.{◌≡◌, ◌⊎◌, ℕ, Bool, true, false, List, [], ◌∷◌, ◌++◌, map, codes, Ok, refl, sym, subst, inl, inr, true≢false, arith}
 use Rattle.std.specs.Fmt.{digits}
 use Rattle.smk_base.specs.Path.{is_at_or_under, is_under}
@@ -9,10 +9,13 @@ use Rattle.smk_world.specs.declared.event.Call.TheVariants.{Removed, Settled}
 use Rattle.smk_world.specs.World.{World, Nodes, IsFormed, world_of, run, firmly, reading}
 use Rattle.smk_world.specs.Trees.{Path}
 use Rattle.smk_flow.specs.declared.job.Job.{Job}
+use Rattle.smk_record.specs.declared.record.Record.{Record}
+use Rattle.smk_record.specs.declared.record.Stamp.TheVariants.{Time, Made}
 use Rattle.smk_plan.specs.States.{job_path}
 use Rattle.smk_drive.specs.Moments.{Rules}
 use Rattle.smk_flow.proofs.Examples.{temporary_with, cat}
-use Rattle.smk_plan.proofs.Plans.{u_and_v, temporary_jobs, temporary_records}
+use Rattle.smk_chain.proofs.Folders.{jobs_in, recorded, fresh}
+use Rattle.smk_plan.proofs.Plans.{with_targets}
 use Rattle.smk_drive.proofs.Turns.{reader, event}
 use Rattle.smk_drive_target.specs.Lawful.{Lawful}
 use Rattle.smk_drive_target.specs.Keeping.{KeepsOutputs, IsSettled as IsSettledAt}
@@ -26,6 +29,9 @@ use Rattle.smk_drive_rows.proofs.Events.{formed_of, rules_by, doing, of_job, IsG
 abbrev pub t : Path
 t = codes "t"
 
+abbrev pub u : Path
+u = codes "u"
+
 abbrev pub nodes : Nodes
 nodes = (codes "s", Regular (codes "q") 1 false) ∷ []
 
@@ -35,24 +41,30 @@ entry = world_of nodes
 formed : IsFormed entry
 formed = formed_of nodes refl
 
-abbrev pub rules : Rules
-rules = rules_by (temporary_with cat) u_and_v (reader temporary_records)
+abbrev pub the_jobs : List Job
+the_jobs = jobs_in (temporary_with cat) (fresh nodes) [] (u ∷ [])
 
-pub their_order : map job_path temporary_jobs ≡ t ∷ codes "u" ∷ codes "v" ∷ []
+pub their_order : map job_path the_jobs ≡ t ∷ u ∷ []
 their_order = refl
 
--- the temporary file and its first reader
+abbrev pub records : List Record
+records = recorded the_jobs ((1, Time 1 ∷ [], []) ∷ (2, Made 1 ∷ [], []) ∷ [])
+
+abbrev pub rules : Rules
+rules = rules_by (temporary_with cat) (with_targets (u ∷ [])) (reader records)
+
+-- the temporary file is made
 abbrev pub half : List Event
-half = of_job temporary_jobs 0 (doing 1 t (codes "q")) ++ of_job temporary_jobs 1 (doing 2 (codes "u") (codes "q"))
+half = of_job the_jobs 0 (doing 1 t (codes "q"))
 
 abbrev pub removal : Event
 removal = event (Removed t (Ok tt)) []
 
 abbrev pub log : List Event
-log = half ++ (of_job temporary_jobs 2 (doing 3 (codes "v") (codes "q")) ++ (removal ∷ event (Settled (t ∷ []) (Ok tt)) [] ∷ []))
+log = half ++ (of_job the_jobs 1 (doing 2 u (codes "q")) ++ (removal ∷ event (Settled (t ∷ []) (Ok tt)) [] ∷ []))
 
 settled : IsSettled rules entry log
-settled = record { start = refl; rests = (refl, (refl, (refl, (refl, (refl, (refl, (refl, (refl, (refl, (refl, (refl, tt))))))))))) }
+settled = record { start = refl; rests = (refl, (refl, (refl, (refl, (refl, (refl, (refl, (refl, tt)))))))) }
 
 is_checked : IsChecked rules entry log 0
 is_checked =
@@ -62,12 +74,9 @@ is_checked =
       end = refl;
       starts = (
         (_, inl refl, refl, refl, refl, started rules entry _ _ refl),
-        (
-          (_, inr (inl refl), refl, refl, refl, started rules entry _ _ refl),
-          ((_, inr (inr (inl refl)), refl, refl, refl, started rules entry _ _ refl), tt),
-        ),
+        ((_, inr (inl refl), refl, refl, refl, started rules entry _ _ refl), tt),
       );
-      writes = ((refl, tt), ((refl, tt), ((refl, tt), tt)));
+      writes = ((refl, tt), ((refl, tt), tt));
       waited = inl refl;
     }
 
@@ -91,11 +100,8 @@ pub its_report : IsRunText rules entry log (lines_of
     ∷ codes "done t t"
     ∷ codes "start u u"
     ∷ codes "done u u"
-    ∷ codes "start v v"
-    ∷ codes "done v v"
     ∷ codes "current u"
-    ∷ codes "current v"
-    ∷ codes "summary: 3 started, 3 done, 0 failed"
+    ∷ codes "summary: 2 started, 2 done, 0 failed"
     ∷ []))
 unfolding digits
 its_report = is_report rules entry formed log settled _ refl
@@ -103,9 +109,9 @@ its_report = is_report rules entry formed log settled _ refl
 -- ## Wrong runs
 
 half_settled : IsSettled rules entry half
-half_settled = record { start = refl; rests = (refl, (refl, (refl, (refl, (refl, (refl, tt)))))) }
+half_settled = record { start = refl; rests = (refl, (refl, (refl, tt))) }
 
--- it is taken away while the other reader still waits for it
+-- it is taken away while its reader still waits for it
 pub removes_early : (status : ℕ) → Lawful rules entry (half ++ removal ∷ []) status → ⊥
 removes_early status l =
     true≢false (sym ((l.each half removal [] (last rules entry half) refl (last_is rules entry formed half half_settled)).changes t refl))
