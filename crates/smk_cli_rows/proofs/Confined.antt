@@ -46,20 +46,19 @@ module _ (places below : List Path) (q : Path) (outside : is_within q places ≡
       go (inl t) = absurd (true≢false (sym (subst (λ x. is_within x places ≡ true) (sym (same_place q p t)) h) ∙ outside))
       go (inr f) = f
 
+  or_true : (c : Bool) → (c || true) ≡ true
+  or_true true = refl
+  or_true false = refl
+
+  above_by :
+      (p x : Path) (xs : List Path) → is_under p q ≡ true → (is_named p xs ≡ true → is_above q xs ≡ true) →
+      (c : Bool) → bytes_eq p x ≡ c → (c || is_named p xs) ≡ true → (is_under x q || is_above q xs) ≡ true
+  above_by p x xs u deeper true e t = subst (λ y. (is_under y q || is_above q xs) ≡ true) (same_place p x e) (subst (λ c. (c || is_above q xs) ≡ true) (sym u) refl)
+  above_by p x xs u deeper false e t = subst (λ c. (is_under x q || c) ≡ true) (sym (deeper t)) (or_true (is_under x q))
+
   above_one : (p : Path) (ps : List Path) → is_named p ps ≡ true → is_under p q ≡ true → is_above q ps ≡ true
   above_one p [] n u = absurd (true≢false (sym n))
-  above_one p (x ∷ xs) n u = go (bytes_eq p x) refl n
-    where
-      later : is_above q xs ≡ true → (is_under x q || is_above q xs) ≡ true
-      later t = subst (λ b. (is_under x q || b) ≡ true) (sym t) (or_true (is_under x q))
-        where
-          or_true : (b : Bool) → (b || true) ≡ true
-          or_true true = refl
-          or_true false = refl
-
-      go : (b : Bool) → bytes_eq p x ≡ b → (b || is_named p xs) ≡ true → (is_under x q || is_above q xs) ≡ true
-      go true e t = subst (λ y. (is_under y q || is_above q xs) ≡ true) (same_place p x e) (subst (λ b. (b || is_above q xs) ≡ true) (sym u) refl)
-      go false e t = later (above_one p xs t u)
+  above_one p (x ∷ xs) n u = above_by p x xs u (λ t. above_one p xs t u) (bytes_eq p x) refl n
 
   not_under : (p : Path) → is_named p below ≡ true → is_under p q ≡ false
   not_under p h = go (test (is_under p q))

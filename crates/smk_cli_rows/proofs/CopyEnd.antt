@@ -42,8 +42,8 @@ no_marks w formed t p some = go (test (is_named (mark_place p) w.names))
         (subst (λ b. (b && is_some (reading (w.nodes (mark_place p)))) ≡ true) (sym (begins_joined (codes ".snakemake/smk/marks/") (name_of p))) some)
     go (inr other) = nothing_reads w (mark_place p) (formed.complete (mark_place p) other) some
 
-pub none_marked : (entry exit : World) → IsFormed exit → list_all (λ q. not (is_mark exit q)) exit.names ≡ true → HasNoNewMark entry exit
-none_marked entry exit formed t p marked = absurd (no_marks exit formed t p (and_right (is_path_text p) (is_some (reading (exit.nodes (mark_place p)))) marked))
+pub none_marked : (before exit : World) → IsFormed exit → list_all (λ q. not (is_mark exit q)) exit.names ≡ true → HasNoNewMark before exit
+none_marked before exit ok t p marked = absurd (no_marks exit ok t p (and_right (is_path_text p) (is_some (reading (exit.nodes (mark_place p)))) marked))
 
 -- ## The good end
 

@@ -36,7 +36,7 @@ abbrev until_failed : List Event
 until_failed = of_job the_jobs 0 (λ j. marking out ++ (start 1 j ∷ ends 1 1 [] ∷ []))
 
 until_settled : IsSettled rules entry until_failed
-until_settled = record { entry = refl; rests = (refl, (refl, tt)) }
+until_settled = record { start = refl; rests = (refl, (refl, tt)) }
 
 pub its_fault : FailedSo rules entry log (fault.JobFailed (codes "copy") out 1)
 its_fault =

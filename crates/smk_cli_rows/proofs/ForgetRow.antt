@@ -1,4 +1,4 @@
--- `--cleanup-metadata` of two paths: the records go, and nothing else; and calls that leave one, or take more.
+-- `--cleanup-metadata` of two paths, one with a mark and one with a note: these go, and nothing else; and calls that leave one, or take more.
 use Rattle.std.proofs.Common.{◌≡◌, ◌⊎◌, ◌≢◌, ℕ, Bool, true, false, List, [], ◌∷◌, ◌++◌, codes, Option, Some, None, Ok, is_some, refl, sym, ap, ◌∙◌, IsTrue, arith, true≢false}
 use Rattle.smk_base.specs.Place.{record_place, mark_place, note_place, lock_place, records_folder, marks_folder, notes_folder}
 use Rattle.smk_world.specs.declared.event.Node.TheVariants.{Regular, Directory}
@@ -41,9 +41,10 @@ abbrev pub nodes : Nodes
 nodes =
     (codes ".snakemake", Directory)
     ∷ (codes ".snakemake/smk", Directory)
-    ∷ (codes ".snakemake/smk/records", Directory)
-    ∷ (record_place a, Regular (codes "?") 1 false)
-    ∷ (record_place b, Regular (codes "?") 1 false)
+    ∷ (notes_folder, Directory)
+    ∷ (note_place b, Regular [] 1 false)
+    ∷ (marks_folder, Directory)
+    ∷ (mark_place a, Regular [] 1 false)
     ∷ (a, Regular (codes "x") 1 false)
     ∷ (b, Regular (codes "y") 1 false)
     ∷ (codes "in.txt", Regular (codes "z") 1 false)
@@ -93,7 +94,7 @@ again = (([], refl), λ zero. refl)
 
 -- ## Wrong calls
 
--- the second record is left
+-- the note is left
 pub leaves_one : HasForgotten (a ∷ b ∷ []) false 0 entry (run entry (locking ++ (forgetting a ++ unlocking))) → ⊥
 leaves_one h = true≢false ((h.all refl).1.0)
 

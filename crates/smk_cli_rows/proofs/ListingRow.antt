@@ -1,5 +1,5 @@
 -- Listings of a folder with one file to copy: the good text, and texts that are refused.
-use Rattle.std.proofs.Common.{◌≡◌, ℕ, Bool, true, false, List, [], ◌∷◌, ◌++◌, Option, Some, None, refl, sym, subst, ◌∙◌, ap, inl, inr, true≢false, arith}
+use Rattle.std.proofs.Common.{◌≡◌, ◌⊎◌, ℕ, Bool, true, false, List, [], ◌∷◌, ◌++◌, Option, Some, None, refl, sym, subst, ◌∙◌, ap, inl, inr, true≢false, arith}
 use Rattle.std.specs.Prelude.{codes, bytes_eq}
 use Rattle.std.specs.Fmt.{digits}
 use Rattle.smk_world.specs.declared.event.Node.TheVariants.{Regular}
@@ -72,7 +72,7 @@ unfolding digits
 not_current h =
     let l = h.0 refl in
     let same = one_last_plan rules.flow (seen entry) rules.settings nothing_done [] l.0 plan (seen_is_complete record_in entry formed) l.1 is_plan in
-    true≢false (sym (ap (λ t. bytes_eq (codes "current out.txt\n") t) (l.2 ∙ ap (listing_text rules.flow) same)))
+    true≢false (ap (λ t. bytes_eq (codes "current out.txt\n") t) (l.2 ∙ ap (listing_text rules.flow) same))
 
 -- where the device failed nothing is put
 pub not_put : HasListed rules entry 4 (codes "current out.txt\n") → ⊥
