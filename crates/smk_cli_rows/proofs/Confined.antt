@@ -1,9 +1,9 @@
 -- Events that are confined to some places, and to folders above others: elsewhere a folder stays as it was.
-use Rattle.std.proofs.Common.{◌≡◌, ◌⊎◌, ℕ, Bool, true, false, ◌&&◌, ◌||◌, cond, List, [], ◌∷◌, Option, Some, None, Ok, Err, bytes_eq, refl, sym, ap, subst, ◌∙◌, inl, inr, IsTrue, true≢false}
+use Rattle.std.proofs.Common.{◌≡◌, ◌⊎◌, ℕ, Bool, true, false, ◌&&◌, ◌||◌, cond, List, [], ◌∷◌, Option, Ok, Err, bytes_eq, refl, sym, ap, subst, ◌∙◌, inl, inr, true≢false}
 use Rattle.std.specs.Prelude.{is_some}
 use Rattle.std.specs.List.{list_all}
 use Rattle.smk_base.specs.Path.{is_at_or_under, is_under}
-use Rattle.smk_base.proofs.Places.{same_place, place_itself}
+use Rattle.smk_base.proofs.Places.{same_place}
 use Rattle.smk_world.specs.declared.event.Call.{Call}
 use Rattle.smk_world.specs.declared.event.Call.TheVariants.{Looked, ReadFile, ReadFolder, Written, Created, Removed, MadeParents, Settled, Protected, Started, Waited}
 use Rattle.smk_world.specs.declared.event.Change.{Change}
@@ -11,8 +11,8 @@ use Rattle.smk_world.specs.declared.event.Child.{Child}
 use Rattle.smk_world.specs.declared.event.Event.{Event}
 use Rattle.smk_world.specs.declared.event.Node.{Node}
 use Rattle.smk_world.specs.declared.event.NodeState.{NodeState}
-use Rattle.smk_world.specs.World.{World, Nodes, node_in, world_of, firmly, firm, standing, is_within, is_above, is_named, node_after, settled, reads_folder, run, after}
-use Rattle.smk_world.specs.Trees.{Path, among}
+use Rattle.smk_world.specs.World.{World, Nodes, node_in, world_of, firmly, firm, standing, is_within, is_above, is_named, node_after, reads_folder, run, after}
+use Rattle.smk_world.specs.Trees.{Path}
 use Rattle.smk_drive_rows.proofs.Truth.{and_left, and_right, test}
 use Rattle.smk_drive_rows.proofs.Changes.{at_within}
 use Rattle.smk_cli_target.specs.Ends.{Stays}

@@ -1,6 +1,5 @@
 -- How the run that copies a file ends: with status 0 and its whole report; and what may not be said of it.
-use Rattle.std.proofs.Common.{◌≡◌, ◌⊎◌, ℕ, Bool, true, false, ◌&&◌, not, List, [], ◌∷◌, ◌++◌, codes, Option, Some, None, Ok, is_some, refl, sym, ap, subst, ◌∙◌, inl, inr, IsTrue, arith, true≢false}
-use Rattle.std.specs.Fmt.{digits}
+use Rattle.std.proofs.Common.{◌≡◌, ◌⊎◌, ℕ, Bool, true, false, ◌&&◌, not, List, [], ◌∷◌, ◌++◌, codes, Option, None, Ok, is_some, refl, sym, ap, subst, ◌∙◌, inl, inr, arith, true≢false}
 use Rattle.std.specs.List.{list_all}
 use Rattle.smk_base.specs.Place.{mark_place, lock_place, name_of}
 use Rattle.smk_world.specs.declared.event.Event.{Event}
@@ -11,17 +10,16 @@ use Rattle.smk_world.specs.Trees.{Path, is_path_text}
 use Rattle.smk_pattern.specs.Shapes.{Text}
 use Rattle.smk_report.specs.Lines.{target_line}
 use Rattle.smk_drive.specs.Moments.{Rules}
-use Rattle.smk_drive.specs.Lawful.{has_failed}
 use Rattle.smk_flow.proofs.Examples.{commands}
 use Rattle.smk_drive.proofs.Turns.{event, put}
 use Rattle.smk_drive_target.specs.Reports.{HasLine}
 use Rattle.smk_drive_rows.proofs.Truth.{and_right, not_both, test}
 use Rattle.smk_drive_rows.proofs.Changes.{each_named}
 use Rattle.smk_drive_rows.proofs.Chains.{in_force}
-use Rattle.smk_drive_rows.proofs.Logs.{last, last_is, last_whole, at_the_end}
+use Rattle.smk_drive_rows.proofs.Logs.{last, last_is, last_whole}
 use Rattle.smk_drive_rows.proofs.Telling.{lines_of, begins_so, begins_joined}
 use Rattle.smk_drive_rows.proofs.CopyRow.{entry, formed, rules, log, settled, out, its_text, its_report}
-use Rattle.smk_cli_target.specs.Ends.{EndsWell, IsDone, HasNoNewMark, CurrentIsClean}
+use Rattle.smk_cli_target.specs.Ends.{EndsWell, IsDone, HasNoNewMark}
 
 -- ## No mark
 

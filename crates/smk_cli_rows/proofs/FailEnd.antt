@@ -1,9 +1,8 @@
 -- How the run whose job fails ends: with status 1; and it may not call its target current.
-use Rattle.std.proofs.Common.{◌≡◌, ℕ, Bool, true, false, List, [], ◌∷◌, ◌++◌, codes, Option, Some, None, is_some, refl, sym, ap, ◌∙◌, IsTrue, arith, true≢false}
-use Rattle.std.specs.Fmt.{digits}
+use Rattle.std.proofs.Common.{◌≡◌, ℕ, true, false, List, [], ◌∷◌, ◌++◌, codes, Option, Some, is_some, refl, sym, ap, ◌∙◌, IsTrue, arith, true≢false}
 use Rattle.smk_base.specs.declared.tree.Tree.{Tree}
 use Rattle.smk_world.specs.declared.event.Event.{Event}
-use Rattle.smk_world.specs.World.{World, run}
+use Rattle.smk_world.specs.World.{run}
 use Rattle.smk_pattern.specs.Shapes.{Text}
 use Rattle.smk_report.specs.declared.fault.Fault.TheVariants as fault
 use Rattle.smk_report.specs.Lines.{target_line}
@@ -15,7 +14,7 @@ use Rattle.smk_drive_rows.proofs.Telling.{no_line}
 use Rattle.smk_drive_rows.proofs.Events.{of_job, marking, start, ends}
 use Rattle.smk_drive_rows.proofs.CopyRow.{entry, formed, out}
 use Rattle.smk_drive_rows.proofs.FailRow.{rules, log, settled, the_jobs, its_text, its_report}
-use Rattle.smk_cli_target.specs.Ends.{EndsWell, CurrentIsClean, FailedSo, HasEnded}
+use Rattle.smk_cli_target.specs.Ends.{EndsWell, CurrentIsClean, FailedSo}
 use Rattle.smk_cli_rows.proofs.CopyEnd.{none_marked}
 
 pub ends_well : EndsWell commands rules entry log 1 its_text

@@ -1,5 +1,5 @@
 -- `--cleanup-metadata` of two paths, one with a mark and one with a note: these go, and nothing else; and calls that leave one, or take more.
-use Rattle.std.proofs.Common.{◌≡◌, ◌⊎◌, ◌≢◌, ℕ, Bool, true, false, List, [], ◌∷◌, ◌++◌, codes, Option, Some, None, Ok, is_some, refl, sym, ap, ◌∙◌, IsTrue, arith, true≢false}
+use Rattle.std.proofs.Common.{◌≡◌, ℕ, true, false, List, [], ◌∷◌, ◌++◌, codes, Option, Ok, is_some, refl, sym, ap, ◌∙◌, arith, true≢false}
 use Rattle.smk_base.specs.Place.{record_place, mark_place, note_place, lock_place, records_folder, marks_folder, notes_folder}
 use Rattle.smk_world.specs.declared.event.Node.TheVariants.{Regular, Directory}
 use Rattle.smk_world.specs.declared.event.Event.{Event}
@@ -10,7 +10,7 @@ use Rattle.smk_pattern.specs.Shapes.{Text}
 use Rattle.smk_drive.proofs.Turns.{event, put}
 use Rattle.smk_drive_rows.proofs.Truth.{not_empty}
 use Rattle.smk_cli_target.specs.declared.asked.Asked.TheVariants.{Forget}
-use Rattle.smk_cli_target.specs.Words.{CleanupMetadata, Given, Part, Spells, NoWord, ValueIsNext, IsAsked, AForgetting}
+use Rattle.smk_cli_target.specs.Words.{CleanupMetadata, Given, Part, NoWord, ValueIsNext, IsAsked, AForgetting}
 use Rattle.smk_cli_target.specs.Files.{seen}
 use Rattle.smk_cli_target.specs.Clauses.{HasForgotten, IsWholeFor, forgotten_lines, own_places}
 use Rattle.smk_cli_rows.proofs.Confined.{stays_elsewhere}

@@ -1,12 +1,12 @@
 -- Listings of a folder with one file to copy: the good text, and texts that are refused.
-use Rattle.std.proofs.Common.{◌≡◌, ◌⊎◌, ℕ, Bool, true, false, List, [], ◌∷◌, ◌++◌, Option, Some, None, refl, sym, subst, ◌∙◌, ap, inl, inr, true≢false, arith}
+use Rattle.std.proofs.Common.{◌≡◌, ◌⊎◌, ℕ, true, false, [], ◌∷◌, None, refl, sym, ◌∙◌, ap, inl, inr, true≢false, arith}
 use Rattle.std.specs.Prelude.{codes, bytes_eq}
 use Rattle.std.specs.Fmt.{digits}
 use Rattle.smk_world.specs.declared.event.Node.TheVariants.{Regular}
 use Rattle.smk_world.specs.World.{World, Nodes, IsFormed, world_of}
 use Rattle.smk_pattern.specs.Shapes.{Text}
 use Rattle.smk_pick.specs.declared.settings.Force.TheVariants.{No}
-use Rattle.smk_plan.specs.States.{Plan, LastPlan, Last, nothing_done}
+use Rattle.smk_plan.specs.States.{Plan, Last, nothing_done}
 use Rattle.smk_plan.proofs.Plans.{settle, from_jobs}
 use Rattle.smk_drive.specs.Moments.{Rules}
 use Rattle.smk_drive.specs.Reports.{listing_text}

@@ -1,5 +1,5 @@
 -- A run that is refused by the lock: it meets every clause, whatever the workflow, if its words ask one thing and its files say one.
-use Rattle.std.proofs.Common.{◌≡◌, ◌⊎◌, ℕ, Bool, true, false, List, [], ◌∷◌, Option, Some, None, refl, sym, ap, subst, ◌∙◌, inl, inr, IsTrue, true≢false}
+use Rattle.std.proofs.Common.{◌≡◌, ℕ, Bool, true, false, List, [], Option, Some, None, refl, ap, subst, ◌∙◌, inl, inr, IsTrue, true≢false}
 use Rattle.std.specs.Prelude.{not, ◌||◌}
 use Rattle.smk_world.specs.World.{World}
 use Rattle.smk_world.specs.Devices.{Device, Sunk}
@@ -17,7 +17,7 @@ use Rattle.smk_cli_target.specs.Words.{IsAsked, LacksCores}
 use Rattle.smk_cli_target.specs.Files.{GoesBy, ReadsAs, FailsToRead, OneWorkflow, NoFaultyWorkflow, bad_target, seen}
 use Rattle.smk_cli_target.specs.Refusing.{RefusesAtOnce, WordsRefuse, CoresRefuse, FilesRefuse, TargetRefuses, LockRefusesRun, LockRefusesForgetting, Refuses, AtOnce, StampRefuses, OfRun, OfListing, is_let_in}
 use Rattle.smk_cli_target.specs.Clauses.{HasLog, HasText, IsComplete}
-use Rattle.smk_cli_rows.proofs.Refused.{IsRefusedSo, IsLow, Three, log_so, text_so}
+use Rattle.smk_cli_rows.proofs.Refused.{IsRefusedSo, Three, log_so, text_so}
 
 no_device : Some fault.Locked ≡ Some fault.Device → ⊥
 no_device h = cc

@@ -1,29 +1,25 @@
 -- A call that is refused at once, and does nothing: it meets every clause on its log and its text, if just this is what it meets.
-use Rattle.std.proofs.Common.{◌≡◌, ◌⊎◌, ◌≤◌, ℕ, Bool, true, false, List, [], ◌∷◌, ◌++◌, filter, Option, Some, None, refl, sym, subst, inl, inr, IsTrue, arith, true≢false}
+use Rattle.std.proofs.Common.{◌≡◌, ◌⊎◌, ◌≤◌, ℕ, Bool, true, List, [], ◌∷◌, filter, Some, refl, sym, subst, inl, inr, IsTrue, arith, true≢false}
 use Rattle.smk_base.specs.Place.{mark_place}
-use Rattle.smk_world.specs.declared.event.Event.{Event}
 use Rattle.smk_world.specs.World.{World}
 use Rattle.smk_world.specs.Devices.{Device, Sunk}
 use Rattle.smk_world.specs.Trees.{Path, Act, Each}
 use Rattle.smk_pattern.specs.Shapes.{Text}
 use Rattle.smk_report.specs.declared.fault.Fault.{Fault}
 use Rattle.smk_report.specs.declared.fault.Fault.TheVariants as fault
-use Rattle.smk_report.specs.Lines.{target_line, unlocked_line}
-use Rattle.smk_drive.specs.Moments.{Rules, Moment, Begun, IsMoment}
+use Rattle.smk_report.specs.Lines.{target_line}
+use Rattle.smk_drive.specs.Moments.{Rules, Begun}
 use Rattle.smk_drive.specs.Reports.{NoLines, start_line_of}
 use Rattle.smk_drive_target.specs.Lawful.{Lawful}
-use Rattle.smk_drive_target.specs.Keeping.{KeepsOutputs}
 use Rattle.smk_drive_target.specs.Moments.{was_started}
 use Rattle.smk_drive_target.specs.Reports.{HasLine, HasStarts}
-use Rattle.smk_cli_target.specs.declared.asked.Asked.{Asked}
-use Rattle.smk_cli_target.specs.declared.asked.Asked.TheVariants.{Run, Preview, Unlock, Forget, Generate}
+use Rattle.smk_cli_target.specs.declared.asked.Asked.TheVariants.{Preview, Unlock, Forget, Generate}
 use Rattle.smk_cli_target.specs.declared.asked.Outcome.{Outcome}
 use Rattle.smk_cli_target.specs.declared.asked.RunWords.{RunWords}
 use Rattle.smk_cli_target.specs.Words.{IsAsked}
-use Rattle.smk_cli_target.specs.Files.{GoesBy}
-use Rattle.smk_cli_target.specs.Ends.{IsGoodEntry, IsClean}
+use Rattle.smk_cli_target.specs.Ends.{IsClean}
 use Rattle.smk_cli_target.specs.Refusing.{RefusesAtOnce, Refuses, AtOnce, is_met_at_once}
-use Rattle.smk_cli_target.specs.Clauses.{HasLog, HasText, RunsWell, EndsEarly, TellsRefusal, IsComplete, IsDoneUnless, IsRefusal}
+use Rattle.smk_cli_target.specs.Clauses.{HasLog, HasText, RunsWell, EndsEarly, TellsRefusal, IsComplete}
 use Rattle.smk_cli_target.proofs.Empty.{no_event, none_begun, no_front, room_at_rest, closed_none, no_current, kept_at_start, listed_at_start, stays_same}
 
 some_same : (f g : Fault) → Some f ≡ Some g → f ≡ g

@@ -1,24 +1,20 @@
 -- Words that ask nothing, words that lack cores, and what a call may tell of them.
-use Rattle.std.proofs.Common.{◌≡◌, ◌≢◌, ◌⊎◌, ◌≤◌, ℕ, Bool, true, false, List, [], ◌∷◌, ◌++◌, map, codes, decimal, bytes_eq, ◌==◌, Option, Some, None, refl, sym, ap, subst, ◌∙◌, inl, inr, IsTrue, arith, true≢false}
+use Rattle.std.proofs.Common.{◌≡◌, ℕ, Bool, true, false, List, [], ◌∷◌, ◌++◌, map, codes, bytes_eq, ◌==◌, Option, Some, None, refl, sym, ap, subst, ◌∙◌, inl, inr, true≢false}
 use Rattle.smk_base.proofs.Places.{place_itself}
 use Rattle.smk_world.specs.World.{World}
 use Rattle.smk_world.specs.Devices.{Device, Sunk}
-use Rattle.smk_world.specs.Trees.{Path, Act, Each}
+use Rattle.smk_world.specs.Trees.{Act}
 use Rattle.smk_pattern.specs.Shapes.{Text}
-use Rattle.smk_pick.specs.declared.settings.Force.TheVariants.{No}
 use Rattle.smk_report.specs.declared.fault.Fault.{Fault}
 use Rattle.smk_report.specs.declared.fault.Fault.TheVariants as fault
 use Rattle.smk_drive_rows.proofs.Truth.{head_same, tail_same, not_empty}
 use Rattle.smk_drive_rows.proofs.Telling.{begins_so, begins_joined}
 use Rattle.smk_cli_target.specs.declared.asked.Asked.{Asked}
 use Rattle.smk_cli_target.specs.declared.asked.Asked.TheVariants.{Run, Preview, Unlock, Forget, Generate}
-use Rattle.smk_cli_target.specs.declared.asked.Outcome.{Outcome}
-use Rattle.smk_cli_target.specs.declared.asked.RunWords.{RunWords}
-use Rattle.smk_cli_target.specs.Words.{Flag, DryRun, KeepGoing, RerunIncomplete, ForceTargets, ForceAll, Unlocking, NoLock, Valued, Cores, Snakefile, Config, Resources, CleanupMetadata, Generating, Part, Spells, NoWord, TargetsAfterDashes, ATarget, AFlag, ValueAfterSign, ValueIsNext, JoinedLetters, LettersThenNext, LettersThenValue, LettersThenSign, AreLetters, is_plain, flag_word, option_word, flag_letter, option_letter, IsAsked, ARun, AListing, AnUnlocking, AForgetting, AGenerating, LacksCores, AreUnread, HasCores}
-use Rattle.smk_cli_target.specs.Files.{GoesBy}
-use Rattle.smk_cli_target.specs.Refusing.{RefusesAtOnce, WordsRefuse, CoresRefuse, FilesRefuse, TargetRefuses, LockRefusesRun, LockRefusesForgetting, AsksToMake, Refuses, AtOnce, StampRefuses, OfRun, OfListing}
-use Rattle.smk_cli_target.specs.Clauses.{HasLog, HasText, IsComplete, IsRefusal}
-use Rattle.smk_cli_rows.proofs.Refused.{IsRefusedSo, IsLow, Two, refused, log_so, text_so, puts_nothing}
+use Rattle.smk_cli_target.specs.Words.{Flag, DryRun, KeepGoing, RerunIncomplete, ForceTargets, ForceAll, Unlocking, NoLock, Valued, Cores, Snakefile, Config, Resources, CleanupMetadata, Generating, Part, Spells, NoWord, TargetsAfterDashes, ATarget, AFlag, ValueAfterSign, ValueIsNext, JoinedLetters, LettersThenNext, LettersThenValue, LettersThenSign, AreLetters, is_plain, flag_word, option_word, flag_letter, option_letter, IsAsked, ARun, AListing, AnUnlocking, AForgetting, AGenerating, LacksCores, AreUnread}
+use Rattle.smk_cli_target.specs.Refusing.{RefusesAtOnce, WordsRefuse, CoresRefuse, FilesRefuse, TargetRefuses, LockRefusesRun, LockRefusesForgetting, Refuses, AtOnce, StampRefuses, OfRun, OfListing}
+use Rattle.smk_cli_target.specs.Clauses.{HasLog, HasText, IsComplete}
+use Rattle.smk_cli_rows.proofs.Refused.{IsRefusedSo, Two, refused, log_so, text_so, puts_nothing}
 
 -- ## Words that are refused
 

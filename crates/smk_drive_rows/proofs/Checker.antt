@@ -1,31 +1,27 @@
 -- What of the law of a log is computed: a test of each event and one of each moment. Starts and records are shown beside.
-use Rattle.std.proofs.Common.{◌≡◌, ◌⊎◌, ◌≤◌, ℕ, zero, suc, Bool, true, false, ◌&&◌, ◌||◌, not, cond, List, [], ◌∷◌, ◌++◌, filter, find, Option, Some, None, Ok, Err, refl, sym, ap, subst, ◌∙◌, IsTrue, true≢false, inl, inr, bytes_eq, nat_le, is_none, arith}
+use Rattle.std.proofs.Common.{◌≡◌, ◌⊎◌, ◌≤◌, ℕ, zero, suc, Bool, true, false, ◌&&◌, not, List, [], ◌∷◌, filter, Option, Some, None, refl, sym, subst, ◌∙◌, IsTrue, true≢false, bytes_eq, nat_le, is_none, arith}
 use Rattle.std.specs.Prelude.{◌≢◌}
-use Rattle.std.specs.List.{list_any, list_all, flat_map}
+use Rattle.std.specs.List.{list_all, flat_map}
 use Rattle.smk_base.specs.Place.{record_place, mark_place}
 use Rattle.smk_base.proofs.Places.{place_itself}
 use Rattle.smk_world.specs.declared.event.Besides.TheVariants.{Anything, OneOf}
 use Rattle.smk_world.specs.declared.event.NodeState.{NodeState}
 use Rattle.smk_world.specs.declared.event.NodeState.TheVariants.{Owned, Known}
-use Rattle.smk_world.specs.declared.event.Node.{Node}
 use Rattle.smk_world.specs.declared.event.Call.{Call}
 use Rattle.smk_world.specs.declared.event.Call.TheVariants.{Looked, ReadFile, ReadFolder, Written, Created, Removed, MadeParents, Settled, Protected, Started, Waited}
 use Rattle.smk_world.specs.declared.event.Event.{Event}
 use Rattle.smk_world.specs.declared.event.Child.{Child}
 use Rattle.smk_world.specs.declared.recipe.Out.{Out}
-use Rattle.smk_world.specs.declared.recipe.Recipe.{Recipe}
-use Rattle.smk_world.specs.World.{World, IsFormed, run, firmly, in_paths, out_paths}
+use Rattle.smk_world.specs.World.{World, IsFormed, run, in_paths, out_paths}
 use Rattle.smk_world.specs.Calls.{failed, IsFirmlyMarked}
 use Rattle.smk_world.specs.Trees.{Path, Each, IsIn, outs_of}
-use Rattle.smk_pattern.specs.Shapes.{Text}
 use Rattle.smk_flow.specs.declared.job.Job.{Job}
 use Rattle.smk_trigger.specs.declared.reason.State.{State}
 use Rattle.smk_plan.specs.States.{Plan, none_or_one, staged}
-use Rattle.smk_pick.specs.Rooms.{threads_in}
 use Rattle.smk_drive.specs.Moments.{Rules, Moment, Begun, IsMoment, EachMoment, begins, begun_after, runs, is_rest, is_closed_badly, staged_now}
 use Rattle.smk_drive.specs.Lawful.{is_wait, is_failed_wait, is_good_end, fit_together, running_jobs, goes_on, first_of, record_for, IsSafeInput}
 use Rattle.smk_drive_target.specs.Moments.{AtEachEvent}
-use Rattle.smk_drive_target.specs.Lawful.{Lawful, IsLawfulEvent, MayBegin, BeginsWell, StartsWell, IsStartOf, WritesWell, WaitsWell, NothingLeft, ClosedWithCause, may_start, is_free_to_start}
+use Rattle.smk_drive_target.specs.Lawful.{Lawful, MayBegin, BeginsWell, StartsWell, IsStartOf, WritesWell, WaitsWell, NothingLeft, ClosedWithCause, may_start, is_free_to_start}
 use Rattle.smk_drive_rows.proofs.Truth.{and_left, and_right, not_both, so_false, not_empty, nil_right, each_true, first_alone, finds_first, Finds}
 use Rattle.smk_drive_rows.proofs.Chains.{is_empty, empty_so}
 use Rattle.smk_drive_rows.proofs.Logs.{Unless, unless_left, unless_right, IsSettled, first_moment, last, at_the_end, Holds, all_events, at_each, by_tests}

@@ -1,11 +1,10 @@
 -- A run that copies a file, held against every clause; and wrong runs of the same folder, each refused by one.
-use Rattle.std.proofs.Common.{◌≡◌, ℕ, Bool, true, false, List, [], ◌∷◌, ◌++◌, codes, Some, None, Ok, Err, refl, sym, subst, inl, inr, IsTrue, true≢false, arith}
+use Rattle.std.proofs.Common.{◌≡◌, ℕ, true, false, List, [], ◌∷◌, ◌++◌, codes, Some, None, Ok, Err, refl, sym, subst, inl, true≢false, arith}
 use Rattle.std.specs.Fmt.{digits}
-use Rattle.smk_base.specs.Place.{mark_place, record_place}
 use Rattle.smk_world.specs.declared.event.Node.TheVariants.{Regular}
 use Rattle.smk_world.specs.declared.event.Event.{Event}
 use Rattle.smk_world.specs.declared.event.Failed.{Failed}
-use Rattle.smk_world.specs.declared.event.Call.TheVariants.{Removed, Settled, Started, Waited, Written}
+use Rattle.smk_world.specs.declared.event.Call.TheVariants.{Removed, Waited}
 use Rattle.smk_world.specs.declared.event.Node.{Node}
 use Rattle.smk_world.specs.World.{World, Nodes, IsFormed, world_of, firmly, out_paths}
 use Rattle.smk_world.specs.Calls.{IsFirmlyMarked}
@@ -27,7 +26,7 @@ use Rattle.smk_drive_rows.proofs.Checker.{IsChecked, started}
 use Rattle.smk_drive_rows.proofs.Unrefused.{never_refused}
 use Rattle.smk_drive_rows.proofs.Keeping.{Keeps}
 use Rattle.smk_drive_rows.proofs.Telling.{lines_of, is_report}
-use Rattle.smk_drive_rows.proofs.Events.{formed_of, rules_by, marking, start, ends, recording, unmarking, doing, losing, of_job, IsGood, good}
+use Rattle.smk_drive_rows.proofs.Events.{formed_of, rules_by, marking, start, ends, unmarking, doing, of_job, IsGood, good}
 
 -- ## The good run
 

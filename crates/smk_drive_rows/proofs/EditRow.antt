@@ -1,17 +1,16 @@
 -- The file that was copied is edited, and copied again: the second run has the next serial and the new stamp.
-use Rattle.std.proofs.Common.{◌≡◌, ℕ, List, [], ◌∷◌, ◌++◌, codes, Ok, refl, inl}
+use Rattle.std.proofs.Common.{ℕ, List, [], ◌∷◌, ◌++◌, codes, refl, inl}
 use Rattle.std.specs.Fmt.{digits}
 use Rattle.smk_base.specs.Place.{record_place}
 use Rattle.smk_world.specs.declared.event.Node.TheVariants.{Regular, Directory}
 use Rattle.smk_world.specs.declared.event.Event.{Event}
 use Rattle.smk_world.specs.World.{World, Nodes, IsFormed, world_of}
-use Rattle.smk_flow.specs.declared.job.Job.{Job}
 use Rattle.smk_record.specs.declared.record.Record.{Record}
 use Rattle.smk_record.specs.declared.record.Stamp.TheVariants.{Time}
 use Rattle.smk_drive.specs.Moments.{Rules}
 use Rattle.smk_flow.proofs.Examples.{copy}
-use Rattle.smk_chain.proofs.Folders.{jobs_in, recorded}
-use Rattle.smk_plan.proofs.Plans.{out_txt, before_copy}
+use Rattle.smk_chain.proofs.Folders.{recorded}
+use Rattle.smk_plan.proofs.Plans.{out_txt}
 use Rattle.smk_drive.proofs.Turns.{put}
 use Rattle.smk_drive_target.specs.Reports.{IsRunText}
 use Rattle.smk_drive_rows.proofs.Logs.{IsSettled}

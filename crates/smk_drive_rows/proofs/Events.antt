@@ -1,5 +1,5 @@
 -- The events of jobs with one output each, as logs are put together from them; and what makes a good log.
-use Rattle.std.proofs.Common.{◌≡◌, ◌⊎◌, ℕ, zero, suc, Bool, true, false, List, [], ◌∷◌, ◌++◌, map, codes, bytes_eq, Option, Some, None, Ok, Err, option_map, refl, sym, find, ◌&&◌, true≢false}
+use Rattle.std.proofs.Common.{◌≡◌, ℕ, zero, suc, Bool, true, false, List, [], ◌∷◌, ◌++◌, codes, bytes_eq, Option, None, Ok, option_map, refl, sym, find, ◌&&◌, true≢false}
 use Rattle.std.specs.List.{AllByRecursion}
 use Rattle.std.specs.List.Sorted.{IsStrictlySortedBy}
 use Rattle.std.specs.Cmp.Lexicographic.{slice_cmp}
@@ -7,11 +7,8 @@ use Rattle.std.specs.Ordering.{nat_cmp}
 use Rattle.std.specs.declared.cmp.Ordering.{Ordering}
 use Rattle.std.specs.declared.cmp.Ordering.TheVariants.{Less, Equal, Greater}
 use Rattle.smk_base.specs.Place.{mark_place, record_place}
-use Rattle.smk_world.specs.declared.event.Node.{Node}
-use Rattle.smk_world.specs.declared.event.Node.TheVariants.{Regular, Directory}
 use Rattle.smk_world.specs.declared.event.Event.{Event}
 use Rattle.smk_world.specs.declared.event.Change.{Change}
-use Rattle.smk_world.specs.declared.event.Failed.{Failed}
 use Rattle.smk_world.specs.declared.event.Call.TheVariants.{Written, Created, Removed, MadeParents, Settled, Started, Waited}
 use Rattle.smk_world.specs.World.{World, Nodes, IsFormed, IsRising, places_in, world_of}
 use Rattle.smk_world.proofs.Names.{formed_image}
@@ -26,7 +23,7 @@ use Rattle.smk_drive_target.specs.Lawful.{Lawful}
 use Rattle.smk_drive_target.specs.Keeping.{KeepsOutputs}
 use Rattle.smk_drive_target.specs.Refusals.{BeginsUnrefused}
 use Rattle.smk_drive_rows.proofs.Truth.{and_left, and_right}
-use Rattle.smk_drive_rows.proofs.Logs.{IsSettled, first_moment}
+use Rattle.smk_drive_rows.proofs.Logs.{first_moment}
 use Rattle.smk_drive_rows.proofs.Checker.{IsChecked, lawful}
 use Rattle.smk_drive_rows.proofs.Unrefused.{unrefused_from, unrefused}
 use Rattle.smk_drive_rows.proofs.Keeping.{Keeps, keeps}

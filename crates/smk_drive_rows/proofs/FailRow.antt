@@ -1,5 +1,5 @@
 -- A run whose one job fails, held against every clause; and the same run with its report or its log turned.
-use Rattle.std.proofs.Common.{◌≡◌, ℕ, List, [], ◌∷◌, ◌++◌, codes, Ok, refl, sym, inl, true≢false}
+use Rattle.std.proofs.Common.{ℕ, List, [], ◌∷◌, ◌++◌, codes, refl, sym, inl, true≢false}
 use Rattle.std.specs.Fmt.{digits}
 use Rattle.smk_world.specs.declared.event.Event.{Event}
 use Rattle.smk_pattern.specs.Shapes.{Text}

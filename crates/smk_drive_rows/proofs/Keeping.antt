@@ -1,16 +1,15 @@
 -- What a run keeps and takes away, by computation.
-use Rattle.std.proofs.Common.{◌≡◌, ◌⊎◌, ◌≤◌, ℕ, Bool, true, false, ◌&&◌, ◌||◌, not, List, [], ◌∷◌, Option, Some, None, refl, sym, subst, IsTrue, true≢false, inl, inr}
+use Rattle.std.proofs.Common.{◌≡◌, ◌⊎◌, ℕ, Bool, true, false, ◌||◌, not, List, [], Option, Some, None, refl, sym, subst, true≢false, inl, inr}
 use Rattle.std.specs.List.{list_all}
 use Rattle.smk_world.specs.declared.event.Event.{Event}
 use Rattle.smk_world.specs.declared.event.Call.{Call}
 use Rattle.smk_world.specs.declared.event.Call.TheVariants.{Removed}
 use Rattle.smk_world.specs.World.{World, IsFormed, run}
-use Rattle.smk_world.specs.Trees.{Path, Each, IsIn}
+use Rattle.smk_world.specs.Trees.{Path}
 use Rattle.smk_store.specs.Images.{Content, file_at}
-use Rattle.smk_drive.specs.Moments.{Rules, Moment, Begun, IsMoment, seen, is_spent_now, is_closed_well}
-use Rattle.smk_drive_target.specs.Moments.{AtEachEvent}
+use Rattle.smk_drive.specs.Moments.{Rules, Moment, Begun, seen, is_spent_now, is_closed_well}
 use Rattle.smk_drive_target.specs.Keeping.{KeepsOutputs, Spends, IsSettled as IsSettledAt, AreProtected, has_start}
-use Rattle.smk_drive_rows.proofs.Truth.{and_left, and_right, not_both, each_true, at_each as at_each_of}
+use Rattle.smk_drive_rows.proofs.Truth.{not_both, each_true, at_each as at_each_of}
 use Rattle.smk_drive_rows.proofs.Logs.{IsSettled, first_moment, last, at_the_end, Holds, all_events, at_each, by_tests}
 
 module _ (rules : Rules) (entry : World) where

@@ -1,11 +1,11 @@
 -- Logs, computed: the moment after each event, and what is checked of each.
-use Rattle.std.proofs.Common.{◌≡◌, ◌⊎◌, ℕ, Bool, true, false, ◌&&◌, not, List, [], ◌∷◌, ◌++◌, Option, Some, None, refl, sym, ap, subst, ◌∙◌, IsTrue, true≢false, inl, inr}
+use Rattle.std.proofs.Common.{◌≡◌, ℕ, Bool, true, false, ◌&&◌, List, [], ◌∷◌, ◌++◌, Option, refl, sym, subst, ◌∙◌, true≢false}
 use Rattle.smk_world.specs.declared.event.Event.{Event}
 use Rattle.smk_world.specs.World.{World, IsFormed, after}
 use Rattle.smk_world.proofs.Names.{formed_after}
 use Rattle.smk_chain.specs.Derive.{Listings}
 use Rattle.smk_plan.specs.States.{Plan}
-use Rattle.smk_drive.specs.Moments.{Rules, Moment, Begun, IsMoment, AtEntry, AtRest, Between, IsInForce, begun_after, is_rest, lists_of}
+use Rattle.smk_drive.specs.Moments.{Rules, Moment, Begun, IsMoment, AtEntry, AtRest, Between, begun_after, is_rest, lists_of}
 use Rattle.smk_drive_target.specs.Moments.{AtEachEvent}
 use Rattle.smk_drive_target.proofs.OneMoment.{one_moment}
 use Rattle.smk_drive_rows.proofs.Truth.{and_left, and_right, nil_right, moved, head_same, tail_same, no_split}

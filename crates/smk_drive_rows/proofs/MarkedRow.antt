@@ -1,15 +1,12 @@
 -- A job is started on an output that has a mark: no such input is safe.
-use Rattle.std.proofs.Common.{◌≡◌, ◌⊎◌, ℕ, Bool, true, false, List, [], ◌∷◌, ◌++◌, codes, Option, Some, None, refl, sym, ap, subst, ◌∙◌, inl, inr, IsTrue, true≢false}
+use Rattle.std.proofs.Common.{◌≡◌, ℕ, true, false, List, [], ◌∷◌, ◌++◌, codes, Some, refl, sym, subst, inl, inr, true≢false}
 use Rattle.smk_base.specs.Place.{mark_place, record_place}
 use Rattle.smk_world.specs.declared.event.Node.TheVariants.{Regular}
 use Rattle.smk_world.specs.declared.event.Event.{Event}
 use Rattle.smk_world.specs.World.{World, Nodes, IsFormed, world_of, in_paths}
 use Rattle.smk_world.specs.Trees.{Path, Each}
-use Rattle.smk_flow.specs.declared.job.Job.{Job}
-use Rattle.smk_store.specs.Images.{is_source}
-use Rattle.smk_store.specs.Trust.{holder}
 use Rattle.smk_drive.specs.Moments.{Rules, Moment, Begun, seen}
-use Rattle.smk_drive.specs.Lawful.{IsSafeInput, IsSafeProduct}
+use Rattle.smk_drive.specs.Lawful.{IsSafeInput}
 use Rattle.smk_flow.proofs.Examples.{temporary_with, cat}
 use Rattle.smk_plan.proofs.Plans.{u_and_v, temporary_jobs, temporary_records}
 use Rattle.smk_drive.proofs.Turns.{reader}

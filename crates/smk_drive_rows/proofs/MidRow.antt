@@ -1,5 +1,5 @@
 -- A checkpoint is closed, and what it lists calls for a file that no rule makes, while another job runs: that one is closed, and nothing begins.
-use Rattle.std.proofs.Common.{◌≡◌, ℕ, Bool, true, false, List, [], ◌∷◌, ◌++◌, map, codes, take, drop, Some, refl, sym, inl, inr, true≢false}
+use Rattle.std.proofs.Common.{◌≡◌, ℕ, true, false, List, [], ◌∷◌, ◌++◌, map, codes, take, drop, refl, sym, inl, inr, true≢false}
 use Rattle.std.specs.Fmt.{digits}
 use Rattle.smk_base.specs.Place.{mark_place}
 use Rattle.smk_world.specs.declared.event.Node.TheVariants.{Directory}
@@ -14,7 +14,7 @@ use Rattle.smk_record.specs.declared.record.Stamp.TheVariants.{Time}
 use Rattle.smk_plan.specs.States.{job_path}
 use Rattle.smk_report.specs.declared.fault.Fault.{Fault}
 use Rattle.smk_report.specs.declared.fault.Fault.TheVariants as fault
-use Rattle.smk_drive.specs.Moments.{Rules, Moment}
+use Rattle.smk_drive.specs.Moments.{Rules}
 use Rattle.smk_flow.proofs.Examples.{rule, input, output, gathering, flow_of, cat, split, copying}
 use Rattle.smk_chain.proofs.Folders.{jobs_in, recorded}
 use Rattle.smk_plan.proofs.Plans.{with_targets, before_copy, a_member}

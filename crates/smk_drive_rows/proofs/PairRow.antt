@@ -1,5 +1,5 @@
 -- Two jobs on one core, of which the first fails: the run ends there, or goes on with the other where it is told to keep going.
-use Rattle.std.proofs.Common.{◌≡◌, ℕ, Bool, true, false, List, [], ◌∷◌, ◌++◌, codes, take, refl, sym, inl, inr, true≢false, arith}
+use Rattle.std.proofs.Common.{ℕ, Bool, true, false, List, [], ◌∷◌, ◌++◌, codes, take, refl, sym, inl, inr, true≢false, arith}
 use Rattle.std.specs.Fmt.{digits}
 use Rattle.smk_world.specs.declared.event.Event.{Event}
 use Rattle.smk_world.specs.Trees.{Path}
@@ -15,8 +15,8 @@ use Rattle.smk_plan.proofs.Plans.{with_targets, before_copy}
 use Rattle.smk_drive.proofs.Turns.{reader}
 use Rattle.smk_drive_target.specs.Lawful.{Lawful}
 use Rattle.smk_drive_target.specs.Reports.{IsRunText}
-use Rattle.smk_drive_rows.proofs.Truth.{not_empty, nil_right}
-use Rattle.smk_drive_rows.proofs.Logs.{IsSettled, last, last_is, at_the_end}
+use Rattle.smk_drive_rows.proofs.Truth.{not_empty}
+use Rattle.smk_drive_rows.proofs.Logs.{IsSettled, last, last_is}
 use Rattle.smk_drive_rows.proofs.Checker.{IsChecked, started}
 use Rattle.smk_drive_rows.proofs.Keeping.{Keeps}
 use Rattle.smk_drive_rows.proofs.Telling.{lines_of, is_report}

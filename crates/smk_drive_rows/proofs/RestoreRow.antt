@@ -1,5 +1,5 @@
 -- A lost output is wanted back while a child reads the other output of its job: that child is waited for, and then both are made again.
-use Rattle.std.proofs.Common.{◌≡◌, ℕ, Bool, true, false, List, [], ◌∷◌, ◌++◌, map, codes, take, drop, Option, Some, None, Ok, refl, inl, inr}
+use Rattle.std.proofs.Common.{◌≡◌, ℕ, true, false, List, [], ◌∷◌, ◌++◌, map, codes, take, drop, Some, None, Ok, refl, inl, inr}
 use Rattle.std.specs.Fmt.{digits}
 use Rattle.smk_base.specs.Place.{mark_place, record_place}
 use Rattle.smk_world.specs.declared.event.Node.TheVariants.{Regular, Directory}
@@ -14,7 +14,6 @@ use Rattle.smk_flow.specs.Flows.{Flow}
 use Rattle.smk_record.specs.declared.record.Record.{Record}
 use Rattle.smk_record.specs.declared.record.Stamp.TheVariants.{Time, Made}
 use Rattle.smk_chain.specs.Derive.{Listings}
-use Rattle.smk_trigger.specs.declared.reason.State.{State}
 use Rattle.smk_plan.specs.States.{job_path}
 use Rattle.smk_drive.specs.Moments.{Rules}
 use Rattle.smk_flow.proofs.Examples.{rule, input, output, gathering, flow_of, cat, split, tee}

@@ -1,18 +1,18 @@
 -- Inputs of a job that are safe, by computation: sources, and products that are whole and trusted.
-use Rattle.std.proofs.Common.{◌≡◌, ◌⊎◌, ℕ, zero, suc, Bool, true, false, ◌&&◌, ◌||◌, not, List, [], ◌∷◌, Option, Some, None, refl, sym, ap, subst, ◌∙◌, IsTrue, true≢false, inl, inr, bytes_eq}
+use Rattle.std.proofs.Common.{◌≡◌, ℕ, zero, suc, Bool, true, false, ◌&&◌, ◌||◌, not, [], Option, Some, None, refl, sym, ap, subst, ◌∙◌, IsTrue, true≢false, inl, inr, bytes_eq}
 use Rattle.std.specs.List.{list_all}
 use Rattle.smk_world.specs.World.{is_within}
 use Rattle.smk_world.specs.Calls.{owned_now}
-use Rattle.smk_world.specs.Trees.{Path, Each, IsIn, kind_in}
+use Rattle.smk_world.specs.Trees.{Path, IsIn, kind_in}
 use Rattle.smk_record.specs.declared.record.Record.{Record}
 use Rattle.smk_record.specs.declared.record.Stamp.{Stamp}
 use Rattle.smk_record.specs.declared.record.Stamp.TheVariants.{Time, Made}
 use Rattle.smk_record.specs.Records.{agrees, stamped}
 use Rattle.smk_store.specs.Images.{Image, is_source, is_file, is_whole, core_at}
-use Rattle.smk_store.specs.Trust.{Eased, Speaks, Chain, Link, Trusted, holder, same_time, stamp_now}
+use Rattle.smk_store.specs.Trust.{Eased, Speaks, Chain, Link, holder, same_time, stamp_now}
 use Rattle.smk_drive.specs.Moments.{Rules, Moment, seen}
 use Rattle.smk_drive.specs.Lawful.{IsSafeInput, IsSafeProduct, eased}
-use Rattle.smk_drive_rows.proofs.Truth.{and_left, and_right, so_false, test, each_true, at_each}
+use Rattle.smk_drive_rows.proofs.Truth.{and_left, and_right, so_false, each_true, at_each}
 
 -- ## Chains of records
 

@@ -1,7 +1,7 @@
 -- A spent output that stands at the entry: taken away by a run that starts nothing, and never before the first start of one that does.
-use Rattle.std.proofs.Common.{◌≡◌, ◌⊎◌, ℕ, Bool, true, false, List, [], ◌∷◌, ◌++◌, map, codes, Ok, refl, sym, ap, subst, inl, inr, true≢false, arith}
+use Rattle.std.proofs.Common.{◌≡◌, ◌⊎◌, ℕ, Bool, true, false, List, [], ◌∷◌, ◌++◌, codes, Ok, refl, sym, ap, subst, inl, inr, true≢false, arith}
 use Rattle.std.specs.Fmt.{digits}
-use Rattle.smk_base.specs.Path.{is_at_or_under, is_under}
+use Rattle.smk_base.specs.Path.{is_under}
 use Rattle.smk_base.specs.Place.{record_place}
 use Rattle.smk_base.proofs.Under.{at_or_under_cases, rest_under}
 use Rattle.smk_world.specs.declared.event.Node.TheVariants.{Regular}
@@ -12,13 +12,10 @@ use Rattle.smk_world.specs.declared.event.Event.{Event}
 use Rattle.smk_world.specs.declared.event.Call.TheVariants.{Removed, Settled}
 use Rattle.smk_world.specs.World.{World, Nodes, IsFormed, world_of, run, firmly, reading}
 use Rattle.smk_world.specs.Trees.{Path}
-use Rattle.smk_flow.specs.declared.job.Job.{Job}
 use Rattle.smk_flow.specs.Flows.{Flow}
-use Rattle.smk_record.specs.declared.record.Record.{Record}
-use Rattle.smk_record.specs.declared.record.Stamp.TheVariants.{Time}
 use Rattle.smk_drive.specs.Moments.{Rules}
 use Rattle.smk_flow.proofs.Examples.{temporary_with, copying, flow_of, cat}
-use Rattle.smk_chain.proofs.Folders.{jobs_in, recorded, fresh}
+use Rattle.smk_chain.proofs.Folders.{jobs_in, fresh}
 use Rattle.smk_plan.proofs.Plans.{with_targets, u_and_v, temporary_records}
 use Rattle.smk_drive.proofs.Turns.{reader, event}
 use Rattle.smk_drive_target.specs.Keeping.{KeepsOutputs, IsSettled as IsSettledAt, has_start}

@@ -1,5 +1,5 @@
 -- The copy once more: nothing is started; and runs that start a Clean job, or call a job Clean whose command has changed.
-use Rattle.std.proofs.Common.{◌≡◌, ℕ, Bool, true, false, List, [], ◌∷◌, ◌++◌, codes, take, drop, None, Some, refl, inl, arith}
+use Rattle.std.proofs.Common.{◌≡◌, ℕ, false, List, [], ◌∷◌, codes, take, None, Some, refl, inl, arith}
 use Rattle.std.specs.Fmt.{digits}
 use Rattle.smk_base.specs.Place.{record_place}
 use Rattle.smk_world.specs.declared.event.Node.TheVariants.{Regular}

@@ -1,14 +1,14 @@
 -- The lines of a log and its report, by computation; and whether a text has a line.
-use Rattle.std.proofs.Common.{◌≡◌, ◌⊎◌, ℕ, Bool, true, false, ◌&&◌, ◌||◌, not, cond, List, [], ◌∷◌, ◌++◌, refl, sym, ap, subst, ◌∙◌, IsTrue, true≢false, inl, inr, bytes_eq, ◌==◌}
-use Rattle.std.specs.List.{list_all, flat_map}
+use Rattle.std.proofs.Common.{◌≡◌, ◌⊎◌, ℕ, Bool, true, false, ◌&&◌, ◌||◌, List, [], ◌∷◌, ◌++◌, refl, sym, subst, ◌∙◌, true≢false, inl, inr, ◌==◌}
+use Rattle.std.specs.List.{flat_map}
 use Rattle.smk_base.proofs.Places.{place_itself}
 use Rattle.smk_world.specs.declared.event.Event.{Event}
 use Rattle.smk_world.specs.World.{World, IsFormed}
 use Rattle.smk_pattern.specs.Shapes.{Text}
-use Rattle.smk_drive.specs.Moments.{Rules, Moment, IsMoment}
+use Rattle.smk_drive.specs.Moments.{Rules, Moment}
 use Rattle.smk_drive.specs.Reports.{HasLines, NoLines, AndThen, start_lines, close_lines, target_lines}
 use Rattle.smk_drive_target.specs.Reports.{IsRunText, HasLine, summary}
-use Rattle.smk_drive_rows.proofs.Truth.{nil_right, moved, and_left, and_right, or_left, or_right}
+use Rattle.smk_drive_rows.proofs.Truth.{nil_right, moved, and_left, or_left, or_right}
 use Rattle.smk_drive_rows.proofs.Logs.{IsSettled, AreSettled, IsAt, first_moment, first_at, next, next_is, settled_later, last, last_is}
 
 -- texts, each with a line end

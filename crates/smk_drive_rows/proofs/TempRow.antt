@@ -1,7 +1,7 @@
 -- A temporary file is made, read by a job, and taken away; and a run that takes it away too early.
-use Rattle.std.proofs.Common.{◌≡◌, ◌⊎◌, ℕ, Bool, true, false, List, [], ◌∷◌, ◌++◌, map, codes, Ok, refl, sym, subst, inl, inr, true≢false, arith}
+use Rattle.std.proofs.Common.{◌≡◌, ◌⊎◌, ℕ, true, false, List, [], ◌∷◌, ◌++◌, map, codes, Ok, refl, sym, subst, inl, inr, true≢false}
 use Rattle.std.specs.Fmt.{digits}
-use Rattle.smk_base.specs.Path.{is_at_or_under, is_under}
+use Rattle.smk_base.specs.Path.{is_under}
 use Rattle.smk_base.proofs.Under.{at_or_under_cases, rest_under}
 use Rattle.smk_world.specs.declared.event.Node.TheVariants.{Regular}
 use Rattle.smk_world.specs.declared.event.Event.{Event}
@@ -18,7 +18,7 @@ use Rattle.smk_chain.proofs.Folders.{jobs_in, recorded, fresh}
 use Rattle.smk_plan.proofs.Plans.{with_targets}
 use Rattle.smk_drive.proofs.Turns.{reader, event}
 use Rattle.smk_drive_target.specs.Lawful.{Lawful}
-use Rattle.smk_drive_target.specs.Keeping.{KeepsOutputs, IsSettled as IsSettledAt}
+use Rattle.smk_drive_target.specs.Keeping.{IsSettled as IsSettledAt}
 use Rattle.smk_drive_target.specs.Reports.{IsRunText}
 use Rattle.smk_drive_rows.proofs.Logs.{IsSettled, last, last_is}
 use Rattle.smk_drive_rows.proofs.Checker.{IsChecked, started}

@@ -1,5 +1,5 @@
 -- Logs of which nothing is refused, by computation: up to a moment, after which no job begins.
-use Rattle.std.proofs.Common.{◌≡◌, ◌⊎◌, ◌<◌, ℕ, Bool, true, false, ◌&&◌, not, List, [], ◌∷◌, ◌++◌, Option, Some, None, refl, sym, ap, subst, ◌∙◌, IsTrue, true≢false, inl, inr, nat_le, nat_lt, ◌^◌, arith}
+use Rattle.std.proofs.Common.{◌≡◌, ◌⊎◌, ◌<◌, ℕ, Bool, true, false, ◌&&◌, not, List, [], ◌∷◌, ◌++◌, Option, Some, None, refl, sym, subst, ◌∙◌, IsTrue, true≢false, inl, inr, nat_le, nat_lt, ◌^◌, arith}
 use Rattle.std.specs.List.{list_all}
 use Rattle.smk_world.specs.declared.event.Event.{Event}
 use Rattle.smk_world.specs.declared.recipe.Out.{Out}
@@ -8,10 +8,9 @@ use Rattle.smk_world.specs.Trees.{Each, outs_of}
 use Rattle.smk_flow.specs.declared.job.Job.{Job}
 use Rattle.smk_trigger.specs.declared.reason.State.{State}
 use Rattle.smk_report.specs.declared.fault.Fault.{Fault}
-use Rattle.smk_drive.specs.Moments.{Rules, Moment, IsMoment, AtEntry, AtRest, Between, begins, begun_after, begun_of, serial_of, is_rest, staged_now}
+use Rattle.smk_drive.specs.Moments.{Rules, Moment, IsMoment, AtEntry, AtRest, Between, begins, begun_of, serial_of, is_rest, staged_now}
 use Rattle.smk_drive.specs.Lawful.{first_of}
-use Rattle.smk_drive.specs.Refusals.{PlansRefuse, record_length}
-use Rattle.smk_drive_target.specs.Moments.{AtEachEvent}
+use Rattle.smk_drive.specs.Refusals.{record_length}
 use Rattle.smk_drive_target.specs.Lawful.{may_start}
 use Rattle.smk_drive_target.specs.Refusals.{MomentRefuses, PlansAreRefused, NoSerial, LongRecord, NoneBefore, RunRefuses, BeginsUnrefused}
 use Rattle.smk_drive_target.proofs.OneMoment.{one_moment}
