@@ -1,5 +1,5 @@
 -- The file that was copied is edited, and copied again: the second run has the next serial and the new stamp.
-use Rattle.std.proofs.Common.{ℕ, List, [], ◌∷◌, ◌++◌, codes, refl, inl}
+use Rattle.std.proofs.Common.{false, ℕ, List, [], ◌∷◌, ◌++◌, codes, refl, inl}
 use Rattle.std.specs.Fmt.{digits}
 use Rattle.smk_base.specs.Place.{record_place}
 use Rattle.smk_world.specs.declared.event.Node.TheVariants.{Regular, Directory}

@@ -104,7 +104,7 @@ until_settled : IsSettled rules entry until_refused
 until_settled = record { start = refl; rests = (refl, (refl, (refl, (refl, ((refl, tt), tt))))) }
 
 abbrev refusal : Fault
-refusal = fault.NoInput (codes "g.txt") (codes "g") (codes "y/1.txt")
+refusal = fault.NoRule (codes "y/1.txt")
 
 pub is_refused : RunRefuses rules entry log refusal
 unfolding digits
