@@ -1,0 +1,4 @@
+pub mod Words
+pub mod Asks
+pub mod Reading
+pub mod Asking
