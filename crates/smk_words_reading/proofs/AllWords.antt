@@ -8,7 +8,7 @@ use Rattle.smk_words_reading.specs.declared.spelling.Expected.{Expected}
 use Rattle.smk_words_reading.specs.declared.spelling.Expected.TheVariants.{Word, Value, Target}
 use Rattle.smk_words_reading.specs.Words.{Text, is_value, SpellsWord, TakesNext, Spells}
 use Rattle.smk_words_reading.specs.Words.Spells.{NoWord, OnlyTargets, AWord, AWordAndValue}
-use Rattle.smk_words_reading.specs.Reading.{Step, before, step, spelled_by, spelled, word_in}
+use Rattle.smk_words_reading.specs.Reading.{Step, unread, before, spelled_next, spelled, word_in}
 use Rattle.smk_words_reading.proofs.OneWord.{WordMeans, word_sound, word_whole, word_next}
 
 -- The words begin with the option's value.
@@ -48,12 +48,16 @@ before_targets word words parts e n (Some later) h =
     (subst (λ (ps : List Part). Spells (codes "--" ∷ words) (ps ++ later)) (sym n)
     (subst (λ (l : List Part). Spells (codes "--" ∷ words) l) (sym h) (OnlyTargets words)))
 
+-- what the words spell behind this step
+abbrev pub behind : Step → List Text → Option (List Part)
+behind s words = before s.0 (spelled_next s.1 (λ next. spelled next words))
+
 next_word : (word : Text) (words : List Text) (s : Step) → WordMeans word s →
-    ((e : Expected) → WordsMean e words (spelled e words)) → WordsMean Word (word ∷ words) (spelled_by s (λ next. spelled next words))
-next_word word words None h rest = tt
-next_word word words (Some (parts, Word)) h rest = before_word word words parts h (spelled Word words) (rest Word)
-next_word word words (Some (parts, Value o)) h rest = before_value word words parts o h (spelled (Value o) words) (rest (Value o))
-next_word word words (Some (parts, Target)) h rest = before_targets word words parts h.0 h.1 (spelled Target words) (rest Target)
+    ((e : Expected) → WordsMean e words (spelled e words)) → WordsMean Word (word ∷ words) (behind s words)
+next_word word words (parts, None) h rest = tt
+next_word word words (parts, Some Word) h rest = before_word word words parts h (spelled Word words) (rest Word)
+next_word word words (parts, Some (Value o)) h rest = before_value word words parts o h (spelled (Value o) words) (rest (Value o))
+next_word word words (parts, Some Target) h rest = before_targets word words parts h.0 h.1 (spelled Target words) (rest Target)
 
 then_value : (word : Text) (words : List Text) (o : Setting) → is_value word ≡ true →
     (q : Option (List Part)) → WordsMean Word words q → WordsMean (Value o) (word ∷ words) (before (part.Given o word ∷ []) q)
@@ -62,7 +66,7 @@ then_value word words o is (Some later) h = ValueFirst word words later is h
 
 next_value : (word : Text) (words : List Text) (o : Setting) (x : Bool) → is_value word ≡ x →
     WordsMean Word words (spelled Word words) →
-    WordsMean (Value o) (word ∷ words) (spelled_by (cond x (Some (part.Given o word ∷ [], Word)) None) (λ next. spelled next words))
+    WordsMean (Value o) (word ∷ words) (behind (cond {A = Step} x (part.Given o word ∷ [], Some Word) unread) words)
 next_value word words o true is rest = then_value word words o is (spelled Word words) rest
 next_value word words o false is rest = tt
 
@@ -90,7 +94,7 @@ targets_whole (word ∷ words) = ap (before (part.Target word ∷ [])) (targets_
 value_whole : (o : Setting) (v : Text) (words : List Text) (later : List Part) → is_value v ≡ true →
     spelled Word words ≡ Some later → spelled (Value o) (v ∷ words) ≡ Some (part.Given o v ∷ later)
 value_whole o v words later is e =
-    ap (λ (s : Step). spelled_by s (λ next. spelled next words)) (cond-true (is_value v) (Some (part.Given o v ∷ [], Word)) None is)
+    ap (λ (s : Step). behind s words) (cond-true {A = Step} (is_value v) (part.Given o v ∷ [], Some Word) unread is)
     ∙ ap (before (part.Given o v ∷ [])) e
 
 -- what is spelled is read
@@ -98,7 +102,7 @@ pub spelled_whole : (words : List Text) (parts : List Part) → Spells words par
 spelled_whole _ _ NoWord = refl
 spelled_whole _ _ (OnlyTargets words) = ap (before []) (targets_whole words)
 spelled_whole _ _ (AWord word words parts later w s) =
-    ap (λ (s : Step). spelled_by s (λ next. spelled next words)) (word_whole word parts w) ∙ ap (before parts) (spelled_whole words later s)
+    ap (λ (s : Step). behind s words) (word_whole word parts w) ∙ ap (before parts) (spelled_whole words later s)
 spelled_whole _ _ (AWordAndValue word v words parts o later t is s) =
-    ap (λ (s : Step). spelled_by s (λ next. spelled next (v ∷ words))) (word_next word parts o t)
+    ap (λ (s : Step). behind s (v ∷ words)) (word_next word parts o t)
     ∙ ap (before parts) (value_whole o v words later is (spelled_whole words later s))

@@ -43,17 +43,18 @@ ok_same m n e = cc
 err_ok : {E : Type 0} (f : E) (n : ℕ) → ◌≡◌ {A = Result ℕ E} (Err f) (Ok n) → ⊥
 err_ok f n e = cc
 
-unparsed_step : {E : Type 0} (least most : ℕ) (word : Text) (f : E) → most < 2 ^ 64 → ParsesUnsigned {E = E} 64 10 word (Err f) →
+unparsed_step : {E : Type 0} (least most : ℕ) (word : Text) (f : E) (r : Result ℕ E) → most < 2 ^ 64 → ParsesUnsigned 64 10 word r → r ≡ Err f →
     (q : Option ℕ) → number_in least most word ≡ q → q ≡ None
-unparsed_step least most word f small h None e = refl
-unparsed_step {E} least most word f small h (Some n) e =
+unparsed_step least most word f r small h bad None e = refl
+unparsed_step least most word f r small h bad (Some n) e =
     let is = number_spelled least most word n e in
     let below : n < 2 ^ 64 = omega (arith, is.2, small) in
-    absurd (err_ok f n (parse-decimal {E = E} 64 n word (Err f) below below is.0 h))
+    absurd (err_ok f n (sym bad ∙ parse-decimal 64 n word r below below is.0 h))
 
 -- what isn't parsed is no number
-pub unparsed : {E : Type 0} (least most : ℕ) (word : Text) (f : E) → most < 2 ^ 64 → ParsesUnsigned {E = E} 64 10 word (Err f) → None ≡ number_in least most word
-unparsed {E} least most word f small h = sym (unparsed_step {E = E} least most word f small h (number_in least most word) refl)
+pub unparsed : {E : Type 0} (least most : ℕ) (word : Text) (f : E) (r : Result ℕ E) → most < 2 ^ 64 → ParsesUnsigned 64 10 word r → r ≡ Err f →
+    None ≡ number_in least most word
+unparsed least most word f r small h bad = sym (unparsed_step least most word f r small h bad (number_in least most word) refl)
 
 spelled_other_step : {E : Type 0} (least most : ℕ) (word : Text) (number : ℕ) (r : Result ℕ E) → most < 2 ^ 64 → ParsesUnsigned 64 10 word r → r ≡ Ok number →
     is_number least most word number ≡ false → (q : Option ℕ) → number_in least most word ≡ q → q ≡ None
@@ -71,13 +72,15 @@ pub spelled_other : {E : Type 0} (least most : ℕ) (word : Text) (number : ℕ)
 spelled_other least most word number r small h ok bad =
     sym (spelled_other_step least most word number r small h ok bad (number_in least most word) refl)
 
-pub spelled_so : (least most : ℕ) (word : Text) (number : ℕ) → number < 2 ^ 64 → is_number least most word number ≡ true → Some number ≡ number_in least most word
+pub spelled_so : (least most : ℕ) (word : Text) (number : ℕ) → most < 2 ^ 64 → is_number least most word number ≡ true → Some number ≡ number_in least most word
 spelled_so least most word number small good =
     let parts = and_parts (bytes_eq (decimal number) word) (nat_le least number && nat_le number most) good in
     let limits = and_parts (nat_le least number) (nat_le number most) parts.1 in
     let is : decimal number ≡ word = (bytes_eq-Decides (decimal number) word).0 parts.0 in
+    let high : number ≤ most = leb-true number most limits.1 in
+    let below : number < 2 ^ 64 = omega (arith, high, small) in
     sym (subst (λ (w : Text). number_in least most w ≡ Some number) is
-    (number_read least most number small (leb-true least number limits.0) (leb-true number most limits.1)))
+    (number_read least most number below (leb-true least number limits.0) high))
 
 -- ## Names
 

@@ -1,5 +1,5 @@
 -- What words spell.
-use Rattle.std.specs.Prelude.{◌≡◌, ◌≢◌, ℕ, Bool, true, false, ◌&&◌, ◌||◌, not, List, [], ◌∷◌, ◌++◌, map, codes, ◌==◌, IsTrue, Option, Some, None}
+use Rattle.std.specs.Prelude.{◌≡◌, ◌≢◌, ℕ, Bool, true, false, ◌&&◌, ◌||◌, not, List, [], ◌∷◌, ◌++◌, length, map, codes, ◌==◌, IsTrue, Option, Some, None}
 use Rattle.smk_words_reading.specs.declared.parts.Flag.{Flag}
 use Rattle.smk_words_reading.specs.declared.parts.Flag.TheVariants.{DryRun, KeepGoing, RerunIncomplete, Force, ForceAll, Unlock, NoLock}
 use Rattle.smk_words_reading.specs.declared.parts.Setting.{Setting}
@@ -65,7 +65,7 @@ is_plain (b ∷ text) = not (b == 45) || is_empty text
 
 -- as the next word it may be an option's value
 abbrev pub is_value : Text → Bool
-is_value word = not (is_empty word) && is_plain word
+is_value word = not (length word == 0) && is_plain word
 
 -- Letters behind a dash spell these parts. A value stands last, at once or behind `=`.
 pub data SpellsLetters : Text → List Part → Type 0 where

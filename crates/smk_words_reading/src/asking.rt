@@ -53,6 +53,7 @@ fn file_in(alloc: Global, parts: &[Part]) -> Result<Option<Option<PathText>>, Ou
 }
 
 // The pairs that the words are, where each is one.
+#[tactic(none)]
 fn all_pairs(alloc: Global, words: &[&str]) -> Result<Option<List<Pair>>, OutOfMemory>
     ensures { IfOk result (λ found. found ≡ spec.all_of spec.pair_in (map (λ word. word.now) words.now)) }
 {
@@ -67,6 +68,7 @@ fn all_pairs(alloc: Global, words: &[&str]) -> Result<Option<List<Pair>>, OutOfM
 }
 
 // The amounts that the words are, where each is one.
+#[tactic(none)]
 fn all_amounts(alloc: Global, words: &[&str]) -> Result<Option<List<Amount>>, OutOfMemory>
     ensures { IfOk result (λ found. found ≡ spec.all_of spec.amount_in (map (λ word. word.now) words.now)) }
 {
@@ -81,6 +83,7 @@ fn all_amounts(alloc: Global, words: &[&str]) -> Result<Option<List<Amount>>, Ou
 }
 
 // The paths that the words are, where each is one.
+#[tactic(none)]
 fn all_paths(alloc: Global, words: &[&str]) -> Result<Option<List<PathText>>, OutOfMemory>
     ensures { IfOk result (λ found. found ≡ spec.all_of spec.path_in (map (λ word. word.now) words.now)) }
 {

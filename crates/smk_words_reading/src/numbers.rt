@@ -23,19 +23,29 @@ fn spelling(alloc: Global, number: u64) -> Result<String, AllocError>
     format!(in alloc; "{number}")
 }
 
+// Whether the word is how the number is written, and the number is one from the least to the most.
+fn is_number(alloc: Global, word: &str, number: u64, least: u64, most: u64) -> Result<bool, OutOfMemory>
+    ensures { IfOk result (λ good. good ≡ spec.is_number least most word.now number) }
+{
+    let written = spelling(alloc, number)?;
+    Ok(written.as_str() == word && (least <= number && number <= most))
+}
+
 /// The number that the word is, in decimal without a sign and without leading zeros, where it is one from the least to the most.
+#[tactic(none)]
 pub(crate) fn number_in(alloc: Global, word: &str, least: u64, most: u64) -> Result<Option<u64>, OutOfMemory>
     ensures { IfOk result (λ found. found ≡ spec.number_in least most word.now) }
 {
-    let number = match word.parse::<u64>() {
-        Ok(number) => number,
-        Err(_) => return Ok(None),
-    };
-    let written = spelling(alloc, number)?;
-    if written.as_str() == word && least <= number && number <= most {
-        Ok(Some(number))
-    } else {
-        Ok(None)
+    match word.parse::<u64>() {
+        Ok(number) => {
+            let good = is_number(alloc, word, number, least, most)?;
+            if good {
+                Ok(Some(number))
+            } else {
+                Ok(None)
+            }
+        }
+        Err(_) => Ok(None),
     }
 }
 

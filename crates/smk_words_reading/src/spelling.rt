@@ -1,6 +1,6 @@
 //! The parts that words spell.
 
-ghost use Rattle.std.specs.Prelude.{◌≡◌, IfOk, map, string_bytes};
+ghost use Rattle.std.specs.Prelude.{◌≡◌, ◌++◌, IfOk, OnOk, map, string_bytes};
 ghost use Rattle.smk_words_reading.specs.declared.spelling.Expected.TheVariants as expected;
 ghost use Rattle.smk_words_reading.specs.Reading as spec;
 
@@ -22,7 +22,8 @@ pub(crate) enum Expected {
 
 // Adds the value of the option, where the word may be one.
 fn read_value(alloc: Global, setting: Setting, word: &str, parts: &mut List<Part>) -> Result<Option<Expected>, OutOfMemory>
-    ensures { IfOk result (λ next. spec.Adds parts.old parts.new next (spec.step (expected.Value setting) word.now)) }
+    ensures parts { OnOk result (parts.new ≡ parts.old ++ (spec.step (expected.Value setting) word.now).0) }
+    ensures next { IfOk result (λ next. next ≡ (spec.step (expected.Value setting) word.now).1) }
 {
     if !is_value(word) {
         return Ok(None);
@@ -33,7 +34,8 @@ fn read_value(alloc: Global, setting: Setting, word: &str, parts: &mut List<Part
 
 // Adds what the word spells where this is expected, and tells what is expected then: nothing where the word isn't read.
 fn read_next(alloc: Global, expected: Expected, word: &str, parts: &mut List<Part>) -> Result<Option<Expected>, OutOfMemory>
-    ensures { IfOk result (λ next. spec.Adds parts.old parts.new next (spec.step expected word.now)) }
+    ensures parts { OnOk result (parts.new ≡ parts.old ++ (spec.step expected word.now).0) }
+    ensures next { IfOk result (λ next. next ≡ (spec.step expected word.now).1) }
 {
     match expected {
         Expected::Word => read_word(alloc, word, parts),
@@ -46,6 +48,7 @@ fn read_next(alloc: Global, expected: Expected, word: &str, parts: &mut List<Par
 }
 
 /// The parts that the words spell, in order, or nothing where they spell none.
+#[tactic(none)]
 pub(crate) fn parts_of(alloc: Global, words: &[String]) -> Result<Option<List<Part>>, OutOfMemory>
     ensures { IfOk result (λ found. found ≡ spec.spelled expected.Word (map string_bytes words.now)) }
 {

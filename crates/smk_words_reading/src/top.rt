@@ -13,6 +13,7 @@ use smk_base::OutOfMemory;
 use std::alloc::Global;
 
 // What the words mean.
+#[tactic(none)]
 fn meaning_in(alloc: Global, words: &[String]) -> Result<Meaning, OutOfMemory>
     ensures { IfOk result (λ meaning. meaning ≡ spec.meaning_of (spelled expected.Word (map string_bytes words.now))) }
 {
@@ -26,6 +27,7 @@ fn meaning_in(alloc: Global, words: &[String]) -> Result<Meaning, OutOfMemory>
 ///
 /// `BadWords` exactly where no reading of the words asks anything, nor lacks only the number of cores; `NoCores` exactly where they ask
 /// for a run in all but the number of cores; `OutOfMemory` where a growth finds no memory.
+#[tactic(none)]
 pub fn read_words(alloc: Global, words: &[String]) -> Result<Asked, WordsFault>
     ensures ok { IfOk result (λ asked. IsAsked (map string_bytes words.now) asked) }
     ensures bad { IsErrOf result WordsFault.BadWords → AreUnread (map string_bytes words.now) }
