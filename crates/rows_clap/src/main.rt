@@ -47,13 +47,24 @@ fn push_values(text: &mut String, name: &str, matches: &ArgMatches<'_>) -> Resul
 }
 
 /// Adds what of flags a run has.
-fn push_flags(text: &mut String, keep_going: bool, rerun_incomplete: bool) -> Result<(), AllocError> {
-    write!(text, ", keep going {keep_going}, rerun incomplete {rerun_incomplete}")
+fn push_flags(
+    text: &mut String,
+    keep_going: bool,
+    rerun_incomplete: bool,
+) -> Result<(), AllocError> {
+    write!(
+        text,
+        ", keep going {keep_going}, rerun incomplete {rerun_incomplete}"
+    )
 }
 
 /// Adds what `clap` reads.
 fn push_matches(text: &mut String, matches: &ArgMatches<'_>) -> Result<(), AllocError> {
-    write!(text, "cores {}, bounds", matches.get_str("cores").unwrap_or("?"))?;
+    write!(
+        text,
+        "cores {}, bounds",
+        matches.get_str("cores").unwrap_or("?")
+    )?;
     push_values(text, "resources", matches)?;
     text.push_str(", targets")?;
     push_values(text, "targets", matches)?;

@@ -6,3 +6,4 @@ pub mod Numerals
 pub mod Wanted
 pub mod Whole
 pub mod Loops
+pub mod Slices

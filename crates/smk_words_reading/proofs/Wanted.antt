@@ -450,7 +450,7 @@ forget_read parts paths nolock v some good lock once alone =
     ∙ some_forgotten parts paths some
     ∙ ap (λ (q : Option (List Text)). forgetting q parts) (paths_whole paths good)
     ∙ cond-true (is_once flag.NoLock parts && list_all is_of_cleanup parts) (Ask (Forget paths (has flag.NoLock parts))) Nothing
-      (and_from (is_once flag.NoLock parts) (list_all is_of_cleanup parts) (le-leb (times flag.NoLock parts) 1 once) alone)
+    (and_from (is_once flag.NoLock parts) (list_all is_of_cleanup parts) (le-leb (times flag.NoLock parts) 1 once) alone)
     ∙ ap (λ (l : Bool). Ask (Forget paths l)) (sym lock)
 
 generate_read : (seed size : ℕ) → seed ≤ 4294967295 → 1 ≤ size → size ≤ 2000 →

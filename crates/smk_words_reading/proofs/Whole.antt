@@ -1,5 +1,5 @@
 -- Words are read as they ask.
-use Rattle.std.proofs.Common.{◌≡◌, List, [], Option, Some, None, refl, sym, ◌∙◌, ap, subst}
+use Rattle.std.proofs.Common.{◌≡◌, ◌⊎◌, inl, inr, List, [], Option, Some, None, refl, sym, ◌∙◌, ap, subst}
 use Rattle.smk_words_reading.specs.declared.parts.Part.{Part}
 use Rattle.smk_words_reading.specs.declared.asked.Asked.{Asked}
 use Rattle.smk_words_reading.specs.declared.asking.Meaning.{Meaning}
@@ -9,6 +9,7 @@ use Rattle.smk_words_reading.specs.Words.{Text}
 use Rattle.smk_words_reading.specs.Reading.{spelled}
 use Rattle.smk_words_reading.specs.Asks.{IsAsked, LacksCores, AreUnread, OneAsked, NoneAskedWithoutCores}
 use Rattle.smk_words_reading.specs.Asking.{meaning_in, meaning_of}
+use Rattle.smk_words_reading.specs.Laws.{EachIsTold, JoinedLettersAsk}
 use Rattle.smk_words_reading.proofs.AllWords.{spelled_sound, spelled_whole}
 use Rattle.smk_words_reading.proofs.Wanted.{PartsMean, parts_sound, asked_read, without_cores_read}
 
@@ -68,3 +69,14 @@ one_asked words a b h k = same_ask a b (sym (asked_is_read words a h) ∙ asked_
 
 pub none_asked_without_cores : NoneAskedWithoutCores
 none_asked_without_cores words a h k = ask_cores a (sym (asked_is_read words a h) ∙ lacking_is_read words k)
+
+pub each_told : EachIsTold
+each_told words = by (read words) refl
+  where
+    by : (m : Meaning) → read words ≡ m → ((asked : Asked) × IsAsked words asked) ⊎ (LacksCores words ⊎ AreUnread words)
+    by (Ask asked) e = inl (asked, read_asked words asked (sym e))
+    by WithoutCores e = inr (inl (read_without_cores words (sym e)))
+    by Nothing e = inr (inr (read_nothing words (sym e)))
+
+pub joined_letters_ask : JoinedLettersAsk
+joined_letters_ask = read_asked _ _ refl

@@ -53,7 +53,6 @@ fn file_in(alloc: Global, parts: &[Part]) -> Result<Option<Option<PathText>>, Ou
 }
 
 // The pairs that the words are, where each is one.
-#[tactic(none)]
 fn all_pairs(alloc: Global, words: &[&str]) -> Result<Option<List<Pair>>, OutOfMemory>
     ensures { IfOk result (λ found. found ≡ spec.all_of spec.pair_in (map (λ word. word.now) words.now)) }
 {
@@ -68,7 +67,6 @@ fn all_pairs(alloc: Global, words: &[&str]) -> Result<Option<List<Pair>>, OutOfM
 }
 
 // The amounts that the words are, where each is one.
-#[tactic(none)]
 fn all_amounts(alloc: Global, words: &[&str]) -> Result<Option<List<Amount>>, OutOfMemory>
     ensures { IfOk result (λ found. found ≡ spec.all_of spec.amount_in (map (λ word. word.now) words.now)) }
 {
@@ -83,7 +81,6 @@ fn all_amounts(alloc: Global, words: &[&str]) -> Result<Option<List<Amount>>, Ou
 }
 
 // The paths that the words are, where each is one.
-#[tactic(none)]
 fn all_paths(alloc: Global, words: &[&str]) -> Result<Option<List<PathText>>, OutOfMemory>
     ensures { IfOk result (λ found. found ≡ spec.all_of spec.path_in (map (λ word. word.now) words.now)) }
 {

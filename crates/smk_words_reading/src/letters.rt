@@ -4,6 +4,7 @@ ghost use Rattle.std.specs.Prelude.{◌≡◌, ◌∷◌, ◌++◌, ◌==◌, �
 ghost use Rattle.smk_words_reading.specs.Words.{begins_with, is_plain, is_value};
 ghost use Rattle.smk_words_reading.specs.Reading as spec;
 
+use crate::numbers::split_sign;
 use crate::parts::{Flag, Part, Setting};
 use crate::spelling::Expected;
 use smk_base::{List, OutOfMemory, Text};
@@ -39,7 +40,6 @@ fn behind_letter<'w>(letter: u8, rest: &'w str) -> Option<&'w str>
 }
 
 // What stands behind the dash, where the word begins with a dash and isn't one alone.
-#[tactic(none)]
 fn behind_dash(word: &str) -> Option<&str>
     ensures { option_map (λ text. text.now) result ≡ spec.behind_dash word.now }
 {
@@ -50,7 +50,6 @@ fn behind_dash(word: &str) -> Option<&str>
 }
 
 // Whether the word doesn't begin with a dash, or is one alone.
-#[tactic(none)]
 fn is_plain(word: &str) -> bool
     ensures { result ≡ is_plain word.now }
 {
@@ -95,7 +94,12 @@ fn unsigned(text: &str) -> &str
 }
 
 // Adds the option with the value, unless that is empty.
-fn read_given(alloc: Global, setting: Setting, value: &str, parts: &mut List<Part>) -> Result<Option<Expected>, OutOfMemory>
+fn read_given(
+    alloc: Global,
+    setting: Setting,
+    value: &str,
+    parts: &mut List<Part>,
+) -> Result<Option<Expected>, OutOfMemory>
     ensures parts { OnOk result (parts.new ≡ parts.old ++ (spec.given setting value.now).0) }
     ensures next { IfOk result (λ next. next ≡ (spec.given setting value.now).1) }
 {
@@ -107,7 +111,12 @@ fn read_given(alloc: Global, setting: Setting, value: &str, parts: &mut List<Par
 }
 
 // Reads what stands behind the option's letter: a value, which may have `=` before it, or nothing where the next word is the value.
-fn read_joined(alloc: Global, setting: Setting, text: &str, parts: &mut List<Part>) -> Result<Option<Expected>, OutOfMemory>
+fn read_joined(
+    alloc: Global,
+    setting: Setting,
+    text: &str,
+    parts: &mut List<Part>,
+) -> Result<Option<Expected>, OutOfMemory>
     ensures parts { OnOk result (parts.new ≡ parts.old ++ (spec.joined setting text.now).0) }
     ensures next { IfOk result (λ next. next ≡ (spec.joined setting text.now).1) }
 {
@@ -118,7 +127,11 @@ fn read_joined(alloc: Global, setting: Setting, text: &str, parts: &mut List<Par
 }
 
 // Reads the end of joined letters, where no flag's letter stands first.
-fn read_last(alloc: Global, text: &str, parts: &mut List<Part>) -> Result<Option<Expected>, OutOfMemory>
+fn read_last(
+    alloc: Global,
+    text: &str,
+    parts: &mut List<Part>,
+) -> Result<Option<Expected>, OutOfMemory>
     ensures parts { OnOk result (parts.new ≡ parts.old ++ (spec.last_in text.now).0) }
     ensures next { IfOk result (λ next. next ≡ (spec.last_in text.now).1) }
 {
@@ -132,8 +145,11 @@ fn read_last(alloc: Global, text: &str, parts: &mut List<Part>) -> Result<Option
 }
 
 // Reads the letters behind a dash.
-#[tactic(none)]
-fn read_letters(alloc: Global, text: &str, parts: &mut List<Part>) -> Result<Option<Expected>, OutOfMemory>
+fn read_letters(
+    alloc: Global,
+    text: &str,
+    parts: &mut List<Part>,
+) -> Result<Option<Expected>, OutOfMemory>
     ensures parts { OnOk result (parts.new ≡ parts.old ++ (spec.letters_in text.now).0) }
     ensures next { IfOk result (λ next. next ≡ (spec.letters_in text.now).1) }
 {
@@ -146,7 +162,12 @@ fn read_letters(alloc: Global, text: &str, parts: &mut List<Part>) -> Result<Opt
 }
 
 // Reads the name of an option and the value behind it.
-fn read_named(alloc: Global, name: &str, value: &str, parts: &mut List<Part>) -> Result<Option<Expected>, OutOfMemory>
+fn read_named(
+    alloc: Global,
+    name: &str,
+    value: &str,
+    parts: &mut List<Part>,
+) -> Result<Option<Expected>, OutOfMemory>
     ensures parts { OnOk result (parts.new ≡ parts.old ++ (spec.setting_given (spec.setting_named name.now) value.now).0) }
     ensures next { IfOk result (λ next. next ≡ (spec.setting_given (spec.setting_named name.now) value.now).1) }
 {
@@ -171,21 +192,29 @@ fn read_whole(word: &str, parts: &mut List<Part>) -> Result<Option<Expected>, Ou
 }
 
 // Reads a word that begins with two dashes.
-fn read_long(alloc: Global, word: &str, parts: &mut List<Part>) -> Result<Option<Expected>, OutOfMemory>
+fn read_long(
+    alloc: Global,
+    word: &str,
+    parts: &mut List<Part>,
+) -> Result<Option<Expected>, OutOfMemory>
     ensures parts { OnOk result (parts.new ≡ parts.old ++ (spec.long_in word.now).0) }
     ensures next { IfOk result (λ next. next ≡ (spec.long_in word.now).1) }
 {
     if word == "--" {
         return Ok(Some(Expected::Target));
     }
-    match word.split_once('=') {
+    match split_sign(word) {
         Some((name, value)) => read_named(alloc, name, value, parts),
         None => read_whole(word, parts),
     }
 }
 
 /// Adds the parts that the word spells, and tells what is expected behind it: nothing where the word isn't read.
-pub(crate) fn read_word(alloc: Global, word: &str, parts: &mut List<Part>) -> Result<Option<Expected>, OutOfMemory>
+pub(crate) fn read_word(
+    alloc: Global,
+    word: &str,
+    parts: &mut List<Part>,
+) -> Result<Option<Expected>, OutOfMemory>
     ensures parts { OnOk result (parts.new ≡ parts.old ++ (spec.word_in word.now).0) }
     ensures next { IfOk result (λ next. next ≡ (spec.word_in word.now).1) }
 {

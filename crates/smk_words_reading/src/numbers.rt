@@ -14,6 +14,7 @@ const MOST_OF_A_RESOURCE: u64 = 4_294_967_296;
 
 /// The greatest seed and the greatest size of what is generated.
 const MOST_SEED: u64 = 4_294_967_295;
+
 const MOST_SIZE: u64 = 2000;
 
 // The text of the number.
@@ -24,7 +25,13 @@ fn spelling(alloc: Global, number: u64) -> Result<String, AllocError>
 }
 
 // Whether the word is how the number is written, and the number is one from the least to the most.
-fn is_number(alloc: Global, word: &str, number: u64, least: u64, most: u64) -> Result<bool, OutOfMemory>
+fn is_number(
+    alloc: Global,
+    word: &str,
+    number: u64,
+    least: u64,
+    most: u64,
+) -> Result<bool, OutOfMemory>
     ensures { IfOk result (λ good. good ≡ spec.is_number least most word.now number) }
 {
     let written = spelling(alloc, number)?;
@@ -32,18 +39,18 @@ fn is_number(alloc: Global, word: &str, number: u64, least: u64, most: u64) -> R
 }
 
 /// The number that the word is, in decimal without a sign and without leading zeros, where it is one from the least to the most.
-#[tactic(none)]
-pub(crate) fn number_in(alloc: Global, word: &str, least: u64, most: u64) -> Result<Option<u64>, OutOfMemory>
+pub(crate) fn number_in(
+    alloc: Global,
+    word: &str,
+    least: u64,
+    most: u64,
+) -> Result<Option<u64>, OutOfMemory>
     ensures { IfOk result (λ found. found ≡ spec.number_in least most word.now) }
 {
     match word.parse::<u64>() {
         Ok(number) => {
             let good = is_number(alloc, word, number, least, most)?;
-            if good {
-                Ok(Some(number))
-            } else {
-                Ok(None)
-            }
+            if good { Ok(Some(number)) } else { Ok(None) }
         }
         Err(_) => Ok(None),
     }
@@ -96,8 +103,8 @@ fn is_name(text: &str) -> bool
     }
 }
 
-// The text before the first `=` and the text behind it.
-fn split_sign(word: &str) -> Option<(&str, &str)>
+/// The text before the first `=` and the text behind it.
+pub(crate) fn split_sign(word: &str) -> Option<(&str, &str)>
     ensures { option_map (λ p. (p.0.now, p.1.now)) result ≡ split_at 61 word.now }
 {
     word.split_once('=')

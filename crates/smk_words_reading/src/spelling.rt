@@ -2,6 +2,7 @@
 
 ghost use Rattle.std.specs.Prelude.{◌≡◌, ◌++◌, IfOk, OnOk, map, string_bytes};
 ghost use Rattle.smk_words_reading.specs.declared.spelling.Expected.TheVariants as expected;
+ghost use Rattle.smk_words_reading.specs.Ending.{may_end};
 ghost use Rattle.smk_words_reading.specs.Reading as spec;
 
 use crate::letters::{is_value, read_word};
@@ -20,8 +21,20 @@ pub(crate) enum Expected {
     Target,
 }
 
+// Whether words may end where this is expected.
+fn may_end(expected: Expected) -> bool
+    ensures { result ≡ may_end expected }
+{
+    !matches!(expected, Expected::Value(_))
+}
+
 // Adds the value of the option, where the word may be one.
-fn read_value(alloc: Global, setting: Setting, word: &str, parts: &mut List<Part>) -> Result<Option<Expected>, OutOfMemory>
+fn read_value(
+    alloc: Global,
+    setting: Setting,
+    word: &str,
+    parts: &mut List<Part>,
+) -> Result<Option<Expected>, OutOfMemory>
     ensures parts { OnOk result (parts.new ≡ parts.old ++ (spec.step (expected.Value setting) word.now).0) }
     ensures next { IfOk result (λ next. next ≡ (spec.step (expected.Value setting) word.now).1) }
 {
@@ -33,7 +46,12 @@ fn read_value(alloc: Global, setting: Setting, word: &str, parts: &mut List<Part
 }
 
 // Adds what the word spells where this is expected, and tells what is expected then: nothing where the word isn't read.
-fn read_next(alloc: Global, expected: Expected, word: &str, parts: &mut List<Part>) -> Result<Option<Expected>, OutOfMemory>
+fn read_next(
+    alloc: Global,
+    expected: Expected,
+    word: &str,
+    parts: &mut List<Part>,
+) -> Result<Option<Expected>, OutOfMemory>
     ensures parts { OnOk result (parts.new ≡ parts.old ++ (spec.step expected word.now).0) }
     ensures next { IfOk result (λ next. next ≡ (spec.step expected word.now).1) }
 {
@@ -48,7 +66,6 @@ fn read_next(alloc: Global, expected: Expected, word: &str, parts: &mut List<Par
 }
 
 /// The parts that the words spell, in order, or nothing where they spell none.
-#[tactic(none)]
 pub(crate) fn parts_of(alloc: Global, words: &[String]) -> Result<Option<List<Part>>, OutOfMemory>
     ensures { IfOk result (λ found. found ≡ spec.spelled expected.Word (map string_bytes words.now)) }
 {
@@ -60,8 +77,6 @@ pub(crate) fn parts_of(alloc: Global, words: &[String]) -> Result<Option<List<Pa
         };
         expected = next;
     }
-    match expected {
-        Expected::Value(_) => Ok(None),
-        Expected::Word | Expected::Target => Ok(Some(parts)),
-    }
+    let whole = may_end(expected);
+    if whole { Ok(Some(parts)) } else { Ok(None) }
 }

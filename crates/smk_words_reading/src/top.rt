@@ -5,6 +5,7 @@ ghost use Rattle.smk_words_reading.specs.declared.spelling.Expected.TheVariants 
 ghost use Rattle.smk_words_reading.specs.Asking as spec;
 ghost use Rattle.smk_words_reading.specs.Reading.{spelled};
 ghost use Rattle.smk_words_reading.specs.Asks.{IsAsked, LacksCores, AreUnread, OneAsked, NoneAskedWithoutCores};
+ghost use Rattle.smk_words_reading.specs.Laws.{EachIsTold, JoinedLettersAsk};
 
 use crate::asked::{Asked, WordsFault};
 use crate::asking::{Meaning, meaning_of};
@@ -13,7 +14,6 @@ use smk_base::OutOfMemory;
 use std::alloc::Global;
 
 // What the words mean.
-#[tactic(none)]
 fn meaning_in(alloc: Global, words: &[String]) -> Result<Meaning, OutOfMemory>
     ensures { IfOk result (λ meaning. meaning ≡ spec.meaning_of (spelled expected.Word (map string_bytes words.now))) }
 {
@@ -27,7 +27,6 @@ fn meaning_in(alloc: Global, words: &[String]) -> Result<Meaning, OutOfMemory>
 ///
 /// `BadWords` exactly where no reading of the words asks anything, nor lacks only the number of cores; `NoCores` exactly where they ask
 /// for a run in all but the number of cores; `OutOfMemory` where a growth finds no memory.
-#[tactic(none)]
 pub fn read_words(alloc: Global, words: &[String]) -> Result<Asked, WordsFault>
     ensures ok { IfOk result (λ asked. IsAsked (map string_bytes words.now) asked) }
     ensures bad { IsErrOf result WordsFault.BadWords → AreUnread (map string_bytes words.now) }
@@ -41,8 +40,10 @@ pub fn read_words(alloc: Global, words: &[String]) -> Result<Asked, WordsFault>
     }
 }
 
-/// Words ask one thing, and those that lack a number of cores ask nothing.
+/// Words ask one thing, those that lack a number of cores ask nothing, and all others are unread. So `-nk out.txt` is a listing.
 pub fn words_ask_one_thing()
     ensures one { OneAsked }
     ensures apart { NoneAskedWithoutCores }
+    ensures each { EachIsTold }
+    ensures example { JoinedLettersAsk }
 {}

@@ -27,7 +27,11 @@ pub(crate) fn times(flag: Flag, parts: &[Part]) -> usize
 }
 
 /// The values of the option, in order.
-pub(crate) fn values<'p>(alloc: Global, setting: Setting, parts: &'p [Part]) -> Result<Vec<&'p str>, OutOfMemory>
+pub(crate) fn values<'p>(
+    alloc: Global,
+    setting: Setting,
+    parts: &'p [Part],
+) -> Result<Vec<&'p str>, OutOfMemory>
     ensures { IfOk result (λ found. map (λ v. v.now) found.items ≡ spec.values setting parts.now) }
 {
     let mut found = Vec::new(alloc);

@@ -6,9 +6,9 @@ pub returns-in-Err : goal.returns-in-Err
 returns-in-Err c = unparsed c.args.least c.args.most c.args.word.now _ c.parse.result c.ranges.most.fits c.parse.ensures.value.0 c.in-Err.is
 
 pub returns-then-good : goal.returns-then-good
-returns-then-good c = spelled_so c.args.least c.args.most c.args.word.now c.in-Ok.number c.ranges.most.fits (sym c.in_ok-good.ensures ∙ c.if-good.true)
+returns-then-good c = spelled_so c.args.least c.args.most c.args.word.now c.in-Ok.number c.ranges.most.fits (sym c.in_ok-good-in-Ok.ensures ∙ c.if-good.true)
 
 pub returns-else-good : goal.returns-else-good
 returns-else-good c =
     spelled_other c.args.least c.args.most c.args.word.now c.in-Ok.number c.parse.result c.ranges.most.fits c.parse.ensures.value.0 c.in-Ok.is
-    (sym c.in_ok-good.ensures ∙ c.if-good.false)
+    (sym c.in_ok-good-in-Ok.ensures ∙ c.if-good.false)
