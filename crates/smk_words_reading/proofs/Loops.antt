@@ -1,5 +1,5 @@
 -- Loops and calls of the reader.
-use Rattle.std.proofs.Common.{◌≡◌, ◌≢◌, Bor, length, ℕ, suc, ◌+◌, ◌<◌, get_or, drop, drop-cons, add-one, Bool, true, false, cond, not, ◌&&◌, List, [], ◌∷◌, ◌++◌, Option, Some, None, option_map, is_none, is_some, refl, sym, ◌∙◌, ap, subst, append_assoc, ◌==◌, nat_lt}
+use Rattle.std.proofs.Common.{◌≡◌, ◌≢◌, Bor, length, ℕ, suc, ◌+◌, ◌<◌, get_or, drop, drop-cons, add-one, Bool, true, false, cond, not, ◌&&◌, List, [], ◌∷◌, ◌++◌, Option, Some, None, option_map, is_none, is_some, refl, sym, ◌∙◌, ap, append_assoc, ◌==◌, nat_lt}
 use Rattle.std.proofs.lemmas.Bool.{eqb-true, true≢false, false≢true}
 use Rattle.std.proofs.lemmas.Option.{none-some}
 use Rattle.smk_words_reading.specs.declared.parts.Flag.{Flag}
@@ -8,7 +8,7 @@ use Rattle.smk_words_reading.specs.declared.parts.Part.{Part}
 use Rattle.smk_words_reading.specs.declared.parts.Part.TheVariants as part
 use Rattle.smk_words_reading.specs.declared.spelling.Expected.{Expected}
 use Rattle.smk_words_reading.specs.Words.{Text, is_empty, is_plain}
-use Rattle.smk_words_reading.specs.Reading.{Step, after, before, last_in, letters_by, letters_in, first_flag, first_setting, flag_at, setting_at, spelled_next, begins_with_ascii, behind_dash, unsigned}
+use Rattle.smk_words_reading.specs.Reading.{Step, after, before, last_in, letters_by, letters_in, first_flag, first_setting, flag_at, spelled_next, begins_with_ascii, behind_dash, unsigned}
 use Rattle.smk_words_reading.specs.Asking.{cons_both, all_of}
 use Rattle.smk_words_reading.proofs.Options.{no_flag_beyond, no_setting_beyond}
 use Rattle.smk_words_reading.proofs.OneWord.{empty_length, plain_by_dash}

@@ -1,6 +1,6 @@
 -- One word is read as it is spelled.
 use native.Mathlib.Omega.{arith}
-use Rattle.std.proofs.Common.{◌≡◌, ◌≢◌, ℕ, suc, Bool, true, false, cond, not, ◌&&◌, ◌||◌, List, [], ◌∷◌, ◌++◌, codes, length, Option, Some, None, option_map, is_none, refl, sym, ◌∙◌, ap, subst, IsTrue, ◌==◌, bytes_eq}
+use Rattle.std.proofs.Common.{◌≡◌, ◌≢◌, ℕ, suc, Bool, true, false, cond, not, ◌&&◌, ◌||◌, List, [], ◌∷◌, ◌++◌, codes, length, Option, Some, None, option_map, is_none, refl, sym, ◌∙◌, ap, subst, ◌==◌, bytes_eq}
 use Rattle.std.proofs.lemmas.Bool.{eqb-true, ne_eqb, cond-false, true≢false, false≢true}
 use Rattle.std.proofs.lemmas.Option.{none-some, same_Some}
 use Rattle.std.proofs.lemmas.Slice.Eq.{bytes_eq-Decides}
@@ -10,7 +10,6 @@ use Rattle.smk_words_reading.specs.declared.parts.Setting.{Setting}
 use Rattle.smk_words_reading.specs.declared.parts.Setting.TheVariants.{Cores, Snakefile, Config, Resources, CleanupMetadata, Generate}
 use Rattle.smk_words_reading.specs.declared.parts.Part.{Part}
 use Rattle.smk_words_reading.specs.declared.parts.Part.TheVariants as part
-use Rattle.smk_words_reading.specs.declared.spelling.Expected.{Expected}
 use Rattle.smk_words_reading.specs.declared.spelling.Expected.TheVariants.{Word, Value, Target}
 use Rattle.smk_words_reading.specs.Words.{Text, flag_word, setting_word, flag_letter, setting_letter, begins_with, is_empty, is_plain, SpellsLetters, LettersTakeNext, SpellsWord, TakesNext}
 use Rattle.smk_words_reading.specs.Words.SpellsLetters.{LastFlag, NextFlag, ValueAtOnce, ValueBehindSign}

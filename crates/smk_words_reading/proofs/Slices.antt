@@ -1,5 +1,5 @@
 -- Loops over words.
-use Rattle.std.proofs.Common.{◌≡◌, ℕ, suc, ◌+◌, ◌<◌, ◌≤◌, Bool, true, false, List, [], ◌∷◌, ◌++◌, map, length, get_or, drop, drop-cons, drop_of_length-le, add-one, append-nil, Option, Some, None, option_map, refl, sym, ◌∙◌, ap, find, cond, Bor}
+use Rattle.std.proofs.Common.{◌≡◌, ℕ, suc, ◌+◌, ◌<◌, ◌≤◌, Bool, true, false, List, [], ◌∷◌, ◌++◌, map, length, get_or, drop, drop-cons, drop_of_length-le, add-one, append-nil, Option, Some, None, option_map, refl, sym, ◌∙◌, ap, find, Bor}
 use Rattle.std.proofs.lemmas.Bool.{cond-false, true≢false, false≢true}
 use Rattle.smk_words_reading.specs.declared.parts.Flag.{Flag}
 use Rattle.smk_words_reading.specs.declared.parts.Part.{Part}
@@ -7,7 +7,7 @@ use Rattle.smk_words_reading.specs.declared.spelling.Expected.{Expected}
 use Rattle.smk_words_reading.specs.declared.spelling.Expected.TheVariants.{Word, Value, Target}
 use Rattle.smk_words_reading.specs.Words.{Text}
 use Rattle.smk_words_reading.specs.Ending.{may_end}
-use Rattle.smk_words_reading.specs.Reading.{first_flag, before, step, ends, spelled_next, spelled}
+use Rattle.smk_words_reading.specs.Reading.{first_flag, before, step, ends, spelled}
 use Rattle.smk_words_reading.specs.Asking.{all_of}
 use Rattle.smk_words_reading.proofs.Loops.{one_word_more, word_unread, rest_of, next_read, next_unread}
 

@@ -1,6 +1,6 @@
 -- Parts are read as they ask.
 use native.Mathlib.Omega.{arith}
-use Rattle.std.proofs.Common.{◌≡◌, ◌≢◌, ℕ, suc, ◌≤◌, ◌<◌, ◌^◌, Bool, true, false, cond, not, ◌&&◌, ◌||◌, List, [], ◌∷◌, map, filter, length, Option, Some, None, option_map, option_to_list, filter_map, refl, sym, ◌∙◌, ap, subst, decimal, bytes_eq, nat_le, ◌==◌, inl, inr, ◌⊎◌}
+use Rattle.std.proofs.Common.{◌≡◌, ◌≢◌, ℕ, suc, ◌≤◌, ◌<◌, ◌^◌, Bool, true, false, cond, ◌&&◌, ◌||◌, List, [], ◌∷◌, map, filter, length, Option, Some, None, option_map, option_to_list, refl, sym, ◌∙◌, ap, subst, bytes_eq, ◌==◌, inl, inr, ◌⊎◌}
 use Rattle.std.specs.List.{list_all, list_any, cons_option}
 use Rattle.std.specs.Option.{unwrap_or}
 use Rattle.std.proofs.lemmas.Bool.{eqb-true, leb-true, le-leb, cond-true, cond-false, and_parts, and_from, or_parts, true≢false, false≢true}
@@ -22,10 +22,10 @@ use Rattle.smk_words_reading.specs.declared.asking.Meaning.{Meaning}
 use Rattle.smk_words_reading.specs.declared.asking.Meaning.TheVariants.{Ask, WithoutCores, Nothing}
 use Rattle.smk_words_reading.specs.Words.{Text, flag_word, setting_word}
 use Rattle.smk_words_reading.specs.Reading.{flag_named, setting_named}
-use Rattle.smk_words_reading.specs.Asks.{is_flag, times, has, values, value_of, targets_in, force_in, is_pair, pair_text, is_amount, amount_text, are_different, name_of, seed_size_text, IsRunOf, HasCores, is_of_cleanup, Asks, AsksWithoutCores}
+use Rattle.smk_words_reading.specs.Asks.{is_flag, times, has, values, is_pair, pair_text, is_amount, amount_text, are_different, name_of, seed_size_text, IsRunOf, HasCores, is_of_cleanup, Asks, AsksWithoutCores}
 use Rattle.smk_words_reading.specs.Asks.Asks.{ARun, AListing, AnUnlocking, AForgetting, AGenerating}
-use Rattle.smk_words_reading.specs.Asking.{number_in, path_in, pair_in, amount_in, seed_size_in, all_of, only, cores_in, file_in, sets_in, of_different, bounds_in, is_once, are_once, run_with, run_of, run_in, run_meaning, with_run, with_cores, running, forgetting, generating, generating_or_running, without_unlock, meaning_in}
-use Rattle.smk_words_reading.proofs.Numerals.{number_spelled, number_read, pair_sound, pair_whole, amount_sound, amount_whole, AreSeedSize, seed_size_sound, seed_size_whole, path_sound, path_whole, all_of_sound, all_of_whole, paths_sound, paths_whole}
+use Rattle.smk_words_reading.specs.Asking.{number_in, path_in, pair_in, amount_in, seed_size_in, all_of, only, cores_in, file_in, sets_in, of_different, bounds_in, is_once, are_once, run_with, run_of, run_in, run_meaning, with_run, with_cores, forgetting, generating, generating_or_running, without_unlock, meaning_in}
+use Rattle.smk_words_reading.proofs.Numerals.{number_spelled, number_read, pair_sound, pair_whole, amount_sound, amount_whole, seed_size_sound, seed_size_whole, path_sound, path_whole, all_of_sound, all_of_whole, paths_sound, paths_whole}
 
 -- ## The one value of an option
 

@@ -1,5 +1,5 @@
 -- How parts are read.
-use Rattle.std.specs.Prelude.{ℕ, Bool, true, false, ◌&&◌, ◌||◌, not, List, [], ◌∷◌, map, length, decimal, bytes_eq, nat_le, ◌==◌, if◌then◌else◌, Option, Some, None, option_map, unwrap_or}
+use Rattle.std.specs.Prelude.{ℕ, Bool, ◌&&◌, ◌||◌, List, [], ◌∷◌, map, length, decimal, bytes_eq, nat_le, ◌==◌, if◌then◌else◌, Option, Some, None, option_map, unwrap_or}
 use Rattle.std.specs.List.{list_all, list_any}
 use Rattle.std.specs.Str.Parse.{digits_value}
 use Rattle.smk_base.specs.Path.{is_path}

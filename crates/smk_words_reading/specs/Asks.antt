@@ -1,5 +1,5 @@
 -- What words ask.
-use Rattle.std.specs.Prelude.{◌≡◌, ◌≢◌, ◌⊎◌, ◌≤◌, ℕ, Bool, true, false, ◌&&◌, ◌||◌, not, List, [], ◌∷◌, ◌++◌, map, filter, length, codes, decimal, bytes_eq, nat_le, ◌==◌, if◌then◌else◌, Option, Some, None, option_to_list, filter_map}
+use Rattle.std.specs.Prelude.{◌≡◌, ◌≢◌, ◌⊎◌, ◌≤◌, ℕ, Bool, true, false, ◌&&◌, ◌||◌, not, List, [], ◌∷◌, ◌++◌, map, filter, length, decimal, bytes_eq, nat_le, ◌==◌, if◌then◌else◌, Option, Some, None, option_to_list, filter_map}
 use Rattle.std.specs.List.{list_all, list_any}
 use Rattle.smk_base.specs.Path.{is_path}
 use Rattle.smk_base.specs.declared.tree.Amount.{Amount}

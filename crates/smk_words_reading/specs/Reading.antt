@@ -1,5 +1,5 @@
 -- How words are read, one after another.
-use Rattle.std.specs.Prelude.{ℕ, Bool, true, false, List, [], ◌∷◌, ◌++◌, codes, length, bytes_eq, nat_lt, ◌==◌, ◌&&◌, not, if◌then◌else◌, Option, Some, None, option_map, find}
+use Rattle.std.specs.Prelude.{ℕ, Bool, false, List, [], ◌∷◌, ◌++◌, codes, length, bytes_eq, nat_lt, ◌==◌, ◌&&◌, not, if◌then◌else◌, Option, Some, None, option_map, find}
 use Rattle.smk_words_reading.specs.declared.parts.Flag.{Flag}
 use Rattle.smk_words_reading.specs.declared.parts.Flag.TheVariants as flag
 use Rattle.smk_words_reading.specs.declared.parts.Setting.{Setting}
