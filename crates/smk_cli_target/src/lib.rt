@@ -3,6 +3,7 @@
 
 ghost use Rattle.smk_cli_target.specs.Files.{NoFaultyWorkflow, OneFirstFault, OneWorkflow};
 ghost use Rattle.smk_cli_target.specs.Headline.{CameIsGood, CameIsHistory, ClausesAreMet, Headline};
+ghost use Rattle.smk_cli_target.specs.Refusing.{MeetsOne};
 
 mod asked;
 mod call;
@@ -15,6 +16,11 @@ pub fn workflow_is_one()
     ensures one { OneWorkflow }
     ensures faultless { NoFaultyWorkflow }
     ensures fault { OneFirstFault }
+{}
+
+/// A call meets one first refusal, if what words ask is one thing: so the contract never demands two faults.
+pub fn refusal_is_one()
+    ensures { MeetsOne }
 {}
 
 /// A program that meets the contract has the headline. Its clauses speak of one log, where the folder and the bytes of `out` are told.
