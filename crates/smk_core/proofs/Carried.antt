@@ -6,8 +6,9 @@ use Rattle.std.proofs.lemmas.List.{length-replicate}
 use Rattle.std.proofs.lemmas.Option.{none-some, same_Some, slice_get_within}
 use Rattle.smk_core.specs.declared.phase.Phase.{Phase}
 use Rattle.smk_core.specs.declared.phase.Phase.TheVariants.{Waiting}
-use Rattle.smk_core.specs.Replans.{AreNumbers, IsCarried}
-use Rattle.smk_core.proofs.Gets.{get_set_same, get_set_other, get_replicate}
+use Rattle.smk_pick.specs.declared.room.Ask.{Ask}
+use Rattle.smk_core.specs.Replans.{AreNumbers, IsCarried, Moves}
+use Rattle.smk_core.proofs.Gets.{get_set_same, get_set_other, get_some, get_replicate}
 
 -- so far as the first jobs go
 pub record IsCarrying (moved : List ℕ) (count : ℕ) (phases : List Phase) (i : ℕ) (made : List Phase) : Type 0 where
@@ -51,4 +52,15 @@ all_carried moved count phases i made all h = record {
   as_many = h.as_many;
   carried = λ k n e. h.carried k n (let lt : k < length moved = slice_get_within moved k n e in omega arith) e;
   fresh = λ n lt other. h.fresh n lt (λ k less. other k);
+}
+
+-- new numbers are numbers of the new jobs
+pub moved_numbers : (moved : List ℕ) (old new : List Ask) → Moves moved old new → AreNumbers (length new) moved
+moved_numbers moved old new moves = record {
+  below = λ i n e.
+      let inside : i < length moved = slice_get_within moved i n e in
+      let many : length moved ≡ length old = moves.as_many in
+      let a : (a : Ask) × (slice_get old i ≡ Some a) = get_some old i (omega arith) in
+      slice_get_within new n a.0 (moves.same i n a.0 e a.1);
+  apart = moves.apart;
 }

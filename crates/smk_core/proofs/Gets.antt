@@ -128,3 +128,11 @@ pub has_get : (xs : List ℕ) (i x : ℕ) → slice_get xs i ≡ Some x → has 
 has_get [] i x e = absurd (none-some x e)
 has_get (y ∷ xs) zero x e = subst (λ (n : ℕ). has (y ∷ xs) n ≡ true) (same_Some y x e) (has_head y xs)
 has_get (y ∷ xs) (suc i) x e = has_tail y xs x (has_get xs i x e)
+
+-- all numbers below one more
+pub has_more : (xs ys : List ℕ) (m n : ℕ) → m ≡ n → ((j : ℕ) → j < n → has xs j ≡ true) → ys ≡ xs ++ m ∷ [] → (j : ℕ) → j < n + 1 → has ys j ≡ true
+has_more xs ys m n same h e j lt = go (cases_eq j n)
+  where
+    go : (j ≡ n) ⊎ (j ≢ n) → has ys j ≡ true
+    go (inl d) = ap (λ (l : List ℕ). has l j) e ∙ subst (λ (k : ℕ). has (xs ++ m ∷ []) k ≡ true) (same ∙ sym d) (has_last xs m)
+    go (inr ne) = ap (λ (l : List ℕ). has l j) e ∙ has_left xs (m ∷ []) j (h j (omega arith))

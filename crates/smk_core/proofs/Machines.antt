@@ -250,3 +250,16 @@ module _ (room : Room) (jobs : Roll) (keep_going stopped : Bool) (count : ℕ) (
   may_fits j t =
       let ready : (is_ready jobs.phases jobs.befores j && fits here j) ≡ true = (and_parts (goes_on here) (is_ready jobs.phases jobs.befores j && fits here j) t).1 in
       fits_same (slice_get jobs.asks j) ∙ (and_parts (is_ready jobs.phases jobs.befores j) (fits here j) ready).1
+
+-- only the phases change
+pub changed_standing : (room now : Room) (keep_going stopped : Bool) (jobs new : Roll) (phases : List Phase) (xs : List Ask) → Holds room.cores (bounds_of room) now xs → new ≡ with_phases jobs phases
+    → standing_of now keep_going stopped new ≡ record (standing_of room keep_going stopped jobs) { phases = phases }
+changed_standing room now keep_going stopped jobs new phases xs held e = λ i. record {
+  cores = held.cores_are i;
+  bounds = bounds_are room.cores (bounds_of room) now xs held i;
+  keep_going = keep_going;
+  stopped = stopped;
+  asks = (e i).asks;
+  befores = (e i).befores;
+  phases = (e i).phases;
+}

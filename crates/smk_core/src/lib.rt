@@ -3,7 +3,6 @@
 
 mod alike;
 mod carry;
-mod checks;
 mod jobs;
 mod kinds;
 mod machine;
@@ -13,7 +12,6 @@ mod ready;
 mod starter;
 mod tournament;
 
-pub use checks::can_run;
 pub use machine::Core;
 pub use phase::Phase;
 pub use starter::{Starter, Step};

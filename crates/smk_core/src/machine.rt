@@ -143,7 +143,8 @@ impl Starter for Core {
         moved: &List<u32>,
     ) -> Result<(), OutOfMemory> {
         let phases = carried(alloc, self.jobs.phases(), moved.as_slice(), asks.len())?;
-        self.jobs = Jobs::new(alloc, asks.as_slice(), befores.as_slice(), phases)?;
+        let jobs = Jobs::new(alloc, asks.as_slice(), befores.as_slice(), phases)?;
+        self.jobs = jobs;
         Ok(())
     }
 }
