@@ -1,12 +1,12 @@
 -- The jobs that come after each.
-use Rattle.std.proofs.Common.{◌≡◌, ℕ, zero, suc, ◌+◌, ◌<◌, ◌≤◌, ◌≢◌, ◌⊎◌, Bool, true, false, List, [], ◌∷◌, ◌++◌, Some, None, length, set, refl, sym, ap, ◌∙◌, subst, inl, inr, arith, length-set}
+use Rattle.std.proofs.Common.{◌≡◌, ℕ, zero, suc, ◌+◌, ◌<◌, ◌≤◌, ◌≢◌, ◌⊎◌, true, List, [], ◌∷◌, ◌++◌, Some, length, set, refl, sym, ap, ◌∙◌, subst, inl, inr, arith, length-set}
 use Rattle.std.specs.List.{slice_get}
 use Rattle.std.proofs.lemmas.Bool.{cases_eq, cases_lt}
-use Rattle.std.proofs.lemmas.Option.{none-some, slice_get_within}
+use Rattle.std.proofs.lemmas.Option.{slice_get_within}
 use Rattle.smk_core.specs.Indices.{has}
 use Rattle.smk_core.specs.Standing.{befores_of, list_of}
 use Rattle.smk_core.specs.Lines.{AreBehind, AreEarlier, IsNoted, list_at}
-use Rattle.smk_core.proofs.Gets.{get_set_same, get_set_other, get_past, has_head, has_cases, has_append, has_left, has_last}
+use Rattle.smk_core.proofs.Gets.{get_set_same, get_set_other, has_cases, has_append, has_left, has_last}
 
 pub none_noted : (job : ℕ) (lists : List (List ℕ)) → IsNoted [] job lists lists
 none_noted job lists = record { as_many = refl; kept = λ i k t. t; noted = λ i t lt. cc }
@@ -46,8 +46,10 @@ noted_one before job list lists at = record {
   where
     now_is : list_at (set lists before (list ++ job ∷ [])) before ≡ list ++ job ∷ []
     now_is = ap list_of (get_set_same lists before (list ++ job ∷ []) (slice_get_within lists before list at))
+
     now_has : has (list_at (set lists before (list ++ job ∷ [])) before) job ≡ true
     now_has = ap (λ (l : List ℕ). has l job) now_is ∙ has_last list job
+
     kept_by : (i k : ℕ) → has (list_at lists i) k ≡ true → (i ≡ before) ⊎ (i ≢ before) → has (list_at (set lists before (list ++ job ∷ [])) i) k ≡ true
     kept_by i k t (inr ne) = ap (λ (l : List ℕ). has l k) (ap list_of (get_set_other lists before i (list ++ job ∷ []) ne)) ∙ t
     kept_by i k t (inl e) =
@@ -80,6 +82,7 @@ one_behind befores behind now job list earlier at noted h = record {
     here j i t e =
         let inside : i < length behind = (let a : i < j = earlier j i t in let b : j < length befores = has_within befores j i t in let m : length behind ≡ length befores = h.many in omega arith) in
         subst (λ (n : ℕ). has (list_at now i) n ≡ true) (sym e) (noted.noted i (ap (λ (l : List ℕ). has l i) (sym (ap (befores_of befores) e ∙ ap list_of at)) ∙ t) inside)
+
     go : (j i : ℕ) → has (befores_of befores j) i ≡ true → j < job + 1 → (j < job) ⊎ (job ≤ j) → has (list_at now i) j ≡ true
     go j i t lt (inl less) = noted.kept i j (h.each j i less t)
     go j i t lt (inr le) = here j i t (omega arith)

@@ -1,27 +1,23 @@
 -- What each thing that happens keeps.
-use Rattle.std.proofs.Common.{◌≡◌, ℕ, zero, suc, ◌+◌, ◌*◌, ◌<◌, ◌≤◌, ◌≢◌, ◌⊎◌, Bool, true, false, not, ◌&&◌, ◌||◌, cond, List, [], ◌∷◌, ◌++◌, Option, Some, None, length, set, replicate, refl, sym, ap, ◌∙◌, subst, inl, inr, arith, length-set, append-nil}
-use Rattle.std.specs.Prelude.{nat_le, nat_lt, ◌==◌}
+use Rattle.std.proofs.Common.{◌≡◌, ℕ, ◌+◌, ◌<◌, ◌≤◌, Bool, true, false, ◌&&◌, cond, List, [], ◌∷◌, ◌++◌, Some, length, set, refl, sym, ap, ◌∙◌, subst, arith, length-set}
+use Rattle.std.specs.Prelude.{nat_le}
 use Rattle.std.specs.List.{slice_get, list_all, sum_by, count_by}
-use Rattle.std.proofs.lemmas.Bool.{cases_eq, and_parts, and_from, and_right, leb-true, le-leb, eqb-true, ne_eqb}
-use Rattle.std.proofs.lemmas.List.{length-replicate}
-use Rattle.std.proofs.lemmas.List.Sums.{sum_by-append, sum_by-cons}
-use Rattle.std.proofs.lemmas.Option.{none-some, same_Some, slice_get_within}
+use Rattle.std.proofs.lemmas.Bool.{and_parts, and_from, leb-true, le-leb}
+use Rattle.std.proofs.lemmas.List.Sums.{sum_by-append}
 use Rattle.smk_base.specs.declared.tree.Amount.{Amount}
 use Rattle.smk_pick.specs.declared.room.Ask.{Ask}
 use Rattle.smk_pick.specs.Rooms.{amount, threads_in, are_within}
 use Rattle.smk_core.specs.declared.phase.Phase.{Phase}
-use Rattle.smk_core.specs.declared.phase.Phase.TheVariants.{Waiting, Running, Done, Failed}
-use Rattle.smk_core.specs.declared.starter.Step.{Step}
+use Rattle.smk_core.specs.declared.phase.Phase.TheVariants.{Waiting, Running}
 use Rattle.smk_core.specs.declared.starter.Step.TheVariants.{Start, Wait, Finished}
-use Rattle.smk_core.specs.Indices.{has}
-use Rattle.smk_core.specs.Standing.{Standing, IsRunnable, passes, stands, is_waiting, is_running, is_done, is_failed, is_ready, befores_of, asks_running, running, failed, goes_on, fits_beside, fits, may_start, NoneMayStart, started, ended, ending, stopped_now, begun}
-use Rattle.smk_core.specs.Replans.{CanReplan, IsReplanned, IsCarried, Moves}
-use Rattle.smk_core.specs.Course.{Happening, Answered, Ended, Stopped, Replanned, Happens, Course, number_after, number_after_all, moved_or}
+use Rattle.smk_core.specs.Standing.{Standing, stands, is_waiting, is_running, is_done, is_ready, befores_of, asks_running, goes_on, fits_beside, fits, may_start, started, ended, ending}
+use Rattle.smk_core.specs.Replans.{CanReplan, IsReplanned}
+use Rattle.smk_core.specs.Course.{Happening, Answered, Ended, Stopped, Replanned, Happens, Course}
 use Rattle.smk_core.specs.Laws.{IsRun}
-use Rattle.smk_core.proofs.Gets.{get_some, get_set_same}
-use Rattle.smk_core.proofs.Machines.{sum_begun, sum_ended, count_set, none_running}
-use Rattle.smk_core.proofs.Settling.{stands_within, stands_new, stands_other, is_waiting_at, is_running_at}
-use Rattle.smk_core.proofs.Totals.{total, if_running, if_phase, sum_running, count_phases, total_carried}
+use Rattle.smk_core.proofs.Gets.{get_some}
+use Rattle.smk_core.proofs.Machines.{sum_begun, sum_ended}
+use Rattle.smk_core.proofs.Settling.{stands_within, is_waiting_at, is_running_at}
+use Rattle.smk_core.proofs.Totals.{if_running, if_phase, sum_running, count_phases, total_carried}
 
 -- ## Within the bounds
 
@@ -135,6 +131,7 @@ replanned_run s t asks befores moved r can is = subst IsRun (sym is.else_is) (re
   where
     le_of : (m n : ℕ) → m ≡ n → n ≤ m
     le_of m n e = omega arith
+
     same : (f : Ask → ℕ) → sum_by f (asks_running s.asks s.phases) ≡ sum_by f (asks_running asks t.phases)
     same f =
         sum_running f s.asks s.phases

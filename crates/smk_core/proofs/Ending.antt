@@ -1,18 +1,15 @@
 -- How a run comes to its end.
-use Rattle.std.proofs.Common.{◌≡◌, ℕ, zero, suc, ◌+◌, ◌*◌, ◌<◌, ◌≤◌, ◌≢◌, ◌⊎◌, Bool, true, false, not, ◌&&◌, ◌||◌, cond, List, [], ◌∷◌, ◌++◌, Option, Some, None, length, set, refl, sym, ap, ◌∙◌, subst, inl, inr, arith, length-set}
-use Rattle.std.specs.Prelude.{◌==◌, nat_lt}
-use Rattle.std.specs.List.{slice_get, list_all, sum_by, count_by}
-use Rattle.std.proofs.lemmas.Bool.{cases_eq, cases_lt, cases_Bool, and_parts, and_from, and_right, or_parts, eqb-true, eqb-false, ne_eqb, eq-eqb}
+use Rattle.std.proofs.Common.{◌≡◌, ℕ, zero, suc, ◌+◌, ◌<◌, ◌≤◌, ◌⊎◌, Bool, true, false, not, ◌&&◌, ◌||◌, cond, List, [], ◌∷◌, ◌++◌, Some, length, set, refl, sym, ap, ◌∙◌, subst, inl, inr, arith}
+use Rattle.std.specs.Prelude.{◌==◌}
+use Rattle.std.specs.List.{slice_get, list_all, count_by}
+use Rattle.std.proofs.lemmas.Bool.{cases_Bool, and_from, and_right, or_parts, eqb-false, ne_eqb}
 use Rattle.std.proofs.lemmas.List.Sums.{sum_by-cons}
-use Rattle.std.proofs.lemmas.Option.{none-some, same_Some, slice_get_within}
-use Rattle.smk_base.specs.declared.tree.Amount.{Amount}
 use Rattle.smk_pick.specs.declared.room.Ask.{Ask}
 use Rattle.smk_pick.specs.Rooms.{are_within}
 use Rattle.smk_core.specs.declared.phase.Phase.{Phase}
 use Rattle.smk_core.specs.declared.phase.Phase.TheVariants.{Waiting, Running, Done, Failed}
 use Rattle.smk_core.specs.declared.starter.Step.TheVariants.{Start, Wait, Finished}
-use Rattle.smk_core.specs.Indices.{has}
-use Rattle.smk_core.specs.Standing.{Standing, IsRunnable, passes, stands, is_waiting, is_running, is_done, is_failed, is_ready, befores_of, asks_running, running, failed, goes_on, fits_beside, fits, may_start, NoneMayStart, started, ended, ending, stopped_now, Answers}
+use Rattle.smk_core.specs.Standing.{Standing, passes, stands, is_waiting, is_running, is_done, is_failed, is_ready, befores_of, asks_running, running, failed, goes_on, fits_beside, fits, may_start, NoneMayStart, started, ended, ending}
 use Rattle.smk_core.specs.Replans.{CanReplan, IsReplanned}
 use Rattle.smk_core.specs.Course.{Happening, Answered, Ended, Stopped, Replanned, Happens, Course}
 use Rattle.smk_core.specs.Laws.{IsRun, left, moves_of, moves_in, is_replan, has_replan}

@@ -1,6 +1,5 @@
 -- One entry of the lines changes.
-use Rattle.std.proofs.Common.{◌≡◌, ℕ, ◌<◌, ◌≤◌, ◌≢◌, ◌⊎◌, Bool, true, false, cond, List, Option, Some, None, length, set, map, replicate, refl, sym, ap, ◌∙◌, subst, inl, inr, arith}
-use Rattle.std.specs.Prelude.{nat_lt}
+use Rattle.std.proofs.Common.{◌≡◌, ℕ, ◌<◌, ◌≢◌, ◌⊎◌, Bool, true, false, cond, List, Option, Some, None, length, set, refl, sym, ap, ◌∙◌, subst, inl, inr, arith}
 use Rattle.std.specs.List.{slice_get}
 use Rattle.std.specs.Option.{option_map}
 use Rattle.std.proofs.lemmas.Bool.{cases_eq, lt-ltb, le-ltb}
@@ -10,7 +9,7 @@ use Rattle.smk_core.specs.declared.place.Place.{Place}
 use Rattle.smk_core.specs.declared.place.TheConstants.{NONE}
 use Rattle.smk_core.specs.Lines.{entry, entry_in, is_number, IsThere, line_at, with_entry, IsInLine, present_in}
 use Rattle.smk_core.specs.Standing.{list_of}
-use Rattle.smk_core.proofs.Gets.{get_set_same, get_set_other, get_some, get_past, same_lists}
+use Rattle.smk_core.proofs.Gets.{get_set_same, get_set_other, same_lists}
 
 -- ## Places
 

@@ -1,19 +1,19 @@
 -- One job, followed through what happens.
-use Rattle.std.proofs.Common.{◌≡◌, ℕ, zero, suc, ◌+◌, ◌*◌, ◌<◌, ◌≤◌, ◌≢◌, ◌⊎◌, Bool, true, false, not, ◌&&◌, ◌||◌, cond, List, [], ◌∷◌, ◌++◌, Option, Some, None, length, set, refl, sym, ap, ◌∙◌, subst, inl, inr, arith, length-set}
-use Rattle.std.specs.List.{slice_get, count_by}
+use Rattle.std.proofs.Common.{◌≡◌, ℕ, zero, suc, ◌<◌, ◌≢◌, ◌⊎◌, Bool, true, false, List, [], ◌∷◌, Option, Some, length, set, refl, sym, ap, ◌∙◌, subst, inl, inr, length-set}
+use Rattle.std.specs.List.{slice_get}
 use Rattle.std.proofs.lemmas.Bool.{cases_eq}
 use Rattle.std.proofs.lemmas.Option.{none-some, same_Some, slice_get_within}
 use Rattle.smk_pick.specs.declared.room.Ask.{Ask}
 use Rattle.smk_core.specs.declared.phase.Phase.{Phase}
-use Rattle.smk_core.specs.declared.phase.Phase.TheVariants.{Waiting, Running, Done, Failed}
+use Rattle.smk_core.specs.declared.phase.Phase.TheVariants.{Waiting, Running}
 use Rattle.smk_core.specs.declared.starter.Step.TheVariants.{Start, Wait, Finished}
-use Rattle.smk_core.specs.Standing.{Standing, passes, stands, is_waiting, is_running, is_done, ending}
-use Rattle.smk_core.specs.Replans.{CanReplan, IsReplanned, IsCarried, Moves}
+use Rattle.smk_core.specs.Standing.{Standing, passes, stands, is_waiting, is_done, ending}
+use Rattle.smk_core.specs.Replans.{CanReplan, IsReplanned}
 use Rattle.smk_core.specs.Course.{Happening, Answered, Ended, Stopped, Replanned, Happens, Course, number_after, number_after_all, moved_or}
 use Rattle.smk_core.specs.Laws.{IsRun, EndedWell}
-use Rattle.smk_core.proofs.Gets.{get_some, get_set_same}
-use Rattle.smk_core.proofs.Settling.{stands_within, stands_phase, stands_new, stands_other, is_running_at}
-use Rattle.smk_core.proofs.Courses.{may_waits, was_waiting, stays_run}
+use Rattle.smk_core.proofs.Gets.{get_some}
+use Rattle.smk_core.proofs.Settling.{stands_within, stands_new, stands_other, is_running_at}
+use Rattle.smk_core.proofs.Courses.{was_waiting, stays_run}
 
 -- the job's phase, of which it is known that the test fails
 pub record HasBegun (phases : List Phase) (n : ℕ) : Type 0 where
@@ -45,7 +45,7 @@ now_begun phases j old new was gone = record {
 
 -- the new number of a job that was there
 pub new_number : (s : Standing) (asks : List Ask) (befores : List (List ℕ)) (moved : List ℕ) (n : ℕ) → IsRun s → CanReplan s asks befores moved → n < length s.phases → (m : ℕ) × (slice_get moved n ≡ Some m)
-new_number s asks befores moved n r can lt = get_some moved n (subst (λ (x : ℕ). n < x) (sym (can.moves.as_many) ) (subst (λ (x : ℕ). n < x) r.as_many lt))
+new_number s asks befores moved n r can lt = get_some moved n (subst (λ (x : ℕ). n < x) (sym (can.moves.as_many)) (subst (λ (x : ℕ). n < x) r.as_many lt))
 
 pub moved_begun : (s t : Standing) (asks : List Ask) (befores : List (List ℕ)) (moved : List ℕ) (n : ℕ) → IsRun s → CanReplan s asks befores moved → IsReplanned asks befores moved s t
     → HasBegun s.phases n → HasBegun t.phases (moved_or n (slice_get moved n))

@@ -1,18 +1,18 @@
 -- The first job that fits is the head of a line.
-use Rattle.std.proofs.Common.{◌≡◌, ℕ, zero, suc, ◌-◌, ◌^◌, ◌<◌, ◌≤◌, ◌≢◌, ◌⊎◌, Bool, true, false, cond, ◌&&◌, List, [], ◌∷◌, Option, Some, None, length, map, refl, sym, ap, ◌∙◌, subst, inl, inr, arith, MatchOption}
+use Rattle.std.proofs.Common.{◌≡◌, ℕ, zero, suc, ◌-◌, ◌^◌, ◌<◌, ◌≤◌, ◌⊎◌, Bool, true, false, cond, ◌&&◌, List, [], ◌∷◌, Option, Some, None, length, map, refl, sym, ap, ◌∙◌, subst, inl, inr, arith}
 use Rattle.std.specs.Prelude.{slice_index}
 use Rattle.std.specs.List.{slice_get}
 use Rattle.std.specs.Option.{option_map}
-use Rattle.std.proofs.lemmas.Bool.{cases_Bool, and_parts, and_from, ltb-true, lt-ltb}
+use Rattle.std.proofs.lemmas.Bool.{and_parts, and_from, ltb-true, lt-ltb}
 use Rattle.std.proofs.lemmas.Option.{none-some, same_Some, slice_get-map, slice_get_within, slice_get-get_or, get_or_from_slice_get}
 use Rattle.smk_pick.specs.declared.room.Ask.{Ask}
 use Rattle.smk_pick.specs.declared.room.Room.{Room}
-use Rattle.smk_pick.specs.Picks.{Rank, comes_first}
+use Rattle.smk_pick.specs.Picks.{comes_first}
 use Rattle.smk_core.specs.declared.place.Place.{Place}
 use Rattle.smk_core.specs.declared.place.TheConstants.{NONE}
 use Rattle.smk_core.specs.Indices.{is_true, is_true_at}
 use Rattle.smk_core.specs.Standing.{rank_of, priority_of}
-use Rattle.smk_core.specs.Lines.{Line, least, entry, entry_in, is_number, IsInLine, present_in, fits_room, is_before, better, best_of, is_fitting, IsBest}
+use Rattle.smk_core.specs.Lines.{Line, least, entry, is_number, IsInLine, present_in, fits_room, is_before, better, best_of, is_fitting, IsBest}
 use Rattle.smk_core.proofs.Entries.{IsFound, found, entry_of}
 use Rattle.smk_core.proofs.Orders.{first_self, first_kept, first_later}
 use Rattle.smk_core.proofs.Trees.{least_below, least_in}
@@ -155,7 +155,7 @@ module _ (asks : List Ask) (places : List Place) (lines : List (List ℕ)) (h : 
         let parts : (is_true_at here j ≡ true) × (fits_room room (slice_get asks j) ≡ true) = and_parts (is_true_at here j) (fits_room room (slice_get asks j)) t in
         let hd : HasHead j = in_line j parts.0 in
         let beats : Beats asks room (best_of asks room None (map least lines)) hd.first =
-            best_beats asks room (map least lines) None hd.line hd.first hd.head_is (ap (fits_room room) hd.asks_are ∙ parts.1) in
+        best_beats asks room (map least lines) None hd.line hd.first hd.head_is (ap (fits_room room) hd.asks_are ∙ parts.1) in
         let first : comes_first (rank_of asks hd.first) (rank_of asks b) ≡ false = subst (λ (o : Option ℕ). Beats asks room o hd.first) (sym e ∙ d) beats in
         first_later (2 ^ 64 - 1 - priority_of (slice_get asks j)) j hd.first (rank_of asks b) hd.sooner
         (subst (λ (o : Option Ask). comes_first (2 ^ 64 - 1 - priority_of o, hd.first) (rank_of asks b) ≡ false) hd.asks_are first)

@@ -1,14 +1,14 @@
 -- The laws on courses of a run.
-use Rattle.std.proofs.Common.{◌≡◌, ℕ, ◌<◌, ◌⊎◌, Bool, true, false, not, ◌&&◌, ◌||◌, List, length, replicate, refl, sym, ap, ◌∙◌, subst, inl, inr, arith}
+use Rattle.std.proofs.Common.{◌≡◌, ℕ, ◌⊎◌, Bool, true, false, not, ◌&&◌, ◌||◌, length, refl, sym, ap, ◌∙◌, subst, inl, inr, arith}
 use Rattle.std.specs.Prelude.{◌==◌}
 use Rattle.std.proofs.lemmas.Bool.{eq-eqb, or_right}
 use Rattle.std.proofs.lemmas.List.{length-replicate}
 use Rattle.smk_pick.specs.Rooms.{are_within}
 use Rattle.smk_core.specs.declared.phase.Phase.TheVariants.{Waiting, Running, Failed}
-use Rattle.smk_core.specs.Standing.{Standing, stands, is_waiting, is_done, is_failed, befores_of, asks_running, failed, goes_on}
+use Rattle.smk_core.specs.Standing.{Standing, stands, is_waiting, is_done, is_failed, befores_of, failed, goes_on}
 use Rattle.smk_core.specs.declared.starter.Step.TheVariants.{Start}
 use Rattle.smk_core.specs.Course.{Answered, number_after_all}
-use Rattle.smk_core.specs.Laws.{IsRun, BeginsWithin, StaysWithin, StartsOnce, StartsAfter, EndedWell, DoneHasEnded, StopStops, FailureStops, StaysStopped, EachStepLessens, WaitsForSome, FinishedMeansDone}
+use Rattle.smk_core.specs.Laws.{BeginsWithin, StaysWithin, StartsOnce, StartsAfter, EndedWell, DoneHasEnded, StopStops, FailureStops, StaysStopped, EachStepLessens, WaitsForSome, FinishedMeansDone}
 use Rattle.smk_core.proofs.Machines.{none_running}
 use Rattle.smk_core.proofs.Settling.{all_at, is_running_at, stands_new}
 use Rattle.smk_core.proofs.Courses.{within_none, course_run, stays_run, may_after, may_goes, may_waits, was_waiting}

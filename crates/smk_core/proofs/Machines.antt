@@ -1,5 +1,5 @@
 -- What the machine keeps, as jobs begin and end and are given anew.
-use Rattle.std.proofs.Common.{◌≡◌, ℕ, zero, suc, ◌+◌, ◌-◌, ◌<◌, ◌≤◌, ◌≢◌, ◌⊎◌, Bool, true, false, not, ◌&&◌, ◌||◌, cond, List, [], ◌∷◌, ◌++◌, Option, Some, None, length, set, map, replicate, refl, sym, ap, ◌∙◌, subst, inl, inr, arith, length-set, append-nil, MatchOption}
+use Rattle.std.proofs.Common.{◌≡◌, ℕ, zero, suc, ◌+◌, ◌-◌, ◌<◌, ◌≤◌, Bool, true, false, not, ◌&&◌, ◌||◌, cond, List, [], ◌∷◌, ◌++◌, Option, Some, None, length, set, map, replicate, refl, sym, ap, ◌∙◌, subst, arith, length-set, append-nil, MatchOption}
 use Rattle.std.specs.Prelude.{nat_lt, ◌==◌}
 use Rattle.std.specs.List.{slice_get, sum_by, count_by}
 use Rattle.std.proofs.lemmas.Bool.{and_parts, lt-ltb, ne_eqb}
@@ -9,9 +9,8 @@ use Rattle.smk_base.specs.declared.tree.Amount.{Amount}
 use Rattle.smk_pick.specs.declared.room.Ask.{Ask}
 use Rattle.smk_pick.specs.declared.room.Room.{Room}
 use Rattle.smk_pick.specs.declared.room.Share.{Share}
-use Rattle.smk_pick.specs.Rooms.{amount, threads_in, are_within}
-use Rattle.smk_pick.specs.Shares.{share_of, Holds, fits_in, is_used_in}
-use Rattle.smk_pick.specs.Picks.{comes_first}
+use Rattle.smk_pick.specs.Rooms.{amount, threads_in}
+use Rattle.smk_pick.specs.Shares.{share_of, Holds, is_used_in}
 use Rattle.smk_pick.proofs.Holding.{fits_is, held_in_use}
 use Rattle.smk_core.specs.declared.phase.Phase.{Phase}
 use Rattle.smk_core.specs.declared.phase.Phase.TheVariants.{Waiting, Running, Done, Failed}
@@ -19,7 +18,7 @@ use Rattle.smk_core.specs.declared.place.TheConstants.{NONE}
 use Rattle.smk_core.specs.Lines.{Roll, fits_room, is_next, IsBestReady, roll, with_phases}
 use Rattle.smk_core.specs.Machine.{bounds_of, standing_of, IsMachine}
 use Rattle.smk_core.specs.Replans.{Moves, IsCarried}
-use Rattle.smk_core.specs.Standing.{Standing, stands, is_waiting, is_running, is_failed, is_ready, asks_running, rank_of, running, failed, goes_on, fits_beside, fits, may_start, NoneMayStart, IsFirst, with_phase, ending, begun}
+use Rattle.smk_core.specs.Standing.{Standing, stands, is_waiting, is_running, is_failed, is_ready, asks_running, goes_on, fits_beside, fits, may_start, NoneMayStart, IsFirst, ending, begun}
 use Rattle.smk_core.proofs.Totals.{total, if_running, if_phase, sum_running, count_phases, total_set, total_carried}
 
 -- ## What a room holds
@@ -203,6 +202,7 @@ replanned_machine room jobs count bad asks befores moved made h moves c few = re
         sum_running f jobs.asks jobs.phases
         ∙ sym (total_carried (if_running f) (λ a. refl) moved jobs.asks asks jobs.phases made h.as_many moves c)
         ∙ sym (sum_running f asks made)
+
     same_counts : (test : Phase → Bool) → test Waiting ≡ false → count_by test jobs.phases ≡ count_by test made
     same_counts test e =
         count_phases test jobs.asks jobs.phases h.as_many

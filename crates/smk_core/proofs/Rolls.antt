@@ -1,17 +1,15 @@
 -- What the jobs keep, as they begin and end.
-use Rattle.std.proofs.Common.{◌≡◌, ℕ, zero, suc, ◌+◌, ◌<◌, ◌≤◌, ◌⊎◌, Bool, true, false, ◌&&◌, List, [], ◌∷◌, Option, Some, None, length, get_or, set, take, drop, replicate, refl, sym, ap, ◌∙◌, subst, inl, inr, arith, length-set, MatchOption}
+use Rattle.std.proofs.Common.{◌≡◌, ℕ, zero, suc, ◌<◌, Bool, true, false, ◌&&◌, List, Option, Some, None, length, set, take, replicate, refl, sym, ap, ◌∙◌, subst, length-set}
 use Rattle.std.specs.Prelude.{slice_index}
 use Rattle.std.specs.List.{slice_get, list_all}
 use Rattle.std.proofs.lemmas.List.{length-replicate}
-use Rattle.std.proofs.lemmas.Option.{slice_get_within, slice_get-get_or}
 use Rattle.smk_pick.specs.declared.room.Ask.{Ask}
 use Rattle.smk_pick.specs.declared.room.Room.{Room}
-use Rattle.smk_pick.specs.Picks.{comes_first}
 use Rattle.smk_core.specs.declared.phase.Phase.{Phase}
 use Rattle.smk_core.specs.declared.phase.Phase.TheVariants.{Waiting, Running, Done, Failed}
-use Rattle.smk_core.specs.Indices.{has, is_true_at}
-use Rattle.smk_core.specs.Standing.{stands, is_waiting, is_running, is_done, is_ready, befores_of, list_of, rank_of}
-use Rattle.smk_core.specs.Lines.{Line, Roll, IsRoll, ArePassed, AreBehind, AreReady, AreReadyBut, AreOfAll, AreEarlier, fits_room, is_fitting, IsBest, is_next, IsBestReady, roll, with_phases}
+use Rattle.smk_core.specs.Indices.{has}
+use Rattle.smk_core.specs.Standing.{stands, is_waiting, is_running, is_done, befores_of, list_of}
+use Rattle.smk_core.specs.Lines.{Line, Roll, IsRoll, ArePassed, AreBehind, AreReady, AreReadyBut, AreOfAll, fits_room, is_fitting, IsBest, is_next, IsBestReady, roll}
 use Rattle.smk_core.proofs.Settling.{stands_within, is_waiting_at, is_running_at, passed_same, passed_more, ready_begun, ready_kept, ready_but, rest_all}
 
 -- ## New jobs

@@ -1,16 +1,16 @@
 -- Which jobs are ready, as phases change.
-use Rattle.std.proofs.Common.{◌≡◌, ℕ, zero, suc, ◌+◌, ◌<◌, ◌≤◌, ◌≢◌, ◌⊎◌, Bool, true, false, ◌&&◌, List, [], ◌∷◌, ◌++◌, Option, Some, None, length, get_or, set, take, drop, refl, sym, ap, ◌∙◌, subst, inl, inr, arith, length-set}
-use Rattle.std.specs.Prelude.{slice_index, nat_le}
+use Rattle.std.proofs.Common.{◌≡◌, ℕ, zero, suc, ◌<◌, ◌≤◌, ◌≢◌, ◌⊎◌, Bool, true, false, ◌&&◌, List, [], ◌∷◌, Option, Some, None, length, set, take, refl, sym, ap, ◌∙◌, subst, inl, inr, arith, length-set}
+use Rattle.std.specs.Prelude.{slice_index}
 use Rattle.std.specs.List.{slice_get, list_all}
-use Rattle.std.proofs.lemmas.Bool.{cases_eq, cases_lt, cases_Bool, and_parts, and_from, and_left, le-leb}
+use Rattle.std.proofs.lemmas.Bool.{cases_eq, cases_lt, cases_Bool, and_parts, and_from, and_left}
 use Rattle.std.proofs.lemmas.List.{get_or-set_same, get_or-set_other}
-use Rattle.std.proofs.lemmas.Option.{none-some, slice_get_within}
+use Rattle.std.proofs.lemmas.Option.{slice_get_within}
 use Rattle.smk_core.specs.declared.phase.Phase.{Phase}
 use Rattle.smk_core.specs.declared.phase.Phase.TheVariants.{Waiting, Running, Done, Failed}
 use Rattle.smk_core.specs.Indices.{has, is_true, is_true_at}
 use Rattle.smk_core.specs.Standing.{passes, stands, is_waiting, is_running, is_done, is_ready, befores_of, list_of}
-use Rattle.smk_core.specs.Lines.{Line, ArePassed, AreBehind, AreReady, AreReadyBut, AreOfAll, Settles}
-use Rattle.smk_core.proofs.Gets.{get_set_same, get_set_other, get_past, true_within, true_set_same, true_set_other, true_replicate, has_head, has_tail, has_cases}
+use Rattle.smk_core.specs.Lines.{ArePassed, AreBehind, AreReady, AreReadyBut}
+use Rattle.smk_core.proofs.Gets.{get_set_same, get_set_other, get_past, true_set_same, true_set_other, has_head, has_tail, has_cases}
 
 -- ## Tests
 
@@ -154,9 +154,11 @@ rest_more job rest phases befores old new h e lt k = go (cases_eq k job) (h k)
   where
     aside : k ≢ job → is_true_at new k ≡ is_true_at old k
     aside ne = ap (λ (l : List Bool). is_true_at l k) e ∙ true_set_other old job k (is_ready phases befores job) ne
+
     left : k ≢ job → (job ≡ k) ⊎ (has rest k ≡ true) → (is_true_at new k ≡ is_ready phases befores k) ⊎ (has rest k ≡ true)
     left ne (inl d) = absurd (ne (sym d))
     left ne (inr t) = inr t
+
     go : (k ≡ job) ⊎ (k ≢ job) → (is_true_at old k ≡ is_ready phases befores k) ⊎ (has (job ∷ rest) k ≡ true) → (is_true_at new k ≡ is_ready phases befores k) ⊎ (has rest k ≡ true)
     go (inl d) s = inl (ap (is_true_at new) d ∙ ap (λ (l : List Bool). is_true_at l job) e ∙ true_set_same old job (is_ready phases befores job) lt ∙ ap (is_ready phases befores) (sym d))
     go (inr ne) (inl t) = inl (aside ne ∙ t)
@@ -176,6 +178,7 @@ rest_past job rest phases befores present h le few k = go (h k)
     left : (job ≡ k) ⊎ (has rest k ≡ true) → (is_true_at present k ≡ is_ready phases befores k) ⊎ (has rest k ≡ true)
     left (inl d) = inl (past_true present k (subst (λ (n : ℕ). length present ≤ n) d le) ∙ sym (past_ready phases befores k (subst (λ (n : ℕ). length phases ≤ n) d few)))
     left (inr t) = inr t
+
     go : (is_true_at present k ≡ is_ready phases befores k) ⊎ (has (job ∷ rest) k ≡ true) → (is_true_at present k ≡ is_ready phases befores k) ⊎ (has rest k ≡ true)
     go (inl t) = inl t
     go (inr t) = left (has_cases job rest k t)
@@ -209,6 +212,7 @@ passed_set phases befores passed j upto h t k = go (cases_eq k j) (cases_lt j (l
   where
     here : k ≡ j → list_all (stands is_done phases) (take upto (befores_of befores k)) ≡ true
     here e = ap (λ (n : ℕ). list_all (stands is_done phases) (take upto (befores_of befores n))) e ∙ t
+
     go : (k ≡ j) ⊎ (k ≢ j) → (j < length passed) ⊎ (length passed ≤ j) → list_all (stands is_done phases) (take (slice_index (set passed j upto) k) (befores_of befores k)) ≡ true
     go (inl e) (inl lt) = subst (λ (n : ℕ). list_all (stands is_done phases) (take n (befores_of befores k)) ≡ true) (sym (ap (λ (n : ℕ). slice_index (set passed j upto) n) e ∙ get_or-set_same passed j upto 0 lt)) (here e)
     go (inl e) (inr le) = subst (λ (n : ℕ). list_all (stands is_done phases) (take n (befores_of befores k)) ≡ true) (sym (past_index (set passed j upto) k (subst (λ (n : ℕ). length (set passed j upto) ≤ n) (sym e) (subst (λ (n : ℕ). n ≤ j) (sym (length-set passed j upto)) le)))) refl

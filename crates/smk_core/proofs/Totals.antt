@@ -1,7 +1,7 @@
 -- Sums over jobs, as their phases change and as they are given anew.
-use Rattle.std.proofs.Common.{◌≡◌, ℕ, zero, suc, ◌+◌, ◌<◌, ◌≤◌, ◌≢◌, ◌⊎◌, Bool, true, false, cond, List, [], ◌∷◌, ◌++◌, Some, None, length, set, refl, sym, ap, ◌∙◌, subst, inl, inr, arith, length-set}
+use Rattle.std.proofs.Common.{◌≡◌, ℕ, zero, suc, ◌+◌, ◌<◌, ◌≢◌, ◌⊎◌, Bool, cond, List, [], ◌∷◌, Some, length, set, refl, sym, ap, ◌∙◌, subst, inl, inr, arith, length-set}
 use Rattle.std.specs.List.{slice_get, sum_by, count_by}
-use Rattle.std.proofs.lemmas.Bool.{cases_eq, cases_lt}
+use Rattle.std.proofs.lemmas.Bool.{cases_eq}
 use Rattle.std.proofs.lemmas.List.Sums.{sum_by-cons}
 use Rattle.std.proofs.lemmas.Option.{none-some, same_Some, slice_get_within}
 use Rattle.smk_pick.specs.declared.room.Ask.{Ask}
@@ -118,7 +118,7 @@ total_carried g none (m ∷ moved) [] new phases made many moves c = absurd (let
 total_carried g none (m ∷ moved) (a ∷ old) new [] made many moves c = absurd (omega arith)
 total_carried g none (m ∷ moved) (a ∷ old) new (p ∷ phases) made many moves c =
     let rest : total g new (set made m Waiting) ≡ total g old phases =
-        total_carried g none moved old new phases (set made m Waiting) (omega arith) (rest_moves m moved a old new p phases made moves c) (rest_carried m moved a old new p phases made moves c) in
+    total_carried g none moved old new phases (set made m Waiting) (omega arith) (rest_moves m moved a old new p phases made moves c) (rest_carried m moved a old new p phases made moves c) in
     let one : total g new (set made m Waiting) + g a p ≡ total g new made + g a Waiting = total_set g new made m a p Waiting (moves.same 0 m a refl refl) (c.carried 0 m refl) in
     let zero_here : g a Waiting ≡ 0 = none a in
     omega arith

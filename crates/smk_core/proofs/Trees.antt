@@ -1,5 +1,5 @@
 -- The least of some numbers, kept in a tree.
-use Rattle.std.proofs.Common.{◌≡◌, ℕ, zero, suc, ◌+◌, ◌*◌, ◌-◌, ◌/◌, ◌<◌, ◌≤◌, ◌≢◌, ◌⊎◌, List, [], ◌∷◌, length, get_or, set, drop, min, refl, sym, ap, ap₂, ◌∙◌, subst, inl, inr, arith, length-set, length-drop, get_or-drop}
+use Rattle.std.proofs.Common.{◌≡◌, ℕ, zero, suc, ◌+◌, ◌*◌, ◌-◌, ◌/◌, ◌<◌, ◌≤◌, ◌≢◌, ◌⊎◌, List, [], ◌∷◌, length, set, drop, min, refl, sym, ap, ap₂, ◌∙◌, subst, inl, inr, arith, length-set, length-drop, get_or-drop}
 use Rattle.std.specs.Prelude.{slice_index, slice_set}
 use Rattle.std.proofs.lemmas.Bool.{cases_lt, cases_eq}
 use Rattle.std.proofs.lemmas.List.{get_or-set_same, get_or-set_other, drop-set-lt, drop-set-add}
@@ -113,6 +113,7 @@ module _ (places : ℕ) (nodes : List ℕ) (tree : IsTree places nodes) where
     where
       e : IsLesser nodes (k / 2)
       e = tree.lesser (k / 2) (half_above k more) (half_below k places inside)
+
       go : (k ≡ 2 * (k / 2)) ⊎ (k ≡ 2 * (k / 2) + 1) → slice_index nodes (k / 2) ≤ slice_index nodes k
       go (inl d) = at_equal nodes (2 * (k / 2)) k (slice_index nodes (k / 2)) d (min_left (slice_index nodes (2 * (k / 2))) (slice_index nodes (2 * (k / 2) + 1)) (slice_index nodes (k / 2)) e)
       go (inr d) = at_equal nodes (2 * (k / 2) + 1) k (slice_index nodes (k / 2)) d (min_right (slice_index nodes (2 * (k / 2))) (slice_index nodes (2 * (k / 2) + 1)) (slice_index nodes (k / 2)) e)
@@ -213,6 +214,7 @@ top_least places nodes tree some few =
   where
     less_one : (n : ℕ) → (n + n) - n ≡ n
     less_one n = omega arith
+
     back : (n m : ℕ) → n ≤ m → n + (m - n) ≡ m
     back n m h = omega arith
 

@@ -4,7 +4,6 @@ use Rattle.std.specs.List.{count_by}
 use Rattle.smk_base.specs.declared.tree.Amount.{Amount}
 use Rattle.smk_pick.specs.declared.room.Ask.{Ask}
 use Rattle.smk_pick.specs.Rooms.{are_within}
-use Rattle.smk_core.specs.declared.starter.Step.{Step}
 use Rattle.smk_core.specs.declared.starter.Step.TheVariants.{Start, Wait, Finished}
 use Rattle.smk_core.specs.Indices.{has}
 use Rattle.smk_core.specs.Standing.{Standing, IsRunnable, stands, is_waiting, is_running, is_done, befores_of, asks_running, running, failed, goes_on, stopped_now, Answers, begun}

@@ -1,5 +1,5 @@
 -- A run of jobs side by side, as it stands: which jobs are done, and which one is started next.
-use Rattle.std.specs.Prelude.{◌≡◌, ℕ, ◌+◌, ◌-◌, ◌^◌, ◌<◌, Bool, true, false, not, ◌&&◌, ◌||◌, List, [], ◌∷◌, ◌++◌, Option, Some, None, length, replicate, slice_get, slice_set, ◌==◌}
+use Rattle.std.specs.Prelude.{◌≡◌, ℕ, ◌-◌, ◌^◌, ◌<◌, Bool, true, false, not, ◌&&◌, ◌||◌, List, [], ◌∷◌, ◌++◌, Option, Some, None, length, replicate, slice_get, slice_set, ◌==◌}
 use Rattle.std.specs.List.{list_all, count_by}
 use Rattle.smk_base.specs.declared.tree.Amount.{Amount}
 use Rattle.smk_pick.specs.declared.room.Ask.{Ask}

@@ -28,7 +28,11 @@ fn confirmed(asks: &[Ask], kinds: &[Kind], ask: &Ask, found: Option<usize>) -> O
     let Some(first) = asks.get(kind.first) else {
         return None;
     };
-    if is_same(first, ask) { Some(line) } else { None }
+    if is_same(first, ask) {
+        Some(line)
+    } else {
+        None
+    }
 }
 
 // The line of the jobs that ask for the same, a new one where there is none.
@@ -78,10 +82,7 @@ fn add(kinds: &mut Vec<Kind>, places: &mut Vec<Place>, line: usize) -> Result<()
 }
 
 /// The lines that the jobs with these asks stand in, and each one's place. `OutOfMemory` where there is no memory for them.
-pub(crate) fn places_of(
-    alloc: Global,
-    asks: &[Ask],
-) -> Result<(Vec<Kind>, Vec<Place>), OutOfMemory>
+pub(crate) fn places_of(alloc: Global, asks: &[Ask]) -> Result<(Vec<Kind>, Vec<Place>), OutOfMemory>
     ensures placed { IfOk result (λ made. ArePlaced asks.now made.0.items made.1.items) }
     ensures each { IfOk result (λ made. length made.1.items ≡ length asks.now) }
 {

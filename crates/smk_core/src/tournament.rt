@@ -67,6 +67,10 @@ impl Tournament {
     pub(crate) fn least(&self) -> u32
         ensures { result ≡ least self.now }
     {
-        if self.places == 0 { NONE } else { self.nodes[1] }
+        if self.places == 0 {
+            NONE
+        } else {
+            self.nodes[1]
+        }
     }
 }

@@ -1,4 +1,4 @@
-use Rattle.std.proofs.Common.{◌+◌, ℕ, List, take, get_or, sym, subst}
+use Rattle.std.proofs.Common.{ℕ, List, take, get_or, sym, subst}
 use Rattle.std.proofs.lemmas.List.{take_more, take_all}
 use Rattle.smk_core.specs.Lines.{IsNoted}
 use Rattle.smk_core.proofs.Behind.{none_noted, noted_then}

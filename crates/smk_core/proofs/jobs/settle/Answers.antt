@@ -1,4 +1,4 @@
-use Rattle.std.proofs.Common.{◌≡◌, ◌<◌, ℕ, Bool, true, ◌&&◌, List, length, set, take, refl, sym, ap, ◌∙◌, length-set, get_or, subst}
+use Rattle.std.proofs.Common.{◌≡◌, ◌<◌, ℕ, Bool, ◌&&◌, List, length, set, take, refl, sym, ap, ◌∙◌, length-set, subst}
 use Rattle.std.specs.Prelude.{slice_index}
 use Rattle.std.specs.List.{list_all}
 use Rattle.std.proofs.lemmas.Option.{slice_get_read}
@@ -15,7 +15,7 @@ passed_over-upto-requires c =
     let job = c.args.job in
     let list : c.as_slice-list.result.now ≡ befores_of befores job = c.as_slice-list.ensures ∙ sym (ap list_of (slice_get_read befores (length befores) job c.index-befores-job.result refl c.requires.inside c.index-befores-job.is)) in
     let known : c.index.result.now ≡ slice_index passed job =
-        get_or_read passed job c.index.result.now (subst (λ (n : ℕ). job < n) (sym c.requires.as_many.passed_many) c.requires.inside) c.index.ensures 0 in
+    get_or_read passed job c.index.result.now (subst (λ (n : ℕ). job < n) (sym c.requires.as_many.passed_many) c.requires.inside) c.index.ensures 0 in
     ap (λ (l : List ℕ). list_all (stands is_done phases) (take c.index.result.now l)) list
     ∙ ap (λ (n : ℕ). list_all (stands is_done phases) (take n (befores_of befores job))) known
     ∙ c.requires.known job

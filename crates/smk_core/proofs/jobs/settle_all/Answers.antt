@@ -1,4 +1,4 @@
-use Rattle.std.proofs.Common.{◌≡◌, ◌<◌, ◌≤◌, ◌+◌, ℕ, List, [], ◌∷◌, length, get_or, drop, ap, ◌∙◌, subst, arith}
+use Rattle.std.proofs.Common.{◌≡◌, ◌<◌, ◌≤◌, ◌+◌, ℕ, List, length, get_or, drop, ◌∙◌, subst, arith}
 use Rattle.std.proofs.lemmas.List.{drop_more, drop_all}
 use Rattle.smk_core.specs.Lines.{AreReadyBut}
 use Rattle.smk_core.proofs.Settling.{rest_more, rest_past, rest_done}
@@ -13,8 +13,7 @@ loop-job-preserved c =
     let befores = c.args.befores.now in
     let old = c.loop-job.ready.present in
     let many : length old ≡ length befores = c.loop-job.invariant.0.present_many in
-    let inside : job < length old = omega arith in
-    (
+    let inside : job < length old = omega arith in (
       c.settle.ensures.as_many,
       c.settle.ensures.known,
       rest_more job (drop (i + 1) jobs) phases befores old c.settle.new.ready.present
@@ -32,8 +31,7 @@ loop-job-preserved-then-job-befores c =
     let old = c.loop-job.ready.present in
     let many : length old ≡ length befores = c.loop-job.invariant.0.present_many in
     let few : length phases ≡ length befores = c.loop-job.invariant.0.phases_many in
-    let past : length befores ≤ job = c.if-job-befores.true in
-    (
+    let past : length befores ≤ job = c.if-job-befores.true in (
       c.loop-job.invariant.0,
       c.loop-job.invariant.1,
       rest_past job (drop (i + 1) jobs) phases befores old

@@ -1,4 +1,4 @@
-use Rattle.std.proofs.Common.{◌≡◌, ℕ, ◌+◌, List, [], Some, length, refl, sym, ap, ◌∙◌, subst}
+use Rattle.std.proofs.Common.{◌≡◌, List, [], Some, length, refl, sym, ap, ◌∙◌, subst}
 use Rattle.std.specs.List.{slice_get}
 use Rattle.std.proofs.lemmas.Option.{slice_get_read, slice_get_within}
 use Rattle.smk_core.specs.declared.place.Kind.{Kind}
@@ -29,8 +29,7 @@ loop-job-preserved c =
     let line = c.in_ok-line.line in
     let ask = c.index-asks-job.result in
     let next : slice_get asks (length places) ≡ Some ask =
-        ap (slice_get asks) c.loop-job.invariant.1 ∙ slice_get_read asks (length asks) c.loop-job.job ask refl c.loop-job-test.true c.index-asks-job.is in
-    (
+    ap (slice_get asks) c.loop-job.invariant.1 ∙ slice_get_read asks (length asks) c.loop-job.job ask refl c.loop-job-test.true c.index-asks-job.is in (
       added_placed asks kinds now places there line c.in_ok-add.ensures (opened_placed asks c.loop-job.kinds.items kinds places c.in_ok-line.ensures.0 c.loop-job.invariant.0) ask next c.in_ok-line.ensures.1,
       added_many kinds now places there line c.loop-job.job c.in_ok-add.ensures c.loop-job.invariant.1,
     )

@@ -1,4 +1,4 @@
-use Rattle.std.proofs.Common.{◌≡◌, ◌≤◌, ℕ, List, length, refl, sym, ap, ◌∙◌, subst}
+use Rattle.std.proofs.Common.{ℕ, List, length, refl, sym, subst}
 use Rattle.smk_core.specs.declared.phase.Phase.{Phase}
 use Rattle.smk_core.specs.Lines.{ArePassed, AreReady, AreReadyBut, AreOfAll}
 use Rattle.smk_core.proofs.Rolls.{IsFresh, fresh_many, fresh_known, fresh_rest, fresh_roll}

@@ -1,5 +1,4 @@
-use Rattle.std.proofs.Common.{◌≡◌, ◌<◌, ◌-◌, Some, true, not, ◌||◌, [], set, sym, ap, ◌∙◌, subst, arith}
-use Rattle.std.specs.List.{slice_get}
+use Rattle.std.proofs.Common.{◌≡◌, ◌<◌, ◌-◌, true, not, ◌||◌, [], set, sym, ap, ◌∙◌, subst, arith}
 use Rattle.smk_core.specs.Lines.{Roll}
 use Rattle.smk_core.specs.Machine.{bounds_of, IsMachine}
 use Rattle.smk_core.specs.Standing.{Standing, stands, is_running, ended, ending, asks_running}

@@ -23,9 +23,9 @@ invariant_of-self c =
     let made = c.in_ok-phases.phases.items in
     let jobs : c.in_ok-jobs.jobs ≡ roll asks befores made = c.in_ok-jobs.ensures.value ∙ (λ i. roll (c.as_slice-2.ensures i) (c.as_slice-3.ensures i) made) in
     let carried : IsCarried moved (length asks) s.jobs.phases made =
-        subst (λ (ps : List Phase). IsCarried moved (length asks) ps made) c.phases.ensures
-        (subst (λ (n : ℕ). IsCarried moved n c.phases.result.now made) c.len.ensures
-        (subst (λ (m : List ℕ). IsCarried m c.len.result c.phases.result.now made) c.as_slice.ensures c.in_ok-phases.ensures)) in
+    subst (λ (ps : List Phase). IsCarried moved (length asks) ps made) c.phases.ensures
+    (subst (λ (n : ℕ). IsCarried moved n c.phases.result.now made) c.len.ensures
+    (subst (λ (m : List ℕ). IsCarried m c.len.result c.phases.result.now made) c.as_slice.ensures c.in_ok-phases.ensures)) in
     let moves : Moves moved s.jobs.asks asks = subst (λ (x : Standing). Moves moved x.asks asks) (sym c.self.view_is) c.requires.moves in
     let few : length made ≤ NONE = subst (λ (n : ℕ). n ≤ NONE) (ap (λ (r : Roll). length r.phases) jobs) c.in_ok-jobs.ensures.few in
     subst (λ (r : Roll). IsMachine s.room r s.running s.failed) (sym jobs)
