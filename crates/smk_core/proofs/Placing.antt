@@ -21,7 +21,7 @@ none_placed asks = record { bounded = λ j p e. absurd (none-some p e); apart = 
 abbrev IsIn : List Ask → List Kind → ℕ → Place → Type 0
 IsIn asks kinds j p = (k : Kind) × (slice_get kinds p.line ≡ Some k) × (p.at < k.size) × (slice_get asks j ≡ slice_get asks k.first)
 
-pub opened_placed : (asks : List Ask) (kinds now : List Kind) (places : List Place) → OpensLine asks kinds now → ArePlaced asks kinds places → ArePlaced asks now places
+pub opened_placed : (asks : List Ask) (kinds now : List Kind) (places : List Place) → OpensLine kinds now → ArePlaced asks kinds places → ArePlaced asks now places
 opened_placed asks kinds now places (inl e) h = subst (λ (ks : List Kind). ArePlaced asks ks places) (sym e) h
 opened_placed asks kinds now places (inr (new, e)) h = record {
   bounded = λ j p at.

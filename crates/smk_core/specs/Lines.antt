@@ -135,8 +135,8 @@ abbrev pub IsKindOf : List Ask → List Kind → Ask → ℕ → Type 0
 IsKindOf asks kinds ask line = (k : Kind) × (slice_get kinds line ≡ Some k) × (slice_get asks k.first ≡ Some ask)
 
 -- The line was there, or it is a new one of no job yet.
-abbrev pub OpensLine : List Ask → List Kind → List Kind → Type 0
-OpensLine asks old new = (new ≡ old) ⊎ ((k : Kind) × (new ≡ old ++ k ∷ []))
+abbrev pub OpensLine : List Kind → List Kind → Type 0
+OpensLine old new = (new ≡ old) ⊎ ((k : Kind) × (new ≡ old ++ k ∷ []))
 
 -- a place behind all those of the line
 pub record AddsPlace (line : ℕ) (kinds now : List Kind) (places there : List Place) : Type 0 where

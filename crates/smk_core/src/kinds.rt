@@ -1,9 +1,7 @@
 //! Which jobs stand in one line.
 
-ghost use Rattle.std.specs.Prelude.{◌≡◌, ◌+◌, ◌<◌, [], length, map, slice_get, replicate, IfOk, OnOk, IfSome, List as Items};
-ghost use Rattle.smk_pick.specs.declared.room.Ask.{Ask as Asked};
+ghost use Rattle.std.specs.Prelude.{◌≡◌, ◌<◌, length, map, slice_get, replicate, IfOk, OnOk, IfSome};
 ghost use Rattle.smk_core.specs.declared.place.Kind.{Kind as Row};
-ghost use Rattle.smk_core.specs.declared.place.Place.{Place as Spot};
 ghost use Rattle.smk_core.specs.declared.place.TheConstants.{NONE as none};
 ghost use Rattle.smk_core.specs.Lines.{ArePlaced, IsKindOf, OpensLine, AddsPlace};
 
@@ -45,7 +43,7 @@ fn line_of(
     ask: &Ask,
 ) -> Result<usize, OutOfMemory>
     requires { slice_get asks.now job ≡ Some ask.now }
-    ensures { IfOk result (λ line. OpensLine asks.now kinds.old.items kinds.new.items × IsKindOf asks.now kinds.new.items ask.now line) }
+    ensures { IfOk result (λ line. OpensLine kinds.old.items kinds.new.items × IsKindOf asks.now kinds.new.items ask.now line) }
 {
     let key = spelled(alloc, ask)?;
     let found = known.get(key.as_str()).copied();

@@ -1,6 +1,6 @@
 //! What starts the jobs of a run.
 
-ghost use Rattle.std.specs.Prelude.{◌≡◌, Bool, true, OnOk, OnErr, IfOk};
+ghost use Rattle.std.specs.Prelude.{◌≡◌, true, OnOk, OnErr, IfOk};
 ghost use Rattle.smk_core.specs.Standing.{Standing, Answers, BeginsIn, CanBegin, stands, is_running, ended, stopped_now};
 ghost use Rattle.smk_core.specs.Replans.{CanReplan, IsReplanned};
 
