@@ -1,0 +1,16 @@
+pub mod Behind
+pub mod Carried
+pub mod Courses
+pub mod Ending
+pub mod Entries
+pub mod Following
+pub mod Gets
+pub mod Heads
+pub mod Laws
+pub mod Machines
+pub mod Orders
+pub mod Placing
+pub mod Rolls
+pub mod Settling
+pub mod Totals
+pub mod Trees

@@ -1,0 +1,7 @@
+pub mod Course
+pub mod Indices
+pub mod Laws
+pub mod Lines
+pub mod Machine
+pub mod Replans
+pub mod Standing

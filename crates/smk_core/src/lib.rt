@@ -1,0 +1,17 @@
+//! What a run of jobs side by side does next.
+#![tactic(auto)]
+
+mod alike;
+mod carry;
+mod jobs;
+mod kinds;
+mod machine;
+mod phase;
+mod place;
+mod ready;
+mod starter;
+mod tournament;
+
+pub use machine::Core;
+pub use phase::Phase;
+pub use starter::{Starter, Step};

@@ -1,0 +1,12 @@
+//! How a job stands.
+
+/// How a job stands.
+#[derive(Clone, Copy, Debug, PartialEq, Eq)]
+pub enum Phase {
+    /// It hasn't begun.
+    Waiting,
+    Running,
+    /// Its command has ended well.
+    Done,
+    Failed,
+}
