@@ -61,6 +61,19 @@ fn told(alloc: Global, line: &str, files: &[u8]) -> Result<String, LoadFault> {
     Ok(workflow(alloc, &flow)?)
 }
 
+// The line of this fault.
+fn line_of(alloc: Global, fault: LoadFault) -> Result<Text, OutOfMemory> {
+    fault_line(alloc, &Fault::from(fault))
+}
+
+// Adds the line, or that there is no memory for it.
+fn push_line(text: &mut String, line: &Result<Text, OutOfMemory>) -> Result<(), AllocError> {
+    match line {
+        Ok(line) => writeln!(text, "{}", line.as_str()),
+        Err(OutOfMemory) => text.push_str("out of memory\n\n"),
+    }
+}
+
 /// Adds the rules and the clauses of the workspace with these files, or why there are none. The texts that are set stand in the line.
 pub fn push_workspace(
     alloc: Global,
@@ -70,9 +83,6 @@ pub fn push_workspace(
 ) -> Result<(), AllocError> {
     match told(alloc, line, files) {
         Ok(told) => writeln!(text, "{}", told.as_str()),
-        Err(fault) => match fault_line(alloc, &Fault::from(fault)) {
-            Ok(line) => writeln!(text, "{}", line.as_str()),
-            Err(OutOfMemory) => text.push_str("out of memory\n\n"),
-        },
+        Err(fault) => push_line(text, &line_of(alloc, fault)),
     }
 }
