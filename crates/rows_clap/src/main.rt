@@ -3,7 +3,7 @@
 #![tactic(auto)]
 
 use clap::{Arg, ArgAction, ArgMatches, Command, Error};
-use smk_words_reading::{Asked, RunWords, read_words};
+use smk_words_reading::{Asked, RunWords, WordsFault, read_words};
 use std::alloc::{AllocError, Global};
 use std::io::{self, Read};
 
@@ -96,13 +96,18 @@ fn clap_text(alloc: Global, words: &[String]) -> Result<String, Error> {
     Ok(text)
 }
 
+/// Adds what the product's own reader reads, where it is a run.
+fn push_read(text: &mut String, read: &Result<Asked, WordsFault>) -> Result<(), AllocError> {
+    match read {
+        Ok(Asked::Run(run)) => push_run(text, run),
+        _ => text.push_str("no run"),
+    }
+}
+
 /// What the product's own reader reads of the words.
 fn own_text(alloc: Global, words: &[String]) -> Result<String, AllocError> {
     let mut text = String::new(alloc);
-    match read_words(alloc, words) {
-        Ok(Asked::Run(run)) => push_run(&mut text, &run)?,
-        _ => text.push_str("no run")?,
-    }
+    push_read(&mut text, &read_words(alloc, words))?;
     Ok(text)
 }
 
