@@ -15,10 +15,10 @@ use Rattle.smk_drive.specs.Moments.{Rules}
 use Rattle.smk_drive.specs.Refusals.{ChainRefuses}
 use Rattle.smk_drive_target.specs.Refusals.{IsSameFault, RunRefuses}
 use Rattle.smk_drive_target.proofs.OneRefusal.{one_chain_refusal, one_refusal}
-use Rattle.smk_cli_target.specs.declared.asked.Asked.{Asked}
-use Rattle.smk_cli_target.specs.declared.asked.Asked.TheVariants.{Run, Preview, Unlock, Forget, Generate}
-use Rattle.smk_cli_target.specs.declared.asked.RunWords.{RunWords}
-use Rattle.smk_cli_target.specs.Words.{AreUnread, IsAsked, LacksCores}
+use Rattle.smk_words_reading.specs.declared.asked.Asked.{Asked}
+use Rattle.smk_words_reading.specs.declared.asked.Asked.TheVariants.{Run, Preview, Unlock, Forget, Generate}
+use Rattle.smk_words_reading.specs.declared.asked.RunWords.{RunWords}
+use Rattle.smk_words_reading.specs.Asks.{AreUnread, IsAsked, LacksCores}
 use Rattle.smk_cli_target.specs.Files.{FailsToRead, GoesBy, ReadsAs, bad_target, rules_of, seen}
 use Rattle.smk_cli_target.specs.Refusing.{AsOne, AsksToMake, AtOnce, CoresRefuse, FilesRefuse, LockRefusesForgetting, LockRefusesRun, MeetsOne, OfListing, OfRun, Refuses, RefusesAtOnce, StampRefuses, TargetRefuses, WordsRefuse, is_let_in, seen_in_turn}
 use Rattle.smk_cli_target.proofs.FirstFault.{one_first_fault}

@@ -19,10 +19,10 @@ use Rattle.smk_report.specs.declared.fault.Fault.TheVariants as fault
 use Rattle.smk_drive.specs.Moments.{Rules}
 use Rattle.smk_drive.specs.Refusals.{ChainRefuses}
 use Rattle.smk_drive_target.specs.Refusals.{IsSameFault, RunRefuses}
-use Rattle.smk_cli_target.specs.declared.asked.Asked.{Asked}
-use Rattle.smk_cli_target.specs.declared.asked.Asked.TheVariants.{Run, Preview, Forget}
-use Rattle.smk_cli_target.specs.declared.asked.RunWords.{RunWords}
-use Rattle.smk_cli_target.specs.Words.{IsAsked, LacksCores, AreUnread, OneAsked}
+use Rattle.smk_words_reading.specs.declared.asked.Asked.{Asked}
+use Rattle.smk_words_reading.specs.declared.asked.Asked.TheVariants.{Run, Preview, Forget}
+use Rattle.smk_words_reading.specs.declared.asked.RunWords.{RunWords}
+use Rattle.smk_words_reading.specs.Asks.{IsAsked, LacksCores, AreUnread, OneAsked}
 use Rattle.smk_cli_target.specs.Files.{ReadsAs, FailsToRead, GoesBy, bad_target, seen}
 
 -- ## Before anything is done

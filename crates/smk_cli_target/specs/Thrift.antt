@@ -17,10 +17,10 @@ use Rattle.smk_plan.specs.States.{Plan, gathers_from, job_path, makes, staged}
 use Rattle.smk_drive.specs.Moments.{Rules, Moment, Begun, IsMoment, begun_after}
 use Rattle.smk_drive_target.specs.Moments.{AtEachEvent, starts}
 use Rattle.smk_drive_target.specs.Keeping.{has_start}
-use Rattle.smk_cli_target.specs.declared.asked.Asked.TheVariants.{Run}
+use Rattle.smk_words_reading.specs.declared.asked.Asked.TheVariants.{Run}
 use Rattle.smk_cli_target.specs.declared.asked.Outcome.{Outcome}
-use Rattle.smk_cli_target.specs.declared.asked.RunWords.{RunWords}
-use Rattle.smk_cli_target.specs.Words.{IsAsked}
+use Rattle.smk_words_reading.specs.declared.asked.RunWords.{RunWords}
+use Rattle.smk_words_reading.specs.Asks.{IsAsked}
 use Rattle.smk_cli_target.specs.Files.{GoesBy, seen}
 use Rattle.smk_cli_target.specs.Ends.{IsGoodEntry}
 use Rattle.smk_cli_target.specs.Headline.{IsMet}

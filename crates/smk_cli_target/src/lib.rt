@@ -8,7 +8,8 @@ ghost use Rattle.smk_cli_target.specs.Refusing.{MeetsOne};
 mod asked;
 mod call;
 
-pub use asked::{Asked, Outcome, RunWords};
+pub use asked::Outcome;
+pub use smk_words_reading::{Asked, RunWords};
 
 /// The files of a folder are one workflow, with what the words set, and then nothing is wrong with them; or what is wrong with them first is
 /// one fault.
