@@ -1,22 +1,21 @@
 -- At the exit of a run in which all turns were closed, each target is clean whose job rests or is done.
-use Rattle.std.proofs.Common.{◌≡◌, ◌⊎◌, inl, inr, ℕ, suc, Bool, true, false, List, [], ◌∷◌, ◌++◌, map, filter, zip, find, refl, ap, sym, subst, ◌∙◌, Option, Some, None, option_map, is_some, arith, ◌&&◌, true≢false}
+use Rattle.std.proofs.Common.{◌≡◌, ◌⊎◌, inl, inr, Bool, true, false, List, [], map, filter, zip, find, refl, ap, sym, subst, ◌∙◌, Option, Some, None, option_map, is_some, arith, ◌&&◌, true≢false}
 use Rattle.std.specs.Prelude.{is_none, if◌then◌else◌}
 use Rattle.smk_base.specs.Path.{is_path, is_under}
 use Rattle.smk_base.proofs.Apart.{path_outside}
 use Rattle.smk_base.proofs.Under.{at_itself}
-use Rattle.smk_base.specs.declared.tree.Tree.{Tree}
 use Rattle.smk_base.specs.declared.tree.Tree.TheVariants.{File, Folder}
 use Rattle.smk_world.specs.declared.event.Event.{Event}
 use Rattle.smk_world.specs.declared.event.Node.{Node}
 use Rattle.smk_world.specs.declared.event.Node.TheVariants.{Regular, Directory}
 use Rattle.smk_world.specs.declared.recipe.Kind.TheVariants.{Plain}
 use Rattle.smk_world.specs.World.{World, run, out_paths}
-use Rattle.smk_world.specs.Trees.{Path, Each, IsIn, among, folder_over, kind_in}
+use Rattle.smk_world.specs.Trees.{Path, Each, IsIn, folder_over}
 use Rattle.smk_pattern.proofs.Names.{numbered_all}
 use Rattle.smk_flow.specs.declared.job.Job.{Job}
 use Rattle.smk_flow.specs.Flows.{Flow}
 use Rattle.smk_format.specs.Commands.{missing}
-use Rattle.smk_store.specs.Images.{Image, bytes_of, content_of, entry_under, is_directory, is_file, is_folder, is_source, is_whole, names_under, tree_now}
+use Rattle.smk_store.specs.Images.{Image, bytes_of, content_of, entry_under, is_directory, is_file, is_source, is_whole, names_under, tree_now}
 use Rattle.smk_store.specs.Soundness.{Outside, SoundWorld, SameSources}
 use Rattle.smk_store.specs.Trust.{Versions}
 use Rattle.smk_chain.specs.declared.jobs.Known.{Known}
@@ -27,7 +26,7 @@ use Rattle.smk_trigger.specs.declared.reason.State.TheVariants.{Open, Dirty, Res
 use Rattle.smk_trigger.specs.JobStates.{is_clean, is_open, is_to_run}
 use Rattle.smk_pick.specs.declared.settings.Force.TheVariants.{No}
 use Rattle.smk_pick.specs.declared.settings.Settings.{Settings}
-use Rattle.smk_plan.specs.States.{Plan, IsPlan, LastPlan, Last, files_listed, gathers_from, new_listings, is_current, is_ready, is_whole_by, maker_of, makes, nothing_done, stands_whole, state_of, test_some}
+use Rattle.smk_plan.specs.States.{Plan, IsPlan, LastPlan, Last, files_listed, gathers_from, new_listings, is_current, is_ready, is_whole_by, maker_of, nothing_done, stands_whole, state_of, test_some}
 use Rattle.smk_laws_protocol.specs.Protocol.{now}
 use Rattle.smk_laws_protocol.proofs.Basics.{each_in}
 use Rattle.smk_laws_plan.specs.Current.{IsClean}
@@ -145,10 +144,12 @@ module _
       (λ j f files there shut gathered told_so.
       absurd (subst (λ fs. IsIn fs f) (table.gathers_none later st_later is_later.states plain_later j (in_from later.jobs j there)) (in_from (gathers_from j) f gathered)))
       (Last later is_later none_new) refl (λ j there shut. fields j (subst (λ js. IsIn js j) jobs_same (in_from later.jobs j there))) p
-      (contains_from settings.targets p target) current in
-      (c.0, c.1,
-      same_values flow o.act has_fields before after_run (at_exit.complete_before o entry H flow settings plan ts es ran)
-      (at_exit.complete_after o entry H flow settings plan ts es ran closed) sources_stay p ∙ c.2)
+      (contains_from settings.targets p target) current in (
+        c.0,
+        c.1,
+        same_values flow o.act has_fields before after_run (at_exit.complete_before o entry H flow settings plan ts es ran)
+            (at_exit.complete_after o entry H flow settings plan ts es ran closed) sources_stay p ∙ c.2,
+      )
 
   -- ## A job that rests
 
@@ -206,10 +207,11 @@ module _
         current_means_clean_in_worlds flow o has_fields entry H settings nothing_done [] plan ran.sound
         (λ j f files there shut_j gathered told_so.
         absurd (subst (λ fs. IsIn fs f) (table.gathers_none plan st ran.planned.states ran.plain j (in_from plan.jobs j there)) (in_from (gathers_from j) f gathered)))
-        last refl (λ j there shut_j. fields j (in_from plan.jobs j there)) p (contains_from settings.targets p target) current_before in
-        (c.0,
-        file_tree after_run p whole_after ∙ ap (λ n. option_map File (bytes_of n)) same_node ∙ sym (file_tree before p file_before) ∙ c.1,
-        c.2)
+        last refl (λ j there shut_j. fields j (in_from plan.jobs j there)) p (contains_from settings.targets p target) current_before in (
+          c.0,
+          file_tree after_run p whole_after ∙ ap (λ n. option_map File (bytes_of n)) same_node ∙ sym (file_tree before p file_before) ∙ c.1,
+          c.2,
+        )
 
   -- ## Targets
 

@@ -1,16 +1,14 @@
 -- The turn of a job that is to run.
-use Rattle.std.proofs.Common.{◌≡◌, ℕ, zero, suc, Bool, true, false, List, [], ◌∷◌, take, filter, length, zip, refl, ap, sym, ◌∙◌, Option, Some, None, true≢false}
+use Rattle.std.proofs.Common.{◌≡◌, ℕ, zero, suc, true, List, [], ◌∷◌, zip, refl, ap, sym, ◌∙◌, Option, Some, None, true≢false}
 use Rattle.std.specs.Prelude.{slice_get}
-use Rattle.smk_world.specs.Trees.{Path}
 use Rattle.smk_flow.specs.declared.job.Job.{Job}
 use Rattle.smk_store.specs.Images.{Image}
-use Rattle.smk_trigger.specs.declared.reason.Reason.{Reason}
 use Rattle.smk_trigger.specs.declared.reason.State.{State}
 use Rattle.smk_trigger.specs.declared.reason.State.TheVariants.{Open, Dirty, Restore, Clean}
 use Rattle.smk_trigger.specs.JobStates.{is_to_run}
 use Rattle.smk_plan.specs.declared.duty.Duty.{Duty}
 use Rattle.smk_plan.specs.declared.duty.Duty.TheVariants.{Rest, Restore as Again, Run}
-use Rattle.smk_run.specs.Duties.{Due, due_from}
+use Rattle.smk_run.specs.Duties.{due_from}
 use Rattle.smk_run.specs.Runs.{AreInOrder}
 use Rattle.smk_run.specs.Turns.{Turn, is_done}
 use Rattle.smk_plan_duties.specs.Meaning.{IsMeant, AreMeant}
