@@ -1,5 +1,6 @@
 -- Items of inputs gather alone, from the values of items to the workflow of files.
 use Rattle.std.proofs.Common.{◌≡◌, ◌⊎◌, ℕ, Bool, true, false, List, [], ◌∷◌, ◌++◌, map, refl, sym, ap, subst, inl, inr, ◌∙◌, Option, Some, None, Result, Ok, Err, is_some, true≢false}
+use Rattle.std.specs.Prelude.{bytes_eq, codes, if◌then◌else◌}
 use Rattle.serde_json.specs.Data.{Members, no_members}
 use Rattle.smk_base.specs.declared.tree.Pair.{Pair}
 use Rattle.smk_world.specs.Trees.{IsIn}
@@ -16,8 +17,6 @@ use Rattle.smk_eval_values.specs.Values.{first_flag}
 use Rattle.smk_flow.specs.declared.rule.InPart.{InPart}
 use Rattle.smk_flow.specs.declared.rule.RulePart.{RulePart}
 use Rattle.smk_flow.specs.Flows.{Flow}
-use Rattle.smk_eval_rules.specs.declared.directive.Directive.{Directive}
-use Rattle.smk_eval_rules.specs.declared.directive.Directive.TheVariants as is
 use Rattle.smk_eval_rules.specs.Items.{added, all_logs, all_resources, each_item, greatest, input, limit, one_number, one_text, one_truth, output, param, written}
 use Rattle.smk_eval_rules.specs.Rules.{begun, directive_of, rule_of, said, with_directive, with_directives, with_globals}
 use Rattle.smk_flaws.specs.declared.fault.EvalFault.{EvalFault}
@@ -115,26 +114,38 @@ kept r change p q same all h =
     let a = then_ok r (λ a. Ok (change a)) q h in
     subst RuleIs (ok_same (change a.0) q a.2) (subst (All IsAlone) (sym (same a.0)) all)
 
-said_alone : (d : Directive) (word : List ℕ) (p q : RulePart) (items : List Named) → RuleIs p → said d word p items ≡ Ok q → RuleIs q
-said_alone is.Input word p q items all h =
-    let r = then_ok (each_item (input word) items) (λ x. Ok (record p { inputs = x })) q h in
-    subst RuleIs (ok_same (record p { inputs = r.0 }) q r.2) (all_items IsAlone (input word) (input_alone word) [] items r.0 (λ x i. absurd i) r.1)
-said_alone is.Output word p q items all h = kept (each_item (output word) items) (λ x. record p { outputs = x }) p q (λ a. refl) all h
-said_alone is.Params word p q items all h = kept (each_item (param word) items) (λ x. record p { params = x }) p q (λ a. refl) all h
-said_alone is.Log word p q items all h = kept (all_logs word items) (λ x. record p { logs = x }) p q (λ a. refl) all h
-said_alone is.Threads word p q items all h = kept (one_number word 1 4096 items) (λ x. record p { threads = x }) p q (λ a. refl) all h
-said_alone is.Priority word p q items all h = kept (one_number word 0 greatest items) (λ x. record p { priority = x }) p q (λ a. refl) all h
-said_alone is.Resources word p q items all h = kept (all_resources word items) (λ x. record p { amounts = x.amounts; words = x.words }) p q (λ a. refl) all h
-said_alone is.Limits word p q items all h = kept (each_item (limit word) items) (λ x. record p { limits = x }) p q (λ a. refl) all h
-said_alone is.Shell word p q items all h = kept (one_text word items) (λ x. record p { command = Some x }) p q (λ a. refl) all h
-said_alone is.DefaultTarget word p q items all h = kept (one_truth word items) (λ x. record p { default_target = x }) p q (λ a. refl) all h
-said_alone is.Ignored word p q items all h = subst RuleIs (ok_same p q h) all
+-- what holds of both holds of the one that a test picks
+tested : {D : Type 0} {x y : D} (P : D → Type 0) (b : Bool) → P x → P y → P (if b then x else y)
+tested P true first second = first
+tested P false first second = second
+
+module _ (w : List ℕ) (p q : RulePart) (items : List Named) (all : RuleIs p) where
+  inputs_alone : values.and_then (each_item (input w) items) (λ x. Ok (record p { inputs = x })) ≡ Ok q → RuleIs q
+  inputs_alone h =
+      let r = then_ok (each_item (input w) items) (λ x. Ok (record p { inputs = x })) q h in
+      subst RuleIs (ok_same (record p { inputs = r.0 }) q r.2) (all_items IsAlone (input w) (input_alone w) [] items r.0 (λ x i. absurd i) r.1)
+
+  -- a directive, by its word
+  said_alone : said (directive_of w) w p items ≡ Ok q → RuleIs q
+  unfolding directive_of
+  said_alone =
+      tested (λ d. said d w p items ≡ Ok q → RuleIs q) (bytes_eq w (codes "input")) inputs_alone
+      (tested (λ d. said d w p items ≡ Ok q → RuleIs q) (bytes_eq w (codes "output")) (kept (each_item (output w) items) (λ x. record p { outputs = x }) p q (λ a. refl) all)
+      (tested (λ d. said d w p items ≡ Ok q → RuleIs q) (bytes_eq w (codes "params")) (kept (each_item (param w) items) (λ x. record p { params = x }) p q (λ a. refl) all)
+      (tested (λ d. said d w p items ≡ Ok q → RuleIs q) (bytes_eq w (codes "log")) (kept (all_logs w items) (λ x. record p { logs = x }) p q (λ a. refl) all)
+      (tested (λ d. said d w p items ≡ Ok q → RuleIs q) (bytes_eq w (codes "threads")) (kept (one_number w 1 4096 items) (λ x. record p { threads = x }) p q (λ a. refl) all)
+      (tested (λ d. said d w p items ≡ Ok q → RuleIs q) (bytes_eq w (codes "priority")) (kept (one_number w 0 greatest items) (λ x. record p { priority = x }) p q (λ a. refl) all)
+      (tested (λ d. said d w p items ≡ Ok q → RuleIs q) (bytes_eq w (codes "resources")) (kept (all_resources w items) (λ x. record p { amounts = x.amounts; words = x.words }) p q (λ a. refl) all)
+      (tested (λ d. said d w p items ≡ Ok q → RuleIs q) (bytes_eq w (codes "wildcard_constraints")) (kept (each_item (limit w) items) (λ x. record p { limits = x }) p q (λ a. refl) all)
+      (tested (λ d. said d w p items ≡ Ok q → RuleIs q) (bytes_eq w (codes "shell")) (kept (one_text w items) (λ x. record p { command = Some x }) p q (λ a. refl) all)
+      (tested (λ d. said d w p items ≡ Ok q → RuleIs q) (bytes_eq w (codes "default_target")) (kept (one_truth w items) (λ x. record p { default_target = x }) p q (λ a. refl) all)
+      (λ h. subst RuleIs (ok_same p q h) all))))))))))
 
 directives_alone : (s : Scope) (p q : RulePart) (ds : List DirectiveForm) → RuleIs p → with_directives s p ds ≡ Ok q → RuleIs q
 directives_alone s p q [] all h = subst RuleIs (ok_same p q h) all
 directives_alone s p q (d ∷ ds) all h =
     let r = then_ok (with_directive s p d) (λ now. with_directives s now ds) q h in
-    directives_alone s r.0 q ds (said_alone (directive_of d.word) d.word p r.0 (map (named_in d.word s) d.items) all r.1) r.2
+    directives_alone s r.0 q ds (said_alone d.word p r.0 (map (named_in d.word s) d.items) all r.1) r.2
 
 rule_alone : (s : Scope) (globals : List Pair) (form : RuleForm) (file : List ℕ) (line : ℕ) (q : RulePart) → rule_of s globals form file line ≡ Ok q → RuleIs q
 rule_alone s globals form file line q h =
