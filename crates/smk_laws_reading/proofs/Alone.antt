@@ -1,5 +1,5 @@
 -- Items of inputs gather alone, from the values of items to the workflow of files.
-use Rattle.std.proofs.Common.{◌≡◌, ◌⊎◌, ℕ, Bool, true, false, List, [], ◌∷◌, ◌++◌, map, refl, sym, ap, subst, inl, inr, ◌∙◌, Option, Some, None, Result, Ok, Err, is_some, true≢false}
+use Rattle.std.proofs.Common.{◌≡◌, ◌⊎◌, ℕ, Bool, true, false, List, [], ◌∷◌, ◌++◌, map, refl, sym, ap, subst, inl, inr, Some, Result, Ok, Err, is_some, true≢false}
 use Rattle.std.specs.Prelude.{bytes_eq, codes, if◌then◌else◌}
 use Rattle.serde_json.specs.Data.{Members, no_members}
 use Rattle.smk_base.specs.declared.tree.Pair.{Pair}
@@ -13,7 +13,6 @@ use Rattle.smk_eval_values.specs.declared.value.Value.TheVariants.{Word, Number,
 use Rattle.smk_eval_values.specs.declared.fault.ValueFault.{ValueFault}
 use Rattle.smk_eval_values.specs.Expressions.{Scope, Named, named_in, each}
 use Rattle.smk_eval_values.specs.Expressions as values
-use Rattle.smk_eval_values.specs.Values.{first_flag}
 use Rattle.smk_flow.specs.declared.rule.InPart.{InPart}
 use Rattle.smk_flow.specs.declared.rule.RulePart.{RulePart}
 use Rattle.smk_flow.specs.Flows.{Flow}
@@ -23,11 +22,10 @@ use Rattle.smk_flaws.specs.declared.fault.EvalFault.{EvalFault}
 use Rattle.smk_flaws.specs.declared.fault.LoadFault.{LoadFault}
 use Rattle.smk_eval_files.specs.declared.files.ReadFile.{ReadFile}
 use Rattle.smk_eval_files.specs.Texts.{Entry, whole}
-use Rattle.smk_eval_files.specs.Looks.{Nodes}
 use Rattle.smk_eval_files.specs.Reading.{files_at}
 use Rattle.smk_eval.specs.Faults as load
 use Rattle.smk_eval.specs.Faults.{from_files, from_said}
-use Rattle.smk_eval.specs.Loading.{config_files, configs, loaded, said_by, with_sets}
+use Rattle.smk_eval.specs.Loading.{config_files, configs, said_by, with_sets}
 use Rattle.smk_eval.specs.Statements as statements
 use Rattle.smk_eval.specs.Statements.{State, all_stated, assigned, evaluated, flow_of, limited, made, ruled, stated, with_constant, with_limits, with_rule}
 use Rattle.smk_laws_plan.proofs.CurrentLists.{in_either, map_in}
