@@ -1,5 +1,5 @@
 -- The workflow, step by step.
-use Rattle.std.proofs.Common.{◌≡◌, ◌≢◌, ◌⊎◌, inl, inr, true, false, Result, Ok, Err, refl, ap, sym, subst, ◌∙◌}
+use Rattle.std.proofs.Common.{◌≡◌, ◌≢◌, ◌⊎◌, inl, inr, true, false, Result, Ok, Err, ap, sym, subst, ◌∙◌}
 use Rattle.smk_flow.specs.Flows.{Flow}
 use Rattle.smk_flow.specs.declared.fault.FlowFault.{FlowFault}
 use Rattle.smk_flow.specs.Checks.{IsWorkflow, IsFault}

@@ -6,7 +6,6 @@ use Rattle.std.proofs.lemmas.List.{reverse-append}
 use Rattle.smk_base.specs.declared.tree.Pair.{Pair}
 use Rattle.smk_flow.specs.declared.rule.RulePart.{RulePart}
 use Rattle.smk_flow.specs.declared.rule.Clause.{Clause}
-use Rattle.smk_flow.specs.Flows.{Flow}
 use Rattle.smk_eval_rules.specs.Rules.{with_globals}
 use Rattle.smk_eval.specs.Statements.{State, is_default, marked, stands_in, first_marked, with_default, flow_of}
 use Rattle.smk_eval.specs.Marking.{marked_if}

@@ -1,5 +1,5 @@
 -- Commands that the shell waits for.
-use Rattle.std.proofs.Common.{◌≡◌, ◌≢◌, ℕ, true, List, Option, Some, Result, Ok, Err, refl, ap, sym, ◌∙◌}
+use Rattle.std.proofs.Common.{◌≡◌, ◌≢◌, ℕ, true, List, Some, Result, Ok, Err, ap, sym, ◌∙◌}
 use Rattle.smk_flow.specs.declared.rule.RulePart.{RulePart}
 use Rattle.smk_flow.specs.Flows.{Flow}
 use Rattle.smk_flaws.specs.declared.fault.EvalFault.{EvalFault}
