@@ -8,6 +8,7 @@ use Rattle.smk_record.specs.declared.record.Record.{Record}
 use Rattle.smk_store.specs.Images.{seen}
 use Rattle.smk_store.specs.Trust.{Versions}
 use Rattle.smk_store.specs.Soundness.{SoundWorld}
+use Rattle.smk_plan.specs.States.{nothing_done}
 use Rattle.smk_report.specs.declared.fault.Fault.{Fault}
 use Rattle.smk_words_reading.specs.declared.asked.RunWords.{RunWords}
 use Rattle.smk_words_reading.specs.declared.asked.Asked.TheVariants.{Run, Preview}
@@ -36,7 +37,7 @@ pub data MayTell (read : List ℕ → Option Record) (run : Bool) (words : RunWo
   PlanRefused :
       (asked : Asked) (f : Fault) →
       IsAskedIn run words w.nodes (Ok asked) →
-      MayStop (rules_for read asked.flow (settings_of asked words)) (seen read w) f → MayTell read run words w (Some f)
+      MayStop (rules_for read asked.flow (settings_of asked words)) (seen read w) nothing_done f → MayTell read run words w (Some f)
 
 -- A call for a run tells nothing else, where the world is told at its end and no count of faults of the device rose.
 abbrev pub CallIsComplete : Type 0

@@ -37,7 +37,7 @@ abbrev pub RefusedPlansMayStop : Type 0
 RefusedPlansMayStop =
     (act : Act) (read : List ℕ → Option Record) (asked : Asked) (words : RunWords) (w : World) (H : Versions) (f : Fault) →
     IsCleanAsked act read asked w H →
-    IsRefusedPlan read asked words w f → MayStop (rules_for read asked.flow (settings_of asked words)) (seen read w) f
+    IsRefusedPlan read asked words w f → MayStop (rules_for read asked.flow (settings_of asked words)) (seen read w) nothing_done f
 
 -- all is well, or the run broke off
 abbrev pub EndsComplete : Result (Unit {0}) Fault → Type 0
@@ -62,7 +62,7 @@ WorkIsComplete =
 -- The call ends well; or it is refused so, or broke off.
 abbrev pub IsCompleteAnswer : (List ℕ → Option Record) → Asked → RunWords → World → Result (Unit {0}) Fault → Type 0
 IsCompleteAnswer read asked words w (Ok u) = Unit {0}
-IsCompleteAnswer read asked words w (Err f) = MayStop (rules_for read asked.flow (settings_of asked words)) (seen read w) f ⊎ MayBreakOff f
+IsCompleteAnswer read asked words w (Err f) = MayStop (rules_for read asked.flow (settings_of asked words)) (seen read w) nothing_done f ⊎ MayBreakOff f
 
 -- So a run for what is asked ends.
 abbrev pub ServedRunsAreComplete : Type 0
