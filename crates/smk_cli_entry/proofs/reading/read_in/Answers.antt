@@ -7,7 +7,7 @@ pub returns-in_err-flow-clause-looked : goal.returns-in_err-flow-clause-looked
 returns-in_err-flow-clause-looked g c = looked_as (carried_device _ _ c.from_residual.ensures.1) c.in_err-flow.ensures.looked
 
 pub returns-in_err-flow-clause-told : goal.returns-in_err-flow-clause-told
-returns-in_err-flow-clause-told g c = λ w here. carried_refusal w.nodes c.args.file _ _ _ c.from_residual.ensures.1 (c.in_err-flow.ensures.told w here)
+returns-in_err-flow-clause-told g c = λ w here. carried_refusal w.nodes c.args.file c.args.sets.now _ _ c.from_residual.ensures.1 (c.in_err-flow.ensures.told w here)
 
 pub returns-in_err-flow-clause-no_sink : goal.returns-in_err-flow-clause-no_sink
 returns-in_err-flow-clause-no_sink g c = carried_no_sink _ _ c.from_residual.ensures.1
