@@ -6,11 +6,11 @@ pub mod Entries
 pub mod Following
 pub mod Gets
 pub mod Heads
-pub mod Laws
 pub mod Machines
 pub mod Orders
 pub mod Placing
 pub mod Rolls
 pub mod Settling
+pub mod Shown
 pub mod Totals
 pub mod Trees

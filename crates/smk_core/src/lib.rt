@@ -5,6 +5,7 @@ mod alike;
 mod carry;
 mod jobs;
 mod kinds;
+mod laws;
 mod machine;
 mod phase;
 mod place;
@@ -12,6 +13,7 @@ mod ready;
 mod starter;
 mod tournament;
 
+pub use laws::{jobs_start_in_order, room_is_kept, runs_end, stops_stop};
 pub use machine::Core;
 pub use phase::Phase;
 pub use starter::{Starter, Step};

@@ -1,0 +1,3 @@
+pub mod Started
+pub mod Telling
+pub mod Headline
