@@ -1,5 +1,5 @@
 -- The turn of a path, by a store that was loaded before or anew.
-use Rattle.std.proofs.Common.{◌≡◌, ◌⊎◌, inl, inr, Bool, true, false, ◌||◌, List, [], ◌∷◌, ◌++◌, refl, sym, ap, subst, ◌∙◌, bytes_eq, append_assoc, Some, None, Result, Ok, Err}
+use Rattle.std.proofs.Common.{◌≡◌, ◌⊎◌, inl, inr, Bool, true, false, ◌||◌, List, [], ◌∷◌, ◌++◌, map, refl, sym, ap, subst, ◌∙◌, bytes_eq, append_assoc, Some, None, Result, Ok, Err}
 use Rattle.std.specs.Prelude.{IfOk, IfErr, is_some}
 use Rattle.smk_base.proofs.Under.{or_cases, or_first, or_second}
 use Rattle.smk_world.specs.declared.event.Event.{Event}
@@ -11,6 +11,7 @@ use Rattle.smk_world.specs.Trees.{Path, Act, among}
 use Rattle.smk_world.specs.World.{World, run, reading}
 use Rattle.smk_world.proofs.Devices.{acted_as, acted_then, looks_append, looks_nodes}
 use Rattle.smk_world.proofs.Runs.{run_append}
+use Rattle.smk_record.specs.Records.{are_rising}
 use Rattle.smk_record.proofs.Lists.{named_append}
 use Rattle.smk_store.specs.declared.fault.StoreFault.{StoreFault}
 use Rattle.smk_store.specs.declared.fault.StoreFault.TheVariants.{StampSeen, Device as DeviceFault, OutOfMemory}
@@ -86,6 +87,7 @@ turned_before done p left r w es fs h t =
         is_store = store_same (run w es) w t.turn.store same t.turn.is_store;
         did = looks_before t.turn.store p r w es fs h t.turn.did;
         known = λ k e. t.turn.known k e ∙ known_same (run w es) w same p;
+        rising = t.turn.rising;
       };
       but = but_at (done ++ p ∷ []) r (run (run w es) fs) (run w (es ++ fs)) left (sym (run_append w es fs)) t.but;
     }
@@ -111,11 +113,11 @@ module _ (act : Act) (w : World) (p : Path) (es : List Event) (follows : Follows
   known_ok ks r store h k e = subst (λ x. IfOk x (λ j. j ≡ is_some (entry_of ks p))) e h ∙ known_by_store (seen w) ks store p
 
   -- by a store that has just what stands
-  turned_fresh : (done : List Path) (ks : List Known) (r : Result Bool StoreFault) → IsStoreOf (seen w) ks → HasForgotten ks p r w es → IfOk r (λ k. k ≡ is_some (entry_of ks p)) → HasTurned done p ks r w es
-  turned_fresh done ks r store did known =
+  turned_fresh : (done : List Path) (ks : List Known) (r : Result Bool StoreFault) → IsStoreOf (seen w) ks → HasForgotten ks p r w es → IfOk r (λ k. k ≡ is_some (entry_of ks p)) → are_rising (map (λ (k : Known). k.path) ks) ≡ true → HasTurned done p ks r w es
+  turned_fresh done ks r store did known rising =
       let all : without [] ks ≡ ks = without_none ks in
       record {
-        turn = record { store = ks; is_store = store; did = did; known = known_ok ks r store known };
+        turn = record { store = ks; is_store = store; did = did; known = known_ok ks r store known; rising = λ q e. rising };
         but = but_next done [] ks r (λ q h. absurd (never (sym h))) (subst (IsStoreOf (seen w)) (sym all) store) (subst (λ l. HasForgotten l p r w es) (sym all) did)
             (known_ok ks r store known);
       }
@@ -149,7 +151,7 @@ module _ (act : Act) (w : World) (p : Path) (es : List Event) (follows : Follows
       let less = forgotten_less but.gone ks r plain did in
       let tells = known_ok left r but.is_store (known_less but.gone ks r (not_gone done but.gone but.forgotten off) known) in
       record {
-        turn = record { store = left; is_store = but.is_store; did = less; known = tells };
+        turn = record { store = left; is_store = but.is_store; did = less; known = tells; rising = λ q e. absurd (never (sym (ap is_stamp e) ∙ plain)) };
         but = but_next done but.gone ks r but.forgotten but.is_store less tells;
       }
 
@@ -157,8 +159,11 @@ module _ (act : Act) (w : World) (p : Path) (es : List Event) (follows : Follows
 turned_unloaded : (done : List Path) (w : World) (p : Path) (es : List Event) (ks new : List Known) (f : StoreFault) → ((q : Path) → f ≡ StampSeen q → ⊥) → AreLooks (store_failed {T = Bool} (Err f)) es → IsStoreBut done w ks
     → HasTurned done p new (Err f) w es
 turned_unloaded done w p es ks new f plain look but =
-    record { turn = record { store = without but.gone ks; is_store = but.is_store; did = by f plain look; known = λ k e. absurd cc }; but = tt }
+    record { turn = record { store = without but.gone ks; is_store = but.is_store; did = by f plain look; known = λ k e. absurd cc; rising = λ q e. absurd (plain q (same_fault q e)) }; but = tt }
   where
+    same_fault : (q : Path) → ◌≡◌ {A = Result Bool StoreFault} (Err f) (Err (StampSeen q)) → f ≡ StampSeen q
+    same_fault q e = cc
+
     by : (f : StoreFault) → ((q : Path) → f ≡ StampSeen q → ⊥) → AreLooks (store_failed {T = Bool} (Err f)) es → HasForgotten (without but.gone ks) p (Err f) w es
     by (StampSeen q) plain look = absurd (plain q refl)
     by DeviceFault plain look = inl look
@@ -175,11 +180,11 @@ after_looks act P a b c f looked h =
     acted_then act (λ w es. AreLooks false es) P (AfterLooks P) a b c f (λ w es fs follows looks follows2 k. (es, fs, refl, looks, k)) looked.acted h
 
 pub acted_anew : (act : Act) (a b c : Device) (old ks : List Known) (p : Path) (r : Result Bool StoreFault) → HasLooked act a b false → WhereTold a (λ w. IsStoreOf (seen w) ks)
-    → HasActed act (HasForgotten ks p r) b c (store_failed r) → IfOk r (λ k. k ≡ is_some (entry_of ks p)) → HasActed act (TurnsBy old p ks r) a c (store_failed r)
-acted_anew act a b c old ks p r looked told h known =
+    → HasActed act (HasForgotten ks p r) b c (store_failed r) → IfOk r (λ k. k ≡ is_some (entry_of ks p)) → are_rising (map (λ (k : Known). k.path) ks) ≡ true → HasActed act (TurnsBy old p ks r) a c (store_failed r)
+acted_anew act a b c old ks p r looked told h known rising =
     acted_more act (AfterLooks (HasForgotten ks p r)) (TurnsBy old p ks r) a c (store_failed r) (store_failed r) refl
     (λ w at log follows (es, fs, split, looks, did) done but.
-    turned_fresh act w p log follows done ks r (told w at) (subst (HasForgotten ks p r w) (sym split) (looks_before ks p r w es fs looks did)) known)
+    turned_fresh act w p log follows done ks r (told w at) (subst (HasForgotten ks p r w) (sym split) (looks_before ks p r w es fs looks did)) known rising)
     (after_looks act (HasForgotten ks p r) a b c (store_failed r) looked h)
 
 pub acted_unloaded : (act : Act) (a b : Device) (old new : List Known) (p : Path) (f : StoreFault) → ((q : Path) → f ≡ StampSeen q → ⊥) → HasLooked act a b (store_failed {T = List Known} (Err f))

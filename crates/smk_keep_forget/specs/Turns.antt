@@ -1,11 +1,12 @@
 -- What is done of paths that are forgotten, each in its turn.
-use Rattle.std.specs.Prelude.{◌≡◌, ◌⊎◌, Bool, true, false, not, List, [], ◌∷◌, ◌++◌, filter, Result, Ok, Err}
+use Rattle.std.specs.Prelude.{◌≡◌, ◌⊎◌, Bool, true, false, not, List, [], ◌∷◌, ◌++◌, map, filter, Result, Ok, Err}
 use Rattle.smk_world.specs.declared.event.Event.{Event}
 use Rattle.smk_world.specs.World.{World, run}
 use Rattle.smk_world.specs.Devices.{AreLooks}
 use Rattle.smk_world.specs.Trees.{Path, IsIn, among}
+use Rattle.smk_record.specs.Records.{are_rising}
 use Rattle.smk_store.specs.declared.fault.StoreFault.{StoreFault}
-use Rattle.smk_store.specs.declared.fault.StoreFault.TheVariants as store
+use Rattle.smk_store.specs.declared.fault.StoreFault.TheVariants as stop
 use Rattle.smk_store.specs.Forgetting.{HasForgotten}
 use Rattle.smk_store.specs.Images.{is_known}
 use Rattle.smk_store.specs.Loading.{IsStoreOf}
@@ -28,12 +29,14 @@ pub record IsStoreBut (done : List Path) (w : World) (store : List Known) : Type
 
 -- ## Turns
 
--- A path's turn: by a store that has just what stands then, this was done of it; and the answer tells whether something was known of it.
+-- A path's turn: by a store that has just what stands then, this was done of it; the answer tells whether something was known of it, and a
+-- refusal comes of paths that rise.
 pub record IsTurn (w : World) (p : Path) (answer : Result Bool StoreFault) (es : List Event) : Type 0 where
   pub store : List Known
   pub is_store : IsStoreOf (seen w) store
   pub did : HasForgotten store p answer w es
   pub known : (was_known : Bool) → answer ≡ Ok was_known → was_known ≡ is_known (seen w) p
+  pub rising : (q : Path) → answer ≡ Err (stop.StampSeen q) → are_rising (map (λ (k : Known). k.path) store) ≡ true
 
 -- These paths were forgotten, one after another; looks came before.
 pub data HaveTurned (w : World) : List Path → List Event → Type 0 where
@@ -47,9 +50,9 @@ pub data HaveTurned (w : World) : List Path → List Event → Type 0 where
 abbrev pub EndsSo : List Path → Result (Unit {0}) ForgetFault → World → List Event → Type 0
 EndsSo later (Ok u) w es = (later ≡ []) × (es ≡ [])
 EndsSo later (Err Locked) w es = ⊥
-EndsSo later (Err (StampSeen q)) w es = (p : Path) × (rest : List Path) × (later ≡ p ∷ rest) × IsTurn w p (Err (store.StampSeen q)) es
+EndsSo later (Err (StampSeen q)) w es = (p : Path) × (rest : List Path) × (later ≡ p ∷ rest) × IsTurn w p (Err (stop.StampSeen q)) es
 EndsSo later (Err Device) w es =
-    AreLooks true es ⊎ ((p : Path) × (rest : List Path) × (later ≡ p ∷ rest) × IsTurn w p (Err store.Device) es)
+    AreLooks true es ⊎ ((p : Path) × (rest : List Path) × (later ≡ p ∷ rest) × IsTurn w p (Err stop.Device) es)
 EndsSo later (Err Output) w es = es ≡ []
 EndsSo later (Err OutOfMemory) w es = AreLooks false es
 

@@ -53,6 +53,8 @@ fn forget_anew<W: Files>(
 {
     match load(alloc, work) {
         Ok(loaded) => {
+            // Contracts see by this that its paths rise.
+            let _ = loaded.paths();
             *store = loaded;
             forget(alloc, work, store, p)
         }

@@ -1,4 +1,5 @@
-use Rattle.std.proofs.Common.{◌∙◌}
+use Rattle.std.proofs.Common.{◌≡◌, true, subst, ◌∙◌}
+use Rattle.smk_record.specs.Records.{are_rising}
 use Rattle.smk_store.proofs.Idle.{none_owned}
 use Rattle.smk_keep_forget.proofs.Loads.{loaded_now, loaded_quietly, never_stamp, not_loaded}
 use Rattle.smk_keep_forget.proofs.Turns.{acted_anew, acted_unloaded}
@@ -13,7 +14,7 @@ returns-in-Ok g c =
     let ks = c.in-Ok.loaded in
     acted_anew act old mid _ c.args.store.now ks c.args.p.now c.forget.result (loaded_quietly act old mid c.load.result ks c.in-Ok.is c.load.ensures.looked)
     (λ w at. loaded_now old c.load.result ks c.in-Ok.is c.load.ensures.told w at (none_owned w (sound.owned w at) (sound.same_numbers w at ∙ c.requires.none_runs)))
-    c.forget.ensures.acted c.forget.ensures.known
+    c.forget.ensures.acted c.forget.ensures.known (subst (λ ps. are_rising ps ≡ true) c.paths.ensures.value c.paths.ensures.rising)
 
 pub returns-in-Err : goal.returns-in-Err
 returns-in-Err g c =
