@@ -5,7 +5,7 @@ use Rattle.smk_world.specs.Devices.{Device, Sunk}
 use Rattle.smk_world.specs.Trees.{Act}
 use Rattle.smk_pattern.specs.Shapes.{Text}
 use Rattle.smk_report.specs.declared.fault.Fault.TheVariants as fault
-use Rattle.smk_cli_target.specs.declared.asked.Outcome.{Outcome}
+use Rattle.smk_cli_target.specs.declared.ending.Outcome.{Outcome}
 use Rattle.smk_cli_target.specs.Clauses.{HasLog}
 
 abbrev device_failed : Outcome

@@ -15,7 +15,7 @@ use Rattle.smk_chain.proofs.Folders.{jobs_in}
 use Rattle.smk_laws_plan.proofs.PlanOne.{one_last_plan}
 use Rattle.smk_laws_history.proofs.CurrentComplete.{seen_is_complete}
 use Rattle.smk_record.specs.Reading.{record_in}
-use Rattle.smk_cli_target.specs.declared.asked.RunWords.{RunWords}
+use Rattle.smk_words_reading.specs.declared.asked.RunWords.{RunWords}
 use Rattle.smk_cli_target.specs.Files.{rules_of, seen}
 use Rattle.smk_drive_rows.proofs.Events.{formed_of}
 use Rattle.smk_cli_target.specs.Clauses.{HasListed, IsPlanOf, IsRefusal}

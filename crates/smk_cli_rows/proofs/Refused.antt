@@ -13,10 +13,10 @@ use Rattle.smk_drive.specs.Reports.{NoLines, start_line_of}
 use Rattle.smk_drive_target.specs.Lawful.{Lawful}
 use Rattle.smk_drive_target.specs.Moments.{was_started}
 use Rattle.smk_drive_target.specs.Reports.{HasLine, HasStarts}
-use Rattle.smk_cli_target.specs.declared.asked.Asked.TheVariants.{Preview, Unlock, Forget, Generate}
-use Rattle.smk_cli_target.specs.declared.asked.Outcome.{Outcome}
-use Rattle.smk_cli_target.specs.declared.asked.RunWords.{RunWords}
-use Rattle.smk_cli_target.specs.Words.{IsAsked}
+use Rattle.smk_words_reading.specs.declared.asked.Asked.TheVariants.{Preview, Unlock, Forget, Generate}
+use Rattle.smk_cli_target.specs.declared.ending.Outcome.{Outcome}
+use Rattle.smk_words_reading.specs.declared.asked.RunWords.{RunWords}
+use Rattle.smk_words_reading.specs.Asks.{IsAsked}
 use Rattle.smk_cli_target.specs.Ends.{IsClean}
 use Rattle.smk_cli_target.specs.Refusing.{RefusesAtOnce, Refuses, AtOnce, is_met_at_once}
 use Rattle.smk_cli_target.specs.Clauses.{HasLog, HasText, RunsWell, EndsEarly, TellsRefusal, IsComplete}
