@@ -17,10 +17,11 @@ use Rattle.smk_report.specs.declared.fault.Fault.TheVariants as fault
 use Rattle.smk_report.specs.Faults.{fault_text, fault_status}
 use Rattle.smk_report.specs.Lines.{unlocked_line, forgotten_line}
 use Rattle.smk_drive.specs.Moments.{Rules}
+use Rattle.smk_drive.specs.Refusals.{ClashingChainRefuses}
 use Rattle.smk_drive.specs.Reports.{listing_text}
 use Rattle.smk_drive_target.specs.Lawful.{Lawful}
 use Rattle.smk_drive_target.specs.Keeping.{KeepsOutputs, has_start}
-use Rattle.smk_drive_target.specs.Refusals.{BeginsUnrefused, IsSameFault, ClashingRunRefuses, ClashingChainRefuses}
+use Rattle.smk_drive_target.specs.Refusals.{BeginsUnrefused, IsSameFault, ClashingRunRefuses}
 use Rattle.smk_drive_target.specs.Reports.{IsPrefix, IsFront, HasStarts, HasLinesBefore}
 use Rattle.smk_words_reading.specs.declared.asked.Asked.TheVariants.{Run, Preview, Unlock, Forget, Generate}
 use Rattle.smk_cli_target.specs.declared.ending.Outcome.{Outcome}

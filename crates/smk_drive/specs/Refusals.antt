@@ -13,7 +13,7 @@ use Rattle.smk_flow.specs.Flows.{Flow, rule_name}
 use Rattle.smk_record.specs.Records.{core}
 use Rattle.smk_record.specs.Spelling.{spelling}
 use Rattle.smk_store.specs.Images.{Image, Content, file_at}
-use Rattle.smk_chain.specs.Derive.{Listings, Refused, Refusal, TooManyPaths, Deep, NoRule, NoInput, TwoJobs, MissingMember, NoCommand, Clash, derivation}
+use Rattle.smk_chain.specs.Derive.{Listings, Refused, Refusal, TooManyPaths, Deep, NoRule, NoInput, TwoJobs, MissingMember, NoCommand, Clash, derivation, clashes, spots, jobs, sources_of}
 use Rattle.smk_trigger.specs.declared.reason.State.{State}
 use Rattle.smk_trigger.specs.JobStates.{is_to_run, is_open}
 use Rattle.smk_pick.specs.Rooms.{amount, threads_in}
@@ -108,6 +108,25 @@ pub data ChainRefuses (rules : Rules) (image : Image) (progress : Progress) : Li
       new_listings image rules.settings progress plan ≢ [] →
       ChainRefuses rules image progress (plan.lists ++ new_listings image rules.settings progress plan) f →
       ChainRefuses rules image progress plan.lists f
+
+-- From these listings the chain of plans comes to a derivation with those.
+pub data ComesTo (rules : Rules) (image : Image) (progress : Progress) : Listings → Listings → Type 0 where
+  Here : (lists : Listings) → ComesTo rules image progress lists lists
+  Onward :
+      (plan : Plan) (lists : Listings) →
+      IsPlan rules.flow image rules.settings progress plan →
+      refused_of rules image progress plan ≡ [] →
+      new_listings image rules.settings progress plan ≢ [] →
+      ComesTo rules image progress (plan.lists ++ new_listings image rules.settings progress plan) lists → ComesTo rules image progress plan.lists lists
+
+-- A derivation of the chain is refused so, and its own jobs clash, with one another or with what is known.
+pub record ClashingChainRefuses (rules : Rules) (image : Image) (progress : Progress) (from : Listings) (f : Fault) : Type 0 where
+  pub lists : Listings
+  pub refusal : Refusal
+  pub comes : ComesTo rules image progress from lists
+  pub refused : derivation rules.flow image lists rules.settings.targets ≡ Refused refusal
+  pub is_fault : IsFault rules.flow refusal f
+  pub clashing : clashes image [] (flat_map spots (jobs rules.flow (sources_of image) lists rules.settings.targets)) ≢ []
 
 -- a plan of the moment's chain is refused
 abbrev pub PlansRefuse : Rules → Moment → Fault → Type 0

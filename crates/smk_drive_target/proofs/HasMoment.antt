@@ -15,7 +15,7 @@ use Rattle.smk_laws_plan.proofs.PlanOne.{has_plan, one_plan}
 use Rattle.smk_laws_history.proofs.CurrentComplete.{seen_is_complete}
 use Rattle.smk_drive.specs.Moments.{Rules, Moment, Begun, IsMoment, AtEntry, AtRest, Between, IsInForce, seen, progress_of, begun_after, is_rest}
 use Rattle.smk_drive_target.specs.Moments.{HasMoment}
-use Rattle.smk_drive_target.proofs.Listed.{left, left_less}
+use Rattle.smk_laws_history.proofs.Listed.{left, left_less}
 use Rattle.smk_drive_target.proofs.OneMoment.{formed_at}
 
 derived_refused : (js : List Job) (r : Refusal) → Derived js ≡ Refused r → ⊥

@@ -1,5 +1,4 @@
 pub mod Fronts
-mod Listed
 pub mod OneMoment
 pub mod HasMoment
 pub mod Looks

@@ -1,6 +1,5 @@
 -- The refusals that a run meets, at its entry and at rests.
-use Rattle.std.specs.Prelude.{◌≡◌, ◌≢◌, ◌⊎◌, ◌<◌, ℕ, List, [], ◌∷◌, ◌++◌, ◌^◌, IsTrue, Some}
-use Rattle.std.specs.List.{flat_map}
+use Rattle.std.specs.Prelude.{◌≡◌, ◌⊎◌, ◌<◌, ℕ, List, [], ◌∷◌, ◌++◌, ◌^◌, IsTrue, Some}
 use Rattle.smk_world.specs.World.{World, IsFormed}
 use Rattle.smk_world.specs.Trees.{Each, outs_of}
 use Rattle.smk_world.specs.declared.recipe.Out.{Out}
@@ -8,14 +7,14 @@ use Rattle.smk_world.specs.declared.event.Event.{Event}
 use Rattle.smk_flow.specs.declared.job.Job.{Job}
 use Rattle.smk_flow.specs.Flows.{rule_name}
 use Rattle.smk_store.specs.Images.{Image}
-use Rattle.smk_chain.specs.Derive.{Listings, Refusal, Refused, derivation, clashes, spots, jobs, sources_of}
+use Rattle.smk_chain.specs.Derive.{Listings}
 use Rattle.smk_trigger.specs.declared.reason.State.{State}
-use Rattle.smk_plan.specs.States.{Plan, Progress, IsPlan, new_listings}
+use Rattle.smk_plan.specs.States.{Progress}
 use Rattle.smk_report.specs.declared.fault.Fault.{Fault}
 use Rattle.smk_report.specs.declared.fault.Fault.TheVariants as fault
 use Rattle.smk_drive.specs.Moments.{Rules, Moment, IsMoment, seen, is_rest, progress_of, serial_of, begun_of, begins, staged_now}
 use Rattle.smk_drive.specs.Lawful.{goes_on, first_of}
-use Rattle.smk_drive.specs.Refusals.{ChainRefuses, IsFault, PlansRefuse, record_length, refused_of}
+use Rattle.smk_drive.specs.Refusals.{ChainRefuses, ClashingChainRefuses, PlansRefuse, record_length}
 use Rattle.smk_laws_plan.specs.Current.{IsComplete}
 use Rattle.smk_drive_target.specs.Moments.{AtEachEvent}
 use Rattle.smk_drive_target.specs.Lawful.{may_start}
@@ -86,26 +85,7 @@ OneRefusal =
 
 -- ## Clashes
 
--- From these listings the chain of plans comes to a derivation with those.
-pub data ComesTo (rules : Rules) (image : Image) (progress : Progress) : Listings → Listings → Type 0 where
-  Here : (lists : Listings) → ComesTo rules image progress lists lists
-  Onward :
-      (plan : Plan) (lists : Listings) →
-      IsPlan rules.flow image rules.settings progress plan →
-      refused_of rules image progress plan ≡ [] →
-      new_listings image rules.settings progress plan ≢ [] →
-      ComesTo rules image progress (plan.lists ++ new_listings image rules.settings progress plan) lists → ComesTo rules image progress plan.lists lists
-
--- A derivation of the chain is refused so, and its own jobs clash, with one another or with what is known.
-pub record ClashingChainRefuses (rules : Rules) (image : Image) (progress : Progress) (from : Listings) (f : Fault) : Type 0 where
-  pub lists : Listings
-  pub refusal : Refusal
-  pub comes : ComesTo rules image progress from lists
-  pub refused : derivation rules.flow image lists rules.settings.targets ≡ Refused refusal
-  pub is_fault : IsFault rules.flow refusal f
-  pub clashing : clashes image [] (flat_map spots (jobs rules.flow (sources_of image) lists rules.settings.targets)) ≢ []
-
--- so it is at a rest of the run
+-- At a rest of the run a derivation of the chain is refused so, and its own jobs clash.
 pub record ClashingRunRefuses (rules : Rules) (entry : World) (log : List Event) (f : Fault) : Type 0 where
   pub events : List Event
   pub rest : List Event

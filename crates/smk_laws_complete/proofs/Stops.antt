@@ -23,7 +23,7 @@ use Rattle.smk_plan.specs.Sights.{is_guarded}
 use Rattle.smk_report.specs.declared.fault.Fault.{Fault}
 use Rattle.smk_report.specs.declared.fault.Fault.TheVariants as fault
 use Rattle.smk_drive.specs.Moments.{Rules}
-use Rattle.smk_drive.specs.Refusals.{ChainRefuses, DerivationRefuses, IsFault, NextRefuses, PlanRefuses, above_limit, ahead, guarded, has_nul, incomplete, is_ahead, is_running, of_command, refused_of, too_long, unless_empty}
+use Rattle.smk_drive.specs.Refusals.{ChainRefuses, ComesTo, DerivationRefuses, Here, IsFault, NextRefuses, Onward, PlanRefuses, above_limit, ahead, guarded, has_nul, incomplete, is_ahead, is_running, of_command, refused_of, too_long, unless_empty}
 use Rattle.smk_laws_plan.specs.Current.{IsComplete, HasValidRecords}
 use Rattle.smk_laws_plan.proofs.CurrentLists.{In, cons_nil, flat_in, in_either, map_in, none_some, zip_in}
 use Rattle.smk_laws_plan.proofs.CurrentMeaning.{contains_from}
@@ -48,9 +48,9 @@ first_is false js r h = absurd (derived_refused js r h)
 
 -- ## The refusals of a plan
 
-module _ (rules : Rules) (image : Image) where
+module _ (rules : Rules) (image : Image) (progress : Progress) where
   abbrev May : Fault → Type 0
-  May f = MayStop rules image f
+  May f = MayStop rules image progress f
 
   many : (f : Fault) → IsFault rules.flow TooManyPaths f → May f
   many f (count, above, e) = subst May (sym e) (TooMany count)
@@ -75,7 +75,7 @@ module _ (rules : Rules) (image : Image) where
       go true k = one 0 k
       go false k = more (nat_lt 120000 (length text)) k
 
-  module _ (progress : Progress) (plan : Plan) where
+  module _ (plan : Plan) where
     not_complete : (f : Fault) → In f (incomplete rules image progress plan) → May f
     not_complete f h = go rules.settings.rerun_incomplete h
       where
@@ -162,11 +162,13 @@ module _
   Came L = AllCame rules.flow act has_fields image H rules.settings progress (bound_fills_from numbered_all) complete idle L
 
   derivation_stops :
-      (L : Listings) → Came L → (r : Refusal) → derivation rules.flow image L rules.settings.targets ≡ Refused r → IsFault rules.flow r f → MayStop rules image f
-  derivation_stops L came r e is = go (clashes image [] (flat_map spots (jobs rules.flow (sources_of image) L rules.settings.targets))) refl
+      (L : Listings) → Came L → ComesTo rules image progress [] L → (r : Refusal) → derivation rules.flow image L rules.settings.targets ≡ Refused r → IsFault rules.flow r f →
+      MayStop rules image progress f
+  derivation_stops L came comes r e is = go (clashes image [] (flat_map spots (jobs rules.flow (sources_of image) L rules.settings.targets))) refl
     where
-      go : (cs : List Refusal) → clashes image [] (flat_map spots (jobs rules.flow (sources_of image) L rules.settings.targets)) ≡ cs → MayStop rules image f
-      go (c ∷ cs) k = Clashing L f (λ none. cons_nil c cs (sym k ∙ none))
+      go : (cs : List Refusal) → clashes image [] (flat_map spots (jobs rules.flow (sources_of image) L rules.settings.targets)) ≡ cs → MayStop rules image progress f
+      go (c ∷ cs) k =
+          Clashing f (record { lists = L; refusal = r; comes = comes; refused = e; is_fault = is; clashing = λ none. cons_nil c cs (sym k ∙ none) })
       go [] k =
           let all =
           clean_targets_are_derived (setting_of rules.flow act has_fields image) image L rules.settings.targets alone values
@@ -174,7 +176,7 @@ module _
           let many_only =
           first_is (nat_lt 100000 (length (reach rules.flow (sources_of image) L 400 rules.settings.targets))) (jobs rules.flow (sources_of image) L rules.settings.targets) r
           (sym (ap (λ rs. outcome (refused_if (nat_lt 100000 (length (reach rules.flow (sources_of image) L 400 rules.settings.targets))) TooManyPaths ++ rs) (jobs rules.flow (sources_of image) L rules.settings.targets)) all) ∙ e) in
-          many rules image f (subst (λ x. IsFault rules.flow x f) many_only is)
+          many rules image progress f (subst (λ x. IsFault rules.flow x f) many_only is)
 
   known : (plan : Plan) → IsPlan rules.flow image rules.settings progress plan → Came plan.lists → (e : Job × State) → In e (staged plan) → is_open e.1 ≡ false → rules.missing e.0 ≡ None
   known plan is came e h shut =
@@ -188,15 +190,16 @@ module _
       none_of (rules.missing e.0)
       (rest.fields e.0 (contains_from plan.jobs e.0 z.0) (open_table (is_open_now image rules.settings progress plan e.0) (reasons image rules.settings progress plan e.0) _ table))
 
-  chain_stops : (L : Listings) → Came L → ChainRefuses rules image progress L f → MayStop rules image f
-  chain_stops L came (DerivationRefuses lists r fault e is) = derivation_stops lists came r e is
-  chain_stops L came (PlanRefuses plan fault rest is e) =
+  chain_stops : (L : Listings) → Came L → ((M : Listings) → ComesTo rules image progress L M → ComesTo rules image progress [] M) → ChainRefuses rules image progress L f → MayStop rules image progress f
+  chain_stops L came comes (DerivationRefuses lists r fault e is) = derivation_stops lists came (comes lists (Here lists)) r e is
+  chain_stops L came comes (PlanRefuses plan fault rest is e) =
       plan_stops rules image progress plan f (known plan is came) (subst (In f) (sym e) (inl refl))
-  chain_stops L came (NextRefuses plan fault is none more later) =
+  chain_stops L came comes (NextRefuses plan fault is none more later) =
       chain_stops (plan.lists ++ new_listings image rules.settings progress plan)
-      (next_came rules.flow act has_fields image H rules.settings progress (bound_fills_from numbered_all) complete idle valid sound alone values plan is came) later
+      (next_came rules.flow act has_fields image H rules.settings progress (bound_fills_from numbered_all) complete idle valid sound alone values plan is came)
+      (λ M to. comes M (Onward plan M is none more to)) later
 
 pub clean_targets_are_planned : CleanTargetsArePlanned
 clean_targets_are_planned rules act image H progress f alone complete valid sound idle values refuses =
     chain_stops rules act image H progress f alone complete valid sound idle values []
-    (none_came rules.flow act (λ j. is_none (rules.missing j)) image H rules.settings progress (bound_fills_from numbered_all) complete idle valid sound alone values) refuses
+    (none_came rules.flow act (λ j. is_none (rules.missing j)) image H rules.settings progress (bound_fills_from numbered_all) complete idle valid sound alone values) (λ M to. to) refuses

@@ -34,4 +34,5 @@ pub mod HistoryListedRuns
 pub mod HistoryListedForgetting
 mod HistoryExample
 pub mod MoreListings
+pub mod Listed
 pub mod ChoiceOne

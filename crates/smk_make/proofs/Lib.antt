@@ -1,4 +1,3 @@
-pub mod Numbered
 pub mod Counting
 pub mod Dues
 pub mod Lower

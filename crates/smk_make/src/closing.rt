@@ -4,13 +4,13 @@ ghost use Rattle.std.specs.Prelude.{◌≡◌, ◌++◌, IfOk, IfErr, OnOk, is_o
 ghost use Rattle.smk_report.specs.Lines.{target_line};
 ghost use Rattle.smk_run.specs.Reports.{HasReported, IsReport};
 ghost use Rattle.smk_run.specs.Runs.{is_output};
-ghost use Rattle.smk_run.specs.Stamps.{number_at};
+ghost use Rattle.smk_plan_duties.specs.Numbers.{number_at};
 ghost use Rattle.smk_make.specs.Closing as spec;
 ghost use Rattle.smk_make.specs.Faults as faults;
 
-use crate::makers::{number_of, numbers_of};
 use smk_base::{List, OutOfMemory, PathText, Text};
 use smk_chain::Maker;
+use smk_plan_duties::{number_of, numbers_of};
 use smk_report::{Fault, summary_line, target_line};
 use smk_run::{Tally, write_out};
 use smk_world::{Failed, Sink};

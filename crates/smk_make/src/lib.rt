@@ -3,7 +3,6 @@
 
 mod after;
 mod closing;
-mod makers;
 mod making;
 mod planned;
 

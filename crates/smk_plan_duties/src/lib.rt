@@ -8,3 +8,4 @@ mod serials;
 
 pub use before::needing;
 pub use choosing::duties_of;
+pub use numbers::{number_of, numbers_of};

@@ -23,8 +23,8 @@ fn put(
     Ok(())
 }
 
-/// The numbers of the jobs by the paths that they make.
-pub(crate) fn numbers_of(
+/// The numbers of the jobs by the paths that they make, none for a source. `OutOfMemory` where a growth finds no memory.
+pub fn numbers_of(
     alloc: Global,
     makers: &[Maker],
 ) -> Result<BTreeMap<String, Option<u32>>, OutOfMemory>
@@ -39,8 +39,8 @@ pub(crate) fn numbers_of(
     Ok(numbers)
 }
 
-/// The number of the job that makes the path.
-pub(crate) fn number_of(numbers: &BTreeMap<String, Option<u32>>, path: &PathText) -> Option<u32>
+/// The number of the job that makes the path; none for a source.
+pub fn number_of(numbers: &BTreeMap<String, Option<u32>>, path: &PathText) -> Option<u32>
     ensures { result ≡ number_at numbers.now path.now }
 {
     match numbers.get(path.as_str()) {

@@ -77,7 +77,7 @@ cancel (x ∷ xs) ys zs h = cancel xs ys zs (tail_of x (xs ++ ys) (xs ++ zs) h)
     tail_of : (x : Event) (a b : List Event) → x ∷ a ≡ x ∷ b → a ≡ b
     tail_of x a b e = cc
 
-same_events : (w : World) (es fs : List Event) → run w es ≡ run w fs → es ≡ fs
+pub same_events : (w : World) (es fs : List Event) → run w es ≡ run w fs → es ≡ fs
 same_events w es fs h = cancel w.log es fs (sym (run_log w es) ∙ (ap (λ (v : World). v.log) h ∙ run_log w fs))
 
 given_none : (act : Act) (rose : Type 0) (w : World) (es : List Event) → (rose → ⊥) → AreGiven act rose w es → AreGiven act ⊥ w es

@@ -9,6 +9,7 @@ use Rattle.smk_record.specs.declared.record.Record.{Record}
 use Rattle.smk_store.specs.Images.{seen}
 use Rattle.smk_store.specs.Trust.{Versions}
 use Rattle.smk_store.specs.Soundness.{SoundWorld}
+use Rattle.smk_plan.specs.States.{nothing_done}
 use Rattle.smk_report.specs.declared.fault.Fault.{Fault}
 use Rattle.smk_words.specs.declared.words.RunWords.{RunWords}
 use Rattle.smk_words.specs.declared.words.Request.TheVariants.{Run, Preview}
@@ -37,7 +38,7 @@ pub data MayTell (read : List ℕ → Option Record) (run : Bool) (targets : Lis
   PlanRefused :
       (asked : Asked) (f : Fault) →
       IsAskedIn run targets w.nodes (Ok asked) →
-      MayStop (rules_for read asked.flow (settings_of asked cores)) (seen read w) f → MayTell read run targets cores w (Some f)
+      MayStop (rules_for read asked.flow (settings_of asked cores)) (seen read w) nothing_done f → MayTell read run targets cores w (Some f)
 
 -- A call for a run tells nothing else, where the world is told at its end and no count of faults of the device rose.
 abbrev pub CallIsComplete : Type 0

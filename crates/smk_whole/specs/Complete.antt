@@ -36,7 +36,7 @@ abbrev pub RefusedPlansMayStop : Type 0
 RefusedPlansMayStop =
     (act : Act) (read : List ℕ → Option Record) (asked : Asked) (cores : ℕ) (w : World) (H : Versions) (f : Fault) →
     IsCleanAsked act read asked w H →
-    IsRefusedPlan read asked cores w f → MayStop (rules_for read asked.flow (settings_of asked cores)) (seen read w) f
+    IsRefusedPlan read asked cores w f → MayStop (rules_for read asked.flow (settings_of asked cores)) (seen read w) nothing_done f
 
 -- all is well, or the run broke off
 abbrev pub EndsComplete : Result (Unit {0}) Fault → Type 0
@@ -61,7 +61,7 @@ WorkIsComplete =
 -- The call ends well; or it is refused so, or broke off.
 abbrev pub IsCompleteAnswer : (List ℕ → Option Record) → Asked → ℕ → World → Result (Unit {0}) Fault → Type 0
 IsCompleteAnswer read asked cores w (Ok u) = Unit {0}
-IsCompleteAnswer read asked cores w (Err f) = MayStop (rules_for read asked.flow (settings_of asked cores)) (seen read w) f ⊎ MayBreakOff f
+IsCompleteAnswer read asked cores w (Err f) = MayStop (rules_for read asked.flow (settings_of asked cores)) (seen read w) nothing_done f ⊎ MayBreakOff f
 
 -- So a run for what is asked ends.
 abbrev pub ServedRunsAreComplete : Type 0

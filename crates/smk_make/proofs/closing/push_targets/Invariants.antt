@@ -1,5 +1,5 @@
 use Rattle.std.proofs.Common.{◌≡◌, ◌++◌, take, string_bytes}
-use Rattle.smk_run.specs.Stamps.{number_at}
+use Rattle.smk_plan_duties.specs.Numbers.{number_at}
 use Rattle.smk_make.specs.Closing.{lines_by, is_current}
 use Rattle.smk_make.proofs.closing.push_targets.Given as goal
 

@@ -1,0 +1,21 @@
+//! The headline of the program: what a run gives, whatever has come before.
+#![tactic(auto)]
+
+ghost use Rattle.smk_laws_call.specs.Headline.{CameIsHistory, CameIsSound, Headline};
+ghost use Rattle.smk_laws_call.specs.Started.{RunsStartOnFinished};
+
+/// Along a run of the protocol from a sound folder each child is started on inputs at which nothing is unfinished: sources, and whole
+/// outputs whose records read and have no marks.
+pub fn starts_are_safe()
+    ensures { RunsStartOnFinished }
+{}
+
+/// After any list of calls of the program, edits of sources and of the workflow, failed jobs, removals and crashes, the folder is one of a
+/// history, and so it is sound. A run in it that ends with status 0 has made each target what a clean run from the sources makes of it, and
+/// leaves nothing to do. No job was started on an output of an unfinished job. And where the words aren't refused and a clean run
+/// gives every target, a run ends well or for a named reason.
+pub fn headline()
+    ensures history { CameIsHistory }
+    ensures sound { CameIsSound }
+    ensures run { Headline }
+{}
