@@ -1,10 +1,8 @@
 -- A path that a pattern fits in two ways: the first wildcard has its longest value. A run whose child gets the shortest one isn't lawful.
-use Rattle.std.proofs.Common.{◌≡◌, ℕ, Bool, true, false, List, [], ◌∷◌, ◌++◌, map, codes, bytes_eq, refl, ap, ◌∙◌, sym, true≢false}
+use Rattle.std.proofs.Common.{◌≡◌, ℕ, Bool, false, List, [], ◌∷◌, ◌++◌, map, codes, bytes_eq, refl, ap, ◌∙◌, true≢false}
 use Rattle.smk_base.specs.declared.tree.Pair.{Pair}
-use Rattle.smk_world.specs.declared.event.Node.TheVariants.{Regular}
 use Rattle.smk_world.specs.declared.event.Event.{Event}
 use Rattle.smk_world.specs.declared.recipe.Recipe.{Recipe}
-use Rattle.smk_world.specs.World.{World, Nodes, IsFormed, world_of}
 use Rattle.smk_world.specs.Trees.{Path}
 use Rattle.smk_pattern.specs.Shapes.{Text}
 use Rattle.smk_flow.specs.declared.job.Job.{Job}
@@ -17,7 +15,7 @@ use Rattle.smk_drive.proofs.Turns.{reader}
 use Rattle.smk_drive_target.specs.Lawful.{Lawful}
 use Rattle.smk_drive_rows.proofs.Truth.{only}
 use Rattle.smk_drive_rows.proofs.Logs.{IsSettled, last, last_is}
-use Rattle.smk_drive_rows.proofs.Events.{formed_of, rules_by, marking, start, of_job}
+use Rattle.smk_drive_rows.proofs.Events.{rules_by, marking, start, of_job}
 use Rattle.smk_drive_rows.proofs.CopyRow.{entry, formed}
 
 abbrev pub flow : Flow

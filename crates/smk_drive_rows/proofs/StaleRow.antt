@@ -1,6 +1,6 @@
 -- The sample of a checkpoint was edited after a whole run: the checkpoint is Dirty, and what gathers from it Open. No job begins on the listing of
 -- the run before.
-use Rattle.std.proofs.Common.{◌≡◌, ℕ, Bool, true, false, List, [], ◌∷◌, map, codes, drop, take, Option, Some, None, refl, sym, ap, true≢false}
+use Rattle.std.proofs.Common.{◌≡◌, ℕ, Bool, true, false, List, [], ◌∷◌, map, codes, drop, Option, Some, None, refl, sym, ap, true≢false}
 use Rattle.smk_base.specs.Place.{mark_place, record_place}
 use Rattle.smk_world.specs.declared.event.Node.TheVariants.{Regular, Directory}
 use Rattle.smk_world.specs.declared.event.Event.{Event}
@@ -12,7 +12,7 @@ use Rattle.smk_trigger.specs.JobStates.{is_dirty, is_open}
 use Rattle.smk_drive.specs.Moments.{Moment, staged_now}
 use Rattle.smk_plan.specs.States.{job_path}
 use Rattle.smk_drive_target.specs.Lawful.{Lawful}
-use Rattle.smk_drive_rows.proofs.Logs.{IsSettled, first_moment, first_is, last, last_is}
+use Rattle.smk_drive_rows.proofs.Logs.{IsSettled, first_moment, first_is}
 use Rattle.smk_drive_rows.proofs.Events.{formed_of, marking}
 use Rattle.smk_drive_rows.proofs.GrowRow.{folder, rules}
 

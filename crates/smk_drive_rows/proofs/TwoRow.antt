@@ -1,5 +1,5 @@
 -- Two rules make a path, and neither is preferred: the run is refused, and a run that takes the first of them isn't lawful.
-use Rattle.std.proofs.Common.{◌≡◌, ℕ, true, false, List, [], ◌∷◌, codes, drop, refl, sym, true≢false}
+use Rattle.std.proofs.Common.{ℕ, false, List, [], ◌∷◌, codes, drop, refl, sym, true≢false}
 use Rattle.smk_base.specs.Place.{mark_place}
 use Rattle.smk_world.specs.declared.event.Node.TheVariants.{Regular}
 use Rattle.smk_world.specs.declared.event.Event.{Event}
