@@ -5,15 +5,16 @@ use Rattle.std.specs.Fmt.{digits}
 use Rattle.smk_base.specs.Place.{record_place}
 use Rattle.smk_world.specs.declared.event.Node.TheVariants.{Regular}
 use Rattle.smk_world.specs.World.{World, Nodes, IsFormed, world_of}
+use Rattle.smk_world.specs.declared.recipe.Kind.TheVariants.{Plain}
 use Rattle.smk_record.specs.declared.record.Record.{Record}
+use Rattle.smk_record.specs.declared.record.Stamp.TheVariants.{Time}
 use Rattle.smk_record.specs.Reading.{fields_in, number_in, number_of, path_in, record_in, text_in, text_of}
 use Rattle.smk_record.specs.Spelling.{spelling}
 use Rattle.smk_record.proofs.Exact.{none_is_prefix, reads_records}
-use Rattle.smk_record.proofs.Rows.{copied}
 use Rattle.smk_pick.specs.declared.settings.Force.TheVariants.{No}
 use Rattle.smk_drive.specs.Moments.{Rules}
 use Rattle.smk_drive_target.specs.Lawful.{Lawful}
-use Rattle.smk_flow.proofs.Examples.{copy}
+use Rattle.smk_flow.proofs.Examples.{cat, copy}
 use Rattle.smk_words_reading.specs.declared.asked.RunWords.{RunWords}
 use Rattle.smk_drive_rows.proofs.Truth.{not_empty}
 use Rattle.smk_drive_rows.proofs.Logs.{first_moment, first_is}
@@ -22,6 +23,23 @@ use Rattle.smk_drive_rows.proofs.CopyRow.{in_txt, out}
 use Rattle.smk_cli_target.specs.Files.{rules_of}
 
 -- ## What is read
+
+-- the record of the copy
+abbrev copied : Record
+copied =
+    record {
+      path = out;
+      made = 1;
+      recipe = record {
+        template = cat;
+        wildcards = [];
+        params = [];
+        inputs = record { name = []; paths = in_txt ∷ [] } ∷ [];
+        outputs = record { name = []; outs = record { path = out; kind = Plain } ∷ [] } ∷ [];
+      };
+      stamps = Time 1000 ∷ [];
+      members = [];
+    }
 
 short : length (spelling copied) < 2 ^ 64
 unfolding digits
