@@ -1,6 +1,6 @@
 -- After a run with status 0 a run with the same words starts nothing: by its plan every job is Clean, so none begins; and while none begins nothing
 -- changes that the plan goes by.
-use Rattle.std.proofs.Common.{◌≡◌, ◌⊎◌, ◌≤◌, ℕ, Bool, true, false, ◌&&◌, ◌||◌, not, List, [], ◌∷◌, ◌++◌, map, filter, flat_map, zip, refl, sym, ap, subst, ◌∙◌, inl, inr, arith, bytes_eq, IsTrue, IsSome, Option, Some, None, Ok, Err, is_some, option_map, append_assoc, append-nil, true≢false}
+use Rattle.std.proofs.Common.{◌≡◌, ◌⊎◌, ◌≤◌, ℕ, Bool, true, false, ◌&&◌, ◌||◌, not, List, [], ◌∷◌, ◌++◌, map, filter, flat_map, zip, refl, sym, ap, subst, ◌∙◌, inl, inr, arith, bytes_eq, IsTrue, IsSome, Option, Some, None, Err, option_map, append_assoc, append-nil, true≢false}
 use Rattle.std.specs.Prelude.{is_none, if◌then◌else◌}
 use Rattle.std.specs.List.{list_all, list_any}
 use Rattle.smk_base.specs.Path.{is_at_or_under, is_under}
@@ -8,12 +8,11 @@ use Rattle.smk_base.specs.Place.{lock_place}
 use Rattle.smk_base.specs.declared.tree.Tree.TheVariants.{File, Folder}
 use Rattle.smk_base.specs.declared.tree.TreeEntry.{TreeEntry}
 use Rattle.smk_base.proofs.Apart.{path_outside}
-use Rattle.smk_base.proofs.Under.{at_itself, at_or_under_cases}
+use Rattle.smk_base.proofs.Under.{at_or_under_cases}
 use Rattle.smk_world.specs.declared.event.Node.{Node}
 use Rattle.smk_world.specs.declared.event.Node.TheVariants.{Directory, Regular}
 use Rattle.smk_world.specs.declared.event.Call.{Call}
-use Rattle.smk_world.specs.declared.event.Call.TheVariants.{Looked, ReadFile, ReadFolder, Written, Created, Removed, MadeParents, Settled, Protected, Started, Waited}
-use Rattle.smk_world.specs.declared.event.Child.{Child}
+use Rattle.smk_world.specs.declared.event.Call.TheVariants.{Removed, Protected, Started, Waited}
 use Rattle.smk_world.specs.declared.event.Event.{Event}
 use Rattle.smk_world.specs.Folders.{IsTree}
 use Rattle.smk_world.specs.Runs.{Follows}

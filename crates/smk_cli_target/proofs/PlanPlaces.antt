@@ -19,7 +19,7 @@ use Rattle.smk_flow.specs.declared.rule.OutPart.{OutPart}
 use Rattle.smk_flow.specs.Flows.{Candidate, Flow, logs, outputs, outs}
 use Rattle.smk_flow.specs.Jobs.{filled_out, filled_outs, is_flagged}
 use Rattle.smk_store.specs.Images.{Image, holds_source}
-use Rattle.smk_chain.specs.Derive.{Derived, Listings, derivation, distinct, job, jobs, same_candidate, sources_of, spots, walk}
+use Rattle.smk_chain.specs.Derive.{Derived, Listings, derivation, distinct, job, same_candidate, sources_of, spots, walk}
 use Rattle.smk_drive.specs.Moments.{places}
 use Rattle.smk_laws_plan.specs.Current.{IsComplete}
 use Rattle.smk_laws_plan.proofs.CurrentLists.{In, all_in, and_left, distinct_in, filter_in, flat_in, in_either, in_flat, in_left, in_map, in_right, map_in}

@@ -1,5 +1,5 @@
 -- A plan stays as it is where records, marks and notes do, files, and what is whole of what its jobs make: folders beside these change nothing.
-use Rattle.std.proofs.Common.{◌≡◌, ◌⊎◌, Bool, true, false, ◌&&◌, ◌||◌, not, List, [], ◌∷◌, ◌++◌, map, filter, flat_map, find, length, refl, sym, ap, subst, ◌∙◌, inl, inr, bytes_eq, Option, Some, None, is_some, true≢false}
+use Rattle.std.proofs.Common.{◌≡◌, ◌⊎◌, Bool, true, false, ◌&&◌, ◌||◌, not, List, [], ◌∷◌, ◌++◌, map, filter, flat_map, length, refl, sym, ap, subst, ◌∙◌, inl, inr, bytes_eq, Option, Some, None, is_some, true≢false}
 use Rattle.std.specs.Prelude.{is_none, nat_lt, if◌then◌else◌}
 use Rattle.std.specs.List.{list_any}
 use Rattle.std.specs.Option.{option_and_then}
@@ -11,7 +11,6 @@ use Rattle.smk_world.specs.declared.recipe.Kind.TheVariants.{Folder as FolderKin
 use Rattle.smk_flow.specs.declared.job.Job.{Job}
 use Rattle.smk_flow.specs.Flows.{Flow}
 use Rattle.smk_choose.specs.Choose.{Sources}
-use Rattle.smk_record.specs.declared.record.Stamp.{Stamp}
 use Rattle.smk_store.specs.Images.{Image, file_at, source_at, is_source, is_known, is_covered, is_whole, sources, stands, holds_source}
 use Rattle.smk_store.specs.Trust.{holder, is_marked_but, stamp_now_but, time_stamp, unmarked_stamp_but}
 use Rattle.smk_chain.specs.Derive.{Listings, Clash, Deep, Derived, TooManyPaths, clashes, derivation, distinct, hinders, is_deep, jobs, listing, outcome, reach, refused, refused_if, sources_of, spots}

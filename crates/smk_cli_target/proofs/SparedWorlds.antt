@@ -1,24 +1,21 @@
 -- What a run may do to a folder while no job begins: it takes its lock, and makes folders above the places of its plan's jobs. All else that reads stays.
-use Rattle.std.proofs.Common.{◌≡◌, ◌⊎◌, ℕ, Bool, true, false, ◌&&◌, ◌||◌, not, List, [], ◌∷◌, ◌++◌, refl, sym, ap, subst, ◌∙◌, inl, inr, bytes_eq, Option, Some, None, Ok, Err, is_some, true≢false}
+use Rattle.std.proofs.Common.{◌≡◌, ◌⊎◌, ℕ, Bool, true, false, ◌&&◌, ◌||◌, not, List, refl, sym, ap, subst, ◌∙◌, inl, inr, bytes_eq, Option, Some, None, Ok, Err, is_some, true≢false}
 use Rattle.std.specs.Prelude.{if◌then◌else◌}
 use Rattle.smk_base.specs.Path.{is_at_or_under, is_under}
 use Rattle.smk_base.specs.Place.{record_place, mark_place, note_place, lock_place}
 use Rattle.smk_base.proofs.Apart.{mark-lock, note-lock, path-own, record-lock}
 use Rattle.smk_base.proofs.Under.{at_or_under_cases, never_both, under_further}
 use Rattle.smk_world.specs.declared.event.Node.{Node}
-use Rattle.smk_world.specs.declared.event.Node.TheVariants.{Directory, Regular}
+use Rattle.smk_world.specs.declared.event.Node.TheVariants.{Directory}
 use Rattle.smk_world.specs.declared.event.NodeState.{NodeState}
 use Rattle.smk_world.specs.declared.event.NodeState.TheVariants.{Owned, Known}
 use Rattle.smk_world.specs.declared.event.Call.{Call}
 use Rattle.smk_world.specs.declared.event.Call.TheVariants.{Looked, ReadFile, ReadFolder, Written, Created, Removed, MadeParents, Settled, Protected, Started, Waited}
 use Rattle.smk_world.specs.declared.event.Change.{Change}
-use Rattle.smk_world.specs.declared.event.Event.{Event}
 use Rattle.smk_world.specs.declared.recipe.Kind.{Kind}
 use Rattle.smk_world.specs.World.{World, IsFormed, after, children_after, firm, going, is_above, is_within, loose, node_after, out_paths, reading, reads_folder, reads_nothing, standing, with_flag, with_folder}
 use Rattle.smk_world.specs.Calls.{Lets, MayRemain}
-use Rattle.smk_world.specs.Folders.{IsTree}
 use Rattle.smk_world.specs.Trees.{Path, Act, IsIn, is_path_text}
-use Rattle.smk_world.proofs.Names.{formed_after}
 use Rattle.smk_flow.specs.declared.job.Job.{Job}
 use Rattle.smk_flow.specs.Flows.{Flow}
 use Rattle.smk_record.specs.declared.record.Record.{Record}
