@@ -1,5 +1,5 @@
 -- What may be told of the device: a fault of it where a call failed alone.
-use Rattle.std.proofs.Common.{ℕ, List, [], Some, refl}
+use Rattle.std.proofs.Common.{List, [], Some, refl}
 use Rattle.smk_world.specs.World.{World}
 use Rattle.smk_world.specs.Devices.{Device, Sunk}
 use Rattle.smk_world.specs.Trees.{Act}

@@ -1,5 +1,5 @@
 -- A call that is refused at once, and does nothing: it meets every clause on its log and its text, if just this is what it meets.
-use Rattle.std.proofs.Common.{◌≡◌, ◌⊎◌, ◌≤◌, ℕ, Bool, true, List, [], ◌∷◌, filter, Some, refl, sym, subst, inl, inr, IsTrue, arith, true≢false}
+use Rattle.std.proofs.Common.{◌≡◌, ◌⊎◌, ◌≤◌, ℕ, Bool, true, List, [], ◌∷◌, filter, Some, refl, sym, subst, inl, inr, IsTrue, arith}
 use Rattle.smk_base.specs.Place.{mark_place}
 use Rattle.smk_world.specs.World.{World}
 use Rattle.smk_world.specs.Devices.{Device, Sunk}

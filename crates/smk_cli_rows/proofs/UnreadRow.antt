@@ -1,5 +1,5 @@
 -- Words that ask nothing, words that lack cores, and what a call may tell of them.
-use Rattle.std.proofs.Common.{◌≡◌, ℕ, Bool, true, false, List, [], ◌∷◌, ◌++◌, map, codes, bytes_eq, ◌==◌, Option, Some, None, refl, sym, ap, subst, ◌∙◌, inl, inr, true≢false}
+use Rattle.std.proofs.Common.{◌≡◌, ℕ, false, List, [], ◌∷◌, codes, Some, refl, sym, inl, inr}
 use Rattle.smk_world.specs.World.{World}
 use Rattle.smk_world.specs.Devices.{Device, Sunk}
 use Rattle.smk_world.specs.Trees.{Act}
@@ -13,7 +13,7 @@ use Rattle.smk_words_reading.specs.Asks.{AreUnread, IsAsked, LacksCores}
 use Rattle.smk_words_reading.proofs.Whole.{none_asked_without_cores, read_nothing}
 use Rattle.smk_cli_target.specs.Refusing.{RefusesAtOnce, WordsRefuse, CoresRefuse, FilesRefuse, TargetRefuses, LockRefusesRun, LockRefusesForgetting, Refuses, AtOnce, StampRefuses, OfRun, OfListing}
 use Rattle.smk_cli_target.specs.Clauses.{HasLog, HasText, IsComplete}
-use Rattle.smk_cli_rows.proofs.Refused.{IsRefusedSo, Two, refused, log_so, text_so, puts_nothing}
+use Rattle.smk_cli_rows.proofs.Refused.{IsRefusedSo, Two, log_so, text_so, puts_nothing}
 
 -- ## Words that are refused
 
