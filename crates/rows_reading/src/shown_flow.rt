@@ -1,7 +1,7 @@
 //! Workflows, printed shortly.
 
 use smk_base::Text;
-use smk_flow::{Clause, InPart, OutPart, RulePart, Workflow};
+use smk_flow::{Clause, InPart, OutPart, Rule, RulePart, Workflow};
 use std::alloc::{AllocError, Global};
 
 /// Adds the texts, each behind a blank.
@@ -77,7 +77,20 @@ fn push_clause(text: &mut String, clause: &Clause) -> Result<(), AllocError> {
     text.push_str("\n")
 }
 
-/// The rules and the clauses.
+/// Adds the line of the first rule that is marked as the default target, where that isn't the first of all.
+fn push_default(text: &mut String, rules: &[Rule]) -> Result<(), AllocError> {
+    for (place, rule) in rules.iter().enumerate() {
+        if rule.part.default_target {
+            if place > 0 {
+                write!(text, "default {}\n", rule.part.name.as_str())?;
+            }
+            return Ok(());
+        }
+    }
+    Ok(())
+}
+
+/// The rules and the clauses, and which rule is made without a word.
 pub fn workflow(alloc: Global, flow: &Workflow) -> Result<String, AllocError> {
     let mut text = String::new(alloc);
     for rule in flow.rules().as_slice() {
@@ -86,5 +99,6 @@ pub fn workflow(alloc: Global, flow: &Workflow) -> Result<String, AllocError> {
     for clause in flow.orders().as_slice() {
         push_clause(&mut text, clause)?;
     }
+    push_default(&mut text, flow.rules().as_slice())?;
     Ok(text)
 }

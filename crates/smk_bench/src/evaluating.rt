@@ -2,7 +2,7 @@
 
 use smk_base::{PathText, one};
 use smk_config::Config;
-use smk_eval::{EvalFault, evaluate};
+use smk_eval::{LoadFault, evaluate};
 use smk_eval_files::ReadFile;
 use smk_flow::Workflow;
 use smk_lex::{LexFault, lex};
@@ -67,7 +67,7 @@ fn workflow_of(alloc: Global, source: &[u8]) -> Told<Workflow> {
     let files = one(alloc, ReadFile { file, syntax }).map_err(|_| "out of memory")?;
     match evaluate(alloc, &files, &Config::new(alloc)) {
         Ok(flow) => Ok(flow),
-        Err(EvalFault::OutOfMemory) => Err("out of memory"),
+        Err(LoadFault::OutOfMemory) => Err("out of memory"),
         Err(_) => Err("no workflow"),
     }
 }

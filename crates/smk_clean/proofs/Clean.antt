@@ -162,7 +162,7 @@ no_force Targets e = absurd (true≢false (sym e))
 no_force All e = absurd (true≢false (sym e))
 
 -- a run that is built forces no job
-none_forced : (words : RunWords) → is_built (Asks words) ≡ true → words.force ≡ No
+pub none_forced : (words : RunWords) → is_built (Asks words) ≡ true → words.force ≡ No
 none_forced words built = no_force words.force (and_right built)
 
 -- ## The exit
@@ -173,37 +173,37 @@ pub record HasEndedWell (o : Outside) (words : RunWords) (w v : World) : Type 0 
   pub none_left : HasNoneLeft o words w v
   pub formed : IsFormed v
 
-module _ (exit : RunLeavesAllClean) (o : Outside) (H : Versions) (w : World) (sound : SoundWorld o w H) (reads : ReadsRecords o.read) (words : RunWords) (free : words.force ≡ No) (asked : Asked) (told : Previewed)
+module _ (o : Outside) (H : Versions) (w : World) (sound : SoundWorld o w H) (reads : ReadsRecords o.read) (words : RunWords) (asked : Asked) (told : Previewed)
     (to_serve : IsToServe o.read true words w asked told) where
-  abbrev plan : Plan
+  abbrev pub plan : Plan
   plan = plan_of told
 
-  abbrev settings : Settings
+  abbrev pub settings : Settings
   settings = settings_of asked words
 
-  abbrev rules : Rules
+  abbrev pub rules : Rules
   rules = rules_for o.read asked.flow settings
 
-  abbrev top : ℕ
+  abbrev pub top : ℕ
   top = greatest_serial told.store
 
-  all_built : unbuilt asked.flow.rules ≡ None
+  pub all_built : unbuilt asked.flow.rules ≡ None
   all_built = asked_built words w.nodes asked to_serve.is_asked
 
-  planned : IsPlan asked.flow (seen o.read w) settings nothing_done plan
+  pub planned : IsPlan asked.flow (seen o.read w) settings nothing_done plan
   planned = is_plan o.read w sound.formed asked all_built words told to_serve.plan
 
-  plainly : Each IsPlain plan.jobs
+  pub plainly : Each IsPlain plan.jobs
   plainly = all_plain o.read w sound.formed asked all_built words told to_serve.plan
 
-  fields : (j : Job) → IsIn plan.jobs j → is_none (missing j) ≡ true
+  pub fields : (j : Job) → IsIn plan.jobs j → is_none (missing j) ≡ true
   fields =
       fields_there rules (seen o.read w) plan refl (all_shut o w asked.flow settings plan sound.formed planned plainly)
       (ap length planned.states ∙ length-map plan.jobs (state_of (seen o.read w) settings nothing_done plan)) to_serve.plan.unrefused
 
   module _ (v : World) (duties : List Duty) (ts : List Turn) (meant : AreWhatIsMeant told.jobs told.plan.states told.store duties) (fit : Each IsFit ts)
-      (r : IsTurnRun o H w sound reads words asked told to_serve v duties ts) (all : HaveAllTurns (due (next_serial told.store) duties told.jobs.jobs) ts) where
-    abbrev ran : IsDueRun o w H asked.flow settings plan ts r.es
+      (r : IsTurnRun o H w sound reads words asked told to_serve v duties ts) where
+    abbrev pub ran : IsDueRun o w H asked.flow settings plan ts r.es
     ran = record {
       makers = told.jobs.makers;
       duties = duties;
@@ -225,70 +225,72 @@ module _ (exit : RunLeavesAllClean) (o : Outside) (H : Versions) (w : World) (so
     abbrev end : World
     end = run w r.es
 
-    all_is : length ts ≡ length (due (Some (suc top)) duties plan.jobs)
-    all_is = all.all ∙ ap (λ (f : ℕ → Option ℕ). length (due_from f 0 duties told.jobs.jobs)) (firsts_same top duties)
-
     safe : IsSafeRun o w H top ts r.es
     safe = turns_safe o H w sound reads words asked told to_serve v duties ts meant fit r
 
-    sound_end : SoundWorld o end H
-    sound_end = safe.at_end all.closed
+    module _ (exit : RunLeavesAllClean) (free : words.force ≡ No) (all : HaveAllTurns (due (next_serial told.store) duties told.jobs.jobs) ts) where
+      all_is : length ts ≡ length (due (Some (suc top)) duties plan.jobs)
+      all_is = all.all ∙ ap (λ (f : ℕ → Option ℕ). length (due_from f 0 duties told.jobs.jobs)) (firsts_same top duties)
 
-    sources_stay : SameSources (seen o.read w) (seen o.read end)
-    sources_stay = sources_now o w end H sound_end (safe.throughout r.es [] (sym (append-nil r.es)))
+      sound_end : SoundWorld o end H
+      sound_end = safe.at_end all.closed
 
-    clean : IsAllClean asked.flow (seen o.read end) settings plan
-    clean = exit o w H asked.flow settings plan ts r.es ran free (record { all = all_is; done = all.done })
+      sources_stay : SameSources (seen o.read w) (seen o.read end)
+      sources_stay = sources_now o w end H sound_end (safe.throughout r.es [] (sym (append-nil r.es)))
 
-    none_left : HasNoneLeft o words w end
-    none_left =
-        let same : plan.lists ≡ [] = lists_stay o w sound.formed rules all_built [] plan to_serve.plan.last in
-        record {
-          asked = asked;
-          is_asked = to_serve.is_asked;
-          plan = all_clean plan;
-          last = λ begun. subst (λ L. LastPlan asked.flow (seen o.read end) settings (begun_so begun) L (all_clean plan)) same (clean.last begun);
-          clean = refl;
-          current = clean.current;
-        }
+      clean : IsAllClean asked.flow (seen o.read end) settings plan
+      clean = exit o w H asked.flow settings plan ts r.es ran free (record { all = all_is; done = all.done })
 
-    made_clean : HasMadeClean o words w end
-    made_clean =
-        let last : LastPlan asked.flow (seen o.read end) settings nothing_done plan.lists (all_clean plan) =
-        Last (all_clean plan) (clean.planned []) (none_new o end sound_end.formed rules all_built (all_clean plan) (clean.planned [])) in
-        record {
-          asked = asked;
-          is_asked = to_serve.is_asked;
-          targets = each_from (IsClean (setting_in o w asked.flow) (seen o.read end)) asked.targets
-              (λ p i.
-              let c =
-              current_means_clean_in_worlds asked.flow o (λ j. is_none (missing j)) end H settings nothing_done plan.lists (all_clean plan) sound_end
-              (λ j f files there shut gathered told_so. absurd (subst (λ fs. IsIn fs f) (none_gathered j (in_from plan.jobs j there)) (in_from (gathers_from j) f gathered)))
-              last refl (λ j there shut. fields j (in_from plan.jobs j there)) p (contains_from asked.targets p i) (each_in (λ q. is_current (seen o.read end) settings nothing_done (all_clean plan) q ≡ true) asked.targets p (clean.current []) i) in
-              (c.0, c.1, same_values asked.flow o.act (λ j. is_none (missing j)) (seen o.read w) (seen o.read end) (seen_is_complete o.read w sound.formed) (seen_is_complete o.read end sound_end.formed) sources_stay p ∙ c.2));
-          sources = sources_stay;
-        }
-      where
-        none_gathered : (j : Job) → IsIn plan.jobs j → gathers_from j ≡ []
-        none_gathered j i = ap (map (λ (g : Gather). g.folder)) (each_in IsPlain plan.jobs j plainly i).gathers_none
+      none_left : HasNoneLeft o words w end
+      none_left =
+          let same : plan.lists ≡ [] = lists_stay o w sound.formed rules all_built [] plan to_serve.plan.last in
+          record {
+            asked = asked;
+            is_asked = to_serve.is_asked;
+            plan = all_clean plan;
+            last = λ begun. subst (λ L. LastPlan asked.flow (seen o.read end) settings (begun_so begun) L (all_clean plan)) same (clean.last begun);
+            clean = refl;
+            current = clean.current;
+          }
 
-  goes_clean :
-      (u : Unit {0}) (v : World) (old looked firm new : Device) (p q : Sunk) (r : Result (Unit {0}) StoreFault) (bad : Bool) → old.world ≡ Some w → new.world ≡ Some v →
-      HasLooked o.act old looked false → HasActed o.act (HasTried (steady_requests told.store) r) looked firm bad →
-      (g : GoesOn o.act asked.flow words.cores asked.targets told.jobs told.plan.states told.store (Ok u) firm new p q r) → HasEndedWell o words w v
-  goes_clean u v old looked firm new p q r bad at ends looking settling (NotFirm f is same unput) = absurd (ok_err u (of_store f) is)
-  goes_clean u v old looked firm new p q r bad at ends looking settling (NoMemory t is same unput) = absurd (ok_err u fault.OutOfMemory is)
-  goes_clean u v old looked firm new p q r bad at ends looking settling (Made t duties for meant made) =
-      let d = made.ran.did v ends in
-      let start = started o H w sound d.0 old looked firm (HasTried (steady_requests told.store) (Ok t)) bad at looking settling d.1 in
-      let run_is = turns_run o H w sound reads words asked told to_serve t d.0 v duties made.turns d.2.0 start made.in_order d.2.1 d.2.2 d.2.3 in
-      let fit = all_fit made.turns made.fits in
-      let all = all_turns u asked.flow (due (next_serial told.store) duties told.jobs.jobs) made.turns made.failed made.ended made.answer made.concluded in
-      subst (HasEndedWell o words w) (sym run_is.is) (record {
-        clean = made_clean v duties made.turns meant fit run_is all;
-        none_left = none_left v duties made.turns meant fit run_is all;
-        formed = (sound_end v duties made.turns meant fit run_is all).formed;
-      })
+      made_clean : HasMadeClean o words w end
+      made_clean =
+          let last : LastPlan asked.flow (seen o.read end) settings nothing_done plan.lists (all_clean plan) =
+          Last (all_clean plan) (clean.planned []) (none_new o end sound_end.formed rules all_built (all_clean plan) (clean.planned [])) in
+          record {
+            asked = asked;
+            is_asked = to_serve.is_asked;
+            targets = each_from (IsClean (setting_in o w asked.flow) (seen o.read end)) asked.targets
+                (λ p i.
+                let c =
+                current_means_clean_in_worlds asked.flow o (λ j. is_none (missing j)) end H settings nothing_done plan.lists (all_clean plan) sound_end
+                (λ j f files there shut gathered told_so. absurd (subst (λ fs. IsIn fs f) (none_gathered j (in_from plan.jobs j there)) (in_from (gathers_from j) f gathered)))
+                last refl (λ j there shut. fields j (in_from plan.jobs j there)) p (contains_from asked.targets p i) (each_in (λ q. is_current (seen o.read end) settings nothing_done (all_clean plan) q ≡ true) asked.targets p (clean.current []) i) in
+                (c.0, c.1, same_values asked.flow o.act (λ j. is_none (missing j)) (seen o.read w) (seen o.read end) (seen_is_complete o.read w sound.formed) (seen_is_complete o.read end sound_end.formed) sources_stay p ∙ c.2));
+            sources = sources_stay;
+          }
+        where
+          none_gathered : (j : Job) → IsIn plan.jobs j → gathers_from j ≡ []
+          none_gathered j i = ap (map (λ (g : Gather). g.folder)) (each_in IsPlain plan.jobs j plainly i).gathers_none
+
+  module _ (exit : RunLeavesAllClean) (free : words.force ≡ No) where
+    goes_clean :
+        (u : Unit {0}) (v : World) (old looked firm new : Device) (p q : Sunk) (r : Result (Unit {0}) StoreFault) (bad : Bool) → old.world ≡ Some w → new.world ≡ Some v →
+        HasLooked o.act old looked false → HasActed o.act (HasTried (steady_requests told.store) r) looked firm bad →
+        (g : GoesOn o.act asked.flow words.cores asked.targets told.jobs told.plan.states told.store (Ok u) firm new p q r) → HasEndedWell o words w v
+    goes_clean u v old looked firm new p q r bad at ends looking settling (NotFirm f is same unput) = absurd (ok_err u (of_store f) is)
+    goes_clean u v old looked firm new p q r bad at ends looking settling (NoMemory t is same unput) = absurd (ok_err u fault.OutOfMemory is)
+    goes_clean u v old looked firm new p q r bad at ends looking settling (Made t duties for meant made) =
+        let d = made.ran.did v ends in
+        let start = started o H w sound d.0 old looked firm (HasTried (steady_requests told.store) (Ok t)) bad at looking settling d.1 in
+        let run_is = turns_run o H w sound reads words asked told to_serve t d.0 v duties made.turns d.2.0 start made.in_order d.2.1 d.2.2 d.2.3 in
+        let fit = all_fit made.turns made.fits in
+        let all = all_turns u asked.flow (due (next_serial told.store) duties told.jobs.jobs) made.turns made.failed made.ended made.answer made.concluded in
+        subst (HasEndedWell o words w) (sym run_is.is) (record {
+          clean = made_clean v duties made.turns meant fit run_is exit free all;
+          none_left = none_left v duties made.turns meant fit run_is exit free all;
+          formed = (sound_end v duties made.turns meant fit run_is exit free all).formed;
+        })
 
 module _ (exit : RunLeavesAllClean) (o : Outside) (H : Versions) (w : World) (sound : SoundWorld o w H) (reads : ReadsRecords o.read) (words : RunWords) (free : words.force ≡ No) where
   went_clean :
@@ -299,7 +301,7 @@ module _ (exit : RunLeavesAllClean) (o : Outside) (H : Versions) (w : World) (so
   went_clean u (Ok t) v old new p q at ends e (Refused f is why looked) = absurd (ok_err t f is)
   went_clean u (Ok t) v old new p q at ends e (Stopped f is want looked) = absurd (ok_err t f is)
   went_clean u (Ok t) v old new p q at ends e (Worked asked told plans worked) =
-      goes_clean exit o H w sound reads words free asked told plans t v old worked.looked worked.carried.firm new p q worked.carried.settled (store_failed worked.carried.settled) at ends
+      goes_clean o H w sound reads words asked told plans exit free t v old worked.looked worked.carried.firm new p q worked.carried.settled (store_failed worked.carried.settled) at ends
       worked.looking worked.carried.settling worked.carried.goes_on
 
 module _ (exit : RunLeavesAllClean) where

@@ -106,3 +106,10 @@ module _ (image : Image) (settings : Settings) (jobs : Jobs) (states : List Stat
         let n = some_told t.0.number e (sym (maker_is q t.0) ∙ made) in
         (n.0, number_in jobs.makers q t.0.number t.0.told ∙ n.1, n.2);
   }
+
+  -- of a target too it is told which job of the plan makes it
+  pub target_told : (p : Path) → IsIn asked p → (e : Job × State) → maker_of plan p ≡ Some e → (n : ℕ) × (maker_in jobs.makers p ≡ Some n) × (slice_get (staged plan) n ≡ Some e)
+  target_told p i e made =
+      let t = each_in (IsToldOf jobs) asked p served.targets i in
+      let n = some_told t.number e (sym (maker_is p t) ∙ made) in
+      (n.0, number_in jobs.makers p t.number t.told ∙ n.1, n.2)

@@ -3,3 +3,5 @@ pub mod Settings
 pub mod Told
 pub mod Merging
 pub mod Giving
+pub mod Waited
+pub mod Marked

@@ -1,11 +1,11 @@
 -- Configurations, step by step.
-use Rattle.std.proofs.Common.{◌≡◌, inl, ℕ, List, [], ◌∷◌, Bool, true, false, Option, Some, None, Result, Ok, Err, refl, ap, sym, subst, ◌∙◌}
+use Rattle.std.proofs.Common.{◌≡◌, inl, ℕ, List, Bool, true, false, Some, None, Result, Ok, Err, refl, ap, sym, subst, ◌∙◌}
 use Rattle.std.specs.Prelude.{IsUtf8, IsErrAnd, if◌then◌else◌}
 use Rattle.std.specs.Str.{is_utf8}
 use Rattle.std.proofs.lemmas.Str.{IsUtf8-from_is_utf8, is_utf8-from_IsUtf8}
 use Rattle.serde_json.specs.Data.{Members}
 use Rattle.smk_config.specs.declared.config.Config.{Config}
-use Rattle.smk_config.specs.Settings.{configured, over}
+use Rattle.smk_config.specs.Settings.{configured}
 use Rattle.smk_flow.specs.Flows.{Flow}
 use Rattle.smk_flaws.specs.declared.flaw.Flaw.TheVariants.{BadConfig}
 use Rattle.smk_flaws.specs.declared.fault.FileFault.{FileFault}
@@ -14,10 +14,9 @@ use Rattle.smk_flaws.specs.declared.fault.LoadFault.{LoadFault}
 use Rattle.smk_flaws.specs.declared.fault.LoadFault.TheVariants.{Flawed}
 use Rattle.smk_flaws.specs.Faults.{of_file}
 use Rattle.smk_eval_files.specs.Reading as reading
-use Rattle.smk_eval_files.specs.Looks.{Nodes}
 use Rattle.smk_eval.specs.Faults.{is_told, is_device, device_failed, from_files, and_then}
 use Rattle.smk_eval.specs.Configured.{Configures}
-use Rattle.smk_eval.specs.Loading.{object_or, config_in, config_path, config_file, config_at, with_config, configs, Gives}
+use Rattle.smk_eval.specs.Loading.{object_or, config_in, Gives}
 
 pub config_read : (name source : List ℕ) (m : Members) → IsUtf8 source × (configured source ≡ Some m) → config_in name source ≡ Ok m
 config_read name source m h =

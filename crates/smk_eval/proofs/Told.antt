@@ -1,5 +1,5 @@
 -- Faults of statements and of the checks.
-use Rattle.std.proofs.Common.{◌≡◌, ◌≢◌, ◌⊎◌, inl, inr, ℕ, List, Result, Ok, Err, ap, sym, subst, refl, ◌∙◌}
+use Rattle.std.proofs.Common.{◌≡◌, ◌≢◌, ℕ, List, Result, Ok, Err, ap, sym, ◌∙◌}
 use Rattle.std.specs.Prelude.{IfErr, IsErrAnd}
 use Rattle.smk_eval_values.specs.declared.fault.ValueFault.{ValueFault}
 use Rattle.smk_eval_values.specs.declared.fault.ValueFault.TheVariants as of_value
@@ -7,12 +7,11 @@ use Rattle.smk_flow.specs.declared.fault.FlowFault.{FlowFault}
 use Rattle.smk_flow.specs.declared.fault.FlowFault.TheVariants as of_rules
 use Rattle.smk_flow.specs.declared.rule.RulePart.{RulePart}
 use Rattle.smk_flow.specs.declared.rule.Clause.{Clause}
-use Rattle.smk_flow.specs.Flows.{Flow}
-use Rattle.smk_flow.specs.Checks.{IsWorkflow, IsFault}
+use Rattle.smk_flow.specs.Checks.{IsFault}
 use Rattle.smk_flaws.specs.declared.fault.EvalFault.{EvalFault}
 use Rattle.smk_flaws.specs.declared.fault.EvalFault.TheVariants as fault
 use Rattle.smk_flaws.specs.Faults.{of_flow}
-use Rattle.smk_eval.specs.Statements.{State, told, made, IsFirstFault}
+use Rattle.smk_eval.specs.Statements.{State, told, made}
 
 is_told : {A : Type 0} (file : List ℕ) (line : ℕ) (rule : List ℕ) (m : Result A ValueFault) (now : A → State) (e : ValueFault) (f : EvalFault)
     → m ≡ Err e → f ≡ told file line rule e → made file line rule m now ≡ Err f
@@ -25,12 +24,6 @@ made_fault file line rule m now e f h is known = is_told file line rule m now e 
 -- what is told of the checks is no want of memory
 pub known_fault : (e : FlowFault) (f : EvalFault) → f ≡ of_flow e → f ≢ fault.OutOfMemory → e ≢ of_rules.OutOfMemory
 known_fault e f is known = λ h. known (is ∙ ap of_flow h)
-
-pub gives_ok : (said : Result Flow EvalFault) (flow whole : Flow) → said ≡ Ok whole → flow ≡ whole → IsWorkflow whole.rules whole.orders → (said ≡ Ok flow) × IsWorkflow flow.rules flow.orders
-gives_ok said flow whole h is passes = (h ∙ ap Ok (sym is), subst (λ (w : Flow). IsWorkflow w.rules w.orders) (sym is) passes)
-
-pub gives_checks : (said : Result Flow EvalFault) (whole : Flow) (f : EvalFault) → said ≡ Ok whole → (g : FlowFault) × IsFault whole.rules whole.orders g × (f ≡ of_flow g) → IsFirstFault said f
-gives_checks said whole f h g = subst (λ (s : Result Flow EvalFault). IsFirstFault s f) (sym h) (inr (g.0, g.1, g.2))
 
 -- a fault of the checks that `?` carries on
 pub carried_check : {A : Type 0} (rules : List RulePart) (orders : List Clause) (e : FlowFault) (s : Result A EvalFault) → IsErrAnd s (λ f. f ≡ of_flow e)

@@ -3,5 +3,7 @@ pub mod Statements
 pub mod Kept
 pub mod Seen
 pub mod Faults
+pub mod Waiting
+pub mod Marking
 pub mod Loading
 pub mod Configured

@@ -1,5 +1,5 @@
 -- The workflow of a working folder, as its files stand there.
-use Rattle.std.specs.Prelude.{◌≡◌, ◌⊎◌, ℕ, Bool, true, List, [], ◌∷◌, if◌then◌else◌, codes, Option, Some, None, Result, Ok, Err}
+use Rattle.std.specs.Prelude.{◌≡◌, ◌⊎◌, ℕ, true, List, [], ◌∷◌, if◌then◌else◌, Option, Some, None, Result, Ok, Err}
 use Rattle.std.specs.List.{flat_map}
 use Rattle.std.specs.Str.{is_utf8}
 use Rattle.serde_json.specs.Data.{Members, no_members, put, string}
@@ -22,6 +22,7 @@ use Rattle.smk_flaws.specs.declared.fault.LoadFault.TheVariants.{Flawed}
 use Rattle.smk_flaws.specs.Faults.{of_eval}
 use Rattle.smk_eval.specs.Statements.{evaluated, FailsChecks}
 use Rattle.smk_eval.specs.Faults.{and_then, from_files, from_said, is_told}
+use Rattle.smk_eval.specs.Waiting.{waited}
 
 -- ## Configurations
 
@@ -74,9 +75,13 @@ with_sets was (p ∷ ps) = with_sets (put p.name (string p.value) was) ps
 
 -- ## The workflow
 
--- the rules and the clauses that these files say
+-- the rules and the clauses that these files say with this configuration, for whose commands the shell waits
+abbrev pub said_in : Members → List ReadFile → Result Flow LoadFault
+said_in config files = and_then (from_said (evaluated config files)) waited
+
+-- the same with the configurations that they name
 abbrev pub said_by : Nodes → List Pair → List ReadFile → Result Flow LoadFault
-said_by nodes sets files = and_then (configs nodes no_members (config_files (whole files))) (λ m. from_said (evaluated (with_sets m sets) files))
+said_by nodes sets files = and_then (configs nodes no_members (config_files (whole files))) (λ m. said_in (with_sets m sets) files)
 
 -- the same of the file at this path with its includes: files first, then configurations, then statements
 abbrev pub loaded : Nodes → List ℕ → List Pair → Result Flow LoadFault

@@ -1,10 +1,12 @@
 -- What the code keeps, as the definitions see it.
-use Rattle.std.specs.Prelude.{◌≡◌, ◌≢◌, Result, Ok, Err}
+use Rattle.std.specs.Prelude.{◌≡◌, ◌≢◌, true, Result, Ok, Err}
 use Rattle.smk_flow.specs.Flows.{Flow}
 use Rattle.smk_eval.specs.declared.state.State.{State}
 use Rattle.smk_eval.specs.declared.state.Said.{Said}
 use Rattle.smk_flaws.specs.declared.fault.EvalFault.{EvalFault}
 use Rattle.smk_flaws.specs.declared.fault.EvalFault.TheVariants.{OutOfMemory}
+use Rattle.smk_flaws.specs.declared.fault.LoadFault.{LoadFault}
+use Rattle.smk_eval.specs.Faults.{is_told}
 use Rattle.smk_eval.specs.Statements as spec
 use Rattle.smk_eval.specs.Kept.{kept}
 
@@ -20,3 +22,8 @@ Leads (Err f) meant = f ≢ OutOfMemory → meant ≡ Err f
 abbrev pub Says : Result Said EvalFault → Result Flow EvalFault → Type 0
 Says (Ok said) meant = meant ≡ Ok (record { rules = said.rules; orders = said.orders })
 Says (Err f) meant = f ≢ OutOfMemory → meant ≡ Err f
+
+-- the same of rules and clauses with a fault of the folder
+abbrev pub SaysAll : Result Said LoadFault → Result Flow LoadFault → Type 0
+SaysAll (Ok said) meant = meant ≡ Ok (record { rules = said.rules; orders = said.orders })
+SaysAll (Err f) meant = is_told f ≡ true → meant ≡ Err f

@@ -1,5 +1,5 @@
 -- What stands under keys of the configuration.
-use Rattle.std.specs.Prelude.{ℕ, List, [], ◌∷◌, ◌++◌, Option, Some, None, Result, Ok, Err}
+use Rattle.std.specs.Prelude.{ℕ, List, [], ◌∷◌, ◌++◌, Option, Some, None, Ok, Err}
 use Rattle.serde_json.specs.Data.{Data, object, Members}
 use Rattle.smk_config.specs.declared.value.Value.{Value as Setting}
 use Rattle.smk_config.specs.declared.value.Value.TheVariants as of_config

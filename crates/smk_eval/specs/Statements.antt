@@ -1,5 +1,6 @@
 -- What files read as: what their statements lead to, in order, and the workflow that this is.
-use Rattle.std.specs.Prelude.{◌≡◌, ◌⊎◌, ℕ, List, [], ◌∷◌, ◌++◌, map, bytes_eq, if◌then◌else◌, Option, Some, None, Result, Ok, Err}
+use Rattle.std.specs.Prelude.{◌≡◌, ℕ, Bool, true, false, List, [], ◌∷◌, ◌++◌, map, bytes_eq, if◌then◌else◌, Option, Some, None, Result, Ok, Err}
+use Rattle.std.specs.List.{list_any}
 use Rattle.serde_json.specs.Data.{Members}
 use Rattle.smk_base.specs.declared.tree.Pair.{Pair}
 use Rattle.smk_parse_tree.specs.declared.syntax.Form.{Form}
@@ -16,7 +17,7 @@ use Rattle.smk_flow.specs.declared.rule.RulePart.{RulePart}
 use Rattle.smk_flow.specs.declared.rule.Clause.{Clause}
 use Rattle.smk_flow.specs.declared.fault.FlowFault.{FlowFault}
 use Rattle.smk_flow.specs.Flows.{Flow}
-use Rattle.smk_flow.specs.Checks.{rule_in, IsWorkflow, IsFault}
+use Rattle.smk_flow.specs.Checks.{rule_in, IsFault}
 use Rattle.smk_eval_rules.specs.Rules.{rule_of, global_limits, with_globals}
 use Rattle.smk_eval_rules.specs.Outputs.{outputs_of}
 use Rattle.smk_eval_files.specs.declared.files.ReadFile.{ReadFile}
@@ -109,13 +110,42 @@ abbrev pub all_stated : Members → State → List Entry → Result State EvalFa
 all_stated config s [] = Ok s
 all_stated config s (e ∷ es) = and_then (stated config s e.file e.statement.line e.statement.form) (λ now. all_stated config now es)
 
+-- ## The default target
+
+abbrev pub is_default : RulePart → Bool
+is_default part = part.default_target
+
+-- the rule, marked as the default target where it is to be
+abbrev pub marked : Bool → RulePart → RulePart
+marked false part = part
+marked true part = record part { default_target = true }
+
+abbrev pub stands_in : List ℕ → RulePart → Bool
+stands_in file part = bytes_eq part.file file
+
+-- the rules, the first that stands in this file marked as the default target
+abbrev pub first_marked : List ℕ → List RulePart → List RulePart
+first_marked file [] = []
+first_marked file (part ∷ parts) = if stands_in file part then marked true part ∷ parts else part ∷ first_marked file parts
+
+-- Where no rule says that it is the default target, that is the first of the file to begin with, whatever its includes have above.
+abbrev pub with_default : List ℕ → List RulePart → List RulePart
+with_default file parts = if list_any is_default parts then parts else first_marked file parts
+
+-- the file to begin with
+abbrev pub main_file : List ReadFile → List ℕ
+main_file [] = []
+main_file (f ∷ fs) = f.file
+
+-- ## What is said
+
 -- The constraints of the whole file hold in all rules, also in those above.
-abbrev pub flow_of : State → Flow
-flow_of s = record { rules = map (with_globals s.limits) s.rules; orders = s.orders }
+abbrev pub flow_of : List ℕ → State → Flow
+flow_of file s = record { rules = with_default file (map (with_globals s.limits) s.rules); orders = s.orders }
 
 -- the rules and the clauses that the files say, or the first fault of a statement
 abbrev pub evaluated : Members → List ReadFile → Result Flow EvalFault
-evaluated config files = and_then (all_stated config begun (whole files)) (λ s. Ok (flow_of s))
+evaluated config files = and_then (all_stated config begun (whole files)) (λ s. Ok (flow_of (main_file files) s))
 
 -- ## The checked workflow
 
@@ -123,12 +153,3 @@ evaluated config files = and_then (all_stated config begun (whole files)) (λ s.
 abbrev pub FailsChecks : Result Flow EvalFault → EvalFault → Type 0
 FailsChecks (Ok flow) f = (g : FlowFault) × (IsFault flow.rules flow.orders g) × (f ≡ of_flow g)
 FailsChecks (Err e) f = ⊥
-
--- The fault is that of a statement, or that of the checks.
-abbrev pub IsFirstFault : Result Flow EvalFault → EvalFault → Type 0
-IsFirstFault said f = (said ≡ Err f) ⊎ FailsChecks said f
-
--- The answer is the workflow that is said and passes all checks, or the first fault, unless memory was short.
-abbrev pub Gives : Result Flow EvalFault → Result Flow EvalFault → Type 0
-Gives said (Ok flow) = (said ≡ Ok flow) × IsWorkflow flow.rules flow.orders
-Gives said (Err f) = ((f ≡ fault.OutOfMemory) → ⊥) → IsFirstFault said f

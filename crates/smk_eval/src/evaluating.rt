@@ -1,6 +1,6 @@
 //! Statements in order, and the workflow that they say.
 
-ghost use Rattle.std.specs.Prelude.{◌≡◌, ◌≢◌, [], IfOk, IfErr};
+ghost use Rattle.std.specs.Prelude.{◌≡◌, ◌≢◌, [], false, IfOk, IfErr};
 ghost use Rattle.smk_config.specs.Settings.{members};
 ghost use Rattle.smk_flow.specs.Checks.{IsWorkflow, IsFault};
 ghost use Rattle.smk_flow.specs.declared.fault.FlowFault.{FlowFault};
@@ -8,8 +8,11 @@ ghost use Rattle.smk_eval_files.specs.Placing.{entries};
 ghost use Rattle.smk_flaws.specs.declared.fault.EvalFault.{EvalFault};
 ghost use Rattle.smk_flaws.specs.Faults.{of_flow};
 ghost use Rattle.smk_eval.specs.Statements as spec;
-ghost use Rattle.smk_eval.specs.Seen.{state_of, Leads, Says};
+ghost use Rattle.smk_eval.specs.Faults.{device_failed};
+ghost use Rattle.smk_eval.specs.Loading as loading;
+ghost use Rattle.smk_eval.specs.Seen.{state_of, Leads, Says, SaysAll};
 
+use crate::commands::all_wait;
 use crate::faults::told;
 use crate::scope::Known;
 use crate::state::{Said, State};
@@ -18,7 +21,7 @@ use smk_config::Config;
 use smk_eval_files::{Placed, ReadFile, text_of};
 use smk_eval_rules::{global_limits, rule_part};
 use smk_eval_values::value_of;
-use smk_flaws::EvalFault;
+use smk_flaws::{EvalFault, LoadFault};
 use smk_flow::Workflow;
 use smk_parse_tree::{Expr, Form, ItemForm, RuleForm};
 use std::alloc::Global;
@@ -134,14 +137,39 @@ fn all_stated<'p>(
     Ok(state)
 }
 
+// The path of the file to begin with.
+fn main_file(files: &[ReadFile]) -> &str
+    ensures { result.now ≡ spec.main_file files.now }
+{
+    match files {
+        [] => "",
+        [first, ..] => first.file.as_str(),
+    }
+}
+
 // The rules and the clauses that the files say.
 fn said(alloc: Global, files: &[ReadFile], config: &Config) -> Result<Said, EvalFault>
     ensures { Says result (spec.evaluated (members config.now) files.now) }
 {
     let text = text_of(alloc, files)?;
     match all_stated(alloc, config, &text) {
-        Ok(state) => Ok(state.said(alloc)?),
+        Ok(state) => Ok(state.said(alloc, main_file(files))?),
         Err(fault) => Err(fault),
+    }
+}
+
+// The same, where the shell waits for all commands.
+#[tactic(auto, using(crate::proofs::Waited::statement_wrong, crate::proofs::Waited::command_wrong, crate::proofs::Waited::commands_right, crate::proofs::Giving::calm_eval))]
+fn waited(alloc: Global, files: &[ReadFile], config: &Config) -> Result<Said, LoadFault>
+    ensures is { SaysAll result (loading.said_in (members config.now) files.now) }
+    ensures no_device { device_failed result ≡ false }
+{
+    match said(alloc, files, config) {
+        Err(fault) => Err(LoadFault::from(fault)),
+        Ok(said) => match all_wait(alloc, said.rules.as_slice()) {
+            Err(fault) => Err(fault),
+            Ok(()) => Ok(said),
+        },
     }
 }
 
@@ -155,20 +183,26 @@ fn checked(alloc: Global, said: Said) -> Result<Workflow, EvalFault>
 }
 
 /// The workflow that the files say, with this configuration. The first file is the one to begin with; after it come the files of its
-/// includes, each with its own after it, in order.
+/// includes, each with its own after it, in order. Without a word the first rule with `default_target: True` is made, wherever it stands;
+/// where there is none, the first rule that stands in the first file itself, and else the first of all.
 ///
-/// The fault is the first of a statement, in their order, those of an included file in its place; then the first thing that is wrong
-/// with the rules and the clauses. `OutOfMemory` where there is no memory for the workflow.
-#[tactic(auto, using(crate::proofs::Told::gives_ok, crate::proofs::Told::gives_checks))]
+/// The fault is the first of a statement, in their order, those of an included file in its place; then `Unsupported` of the first rule
+/// whose command has `&>` or `|&`; then the first thing that is wrong with the rules and the clauses. `OutOfMemory` where there is no
+/// memory for the workflow; never `Device`.
+#[tactic(auto, using(crate::proofs::Giving::gives_ok, crate::proofs::Giving::gives_checks, crate::proofs::Giving::calm_eval))]
 pub fn evaluate(
     alloc: Global,
     files: &List<ReadFile>,
     config: &Config,
-) -> Result<Workflow, EvalFault>
-    ensures { spec.Gives (spec.evaluated (members config.now) files.now) result }
+) -> Result<Workflow, LoadFault>
+    ensures is { loading.Gives (loading.said_in (members config.now) files.now) result }
+    ensures no_device { device_failed result ≡ false }
 {
-    match said(alloc, files.as_slice(), config) {
-        Ok(said) => checked(alloc, said),
+    match waited(alloc, files.as_slice(), config) {
         Err(fault) => Err(fault),
+        Ok(said) => match checked(alloc, said) {
+            Ok(flow) => Ok(flow),
+            Err(fault) => Err(LoadFault::from(fault)),
+        },
     }
 }

@@ -3,6 +3,7 @@
 #![tactic(auto)]
 
 mod above;
+mod commands;
 mod config;
 mod configs;
 mod evaluating;

@@ -4,8 +4,7 @@ ghost use Rattle.std.specs.Prelude.{◌≡◌, [], IfOk, false};
 ghost use Rattle.smk_world.specs.Devices.{WhereTold, HasLooked};
 ghost use Rattle.smk_config.specs.Settings.{members};
 ghost use Rattle.smk_eval_files.specs.Texts.{whole};
-ghost use Rattle.smk_eval.specs.Statements.{evaluated};
-ghost use Rattle.smk_eval.specs.Faults.{device_failed, from_said};
+ghost use Rattle.smk_eval.specs.Faults.{device_failed};
 ghost use Rattle.smk_eval.specs.Loading as spec;
 
 use crate::configs::{config_files, configs, with_sets};
@@ -27,18 +26,17 @@ fn configs_named(alloc: Global, files: &[ReadFile]) -> Result<List<Text>, OutOfM
 }
 
 // The workflow of the files with this configuration and the texts that are set.
-#[tactic(auto, using(crate::proofs::Giving::gives_said, crate::proofs::Giving::fails_said))]
 fn evaluated(
     alloc: Global,
     files: &List<ReadFile>,
     config: Config,
     sets: &List<Pair>,
 ) -> Result<Workflow, LoadFault>
-    ensures is { spec.Gives (from_said (evaluated (spec.with_sets (members config) sets.now) files.now)) result }
+    ensures is { spec.Gives (spec.said_in (spec.with_sets (members config) sets.now) files.now) result }
     ensures no_device { device_failed result ≡ false }
 {
     let config = with_sets(alloc, config, sets.as_slice())?;
-    Ok(evaluate(alloc, files, &config)?)
+    evaluate(alloc, files, &config)
 }
 
 // The workflow of files that were read.
@@ -65,8 +63,8 @@ fn said_by<W: Files>(
 /// over earlier ones. Nothing in the folder changes. No child may run.
 ///
 /// The faults come in this order: for each file, depth first, `NoFile`, `TooBig`, `IncludeDepth` and those of its tokens and its grammar;
-/// for each configuration, in order, `NoFile`, `TooBig` and `BadConfig`; those of the statements, in order; those of the
-/// rules; those of the clauses. `Device` comes where the device failed, `OutOfMemory` where there is no memory for the workflow.
+/// for each configuration, in order, `NoFile`, `TooBig` and `BadConfig`; those of the statements, in order;
+/// `Unsupported` of the first rule whose command has `&>` or `|&`; those of the rules; those of the clauses. `Device` comes where the device failed, `OutOfMemory` where there is no memory for the workflow.
 pub fn load<W: Files>(
     alloc: Global,
     work: &mut W,

@@ -1,9 +1,11 @@
 //! What the statements so far lead to.
 
-ghost use Rattle.std.specs.Prelude.{◌≡◌, ◌++◌, ◌∷◌, [], map, reverse, IfOk};
+ghost use Rattle.std.specs.Prelude.{◌≡◌, ◌++◌, ◌∷◌, [], map, reverse, ◌&&◌, IfOk};
+ghost use Rattle.std.specs.List.{list_any};
 ghost use Rattle.smk_eval_rules.specs.Rules as parts;
-ghost use Rattle.smk_eval.specs.Statements.{begun, with_constant, with_rule, with_limits, with_order, flow_of};
+ghost use Rattle.smk_eval.specs.Statements.{begun, with_constant, with_rule, with_limits, with_order, is_default, marked, stands_in, flow_of};
 ghost use Rattle.smk_eval.specs.Seen.{state_of};
+ghost use Rattle.smk_eval.specs.Marking.{marked_if};
 
 use crate::above::Above;
 use smk_base::{Copied, List, OutOfMemory, Pair, PathText, Text};
@@ -44,14 +46,52 @@ fn joined(alloc: Global, list: List<Pair>, more: &[Pair]) -> Result<List<Pair>, 
     Ok(all)
 }
 
-// The list, the last one first.
-fn turned(alloc: Global, list: List<RulePart>) -> Result<List<RulePart>, OutOfMemory>
-    ensures { IfOk result (λ made. made ≡ reverse list) }
+// Whether one of the rules says that it is the default target.
+fn has_default(parts: &[RulePart]) -> bool
+    ensures { result ≡ list_any is_default parts.now }
+{
+    for part in parts {
+        if part.default_target {
+            return true;
+        }
+    }
+    false
+}
+
+// The rule, marked as the default target where it is to be.
+fn marked(part: RulePart, wanted: bool) -> RulePart
+    ensures { result ≡ marked wanted part }
+{
+    let mut part = part;
+    if wanted {
+        part.default_target = true;
+    }
+    part
+}
+
+// Whether the rule is to be marked, and stands in this file.
+fn is_next(part: &RulePart, file: &str, marks: bool) -> bool
+    ensures { result ≡ (marks && stands_in file.now part.now) }
+{
+    marks && part.file.as_str() == file
+}
+
+// The list, the last one first. Where a rule is to be marked as the default target, the first is that stands in this file.
+fn turned(
+    alloc: Global,
+    list: List<RulePart>,
+    file: &str,
+    marks: bool,
+) -> Result<List<RulePart>, OutOfMemory>
+    ensures { IfOk result (λ made. made ≡ marked_if marks file.now (reverse list)) }
 {
     let mut left = list;
+    let mut marks = marks;
     let mut made = List::new(alloc);
     'items: while let Some(item) = left.pop() {
-        made.push(item)?;
+        let here = is_next(&item, file, marks);
+        made.push(marked(item, here))?;
+        marks = marks && !here;
     }
     Ok(made)
 }
@@ -147,13 +187,16 @@ impl<'p> State<'p> {
         })
     }
 
-    /// The rules and the clauses, with the constraints of the whole file in all rules. `OutOfMemory` where there is no memory for them.
-    pub(crate) fn said(self, alloc: Global) -> Result<Said, OutOfMemory>
-        ensures { IfOk result (λ said. flow_of (state_of self.entry) ≡ record { rules = said.rules; orders = said.orders }) }
+    /// The rules and the clauses, with the constraints of the whole file in all rules. Where no rule says that it is the default target, the
+    /// first rule of this file, which is the one to begin with, is marked so. `OutOfMemory` where there is no memory for them.
+    pub(crate) fn said(self, alloc: Global, file: &str) -> Result<Said, OutOfMemory>
+        ensures { IfOk result (λ said. flow_of file.now (state_of self.entry) ≡ record { rules = said.rules; orders = said.orders }) }
     {
-        let made = limited(alloc, self.rules.parts(), &self.limits)?;
+        let rules = self.rules.parts();
+        let marks = !has_default(rules.as_slice());
+        let made = limited(alloc, rules, &self.limits)?;
         Ok(Said {
-            rules: turned(alloc, made)?,
+            rules: turned(alloc, made, file, marks)?,
             orders: self.orders,
         })
     }

@@ -18,12 +18,13 @@ use Rattle.smk_words_reading.specs.declared.asked.Asked.TheVariants.{Run}
 use Rattle.smk_exit.proofs.Clean.{run_leaves_all_clean}
 use Rattle.smk_clean.specs.Safe.{IsSafeCall}
 use Rattle.smk_clean.proofs.Safe.{call_is_safe}
-use Rattle.smk_clean.proofs.Clean.{call_is_clean, call_leaves_none}
+use Rattle.smk_clean.proofs.Clean.{call_is_clean, call_leaves_none, none_forced}
 use Rattle.smk_whole.proofs.Calling.{call_is_complete}
 use Rattle.smk_whole.proofs.Working.{same_events}
 use Rattle.smk_laws_call.specs.Headline.{IsCalled, Came, Begin, Edit, Remove, Call, Crash, CameIsHistory, CameIsSound, Headline}
 use Rattle.smk_laws_call.specs.Started.{StartsOnFinished}
 use Rattle.smk_laws_call.proofs.Started.{runs_start_on_finished}
+use Rattle.smk_laws_call.proofs.Telling.{went_tells}
 
 module _ (o : Outside) (reads : ReadsRecords o.read) where
   -- the events of a call in a sound folder keep it safe
@@ -67,6 +68,7 @@ came_is_sound o w H reads before = every_world_sound o w H (came o reads w H bef
 pub headline : Headline
 headline o w v H words told reads before called =
     record {
+      tells = went_tells o H w v sound reads words (none_forced words called.served.built) called.served.answer called.old called.new called.out_old called.out_new called.begins called.ends called.served.serves;
       clean = call_is_clean run_leaves_all_clean o H words told w v called.old called.new called.out_old called.out_new called.begins called.ends reads sound called.served;
       none_left = call_leaves_none run_leaves_all_clean o H words told w v called.old called.new called.out_old called.out_new called.begins called.ends reads sound called.served;
       finished = λ log is.

@@ -33,7 +33,7 @@ front_follows o w (e ∷ es) rest follows = (follows.0, front_follows o (after w
 -- ## The start of a child
 
 -- the recipe with which a child is started
-started_recipe : Call → Option Recipe
+abbrev started_recipe : Call → Option Recipe
 started_recipe (Started recipe logs command r) = Some recipe
 started_recipe (Looked p r) = None
 started_recipe (ReadFile p limit r) = None
@@ -66,7 +66,7 @@ module _ (o : Outside) (recipe : Recipe) where
   abbrev Starts : Call → Type 0
   Starts c = started_recipe c ≡ Some recipe
 
-  look_not : (c : Call) → IsLook c → Starts c → ⊥
+  look_not : (c : Call) → IsLook o c → Starts c → ⊥
   look_not (Looked p r) l k = none_starts recipe k
   look_not (ReadFile p limit r) l k = none_starts recipe k
   look_not (ReadFolder p r) l k = none_starts recipe k
@@ -79,7 +79,7 @@ module _ (o : Outside) (recipe : Recipe) where
   look_not (Protected p r) l k = l
   look_not (Waited r) l k = l
 
-  lock_not : (c : Call) → IsLock c → Starts c → ⊥
+  lock_not : (c : Call) → IsLock o c → Starts c → ⊥
   lock_not (Created p r) l k = none_starts recipe k
   lock_not (Removed p r) l k = none_starts recipe k
   lock_not (MadeParents p r) l k = none_starts recipe k
@@ -92,7 +92,7 @@ module _ (o : Outside) (recipe : Recipe) where
   lock_not (Protected p r) l k = l
   lock_not (Waited r) l k = l
 
-  first_not : (c : Call) (ps : List Path) → IsFirst c ps → Starts c → ⊥
+  first_not : (c : Call) (ps : List Path) → IsFirst o c ps → Starts c → ⊥
   first_not (Started again logs command r) ps f k = f
   first_not (Created p r) ps f k = none_starts recipe k
   first_not (MadeParents p r) ps f k = none_starts recipe k

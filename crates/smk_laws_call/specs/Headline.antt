@@ -27,6 +27,7 @@ use Rattle.smk_clean.specs.Clean.{HasMadeClean}
 use Rattle.smk_whole.specs.Calls.{MayTell}
 use Rattle.smk_whole.specs.Complete.{setting_in}
 use Rattle.smk_laws_call.specs.Started.{StartsOnFinished}
+use Rattle.smk_laws_call.specs.Telling.{HasPutSo, Tells}
 
 -- A call of the program that led from the one told folder to the other: what was asked of it was served, and its fault is told.
 pub record IsCalled (o : Outside) (request : Request) (told : Option Fault) (w v : World) : Type 0 where
@@ -72,6 +73,8 @@ CameIsSound = (o : Outside) (w : World) (H : Versions) → ReadsRecords o.read �
 
 -- What is so of a run.
 pub record RunGives (o : Outside) (words : RunWords) (told : Option Fault) (w v : World) (called : IsCalled o (Run words) told w v) : Type 0 where
+  -- what it calls current holds what a clean run from the sources makes of it, however the run ended
+  pub tells : HasPutSo called.out_old called.out_new (Tells o words w v)
   -- with status 0 each target holds what a clean run from the sources makes of it, and nothing is left to do
   pub clean : told ≡ None → HasMadeClean o words w v
   pub none_left : told ≡ None → HasNoneLeft o words w v

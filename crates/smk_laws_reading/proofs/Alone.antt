@@ -1,5 +1,7 @@
 -- Items of inputs gather alone, from the values of items to the workflow of files.
-use Rattle.std.proofs.Common.{◌≡◌, ◌⊎◌, ℕ, Bool, true, false, List, [], ◌∷◌, ◌++◌, map, refl, sym, ap, subst, inl, inr, ◌∙◌, Option, Some, None, Result, Ok, Err, is_some, true≢false}
+use Rattle.std.proofs.Common.{◌≡◌, ◌⊎◌, ℕ, Bool, true, false, List, [], ◌∷◌, ◌++◌, map, refl, sym, ap, subst, inl, inr, Some, Result, Ok, Err, is_some, true≢false}
+use Rattle.std.specs.List.{list_any}
+use Rattle.std.specs.Prelude.{bytes_eq, codes, if◌then◌else◌}
 use Rattle.serde_json.specs.Data.{Members, no_members}
 use Rattle.smk_base.specs.declared.tree.Pair.{Pair}
 use Rattle.smk_world.specs.Trees.{IsIn}
@@ -12,25 +14,22 @@ use Rattle.smk_eval_values.specs.declared.value.Value.TheVariants.{Word, Number,
 use Rattle.smk_eval_values.specs.declared.fault.ValueFault.{ValueFault}
 use Rattle.smk_eval_values.specs.Expressions.{Scope, Named, named_in, each}
 use Rattle.smk_eval_values.specs.Expressions as values
-use Rattle.smk_eval_values.specs.Values.{first_flag}
 use Rattle.smk_flow.specs.declared.rule.InPart.{InPart}
 use Rattle.smk_flow.specs.declared.rule.RulePart.{RulePart}
 use Rattle.smk_flow.specs.Flows.{Flow}
-use Rattle.smk_eval_rules.specs.declared.directive.Directive.{Directive}
-use Rattle.smk_eval_rules.specs.declared.directive.Directive.TheVariants as is
 use Rattle.smk_eval_rules.specs.Items.{added, all_logs, all_resources, each_item, greatest, input, limit, one_number, one_text, one_truth, output, param, written}
 use Rattle.smk_eval_rules.specs.Rules.{begun, directive_of, rule_of, said, with_directive, with_directives, with_globals}
 use Rattle.smk_flaws.specs.declared.fault.EvalFault.{EvalFault}
 use Rattle.smk_flaws.specs.declared.fault.LoadFault.{LoadFault}
 use Rattle.smk_eval_files.specs.declared.files.ReadFile.{ReadFile}
 use Rattle.smk_eval_files.specs.Texts.{Entry, whole}
-use Rattle.smk_eval_files.specs.Looks.{Nodes}
 use Rattle.smk_eval_files.specs.Reading.{files_at}
 use Rattle.smk_eval.specs.Faults as load
 use Rattle.smk_eval.specs.Faults.{from_files, from_said}
-use Rattle.smk_eval.specs.Loading.{config_files, configs, loaded, said_by, with_sets}
+use Rattle.smk_eval.specs.Loading.{config_files, configs, said_by, said_in, with_sets}
+use Rattle.smk_eval.specs.Waiting.{all_wait, waited}
 use Rattle.smk_eval.specs.Statements as statements
-use Rattle.smk_eval.specs.Statements.{State, all_stated, assigned, evaluated, flow_of, limited, made, ruled, stated, with_constant, with_limits, with_rule}
+use Rattle.smk_eval.specs.Statements.{State, all_stated, assigned, evaluated, first_marked, flow_of, is_default, limited, made, main_file, marked, ruled, stands_in, stated, with_constant, with_default, with_limits, with_rule}
 use Rattle.smk_laws_plan.proofs.CurrentLists.{in_either, map_in}
 use Rattle.smk_laws_reading.specs.Reading.{ReadFlowsGatherAlone}
 
@@ -115,31 +114,62 @@ kept r change p q same all h =
     let a = then_ok r (λ a. Ok (change a)) q h in
     subst RuleIs (ok_same (change a.0) q a.2) (subst (All IsAlone) (sym (same a.0)) all)
 
-said_alone : (d : Directive) (word : List ℕ) (p q : RulePart) (items : List Named) → RuleIs p → said d word p items ≡ Ok q → RuleIs q
-said_alone is.Input word p q items all h =
-    let r = then_ok (each_item (input word) items) (λ x. Ok (record p { inputs = x })) q h in
-    subst RuleIs (ok_same (record p { inputs = r.0 }) q r.2) (all_items IsAlone (input word) (input_alone word) [] items r.0 (λ x i. absurd i) r.1)
-said_alone is.Output word p q items all h = kept (each_item (output word) items) (λ x. record p { outputs = x }) p q (λ a. refl) all h
-said_alone is.Params word p q items all h = kept (each_item (param word) items) (λ x. record p { params = x }) p q (λ a. refl) all h
-said_alone is.Log word p q items all h = kept (all_logs word items) (λ x. record p { logs = x }) p q (λ a. refl) all h
-said_alone is.Threads word p q items all h = kept (one_number word 1 4096 items) (λ x. record p { threads = x }) p q (λ a. refl) all h
-said_alone is.Priority word p q items all h = kept (one_number word 0 greatest items) (λ x. record p { priority = x }) p q (λ a. refl) all h
-said_alone is.Resources word p q items all h = kept (all_resources word items) (λ x. record p { amounts = x.amounts; words = x.words }) p q (λ a. refl) all h
-said_alone is.Limits word p q items all h = kept (each_item (limit word) items) (λ x. record p { limits = x }) p q (λ a. refl) all h
-said_alone is.Shell word p q items all h = kept (one_text word items) (λ x. record p { command = Some x }) p q (λ a. refl) all h
-said_alone is.DefaultTarget word p q items all h = kept (one_truth word items) (λ x. record p { default_target = x }) p q (λ a. refl) all h
-said_alone is.Ignored word p q items all h = subst RuleIs (ok_same p q h) all
+-- what holds of both holds of the one that a test picks
+tested : {D : Type 0} {x y : D} (P : D → Type 0) (b : Bool) → P x → P y → P (if b then x else y)
+tested P true first second = first
+tested P false first second = second
+
+module _ (w : List ℕ) (p q : RulePart) (items : List Named) (all : RuleIs p) where
+  inputs_alone : values.and_then (each_item (input w) items) (λ x. Ok (record p { inputs = x })) ≡ Ok q → RuleIs q
+  inputs_alone h =
+      let r = then_ok (each_item (input w) items) (λ x. Ok (record p { inputs = x })) q h in
+      subst RuleIs (ok_same (record p { inputs = r.0 }) q r.2) (all_items IsAlone (input w) (input_alone w) [] items r.0 (λ x i. absurd i) r.1)
+
+  -- a directive, by its word
+  said_alone : said (directive_of w) w p items ≡ Ok q → RuleIs q
+  unfolding directive_of
+  said_alone =
+      tested (λ d. said d w p items ≡ Ok q → RuleIs q) (bytes_eq w (codes "input")) inputs_alone
+      (tested (λ d. said d w p items ≡ Ok q → RuleIs q) (bytes_eq w (codes "output")) (kept (each_item (output w) items) (λ x. record p { outputs = x }) p q (λ a. refl) all)
+      (tested (λ d. said d w p items ≡ Ok q → RuleIs q) (bytes_eq w (codes "params")) (kept (each_item (param w) items) (λ x. record p { params = x }) p q (λ a. refl) all)
+      (tested (λ d. said d w p items ≡ Ok q → RuleIs q) (bytes_eq w (codes "log")) (kept (all_logs w items) (λ x. record p { logs = x }) p q (λ a. refl) all)
+      (tested (λ d. said d w p items ≡ Ok q → RuleIs q) (bytes_eq w (codes "threads")) (kept (one_number w 1 4096 items) (λ x. record p { threads = x }) p q (λ a. refl) all)
+      (tested (λ d. said d w p items ≡ Ok q → RuleIs q) (bytes_eq w (codes "priority")) (kept (one_number w 0 greatest items) (λ x. record p { priority = x }) p q (λ a. refl) all)
+      (tested (λ d. said d w p items ≡ Ok q → RuleIs q) (bytes_eq w (codes "resources")) (kept (all_resources w items) (λ x. record p { amounts = x.amounts; words = x.words }) p q (λ a. refl) all)
+      (tested (λ d. said d w p items ≡ Ok q → RuleIs q) (bytes_eq w (codes "wildcard_constraints")) (kept (each_item (limit w) items) (λ x. record p { limits = x }) p q (λ a. refl) all)
+      (tested (λ d. said d w p items ≡ Ok q → RuleIs q) (bytes_eq w (codes "shell")) (kept (one_text w items) (λ x. record p { command = Some x }) p q (λ a. refl) all)
+      (tested (λ d. said d w p items ≡ Ok q → RuleIs q) (bytes_eq w (codes "default_target")) (kept (one_truth w items) (λ x. record p { default_target = x }) p q (λ a. refl) all)
+      (λ h. subst RuleIs (ok_same p q h) all))))))))))
 
 directives_alone : (s : Scope) (p q : RulePart) (ds : List DirectiveForm) → RuleIs p → with_directives s p ds ≡ Ok q → RuleIs q
 directives_alone s p q [] all h = subst RuleIs (ok_same p q h) all
 directives_alone s p q (d ∷ ds) all h =
     let r = then_ok (with_directive s p d) (λ now. with_directives s now ds) q h in
-    directives_alone s r.0 q ds (said_alone (directive_of d.word) d.word p r.0 (map (named_in d.word s) d.items) all r.1) r.2
+    directives_alone s r.0 q ds (said_alone d.word p r.0 (map (named_in d.word s) d.items) all r.1) r.2
 
 rule_alone : (s : Scope) (globals : List Pair) (form : RuleForm) (file : List ℕ) (line : ℕ) (q : RulePart) → rule_of s globals form file line ≡ Ok q → RuleIs q
 rule_alone s globals form file line q h =
     let r = then_ok (with_directives s (begun form file line) form.directives) (λ p. Ok (with_globals globals p)) q h in
     subst RuleIs (ok_same (with_globals globals r.0) q r.2) (directives_alone s (begun form file line) r.0 form.directives (λ x i. absurd i) r.1)
+
+-- ## The default target
+
+first_alone : (file : List ℕ) (parts : List RulePart) → All RuleIs parts → All RuleIs (first_marked file parts)
+first_alone file [] all = all
+first_alone file (x ∷ parts) all = go (stands_in file x)
+  where
+    go : (b : Bool) → All RuleIs (if b then marked true x ∷ parts else x ∷ first_marked file parts)
+    go true p (inl e) = subst RuleIs (sym e) (all x (inl refl))
+    go true p (inr i) = all p (inr i)
+    go false p (inl e) = subst RuleIs (sym e) (all x (inl refl))
+    go false p (inr i) = first_alone file parts (λ y j. all y (inr j)) p i
+
+default_alone : (file : List ℕ) (parts : List RulePart) → All RuleIs parts → All RuleIs (with_default file parts)
+default_alone file parts all = go (list_any is_default parts)
+  where
+    go : (b : Bool) → All RuleIs (if b then parts else first_marked file parts)
+    go true = all
+    go false = first_alone file parts all
 
 -- ## Statements
 
@@ -168,8 +198,9 @@ module _ (config : Members) where
 
   evaluated_alone : (files : List ReadFile) (flow : Flow) → evaluated config files ≡ Ok flow → All RuleIs flow.rules
   evaluated_alone files flow h =
-      let r = stated_ok (all_stated config statements.begun (whole files)) (λ s. Ok (flow_of s)) flow h in
-      subst (λ (f : Flow). All RuleIs f.rules) (ok_same (flow_of r.0) flow r.2) (globals r.0 (all_alone statements.begun r.0 (whole files) (λ x i. absurd i) r.1))
+      let r = stated_ok (all_stated config statements.begun (whole files)) (λ s. Ok (flow_of (main_file files) s)) flow h in
+      subst (λ (f : Flow). All RuleIs f.rules) (ok_same (flow_of (main_file files) r.0) flow r.2)
+      (default_alone (main_file files) (map (with_globals (r.0).limits) (r.0).rules) (globals r.0 (all_alone statements.begun r.0 (whole files) (λ x i. absurd i) r.1)))
     where
       globals : (s : State) → StateIs s → All RuleIs (map (with_globals s.limits) s.rules)
       globals s all p i =
@@ -179,5 +210,8 @@ module _ (config : Members) where
 pub read_flows_gather_alone : ReadFlowsGatherAlone
 read_flows_gather_alone nodes file sets flow read part item is_part is_item gathers =
     let files = loaded_ok (from_files (files_at nodes file)) (said_by nodes sets) flow read.0 in
-    let config = loaded_ok (configs nodes no_members (config_files (whole files.0))) (λ m. from_said (evaluated (with_sets m sets) files.0)) flow files.2 in
-    evaluated_alone (with_sets config.0 sets) files.0 flow (said_ok (evaluated (with_sets config.0 sets) files.0) flow config.2) part is_part item is_item gathers
+    let config = loaded_ok (configs nodes no_members (config_files (whole files.0))) (λ m. said_in (with_sets m sets) files.0) flow files.2 in
+    let said = loaded_ok (from_said (evaluated (with_sets config.0 sets) files.0)) waited flow config.2 in
+    let same = ok_same said.0 flow (loaded_ok (all_wait (said.0).rules) (λ done. Ok said.0) flow said.2).2 in
+    subst (λ (f : Flow). All RuleIs f.rules) same
+    (evaluated_alone (with_sets config.0 sets) files.0 said.0 (said_ok (evaluated (with_sets config.0 sets) files.0) said.0 said.1)) part is_part item is_item gathers

@@ -3,17 +3,18 @@ use Rattle.std.proofs.Common.{◌≡◌, ◌≢◌, ℕ, zero, suc, ◌+◌, ◌
 use Rattle.std.proofs.lemmas.Bool.{and_parts, eqb-true, leb-true, cases_lt, cases_eq}
 use Rattle.std.proofs.lemmas.List.{append-nil, take_all, drop_all}
 use Rattle.std.proofs.lemmas.List.Elements.{All-head, All-tail}
-use Rattle.std.proofs.lemmas.Str.{IsUtf8-nil, IsUtf8-append, IsUtf8-from_ascii, IsUtf8-between, IsUtf8-take, IsUtf8-drop, IsCharBoundary-before_ascii, IsCharBoundary-after_ascii}
+use Rattle.std.proofs.lemmas.Str.{IsUtf8-nil, IsUtf8-append, IsUtf8-encode, IsUtf8-from_ascii, IsUtf8-between, IsUtf8-take, IsUtf8-drop, IsCharBoundary-before_ascii, IsCharBoundary-after_ascii, encode_ascii}
 use Rattle.std.proofs.lemmas.Str.Ascii.{IsAscii-cons}
 use Rattle.std.specs.Prelude.{◌==◌, ◌&&◌, nat_le, slice_index, unwrap_or, All, if◌then◌else◌}
 use Rattle.std.specs.Str.{IsUtf8, IsCharBoundary}
+use lib.Utf8.{encode, encodes, scalar, scalars}
 use Rattle.smk_lex.specs.declared.token.TokenKind.{TokenKind}
 use Rattle.smk_lex.specs.declared.token.TokenKind.TheVariants as kind
 use Rattle.smk_lex.specs.declared.token.Token.{Token}
 use Rattle.smk_lex.specs.Pieces.{Bytes, ends_line, line_end, is_plain, value_of, number_of, greatest, quotes}
-use Rattle.smk_lex.specs.Spelling.{IsName, IsText, escape_at, unescaped, plain_len, is_long, opening_len, content, text_value}
+use Rattle.smk_lex.specs.Spelling.{IsName, IsText, escape_at, unescaped, plain_len, byte_before, with_feeds, is_long, opening_len, content, lines_in, text_value}
 use Rattle.smk_lex.specs.Tokens.{IsToken, spelling, Spells}
-use Rattle.smk_lex.proofs.Texts.{unescaped-plain, unescaped-next, plain-stops, cut_after, text_bounds}
+use Rattle.smk_lex.proofs.Texts.{unescaped-plain, unescaped-next, plain-stops, cut_after, text_bounds, feeds-plain}
 use Rattle.smk_lex.proofs.Inside.{nonzero_within}
 use Rattle.smk_lex.proofs.Cuts.{quotes_some}
 use Rattle.smk_lex.proofs.Followed.{ascii_nil}
@@ -22,6 +23,7 @@ use Rattle.smk_parse_expr.specs.declared.symbol.Symbol.TheVariants as s
 use Rattle.smk_parse_expr.specs.Grammar.{HasLetters}
 use Rattle.smk_parse_expr.specs.Tokens.{by_kind, symbols_of}
 use Rattle.smk_parse_print.proofs.Fit.{IsSound, AllSound}
+use Rattle.smk_parse_print.proofs.Texts.{encode-high}
 
 bool_cases : (b : Bool) → (b ≡ true) ⊎ (b ≡ false)
 bool_cases true = inl refl
@@ -115,13 +117,46 @@ content-utf8 w is u =
     let closing : IsCharBoundary w (length w - q) = IsCharBoundary-before_ascii w (length w - q) (omega arith) b.closes in
     IsUtf8-between w i (length w - q) u (omega arith) opening closing
 
+-- ---- line ends
+
+byte-utf8 : (b : ℕ) (z : Bytes) → b < 128 → IsUtf8 (byte_before b z)
+byte-utf8 b z low = by_test (b == 13 && slice_index z 0 == 10)
+  where
+    by_test : (t : Bool) → IsUtf8 (cond t [] (b ∷ []))
+    by_test true = IsUtf8-nil
+    by_test false = one_utf8 b low
+
+feeds-chars : (cs : List ℕ) → scalars cs ≡ true → IsUtf8 (with_feeds (encodes cs))
+feeds-chars [] h = IsUtf8-nil
+feeds-chars (c ∷ cs) h =
+    let r = and_parts (scalar c) (scalars cs) h in
+    let rest : IsUtf8 (with_feeds (encodes cs)) = feeds-chars cs r.1 in
+    elim (cases_lt c 128) [
+      | inl low ↦
+          let e : with_feeds (encode c ++ encodes cs) ≡ byte_before c (encodes cs) ++ with_feeds (encodes cs) = ap (λ (v : Bytes). with_feeds (v ++ encodes cs)) (encode_ascii c low) in
+          subst IsUtf8 (sym e) (IsUtf8-append (byte_before c (encodes cs)) (with_feeds (encodes cs)) (byte-utf8 c (encodes cs) low) rest)
+      | inr high ↦
+          let e : with_feeds (encode c ++ encodes cs) ≡ encode c ++ with_feeds (encodes cs) =
+          feeds-plain (encode c) (encodes cs) (λ i lt. above (slice_index (encode c) i) (encode-high c high i lt)) in
+          subst IsUtf8 (sym e) (IsUtf8-append (encode c) (with_feeds (encodes cs)) (IsUtf8-encode c r.0) rest)
+    ]
+  where
+    above : (b : ℕ) → 128 ≤ b → b ≢ 13
+    above b h = λ e. omega arith
+
+feeds-utf8 : (z : Bytes) → IsUtf8 z → IsUtf8 (with_feeds z)
+feeds-utf8 z (cs, (all, e)) = subst (λ (v : Bytes). IsUtf8 (with_feeds v)) e (feeds-chars cs all)
+
 value-utf8 : (w : Bytes) → IsText w → IsUtf8 w → IsUtf8 (text_value w)
 unfolding text_value
 value-utf8 w is u = by_mark (slice_index w 0 == 114)
   where
-    by_mark : (b : Bool) → IsUtf8 (cond b (content w) (unescaped 0 (content w)))
-    by_mark true = content-utf8 w is u
-    by_mark false = unescaped-utf8 (length (content w)) (content w) (omega arith) (content-utf8 w is u)
+    lines : IsUtf8 (lines_in w)
+    lines = feeds-utf8 (content w) (content-utf8 w is u)
+
+    by_mark : (b : Bool) → IsUtf8 (cond b (lines_in w) (unescaped 0 (lines_in w)))
+    by_mark true = lines
+    by_mark false = unescaped-utf8 (length (lines_in w)) (lines_in w) (omega arith) lines
 
 -- ---- symbols
 

@@ -67,7 +67,7 @@ escaped-high (b ∷ w) h =
     let one : escape b ≡ b ∷ [] = rw (apart_from b 34 (omega arith), apart_from b 92 (omega arith), apart_from b 10 (omega arith), apart_from b 13 (omega arith)) refl in
     ap (λ (v : Bytes). v ++ escaped w) one ∙ ap (λ (v : Bytes). b ∷ v) (escaped-high w (λ i l. h (suc i) (omega arith)))
 
-encode-high : (c : ℕ) → 128 ≤ c → (i : ℕ) → i < length (encode c) → 128 ≤ slice_index (encode c) i
+pub encode-high : (c : ℕ) → 128 ≤ c → (i : ℕ) → i < length (encode c) → 128 ≤ slice_index (encode c) i
 encode-high c high i within = elim (cases_lt (slice_index (encode c) i) 128) [
   | inl low ↦ let same : c ≡ slice_index (encode c) i = inside_one c [] (encode c) i (sym (append-nil (encode c))) within low in absurd (omega arith)
   | inr h ↦ h

@@ -52,16 +52,16 @@ built_forms part h = neither (outputs_form part.outputs) (inputs_form part.input
 
 -- ## Outputs
 
-no_flags : (flags : List Flag) → flag_form flags ≡ None → flags ≡ []
+pub no_flags : (flags : List Flag) → flag_form flags ≡ None → flags ≡ []
 no_flags [] h = refl
 no_flags (f ∷ flags) h = absurd (some_none _ h)
 
-item_plain : (os : List FlaggedText) (o : FlaggedText) → item_form os ≡ None → IsIn os o → flag_form o.flags ≡ None
+pub item_plain : (os : List FlaggedText) (o : FlaggedText) → item_form os ≡ None → IsIn os o → flag_form o.flags ≡ None
 item_plain [] o h i = absurd i
 item_plain (x ∷ os) o h (inl e) = ap (λ (y : FlaggedText). flag_form y.flags) e ∙ (neither (flag_form x.flags) (item_form os) h).0
 item_plain (x ∷ os) o h (inr i) = item_plain os o (neither (flag_form x.flags) (item_form os) h).1 i
 
-outputs_plain : (is : List OutPart) (i : OutPart) → outputs_form is ≡ None → IsIn is i → item_form i.outs ≡ None
+pub outputs_plain : (is : List OutPart) (i : OutPart) → outputs_form is ≡ None → IsIn is i → item_form i.outs ≡ None
 outputs_plain [] i h k = absurd k
 outputs_plain (x ∷ is) i h (inl e) = ap (λ (y : OutPart). item_form y.outs) e ∙ (neither (item_form x.outs) (outputs_form is) h).0
 outputs_plain (x ∷ is) i h (inr k) = outputs_plain is i (neither (item_form x.outs) (outputs_form is) h).1 k

@@ -20,8 +20,10 @@ use Rattle.smk_succeed.specs.Completing.{NoMemory as OfMemory}
 use Rattle.smk_laws_complete.specs.Derived.{GathersAlone}
 use Rattle.smk_whole.specs.Complete.{EndsComplete}
 use Rattle.smk_whole.specs.Calls.{AllIsWell, BrokenOff, CallIsComplete, IsCleanCall, ListingIsComplete, MayTell, PlanRefused}
-use Rattle.smk_whole.proofs.Plain.{built_flows_gather_alone, built_plans_are_plain}
+use Rattle.smk_whole.proofs.Plain.{built_plans_are_plain}
 use Rattle.smk_serve.proofs.Plain.{neither}
+use Rattle.smk_eval_files.specs.Looks.{Nodes}
+use Rattle.smk_laws_reading.proofs.Alone.{read_flows_gather_alone}
 use Rattle.smk_whole.proofs.Working.{listed_ends, refused_plans_may_stop, want_stops, work_is_complete}
 
 -- ## What is asked of a run
@@ -31,8 +33,12 @@ none_mapped f None h = refl
 none_mapped f (Some x) h = cc
 
 -- all its forms are built
-asked_built : (words : RunWords) (nodes : _) (asked : Asked) → IsAskedIn true words nodes (Ok asked) → unbuilt asked.flow.rules ≡ None
+asked_built : (words : RunWords) (nodes : Nodes) (asked : Asked) → IsAskedIn true words nodes (Ok asked) → unbuilt asked.flow.rules ≡ None
 asked_built words nodes asked h = none_mapped (not_built asked.file) (unbuilt asked.flow.rules) (neither _ _ h.1).0
+
+-- what is asked of a workflow that reads gathers alone
+gathers_alone : (run : Bool) (words : RunWords) (nodes : Nodes) (asked : Asked) → IsAskedIn run words nodes (Ok asked) → GathersAlone asked.flow
+gathers_alone run words nodes asked h = read_flows_gather_alone nodes asked.file words.sets asked.flow h.0.1
 
 -- ## What is told of an answer
 
@@ -51,36 +57,32 @@ ended read run words w (Err f) h = BrokenOff f h
 -- a refusal is one of the plan
 refused_tells :
     (act : Act) (read : List ℕ → Option Record) (run : Bool) (words : RunWords) (w : World) (H : Versions) (f : Fault) →
-    IsCleanCall act read run words w H → ((asked : Asked) → IsAskedIn run words w.nodes (Ok asked) → GathersAlone asked.flow) →
-    IsRefusal read run words w f → MayTell read run words w (Some f)
-refused_tells act read run words w H f clean alone (OfWorkflow fails) = absurd (clean.unrefused f fails)
-refused_tells act read run words w H f clean alone (OfPlan asked is refused) =
+    IsCleanCall act read run words w H → IsRefusal read run words w f → MayTell read run words w (Some f)
+refused_tells act read run words w H f clean (OfWorkflow fails) = absurd (clean.unrefused f fails)
+refused_tells act read run words w H f clean (OfPlan asked is refused) =
     PlanRefused asked f is
-    (refused_plans_may_stop act read asked words w H f (record { sound = clean.sound; alone = alone asked is; values = clean.values asked is }) refused)
+    (refused_plans_may_stop act read asked words w H f (record { sound = clean.sound; alone = gathers_alone run words w.nodes asked is; values = clean.values asked is }) refused)
 
 pub call_is_complete : CallIsComplete
 call_is_complete act read words w v H told old new out_old out_new at end clean never served =
     told_of read true words w served.answer told (go served.serves) served.told_is
   where
-    alone : (asked : Asked) → IsAskedIn true words w.nodes (Ok asked) → GathersAlone asked.flow
-    alone asked is = built_flows_gather_alone asked.flow (asked_built words w.nodes asked is)
-
     go :
         Went act words.cores served.answer (IsRefusal read true words w) (IsToServe read true words w) old new out_old out_new →
         MayTell read true words w (fault_of served.answer)
     go (Refused f e refused kept) =
-        subst (λ r. MayTell read true words w (fault_of r)) (sym e) (refused_tells act read true words w H f clean alone refused)
+        subst (λ r. MayTell read true words w (fault_of r)) (sym e) (refused_tells act read true words w H f clean refused)
     go (Stopped f e want kept) =
         subst (λ r. MayTell read true words w (fault_of r)) (sym e) (BrokenOff f (want_stops f want))
     go (Worked asked told planned worked) =
         let is = planned.is_asked in
         ended read true words w served.answer
         (work_is_complete act read asked told words w v H served.answer old new out_old out_new at end
-        (record { sound = clean.sound; alone = alone asked is; values = clean.values asked is }) planned.plan
+        (record { sound = clean.sound; alone = gathers_alone true words w.nodes asked is; values = clean.values asked is }) planned.plan
         (λ plan last. built_plans_are_plain asked.flow _ _ _ _ plan (asked_built words w.nodes asked is) last) never worked)
 
 pub listing_is_complete : ListingIsComplete
-listing_is_complete act read words w H told old new out_old out_new clean alone served =
+listing_is_complete act read words w H told old new out_old out_new clean served =
     told_of read false words w served.answer told (go served.answer served.serves.1) served.told_is
   where
     go :

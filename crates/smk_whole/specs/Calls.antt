@@ -17,7 +17,7 @@ use Rattle.smk_cli_entry.specs.Entry.{FailsToAsk, IsAskedIn}
 use Rattle.smk_plan_preview.specs.Previewing.{rules_for}
 use Rattle.smk_serve.specs.Serving.{settings_of}
 use Rattle.smk_cli.specs.Whole.{HasServed}
-use Rattle.smk_laws_complete.specs.Derived.{AllHaveValues, GathersAlone}
+use Rattle.smk_laws_complete.specs.Derived.{AllHaveValues}
 use Rattle.smk_laws_complete.specs.Planned.{MayStop}
 use Rattle.smk_succeed.specs.Completing.{MayBreakOff}
 use Rattle.smk_whole.specs.Complete.{setting_in}
@@ -50,11 +50,10 @@ CallIsComplete =
     (Rose old.faults new.faults → ⊥) →
     HasServed act read (Run words) w told old new out_old out_new → MayTell read true words w told
 
--- Nor does a call for a listing, of a workflow in which an item that gathers has no texts besides.
+-- Nor does a call for a listing.
 abbrev pub ListingIsComplete : Type 0
 ListingIsComplete =
     (act : Act) (read : List ℕ → Option Record) (words : RunWords) (w : World) (H : Versions) (told : Option Fault)
     (old new : Device) (out_old out_new : Sunk) →
     IsCleanCall act read false words w H →
-    ((asked : Asked) → IsAskedIn false words w.nodes (Ok asked) → GathersAlone asked.flow) →
     HasServed act read (Preview words) w told old new out_old out_new → MayTell read false words w told

@@ -1,0 +1,196 @@
+-- What a run puts, and that what it calls current is clean.
+use Rattle.std.proofs.Common.{◌≡◌, ◌⊎◌, ℕ, suc, Bool, true, false, List, [], ◌∷◌, ◌++◌, refl, ap, sym, subst, ◌∙◌, inl, inr, append_assoc, append-nil, Option, Some, None, Result, Ok, Err, true≢false}
+use Rattle.std.specs.Prelude.{slice_get, get_or, is_some}
+use Rattle.smk_world.specs.World.{World, out_paths, run}
+use Rattle.smk_world.specs.Devices.{Device, Sunk, HasActed, HasLooked}
+use Rattle.smk_world.specs.Trees.{Path, Each, IsIn, among, folder_over}
+use Rattle.smk_flow.specs.declared.job.Job.{Job}
+use Rattle.smk_record.specs.Spelling.{ReadsRecords}
+use Rattle.smk_store.specs.declared.fault.StoreFault.{StoreFault}
+use Rattle.smk_store.specs.Faults.{store_failed}
+use Rattle.smk_store.specs.Images.{seen}
+use Rattle.smk_store.specs.Serials.{next_serial}
+use Rattle.smk_store.specs.Soundness.{Outside, SoundWorld}
+use Rattle.smk_store.specs.Steadying.{HasTried, steady_requests}
+use Rattle.smk_store.specs.Trust.{Versions}
+use Rattle.smk_trigger.specs.declared.reason.State.{State}
+use Rattle.smk_trigger.specs.JobStates.{is_to_run}
+use Rattle.smk_pick.specs.declared.settings.Force.TheVariants.{No}
+use Rattle.smk_pick.specs.declared.settings.Settings.{Settings}
+use Rattle.smk_plan.specs.States.{Plan, IsPlan, makes, nothing_done, staged, state_of}
+use Rattle.smk_plan.specs.declared.duty.Duty.{Duty}
+use Rattle.smk_plan.specs.Duties.{maker_in}
+use Rattle.smk_laws_plan.specs.Current.{IsClean}
+use Rattle.smk_report.specs.declared.fault.Fault.{Fault}
+use Rattle.smk_report.specs.Lines.{Text}
+use Rattle.smk_words_reading.specs.declared.asked.RunWords.{RunWords}
+use Rattle.smk_cli_entry.specs.declared.asking.Asked.{Asked}
+use Rattle.smk_run.specs.declared.tally.Tally.{Tally}
+use Rattle.smk_run.specs.Duties.{Due, due, serial_of}
+use Rattle.smk_run.specs.Reports.{IsFront, IsReport, report_of}
+use Rattle.smk_run.specs.Runs.{IsOutcome as IsRunOutcome, is_whole}
+use Rattle.smk_run.specs.Turns.{Turn, is_closed, is_done}
+use Rattle.smk_make.specs.After.{AreCurrent, due_before, turn_at}
+use Rattle.smk_make.specs.Closing.{counts_line, is_current, lines_by}
+use Rattle.smk_make.specs.Making.{AreWhatIsMeant, GoesOn, NotFirm, NoMemory, Made, IsText}
+use Rattle.smk_plan_preview.specs.declared.previewing.Previewed.{Previewed}
+use Rattle.smk_plan_preview.specs.Previewing.{plan_of}
+use Rattle.smk_serve.specs.Serving.{Went, Refused, Stopped, Worked, settings_of}
+use Rattle.smk_cli.specs.Whole.{IsRefusal, IsToServe}
+use Rattle.smk_safe.specs.Planned.{IsFit, IsPlain}
+use Rattle.smk_safe.proofs.Planned as by_plan
+use Rattle.smk_exit.specs.Exit.{IsDueRun}
+use Rattle.smk_exit.proofs.Dues.{get_in}
+use Rattle.smk_laws_plan.proofs.CurrentLists.{or_first}
+use Rattle.smk_laws_plan.proofs.CurrentPaths.{in_among}
+use Rattle.smk_laws_history.proofs.CurrentComplete.{seen_is_complete}
+use Rattle.smk_clean.specs.Clean.{setting_in}
+use Rattle.smk_clean.proofs.Clean as clean
+use Rattle.smk_clean.proofs.Fit.{all_fit}
+use Rattle.smk_clean.proofs.Safe.{Answer, IsTurnRun, started, turns_run}
+use Rattle.smk_clean.proofs.Told as told_of
+use Rattle.smk_laws_call.specs.Telling.{Tells, Nothing, Lines, HasPutSo}
+use Rattle.smk_laws_call.proofs.Exit.{targets_clean}
+use Rattle.smk_laws_call.proofs.Temps.{no_temps}
+use Rattle.smk_laws_call.proofs.Turns.{done_turn, has_turn}
+
+-- ## Fronts
+
+front_of : (whole : Bool) (text all : Text) → IsReport whole all text → IsFront text all
+front_of true text all h = ([], sym (append-nil text ∙ h))
+front_of false text all h = h
+
+more_front : (text all rest : Text) → IsFront text all → IsFront text (all ++ rest)
+more_front text all rest (after, is) = (after ++ rest, ap (λ t. t ++ rest) is ∙ append_assoc text after rest)
+
+joined_front : (before text all : Text) → IsFront text all → IsFront (before ++ text) (before ++ all)
+joined_front before text all (after, is) = (after, ap (λ t. before ++ t) is ∙ sym (append_assoc before text after))
+
+-- nothing was put
+put_nothing : (o : Outside) (words : RunWords) (w v : World) (p q : Sunk) → q ≡ p → HasPutSo p q (Tells o words w v)
+put_nothing o words w v p q same now there = (now, sym (ap (λ (x : Sunk). x.put) same) ∙ there, ([], Nothing refl, sym (append-nil now)))
+
+no_tally : Tally
+no_tally = record { started = 0; done = 0; failed = 0; first = None }
+
+module _
+    (o : Outside) (H : Versions) (w : World) (sound : SoundWorld o w H) (reads : ReadsRecords o.read) (words : RunWords) (free : words.force ≡ No)
+    (asked : Asked) (told : Previewed) (to_serve : IsToServe o.read true words w asked told) where
+  abbrev plan : Plan
+  plan = plan_of told
+
+  abbrev settings : Settings
+  settings = settings_of asked words
+
+  abbrev st : Job → State
+  st j = state_of (seen o.read w) settings nothing_done plan j
+
+  planned : IsPlan asked.flow (seen o.read w) settings nothing_done plan
+  planned = clean.planned o H w sound reads words asked told to_serve
+
+  plainly : Each IsPlain plan.jobs
+  plainly = clean.plainly o H w sound reads words asked told to_serve
+
+  temps : Each (λ (j : Job). j.temps ≡ []) plan.jobs
+  temps =
+      no_temps asked.flow (seen o.read w) settings nothing_done plan (seen_is_complete o.read w sound.formed)
+      (clean.all_built o H w sound reads words asked told to_serve) planned
+
+  -- ## Targets
+
+  module _
+      (v : World) (duties : List Duty) (ts : List Turn) (meant : AreWhatIsMeant told.jobs told.plan.states told.store duties) (fit : Each IsFit ts)
+      (r : IsTurnRun o H w sound reads words asked told to_serve v duties ts) (closed : Each (λ (t : Turn). is_closed t.course ≡ true) ts) (after : List Bool)
+      (current : AreCurrent told.jobs.befores duties ts after) where
+    abbrev ran : IsDueRun o w H asked.flow settings plan ts r.es
+    ran = clean.ran o H w sound reads words asked told to_serve v duties ts meant fit r
+
+    abbrev RestsOrDone : Job → Type 0
+    RestsOrDone k = (is_to_run (st k) ≡ false) ⊎ ((t : Turn) × IsIn ts t × (t.job ≡ k) × (is_done t.course ≡ true))
+
+    -- the job of a target that is told current rests, or is done
+    rests_or_done :
+        (p : Path) → IsIn asked.targets p → is_current after (maker_in told.jobs.makers p) ≡ true →
+        (k : Job) → IsIn plan.jobs k → IsIn (out_paths k.recipe) p → RestsOrDone k
+    rests_or_done p target is k ik ip = go (is_to_run (st k)) refl
+      where
+        makes_it : makes k p ≡ true
+        makes_it = or_first (among (out_paths k.recipe) p) (is_some (folder_over k.recipe p)) (in_among (out_paths k.recipe) p ip)
+
+        number : (n : ℕ) × (maker_in told.jobs.makers p ≡ Some n) × (slice_get (staged plan) n ≡ Some (k, st k))
+        number =
+            told_of.target_told (seen o.read w) settings told.jobs told.plan.states planned.states asked.targets to_serve.plan.served p target (k, st k)
+            (by_plan.maker_known o w asked.flow settings plan sound.formed planned plainly k p ik makes_it)
+
+        go : (b : Bool) → is_to_run (st k) ≡ b → RestsOrDone k
+        go false e = inl e
+        go true e =
+            let turn =
+            has_turn (seen o.read w) (serial_of (Some (suc ran.top)) ran.duties) ran.cores 0 plan.jobs plan.states ran.duties ts number.0 k (st k) ran.meant ran.in_order
+            number.2 e in
+            let told_so : get_or after number.0 false ≡ true = sym (ap (is_current after) number.1) ∙ is in
+            let done = done_turn (turn_at duties ts number.0) (sym (current.due number.0 turn.due) ∙ told_so) in
+            inr (done.0, get_in ts (due_before duties number.0) done.0 done.1, turn.own done.0 done.1, done.2)
+
+    target_clean : (p : Path) → IsIn asked.targets p → is_current after (maker_in told.jobs.makers p) ≡ true → IsClean (setting_in o w asked.flow) (seen o.read v) p
+    target_clean p target is =
+        subst (λ (x : World). IsClean (setting_in o w asked.flow) (seen o.read x) p) (sym r.is)
+        (targets_clean o w H asked.flow settings plan ts r.es ran free temps closed (clean.fields o H w sound reads words asked told to_serve) to_serve.plan.last p target
+        (rests_or_done p target is))
+
+  -- ## The text
+
+  tells_text :
+      (v : World) (duties : List Duty) (ts : List Turn) (meant : AreWhatIsMeant told.jobs told.plan.states told.store duties) (fit : Each IsFit ts)
+      (r : IsTurnRun o H w sound reads words asked told to_serve v duties ts) (dues : List Due) (bad : Bool) (ended : Result Tally Fault) (answer : Answer) (text : Text) →
+      IsRunOutcome asked.flow dues ts bad ended →
+      IsText o.act asked.flow words.cores asked.targets told.jobs (next_serial told.store) duties ts ended answer text → Tells o words w v text
+  tells_text v duties ts meant fit r dues bad (Err f) answer text outcome is =
+      Lines asked ts (λ p. false) no_tally to_serve.is_asked
+      (more_front text (report_of asked.flow ts) (lines_by (λ p. false) asked.targets ++ counts_line no_tally) (front_of (is_whole answer) text (report_of asked.flow ts) is))
+      (λ p i c. absurd (true≢false (sym c)))
+  tells_text v duties ts meant fit r dues bad (Ok tally) answer text outcome (last, is, inl (short, none)) =
+      Lines asked ts (λ p. false) tally to_serve.is_asked
+      (subst (λ t. IsFront t (report_of asked.flow ts ++ (lines_by (λ p. false) asked.targets ++ counts_line tally))) (sym is)
+      (joined_front (report_of asked.flow ts) last (lines_by (λ p. false) asked.targets ++ counts_line tally)
+      (lines_by (λ p. false) asked.targets ++ counts_line tally, ap (λ t. t ++ (lines_by (λ p. false) asked.targets ++ counts_line tally)) (sym none))))
+      (λ p i c. absurd (true≢false (sym c)))
+  tells_text v duties ts meant fit r dues bad (Ok tally) answer text outcome (last, is, inr (after, current, report)) =
+      let told_current : Path → Bool = λ p. is_current after (maker_in told.jobs.makers p) in
+      let closing = lines_by told_current asked.targets ++ counts_line tally in
+      Lines asked ts told_current tally to_serve.is_asked
+      (subst (λ t. IsFront t (report_of asked.flow ts ++ closing)) (sym is)
+      (joined_front (report_of asked.flow ts) last closing (front_of (is_whole answer) last closing report)))
+      (λ p i c. target_clean v duties ts meant fit r outcome.1.closed after current p i c)
+
+  goes_tells :
+      (answer : Answer) (v : World) (old looked firm new : Device) (p q : Sunk) (settled : Result (Unit {0}) StoreFault) (bad : Bool) → old.world ≡ Some w → new.world ≡ Some v →
+      HasLooked o.act old looked false → HasActed o.act (HasTried (steady_requests told.store) settled) looked firm bad →
+      GoesOn o.act asked.flow words.cores asked.targets told.jobs told.plan.states told.store answer firm new p q settled → HasPutSo p q (Tells o words w v)
+  goes_tells answer v old looked firm new p q settled bad at ends looking settling (NotFirm f is same unput) = put_nothing o words w v p q unput
+  goes_tells answer v old looked firm new p q settled bad at ends looking settling (NoMemory u is same unput) = put_nothing o words w v p q unput
+  goes_tells answer v old looked firm new p q settled bad at ends looking settling (Made u duties for meant made) =
+      let d = made.ran.did v ends in
+      let start = started o H w sound d.0 old looked firm (HasTried (steady_requests told.store) (Ok u)) bad at looking settling d.1 in
+      let run_is = turns_run o H w sound reads words asked told to_serve u d.0 v duties made.turns d.2.0 start made.in_order d.2.1 d.2.2 d.2.3 in
+      let fit = all_fit made.turns made.fits in
+      λ now there.
+      let x = made.text.told now there in (
+        x.0,
+        x.1,
+        (
+          x.2.0,
+          tells_text v duties made.turns meant fit run_is (due (next_serial told.store) duties told.jobs.jobs) made.failed made.ended answer x.2.0 made.answer x.2.1,
+          x.2.2,
+        ),
+      )
+
+pub went_tells :
+    (o : Outside) (H : Versions) (w v : World) (sound : SoundWorld o w H) (reads : ReadsRecords o.read) (words : RunWords) (free : words.force ≡ No) (answer : Answer)
+    (old new : Device) (p q : Sunk) → old.world ≡ Some w → new.world ≡ Some v →
+    Went o.act words.cores answer (IsRefusal o.read true words w) (IsToServe o.read true words w) old new p q → HasPutSo p q (Tells o words w v)
+went_tells o H w v sound reads words free answer old new p q at ends (Refused f is why looked) = put_nothing o words w v p q looked.unput
+went_tells o H w v sound reads words free answer old new p q at ends (Stopped f is want looked) = put_nothing o words w v p q looked.unput
+went_tells o H w v sound reads words free answer old new p q at ends (Worked asked told plans worked) =
+    goes_tells o H w sound reads words free asked told plans answer v old worked.looked worked.carried.firm new p q worked.carried.settled
+    (store_failed worked.carried.settled) at ends worked.looking worked.carried.settling worked.carried.goes_on
