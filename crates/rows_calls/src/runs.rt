@@ -94,7 +94,8 @@ pub fn push_rows<Rt: Threads + Sync>(
         ("a target that no rule makes", COPY, "z"),
         ("an input that no rule makes", TWO_INPUTS, "out.txt"),
         ("a source as the target", COPY, "in.txt"),
-        ("words that aren't read", COPY, "-n"),
+        ("words that aren't read", COPY, "-x"),
+        ("a listing", COPY, "-n"),
     ] {
         push_row(text, name, &told(rt, alloc, workflow, target))?;
     }

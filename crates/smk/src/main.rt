@@ -1,6 +1,9 @@
 //! The command `smk`: it makes the real devices, and ends with the status of the call on them.
 #![tactic(auto)]
 
+mod help;
+
+use help::HELP;
 use smk_cli::smk;
 use smk_world_real::{RealSink, RealWork};
 use std::alloc::{AllocError, Global};
@@ -8,9 +11,6 @@ use std::io::ErrorKind;
 use std::process::ExitCode;
 use std::rt::Env;
 use std::{env, io};
-
-const HELP: &str =
-    "smk --cores N [TARGET ...]\nsmk -n [TARGET ...]\n\nMakes the targets, which are paths or rules' names, by the workflow of the working folder: its file is the first that is there of\nSnakefile, snakefile, workflow/Snakefile and workflow/snakefile. Without a target the rule with `default_target: True` is made, else the\nfirst rule. Only jobs run that an edit has touched or whose outputs\nare gone; they run one after another, and N, from 1 to 4096, bounds the threads that a command is told.\n\nWith -n it lists what a run would do and why, and changes nothing.\n\n--help and --version, alone, tell of the program.\n";
 
 const VERSION: &str = "smk 0.1.0\n";
 

@@ -19,7 +19,7 @@ use Rattle.smk_run.specs.Duties.{Due, due, due_from}
 use Rattle.smk_plan.specs.Duties.{AreFor}
 use Rattle.smk_run.specs.Runs.{AreInOrder}
 use Rattle.smk_run.specs.Turns.{Turn}
-use Rattle.smk_words.specs.declared.words.RunWords.{RunWords}
+use Rattle.smk_words_reading.specs.declared.asked.RunWords.{RunWords}
 use Rattle.smk_cli_entry.specs.declared.asking.Asked.{Asked}
 use Rattle.smk_cli_entry.specs.Entry.{IsAskedIn}
 use Rattle.smk_make.specs.Making.{GoesOn, NotFirm, NoMemory, Made}
@@ -56,19 +56,19 @@ states_same : (a b : Plan) → a ≡ b → a.states ≡ b.states
 states_same a b e = ap (λ (p : Plan). p.states) e
 
 module _ (o : Outside) (words : RunWords) (w v : World) (formed : IsFormed v) (left : HasNoneLeft o words w v)
-    (same : (asked : Asked) → IsAskedIn true words.targets w.nodes (Ok asked) → IsAskedIn true words.targets v.nodes (Ok asked)) where
+    (same : (asked : Asked) → IsAskedIn true words w.nodes (Ok asked) → IsAskedIn true words v.nodes (Ok asked)) where
   -- the plan that is made again is the one that was left
-  plan_again : (asked : Asked) (told : Previewed) → IsToServe o.read true words.targets words.cores v asked told → plan_of told ≡ left.plan
+  plan_again : (asked : Asked) (told : Previewed) → IsToServe o.read true words v asked told → plan_of told ≡ left.plan
   plan_again asked told serve =
-      let is : asked ≡ left.asked = asked_same true words.targets v.nodes asked left.asked serve.is_asked (same left.asked left.is_asked) in
-      one_last_plan left.asked.flow (seen o.read v) (settings_of left.asked words.cores) nothing_done [] (plan_of told) left.plan (seen_is_complete o.read v formed)
-      (subst (λ (a : Asked). LastPlan a.flow (seen o.read v) (settings_of a words.cores) nothing_done [] (plan_of told)) is serve.plan.last) (left.last [])
+      let is : asked ≡ left.asked = asked_same true words v.nodes asked left.asked serve.is_asked (same left.asked left.is_asked) in
+      one_last_plan left.asked.flow (seen o.read v) (settings_of left.asked words) nothing_done [] (plan_of told) left.plan (seen_is_complete o.read v formed)
+      (subst (λ (a : Asked). LastPlan a.flow (seen o.read v) (settings_of a words) nothing_done [] (plan_of told)) is serve.plan.last) (left.last [])
 
-  clean_again : (asked : Asked) (told : Previewed) → IsToServe o.read true words.targets words.cores v asked told → told.plan.states ≡ map (λ (j : Job). Clean) left.plan.jobs
+  clean_again : (asked : Asked) (told : Previewed) → IsToServe o.read true words v asked told → told.plan.states ≡ map (λ (j : Job). Clean) left.plan.jobs
   clean_again asked told serve = states_same (plan_of told) left.plan (plan_again asked told serve) ∙ left.clean
 
   none_made :
-      (asked : Asked) (told : Previewed) → IsToServe o.read true words.targets words.cores v asked told → (answer : Result (Unit {0}) Fault) (old new : Device) (p q : Sunk)
+      (asked : Asked) (told : Previewed) → IsToServe o.read true words v asked told → (answer : Result (Unit {0}) Fault) (old new : Device) (p q : Sunk)
       (settled : Result (Unit {0}) StoreFault) (g : GoesOn o.act asked.flow words.cores asked.targets told.jobs told.plan.states told.store answer old new p q settled) → turns_made g ≡ []
   none_made asked told serve answer old new p q settled (NotFirm f is unchanged unput) = refl
   none_made asked told serve answer old new p q settled (NoMemory u is unchanged unput) = refl
@@ -77,7 +77,7 @@ module _ (o : Outside) (words : RunWords) (w v : World) (formed : IsFormed v) (l
 
   none_went :
       (answer : Result (Unit {0}) Fault) (old new : Device) (p q : Sunk)
-      (h : Went o.act words.cores answer (IsRefusal o.read true words.targets words.cores v) (IsToServe o.read true words.targets words.cores v) old new p q) → turns_went h ≡ []
+      (h : Went o.act words.cores answer (IsRefusal o.read true words v) (IsToServe o.read true words v) old new p q) → turns_went h ≡ []
   none_went answer old new p q (Refused f is why looked) = refl
   none_went answer old new p q (Stopped f is want looked) = refl
   none_went answer old new p q (Worked asked told plans worked) =

@@ -1,10 +1,10 @@
 -- What is asked of a folder is one thing, and it isn't refused too.
-use Rattle.std.proofs.Common.{◌≡◌, ◌⊎◌, inl, inr, Bool, List, [], ap, sym, subst, ◌∙◌, Some, None, Result, Ok, Err}
+use Rattle.std.proofs.Common.{◌≡◌, ◌⊎◌, inl, inr, Bool, ap, sym, subst, ◌∙◌, Some, None, Result, Ok, Err}
 use Rattle.smk_world.specs.Trees.{Path}
-use Rattle.smk_pattern.specs.Shapes.{Text}
 use Rattle.smk_flow.specs.Flows.{Flow}
 use Rattle.smk_flow.specs.Targets.{all_paths}
 use Rattle.smk_flow.proofs.NoFault.{no_fault}
+use Rattle.smk_words_reading.specs.declared.asked.RunWords.{RunWords}
 use Rattle.smk_eval_files.specs.Looks.{Nodes}
 use Rattle.smk_flaws.specs.declared.fault.LoadFault.{LoadFault}
 use Rattle.smk_eval.specs.Loading.{loaded, Gives, FailsAs}
@@ -28,18 +28,18 @@ flow_none a f e = cc
 fault_none : (f : Fault) → Some f ≡ None → ⊥
 fault_none f e = cc
 
--- a folder has one workflow
-read_same : (nodes : Nodes) (r s : Reading) → IsRead nodes (Ok r) → IsRead nodes (Ok s) → r ≡ s
-read_same nodes r s a b =
+-- words ask by one workflow
+read_same : (words : RunWords) (nodes : Nodes) (r s : Reading) → IsRead words nodes (Ok r) → IsRead words nodes (Ok s) → r ≡ s
+read_same words nodes r s a b =
     let file : r.file ≡ s.file = file_same r.file s.file (sym a.0 ∙ b.0) in
-    let flow : r.flow ≡ s.flow = flow_same r.flow s.flow (sym a.1.0 ∙ (ap (λ p. loaded nodes p []) file ∙ b.1.0)) in
+    let flow : r.flow ≡ s.flow = flow_same r.flow s.flow (sym a.1.0 ∙ (ap (λ p. loaded nodes p words.sets) file ∙ b.1.0)) in
     λ i. record { file = file i; flow = flow i }
 
 -- words ask for one thing
-pub asked_same : (run : Bool) (words : List Text) (nodes : Nodes) (a b : Asked) → IsAskedIn run words nodes (Ok a) → IsAskedIn run words nodes (Ok b) → a ≡ b
+pub asked_same : (run : Bool) (words : RunWords) (nodes : Nodes) (a b : Asked) → IsAskedIn run words nodes (Ok a) → IsAskedIn run words nodes (Ok b) → a ≡ b
 asked_same run words nodes a b h k =
-    let same : reading_of a ≡ reading_of b = read_same nodes (reading_of a) (reading_of b) h.0 k.0 in
-    let targets : a.targets ≡ b.targets = h.2 ∙ (ap (λ (r : Reading). all_paths r.flow (asked_words words r)) same ∙ sym k.2) in
+    let same : reading_of a ≡ reading_of b = read_same words nodes (reading_of a) (reading_of b) h.0 k.0 in
+    let targets : a.targets ≡ b.targets = h.2 ∙ (ap (λ (r : Reading). all_paths r.flow (asked_words words.targets r)) same ∙ sym k.2) in
     λ i. record { file = (same i).file; flow = (same i).flow; targets = targets i }
 
 -- a workflow that is read isn't refused
@@ -50,11 +50,11 @@ flow_unrefused said flow e gives (inr k) =
     no_fault flow.rules flow.orders fails.1.0 gives.1 fails.1.1
 
 -- what is asked isn't refused
-pub asked_unrefused : (run : Bool) (words : List Text) (nodes : Nodes) (f : Fault) (a : Asked) → FailsToAsk run words nodes f → IsAskedIn run words nodes (Ok a) → ⊥
+pub asked_unrefused : (run : Bool) (words : RunWords) (nodes : Nodes) (f : Fault) (a : Asked) → FailsToAsk run words nodes f → IsAskedIn run words nodes (Ok a) → ⊥
 asked_unrefused run words nodes f a (inl (inl none)) h = file_none a.file f (sym h.0.0 ∙ none)
 asked_unrefused run words nodes f a (inl (inr (file, is, (e, told, gives, same)))) h =
     let here : a.file ≡ file = file_same a.file file (sym h.0.0 ∙ is) in
-    flow_unrefused (loaded nodes file []) a.flow e (subst (λ p. Gives (loaded nodes p []) (Ok a.flow)) here h.0.1) (gives told)
+    flow_unrefused (loaded nodes file words.sets) a.flow e (subst (λ p. Gives (loaded nodes p words.sets) (Ok a.flow)) here h.0.1) (gives told)
 asked_unrefused run words nodes f a (inr (reading, is, refused)) h =
-    let same : reading ≡ reading_of a = read_same nodes reading (reading_of a) is h.0 in
-    fault_none f (sym refused ∙ (ap (refused_word run words) same ∙ h.1))
+    let same : reading ≡ reading_of a = read_same words nodes reading (reading_of a) is h.0 in
+    fault_none f (sym refused ∙ (ap (refused_word run words.targets) same ∙ h.1))

@@ -1,5 +1,6 @@
 -- A run that ends without a fault leaves clean values.
 use Rattle.std.proofs.Common.{◌≡◌, inl, inr, ℕ, suc, Bool, true, false, List, [], ◌∷◌, ◌++◌, flat_map, map, zip, length, arith, refl, ap, sym, subst, ◌∙◌, Option, Some, None, Result, Ok, Err, is_none, if◌then◌else◌, true≢false}
+use Rattle.std.proofs.lemmas.Bool.{and_right}
 use Rattle.std.proofs.lemmas.List.{append-nil, length-map}
 use Rattle.smk_world.specs.World.{World, IsFormed, run}
 use Rattle.smk_world.specs.Devices.{Device, Sunk, HasActed, HasLooked}
@@ -16,6 +17,8 @@ use Rattle.smk_store.specs.Soundness.{Outside, SoundWorld, SameSources}
 use Rattle.smk_store.specs.Faults.{store_failed}
 use Rattle.smk_store.specs.Steadying.{HasTried, steady_requests}
 use Rattle.smk_store.specs.Trust.{Versions}
+use Rattle.smk_pick.specs.declared.settings.Force.{Force}
+use Rattle.smk_pick.specs.declared.settings.Force.TheVariants.{No, Targets, All}
 use Rattle.smk_pick.specs.declared.settings.Settings.{Settings}
 use Rattle.smk_trigger.specs.declared.reason.State.{State}
 use Rattle.smk_trigger.specs.JobStates.{is_open}
@@ -39,8 +42,8 @@ use Rattle.smk_run.specs.Duties.{Due, due, due_from}
 use Rattle.smk_run.specs.Reports.{failure, named}
 use Rattle.smk_run.specs.Runs.{IsOutcome as IsRunOutcome, course_failure, first_failure, or_later}
 use Rattle.smk_run.specs.Turns.{Course, Unbegun, Unstarted, Unclosed, Closed, Turn, is_closed, is_done}
-use Rattle.smk_words.specs.declared.words.RunWords.{RunWords}
-use Rattle.smk_words.specs.declared.words.Request.TheVariants.{Run as Asks}
+use Rattle.smk_words_reading.specs.declared.asked.RunWords.{RunWords}
+use Rattle.smk_words_reading.specs.declared.asked.Asked.TheVariants.{Run as Asks}
 use Rattle.smk_cli_entry.specs.declared.asking.Asked.{Asked}
 use Rattle.smk_cli_entry.specs.Forms.{unbuilt}
 use Rattle.smk_make.specs.Closing.{verdict_of}
@@ -49,6 +52,7 @@ use Rattle.smk_make.specs.Making.{AreWhatIsMeant, Concludes, GoesOn, NotFirm, No
 use Rattle.smk_plan_preview.specs.declared.previewing.Previewed.{Previewed}
 use Rattle.smk_plan_preview.specs.Previewing.{plan_of, rules_for}
 use Rattle.smk_serve.specs.Serving.{Went, Refused, Stopped, Worked, settings_of}
+use Rattle.smk_cli.specs.Words.{forces_none, is_built}
 use Rattle.smk_cli.specs.Whole.{HasServed, IsRefusal, IsToServe}
 use Rattle.smk_safe.specs.Planned.{IsPlain, IsFit}
 use Rattle.smk_safe.specs.Safe.{IsSafeRun}
@@ -150,6 +154,17 @@ fields_there rules image plan same shut each none j i =
         some_fault : {f : Fault} {rest : List Fault} → f ∷ rest ≡ [] → ⊥
         some_fault e = cc
 
+-- ## What is built
+
+no_force : (force : Force) → forces_none force ≡ true → force ≡ No
+no_force No e = refl
+no_force Targets e = absurd (true≢false (sym e))
+no_force All e = absurd (true≢false (sym e))
+
+-- a run that is built forces no job
+pub none_forced : (words : RunWords) → is_built (Asks words) ≡ true → words.force ≡ No
+none_forced words built = no_force words.force (and_right built)
+
 -- ## The exit
 
 -- what is so after status 0
@@ -158,37 +173,37 @@ pub record HasEndedWell (o : Outside) (words : RunWords) (w v : World) : Type 0 
   pub none_left : HasNoneLeft o words w v
   pub formed : IsFormed v
 
-module _ (exit : RunLeavesAllClean) (o : Outside) (H : Versions) (w : World) (sound : SoundWorld o w H) (reads : ReadsRecords o.read) (words : RunWords) (asked : Asked) (told : Previewed)
-    (to_serve : IsToServe o.read true words.targets words.cores w asked told) where
-  abbrev plan : Plan
+module _ (o : Outside) (H : Versions) (w : World) (sound : SoundWorld o w H) (reads : ReadsRecords o.read) (words : RunWords) (asked : Asked) (told : Previewed)
+    (to_serve : IsToServe o.read true words w asked told) where
+  abbrev pub plan : Plan
   plan = plan_of told
 
-  abbrev settings : Settings
-  settings = settings_of asked words.cores
+  abbrev pub settings : Settings
+  settings = settings_of asked words
 
-  abbrev rules : Rules
+  abbrev pub rules : Rules
   rules = rules_for o.read asked.flow settings
 
-  abbrev top : ℕ
+  abbrev pub top : ℕ
   top = greatest_serial told.store
 
-  all_built : unbuilt asked.flow.rules ≡ None
-  all_built = asked_built words.targets w.nodes asked to_serve.is_asked
+  pub all_built : unbuilt asked.flow.rules ≡ None
+  all_built = asked_built words w.nodes asked to_serve.is_asked
 
-  planned : IsPlan asked.flow (seen o.read w) settings nothing_done plan
-  planned = is_plan o.read w sound.formed asked all_built words.cores told to_serve.plan
+  pub planned : IsPlan asked.flow (seen o.read w) settings nothing_done plan
+  planned = is_plan o.read w sound.formed asked all_built words told to_serve.plan
 
-  plainly : Each IsPlain plan.jobs
-  plainly = all_plain o.read w sound.formed asked all_built words.cores told to_serve.plan
+  pub plainly : Each IsPlain plan.jobs
+  plainly = all_plain o.read w sound.formed asked all_built words told to_serve.plan
 
-  fields : (j : Job) → IsIn plan.jobs j → is_none (missing j) ≡ true
+  pub fields : (j : Job) → IsIn plan.jobs j → is_none (missing j) ≡ true
   fields =
       fields_there rules (seen o.read w) plan refl (all_shut o w asked.flow settings plan sound.formed planned plainly)
       (ap length planned.states ∙ length-map plan.jobs (state_of (seen o.read w) settings nothing_done plan)) to_serve.plan.unrefused
 
   module _ (v : World) (duties : List Duty) (ts : List Turn) (meant : AreWhatIsMeant told.jobs told.plan.states told.store duties) (fit : Each IsFit ts)
-      (r : IsTurnRun o H w sound reads words.targets asked words.cores told to_serve v duties ts) (all : HaveAllTurns (due (next_serial told.store) duties told.jobs.jobs) ts) where
-    abbrev ran : IsDueRun o w H asked.flow settings plan ts r.es
+      (r : IsTurnRun o H w sound reads words asked told to_serve v duties ts) where
+    abbrev pub ran : IsDueRun o w H asked.flow settings plan ts r.es
     ran = record {
       makers = told.jobs.makers;
       duties = duties;
@@ -199,8 +214,8 @@ module _ (exit : RunLeavesAllClean) (o : Outside) (H : Versions) (w : World) (so
       is_top = is_top o w told.store to_serve.plan.stored;
       planned = planned;
       plain = plainly;
-      meant = duties_meant o.read w sound.formed asked all_built words.cores told to_serve.plan duties meant;
-      told = makers_told o.read w sound.formed asked all_built words.cores told to_serve.plan;
+      meant = duties_meant o.read w sound.formed asked all_built words told to_serve.plan duties meant;
+      told = makers_told o.read w sound.formed asked all_built words told to_serve.plan;
       in_order = r.in_order;
       fit = fit;
       follows = r.follows;
@@ -210,81 +225,83 @@ module _ (exit : RunLeavesAllClean) (o : Outside) (H : Versions) (w : World) (so
     abbrev end : World
     end = run w r.es
 
-    all_is : length ts ≡ length (due (Some (suc top)) duties plan.jobs)
-    all_is = all.all ∙ ap (λ (f : ℕ → Option ℕ). length (due_from f 0 duties told.jobs.jobs)) (firsts_same top duties)
-
     safe : IsSafeRun o w H top ts r.es
-    safe = turns_safe o H w sound reads words.targets asked words.cores told to_serve v duties ts meant fit r
+    safe = turns_safe o H w sound reads words asked told to_serve v duties ts meant fit r
 
-    sound_end : SoundWorld o end H
-    sound_end = safe.at_end all.closed
+    module _ (exit : RunLeavesAllClean) (free : words.force ≡ No) (all : HaveAllTurns (due (next_serial told.store) duties told.jobs.jobs) ts) where
+      all_is : length ts ≡ length (due (Some (suc top)) duties plan.jobs)
+      all_is = all.all ∙ ap (λ (f : ℕ → Option ℕ). length (due_from f 0 duties told.jobs.jobs)) (firsts_same top duties)
 
-    sources_stay : SameSources (seen o.read w) (seen o.read end)
-    sources_stay = sources_now o w end H sound_end (safe.throughout r.es [] (sym (append-nil r.es)))
+      sound_end : SoundWorld o end H
+      sound_end = safe.at_end all.closed
 
-    clean : IsAllClean asked.flow (seen o.read end) settings plan
-    clean = exit o w H asked.flow settings plan ts r.es ran refl (record { all = all_is; done = all.done })
+      sources_stay : SameSources (seen o.read w) (seen o.read end)
+      sources_stay = sources_now o w end H sound_end (safe.throughout r.es [] (sym (append-nil r.es)))
 
-    none_left : HasNoneLeft o words w end
-    none_left =
-        let same : plan.lists ≡ [] = lists_stay o w sound.formed rules all_built [] plan to_serve.plan.last in
-        record {
-          asked = asked;
-          is_asked = to_serve.is_asked;
-          plan = all_clean plan;
-          last = λ begun. subst (λ L. LastPlan asked.flow (seen o.read end) settings (begun_so begun) L (all_clean plan)) same (clean.last begun);
-          clean = refl;
-          current = clean.current;
-        }
+      clean : IsAllClean asked.flow (seen o.read end) settings plan
+      clean = exit o w H asked.flow settings plan ts r.es ran free (record { all = all_is; done = all.done })
 
-    made_clean : HasMadeClean o words w end
-    made_clean =
-        let last : LastPlan asked.flow (seen o.read end) settings nothing_done plan.lists (all_clean plan) =
-        Last (all_clean plan) (clean.planned []) (none_new o end sound_end.formed rules all_built (all_clean plan) (clean.planned [])) in
-        record {
-          asked = asked;
-          is_asked = to_serve.is_asked;
-          targets = each_from (IsClean (setting_in o w asked.flow) (seen o.read end)) asked.targets
-              (λ p i.
-              let c =
-              current_means_clean_in_worlds asked.flow o (λ j. is_none (missing j)) end H settings nothing_done plan.lists (all_clean plan) sound_end
-              (λ j f files there shut gathered told_so. absurd (subst (λ fs. IsIn fs f) (none_gathered j (in_from plan.jobs j there)) (in_from (gathers_from j) f gathered)))
-              last refl (λ j there shut. fields j (in_from plan.jobs j there)) p (contains_from asked.targets p i) (each_in (λ q. is_current (seen o.read end) settings nothing_done (all_clean plan) q ≡ true) asked.targets p (clean.current []) i) in
-              (c.0, c.1, same_values asked.flow o.act (λ j. is_none (missing j)) (seen o.read w) (seen o.read end) (seen_is_complete o.read w sound.formed) (seen_is_complete o.read end sound_end.formed) sources_stay p ∙ c.2));
-          sources = sources_stay;
-        }
-      where
-        none_gathered : (j : Job) → IsIn plan.jobs j → gathers_from j ≡ []
-        none_gathered j i = ap (map (λ (g : Gather). g.folder)) (each_in IsPlain plan.jobs j plainly i).gathers_none
+      none_left : HasNoneLeft o words w end
+      none_left =
+          let same : plan.lists ≡ [] = lists_stay o w sound.formed rules all_built [] plan to_serve.plan.last in
+          record {
+            asked = asked;
+            is_asked = to_serve.is_asked;
+            plan = all_clean plan;
+            last = λ begun. subst (λ L. LastPlan asked.flow (seen o.read end) settings (begun_so begun) L (all_clean plan)) same (clean.last begun);
+            clean = refl;
+            current = clean.current;
+          }
 
-  goes_clean :
-      (u : Unit {0}) (v : World) (old looked firm new : Device) (p q : Sunk) (r : Result (Unit {0}) StoreFault) (bad : Bool) → old.world ≡ Some w → new.world ≡ Some v →
-      HasLooked o.act old looked false → HasActed o.act (HasTried (steady_requests told.store) r) looked firm bad →
-      (g : GoesOn o.act asked.flow words.cores asked.targets told.jobs told.plan.states told.store (Ok u) firm new p q r) → HasEndedWell o words w v
-  goes_clean u v old looked firm new p q r bad at ends looking settling (NotFirm f is same unput) = absurd (ok_err u (of_store f) is)
-  goes_clean u v old looked firm new p q r bad at ends looking settling (NoMemory t is same unput) = absurd (ok_err u fault.OutOfMemory is)
-  goes_clean u v old looked firm new p q r bad at ends looking settling (Made t duties for meant made) =
-      let d = made.ran.did v ends in
-      let start = started o H w sound d.0 old looked firm (HasTried (steady_requests told.store) (Ok t)) bad at looking settling d.1 in
-      let run_is = turns_run o H w sound reads words.targets asked words.cores told to_serve t d.0 v duties made.turns d.2.0 start made.in_order d.2.1 d.2.2 d.2.3 in
-      let fit = all_fit made.turns made.fits in
-      let all = all_turns u asked.flow (due (next_serial told.store) duties told.jobs.jobs) made.turns made.failed made.ended made.answer made.concluded in
-      subst (HasEndedWell o words w) (sym run_is.is) (record {
-        clean = made_clean v duties made.turns meant fit run_is all;
-        none_left = none_left v duties made.turns meant fit run_is all;
-        formed = (sound_end v duties made.turns meant fit run_is all).formed;
-      })
+      made_clean : HasMadeClean o words w end
+      made_clean =
+          let last : LastPlan asked.flow (seen o.read end) settings nothing_done plan.lists (all_clean plan) =
+          Last (all_clean plan) (clean.planned []) (none_new o end sound_end.formed rules all_built (all_clean plan) (clean.planned [])) in
+          record {
+            asked = asked;
+            is_asked = to_serve.is_asked;
+            targets = each_from (IsClean (setting_in o w asked.flow) (seen o.read end)) asked.targets
+                (λ p i.
+                let c =
+                current_means_clean_in_worlds asked.flow o (λ j. is_none (missing j)) end H settings nothing_done plan.lists (all_clean plan) sound_end
+                (λ j f files there shut gathered told_so. absurd (subst (λ fs. IsIn fs f) (none_gathered j (in_from plan.jobs j there)) (in_from (gathers_from j) f gathered)))
+                last refl (λ j there shut. fields j (in_from plan.jobs j there)) p (contains_from asked.targets p i) (each_in (λ q. is_current (seen o.read end) settings nothing_done (all_clean plan) q ≡ true) asked.targets p (clean.current []) i) in
+                (c.0, c.1, same_values asked.flow o.act (λ j. is_none (missing j)) (seen o.read w) (seen o.read end) (seen_is_complete o.read w sound.formed) (seen_is_complete o.read end sound_end.formed) sources_stay p ∙ c.2));
+            sources = sources_stay;
+          }
+        where
+          none_gathered : (j : Job) → IsIn plan.jobs j → gathers_from j ≡ []
+          none_gathered j i = ap (map (λ (g : Gather). g.folder)) (each_in IsPlain plan.jobs j plainly i).gathers_none
 
-module _ (exit : RunLeavesAllClean) (o : Outside) (H : Versions) (w : World) (sound : SoundWorld o w H) (reads : ReadsRecords o.read) (words : RunWords) where
+  module _ (exit : RunLeavesAllClean) (free : words.force ≡ No) where
+    goes_clean :
+        (u : Unit {0}) (v : World) (old looked firm new : Device) (p q : Sunk) (r : Result (Unit {0}) StoreFault) (bad : Bool) → old.world ≡ Some w → new.world ≡ Some v →
+        HasLooked o.act old looked false → HasActed o.act (HasTried (steady_requests told.store) r) looked firm bad →
+        (g : GoesOn o.act asked.flow words.cores asked.targets told.jobs told.plan.states told.store (Ok u) firm new p q r) → HasEndedWell o words w v
+    goes_clean u v old looked firm new p q r bad at ends looking settling (NotFirm f is same unput) = absurd (ok_err u (of_store f) is)
+    goes_clean u v old looked firm new p q r bad at ends looking settling (NoMemory t is same unput) = absurd (ok_err u fault.OutOfMemory is)
+    goes_clean u v old looked firm new p q r bad at ends looking settling (Made t duties for meant made) =
+        let d = made.ran.did v ends in
+        let start = started o H w sound d.0 old looked firm (HasTried (steady_requests told.store) (Ok t)) bad at looking settling d.1 in
+        let run_is = turns_run o H w sound reads words asked told to_serve t d.0 v duties made.turns d.2.0 start made.in_order d.2.1 d.2.2 d.2.3 in
+        let fit = all_fit made.turns made.fits in
+        let all = all_turns u asked.flow (due (next_serial told.store) duties told.jobs.jobs) made.turns made.failed made.ended made.answer made.concluded in
+        subst (HasEndedWell o words w) (sym run_is.is) (record {
+          clean = made_clean v duties made.turns meant fit run_is exit free all;
+          none_left = none_left v duties made.turns meant fit run_is exit free all;
+          formed = (sound_end v duties made.turns meant fit run_is exit free all).formed;
+        })
+
+module _ (exit : RunLeavesAllClean) (o : Outside) (H : Versions) (w : World) (sound : SoundWorld o w H) (reads : ReadsRecords o.read) (words : RunWords) (free : words.force ≡ No) where
   went_clean :
       (u : Unit {0}) (answer : Answer) (v : World) (old new : Device) (p q : Sunk) → old.world ≡ Some w → new.world ≡ Some v → answer ≡ Ok u →
-      (h : Went o.act words.cores answer (IsRefusal o.read true words.targets words.cores w) (IsToServe o.read true words.targets words.cores w) old new p q) →
+      (h : Went o.act words.cores answer (IsRefusal o.read true words w) (IsToServe o.read true words w) old new p q) →
       HasEndedWell o words w v
   went_clean u (Err g) v old new p q at ends e h = absurd (ok_err u g (sym e))
   went_clean u (Ok t) v old new p q at ends e (Refused f is why looked) = absurd (ok_err t f is)
   went_clean u (Ok t) v old new p q at ends e (Stopped f is want looked) = absurd (ok_err t f is)
   went_clean u (Ok t) v old new p q at ends e (Worked asked told plans worked) =
-      goes_clean exit o H w sound reads words asked told plans t v old worked.looked worked.carried.firm new p q worked.carried.settled (store_failed worked.carried.settled) at ends
+      goes_clean o H w sound reads words asked told plans exit free t v old worked.looked worked.carried.firm new p q worked.carried.settled (store_failed worked.carried.settled) at ends
       worked.looking worked.carried.settling worked.carried.goes_on
 
 module _ (exit : RunLeavesAllClean) where
@@ -294,7 +311,7 @@ module _ (exit : RunLeavesAllClean) where
       ReadsRecords o.read → SoundWorld o w H → HasServed o.act o.read (Asks words) w told old new p q → told ≡ None → HasEndedWell o words w v
   ended_well o H words told w v old new p q at ends reads sound served none =
       let a = no_fault served.answer told served.told_is none in
-      went_clean exit o H w sound reads words a.0 served.answer v old new p q at ends a.1 served.serves
+      went_clean exit o H w sound reads words (none_forced words served.built) a.0 served.answer v old new p q at ends a.1 served.serves
 
   pub call_is_clean : CallIsClean
   call_is_clean o H words told w v old new p q at ends reads sound served none = (ended_well o H words told w v old new p q at ends reads sound served none).clean

@@ -6,6 +6,7 @@ use Rattle.smk_pattern.specs.Shapes.{Text}
 use Rattle.smk_record.specs.declared.record.Record.{Record}
 use Rattle.smk_flow.specs.declared.job.Job.{Job}
 use Rattle.smk_flow.specs.Flows.{Flow}
+use Rattle.smk_words_reading.specs.declared.asked.RunWords.{RunWords}
 use Rattle.smk_eval_files.specs.Looks.{Nodes}
 use Rattle.smk_store.specs.Images.{Image, core_at, seen}
 use Rattle.smk_store.specs.Trust.{holder}
@@ -68,15 +69,15 @@ no_form None file h = refl
 no_form (Some word) file h = cc
 
 -- all forms of a workflow by which something is to be run are built
-pub asked_built : (words : List Text) (nodes : Nodes) (asked : Asked) → IsAskedIn true words nodes (Ok asked) → unbuilt asked.flow.rules ≡ None
+pub asked_built : (words : RunWords) (nodes : Nodes) (asked : Asked) → IsAskedIn true words nodes (Ok asked) → unbuilt asked.flow.rules ≡ None
 asked_built words nodes asked h = no_form (unbuilt asked.flow.rules) asked.file (neither (option_map (not_built asked.file) (unbuilt asked.flow.rules)) _ h.1).0
 
-module _ (read : List ℕ → Option Record) (w : World) (formed : IsFormed w) (asked : Asked) (built : unbuilt asked.flow.rules ≡ None) (cores : ℕ) (told : Previewed) (is : IsPlanFor read asked cores w told) where
+module _ (read : List ℕ → Option Record) (w : World) (formed : IsFormed w) (asked : Asked) (built : unbuilt asked.flow.rules ≡ None) (words : RunWords) (told : Previewed) (is : IsPlanFor read asked words w told) where
   abbrev image : Image
   image = seen read w
 
   abbrev settings : Settings
-  settings = settings_of asked cores
+  settings = settings_of asked words
 
   abbrev plan : Plan
   plan = plan_of told

@@ -37,7 +37,6 @@ use Rattle.smk_laws_plan.proofs.CurrentLists.{in_flat}
 use Rattle.smk_laws_plan.proofs.CurrentPaths.{among_in}
 use Rattle.smk_report.specs.declared.fault.Fault.{Fault}
 use Rattle.smk_report.specs.declared.fault.Fault.TheVariants as fault
-use Rattle.smk_report.specs.Lines.{Text}
 use Rattle.smk_plan.specs.declared.duty.Duty.{Duty}
 use Rattle.smk_run.specs.declared.tally.Tally.{Tally}
 use Rattle.smk_run.specs.Duties.{Due, due, due_from, serials}
@@ -46,8 +45,9 @@ use Rattle.smk_run.specs.Runs.{AreInOrder, IsOutcome as IsRunOutcome}
 use Rattle.smk_run.specs.Stamps.{Serials}
 use Rattle.smk_run.specs.Turns.{Turn, AreTurns, is_closed}
 use Rattle.smk_made.proofs.Done.{follows_split}
-use Rattle.smk_words.specs.declared.words.Request.{Request as Asking}
-use Rattle.smk_words.specs.declared.words.Request.TheVariants.{Run, Preview}
+use Rattle.smk_words_reading.specs.declared.asked.Asked.{Asked as Asking}
+use Rattle.smk_words_reading.specs.declared.asked.Asked.TheVariants.{Run, Preview, Unlock, Forget, Generate}
+use Rattle.smk_words_reading.specs.declared.asked.RunWords.{RunWords}
 use Rattle.smk_cli_entry.specs.declared.asking.Asked.{Asked}
 use Rattle.smk_cli_entry.specs.Faults.{device_failed, is_device}
 use Rattle.smk_cli_entry.specs.Forms.{unbuilt}
@@ -251,7 +251,7 @@ module _ (o : Outside) (H : Versions) (w : World) (sound : SoundWorld o w H) whe
 
   -- ## The turns
 
-  module _ (reads : ReadsRecords o.read) (words : List Text) (asked : Asked) (cores : ℕ) (told : Previewed) (to_serve : IsToServe o.read true words cores w asked told) where
+  module _ (reads : ReadsRecords o.read) (words : RunWords) (asked : Asked) (told : Previewed) (to_serve : IsToServe o.read true words w asked told) where
     abbrev top : ℕ
     top = greatest_serial told.store
 
@@ -260,7 +260,7 @@ module _ (o : Outside) (H : Versions) (w : World) (sound : SoundWorld o w H) whe
       pub es : List Event
       pub follows : Follows o.act w es
       pub is : v ≡ run w es
-      pub in_order : AreInOrder cores (due (Some (suc top)) duties told.jobs.jobs) ts
+      pub in_order : AreInOrder words.cores (due (Some (suc top)) duties told.jobs.jobs) ts
       pub is_run : IsRunOf o (serials told.jobs.makers (Some (suc top)) duties) ts w es
 
     abbrev pub built : unbuilt asked.flow.rules ≡ None
@@ -268,7 +268,7 @@ module _ (o : Outside) (H : Versions) (w : World) (sound : SoundWorld o w H) whe
 
     pub turns_run :
         (u : Unit {0}) (x v : World) (duties : List Duty) (ts : List Turn) (gs : List Event) → HasStarted x (HasTried (steady_requests told.store) (Ok u)) →
-        AreInOrder cores (due (next_serial told.store) duties told.jobs.jobs) ts → Follows o.act x gs → AreTurns (serials told.jobs.makers (next_serial told.store) duties) ts x gs → v ≡ run x gs → IsTurnRun v duties ts
+        AreInOrder words.cores (due (next_serial told.store) duties told.jobs.jobs) ts → Follows o.act x gs → AreTurns (serials told.jobs.makers (next_serial told.store) duties) ts x gs → v ≡ run x gs → IsTurnRun v duties ts
     turns_run u x v duties ts gs h in_order goes_on have_turns end =
         let one = one_of (all_signs told.store) h.more h.tried in
         let es = (h.looks ++ h.more) ++ gs in
@@ -285,7 +285,7 @@ module _ (o : Outside) (H : Versions) (w : World) (sound : SoundWorld o w H) whe
           es = es;
           follows = follows;
           is = is;
-          in_order = subst (λ (f : ℕ → Option ℕ). AreInOrder cores (due_from f 0 duties told.jobs.jobs) ts) firsts in_order;
+          in_order = subst (λ (f : ℕ → Option ℕ). AreInOrder words.cores (due_from f 0 duties told.jobs.jobs) ts) firsts in_order;
           is_run = record {
             looks = h.looks;
             settling = one.0;
@@ -301,12 +301,12 @@ module _ (o : Outside) (H : Versions) (w : World) (sound : SoundWorld o w H) whe
 
     pub turns_safe : (v : World) (duties : List Duty) (ts : List Turn) → AreWhatIsMeant told.jobs told.plan.states told.store duties → Each IsFit ts → (r : IsTurnRun v duties ts) → IsSafeRun o w H top ts r.es
     turns_safe v duties ts meant fit r =
-        due_run_is_safe o w H asked.flow (settings_of asked cores) (plan_of told) told.jobs.makers duties cores top ts r.es reads sound
+        due_run_is_safe o w H asked.flow (settings_of asked words) (plan_of told) told.jobs.makers duties words.cores top ts r.es reads sound
         (is_top o w told.store to_serve.plan.stored)
-        (is_plan o.read w sound.formed asked built cores told to_serve.plan)
-        (all_plain o.read w sound.formed asked built cores told to_serve.plan)
-        (duties_meant o.read w sound.formed asked built cores told to_serve.plan duties meant)
-        (makers_told o.read w sound.formed asked built cores told to_serve.plan)
+        (is_plan o.read w sound.formed asked built words told to_serve.plan)
+        (all_plain o.read w sound.formed asked built words told to_serve.plan)
+        (duties_meant o.read w sound.formed asked built words told to_serve.plan duties meant)
+        (makers_told o.read w sound.formed asked built words told to_serve.plan)
         r.in_order fit r.follows r.is_run
 
     all_closed :
@@ -318,7 +318,7 @@ module _ (o : Outside) (H : Versions) (w : World) (sound : SoundWorld o w H) whe
     goes_safe :
         (answer : Answer) (v : World) (old looked firm new : Device) (p q : Sunk) (r : Result (Unit {0}) StoreFault) (bad : Bool) → old.world ≡ Some w → new.world ≡ Some v →
         HasLooked o.act old looked false → HasActed o.act (HasTried (steady_requests told.store) r) looked firm bad →
-        (g : GoesOn o.act asked.flow cores asked.targets told.jobs told.plan.states told.store answer firm new p q r) → Safely answer v
+        (g : GoesOn o.act asked.flow words.cores asked.targets told.jobs told.plan.states told.store answer firm new p q r) → Safely answer v
     goes_safe answer v old looked firm new p q r bad at end looking settling (NotFirm f is same unput) =
         begun_safe answer v told.store (Err f) (λ u e. ok_err u (of_store f) (sym e ∙ is))
         (started v old looked firm (HasTried (steady_requests told.store) (Err f)) bad at looking settling (ap (λ (d : Device). d.world) (sym same) ∙ end))
@@ -339,19 +339,22 @@ module _ (o : Outside) (H : Versions) (w : World) (sound : SoundWorld o w H) whe
         )
 
   went_safe :
-      (reads : ReadsRecords o.read) (words : List Text) (cores : ℕ) (answer : Answer) (v : World) (old new : Device) (p q : Sunk) → old.world ≡ Some w → new.world ≡ Some v →
-      (h : Went o.act cores answer (IsRefusal o.read true words cores w) (IsToServe o.read true words cores w) old new p q) → Safely answer v
-  went_safe reads words cores answer v old new p q at end (Refused f is why looked) = looked_safe answer v old new (is_device f) at end looked.looked
-  went_safe reads words cores answer v old new p q at end (Stopped f is want looked) = looked_safe answer v old new (is_device f) at end looked.looked
-  went_safe reads words cores answer v old new p q at end (Worked asked told plans worked) =
-      goes_safe reads words asked cores told plans answer v old worked.looked worked.carried.firm new p q worked.carried.settled (store_failed worked.carried.settled) at end
+      (reads : ReadsRecords o.read) (words : RunWords) (answer : Answer) (v : World) (old new : Device) (p q : Sunk) → old.world ≡ Some w → new.world ≡ Some v →
+      (h : Went o.act words.cores answer (IsRefusal o.read true words w) (IsToServe o.read true words w) old new p q) → Safely answer v
+  went_safe reads words answer v old new p q at end (Refused f is why looked) = looked_safe answer v old new (is_device f) at end looked.looked
+  went_safe reads words answer v old new p q at end (Stopped f is want looked) = looked_safe answer v old new (is_device f) at end looked.looked
+  went_safe reads words answer v old new p q at end (Worked asked told plans worked) =
+      goes_safe reads words asked told plans answer v old worked.looked worked.carried.firm new p q worked.carried.settled (store_failed worked.carried.settled) at end
       worked.looking worked.carried.settling worked.carried.goes_on
 
   serves_safe :
       (reads : ReadsRecords o.read) (request : Asking) (answer : Answer) (v : World) (old new : Device) (p q : Sunk) → old.world ≡ Some w → new.world ≡ Some v →
       (h : Serves o.act o.read w answer old new p q request) → Safely answer v
-  serves_safe reads (Run words) answer v old new p q at end h = went_safe reads words.targets words.cores answer v old new p q at end h
+  serves_safe reads (Run words) answer v old new p q at end h = went_safe reads words answer v old new p q at end h
   serves_safe reads (Preview words) answer v old new p q at end h = looked_safe answer v old new (device_failed answer) at end h.0
+  serves_safe reads Unlock answer v old new p q at end h = absurd h
+  serves_safe reads (Forget paths nolock) answer v old new p q at end h = absurd h
+  serves_safe reads (Generate seed size) answer v old new p q at end h = absurd h
 
 -- the call has no fault only where the answer is none
 pub no_fault : (answer : Answer) (told : Option Fault) → IsOutcome (fault_of answer) told → told ≡ None → (u : Unit {0}) × (answer ≡ Ok u)

@@ -16,8 +16,8 @@ use Rattle.smk_trigger.specs.declared.reason.State.TheVariants.{Clean}
 use Rattle.smk_plan.specs.States.{Plan, LastPlan, is_current}
 use Rattle.smk_report.specs.declared.fault.Fault.{Fault}
 use Rattle.smk_run.specs.Turns.{Turn}
-use Rattle.smk_words.specs.declared.words.RunWords.{RunWords}
-use Rattle.smk_words.specs.declared.words.Request.TheVariants.{Run}
+use Rattle.smk_words_reading.specs.declared.asked.RunWords.{RunWords}
+use Rattle.smk_words_reading.specs.declared.asked.Asked.TheVariants.{Run}
 use Rattle.smk_cli_entry.specs.declared.asking.Asked.{Asked}
 use Rattle.smk_cli_entry.specs.Entry.{IsAskedIn}
 use Rattle.smk_make.specs.Making.{GoesOn, NotFirm, NoMemory, Made}
@@ -32,13 +32,13 @@ use Rattle.smk_exit.specs.Exit.{begun_so}
 -- whichever jobs have begun.
 pub record HasNoneLeft (o : Outside) (words : RunWords) (w v : World) : Type 0 where
   pub asked : Asked
-  pub is_asked : IsAskedIn true words.targets w.nodes (Ok asked)
+  pub is_asked : IsAskedIn true words w.nodes (Ok asked)
   pub plan : Plan
-  pub last : (begun : List Path) → LastPlan asked.flow (seen o.read v) (settings_of asked words.cores) (begun_so begun) [] plan
+  pub last : (begun : List Path) → LastPlan asked.flow (seen o.read v) (settings_of asked words) (begun_so begun) [] plan
   pub clean : plan.states ≡ map (λ j. Clean) plan.jobs
   pub current :
       (begun : List Path) →
-      Each (λ p. is_current (seen o.read v) (settings_of asked words.cores) (begun_so begun) plan p ≡ true) asked.targets
+      Each (λ p. is_current (seen o.read v) (settings_of asked words) (begun_so begun) plan p ≡ true) asked.targets
 
 -- A run that ends without a fault, in a sound folder.
 abbrev pub CallLeavesNone : Type 0
@@ -83,5 +83,5 @@ NextCallTakesNoTurn =
     SoundWorld o w H →
     HasServed o.act o.read (Run words) w told old new out_old out_new →
     told ≡ None →
-    ((asked : Asked) → IsAskedIn true words.targets w.nodes (Ok asked) → IsAskedIn true words.targets v.nodes (Ok asked)) →
+    ((asked : Asked) → IsAskedIn true words w.nodes (Ok asked) → IsAskedIn true words v.nodes (Ok asked)) →
     (next : HasServed o.act o.read (Run words) v again next_old next_new next_out_old next_out_new) → turns_went next.serves ≡ []

@@ -12,8 +12,8 @@ use Rattle.smk_format.specs.Commands as format
 use Rattle.smk_chain.specs.Mean.{Setting, setting_of}
 use Rattle.smk_laws_plan.specs.Current.{IsClean}
 use Rattle.smk_report.specs.declared.fault.Fault.{Fault}
-use Rattle.smk_words.specs.declared.words.RunWords.{RunWords}
-use Rattle.smk_words.specs.declared.words.Request.TheVariants.{Run}
+use Rattle.smk_words_reading.specs.declared.asked.RunWords.{RunWords}
+use Rattle.smk_words_reading.specs.declared.asked.Asked.TheVariants.{Run}
 use Rattle.smk_cli_entry.specs.declared.asking.Asked.{Asked}
 use Rattle.smk_cli_entry.specs.Entry.{IsAskedIn}
 use Rattle.smk_cli.specs.Whole.{HasServed}
@@ -26,7 +26,7 @@ setting_in o w flow = setting_of flow o.act (λ j. is_none (format.missing j)) (
 -- they were.
 pub record HasMadeClean (o : Outside) (words : RunWords) (w v : World) : Type 0 where
   pub asked : Asked
-  pub is_asked : IsAskedIn true words.targets w.nodes (Ok asked)
+  pub is_asked : IsAskedIn true words w.nodes (Ok asked)
   pub targets : Each (IsClean (setting_in o w asked.flow) (seen o.read v)) asked.targets
   pub sources : SameSources (seen o.read w) (seen o.read v)
 

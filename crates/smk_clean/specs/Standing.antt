@@ -6,8 +6,8 @@ use Rattle.smk_world.specs.Trees.{Act}
 use Rattle.smk_record.specs.declared.record.Record.{Record}
 use Rattle.smk_report.specs.declared.fault.Fault.{Fault}
 use Rattle.smk_report.specs.declared.fault.Fault.TheVariants as fault
-use Rattle.smk_words.specs.declared.words.RunWords.{RunWords}
-use Rattle.smk_words.specs.declared.words.Request.TheVariants.{Run}
+use Rattle.smk_words_reading.specs.declared.asked.RunWords.{RunWords}
+use Rattle.smk_words_reading.specs.declared.asked.Asked.TheVariants.{Run}
 use Rattle.smk_cli_entry.specs.declared.asking.Asked.{Asked}
 use Rattle.smk_cli_entry.specs.Entry.{IsAskedIn}
 use Rattle.smk_serve.specs.Serving.{HasOnlyLooked, IsRefusedPlan, IsWant}
@@ -32,8 +32,8 @@ RefusalStands =
     (act : Act) (read : List ℕ → Option Record) (words : RunWords) (f : Fault) (w : World) (told : Option Fault) (old new : Device)
     (out_old out_new : Sunk) →
     IsFormed w →
-    IsRefusal read true words.targets words.cores w f →
-    HasServed act read (Run words) w told old new out_old out_new → HasStood act (IsRefusal read true words.targets words.cores w) told old new out_old out_new
+    IsRefusal read true words w f →
+    HasServed act read (Run words) w told old new out_old out_new → HasStood act (IsRefusal read true words w) told old new out_old out_new
 
 -- Where the plan for what is asked is refused, the call ends with that refusal.
 abbrev pub PlanRefusalStands : Type 0
@@ -41,6 +41,6 @@ PlanRefusalStands =
     (act : Act) (read : List ℕ → Option Record) (words : RunWords) (asked : Asked) (f : Fault) (w : World) (told : Option Fault) (old new : Device)
     (out_old out_new : Sunk) →
     IsFormed w →
-    IsAskedIn true words.targets w.nodes (Ok asked) →
-    IsRefusedPlan read asked words.cores w f →
+    IsAskedIn true words w.nodes (Ok asked) →
+    IsRefusedPlan read asked words w f →
     HasServed act read (Run words) w told old new out_old out_new → HasStood act (IsSameFault f) told old new out_old out_new

@@ -1,5 +1,5 @@
 -- The outcome by the answer.
-use Rattle.std.proofs.Common.{◌≡◌, ◌⊎◌, false, inl, inr, refl, sym, ap, subst, ◌∙◌, Option, Some, None, Result, Ok, Err}
+use Rattle.std.proofs.Common.{◌≡◌, ◌⊎◌, false, inl, inr, refl, sym, ap, subst, ◌∙◌, Option, Some, Result, Err}
 use Rattle.smk_world.specs.Devices.{Device, Sunk}
 use Rattle.smk_report.specs.declared.fault.Fault.{Fault}
 use Rattle.smk_report.specs.declared.fault.Fault.TheVariants as fault
@@ -18,11 +18,8 @@ ends_as answer told a b p q (inr memory) h =
       stays = h.stays;
     })
 
-pub outcome_unread : (r : Result (Unit {0}) Fault) (told : Option Fault) → IsOutcome (fault_of r) told → (r ≡ Err fault.BadWords) ⊎ (r ≡ Err fault.OutOfMemory) → (told ≡ Some fault.BadWords) ⊎ (told ≡ Some fault.OutOfMemory)
-outcome_unread r told (inr memory) h = inr memory.1
-outcome_unread r told (inl same) (inl e) = inl (same ∙ ap fault_of e)
-outcome_unread r told (inl same) (inr e) = inr (same ∙ ap fault_of e)
-
-pub unread_fault : (f : Fault) → (f ≡ fault.BadWords) ⊎ (f ≡ fault.OutOfMemory) → (◌≡◌ {A = Result (Unit {0}) Fault} (Err f) (Err fault.BadWords)) ⊎ (◌≡◌ {A = Result (Unit {0}) Fault} (Err f) (Err fault.OutOfMemory))
-unread_fault f (inl e) = inl (ap (λ x. Err x) e)
-unread_fault f (inr e) = inr (ap (λ x. Err x) e)
+-- an answer with this fault, or for want of memory, has such an outcome
+pub outcome_refused : (f : Fault) (r : Result (Unit {0}) Fault) (told : Option Fault) → IsOutcome (fault_of r) told → (r ≡ Err f) ⊎ (r ≡ Err fault.OutOfMemory) → (told ≡ Some f) ⊎ (told ≡ Some fault.OutOfMemory)
+outcome_refused f r told (inr memory) h = inr memory.1
+outcome_refused f r told (inl same) (inl e) = inl (same ∙ ap fault_of e)
+outcome_refused f r told (inl same) (inr e) = inr (same ∙ ap fault_of e)

@@ -1,46 +1,59 @@
--- What words ask for is one thing.
-use native.Mathlib.Omega.{arith}
-use Rattle.std.proofs.Common.{◌≡◌, ◌⊎◌, ◌≤◌, ◌<◌, ℕ, List, ◌∷◌, inl, inr, sym, ap, ap₂, ◌∙◌, ◌^◌}
-use Rattle.std.specs.Prelude.{decimal, codes}
-use Rattle.std.proofs.lemmas.Fmt.{decimal_injective}
-use Rattle.smk_words.specs.declared.words.Request.{Request}
-use Rattle.smk_words.specs.declared.words.Request.TheVariants.{Run, Preview}
-use Rattle.smk_words.specs.declared.words.RunWords.{RunWords}
-use Rattle.smk_words.specs.Words.{IsAsked, Text}
+-- Words are refused with one fault, or ask for something that is built.
+use Rattle.std.proofs.Common.{◌≡◌, ◌⊎◌, true, false, List, inl, inr, refl, sym, ap, ◌∙◌, Result, Err, true≢false}
+use Rattle.smk_words_reading.specs.declared.asked.Asked.{Asked as Request}
+use Rattle.smk_words_reading.specs.Words.{Text}
+use Rattle.smk_words_reading.specs.Asks.{IsAsked}
+use Rattle.smk_words_reading.proofs.Whole.{one_asked, none_asked_without_cores}
 use Rattle.smk_report.specs.declared.fault.Fault.{Fault}
 use Rattle.smk_report.specs.declared.fault.Fault.TheVariants as fault
+use Rattle.smk_cli_entry.specs.Faults.{is_device, is_sink}
+use Rattle.smk_serve.specs.Serving.{IsWant}
+use Rattle.smk_cli.specs.Words.{RefusesWords, Unread, WithoutCores, NotBuilt, is_built}
 
--- where they ask for something only want of memory is a fault of reading them
-pub memory_only : (f : Fault) (words : List Text) (asked : Request) → IsAsked words asked → (f ≡ fault.BadWords) ⊎ (f ≡ fault.OutOfMemory) → (f ≡ fault.BadWords → ¬ ((a : Request) × IsAsked words a)) → f ≡ fault.OutOfMemory
-memory_only f words asked is_asked (inl e) never = absurd (never e (asked, is_asked))
-memory_only f words asked is_asked (inr e) never = e
+-- what is built isn't refused
+pub built_unrefused : (words : List Text) (f : Fault) (request : Request) → IsAsked words request → is_built request ≡ true → RefusesWords words f → ⊥
+built_unrefused words _ request asked built (Unread none) = none.0 request asked
+built_unrefused words _ request asked built (WithoutCores lacks) = none_asked_without_cores words request asked lacks
+built_unrefused words _ request asked built (NotBuilt other also unbuilt) =
+    true≢false (sym built ∙ (ap is_built (one_asked words request other asked also) ∙ unbuilt))
 
-seconds : (x a b : Text) (s t : List Text) → x ∷ a ∷ s ≡ x ∷ b ∷ t → (a ≡ b) × (s ≡ t)
-seconds x a b s t e = (cc, cc)
+-- words are refused with one fault
+pub one_refusal : (words : List Text) (f g : Fault) → RefusesWords words f → RefusesWords words g → f ≡ g
+one_refusal words _ _ (Unread a) (Unread b) = refl
+one_refusal words _ _ (Unread a) (WithoutCores b) = absurd (a.1 b)
+one_refusal words _ _ (Unread a) (NotBuilt other also unbuilt) = refl
+one_refusal words _ _ (WithoutCores a) (Unread b) = absurd (b.1 a)
+one_refusal words _ _ (WithoutCores a) (WithoutCores b) = refl
+one_refusal words _ _ (WithoutCores a) (NotBuilt other also unbuilt) = absurd (none_asked_without_cores words other also a)
+one_refusal words _ _ (NotBuilt other also unbuilt) (Unread b) = refl
+one_refusal words _ _ (NotBuilt other also unbuilt) (WithoutCores b) = absurd (none_asked_without_cores words other also b)
+one_refusal words _ _ (NotBuilt other also unbuilt) (NotBuilt more too neither) = refl
 
-rests : (x : Text) (s t : List Text) → x ∷ s ≡ x ∷ t → s ≡ t
-rests x s t e = cc
+-- ## What is answered
 
-heads : (x y : Text) (s t : List Text) → x ∷ s ≡ y ∷ t → x ≡ y
-heads x y s t e = cc
+abbrev pub IsEarly : List Text → Fault → Type 0
+IsEarly words f = (f ≡ fault.OutOfMemory) ⊎ RefusesWords words f
 
-small : (n : ℕ) → n ≤ 4096 → n < 2 ^ 64
-small n h = omega (arith, h)
+-- no fault of the device, and none of the sink
+pub early_calm : (words : List Text) (f : Fault) → IsEarly words f → is_device f ≡ false
+early_calm words f (inl e) = ap is_device e
+early_calm words _ (inr (Unread none)) = refl
+early_calm words _ (inr (WithoutCores lacks)) = refl
+early_calm words _ (inr (NotBuilt other also unbuilt)) = refl
 
-abbrev words_with : ℕ → List Text → RunWords
-words_with cores targets = record { cores = cores; targets = targets }
+pub early_quiet : (words : List Text) (f : Fault) → IsEarly words f → is_sink f ≡ false
+early_quiet words f (inl e) = ap is_sink e
+early_quiet words _ (inr (Unread none)) = refl
+early_quiet words _ (inr (WithoutCores lacks)) = refl
+early_quiet words _ (inr (NotBuilt other also unbuilt)) = refl
 
-same_words : (a b : RunWords) → a.cores ≡ b.cores → a.targets ≡ b.targets → a ≡ b
-same_words a b e f = ap₂ words_with e f
+-- where words are refused, that is the fault, or want of memory
+pub early_refusal : (words : List Text) (f g : Fault) → IsEarly words g → RefusesWords words f
+    → (◌≡◌ {A = Result (Unit {0}) Fault} (Err g) (Err f)) ⊎ (◌≡◌ {A = Result (Unit {0}) Fault} (Err g) (Err fault.OutOfMemory))
+early_refusal words f g (inl e) refused = inr (ap (λ x. Err x) e)
+early_refusal words f g (inr also) refused = inl (ap (λ x. Err x) (one_refusal words g f also refused))
 
-other : codes "--cores" ≡ codes "-n" → ⊥
-other e = cc
-
--- the words ask for one thing
-pub one_request : (words : List Text) (a b : Request) → IsAsked words a → IsAsked words b → a ≡ b
-one_request words (Run a) (Run b) h k =
-    let s = seconds (codes "--cores") (decimal a.cores) (decimal b.cores) a.targets b.targets (sym h.spelled ∙ k.spelled) in
-    ap Run (same_words a b (decimal_injective a.cores b.cores (small a.cores h.most) (small b.cores k.most) s.0) s.1)
-one_request words (Run a) (Preview b) h k = absurd (other (heads (codes "--cores") (codes "-n") (decimal a.cores ∷ a.targets) b.targets (sym h.spelled ∙ k.spelled)))
-one_request words (Preview a) (Run b) h k = absurd (other (heads (codes "--cores") (codes "-n") (decimal b.cores ∷ b.targets) a.targets (sym k.spelled ∙ h.spelled)))
-one_request words (Preview a) (Preview b) h k = ap Preview (same_words a b (h.one_core ∙ sym k.one_core) (rests (codes "-n") a.targets b.targets (sym h.spelled ∙ k.spelled)))
+-- where what they ask is built, it is want of memory
+pub early_want : (words : List Text) (f : Fault) (request : Request) → IsAsked words request → is_built request ≡ true → IsEarly words f → IsWant f
+early_want words f request asked built (inl e) = inr e
+early_want words f request asked built (inr refused) = absurd (built_unrefused words f request asked built refused)

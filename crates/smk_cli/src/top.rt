@@ -4,12 +4,15 @@ ghost use Rattle.std.specs.Prelude.{◌≡◌, ◌⊎◌, ℕ, List as Items, Op
 ghost use Rattle.smk_world.specs.Devices.{WhereTold, HasLooked};
 ghost use Rattle.smk_record.specs.Spelling.{ReadsRecords};
 ghost use Rattle.smk_record.specs.declared.record.Record.{Record as RecordValue};
+ghost use Rattle.smk_report.specs.declared.fault.Fault.{Fault as FaultValue};
 ghost use Rattle.smk_report.specs.Faults as report;
-ghost use Rattle.smk_words.specs.declared.words.Request.{Request as RequestValue};
-ghost use Rattle.smk_words.specs.Words.{IsAsked};
-ghost use Rattle.smk_cli_entry.specs.Faults.{device_failed, is_sink};
+ghost use Rattle.smk_words_reading.specs.declared.asked.Asked.{Asked as Request};
+ghost use Rattle.smk_words_reading.specs.Asks.{IsAsked};
+ghost use Rattle.smk_cli_entry.specs.Faults.{device_failed};
 ghost use Rattle.smk_serve.specs.Ends.{EndsAs, EndsWith, fault_of};
 ghost use Rattle.smk_serve.specs.Serving.{HasListed, Went};
+ghost use Rattle.smk_cli.specs.Words as spec;
+ghost use Rattle.smk_cli.specs.Words.{RefusesWords};
 ghost use Rattle.smk_cli.specs.Lines.{IsOutcome, HasToldFault};
 ghost use Rattle.smk_cli.specs.Whole.{IsRefusal, IsToServe, Serves, HasServed};
 
@@ -19,7 +22,7 @@ use smk_cli_entry::ask;
 use smk_report::{Fault, fault_line};
 use smk_run::write_out;
 use smk_serve::{list_plan, make_targets};
-use smk_words::{Request, RunWords, read_words};
+use smk_words_reading::{Asked, Force, RunWords, WordsFault, read_words};
 use smk_world::{Crew, Files, Sink};
 use std::alloc::Global;
 use std::thread::Threads;
@@ -35,12 +38,12 @@ fn serve_run<W: Crew, O: Sink, Rt: Threads + Sync>(
     requires none_runs { (W.device work.old).running ≡ [] }
     ensures ended { EndsAs result (W.device work.old) (W.device work.new) (O.sunk out.old) (O.sunk out.new) }
     ensures went { WhereTold (W.device work.old) (λ w. (read : Items ℕ → Option RecordValue) → ReadsRecords read
-        → Went W.act words.now.cores result (IsRefusal read true words.now.targets words.now.cores w) (IsToServe read true words.now.targets words.now.cores w)
+        → Went W.act words.now.cores result (IsRefusal read true words.now w) (IsToServe read true words.now w)
         (W.device work.old) (W.device work.new) (O.sunk out.old) (O.sunk out.new)) }
 {
-    match ask(alloc, true, work, &words.targets) {
+    match ask(alloc, true, work, words) {
         Err(fault) => Err(fault),
-        Ok(asked) => make_targets(rt, alloc, &asked, words.cores, work, out),
+        Ok(asked) => make_targets(rt, alloc, &asked, words, work, out),
     }
 }
 
@@ -56,44 +59,76 @@ fn serve_listing<W: Files, O: Sink, Rt: Threads + Sync>(
     ensures ended { EndsAs result (W.device work.old) (W.device work.new) (O.sunk out.old) (O.sunk out.new) }
     ensures looked { HasLooked W.act (W.device work.old) (W.device work.new) (device_failed result) }
     ensures listed { WhereTold (W.device work.old) (λ w. (read : Items ℕ → Option RecordValue) → ReadsRecords read
-        → HasListed (IsRefusal read false words.now.targets 1 w) (IsToServe read false words.now.targets 1 w) (O.sunk out.old) (O.sunk out.new) result) }
+        → HasListed (IsRefusal read false words.now w) (IsToServe read false words.now w) (O.sunk out.old) (O.sunk out.new) result) }
 {
-    match ask(alloc, false, work, &words.targets) {
+    match ask(alloc, false, work, words) {
         Err(fault) => Err(fault),
-        Ok(asked) => list_plan(rt, alloc, &asked, work, out),
+        Ok(asked) => list_plan(rt, alloc, &asked, words, work, out),
     }
 }
 
-// Does what is asked for.
+// Does what is asked, where it is built.
 fn serve_request<W: Crew, O: Sink, Rt: Threads + Sync>(
     rt: &Rt,
     alloc: Global,
-    request: &Request,
+    request: &Asked,
     work: &mut W,
     out: &mut O,
 ) -> Result<(), Fault>
     requires none_runs { (W.device work.old).running ≡ [] }
     ensures ended { EndsAs result (W.device work.old) (W.device work.new) (O.sunk out.old) (O.sunk out.new) }
-    ensures serves { WhereTold (W.device work.old) (λ w. (read : Items ℕ → Option RecordValue) → ReadsRecords read
+    ensures serves { spec.is_built request.now ≡ true → WhereTold (W.device work.old) (λ w. (read : Items ℕ → Option RecordValue) → ReadsRecords read
         → Serves W.act read w result (W.device work.old) (W.device work.new) (O.sunk out.old) (O.sunk out.new) request.now) }
 {
     match request {
-        Request::Run(words) => serve_run(rt, alloc, words, work, out),
-        Request::Preview(words) => serve_listing(rt, alloc, words, work, out),
+        Asked::Run(words) => serve_run(rt, alloc, words, work, out),
+        Asked::Preview(words) => serve_listing(rt, alloc, words, work, out),
+        Asked::Unlock | Asked::Forget { .. } | Asked::Generate { .. } => Err(Fault::BadWords),
     }
 }
 
-// What the words ask for.
-fn requested(alloc: Global, words: &[String]) -> Result<Request, Fault>
-    ensures ok { IfOk result (λ asked. IsAsked (map string_bytes words.now) asked) }
-    ensures kind { IfErr result (λ f. (f ≡ Fault.BadWords) ⊎ (f ≡ Fault.OutOfMemory)) }
-    ensures bad { IfErr result (λ f. f ≡ Fault.BadWords → ¬ ((asked : RequestValue) × IsAsked (map string_bytes words.now) asked)) }
-    ensures no_device { device_failed result ≡ false }
-    ensures no_sink { IfErr result (λ f. is_sink f ≡ false) }
+fn forces_none(force: Force) -> bool
+    ensures { result ≡ spec.forces_none force }
+{
+    match force {
+        Force::No => true,
+        Force::Targets | Force::All => false,
+    }
+}
+
+// Whether it is built: a run that forces no job and ends with the first job that fails, or a listing.
+fn is_built(request: &Asked) -> bool
+    ensures { result ≡ spec.is_built request.now }
+{
+    match request {
+        Asked::Run(words) => !words.keep_going && forces_none(words.force),
+        Asked::Preview(_) => true,
+        Asked::Unlock | Asked::Forget { .. } | Asked::Generate { .. } => false,
+    }
+}
+
+// What is asked, where it is built.
+fn built(request: Asked) -> Result<Asked, Fault>
+    ensures ok { IfOk result (λ asked. (asked ≡ request) × (spec.is_built asked ≡ true)) }
+    ensures bad { IfErr result (λ f. (f ≡ Fault.BadWords) × (spec.is_built request ≡ false)) }
+{
+    if is_built(&request) {
+        Ok(request)
+    } else {
+        Err(Fault::BadWords)
+    }
+}
+
+// What the words ask, where it is built.
+fn requested(alloc: Global, words: &[String]) -> Result<Asked, Fault>
+    ensures ok { IfOk result (λ asked. IsAsked (map string_bytes words.now) asked × (spec.is_built asked ≡ true)) }
+    ensures refused { IfErr result (λ f. (f ≡ Fault.OutOfMemory) ⊎ RefusesWords (map string_bytes words.now) f) }
 {
     match read_words(alloc, words) {
-        Ok(asked) => Ok(asked),
-        Err(fault) => Err(Fault::from(fault)),
+        Ok(request) => built(request),
+        Err(WordsFault::BadWords) => Err(Fault::BadWords),
+        Err(WordsFault::NoCores) => Err(Fault::NoCores),
+        Err(WordsFault::OutOfMemory) => Err(Fault::OutOfMemory),
     }
 }
 
@@ -107,11 +142,11 @@ fn serve<W: Crew, O: Sink, Rt: Threads + Sync>(
 ) -> Result<(), Fault>
     requires none_runs { (W.device work.old).running ≡ [] }
     ensures ended { EndsAs result (W.device work.old) (W.device work.new) (O.sunk out.old) (O.sunk out.new) }
-    ensures unread { ¬ ((asked : RequestValue) × IsAsked (map string_bytes words.now) asked)
-        → ((result ≡ Err Fault.BadWords) ⊎ (result ≡ Err Fault.OutOfMemory)) × (work.new ≡ work.old) × (out.new ≡ out.old) }
-    ensures serves { (asked : RequestValue) → IsAsked (map string_bytes words.now) asked
+    ensures unread { (f : FaultValue) → RefusesWords (map string_bytes words.now) f
+        → ((result ≡ Err f) ⊎ (result ≡ Err Fault.OutOfMemory)) × (work.new ≡ work.old) × (out.new ≡ out.old) }
+    ensures serves { (request : Request) → IsAsked (map string_bytes words.now) request → spec.is_built request ≡ true
         → WhereTold (W.device work.old) (λ w. (read : Items ℕ → Option RecordValue) → ReadsRecords read
-        → Serves W.act read w result (W.device work.old) (W.device work.new) (O.sunk out.old) (O.sunk out.new) asked) }
+        → Serves W.act read w result (W.device work.old) (W.device work.new) (O.sunk out.old) (O.sunk out.new) request) }
 {
     match requested(alloc, words) {
         Err(fault) => Err(fault),
@@ -137,11 +172,11 @@ fn tell<O: Sink>(alloc: Global, answer: Result<(), Fault>, err: &mut O) -> Outco
     }
 }
 
-/// Does what the words ask by the workflow of the working folder. For a run: makes the targets, by running the jobs that its plan has to be run or restored, one
+/// Does what the words ask by a workflow of the working folder. For a run: makes the targets, by running the jobs that its plan has to be run or restored, one
 /// after another, and reports them and the targets to `out`. For a listing: tells the jobs of the plan to `out`, and changes nothing. The line of a fault
 /// goes to `err`.
 ///
-/// The status is 0 where all is done, 1 where a job failed, 2 where the words aren't read, 3 where the workflow, a target, the plan or a job is refused, 4 where
+/// The status is 0 where all is done, 1 where a job failed, 2 where the words are refused, 3 where the workflow, a target, the plan or a job is refused, 4 where
 /// the device failed, 5 where memory is wanting, 6 where `out` failed.
 pub fn smk<W: Crew, O: Sink, Rt: Threads + Sync>(
     rt: &Rt,
@@ -155,14 +190,14 @@ pub fn smk<W: Crew, O: Sink, Rt: Threads + Sync>(
 
     ensures status { result.status ≡ report.status_of result.fault }
 
-    // words that aren't read are refused, and nothing is done
-    ensures unread { ¬ ((asked : RequestValue) × IsAsked (map string_bytes words.now) asked)
-        → ((result.fault ≡ Some Fault.BadWords) ⊎ (result.fault ≡ Some Fault.OutOfMemory)) × (work.new ≡ work.old) × (out.new ≡ out.old) }
+    // where the words are refused that is told, and nothing is done
+    ensures unread { (f : FaultValue) → RefusesWords (map string_bytes words.now) f
+        → ((result.fault ≡ Some f) ⊎ (result.fault ≡ Some Fault.OutOfMemory)) × (work.new ≡ work.old) × (out.new ≡ out.old) }
 
-    // what is asked is served: it is refused, and nothing is done; or what its plan has to be run is run, in order; or the plan is listed
-    ensures serves { (asked : RequestValue) → IsAsked (map string_bytes words.now) asked
+    // what is asked is served, where it is built: it is refused, and nothing is done; or what its plan has to be run is run, in order; or the plan is listed
+    ensures serves { (request : Request) → IsAsked (map string_bytes words.now) request → spec.is_built request ≡ true
         → WhereTold (W.device work.old) (λ w. (read : Items ℕ → Option RecordValue) → ReadsRecords read
-        → HasServed W.act read asked w result.fault (W.device work.old) (W.device work.new) (O.sunk out.old) (O.sunk out.new)) }
+        → HasServed W.act read request w result.fault (W.device work.old) (W.device work.new) (O.sunk out.old) (O.sunk out.new)) }
 
     // a fault of the device or of the sink comes only from one of its own in this call; and unless a call of the device failed, no child runs at the end, and what is told stays
     // told

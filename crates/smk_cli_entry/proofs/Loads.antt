@@ -1,5 +1,5 @@
 -- A fault of loading that `?` carries on as one of the call.
-use Rattle.std.proofs.Common.{◌≡◌, List, [], ℕ, true, false, Result, Ok, Err, refl, ap, sym, subst, ◌∙◌}
+use Rattle.std.proofs.Common.{◌≡◌, List, ℕ, false, Result, Ok, Err, refl, ap, sym, ◌∙◌}
 use Rattle.std.specs.Prelude.{IfErr, IsErrAnd}
 use Rattle.smk_flaws.specs.declared.fault.LoadFault.{LoadFault}
 use Rattle.smk_flaws.specs.declared.fault.LoadFault.TheVariants as load
@@ -41,9 +41,8 @@ pub carried_device : {B : Type 0} (e : LoadFault) (s : Result B Fault) → IsErr
 carried_device e (Ok b) is = absurd is
 carried_device e (Err f) is = same_device e ∙ ap is_device (sym is)
 
--- a refusal is that of the file's workflow, with nothing set
-pub carried_refusal : (nodes : Nodes) (file : List ℕ) (sets : List Pair) (e : LoadFault) (s : Result Reading Fault) → sets ≡ [] → IsErrAnd s (λ f. f ≡ of_load e)
-    → Gives (loaded nodes file sets) (Err e) → IsReadIn nodes file s
-carried_refusal nodes file sets e (Ok reading) none is h = absurd is
-carried_refusal nodes file sets e (Err f) none is h = λ told.
-    (e, sym (same_told e) ∙ ap is_told (sym is) ∙ told, subst (λ (x : List Pair). Gives (loaded nodes file x) (Err e)) none h, is)
+-- a refusal is that of the file's workflow
+pub carried_refusal : (nodes : Nodes) (file : List ℕ) (sets : List Pair) (e : LoadFault) (s : Result Reading Fault) → IsErrAnd s (λ f. f ≡ of_load e)
+    → Gives (loaded nodes file sets) (Err e) → IsReadIn nodes file sets s
+carried_refusal nodes file sets e (Ok reading) is h = absurd is
+carried_refusal nodes file sets e (Err f) is h = λ told. (e, sym (same_told e) ∙ ap is_told (sym is) ∙ told, h, is)

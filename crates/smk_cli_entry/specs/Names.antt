@@ -41,6 +41,11 @@ abbrev pub or_no_file : Option Path → Result Path Fault
 or_no_file None = Err (Workflow (flaw.File (NoFile (codes "Snakefile"))))
 or_no_file (Some p) = Ok p
 
--- the file with the workflow
+-- the file with the workflow of a folder
 abbrev pub workflow_file : Nodes → Result Path Fault
 workflow_file nodes = or_no_file (first_file nodes file_names)
+
+-- the file that is named, or else that of the folder
+abbrev pub file_of : Nodes → Option Path → Result Path Fault
+file_of nodes None = workflow_file nodes
+file_of nodes (Some file) = Ok file

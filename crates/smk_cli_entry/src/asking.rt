@@ -12,6 +12,7 @@ use crate::reading::{Reading, read_workflow};
 use smk_base::{List, PathText, Text};
 use smk_flow::{TargetFault, Workflow, targets};
 use smk_report::Fault;
+use smk_words_reading::RunWords;
 use smk_world::Files;
 use std::alloc::Global;
 
@@ -62,14 +63,19 @@ fn targets_of(alloc: Global, flow: &Workflow, words: &List<Text>) -> Result<List
     }
 }
 
-// What the words ask of a workflow in which no form is refused.
-fn asked_of(alloc: Global, run: bool, reading: Reading, words: &List<Text>) -> Result<Asked, Fault>
+// What target words ask of a workflow in which no form is refused.
+fn asked_of(
+    alloc: Global,
+    run: bool,
+    reading: Reading,
+    targets: &List<Text>,
+) -> Result<Asked, Fault>
     requires built { forms.unbuilt_for run reading.flow.rules ≡ None }
-    ensures is { spec.Asks run words.now reading result }
+    ensures is { spec.Asks run targets.now reading result }
     ensures no_device { device_failed result ≡ false }
     ensures no_sink { IfErr result (λ f. is_sink f ≡ false) }
 {
-    let paths = targets_of(alloc, &reading.flow, words)?;
+    let paths = targets_of(alloc, &reading.flow, targets)?;
     Ok(Asked {
         file: reading.file,
         flow: reading.flow,
@@ -77,20 +83,25 @@ fn asked_of(alloc: Global, run: bool, reading: Reading, words: &List<Text>) -> R
     })
 }
 
-// What the words ask of a workflow that was read.
-fn asked_in(alloc: Global, run: bool, reading: Reading, words: &List<Text>) -> Result<Asked, Fault>
-    ensures is { spec.Asks run words.now reading result }
+// What target words ask of a workflow that was read.
+fn asked_in(
+    alloc: Global,
+    run: bool,
+    reading: Reading,
+    targets: &List<Text>,
+) -> Result<Asked, Fault>
+    ensures is { spec.Asks run targets.now reading result }
     ensures no_device { device_failed result ≡ false }
     ensures no_sink { IfErr result (λ f. is_sink f ≡ false) }
 {
     match built(alloc, run, &reading) {
         Err(fault) => Err(fault),
-        Ok(()) => asked_of(alloc, run, reading, words),
+        Ok(()) => asked_of(alloc, run, reading, targets),
     }
 }
 
-/// What the words, rules' names and paths, ask of the workflow of the folder, for a run or else for a listing. Nothing in the folder changes. No child
-/// may run.
+/// What the words ask of the workflow of the file that they name, or else of the folder's, for a run or else for a listing: its targets are rules' names
+/// and paths. Nothing in the folder changes. No child may run.
 ///
 /// The faults come in this order: those of `read_workflow`; for a run `Unsupported` with line 1 of the workflow's file and the first form that no run can
 /// do yet, a word of `checkpoint`, `temp`, `protected`, `directory` and `from_checkpoint`; `BadTarget` with the first word that is no target.
@@ -99,15 +110,15 @@ pub fn ask<W: Files>(
     alloc: Global,
     run: bool,
     work: &mut W,
-    words: &List<Text>,
+    words: &RunWords,
 ) -> Result<Asked, Fault>
     requires none_runs { (W.device work.old).running ≡ [] }
     ensures looked { HasLooked W.act (W.device work.old) (W.device work.new) (device_failed result) }
     ensures told { WhereTold (W.device work.old) (λ w. spec.IsAskedIn run words.now w.nodes result) }
     ensures no_sink { IfErr result (λ f. is_sink f ≡ false) }
 {
-    match read_workflow(alloc, work) {
+    match read_workflow(alloc, work, words) {
         Err(fault) => Err(fault),
-        Ok(reading) => asked_in(alloc, run, reading, words),
+        Ok(reading) => asked_in(alloc, run, reading, &words.targets),
     }
 }

@@ -7,5 +7,5 @@ mod naming;
 mod reading;
 
 pub use asking::{Asked, ask};
-pub use naming::workflow_file;
+pub use naming::{file_of, workflow_file};
 pub use reading::{Reading, read_workflow};

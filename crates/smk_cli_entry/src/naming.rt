@@ -9,9 +9,10 @@ ghost use Rattle.smk_cli_entry.specs.Faults.{Answers, device_failed, is_sink};
 ghost use Rattle.smk_cli_entry.specs.Forms.{or_else};
 ghost use Rattle.smk_cli_entry.specs.Names as spec;
 
-use smk_base::{PathFault, PathText, Place, Text};
+use smk_base::{OutOfMemory, PathFault, PathText, Place, Text};
 use smk_flaws::{FileFlaw, Flaw};
 use smk_report::Fault;
+use smk_words_reading::RunWords;
 use smk_world::{Failed, Files, Stat};
 use std::alloc::Global;
 
@@ -165,5 +166,33 @@ pub fn workflow_file<W: Files>(alloc: Global, work: &mut W) -> Result<PathText, 
     match first_file(alloc, work) {
         Err(fault) => Err(fault),
         Ok(found) => or_no_file(alloc, found),
+    }
+}
+
+// A copy of the path.
+fn copy_of(alloc: Global, path: &PathText) -> Result<PathText, Fault>
+    ensures is { Answers (Ok path.now) result }
+    ensures no_device { device_failed result ≡ false }
+    ensures no_sink { IfErr result (λ f. is_sink f ≡ false) }
+{
+    match path.copy(alloc) {
+        Ok(copy) => Ok(copy),
+        Err(OutOfMemory) => Err(Fault::OutOfMemory),
+    }
+}
+
+/// The file with the workflow that the words ask by: the one that they name, be it there or not, or else `workflow_file`. Nothing in the folder
+/// changes. No child may run.
+///
+/// The faults are those of `workflow_file` where no file is named, and else only `OutOfMemory`.
+pub fn file_of<W: Files>(alloc: Global, work: &mut W, words: &RunWords) -> Result<PathText, Fault>
+    requires none_runs { (W.device work.old).running ≡ [] }
+    ensures looked { HasLooked W.act (W.device work.old) (W.device work.new) (device_failed result) }
+    ensures told { WhereTold (W.device work.old) (λ w. Answers (spec.file_of w.nodes words.now.file) result) }
+    ensures no_sink { IfErr result (λ f. is_sink f ≡ false) }
+{
+    match &words.file {
+        Some(file) => copy_of(alloc, file),
+        None => workflow_file(alloc, work),
     }
 }

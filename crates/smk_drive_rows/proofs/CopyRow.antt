@@ -1,5 +1,5 @@
 -- A run that copies a file, held against every clause; and wrong runs of the same folder, each refused by one.
-use Rattle.std.proofs.Common.{◌≡◌, ℕ, true, false, List, [], ◌∷◌, ◌++◌, codes, Some, None, Ok, Err, refl, sym, subst, inl, true≢false, arith}
+use Rattle.std.proofs.Common.{◌≡◌, ℕ, false, List, [], ◌∷◌, ◌++◌, codes, Some, None, Ok, Err, refl, sym, subst, inl, true≢false, arith}
 use Rattle.std.specs.Fmt.{digits}
 use Rattle.smk_world.specs.declared.event.Node.TheVariants.{Regular}
 use Rattle.smk_world.specs.declared.event.Event.{Event}

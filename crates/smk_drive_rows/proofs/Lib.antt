@@ -20,3 +20,6 @@ pub mod SpentRow
 pub mod RestoreRow
 pub mod SteadyRow
 pub mod MarkedRow
+pub mod StaleRow
+pub mod TwoRow
+pub mod LongestRow

@@ -1,5 +1,5 @@
 -- Lemmas on truth and on lists.
-use Rattle.std.proofs.Common.{◌≡◌, ◌⊎◌, ℕ, Bool, true, false, ◌&&◌, ◌||◌, not, cond, List, [], ◌∷◌, ◌++◌, filter, find, Some, refl, sym, ap, subst, ◌∙◌, IsTrue, true≢false, inl, inr}
+use Rattle.std.proofs.Common.{◌≡◌, ◌⊎◌, Bool, true, false, ◌&&◌, ◌||◌, not, cond, List, [], ◌∷◌, ◌++◌, filter, find, Some, refl, sym, ap, subst, ◌∙◌, IsTrue, true≢false, inl, inr}
 use Rattle.std.specs.List.{list_all}
 use Rattle.smk_world.specs.Trees.{Each, IsIn}
 

@@ -1,9 +1,9 @@
 -- Logs of which nothing is refused, by computation: up to a moment, after which no job begins.
-use Rattle.std.proofs.Common.{◌≡◌, ◌⊎◌, ◌<◌, ℕ, Bool, true, false, ◌&&◌, not, List, [], ◌∷◌, ◌++◌, Option, Some, None, refl, sym, subst, ◌∙◌, IsTrue, true≢false, inl, inr, nat_le, nat_lt, ◌^◌, arith}
+use Rattle.std.proofs.Common.{◌≡◌, ◌⊎◌, ◌<◌, ℕ, Bool, true, false, ◌&&◌, not, List, [], ◌∷◌, ◌++◌, Option, Some, None, refl, sym, subst, ◌∙◌, IsTrue, inl, inr, nat_le, nat_lt, ◌^◌, arith}
 use Rattle.std.specs.List.{list_all}
 use Rattle.smk_world.specs.declared.event.Event.{Event}
 use Rattle.smk_world.specs.declared.recipe.Out.{Out}
-use Rattle.smk_world.specs.World.{World, IsFormed, after}
+use Rattle.smk_world.specs.World.{World, IsFormed}
 use Rattle.smk_world.specs.Trees.{Each, outs_of}
 use Rattle.smk_flow.specs.declared.job.Job.{Job}
 use Rattle.smk_trigger.specs.declared.reason.State.{State}

@@ -175,10 +175,15 @@ module _
       let run_is = turns_run o H w sound reads words asked told to_serve u d.0 v duties made.turns d.2.0 start made.in_order d.2.1 d.2.2 d.2.3 in
       let fit = all_fit made.turns made.fits in
       λ now there.
-      let x = made.text.told now there in
-      (x.0, x.1, (x.2.0,
-      tells_text v duties made.turns meant fit run_is (due (next_serial told.store) duties told.jobs.jobs) made.failed made.ended answer x.2.0 made.answer x.2.1,
-      x.2.2))
+      let x = made.text.told now there in (
+        x.0,
+        x.1,
+        (
+          x.2.0,
+          tells_text v duties made.turns meant fit run_is (due (next_serial told.store) duties told.jobs.jobs) made.failed made.ended answer x.2.0 made.answer x.2.1,
+          x.2.2,
+        ),
+      )
 
 pub went_tells :
     (o : Outside) (H : Versions) (w v : World) (sound : SoundWorld o w H) (reads : ReadsRecords o.read) (words : RunWords) (free : words.force ≡ No) (answer : Answer)

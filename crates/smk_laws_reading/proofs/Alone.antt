@@ -1,5 +1,6 @@
 -- Items of inputs gather alone, from the values of items to the workflow of files.
 use Rattle.std.proofs.Common.{◌≡◌, ◌⊎◌, ℕ, Bool, true, false, List, [], ◌∷◌, ◌++◌, map, refl, sym, ap, subst, inl, inr, Some, Result, Ok, Err, is_some, true≢false}
+use Rattle.std.specs.List.{list_any}
 use Rattle.std.specs.Prelude.{bytes_eq, codes, if◌then◌else◌}
 use Rattle.serde_json.specs.Data.{Members, no_members}
 use Rattle.smk_base.specs.declared.tree.Pair.{Pair}
@@ -25,9 +26,10 @@ use Rattle.smk_eval_files.specs.Texts.{Entry, whole}
 use Rattle.smk_eval_files.specs.Reading.{files_at}
 use Rattle.smk_eval.specs.Faults as load
 use Rattle.smk_eval.specs.Faults.{from_files, from_said}
-use Rattle.smk_eval.specs.Loading.{config_files, configs, said_by, with_sets}
+use Rattle.smk_eval.specs.Loading.{config_files, configs, said_by, said_in, with_sets}
+use Rattle.smk_eval.specs.Waiting.{all_wait, waited}
 use Rattle.smk_eval.specs.Statements as statements
-use Rattle.smk_eval.specs.Statements.{State, all_stated, assigned, evaluated, flow_of, limited, made, ruled, stated, with_constant, with_limits, with_rule}
+use Rattle.smk_eval.specs.Statements.{State, all_stated, assigned, evaluated, first_marked, flow_of, is_default, limited, made, main_file, marked, ruled, stands_in, stated, with_constant, with_default, with_limits, with_rule}
 use Rattle.smk_laws_plan.proofs.CurrentLists.{in_either, map_in}
 use Rattle.smk_laws_reading.specs.Reading.{ReadFlowsGatherAlone}
 
@@ -150,6 +152,25 @@ rule_alone s globals form file line q h =
     let r = then_ok (with_directives s (begun form file line) form.directives) (λ p. Ok (with_globals globals p)) q h in
     subst RuleIs (ok_same (with_globals globals r.0) q r.2) (directives_alone s (begun form file line) r.0 form.directives (λ x i. absurd i) r.1)
 
+-- ## The default target
+
+first_alone : (file : List ℕ) (parts : List RulePart) → All RuleIs parts → All RuleIs (first_marked file parts)
+first_alone file [] all = all
+first_alone file (x ∷ parts) all = go (stands_in file x) (first_alone file parts (λ y j. all y (inr j)))
+  where
+    go : (b : Bool) → All RuleIs (first_marked file parts) → All RuleIs (if b then marked true x ∷ parts else x ∷ first_marked file parts)
+    go true more p (inl e) = subst RuleIs (sym e) (all x (inl refl))
+    go true more p (inr i) = all p (inr i)
+    go false more p (inl e) = subst RuleIs (sym e) (all x (inl refl))
+    go false more p (inr i) = more p i
+
+default_alone : (file : List ℕ) (parts : List RulePart) → All RuleIs parts → All RuleIs (with_default file parts)
+default_alone file parts all = go (list_any is_default parts)
+  where
+    go : (b : Bool) → All RuleIs (if b then parts else first_marked file parts)
+    go true = all
+    go false = first_alone file parts all
+
 -- ## Statements
 
 abbrev StateIs : State → Type 0
@@ -177,8 +198,9 @@ module _ (config : Members) where
 
   evaluated_alone : (files : List ReadFile) (flow : Flow) → evaluated config files ≡ Ok flow → All RuleIs flow.rules
   evaluated_alone files flow h =
-      let r = stated_ok (all_stated config statements.begun (whole files)) (λ s. Ok (flow_of s)) flow h in
-      subst (λ (f : Flow). All RuleIs f.rules) (ok_same (flow_of r.0) flow r.2) (globals r.0 (all_alone statements.begun r.0 (whole files) (λ x i. absurd i) r.1))
+      let r = stated_ok (all_stated config statements.begun (whole files)) (λ s. Ok (flow_of (main_file files) s)) flow h in
+      subst (λ (f : Flow). All RuleIs f.rules) (ok_same (flow_of (main_file files) r.0) flow r.2)
+      (default_alone (main_file files) (map (with_globals (r.0).limits) (r.0).rules) (globals r.0 (all_alone statements.begun r.0 (whole files) (λ x i. absurd i) r.1)))
     where
       globals : (s : State) → StateIs s → All RuleIs (map (with_globals s.limits) s.rules)
       globals s all p i =
@@ -188,5 +210,8 @@ module _ (config : Members) where
 pub read_flows_gather_alone : ReadFlowsGatherAlone
 read_flows_gather_alone nodes file sets flow read part item is_part is_item gathers =
     let files = loaded_ok (from_files (files_at nodes file)) (said_by nodes sets) flow read.0 in
-    let config = loaded_ok (configs nodes no_members (config_files (whole files.0))) (λ m. from_said (evaluated (with_sets m sets) files.0)) flow files.2 in
-    evaluated_alone (with_sets config.0 sets) files.0 flow (said_ok (evaluated (with_sets config.0 sets) files.0) flow config.2) part is_part item is_item gathers
+    let config = loaded_ok (configs nodes no_members (config_files (whole files.0))) (λ m. said_in (with_sets m sets) files.0) flow files.2 in
+    let said = loaded_ok (from_said (evaluated (with_sets config.0 sets) files.0)) waited flow config.2 in
+    let same = ok_same said.0 flow (loaded_ok (all_wait (said.0).rules) (λ done. Ok said.0) flow said.2).2 in
+    subst (λ (f : Flow). All RuleIs f.rules) same
+    (evaluated_alone (with_sets config.0 sets) files.0 said.0 (said_ok (evaluated (with_sets config.0 sets) files.0) said.0 said.1)) part is_part item is_item gathers

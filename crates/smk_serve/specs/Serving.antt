@@ -1,13 +1,13 @@
 -- What is done for what is asked: why nothing is run or listed, or what is.
-use Rattle.std.specs.Prelude.{◌≡◌, ◌⊎◌, ℕ, Bool, true, false, List, [], Option, Result, Ok, Err, is_ok}
+use Rattle.std.specs.Prelude.{◌≡◌, ◌⊎◌, ℕ, Bool, false, List, [], Option, Result, Err, is_ok}
 use Rattle.smk_world.specs.World.{World}
 use Rattle.smk_world.specs.Devices.{Device, Sunk, HasLooked}
 use Rattle.smk_world.specs.Trees.{Act}
 use Rattle.smk_record.specs.declared.record.Record.{Record}
 use Rattle.smk_store.specs.Images.{seen}
-use Rattle.smk_pick.specs.declared.settings.Force.TheVariants.{No}
 use Rattle.smk_pick.specs.declared.settings.Settings.{Settings}
 use Rattle.smk_plan.specs.States.{nothing_done}
+use Rattle.smk_words_reading.specs.declared.asked.RunWords.{RunWords}
 use Rattle.smk_report.specs.declared.fault.Fault.{Fault}
 use Rattle.smk_report.specs.declared.fault.Fault.TheVariants as fault
 use Rattle.smk_drive.specs.Refusals.{ChainRefuses}
@@ -20,28 +20,35 @@ use Rattle.smk_cli_entry.specs.Faults.{is_device}
 use Rattle.smk_run.specs.Reports.{HasReported, IsReport}
 use Rattle.smk_run.specs.Runs.{is_output}
 
--- what a plan for what is asked goes by: jobs that weren't finished are run again, and none is forced
-abbrev pub settings_of : Asked → ℕ → Settings
-settings_of asked cores =
-    record { targets = asked.targets; cores = cores; bounds = []; keep_going = false; rerun_incomplete = true; force = No }
+-- what a plan for what is asked goes by: the words, with the paths that their targets stand for
+abbrev pub settings_of : Asked → RunWords → Settings
+settings_of asked words =
+    record {
+      targets = asked.targets;
+      cores = words.cores;
+      bounds = words.bounds;
+      keep_going = words.keep_going;
+      rerun_incomplete = words.rerun_incomplete;
+      force = words.force;
+    }
 
 -- ## Plans
 
-module _ (read : List ℕ → Option Record) (asked : Asked) (cores : ℕ) (w : World) where
+module _ (read : List ℕ → Option Record) (asked : Asked) (words : RunWords) (w : World) where
   -- this is the first refusal of the plan for what is asked
   abbrev pub IsRefusedPlan : Fault → Type 0
-  IsRefusedPlan f = ChainRefuses (rules_for read asked.flow (settings_of asked cores)) (seen read w) nothing_done [] f
+  IsRefusedPlan f = ChainRefuses (rules_for read asked.flow (settings_of asked words)) (seen read w) nothing_done [] f
 
   -- this is the plan for what is asked
   abbrev pub IsPlanFor : Previewed → Type 0
-  IsPlanFor told = IsPreviewed read asked.flow (settings_of asked cores) (seen read w) told
+  IsPlanFor told = IsPreviewed read asked.flow (settings_of asked words) (seen read w) told
 
   -- this is asked, and this is the plan for it
   abbrev pub IsServed : Asked → Previewed → Type 0
   IsServed served told = (served ≡ asked) × IsPlanFor told
 
   abbrev pub IsPlanned : Result Previewed Fault → Type 0
-  IsPlanned result = HasPreviewed read asked.flow (settings_of asked cores) (seen read w) result
+  IsPlanned result = HasPreviewed read asked.flow (settings_of asked words) (seen read w) result
 
 -- ## What is done
 

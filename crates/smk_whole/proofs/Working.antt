@@ -30,6 +30,7 @@ use Rattle.smk_plan.specs.States.{Plan, LastPlan, nothing_done}
 use Rattle.smk_laws_history.proofs.CurrentComplete.{seen_is_complete}
 use Rattle.smk_laws_history.proofs.Valid.{records_valid}
 use Rattle.smk_job.proofs.Children.{is_crew}
+use Rattle.smk_words_reading.specs.declared.asked.RunWords.{RunWords}
 use Rattle.smk_report.specs.declared.fault.Fault.{Fault}
 use Rattle.smk_report.specs.declared.fault.Fault.TheVariants as fault
 use Rattle.smk_run.specs.declared.tally.Tally.{Tally}
@@ -60,8 +61,8 @@ use Rattle.smk_succeed.proofs.Completing.{runs_are_complete}
 use Rattle.smk_whole.specs.Complete.{EndsComplete, IsCleanAsked, IsCompleteAnswer, RefusedPlansMayStop, ServedListingsAreComplete, ServedRunsAreComplete, WorkIsComplete}
 
 pub refused_plans_may_stop : RefusedPlansMayStop
-refused_plans_may_stop act read asked cores w H f clean refused =
-    clean_targets_are_planned (rules_for read asked.flow (settings_of asked cores)) act (seen read w) H nothing_done f clean.alone
+refused_plans_may_stop act read asked words w H f clean refused =
+    clean_targets_are_planned (rules_for read asked.flow (settings_of asked words)) act (seen read w) H nothing_done f clean.alone
     (seen_is_complete read w clean.sound.formed) (records_valid read w.names (λ q. reading (w.nodes q))) clean.sound.now refl clean.values refused
 
 -- ## The events of two sayings on one call
@@ -203,10 +204,10 @@ concluded (Ok tally) result none (inr (f, e, inl out)) = broke_off f (subst MayB
 concluded (Ok tally) result none (inr (f, e, inr memory)) = broke_off f (subst MayBreakOff (sym memory) OfMemory) result e
 
 module _
-    (act : Act) (read : List ℕ → Option Record) (asked : Asked) (told : Previewed) (cores : ℕ) (w v : World) (H : Versions) (result : Result (Unit {0}) Fault)
+    (act : Act) (read : List ℕ → Option Record) (asked : Asked) (told : Previewed) (words : RunWords) (w v : World) (H : Versions) (result : Result (Unit {0}) Fault)
     (old looked steady new : Device) (out_old out_new : Sunk) (at : old.world ≡ Some w) (end : new.world ≡ Some v)
-    (clean : IsCleanAsked act read asked w H) (planned : IsPlanFor read asked cores w told)
-    (plain : (plan : Plan) → LastPlan asked.flow (seen read w) (settings_of asked cores) nothing_done [] plan → IsPlainPlan plan)
+    (clean : IsCleanAsked act read asked w H) (planned : IsPlanFor read asked words w told)
+    (plain : (plan : Plan) → LastPlan asked.flow (seen read w) (settings_of asked words) nothing_done [] plan → IsPlainPlan plan)
     (never : Rose old.faults new.faults → ⊥) (looking : HasLooked act old looked false) where
   abbrev Settling : Result (Unit {0}) StoreFault → Type 0
   Settling settled = HasActed act (HasTried (steady_requests told.store) settled) looked steady (store_failed settled)
@@ -223,7 +224,7 @@ module _
 
   ran :
       (duties : List Duty) → AreFor told.plan.states duties → (u : Unit {0}) → Settling (Ok u) →
-      HasMade act asked.flow cores asked.targets told.jobs (next_serial told.store) duties result steady new out_old out_new → EndsComplete result
+      HasMade act asked.flow words.cores asked.targets told.jobs (next_serial told.store) duties result steady new out_old out_new → EndsComplete result
   ran duties fit u settling made =
       let d = made.ran.did v end in
       let g = made.given v end in
@@ -236,22 +237,22 @@ module _
       (subst (AreGiven act (Rose steady.faults new.faults) y) events (subst (λ x. AreGiven act (Rose steady.faults new.faults) x g.2.0) same g.2.2)) in
       let still = started y d.1 u settling in
       let ends =
-      runs_are_complete asked.flow (record { read = read; act = act }) (λ j. is_none (missing j)) w y H (settings_of asked cores) (plan_of told) cores (next_serial told.store) duties made.turns
+      runs_are_complete asked.flow (record { read = read; act = act }) (λ j. is_none (missing j)) w y H (settings_of asked words) (plan_of told) words.cores (next_serial told.store) duties made.turns
       made.failed made.ended (serials told.jobs.makers (next_serial told.store) duties) d.2.0 clean.sound planned.last clean.alone clean.values (plain (plan_of told) planned.last)
       still.files still.none_runs still.owners fit made.in_order made.answer d.2.1 given d.2.2 in
       concluded made.ended result ends made.concluded
 
   went_on :
       (settled : Result (Unit {0}) StoreFault) → Settling settled →
-      GoesOn act asked.flow cores asked.targets told.jobs told.plan.states told.store result steady new out_old out_new settled → EndsComplete result
+      GoesOn act asked.flow words.cores asked.targets told.jobs told.plan.states told.store result steady new out_old out_new settled → EndsComplete result
   went_on settled settling (NotFirm f e same unput) =
       let s = settling.did v (ap (λ (d : Device). d.world) (sym same) ∙ end) in broke_off (of_store f) (store_stops f (steady_requests told.store) s.0 s.2.0 s.2.2) result e
   went_on settled settling (NoMemory u e same unput) = broke_off fault.OutOfMemory OfMemory result e
   went_on settled settling (Made u duties fit meant made) = ran duties fit u settling made
 
 pub work_is_complete : WorkIsComplete
-work_is_complete act read asked told cores w v H result old new out_old out_new at end clean planned plain never worked =
-    went_on act read asked told cores w v H result old worked.looked worked.carried.firm new out_old out_new at end clean planned plain never worked.looking
+work_is_complete act read asked told words w v H result old new out_old out_new at end clean planned plain never worked =
+    went_on act read asked told words w v H result old worked.looked worked.carried.firm new out_old out_new at end clean planned plain never worked.looking
     worked.carried.settled worked.carried.settling worked.carried.goes_on
 
 -- ## What is served
@@ -269,24 +270,24 @@ listed_ends (Err f) h = pick (h f refl)
     pick (inr memory) = subst MayBreakOff (sym memory) OfMemory
 
 completes :
-    (read : List ℕ → Option Record) (asked : Asked) (cores : ℕ) (w : World) (result : Result (Unit {0}) Fault) → EndsComplete result →
-    IsCompleteAnswer read asked cores w result
-completes read asked cores w (Ok u) h = tt
-completes read asked cores w (Err f) h = inr h
+    (read : List ℕ → Option Record) (asked : Asked) (words : RunWords) (w : World) (result : Result (Unit {0}) Fault) → EndsComplete result →
+    IsCompleteAnswer read asked words w result
+completes read asked words w (Ok u) h = tt
+completes read asked words w (Err f) h = inr h
 
 pub served_runs_are_complete : ServedRunsAreComplete
-served_runs_are_complete act read asked cores w v H result old new out_old out_new at end clean plain never (Refused f e refused kept) =
-    subst (IsCompleteAnswer read asked cores w) (sym e) (inl (refused_plans_may_stop act read asked cores w H f clean refused))
-served_runs_are_complete act read asked cores w v H result old new out_old out_new at end clean plain never (Stopped f e want kept) =
-    subst (IsCompleteAnswer read asked cores w) (sym e) (inr (want_stops f want))
-served_runs_are_complete act read asked cores w v H result old new out_old out_new at end clean plain never (Worked served told (same, planned) worked) =
-    completes read asked cores w result
-    (work_is_complete act read asked told cores w v H result old new out_old out_new at end clean planned plain never
-    (subst (λ (a : Asked). HasWorked act cores result a told old new out_old out_new) same worked))
+served_runs_are_complete act read asked words w v H result old new out_old out_new at end clean plain never (Refused f e refused kept) =
+    subst (IsCompleteAnswer read asked words w) (sym e) (inl (refused_plans_may_stop act read asked words w H f clean refused))
+served_runs_are_complete act read asked words w v H result old new out_old out_new at end clean plain never (Stopped f e want kept) =
+    subst (IsCompleteAnswer read asked words w) (sym e) (inr (want_stops f want))
+served_runs_are_complete act read asked words w v H result old new out_old out_new at end clean plain never (Worked served told (same, planned) worked) =
+    completes read asked words w result
+    (work_is_complete act read asked told words w v H result old new out_old out_new at end clean planned plain never
+    (subst (λ (a : Asked). HasWorked act words.cores result a told old new out_old out_new) same worked))
 
 pub served_listings_are_complete : ServedListingsAreComplete
-served_listings_are_complete act read asked cores w H result out_old out_new clean (NotListed f refused unput) =
-    inl (refused_plans_may_stop act read asked cores w H f clean refused)
-served_listings_are_complete act read asked cores w H result out_old out_new clean (HasListed.Stopped f want unput) = inr (want_stops f want)
-served_listings_are_complete act read asked cores w H result out_old out_new clean (Listed served told r planned faults put) =
-    completes read asked cores w r (listed_ends r faults)
+served_listings_are_complete act read asked words w H result out_old out_new clean (NotListed f refused unput) =
+    inl (refused_plans_may_stop act read asked words w H f clean refused)
+served_listings_are_complete act read asked words w H result out_old out_new clean (HasListed.Stopped f want unput) = inr (want_stops f want)
+served_listings_are_complete act read asked words w H result out_old out_new clean (Listed served told r planned faults put) =
+    completes read asked words w r (listed_ends r faults)

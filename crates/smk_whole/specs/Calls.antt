@@ -4,41 +4,40 @@ use Rattle.smk_world.specs.World.{World}
 use Rattle.smk_world.specs.Calls.{Rose}
 use Rattle.smk_world.specs.Devices.{Device, Sunk}
 use Rattle.smk_world.specs.Trees.{Act}
-use Rattle.smk_pattern.specs.Shapes.{Text}
 use Rattle.smk_record.specs.declared.record.Record.{Record}
 use Rattle.smk_store.specs.Images.{seen}
 use Rattle.smk_store.specs.Trust.{Versions}
 use Rattle.smk_store.specs.Soundness.{SoundWorld}
 use Rattle.smk_plan.specs.States.{nothing_done}
 use Rattle.smk_report.specs.declared.fault.Fault.{Fault}
-use Rattle.smk_words.specs.declared.words.RunWords.{RunWords}
-use Rattle.smk_words.specs.declared.words.Request.TheVariants.{Run, Preview}
+use Rattle.smk_words_reading.specs.declared.asked.RunWords.{RunWords}
+use Rattle.smk_words_reading.specs.declared.asked.Asked.TheVariants.{Run, Preview}
 use Rattle.smk_cli_entry.specs.declared.asking.Asked.{Asked}
 use Rattle.smk_cli_entry.specs.Entry.{FailsToAsk, IsAskedIn}
 use Rattle.smk_plan_preview.specs.Previewing.{rules_for}
 use Rattle.smk_serve.specs.Serving.{settings_of}
 use Rattle.smk_cli.specs.Whole.{HasServed}
-use Rattle.smk_laws_complete.specs.Derived.{AllHaveValues, GathersAlone}
+use Rattle.smk_laws_complete.specs.Derived.{AllHaveValues}
 use Rattle.smk_laws_complete.specs.Planned.{MayStop}
 use Rattle.smk_succeed.specs.Completing.{MayBreakOff}
 use Rattle.smk_whole.specs.Complete.{setting_in}
 
 -- The world is sound, the words ask for something, by files that read and with no form that is refused, and each target that they ask for has a
 -- clean value.
-pub record IsCleanCall (act : Act) (read : List ℕ → Option Record) (run : Bool) (targets : List Text) (w : World) (H : Versions) : Type 0 where
+pub record IsCleanCall (act : Act) (read : List ℕ → Option Record) (run : Bool) (words : RunWords) (w : World) (H : Versions) : Type 0 where
   pub sound : SoundWorld (record { read = read; act = act }) w H
-  pub unrefused : (f : Fault) → FailsToAsk run targets w.nodes f → ⊥
-  pub values : (asked : Asked) → IsAskedIn run targets w.nodes (Ok asked) → AllHaveValues (setting_in act read asked w) asked.targets
+  pub unrefused : (f : Fault) → FailsToAsk run words w.nodes f → ⊥
+  pub values : (asked : Asked) → IsAskedIn run words w.nodes (Ok asked) → AllHaveValues (setting_in act read asked w) asked.targets
 
 -- What is told then: that all is well; that the call broke off, for want of memory, of the device, of the sink, of a serial, or with a record that is too
 -- long; or that its plan was refused for how the folder stands or for what clashes.
-pub data MayTell (read : List ℕ → Option Record) (run : Bool) (targets : List Text) (cores : ℕ) (w : World) : Option Fault → Type 0 where
-  AllIsWell : MayTell read run targets cores w None
-  BrokenOff : (f : Fault) → MayBreakOff f → MayTell read run targets cores w (Some f)
+pub data MayTell (read : List ℕ → Option Record) (run : Bool) (words : RunWords) (w : World) : Option Fault → Type 0 where
+  AllIsWell : MayTell read run words w None
+  BrokenOff : (f : Fault) → MayBreakOff f → MayTell read run words w (Some f)
   PlanRefused :
       (asked : Asked) (f : Fault) →
-      IsAskedIn run targets w.nodes (Ok asked) →
-      MayStop (rules_for read asked.flow (settings_of asked cores)) (seen read w) nothing_done f → MayTell read run targets cores w (Some f)
+      IsAskedIn run words w.nodes (Ok asked) →
+      MayStop (rules_for read asked.flow (settings_of asked words)) (seen read w) nothing_done f → MayTell read run words w (Some f)
 
 -- A call for a run tells nothing else, where the world is told at its end and no count of faults of the device rose.
 abbrev pub CallIsComplete : Type 0
@@ -47,15 +46,14 @@ CallIsComplete =
     (old new : Device) (out_old out_new : Sunk) →
     old.world ≡ Some w →
     new.world ≡ Some v →
-    IsCleanCall act read true words.targets w H →
+    IsCleanCall act read true words w H →
     (Rose old.faults new.faults → ⊥) →
-    HasServed act read (Run words) w told old new out_old out_new → MayTell read true words.targets words.cores w told
+    HasServed act read (Run words) w told old new out_old out_new → MayTell read true words w told
 
--- Nor does a call for a listing, of a workflow in which an item that gathers has no texts besides.
+-- Nor does a call for a listing.
 abbrev pub ListingIsComplete : Type 0
 ListingIsComplete =
     (act : Act) (read : List ℕ → Option Record) (words : RunWords) (w : World) (H : Versions) (told : Option Fault)
     (old new : Device) (out_old out_new : Sunk) →
-    IsCleanCall act read false words.targets w H →
-    ((asked : Asked) → IsAskedIn false words.targets w.nodes (Ok asked) → GathersAlone asked.flow) →
-    HasServed act read (Preview words) w told old new out_old out_new → MayTell read false words.targets 1 w told
+    IsCleanCall act read false words w H →
+    HasServed act read (Preview words) w told old new out_old out_new → MayTell read false words w told

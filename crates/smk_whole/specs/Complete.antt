@@ -11,6 +11,7 @@ use Rattle.smk_store.specs.Trust.{Versions}
 use Rattle.smk_store.specs.Soundness.{SoundWorld}
 use Rattle.smk_chain.specs.Mean.{Setting, setting_of}
 use Rattle.smk_plan.specs.States.{Plan, LastPlan, nothing_done}
+use Rattle.smk_words_reading.specs.declared.asked.RunWords.{RunWords}
 use Rattle.smk_report.specs.declared.fault.Fault.{Fault}
 use Rattle.smk_cli_entry.specs.declared.asking.Asked.{Asked}
 use Rattle.smk_plan_preview.specs.declared.previewing.Previewed.{Previewed}
@@ -34,9 +35,9 @@ pub record IsCleanAsked (act : Act) (read : List ℕ → Option Record) (asked :
 -- Then a plan is refused only for how the folder stands, or for what clashes.
 abbrev pub RefusedPlansMayStop : Type 0
 RefusedPlansMayStop =
-    (act : Act) (read : List ℕ → Option Record) (asked : Asked) (cores : ℕ) (w : World) (H : Versions) (f : Fault) →
+    (act : Act) (read : List ℕ → Option Record) (asked : Asked) (words : RunWords) (w : World) (H : Versions) (f : Fault) →
     IsCleanAsked act read asked w H →
-    IsRefusedPlan read asked cores w f → MayStop (rules_for read asked.flow (settings_of asked cores)) (seen read w) nothing_done f
+    IsRefusedPlan read asked words w f → MayStop (rules_for read asked.flow (settings_of asked words)) (seen read w) nothing_done f
 
 -- all is well, or the run broke off
 abbrev pub EndsComplete : Result (Unit {0}) Fault → Type 0
@@ -47,38 +48,38 @@ EndsComplete (Err f) = MayBreakOff f
 -- at its end and no count of faults rose.
 abbrev pub WorkIsComplete : Type 0
 WorkIsComplete =
-    (act : Act) (read : List ℕ → Option Record) (asked : Asked) (told : Previewed) (cores : ℕ) (w v : World) (H : Versions) (result : Result (Unit {0}) Fault)
+    (act : Act) (read : List ℕ → Option Record) (asked : Asked) (told : Previewed) (words : RunWords) (w v : World) (H : Versions) (result : Result (Unit {0}) Fault)
     (old new : Device) (out_old out_new : Sunk) →
     old.world ≡ Some w →
     new.world ≡ Some v →
     IsCleanAsked act read asked w H →
-    IsPlanFor read asked cores w told →
-    ((plan : Plan) → LastPlan asked.flow (seen read w) (settings_of asked cores) nothing_done [] plan → IsPlainPlan plan) →
-    (Rose old.faults new.faults → ⊥) → HasWorked act cores result asked told old new out_old out_new → EndsComplete result
+    IsPlanFor read asked words w told →
+    ((plan : Plan) → LastPlan asked.flow (seen read w) (settings_of asked words) nothing_done [] plan → IsPlainPlan plan) →
+    (Rose old.faults new.faults → ⊥) → HasWorked act words.cores result asked told old new out_old out_new → EndsComplete result
 
 -- ## What is served
 
 -- The call ends well; or it is refused so, or broke off.
-abbrev pub IsCompleteAnswer : (List ℕ → Option Record) → Asked → ℕ → World → Result (Unit {0}) Fault → Type 0
-IsCompleteAnswer read asked cores w (Ok u) = Unit {0}
-IsCompleteAnswer read asked cores w (Err f) = MayStop (rules_for read asked.flow (settings_of asked cores)) (seen read w) nothing_done f ⊎ MayBreakOff f
+abbrev pub IsCompleteAnswer : (List ℕ → Option Record) → Asked → RunWords → World → Result (Unit {0}) Fault → Type 0
+IsCompleteAnswer read asked words w (Ok u) = Unit {0}
+IsCompleteAnswer read asked words w (Err f) = MayStop (rules_for read asked.flow (settings_of asked words)) (seen read w) nothing_done f ⊎ MayBreakOff f
 
 -- So a run for what is asked ends.
 abbrev pub ServedRunsAreComplete : Type 0
 ServedRunsAreComplete =
-    (act : Act) (read : List ℕ → Option Record) (asked : Asked) (cores : ℕ) (w v : World) (H : Versions) (result : Result (Unit {0}) Fault)
+    (act : Act) (read : List ℕ → Option Record) (asked : Asked) (words : RunWords) (w v : World) (H : Versions) (result : Result (Unit {0}) Fault)
     (old new : Device) (out_old out_new : Sunk) →
     old.world ≡ Some w →
     new.world ≡ Some v →
     IsCleanAsked act read asked w H →
-    ((plan : Plan) → LastPlan asked.flow (seen read w) (settings_of asked cores) nothing_done [] plan → IsPlainPlan plan) →
+    ((plan : Plan) → LastPlan asked.flow (seen read w) (settings_of asked words) nothing_done [] plan → IsPlainPlan plan) →
     (Rose old.faults new.faults → ⊥) →
-    Went act cores result (IsRefusedPlan read asked cores w) (IsServed read asked cores w) old new out_old out_new → IsCompleteAnswer read asked cores w result
+    Went act words.cores result (IsRefusedPlan read asked words w) (IsServed read asked words w) old new out_old out_new → IsCompleteAnswer read asked words w result
 
 -- And so does a listing.
 abbrev pub ServedListingsAreComplete : Type 0
 ServedListingsAreComplete =
-    (act : Act) (read : List ℕ → Option Record) (asked : Asked) (cores : ℕ) (w : World) (H : Versions) (result : Result (Unit {0}) Fault)
+    (act : Act) (read : List ℕ → Option Record) (asked : Asked) (words : RunWords) (w : World) (H : Versions) (result : Result (Unit {0}) Fault)
     (out_old out_new : Sunk) →
     IsCleanAsked act read asked w H →
-    HasListed (IsRefusedPlan read asked cores w) (IsServed read asked cores w) out_old out_new result → IsCompleteAnswer read asked cores w result
+    HasListed (IsRefusedPlan read asked words w) (IsServed read asked words w) out_old out_new result → IsCompleteAnswer read asked words w result

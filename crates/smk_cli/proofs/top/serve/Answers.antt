@@ -1,29 +1,35 @@
-use Rattle.std.proofs.Common.{refl, inr, sym, subst}
+use Rattle.std.proofs.Common.{refl, sym, subst}
 use Rattle.std.specs.Prelude.{map, string_bytes}
 use Rattle.smk_world.proofs.Devices.{looked_as, looked_nothing}
+use Rattle.smk_words_reading.proofs.Whole.{one_asked}
 use Rattle.smk_serve.proofs.Ended.{early}
 use Rattle.smk_cli.specs.Whole.{Serves}
 use Rattle.smk_cli.proofs.Serving.{stopped}
-use Rattle.smk_cli.proofs.Outcomes.{unread_fault}
-use Rattle.smk_cli.proofs.Words.{memory_only, one_request}
+use Rattle.smk_cli.proofs.Words.{built_unrefused, early_calm, early_quiet, early_refusal, early_want}
 use Rattle.smk_cli.proofs.top.serve.Goals as goal
 
 pub returns-in-Err-clause-ended : goal.returns-in-Err-clause-ended
-returns-in-Err-clause-ended g c = early c.in-Err.fault _ (looked_as (sym c.in-Err.ensures.no_device) (looked_nothing g.W.Files.act _)) c.requires.none_runs c.in-Err.ensures.no_sink
+returns-in-Err-clause-ended g c =
+    let words = map string_bytes c.args.words.now in
+    let f = c.in-Err.fault in
+    early f _ (looked_as (sym (early_calm words f c.in-Err.ensures.refused)) (looked_nothing g.W.Files.act _)) c.requires.none_runs (early_quiet words f c.in-Err.ensures.refused)
 
 pub returns-in-Err-clause-unread : goal.returns-in-Err-clause-unread
-returns-in-Err-clause-unread g c = λ never. (unread_fault c.in-Err.fault c.in-Err.ensures.kind, refl, refl)
+returns-in-Err-clause-unread g c = λ f refused. (early_refusal (map string_bytes c.args.words.now) f c.in-Err.fault c.in-Err.ensures.refused refused, refl, refl)
 
 pub returns-in-Err-clause-serves : goal.returns-in-Err-clause-serves
-returns-in-Err-clause-serves g c = λ asked is_asked w at read reads.
-    stopped g.W.Files.act read w c.in-Err.fault asked _ _ (inr (memory_only c.in-Err.fault _ asked is_asked c.in-Err.ensures.kind c.in-Err.ensures.bad)) c.in-Err.ensures.no_device
+returns-in-Err-clause-serves g c = λ request asked built w at read reads.
+    let words = map string_bytes c.args.words.now in
+    let f = c.in-Err.fault in
+    let early_is = c.in-Err.ensures.refused in
+    stopped g.W.Files.act read w f request _ _ built (early_want words f request asked built early_is) (early_calm words f early_is)
 
 pub returns-in-Ok-clause-unread : goal.returns-in-Ok-clause-unread
-returns-in-Ok-clause-unread g c = λ never. absurd (never (c.in-Ok.request, c.in-Ok.ensures.ok))
+returns-in-Ok-clause-unread g c = λ f refused. absurd (built_unrefused (map string_bytes c.args.words.now) f c.in-Ok.request c.in-Ok.ensures.ok.0 c.in-Ok.ensures.ok.1 refused)
 
 pub returns-in-Ok-clause-serves : goal.returns-in-Ok-clause-serves
-returns-in-Ok-clause-serves g c = λ asked is_asked w at read reads.
+returns-in-Ok-clause-serves g c = λ request asked built w at read reads.
     subst
     (λ r. Serves g.W.Files.act read w c.serve_request.result (g.W.Files.device c.args.work.now) (g.W.Files.device c.serve_request.new.work) (g.O.Sink.sunk c.args.out.now) (g.O.Sink.sunk c.serve_request.new.out) r)
-    (one_request (map string_bytes c.args.words.now) c.in-Ok.request asked c.in-Ok.ensures.ok is_asked)
-    (c.serve_request.ensures.serves w at read reads)
+    (one_asked (map string_bytes c.args.words.now) c.in-Ok.request request c.in-Ok.ensures.ok.0 asked)
+    (c.serve_request.ensures.serves c.in-Ok.ensures.ok.1 w at read reads)

@@ -13,6 +13,8 @@ returns-in-Ok-clause-looked g c = looked_then c.in-Ok.ensures.looked c.read_in.e
 
 pub returns-in-Ok-clause-told : goal.returns-in-Ok-clause-told
 returns-in-Ok-clause-told g c = λ w here.
+    let words = c.args.words.now in
     let file = c.in-Ok.file in
     let r = c.read_in.result in
-    read_both w.nodes file r (c.in-Ok.ensures.told w here) (told_then (λ nodes. IsReadIn nodes file r) c.in-Ok.ensures.looked c.read_in.ensures.told w here)
+    read_both words w.nodes file r (c.in-Ok.ensures.told w here)
+    (told_then (λ nodes. IsReadIn nodes file words.sets r) c.in-Ok.ensures.looked c.read_in.ensures.told w here)

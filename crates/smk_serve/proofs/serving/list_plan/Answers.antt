@@ -19,7 +19,7 @@ returns-in-Err-clause-looked g c = c.in-Err.ensures.looked
 
 pub returns-in-Err-clause-listed : goal.returns-in-Err-clause-listed
 returns-in-Err-clause-listed g c = λ w at read reads.
-    refused_or_stopped_listing (IsRefusedPlan read c.args.asked.now 1 w) (IsServed read c.args.asked.now 1 w) c.in-Err.fault _ c.in-Err.ensures.no_sink (c.in-Err.ensures.told w at read reads)
+    refused_or_stopped_listing (IsRefusedPlan read c.args.asked.now c.args.words.now w) (IsServed read c.args.asked.now c.args.words.now w) c.in-Err.fault _ c.in-Err.ensures.no_sink (c.in-Err.ensures.told w at read reads)
 
 pub put_listing-requires-clause-each : goal.put_listing-requires-clause-each
 put_listing-requires-clause-each g c = c.in-Ok.ensures.fit.states

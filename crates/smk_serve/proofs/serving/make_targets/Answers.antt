@@ -12,7 +12,7 @@ returns-in-Err-clause-ended g c = early c.in-Err.fault _ c.in-Err.ensures.looked
 
 pub returns-in-Err-clause-went : goal.returns-in-Err-clause-went
 returns-in-Err-clause-went g c = λ w at read reads.
-    refused_or_stopped g.W.Files.act c.args.cores (IsRefusedPlan read c.args.asked.now c.args.cores w) (IsServed read c.args.asked.now c.args.cores w) c.in-Err.fault _ _ _ _
+    refused_or_stopped g.W.Files.act c.args.words.now.cores (IsRefusedPlan read c.args.asked.now c.args.words.now w) (IsServed read c.args.asked.now c.args.words.now w) c.in-Err.fault _ _ _ _
     c.in-Err.ensures.no_sink (c.in-Err.ensures.told w at read reads) (only_looked _ c.in-Err.ensures.looked)
 
 pub returns-in-Ok-clause-ended : goal.returns-in-Ok-clause-ended

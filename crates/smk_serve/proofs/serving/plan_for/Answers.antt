@@ -17,7 +17,7 @@ pub returns-clause-no_sink : goal.returns-clause-no_sink
 returns-clause-no_sink g c = c.preview.ensures.no_sink
 
 pub returns-clause-fit : goal.returns-clause-fit
-returns-clause-fit g c = fit_by c.args.asked.now.flow c.in-Ok.settings (settings_of c.args.asked.now c.args.cores) c.preview.result c.in-Ok.ensures c.preview.ensures.good
+returns-clause-fit g c = fit_by c.args.asked.now.flow c.in-Ok.settings (settings_of c.args.asked.now c.args.words.now) c.preview.result c.in-Ok.ensures c.preview.ensures.good
 
 pub returns-clause-told : goal.returns-clause-told
 returns-clause-told g c = λ w at read reads.

@@ -1,0 +1,51 @@
+//! What the program tells of itself.
+
+/// The page of `--help`.
+pub(crate) const HELP: &str = "\
+smk runs pipelines written as Snakefiles: it finds out which jobs have to run, runs these, and reports.
+
+Usage:
+  smk -c N [OPTION ..] [TARGET ..]    make the targets
+  smk -n [OPTION ..] [TARGET ..]      list what a run would do and why, and change nothing
+  smk --help                          print this page
+  smk --version                       print the version
+
+A target is a path, or the name of a rule, which stands for the rule's outputs or, where it has none, for its
+inputs. Without a target the rule with `default_target: True` is made, else the first rule.
+
+Options:
+  -c, --cores N             tell a command of at most N threads, 1 to 4096; jobs run one after another
+  -n, --dry-run             list the jobs of a run; with -c N those of a run with N cores, else with one
+  -s, --snakefile FILE      read the workflow from FILE, and not from the first that is there of Snakefile,
+                            snakefile, workflow/Snakefile and workflow/snakefile
+  -C, --config KEY=VALUE    set KEY of the configuration to this text; the last VALUE of a KEY counts
+      --resources NAME=N    refuse a job that asks for more than N of the resource NAME
+      --rerun-incomplete    run jobs again that were left unfinished; else a plan with such jobs is refused
+      --nolock              neither heed nor take the lock; no run does that yet
+  -k, --keep-going          go on after a failed job: with -n alone, where it changes nothing
+  -f, --force               run the jobs that make the targets again: with -n alone
+  -F, --forceall            run all jobs again: with -n alone
+  --                        all words that follow are targets
+
+A value is the next word, or it stands behind `=`, as in --cores=4, or at once behind the letter, as in -c4. Letters
+can be joined, as in -nF. --config and --resources can be repeated, --resources with another NAME; all others stand
+once.
+
+Not built yet, and refused: -k, -f and -F without -n; --unlock, --cleanup-metadata PATH and --generate SEED:SIZE; a run
+of a workflow with checkpoints, directory, temp or protected outputs, which -n lists.
+
+Status:
+  0  all is made, or listed
+  1  a job failed
+  2  the words are refused
+  3  the workflow, a target, the plan or a job is refused
+  4  the folder, its disk or a child process couldn't be used
+  5  there is no memory
+  6  the report couldn't be written
+
+Examples:
+  smk -c 4                           make the default target
+  smk -n results/table.txt           what would a run do for this file?
+  smk -nF all                        all jobs that the targets of this rule have
+  smk -c 1 -s other.smk -C sample=A  another workflow, with a text of its configuration set
+";

@@ -1,0 +1,29 @@
+-- What is done for words today, and which words are refused.
+use Rattle.std.specs.Prelude.{◌≡◌, ◌&&◌, not, Bool, true, false, List}
+use Rattle.smk_pick.specs.declared.settings.Force.{Force}
+use Rattle.smk_pick.specs.declared.settings.Force.TheVariants.{No, Targets, All}
+use Rattle.smk_words_reading.specs.declared.asked.Asked.{Asked as Request}
+use Rattle.smk_words_reading.specs.declared.asked.Asked.TheVariants.{Run, Preview, Unlock, Forget, Generate}
+use Rattle.smk_words_reading.specs.Words.{Text}
+use Rattle.smk_words_reading.specs.Asks.{IsAsked, LacksCores, AreUnread}
+use Rattle.smk_report.specs.declared.fault.Fault.{Fault}
+use Rattle.smk_report.specs.declared.fault.Fault.TheVariants as fault
+
+abbrev pub forces_none : Force → Bool
+forces_none No = true
+forces_none Targets = false
+forces_none All = false
+
+-- What is built of all that words ask: runs that force no job and end with the first job that fails, and listings.
+abbrev pub is_built : Request → Bool
+is_built (Run words) = not words.keep_going && forces_none words.force
+is_built (Preview words) = true
+is_built Unlock = false
+is_built (Forget paths nolock) = false
+is_built (Generate seed size) = false
+
+-- Words are refused with this fault: they ask nothing; they ask for a run and don't say on how many cores; or what they ask isn't built yet.
+pub data RefusesWords (words : List Text) : Fault → Type 0 where
+  Unread : AreUnread words → RefusesWords words fault.BadWords
+  WithoutCores : LacksCores words → RefusesWords words fault.NoCores
+  NotBuilt : (request : Request) → IsAsked words request → is_built request ≡ false → RefusesWords words fault.BadWords

@@ -1,0 +1,4 @@
+pub mod Changing
+pub mod Putting
+pub mod Locking
+pub mod Unlocking

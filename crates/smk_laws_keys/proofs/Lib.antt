@@ -1,0 +1,4 @@
+pub mod Kept
+pub mod Little
+pub mod Moves
+pub mod Safe
