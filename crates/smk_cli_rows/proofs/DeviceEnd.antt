@@ -1,11 +1,11 @@
 -- What may be told of the device: a fault of it where a call failed alone.
-use Rattle.std.proofs.Common.{ℕ, List, [], Some, refl}
+use Rattle.std.proofs.Common.{List, [], Some, refl}
 use Rattle.smk_world.specs.World.{World}
 use Rattle.smk_world.specs.Devices.{Device, Sunk}
 use Rattle.smk_world.specs.Trees.{Act}
 use Rattle.smk_pattern.specs.Shapes.{Text}
 use Rattle.smk_report.specs.declared.fault.Fault.TheVariants as fault
-use Rattle.smk_cli_target.specs.declared.asked.Outcome.{Outcome}
+use Rattle.smk_cli_target.specs.declared.ending.Outcome.{Outcome}
 use Rattle.smk_cli_target.specs.Clauses.{HasLog}
 
 abbrev device_failed : Outcome

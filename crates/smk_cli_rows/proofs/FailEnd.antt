@@ -1,5 +1,5 @@
 -- How the run whose job fails ends: with status 1; and it may not call its target current.
-use Rattle.std.proofs.Common.{◌≡◌, ℕ, true, false, List, [], ◌∷◌, ◌++◌, codes, Option, Some, is_some, refl, sym, ap, ◌∙◌, IsTrue, arith, true≢false}
+use Rattle.std.proofs.Common.{◌≡◌, true, false, List, [], ◌∷◌, ◌++◌, codes, Option, Some, is_some, refl, sym, ap, ◌∙◌, IsTrue, arith, true≢false}
 use Rattle.smk_base.specs.declared.tree.Tree.{Tree}
 use Rattle.smk_world.specs.declared.event.Event.{Event}
 use Rattle.smk_world.specs.World.{run}

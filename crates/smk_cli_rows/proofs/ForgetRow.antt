@@ -8,9 +8,9 @@ use Rattle.smk_world.specs.World.{World, Nodes, world_of, run}
 use Rattle.smk_world.specs.Trees.{Path}
 use Rattle.smk_pattern.specs.Shapes.{Text}
 use Rattle.smk_drive.proofs.Turns.{event, put}
-use Rattle.smk_drive_rows.proofs.Truth.{not_empty}
-use Rattle.smk_cli_target.specs.declared.asked.Asked.TheVariants.{Forget}
-use Rattle.smk_cli_target.specs.Words.{CleanupMetadata, Given, Part, NoWord, ValueIsNext, IsAsked, AForgetting}
+use Rattle.smk_words_reading.specs.declared.asked.Asked.TheVariants.{Forget}
+use Rattle.smk_words_reading.specs.Asks.{IsAsked}
+use Rattle.smk_words_reading.proofs.Whole.{read_asked}
 use Rattle.smk_cli_target.specs.Files.{seen}
 use Rattle.smk_cli_target.specs.Clauses.{HasForgotten, IsWholeFor, forgotten_lines, own_places}
 use Rattle.smk_cli_rows.proofs.Confined.{stays_elsewhere}
@@ -26,14 +26,8 @@ b = codes "b.txt"
 abbrev pub words : List Text
 words = codes "--cleanup-metadata" ∷ a ∷ codes "--cleanup-metadata" ∷ b ∷ []
 
-abbrev parts : List Part
-parts = Given CleanupMetadata a ∷ Given CleanupMetadata b ∷ []
-
 pub is_asked : IsAsked words (Forget (a ∷ b ∷ []) false)
-is_asked =
-    AForgetting parts (a ∷ b ∷ []) false
-    (ValueIsNext CleanupMetadata a (codes "--cleanup-metadata" ∷ b ∷ []) (Given CleanupMetadata b ∷ []) refl (ValueIsNext CleanupMetadata b [] [] refl NoWord))
-    refl (λ h. not_empty a (b ∷ []) h) (refl, (refl, tt)) refl (omega arith) refl
+is_asked = read_asked words (Forget (a ∷ b ∷ []) false) refl
 
 -- ## The call
 

@@ -7,3 +7,4 @@ pub mod FailEnd
 pub mod DeviceEnd
 pub mod Confined
 pub mod ForgetRow
+pub mod BytesRow

@@ -1,5 +1,5 @@
 -- Listings of a folder with one file to copy: the good text, and texts that are refused.
-use Rattle.std.proofs.Common.{◌≡◌, ◌⊎◌, ℕ, true, false, [], ◌∷◌, None, refl, sym, ◌∙◌, ap, inl, inr, true≢false, arith}
+use Rattle.std.proofs.Common.{◌≡◌, ◌⊎◌, ℕ, false, [], ◌∷◌, None, refl, sym, ◌∙◌, ap, inl, inr, true≢false, arith}
 use Rattle.std.specs.Prelude.{codes, bytes_eq}
 use Rattle.std.specs.Fmt.{digits}
 use Rattle.smk_world.specs.declared.event.Node.TheVariants.{Regular}
@@ -15,7 +15,7 @@ use Rattle.smk_chain.proofs.Folders.{jobs_in}
 use Rattle.smk_laws_plan.proofs.PlanOne.{one_last_plan}
 use Rattle.smk_laws_history.proofs.CurrentComplete.{seen_is_complete}
 use Rattle.smk_record.specs.Reading.{record_in}
-use Rattle.smk_cli_target.specs.declared.asked.RunWords.{RunWords}
+use Rattle.smk_words_reading.specs.declared.asked.RunWords.{RunWords}
 use Rattle.smk_cli_target.specs.Files.{rules_of, seen}
 use Rattle.smk_drive_rows.proofs.Events.{formed_of}
 use Rattle.smk_cli_target.specs.Clauses.{HasListed, IsPlanOf, IsRefusal}

@@ -1,5 +1,5 @@
--- A run that is refused by the lock: it meets every clause, whatever the workflow, if its words ask one thing and its files say one.
-use Rattle.std.proofs.Common.{◌≡◌, ℕ, Bool, true, false, List, [], Option, Some, None, refl, ap, subst, ◌∙◌, inl, inr, IsTrue, true≢false}
+-- A run that is refused by the lock: it meets every clause, whatever the workflow.
+use Rattle.std.proofs.Common.{◌≡◌, ℕ, Bool, true, false, List, [], Option, Some, None, refl, ap, subst, ◌∙◌, inl, inr, IsTrue}
 use Rattle.std.specs.Prelude.{not, ◌||◌}
 use Rattle.smk_world.specs.World.{World}
 use Rattle.smk_world.specs.Devices.{Device, Sunk}
@@ -10,13 +10,15 @@ use Rattle.smk_report.specs.declared.fault.Fault.{Fault}
 use Rattle.smk_report.specs.declared.fault.Fault.TheVariants as fault
 use Rattle.smk_drive.specs.Moments.{Rules}
 use Rattle.smk_drive_rows.proofs.Truth.{not_both}
-use Rattle.smk_cli_target.specs.declared.asked.Asked.{Asked}
-use Rattle.smk_cli_target.specs.declared.asked.Asked.TheVariants.{Run, Preview, Unlock, Forget, Generate}
-use Rattle.smk_cli_target.specs.declared.asked.RunWords.{RunWords}
-use Rattle.smk_cli_target.specs.Words.{IsAsked, LacksCores}
-use Rattle.smk_cli_target.specs.Files.{GoesBy, ReadsAs, FailsToRead, OneWorkflow, NoFaultyWorkflow, bad_target, seen}
+use Rattle.smk_words_reading.specs.declared.asked.Asked.{Asked}
+use Rattle.smk_words_reading.specs.declared.asked.Asked.TheVariants.{Run, Preview, Unlock, Forget, Generate}
+use Rattle.smk_words_reading.specs.declared.asked.RunWords.{RunWords}
+use Rattle.smk_words_reading.specs.Asks.{IsAsked}
+use Rattle.smk_words_reading.proofs.Whole.{none_asked_without_cores, one_asked}
+use Rattle.smk_cli_target.specs.Files.{GoesBy, ReadsAs, FailsToRead, bad_target, seen}
 use Rattle.smk_cli_target.specs.Refusing.{RefusesAtOnce, WordsRefuse, CoresRefuse, FilesRefuse, TargetRefuses, LockRefusesRun, LockRefusesForgetting, Refuses, AtOnce, StampRefuses, OfRun, OfListing, is_let_in}
 use Rattle.smk_cli_target.specs.Clauses.{HasLog, HasText, IsComplete}
+use Rattle.smk_cli_target.proofs.OneWorkflow.{no_faulty_workflow, one_workflow}
 use Rattle.smk_cli_rows.proofs.Refused.{IsRefusedSo, Three, log_so, text_so}
 
 no_device : Some fault.Locked ≡ Some fault.Device → ⊥
@@ -45,34 +47,33 @@ pub record IsLockedOut (words : List Text) (w : World) : Type 0 where
   pub run : RunWords
   pub rules : Rules
   pub asked : IsAsked words (Run run)
-  pub one_asked : (other : Asked) → IsAsked words other → other ≡ Run run
-  pub has_cores : ¬ LacksCores words
   pub goes_by : GoesBy run w rules
-  pub one_workflow : OneWorkflow
-  pub faultless : NoFaultyWorkflow
   pub heeds : run.nolock ≡ false
   pub locked : IsTrue (seen w).locked
 
 module _ (act : Act) (words : List Text) (w : World) (out : IsLockedOut words w) where
+  one : (other : Asked) → IsAsked words other → other ≡ Run out.run
+  one other asked = one_asked words other (Run out.run) asked out.asked
+
   same : (v : RunWords) → IsAsked words (Run v) → v ≡ out.run
-  same v asked = same_run v out.run (out.one_asked (Run v) asked)
+  same v asked = same_run v out.run (one (Run v) asked)
 
   not_listed : {A : Type 0} (v : RunWords) → IsAsked words (Preview v) → A
-  not_listed v asked = absurd (no_listing (out.one_asked (Preview v) asked))
+  not_listed v asked = absurd (no_listing (one (Preview v) asked))
 
   faulty : {A : Type 0} (v : RunWords) (g : Fault) → IsAsked words (Run v) → FailsToRead v w g → A
-  faulty v g asked fails = absurd (out.faultless out.run w out.goes_by.flow g out.goes_by.reads (subst (λ u. FailsToRead u w g) (same v asked) fails))
+  faulty v g asked fails = absurd (no_faulty_workflow out.run w out.goes_by.flow g out.goes_by.reads (subst (λ u. FailsToRead u w g) (same v asked) fails))
 
   wrong_target : {A : Type 0} (v : RunWords) (flow : Flow) (word : Text) → IsAsked words (Run v) → ReadsAs v w flow → bad_target flow v ≡ Some word → A
   wrong_target v flow word asked reads bad =
       let run = same v asked in
-      let flows = out.one_workflow out.run w flow out.goes_by.flow (subst (λ u. ReadsAs u w flow) run reads) out.goes_by.reads in
+      let flows = one_workflow out.run w flow out.goes_by.flow (subst (λ u. ReadsAs u w flow) run reads) out.goes_by.reads in
       absurd (some_none (bad_target out.goes_by.flow out.run) word out.goes_by.targets
       (subst (λ f. bad_target f out.run ≡ Some word) flows (subst (λ u. bad_target flow u ≡ Some word) run bad)))
 
   once : (g : Fault) → RefusesAtOnce words w g → g ≡ fault.Locked
   once g (WordsRefuse unread) = absurd (unread.0 (Run out.run) out.asked)
-  once g (CoresRefuse lacks) = absurd (out.has_cores lacks)
+  once g (CoresRefuse lacks) = absurd (none_asked_without_cores words (Run out.run) out.asked lacks)
   once g (FilesRefuse v h (inl asked) fails) = faulty v h asked fails
   once g (FilesRefuse v h (inr asked) fails) = not_listed v asked
   once g (TargetRefuses v flow word (inl asked) reads bad) = wrong_target v flow word asked reads bad
@@ -87,7 +88,7 @@ module _ (act : Act) (words : List Text) (w : World) (out : IsLockedOut words w)
 
   ever : (g : Fault) → Refuses words w [] g → g ≡ fault.Locked
   ever g (AtOnce h r) = once h r
-  ever g (StampRefuses paths nolock q rest asked free seen_before) = absurd (no_forgetting (out.one_asked (Forget paths nolock) asked))
+  ever g (StampRefuses paths nolock q rest asked free seen_before) = absurd (no_forgetting (one (Forget paths nolock) asked))
   ever g (OfRun v rules h asked by free r) = absurd (not_let_in v asked free)
   ever g (OfListing v rules h asked by r) = not_listed v asked
 
@@ -96,8 +97,8 @@ module _ (act : Act) (words : List Text) (w : World) (out : IsLockedOut words w)
       record {
         of_run = λ good v rules asked by clean. inr (inr (fault.Locked, refl, inl tt));
         of_listing = λ good v rules asked by clean. not_listed v asked;
-        of_unlock = λ asked. absurd (no_unlock (out.one_asked Unlock asked));
-        of_forgetting = λ paths nolock asked. absurd (no_forgetting (out.one_asked (Forget paths nolock) asked));
+        of_unlock = λ asked. absurd (no_unlock (one Unlock asked));
+        of_forgetting = λ paths nolock asked. absurd (no_forgetting (one (Forget paths nolock) asked));
       }
 
   so : IsRefusedSo act words w fault.Locked 3
@@ -109,10 +110,10 @@ module _ (act : Act) (words : List Text) (w : World) (out : IsLockedOut words w)
         early = refl;
         one_at_once = once;
         one = ever;
-        no_unlock = λ asked. no_unlock (out.one_asked Unlock asked);
-        no_forgetting = λ paths nolock asked. no_forgetting (out.one_asked (Forget paths nolock) asked);
-        no_generate = λ seed size asked. no_generate (out.one_asked (Generate seed size) asked);
-        no_listing = λ v asked. no_listing (out.one_asked (Preview v) asked);
+        no_unlock = λ asked. no_unlock (one Unlock asked);
+        no_forgetting = λ paths nolock asked. no_forgetting (one (Forget paths nolock) asked);
+        no_generate = λ seed size asked. no_generate (one (Generate seed size) asked);
+        no_listing = λ v asked. no_listing (one (Preview v) asked);
         complete = complete_so;
       }
 

@@ -1,5 +1,5 @@
 -- A call that is refused at once, and does nothing: it meets every clause on its log and its text, if just this is what it meets.
-use Rattle.std.proofs.Common.{◌≡◌, ◌⊎◌, ◌≤◌, ℕ, Bool, true, List, [], ◌∷◌, filter, Some, refl, sym, subst, inl, inr, IsTrue, arith, true≢false}
+use Rattle.std.proofs.Common.{◌≡◌, ◌⊎◌, ◌≤◌, ℕ, Bool, true, List, [], ◌∷◌, filter, Some, refl, sym, subst, inl, inr, IsTrue, arith}
 use Rattle.smk_base.specs.Place.{mark_place}
 use Rattle.smk_world.specs.World.{World}
 use Rattle.smk_world.specs.Devices.{Device, Sunk}
@@ -13,10 +13,10 @@ use Rattle.smk_drive.specs.Reports.{NoLines, start_line_of}
 use Rattle.smk_drive_target.specs.Lawful.{Lawful}
 use Rattle.smk_drive_target.specs.Moments.{was_started}
 use Rattle.smk_drive_target.specs.Reports.{HasLine, HasStarts}
-use Rattle.smk_cli_target.specs.declared.asked.Asked.TheVariants.{Preview, Unlock, Forget, Generate}
-use Rattle.smk_cli_target.specs.declared.asked.Outcome.{Outcome}
-use Rattle.smk_cli_target.specs.declared.asked.RunWords.{RunWords}
-use Rattle.smk_cli_target.specs.Words.{IsAsked}
+use Rattle.smk_words_reading.specs.declared.asked.Asked.TheVariants.{Preview, Unlock, Forget, Generate}
+use Rattle.smk_cli_target.specs.declared.ending.Outcome.{Outcome}
+use Rattle.smk_words_reading.specs.declared.asked.RunWords.{RunWords}
+use Rattle.smk_words_reading.specs.Asks.{IsAsked}
 use Rattle.smk_cli_target.specs.Ends.{IsClean}
 use Rattle.smk_cli_target.specs.Refusing.{RefusesAtOnce, Refuses, AtOnce, is_met_at_once}
 use Rattle.smk_cli_target.specs.Clauses.{HasLog, HasText, RunsWell, EndsEarly, TellsRefusal, IsComplete}

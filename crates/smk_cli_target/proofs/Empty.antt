@@ -25,7 +25,7 @@ use Rattle.smk_drive_target.specs.Moments.{AtEachEvent}
 use Rattle.smk_drive_target.specs.Lawful.{Lawful, ClosedWithCause}
 use Rattle.smk_drive_target.specs.Keeping.{KeepsOutputs}
 use Rattle.smk_drive_target.specs.Reports.{HasLine}
-use Rattle.smk_cli_target.specs.declared.asked.Outcome.{Outcome}
+use Rattle.smk_cli_target.specs.declared.ending.Outcome.{Outcome}
 use Rattle.smk_cli_target.specs.Ends.{Stays, IsClean}
 use Rattle.smk_cli_target.specs.Clauses.{IsRefusal, RunsWell, EndsEarly, HasUnlocked, HasForgotten, LeavesLittle, IsComplete, HasLog, HasText, Leaves, forgotten_lines}
 use Rattle.smk_cli_target.specs.Files as files

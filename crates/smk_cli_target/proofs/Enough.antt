@@ -17,7 +17,7 @@ use Rattle.smk_drive_target.specs.Lawful.{StartsWell}
 use Rattle.smk_report.specs.Lines.{target_line}
 use Rattle.smk_drive_target.specs.Refusals.{ClashingRunRefuses}
 use Rattle.smk_drive_target.specs.Reports.{HasLine}
-use Rattle.smk_cli_target.specs.declared.asked.Outcome.{Outcome}
+use Rattle.smk_cli_target.specs.declared.ending.Outcome.{Outcome}
 use Rattle.smk_cli_target.specs.Files.{outside}
 use Rattle.smk_cli_target.specs.Ends.{IsGoodEntry, CurrentIsClean}
 use Rattle.smk_cli_target.specs.Refusing.{IsNamed}

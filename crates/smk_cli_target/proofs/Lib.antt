@@ -1,8 +1,12 @@
 pub mod Empty
-mod OneWorkflow
+pub mod OneWorkflow
 mod FirstFault
 mod OneMet
 mod Called
+mod PlanStays
+mod PlanPlaces
+mod SparedWorlds
+mod NextRun
 mod Enough
 mod Rows
 mod ClashRow

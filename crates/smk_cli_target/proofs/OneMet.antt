@@ -1,4 +1,4 @@
--- A call meets one first refusal, if what words ask is one thing.
+-- A call meets one first refusal.
 use Rattle.std.proofs.Common.{◌≡◌, ◌⊎◌, Bool, true, false, not, ◌||◌, List, [], ◌∷◌, Some, refl, sym, ap, subst, inl, inr, ◌∙◌, IsTrue, true≢false}
 use Rattle.std.proofs.lemmas.Option.{same_Some, none-some}
 use Rattle.smk_world.specs.declared.event.Event.{Event}
@@ -15,12 +15,13 @@ use Rattle.smk_drive.specs.Moments.{Rules}
 use Rattle.smk_drive.specs.Refusals.{ChainRefuses}
 use Rattle.smk_drive_target.specs.Refusals.{IsSameFault, RunRefuses}
 use Rattle.smk_drive_target.proofs.OneRefusal.{one_chain_refusal, one_refusal}
-use Rattle.smk_cli_target.specs.declared.asked.Asked.{Asked}
-use Rattle.smk_cli_target.specs.declared.asked.Asked.TheVariants.{Run, Preview, Unlock, Forget, Generate}
-use Rattle.smk_cli_target.specs.declared.asked.RunWords.{RunWords}
-use Rattle.smk_cli_target.specs.Words.{AreUnread, IsAsked, LacksCores}
+use Rattle.smk_words_reading.specs.declared.asked.Asked.{Asked}
+use Rattle.smk_words_reading.specs.declared.asked.Asked.TheVariants.{Run, Preview, Unlock, Forget, Generate}
+use Rattle.smk_words_reading.specs.declared.asked.RunWords.{RunWords}
+use Rattle.smk_words_reading.specs.Asks.{AreUnread, IsAsked, LacksCores}
+use Rattle.smk_words_reading.proofs.Whole.{none_asked_without_cores, one_asked}
 use Rattle.smk_cli_target.specs.Files.{FailsToRead, GoesBy, ReadsAs, bad_target, rules_of, seen}
-use Rattle.smk_cli_target.specs.Refusing.{AsOne, AsksToMake, AtOnce, CoresRefuse, FilesRefuse, LockRefusesForgetting, LockRefusesRun, MeetsOne, OfListing, OfRun, Refuses, RefusesAtOnce, StampRefuses, TargetRefuses, WordsRefuse, is_let_in, seen_in_turn}
+use Rattle.smk_cli_target.specs.Refusing.{AsksToMake, AtOnce, CoresRefuse, FilesRefuse, LockRefusesForgetting, LockRefusesRun, MeetsOne, OfListing, OfRun, Refuses, RefusesAtOnce, StampRefuses, TargetRefuses, WordsRefuse, is_let_in, seen_in_turn}
 use Rattle.smk_cli_target.proofs.FirstFault.{one_first_fault}
 use Rattle.smk_cli_target.proofs.OneWorkflow.{no_faulty_workflow, one_workflow}
 
@@ -33,7 +34,7 @@ locked_out false false n l h = true≢false (sym l)
 first_is : (p q : Path) (ps qs : List Path) → p ∷ ps ≡ q ∷ qs → p ≡ q
 first_is p q ps qs h = cc
 
-module _ (words : List Text) (entry : World) (log : List Event) (formed : IsFormed entry) (as_one : AsOne) where
+module _ (words : List Text) (entry : World) (log : List Event) (formed : IsFormed entry) where
   -- ## What the files and the targets refuse
 
   abbrev Reading : RunWords → Fault → Type 0
@@ -146,11 +147,11 @@ module _ (words : List Text) (entry : World) (log : List Event) (formed : IsForm
   met_one f g (inl (unread, is)) (inr (inr (a, asked, of))) = absurd (unread.0 a asked)
   met_one f g (inr (inl (lacks, is))) (inl (unread, is2)) = absurd (unread.1 lacks)
   met_one f g (inr (inl (lacks, is))) (inr (inl (lacks2, is2))) = inl (is ∙ sym is2)
-  met_one f g (inr (inl (lacks, is))) (inr (inr (a, asked, of))) = absurd (as_one.lacking words a lacks asked)
+  met_one f g (inr (inl (lacks, is))) (inr (inr (a, asked, of))) = absurd (none_asked_without_cores words a asked lacks)
   met_one f g (inr (inr (a, asked, of))) (inl (unread, is2)) = absurd (unread.0 a asked)
-  met_one f g (inr (inr (a, asked, of))) (inr (inl (lacks, is2))) = absurd (as_one.lacking words a lacks asked)
+  met_one f g (inr (inr (a, asked, of))) (inr (inl (lacks, is2))) = absurd (none_asked_without_cores words a asked lacks)
   met_one f g (inr (inr (a, asked, of))) (inr (inr (b, asked2, of2))) =
-      asked_one b f g (subst (λ x. OfAsked x f) (as_one.one words a b asked asked2) of) of2
+      asked_one b f g (subst (λ x. OfAsked x f) (one_asked words a b asked asked2) of) of2
 
 pub meets_one : MeetsOne
-meets_one words entry log f g as_one formed x y = met_one words entry log formed as_one f g (met words entry log formed as_one f x) (met words entry log formed as_one g y)
+meets_one words entry log f g formed x y = met_one words entry log formed f g (met words entry log formed f x) (met words entry log formed g y)

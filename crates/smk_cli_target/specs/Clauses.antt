@@ -23,10 +23,10 @@ use Rattle.smk_drive_target.specs.Lawful.{Lawful}
 use Rattle.smk_drive_target.specs.Keeping.{KeepsOutputs, has_start}
 use Rattle.smk_drive_target.specs.Refusals.{BeginsUnrefused, IsSameFault, ClashingRunRefuses}
 use Rattle.smk_drive_target.specs.Reports.{IsPrefix, IsFront, HasStarts, HasLinesBefore}
-use Rattle.smk_cli_target.specs.declared.asked.Asked.TheVariants.{Run, Preview, Unlock, Forget, Generate}
-use Rattle.smk_cli_target.specs.declared.asked.Outcome.{Outcome}
-use Rattle.smk_cli_target.specs.declared.asked.RunWords.{RunWords}
-use Rattle.smk_cli_target.specs.Words.{IsAsked}
+use Rattle.smk_words_reading.specs.declared.asked.Asked.TheVariants.{Run, Preview, Unlock, Forget, Generate}
+use Rattle.smk_cli_target.specs.declared.ending.Outcome.{Outcome}
+use Rattle.smk_words_reading.specs.declared.asked.RunWords.{RunWords}
+use Rattle.smk_words_reading.specs.Asks.{IsAsked}
 use Rattle.smk_cli_target.specs.Files.{GoesBy, outside, seen}
 use Rattle.smk_cli_target.specs.Ends.{IsGoodEntry, Put, AsRun, AsListing, AreQuiet, HasFailedCall, IsSame, Stays, EndsWell, CurrentIsClean, HasCleanTargets, HasOnlyFolderMarks, FailedSo, HasOwnStatus}
 use Rattle.smk_cli_target.specs.Generating.{generated_lines}

@@ -30,9 +30,9 @@ use Rattle.smk_report.specs.Lines.{Ending, Status, NoOutput, WrongKind, BadMembe
 use Rattle.smk_drive.specs.Moments.{Rules, Moment, IsMoment, Begun, progress_of}
 use Rattle.smk_drive.specs.Lawful.{failures, has_failed}
 use Rattle.smk_drive_target.specs.Reports.{IsRunText, HasLine}
-use Rattle.smk_cli_target.specs.declared.asked.Asked.TheVariants.{Run, Preview}
-use Rattle.smk_cli_target.specs.declared.asked.RunWords.{RunWords}
-use Rattle.smk_cli_target.specs.Words.{IsAsked}
+use Rattle.smk_words_reading.specs.declared.asked.Asked.TheVariants.{Run, Preview}
+use Rattle.smk_words_reading.specs.declared.asked.RunWords.{RunWords}
+use Rattle.smk_words_reading.specs.Asks.{IsAsked}
 use Rattle.smk_cli_target.specs.Files.{GoesBy, outside, seen, setting_at}
 
 -- ## A call

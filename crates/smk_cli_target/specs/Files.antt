@@ -20,7 +20,7 @@ use Rattle.smk_eval.specs.Faults as load
 use Rattle.smk_eval.specs.Loading.{loaded, Gives}
 use Rattle.smk_cli_entry.specs.Names.{workflow_file}
 use Rattle.smk_drive.specs.Moments.{Rules}
-use Rattle.smk_cli_target.specs.declared.asked.RunWords.{RunWords}
+use Rattle.smk_words_reading.specs.declared.asked.RunWords.{RunWords}
 
 -- ## Records
 

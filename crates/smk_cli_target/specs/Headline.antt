@@ -24,7 +24,7 @@ use Rattle.smk_drive_target.specs.Moments.{AtEachEvent}
 use Rattle.smk_drive_target.specs.Refusals.{ClashingRunRefuses}
 use Rattle.smk_drive_target.specs.Reports.{HasLine}
 use Rattle.smk_record.specs.Reading.{record_in}
-use Rattle.smk_cli_target.specs.declared.asked.Outcome.{Outcome}
+use Rattle.smk_cli_target.specs.declared.ending.Outcome.{Outcome}
 use Rattle.smk_cli_target.specs.Files.{outside, seen}
 use Rattle.smk_cli_target.specs.Ends.{IsGoodEntry, Put, AsRun, CurrentIsClean, HasCleanTargets}
 use Rattle.smk_cli_target.specs.Refusing.{IsNamed}

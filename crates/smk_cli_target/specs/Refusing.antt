@@ -19,10 +19,9 @@ use Rattle.smk_report.specs.declared.fault.Fault.TheVariants as fault
 use Rattle.smk_drive.specs.Moments.{Rules}
 use Rattle.smk_drive.specs.Refusals.{ChainRefuses}
 use Rattle.smk_drive_target.specs.Refusals.{IsSameFault, RunRefuses}
-use Rattle.smk_cli_target.specs.declared.asked.Asked.{Asked}
-use Rattle.smk_cli_target.specs.declared.asked.Asked.TheVariants.{Run, Preview, Forget}
-use Rattle.smk_cli_target.specs.declared.asked.RunWords.{RunWords}
-use Rattle.smk_cli_target.specs.Words.{IsAsked, LacksCores, AreUnread, OneAsked}
+use Rattle.smk_words_reading.specs.declared.asked.Asked.TheVariants.{Run, Preview, Forget}
+use Rattle.smk_words_reading.specs.declared.asked.RunWords.{RunWords}
+use Rattle.smk_words_reading.specs.Asks.{IsAsked, LacksCores, AreUnread}
 use Rattle.smk_cli_target.specs.Files.{ReadsAs, FailsToRead, GoesBy, bad_target, seen}
 
 -- ## Before anything is done
@@ -114,16 +113,11 @@ pub data Refuses (words : List Text) (entry : World) (log : List Event) : Fault 
       (w : RunWords) (rules : Rules) (f : Fault) →
       IsAsked words (Preview w) → GoesBy w entry rules → ChainRefuses rules (seen entry) nothing_done [] f → Refuses words entry log f
 
--- What words ask is one thing, and words that lack cores ask nothing.
-pub record AsOne : Type 0 where
-  pub one : OneAsked
-  pub lacking : (words : List Text) (a : Asked) → LacksCores words → ¬ IsAsked words a
-
--- Then a call meets one first refusal; only the count of too many paths may be any.
+-- A call meets one first refusal; only the count of too many paths may be any.
 abbrev pub MeetsOne : Type 0
 MeetsOne =
     (words : List Text) (entry : World) (log : List Event) (f g : Fault) →
-    AsOne → IsFormed entry → Refuses words entry log f → Refuses words entry log g → IsSameFault f g
+    IsFormed entry → Refuses words entry log f → Refuses words entry log g → IsSameFault f g
 
 -- ## Refusals that may stand although a clean run gives the targets
 

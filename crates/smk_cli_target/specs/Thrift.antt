@@ -1,5 +1,5 @@
 -- What a second run starts: statements on two calls that meet the contract, one after the other.
-use Rattle.std.specs.Prelude.{◌≡◌, ◌⊎◌, ℕ, Bool, false, List, [], ◌++◌, IsTrue, Some}
+use Rattle.std.specs.Prelude.{◌≡◌, ◌⊎◌, ℕ, Bool, false, List, ◌++◌, IsTrue, Some}
 use Rattle.std.specs.List.{list_any}
 use Rattle.smk_world.specs.declared.event.Node.TheVariants.{Regular}
 use Rattle.smk_world.specs.declared.event.Event.{Event}
@@ -17,15 +17,16 @@ use Rattle.smk_plan.specs.States.{Plan, gathers_from, job_path, makes, staged}
 use Rattle.smk_drive.specs.Moments.{Rules, Moment, Begun, IsMoment, begun_after}
 use Rattle.smk_drive_target.specs.Moments.{AtEachEvent, starts}
 use Rattle.smk_drive_target.specs.Keeping.{has_start}
-use Rattle.smk_cli_target.specs.declared.asked.Asked.TheVariants.{Run}
-use Rattle.smk_cli_target.specs.declared.asked.Outcome.{Outcome}
-use Rattle.smk_cli_target.specs.declared.asked.RunWords.{RunWords}
-use Rattle.smk_cli_target.specs.Words.{IsAsked}
+use Rattle.smk_words_reading.specs.declared.asked.Asked.TheVariants.{Run}
+use Rattle.smk_cli_target.specs.declared.ending.Outcome.{Outcome}
+use Rattle.smk_words_reading.specs.declared.asked.RunWords.{RunWords}
+use Rattle.smk_words_reading.specs.Asks.{IsAsked}
 use Rattle.smk_cli_target.specs.Files.{GoesBy, seen}
 use Rattle.smk_cli_target.specs.Ends.{IsGoodEntry}
+use Rattle.smk_cli_target.specs.Clauses.{HasText}
 use Rattle.smk_cli_target.specs.Headline.{IsMet}
 
--- A run of these words, without force, that was whole and ended with status 0.
+-- A run of these words, without force, that ended with status 0, and the text that it put.
 pub record HasDone (act : Act) (words : List Text) (w : RunWords) (rules : Rules) (entry : World) (log : List Event) : Type 0 where
   pub good : IsGoodEntry act entry
   pub asked : IsAsked words (Run w)
@@ -36,11 +37,12 @@ pub record HasDone (act : Act) (words : List Text) (w : RunWords) (rules : Rules
   pub new : Device
   pub out_old : Sunk
   pub out_new : Sunk
+  pub text : Text
   pub met : IsMet act words outcome old new out_old out_new entry log
+  pub has_text : HasText act words outcome entry log text
   pub done : outcome.status ≡ 0
-  pub alone : (run entry log).children ≡ []
 
--- A second run with the same words, where the files still say the same and nothing has changed between, starts no child.
+-- A second run with the same words, where the files still say the same and nothing has changed between, starts no child, however it ends.
 abbrev pub NextRunStartsNone : Type 0
 NextRunStartsNone =
     (act : Act) (words : List Text) (w : RunWords) (rules : Rules) (entry : World) (log again : List Event)

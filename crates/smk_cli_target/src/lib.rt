@@ -4,11 +4,13 @@
 ghost use Rattle.smk_cli_target.specs.Files.{NoFaultyWorkflow, OneFirstFault, OneWorkflow};
 ghost use Rattle.smk_cli_target.specs.Headline.{CameIsGood, CameIsHistory, ClausesAreMet, Headline};
 ghost use Rattle.smk_cli_target.specs.Refusing.{MeetsOne};
+ghost use Rattle.smk_cli_target.specs.Thrift.{NextRunStartsNone};
 
-mod asked;
 mod call;
+mod ending;
 
-pub use asked::{Asked, Outcome, RunWords};
+pub use ending::Outcome;
+pub use smk_words_reading::{Asked, RunWords};
 
 /// The files of a folder are one workflow, with what the words set, and then nothing is wrong with them; or what is wrong with them first is
 /// one fault.
@@ -18,7 +20,7 @@ pub fn workflow_is_one()
     ensures fault { OneFirstFault }
 {}
 
-/// A call meets one first refusal, if what words ask is one thing: so the contract never demands two faults.
+/// A call meets one first refusal: so the contract never demands two faults.
 pub fn refusal_is_one()
     ensures { MeetsOne }
 {}
@@ -32,4 +34,11 @@ pub fn contract_is_enough()
     ensures history { CameIsHistory }
     ensures good { CameIsGood }
     ensures headline { Headline }
+{}
+
+/// Nothing is done twice: after a run that meets the contract and ended with status 0, a call with the same words that meets it starts no
+/// child, however it ends, where the files still say the same and nothing has changed between. For by the first run's plan every job is
+/// Clean, so none begins, and while none begins the call changes nothing but its lock and folders above places of the plan.
+pub fn next_run_starts_none()
+    ensures { NextRunStartsNone }
 {}
