@@ -8,7 +8,7 @@ Usage:
   smk -c N [OPTION ..] [TARGET ..]    make the targets
   smk -n [OPTION ..] [TARGET ..]      list what a run would do and why, and change nothing
   smk --unlock                        remove the lock, whoever left it
-  smk --cleanup-metadata PATH ..      forget what is kept of PATH, which is a source then; the option stands before each PATH
+  smk --cleanup-metadata PATH         forget what is kept of PATH, which is a source then; may be repeated
   smk --help                          print this page
   smk --version                       print the version
 
