@@ -1,6 +1,5 @@
 -- A run that ends without a fault leaves clean values.
-use Rattle.std.proofs.Common.{◌≡◌, inl, inr, ℕ, suc, Bool, true, false, List, [], ◌∷◌, ◌++◌, flat_map, map, zip, length, arith, refl, ap, sym, subst, ◌∙◌, Option, Some, None, Result, Ok, Err, is_none, if◌then◌else◌, true≢false}
-use Rattle.std.proofs.lemmas.Bool.{and_right}
+use Rattle.std.proofs.Common.{not, ◌≡◌, inl, inr, ℕ, suc, Bool, true, false, List, [], ◌∷◌, ◌++◌, flat_map, map, zip, length, arith, refl, ap, sym, subst, ◌∙◌, Option, Some, None, Result, Ok, Err, is_none, if◌then◌else◌, true≢false}
 use Rattle.std.proofs.lemmas.List.{append-nil, length-map}
 use Rattle.smk_world.specs.World.{World, IsFormed, run}
 use Rattle.smk_world.specs.Devices.{Device, Sunk, HasActed, HasLooked}
@@ -25,6 +24,7 @@ use Rattle.smk_trigger.specs.JobStates.{is_open}
 use Rattle.smk_plan.specs.States.{Plan, IsPlan, LastPlan, Last, gathers_from, is_current, nothing_done, staged, state_of}
 use Rattle.smk_laws_protocol.proofs.Basics.{each_in}
 use Rattle.smk_laws_plan.specs.Current.{IsClean}
+use Rattle.smk_laws_plan.proofs.CurrentLists.{and_right}
 use Rattle.smk_laws_history.proofs.CurrentComplete.{seen_is_complete}
 use Rattle.smk_laws_plan.proofs.CurrentMeaning.{contains_from, in_from}
 use Rattle.smk_laws_history.proofs.CurrentLaw.{current_means_clean_in_worlds}
@@ -163,7 +163,7 @@ no_force All e = absurd (true≢false (sym e))
 
 -- a run that is built forces no job
 pub none_forced : (words : RunWords) → is_built (Asks words) ≡ true → words.force ≡ No
-none_forced words built = no_force words.force (and_right built)
+none_forced words built = no_force words.force (and_right (not words.keep_going) (forces_none words.force) built)
 
 -- ## The exit
 

@@ -1,5 +1,6 @@
 -- Words are refused with one fault, or ask for something that is built.
-use Rattle.std.proofs.Common.{◌≡◌, ◌⊎◌, true, false, List, inl, inr, refl, sym, ap, ◌∙◌, Result, Err, true≢false}
+use Rattle.std.proofs.Common.{◌≡◌, ◌⊎◌, true, false, List, inl, inr, refl, sym, ap, subst, ◌∙◌, Result, Ok, Err, true≢false}
+use Rattle.std.specs.Prelude.{IfErr}
 use Rattle.smk_words_reading.specs.declared.asked.Asked.{Asked as Request}
 use Rattle.smk_words_reading.specs.Words.{Text}
 use Rattle.smk_words_reading.specs.Asks.{IsAsked}
@@ -33,6 +34,11 @@ one_refusal words _ _ (NotBuilt other also unbuilt) (NotBuilt more too neither) 
 
 abbrev pub IsEarly : List Text → Fault → Type 0
 IsEarly words f = (f ≡ fault.OutOfMemory) ⊎ RefusesWords words f
+
+-- what isn't built is refused
+pub early_unbuilt : (words : List Text) (request : Request) (r : Result Request Fault) → IsAsked words request → IfErr r (λ f. (f ≡ fault.BadWords) × (is_built request ≡ false)) → IfErr r (IsEarly words)
+early_unbuilt words request (Ok a) asked h = tt
+early_unbuilt words request (Err f) asked h = inr (subst (RefusesWords words) (sym h.0) (NotBuilt request asked h.1))
 
 -- no fault of the device, and none of the sink
 pub early_calm : (words : List Text) (f : Fault) → IsEarly words f → is_device f ≡ false

@@ -44,7 +44,7 @@ or_none false b h = refl
 of_lock : (paths : List Path) (w v : World) → ChangesOnly (lock_place ∷ []) (lock_place ∷ []) w v → ChangesOnly (own_places paths) (lock_place ∷ []) w v
 of_lock paths w v h q out off = h q (ap (λ b. b || false) (or_none _ _ out)) off
 
-of_release : (w v : World) → ChangesOnly (lock_place ∷ []) [] w v → ChangesOnly (lock_place ∷ []) (lock_place ∷ []) w v
+pub of_release : (w v : World) → ChangesOnly (lock_place ∷ []) [] w v → ChangesOnly (lock_place ∷ []) (lock_place ∷ []) w v
 of_release w v h q out off = h q out refl
 
 -- ## The lock stays in turns
@@ -92,7 +92,7 @@ and_false : (b : Bool) → (b && false) ≡ false
 and_false true = refl
 and_false false = refl
 
-each_known : (w v : World) (all ps : List Path) → ((p : Path) → among ps p ≡ true → among all p ≡ true) → ((q : Path) → is_known (seen v) q ≡ (is_known (seen w) q && not (among all q))) → AreForgotten ps v
+pub each_known : (w v : World) (all ps : List Path) → ((p : Path) → among ps p ≡ true → among all p ≡ true) → ((q : Path) → is_known (seen v) q ≡ (is_known (seen w) q && not (among all q))) → AreForgotten ps v
 each_known w v all [] sub h = tt
 each_known w v all (p ∷ ps) sub h = (
   h p ∙ ap (λ b. is_known (seen w) p && not b) (sub p (or_first _ (among ps p) (place_itself p))) ∙ and_false (is_known (seen w) p),
@@ -116,7 +116,7 @@ module _ (act : Act) (paths : List Path) where
       same : (x : Path) → IsApart x lock_place → reading (v.nodes x) ≡ reading (w.nodes x)
       same x apart = sym (only x (ap (λ b. b || false) apart.at_or_under) (ap (λ b. b || false) apart.over)).0
 
-  still_forgotten : (ps : List Path) (w v : World) → ChangesOnly (lock_place ∷ []) (lock_place ∷ []) w v → AreForgotten ps w → AreForgotten ps v
+  pub still_forgotten : (ps : List Path) (w v : World) → ChangesOnly (lock_place ∷ []) (lock_place ∷ []) w v → AreForgotten ps w → AreForgotten ps v
   still_forgotten [] w v only h = tt
   still_forgotten (p ∷ ps) w v only h = (known_at w v p only ∙ h.0, still_forgotten ps w v only h.1)
 

@@ -156,13 +156,13 @@ rule_alone s globals form file line q h =
 
 first_alone : (file : List ℕ) (parts : List RulePart) → All RuleIs parts → All RuleIs (first_marked file parts)
 first_alone file [] all = all
-first_alone file (x ∷ parts) all = go (stands_in file x)
+first_alone file (x ∷ parts) all = go (stands_in file x) (first_alone file parts (λ y j. all y (inr j)))
   where
-    go : (b : Bool) → All RuleIs (if b then marked true x ∷ parts else x ∷ first_marked file parts)
-    go true p (inl e) = subst RuleIs (sym e) (all x (inl refl))
-    go true p (inr i) = all p (inr i)
-    go false p (inl e) = subst RuleIs (sym e) (all x (inl refl))
-    go false p (inr i) = first_alone file parts (λ y j. all y (inr j)) p i
+    go : (b : Bool) → All RuleIs (first_marked file parts) → All RuleIs (if b then marked true x ∷ parts else x ∷ first_marked file parts)
+    go true more p (inl e) = subst RuleIs (sym e) (all x (inl refl))
+    go true more p (inr i) = all p (inr i)
+    go false more p (inl e) = subst RuleIs (sym e) (all x (inl refl))
+    go false more p (inr i) = more p i
 
 default_alone : (file : List ℕ) (parts : List RulePart) → All RuleIs parts → All RuleIs (with_default file parts)
 default_alone file parts all = go (list_any is_default parts)

@@ -1,7 +1,4 @@
-use Rattle.std.proofs.Common.{refl, sym, subst, ap, ◌∙◌, true≢false}
-use Rattle.smk_world.proofs.Devices.{looked_as, looked_nothing}
-use Rattle.smk_serve.proofs.Ended.{early}
-use Rattle.smk_cli.specs.Words.{is_built}
+use Rattle.std.proofs.Common.{sym, subst}
 use Rattle.smk_cli.specs.Whole.{Serves}
 use Rattle.smk_cli.proofs.top.serve_request.Goals as goal
 

@@ -1,0 +1,4 @@
+pub mod Filters
+pub mod Times
+pub mod Turns
+pub mod Telling

@@ -1,0 +1,203 @@
+-- Times that an image's records hold, and those of a store.
+use Rattle.std.proofs.Common.{◌≡◌, ◌⊎◌, inl, inr, ℕ, Bool, true, false, ◌&&◌, ◌||◌, not, List, [], ◌∷◌, ◌++◌, map, refl, sym, ap, subst, ◌∙◌, bytes_eq, eq-eqb, eqb-true, Option, Some, None}
+use Rattle.std.specs.Prelude.{◌==◌, filter, if◌then◌else◌, option_map, is_some}
+use Rattle.std.specs.List.{list_any}
+use Rattle.std.specs.Cmp.Lexicographic.{slice_cmp}
+use Rattle.std.specs.Ordering.{nat_cmp}
+use Rattle.std.specs.declared.cmp.Ordering.TheVariants.{Less}
+use Rattle.smk_base.specs.Path.{is_at_or_under}
+use Rattle.smk_base.proofs.Places.{and_first, and_second, same_place, place_itself}
+use Rattle.smk_base.proofs.Under.{both_true, false_unless, or_first}
+use Rattle.smk_world.specs.Trees.{Path, IsIn, among}
+use Rattle.smk_world.specs.World.{World, IsFormed, reading}
+use Rattle.smk_record.specs.declared.record.Record.{Record}
+use Rattle.smk_record.specs.declared.record.Stamp.{Stamp}
+use Rattle.smk_record.specs.declared.record.Stamp.TheVariants.{Time, Made}
+use Rattle.smk_record.specs.Records.{are_rising, core, same_stamp, stamped}
+use Rattle.smk_record.proofs.Rising.{Above, less_itself, rising_rest, rising_first}
+use Rattle.smk_store.specs.declared.store.Entry.{Entry}
+use Rattle.smk_store.specs.declared.store.Kept.{Kept}
+use Rattle.smk_store.specs.declared.store.Kept.TheVariants.{Absent, Unreadable, Held}
+use Rattle.smk_store.specs.Forgetting.{AreUnseen, IsSeen, IsFirstSeen, all_inputs, inputs_of}
+use Rattle.smk_store.specs.Images.{Image, Content, content_of, core_at, file_at, is_known, is_outside, readable, stands}
+use Rattle.smk_store.specs.Loading.{IsStoreOf, entry_at, entry_in}
+use Rattle.smk_store.specs.Stores.{Known, entry_of}
+use Rattle.smk_keep_forget.specs.Seen.{holds_time, is_time_held, seen, seen_before}
+use Rattle.smk_laws_stamps.proofs.Filters.{never, any_in, in_any, in_among, among_in, none_left, first_left, Rises}
+
+-- ## A record
+
+pair_is : (e : Path × Stamp) (q : Path) (t : ℕ) → (bytes_eq e.0 q && same_stamp e.1 (Time t)) ≡ true → (q, Time t) ≡ e
+pair_is (a, Time u) q t h =
+    let name : a ≡ q = same_place a q (and_first (bytes_eq a q) (u == t) h) in
+    let time : u ≡ t = eqb-true u t (and_second (bytes_eq a q) (u == t) h) in
+    sym (ap (λ x. stamp_at x u) name ∙ ap (λ n. stamp_at q n) time)
+  where
+    stamp_at : Path → ℕ → Path × Stamp
+    stamp_at x n = (x, Time n)
+pair_is (a, Made m) q t h = absurd (never (sym (and_second (bytes_eq a q) false h)))
+
+holds : (q : Path) (t : ℕ) (r : Record) → IsIn (stamped r) (q, Time t) → holds_time q t r ≡ true
+holds q t r i = any_in (λ (e : Path × Stamp). bytes_eq e.0 q && same_stamp e.1 (Time t)) (stamped r) (q, Time t) i (both_true (bytes_eq q q) (t == t) (place_itself q) (eq-eqb t t refl))
+
+held : (q : Path) (t : ℕ) (r : Record) → holds_time q t r ≡ true → IsIn (stamped r) (q, Time t)
+held q t r h =
+    let k = in_any (λ (e : Path × Stamp). bytes_eq e.0 q && same_stamp e.1 (Time t)) (stamped r) h in
+    subst (IsIn (stamped r)) (sym (pair_is k.0 q t k.2)) k.1
+
+-- ## What is kept of a path
+
+abbrev test : {A : Type 0} → (A → Bool) → Option A → Bool
+test f None = false
+test f (Some r) = f r
+
+-- the record there holds the time
+abbrev holds_at : Path → ℕ → Kept → Bool
+holds_at q t kept = test (holds_time q t) (option_map core (readable kept))
+
+kept_holds : (q : Path) (t : ℕ) (kept : Kept) → IsIn (inputs_of (readable kept)) (q, Time t) → holds_at q t kept ≡ true
+kept_holds q t Absent i = absurd i
+kept_holds q t Unreadable i = absurd i
+kept_holds q t (Held r) i = holds q t (core r) i
+
+kept_held : (q : Path) (t : ℕ) (kept : Kept) → holds_at q t kept ≡ true → (stands kept ≡ true) × IsIn (inputs_of (readable kept)) (q, Time t)
+kept_held q t Absent h = absurd (never (sym h))
+kept_held q t Unreadable h = absurd (never (sym h))
+kept_held q t (Held r) h = (refl, held q t (core r) h)
+
+-- ## A store and its image
+
+in_left : {A : Type 0} (xs ys : List A) (x : A) → IsIn xs x → IsIn (xs ++ ys) x
+in_left [] ys x h = absurd h
+in_left (y ∷ xs) ys x (inl e) = inl e
+in_left (y ∷ xs) ys x (inr h) = inr (in_left xs ys x h)
+
+in_right : {A : Type 0} (xs ys : List A) (x : A) → IsIn ys x → IsIn (xs ++ ys) x
+in_right [] ys x h = h
+in_right (y ∷ xs) ys x h = inr (in_right xs ys x h)
+
+in_either : {A : Type 0} (xs ys : List A) (x : A) → IsIn (xs ++ ys) x → IsIn xs x ⊎ IsIn ys x
+in_either [] ys x h = inr h
+in_either (y ∷ xs) ys x (inl e) = inl (inl e)
+in_either (y ∷ xs) ys x (inr h) = by (in_either xs ys x h)
+  where
+    by : IsIn xs x ⊎ IsIn ys x → IsIn (y ∷ xs) x ⊎ IsIn ys x
+    by (inl k) = inl (inr k)
+    by (inr k) = inr k
+
+abbrev if_first : Bool → Entry → Option Entry → Option Entry
+if_first b e more = if b then Some e else more
+
+-- what is known of a path is in the store
+in_store : (ks : List Known) (x : Path) (e : Entry) (i : Path × Stamp) → entry_of ks x ≡ Some e → IsIn (inputs_of (readable e.kept)) i → IsIn (all_inputs ks) i
+in_store [] x e i at h = absurd cc
+in_store (k ∷ ks) x e i at h = by (bytes_eq k.path x) at (λ a. in_store ks x e i a h)
+  where
+    same : Some k.entry ≡ Some e → k.entry ≡ e
+    same s = cc
+
+    by : (b : Bool) → if_first b k.entry (entry_of ks x) ≡ Some e → (entry_of ks x ≡ Some e → IsIn (all_inputs ks) i) → IsIn (all_inputs (k ∷ ks)) i
+    by true a again = in_left (inputs_of (readable k.entry.kept)) (all_inputs ks) i (subst (λ (f : Entry). IsIn (inputs_of (readable f.kept)) i) (sym (same a)) h)
+    by false a again = in_right (inputs_of (readable k.entry.kept)) (all_inputs ks) i (again a)
+
+-- where its paths rise, what it has is known of a path
+record IsOf (ks : List Known) (i : Path × Stamp) : Type 0 where
+  path : Path
+  entry : Entry
+  at : entry_of ks path ≡ Some entry
+  held : IsIn (inputs_of (readable entry.kept)) i
+
+abbrev paths_of : List Known → List Path
+paths_of ks = map (λ (k : Known). k.path) ks
+
+in_above : (p : Path) (ps : List Path) (x : Path) → Above p ps → IsIn ps x → slice_cmp nat_cmp p x ≡ Less
+in_above p [] x h i = absurd i
+in_above p (y ∷ ps) x h (inl e) = subst (λ z. slice_cmp nat_cmp p z ≡ Less) (sym e) h.0
+in_above p (y ∷ ps) x h (inr i) = in_above p ps x h.1 i
+
+entry_in_paths : (ks : List Known) (x : Path) (e : Entry) → entry_of ks x ≡ Some e → IsIn (paths_of ks) x
+entry_in_paths [] x e at = absurd cc
+entry_in_paths (k ∷ ks) x e at = by (bytes_eq k.path x) refl at (entry_in_paths ks x e)
+  where
+    by : (b : Bool) → bytes_eq k.path x ≡ b → if_first b k.entry (entry_of ks x) ≡ Some e → (entry_of ks x ≡ Some e → IsIn (paths_of ks) x) → IsIn (k.path ∷ paths_of ks) x
+    by true same a again = inl (sym (same_place k.path x same))
+    by false same a again = inr (again a)
+
+of_store : (ks : List Known) (i : Path × Stamp) → are_rising (paths_of ks) ≡ true → IsIn (all_inputs ks) i → IsOf ks i
+of_store [] i rising h = absurd h
+of_store (k ∷ ks) i rising h = by (in_either (inputs_of (readable k.entry.kept)) (all_inputs ks) i h) (of_store ks i (rising_rest k.path (paths_of ks) rising))
+  where
+    by : IsIn (inputs_of (readable k.entry.kept)) i ⊎ IsIn (all_inputs ks) i → (IsIn (all_inputs ks) i → IsOf ks i) → IsOf (k ∷ ks) i
+    by (inl here) again =
+        record { path = k.path; entry = k.entry; at = ap (λ b. if_first b k.entry (entry_of ks k.path)) (place_itself k.path); held = here }
+    by (inr later) again =
+        let o = again later in
+        let below = in_above k.path (paths_of ks) o.path (rising_first k.path (paths_of ks) rising) (entry_in_paths ks o.path o.entry o.at) in
+        let off : bytes_eq k.path o.path ≡ false = false_unless (bytes_eq k.path o.path) (λ same. less_itself o.path (subst (λ x. slice_cmp nat_cmp x o.path ≡ Less) (same_place k.path o.path same) below)) in
+        record { path = o.path; entry = o.entry; at = ap (λ b. if_first b k.entry (entry_of ks o.path)) off ∙ o.at; held = o.held }
+
+entry_kept : (b : Bool) (image : Image) (x : Path) (e : Entry) → (if b then Some (entry_at image x) else None) ≡ Some e → image.kept x ≡ e.kept
+entry_kept true image x e h = let same : entry_at image x ≡ e = cc in ap (λ (f : Entry). f.kept) same
+entry_kept false image x e h = absurd cc
+
+entry_there : (image : Image) (x : Path) → stands (image.kept x) ≡ true → entry_in image x ≡ Some (entry_at image x)
+entry_there image x h = ap (λ b. if b then Some (entry_at image x) else None) (or_first (stands (image.kept x)) (image.marked x || image.noted x) h)
+
+-- ## An image in which some paths are forgotten
+
+-- Of each path the image keeps what the world does, it lists what stands, and outside of the engine's folder it has the same files.
+pub record IsLike (v : World) (image : Image) : Type 0 where
+  pub kept : (x : Path) → image.kept x ≡ (seen v).kept x
+  pub listed : (x : Path) → stands (image.kept x) ≡ true → among image.known x ≡ true
+  pub node : (x : Path) → image.node x ≡ (seen v).node x
+
+module _ (v : World) (image : Image) (like : IsLike v image) (ks : List Known) (store : IsStoreOf (seen v) ks) (p : Path) where
+  file_there : (q : Path) (f : Content) → file_at image q ≡ Some f → content_of (reading (v.nodes q)) ≡ Some f
+  file_there q f h = by (is_outside q) (ap content_of (sym (like.node q)) ∙ h)
+    where
+      by : (b : Bool) → content_of (if b then reading (v.nodes q) else None) ≡ Some f → content_of (reading (v.nodes q)) ≡ Some f
+      by true k = k
+      by false k = absurd cc
+
+  time_seen : (q : Path) (f : Content) → is_at_or_under q p ≡ true → file_at image q ≡ Some f → is_time_held image q f.time ≡ true → IsSeen ks v p q
+  time_seen q f under file h =
+      let x = in_any (λ x. holds_at q f.time (image.kept x)) image.known h in
+      let k = kept_held q f.time ((seen v).kept x.0) (ap (holds_at q f.time) (sym (like.kept x.0)) ∙ x.2) in
+      record {
+        under = under;
+        file = f;
+        stands = file_there q f file;
+        held = in_store ks x.0 (entry_at (seen v) x.0) (q, Time f.time) (store.entries x.0 ∙ entry_there (seen v) x.0 k.0) k.1;
+      }
+
+  -- a name is left where a file of that name is there whose time is held
+  abbrev pub counts : Path → Bool
+  counts q = is_at_or_under q p && test (λ (f : Content). is_time_held image q f.time) (file_at image q)
+
+  counted : (q : Path) → counts q ≡ true → IsSeen ks v p q
+  counted q h = by (file_at image q) refl (and_second (is_at_or_under q p) _ h)
+    where
+      by : (o : Option Content) → file_at image q ≡ o → test (λ (f : Content). is_time_held image q f.time) o ≡ true → IsSeen ks v p q
+      by None e k = absurd (never (sym k))
+      by (Some f) e k = time_seen q f (and_first (is_at_or_under q p) _ h) e k
+
+  -- where no time was seen, none is left
+  pub none_before : AreUnseen ks v p → seen_before image p ≡ []
+  none_before unseen = none_left counts image.names (λ q. false_unless (counts q) (λ h. unseen q (counted q h)))
+
+  -- The first that was seen is the first that is left.
+  pub first_before : (q : Path) (names : List Path) (g : Path → Bool) → image.names ≡ filter g names → Rises names
+      → ((x : Path) (f : Content) → content_of (reading (v.nodes x)) ≡ Some f → is_outside x ≡ true → (IsIn names x) × (g x ≡ true))
+      → is_outside q ≡ true → are_rising (paths_of ks) ≡ true → IsFirstSeen ks v p q → (rest : List Path) × (seen_before image p ≡ q ∷ rest)
+  first_before q names g are rise there out rising first =
+      let file = first.seen.file in
+      let o = of_store ks (q, Time file.time) rising first.seen.held in
+      let kept : image.kept o.path ≡ o.entry.kept = like.kept o.path ∙ entry_kept (is_known (seen v) o.path) (seen v) o.path o.entry (sym (store.entries o.path) ∙ o.at) in
+      let holding : holds_at q file.time (image.kept o.path) ≡ true = ap (holds_at q file.time) kept ∙ kept_holds q file.time o.entry.kept o.held in
+      let listed = like.listed o.path (kept_held q file.time (image.kept o.path) holding).0 in
+      let timely : is_time_held image q file.time ≡ true = any_in (λ x. holds_at q file.time (image.kept x)) image.known o.path (in_among image.known o.path listed) holding in
+      let at : file_at image q ≡ Some file = ap content_of (like.node q) ∙ ap (λ b. content_of (if b then reading (v.nodes q) else None)) out ∙ first.seen.stands in
+      let count : counts q ≡ true = both_true (is_at_or_under q p) _ first.seen.under (ap (test (λ (f : Content). is_time_held image q f.time)) at ∙ timely) in
+      let named = there q file first.seen.stands out in
+      let r = first_left counts g q names rise named.0 named.1 count (λ x gx cx less. first.first x (counted x cx) less) in
+      (r.0, ap (filter counts) are ∙ r.1)
