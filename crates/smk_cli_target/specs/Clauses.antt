@@ -1,21 +1,21 @@
 -- The clauses of the call's contract, each by a name.
-use Rattle.std.specs.Prelude.{◌≡◌, ◌⊎◌, ◌≤◌, ℕ, Bool, true, false, ◌&&◌, not, List, [], ◌∷◌, ◌++◌, map, Option, Some, None, IsTrue, IsSome, ◌==◌}
+use Rattle.std.specs.Prelude.{◌≡◌, ◌⊎◌, ◌≤◌, ℕ, Bool, true, false, List, [], ◌∷◌, ◌++◌, map, Option, Some, None, IsTrue, IsSome, ◌==◌}
 use Rattle.smk_base.specs.Place.{lock_place, record_place, mark_place, note_place}
 use Rattle.smk_base.specs.Path.{own_folder}
 use Rattle.smk_world.specs.declared.event.Event.{Event}
-use Rattle.smk_world.specs.World.{World, run, reading, is_within, is_above}
+use Rattle.smk_world.specs.World.{World, run, reading, is_within}
 use Rattle.smk_world.specs.Calls.{Rose, HasCause}
 use Rattle.smk_world.specs.Devices.{Device, Sunk}
-use Rattle.smk_world.specs.Trees.{Path, Act, Each, among}
+use Rattle.smk_world.specs.Trees.{Path, Act, Each}
 use Rattle.smk_pattern.specs.Shapes.{Text}
-use Rattle.smk_store.specs.Images.{Image, is_known}
+use Rattle.smk_store.specs.Images.{is_known}
 use Rattle.smk_store.specs.Safety.{KeepsSound}
 use Rattle.smk_laws_history.specs.Histories.{KeepsListed}
 use Rattle.smk_plan.specs.States.{Plan, LastPlan, nothing_done}
 use Rattle.smk_report.specs.declared.fault.Fault.{Fault}
 use Rattle.smk_report.specs.declared.fault.Fault.TheVariants as fault
 use Rattle.smk_report.specs.Faults.{fault_text, fault_status}
-use Rattle.smk_report.specs.Lines.{unlocked_line, forgotten_line}
+use Rattle.smk_report.specs.Lines.{unlocked_line}
 use Rattle.smk_drive.specs.Moments.{Rules}
 use Rattle.smk_drive.specs.Refusals.{ClashingChainRefuses}
 use Rattle.smk_drive.specs.Reports.{listing_text}
@@ -27,6 +27,9 @@ use Rattle.smk_words_reading.specs.declared.asked.Asked.TheVariants.{Run, Previe
 use Rattle.smk_cli_target.specs.declared.ending.Outcome.{Outcome}
 use Rattle.smk_words_reading.specs.declared.asked.RunWords.{RunWords}
 use Rattle.smk_words_reading.specs.Asks.{IsAsked}
+pub use Rattle.smk_keep_lock.specs.Changing.{ChangesOnly}
+pub use Rattle.smk_keep_lock.specs.Putting.{IsWholeFor}
+pub use Rattle.smk_keep_forget.specs.Seen.{forgotten_lines}
 use Rattle.smk_cli_target.specs.Files.{GoesBy, outside, seen}
 use Rattle.smk_cli_target.specs.Ends.{IsGoodEntry, Put, AsRun, AsListing, AreQuiet, HasFailedCall, IsSame, Stays, EndsWell, CurrentIsClean, HasCleanTargets, HasOnlyFolderMarks, FailedSo, HasOwnStatus}
 use Rattle.smk_cli_target.specs.Generating.{generated_lines}
@@ -178,11 +181,6 @@ pub record IsComplete (act : Act) (words : List Text) (outcome : Outcome) (entry
 abbrev pub own_places : List Path → List Path
 own_places paths = lock_place ∷ (map record_place paths ++ (map mark_place paths ++ map note_place paths))
 
--- nothing has changed but what is at or under some places, and folders above others
-abbrev pub ChangesOnly : List Path → List Path → World → World → Type 0
-ChangesOnly places below entry exit =
-    (q : Path) → is_within q places ≡ false → is_above q below ≡ false → Stays (entry.nodes q) (exit.nodes q)
-
 -- nothing is known of the paths
 abbrev pub AreForgotten : List Path → World → Type 0
 AreForgotten paths w = Each (λ p. is_known (seen w) p ≡ false) paths
@@ -204,16 +202,6 @@ pub record HasForgotten (paths : List Path) (nolock : Bool) (status : ℕ) (entr
 pub record HasGenerated (outcome : Outcome) (out_old out_new : Sunk) (log : List Event) : Type 0 where
   pub untouched : log ≡ []
   pub done : IsSteady out_old.faults out_new.faults → IsDoneUnless none_named outcome
-
--- the line of each path in its turn; a path that comes again is known no more
-abbrev pub forgotten_lines : Image → List Path → List Path → Text
-forgotten_lines image done [] = []
-forgotten_lines image done (p ∷ paths) =
-    forgotten_line (is_known image p && not (among done p)) p ++ forgotten_lines image (p ∷ done) paths
-
--- all of the text with status 0, else a front of it
-abbrev pub IsWholeFor : ℕ → Text → Text → Type 0
-IsWholeFor status whole text = IsPrefix text whole × (status ≡ 0 → text ≡ whole)
 
 -- ## Leftovers
 

@@ -1,15 +1,12 @@
 -- How a call ends, over its entry and its log.
-use Rattle.std.specs.Prelude.{◌≡◌, ◌≢◌, ◌⊎◌, ℕ, zero, suc, true, false, List, [], ◌∷◌, ◌++◌, Option, Some, None, Ok, IsTrue, IsSome}
+use Rattle.std.specs.Prelude.{◌≡◌, ◌≢◌, ◌⊎◌, ℕ, zero, suc, true, false, List, [], ◌∷◌, ◌++◌, Some, None, Ok, IsTrue, IsSome}
 use Rattle.smk_base.specs.Place.{mark_place, lock_place}
 use Rattle.smk_base.specs.declared.tree.Tree.{Tree}
 use Rattle.smk_world.specs.declared.event.Event.{Event}
 use Rattle.smk_world.specs.declared.event.Call.TheVariants.{Waited}
 use Rattle.smk_world.specs.declared.event.Child.{Child}
-use Rattle.smk_world.specs.declared.event.Node.{Node}
-use Rattle.smk_world.specs.declared.event.NodeState.{NodeState}
-use Rattle.smk_world.specs.World.{World, run, reading, MayLeave, out_paths, child_numbered}
+use Rattle.smk_world.specs.World.{World, run, reading, out_paths, child_numbered}
 use Rattle.smk_world.specs.Calls.{failed, ContentsAre}
-use Rattle.smk_world.specs.Devices.{Sunk}
 use Rattle.smk_world.specs.Folders.{IsTree}
 use Rattle.smk_world.specs.Trees.{Path, Act, Each, IsIn, first, folders_of}
 use Rattle.smk_pattern.specs.Shapes.{Text}
@@ -33,6 +30,8 @@ use Rattle.smk_drive_target.specs.Reports.{IsRunText, HasLine}
 use Rattle.smk_words_reading.specs.declared.asked.Asked.TheVariants.{Run, Preview}
 use Rattle.smk_words_reading.specs.declared.asked.RunWords.{RunWords}
 use Rattle.smk_words_reading.specs.Asks.{IsAsked}
+pub use Rattle.smk_keep_lock.specs.Changing.{IsSame, Stays}
+pub use Rattle.smk_keep_lock.specs.Putting.{Put}
 use Rattle.smk_cli_target.specs.Files.{GoesBy, outside, seen, setting_at}
 
 -- ## A call
@@ -44,11 +43,6 @@ pub record IsGoodEntry (act : Act) (w : World) : Type 0 where
   pub sound : SoundWorld (outside act) w versions
   pub tree : IsTree w
   pub listed : IsListed (outside act) w
-
--- where the bytes of a sink are told now: they were before, and this text was put, of which P holds
-abbrev pub Put : Sunk → Sunk → (Text → Type 0) → Type 0
-Put old new P =
-    (after : Text) → new.put ≡ Some after → (before : Text) × (old.put ≡ Some before) × ((text : Text) × (after ≡ before ++ text) × P text)
 
 -- P of what a run goes by, where the words ask for one and it goes by something
 abbrev pub AsRun : List Text → World → (Rules → Type 0) → Type 0
@@ -64,14 +58,6 @@ AreQuiet log = Each (λ (e : Event). failed e.call ≡ false) log
 
 abbrev pub HasFailedCall : List Event → Type 0
 HasFailedCall log = (e : Event) × IsIn log e × IsTrue (failed e.call)
-
--- the node reads as before, and a crash leaves nothing new
-abbrev pub Stays : NodeState → NodeState → Type 0
-Stays s t = (reading s ≡ reading t) × ((n : Option Node) → MayLeave t n → MayLeave s n)
-
--- nodes and children are the same
-abbrev pub IsSame : World → World → Type 0
-IsSame entry exit = ((q : Path) → entry.nodes q ≡ exit.nodes q) × (entry.children ≡ exit.children)
 
 -- ## What is reported current
 

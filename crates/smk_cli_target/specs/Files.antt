@@ -1,5 +1,5 @@
 -- What a run goes by: the workflow that the files of a folder are, the paths that target words stand for, and how records read.
-use Rattle.std.specs.Prelude.{◌≡◌, true, List, Option, Some, None, Result, Ok, Err, is_none}
+use Rattle.std.specs.Prelude.{◌≡◌, true, List, Option, None, Ok, Err, is_none}
 use Rattle.smk_world.specs.World.{World}
 use Rattle.smk_world.specs.Trees.{Path, Act}
 use Rattle.smk_pattern.specs.Shapes.{Text}
@@ -15,29 +15,20 @@ use Rattle.smk_pick.specs.declared.settings.Settings.{Settings}
 use Rattle.smk_flaws.specs.declared.fault.LoadFault.{LoadFault}
 use Rattle.smk_report.specs.declared.fault.Fault.{Fault}
 use Rattle.smk_report.specs.Faults.{of_load}
-use Rattle.smk_eval_files.specs.Looks.{Nodes}
 use Rattle.smk_eval.specs.Faults as load
 use Rattle.smk_eval.specs.Loading.{loaded, Gives}
-use Rattle.smk_cli_entry.specs.Names.{workflow_file}
+pub use Rattle.smk_keep_forget.specs.Seen.{seen}
+pub use Rattle.smk_cli_entry.specs.Names.{file_of}
 use Rattle.smk_drive.specs.Moments.{Rules}
 use Rattle.smk_words_reading.specs.declared.asked.RunWords.{RunWords}
 
 -- ## Records
-
--- the world as it reads
-abbrev pub seen : World → Image
-seen w = images.seen record_in w
 
 -- how records read, and what commands do
 abbrev pub outside : Act → Outside
 outside act = record { read = record_in; act = act }
 
 -- ## The workflow
-
--- the file that is named, or else the first that is there of those that a workflow may stand in
-abbrev pub file_of : Nodes → Option Path → Result Path Fault
-file_of nodes None = workflow_file nodes
-file_of nodes (Some file) = Ok file
 
 -- The files of this world are, with what the words set, this workflow.
 pub record ReadsAs (w : RunWords) (entry : World) (flow : Flow) : Type 0 where

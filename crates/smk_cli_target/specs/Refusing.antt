@@ -1,19 +1,11 @@
 -- The first refusal that a call meets.
-use Rattle.std.specs.Prelude.{◌≡◌, ◌⊎◌, ℕ, Bool, true, false, ◌&&◌, ◌||◌, not, List, [], ◌∷◌, ◌++◌, filter, bytes_eq, if◌then◌else◌, IsTrue, Some}
-use Rattle.std.specs.List.{list_any}
-use Rattle.smk_base.specs.Path.{is_at_or_under}
+use Rattle.std.specs.Prelude.{◌≡◌, ◌⊎◌, Bool, true, false, List, [], ◌∷◌, IsTrue, Some}
 use Rattle.smk_world.specs.declared.event.Event.{Event}
 use Rattle.smk_world.specs.World.{World, IsFormed}
 use Rattle.smk_world.specs.Trees.{Path}
 use Rattle.smk_pattern.specs.Shapes.{Text}
 use Rattle.smk_flow.specs.Flows.{Flow}
-use Rattle.smk_record.specs.declared.record.Record.{Record}
-use Rattle.smk_record.specs.declared.record.Stamp.{Stamp}
-use Rattle.smk_record.specs.declared.record.Stamp.TheVariants.{Time}
-use Rattle.smk_record.specs.Records.{same_stamp, stamped}
-use Rattle.smk_store.specs.declared.store.Kept.TheVariants.{Absent}
-use Rattle.smk_store.specs.Images.{Image, Content, file_at, core_at}
-use Rattle.smk_plan.specs.States.{nothing_done, test_some}
+use Rattle.smk_plan.specs.States.{nothing_done}
 use Rattle.smk_report.specs.declared.fault.Fault.{Fault}
 use Rattle.smk_report.specs.declared.fault.Fault.TheVariants as fault
 use Rattle.smk_drive.specs.Moments.{Rules}
@@ -22,6 +14,7 @@ use Rattle.smk_drive_target.specs.Refusals.{IsSameFault, RunRefuses}
 use Rattle.smk_words_reading.specs.declared.asked.Asked.TheVariants.{Run, Preview, Forget}
 use Rattle.smk_words_reading.specs.declared.asked.RunWords.{RunWords}
 use Rattle.smk_words_reading.specs.Asks.{IsAsked, LacksCores, AreUnread}
+pub use Rattle.smk_keep_forget.specs.Seen.{is_let_in, seen_before, forgotten, seen_in_turn, forgettable}
 use Rattle.smk_cli_target.specs.Files.{ReadsAs, FailsToRead, GoesBy, bad_target, seen}
 
 -- ## Before anything is done
@@ -52,49 +45,6 @@ is_met_at_once (fault.Workflow flaw) = true
 is_met_at_once (fault.BadTarget word) = true
 is_met_at_once fault.Locked = true
 is_met_at_once f = false
-
--- the call may go on: no lock stands at the entry, or none is heeded
-abbrev pub is_let_in : Bool → World → Bool
-is_let_in nolock entry = nolock || not (seen entry).locked
-
--- ## Times that were seen before
-
--- the record holds this time as the stamp of that source
-abbrev pub holds_time : Path → ℕ → Record → Bool
-holds_time q t r = list_any (λ (e : Path × Stamp). bytes_eq e.0 q && same_stamp e.1 (Time t)) (stamped r)
-
--- a record that reads holds it
-abbrev pub is_time_held : Image → Path → ℕ → Bool
-is_time_held image q t = list_any (λ p. test_some (holds_time q t) (core_at image p)) image.known
-
--- the files at and under the path, in byte order, whose time now a record holds as theirs
-abbrev pub seen_before : Image → Path → List Path
-seen_before image p =
-    filter (λ q. is_at_or_under q p && test_some (λ (f : Content). is_time_held image q f.time) (file_at image q)) image.names
-
--- the image with nothing known of the path
-abbrev pub forgotten : Image → Path → Image
-forgotten image p =
-    record image {
-      kept = λ q. if bytes_eq q p then Absent else image.kept q;
-      marked = λ q. not (bytes_eq q p) && image.marked q;
-      noted = λ q. not (bytes_eq q p) && image.noted q;
-      known = filter (λ q. not (bytes_eq q p)) image.known;
-    }
-
--- the same, each path in its turn, when those before are forgotten
-abbrev pub seen_in_turn : Image → List Path → List Path
-seen_in_turn image [] = []
-seen_in_turn image (p ∷ paths) = seen_before image p ++ seen_in_turn (forgotten image p) paths
-
-abbrev pub unless_any : List Path → List Path → List Path
-unless_any [] paths = paths
-unless_any (q ∷ qs) paths = []
-
--- the paths before the first that is refused
-abbrev pub forgettable : Image → List Path → List Path
-forgettable image [] = []
-forgettable image (p ∷ paths) = unless_any (seen_before image p) (p ∷ forgettable (forgotten image p) paths)
 
 -- ## All of them
 
