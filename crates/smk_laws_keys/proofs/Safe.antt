@@ -137,7 +137,7 @@ module _ (act : Act) (paths : List Path) (texts : Each (λ p. is_path_text p ≡
       subst (Ends false w) (sym log_is)
       (ends_then (outside act) paths false w es fs (subst (λ b. Ends b w es) (quiet_of r is) (gone_runs r w es free (follows_first act es fs w both) gone)) (unreleased (outside act) paths x (run w es) fs release))
 
-  cleaned_runs : (nolock : Bool) (r : Result (Unit {0}) ForgetFault) (w : World) (log : List Event) → NoneOwned w → Follows act w log → HasCleaned paths nolock r w log → Ends (not (is_device r)) w log
+  pub cleaned_runs : (nolock : Bool) (r : Result (Unit {0}) ForgetFault) (w : World) (log : List Event) → NoneOwned w → Follows act w log → HasCleaned paths nolock r w log → Ends (not (is_device r)) w log
   cleaned_runs nolock r w log free follows (Unheeded _ _ _ gone) = gone_runs r w log free follows gone
   cleaned_runs nolock _ w _ free follows (Unmade _) = (Resting, Done Resting w, λ e. refl)
   cleaned_runs nolock _ w log free follows (Untaken x _ _ taken) = untaken (outside act) paths x w log taken.calls
