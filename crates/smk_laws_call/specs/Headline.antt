@@ -7,9 +7,9 @@ use Rattle.smk_world.specs.World.{World, Nodes, run, world_of}
 use Rattle.smk_world.specs.Calls.{Rose}
 use Rattle.smk_world.specs.Devices.{Device, Sunk}
 use Rattle.smk_world.specs.Folders.{IsLeft}
-use Rattle.smk_world.specs.Trees.{Path}
-use Rattle.smk_record.specs.Spelling.{ReadsRecords}
-use Rattle.smk_store.specs.Images.{seen, is_source}
+use Rattle.smk_world.specs.Trees.{Path, Act, Each, is_path_text}
+use Rattle.smk_record.specs.Reading.{record_in}
+use Rattle.smk_store.specs.Images.{is_source}
 use Rattle.smk_store.specs.Trust.{Versions}
 use Rattle.smk_store.specs.Soundness.{Outside, EachImage, SoundWorld}
 use Rattle.smk_store.specs.Safety.{with_sources}
@@ -17,10 +17,13 @@ use Rattle.smk_laws_history.specs.Histories.{History, IsNew, IsLater, can_stand,
 use Rattle.smk_laws_complete.specs.Derived.{AllHaveValues}
 use Rattle.smk_report.specs.declared.fault.Fault.{Fault}
 use Rattle.smk_words_reading.specs.declared.asked.Asked.{Asked as Request}
-use Rattle.smk_words_reading.specs.declared.asked.Asked.TheVariants.{Run}
+use Rattle.smk_words_reading.specs.declared.asked.Asked.TheVariants.{Run, Forget}
 use Rattle.smk_words_reading.specs.declared.asked.RunWords.{RunWords}
 use Rattle.smk_cli_entry.specs.declared.asking.Asked.{Asked}
 use Rattle.smk_cli_entry.specs.Entry.{FailsToAsk, IsAskedIn}
+use Rattle.smk_keep_forget.specs.Seen.{seen}
+use Rattle.smk_laws_keys.specs.Keys.{outside}
+use Rattle.smk_cli.specs.Keys.{HasKept}
 use Rattle.smk_cli.specs.Whole.{HasServed}
 use Rattle.smk_clean.specs.Again.{HasNoneLeft}
 use Rattle.smk_clean.specs.Clean.{HasMadeClean}
@@ -39,37 +42,61 @@ pub record IsCalled (o : Outside) (request : Request) (told : Option Fault) (w v
   pub ends : new.world ≡ Some v
   pub served : HasServed o.act o.read request w told old new out_old out_new
 
+-- A call for `--unlock` or `--cleanup-metadata` that led from the one told folder to the other; the paths that are to be forgotten are texts.
+pub record IsKeptCall (act : Act) (request : Request) (told : Option Fault) (w v : World) : Type 0 where
+  pub old : Device
+  pub new : Device
+  pub out_old : Sunk
+  pub out_new : Sunk
+  pub begins : old.world ≡ Some w
+  pub ends : new.world ≡ Some v
+  pub kept : HasKept act request w told old new out_old out_new
+  pub texts : (paths : List Path) (nolock : Bool) → request ≡ Forget paths nolock → Each (λ p. is_path_text p ≡ true) paths
+
 -- A folder that came by calls of the program, by edits of sources and of the workflow, by removals, and by crashes, which come after any
 -- event of a call; with its versions: each world so far, in turn, has put its sources there.
-pub data Came (o : Outside) : World → Versions → Type 0 where
-  Begin : (w : World) → IsNew w → Came o w (with_sources no_versions (seen o.read w))
+pub data Came (act : Act) : World → Versions → Type 0 where
+  Begin : (w : World) → IsNew w → Came act w (with_sources no_versions (seen w))
   Edit :
       (w : World) (H : Versions) (p : Path) (bytes : List ℕ) (time : ℕ) (read_only : Bool) →
-      Came o w H →
-      IsTrue (can_stand (seen o.read w) p) →
-      IsLater (seen o.read w) time →
-      IsTrue (is_source (seen o.read (edited w p (Regular bytes time read_only))) p) →
-      EachImage o.read (edited w p (Regular bytes time read_only)) (λ i. IsTrue (is_source i p)) →
-      Came o (edited w p (Regular bytes time read_only)) (with_sources H (seen o.read (edited w p (Regular bytes time read_only))))
+      Came act w H →
+      IsTrue (can_stand (seen w) p) →
+      IsLater (seen w) time →
+      IsTrue (is_source (seen (edited w p (Regular bytes time read_only))) p) →
+      EachImage record_in (edited w p (Regular bytes time read_only)) (λ i. IsTrue (is_source i p)) →
+      Came act (edited w p (Regular bytes time read_only)) (with_sources H (seen (edited w p (Regular bytes time read_only))))
   Remove :
       (w : World) (H : Versions) (p : Path) →
-      Came o w H → is_at_or_under p own_folder ≡ false → Came o (removed w p) (with_sources H (seen o.read (removed w p)))
+      Came act w H → is_at_or_under p own_folder ≡ false → Came act (removed w p) (with_sources H (seen (removed w p)))
+  -- a run or a listing
   Call :
       (w v : World) (H : Versions) (request : Request) (told : Option Fault) →
-      Came o w H → IsCalled o request told w v → v.children ≡ [] → Came o v (with_sources H (seen o.read v))
+      Came act w H → IsCalled (outside act) request told w v → v.children ≡ [] → Came act v (with_sources H (seen v))
+  -- `--unlock` or `--cleanup-metadata`, in which no call of the device failed
+  Keep :
+      (w v : World) (H : Versions) (request : Request) (told : Option Fault) →
+      Came act w H →
+      (called : IsKeptCall act request told w v) →
+      (Rose called.old.faults called.new.faults → ⊥) → v.children ≡ [] → Came act v (with_sources H (seen v))
   Crash :
       (w v : World) (H : Versions) (request : Request) (told : Option Fault) (log events rest : List Event) (nodes : Nodes) →
-      Came o w H →
-      IsCalled o request told w v →
+      Came act w H →
+      IsCalled (outside act) request told w v →
       v ≡ run w log →
-      log ≡ events ++ rest → IsLeft (run w events) nodes → Came o (world_of nodes) (with_sources H (seen o.read (world_of nodes)))
+      log ≡ events ++ rest → IsLeft (run w events) nodes → Came act (world_of nodes) (with_sources H (seen (world_of nodes)))
+  CrashKeeping :
+      (w v : World) (H : Versions) (request : Request) (told : Option Fault) (log events rest : List Event) (nodes : Nodes) →
+      Came act w H →
+      IsKeptCall act request told w v →
+      v ≡ run w log →
+      log ≡ events ++ rest → IsLeft (run w events) nodes → Came act (world_of nodes) (with_sources H (seen (world_of nodes)))
 
 -- It is a folder of a history, and so it is sound for its versions.
 abbrev pub CameIsHistory : Type 0
-CameIsHistory = (o : Outside) (w : World) (H : Versions) → ReadsRecords o.read → Came o w H → History o w H
+CameIsHistory = (act : Act) (w : World) (H : Versions) → Came act w H → History (outside act) w H
 
 abbrev pub CameIsSound : Type 0
-CameIsSound = (o : Outside) (w : World) (H : Versions) → ReadsRecords o.read → Came o w H → SoundWorld o w H
+CameIsSound = (act : Act) (w : World) (H : Versions) → Came act w H → SoundWorld (outside act) w H
 
 -- What is so of a run.
 pub record RunGives (o : Outside) (words : RunWords) (told : Option Fault) (w v : World) (called : IsCalled o (Run words) told w v) : Type 0 where
@@ -89,5 +116,5 @@ pub record RunGives (o : Outside) (words : RunWords) (told : Option Fault) (w v 
 -- After any list of calls, edits of sources and of the workflow, failed jobs, removals and crashes, this is so of a run.
 abbrev pub Headline : Type 0
 Headline =
-    (o : Outside) (w v : World) (H : Versions) (words : RunWords) (told : Option Fault) →
-    ReadsRecords o.read → Came o w H → (called : IsCalled o (Run words) told w v) → RunGives o words told w v called
+    (act : Act) (w v : World) (H : Versions) (words : RunWords) (told : Option Fault) →
+    Came act w H → (called : IsCalled (outside act) (Run words) told w v) → RunGives (outside act) words told w v called
