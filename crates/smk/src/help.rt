@@ -7,6 +7,8 @@ smk runs pipelines written as Snakefiles: it finds out which jobs have to run, r
 Usage:
   smk -c N [OPTION ..] [TARGET ..]    make the targets
   smk -n [OPTION ..] [TARGET ..]      list what a run would do and why, and change nothing
+  smk --unlock                        remove the lock, whoever left it
+  smk --cleanup-metadata PATH         forget what is kept of PATH, which is a source then; may be repeated
   smk --help                          print this page
   smk --version                       print the version
 
@@ -21,7 +23,7 @@ Options:
   -C, --config KEY=VALUE    set KEY of the configuration to this text; the last VALUE of a KEY counts
       --resources NAME=N    refuse a job that asks for more than N of the resource NAME
       --rerun-incomplete    run jobs again that were left unfinished; else a plan with such jobs is refused
-      --nolock              neither heed nor take the lock; no run does that yet
+      --nolock              neither heed nor take the lock: of --cleanup-metadata; no run does that yet
   -k, --keep-going          go on after a failed job: with -n alone, where it changes nothing
   -f, --force               run the jobs that make the targets again: with -n alone
   -F, --forceall            run all jobs again: with -n alone
@@ -31,8 +33,8 @@ A value is the next word, or it stands behind `=`, as in --cores=4, or at once b
 can be joined, as in -nF. --config and --resources can be repeated, --resources with another NAME; all others stand
 once.
 
-Not built yet, and refused: -k, -f and -F without -n; --unlock, --cleanup-metadata PATH and --generate SEED:SIZE; a run
-of a workflow with checkpoints, directory, temp or protected outputs, which -n lists.
+Not built yet, and refused: -k, -f and -F without -n; --generate SEED:SIZE; a run of a workflow with checkpoints,
+directory, temp or protected outputs, which -n lists.
 
 Status:
   0  all is made, or listed

@@ -2,3 +2,4 @@ pub mod Putting
 pub mod Outcomes
 pub mod Words
 pub mod Serving
+pub mod Kept

@@ -1,5 +1,5 @@
 -- What is put of the line of a fault.
-use Rattle.std.proofs.Common.{◌≡◌, Bool, true, false, [], ◌++◌, Some, None, Option, inl, inr, refl, sym, subst, ◌∙◌, Result, Ok, Err, is_ok}
+use Rattle.std.proofs.Common.{◌≡◌, false, [], Some, None, inl, inr, refl, sym, ◌∙◌, Result, Ok, Err, is_ok}
 use Rattle.std.specs.Prelude.{is_err}
 use Rattle.std.proofs.lemmas.List.{append-nil}
 use Rattle.smk_world.specs.declared.event.Failed.{Failed}
@@ -8,7 +8,7 @@ use Rattle.smk_report.specs.Lines.{Text}
 use Rattle.smk_report.specs.declared.fault.Fault.{Fault}
 use Rattle.smk_report.specs.declared.fault.Fault.TheVariants as fault
 use Rattle.smk_report.specs.Faults.{fault_text}
-use Rattle.smk_run.specs.Reports.{HasReported, IsReport}
+use Rattle.smk_run.specs.Reports.{IsReport}
 use Rattle.smk_run.proofs.Texts.{reported_put, reported_as, reported_nothing}
 use Rattle.smk_cli.specs.Lines.{IsFaultLine, HasToldFault}
 

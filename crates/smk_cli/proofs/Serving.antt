@@ -20,17 +20,17 @@ use Rattle.smk_plan_preview.specs.Previewing.{rules_for, IsPreviewed}
 use Rattle.smk_serve.specs.Serving.{IsWant, IsRefusedPlan, IsServed, settings_of, Stopped}
 use Rattle.smk_serve.specs.Serving as serving
 use Rattle.smk_serve.proofs.Went.{only_looked}
-use Rattle.smk_cli.specs.Words.{is_built}
+use Rattle.smk_cli.specs.Words.{is_to_make}
 use Rattle.smk_cli.specs.Whole.{Serves, IsRefusal, OfPlan, IsToServe}
 use Rattle.smk_plan_preview.proofs.Looked.{IsSameFolder, seen_moved}
 
 -- before anything was looked at memory was wanting
-pub stopped : (act : Act) (read : List ℕ → Option Record) (w : World) (f : Fault) (request : Request) (a : Device) (p : Sunk) → is_built request ≡ true → IsWant f → is_device f ≡ false → Serves act read w (Err f) a a p p request
-stopped act read w f (Run words) a p built want quiet = Stopped f refl want (only_looked p (looked_as (sym quiet) (looked_nothing act a)))
-stopped act read w f (Preview words) a p built want quiet = (looked_as (sym quiet) (looked_nothing act a), serving.Stopped f want refl)
-stopped act read w f Unlock a p built want quiet = absurd (true≢false (sym built))
-stopped act read w f (Forget paths nolock) a p built want quiet = absurd (true≢false (sym built))
-stopped act read w f (Generate seed size) a p built want quiet = absurd (true≢false (sym built))
+pub stopped : (act : Act) (read : List ℕ → Option Record) (w : World) (f : Fault) (request : Request) (a : Device) (p : Sunk) → is_to_make request ≡ true → IsWant f → is_device f ≡ false → Serves act read w (Err f) a a p p request
+stopped act read w f (Run words) a p makes want quiet = Stopped f refl want (only_looked p (looked_as (sym quiet) (looked_nothing act a)))
+stopped act read w f (Preview words) a p makes want quiet = (looked_as (sym quiet) (looked_nothing act a), serving.Stopped f want refl)
+stopped act read w f Unlock a p makes want quiet = absurd (true≢false (sym makes))
+stopped act read w f (Forget paths nolock) a p makes want quiet = absurd (true≢false (sym makes))
+stopped act read w f (Generate seed size) a p makes want quiet = absurd (true≢false (sym makes))
 
 -- after looks a plan is that of the folder as it was
 pub plan_refused : (read : List ℕ → Option Record) (run : Bool) (words : RunWords) (w v : World) (asked : Asked) (f : Fault) → IsSameFolder w v → IsAskedIn run words w.nodes (Ok asked) → IsRefusedPlan read asked words v f

@@ -8,7 +8,6 @@ use Rattle.smk_words_reading.proofs.Whole.{one_asked, none_asked_without_cores}
 use Rattle.smk_report.specs.declared.fault.Fault.{Fault}
 use Rattle.smk_report.specs.declared.fault.Fault.TheVariants as fault
 use Rattle.smk_cli_entry.specs.Faults.{is_device, is_sink}
-use Rattle.smk_serve.specs.Serving.{IsWant}
 use Rattle.smk_cli.specs.Words.{RefusesWords, Unread, WithoutCores, NotBuilt, is_built}
 
 -- what is built isn't refused
@@ -60,6 +59,6 @@ early_refusal words f g (inl e) refused = inr (ap (λ x. Err x) e)
 early_refusal words f g (inr also) refused = inl (ap (λ x. Err x) (one_refusal words g f also refused))
 
 -- where what they ask is built, it is want of memory
-pub early_want : (words : List Text) (f : Fault) (request : Request) → IsAsked words request → is_built request ≡ true → IsEarly words f → IsWant f
-early_want words f request asked built (inl e) = inr e
+pub early_want : (words : List Text) (f : Fault) (request : Request) → IsAsked words request → is_built request ≡ true → IsEarly words f → f ≡ fault.OutOfMemory
+early_want words f request asked built (inl e) = e
 early_want words f request asked built (inr refused) = absurd (built_unrefused words f request asked built refused)

@@ -29,7 +29,7 @@ module _ (read : List ℕ → Option Record) (run : Bool) (words : RunWords) (w 
     pub is_asked : IsAskedIn run words w.nodes (Ok asked)
     pub plan : IsPlanFor read asked words w told
 
--- What is done for a request that is built: a run, or a listing that leaves all as it stands.
+-- What is done for a request that is about what is made: a run, or a listing that leaves all as it stands.
 abbrev pub Serves : Act → (List ℕ → Option Record) → World → Result (Unit {0}) Fault → Device → Device → Sunk → Sunk → Request → Type 0
 Serves act read w answer old new out_old out_new (Run words) =
     Went act words.cores answer (IsRefusal read true words w) (IsToServe read true words w) old new out_old out_new

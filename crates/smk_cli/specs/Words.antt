@@ -14,13 +14,22 @@ forces_none No = true
 forces_none Targets = false
 forces_none All = false
 
--- What is built of all that words ask: runs that force no job and end with the first job that fails, and listings.
+-- What is built of all that words ask: runs that force no job and end with the first job that fails; listings; that the lock goes; and that what is
+-- kept of paths goes.
 abbrev pub is_built : Request → Bool
 is_built (Run words) = not words.keep_going && forces_none words.force
 is_built (Preview words) = true
-is_built Unlock = false
-is_built (Forget paths nolock) = false
+is_built Unlock = true
+is_built (Forget paths nolock) = true
 is_built (Generate seed size) = false
+
+-- it is about what is made: a run or a listing
+abbrev pub is_to_make : Request → Bool
+is_to_make (Run words) = true
+is_to_make (Preview words) = true
+is_to_make Unlock = false
+is_to_make (Forget paths nolock) = false
+is_to_make (Generate seed size) = false
 
 -- Words are refused with this fault: they ask nothing; they ask for a run and don't say on how many cores; or what they ask isn't built yet.
 pub data RefusesWords (words : List Text) : Fault → Type 0 where

@@ -1,6 +1,7 @@
 //! The program's one call: it reads words, does what they ask by the workflow of the working folder, and reports.
 #![tactic(auto)]
 
+mod keys;
 mod outcome;
 mod top;
 

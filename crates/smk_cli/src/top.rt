@@ -15,7 +15,9 @@ ghost use Rattle.smk_cli.specs.Words as spec;
 ghost use Rattle.smk_cli.specs.Words.{RefusesWords};
 ghost use Rattle.smk_cli.specs.Lines.{IsOutcome, HasToldFault};
 ghost use Rattle.smk_cli.specs.Whole.{IsRefusal, IsToServe, Serves, HasServed};
+ghost use Rattle.smk_cli.specs.Keys.{Keeps, HasKept};
 
+use crate::keys::{serve_forget, serve_unlock};
 use crate::outcome::Outcome;
 use smk_base::OutOfMemory;
 use smk_cli_entry::ask;
@@ -76,14 +78,18 @@ fn serve_request<W: Crew, O: Sink, Rt: Threads + Sync>(
     out: &mut O,
 ) -> Result<(), Fault>
     requires none_runs { (W.device work.old).running ≡ [] }
-    ensures ended { EndsAs result (W.device work.old) (W.device work.new) (O.sunk out.old) (O.sunk out.new) }
-    ensures serves { spec.is_built request.now ≡ true → WhereTold (W.device work.old) (λ w. (read : Items ℕ → Option RecordValue) → ReadsRecords read
+    ensures ended { EndsWith (fault_of result) (W.device work.old) (W.device work.new) (O.sunk out.old) (O.sunk out.new) }
+    ensures serves { spec.is_to_make request.now ≡ true → WhereTold (W.device work.old) (λ w. (read : Items ℕ → Option RecordValue) → ReadsRecords read
         → Serves W.act read w result (W.device work.old) (W.device work.new) (O.sunk out.old) (O.sunk out.new) request.now) }
+    ensures keeps { spec.is_built request.now ≡ true → spec.is_to_make request.now ≡ false → WhereTold (W.device work.old) (λ w.
+        Keeps W.act result (W.device work.old) (W.device work.new) (O.sunk out.old) (O.sunk out.new) w request.now) }
 {
     match request {
         Asked::Run(words) => serve_run(rt, alloc, words, work, out),
         Asked::Preview(words) => serve_listing(rt, alloc, words, work, out),
-        Asked::Unlock | Asked::Forget { .. } | Asked::Generate { .. } => Err(Fault::BadWords),
+        Asked::Unlock => serve_unlock(alloc, work, out),
+        Asked::Forget { paths, nolock } => serve_forget(alloc, paths, *nolock, work, out),
+        Asked::Generate { .. } => Err(Fault::BadWords),
     }
 }
 
@@ -96,14 +102,14 @@ fn forces_none(force: Force) -> bool
     }
 }
 
-// Whether it is built: a run that forces no job and ends with the first job that fails, or a listing.
+// Whether it is built: a run that forces no job and ends with the first job that fails, a listing, or a command on what is kept.
 fn is_built(request: &Asked) -> bool
     ensures { result ≡ spec.is_built request.now }
 {
     match request {
         Asked::Run(words) => !words.keep_going && forces_none(words.force),
-        Asked::Preview(_) => true,
-        Asked::Unlock | Asked::Forget { .. } | Asked::Generate { .. } => false,
+        Asked::Preview(_) | Asked::Unlock | Asked::Forget { .. } => true,
+        Asked::Generate { .. } => false,
     }
 }
 
@@ -141,12 +147,14 @@ fn serve<W: Crew, O: Sink, Rt: Threads + Sync>(
     out: &mut O,
 ) -> Result<(), Fault>
     requires none_runs { (W.device work.old).running ≡ [] }
-    ensures ended { EndsAs result (W.device work.old) (W.device work.new) (O.sunk out.old) (O.sunk out.new) }
+    ensures ended { EndsWith (fault_of result) (W.device work.old) (W.device work.new) (O.sunk out.old) (O.sunk out.new) }
     ensures unread { (f : FaultValue) → RefusesWords (map string_bytes words.now) f
         → ((result ≡ Err f) ⊎ (result ≡ Err Fault.OutOfMemory)) × (work.new ≡ work.old) × (out.new ≡ out.old) }
-    ensures serves { (request : Request) → IsAsked (map string_bytes words.now) request → spec.is_built request ≡ true
+    ensures serves { (request : Request) → IsAsked (map string_bytes words.now) request → spec.is_built request ≡ true → spec.is_to_make request ≡ true
         → WhereTold (W.device work.old) (λ w. (read : Items ℕ → Option RecordValue) → ReadsRecords read
         → Serves W.act read w result (W.device work.old) (W.device work.new) (O.sunk out.old) (O.sunk out.new) request) }
+    ensures keeps { (request : Request) → IsAsked (map string_bytes words.now) request → spec.is_built request ≡ true → spec.is_to_make request ≡ false
+        → WhereTold (W.device work.old) (λ w. Keeps W.act result (W.device work.old) (W.device work.new) (O.sunk out.old) (O.sunk out.new) w request) }
 {
     match requested(alloc, words) {
         Err(fault) => Err(fault),
@@ -173,8 +181,8 @@ fn tell<O: Sink>(alloc: Global, answer: Result<(), Fault>, err: &mut O) -> Outco
 }
 
 /// Does what the words ask by a workflow of the working folder. For a run: makes the targets, by running the jobs that its plan has to be run or restored, one
-/// after another, and reports them and the targets to `out`. For a listing: tells the jobs of the plan to `out`, and changes nothing. The line of a fault
-/// goes to `err`.
+/// after another, and reports them and the targets to `out`. For a listing: tells the jobs of the plan to `out`, and changes nothing. Or removes the lock,
+/// or what is kept of paths, and tells so. The line of a fault goes to `err`.
 ///
 /// The status is 0 where all is done, 1 where a job failed, 2 where the words are refused, 3 where the workflow, a target, the plan or a job is refused, 4 where
 /// the device failed, 5 where memory is wanting, 6 where `out` failed.
@@ -194,10 +202,14 @@ pub fn smk<W: Crew, O: Sink, Rt: Threads + Sync>(
     ensures unread { (f : FaultValue) → RefusesWords (map string_bytes words.now) f
         → ((result.fault ≡ Some f) ⊎ (result.fault ≡ Some Fault.OutOfMemory)) × (work.new ≡ work.old) × (out.new ≡ out.old) }
 
-    // what is asked is served, where it is built: it is refused, and nothing is done; or what its plan has to be run is run, in order; or the plan is listed
-    ensures serves { (request : Request) → IsAsked (map string_bytes words.now) request → spec.is_built request ≡ true
+    // a run or a listing is served, where it is built: it is refused, and nothing is done; or what its plan has to be run is run, in order; or the plan is listed
+    ensures serves { (request : Request) → IsAsked (map string_bytes words.now) request → spec.is_built request ≡ true → spec.is_to_make request ≡ true
         → WhereTold (W.device work.old) (λ w. (read : Items ℕ → Option RecordValue) → ReadsRecords read
         → HasServed W.act read request w result.fault (W.device work.old) (W.device work.new) (O.sunk out.old) (O.sunk out.new)) }
+
+    // of what is kept the lock goes, and nothing else; or what is known of paths, of each in its turn
+    ensures keeps { (request : Request) → IsAsked (map string_bytes words.now) request → spec.is_built request ≡ true → spec.is_to_make request ≡ false
+        → WhereTold (W.device work.old) (λ w. HasKept W.act request w result.fault (W.device work.old) (W.device work.new) (O.sunk out.old) (O.sunk out.new)) }
 
     // a fault of the device or of the sink comes only from one of its own in this call; and unless a call of the device failed, no child runs at the end, and what is told stays
     // told

@@ -1,10 +1,8 @@
 -- The lock around all turns.
-use Rattle.std.proofs.Common.{◌≡◌, ◌⊎◌, inl, inr, Bool, true, false, ◌&&◌, ◌||◌, List, [], ◌∷◌, ◌++◌, refl, sym, ap, subst, ◌∙◌, Some, None, Result, Ok, Err, true≢false}
+use Rattle.std.proofs.Common.{◌≡◌, ◌⊎◌, inl, inr, Bool, true, false, ◌&&◌, ◌||◌, List, [], ◌∷◌, ◌++◌, refl, sym, ap, subst, ◌∙◌, Result, Ok, Err, true≢false}
 use Rattle.std.specs.Prelude.{if◌then◌else◌, IsSome, is_some}
-use Rattle.smk_base.specs.Path.{is_under}
 use Rattle.smk_base.specs.Place.{record_place, mark_place, note_place, lock_place}
 use Rattle.smk_base.proofs.Apart.{IsApart, record-lock, mark-lock, note-lock}
-use Rattle.smk_world.specs.declared.event.Event.{Event}
 use Rattle.smk_world.specs.declared.event.Failed.{Failed}
 use Rattle.smk_world.specs.Calls.{Rose}
 use Rattle.smk_world.specs.Devices.{Device, WhereTold, HasActed, Sunk}
@@ -14,7 +12,6 @@ use Rattle.smk_world.proofs.Devices.{acted_as, acted_nothing, acted_then}
 use Rattle.smk_record.specs.Reading.{record_in}
 use Rattle.smk_store.specs.declared.store.Kept.TheVariants.{Absent}
 use Rattle.smk_store.specs.Images.{is_known, kept_by, stands}
-use Rattle.smk_report.specs.Lines.{Text}
 use Rattle.smk_keep_lock.specs.Changing.{ChangesOnly}
 use Rattle.smk_keep_lock.specs.Locking.{HasTaken, HasReleased}
 use Rattle.smk_keep_lock.specs.Putting.{IsWholeFor, Put, HasPutSome}

@@ -1,5 +1,5 @@
 -- What stands when a path was forgotten.
-use Rattle.std.proofs.Common.{◌≡◌, ◌⊎◌, inl, inr, Bool, true, false, ◌&&◌, ◌||◌, List, [], ◌∷◌, ◌++◌, refl, sym, ap, subst, ◌∙◌, bytes_eq, Option, Some, None, Ok}
+use Rattle.std.proofs.Common.{◌≡◌, ◌⊎◌, inl, inr, Bool, true, false, ◌&&◌, ◌||◌, List, [], ◌∷◌, ◌++◌, refl, sym, ap, subst, ◌∙◌, bytes_eq, None}
 use Rattle.std.specs.Prelude.{if◌then◌else◌, is_some}
 use Rattle.smk_base.specs.Path.{is_at_or_under}
 use Rattle.smk_base.specs.Place.{record_place, mark_place, note_place, records_folder, marks_folder, notes_folder}
@@ -7,11 +7,9 @@ use Rattle.smk_base.proofs.Apart.{record-record, record-mark, record-note, mark-
 use Rattle.smk_base.proofs.Places.{place_itself}
 use Rattle.smk_base.proofs.Under.{at_itself, never_both}
 use Rattle.smk_world.specs.declared.event.Event.{Event}
-use Rattle.smk_world.specs.declared.event.Node.{Node}
 use Rattle.smk_world.specs.declared.event.NodeState.{NodeState}
 use Rattle.smk_world.specs.declared.event.NodeState.TheVariants.{Owned, Known as Standing}
 use Rattle.smk_world.specs.Calls.{Lets, failed}
-use Rattle.smk_world.specs.Devices.{AreLooks}
 use Rattle.smk_world.specs.Requests.{Request, request, HasDone}
 use Rattle.smk_world.specs.Requests.Request.{Remove, Settle}
 use Rattle.smk_world.specs.Runs.{Follows}

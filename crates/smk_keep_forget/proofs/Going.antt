@@ -1,6 +1,6 @@
 -- Paths that are forgotten, one after another.
-use Rattle.std.proofs.Common.{◌≡◌, ◌⊎◌, inl, inr, Bool, true, false, ◌&&◌, ◌||◌, not, List, [], ◌∷◌, ◌++◌, refl, sym, ap, subst, ◌∙◌, bytes_eq, append_assoc, append-nil, Option, Some, None, Result, Ok, Err}
-use Rattle.std.specs.Prelude.{IfOk, IsErrAnd, IsSome, is_some}
+use Rattle.std.proofs.Common.{◌≡◌, inl, inr, Bool, true, false, ◌&&◌, ◌||◌, not, List, [], ◌∷◌, ◌++◌, refl, sym, ap, subst, ◌∙◌, bytes_eq, append_assoc, append-nil, Option, Some, None, Result, Ok, Err}
+use Rattle.std.specs.Prelude.{IsErrAnd, IsSome, is_some}
 use Rattle.smk_base.proofs.Places.{same_place}
 use Rattle.smk_base.proofs.Under.{or_first, or_second}
 use Rattle.smk_world.specs.declared.event.Event.{Event}
@@ -26,7 +26,7 @@ use Rattle.smk_keep_forget.specs.declared.fault.ForgetFault.TheVariants.{Locked,
 use Rattle.smk_keep_forget.specs.Answers.{is_device, of_store}
 use Rattle.smk_keep_forget.specs.Seen.{seen}
 use Rattle.smk_keep_forget.specs.Steps.{HasStepped, HasTurned, IsForgotten, IsLineFor, IsOfPut}
-use Rattle.smk_keep_forget.specs.Turns.{IsStoreBut, IsTurn, HaveTurned, Looked, Turned, EndsSo, HasGone, without}
+use Rattle.smk_keep_forget.specs.Turns.{IsStoreBut, IsTurn, HaveTurned, Looked, Turned, EndsSo, HasGone}
 use Rattle.smk_keep_forget.proofs.Forgetting.{forgotten_now, follows_rest}
 use Rattle.smk_keep_forget.proofs.Stores.{IsWithout, known_other, without_none}
 use Rattle.smk_keep_forget.proofs.Turns.{AfterLooks, after_looks, known_same, store_same}

@@ -1,6 +1,5 @@
 -- The lines of paths that are forgotten, and what is put.
-use Rattle.std.proofs.Common.{◌≡◌, ◌⊎◌, inl, inr, Bool, true, false, ◌&&◌, ◌||◌, not, List, [], ◌∷◌, ◌++◌, refl, sym, ap, subst, ◌∙◌, bytes_eq, append_assoc, append-nil, Result, Ok, Err, arith, true≢false}
-use Rattle.std.specs.Prelude.{ℕ}
+use Rattle.std.proofs.Common.{◌≡◌, Bool, true, false, ◌&&◌, ◌||◌, not, List, [], ◌∷◌, ◌++◌, refl, sym, ap, subst, ◌∙◌, bytes_eq, append_assoc, append-nil, Err, arith}
 use Rattle.smk_world.specs.Calls.{Rose}
 use Rattle.smk_world.specs.Devices.{Sunk}
 use Rattle.smk_world.specs.Trees.{Path, among}
@@ -9,7 +8,7 @@ use Rattle.smk_report.specs.Lines.{Text, forgotten_line}
 use Rattle.smk_keep_lock.specs.Putting.{IsPrefix, IsWholeFor, Put, HasPutSome}
 use Rattle.smk_keep_forget.specs.declared.fault.ForgetFault.{ForgetFault}
 use Rattle.smk_keep_forget.specs.declared.fault.ForgetFault.TheVariants.{Locked, StampSeen, Device, Output, OutOfMemory}
-use Rattle.smk_keep_forget.specs.Answers.{forget_status, is_output}
+use Rattle.smk_keep_forget.specs.Answers.{forget_status}
 use Rattle.smk_keep_forget.specs.Seen.{forgotten_lines}
 use Rattle.smk_keep_forget.specs.Steps.{IsLineFor}
 

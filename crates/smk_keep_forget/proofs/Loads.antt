@@ -1,5 +1,5 @@
 -- What a load tells.
-use Rattle.std.proofs.Common.{◌≡◌, ◌≢◌, Bool, false, List, subst, ap, ℕ, Option, Some, Result, Ok, Err}
+use Rattle.std.proofs.Common.{◌≡◌, ◌≢◌, false, List, subst, ap, ℕ, Option, Some, Result, Ok, Err}
 use Rattle.std.specs.Prelude.{IfOk, IfErr}
 use Rattle.smk_world.specs.Devices.{Device, WhereTold, HasLooked}
 use Rattle.smk_world.specs.Trees.{Path, Act}

@@ -1,17 +1,17 @@
 -- A store that has just what stands but for some paths.
-use Rattle.std.proofs.Common.{◌≡◌, ◌⊎◌, inl, inr, Bool, true, false, ◌||◌, not, List, [], ◌∷◌, ◌++◌, refl, sym, ap, ◌∙◌, bytes_eq, Option, Some, None}
-use Rattle.std.specs.Prelude.{filter, if◌then◌else◌, is_some}
+use Rattle.std.proofs.Common.{◌≡◌, inl, inr, Bool, true, false, ◌||◌, not, List, [], ◌∷◌, ◌++◌, refl, sym, ap, ◌∙◌, bytes_eq, Option, Some, None}
+use Rattle.std.specs.Prelude.{if◌then◌else◌, is_some}
 use Rattle.std.specs.List.{list_any}
-use Rattle.smk_base.proofs.Places.{same_place, place_itself}
+use Rattle.smk_base.proofs.Places.{same_place}
 use Rattle.smk_base.proofs.Under.{or_first}
 use Rattle.smk_world.specs.World.{folders_above}
 use Rattle.smk_world.specs.Trees.{Path, IsIn, among}
 use Rattle.smk_record.specs.declared.record.Stamp.{Stamp}
 use Rattle.smk_store.specs.declared.store.Entry.{Entry}
 use Rattle.smk_store.specs.Forgetting.{all_inputs, inputs_of}
-use Rattle.smk_store.specs.Images.{Image, is_known, is_covered, readable, stands}
+use Rattle.smk_store.specs.Images.{Image, is_known, readable, stands}
 use Rattle.smk_store.specs.Loading.{IsStoreOf, entry_at, entry_in}
-use Rattle.smk_store.specs.Stores.{Known, entry_of, is_covered_in}
+use Rattle.smk_store.specs.Stores.{Known, entry_of}
 use Rattle.smk_keep_forget.specs.Turns.{without}
 
 never : true ≡ false → ⊥

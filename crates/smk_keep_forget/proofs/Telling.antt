@@ -7,7 +7,7 @@ use Rattle.smk_world.proofs.Devices.{still}
 use Rattle.smk_store.specs.Images.{is_known}
 use Rattle.smk_store.specs.Loading.{IsStoreOf}
 use Rattle.smk_store.specs.Stores.{Known}
-use Rattle.smk_report.specs.Lines.{Text, forgotten_line}
+use Rattle.smk_report.specs.Lines.{forgotten_line}
 use Rattle.smk_keep_lock.specs.Putting.{IsWholeFor, Put}
 use Rattle.smk_keep_lock.proofs.Telling.{put_as, whole_text}
 use Rattle.smk_keep_forget.specs.declared.fault.ForgetFault.{ForgetFault}

@@ -1,6 +1,6 @@
 -- The turn of a path, by a store that was loaded before or anew.
-use Rattle.std.proofs.Common.{◌≡◌, ◌⊎◌, inl, inr, Bool, true, false, ◌||◌, List, [], ◌∷◌, ◌++◌, map, refl, sym, ap, subst, ◌∙◌, bytes_eq, append_assoc, Some, None, Result, Ok, Err}
-use Rattle.std.specs.Prelude.{IfOk, IfErr, is_some}
+use Rattle.std.proofs.Common.{◌≡◌, ◌⊎◌, inl, inr, Bool, true, false, ◌||◌, List, [], ◌∷◌, ◌++◌, map, refl, sym, ap, subst, ◌∙◌, bytes_eq, append_assoc, Result, Ok, Err}
+use Rattle.std.specs.Prelude.{IfOk, is_some}
 use Rattle.smk_base.proofs.Under.{or_cases, or_first, or_second}
 use Rattle.smk_world.specs.declared.event.Event.{Event}
 use Rattle.smk_world.specs.declared.event.NodeState.{NodeState}
@@ -24,7 +24,7 @@ use Rattle.smk_keep_lock.proofs.Acting.{acted_more}
 use Rattle.smk_keep_forget.specs.Answers.{is_stamp}
 use Rattle.smk_keep_forget.specs.Seen.{seen}
 use Rattle.smk_keep_forget.specs.Steps.{HasTurned, TurnsBy}
-use Rattle.smk_keep_forget.specs.Turns.{IsStoreBut, IsTurn, without}
+use Rattle.smk_keep_forget.specs.Turns.{IsStoreBut, without}
 use Rattle.smk_keep_forget.proofs.Forgetting.{forgotten_now}
 use Rattle.smk_keep_forget.proofs.Stores.{entry_there, inputs_left, known_by_store, store_of, store_without, without_none}
 

@@ -3,7 +3,7 @@ use Rattle.std.specs.Prelude.{◌≡◌, ◌⊎◌, Bool, true, false, not, List
 use Rattle.smk_world.specs.declared.event.Event.{Event}
 use Rattle.smk_world.specs.World.{World, run}
 use Rattle.smk_world.specs.Devices.{AreLooks}
-use Rattle.smk_world.specs.Trees.{Path, IsIn, among}
+use Rattle.smk_world.specs.Trees.{Path, among}
 use Rattle.smk_record.specs.Records.{are_rising}
 use Rattle.smk_store.specs.declared.fault.StoreFault.{StoreFault}
 use Rattle.smk_store.specs.declared.fault.StoreFault.TheVariants as stop

@@ -99,7 +99,7 @@ fn forget_locked<W: Files, O: Sink>(
 ///
 /// `Locked`: the lock stood; nothing was changed or put. `StampSeen`: a file at or under one of the paths has a time that a readable
 /// record holds as the stamp of that source, where the records of the paths before don't count; with the first such file of the first such
-/// path. The paths before it are forgotten and told. `Device`: a call failed, and none came after it; the lock may stand. `Output`: a
+/// path. The paths before it are forgotten. `Device`: a call failed, and none came after it; the lock may stand. `Output`: a
 /// line couldn't be put whole; its path is forgotten, and so are those before it. `OutOfMemory`: a front of the paths is forgotten, and
 /// a front of these was told.
 ///

@@ -3,4 +3,4 @@ pub mod Exit
 pub mod Temps
 pub mod Turns
 pub mod Telling
-pub mod Headline
+pub mod Came

@@ -1,11 +1,11 @@
 -- What the events of forgetting keep to.
-use Rattle.std.proofs.Common.{◌≡◌, ◌⊎◌, inl, inr, Bool, true, false, List, [], ◌∷◌, ◌++◌, map, refl, sym, ap, subst, Result, Ok, Err}
+use Rattle.std.proofs.Common.{◌≡◌, inl, inr, Bool, true, false, List, [], ◌∷◌, ◌++◌, map, refl, sym, ap, subst, Result, Ok, Err}
 use Rattle.smk_base.specs.Place.{lock_place, record_place, mark_place, note_place}
 use Rattle.smk_world.specs.declared.event.Event.{Event}
 use Rattle.smk_world.specs.Devices.{AreLooks}
 use Rattle.smk_world.specs.Requests.{Request, request, HasDone, IsCutShort}
 use Rattle.smk_world.specs.Requests.Request.{Look, ReadUpTo, ListFolder, Write, Create, Remove, MakeParents, Settle, Protect, Start, Wait}
-use Rattle.smk_world.specs.Trees.{Path, IsIn, Each, among}
+use Rattle.smk_world.specs.Trees.{Path, IsIn, Each}
 use Rattle.smk_world.specs.World.{World, run}
 use Rattle.smk_store.specs.declared.fault.StoreFault.{StoreFault}
 use Rattle.smk_store.specs.declared.fault.StoreFault.TheVariants as store
@@ -14,7 +14,7 @@ use Rattle.smk_store.specs.Stores.{Known}
 use Rattle.smk_keep_lock.proofs.Staying.{AllKeepTo, KeepsTo, carried_keep, looks_keep}
 use Rattle.smk_keep_forget.specs.declared.fault.ForgetFault.{ForgetFault}
 use Rattle.smk_keep_forget.specs.declared.fault.ForgetFault.TheVariants.{Locked, StampSeen, Device, Output, OutOfMemory}
-use Rattle.smk_keep_forget.specs.Turns.{IsTurn, HaveTurned, Looked, Turned, EndsSo, HasGone}
+use Rattle.smk_keep_forget.specs.Turns.{HaveTurned, Looked, Turned, EndsSo, HasGone}
 use Rattle.smk_keep_forget.proofs.Forgetting.{own_of, requests_keep}
 use Rattle.smk_laws_keys.specs.Keys.{own_places}
 

@@ -1,6 +1,6 @@
 -- What `--cleanup-metadata` leaves.
-use Rattle.std.proofs.Common.{◌≡◌, ◌⊎◌, inl, inr, Bool, true, false, ◌&&◌, ◌||◌, not, List, [], ◌∷◌, ◌++◌, refl, sym, ap, subst, ◌∙◌, append-nil, Option, None, Result, Ok, Err, true≢false}
-use Rattle.std.specs.Prelude.{if◌then◌else◌, is_some, IsSome}
+use Rattle.std.proofs.Common.{◌≡◌, inl, inr, Bool, true, false, ◌&&◌, ◌||◌, not, List, [], ◌∷◌, ◌++◌, refl, sym, ap, subst, ◌∙◌, append-nil, None, Result, Ok, Err, true≢false}
+use Rattle.std.specs.Prelude.{if◌then◌else◌, is_some}
 use Rattle.smk_base.specs.Place.{lock_place, record_place, mark_place, note_place}
 use Rattle.smk_base.proofs.Apart.{IsApart, record-lock, mark-lock, note-lock}
 use Rattle.smk_base.proofs.Places.{place_itself}
@@ -8,27 +8,26 @@ use Rattle.smk_base.proofs.Under.{or_first, or_second}
 use Rattle.smk_world.specs.declared.event.Event.{Event}
 use Rattle.smk_world.specs.Devices.{AreLooks}
 use Rattle.smk_world.specs.Runs.{Follows}
-use Rattle.smk_world.specs.Trees.{Path, Act, IsIn, Each, among, is_path_text}
-use Rattle.smk_world.specs.World.{World, run, reading, is_within, is_above}
+use Rattle.smk_world.specs.Trees.{Path, Act, among, is_path_text}
+use Rattle.smk_world.specs.World.{World, run, reading, is_within}
 use Rattle.smk_world.proofs.Devices.{looks_nodes}
 use Rattle.smk_world.proofs.Runs.{run_append}
 use Rattle.smk_record.specs.Reading.{record_in}
 use Rattle.smk_store.specs.declared.fault.StoreFault.{StoreFault}
 use Rattle.smk_store.specs.declared.store.Kept.TheVariants.{Absent}
 use Rattle.smk_store.specs.Images.{is_known, kept_by, stands}
-use Rattle.smk_keep_lock.specs.Changing.{Stays, ChangesOnly, IsSame}
-use Rattle.smk_keep_lock.specs.Locking.{HasTaken, HasReleased}
+use Rattle.smk_keep_lock.specs.Changing.{ChangesOnly, IsSame}
 use Rattle.smk_keep_lock.proofs.Staying.{AllKeepTo, changes_only, stays_itself, stays_then}
 use Rattle.smk_keep_forget.specs.declared.fault.ForgetFault.{ForgetFault}
 use Rattle.smk_keep_forget.specs.declared.fault.ForgetFault.TheVariants.{Locked, StampSeen, Device, Output, OutOfMemory}
 use Rattle.smk_keep_forget.specs.Answers.{is_device}
-use Rattle.smk_keep_forget.specs.Cleaning.{HasCleaned, Unheeded, Unmade, Untaken, Stood, Taken}
+use Rattle.smk_keep_forget.specs.Cleaning.{Unheeded, Unmade, Untaken, Stood, Taken}
 use Rattle.smk_keep_forget.specs.Seen.{seen}
 use Rattle.smk_keep_forget.specs.Steps.{HasEnded, Broken, Closed, Unclosed}
 use Rattle.smk_keep_forget.specs.Turns.{IsTurn, HaveTurned, Looked, Turned, EndsSo, HasGone}
 use Rattle.smk_keep_forget.proofs.Forgetting.{own_of, follows_rest}
 use Rattle.smk_keep_forget.proofs.Going.{follows_first, known_now}
-use Rattle.smk_laws_keys.specs.Keys.{own_places, AreForgotten, LeavesLittle, CleaningLeavesLittle}
+use Rattle.smk_laws_keys.specs.Keys.{own_places, AreForgotten, CleaningLeavesLittle}
 use Rattle.smk_laws_keys.proofs.Kept.{forgotten_keep, gone_keep}
 
 -- ## Changes, one after another

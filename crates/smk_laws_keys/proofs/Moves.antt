@@ -1,7 +1,6 @@
 -- Moves of the protocol of forgetting.
-use Rattle.std.proofs.Common.{◌≡◌, ◌⊎◌, inl, inr, Bool, true, false, ◌&&◌, List, [], ◌∷◌, ◌++◌, refl, sym, ap, subst, ◌∙◌, Option, Some, None, Result, Ok, Err, true≢false}
-use Rattle.std.specs.Prelude.{if◌then◌else◌, is_some}
-use Rattle.smk_base.specs.Path.{is_under, is_at_or_under}
+use Rattle.std.proofs.Common.{◌≡◌, Bool, true, false, List, [], ◌∷◌, ◌++◌, refl, sym, ap, subst, ◌∙◌, Option, Some, None, Ok, Err, true≢false}
+use Rattle.std.specs.Prelude.{if◌then◌else◌}
 use Rattle.smk_base.specs.Place.{lock_place}
 use Rattle.smk_world.specs.declared.event.Call.{Call}
 use Rattle.smk_world.specs.declared.event.Call.TheVariants.{Looked, ReadFile, ReadFolder, Written, Created, Removed, MadeParents, Settled, Protected, Started, Waited}
@@ -16,7 +15,7 @@ use Rattle.smk_world.specs.Devices.{AreLooks, is_look}
 use Rattle.smk_world.specs.Requests.{Request, request, HasDone, IsCutShort, Carries}
 use Rattle.smk_world.specs.Requests.Request.{Look, ReadUpTo, ListFolder, Write, Create, Remove, MakeParents, Settle, Protect, Start, Wait}
 use Rattle.smk_world.specs.Trees.{Path, Each}
-use Rattle.smk_world.specs.World.{World, after, run, reading, reads_nothing, reads_folder, loose, going, firm, with_folder, standing, node_after, is_within, is_above}
+use Rattle.smk_world.specs.World.{World, after, run, loose, going, firm, with_folder, standing, node_after}
 use Rattle.smk_store.specs.Soundness.{Outside}
 use Rattle.smk_store.specs.Unowned.{NoneOwned}
 use Rattle.smk_keep_lock.proofs.Staying.{AllKeepTo, KeepsTo}

@@ -1,25 +1,20 @@
 -- What the commands do keeps the folder sound.
-use Rattle.std.proofs.Common.{◌≡◌, ◌⊎◌, inl, inr, Bool, true, false, not, List, [], ◌∷◌, ◌++◌, refl, sym, ap, subst, ◌∙◌, Result, Ok, Err, true≢false}
+use Rattle.std.proofs.Common.{◌≡◌, inl, inr, Bool, true, false, not, List, [], ◌∷◌, ◌++◌, refl, sym, ap, subst, Result, Ok, Err, true≢false}
 use Rattle.smk_base.specs.Place.{lock_place}
 use Rattle.smk_world.specs.declared.event.Event.{Event}
 use Rattle.smk_world.specs.declared.event.Failed.{Failed}
-use Rattle.smk_world.specs.Requests.{Request}
 use Rattle.smk_world.specs.Requests.Request.{Create, Remove, MakeParents, Settle}
 use Rattle.smk_world.specs.Runs.{Follows}
 use Rattle.smk_world.specs.Trees.{Path, Act, IsIn, Each, is_path_text}
 use Rattle.smk_world.specs.World.{World, run}
-use Rattle.smk_world.proofs.Runs.{run_append}
 use Rattle.smk_store.specs.declared.fault.StoreFault.{StoreFault}
 use Rattle.smk_store.specs.declared.fault.StoreFault.TheVariants as store
 use Rattle.smk_store.specs.Safety.{KeepsSound}
 use Rattle.smk_store.specs.Soundness.{Outside}
 use Rattle.smk_store.specs.Steps.{HasLocked}
 use Rattle.smk_store.specs.Unowned.{NoneOwned}
-use Rattle.smk_keep_lock.specs.declared.fault.UnlockFault.{UnlockFault}
 use Rattle.smk_keep_lock.specs.declared.fault.UnlockFault.TheVariants as unlock
-use Rattle.smk_keep_lock.specs.Locking.{HasTaken, HasReleased}
-use Rattle.smk_keep_lock.specs.Unlocking.{HasRemoved}
-use Rattle.smk_keep_lock.specs.Unlocking as unlocking
+use Rattle.smk_keep_lock.specs.Locking.{HasReleased}
 use Rattle.smk_keep_lock.proofs.Staying.{AllKeepTo, carried_keep}
 use Rattle.smk_keep_forget.specs.declared.fault.ForgetFault.{ForgetFault}
 use Rattle.smk_keep_forget.specs.declared.fault.ForgetFault.TheVariants.{Locked, StampSeen, Device, Output, OutOfMemory}
@@ -29,13 +24,13 @@ use Rattle.smk_keep_forget.specs.Steps.{HasEnded, Broken, Closed, Unclosed}
 use Rattle.smk_keep_forget.specs.Turns.{IsTurn, HaveTurned, Looked, Turned, EndsSo, HasGone}
 use Rattle.smk_keep_forget.proofs.Forgetting.{follows_rest}
 use Rattle.smk_keep_forget.proofs.Going.{follows_first}
-use Rattle.smk_laws_protocol.specs.Forgetting.{Stage, Resting, Stopped, is_resting, ForgetsAll, Done}
+use Rattle.smk_laws_protocol.specs.Forgetting.{Stage, Resting, is_resting, ForgetsAll, Done}
 use Rattle.smk_laws_protocol.proofs.ForgettingHolds.{forgetting_keeps_sound}
 use Rattle.smk_laws_job.specs.Laws.{LeavesAt}
 use Rattle.smk_laws_job.proofs.Forgetting.{forgetting_runs}
 use Rattle.smk_laws_keys.specs.Keys.{outside, own_places, UnlockingIsSafe, CleaningIsSafe}
-use Rattle.smk_laws_keys.proofs.Kept.{in_front, in_left, in_right, turned_keep, gone_keep}
-use Rattle.smk_laws_keys.proofs.Moves.{EndsAt, OnLock, ends_then, lock_moves, looks_rest, moves_then, none_owned_after}
+use Rattle.smk_laws_keys.proofs.Kept.{in_front, in_left, in_right, turned_keep}
+use Rattle.smk_laws_keys.proofs.Moves.{EndsAt, ends_then, lock_moves, looks_rest, none_owned_after}
 
 -- what keeps soundness wherever it ends, keeps it to the end where no call failed
 kept_so : (o : Outside) (w : World) (log : List Event) (paths : List Path) (ok : Bool) → EndsAt o paths ok w log → Follows o.act w log → KeepsSound o w log paths ok
@@ -142,7 +137,7 @@ module _ (act : Act) (paths : List Path) (texts : Each (λ p. is_path_text p ≡
       subst (Ends false w) (sym log_is)
       (ends_then (outside act) paths false w es fs (subst (λ b. Ends b w es) (quiet_of r is) (gone_runs r w es free (follows_first act es fs w both) gone)) (unreleased (outside act) paths x (run w es) fs release))
 
-  cleaned_runs : (nolock : Bool) (r : Result (Unit {0}) ForgetFault) (w : World) (log : List Event) → NoneOwned w → Follows act w log → HasCleaned paths nolock r w log → Ends (not (is_device r)) w log
+  pub cleaned_runs : (nolock : Bool) (r : Result (Unit {0}) ForgetFault) (w : World) (log : List Event) → NoneOwned w → Follows act w log → HasCleaned paths nolock r w log → Ends (not (is_device r)) w log
   cleaned_runs nolock r w log free follows (Unheeded _ _ _ gone) = gone_runs r w log free follows gone
   cleaned_runs nolock _ w _ free follows (Unmade _) = (Resting, Done Resting w, λ e. refl)
   cleaned_runs nolock _ w log free follows (Untaken x _ _ taken) = untaken (outside act) paths x w log taken.calls

@@ -2,7 +2,6 @@
 use Rattle.std.specs.Prelude.{◌≡◌, Bool, true, false, not, List, [], ◌∷◌, ◌++◌, map, Result, Ok, Err}
 use Rattle.smk_base.specs.Place.{lock_place, record_place, mark_place, note_place}
 use Rattle.smk_world.specs.declared.event.Event.{Event}
-use Rattle.smk_world.specs.Folders.{IsTree}
 use Rattle.smk_world.specs.Runs.{Follows}
 use Rattle.smk_world.specs.Trees.{Path, Act, Each, is_path_text}
 use Rattle.smk_world.specs.World.{World, run, reading}

@@ -1,5 +1,5 @@
 -- Which answers `--cleanup-metadata` has.
-use Rattle.std.proofs.Common.{◌≡◌, ◌⊎◌, inl, inr, Bool, true, false, ◌&&◌, ◌||◌, not, List, [], ◌∷◌, ◌++◌, refl, sym, ap, subst, ◌∙◌, append-nil, Option, Some, None, Result, Ok, Err, true≢false}
+use Rattle.std.proofs.Common.{◌≡◌, inl, inr, Bool, true, false, ◌&&◌, ◌||◌, not, List, [], ◌∷◌, ◌++◌, refl, sym, ap, subst, ◌∙◌, append-nil, Option, Some, None, Result, Ok, Err, true≢false}
 use Rattle.std.specs.Prelude.{if◌then◌else◌, is_some}
 use Rattle.smk_base.specs.Path.{is_path, is_at_or_under, own_folder}
 use Rattle.smk_base.specs.Place.{lock_place}
@@ -18,7 +18,7 @@ use Rattle.smk_store.specs.Images.{Content, Image, content_of, is_outside, stand
 use Rattle.smk_chain_derive.proofs.Seen.{seen_lists_known}
 use Rattle.smk_keep_forget.specs.declared.fault.ForgetFault.{ForgetFault}
 use Rattle.smk_keep_forget.specs.declared.fault.ForgetFault.TheVariants.{Locked, StampSeen, Device, Output, OutOfMemory}
-use Rattle.smk_keep_forget.specs.Cleaning.{HasCleaned, Unheeded, Unmade, Untaken, Stood, Taken}
+use Rattle.smk_keep_forget.specs.Cleaning.{Unheeded, Unmade, Untaken, Stood, Taken}
 use Rattle.smk_keep_forget.specs.Seen.{seen, is_let_in, forgettable, forgotten, seen_before, seen_in_turn}
 use Rattle.smk_keep_forget.specs.Steps.{HasEnded, Broken, Closed, Unclosed}
 use Rattle.smk_keep_forget.specs.Turns.{HasGone}

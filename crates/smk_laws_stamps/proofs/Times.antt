@@ -1,7 +1,6 @@
 -- Times that an image's records hold, and those of a store.
-use Rattle.std.proofs.Common.{◌≡◌, ◌⊎◌, inl, inr, ℕ, Bool, true, false, ◌&&◌, ◌||◌, not, List, [], ◌∷◌, ◌++◌, map, refl, sym, ap, subst, ◌∙◌, bytes_eq, eq-eqb, eqb-true, Option, Some, None}
-use Rattle.std.specs.Prelude.{◌==◌, filter, if◌then◌else◌, option_map, is_some}
-use Rattle.std.specs.List.{list_any}
+use Rattle.std.proofs.Common.{◌≡◌, ◌⊎◌, inl, inr, ℕ, Bool, true, false, ◌&&◌, ◌||◌, List, [], ◌∷◌, ◌++◌, map, refl, sym, ap, subst, ◌∙◌, bytes_eq, eq-eqb, eqb-true, Option, Some, None}
+use Rattle.std.specs.Prelude.{◌==◌, filter, if◌then◌else◌, option_map}
 use Rattle.std.specs.Cmp.Lexicographic.{slice_cmp}
 use Rattle.std.specs.Ordering.{nat_cmp}
 use Rattle.std.specs.declared.cmp.Ordering.TheVariants.{Less}
@@ -9,7 +8,7 @@ use Rattle.smk_base.specs.Path.{is_at_or_under}
 use Rattle.smk_base.proofs.Places.{and_first, and_second, same_place, place_itself}
 use Rattle.smk_base.proofs.Under.{both_true, false_unless, or_first}
 use Rattle.smk_world.specs.Trees.{Path, IsIn, among}
-use Rattle.smk_world.specs.World.{World, IsFormed, reading}
+use Rattle.smk_world.specs.World.{World, reading}
 use Rattle.smk_record.specs.declared.record.Record.{Record}
 use Rattle.smk_record.specs.declared.record.Stamp.{Stamp}
 use Rattle.smk_record.specs.declared.record.Stamp.TheVariants.{Time, Made}
@@ -19,11 +18,11 @@ use Rattle.smk_store.specs.declared.store.Entry.{Entry}
 use Rattle.smk_store.specs.declared.store.Kept.{Kept}
 use Rattle.smk_store.specs.declared.store.Kept.TheVariants.{Absent, Unreadable, Held}
 use Rattle.smk_store.specs.Forgetting.{AreUnseen, IsSeen, IsFirstSeen, all_inputs, inputs_of}
-use Rattle.smk_store.specs.Images.{Image, Content, content_of, core_at, file_at, is_known, is_outside, readable, stands}
+use Rattle.smk_store.specs.Images.{Image, Content, content_of, file_at, is_known, is_outside, readable, stands}
 use Rattle.smk_store.specs.Loading.{IsStoreOf, entry_at, entry_in}
 use Rattle.smk_store.specs.Stores.{Known, entry_of}
 use Rattle.smk_keep_forget.specs.Seen.{holds_time, is_time_held, seen, seen_before}
-use Rattle.smk_laws_stamps.proofs.Filters.{never, any_in, in_any, in_among, among_in, none_left, first_left, Rises}
+use Rattle.smk_laws_stamps.proofs.Filters.{never, any_in, in_any, in_among, none_left, first_left, Rises}
 
 -- ## A record
 

@@ -1,22 +1,21 @@
 -- Images in which paths are forgotten, one after another.
-use Rattle.std.proofs.Common.{◌≡◌, ◌⊎◌, inl, inr, Bool, true, false, ◌&&◌, ◌||◌, not, List, [], ◌∷◌, ◌++◌, refl, sym, ap, subst, ◌∙◌, bytes_eq, append_assoc, append-nil, Option, Some, None, Result, Ok, Err}
-use Rattle.std.specs.Prelude.{filter, if◌then◌else◌, is_some}
+use Rattle.std.proofs.Common.{◌≡◌, Bool, true, false, ◌||◌, not, List, [], ◌∷◌, ◌++◌, refl, sym, ap, subst, ◌∙◌, bytes_eq, append_assoc, append-nil, None, Ok}
+use Rattle.std.specs.Prelude.{filter, if◌then◌else◌}
 use Rattle.smk_base.specs.Path.{is_under, is_at_or_under, own_folder}
 use Rattle.smk_base.specs.Place.{record_place, mark_place, note_place, lock_place}
-use Rattle.smk_base.proofs.Apart.{IsApart, outside-own, record-lock}
+use Rattle.smk_base.proofs.Apart.{outside-own, record-lock}
 use Rattle.smk_base.proofs.Places.{same_place}
 use Rattle.smk_base.proofs.Under.{at_when_under, false_of_not, false_unless, never_both, overlaps_above_both}
 use Rattle.smk_world.specs.declared.event.Event.{Event}
-use Rattle.smk_world.specs.declared.event.Node.{Node}
 use Rattle.smk_world.specs.Runs.{Follows}
-use Rattle.smk_world.specs.Trees.{Path, Act, IsIn, among, is_path_text}
-use Rattle.smk_world.specs.World.{World, IsFormed, run, reading, is_within, is_above}
+use Rattle.smk_world.specs.Trees.{Path, Act, among, is_path_text}
+use Rattle.smk_world.specs.World.{World, run, reading, is_within}
 use Rattle.smk_world.proofs.Devices.{looks_nodes}
 use Rattle.smk_world.proofs.Runs.{run_append}
 use Rattle.smk_record.specs.Reading.{record_in}
 use Rattle.smk_store.specs.declared.store.Kept.{Kept}
 use Rattle.smk_store.specs.declared.store.Kept.TheVariants.{Absent, Unreadable, Held}
-use Rattle.smk_store.specs.Images.{Image, is_known, is_outside, kept_by, stands}
+use Rattle.smk_store.specs.Images.{Image, is_outside, kept_by, stands}
 use Rattle.smk_keep_lock.specs.Changing.{ChangesOnly}
 use Rattle.smk_keep_lock.proofs.Staying.{changes_only}
 use Rattle.smk_keep_forget.specs.Seen.{seen, forgotten, seen_before, seen_in_turn, unless_any, forgettable}

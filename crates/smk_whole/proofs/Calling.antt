@@ -88,7 +88,7 @@ listing_is_complete act read words w H told old new out_old out_new clean served
     go :
         (r : Result (Unit {0}) Fault) → HasListed (IsRefusal read false words w) (IsToServe read false words w) out_old out_new r →
         MayTell read false words w (fault_of r)
-    go r (NotListed f refused unput) = refused_tells act read false words w H f clean alone refused
+    go r (NotListed f refused unput) = refused_tells act read false words w H f clean refused
     go r (HasListed.Stopped f want unput) = BrokenOff f (want_stops f want)
     go r (Listed asked told x planned faults put) = listed x faults
       where

@@ -1,4 +1,4 @@
-use Rattle.smk_laws_call.proofs.Headline.{came_is_history, came_is_sound, headline}
+use Rattle.smk_laws_call.proofs.Came.{came_is_history, came_is_sound, headline}
 use Rattle.smk_laws_call.proofs.headline.Goals as goal
 
 pub returns : goal.returns

@@ -8,8 +8,12 @@ returns-clause-unread g c = λ f refused.
     (outcome_refused f c.serve-answer.result c.tell.result.fault c.tell.ensures.fault h.0, h.1, h.2)
 
 pub returns-clause-ended : goal.returns-clause-ended
-returns-clause-ended g c = ends_as (fault_of c.serve-answer.result) c.tell.result.fault _ _ _ _ c.tell.ensures.fault c.serve-answer.ensures.ended.ends
+returns-clause-ended g c = ends_as (fault_of c.serve-answer.result) c.tell.result.fault _ _ _ _ c.tell.ensures.fault c.serve-answer.ensures.ended
 
 pub returns-clause-serves : goal.returns-clause-serves
-returns-clause-serves g c = λ request asked built w at read reads.
-    record { built = built; answer = c.serve-answer.result; told_is = c.tell.ensures.fault; serves = c.serve-answer.ensures.serves request asked built w at read reads }
+returns-clause-serves g c = λ request asked built makes w at read reads.
+    record { built = built; answer = c.serve-answer.result; told_is = c.tell.ensures.fault; serves = c.serve-answer.ensures.serves request asked built makes w at read reads }
+
+pub returns-clause-keeps : goal.returns-clause-keeps
+returns-clause-keeps g c = λ request asked built kept w at.
+    record { answer = c.serve-answer.result; told_is = c.tell.ensures.fault; keeps = c.serve-answer.ensures.keeps request asked built kept w at }

@@ -1,6 +1,6 @@
 use Rattle.std.proofs.Common.{◌∙◌, subst, sym}
 use Rattle.smk_cli.specs.Lines.{HasToldFault}
-use Rattle.smk_cli.proofs.Putting.{told_line, told_none, told_short}
+use Rattle.smk_cli.proofs.Putting.{told_line, told_none}
 use Rattle.smk_cli.proofs.top.tell.Goals as goal
 
 pub returns-in-Ok-clause-line : goal.returns-in-Ok-clause-line

@@ -1,4 +1,4 @@
-use Rattle.std.proofs.Common.{[], ◌∷◌, ◌++◌, ◌+◌, drop, take, refl, sym, ◌∙◌, Err}
+use Rattle.std.proofs.Common.{[], ◌+◌, drop, take, refl, ◌∙◌, Err}
 use Rattle.std.proofs.lemmas.List.{take_all}
 use Rattle.smk_world.specs.Devices.{HasActed, WhereTold}
 use Rattle.smk_world.proofs.Devices.{around, next}
