@@ -14,7 +14,7 @@ use Rattle.smk_plan.proofs.Plans.{out_txt}
 use Rattle.smk_drive.proofs.Turns.{put}
 use Rattle.smk_drive_target.specs.Reports.{IsRunText}
 use Rattle.smk_drive_rows.proofs.Logs.{IsSettled}
-use Rattle.smk_drive_rows.proofs.Checker.{IsChecked, started}
+use Rattle.smk_drive_rows.proofs.Checker.{started}
 use Rattle.smk_drive_rows.proofs.Keeping.{Keeps}
 use Rattle.smk_drive_rows.proofs.Telling.{lines_of, is_report}
 use Rattle.smk_drive_rows.proofs.Events.{formed_of, rules_by, reader_of, marking, start, ends, keeping, of_job, IsGood, good}
@@ -58,23 +58,22 @@ log = of_job the_jobs 0 (λ j. marking out ++ (start 1 j ∷ (ends 1 0 (put out 
 settled : IsSettled rules entry log
 settled = record { start = refl; rests = (refl, (refl, (refl, tt))) }
 
-is_checked : IsChecked rules entry log 0
-is_checked =
-    record {
+kept : Keeps rules entry log
+kept = record { late = refl; settled = tt; protected = refl }
+
+pub is_good : IsGood rules entry log 0
+unfolding digits
+is_good =
+    good rules entry log 0 formed
+    (record {
       settled = settled;
       events = refl;
       end = refl;
       starts = ((_, inl refl, refl, refl, refl, started rules entry _ _ refl), tt);
       writes = ((refl, tt), tt);
       waited = inl refl;
-    }
-
-kept : Keeps rules entry log
-kept = record { late = refl; settled = tt; protected = refl }
-
-pub is_good : IsGood rules entry log 0
-unfolding digits
-is_good = good rules entry log 0 formed is_checked refl kept
+    })
+    refl kept
 
 pub its_report : IsRunText rules entry log (lines_of
     (codes "start copy out.txt" ∷ codes "done copy out.txt" ∷ codes "current out.txt" ∷ codes "summary: 1 started, 1 done, 0 failed" ∷ []))
