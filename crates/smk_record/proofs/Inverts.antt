@@ -332,6 +332,12 @@ sum_of_again s h =
     let decoded : decode_sized (encode_lower s) 32 ≡ Ok s = decode_sized-twice (encode_lower s) 32 (omega (arith, digits_long s h)) ∙ decode_of-encode_lower s bytes in
     ap (spelled_by (encode_lower s)) decoded ∙ if_true (bytes_eq (encode_lower s) (encode_lower s)) s (place_itself (encode_lower s))
 
+abbrev sum_then : List ℕ → Option (List ℕ) → Taken (List ℕ)
+sum_then rest o = o >>= λ d. Some (d, rest)
+
+abbrev sum_before : List ℕ → List ℕ → Taken (List ℕ)
+sum_before front back = after_byte 10 back >>= λ rest. sum_then rest (sum_of front)
+
 sum_inverts : Inverts sum (λ s. is_sum s ≡ true) sum_in
 unfolding sum_in
 sum_inverts = record {
@@ -345,7 +351,11 @@ sum_inverts = record {
   again = λ s rest h lt.
       let front : take 64 (encode_lower s ++ 10 ∷ rest) ≡ encode_lower s = take_at (encode_lower s) (10 ∷ rest) 64 (digits_long s h) in
       let back : drop 64 (encode_lower s ++ 10 ∷ rest) ≡ 10 ∷ rest = drop_at (encode_lower s) (10 ∷ rest) 64 (digits_long s h) in
-      ap sum_in (append_assoc (encode_lower s) (10 ∷ []) rest) ∙ rw (back, front, byte_again 10 rest, sum_of_again s h) refl;
+      ap sum_in (append_assoc (encode_lower s) (10 ∷ []) rest)
+      ∙ ap (λ b. sum_before (take 64 (encode_lower s ++ 10 ∷ rest)) b) back
+      ∙ ap (λ f. sum_before f (10 ∷ rest)) front
+      ∙ ap (λ o. o >>= λ r. sum_then r (sum_of (encode_lower s))) (byte_again 10 rest)
+      ∙ ap (sum_then rest) (sum_of_again s h);
   some = λ s. omega (arith, length-append (encode_lower s) (10 ∷ []));
 }
 
