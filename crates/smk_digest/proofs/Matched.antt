@@ -3,7 +3,7 @@ use Rattle.std.proofs.Common.{◌≡◌, ◌≢◌, ℕ, ◌+◌, ◌<◌, ◌�
 use Rattle.std.specs.Prelude.{option_map, if◌then◌else◌, nat_le}
 use Rattle.std.specs.List.{AllZip}
 use Rattle.std.proofs.lemmas.List.{take_more, take_all}
-use Rattle.sha2.specs.Sha256.{sha256}
+use Rattle.smk_base.specs.declared.sum.Sum.{Sum as Digest}
 use Rattle.smk_world.specs.declared.event.Found.TheVariants.{TooBig, Held}
 use Rattle.smk_world.specs.declared.event.Node.{Node}
 use Rattle.smk_world.specs.declared.event.Node.TheVariants.{Regular, Directory}
@@ -15,7 +15,8 @@ use Rattle.smk_world.specs.World.{World, reading}
 use Rattle.smk_world.specs.Calls.{found_of, device_failed}
 use Rattle.smk_world.specs.Trees.{Path}
 use Rattle.smk_digest.specs.declared.fault.SumFault.{SumFault}
-use Rattle.smk_digest.specs.Digests.{AreContents, AreSums, IsContent, content_in, held, not_too_many, sum_of, sum_fault, sum_failed}
+use Rattle.smk_digest.specs.Digests.{AreContents, AreSums, IsContent, content_in, held, not_too_many, sum_in, sum_fault, sum_failed}
+use Rattle.smk_store.specs.Trust.{sum_of}
 
 -- what is the function's of each is the function's of all
 pub all_mapped : {X Y : Type 0} (f : X → Y) (xs : List X) (ys : List Y) → AllZip (λ (x : X) (y : Y). y ≡ f x) xs ys → ys ≡ map f xs
@@ -54,17 +55,17 @@ contents_done w ps i contents le h = subst (λ qs. AreContents w qs contents) (t
 
 -- ## What is digested
 
-pub summed : (w : World) (ps : List Path) (contents : List (Option (List ℕ))) → AreContents w ps contents → AreSums w ps (map (option_map sha256) contents)
+pub summed : (w : World) (ps : List Path) (contents : List (Option (List ℕ))) → AreContents w ps contents → AreSums w ps (map (option_map sum_of) contents)
 summed w [] [] h = tt
 summed w [] (c ∷ cs) h = absurd h
 summed w (p ∷ ps) [] h = absurd h
-summed w (p ∷ ps) (c ∷ cs) h = (λ free. ap (option_map sha256) (h.0 free), summed w ps cs h.1)
+summed w (p ∷ ps) (c ∷ cs) h = (λ free. ap (option_map sum_of) (h.0 free), summed w ps cs h.1)
 
 -- digests that were added, and those of the paths that follow
-pub sums_added : (w v : World) (now later : List Path) (sums more : List (Option (List ℕ))) → v.nodes ≡ w.nodes → AreSums v now sums → AreSums w later more → AreSums w (now ++ later) (sums ++ more)
+pub sums_added : (w v : World) (now later : List Path) (sums more : List (Option Digest)) → v.nodes ≡ w.nodes → AreSums v now sums → AreSums w later more → AreSums w (now ++ later) (sums ++ more)
 sums_added w v now later sums more same here rest =
-    let first : AreSums w now sums = subst (λ (n : Path → NodeState). AllZip (λ p s. n p ≢ Owned → s ≡ sum_of (reading (n p))) now sums) same here in
-    joined (λ p s. w.nodes p ≢ Owned → s ≡ sum_of (reading (w.nodes p))) now later sums more first rest
+    let first : AreSums w now sums = subst (λ (n : Path → NodeState). AllZip (λ p s. n p ≢ Owned → s ≡ sum_in (reading (n p))) now sums) same here in
+    joined (λ p s. w.nodes p ≢ Owned → s ≡ sum_in (reading (w.nodes p))) now later sums more first rest
 
 -- the same fault
 pub failed_as : (T U : Type 0) (fault : WorkFault) (f : SumFault) → f ≡ sum_fault fault → device_failed {T = T} (Err fault) ≡ sum_failed {T = U} (Err f)

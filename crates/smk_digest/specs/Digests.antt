@@ -2,7 +2,7 @@
 use Rattle.std.specs.Prelude.{◌≡◌, ◌≢◌, ℕ, Bool, true, false, List, Option, Some, None, option_map, Result, Ok, Err, if◌then◌else◌}
 use Rattle.std.specs.List.{AllZip}
 use Rattle.std.specs.Option.{option_and_then}
-use Rattle.sha2.specs.Sha256.{sha256}
+use Rattle.smk_base.specs.declared.sum.Sum.{Sum as Digest}
 use Rattle.smk_world.specs.declared.event.Found.{Found}
 use Rattle.smk_world.specs.declared.event.Found.TheVariants.{Nothing, TooBig, Held}
 use Rattle.smk_world.specs.declared.event.Node.{Node}
@@ -12,7 +12,7 @@ use Rattle.smk_world.specs.declared.event.WorkFault.TheVariants.{Failed, OutOfMe
 use Rattle.smk_world.specs.World.{World, reading}
 use Rattle.smk_world.specs.Trees.{Path}
 use Rattle.smk_store.specs.Images.{bytes_of}
-use Rattle.smk_store.specs.Trust.{is_summed}
+use Rattle.smk_store.specs.Trust.{is_summed, sum_of}
 use Rattle.smk_digest.specs.declared.fault.SumFault.{SumFault}
 use Rattle.smk_digest.specs.declared.fault.SumFault.TheVariants.{Device, OutOfMemory as NoMemory}
 
@@ -31,22 +31,22 @@ held (TooBig size) = None
 held (Held bytes) = Some bytes
 
 -- the SHA-256 of a file, where one is there that isn't too big
-abbrev pub sum_of : Option Node → Option (List ℕ)
-sum_of n = option_map sha256 (content_in n)
+abbrev pub sum_in : Option Node → Option Digest
+sum_in n = option_map sum_of (content_in n)
 
 -- what was read at the path is so, where no running child owns it
 abbrev pub IsContent : World → Path → Option (List ℕ) → Type 0
 IsContent w p content = w.nodes p ≢ Owned → content ≡ content_in (reading (w.nodes p))
 
 -- the digest of the path is so, where no running child owns it
-abbrev pub IsSum : World → Path → Option (List ℕ) → Type 0
-IsSum w p s = w.nodes p ≢ Owned → s ≡ sum_of (reading (w.nodes p))
+abbrev pub IsSum : World → Path → Option Digest → Type 0
+IsSum w p s = w.nodes p ≢ Owned → s ≡ sum_in (reading (w.nodes p))
 
 -- one for each path, in order
 abbrev pub AreContents : World → List Path → List (Option (List ℕ)) → Type 0
 AreContents w paths contents = AllZip (IsContent w) paths contents
 
-abbrev pub AreSums : World → List Path → List (Option (List ℕ)) → Type 0
+abbrev pub AreSums : World → List Path → List (Option Digest) → Type 0
 AreSums w paths sums = AllZip (IsSum w) paths sums
 
 -- the fault of a call, as that of digesting

@@ -1,7 +1,7 @@
 //! Digests of contents.
 
 ghost use Rattle.std.specs.Prelude.{◌≡◌, map, option_map, IfOk};
-ghost use Rattle.sha2.specs.Sha256.{sha256};
+ghost use Rattle.smk_store.specs.Trust.{sum_of};
 
 use rayon::prelude::*;
 use sha2::{Digest, Sha256};
@@ -11,14 +11,14 @@ use std::thread::Threads;
 
 // The SHA-256 of the content.
 fn digest(content: &Bytes) -> Sum
-    ensures { result ≡ sha256 content.now }
+    ensures { result ≡ sum_of content.now }
 {
     Sum(Sha256::digest(content.as_slice()))
 }
 
 // The SHA-256 of the content, where there is one.
 fn digest_if(content: &Option<Bytes>) -> Option<Sum>
-    ensures { result ≡ option_map sha256 content.now }
+    ensures { result ≡ option_map sum_of content.now }
 {
     match content {
         Some(content) => Some(digest(content)),
@@ -32,13 +32,13 @@ fn digests<Rt: Threads + Sync>(
     alloc: Global,
     contents: &[Bytes],
 ) -> Result<Vec<Sum>, AllocError>
-    ensures { IfOk result (λ found. found.items ≡ map sha256 contents.now) }
+    ensures { IfOk result (λ found. found.items ≡ map sum_of contents.now) }
 {
     contents
         .par_iter()
         .map(
             |content: &Bytes| -> Sum
-                ensures { result ≡ sha256 content.now }
+                ensures { result ≡ sum_of content.now }
             { digest(content) },
         )
         .collect(rt, alloc)
@@ -50,13 +50,13 @@ fn digests_where<Rt: Threads + Sync>(
     alloc: Global,
     contents: &[Option<Bytes>],
 ) -> Result<Vec<Option<Sum>>, AllocError>
-    ensures { IfOk result (λ found. found.items ≡ map (option_map sha256) contents.now) }
+    ensures { IfOk result (λ found. found.items ≡ map (option_map sum_of) contents.now) }
 {
     contents
         .par_iter()
         .map(
             |content: &Option<Bytes>| -> Option<Sum>
-                ensures { result ≡ option_map sha256 content.now }
+                ensures { result ≡ option_map sum_of content.now }
             { digest_if(content) },
         )
         .collect(rt, alloc)
@@ -79,7 +79,7 @@ pub(crate) fn digest_each<Rt: Threads + Sync>(
     alloc: Global,
     contents: &List<Option<Bytes>>,
 ) -> Result<List<Option<Sum>>, OutOfMemory>
-    ensures { IfOk result (λ found. found ≡ map (option_map sha256) contents.now) }
+    ensures { IfOk result (λ found. found ≡ map (option_map sum_of) contents.now) }
 {
     listed(alloc, digests_where(rt, alloc, contents.as_slice())?)
 }
@@ -91,7 +91,7 @@ pub fn digest_all<Rt: Threads + Sync>(
     alloc: Global,
     contents: &List<Bytes>,
 ) -> Result<List<Sum>, OutOfMemory>
-    ensures { IfOk result (λ found. found ≡ map sha256 contents.now) }
+    ensures { IfOk result (λ found. found ≡ map sum_of contents.now) }
 {
     listed(alloc, digests(rt, alloc, contents.as_slice())?)
 }

@@ -1,6 +1,7 @@
 //! Digests of files.
 
-ghost use Rattle.std.specs.Prelude.{◌≡◌, ◌++◌, ◌<◌, List as Items, Option, ℕ, length, IfOk, OnOk};
+ghost use Rattle.std.specs.Prelude.{◌≡◌, ◌++◌, ◌<◌, List as Items, Option, length, IfOk, OnOk};
+ghost use Rattle.smk_base.specs.declared.sum.Sum.{Sum as Digest};
 ghost use Rattle.smk_world.specs.Calls.{device_failed};
 ghost use Rattle.smk_world.specs.Devices.{HasLooked, WhereTold};
 ghost use Rattle.smk_digest.specs.Digests.{AreSums, sum_fault, sum_failed};
@@ -35,7 +36,7 @@ fn push_sums<W: Files, Rt: Threads + Sync>(
     paths: &[PathText],
 ) -> Result<(), WorkFault>
     ensures looked { HasLooked W.act (W.device work.old) (W.device work.new) (device_failed result) }
-    ensures told { IfOk result (λ _. WhereTold (W.device work.old) (λ w. (sums : Items (Option (Items ℕ))) × (found.new ≡ found.old ++ sums) × AreSums w paths.now sums)) }
+    ensures told { IfOk result (λ _. WhereTold (W.device work.old) (λ w. (sums : Items (Option Digest)) × (found.new ≡ found.old ++ sums) × AreSums w paths.now sums)) }
 {
     let contents = contents_at(alloc, work, paths)?;
     let sums = digest_each(rt, alloc, &contents)?;

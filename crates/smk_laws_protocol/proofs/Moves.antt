@@ -4,7 +4,8 @@ use Rattle.std.specs.Prelude.{bytes_eq, if◌then◌else◌, ◌&&◌, ◌||◌,
 use Rattle.std.specs.List.{list_any}
 use lib.Pointwise.{pointwise}
 use Rattle.smk_base.specs.declared.tree.Tree.{Tree}
-use Rattle.smk_record.specs.declared.record.Stamp.TheVariants.{Time, Made}
+use Rattle.smk_record.specs.declared.record.Stamp.{Stamp}
+use Rattle.smk_record.specs.declared.record.Stamp.TheVariants.{Made}
 use Rattle.smk_record.specs.declared.record.Record.{Record}
 use Rattle.smk_record.specs.declared.record.Member.{Member}
 use Rattle.smk_world.specs.declared.recipe.Kind.{Kind}
@@ -12,7 +13,7 @@ use Rattle.smk_world.specs.declared.recipe.Kind.TheVariants.{Plain, Folder as Di
 use Rattle.smk_world.specs.Trees.{Path, Act, IsIn, is_path_text}
 use Rattle.smk_store.specs.Images.{Content}
 use Rattle.smk_world.specs.World.{folders_above}
-use Rattle.smk_store.specs.Trust.{Versions, Eased}
+use Rattle.smk_store.specs.Trust.{Versions, HasVersion, Eased}
 use Rattle.smk_record.specs.Records.{stamped, same_member}
 use Rattle.smk_laws_protocol.proofs.View.{kind_in, View, Chain, Clear, holder, is_source, source_at, is_known, is_covered, is_whole, Holds, Sound, vir}
 use Rattle.smk_base.proofs.Places.{same_place}
@@ -88,7 +89,7 @@ module _ (v : View) (p : Path) (no_source : (q : Path) → is_source v q ≡ tru
   mark_sound act H e sound =
       record {
         has_sources = λ q f is. sound.has_sources q f (sym (mark_source_at q) ∙ is);
-        has_recorded = λ q r x t is clear i. sound.has_recorded q r x t is (or_left (v.marked q) (bytes_eq q p) clear) i;
+        has_recorded = λ q r x s is clear i. sound.has_recorded q r x s is (or_left (v.marked q) (bytes_eq q p) clear) i;
         holds = λ q r is clear chain whole.
             hold q r is (sound.holds q r is (or_left (v.marked q) (bytes_eq q p) clear) (chain_on (with_mark v p) v e e (mark_passes e) r chain) whole) chain;
       }
@@ -109,7 +110,7 @@ pub sound_for :
     ((q : Path) → source_at v' q ≡ source_at v q) →
     PassesFor Q v' e' v e →
     ((q : Path) (r : Record) → v'.record_at q ≡ Some r → v'.marked q ≡ false → Q r) →
-    ((q : Path) (r : Record) (x : Path) (t : ℕ) → v'.record_at q ≡ Some r → v'.marked q ≡ false → IsIn (stamped r) (x, Time t) → IsSome (H x t)) →
+    ((q : Path) (r : Record) (x : Path) (s : Stamp) → v'.record_at q ≡ Some r → v'.marked q ≡ false → IsIn (stamped r) (x, s) → HasVersion H x s) →
     ((q : Path) (r : Record) → v'.record_at q ≡ Some r → v'.marked q ≡ false → Chain v e r → IsTrue (is_whole v' q (kind_in r q)) → HoldsBy v' v act H q r) →
     Sound act H v' e'
 sound_for Q act H v v' e e' sound sources passes ok recorded each =
@@ -128,7 +129,7 @@ pub sound_on :
     Sound act H v e →
     ((q : Path) → source_at v' q ≡ source_at v q) →
     Passes v' e' v e →
-    ((q : Path) (r : Record) (x : Path) (t : ℕ) → v'.record_at q ≡ Some r → v'.marked q ≡ false → IsIn (stamped r) (x, Time t) → IsSome (H x t)) →
+    ((q : Path) (r : Record) (x : Path) (s : Stamp) → v'.record_at q ≡ Some r → v'.marked q ≡ false → IsIn (stamped r) (x, s) → HasVersion H x s) →
     ((q : Path) (r : Record) → v'.record_at q ≡ Some r → v'.marked q ≡ false → Chain v e r → IsTrue (is_whole v' q (kind_in r q)) → HoldsBy v' v act H q r) →
     Sound act H v' e'
 sound_on act H v v' e e' sound sources passes recorded each =
@@ -188,7 +189,7 @@ module _
       sound_on act H v (with_record v has at listed) e e' sound
       (λ q. ap (λ b. if b then v.file q else None) (record_source q))
       record_passes
-      (λ q r x t is clear i. sound.has_recorded q r x t (sym (at_same q (here_not q clear)) ∙ is) clear i)
+      (λ q r x s is clear i. sound.has_recorded q r x s (sym (at_same q (here_not q clear)) ∙ is) clear i)
       (λ q r is clear chain whole.
       let at_v = sym (at_same q (here_not q clear)) ∙ is in
       (at_v, sound.holds q r at_v clear chain (whole_on q (kind_in r q) (list_same q (here_not q clear)) whole)))
@@ -238,17 +239,17 @@ module _ (v : View) (p : Path) (e : Eased) where
     -- 5. the mark of a Restore is removed: its users are chained again
     pub eased_sound :
         (act : Act) (H : Versions) → e p r0 → Sound act H v e →
-        ((x : Path) (t : ℕ) → IsIn (stamped r0) (x, Time t) → IsSome (H x t)) →
+        ((x : Path) (s : Stamp) → IsIn (stamped r0) (x, s) → HasVersion H x s) →
         (Chain v e r0 → IsTrue (is_whole v p (kind_in r0 p)) → Holds v act H p r0) →
         Sound act H (without_mark v p) e
     eased_sound act H kept sound recorded own =
         sound_on act H v (without_mark v p) e e sound
         (λ q. ap (λ b. if b then v.file q else None) (less_source q))
         (eased_passes kept)
-        (λ q r x t is clear i.
+        (λ q r x s is clear i.
         by_bool (bytes_eq q p)
-        (λ k. recorded x t (subst (λ s. IsIn (stamped s) (x, Time t)) (sym (same q r k is)) i))
-        (λ k. sound.has_recorded q r x t is (still q k clear) i))
+        (λ k. recorded x s (subst (λ (y : Record). IsIn (stamped y) (x, s)) (sym (same q r k is)) i))
+        (λ k. sound.has_recorded q r x s is (still q k clear) i))
         (λ q r is clear chain whole.
         by_bool (bytes_eq q p)
         (λ k. (is, here q r k is chain (whole_on r q (kind_in r q) whole)))
@@ -295,7 +296,7 @@ module _ (v : View) (p : Path) (e : Eased) where
 
       pub fresh_sound :
           (act : Act) (H : Versions) → Sound act H v e →
-          ((x : Path) (t : ℕ) → IsIn (stamped r0) (x, Time t) → IsSome (H x t)) →
+          ((x : Path) (s : Stamp) → IsIn (stamped r0) (x, s) → HasVersion H x s) →
           (Chain v e r0 → IsTrue (is_whole v p (kind_in r0 p)) → Holds v act H p r0) →
           Sound act H (without_mark v p) e
       fresh_sound act H sound recorded own =
@@ -303,10 +304,10 @@ module _ (v : View) (p : Path) (e : Eased) where
           (λ q. ap (λ b. if b then v.file q else None) (less_source q))
           fresh_passes
           (λ q r is clear x i. nobody q r x (is, inl clear) i)
-          (λ q r x t is clear i.
+          (λ q r x s is clear i.
           by_bool (bytes_eq q p)
-          (λ k. recorded x t (subst (λ s. IsIn (stamped s) (x, Time t)) (sym (same q r k is)) i))
-          (λ k. sound.has_recorded q r x t is (still q k clear) i))
+          (λ k. recorded x s (subst (λ (y : Record). IsIn (stamped y) (x, s)) (sym (same q r k is)) i))
+          (λ k. sound.has_recorded q r x s is (still q k clear) i))
           (λ q r is clear chain whole.
           by_bool (bytes_eq q p)
           (λ k. (is, here q r k is chain (whole_on r q (kind_in r q) whole)))
@@ -388,7 +389,7 @@ module _
       sound_on act H v (without_mark v p) e e sound
       (λ q. ap (λ b. if b then v.file q else None) (dropped_source q))
       dropped_passes
-      (λ q r x t is clear i. sound.has_recorded q r x t is (clear_less q r is clear) i)
+      (λ q r x s is clear i. sound.has_recorded q r x s is (clear_less q r is clear) i)
       (λ q r is clear chain whole. (is, sound.holds q r is (clear_less q r is clear) chain (whole_on r q (kind_in r q) whole)))
     where
       whole_on : (r : Record) (q : Path) (k : Kind) → IsTrue (is_whole (without_mark v p) q k) → IsTrue (is_whole v q k)
@@ -454,7 +455,7 @@ module _
   node_sound act H sound =
       sound_on act H v (with_nodes v file folder members tree) e e sound node_source_at
       (λ q h r s. record { no_source = sym (node_source q) ∙ s.no_source; holder = s.holder; clear = s.clear })
-      (λ q r x t is clear i. sound.has_recorded q r x t is clear i)
+      (λ q r x s is clear i. sound.has_recorded q r x s is clear i)
       (λ q r is clear chain whole. hold q r is (sound.holds q r is clear chain (whole_on r q (kind_in r q) (same q r is clear) whole)) (same q r is clear))
     where
       whole_on : (r : Record) (q : Path) (k : Kind) → SameAt v (with_nodes v file folder members tree) q → IsTrue (is_whole (with_nodes v file folder members tree) q k) → IsTrue (is_whole v q k)

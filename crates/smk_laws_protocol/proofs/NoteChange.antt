@@ -99,7 +99,7 @@ module _ (v : View) (notes : Path → Bool) (p : Path) (more : (q : Path) → by
   noted_sound act H e e' fewer sound =
       sound_on act H v (with_notes v notes) e e' sound noted_source_at
       (λ q h r s. record { no_source = sym (noted_source q) ∙ s.no_source; holder = s.holder; clear = (s.clear.0, clear h r s.clear.1) })
-      (λ q r x t is c i. sound.has_recorded q r x t is c i)
+      (λ q r x s is c i. sound.has_recorded q r x s is c i)
       (λ q r is c chain whole. (is, sound.holds q r is c chain (whole_on r q (kind_in r q) whole)))
     where
       whole_on : (r : Record) (q : Path) (k : Kind) → IsTrue (is_whole (with_notes v notes) q k) → IsTrue (is_whole v q k)

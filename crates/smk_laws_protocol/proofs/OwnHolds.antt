@@ -12,18 +12,19 @@ use Rattle.smk_record.specs.declared.record.Record.{Record}
 use Rattle.smk_world.specs.declared.event.Node.{Node}
 use Rattle.smk_base.specs.declared.tree.Tree.{Tree}
 use Rattle.smk_world.specs.declared.recipe.Kind.TheVariants.{Plain, Folder as FolderKind}
-use Rattle.smk_record.specs.declared.record.Stamp.TheVariants.{Time, Made}
+use Rattle.smk_record.specs.declared.record.Stamp.TheVariants.{Time, Sum, Made}
 use Rattle.smk_world.specs.Trees.{Path, among, folders_of, part_at, IsIn}
 use Rattle.smk_base.specs.Path.{overlaps}
 use Rattle.smk_world.specs.World.{folders_above, in_paths, World, out_paths}
-use Rattle.smk_store.specs.Trust.{Versions, is_folder_record, Eased, none_eased}
+use Rattle.smk_store.specs.Trust.{Versions, HasVersion, is_folder_record, Eased, none_eased}
 use Rattle.smk_record.specs.Records.{stamped, same_member, core, is_earlier, is_valid}
 use Rattle.smk_laws_protocol.proofs.View.{kind_in, View, Sound, Chain, Holds, Speaks, Clear, holder, is_whole}
 use Rattle.smk_laws_protocol.proofs.Views.{Nodes, reads, view_of, read_at, place_node}
 use Rattle.smk_base.specs.Place.{record_place}
 use Rattle.smk_store.specs.Soundness.{Outside}
 use Rattle.smk_laws_protocol.specs.Protocol.{OpenJob, RunState, own, outputs, begun_with, record_of, eased_by}
-use Rattle.smk_laws_protocol.proofs.Rows.{now, IsAtHand}
+use Rattle.smk_laws_protocol.proofs.Rows.{now, IsAtHand, IsSourceOf}
+use Rattle.smk_laws_protocol.proofs.Versions.{has_content}
 use Rattle.smk_laws_protocol.proofs.Between.{Midway, Fits, InPhase, HasNoNew, HasNoNested, HoldsGiven}
 use Rattle.smk_laws_protocol.proofs.Apart.{free_of, free_to}
 use Rattle.smk_laws_protocol.proofs.Basics.{each_in, in_split, in_here, any_by, clash, none_some, some_same}
@@ -55,6 +56,10 @@ each_earlier made (p ∷ ps) (s ∷ ss) q m h (inl e) = below s (ap (λ (x : Pat
       where
         no : (m t : ℕ) → Made m ≡ Time t → ⊥
         no m t e = cc
+    below (Sum t d) e k = absurd (no e)
+      where
+        no : Made m ≡ Sum t d → ⊥
+        no e = cc
     below (Made n) e k = subst (λ x. x < made) (same n m e) (less n made k)
       where
         same : (n m : ℕ) → Made m ≡ Made n → n ≡ m
@@ -163,11 +168,16 @@ module _
         (λ h r is. reads_fall o h (place_node f record_place h) r is) one p at chain fits.at_hand given
 
   -- the sources that the job was made of are in H
-  pub recorded : (p x : Path) (t : ℕ) → IsIn (stamped (record_of j p)) (x, Time t) → IsSome (H x t)
-  recorded p x t i =
-      let hand = each_in (IsAtHand o (now o w)) (begun_with j) (x, Time t) fits.at_hand i in
-      let sound = each_image o.read w (λ v. Sound o.act H v e) m.images.sound w.names (reads w) (now_image w m.images.formed) in
-      subst (λ u. IsSome (H x u)) hand.2 (some (H x hand.0.time) hand.0.bytes (sound.has_sources x hand.0 hand.1))
-    where
-      some : (y : Option (List ℕ)) (b : List ℕ) → y ≡ Some b → IsSome y
-      some y b h = rw h refl
+  now_sound : Sound o.act H (now o w) e
+  now_sound = each_image o.read w (λ v. Sound o.act H v e) m.images.sound w.names (reads w) (now_image w m.images.formed)
+
+  source_recorded : (x : Path) (s : Stamp) → IsSourceOf o (now o w) x s → HasVersion H x s
+  source_recorded x s hand = subst (HasVersion H x) hand.2 (has_content H x hand.0 (now_sound.has_sources x hand.0 hand.1))
+
+  hand_recorded : (x : Path) (s : Stamp) → IsAtHand o (now o w) (x, s) → HasVersion H x s
+  hand_recorded x (Time t) hand = source_recorded x (Time t) hand
+  hand_recorded x (Sum t d) hand = source_recorded x (Sum t d) hand
+  hand_recorded x (Made m) hand = tt
+
+  pub recorded : (p x : Path) (s : Stamp) → IsIn (stamped (record_of j p)) (x, s) → HasVersion H x s
+  recorded p x s i = hand_recorded x s (each_in (IsAtHand o (now o w)) (begun_with j) (x, s) fits.at_hand i)

@@ -3,7 +3,7 @@ use Rattle.std.proofs.Common.{◌≡◌, ◌⊎◌, ℕ, true, false, List, [], 
 use Rattle.std.specs.Prelude.{bytes_eq, IsTrue, IsSome, is_some, if◌then◌else◌, find, reverse}
 use Rattle.std.specs.List.{list_any}
 use Rattle.smk_record.specs.declared.record.Stamp.{Stamp}
-use Rattle.smk_record.specs.declared.record.Stamp.TheVariants.{Time, Made}
+use Rattle.smk_record.specs.declared.record.Stamp.TheVariants.{Time, Sum, Made}
 use Rattle.smk_record.specs.declared.record.Record.{Record}
 use Rattle.smk_world.specs.Trees.{Path, among, IsIn}
 use Rattle.smk_base.specs.Path.{overlaps}
@@ -118,6 +118,7 @@ module _
 
   hand : (x : Path × Stamp) → IsIn (begun_with k) x → IsAtHand o (now o w) x → IsAtHand o (now o w') x
   hand (q, Time t) i h = (h.0, sources_same q ∙ h.1, h.2)
+  hand (q, Sum t d) i h = (h.0, sources_same q ∙ h.1, h.2)
   hand (q, Made m) i h =
       hand_made laws j (now o w) (now o w') change.differs_now q (meets.inputs q (in_zip (in_paths k.recipe) k.stamps q (Made m) i)) o m
       (each_image o.read w (HasNoRecordClash o j) fits_own.no_record_clash w.names (reads w) (now_image w formed)) (same_source (now o w') (now o w) sources_same q) h

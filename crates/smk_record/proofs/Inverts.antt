@@ -11,6 +11,8 @@ use Rattle.std.proofs.lemmas.Fmt.{digits_decimal, digits_value-decimal, decimal-
 use Rattle.smk_base.proofs.Places.{and_first, and_second, same_place, place_itself}
 use Rattle.smk_base.proofs.Under.{both_true, or_cases}
 use Rattle.smk_base.specs.Path.{is_path}
+use Rattle.smk_base.specs.Digests.{digest}
+use Rattle.smk_base.specs.declared.sum.Sum.{Sum as Digest}
 use Rattle.smk_world.specs.declared.recipe.Kind.{Kind}
 use Rattle.smk_world.specs.declared.recipe.Kind.TheVariants.{Plain, Folder}
 use Rattle.smk_world.specs.declared.recipe.Out.{Out}
@@ -310,14 +312,14 @@ decoded_fits ds bytes d =
     let long : length bytes ≡ 32 = omega (arith, len, ok.2) in
     both_true (eqb (length bytes) 32) (list_all is_byte bytes) (rw long refl) (bytes_all bytes ok.3)
 
-sum_of_found : (ds s : List ℕ) → sum_of ds ≡ Some s → (encode_lower s ≡ ds) × (is_sum s ≡ true)
+sum_of_found : (ds : List ℕ) (s : Digest) → sum_of ds ≡ Some s → (encode_lower s.0 ≡ ds) × (is_sum s.0 ≡ true)
 unfolding sum_of
 sum_of_found ds s e = go (decode_sized ds 32) refl e
   where
-    go : (r : Result (List ℕ) FromHexError) → decode_sized ds 32 ≡ r → spelled_by ds r ≡ Some s → (encode_lower s ≡ ds) × (is_sum s ≡ true)
+    go : (r : Result (List ℕ) FromHexError) → decode_sized ds 32 ≡ r → spelled_by ds r ≡ Some s → (encode_lower s.0 ≡ ds) × (is_sum s.0 ≡ true)
     go (Ok bytes) d h =
-        let g = if_some (bytes_eq (encode_lower bytes) ds) bytes s h in
-        subst (λ x. (encode_lower x ≡ ds) × (is_sum x ≡ true)) g.1 (same_place (encode_lower bytes) ds g.0, decoded_fits ds bytes d)
+        let g = if_some (bytes_eq (encode_lower bytes) ds) (digest bytes) s h in
+        subst (λ (x : Digest). (encode_lower x.0 ≡ ds) × (is_sum x.0 ≡ true)) g.1 (same_place (encode_lower bytes) ds g.0, decoded_fits ds bytes d)
     go (Err x) d h = absurd cc
 
 digits_long : (s : List ℕ) → is_sum s ≡ true → length (encode_lower s) ≡ 64
@@ -325,20 +327,20 @@ digits_long s h =
     let len : length s ≡ 32 = eqb-true (length s) 32 (and_first (eqb (length s) 32) (list_all is_byte s) h) in
     omega (arith, length-encode_with lower_digits s, len)
 
-sum_of_again : (s : List ℕ) → is_sum s ≡ true → sum_of (encode_lower s) ≡ Some s
+sum_of_again : (s : List ℕ) → is_sum s ≡ true → sum_of (encode_lower s) ≡ Some (digest s)
 unfolding sum_of
 sum_of_again s h =
     let bytes = all_bytes s (and_second (eqb (length s) 32) (list_all is_byte s) h) in
     let decoded : decode_sized (encode_lower s) 32 ≡ Ok s = decode_sized-twice (encode_lower s) 32 (omega (arith, digits_long s h)) ∙ decode_of-encode_lower s bytes in
-    ap (spelled_by (encode_lower s)) decoded ∙ if_true (bytes_eq (encode_lower s) (encode_lower s)) s (place_itself (encode_lower s))
+    ap (spelled_by (encode_lower s)) decoded ∙ if_true (bytes_eq (encode_lower s) (encode_lower s)) (digest s) (place_itself (encode_lower s))
 
-abbrev sum_then : List ℕ → Option (List ℕ) → Taken (List ℕ)
+abbrev sum_then : List ℕ → Option Digest → Taken Digest
 sum_then rest o = o >>= λ d. Some (d, rest)
 
-abbrev sum_before : List ℕ → List ℕ → Taken (List ℕ)
+abbrev sum_before : List ℕ → List ℕ → Taken Digest
 sum_before front back = after_byte 10 back >>= λ rest. sum_then rest (sum_of front)
 
-sum_inverts : Inverts sum (λ s. is_sum s ≡ true) sum_in
+sum_inverts : Inverts sum (λ (s : Digest). is_sum s.0 ≡ true) sum_in
 unfolding sum_in
 sum_inverts = record {
   found = λ bytes s rest e.
@@ -346,23 +348,24 @@ sum_inverts = record {
       let b = bind_some (sum_of (take 64 bytes)) (λ d. Some (d, a.0)) (s, rest) a.2 in
       let back : drop 64 bytes ≡ 10 ∷ a.0 = byte_found 10 _ a.0 a.1 in
       let f = sum_of_found (take 64 bytes) b.0 b.1 in
-      let whole : bytes ≡ sum b.0 ++ a.0 = sym (take-append-drop 64 bytes) ∙ ap (λ r. take 64 bytes ++ r) back ∙ ap (λ ds. ds ++ 10 ∷ a.0) (sym f.0) ∙ sym (append_assoc (encode_lower b.0) (10 ∷ []) a.0) in
-      subst (λ (q : List ℕ × List ℕ). (bytes ≡ sum q.0 ++ q.1) × (is_sum q.0 ≡ true)) (some_is (b.0, a.0) (s, rest) b.2) (whole, f.1);
+      let whole : bytes ≡ sum b.0 ++ a.0 = sym (take-append-drop 64 bytes) ∙ ap (λ r. take 64 bytes ++ r) back ∙ ap (λ ds. ds ++ 10 ∷ a.0) (sym f.0) ∙ sym (append_assoc (encode_lower b.0.0) (10 ∷ []) a.0) in
+      subst (λ (q : Digest × List ℕ). (bytes ≡ sum q.0 ++ q.1) × (is_sum q.0.0 ≡ true)) (some_is (b.0, a.0) (s, rest) b.2) (whole, f.1);
   again = λ s rest h lt.
-      let front : take 64 (encode_lower s ++ 10 ∷ rest) ≡ encode_lower s = take_at (encode_lower s) (10 ∷ rest) 64 (digits_long s h) in
-      let back : drop 64 (encode_lower s ++ 10 ∷ rest) ≡ 10 ∷ rest = drop_at (encode_lower s) (10 ∷ rest) 64 (digits_long s h) in
-      ap sum_in (append_assoc (encode_lower s) (10 ∷ []) rest)
-      ∙ ap (λ b. sum_before (take 64 (encode_lower s ++ 10 ∷ rest)) b) back
+      let ds = encode_lower s.0 in
+      let front : take 64 (ds ++ 10 ∷ rest) ≡ ds = take_at ds (10 ∷ rest) 64 (digits_long s.0 h) in
+      let back : drop 64 (ds ++ 10 ∷ rest) ≡ 10 ∷ rest = drop_at ds (10 ∷ rest) 64 (digits_long s.0 h) in
+      ap sum_in (append_assoc ds (10 ∷ []) rest)
+      ∙ ap (λ b. sum_before (take 64 (ds ++ 10 ∷ rest)) b) back
       ∙ ap (λ f. sum_before f (10 ∷ rest)) front
-      ∙ ap (λ o. o >>= λ r. sum_then r (sum_of (encode_lower s))) (byte_again 10 rest)
-      ∙ ap (sum_then rest) (sum_of_again s h);
-  some = λ s. omega (arith, length-append (encode_lower s) (10 ∷ []));
+      ∙ ap (λ o. o >>= λ r. sum_then r (sum_of ds)) (byte_again 10 rest)
+      ∙ ap (sum_then rest) (sum_of_again s.0 h);
+  some = λ s. omega (arith, length-append (encode_lower s.0) (10 ∷ []));
 }
 
-abbrev time_in : ℕ × List ℕ → ℕ
+abbrev time_in : ℕ × Digest → ℕ
 time_in x = x.0
 
-abbrev digest_in : ℕ × List ℕ → List ℕ
+abbrev digest_in : ℕ × Digest → Digest
 digest_in x = x.1
 
 pub num_again : (n : ℕ) (rest : List ℕ) → n < 2 ^ 64 → number_in 10 (num n ++ rest) ≡ Some (n, rest)
@@ -394,17 +397,17 @@ format_inverts = record {
   some = num_inverts.some;
 }
 
-abbrev SummedFits : ℕ × List ℕ → Type 0
-SummedFits x = (x.0 < 2 ^ 64) × (is_sum x.1 ≡ true)
+abbrev SummedFits : ℕ × Digest → Type 0
+SummedFits x = (x.0 < 2 ^ 64) × (is_sum x.1.0 ≡ true)
 
-summed_inverts : Inverts (λ (x : ℕ × List ℕ). num x.0 ++ sum x.1) SummedFits summed_in
+summed_inverts : Inverts (λ (x : ℕ × Digest). num x.0 ++ sum x.1) SummedFits summed_in
 unfolding summed_in
-summed_inverts = both_inverts {C = ℕ × List ℕ} paired time_in digest_in num (λ n. n < 2 ^ 64) (number_in 10) sum (λ s. is_sum s ≡ true) sum_in (λ a b. refl) (λ a b. refl) (λ c. refl) num_inverts sum_inverts
+summed_inverts = both_inverts {C = ℕ × Digest} paired time_in digest_in num (λ n. n < 2 ^ 64) (number_in 10) sum (λ (s : Digest). is_sum s.0 ≡ true) sum_in (λ a b. refl) (λ a b. refl) (λ c. refl) num_inverts sum_inverts
 
 abbrev stamp_with : (ℕ → Stamp) → ℕ × List ℕ → Taken Stamp
 stamp_with make n = Some (make n.0, n.1)
 
-abbrev summed_stamp : (ℕ × List ℕ) × List ℕ → Taken Stamp
+abbrev summed_stamp : (ℕ × Digest) × List ℕ → Taken Stamp
 summed_stamp x = Some (Sum x.0.0 x.0.1, x.1)
 
 abbrev IsSpelled : List ℕ → Stamp → List ℕ → Type 0
@@ -433,7 +436,7 @@ summed_by b bytes s rest true e h =
     let a = bind_some (summed_in bytes) summed_stamp (s, rest) h in
     let f = summed_inverts.found bytes a.0.0 a.0.1 a.1 in
     let whole : b ∷ bytes ≡ stamp (Sum a.0.0.0 a.0.0.1) ++ a.0.1 = ap (λ x. x ∷ bytes) (byte_is b 83 e) ∙ ap (λ x. 83 ∷ x) f.0 in
-    let fits : StampFits (Sum a.0.0.0 a.0.0.1) = both_true (nat_lt a.0.0.0 (2 ^ 64)) (is_sum a.0.0.1) (below_of a.0.0.0 (2 ^ 64) f.1.0) f.1.1 in
+    let fits : StampFits (Sum a.0.0.0 a.0.0.1) = both_true (nat_lt a.0.0.0 (2 ^ 64)) (is_sum a.0.0.1.0) (below_of a.0.0.0 (2 ^ 64) f.1.0) f.1.1 in
     subst (λ (q : Stamp × List ℕ). IsSpelled (b ∷ bytes) q.0 q.1) (some_is (Sum a.0.0.0 a.0.0.1, a.0.1) (s, rest) a.2) (whole, fits)
 summed_by b bytes s rest false e h = made_by b bytes s rest (eqb b 77) refl h
 
@@ -454,7 +457,7 @@ stamp_again : (s : Stamp) (rest : List ℕ) → StampFits s → length (stamp s 
 unfolding stamp_in
 stamp_again (Time t) rest h lt = rw (num_again t rest (ltb-true _ _ h)) refl
 stamp_again (Sum t s) rest h lt =
-    let fits : SummedFits (t, s) = (ltb-true _ _ (and_first (nat_lt t (2 ^ 64)) (is_sum s) h), and_second (nat_lt t (2 ^ 64)) (is_sum s) h) in
+    let fits : SummedFits (t, s) = (ltb-true _ _ (and_first (nat_lt t (2 ^ 64)) (is_sum s.0) h), and_second (nat_lt t (2 ^ 64)) (is_sum s.0) h) in
     let lt2 : length ((num t ++ sum s) ++ rest) < 2 ^ 64 = shorter (83 ∷ []) ((num t ++ sum s) ++ rest) (2 ^ 64) lt in
     ap (λ o. o >>= summed_stamp) (summed_inverts.again (t, s) rest fits lt2)
 stamp_again (Made m) rest h lt = rw (num_again m rest (ltb-true _ _ h)) refl

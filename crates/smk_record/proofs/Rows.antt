@@ -2,6 +2,7 @@
 use Rattle.std.specs.Prelude.{◌≡◌, ℕ, ◌&&◌, ◌^◌, true, false, List, [], ◌∷◌, codes, refl, length}
 use Rattle.std.specs.Fmt.{digits}
 use Rattle.hex.specs.Hex.{encode_with}
+use Rattle.smk_base.specs.Digests.{digest}
 use Rattle.smk_world.specs.declared.recipe.Kind.TheVariants.{Plain, Folder}
 use Rattle.smk_record.specs.declared.record.Stamp.TheVariants.{Time, Sum, Made}
 use Rattle.smk_record.specs.declared.record.Record.{Record}
@@ -69,10 +70,10 @@ abbrev pub letters : List ℕ
 letters = 129 ∷ 136 ∷ 75 ∷ 95 ∷ 44 ∷ 182 ∷ 142 ∷ 220 ∷ 98 ∷ 134 ∷ 54 ∷ 61 ∷ 204 ∷ 70 ∷ 153 ∷ 169 ∷ 19 ∷ 162 ∷ 213 ∷ 186 ∷ 5 ∷ 129 ∷ 141 ∷ 15 ∷ 220 ∷ 67 ∷ 186 ∷ 104 ∷ 187 ∷ 153 ∷ 11 ∷ 216 ∷ []
 
 abbrev pub copied_now : Record
-copied_now = record copied { format = 2; stamps = Sum 1000 hello ∷ [] }
+copied_now = record copied { format = 2; stamps = Sum 1000 (digest hello) ∷ [] }
 
 abbrev pub clustered_now : Record
-clustered_now = record clustered { format = 2; stamps = Sum 1 letters ∷ [] }
+clustered_now = record clustered { format = 2; stamps = Sum 1 (digest letters) ∷ [] }
 
 pub both_now_valid : is_valid copied_now && is_valid clustered_now ≡ true
 both_now_valid = refl
@@ -98,7 +99,7 @@ sum_too_early = refl
 pub no_format : is_valid (record copied_now { format = 3 }) ≡ false
 no_format = refl
 
-pub too_long : is_writable (record copied_now { stamps = Sum 1000 (0 ∷ hello) ∷ [] }) ≡ false
+pub too_long : is_writable (record copied_now { stamps = Sum 1000 (digest (0 ∷ hello)) ∷ [] }) ≡ false
 too_long = refl
 
 -- a number of 65 bits, and a serial that an input's stamp has too

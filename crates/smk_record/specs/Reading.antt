@@ -5,7 +5,9 @@ use Rattle.std.specs.Str.Parse.{digits_value}
 use Rattle.hex.specs.Hex.{decode_sized, encode_lower}
 use Rattle.hex.specs.declared.error.FromHexError.{FromHexError}
 use Rattle.smk_base.specs.Path.{is_path}
+use Rattle.smk_base.specs.declared.sum.Sum.{Sum as Digest}
 use Rattle.smk_base.specs.declared.tree.Pair.{Pair}
+use Rattle.smk_base.specs.Digests.{digest}
 use Rattle.smk_world.specs.declared.recipe.Kind.{Kind}
 use Rattle.smk_world.specs.declared.recipe.Kind.TheVariants.{Plain, Folder}
 use Rattle.smk_world.specs.declared.recipe.Values.{Values}
@@ -122,24 +124,24 @@ abbrev pub flag_in : Reader Bool
 flag_in [] = None
 flag_in (b ∷ bytes) = if b == 68 then Some (true, bytes) else if b == 70 then Some (false, bytes) else None
 
--- the bytes, where these are the lower-case digits that spell them
-abbrev pub spelled_by : List ℕ → Result (List ℕ) FromHexError → Option (List ℕ)
-spelled_by digits (Ok bytes) = if bytes_eq (encode_lower bytes) digits then Some bytes else None
+-- the digest of the bytes, where these are the lower-case digits that spell it
+abbrev pub spelled_by : List ℕ → Result (List ℕ) FromHexError → Option Digest
+spelled_by digits (Ok bytes) = if bytes_eq (encode_lower bytes) digits then Some (digest bytes) else None
 spelled_by digits (Err e) = None
 
--- the 32 bytes that lower-case digits spell
-unfoldable pub sum_of : List ℕ → Option (List ℕ)
+-- the digest that lower-case digits spell
+unfoldable pub sum_of : List ℕ → Option Digest
 sum_of digits = spelled_by digits (decode_sized digits 32)
 
 -- 64 digits, and a line end
-unfoldable pub sum_in : Reader (List ℕ)
+unfoldable pub sum_in : Reader Digest
 sum_in bytes = do
   rest ← after_byte 10 (drop 64 bytes)
   s ← sum_of (take 64 bytes)
   Some (s, rest)
 
 -- a time, and a SHA-256
-unfoldable pub summed_in : Reader (ℕ × List ℕ)
+unfoldable pub summed_in : Reader (ℕ × Digest)
 summed_in = both_in paired (number_in 10) sum_in
 
 unfoldable pub stamp_in : Reader Stamp

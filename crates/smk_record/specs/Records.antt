@@ -22,7 +22,7 @@ same_stamp (Time t) (Time u) = t == u
 same_stamp (Time t) (Sum u s) = false
 same_stamp (Time t) (Made m) = false
 same_stamp (Sum t s) (Time u) = false
-same_stamp (Sum t s) (Sum u r) = t == u && bytes_eq s r
+same_stamp (Sum t s) (Sum u r) = t == u && bytes_eq s.0 r.0
 same_stamp (Sum t s) (Made m) = false
 same_stamp (Made m) (Time t) = false
 same_stamp (Made m) (Sum t s) = false
@@ -35,7 +35,7 @@ agree (Time t) (Time u) = t == u
 agree (Time t) (Sum u s) = t == u
 agree (Time t) (Made m) = false
 agree (Sum t s) (Time u) = t == u
-agree (Sum t s) (Sum u r) = t == u || bytes_eq s r
+agree (Sum t s) (Sum u r) = t == u || bytes_eq s.0 r.0
 agree (Sum t s) (Made m) = false
 agree (Made m) (Time t) = false
 agree (Made m) (Sum t s) = false

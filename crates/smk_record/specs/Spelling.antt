@@ -2,6 +2,7 @@
 use Rattle.std.specs.Prelude.{◌≡◌, ◌↔◌, ℕ, Bool, ◌&&◌, List, [], ◌∷◌, ◌++◌, map, length, drop, decimal, ◌==◌, codes, if◌then◌else◌, ◌^◌, ◌<◌, nat_lt, Option, Some, IsTrue}
 use Rattle.std.specs.List.{list_all, flat_map}
 use Rattle.hex.specs.Hex.{encode_lower}
+use Rattle.smk_base.specs.declared.sum.Sum.{Sum as Digest}
 use Rattle.smk_base.specs.declared.tree.Pair.{Pair}
 use Rattle.smk_world.specs.declared.recipe.Values.{Values}
 use Rattle.smk_world.specs.declared.recipe.Item.{Item}
@@ -34,8 +35,8 @@ abbrev pub values : Values → List ℕ
 values v = text v.name ++ list text v.values
 
 -- a SHA-256 in lower-case digits, and a line end
-abbrev pub sum : List ℕ → List ℕ
-sum s = encode_lower s ++ 10 ∷ []
+abbrev pub sum : Digest → List ℕ
+sum s = encode_lower s.0 ++ 10 ∷ []
 
 abbrev pub stamp : Stamp → List ℕ
 stamp (Time t) = codes "T" ++ num t
@@ -98,12 +99,12 @@ texts recipe =
 
 -- 32 bytes
 abbrev pub is_sum : List ℕ → Bool
-is_sum s = length s == 32 && list_all (λ b. nat_lt b 256) s
+is_sum bytes = length bytes == 32 && list_all (λ b. nat_lt b 256) bytes
 
 -- its number has at most 64 bits, and its SHA-256 is 32 bytes
 abbrev pub is_writable_stamp : Stamp → Bool
 is_writable_stamp (Time t) = nat_lt t (2 ^ 64)
-is_writable_stamp (Sum t s) = nat_lt t (2 ^ 64) && is_sum s
+is_writable_stamp (Sum t s) = nat_lt t (2 ^ 64) && is_sum s.0
 is_writable_stamp (Made m) = nat_lt m (2 ^ 64)
 
 -- Its texts are UTF-8, its numbers have at most 64 bits, and each SHA-256 is 32 bytes: so is every record that is ever written.

@@ -63,7 +63,7 @@ pub(crate) fn number(end: u8, bytes: &[u8]) -> Result<(u64, &[u8]), Stop>
 
 /// The lower-case digits of the SHA-256.
 pub(crate) fn digits_of(sum: &Sum) -> [u8; 64]
-    ensures { result ≡ encode_lower sum.now }
+    ensures { result ≡ encode_lower sum.now.0 }
 {
     let mut digits = [0; 64];
     match hex::encode_to_slice(sum.0, &mut digits) {

@@ -3,6 +3,8 @@ use Rattle.std.specs.Prelude.{◌≡◌, ◌⊎◌, ℕ, zero, suc, Bool, true, 
 use Rattle.std.specs.List.{find}
 use Rattle.std.specs.Option.{option_and_then}
 use Rattle.sha2.specs.Sha256.{sha256}
+use Rattle.smk_base.specs.Digests.{digest}
+use Rattle.smk_base.specs.declared.sum.Sum.{Sum as Digest}
 use Rattle.smk_base.specs.declared.tree.Tree.{Tree}
 use Rattle.smk_base.specs.declared.tree.Tree.TheVariants.{File}
 use Rattle.smk_world.specs.World.{folders_above}
@@ -37,9 +39,13 @@ unmarked_stamp image h = if image.marked h then None else made_stamp (core_at im
 abbrev pub is_summed : List ℕ → Bool
 is_summed bytes = nat_le (length bytes) 1048576
 
+-- the SHA-256 of a content
+abbrev pub sum_of : List ℕ → Digest
+sum_of bytes = digest (sha256 bytes)
+
 -- the stamp of a source: its time, with its SHA-256 where that is taken
 abbrev pub content_stamp : Content → Stamp
-content_stamp c = if is_summed c.bytes then Sum c.time (sha256 c.bytes) else Time c.time
+content_stamp c = if is_summed c.bytes then Sum c.time (sum_of c.bytes) else Time c.time
 
 abbrev pub source_stamp : Option Content → Option Stamp
 source_stamp f = option_map content_stamp f
@@ -118,12 +124,12 @@ Versions = Path → ℕ → Option (List ℕ)
 -- No two different contents among the versions have the same SHA-256, be they of one source or of several.
 abbrev pub SumsDiffer : Versions → Type 0
 SumsDiffer H =
-    (p q : Path) (t u : ℕ) (a b : List ℕ) → H p t ≡ Some a → H q u ≡ Some b → sha256 a ≡ sha256 b → a ≡ b
+    (p q : Path) (t u : ℕ) (a b : List ℕ) → H p t ≡ Some a → H q u ≡ Some b → sum_of a ≡ sum_of b → a ≡ b
 
 -- The versions have the source as it was recorded: at its time, and with its SHA-256 where that was recorded.
 abbrev pub HasVersion : Versions → Path → Stamp → Type 0
 HasVersion H q (Time t) = IsSome (H q t)
-HasVersion H q (Sum t s) = (bytes : List ℕ) × (H q t ≡ Some bytes) × (sha256 bytes ≡ s)
+HasVersion H q (Sum t s) = (bytes : List ℕ) × (H q t ≡ Some bytes) × (sum_of bytes ≡ s)
 HasVersion H q (Made m) = Unit {0}
 
 -- the content that an input had by its recorded stamp, by V of the record that speaks for it
