@@ -66,6 +66,7 @@ module _ (o : Outside) (entry : World) (H : Versions) where
         };
         fits = tt;
         phases = tt;
+        like = tt;
         apart = tt;
         children = subst (λ cs. Each (IsOfJob o []) cs) (sym sound.no_child) tt;
         owned = λ q h. absurd (sound.no_owned q h);

@@ -1,7 +1,7 @@
 -- Records that vouch for the same: they differ at most in the stamps of sources that had the same content.
 use Rattle.std.proofs.Common.{◌≡◌, ◌⊎◌, ℕ, zero, suc, Bool, true, false, List, [], ◌∷◌, map, refl, sym, ap, subst, inl, inr, ◌∙◌, Option, Some, None}
-use Rattle.std.specs.Prelude.{◌||◌, ◌==◌, bytes_eq, IsTrue, zip, if◌then◌else◌}
-use Rattle.std.specs.List.{AllZip}
+use Rattle.std.specs.Prelude.{◌||◌, ◌==◌, ◌++◌, bytes_eq, IsTrue, zip, if◌then◌else◌}
+use Rattle.std.specs.List.{AllZip, flat_map}
 use Rattle.std.specs.Option.{option_map, option_and_then}
 use Rattle.smk_base.specs.Digests.{digest}
 use Rattle.smk_base.specs.declared.sum.Sum.{Sum as Digest}
@@ -14,7 +14,7 @@ use Rattle.smk_world.specs.Trees.{Path, Act, IsIn, all_of, value_at, part_at}
 use Rattle.smk_record.specs.declared.record.Stamp.{Stamp}
 use Rattle.smk_record.specs.declared.record.Stamp.TheVariants.{Time, Sum, Made}
 use Rattle.smk_record.specs.declared.record.Record.{Record}
-use Rattle.smk_record.specs.Records.{agree, stamped}
+use Rattle.smk_record.specs.Records.{agree, stamped, serial_in, serials}
 use Rattle.smk_store.specs.Trust.{Versions, HasVersion, SumsDiffer, Eased, vouched, sum_of}
 use Rattle.smk_laws_protocol.specs.Protocol.{IsAgain}
 use Rattle.smk_laws_protocol.proofs.View.{View, Speaks, Chain, Link, holder, has_made, input_value, vir}
@@ -37,18 +37,19 @@ pub record IsLike (H : Versions) (r s : Record) : Type 0 where
   pub made : r.made ≡ s.made
   pub recipe : r.recipe ≡ s.recipe
   pub inputs : map (input_by H) (stamped r) ≡ map (input_by H) (stamped s)
+  pub serials : serials r ≡ serials s
 
 pub like_self : (H : Versions) (r : Record) → IsLike H r r
-like_self H r = record { made = refl; recipe = refl; inputs = refl }
+like_self H r = record { made = refl; recipe = refl; inputs = refl; serials = refl }
 
 pub like_of : (H : Versions) (r s : Record) → r ≡ s → IsLike H r s
 like_of H r s e = subst (IsLike H r) e (like_self H r)
 
 pub like_swap : (H : Versions) (r s : Record) → IsLike H r s → IsLike H s r
-like_swap H r s like = record { made = sym like.made; recipe = sym like.recipe; inputs = sym like.inputs }
+like_swap H r s like = record { made = sym like.made; recipe = sym like.recipe; inputs = sym like.inputs; serials = sym like.serials }
 
 pub like_then : (H : Versions) (r s t : Record) → IsLike H r s → IsLike H s t → IsLike H r t
-like_then H r s t a b = record { made = a.made ∙ b.made; recipe = a.recipe ∙ b.recipe; inputs = a.inputs ∙ b.inputs }
+like_then H r s t a b = record { made = a.made ∙ b.made; recipe = a.recipe ∙ b.recipe; inputs = a.inputs ∙ b.inputs; serials = a.serials ∙ b.serials }
 
 -- ## Products that are named
 
@@ -206,6 +207,23 @@ inputs_agreed H differ (p ∷ ps) (s ∷ ss) [] all hs ht = absurd all
 inputs_agreed H differ (p ∷ ps) (s ∷ ss) (t ∷ ts) all hs ht =
     λ k. (p, agreed H differ p s t all.0 (hs p s (inl refl)) (ht p t (inl refl)) k) ∷ inputs_agreed H differ ps ss ts all.1 (λ q x i. hs q x (inr i)) (λ q x i. ht q x (inr i)) k
 
+serial_agreed : (a b : Stamp) → agree a b ≡ true → serial_in a ≡ serial_in b
+serial_agreed (Time t) (Time u) same = refl
+serial_agreed (Time t) (Sum u c) same = refl
+serial_agreed (Time t) (Made n) same = false_true same
+serial_agreed (Sum t d) (Time u) same = refl
+serial_agreed (Sum t d) (Sum u c) same = refl
+serial_agreed (Sum t d) (Made n) same = false_true same
+serial_agreed (Made m) (Time u) same = false_true same
+serial_agreed (Made m) (Sum u c) same = false_true same
+serial_agreed (Made m) (Made n) same = ap (λ x. x ∷ []) (num_same m n same)
+
+serials_agreed : (ss ts : List Stamp) → AllZip (λ (a b : Stamp). IsTrue (agree a b)) ss ts → flat_map serial_in ss ≡ flat_map serial_in ts
+serials_agreed [] [] all = refl
+serials_agreed [] (t ∷ ts) all = absurd all
+serials_agreed (s ∷ ss) [] all = absurd all
+serials_agreed (s ∷ ss) (t ∷ ts) all = λ k. serial_agreed s t all.0 k ++ serials_agreed ss ts all.1 k
+
 -- A record that is found, and the one that is written in its place, vouch for the same, where no two different contents have the same SHA-256.
 pub like_again :
     (H : Versions) → SumsDiffer H → (found written : Record) → IsAgain found written → HasVersions H (stamped found) → HasVersions H (stamped written) → IsLike H found written
@@ -217,4 +235,5 @@ like_again H differ found written again has now =
           ap (λ c. map (input_by H) (zip (in_paths c) found.stamps)) again.recipe
           ∙ inputs_agreed H differ (in_paths written.recipe) found.stamps written.stamps again.stamps
           (subst (λ c. HasVersions H (zip (in_paths c) found.stamps)) again.recipe has) now;
+      serials = λ k. again.made k ∷ serials_agreed found.stamps written.stamps again.stamps k;
     }

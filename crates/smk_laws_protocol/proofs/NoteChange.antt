@@ -147,14 +147,14 @@ module _
           go true e = over_other g (reads w) (note_place p) q (texts.notes.note_path p q e)
           go false e = refl
 
-  pair : (names : List Path) (g : Nodes) → Pair j e e' (view_of o.read names (turn.before g)) (view_of o.read names g)
+  pair : (names : List Path) (g : Nodes) → Pair H j e e' (view_of o.read names (turn.before g)) (view_of o.read names g)
   pair names g =
-      subst (Pair j e e' (view_of o.read names (turn.before g))) (view_is names g)
+      subst (Pair H j e e' (view_of o.read names (turn.before g))) (view_is names g)
       (let v = view_of o.read names (turn.before g) in
       record {
         differs = record { nodes = λ x f. record { file = refl; folder = refl; members = refl; tree = refl }; records = λ x f. record { has = refl; at = refl; listed = refl }; marks = λ x f. refl };
-        counts = fewer_counts j v e e' fewer;
-        none_counts = fewer_counts j v none_eased none_eased (λ p r h. h);
+        counts = fewer_counts H j v e e' fewer;
+        none_counts = fewer_counts H j v none_eased none_eased (λ p r h. h);
       })
 
   more : (names : List Path) (g : Nodes) (q : Path) → bytes_eq q p ≡ false → is_some (place_node g note_place q) ≡ (view_of o.read names (turn.before g)).noted q

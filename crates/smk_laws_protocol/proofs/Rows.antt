@@ -13,7 +13,7 @@ use Rattle.smk_world.specs.declared.event.Failed.{Failed}
 use Rattle.smk_world.specs.Trees.{Path, among, outs_of, is_good, is_path_text, IsIn, Each}
 use Rattle.smk_store.specs.Images.{is_outside, Content}
 use Rattle.smk_base.specs.Path.{overlaps}
-use Rattle.smk_laws_protocol.specs.Protocol.{Phase, Marking, Marked, Running, Ended, Firm, Recorded, Dropping, Dropped, OpenJob, RunState, kept_at, outputs, own, mark_places, record_places, begun_with, record_of, listed_of, IsThere, IsAbsent, AreAmong, IsRecordOf, as_ok, IsLook, IsLock, IsFirst, runs, MayGo}
+use Rattle.smk_laws_protocol.specs.Protocol.{IsAgain, Phase, Marking, Marked, Running, Ended, Firm, Recorded, Dropping, Dropped, OpenJob, RunState, kept_at, outputs, own, mark_places, record_places, begun_with, record_of, listed_of, IsThere, IsAbsent, AreAmong, IsRecordOf, as_ok, IsLook, IsLock, IsFirst, runs, MayGo}
 use Rattle.smk_world.specs.World.{in_paths, World, after}
 use Rattle.smk_laws_protocol.proofs.View.{kind_in, View, Speaks, is_source, source_at, is_whole}
 use Rattle.smk_store.specs.Trust.{none_eased, content_stamp}
@@ -59,9 +59,13 @@ module _ (o : Outside) where
     pub each_stamped : length j.stamps ≡ length (in_paths j.recipe)
     pub kept_own : (p : Path) (r : Record) → kept_at j.kept p ≡ Some r → IsIn (outputs j) p
 
-  -- its serial is the next one; or it is a Restore, and has that of its unmarked records, which stay as they are
-  abbrev pub IsKept : World → OpenJob → Path → Type 0
-  IsKept w j p = ((now w).record_at p ≡ Some (record_of j p)) × ((now w).marked p ≡ false) × (kept_at j.kept p ≡ Some (record_of j p))
+  -- its serial is the next one; or it is a Restore, and has that of its unmarked records, in the place of which it writes such again
+  pub record IsKept (w : World) (j : OpenJob) (p : Path) : Type 0 where
+    pub found : Record
+    pub stands : (now w).record_at p ≡ Some found
+    pub unmarked : (now w).marked p ≡ false
+    pub kept : kept_at j.kept p ≡ Some found
+    pub again : IsAgain found (record_of j p)
 
   abbrev pub HasSerial : RunState → World → OpenJob → ℕ → Type 0
   HasSerial s w j top =

@@ -7,7 +7,10 @@ use Rattle.smk_record.specs.declared.record.Stamp.TheVariants.{Time, Sum, Made}
 use Rattle.smk_record.specs.Records.{source_time, is_of_source}
 use Rattle.smk_store.specs.Images.{Content}
 use Rattle.smk_store.specs.Trust.{Versions, HasVersion, is_summed, sum_of, content_stamp}
+use Rattle.smk_store.specs.Soundness.{Outside}
 use Rattle.smk_laws_protocol.proofs.Basics.{some_same}
+use Rattle.smk_laws_protocol.proofs.Rows.{IsAtHand, IsSourceOf}
+use Rattle.smk_laws_protocol.proofs.View.{View, source_at}
 
 abbrev stamp_if : Bool → Content → Stamp
 stamp_if b f = if b then Sum f.time (sum_of f.bytes) else Time f.time
@@ -47,3 +50,17 @@ pub version_on : (H V : Versions) (q : Path) (s : Stamp) → ((t : ℕ) → sour
 version_on H V q (Time t) same h = subst (λ (y : Option (List ℕ)). IsSome y) (same t refl) h
 version_on H V q (Sum t d) same h = (h.0, sym (same t refl) ∙ h.1, h.2)
 version_on H V q (Made m) same h = tt
+
+-- what is at hand is among the versions, where the sources are
+pub hand_recorded :
+    (o : Outside) (H : Versions) (v : View) → ((q : Path) (f : Content) → source_at v q ≡ Some f → H q f.time ≡ Some f.bytes) →
+    (x : Path) (s : Stamp) → IsAtHand o v (x, s) → HasVersion H x s
+hand_recorded o H v has x s hand = go s hand
+  where
+    of_source : (s : Stamp) → IsSourceOf o v x s → HasVersion H x s
+    of_source s hand = subst (HasVersion H x) hand.2 (has_content H x hand.0 (has x hand.0 hand.1))
+
+    go : (s : Stamp) → IsAtHand o v (x, s) → HasVersion H x s
+    go (Time t) hand = of_source (Time t) hand
+    go (Sum t d) hand = of_source (Sum t d) hand
+    go (Made m) hand = tt
