@@ -24,7 +24,7 @@ use Rattle.smk_laws_protocol.proofs.Basics.{by_test, clash, none_some, some_of, 
 use Rattle.smk_laws_protocol.proofs.Versions.{version_on}
 use Rattle.smk_laws_protocol.proofs.Chains.{Passes, map_same, chain_on, vir_on, value_of_product}
 use Rattle.smk_laws_protocol.proofs.Crux.{whole_on}
-use Rattle.smk_laws_protocol.proofs.Holders.{holder_stays, by_option}
+use Rattle.smk_laws_protocol.proofs.Holders.{HasBefore, holder_stays, by_option}
 use Rattle.smk_laws_protocol.proofs.TextFacts.{text_laws}
 use Rattle.smk_laws_protocol.proofs.TextFolders.{folders_are, among_by}
 
@@ -237,10 +237,10 @@ module _ (p : Path) (v0 v1 : View) (less : Less p v0 v1) where
         some_is : {A : Type 0} (x : Option A) (a : A) → x ≡ Some a → IsSome x
         some_is x a e = rw e refl
 
-        alone : (s : Record) → v0.record_at p ≡ Some s → (x : Path) (c : Record) → (v1.record_at x ≡ Some c) × ((v0.marked x ≡ false) ⊎ ⊥) → overlaps x p ≡ true → (x ≡ p) × (v0.record_at p ≡ Some c)
+        alone : (s : Record) → v0.record_at p ≡ Some s → (x : Path) (c : Record) → (v1.record_at x ≡ Some c) × ((v0.marked x ≡ false) ⊎ ⊥) → overlaps x p ≡ true → (x ≡ p) × HasBefore v0 p c
         alone s there x c clear over =
             let same = nested x p (some_is (v0.record_at x) c (record_before x c clear.0)) (some_is (v0.record_at p) s there) over in
-            (same, subst (λ y. v0.record_at y ≡ Some c) same (record_before x c clear.0))
+            (same, (c, subst (λ y. v0.record_at y ≡ Some c) same (record_before x c clear.0), refl))
 
         same_all : v0.record_at p ≡ None → v1.record_at ≡ v0.record_at
         same_all none k x = by_test (bytes_eq x p) (λ e. here x (same_place x p e) (less.records x)) (λ other. (same_record x other).at) k

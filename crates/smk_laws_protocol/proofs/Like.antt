@@ -1,5 +1,5 @@
 -- Records that vouch for the same: they differ at most in the stamps of sources that had the same content.
-use Rattle.std.proofs.Common.{◌≡◌, ◌⊎◌, ℕ, zero, suc, Bool, true, false, List, [], ◌∷◌, map, refl, sym, ap, subst, inl, inr, ◌∙◌, Option, Some, None}
+use Rattle.std.proofs.Common.{◌≡◌, ◌⊎◌, ℕ, zero, suc, Bool, true, false, List, [], ◌∷◌, map, refl, sym, ap, subst, inl, inr, arith, ◌∙◌, Option, Some, None}
 use Rattle.std.specs.Prelude.{◌||◌, ◌==◌, ◌++◌, bytes_eq, IsTrue, zip, if◌then◌else◌}
 use Rattle.std.specs.List.{AllZip, flat_map}
 use Rattle.std.specs.Option.{option_map, option_and_then}
@@ -59,11 +59,11 @@ product_in q m = (q, inr m)
 abbrev by_serial : Path → ℕ → Path × Stamp
 by_serial q m = (q, Made m)
 
-serial_of : Option (List ℕ) ⊎ ℕ → ℕ → ℕ
+abbrev serial_of : Option (List ℕ) ⊎ ℕ → ℕ → ℕ
 serial_of (inl c) d = d
 serial_of (inr m) d = m
 
-is_product : Option (List ℕ) ⊎ ℕ → Bool
+abbrev is_product : Option (List ℕ) ⊎ ℕ → Bool
 is_product (inl c) = false
 is_product (inr m) = true
 

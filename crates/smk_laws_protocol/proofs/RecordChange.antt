@@ -123,7 +123,7 @@ module _
       let p_own = in_left (outputs j) j.logs p i in
       let h_out = each_image o.read w (HasNoClash o e j) fits.no_clash names (turn.before g) (turn.image names g k) h before.0 before.1 (any_by (overlaps h) (own j) p p_own over) in
       let same = apart_same texts.overlap (own j) h p fits.apart (in_left (outputs j) j.logs h h_out) p_own over in
-      (same, before.0, subst (λ x. (view_of o.read names (turn.before g)).record_at x ≡ Some before.0) same before.1.0, sym before.2.recipe)
+      (same, (before.0, subst (λ x. (view_of o.read names (turn.before g)).record_at x ≡ Some before.0) same before.1.0, sym before.2.recipe))
 
   safe : EachImage o.read w' (λ v. Sound o.act H v e' × HasSources o (now o entry) v)
   safe =
