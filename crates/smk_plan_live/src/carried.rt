@@ -47,8 +47,8 @@ fn entry_if_any(alloc: Global, entry: Option<&Entry>) -> Result<Option<Entry>, O
     }
 }
 
-// What is known of each of the paths.
-fn entries_again(
+/// What is known of each of the paths.
+pub(crate) fn entries_again(
     alloc: Global,
     base: &Base,
     paths: &[PathText],
@@ -63,8 +63,8 @@ fn entries_again(
     Ok(row)
 }
 
-// What was seen at each of the paths.
-fn sights_again(
+/// What was seen at each of the paths.
+pub(crate) fn sights_again(
     alloc: Global,
     base: &Base,
     paths: &[PathText],

@@ -48,8 +48,8 @@ fn rows_of(alloc: Global, entries: List<Entry>, sights: List<Sight>) -> Result<R
 }
 
 impl Base {
-    // These are what is known and was seen of the outputs of the job of the number. It gives what was told before.
-    fn fill(
+    /// These are what is known and was seen of the outputs of the job of the number. It gives what was told before.
+    pub(crate) fn fill(
         &mut self,
         number: usize,
         row: Option<Slots<Option<Entry>>>,

@@ -19,7 +19,9 @@ mod phase;
 mod renewing;
 mod sites;
 mod slots;
+mod spending;
 mod telling;
 
+pub use base::Base;
 pub use live::LivePlan;
 pub use phase::Phase;

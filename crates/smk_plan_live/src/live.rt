@@ -48,6 +48,20 @@ impl LivePlan {
         &self.base.jobs
     }
 
+    /// What is known and was seen of paths now, as it is told to those who judge the jobs. It takes no memory.
+    pub fn told(&self) -> &Base
+        ensures { result.now ≡ self.now.base }
+    {
+        &self.base
+    }
+
+    /// What the job is judged by now. None where there is no job of this number. It takes no memory.
+    pub fn facts(&self, job: u32) -> Option<&JobFacts>
+        ensures { option_map (λ f. f.now) result ≡ slice_get self.now.facts.items job }
+    {
+        self.facts.as_slice().get(job as usize)
+    }
+
     /// How far the job has come. None where there is no job of this number. It takes no memory.
     pub fn phase(&self, job: u32) -> Option<Phase>
         ensures { result ≡ slice_get self.now.base.phases job }

@@ -7,3 +7,4 @@ mod paths;
 mod sights;
 
 pub use looking::look;
+pub use sights::sight_at;

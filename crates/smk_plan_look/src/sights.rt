@@ -74,12 +74,10 @@ fn folder_at<W: Files>(
     })
 }
 
-/// What is seen of the path.
-pub(crate) fn sight_at<W: Files>(
-    alloc: Global,
-    work: &mut W,
-    path: PathText,
-) -> Result<Sight, WorkFault>
+/// What is seen of the path: what stands there, of a folder all that is under it, and whether a read-only file is there or under it. Nothing is changed.
+///
+/// `WorkFault::Failed` where the device failed, `WorkFault::OutOfMemory` where there is no memory for what is under a folder.
+pub fn sight_at<W: Files>(alloc: Global, work: &mut W, path: PathText) -> Result<Sight, WorkFault>
     ensures looked { HasLooked W.act (W.device work.old) (W.device work.new) (device_failed result) }
     ensures path { IfOk result (λ s. s.path ≡ path) }
     ensures told { IfOk result (λ s. WhereTold (W.device work.old) (λ w. IsUnownedUnder w.nodes path → is_path_text path ≡ true → IsSightOf w.nodes path s)) }

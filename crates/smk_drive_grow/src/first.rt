@@ -1,0 +1,64 @@
+//! The plan with which a run begins.
+
+use crate::faults::of_plan;
+use crate::ground::Ground;
+use crate::growth::{check, derived, grow_out, looked, sighted};
+use smk_base::{Copied, List, OutOfMemory};
+use smk_chain::{Jobs, Listings};
+use smk_pick::Settings;
+use smk_plan::Seen;
+use smk_plan_live::LivePlan;
+use smk_report::Fault;
+use smk_store::Store;
+use smk_world::Files;
+use std::alloc::Global;
+use std::thread::Threads;
+
+// A copy of the settings.
+fn settings_again(alloc: Global, settings: &Settings) -> Result<Settings, OutOfMemory> {
+    Ok(Settings {
+        targets: settings.targets.copied(alloc)?,
+        cores: settings.cores,
+        bounds: settings.bounds.copied(alloc)?,
+        keep_going: settings.keep_going,
+        rerun_incomplete: settings.rerun_incomplete,
+        force: settings.force,
+    })
+}
+
+// The plan of these jobs, to be kept, where nothing is refused of it.
+fn kept<Rt: Threads + Sync>(
+    rt: &Rt,
+    alloc: Global,
+    ground: &Ground<'_>,
+    jobs: Jobs,
+    store: Store,
+    seen: Seen,
+) -> Result<LivePlan, Fault> {
+    let settings = settings_again(alloc, ground.settings)?;
+    let live = match LivePlan::new(rt, alloc, jobs, store, seen, settings) {
+        Ok(live) => live,
+        Err(fault) => return Err(of_plan(alloc, ground.flow, fault)),
+    };
+    check(alloc, ground, &live)?;
+    Ok(live)
+}
+
+/// The plan with which a run begins: the last one of the chain that begins with no listings, made by this store, which is what stands. Nothing is changed.
+///
+/// The fault is the first that is refused of one of the plans of the chain; or `Device`, where the device failed, or `OutOfMemory`.
+pub fn first_plan<W: Files, Rt: Threads + Sync>(
+    rt: &Rt,
+    alloc: Global,
+    ground: &Ground<'_>,
+    store: Store,
+    work: &mut W,
+) -> Result<LivePlan, Fault> {
+    let none: Listings = List::new(alloc);
+    let sources = sighted(alloc, ground, &none, &store, work)?;
+    let jobs = derived(alloc, ground, none, &store, &sources)?;
+    let seen = looked(alloc, work, &jobs)?;
+    let mut live = kept(rt, alloc, ground, jobs, store, seen)?;
+    grow_out(rt, alloc, ground, &mut live, work)?;
+    Ok(live)
+}

@@ -1,0 +1,76 @@
+//! The last lines of a run.
+
+use smk_base::{List, OutOfMemory, PathText};
+use smk_report::{Fault, summary_line, target_line};
+use smk_run::{Tally, write_out};
+use smk_trigger::State;
+use smk_world::{Failed, Sink};
+use std::alloc::Global;
+
+// Adds the lines of the targets, which are current or not.
+fn push_targets(
+    alloc: Global,
+    text: &mut String,
+    targets: &[PathText],
+    current: &[bool],
+) -> Result<(), OutOfMemory> {
+    for (path, is_current) in targets.iter().zip(current.iter()) {
+        let line = target_line(alloc, *is_current, path)?;
+        text.push_str(line.as_str())?;
+    }
+    Ok(())
+}
+
+// The last lines.
+fn closing_text(
+    alloc: Global,
+    targets: &[PathText],
+    current: &[bool],
+    tally: &Tally,
+) -> Result<String, OutOfMemory> {
+    let mut text = String::new(alloc);
+    push_targets(alloc, &mut text, targets, current)?;
+    let line = summary_line(alloc, tally.started, tally.done, tally.failed)?;
+    text.push_str(line.as_str())?;
+    Ok(text)
+}
+
+/// Puts the lines of the targets, which are current or not, and that of the counts. `Output` where the sink fails, `OutOfMemory` where there is no memory for them.
+pub(crate) fn put_closing<O: Sink>(
+    alloc: Global,
+    targets: &List<PathText>,
+    current: &List<bool>,
+    tally: &Tally,
+    out: &mut O,
+) -> Result<(), Fault> {
+    let text = closing_text(alloc, targets.as_slice(), current.as_slice(), tally)?;
+    match write_out(out, text.as_str()) {
+        Ok(()) => Ok(()),
+        Err(Failed) => Err(Fault::Output),
+    }
+}
+
+// Whether all of the flags are set.
+fn are_set(flags: &[bool]) -> bool {
+    for flag in flags {
+        if !*flag {
+            return false;
+        }
+    }
+    true
+}
+
+// Whether all jobs are Clean.
+fn are_clean(states: &[State]) -> bool {
+    for state in states {
+        if !matches!(state, State::Clean) {
+            return false;
+        }
+    }
+    true
+}
+
+/// Whether all jobs with these states are Clean, and all targets current.
+pub(crate) fn is_all_made(states: &List<State>, current: &List<bool>) -> bool {
+    are_clean(states.as_slice()) && are_set(current.as_slice())
+}
