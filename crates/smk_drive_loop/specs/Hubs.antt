@@ -1,6 +1,7 @@
 -- What a run keeps, and where it stands.
 use Rattle.std.specs.Prelude.{◌≡◌, ◌≢◌, ℕ, ◌+◌, ◌^◌, Bool, true, false, not, List, [], map, filter, length, nat_lt, if◌then◌else◌, zip, Option, Some, None, option_map, IsTrue}
-use Rattle.std.specs.List.{IsPermutation, slice_get, list_all}
+use Rattle.std.specs.List.{slice_get, list_any}
+use Rattle.std.specs.List.Sorted.{IsPermutation}
 use Rattle.std.specs.BTreeMap.{get_by_text}
 use Rattle.smk_world.specs.declared.event.Event.{Event}
 use Rattle.smk_world.specs.declared.event.Child.{Child as WorldChild}
@@ -68,10 +69,7 @@ pub record IsHandedBy (rules : Rules) (w : World) (s : Stand) (plan : Plan) (rol
   pub agree :
       (e : Job × State) → IsIn (staged plan) e →
       is_startable (seen rules w) rules.settings (progress_of w s.begun) plan e
-      ≡ list_all (is_ready standing.phases standing.befores) (none_or_one (get_by_text roll.numbers (job_path e.0)))
-  pub handed :
-      (e : Job × State) → IsIn (staged plan) e →
-      IsTrue (is_startable (seen rules w) rules.settings (progress_of w s.begun) plan e) → get_by_text roll.numbers (job_path e.0) ≢ None
+      ≡ list_any (is_ready standing.phases standing.befores) (none_or_one (get_by_text roll.numbers (job_path e.0)))
 
 -- What is so where a run goes on: the plan that is kept is the one in force at this folder; the next serial is above the entry's by as many as were
 -- drawn; the starter has the jobs that it is to have; and nothing is refused.

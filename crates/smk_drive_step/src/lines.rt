@@ -1,10 +1,10 @@
 //! The lines of a run.
 
-ghost use Rattle.std.specs.Prelude.{◌≡◌, ◌++◌, ◌&&◌, ◌⊎◌, IfOk, IfErr, is_ok, is_err, string_bytes, codes, decimal};
+ghost use Rattle.std.specs.Prelude.{◌≡◌, ◌++◌, ◌&&◌, IfOk, IfErr, is_ok, string_bytes, codes, decimal, true, false};
 ghost use Rattle.smk_report.specs.Lines as spec;
 ghost use Rattle.smk_report.specs.declared.fault.Fault.TheVariants as fault;
 ghost use Rattle.smk_run.specs.Reports.{HasReported, end_line};
-ghost use Rattle.smk_drive_course.specs.Driven.{is_output};
+ghost use Rattle.smk_run.specs.Runs.{is_output};
 ghost use Rattle.smk_drive_step.specs.Telling.{IsPutIf};
 
 use smk_base::{OutOfMemory, PathText, Text};
