@@ -1,4 +1,0 @@
-pub mod Safe
-pub mod Standing
-pub mod Clean
-pub mod Again
