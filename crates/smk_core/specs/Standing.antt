@@ -153,6 +153,10 @@ StartsFirst s (Start j) = IsFirst s j
 StartsFirst s Wait = Unit {0}
 StartsFirst s Finished = Unit {0}
 
+-- a starter that picks so names the first of the jobs that may be started
+abbrev pub PicksFirst : (Standing → Step → Type 0) → Type 0
+PicksFirst picks = (s : Standing) (step : Step) → picks s step → StartsFirst s step
+
 -- ## Its beginning
 
 -- There is a list of the jobs before each; these have lower numbers; and each job fits where no other runs.

@@ -87,6 +87,8 @@ impl Core {
 impl Starter for Core {
     ghost standing = { λ core. core };
 
+    ghost picks = { StartsFirst };
+
     fn new(
         alloc: Global,
         asks: &List<Ask>,
@@ -108,7 +110,7 @@ impl Starter for Core {
 
     fn next(&mut self) -> Step
         ensures answers { Answers self.old result self.new }
-        ensures first { StartsFirst self.old result }
+        ensures picks { StartsFirst self.old result }
     {
         let Some(job) = self.first() else {
             return if self.is_busy() {

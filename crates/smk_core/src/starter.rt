@@ -21,7 +21,12 @@ pub enum Step {
 
 /// Starts the jobs of a run: each once, after all that come before it have ended well, and where it fits beside those that run.
 pub trait Starter: Drop {
+    ghost use Rattle.smk_core.specs.declared.starter.Step.{Step};
+
     ghost standing: { Self → Standing };
+
+    /// What is true of each step that is named, besides: which of the jobs that may be started is.
+    ghost picks: { Standing → Step → Type 0 };
 
     /// The jobs with these asks, each after those in its list of `befores`, in the room, in which nothing is in use. `OutOfMemory` where there
     /// is no memory for all that the run needs: only `replan` takes more.
@@ -37,7 +42,8 @@ pub trait Starter: Drop {
 
     /// What is to be done next. A job that is named is started by the caller, and counts as running.
     fn next(&mut self) -> Step
-        ensures { Answers (standing self.old) result (standing self.new) };
+        ensures answers { Answers (standing self.old) result (standing self.new) }
+        ensures picks { picks (standing self.old) result };
 
     /// The command of the job, which runs, has ended, well or not.
     fn ended(&mut self, job: u32, good: bool)

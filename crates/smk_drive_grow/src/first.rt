@@ -1,5 +1,14 @@
 //! The plan with which a run begins.
 
+ghost use Rattle.std.specs.Prelude.{◌≡◌, IfErr, false};
+ghost use Rattle.smk_world.specs.Devices.{HasLooked, WhereTold};
+ghost use Rattle.smk_store.specs.Loading.{IsStoreOf};
+ghost use Rattle.smk_store.specs.Unowned.{NoneOwned};
+ghost use Rattle.smk_plan.specs.States.{nothing_done};
+ghost use Rattle.smk_plan_preview.specs.Faults.{device_failed, is_sink};
+ghost use Rattle.smk_drive.specs.Moments.{Rules, seen};
+ghost use Rattle.smk_drive_grow.specs.Growing.{AreRules, IsFirstPlan};
+
 use crate::faults::of_plan;
 use crate::ground::Ground;
 use crate::growth::{check, derived, grow_out, looked, sighted};
@@ -53,7 +62,12 @@ pub fn first_plan<W: Files, Rt: Threads + Sync>(
     ground: &Ground<'_>,
     store: Store,
     work: &mut W,
-) -> Result<LivePlan, Fault> {
+) -> Result<LivePlan, Fault>
+    ensures looked { HasLooked W.act (W.device work.old) (W.device work.new) (device_failed result) }
+    ensures no_sink { IfErr result (λ f. is_sink f ≡ false) }
+    ensures told { WhereTold (W.device work.old) (λ w. NoneOwned w → (rules : Rules) → AreRules ground.now.flow.now ground.now.settings.now rules
+        → IsStoreOf (seen rules w) store → IsFirstPlan rules (seen rules w) nothing_done result) }
+{
     let none: Listings = List::new(alloc);
     let sources = sighted(alloc, ground, &none, &store, work)?;
     let jobs = derived(alloc, ground, none, &store, &sources)?;

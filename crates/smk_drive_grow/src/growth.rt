@@ -1,5 +1,16 @@
 //! How a plan grows.
 
+ghost use Rattle.std.specs.Prelude.{◌≡◌, ◌⊎◌, Some, None, IfErr, OnOk, false, length};
+ghost use Rattle.std.specs.List.{zip};
+ghost use Rattle.smk_world.specs.Devices.{HasLooked, WhereTold};
+ghost use Rattle.smk_format.specs.Refused.{command_fault};
+ghost use Rattle.smk_report.specs.declared.fault.Fault.TheVariants as fault;
+ghost use Rattle.smk_plan.specs.States.{Progress};
+ghost use Rattle.smk_plan_live.specs.Lives.{IsLive};
+ghost use Rattle.smk_plan_preview.specs.Faults.{device_failed, is_sink};
+ghost use Rattle.smk_drive.specs.Moments.{Rules, seen};
+ghost use Rattle.smk_drive_grow.specs.Growing.{AreRules, HasGrownOut, IsGood};
+
 use crate::faults::of_plan;
 use crate::ground::Ground;
 use crate::listings::joined;
@@ -71,7 +82,12 @@ pub(crate) fn looked<W: Files>(alloc: Global, work: &mut W, jobs: &Jobs) -> Resu
 }
 
 /// Looks at the commands of the plan's jobs: `UnknownField` and `TooLong`, of the first job, in plan order, that has such a fault.
-pub fn check(alloc: Global, ground: &Ground<'_>, live: &LivePlan) -> Result<(), Fault> {
+pub fn check(alloc: Global, ground: &Ground<'_>, live: &LivePlan) -> Result<(), Fault>
+    requires live { IsLive live.now }
+    ensures good { OnOk result (command_fault ground.now.flow.now ground.now.settings.now.cores (zip live.now.base.jobs.jobs live.now.plan.states) ≡ None) }
+    ensures not { IfErr result (λ f. (f ≡ fault.OutOfMemory)
+        ⊎ (command_fault ground.now.flow.now ground.now.settings.now.cores (zip live.now.base.jobs.jobs live.now.plan.states) ≡ Some f)) }
+{
     check_commands(
         alloc,
         ground.flow,
@@ -111,7 +127,14 @@ pub fn grow_out<W: Files, Rt: Threads + Sync>(
     ground: &Ground<'_>,
     live: &mut LivePlan,
     work: &mut W,
-) -> Result<bool, Fault> {
+) -> Result<bool, Fault>
+    requires live { IsLive live.old }
+    ensures looked { HasLooked W.act (W.device work.old) (W.device work.new) (device_failed result) }
+    ensures no_sink { IfErr result (λ f. is_sink f ≡ false) }
+    ensures live { IsLive live.new }
+    ensures told { WhereTold (W.device work.old) (λ w. (rules : Rules) (progress : Progress) → AreRules ground.now.flow.now ground.now.settings.now rules
+        → IsGood rules (seen rules w) progress live.old → HasGrownOut rules (seen rules w) progress live.old live.new result) }
+{
     let mut grew = false;
     for _ in 0..u64::MAX {
         if live.as_plan().known.is_empty() {

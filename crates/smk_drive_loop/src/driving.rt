@@ -1,16 +1,26 @@
 //! The loop of a run.
 
-use crate::ending::End;
+ghost use Rattle.std.specs.Prelude.{◌≡◌, [], None, IfOk};
+ghost use Rattle.smk_world.specs.Devices.{WhereTold};
+ghost use Rattle.smk_core.specs.Standing.{PicksFirst};
+ghost use Rattle.smk_drive.specs.Moments.{Rules};
+ghost use Rattle.smk_drive_course.specs.Driven.{HasDriven};
+ghost use Rattle.smk_drive_grow.specs.Growing.{AreRules};
+ghost use Rattle.smk_drive_loop.specs.Hubs.{IsCrewOf, Somewhere};
+ghost use Rattle.smk_drive_loop.specs.Going.{HasGone, HasOpened};
+
 use crate::hub::Hub;
 use crate::report::{is_all_made, put_closing};
 use smk_base::{List, OutOfMemory};
 use smk_choose::Readings;
 use smk_core::{Starter, Step};
+use smk_drive_course::End;
 use smk_drive_grow::{Ground, first_plan};
 use smk_flow::Workflow;
 use smk_pick::Settings;
 use smk_plan_live::LivePlan;
 use smk_report::Fault;
+use smk_run::Tally;
 use smk_store::{Store, load, steady};
 use smk_world::{Crew, Files, Sink};
 use std::alloc::Global;
@@ -29,7 +39,11 @@ fn first_hub<S: Starter, W: Files, Rt: Threads + Sync>(
     alloc: Global,
     ground: &Ground<'_>,
     work: &mut W,
-) -> Result<Hub<S>, Fault> {
+) -> Result<Hub<S>, Fault>
+    requires none_runs { (W.device work.old).running ≡ [] }
+    ensures crew { IfOk result (λ hub. IsCrewOf hub (W.device work.new)) }
+    ensures opened { HasOpened W.act ground.now.flow.now ground.now.settings.now result (W.device work.old) (W.device work.new) }
+{
     let store = settled_store(alloc, work)?;
     let next = store.next_serial();
     let live: LivePlan = first_plan(rt, alloc, ground, store, work)?;
@@ -44,7 +58,13 @@ fn go_on<S: Starter, W: Crew, O: Sink, Rt: Threads + Sync>(
     hub: &mut Hub<S>,
     work: &mut W,
     out: &mut O,
-) {
+)
+    requires picks { PicksFirst S.picks }
+    requires crew { IsCrewOf hub.old (W.device work.old) }
+    requires at { WhereTold (W.device work.old) (Somewhere ground.now.flow.now ground.now.settings.now hub.old) }
+    ensures crew { IsCrewOf hub.new (W.device work.new) }
+    ensures gone { HasGone W.act ground.now.flow.now ground.now.settings.now hub.old hub.new (W.device work.old) (W.device work.new) (O.sunk out.old) (O.sunk out.new) }
+{
     for _ in 0..u64::MAX {
         if hub.tally.started > 0 {
             hub.sweep(alloc, ground, work);
@@ -61,7 +81,9 @@ fn go_on<S: Starter, W: Crew, O: Sink, Rt: Threads + Sync>(
     }
 }
 
-fn copy_flags(alloc: Global, flags: &[bool]) -> Result<List<bool>, OutOfMemory> {
+fn copy_flags(alloc: Global, flags: &[bool]) -> Result<List<bool>, OutOfMemory>
+    ensures { IfOk result (λ copy. copy ≡ flags.now) }
+{
     let mut copy = List::new(alloc);
     for flag in flags {
         copy.push(*flag)?;
@@ -69,22 +91,14 @@ fn copy_flags(alloc: Global, flags: &[bool]) -> Result<List<bool>, OutOfMemory> 
     Ok(copy)
 }
 
-// Reports the end of a run, and answers.
-fn conclude<S: Starter, O: Sink>(
+// Reports the end of a run of this plan in which no fault came.
+fn report<O: Sink>(
     alloc: Global,
     ground: &Ground<'_>,
-    hub: Hub<S>,
+    live: &LivePlan,
+    tally: Tally,
     out: &mut O,
 ) -> Result<End, Fault> {
-    let Hub {
-        live,
-        tally,
-        stop,
-        ..
-    } = hub;
-    if let Some(fault) = stop.into_fault() {
-        return Err(fault);
-    }
     let plan = live.as_plan();
     if tally.failed == 0 && !is_all_made(&plan.states, &plan.current) {
         return Err(Fault::OutOfMemory);
@@ -98,6 +112,29 @@ fn conclude<S: Starter, O: Sink>(
         first: tally.first,
         current,
     })
+}
+
+// Reports the end of a run, and answers.
+fn conclude<S: Starter, O: Sink>(
+    alloc: Global,
+    ground: &Ground<'_>,
+    hub: Hub<S>,
+    out: &mut O,
+) -> Result<End, Fault> {
+    let Hub {
+        live,
+        starter: _starter,
+        roll: _roll,
+        children: _children,
+        next: _,
+        tally,
+        stop,
+        lines: _lines,
+    } = hub;
+    match stop.into_fault() {
+        Some(fault) => Err(fault),
+        None => report(alloc, ground, &live, tally, out),
+    }
 }
 
 // The run by what was read of the rules.
@@ -132,7 +169,11 @@ pub fn drive<S: Starter, W: Crew, O: Sink, Rt: Threads + Sync>(
     settings: &Settings,
     work: &mut W,
     out: &mut O,
-) -> Result<End, Fault> {
+) -> Result<End, Fault>
+    requires picks { PicksFirst S.picks }
+    requires none_runs { (W.device work.old).running ≡ [] }
+    ensures { (rules : Rules) → AreRules flow.now settings.now rules → HasDriven W.act rules result (W.device work.old) (W.device work.new) (O.sunk out.old) (O.sunk out.new) }
+{
     let readings = Readings::of(alloc, flow)?;
     let ground = Ground {
         flow,

@@ -1,6 +1,10 @@
 //! All that a run keeps.
 
-use smk_base::{Copied, List, OutOfMemory};
+ghost use Rattle.std.specs.Prelude.{◌≡◌, [], true, is_none, IfOk, OnOk};
+ghost use Rattle.smk_drive_step.specs.Crews.{stopped_by};
+ghost use Rattle.smk_core.specs.Standing.{stopped_now};
+
+use smk_base::{List, OutOfMemory};
 use smk_core::{Starter, Step};
 use smk_drive_grow::Ground;
 use smk_drive_roll::{Handing, Roll, hand, outlooks};
@@ -11,6 +15,7 @@ use smk_plan_live::LivePlan;
 use smk_report::Fault;
 use smk_run::Tally;
 use std::alloc::Global;
+use std::marker::Model;
 
 /// A run as it stands.
 #[derive(Drop)]
@@ -30,6 +35,23 @@ pub(crate) struct Hub<S: Starter> {
     pub(crate) lines: Lines,
 }
 
+impl<S: Starter> Model for Hub<S> {
+    ghost use Rattle.smk_drive_loop.specs.Hubs.{Parts};
+
+    ghost Value = { Parts };
+
+    ghost view = { λ h. record {
+      live = h.live;
+      standing = S.standing h.starter;
+      roll = h.roll;
+      places = h.children.places.items;
+      next = h.next;
+      tally = h.tally;
+      stop = h.stop;
+      telling = h.lines.goes_on;
+    } };
+}
+
 // A starter of no job but the one that has ended badly, which keeps others back.
 fn blocked<S: Starter>(alloc: Global, room: Room) -> Result<S, OutOfMemory> {
     let mut asks = List::new(alloc);
@@ -40,7 +62,7 @@ fn blocked<S: Starter>(alloc: Global, room: Room) -> Result<S, OutOfMemory> {
     })?;
     let mut befores = List::new(alloc);
     befores.push(List::new(alloc))?;
-    let mut starter = S::new(alloc, &asks, &befores, room, true)?;
+    let mut starter: S = S::new(alloc, &asks, &befores, room, true)?;
     if let Step::Start(number) = starter.next() {
         starter.ended(number, false);
     }
@@ -98,7 +120,7 @@ impl<S: Starter> Hub<S> {
         room: Room,
         next: Option<u64>,
     ) -> Result<Hub<S>, OutOfMemory> {
-        let starter = blocked(alloc, room)?;
+        let starter: S = blocked(alloc, room)?;
         let roll = Roll::blocked(alloc)?;
         let mut hub = Hub::of(alloc, cores, live, starter, roll, next)?;
         hub.rehand(alloc)?;
@@ -117,9 +139,9 @@ impl<S: Starter> Hub<S> {
             roll,
             asks,
             befores,
-            moved: _,
+            moved: _moved,
         } = handing(alloc, &live, &Roll::empty(alloc), false)?;
-        let starter = S::new(alloc, &asks, &befores, room, false)?;
+        let starter: S = S::new(alloc, &asks, &befores, room, false)?;
         Hub::of(alloc, cores, live, starter, roll, next)
     }
 
@@ -129,7 +151,9 @@ impl<S: Starter> Hub<S> {
         ground: &Ground<'_>,
         live: LivePlan,
         next: Option<u64>,
-    ) -> Result<Hub<S>, OutOfMemory> {
+    ) -> Result<Hub<S>, OutOfMemory>
+        ensures { IfOk result (λ h. (h.live ≡ live) × (h.next ≡ next) × (is_none h.stop.fault ≡ true) × (h.telling ≡ true)) }
+    {
         let settings = ground.settings;
         let room = Room::new(alloc, settings.cores, &settings.bounds)?;
         if settings.keep_going {
@@ -145,7 +169,9 @@ impl<S: Starter> Hub<S> {
     }
 
     /// The starter has the jobs that are to be handed over by the plan as it stands.
-    pub(crate) fn rehand(&mut self, alloc: Global) -> Result<(), OutOfMemory> {
+    pub(crate) fn rehand(&mut self, alloc: Global) -> Result<(), OutOfMemory>
+        ensures same { (self.new.live ≡ self.old.live) × (self.new.stop ≡ self.old.stop) × (self.new.tally ≡ self.old.tally) }
+    {
         let Handing {
             roll,
             asks,
@@ -169,7 +195,9 @@ impl<S: Starter> Hub<S> {
     }
 
     /// This fault came: no job begins any more.
-    pub(crate) fn set(&mut self, fault: Fault) {
+    pub(crate) fn set(&mut self, fault: Fault)
+        ensures { self.new ≡ record self.old { stop = stopped_by fault self.old.stop; standing = stopped_now self.old.standing } }
+    {
         self.stop.set(fault);
         self.starter.stop();
     }

@@ -4,19 +4,12 @@ use crate::hub::Hub;
 use smk_core::Starter;
 use smk_drive_grow::{Ground, check, grow_out, of_plan};
 use smk_drive_outcome::{Outcome, outcome_of};
+use smk_drive_step::work_fault;
 use smk_report::Fault;
 use smk_trigger::Plain;
-use smk_world::{Crew, Files, WorkFault};
+use smk_world::{Crew, Files};
 use std::alloc::Global;
 use std::thread::Threads;
-
-// The fault of a look.
-fn look_fault(fault: WorkFault) -> Fault {
-    match fault {
-        WorkFault::Failed => Fault::Device,
-        WorkFault::OutOfMemory => Fault::OutOfMemory,
-    }
-}
 
 impl<S: Starter> Hub<S> {
     // What is known of the outputs of the job of the number, and what stands there.
@@ -31,12 +24,12 @@ impl<S: Starter> Hub<S> {
         };
         match outcome_of(alloc, work, job) {
             Ok(outcome) => Ok(outcome),
-            Err(fault) => Err(look_fault(fault)),
+            Err(why) => Err(work_fault(why)),
         }
     }
 
     // The plan is told that the job of the number was closed, and what stands at its outputs.
-    fn note<W: Files>(
+    fn note_closed<W: Files>(
         &mut self,
         alloc: Global,
         ground: &Ground<'_>,
@@ -70,7 +63,7 @@ impl<S: Starter> Hub<S> {
         number: u32,
         work: &mut W,
     ) -> Result<(), Fault> {
-        self.note(alloc, ground, number, work)?;
+        self.note_closed(alloc, ground, number, work)?;
         let grew = grow_out(rt, alloc, ground, &mut self.live, work)?;
         self.keep_up(alloc, grew)
     }

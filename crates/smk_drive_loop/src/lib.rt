@@ -3,7 +3,6 @@
 
 mod close;
 mod driving;
-mod ending;
 mod hub;
 mod learn;
 mod report;
@@ -11,4 +10,4 @@ mod start;
 mod sweep;
 
 pub use driving::drive;
-pub use ending::End;
+pub use smk_drive_course::End;

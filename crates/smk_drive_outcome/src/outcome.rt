@@ -1,12 +1,21 @@
 //! The outputs of one job, as they stand.
 
+ghost use Rattle.std.specs.Prelude.{ℕ, List as Items, Option, IfOk};
+ghost use Rattle.smk_world.specs.World.{out_paths};
+ghost use Rattle.smk_world.specs.Calls.{device_failed};
+ghost use Rattle.smk_world.specs.Devices.{WhereTold, HasLooked};
+ghost use Rattle.smk_record.specs.declared.record.Record.{Record as RecordValue};
+ghost use Rattle.smk_record.specs.Spelling.{ReadsRecords};
+ghost use Rattle.smk_store.specs.Images.{seen};
+ghost use Rattle.smk_drive_outcome.specs.Outcomes.{AreForPaths, AreOutcomes, AreUnowned, IsKeptAt};
+
 use smk_base::{List, OutOfMemory, PathText, Place};
 use smk_flow::Job;
 use smk_plan::Sight;
 use smk_plan_look::sight_at;
 use smk_record::read;
 use smk_store::{Entry, Kept};
-use smk_world::{Files, Found, OutItem, WorkFault};
+use smk_world::{Files, Found, OutItem, Stat, WorkFault};
 use std::alloc::Global;
 
 // A file of more bytes isn't read as a record.
@@ -31,38 +40,46 @@ fn kept_in(alloc: Global, path: &PathText, bytes: &[u8]) -> Result<Kept, OutOfMe
     }
 }
 
-// The record of the path by what a read of its place found.
-fn kept_found(alloc: Global, path: &PathText, found: Found) -> Result<Kept, OutOfMemory> {
-    match found {
-        Found::Held(bytes) => kept_in(alloc, path, bytes.as_slice()),
-        Found::TooBig(_) => Ok(Kept::Unreadable),
-        Found::Nothing => Ok(Kept::Absent),
+// What is kept where no file was found at the place: nothing, unless a folder is there.
+fn kept_without<W: Files>(work: &mut W, place: &Place) -> Result<Kept, WorkFault>
+    ensures looked { HasLooked W.act (W.device work.old) (W.device work.new) (device_failed result) }
+{
+    match work.stat(place)? {
+        Stat::Nothing => Ok(Kept::Absent),
+        Stat::File { .. } | Stat::Folder => Ok(Kept::Unreadable),
     }
 }
 
-// What is known of the path of an output that has no mark and is no log.
-fn entry_at<W: Files>(alloc: Global, work: &mut W, path: &PathText) -> Result<Entry, WorkFault> {
+// What is kept of the path.
+fn kept_at<W: Files>(alloc: Global, work: &mut W, path: &PathText) -> Result<Kept, WorkFault>
+    ensures looked { HasLooked W.act (W.device work.old) (W.device work.new) (device_failed result) }
+    ensures told { IfOk result (λ kept. WhereTold (W.device work.old) (λ w. (read : Items ℕ → Option RecordValue) → ReadsRecords read → IsKeptAt (seen read w) w path.now kept)) }
+{
     let place = Place::record_of(alloc, path)?;
-    let found = work.read(alloc, &place, RECORD_LIMIT)?;
-    let kept = kept_found(alloc, path, found)?;
-    Ok(Entry {
-        kept,
-        marked: false,
-        noted: false,
-    })
+    match work.read(alloc, &place, RECORD_LIMIT)? {
+        Found::Held(bytes) => Ok(kept_in(alloc, path, bytes.as_slice())?),
+        Found::TooBig(_) => Ok(Kept::Unreadable),
+        Found::Nothing => kept_without(work, &place),
+    }
 }
 
-// Adds what is known of the output at the path, and what stands there.
+// Adds what is known of the output at the path, which has no mark and is no log, and what stands there.
 fn push_output<W: Files>(
     alloc: Global,
     work: &mut W,
     path: &PathText,
-    seen: &mut Outcome,
-) -> Result<(), WorkFault> {
-    let entry = entry_at(alloc, work, path)?;
+    found: &mut Outcome,
+) -> Result<(), WorkFault>
+    ensures looked { HasLooked W.act (W.device work.old) (W.device work.new) (device_failed result) }
+{
+    let kept = kept_at(alloc, work, path)?;
     let sight = sight_at(alloc, work, path.copy(alloc)?)?;
-    seen.entries.push(entry)?;
-    seen.sights.push(sight)?;
+    found.entries.push(Entry {
+        kept,
+        marked: false,
+        noted: false,
+    })?;
+    found.sights.push(sight)?;
     Ok(())
 }
 
@@ -71,10 +88,12 @@ fn push_item<W: Files>(
     alloc: Global,
     work: &mut W,
     item: &OutItem,
-    seen: &mut Outcome,
-) -> Result<(), WorkFault> {
+    found: &mut Outcome,
+) -> Result<(), WorkFault>
+    ensures looked { HasLooked W.act (W.device work.old) (W.device work.new) (device_failed result) }
+{
     for out in item.outs.as_slice() {
-        push_output(alloc, work, &out.path, seen)?;
+        push_output(alloc, work, &out.path, found)?;
     }
     Ok(())
 }
@@ -83,13 +102,20 @@ fn push_item<W: Files>(
 /// the output looked at, with all that is under a directory.
 ///
 /// `WorkFault::Failed` where the device failed, `WorkFault::OutOfMemory` where there is no memory for the answer.
-pub fn outcome_of<W: Files>(alloc: Global, work: &mut W, job: &Job) -> Result<Outcome, WorkFault> {
-    let mut seen = Outcome {
+pub fn outcome_of<W: Files>(alloc: Global, work: &mut W, job: &Job) -> Result<Outcome, WorkFault>
+    ensures looked { HasLooked W.act (W.device work.old) (W.device work.new) (device_failed result) }
+    ensures each { IfOk result (AreForPaths (out_paths job.now.recipe)) }
+
+    // So it is in the folder as it reads, where no running child owns what is looked at.
+    ensures told { IfOk result (λ o. WhereTold (W.device work.old) (λ w. AreUnowned w (out_paths job.now.recipe)
+        → (read : Items ℕ → Option RecordValue) → ReadsRecords read → AreOutcomes (seen read w) (out_paths job.now.recipe) o)) }
+{
+    let mut found = Outcome {
         entries: List::new(alloc),
         sights: List::new(alloc),
     };
     for item in job.recipe.outputs.as_slice() {
-        push_item(alloc, work, item, &mut seen)?;
+        push_item(alloc, work, item, &mut found)?;
     }
-    Ok(seen)
+    Ok(found)
 }

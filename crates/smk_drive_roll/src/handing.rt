@@ -1,5 +1,8 @@
 //! What is handed to a starter.
 
+ghost use Rattle.std.specs.Prelude.{◌≡◌, length, IfOk, IfSome};
+ghost use Rattle.smk_drive_roll.specs.Rolls.{IsHanded};
+
 use crate::outlook::Outlook;
 use crate::roll::{Roll, Seat};
 use smk_base::{Copied, List, OutOfMemory};
@@ -92,6 +95,7 @@ fn befores_of(
 }
 
 // How the job is handed over.
+#[derive(Drop)]
 enum Place {
     // With these before it, and it may end well.
     Chance(List<u32>),
@@ -222,7 +226,10 @@ pub fn hand(
     outlooks: &[Outlook],
     old: &Roll,
     idle: bool,
-) -> Result<Option<Handing>, OutOfMemory> {
+) -> Result<Option<Handing>, OutOfMemory>
+    requires each { length outlooks.now ≡ length jobs.now }
+    ensures { IfOk result (λ found. IfSome found (IsHanded jobs.now outlooks.now old.now idle)) }
+{
     let mut making = Making::begun(alloc, old)?;
     for (place, (job, outlook)) in jobs.iter().zip(outlooks.iter()).enumerate() {
         if !making.hand_over(alloc, old, idle, place as u32, job, outlook)? {

@@ -4,9 +4,9 @@
 mod handing;
 mod outlook;
 mod roll;
-mod spent;
+mod spending;
 
 pub use handing::{Handing, hand};
 pub use outlook::{Outlook, outlooks};
 pub use roll::{Roll, Seat};
-pub use spent::spent;
+pub use spending::spent;

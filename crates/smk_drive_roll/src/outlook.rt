@@ -1,5 +1,9 @@
 //! How jobs stand with what they need.
 
+ghost use Rattle.std.specs.Prelude.{◌≡◌, not, length, IfOk};
+ghost use Rattle.smk_plan_states.specs.Judged.{Judging};
+ghost use Rattle.smk_drive_roll.specs.Rolls.{AreOutlooks, AreToldOf, is_ahead, is_waiting, may_begin, plan_of};
+
 use smk_base::{List, OutOfMemory, PathText};
 use smk_chain::{Jobs, Maker};
 use smk_flow::Job;
@@ -24,17 +28,23 @@ pub struct Outlook {
 
 impl Outlook {
     /// Whether it is to run, and hasn't begun.
-    pub fn is_ahead(&self) -> bool {
+    pub fn is_ahead(&self) -> bool
+        ensures { result ≡ is_ahead self.now }
+    {
         self.to_run && self.phase == Phase::Waiting
     }
 
     /// Whether it has begun.
-    pub fn has_begun(&self) -> bool {
+    pub fn has_begun(&self) -> bool
+        ensures { result ≡ not (is_waiting self.now.phase) }
+    {
         self.phase != Phase::Waiting
     }
 
     /// Whether it may begin, as far as what it needs goes.
-    pub fn is_startable(&self) -> bool {
+    pub fn is_startable(&self) -> bool
+        ensures { result ≡ may_begin self.now }
+    {
         self.is_ahead() && self.lacks.is_empty()
     }
 }
@@ -52,6 +62,7 @@ fn places_of<'j>(alloc: Global, makers: &'j [Maker]) -> Result<Places<'j>, OutOf
 }
 
 // What the makers tell, with the states of the jobs and what is whole.
+#[derive(Drop)]
 struct Ground<'j> {
     makers: &'j [Maker],
     places: Places<'j>,
@@ -135,7 +146,10 @@ pub fn outlooks(
     alloc: Global,
     live: &LivePlan,
     wholes: &Wholes,
-) -> Result<List<Outlook>, OutOfMemory> {
+) -> Result<List<Outlook>, OutOfMemory>
+    ensures each { IfOk result (λ found. length found ≡ length live.now.base.jobs.jobs) }
+    ensures told { IfOk result (λ found. (at : Judging) → AreToldOf at live.now wholes.now → AreOutlooks at (plan_of live.now) found) }
+{
     let jobs: &Jobs = live.jobs();
     let ground = Ground {
         makers: jobs.makers.as_slice(),

@@ -1,5 +1,12 @@
 //! The jobs that a starter has.
 
+ghost use Rattle.std.specs.Prelude.{◌≡◌, [], ◌∷◌, None, false, length, zip, IfOk};
+ghost use Rattle.std.specs.List.{slice_get};
+ghost use Rattle.std.specs.Option.{option_and_then};
+ghost use Rattle.std.specs.BTreeMap.{get_by_text};
+ghost use Rattle.smk_plan.specs.States.{job_path};
+ghost use Rattle.smk_drive_roll.specs.Rolls as spec;
+
 use crate::outlook::Outlook;
 use smk_base::{List, OutOfMemory};
 use smk_flow::Job;
@@ -47,7 +54,9 @@ impl Roll {
     }
 
     /// How many entries there are.
-    pub fn len(&self) -> usize {
+    pub fn len(&self) -> usize
+        ensures { result ≡ length self.now.seats.items }
+    {
         self.seats.len()
     }
 
@@ -65,7 +74,9 @@ impl Roll {
     }
 
     /// The place in the plan of the job with this number.
-    pub fn job_of(&self, number: u32) -> Option<u32> {
+    pub fn job_of(&self, number: u32) -> Option<u32>
+        ensures { result ≡ option_and_then (λ s. s.job) (slice_get self.now.seats.items number) }
+    {
         match self.seats.get(number as usize) {
             Some(seat) => seat.job,
             None => None,
@@ -73,7 +84,9 @@ impl Roll {
     }
 
     /// The number of the job. None where the starter doesn't have it.
-    pub fn number_of(&self, job: &Job) -> Option<u32> {
+    pub fn number_of(&self, job: &Job) -> Option<u32>
+        ensures { result ≡ get_by_text self.now.numbers (job_path job.now) }
+    {
         self.numbers.get(name_of(job)).copied()
     }
 
@@ -85,7 +98,9 @@ impl Roll {
     }
 
     /// Whether the job with this number has ended well.
-    pub fn is_done(&self, number: u32) -> bool {
+    pub fn is_done(&self, number: u32) -> bool
+        ensures { result ≡ spec.is_done_seat (slice_get self.now.seats.items number) }
+    {
         match self.seats.get(number as usize) {
             Some(seat) => seat.done,
             None => false,
@@ -103,7 +118,9 @@ impl Roll {
     }
 
     // Whether the starter has the job, and all that come before it have ended well.
-    fn is_ready(&self, job: &Job) -> bool {
+    fn is_ready(&self, job: &Job) -> bool
+        ensures { result ≡ spec.is_ready self.now job.now }
+    {
         let Some(number) = self.number_of(job) else {
             return false;
         };
@@ -114,12 +131,16 @@ impl Roll {
     }
 
     // Whether the starter takes the job, unless it has begun, for one that may begin just where the plan does.
-    fn agrees_on(&self, job: &Job, outlook: &Outlook) -> bool {
+    fn agrees_on(&self, job: &Job, outlook: &Outlook) -> bool
+        ensures { result ≡ spec.agrees_on self.now (job.now, outlook.now) }
+    {
         outlook.has_begun() || self.is_ready(job) == outlook.is_startable()
     }
 
     /// Whether the starter takes each job that hasn't begun for one that may begin just where the plan does.
-    pub fn agrees(&self, jobs: &[Job], outlooks: &[Outlook]) -> bool {
+    pub fn agrees(&self, jobs: &[Job], outlooks: &[Outlook]) -> bool
+        ensures { result ≡ spec.agrees self.now jobs.now outlooks.now }
+    {
         for (job, outlook) in jobs.iter().zip(outlooks.iter()) {
             if !self.agrees_on(job, outlook) {
                 return false;

@@ -1,18 +1,16 @@
-//! The steps of a run: a job begins, a child is waited for and its job closed, spent outputs are removed; and what is reported of it.
+//! Parts of a run's steps: the children that run and how their jobs are closed, the lines that are put, and the faults by which no job begins any more.
 #![tactic(auto)]
 
-mod beginning;
 mod children;
 mod closing;
 mod faults;
 mod lines;
-mod naming;
+mod stamps;
 mod stop;
 
-pub use beginning::{Begin, begin_job, stamps_of};
 pub use children::{Child, Children};
-pub use closing::{close_job, protect, remove_spent};
-pub use faults::failure;
+pub use closing::close_job;
+pub use faults::{begin_fault, failure, keep_fault, work_fault};
 pub use lines::{Lines, done_line, failed_line, start_line};
-pub use naming::{Named, named};
+pub use stamps::stamps_of;
 pub use stop::Stop;

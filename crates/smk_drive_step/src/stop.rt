@@ -1,40 +1,53 @@
 //! Why a run begins no more jobs.
 
+ghost use Rattle.std.specs.Prelude.{◌≡◌, None, false, is_none, not};
+ghost use Rattle.smk_drive_step.specs.Crews.{is_device, stopped_by};
+
 use smk_report::Fault;
 
-/// Why a run begins no more jobs, and what it still does.
+/// The first fault that came, if any: no job begins after it. After one of the device children are waited for, and nothing else is done.
 #[derive(Debug, Drop)]
 pub struct Stop {
-    fault: Option<Fault>,
-    only_waits: bool,
+    pub(crate) fault: Option<Fault>,
+    pub(crate) only_waits: bool,
 }
 
 // Whether it is a fault of the device.
-fn is_device(fault: &Fault) -> bool {
+fn is_device(fault: &Fault) -> bool
+    ensures { result ≡ is_device fault.now }
+{
     matches!(fault, Fault::Device)
 }
 
 impl Stop {
-    /// Jobs are begun.
-    pub fn none() -> Stop {
+    /// No fault came.
+    pub fn none() -> Stop
+        ensures { (result.fault ≡ None) × (result.only_waits ≡ false) }
+    {
         Stop {
             fault: None,
             only_waits: false,
         }
     }
 
-    /// Whether jobs are begun.
-    pub fn is_none(&self) -> bool {
+    /// Whether no fault came.
+    pub fn is_none(&self) -> bool
+        ensures { result ≡ is_none self.now.fault }
+    {
         self.fault.is_none()
     }
 
     /// Whether children are waited for, and nothing else is done.
-    pub fn only_waits(&self) -> bool {
+    pub fn only_waits(&self) -> bool
+        ensures { result ≡ self.now.only_waits }
+    {
         self.only_waits
     }
 
-    /// This fault came. The first one counts.
-    pub fn set(&mut self, fault: Fault) {
+    /// This fault came, too.
+    pub fn set(&mut self, fault: Fault)
+        ensures { self.new ≡ stopped_by fault self.old }
+    {
         self.only_waits = self.only_waits || is_device(&fault);
         if self.fault.is_none() {
             self.fault = Some(fault);
@@ -42,7 +55,9 @@ impl Stop {
     }
 
     /// The first fault.
-    pub fn into_fault(self) -> Option<Fault> {
+    pub fn into_fault(self) -> Option<Fault>
+        ensures { result ≡ self.fault }
+    {
         self.fault
     }
 }

@@ -1,5 +1,12 @@
 //! Temporary outputs that aren't needed any more.
 
+ghost use Rattle.std.specs.Prelude.{◌≡◌, IfOk};
+ghost use Rattle.smk_world.specs.Trees.{Path, among};
+ghost use Rattle.smk_plan_states.specs.Judged.{Judging};
+ghost use Rattle.smk_plan.specs.declared.wholes.Wholes.{Wholes};
+ghost use Rattle.smk_plan_live.specs.Lives.{IsLive};
+ghost use Rattle.smk_drive_roll.specs.Rolls.{AreToldOf, is_ripe};
+
 use smk_base::{List, OutOfMemory, PathText};
 use smk_chain::sets::{put, set_of};
 use smk_chain::{Jobs, Maker};
@@ -197,7 +204,11 @@ pub fn spent(
     alloc: Global,
     live: &LivePlan,
     targets: &List<PathText>,
-) -> Result<List<PathText>, OutOfMemory> {
+) -> Result<List<PathText>, OutOfMemory>
+    requires live { IsLive live.now }
+    requires targets { targets.now ≡ live.now.settings.targets }
+    ensures { IfOk result (λ found. (at : Judging) (wholes : Wholes) → AreToldOf at live.now wholes → (p : Path) → among found p ≡ is_ripe at live.now p) }
+{
     let jobs = live.jobs();
     let states = live.as_plan().states.as_slice();
     if !any_temporary(jobs.jobs.as_slice()) || !are_done_with(states) || live.holds_back() {
