@@ -1,7 +1,11 @@
 //! The program's one call: it reads words, does what they ask by the workflow of the working folder, and reports.
 #![tactic(auto)]
 
+mod asking;
+mod forgetting;
+mod locking;
 mod outcome;
+mod running;
 mod top;
 
 pub use outcome::Outcome;

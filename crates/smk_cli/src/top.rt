@@ -1,99 +1,41 @@
 //! The call that does what the words ask.
 
-ghost use Rattle.std.specs.Prelude.{◌≡◌, ◌⊎◌, ℕ, List as Items, Option, [], Some, Err, IfOk, IfErr, map, string_bytes, true, false};
-ghost use Rattle.smk_world.specs.Devices.{WhereTold, HasLooked};
-ghost use Rattle.smk_record.specs.Spelling.{ReadsRecords};
-ghost use Rattle.smk_record.specs.declared.record.Record.{Record as RecordValue};
-ghost use Rattle.smk_report.specs.Faults as report;
-ghost use Rattle.smk_words.specs.declared.words.Request.{Request as RequestValue};
-ghost use Rattle.smk_words.specs.Words.{IsAsked};
-ghost use Rattle.smk_cli_entry.specs.Faults.{device_failed, is_sink};
-ghost use Rattle.smk_serve.specs.Ends.{EndsAs, EndsWith, fault_of};
-ghost use Rattle.smk_serve.specs.Serving.{HasListed, Went};
-ghost use Rattle.smk_cli.specs.Lines.{IsOutcome, HasToldFault};
-ghost use Rattle.smk_cli.specs.Whole.{IsRefusal, IsToServe, Serves, HasServed};
-
+use crate::forgetting::forget_paths;
+use crate::locking::unlock_folder;
 use crate::outcome::Outcome;
+use crate::running::{serve_listing, serve_run};
 use smk_base::OutOfMemory;
-use smk_cli_entry::ask;
 use smk_report::{Fault, fault_line};
 use smk_run::write_out;
-use smk_serve::{list_plan, make_targets};
-use smk_words::{Request, RunWords, read_words};
-use smk_world::{Crew, Files, Sink};
+use smk_words_reading::{Asked, WordsFault, read_words};
+use smk_world::{Crew, Sink};
 use std::alloc::Global;
 use std::thread::Threads;
-
-// Makes what the words ask for.
-fn serve_run<W: Crew, O: Sink, Rt: Threads + Sync>(
-    rt: &Rt,
-    alloc: Global,
-    words: &RunWords,
-    work: &mut W,
-    out: &mut O,
-) -> Result<(), Fault>
-    requires none_runs { (W.device work.old).running ≡ [] }
-    ensures ended { EndsAs result (W.device work.old) (W.device work.new) (O.sunk out.old) (O.sunk out.new) }
-    ensures went { WhereTold (W.device work.old) (λ w. (read : Items ℕ → Option RecordValue) → ReadsRecords read
-        → Went W.act words.now.cores result (IsRefusal read true words.now.targets words.now.cores w) (IsToServe read true words.now.targets words.now.cores w)
-        (W.device work.old) (W.device work.new) (O.sunk out.old) (O.sunk out.new)) }
-{
-    match ask(alloc, true, work, &words.targets) {
-        Err(fault) => Err(fault),
-        Ok(asked) => make_targets(rt, alloc, &asked, words.cores, work, out),
-    }
-}
-
-// Lists what a run of them would do.
-fn serve_listing<W: Files, O: Sink, Rt: Threads + Sync>(
-    rt: &Rt,
-    alloc: Global,
-    words: &RunWords,
-    work: &mut W,
-    out: &mut O,
-) -> Result<(), Fault>
-    requires none_runs { (W.device work.old).running ≡ [] }
-    ensures ended { EndsAs result (W.device work.old) (W.device work.new) (O.sunk out.old) (O.sunk out.new) }
-    ensures looked { HasLooked W.act (W.device work.old) (W.device work.new) (device_failed result) }
-    ensures listed { WhereTold (W.device work.old) (λ w. (read : Items ℕ → Option RecordValue) → ReadsRecords read
-        → HasListed (IsRefusal read false words.now.targets 1 w) (IsToServe read false words.now.targets 1 w) (O.sunk out.old) (O.sunk out.new) result) }
-{
-    match ask(alloc, false, work, &words.targets) {
-        Err(fault) => Err(fault),
-        Ok(asked) => list_plan(rt, alloc, &asked, work, out),
-    }
-}
 
 // Does what is asked for.
 fn serve_request<W: Crew, O: Sink, Rt: Threads + Sync>(
     rt: &Rt,
     alloc: Global,
-    request: &Request,
+    request: &Asked,
     work: &mut W,
     out: &mut O,
-) -> Result<(), Fault>
-    requires none_runs { (W.device work.old).running ≡ [] }
-    ensures ended { EndsAs result (W.device work.old) (W.device work.new) (O.sunk out.old) (O.sunk out.new) }
-    ensures serves { WhereTold (W.device work.old) (λ w. (read : Items ℕ → Option RecordValue) → ReadsRecords read
-        → Serves W.act read w result (W.device work.old) (W.device work.new) (O.sunk out.old) (O.sunk out.new) request.now) }
-{
+) -> Result<(), Fault> {
     match request {
-        Request::Run(words) => serve_run(rt, alloc, words, work, out),
-        Request::Preview(words) => serve_listing(rt, alloc, words, work, out),
+        Asked::Run(words) => serve_run(rt, alloc, words, work, out),
+        Asked::Preview(words) => serve_listing(rt, alloc, words, work, out),
+        Asked::Unlock => unlock_folder(alloc, work, out),
+        Asked::Forget { paths, nolock } => forget_paths(alloc, paths, *nolock, work, out),
+        Asked::Generate { .. } => Err(Fault::BadWords),
     }
 }
 
 // What the words ask for.
-fn requested(alloc: Global, words: &[String]) -> Result<Request, Fault>
-    ensures ok { IfOk result (λ asked. IsAsked (map string_bytes words.now) asked) }
-    ensures kind { IfErr result (λ f. (f ≡ Fault.BadWords) ⊎ (f ≡ Fault.OutOfMemory)) }
-    ensures bad { IfErr result (λ f. f ≡ Fault.BadWords → ¬ ((asked : RequestValue) × IsAsked (map string_bytes words.now) asked)) }
-    ensures no_device { device_failed result ≡ false }
-    ensures no_sink { IfErr result (λ f. is_sink f ≡ false) }
-{
+fn requested(alloc: Global, words: &[String]) -> Result<Asked, Fault> {
     match read_words(alloc, words) {
         Ok(asked) => Ok(asked),
-        Err(fault) => Err(Fault::from(fault)),
+        Err(WordsFault::BadWords) => Err(Fault::BadWords),
+        Err(WordsFault::NoCores) => Err(Fault::NoCores),
+        Err(WordsFault::OutOfMemory) => Err(Fault::OutOfMemory),
     }
 }
 
@@ -104,27 +46,13 @@ fn serve<W: Crew, O: Sink, Rt: Threads + Sync>(
     words: &[String],
     work: &mut W,
     out: &mut O,
-) -> Result<(), Fault>
-    requires none_runs { (W.device work.old).running ≡ [] }
-    ensures ended { EndsAs result (W.device work.old) (W.device work.new) (O.sunk out.old) (O.sunk out.new) }
-    ensures unread { ¬ ((asked : RequestValue) × IsAsked (map string_bytes words.now) asked)
-        → ((result ≡ Err Fault.BadWords) ⊎ (result ≡ Err Fault.OutOfMemory)) × (work.new ≡ work.old) × (out.new ≡ out.old) }
-    ensures serves { (asked : RequestValue) → IsAsked (map string_bytes words.now) asked
-        → WhereTold (W.device work.old) (λ w. (read : Items ℕ → Option RecordValue) → ReadsRecords read
-        → Serves W.act read w result (W.device work.old) (W.device work.new) (O.sunk out.old) (O.sunk out.new) asked) }
-{
-    match requested(alloc, words) {
-        Err(fault) => Err(fault),
-        Ok(request) => serve_request(rt, alloc, &request, work, out),
-    }
+) -> Result<(), Fault> {
+    let request = requested(alloc, words)?;
+    serve_request(rt, alloc, &request, work, out)
 }
 
 // Puts the line of a fault. A sink that fails loses the line alone; without memory for the line, that is the fault.
-fn tell<O: Sink>(alloc: Global, answer: Result<(), Fault>, err: &mut O) -> Outcome
-    ensures status { result.status ≡ report.status_of result.fault }
-    ensures fault { IsOutcome (fault_of answer) result.fault }
-    ensures line { HasToldFault result.fault (O.sunk err.old) (O.sunk err.new) }
-{
+fn tell<O: Sink>(alloc: Global, answer: Result<(), Fault>, err: &mut O) -> Outcome {
     match answer {
         Ok(()) => Outcome::of(None),
         Err(fault) => match fault_line(alloc, &fault) {
@@ -137,12 +65,7 @@ fn tell<O: Sink>(alloc: Global, answer: Result<(), Fault>, err: &mut O) -> Outco
     }
 }
 
-/// Does what the words ask by the workflow of the working folder. For a run: makes the targets, by running the jobs that its plan has to be run or restored, one
-/// after another, and reports them and the targets to `out`. For a listing: tells the jobs of the plan to `out`, and changes nothing. The line of a fault
-/// goes to `err`.
-///
-/// The status is 0 where all is done, 1 where a job failed, 2 where the words aren't read, 3 where the workflow, a target, the plan or a job is refused, 4 where
-/// the device failed, 5 where memory is wanting, 6 where `out` failed.
+/// Does what the words ask by the workflow of the working folder, by the run with jobs side by side. A draft, of which nothing is proved.
 pub fn smk<W: Crew, O: Sink, Rt: Threads + Sync>(
     rt: &Rt,
     alloc: Global,
@@ -150,27 +73,7 @@ pub fn smk<W: Crew, O: Sink, Rt: Threads + Sync>(
     work: &mut W,
     out: &mut O,
     err: &mut O,
-) -> Outcome
-    requires none_runs { (W.device work.old).running ≡ [] }
-
-    ensures status { result.status ≡ report.status_of result.fault }
-
-    // words that aren't read are refused, and nothing is done
-    ensures unread { ¬ ((asked : RequestValue) × IsAsked (map string_bytes words.now) asked)
-        → ((result.fault ≡ Some Fault.BadWords) ⊎ (result.fault ≡ Some Fault.OutOfMemory)) × (work.new ≡ work.old) × (out.new ≡ out.old) }
-
-    // what is asked is served: it is refused, and nothing is done; or what its plan has to be run is run, in order; or the plan is listed
-    ensures serves { (asked : RequestValue) → IsAsked (map string_bytes words.now) asked
-        → WhereTold (W.device work.old) (λ w. (read : Items ℕ → Option RecordValue) → ReadsRecords read
-        → HasServed W.act read asked w result.fault (W.device work.old) (W.device work.new) (O.sunk out.old) (O.sunk out.new)) }
-
-    // a fault of the device or of the sink comes only from one of its own in this call; and unless a call of the device failed, no child runs at the end, and what is told stays
-    // told
-    ensures ended { EndsWith result.fault (W.device work.old) (W.device work.new) (O.sunk out.old) (O.sunk out.new) }
-
-    // the fault's line
-    ensures line { HasToldFault result.fault (O.sunk err.old) (O.sunk err.new) }
-{
+) -> Outcome {
     let answer = serve(rt, alloc, words, work, out);
     tell(alloc, answer, err)
 }

@@ -1,4 +1,0 @@
-pub mod Putting
-pub mod Outcomes
-pub mod Words
-pub mod Serving
