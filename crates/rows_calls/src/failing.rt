@@ -3,7 +3,7 @@
 use crate::left::{Left, what_is_left, words_of};
 use crate::runs::{COPY, HALF, answer};
 use crate::trial::{Trial, call_by, set_up};
-use crate::trouble::{Trouble, push_row};
+use rows_lines::{Trouble, push_case};
 use std::alloc::{AllocError, Global};
 use std::thread::Threads;
 
@@ -116,11 +116,11 @@ pub fn push_rows<Rt: Threads + Sync>(
         ("a copy of which a call fails", COPY),
         ("a command that fails, of which a call fails", HALF),
     ] {
-        push_row(text, name, &told(rt, alloc, workflow))?;
+        push_case(text, name, &told(rt, alloc, workflow))?;
     }
     for number in 1..4u64 {
         let name = format!(in alloc; "a copy whose output fails at call {number}")?;
-        push_row(text, name.as_str(), &end_without_sink(rt, alloc, number))?;
+        push_case(text, name.as_str(), &end_without_sink(rt, alloc, number))?;
     }
     Ok(())
 }

@@ -2,7 +2,7 @@
 
 use crate::runs::COPY;
 use crate::trial::{Trial, call, call_by, set_up};
-use crate::trouble::{Trouble, push_row};
+use rows_lines::{Trouble, push_case};
 use std::alloc::{AllocError, Global};
 use std::thread::Threads;
 
@@ -46,5 +46,5 @@ pub fn push_rows<Rt: Threads + Sync>(
     alloc: Global,
     text: &mut String,
 ) -> Result<(), AllocError> {
-    push_row(text, "a copy, and 99 calls after it", &told(rt, alloc))
+    push_case(text, "a copy, and 99 calls after it", &told(rt, alloc))
 }

@@ -1,6 +1,6 @@
 //! What is left of the job of `out.txt`.
 
-use crate::trouble::Trouble;
+use rows_lines::Trouble;
 use smk_base::{PathText, Place};
 use smk_world::{Files, Found};
 use smk_world_mem::MemWork;

@@ -6,7 +6,6 @@ mod later;
 mod left;
 mod runs;
 mod trial;
-mod trouble;
 
 use std::alloc::{AllocError, Global};
 use std::io;

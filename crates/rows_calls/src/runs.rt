@@ -2,7 +2,7 @@
 
 use crate::left::{what_is_left, words_of};
 use crate::trial::{Trial, call_by, set_up};
-use crate::trouble::{Trouble, push_row};
+use rows_lines::{Trouble, push_case};
 use std::alloc::{AllocError, Global};
 use std::str;
 use std::thread::Threads;
@@ -97,7 +97,7 @@ pub fn push_rows<Rt: Threads + Sync>(
         ("words that aren't read", COPY, "-x"),
         ("a listing", COPY, "-n"),
     ] {
-        push_row(text, name, &told(rt, alloc, workflow, target))?;
+        push_case(text, name, &told(rt, alloc, workflow, target))?;
     }
     Ok(())
 }

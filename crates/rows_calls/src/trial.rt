@@ -3,7 +3,7 @@
 ghost use Rattle.std.specs.Prelude.{◌≡◌, [], IfOk};
 ghost use Rattle.smk_world_mem.specs.Work.{running_in};
 
-use crate::trouble::Trouble;
+use rows_lines::Trouble;
 use smk_base::{List, OutOfMemory, PathText, one};
 use smk_cli::smk;
 use smk_world_mem::{MemSink, MemWork, Setup};

@@ -2,7 +2,7 @@
 
 use crate::jobs::{abandoned, begun, finished, record_of, workspace};
 use crate::seen::{line, push_seen};
-use crate::trouble::{Trouble, push_row};
+use rows_lines::{Trouble, push_case};
 use smk_base::{List, PathText, Place};
 use smk_job::{CloseFault, Going};
 use smk_world::{Failed, Files, Kind};
@@ -225,18 +225,18 @@ pub fn push_rows(alloc: Global, text: &mut String) -> Result<(), AllocError> {
         ),
         ("a name of 997 bytes", Kind::Folder, Made::Deep(997)),
     ] {
-        push_row(
+        push_case(
             text,
             name,
             &told_of_finish(alloc, List::new(alloc), kind, made),
         )?;
     }
-    push_row(
+    push_case(
         text,
         "a file that is abandoned",
         &told_of_abandon(alloc, Kind::Plain, Made::File),
     )?;
-    push_row(
+    push_case(
         text,
         "a directory that is abandoned",
         &told_of_abandon(alloc, Kind::Folder, Made::Folder(&["a/b"])),

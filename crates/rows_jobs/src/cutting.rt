@@ -2,7 +2,7 @@
 
 use crate::closing::{Made, close, going, told_of_finish};
 use crate::jobs::workspace;
-use crate::trouble::{Trouble, push_row};
+use rows_lines::{Trouble, push_case};
 use smk_base::{List, PathText, one};
 use smk_world::Kind;
 use smk_world_mem::MemWork;
@@ -36,7 +36,7 @@ pub fn push_rows(alloc: Global, text: &mut String) -> Result<(), AllocError> {
     };
     for number in begun..done {
         let name = format!(in alloc; "call {} of the end", number - begun + 1)?;
-        push_row(text, name.as_str(), &told(alloc, number + 1))?;
+        push_case(text, name.as_str(), &told(alloc, number + 1))?;
     }
     Ok(())
 }

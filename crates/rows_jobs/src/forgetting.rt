@@ -3,7 +3,7 @@
 use crate::closing::{self, Made, close};
 use crate::jobs::{begun, forgotten, record_of, workspace};
 use crate::seen::line;
-use crate::trouble::{Trouble, push_row};
+use rows_lines::{Trouble, push_case};
 use smk_base::{List, OutOfMemory, PathText, Text, one};
 use smk_job::Going;
 use smk_record::Stamp;
@@ -167,7 +167,7 @@ pub fn push_rows(alloc: Global, text: &mut String) -> Result<(), AllocError> {
         ("forget an input of nothing", Before::Forgotten, "d/in"),
         ("forget an output again", Before::Forgotten, "out"),
     ] {
-        push_row(text, name, &row(alloc, before, path))?;
+        push_case(text, name, &row(alloc, before, path))?;
     }
     Ok(())
 }

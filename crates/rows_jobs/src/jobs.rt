@@ -5,7 +5,7 @@ ghost use Rattle.smk_world.specs.World.{out_paths};
 ghost use Rattle.smk_world_mem.specs.Work.{IsAtRest, running_in, world_in};
 ghost use Rattle.rows_jobs.specs.Bare.{IsBare};
 
-use crate::trouble::Trouble;
+use rows_lines::Trouble;
 use smk_base::{Copied, List, OutOfMemory, PathText, Text, one};
 use smk_flow::Job;
 use smk_job::{CloseFault, Going, abandon, begin, finish};

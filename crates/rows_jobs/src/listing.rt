@@ -1,7 +1,7 @@
 //! Folders that the workspace in memory lists.
 
 use crate::jobs::workspace;
-use crate::trouble::{Trouble, push_row};
+use rows_lines::{Trouble, push_case};
 use smk_base::{List, PathText, Place};
 use smk_world::{Files, Listing, Name};
 use smk_world_mem::MemWork;
@@ -72,7 +72,7 @@ pub fn push_rows(alloc: Global, text: &mut String) -> Result<(), AllocError> {
         ("a folder that is listed", "a"),
         ("a file that is listed", "a.txt"),
     ] {
-        push_row(text, name, &told(alloc, path))?;
+        push_case(text, name, &told(alloc, path))?;
     }
     Ok(())
 }

@@ -1,6 +1,6 @@
 //! What stands in the workspace.
 
-use crate::trouble::Trouble;
+use rows_lines::Trouble;
 use smk_base::{PathText, Place};
 use smk_record::Member;
 use smk_store::{Entry, Kept, load};

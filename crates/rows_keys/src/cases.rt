@@ -1,7 +1,7 @@
 //! The cases.
 
 use crate::trial::{Trial, forget, is_locked, lock, mark, set_up, take_twice, unlock};
-use crate::trouble::{Trouble, push_row};
+use rows_lines::{Trouble, push_case};
 use std::alloc::{AllocError, Global};
 
 // What is told: the answer, the lines that were put, and whether the lock stands then.
@@ -72,20 +72,20 @@ fn taking(alloc: Global) -> Result<String, Trouble> {
 
 /// Adds the rows of all cases.
 pub fn push_rows(alloc: Global, text: &mut String) -> Result<(), AllocError> {
-    push_row(text, "take twice", &taking(alloc))?;
-    push_row(text, "unlock", &unlocking(alloc, None))?;
-    push_row(text, "unlock, a put fails", &unlocking(alloc, Some(1)))?;
-    push_row(text, "forget", &forgetting(alloc, None, None))?;
-    push_row(
+    push_case(text, "take twice", &taking(alloc))?;
+    push_case(text, "unlock", &unlocking(alloc, None))?;
+    push_case(text, "unlock, a put fails", &unlocking(alloc, Some(1)))?;
+    push_case(text, "forget", &forgetting(alloc, None, None))?;
+    push_case(
         text,
         "forget, a call fails",
         &forgetting(alloc, Some(20), None),
     )?;
-    push_row(
+    push_case(
         text,
         "forget, a put fails",
         &forgetting(alloc, None, Some(3)),
     )?;
-    push_row(text, "forget under a lock", &under_lock(alloc, false))?;
-    push_row(text, "forget, no lock heeded", &under_lock(alloc, true))
+    push_case(text, "forget under a lock", &under_lock(alloc, false))?;
+    push_case(text, "forget, no lock heeded", &under_lock(alloc, true))
 }

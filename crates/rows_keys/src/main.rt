@@ -3,7 +3,6 @@
 
 mod cases;
 mod trial;
-mod trouble;
 
 use std::alloc::{AllocError, Global};
 use std::io;

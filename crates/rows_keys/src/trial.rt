@@ -3,7 +3,7 @@
 ghost use Rattle.std.specs.Prelude.{◌≡◌, []};
 ghost use Rattle.smk_world_mem.specs.Work.{running_in};
 
-use crate::trouble::Trouble;
+use rows_lines::Trouble;
 use smk_base::{List, OutOfMemory, PathText, Place, one};
 use smk_keep_forget::{ForgetFault, forget_paths};
 use smk_keep_lock::{Lock, UnlockFault, unlock_folder};

@@ -1,6 +1,6 @@
 //! The command of a job.
 
-use crate::row::{Trouble, push_row, push_title};
+use rows_lines::{Trouble, push_row, push_title};
 use smk_base::{List, PathText, Text, one};
 use smk_flow::Job;
 use smk_format::command;

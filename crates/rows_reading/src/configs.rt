@@ -1,6 +1,6 @@
 //! Configurations.
 
-use crate::row::{Trouble, push_row, push_title};
+use rows_lines::{Trouble, push_row, push_title};
 use smk_base::{List, OutOfMemory, Text};
 use smk_config::{Config, ConfigFault, Value};
 use std::alloc::{AllocError, Global};

@@ -1,6 +1,6 @@
 //! Patterns of `expand` with the values of their names.
 
-use crate::row::{Trouble, push_row, push_title};
+use rows_lines::{Trouble, push_row, push_title};
 use smk_base::{List, OutOfMemory, Text, one};
 use smk_eval_values::{Choices, ExpandFault, expand};
 use std::alloc::{AllocError, Global};

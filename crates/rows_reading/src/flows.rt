@@ -1,6 +1,6 @@
 //! A workflow of two rules.
 
-use crate::row::{Trouble, push_row, push_title};
+use rows_lines::{Trouble, push_row, push_title};
 use smk_base::{List, OutOfMemory, PathText, Text, one};
 use smk_flow::{FlaggedText, InPart, OutPart, RulePart, Workflow, targets};
 use std::alloc::{AllocError, Global};

@@ -1,15 +1,12 @@
 //! Workflows that are loaded from files in memory.
 
-use crate::parts::line_and_rest;
 use crate::shown_flow::workflow;
+use rows_lines::{FILE, line_and_rest};
 use smk_base::{List, OutOfMemory, Pair, PathText, Text};
 use smk_eval::{LoadFault, load};
 use smk_report::{Fault, fault_line};
 use smk_world_mem::{MemWork, Setup};
 use std::alloc::{AllocError, Global};
-
-/// Stands in front of each file.
-const FILE: u8 = 0x1d;
 
 /// The texts that are set: `KEY=VALUE`, with blanks between them, behind a `|`.
 fn sets_in(alloc: Global, line: &str) -> Result<List<Pair>, LoadFault> {

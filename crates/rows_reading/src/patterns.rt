@@ -1,6 +1,6 @@
 //! Patterns, and the paths that fit them.
 
-use crate::row::{Trouble, push_row, push_title};
+use rows_lines::{Trouble, push_row, push_title};
 use smk_base::{List, OutOfMemory, Pair, PathFault, PathText, Text};
 use smk_pattern::{Binding, Limits, Pattern, PatternFault, fits};
 use std::alloc::{AllocError, Global};

@@ -1,6 +1,6 @@
 //! Values, and what signs and calls make of them.
 
-use crate::row::{Trouble, push_row, push_title};
+use rows_lines::{Trouble, push_row, push_title};
 use smk_base::{List, Text, one};
 use smk_eval_values::{
     Choices, Scope, Value, ValueFault, choice_values, expansion, flag, list_items, patterns,

@@ -1,6 +1,6 @@
 //! Children of the real device that run side by side: each makes a file, and ends well once it sees the other's.
 
-use crate::trouble::{Trouble, push_row};
+use rows_lines::{Trouble, push_case};
 use smk_base::{List, PathText, Place, Text};
 use smk_world::{Crew, Ended, Files, Recipe, Stat};
 use smk_world_real::RealWork;
@@ -100,5 +100,5 @@ pub fn push_rows<R: FileSystem + Processes + Clock>(
     alloc: Global,
     text: &mut String,
 ) -> Result<(), AllocError> {
-    push_row(text, "two children side by side", &told(rt, alloc))
+    push_case(text, "two children side by side", &told(rt, alloc))
 }

@@ -1,6 +1,6 @@
 //! What the judge tells of jobs, of many at the same time.
 
-use crate::trouble::{Trouble, push_row};
+use rows_lines::{Trouble, push_case};
 use smk_base::{List, OutOfMemory, Text, one};
 use smk_store::Kept;
 use smk_trigger::{JobFacts, Judge, Reason, all_reasons, reasons};
@@ -136,6 +136,6 @@ pub fn push_rows<Rt: Threads + Sync>(
     alloc: Global,
     text: &mut String,
 ) -> Result<(), AllocError> {
-    push_row(text, "the reasons of a job", &told_of_one(alloc))?;
-    push_row(text, "4096 jobs judged at once", &told_of_many(rt, alloc))
+    push_case(text, "the reasons of a job", &told_of_one(alloc))?;
+    push_case(text, "4096 jobs judged at once", &told_of_many(rt, alloc))
 }

@@ -1,6 +1,6 @@
 //! Paths, and the places of what is kept of them.
 
-use crate::row::{Trouble, push_line, push_row, push_title};
+use rows_lines::{Trouble, push_line, push_row, push_title};
 use smk_base::{PathFault, PathText, Place};
 use std::alloc::{AllocError, Global};
 

@@ -1,6 +1,6 @@
 //! The standard streams as sinks.
 
-use crate::trouble::{Trouble, push_row};
+use rows_lines::{Trouble, push_case};
 use smk_world::Sink;
 use smk_world_real::RealSink;
 use std::alloc::{AllocError, Global};
@@ -26,7 +26,7 @@ fn told(alloc: Global, output: Stdout, errors: Stderr) -> Result<String, Trouble
 /// Writes a line to each stream; the line that tells how that went.
 pub fn rows(alloc: Global, output: Stdout, errors: Stderr) -> Result<String, AllocError> {
     let mut text = String::new(alloc);
-    push_row(
+    push_case(
         &mut text,
         "bytes to both streams",
         &told(alloc, output, errors),

@@ -1,6 +1,6 @@
 //! Texts and files that are printed from what was read.
 
-use crate::row::{Trouble, push_row, push_title};
+use rows_lines::{Trouble, push_row, push_title};
 use smk_base::Bytes;
 use smk_lex::lex;
 use smk_parse::parse;

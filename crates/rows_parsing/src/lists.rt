@@ -1,6 +1,6 @@
 //! Lists, boxes and copies.
 
-use crate::row::{Trouble, push_row, push_title};
+use rows_lines::{Trouble, push_row, push_title};
 use smk_base::{
     Amount, Boxed, Bytes, Copied, List, OutOfMemory, Pair, PathText, Place, Text, Tree, TreeEntry,
     one,

@@ -1,6 +1,6 @@
 //! What expressions and items are read as.
 
-use crate::row::{Trouble, push_row, push_title};
+use rows_lines::{Trouble, push_row, push_title};
 use smk_base::{List, Text};
 use smk_lex::lex;
 use smk_parse_expr::{Cursor, ParseFault, expr, items, name, number, symbols, text as text_in};

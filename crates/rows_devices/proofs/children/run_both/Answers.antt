@@ -1,5 +1,5 @@
 use Rattle.smk_world_real.proofs.Numbers.{second_runs}
-use Rattle.rows_jobs.proofs.children.run_both.Goals as goal
+use Rattle.rows_devices.proofs.children.run_both.Goals as goal
 
 pub wait-requires-2 : goal.wait-requires-2
 wait-requires-2 g c = record {

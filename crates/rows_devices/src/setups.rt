@@ -1,6 +1,6 @@
 //! Calls of the devices in memory that fail as they are set up.
 
-use crate::trouble::{Trouble, push_row};
+use rows_lines::{Trouble, push_case};
 use smk_base::{List, PathText, Place, one};
 use smk_world::{Failed, Files, Sink};
 use smk_world_mem::{MemSink, MemWork, Setup};
@@ -75,10 +75,10 @@ fn told_of_sink(alloc: Global) -> Result<String, Trouble> {
 
 /// Adds a line for each case.
 pub fn push_rows(alloc: Global, text: &mut String) -> Result<(), AllocError> {
-    push_row(
+    push_case(
         text,
         "a workspace whose call 2 fails, and all after call 3",
         &told_of_work(alloc),
     )?;
-    push_row(text, "a sink whose call 2 fails", &told_of_sink(alloc))
+    push_case(text, "a sink whose call 2 fails", &told_of_sink(alloc))
 }

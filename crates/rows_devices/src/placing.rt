@@ -1,6 +1,6 @@
 //! The places of a job.
 
-use crate::trouble::{Trouble, push_row};
+use rows_lines::{Trouble, push_case};
 use smk_base::{PathText, Place, one};
 use smk_store::JobPlaces;
 use std::alloc::{AllocError, Global};
@@ -31,5 +31,5 @@ fn told(alloc: Global) -> Result<String, Trouble> {
 
 /// Adds the line.
 pub fn push_rows(alloc: Global, text: &mut String) -> Result<(), AllocError> {
-    push_row(text, "a job with an output and a log", &told(alloc))
+    push_case(text, "a job with an output and a log", &told(alloc))
 }

@@ -1,6 +1,6 @@
 //! Records of which a byte was changed, and records that are cut short.
 
-use crate::trouble::{Trouble, push_row};
+use rows_lines::{Trouble, push_case};
 use smk_base::OutOfMemory;
 use smk_record::{read, write};
 use std::alloc::{AllocError, Global};
@@ -115,10 +115,10 @@ fn told_of_cut(alloc: Global) -> Result<String, Trouble> {
 
 /// Adds a line for each table.
 pub fn push_rows(alloc: Global, text: &mut String) -> Result<(), AllocError> {
-    push_row(
+    push_case(
         text,
         "a record with one byte changed",
         &told_of_changed(alloc),
     )?;
-    push_row(text, "a record cut short", &told_of_cut(alloc))
+    push_case(text, "a record cut short", &told_of_cut(alloc))
 }

@@ -1,7 +1,7 @@
 //! Bytes that read as a record, and bytes that are none.
 
 use crate::reading::{RECORD, Reading, what_reads};
-use crate::trouble::{Trouble, push_row};
+use rows_lines::{Trouble, push_case};
 use std::alloc::{AllocError, Global};
 
 const CLUSTERED: &str =
@@ -60,7 +60,7 @@ pub fn push_rows(alloc: Global, text: &mut String) -> Result<(), AllocError> {
             "SMK1\n1:d\n1\n0:\n0\n0\n0\n1\n0:\n1\nD1:d\n99999999\nF1:a\n".as_bytes(),
         ),
     ] {
-        push_row(text, name, &told(alloc, bytes))?;
+        push_case(text, name, &told(alloc, bytes))?;
     }
     Ok(())
 }

@@ -1,6 +1,6 @@
 //! Which jobs are started in the room.
 
-use crate::trouble::{Trouble, push_row};
+use rows_lines::{Trouble, push_case};
 use smk_base::{List, OutOfMemory};
 use smk_pick::{Ask, Room, pick};
 use std::alloc::{AllocError, Global};
@@ -48,7 +48,7 @@ fn told(alloc: Global) -> Result<String, Trouble> {
 
 /// Adds the line.
 pub fn push_rows(alloc: Global, text: &mut String) -> Result<(), AllocError> {
-    push_row(
+    push_case(
         text,
         "the greater priority first, and what fits",
         &told(alloc),

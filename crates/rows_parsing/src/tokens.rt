@@ -1,6 +1,6 @@
 //! What sources are cut into.
 
-use crate::row::{Trouble, push_row, push_title};
+use rows_lines::{Trouble, push_row, push_title};
 use smk_lex::{Token, TokenKind, lex};
 use smk_parse_expr::{Cursor, symbols, text as text_in};
 use std::alloc::{AllocError, Global};

@@ -1,10 +1,13 @@
 //! Why a case tells nothing.
 
 use smk_base::{OutOfMemory, PathFault};
-use smk_world::WorkFault;
+use smk_eval_values::ValueFault;
+use smk_parse_expr::ParseFault;
+use smk_store::StoreFault;
+use smk_world::{Failed, WorkFault};
 use std::alloc::{AllocError, AllocFailed};
 
-/// Why a case tells nothing.
+/// Why a case tells nothing, which each is to do.
 #[derive(Clone, Copy)]
 pub enum Trouble {
     OutOfMemory,
@@ -12,6 +15,14 @@ pub enum Trouble {
     Device,
     /// A text is no path.
     BadPath,
+    /// A source doesn't read.
+    NoSyntax,
+    /// An expression has no value.
+    NoValue,
+    /// The parts make no valid record.
+    NoRecord,
+    /// The job didn't begin.
+    NotBegun,
     /// A child runs still.
     Running,
 }
@@ -34,6 +45,12 @@ impl From<AllocFailed<String>> for Trouble {
     }
 }
 
+impl From<Failed> for Trouble {
+    fn from(_: Failed) -> Self {
+        Trouble::Device
+    }
+}
+
 impl From<WorkFault> for Trouble {
     fn from(fault: WorkFault) -> Self {
         match fault {
@@ -52,24 +69,37 @@ impl From<PathFault> for Trouble {
     }
 }
 
-// Its name.
-fn word(trouble: Trouble) -> &'static str {
+impl From<ParseFault> for Trouble {
+    fn from(_: ParseFault) -> Self {
+        Trouble::NoSyntax
+    }
+}
+
+impl From<ValueFault> for Trouble {
+    fn from(_: ValueFault) -> Self {
+        Trouble::NoValue
+    }
+}
+
+impl From<StoreFault> for Trouble {
+    fn from(fault: StoreFault) -> Self {
+        match fault {
+            StoreFault::OutOfMemory => Trouble::OutOfMemory,
+            StoreFault::StampSeen(_) | StoreFault::Device => Trouble::Device,
+        }
+    }
+}
+
+/// Its name.
+pub(crate) fn word(trouble: Trouble) -> &'static str {
     match trouble {
         Trouble::OutOfMemory => "out of memory",
         Trouble::Device => "device",
         Trouble::BadPath => "no path",
+        Trouble::NoSyntax => "no syntax",
+        Trouble::NoValue => "no value",
+        Trouble::NoRecord => "no record",
+        Trouble::NotBegun => "not begun",
         Trouble::Running => "a child runs",
-    }
-}
-
-/// Adds the line of the case with this name.
-pub fn push_row(
-    text: &mut String,
-    name: &str,
-    told: &Result<String, Trouble>,
-) -> Result<(), AllocError> {
-    match told {
-        Ok(line) => writeln!(text, "{name}: {line}"),
-        Err(trouble) => writeln!(text, "{name}: {}", word(*trouble)),
     }
 }
