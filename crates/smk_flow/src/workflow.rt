@@ -1,20 +1,20 @@
 //! Checked workflows.
 
-ghost use Rattle.std.specs.Prelude.{◌≡◌, ◌≢◌, ◌<◌, length, map, reverse, IfOk, IfErr, OnOk};
+ghost use Rattle.std.specs.Prelude.{◌≡◌, ◌≢◌, ◌<◌, [], length, map, reverse, IfOk, IfErr, OnOk};
 ghost use Rattle.smk_flow.specs.declared.fault.FlowFault.{FlowFault};
-ghost use Rattle.smk_flow.specs.Checks.{IsWorkflow, IsFault};
+ghost use Rattle.smk_flow.specs.Checks.{AllPass, IsWorkflow, IsFault};
 ghost use Rattle.smk_flow.specs.Flows.{number_of};
-ghost use Rattle.smk_flow.specs.Numbers.{AreNumbers};
+ghost use Rattle.smk_flow.specs.Numbers.{AreNames, parts_of};
 ghost use Rattle.smk_flow.specs.PatternsOf.{patterns_of, rule_of};
 
 use crate::checks::check;
 use crate::fault::FlowFault;
 use crate::reading::Patterns;
 use crate::{Clause, RulePart};
+use indexmap::IndexSet;
 use smk_base::{List, OutOfMemory};
 use smk_pattern::Pattern;
 use std::alloc::Global;
-use std::collections::BTreeMap;
 use std::marker::Model;
 
 /// A rule with the patterns of its outputs and of its logs, in order.
@@ -30,7 +30,8 @@ pub struct Rule {
 pub struct Workflow {
     rules: List<Rule>,
     orders: List<Clause>,
-    numbers: BTreeMap<String, u32>,
+    /// The name of each rule, in order: a rule's number is the place of its name.
+    names: IndexSet<String>,
 }
 
 impl Model for Workflow {
@@ -42,9 +43,9 @@ impl Model for Workflow {
     ghost view = { λ a. record { rules = map (λ r. r.part) a.rules; orders = a.orders } };
 
     ghost use Rattle.smk_flow.specs.PatternsOf.{IsChecked};
-    ghost use Rattle.smk_flow.specs.Numbers.{AreNumbers};
+    ghost use Rattle.smk_flow.specs.Numbers.{AreNames};
 
-    ghost invariant = { λ a. IsChecked a.rules a.orders × AreNumbers a.rules a.numbers };
+    ghost invariant = { λ a. IsChecked a.rules a.orders × AreNames a.rules a.names.keys };
 }
 
 // The list, the last one first.
@@ -83,21 +84,20 @@ fn paired(
     Ok(rules)
 }
 
-// The numbers of the rules under their names. `OutOfMemory` also where there are as many rules as numbers.
-fn numbers_of(alloc: Global, rules: &[Rule]) -> Result<BTreeMap<String, u32>, OutOfMemory>
-    ensures { IfOk result (λ numbers. AreNumbers rules.now numbers) }
+// The names of the rules, in order. `OutOfMemory` also where there are more rules than numbers.
+fn rule_names(alloc: Global, rules: &[Rule]) -> Result<IndexSet<String>, OutOfMemory>
+    requires { AllPass [] (parts_of rules.now) }
+    ensures { IfOk result (λ names. AreNames rules.now names.keys) }
 {
-    let Ok(count) = u32::try_from(rules.len()) else {
+    if rules.len() > u32::MAX as usize {
         return Err(OutOfMemory);
-    };
-    let mut numbers = BTreeMap::new(alloc);
-    let mut number = count;
-    'rules: while number > 0 {
-        number -= 1;
-        let name = String::from_str(alloc, rules[number as usize].part.name.as_str())?;
-        numbers.insert(name, number)?;
     }
-    Ok(numbers)
+    let mut names = IndexSet::new(alloc);
+    for rule in rules {
+        let name = String::from_str(alloc, rule.part.name.as_str())?;
+        names.insert(name)?;
+    }
+    Ok(names)
 }
 
 impl Workflow {
@@ -117,11 +117,11 @@ impl Workflow {
             Err(fault) => Err(fault),
             Ok(patterns) => {
                 let rules = turned(alloc, paired(alloc, parts, patterns)?)?;
-                let numbers = numbers_of(alloc, rules.as_slice())?;
+                let names = rule_names(alloc, rules.as_slice())?;
                 Ok(Workflow {
                     rules,
                     orders,
-                    numbers,
+                    names,
                 })
             }
         }
@@ -141,8 +141,8 @@ impl Workflow {
     pub fn rule(&self, name: &str) -> Option<u32>
         ensures { result ≡ number_of self.now name.now }
     {
-        match self.numbers.get(name) {
-            Some(number) => Some(*number),
+        match self.names.get_index_of(name) {
+            Some(number) => Some(number as u32),
             None => None,
         }
     }

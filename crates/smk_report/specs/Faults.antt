@@ -1,7 +1,5 @@
 -- The texts of faults, and the statuses with which they end a call.
 use Rattle.std.specs.Prelude.{ℕ, [], ◌∷◌, ◌++◌, decimal, codes, Option, Some, None}
-use Rattle.smk_words.specs.declared.words.WordsFault.{WordsFault}
-use Rattle.smk_words.specs.declared.words.WordsFault.TheVariants as words
 use Rattle.smk_store.specs.declared.fault.StoreFault.{StoreFault}
 use Rattle.smk_store.specs.declared.fault.StoreFault.TheVariants as store
 use Rattle.smk_flow.specs.declared.fault.FlowFault.{FlowFault}
@@ -148,8 +146,3 @@ abbrev pub of_store : StoreFault → Fault
 of_store (store.StampSeen p) = fault.StampSeen p
 of_store store.Device = fault.Device
 of_store store.OutOfMemory = fault.OutOfMemory
-
--- the fault of a call that has this one of its words
-abbrev pub of_words : WordsFault → Fault
-of_words words.BadWords = fault.BadWords
-of_words words.OutOfMemory = fault.OutOfMemory

@@ -6,7 +6,6 @@ ghost use Rattle.smk_report.specs.Faults.{fault_status};
 use smk_base::{List, OutOfMemory, PathText, Text};
 use smk_flaws::{Flaw, LoadFault};
 use smk_store::StoreFault;
-use smk_words::WordsFault;
 
 /// Why a call ended without being done.
 #[derive(Debug, Drop)]
@@ -161,20 +160,6 @@ impl From<StoreFault> for Fault {
             StoreFault::StampSeen(path) => Fault::StampSeen { path },
             StoreFault::Device => Fault::Device,
             StoreFault::OutOfMemory => Fault::OutOfMemory,
-        }
-    }
-}
-
-impl From<WordsFault> for Fault {
-    ghost use Rattle.std.specs.Prelude.{◌≡◌};
-    ghost use Rattle.smk_report.specs.Faults.{of_words};
-
-    ghost from_gives = { λ words fault. fault ≡ of_words words };
-
-    fn from(fault: WordsFault) -> Fault {
-        match fault {
-            WordsFault::BadWords => Fault::BadWords,
-            WordsFault::OutOfMemory => Fault::OutOfMemory,
         }
     }
 }

@@ -1,6 +1,0 @@
-use Rattle.std.proofs.Common.{◌≡◌, take, map}
-use Rattle.std.specs.Prelude.{string_bytes}
-use Rattle.smk_words.proofs.words.texts.Given as goal
-
-abbrev pub invariant-loop-word : goal.invariant-loop-word
-invariant-loop-word l = l.texts ≡ map string_bytes (take l.word-index l.words)
