@@ -2,7 +2,7 @@
 use Rattle.std.proofs.Common.{◌≡◌, ℕ, zero, suc, ◌+◌, ◌-◌, ◌<◌, ◌≤◌, ◌==◌, ◌&&◌, inl, inr, List, [], ◌∷◌, ◌++◌, length, take, drop, get_or, map, reverse, not, Bool, true, false, Option, None, Some, refl, sym, ap, ap₂, subst, ◌∙◌, arith, append-nil, append_assoc, length-append, IsUtf8, IsCharBoundary, nat_le, true≢false, take-append-drop}
 use Rattle.std.specs.List.{flat_map, range_with_len, slice_get}
 use Rattle.std.specs.Int.{is_in_range}
-use Rattle.std.proofs.lemmas.Bool.{eqb-true, eq-eqb}
+use Rattle.std.proofs.lemmas.Bool.{eqb-true, eq-eqb, and_parts, and_from}
 use Rattle.std.proofs.lemmas.Bool.Decides.{nat_tests}
 use Rattle.std.proofs.lemmas.List.{reverse-append, take_at, drop_at, get_or-drop, length-map, length-take-le}
 use Rattle.std.proofs.lemmas.Option.{slice_get_within, get_or_from_slice_get, slice_get-get_or}
@@ -21,24 +21,16 @@ Tells ps limits known rest (Some now) = (more : List Text) × (now ≡ known ++ 
 
 -- ---- tests
 
-both : (a b : Bool) → a && b ≡ true → (a ≡ true) × (b ≡ true)
-both true b e = (refl, e)
-both false b e = absurd (true≢false (sym e))
-
-either : (a b : Bool) → a ≡ true → b ≡ true → a && b ≡ true
-either true b e f = f
-either false b e f = absurd (true≢false (sym e))
-
 begins_then : (t path : Text) → begins t path ≡ true → path ≡ t ++ drop (length t) path
 begins_then [] path e = refl
 begins_then (b ∷ t) [] e = absurd (true≢false (sym e))
 begins_then (b ∷ t) (c ∷ path) e =
-    let h = both (b == c) (begins t path) e in
+    let h = and_parts (b == c) (begins t path) e in
     ap₂ ◌∷◌ (sym (eqb-true b c h.0)) (begins_then t path h.1)
 
 begins_all : (t after : Text) → begins t (t ++ after) ≡ true
 begins_all [] after = refl
-begins_all (b ∷ t) after = either (b == b) (begins t (t ++ after)) (eq-eqb b b refl) (begins_all t after)
+begins_all (b ∷ t) after = and_from (b == b) (begins t (t ++ after)) (eq-eqb b b refl) (begins_all t after)
 
 no_begin : (t path : Text) → begins t path ≡ false → (after : Text) → path ≡ t ++ after → ⊥
 no_begin t path e after f = true≢false (sym (begins_all t after) ∙ ap (begins t) (sym f) ∙ e)
@@ -184,7 +176,7 @@ module _ (limits : List (Option Text)) where
   follows : (ps : List Part) (path : Text) (known : List Text) (n k : ℕ) → IsUtf8 path → AreUtf8 known → IsNumbered ps (length known + 1) (length limits) → Later ps →
       k ≤ length path → fits_at n k path ≡ true → follows_at ps path known k
   follows ps path known n k up uk num later le t =
-      let b = both (is_cut (drop k path)) (suits (limit_at limits n) (take k path)) t in
+      let b = and_parts (is_cut (drop k path)) (suits (limit_at limits n) (take k path)) t in
       let cut = boundary_of k path le b.0 in
       later (drop k path) (known ++ take k path ∷ []) (IsUtf8-drop path k up cut) (utf8_more known (take k path) uk (IsUtf8-take path k up cut)) (rw (length-append known (take k path ∷ [])) num)
 
@@ -193,7 +185,7 @@ module _ (limits : List (Option Text)) where
       (v : List Text) → Tells ps limits (known ++ take k path ∷ []) (drop k path) (Some v) → Tells (wild (length known) ∷ ps) limits known path (Some v)
   found ps path known k up room le t below v (more, same, r) =
       let value = take k path in
-      let b = both (is_cut (drop k path)) (suits (limit_at limits (length known)) value) t in
+      let b = and_parts (is_cut (drop k path)) (suits (limit_at limits (length known)) value) t in
       let cut = boundary_of k path le b.0 in
       let suit : Suits (get_or limits (length known) None) value = suits_then (limit_at limits (length known)) value b.1 in
       let long : length value ≡ k = length-take-le k path le in
@@ -209,7 +201,7 @@ module _ (limits : List (Option Text)) where
       (more : List Text) → Splits ps limits known room path (take k path) more → ⊥
   vain ps path known k room up le none more s =
       let cut = cut_at k path (IsCharBoundary-from_take path k up le s.utf8) in
-      let t : fits_at (length known) k path ≡ true = either (is_cut (drop k path)) (suits (limit_at limits (length known)) (take k path)) cut (then_suits (get_or limits (length known) None) (take k path) s.suit) in
+      let t : fits_at (length known) k path ≡ true = and_from (is_cut (drop k path)) (suits (limit_at limits (length known)) (take k path)) cut (then_suits (get_or limits (length known) None) (take k path) s.suit) in
       no_rest ps limits known room path (take k path) (drop k path) (sym (take-append-drop k path)) (none t) more s
 
   -- where no value of this length fits and none is longer

@@ -1,7 +1,7 @@
 -- A text is written as a pattern where the grammar's relation has it, and is read as the pattern of the relation.
 use Rattle.std.proofs.Common.{◌≡◌, ℕ, zero, suc, ◌+◌, ◌<◌, ◌≤◌, ◌⊎◌, ◌==◌, ◌&&◌, ◌||◌, inl, inr, ⊎_elim, List, [], ◌∷◌, ◌++◌, length, map, filter, take, Option, Some, Result, Ok, Err, OnOk, IfOk, cond, not, Bool, true, false, refl, sym, ap, ap₂, subst, ◌∙◌, arith, true≢false, nat_le, bytes_eq}
 use Rattle.std.specs.List.{list_all, list_any, slice_get}
-use Rattle.std.proofs.lemmas.Bool.{eq-eqb}
+use Rattle.std.proofs.lemmas.Bool.{eq-eqb, and_parts, and_from}
 use Rattle.std.proofs.lemmas.Bool.Decides.{nat_tests}
 use Rattle.std.proofs.lemmas.List.{length-map, take_more, take_all, length-take-le}
 use Rattle.std.proofs.lemmas.Option.{slice_get_within, get_or_from_slice_get}
@@ -14,7 +14,7 @@ use Rattle.smk_pattern.specs.Grammar.{Piece, plain, hole, is_balanced, inline_li
 use Rattle.smk_pattern.specs.Reading.{place_of, part_in, names_in, is_hole, pieces, shape_of}
 use Rattle.smk_pattern.specs.Written.{is_named, is_single, are_written, is_written, wildcard_in, AreLimits, ReadingIsGrammar}
 use Rattle.smk_pattern.proofs.Names.{names_from, lacks, names_from_none, numbered_all}
-use Rattle.smk_pattern.proofs.Spelling.{both, either, pieces_spell, pieces_of}
+use Rattle.smk_pattern.proofs.Spelling.{pieces_spell, pieces_of}
 
 -- ---- names that stand once
 
@@ -30,15 +30,15 @@ all_filtered p [] = refl
 all_filtered p (x ∷ xs) = by (p x) refl (all_filtered p xs)
   where
     by : (b : Bool) → p x ≡ b → list_all p (filter p xs) ≡ true → list_all p (cond (p x) (x ∷ filter p xs) (filter p xs)) ≡ true
-    by true e r = ap (λ b. list_all p (cond b (x ∷ filter p xs) (filter p xs))) e ∙ either (p x) (list_all p (filter p xs)) e r
+    by true e r = ap (λ b. list_all p (cond b (x ∷ filter p xs) (filter p xs))) e ∙ and_from (p x) (list_all p (filter p xs)) e r
     by false e r = ap (λ b. list_all p (cond b (x ∷ filter p xs) (filter p xs))) e ∙ r
 
 all_kept : (p q : Text → Bool) (xs : List Text) → list_all q xs ≡ true → list_all q (filter p xs) ≡ true
 all_kept p q [] e = refl
-all_kept p q (x ∷ xs) e = let h = both (q x) (list_all q xs) e in by (p x) refl h.0 (all_kept p q xs h.1)
+all_kept p q (x ∷ xs) e = let h = and_parts (q x) (list_all q xs) e in by (p x) refl h.0 (all_kept p q xs h.1)
   where
     by : (b : Bool) → p x ≡ b → q x ≡ true → list_all q (filter p xs) ≡ true → list_all q (cond (p x) (x ∷ filter p xs) (filter p xs)) ≡ true
-    by true e f r = ap (λ b. list_all q (cond b (x ∷ filter p xs) (filter p xs))) e ∙ either (q x) (list_all q (filter p xs)) f r
+    by true e f r = ap (λ b. list_all q (cond b (x ∷ filter p xs) (filter p xs))) e ∙ and_from (q x) (list_all q (filter p xs)) f r
     by false e f r = ap (λ b. list_all q (cond b (x ∷ filter p xs) (filter p xs))) e ∙ r
 
 distinct_kept : (p : Text → Bool) (xs : List Text) → AreDistinct xs → AreDistinct (filter p xs)
@@ -56,8 +56,8 @@ names_distinct (hole name limit ∷ ps) = (all_filtered (differs name) (names_in
 
 all_at : {A : Type 0} (p : A → Bool) (xs : List A) (n : ℕ) (x : A) → list_all p xs ≡ true → slice_get xs n ≡ Some x → p x ≡ true
 all_at p [] n x e f = absurd cc
-all_at p (y ∷ xs) zero x e f = let same : y ≡ x = cc in ap p (sym same) ∙ (both (p y) (list_all p xs) e).0
-all_at p (y ∷ xs) (suc n) x e f = all_at p xs n x (both (p y) (list_all p xs) e).1 f
+all_at p (y ∷ xs) zero x e f = let same : y ≡ x = cc in ap p (sym same) ∙ (and_parts (p y) (list_all p xs) e).0
+all_at p (y ∷ xs) (suc n) x e f = all_at p xs n x (and_parts (p y) (list_all p xs) e).1 f
 
 -- a name stands at one place
 abbrev OnePlace : List Text → Type 0
@@ -254,7 +254,7 @@ true_le m n e = grind (arith, nat_tests)
 all_single : (ps : List Piece) (names : List Text) → ((n : ℕ) (name : Text) → slice_get names n ≡ Some name → length (inline_limits name ps) < 2) → list_all (is_single ps) names ≡ true
 all_single ps [] h = refl
 all_single ps (name ∷ names) h =
-    either (is_single ps name) (list_all (is_single ps) names) (less_single (length (inline_limits name ps)) (h 0 name refl)) (all_single ps names (λ n. h (suc n)))
+    and_from (is_single ps name) (list_all (is_single ps) names) (less_single (length (inline_limits name ps)) (h 0 name refl)) (all_single ps names (λ n. h (suc n)))
 
 some_name : (ps : List Piece) → list_any is_hole ps ≡ true → 0 < length (names_in ps)
 some_name [] e = absurd (true≢false (sym e))
@@ -280,10 +280,10 @@ from_written : (given : List Pair) (source : Text) → is_written source ≡ tru
 from_written given source e limits =
     let ps = pieces source in
     let names = names_in ps in
-    let a = both (is_balanced 0 source) (are_written ps && (list_any is_hole ps || is_path source)) e in
-    let b = both (are_written ps) (list_any is_hole ps || is_path source) a.1 in
-    let d = both (list_all is_named ps) (list_all (is_single ps) names && nat_le 1 (length ps)) b.0 in
-    let f = both (list_all (is_single ps) names) (nat_le 1 (length ps)) d.1 in
+    let a = and_parts (is_balanced 0 source) (are_written ps && (list_any is_hole ps || is_path source)) e in
+    let b = and_parts (are_written ps) (list_any is_hole ps || is_path source) a.1 in
+    let d = and_parts (list_all is_named ps) (list_all (is_single ps) names && nat_le 1 (length ps)) b.0 in
+    let f = and_parts (list_all (is_single ps) names) (nat_le 1 (length ps)) d.1 in
     let count : length (map (wildcard_in given ps) names) ≡ length names = length-map names (wildcard_in given ps) in
     record {
       pieces = ps;
@@ -335,10 +335,10 @@ from_grammar given source p h =
     let path : list_any is_hole ps || is_path source ≡ true =
     or_by (list_any is_hole ps) (is_path source) (λ e. h.path (sym count ∙ ap length (sym same ∙ no_name ps e))) in
     let written : written_by source ps ≡ true =
-    either (is_balanced 0 source) (are_written ps && (list_any is_hole ps || is_path source)) s.1
-    (either (are_written ps) (list_any is_hole ps || is_path source)
-    (either (list_all is_named ps) (list_all (is_single ps) (names_in ps) && nat_le 1 (length ps)) s.2
-    (either (list_all (is_single ps) (names_in ps)) (nat_le 1 (length ps)) single (true_le 1 (length ps) (let lt = h.filled in omega (arith, lt)))))
+    and_from (is_balanced 0 source) (are_written ps && (list_any is_hole ps || is_path source)) s.1
+    (and_from (are_written ps) (list_any is_hole ps || is_path source)
+    (and_from (list_all is_named ps) (list_all (is_single ps) (names_in ps) && nat_le 1 (length ps)) s.2
+    (and_from (list_all (is_single ps) (names_in ps)) (nat_le 1 (length ps)) single (true_le 1 (length ps) (let lt = h.filled in omega (arith, lt)))))
     path) in
     let limits : AreLimits given ps (names_in ps) = λ n name limit at is.
     let w = wildcard_at p.wildcards n name (ap (λ (xs : List Text). slice_get xs n) (sym same) ∙ at) in

@@ -5,7 +5,7 @@ use Rattle.std.specs.Map.{update}
 use Rattle.std.specs.Cmp.Lexicographic.{slice_cmp}
 use Rattle.std.specs.Ordering.{nat_cmp}
 use Rattle.std.specs.List.{list_all, find}
-use Rattle.std.proofs.lemmas.Bool.{eqb-true, eq-eqb}
+use Rattle.std.proofs.lemmas.Bool.{eqb-true, eq-eqb, and_parts}
 use Rattle.std.proofs.lemmas.Bool.Decides.{nat_tests}
 use Rattle.std.proofs.lemmas.Slice.Eq.{bytes_eq-Decides}
 use Rattle.std.proofs.lemmas.List.{map_more}
@@ -24,10 +24,6 @@ use Rattle.smk_pattern.proofs.Names.{lacks, place_le, place_in, place_out, place
 
 same_text : (a b : Text) → bytes_eq a b ≡ true → a ≡ b
 same_text a b e = (bytes_eq-Decides a b).0 e
-
-both : (a b : Bool) → a && b ≡ true → (a ≡ true) × (b ≡ true)
-both true b e = (refl, e)
-both false b e = absurd (true≢false (sym e))
 
 -- ---- names
 
@@ -185,7 +181,7 @@ holds_behind : (f : Text → Bool) (other name : Text) (ps : List Piece) → lis
 holds_behind f other name ps h rec = by (bytes_eq other name) refl
   where
     a : (f other ≡ true) × (list_all f (filter (λ o. not (bytes_eq other o)) (names_in ps)) ≡ true)
-    a = both (f other) (list_all f (filter (λ o. not (bytes_eq other o)) (names_in ps))) h
+    a = and_parts (f other) (list_all f (filter (λ o. not (bytes_eq other o)) (names_in ps))) h
 
     by : (b : Bool) → bytes_eq other name ≡ b → f name ≡ true
     by true e = subst (λ (n : Text). f n ≡ true) (same_text other name e) a.0

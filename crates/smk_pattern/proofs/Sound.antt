@@ -3,6 +3,7 @@ use Rattle.std.proofs.Common.{◌≡◌, ℕ, ◌+◌, ◌<◌, ◌≤◌, ◌�
 use Rattle.std.proofs.lemmas.List.{drop_at, get_or_append_left}
 use Rattle.std.proofs.lemmas.Bool.Decides.{nat_tests}
 use Rattle.std.proofs.Math.Seq.{get_or-append_right}
+use Rattle.std.proofs.lemmas.Bool.{or_parts}
 use Rattle.smk_pattern.specs.declared.table.Vain.{Vain}
 use Rattle.smk_pattern.specs.Shapes.{Part, IsNumbered}
 use Rattle.smk_pattern.specs.Shapes.Part.{text, wild}
@@ -69,10 +70,6 @@ all_apart k (wild n ∷ ps) = (cases n k, all_apart k ps)
     cases : (n k : ℕ) → (n < k) ⊎ (k ≤ n)
     cases n k = grind arith
 
-neither : (a b : Bool) → a || b ≡ false → (a ≡ false) × (b ≡ false)
-neither true b e = absurd (true≢false e)
-neither false b e = (refl, e)
-
 above : (n k given : ℕ) → (n < given) ⊎ (k ≤ n) → (n == k) ≡ false → (n < given) ⊎ (k + 1 ≤ n)
 above n k given (inl lt) e = inl lt
 above n k given (inr ge) e = inr (grind (arith, nat_tests))
@@ -81,7 +78,7 @@ apart_more : (given k : ℕ) (ps : List Part) → IsApart given k ps → stands_
 apart_more given k [] a e = tt
 apart_more given k (text t ∷ ps) a e = apart_more given k ps a e
 apart_more given k (wild n ∷ ps) a e =
-    let both = neither (n == k) (stands_in k ps) e in
+    let both = or_parts (n == k) (stands_in k ps) e in
     (above n k given a.0 both.0, apart_more given k ps a.1 both.1)
 
 pub stands_later : (given known : List (List ℕ)) (p : Part) (ps : List Part) → Stands given known (p ∷ ps) → Stands given known ps

@@ -2,7 +2,7 @@
 use Rattle.std.proofs.Common.{◌≡◌, ℕ, zero, suc, ◌<◌, ◌≤◌, ◌⊎◌, ◌==◌, ◌&&◌, ◌||◌, inl, inr, List, [], ◌∷◌, ◌++◌, length, reverse, Option, Some, None, cond, not, Bool, true, false, refl, sym, ap, ap₂, subst, ◌∙◌, arith, append-nil, append_assoc, true≢false}
 use Rattle.std.specs.List.{list_all}
 use Rattle.std.specs.Int.{is_in_range}
-use Rattle.std.proofs.lemmas.Bool.{eqb-true}
+use Rattle.std.proofs.lemmas.Bool.{eqb-true, and_parts, and_from, not-true}
 use Rattle.std.proofs.lemmas.Bool.Decides.{nat_tests}
 use Rattle.std.proofs.lemmas.List.{reverse-append, reverse-reverse, length-reverse}
 use Rattle.std.proofs.lemmas.List.Folds.{list_all-append}
@@ -13,14 +13,6 @@ use Rattle.smk_pattern.specs.Written.{is_named}
 use Rattle.smk_pattern.proofs.Split.{Takes, takes_other, plain_of_all}
 
 -- ---- tests
-
-pub both : (a b : Bool) → a && b ≡ true → (a ≡ true) × (b ≡ true)
-both true b e = (refl, e)
-both false b e = absurd (true≢false (sym e))
-
-pub either : (a b : Bool) → a ≡ true → b ≡ true → a && b ≡ true
-either true b e f = f
-either false b e f = absurd (true≢false (sym e))
 
 abbrev no_brace : ℕ → Bool
 no_brace b = not (is_brace b)
@@ -69,10 +61,10 @@ blank_no_comma b e = ap not (other_number b 44 (inl (omega (arith, blank_low b e
 
 all_too : (p q : ℕ → Bool) → ((b : ℕ) → p b ≡ true → q b ≡ true) → (t : Text) → list_all p t ≡ true → list_all q t ≡ true
 all_too p q h [] e = refl
-all_too p q h (b ∷ t) e = let x = both (p b) (list_all p t) e in either (q b) (list_all q t) (h b x.0) (all_too p q h t x.1)
+all_too p q h (b ∷ t) e = let x = and_parts (p b) (list_all p t) e in and_from (q b) (list_all q t) (h b x.0) (all_too p q h t x.1)
 
 all_both : (p : ℕ → Bool) (s t : Text) → list_all p s ≡ true → list_all p t ≡ true → list_all p (s ++ t) ≡ true
-all_both p s t e f = list_all-append p s t ∙ either (list_all p s) (list_all p t) e f
+all_both p s t e f = list_all-append p s t ∙ and_from (list_all p s) (list_all p t) e f
 
 reverse_push : (b : ℕ) (held t : Text) → reverse (b ∷ held) ++ t ≡ reverse held ++ b ∷ t
 reverse_push b held t = ap (λ x. x ++ t) (reverse-append (b ∷ []) held) ∙ append_assoc (reverse held) (b ∷ []) t
@@ -80,12 +72,12 @@ reverse_push b held t = ap (λ x. x ++ t) (reverse-append (b ∷ []) held) ∙ a
 all_reverse : (p : ℕ → Bool) (t : Text) → list_all p t ≡ true → list_all p (reverse t) ≡ true
 all_reverse p [] e = refl
 all_reverse p (b ∷ t) e =
-    let x = both (p b) (list_all p t) e in
-    ap (list_all p) (reverse-append (b ∷ []) t) ∙ all_both p (reverse t) (b ∷ []) (all_reverse p t x.1) (either (p b) true x.0 refl)
+    let x = and_parts (p b) (list_all p t) e in
+    ap (list_all p) (reverse-append (b ∷ []) t) ∙ all_both p (reverse t) (b ∷ []) (all_reverse p t x.1) (and_from (p b) true x.0 refl)
 
 all_in_name : (name : Text) → is_name name ≡ true → list_all in_name name ≡ true
 all_in_name [] e = absurd (true≢false (sym e))
-all_in_name (b ∷ bs) e = let x = both (is_letter b) (list_all in_name bs) e in either (in_name b) (list_all in_name bs) (letter_is b x.0) x.1
+all_in_name (b ∷ bs) e = let x = and_parts (is_letter b) (list_all in_name bs) e in and_from (in_name b) (list_all in_name bs) (letter_is b x.0) x.1
 
 -- what stands between braces before a comma
 all_outside : (p : ℕ → Bool) → ((b : ℕ) → is_blank b ≡ true → p b ≡ true) → ((b : ℕ) → in_name b ≡ true → p b ≡ true) → (name bytes : Text) → IsNamed name bytes → list_all p bytes ≡ true
@@ -107,7 +99,7 @@ trims (b ∷ t) = by (is_blank b) refl (trims t)
     by : (x : Bool) → is_blank b ≡ x → Trims t → Trims (b ∷ t)
     by true e r = record {
       blanks = b ∷ r.blanks;
-      are_blank = either (is_blank b) (list_all is_blank r.blanks) e r.are_blank;
+      are_blank = and_from (is_blank b) (list_all is_blank r.blanks) e r.are_blank;
       is = ap (λ s. b ∷ s) r.is ∙ sym (ap (λ x. (b ∷ r.blanks) ++ cond x (trimmed t) (b ∷ t)) e);
     }
     by false e r = record { blanks = []; are_blank = refl; is = sym (ap (λ x. cond x (trimmed t) (b ∷ t)) e) }
@@ -123,7 +115,7 @@ trimmed_start (b ∷ t) = by (is_blank b) refl (trimmed_start t)
 trimmed_blanks : (blanks t : Text) → list_all is_blank blanks ≡ true → trimmed (blanks ++ t) ≡ trimmed t
 trimmed_blanks [] t e = refl
 trimmed_blanks (b ∷ blanks) t e =
-    let x = both (is_blank b) (list_all is_blank blanks) e in
+    let x = and_parts (is_blank b) (list_all is_blank blanks) e in
     ap (λ y. cond y (trimmed (blanks ++ t)) (b ∷ (blanks ++ t))) x.0 ∙ trimmed_blanks blanks t x.1
 
 trimmed_none : (t : Text) → starts_with_blank t ≡ false → trimmed t ≡ t
@@ -149,7 +141,7 @@ named_stripped t n =
 
 no_start : (t u : Text) → 0 < length t → list_all no_blank t ≡ true → starts_with_blank (t ++ u) ≡ false
 no_start [] u lt e = absurd (omega (arith, lt))
-no_start (b ∷ t) u lt e = by (is_blank b) (both (no_blank b) (list_all no_blank t) e).0
+no_start (b ∷ t) u lt e = by (is_blank b) (and_parts (no_blank b) (list_all no_blank t) e).0
   where
     by : (x : Bool) → not x ≡ true → x ≡ false
     by true e = absurd (true≢false (sym e))
@@ -207,33 +199,29 @@ none_comma (b ∷ t) e = by (b == 44) refl (none_comma t)
     by false f later =
         ap (λ x. cond x [] (b ∷ before_comma t)) f ∙ ap (λ s. b ∷ s) (later (sym (ap (λ x. cond x (Some (trimmed t)) (after_comma t)) f) ∙ e))
 
-not_true : (x : Bool) → not x ≡ true → x ≡ false
-not_true true e = absurd (true≢false (sym e))
-not_true false e = refl
-
 before_comma_all : (t : Text) → list_all no_comma t ≡ true → before_comma t ≡ t
 before_comma_all [] e = refl
 before_comma_all (b ∷ t) e =
-    let x = both (no_comma b) (list_all no_comma t) e in
-    ap (λ y. cond y [] (b ∷ before_comma t)) (not_true (b == 44) x.0) ∙ ap (λ s. b ∷ s) (before_comma_all t x.1)
+    let x = and_parts (no_comma b) (list_all no_comma t) e in
+    ap (λ y. cond y [] (b ∷ before_comma t)) (not-true (b == 44) x.0) ∙ ap (λ s. b ∷ s) (before_comma_all t x.1)
 
 after_comma_none : (t : Text) → list_all no_comma t ≡ true → after_comma t ≡ None
 after_comma_none [] e = refl
 after_comma_none (b ∷ t) e =
-    let x = both (no_comma b) (list_all no_comma t) e in
-    ap (λ y. cond y (Some (trimmed t)) (after_comma t)) (not_true (b == 44) x.0) ∙ after_comma_none t x.1
+    let x = and_parts (no_comma b) (list_all no_comma t) e in
+    ap (λ y. cond y (Some (trimmed t)) (after_comma t)) (not-true (b == 44) x.0) ∙ after_comma_none t x.1
 
 before_comma_at : (t u : Text) → list_all no_comma t ≡ true → before_comma (t ++ 44 ∷ u) ≡ t
 before_comma_at [] u e = refl
 before_comma_at (b ∷ t) u e =
-    let x = both (no_comma b) (list_all no_comma t) e in
-    ap (λ y. cond y [] (b ∷ before_comma (t ++ 44 ∷ u))) (not_true (b == 44) x.0) ∙ ap (λ s. b ∷ s) (before_comma_at t u x.1)
+    let x = and_parts (no_comma b) (list_all no_comma t) e in
+    ap (λ y. cond y [] (b ∷ before_comma (t ++ 44 ∷ u))) (not-true (b == 44) x.0) ∙ ap (λ s. b ∷ s) (before_comma_at t u x.1)
 
 after_comma_at : (t u : Text) → list_all no_comma t ≡ true → after_comma (t ++ 44 ∷ u) ≡ Some (trimmed u)
 after_comma_at [] u e = refl
 after_comma_at (b ∷ t) u e =
-    let x = both (no_comma b) (list_all no_comma t) e in
-    ap (λ y. cond y (Some (trimmed (t ++ 44 ∷ u))) (after_comma (t ++ 44 ∷ u))) (not_true (b == 44) x.0) ∙ after_comma_at t u x.1
+    let x = and_parts (no_comma b) (list_all no_comma t) e in
+    ap (λ y. cond y (Some (trimmed (t ++ 44 ∷ u))) (after_comma (t ++ 44 ∷ u))) (not-true (b == 44) x.0) ∙ after_comma_at t u x.1
 
 -- ---- braces
 
@@ -260,7 +248,7 @@ no_brace_kind b e = by (b == 123) (b == 125) e
 balanced_past : (s t : Text) → list_all no_brace s ≡ true → is_balanced 0 (s ++ t) ≡ is_balanced 0 t
 balanced_past [] t e = refl
 balanced_past (b ∷ s) t e =
-    let x = both (no_brace b) (list_all no_brace s) e in
+    let x = and_parts (no_brace b) (list_all no_brace s) e in
     let k = no_brace_kind b x.0 in
     (takes_other b 0 [] (s ++ t) k.0 k.1).balanced ∙ balanced_past s t x.1
 
@@ -312,7 +300,7 @@ opens t (c ∷ held) later = λ e b n. let r = later (λ s. refl) b n in spelled
 
 closes : (t held : Text) → SpellsFrom t 0 [] → SpellsFrom (125 ∷ t) 1 held
 closes t held later = λ inv b n.
-    let x = both (is_name (stripped (before_comma (reverse held)))) (list_all is_named (pieces_from t 0 [])) n in
+    let x = and_parts (is_name (stripped (before_comma (reverse held)))) (list_all is_named (pieces_from t 0 [])) n in
     let balanced : is_balanced 0 (reverse held) ≡ true = sym (ap (is_balanced 0) (append-nil (reverse held))) ∙ inv [] in (
       (
         refl,
@@ -331,7 +319,7 @@ outside_on : (b : ℕ) (t held : Text) → ((b == 123) ≡ false) × ((b == 125)
 outside_on b t held k later = λ e bal n.
     let s = takes_other b 0 held t k.0 k.1 in
     let same = pieces_step b 0 0 held (b ∷ held) [] t s in
-    let r = later (either (no_brace b) (list_all no_brace held) (not_either (b == 123) (b == 125) k.0 k.1) e) (sym s.balanced ∙ bal) (sym (ap (list_all is_named) same) ∙ n) in
+    let r = later (and_from (no_brace b) (list_all no_brace held) (not_either (b == 123) (b == 125) k.0 k.1) e) (sym s.balanced ∙ bal) (sym (ap (list_all is_named) same) ∙ n) in
     subst (λ (ps : List Piece). SpellsAll ps (reverse held ++ b ∷ t)) (sym same) (subst (λ (x : Text). SpellsAll (pieces_from t 0 (b ∷ held)) x) (reverse_push b held t) r)
 
 inside_on : (b d n : ℕ) (t held : Text) → pieces_from (b ∷ t) (suc d) held ≡ pieces_from t (suc n) (b ∷ held) → is_balanced (suc d) (b ∷ t) ≡ is_balanced (suc n) t →
@@ -380,7 +368,7 @@ pieces_spell t b n = spells_from t 0 [] refl b n
 past_text : (s t held : Text) → list_all no_brace s ≡ true → pieces_from (s ++ t) 0 held ≡ pieces_from t 0 (reverse s ++ held)
 past_text [] t held e = refl
 past_text (b ∷ s) t held e =
-    let x = both (no_brace b) (list_all no_brace s) e in
+    let x = and_parts (no_brace b) (list_all no_brace s) e in
     let k = no_brace_kind b x.0 in
     pieces_step b 0 0 held (b ∷ held) [] (s ++ t) (takes_other b 0 held (s ++ t) k.0 k.1) ∙ past_text s t (b ∷ held) x.1 ∙ ap (pieces_from t 0) (sym (reverse_push b s held))
 
@@ -471,7 +459,7 @@ spelled_hole p inside ps t alone i r =
           ap (λ s. plain_of held ++ pieces_from s 1 []) same
           ∙ ap (λ qs. plain_of held ++ qs) (x.0 ∙ ap₂ (λ (q : Piece) (qs : List Piece). q ∷ qs) i.is (r.pieces [] (λ e. refl)));
       balanced = ap (is_balanced 1) same ∙ x.1 ∙ r.balanced;
-      named = either (is_named p) (list_all is_named ps) i.named r.named;
+      named = and_from (is_named p) (list_all is_named ps) i.named r.named;
     }
 
 spelled_first : (p : Piece) (ps : List Piece) (front back : Text) → (is_plain p && starts_plain ps) ≡ false → Spells p front → IsSpelled ps back → IsSpelled (p ∷ ps) (front ++ back)

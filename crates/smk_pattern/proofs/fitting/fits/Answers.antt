@@ -1,6 +1,7 @@
 use Rattle.std.proofs.Common.{◌≡◌, ◌==◌, ℕ, [], None, true, refl, arith, List, length, Result, Ok, Err, Option, IfOk, MatchOption, option_map, sym, subst, ◌∙◌, IsUtf8}
 use Rattle.std.proofs.lemmas.Bool.Decides.{nat_tests}
 use Rattle.std.proofs.lemmas.List.{length-map, nil_from_length}
+use Rattle.std.proofs.lemmas.Result.{IfOk-weaker}
 use Rattle.smk_base.specs.declared.tree.Pair.{Pair}
 use Rattle.smk_pattern.specs.declared.pattern.Piece.{Piece}
 use Rattle.smk_pattern.specs.declared.pattern.Wildcard as code
@@ -23,10 +24,6 @@ bound_of : (pieces : List Piece) (wildcards : List code.Wildcard) (path : Text) 
 bound_of pieces wildcards path found w utf8 m =
     bound_by (pattern_of pieces wildcards) path found (subst (λ (n : ℕ). IsNumbered (parts_of pieces) 0 n) (sym (length-map wildcards wildcard_of)) w.numbered) w.texts utf8 m
 
-if_ok : {A E : Type 0} (r : Result A E) (P Q : A → Type 0) → ((x : A) → P x → Q x) → IfOk r P → IfOk r Q
-if_ok (Ok x) P Q f p = f x p
-if_ok (Err e) P Q f p = p
-
 pub fits_search-requires : goal.fits_search-requires
 fits_search-requires c = rw (c.as_slice-pieces.ensures, c.as_slice-wildcards.ensures) c.pattern.invariant.numbered
 
@@ -46,7 +43,7 @@ returns-then-not-may_fit-clause-bound c =
 pub returns-clause-bound : goal.returns-clause-bound
 returns-clause-bound c =
     rw (← c.pattern.view_is, ← c.as_str-path.ensures.text)
-    (if_ok c.fits_search.result _ _
+    (IfOk-weaker c.fits_search.result _ _
     (λ found m. bound_of c.pattern.inside.pieces c.pattern.inside.wildcards c.as_str-path.result.now found c.pattern.invariant c.as_str-path.utf8
     (rw (← c.as_slice-pieces.ensures, ← c.as_slice-wildcards.ensures) m))
     c.fits_search.ensures)

@@ -2,6 +2,7 @@ use Rattle.std.proofs.Common.{◌≡◌, ◌==◌, IfOk, List, ℕ, [], ◌∷�
 use Rattle.std.proofs.lemmas.Str.{IsUtf8-take, IsUtf8-drop}
 use Rattle.std.proofs.lemmas.Bool.Decides.{nat_tests}
 use Rattle.std.proofs.lemmas.List.{nil_from_length, length-map, map_push, set-get_or, get_or_default, take-map, take_at, length-take-le}
+use Rattle.std.proofs.lemmas.Result.{IfOk-weaker}
 use Rattle.smk_pattern.specs.Shapes.{Part}
 use Rattle.smk_pattern.specs.Shapes.Part.{wild}
 use Rattle.smk_pattern.specs.Fitting.{Suits}
@@ -29,10 +30,6 @@ searched_end false pieces limits known rest e nil all = rw nil (refl, none_end l
 -- how many values there are
 known_len : (v : Vec (Bor (List ℕ)) Global) → vec_len v ≡ length (now_of v.items)
 known_len v = v.ok.0 ∙ sym (length-map v.items (λ (b : Bor (List ℕ)). b.now))
-
-if_ok : {A E : Type 0} (r : Result A E) (P Q : A → Type 0) → ((x : A) → P x → Q x) → IfOk r P → IfOk r Q
-if_ok (Ok x) P Q f p = f x p
-if_ok (Err e) P Q f p = p
 
 open_room : (v : Vec (Bor (List ℕ)) Global) (limits : List (Option (List ℕ))) → vec_len v < length limits → length (now_of v.items) < length limits
 open_room v limits h = rw (← known_len v) h
@@ -74,7 +71,7 @@ search-returns-then-not-found-clause-found t c =
 pub find-returns-in-Again-clause-found : goal.find-returns-in-Again-clause-found
 find-returns-in-Again-clause-found t c =
     let w = rw c.in-Again.is at c.in_ok-found.ensures.walked in
-    if_ok c.anew.result _ _
+    IfOk-weaker c.anew.result _ _
     (λ found s. leads_ends c.args.testers.now found (parts_of c.args.pieces.now) (parts_of c.in-Again.later.now) _ _ _ _ _ w.0 (rw c.in_ok-found.ensures.same at s))
     c.anew.ensures.found
 
