@@ -2,6 +2,8 @@
 use Rattle.std.proofs.Common.{◌≡◌, inl, inr, ℕ, zero, suc, ◌+◌, ◌&&◌, ◌||◌, Bool, true, false, cond, not, List, [], ◌∷◌, ◌++◌, map, filter, refl, sym, ap, ap₂, subst, ◌∙◌, Option, Some, None, option_map, bytes_eq, max, ◌==◌}
 use Rattle.std.specs.Prelude.{if◌then◌else◌}
 use Rattle.std.specs.List.{AllByRecursion, list_any, list_all, find, fold, flat_map, enumerate_from}
+use Rattle.smk_choose.proofs.Listed.{all_append}
+use Rattle.smk_chain.proofs.Inputs.{all_front, all_back}
 use Rattle.smk_base.specs.Path.{is_path}
 use Rattle.smk_base.proofs.Places.{same_place}
 use Rattle.smk_world.specs.Trees.{Path, IsIn}
@@ -68,20 +70,8 @@ in_flat f [] x y h k = absurd h
 in_flat f (z ∷ zs) x y (inl e) k = in_first (f z) (flat_map f zs) y (subst (λ v. IsIn (f v) y) e k)
 in_flat f (z ∷ zs) x y (inr h) k = in_second (f z) (flat_map f zs) y (in_flat f zs x y h k)
 
-all_first : {A : Type 0} (P : A → Type 0) (xs ys : List A) → AllByRecursion P (xs ++ ys) → AllByRecursion P xs
-all_first P [] ys all = tt
-all_first P (x ∷ xs) ys all = (all.0, all_first P xs ys all.1)
-
-all_second : {A : Type 0} (P : A → Type 0) (xs ys : List A) → AllByRecursion P (xs ++ ys) → AllByRecursion P ys
-all_second P [] ys all = all
-all_second P (x ∷ xs) ys all = all_second P xs ys all.1
-
-all_both : {A : Type 0} (P : A → Type 0) (xs ys : List A) → AllByRecursion P xs → AllByRecursion P ys → AllByRecursion P (xs ++ ys)
-all_both P [] ys a b = b
-all_both P (x ∷ xs) ys a b = (a.0, all_both P xs ys a.1 b)
-
 -- what passes the test has P where it passes
-all_filtered : {A : Type 0} (p : A → Bool) (P : A → Type 0) (xs : List A) → AllByRecursion P (filter p xs) → AllByRecursion (λ x. p x ≡ true → P x) xs
+pub all_filtered : {A : Type 0} (p : A → Bool) (P : A → Type 0) (xs : List A) → AllByRecursion P (filter p xs) → AllByRecursion (λ x. p x ≡ true → P x) xs
 all_filtered p P [] all = tt
 all_filtered p P (x ∷ xs) all = (here (p x) all, all_filtered p P xs (rest (p x) all))
   where
@@ -96,9 +86,9 @@ all_filtered p P (x ∷ xs) all = (here (p x) all, all_filtered p P xs (rest (p 
     rest true h = h.1
     rest false h = h
 
-all_flat : {A B : Type 0} (P : B → Type 0) (f : A → List B) (xs : List A) → AllByRecursion P (flat_map f xs) → AllByRecursion (λ x. AllByRecursion P (f x)) xs
+pub all_flat : {A B : Type 0} (P : B → Type 0) (f : A → List B) (xs : List A) → AllByRecursion P (flat_map f xs) → AllByRecursion (λ x. AllByRecursion P (f x)) xs
 all_flat P f [] all = tt
-all_flat P f (x ∷ xs) all = (all_first P (f x) (flat_map f xs) all, all_flat P f xs (all_second P (f x) (flat_map f xs) all))
+all_flat P f (x ∷ xs) all = (all_front P (f x) (flat_map f xs) all, all_flat P f xs (all_back P (f x) (flat_map f xs) all))
 
 -- ## Lists on which two functions are the same
 
@@ -122,7 +112,7 @@ map_same : {A B : Type 0} (f g : A → B) (xs : List A) → AllByRecursion (λ x
 map_same f g [] all = refl
 map_same f g (x ∷ xs) all = ap₂ ◌∷◌ all.0 (map_same f g xs all.1)
 
-flat_same : {A B : Type 0} (f g : A → List B) (xs : List A) → AllByRecursion (λ x. f x ≡ g x) xs → flat_map f xs ≡ flat_map g xs
+pub flat_same : {A B : Type 0} (f g : A → List B) (xs : List A) → AllByRecursion (λ x. f x ≡ g x) xs → flat_map f xs ≡ flat_map g xs
 flat_same f g [] all = refl
 flat_same f g (x ∷ xs) all = ap₂ ◌++◌ all.0 (flat_same f g xs all.1)
 
@@ -180,9 +170,9 @@ wants_good flow S T L k p g e =
 -- what it wants whatever the listings are stands first
 first_ones : (flow : Flow) (L : Listings) (c : Candidate) (P : Text → Type 0) → AllByRecursion P (wants flow L c) → AllByRecursion P (first_wants flow c)
 first_ones flow L c P all =
-    all_both P (declared_inputs flow c) (gathered_folders flow c)
-    (all_first P (declared_inputs flow c) (gathered_folders flow c ++ gathered_files flow L c) all)
-    (all_first P (gathered_folders flow c) (gathered_files flow L c) (all_second P (declared_inputs flow c) (gathered_folders flow c ++ gathered_files flow L c) all))
+    all_append P (declared_inputs flow c) (gathered_folders flow c)
+    (all_front P (declared_inputs flow c) (gathered_folders flow c ++ gathered_files flow L c) all)
+    (all_front P (gathered_folders flow c) (gathered_files flow L c) (all_back P (declared_inputs flow c) (gathered_folders flow c ++ gathered_files flow L c) all))
 
 firsts_good : (flow : Flow) (S T : Sources) (L : Listings) (k : ℕ) (p : Path) → Good flow S T L (suc k) p → S.is p ≡ false
     → AllByRecursion (λ (c : Candidate). AllByRecursion (λ (w : Text). is_path w ≡ true → Good flow S T L k w) (first_wants flow c)) (candidates flow S p)
@@ -281,7 +271,7 @@ choose_same flow S T L p g = go (S.is p) refl
         ∙ sym (ap (λ b. choice_by flow b (viable flow S p) (lack_of_first flow S (candidates flow S p))) e)
 
 -- what the chosen job wants, so many levels deep
-maker_is : (ch : Choice) (c : Candidate) → maker ch ≡ Some c → ch ≡ Make c
+pub maker_is : (ch : Choice) (c : Candidate) → maker ch ≡ Some c → ch ≡ Make c
 maker_is Source c e = absurd (no c e)
   where
     no : (c : Candidate) → None ≡ Some c → ⊥
@@ -371,19 +361,19 @@ pub refused_same : (flow : Flow) (S T : Sources) (L : Listings) (n : ℕ) (p : P
 refused_same flow S T L zero p g = refl
 refused_same flow S T L (suc n) p g = refused_step flow S T L n p (refused_same flow S T L n) g
 
-never_cons : {A : Type 0} (x : A) (xs : List A) → x ∷ xs ≡ [] → ⊥
+pub never_cons : {A : Type 0} (x : A) (xs : List A) → x ∷ xs ≡ [] → ⊥
 never_cons x xs e = cc
 
 -- nothing is refused of the parts of what nothing is refused of
-none_first : {A : Type 0} (xs ys : List A) → xs ++ ys ≡ [] → xs ≡ []
+pub none_first : {A : Type 0} (xs ys : List A) → xs ++ ys ≡ [] → xs ≡ []
 none_first [] ys e = refl
 none_first (x ∷ xs) ys e = absurd (never_cons x (xs ++ ys) e)
 
-none_second : {A : Type 0} (xs ys : List A) → xs ++ ys ≡ [] → ys ≡ []
+pub none_second : {A : Type 0} (xs ys : List A) → xs ++ ys ≡ [] → ys ≡ []
 none_second [] ys e = e
 none_second (x ∷ xs) ys e = absurd (never_cons x (xs ++ ys) e)
 
-none_each : {A B : Type 0} (f : A → List B) (xs : List A) → flat_map f xs ≡ [] → AllByRecursion (λ x. f x ≡ []) xs
+pub none_each : {A B : Type 0} (f : A → List B) (xs : List A) → flat_map f xs ≡ [] → AllByRecursion (λ x. f x ≡ []) xs
 none_each f [] e = tt
 none_each f (x ∷ xs) e = (none_first (f x) (flat_map f xs) e, none_each f xs (none_second (f x) (flat_map f xs) e))
 

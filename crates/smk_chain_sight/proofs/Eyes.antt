@@ -1,6 +1,6 @@
 -- What is told, call after call.
 use Rattle.std.proofs.Common.{◌≡◌, ◌≢◌, ℕ, Bool, true, false, List, [], ◌∷◌, map, refl, sym, ap, subst, ◌∙◌, Some, Result, Ok, Err}
-use Rattle.std.specs.Prelude.{if◌then◌else◌, OnOk, IfErr}
+use Rattle.std.specs.Prelude.{if◌then◌else◌, IfErr}
 use Rattle.std.specs.List.{AllByRecursion}
 use Rattle.smk_base.specs.Path.{is_path}
 use Rattle.smk_base.proofs.Under.{never_both}
@@ -142,10 +142,6 @@ pub never_many : (count : ℕ) → MemoryFault ≡ TooManyPaths count → ⊥
 never_many count e = cc
 
 -- ## Answers
-
-pub on_ok : {T E : Type 0} (r : Result T E) (P Q : Type 0) → (P → Q) → OnOk r P → OnOk r Q
-on_ok (Ok t) P Q more h = more h
-on_ok (Err e) P Q more h = h
 
 never_path : (b : Bool) (P : Type 0) → b ≡ false → b ≡ true → P
 never_path true P e h = absurd (wrong e)

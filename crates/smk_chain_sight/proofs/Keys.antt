@@ -8,6 +8,7 @@ use Rattle.std.specs.Cmp.Lexicographic.{slice_cmp}
 use Rattle.std.specs.Ordering.{nat_cmp}
 use Rattle.std.specs.String.{string_cmp}
 use Rattle.std.proofs.lemmas.Map.Text.{btree_set_updates_text}
+use Rattle.std.proofs.Math.Bool.{or_comm}
 use Rattle.smk_base.proofs.Places.{same_flipped}
 use Rattle.smk_world.specs.World.{is_named}
 use Rattle.smk_world.specs.Trees.{Path, among}
@@ -22,15 +23,9 @@ pub key_added : (s n : BTreeSet (String Global)) (bs text : List ℕ) → bs ≡
 key_added s n bs text e updates q =
     btree_set_updates_text bs s n true updates q ∙ cond_or (bytes_eq bs q) (contains_text s q) ∙ ap (λ (t : List ℕ). bytes_eq t q || contains_text s q) e
 
-or_flipped : (a b : Bool) → (a || b) ≡ (b || a)
-or_flipped true true = refl
-or_flipped true false = refl
-or_flipped false true = refl
-or_flipped false false = refl
-
 pub named_more : (x q : Path) (xs ys : List Path) (was now : Bool) → now ≡ (bytes_eq x q || was) → was ≡ among xs q → ys ≡ xs ++ x ∷ [] → now ≡ among ys q
 named_more x q xs ys was now e same are =
-    e ∙ ap (λ b. bytes_eq x q || b) same ∙ or_flipped (bytes_eq x q) (among xs q) ∙ ap (λ b. among xs q || b) (same_flipped x q)
+    e ∙ ap (λ b. bytes_eq x q || b) same ∙ or_comm (bytes_eq x q) (among xs q) ∙ ap (λ b. among xs q || b) (same_flipped x q)
     ∙ sym (ap (is_named q) are ∙ named_push q x xs)
 
 pub each_once : (x : Path) (xs ys : List Path) → once xs ≡ xs → is_named x xs ≡ false → ys ≡ xs ++ x ∷ [] → once ys ≡ ys

@@ -6,6 +6,7 @@ use Rattle.std.specs.Global.{Global}
 use Rattle.std.specs.BTreeMap.{BTreeMap, get_by_text}
 use Rattle.std.proofs.lemmas.List.{take_more, drop_all}
 use Rattle.std.proofs.lemmas.List.Elements.{All-push}
+use Rattle.std.proofs.lemmas.Option.{same_Some}
 use Rattle.smk_base.proofs.Places.{same_place}
 use Rattle.smk_base.proofs.Under.{or_first}
 use Rattle.smk_world.specs.declared.event.Name.{Name}
@@ -16,15 +17,12 @@ use Rattle.smk_store.proofs.Seeing.{dropped}
 use Rattle.smk_chain_sight.specs.declared.seeing.Sighted.{Sighted}
 use Rattle.smk_chain_sight.specs.Viewing.{IsSighted, AreSighted, IsStanding}
 
-same_some : {A : Type 0} (x y : A) → Some x ≡ Some y → x ≡ y
-same_some x y e = cc
-
 pub noted : (image : Image) (m n : BTreeMap (String Global) Sighted) (p t : Path) (s : Sighted) → ((q : Path) → get_by_text n q ≡ (if bytes_eq t q then Some s else get_by_text m q)) → t ≡ p → IsSighted image p s
     → AreSighted image m → AreSighted image n
 noted image m n p t s changed same sight known = λ q u h. go q u (bytes_eq t q) refl (sym (changed q) ∙ h)
   where
     go : (q : Path) (u : Sighted) (b : Bool) → bytes_eq t q ≡ b → (if b then Some s else get_by_text m q) ≡ Some u → IsSighted image q u
-    go q u true e h = subst (λ x. IsSighted image q x) (same_some s u h) (subst (λ x. IsSighted image x s) (sym same ∙ same_place t q e) sight)
+    go q u true e h = subst (λ x. IsSighted image q x) (same_Some s u h) (subst (λ x. IsSighted image x s) (sym same ∙ same_place t q e) sight)
     go q u false e h = known q u h
 
 -- so it is of what is told
@@ -33,7 +31,7 @@ pub told_more : (image : Image) (m n : Path → Option Standing) (p : Path) (s :
 told_more image m n p s changed stands known = λ q u h. go q u (bytes_eq p q) refl (sym (changed q) ∙ h)
   where
     go : (q : Path) (u : Standing) (b : Bool) → bytes_eq p q ≡ b → (if b then Some s else m q) ≡ Some u → IsStanding image q u
-    go q u true e h = subst (λ x. IsStanding image q x) (same_some s u h) (subst (λ x. IsStanding image x s) (same_place p q e) stands)
+    go q u true e h = subst (λ x. IsStanding image q x) (same_Some s u h) (subst (λ x. IsStanding image x s) (same_place p q e) stands)
     go q u false e h = known q u h
 
 -- one of which nothing was told is told of besides

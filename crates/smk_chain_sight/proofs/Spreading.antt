@@ -12,7 +12,7 @@ use Rattle.smk_flow.specs.Flows.{Flow, Candidate}
 use Rattle.smk_choose.specs.declared.choice.Making.{Making}
 use Rattle.smk_choose.specs.Choose.{Sources, candidates}
 use Rattle.smk_choose.specs.Told.{told_by, making}
-use Rattle.smk_choose.proofs.Listed.{Placed, candidates_placed}
+use Rattle.smk_choose.proofs.Listed.{Placed, candidates_placed, all_append}
 use Rattle.smk_chain.specs.Derive.{Listings, wants, next, reach}
 use Rattle.smk_choose_wants.specs.declared.wanted.Want.{Want}
 use Rattle.smk_choose_wants.specs.declared.wanted.Want.TheVariants as want
@@ -24,7 +24,6 @@ use Rattle.smk_chain_sight.proofs.Distinct.{once, added, added-append, once_agai
 use Rattle.smk_chain_sight.specs.Sight.{SameAround, TellsReach}
 use Rattle.smk_chain_sight.proofs.Agree.{all_weaker}
 use Rattle.smk_chain_sight.proofs.Eyes.{candidates_said, same_around, arounds_on, is_by, holds_by}
-use Rattle.smk_chain_sight.proofs.Taken.{all_both}
 
 -- ## Loops
 
@@ -278,13 +277,13 @@ module _ (flow : Flow) (L : Listings) (eye : Eye) (from : ℕ) (xs fresh new : L
   pub told_at : (x : Eye) → Keeps x eye → AllByRecursion (IsListedAround flow x) (take from xs) → length new ≤ 100000 → AllByRecursion (IsListedAround flow eye) xs
   told_at x keeps before few =
       subst (AllByRecursion (IsListedAround flow eye)) (ap (λ ys. take from xs ++ ys) l.is ∙ take-append-drop from xs)
-      (all_both (IsListedAround flow eye) (take from xs) fresh (arounds_on flow x eye (take from xs) keeps before) (l.advanced.listed few))
+      (all_append (IsListedAround flow eye) (take from xs) fresh (arounds_on flow x eye (take from xs) keeps before) (l.advanced.listed few))
 
 -- the last level
 pub told_last : (flow : Flow) (x y : Eye) (from : ℕ) (xs fresh : List Path) → Keeps x y → fresh ≡ drop from xs → AllByRecursion (IsListedAround flow x) (take from xs) → AllByRecursion (IsListedAround flow y) fresh → AllByRecursion (IsListedAround flow y) xs
 told_last flow x y from xs fresh keeps is before now =
     subst (AllByRecursion (IsListedAround flow y)) (ap (λ ys. take from xs ++ ys) is ∙ take-append-drop from xs)
-    (all_both (IsListedAround flow y) (take from xs) fresh (arounds_on flow x y (take from xs) keeps before) now)
+    (all_append (IsListedAround flow y) (take from xs) fresh (arounds_on flow x y (take from xs) keeps before) now)
 
 pub grown_none : (flow : Flow) (S : Sources) (L : Listings) (levels : ℕ) (xs : List Path) → levels ≡ 0 → xs ≡ grown flow S L levels xs
 grown_none flow S L levels xs e = sym (ap (λ n. grown flow S L n xs) e)

@@ -5,6 +5,7 @@ use Rattle.std.specs.List.{flat_map, enumerate_from, AllByRecursion}
 use Rattle.std.proofs.lemmas.List.{get_or_append_left, get_or_push, append-nil, append_assoc, length-append, map-append, take_more, length_push}
 use Rattle.std.proofs.lemmas.Slice.Eq.{bytes_eq-Decides}
 use Rattle.std.proofs.lemmas.Bool.{cases_lt}
+use Rattle.std.proofs.lemmas.Option.{same_Some, none-some}
 use Rattle.smk_base.specs.declared.tree.Pair.{Pair}
 use Rattle.smk_base.specs.Path.{is_path}
 use Rattle.smk_world.specs.Trees.{Path}
@@ -83,12 +84,6 @@ made_push readings paths (v ∷ ws) (x ∷ ms) w m are is = (are.0, made_push re
 
 -- ---- a new path
 
-some_number : (a b : ℕ) → Some a ≡ Some b → a ≡ b
-some_number a b e = cc
-
-not_some : (a : ℕ) → None ≡ Some a → ⊥
-not_some a e = cc
-
 module _ (old new : Reach) (path : Path) (n : ℕ) (known : AreNumbered old) (is : is_path path ≡ true) (count : n ≡ length old.paths.items)
     (pushed : new.paths.items ≡ old.paths.items ++ path ∷ [])
     (put : (q : Path) → get_by_text new.numbers q ≡ cond (bytes_eq path q) (Some n) (get_by_text old.numbers q)) (fresh : get_by_text old.numbers path ≡ None) where
@@ -103,7 +98,7 @@ module _ (old new : Reach) (path : Path) (n : ℕ) (known : AreNumbered old) (is
 
   at_by : (p : Path) (m : ℕ) (b : Bool) → bytes_eq path p ≡ b → cond b (Some n) (get_by_text old.numbers p) ≡ Some m → (m < length new.paths.items) × (path_at new.paths.items m ≡ p)
   at_by p m true e f =
-      let same : n ≡ m = some_number n m f in
+      let same : n ≡ m = same_Some n m f in
       (omega (arith, len, count, same), here m (sym count ∙ same) ∙ (bytes_eq-Decides path p).0 e)
   at_by p m false e f =
       let k = known.at p m f in
@@ -119,7 +114,7 @@ module _ (old new : Reach) (path : Path) (n : ℕ) (known : AreNumbered old) (is
   }
 
   kept_by : (p : Path) (m : ℕ) (b : Bool) → bytes_eq path p ≡ b → get_by_text old.numbers p ≡ Some m → cond b (Some n) (get_by_text old.numbers p) ≡ Some m
-  kept_by p m true e f = absurd (not_some m (sym fresh ∙ ap (get_by_text old.numbers) ((bytes_eq-Decides path p).0 e) ∙ f))
+  kept_by p m true e f = absurd (none-some m (sym fresh ∙ ap (get_by_text old.numbers) ((bytes_eq-Decides path p).0 e) ∙ f))
   kept_by p m false e f = f
 
   pub grows_new : new.nodes ≡ old.nodes → Grows old new

@@ -23,7 +23,7 @@ below_push : (end n : ℕ) (ns : List ℕ) → n < end → AreBelow end ns → A
 below_push end n [] lt h = (lt, tt)
 below_push end n (m ∷ ns) lt h = (h.0, below_push end n ns lt h.1)
 
-or_swap : (a b c : Bool) → (a || (b || c)) ≡ (b || (a || c))
+pub or_swap : (a b c : Bool) → (a || (b || c)) ≡ (b || (a || c))
 or_swap true true c = refl
 or_swap true false c = refl
 or_swap false b c = refl

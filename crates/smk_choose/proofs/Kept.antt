@@ -1,6 +1,7 @@
 -- What holds while rules are put into an index, and while numbers are merged.
-use Rattle.std.proofs.Common.{◌≡◌, ◌⊎◌, inl, inr, ℕ, zero, suc, ◌+◌, ◌<◌, ◌≤◌, ◌==◌, ◌||◌, Bool, true, false, List, [], ◌∷◌, get_or, length, Some, None, slice_get, refl, sym, ap, ap₂, subst, ◌∙◌, arith}
+use Rattle.std.proofs.Common.{◌≡◌, ◌⊎◌, inl, inr, ℕ, zero, suc, ◌+◌, ◌<◌, ◌≤◌, ◌==◌, ◌||◌, Bool, true, false, List, [], ◌∷◌, get_or, length, Some, slice_get, refl, sym, ap, ap₂, subst, ◌∙◌, arith}
 use Rattle.std.proofs.lemmas.Bool.{eq-eqb, or_left, or_parts, cases_lt, cases_order}
+use Rattle.std.proofs.lemmas.Option.{slice_get_past}
 use Rattle.smk_world.specs.Trees.{Path}
 use Rattle.smk_pattern.specs.Shapes.{Text, Shape}
 use Rattle.smk_flow.specs.declared.workflow.Rule.{Rule}
@@ -21,11 +22,6 @@ last_or_before m n lt = go (cases_order m n)
     go (inl same) = inl same
     go (inr (inl less)) = inr less
     go (inr (inr more)) = absurd (omega (arith, lt, more))
-
-beyond_none : {A : Type 0} (xs : List A) (i : ℕ) → length xs ≤ i → slice_get xs i ≡ None
-beyond_none [] i le = refl
-beyond_none (x ∷ xs) zero le = absurd (omega (arith, le))
-beyond_none (x ∷ xs) (suc i) le = beyond_none xs i (omega (arith, le))
 
 -- ---- rules by their outputs
 
@@ -71,7 +67,7 @@ all_indexed rules end index le h = record {
 
     by : (p : Path) (n : ℕ) → may_fit (outputs_at rules n) p ≡ true → (n < end) ⊎ (end ≤ n) → tries index p n ≡ true
     by p n e (inl lt) = h.finds p n lt e
-    by p n e (inr ge) = absurd (never (ap (λ o. may_fit (outputs_in o) p) (sym (beyond_none rules n (omega (arith, le, ge)))) ∙ e))
+    by p n e (inr ge) = absurd (never (ap (λ o. may_fit (outputs_in o) p) (sym (slice_get_past rules n (omega (arith, le, ge)))) ∙ e))
 
 -- ---- rules that make directories
 
@@ -125,7 +121,7 @@ all_folders readings end numbers le h = record {
   where
     by : (n : ℕ) → has_number n numbers ≡ false → (n < end) ⊎ (end ≤ n) → directories_at readings n ≡ []
     by n e (inl lt) = h.misses n lt e
-    by n e (inr ge) = ap directories_in (beyond_none readings n (omega (arith, le, ge)))
+    by n e (inr ge) = ap directories_in (slice_get_past readings n (omega (arith, le, ge)))
 
 -- ---- two lists of numbers merged
 

@@ -1,12 +1,12 @@
 mod Rows
-mod Preferred
+pub mod Preferred
 mod Sweeps
 mod Named
 mod Above
 mod ByName
 pub mod Listed
 mod Growing
-mod Spanning
+pub mod Spanning
 mod Deep
 mod Deciding
 mod Covering

@@ -3,6 +3,8 @@ use Rattle.std.proofs.Common.{◌≡◌, ℕ, zero, suc, ◌+◌, ◌<◌, ◌&&
 use Rattle.std.specs.List.{flat_map, filter_map, cons_option, enumerate_from, list_all, AllByRecursion}
 use Rattle.std.proofs.lemmas.List.{map-append, take_more, append_assoc, length_push}
 use Rattle.std.proofs.lemmas.List.Folds.{list_all-append}
+use Rattle.std.proofs.lemmas.List.Elements.{filter-append}
+use Rattle.std.proofs.lemmas.Option.{get_or_from_slice_get}
 use Rattle.smk_base.specs.declared.tree.Pair.{Pair}
 use Rattle.smk_base.specs.Path.{is_path}
 use Rattle.smk_world.specs.World.{folders_above}
@@ -24,32 +26,13 @@ use Rattle.smk_choose.proofs.ByName.{rule_found}
 
 -- ---- lists
 
-map_map : {A B C : Type 0} (f : B → C) (g : A → B) (xs : List A) → map f (map g xs) ≡ map (λ x. f (g x)) xs
+pub map_map : {A B C : Type 0} (f : B → C) (g : A → B) (xs : List A) → map f (map g xs) ≡ map (λ x. f (g x)) xs
 map_map f g [] = refl
 map_map f g (x ∷ xs) = ap (λ ys. f (g x) ∷ ys) (map_map f g xs)
 
 filter_map-map : {A B C : Type 0} (h : B → Option C) (g : A → B) (xs : List A) → filter_map h (map g xs) ≡ filter_map (λ x. h (g x)) xs
 filter_map-map h g [] = refl
 filter_map-map h g (x ∷ xs) = ap (cons_option (h (g x))) (filter_map-map h g xs)
-
-filter-append : {A : Type 0} (p : A → Bool) (xs ys : List A) → filter p (xs ++ ys) ≡ filter p xs ++ filter p ys
-filter-append p [] ys = refl
-filter-append p (x ∷ xs) ys = go (p x) (filter-append p xs ys)
-  where
-    go : (b : Bool) → filter p (xs ++ ys) ≡ filter p xs ++ filter p ys → cond b (x ∷ filter p (xs ++ ys)) (filter p (xs ++ ys)) ≡ cond b (x ∷ filter p xs) (filter p xs) ++ filter p ys
-    go true more = ap (λ zs. x ∷ zs) more
-    go false more = more
-
-not_there : {A : Type 0} (x : A) → None ≡ Some x → ⊥
-not_there x e = cc
-
-same_there : {A : Type 0} (x y : A) → Some x ≡ Some y → x ≡ y
-same_there x y e = cc
-
-got : {A : Type 0} (xs : List A) (i : ℕ) (x d : A) → slice_get xs i ≡ Some x → get_or xs i d ≡ x
-got [] i x d e = absurd (not_there x e)
-got (y ∷ xs) zero x d e = same_there y x e
-got (y ∷ xs) (suc i) x d e = got xs i x d e
 
 pub readings_step : (flow : Flow) (rules : List RulePart) (i : ℕ) (rule : Rule) (made new : List Reading) → i < length rules → rule ≡ get_or (map rule_of rules) i rule →
     made ≡ map (reading_of flow) (take i rules) → new ≡ made ++ reading_of flow rule.part ∷ [] → new ≡ map (reading_of flow) (take (i + 1) rules)
@@ -58,7 +41,7 @@ readings_step flow rules i rule made new lt at w e =
     ∙ sym (
     ap (map (reading_of flow)) (take_more rules i rule.part lt)
     ∙ map-append (reading_of flow) (take i rules) (get_or rules i rule.part ∷ [])
-    ∙ ap (λ p. map (reading_of flow) (take i rules) ++ reading_of flow p ∷ []) (got rules i rule.part rule.part (rule_found rules i rule lt at)))
+    ∙ ap (λ p. map (reading_of flow) (take i rules) ++ reading_of flow p ∷ []) (get_or_from_slice_get rules i rule.part rule.part (rule_found rules i rule lt at)))
 
 -- ---- one rule
 
@@ -171,7 +154,7 @@ all_filter P p (x ∷ xs) all = go (p x) (all_filter P p xs all.1)
     go true rest = (all.0, rest)
     go false rest = rest
 
-all_append : {A : Type 0} (P : A → Type 0) (xs ys : List A) → AllByRecursion P xs → AllByRecursion P ys → AllByRecursion P (xs ++ ys)
+pub all_append : {A : Type 0} (P : A → Type 0) (xs ys : List A) → AllByRecursion P xs → AllByRecursion P ys → AllByRecursion P (xs ++ ys)
 all_append P [] ys a b = b
 all_append P (x ∷ xs) ys a b = (a.0, all_append P xs ys a.1 b)
 
@@ -254,7 +237,7 @@ fitting_listed flow p =
     or_both (as_member flow p) (as_output flow p)
     ∙ ap₂ or_others (all_members flow flow.rules 0 (folders_above p)) (all_outputs flow.rules 0 p)
 
-map_same : {A B : Type 0} (f g : A → B) → ((x : A) → f x ≡ g x) → (xs : List A) → map f xs ≡ map g xs
+pub map_same : {A B : Type 0} (f g : A → B) → ((x : A) → f x ≡ g x) → (xs : List A) → map f xs ≡ map g xs
 map_same f g same [] = refl
 map_same f g same (x ∷ xs) = ap₂ ◌∷◌ (same x) (map_same f g same xs)
 

@@ -54,7 +54,7 @@ pub chosen_placed : (flow : Flow) (sources : Sources) (p : Path) (c : Candidate)
 chosen_placed flow sources p c e = chosen_candidate flow sources p c (Placed flow.rules) (candidates_placed flow sources p) e
 
 -- what passes a filter passes its test
-all_pass : {A : Type 0} (f : A → Bool) (xs : List A) → AllByRecursion (λ x. f x ≡ true) (filter f xs)
+pub all_pass : {A : Type 0} (f : A → Bool) (xs : List A) → AllByRecursion (λ x. f x ≡ true) (filter f xs)
 all_pass f [] = tt
 all_pass f (x ∷ xs) = go (f x) refl (all_pass f xs)
   where

@@ -118,11 +118,3 @@ before_here a b names i name lt at e =
     ∙ ap (λ x. (x || among (drop (i + 1) names) b) || has_before a b (name ∷ drop (i + 1) names)) e
 
 -- ---- both
-
-pub not_both : (a b : Bool) → b ≡ false → (a && b) ≡ false
-not_both true b e = e
-not_both false b e = refl
-
-pub not_first : (a b : Bool) → a ≡ false → (a && b) ≡ false
-not_first true b e = absurd (true≢false e)
-not_first false b e = refl

@@ -154,7 +154,7 @@ numbers_later : (old new : Reach) (xs : List Path) → Grows old new → AllByRe
 numbers_later old new [] g all = tt
 numbers_later old new (x ∷ xs) g all = (number_later old new x g all.0, numbers_later old new xs g all.1)
 
-all_push : {A : Type 0} (P : A → Type 0) (xs : List A) (x : A) → AllByRecursion P xs → P x → AllByRecursion P (xs ++ x ∷ [])
+pub all_push : {A : Type 0} (P : A → Type 0) (xs : List A) (x : A) → AllByRecursion P xs → P x → AllByRecursion P (xs ++ x ∷ [])
 all_push P [] x all p = (p, tt)
 all_push P (y ∷ xs) x all p = (all.0, all_push P xs x all.1 p)
 

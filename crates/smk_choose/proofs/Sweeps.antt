@@ -1,8 +1,10 @@
 -- One sweep over all paths, and what any number of them give.
 use Rattle.std.proofs.Common.{◌≡◌, ◌++◌, ℕ, zero, suc, ◌+◌, ◌<◌, ◌≤◌, ◌==◌, ◌||◌, ◌&&◌, Bool, true, false, List, [], ◌∷◌, get_or, take, take_all, append-nil, drop, length, ◌≢◌, eqb-true, Option, None, refl, sym, ap, ◌∙◌, arith, true≢false, ◌⊎◌, inl, inr, ⊎_elim}
 use Rattle.std.proofs.lemmas.List.{get_or_past, at_drop_more, drop_all}
-use Rattle.std.proofs.lemmas.Bool.Decides.{nat_tests}
 use Rattle.std.specs.List.{list_any, list_all}
+use Rattle.std.proofs.lemmas.Bool.{and_from, and_parts, or_cases, or_left, or_right, eq-eqb}
+use Rattle.std.proofs.Math.Bool.{or_assoc}
+use Rattle.std.specs.Cmp.{both_ways}
 use Rattle.smk_choose.specs.declared.nodes.Want.{Want}
 use Rattle.smk_choose.specs.declared.nodes.Want.TheVariants.{Path, NoPath}
 use Rattle.smk_choose.specs.declared.nodes.Way.{Way}
@@ -13,19 +15,6 @@ use Rattle.smk_choose.specs.Heights.{is_within, height_at, want_in, next, no_nod
 
 abbrev pub IsMore : (ℕ → Bool) → (ℕ → Bool) → Type 0
 IsMore these those = (q : ℕ) → these q ≡ true → those q ≡ true
-
-and_true : (a b : Bool) → a ≡ true → b ≡ true → (a && b) ≡ true
-and_true true true e f = refl
-and_true true false e f = absurd (true≢false (sym f))
-and_true false b e f = absurd (true≢false (sym e))
-
-and_first : (a b : Bool) → (a && b) ≡ true → a ≡ true
-and_first true b e = refl
-and_first false b e = absurd (true≢false (sym e))
-
-and_second : (a b : Bool) → (a && b) ≡ true → b ≡ true
-and_second true b e = e
-and_second false b e = absurd (true≢false (sym e))
 
 or_more : (a b c d : Bool) → (a ≡ true → c ≡ true) → (b ≡ true → d ≡ true) → (a || b) ≡ true → (c || d) ≡ true
 or_more true b c d f g e = ap (λ x. x || d) (f refl)
@@ -39,7 +28,7 @@ want_more these those more (NoPath t) e = absurd (true≢false (sym e))
 wants_more : (these those : ℕ → Bool) → IsMore these those → (ws : List Want) → list_all (want_in these) ws ≡ true → list_all (want_in those) ws ≡ true
 wants_more these those more [] e = refl
 wants_more these those more (w ∷ ws) e =
-    and_true _ _ (want_more these those more w (and_first _ _ e)) (wants_more these those more ws (and_second (want_in these w) _ e))
+    and_from _ _ (want_more these those more w (and_parts _ _ e).0) (wants_more these those more ws (and_parts (want_in these w) _ e).1)
 
 ways_more : (these those : ℕ → Bool) → IsMore these those → (ways : List Way) →
     list_any (λ (w : Way). list_all (want_in these) w.wants) ways ≡ true → list_any (λ (w : Way). list_all (want_in those) w.wants) ways ≡ true
@@ -71,26 +60,8 @@ swept_none nodes old = record {
   more = λ n q le lt e. absurd (true≢false (sym e ∙ ap (λ (node : Node). next (λ r. is_within n (height_at old r)) node) (past nodes q le)));
 }
 
-or_cases : (a b : Bool) → (a || b) ≡ true → (a ≡ true) ⊎ (b ≡ true)
-or_cases true b e = inl refl
-or_cases false b e = inr e
-
-or_first : (a b : Bool) → a ≡ true → (a || b) ≡ true
-or_first true b e = refl
-or_first false b e = absurd (true≢false (sym e))
-
-or_second : (a b : Bool) → b ≡ true → (a || b) ≡ true
-or_second true b e = refl
-or_second false b e = e
-
-same_number : (a b : ℕ) → (a == b) ≡ true → a ≡ b
-same_number a b e = eqb-true a b e
-
-number_same : (a : ℕ) → (a == a) ≡ true
-number_same a = grind (arith, nat_tests)
-
 other_number : (a b : ℕ) → (a == b) ≡ false → a ≢ b
-other_number a b e same = true≢false (sym (ap (λ x. x == b) same ∙ number_same b) ∙ e)
+other_number a b e same = true≢false (sym (ap (λ x. x == b) same ∙ eq-eqb b b refl) ∙ e)
 
 module _ (nodes : List Node) (old now new : List (Option ℕ)) (path : ℕ) (node : Node) (height : Option ℕ) (from : ℕ) (count : from ≡ suc path) (done : Swept nodes old now from)
     (here : node_at nodes path ≡ node)
@@ -98,10 +69,10 @@ module _ (nodes : List Node) (old now new : List (Option ℕ)) (path : ℕ) (nod
     (later : (n : ℕ) → n < 200 → is_within (suc n) height ≡ next (λ q. is_within n (height_at now q)) node)
     (lowered : (n q : ℕ) → is_within n (height_at new q) ≡ (is_within n (height_at now q) || (q == path && is_within n height))) where
   kept : (n q : ℕ) → is_within n (height_at now q) ≡ true → is_within n (height_at new q) ≡ true
-  kept n q e = lowered n q ∙ or_first _ _ e
+  kept n q e = lowered n q ∙ or_left _ _ e
 
   put : (n q : ℕ) → q ≡ path → is_within n height ≡ true → is_within n (height_at new q) ≡ true
-  put n q e h = lowered n q ∙ or_second (is_within n (height_at now q)) _ (and_true _ _ (ap (λ x. q == x) (sym e) ∙ number_same q) h)
+  put n q e h = lowered n q ∙ or_right (is_within n (height_at now q)) _ (and_from _ _ (ap (λ x. q == x) (sym e) ∙ eq-eqb q q refl) h)
 
   height_sound : IsSound nodes old → (n : ℕ) → n < 201 → is_within n height ≡ true → reached nodes n path ≡ true
   height_sound s zero lt e = ap (λ (x : Node). x.source) here ∙ sym zeroth ∙ e
@@ -113,13 +84,13 @@ module _ (nodes : List Node) (old now new : List (Option ℕ)) (path : ℕ) (nod
   now_sound s n q lt e = ⊎_elim
       (λ h. done.sound s n q lt h)
       (λ h.
-      let same : q ≡ path = same_number q path (and_first (q == path) _ h) in
-      ap (reached nodes n) same ∙ height_sound s n lt (and_second (q == path) _ h))
+      let same : q ≡ path = eqb-true q path (and_parts (q == path) _ h).0 in
+      ap (reached nodes n) same ∙ height_sound s n lt (and_parts (q == path) _ h).1)
       (or_cases (is_within n (height_at now q)) (q == path && is_within n height) (sym (lowered n q) ∙ e))
 
   at_or_after : (q : ℕ) → path ≤ q → (q ≡ path) ⊎ (suc path ≤ q)
   at_or_after q le = elim (q == path) as (λ b. (q == path) ≡ b → (q ≡ path) ⊎ (suc path ≤ q)) [
-    | true ↦ λ e. inl (same_number q path e)
+    | true ↦ λ e. inl (eqb-true q path e)
     | false ↦ λ e. inr (omega (arith, other_number q path e))
   ] refl
 
@@ -157,14 +128,9 @@ complete_still nodes heights more (suc m) = more m (complete_still nodes heights
 pub sound_none : (nodes : List Node) (heights : List (Option ℕ)) → ((q : ℕ) → height_at heights q ≡ None) → IsSound nodes heights
 sound_none nodes heights none n q lt e = absurd (true≢false (sym e ∙ ap (is_within n) (none q)))
 
-same_tests : (a b : Bool) → (a ≡ true → b ≡ true) → (b ≡ true → a ≡ true) → a ≡ b
-same_tests true b f g = sym (f refl)
-same_tests false true f g = g refl
-same_tests false false f g = refl
-
 pub exact : (nodes : List Node) (heights : List (Option ℕ)) → IsSound nodes heights → IsComplete nodes 201 heights → (n q : ℕ) → n < 201 →
     is_within n (height_at heights q) ≡ reached nodes n q
-exact nodes heights s c n q lt = same_tests _ _ (s n q lt) (c n q lt lt)
+exact nodes heights s c n q lt = both_ways _ _ (s n q lt) (c n q lt lt)
 
 pub none_push : (heights : List (Option ℕ)) → ((q : ℕ) → height_at heights q ≡ None) → (q : ℕ) → height_at (heights ++ None ∷ []) q ≡ None
 none_push [] none zero = refl
@@ -184,19 +150,11 @@ none_here P all items i w b same whole lt at e =
     and_false true = refl
     and_false false = refl
 
-or_assoc : (a b c : Bool) → (a || (b || c)) ≡ ((a || b) || c)
-or_assoc true b c = refl
-or_assoc false b c = refl
-
 pub any_step : (P : Way → Bool) (items : List Way) (i : ℕ) (way : Way) (whole old new : Bool) → whole ≡ (old || list_any P (drop i items)) →
     i < length items → way ≡ get_or items i way → new ≡ (old || P way) → whole ≡ (new || list_any P (drop (i + 1) items))
 any_step P items i way whole old new w lt at e =
     w ∙ ap (λ x. old || x) (at_drop_more (list_any P) items i way lt ∙ ap (λ x. P x || list_any P (drop (i + 1) items)) (sym at))
-    ∙ or_assoc old (P way) (list_any P (drop (i + 1) items)) ∙ ap (λ x. x || list_any P (drop (i + 1) items)) (sym e)
-
-pub both_false : (a b : Bool) → (a || b) ≡ false → (a ≡ false) × (b ≡ false)
-both_false true b e = absurd (true≢false e)
-both_false false b e = (refl, e)
+    ∙ sym (or_assoc old (P way) (list_any P (drop (i + 1) items))) ∙ ap (λ x. x || list_any P (drop (i + 1) items)) (sym e)
 
 pub written_back : {X : Type 0} (old new : List X) (n : ℕ) → length old ≡ n → length new ≡ n → take n (new ++ drop (length new) old) ≡ new
 written_back old new n e f =

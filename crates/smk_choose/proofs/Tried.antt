@@ -4,6 +4,7 @@ use Rattle.std.specs.List.{flat_map, filter_map, cons_option}
 use Rattle.std.specs.Prelude.{nat_lt}
 use Rattle.std.proofs.lemmas.Bool.{ltb-false, eqb-true, ne_eqb, or_parts, and_parts, cases_order}
 use Rattle.std.proofs.lemmas.Slice.Eq.{bytes_eq-Decides}
+use Rattle.std.proofs.Math.Bool.{or_assoc}
 use Rattle.smk_base.specs.declared.tree.Pair.{Pair}
 use Rattle.smk_world.specs.Trees.{Path, first}
 use Rattle.smk_pattern.specs.Shapes.{Text, Part, Wildcard}
@@ -187,10 +188,6 @@ all_members readings folders ns are =
 
 -- ---- the least of two
 
-or_first : (a b c : Bool) → ((a || b) || c) ≡ (a || (b || c))
-or_first true b c = refl
-or_first false b c = refl
-
 or_second : (a b c : Bool) → (b || (a || c)) ≡ (a || (b || c))
 or_second true true c = refl
 or_second true false c = refl
@@ -199,7 +196,7 @@ or_second false b c = refl
 pub first_least : (n : ℕ) (ones other : List ℕ) → ((from : ℕ) → Rises from other → Rises n other) → IsLeast n (n ∷ ones) other ones other
 first_least n ones other above = record {
   rises = λ from a b. (a.0, rises_from (n + 1) n ones (omega arith) a.1, above from b);
-  has = λ m. or_first (m == n) (has_number m ones) (has_number m other);
+  has = λ m. or_assoc (m == n) (has_number m ones) (has_number m other);
   fewer = omega arith;
 }
 

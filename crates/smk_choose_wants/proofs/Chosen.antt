@@ -1,8 +1,8 @@
 -- A chosen job's texts are paths, and its rule is there.
-use Rattle.std.proofs.Common.{◌≡◌, ◌≢◌, ℕ, zero, suc, ◌<◌, ◌≤◌, ◌&&◌, not, Bool, true, false, cond, List, [], ◌∷◌, ◌++◌, length, map, filter, Option, Some, None, get_or, nat_lt, slice_get, refl, sym, ap, ◌∙◌, arith}
+use Rattle.std.proofs.Common.{◌≡◌, ◌≢◌, ℕ, zero, suc, ◌<◌, ◌≤◌, ◌&&◌, not, Bool, true, false, cond, List, [], ◌∷◌, ◌++◌, length, map, Option, Some, None, get_or, nat_lt, slice_get, refl, sym, ap, ◌∙◌, arith}
 use Rattle.std.proofs.lemmas.Option.{same_Some, none-some}
 use Rattle.std.proofs.lemmas.Bool.Decides.{nat_tests}
-use Rattle.std.specs.List.{list_all, list_any, AllByRecursion}
+use Rattle.std.specs.List.{list_all, list_any}
 use Rattle.smk_base.specs.Path.{is_path}
 use Rattle.smk_base.proofs.Places.{and_first}
 use Rattle.smk_world.specs.Trees.{Path}
@@ -17,7 +17,7 @@ use Rattle.smk_choose.specs.declared.choice.Making.{Making}
 use Rattle.smk_choose.specs.declared.choice.Chosen.TheVariants as told
 use Rattle.smk_choose.specs.Choose.{Sources, Make, as_member, as_output, or_else, candidates, is_apart, avail, choose}
 use Rattle.smk_choose.specs.Told.{making}
-use Rattle.smk_choose.proofs.Picked.{chosen_candidate, chosen_placed, chosen_is_viable}
+use Rattle.smk_choose.proofs.Picked.{chosen_candidate, chosen_placed, chosen_is_viable, all_pass}
 use Rattle.smk_choose_wants.proofs.Composed.{all_front}
 use Rattle.smk_choose_wants.specs.Wants.{IsChosen, candidate_of}
 
@@ -34,14 +34,6 @@ avail_path flow sources n t e = go (is_path t) e
         ] ≡ true → b ≡ true
     go true e = refl
     go false e = e
-
-all_pass : {A : Type 0} (f : A → Bool) (xs : List A) → AllByRecursion (λ x. f x ≡ true) (filter f xs)
-all_pass f [] = tt
-all_pass f (x ∷ xs) = go (f x) refl (all_pass f xs)
-  where
-    go : (b : Bool) → f x ≡ b → AllByRecursion (λ y. f y ≡ true) (filter f xs) → AllByRecursion (λ y. f y ≡ true) (cond b (x ∷ filter f xs) (filter f xs))
-    go true e rest = (e, rest)
-    go false e rest = rest
 
 -- what has only texts of which a test says that they are paths has no fault
 no_fault : (test : Text → Bool) → ((t : Text) → test t ≡ true → is_path t ≡ true) → (ts rest : List Text) → list_all test ts ≡ true → path_fault rest ≡ None →

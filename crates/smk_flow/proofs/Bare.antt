@@ -1,5 +1,5 @@
 -- Texts in which no constraint stands have no bad one.
-use Rattle.std.proofs.Common.{◌≡◌, List, [], ◌∷◌, Bool, true, false, Some, None, refl, sym, subst, true≢false, ◌&&◌}
+use Rattle.std.proofs.Common.{◌≡◌, List, [], ◌∷◌, true, Some, None, refl, sym, subst, true≢false}
 use Rattle.std.specs.List.{list_all}
 use Rattle.smk_pattern.specs.Shapes.{Text}
 use Rattle.smk_pattern.specs.Grammar.{Piece, plain, hole, inline_limits, limit_for}
@@ -15,7 +15,3 @@ pub bare_good : (name : Text) (ps : List Piece) (names : List Text) → list_all
 bare_good name ps names e b =
     let h : None ≡ Some b.limit = subst (λ (ls : List Text). limit_for [] name ls ≡ Some b.limit) (bare_lacks name ps e) b.is in
     cc
-
-pub and_first : (a b : Bool) → (a && b) ≡ true → a ≡ true
-and_first true b e = refl
-and_first false b e = e

@@ -1,8 +1,9 @@
 -- Texts that aren't read as patterns, with the names in their braces filled.
-use Rattle.std.proofs.Common.{◌≡◌, ◌≢◌, ℕ, suc, ◌<◌, ◌==◌, ◌&&◌, ◌||◌, not, List, [], ◌∷◌, ◌++◌, length, get_or, Option, Some, None, option_map, Bool, true, false, cond, refl, sym, ap, subst, ◌∙◌, arith, true≢false, append-nil, append_assoc}
+use Rattle.std.proofs.Common.{◌≡◌, ◌≢◌, ℕ, suc, ◌<◌, ◌==◌, ◌&&◌, ◌||◌, not, List, [], ◌∷◌, ◌++◌, length, get_or, Option, Some, None, option_map, Bool, true, false, cond, refl, sym, ap, subst, ◌∙◌, arith, append-nil, append_assoc}
 use Rattle.std.specs.List.{list_all}
 use Rattle.std.specs.Int.{is_in_range}
 use Rattle.std.proofs.lemmas.Bool.Decides.{nat_tests}
+use Rattle.std.proofs.lemmas.Bool.{and_parts, not-true}
 use Rattle.smk_base.specs.declared.tree.Pair.{Pair}
 use Rattle.smk_pattern.specs.Shapes.{Text}
 use Rattle.smk_pattern.specs.Grammar.{is_letter, is_name}
@@ -25,21 +26,9 @@ pub free : (c : ℕ) (t : Text) → ((i : ℕ) → i < length t → get_or t i 0
 free c [] h = refl
 free c (b ∷ t) h = and_both (not (b == c)) (lacks c t) (differs b c (h 0 (omega arith))) (free c t (λ i lt. h (suc i) (omega (arith, lt))))
 
-and_left : (a b : Bool) → (a && b) ≡ true → a ≡ true
-and_left true b e = refl
-and_left false b e = e
-
-and_right : (a b : Bool) → (a && b) ≡ true → b ≡ true
-and_right true b e = e
-and_right false b e = absurd (true≢false (sym e))
-
-isnt : (a : Bool) → not a ≡ true → a ≡ false
-isnt true e = absurd (true≢false (sym e))
-isnt false e = refl
-
 pub lacks_behind : (c d : ℕ) (n t : Text) → lacks c (n ++ d ∷ t) ≡ true → lacks c t ≡ true
-lacks_behind c d [] t h = and_right (not (d == c)) (lacks c t) h
-lacks_behind c d (b ∷ n) t h = lacks_behind c d n t (and_right (not (b == c)) (lacks c (n ++ d ∷ t)) h)
+lacks_behind c d [] t h = (and_parts (not (d == c)) (lacks c t) h).1
+lacks_behind c d (b ∷ n) t h = lacks_behind c d n t (and_parts (not (b == c)) (lacks c (n ++ d ∷ t)) h).1
 
 -- ---- one byte more
 
@@ -59,8 +48,8 @@ plain_byte w b x (Some c) e = ap (λ (v : Bool). cond (v && is_name c.0) (or_emp
 plain : (b : List Pair) (t : Text) → lacks 123 t ≡ true → fill_words b t ≡ t
 plain b [] h = refl
 plain b (x ∷ t) h =
-    plain_byte (fill_words b t) b x (name_at b t) (isnt (x == 123) (and_left (not (x == 123)) (lacks 123 t) h))
-    ∙ ap (λ (u : Text). x ∷ u) (plain b t (and_right (not (x == 123)) (lacks 123 t) h))
+    plain_byte (fill_words b t) b x (name_at b t) (not-true (x == 123) (and_parts (not (x == 123)) (lacks 123 t) h).0)
+    ∙ ap (λ (u : Text). x ∷ u) (plain b t (and_parts (not (x == 123)) (lacks 123 t) h).1)
 
 longer : (x : ℕ) (w : Text) (o : Option (Text × Text)) → (x == 125) ≡ false → longer_name x w o ≡ cond (is_in_name x) (option_map (grown x) o) None
 longer x w o e = ap (λ (v : Bool). cond v (Some ([], w)) (cond (is_in_name x) (option_map (grown x) o) None)) e
@@ -70,8 +59,8 @@ longer x w o e = ap (λ (v : Bool). cond v (Some ([], w)) (cond (is_in_name x) (
 unclosed : (b : List Pair) (n : Text) → lacks 125 n ≡ true → name_at b n ≡ None
 unclosed b [] h = refl
 unclosed b (x ∷ n) h =
-    longer x (fill_words b n) (name_at b n) (isnt (x == 125) (and_left (not (x == 125)) (lacks 125 n) h))
-    ∙ ap (λ (o : Option (Text × Text)). cond (is_in_name x) (option_map (grown x) o) None) (unclosed b n (and_right (not (x == 125)) (lacks 125 n) h))
+    longer x (fill_words b n) (name_at b n) (not-true (x == 125) (and_parts (not (x == 125)) (lacks 125 n) h).0)
+    ∙ ap (λ (o : Option (Text × Text)). cond (is_in_name x) (option_map (grown x) o) None) (unclosed b n (and_parts (not (x == 125)) (lacks 125 n) h).1)
     ∙ none (is_in_name x)
   where
     none : (v : Bool) → cond v (option_map (grown x) None) None ≡ None
@@ -81,8 +70,8 @@ unclosed b (x ∷ n) h =
 closed : (b : List Pair) (n t : Text) → lacks 125 n ≡ true → name_at b (n ++ 125 ∷ t) ≡ cond (list_all is_in_name n) (Some (n, fill_words b t)) None
 closed b [] t h = refl
 closed b (x ∷ n) t h =
-    longer x (fill_words b (n ++ 125 ∷ t)) (name_at b (n ++ 125 ∷ t)) (isnt (x == 125) (and_left (not (x == 125)) (lacks 125 n) h))
-    ∙ ap (λ (o : Option (Text × Text)). cond (is_in_name x) (option_map (grown x) o) None) (closed b n t (and_right (not (x == 125)) (lacks 125 n) h))
+    longer x (fill_words b (n ++ 125 ∷ t)) (name_at b (n ++ 125 ∷ t)) (not-true (x == 125) (and_parts (not (x == 125)) (lacks 125 n) h).0)
+    ∙ ap (λ (o : Option (Text × Text)). cond (is_in_name x) (option_map (grown x) o) None) (closed b n t (and_parts (not (x == 125)) (lacks 125 n) h).1)
     ∙ both (is_in_name x) (list_all is_in_name n)
   where
     both : (v u : Bool) → cond v (option_map (grown x) (cond u (Some (n, fill_words b t)) None)) None ≡ cond (v && u) (Some (x ∷ n, fill_words b t)) None
@@ -93,8 +82,8 @@ closed b (x ∷ n) t h =
 name_bytes : (n : Text) → is_name n ≡ true → list_all is_in_name n ≡ true
 name_bytes [] e = refl
 name_bytes (x ∷ n) e =
-    and_both (is_in_name x) (list_all is_in_name n) (ap (λ (v : Bool). v || is_in_range 48 57 x) (and_left (is_letter x) (list_all is_in_name n) e))
-    (and_right (is_letter x) (list_all is_in_name n) e)
+    and_both (is_in_name x) (list_all is_in_name n) (ap (λ (v : Bool). v || is_in_range 48 57 x) (and_parts (is_letter x) (list_all is_in_name n) e).0)
+    (and_parts (is_letter x) (list_all is_in_name n) e).1
 
 -- a brace stands for itself before what closes none
 pub itself : (b : List Pair) (t : Text) → lacks 123 t ≡ true → lacks 125 t ≡ true → 123 ∷ t ≡ fill_words b (123 ∷ t)

@@ -1,6 +1,7 @@
 -- The texts of a job that must be paths, one kind after another.
 use Rattle.std.proofs.Common.{◌≡◌, ℕ, List, [], ◌∷◌, ◌++◌, map, Some, None, refl, sym, ap, ◌∙◌}
 use Rattle.std.specs.List.{flat_map}
+use Rattle.std.proofs.lemmas.Option.{none-some}
 use Rattle.smk_base.specs.declared.tree.Pair.{Pair}
 use Rattle.smk_pattern.specs.Shapes.{Text}
 use Rattle.smk_pattern.specs.Reading.{fill}
@@ -28,9 +29,6 @@ outs_same b (i ∷ items) = ap (λ ts. outs_filled b i ++ ts) (outs_same b items
 
 outs_fault : (b : List Pair) (items : List OutPart) → path_fault (flat_map (outs_filled b) items) ≡ path_fault (map (λ (o : FlaggedText). fill b o.text) (flat_map (λ (i : OutPart). i.outs) items))
 outs_fault b items = ap path_fault (outs_same b items)
-
-some_none : (f : JobFault) → Some f ≡ None → ⊥
-some_none f e = absurd (cc)
 
 module _ (flow : Flow) (rule : ℕ) (part : RulePart) (b : List Pair) where
   abbrev outputs_of : List Text
@@ -81,4 +79,4 @@ module _ (flow : Flow) (rule : ℕ) (part : RulePart) (b : List Pair) where
   pub no_flagged : (flag : Flag) (f : JobFault) → path_fault whole ≡ None → path_fault (flagged b flag (flat_map (λ (i : OutPart). i.outs) part.outputs)) ≡ Some f → ⊥
   no_flagged flag f h e =
       let none : path_fault (flagged b flag (outs part)) ≡ None = all_flagged b flag (outs part) (front_good outputs_of (logs_of ++ (inputs_of ++ folders)) h) in
-      some_none f (sym e ∙ none)
+      none-some f (sym none ∙ e)

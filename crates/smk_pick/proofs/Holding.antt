@@ -2,16 +2,14 @@
 use Rattle.std.proofs.Common.{◌≡◌, ℕ, ◌+◌, ◌-◌, ◌≤◌, Bool, true, ◌&&◌, List, [], ◌∷◌, ◌++◌, map, refl, sym, ap, ◌∙◌, arith}
 use Rattle.std.specs.Prelude.{sum_by, nat_le}
 use Rattle.std.specs.List.{list_all}
-use Rattle.std.proofs.lemmas.Bool.{le-leb}
+use Rattle.std.proofs.lemmas.Bool.{le-leb, and_from}
 use Rattle.std.proofs.lemmas.List.Sums.{sum_by-append}
+use Rattle.std.proofs.Math.Nat.{zero-add}
 use Rattle.smk_base.specs.declared.tree.Amount.{Amount}
 use Rattle.smk_pick.specs.declared.room.Ask.{Ask}
 use Rattle.smk_pick.specs.declared.room.Room.{Room}
 use Rattle.smk_pick.specs.Rooms.{amount, threads_in, are_within}
 use Rattle.smk_pick.specs.Shares.{has_room, has_used, raised, lowered, share_of, Holds, fits_in, is_used_in}
-
-zero_plus : (x : ℕ) → 0 + x ≡ x
-zero_plus x = omega arith
 
 less_middle : (a x b : ℕ) → (a + (x + b)) - x ≡ a + b
 less_middle a x b = omega arith
@@ -19,19 +17,16 @@ less_middle a x b = omega arith
 middle_below : (a x b : ℕ) → x ≤ a + (x + b)
 middle_below a x b = omega arith
 
-both : (a b : Bool) → a ≡ true → b ≡ true → (a && b) ≡ true
-both a b h k = ap (λ v. v && b) h ∙ k
-
 -- ## Sums
 
 sum_first : (f : Ask → ℕ) (ask : Ask) (after : List Ask) → sum_by f (ask ∷ after) ≡ f ask + sum_by f after
-sum_first f ask after = sum_by-append f (ask ∷ []) after ∙ ap (λ (n : ℕ). n + sum_by f after) (zero_plus (f ask))
+sum_first f ask after = sum_by-append f (ask ∷ []) after ∙ ap (λ (n : ℕ). n + sum_by f after) (zero-add (f ask))
 
 sum_middle : (f : Ask → ℕ) (before : List Ask) (ask : Ask) (after : List Ask) → sum_by f (before ++ ask ∷ after) ≡ sum_by f before + (f ask + sum_by f after)
 sum_middle f before ask after = sum_by-append f before (ask ∷ after) ∙ ap (λ (n : ℕ). sum_by f before + n) (sum_first f ask after)
 
 sum_last : (f : Ask → ℕ) (asks : List Ask) (ask : Ask) → sum_by f asks + f ask ≡ sum_by f (asks ++ ask ∷ [])
-sum_last f asks ask = sym (sum_by-append f asks (ask ∷ []) ∙ ap (λ (n : ℕ). sum_by f asks + n) (zero_plus (f ask)))
+sum_last f asks ask = sym (sum_by-append f asks (ask ∷ []) ∙ ap (λ (n : ℕ). sum_by f asks + n) (zero-add (f ask)))
 
 sum_without : (f : Ask → ℕ) (before : List Ask) (ask : Ask) (after : List Ask) → sum_by f (before ++ ask ∷ after) - f ask ≡ sum_by f (before ++ after)
 sum_without f before ask after =
@@ -70,7 +65,7 @@ room_is asks ask (b ∷ bounds) =
 used_is : (before : List Ask) (ask : Ask) (after : List Ask) (bounds : List Amount) → list_all (has_used ask.amounts) (map (share_of (before ++ ask ∷ after)) bounds) ≡ true
 used_is before ask after [] = refl
 used_is before ask after (b ∷ bounds) =
-    both (nat_le (of_name b ask) (sum_by (of_name b) (before ++ ask ∷ after))) (list_all (has_used ask.amounts) (map (share_of (before ++ ask ∷ after)) bounds))
+    and_from (nat_le (of_name b ask) (sum_by (of_name b) (before ++ ask ∷ after))) (list_all (has_used ask.amounts) (map (share_of (before ++ ask ∷ after)) bounds))
     (sum_has (of_name b) before ask after) (used_is before ask after bounds)
 
 -- ## The room
@@ -106,7 +101,7 @@ given_holds cores bounds room now before ask after h c t s = record {
 -- what a job that is in asks for is in use
 pub held_in_use : (cores : ℕ) (bounds : List Amount) (room : Room) (before : List Ask) (ask : Ask) (after : List Ask) → Holds cores bounds room (before ++ ask ∷ after) → is_used_in room ask ≡ true
 held_in_use cores bounds room before ask after h =
-    both (nat_le (threads_in room.cores ask.threads) room.threads) (list_all (has_used ask.amounts) room.shares.items)
+    and_from (nat_le (threads_in room.cores ask.threads) room.threads) (list_all (has_used ask.amounts) room.shares.items)
     (ap (λ (k : ℕ). nat_le (threads_in k ask.threads) room.threads) h.cores_are ∙ ap (nat_le (threads_in cores ask.threads)) h.threads_are
     ∙ sum_has (λ (a : Ask). threads_in cores a.threads) before ask after)
     (ap (list_all (has_used ask.amounts)) h.shares_are ∙ used_is before ask after bounds)

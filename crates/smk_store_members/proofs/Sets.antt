@@ -1,5 +1,5 @@
 -- The sets of names beside what is found.
-use Rattle.std.proofs.Common.{◌≡◌, inl, inr, ℕ, ◌<◌, Bool, true, false, ◌&&◌, ◌||◌, List, [], ◌∷◌, ◌++◌, length, refl, sym, ap, subst, ◌∙◌, arith, bytes_eq, length-append}
+use Rattle.std.proofs.Common.{◌≡◌, inl, inr, ℕ, ◌<◌, Bool, true, ◌&&◌, ◌||◌, List, [], ◌∷◌, ◌++◌, length, refl, sym, ap, subst, ◌∙◌, arith, bytes_eq, length-append}
 use Rattle.std.specs.Prelude.{String, string_bytes, if◌then◌else◌, Some, None, Result, Ok, Err, OnOk}
 use Rattle.std.specs.Global.{Global}
 use Rattle.std.specs.BTreeSet.{BTreeSet, contains_text}
@@ -14,6 +14,8 @@ use Rattle.std.specs.String.{string_cmp}
 use Rattle.std.proofs.lemmas.List.Folds.{list_any-append}
 use Rattle.std.proofs.lemmas.Map.Keys.{IsDistinct-from_sorted}
 use Rattle.std.proofs.lemmas.Map.Text.{is_eq-slice_cmp}
+use Rattle.std.proofs.Math.Bool.{or_comm, or-false, or_assoc}
+use Rattle.std.proofs.lemmas.Bool.{and_from}
 use Rattle.smk_base.specs.Path.{is_path}
 use Rattle.smk_base.proofs.Places.{same_flipped, same_place, place_itself}
 use Rattle.smk_base.proofs.Under.{or_cases, or_first, or_second, both_true}
@@ -27,37 +29,23 @@ use Rattle.smk_record.specs.declared.record.Member.{Member}
 use Rattle.smk_record.specs.Records.{is_member_folder, are_rising, is_less}
 use Rattle.smk_store_members.specs.Steps.{member, names_of, is_found, is_member_name, AreKept, AreInOrder}
 
-or_swap : (a b : Bool) → (a || b) ≡ (b || a)
-or_swap true true = refl
-or_swap true false = refl
-or_swap false true = refl
-or_swap false false = refl
-
-or_none : (a : Bool) → (a || false) ≡ a
-or_none true = refl
-or_none false = refl
-
-or_again : (a b c : Bool) → ((a || b) || c) ≡ (a || (b || c))
-or_again true b c = refl
-or_again false b c = refl
-
 -- what is found among more members
 pub found_append : (q : Path) (xs ys : List Member) → is_found (xs ++ ys) q ≡ (is_found xs q || is_found ys q)
 found_append q [] ys = refl
-found_append q (x ∷ xs) ys = ap (λ (b : Bool). bytes_eq q x.name || b) (found_append q xs ys) ∙ sym (or_again (bytes_eq q x.name) (is_found xs q) (is_found ys q))
+found_append q (x ∷ xs) ys = ap (λ (b : Bool). bytes_eq q x.name || b) (found_append q xs ys) ∙ sym (or_assoc (bytes_eq q x.name) (is_found xs q) (is_found ys q))
 
 pub folder_append : (q : Path) (xs ys : List Member) → is_member_folder (xs ++ ys) q ≡ (is_member_folder xs q || is_member_folder ys q)
 folder_append q xs ys = list_any-append (λ (m : Member). m.folder && bytes_eq m.name q) xs ys
 
 named_one : (q : Path) (found : List Member) (name : Path) (folder : Bool) → is_found (found ++ member folder name ∷ []) q ≡ (bytes_eq name q || is_found found q)
 named_one q found name folder =
-    found_append q found (member folder name ∷ []) ∙ ap (λ (b : Bool). is_found found q || b) (or_none (bytes_eq q name) ∙ same_flipped q name)
-    ∙ or_swap (is_found found q) (bytes_eq name q)
+    found_append q found (member folder name ∷ []) ∙ ap (λ (b : Bool). is_found found q || b) (or-false (bytes_eq q name) ∙ same_flipped q name)
+    ∙ or_comm (is_found found q) (bytes_eq name q)
 
 folder_one : (q : Path) (found : List Member) (name : Path) (folder : Bool) → is_member_folder (found ++ member folder name ∷ []) q ≡ ((folder && bytes_eq name q) || is_member_folder found q)
 folder_one q found name folder =
-    folder_append q found (member folder name ∷ []) ∙ ap (λ (b : Bool). is_member_folder found q || b) (or_none (folder && bytes_eq name q))
-    ∙ or_swap (is_member_folder found q) (folder && bytes_eq name q)
+    folder_append q found (member folder name ∷ []) ∙ ap (λ (b : Bool). is_member_folder found q || b) (or-false (folder && bytes_eq name q))
+    ∙ or_comm (is_member_folder found q) (folder && bytes_eq name q)
 
 -- one more member
 pub kept_more : (found new : List Member) (names folders names2 folders2 : BTreeSet (String Global)) (name : Path) (folder : Bool)
@@ -130,9 +118,6 @@ kinds_next found members new names folders m t kept before is kind pushed =
     subst (Each (λ (m : Member). m.folder ≡ is_member_folder found m.name)) (sym pushed)
     (each_push (λ (m : Member). m.folder ≡ is_member_folder found m.name) members m before (kind ∙ kept.folded t ∙ ap (is_member_folder found) (sym is)))
 
-both : (a b : Bool) → a ≡ true → b ≡ true → (a && b) ≡ true
-both a b h k = ap (λ (v : Bool). v && b) h ∙ k
-
 less_is : (o : Ordering) → o ≡ Less → is_less o ≡ true
 less_is o h = ap is_less h
 
@@ -156,7 +141,7 @@ unfolding IsStrictlySortedBy
 rising_texts [] s = refl
 rising_texts (p ∷ []) s = refl
 rising_texts (p ∷ (q ∷ rest)) s =
-    both (is_less (slice_cmp nat_cmp (string_bytes p) (string_bytes q))) (are_rising (texts_of (q ∷ rest))) (less_is (slice_cmp nat_cmp (string_bytes p) (string_bytes q)) s.0.0) (rising_texts (q ∷ rest) s.1)
+    and_from (is_less (slice_cmp nat_cmp (string_bytes p) (string_bytes q))) (are_rising (texts_of (q ∷ rest))) (less_is (slice_cmp nat_cmp (string_bytes p) (string_bytes q)) s.0.0) (rising_texts (q ∷ rest) s.1)
 
 all_named : (members : List Member) (ts : List (String Global)) (all : List Path) → ts ≡ [] → names_of members ++ texts_of ts ≡ all → names_of members ≡ all
 all_named members ts all none whole = sym (end (names_of members)) ∙ ap (λ (l : List (String Global)). names_of members ++ texts_of l) (sym none) ∙ whole

@@ -9,6 +9,7 @@ use Rattle.std.specs.declared.cmp.Ordering.{Ordering}
 use Rattle.std.specs.declared.cmp.Ordering.TheVariants.{Less}
 use Rattle.std.proofs.lemmas.Cmp.{nat_cmp_total, tied_itself}
 use Rattle.std.proofs.lemmas.List.Kept.{IsStrictlySortedBy-filter}
+use Rattle.std.specs.Cmp.{both_ways}
 use Rattle.smk_base.specs.Path.{is_path, is_under, is_at_or_under, own_folder}
 use Rattle.smk_base.proofs.Apart.{path_outside, outside-own}
 use Rattle.smk_base.proofs.Places.{and_first, and_second, same_place, place_itself}
@@ -97,14 +98,9 @@ place_of P p (m ∷ ms) q each h =
       | inr there ↦ place_of P p ms q each.1 there
     ]
 
-same_test : (a b : Bool) → (a ≡ true → b ≡ true) → (b ≡ true → a ≡ true) → a ≡ b
-same_test true b h k = sym (h refl)
-same_test false true h k = k refl
-same_test false false h k = refl
-
 -- ## Places in a folder
 
-below_in : (p name : Path) → below p (in_folder p name) ≡ name
+pub below_in : (p name : Path) → below p (in_folder p name) ≡ name
 below_in [] name = refl
 below_in (b ∷ p) name = ap (λ n. drop n (b ∷ p ++ 47 ∷ name)) (more (length p)) ∙ below_in p name
   where
@@ -116,7 +112,7 @@ outside_under p q path under =
     ap not (false_unless (is_at_or_under q own_folder)
     (λ own. never_both (is_at_or_under q p) (at_when_under q p under) (outside-own p q (path_outside p path) own).at_or_over))
 
-found_stands : (nodes : Nodes) (p q : Path) → IsFound nodes p q → Stands (nodes q)
+pub found_stands : (nodes : Nodes) (p q : Path) → IsFound nodes p q → Stands (nodes q)
 found_stands nodes p q (Inside name is there) = there
 found_stands nodes p q (Deeper folder name before reads is there) = there
 
@@ -130,7 +126,7 @@ some_stands Owned h = absurd (never_both false h refl)
 some_stands (Known None besides) h = absurd (never_both false h refl)
 some_stands (Known (Some n) besides) h = tt
 
-folder_read : (s : NodeState) → reads_folder s ≡ is_directory (reading s)
+pub folder_read : (s : NodeState) → reads_folder s ≡ is_directory (reading s)
 folder_read Owned = refl
 folder_read (Known None besides) = refl
 folder_read (Known (Some Directory) besides) = refl
@@ -195,7 +191,7 @@ module _ (read : List ℕ → Option Record) (w : World) (p : Path) (formed : Is
   places_same members all are =
       rising_same (member_places p members) (names_under (seen read w) p)
       (places_rise p members (valid_rising p members are.valid)) names_rise
-      (λ q. same_test (among (member_places p members) q) (among (names_under (seen read w) p) q)
+      (λ q. both_ways (among (member_places p members) q) (among (names_under (seen read w) p) q)
       (λ h.
       let m = place_of (IsThere w.nodes p) p members q are.there h in
       subst (λ x. among (names_under (seen read w) p) x ≡ true) (sym m.2)

@@ -1,7 +1,8 @@
 use Rattle.std.proofs.Common.{◌-◌, ◌∙◌, sym, arith, rules}
 use Rattle.std.proofs.lemmas.List.{get_or_read}
+use Rattle.std.proofs.lemmas.Bool.{or_parts}
 use Rattle.smk_choose.specs.Heights.{no_node}
-use Rattle.smk_choose.proofs.Sweeps.{swept_more, complete_more, both_false}
+use Rattle.smk_choose.proofs.Sweeps.{swept_more, complete_more}
 use Rattle.smk_choose.proofs.heights.sweep.Goals as goal
 
 pub loop-path-preserved : goal.loop-path-preserved
@@ -18,7 +19,7 @@ loop-path-preserved c =
           (sym (get_or_read c.args.nodes.now path node (omega (arith, within, c.loop-path-test.true)) c.index-nodes-path.is no_node))
           c.next_height-height.ensures.zero c.next_height-height.ensures.more c.lower_at-changed.ensures.lowered;
       same = λ e.
-          let both = both_false c.loop-path.changed c.lower_at-changed.result e in
+          let both = or_parts c.loop-path.changed c.lower_at-changed.result e in
           c.lower_at-changed.ensures.same both.1 ∙ c.loop-path.invariant.same both.0;
     }
 

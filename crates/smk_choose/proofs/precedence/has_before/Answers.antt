@@ -1,5 +1,6 @@
 use Rattle.std.proofs.Common.{◌∙◌, Bool, sym, ap, refl, bytes_eq, drop}
-use Rattle.smk_choose.proofs.Preferred.{before_step, before_here, before_from, not_both, not_first}
+use Rattle.std.proofs.lemmas.Bool.{and_right, and_left}
+use Rattle.smk_choose.proofs.Preferred.{before_step, before_here, before_from}
 use Rattle.smk_choose.proofs.precedence.has_before.Goals as goal
 use Rattle.smk_choose.proofs.precedence.has_before.Goals.{else-seen-via-then-seen+else-eq, else-seen-via-else-seen}
 
@@ -15,6 +16,6 @@ loop-name-preserved c = c.loop-name.invariant
     ∙ before_step c.args.a.now c.args.b.now c.loop-name.seen c.args.names.now c.loop-name.name-index c.name-item.result (bytes_eq c.args.b.now c.name-item.result) c.eq-seen.result
     c.loop-name-test.true c.name-item.is refl (c.eq-seen.ensures ∙ ap (bytes_eq c.args.a.now) c.as_str-in-loop-name.ensures)
     (elim c.else-seen.branch [
-      | else-seen-via-then-seen+else-eq w ↦ not_both c.loop-name.seen _ (ap (bytes_eq c.args.b.now) (sym w.as_str.ensures) ∙ sym w.eq.ensures ∙ w.if-eq.false)
-      | else-seen-via-else-seen w ↦ not_first c.loop-name.seen _ w.if-seen.false
+      | else-seen-via-then-seen+else-eq w ↦ and_right c.loop-name.seen _ (ap (bytes_eq c.args.b.now) (sym w.as_str.ensures) ∙ sym w.eq.ensures ∙ w.if-eq.false)
+      | else-seen-via-else-seen w ↦ and_left c.loop-name.seen _ w.if-seen.false
     ])
