@@ -4,6 +4,7 @@ use Rattle.std.specs.Prelude.{◌==◌}
 use Rattle.std.specs.List.{slice_get, list_all, count_by}
 use Rattle.std.proofs.lemmas.Bool.{cases_Bool, and_from, and_right, or_parts, eqb-false, ne_eqb}
 use Rattle.std.proofs.lemmas.List.Sums.{sum_by-cons}
+use Rattle.std.proofs.Math.Nat.{zero-add}
 use Rattle.smk_pick.specs.declared.room.Ask.{Ask}
 use Rattle.smk_pick.specs.Rooms.{are_within}
 use Rattle.smk_core.specs.declared.phase.Phase.{Phase}
@@ -112,19 +113,16 @@ less_ended s j false r runs =
     let two : count_by is_running (set s.phases j Failed) + 1 ≡ count_by is_running s.phases + 0 = count_set is_running s.asks s.phases j a.0 Running Failed r.as_many a.1 (is_running_at s.phases j runs) in
     omega arith
 
-nothing : (n : ℕ) → 0 + n ≡ n
-nothing n = omega arith
-
 less : (h : Happening) (s t : Standing) → IsRun s → is_replan h ≡ false → Happens s h t → moves_of h + left t ≡ left s
 less (Answered (Start j)) s t r no_plan (may, e) = ap (λ (x : Standing). 1 + left x) e ∙ less_started s j r may
-less (Answered Wait) s t r no_plan (none, some, e) = ap (λ (x : Standing). 0 + left x) e ∙ nothing (left s)
-less (Answered Finished) s t r no_plan (none, some, e) = ap (λ (x : Standing). 0 + left x) e ∙ nothing (left s)
+less (Answered Wait) s t r no_plan (none, some, e) = ap (λ (x : Standing). 0 + left x) e ∙ zero-add (left s)
+less (Answered Finished) s t r no_plan (none, some, e) = ap (λ (x : Standing). 0 + left x) e ∙ zero-add (left s)
 less (Ended j good) s t r no_plan (runs, e) = ap (λ (x : Standing). 1 + left x) e ∙ less_ended s j good r runs
-less Stopped s t r no_plan e = ap (λ (x : Standing). 0 + left x) e ∙ nothing (left s)
+less Stopped s t r no_plan e = ap (λ (x : Standing). 0 + left x) e ∙ zero-add (left s)
 less (Replanned asks befores moved) s t r no_plan step = cc
 
 pub less_course : (hs : List Happening) (s t : Standing) → IsRun s → has_replan hs ≡ false → Course s hs t → moves_in hs + left t ≡ left s
-less_course [] s t r no_plan e = ap (λ (x : Standing). 0 + left x) e ∙ nothing (left s)
+less_course [] s t r no_plan e = ap (λ (x : Standing). 0 + left x) e ∙ zero-add (left s)
 less_course (h ∷ hs) s t r no_plan (m, step, rest) =
     let parts : (is_replan h ≡ false) × (has_replan hs ≡ false) = or_parts (is_replan h) (has_replan hs) no_plan in
     let here : moves_of h + left m ≡ left s = less h s m r parts.0 step in

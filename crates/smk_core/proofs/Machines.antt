@@ -1,5 +1,5 @@
 -- What the machine keeps, as jobs begin and end and are given anew.
-use Rattle.std.proofs.Common.{◌≡◌, ℕ, zero, suc, ◌+◌, ◌-◌, ◌<◌, ◌≤◌, Bool, true, false, not, ◌&&◌, ◌||◌, cond, List, [], ◌∷◌, ◌++◌, Option, Some, None, length, set, map, replicate, refl, sym, ap, ◌∙◌, subst, arith, length-set, append-nil, MatchOption}
+use Rattle.std.proofs.Common.{◌≡◌, ℕ, zero, suc, ◌+◌, ◌-◌, ◌<◌, ◌≤◌, Bool, true, false, not, ◌&&◌, ◌||◌, cond, List, [], ◌∷◌, ◌++◌, Option, Some, None, length, set, map, replicate, refl, sym, ap, ◌∙◌, subst, arith, length-set, append-nil, MatchOption, add-zero}
 use Rattle.std.specs.Prelude.{nat_lt, ◌==◌}
 use Rattle.std.specs.List.{slice_get, sum_by, count_by}
 use Rattle.std.proofs.lemmas.Bool.{and_parts, lt-ltb, ne_eqb}
@@ -50,17 +50,14 @@ holds_own cores bounds room xs h =
 
 -- ## Sums as a job begins or ends
 
-no_more : (n : ℕ) → n + 0 ≡ n
-no_more n = omega arith
-
 pub sum_begun : (asks : List Ask) (phases : List Phase) (j : ℕ) (a : Ask) → slice_get asks j ≡ Some a → slice_get phases j ≡ Some Waiting
     → (f : Ask → ℕ) → sum_by f (asks_running asks phases ++ a ∷ []) ≡ sum_by f (asks_running asks (set phases j Running))
 sum_begun asks phases j a e d f =
     let one : total (if_running f) asks (set phases j Running) + 0 ≡ total (if_running f) asks phases + f a = total_set (if_running f) asks phases j a Waiting Running e d in
     sum_by-append f (asks_running asks phases) (a ∷ [])
     ∙ ap (λ (n : ℕ). n + sum_by f (a ∷ [])) (sum_running f asks phases)
-    ∙ ap (λ (n : ℕ). total (if_running f) asks phases + n) (sum_by-cons f a [] ∙ no_more (f a))
-    ∙ sym one ∙ no_more (total (if_running f) asks (set phases j Running))
+    ∙ ap (λ (n : ℕ). total (if_running f) asks phases + n) (sum_by-cons f a [] ∙ add-zero (f a))
+    ∙ sym one ∙ add-zero (total (if_running f) asks (set phases j Running))
     ∙ sym (sum_running f asks (set phases j Running))
 
 -- it runs no more, however it stands
@@ -69,10 +66,10 @@ pub sum_ended : (asks : List Ask) (phases : List Phase) (j : ℕ) (a : Ask) (goo
 sum_ended asks phases j a good e d f =
     let one : total (if_running f) asks (set phases j (ending good)) + f a ≡ total (if_running f) asks phases + if_running f a (ending good) = total_set (if_running f) asks phases j a Running (ending good) e d in
     sum_running f asks phases
-    ∙ sym (ap (λ (n : ℕ). total (if_running f) asks phases + n) (not_running good) ∙ no_more (total (if_running f) asks phases))
+    ∙ sym (ap (λ (n : ℕ). total (if_running f) asks phases + n) (not_running good) ∙ add-zero (total (if_running f) asks phases))
     ∙ sym one
     ∙ ap (λ (n : ℕ). n + f a) (sym (sum_running f asks (set phases j (ending good))))
-    ∙ ap (λ (n : ℕ). sum_by f (asks_running asks (set phases j (ending good))) + n) (sym (sum_by-cons f a [] ∙ no_more (f a)))
+    ∙ ap (λ (n : ℕ). sum_by f (asks_running asks (set phases j (ending good))) + n) (sym (sum_by-cons f a [] ∙ add-zero (f a)))
     ∙ sym (sum_by-append f (asks_running asks (set phases j (ending good))) (a ∷ []))
   where
     not_running : (b : Bool) → if_running f a (ending b) ≡ 0
@@ -103,8 +100,8 @@ module _ (room now : Room) (jobs : Roll) (count : ℕ) (bad : Bool) (h : IsMachi
         (holds_same room.cores (bounds_of room) now (asks_running jobs.asks jobs.phases ++ a ∷ []) (asks_running jobs.asks (set jobs.phases j Running)) (sum_begun jobs.asks jobs.phases j a ask_is was) held);
     as_many = length-set jobs.phases j Running ∙ h.as_many;
     few = few_with Running;
-    running_are = ap (λ (n : ℕ). n + 1) h.running_are ∙ sym (count_set is_running jobs.asks jobs.phases j a Waiting Running h.as_many ask_is was) ∙ no_more (count_by is_running (set jobs.phases j Running));
-    failed_are = h.failed_are ∙ ap (nat_lt 0) (sym (sym (no_more (count_by is_failed (set jobs.phases j Running))) ∙ count_set is_failed jobs.asks jobs.phases j a Waiting Running h.as_many ask_is was ∙ no_more (count_by is_failed jobs.phases)));
+    running_are = ap (λ (n : ℕ). n + 1) h.running_are ∙ sym (count_set is_running jobs.asks jobs.phases j a Waiting Running h.as_many ask_is was) ∙ add-zero (count_by is_running (set jobs.phases j Running));
+    failed_are = h.failed_are ∙ ap (nat_lt 0) (sym (sym (add-zero (count_by is_failed (set jobs.phases j Running))) ∙ count_set is_failed jobs.asks jobs.phases j a Waiting Running h.as_many ask_is was ∙ add-zero (count_by is_failed jobs.phases)));
   }
 
   -- in use as it ends

@@ -4,13 +4,13 @@ use Rattle.std.specs.List.{slice_get}
 use Rattle.std.specs.Option.{option_map}
 use Rattle.std.proofs.lemmas.Bool.{cases_eq, cases_lt, cases_order, le-ltb}
 use Rattle.std.proofs.lemmas.List.{length-replicate}
-use Rattle.std.proofs.lemmas.Option.{none-some, same_Some, slice_get-map, slice_get_within}
+use Rattle.std.proofs.lemmas.Option.{none-some, same_Some, slice_get-map, slice_get_within, slice_get_past}
 use Rattle.smk_pick.specs.declared.room.Ask.{Ask}
 use Rattle.smk_core.specs.declared.place.Kind.{Kind}
 use Rattle.smk_core.specs.declared.place.Place.{Place}
 use Rattle.smk_core.specs.declared.place.TheConstants.{NONE}
 use Rattle.smk_core.specs.Lines.{entry, entry_in, is_number, IsInLine, present_in, ArePlaced, IsKindOf, OpensLine, AddsPlace}
-use Rattle.smk_core.proofs.Gets.{get_set_same, get_set_other, get_append_left, get_append_at, get_append_past, get_past, get_some, get_replicate, replicate_get, same_lists}
+use Rattle.smk_core.proofs.Gets.{get_set_same, get_set_other, get_append_left, get_append_at, get_append_past, get_some, get_replicate, replicate_get, same_lists}
 use Rattle.smk_core.proofs.Entries.{entry_of}
 
 pub none_placed : (asks : List Ask) → ArePlaced asks [] []
@@ -145,7 +145,7 @@ module _ (asks : List Ask) (kinds : List Kind) (places : List Place) (h : ArePla
   absent_by i n many (Some p) e (inl lt) = ap (λ (y : Option ℕ). Some (is_number y)) (entry_is i p e) ∙ ap Some (le-ltb NONE NONE (omega arith)) ∙ sym (get_replicate n i false lt)
   absent_by i n many (Some p) e (inr le) = absurd (let lt : i < length places = slice_get_within places i p e in omega arith)
   absent_by i n many None e (inl lt) = absurd (let s : (p : Place) × (slice_get places i ≡ Some p) = get_some places i (subst (λ (m : ℕ). i < m) (sym many) lt) in none-some s.0 (sym e ∙ s.1))
-  absent_by i n many None e (inr le) = sym (get_past (replicate n false) i (short n le))
+  absent_by i n many None e (inr le) = sym (slice_get_past (replicate n false) i (short n le))
     where
       short : (m : ℕ) → m ≤ i → length (replicate m false) ≤ i
       short m le = subst (λ (x : ℕ). x ≤ i) (sym (length-replicate m false)) le

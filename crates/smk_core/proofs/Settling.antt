@@ -4,13 +4,13 @@ use Rattle.std.specs.Prelude.{slice_index}
 use Rattle.std.specs.List.{slice_get, list_all}
 use Rattle.std.proofs.lemmas.Bool.{cases_eq, cases_lt, cases_Bool, and_parts, and_from, and_left}
 use Rattle.std.proofs.lemmas.List.{get_or-set_same, get_or-set_other}
-use Rattle.std.proofs.lemmas.Option.{slice_get_within}
+use Rattle.std.proofs.lemmas.Option.{slice_get_within, slice_get_past}
 use Rattle.smk_core.specs.declared.phase.Phase.{Phase}
 use Rattle.smk_core.specs.declared.phase.Phase.TheVariants.{Waiting, Running, Done, Failed}
 use Rattle.smk_core.specs.Indices.{has, is_true, is_true_at}
 use Rattle.smk_core.specs.Standing.{passes, stands, is_waiting, is_running, is_done, is_ready, befores_of, list_of}
 use Rattle.smk_core.specs.Lines.{ArePassed, AreBehind, AreReady, AreReadyBut}
-use Rattle.smk_core.proofs.Gets.{get_set_same, get_set_other, get_past, true_set_same, true_set_other, has_head, has_tail, has_cases}
+use Rattle.smk_core.proofs.Gets.{get_set_same, get_set_other, true_set_same, true_set_other, has_head, has_tail, has_cases}
 
 -- ## Tests
 
@@ -39,7 +39,7 @@ all_at p (x ∷ xs) i h t = all_at_by p x xs i (all_at p xs i) (has_cases x xs i
 -- ## Phases
 
 pub stands_past : (test : Phase → Bool) (phases : List Phase) (j : ℕ) → length phases ≤ j → stands test phases j ≡ false
-stands_past test phases j le = ap (passes test) (get_past phases j le)
+stands_past test phases j le = ap (passes test) (slice_get_past phases j le)
 
 pub stands_within : (test : Phase → Bool) (phases : List Phase) (j : ℕ) → stands test phases j ≡ true → j < length phases
 stands_within test [] j e = cc
@@ -165,7 +165,7 @@ rest_more job rest phases befores old new h e lt k = go (cases_eq k job) (h k)
     go (inr ne) (inr t) = left ne (has_cases job rest k t)
 
 past_true : (tests : List Bool) (j : ℕ) → length tests ≤ j → is_true_at tests j ≡ false
-past_true tests j le = ap is_true (get_past tests j le)
+past_true tests j le = ap is_true (slice_get_past tests j le)
 
 past_ready : (phases : List Phase) (befores : List (List ℕ)) (j : ℕ) → length phases ≤ j → is_ready phases befores j ≡ false
 past_ready phases befores j le = and_left (stands is_waiting phases j) (list_all (stands is_done phases) (befores_of befores j)) (stands_past is_waiting phases j le)

@@ -3,6 +3,7 @@ use Rattle.std.proofs.Common.{◌≡◌, ℕ, ◌+◌, ◌<◌, ◌≤◌, ◌==
 use Rattle.std.specs.List.{list_all, range_with_len}
 use Rattle.std.proofs.lemmas.List.FromFn.{map-range_with_len_more}
 use Rattle.std.proofs.lemmas.List.{at_drop_more, at_drop_all}
+use Rattle.std.proofs.Math.Nat.{zero-add}
 use Rattle.smk_eval_values.specs.declared.choices.Choices.{Choices}
 use Rattle.smk_eval_values.specs.Letters.{Letter, stands}
 use Rattle.smk_eval_values.specs.Expanding.{used, first_count, rows, has_each}
@@ -40,9 +41,6 @@ rows_here ls choices i whole d v lt e s h =
     ∙ ap (λ (k : Choices). cond (stands ls k.name) (length k.values) (rows ls (drop (i + 1) choices))) e
     ∙ sym (rows_more ls choices i d lt) ∙ h
 
-zero_first : (i : ℕ) → 0 + i ≡ i
-zero_first i = omega arith
-
 pub row_added : (f : ℕ → List ℕ) (now texts was : List (List ℕ)) (t : List ℕ) (i : ℕ) → now ≡ texts ++ t ∷ [] → t ≡ f i → texts ≡ was ++ map f (range_with_len 0 i)
     → now ≡ was ++ map f (range_with_len 0 (i + 1))
 row_added f now texts was t i n e h =
@@ -50,4 +48,4 @@ row_added f now texts was t i n e h =
     ∙ ap (λ (x : List (List ℕ)). x ++ t ∷ []) h
     ∙ ap (λ (x : List ℕ). (was ++ map f (range_with_len 0 i)) ++ x ∷ []) e
     ∙ append_assoc was (map f (range_with_len 0 i)) (f i ∷ [])
-    ∙ ap (λ (x : List (List ℕ)). was ++ x) (sym (map-range_with_len_more f 0 i i (zero_first i)))
+    ∙ ap (λ (x : List (List ℕ)). was ++ x) (sym (map-range_with_len_more f 0 i i (zero-add i)))

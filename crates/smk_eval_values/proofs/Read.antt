@@ -1,8 +1,9 @@
 -- How a pattern is read, piece by piece.
-use Rattle.std.proofs.Common.{◌≡◌, ℕ, zero, suc, ◌+◌, ◌<◌, ◌≤◌, ◌==◌, ◌||◌, ◌&&◌, Bool, true, false, cond, List, [], ◌∷◌, ◌++◌, take, drop, map, length, get_or, refl, ap, sym, ◌∙◌, arith, append_assoc, append-nil, add-one}
+use Rattle.std.proofs.Common.{◌≡◌, ℕ, zero, suc, ◌+◌, ◌<◌, ◌≤◌, ◌==◌, ◌&&◌, Bool, true, false, cond, List, [], ◌∷◌, ◌++◌, take, drop, map, length, get_or, refl, ap, sym, ◌∙◌, arith, append_assoc, append-nil, add-one}
 use Rattle.std.proofs.lemmas.Grind.{flat_map-append}
 use Rattle.std.proofs.lemmas.Bool.Decides.{nat_tests}
 use Rattle.std.proofs.lemmas.List.{drop_all}
+use Rattle.std.proofs.lemmas.Bool.{or_parts}
 use Rattle.smk_eval_values.specs.declared.reading.Piece.{Piece}
 use Rattle.smk_eval_values.specs.Letters.{Letter, plain, name, is_brace, is_closed, closed_len, letter_by, more_by, letters_after, letters, name_len, first_brace, piece_letters, letters_of}
 
@@ -14,14 +15,10 @@ letters_skipped zero t = refl
 letters_skipped (suc k) [] = refl
 letters_skipped (suc k) (b ∷ t) = letters_skipped k t
 
-no_open : (v w : Bool) → (v || w) ≡ false → v ≡ false
-no_open false w e = refl
-no_open true w e = e
-
 -- a byte that is no brace stands for itself
 plain_first : (b : ℕ) (t : List ℕ) → is_brace b ≡ false → letters (b ∷ t) ≡ plain b ∷ letters t
 plain_first b t e =
-    ap (λ (n : ℕ). letter_by b t n ∷ letters_after (more_by b t n) t) (ap (λ (v : Bool). cond (v && is_closed t) (name_len t) 0) (no_open (b == 123) (b == 125) e))
+    ap (λ (n : ℕ). letter_by b t n ∷ letters_after (more_by b t n) t) (ap (λ (v : Bool). cond (v && is_closed t) (name_len t) 0) (or_parts (b == 123) (b == 125) e).0)
     ∙ ap (λ (v : Bool). plain b ∷ letters_after (cond (v && (get_or t 0 0 == b)) 1 0) t) e
 
 before_step : (b : ℕ) (t : List ℕ) (v : Bool) → is_brace b ≡ v → letters t ≡ map plain (take (first_brace t) t) ++ letters (drop (first_brace t) t)

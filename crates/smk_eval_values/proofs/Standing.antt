@@ -4,22 +4,19 @@ use Rattle.std.specs.Prelude.{Option, Some, None}
 use Rattle.std.specs.Str.{bytes_eq}
 use Rattle.std.proofs.lemmas.List.{at_drop_more, at_drop_all}
 use Rattle.std.proofs.lemmas.List.Folds.{list_any-append}
+use Rattle.std.proofs.Math.Bool.{or-false}
 use Rattle.smk_eval_values.specs.declared.reading.Piece.{Piece}
 use Rattle.smk_eval_values.specs.declared.reading.Piece.TheVariants.{Plain, Name}
 use Rattle.smk_eval_values.specs.declared.choices.Choices.{Choices}
 use Rattle.smk_eval_values.specs.Letters.{Letter, plain, name, is_name, stands, piece_letters, letters_of}
 use Rattle.smk_eval_values.specs.Expanding.{has_values, unknown}
 
-or_false : (v : Bool) → (v || false) ≡ v
-or_false true = refl
-or_false false = refl
-
 pub stands_plain : (t n : List ℕ) → stands (map plain t) n ≡ false
 stands_plain [] n = refl
 stands_plain (b ∷ t) n = stands_plain t n
 
 pub stands_name : (m n : List ℕ) → stands (name m ∷ []) n ≡ bytes_eq n m
-stands_name m n = or_false (bytes_eq n m)
+stands_name m n = or-false (bytes_eq n m)
 
 pub stands_more : (ps : List Piece) (n : List ℕ) (i : ℕ) (d : Piece) → i < length ps
     → stands (letters_of (drop i ps)) n ≡ (stands (piece_letters (get_or ps i d)) n || stands (letters_of (drop (i + 1) ps)) n)

@@ -4,6 +4,7 @@ use Rattle.std.specs.Prelude.{codes, not}
 use Rattle.std.specs.Str.{bytes_eq}
 use Rattle.std.proofs.lemmas.List.{append-nil}
 use Rattle.std.proofs.lemmas.Slice.Eq.{bytes_eq-Decides}
+use Rattle.std.proofs.lemmas.Bool.{and_parts, cases_Bool}
 use Rattle.smk_parse_expr.specs.declared.symbol.Symbol.{Symbol}
 use Rattle.smk_parse_expr.specs.declared.symbol.Symbol.TheVariants as s
 use Rattle.smk_parse_expr.specs.declared.symbol.Sign.{Sign}
@@ -19,7 +20,7 @@ use Rattle.smk_parse_tree.specs.declared.syntax.OutputPick.{OutputPick}
 use Rattle.smk_parse_expr.specs.Symbols.{Bytes, Parser, and_then, ◌>>=◌, ◌<$>◌, pure, sees, next, word_of, expect, refuse, goes_on}
 use Rattle.smk_parse_expr.specs.Exprs.{texts, text, name, spelled, picked, outputs, gathered, plain, keys, keys_from, closed, listed, listed_from, has_name, is_zip, zip, valued, argument, arguments_from, arguments, expanded, flagged, many, named, by_word, term, terms_from, terms, level, summed, expr, opened_by}
 use Rattle.smk_parse_expr.specs.Grammar.{Spelling, IsTexts, IsKeys, IsPick, IsZip, paired, not_paired, IsListed, alone, behind_comma, IsArguments, IsTerm, IsTail, IsLevel, IsExpr, may_be_name, a_text, a_number, a_truth, a_falsehood, a_name, a_key, in_parentheses, a_flag, an_output, an_expand, of_checkpoint, a_list, one_term, a_sum}
-use Rattle.smk_parse_expr.proofs.Steps.{done, Takes, bool_cases, bind_ok, chosen, parts, sees-found, refused, expect-found, text-found, sign_then, name_then, text_then, word_then, picked-found}
+use Rattle.smk_parse_expr.proofs.Steps.{done, Takes, bind_ok, chosen, parts, sees-found, refused, expect-found, text-found, sign_then, name_then, text_then, word_then, picked-found}
 
 -- what an option's parser answers
 abbrev at_some : Option (Parser Expr) → Parser Expr → Parser Expr
@@ -59,7 +60,7 @@ Adds {A} Is found i all rest = (more : List A) × (xs : List Symbol) × (all ≡
 keys-found : (n : ℕ) (found ks : List Bytes) (i rest : List Symbol) → keys_from n found i ≡ done ks rest → Adds IsKeys found i ks rest
 unfolding keys_from
 keys-found zero found ks i rest h = absurd (refused i rest ks h)
-keys-found (suc n) found ks i rest h = elim (bool_cases (sees OpenSquare i)) [
+keys-found (suc n) found ks i rest h = elim (cases_Bool (sees OpenSquare i)) [
   | inl met ↦
       let start = sees-found OpenSquare i met in
       let goes : and_then (text (next i)) (λ key. expect CloseSquare >>= (λ _. keys_from n (found ++ key ∷ []))) ≡ done ks rest = rw met at h in
@@ -106,7 +107,7 @@ terms-found : (may_open : Bool) (Inner : Spelling) (inner : Option (Parser Expr)
     → terms_from inner n found i ≡ done es rest → Adds (IsTail (IsTerm may_open Inner)) found i es rest
 unfolding terms_from
 terms-found may_open Inner inner zero found es i rest all h = absurd (refused i rest es h)
-terms-found may_open Inner inner (suc n) found es i rest all h = elim (bool_cases (sees Plus i)) [
+terms-found may_open Inner inner (suc n) found es i rest all h = elim (cases_Bool (sees Plus i)) [
   | inl met ↦
       let start = sees-found Plus i met in
       let goes : and_then (term inner (next i)) (λ x. terms_from inner n (found ++ x ∷ [])) ≡ done es rest = rw met at h in
@@ -126,7 +127,7 @@ listed-found : (p : Parser Expr) (Inner : Spelling) → FoundAll Inner p → (n 
     → listed_from p n found i ≡ done es rest → Adds (IsListed Inner) found i es rest
 unfolding listed_from
 listed-found p Inner all zero found es i rest h = absurd (refused i rest es h)
-listed-found p Inner all (suc n) found es i rest h = elim (bool_cases (sees CloseSquare i)) [
+listed-found p Inner all (suc n) found es i rest h = elim (cases_Bool (sees CloseSquare i)) [
   | inl met ↦
       let start = sees-found CloseSquare i met in
       let same : done found (next i) ≡ done es rest = rw met at h in
@@ -136,7 +137,7 @@ listed-found p Inner all (suc n) found es i rest h = elim (bool_cases (sees Clos
       let goes : and_then (p i) (λ x j. cond (sees Comma j) (listed_from p n (found ++ x ∷ [])) (expect CloseSquare >>= (λ _. pure (found ++ x ∷ []))) (cond (sees Comma j) (next j) j)) ≡ done es rest = rw none at h in
       let a = bind_ok (p i) (λ x j. cond (sees Comma j) (listed_from p n (found ++ x ∷ [])) (expect CloseSquare >>= (λ _. pure (found ++ x ∷ []))) (cond (sees Comma j) (next j) j)) es rest goes in
       let one = all i a.1 a.0 a.2 in
-      elim (bool_cases (sees Comma a.1)) [
+      elim (cases_Bool (sees Comma a.1)) [
         | inl comma ↦
             let start = sees-found Comma a.1 comma in
             let others = listed-found p Inner all n (found ++ a.0 ∷ []) es (next a.1) rest (rw comma at a.3) in
@@ -244,14 +245,10 @@ gathered-found i rest x h =
 
 -- ---- `expand`
 
-and_true : (b c : Bool) → (b && c) ≡ true → (b ≡ true) × (c ≡ true)
-and_true true c h = (refl, h)
-and_true false c h = absurd cc
-
 is_zip-found : (i : List Symbol) → is_zip i ≡ true → (at : ℕ) × (xs : List Symbol) × (i ≡ s.Name at (codes "zip") ∷ xs)
 is_zip-found [] h = absurd cc
 is_zip-found (s.Name at w ∷ xs) h =
-    let f = and_true (bytes_eq w (codes "zip")) (not (sees Equals xs)) h in
+    let f = and_parts (bytes_eq w (codes "zip")) (not (sees Equals xs)) h in
     (at, xs, ap (λ (v : Bytes). s.Name at v ∷ xs) ((bytes_eq-Decides w (codes "zip")).0 f.0))
 is_zip-found (s.Text at w ∷ xs) h = absurd cc
 is_zip-found (s.Number at n ∷ xs) h = absurd cc
@@ -263,7 +260,7 @@ is_zip-found (s.Dedent at ∷ xs) h = absurd cc
 zip-found : (b : Bool) (i rest : List Symbol) → zip i ≡ done b rest → Takes IsZip i b rest
 zip-found b i rest h = elim (chosen (sees Comma i && is_zip (next i)) (Ok (true, next (next i))) (Ok (false, i)) (done b rest) h) [
   | inl (met, same) ↦
-      let f = and_true (sees Comma i) (is_zip (next i)) met in
+      let f = and_parts (sees Comma i) (is_zip (next i)) met in
       let c = sees-found Comma i f.0 in
       let z = is_zip-found (next i) f.1 in
       let q = parts true b (next (next i)) rest same in
@@ -320,11 +317,11 @@ module _ (p : Parser Expr) (Inner : Spelling) (all : FoundAll Inner p) where
       → (more : List ItemForm) × (xs : List Symbol) × (es ≡ found ++ more) × (i ≡ xs ++ rest) × IsArguments Inner found more xs
   unfolding arguments_from
   arguments-found zero found es i rest h = absurd (refused i rest es h)
-  arguments-found (suc n) found es i rest h = elim (bool_cases (sees Comma i)) [
+  arguments-found (suc n) found es i rest h = elim (cases_Bool (sees Comma i)) [
     | inl comma ↦
         let start = sees-found Comma i comma in
         let goes : cond (sees Close (next i)) (pure found) (argument p found >>= (λ x. arguments_from p n (found ++ x ∷ []))) (cond (sees Close (next i)) (next (next i)) (next i)) ≡ done es rest = rw comma at h in
-        elim (bool_cases (sees Close (next i))) [
+        elim (cases_Bool (sees Close (next i))) [
           | inl close ↦
               let last = sees-found Close (next i) close in
               let same : done found (next (next i)) ≡ done es rest = rw close at goes in
@@ -353,7 +350,7 @@ module _ (p : Parser Expr) (Inner : Spelling) (all : FoundAll Inner p) where
         ]
     | inr plain ↦
         let goes : cond (sees Close i) (pure found) refuse (cond (sees Close i) (next i) i) ≡ done es rest = rw plain at h in
-        elim (bool_cases (sees Close i)) [
+        elim (cases_Bool (sees Close i)) [
           | inl close ↦
               let last = sees-found Close i close in
               let same : done found (next i) ≡ done es rest = rw close at goes in

@@ -2,6 +2,7 @@
 use Rattle.std.proofs.Common.{◌≡◌, ℕ, zero, suc, Bool, true, List, [], ◌∷◌, ◌++◌, length, Ok, sym, ap, subst, ◌∙◌, append_assoc, inl, inr, cond}
 use Rattle.std.specs.Prelude.{not}
 use Rattle.std.proofs.lemmas.List.{append-nil}
+use Rattle.std.proofs.lemmas.Bool.{cases_Bool}
 use Rattle.smk_parse_expr.specs.declared.symbol.Symbol.{Symbol}
 use Rattle.smk_parse_expr.specs.declared.symbol.Symbol.TheVariants as s
 use Rattle.smk_parse_expr.specs.declared.symbol.Sign.TheVariants.{Comma, Equals}
@@ -10,7 +11,7 @@ use Rattle.smk_parse_expr.specs.Symbols.{Parser, and_then, ◌>>=◌, pure, sees
 use Rattle.smk_parse_expr.specs.Exprs.{max_depth, argument, valued, expr}
 use Rattle.smk_parse_expr.specs.Items.{has_named, positional, item, another, items_from, items}
 use Rattle.smk_parse_expr.specs.Grammar.{IsExpr, IsItem, positional as alone, named, nothing, a_comma, IsItems, one_item, more_items, HasLetters}
-use Rattle.smk_parse_expr.proofs.Steps.{done, Takes, bool_cases, bind_ok, chosen, parts, sees-found, refused}
+use Rattle.smk_parse_expr.proofs.Steps.{done, Takes, bind_ok, chosen, parts, sees-found, refused}
 use Rattle.smk_parse_expr.proofs.Found.{argument-found, valued-found, expr-found}
 
 letters-behind : (xs rest : List Symbol) → HasLetters (xs ++ rest) → HasLetters rest
@@ -27,7 +28,7 @@ letters-along : (i j : List Symbol) → i ≡ j → HasLetters i → HasLetters 
 letters-along i j e h = subst HasLetters e h
 
 positional-found : (found : List ItemForm) (x : ItemForm) (i rest : List Symbol) → positional found i ≡ done x rest → Takes (λ xs v. IsItem found xs v) i x rest
-positional-found found x i rest h = elim (bool_cases (has_named found)) [
+positional-found found x i rest h = elim (cases_Bool (has_named found)) [
   | inl named_one ↦ let same : refuse i ≡ done x rest = rw named_one at h in absurd (refused i rest x same)
   | inr none ↦
       let same : valued (expr max_depth) [] i ≡ done x rest = rw none at h in
@@ -82,12 +83,12 @@ items_from-found zero found es i rest l h = absurd (refused i rest es h)
 items_from-found (suc n) found es i rest l h =
     let a = bind_ok (item found i) (λ x. another >>= after n found x) es rest h in
     let one = item-found found a.0 i a.1 l a.2 in
-    elim (bool_cases (sees Comma a.1)) [
+    elim (cases_Bool (sees Comma a.1)) [
       | inl comma ↦
           let start = sees-found Comma a.1 comma in
           let goes : after n found a.0 (not (at_end (next a.1))) (next a.1) ≡ done es rest = rw comma at a.3 in
           let to : a.1 ≡ s.Sign start.0 Comma ∷ next a.1 = start.2 ∙ ap (λ (v : List Symbol). s.Sign start.0 Comma ∷ v) (ap next (sym start.2)) in
-          elim (bool_cases (at_end (next a.1))) [
+          elim (cases_Bool (at_end (next a.1))) [
             | inl at_last ↦
                 let ends : and_then (end (next a.1)) (λ _. pure (found ++ a.0 ∷ [])) ≡ done es rest = rw at_last at goes in
                 let f = ended found es a.0 (next a.1) rest ends in

@@ -2,6 +2,7 @@
 use Rattle.std.proofs.Common.{◌≡◌, ℕ, zero, suc, Bool, true, false, List, [], ◌∷◌, ◌++◌, length, Option, Some, None, Ok, Err, refl, sym, ap, subst, ◌∙◌, append_assoc, inl, inr, cond, ◌&&◌}
 use Rattle.std.specs.Prelude.{codes, not}
 use Rattle.std.specs.Str.{bytes_eq}
+use Rattle.std.proofs.lemmas.Bool.{and_parts, cases_Bool}
 use Rattle.smk_parse_expr.specs.declared.symbol.Symbol.{Symbol}
 use Rattle.smk_parse_expr.specs.declared.symbol.Symbol.TheVariants as s
 use Rattle.smk_parse_expr.specs.declared.symbol.Sign.{Sign}
@@ -19,7 +20,7 @@ use Rattle.smk_parse_expr.specs.Symbols.{Bytes, Parser, Outcome, and_then, ◌>>
 use Rattle.smk_parse_expr.specs.Exprs.{texts, text, name, number, spelled, by_name, by_place, picked, outputs, gathered, plain, keys, keys_from, closed, listed, listed_from, has_name, is_zip, zip, valued, argument, arguments_from, arguments, expanded, flagged, many, named, by_word, term, terms_from, terms, level, summed, expr, opened_by, max_depth}
 use Rattle.smk_parse_expr.specs.Items.{has_named, positional, item, another, items_from, items}
 use Rattle.smk_parse_expr.specs.Faults.{NoEnds, IsRefused, unexpected, unexpected_end, unsupported, doubled, IsJudged}
-use Rattle.smk_parse_expr.proofs.Steps.{done, bool_cases, sees-found}
+use Rattle.smk_parse_expr.proofs.Steps.{done, sees-found}
 
 abbrev IsFair : {A : Type 0} → Parser A → Type 0
 IsFair p = (i : List Symbol) → IsJudged i (p i)
@@ -61,7 +62,7 @@ fair-refuse (s.Sign at k ∷ xs) = unexpected [] xs (s.Sign at k) refl refl
 fair-refuse (s.Newline at ∷ xs) = unexpected [] xs (s.Newline at) refl refl
 fair-refuse (s.Indent at ∷ xs) = unexpected [] xs (s.Indent at) refl refl
 fair-refuse (s.Dedent at ∷ xs) = unexpected [] xs (s.Dedent at) refl refl
-fair-refuse (s.Name at w ∷ xs) = elim (bool_cases (is_unsupported (word_of w) xs)) [
+fair-refuse (s.Name at w ∷ xs) = elim (cases_Bool (is_unsupported (word_of w) xs)) [
   | inl yes_it_is ↦
       subst (IsRefused (s.Name at w ∷ xs)) (sym (ap (λ b. cond b (Unsupported at) (Unexpected at)) yes_it_is)) (unsupported [] xs at w refl yes_it_is)
   | inr none ↦
@@ -92,7 +93,7 @@ one_sign : (k : Sign) (i : List Symbol) → sees k i ≡ true → (xs : List Sym
 one_sign k i met = let f = sees-found k i met in (s.Sign f.0 k ∷ [], f.2 ∙ ap (λ (v : List Symbol). s.Sign f.0 k ∷ v) (ap next (sym f.2)), tt)
 
 fair-eat : (k : Sign) → IsFair (eat k)
-fair-eat k i = elim (bool_cases (sees k i)) [
+fair-eat k i = elim (cases_Bool (sees k i)) [
   | inl met ↦ subst (λ b. IsJudged i (done b (cond b (next i) i))) (sym met) (one_sign k i met)
   | inr none ↦ subst (λ b. IsJudged i (done b (cond b (next i) i))) (sym none) ([], refl, tt)
 ]
@@ -245,10 +246,6 @@ fair-gathered =
 
 -- ---- forms with expressions inside
 
-and_true : (b c : Bool) → (b && c) ≡ true → (b ≡ true) × (c ≡ true)
-and_true true c h = (refl, h)
-and_true false c h = absurd cc
-
 one_name : (i : List Symbol) → is_zip i ≡ true → (xs : List Symbol) × (i ≡ xs ++ next i) × NoEnds xs
 one_name [] h = absurd cc
 one_name (s.Name at w ∷ xs) h = (s.Name at w ∷ [], refl, tt)
@@ -262,7 +259,7 @@ one_name (s.Dedent at ∷ xs) h = absurd cc
 fair-zip : IsFair zip
 fair-zip i = judged-if (sees Comma i && is_zip (next i)) i (done true (next (next i))) (done false i)
     (λ met.
-    let f = and_true (sees Comma i) (is_zip (next i)) met in
+    let f = and_parts (sees Comma i) (is_zip (next i)) met in
     judged-next Comma i (done true (next (next i))) f.0 (one_name (next i) f.1))
     (λ _. ([], refl, tt))
 

@@ -1,8 +1,10 @@
 -- What the grammar spells is read, whatever follows that ends it.
-use Rattle.std.proofs.Common.{◌≡◌, ℕ, zero, suc, ◌+◌, ◌≤◌, ◌<◌, Bool, true, false, List, [], ◌∷◌, ◌++◌, length, Option, Some, None, Ok, Err, refl, sym, ap, subst, ◌∙◌, append_assoc, arith, ◌⊎◌, inl, inr, cond, length-append, ◌&&◌}
+use Rattle.std.proofs.Common.{◌≡◌, ℕ, zero, suc, ◌+◌, ◌≤◌, ◌<◌, Bool, true, false, List, [], ◌∷◌, ◌++◌, length, Option, Some, None, Ok, Err, refl, sym, ap, subst, ◌∙◌, append_assoc, arith, inl, inr, cond, length-append, ◌&&◌}
 use Rattle.std.specs.Prelude.{codes, not}
 use Rattle.std.specs.Str.{bytes_eq}
 use Rattle.std.proofs.lemmas.List.{append-nil}
+use Rattle.std.proofs.lemmas.Bool.{cases_Bool}
+use Rattle.std.proofs.Math.Bool.{and-false}
 use Rattle.smk_parse_expr.specs.declared.symbol.Symbol.{Symbol}
 use Rattle.smk_parse_expr.specs.declared.symbol.Symbol.TheVariants as s
 use Rattle.smk_parse_expr.specs.declared.symbol.Sign.{Sign}
@@ -28,10 +30,6 @@ pub record Within (may_open : Bool) (Inner : Spelling) (inner : Option (Parser E
   pub opens : (xs : List Symbol) (x : Expr) → Inner xs x → may_open ≡ true
   -- no expression begins with the bracket that closes a list
   pub begins : (xs rest : List Symbol) (x : Expr) → Inner xs x → sees CloseSquare (xs ++ rest) ≡ false
-
-bool_cases : (b : Bool) → (b ≡ true) ⊎ (b ≡ false)
-bool_cases true = inl refl
-bool_cases false = inr refl
 
 texts-stop : (t : Bytes) (rest : List Symbol) → goes_on rest ≡ false → texts t rest ≡ Ok (t, rest)
 texts-stop t [] h = refl
@@ -116,10 +114,6 @@ listed-only p Inner (suc n) found (x ∷ es) xs rest reads begins (ys, zs, e, h,
     ∙ ap (λ (v : List Expr). done v rest) group
 
 -- ---- `expand`
-
-and-false : (b : Bool) → (b && false) ≡ false
-and-false true = refl
-and-false false = refl
 
 -- what values under names begin with
 record Begins (xs : List Symbol) : Type 0 where
@@ -228,7 +222,7 @@ module _ (may_open : Bool) (Inner : Spelling) (inner : Option (Parser Expr)) (wi
   no_open (s.Text at v ∷ xs) h = refl
   no_open (s.Name at w ∷ xs) h = refl
   no_open (s.Number at n ∷ xs) h = refl
-  no_open (s.Sign at k ∷ xs) h = elim (bool_cases (sees Open (s.Sign at k ∷ xs))) [ inl e ↦ absurd (cc (ap (λ b. cond b true (sees Point (s.Sign at k ∷ xs))) e)) | inr e ↦ e ]
+  no_open (s.Sign at k ∷ xs) h = elim (cases_Bool (sees Open (s.Sign at k ∷ xs))) [ inl e ↦ absurd (cc (ap (λ b. cond b true (sees Point (s.Sign at k ∷ xs))) e)) | inr e ↦ e ]
   no_open (s.Newline at ∷ xs) h = refl
   no_open (s.Indent at ∷ xs) h = refl
   no_open (s.Dedent at ∷ xs) h = refl
@@ -238,7 +232,7 @@ module _ (may_open : Bool) (Inner : Spelling) (inner : Option (Parser Expr)) (wi
   no_point (s.Text at v ∷ xs) h = refl
   no_point (s.Name at w ∷ xs) h = refl
   no_point (s.Number at n ∷ xs) h = refl
-  no_point (s.Sign at k ∷ xs) h = elim (bool_cases (sees Open (s.Sign at k ∷ xs))) [
+  no_point (s.Sign at k ∷ xs) h = elim (cases_Bool (sees Open (s.Sign at k ∷ xs))) [
     | inl e ↦ absurd (cc (ap (λ b. cond b true (sees Point (s.Sign at k ∷ xs))) e))
     | inr e ↦ sym (ap (λ b. cond b true (sees Point (s.Sign at k ∷ xs))) e) ∙ h
   ]

@@ -1,7 +1,8 @@
 -- What is printed of what the grammar spells is a spelling of it, with no more brackets.
-use Rattle.std.proofs.Common.{◌≡◌, ℕ, zero, suc, Bool, true, false, cond, List, [], ◌∷◌, ◌++◌, map, refl, sym, ap, subst, rules, ◌⊎◌, inl, inr}
+use Rattle.std.proofs.Common.{◌≡◌, ℕ, zero, suc, Bool, true, false, cond, List, [], ◌∷◌, ◌++◌, map, refl, sym, ap, subst, rules, inl, inr}
 use Rattle.std.specs.Prelude.{codes}
 use Rattle.std.proofs.lemmas.List.{append-nil}
+use Rattle.std.proofs.lemmas.Bool.{cases_Bool}
 use Rattle.smk_parse_expr.specs.declared.symbol.Symbol.{Symbol}
 use Rattle.smk_parse_expr.specs.declared.symbol.Symbol.TheVariants as s
 use Rattle.smk_parse_expr.specs.declared.symbol.Sign.TheVariants.{Comma, Open, Close, OpenSquare}
@@ -63,10 +64,6 @@ of_expand : (x : Expr) (pairs : Bool) (items : List ItemForm) → printed (form 
 of_expand x pairs items = search (rules, the_lemmas)
 
 -- ---- more brackets may stand
-
-bool_cases : (b : Bool) → (b ≡ true) ⊎ (b ≡ false)
-bool_cases true = inl refl
-bool_cases false = inr refl
 
 module _ (p q : Bool) (A B : Spelling) (opens : p ≡ true → q ≡ true) (more : (xs : List Symbol) (x : Expr) → A xs x → B xs x) where
   listed-more : (es : List Expr) (xs : List Symbol) → IsListed A es xs → IsListed B es xs
@@ -165,7 +162,7 @@ module _ (may_open : Bool) (Inner : Spelling) (again : (xs : List Symbol) (x : E
       (again xs x h) (zip-printed pairs) (arguments-printed [] items zs named_ones)
 
   in_brackets : (x : Expr) (ys : List Symbol) → Inner ys x → Term (as_term (printed x)) x
-  in_brackets x ys h = elim (bool_cases (printed x).is_sum) [
+  in_brackets x ys h = elim (cases_Bool (printed x).is_sum) [
     | inl sum ↦ subst (λ (b : Bool). Term (cond b (s.Sign 0 Open ∷ ((printed x).symbols ++ s.Sign 0 Close ∷ [])) (printed x).symbols) x) (sym sum) (in_parentheses 0 0 (printed x).symbols x (again ys x h))
     | inr none ↦ subst (λ (b : Bool). Term (cond b (s.Sign 0 Open ∷ ((printed x).symbols ++ s.Sign 0 Close ∷ [])) (printed x).symbols) x) (sym none) (no_sum (printed x).symbols x (up (printed x).symbols x (again ys x h)) none)
   ]

@@ -21,10 +21,6 @@ done a rest = Ok (a, rest)
 abbrev pub Takes : {A : Type 0} → (List Symbol → A → Type 0) → List Symbol → A → List Symbol → Type 0
 Takes Is i x rest = (xs : List Symbol) × (i ≡ xs ++ rest) × Is xs x
 
-pub bool_cases : (b : Bool) → (b ≡ true) ⊎ (b ≡ false)
-bool_cases true = inl refl
-bool_cases false = inr refl
-
 pub bind_ok : {A B : Type 0} (r : Outcome A) (f : A → Parser B) (y : B) (rest : List Symbol) → and_then r f ≡ done y rest
     → (v : A) × (mid : List Symbol) × (r ≡ done v mid) × (f v mid ≡ done y rest)
 bind_ok (Ok p) f y rest h = (p.0, p.1, refl, h)

@@ -8,18 +8,11 @@ use Rattle.std.specs.BTreeSet.{BTreeSet, UpdatesBy, contains_text}
 use Rattle.std.specs.Cmp.Lexicographic.{slice_cmp}
 use Rattle.std.specs.Ordering.{nat_cmp}
 use Rattle.std.proofs.lemmas.Map.Text.{btree_set_updates_text}
+use Rattle.std.proofs.Math.Bool.{or_assoc, or-false}
 use Rattle.smk_parse_tree.specs.declared.syntax.ItemForm.{ItemForm}
 use Rattle.smk_parse_expr.specs.Symbols.{Bytes}
 use Rattle.smk_parse_expr.specs.Exprs.{has_name}
 use Rattle.smk_parse_expr.specs.SoFar.{Tells}
-
-or-assoc : (a b c : Bool) → (a || (b || c)) ≡ ((a || b) || c)
-or-assoc true b c = refl
-or-assoc false b c = refl
-
-or-false : (b : Bool) → (b || false) ≡ b
-or-false true = refl
-or-false false = refl
 
 or-cond : (a b : Bool) → cond a true b ≡ (b || a)
 or-cond true true = refl
@@ -28,7 +21,7 @@ or-cond false b = sym (or-false b)
 
 any-append : (p : ItemForm → Bool) (xs : List ItemForm) (x : ItemForm) → list_any p (xs ++ x ∷ []) ≡ (list_any p xs || p x)
 any-append p [] x = or-false (p x)
-any-append p (y ∷ xs) x = ap (λ b. p y || b) (any-append p xs x) ∙ or-assoc (p y) (list_any p xs) (p x)
+any-append p (y ∷ xs) x = ap (λ b. p y || b) (any-append p xs x) ∙ sym (or_assoc (p y) (list_any p xs) (p x))
 
 pub told : (items : List ItemForm) (x : ItemForm) (names after : BTreeSet (String Global)) (key : String Global) (flag more : Bool) → Tells items names flag
     → string_bytes key ≡ x.name → UpdatesBy string_cmp (λ k. slice_cmp nat_cmp (string_bytes key) (string_bytes k)) names after true

@@ -1,6 +1,6 @@
 -- The symbols of a source: names are names, texts are UTF-8, numbers are small enough.
-use Rattle.std.proofs.Common.{◌≡◌, ◌≢◌, ℕ, zero, suc, ◌+◌, ◌-◌, ◌<◌, ◌≤◌, Bool, true, false, cond, List, [], ◌∷◌, ◌++◌, length, take, drop, Some, None, refl, sym, ap, subst, ◌∙◌, arith, ◌⊎◌, inl, inr, length-drop}
-use Rattle.std.proofs.lemmas.Bool.{and_parts, eqb-true, leb-true, cases_lt, cases_eq}
+use Rattle.std.proofs.Common.{◌≡◌, ◌≢◌, ℕ, zero, suc, ◌+◌, ◌-◌, ◌<◌, ◌≤◌, Bool, true, false, cond, List, [], ◌∷◌, ◌++◌, length, take, drop, Some, None, refl, sym, ap, subst, ◌∙◌, arith, inl, inr, length-drop}
+use Rattle.std.proofs.lemmas.Bool.{and_parts, eqb-true, leb-true, cases_lt, cases_eq, cases_Bool}
 use Rattle.std.proofs.lemmas.List.{append-nil, take_all, drop_all}
 use Rattle.std.proofs.lemmas.List.Elements.{All-head, All-tail}
 use Rattle.std.proofs.lemmas.Str.{IsUtf8-nil, IsUtf8-append, IsUtf8-encode, IsUtf8-from_ascii, IsUtf8-between, IsUtf8-take, IsUtf8-drop, IsCharBoundary-before_ascii, IsCharBoundary-after_ascii, encode_ascii}
@@ -25,10 +25,6 @@ use Rattle.smk_parse_expr.specs.Tokens.{by_kind, symbols_of}
 use Rattle.smk_parse_print.proofs.Fit.{IsSound, AllSound}
 use Rattle.smk_parse_print.proofs.Texts.{encode-high}
 
-bool_cases : (b : Bool) → (b ≡ true) ⊎ (b ≡ false)
-bool_cases true = inl refl
-bool_cases false = inr refl
-
 one_utf8 : (b : ℕ) → b < 128 → IsUtf8 (b ∷ [])
 one_utf8 b low = IsUtf8-from_ascii (b ∷ []) (IsAscii-cons b [] low ascii_nil)
 
@@ -51,13 +47,13 @@ one_more z k b e some low small =
     record { text = one_utf8 b small; within = lt; ascii = λ _. omega arith }
 
 line_fine : (z : Bytes) → ends_line z ≡ true → Fine z ([], line_end z)
-line_fine z h = elim (bool_cases (slice_index z 0 == 10)) [
+line_fine z h = elim (cases_Bool (slice_index z 0 == 10)) [
   | inl e ↦
       let n : line_end z ≡ 1 = rw e refl in
       let is : slice_index z 0 ≡ 10 = eqb-true (slice_index z 0) 10 e in
       let lt : 0 < length z = nonzero_within z 0 (omega arith) in
       subst (λ k. Fine z ([], k)) (sym n) (record { text = IsUtf8-nil; within = lt; ascii = λ _. omega arith })
-  | inr e ↦ elim (bool_cases (slice_index z 0 == 13 && slice_index z 1 == 10)) [
+  | inr e ↦ elim (cases_Bool (slice_index z 0 == 13 && slice_index z 1 == 10)) [
     | inl g ↦
         let n : line_end z ≡ 2 = rw (e, g) refl in
         let is : slice_index z 1 ≡ 10 = eqb-true (slice_index z 1) 10 (and_parts (slice_index z 0 == 13) (slice_index z 1 == 10) g).1 in

@@ -3,7 +3,7 @@ use native.Mathlib.Omega.{arith}
 use Rattle.std.proofs.Common.{◌≡◌, ◌≢◌, ℕ, suc, ◌≤◌, ◌<◌, ◌^◌, Bool, true, false, cond, ◌&&◌, ◌||◌, List, [], ◌∷◌, map, filter, length, Option, Some, None, option_map, option_to_list, refl, sym, ◌∙◌, ap, subst, bytes_eq, ◌==◌, inl, inr, ◌⊎◌}
 use Rattle.std.specs.List.{list_all, list_any, cons_option}
 use Rattle.std.specs.Option.{unwrap_or}
-use Rattle.std.proofs.lemmas.Bool.{eqb-true, leb-true, le-leb, cond-true, cond-false, and_parts, and_from, or_parts, true≢false, false≢true}
+use Rattle.std.proofs.lemmas.Bool.{eqb-true, leb-true, le-leb, cond-true, cond-false, and_parts, and_from, or_parts, false≢true, or_from}
 use Rattle.std.proofs.lemmas.Option.{none-some, same_Some, cond_some}
 use Rattle.std.proofs.lemmas.Slice.Eq.{bytes_eq-Decides}
 use Rattle.smk_base.specs.Path.{is_path}
@@ -426,16 +426,11 @@ forget_part (Target word) e = refl
 forget_part (Flagged f) e = forget_flag f e
 forget_part (Given o v) e = refl
 
-either_false : (x y : Bool) → x ≡ false → y ≡ false → (x || y) ≡ false
-either_false false false a b = refl
-either_false false true a b = b
-either_false true y a b = absurd (true≢false a)
-
 no_unlock_to_forget : (parts : List Part) → list_all is_of_cleanup parts ≡ true → has flag.Unlock parts ≡ false
 no_unlock_to_forget [] e = refl
 no_unlock_to_forget (p ∷ parts) e =
     let halves = and_parts (is_of_cleanup p) (list_all is_of_cleanup parts) e in
-    either_false (is_flag flag.Unlock p) (has flag.Unlock parts) (forget_part p halves.0) (no_unlock_to_forget parts halves.1)
+    or_from (is_flag flag.Unlock p) (has flag.Unlock parts) (forget_part p halves.0) (no_unlock_to_forget parts halves.1)
 
 some_forgotten : (parts : List Part) (paths : List Text) → paths ≢ [] → without_unlock paths parts ≡ forgetting (all_of path_in paths) parts
 some_forgotten parts [] n = absurd (n refl)

@@ -17,6 +17,7 @@ use Rattle.smk_world_nodes.specs.declared.nodes.Nodes.{Nodes}
 use Rattle.smk_world_nodes.specs.declared.step.Step.{Step}
 use Rattle.smk_world_mem.proofs.Mem.{world_is_if, children_after_if, started_append}
 use Rattle.std.proofs.lemmas.Bool.{eqb-true}
+use Rattle.std.proofs.lemmas.Option.{same_Some}
 use Rattle.smk_world_nodes.proofs.Owners.{owners_after, owners_started, owners_waited}
 use Rattle.smk_world_nodes.proofs.Held.{leaves_children, held_after, held_started, held_waited, alone_more, alone_less, alone_when_apart}
 use Rattle.smk_world_mem.proofs.Starts.{below_not, below_more, apart_more, numbers_more, numbers_without, apart_less, below_less, distinct_more, distinct_less}
@@ -85,9 +86,6 @@ module _ (P : World → Type 0) (ended : Ended) (old new : Nodes) (steps more : 
   pub running_waited : numbers (replay empty_world more).children ≡ without_number ended.number (numbers (replay empty_world steps).children)
   running_waited = ap numbers (children_after_if P (Waited (Ok ended)) old new steps more adds) ∙ numbers_without ended.number (replay empty_world steps).children
 
-some_child : (x y : Child) → Some x ≡ Some y → x ≡ y
-some_child x y e = cc
-
 one_later : (n m : ℕ) (ns : List ℕ) → Contains ns n → Contains (m ∷ ns) n
 one_later n m ns (k, lt, is) = (suc k, omega arith, is)
 
@@ -109,18 +107,15 @@ child_apart n [] c all h = cc
 child_apart n (d ∷ cs) c all h = go (nat_eq d.number n) (λ k. child_apart n cs c all.1 k) h
   where
     go : (b : Bool) → (child_numbered n cs ≡ Some c → are_apart (owned_paths c.recipe c.logs) ≡ true) → (if b then Some d else child_numbered n cs) ≡ Some c → are_apart (owned_paths c.recipe c.logs) ≡ true
-    go true ih k = subst (λ (e : Child). are_apart (owned_paths e.recipe e.logs) ≡ true) (some_child d c k) all.0
+    go true ih k = subst (λ (e : Child). are_apart (owned_paths e.recipe e.logs) ≡ true) (same_Some d c k) all.0
     go false ih k = ih k
-
-some_world : (x y : World) → Some x ≡ Some y → x ≡ y
-some_world x y e = cc
 
 -- the status is that of the command, unless the child was killed
 pub no_other_status : (R : Type 0) (killed : Bool) (rose : killed ≡ true → R) (ended : Ended) (told : Bool) (steps : List Step) (children : List Child) (next : ℕ) → Orderly told steps children next → EndsAs killed ended (child_numbered ended.number children)
     → (w : World) → told_world told steps ≡ Some w → (c : Child) → child_numbered ended.number w.children ≡ Some c → (trees : List Tree) → ContentsAre w c.recipe trees → ended.status ≢ (mem_act c.recipe trees).status → R
 no_other_status R true rose ended told steps children next orderly ends w is c there trees contents other = rose refl
 no_other_status R false rose ended true steps children next orderly ends w is c there trees contents other =
-    let same : child_numbered ended.number children ≡ Some c = ap (child_numbered ended.number) (sym (ap (λ v. v.children) (sym (some_world _ _ is)) ∙ (orderly refl).children_are)) ∙ there in
+    let same : child_numbered ended.number children ≡ Some c = ap (child_numbered ended.number) (sym (ap (λ v. v.children) (sym (same_Some _ _ is)) ∙ (orderly refl).children_are)) ∙ there in
     absurd (other (subst (EndsAs false ended) same ends))
 no_other_status R false rose ended false steps children next orderly ends w is c there trees contents other = cc
 

@@ -1,7 +1,9 @@
 -- What the end of a child leaves.
-use Rattle.std.proofs.Common.{◌≡◌, ℕ, Bool, true, false, ◌||◌, ◌&&◌, not, List, [], ◌∷◌, ◌++◌, map, refl, ap, sym, subst, ◌∙◌, Option, Some, None, Ok, Err, Result, bytes_eq, ◌⊎◌, inl, inr}
+use Rattle.std.proofs.Common.{◌≡◌, ℕ, Bool, true, false, ◌||◌, ◌&&◌, not, List, [], ◌∷◌, ◌++◌, map, refl, ap, sym, subst, ◌∙◌, Option, Some, None, Ok, Err, Result, bytes_eq, ◌⊎◌, inl, inr, true≢false}
 use Rattle.std.specs.Prelude.{if◌then◌else◌, IfOk}
 use Rattle.std.specs.List.{AllZip, list_any}
+use Rattle.std.proofs.lemmas.Bool.{or_parts, or_left, or_right, not-true}
+use Rattle.std.proofs.Math.Bool.{or_assoc}
 use Rattle.smk_base.specs.Path.{is_under, is_at_or_under, overlaps}
 use Rattle.smk_base.proofs.Places.{place_itself, same_place, same_flipped, and_first, and_second}
 use Rattle.smk_base.specs.declared.tree.Tree.{Tree}
@@ -23,22 +25,7 @@ use Rattle.smk_world_mem.specs.declared.command.Command.TheVariants.{Cat, Keep, 
 use Rattle.smk_world_nodes.specs.Nodes.{node_at}
 use Rattle.smk_world_nodes.specs.Steps.{seen, AgreesWith}
 use Rattle.smk_world_nodes.specs.declared.nodes.Nodes.{Nodes}
-use Rattle.smk_world_nodes.proofs.Within.{within_both, or_assoc}
-
-true_false : true ≡ false → ⊥
-true_false e = cc
-
-or_false : (a b : Bool) → (a || b) ≡ false → (a ≡ false) × (b ≡ false)
-or_false true b e = absurd (true_false e)
-or_false false b e = (refl, e)
-
-or_first : (a b : Bool) → a ≡ true → (a || b) ≡ true
-or_first true b h = refl
-or_first false b h = cc
-
-or_second : (a b : Bool) → b ≡ true → (a || b) ≡ true
-or_second true b h = refl
-or_second false b h = h
+use Rattle.smk_world_nodes.proofs.Within.{within_both}
 
 pub with_ok : {T E : Type 0} (r : Result T E) (A B G : T → Type 0) → IfOk r A → IfOk r B → ((t : T) → A t → B t → G t) → IfOk r G
 with_ok (Ok t) A B G a b f = f t a b
@@ -80,7 +67,7 @@ named_within q (p ∷ ps) h = go (bytes_eq q p) (named_within q ps) h
   where
     go : (b : Bool) → (is_named q ps ≡ true → is_within q ps ≡ true) → (b || is_named q ps) ≡ true → ((b || is_under q p) || is_within q ps) ≡ true
     go true ih k = refl
-    go false ih k = or_second (is_under q p) (is_within q ps) (ih k)
+    go false ih k = or_right (is_under q p) (is_within q ps) (ih k)
 
 first_named : (q : List ℕ) (ps : List (List ℕ)) → is_named q (first_of ps) ≡ true → is_named q ps ≡ true
 first_named q [] h = h
@@ -114,7 +101,7 @@ named_more q p [] = or_none (bytes_eq q p)
     or_none : (b : Bool) → (b || false) ≡ b
     or_none true = refl
     or_none false = refl
-named_more q p (o ∷ ps) = ap (λ b. bytes_eq q o || b) (named_more q p ps) ∙ or_assoc (bytes_eq q o) (is_named q ps) (bytes_eq q p)
+named_more q p (o ∷ ps) = ap (λ b. bytes_eq q o || b) (named_more q p ps) ∙ sym (or_assoc (bytes_eq q o) (is_named q ps) (bytes_eq q p))
 
 -- one more of the places has the file
 pub one_more_file : (q p : List ℕ) (ps qs : List (List ℕ)) (file n0 n1 n2 : Option Node) → qs ≡ ps ++ p ∷ [] → n1 ≡ (if is_named q ps then file else n0) → n2 ≡ (if bytes_eq q p then file else n1) → n2 ≡ (if is_named q qs then file else n0)
@@ -131,10 +118,10 @@ one_more_file q p ps qs file n0 n1 n2 more one two =
 left_or_gone : (f l o w : Bool) (file log old : Option Node) → (f ≡ true → o ≡ true) → (l ≡ true → w ≡ true)
     → (if f then file else (if l then log else (if w then None else (if o then None else old)))) ≡ (if o || w then (if f then file else (if l then log else None)) else old)
 left_or_gone true l true w file log old fo lw = refl
-left_or_gone true l false w file log old fo lw = absurd (true_false (sym (fo refl)))
+left_or_gone true l false w file log old fo lw = absurd (true≢false (sym (fo refl)))
 left_or_gone false true true true file log old fo lw = refl
 left_or_gone false true false true file log old fo lw = refl
-left_or_gone false true o false file log old fo lw = absurd (true_false (sym (lw refl)))
+left_or_gone false true o false file log old fo lw = absurd (true≢false (sym (lw refl)))
 left_or_gone false false true true file log old fo lw = refl
 left_or_gone false false true false file log old fo lw = refl
 left_or_gone false false false true file log old fo lw = refl
@@ -192,31 +179,27 @@ elsewhere p q r h under = go (bytes_eq r q) refl
   where
     go : (b : Bool) → bytes_eq r q ≡ b → b ≡ false
     go true e =
-        let both = or_false (bytes_eq p q) _ h in
-        let none : is_at_or_under q p ≡ false = ap (λ b. b || is_under q p) (same_flipped q p ∙ both.0) ∙ (or_false (is_under p q) _ both.1).1 in
-        absurd (true_false (sym (subst (λ x. is_at_or_under x p ≡ true) (same_place r q e) under) ∙ none))
+        let both = or_parts (bytes_eq p q) _ h in
+        let none : is_at_or_under q p ≡ false = ap (λ b. b || is_under q p) (same_flipped q p ∙ both.0) ∙ (or_parts (is_under p q) _ both.1).1 in
+        absurd (true≢false (sym (subst (λ x. is_at_or_under x p ≡ true) (same_place r q e) under) ∙ none))
     go false e = refl
 
 -- where p is apart from all of these, none of them is at or under it
 none_named : (p : List ℕ) (qs : List (List ℕ)) (r : List ℕ) → list_any (overlaps p) qs ≡ false → is_at_or_under r p ≡ true → is_named r qs ≡ false
 none_named p [] r h under = refl
 none_named p (q ∷ qs) r h under =
-    let both = or_false (overlaps p q) _ h in
+    let both = or_parts (overlaps p q) _ h in
     ap (λ b. b || is_named r qs) (elsewhere p q r both.0 under) ∙ none_named p qs r both.1 under
 
 any_front : (f : List ℕ → Bool) (ps qs : List (List ℕ)) → list_any f (ps ++ qs) ≡ false → list_any f ps ≡ false
 any_front f [] qs h = refl
 any_front f (p ∷ ps) qs h =
-    let both = or_false (f p) _ h in
+    let both = or_parts (f p) _ h in
     ap (λ b. b || list_any f ps) both.0 ∙ any_front f ps qs both.1
 
 any_back : (f : List ℕ → Bool) (ps qs : List (List ℕ)) → list_any f (ps ++ qs) ≡ false → list_any f qs ≡ false
 any_back f [] qs h = h
-any_back f (p ∷ ps) qs h = any_back f ps qs (or_false (f p) _ h).1
-
-not_true : (b : Bool) → not b ≡ true → b ≡ false
-not_true true h = cc
-not_true false h = refl
+any_back f (p ∷ ps) qs h = any_back f ps qs (or_parts (f p) _ h).1
 
 -- each of these is apart from the logs
 apart_logs : (ps logs : List (List ℕ)) → are_apart (ps ++ logs) ≡ true → (p : List ℕ) → is_named p ps ≡ true → list_any (overlaps p) logs ≡ false
@@ -224,16 +207,16 @@ apart_logs [] logs apart p h = cc
 apart_logs (o ∷ ps) logs apart p h = go (bytes_eq p o) refl (apart_logs ps logs (and_second (not (list_any (overlaps o) (ps ++ logs))) _ apart) p) h
   where
     go : (b : Bool) → bytes_eq p o ≡ b → (is_named p ps ≡ true → list_any (overlaps p) logs ≡ false) → (b || is_named p ps) ≡ true → list_any (overlaps p) logs ≡ false
-    go true e ih k = any_back (overlaps p) ps logs (subst (λ x. list_any (overlaps x) (ps ++ logs) ≡ false) (sym (same_place p o e)) (not_true _ (and_first (not (list_any (overlaps o) (ps ++ logs))) _ apart)))
+    go true e ih k = any_back (overlaps p) ps logs (subst (λ x. list_any (overlaps x) (ps ++ logs) ≡ false) (sym (same_place p o e)) (not-true _ (and_first (not (list_any (overlaps o) (ps ++ logs))) _ apart)))
     go false e ih k = ih k
 
 -- f holds of none that is named
 any_named : (f : List ℕ → Bool) (qs : List (List ℕ)) → list_any f qs ≡ false → (p : List ℕ) → is_named p qs ≡ true → f p ≡ false
 any_named f [] h p named = cc
-any_named f (q ∷ qs) h p named = go (bytes_eq p q) refl (any_named f qs (or_false (f q) _ h).1 p) named
+any_named f (q ∷ qs) h p named = go (bytes_eq p q) refl (any_named f qs (or_parts (f q) _ h).1 p) named
   where
     go : (b : Bool) → bytes_eq p q ≡ b → (is_named p qs ≡ true → f p ≡ false) → (b || is_named p qs) ≡ true → f p ≡ false
-    go true e ih k = subst (λ x. f x ≡ false) (sym (same_place p q e)) (or_false (f q) _ h).0
+    go true e ih k = subst (λ x. f x ≡ false) (sym (same_place p q e)) (or_parts (f q) _ h).0
     go false e ih k = ih k
 
 -- what is at or under a place that is named is within the places
@@ -242,8 +225,8 @@ under_named r p [] h under = cc
 under_named r p (o ∷ ps) h under = go (bytes_eq p o) refl (under_named r p ps) h
   where
     go : (b : Bool) → bytes_eq p o ≡ b → (is_named p ps ≡ true → is_at_or_under r p ≡ true → is_within r ps ≡ true) → (b || is_named p ps) ≡ true → (is_at_or_under r o || is_within r ps) ≡ true
-    go true e ih k = or_first (is_at_or_under r o) (is_within r ps) (subst (λ x. is_at_or_under r x ≡ true) (same_place p o e) under)
-    go false e ih k = or_second (is_at_or_under r o) (is_within r ps) (ih k under)
+    go true e ih k = or_left (is_at_or_under r o) (is_within r ps) (subst (λ x. is_at_or_under r x ≡ true) (same_place p o e) under)
+    go false e ih k = or_right (is_at_or_under r o) (is_within r ps) (ih k under)
 
 -- either p is written, or nothing that is written is at or under it
 abbrev IsClear : List (List ℕ) → List ℕ → Type 0
@@ -255,14 +238,14 @@ first_clear (o ∷ ps) logs apart p h = go (bytes_eq p o) refl h
   where
     flip : overlaps o p ≡ false → overlaps p o ≡ false
     flip e =
-        let both = or_false (bytes_eq o p) _ e in
-        let under = or_false (is_under o p) _ both.1 in
+        let both = or_parts (bytes_eq o p) _ e in
+        let under = or_parts (is_under o p) _ both.1 in
         ap (λ b. b || (is_under p o || is_under o p)) (same_flipped p o ∙ both.0) ∙ ap (λ b. b || is_under o p) under.1 ∙ under.0
 
     go : (b : Bool) → bytes_eq p o ≡ b → (b || is_named p ps) ≡ true → IsClear (o ∷ []) p
     go true e k = inl (ap (λ b. b || false) e)
     go false e k = inr (λ r under. none_named p (o ∷ []) r
-        (ap (λ b. b || false) (flip (any_named (overlaps o) ps (any_front (overlaps o) ps logs (not_true _ (and_first (not (list_any (overlaps o) (ps ++ logs))) _ apart))) p k))) under)
+        (ap (λ b. b || false) (flip (any_named (overlaps o) ps (any_front (overlaps o) ps logs (not-true _ (and_first (not (list_any (overlaps o) (ps ++ logs))) _ apart))) p k))) under)
 
 written_clear : (c : Command) (ps logs : List (List ℕ)) → are_apart (ps ++ logs) ≡ true → (p : List ℕ) → is_named p ps ≡ true → IsClear (written_of c ps) p
 written_clear Cat ps logs apart p h = first_clear ps logs apart p h
@@ -287,13 +270,13 @@ module _ (w2 : World) (files wrote ps logs : List (List ℕ)) (text : List ℕ) 
   one_out : (p : List ℕ) → is_named p ps ≡ true → IsClear files p → ((r : List ℕ) → is_at_or_under r p ≡ true → is_named r wrote ≡ false)
       → MaybeTreeAt w2 p (if is_named p files then Some (File text) else None)
   one_out p named (inl written) clear =
-      let here : is_within p (ps ++ logs) ≡ true = within_both p ps logs ∙ or_first (is_within p ps) (is_within p logs) (named_within p ps named) in
+      let here : is_within p (ps ++ logs) ≡ true = within_both p ps logs ∙ or_left (is_within p ps) (is_within p logs) (named_within p ps named) in
       subst (λ b. MaybeTreeAt w2 p (if b then Some (File text) else None)) (sym written)
       (subst (HoldsBytes text) (sym (state p here ∙ ap (λ b. Known (if b then Some (Regular text time false) else node_named wrote [] now p) Anything) written)) refl)
   one_out p named (inr none) clear =
-      subst (λ b. MaybeTreeAt w2 p (if b then Some (File text) else None)) (sym (none p (or_first (bytes_eq p p) (is_under p p) (place_itself p))))
+      subst (λ b. MaybeTreeAt w2 p (if b then Some (File text) else None)) (sym (none p (or_left (bytes_eq p p) (is_under p p) (place_itself p))))
       (λ r under.
-      let here : is_within r (ps ++ logs) ≡ true = within_both r ps logs ∙ or_first (is_within r ps) (is_within r logs) (under_named r p ps named under) in
+      let here : is_within r (ps ++ logs) ≡ true = within_both r ps logs ∙ or_left (is_within r ps) (is_within r logs) (under_named r p ps named under) in
       subst (Reads None) (sym (state r here ∙ ap (λ b. Known (if b then Some (Regular text time false) else node_named wrote [] now r) Anything) (none r under)
       ∙ ap (λ b. Known (if b then Some (Regular [] now false) else None) Anything) (clear r under))) refl)
 
@@ -302,8 +285,8 @@ module _ (w2 : World) (files wrote ps logs : List (List ℕ)) (text : List ℕ) 
       → AllZip (λ q t. MaybeTreeAt w2 q t) qs (map (λ p. if is_named p files then Some (File text) else None) qs)
   each_out [] among clear apart = tt
   each_out (q ∷ qs) among clear apart =
-      let first : is_named q ps ≡ true = among q (or_first (bytes_eq q q) (is_named q qs) (place_itself q)) in
-      (one_out q first (clear q first) (apart q first), each_out qs (λ p h. among p (or_second (bytes_eq p q) (is_named p qs) h)) clear apart)
+      let first : is_named q ps ≡ true = among q (or_left (bytes_eq q q) (is_named q qs) (place_itself q)) in
+      (one_out q first (clear q first) (apart q first), each_out qs (λ p h. among p (or_right (bytes_eq p q) (is_named p qs) h)) clear apart)
 
 abbrev n137 : ℕ
 n137 = 137

@@ -3,6 +3,7 @@ use Rattle.std.proofs.Common.{◌≡◌, ◌+◌, ◌≤◌, Result, Ok, Err, le
 use Rattle.std.proofs.lemmas.List.{append-nil}
 use Rattle.std.specs.Prelude.{if◌then◌else◌, IsErr, IsSome}
 use Rattle.std.specs.Option.{option_map}
+use Rattle.std.proofs.lemmas.Option.{same_Some}
 use Rattle.smk_base.specs.Path.{is_under, is_at_or_under}
 use Rattle.smk_world.specs.declared.event.Node.{Node}
 use Rattle.smk_world.specs.declared.event.NodeState.{NodeState}
@@ -27,9 +28,6 @@ use Rattle.smk_world_nodes.specs.declared.nodes.Nodes.{Nodes}
 use Rattle.smk_world_nodes.specs.declared.step.Step.{Step}
 use Rattle.smk_world_nodes.specs.declared.step.Step.TheVariants as step
 
-some_same : (x y : World) → Some x ≡ Some y → x ≡ y
-some_same x y e = cc
-
 module _ (call : Call) (old new : Nodes) (steps more : List Step) (adds : Adds call old new steps more) where
   pub world_is : replay empty_world more ≡ after (replay empty_world steps) (record { call = call; left = adds.left })
   world_is = ap (replay empty_world) adds.steps_are ∙ replay_push empty_world steps (step.Happened (record { call = call; left = adds.left }))
@@ -47,7 +45,7 @@ module _ (call : Call) (old new : Nodes) (steps more : List Step) (adds : Adds c
   pub world_after : (told : Bool) → Agrees told old steps → (children : List Child) (next : ℕ) → Orderly told steps children next → Rooted told new → ((cs : List Child) → children_after call cs ≡ cs) → started_number call ≡ [] → leaves_children call ≡ true
       → Happened mem_act (told_world told steps) (told_world told more) call
   world_after true agrees children next orderly rooted keeps none leaves = record {
-    told = λ w1 e. (replay empty_world steps, refl, (adds.left, record { lets = adds.lets (replay empty_world steps) (agrees refl); tree = tree_after agrees children next orderly (rooted refl) keeps none leaves }, sym (some_same _ _ e) ∙ world_is));
+    told = λ w1 e. (replay empty_world steps, refl, (adds.left, record { lets = adds.lets (replay empty_world steps) (agrees refl); tree = tree_after agrees children next orderly (rooted refl) keeps none leaves }, sym (same_Some _ _ e) ∙ world_is));
     stays = λ a b. refl;
   }
   world_after false agrees children next orderly rooted keeps none leaves = record { told = λ w1 e. cc; stays = λ a b. a }
@@ -76,7 +74,7 @@ module _ (P : World → Type 0) (call : Call) (old new : Nodes) (steps more : Li
   pub world_after_if : (told : Bool) → Agrees told old steps → (told ≡ true → P (replay empty_world steps)) → (children : List Child) (next : ℕ) → Orderly told more children next → Rooted told new
       → Happened mem_act (told_world told steps) (told_world told more) call
   world_after_if true agrees fits children next orderly rooted = record {
-    told = λ w1 e. (replay empty_world steps, refl, (adds.left, record { lets = adds.lets (replay empty_world steps) (agrees refl) (fits refl); tree = tree_after_if children next (agrees_after_if true agrees fits) orderly (rooted refl) }, sym (some_same _ _ e) ∙ world_is_if));
+    told = λ w1 e. (replay empty_world steps, refl, (adds.left, record { lets = adds.lets (replay empty_world steps) (agrees refl) (fits refl); tree = tree_after_if children next (agrees_after_if true agrees fits) orderly (rooted refl) }, sym (same_Some _ _ e) ∙ world_is_if));
     stays = λ a b. refl;
   }
   world_after_if false agrees fits children next orderly rooted = record { told = λ w1 e. cc; stays = λ a b. a }
@@ -108,9 +106,6 @@ module _ (call : Call) (old new : Nodes) (steps more : List Step) (adds : Adds c
 pub failed_err : {T : Type 0} (r : Result T WorkFault) → device_failed r ≡ true → IsErr r
 failed_err (Ok t) h = h
 failed_err (Err e) h = refl
-
-pub never_failed : {P : Type 0} → false ≡ true → P
-never_failed e = cc
 
 -- a workspace that tells less
 pub told_less : (told less : Bool) (steps : List Step) → (less ≡ true → told ≡ true) → (w : World) → told_world less steps ≡ Some w → told_world told steps ≡ Some w

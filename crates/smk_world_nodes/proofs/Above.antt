@@ -2,6 +2,7 @@
 use Rattle.std.proofs.Common.{◌≡◌, ◌<◌, ℕ, zero, suc, ◌+◌, Bool, true, false, ◌&&◌, ◌||◌, ◌==◌, List, [], ◌∷◌, length, take, get_or, refl, ap, sym, ◌∙◌, arith, bytes_eq, add-one, Option, Some, None}
 use Rattle.std.specs.Prelude.{if◌then◌else◌, nat_eq}
 use Rattle.std.proofs.lemmas.Bool.{eqb-true, eq-eqb}
+use Rattle.std.proofs.Math.Bool.{and-true, and-false, or-false}
 use Rattle.smk_base.specs.Path.{is_under}
 use Rattle.smk_world.specs.declared.event.Node.{Node}
 use Rattle.smk_world_nodes.specs.Nodes.{or_folder}
@@ -18,18 +19,6 @@ all_short [] q = refl
 all_short (b ∷ p) [] = refl
 all_short (b ∷ p) (c ∷ q) = ap (λ v. b == c && v) (all_short p q)
 
-and_true : (b : Bool) → (b && true) ≡ b
-and_true true = refl
-and_true false = refl
-
-and_false : (b : Bool) → (b && false) ≡ false
-and_false true = refl
-and_false false = refl
-
-or_false : (b : Bool) → (b || false) ≡ b
-or_false true = refl
-or_false false = refl
-
 flip : (b c : ℕ) → nat_eq c b ≡ nat_eq b c
 flip b c =
     elim (nat_eq b c) as (λ v. nat_eq b c ≡ v → nat_eq c b ≡ v) [
@@ -39,13 +28,13 @@ flip b c =
 
 join : (same : Bool) (s g t : Bool) → (same && (s || (g && t))) ≡ ((same && s) || (g && (same && t)))
 join true s g t = refl
-join false s g t = sym (and_false g)
+join false s g t = sym (and-false g)
 
 pub short_more : (p : List ℕ) (i : ℕ) (q : List ℕ) → i < length p → is_short_above p (suc i) q ≡ (is_short_above p i q || ((get_or p i 0 == 47) && bytes_eq q (take i p)))
 short_more [] i q lt = absurd (omega arith)
-short_more (b ∷ p) zero [] lt = sym (and_true (b == 47))
-short_more (b ∷ p) zero (c ∷ q) lt = and_false (b == c) ∙ sym (and_false (b == 47))
-short_more (b ∷ p) (suc i) [] lt = sym (ap (λ v. (b == 47) || v) (and_false (get_or p i 0 == 47)) ∙ or_false (b == 47))
+short_more (b ∷ p) zero [] lt = sym (and-true (b == 47))
+short_more (b ∷ p) zero (c ∷ q) lt = and-false (b == c) ∙ sym (and-false (b == 47))
+short_more (b ∷ p) (suc i) [] lt = sym (ap (λ v. (b == 47) || v) (and-false (get_or p i 0 == 47)) ∙ or-false (b == 47))
 short_more (b ∷ p) (suc i) (c ∷ q) lt =
     ap (λ v. b == c && v) (short_more p i q (omega arith))
     ∙ join (b == c) (is_short_above p i q) (get_or p i 0 == 47) (bytes_eq q (take i p))
@@ -77,4 +66,4 @@ not_slash b other = elim (b == 47) as (λ v. (b == 47) ≡ v → v ≡ false) [ 
 pub folder_kept : (p : List ℕ) (i : ℕ) (q : List ℕ) (n0 n1 : Option Node) → i < length p → (get_or p i 0 ≡ 47 → ⊥)
     → n1 ≡ (if is_short_above p i q then or_folder n0 else n0) → n1 ≡ (if is_short_above p (i + 1) q then or_folder n0 else n0)
 folder_kept p i q n0 n1 lt other one =
-    one ∙ ap (λ v. if v then or_folder n0 else n0) (sym (short_more p i q lt ∙ ap (λ g. is_short_above p i q || (g && bytes_eq q (take i p))) (not_slash (get_or p i 0) other) ∙ or_false (is_short_above p i q))) ∙ rw add-one refl
+    one ∙ ap (λ v. if v then or_folder n0 else n0) (sym (short_more p i q lt ∙ ap (λ g. is_short_above p i q || (g && bytes_eq q (take i p))) (not_slash (get_or p i 0) other) ∙ or-false (is_short_above p i q))) ∙ rw add-one refl

@@ -1,5 +1,5 @@
 -- What the changes of nodes leave.
-use Rattle.std.proofs.Common.{◌≡◌, ◌⊎◌, inl, inr, ℕ, Bool, true, false, cond, ◌||◌, ◌&&◌, not, List, [], ◌∷◌, ◌++◌, map, refl, ap, sym, subst, ◌∙◌, Some, None, bytes_eq, string_bytes, String}
+use Rattle.std.proofs.Common.{◌≡◌, inl, inr, ℕ, Bool, true, false, cond, ◌||◌, ◌&&◌, not, List, [], ◌∷◌, ◌++◌, map, refl, ap, sym, subst, ◌∙◌, Some, None, bytes_eq, string_bytes, String, true≢false}
 use Rattle.std.specs.Prelude.{if◌then◌else◌}
 use Rattle.std.specs.List.{list_any, filter}
 use Rattle.std.specs.Map.{lookup, keys_of}
@@ -10,6 +10,7 @@ use Rattle.std.specs.Ordering.{is_eq, nat_cmp, is_le}
 use Rattle.std.specs.Cmp.Lexicographic.{slice_cmp}
 use Rattle.std.specs.declared.alloc.Global.{Global}
 use Rattle.std.proofs.lemmas.Map.Text.{is_eq-slice_cmp}
+use Rattle.std.proofs.lemmas.Bool.{or_cases, or_parts}
 use Rattle.smk_base.proofs.Places.{same_flipped, same_place}
 use Rattle.smk_world.specs.declared.event.Node.{Node}
 use Rattle.smk_base.specs.Path.{is_under}
@@ -38,19 +39,8 @@ listed_texts q (k ∷ keys) = ap (λ b. bytes_eq q (string_bytes k) || b) (liste
 abbrev pub passing : (List ℕ → Bool) → List (String Global × Node) → List (String Global × Node)
 passing test es = filter (λ e. test (string_bytes e.0)) es
 
-true_false : true ≡ false → ⊥
-true_false e = cc
-
-or_cases : (a b : Bool) → (a || b) ≡ true → (a ≡ true) ⊎ (b ≡ true)
-or_cases true b e = inl refl
-or_cases false b e = inr e
-
-or_false : (a b : Bool) → (a || b) ≡ false → (a ≡ false) × (b ≡ false)
-or_false true b e = absurd (true_false e)
-or_false false b e = (refl, e)
-
 pub listed_pass : (test : List ℕ → Bool) (q : List ℕ) (es : List (String Global × Node)) → list_any (bytes_eq q) (entry_texts (passing test es)) ≡ true → test q ≡ true
-listed_pass test q [] h = absurd (true_false (sym h))
+listed_pass test q [] h = absurd (true≢false (sym h))
 listed_pass test q (e ∷ es) h =
     elim (test (string_bytes e.0)) as (λ v. test (string_bytes e.0) ≡ v → list_any (bytes_eq q) (entry_texts (cond v (e ∷ passing test es) (passing test es))) ≡ true → test q ≡ true) [
       | true ↦ λ t k. elim (or_cases (bytes_eq q (string_bytes e.0)) _ k) [
@@ -66,13 +56,13 @@ none_listed test q (e ∷ es) pass h =
     let k = string_bytes e.0 in
     let rest : list_any (bytes_eq q) (entry_texts (passing test es)) ≡ false =
     elim (test k) as (λ v. list_any (bytes_eq q) (entry_texts (cond v (e ∷ passing test es) (passing test es))) ≡ false → list_any (bytes_eq q) (entry_texts (passing test es)) ≡ false) [
-      | true ↦ λ w. (or_false (bytes_eq q k) _ w).1
+      | true ↦ λ w. (or_parts (bytes_eq q k) _ w).1
       | false ↦ λ w. w
     ] h in
     let other : bytes_eq q k ≡ false =
     elim (bytes_eq q k) as (λ v. bytes_eq q k ≡ v → v ≡ false) [
       | true ↦ λ same. let passes : test k ≡ true = subst (λ x. test x ≡ true) (same_place q k same) pass in
-          absurd (true_false (ap (λ b. b || list_any (bytes_eq q) (entry_texts (passing test es))) (sym same) ∙ subst (λ v. list_any (bytes_eq q) (entry_texts (cond v (e ∷ passing test es) (passing test es))) ≡ false) passes h))
+          absurd (true≢false (ap (λ b. b || list_any (bytes_eq q) (entry_texts (passing test es))) (sym same) ∙ subst (λ v. list_any (bytes_eq q) (entry_texts (cond v (e ∷ passing test es) (passing test es))) ≡ false) passes h))
       | false ↦ λ same. refl
     ] refl in
     ap (λ b. cond b (Some e.1) (lookup (λ k. is_eq (slice_cmp nat_cmp q (string_bytes k))) es)) (is_eq-slice_cmp q k ∙ other) ∙ none_listed test q es pass rest

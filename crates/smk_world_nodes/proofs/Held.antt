@@ -2,6 +2,7 @@
 use Rattle.std.proofs.Common.{◌≡◌, inl, inr, ℕ, Bool, true, false, ◌||◌, ◌&&◌, not, cond, List, [], ◌∷◌, ◌++◌, refl, ap, sym, subst, ◌∙◌, Option, Some, None, Ok, Err, bytes_eq}
 use Rattle.std.specs.Prelude.{if◌then◌else◌, nat_eq, is_some, IsSome}
 use Rattle.std.specs.List.{filter, list_any}
+use Rattle.std.proofs.lemmas.Bool.{false≢true}
 use Rattle.smk_base.specs.Path.{is_under, is_at_or_under, overlaps}
 use Rattle.smk_base.proofs.Under.{never_both, false_unless, or_cases, overlaps_above_both}
 use Rattle.smk_world.specs.declared.event.Node.{Node}
@@ -73,9 +74,6 @@ either : (b : Bool) (s t : NodeState) → (is_owned s ≡ true → is_owned t �
 either true s t more h = more h
 either false s t more h = h
 
-no_call : {P : Type 0} → false ≡ true → P
-no_call h = absurd (never_both true refl (sym h))
-
 stays_held : (call : Call) (left : List Change) (cs : List Child) (q : List ℕ) (s : NodeState) → leaves_children call ≡ true → is_owned s ≡ true → is_owned (node_after call left cs q s) ≡ true
 stays_held (Looked p r) left cs q s leaves h = h
 stays_held (ReadFile p limit r) left cs q s leaves h = h
@@ -90,9 +88,9 @@ stays_held (Settled ps (Ok u)) left cs q s leaves h = either (is_within q ps || 
 stays_held (Settled ps (Err e)) left cs q s leaves h = h
 stays_held (Protected p (Ok u)) left cs q s leaves h = either (bytes_eq q p) s _ (flag_held s) h
 stays_held (Protected p (Err e)) left cs q s leaves h = either (bytes_eq q p) s _ (λ k. going_held (standing left q) (with_flag s) (flag_held s k)) h
-stays_held (Started recipe logs command (Ok number)) left cs q s leaves h = no_call leaves
+stays_held (Started recipe logs command (Ok number)) left cs q s leaves h = absurd (false≢true leaves)
 stays_held (Started recipe logs command (Err e)) left cs q s leaves h = h
-stays_held (Waited (Ok ended)) left cs q s leaves h = no_call leaves
+stays_held (Waited (Ok ended)) left cs q s leaves h = absurd (false≢true leaves)
 stays_held (Waited (Err e)) left cs q s leaves h = h
 
 pub held_after : (w : World) (call : Call) (left : List Change) → leaves_children call ≡ true → children_after call w.children ≡ w.children → IsHeld w → IsHeld (after w (record { call = call; left = left }))
@@ -118,7 +116,7 @@ held_started w recipe logs command number left held = λ q h.
   where
     go : (q : List ℕ) (b : Bool) → (is_within q (owned_now w.children) || b) ≡ true → is_owned (if b then Owned else w.nodes q) ≡ true
     go q true k = refl
-    go q false k = elim (or_cases (is_within q (owned_now w.children)) false k) [ inl old ↦ held q old | inr none ↦ no_call none ]
+    go q false k = elim (or_cases (is_within q (owned_now w.children)) false k) [ inl old ↦ held q old | inr none ↦ absurd (false≢true none) ]
 
 pub alone_more : (cs : List Child) (c : Child) → AllAlone cs → AreAlone (owned_paths c.recipe c.logs) (owned_now cs) → AllAlone (cs ++ c ∷ [])
 alone_more [] c all apart = ((λ x h k. never_both false k refl), tt)
@@ -133,7 +131,7 @@ alone_more (d ∷ cs) c all apart = (
   where
     first_or : (a b : Bool) → a ≡ true → (a || b) ≡ true
     first_or true b h = refl
-    first_or false b h = no_call h
+    first_or false b h = absurd (false≢true h)
 
     second_or : (a b : Bool) → b ≡ true → (a || b) ≡ true
     second_or true b h = refl
@@ -141,7 +139,7 @@ alone_more (d ∷ cs) c all apart = (
 
 -- a place at or under one of these overlaps what it is at or under of those
 overlaps_one : (x p : List ℕ) (qs : List (List ℕ)) → is_at_or_under x p ≡ true → is_within x qs ≡ true → list_any (overlaps p) qs ≡ true
-overlaps_one x p [] at h = no_call h
+overlaps_one x p [] at h = absurd (false≢true h)
 overlaps_one x p (q ∷ qs) at h =
     elim (or_cases (is_at_or_under x q) (is_within x qs) h) [
       | inl here ↦ left_or (overlaps p q) (list_any (overlaps p) qs) (overlaps_above_both x p q at here)
@@ -150,14 +148,14 @@ overlaps_one x p (q ∷ qs) at h =
   where
     left_or : (a b : Bool) → a ≡ true → (a || b) ≡ true
     left_or true b k = refl
-    left_or false b k = no_call k
+    left_or false b k = absurd (false≢true k)
 
     right_or : (a b : Bool) → b ≡ true → (a || b) ≡ true
     right_or true b k = refl
     right_or false b k = k
 
 overlaps_some : (x : List ℕ) (ps qs : List (List ℕ)) → is_within x ps ≡ true → is_within x qs ≡ true → any_overlap ps qs ≡ true
-overlaps_some x [] qs h k = no_call h
+overlaps_some x [] qs h k = absurd (false≢true h)
 overlaps_some x (p ∷ ps) qs h k =
     elim (or_cases (is_at_or_under x p) (is_within x ps) h) [
       | inl here ↦ left_or (list_any (overlaps p) qs) (any_overlap ps qs) (overlaps_one x p qs here k)
@@ -166,7 +164,7 @@ overlaps_some x (p ∷ ps) qs h k =
   where
     left_or : (a b : Bool) → a ≡ true → (a || b) ≡ true
     left_or true b j = refl
-    left_or false b j = no_call j
+    left_or false b j = absurd (false≢true j)
 
     right_or : (a b : Bool) → b ≡ true → (a || b) ≡ true
     right_or true b j = refl
@@ -174,7 +172,7 @@ overlaps_some x (p ∷ ps) qs h k =
 
 -- what is owned is used
 owned_used : (x : List ℕ) (cs : List Child) → is_within x (owned_now cs) ≡ true → is_within x (used_now cs) ≡ true
-owned_used x [] h = no_call h
+owned_used x [] h = absurd (false≢true h)
 owned_used x (c ∷ cs) h =
     within_both x (in_paths c.recipe ++ owned_paths c.recipe c.logs) (used_now cs)
     ∙ ap (λ b. b || is_within x (used_now cs)) (within_both x (in_paths c.recipe) (owned_paths c.recipe c.logs))
@@ -219,12 +217,12 @@ alone_less test (c ∷ cs) all = go (test c) (alone_less test cs all.1)
 
 -- what the child of this number owns is within what all own
 by_one : (x : List ℕ) (number : ℕ) (cs : List Child) → is_within x (owned_by number cs) ≡ true → is_within x (owned_now cs) ≡ true
-by_one x number [] h = no_call h
+by_one x number [] h = absurd (false≢true h)
 by_one x number (c ∷ cs) h = within_both x (owned_paths c.recipe c.logs) (owned_now cs) ∙ go (nat_eq c.number number) (by_one x number cs) h
   where
     here : (a d : Bool) → a ≡ true → (a || d) ≡ true
     here true d k = refl
-    here false d k = no_call k
+    here false d k = absurd (false≢true k)
 
     behind : (a d : Bool) → d ≡ true → (a || d) ≡ true
     behind true d k = refl
@@ -237,7 +235,7 @@ by_one x number (c ∷ cs) h = within_both x (owned_paths c.recipe c.logs) (owne
 
 -- what the others own is not this child's
 others_alone : (x : List ℕ) (number : ℕ) (cs : List Child) → AllAlone cs → is_within x (owned_by number cs) ≡ true → is_within x (owned_now (filter (λ c. not (nat_eq c.number number)) cs)) ≡ true → ⊥
-others_alone x number [] all h k = no_call h
+others_alone x number [] all h k = absurd (false≢true h)
 others_alone x number (c ∷ cs) all h k = go (nat_eq c.number number) (others_alone x number cs all.1) h k
   where
     others : List Child

@@ -1,5 +1,5 @@
 -- What a listing has.
-use Rattle.std.proofs.Common.{◌≡◌, ◌⊎◌, inl, inr, ℕ, Bool, true, false, ◌||◌, ◌&&◌, ◌==◌, not, List, [], ◌∷◌, ◌++◌, zero, suc, arith, map, refl, ap, sym, subst, ◌∙◌, Option, Some, None, bytes_eq, cond, string_bytes, String}
+use Rattle.std.proofs.Common.{◌≡◌, inl, inr, ℕ, Bool, true, false, ◌||◌, ◌&&◌, ◌==◌, not, List, [], ◌∷◌, ◌++◌, zero, suc, arith, map, refl, ap, sym, subst, ◌∙◌, Option, Some, None, bytes_eq, cond, string_bytes, String, true≢false}
 use Rattle.std.specs.Prelude.{if◌then◌else◌, is_some, IsTrue, All, Contains}
 use Rattle.std.specs.List.{list_any, flat_map, AllByRecursion}
 use Rattle.std.specs.List.Sorted.{IsStrictlySortedBy}
@@ -10,14 +10,16 @@ use Rattle.std.specs.Map.{lookup}
 use Rattle.std.specs.Ordering.{nat_cmp, ordering_then, is_eq}
 use Rattle.std.specs.declared.alloc.Global.{Global}
 use Rattle.std.specs.declared.cmp.Ordering.TheVariants.{Less}
-use Rattle.std.proofs.lemmas.Bool.{eqb-true, eq-eqb}
+use Rattle.std.proofs.lemmas.Bool.{eqb-true, eq-eqb, or_cases, or_right, not-true}
 use Rattle.std.proofs.lemmas.List.{map-append, append-nil}
 use Rattle.std.proofs.lemmas.Grind.{flat_map-append}
-use Rattle.std.proofs.lemmas.List.Elements.{All-append}
+use Rattle.std.proofs.lemmas.List.Elements.{All-append, All-nil}
 use Rattle.std.proofs.lemmas.List.Folds.{list_any-append}
 use Rattle.std.proofs.lemmas.Map.Text.{is_eq-slice_cmp}
 use Rattle.std.proofs.lemmas.Map.Views.{Contains-from_any}
 use Rattle.std.proofs.lemmas.Str.{IsUtf8-from_is_utf8, is_utf8-from_IsUtf8}
+use Rattle.std.proofs.lemmas.Option.{none-some, same_Some}
+use Rattle.std.proofs.Math.Bool.{or-false}
 use Rattle.smk_base.specs.Path.{is_under}
 use Rattle.smk_base.proofs.Places.{same_place, place_itself, and_first, and_second}
 use Rattle.smk_world.specs.declared.event.Node.{Node}
@@ -34,17 +36,6 @@ use Rattle.smk_world_nodes.specs.declared.nodes.Nodes.{Nodes}
 use Rattle.smk_world_nodes.proofs.Changes.{none_listed, entry_texts, passing}
 use Rattle.smk_base.proofs.Ranges.{is_between, between_is_under}
 
-true_false : true ≡ false → ⊥
-true_false e = cc
-
-or_cases : (a b : Bool) → (a || b) ≡ true → (a ≡ true) ⊎ (b ≡ true)
-or_cases true b e = inl refl
-or_cases false b e = inr e
-
-or_right : (a b : Bool) → b ≡ true → (a || b) ≡ true
-or_right true b h = refl
-or_right false b h = h
-
 -- ## Texts
 
 pub text_yes : (name t : List ℕ) → IsUtf8 name → list_any (λ b. b == 10) name ≡ false → t ≡ name → Some t ≡ (if is_text name then Some name else None)
@@ -58,12 +49,8 @@ text_no name never = go (is_utf8 name) refl
     go true e = absurd (never (IsUtf8-from_is_utf8 name e))
     go false e = sym (ap (λ b. if b && not (list_any (λ b. b == 10) name) then Some name else None) e)
 
-not_true : (b : Bool) → not b ≡ true → b ≡ false
-not_true true h = cc
-not_true false h = refl
-
 text_name : (name : List ℕ) → is_text name ≡ true → IsTextName name
-text_name name h = (IsUtf8-from_is_utf8 name (and_first (is_utf8 name) _ h), not_true _ (and_second (is_utf8 name) _ h))
+text_name name h = (IsUtf8-from_is_utf8 name (and_first (is_utf8 name) _ h), not-true _ (and_second (is_utf8 name) _ h))
 
 text_test : (name : List ℕ) → IsTextName name → is_text name ≡ true
 text_test name t = ap (λ b. b && not (list_any (λ b. b == 10) name)) (is_utf8-from_IsUtf8 name t.0) ∙ ap not t.1
@@ -76,29 +63,23 @@ no_text_test name never = go (is_text name) refl
     go false e = refl
 
 no_text_name : (name : List ℕ) → is_text name ≡ false → ¬ (IsTextName name)
-no_text_name name e t = true_false (sym (text_test name t) ∙ e)
+no_text_name name e t = true≢false (sym (text_test name t) ∙ e)
 
 -- ## Names in a folder
 
-none_some : (n : List ℕ) → None ≡ Some n → ⊥
-none_some n e = cc
-
-some_text : (x y : List ℕ) → Some x ≡ Some y → x ≡ y
-some_text x y e = cc
-
 pub key_is : (k p name : List ℕ) → name_under k p ≡ Some name → (k ≡ in_folder p name) × (is_name name ≡ true)
-key_is [] p name h = absurd (none_some name h)
+key_is [] p name h = absurd (none-some name h)
 key_is (b ∷ k) [] name h = go (b == 47) refl (is_name k) refl h
   where
     go : (u : Bool) → (b == 47) ≡ u → (v : Bool) → is_name k ≡ v → (if u && v then Some k else None) ≡ Some name → ((b ∷ k) ≡ in_folder [] name) × (is_name name ≡ true)
-    go true e true f is = ((λ i. eqb-true b 47 e i ∷ some_text k name is i), ap is_name (sym (some_text k name is)) ∙ f)
-    go true e false f is = absurd (none_some name is)
-    go false e v f is = absurd (none_some name is)
+    go true e true f is = ((λ i. eqb-true b 47 e i ∷ same_Some k name is i), ap is_name (sym (same_Some k name is)) ∙ f)
+    go true e false f is = absurd (none-some name is)
+    go false e v f is = absurd (none-some name is)
 key_is (b ∷ k) (c ∷ p) name h = go (b == c) refl (λ is. key_is k p name is) h
   where
     go : (u : Bool) → (b == c) ≡ u → (name_under k p ≡ Some name → (k ≡ in_folder p name) × (is_name name ≡ true)) → (if u then name_under k p else None) ≡ Some name → ((b ∷ k) ≡ in_folder (c ∷ p) name) × (is_name name ≡ true)
     go true e ih is = let r = ih is in ((λ i. eqb-true b c e i ∷ r.0 i), r.1)
-    go false e ih is = absurd (none_some name is)
+    go false e ih is = absurd (none-some name is)
 
 pub name_is : (p name : List ℕ) → is_name name ≡ true → name_under (in_folder p name) p ≡ Some name
 name_is [] name h = ap (λ b. if b then Some name else None) h
@@ -115,7 +96,7 @@ in_order (c ∷ p) a b = ap (λ o. ordering_then o (slice_cmp nat_cmp (in_folder
 -- ## The keys
 
 listed_there : (q : List ℕ) (test : List ℕ → Bool) (es : List (String Global × Node)) → list_any (bytes_eq q) (entry_texts (passing test es)) ≡ true → is_some (lookup (λ k. is_eq (slice_cmp nat_cmp q (string_bytes k))) es) ≡ true
-listed_there q test [] h = absurd (true_false (sym h))
+listed_there q test [] h = absurd (true≢false (sym h))
 listed_there q test (e ∷ es) h = go (bytes_eq q (string_bytes e.0)) refl (test (string_bytes e.0)) (λ k. listed_there q test es k) h
   where
     same : (b : Bool) → bytes_eq q (string_bytes e.0) ≡ b → is_eq (slice_cmp nat_cmp q (string_bytes e.0)) ≡ b
@@ -138,19 +119,19 @@ module _ (nodes : Nodes) (p : List ℕ) where
     where
       go : (b : Bool) → list_any (bytes_eq q) (keys_under nodes p) ≡ b → b ≡ true
       go true e = refl
-      go false e = absurd (true_false (sym there ∙ ap is_some (none_listed (is_between p) q nodes.nodes.entries (between_is_under p q ∙ under) e)))
+      go false e = absurd (true≢false (sym there ∙ ap is_some (none_listed (is_between p) q nodes.nodes.entries (between_is_under p q ∙ under) e)))
 
 -- ## Walks over the keys
 
 any_at : (f : List ℕ → Bool) (k : List ℕ) (ks : List (List ℕ)) → list_any (bytes_eq k) ks ≡ true → f k ≡ true → list_any f ks ≡ true
-any_at f k [] h is = absurd (true_false (sym h))
+any_at f k [] h is = absurd (true≢false (sym h))
 any_at f k (j ∷ ks) h is = elim (or_cases (bytes_eq k j) (list_any (bytes_eq k) ks) h) [
   | inl same ↦ ap (λ b. b || list_any f ks) (subst (λ x. f x ≡ true) (same_place k j same) is)
   | inr rest ↦ or_right (f j) (list_any f ks) (any_at f k ks rest is)
 ]
 
 any_where : (f : List ℕ → Bool) (ks : List (List ℕ)) → list_any f ks ≡ true → (k : List ℕ) × ((list_any (bytes_eq k) ks ≡ true) × (f k ≡ true))
-any_where f [] h = absurd (true_false (sym h))
+any_where f [] h = absurd (true≢false (sym h))
 any_where f (j ∷ ks) h = elim (or_cases (f j) (list_any f ks) h) [
   | inl here ↦ (j, (ap (λ b. b || list_any (bytes_eq j) ks) (place_itself j), here))
   | inr rest ↦ let r = any_where f ks rest in (r.0, (or_right (bytes_eq r.0 j) (list_any (bytes_eq r.0) ks) r.1.0, r.1.1))
@@ -200,10 +181,6 @@ module _ (nodes : Nodes) (p : List ℕ) where
 
 -- ## One key more
 
-or_false : (b : Bool) → (b || false) ≡ b
-or_false true = refl
-or_false false = refl
-
 pub keys_more : (keys more : List (String Global)) (k : String Global) → more ≡ keys ++ k ∷ [] → map string_bytes more ≡ map string_bytes keys ++ string_bytes k ∷ []
 keys_more keys more k is = ap (map string_bytes) is ∙ map-append string_bytes keys (k ∷ [])
 
@@ -216,13 +193,10 @@ names_step nodes p keys more k folder name old new one is_folder is_name was now
 pub strange_step : (p : List ℕ) (keys more : List (List ℕ)) (k : List ℕ) (name : Option (List ℕ)) (old other new : Bool)
     → more ≡ keys ++ k ∷ [] → name ≡ name_under k p → old ≡ strange_of p keys → other ≡ is_strange name → new ≡ (old || other) → new ≡ strange_of p more
 strange_step p keys more k name old other new one is_name was is now =
-    now ∙ ap (λ o. o || other) was ∙ ap (λ o. strange_of p keys || o) (is ∙ ap is_strange is_name ∙ sym (or_false (is_strange (name_under k p))))
+    now ∙ ap (λ o. o || other) was ∙ ap (λ o. strange_of p keys || o) (is ∙ ap is_strange is_name ∙ sym (or-false (is_strange (name_under k p))))
     ∙ sym (list_any-append (λ j. is_strange (name_under j p)) keys (k ∷ [])) ∙ ap (strange_of p) (sym one)
 
 -- ## The listing
-
-all_none : {X : Type 0} (P : X → Type 0) → All P []
-all_none P = λ k d lt. absurd (omega arith)
 
 all_one : {X : Type 0} (P : X → Type 0) (x : X) → P x → All P (x ∷ [])
 all_one P x h zero d lt = h
@@ -234,7 +208,7 @@ folder_same Directory = refl
 
 may_stand : (s : NodeState) (m : Option Node) → seen m s ≡ m → is_some m ≡ true → MayStand (is_folder_there m) s
 may_stand Owned m a h = tt
-may_stand (Known None besides) m a h = absurd (true_false (sym h ∙ ap is_some (sym a)))
+may_stand (Known None besides) m a h = absurd (true≢false (sym h ∙ ap is_some (sym a)))
 may_stand (Known (Some n) besides) m a h = folder_same n ∙ ap is_folder_there a
 
 stands_some : (s : NodeState) (m : Option Node) → seen m s ≡ m → Stands s → is_some m ≡ true
@@ -244,7 +218,7 @@ stands_some (Known (Some n) besides) m a h = ap is_some (sym a)
 
 not_nothing : (s : NodeState) (m : Option Node) → seen m s ≡ m → is_some m ≡ true → ¬ (Reads None s)
 not_nothing Owned m a there h = h
-not_nothing (Known now besides) m a there h = true_false (sym there ∙ ap is_some (sym a ∙ h))
+not_nothing (Known now besides) m a there h = true≢false (sym there ∙ ap is_some (sym a ∙ h))
 
 abbrev IsEntry : World → List ℕ → Name → Type 0
 IsEntry w p n = IsTrue (is_name n.name) × IsTextName n.name × MayStand n.folder (w.nodes (in_folder p n.name))
@@ -252,18 +226,18 @@ IsEntry w p n = IsTrue (is_name n.name) × IsTextName n.name × MayStand n.folde
 text_stands : (nodes : Nodes) (w : World) (p k name : List ℕ) → (k ≡ in_folder p name) × (is_name name ≡ true) → MayStand (is_folder_there (node_at nodes k)) (w.nodes k)
     → (b : Bool) → is_text name ≡ b → All (IsEntry w p) (if b then record { name = name; folder = is_folder_there (node_at nodes k) } ∷ [] else [])
 text_stands nodes w p k name is may true e = all_one (IsEntry w p) _ (is.1, text_name name e, subst (λ q. MayStand (is_folder_there (node_at nodes k)) (w.nodes q)) is.0 may)
-text_stands nodes w p k name is may false e = all_none (IsEntry w p)
+text_stands nodes w p k name is may false e = All-nil (IsEntry w p)
 
 module _ (nodes : Nodes) (w : World) (p : List ℕ) (agrees : AgreesWith nodes w) where
   one_stands : (k : List ℕ) → is_some (node_at nodes k) ≡ true → All (IsEntry w p) (entry nodes p k)
   one_stands k there = go (name_under k p) refl
     where
       go : (o : Option (List ℕ)) → name_under k p ≡ o → All (IsEntry w p) (entry_of (is_folder_there (node_at nodes k)) o)
-      go None e = all_none (IsEntry w p)
+      go None e = All-nil (IsEntry w p)
       go (Some name) e = text_stands nodes w p k name (key_is k p name e) (may_stand (w.nodes k) (node_at nodes k) (agrees k) there) (is_text name) refl
 
   all_stand : (ks : List (List ℕ)) → ((q : List ℕ) → list_any (bytes_eq q) ks ≡ true → is_some (node_at nodes q) ≡ true) → All (IsEntry w p) (names_of nodes p ks)
-  all_stand [] there = all_none (IsEntry w p)
+  all_stand [] there = All-nil (IsEntry w p)
   all_stand (k ∷ ks) there = All-append (IsEntry w p) (entry nodes p k) (names_of nodes p ks)
       (one_stands k (there k (ap (λ b. b || list_any (bytes_eq k) ks) (place_itself k))))
       (all_stand ks (λ q h. there q (or_right (bytes_eq q k) (list_any (bytes_eq q) ks) h)))
@@ -287,10 +261,10 @@ module _ (nodes : Nodes) (w : World) (p : List ℕ) (agrees : AgreesWith nodes w
       strange_key found.0 (key_there nodes p found.0 found.1.0) (name_under found.0 p) refl found.1.1
     where
       strange_key : (k : List ℕ) → is_some (node_at nodes k) ≡ true → (o : Option (List ℕ)) → name_under k p ≡ o → is_strange o ≡ true → (name : List ℕ) × (IsTrue (is_name name) × (¬ (IsTextName name)) × (¬ (Reads None (w.nodes (in_folder p name)))))
-      strange_key k there None e f = absurd (true_false (sym f))
+      strange_key k there None e f = absurd (true≢false (sym f))
       strange_key k there (Some name) e f =
           let is = key_is k p name e in
-          (name, (is.1, no_text_name name (not_true (is_text name) f), subst (λ q. ¬ (Reads None (w.nodes q))) is.0 (not_nothing (w.nodes k) (node_at nodes k) (agrees k) there)))
+          (name, (is.1, no_text_name name (not-true (is_text name) f), subst (λ q. ¬ (Reads None (w.nodes q))) is.0 (not_nothing (w.nodes k) (node_at nodes k) (agrees k) there)))
 
   is_listing : IsRising (keys_under nodes p) → IsListing w p (record { there = true; names = names_of nodes p (keys_under nodes p); strange = strange_of p (keys_under nodes p) })
   is_listing rising = record {

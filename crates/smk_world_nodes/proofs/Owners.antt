@@ -3,7 +3,8 @@ use Rattle.std.proofs.Common.{◌≡◌, ℕ, Bool, true, false, ◌||◌, not, 
 use Rattle.std.specs.Prelude.{if◌then◌else◌, nat_eq, ◌&&◌, is_some}
 use Rattle.std.specs.List.{filter}
 use Rattle.std.proofs.lemmas.List.{append-nil}
-use Rattle.std.proofs.lemmas.Bool.{ne_eqb, eqb-true}
+use Rattle.std.proofs.lemmas.Bool.{ne_eqb, eqb-true, or_right, or_left}
+use Rattle.std.proofs.Math.Bool.{or_assoc}
 use Rattle.smk_base.specs.Path.{is_under, is_at_or_under}
 use Rattle.smk_world.specs.declared.event.Node.{Node}
 use Rattle.smk_world.specs.declared.event.NodeState.{NodeState}
@@ -19,7 +20,7 @@ use Rattle.smk_world.specs.World.{World, after, node_after, children_after, loos
 use Rattle.smk_world.specs.Calls.{started_number, owned_now, HasOwners}
 use Rattle.smk_world_nodes.specs.Steps.{AllBelow, AllOther, AllDistinct, now_there, step_world}
 use Rattle.smk_world_nodes.specs.declared.step.Step.TheVariants.{Put, Gone}
-use Rattle.smk_world_nodes.proofs.Within.{within_both, or_assoc}
+use Rattle.smk_world_nodes.proofs.Within.{within_both}
 
 loose_owned : (n : Option Node) (s : NodeState) → loose n s ≡ Owned → s ≡ Owned
 loose_owned n Owned h = refl
@@ -70,20 +71,12 @@ pub owners_after : (w : World) (call : Call) (left : List Change) → HasOwners 
 owners_after w call left owners starts keeps = λ q h.
     subst (λ cs. is_within q (owned_now cs) ≡ true) (sym keeps) (owners q (owned_before call left w.children q (w.nodes q) starts h))
 
-pub or_second : (a b : Bool) → b ≡ true → (a || b) ≡ true
-or_second true b h = refl
-or_second false b h = h
-
-pub or_first : (a b : Bool) → a ≡ true → (a || b) ≡ true
-or_first true b h = refl
-or_first false b h = cc
-
 pub own_more : (q : List ℕ) (cs : List Child) (c : Child) → is_within q (owned_now (cs ++ c ∷ [])) ≡ (is_within q (owned_now cs) || is_within q (owned_paths c.recipe c.logs))
 own_more q [] c = ap (is_within q) (append-nil (owned_paths c.recipe c.logs))
 own_more q (d ∷ cs) c =
     within_both q (owned_paths d.recipe d.logs) (owned_now (cs ++ c ∷ []))
     ∙ ap (λ b. is_within q (owned_paths d.recipe d.logs) || b) (own_more q cs c)
-    ∙ or_assoc (is_within q (owned_paths d.recipe d.logs)) (is_within q (owned_now cs)) (is_within q (owned_paths c.recipe c.logs))
+    ∙ sym (or_assoc (is_within q (owned_paths d.recipe d.logs)) (is_within q (owned_now cs)) (is_within q (owned_paths c.recipe c.logs)))
     ∙ ap (λ b. b || is_within q (owned_paths c.recipe c.logs)) (sym (within_both q (owned_paths d.recipe d.logs) (owned_now cs)))
 
 pub owners_started : (w : World) (recipe : Recipe) (logs : List (List ℕ)) (command : List ℕ) (number : ℕ) (left : List Change) → HasOwners w
@@ -93,8 +86,8 @@ owners_started w recipe logs command number left owners = λ q h.
     own_more q w.children child ∙ go q (is_within q (owned_paths recipe logs)) (owners q) h
   where
     go : (q : List ℕ) (b : Bool) → (w.nodes q ≡ Owned → is_within q (owned_now w.children) ≡ true) → (if b then Owned else w.nodes q) ≡ Owned → (is_within q (owned_now w.children) || b) ≡ true
-    go q true back k = or_second (is_within q (owned_now w.children)) true refl
-    go q false back k = or_first (is_within q (owned_now w.children)) false (back k)
+    go q true back k = or_right (is_within q (owned_now w.children)) true refl
+    go q false back k = or_left (is_within q (owned_now w.children)) false (back k)
 
 -- none but the others stays
 all_others : (number : ℕ) (cs : List Child) → AllOther number (numbers cs) → filter (λ c. not (nat_eq c.number number)) cs ≡ cs

@@ -6,12 +6,12 @@ use Rattle.smk_world.specs.Calls.{started_numbers}
 use Rattle.smk_world_mem.specs.Adds.{AddsIf}
 use Rattle.smk_world_nodes.specs.Steps.{AllBelow}
 use Rattle.smk_world_nodes.specs.declared.step.Step.TheVariants.{Happened}
-use Rattle.smk_world_mem.proofs.Mem.{agrees_after_if, world_after_if, children_after_if, never_failed}
+use Rattle.smk_world_mem.proofs.Mem.{agrees_after_if, world_after_if, children_after_if}
 use Rattle.smk_world_mem.proofs.Starts.{started_adds, not_started_adds}
 use Rattle.smk_world_mem.proofs.Crewed.{orderly_same, orderly_started, running_started, fresh_number, told_apart, told_alone}
 use Rattle.smk_world_mem.proofs.Causes.{caused_crew}
 use Rattle.smk_world_mem.specs.Setup.{fails_at}
-use Rattle.std.proofs.lemmas.Bool.{eqb-true}
+use Rattle.std.proofs.lemmas.Bool.{eqb-true, false≢true}
 use Rattle.std.specs.Prelude.{IsErr, nat_eq}
 use Rattle.smk_world_mem.proofs.work.MemWorkCrew.start.Goals as goal
 use Rattle.smk_world_mem.proofs.work.MemWorkCrew.start.Goals.{then-not-self, else-not-self, then-is_failing, else-is_failing}
@@ -75,7 +75,7 @@ returns-in-Ok-Ok-clause-called c =
           (told_apart c.args.self.now.told c.args.self.now.steps c.args.recipe.now c.args.logs.now c.requires.may)
           (told_alone c.args.self.now.told c.args.self.now.steps c.args.self.now.children c.args.self.now.next c.args.recipe.now c.args.logs.now c.args.self.now.orderly c.requires.may))
           c.args.self.now.rooted;
-      cause = record { later = omega arith; rose = λ failure. never_failed failure };
+      cause = record { later = omega arith; rose = λ failure. absurd (false≢true failure) };
       running = running_started _ c.args.recipe.now c.args.logs.now c.args.command.now c.args.self.now.next _ _ _ _ adds;
     }
 

@@ -6,13 +6,14 @@ use Rattle.smk_world.specs.World.{children_after, child_numbered, numbers}
 use Rattle.smk_world_mem.specs.Act.{EndsAs}
 use Rattle.smk_world_mem.specs.Adds.{AddsIf}
 use Rattle.smk_world_nodes.specs.Steps.{AllApart}
-use Rattle.smk_world_mem.proofs.Mem.{agrees_after_if, world_after_if, children_after_if, never_failed}
+use Rattle.smk_world_mem.proofs.Mem.{agrees_after_if, world_after_if, children_after_if}
 use Rattle.smk_world_mem.proofs.Crewed.{orderly_same, orderly_waited, running_waited, ran, no_other_status}
 use Rattle.smk_world_mem.proofs.Causes.{caused_crew, caused_end}
 use Rattle.smk_world_mem.specs.Setup.{fails_at, killed_end}
 use Rattle.smk_world.specs.declared.event.Child.{Child}
 use Rattle.std.specs.List.{list_any}
 use Rattle.std.specs.Prelude.{IsErr, nat_eq, if◌then◌else◌, is_some, ◌≢◌}
+use Rattle.std.proofs.lemmas.Bool.{false≢true}
 use Rattle.smk_world_mem.proofs.work.MemWorkCrew.wait.Goals as goal
 use Rattle.smk_world_mem.proofs.work.MemWorkCrew.wait.Goals.{then-is_failing, else-is_failing}
 
@@ -71,7 +72,7 @@ returns-in-Ok-Ok-clause-called c =
           world_after_if _ _ _ _ _ _ adds c.args.self.now.told c.args.self.now.agrees (λ is. ((c.args.self.now.orderly is).children_are, (c.args.self.now.orderly is).apart)) c.wait.new.children c.args.self.now.next
           (orderly_waited _ c.in-Ok-Ok.ended _ _ _ _ adds c.args.self.now.told c.args.self.now.children c.wait.new.children c.args.self.now.next c.args.self.now.orderly (c.in-Ok-Ok.ensures.children ∙ ap (λ r. children_after (Waited r) c.args.self.now.children) c.in-Ok-Ok.field-0-is))
           (λ is. c.in-Ok-Ok.ensures.stand (c.args.self.now.rooted is));
-      cause = record { later = c.bumped-self.ensures.later; rose = λ failure. never_failed failure };
+      cause = record { later = c.bumped-self.ensures.later; rose = λ failure. absurd (false≢true failure) };
       running = running_waited _ c.in-Ok-Ok.ended _ _ _ _ adds;
     }
 
