@@ -1,7 +1,6 @@
 -- What stands in folders, by the list of the folders above it.
 use Rattle.std.proofs.Common.{◌≡◌, inl, inr, ℕ, Bool, true, false, ◌&&◌, ◌==◌, List, [], ◌∷◌, map, refl, sym, ap, subst, ◌∙◌, eqb-true, Option, Some}
 use Rattle.std.specs.Prelude.{if◌then◌else◌}
-use Rattle.std.proofs.lemmas.Bool.{false≢true}
 use Rattle.smk_base.specs.Path.{is_under}
 use Rattle.smk_base.proofs.Under.{under_further}
 use Rattle.smk_base.proofs.Places.{and_first, and_second}
@@ -13,6 +12,9 @@ use Rattle.smk_world.specs.Trees.{Path, IsIn, Each}
 use Rattle.smk_world.proofs.Folders.{names_above}
 use Rattle.smk_world.proofs.Stays.{IsMade, AreMade}
 
+false_true : false ≡ true → ⊥
+false_true e = cc
+
 in_map : (b : ℕ) (fs : List Path) (f : Path) → IsIn fs f → IsIn (map (λ q. b ∷ q) fs) (b ∷ f)
 in_map b [] f i = absurd i
 in_map b (x ∷ fs) f (inl e) = inl (ap (λ q. b ∷ q) e)
@@ -20,12 +22,12 @@ in_map b (x ∷ fs) f (inr i) = inr (in_map b fs f i)
 
 -- a folder above the place is one of them
 pub above_in : (p f : Path) → is_under p f ≡ true → IsIn (folders_above p) f
-above_in [] f h = absurd (false≢true h)
+above_in [] f h = absurd (false_true h)
 above_in (b ∷ text) [] h = first (b == 47) h
   where
     first : (x : Bool) → x ≡ true → IsIn (if x then [] ∷ map (λ q. b ∷ q) (folders_above text) else map (λ q. b ∷ q) (folders_above text)) []
     first true e = inl refl
-    first false e = absurd (false≢true e)
+    first false e = absurd (false_true e)
 above_in (b ∷ text) (c ∷ f) h =
     let same : b ≡ c = eqb-true b c (and_first (b == c) (is_under text f) h) in
     later (b == 47) (subst (λ x. IsIn (map (λ q. b ∷ q) (folders_above text)) (x ∷ f)) same (in_map b (folders_above text) f (above_in text f (and_second (b == c) (is_under text f) h))))

@@ -1,7 +1,6 @@
 -- What the events of the protocol, failed or not, make of a world.
-use Rattle.std.proofs.Common.{ℕ, false, List, [], ◌∷◌, refl, arith}
-use Rattle.std.specs.Prelude.{Ok, Result, ◌&&◌}
-use Rattle.std.proofs.lemmas.Bool.{or_parts}
+use Rattle.std.proofs.Common.{◌≡◌, ℕ, Bool, false, List, [], ◌∷◌, refl, arith}
+use Rattle.std.specs.Prelude.{Ok, Result, ◌&&◌, ◌||◌}
 use Rattle.smk_world.specs.declared.event.Call.TheVariants.{Removed, Started, Waited}
 use Rattle.smk_world.specs.declared.event.Change.{Change}
 use Rattle.smk_world.specs.declared.event.Ended.{Ended}
@@ -12,8 +11,11 @@ use Rattle.smk_world.specs.World.{World, after, owned_paths, owned_by}
 use Rattle.smk_base.specs.Path.{is_at_or_under}
 use Rattle.smk_laws_protocol.proofs.Nodes.{ChangesWithin}
 
+either_false : (a b : Bool) → (a || b) ≡ false → a ≡ false
+either_false a b h = grind arith
+
 pub removed : (w : World) (p : Path) (r : Result (Unit {0}) Failed) (left : List Change) → ChangesWithin w (after w (record { call = Removed p r; left = left })) (p ∷ [])
-removed w p r left = record { others = λ q k. rw (or_parts (is_at_or_under q p) false k).0 refl }
+removed w p r left = record { others = λ q k. rw (either_false (is_at_or_under q p) false k) refl }
 
 pub started :
     (w : World) (recipe : Recipe) (logs : List Path) (command : List ℕ) (n : ℕ) (left : List Change) →

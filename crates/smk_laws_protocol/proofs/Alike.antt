@@ -1,8 +1,6 @@
 -- An event after which the world reads as before and each image looks as one did before: looks, settling, and calls about the lock.
 use Rattle.std.proofs.Common.{◌≡◌, Bool, true, false, List, refl, sym, ap, subst, arith, ◌∙◌, Option, None}
 use Rattle.std.specs.Prelude.{IsTrue, IsSome, bytes_eq, is_some, if◌then◌else◌, ◌&&◌, ◌||◌, Ok, Err, Result}
-use Rattle.std.proofs.lemmas.Bool.{and_right}
-use Rattle.smk_world.proofs.Names.{formed_after}
 use Rattle.smk_base.specs.Path.{is_under, is_at_or_under}
 use Rattle.smk_base.specs.Place.{record_place, mark_place, note_place, lock_place}
 use Rattle.smk_world.specs.declared.event.Call.{Call}
@@ -21,7 +19,7 @@ use Rattle.smk_laws_protocol.proofs.Rows.{now}
 use Rattle.smk_laws_protocol.proofs.Along.{IsQuiet}
 use Rattle.smk_laws_protocol.proofs.Basics.{pick_none}
 use Rattle.smk_laws_protocol.proofs.Calls.{event}
-use Rattle.smk_laws_protocol.proofs.Formed.{all_named, grown}
+use Rattle.smk_laws_protocol.proofs.Formed.{all_named, formed_after, grown}
 use Rattle.smk_laws_protocol.proofs.Marking.{reads_stay}
 use Rattle.smk_laws_protocol.proofs.Naming.{IsImage, IsWide, each_image, of_wide}
 use Rattle.smk_laws_protocol.proofs.Quiet.{quiet_call}
@@ -120,6 +118,9 @@ eq_false p q h = left (bytes_eq q p) (is_under q p) h
     left : (a b : Bool) → (a || b) ≡ false → a ≡ false
     left a b h = grind arith
 
+and_false : (a b : Bool) → b ≡ false → (a && b) ≡ false
+and_false a b h = grind arith
+
 module _ (o : Outside) (w : World) (formed : IsFormed w) where
   covered : (c : Call) (left : List LeftNode) → HasNames (after w (event c left)).names (reads w)
   covered c left q h = grown w (event c left) q (all_named w formed q h)
@@ -166,9 +167,9 @@ module _ (o : Outside) (w : World) (formed : IsFormed w) where
 
   pub lock_alike : (c : Call) (left : List LeftNode) → IsLock o c → Alike o w (after w (event c left))
   lock_alike (Created p (Ok made)) left is =
-      at_lock (Created p (Ok made)) left (quiet_call w (Created p (Ok made)) left tt) (λ q h. rw (and_right made (bytes_eq q p) (eq_false p q (at_it p q is h))) refl)
+      at_lock (Created p (Ok made)) left (quiet_call w (Created p (Ok made)) left tt) (λ q h. rw (and_false made (bytes_eq q p) (eq_false p q (at_it p q is h))) refl)
   lock_alike (Created p (Err x)) left is =
-      at_lock (Created p (Err x)) left (quiet_call w (Created p (Err x)) left tt) (λ q h. rw (and_right (reads_nothing (w.nodes q)) (bytes_eq q p) (eq_false p q (at_it p q is h))) refl)
+      at_lock (Created p (Err x)) left (quiet_call w (Created p (Err x)) left tt) (λ q h. rw (and_false (reads_nothing (w.nodes q)) (bytes_eq q p) (eq_false p q (at_it p q is h))) refl)
   lock_alike (Removed p r) left is = at_lock (Removed p r) left (quiet_call w (Removed p r) left tt) (λ q h. rw (at_it p q is h) refl)
   lock_alike (MadeParents p (Ok u)) left is = above_lock (MadeParents p (Ok u)) left (quiet_call w (MadeParents p (Ok u)) left tt) (λ q h. rw (over_it p q is h) refl)
   lock_alike (MadeParents p (Err x)) left is =

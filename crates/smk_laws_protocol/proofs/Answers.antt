@@ -1,8 +1,6 @@
 -- What a world lets a call answer and leave, along the protocol, as far as the law needs it.
 use Rattle.std.proofs.Common.{◌≡◌, ◌⊎◌, ℕ, Bool, true, false, List, [], ◌∷◌, refl, sym, ap, subst, inl, inr, ◌∙◌, Option, Some, None, Contains, eqb-true}
 use Rattle.std.specs.Prelude.{IsTrue, bytes_eq, nat_eq, option_map, if◌then◌else◌, Ok, Err}
-use Rattle.std.proofs.lemmas.Option.{same_Some}
-use Rattle.smk_world.proofs.Names.{formed_after}
 use Rattle.smk_base.proofs.Places.{place_itself}
 use Rattle.smk_world.specs.declared.event.Call.{Call}
 use Rattle.smk_world.specs.declared.event.Call.TheVariants.{Looked, ReadFile, ReadFolder, Written, Created, Removed, MadeParents, Settled, Protected, Started, Waited}
@@ -22,8 +20,9 @@ use Rattle.smk_laws_protocol.specs.Protocol.{RunState, own, outputs, eased}
 use Rattle.smk_laws_protocol.proofs.Rows.{now}
 use Rattle.smk_laws_protocol.proofs.Between.{Midway, Fits, Lets, IsOfJob, trees_at}
 use Rattle.smk_laws_protocol.proofs.Acted.{outs_are}
-use Rattle.smk_laws_protocol.proofs.Basics.{each_in, each_of, clash, none_some}
+use Rattle.smk_laws_protocol.proofs.Basics.{each_in, each_of, clash, none_some, some_same}
 use Rattle.smk_laws_protocol.proofs.Calls.{event}
+use Rattle.smk_laws_protocol.proofs.Formed.{formed_after}
 use Rattle.smk_laws_protocol.proofs.Reading.{contains_of, contents_are, outputs_are, in_mapped}
 use Rattle.smk_laws_protocol.proofs.Stays.{in_left}
 use Rattle.smk_laws_protocol.proofs.Unowned.{Unowned, input_unowned}
@@ -63,7 +62,7 @@ numbered_at n [] c h = none_some None refl h
 numbered_at n (x ∷ cs) c h = go (nat_eq x.number n) refl h (numbered_at n cs c)
   where
     go : (b : Bool) → nat_eq x.number n ≡ b → (if b then Some x else child_numbered n cs) ≡ Some c → (child_numbered n cs ≡ Some c → IsIn cs c × (c.number ≡ n)) → IsIn (x ∷ cs) c × (c.number ≡ n)
-    go true e k ih = let same = same_Some _ _ k in (inl (sym same), ap (λ (y : Child). y.number) (sym same) ∙ eqb-true x.number n e)
+    go true e k ih = let same = some_same k in (inl (sym same), ap (λ (y : Child). y.number) (sym same) ∙ eqb-true x.number n e)
     go false e k ih = let r = ih k in (inr r.0, r.1)
 
 pub has_number : (w : World) (c : Child) (n : ℕ) → IsIn w.children c → c.number ≡ n → Contains (numbers w.children) n

@@ -2,7 +2,6 @@
 use Rattle.std.proofs.Common.{◌≡◌, ◌⊎◌, Bool, true, false, List, [], ◌∷◌, ◌++◌, refl, sym, subst, inl, inr, arith, Option, Some, None, ap}
 use Rattle.std.specs.Prelude.{bytes_eq, IsTrue, filter, if◌then◌else◌, ◌||◌, ◌&&◌}
 use Rattle.std.specs.List.{list_any}
-use Rattle.std.proofs.lemmas.Bool.{or_parts}
 use Rattle.smk_world.specs.Trees.{Path, among, IsIn, Each}
 use Rattle.smk_base.proofs.Places.{same_place}
 
@@ -61,10 +60,16 @@ filter_in t (y ∷ xs) x (inr i) h = filter_more y x (filter t xs) (filter_in t 
 
 -- ---- tests of lists
 
+or_left : (a b : Bool) → (a || b) ≡ false → a ≡ false
+or_left a b h = grind arith
+
+or_right : (a b : Bool) → (a || b) ≡ false → b ≡ false
+or_right a b h = grind arith
+
 pub none_of : {A : Type 0} (t : A → Bool) (xs : List A) (x : A) → list_any t xs ≡ false → IsIn xs x → t x ≡ false
 none_of t [] x h i = absurd i
-none_of t (y ∷ xs) x h (inl e) = subst (λ z. t z ≡ false) (sym e) (or_parts (t y) (list_any t xs) h).0
-none_of t (y ∷ xs) x h (inr i) = none_of t xs x (or_parts (t y) (list_any t xs) h).1 i
+none_of t (y ∷ xs) x h (inl e) = subst (λ z. t z ≡ false) (sym e) (or_left (t y) (list_any t xs) h)
+none_of t (y ∷ xs) x h (inr i) = none_of t xs x (or_right (t y) (list_any t xs) h) i
 
 pub none_by : {A : Type 0} (t : A → Bool) (xs : List A) → ((x : A) → IsIn xs x → t x ≡ false) → list_any t xs ≡ false
 none_by t [] h = refl
@@ -101,6 +106,9 @@ none_some o h k = absurd (no o h k)
   where
     no : {A : Type 0} {n : A} (o : Option A) → o ≡ None → o ≡ Some n → ⊥
     no o h k = grind arith
+
+pub some_same : {A : Type 0} {n m : A} → Some n ≡ Some m → n ≡ m
+some_same h = cc
 
 pub in_among : (ps : List Path) (p : Path) → IsTrue (among ps p) → IsIn ps p
 in_among [] p h = absurd (no h)

@@ -3,7 +3,6 @@ use Rattle.smk_laws_protocol.proofs.Acted.{outs_are}
 use Rattle.smk_laws_protocol.proofs.Owners.{numbered_in}
 use Rattle.std.proofs.Common.{◌≡◌, ◌⊎◌, ℕ, Bool, true, false, List, [], ◌∷◌, ◌++◌, map, refl, sym, ap, subst, inl, inr, arith, ◌∙◌, Option, Some}
 use Rattle.std.specs.Prelude.{nat_eq, not, filter, if◌then◌else◌, Ok}
-use Rattle.std.proofs.lemmas.Bool.{not_from_false, not-true}
 use Rattle.smk_world.specs.declared.event.Besides.TheVariants.{Anything}
 use Rattle.smk_world.specs.declared.event.Call.{Call}
 use Rattle.smk_world.specs.declared.event.Call.TheVariants.{Started, Waited}
@@ -41,6 +40,12 @@ nat_same a b h = grind arith
 
 nat_self : (a b : ℕ) → a ≡ b → nat_eq a b ≡ true
 nat_self a b h = grind arith
+
+not_false : (b : Bool) → b ≡ false → not b ≡ true
+not_false b h = grind arith
+
+not_true : (b : Bool) → not b ≡ true → b ≡ false
+not_true b h = grind arith
 
 module _
     (o : Outside) (texts : Texts o.read) (entry : World) (H : Versions) (s : RunState) (js ks : List OpenJob) (j : OpenJob) (w : World)
@@ -151,7 +156,7 @@ module _
       where
         go : (c : Child) → not (nat_eq c.number n) ≡ true → (k : IsOfJob o (js ++ j ∷ ks) c) → (k.0 ≡ j) ⊎ IsIn (js ++ ks) k.0 → IsOfJob o (js ++ at_phase j (Ended status) ∷ ks) c
         go c f k (inl e) =
-            clash (nat_eq c.number n) (nat_self c.number n (same_number (sym (subst (λ (x : OpenJob). x.phase ≡ Running c.number) e k.2) ∙ h))) (not-true (nat_eq c.number n) f)
+            clash (nat_eq c.number n) (nat_self c.number n (same_number (sym (subst (λ (x : OpenJob). x.phase ≡ Running c.number) e k.2) ∙ h))) (not_true (nat_eq c.number n) f)
         go c f k (inr i) = (k.0, in_rest js ks (at_phase j (Ended status)) k.0 i, k.2, k.3, k.4)
 
     owners_left : HasOwners o (js ++ at_phase j (Ended status) ∷ ks) ends
@@ -189,7 +194,7 @@ module _
         (notes_on o texts entry H s js ks j w m left ending h (ap (is_marking o) h)) (kept_on o texts entry H s js ks j w m left ending h tt (ap keeps h)) acted)
         (λ k i x is.
         let c = (other_phase k i).child x is in
-        (c.0, filter_in (λ (c : Child). not (nat_eq c.number n)) w.children c.0 c.1 (not_from_false (nat_eq c.0.number n) (other_number k i x is c.0.number c.2)), c.2))
+        (c.0, filter_in (λ (c : Child). not (nat_eq c.number n)) w.children c.0 c.1 (not_false (nat_eq c.0.number n) (other_number k i x is c.0.number c.2)), c.2))
         of_jobs_left owners_left
       where
         other_number : (k : OpenJob) → IsIn (js ++ ks) k → (x : ℕ) → k.phase ≡ Running x → (y : ℕ) → y ≡ x → nat_eq y n ≡ false

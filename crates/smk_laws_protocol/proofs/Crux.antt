@@ -3,7 +3,6 @@ use Rattle.smk_laws_protocol.proofs.Formed.{all_named}
 use Rattle.std.proofs.Common.{◌≡◌, ◌⊎◌, ℕ, suc, Bool, true, false, List, [], ◌∷◌, map, zip, length, refl, sym, ap, subst, inl, inr, arith, ◌∙◌, Option, Some, None}
 use Rattle.std.specs.Prelude.{IsTrue, IsSome, is_some, if◌then◌else◌, ◌&&◌, option_map}
 use Rattle.std.specs.Option.{option_and_then}
-use Rattle.std.proofs.lemmas.Bool.{false≢true}
 use lib.Pointwise.{pointwise}
 use Rattle.smk_world.specs.declared.event.Node.{Node}
 use Rattle.smk_world.specs.declared.event.Node.TheVariants.{Regular, Directory}
@@ -28,7 +27,7 @@ use Rattle.smk_laws_protocol.proofs.Rows.{now, IsAtHand}
 use Rattle.smk_laws_protocol.proofs.Between.{Images, Fits, HoldsGiven}
 use Rattle.smk_laws_protocol.proofs.Moves.{with_nodes}
 use Rattle.smk_laws_protocol.proofs.Places.{over, over_other}
-use Rattle.smk_laws_protocol.proofs.Marking.{reads_stay}
+use Rattle.smk_laws_protocol.proofs.Marking.{reads_stay, no_truth}
 use Rattle.smk_laws_protocol.proofs.Own.{Falls, Mixed, own_value}
 use Rattle.smk_laws_protocol.proofs.Events.{same_source}
 use Rattle.smk_base.proofs.Places.{place_itself}
@@ -121,7 +120,7 @@ whole_path v h n Plain file folder whole = go (is_outside h) (subst (λ x. IsTru
   where
     go : (b : Bool) → IsTrue (is_some (file_of (if b then n else None))) → b ≡ true
     go true k = refl
-    go false k = absurd (false≢true k)
+    go false k = no_truth k
 whole_path v h n FolderKind file folder whole = go (is_outside h) (left (v.is_folder h) (pointwise same_member (v.members h) (v.listed h)) whole folder)
   where
     left : {x : Bool} (a b : Bool) → (a && b) ≡ true → a ≡ x → x ≡ true
@@ -129,7 +128,7 @@ whole_path v h n FolderKind file folder whole = go (is_outside h) (left (v.is_fo
 
     go : (b : Bool) → is_directory (if b then n else None) ≡ true → b ≡ true
     go true k = refl
-    go false k = absurd (false≢true k)
+    go false k = no_truth k
 
 pub whole_on : (v v' : View) (h : Path) (k : Kind) → v'.file h ≡ v.file h → v'.is_folder h ≡ v.is_folder h → v'.members h ≡ v.members h → v'.listed h ≡ v.listed h → IsTrue (is_whole v h k) → IsTrue (is_whole v' h k)
 whole_on v v' h Plain file folder members listed whole = subst (λ x. IsTrue (is_some x)) (sym file) whole

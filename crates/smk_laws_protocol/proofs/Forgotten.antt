@@ -2,7 +2,6 @@
 use Rattle.std.proofs.Common.{◌≡◌, ◌⊎◌, Bool, true, false, List, [], ◌∷◌, refl, sym, ap, subst, inl, inr, ◌∙◌, Option, Some, None}
 use Rattle.std.specs.Prelude.{bytes_eq, is_some, ◌||◌, ◌&&◌, not, if◌then◌else◌, Ok, Result}
 use Rattle.std.specs.Option.{option_map}
-use Rattle.smk_world.proofs.Names.{formed_after}
 use Rattle.smk_base.specs.Path.{is_at_or_under, overlaps}
 use Rattle.smk_base.specs.Place.{record_place, mark_place, note_place}
 use Rattle.smk_base.proofs.Places.{same_place}
@@ -32,6 +31,7 @@ use Rattle.smk_laws_protocol.proofs.Along.{IsQuiet}
 use Rattle.smk_laws_protocol.proofs.Basics.{by_test, clash, none_some}
 use Rattle.smk_laws_protocol.proofs.Calls.{event}
 use Rattle.smk_laws_protocol.proofs.Events.{same_source}
+use Rattle.smk_laws_protocol.proofs.Formed.{formed_after}
 use Rattle.smk_laws_protocol.proofs.Keeping.{texts_of}
 use Rattle.smk_laws_protocol.proofs.Lessened.{put, Less, SameRecord, Unseen, any_same, record_before, unmarked_before, same_record, same_mark, known_same, same_sources, sources_less, source_kept, less_sound, less_nested}
 use Rattle.smk_laws_protocol.proofs.Naming.{IsImage, each_image, of_wide, now_image}

@@ -42,7 +42,7 @@ in_first [] ys x i = absurd i
 in_first (y ∷ xs) ys x (inl e) = inl e
 in_first (y ∷ xs) ys x (inr i) = inr (in_first xs ys x i)
 
-pub in_second : {A : Type 0} (xs ys : List A) (x : A) → IsIn ys x → IsIn (xs ++ ys) x
+in_second : {A : Type 0} (xs ys : List A) (x : A) → IsIn ys x → IsIn (xs ++ ys) x
 in_second [] ys x i = i
 in_second (y ∷ xs) ys x i = inr (in_second xs ys x i)
 

@@ -1,7 +1,6 @@
 -- Where no two records overlap, one record at most speaks for a path, and a record elsewhere changes nothing.
 use Rattle.std.proofs.Common.{◌≡◌, ◌⊎◌, Bool, true, false, List, [], ◌∷◌, refl, sym, ap, subst, inl, inr, arith, ◌∙◌, Option, Some, None}
 use Rattle.std.specs.Prelude.{bytes_eq, IsSome, if◌then◌else◌, find, reverse}
-use Rattle.std.proofs.lemmas.Option.{same_Some, none-some}
 use Rattle.smk_record.specs.declared.record.Record.{Record}
 use Rattle.smk_record.specs.declared.record.Member.{Member}
 use Rattle.smk_world.specs.Trees.{Path, IsIn}
@@ -23,20 +22,26 @@ pub record FolderLaws : Type 0 where
   pub nested : (q h g : Path) → IsOver q h → IsOver q g → overlaps h g ≡ true
   pub proper : (q : Path) → IsIn (reverse (folders_above q)) q → ⊥
 
+some_same : {A : Type 0} {a b : A} → Some a ≡ Some b → a ≡ b
+some_same k = cc
+
+none_some : {A : Type 0} {a : A} → None ≡ Some a → ⊥
+none_some k = grind arith
+
 pub found_in : (t : Path → Bool) (xs : List Path) (h : Path) → find t xs ≡ Some h → IsIn xs h
-found_in t [] h is = absurd (none-some _ is)
+found_in t [] h is = absurd (none_some is)
 found_in t (x ∷ xs) h is = go (found_in t xs h) (t x) is
   where
     go : (find t xs ≡ Some h → IsIn xs h) → (b : Bool) → (if b then Some x else find t xs) ≡ Some h → IsIn (x ∷ xs) h
-    go ih true k = inl (sym (same_Some _ _ k))
+    go ih true k = inl (sym (some_same k))
     go ih false k = inr (ih k)
 
 pub found_test : (t : Path → Bool) (xs : List Path) (h : Path) → find t xs ≡ Some h → t h ≡ true
-found_test t [] h is = absurd (none-some _ is)
+found_test t [] h is = absurd (none_some is)
 found_test t (x ∷ xs) h is = go (found_test t xs h) (t x) refl is
   where
     go : (find t xs ≡ Some h → t h ≡ true) → (b : Bool) → t x ≡ b → (if b then Some x else find t xs) ≡ Some h → t h ≡ true
-    go ih true e k = subst (λ y. t y ≡ true) (same_Some _ _ k) e
+    go ih true e k = subst (λ y. t y ≡ true) (some_same k) e
     go ih false e k = ih k
 
 pub found_same : (t u : Path → Bool) (xs : List Path) → ((x : Path) → IsIn xs x → t x ≡ u x) → find t xs ≡ find u xs
@@ -57,7 +62,7 @@ far_holder v q at = rw at refl
 pub holder_over : (v : View) (q h : Path) → holder v q ≡ Some h → IsOver q h
 holder_over v q h is =
     by_option (v.record_at q)
-    (λ r at. inl (same_Some _ _ (sym is ∙ own_holder v q r at)))
+    (λ r at. inl (some_same (sym is ∙ own_holder v q r at)))
     (λ at. inr (found_in (λ f. is_folder_record f (v.record_at f)) (reverse (folders_above q)) h (sym (far_holder v q at) ∙ is)))
 
 is_some_of : {A : Type 0} (a : A) (x : Option A) → x ≡ Some a → IsSome x
@@ -82,7 +87,7 @@ module _
       near s k =
           by_bool (bytes_eq q p)
           (λ same.
-          let e1 = same_Some _ _ (sym (own_holder (with_record v has at listed) q s k) ∙ is) in
+          let e1 = some_same (sym (own_holder (with_record v has at listed) q s k) ∙ is) in
           let there = alone h r clear (laws.nested q h p (inl (sym e1)) (inl (sym (same_place q p same)))) in
           own_holder v q r (subst (λ x. v.record_at x ≡ Some r) (sym (same_place q p same)) there.1) ∙ ap Some e1)
           (λ other. own_holder v q s (sym (at_same q other) ∙ k) ∙ sym (own_holder (with_record v has at listed) q s k) ∙ is)

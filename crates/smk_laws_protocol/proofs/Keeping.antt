@@ -25,7 +25,7 @@ use Rattle.smk_laws_protocol.proofs.Opening.{opened}
 use Rattle.smk_laws_protocol.proofs.Steadying.{steadied}
 use Rattle.smk_laws_protocol.proofs.Spending.{spend_keeps}
 use Rattle.smk_laws_protocol.proofs.Protecting.{protect_keeps}
-use Rattle.smk_laws_protocol.proofs.Formed.{grown}
+use Rattle.smk_laws_protocol.proofs.Formed.{formed_after, grown}
 use Rattle.smk_laws_protocol.proofs.Texts.{Texts, TextLaws}
 use Rattle.smk_laws_protocol.proofs.ViewLaws.{folder_law, naming_laws, part_law}
 

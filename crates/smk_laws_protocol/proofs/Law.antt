@@ -1,7 +1,6 @@
 -- The law from the lemma that one event keeps what holds between events.
 use Rattle.smk_laws_protocol.proofs.Formed.{all_named}
 use Rattle.std.proofs.Common.{◌≡◌, ◌⊎◌, ℕ, true, false, [], ◌∷◌, refl, sym, subst, inl, inr, arith, ◌∙◌}
-use Rattle.std.proofs.lemmas.Bool.{false≢true}
 use Rattle.smk_world.specs.declared.event.NodeState.{NodeState}
 use Rattle.smk_world.specs.declared.event.NodeState.TheVariants.{Owned, Known}
 use Rattle.smk_record.specs.declared.record.Record.{Record}
@@ -42,6 +41,9 @@ reads_leave w q = stays (w.nodes q)
     stays Owned = tt
     stays (Known n besides) = inl refl
 
+no_truth : false ≡ true → ⊥
+no_truth h = grind arith
+
 -- one event keeps what holds between events
 abbrev pub Keeps : Outside → World → Versions → Type 0
 Keeps o entry H =
@@ -59,7 +61,7 @@ module _ (o : Outside) (entry : World) (H : Versions) where
           no_new = sound.no_new_record;
           no_nested = sound.no_nested;
           known = sound.known;
-          bounded = λ h. absurd (false≢true h);
+          bounded = λ h. absurd (no_truth h);
           unsteady = λ h. is;
         };
         fits = tt;
@@ -99,10 +101,10 @@ module _ (o : Outside) (entry : World) (H : Versions) where
         where
           runs : (phase : Phase) → (m.owned q h).0.phase ≡ phase → is_running phase ≡ true → InPhase o w (m.owned q h).0 → ⊥
           runs (Running n) e r in_phase = subst (λ cs. IsIn cs (in_phase.child n e).0) alone (in_phase.child n e).1
-          runs Marking e r in_phase = false≢true r
-          runs Marked e r in_phase = false≢true r
-          runs (Ended n) e r in_phase = false≢true r
-          runs Firm e r in_phase = false≢true r
-          runs Recorded e r in_phase = false≢true r
-          runs Dropping e r in_phase = false≢true r
-          runs Dropped e r in_phase = false≢true r
+          runs Marking e r in_phase = no_truth r
+          runs Marked e r in_phase = no_truth r
+          runs (Ended n) e r in_phase = no_truth r
+          runs Firm e r in_phase = no_truth r
+          runs Recorded e r in_phase = no_truth r
+          runs Dropping e r in_phase = no_truth r
+          runs Dropped e r in_phase = no_truth r

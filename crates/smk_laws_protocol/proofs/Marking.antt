@@ -1,7 +1,6 @@
 -- A mark is made, or is removed: each image after it is one before it, with or without the mark.
 use Rattle.std.proofs.Common.{◌≡◌, ℕ, Bool, true, false, List, refl, sym, ap, subst, inl, arith, ◌∙◌, Option, Some, None}
 use Rattle.std.specs.Prelude.{bytes_eq, IsTrue, IsSome, is_some, if◌then◌else◌, ◌&&◌, ◌||◌, not}
-use Rattle.std.proofs.lemmas.Bool.{false≢true}
 use Rattle.smk_world.specs.declared.event.Node.{Node}
 use Rattle.smk_world.specs.declared.event.NodeState.{NodeState}
 use Rattle.smk_world.specs.declared.event.NodeState.TheVariants.{Owned, Known}
@@ -42,6 +41,12 @@ pub reads_stay : (s : NodeState) → MayLeave s (reading s)
 reads_stay Owned = tt
 reads_stay (Known n besides) = inl refl
 
+pub no_truth : {A : Type 0} → false ≡ true → A
+no_truth h = absurd (no h)
+  where
+    no : false ≡ true → ⊥
+    no h = grind arith
+
 module _ (laws : PlaceLaws) (read : List ℕ → Option Record) (w w' : World) (p : Path) where
   -- the image without the mark
   abbrev gone : Nodes → Nodes
@@ -68,7 +73,7 @@ module _ (laws : PlaceLaws) (read : List ℕ → Option Record) (w w' : World) (
   before_names names g complete q = go (is_at_or_under q (mark_place p)) (bytes_eq q (mark_place p))
     where
       go : (a b : Bool) → IsSome (if a then (if b then None else g q) else g q) → IsTrue (among names q)
-      go true true h = absurd (false≢true h)
+      go true true h = no_truth h
       go true false h = complete q h
       go false b h = complete q h
 
@@ -82,13 +87,13 @@ module _ (laws : PlaceLaws) (read : List ℕ → Option Record) (w w' : World) (
   covered_before : MayMark w w' p → (names : List Path) → HasNames names (reads w') → HasNames names (reads w)
   covered_before made names covered q h =
       by_bool (bytes_eq q (mark_place p))
-      (λ e. absurd (false≢true (sym (nothing (w.nodes (mark_place p)) made.nothing) ∙ subst (λ x. IsSome (reading (w.nodes x))) (same_place q (mark_place p) e) h)))
+      (λ e. no_truth (sym (nothing (w.nodes (mark_place p)) made.nothing) ∙ subst (λ x. IsSome (reading (w.nodes x))) (same_place q (mark_place p) e) h))
       (λ e. covered q (subst (λ s. IsSome (reading s)) (sym (made.others q e)) h))
     where
       nothing : (s : NodeState) → reads_nothing s ≡ true → is_some (reading s) ≡ false
       nothing Owned h = refl
       nothing (Known None besides) h = refl
-      nothing (Known (Some n) besides) h = absurd (false≢true h)
+      nothing (Known (Some n) besides) h = no_truth h
 
   -- what holds of each image without the mark, and so of it with and without, holds of each image after
   pub each_made :

@@ -47,6 +47,9 @@ pub up : (n top top' : ℕ) → n ≤ top → (top' ≡ top) ⊎ (top' ≡ suc t
 up n top top' h (inl k) = omega arith
 up n top top' h (inr k) = omega arith
 
+pub at_most : (n m : ℕ) → n ≡ m → n ≤ m
+at_most n m h = omega arith
+
 -- the image with the marks of some outputs as they are now
 module _ (o : Outside) (texts : Texts o.read) (w : World) (outs : List Path) (names : List Path) (f : Nodes) (i : IsImage w names f) where
   abbrev pub at_marks : Path → Bool

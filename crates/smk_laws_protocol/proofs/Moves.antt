@@ -2,8 +2,6 @@
 use Rattle.std.proofs.Common.{◌≡◌, ◌⊎◌, ℕ, suc, Bool, true, false, List, [], ◌∷◌, refl, sym, ap, subst, inl, inr, arith, ◌∙◌, Option, Some, None}
 use Rattle.std.specs.Prelude.{bytes_eq, if◌then◌else◌, ◌&&◌, ◌||◌, not, is_some, IsTrue, IsSome}
 use Rattle.std.specs.List.{list_any}
-use Rattle.std.proofs.lemmas.Option.{same_Some}
-use Rattle.std.proofs.lemmas.Bool.{both_ways, or_parts}
 use lib.Pointwise.{pointwise}
 use Rattle.smk_base.specs.declared.tree.Tree.{Tree}
 use Rattle.smk_record.specs.declared.record.Stamp.TheVariants.{Time, Made}
@@ -27,6 +25,12 @@ by_bool false f g = g refl
 none_some : {A : Type 0} {n : A} (o : Option A) → o ≡ None → o ≡ Some n → ⊥
 none_some o h k = grind arith
 
+some_same : {A : Type 0} {n m : A} → Some n ≡ Some m → n ≡ m
+some_same h = cc
+
+true_false : (b : Bool) → b ≡ true → b ≡ false → ⊥
+true_false b h k = grind arith
+
 -- p is the path or a folder above it
 abbrev pub covers : Path → Path → Bool
 covers p q = bytes_eq q p || list_any (λ f. bytes_eq f p) (folders_above q)
@@ -34,6 +38,9 @@ covers p q = bytes_eq q p || list_any (λ f. bytes_eq f p) (folders_above q)
 any_or : (k k' : Path → Bool) (p : Path) → ((f : Path) → k' f ≡ (k f || bytes_eq f p)) → (fs : List Path) → list_any k' fs ≡ (list_any k fs || list_any (λ f. bytes_eq f p) fs)
 any_or k k' p h [] = refl
 any_or k k' p h (f ∷ fs) = let ih = any_or k k' p h fs in let hd = h f in grind arith
+
+or_left : (a b : Bool) → (a || b) ≡ false → a ≡ false
+or_left a b h = grind arith
 
 covered_more :
     (a b c k x : Bool) → ((a && b && not c) ≡ true → k ≡ false) → x ≡ (c || k) → (a && b && not x) ≡ (a && b && not c)
@@ -70,7 +77,7 @@ module _ (v : View) (p : Path) (no_source : (q : Path) → is_source v q ≡ tru
       record { no_source = no_source_on q s.no_source; holder = s.holder; clear = (s.clear.0, fewer h r s.clear.1) }
     where
       fewer : (h : Path) (r : Record) → ((v.marked h || bytes_eq h p) ≡ false) ⊎ (e h r) → (v.marked h ≡ false) ⊎ (e h r)
-      fewer h r (inl k) = inl (or_parts (v.marked h) (bytes_eq h p) k).0
+      fewer h r (inl k) = inl (or_left (v.marked h) (bytes_eq h p) k)
       fewer h r (inr k) = inr k
 
   mark_source_at : (q : Path) → source_at (with_mark v p) q ≡ source_at v q
@@ -81,9 +88,9 @@ module _ (v : View) (p : Path) (no_source : (q : Path) → is_source v q ≡ tru
   mark_sound act H e sound =
       record {
         has_sources = λ q f is. sound.has_sources q f (sym (mark_source_at q) ∙ is);
-        has_recorded = λ q r x t is clear i. sound.has_recorded q r x t is (or_parts (v.marked q) (bytes_eq q p) clear).0 i;
+        has_recorded = λ q r x t is clear i. sound.has_recorded q r x t is (or_left (v.marked q) (bytes_eq q p) clear) i;
         holds = λ q r is clear chain whole.
-            hold q r is (sound.holds q r is (or_parts (v.marked q) (bytes_eq q p) clear).0 (chain_on (with_mark v p) v e e (mark_passes e) r chain) whole) chain;
+            hold q r is (sound.holds q r is (or_left (v.marked q) (bytes_eq q p) clear) (chain_on (with_mark v p) v e e (mark_passes e) r chain) whole) chain;
       }
     where
       hold : (q : Path) (r : Record) → v.record_at q ≡ Some r → Holds v act H q r → Chain (with_mark v p) e r → Holds (with_mark v p) act H q r
@@ -157,7 +164,7 @@ module _
       other (inr k) = inr (fewer q r k)
 
       here : (v.marked q ≡ false) ⊎ (e' q r) → bytes_eq q p ≡ true → Clear v e q r
-      here (inl c) k = absurd (both_ways (v.marked q) c (subst (λ x. v.marked x ≡ true) (sym (same_place q p k)) marked))
+      here (inl c) k = absurd (true_false (v.marked q) (subst (λ x. v.marked x ≡ true) (sym (same_place q p k)) marked) c)
       here (inr c) k =
           (subst (λ x. v.record_at x ≡ Some r) (sym (same_place q p k)) (kept r (subst (λ x. e' x r) (same_place q p k) c)), inr (fewer q r c))
 
@@ -172,7 +179,7 @@ module _
   here_not : (q : Path) → v.marked q ≡ false → bytes_eq q p ≡ false
   here_not q k =
       by_bool (bytes_eq q p)
-      (λ s. absurd (both_ways (v.marked q) k (subst (λ x. v.marked x ≡ true) (sym (same_place q p s)) marked)))
+      (λ s. absurd (true_false (v.marked q) (subst (λ x. v.marked x ≡ true) (sym (same_place q p s)) marked) k))
       (λ s. s)
 
   -- 4. a record is written, or removed, under a mark
@@ -222,7 +229,7 @@ module _ (v : View) (p : Path) (e : Eased) where
           where
             here : bytes_eq h p ≡ true → (v.marked h ≡ false) ⊎ (e h r)
             here k =
-                inr (subst (λ x. e x r) (sym (same_place h p k)) (subst (λ s. e p s) (same_Some _ _ (sym at ∙ subst (λ x. v.record_at x ≡ Some r) (same_place h p k) c.0)) kept))
+                inr (subst (λ x. e x r) (sym (same_place h p k)) (subst (λ s. e p s) (some_same (sym at ∙ subst (λ x. v.record_at x ≡ Some r) (same_place h p k) c.0)) kept))
 
             other : bytes_eq h p ≡ false → ((v.marked h && not (bytes_eq h p)) ≡ false) ⊎ (e h r) → (v.marked h ≡ false) ⊎ (e h r)
             other k (inl m) = inl (still h k m)
@@ -252,7 +259,7 @@ module _ (v : View) (p : Path) (e : Eased) where
         whole_on r q Directory h = h
 
         same : (q : Path) (r : Record) → bytes_eq q p ≡ true → v.record_at q ≡ Some r → r0 ≡ r
-        same q r k is = same_Some _ _ (sym at ∙ subst (λ x. v.record_at x ≡ Some r) (same_place q p k) is)
+        same q r k is = some_same (sym at ∙ subst (λ x. v.record_at x ≡ Some r) (same_place q p k) is)
 
         here : (q : Path) (r : Record) → bytes_eq q p ≡ true → v.record_at q ≡ Some r → Chain v e r → IsTrue (is_whole v q (kind_in r q)) → Holds v act H q r
         here q r k is =
@@ -265,7 +272,7 @@ module _ (v : View) (p : Path) (e : Eased) where
       fresh_clear h r c other = by_bool (bytes_eq h p) (λ k. absurd (other (ap (λ (s : Record). s.made) (same k)))) (λ k. (c.0, clear k c.1))
         where
           same : bytes_eq h p ≡ true → r ≡ r0
-          same k = same_Some _ _ (sym (subst (λ x. v.record_at x ≡ Some r) (same_place h p k) c.0) ∙ at)
+          same k = some_same (sym (subst (λ x. v.record_at x ≡ Some r) (same_place h p k) c.0) ∙ at)
 
           clear : bytes_eq h p ≡ false → ((v.marked h && not (bytes_eq h p)) ≡ false) ⊎ (e h r) → (v.marked h ≡ false) ⊎ (e h r)
           clear k (inl m) = inl (still h k m)
@@ -310,7 +317,7 @@ module _ (v : View) (p : Path) (e : Eased) where
           whole_on r q Directory h = h
 
           same : (q : Path) (r : Record) → bytes_eq q p ≡ true → v.record_at q ≡ Some r → r0 ≡ r
-          same q r k is = same_Some _ _ (sym at ∙ subst (λ x. v.record_at x ≡ Some r) (same_place q p k) is)
+          same q r k is = some_same (sym at ∙ subst (λ x. v.record_at x ≡ Some r) (same_place q p k) is)
 
           here : (q : Path) (r : Record) → bytes_eq q p ≡ true → v.record_at q ≡ Some r → Chain v e r → IsTrue (is_whole v q (kind_in r q)) → Holds v act H q r
           here q r k is =
@@ -330,6 +337,12 @@ any_has k p h (f ∷ fs) n =
     (λ e. let here = subst (λ x. k x ≡ true) (sym (same_place f p e)) h in grind arith)
     (λ e. let ih = any_has k p h fs in grind arith)
 
+left_false : (a b : Bool) → (a || b) ≡ false → a ≡ false
+left_false a b h = grind arith
+
+right_false : (a b : Bool) → (a || b) ≡ false → b ≡ false
+right_false a b h = grind arith
+
 no_file : (a c : Bool) (f : Option Content) → f ≡ None → (a && is_some f && not c) ≡ false
 no_file a c f h = grind arith
 
@@ -341,8 +354,8 @@ module _
 
   covered_but : (q : Path) → covers p q ≡ false → is_covered (without_mark v p) q ≡ is_covered v q
   covered_but q h =
-      let a = any_less (is_known v) (is_known (without_mark v p)) p known_but (folders_above q) (or_parts (bytes_eq q p) (list_any (λ f. bytes_eq f p) (folders_above q)) h).1 in
-      let b = known_but q (or_parts (bytes_eq q p) (list_any (λ f. bytes_eq f p) (folders_above q)) h).0 in
+      let a = any_less (is_known v) (is_known (without_mark v p)) p known_but (folders_above q) (right_false (bytes_eq q p) (list_any (λ f. bytes_eq f p) (folders_above q)) h) in
+      let b = known_but q (left_false (bytes_eq q p) (list_any (λ f. bytes_eq f p) (folders_above q)) h) in
       λ i. b i || a i
 
   pub dropped_source : (q : Path) → is_source (without_mark v p) q ≡ is_source v q

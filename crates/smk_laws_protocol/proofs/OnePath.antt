@@ -2,7 +2,6 @@
 use Rattle.std.proofs.Common.{◌≡◌, ◌⊎◌, Bool, true, false, List, [], ◌∷◌, refl, sym, ap, subst, inl, inr, ◌∙◌, Option, Some, None, take}
 use Rattle.std.specs.Prelude.{codes, bytes_eq, ◌&&◌, ◌||◌, IsSome, if◌then◌else◌, Ok}
 use Rattle.std.specs.Option.{option_map}
-use Rattle.std.proofs.lemmas.Option.{same_Some}
 use Rattle.smk_base.specs.Path.{is_under, is_at_or_under, own_folder}
 use Rattle.smk_base.specs.Place.{mark_place, note_place, record_place, records_folder}
 use Rattle.smk_world.specs.declared.event.Call.TheVariants.{Removed, Settled}
@@ -27,7 +26,7 @@ use Rattle.smk_store.specs.Safety.{KeepsSound}
 use Rattle.smk_laws_protocol.specs.Protocol.{IsAbsent, now}
 use Rattle.smk_laws_protocol.specs.Forgetting.{Resting, Unrecording, Unmarking, IsUnseen, ForgetsAll, Done, Next, Hold, Unrecord, Unrecorded, Unmark, Unmarked}
 use Rattle.smk_laws_protocol.proofs.Above.{held_by}
-use Rattle.smk_laws_protocol.proofs.Basics.{by_test, clash, none_some}
+use Rattle.smk_laws_protocol.proofs.Basics.{by_test, clash, none_some, some_same}
 use Rattle.smk_laws_protocol.proofs.ForgettingHolds.{forgetting_keeps_sound, settling_is_enough}
 use Rattle.smk_laws_protocol.proofs.OneJob.{from, to, outside, call, copy_record, going_none, removed_absent}
 use Rattle.smk_laws_protocol.proofs.Settling.{either, firm_reads}
@@ -61,7 +60,7 @@ only_record : (q : Path) (r : Record) → core_at (now outside entry) q ≡ Some
 only_record q r h = go (is_path_text q) (bytes_eq (record_place q) (record_place to)) h
   where
     held : (b : Bool) → option_map core (readable (if b then Held copy_record else Unreadable)) ≡ Some r → core copy_record ≡ r
-    held true k = same_Some _ _ k
+    held true k = some_same k
     held false k = none_some None refl k
 
     go : (a b : Bool) → option_map core (readable (if a then kept_by outside.read q (if b then Some (Regular (codes "r") 1003 false) else None) else Absent)) ≡ Some r → core copy_record ≡ r

@@ -2,8 +2,6 @@
 use Rattle.std.proofs.Common.{◌≡◌, ◌⊎◌, ◌≤◌, ℕ, suc, Bool, true, false, List, [], ◌∷◌, refl, sym, ap, subst, inl, inr, ◌∙◌, Some}
 use Rattle.std.specs.Prelude.{is_some, if◌then◌else◌}
 use Rattle.std.specs.List.{list_any}
-use Rattle.std.proofs.lemmas.Option.{same_Some}
-use Rattle.std.proofs.Math.Nat.{le_of_eq}
 use Rattle.smk_record.specs.declared.record.Record.{Record}
 use Rattle.smk_record.specs.declared.record.Stamp.TheVariants.{Made}
 use Rattle.smk_world.specs.Trees.{Path, IsIn, Each}
@@ -18,7 +16,7 @@ use Rattle.smk_store.specs.Soundness.{Outside}
 use Rattle.smk_laws_protocol.proofs.Rows.{IsApart, now, IsAtHand, IsKept, HasSerial, MayBegin}
 use Rattle.smk_laws_protocol.proofs.Between.{IsKept as KeptNow, Midway, Fits, InPhase, AreApart, IsOfJob, HasSources, HasNoNew, HasNoClash, HasNoRecordClash, HasKnown, IsBounded, IsUnnamed, IsUnused}
 use Rattle.smk_laws_protocol.proofs.Apart.{free_of}
-use Rattle.smk_laws_protocol.proofs.Basics.{each_in, each_of, each_on, any_by, clash, none_some}
+use Rattle.smk_laws_protocol.proofs.Basics.{each_in, each_of, each_on, any_by, clash, none_some, some_same}
 use Rattle.smk_laws_protocol.proofs.Easing.{ease_sound}
 use Rattle.smk_laws_protocol.proofs.Events.{same_source}
 use Rattle.smk_laws_protocol.proofs.Holders.{holder_over}
@@ -30,7 +28,7 @@ use Rattle.smk_laws_protocol.proofs.OwnPhase.{in_marking}
 use Rattle.smk_base.proofs.Places.{place_itself}
 use Rattle.smk_laws_protocol.proofs.Stays.{in_left, in_zip}
 use Rattle.smk_laws_protocol.proofs.Texts.{Texts}
-use Rattle.smk_laws_protocol.proofs.MarksNow.{Looked, has_by_record, some_by, above_top, up, marked_now, now_image_marks, now_view, now_marked, now_kept}
+use Rattle.smk_laws_protocol.proofs.MarksNow.{Looked, has_by_record, some_by, above_top, up, at_most, marked_now, now_image_marks, now_view, now_marked, now_kept}
 
 module _
     (o : Outside) (texts : Texts o.read) (entry : World) (H : Versions) (s : RunState) (w : World) (j : OpenJob) (top : ℕ)
@@ -153,7 +151,7 @@ module _
   serial_low = go serial
     where
       go : HasSerial o s w j top → j.serial ≤ top
-      go (inl k) = le_of_eq (k.1 ∙ sym k.2)
+      go (inl k) = at_most j.serial top (k.1 ∙ sym k.2)
       go (inr k) = let r = restored k.0 k.1 in low j.serial (made_low r.0 (record_of j r.0) (r.2.0, inl r.2.1))
 
   -- ---- the other jobs
@@ -201,7 +199,7 @@ module _
     where
       go : HasSerial o s w j top → r ≡ record_of j p
       go (inl k) = none_some (kept_at [] p) refl (subst (λ l. kept_at l p ≡ Some r) k.0 at)
-      go (inr k) = same_Some _ _ (sym at ∙ (each_in (IsKept o w j) (outputs j) p k.1 (may.kept_own p r at)).2)
+      go (inr k) = some_same (sym at ∙ (each_in (IsKept o w j) (outputs j) p k.1 (may.kept_own p r at)).2)
 
   fits_own : Fits o entry e' top w j
   fits_own =

@@ -3,11 +3,10 @@ use Rattle.smk_record.specs.declared.record.Stamp.{Stamp}
 use Rattle.smk_laws_protocol.proofs.Formed.{all_named}
 use Rattle.std.proofs.Common.{◌≡◌, ◌⊎◌, ℕ, Bool, true, false, List, ◌∷◌, ◌++◌, refl, sym, subst, inl, inr, arith, ◌∙◌, Option, Some, None, ◌<◌, [], zip, ap, length}
 use Rattle.std.specs.Prelude.{IsTrue, IsSome, is_some, option_map, if◌then◌else◌, ◌&&◌, reverse, nat_lt, nat_le, ◌==◌}
-use Rattle.std.proofs.lemmas.Bool.{ltb-true, and_parts}
+use Rattle.std.proofs.lemmas.Bool.{ltb-true}
 use Rattle.smk_laws_protocol.proofs.Valid.{of_node}
 use Rattle.std.specs.List.{list_any, list_all}
 use Rattle.std.specs.Option.{option_and_then}
-use Rattle.std.proofs.lemmas.Option.{same_Some}
 use lib.Pointwise.{pointwise}
 use Rattle.smk_record.specs.declared.record.Record.{Record}
 use Rattle.smk_world.specs.declared.event.Node.{Node}
@@ -27,7 +26,7 @@ use Rattle.smk_laws_protocol.specs.Protocol.{OpenJob, RunState, own, outputs, be
 use Rattle.smk_laws_protocol.proofs.Rows.{now, IsAtHand}
 use Rattle.smk_laws_protocol.proofs.Between.{Midway, Fits, InPhase, HasNoNew, HasNoNested, HoldsGiven}
 use Rattle.smk_laws_protocol.proofs.Apart.{free_of, free_to}
-use Rattle.smk_laws_protocol.proofs.Basics.{each_in, in_split, in_here, any_by, clash, none_some}
+use Rattle.smk_laws_protocol.proofs.Basics.{each_in, in_split, in_here, any_by, clash, none_some, some_same}
 use Rattle.smk_laws_protocol.proofs.Crux.{own_holds}
 use Rattle.smk_laws_protocol.proofs.Holders.{one_holder, holder_over, found_test, IsOver, own_holder, far_holder, by_option}
 use Rattle.smk_laws_protocol.proofs.Jobs.{pair_apart}
@@ -37,10 +36,16 @@ use Rattle.smk_base.proofs.Places.{place_itself}
 use Rattle.smk_laws_protocol.proofs.Stays.{in_left, in_zip}
 use Rattle.smk_laws_protocol.proofs.Texts.{Texts, OverlapLaws}
 
+and_left : (a b : Bool) → (a && b) ≡ true → a ≡ true
+and_left a b h = grind arith
+
+and_right : (a b : Bool) → (a && b) ≡ true → b ≡ true
+and_right a b h = grind arith
+
 each_earlier : (made : ℕ) (ps : List Path) (ss : List Stamp) (q : Path) (m : ℕ) → list_all (is_earlier made) ss ≡ true → IsIn (zip ps ss) (q, Made m) → m < made
 each_earlier made [] ss q m h i = absurd i
 each_earlier made (p ∷ ps) [] q m h i = absurd i
-each_earlier made (p ∷ ps) (s ∷ ss) q m h (inl e) = below s (ap (λ (x : Path × Stamp). x.1) e) (and_parts (is_earlier made s) (list_all (is_earlier made) ss) h).0
+each_earlier made (p ∷ ps) (s ∷ ss) q m h (inl e) = below s (ap (λ (x : Path × Stamp). x.1) e) (and_left (is_earlier made s) (list_all (is_earlier made) ss) h)
   where
     less : (a b : ℕ) → nat_lt a b ≡ true → a < b
     less a b k = ltb-true a b k
@@ -54,12 +59,12 @@ each_earlier made (p ∷ ps) (s ∷ ss) q m h (inl e) = below s (ap (λ (x : Pat
       where
         same : (n m : ℕ) → Made m ≡ Made n → n ≡ m
         same n m e = cc
-each_earlier made (p ∷ ps) (s ∷ ss) q m h (inr i) = each_earlier made ps ss q m (and_parts (is_earlier made s) (list_all (is_earlier made) ss) h).1 i
+each_earlier made (p ∷ ps) (s ∷ ss) q m h (inr i) = each_earlier made ps ss q m (and_right (is_earlier made s) (list_all (is_earlier made) ss) h) i
 
 valid_falls : (r : Record) → is_valid r ≡ true → Falls (core r)
 valid_falls r h q m i =
     each_earlier r.made (in_paths r.recipe) r.stamps q m
-    (and_parts (list_all (is_earlier r.made) r.stamps) _ (and_parts (nat_le 1 r.made) _ (and_parts (among (out_paths r.recipe) r.path) _ (and_parts (length r.stamps == length (in_paths r.recipe)) _ h).1).1).1).0
+    (and_left (list_all (is_earlier r.made) r.stamps) _ (and_right (nat_le 1 r.made) _ (and_right (among (out_paths r.recipe) r.path) _ (and_right (length r.stamps == length (in_paths r.recipe)) _ h))))
     i
 
 -- what reads is a record of which the serials fall
@@ -68,7 +73,7 @@ reads_fall o p n r h = of_kept (read_at o.read p n) refl h
   where
     of_kept : (x : Option Record) → read_at o.read p n ≡ x → option_map core x ≡ Some r → Falls r
     of_kept None e h = none_some None refl h
-    of_kept (Some s) e h = subst Falls (same_Some _ _ h) (valid_falls s (of_node o.read p n s e).1)
+    of_kept (Some s) e h = subst Falls (some_same h) (valid_falls s (of_node o.read p n s e).1)
 
 -- the job has an input under h, where h is over that input
 pub over_overlaps : (laws : OverlapLaws) (q h : Path) → IsOver q h → overlaps q h ≡ true
@@ -79,7 +84,7 @@ over_overlaps laws q h (inr f) = laws.swap q h ∙ laws.above h q (laws.folder q
 pub under_directory : (v : View) (q h : Path) (r : Record) → holder v q ≡ Some h → v.record_at h ≡ Some r → IsTrue (is_whole v h (kind_in r h)) → (q ≡ h) ⊎ (IsIn (reverse (folders_above q)) h × (v.is_folder h ≡ true))
 under_directory v q h r is at whole =
     by_option (v.record_at q)
-    (λ s k. inl (same_Some _ _ (sym (own_holder v q s k) ∙ is)))
+    (λ s k. inl (some_same (sym (own_holder v q s k) ∙ is)))
     (λ k.
     let found = sym (far_holder v q k) ∙ is in
     inr (above (holder_over v q h is) k, folder (found_test (λ f. is_folder_record f (v.record_at f)) (reverse (folders_above q)) h found)))

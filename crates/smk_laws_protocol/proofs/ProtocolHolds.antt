@@ -70,7 +70,7 @@ module _ (o : Outside) (entry : World) (H : Versions) where
 -- ---- as a call keeps it
 
 -- a part of a run from its front is a run
-pub front : (o : Outside) (s end : RunState) (w : World) (es rest : List Event) → Runs o s w (es ++ rest) end → (mid : RunState) × Runs o s w es mid
+front : (o : Outside) (s end : RunState) (w : World) (es rest : List Event) → Runs o s w (es ++ rest) end → (mid : RunState) × Runs o s w es mid
 front o s end w [] rest runs = (s, Done s w)
 front o s end w (e ∷ es) rest (Next _ mid _ _ _ _ step runs) = let f = front o mid end (after w e) es rest runs in (f.0, Next s mid f.0 w e es step f.1)
 

@@ -9,7 +9,6 @@ use Rattle.std.specs.declared.cmp.Ordering.{Ordering}
 use Rattle.std.specs.declared.cmp.Ordering.TheVariants.{Less}
 use Rattle.std.proofs.lemmas.Cmp.{tied_itself, nat_cmp_total}
 use Rattle.std.proofs.lemmas.List.Elements.{Contains-push, Contains-append_left, Contains-append_right, Contains-append_cases, Contains-push_cases, recursion_from_All, All-from_recursion}
-use Rattle.std.specs.Cmp.{both_ways}
 use Rattle.smk_base.specs.Path.{is_under, is_at_or_under, own_folder}
 use Rattle.smk_base.specs.declared.tree.Tree.{Tree}
 use Rattle.smk_base.specs.declared.tree.Tree.TheVariants.{File, Folder}
@@ -66,6 +65,11 @@ in_mapped f (y ∷ xs) x (inr h) = inr (in_mapped f xs x h)
 map_twice : {A B C : Type 0} (f : A → B) (g : B → C) (xs : List A) → map g (map f xs) ≡ map (λ x. g (f x)) xs
 map_twice f g [] = refl
 map_twice f g (x ∷ xs) = ap (λ ys. g (f x) ∷ ys) (map_twice f g xs)
+
+same_test : (a b : Bool) → (a ≡ true → b ≡ true) → (b ≡ true → a ≡ true) → a ≡ b
+same_test true b h k = sym (h refl)
+same_test false true h k = k refl
+same_test false false h k = refl
 
 by_recursion : {A : Type 0} (P : A → Type 0) (xs : List A) → ((x : A) → IsIn xs x → P x) → AllByRecursion P xs
 by_recursion P [] h = tt
@@ -271,7 +275,7 @@ module _ (o : Outside) (w : World) (formed : IsFormed w) (p : Path) where
 
         same_names : map (below p) names ≡ map (λ (e : TreeEntry). e.name) es
         same_names =
-            rising_same (map (below p) names) (map (λ (e : TreeEntry). e.name) es) rises folder.sorted (λ r. both_ways (among (map (below p) names) r) (among (map (λ (e : TreeEntry). e.name) es) r)
+            rising_same (map (below p) names) (map (λ (e : TreeEntry). e.name) es) rises folder.sorted (λ r. same_test (among (map (below p) names) r) (among (map (λ (e : TreeEntry). e.name) es) r)
             (λ h. there r (in_map (below p) names r (in_among (map (below p) names) r h)))
             (λ h. back_again r (in_map (λ (e : TreeEntry). e.name) es r (in_among (map (λ (e : TreeEntry). e.name) es) r h))))
           where

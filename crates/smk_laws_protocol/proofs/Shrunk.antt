@@ -2,7 +2,6 @@
 use Rattle.smk_laws_protocol.proofs.Formed.{all_named}
 use Rattle.std.proofs.Common.{◌≡◌, ◌⊎◌, ℕ, Bool, true, false, List, refl, sym, ap, subst, inl, inr, arith, ◌∙◌, Option, Some, None}
 use Rattle.std.specs.Prelude.{bytes_eq, IsTrue, IsSome, is_some, is_none, if◌then◌else◌, ◌&&◌, ◌||◌, not, option_map}
-use Rattle.std.proofs.lemmas.Bool.{and_left, and_parts}
 use lib.Pointwise.{pointwise}
 use Rattle.smk_world.specs.declared.event.Besides.{Besides as LeftBesides}
 use Rattle.smk_world.specs.declared.event.Besides.TheVariants.{Anything, OneOf}
@@ -60,8 +59,17 @@ going_some (Known was b) n0 m a some (inr h) = turn (beside_was was m (or_gone n
     turn (inl k) = inl k
     turn (inr k) = inr (beside_gone n0 m b some k)
 
+and_false : (a b : Bool) → a ≡ false → (a && b) ≡ false
+and_false a b h = grind arith
+
 no_path_file : (a b c : Bool) → b ≡ false → (a && b && not c) ≡ false
 no_path_file a b c h = grind arith
+
+first : (a b : Bool) → (a && b) ≡ true → a ≡ true
+first a b h = grind arith
+
+second : (a b : Bool) → (a && b) ≡ true → b ≡ true
+second a b h = grind arith
 
 none_is : (n : Option Node) → is_none n ≡ true → n ≡ None
 none_is None h = refl
@@ -83,7 +91,7 @@ module _
   f q = if is_at_or_under q p && is_none (g q) then reads w q else g q
 
   f_other : (q : Path) → is_at_or_under q p ≡ false → f q ≡ g q
-  f_other q h = ap (λ (b : Bool). if b then reads w q else g q) (and_left (is_at_or_under q p) (is_none (g q)) h)
+  f_other q h = ap (λ (b : Bool). if b then reads w q else g q) (and_false (is_at_or_under q p) (is_none (g q)) h)
 
   f_some : (q : Path) → is_none (g q) ≡ false → f q ≡ g q
   f_some q h = go (is_at_or_under q p) (is_none (g q)) h
@@ -271,7 +279,7 @@ module _
       by_kind Plain k = by_file (v.file p) refl (subst (λ z. IsTrue (is_whole u p z)) k whole) k
       by_kind FolderKind k =
           let a = subst (λ z. IsTrue (is_whole u p z)) k whole in
-          same_holds p r at (agreeing p (stays (and_parts (v.is_folder p) (pointwise same_member (v.members p) (before.listed p)) a).0 (and_parts (v.is_folder p) (pointwise same_member (v.members p) (before.listed p)) a).1)) holds whole
+          same_holds p r at (agreeing p (stays (first (v.is_folder p) (pointwise same_member (v.members p) (before.listed p)) a) (second (v.is_folder p) (pointwise same_member (v.members p) (before.listed p)) a))) holds whole
 
   same_path : (q : Path) (r : Record) → before.record_at q ≡ Some r → before.marked q ≡ false → overlaps q p ≡ true → q ≡ p
   same_path q r at unmarked over =

@@ -1,6 +1,6 @@
 -- Rising lists of names: two with the same names are equal, and a part of one rises.
 use Rattle.std.proofs.Common.{◌≡◌, Bool, true, false, List, [], ◌∷◌, cond, refl, sym, ap, subst, arith, ◌∙◌}
-use Rattle.std.proofs.lemmas.Cmp.{nat_list_cmp_total}
+use Rattle.std.proofs.lemmas.Cmp.{nat_list_cmp_total, tied_itself}
 use Rattle.std.proofs.lemmas.Map.Text.{is_eq-slice_cmp}
 use Rattle.std.specs.List.{AllByRecursion}
 use Rattle.std.specs.List.Sorted.{IsStrictlySortedBy}
@@ -9,8 +9,6 @@ use Rattle.std.specs.Ordering.{nat_cmp, is_eq}
 use Rattle.std.specs.declared.cmp.Ordering.{Ordering}
 use Rattle.std.specs.declared.cmp.Ordering.TheVariants.{Less, Equal, Greater}
 use Rattle.std.specs.Prelude.{bytes_eq, filter, ◌&&◌, ◌||◌}
-use Rattle.std.proofs.lemmas.Bool.{both_ways}
-use Rattle.smk_record.proofs.Rising.{less_itself}
 use Rattle.smk_base.proofs.Places.{same_place, place_itself, same_flipped}
 use Rattle.smk_world.specs.World.{IsRising, add_names, add_name, name_placed}
 use Rattle.smk_world.specs.Trees.{Path, among}
@@ -24,9 +22,18 @@ Above k ps = AllByRecursion (λ y. slice_cmp nat_cmp k y ≡ Less) ps
 less_is_not_equal : (o : Ordering) → o ≡ Equal → o ≡ Less → ⊥
 less_is_not_equal o h k = cc
 
+less_itself : (p : Path) → slice_cmp nat_cmp p p ≡ Less → ⊥
+less_itself p h = less_is_not_equal (slice_cmp nat_cmp p p) (tied_itself nat_list_cmp_total p) h
+
+true_false : {A : Type 0} (b : Bool) → b ≡ true → b ≡ false → A
+true_false b h k = absurd (no b h k)
+  where
+    no : (b : Bool) → b ≡ true → b ≡ false → ⊥
+    no b h k = grind arith
+
 -- what is named among places above k is above it
 above_among : (k q : Path) (xs : List Path) → Above k xs → among xs q ≡ true → slice_cmp nat_cmp k q ≡ Less
-above_among k q [] all h = absurd (both_ways false refl h)
+above_among k q [] all h = true_false false h refl
 above_among k q (x ∷ xs) all h = go (bytes_eq q x) refl h (above_among k q xs all.1)
   where
     go : (b : Bool) → bytes_eq q x ≡ b → (b || among xs q) ≡ true → (among xs q ≡ true → slice_cmp nat_cmp k q ≡ Less) → slice_cmp nat_cmp k q ≡ Less
@@ -61,8 +68,8 @@ module _ (x y : Path) (xs ys : List Path) (a : Above x xs) (c : Above y ys) (sam
 pub rising_same : (xs ys : List Path) → IsRising xs → IsRising ys → ((r : Path) → among xs r ≡ among ys r) → xs ≡ ys
 unfolding IsStrictlySortedBy
 rising_same [] [] h k same = refl
-rising_same [] (y ∷ ys) h k same = absurd (both_ways false refl (same y ∙ ap (λ b. b || among ys y) (place_itself y)))
-rising_same (x ∷ xs) [] h k same = absurd (both_ways false refl (sym (same x) ∙ ap (λ b. b || among xs x) (place_itself x)))
+rising_same [] (y ∷ ys) h k same = true_false false (same y ∙ ap (λ b. b || among ys y) (place_itself y)) refl
+rising_same (x ∷ xs) [] h k same = true_false false (sym (same x) ∙ ap (λ b. b || among xs x) (place_itself x)) refl
 rising_same (x ∷ xs) (y ∷ ys) h k same =
     let head = same_head x y xs ys h.0 k.0 same (bytes_eq x y) refl in
     let rest = rising_same xs ys h.1 k.1 (λ q. same_tail x y xs ys h.0 k.0 same head q (bytes_eq q x) refl) in

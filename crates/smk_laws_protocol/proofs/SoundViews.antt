@@ -3,8 +3,6 @@ use Rattle.std.proofs.Common.{◌≡◌, ℕ, zero, suc, Bool, true, false, refl
 use Rattle.std.specs.Prelude.{◌==◌, ◌&&◌, ◌||◌, not, IsTrue, IsSome, is_some, option_map, if◌then◌else◌}
 use Rattle.std.specs.List.{list_any}
 use Rattle.std.specs.Option.{option_and_then}
-use Rattle.std.proofs.Math.Bool.{and_assoc, or_assoc}
-use Rattle.std.proofs.lemmas.Option.{same_Some}
 use Rattle.smk_base.specs.declared.tree.Tree.{Tree}
 use Rattle.smk_world.specs.Trees.{Path, Act, part_at, is_path_text}
 use Rattle.smk_world.specs.World.{folders_above}
@@ -20,7 +18,7 @@ use Rattle.smk_world.specs.declared.event.Node.{Node}
 use Rattle.smk_world.specs.declared.event.Node.TheVariants.{Regular, Directory}
 use Rattle.smk_world.specs.declared.recipe.Kind.{Kind}
 use Rattle.smk_world.specs.declared.recipe.Kind.TheVariants.{Plain, Folder as FolderKind}
-use Rattle.smk_laws_protocol.proofs.Basics.{none_some}
+use Rattle.smk_laws_protocol.proofs.Basics.{none_some, some_same}
 use Rattle.smk_laws_protocol.proofs.View.{view, file_of, is_source, source_at, is_covered, is_whole, kind_in, Sound, Chain, Link, vir, input_value, has_made}
 
 pub equal : (a b : ℕ) → (b == a) ≡ true → a ≡ b
@@ -31,6 +29,12 @@ itself a b h = grind arith
 
 flip : (a b : ℕ) → (a == b) ≡ (b == a)
 flip a b = grind arith
+
+and_group : (a b c : Bool) → (a && (b && c)) ≡ ((a && b) && c)
+and_group a b c = grind arith
+
+or_group : (a b c : Bool) → (a || (b || c)) ≡ ((a || b) || c)
+or_group a b c = grind arith
 
 -- ---- files
 
@@ -51,8 +55,8 @@ some_file (Some (Regular bytes time read_only)) = refl
 -- the same paths are sources
 pub source_is : (i : Image) (q : Path) → image_source i q ≡ is_source (view i) q
 source_is i q =
-    (λ k. is_path_text q && (some_file (i.node q) k && not (or_assoc (stands (i.kept q)) (i.marked q) (i.noted q) k || list_any (λ f. or_assoc (stands (i.kept f)) (i.marked f) (i.noted f) k) (folders_above q))))
-    ∙ and_assoc (is_path_text q) (is_some ((view i).file q)) (not (is_covered (view i) q))
+    (λ k. is_path_text q && (some_file (i.node q) k && not (or_group (stands (i.kept q)) (i.marked q) (i.noted q) k || list_any (λ f. or_group (stands (i.kept f)) (i.marked f) (i.noted f) k) (folders_above q))))
+    ∙ and_group (is_path_text q) (is_some ((view i).file q)) (not (is_covered (view i) q))
 
 module _ (i : Image) (e : Eased) where
   pub chain_to : (r : Record) → ImageChain i e any_time r → Chain (view i) e r
@@ -92,7 +96,7 @@ source_at_is i p = flagless_if (image_source i p) (file_at i p) ∙ (λ k. if so
 
 pub flagless_some : (x : Option Content) (f : Content) → option_map flagless x ≡ Some f → (c : Content) × (x ≡ Some c) × (flagless c ≡ f)
 flagless_some None f h = none_some None refl h
-flagless_some (Some c) f h = (c, refl, same_Some _ _ h)
+flagless_some (Some c) f h = (c, refl, some_same h)
 
 some_core : (x : Option Record) (r : Record) → option_map core x ≡ Some r → is_some x ≡ true
 some_core None r h = grind arith

@@ -1,7 +1,6 @@
 -- A world is sound where it is over views, and the other way round.
 use Rattle.std.proofs.Common.{◌≡◌, ℕ, false, List, refl, sym, ap, subst, ◌∙◌, Option, Some, None}
 use Rattle.std.specs.Prelude.{option_map}
-use Rattle.std.proofs.lemmas.Option.{same_Some}
 use Rattle.smk_world.specs.World.{World, is_within}
 use Rattle.smk_world.specs.Calls.{owned_now}
 use Rattle.smk_world.specs.Trees.{Path}
@@ -14,7 +13,7 @@ use Rattle.smk_laws_protocol.proofs.View.{View, view, Sound, source_at}
 use Rattle.smk_laws_protocol.proofs.Views.{reads}
 use Rattle.smk_laws_protocol.proofs.Rows.{now}
 use Rattle.smk_laws_protocol.proofs.Between.{SoundWorld, HasSources, HasNoNew, HasKnown, HasNoNested}
-use Rattle.smk_laws_protocol.proofs.Basics.{clash, none_some}
+use Rattle.smk_laws_protocol.proofs.Basics.{clash, none_some, some_same}
 use Rattle.smk_laws_protocol.proofs.Bridge.{view_is}
 use Rattle.smk_laws_protocol.proofs.EveryImage.{to_lists, from_lists}
 use Rattle.smk_laws_protocol.proofs.Naming.{each_image, now_image}
@@ -48,7 +47,7 @@ sources_from o a b same p = source_from a b p (same p)
 
 of_core : (x : Option Record) (r : Record) → option_map core x ≡ Some r → (y : Record) × (x ≡ Some y) × (core y ≡ r)
 of_core None r h = none_some None refl h
-of_core (Some y) r h = (y, refl, same_Some _ _ h)
+of_core (Some y) r h = (y, refl, some_same h)
 
 no_new_to : (o : Outside) (a b : Image) → NoNewRecord a b → HasNoNew o (view a) (view b)
 no_new_to o a b none p r at unmarked =
@@ -59,7 +58,7 @@ no_new_to o a b none p r at unmarked =
 -- its members and what it is but for them make a record
 whole_record : (x : Option Record) (r : Record) → option_map core x ≡ Some (core r) → members_of x ≡ r.members → x ≡ Some r
 whole_record None r h m = none_some None refl h
-whole_record (Some y) r h m = let same : core y ≡ core r = same_Some _ _ h in λ k. Some (record (same k) { members = m k })
+whole_record (Some y) r h m = let same : core y ≡ core r = some_same h in λ k. Some (record (same k) { members = m k })
 
 pub no_new_from : (o : Outside) (a b : Image) → HasNoNew o (view a) (view b) → NoNewRecord a b
 no_new_from o a b none p r at unmarked =

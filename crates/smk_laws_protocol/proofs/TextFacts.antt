@@ -105,7 +105,7 @@ outside_laws =
       note_out = λ h q path. (outside-note h q path).at_or_over;
     }
 
-pub turned : (p q : Path) → overlaps p q ≡ true → overlaps q p ≡ true
+turned : (p q : Path) → overlaps p q ≡ true → overlaps q p ≡ true
 turned p q h = go (or_cases (bytes_eq p q) (is_under p q || is_under q p) h)
   where
     inner : (is_under p q ≡ true) ⊎ (is_under q p ≡ true) → overlaps q p ≡ true

@@ -1,7 +1,6 @@
 -- A mark is removed once records and outputs are firm: every image with or without it is sound, with the same sources.
 use Rattle.std.proofs.Common.{◌≡◌, ◌⊎◌, ◌<◌, ℕ, Bool, true, false, List, sym, ap, subst, inl, inr, arith, ◌∙◌, Option, Some, None}
 use Rattle.std.specs.Prelude.{bytes_eq, IsSome, if◌then◌else◌, ◌&&◌, not}
-use Rattle.std.proofs.lemmas.Option.{same_Some}
 use Rattle.smk_world.specs.declared.event.Node.{Node}
 use Rattle.smk_record.specs.declared.record.Record.{Record}
 use Rattle.smk_record.specs.declared.record.Stamp.TheVariants.{Time, Made}
@@ -21,7 +20,10 @@ use Rattle.smk_laws_protocol.proofs.Places.{PlaceLaws, with_marked}
 use Rattle.smk_laws_protocol.proofs.Marking.{MayUnmark, each_unmarked, unmark_or_same, by_bool}
 use Rattle.smk_laws_protocol.proofs.Own.{Falls}
 
-pub still : (b c : Bool) → c ≡ false → (b && not c) ≡ false → b ≡ false
+some_same : {A : Type 0} {a b : A} → Some a ≡ Some b → a ≡ b
+some_same k = cc
+
+still : (b c : Bool) → c ≡ false → (b && not c) ≡ false → b ≡ false
 still b c h k = grind arith
 
 not_below : (n : ℕ) → n < n → ⊥
@@ -62,7 +64,7 @@ module _
       (λ k. unnamed h q r (c.0, clear k c.1) i)
     where
       same : bytes_eq h p ≡ true → r ≡ record_of j p
-      same k = same_Some _ _ (sym (subst (λ x. v.record_at x ≡ Some r) (same_place h p k) c.0) ∙ ready.reads)
+      same k = some_same (sym (subst (λ x. v.record_at x ≡ Some r) (same_place h p k) c.0) ∙ ready.reads)
 
       clear : bytes_eq h p ≡ false → ((v.marked h && not (bytes_eq h p)) ≡ false) ⊎ (e h r) → (v.marked h ≡ false) ⊎ (e h r)
       clear k (inl m) = inl (still (v.marked h) (bytes_eq h p) k m)

@@ -1,9 +1,7 @@
 -- The mark of an output is removed, by a job whose records are firm or one of which nothing is left: the change.
 use Rattle.smk_laws_protocol.proofs.Stays.{in_left}
 use Rattle.std.proofs.Common.{◌≡◌, Bool, true, false, List, [], ◌∷◌, ◌++◌, refl, sym, ap, subst, arith, ◌∙◌, Some, None}
-use Rattle.std.specs.Prelude.{bytes_eq, if◌then◌else◌, IsTrue}
-use Rattle.std.proofs.lemmas.Bool.{or_parts, or_from}
-use Rattle.std.proofs.lemmas.Option.{same_Some}
+use Rattle.std.specs.Prelude.{bytes_eq, ◌||◌, if◌then◌else◌, IsTrue}
 use Rattle.smk_record.specs.declared.record.Record.{Record}
 use Rattle.smk_world.specs.declared.event.Node.{Node}
 use Rattle.smk_world.specs.Trees.{Path, IsIn, Each, is_path_text}
@@ -18,7 +16,7 @@ use Rattle.smk_store.specs.Soundness.{Outside}
 use Rattle.smk_laws_protocol.specs.Protocol.{OpenJob, Recorded, Dropped, RunState, outputs, record_of, keeps, eased_by, own}
 use Rattle.smk_laws_protocol.proofs.Rows.{now}
 use Rattle.smk_laws_protocol.proofs.Between.{Midway, Fits, InPhase, IsKnown, IsGone, is_made, HasSources, HoldsGiven}
-use Rattle.smk_laws_protocol.proofs.Basics.{each_in, in_here, by_test, clash, none_some}
+use Rattle.smk_laws_protocol.proofs.Basics.{each_in, in_here, by_test, clash, none_some, some_same}
 use Rattle.smk_laws_protocol.proofs.Change.{Change}
 use Rattle.smk_laws_protocol.proofs.Easing.{unmark_gone}
 use Rattle.smk_laws_protocol.proofs.Marking.{MayUnmark}
@@ -30,6 +28,12 @@ use Rattle.smk_laws_protocol.proofs.Texts.{Texts}
 use Rattle.smk_laws_protocol.proofs.Turns.{Turn, turn_within, same_change}
 use Rattle.smk_laws_protocol.proofs.UnmarkChange.{unmark_change}
 use Rattle.smk_laws_protocol.proofs.Unmark.{IsReady, unmark_eased, unmark_fresh}
+
+no_under : (a b : Bool) → (a || b) ≡ false → b ≡ false
+no_under a b h = grind arith
+
+not_under : (a b : Bool) → a ≡ false → b ≡ false → (a || b) ≡ false
+not_under a b h k = grind arith
 
 no_cons : {A : Type 0} {x : A} {xs : List A} → x ∷ xs ≡ [] → ⊥
 no_cons h = grind arith
@@ -54,7 +58,7 @@ module _
     at_all q h =
         by_test (bytes_eq q (mark_place p))
         (λ k. subst (λ y. w'.nodes y ≡ w.nodes y) (sym (same_place q (mark_place p) k)) same)
-        (λ k. others q (or_from (bytes_eq q (mark_place p)) (is_under q (mark_place p)) k h))
+        (λ k. others q (not_under (bytes_eq q (mark_place p)) (is_under q (mark_place p)) k h))
 
     abbrev turn : Turn w w'
     turn = turn_within w w' formed covered (λ q. is_under q (mark_place p)) at_all
@@ -63,19 +67,19 @@ module _
     at_other g q h = ap (λ (b : Bool). if b then reads w q else g q) h
 
     not_record : (q : Path) → is_under (record_place q) (mark_place p) ≡ false
-    not_record q = (or_parts (bytes_eq (record_place q) (mark_place p)) (is_under (record_place q) (mark_place p)) (texts.marks.mark_record p q)).1
+    not_record q = no_under (bytes_eq (record_place q) (mark_place p)) (is_under (record_place q) (mark_place p)) (texts.marks.mark_record p q)
 
     not_mark : (q : Path) → is_under (mark_place q) (mark_place p) ≡ false
     not_mark q = (texts.above.mark_free q).above_mark p
 
     not_note : (q : Path) → is_under (note_place q) (mark_place p) ≡ false
-    not_note q = (or_parts (bytes_eq (note_place q) (mark_place p)) (is_under (note_place q) (mark_place p)) (texts.marks.mark_note p q)).1
+    not_note q = no_under (bytes_eq (note_place q) (mark_place p)) (is_under (note_place q) (mark_place p)) (texts.marks.mark_note p q)
 
     at_path : (g : Nodes) (q : Path) → path_node (turn.before g) q ≡ path_node g q
     at_path g q = go (is_outside q) refl
       where
         go : (b : Bool) → is_outside q ≡ b → (if b then turn.before g q else None) ≡ (if b then g q else None)
-        go true h = at_other g q (or_parts (bytes_eq q (mark_place p)) (is_under q (mark_place p)) (texts.marks.mark_path p q h)).1
+        go true h = at_other g q (no_under (bytes_eq q (mark_place p)) (is_under q (mark_place p)) (texts.marks.mark_path p q h))
         go false h = refl
 
     pub unmark_nothing : Change o entry H j e e' w w'
@@ -118,7 +122,7 @@ module _
     own_record names f rising complete names_now leaves r at =
         let k : IsImage w names f = record { rising = rising; complete = complete; covered = names_now; leaves = leaves } in
         let here = known names f k in
-        let is = same_Some _ _ (sym at ∙ here.reads) in
+        let is = some_same (sym at ∙ here.reads) in
         (is, known_now.reads ∙ ap Some (sym is), known_now.lists ∙ sym here.lists)
 
     change_by : ((names : List Path) (g : Nodes) → IsWide w w' names g → Sound o.act H (view_of o.read names g) e × HasSources o (now o entry) (view_of o.read names g)) → Change o entry H j e e' w w'

@@ -1,7 +1,6 @@
 -- What a call of an open job leaves as it was: the marks and notes that are firm, and records but for those that it writes or removes.
 use Rattle.std.proofs.Common.{◌≡◌, ◌⊎◌, ℕ, Bool, true, false, List, map, refl, sym, ap, subst, inl, inr, arith, ◌∙◌, Option, None}
 use Rattle.std.specs.Prelude.{bytes_eq, IsTrue, option_map, ◌&&◌, ◌||◌, Ok, Err, Result, is_some, if◌then◌else◌}
-use Rattle.std.proofs.lemmas.Bool.{and_right}
 use Rattle.smk_world.specs.declared.event.Call.{Call}
 use Rattle.smk_world.specs.declared.event.Call.TheVariants.{Looked, ReadFile, ReadFolder, Written, Created, Removed, MadeParents, Settled, Protected, Started, Waited}
 use Rattle.smk_world.specs.declared.event.Change.{Change as LeftNode}
@@ -49,10 +48,13 @@ pub record Same (w w' : World) (q : Path) : Type 0 where
 pub same_by : (w w' : World) (q : Path) → w'.nodes q ≡ w.nodes q → Same w w' q
 same_by w w' q h = record { reads_same = ap reading h; firm_same = λ n k. h ∙ k }
 
+and_right_false : (a b : Bool) → b ≡ false → (a && b) ≡ false
+and_right_false a b h = grind arith
+
 pub untouched_same : (w : World) (q : Path) (c : Call) (left : List LeftNode) → Untouched w q c → Same w (after w (event c left)) q
 untouched_same w q (Written p bytes r) left h = same_by w (after w (event (Written p bytes r) left)) q (rw h refl)
-untouched_same w q (Created p (Ok made)) left h = same_by w (after w (event (Created p (Ok made)) left)) q (rw (and_right made (bytes_eq q p) h) refl)
-untouched_same w q (Created p (Err x)) left h = same_by w (after w (event (Created p (Err x)) left)) q (rw (and_right (reads_nothing (w.nodes q)) (bytes_eq q p) h) refl)
+untouched_same w q (Created p (Ok made)) left h = same_by w (after w (event (Created p (Ok made)) left)) q (rw (and_right_false made (bytes_eq q p) h) refl)
+untouched_same w q (Created p (Err x)) left h = same_by w (after w (event (Created p (Err x)) left)) q (rw (and_right_false (reads_nothing (w.nodes q)) (bytes_eq q p) h) refl)
 untouched_same w q (Removed p r) left h = same_by w (after w (event (Removed p r) left)) q (rw h refl)
 untouched_same w q (MadeParents p (Ok u)) left h = same_by w (after w (event (MadeParents p (Ok u)) left)) q (rw h refl)
 untouched_same w q (MadeParents p (Err x)) left h = same_by w (after w (event (MadeParents p (Err x)) left)) q (pick_none (is_some (standing left q)) (is_under p q) (with_folder (w.nodes q)) (w.nodes q) h)

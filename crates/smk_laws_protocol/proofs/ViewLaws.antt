@@ -5,7 +5,6 @@ use Rattle.smk_world.specs.World.{IsRising, add_names}
 use Rattle.std.proofs.Common.{◌≡◌, ◌⊎◌, ℕ, Bool, true, false, List, [], ◌∷◌, map, length, drop, ◌+◌, refl, sym, ap, subst, inl, inr, arith, ◌∙◌, Option, Some, None}
 use Rattle.std.specs.Prelude.{bytes_eq, IsSome, is_some, find, if◌then◌else◌, ◌&&◌, ◌||◌, option_map}
 use Rattle.std.specs.Option.{option_and_then}
-use Rattle.std.proofs.lemmas.Bool.{and_parts}
 use Rattle.smk_record.specs.declared.record.Member.{Member}
 use Rattle.smk_world.specs.declared.event.Node.{Node}
 use Rattle.smk_world.specs.declared.event.Node.TheVariants.{Regular, Directory}
@@ -24,6 +23,12 @@ use Rattle.smk_laws_protocol.proofs.Naming.{NamesLaws}
 use Rattle.smk_base.proofs.Places.{place_itself, same_place}
 use Rattle.smk_laws_protocol.proofs.Sorted.{rising_same, filter_rises, among_filter, among_add}
 use Rattle.smk_laws_protocol.proofs.Texts.{PartLaw, DropLaws}
+
+and_right : (a b : Bool) → (a && b) ≡ true → b ≡ true
+and_right a b h = grind arith
+
+and_left : (a b : Bool) → (a && b) ≡ true → a ≡ true
+and_left a b h = grind arith
 
 -- a test that holds only of what is listed
 listed : (a b : Bool) → (b ≡ true → a ≡ true) → (a && b) ≡ b
@@ -46,9 +51,9 @@ names_agree names names' f g h rising rising' complete complete' agree =
     rising_same (names_in names (path_node f) h) (names_in names' (path_node g) h)
     (filter_rises (λ q. is_under q h && is_some (path_node f q)) names rising) (filter_rises (λ q. is_under q h && is_some (path_node g q)) names' rising')
     (λ q. among_filter (λ q. is_under q h && is_some (path_node f q)) names q
-    ∙ listed (among names q) (is_under q h && is_some (path_node f q)) (λ k. complete q (path_some f q (and_parts (is_under q h) (is_some (path_node f q)) k).1))
+    ∙ listed (among names q) (is_under q h && is_some (path_node f q)) (λ k. complete q (path_some f q (and_right (is_under q h) (is_some (path_node f q)) k)))
     ∙ same (is_under q h) (is_some (path_node f q)) (is_some (path_node g q)) (agree q)
-    ∙ sym (listed (among names' q) (is_under q h && is_some (path_node g q)) (λ k. complete' q (path_some g q (and_parts (is_under q h) (is_some (path_node g q)) k).1)))
+    ∙ sym (listed (among names' q) (is_under q h && is_some (path_node g q)) (λ k. complete' q (path_some g q (and_right (is_under q h) (is_some (path_node g q)) k))))
     ∙ sym (among_filter (λ q. is_under q h && is_some (path_node g q)) names' q))
   where
     same : (a b c : Bool) → (a ≡ true → b ≡ c) → (a && b) ≡ (a && c)
@@ -107,7 +112,7 @@ module _ (names names' : List Path) (f g : Nodes) (h : Path) (rising : IsRising 
   list = names_agree names names' f g h rising rising' complete complete' (λ q k. ap (λ (n : Option Node). is_some n) (node q (at_or_under q h k)))
 
   under : (q : Path) → IsIn (names_in names (path_node f) h) q → is_at_or_under q h ≡ true
-  under q i = at_or_under q h (and_parts (is_under q h) (is_some (path_node f q)) (in_filter (λ q. is_under q h && is_some (path_node f q)) names q i).1).0
+  under q i = at_or_under q h (and_left (is_under q h) (is_some (path_node f q)) (in_filter (λ q. is_under q h && is_some (path_node f q)) names q i).1)
 
   members_same : map (member h f) (names_in names (path_node f) h) ≡ map (member h g) (names_in names' (path_node g) h)
   members_same =
@@ -184,4 +189,4 @@ part_law laws read names f h q rising complete folder under some =
     here = filter_in (λ q. is_under q h && is_some (path_node f q)) names q (in_among names q (complete q (path_some f q stands))) (both (is_under q h) (is_some (path_node f q)) under stands)
 
     one : (x : Path) → IsIn (names_in names (path_node f) h) x → drop (length h + 1) x ≡ drop (length h + 1) q → x ≡ q
-    one x i e = laws.drop_same h x q (and_parts (is_under x h) (is_some (path_node f x)) (in_filter (λ q. is_under q h && is_some (path_node f q)) names x i).1).0 under e
+    one x i e = laws.drop_same h x q (and_left (is_under x h) (is_some (path_node f x)) (in_filter (λ q. is_under q h && is_some (path_node f q)) names x i).1) under e
