@@ -116,5 +116,3 @@ before_here a b names i name lt at e =
     at_drop_more (before_from a b true) names i name lt
     ∙ ap (λ n. before_from a b true (n ∷ drop (i + 1) names)) (sym at)
     ∙ ap (λ x. (x || among (drop (i + 1) names) b) || has_before a b (name ∷ drop (i + 1) names)) e
-
--- ---- both
