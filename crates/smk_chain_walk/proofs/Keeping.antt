@@ -1,10 +1,9 @@
 -- What is kept of a walk stays right as jobs and paths are added.
-use Rattle.std.proofs.Common.{◌≡◌, ◌∙◌, ℕ, suc, ◌+◌, ◌<◌, Bool, true, false, cond, List, [], ◌∷◌, ◌++◌, map, length, Option, Some, None, Result, Ok, Err, IfOk, OnOk, refl, sym, ap, ap₂, subst, arith, true≢false}
-use Rattle.std.specs.Prelude.{bytes_eq, nat_eq, is_some}
-use Rattle.std.specs.BTreeMap.{get_by_text}
+use Rattle.std.proofs.Common.{◌≡◌, ◌∙◌, ℕ, suc, ◌+◌, ◌<◌, Bool, true, false, cond, List, [], ◌∷◌, ◌++◌, map, length, Option, Some, None, Result, Ok, Err, IfOk, OnOk, refl, sym, ap, ap₂, subst, arith, true≢false, String, string_bytes, length-append}
+use Rattle.std.specs.Prelude.{bytes_eq, nat_eq, is_some, position}
+use Rattle.std.specs.declared.alloc.Global.{Global}
 use Rattle.std.specs.List.{filter_map, AllByRecursion}
 use Rattle.smk_pattern.specs.Shapes.{Text}
-use Rattle.smk_chain.specs.declared.jobs.Maker.{Maker}
 use Rattle.std.proofs.lemmas.Slice.Eq.{bytes_eq-Decides}
 use Rattle.std.proofs.lemmas.List.{map_push}
 use Rattle.smk_world.specs.Trees.{Path}
@@ -15,11 +14,12 @@ use Rattle.smk_choose.specs.Told.{making}
 use Rattle.smk_chain.specs.Derive.{Listings, job, wants, distinct}
 use Rattle.smk_chain_walk.specs.declared.reached.Reached.{Reached}
 use Rattle.smk_chain_walk.specs.Numbers.{is_job, place_of, number_in, has, added, key, IsSmall}
-use Rattle.smk_chain_walk.specs.Links.{number_for, befores_of, maker_told, AreOnce, AreLower}
-use Rattle.smk_chain_walk.specs.Steps.{refused_for, called_for, is_done, flat, number_done, told_also, IsDone, Holds, Keeps}
+use Rattle.smk_chain_walk.specs.Links.{number_for, befores_of, AreLower}
+use Rattle.smk_chain_walk.specs.Steps.{refused_for, called_for, done_at, is_done, flat, number_done, number_at, AreTold, IsDone, Holds, Keeps}
 use Rattle.smk_chain_walk.proofs.Depths.{all_map, called_own, called_source, refused_unmade, all_push}
 use Rattle.smk_chain_walk.proofs.Numbers.{place_low, all_low, filter_same}
-use Rattle.smk_chain_walk.proofs.Links.{or_told, told_if, told_push, once_push, lower_push}
+use Rattle.smk_chain_walk.proofs.Links.{lower_push}
+use Rattle.smk_chain_walk.proofs.Placed.{place_more, done_same}
 use Rattle.smk_chain_walk.proofs.Apart.{keys_one}
 use Rattle.smk_chain_walk.proofs.Adding.{is_its_job, job_is, or_place, place_if, place_push, placed, unplaced, has_place, Within, within_has, within_added}
 
@@ -36,22 +36,26 @@ map_same f g [] e = refl
 map_same f g (x ∷ xs) e = ap₂ ◌∷◌ e.0 (map_same f g xs e.1)
 
 -- what is done stays done
-keeps_note : (old new : Reached) (p : Path) (number : Option ℕ) → ((q : Path) → get_by_text new.done q ≡ cond (bytes_eq p q) (Some number) (get_by_text old.done q)) → Keeps old new
+keeps_note : (old new : Reached) (p : Path) (number : Option ℕ) → ((q : Path) → done_at new q ≡ cond (bytes_eq p q) (Some number) (done_at old q)) → Keeps old new
 keeps_note old new p number noted q h = ap is_some (noted q) ∙ go (bytes_eq p q)
   where
-    go : (b : Bool) → is_some (cond b (Some number) (get_by_text old.done q)) ≡ true
+    go : (b : Bool) → is_some (cond b (Some number) (done_at old q)) ≡ true
     go true = refl
     go false = h
 
-pub note_keeps : (old new : Reached) (p : Path) (number : Option ℕ) → ((q : Path) → get_by_text new.done q ≡ cond (bytes_eq p q) (Some number) (get_by_text old.done q)) → Keeps old new
+pub note_keeps : (old new : Reached) (p : Path) (number : Option ℕ) → ((q : Path) → done_at new q ≡ cond (bytes_eq p q) (Some number) (done_at old q)) → Keeps old new
 note_keeps old new p number noted = keeps_note old new p number noted
 
-pub note_done : (old new : Reached) (p : Path) (number : Option ℕ) → ((q : Path) → get_by_text new.done q ≡ cond (bytes_eq p q) (Some number) (get_by_text old.done q)) → is_done new p ≡ true
-note_done old new p number noted = ap is_some (noted p ∙ ap (λ b. cond b (Some number) (get_by_text old.done p)) ((bytes_eq-Decides p p).1 refl))
+pub note_done : (old new : Reached) (p : Path) (number : Option ℕ) → ((q : Path) → done_at new q ≡ cond (bytes_eq p q) (Some number) (done_at old q)) → is_done new p ≡ true
+note_done old new p number noted = ap is_some (noted p ∙ ap (λ b. cond b (Some number) (done_at old p)) ((bytes_eq-Decides p p).1 refl))
 
 pub on_push : {E : Type 0} (r : Result ℕ E) (A B C R : Type 0) (o : Option ℕ) (n : ℕ) → IfOk r (λ m. m ≡ n) → OnOk r A → OnOk r B → OnOk r C → (A → B → C → R × (o ≡ Some n)) → IfOk r (λ m. R × (o ≡ Some m))
 on_push (Ok m) A B C R o n e a b c f = let r = f a b c in (r.0, r.1 ∙ ap Some (sym e))
 on_push (Err x) A B C R o n e a b c f = tt
+
+pub on_number : {E : Type 0} (r : Result ℕ E) (R : Type 0) (o : Option ℕ) (n : ℕ) → IfOk r (λ m. m ≡ n) → R × (o ≡ Some n) → IfOk r (λ m. R × (o ≡ Some m))
+on_number (Ok m) R o n e so = (so.0, so.1 ∙ ap Some (sym e))
+on_number (Err x) R o n e so = tt
 
 module _ (flow : Flow) (sources : Sources) (L : Listings) where
   number_stays : (cs ds : List Candidate) → Within cs ds → (q : Path) → AllByRecursion (λ c. has cs c ≡ true) (called_for flow sources L q) → number_for flow sources L cs q ≡ number_for flow sources L ds q
@@ -91,57 +95,29 @@ module _ (flow : Flow) (sources : Sources) (L : Listings) where
 
   -- one more path is noted
   pub holds_note : (old new : Reached) (cs : List Candidate) (p : Path) (number : Option ℕ) → new.jobs ≡ old.jobs → new.befores ≡ old.befores →
-      ((q : List ℕ) → get_by_text new.numbers q ≡ get_by_text old.numbers q) →
-      ((q : Path) → get_by_text new.done q ≡ cond (bytes_eq p q) (Some number) (get_by_text old.done q)) →
-      new.makers ≡ told_also (is_done old p) old.makers (record { path = p; job = number }) →
+      new.texts.keys ≡ old.texts.keys → ((q : Path) → done_at new q ≡ cond (bytes_eq p q) (Some number) (done_at old q)) → (AreTold old.done.entries → AreTold new.done.entries) →
       IsDone flow sources L cs p number → Holds flow sources L old cs → Holds flow sources L new cs
-  holds_note old new cs p number jobs befores numbers noted makers d h = record {
+  holds_note old new cs p number jobs befores texts noted told d h = record {
     jobs = jobs ∙ h.jobs;
-    numbers = λ m small. numbers (key m) ∙ h.numbers m small;
+    numbers = λ m small. ap (position (λ k. bytes_eq (key m) (string_bytes k))) texts ∙ h.numbers m small;
+    many = ap length texts ∙ h.many;
     done = λ q k e. go q k (bytes_eq p q) refl (sym (noted q) ∙ e);
     served = all_map (λ (c : Candidate). AllByRecursion (λ (w : Text). is_done old w ≡ true) (wants flow L c)) (λ (c : Candidate). AllByRecursion (λ (w : Text). is_done new w ≡ true) (wants flow L c))
         (λ c all. all_map (λ (w : Text). is_done old w ≡ true) (λ (w : Text). is_done new w ≡ true) (λ w e. keeps_note old new p number noted w e) (wants flow L c) all) cs h.served;
-    told = λ q. tell q (get_by_text old.done p) refl;
-    once = telling (get_by_text old.done p) refl;
+    told = told h.told;
     befores = befores ∙ h.befores;
     lower = subst (AreLower 0) (sym befores) h.lower;
   }
     where
-      go : (q : Path) (k : Option ℕ) (b : Bool) → bytes_eq p q ≡ b → cond b (Some number) (get_by_text old.done q) ≡ Some k → IsDone flow sources L cs q k
+      go : (q : Path) (k : Option ℕ) (b : Bool) → bytes_eq p q ≡ b → cond b (Some number) (done_at old q) ≡ Some k → IsDone flow sources L cs q k
       go q k true e is =
           let same : p ≡ q = (bytes_eq-Decides p q).0 e in
           let one : number ≡ k = cc in
           subst (λ r. IsDone flow sources L cs r k) same (subst (IsDone flow sources L cs p) one d)
       go q k false e is = h.done q k is
 
-      m : Maker
-      m = record { path = p; job = number }
-
-      new_makers : (o : Option (Option ℕ)) → get_by_text old.done p ≡ o → new.makers ≡ told_also (is_some o) old.makers m
-      new_makers o e = makers ∙ ap (λ x. told_also (is_some x) old.makers m) e
-
-      tell : (q : Path) (o : Option (Option ℕ)) → get_by_text old.done p ≡ o → maker_told new.makers q ≡ get_by_text new.done q
-      tell q (Some k) e = ap (λ ms. maker_told ms q) (new_makers (Some k) e) ∙ h.told q ∙ at (bytes_eq p q) refl ∙ sym (noted q)
-        where
-          at : (b : Bool) → bytes_eq p q ≡ b → get_by_text old.done q ≡ cond b (Some number) (get_by_text old.done q)
-          at true f = ap (get_by_text old.done) (sym ((bytes_eq-Decides p q).0 f)) ∙ e ∙ ap Some ((h.done p k e).is ∙ sym d.is)
-          at false f = refl
-      tell q None e = ap (λ ms. maker_told ms q) (new_makers None e) ∙ told_push old.makers m q ∙ ap (λ o. or_told o (told_if (bytes_eq p q) number)) (h.told q) ∙ at (bytes_eq p q) refl ∙ sym (noted q)
-        where
-          or_none : (o : Option (Option ℕ)) → or_told o None ≡ o
-          or_none None = refl
-          or_none (Some x) = refl
-
-          at : (b : Bool) → bytes_eq p q ≡ b → or_told (get_by_text old.done q) (told_if b number) ≡ cond b (Some number) (get_by_text old.done q)
-          at true f = ap (λ o. or_told o (Some number)) (ap (get_by_text old.done) (sym ((bytes_eq-Decides p q).0 f)) ∙ e)
-          at false f = or_none (get_by_text old.done q)
-
-      telling : (o : Option (Option ℕ)) → get_by_text old.done p ≡ o → AreOnce new.makers
-      telling (Some k) e = subst AreOnce (sym (new_makers (Some k) e)) h.once
-      telling None e = subst AreOnce (sym (new_makers None e)) (once_push old.makers m h.once (h.told p ∙ e))
-
   -- the job is there
-  pub holds_there : (old : Reached) (cs : List Candidate) (c : Candidate) (n : ℕ) → IsSmall (making c) → get_by_text old.numbers (key (making c)) ≡ Some n →
+  pub holds_there : (old : Reached) (cs : List Candidate) (c : Candidate) (n : ℕ) → IsSmall (making c) → number_at old (key (making c)) ≡ Some n →
       Holds flow sources L old cs → Holds flow sources L old (added cs c) × (place_of (added cs c) (making c) ≡ Some n)
   holds_there old cs c n small e h =
       let at : place_of cs (making c) ≡ Some n = sym (h.numbers (making c) small) ∙ e in
@@ -156,14 +132,13 @@ module _ (flow : Flow) (sources : Sources) (L : Listings) where
       go (Some c) e = place_low cs (making c) k e
 
   -- one more job is there
-  pub holds_push : (old new : Reached) (cs : List Candidate) (c : Candidate) → IsSmall (making c) → get_by_text old.numbers (key (making c)) ≡ None →
-      new.jobs ≡ old.jobs ++ job flow L c ∷ [] → AllByRecursion (λ (w : Text). is_done old w ≡ true) (wants flow L c) →
-      new.befores ≡ old.befores ++ distinct nat_eq (filter_map (number_done old) (wants flow L c)) ∷ [] → new.makers ≡ old.makers →
-      ((q : List ℕ) → get_by_text new.numbers q ≡ cond (bytes_eq (key (making c)) q) (Some (length old.jobs)) (get_by_text old.numbers q)) →
-      ((q : Path) → get_by_text new.done q ≡ get_by_text old.done q) →
-      Holds flow sources L old cs → Holds flow sources L new (added cs c) × (place_of (added cs c) (making c) ≡ Some (length old.jobs))
-  holds_push old new cs c small none jobs ready befores makers numbers done h =
-      (subst (Holds flow sources L new) (sym grown) pushed, subst (λ ds. place_of ds (making c) ≡ Some (length old.jobs)) (sym grown) last)
+  pub holds_push : (old new : Reached) (cs : List Candidate) (c : Candidate) (text : String Global) → IsSmall (making c) → string_bytes text ≡ key (making c) →
+      number_at old (key (making c)) ≡ None → new.jobs ≡ old.jobs ++ job flow L c ∷ [] → AllByRecursion (λ (w : Text). is_done old w ≡ true) (wants flow L c) →
+      new.befores ≡ old.befores ++ distinct nat_eq (filter_map (number_done old) (wants flow L c)) ∷ [] →
+      new.texts.keys ≡ old.texts.keys ++ text ∷ [] → new.done.entries ≡ old.done.entries →
+      Holds flow sources L old cs → Holds flow sources L new (added cs c) × (place_of (added cs c) (making c) ≡ Some (length old.texts.keys))
+  holds_push old new cs c text small is none jobs ready befores texts entries h =
+      (subst (Holds flow sources L new) (sym grown) pushed, subst (λ ds. place_of ds (making c) ≡ Some (length old.texts.keys)) (sym grown) last)
     where
       unseen : place_of cs (making c) ≡ None
       unseen = sym (h.numbers (making c) small) ∙ none
@@ -171,13 +146,18 @@ module _ (flow : Flow) (sources : Sources) (L : Listings) where
       grown : added cs c ≡ cs ++ c ∷ []
       grown = ap (λ b. cond b cs (cs ++ c ∷ [])) (unplaced cs (making c) unseen)
 
-      long : length old.jobs ≡ length cs
-      long = ap length h.jobs ∙ length_map (job flow L) cs
+      done : (q : Path) → done_at new q ≡ done_at old q
+      done = done_same old new entries
 
-      last : place_of (cs ++ c ∷ []) (making c) ≡ Some (length old.jobs)
-      last = place_push cs c (making c) ∙ ap (λ o. or_place o (place_if (is_job (making c) c) (length cs))) unseen ∙ ap (λ b. place_if b (length cs)) (is_its_job c) ∙ ap Some (sym long)
+      numbers : (q : List ℕ) → number_at new q ≡ cond (bytes_eq (key (making c)) q) (Some (length old.texts.keys)) (number_at old q)
+      numbers q = ap (position (λ k. bytes_eq q (string_bytes k))) texts
+          ∙ place_more old.texts.keys text q (ap (number_at old) is ∙ none)
+          ∙ ap (λ t. cond (bytes_eq t q) (Some (length old.texts.keys)) (number_at old q)) is
 
-      number : (m : Making) → IsSmall m → (b : Bool) → bytes_eq (key (making c)) (key m) ≡ b → cond b (Some (length old.jobs)) (get_by_text old.numbers (key m)) ≡ place_of (cs ++ c ∷ []) m
+      last : place_of (cs ++ c ∷ []) (making c) ≡ Some (length old.texts.keys)
+      last = place_push cs c (making c) ∙ ap (λ o. or_place o (place_if (is_job (making c) c) (length cs))) unseen ∙ ap (λ b. place_if b (length cs)) (is_its_job c) ∙ ap Some (sym h.many)
+
+      number : (m : Making) → IsSmall m → (b : Bool) → bytes_eq (key (making c)) (key m) ≡ b → cond b (Some (length old.texts.keys)) (number_at old (key m)) ≡ place_of (cs ++ c ∷ []) m
       number m sm true e =
           let same : making c ≡ m = keys_one (making c) m small sm ((bytes_eq-Decides (key (making c)) (key m)).0 e) in
           sym last ∙ ap (place_of (cs ++ c ∷ [])) same
@@ -196,9 +176,9 @@ module _ (flow : Flow) (sources : Sources) (L : Listings) where
 
       -- a path that is done has the number that it will have
       settled_at : (w : Text) → is_done old w ≡ true → (number_done old w ≡ number_for flow sources L cs w) × (number_for flow sources L cs w ≡ number_for flow sources L (cs ++ c ∷ []) w)
-      settled_at w e = at (get_by_text old.done w) refl e
+      settled_at w e = at (done_at old w) refl e
         where
-          at : (o : Option (Option ℕ)) → get_by_text old.done w ≡ o → is_some o ≡ true → (flat o ≡ number_for flow sources L cs w) × (number_for flow sources L cs w ≡ number_for flow sources L (cs ++ c ∷ []) w)
+          at : (o : Option (Option ℕ)) → done_at old w ≡ o → is_some o ≡ true → (flat o ≡ number_for flow sources L cs w) × (number_for flow sources L cs w ≡ number_for flow sources L (cs ++ c ∷ []) w)
           at (Some k) f g = let d = h.done w k f in (d.is, number_stays cs (cs ++ c ∷ []) more w d.called)
           at None f g = absurd (true≢false (sym g))
 
@@ -226,12 +206,12 @@ module _ (flow : Flow) (sources : Sources) (L : Listings) where
       pushed = record {
         jobs = jobs ∙ ap (λ js. js ++ job flow L c ∷ []) h.jobs ∙ sym (map_push (job flow L) cs c);
         numbers = λ m sm. numbers (key m) ∙ number m sm (bytes_eq (key (making c)) (key m)) refl;
+        many = ap length texts ∙ length-append old.texts.keys (text ∷ []) ∙ ap (λ n. n + 1) h.many ∙ sym (length-append cs (c ∷ []));
         done = λ q k e. done_grows cs (cs ++ c ∷ []) more q k (h.done q k (sym (done q) ∙ e));
         served = all_push (λ (d : Candidate). AllByRecursion (λ (w : Text). is_done new w ≡ true) (wants flow L d)) cs c
             (all_map (λ (d : Candidate). AllByRecursion (λ (w : Text). is_done old w ≡ true) (wants flow L d)) (λ (d : Candidate). AllByRecursion (λ (w : Text). is_done new w ≡ true) (wants flow L d)) still cs h.served)
             (still c ready);
-        told = λ q. ap (λ ms. maker_told ms q) makers ∙ h.told q ∙ sym (done q);
-        once = subst AreOnce (sym makers) h.once;
+        told = subst AreTold (sym entries) h.told;
         befores = befores ∙ ap₂ (λ bs b. bs ++ b ∷ []) (h.befores ∙ map_same (befores_of flow sources L cs) (befores_of flow sources L (cs ++ c ∷ [])) cs
             (all_map (λ (d : Candidate). AllByRecursion (λ (w : Text). is_done old w ≡ true) (wants flow L d)) (λ (d : Candidate). befores_of flow sources L cs d ≡ befores_of flow sources L (cs ++ c ∷ []) d) befores_stay cs h.served))
             (own_befores ∙ befores_stay c ready) ∙ sym (map_push (befores_of flow sources L (cs ++ c ∷ [])) cs c);

@@ -3,6 +3,7 @@ mod Apart
 pub mod Adding
 mod Numbers
 mod Links
+mod Placed
 mod Keeping
 mod Visiting
 mod Missing

@@ -11,13 +11,14 @@ use Rattle.smk_chain.specs.declared.fault.ChainFault.{ChainFault}
 use Rattle.smk_chain.specs.declared.jobs.Jobs.{Jobs}
 use Rattle.smk_chain.specs.Derive.{Listings, height, refused, job, jobs, wants, chosen}
 use Rattle.std.specs.Prelude.{is_some, true}
-use Rattle.std.specs.BTreeMap.{get_by_text}
+use Rattle.indexmap.specs.IndexMap.{values}
 use Rattle.smk_pattern.specs.Shapes.{Text}
 use Rattle.smk_chain_walk.specs.Links.{AreLinked, AreOnce, AreLower, maker_told}
 use Rattle.smk_chain.specs.Told.{TellsFirst}
 use Rattle.smk_chain_walk.specs.declared.reached.Reached.{Reached}
 use Rattle.smk_chain_walk.specs.Numbers.{all_added}
-use Rattle.smk_chain_walk.specs.Steps.{Fits, refused_for, called_for, is_done, Holds, Walked}
+use Rattle.smk_chain_walk.specs.Steps.{Fits, refused_for, called_for, done_at, is_done, Holds, Walked}
+use Rattle.smk_chain_walk.proofs.Links.{told_is, once_is}
 use Rattle.smk_chain_walk.proofs.Depths.{all_map, fits_shallow, refused_all, called_all, all_push, flat_push}
 use Rattle.smk_chain_walk.proofs.Adding.{all_added_append, distinct_is}
 use Rattle.smk_chain_walk.proofs.Visiting.{tells_in}
@@ -87,12 +88,12 @@ module _ (flow : Flow) (sources : Sources) (L : Listings) where
   chosen_is ts = ap (all_added []) (sym (called_all flow sources L ts)) ∙ sym (distinct_is (flat_map (Rattle.smk_chain.specs.Derive.walk flow sources L 200) ts))
 
   -- the links between the jobs of the targets
-  pub target_links : (now : Reached) (ts : List Path) (made : Jobs) → made.makers ≡ now.makers → made.befores ≡ now.befores → Reaches now ts → AreLinked flow sources L ts made
+  pub target_links : (now : Reached) (ts : List Path) (made : Jobs) → made.makers ≡ values now.done → made.befores ≡ now.befores → Reaches now ts → AreLinked flow sources L ts made
   target_links now ts made makers befores so =
       let h = subst (Holds flow sources L now) (chosen_is ts) so.1 in
-      let seen : (q : Path) → maker_told made.makers q ≡ get_by_text now.done q = λ q. ap (λ ms. maker_told ms q) makers ∙ h.told q in
+      let seen : (q : Path) → maker_told made.makers q ≡ done_at now q = λ q. ap (λ ms. maker_told ms q) makers ∙ told_is now.done.entries h.told.own q in
       record {
-        once = subst AreOnce (sym makers) h.once;
+        once = subst AreOnce (sym makers) (once_is now.done.entries h.told);
         right = λ q number e. (h.done q number (sym (seen q) ∙ e)).is;
         all_targets = all_map (λ t. is_done now t ≡ true) (λ t. is_some (maker_told made.makers t) ≡ true) (λ t e. ap is_some (seen t) ∙ e) ts so.2;
         all_wants = all_map (λ (c : Candidate). AllByRecursion (λ (w : Text). is_done now w ≡ true) (wants flow L c)) (λ (c : Candidate). AllByRecursion (λ (w : Text). is_some (maker_told made.makers w) ≡ true) (wants flow L c))

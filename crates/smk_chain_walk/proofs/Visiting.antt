@@ -1,7 +1,6 @@
 -- What a walk from a path comes to, put together from its steps.
 use Rattle.std.proofs.Common.{◌≡◌, ◌≢◌, ◌∙◌, ℕ, suc, ◌≤◌, true, false, List, [], ◌∷◌, ◌++◌, Option, Some, None, Ok, Err, refl, sym, ap, subst, true≢false}
 use Rattle.std.specs.Prelude.{is_some}
-use Rattle.std.specs.BTreeMap.{get_by_text}
 use Rattle.std.specs.List.{flat_map, AllByRecursion, list_all}
 use Rattle.std.proofs.lemmas.List.Concat.{flat_map-append}
 use Rattle.smk_base.specs.Path.{is_path}
@@ -15,7 +14,7 @@ use Rattle.smk_chain.specs.Derive.{Listings, Refusal, NoInput, refused_at, wants
 use Rattle.smk_chain.specs.Told.{first_told, TellsFirst}
 use Rattle.smk_chain_walk.specs.declared.reached.Reached.{Reached}
 use Rattle.smk_chain_walk.specs.Numbers.{has, added, all_added}
-use Rattle.smk_chain_walk.specs.Steps.{Fits, refused_for, called_for, asked, is_done, Holds, Keeps, Walked}
+use Rattle.smk_chain_walk.specs.Steps.{Fits, refused_for, called_for, asked, done_at, is_done, Holds, Keeps, Walked}
 use Rattle.smk_chain_walk.proofs.Depths.{refused_make, called_make, refused_front, called_source, refused_unmade, flat_nil, all_map, want_calm, all_push, flat_push}
 use Rattle.smk_chain_walk.proofs.Adding.{all_there, all_added_append, all_added_has}
 
@@ -34,9 +33,9 @@ tells_memory flow rs f e = λ ne. absurd (ne e)
 
 module _ (flow : Flow) (sources : Sources) (L : Listings) where
   pub walked_done : (old : Reached) (p : Path) → is_done old p ≡ true → Walked flow sources L old old p (Ok tt)
-  walked_done old p e = λ cs h. go cs h (get_by_text old.done p) refl e
+  walked_done old p e = λ cs h. go cs h (done_at old p) refl e
     where
-      go : (cs : List Candidate) → Holds flow sources L old cs → (o : Option (Option ℕ)) → get_by_text old.done p ≡ o → is_some o ≡ true →
+      go : (cs : List Candidate) → Holds flow sources L old cs → (o : Option (Option ℕ)) → done_at old p ≡ o → is_some o ≡ true →
           (refused_for flow sources L p ≡ []) × Holds flow sources L old (all_added cs (called_for flow sources L p)) × (is_done old p ≡ true) × Keeps old old
       go cs h (Some number) at s =
           let d = h.done p number at in

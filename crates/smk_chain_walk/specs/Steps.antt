@@ -1,7 +1,10 @@
 -- How far a walk goes from a path, what it comes to, and what is kept of it on the way.
-use Rattle.std.specs.Prelude.{◌≡◌, ℕ, zero, suc, Bool, true, false, List, [], ◌∷◌, ◌++◌, map, Option, Some, None, is_some, Result, Ok, Err, if◌then◌else◌}
-use Rattle.std.specs.BTreeMap.{get_by_text}
-use Rattle.std.specs.List.{list_all, AllByRecursion}
+use Rattle.std.specs.Prelude.{◌≡◌, ℕ, zero, suc, Bool, true, false, List, [], ◌∷◌, map, length, Option, Some, None, option_map, is_some, bytes_eq, String, string_bytes, Result, Ok, Err}
+use Rattle.std.specs.List.{list_all, AllByRecursion, IsDistinct}
+use Rattle.std.specs.Map.{keys_of}
+use Rattle.std.specs.declared.alloc.Global.{Global}
+use Rattle.indexmap.specs.IndexMap.{get_by_text}
+use Rattle.indexmap.specs.IndexSet.{index_of_by}
 use Rattle.smk_base.specs.Path.{is_path}
 use Rattle.smk_world.specs.Trees.{Path}
 use Rattle.smk_pattern.specs.Shapes.{Text}
@@ -17,7 +20,7 @@ use Rattle.smk_chain.specs.Told.{TellsFirst}
 use Rattle.smk_chain.specs.Derive.{Listings, Refusal, NoInput, wants, job, walk, refused}
 use Rattle.smk_chain_walk.specs.declared.reached.Reached.{Reached}
 use Rattle.smk_chain_walk.specs.Numbers.{place_of, has, added, all_added, key, IsSmall}
-use Rattle.smk_chain_walk.specs.Links.{number_for, maker_told, befores_of, AreOnce, AreLower}
+use Rattle.smk_chain_walk.specs.Links.{number_for, befores_of, AreLower}
 
 -- no chain of more than n jobs leads from the path, each wanting something of the next
 abbrev pub Fits : Flow → Sources → Listings → ℕ → Path → Type 0
@@ -40,9 +43,13 @@ asked_by refusals p rule w = elim (is_path w) as (λ _. List Refusal) [ true ↦
 abbrev pub asked : Flow → Sources → Listings → Path → ℕ → Text → List Refusal
 asked flow sources L = asked_by (refused_for flow sources L)
 
+-- the job that makes a path that is done, by its number; none for a source
+abbrev pub done_at : Reached → Path → Option (Option ℕ)
+done_at reached q = option_map (λ (m : Maker). m.job) (get_by_text reached.done q)
+
 -- the path has been walked from
 abbrev pub is_done : Reached → Path → Bool
-is_done reached q = is_some (get_by_text reached.done q)
+is_done reached q = is_some (done_at reached q)
 
 abbrev pub flat : Option (Option ℕ) → Option ℕ
 flat None = None
@@ -50,11 +57,19 @@ flat (Some number) = number
 
 -- the number of the job that makes a path that is done
 abbrev pub number_done : Reached → Path → Option ℕ
-number_done reached q = flat (get_by_text reached.done q)
+number_done reached q = flat (done_at reached q)
 
--- one more maker, unless its path is known
-abbrev pub told_also : Bool → List Maker → Maker → List Maker
-told_also known makers m = if known then makers else makers ++ m ∷ []
+-- the number of the job with this text: its place
+abbrev pub number_at : Reached → Text → Option ℕ
+number_at reached t = index_of_by (λ k. bytes_eq t (string_bytes k)) reached.texts
+
+abbrev pub same_text : String Global → String Global → Bool
+same_text a b = bytes_eq (string_bytes a) (string_bytes b)
+
+-- each path is told of once, under its own text
+pub record AreTold (done : List (String Global × Maker)) : Type 0 where
+  pub own : AllByRecursion (λ (e : String Global × Maker). e.1.path ≡ string_bytes e.0) done
+  pub once : IsDistinct same_text (keys_of done)
 
 -- Nothing is refused of the path, all jobs that it calls for are among these, and this is the number of its own.
 pub record IsDone (flow : Flow) (sources : Sources) (L : Listings) (cs : List Candidate) (q : Path) (number : Option ℕ) : Type 0 where
@@ -65,13 +80,12 @@ pub record IsDone (flow : Flow) (sources : Sources) (L : Listings) (cs : List Ca
 -- What was reached is these jobs, each once, with their numbers, paths that are done, and the links between the jobs.
 pub record Holds (flow : Flow) (sources : Sources) (L : Listings) (reached : Reached) (cs : List Candidate) : Type 0 where
   pub jobs : reached.jobs ≡ map (job flow L) cs
-  pub numbers : (m : Making) → IsSmall m → get_by_text reached.numbers (key m) ≡ place_of cs m
-  pub done : (q : Path) (number : Option ℕ) → get_by_text reached.done q ≡ Some number → IsDone flow sources L cs q number
+  pub numbers : (m : Making) → IsSmall m → number_at reached (key m) ≡ place_of cs m
+  pub many : length reached.texts.keys ≡ length cs
+  pub done : (q : Path) (number : Option ℕ) → done_at reached q ≡ Some number → IsDone flow sources L cs q number
   -- all that the jobs want is done
   pub served : AllByRecursion (λ (c : Candidate). AllByRecursion (λ (w : Text). is_done reached w ≡ true) (wants flow L c)) cs
-  -- the paths that are done are told of, each once
-  pub told : (q : Path) → maker_told reached.makers q ≡ get_by_text reached.done q
-  pub once : AreOnce reached.makers
+  pub told : AreTold reached.done.entries
   -- before a job come those that make what it wants, and their numbers are below its own
   pub befores : reached.befores ≡ map (befores_of flow sources L cs) cs
   pub lower : AreLower 0 reached.befores

@@ -1,8 +1,8 @@
 //! What a walk has reached.
 
 ghost use Rattle.std.specs.Prelude.{◌≡◌, ℕ, [], ◌∷◌, ◌++◌, List as Items, true, bytes_eq, length, Some, None, IfOk, IfErr, OnOk, if◌then◌else◌, string_bytes, option_to_list};
-ghost use Rattle.std.specs.BTreeMap.{get_by_text};
 ghost use Rattle.std.specs.List.{filter_map};
+ghost use Rattle.indexmap.specs.IndexMap.{values};
 ghost use Rattle.smk_world.specs.Trees.{Path};
 ghost use Rattle.smk_flow.specs.Flows.{Flow, Candidate};
 ghost use Rattle.smk_choose.specs.Choose.{Sources as Which, Source, choose};
@@ -12,29 +12,29 @@ ghost use Rattle.smk_choose_wants.specs.Wants.{IsChosen};
 ghost use Rattle.smk_chain_walk.specs.Numbers.{place_of, added};
 ghost use Rattle.smk_chain_walk.specs.Once.{one_added, all_once, IsSeen};
 ghost use Rattle.smk_chain_walk.specs.Stepping.{text_in};
-ghost use Rattle.smk_chain_walk.specs.Steps.{is_done, number_done, told_also, Holds, IsServed, Keeps, MayClose};
+ghost use Rattle.smk_chain_walk.specs.Steps.{is_done, done_at, number_done, number_at, AreTold, Holds, IsServed, Keeps, MayClose};
 ghost use Rattle.smk_chain_walk.specs.Queries.{IsGuided};
 
 use crate::keys::key_of;
 use crate::query::Query;
+use indexmap::{IndexMap, IndexSet};
 use smk_base::{List, OutOfMemory, PathText};
 use smk_chain::{ChainFault, Maker};
 use smk_choose::Making;
 use smk_choose_wants::{Want, job_of};
 use smk_flow::Job;
 use std::alloc::Global;
-use std::collections::{BTreeMap, BTreeSet};
+use std::collections::BTreeSet;
 
 /// The jobs so far, in plan order, with what makes each path that is done.
 #[derive(Debug, Drop)]
 pub(crate) struct Reached {
-    /// The number of the job that makes a path; none for a source.
-    pub(crate) done: BTreeMap<String, Option<u32>>,
-    /// The number of each job, under a text that no other job has.
-    pub(crate) numbers: BTreeMap<String, u32>,
+    /// What makes each path that is done, in the order in which they were done.
+    pub(crate) done: IndexMap<String, Maker>,
+    /// A text for each job that no other job has: the number of a job is the place of its text.
+    pub(crate) texts: IndexSet<String>,
     pub(crate) jobs: List<Job>,
     pub(crate) befores: List<List<u32>>,
-    pub(crate) makers: List<Maker>,
 }
 
 impl Reached {
@@ -43,11 +43,10 @@ impl Reached {
         ensures { (flow : Flow) (sources : Which) (L : Lists) → Holds flow sources L result [] }
     {
         Reached {
-            done: BTreeMap::new(alloc),
-            numbers: BTreeMap::new(alloc),
+            done: IndexMap::new(alloc),
+            texts: IndexSet::new(alloc),
             jobs: List::new(alloc),
             befores: List::new(alloc),
-            makers: List::new(alloc),
         }
     }
 
@@ -55,7 +54,7 @@ impl Reached {
     pub(crate) fn is_done(&self, path: &PathText) -> bool
         ensures { result ≡ is_done self.now path.now }
     {
-        self.done.get(path.as_str()).is_some()
+        self.done.contains_key(path.as_str())
     }
 
     // Notes that the path is done, and the number of its job.
@@ -65,16 +64,15 @@ impl Reached {
         path: &PathText,
         number: Option<u32>,
     ) -> Result<(), OutOfMemory>
-        ensures done { OnOk result ((q : Path) → get_by_text self.new.done q ≡ (if bytes_eq path.now q then Some number else get_by_text self.old.done q)) }
-        ensures makers { OnOk result (self.new.makers ≡ told_also (is_done self.old path.now) self.old.makers (record { path = path.now; job = number })) }
+        ensures done { OnOk result ((q : Path) → done_at self.new q ≡ (if bytes_eq path.now q then Some number else done_at self.old q)) }
+        ensures told { OnOk result (AreTold self.old.done.entries → AreTold self.new.done.entries) }
         ensures jobs { self.new.jobs ≡ self.old.jobs }
         ensures befores { self.new.befores ≡ self.old.befores }
-        ensures numbers { (q : Items ℕ) → get_by_text self.new.numbers q ≡ get_by_text self.old.numbers q }
+        ensures texts { self.new.texts.keys ≡ self.old.texts.keys }
     {
-        let known = self.is_done(path);
         let key = String::from_str(alloc, path.as_str())?;
-        self.done.insert(key, number)?;
-        tell(alloc, &mut self.makers, known, path, number)?;
+        let path = path.copy(alloc)?;
+        self.done.insert(key, Maker { path, job: number })?;
         Ok(())
     }
 
@@ -95,16 +93,16 @@ impl Reached {
         ensures { result ≡ number_done self.now (text_in want.now) }
     {
         match want {
-            Want::Path(path) => self.number_at(path.as_str()),
-            Want::NoPath(text) => self.number_at(text.as_str()),
+            Want::Path(path) => self.number_under(path.as_str()),
+            Want::NoPath(text) => self.number_under(text.as_str()),
         }
     }
 
-    fn number_at(&self, path: &str) -> Option<u32>
+    fn number_under(&self, path: &str) -> Option<u32>
         ensures { result ≡ number_done self.now path.now }
     {
         match self.done.get(path) {
-            Some(number) => *number,
+            Some(maker) => maker.job,
             None => None,
         }
     }
@@ -123,22 +121,19 @@ impl Reached {
         Ok(once.numbers)
     }
 
-    // Adds the job with its text, and gives its number.
+    // Adds the job under its text, which no job has, and gives its number.
     fn push(&mut self, key: String, job: Job, befores: List<u32>) -> Result<u32, OutOfMemory>
-        ensures number { IfOk result (λ number. number ≡ length self.old.jobs) }
+        requires { number_at self.old (string_bytes key) ≡ None }
+        ensures number { IfOk result (λ number. number ≡ length self.old.texts.keys) }
         ensures jobs { OnOk result (self.new.jobs ≡ self.old.jobs ++ job ∷ []) }
         ensures befores { OnOk result (self.new.befores ≡ self.old.befores ++ befores ∷ []) }
-        ensures numbers { OnOk result ((q : Items ℕ) → get_by_text self.new.numbers q
-            ≡ (if bytes_eq (string_bytes key) q then Some (length self.old.jobs) else get_by_text self.old.numbers q)) }
-        ensures makers { self.new.makers ≡ self.old.makers }
-        ensures done { (q : Path) → get_by_text self.new.done q ≡ get_by_text self.old.done q }
+        ensures texts { OnOk result (self.new.texts.keys ≡ self.old.texts.keys ++ key ∷ []) }
+        ensures done { self.new.done.entries ≡ self.old.done.entries }
     {
-        let Ok(number) = u32::try_from(self.jobs.len()) else {
-            return Err(OutOfMemory);
-        };
+        let number = as_number(self.texts.len())?;
         self.jobs.push(job)?;
         self.befores.push(befores)?;
-        self.numbers.insert(key, number)?;
+        self.texts.insert(key)?;
         Ok(number)
     }
 
@@ -152,14 +147,14 @@ impl Reached {
     ) -> Result<u32, OutOfMemory>
         requires guide { IsGuided query.now }
         requires chosen { IsChosen query.now.flow.now making.now }
-        ensures done { (q : Path) → get_by_text self.new.done q ≡ get_by_text self.old.done q }
+        ensures done { self.new.done.entries ≡ self.old.done.entries }
         ensures put { (S : Which) (p : Path) (c : Candidate) (cs : Items Candidate)
             → IsServed query.now.flow.now S query.now.lists.now self.old p making.now wanted.now c → Holds query.now.flow.now S query.now.lists.now self.old cs
             → IfOk result (λ number. Holds query.now.flow.now S query.now.lists.now self.new (added cs c) × (place_of (added cs c) (making_of c) ≡ Some number)) }
     {
         let key = key_of(alloc, making)?;
-        if let Some(number) = self.numbers.get(key.as_str()) {
-            return Ok(*number);
+        if let Some(place) = self.texts.get_index_of(key.as_str()) {
+            return as_number(place);
         }
         let job = job_of(alloc, query.flow, query.lists, &query.guide.places, making)?;
         let befores = self.numbers_of(alloc, wanted)?;
@@ -189,23 +184,29 @@ impl Reached {
     }
 }
 
-// Tells of the path, unless it is known.
-fn tell(
-    alloc: Global,
-    makers: &mut List<Maker>,
-    known: bool,
-    path: &PathText,
-    job: Option<u32>,
-) -> Result<(), OutOfMemory>
-    ensures { OnOk result (makers.new ≡ told_also known makers.old (record { path = path.now; job = job })) }
+// The number of the job at this place. `OutOfMemory` where there are no more numbers.
+fn as_number(place: usize) -> Result<u32, OutOfMemory>
+    ensures { IfOk result (λ number. number ≡ place) }
 {
-    if known {
-        return Ok(());
+    match u32::try_from(place) {
+        Ok(number) => Ok(number),
+        Err(_) => Err(OutOfMemory),
     }
-    makers.push(Maker {
-        path: path.copy(alloc)?,
-        job,
-    })
+}
+
+/// What makes each of the paths that are done, in order.
+pub(crate) fn makers_of(
+    alloc: Global,
+    done: IndexMap<String, Maker>,
+) -> Result<List<Maker>, ChainFault>
+    ensures memory { IfErr result (λ fault. fault ≡ ChainFault.OutOfMemory) }
+    ensures makers { IfOk result (λ makers. makers ≡ values done) }
+{
+    let mut makers = List::new(alloc);
+    for maker in done.into_values() {
+        makers.push(maker)?;
+    }
+    Ok(makers)
 }
 
 // Numbers, each once.

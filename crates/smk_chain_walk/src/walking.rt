@@ -2,6 +2,7 @@
 
 ghost use Rattle.std.specs.Prelude.{◌≡◌, ◌≤◌, ◌+◌, [], false, IfOk, IfErr, ◌==◌};
 ghost use Rattle.std.specs.List.{flat_map, AllByRecursion};
+ghost use Rattle.indexmap.specs.IndexMap.{values};
 ghost use Rattle.smk_choose.specs.Told.{told_by, CoversAll};
 ghost use Rattle.smk_chain.specs.Derive.{height, refused, jobs};
 ghost use Rattle.smk_chain.specs.declared.jobs.Jobs.{Jobs as Made};
@@ -14,7 +15,7 @@ ghost use Rattle.smk_chain_walk.specs.Queries.{HasFolders, HasWalked, IsGuided, 
 use crate::faults;
 use crate::folders::Folders;
 use crate::query::Query;
-use crate::reached::Reached;
+use crate::reached::{Reached, makers_of};
 use crate::stepping::{Step, begun, inner};
 use smk_base::{List, PathText};
 use smk_chain::{ChainFault, Jobs, Listings};
@@ -97,7 +98,7 @@ fn visit_all(
     requires shallow { AllByRecursion (λ t. (height flow.now (told_by sources.now) lists.now 201 t == 201) ≡ false) targets.now }
     ensures none { IfOk result (λ made. flat_map (refused flow.now (told_by sources.now) lists.now 201) targets.now ≡ []) }
     ensures jobs { IfOk result (λ made. made.jobs ≡ jobs flow.now (told_by sources.now) lists.now targets.now) }
-    ensures links { IfOk result (λ reached. (made : Made) → made.makers ≡ reached.makers → made.befores ≡ reached.befores
+    ensures links { IfOk result (λ reached. (made : Made) → made.makers ≡ values reached.done → made.befores ≡ reached.befores
         → AreLinked flow.now (told_by sources.now) lists.now targets.now made) }
     ensures fault { IfErr result (TellsFirst flow.now (flat_map (refused flow.now (told_by sources.now) lists.now 201) targets.now)) }
 {
@@ -138,10 +139,17 @@ pub fn walk(
     ensures fault { IfErr result (TellsFirst flow.now (flat_map (refused flow.now (told_by sources.now) lists 201) targets.now)) }
 {
     let reached = visit_all(alloc, flow, sources, &lists, guide, table, targets)?;
+    let Reached {
+        done,
+        jobs,
+        befores,
+        texts: _texts,
+    } = reached;
+    let makers = makers_of(alloc, done)?;
     Ok(Jobs {
-        jobs: reached.jobs,
-        befores: reached.befores,
-        makers: reached.makers,
+        jobs,
+        befores,
+        makers,
         lists,
     })
 }

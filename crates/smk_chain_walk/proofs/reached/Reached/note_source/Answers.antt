@@ -10,5 +10,5 @@ returns-clause-keeps c = note_keeps c.args.self.now c.note.new.self c.args.path.
 
 pub returns-clause-noted : goal.returns-clause-noted
 returns-clause-noted c = λ flow sources L cs h e.
-    holds_note flow sources L c.args.self.now c.note.new.self cs c.args.path.now None c.note.ensures.jobs c.note.ensures.befores c.note.ensures.numbers c.in_ok-note.ensures.done c.in_ok-note.ensures.makers
+    holds_note flow sources L c.args.self.now c.note.new.self cs c.args.path.now None c.note.ensures.jobs c.note.ensures.befores c.note.ensures.texts c.in_ok-note.ensures.done c.in_ok-note.ensures.told
     (done_source flow sources L cs c.args.path.now e) h
