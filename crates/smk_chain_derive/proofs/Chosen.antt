@@ -1,6 +1,7 @@
 -- What holds of the jobs that are chosen for targets: each has an output, and a binding with no name twice.
 use Rattle.std.proofs.Common.{◌≡◌, ℕ, zero, suc, List, [], ◌∷◌, ◌++◌, filter, Option, Some, None, option_map, refl, ap}
 use Rattle.std.specs.List.{flat_map, filter_map, cons_option, AllByRecursion}
+use Rattle.smk_chain_walk.proofs.Numbers.{all_distinct}
 use Rattle.smk_base.specs.declared.tree.Pair.{Pair}
 use Rattle.smk_world.specs.World.{folders_above}
 use Rattle.smk_world.specs.Trees.{Path, first}
@@ -10,9 +11,9 @@ use Rattle.smk_flow.specs.declared.rule.FlaggedText.{FlaggedText}
 use Rattle.smk_flow.specs.Flows.{Flow, Candidate, outs, makes_folder, numbered}
 use Rattle.smk_choose.specs.Choose.{Sources, Choice, Source, Make, Nothing, Ambiguous, candidate, fit, as_member, as_output, or_else, is_apart, choose, maker}
 use Rattle.smk_choose.proofs.Picked.{chosen_candidate}
-use Rattle.smk_choose.proofs.Listed.{all_filter}
+use Rattle.smk_choose.proofs.Listed.{all_filter, all_append}
 use Rattle.smk_chain.specs.Derive.{Listings, wants, walk, chosen, same_candidate}
-use Rattle.smk_chain_derive.proofs.Lists.{OnSome, all_append, all_flat, all_found, all_distinct}
+use Rattle.smk_chain_derive.proofs.Lists.{OnSome, all_flat, all_found}
 use Rattle.smk_chain_derive.proofs.Ordered.{NamesApart, binding_apart}
 
 -- a binding by one of these outputs

@@ -1,18 +1,14 @@
 -- What holds of all elements of lists.
-use Rattle.std.proofs.Common.{◌≡◌, Bool, true, false, cond, not, eqb-true, ℕ, List, [], ◌∷◌, ◌++◌, map, filter, Option, Some, None, refl, sym, subst}
+use Rattle.std.proofs.Common.{◌≡◌, Bool, true, false, cond, not, eqb-true, ℕ, List, [], ◌∷◌, map, filter, Option, Some, None, refl, sym, subst}
 use Rattle.std.specs.Prelude.{nat_eq}
 use Rattle.std.specs.List.{flat_map, filter_map, cons_option, AllByRecursion}
 use Rattle.smk_chain.specs.Derive.{distinct}
-use Rattle.smk_choose.proofs.Listed.{all_filter}
+use Rattle.smk_choose.proofs.Listed.{all_append}
 
 -- what there is has P
 abbrev pub OnSome : {A : Type 0} → (A → Type 0) → Option A → Type 0
 OnSome P None = Unit {0}
 OnSome P (Some x) = P x
-
-pub all_append : {A : Type 0} (P : A → Type 0) (xs ys : List A) → AllByRecursion P xs → AllByRecursion P ys → AllByRecursion P (xs ++ ys)
-all_append P [] ys a b = b
-all_append P (x ∷ xs) ys a b = (a.0, all_append P xs ys a.1 b)
 
 pub all_flat : {A B : Type 0} (P : B → Type 0) (f : A → List B) → ((x : A) → AllByRecursion P (f x)) → (xs : List A) → AllByRecursion P (flat_map f xs)
 all_flat P f h [] = tt
@@ -25,10 +21,6 @@ all_found {A} {B} P f h (x ∷ xs) = go (f x) (h x) (all_found P f h xs)
     go : (o : Option B) → OnSome P o → AllByRecursion P (filter_map f xs) → AllByRecursion P (cons_option o (filter_map f xs))
     go None p rest = rest
     go (Some y) p rest = (p, rest)
-
-pub all_distinct : {A : Type 0} (P : A → Type 0) (same : A → A → Bool) (xs : List A) → AllByRecursion P xs → AllByRecursion P (distinct same xs)
-all_distinct P same [] h = tt
-all_distinct P same (x ∷ xs) h = (h.0, all_filter P (λ y. not (same x y)) (distinct same xs) (all_distinct P same xs h.1))
 
 -- what is found has P
 pub of_found : {A B : Type 0} (P : B → Type 0) (f : A → Option B) (xs : List A) → AllByRecursion P (filter_map f xs) → AllByRecursion (λ x. OnSome P (f x)) xs

@@ -2,6 +2,7 @@
 use Rattle.std.proofs.Common.{◌≡◌, ◌==◌, Bool, true, false, cond, List, [], ◌∷◌, ◌++◌, map, filter, Some, None, option_map, refl, sym, ap, ◌∙◌}
 use Rattle.std.specs.Prelude.{Result, Ok, Err, IfOk}
 use Rattle.std.specs.List.{find, flat_map, AllByRecursion}
+use Rattle.smk_chain_walk.proofs.Visiting.{first_more}
 use Rattle.smk_world.specs.Trees.{Path, first}
 use Rattle.smk_flow.specs.Flows.{Flow}
 use Rattle.smk_choose.specs.Choose.{Sources}
@@ -17,10 +18,6 @@ if_three (Ok x) P Q R S f p q s = f x p q s
 if_three (Err e) P Q R S f p q s = tt
 
 -- ## The first of some refusals
-
-pub told_front : (flow : Flow) (xs ys : List Refusal) (f : ChainFault) → first_told flow xs ≡ Some f → first_told flow (xs ++ ys) ≡ Some f
-told_front flow [] ys f e = absurd (cc)
-told_front flow (x ∷ xs) ys f e = e
 
 pub told_of : (flow : Flow) (r : Refusal) (xs : List Refusal) → Some r ≡ first xs → first_told flow xs ≡ told_refusal flow r
 told_of flow r [] e = absurd (cc)
@@ -65,7 +62,7 @@ module _ (flow : Flow) (sources : Sources) (image : Image) (L : Listings) (targe
   pub deep_told : (p : Path) → Some p ≡ find (λ (q : Path). height flow sources L 201 q == 201) targets →
       TellsFirst flow (job_refusals flow sources image L targets) (told.Deep p)
   deep_told p e = λ _.
-      told_front flow (map Deep (filter deep targets)) (flat_map (refused flow sources L 201) targets ++ all_clashes) (told.Deep p)
+      first_more flow (map Deep (filter deep targets)) (flat_map (refused flow sources L 201) targets ++ all_clashes) (told.Deep p)
       (told_of flow (Deep p) (map Deep (filter deep targets)) (first_kept deep targets p e))
 
   shallow_are : AllByRecursion (λ t. (height flow sources L 201 t == 201) ≡ false) targets →
@@ -76,7 +73,7 @@ module _ (flow : Flow) (sources : Sources) (image : Image) (L : Listings) (targe
   pub walk_told : (f : ChainFault) → AllByRecursion (λ t. (height flow sources L 201 t == 201) ≡ false) targets →
       TellsFirst flow (flat_map (refused flow sources L 201) targets) f → TellsFirst flow (job_refusals flow sources image L targets) f
   walk_told f all tells = λ not.
-      ap (first_told flow) (shallow_are all) ∙ told_front flow (flat_map (refused flow sources L 201) targets) all_clashes f (tells not)
+      ap (first_told flow) (shallow_are all) ∙ first_more flow (flat_map (refused flow sources L 201) targets) all_clashes f (tells not)
 
   walked_are : AllByRecursion (λ t. (height flow sources L 201 t == 201) ≡ false) targets → flat_map (refused flow sources L 201) targets ≡ [] →
       job_refusals flow sources image L targets ≡ all_clashes

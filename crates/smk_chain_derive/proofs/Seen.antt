@@ -9,6 +9,8 @@ use Rattle.std.specs.declared.cmp.Ordering.{Ordering}
 use Rattle.std.specs.declared.cmp.Ordering.TheVariants.{Less, Equal, Greater}
 use Rattle.std.proofs.lemmas.List.{drop_at}
 use Rattle.std.proofs.lemmas.Map.Text.{is_eq-slice_cmp}
+use Rattle.std.specs.Cmp.{both_ways}
+use Rattle.smk_choose.proofs.Indexed.{or_swap}
 use Rattle.smk_base.specs.Path.{parts, to_first}
 use Rattle.smk_base.specs.Place.{joined_name, name_of, record_place, mark_place, note_place}
 use Rattle.smk_base.proofs.Apart.{no_slashes, with_slashes, parts_no_slash, parts_joined}
@@ -86,11 +88,6 @@ twice : (a x : Bool) → (a || x) ≡ (a || (a || x))
 twice true x = refl
 twice false x = refl
 
-swap : (a b c : Bool) → (a || (b || c)) ≡ (b || (a || c))
-swap true true c = refl
-swap true false c = refl
-swap false b c = refl
-
 added : (r q : Path) (ps : List Path) → among (add_name q ps) r ≡ (bytes_eq r q || among ps r)
 added r q [] = refl
 added r q (p ∷ ps) = placed (slice_cmp nat_cmp q p) refl (added r q ps)
@@ -99,7 +96,7 @@ added r q (p ∷ ps) = placed (slice_cmp nat_cmp q p) refl (added r q ps)
     placed Less e more = refl
     placed Equal e more =
         twice (bytes_eq r p) (among ps r) ∙ ap (λ t. bytes_eq r t || (bytes_eq r p || among ps r)) (sym (same_place q p (sym (is_eq-slice_cmp q p) ∙ ap is_eq e)))
-    placed Greater e more = ap (λ b. bytes_eq r p || b) more ∙ swap (bytes_eq r p) (bytes_eq r q) (among ps r)
+    placed Greater e more = ap (λ b. bytes_eq r p || b) more ∙ or_swap (bytes_eq r p) (bytes_eq r q) (among ps r)
 
 all_added : (r : Path) (qs : List Path) → among (add_names qs []) r ≡ among qs r
 all_added r [] = refl
@@ -124,11 +121,6 @@ among_both (x ∷ xs) ys q = ap (λ b. bytes_eq q x || b) (among_both xs ys q) �
     joined : (a b c : Bool) → (a || (b || c)) ≡ ((a || b) || c)
     joined true b c = refl
     joined false b c = refl
-
-same_bool : (a b : Bool) → (a ≡ true → b ≡ true) → (b ≡ true → a ≡ true) → a ≡ b
-same_bool true b f g = sym (f refl)
-same_bool false true f g = g refl
-same_bool false false f g = refl
 
 record ToldBy (stood : Path → Bool) (q : Path) : Type 0 where
   place : Path
@@ -230,6 +222,6 @@ module _ (w : World) (formed : IsFormed w) where
       each : (q : Path) → among (seen read w).known q ≡ is_known (seen read w) q
       each q =
           all_added q (flat_map known_by (filter stood w.names))
-          ∙ same_bool (among (flat_map known_by (filter stood w.names)) q) (has_sign q) (λ h. sign_of q (teller stood q w.names h)) (told_of_sign q)
+          ∙ both_ways (among (flat_map known_by (filter stood w.names)) q) (has_sign q) (λ h. sign_of q (teller stood q w.names h)) (told_of_sign q)
           ∙ known_signs (is_path_text q) (stood (record_place q)) (stood (mark_place q)) (stood (note_place q)) (kept_by read q (reading (w.nodes (record_place q))))
           (λ path. kept_stands read q (reading (w.nodes (record_place q))))

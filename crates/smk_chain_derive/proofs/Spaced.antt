@@ -1,8 +1,9 @@
 -- Where no two spots clash, the outputs and logs of each job lie apart.
-use Rattle.std.proofs.Common.{◌≡◌, ◌∙◌, Bool, true, false, cond, not, ◌||◌, List, [], ◌∷◌, ◌++◌, map, filter, refl, ap, ap₂, subst, append_assoc}
+use Rattle.std.proofs.Common.{◌≡◌, ◌∙◌, Bool, true, false, cond, not, List, [], ◌∷◌, ◌++◌, map, filter, refl, ap, ap₂, subst, append_assoc}
 use Rattle.std.specs.List.{flat_map, list_any}
 use Rattle.std.proofs.lemmas.List.{map-append}
-use Rattle.std.proofs.lemmas.Bool.{or_from}
+use Rattle.std.proofs.lemmas.Bool.{or_from, or_parts}
+use Rattle.std.proofs.Math.Bool.{or_comm}
 use Rattle.smk_base.specs.Path.{overlaps, is_under}
 use Rattle.smk_base.proofs.Places.{and_first, and_second, same_flipped}
 use Rattle.smk_base.proofs.Under.{both_true, false_of_not}
@@ -19,22 +20,8 @@ use Rattle.smk_chain_walk.proofs.Depths.{front_nil, back_nil}
 abbrev Spot : Type 0
 Spot = Path × Bool
 
-or_turned : (a b : Bool) → (a || b) ≡ (b || a)
-or_turned true true = refl
-or_turned true false = refl
-or_turned false true = refl
-or_turned false false = refl
-
 overlaps_turned : (p q : Path) → overlaps p q ≡ overlaps q p
-overlaps_turned p q = ap₂ ◌||◌ (same_flipped p q) (or_turned (is_under p q) (is_under q p))
-
-first_not : (a b : Bool) → (a || b) ≡ false → a ≡ false
-first_not true b h = h
-first_not false b h = refl
-
-second_not : (a b : Bool) → (a || b) ≡ false → b ≡ false
-second_not true b h = absurd cc
-second_not false b h = h
+overlaps_turned p q = ap₂ ◌||◌ (same_flipped p q) (or_comm (is_under p q) (is_under q p))
 
 none_at : (test : Path → Bool) (before : List Path) (p : Path) (after : List Path) → filter test (before ++ p ∷ after) ≡ [] → test p ≡ false
 none_at test [] p after h = go (test p) h
@@ -76,7 +63,7 @@ spots_apart store earlier (s ∷ ss) h =
 any_front : (test : Path → Bool) (xs ys : List Path) → list_any test (xs ++ ys) ≡ false → list_any test xs ≡ false
 any_front test [] ys h = refl
 any_front test (x ∷ xs) ys h =
-    or_from (test x) (list_any test xs) (first_not (test x) (list_any test (xs ++ ys)) h) (any_front test xs ys (second_not (test x) (list_any test (xs ++ ys)) h))
+    or_from (test x) (list_any test xs) (or_parts (test x) (list_any test (xs ++ ys)) h).0 (any_front test xs ys (or_parts (test x) (list_any test (xs ++ ys)) h).1)
 
 front_apart : (xs ys : List Path) → are_apart (xs ++ ys) ≡ true → are_apart xs ≡ true
 front_apart [] ys h = refl

@@ -3,7 +3,7 @@ use Rattle.std.proofs.Common.{◌≡◌, ◌∙◌, ℕ, suc, eqb, eqb-true, Boo
 use Rattle.std.specs.Prelude.{bytes_eq}
 use Rattle.std.specs.List.{list_any, AllByRecursion}
 use Rattle.std.proofs.lemmas.Slice.Eq.{bytes_eq-Decides}
-use Rattle.std.proofs.lemmas.Bool.{or_right}
+use Rattle.std.proofs.lemmas.Bool.{or_right, eq-eqb}
 use lib.Pointwise.{pointwise}
 use Rattle.smk_base.specs.declared.tree.Pair.{Pair}
 use Rattle.smk_base.proofs.Places.{and_first, and_second}
@@ -32,11 +32,8 @@ pairs_own [] = refl
 pairs_own (x ∷ xs) =
     both_true (same_pair x x) (pointwise same_pair xs xs) (both_true (bytes_eq x.name x.name) (bytes_eq x.value x.value) ((bytes_eq-Decides x.name x.name).1 refl) ((bytes_eq-Decides x.value x.value).1 refl)) (pairs_own xs)
 
-eqb_own : (n : ℕ) → eqb n n ≡ true
-eqb_own n = grind arith
-
 pub is_its_job : (c : Candidate) → is_job (making c) c ≡ true
-is_its_job c = both_true (eqb c.rule c.rule) (pointwise same_pair c.binding c.binding) (eqb_own c.rule) (pairs_own c.binding)
+is_its_job c = both_true (eqb c.rule c.rule) (pointwise same_pair c.binding c.binding) (eq-eqb c.rule c.rule refl) (pairs_own c.binding)
 
 pub job_is : (m : Making) (c : Candidate) → is_job m c ≡ true → making c ≡ m
 job_is m c h =
@@ -105,10 +102,6 @@ any_push f (y ∷ xs) x = ap (λ b. f y || b) (any_push f xs x) ∙ sym (or_asso
     or_assoc : (a b c : Bool) → (a || b) || c ≡ a || (b || c)
     or_assoc true b c = refl
     or_assoc false b c = refl
-
-or_left : (a b : Bool) → a ≡ true → a || b ≡ true
-or_left true b e = refl
-or_left false b e = absurd (true≢false (sym e))
 
 pub place_added : (cs : List Candidate) (c : Candidate) (m : Making) (n : ℕ) → place_of cs m ≡ Some n → place_of (added cs c) m ≡ Some n
 place_added cs c m n e = go (has cs c)

@@ -1,11 +1,11 @@
 -- What is kept of a walk stays right as jobs and paths are added.
-use Rattle.std.proofs.Common.{◌≡◌, ◌∙◌, ℕ, suc, ◌+◌, ◌<◌, Bool, true, false, cond, List, [], ◌∷◌, ◌++◌, map, length, Option, Some, None, Result, Ok, Err, IfOk, OnOk, refl, sym, ap, ap₂, subst, arith, true≢false, String, string_bytes, length-append}
+use Rattle.std.proofs.Common.{◌≡◌, ◌∙◌, ℕ, ◌+◌, ◌<◌, Bool, true, false, cond, List, [], ◌∷◌, ◌++◌, map, length, Option, Some, None, Result, Ok, Err, IfOk, OnOk, refl, sym, ap, ap₂, subst, arith, true≢false, String, string_bytes, length-append}
 use Rattle.std.specs.Prelude.{bytes_eq, nat_eq, is_some, position}
 use Rattle.std.specs.declared.alloc.Global.{Global}
 use Rattle.std.specs.List.{filter_map, AllByRecursion}
 use Rattle.smk_pattern.specs.Shapes.{Text}
 use Rattle.std.proofs.lemmas.Slice.Eq.{bytes_eq-Decides}
-use Rattle.std.proofs.lemmas.List.{map_push}
+use Rattle.std.proofs.lemmas.List.{map_push, length-map}
 use Rattle.smk_world.specs.Trees.{Path}
 use Rattle.smk_flow.specs.Flows.{Flow, Candidate}
 use Rattle.smk_choose.specs.declared.choice.Making.{Making}
@@ -26,10 +26,6 @@ use Rattle.smk_chain_walk.proofs.Adding.{is_its_job, job_is, or_place, place_if,
 all_last : {A : Type 0} (P : A → Type 0) (xs : List A) (x : A) → AllByRecursion P (xs ++ x ∷ []) → P x
 all_last P [] x h = h.0
 all_last P (y ∷ xs) x h = all_last P xs x h.1
-
-length_map : {A B : Type 0} (f : A → B) (xs : List A) → length (map f xs) ≡ length xs
-length_map f [] = refl
-length_map f (x ∷ xs) = ap suc (length_map f xs)
 
 map_same : {A B : Type 0} (f g : A → B) (xs : List A) → AllByRecursion (λ x. f x ≡ g x) xs → map f xs ≡ map g xs
 map_same f g [] e = refl
@@ -194,7 +190,7 @@ module _ (flow : Flow) (sources : Sources) (L : Listings) where
       low = all_low (λ k. k < length cs) (number_for flow sources L cs) (λ w k e. number_low cs w k e) (wants flow L c)
 
       long_befores : length old.befores ≡ length cs
-      long_befores = ap length h.befores ∙ length_map (befores_of flow sources L cs) cs
+      long_befores = ap length h.befores ∙ length-map cs (befores_of flow sources L cs)
 
       still : (d : Candidate) → AllByRecursion (λ (w : Text). is_done old w ≡ true) (wants flow L d) → AllByRecursion (λ (w : Text). is_done new w ≡ true) (wants flow L d)
       still d all = all_map (λ (w : Text). is_done old w ≡ true) (λ (w : Text). is_done new w ≡ true) (λ w e. ap is_some (done w) ∙ e) (wants flow L d) all

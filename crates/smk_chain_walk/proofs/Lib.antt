@@ -1,11 +1,11 @@
 pub mod Depths
 mod Apart
 pub mod Adding
-mod Numbers
+pub mod Numbers
 mod Links
 mod Placed
 mod Keeping
-mod Visiting
+pub mod Visiting
 mod Missing
 mod RuleAt
 mod Taken

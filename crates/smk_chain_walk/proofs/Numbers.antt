@@ -60,7 +60,7 @@ filter_push {A} {B} f (y ∷ xs) x = go (f y) (filter_push f xs x)
     go None rest = rest
     go (Some b) rest = ap (λ bs. b ∷ bs) rest
 
-all_distinct : {A : Type 0} (P : A → Type 0) (same : A → A → Bool) (xs : List A) → AllByRecursion P xs → AllByRecursion P (distinct same xs)
+pub all_distinct : {A : Type 0} (P : A → Type 0) (same : A → A → Bool) (xs : List A) → AllByRecursion P xs → AllByRecursion P (distinct same xs)
 all_distinct P same [] h = tt
 all_distinct P same (x ∷ xs) h = (h.0, all_filter P (λ y. not (same x y)) (distinct same xs) (all_distinct P same xs h.1))
 

@@ -3,14 +3,13 @@ use Rattle.std.proofs.Common.{◌≡◌, ◌∙◌, ℕ, Bool, true, false, cond
 use Rattle.std.specs.Prelude.{slice_get}
 use Rattle.std.specs.List.{flat_map, find, filter_map, cons_option}
 use Rattle.std.specs.Result.{IsErrAnd}
-use Rattle.std.proofs.lemmas.Option.{none-some}
+use Rattle.std.proofs.lemmas.Option.{none-some, same_Some}
 use Rattle.smk_base.specs.Path.{is_path, is_under}
 use Rattle.smk_world.specs.declared.recipe.Out.{Out}
 use Rattle.smk_world.specs.Trees.{Path, is_folder_kind}
 use Rattle.smk_pattern.specs.Shapes.{Text}
 use Rattle.smk_flow.specs.declared.rule.RulePart.{RulePart}
 use Rattle.smk_flow.specs.Flows.{Flow, Candidate}
-use Rattle.smk_choose.specs.declared.choice.Chosen.{Chosen}
 use Rattle.smk_choose.specs.declared.choice.Chosen.TheVariants as told
 use Rattle.smk_choose.specs.declared.choice.Making.{Making}
 use Rattle.smk_choose.specs.Choose.{Choice, Source, Make, Nothing, Ambiguous}
@@ -20,26 +19,20 @@ use Rattle.smk_choose_wants.specs.declared.wanted.Want.TheVariants as want
 use Rattle.smk_choose_wants.specs.Wants.{want_of}
 use Rattle.smk_chain_walk.specs.Stepping.{over_in, path_in, text_in}
 
-some_is : (x y : RulePart) → Some x ≡ Some y → x ≡ y
-some_is x y e = cc
-
 pub part_taken : (flow : Flow) (m : Making) (c : Candidate) (part : RulePart) → Some part ≡ slice_get flow.rules m.rule → m ≡ making c → slice_get flow.rules c.rule ≡ Some c.part → part ≡ c.part
-part_taken flow m c part at is placed = some_is part c.part (at ∙ ap (λ (x : Making). slice_get flow.rules x.rule) is ∙ placed)
+part_taken flow m c part at is placed = same_Some part c.part (at ∙ ap (λ (x : Making). slice_get flow.rules x.rule) is ∙ placed)
 
 pub none_taken : (flow : Flow) (m : Making) (c : Candidate) → None ≡ slice_get flow.rules m.rule → m ≡ making c → slice_get flow.rules c.rule ≡ Some c.part → ⊥
 none_taken flow m c at is placed = none-some c.part (at ∙ ap (λ (x : Making). slice_get flow.rules x.rule) is ∙ placed)
 
 -- ---- choices
 
-chosen_is : (x y : Chosen) → Some x ≡ Some y → x ≡ y
-chosen_is x y e = cc
-
 making_is : (x y : Making) → told.Make x ≡ told.Make y → x ≡ y
 making_is x y e = cc
 
 pub made_taken : (ch : Choice) (m : Making) → Some (told.Make m) ≡ Some (told_choice ch) → (c : Candidate) × (ch ≡ Make c) × (m ≡ making c)
 made_taken Source m e = absurd cc
-made_taken (Make c) m e = (c, refl, making_is m (making c) (chosen_is (told.Make m) (told.Make (making c)) e))
+made_taken (Make c) m e = (c, refl, making_is m (making c) (same_Some (told.Make m) (told.Make (making c)) e))
 made_taken (Nothing l) m e = absurd cc
 made_taken (Ambiguous a b) m e = absurd cc
 

@@ -20,7 +20,7 @@ use Rattle.smk_chain_walk.proofs.Adding.{all_there, all_added_append, all_added_
 
 -- ---- faults
 
-first_more : (flow : Flow) (rs more : List Refusal) (f : ChainFault) → first_told flow rs ≡ Some f → first_told flow (rs ++ more) ≡ Some f
+pub first_more : (flow : Flow) (rs more : List Refusal) (f : ChainFault) → first_told flow rs ≡ Some f → first_told flow (rs ++ more) ≡ Some f
 first_more flow [] more f e = absurd cc
 first_more flow (r ∷ rs) more f e = e
 

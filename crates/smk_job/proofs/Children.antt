@@ -1,5 +1,5 @@
 -- Calls that neither start a child nor wait for one leave the children as they are.
-use Rattle.std.proofs.Common.{◌≡◌, Bool, true, false, List, [], ◌∷◌, ◌++◌, refl, ap, ◌∙◌}
+use Rattle.std.proofs.Common.{◌≡◌, Bool, true, false, List, [], ◌∷◌, ◌++◌, refl, ap, ◌∙◌, true≢false}
 use Rattle.smk_world.specs.declared.event.Call.{Call}
 use Rattle.smk_world.specs.declared.event.Call.TheVariants.{Looked, ReadFile, ReadFolder, Written, Created, Removed, MadeParents, Settled, Protected, Started, Waited}
 use Rattle.smk_world.specs.declared.event.Child.{Child}
@@ -12,9 +12,6 @@ use Rattle.smk_world.specs.Trees.{Path, Each}
 use Rattle.smk_store.specs.declared.places.JobPlaces.{JobPlaces}
 use Rattle.smk_store.specs.Steps.{make_each, remove_each, write_each, mark_requests, drop_requests}
 use Rattle.smk_job.specs.Jobs.{parents_each, clear_requests, put_all_requests, drop_all_requests}
-
-true_false : true ≡ false → ⊥
-true_false e = cc
 
 abbrev pub is_crew : Request → Bool
 is_crew (Start recipe logs command) = true
@@ -34,8 +31,8 @@ children_by (Removed p r) cs h = refl
 children_by (MadeParents p r) cs h = refl
 children_by (Settled ps r) cs h = refl
 children_by (Protected p r) cs h = refl
-children_by (Started recipe logs command r) cs h = absurd (true_false h)
-children_by (Waited r) cs h = absurd (true_false h)
+children_by (Started recipe logs command r) cs h = absurd (true≢false h)
+children_by (Waited r) cs h = absurd (true≢false h)
 
 pub done_children : (rs : List Request) (w : World) (es : List Event) → AreFiles rs → HasDone rs es → (run w es).children ≡ w.children
 done_children [] w [] k h = refl

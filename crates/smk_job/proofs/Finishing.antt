@@ -1,7 +1,8 @@
 -- A job whose outputs are files is kept or abandoned by what stands at them.
-use Rattle.std.proofs.Common.{◌≡◌, ◌≢◌, ◌⊎◌, inl, inr, ℕ, Bool, true, false, ◌||◌, List, [], ◌∷◌, ◌++◌, map, refl, sym, ap, subst, ◌∙◌, Option, Some, None, Result, Ok, Err, filter}
+use Rattle.std.proofs.Common.{◌≡◌, ◌≢◌, ◌⊎◌, inl, inr, ℕ, Bool, true, false, ◌||◌, List, [], ◌∷◌, ◌++◌, map, refl, sym, ap, subst, ◌∙◌, Option, Some, None, Result, Ok, Err, filter, true≢false}
 use Rattle.std.specs.Prelude.{is_err, not, if◌then◌else◌}
 use Rattle.std.specs.List.{list_any}
+use Rattle.std.proofs.lemmas.Bool.{or_left, or_right, or_parts}
 use Rattle.smk_base.specs.Path.{is_at_or_under, overlaps}
 use Rattle.smk_base.proofs.Under.{never_both, or_cases, overlaps_above_both}
 use Rattle.smk_world.specs.declared.event.Child.{Child}
@@ -26,9 +27,6 @@ use Rattle.smk_job.specs.Sights.{Nodes, AreKnown, AreSeen, IsSeenWrong, IsBlind,
 use Rattle.smk_job.proofs.Acts.{acted_in}
 use Rattle.smk_job.proofs.Outs.{paths_same}
 
-true_false : true ≡ false → ⊥
-true_false e = cc
-
 -- ## After the looks
 
 -- the looks, and then these calls: all of them, or up to one that failed
@@ -41,7 +39,7 @@ seen_then act outs P rs a b c f before now =
 module _ (act : Act) (outs : List Out) (places : JobPlaces) (records : List (List ℕ)) where
   -- a look failed
   pub settled_blindly : (a b : Device) (f : Failed) (r : Result (Option (ℕ × Wrong)) Failed) → is_err r ≡ true → HasActed act (HasSeenFiles outs (Err f)) a b true → HasActed act (HasSettledFiles outs places records r) a b (is_err r)
-  settled_blindly a b f (Ok x) bad h = absurd (true_false (sym bad))
+  settled_blindly a b f (Ok x) bad h = absurd (true≢false (sym bad))
   settled_blindly a b f (Err e) bad h = acted_as act (HasSeenFiles outs (Err f)) (HasSettledFiles outs places records (Err e)) a b true true refl (λ w es blind known. inl (blind known)) h
 
   -- all were files
@@ -52,7 +50,7 @@ module _ (act : Act) (outs : List Out) (places : JobPlaces) (records : List (Lis
 
   pub settled_uncut : (a b c : Device) (found : Option (ℕ × Wrong)) (r : Result (Option (ℕ × Wrong)) Failed) → found ≡ None → is_err r ≡ true
       → HasActed act (HasSeenFiles outs (Ok found)) a b false → HasCarried act (keep_requests places records) b c true → HasActed act (HasSettledFiles outs places records r) a c (is_err r)
-  settled_uncut a b c found (Ok x) is bad before now = absurd (true_false (sym bad))
+  settled_uncut a b c found (Ok x) is bad before now = absurd (true≢false (sym bad))
   settled_uncut a b c found (Err e) is bad before now =
       acted_as act (λ w es. AreKnown w.nodes outs → HasSeen (AreSeen w.nodes outs (nones outs)) (IsCutShort (keep_requests places records)) es) (HasSettledFiles outs places records (Err e)) a c true true refl
       (λ w es h known. inr (inl (h known)))
@@ -66,7 +64,7 @@ module _ (act : Act) (outs : List Out) (places : JobPlaces) (records : List (Lis
 
   pub settled_lost : (a b c : Device) (found : Option (ℕ × Wrong)) (at : ℕ × Wrong) (r : Result (Option (ℕ × Wrong)) Failed) → found ≡ Some at → is_err r ≡ true
       → HasActed act (HasSeenFiles outs (Ok found)) a b false → HasCarried act (lose_requests places) b c true → HasActed act (HasSettledFiles outs places records r) a c (is_err r)
-  settled_lost a b c found (i, x) (Ok y) is bad before now = absurd (true_false (sym bad))
+  settled_lost a b c found (i, x) (Ok y) is bad before now = absurd (true≢false (sym bad))
   settled_lost a b c found (i, x) (Err e) is bad before now =
       acted_as act (λ w es. AreKnown w.nodes outs → HasSeen (IsSeenWrong w.nodes outs (wrong_fault x (path_at outs i))) (IsCutShort (lose_requests places)) es) (HasSettledFiles outs places records (Err e)) a c true true refl
       (λ w es h known. inr (inr (wrong_fault x (path_at outs i), h known)))
@@ -74,59 +72,43 @@ module _ (act : Act) (outs : List Out) (places : JobPlaces) (records : List (Lis
 
 -- ## Where no child uses an output, none owns what stands there
 
-or_one : (a b : Bool) → a ≡ true → (a || b) ≡ true
-or_one true b h = refl
-or_one false b h = absurd (true_false (sym h))
-
-or_two : (a b : Bool) → b ≡ true → (a || b) ≡ true
-or_two true b h = refl
-or_two false b h = h
-
 within_split : (q : Path) (ps qs : List Path) → is_within q (ps ++ qs) ≡ true → (is_within q ps ≡ true) ⊎ (is_within q qs ≡ true)
 within_split q [] qs h = inr h
 within_split q (x ∷ ps) qs h = elim (or_cases (is_at_or_under q x) (is_within q (ps ++ qs)) h) [
-  | inl e ↦ inl (or_one (is_at_or_under q x) (is_within q ps) e)
-  | inr m ↦ elim (within_split q ps qs m) [ inl l ↦ inl (or_two (is_at_or_under q x) (is_within q ps) l) | inr r ↦ inr r ]
+  | inl e ↦ inl (or_left (is_at_or_under q x) (is_within q ps) e)
+  | inr m ↦ elim (within_split q ps qs m) [ inl l ↦ inl (or_right (is_at_or_under q x) (is_within q ps) l) | inr r ↦ inr r ]
 ]
 
 any_left : (p : Path) (ps qs : List Path) → list_any (overlaps p) ps ≡ true → list_any (overlaps p) (ps ++ qs) ≡ true
-any_left p [] qs h = absurd (true_false (sym h))
+any_left p [] qs h = absurd (true≢false (sym h))
 any_left p (x ∷ ps) qs h = elim (or_cases (overlaps p x) (list_any (overlaps p) ps) h) [
-  | inl e ↦ or_one (overlaps p x) (list_any (overlaps p) (ps ++ qs)) e
-  | inr m ↦ or_two (overlaps p x) (list_any (overlaps p) (ps ++ qs)) (any_left p ps qs m)
+  | inl e ↦ or_left (overlaps p x) (list_any (overlaps p) (ps ++ qs)) e
+  | inr m ↦ or_right (overlaps p x) (list_any (overlaps p) (ps ++ qs)) (any_left p ps qs m)
 ]
 
 any_right : (p : Path) (ps qs : List Path) → list_any (overlaps p) qs ≡ true → list_any (overlaps p) (ps ++ qs) ≡ true
 any_right p [] qs h = h
-any_right p (x ∷ ps) qs h = or_two (overlaps p x) (list_any (overlaps p) (ps ++ qs)) (any_right p ps qs h)
+any_right p (x ∷ ps) qs h = or_right (overlaps p x) (list_any (overlaps p) (ps ++ qs)) (any_right p ps qs h)
 
 any_within : (p q : Path) → is_at_or_under q p ≡ true → (ps : List Path) → is_within q ps ≡ true → list_any (overlaps p) ps ≡ true
-any_within p q at [] h = absurd (true_false (sym h))
+any_within p q at [] h = absurd (true≢false (sym h))
 any_within p q at (x ∷ ps) h = elim (or_cases (is_at_or_under q x) (is_within q ps) h) [
-  | inl e ↦ or_one (overlaps p x) (list_any (overlaps p) ps) (overlaps_above_both q p x at e)
-  | inr m ↦ or_two (overlaps p x) (list_any (overlaps p) ps) (any_within p q at ps m)
+  | inl e ↦ or_left (overlaps p x) (list_any (overlaps p) ps) (overlaps_above_both q p x at e)
+  | inr m ↦ or_right (overlaps p x) (list_any (overlaps p) ps) (any_within p q at ps m)
 ]
 
 overlap_used : (cs : List Child) (p q : Path) → is_at_or_under q p ≡ true → is_within q (owned_now cs) ≡ true → list_any (overlaps p) (used_now cs) ≡ true
-overlap_used [] p q at within = absurd (true_false (sym within))
+overlap_used [] p q at within = absurd (true≢false (sym within))
 overlap_used (c ∷ cs) p q at within = elim (within_split q (owned_paths c.recipe c.logs) (owned_now cs) within) [
   | inl here ↦ any_left p (in_paths c.recipe ++ owned_paths c.recipe c.logs) (used_now cs) (any_right p (in_paths c.recipe) (owned_paths c.recipe c.logs) (any_within p q at (owned_paths c.recipe c.logs) here))
   | inr more ↦ any_right p (in_paths c.recipe ++ owned_paths c.recipe c.logs) (used_now cs) (overlap_used cs p q at more)
 ]
 
-or_left : (a b : Bool) → (a || b) ≡ false → a ≡ false
-or_left true b h = h
-or_left false b h = refl
-
-or_right : (a b : Bool) → (a || b) ≡ false → b ≡ false
-or_right true b h = cc
-or_right false b h = h
-
 known_each : (w : World) → HasOwners w → (outs : List Out) → any_overlap (map (λ (out : Out). out.path) outs) (used_now w.children) ≡ false → AreKnown w.nodes outs
 known_each w owners [] h = tt
 known_each w owners (o ∷ outs) h = (
-  λ q at owned. never_both (list_any (overlaps o.path) (used_now w.children)) (overlap_used w.children o.path q at (owners q owned)) (or_left (list_any (overlaps o.path) (used_now w.children)) (any_overlap (map (λ (out : Out). out.path) outs) (used_now w.children)) h),
-  known_each w owners outs (or_right (list_any (overlaps o.path) (used_now w.children)) (any_overlap (map (λ (out : Out). out.path) outs) (used_now w.children)) h),
+  λ q at owned. never_both (list_any (overlaps o.path) (used_now w.children)) (overlap_used w.children o.path q at (owners q owned)) (or_parts (list_any (overlaps o.path) (used_now w.children)) (any_overlap (map (λ (out : Out). out.path) outs) (used_now w.children)) h).0,
+  known_each w owners outs (or_parts (list_any (overlaps o.path) (used_now w.children)) (any_overlap (map (λ (out : Out). out.path) outs) (used_now w.children)) h).1,
 )
 
 pub known_outs : (w : World) (recipe : Recipe) (outs : List Out) → outs ≡ outs_of recipe → HasOwners w → LetsClose w recipe → AreKnown w.nodes outs
@@ -242,7 +224,7 @@ filtered o outs true more h = λ k. cc
 filtered o outs false more h = more h
 
 some_folders : (outs : List Out) → list_any is_folder_out outs ≡ true → map (λ (out : Out). out.path) (filter (λ (out : Out). is_folder_out out) outs) ≢ []
-some_folders [] h = absurd (true_false (sym h))
+some_folders [] h = absurd (true≢false (sym h))
 some_folders (o ∷ outs) h = filtered o outs (is_folder_out o) (some_folders outs) h
 
 pub has_folders : (recipe : Recipe) → list_any is_folder_out (outs_of recipe) ≡ true → folders_of recipe ≢ []

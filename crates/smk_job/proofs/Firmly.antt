@@ -1,5 +1,6 @@
 -- Once they are made and settled, the marks and notes are firm, and stay so while room is made for the outputs.
-use Rattle.std.proofs.Common.{◌≡◌, ◌⊎◌, inl, inr, cond, Bool, true, false, ◌||◌, List, [], ◌∷◌, ◌++◌, refl, sym, ap, subst, ◌∙◌, Some, None, bytes_eq, Ok, Err}
+use Rattle.std.proofs.Common.{◌≡◌, inl, inr, cond, Bool, true, false, ◌||◌, List, [], ◌∷◌, ◌++◌, refl, sym, ap, subst, ◌∙◌, Some, None, bytes_eq, Ok, Err, true≢false}
+use Rattle.std.proofs.lemmas.Bool.{cases_Bool}
 use Rattle.smk_base.specs.Path.{is_path, is_under, is_at_or_under}
 use Rattle.smk_base.specs.declared.tree.Tree.{Tree}
 use Rattle.smk_base.proofs.Places.{same_place}
@@ -22,13 +23,6 @@ use Rattle.smk_store.specs.declared.places.JobPlaces.{JobPlaces}
 use Rattle.smk_store.specs.Steps.{make_each, remove_each, mark_requests}
 use Rattle.smk_job.specs.Jobs.{parents_each, clear_requests, ReadUsers}
 use Rattle.smk_job.proofs.Single.{KeepsOff, Stepped, Reaches, step_keeps, IsKnown, step_known, created, settled_firm, firmly_some}
-
-true_false : true ≡ false → ⊥
-true_false e = cc
-
-bool_cases : (b : Bool) → (b ≡ true) ⊎ (b ≡ false)
-bool_cases true = inl refl
-bool_cases false = inr refl
 
 pub reaches_split : (act : Recipe → List Tree → Acted) (rs qs : List Request) (w v : World) → Reaches act (rs ++ qs) w v → (u : World) × Reaches act rs w u × Reaches act qs u v
 reaches_split act [] qs w v h = (w, refl, h)
@@ -53,7 +47,7 @@ parents_by (MadeParents x (Ok u)) left cs p q s is quiet there = there_if (is_un
     there_if true (Known None besides) h = absurd h
     there_if true (Known (Some n) besides) h = tt
     there_if false s h = h
-parents_by (MadeParents x (Err e)) left cs p q s is quiet there = absurd (true_false quiet)
+parents_by (MadeParents x (Err e)) left cs p q s is quiet there = absurd (true≢false quiet)
 parents_by (Looked x r) left cs p q s is quiet there = cc
 parents_by (ReadFile x limit r) left cs p q s is quiet there = cc
 parents_by (ReadFolder x r) left cs p q s is quiet there = cc
@@ -69,7 +63,7 @@ pub stands_parents : (act : Recipe → List Tree → Acted) (p q : Path) (w v : 
 stands_parents act p q w v st there = subst (λ x. Stands (x.nodes q)) (sym st.now) (parents_by st.event.call st.event.left w.children p q (w.nodes q) st.is st.quiet there)
 
 pub stands_created : (act : Recipe → List Tree → Acted) (p q : Path) (w v : World) → Stepped act (Create p) w v → Stands (w.nodes q) → Stands (v.nodes q)
-stands_created act p q w v st there = elim (bool_cases (bytes_eq q p)) [
+stands_created act p q w v st there = elim (cases_Bool (bytes_eq q p)) [
   | inl e ↦ subst (λ x. Stands (v.nodes x)) (sym (same_place q p e)) (created act p w v st (subst (λ x. IsKnown (w.nodes x)) (same_place q p e) (known_stands (w.nodes q) there)))
   | inr e ↦ subst Stands (sym (step_keeps act (Create p) w v q st e)) there
 ]
@@ -133,7 +127,7 @@ pub parents_off : (ps : List Path) (q : Path) → AreOff ps q → KeepsOff (pare
 parents_off [] q h = tt
 parents_off (p ∷ ps) q h = (h.0.under, parents_off ps q h.1)
 
-keeps_append : (rs qs : List Request) (q : Path) → KeepsOff rs q → KeepsOff qs q → KeepsOff (rs ++ qs) q
+pub keeps_append : (rs qs : List Request) (q : Path) → KeepsOff rs q → KeepsOff qs q → KeepsOff (rs ++ qs) q
 keeps_append [] qs q h k = k
 keeps_append (r ∷ rs) qs q h k = (h.0, keeps_append rs qs q h.1 k)
 
@@ -157,7 +151,7 @@ used_in (c ∷ cs) h =
     join (p ∷ ps) qs h k = (h.0, join ps qs h.1 k)
 
 never_within : (ps : List Path) (q : Path) → ((p : Path) → is_path p ≡ true → IsApart p q) → Each (λ p. is_path p ≡ true) ps → is_within q ps ≡ true → ⊥
-never_within [] q apart h within = true_false (sym within)
+never_within [] q apart h within = true≢false (sym within)
 never_within (p ∷ ps) q apart h within = elim (or_cases (is_at_or_under q p) (is_within q ps) within) [
   | inl at ↦ never_both (is_at_or_under q p) at (apart p h.0).at_or_over
   | inr more ↦ never_within ps q apart h.1 more

@@ -1,5 +1,5 @@
 -- Marked and with room made, a job's command may be started; and what the start answers.
-use Rattle.std.proofs.Common.{◌≡◌, ℕ, true, false, List, [], ◌∷◌, ◌++◌, map, refl, sym, ap, subst, ◌∙◌, All, Result, Ok, Err}
+use Rattle.std.proofs.Common.{◌≡◌, ℕ, true, false, List, [], ◌∷◌, ◌++◌, map, refl, sym, ap, subst, ◌∙◌, All, Result, Ok, Err, true≢false}
 use Rattle.std.specs.Prelude.{is_err}
 use Rattle.std.proofs.lemmas.List.{append-nil}
 use Rattle.std.proofs.lemmas.List.Elements.{All-nil, All-cons}
@@ -29,9 +29,6 @@ use Rattle.smk_job.proofs.Children.{AreFiles, is_crew, done_children, mark_files
 use Rattle.smk_job.proofs.Single.{IsKnown, Reaches, done_reaches}
 use Rattle.smk_job.proofs.Firmly.{reaches_split, reaches_keeps, IsFirmThere, marked_firm, clear_off, AreOff, known_own}
 use Rattle.smk_job.proofs.Starts.{started_acted, started_call}
-
-true_false : true ≡ false → ⊥
-true_false e = cc
 
 -- all calls before the start
 abbrev pub before_start : Recipe → List Path → List Request
@@ -109,7 +106,7 @@ may_start_told act recipe logs a b paths owners lets h w told =
 
 -- ## The start
 
-number_none : (call : Call) → is_crew (request call) ≡ false → started_number call ≡ []
+pub number_none : (call : Call) → is_crew (request call) ≡ false → started_number call ≡ []
 number_none (Looked p r) h = refl
 number_none (ReadFile p limit r) h = refl
 number_none (ReadFolder p r) h = refl
@@ -119,7 +116,7 @@ number_none (Removed p r) h = refl
 number_none (MadeParents p r) h = refl
 number_none (Settled ps r) h = refl
 number_none (Protected p r) h = refl
-number_none (Started recipe logs command r) h = absurd (true_false h)
+number_none (Started recipe logs command r) h = absurd (true≢false h)
 number_none (Waited r) h = refl
 
 -- the number of the last call
@@ -132,7 +129,7 @@ last_number (r ∷ rs) (d ∷ es) e n k h is =
 
 pub not_launched : (act : Act) (recipe : Recipe) (logs : List Path) (command : List ℕ) (r : Result ℕ Failed) (a b : Device)
     → is_err r ≡ true → HasCarried act (before_start recipe logs) a b true → HasStarted act (HasLaunched recipe logs command r) (started_child r) a b (is_err r)
-not_launched act recipe logs command (Ok n) a b failed h = absurd (true_false (sym failed))
+not_launched act recipe logs command (Ok n) a b failed h = absurd (true≢false (sym failed))
 not_launched act recipe logs command (Err e) a b failed h =
     started_acted act (HasLaunched recipe logs command (Err e)) a b true (carried_cut (Start recipe logs command ∷ []) h).acted
 

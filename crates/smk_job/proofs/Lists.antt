@@ -1,13 +1,11 @@
 -- What holds of each, what is so of none, and what stands in a list of paths.
-use Rattle.std.proofs.Common.{◌≡◌, inl, inr, Bool, true, false, ◌||◌, List, [], ◌∷◌, refl, sym, subst, arith, bytes_eq}
+use Rattle.std.proofs.Common.{◌≡◌, inl, inr, Bool, true, false, List, [], ◌∷◌, refl, sym, subst, arith, bytes_eq}
 use Rattle.std.specs.Prelude.{IsTrue}
 use Rattle.std.specs.List.{list_any}
+use Rattle.std.proofs.lemmas.Bool.{or_right, or_left}
 use Rattle.smk_base.proofs.Places.{place_itself}
 use Rattle.smk_world.specs.World.{is_named}
 use Rattle.smk_world.specs.Trees.{Path, IsIn, Each, among}
-
-true_false : true ≡ false → ⊥
-true_false e = cc
 
 -- of each, so of what is in it
 pub each_in : {A : Type 0} (P : A → Type 0) (xs : List A) (x : A) → Each P xs → IsIn xs x → P x
@@ -19,15 +17,7 @@ pub none_by : {A : Type 0} (t : A → Bool) (xs : List A) → ((x : A) → IsIn 
 none_by t [] h = refl
 none_by t (x ∷ xs) h = let a = h x (inl refl) in let b = none_by t xs (λ y i. h y (inr i)) in grind arith
 
-or_two : (a b : Bool) → b ≡ true → (a || b) ≡ true
-or_two true b h = refl
-or_two false b h = h
-
-or_one : (a b : Bool) → a ≡ true → (a || b) ≡ true
-or_one true b h = refl
-or_one false b h = absurd (true_false (sym h))
-
 pub among_by : (ps : List Path) (p : Path) → IsIn ps p → IsTrue (among ps p)
 among_by [] p i = absurd i
-among_by (x ∷ ps) p (inl e) = or_one (bytes_eq p x) (is_named p ps) (subst (λ y. bytes_eq p y ≡ true) e (place_itself p))
-among_by (x ∷ ps) p (inr i) = or_two (bytes_eq p x) (is_named p ps) (among_by ps p i)
+among_by (x ∷ ps) p (inl e) = or_left (bytes_eq p x) (is_named p ps) (subst (λ y. bytes_eq p y ≡ true) e (place_itself p))
+among_by (x ∷ ps) p (inr i) = or_right (bytes_eq p x) (is_named p ps) (among_by ps p i)

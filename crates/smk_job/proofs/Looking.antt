@@ -1,9 +1,11 @@
 -- Looks at outputs that are to be files, one after the other.
-use Rattle.std.proofs.Common.{◌≡◌, ℕ, zero, suc, ◌+◌, ◌<◌, ◌≤◌, Bool, true, false, ◌||◌, List, [], ◌∷◌, ◌++◌, map, length, take, drop, get_or, inl, inr, refl, sym, ap, subst, ◌∙◌, arith, append_assoc, Option, Some, None, Result, Ok, Err, drop-cons}
+use Rattle.std.proofs.Common.{◌≡◌, ℕ, zero, suc, ◌+◌, ◌<◌, ◌≤◌, true, false, List, [], ◌∷◌, ◌++◌, map, length, take, drop, get_or, inl, inr, refl, sym, ap, subst, ◌∙◌, arith, append_assoc, Option, Some, None, Result, Ok, Err, drop-cons, true≢false}
 use Rattle.std.specs.Prelude.{is_err}
 use Rattle.std.specs.List.{list_any}
 use Rattle.std.proofs.lemmas.List.{append-nil, take_more, take_all, take-append-drop}
 use Rattle.std.proofs.lemmas.List.Elements.{All-nil, All-cons}
+use Rattle.std.proofs.lemmas.Bool.{or_parts}
+use Rattle.std.proofs.lemmas.Option.{same_Some}
 use Rattle.smk_base.proofs.Under.{at_itself}
 use Rattle.smk_world.specs.declared.event.Call.TheVariants.{Looked}
 use Rattle.smk_world.specs.declared.event.Change.{Change}
@@ -70,25 +72,14 @@ around outs i out lt e = sym (take-append-drop i outs) ∙ ap (λ t. take i outs
 pub next : (outs : List Out) (i : ℕ) (out : Out) → i < length outs → out ≡ get_or outs i out → take (i + 1) outs ≡ take i outs ++ out ∷ []
 next outs i out lt e = take_more outs i out lt ∙ ap (λ o. take i outs ++ o ∷ []) (sym e)
 
-true_false : true ≡ false → ⊥
-true_false e = cc
-
-or_left : (a b : Bool) → (a || b) ≡ false → a ≡ false
-or_left true b h = h
-or_left false b h = refl
-
-or_right : (a b : Bool) → (a || b) ≡ false → b ≡ false
-or_right true b h = cc
-or_right false b h = h
-
 plain_kind : (k : Kind) → is_folder_kind k ≡ false → k ≡ Plain
 plain_kind Plain h = refl
 plain_kind Folder h = cc
 
 pub plain_at : (outs : List Out) (i : ℕ) (d : Out) → list_any is_folder_out outs ≡ false → i < length outs → (get_or outs i d).kind ≡ Plain
 plain_at [] i d h lt = absurd (omega arith)
-plain_at (o ∷ outs) zero d h lt = plain_kind o.kind (or_left (is_folder_out o) (list_any is_folder_out outs) h)
-plain_at (o ∷ outs) (suc i) d h lt = plain_at outs i d (or_right (is_folder_out o) (list_any is_folder_out outs) h) (omega arith)
+plain_at (o ∷ outs) zero d h lt = plain_kind o.kind (or_parts (is_folder_out o) (list_any is_folder_out outs) h).0
+plain_at (o ∷ outs) (suc i) d h lt = plain_at outs i d (or_parts (is_folder_out o) (list_any is_folder_out outs) h).1 (omega arith)
 
 pub known_at : (nodes : Nodes) (outs : List Out) (i : ℕ) (d : Out) → AreKnown nodes outs → i < length outs → nodes (get_or outs i d).path ≡ Owned → ⊥
 known_at nodes [] i d h lt = absurd (omega arith)
@@ -129,12 +120,9 @@ folder_wrong nodes p (Known None besides) e known is = cc
 folder_wrong nodes p (Known (Some Directory) besides) e known is = (refl, ap reads_folder e)
 folder_wrong nodes p (Known (Some (Regular bytes t r)) besides) e known is = cc
 
-some_same : (x y : Wrong) → Some x ≡ Some y → x ≡ y
-some_same x y e = cc
-
 pub plain_wrong : (nodes : Nodes) (p : Path) (s : Stat) (x : Wrong) → (nodes p ≡ Owned → ⊥) → StatIs s (nodes p) → wrong_of Plain s ≡ Some x → IsWrong nodes p Plain (wrong_fault x p)
-plain_wrong nodes p Nothing x known is wrong = subst (λ y. IsWrong nodes p Plain (wrong_fault y p)) (some_same Absent x wrong) (absent_wrong nodes p (nodes p) refl known is)
-plain_wrong nodes p FolderStat x known is wrong = subst (λ y. IsWrong nodes p Plain (wrong_fault y p)) (some_same OtherKind x wrong) (folder_wrong nodes p (nodes p) refl known is)
+plain_wrong nodes p Nothing x known is wrong = subst (λ y. IsWrong nodes p Plain (wrong_fault y p)) (same_Some Absent x wrong) (absent_wrong nodes p (nodes p) refl known is)
+plain_wrong nodes p FolderStat x known is wrong = subst (λ y. IsWrong nodes p Plain (wrong_fault y p)) (same_Some OtherKind x wrong) (folder_wrong nodes p (nodes p) refl known is)
 plain_wrong nodes p (File time read_only) x known is wrong = cc
 
 quiet_one : (e : Event) → failed e.call ≡ false → AreQuiet (e ∷ [])
@@ -185,7 +173,7 @@ module _ (act : Act) (outs : List Out) (i : ℕ) (out : Out) (p : Path) where
 
   pub looked_blindly : (a b c : Device) (f : Failed) (r : Result (Option (ℕ × Wrong)) Failed) → is_err r ≡ true → i < length outs → out ≡ get_or outs i out → p ≡ out.path
       → HasActed act (AreFilesSoFar outs (take i outs)) a b false → HasCalled act b c (Looked p (Err f)) → HasActed act (HasSeenFiles outs r) a c (is_err r)
-  looked_blindly a b c f (Ok x) bad lt e at before now = absurd (true_false (sym bad))
+  looked_blindly a b c f (Ok x) bad lt e at before now = absurd (true≢false (sym bad))
   looked_blindly a b c f (Err x) bad lt e at before now =
       acted_more act (AreFilesSoFar outs (take i outs)) (HasSeenFiles outs (Err x)) a b c (Looked p (Err f)) refl
       (λ w es left follows done lets known.

@@ -1,7 +1,8 @@
 -- Where running children leave room, the places of a job are unused.
-use Rattle.std.proofs.Common.{◌≡◌, Bool, true, false, ◌||◌, List, [], ◌∷◌, ◌++◌, map, refl, sym, ap, subst, All}
+use Rattle.std.proofs.Common.{◌≡◌, true, false, List, [], ◌∷◌, ◌++◌, map, refl, sym, ap, subst, All}
 use Rattle.std.specs.List.{list_any}
 use Rattle.std.proofs.lemmas.List.Elements.{All-nil, All-cons}
+use Rattle.std.proofs.lemmas.Bool.{or_from, or_parts}
 use Rattle.smk_base.specs.Path.{is_path, overlaps}
 use Rattle.smk_base.specs.Place.{record_place, mark_place}
 use Rattle.smk_base.proofs.Apart.{path-record, path-mark}
@@ -15,25 +16,13 @@ use Rattle.smk_store.specs.Steps.{AreUnused, places_of}
 use Rattle.smk_job.proofs.Lists.{each_in, none_by}
 use Rattle.smk_job.specs.Jobs.{Underway, LetsBegin, LetsClose, AreFree, ReadUsers}
 
-or_none : (a b : Bool) → a ≡ false → b ≡ false → (a || b) ≡ false
-or_none true b h k = h
-or_none false b h k = k
-
-or_left : (a b : Bool) → (a || b) ≡ false → a ≡ false
-or_left true b h = h
-or_left false b h = refl
-
-or_right : (a b : Bool) → (a || b) ≡ false → b ≡ false
-or_right true b h = cc
-or_right false b h = h
-
 -- none of these overlaps what is used
 pub each_unused : (w : World) (ps : List Path) → any_overlap ps (used_now w.children) ≡ false → All (IsUnused w) ps
 each_unused w [] h = All-nil (IsUnused w)
 each_unused w (p ∷ ps) h =
     let used = used_now w.children in
-    All-cons (IsUnused w) p ps (or_none (list_any (overlaps p) used) false (or_left (list_any (overlaps p) used) (any_overlap ps used) h) refl)
-    (each_unused w ps (or_right (list_any (overlaps p) used) (any_overlap ps used) h))
+    All-cons (IsUnused w) p ps (or_from (list_any (overlaps p) used) false (or_parts (list_any (overlaps p) used) (any_overlap ps used) h).0 refl)
+    (each_unused w ps (or_parts (list_any (overlaps p) used) (any_overlap ps used) h).1)
 
 -- the engine's own places overlap nothing that is used
 own_unused : (f : Path → Path) (w : World) → ((p q : Path) → is_path q ≡ true → overlaps (f p) q ≡ false) → ReadUsers w → (ps : List Path) → All (IsUnused w) (map f ps)
@@ -41,7 +30,7 @@ own_unused f w apart users [] = All-nil (IsUnused w)
 own_unused f w apart users (p ∷ ps) =
     let used = used_now w.children in
     All-cons (IsUnused w) (f p) (map f ps)
-    (or_none (list_any (overlaps (f p)) used) false (none_by (overlaps (f p)) used (λ q i. apart p q (each_in (λ x. is_path x ≡ true) used q users i))) refl)
+    (or_from (list_any (overlaps (f p)) used) false (none_by (overlaps (f p)) used (λ q i. apart p q (each_in (λ x. is_path x ≡ true) used q users i))) refl)
     (own_unused f w apart users ps)
 
 pub records_unused : (w : World) → ReadUsers w → (ps : List Path) → All (IsUnused w) (map record_place ps)
@@ -55,8 +44,8 @@ marks_unused w users ps = own_unused mark_place w (λ p q h. (path-mark q p h).o
 overlap_first : (ps qs used : List Path) → any_overlap (ps ++ qs) used ≡ false → any_overlap ps used ≡ false
 overlap_first [] qs used h = refl
 overlap_first (p ∷ ps) qs used h =
-    or_none (list_any (overlaps p) used) (any_overlap ps used) (or_left (list_any (overlaps p) used) (any_overlap (ps ++ qs) used) h)
-    (overlap_first ps qs used (or_right (list_any (overlaps p) used) (any_overlap (ps ++ qs) used) h))
+    or_from (list_any (overlaps p) used) (any_overlap ps used) (or_parts (list_any (overlaps p) used) (any_overlap (ps ++ qs) used) h).0
+    (overlap_first ps qs used (or_parts (list_any (overlaps p) used) (any_overlap (ps ++ qs) used) h).1)
 
 pub begin_outputs : (a : Device) (recipe : Recipe) (logs : List Path) (places : JobPlaces) → places ≡ places_of (out_paths recipe) logs → WhereTold a (λ w. LetsBegin w recipe logs) → AreUnused a places.outputs
 begin_outputs a recipe logs places at lets = λ w e.

@@ -1,6 +1,7 @@
 -- What one call, and a list of calls, makes of a node.
-use Rattle.std.proofs.Common.{◌≡◌, ℕ, Bool, true, false, ◌&&◌, ◌||◌, List, [], ◌∷◌, refl, ap, sym, subst, ◌∙◌, Option, Some, None, Ok, Err, bytes_eq}
+use Rattle.std.proofs.Common.{◌≡◌, ℕ, Bool, true, false, ◌&&◌, ◌||◌, List, [], ◌∷◌, refl, ap, sym, subst, ◌∙◌, Option, Some, None, Ok, Err, bytes_eq, true≢false}
 use Rattle.std.specs.Prelude.{if◌then◌else◌, is_some}
+use Rattle.std.proofs.lemmas.Bool.{and_right}
 use Rattle.smk_base.specs.Path.{is_under, is_at_or_under}
 use Rattle.smk_base.proofs.Places.{place_itself}
 use Rattle.smk_base.specs.declared.tree.Tree.{Tree}
@@ -21,9 +22,6 @@ use Rattle.smk_world.specs.Requests.{Request, request, HasDone}
 use Rattle.smk_world.specs.Requests.Request.{Look, ReadUpTo, ListFolder, Write, Create, Remove, MakeParents, Settle, Protect, Start, Wait}
 use Rattle.smk_base.proofs.Under.{or_first}
 
-true_false : true ≡ false → ⊥
-true_false e = cc
-
 -- ## Where a call may change a node
 
 -- the call may change what stands at q
@@ -40,21 +38,17 @@ touches (Protect p) q = bytes_eq q p
 touches (Start recipe logs command) q = is_within q (owned_paths recipe logs)
 touches Wait q = true
 
-off : (b : Bool) (s t : NodeState) → b ≡ false → (if b then t else s) ≡ s
-off true s t h = absurd (true_false h)
+pub off : (b : Bool) (s t : NodeState) → b ≡ false → (if b then t else s) ≡ s
+off true s t h = absurd (true≢false h)
 off false s t h = refl
 
 on : (b : Bool) (s t : NodeState) → b ≡ true → (if b then t else s) ≡ t
 on true s t h = refl
-on false s t h = absurd (true_false (sym h))
-
-and_none : (a b : Bool) → b ≡ false → (a && b) ≡ false
-and_none true b h = h
-and_none false b h = refl
+on false s t h = absurd (true≢false (sym h))
 
 neither : (a b c : Bool) → (a || b) ≡ false → (a || (b && c)) ≡ false
-neither true b c h = absurd (true_false h)
-neither false true c h = absurd (true_false h)
+neither true b c h = absurd (true≢false h)
+neither false true c h = absurd (true≢false h)
 neither false false c h = refl
 
 kept_by : (call : Call) (left : List Change) (cs : List Child) (q : List ℕ) (s : NodeState) → touches (request call) q ≡ false → node_after call left cs q s ≡ s
@@ -62,18 +56,18 @@ kept_by (Looked p r) left cs q s h = refl
 kept_by (ReadFile p limit r) left cs q s h = refl
 kept_by (ReadFolder p r) left cs q s h = refl
 kept_by (Written p bytes r) left cs q s h = off (bytes_eq q p) s (loose (standing left q) s) h
-kept_by (Created p (Ok made)) left cs q s h = off (made && bytes_eq q p) s (loose (standing left q) s) (and_none made _ h)
-kept_by (Created p (Err e)) left cs q s h = off (reads_nothing s && bytes_eq q p) s (loose (standing left q) s) (and_none (reads_nothing s) _ h)
+kept_by (Created p (Ok made)) left cs q s h = off (made && bytes_eq q p) s (loose (standing left q) s) (and_right made _ h)
+kept_by (Created p (Err e)) left cs q s h = off (reads_nothing s && bytes_eq q p) s (loose (standing left q) s) (and_right (reads_nothing s) _ h)
 kept_by (Removed p r) left cs q s h = off (is_at_or_under q p) s (going (standing left q) s) h
 kept_by (MadeParents p (Ok u)) left cs q s h = off (is_under p q) s (with_folder s) h
-kept_by (MadeParents p (Err e)) left cs q s h = off (is_some (standing left q) && is_under p q) s (with_folder s) (and_none (is_some (standing left q)) _ h)
+kept_by (MadeParents p (Err e)) left cs q s h = off (is_some (standing left q) && is_under p q) s (with_folder s) (and_right (is_some (standing left q)) _ h)
 kept_by (Settled ps (Ok u)) left cs q s h = off (is_within q ps || (is_above q ps && reads_folder s)) s (firm s) (neither (is_within q ps) (is_above q ps) (reads_folder s) h)
 kept_by (Settled ps (Err e)) left cs q s h = refl
 kept_by (Protected p (Ok u)) left cs q s h = off (bytes_eq q p) s (with_flag s) h
 kept_by (Protected p (Err e)) left cs q s h = off (bytes_eq q p) s (going (standing left q) (with_flag s)) h
 kept_by (Started recipe logs command (Ok number)) left cs q s h = off (is_within q (owned_paths recipe logs)) s Owned h
 kept_by (Started recipe logs command (Err e)) left cs q s h = refl
-kept_by (Waited (Ok ended)) left cs q s h = absurd (true_false h)
+kept_by (Waited (Ok ended)) left cs q s h = absurd (true≢false h)
 kept_by (Waited (Err e)) left cs q s h = refl
 
 -- none of the calls touches q
@@ -153,7 +147,7 @@ known_by (Settled ps (Ok u)) left cs q s h k = known_if _ s (firm s) k (known_fi
 known_by (Settled ps (Err e)) left cs q s h k = k
 known_by (Protected p (Ok u)) left cs q s h k = known_if _ s (with_flag s) k (known_flag s k)
 known_by (Protected p (Err e)) left cs q s h k = known_if _ s (going (standing left q) (with_flag s)) k (known_going _ (with_flag s) (known_flag s k))
-known_by (Started recipe logs command r) left cs q s h k = absurd (true_false h)
+known_by (Started recipe logs command r) left cs q s h k = absurd (true≢false h)
 known_by (Waited (Ok ended)) left cs q s h k = known_if _ s (Known (standing left q) _) k tt
 known_by (Waited (Err e)) left cs q s h k = k
 
@@ -173,7 +167,7 @@ remove_by (Removed x (Ok u)) left act w p q is quiet lets at known =
     gone : (s : NodeState) → IsKnown s → Reads None (going None s)
     gone Owned h = absurd h
     gone (Known now besides) h = refl
-remove_by (Removed x (Err e)) left act w p q is quiet lets at known = absurd (true_false quiet)
+remove_by (Removed x (Err e)) left act w p q is quiet lets at known = absurd (true≢false quiet)
 remove_by (Looked x r) left act w p q is quiet lets at known = cc
 remove_by (ReadFile x limit r) left act w p q is quiet lets at known = cc
 remove_by (ReadFolder x r) left act w p q is quiet lets at known = cc
@@ -194,7 +188,7 @@ settle_by : (call : Call) (left : List Change) (cs : List Child) (ps : List (Lis
 settle_by (Settled xs (Ok u)) left cs ps q s is quiet at =
     let same : xs ≡ ps = cc in
     on (is_within q xs || (is_above q xs && reads_folder s)) s (firm s) (or_first (is_within q xs) _ (ap (is_within q) same ∙ at))
-settle_by (Settled xs (Err e)) left cs ps q s is quiet at = absurd (true_false quiet)
+settle_by (Settled xs (Err e)) left cs ps q s is quiet at = absurd (true≢false quiet)
 settle_by (Looked x r) left cs ps q s is quiet at = cc
 settle_by (ReadFile x limit r) left cs ps q s is quiet at = cc
 settle_by (ReadFolder x r) left cs ps q s is quiet at = cc
@@ -223,7 +217,7 @@ write_by (Written x held (Ok u)) left act w p bytes is quiet lets known =
     holds : (s : NodeState) (time : ℕ) (read_only : Bool) (held : List ℕ) → held ≡ bytes → IsKnown s → HoldsBytes bytes (loose (Some (Regular held time read_only)) s)
     holds Owned time read_only held e h = absurd h
     holds (Known now besides) time read_only held e h = e
-write_by (Written x held (Err e)) left act w p bytes is quiet lets known = absurd (true_false quiet)
+write_by (Written x held (Err e)) left act w p bytes is quiet lets known = absurd (true≢false quiet)
 write_by (Looked x r) left act w p bytes is quiet lets known = cc
 write_by (ReadFile x limit r) left act w p bytes is quiet lets known = cc
 write_by (ReadFolder x r) left act w p bytes is quiet lets known = cc
@@ -259,7 +253,7 @@ create_by (Created x (Ok false)) left act w p is quiet lets known =
     stood Owned never h = absurd h
     stood (Known None besides) never h = absurd (never refl)
     stood (Known (Some n) besides) never h = tt
-create_by (Created x (Err e)) left act w p is quiet lets known = absurd (true_false quiet)
+create_by (Created x (Err e)) left act w p is quiet lets known = absurd (true≢false quiet)
 create_by (Looked x r) left act w p is quiet lets known = cc
 create_by (ReadFile x limit r) left act w p is quiet lets known = cc
 create_by (ReadFolder x r) left act w p is quiet lets known = cc

@@ -1,6 +1,7 @@
 -- A job with directories among its outputs is kept or abandoned by what stands at them.
-use Rattle.std.proofs.Common.{◌≡◌, inl, inr, ℕ, suc, Bool, true, false, List, [], ◌∷◌, map, length, refl, sym, ap, subst, ◌∙◌, Result, Ok, Err}
+use Rattle.std.proofs.Common.{◌≡◌, inl, inr, ℕ, Bool, true, false, List, [], ◌∷◌, map, length, refl, sym, ap, subst, ◌∙◌, Result, Ok, Err}
 use Rattle.std.specs.Prelude.{IfOk}
+use Rattle.std.proofs.lemmas.List.{length-map}
 use Rattle.smk_base.specs.Place.{record_place}
 use Rattle.smk_world.specs.declared.event.Event.{Event}
 use Rattle.smk_world.specs.declared.event.WorkFault.{WorkFault}
@@ -34,15 +35,11 @@ all_with j [] ms = refl
 all_with j (o ∷ outs) [] = refl
 all_with j (o ∷ outs) (m ∷ ms) = ap (λ (t : List (List ℕ)). bytes_of (core j.recipe j.stamps j.made) o.path m ∷ t) (all_with j outs ms)
 
-map_length : {A B : Type 0} (f : A → B) (xs : List A) → length (map f xs) ≡ length xs
-map_length f [] = refl
-map_length f (x ∷ xs) = ap (λ (n : ℕ). suc n) (map_length f xs)
-
 module _ (j : Underway) (outs : List Out) (places : JobPlaces) (old : List (List ℕ)) (ready : IsReady j.recipe j.logs j.stamps j.made outs places old) where
   pub each_sized : (records : List (List ℕ)) → length records ≡ length outs → length records ≡ length places.records
   each_sized records size =
-      size ∙ sym (map_length (λ (out : Out). out.path) outs) ∙ ap length (ap (map (λ (out : Out). out.path)) ready.outputs ∙ paths_same j.recipe.outputs)
-      ∙ sym (map_length record_place (out_paths j.recipe)) ∙ ap (λ (x : JobPlaces). length x.records) (sym ready.at_places)
+      size ∙ sym (length-map outs (λ (out : Out). out.path)) ∙ ap length (ap (map (λ (out : Out). out.path)) ready.outputs ∙ paths_same j.recipe.outputs)
+      ∙ sym (length-map (out_paths j.recipe) record_place) ∙ ap (λ (x : JobPlaces). length x.records) (sym ready.at_places)
 
   kept_with : (records : List (List ℕ)) (ms : List (List Member)) → records ≡ bytes_all (core j.recipe j.stamps j.made) outs ms → keep_requests places records ≡ finish_requests j ms
   kept_with records ms is =

@@ -4,6 +4,7 @@ use Rattle.std.specs.Prelude.{IsErrAnd, if◌then◌else◌, nat_le}
 use Rattle.std.specs.List.{list_all}
 use Rattle.std.proofs.lemmas.List.{append-nil, take_all}
 use Rattle.std.proofs.lemmas.List.Elements.{All-nil, All-cons}
+use Rattle.std.proofs.lemmas.Option.{same_Some}
 use Rattle.smk_base.proofs.Places.{and_first, and_second, place_itself}
 use Rattle.smk_base.proofs.Under.{both_true, at_itself, or_first, or_second}
 use Rattle.smk_base.specs.declared.tree.Pair.{Pair}
@@ -51,7 +52,7 @@ use Rattle.smk_job.proofs.Outs.{paths_same}
 
 -- ## Records with members
 
-last_true : (bs : List Bool) (b c : Bool) → list_all (λ (x : Bool). x) (bs ++ b ∷ []) ≡ true → c ≡ true → list_all (λ (x : Bool). x) (bs ++ c ∷ []) ≡ true
+pub last_true : (bs : List Bool) (b c : Bool) → list_all (λ (x : Bool). x) (bs ++ b ∷ []) ≡ true → c ≡ true → list_all (λ (x : Bool). x) (bs ++ c ∷ []) ≡ true
 last_true [] b c h k = both_true c true k refl
 last_true (x ∷ bs) b c h k = both_true x (list_all (λ (x : Bool). x) (bs ++ c ∷ [])) (and_first x (list_all (λ (x : Bool). x) (bs ++ b ∷ [])) h)
     (last_true bs b c (and_second x (list_all (λ (x : Bool). x) (bs ++ b ∷ [])) h) k)
@@ -171,13 +172,10 @@ file_there nodes p time read_only (Known None besides) e known is = cc
 file_there nodes p time read_only (Known (Some Directory) besides) e known is = cc
 file_there nodes p time read_only (Known (Some (Regular bytes t r)) besides) e known is = (refl, ap reads_file e)
 
-some_same : (x y : Wrong) → Some x ≡ Some y → x ≡ y
-some_same x y e = cc
-
 folder_wrong : (nodes : Nodes) (p : Path) (s : Stat) (x : Wrong) → (nodes p ≡ Owned → ⊥) → StatIs s (nodes p) → wrong_of Folder s ≡ Some x → IsWrong nodes p Folder (wrong_fault x p)
-folder_wrong nodes p Nothing x known is wrong = subst (λ y. IsWrong nodes p Folder (wrong_fault y p)) (some_same Absent x wrong) (nothing_there nodes p (nodes p) refl known is)
+folder_wrong nodes p Nothing x known is wrong = subst (λ y. IsWrong nodes p Folder (wrong_fault y p)) (same_Some Absent x wrong) (nothing_there nodes p (nodes p) refl known is)
 folder_wrong nodes p FolderStat x known is wrong = cc
-folder_wrong nodes p (File time read_only) x known is wrong = subst (λ y. IsWrong nodes p Folder (wrong_fault y p)) (some_same OtherKind x wrong) (file_there nodes p time read_only (nodes p) refl known is)
+folder_wrong nodes p (File time read_only) x known is wrong = subst (λ y. IsWrong nodes p Folder (wrong_fault y p)) (same_Some OtherKind x wrong) (file_there nodes p time read_only (nodes p) refl known is)
 
 any_wrong : (kind : Kind) (nodes : Nodes) (p : Path) (s : Stat) (x : Wrong) → (nodes p ≡ Owned → ⊥) → StatIs s (nodes p) → wrong_of kind s ≡ Some x → IsWrong nodes p kind (wrong_fault x p)
 any_wrong Plain nodes p s x known is wrong = plain_wrong nodes p s x known is wrong

@@ -1,7 +1,7 @@
 -- Looking up what has this path, among what rises by paths, by halves.
 use Rattle.std.proofs.Common.{◌≡◌, inl, inr, ℕ, zero, suc, ◌+◌, ◌<◌, ◌≤◌, Bool, true, false, cond, List, [], ◌∷◌, map, length, get_or, Option, Some, None, Ok, Err, refl, sym, ap, subst, ◌∙◌, arith, add-one}
 use Rattle.std.specs.Prelude.{bytes_eq}
-use Rattle.std.specs.List.{AllByRecursion, find}
+use Rattle.std.specs.List.{find}
 use Rattle.std.specs.List.Sorted.{IsBinarySearchResult, IsSortedBy}
 use Rattle.std.specs.Cmp.Lexicographic.{slice_cmp}
 use Rattle.std.specs.Ordering.{nat_cmp, is_lt, is_eq, ordering_reverse}
@@ -10,11 +10,11 @@ use Rattle.std.proofs.lemmas.Cmp.{nat_list_cmp_total, tied_itself}
 use Rattle.std.proofs.lemmas.Map.Text.{is_eq-slice_cmp}
 use Rattle.std.proofs.lemmas.List.Sorted.{searchable_from_sorted}
 use Rattle.std.proofs.lemmas.Bool.{cases_lt}
-use Rattle.smk_base.proofs.Places.{and_first, and_second, same_place, place_itself}
+use Rattle.smk_base.proofs.Places.{same_place, place_itself}
 use Rattle.smk_base.proofs.Under.{false_unless}
 use Rattle.smk_world.specs.Trees.{Path}
-use Rattle.smk_record.specs.Records.{are_rising, is_less}
-use Rattle.smk_record.proofs.Rising.{less_of, less_itself}
+use Rattle.smk_record.specs.Records.{are_rising}
+use Rattle.smk_record.proofs.Rising.{Above, less_itself, rising_rest, rising_first}
 
 falls_back : (p q : Path) → slice_cmp nat_cmp p q ≡ Less → is_lt (slice_cmp nat_cmp q p) ≡ false
 falls_back p q h = ap is_lt (nat_list_cmp_total.antisymm q p ∙ ap ordering_reverse h)
@@ -23,33 +23,16 @@ same_name : (p q : Path) → slice_cmp nat_cmp p q ≡ Equal → p ≡ q
 same_name p q h = same_place p q (sym (is_eq-slice_cmp p q) ∙ ap is_eq h)
 
 module _ {A : Type 0} (key : A → Path) where
-  abbrev Above : Path → List A → Type 0
-  Above k xs = AllByRecursion (λ x. slice_cmp nat_cmp k (key x) ≡ Less) xs
-
-  raised : (p q : Path) (xs : List A) → slice_cmp nat_cmp p q ≡ Less → Above q xs → Above p xs
-  raised p q [] h all = tt
-  raised p q (x ∷ xs) h all = (nat_list_cmp_total.trans p q (key x) h all.0, raised p q xs h all.1)
-
-  rising_rest : (x : A) (xs : List A) → are_rising (map key (x ∷ xs)) ≡ true → are_rising (map key xs) ≡ true
-  rising_rest x [] h = refl
-  rising_rest x (y ∷ xs) h = and_second (is_less (slice_cmp nat_cmp (key x) (key y))) (are_rising (map key (y ∷ xs))) h
-
-  rising_first : (x : A) (xs : List A) → are_rising (map key (x ∷ xs)) ≡ true → Above (key x) xs
-  rising_first x [] h = tt
-  rising_first x (y ∷ xs) h =
-      let less = less_of (slice_cmp nat_cmp (key x) (key y)) (and_first (is_less (slice_cmp nat_cmp (key x) (key y))) (are_rising (map key (y ∷ xs))) h) in
-      (less, raised (key x) (key y) xs less (rising_first y xs (and_second (is_less (slice_cmp nat_cmp (key x) (key y))) (are_rising (map key (y ∷ xs))) h)))
-
-  above_at : (p : Path) (xs : List A) (i : ℕ) (d : A) → Above p xs → i < length xs → slice_cmp nat_cmp p (key (get_or xs i d)) ≡ Less
+  above_at : (p : Path) (xs : List A) (i : ℕ) (d : A) → Above p (map key xs) → i < length xs → slice_cmp nat_cmp p (key (get_or xs i d)) ≡ Less
   above_at p [] i d all lt = absurd (omega arith)
   above_at p (x ∷ xs) zero d all lt = all.0
   above_at p (x ∷ xs) (suc i) d all lt = above_at p xs i d all.1 (omega arith)
 
   rising_at : (xs : List A) (k : ℕ) (d : A) → are_rising (map key xs) ≡ true → k + 1 < length xs → slice_cmp nat_cmp (key (get_or xs k d)) (key (get_or xs (k + 1) d)) ≡ Less
   rising_at [] k d h lt = absurd (omega arith)
-  rising_at (x ∷ xs) zero d h lt = above_at (key x) xs 0 d (rising_first x xs h) (omega arith)
+  rising_at (x ∷ xs) zero d h lt = above_at (key x) xs 0 d (rising_first (key x) (map key xs) h) (omega arith)
   rising_at (x ∷ xs) (suc k) d h lt =
-      rw add-one (subst (λ j. slice_cmp nat_cmp (key (get_or xs k d)) (key (get_or xs j d)) ≡ Less) (add-one k) (rising_at xs k d (rising_rest x xs h) (omega arith)))
+      rw add-one (subst (λ j. slice_cmp nat_cmp (key (get_or xs k d)) (key (get_or xs j d)) ≡ Less) (add-one k) (rising_at xs k d (rising_rest (key x) (map key xs) h) (omega arith)))
 
   sorted : (xs : List A) → are_rising (map key xs) ≡ true → IsSortedBy (λ (a b : A). is_lt (slice_cmp nat_cmp (key a) (key b))) xs
   sorted xs h = λ k d low lt. falls_back (key (get_or xs k d)) (key (get_or xs (k + 1) d)) (rising_at xs k d h lt)
@@ -58,9 +41,9 @@ module _ {A : Type 0} (key : A → Path) where
   found_there p [] i d h lt is = absurd (omega arith)
   found_there p (x ∷ xs) zero d h lt is = sym (ap (λ b. cond b (Some x) (find (λ y. bytes_eq (key y) p) xs)) (ap (λ k. bytes_eq k p) is ∙ place_itself p))
   found_there p (x ∷ xs) (suc i) d h lt is =
-      let below : slice_cmp nat_cmp (key x) p ≡ Less = subst (λ k. slice_cmp nat_cmp (key x) k ≡ Less) is (above_at (key x) xs i d (rising_first x xs h) (omega arith)) in
+      let below : slice_cmp nat_cmp (key x) p ≡ Less = subst (λ k. slice_cmp nat_cmp (key x) k ≡ Less) is (above_at (key x) xs i d (rising_first (key x) (map key xs) h) (omega arith)) in
       let here : bytes_eq (key x) p ≡ false = false_unless (bytes_eq (key x) p) (λ same. less_itself p (subst (λ k. slice_cmp nat_cmp k p ≡ Less) (same_place (key x) p same) below)) in
-      found_there p xs i d (rising_rest x xs h) (omega arith) is ∙ sym (ap (λ b. cond b (Some x) (find (λ y. bytes_eq (key y) p) xs)) here)
+      found_there p xs i d (rising_rest (key x) (map key xs) h) (omega arith) is ∙ sym (ap (λ b. cond b (Some x) (find (λ y. bytes_eq (key y) p) xs)) here)
 
   none_there : (p : Path) (xs : List A) → ((k : ℕ) (d : A) → k < length xs → key (get_or xs k d) ≡ p → ⊥) → None ≡ find (λ x. bytes_eq (key x) p) xs
   none_there p [] none = refl
