@@ -1,5 +1,6 @@
 -- What is asked of a folder is one thing, and it isn't refused too.
-use Rattle.std.proofs.Common.{◌≡◌, ◌⊎◌, inl, inr, Bool, ap, sym, subst, ◌∙◌, Some, None, Result, Ok, Err}
+use Rattle.std.proofs.Common.{◌≡◌, ◌⊎◌, inl, inr, Bool, ap, sym, subst, ◌∙◌, Result, Ok, Err}
+use Rattle.std.proofs.lemmas.Option.{none-some}
 use Rattle.smk_world.specs.Trees.{Path}
 use Rattle.smk_flow.specs.Flows.{Flow}
 use Rattle.smk_flow.specs.Targets.{all_paths}
@@ -24,9 +25,6 @@ file_none a f e = cc
 
 flow_none : (a : Flow) (f : LoadFault) → ◌≡◌ {A = Result Flow LoadFault} (Ok a) (Err f) → ⊥
 flow_none a f e = cc
-
-fault_none : (f : Fault) → Some f ≡ None → ⊥
-fault_none f e = cc
 
 -- words ask by one workflow
 read_same : (words : RunWords) (nodes : Nodes) (r s : Reading) → IsRead words nodes (Ok r) → IsRead words nodes (Ok s) → r ≡ s
@@ -57,4 +55,4 @@ asked_unrefused run words nodes f a (inl (inr (file, is, (e, told, gives, same))
     flow_unrefused (loaded nodes file words.sets) a.flow e (subst (λ p. Gives (loaded nodes p words.sets) (Ok a.flow)) here h.0.1) (gives told)
 asked_unrefused run words nodes f a (inr (reading, is, refused)) h =
     let same : reading ≡ reading_of a = read_same words nodes reading (reading_of a) is h.0 in
-    fault_none f (sym refused ∙ (ap (refused_word run words.targets) same ∙ h.1))
+    none-some f (sym (ap (refused_word run words.targets) same ∙ h.1) ∙ refused)

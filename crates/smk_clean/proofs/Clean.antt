@@ -1,6 +1,8 @@
 -- A run that ends without a fault leaves clean values.
 use Rattle.std.proofs.Common.{not, ◌≡◌, inl, inr, ℕ, suc, Bool, true, false, List, [], ◌∷◌, ◌++◌, flat_map, map, zip, length, arith, refl, ap, sym, subst, ◌∙◌, Option, Some, None, Result, Ok, Err, is_none, if◌then◌else◌, true≢false}
 use Rattle.std.proofs.lemmas.List.{append-nil, length-map}
+use Rattle.std.proofs.lemmas.Option.{none-some}
+use Rattle.smk_chain_walk.proofs.Depths.{front_nil, back_nil}
 use Rattle.smk_world.specs.World.{World, IsFormed, run}
 use Rattle.smk_world.specs.Devices.{Device, Sunk, HasActed, HasLooked}
 use Rattle.smk_world.specs.Trees.{Each, IsIn}
@@ -69,17 +71,14 @@ use Rattle.smk_clean.proofs.Meant.{all_plain, asked_built, duties_meant, is_plan
 use Rattle.smk_serve.proofs.Plain.{each_from}
 use Rattle.smk_clean.proofs.Safe.{Answer, IsTurnRun, no_fault, ok_err, started, turns_run, turns_safe}
 
-some_none : (f : Fault) → Some f ≡ None → ⊥
-some_none f e = cc
-
 -- ## Turns without a failure
 
 good_by : (name : Named) (ending : Ending) → failure name ending ≡ None → is_done (Closed ending) ≡ true
 good_by name Good e = refl
-good_by name (Status n) e = absurd (some_none _ e)
-good_by name (NoOutput p) e = absurd (some_none _ e)
-good_by name (WrongKind p) e = absurd (some_none _ e)
-good_by name (BadMember p) e = absurd (some_none _ e)
+good_by name (Status n) e = absurd (none-some _ (sym e))
+good_by name (NoOutput p) e = absurd (none-some _ (sym e))
+good_by name (WrongKind p) e = absurd (none-some _ (sym e))
+good_by name (BadMember p) e = absurd (none-some _ (sym e))
 
 done_by : (flow : Flow) (job : Job) (course : Course) → is_closed course ≡ true → course_failure flow job course ≡ None → is_done course ≡ true
 done_by flow job Unbegun closed e = absurd (true≢false (sym closed))
@@ -89,7 +88,7 @@ done_by flow job (Closed ending) closed e = good_by (named flow job) ending e
 
 both_none : (a b : Option Fault) → or_later a b ≡ None → (a ≡ None) × (b ≡ None)
 both_none None b e = (refl, e)
-both_none (Some f) b e = absurd (some_none f e)
+both_none (Some f) b e = absurd (none-some f (sym e))
 
 all_good : (flow : Flow) (ts : List Turn) → Each (λ (t : Turn). is_closed t.course ≡ true) ts → first_failure flow ts ≡ None → Each (λ (t : Turn). is_done t.course ≡ true) ts
 all_good flow [] closed e = tt
@@ -116,18 +115,10 @@ all_turns u flow dues ts bad (Ok tally) outcome (inr (f, is, of_report)) = absur
 
 -- ## Each field has a value
 
-nil_first : {A : Type 0} (xs ys : List A) → xs ++ ys ≡ [] → xs ≡ []
-nil_first [] ys e = refl
-nil_first (x ∷ xs) ys e = cc
-
-nil_second : {A : Type 0} (xs ys : List A) → xs ++ ys ≡ [] → ys ≡ []
-nil_second [] ys e = e
-nil_second (x ∷ xs) ys e = cc
-
 flat_nil : {A B : Type 0} (f : A → List B) (xs : List A) (x : A) → flat_map f xs ≡ [] → IsIn xs x → f x ≡ []
 flat_nil f [] x e i = absurd i
-flat_nil f (y ∷ xs) x e (inl is) = ap f is ∙ nil_first (f y) (flat_map f xs) e
-flat_nil f (y ∷ xs) x e (inr i) = flat_nil f xs x (nil_second (f y) (flat_map f xs) e) i
+flat_nil f (y ∷ xs) x e (inl is) = ap f is ∙ front_nil (f y) (flat_map f xs) e
+flat_nil f (y ∷ xs) x e (inr i) = flat_nil f xs x (back_nil (f y) (flat_map f xs) e) i
 
 staged_in : (js : List Job) (ss : List State) (j : Job) → length ss ≡ length js → Each (λ s. is_open s ≡ false) ss → IsIn js j → (s : State) × IsIn (zip js ss) (j, s) × (is_open s ≡ false)
 staged_in [] ss j e shut i = absurd i
@@ -142,9 +133,9 @@ fields_there rules image plan same shut each none j i =
     let of_commands = flat_map (λ (e : Job × State). of_command rules image nothing_done plan e (rules.missing e.0)) (staged plan) in
     let of_bounds = flat_map (above_limit rules image nothing_done plan) (ahead rules image nothing_done plan) in
     let commands : of_commands ≡ [] =
-    nil_second of_bounds of_commands
-    (nil_second (guarded rules image nothing_done plan) (of_bounds ++ of_commands)
-    (nil_second (incomplete rules image nothing_done plan) (guarded rules image nothing_done plan ++ (of_bounds ++ of_commands)) none)) in
+    back_nil of_bounds of_commands
+    (back_nil (guarded rules image nothing_done plan) (of_bounds ++ of_commands)
+    (back_nil (incomplete rules image nothing_done plan) (guarded rules image nothing_done plan ++ (of_bounds ++ of_commands)) none)) in
     go at.0 at.2 (rules.missing j) (flat_nil (λ (e : Job × State). of_command rules image nothing_done plan e (rules.missing e.0)) (staged plan) (j, at.0) commands at.1)
   where
     go : (s : State) → is_open s ≡ false → (m : Option Text) → of_command rules image nothing_done plan (j, s) m ≡ [] → is_none m ≡ true

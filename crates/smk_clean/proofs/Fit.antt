@@ -1,7 +1,8 @@
 -- The turns of a run can be written.
-use Rattle.std.proofs.Common.{◌≡◌, Bool, true, false, List, [], ◌∷◌, map, length, refl, Some, None}
+use Rattle.std.proofs.Common.{◌≡◌, Bool, true, false, List, [], ◌∷◌, map, length, refl, Some, None, sym}
 use Rattle.std.specs.List.{find}
 use Rattle.std.specs.Prelude.{cond}
+use Rattle.std.proofs.lemmas.Option.{none-some}
 use Rattle.smk_world.specs.Trees.{Path, Each}
 use Rattle.smk_record.specs.Records.{is_valid, record_of}
 use Rattle.smk_record.specs.Spelling.{is_writable}
@@ -12,15 +13,12 @@ use Rattle.smk_run.specs.Runs.{Fits}
 use Rattle.smk_safe.specs.Planned.{IsFit}
 use Rattle.smk_safe.specs.Turning.{opened}
 
-some_none : {A : Type 0} (x : A) → Some x ≡ None → ⊥
-some_none x e = cc
-
 -- where none is found, the first isn't one, and there is none behind it
 none_found : {A : Type 0} (test : A → Bool) (x : A) (xs : List A) → find test (x ∷ xs) ≡ None → (test x ≡ false) × (find test xs ≡ None)
 none_found test x xs h = go (test x) refl h
   where
     go : (b : Bool) → test x ≡ b → cond b (Some x) (find test xs) ≡ None → (test x ≡ false) × (find test xs ≡ None)
-    go true e k = absurd (some_none x k)
+    go true e k = absurd (none-some x (sym k))
     go false e k = (e, k)
 
 each_recordable : (t : Turn) (ps : List Path) → Each (λ p. is_valid (record_of p t.made t.job.recipe (found t.looked) []) ≡ true) ps → Each (λ p. is_writable (record_of p t.made t.job.recipe (found t.looked) []) ≡ true) ps

@@ -1,5 +1,6 @@
 -- What the plan for what is asked tells of its jobs.
 use Rattle.std.proofs.Common.{◌≡◌, ℕ, true, List, [], flat_map, refl, ap, sym, subst, ◌∙◌, Option, Some, None, option_map, is_some, Ok}
+use Rattle.smk_laws_history.proofs.CurrentLaw.{last_is}
 use Rattle.smk_world.specs.World.{World, IsFormed, out_paths}
 use Rattle.smk_world.specs.Trees.{Path, Each, IsIn}
 use Rattle.smk_pattern.specs.Shapes.{Text}
@@ -10,9 +11,9 @@ use Rattle.smk_words_reading.specs.declared.asked.RunWords.{RunWords}
 use Rattle.smk_eval_files.specs.Looks.{Nodes}
 use Rattle.smk_store.specs.Images.{Image, core_at, seen}
 use Rattle.smk_store.specs.Trust.{holder}
-use Rattle.smk_chain.specs.Derive.{Listings, distinct, job, same_candidate, sources_of, walk}
+use Rattle.smk_chain.specs.Derive.{distinct, job, same_candidate, sources_of, walk}
 use Rattle.smk_pick.specs.declared.settings.Settings.{Settings}
-use Rattle.smk_plan.specs.States.{Plan, Progress, IsPlan, LastPlan, Last, Then, nothing_done, makes}
+use Rattle.smk_plan.specs.States.{Plan, IsPlan, nothing_done, makes}
 use Rattle.smk_laws_protocol.proofs.Basics.{each_in}
 use Rattle.smk_laws_plan.specs.Current.{IsComplete}
 use Rattle.smk_laws_history.proofs.CurrentComplete.{seen_is_complete}
@@ -37,10 +38,6 @@ use Rattle.smk_plan_preview.proofs.Agreed.{own_records}
 use Rattle.smk_serve.proofs.Plain.{each_from, neither}
 use Rattle.smk_clean.proofs.Plain.{planned_plain}
 use Rattle.smk_clean.proofs.Told.{tells_makers}
-
-pub last_is_plan : (flow : Flow) (image : Image) (settings : Settings) (progress : Progress) (L : Listings) (plan : Plan) → LastPlan flow image settings progress L plan → IsPlan flow image settings progress plan
-last_is_plan flow image settings progress L plan (Last _ is none) = is
-last_is_plan flow image settings progress L plan (Then first last is more rest) = last_is_plan flow image settings progress _ plan rest
 
 -- each job of a plan makes something
 making : (flow : Flow) (image : Image) (settings : Settings) (plan : Plan) → IsComplete image → IsPlan flow image settings nothing_done plan → Each IsPlain plan.jobs → (j : Job) → IsIn plan.jobs j → out_paths j.recipe ≡ [] → ⊥
@@ -83,7 +80,7 @@ module _ (read : List ℕ → Option Record) (w : World) (formed : IsFormed w) (
   plan = plan_of told
 
   pub is_plan : IsPlan asked.flow image settings nothing_done plan
-  is_plan = last_is_plan asked.flow image settings nothing_done [] plan is.last
+  is_plan = last_is asked.flow image settings nothing_done [] plan is.last
 
   pub all_plain : Each IsPlain plan.jobs
   all_plain = planned_plain asked.flow image settings nothing_done plan (seen_is_complete read w formed) built is_plan

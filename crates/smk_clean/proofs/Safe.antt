@@ -1,35 +1,34 @@
 -- A call is safe.
-use Rattle.std.proofs.Common.{◌≡◌, inl, inr, ℕ, suc, Bool, true, false, List, [], ◌∷◌, ◌++◌, flat_map, fold, max, refl, ap, sym, subst, ◌∙◌, append_assoc, Option, Some, None, option_map, filter, Result, Ok, Err, true≢false}
+use Rattle.std.proofs.Common.{◌≡◌, inl, inr, ℕ, suc, Bool, true, false, List, [], ◌∷◌, ◌++◌, flat_map, fold, max, refl, ap, sym, subst, ◌∙◌, append_assoc, Option, Some, None, filter, Result, Ok, Err}
 use Rattle.std.specs.Option.{option_and_then}
 use Rattle.std.proofs.lemmas.List.{append-nil}
+use Rattle.std.proofs.lemmas.Option.{same_Some}
+use Rattle.smk_laws_job.proofs.Abandoning.{settled_call}
+use Rattle.smk_laws_job.proofs.Called.{as_settled}
+use Rattle.smk_laws_job.proofs.Forgetting.{look_of}
 use Rattle.smk_base.proofs.Under.{or_first}
-use Rattle.smk_world.specs.declared.event.Call.{Call}
-use Rattle.smk_world.specs.declared.event.Call.TheVariants.{Looked, ReadFile, ReadFolder, Written, Created, Removed, MadeParents, Settled, Protected, Started, Waited}
+use Rattle.smk_world.specs.declared.event.Call.TheVariants.{Settled}
 use Rattle.smk_world.specs.declared.event.Event.{Event}
 use Rattle.smk_world.specs.World.{World, IsFormed, after, run}
 use Rattle.smk_world.specs.Calls.{failed}
-use Rattle.smk_world.specs.Devices.{Device, Sunk, AreLooks as OnlyLooks, HasActed, HasLooked, is_look}
+use Rattle.smk_world.specs.Devices.{Device, Sunk, AreLooks as OnlyLooks, HasActed, HasLooked}
 use Rattle.smk_world.specs.Requests.{request, HasDone}
 use Rattle.smk_world.specs.Requests.Request.{Settle}
 use Rattle.smk_world.specs.Runs.{Follows}
 use Rattle.smk_world.specs.Trees.{Path, Each, IsIn}
 use Rattle.smk_world.proofs.Runs.{follows_append, run_append}
-use Rattle.smk_record.specs.declared.record.Record.{Record}
-use Rattle.smk_record.specs.Records.{core}
 use Rattle.smk_record.specs.Spelling.{ReadsRecords}
 use Rattle.smk_flow.specs.Flows.{Flow}
 use Rattle.smk_store.specs.declared.fault.StoreFault.{StoreFault}
 use Rattle.smk_store.specs.declared.fault.StoreFault.TheVariants.{StampSeen, Device as DeviceFault, OutOfMemory}
-use Rattle.smk_store.specs.declared.store.Kept.{Kept}
-use Rattle.smk_store.specs.declared.store.Kept.TheVariants.{Absent, Unreadable, Held}
-use Rattle.smk_store.specs.Images.{Image, core_at, readable, stands}
+use Rattle.smk_store.specs.Images.{Image, core_at, stands}
 use Rattle.smk_store.specs.Serials.{all_serials, greatest_serial, next_serial}
 use Rattle.smk_store.specs.Soundness.{Outside, SoundWorld}
 use Rattle.smk_store.specs.Faults.{store_failed}
 use Rattle.smk_store.specs.Steadying.{HasTried, all_signs, steady_requests}
 use Rattle.smk_store.specs.Stores.{Known}
 use Rattle.smk_store.specs.Trust.{Versions}
-use Rattle.smk_laws_protocol.specs.Protocol.{RunState, Runs, Done, Next, Aside, Besides, Settle as SettleMove, Fail, IsLook, as_ok, now, runs}
+use Rattle.smk_laws_protocol.specs.Protocol.{RunState, Runs, Done, Next, Aside, Besides, Settle as SettleMove, Fail, as_ok, now, runs}
 use Rattle.smk_laws_protocol.specs.Midway.{IsTop, at_entry}
 use Rattle.smk_laws_protocol.proofs.ProtocolHolds.{protocol_law}
 use Rattle.smk_laws_history.proofs.CurrentComplete.{seen_is_complete}
@@ -64,7 +63,7 @@ use Rattle.smk_safe.specs.Safe.{IsRunOf, IsSafeRun}
 use Rattle.smk_safe.proofs.Going.{safe_here}
 use Rattle.smk_safe.proofs.Joining.{AreLooks, look_all, looks_same}
 use Rattle.smk_safe.proofs.Safe.{front}
-use Rattle.smk_safe.proofs.Stored.{fold_holds, is_top, signs_are_all}
+use Rattle.smk_safe.proofs.Stored.{fold_holds, is_top, signs_are_all, kept_stands}
 use Rattle.smk_exit.proofs.Dues.{due_run_is_safe}
 use Rattle.smk_clean.specs.Safe.{CallIsSafe, IsSafeCall}
 use Rattle.smk_clean.proofs.Firsts.{firsts_same}
@@ -77,15 +76,7 @@ Answer = Result (Unit {0}) Fault
 pub ok_err : (u : Unit {0}) (f : Fault) → ◌≡◌ {A = Answer} (Ok u) (Err f) → ⊥
 ok_err u f e = cc
 
-world_same : (a b : World) → Some a ≡ Some b → a ≡ b
-world_same a b e = cc
-
 -- ## A greatest serial
-
-kept_known : (k : Kept) (r : Record) → option_map core (readable k) ≡ Some r → stands k ≡ true
-kept_known Absent r h = cc
-kept_known Unreadable r h = cc
-kept_known (Held s) r h = refl
 
 -- what unmarked records name is bounded
 pub bounded : (o : Outside) (w : World) → IsFormed w → (top : ℕ) × IsTop o w top
@@ -99,59 +90,16 @@ bounded o w formed = (fold max 0 (flat_map named image.known), above)
 
     above : IsTop o w (fold max 0 (flat_map named image.known))
     above p r n (reads, clear) i =
-        let known = (seen_is_complete o.read w formed).known p (or_first (stands (image.kept p)) _ (kept_known (image.kept p) r reads)) in
+        let known = (seen_is_complete o.read w formed).known p (or_first (stands (image.kept p)) _ (kept_stands (image.kept p) r reads)) in
         fold_holds 0 (flat_map named image.known) n
         (in_flat named image.known p n (among_in image.known p known) (subst (λ c. IsIn (all_serials c) n) (sym reads) i))
 
 -- ## Calls
 
-look_is : (o : Outside) (c : Call) → is_look c ≡ true → IsLook o c
-look_is o (Looked p r) h = tt
-look_is o (ReadFile p limit r) h = tt
-look_is o (ReadFolder p r) h = tt
-look_is o (Written p bytes r) h = true≢false (sym h)
-look_is o (Created p r) h = true≢false (sym h)
-look_is o (Removed p r) h = true≢false (sym h)
-look_is o (MadeParents p r) h = true≢false (sym h)
-look_is o (Settled ps r) h = true≢false (sym h)
-look_is o (Protected p r) h = true≢false (sym h)
-look_is o (Started recipe logs command r) h = true≢false (sym h)
-look_is o (Waited r) h = true≢false (sym h)
-
 looks_are : (o : Outside) (bad : Bool) (es : List Event) → OnlyLooks bad es → AreLooks o es
 looks_are o bad [] h = tt
-looks_are o bad (e ∷ []) h = (look_is o e.call h.0, tt)
-looks_are o bad (e ∷ (f ∷ es)) h = (look_is o e.call h.0, looks_are o bad (f ∷ es) h.2)
-
-settled_ok : (c : Call) (ps : List Path) → request c ≡ Settle ps → as_ok c ≡ Settled ps (Ok tt)
-settled_ok (Looked p r) ps h = cc
-settled_ok (ReadFile p limit r) ps h = cc
-settled_ok (ReadFolder p r) ps h = cc
-settled_ok (Written p bytes r) ps h = cc
-settled_ok (Created p r) ps h = cc
-settled_ok (Removed p r) ps h = cc
-settled_ok (MadeParents p r) ps h = cc
-settled_ok (Settled qs r) ps h = ap (λ xs. Settled xs (Ok tt)) (same h)
-  where
-    same : Settle qs ≡ Settle ps → qs ≡ ps
-    same e = cc
-settled_ok (Protected p r) ps h = cc
-settled_ok (Started recipe logs command r) ps h = cc
-settled_ok (Waited r) ps h = cc
-
-settled_done : (c : Call) (ps : List Path) → request c ≡ Settle ps → failed c ≡ false → c ≡ Settled ps (Ok tt)
-settled_done (Looked p r) ps h f = cc
-settled_done (ReadFile p limit r) ps h f = cc
-settled_done (ReadFolder p r) ps h f = cc
-settled_done (Written p bytes r) ps h f = cc
-settled_done (Created p r) ps h f = cc
-settled_done (Removed p r) ps h f = cc
-settled_done (MadeParents p r) ps h f = cc
-settled_done (Settled qs (Ok u)) ps h f = settled_ok (Settled qs (Ok u)) ps h
-settled_done (Settled qs (Err x)) ps h f = absurd (true≢false f)
-settled_done (Protected p r) ps h f = cc
-settled_done (Started recipe logs command r) ps h f = cc
-settled_done (Waited r) ps h f = cc
+looks_are o bad (e ∷ []) h = (look_of o e.call h.0, tt)
+looks_are o bad (e ∷ (f ∷ es)) h = (look_of o e.call h.0, looks_are o bad (f ∷ es) h.2)
 
 -- ## A run of the protocol is safe
 
@@ -180,7 +128,7 @@ module _ (o : Outside) (H : Versions) (w : World) (sound : SoundWorld o w H) whe
   looked_safe : (answer : Answer) (v : World) (old new : Device) (bad : Bool) → old.world ≡ Some w → new.world ≡ Some v → HasLooked o.act old new bad → Safely answer v
   looked_safe answer v old new bad at end looked =
       let d = looked.acted.did v end in
-      let here = world_same w d.0 (sym at ∙ d.1) in
+      let here = same_Some w d.0 (sym at ∙ d.1) in
       let follows : Follows o.act w d.2.0 = subst (λ x. Follows o.act x d.2.0) (sym here) d.2.1 in
       let is : v ≡ run w d.2.0 = d.2.3 ∙ ap (λ x. run x d.2.0) (sym here) in
       let only = looks_are o bad d.2.0 d.2.2 in
@@ -202,7 +150,7 @@ module _ (o : Outside) (H : Versions) (w : World) (sound : SoundWorld o w H) whe
   started x old looked firm P bad at looking acted is =
       let b = acted.did x is in
       let a = looking.acted.did b.0 b.1 in
-      let here = world_same w a.0 (sym at ∙ a.1) in
+      let here = same_Some w a.0 (sym at ∙ a.1) in
       let first : Follows o.act w a.2.0 = subst (λ y. Follows o.act y a.2.0) (sym here) a.2.1 in
       let mid : b.0 ≡ run w a.2.0 = a.2.3 ∙ ap (λ y. run y a.2.0) (sym here) in
       record {
@@ -220,15 +168,15 @@ module _ (o : Outside) (H : Versions) (w : World) (sound : SoundWorld o w H) whe
       let end : RunState = record s { jobs = filter (runs o) s.jobs; faulted = true } in (
         end,
         Next s end end u e []
-            (Fail e s bad (Aside (record e { call = as_ok e.call }) calm (subst (Besides o s u) (sym (settled_ok e.call ps is)) (SettleMove ps))))
+            (Fail e s bad (Aside (record e { call = as_ok e.call }) calm (subst (Besides o s u) (sym (as_settled e.call ps is)) (SettleMove ps))))
             (Done end (after u e)),
       )
   settle_runs ps s u e calm is false quiet =
-      (s, Next s s s u e [] (Aside e calm (subst (Besides o s u) (sym (settled_done e.call ps is quiet)) (SettleMove ps))) (Done s (after u e)))
+      (s, Next s s s u e [] (Aside e calm (subst (Besides o s u) (sym (settled_call e.call ps is quiet)) (SettleMove ps))) (Done s (after u e)))
 
   one_of : (ps : List Path) (es : List Event) → HasDone (Settle ps ∷ []) es → (e : Event) × (es ≡ e ∷ []) × (e.call ≡ Settled ps (Ok tt))
   one_of ps [] h = absurd h
-  one_of ps (e ∷ []) h = (e, refl, settled_done e.call ps h.0 h.1)
+  one_of ps (e ∷ []) h = (e, refl, settled_call e.call ps h.0 h.1)
   one_of ps (e ∷ (f ∷ es)) h = absurd h.2
 
   tried_runs : (ps : List Path) (s : RunState) (u : World) (es : List Event) (r : Result (Unit {0}) StoreFault) → s.faulted ≡ false → HasTried (Settle ps ∷ []) r u es → (end : RunState) × Runs o s u es end

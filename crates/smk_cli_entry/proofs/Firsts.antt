@@ -12,9 +12,6 @@ use Rattle.smk_cli_entry.specs.Forms.{or_else}
 use Rattle.smk_cli_entry.specs.Names.{where_file, is_file, is_file_at, file_at, first_file}
 use Rattle.smk_cli_entry.proofs.Stats.{answers_then}
 
-pub never : true ≡ false → ⊥
-never e = cc
-
 where_if : (p : Path) (s : Stat) → where_file p s ≡ (if is_file s then Some p else None)
 where_if p Nothing = refl
 where_if p (File time read_only) = refl

@@ -3,6 +3,8 @@ use Rattle.std.proofs.Common.{◌≡◌, ◌⊎◌, inl, inr, ℕ, suc, Bool, tr
 use Rattle.std.specs.Prelude.{is_some, if◌then◌else◌}
 use Rattle.std.specs.List.{list_any}
 use Rattle.std.specs.Option.{option_and_then}
+use Rattle.std.proofs.lemmas.Bool.{cases_Bool}
+use Rattle.smk_laws_protocol.proofs.Chains.{map_same}
 use Rattle.smk_base.specs.Path.{overlaps}
 use Rattle.smk_base.proofs.Apart.{path_outside}
 use Rattle.smk_base.proofs.Under.{at_itself}
@@ -46,14 +48,6 @@ use Rattle.smk_exit.specs.Exit.{IsDueRun}
 use Rattle.smk_exit.proofs.Calm.{HoldsOne, own_none}
 use Rattle.smk_exit.proofs.Done as is_done_so
 use Rattle.smk_exit.proofs.Left as at_exit
-
-pub bool_cases : (b : Bool) → (b ≡ true) ⊎ (b ≡ false)
-bool_cases true = inl refl
-bool_cases false = inr refl
-
-pub map_on : {A B : Type 0} (f g : A → B) (xs : List A) → ((x : A) → IsIn xs x → f x ≡ g x) → map f xs ≡ map g xs
-map_on f g [] h = refl
-map_on f g (x ∷ xs) h = let rest = map_on f g xs (λ y i. h y (inr i)) in λ n. h x (inl refl) n ∷ rest n
 
 each_mapped : {A B : Type 0} (P : B → Type 0) (f : A → B) (xs : List A) → ((x : A) → IsIn xs x → P (f x)) → Each P (map f xs)
 each_mapped P f [] h = tt
@@ -118,7 +112,7 @@ module _ (o : Outside) (entry : World) (H : Versions) (flow : Flow) (settings : 
   Makes q k = IsIn plan.jobs k × (makes k q ≡ true)
 
   pub maker_cases : (q : Path) → ((k : Job) × Makes q k) ⊎ ((k : Job) → IsIn plan.jobs k → makes k q ≡ false)
-  maker_cases q = elim (bool_cases (list_any (λ (k : Job). makes k q) plan.jobs)) [
+  maker_cases q = elim (cases_Bool (list_any (λ (k : Job). makes k q) plan.jobs)) [
     | inl e ↦ let x = some_of (λ (k : Job). makes k q) plan.jobs e in inl (x.0, (x.1, x.2))
     | inr e ↦ inr (λ k i. none_of (λ (x : Job). makes x q) plan.jobs k e i)
   ]
@@ -138,7 +132,7 @@ module _ (o : Outside) (entry : World) (H : Versions) (flow : Flow) (settings : 
   module _ (j : Job) (p : Path) (ij : IsIn plan.jobs j) (rests : is_to_run (st j) ≡ false) (ip : IsIn (out_paths j.recipe) p) where
     none_makes : NoneMakes p ts
     none_makes =
-        each_of (λ (t : Turn). among (out_paths t.job.recipe) p ≡ false) ts (λ t i. elim (bool_cases (among (out_paths t.job.recipe) p)) [
+        each_of (λ (t : Turn). among (out_paths t.job.recipe) p ≡ false) ts (λ t i. elim (cases_Bool (among (out_paths t.job.recipe) p)) [
           | inr e ↦ e
           | inl e ↦
               let here = each_in (λ (u : Turn). IsIn plan.jobs u.job × (is_to_run (st u.job) ≡ true)) ts t of_plan i in
@@ -172,7 +166,7 @@ module _ (o : Outside) (entry : World) (H : Versions) (flow : Flow) (settings : 
   -- a product of a job that isn't Dirty has the serial that it had
   product_now : (k : Job) (q : Path) → IsIn plan.jobs k → is_dirty (st k) ≡ false → IsIn (out_paths k.recipe) q → (h : by_plan.HasRecord o entry flow settings plan made ran.top ts ran.sound.formed ran.is_top ran.planned ran.plain ran.fit tells k q) → HasDone k
       → stamp_now_but after_run left_now q ≡ Some (Made h.r.made)
-  product_now k q ik calm iq h has = elim (bool_cases (is_to_run (st k))) [
+  product_now k q ik calm iq h has = elim (cases_Bool (is_to_run (st k))) [
     | inl run ↦
         let t = has run in
         let in_t : IsIn (out_paths (t.0).job.recipe) q = subst (λ (z : Job). IsIn (out_paths z.recipe) q) (sym t.2) iq in
@@ -218,9 +212,9 @@ module _ (o : Outside) (entry : World) (H : Versions) (flow : Flow) (settings : 
   own_rests : (j : Job) → IsIn plan.jobs j → HaveDone j → is_to_run (st j) ≡ false → own_of j ≡ []
   own_rests j ij have rests =
       let calm = by_plan.run_or_rest (st j) rests in
-      let kept = map_on after_run.kept before.kept (out_paths j.recipe) (λ p ip. rest_kept j p ij rests ip) in
-      let marked = map_on (is_marked_but after_run left_now) (is_marked_but before left_then) (out_paths j.recipe) (λ p ip. λ n. rest_marked j p ij rests ip n && not (left_same p n)) in
-      let stamps = map_on (paired (λ q. stamp_now_but after_run left_now q)) (paired (λ q. stamp_now_but before left_then q)) (in_paths j.recipe) (λ q iq. λ n. paired (λ x. input_same j q ij calm (have q iq) iq n) q) in
+      let kept = map_same after_run.kept before.kept (out_paths j.recipe) (λ p ip. rest_kept j p ij rests ip) in
+      let marked = map_same (is_marked_but after_run left_now) (is_marked_but before left_then) (out_paths j.recipe) (λ p ip. λ n. rest_marked j p ij rests ip n && not (left_same p n)) in
+      let stamps = map_same (paired (λ q. stamp_now_but after_run left_now q)) (paired (λ q. stamp_now_but before left_then q)) (in_paths j.recipe) (λ q iq. λ n. paired (λ x. input_same j q ij calm (have q iq) iq n) q) in
       (λ n. own_reasons j.recipe (kept n) (marked n) (stamps n)) ∙ append_nil_left (own_then j) _ (by_plan.none_reasons o entry flow settings plan made ran.top ts ran.sound.formed ran.is_top ran.planned ran.plain ran.fit tells j ij calm)
 
   stamp_found : (t : Turn) (q : Path) (s : Stamp) → IsIn ts t → is_done t.course ≡ true → HaveDone t.job → IsIn (zip (in_paths t.job.recipe) (found t.looked)) (q, s) → stamp_now_but after_run left_now q ≡ Some s
@@ -236,7 +230,7 @@ module _ (o : Outside) (entry : World) (H : Versions) (flow : Flow) (settings : 
         | inl h ↦
             let k = h.0 in
             let out = out_of k q h.1 in
-            elim (bool_cases (is_to_run (st k))) [
+            elim (cases_Bool (is_to_run (st k))) [
               | inl run ↦
                   let u = have q iq k h.1 run in
                   let in_u : IsIn (out_paths (u.0).job.recipe) q = subst (λ (z : Job). IsIn (out_paths z.recipe) q) (sym u.2) out in
@@ -262,7 +256,7 @@ module _ (o : Outside) (entry : World) (H : Versions) (flow : Flow) (settings : 
 
   -- where this is so of the job and of those that make what it reads, it has no reasons of its own
   pub own_clean : (j : Job) → IsIn plan.jobs j → HasDone j → HaveDone j → own_of j ≡ []
-  own_clean j ij has have = elim (bool_cases (is_to_run (st j))) [
+  own_clean j ij has have = elim (cases_Bool (is_to_run (st j))) [
     | inl run ↦ let t = has run in subst (λ (z : Job). own_of z ≡ []) t.2 (own_runs t.0 t.1 t.3 (subst HaveDone (sym t.2) have))
     | inr rests ↦ own_rests j ij have rests
   ]
@@ -290,7 +284,7 @@ module _ (o : Outside) (entry : World) (H : Versions) (flow : Flow) (settings : 
   -- an output is whole then, or it isn't wanted back
   pub not_restored : (j : Job) (p : Path) (wanted : Bool) → IsIn plan.jobs j → HasDone j → IsIn (out_paths j.recipe) p → (wanted ≡ true → is_wanted_back before settings nothing_done plan j p ≡ true)
       → (not (is_whole after_run p (kind_in j.recipe p)) && wanted) ≡ false
-  not_restored j p wanted ij has ip back = elim (bool_cases (is_to_run (st j))) [
+  not_restored j p wanted ij has ip back = elim (cases_Bool (is_to_run (st j))) [
     | inl run ↦
         let t = has run in
         let whole = (is_done_so.left_by o entry H flow settings plan ts es ran closed t.0 p t.1 t.3 (subst (λ (z : Job). IsIn (out_paths z.recipe) p) (sym t.2) ip)).whole in
@@ -302,7 +296,7 @@ module _ (o : Outside) (entry : World) (H : Versions) (flow : Flow) (settings : 
 
   -- a target that a job makes is whole
   pub target_whole : (k : Job) (p : Path) → IsIn plan.jobs k → HasDone k → IsIn settings.targets p → IsIn (out_paths k.recipe) p → is_whole after_run p Plain ≡ true
-  target_whole k p ik has target ip = elim (bool_cases (is_to_run (st k))) [
+  target_whole k p ik has target ip = elim (cases_Bool (is_to_run (st k))) [
     | inl run ↦
         let t = has run in
         (is_done_so.left_by o entry H flow settings plan ts es ran closed t.0 p t.1 t.3 (subst (λ (z : Job). IsIn (out_paths z.recipe) p) (sym t.2) ip)).whole

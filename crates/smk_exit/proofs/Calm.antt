@@ -1,6 +1,7 @@
 -- A job whose records are those of its recipe and of the stamps that its inputs have now has no reasons of its own.
 use Rattle.std.proofs.Common.{◌≡◌, inl, inr, ℕ, Bool, true, false, ◌&&◌, ◌||◌, ◌==◌, not, cond, List, [], ◌∷◌, ◌++◌, map, filter, flat_map, zip, refl, ap, sym, subst, ◌∙◌, bytes_eq, Option, Some, None}
 use Rattle.std.specs.List.{list_any, list_all}
+use Rattle.smk_safe.proofs.Images.{flag_itself}
 use lib.Pointwise.{pointwise}
 use Rattle.smk_base.proofs.Places.{place_itself, same_place}
 use Rattle.smk_base.proofs.Under.{both_true}
@@ -15,7 +16,7 @@ use Rattle.smk_world.specs.declared.recipe.Values.{Values}
 use Rattle.smk_record.specs.declared.record.Record.{Record}
 use Rattle.smk_record.specs.declared.record.Stamp.{Stamp}
 use Rattle.smk_record.specs.declared.record.Stamp.TheVariants.{Time, Made}
-use Rattle.smk_record.specs.Records.{agrees, same_flag, same_pair, same_stamp}
+use Rattle.smk_record.specs.Records.{agrees, same_pair, same_stamp}
 use Rattle.smk_store.specs.declared.store.Kept.{Kept}
 use Rattle.smk_store.specs.declared.store.Kept.TheVariants.{Held}
 use Rattle.smk_laws_protocol.proofs.Basics.{none_by}
@@ -30,10 +31,6 @@ pointwise_self : {A : Type 0} (E : A → A → Bool) → ((x : A) → E x x ≡ 
 pointwise_self E h [] = refl
 pointwise_self E h (x ∷ xs) = both_true (E x x) (pointwise E xs xs) (h x) (pointwise_self E h xs)
 
-flag_self : (b : Bool) → same_flag b b ≡ true
-flag_self true = refl
-flag_self false = refl
-
 pair_self : (x : Pair) → same_pair x x ≡ true
 pair_self x = both_true (bytes_eq x.name x.name) _ (place_itself x.name) (place_itself x.value)
 
@@ -44,7 +41,7 @@ item_self : (x : Item) → same_item x x ≡ true
 item_self x = both_true (bytes_eq x.name x.name) _ (place_itself x.name) (pointwise_self bytes_eq place_itself x.paths)
 
 out_self : (x : Out) → same_out x x ≡ true
-out_self x = both_true (bytes_eq x.path x.path) _ (place_itself x.path) (flag_self (is_folder_kind x.kind))
+out_self x = both_true (bytes_eq x.path x.path) _ (place_itself x.path) (flag_itself (is_folder_kind x.kind))
 
 out_item_self : (x : OutItem) → same_out_item x x ≡ true
 out_item_self x = both_true (bytes_eq x.name x.name) _ (place_itself x.name) (pointwise_self same_out out_self x.outs)

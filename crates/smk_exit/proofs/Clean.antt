@@ -1,6 +1,8 @@
 -- Where all jobs that are due are done, all jobs are Clean at the exit.
 use Rattle.std.proofs.Common.{◌≡◌, inl, inr, ℕ, suc, true, false, ◌&&◌, not, List, [], ◌∷◌, map, filter, zip, find, length, refl, ap, sym, subst, ◌∙◌, Option, Some, None, arith, true≢false}
 use Rattle.std.specs.Prelude.{is_none}
+use Rattle.smk_run.proofs.Running.{done_closed}
+use Rattle.smk_laws_protocol.proofs.Chains.{map_same}
 use Rattle.smk_base.specs.Path.{is_under}
 use Rattle.smk_world.specs.declared.event.Event.{Event}
 use Rattle.smk_world.specs.World.{World, run, out_paths}
@@ -37,12 +39,10 @@ use Rattle.smk_run.specs.Turns.{Turn, is_closed, is_done}
 use Rattle.smk_plan_duties.specs.Meaning.{IsMeant, AreMeant}
 use Rattle.smk_safe.specs.Planned.{IsPlain}
 use Rattle.smk_safe.proofs.Images.{source_of_both}
-use Rattle.smk_safe.proofs.Going.{done_closed}
 use Rattle.smk_safe.proofs.Planned as by_plan
 use Rattle.smk_exit.specs.Exit.{AreAllDone, IsDueRun, RunLeavesAllClean, all_clean, begun_so}
 use Rattle.smk_exit.proofs.Left as at_exit
 use Rattle.smk_exit.proofs.Base as base
-use Rattle.smk_exit.proofs.Base.{bool_cases, map_on}
 use Rattle.smk_exit.proofs.Table as table
 
 abbrev listed_by : Image → Path → Known
@@ -129,7 +129,7 @@ module _ (o : Outside) (entry : World) (H : Versions) (flow : Flow) (settings : 
   pub planned : IsPlan flow after_run settings (begun_so begun) (all_clean plan)
   planned = record {
     derived = at_exit.derived_after o entry H flow settings plan ts es ran closed_all;
-    states = map_on (λ j. Clean) (λ j. state_of after_run settings (begun_so begun) (all_clean plan) j) plan.jobs
+    states = map_same (λ j. Clean) (λ j. state_of after_run settings (begun_so begun) (all_clean plan) j) plan.jobs
         (λ j ij. sym (table.state_clean after_run settings plan begun ran.plain free j ij (own_clean j ij) (restored_none j ij)));
   }
 

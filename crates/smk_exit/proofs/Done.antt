@@ -47,12 +47,12 @@ use Rattle.smk_run.specs.Turns.{Turn, AreTurns, found, is_closed, is_done}
 use Rattle.smk_made.specs.Leaving.{owned, IsRecorded}
 use Rattle.smk_made.specs.Running.{AreArranged, HasMade, IsMade, LeavesAlone}
 use Rattle.smk_made.proofs.Done.{follows_split}
-use Rattle.smk_made.proofs.Running.{done_turns_leave}
+use Rattle.smk_made.proofs.Running.{done_turns_leave, orderly_each}
 use Rattle.smk_made.proofs.Sparing.{IsOffTurn, turn_kept, turns_kept}
 use Rattle.smk_safe.specs.Planned.{IsPlain, IsFit}
 use Rattle.smk_safe.specs.Turning.{opened}
 use Rattle.smk_safe.specs.Ready.{AreDoneButLast}
-use Rattle.smk_safe.proofs.Coming.{content_time, orderly_each}
+use Rattle.smk_safe.proofs.Coming.{content_time}
 use Rattle.smk_safe.proofs.Going.{done_begun, out_first}
 use Rattle.smk_safe.proofs.Images.{holder_own, source_of_both}
 use Rattle.smk_safe.proofs.Off.{AreClearOf, clear_none, marks_off, records_off, users_off}

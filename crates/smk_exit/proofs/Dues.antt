@@ -2,6 +2,7 @@
 use Rattle.std.proofs.Common.{◌≡◌, inl, inr, ℕ, zero, suc, ◌+◌, Bool, true, false, cond, List, [], ◌∷◌, ◌++◌, zip, filter, length, take, refl, ap, sym, subst, ◌∙◌, append_assoc, arith, Option, Some, None, option_map, true≢false}
 use Rattle.std.specs.Prelude.{nat_lt, if◌then◌else◌, slice_get}
 use Rattle.std.specs.Option.{option_and_then}
+use Rattle.std.proofs.lemmas.Option.{same_Some}
 use Rattle.smk_base.specs.Path.{overlaps}
 use Rattle.smk_base.proofs.Under.{at_itself, never_both, or_first, overlaps_at}
 use Rattle.smk_world.specs.declared.event.Event.{Event}
@@ -83,9 +84,6 @@ drawn_rest (Run ∷ ds) d h = ap suc (drawn_rest ds d h)
 
 -- ## Serials
 
-some_same : {a b : ℕ} → Some a ≡ Some b → a ≡ b
-some_same e = cc
-
 -- the serial of the duty at this place
 serial_here : (first : Option ℕ) (before : List Duty) (d : Duty) (after : List Duty) → serial_of first (before ++ d ∷ after) (length before) ≡ serial_by (serial_at first (length (filter draws before))) d
 serial_here first before d after =
@@ -96,7 +94,7 @@ drawn_is : (top count n : ℕ) → serial_at (Some (suc top)) count ≡ Some n �
 drawn_is top count n h = go (nat_lt (suc top + count) 18446744073709551616) h
   where
     go : (b : Bool) → (if b then Some (suc top + count) else None) ≡ Some n → n ≡ suc (top + count)
-    go true e = omega (arith, some_same e)
+    go true e = omega (arith, same_Some _ _ e)
     go false e = cc
 
 -- an output's record has the serial
@@ -172,7 +170,7 @@ module _ (image : Image) (cores top : ℕ) (all : List Duty) where
       step Restore (Rest m) (n, kept, is) e k rest again run = cc
       step Restore Run (n, kept, is) e k rest again run = cc
       step Restore (Again m) (n, kept, is) e (same, command, number, last, more) rest again run =
-          let serial_is : t.made ≡ n = sym (some_same (sym (serial_in before (Again m) duties e) ∙ number)) ∙ same_again is in (
+          let serial_is : t.made ≡ n = sym (same_Some _ _ (sym (serial_in before (Again m) duties e) ∙ number)) ∙ same_again is in (
             same,
             λ p r i c. serial_is ∙ kept_serial image n j p r kept (subst (λ (z : Job). IsIn (out_paths z.recipe) p) same i) c,
             again m e more,

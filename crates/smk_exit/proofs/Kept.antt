@@ -2,6 +2,7 @@
 use Rattle.std.proofs.Common.{◌≡◌, inl, inr, Bool, true, false, ◌&&◌, ◌||◌, not, cond, List, [], ◌∷◌, ◌++◌, map, filter, zip, find, refl, ap, sym, subst, ◌∙◌, bytes_eq, Some, None, true≢false}
 use Rattle.std.specs.Prelude.{if◌then◌else◌}
 use Rattle.std.specs.List.{list_any}
+use Rattle.std.proofs.Math.Bool.{and-false}
 use Rattle.smk_base.specs.Path.{is_under}
 use Rattle.smk_world.specs.declared.event.Event.{Event}
 use Rattle.smk_world.specs.World.{World, IsFormed, run, in_paths, out_paths}
@@ -32,7 +33,6 @@ use Rattle.smk_safe.proofs.Planned as by_plan
 use Rattle.smk_exit.specs.Exit.{IsDueRun, IsKept, Kept, KeptJobsStayClean}
 use Rattle.smk_exit.proofs.Left as at_exit
 use Rattle.smk_exit.proofs.Base as base
-use Rattle.smk_exit.proofs.Base.{bool_cases, map_on}
 use Rattle.smk_exit.proofs.Table as table
 
 derived_inj : (xs ys : List Job) → Derived xs ≡ Derived ys → xs ≡ ys
@@ -42,12 +42,8 @@ open_by : (b : Bool) (rs : List Reason) (x : Bool) → is_open (if b then Open e
 open_by true rs x h = absurd (true≢false h)
 open_by false rs x h = refl
 
-and_never : (b : Bool) → (b && false) ≡ false
-and_never true = refl
-and_never false = refl
-
 none_forced : (b c : Bool) (force : Force) → force ≡ No → (b && by_force force c) ≡ false
-none_forced b c force is = ap (λ x. b && by_force x c) is ∙ and_never b
+none_forced b c force is = ap (λ x. b && by_force x c) is ∙ and-false b
 
 filter_none : (f : Path → Bool) (xs : List Path) → ((x : Path) → IsIn xs x → f x ≡ false) → filter f xs ≡ []
 filter_none f [] h = refl

@@ -2,6 +2,7 @@
 use Rattle.std.proofs.Common.{◌≡◌, ◌⊎◌, inl, inr, suc, Bool, true, false, ◌&&◌, ◌||◌, not, List, [], ◌∷◌, flat_map, refl, ap, sym, subst, ◌∙◌, bytes_eq, Some, true≢false}
 use Rattle.std.specs.Prelude.{is_some}
 use Rattle.std.proofs.lemmas.List.{append-nil}
+use Rattle.smk_made.proofs.Running.{orderly_each}
 use Rattle.smk_base.specs.Path.{own_folder, is_at_or_under, overlaps}
 use Rattle.smk_base.specs.Place.{record_place, mark_place, note_place}
 use Rattle.smk_base.proofs.Places.{place_itself}
@@ -34,7 +35,6 @@ use Rattle.smk_safe.specs.Planned.{IsPlain}
 use Rattle.smk_safe.specs.Ready.{AreReady}
 use Rattle.smk_safe.specs.Safe.{IsSafeRun}
 use Rattle.smk_safe.specs.Turning.{AllAreFound}
-use Rattle.smk_safe.proofs.Coming.{orderly_each}
 use Rattle.smk_safe.proofs.Images.{kept_at, marked_at, node_at, sources_now}
 use Rattle.smk_safe.proofs.Off.{NoneMakes, NoneLogs, AreClearOf, records_off, marks_off, notes_off, users_off, made_or_none, logged_or_none}
 use Rattle.smk_safe.proofs.Planned.{no_folders, output_in_spots, log_in_spots}

@@ -1,16 +1,15 @@
 -- Images with the same sources derive the same jobs, where nothing comes in the way of what is made.
-use Rattle.std.proofs.Common.{◌≡◌, inl, inr, Bool, true, false, cond, List, [], ◌∷◌, ◌++◌, map, filter, flat_map, refl, ap, sym, subst, ◌∙◌, Option, Some, None, true≢false}
-use Rattle.std.specs.Prelude.{is_some}
+use Rattle.std.proofs.Common.{◌≡◌, inl, inr, Bool, true, false, cond, List, [], ◌∷◌, ◌++◌, map, filter, flat_map, refl, ap, sym, subst, ◌∙◌, true≢false}
 use Rattle.smk_base.specs.Path.{overlaps}
-use Rattle.smk_world.specs.declared.event.Node.{Node}
 use Rattle.smk_world.specs.Trees.{Path, IsIn}
 use Rattle.smk_flow.specs.declared.job.Job.{Job}
 use Rattle.smk_flow.specs.Flows.{Flow}
 use Rattle.smk_choose.specs.Choose.{Sources}
-use Rattle.smk_store.specs.Images.{Content, Image, content_of, is_source, sources, holds_source}
+use Rattle.smk_store.specs.Images.{Image, is_source, sources, holds_source}
 use Rattle.smk_store.specs.Soundness.{SameSources}
 use Rattle.smk_chain.specs.Derive.{Listings, Clash, Deep, TooManyPaths, Derived, derivation, outcome, refused_if, reach, refused, is_deep, jobs, spots, clashes, hinders, sources_of}
 use Rattle.std.specs.Prelude.{nat_lt, length}
+use Rattle.smk_laws_plan.proofs.PlanOrder.{some_node}
 use Rattle.smk_laws_protocol.proofs.Basics.{some_of, any_by}
 use Rattle.smk_laws_plan.specs.Current.{IsComplete}
 use Rattle.smk_laws_plan.proofs.CurrentLists.{filter_in, in_filter}
@@ -25,10 +24,6 @@ same_answer : (a b : Bool) → (a ≡ true → b ≡ true) → (b ≡ true → a
 same_answer true b h k = h refl
 same_answer false true h k = absurd (true≢false (sym (k refl)))
 same_answer false false h k = refl
-
-some_node : (n : Option Node) (f : Content) → content_of n ≡ Some f → is_some n ≡ true
-some_node None f h = cc
-some_node (Some n) f h = refl
 
 -- ## Sources
 

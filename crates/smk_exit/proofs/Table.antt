@@ -2,6 +2,7 @@
 use Rattle.std.proofs.Common.{◌≡◌, Bool, true, false, ◌&&◌, ◌||◌, not, cond, List, [], ◌∷◌, ◌++◌, map, filter, flat_map, zip, find, refl, ap, sym, subst, ◌∙◌, bytes_eq, Option, Some, None, true≢false}
 use Rattle.std.specs.Prelude.{is_none, if◌then◌else◌}
 use Rattle.std.specs.List.{list_any}
+use Rattle.std.proofs.Math.Bool.{and-false}
 use Rattle.smk_base.specs.Path.{is_under}
 use Rattle.smk_world.specs.World.{in_paths, out_paths}
 use Rattle.smk_world.specs.Trees.{Path, Each, IsIn, among, folder_over}
@@ -78,10 +79,6 @@ module _ (plan : Plan) (f : Job → State) (states : plan.states ≡ map f plan.
 
 -- ## All Clean
 
-and_never : (b : Bool) → (b && false) ≡ false
-and_never true = refl
-and_never false = refl
-
 never_any : {A : Type 0} (xs : List A) (f : A → Bool) → ((x : A) → f x ≡ false) → list_any f xs ≡ false
 never_any [] f h = refl
 never_any (x ∷ xs) f h = (λ i. h x i || list_any f xs) ∙ never_any xs f h
@@ -91,7 +88,7 @@ never_kept [] f h = refl
 never_kept (x ∷ xs) f h = ap (λ b. cond b (x ∷ filter f xs) (filter f xs)) (h x) ∙ never_kept xs f h
 
 none_forced : (b c : Bool) (force : Force) → force ≡ No → (b && by_force force c) ≡ false
-none_forced b c force is = ap (λ x. b && by_force x c) is ∙ and_never b
+none_forced b c force is = ap (λ x. b && by_force x c) is ∙ and-false b
 
 -- what is wanted back without a job to run is wanted back with some
 wanted_more : (a b c r : Bool) → (a || (b || (c || false))) ≡ true → (a || (b || (c || r))) ≡ true
@@ -149,7 +146,7 @@ module _ (image : Image) (settings : Settings) (plan : Plan) (begun : List Path)
   wanted_before old_image old_progress f states j p h =
       let read = list_any (λ (k : Job). among (in_paths k.recipe) p && true) plan.jobs in
       let run_then : is_input later (λ e. is_to_run e.1) p ≡ false =
-      read_by_run_is later (λ k. Clean) refl plain p ∙ never_any plan.jobs (λ (k : Job). among (in_paths k.recipe) p && false) (λ k. and_never (among (in_paths k.recipe) p)) in
+      read_by_run_is later (λ k. Clean) refl plain p ∙ never_any plan.jobs (λ (k : Job). among (in_paths k.recipe) p && false) (λ k. and-false (among (in_paths k.recipe) p)) in
       let then_is : is_wanted_back image settings progress later j p ≡ wanted_by later (λ k. Clean) refl plain settings j p read false =
       wanted_is later (λ k. Clean) refl plain image settings progress j p
       ∙ (λ n. wanted_by later (λ k. Clean) refl plain settings j p (read_is later (λ k. Clean) refl plain p n) (run_then n)) in

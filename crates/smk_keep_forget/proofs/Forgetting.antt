@@ -1,6 +1,8 @@
 -- What stands when a path was forgotten.
 use Rattle.std.proofs.Common.{◌≡◌, ◌⊎◌, inl, inr, Bool, true, false, ◌&&◌, ◌||◌, List, [], ◌∷◌, ◌++◌, refl, sym, ap, subst, ◌∙◌, bytes_eq, None}
 use Rattle.std.specs.Prelude.{if◌then◌else◌, is_some}
+use Rattle.std.proofs.Math.Bool.{and-false}
+use Rattle.smk_keep_lock.proofs.Releasing.{going_none}
 use Rattle.smk_base.specs.Path.{is_at_or_under}
 use Rattle.smk_base.specs.Place.{record_place, mark_place, note_place, records_folder, marks_folder, notes_folder}
 use Rattle.smk_base.proofs.Apart.{record-record, record-mark, record-note, mark-mark, mark-note, note-note}
@@ -8,7 +10,6 @@ use Rattle.smk_base.proofs.Places.{place_itself}
 use Rattle.smk_base.proofs.Under.{at_itself, never_both}
 use Rattle.smk_world.specs.declared.event.Event.{Event}
 use Rattle.smk_world.specs.declared.event.NodeState.{NodeState}
-use Rattle.smk_world.specs.declared.event.NodeState.TheVariants.{Owned, Known as Standing}
 use Rattle.smk_world.specs.Calls.{Lets, failed}
 use Rattle.smk_world.specs.Requests.{Request, request, HasDone}
 use Rattle.smk_world.specs.Requests.Request.{Remove, Settle}
@@ -32,10 +33,6 @@ follows_rest act [] fs w h = h
 follows_rest act (e ∷ es) fs w h = follows_rest act es fs (after w e) h.1
 
 -- ## What is removed reads nothing
-
-going_none : (s : NodeState) → reading (going None s) ≡ None
-going_none Owned = refl
-going_none (Standing now besides) = refl
 
 -- a removal, or a settling
 abbrev IsRemoval : Request → Type 0
@@ -99,10 +96,6 @@ each_removal p = (
   (inl (record_place p, refl), (inl (note_place p, refl), (inr (record_place p ∷ note_place p ∷ [], refl), (inl (mark_place p, refl), (inr (mark_place p ∷ [], refl), tt))))),
 )
 
-and_none : (b : Bool) → (b && false) ≡ false
-and_none true = refl
-and_none false = refl
-
 no_record : (b : Bool) (p : Path) → stands (if b then kept_by record_in p None else Absent) ≡ false
 no_record true p = refl
 no_record false p = refl
@@ -114,9 +107,9 @@ unknown w p r m n =
     ap (λ k. stands (if text then kept_by record_in p k else Absent) || ((text && is_some (reading (w.nodes (mark_place p)))) || (text && is_some (reading (w.nodes (note_place p)))))) r
     ∙ ap (λ b. b || ((text && is_some (reading (w.nodes (mark_place p)))) || (text && is_some (reading (w.nodes (note_place p)))))) (no_record text p)
     ∙ ap (λ k. (text && is_some k) || (text && is_some (reading (w.nodes (note_place p))))) m
-    ∙ ap (λ b. b || (text && is_some (reading (w.nodes (note_place p))))) (and_none text)
+    ∙ ap (λ b. b || (text && is_some (reading (w.nodes (note_place p))))) (and-false text)
     ∙ ap (λ k. text && is_some k) n
-    ∙ and_none text
+    ∙ and-false text
 
 within_none : (q p : Path) → is_at_or_under q (record_place p) ≡ false → is_at_or_under q (note_place p) ≡ false → is_at_or_under q (mark_place p) ≡ false → is_within q (own_of p) ≡ false
 within_none q p r n m =

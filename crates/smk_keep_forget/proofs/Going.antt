@@ -1,6 +1,8 @@
 -- Paths that are forgotten, one after another.
 use Rattle.std.proofs.Common.{◌≡◌, inl, inr, Bool, true, false, ◌&&◌, ◌||◌, not, List, [], ◌∷◌, ◌++◌, refl, sym, ap, subst, ◌∙◌, bytes_eq, append_assoc, append-nil, Option, Some, None, Result, Ok, Err}
 use Rattle.std.specs.Prelude.{IsErrAnd, IsSome, is_some}
+use Rattle.std.proofs.lemmas.Option.{same_Some}
+use Rattle.std.proofs.Math.Bool.{and-true, and-false, or-false}
 use Rattle.smk_base.proofs.Places.{same_place}
 use Rattle.smk_base.proofs.Under.{or_first, or_second}
 use Rattle.smk_world.specs.declared.event.Event.{Event}
@@ -37,15 +39,12 @@ some_of : {A : Type 0} (o : Option A) → IsSome o → (x : A) × (o ≡ Some x)
 some_of None h = absurd cc
 some_of (Some x) h = (x, refl)
 
-same_some : {A : Type 0} (x y : A) → Some x ≡ Some y → x ≡ y
-same_some x y e = cc
-
 -- the events that led on, where nothing failed
 pub acted_at : (act : Act) (P : World → List Event → Type 0) (a b : Device) (w : World) → HasActed act P a b false → a.world ≡ Some w → (es : List Event) × Follows act w es × P w es × (b.world ≡ Some (run w es))
 acted_at act P a b w h at =
     let v = some_of b.world (h.stays refl (ap is_some at)) in
     let d = h.did v.0 v.1 in
-    let same : d.0 ≡ w = same_some d.0 w (sym d.1 ∙ at) in (
+    let same : d.0 ≡ w = same_Some d.0 w (sym d.1 ∙ at) in (
       d.2.0,
       subst (λ u. Follows act u d.2.0) same d.2.1,
       subst (λ u. P u d.2.0) same d.2.2,
@@ -58,22 +57,10 @@ follows_first act (e ∷ es) fs w h = (h.0, follows_first act es fs (after w e) 
 
 -- ## What is known then
 
-and_true : (b : Bool) → (b && true) ≡ b
-and_true true = refl
-and_true false = refl
-
-and_false : (b : Bool) → (b && false) ≡ false
-and_false true = refl
-and_false false = refl
-
-or_false : (b : Bool) → (b || false) ≡ b
-or_false true = refl
-or_false false = refl
-
 module _ (act : Act) (w : World) where
   -- all that was known, but for the paths that are forgotten
   pub known_now : (done : List Path) (es : List Event) → Follows act w es → HaveTurned w done es → (q : Path) → is_known (seen (run w es)) q ≡ (is_known (seen w) q && not (among done q))
-  known_now done es follows (Looked looks h) q = known_same (run w es) w (looks_nodes false w es h) q ∙ sym (and_true (is_known (seen w) q))
+  known_now done es follows (Looked looks h) q = known_same (run w es) w (looks_nodes false w es h) q ∙ sym (and-true (is_known (seen w) q))
   known_now all log follows (Turned done _ p es fs _ k turned turn all_is log_is) q =
       let both : Follows act w (es ++ fs) = subst (Follows act w) log_is follows in
       let v = run w es in
@@ -88,12 +75,12 @@ module _ (act : Act) (w : World) where
       by v fs done p gone before true is =
           ap (is_known (seen (run v fs))) (same_place q p is)
           ∙ gone.none
-          ∙ sym (and_false (is_known (seen w) q))
+          ∙ sym (and-false (is_known (seen w) q))
           ∙ sym (ap (λ b. is_known (seen w) q && not b) (named_append q done (p ∷ []) ∙ or_second (among done q) (bytes_eq q p || false) (or_first (bytes_eq q p) false is)))
       by v fs done p gone before false is =
           known_other p (seen v) (seen (run v fs)) gone q is
           ∙ before
-          ∙ sym (ap (λ b. is_known (seen w) q && not b) (named_append q done (p ∷ []) ∙ ap (λ b. among done q || (b || false)) is ∙ or_false (among done q)))
+          ∙ sym (ap (λ b. is_known (seen w) q && not b) (named_append q done (p ∷ []) ∙ ap (λ b. among done q || (b || false)) is ∙ or-false (among done q)))
 
 -- ## One turn
 

@@ -1,5 +1,6 @@
 -- The lines of paths that are forgotten, and what is put.
 use Rattle.std.proofs.Common.{◌≡◌, Bool, true, false, ◌&&◌, ◌||◌, not, List, [], ◌∷◌, ◌++◌, refl, sym, ap, subst, ◌∙◌, bytes_eq, append_assoc, append-nil, Err, arith}
+use Rattle.std.proofs.Math.Bool.{or-false}
 use Rattle.smk_world.specs.Calls.{Rose}
 use Rattle.smk_world.specs.Devices.{Sunk}
 use Rattle.smk_world.specs.Trees.{Path, among}
@@ -29,10 +30,6 @@ among_behind : (done ps : List Path) (q : Path) → among (behind done ps) q ≡
 among_behind done [] q = refl
 among_behind done (p ∷ ps) q = among_behind (p ∷ done) ps q ∙ or_swap (among ps q) (bytes_eq q p) (among done q)
 
-or_false : (b : Bool) → (b || false) ≡ b
-or_false true = refl
-or_false false = refl
-
 module _ (image : Image) where
   abbrev pub line_after : List Path → Path → Text
   line_after done p = forgotten_line (is_known image p && not (among done p)) p
@@ -48,7 +45,7 @@ module _ (image : Image) where
   lines_next xs p =
       lines_append [] xs (p ∷ [])
       ∙ ap (λ t. forgotten_lines image [] xs ++ t)
-      (append-nil (line_after (behind [] xs) p) ∙ ap (λ b. forgotten_line (is_known image p && not b) p) (among_behind [] xs p ∙ or_false (among xs p)))
+      (append-nil (line_after (behind [] xs) p) ∙ ap (λ b. forgotten_line (is_known image p && not b) p) (among_behind [] xs p ∙ or-false (among xs p)))
 
   -- the lines of a front are a front of the lines
   pub lines_front : (xs ys : List Path) → IsPrefix (forgotten_lines image [] xs) (forgotten_lines image [] (xs ++ ys))

@@ -14,9 +14,6 @@ use Rattle.smk_store.specs.Loading.{IsStoreOf, entry_at, entry_in}
 use Rattle.smk_store.specs.Stores.{Known, entry_of}
 use Rattle.smk_keep_forget.specs.Turns.{without}
 
-never : true ≡ false → ⊥
-never e = cc
-
 -- ## What is known of a path
 
 abbrev entry_unless : Bool → Option Entry → Option Entry
@@ -65,7 +62,7 @@ in_left [] ys zs x more h = more h
 in_left (y ∷ xs) ys zs x more (inl e) = inl e
 in_left (y ∷ xs) ys zs x more (inr h) = inr (in_left xs ys zs x more h)
 
-in_right : {A : Type 0} (xs ys : List A) (x : A) → IsIn ys x → IsIn (xs ++ ys) x
+pub in_right : {A : Type 0} (xs ys : List A) (x : A) → IsIn ys x → IsIn (xs ++ ys) x
 in_right [] ys x h = h
 in_right (y ∷ xs) ys x h = inr (in_right xs ys x h)
 

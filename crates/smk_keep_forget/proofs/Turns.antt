@@ -1,5 +1,5 @@
 -- The turn of a path, by a store that was loaded before or anew.
-use Rattle.std.proofs.Common.{◌≡◌, ◌⊎◌, inl, inr, Bool, true, false, ◌||◌, List, [], ◌∷◌, ◌++◌, map, refl, sym, ap, subst, ◌∙◌, bytes_eq, append_assoc, Result, Ok, Err}
+use Rattle.std.proofs.Common.{◌≡◌, ◌⊎◌, inl, inr, Bool, true, false, ◌||◌, List, [], ◌∷◌, ◌++◌, map, refl, sym, ap, subst, ◌∙◌, bytes_eq, append_assoc, Result, Ok, Err, true≢false}
 use Rattle.std.specs.Prelude.{IfOk, is_some}
 use Rattle.smk_base.proofs.Under.{or_cases, or_first, or_second}
 use Rattle.smk_world.specs.declared.event.Event.{Event}
@@ -27,9 +27,6 @@ use Rattle.smk_keep_forget.specs.Steps.{HasTurned, TurnsBy}
 use Rattle.smk_keep_forget.specs.Turns.{IsStoreBut, without}
 use Rattle.smk_keep_forget.proofs.Forgetting.{forgotten_now}
 use Rattle.smk_keep_forget.proofs.Stores.{entry_there, inputs_left, known_by_store, store_of, store_without, without_none}
-
-never : true ≡ false → ⊥
-never e = cc
 
 -- ## Worlds with the same nodes
 
@@ -118,7 +115,7 @@ module _ (act : Act) (w : World) (p : Path) (es : List Event) (follows : Follows
       let all : without [] ks ≡ ks = without_none ks in
       record {
         turn = record { store = ks; is_store = store; did = did; known = known_ok ks r store known; rising = λ q e. rising };
-        but = but_next done [] ks r (λ q h. absurd (never (sym h))) (subst (IsStoreOf (seen w)) (sym all) store) (subst (λ l. HasForgotten l p r w es) (sym all) did)
+        but = but_next done [] ks r (λ q h. absurd (true≢false (sym h))) (subst (IsStoreOf (seen w)) (sym all) store) (subst (λ l. HasForgotten l p r w es) (sym all) did)
             (known_ok ks r store known);
       }
 
@@ -127,7 +124,7 @@ module _ (act : Act) (w : World) (p : Path) (es : List Event) (follows : Follows
 
   forgotten_less : (gone : List Path) (ks : List Known) (r : Result Bool StoreFault) → is_stamp r ≡ false → HasForgotten ks p r w es → HasForgotten (without gone ks) p r w es
   forgotten_less gone ks (Ok k) h (unseen, later) = (unseen_less gone ks unseen, later)
-  forgotten_less gone ks (Err (StampSeen q)) h did = absurd (never h)
+  forgotten_less gone ks (Err (StampSeen q)) h did = absurd (true≢false h)
   forgotten_less gone ks (Err DeviceFault) h (inl look) = inl look
   forgotten_less gone ks (Err DeviceFault) h (inr (unseen, later)) = inr (unseen_less gone ks unseen, later)
   forgotten_less gone ks (Err OutOfMemory) h look = look
@@ -140,7 +137,7 @@ module _ (act : Act) (w : World) (p : Path) (es : List Event) (follows : Follows
   not_gone done gone sub off = by (among gone p) refl
     where
       by : (b : Bool) → among gone p ≡ b → b ≡ false
-      by true h = absurd (never (sym (sub p h) ∙ off))
+      by true h = absurd (true≢false (sym (sub p h) ∙ off))
       by false h = refl
 
   -- by one of which some paths may be gone
@@ -151,7 +148,7 @@ module _ (act : Act) (w : World) (p : Path) (es : List Event) (follows : Follows
       let less = forgotten_less but.gone ks r plain did in
       let tells = known_ok left r but.is_store (known_less but.gone ks r (not_gone done but.gone but.forgotten off) known) in
       record {
-        turn = record { store = left; is_store = but.is_store; did = less; known = tells; rising = λ q e. absurd (never (sym (ap is_stamp e) ∙ plain)) };
+        turn = record { store = left; is_store = but.is_store; did = less; known = tells; rising = λ q e. absurd (true≢false (sym (ap is_stamp e) ∙ plain)) };
         but = but_next done but.gone ks r but.forgotten but.is_store less tells;
       }
 
@@ -201,14 +198,14 @@ acted_unloaded act a b old new p f plain looked =
 -- the store may tell of what is gone: it was loaded anew
 pub acted_again : (act : Act) (a b c : Device) (done : List Path) (old new : List Known) (p : Path) (s r : Result Bool StoreFault) → is_stamp s ≡ true → HasActed act (HasForgotten old p s) a b (store_failed s)
     → HasActed act (TurnsBy old p new r) b c (store_failed r) → HasActed act (λ w es. IsStoreBut done w old → HasTurned done p new r w es) a c (store_failed r)
-acted_again act a b c done old new p (Ok k) r h did more = absurd (never (sym h))
+acted_again act a b c done old new p (Ok k) r h did more = absurd (true≢false (sym h))
 acted_again act a b c done old new p (Err (StampSeen q)) r h did more =
     acted_then act (HasForgotten old p (Err (StampSeen q))) (TurnsBy old p new r) (λ w es. IsStoreBut done w old → HasTurned done p new r w es) a b c (store_failed r)
     (λ w es fs follows first follows2 turns but.
     turned_before done p new r w es fs first.1 (turns done (but_same done w (run w es) old (sym (looks_nodes false w es first.1)) but)))
     did more
-acted_again act a b c done old new p (Err DeviceFault) r h did more = absurd (never (sym h))
-acted_again act a b c done old new p (Err OutOfMemory) r h did more = absurd (never (sym h))
+acted_again act a b c done old new p (Err DeviceFault) r h did more = absurd (true≢false (sym h))
+acted_again act a b c done old new p (Err OutOfMemory) r h did more = absurd (true≢false (sym h))
 
 pub acted_stale : (act : Act) (a b : Device) (done : List Path) (ks : List Known) (p : Path) (r : Result Bool StoreFault) → among done p ≡ false → is_stamp r ≡ false → HasActed act (HasForgotten ks p r) a b (store_failed r)
     → IfOk r (λ k. k ≡ is_some (entry_of ks p)) → HasActed act (λ w es. IsStoreBut done w ks → HasTurned done p ks r w es) a b (store_failed r)

@@ -20,7 +20,7 @@ use Rattle.smk_keep_lock.specs.Unlocking.{HasRemoved, is_device}
 use Rattle.smk_keep_lock.proofs.Named.{removed_call}
 use Rattle.smk_keep_lock.proofs.Staying.{KeepsTo, call_stays, carried_keep, changes_only, stays_itself}
 
-going_none : (s : NodeState) → reading (going None s) ≡ None
+pub going_none : (s : NodeState) → reading (going None s) ≡ None
 going_none Owned = refl
 going_none (Known now besides) = refl
 

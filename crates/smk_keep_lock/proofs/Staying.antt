@@ -1,6 +1,7 @@
 -- What calls leave as it was, where they keep to some places.
-use Rattle.std.proofs.Common.{◌≡◌, ◌⊎◌, inl, inr, Bool, true, false, ◌&&◌, ◌||◌, List, [], ◌∷◌, refl, sym, ap, subst, ◌∙◌, bytes_eq, Option, Some, None, Ok, Err}
+use Rattle.std.proofs.Common.{◌≡◌, ◌⊎◌, inl, inr, Bool, true, false, ◌&&◌, ◌||◌, List, [], ◌∷◌, refl, sym, ap, subst, ◌∙◌, bytes_eq, Option, Some, None, Ok, Err, true≢false}
 use Rattle.std.specs.Prelude.{if◌then◌else◌, is_some}
+use Rattle.std.proofs.lemmas.Bool.{or_parts, and_right}
 use Rattle.smk_base.specs.Path.{is_under, is_at_or_under}
 use Rattle.smk_world.specs.declared.event.Besides.{Besides}
 use Rattle.smk_world.specs.declared.event.Call.{Call}
@@ -17,9 +18,6 @@ use Rattle.smk_world.specs.Requests.{Request, request, HasDone, IsCutShort, Carr
 use Rattle.smk_world.specs.Requests.Request.{Look, ReadUpTo, ListFolder, Write, Create, Remove, MakeParents, Settle, Protect, Start, Wait}
 use Rattle.smk_world.specs.Trees.{Path, IsIn, Each}
 use Rattle.smk_keep_lock.specs.Changing.{Stays, ChangesOnly}
-
-never : true ≡ false → ⊥
-never e = cc
 
 -- ## One place
 
@@ -38,7 +36,7 @@ stays_firm Owned = (refl, λ n h. h)
 stays_firm (Known now besides) = (refl, λ n h. firm_leaves now n besides h)
 
 stays_unless : (b : Bool) (s t : NodeState) → b ≡ false → Stays s (if b then t else s)
-stays_unless true s t h = absurd (never h)
+stays_unless true s t h = absurd (true≢false h)
 stays_unless false s t h = stays_itself s
 
 stays_if : (b : Bool) (s t : NodeState) → Stays s t → Stays s (if b then t else s)
@@ -61,38 +59,30 @@ KeepsTo places below (Protect p) = ⊥
 KeepsTo places below (Start recipe logs command) = ⊥
 KeepsTo places below Wait = ⊥
 
-or_none : (a b : Bool) → (a || b) ≡ false → (a ≡ false) × (b ≡ false)
-or_none true b h = absurd (never h)
-or_none false b h = (refl, h)
-
 outside_each : (places : List Path) (p q : Path) → IsIn places p → is_within q places ≡ false → is_at_or_under q p ≡ false
 outside_each [] p q i h = absurd i
-outside_each (x ∷ places) p q (inl e) h = ap (is_at_or_under q) e ∙ (or_none (is_at_or_under q x) (is_within q places) h).0
-outside_each (x ∷ places) p q (inr i) h = outside_each places p q i (or_none (is_at_or_under q x) (is_within q places) h).1
+outside_each (x ∷ places) p q (inl e) h = ap (is_at_or_under q) e ∙ (or_parts (is_at_or_under q x) (is_within q places) h).0
+outside_each (x ∷ places) p q (inr i) h = outside_each places p q i (or_parts (is_at_or_under q x) (is_within q places) h).1
 
 above_none : (below : List Path) (p q : Path) → IsIn below p → is_above q below ≡ false → is_under p q ≡ false
 above_none [] p q i h = absurd i
-above_none (x ∷ below) p q (inl e) h = ap (λ y. is_under y q) e ∙ (or_none (is_under x q) (is_above q below) h).0
-above_none (x ∷ below) p q (inr i) h = above_none below p q i (or_none (is_under x q) (is_above q below) h).1
-
-and_none : (a b : Bool) → b ≡ false → (a && b) ≡ false
-and_none true b h = h
-and_none false b h = refl
+above_none (x ∷ below) p q (inl e) h = ap (λ y. is_under y q) e ∙ (or_parts (is_under x q) (is_above q below) h).0
+above_none (x ∷ below) p q (inr i) h = above_none below p q i (or_parts (is_under x q) (is_above q below) h).1
 
 module _ (places below : List Path) (left : List Change) (cs : List Child) (q : Path) (s : NodeState) (out : is_within q places ≡ false) (off : is_above q below ≡ false) where
   other : (p : Path) → IsIn places p → bytes_eq q p ≡ false
-  other p i = (or_none (bytes_eq q p) (is_under q p) (outside_each places p q i out)).0
+  other p i = (or_parts (bytes_eq q p) (is_under q p) (outside_each places p q i out)).0
 
   pub call_stays : (call : Call) → KeepsTo places below (request call) → Stays s (node_after call left cs q s)
   call_stays (Looked p r) k = stays_itself s
   call_stays (ReadFile p limit r) k = stays_itself s
   call_stays (ReadFolder p r) k = stays_itself s
   call_stays (Written p bytes r) k = absurd k
-  call_stays (Created p (Ok made)) k = stays_unless (made && bytes_eq q p) s _ (and_none made (bytes_eq q p) (other p k))
-  call_stays (Created p (Err e)) k = stays_unless (reads_nothing s && bytes_eq q p) s _ (and_none (reads_nothing s) (bytes_eq q p) (other p k))
+  call_stays (Created p (Ok made)) k = stays_unless (made && bytes_eq q p) s _ (and_right made (bytes_eq q p) (other p k))
+  call_stays (Created p (Err e)) k = stays_unless (reads_nothing s && bytes_eq q p) s _ (and_right (reads_nothing s) (bytes_eq q p) (other p k))
   call_stays (Removed p r) k = stays_unless (is_at_or_under q p) s _ (outside_each places p q k out)
   call_stays (MadeParents p (Ok u)) k = stays_unless (is_under p q) s _ (above_none below p q k off)
-  call_stays (MadeParents p (Err e)) k = stays_unless (is_some (standing left q) && is_under p q) s _ (and_none (is_some (standing left q)) (is_under p q) (above_none below p q k off))
+  call_stays (MadeParents p (Err e)) k = stays_unless (is_some (standing left q) && is_under p q) s _ (and_right (is_some (standing left q)) (is_under p q) (above_none below p q k off))
   call_stays (Settled ps (Ok u)) k = stays_if (is_within q ps || (is_above q ps && reads_folder s)) s (firm s) (stays_firm s)
   call_stays (Settled ps (Err e)) k = stays_itself s
   call_stays (Protected p r) k = absurd k
@@ -131,14 +121,14 @@ look_keeps : (places below : List Path) (call : Call) → is_look call ≡ true 
 look_keeps places below (Looked p r) h = tt
 look_keeps places below (ReadFile p limit r) h = tt
 look_keeps places below (ReadFolder p r) h = tt
-look_keeps places below (Written p bytes r) h = absurd (never (sym h))
-look_keeps places below (Created p r) h = absurd (never (sym h))
-look_keeps places below (Removed p r) h = absurd (never (sym h))
-look_keeps places below (MadeParents p r) h = absurd (never (sym h))
+look_keeps places below (Written p bytes r) h = absurd (true≢false (sym h))
+look_keeps places below (Created p r) h = absurd (true≢false (sym h))
+look_keeps places below (Removed p r) h = absurd (true≢false (sym h))
+look_keeps places below (MadeParents p r) h = absurd (true≢false (sym h))
 look_keeps places below (Settled ps r) h = tt
-look_keeps places below (Protected p r) h = absurd (never (sym h))
-look_keeps places below (Started recipe logs command r) h = absurd (never (sym h))
-look_keeps places below (Waited r) h = absurd (never (sym h))
+look_keeps places below (Protected p r) h = absurd (true≢false (sym h))
+look_keeps places below (Started recipe logs command r) h = absurd (true≢false (sym h))
+look_keeps places below (Waited r) h = absurd (true≢false (sym h))
 
 pub looks_keep : (places below : List Path) (f : Bool) (es : List Event) → AreLooks f es → AllKeepTo places below es
 looks_keep places below f [] h = tt

@@ -24,7 +24,7 @@ flat_empty : {A B : Type 0} (f : A → List B) (xs : List A) → ((x : A) → In
 flat_empty f [] h = refl
 flat_empty f (x ∷ xs) h = λ i. h x (inl refl) i ++ flat_empty f xs (λ y k. h y (inr k)) i
 
-filter_empty : {A : Type 0} (test : A → Bool) (xs : List A) → ((x : A) → In x xs → test x ≡ false) → filter test xs ≡ []
+pub filter_empty : {A : Type 0} (test : A → Bool) (xs : List A) → ((x : A) → In x xs → test x ≡ false) → filter test xs ≡ []
 filter_empty test [] h = refl
 filter_empty test (x ∷ xs) h = ap (λ b. cond b (x ∷ filter test xs) (filter test xs)) (h x (inl refl)) ∙ filter_empty test xs (λ y k. h y (inr k))
 

@@ -14,7 +14,7 @@ use Rattle.smk_laws_plan.proofs.CurrentLists.{In, in_flat, flat_in, in_left, in_
 use Rattle.smk_laws_plan.proofs.CurrentReach.{walk_make}
 use Rattle.smk_laws_plan.proofs.CurrentRecipes.{folders_wanted}
 use Rattle.smk_laws_plan.proofs.CurrentSame.{pointwise_same, pair_same}
-use Rattle.smk_laws_plan.proofs.CurrentWalked.{walked_chosen, chosen_same}
+use Rattle.smk_laws_plan.proofs.CurrentWalked.{walked_chosen, chosen_same, candidate_trans}
 use Rattle.smk_laws_complete.specs.Derived.{IsServed}
 use Rattle.smk_laws_complete.proofs.Meanings.{MadeBy, all_each, choice_of, ground_source, source_choice}
 
@@ -30,12 +30,6 @@ same_parts a b h =
 
 candidate_self : (a : Candidate) → same_candidate a a ≡ true
 candidate_self a = and_both _ _ (eq-eqb a.rule a.rule refl) (list_self a.binding)
-
-candidate_trans : (a b c : Candidate) → same_candidate a b ≡ true → same_candidate b c ≡ true → same_candidate a c ≡ true
-candidate_trans a b c h k =
-    let p = same_parts b c k in
-    and_both (eqb a.rule c.rule) _ (subst (λ n. eqb a.rule n ≡ true) p.0 (and_left (eqb a.rule b.rule) _ h))
-    (subst (λ n. pointwise same_pair a.binding n ≡ true) p.1 (and_right (eqb a.rule b.rule) _ h))
 
 module _ (flow : Flow) (sources : Sources) (L : Listings) (targets : List Path) where
   abbrev pub all_walked : List Candidate

@@ -1,10 +1,10 @@
 -- What removals and settlings were called, and what is absent after a removal.
-use Rattle.std.proofs.Common.{◌≡◌, ◌⊎◌, inl, inr, Bool, true, false, List, [], ◌∷◌, ◌++◌, map, refl, ap, subst, ◌∙◌, append_assoc, None, Ok, Err}
+use Rattle.std.proofs.Common.{◌≡◌, ◌⊎◌, inl, inr, Bool, true, false, List, [], ◌∷◌, ◌++◌, map, ap, subst, ◌∙◌, append_assoc, None, Ok, Err, true≢false}
 use Rattle.std.specs.Prelude.{if◌then◌else◌}
+use Rattle.smk_laws_protocol.proofs.OneJob.{going_none}
 use Rattle.smk_base.specs.Path.{is_at_or_under}
 use Rattle.smk_base.specs.declared.tree.Tree.{Tree}
 use Rattle.smk_world.specs.declared.event.NodeState.{NodeState}
-use Rattle.smk_world.specs.declared.event.NodeState.TheVariants.{Owned, Known}
 use Rattle.smk_world.specs.declared.event.Call.{Call}
 use Rattle.smk_world.specs.declared.event.Call.TheVariants.{Looked, ReadFile, ReadFolder, Written, Created, Removed, MadeParents, Settled, Protected, Started, Waited}
 use Rattle.smk_world.specs.declared.event.Change.{Change}
@@ -17,14 +17,11 @@ use Rattle.smk_world.specs.Requests.Request.{Remove, Settle}
 use Rattle.smk_world.specs.Trees.{Path, IsIn}
 use Rattle.smk_laws_protocol.specs.Protocol.{IsAbsent}
 
-true_false : true ≡ false → ⊥
-true_false e = cc
-
 -- ## What was called
 
 pub removed_call : (call : Call) (p : Path) → request call ≡ Remove p → failed call ≡ false → call ≡ Removed p (Ok tt)
 removed_call (Removed x (Ok u)) p is quiet = let e : x ≡ p = cc in ap (λ y. Removed y (Ok tt)) e
-removed_call (Removed x (Err e)) p is quiet = absurd (true_false quiet)
+removed_call (Removed x (Err e)) p is quiet = absurd (true≢false quiet)
 removed_call (Looked x r) p is quiet = cc
 removed_call (ReadFile x limit r) p is quiet = cc
 removed_call (ReadFolder x r) p is quiet = cc
@@ -38,7 +35,7 @@ removed_call (Waited r) p is quiet = cc
 
 pub settled_call : (call : Call) (ps : List Path) → request call ≡ Settle ps → failed call ≡ false → call ≡ Settled ps (Ok tt)
 settled_call (Settled xs (Ok u)) ps is quiet = let e : xs ≡ ps = cc in ap (λ y. Settled y (Ok tt)) e
-settled_call (Settled xs (Err e)) ps is quiet = absurd (true_false quiet)
+settled_call (Settled xs (Err e)) ps is quiet = absurd (true≢false quiet)
 settled_call (Looked x r) ps is quiet = cc
 settled_call (ReadFile x limit r) ps is quiet = cc
 settled_call (ReadFolder x r) ps is quiet = cc
@@ -51,10 +48,6 @@ settled_call (Started recipe logs command r) ps is quiet = cc
 settled_call (Waited r) ps is quiet = cc
 
 -- ## What was removed is absent, and stays so
-
-gone_none : (s : NodeState) → reading (going None s) ≡ None
-gone_none Owned = refl
-gone_none (Known n besides) = refl
 
 reads_if : (b : Bool) (s t : NodeState) → reading s ≡ None → reading t ≡ None → reading (if b then t else s) ≡ None
 reads_if true s t h k = k
@@ -72,10 +65,10 @@ module _ (act : Recipe → List Tree → Acted) (w : World) (e : Event) (p : Pat
   node_there q = ap (λ c. node_after c e.left w.children q (w.nodes q)) is ∙ ap (λ l. removed_node p l q (w.nodes q)) none_left
 
   pub absent_now : IsAbsent (after w e) p
-  absent_now q at = ap reading (node_there q) ∙ ap (λ b. reading (if b then going None (w.nodes q) else w.nodes q)) at ∙ gone_none (w.nodes q)
+  absent_now q at = ap reading (node_there q) ∙ ap (λ b. reading (if b then going None (w.nodes q) else w.nodes q)) at ∙ going_none (w.nodes q)
 
   pub absent_still : (x : Path) → IsAbsent w x → IsAbsent (after w e) x
-  absent_still x h q at = ap reading (node_there q) ∙ reads_if (is_at_or_under q p) (w.nodes q) (going None (w.nodes q)) (h q at) (gone_none (w.nodes q))
+  absent_still x h q at = ap reading (node_there q) ∙ reads_if (is_at_or_under q p) (w.nodes q) (going None (w.nodes q)) (h q at) (going_none (w.nodes q))
 
 -- ## Lists
 

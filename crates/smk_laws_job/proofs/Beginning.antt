@@ -1,21 +1,20 @@
 -- The calls of `begin` are a run of the protocol after which the job's child runs.
-use Rattle.std.proofs.Common.{◌≡◌, ◌≢◌, ◌⊎◌, inl, inr, ℕ, Bool, true, false, List, [], ◌∷◌, ◌++◌, map, refl, sym, ap, subst, ◌∙◌, append_assoc, Some, None, Ok, Err}
-use Rattle.std.specs.Prelude.{IsTrue, IsSome}
+use Rattle.std.proofs.Common.{◌≡◌, ◌≢◌, ◌⊎◌, inl, inr, ℕ, Bool, true, false, List, [], ◌∷◌, ◌++◌, map, refl, sym, ap, subst, ◌∙◌, append_assoc, Ok, Err, true≢false}
+use Rattle.std.specs.Prelude.{IsTrue}
 use Rattle.smk_base.specs.Place.{mark_place, note_place}
 use Rattle.smk_base.specs.declared.tree.Tree.{Tree}
-use Rattle.smk_world.specs.declared.event.NodeState.{NodeState}
-use Rattle.smk_world.specs.declared.event.NodeState.TheVariants.{Owned, Known}
 use Rattle.smk_world.specs.declared.event.Call.{Call}
 use Rattle.smk_world.specs.declared.event.Call.TheVariants.{Looked, ReadFile, ReadFolder, Written, Created, Removed, MadeParents, Settled, Protected, Started, Waited}
 use Rattle.smk_world.specs.declared.event.Event.{Event}
 use Rattle.smk_world.specs.declared.recipe.Recipe.{Recipe}
-use Rattle.smk_world.specs.World.{World, after, reading}
+use Rattle.smk_world.specs.World.{World, after}
 use Rattle.smk_world.specs.Calls.{Acted, Lets, Stands, failed, started_number, started_numbers}
 use Rattle.smk_world.specs.Runs.{Follows}
 use Rattle.smk_world.specs.Requests.{Request, request, HasDone}
 use Rattle.smk_world.specs.Requests.Request.{Create, MakeParents, Settle, Start}
 use Rattle.smk_world.specs.Trees.{Path, IsIn, among}
 use Rattle.std.proofs.lemmas.List.{append-nil}
+use Rattle.smk_store_members.proofs.Trees.{stands_some}
 use Rattle.smk_store.specs.Soundness.{Outside}
 use Rattle.smk_store.specs.Steps.{make_each, remove_each}
 use Rattle.smk_laws_protocol.specs.Protocol.{OpenJob, RunState, Phase, Marking, Marked, Running, Runs, Done, Next, Begin, Go, Moves, MakeFolders, Mark, AllMarked, MakeRoom, Start as StartMove, MayBegin, HasSerial, outputs, own, mark_places, IsThere, IsFirst}
@@ -28,14 +27,11 @@ use Rattle.smk_job.proofs.Launching.{known_marking}
 use Rattle.smk_laws_job.proofs.Abandoning.{removed_call, settled_call}
 use Rattle.smk_job.proofs.Lists.{among_by}
 
-true_false : true ≡ false → ⊥
-true_false e = cc
-
 -- ## What was called
 
 pub parents_call : (call : Call) (p : Path) → request call ≡ MakeParents p → failed call ≡ false → call ≡ MadeParents p (Ok tt)
 parents_call (MadeParents x (Ok u)) p is quiet = let e : x ≡ p = cc in ap (λ y. MadeParents y (Ok tt)) e
-parents_call (MadeParents x (Err e)) p is quiet = absurd (true_false quiet)
+parents_call (MadeParents x (Err e)) p is quiet = absurd (true≢false quiet)
 parents_call (Looked x r) p is quiet = cc
 parents_call (ReadFile x limit r) p is quiet = cc
 parents_call (ReadFolder x r) p is quiet = cc
@@ -49,7 +45,7 @@ parents_call (Waited r) p is quiet = cc
 
 pub created_call : (call : Call) (p : Path) → request call ≡ Create p → failed call ≡ false → (made : Bool) × (call ≡ Created p (Ok made))
 created_call (Created x (Ok made)) p is quiet = let e : x ≡ p = cc in (made, ap (λ y. Created y (Ok made)) e)
-created_call (Created x (Err e)) p is quiet = absurd (true_false quiet)
+created_call (Created x (Err e)) p is quiet = absurd (true≢false quiet)
 created_call (Looked x r) p is quiet = cc
 created_call (ReadFile x limit r) p is quiet = cc
 created_call (ReadFolder x r) p is quiet = cc
@@ -67,7 +63,7 @@ started_call (Started x xs c (Ok n)) r ls command is quiet =
     let f : xs ≡ ls = cc in
     let g : c ≡ command = cc in
     (n, λ i. Started (e i) (f i) (g i) (Ok n))
-started_call (Started x xs c (Err e)) r ls command is quiet = absurd (true_false quiet)
+started_call (Started x xs c (Err e)) r ls command is quiet = absurd (true≢false quiet)
 started_call (Looked x y) r ls command is quiet = cc
 started_call (ReadFile x limit y) r ls command is quiet = cc
 started_call (ReadFolder x y) r ls command is quiet = cc
@@ -81,11 +77,6 @@ started_call (Waited y) r ls command is quiet = cc
 
 pub stepped : (act : Recipe → List Tree → Acted) (r : Request) (w : World) (e : Event) → Lets act w e.call e.left → request e.call ≡ r → failed e.call ≡ false → Stepped act r w (after w e)
 stepped act r w e lets is quiet = record { event = e; lets = lets; is = is; quiet = quiet; now = refl }
-
-pub there_of : (st : NodeState) → Stands st → IsSome (reading st)
-there_of Owned h = absurd h
-there_of (Known None besides) h = absurd h
-there_of (Known (Some n) besides) h = refl
 
 -- ## One job of a run
 
@@ -144,7 +135,7 @@ module _ (o : Outside) (s : RunState) (j : OpenJob) (top number : ℕ) (calm : s
       Next (at_phase Marking) (at_phase Marked) end w e es
       (Go e [] s.jobs (record j { phase = Marking }) Marked refl (inl calm)
       (subst (λ c. Moves o w (record j { phase = Marking }) c Marked) (sym is)
-      (AllMarked all refl (each_of (IsThere w) all (λ p i. there_of (w.nodes p) (there p i))) (each_of (λ p. IsTrue (among all p)) all (λ p i. among_by all p i)))))
+      (AllMarked all refl (each_of (IsThere w) all (λ p i. stands_some (w.nodes p) (there p i))) (each_of (λ p. IsTrue (among all p)) all (λ p i. among_by all p i)))))
       (more (after w e) es (comes.0.1, comes.1.2, none_before (Settled all (Ok tt)) e es is refl comes.2))
 
   -- the outputs are removed

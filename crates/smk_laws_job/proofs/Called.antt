@@ -1,5 +1,5 @@
 -- What a call was, by its request, and what it leaves to read.
-use Rattle.std.proofs.Common.{◌≡◌, ℕ, Bool, true, false, List, ap, ◌∙◌, Some, None, Ok, Err}
+use Rattle.std.proofs.Common.{◌≡◌, ℕ, Bool, true, false, List, ap, ◌∙◌, Some, None, Ok, Err, true≢false}
 use Rattle.std.specs.Prelude.{if◌then◌else◌}
 use Rattle.smk_base.specs.Path.{is_under}
 use Rattle.smk_world.specs.declared.event.Call.{Call}
@@ -17,9 +17,6 @@ use Rattle.smk_world.specs.Trees.{Path, Act}
 use Rattle.smk_laws_protocol.specs.Protocol.{as_ok}
 use Rattle.smk_job.proofs.Single.{Stepped}
 use Rattle.smk_laws_job.proofs.Beginning.{parents_call}
-
-true_false : true ≡ false → ⊥
-true_false e = cc
 
 -- ## A call as it is when it succeeds
 
@@ -115,7 +112,7 @@ written_call (Written x held (Ok u)) p bytes is quiet =
     let e : x ≡ p = cc in
     let f : held ≡ bytes = cc in
     λ i. Written (e i) (f i) (Ok tt)
-written_call (Written x held (Err e)) p bytes is quiet = absurd (true_false quiet)
+written_call (Written x held (Err e)) p bytes is quiet = absurd (true≢false quiet)
 written_call (Looked x r) p bytes is quiet = cc
 written_call (ReadFile x limit r) p bytes is quiet = cc
 written_call (ReadFolder x r) p bytes is quiet = cc

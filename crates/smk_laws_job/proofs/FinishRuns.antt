@@ -1,7 +1,8 @@
 -- What `finish` does is a run of the protocol: one that closes the job, or one that ends where a call failed.
-use Rattle.std.proofs.Common.{◌≡◌, ◌⊎◌, inl, inr, ℕ, Bool, true, false, not, List, [], ◌∷◌, ◌++◌, map, filter, refl, sym, ap, subst, ◌∙◌, append_assoc, append-nil, Some, None}
+use Rattle.std.proofs.Common.{◌≡◌, inl, inr, ℕ, Bool, true, false, not, List, [], ◌∷◌, ◌++◌, map, filter, refl, sym, ap, subst, ◌∙◌, append_assoc, append-nil, Some, None, true≢false}
 use Rattle.std.specs.Prelude.{IsTrue, if◌then◌else◌, option_map}
 use Rattle.std.specs.List.{list_all}
+use Rattle.std.proofs.lemmas.Bool.{not_from_false, cases_Bool}
 use Rattle.smk_base.specs.Path.{is_path, is_at_or_under, own_folder}
 use Rattle.smk_base.specs.Place.{mark_place, record_place}
 use Rattle.smk_base.specs.declared.tree.Tree.{Tree}
@@ -49,9 +50,6 @@ use Rattle.smk_laws_job.proofs.Abandoning as abandoning
 use Rattle.smk_laws_job.proofs.Readable.{AreFor, read_back, outputs_paths}
 use Rattle.smk_laws_job.proofs.Still.{IsStill, still_itself, still_members}
 use Rattle.smk_laws_job.proofs.Onward.{AreListed, full_of, halted, without, keeps_all, loses_all}
-
-true_false : true ≡ false → ⊥
-true_false e = cc
 
 -- ## Looks
 
@@ -150,7 +148,7 @@ looks_split : (o : Outside) (es fs : List Event) → Looks o (es ++ fs) → Look
 looks_split o [] fs h = (tt, h)
 looks_split o (e ∷ es) fs h = let more = looks_split o es fs h.1 in ((h.0, more.0), more.1)
 
-look_ok : (o : Outside) (call : Call) → IsLook o call → IsLook o (as_ok call)
+pub look_ok : (o : Outside) (call : Call) → IsLook o call → IsLook o (as_ok call)
 look_ok o (Looked x r) h = tt
 look_ok o (ReadFile x limit r) h = tt
 look_ok o (ReadFolder x r) h = tt
@@ -207,29 +205,25 @@ each_kind nodes (out ∷ outs) (m ∷ ms) h = ((m, h.0), each_kind nodes outs ms
 
 good_by : (p : Path) (entries : List TreeEntry) (b : Bool) (st : NodeState) → b ≡ true → reads_file st ≡ true
     → is_good p Plain (if is_directory (if b then reading st else None) then Some (Folder entries) else option_map File (bytes_of (if b then reading st else None))) ≡ true
-good_by p entries false st e h = absurd (true_false (sym e))
-good_by p entries true Owned e h = absurd (true_false (sym h))
-good_by p entries true (Known None besides) e h = absurd (true_false (sym h))
-good_by p entries true (Known (Some Directory) besides) e h = absurd (true_false (sym h))
+good_by p entries false st e h = absurd (true≢false (sym e))
+good_by p entries true Owned e h = absurd (true≢false (sym h))
+good_by p entries true (Known None besides) e h = absurd (true≢false (sym h))
+good_by p entries true (Known (Some Directory) besides) e h = absurd (true≢false (sym h))
 good_by p entries true (Known (Some (Regular bytes time read_only)) besides) e h = refl
-
-not_of : (b : Bool) → b ≡ false → not b ≡ true
-not_of true h = absurd (true_false h)
-not_of false h = refl
 
 good_file : (o : Outside) (w : World) (out : Out) → out.kind ≡ Plain → IsTrue (is_path_text out.path) → reads_file (w.nodes out.path) ≡ true → IsGood o w out
 good_file o w out kind path file =
     subst (λ k. IsTrue (is_good out.path k (tree_now (now o w) out.path))) (sym kind)
     (good_by out.path (map (entry_under (now o w) out.path) (names_under (now o w) out.path)) (not (is_at_or_under out.path own_folder)) (w.nodes out.path)
-    (not_of (is_at_or_under out.path own_folder) (path_outside out.path (and_first (is_path out.path) (is_text out.path) path))) file)
+    (not_from_false (is_at_or_under out.path own_folder) (path_outside out.path (and_first (is_path out.path) (is_text out.path) path))) file)
 
 good_folder_by : (p : Path) (entries : List TreeEntry) (b : Bool) (st : NodeState) → b ≡ true → reads_folder st ≡ true → are_members p (map (λ (e : TreeEntry). e.name) entries) ≡ true
     → is_good p FolderKind (if is_directory (if b then reading st else None) then Some (Folder entries) else option_map File (bytes_of (if b then reading st else None))) ≡ true
-good_folder_by p entries false st e h k = absurd (true_false (sym e))
-good_folder_by p entries true Owned e h k = absurd (true_false (sym h))
-good_folder_by p entries true (Known None besides) e h k = absurd (true_false (sym h))
+good_folder_by p entries false st e h k = absurd (true≢false (sym e))
+good_folder_by p entries true Owned e h k = absurd (true≢false (sym h))
+good_folder_by p entries true (Known None besides) e h k = absurd (true≢false (sym h))
 good_folder_by p entries true (Known (Some Directory) besides) e h k = k
-good_folder_by p entries true (Known (Some (Regular bytes time read_only)) besides) e h k = absurd (true_false (sym h))
+good_folder_by p entries true (Known (Some (Regular bytes time read_only)) besides) e h k = absurd (true≢false (sym h))
 
 entry_names : (image : Image) (p : Path) (qs : List Path)
     → map (λ (e : TreeEntry). e.name) (map (entry_under image p) qs) ≡ map (λ (m : Member). m.name) (map (λ q. record { folder = is_folder image q; name = below p q }) qs)
@@ -242,7 +236,7 @@ good_folder o w out members kind path folder valid same =
     let names : are_members out.path (map (λ (m : Member). m.name) members) ≡ true = and_first (are_members out.path (map (λ (m : Member). m.name) members)) _ valid in
     subst (λ k. IsTrue (is_good out.path k (tree_now (now o w) out.path))) (sym kind)
     (good_folder_by out.path (map (entry_under (now o w) out.path) (names_under (now o w) out.path)) (not (is_at_or_under out.path own_folder)) (w.nodes out.path)
-    (not_of (is_at_or_under out.path own_folder) (path_outside out.path (and_first (is_path out.path) (is_text out.path) path))) folder
+    (not_from_false (is_at_or_under out.path own_folder) (path_outside out.path (and_first (is_path out.path) (is_text out.path) path))) folder
     (ap (are_members out.path) (entry_names (now o w) out.path (names_under (now o w) out.path) ∙ ap (map (λ (m : Member). m.name)) (sym same)) ∙ names))
 
 -- ## Which outputs are directories
@@ -264,10 +258,10 @@ among_folder outs p h =
     (a.0, b.0, b.1, a.2)
 
 file_or_folder : (st : NodeState) → reads_file st ≡ true → reads_folder st ≡ true → ⊥
-file_or_folder Owned h k = true_false (sym h)
-file_or_folder (Known None besides) h k = true_false (sym h)
-file_or_folder (Known (Some Directory) besides) h k = true_false (sym h)
-file_or_folder (Known (Some (Regular bytes time read_only)) besides) h k = true_false (sym k)
+file_or_folder Owned h k = true≢false (sym h)
+file_or_folder (Known None besides) h k = true≢false (sym h)
+file_or_folder (Known (Some Directory) besides) h k = true≢false (sym h)
+file_or_folder (Known (Some (Regular bytes time read_only)) besides) h k = true≢false (sym k)
 
 out_path : (outs : List Out) (p : Path) → IsIn (map (λ (x : Out). x.path) outs) p → (out : Out) × IsIn outs out × (p ≡ out.path)
 out_path outs p i = in_map (λ (x : Out). x.path) outs p i
@@ -281,10 +275,6 @@ text_in : (ps : List Path) (p : Path) → list_all is_path_text ps ≡ true → 
 text_in [] p h i = absurd i
 text_in (q ∷ ps) p h (inl e) = subst (λ x. is_path_text x ≡ true) (sym e) (and_first (is_path_text q) (list_all is_path_text ps) h)
 text_in (q ∷ ps) p h (inr i) = text_in ps p (and_second (is_path_text q) (list_all is_path_text ps) h) i
-
-bool_cases : (b : Bool) → (b ≡ true) ⊎ (b ≡ false)
-bool_cases true = inl refl
-bool_cases false = inr refl
 
 -- ## An open job whose outputs were seen
 
@@ -331,7 +321,7 @@ module _ (o : Outside) (j : OpenJob) (number : ℕ) (w : World) (may : MayFinish
 
   -- a plain output is no directory too
   plain_apart : (out : Out) (m : List Member) → out.kind ≡ Plain → IsOfKind u.nodes out.path out.kind m → among (folders_of j.recipe) out.path ≡ false
-  plain_apart out m kind is = elim (bool_cases (among (folders_of j.recipe) out.path)) [
+  plain_apart out m kind is = elim (cases_Bool (among (folders_of j.recipe) out.path)) [
     | inr no_folder ↦ no_folder
     | inl folder ↦
         let other = among_folder outs out.path folder in
@@ -344,7 +334,7 @@ module _ (o : Outside) (j : OpenJob) (number : ℕ) (w : World) (may : MayFinish
       file_kind FolderKind e k = cc
 
       folder_kind : (q : Path) (n : List Member) (kind : Kind) → is_folder_kind kind ≡ true → IsOfKind u.nodes q kind n → reads_folder (u.nodes q) ≡ true
-      folder_kind q n Plain e k = absurd (true_false (sym e))
+      folder_kind q n Plain e k = absurd (true≢false (sym e))
       folder_kind q n FolderKind e k = k.0
 
   -- what was seen of an output is what is to be recorded, as long as it stands
@@ -482,18 +472,18 @@ module _ (o : Outside) (s : RunState) (js ks : List OpenJob) (j : OpenJob) (numb
 
 pub finishing_runs : FinishingRuns
 finishing_runs o s js ks j number w es at calm ended may follows (members, seen) =
-    keeping o s js ks j number w es at calm ended true (record s { jobs = js ++ ks }) (λ e. absurd (true_false e)) (λ e. refl) may follows members seen
+    keeping o s js ks j number w es at calm ended true (record s { jobs = js ++ ks }) (λ e. absurd (true≢false e)) (λ e. refl) may follows members seen
 
 pub losing_runs : LosingRuns
 losing_runs o s js ks j number fault w es at calm ended some follows seen =
-    losing o s js ks j number w es at calm ended true (record s { jobs = js ++ ks }) (λ e. absurd (true_false e)) (λ e. refl) follows fault seen
+    losing o s js ks j number w es at calm ended true (record s { jobs = js ++ ks }) (λ e. absurd (true≢false e)) (λ e. refl) follows fault seen
 
 pub finishing_parts : FinishingPartsRun
 finishing_parts o s js ks j number w es at calm ended may follows (inl blind) = blind_runs o s calm (outs_of j.recipe) w es blind
 finishing_parts o s js ks j number w es at calm ended may follows (inr (inl (members, seen))) =
-    keeping o s js ks j number w es at calm ended false (stopped o s) (λ e. stops o s js ks j number w es at calm ended) (λ e. absurd (true_false (sym e))) may follows members seen
+    keeping o s js ks j number w es at calm ended false (stopped o s) (λ e. stops o s js ks j number w es at calm ended) (λ e. absurd (true≢false (sym e))) may follows members seen
 finishing_parts o s js ks j number w es at calm ended may follows (inr (inr (fault, seen))) =
-    losing o s js ks j number w es at calm ended false (stopped o s) (λ e. stops o s js ks j number w es at calm ended) (λ e. absurd (true_false (sym e))) follows fault seen
+    losing o s js ks j number w es at calm ended false (stopped o s) (λ e. stops o s js ks j number w es at calm ended) (λ e. absurd (true≢false (sym e))) follows fault seen
 
 -- ## All that `abandon` does
 
@@ -503,5 +493,5 @@ abandoning_runs o s js ks j number status w es at calm ended some follows done =
     let marks = map mark_place ps in
     let end : RunState = record s { jobs = js ++ ks } in
     subst (λ x. Runs o x w es end) (sym (in_phase s js ks j (Ended status) at ended))
-    (loses_all o true end s js ks j calm (λ e. absurd (true_false e)) status w es some (λ e. refl) follows
+    (loses_all o true end s js ks j calm (λ e. absurd (true≢false e)) status w es some (λ e. refl) follows
     (subst (λ rs. Carries rs true es) (abandoning.regrouped (remove_each ps) (remove_each (record_places j)) (Settle (ps ++ record_places j)) (remove_each marks ++ Settle marks ∷ [])) done))

@@ -1,5 +1,5 @@
 -- What `forget` does of a path is a run of the protocol of forgetting.
-use Rattle.std.proofs.Common.{◌≡◌, ◌⊎◌, inl, inr, Bool, true, false, ◌&&◌, ◌||◌, List, [], ◌∷◌, ◌++◌, refl, sym, ap, subst, ◌∙◌, append-nil, bytes_eq, Option, Some, None, Result, Ok, Err}
+use Rattle.std.proofs.Common.{◌≡◌, ◌⊎◌, inl, inr, Bool, true, false, ◌&&◌, ◌||◌, List, [], ◌∷◌, ◌++◌, refl, sym, ap, subst, ◌∙◌, append-nil, bytes_eq, Option, Some, None, Result, Ok, Err, true≢false}
 use Rattle.std.specs.Prelude.{All, IsTrue, option_map, if◌then◌else◌}
 use Rattle.std.proofs.lemmas.List.Elements.{All-nil, All-cons, All-head, All-tail}
 use Rattle.std.proofs.lemmas.List.Concat.{flat_map-cons}
@@ -45,9 +45,6 @@ use Rattle.smk_laws_job.proofs.Called.{as_removed, as_settled}
 use Rattle.smk_job.proofs.Single.{Stepped}
 use Rattle.smk_laws_job.proofs.Abandoning.{removed_call, settled_call, absent_now, absent_still}
 use Rattle.smk_laws_job.proofs.Beginning.{stepped}
-
-true_false : true ≡ false → ⊥
-true_false e = cc
 
 -- ## No record names a file there by its time
 
@@ -121,7 +118,7 @@ firm_known (Standing n besides) free = (n, refl)
 
 settled_on : (b : Bool) (s : NodeState) → b ≡ true → (if b then firm s else s) ≡ firm s
 settled_on true s h = refl
-settled_on false s h = absurd (true_false (sym h))
+settled_on false s h = absurd (true≢false (sym h))
 
 firm_within : (w : World) (e : Event) (ps : List Path) (q : Path) → NoneOwned w → e.call ≡ Settled ps (Ok tt) → is_within q ps ≡ true → IsFirm (after w e) q
 firm_within w e ps q free is at =
@@ -227,18 +224,18 @@ module _ (o : Outside) (paths : List Path) (ok : Bool) where
 
 -- ## Looks
 
-look_of : (o : Outside) (call : Call) → is_look call ≡ true → IsLook o call
+pub look_of : (o : Outside) (call : Call) → is_look call ≡ true → IsLook o call
 look_of o (Looked x r) h = tt
 look_of o (ReadFile x limit r) h = tt
 look_of o (ReadFolder x r) h = tt
-look_of o (Written x bytes r) h = absurd (true_false (sym h))
-look_of o (Created x r) h = absurd (true_false (sym h))
-look_of o (Removed x r) h = absurd (true_false (sym h))
-look_of o (MadeParents x r) h = absurd (true_false (sym h))
-look_of o (Settled xs r) h = absurd (true_false (sym h))
-look_of o (Protected x r) h = absurd (true_false (sym h))
-look_of o (Started recipe logs command r) h = absurd (true_false (sym h))
-look_of o (Waited r) h = absurd (true_false (sym h))
+look_of o (Written x bytes r) h = absurd (true≢false (sym h))
+look_of o (Created x r) h = absurd (true≢false (sym h))
+look_of o (Removed x r) h = absurd (true≢false (sym h))
+look_of o (MadeParents x r) h = absurd (true≢false (sym h))
+look_of o (Settled xs r) h = absurd (true≢false (sym h))
+look_of o (Protected x r) h = absurd (true≢false (sym h))
+look_of o (Started recipe logs command r) h = absurd (true≢false (sym h))
+look_of o (Waited r) h = absurd (true≢false (sym h))
 
 abbrev EachLook : List Event → Type 0
 EachLook es = All (λ (x : Event). is_look x.call ≡ true) es
@@ -303,5 +300,5 @@ forgetting_safe o store paths p result w es own text stored free follows did =
     by : (answer : Result Bool StoreFault) (stage : Stage) → LeavesAt answer stage → KeepsSound o w es paths (is_resting stage) → KeepsSound o w es paths (is_at_rest answer)
     by (Ok known) stage e k = subst (λ x. KeepsSound o w es paths (is_resting x)) e k
     by (Err (StampSeen q)) stage e k = subst (λ x. KeepsSound o w es paths (is_resting x)) e k
-    by (Err Device) stage e k = record { safe = k.safe; sound_at_exit = λ H sound end. absurd (true_false (sym end)) }
+    by (Err Device) stage e k = record { safe = k.safe; sound_at_exit = λ H sound end. absurd (true≢false (sym end)) }
     by (Err OutOfMemory) stage e k = subst (λ x. KeepsSound o w es paths (is_resting x)) e k

@@ -1,6 +1,7 @@
 -- How the calls that close a job go on, carried out or cut short: where one fails the run stops, and else it comes to where this says.
 use Rattle.std.proofs.Common.{◌≡◌, ◌⊎◌, inl, inr, ℕ, Bool, true, false, List, [], ◌∷◌, ◌++◌, map, filter, refl, sym, ap, subst, ◌∙◌, bytes_eq, Some, Ok}
 use Rattle.std.specs.Prelude.{IsTrue, if◌then◌else◌, option_map}
+use Rattle.std.proofs.lemmas.Bool.{cases_Bool}
 use Rattle.smk_base.specs.Path.{is_under, is_at_or_under, own_folder}
 use Rattle.smk_base.specs.Place.{mark_place, record_place}
 use Rattle.smk_base.proofs.Places.{same_place}
@@ -31,10 +32,6 @@ use Rattle.smk_laws_job.proofs.Abandoning.{removed_call, settled_call, in_first,
 use Rattle.smk_job.proofs.Lists.{among_by}
 use Rattle.smk_laws_job.proofs.Beginning.{parents_call, stepped}
 use Rattle.smk_laws_job.proofs.Called.{as_parents, as_removed, as_settled, as_written, written_call, holds_reading, folder_kept}
-
-bool_cases : (b : Bool) → (b ≡ true) ⊎ (b ≡ false)
-bool_cases true = inl refl
-bool_cases false = inr refl
 
 pub without : {A : Type 0} (f : A → Bool) (xs ys : List A) (x : A) → f x ≡ false → filter f (xs ++ x ∷ ys) ≡ filter f (xs ++ ys)
 without f [] ys x h = ap (λ (b : Bool). if b then x ∷ filter f ys else filter f ys) h
@@ -264,7 +261,7 @@ module _ (o : Outside) (ok : Bool) (goal s : RunState) (js ks : List OpenJob) (j
       let through : (y : Path) → Has (full_of j L) w y → Has (full_of j L) v y =
       λ y h. (h.0, h.1, folder_kept o.act place w v (record_place y) _ s1 h.2) in
       let onward : (y : Path) → Has (full_of j L) v y → Has (full_of j L) x y =
-      λ y h. elim (bool_cases (bytes_eq (record_place y) place)) [
+      λ y h. elim (cases_Bool (bytes_eq (record_place y) place)) [
         | inl same ↦ subst (Has (full_of j L) x) (sym (same_record y p (same_place (record_place y) place same))) here
         | inr other ↦ (h.0, h.1, ap reading (step_keeps o.act (Write place bytes) v x (record_place y) s2 other) ∙ h.2)
       ] in

@@ -2,6 +2,8 @@
 use Rattle.std.proofs.Common.{◌≡◌, ◌≢◌, ◌⊎◌, inl, inr, ℕ, Bool, true, false, ◌||◌, List, [], ◌∷◌, ◌++◌, map, filter, refl, sym, ap, subst, ◌∙◌, Ok}
 use Rattle.std.specs.Prelude.{IsTrue}
 use Rattle.std.specs.List.{list_any}
+use Rattle.std.proofs.lemmas.Bool.{false≢true}
+use Rattle.smk_store_members.proofs.Trees.{stands_some}
 use Rattle.smk_base.specs.Place.{mark_place}
 use Rattle.smk_base.proofs.Under.{or_second}
 use Rattle.smk_world.specs.declared.event.Call.{Call}
@@ -28,13 +30,10 @@ use Rattle.smk_job.proofs.Launching.{known_marking}
 use Rattle.smk_laws_job.proofs.Abandoning.{removed_call, settled_call, in_first, in_second, in_map, absent_now, absent_still, in_either}
 use Rattle.smk_job.proofs.Lists.{among_by}
 use Rattle.smk_laws_job.proofs.Abandoning as abandoning
-use Rattle.smk_laws_job.proofs.Beginning.{parents_call, created_call, started_call, stepped, there_of, some_marks}
+use Rattle.smk_laws_job.proofs.Beginning.{parents_call, created_call, started_call, stepped, some_marks}
 use Rattle.smk_laws_job.proofs.Beginning as beginning
 
 -- ## One request
-
-false_true : false ≡ true → ⊥
-false_true e = cc
 
 -- one of the calls failed
 abbrev fails : List Event → Bool
@@ -52,7 +51,7 @@ module _ (o : Outside) (goal : RunState) where
       → ((e : Event) → request e.call ≡ r → failed e.call ≡ false → Step o s w e mid)
       → ((e : Event) (fs : List Event) → request e.call ≡ r → failed e.call ≡ false → Lets o.act w e.call e.left → Follows o.act (after w e) fs → IsPart rs fs → Ends mid (after w e) fs)
       → Ends s w es
-  one_part s mid w [] r rs halts part follows ok go more = (s, Done s w, λ bad. absurd (false_true bad))
+  one_part s mid w [] r rs halts part follows ok go more = (s, Done s w, λ bad. absurd (false≢true bad))
   one_part s mid w (e ∷ es) r rs halts (is, inl (bad, none)) follows ok go more =
       subst (λ fs. Ends s w (e ∷ fs)) (sym none) (_, Next s _ _ w e [] (Fail e mid bad (ok e is)) (Done _ (after w e)), λ b. halts)
   one_part s mid w (e ∷ es) r rs halts (is, inr (quiet, rest)) follows ok go more =
@@ -105,7 +104,7 @@ module _ (o : Outside) (goal : RunState) where
     marks_settled w es qs there follows part more =
         let all = mark_places j in
         let move : Moves o w (record j { phase = Marking }) (Settled all (Ok tt)) Marked =
-        AllMarked all refl (each_of (IsThere w) all (λ p i. there_of (w.nodes p) (there p i))) (each_of (λ p. IsTrue (among all p)) all (λ p i. among_by all p i)) in
+        AllMarked all refl (each_of (IsThere w) all (λ p i. stands_some (w.nodes p) (there p i))) (each_of (λ p. IsTrue (among all p)) all (λ p i. among_by all p i)) in
         one_part (at_phase Marking) (at_phase Marked) w es (Settle all) qs (halts_at Marking refl) part follows
         (λ e is. moves Marking Marked w (record e { call = as_ok e.call }) (Settled all (Ok tt)) (as_settled e.call all is) move)
         (λ e is quiet. moves Marking Marked w e (Settled all (Ok tt)) (settled_call e.call all is quiet) move)
@@ -130,7 +129,7 @@ module _ (o : Outside) (goal : RunState) where
         (λ e fs is quiet lets later rest. parents ps (after w e) fs qs (λ q i. owns q (inr i)) later rest more)
 
     starts : (command : List ℕ) (w : World) (es : List Event) → IsPart (Start j.recipe j.logs command ∷ []) es → Ends (at_phase Marked) w es
-    starts command w [] part = (at_phase Marked, Done (at_phase Marked) w, λ bad. absurd (false_true bad))
+    starts command w [] part = (at_phase Marked, Done (at_phase Marked) w, λ bad. absurd (false≢true bad))
     starts command w (e ∷ es) (is, inl (bad, none)) =
         subst (λ fs. Ends (at_phase Marked) w (e ∷ fs)) (sym none) (
           _,
@@ -145,7 +144,7 @@ module _ (o : Outside) (goal : RunState) where
           at_phase (Running child.0),
           Next (at_phase Marked) (at_phase (Running child.0)) (at_phase (Running child.0)) w e []
               (moves Marked (Running child.0) w e (Started j.recipe j.logs command (Ok child.0)) child.1 (StartMove command child.0 refl)) (Done (at_phase (Running child.0)) (after w e)),
-          λ bad. absurd (false_true (sym (ap (λ b. b || false) quiet) ∙ bad)),
+          λ bad. absurd (false≢true (sym (ap (λ b. b || false) quiet) ∙ bad)),
         )
 
     abbrev Clears : World → List Path → World → Type 0
@@ -208,7 +207,7 @@ module _ (o : Outside) (goal : RunState) where
         (λ e fs is quiet lets later rest. over (after w e) fs rest)
       where
         over : (v : World) (fs : List Event) → IsPart [] fs → Ends (record s { jobs = js ++ ks }) v fs
-        over v [] rest = (record s { jobs = js ++ ks }, Done (record s { jobs = js ++ ks }) v, λ bad. absurd (false_true bad))
+        over v [] rest = (record s { jobs = js ++ ks }, Done (record s { jobs = js ++ ks }) v, λ bad. absurd (false≢true bad))
         over v (f ∷ fs) rest = absurd rest
 
 -- ## What was carried out is a part

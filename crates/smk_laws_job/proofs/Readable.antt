@@ -1,10 +1,11 @@
 -- A job's record with the members of a directory is read as it was written, where the one without members may be written.
-use Rattle.std.proofs.Common.{◌≡◌, ℕ, ◌+◌, ◌*◌, ◌≤◌, Bool, true, false, ◌&&◌, List, [], ◌∷◌, ◌++◌, map, length, refl, sym, ap, ◌∙◌, arith, length-append, bytes_eq, Option, Some}
+use Rattle.std.proofs.Common.{◌≡◌, ℕ, ◌+◌, ◌*◌, ◌≤◌, Bool, true, false, ◌&&◌, List, [], ◌∷◌, ◌++◌, map, length, refl, sym, ap, ◌∙◌, arith, length-append, bytes_eq, Option, Some, true≢false}
 use Rattle.std.specs.Prelude.{nat_le, if◌then◌else◌, decimal, ◌==◌}
 use Rattle.std.specs.List.{list_all, flat_map}
 use Rattle.std.proofs.lemmas.Bool.{leb-true, le-leb}
 use Rattle.std.proofs.lemmas.Fmt.{length-decimal-le}
 use Rattle.std.proofs.lemmas.List.Concat.{flat_map-cons}
+use Rattle.smk_job.proofs.Viewing.{last_true}
 use Rattle.smk_base.specs.Path.{is_path}
 use Rattle.smk_base.specs.declared.tree.Pair.{Pair}
 use Rattle.smk_base.proofs.Places.{and_first, and_second, place_itself}
@@ -22,9 +23,6 @@ use Rattle.smk_record.specs.Spelling.{num, text, letter, member, list, head, spe
 use Rattle.smk_store.specs.declared.store.Kept.TheVariants.{Unreadable, Held}
 use Rattle.smk_store.specs.Images.{kept_by, for_path}
 use Rattle.smk_job.specs.Jobs.{is_long}
-
-true_false : true ≡ false → ⊥
-true_false e = cc
 
 -- ## Lengths
 
@@ -87,12 +85,6 @@ short_with p made recipe stamps ms few long =
 
 -- ## Validity
 
-last_true : (bs : List Bool) (x y : Bool) → list_all (λ (b : Bool). b) (bs ++ x ∷ []) ≡ true → y ≡ true → list_all (λ (b : Bool). b) (bs ++ y ∷ []) ≡ true
-last_true [] x y h k = both_true y true k refl
-last_true (b ∷ bs) x y h k =
-    both_true b (list_all (λ (a : Bool). a) (bs ++ y ∷ [])) (and_first b (list_all (λ (a : Bool). a) (bs ++ x ∷ [])) h)
-    (last_true bs x y (and_second b (list_all (λ (a : Bool). a) (bs ++ x ∷ [])) h) k)
-
 -- all that is asked of a record but of its members
 abbrev tests : Record → List Bool
 tests r =
@@ -130,7 +122,7 @@ members_few recipe p ms for = by (among (folders_of recipe) p) for
   where
     none_short : (xs : List Member) → are_none xs ≡ true → length (list member xs) ≤ 20160006
     none_short [] h = omega (arith, num_short 0 (omega arith), length-append (num 0) [])
-    none_short (x ∷ xs) h = absurd (true_false (sym h))
+    none_short (x ∷ xs) h = absurd (true≢false (sym h))
 
     by : (b : Bool) → (if b then are_valid_members p ms else are_none ms) ≡ true → length (list member ms) ≤ 20160006
     by true h = list_short p ms h

@@ -30,7 +30,7 @@ still_itself u formed = record { formed = formed; reads = λ q out. refl }
 formed_then : (act : Act) (r : Request) (w v : World) → Stepped act r w v → IsFormed w → IsFormed v
 formed_then act r w v st formed = subst IsFormed (sym st.now) (formed_after w st.event formed)
 
-firm_reads : (b : Bool) (s : NodeState) → reading (if b then firm s else s) ≡ reading s
+pub firm_reads : (b : Bool) (s : NodeState) → reading (if b then firm s else s) ≡ reading s
 firm_reads true Owned = refl
 firm_reads true (Known now besides) = refl
 firm_reads false s = refl

@@ -1,5 +1,7 @@
 -- What the events of forgetting keep to.
-use Rattle.std.proofs.Common.{◌≡◌, inl, inr, Bool, true, false, List, [], ◌∷◌, ◌++◌, map, refl, sym, ap, subst, Result, Ok, Err}
+use Rattle.std.proofs.Common.{◌≡◌, inl, inr, Bool, true, false, List, [], ◌∷◌, ◌++◌, map, refl, sym, subst, Result, Ok, Err}
+use Rattle.smk_laws_job.proofs.Abandoning.{in_map}
+use Rattle.smk_laws_protocol.proofs.Stays.{in_right}
 use Rattle.smk_base.specs.Place.{lock_place, record_place, mark_place, note_place}
 use Rattle.smk_world.specs.declared.event.Event.{Event}
 use Rattle.smk_world.specs.Devices.{AreLooks}
@@ -24,15 +26,6 @@ pub in_left : {A : Type 0} (xs ys : List A) (x : A) → IsIn xs x → IsIn (xs +
 in_left [] ys x h = absurd h
 in_left (y ∷ xs) ys x (inl e) = inl e
 in_left (y ∷ xs) ys x (inr h) = inr (in_left xs ys x h)
-
-pub in_right : {A : Type 0} (xs ys : List A) (x : A) → IsIn ys x → IsIn (xs ++ ys) x
-in_right [] ys x h = h
-in_right (y ∷ xs) ys x h = inr (in_right xs ys x h)
-
-in_map : (f : Path → Path) (ps : List Path) (p : Path) → IsIn ps p → IsIn (map f ps) (f p)
-in_map f [] p h = absurd h
-in_map f (q ∷ ps) p (inl e) = inl (ap f e)
-in_map f (q ∷ ps) p (inr h) = inr (in_map f ps p h)
 
 pub each_append : {A : Type 0} (P : A → Type 0) (xs ys : List A) → Each P xs → Each P ys → Each P (xs ++ ys)
 each_append P [] ys h k = k

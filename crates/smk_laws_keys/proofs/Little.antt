@@ -1,6 +1,8 @@
 -- What `--cleanup-metadata` leaves.
 use Rattle.std.proofs.Common.{◌≡◌, inl, inr, Bool, true, false, ◌&&◌, ◌||◌, not, List, [], ◌∷◌, ◌++◌, refl, sym, ap, subst, ◌∙◌, append-nil, None, Result, Ok, Err, true≢false}
 use Rattle.std.specs.Prelude.{if◌then◌else◌, is_some}
+use Rattle.std.proofs.lemmas.Bool.{or_parts}
+use Rattle.std.proofs.Math.Bool.{and-false}
 use Rattle.smk_base.specs.Place.{lock_place, record_place, mark_place, note_place}
 use Rattle.smk_base.proofs.Apart.{IsApart, record-lock, mark-lock, note-lock}
 use Rattle.smk_base.proofs.Places.{place_itself}
@@ -35,13 +37,9 @@ use Rattle.smk_laws_keys.proofs.Kept.{forgotten_keep, gone_keep}
 only_then : (places below : List Path) (w v u : World) → ChangesOnly places below w v → ChangesOnly places below v u → ChangesOnly places below w u
 only_then places below w v u h k q out off = stays_then (w.nodes q) (v.nodes q) (u.nodes q) (h q out off) (k q out off)
 
-or_none : (a b : Bool) → (a || b) ≡ false → a ≡ false
-or_none true b h = absurd (true≢false h)
-or_none false b h = refl
-
 -- changes of the lock are among those of all places
 of_lock : (paths : List Path) (w v : World) → ChangesOnly (lock_place ∷ []) (lock_place ∷ []) w v → ChangesOnly (own_places paths) (lock_place ∷ []) w v
-of_lock paths w v h q out off = h q (ap (λ b. b || false) (or_none _ _ out)) off
+of_lock paths w v h q out off = h q (ap (λ b. b || false) (or_parts _ _ out).0) off
 
 pub of_release : (w v : World) → ChangesOnly (lock_place ∷ []) [] w v → ChangesOnly (lock_place ∷ []) (lock_place ∷ []) w v
 of_release w v h q out off = h q out refl
@@ -87,14 +85,10 @@ lock_gone paths r w log g =
 
 -- ## All is forgotten
 
-and_false : (b : Bool) → (b && false) ≡ false
-and_false true = refl
-and_false false = refl
-
 pub each_known : (w v : World) (all ps : List Path) → ((p : Path) → among ps p ≡ true → among all p ≡ true) → ((q : Path) → is_known (seen v) q ≡ (is_known (seen w) q && not (among all q))) → AreForgotten ps v
 each_known w v all [] sub h = tt
 each_known w v all (p ∷ ps) sub h = (
-  h p ∙ ap (λ b. is_known (seen w) p && not b) (sub p (or_first _ (among ps p) (place_itself p))) ∙ and_false (is_known (seen w) p),
+  h p ∙ ap (λ b. is_known (seen w) p && not b) (sub p (or_first _ (among ps p) (place_itself p))) ∙ and-false (is_known (seen w) p),
   each_known w v all ps (λ q i. sub q (or_second _ (among ps q) i)) h,
 )
 

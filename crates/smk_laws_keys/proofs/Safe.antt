@@ -1,5 +1,6 @@
 -- What the commands do keeps the folder sound.
 use Rattle.std.proofs.Common.{◌≡◌, inl, inr, Bool, true, false, not, List, [], ◌∷◌, ◌++◌, refl, sym, ap, subst, Result, Ok, Err, true≢false}
+use Rattle.smk_laws_protocol.proofs.Stays.{in_right}
 use Rattle.smk_base.specs.Place.{lock_place}
 use Rattle.smk_world.specs.declared.event.Event.{Event}
 use Rattle.smk_world.specs.declared.event.Failed.{Failed}
@@ -29,7 +30,7 @@ use Rattle.smk_laws_protocol.proofs.ForgettingHolds.{forgetting_keeps_sound}
 use Rattle.smk_laws_job.specs.Laws.{LeavesAt}
 use Rattle.smk_laws_job.proofs.Forgetting.{forgetting_runs}
 use Rattle.smk_laws_keys.specs.Keys.{outside, own_places, UnlockingIsSafe, CleaningIsSafe}
-use Rattle.smk_laws_keys.proofs.Kept.{in_front, in_left, in_right, turned_keep}
+use Rattle.smk_laws_keys.proofs.Kept.{in_front, in_left, turned_keep}
 use Rattle.smk_laws_keys.proofs.Moves.{EndsAt, ends_then, lock_moves, looks_rest, none_owned_after}
 
 -- what keeps soundness wherever it ends, keeps it to the end where no call failed
@@ -75,7 +76,7 @@ unlocking_is_safe act (Err unlock.OutOfMemory) w log follows h =
 
 -- ## Turns
 
-each_in : (P : Path → Type 0) (ps : List Path) (p : Path) → Each P ps → IsIn ps p → P p
+pub each_in : (P : Path → Type 0) (ps : List Path) (p : Path) → Each P ps → IsIn ps p → P p
 each_in P [] p h i = absurd i
 each_in P (q ∷ ps) p h (inl e) = subst P (sym e) h.0
 each_in P (q ∷ ps) p h (inr i) = each_in P ps p h.1 i

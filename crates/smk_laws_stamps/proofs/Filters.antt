@@ -1,5 +1,5 @@
 -- What is left of names that rise.
-use Rattle.std.proofs.Common.{◌≡◌, inl, inr, Bool, true, false, ◌||◌, List, [], ◌∷◌, refl, sym, ap, subst, ◌∙◌, bytes_eq}
+use Rattle.std.proofs.Common.{◌≡◌, inl, inr, Bool, true, false, ◌||◌, List, [], ◌∷◌, refl, sym, ap, subst, ◌∙◌, bytes_eq, true≢false}
 use Rattle.std.specs.Prelude.{filter, if◌then◌else◌}
 use Rattle.std.specs.List.{AllByRecursion, list_any}
 use Rattle.std.specs.List.Sorted.{IsStrictlySortedBy}
@@ -11,13 +11,10 @@ use Rattle.smk_base.proofs.Under.{or_first, or_second}
 use Rattle.smk_world.specs.Trees.{Path, IsIn, among}
 use Rattle.smk_world.specs.World.{IsRising}
 
-pub never : true ≡ false → ⊥
-never e = cc
-
 -- ## Lists
 
 pub in_among : (ns : List Path) (q : Path) → among ns q ≡ true → IsIn ns q
-in_among [] q h = absurd (never (sym h))
+in_among [] q h = absurd (true≢false (sym h))
 in_among (n ∷ ns) q h = by (bytes_eq q n) refl (in_among ns q) h
   where
     by : (b : Bool) → bytes_eq q n ≡ b → (among ns q ≡ true → IsIn ns q) → (b || among ns q) ≡ true → IsIn (n ∷ ns) q
@@ -35,7 +32,7 @@ any_in f (y ∷ xs) x (inl e) k = or_first (f y) (list_any f xs) (ap f (sym e) �
 any_in f (y ∷ xs) x (inr h) k = or_second (f y) (list_any f xs) (any_in f xs x h k)
 
 pub in_any : {A : Type 0} (f : A → Bool) (xs : List A) → list_any f xs ≡ true → (x : A) × IsIn xs x × (f x ≡ true)
-in_any f [] h = absurd (never (sym h))
+in_any f [] h = absurd (true≢false (sym h))
 in_any {A = A} f (y ∷ xs) h = by (f y) refl (in_any f xs) h
   where
     by : (b : Bool) → f y ≡ b → (list_any f xs ≡ true → (x : A) × IsIn xs x × (f x ≡ true)) → (b || list_any f xs) ≡ true → (x : A) × IsIn (y ∷ xs) x × (f x ≡ true)

@@ -1,6 +1,8 @@
 -- Which answers `--cleanup-metadata` has.
-use Rattle.std.proofs.Common.{◌≡◌, inl, inr, Bool, true, false, ◌&&◌, ◌||◌, not, List, [], ◌∷◌, ◌++◌, refl, sym, ap, subst, ◌∙◌, append-nil, Option, Some, None, Result, Ok, Err, true≢false}
+use Rattle.std.proofs.Common.{◌≡◌, inl, Bool, true, false, ◌&&◌, ◌||◌, not, List, [], ◌∷◌, ◌++◌, refl, sym, ap, subst, ◌∙◌, append-nil, Option, Some, None, Result, Ok, Err, true≢false}
 use Rattle.std.specs.Prelude.{if◌then◌else◌, is_some}
+use Rattle.smk_keep_forget.proofs.Stores.{in_right}
+use Rattle.smk_laws_keys.proofs.Safe.{each_in}
 use Rattle.smk_base.specs.Path.{is_path, is_at_or_under, own_folder}
 use Rattle.smk_base.specs.Place.{lock_place}
 use Rattle.smk_base.proofs.Apart.{path_outside, outside-own}
@@ -26,7 +28,6 @@ use Rattle.smk_keep_forget.proofs.Forgetting.{follows_rest}
 use Rattle.smk_keep_forget.proofs.Going.{follows_first, known_now}
 use Rattle.smk_keep_forget.proofs.Turns.{known_same}
 use Rattle.smk_laws_keys.specs.Keys.{AreForgotten}
-use Rattle.smk_laws_keys.proofs.Kept.{in_right}
 use Rattle.smk_laws_keys.proofs.Little.{each_known, of_release, still_forgotten}
 use Rattle.smk_laws_stamps.specs.Stamps.{IsMet, CleaningMeetsStamps, RefusedLeavesFront}
 use Rattle.smk_laws_stamps.proofs.Filters.{in_among, rises}
@@ -50,11 +51,6 @@ all_names image (p ∷ ps) = all_names (forgotten image p) ps
 all_nodes : (image : Image) (ps : List Path) (x : Path) → (forgotten_all image ps).node x ≡ image.node x
 all_nodes image [] x = refl
 all_nodes image (p ∷ ps) x = all_nodes (forgotten image p) ps x
-
-each_in : (P : Path → Type 0) (ps : List Path) (p : Path) → Each P ps → IsIn ps p → P p
-each_in P [] p h i = absurd i
-each_in P (q ∷ ps) p h (inl e) = subst P (sym e) h.0
-each_in P (q ∷ ps) p h (inr i) = each_in P ps p h.1 i
 
 -- ## The image of the entry
 

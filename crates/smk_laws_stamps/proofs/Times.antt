@@ -1,9 +1,11 @@
 -- Times that an image's records hold, and those of a store.
-use Rattle.std.proofs.Common.{◌≡◌, ◌⊎◌, inl, inr, ℕ, Bool, true, false, ◌&&◌, ◌||◌, List, [], ◌∷◌, ◌++◌, map, refl, sym, ap, subst, ◌∙◌, bytes_eq, eq-eqb, eqb-true, Option, Some, None}
+use Rattle.std.proofs.Common.{◌≡◌, ◌⊎◌, inl, inr, ℕ, Bool, true, false, ◌&&◌, ◌||◌, List, [], ◌∷◌, ◌++◌, map, refl, sym, ap, subst, ◌∙◌, bytes_eq, eq-eqb, eqb-true, Option, Some, None, true≢false}
 use Rattle.std.specs.Prelude.{◌==◌, filter, if◌then◌else◌, option_map}
 use Rattle.std.specs.Cmp.Lexicographic.{slice_cmp}
 use Rattle.std.specs.Ordering.{nat_cmp}
 use Rattle.std.specs.declared.cmp.Ordering.TheVariants.{Less}
+use Rattle.smk_keep_forget.proofs.Stores.{in_right}
+use Rattle.smk_laws_keys.proofs.Kept.{in_left}
 use Rattle.smk_base.specs.Path.{is_at_or_under}
 use Rattle.smk_base.proofs.Places.{and_first, and_second, same_place, place_itself}
 use Rattle.smk_base.proofs.Under.{both_true, false_unless, or_first}
@@ -22,7 +24,7 @@ use Rattle.smk_store.specs.Images.{Image, Content, content_of, file_at, is_known
 use Rattle.smk_store.specs.Loading.{IsStoreOf, entry_at, entry_in}
 use Rattle.smk_store.specs.Stores.{Known, entry_of}
 use Rattle.smk_keep_forget.specs.Seen.{holds_time, is_time_held, seen, seen_before}
-use Rattle.smk_laws_stamps.proofs.Filters.{never, any_in, in_any, in_among, none_left, first_left, Rises}
+use Rattle.smk_laws_stamps.proofs.Filters.{any_in, in_any, in_among, none_left, first_left, Rises}
 
 -- ## A record
 
@@ -34,7 +36,7 @@ pair_is (a, Time u) q t h =
   where
     stamp_at : Path → ℕ → Path × Stamp
     stamp_at x n = (x, Time n)
-pair_is (a, Made m) q t h = absurd (never (sym (and_second (bytes_eq a q) false h)))
+pair_is (a, Made m) q t h = absurd (true≢false (sym (and_second (bytes_eq a q) false h)))
 
 holds : (q : Path) (t : ℕ) (r : Record) → IsIn (stamped r) (q, Time t) → holds_time q t r ≡ true
 holds q t r i = any_in (λ (e : Path × Stamp). bytes_eq e.0 q && same_stamp e.1 (Time t)) (stamped r) (q, Time t) i (both_true (bytes_eq q q) (t == t) (place_itself q) (eq-eqb t t refl))
@@ -60,20 +62,11 @@ kept_holds q t Unreadable i = absurd i
 kept_holds q t (Held r) i = holds q t (core r) i
 
 kept_held : (q : Path) (t : ℕ) (kept : Kept) → holds_at q t kept ≡ true → (stands kept ≡ true) × IsIn (inputs_of (readable kept)) (q, Time t)
-kept_held q t Absent h = absurd (never (sym h))
-kept_held q t Unreadable h = absurd (never (sym h))
+kept_held q t Absent h = absurd (true≢false (sym h))
+kept_held q t Unreadable h = absurd (true≢false (sym h))
 kept_held q t (Held r) h = (refl, held q t (core r) h)
 
 -- ## A store and its image
-
-in_left : {A : Type 0} (xs ys : List A) (x : A) → IsIn xs x → IsIn (xs ++ ys) x
-in_left [] ys x h = absurd h
-in_left (y ∷ xs) ys x (inl e) = inl e
-in_left (y ∷ xs) ys x (inr h) = inr (in_left xs ys x h)
-
-in_right : {A : Type 0} (xs ys : List A) (x : A) → IsIn ys x → IsIn (xs ++ ys) x
-in_right [] ys x h = h
-in_right (y ∷ xs) ys x h = inr (in_right xs ys x h)
 
 in_either : {A : Type 0} (xs ys : List A) (x : A) → IsIn (xs ++ ys) x → IsIn xs x ⊎ IsIn ys x
 in_either [] ys x h = inr h
@@ -177,7 +170,7 @@ module _ (v : World) (image : Image) (like : IsLike v image) (ks : List Known) (
   counted q h = by (file_at image q) refl (and_second (is_at_or_under q p) _ h)
     where
       by : (o : Option Content) → file_at image q ≡ o → test (λ (f : Content). is_time_held image q f.time) o ≡ true → IsSeen ks v p q
-      by None e k = absurd (never (sym k))
+      by None e k = absurd (true≢false (sym k))
       by (Some f) e k = time_seen q f (and_first (is_at_or_under q p) _ h) e k
 
   -- where no time was seen, none is left

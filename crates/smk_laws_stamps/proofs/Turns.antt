@@ -1,6 +1,7 @@
 -- Images in which paths are forgotten, one after another.
-use Rattle.std.proofs.Common.{◌≡◌, Bool, true, false, ◌||◌, not, List, [], ◌∷◌, ◌++◌, refl, sym, ap, subst, ◌∙◌, bytes_eq, append_assoc, append-nil, None, Ok}
+use Rattle.std.proofs.Common.{◌≡◌, Bool, true, false, ◌||◌, not, List, [], ◌∷◌, ◌++◌, refl, sym, ap, subst, ◌∙◌, bytes_eq, append_assoc, append-nil, None, Ok, true≢false}
 use Rattle.std.specs.Prelude.{filter, if◌then◌else◌}
+use Rattle.std.proofs.lemmas.Bool.{or_parts}
 use Rattle.smk_base.specs.Path.{is_under, is_at_or_under, own_folder}
 use Rattle.smk_base.specs.Place.{record_place, mark_place, note_place, lock_place}
 use Rattle.smk_base.proofs.Apart.{outside-own, record-lock}
@@ -24,7 +25,7 @@ use Rattle.smk_keep_forget.proofs.Forgetting.{follows_rest, forgotten_now, own_o
 use Rattle.smk_keep_forget.proofs.Going.{follows_first}
 use Rattle.smk_keep_forget.proofs.Stores.{IsWithout}
 use Rattle.smk_laws_keys.proofs.Kept.{forgotten_keep}
-use Rattle.smk_laws_stamps.proofs.Filters.{never, among_in, in_among, in_filter}
+use Rattle.smk_laws_stamps.proofs.Filters.{among_in, in_among, in_filter}
 use Rattle.smk_laws_stamps.proofs.Times.{IsLike, none_before}
 
 -- ## All of some paths
@@ -56,14 +57,10 @@ forgettable_front image (d ∷ done) later p q rest none first =
 
 -- ## One more path
 
-or_none : (a b : Bool) → (a || b) ≡ false → a ≡ false
-or_none true b h = absurd (never h)
-or_none false b h = refl
-
 absent_of : (k : Kept) → stands k ≡ false → k ≡ Absent
 absent_of Absent h = refl
-absent_of Unreadable h = absurd (never h)
-absent_of (Held r) h = absurd (never h)
+absent_of Unreadable h = absurd (true≢false h)
+absent_of (Held r) h = absurd (true≢false h)
 
 outside_own : (x : Path) → is_outside x ≡ true → is_at_or_under x own_folder ≡ false
 outside_own x h = false_of_not (is_at_or_under x own_folder) h
@@ -95,11 +92,11 @@ like_forgotten v u image p like gone same =
   where
     kept : (x : Path) (b : Bool) → bytes_eq x p ≡ b → (if b then Absent else image.kept x) ≡ (seen u).kept x
     kept x true e =
-        sym (ap (λ y. (seen u).kept y) (same_place x p e) ∙ absent_of ((seen u).kept p) (or_none (stands ((seen u).kept p)) ((seen u).marked p || (seen u).noted p) gone.none))
+        sym (ap (λ y. (seen u).kept y) (same_place x p e) ∙ absent_of ((seen u).kept p) (or_parts (stands ((seen u).kept p)) ((seen u).marked p || (seen u).noted p) gone.none).0)
     kept x false e = like.kept x ∙ sym (gone.kept x e)
 
     listed : (x : Path) (b : Bool) → bytes_eq x p ≡ b → stands (if b then Absent else image.kept x) ≡ true → among (filter (λ q. not (bytes_eq q p)) image.known) x ≡ true
-    listed x true e h = absurd (never (sym h))
+    listed x true e h = absurd (true≢false (sym h))
     listed x false e h =
         among_in (filter (λ q. not (bytes_eq q p)) image.known) x (in_filter (λ q. not (bytes_eq q p)) image.known x (in_among image.known x (like.listed x h)) (ap not e))
 

@@ -1,9 +1,10 @@
 -- What was made of clean inputs is clean.
-use Rattle.std.proofs.Common.{◌≡◌, inl, inr, ℕ, zero, suc, Bool, true, false, ◌&&◌, ◌||◌, not, ◌==◌, List, [], ◌∷◌, ◌++◌, refl, ap, sym, subst, ◌∙◌, Option, Some, None, option_map, bytes_eq, true≢false}
+use Rattle.std.proofs.Common.{◌≡◌, inl, inr, ℕ, zero, suc, Bool, true, false, ◌||◌, not, ◌==◌, List, [], ◌∷◌, ◌++◌, refl, ap, sym, subst, ◌∙◌, Option, Some, None, option_map, bytes_eq, true≢false}
 use Rattle.std.specs.Prelude.{map, if◌then◌else◌}
 use Rattle.std.specs.List.{list_any, AllZip}
 use Rattle.std.specs.Option.{option_and_then}
-use Rattle.std.proofs.lemmas.Bool.{eq-eqb, and_from}
+use Rattle.std.proofs.lemmas.Bool.{eq-eqb, and_from, not-true, and_parts, or_parts, or_from}
+use Rattle.smk_job.proofs.Lists.{each_in}
 use Rattle.smk_base.specs.Path.{is_under, overlaps}
 use Rattle.smk_base.specs.declared.tree.Tree.{Tree}
 use Rattle.smk_base.specs.declared.tree.Tree.TheVariants.{File, Folder}
@@ -31,7 +32,6 @@ use Rattle.smk_run.specs.Turns.{Turn}
 use Rattle.smk_made.specs.Leaving.{IsRecorded}
 use Rattle.smk_made.specs.Running.{IsOrderly, AreArranged, IsMade}
 use Rattle.smk_made.specs.Clean.{IsChained, IsCleanIn, DoneRunIsClean}
-use Rattle.smk_made.proofs.Keeping.{or_false, none_of}
 use Rattle.smk_made.proofs.Sparing.{turns_keep_else}
 use Rattle.smk_made.proofs.Running.{done_turns_leave}
 
@@ -82,18 +82,10 @@ all_good v (out ∷ outs) (t ∷ trees) plain files h =
     let f = file_tree v out.path t files.0 h.0 in
     and_from (is_good out.path out.kind t) (are_good outs trees) (ap (is_good out.path out.kind) f.is ∙ good_file out.path out.kind f.held plain.0) (all_good v outs trees plain.1 files.1 h.1)
 
-of_not : (b : Bool) → not b ≡ true → b ≡ false
-of_not true h = absurd (true≢false (sym h))
-of_not false h = refl
-
-and_true : (a b : Bool) → (a && b) ≡ true → (a ≡ true) × (b ≡ true)
-and_true true b h = (refl, h)
-and_true false b h = absurd (true≢false (sym h))
-
-none_in : (p q : Path) (ps : List Path) → list_any (overlaps p) ps ≡ false → IsIn ps q → overlaps p q ≡ false
+pub none_in : (p q : Path) (ps : List Path) → list_any (overlaps p) ps ≡ false → IsIn ps q → overlaps p q ≡ false
 none_in p q [] h i = absurd i
-none_in p q (x ∷ ps) h (inl e) = ap (overlaps p) e ∙ (or_false (overlaps p x) (list_any (overlaps p) ps) h).0
-none_in p q (x ∷ ps) h (inr i) = none_in p q ps (or_false (overlaps p x) (list_any (overlaps p) ps) h).1 i
+none_in p q (x ∷ ps) h (inl e) = ap (overlaps p) e ∙ (or_parts (overlaps p x) (list_any (overlaps p) ps) h).0
+none_in p q (x ∷ ps) h (inr i) = none_in p q ps (or_parts (overlaps p x) (list_any (overlaps p) ps) h).1 i
 
 -- the tree at the output, of those that the command made
 pub record IsAmongMade (outs : List Out) (trees : List (Option Tree)) (v : World) (p : Path) : Type 0 where
@@ -101,15 +93,15 @@ pub record IsAmongMade (outs : List Out) (trees : List (Option Tree)) (v : World
   pub holds : HoldsBytes held (v.nodes p)
   pub is : tree_among outs trees p ≡ Some (File held)
 
-picked : (o p : Path) (t rest : Option Tree) → bytes_eq o p ≡ true → (if bytes_eq o p || is_under p o then option_and_then (part_at o p) t else rest) ≡ t
+pub picked : (o p : Path) (t rest : Option Tree) → bytes_eq o p ≡ true → (if bytes_eq o p || is_under p o then option_and_then (part_at o p) t else rest) ≡ t
 picked o p None rest h = ap (λ b. if b || is_under p o then None else rest) h
 picked o p (Some t) rest h = ap (λ b. if b || is_under p o then (if b then Some t else file_in t (below o p)) else rest) h
 
-passed : (o p : Path) (t rest : Option Tree) → overlaps o p ≡ false → (if bytes_eq o p || is_under p o then option_and_then (part_at o p) t else rest) ≡ rest
+pub passed : (o p : Path) (t rest : Option Tree) → overlaps o p ≡ false → (if bytes_eq o p || is_under p o then option_and_then (part_at o p) t else rest) ≡ rest
 passed o p t rest h =
-    let one = or_false (bytes_eq o p) (is_under o p || is_under p o) h in
-    let two = or_false (is_under o p) (is_under p o) one.1 in
-    ap (λ b. if b then option_and_then (part_at o p) t else rest) (none_of (bytes_eq o p) (is_under p o) one.0 two.1)
+    let one = or_parts (bytes_eq o p) (is_under o p || is_under p o) h in
+    let two = or_parts (is_under o p) (is_under p o) one.1 in
+    ap (λ b. if b then option_and_then (part_at o p) t else rest) (or_from (bytes_eq o p) (is_under p o) one.0 two.1)
 
 among_made : (v : World) (outs : List Out) (trees : List (Option Tree)) (p : Path) → are_apart (map (λ (out : Out). out.path) outs) ≡ true → IsIn (map (λ (out : Out). out.path) outs) p
     → Each (λ (out : Out). reads_file (v.nodes out.path) ≡ true) outs
@@ -124,22 +116,22 @@ among_made v (out ∷ outs) (t ∷ trees) p apart (inl e) files h =
     }
 among_made v (out ∷ outs) (t ∷ trees) p apart (inr i) files h =
     let ps = map (λ (o : Out). o.path) outs in
-    let both = and_true (not (list_any (overlaps out.path) ps)) (are_apart ps) apart in
+    let both = and_parts (not (list_any (overlaps out.path) ps)) (are_apart ps) apart in
     let later = among_made v outs trees p both.1 i files.1 h.1 in record {
       held = later.held;
       holds = later.holds;
-      is = passed out.path p t (tree_among outs trees p) (none_in out.path p ps (of_not (list_any (overlaps out.path) ps) both.0) i) ∙ later.is;
+      is = passed out.path p t (tree_among outs trees p) (none_in out.path p ps (not-true (list_any (overlaps out.path) ps) both.0) i) ∙ later.is;
     }
 
-apart_first : (ps qs : List Path) → are_apart (ps ++ qs) ≡ true → are_apart ps ≡ true
+pub apart_first : (ps qs : List Path) → are_apart (ps ++ qs) ≡ true → are_apart ps ≡ true
 apart_first [] qs h = refl
 apart_first (p ∷ ps) qs h =
-    let both = and_true (not (list_any (overlaps p) (ps ++ qs))) (are_apart (ps ++ qs)) h in
-    and_from (not (list_any (overlaps p) ps)) (are_apart ps) (ap not (none_first ps (of_not (list_any (overlaps p) (ps ++ qs)) both.0))) (apart_first ps qs both.1)
+    let both = and_parts (not (list_any (overlaps p) (ps ++ qs))) (are_apart (ps ++ qs)) h in
+    and_from (not (list_any (overlaps p) ps)) (are_apart ps) (ap not (none_first ps (not-true (list_any (overlaps p) (ps ++ qs)) both.0))) (apart_first ps qs both.1)
   where
     none_first : (xs : List Path) → list_any (overlaps p) (xs ++ qs) ≡ false → list_any (overlaps p) xs ≡ false
     none_first [] k = refl
-    none_first (x ∷ xs) k = let b = or_false (overlaps p x) (list_any (overlaps p) (xs ++ qs)) k in none_of (overlaps p x) (list_any (overlaps p) xs) b.0 (none_first xs b.1)
+    none_first (x ∷ xs) k = let b = or_parts (overlaps p x) (list_any (overlaps p) (xs ++ qs)) k in or_from (overlaps p x) (list_any (overlaps p) xs) b.0 (none_first xs b.1)
 
 given_by : (outs : List Out) (acted : Acted) (p : Path) (held : List ℕ) → acted.status ≡ 0 → are_good outs acted.outputs ≡ true → tree_among outs acted.outputs p ≡ Some (File held) → tree_given outs acted p ≡ Some (File held)
 given_by outs acted p held status good is = ap (λ b. if b then tree_among outs acted.outputs p else None) (and_from (acted.status == 0) (are_good outs acted.outputs) (eq-eqb acted.status 0 status) good) ∙ is
@@ -242,11 +234,6 @@ clean_made S n v t c p chosen none runnable output plain same orderly made input
     }
 
 -- ## All of them
-
-pub each_in : {A : Type 0} (P : A → Type 0) (xs : List A) (x : A) → Each P xs → IsIn xs x → P x
-each_in P [] x h i = absurd i
-each_in P (y ∷ xs) x h (inl e) = subst P (sym e) h.0
-each_in P (y ∷ xs) x h (inr i) = each_in P xs x h.1 i
 
 orderly_in : (ts : List Turn) (t : Turn) → AreArranged ts → IsIn ts t → IsOrderly t
 orderly_in [] t h i = absurd i

@@ -1,7 +1,8 @@
 -- What a turn leaves that is done.
-use Rattle.std.proofs.Common.{◌≡◌, ℕ, Bool, true, false, ◌||◌, List, [], ◌∷◌, ◌++◌, refl, ap, sym, subst, ◌∙◌, Option, Ok, IsTrue, arith, true≢false}
+use Rattle.std.proofs.Common.{◌≡◌, ℕ, true, false, ◌||◌, List, [], ◌∷◌, ◌++◌, refl, ap, sym, subst, ◌∙◌, Option, Ok, IsTrue, arith, true≢false}
 use Rattle.std.specs.Prelude.{map, nat_eq, Contains}
 use Rattle.std.specs.List.{list_any, IsDistinct}
+use Rattle.std.proofs.lemmas.Bool.{or_right}
 use Rattle.smk_base.specs.Path.{is_path, own_folder, is_at_or_under, overlaps}
 use Rattle.smk_world.specs.declared.event.Call.TheVariants.{Waited}
 use Rattle.smk_world.specs.declared.event.Change.{Change}
@@ -121,7 +122,7 @@ idle_known w none owners = λ q. known_else (w.nodes q) (λ e. true≢false (sym
 
 -- ## The inputs are as they were
 
-begun_kept : (made : Serials) (t : Turn) (w : World) (seen first : List Event) (q : Path) → w.children ≡ []
+pub begun_kept : (made : Serials) (t : Turn) (w : World) (seen first : List Event) (q : Path) → w.children ≡ []
     → AreStamped made (in_paths t.job.recipe) (found t.looked) seen → HasDone (begin_requests t.job.recipe t.job.logs t.command) first → (run w seen).children ≡ []
     → IsOffTurn true q t → (run (run w seen) first).nodes q ≡ w.nodes q
 begun_kept made t w seen first q none stamped begun still h =
@@ -130,7 +131,7 @@ begun_kept made t w seen first q none stamped begun still h =
     (subst (AreAside q) (sym still) tt)
     ∙ run_kept true q w seen (stamped_each (Spares true q) (spared_looks true q) made (in_paths t.job.recipe) (found t.looked) seen stamped) (subst (AreAside q) (sym none) tt)
 
-inputs_stay : (t : Turn) (w u : World) → ((q : Path) → IsOffTurn true q t → u.nodes q ≡ w.nodes q)
+pub inputs_stay : (t : Turn) (w u : World) → ((q : Path) → IsOffTurn true q t → u.nodes q ≡ w.nodes q)
     → (ps : List Path) → Each (λ p. (is_at_or_under p own_folder ≡ false) × (list_any (overlaps p) (owned t) ≡ false)) ps → Each (StaysUnder w u) ps
 inputs_stay t w u same [] h = tt
 inputs_stay t w u same (p ∷ ps) h = (
@@ -140,16 +141,12 @@ inputs_stay t w u same (p ∷ ps) h = (
 
 -- ## The outputs
 
-pub or_then : (a b : Bool) → b ≡ true → (a || b) ≡ true
-or_then true b h = refl
-or_then false b h = h
-
 -- what is at or under one of these is within all
 pub within_each : (all ps : List Path) → ((q : Path) → is_within q ps ≡ true → is_within q all ≡ true) → Each (λ p. (q : Path) → is_at_or_under q p ≡ true → is_within q all ≡ true) ps
 within_each all [] h = tt
 within_each all (p ∷ ps) h = (
   (λ q at. h q (ap (λ v. v || is_within q ps) at)),
-  within_each all ps (λ q k. h q (or_then (is_at_or_under q p) (is_within q ps) k)),
+  within_each all ps (λ q k. h q (or_right (is_at_or_under q p) (is_within q ps) k)),
 )
 
 outputs_stay : (w v : World) (all ps : List Path) → ((q : Path) → is_within q all ≡ true → v.nodes q ≡ firm (w.nodes q))
@@ -180,7 +177,7 @@ all_recorded t number w v (out ∷ outs) (m ∷ members) looks (first, more, e, 
         read_only = firm_files.0.1;
         stands = firm_files.0.2;
       },
-      all_recorded t number w v outs members more next firm_files.1 (λ q k. same q (or_then (is_at_or_under q out.path) (is_within q (map (λ (o : Out). o.path) outs)) k)),
+      all_recorded t number w v outs members more next firm_files.1 (λ q k. same q (or_right (is_at_or_under q out.path) (is_within q (map (λ (o : Out). o.path) outs)) k)),
     )
 
 -- ## All of it

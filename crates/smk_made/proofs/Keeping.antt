@@ -2,6 +2,7 @@
 use Rattle.std.proofs.Common.{◌≡◌, ℕ, Bool, true, false, ◌&&◌, ◌||◌, not, List, [], ◌∷◌, ◌++◌, refl, ap, ◌∙◌, Option, Some, None, Ok, Err, bytes_eq, true≢false}
 use Rattle.std.specs.Prelude.{if◌then◌else◌, nat_eq, is_some}
 use Rattle.std.specs.List.{filter}
+use Rattle.smk_job.proofs.Single.{off}
 use Rattle.smk_base.specs.Path.{is_under, is_at_or_under}
 use Rattle.smk_world.specs.declared.event.Node.{Node}
 use Rattle.smk_world.specs.declared.event.NodeState.{NodeState}
@@ -17,13 +18,6 @@ use Rattle.smk_world.specs.Requests.{Request, request}
 use Rattle.smk_world.specs.Requests.Request.{Look, ReadUpTo, ListFolder, Write, Create, Remove, MakeParents, Settle, Protect, Start, Wait}
 use Rattle.smk_world.specs.Trees.{Path, Each}
 use Rattle.smk_run.proofs.Calls.{EachCall}
-
-pub or_false : (a b : Bool) → (a || b) ≡ false → (a ≡ false) × (b ≡ false)
-or_false true b h = absurd (true≢false h)
-or_false false b h = (refl, h)
-
-pub none_of : (a b : Bool) → a ≡ false → b ≡ false → (a || b) ≡ false
-none_of a b h k = ap (λ v. v || b) h ∙ k
 
 -- ## One call at one place
 
@@ -53,10 +47,6 @@ keeps_same false s t h = λ n e. ap reading h ∙ e
 pub keeps_then : (exactly : Bool) (s t u : NodeState) → Keeps exactly s t → Keeps exactly t u → Keeps exactly s u
 keeps_then true s t u h k = k ∙ h
 keeps_then false s t u h k = λ n e. k n (h n e)
-
-off : (b : Bool) (s t : NodeState) → b ≡ false → (if b then t else s) ≡ s
-off true s t h = absurd (true≢false h)
-off false s t h = refl
 
 off_and : (a b : Bool) (s t : NodeState) → b ≡ false → (if a && b then t else s) ≡ s
 off_and true b s t h = off b s t h

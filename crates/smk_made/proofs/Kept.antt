@@ -1,6 +1,6 @@
 -- What the calls leave that close a job whose outputs are good.
-use Rattle.std.proofs.Common.{◌≡◌, ◌⊎◌, inl, inr, ℕ, Bool, true, false, ◌&&◌, ◌||◌, not, List, [], ◌∷◌, ◌++◌, refl, ap, sym, subst, ◌∙◌, Some, None, IsTrue, true≢false}
-use Rattle.std.proofs.lemmas.Bool.{or_right}
+use Rattle.std.proofs.Common.{◌≡◌, inl, inr, ℕ, Bool, true, false, ◌||◌, not, List, [], ◌∷◌, ◌++◌, refl, ap, sym, subst, ◌∙◌, Some, None, IsTrue, true≢false}
+use Rattle.std.proofs.lemmas.Bool.{or_right, cases_Bool, and_parts, not-true, or_parts, or_from}
 use Rattle.std.specs.Prelude.{map}
 use Rattle.std.specs.List.{list_any}
 use Rattle.smk_base.specs.Path.{is_path, own_folder, is_under, is_at_or_under, overlaps}
@@ -22,17 +22,13 @@ use Rattle.smk_store.specs.Steps.{places_of, remove_each, write_each, put_reques
 use Rattle.smk_job.specs.Jobs.{keep_requests}
 use Rattle.smk_job.proofs.Children.{AreFiles, is_crew, files_append, remove_files, put_files}
 use Rattle.smk_job.proofs.Single.{touches, KeepsOff, Stepped, Reaches, done_reaches, step_keeps, IsKnown, is_start, step_known, removed, settled_firm, written, firmly_none}
-use Rattle.smk_job.proofs.Firmly.{reaches_split, reaches_keeps}
-use Rattle.smk_made.proofs.Keeping.{none_of, or_false, bothers}
+use Rattle.smk_job.proofs.Firmly.{reaches_split, reaches_keeps, keeps_append}
+use Rattle.smk_made.proofs.Keeping.{bothers}
 use Rattle.smk_made.proofs.Sparing.{Spared, spared_both, spared_put, spared_unmark, records_else, marks_else, at_outside}
-
-bool_cases : (b : Bool) → (b ≡ true) ⊎ (b ≡ false)
-bool_cases true = inl refl
-bool_cases false = inr refl
 
 -- ## Calls that touch nothing at a place
 
-touches_by : (r : Request) (q : Path) → is_crew r ≡ false → bothers true r q ≡ false → touches r q ≡ false
+pub touches_by : (r : Request) (q : Path) → is_crew r ≡ false → bothers true r q ≡ false → touches r q ≡ false
 touches_by (Look p) q k h = refl
 touches_by (ReadUpTo p limit) q k h = refl
 touches_by (ListFolder p) q k h = refl
@@ -45,7 +41,7 @@ touches_by (Protect p) q k h = h
 touches_by (Start recipe logs command) q k h = absurd (true≢false k)
 touches_by Wait q k h = absurd (true≢false k)
 
-keeps_off : (rs : List Request) (q : Path) → AreFiles rs → Spared true q rs → KeepsOff rs q
+pub keeps_off : (rs : List Request) (q : Path) → AreFiles rs → Spared true q rs → KeepsOff rs q
 keeps_off [] q k h = tt
 keeps_off (r ∷ rs) q k h = (touches_by r q k.0 h.0, keeps_off rs q k.1 h.1)
 
@@ -81,20 +77,12 @@ AreDifferent (p ∷ ps) = Each (λ q. p ≡ q → ⊥) ps × AreDifferent ps
 differ_from : (p : Path) (ps : List Path) → list_any (overlaps p) ps ≡ false → Each (λ q. p ≡ q → ⊥) ps
 differ_from p [] h = tt
 differ_from p (q ∷ ps) h =
-    let both = or_false (overlaps p q) (list_any (overlaps p) ps) h in
+    let both = or_parts (overlaps p q) (list_any (overlaps p) ps) h in
     (λ e. true≢false (sym (ap (λ v. v || (is_under p p || is_under p p)) (place_itself p)) ∙ ap (overlaps p) e ∙ both.0), differ_from p ps both.1)
-
-and_true : (a b : Bool) → (a && b) ≡ true → (a ≡ true) × (b ≡ true)
-and_true true b h = (refl, h)
-and_true false b h = absurd (true≢false (sym h))
-
-of_not : (b : Bool) → not b ≡ true → b ≡ false
-of_not true h = absurd (true≢false (sym h))
-of_not false h = refl
 
 pub apart_differ : (ps : List Path) → are_apart ps ≡ true → AreDifferent ps
 apart_differ [] h = tt
-apart_differ (p ∷ ps) h = let both = and_true (not (list_any (overlaps p) ps)) (are_apart ps) h in (differ_from p ps (of_not (list_any (overlaps p) ps) both.0), apart_differ ps both.1)
+apart_differ (p ∷ ps) h = let both = and_parts (not (list_any (overlaps p) ps)) (are_apart ps) h in (differ_from p ps (not-true (list_any (overlaps p) ps) both.0), apart_differ ps both.1)
 
 pub differ_first : (ps qs : List Path) → AreDifferent (ps ++ qs) → AreDifferent ps
 differ_first [] qs h = tt
@@ -177,33 +165,29 @@ remove_marks_off p (q ∷ ps) = ((record-mark p q).at_or_under, remove_marks_off
 
 marks_not_within : (p : Path) (ps : List Path) → is_within (record_place p) (map mark_place ps) ≡ false
 marks_not_within p [] = refl
-marks_not_within p (q ∷ ps) = none_of (is_at_or_under (record_place p) (mark_place q)) (is_within (record_place p) (map mark_place ps)) (record-mark p q).at_or_under (marks_not_within p ps)
+marks_not_within p (q ∷ ps) = or_from (is_at_or_under (record_place p) (mark_place q)) (is_within (record_place p) (map mark_place ps)) (record-mark p q).at_or_under (marks_not_within p ps)
 
 marks_not_above : (p : Path) (ps : List Path) → is_above (record_place p) (map mark_place ps) ≡ false
 marks_not_above p [] = refl
-marks_not_above p (q ∷ ps) = none_of (is_under (mark_place q) (record_place p)) (is_above (record_place p) (map mark_place ps)) (record-mark p q).over (marks_not_above p ps)
-
-keeps_append : (rs qs : List Request) (q : Path) → KeepsOff rs q → KeepsOff qs q → KeepsOff (rs ++ qs) q
-keeps_append [] qs q h k = k
-keeps_append (r ∷ rs) qs q h k = (h.0, keeps_append rs qs q h.1 k)
+marks_not_above p (q ∷ ps) = or_from (is_under (mark_place q) (record_place p)) (is_above (record_place p) (map mark_place ps)) (record-mark p q).over (marks_not_above p ps)
 
 unmark_off : (p : Path) (ps logs : List Path) → KeepsOff (unmark_requests (places_of ps logs)) (record_place p)
 unmark_off p ps logs =
     keeps_append (remove_each (map mark_place ps)) (Settle (map mark_place ps) ∷ []) (record_place p) (remove_marks_off p ps)
-    (none_of (is_within (record_place p) (map mark_place ps)) (is_above (record_place p) (map mark_place ps)) (marks_not_within p ps) (marks_not_above p ps), tt)
+    (or_from (is_within (record_place p) (map mark_place ps)) (is_above (record_place p) (map mark_place ps)) (marks_not_within p ps) (marks_not_above p ps), tt)
 
-known_none : (s : NodeState) → Reads None s → IsKnown s
+pub known_none : (s : NodeState) → Reads None s → IsKnown s
 known_none Owned h = absurd h
 known_none (Known now besides) h = tt
 
-still_none : (act : Act) (ps : List Path) (w v : World) (q : Path) → Reaches act (remove_each ps) w v → Reads None (w.nodes q) → Reads None (v.nodes q)
+pub still_none : (act : Act) (ps : List Path) (w v : World) (q : Path) → Reaches act (remove_each ps) w v → Reads None (w.nodes q) → Reads None (v.nodes q)
 still_none act [] w v q h none = subst (λ x. Reads None (x.nodes q)) (sym h) none
-still_none act (p ∷ ps) w v q (u, st, more) none = still_none act ps u v q more (elim (bool_cases (is_at_or_under q p)) [
+still_none act (p ∷ ps) w v q (u, st, more) none = still_none act ps u v q more (elim (cases_Bool (is_at_or_under q p)) [
   | inl at ↦ removed act p w u q st at (known_none (w.nodes q) none)
   | inr off ↦ subst (Reads None) (sym (step_keeps act (Remove p) w u q st off)) none
 ])
 
-all_removed : (act : Act) (ps : List Path) (w v : World) (q : Path) → Reaches act (remove_each ps) w v → IsAllKnown w → is_within q ps ≡ true → Reads None (v.nodes q)
+pub all_removed : (act : Act) (ps : List Path) (w v : World) (q : Path) → Reaches act (remove_each ps) w v → IsAllKnown w → is_within q ps ≡ true → Reads None (v.nodes q)
 all_removed act [] w v q h known within = absurd (true≢false (sym within))
 all_removed act (p ∷ ps) w v q (u, st, more) known within = elim (or_cases (is_at_or_under q p) (is_within q ps) within) [
   | inl at ↦ still_none act ps u v q more (removed act p w u q st at (known q))
@@ -237,7 +221,7 @@ within_outside q (p ∷ ps) paths within = elim (or_cases (is_at_or_under q p) (
   | inr later ↦ within_outside q ps paths.1 later
 ]
 
-unmark_files : (ps logs : List Path) → AreFiles (unmark_requests (places_of ps logs))
+pub unmark_files : (ps logs : List Path) → AreFiles (unmark_requests (places_of ps logs))
 unmark_files ps logs = files_append (remove_each (map mark_place ps)) (Settle (map mark_place ps) ∷ []) (remove_files (map mark_place ps)) (refl, tt)
 
 pub keep_files : (ps logs : List Path) (bytes : List (List ℕ)) → AreFiles (keep_requests (places_of ps logs) bytes)

@@ -2,6 +2,7 @@
 use Rattle.std.proofs.Common.{◌≡◌, inl, inr, true, false, ◌||◌, List, [], ◌∷◌, ◌++◌, refl, ap, sym, subst, ◌∙◌, None, IsTrue, true≢false}
 use Rattle.std.specs.Prelude.{map}
 use Rattle.std.specs.List.{list_any}
+use Rattle.std.proofs.lemmas.Bool.{or_right, or_parts}
 use Rattle.smk_base.specs.Path.{is_path, own_folder, is_under, is_at_or_under, overlaps}
 use Rattle.smk_base.specs.Place.{record_place, mark_place, note_place}
 use Rattle.smk_base.proofs.Places.{place_itself}
@@ -19,48 +20,47 @@ use Rattle.smk_run.specs.Stamps.{Serials}
 use Rattle.smk_run.specs.Turns.{Turn, IsTurn}
 use Rattle.smk_made.specs.Leaving.{owned, MayCome, AreInputsApart, IsFirm, IsRecorded, HasLeft}
 use Rattle.smk_made.specs.Running.{IsOrderly, LeavesAlone, AreArranged, IsMade, HasMade, DoneTurnsLeave}
-use Rattle.smk_made.proofs.Keeping.{or_false}
 use Rattle.smk_run.proofs.Calls.{each_first}
 use Rattle.smk_made.proofs.Sparing.{else_apart, IsOffTurn, turn_kept, turns_kept, off_overlap}
 use Rattle.smk_made.proofs.TreeMoves.{StaysUnder, stays_same, contents_moved, outputs_moved, IsMadeFirm, kind_firm}
-use Rattle.smk_made.proofs.Done.{follows_split, or_then, done_turn_leaves}
+use Rattle.smk_made.proofs.Done.{follows_split, done_turn_leaves}
 
 -- ## The engine's own files of paths that differ
 
 differ_overlap : (p q : Path) → overlaps p q ≡ false → p ≡ q → ⊥
 differ_overlap p q h e = true≢false (sym (ap (λ v. v || (is_under p p || is_under p p)) (place_itself p)) ∙ ap (overlaps p) e ∙ h)
 
-users_apart : (x : Path) → is_at_or_under x own_folder ≡ true → (ps : List Path) → Each (λ p. IsTrue (is_path p)) ps → Each (λ p. IsApart p x) ps
+pub users_apart : (x : Path) → is_at_or_under x own_folder ≡ true → (ps : List Path) → Each (λ p. IsTrue (is_path p)) ps → Each (λ p. IsApart p x) ps
 users_apart x own [] h = tt
 users_apart x own (p ∷ ps) h = (path-own p x h.0 own, users_apart x own ps h.1)
 
 records_apart : (p : Path) (ps : List Path) → list_any (overlaps p) ps ≡ false → Each (λ m. IsApart m (record_place p)) (map record_place ps)
 records_apart p [] h = tt
-records_apart p (q ∷ ps) h = let both = or_false (overlaps p q) (list_any (overlaps p) ps) h in (apart_flipped (record_place p) (record_place q) (record-record p q (differ_overlap p q both.0)), records_apart p ps both.1)
+records_apart p (q ∷ ps) h = let both = or_parts (overlaps p q) (list_any (overlaps p) ps) h in (apart_flipped (record_place p) (record_place q) (record-record p q (differ_overlap p q both.0)), records_apart p ps both.1)
 
 marks_apart : (p : Path) (ps : List Path) → list_any (overlaps p) ps ≡ false → Each (λ m. IsApart m (mark_place p)) (map mark_place ps)
 marks_apart p [] h = tt
-marks_apart p (q ∷ ps) h = let both = or_false (overlaps p q) (list_any (overlaps p) ps) h in (apart_flipped (mark_place p) (mark_place q) (mark-mark p q (differ_overlap p q both.0)), marks_apart p ps both.1)
+marks_apart p (q ∷ ps) h = let both = or_parts (overlaps p q) (list_any (overlaps p) ps) h in (apart_flipped (mark_place p) (mark_place q) (mark-mark p q (differ_overlap p q both.0)), marks_apart p ps both.1)
 
-record_marks : (p : Path) (ps : List Path) → Each (λ m. IsApart m (record_place p)) (map mark_place ps)
+pub record_marks : (p : Path) (ps : List Path) → Each (λ m. IsApart m (record_place p)) (map mark_place ps)
 record_marks p [] = tt
 record_marks p (q ∷ ps) = (apart_flipped (record_place p) (mark_place q) (record-mark p q), record_marks p ps)
 
-record_notes : (p : Path) (ps : List Path) → Each (λ m. IsApart m (record_place p)) (map note_place ps)
+pub record_notes : (p : Path) (ps : List Path) → Each (λ m. IsApart m (record_place p)) (map note_place ps)
 record_notes p [] = tt
 record_notes p (q ∷ ps) = (apart_flipped (record_place p) (note_place q) (record-note p q), record_notes p ps)
 
-mark_records : (p : Path) (ps : List Path) → Each (λ m. IsApart m (mark_place p)) (map record_place ps)
+pub mark_records : (p : Path) (ps : List Path) → Each (λ m. IsApart m (mark_place p)) (map record_place ps)
 mark_records p [] = tt
 mark_records p (q ∷ ps) = (record-mark q p, mark_records p ps)
 
-mark_notes : (p : Path) (ps : List Path) → Each (λ m. IsApart m (mark_place p)) (map note_place ps)
+pub mark_notes : (p : Path) (ps : List Path) → Each (λ m. IsApart m (mark_place p)) (map note_place ps)
 mark_notes p [] = tt
 mark_notes p (q ∷ ps) = (apart_flipped (mark_place p) (note_place q) (mark-note p q), mark_notes p ps)
 
 none_first : (p : Path) (ps qs : List Path) → list_any (overlaps p) (ps ++ qs) ≡ false → list_any (overlaps p) ps ≡ false
 none_first p [] qs h = refl
-none_first p (x ∷ ps) qs h = let both = or_false (overlaps p x) (list_any (overlaps p) (ps ++ qs)) h in ap (λ v. v || list_any (overlaps p) ps) both.0 ∙ none_first p ps qs both.1
+none_first p (x ∷ ps) qs h = let both = or_parts (overlaps p x) (list_any (overlaps p) (ps ++ qs)) h in ap (λ v. v || list_any (overlaps p) ps) both.0 ∙ none_first p ps qs both.1
 
 record_off : (t : Turn) (p : Path) → IsOrderly t → list_any (overlaps p) (owned t) ≡ false → IsOffTurn true (record_place p) t
 record_off t p orderly none =
@@ -88,7 +88,7 @@ mark_off t p orderly none =
 abbrev pub AreClear : Path → List Turn → Type 0
 AreClear p ts = Each (λ (u : Turn). list_any (overlaps p) (owned u) ≡ false) ts
 
-orderly_each : (ts : List Turn) → AreArranged ts → Each IsOrderly ts
+pub orderly_each : (ts : List Turn) → AreArranged ts → Each IsOrderly ts
 orderly_each [] h = tt
 orderly_each (t ∷ ts) h = (h.0, orderly_each ts h.3)
 
@@ -179,7 +179,7 @@ records_stay t w v (out ∷ outs) same kept h =
         read_only = h.0.read_only;
         stands = kept.0 ∙ h.0.stands;
       },
-      records_stay t w v outs (λ q k. same q (or_then (is_at_or_under q out.path) (is_within q rest) k)) kept.1 h.1,
+      records_stay t w v outs (λ q k. same q (or_right (is_at_or_under q out.path) (is_within q rest) k)) kept.1 h.1,
     )
 
 own_records : (w v : World) (ts : List Turn) (ps : List Path) → Each IsOrderly ts → ((q : Path) → Each (IsOffTurn true q) ts → v.nodes q ≡ w.nodes q) → Each (IsClearPath ts) ps

@@ -2,6 +2,8 @@
 use Rattle.std.proofs.Common.{◌≡◌, inl, inr, ℕ, Bool, true, false, ◌&&◌, ◌||◌, List, [], ◌∷◌, ◌++◌, refl, ap, sym, subst, ◌∙◌}
 use Rattle.std.specs.Prelude.{map}
 use Rattle.std.specs.List.{flat_map, list_any}
+use Rattle.std.proofs.Math.Bool.{and-false}
+use Rattle.std.proofs.lemmas.Bool.{or_parts, or_from}
 use Rattle.smk_base.specs.Path.{own_folder, is_under, is_at_or_under, overlaps}
 use Rattle.smk_base.specs.Place.{record_place, mark_place, note_place}
 use Rattle.smk_base.proofs.Under.{never_both, false_unless, under_further, at_or_under_cases, overlaps_above_both, overlaps_over}
@@ -17,14 +19,10 @@ use Rattle.smk_job.specs.Jobs.{Underway, parents_each, clear_requests, begin_req
 use Rattle.smk_run.specs.Stamps.{Serials}
 use Rattle.smk_run.specs.Turns.{Turn, IsTurn, AreTurns, as_underway}
 use Rattle.smk_made.specs.Leaving.{owned, TurnKeepsElse, TurnsKeepElse}
-use Rattle.smk_made.proofs.Keeping.{none_of, or_false, bothers, Keeps, Spares, AreAside, run_kept}
+use Rattle.smk_made.proofs.Keeping.{bothers, Keeps, Spares, AreAside, run_kept}
 use Rattle.smk_run.proofs.Calls.{EachCall}
 use Rattle.smk_run.proofs.Calls.{each_append, each_then, OfLooks, OfClosing}
 use Rattle.smk_made.proofs.Calls.{OfTurn, turn_each}
-
-and_false : (a : Bool) → (a && false) ≡ false
-and_false true = refl
-and_false false = refl
 
 -- ## Lists of places
 
@@ -52,26 +50,26 @@ pub record IsElse (exactly : Bool) (places : List Path) (q : Path) : Type 0 wher
   pub above : (exactly && is_above q places) ≡ false
 
 and_or : (a b c : Bool) → (a && (b || c)) ≡ false → ((a && b) ≡ false) × ((a && c) ≡ false)
-and_or true b c h = or_false b c h
+and_or true b c h = or_parts b c h
 and_or false b c h = (refl, refl)
 
 or_and : (a b c : Bool) → (a && b) ≡ false → (a && c) ≡ false → (a && (b || c)) ≡ false
-or_and true b c h k = none_of b c h k
+or_and true b c h k = or_from b c h k
 or_and false b c h k = refl
 
 pub else_none : (exactly : Bool) (q : Path) → IsElse exactly [] q
-else_none exactly q = record { within = refl; above = and_false exactly }
+else_none exactly q = record { within = refl; above = and-false exactly }
 
 -- one place first, and the others
 else_head : (exactly : Bool) (p : Path) (ps : List Path) (q : Path) → IsElse exactly (p ∷ ps) q → (is_at_or_under q p ≡ false) × ((exactly && is_under p q) ≡ false) × IsElse exactly ps q
 else_head exactly p ps q h =
-    let both = or_false (is_at_or_under q p) (is_within q ps) h.within in
+    let both = or_parts (is_at_or_under q p) (is_within q ps) h.within in
     let up = and_or exactly (is_under p q) (is_above q ps) h.above in
     (both.0, up.0, record { within = both.1; above = up.1 })
 
 else_one : (exactly : Bool) (p : Path) (ps : List Path) (q : Path) → is_at_or_under q p ≡ false → (exactly && is_under p q) ≡ false → IsElse exactly ps q → IsElse exactly (p ∷ ps) q
 else_one exactly p ps q at up more = record {
-  within = none_of (is_at_or_under q p) (is_within q ps) at more.within;
+  within = or_from (is_at_or_under q p) (is_within q ps) at more.within;
   above = or_and exactly (is_under p q) (is_above q ps) up more.above;
 }
 
@@ -90,7 +88,7 @@ else_both exactly (p ∷ ps) qs q h k = let both = else_head exactly p ps q h in
 -- what is apart from each of the places
 pub else_apart : (exactly : Bool) (ms : List Path) (q : Path) → Each (λ m. IsApart m q) ms → IsElse exactly ms q
 else_apart exactly [] q h = else_none exactly q
-else_apart exactly (m ∷ ms) q h = else_one exactly m ms q h.0.at_or_over (ap (λ v. exactly && v) h.0.under ∙ and_false exactly) (else_apart exactly ms q h.1)
+else_apart exactly (m ∷ ms) q h = else_one exactly m ms q h.0.at_or_over (ap (λ v. exactly && v) h.0.under ∙ and-false exactly) (else_apart exactly ms q h.1)
 
 pub own_apart : (q : Path) → is_at_or_under q own_folder ≡ false → (ms : List Path) → AreOwn ms → Each (λ m. IsApart m q) ms
 own_apart q out [] own = tt
@@ -124,7 +122,7 @@ abbrev pub Spared : Bool → Path → List Request → Type 0
 Spared exactly q rs = Each (Spares exactly q) rs
 
 pub spared_settle : (exactly : Bool) (ps : List Path) (q : Path) → IsElse exactly ps q → bothers exactly (Settle ps) q ≡ false
-spared_settle exactly ps q h = none_of (is_within q ps) (exactly && is_above q ps) h.within h.above
+spared_settle exactly ps q h = or_from (is_within q ps) (exactly && is_above q ps) h.within h.above
 
 spared_remove : (exactly : Bool) (ps : List Path) (q : Path) → IsElse exactly ps q → Spared exactly q (remove_each ps)
 spared_remove exactly [] q h = tt
@@ -136,12 +134,12 @@ spared_parents exactly (p ∷ ps) q h = let k = else_head exactly p ps q h in (k
 
 spared_make : (exactly : Bool) (ps : List Path) (q : Path) → IsElse exactly ps q → Spared exactly q (make_each ps)
 spared_make exactly [] q h = tt
-spared_make exactly (p ∷ ps) q h = let k = else_head exactly p ps q h in (k.1, ((or_false _ (is_under q p) k.0).0, spared_make exactly ps q k.2))
+spared_make exactly (p ∷ ps) q h = let k = else_head exactly p ps q h in (k.1, ((or_parts _ (is_under q p) k.0).0, spared_make exactly ps q k.2))
 
 pub spared_write : (exactly : Bool) (ps : List Path) (bytes : List (List ℕ)) (q : Path) → IsElse exactly ps q → Spared exactly q (write_each ps bytes)
 spared_write exactly [] bytes q h = tt
 spared_write exactly (p ∷ ps) [] q h = tt
-spared_write exactly (p ∷ ps) (b ∷ bytes) q h = let k = else_head exactly p ps q h in (k.1, ((or_false _ (is_under q p) k.0).0, spared_write exactly ps bytes q k.2))
+spared_write exactly (p ∷ ps) (b ∷ bytes) q h = let k = else_head exactly p ps q h in (k.1, ((or_parts _ (is_under q p) k.0).0, spared_write exactly ps bytes q k.2))
 
 pub spared_both : (exactly : Bool) (q : Path) (rs qs : List Request) → Spared exactly q rs → Spared exactly q qs → Spared exactly q (rs ++ qs)
 spared_both exactly q rs qs h k = each_append (Spares exactly q) rs qs h k
@@ -249,8 +247,8 @@ turns_keep_else made ts w es none are = record {
 pub out_of_overlap : (p q : Path) (os : List Path) → is_at_or_under q p ≡ true → list_any (overlaps p) os ≡ false → is_within q os ≡ false
 out_of_overlap p q [] at h = refl
 out_of_overlap p q (o ∷ os) at h =
-    let both = or_false (overlaps p o) (list_any (overlaps p) os) h in
-    none_of (is_at_or_under q o) (is_within q os) (false_unless (is_at_or_under q o) (λ k. never_both (overlaps p o) (overlaps_above_both q p o at k) both.0)) (out_of_overlap p q os at both.1)
+    let both = or_parts (overlaps p o) (list_any (overlaps p) os) h in
+    or_from (is_at_or_under q o) (is_within q os) (false_unless (is_at_or_under q o) (λ k. never_both (overlaps p o) (overlaps_above_both q p o at k) both.0)) (out_of_overlap p q os at both.1)
 
 under_at : (o q p : Path) → is_under o q ≡ true → is_at_or_under q p ≡ true → is_under o p ≡ true
 under_at o q p under at = elim (at_or_under_cases q p at) [
@@ -261,8 +259,8 @@ under_at o q p under at = elim (at_or_under_cases q p at) [
 pub not_above_overlap : (p q : Path) (os : List Path) → is_at_or_under q p ≡ true → list_any (overlaps p) os ≡ false → is_above q os ≡ false
 not_above_overlap p q [] at h = refl
 not_above_overlap p q (o ∷ os) at h =
-    let both = or_false (overlaps p o) (list_any (overlaps p) os) h in
-    none_of (is_under o q) (is_above q os) (false_unless (is_under o q) (λ k. never_both (overlaps p o) (overlaps_over p o (under_at o q p k at)) both.0)) (not_above_overlap p q os at both.1)
+    let both = or_parts (overlaps p o) (list_any (overlaps p) os) h in
+    or_from (is_under o q) (is_above q os) (false_unless (is_under o q) (λ k. never_both (overlaps p o) (overlaps_over p o (under_at o q p k at)) both.0)) (not_above_overlap p q os at both.1)
 
 pub at_outside : (p q : Path) → is_at_or_under p own_folder ≡ false → is_at_or_under q p ≡ true → is_at_or_under q own_folder ≡ false
 at_outside p q out at = false_unless (is_at_or_under q own_folder) (λ own. never_both (is_at_or_under q p) at (outside-own p q out own).at_or_over)

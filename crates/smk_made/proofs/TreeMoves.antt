@@ -2,6 +2,7 @@
 use Rattle.std.proofs.Common.{◌≡◌, ℕ, true, List, [], ◌∷◌, refl, ap, sym, subst, ◌∙◌, Option, Some, None}
 use Rattle.std.specs.List.{AllZip, AllByRecursion}
 use Rattle.std.proofs.lemmas.List.Elements.{recursion_from_All, All-from_recursion}
+use Rattle.smk_store_members.proofs.Listings.{in_it}
 use Rattle.smk_base.specs.Path.{is_under, is_at_or_under}
 use Rattle.smk_base.specs.declared.tree.Tree.{Tree}
 use Rattle.smk_base.specs.declared.tree.Tree.TheVariants.{File, Folder}
@@ -49,9 +50,6 @@ stays_firm s t e = record { reads = λ n h. subst (Reads n) (sym e) (reads_firm 
 abbrev pub StaysUnder : World → World → Path → Type 0
 StaysUnder w v p = (q : Path) → is_at_or_under q p ≡ true → StaysRead (w.nodes q) (v.nodes q)
 
-pub in_folder_at : (p name : Path) → is_at_or_under (in_folder p name) p ≡ true
-in_folder_at p name = at_when_under (in_folder p name) p (under_folder p name)
-
 entry_moved : (bytes : Option (List ℕ)) (s t : NodeState) → StaysRead s t → EntryIs bytes s → EntryIs bytes t
 entry_moved None s t same h = same.reads (Some Directory) h
 entry_moved (Some bytes) s t same h = same.holds bytes h
@@ -59,7 +57,7 @@ entry_moved (Some bytes) s t same h = same.holds bytes h
 entries_moved : (w v : World) (p : Path) → StaysUnder w v p → (entries : List TreeEntry)
     → AllByRecursion (λ (e : TreeEntry). EntryIs e.bytes (w.nodes (in_folder p e.name))) entries → AllByRecursion (λ (e : TreeEntry). EntryIs e.bytes (v.nodes (in_folder p e.name))) entries
 entries_moved w v p same [] h = tt
-entries_moved w v p same (e ∷ entries) h = (entry_moved e.bytes (w.nodes (in_folder p e.name)) (v.nodes (in_folder p e.name)) (same (in_folder p e.name) (in_folder_at p e.name)) h.0, entries_moved w v p same entries h.1)
+entries_moved w v p same (e ∷ entries) h = (entry_moved e.bytes (w.nodes (in_folder p e.name)) (v.nodes (in_folder p e.name)) (same (in_folder p e.name) (in_it p e.name)) h.0, entries_moved w v p same entries h.1)
 
 pub tree_moved : (w v : World) (p : Path) (tree : Tree) → StaysUnder w v p → TreeAt w p tree → TreeAt v p tree
 tree_moved w v p (File bytes) same h = (same p (at_itself p)).holds bytes h
@@ -68,7 +66,7 @@ tree_moved w v p (Folder entries) same h = record {
   sorted = h.sorted;
   stand = All-from_recursion (λ (e : TreeEntry). EntryIs e.bytes (v.nodes (in_folder p e.name))) entries
       (entries_moved w v p same entries (recursion_from_All (λ (e : TreeEntry). EntryIs e.bytes (w.nodes (in_folder p e.name))) entries h.stand));
-  all = λ name some. h.all name (λ none. some ((same (in_folder p name) (in_folder_at p name)).reads None none));
+  all = λ name some. h.all name (λ none. some ((same (in_folder p name) (in_it p name)).reads None none));
 }
 
 maybe_moved : (w v : World) (p : Path) (tree : Option Tree) → StaysUnder w v p → MaybeTreeAt w p tree → MaybeTreeAt v p tree
@@ -132,7 +130,7 @@ found_under nodes p q (Inside name is there) = under_folder p name
 found_under nodes p q (Deeper folder name found is_folder is there) = under_further (in_folder folder name) folder p (under_folder folder name) (found_under nodes p folder found)
 
 found_now : (old new : Nodes) (p q : Path) → IsMadeFirm old new p → IsFound old p q → IsFound new p q
-found_now old new p q same (Inside name is there) = Inside name is (stands_firm (old (in_folder p name)) (new (in_folder p name)) (same (in_folder p name) (in_folder_at p name)) there)
+found_now old new p q same (Inside name is there) = Inside name is (stands_firm (old (in_folder p name)) (new (in_folder p name)) (same (in_folder p name) (in_it p name)) there)
 found_now old new p q same (Deeper folder name found is_folder is there) =
     let under = found_under old p folder found in
     let deeper = under_further (in_folder folder name) folder p (under_folder folder name) under in
@@ -140,7 +138,7 @@ found_now old new p q same (Deeper folder name found is_folder is there) =
     (stands_firm (old (in_folder folder name)) (new (in_folder folder name)) (same (in_folder folder name) (at_when_under (in_folder folder name) p deeper)) there)
 
 found_before : (old new : Nodes) (p q : Path) → IsMadeFirm old new p → IsFound new p q → IsFound old p q
-found_before old new p q same (Inside name is there) = Inside name is (stood_firm (old (in_folder p name)) (new (in_folder p name)) (same (in_folder p name) (in_folder_at p name)) there)
+found_before old new p q same (Inside name is there) = Inside name is (stood_firm (old (in_folder p name)) (new (in_folder p name)) (same (in_folder p name) (in_it p name)) there)
 found_before old new p q same (Deeper folder name found is_folder is there) =
     let under = found_under new p folder found in
     let deeper = under_further (in_folder folder name) folder p (under_folder folder name) under in
@@ -150,7 +148,7 @@ found_before old new p q same (Deeper folder name found is_folder is there) =
 there_now : (old new : Nodes) (p : Path) → IsMadeFirm old new p → (ms : List Member) → Each (IsThere old p) ms → Each (IsThere new p) ms
 there_now old new p same [] h = tt
 there_now old new p same (m ∷ ms) h = (
-  (found_now old new p (in_folder p m.name) same h.0.0, folder_firm (old (in_folder p m.name)) (new (in_folder p m.name)) (same (in_folder p m.name) (in_folder_at p m.name)) ∙ h.0.1),
+  (found_now old new p (in_folder p m.name) same h.0.0, folder_firm (old (in_folder p m.name)) (new (in_folder p m.name)) (same (in_folder p m.name) (in_it p m.name)) ∙ h.0.1),
   there_now old new p same ms h.1,
 )
 

@@ -3,6 +3,7 @@ use native.Mathlib.Omega.{arith}
 use Rattle.std.proofs.Common.{◌≡◌, ◌⊎◌, ◌<◌, ◌≤◌, ◌+◌, ℕ, zero, suc, Bool, true, false, cond, List, [], ◌∷◌, inl, inr, refl, sym, ap, subst, ◌∙◌, Option, Some, None, slice_get, true≢false}
 use Rattle.std.specs.List.{count_by}
 use Rattle.std.proofs.lemmas.List.Recursion.{is_count_by}
+use Rattle.std.proofs.lemmas.Option.{same_Some}
 use Rattle.smk_flow.specs.declared.job.Job.{Job}
 use Rattle.smk_flow.specs.Flows.{Flow}
 use Rattle.smk_report.specs.declared.fault.Fault.{Fault}
@@ -97,18 +98,15 @@ undone_is_last cores (due ∷ dues) (u ∷ ts) order (suc n) t e bad = go (is_do
 
 -- ## The first failure
 
-some_is : (x y : Fault) → Some x ≡ Some y → x ≡ y
-some_is x y e = cc
-
 none_some : (f : Fault) → None ≡ Some f → ⊥
 none_some f e = cc
 
 failure_status : (name : Named) (ending : Ending) (f : Fault) → failure name ending ≡ Some f → IsOfJob f
 failure_status name Good f e = absurd (none_some f e)
-failure_status name (Status n) f e = subst IsOfJob (some_is _ f e) (refl, refl, refl)
-failure_status name (NoOutput p) f e = subst IsOfJob (some_is _ f e) (refl, refl, refl)
-failure_status name (WrongKind p) f e = subst IsOfJob (some_is _ f e) (refl, refl, refl)
-failure_status name (BadMember p) f e = subst IsOfJob (some_is _ f e) (refl, refl, refl)
+failure_status name (Status n) f e = subst IsOfJob (same_Some _ f e) (refl, refl, refl)
+failure_status name (NoOutput p) f e = subst IsOfJob (same_Some _ f e) (refl, refl, refl)
+failure_status name (WrongKind p) f e = subst IsOfJob (same_Some _ f e) (refl, refl, refl)
+failure_status name (BadMember p) f e = subst IsOfJob (same_Some _ f e) (refl, refl, refl)
 
 course_status : (flow : Flow) (job : Job) (course : Course) (f : Fault) → course_failure flow job course ≡ Some f → IsOfJob f
 course_status flow job Unbegun f e = absurd (none_some f e)

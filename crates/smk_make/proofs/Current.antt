@@ -2,7 +2,7 @@
 use native.Mathlib.Omega.{arith}
 use Rattle.std.proofs.Common.{◌≡◌, ◌⊎◌, ◌<◌, ◌≤◌, ◌+◌, ◌-◌, ℕ, zero, suc, Bool, true, false, not, List, [], ◌∷◌, length, inl, inr, refl, sym, ap, subst, ◌∙◌, Option, Some, None, slice_get, nat_lt, true≢false}
 use Rattle.std.specs.Prelude.{get_or}
-use Rattle.std.proofs.lemmas.Bool.{lt-ltb, le-ltb}
+use Rattle.std.proofs.lemmas.Bool.{lt-ltb, le-ltb, cases_lt}
 use Rattle.smk_flow.specs.Flows.{Flow}
 use Rattle.smk_plan.specs.declared.duty.Duty.{Duty}
 use Rattle.smk_plan.specs.declared.duty.Duty.TheVariants.{Rest, Restore, Run}
@@ -15,19 +15,9 @@ use Rattle.smk_make.specs.After.{is_due_one, due_before, turn_at, is_turn_done, 
 use Rattle.smk_make.proofs.Counting.{count, counted, below_done, past_done, undone_is_last}
 use Rattle.smk_make.proofs.Dues.{one_due}
 
-either : (a b : ℕ) → (a < b) ⊎ (b ≤ a)
-either zero zero = inr (omega arith)
-either zero (suc b) = inl (omega arith)
-either (suc a) zero = inr (omega arith)
-either (suc a) (suc b) = more (either a b)
-  where
-    more : (a < b) ⊎ (b ≤ a) → (suc a < suc b) ⊎ (suc b ≤ suc a)
-    more (inl h) = inl (omega (arith, h))
-    more (inr h) = inr (omega (arith, h))
-
 -- a job that had its turn is done where so many come before it
 done_by_count : (cores : ℕ) (dues : List Due) (turns : List Turn) → AreInOrder cores dues turns → (n : ℕ) → nat_lt n (count turns) ≡ is_turn_done (slice_get turns n)
-done_by_count cores dues turns order n = by_cases (either n (count turns))
+done_by_count cores dues turns order n = by_cases (cases_lt n (count turns))
   where
     by_cases : (n < count turns) ⊎ (count turns ≤ n) → nat_lt n (count turns) ≡ is_turn_done (slice_get turns n)
     by_cases (inl lt) = lt-ltb n (count turns) lt ∙ sym (below_done cores dues turns order n lt)
@@ -127,7 +117,7 @@ module _ (flow : Flow) (cores : ℕ) (dues : List Due) (befores : List (List ℕ
 
   -- there is more to be done where fewer turns come before than jobs are done
   more_left : (a b : ℕ) → nat_lt 0 (b - a) ≡ nat_lt a b
-  more_left a b = go (either a b)
+  more_left a b = go (cases_lt a b)
     where
       go : (a < b) ⊎ (b ≤ a) → nat_lt 0 (b - a) ≡ nat_lt a b
       go (inl lt) = lt-ltb 0 (b - a) (omega (arith, lt)) ∙ sym (lt-ltb a b lt)

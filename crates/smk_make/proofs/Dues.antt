@@ -3,6 +3,9 @@ use native.Mathlib.Omega.{arith}
 use Rattle.std.proofs.Common.{◌≡◌, ◌⊎◌, ◌<◌, ◌≤◌, ◌+◌, ◌-◌, ℕ, zero, suc, Bool, true, false, List, [], ◌∷◌, ◌++◌, length, take, filter, cond, inl, inr, refl, sym, ap, subst, ◌∙◌, Some, None, slice_get, nat_lt, true≢false}
 use Rattle.std.specs.Prelude.{get_or, if◌then◌else◌}
 use Rattle.std.proofs.lemmas.Bool.{ltb-true}
+use Rattle.std.proofs.lemmas.Option.{same_Some}
+use Rattle.std.proofs.Math.Numerals.{suc-eq-add-one}
+use Rattle.smk_plan_duties.proofs.OneMore.{same_or_less, got_before, got_last, pushed}
 use Rattle.smk_plan.specs.declared.duty.Duty.{Duty}
 use Rattle.smk_plan.specs.declared.duty.Duty.TheVariants.{Rest, Restore, Run}
 use Rattle.smk_plan.specs.Duties.{rests}
@@ -81,17 +84,9 @@ one_due duties index k n a b = go (order k n)
 abbrev pub NoneDue : List Duty → ℕ → ℕ → Type 0
 NoneDue duties index n = (k : ℕ) → k < n → IsDueAfter duties index k → ⊥
 
-less_or_same : (k n : ℕ) → k < suc n → (k < n) ⊎ (k ≡ n)
-less_or_same k n lt = go (order k n)
-  where
-    go : (k < n) ⊎ ((k ≡ n) ⊎ (n < k)) → (k < n) ⊎ (k ≡ n)
-    go (inl h) = inl h
-    go (inr (inl e)) = inr e
-    go (inr (inr h)) = absurd (omega (arith, h, lt))
-
 -- nor is the next one
 pub none_next : (duties : List Duty) (index n : ℕ) → NoneDue duties index n → ¬ IsDueAfter duties index n → NoneDue duties index (suc n)
-none_next duties index n none never k lt h = go (less_or_same k n lt)
+none_next duties index n none never k lt h = go (same_or_less k n lt)
   where
     go : (k < n) ⊎ (k ≡ n) → ⊥
     go (inl less) = none k less h
@@ -207,27 +202,6 @@ pub record AreAfterSoFar (duties : List Duty) (spoilt : List Bool) (done n left 
   pub left_is : left ≡ done - due_before duties n
   pub right : (k : ℕ) (duty : Duty) → k < n → slice_get duties k ≡ Some duty → get_or after k false ≡ is_current_by duty spoilt k (done - due_before duties k)
 
-got_before : (xs : List Bool) (y : Bool) (n : ℕ) → n < length xs → get_or (xs ++ y ∷ []) n false ≡ get_or xs n false
-got_before [] y n lt = absurd (omega (arith, lt))
-got_before (x ∷ xs) y zero lt = refl
-got_before (x ∷ xs) y (suc n) lt = got_before xs y n (omega (arith, lt))
-
-got_last : (xs : List Bool) (y : Bool) (n : ℕ) → length xs ≡ n → get_or (xs ++ y ∷ []) n false ≡ y
-got_last [] y zero e = refl
-got_last [] y (suc n) e = absurd (omega (arith, e))
-got_last (x ∷ xs) y zero e = absurd (omega (arith, e))
-got_last (x ∷ xs) y (suc n) e = got_last xs y n (omega (arith, e))
-
-pushed : (xs : List Bool) (y : Bool) → length (xs ++ y ∷ []) ≡ suc (length xs)
-pushed [] y = refl
-pushed (x ∷ xs) y = ap suc (pushed xs y)
-
-one_duty : (d e : Duty) → Some d ≡ Some e → d ≡ e
-one_duty d e h = cc
-
-plus_one : (n : ℕ) → suc n ≡ n + 1
-plus_one n = omega arith
-
 less_by : (done b : ℕ) → done - b - 1 ≡ done - suc b
 less_by done b = omega arith
 
@@ -240,19 +214,19 @@ left_next duties done n left Run e is = ap (λ l. l - 1) is ∙ less_by done (du
 pub after_next : (duties : List Duty) (spoilt : List Bool) (done n left : ℕ) (after next : List Bool) (b : Bool) (duty : Duty) → AreAfterSoFar duties spoilt done n left after → slice_get duties n ≡ Some duty → b ≡ is_current_by duty spoilt n left
     → next ≡ after ++ b ∷ [] → (later : ℕ) → later ≡ done_after duty left → AreAfterSoFar duties spoilt done (n + 1) later next
 after_next duties spoilt done n left after next b duty so at is grown later later_is =
-    subst (λ m. AreAfterSoFar duties spoilt done m later next) (plus_one n)
+    subst (λ m. AreAfterSoFar duties spoilt done m later next) (suc-eq-add-one n)
     (subst (AreAfterSoFar duties spoilt done (suc n) later) (sym grown)
     (record {
       each = pushed after b ∙ ap suc so.each;
       left_is = later_is ∙ left_next duties done n left duty at so.left_is;
-      right = λ k d lt here. go k d here (less_or_same k n lt);
+      right = λ k d lt here. go k d here (same_or_less k n lt);
     }))
   where
     go : (k : ℕ) (d : Duty) → slice_get duties k ≡ Some d → (k < n) ⊎ (k ≡ n) → get_or (after ++ b ∷ []) k false ≡ is_current_by d spoilt k (done - due_before duties k)
     go k d here (inl lt) = got_before after b k (subst (λ l. k < l) (sym so.each) lt) ∙ so.right k d lt here
     go k d here (inr e) =
         subst (λ j. get_or (after ++ b ∷ []) j false ≡ is_current_by d spoilt j (done - due_before duties j)) (sym e)
-        (got_last after b n so.each ∙ is ∙ ap (λ x. is_current_by x spoilt n left) (one_duty duty d (sym at ∙ subst (λ j. slice_get duties j ≡ Some d) e here)) ∙ ap (is_current_by d spoilt n) so.left_is)
+        (got_last after b n so.each ∙ is ∙ ap (λ x. is_current_by x spoilt n left) (same_Some duty d (sym at ∙ subst (λ j. slice_get duties j ≡ Some d) e here)) ∙ ap (is_current_by d spoilt n) so.left_is)
 
 pub none_after : (duties : List Duty) (spoilt : List Bool) (done : ℕ) → AreAfterSoFar duties spoilt done 0 done []
 none_after duties spoilt done = record { each = refl; left_is = omega arith; right = λ k duty lt here. absurd (omega (arith, lt)) }

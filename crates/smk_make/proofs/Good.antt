@@ -1,39 +1,27 @@
 -- The commands of jobs that have their turns have no fault, where those of the plan have none.
-use Rattle.std.proofs.Common.{◌≡◌, ℕ, suc, true, false, not, List, [], ◌∷◌, length, refl, ap, Option, Some, None}
+use Rattle.std.proofs.Common.{◌≡◌, ℕ, suc, List, [], ◌∷◌, length, refl, ap, Option, Some, None, sym}
 use Rattle.std.specs.Prelude.{zip}
+use Rattle.std.proofs.lemmas.Option.{none-some}
+use Rattle.smk_run.proofs.Choosing.{good_one}
 use Rattle.smk_flow.specs.declared.job.Job.{Job}
 use Rattle.smk_flow.specs.Flows.{Flow}
 use Rattle.smk_trigger.specs.declared.reason.State.{State}
-use Rattle.smk_trigger.specs.declared.reason.State.TheVariants.{Open, Dirty, Restore, Clean}
-use Rattle.smk_trigger.specs.JobStates.{is_to_run}
+use Rattle.smk_trigger.specs.declared.reason.State.TheVariants.{Restore}
 use Rattle.smk_report.specs.declared.fault.Fault.{Fault}
-use Rattle.smk_format.specs.Refused.{job_fault, state_fault, or_later, command_fault}
+use Rattle.smk_format.specs.Refused.{state_fault, or_later, command_fault}
 use Rattle.smk_plan.specs.declared.duty.Duty.{Duty}
 use Rattle.smk_plan.specs.declared.duty.Duty.TheVariants as duty
 use Rattle.smk_run.specs.Duties.{due_from}
 use Rattle.smk_plan.specs.Duties.{AreFor}
 use Rattle.smk_run.specs.Runs.{AreGood}
 
-false_true : false ≡ true → ⊥
-false_true e = cc
-
-some_none : (f : Fault) → Some f ≡ None → ⊥
-some_none f e = cc
-
 none_first : (a b : Option Fault) → or_later a b ≡ None → a ≡ None
 none_first None b e = refl
-none_first (Some f) b e = absurd (some_none f e)
+none_first (Some f) b e = absurd (none-some f (sym e))
 
 none_later : (a b : Option Fault) → or_later a b ≡ None → b ≡ None
 none_later None b e = e
-none_later (Some f) b e = absurd (some_none f e)
-
--- a job that is to run is looked at whole
-whole_fault : (flow : Flow) (cores : ℕ) (job : Job) (s : State) → false ≡ not (is_to_run s) → state_fault flow cores job s ≡ None → job_fault flow cores job ≡ None
-whole_fault flow cores job Open e none = absurd (false_true e)
-whole_fault flow cores job (Dirty reasons) e none = none
-whole_fault flow cores job Restore e none = none
-whole_fault flow cores job Clean e none = absurd (false_true e)
+none_later (Some f) b e = absurd (none-some f (sym e))
 
 good_from : (flow : Flow) (cores : ℕ) (serial : ℕ → Option ℕ) (n : ℕ) (states : List State) (duties : List Duty) (jobs : List Job) → AreFor states duties → command_fault flow cores (zip jobs states) ≡ None
     → AreGood flow cores (due_from serial n duties jobs)
@@ -44,11 +32,11 @@ good_from flow cores serial n (s ∷ states) (d ∷ duties) [] for none = tt
 good_from flow cores serial n (s ∷ states) (duty.Rest made ∷ duties) (job ∷ jobs) for none =
     good_from flow cores serial (suc n) states duties jobs for.1 (none_later (state_fault flow cores job s) (command_fault flow cores (zip jobs states)) none)
 good_from flow cores serial n (s ∷ states) (duty.Restore made ∷ duties) (job ∷ jobs) for none = (
-  whole_fault flow cores job s for.0 (none_first (state_fault flow cores job s) (command_fault flow cores (zip jobs states)) none),
+  good_one flow cores job s for.0 (none_first (state_fault flow cores job s) (command_fault flow cores (zip jobs states)) none),
   good_from flow cores serial (suc n) states duties jobs for.1 (none_later (state_fault flow cores job s) (command_fault flow cores (zip jobs states)) none),
 )
 good_from flow cores serial n (s ∷ states) (duty.Run ∷ duties) (job ∷ jobs) for none = (
-  whole_fault flow cores job s for.0 (none_first (state_fault flow cores job s) (command_fault flow cores (zip jobs states)) none),
+  good_one flow cores job s for.0 (none_first (state_fault flow cores job s) (command_fault flow cores (zip jobs states)) none),
   good_from flow cores serial (suc n) states duties jobs for.1 (none_later (state_fault flow cores job s) (command_fault flow cores (zip jobs states)) none),
 )
 

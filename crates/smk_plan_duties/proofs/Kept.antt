@@ -3,7 +3,7 @@ use Rattle.std.proofs.Common.{◌≡◌, ◌⊎◌, inl, inr, ℕ, suc, ◌≤�
 use Rattle.std.specs.Prelude.{if◌then◌else◌, is_some, option_map, nat_le, nat_lt, reverse}
 use Rattle.std.specs.List.{filter, find, flat_map, fold, list_all, list_any, zip}
 use Rattle.std.specs.Option.{option_and_then}
-use Rattle.std.proofs.lemmas.Bool.{eqb-true, lt-ltb}
+use Rattle.std.proofs.lemmas.Bool.{eqb-true, lt-ltb, or_parts, not-false}
 use Rattle.std.proofs.lemmas.List.{reverse-append}
 use lib.Pointwise.{pointwise}
 use Rattle.smk_base.proofs.Places.{and_first, and_second, same_flipped, same_place}
@@ -77,18 +77,6 @@ split_parts a m b changed e =
 
 -- ## Records of one job
 
-any_first : (a b : Bool) → (a || b) ≡ false → a ≡ false
-any_first true b h = h
-any_first false b h = refl
-
-any_second : (a b : Bool) → (a || b) ≡ false → b ≡ false
-any_second true b h = absurd (never_both true refl h)
-any_second false b h = h
-
-negated : (b : Bool) → not b ≡ false → b ≡ true
-negated true h = refl
-negated false h = absurd (never_both true refl h)
-
 same_made : (a b : Record) → same_job a b ≡ true → b.made ≡ a.made
 same_made a b h = sym (eqb-true a.made b.made (and_first (a.made == b.made) _ h))
 
@@ -110,8 +98,8 @@ module _ (image : Image) where
       go Absent e t r s more = absurd (never_both true refl t)
       go Unreadable e t r s more = absurd (never_both true refl r)
       go (Held b) e t r s more = (
-        (b, ap readable e, any_first (image.marked p) (list_any (λ x. x) (map image.marked ps)) marks, same_made a b (and_first (same_job a b) (list_all (same_job a) (flat_map held (map image.kept ps))) s)),
-        more t r (and_second (same_job a b) (list_all (same_job a) (flat_map held (map image.kept ps))) s) (any_second (image.marked p) (list_any (λ x. x) (map image.marked ps)) marks),
+        (b, ap readable e, (or_parts (image.marked p) (list_any (λ x. x) (map image.marked ps)) marks).0, same_made a b (and_first (same_job a b) (list_all (same_job a) (flat_map held (map image.kept ps))) s)),
+        more t r (and_second (same_job a b) (list_all (same_job a) (flat_map held (map image.kept ps))) s) (or_parts (image.marked p) (list_any (λ x. x) (map image.marked ps)) marks).1,
       )
 
   -- the first record, and that all are like it
@@ -124,7 +112,7 @@ module _ (image : Image) where
   pub first_kept : (p : Path) (ps : List Path) (changed : List Record → List Reason) →
       lacks_record (map image.kept (p ∷ ps)) ≡ false → has_bad_record (map image.kept (p ∷ ps)) ≡ false → list_any (λ b. b) (map image.marked (p ∷ ps)) ≡ false →
       changed (flat_map held (map image.kept (p ∷ ps))) ≡ [] → IsFirst p ps changed
-  first_kept p ps changed there good marks none = go (image.kept p) refl there (any_first reads same good) (negated (all_same (flat_map held (map image.kept (p ∷ ps)))) (any_second reads same good)) none
+  first_kept p ps changed there good marks none = go (image.kept p) refl there (or_parts reads same good).0 (not-false (all_same (flat_map held (map image.kept (p ∷ ps)))) (or_parts reads same good).1) none
     where
       reads : Bool
       reads = list_any is_unreadable (map image.kept (p ∷ ps))
@@ -141,8 +129,8 @@ module _ (image : Image) where
             of = b;
             stands = e;
             all = (
-              (b, ap readable e, any_first (image.marked p) (list_any (λ x. x) (map image.marked ps)) marks, refl),
-              like_kept b ps t r s (any_second (image.marked p) (list_any (λ x. x) (map image.marked ps)) marks),
+              (b, ap readable e, (or_parts (image.marked p) (list_any (λ x. x) (map image.marked ps)) marks).0, refl),
+              like_kept b ps t r s (or_parts (image.marked p) (list_any (λ x. x) (map image.marked ps)) marks).1,
             );
             unchanged = (flat_map held (map image.kept ps), c);
           }
@@ -273,15 +261,15 @@ stamp_below (p ∷ ps) [] q kept made len at none earlier = absurd (omega arith)
 stamp_below (p ∷ ps) (s ∷ ss) q kept made len at none earlier = go (bytes_eq q p) refl at (stamp_below ps ss q kept made (omega arith))
   where
     agreed : (b : Bool) → (true && not b) ≡ false → b ≡ true
-    agreed b h = negated b h
+    agreed b h = not-false b h
 
     go : (b : Bool) → bytes_eq q p ≡ b → (b || among ps q) ≡ true → (among ps q ≡ true → is_updated (zip ps ss) (q, Some (Made kept)) ≡ false → list_all (is_earlier made) ss ≡ true → nat_lt kept made ≡ true) → nat_lt kept made ≡ true
     go true e k more =
         made_below s kept made
-        (agreed (agrees s (Some (Made kept))) (sym (ap (λ (b : Bool). b && not (agrees s (Some (Made kept)))) (same_flipped p q ∙ e)) ∙ any_first (bytes_eq p q && not (agrees s (Some (Made kept)))) (is_updated (zip ps ss) (q, Some (Made kept))) none))
+        (agreed (agrees s (Some (Made kept))) (sym (ap (λ (b : Bool). b && not (agrees s (Some (Made kept)))) (same_flipped p q ∙ e)) ∙ (or_parts (bytes_eq p q && not (agrees s (Some (Made kept)))) (is_updated (zip ps ss) (q, Some (Made kept))) none).0))
         (and_first (is_earlier made s) (list_all (is_earlier made) ss) earlier)
     go false e k more =
-        more k (any_second (bytes_eq p q && not (agrees s (Some (Made kept)))) (is_updated (zip ps ss) (q, Some (Made kept))) none)
+        more k (or_parts (bytes_eq p q && not (agrees s (Some (Made kept)))) (is_updated (zip ps ss) (q, Some (Made kept))) none).1
         (and_second (is_earlier made s) (list_all (is_earlier made) ss) earlier)
 
 unchanged_parts : (a b c : Bool) (more : List Reason) → when a Code ++ (when b Params ++ (when c Inputs ++ more)) ≡ [] → (c ≡ false) × (more ≡ [])
@@ -298,7 +286,7 @@ pub input_below : (image : Image) (recipe : Recipe) (r : Record) (q : Path) (kep
 input_below image recipe r q kept valid none at stamp =
     let now = zip (in_paths recipe) (map (stamp_now image) (in_paths recipe)) in
     let parts = unchanged_parts (not (same_code recipe r.recipe)) (not (same_params recipe r.recipe)) (not (same_inputs recipe r.recipe)) (map (λ (e : Path × Option Stamp). Updated e.0) (filter (is_updated (stamped r)) (once now))) none in
-    let same = same_items recipe.inputs r.recipe.inputs (negated (same_inputs recipe r.recipe) parts.0) in
+    let same = same_items recipe.inputs r.recipe.inputs (not-false (same_inputs recipe r.recipe) parts.0) in
     let still = none_passes (is_updated (stamped r)) (once now) (q, stamp_now image q) (updated_nil (filter (is_updated (stamped r)) (once now)) parts.1) (once_has (stamp_now image) (in_paths recipe) q at) in
     let good = valid_parts r valid in
     stamp_below (in_paths r.recipe) r.stamps q kept r.made good.0 (sym (ap (λ (ps : List Path). among ps q) same) ∙ at) (sym (ap (λ (o : Option Stamp). is_updated (stamped r) (q, o)) stamp) ∙ still) good.2

@@ -2,8 +2,9 @@
 use native.Mathlib.Omega.{arith}
 use Rattle.std.proofs.Common.{◌≡◌, ◌<◌, ◌+◌, ◌⊎◌, ℕ, zero, suc, Bool, true, false, ◌||◌, List, [], ◌∷◌, ◌++◌, length, inl, inr, refl, sym, ap, subst, ◌∙◌}
 use Rattle.std.specs.Prelude.{get_or, nat_eq}
-use Rattle.std.proofs.lemmas.Bool.{eqb-true, eq-eqb, or_right}
+use Rattle.std.proofs.lemmas.Bool.{eqb-true, eq-eqb, or_right, false≢true}
 use Rattle.std.specs.List.{list_any}
+use Rattle.std.proofs.Math.Numerals.{suc-eq-add-one}
 use Rattle.smk_world.specs.Trees.{IsIn}
 use Rattle.smk_plan_duties.specs.Needs.{Needs, Itself, Through, Says, AreEarlier, before_at, answer_at}
 
@@ -12,17 +13,14 @@ pub record AreTold (befores : List (List ℕ)) (k n : ℕ) (found : List Bool) :
   pub each : length found ≡ n
   pub right : (i : ℕ) → i < n → Says (Needs befores k i) (get_or found i false)
 
-false_true : false ≡ true → ⊥
-false_true e = cc
-
 -- ## Elements of lists
 
-got_before : (xs : List Bool) (y : Bool) (n : ℕ) → n < length xs → get_or (xs ++ y ∷ []) n false ≡ get_or xs n false
+pub got_before : (xs : List Bool) (y : Bool) (n : ℕ) → n < length xs → get_or (xs ++ y ∷ []) n false ≡ get_or xs n false
 got_before [] y n lt = absurd (omega (arith, lt))
 got_before (x ∷ xs) y zero lt = refl
 got_before (x ∷ xs) y (suc n) lt = got_before xs y n (omega (arith, lt))
 
-got_last : (xs : List Bool) (y : Bool) (n : ℕ) → length xs ≡ n → get_or (xs ++ y ∷ []) n false ≡ y
+pub got_last : (xs : List Bool) (y : Bool) (n : ℕ) → length xs ≡ n → get_or (xs ++ y ∷ []) n false ≡ y
 got_last [] y zero e = refl
 got_last [] y (suc n) e = absurd (omega (arith, e))
 got_last (x ∷ xs) y zero e = absurd (omega (arith, e))
@@ -30,16 +28,16 @@ got_last (x ∷ xs) y (suc n) e = got_last xs y n (omega (arith, e))
 
 -- what is true is there
 got_true : (xs : List Bool) (n : ℕ) → get_or xs n false ≡ true → n < length xs
-got_true [] n e = absurd (false_true e)
+got_true [] n e = absurd (false≢true e)
 got_true (x ∷ xs) zero e = omega arith
 got_true (x ∷ xs) (suc n) e = let lt : n < length xs = got_true xs n e in omega (arith, lt)
 
-pushed : (xs : List Bool) (y : Bool) → length (xs ++ y ∷ []) ≡ suc (length xs)
+pub pushed : (xs : List Bool) (y : Bool) → length (xs ++ y ∷ []) ≡ suc (length xs)
 pushed [] y = refl
 pushed (x ∷ xs) y = ap suc (pushed xs y)
 
 found_in : (f : ℕ → Bool) (xs : List ℕ) → list_any f xs ≡ true → (x : ℕ) × IsIn xs x × (f x ≡ true)
-found_in f [] e = absurd (false_true e)
+found_in f [] e = absurd (false≢true e)
 found_in f (x ∷ xs) e = go (f x) refl e (λ h. found_in f xs h)
   where
     go : (b : Bool) → f x ≡ b → b || list_any f xs ≡ true → (list_any f xs ≡ true → (y : ℕ) × IsIn xs y × (f y ≡ true)) → (y : ℕ) × IsIn (x ∷ xs) y × (f y ≡ true)
@@ -78,7 +76,7 @@ tells_now befores k n found lower told Itself = ap (λ b. b || list_any (λ m. g
 tells_now befores k n found lower told (Through _ m i needs) =
     or_right (nat_eq n k) (list_any (λ j. get_or found j false) (before_at befores n)) (any_in (λ j. get_or found j false) (before_at befores n) m i ((told.right m (lower n m i)).if_so needs))
 
-same_or_less : (i n : ℕ) → i < suc n → (i < n) ⊎ (i ≡ n)
+pub same_or_less : (i n : ℕ) → i < suc n → (i < n) ⊎ (i ≡ n)
 same_or_less zero zero lt = inr refl
 same_or_less zero (suc n) lt = inl (omega arith)
 same_or_less (suc i) zero lt = absurd (omega (arith, lt))
@@ -110,18 +108,9 @@ told_next befores k n answer found lower is told = record {
 pub none_told : (befores : List (List ℕ)) (k : ℕ) → AreTold befores k 0 []
 none_told befores k = record { each = refl; right = λ i lt. absurd (omega (arith, lt)) }
 
-plus_one : (n : ℕ) → suc n ≡ n + 1
-plus_one n = omega arith
-
 -- the same where the next number is told as a sum
 pub told_more : (befores : List (List ℕ)) (k n : ℕ) (answer : Bool) (found after : List Bool) (before : List ℕ) → AreEarlier befores → after ≡ found ++ answer ∷ [] → before ≡ before_at befores n → answer ≡ answer_at found before n k → AreTold befores k n found
     → AreTold befores k (n + 1) after
 told_more befores k n answer found after before lower pushed_is is_before is told =
-    subst (λ m. AreTold befores k m after) (plus_one n)
+    subst (λ m. AreTold befores k m after) (suc-eq-add-one n)
     (subst (AreTold befores k (suc n)) (sym pushed_is) (told_next befores k n answer found lower (is ∙ ap (λ b. answer_at found b n k) is_before) told))
-
--- a number that is told has one element, whatever stands for missing ones
-pub any_default : (xs : List (List ℕ)) (n : ℕ) (d e : List ℕ) → n < length xs → get_or xs n d ≡ get_or xs n e
-any_default [] n d e lt = absurd (omega (arith, lt))
-any_default (x ∷ xs) zero d e lt = refl
-any_default (x ∷ xs) (suc n) d e lt = any_default xs n d e (omega (arith, lt))

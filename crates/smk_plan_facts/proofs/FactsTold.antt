@@ -3,6 +3,7 @@ use Rattle.std.proofs.Common.{◌≡◌, Bool, true, false, cond, ◌&&◌, ◌|
 use Rattle.std.specs.Prelude.{is_some}
 use Rattle.std.specs.List.{list_any, list_all, find, filter, flat_map}
 use Rattle.std.proofs.lemmas.List.{map-append}
+use Rattle.smk_choose.proofs.Listed.{map_map, map_same}
 use Rattle.smk_base.specs.Path.{is_under}
 use Rattle.smk_base.proofs.Places.{same_flipped}
 use Rattle.smk_world.specs.declared.recipe.Item.{Item}
@@ -25,7 +26,7 @@ use Rattle.smk_plan_facts.specs.declared.forced.Forcing.{Forcing}
 use Rattle.smk_plan_facts.specs.Facts.{facts_of, told_sources, HasOwnRecords, TellSources}
 use Rattle.smk_plan_facts.specs.Laws.{FactsAreSo}
 use Rattle.smk_plan_facts.specs.Telling.{kept_of, mark_of, copied, stamp_in, facts_in, forced_by, forced_in, has_path_texts, is_aimed, aims_at, Tells}
-use Rattle.smk_plan_facts.proofs.Tests.{map_all, map_each, map_twice, each_two, each_tested, paths_of_outs}
+use Rattle.smk_plan_facts.proofs.Tests.{map_each, each_two, each_tested, paths_of_outs}
 use Rattle.smk_plan_facts.proofs.Outs.{any_items}
 use Rattle.smk_plan_facts.proofs.Stamped.{mark_is, copy_is, stamp_told, source_seen}
 
@@ -34,7 +35,7 @@ use Rattle.smk_plan_facts.proofs.Stamped.{mark_is, copy_is, stamp_told, source_s
 items_of_outs : {A : Type 0} (f : Path → A) (outputs : List OutItem) → flat_map (λ (item : OutItem). map (λ (o : Out). f o.path) item.outs) outputs ≡ map f (flat_map (λ (item : OutItem). map (λ (o : Out). o.path) item.outs) outputs)
 items_of_outs f [] = refl
 items_of_outs f (item ∷ outputs) =
-    ap₂ ◌++◌ (sym (map_twice f (λ (o : Out). o.path) item.outs)) (items_of_outs f outputs)
+    ap₂ ◌++◌ (sym (map_map f (λ (o : Out). o.path) item.outs)) (items_of_outs f outputs)
     ∙ sym (map-append f (map (λ (o : Out). o.path) item.outs) (flat_map (λ (i : OutItem). map (λ (o : Out). o.path) i.outs) outputs))
 
 items_of_paths : {A : Type 0} (f : Path → A) (inputs : List Item) → flat_map (λ (item : Item). map f item.paths) inputs ≡ map f (flat_map (λ (item : Item). item.paths) inputs)
@@ -66,12 +67,12 @@ module _ (image : Image) (store : List Known) (sights : List Sight) (makers : Li
       kept_same : flat_map (λ (item : OutItem). map (λ (o : Out). copied (kept_of (entry_of store o.path))) item.outs) j.recipe.outputs ≡ map image.kept (out_paths j.recipe)
       kept_same =
           items_of_outs (λ p. copied (kept_of (entry_of store p))) j.recipe.outputs
-          ∙ map_all (λ p. copied (kept_of (entry_of store p))) image.kept (copy_is image store is own) (out_paths j.recipe)
+          ∙ map_same (λ p. copied (kept_of (entry_of store p))) image.kept (copy_is image store is own) (out_paths j.recipe)
 
       marks_same : flat_map (λ (item : OutItem). map (λ (o : Out). mark_of (entry_of store o.path)) item.outs) j.recipe.outputs ≡ map image.marked (out_paths j.recipe)
       marks_same =
           items_of_outs (λ p. mark_of (entry_of store p)) j.recipe.outputs
-          ∙ map_all (λ p. mark_of (entry_of store p)) image.marked (mark_is image store is) (out_paths j.recipe)
+          ∙ map_same (λ p. mark_of (entry_of store p)) image.marked (mark_is image store is) (out_paths j.recipe)
 
       stamps_same : flat_map (λ (item : Item). map (stamp_in store sights told) item.paths) j.recipe.inputs ≡ map (stamp_now image) (in_paths j.recipe)
       stamps_same =

@@ -3,6 +3,7 @@ use Rattle.std.proofs.Common.{◌≡◌, Bool, true, false, ◌&&◌, not, List,
 use Rattle.std.specs.Prelude.{if◌then◌else◌}
 use Rattle.std.specs.List.{filter}
 use Rattle.std.specs.Option.{option_and_then}
+use Rattle.smk_choose.proofs.Listed.{map_same}
 use Rattle.smk_world.specs.World.{in_paths, out_paths}
 use Rattle.smk_world.specs.Trees.{Path}
 use Rattle.smk_record.specs.declared.record.Stamp.{Stamp}
@@ -17,7 +18,7 @@ use Rattle.smk_pick.specs.declared.settings.Settings.{Settings}
 use Rattle.smk_plan.specs.States.{Plan, is_restored, made_by}
 use Rattle.smk_plan_facts.specs.Facts.{facts_of, having_run}
 use Rattle.smk_plan_facts.specs.Laws.{FactsGiveReasons}
-use Rattle.smk_plan_facts.proofs.Tests.{map_all, none_passes, zip_map}
+use Rattle.smk_plan_facts.proofs.Tests.{none_passes, zip_map}
 
 module _ (image : Image) (left_out : Path → Bool) (none : (p : Path) → left_out p ≡ false) where
   marked_all : (p : Path) → is_marked_but image left_out p ≡ image.marked p
@@ -43,8 +44,8 @@ facts_reason image settings ran plan j =
     let none = none_restored image settings ran plan in
     ap (λ rs. rs ++ (map Upstream (filter (made_by plan is_dirty) (distinct bytes_eq (in_paths j.recipe))) ++ when (facts_of image settings ran plan j).forced Forced))
     (ap₂ (λ (marks : List Bool) (now : List (Path × Option Stamp)). own_reasons j.recipe (map image.kept (out_paths j.recipe)) marks now)
-    (map_all (is_marked_but image out) image.marked (marked_all image out none) (out_paths j.recipe))
-    (map_all (λ q. (q, stamp_now_but image out q)) (λ q. (q, stamp_now image q)) (λ q. ap (λ (s : Option Stamp). pair q s) (stamp_all image out none q)) (in_paths j.recipe) ∙ zip_map (stamp_now image) (in_paths j.recipe)))
+    (map_same (is_marked_but image out) image.marked (marked_all image out none) (out_paths j.recipe))
+    (map_same (λ q. (q, stamp_now_but image out q)) (λ q. (q, stamp_now image q)) (λ q. ap (λ (s : Option Stamp). pair q s) (stamp_all image out none q)) (in_paths j.recipe) ∙ zip_map (stamp_now image) (in_paths j.recipe)))
   where
     pair : Path → Option Stamp → Path × Option Stamp
     pair q s = (q, s)

@@ -18,14 +18,6 @@ pub map_each : {A B : Type 0} (f g : A → B) (xs : List A) → Each (λ x. f x 
 map_each f g [] h = refl
 map_each f g (x ∷ xs) h = λ i. h.0 i ∷ map_each f g xs h.1 i
 
-pub map_all : {A B : Type 0} (f g : A → B) → ((x : A) → f x ≡ g x) → (xs : List A) → map f xs ≡ map g xs
-map_all f g same [] = refl
-map_all f g same (x ∷ xs) = λ i. same x i ∷ map_all f g same xs i
-
-pub map_twice : {A B C : Type 0} (g : B → C) (f : A → B) (xs : List A) → map g (map f xs) ≡ map (λ x. g (f x)) xs
-map_twice g f [] = refl
-map_twice g f (x ∷ xs) = ap (λ ys. g (f x) ∷ ys) (map_twice g f xs)
-
 pub zip_map : {A B : Type 0} (f : A → B) (xs : List A) → map (λ x. (x, f x)) xs ≡ zip xs (map f xs)
 zip_map f [] = refl
 zip_map f (x ∷ xs) = ap (λ ys. (x, f x) ∷ ys) (zip_map f xs)

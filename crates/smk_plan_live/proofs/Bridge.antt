@@ -1,7 +1,10 @@
 -- What the facts of jobs tell of them at any moment, where no path has a mark that doesn't count.
-use Rattle.std.proofs.Common.{◌≡◌, Bool, true, false, not, ◌&&◌, List, [], ◌∷◌, ◌++◌, map, zip, Option, None, refl, sym, ap, ◌∙◌}
+use Rattle.std.proofs.Common.{◌≡◌, Bool, true, false, not, ◌&&◌, List, [], ◌++◌, map, Option, None, refl, sym, ap, ◌∙◌}
 use Rattle.std.specs.Prelude.{if◌then◌else◌}
 use Rattle.std.specs.Option.{option_and_then}
+use Rattle.std.proofs.Math.Bool.{and-true, and-false}
+use Rattle.smk_choose.proofs.Listed.{map_map}
+use Rattle.smk_plan_table.proofs.Told.{zip_same}
 use Rattle.smk_world.specs.World.{in_paths, out_paths}
 use Rattle.smk_world.specs.Trees.{Path}
 use Rattle.smk_record.specs.declared.record.Stamp.{Stamp}
@@ -16,13 +19,7 @@ use Rattle.smk_trigger.specs.Reasons.{own_reasons, when, reasons_of}
 use Rattle.smk_pick.specs.declared.settings.Settings.{Settings}
 use Rattle.smk_plan.specs.States.{Progress, is_forced, is_restored}
 use Rattle.smk_plan_facts.specs.Facts.{facts_of}
-use Rattle.smk_plan_facts.proofs.Tests.{map_twice}
 use Rattle.smk_plan_states.specs.Judged.{with_states, reasons_now}
-use Rattle.smk_plan_states.proofs.Tests.{and_true, and_false}
-
-zip_same : {A B : Type 0} (f : A → B) (xs : List A) → zip xs (map f xs) ≡ map (λ x. (x, f x)) xs
-zip_same f [] = refl
-zip_same f (x ∷ xs) = ap (λ ys. (x, f x) ∷ ys) (zip_same f xs)
 
 -- ## Marks that don't count
 
@@ -31,8 +28,8 @@ module _ (image : Image) (left_out : Path → Bool) (none : (q : Path) → left_
   mark_same q = go (left_out q) refl
     where
       go : (b : Bool) → left_out q ≡ b → (image.marked q && not b) ≡ image.marked q
-      go true e = and_false (image.marked q) ∙ sym (none q e)
-      go false e = and_true (image.marked q)
+      go true e = and-false (image.marked q) ∙ sym (none q e)
+      go false e = and-true (image.marked q)
 
   pub stamp_same : (q : Path) → stamp_now_but image left_out q ≡ stamp_now image q
   stamp_same q = λ i.
@@ -66,10 +63,10 @@ module _
   -- The reasons by the facts of jobs are those of this moment.
   pub reasons_are : (facts : List JobFacts) → facts ≡ map facts_then jobs.jobs → map reasons_of facts ≡ map (reasons_now image settings progress jobs) jobs.jobs
   reasons_are facts are =
-      ap (map reasons_of) are ∙ map_twice reasons_of facts_then jobs.jobs ∙ (λ i. map (λ j. reasons_same j i) jobs.jobs)
+      ap (map reasons_of) are ∙ map_map reasons_of facts_then jobs.jobs ∙ (λ i. map (λ j. reasons_same j i) jobs.jobs)
 
   -- The facts tell which jobs are forced at this moment.
   pub forced_are :
       (facts : List JobFacts) → facts ≡ map facts_then jobs.jobs →
       map (λ (f : JobFacts). f.forced) facts ≡ map (is_forced image settings progress (with_states jobs [])) jobs.jobs
-  forced_are facts are = ap (map (λ (f : JobFacts). f.forced)) are ∙ map_twice (λ (f : JobFacts). f.forced) facts_then jobs.jobs
+  forced_are facts are = ap (map (λ (f : JobFacts). f.forced)) are ∙ map_map (λ (f : JobFacts). f.forced) facts_then jobs.jobs

@@ -1,9 +1,10 @@
 -- What stays where a job begins or is closed.
-use Rattle.std.proofs.Common.{◌≡◌, ℕ, zero, suc, ◌<◌, Bool, true, false, ◌&&◌, ◌||◌, not, List, [], ◌∷◌, ◌++◌, length, Option, Some, None, is_some, refl, sym, ap, ap₂, subst, ◌∙◌, bytes_eq, arith}
+use Rattle.std.proofs.Common.{◌≡◌, ℕ, zero, suc, Bool, true, false, ◌&&◌, ◌||◌, not, List, [], ◌∷◌, ◌++◌, length, Option, Some, None, is_some, refl, sym, ap, ap₂, subst, ◌∙◌, bytes_eq, arith}
 use Rattle.std.specs.Prelude.{if◌then◌else◌, slice_set, slice_index_or}
 use Rattle.std.specs.List.{list_any, slice_get}
 use Rattle.std.specs.BTreeMap.{get_by_text}
 use Rattle.std.specs.BTreeSet.{contains_text}
+use Rattle.std.proofs.Math.Nat.{zero-add}
 use Rattle.smk_base.proofs.Under.{never_both, false_unless}
 use Rattle.smk_world.specs.World.{out_paths}
 use Rattle.smk_world.specs.Trees.{Path, among, first, outs_of}
@@ -32,7 +33,7 @@ use Rattle.smk_plan_live.specs.Lives.{IsSound, facts_now}
 use Rattle.smk_plan_live.specs.Carried.{has_name, turned, filled}
 use Rattle.smk_plan_live.proofs.Same.{renewed_are}
 use Rattle.smk_plan_live.proofs.Tables.{same_bytes, known_is, seen_is}
-use Rattle.smk_plan_live.proofs.Restoring.{at_same, outs_are, site_has, one_name, zero_plus}
+use Rattle.smk_plan_live.proofs.Restoring.{at_same, outs_are, site_has, one_name}
 
 -- ## Lists whose elements are replaced
 
@@ -53,11 +54,6 @@ get_other (y ∷ xs) zero (suc m) x other = refl
 get_other (y ∷ xs) (suc n) zero x other = refl
 get_other (y ∷ xs) (suc n) (suc m) x other = get_other xs n m x (λ e. other (ap suc e))
 
-pub got_below : {A : Type 0} (xs : List A) (n : ℕ) (x : A) → slice_get xs n ≡ Some x → n < length xs
-got_below [] n x e = absurd cc
-got_below (y ∷ xs) zero x e = omega arith
-got_below (y ∷ xs) (suc n) x e = let h = got_below xs n x e in omega arith
-
 -- ## What is known and was seen elsewhere
 
 module _ (b : Base) (sound : IsSound b) (n : ℕ) (j : Job) (at : slice_get b.jobs.jobs n ≡ Some j) where
@@ -65,7 +61,7 @@ module _ (b : Base) (sound : IsSound b) (n : ℕ) (j : Job) (at : slice_get b.jo
   elsewhere : (q : Path) → among (out_paths j.recipe) q ≡ false → (s : Site) → get_by_text b.sites q ≡ Some s → s.job ≡ n → ⊥
   elsewhere q out s has same =
       let r = site_has 0 b.jobs.jobs q s (sym (sound.sited q) ∙ has) in
-      let number : r.0 ≡ n = sym (zero_plus (r.0)) ∙ sym r.2 ∙ same in
+      let number : r.0 ≡ n = sym (zero-add (r.0)) ∙ sym r.2 ∙ same in
       let is : Some r.1 ≡ Some j = sym r.3 ∙ ap (slice_get b.jobs.jobs) number ∙ at in
       never_both (among (out_paths j.recipe) q) (in_it r.1 is q r.4) out
     where

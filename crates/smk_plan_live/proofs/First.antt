@@ -3,6 +3,7 @@ use Rattle.std.proofs.Common.{◌≡◌, ℕ, zero, suc, Bool, true, false, ◌&
 use Rattle.std.specs.Prelude.{if◌then◌else◌}
 use Rattle.std.specs.List.{list_any, slice_get}
 use Rattle.std.specs.BTreeMap.{get_by_text}
+use Rattle.std.proofs.Math.Bool.{and-true}
 use Rattle.smk_world.specs.declared.recipe.Out.{Out}
 use Rattle.smk_world.specs.World.{folders_above}
 use Rattle.smk_world.specs.Trees.{Path, Each, outs_of}
@@ -28,7 +29,6 @@ use Rattle.smk_plan_live.specs.Now.{joined, row_by, row_at, entry_now, own_sight
 use Rattle.smk_plan_live.specs.Lives.{IsAgreed, IsRefusedNow, progress_of}
 use Rattle.smk_plan_live.specs.Changes.{IsFirst}
 use Rattle.smk_plan_live.proofs.Tables.{known_is, seen_is, own_seen}
-use Rattle.smk_plan_states.proofs.Tests.{and_true}
 
 -- ## Rows of nothing
 
@@ -60,12 +60,12 @@ settled_image : (image : Image) (q : Path) → settled false (entry_in image q) 
 settled_image image q = go (is_known image q) refl
   where
     same : entry_at image q ≡ record { kept = image.kept q; marked = image.marked q && true; noted = image.noted q }
-    same = λ i. record { kept = image.kept q; marked = sym (and_true (image.marked q)) i; noted = image.noted q }
+    same = λ i. record { kept = image.kept q; marked = sym (and-true (image.marked q)) i; noted = image.noted q }
 
     go : (b : Bool) → is_known image q ≡ b → settled false (if b then Some (entry_at image q) else None) ≡ (if b then Some (entry_at image q) else None)
     go true e =
         ap (λ (b : Bool). if b then Some (record { kept = image.kept q; marked = image.marked q && true; noted = image.noted q }) else None)
-        (ap (λ m. stands (image.kept q) || (m || image.noted q)) (and_true (image.marked q)) ∙ e)
+        (ap (λ m. stands (image.kept q) || (m || image.noted q)) (and-true (image.marked q)) ∙ e)
         ∙ ap Some (sym same)
     go false e = refl
 

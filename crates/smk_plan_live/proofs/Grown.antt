@@ -2,6 +2,7 @@
 use Rattle.std.proofs.Common.{◌≡◌, Bool, true, false, ◌||◌, List, [], ◌∷◌, ◌++◌, map, Option, Some, None, refl, sym, ap, ◌∙◌, bytes_eq}
 use Rattle.std.specs.Prelude.{if◌then◌else◌}
 use Rattle.std.specs.Option.{option_or}
+use Rattle.std.proofs.lemmas.Bool.{or_parts}
 use Rattle.smk_base.proofs.Places.{same_place}
 use Rattle.smk_world.specs.Trees.{Path, among}
 use Rattle.smk_plan.specs.declared.seen.Sight.{Sight}
@@ -9,7 +10,7 @@ use Rattle.smk_plan.specs.Sights.{sight_at}
 use Rattle.smk_plan_live.specs.declared.base.Base.{Base}
 use Rattle.smk_plan_live.specs.Carried.{told_upon, with_seen}
 use Rattle.smk_plan_live.specs.Lives.{IsSound}
-use Rattle.smk_plan_live.proofs.Tables.{flipped, left_none, right_none, not_seen}
+use Rattle.smk_plan_live.proofs.Tables.{flipped, not_seen}
 use Rattle.smk_plan_states.proofs.Tests.{among_append}
 
 -- ## Sights that are kept at a path
@@ -89,8 +90,8 @@ pub no_later :
     among after q ≡ false → is ≡ None
 no_later fresh before after q was is paths told none out =
     let both = sym paths ∙ out in
-    told ∙ ap (λ o. option_or o was) (not_seen fresh q (left_none (among (map (λ (s : Sight). s.path) fresh) q) (among before q) both))
-    ∙ none (right_none (among (map (λ (s : Sight). s.path) fresh) q) (among before q) both)
+    told ∙ ap (λ o. option_or o was) (not_seen fresh q (or_parts (among (map (λ (s : Sight). s.path) fresh) q) (among before q) both).0)
+    ∙ none (or_parts (among (map (λ (s : Sight). s.path) fresh) q) (among before q) both).1
 
 -- a base is sound whatever was seen as the plan began
 pub seen_sound : (b : Base) (seen : List Sight) → IsSound b → IsSound (with_seen seen b)

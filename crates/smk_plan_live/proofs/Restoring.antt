@@ -2,8 +2,10 @@
 use Rattle.std.proofs.Common.{◌≡◌, ◌⊎◌, inl, inr, ℕ, zero, suc, ◌+◌, Bool, true, false, cond, ◌&&◌, ◌||◌, not, ◌==◌, List, [], ◌∷◌, ◌++◌, map, Option, Some, None, option_map, refl, sym, ap, subst, ◌∙◌, bytes_eq, arith}
 use Rattle.std.specs.Prelude.{if◌then◌else◌}
 use Rattle.std.specs.List.{find, list_any, slice_get}
-use Rattle.std.proofs.lemmas.Bool.{eqb-true, eqb-false, or_right}
+use Rattle.std.proofs.lemmas.Bool.{eqb-true, eqb-false, or_right, or_parts}
 use Rattle.std.proofs.lemmas.Option.{same_Some, none-some}
+use Rattle.std.proofs.Math.Bool.{and-false}
+use Rattle.std.proofs.Math.Nat.{zero-add}
 use Rattle.smk_base.proofs.Places.{same_place, and_first, and_second}
 use Rattle.smk_base.proofs.Under.{never_both, false_unless}
 use Rattle.smk_world.specs.declared.recipe.Out.{Out}
@@ -23,7 +25,6 @@ use Rattle.smk_plan.specs.States.{job_path, kept_state, is_restored, test_some}
 use Rattle.smk_plan.specs.Sights.{job_at}
 use Rattle.smk_plan_states.specs.Served.{AreApart, outputs_of}
 use Rattle.smk_plan_states.specs.Judged.{with_states}
-use Rattle.smk_plan_states.proofs.Tests.{and_false}
 use Rattle.smk_plan_live.specs.declared.base.Base.{Base}
 use Rattle.smk_plan_live.specs.declared.sites.Site.{Site}
 use Rattle.smk_plan_live.specs.declared.children.Child.{Child}
@@ -33,7 +34,7 @@ use Rattle.smk_plan_live.specs.Now.{joined, entry_now, restored_now, restores_at
 use Rattle.smk_plan_live.specs.Same.{paths_in}
 use Rattle.smk_plan_live.specs.Lives.{IsSound, IsAgreed, progress_of}
 use Rattle.smk_plan_live.proofs.Same.{map_parts, outputs_apart}
-use Rattle.smk_plan_live.proofs.Tables.{same_bytes, flipped, known_is, mark_left, left_none, right_none}
+use Rattle.smk_plan_live.proofs.Tables.{same_bytes, flipped, known_is, mark_left}
 
 -- ## Lists and numbers
 
@@ -165,9 +166,6 @@ kept_at (k ∷ jobs) (b ∷ began) (suc m) j at unique =
     named_later k b (children_in jobs began) (job_path j) (false_unless (bytes_eq (job_path k) (job_path j)) (λ e. zero_suc m (sym (unique zero k refl e))))
     ∙ kept_at jobs began m j at (λ i x here e. let h = unique (suc i) x here e in omega (arith, h))
 
-pub zero_plus : (m : ℕ) → 0 + m ≡ m
-zero_plus m = omega arith
-
 -- ## What is being restored
 
 first_among : (ps : List Path) (q : Path) → among ps q ≡ true → among ps (or_empty (first ps)) ≡ true
@@ -218,7 +216,7 @@ module _ (b : Base) (sound : IsSound b) (apart : AreApart (outputs_of b.jobs.job
       of m j at runs has =
           let t = site_found 0 b.jobs.jobs m j q at has in
           let s = site_has 0 b.jobs.jobs q t.0 t.1 in
-          let same : (t.0).job ≡ m = s.2 ∙ zero_plus (s.0) ∙ one_job (s.0) m (s.1) j q s.3 at s.4 has in
+          let same : (t.0).job ≡ m = s.2 ∙ zero-add (s.0) ∙ one_job (s.0) m (s.1) j q s.3 at s.4 has in
           ap (restores_at b.began) (sound.sited q ∙ t.1) ∙ ap (λ n. test_some is_restore (joined (slice_get b.began n))) same
           ∙ ap (test_some is_restore) (sym (kept_at b.jobs.jobs b.began m j at (one_name m j q at has))) ∙ runs
 
@@ -226,14 +224,14 @@ module _ (b : Base) (sound : IsSound b) (apart : AreApart (outputs_of b.jobs.job
 
 no_mark : (e : Option Entry) (restored : Bool) → restored ≡ true → test_some (λ (x : Entry). x.marked) (settled restored e) ≡ false
 no_mark None restored is = refl
-no_mark (Some x) restored is = sym (mark_left restored x) ∙ ap (λ b. x.marked && not b) is ∙ and_false x.marked
+no_mark (Some x) restored is = sym (mark_left restored x) ∙ ap (λ b. x.marked && not b) is ∙ and-false x.marked
 
 mark_known : (image : Image) (q : Path) (e : Option Entry) (restored : Bool) → restored ≡ true → settled restored e ≡ entry_in image q → image.marked q ≡ false
 mark_known image q e restored is same = go (is_known image q) refl
   where
     go : (b : Bool) → is_known image q ≡ b → image.marked q ≡ false
     go true k = sym (ap (test_some (λ (x : Entry). x.marked)) (same ∙ ap (λ b. if b then Some (entry_at image q) else None) k)) ∙ no_mark e restored is
-    go false k = left_none (image.marked q) (image.noted q) (right_none (stands (image.kept q)) (image.marked q || image.noted q) k)
+    go false k = (or_parts (image.marked q) (image.noted q) (or_parts (stands (image.kept q)) (image.marked q || image.noted q) k).1).0
 
 pub unmarked :
     (b : Base) → IsSound b → (image : Image) (settings : Settings) → IsAgreed image settings b → (q : Path) →

@@ -6,6 +6,8 @@ use Rattle.std.proofs.lemmas.List.{drop_more, map-append}
 use Rattle.std.proofs.Math.ListN.{get_or}
 use Rattle.std.proofs.lemmas.Bool.{eqb-true, eqb-false, eq-eqb, or_parts}
 use Rattle.std.proofs.lemmas.List.Folds.{list_any-append}
+use Rattle.std.proofs.lemmas.Option.{same_Some}
+use Rattle.smk_choose.proofs.Listed.{map_map}
 use Rattle.smk_base.specs.Path.{is_under, is_at_or_under, overlaps}
 use Rattle.smk_base.proofs.Places.{same_place, place_itself}
 use Rattle.smk_base.proofs.Under.{never_both, false_unless, or_first, or_second, or_cases, at_itself, at_when_under, both_true}
@@ -26,7 +28,7 @@ use Rattle.smk_trigger.specs.declared.facts.JobFacts.{JobFacts}
 use Rattle.smk_plan.specs.declared.seen.Sight.{Sight}
 use Rattle.smk_plan.specs.Sights.{job_at}
 use Rattle.smk_plan_facts.specs.Telling.{kept_of, mark_of, copied, copied_at, marked_at, stamp_by, nearer, nearest, time_or, time_seen, stamp_in, facts_in}
-use Rattle.smk_plan_facts.proofs.Tests.{map_twice, map_each}
+use Rattle.smk_plan_facts.proofs.Tests.{map_each}
 use Rattle.smk_plan_states.specs.Served.{AreApart, outputs_of}
 use Rattle.smk_plan_live.specs.Same.{paths_in, is_over, is_user, AreSameBut, or_old, merged, restamp, restamped, user_facts, renewed_of, renewed_from, renewed}
 
@@ -239,7 +241,7 @@ module _ (outs : List Out) (old new : List Known) (saw sees : List Sight) (same 
 
   copies_are : (k : Job) → map copied (flat_map (λ (item : OutItem). map (copied_at old) item.outs) k.recipe.outputs) ≡ flat_map (λ (item : OutItem). map (copied_at old) item.outs) k.recipe.outputs
   copies_are k =
-      ap (map copied) (by_outs (copied_at old) k.recipe) ∙ map_twice copied (copied_at old) (outs_of k.recipe)
+      ap (map copied) (by_outs (copied_at old) k.recipe) ∙ map_map copied (copied_at old) (outs_of k.recipe)
       ∙ (λ i. map (λ (o : Out). copied_twice (kept_of (entry_of old o.path)) i) (outs_of k.recipe))
       ∙ sym (by_outs (copied_at old) k.recipe)
 
@@ -295,13 +297,6 @@ module _ (outs : List Out) (old new : List Known) (saw sees : List Sight) (same 
 
 -- ## Outputs that lie apart
 
-some_same : (x y : Job) → Some x ≡ Some y → x ≡ y
-some_same x y e = ap or_it e
-  where
-    or_it : Option Job → Job
-    or_it None = y
-    or_it (Some z) = z
-
 each_among : (P : Path → Type 0) (ps : List Path) → Each P ps → (q : Path) → among ps q ≡ true → P q
 each_among P [] h q e = absurd (never_both false e refl)
 each_among P (p ∷ ps) h q e = go (or_cases (bytes_eq q p) (among ps q) e) (each_among P ps h.1 q)
@@ -340,7 +335,7 @@ apart_rest (p ∷ ps) qs h = apart_rest ps qs h.1
 output_at : (jobs : List Job) (m : ℕ) (k : Job) → job_at jobs m ≡ Some k → (q : Path) → among (out_paths k.recipe) q ≡ true → among (outputs_of jobs) q ≡ true
 output_at [] m k e q h = absurd (never_both false (ap is_some e) refl)
 output_at (x ∷ jobs) zero k e q h =
-    among_front (out_paths x.recipe) (outputs_of jobs) q (subst (λ (y : Job). among (out_paths y.recipe) q ≡ true) (sym (some_same x k e)) h)
+    among_front (out_paths x.recipe) (outputs_of jobs) q (subst (λ (y : Job). among (out_paths y.recipe) q ≡ true) (sym (same_Some x k e)) h)
 output_at (x ∷ jobs) (suc m) k e q h = among_append (out_paths x.recipe) (outputs_of jobs) q (output_at jobs m k e q h)
 
 -- jobs of different numbers share no output
@@ -350,9 +345,9 @@ pub outputs_apart :
 outputs_apart [] m n k j apart other at it q a b = never_both false (ap is_some at) refl
 outputs_apart (x ∷ jobs) zero zero k j apart other at it q a b = other refl
 outputs_apart (x ∷ jobs) zero (suc n) k j apart other at it q a b =
-    apart_parts (out_paths x.recipe) (outputs_of jobs) apart q (subst (λ (y : Job). among (out_paths y.recipe) q ≡ true) (sym (some_same x k at)) a) (output_at jobs n j it q b)
+    apart_parts (out_paths x.recipe) (outputs_of jobs) apart q (subst (λ (y : Job). among (out_paths y.recipe) q ≡ true) (sym (same_Some x k at)) a) (output_at jobs n j it q b)
 outputs_apart (x ∷ jobs) (suc m) zero k j apart other at it q a b =
-    apart_parts (out_paths x.recipe) (outputs_of jobs) apart q (subst (λ (y : Job). among (out_paths y.recipe) q ≡ true) (sym (some_same x j it)) b) (output_at jobs m k at q a)
+    apart_parts (out_paths x.recipe) (outputs_of jobs) apart q (subst (λ (y : Job). among (out_paths y.recipe) q ≡ true) (sym (same_Some x j it)) b) (output_at jobs m k at q a)
 outputs_apart (x ∷ jobs) (suc m) (suc n) k j apart other at it q a b =
     outputs_apart jobs m n k j (apart_rest (out_paths x.recipe) (outputs_of jobs) apart) (λ e. other (ap suc e)) at it q a b
 
@@ -388,7 +383,7 @@ renewed_are old new saw sees told forced after flag n j jobs facts same it apart
   where
     by_number : (m : ℕ) (k : Job) → job_at jobs m ≡ Some k → (b : Bool) → (m == n) ≡ b → Fits (outs_of j.recipe) old new saw sees same told forced after flag b k
     by_number m k at true e =
-        ap after (some_same k j (sym at ∙ ap (job_at jobs) (eqb-true m n e) ∙ it)) ∙ flagged
+        ap after (same_Some k j (sym at ∙ ap (job_at jobs) (eqb-true m n e) ∙ it)) ∙ flagged
     by_number m k at false e =
         let other = eqb-false m n e in
         (is_other jobs m n k j apart other at it, others m k other at)

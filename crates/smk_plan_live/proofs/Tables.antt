@@ -9,6 +9,7 @@ use Rattle.std.specs.Cmp.Lexicographic.{slice_cmp, nat_list_eq_equiv}
 use Rattle.std.specs.BTreeMap.{get_by_text, keys}
 use Rattle.std.specs.Map.{lookup, keys_of}
 use Rattle.std.proofs.lemmas.Map.Text.{is_eq-slice_cmp}
+use Rattle.std.proofs.lemmas.Bool.{or_parts}
 use Rattle.smk_base.specs.Path.{is_path}
 use Rattle.smk_base.proofs.Places.{same_place}
 use Rattle.smk_world.specs.World.{folders_above}
@@ -73,32 +74,24 @@ sight_of f own (x ∷ qs) q out = go (bytes_eq q x) refl (sight_of f own qs q)
 
 -- ## What stands in no list
 
-pub left_none : (a b : Bool) → (a || b) ≡ false → a ≡ false
-left_none true b h = absurd cc
-left_none false b h = refl
-
-pub right_none : (a b : Bool) → (a || b) ≡ false → b ≡ false
-right_none true b h = absurd cc
-right_none false b h = h
-
 not_stored : (ks : List Known) (q : Path) → among (map (λ (k : Known). k.path) ks) q ≡ false → entry_of ks q ≡ None
 not_stored [] q h = refl
 not_stored (k ∷ ks) q h =
-    ap (λ (b : Bool). if b then Some k.entry else entry_of ks q) (flipped k.path q ∙ left_none (bytes_eq q k.path) (among (map (λ (x : Known). x.path) ks) q) h)
-    ∙ not_stored ks q (right_none (bytes_eq q k.path) (among (map (λ (x : Known). x.path) ks) q) h)
+    ap (λ (b : Bool). if b then Some k.entry else entry_of ks q) (flipped k.path q ∙ (or_parts (bytes_eq q k.path) (among (map (λ (x : Known). x.path) ks) q) h).0)
+    ∙ not_stored ks q (or_parts (bytes_eq q k.path) (among (map (λ (x : Known). x.path) ks) q) h).1
 
 pub not_seen : (ss : List Sight) (q : Path) → among (map (λ (s : Sight). s.path) ss) q ≡ false → sight_at ss q ≡ None
 not_seen [] q h = refl
 not_seen (s ∷ ss) q h =
-    ap (λ (b : Bool). if b then Some s else sight_at ss q) (flipped s.path q ∙ left_none (bytes_eq q s.path) (among (map (λ (x : Sight). x.path) ss) q) h)
-    ∙ not_seen ss q (right_none (bytes_eq q s.path) (among (map (λ (x : Sight). x.path) ss) q) h)
+    ap (λ (b : Bool). if b then Some s else sight_at ss q) (flipped s.path q ∙ (or_parts (bytes_eq q s.path) (among (map (λ (x : Sight). x.path) ss) q) h).0)
+    ∙ not_seen ss q (or_parts (bytes_eq q s.path) (among (map (λ (x : Sight). x.path) ss) q) h).1
 
 no_key : {X : Type 0} (es : List (String Global × X)) (q : Path) → among (texts_of (keys_of es)) q ≡ false → lookup (λ (k : String Global). is_eq (slice_cmp nat_cmp q (string_bytes k))) es ≡ None
 no_key [] q h = refl
 no_key (e ∷ es) q h =
     ap (λ (b : Bool). cond b (Some e.1) (lookup (λ (k : String Global). is_eq (slice_cmp nat_cmp q (string_bytes k))) es))
-    (is_eq-slice_cmp q (string_bytes e.0) ∙ left_none (bytes_eq q (string_bytes e.0)) (among (texts_of (keys_of es)) q) h)
-    ∙ no_key es q (right_none (bytes_eq q (string_bytes e.0)) (among (texts_of (keys_of es)) q) h)
+    (is_eq-slice_cmp q (string_bytes e.0) ∙ (or_parts (bytes_eq q (string_bytes e.0)) (among (texts_of (keys_of es)) q) h).0)
+    ∙ no_key es q (or_parts (bytes_eq q (string_bytes e.0)) (among (texts_of (keys_of es)) q) h).1
 
 no_site : (b : Base) (q : Path) → among (output_names b) q ≡ false → get_by_text b.sites q ≡ None
 no_site b q h = no_key b.sites.entries q h
@@ -109,8 +102,8 @@ nothing_known : (b : Base) (q : Path) → among (output_names b ++ map (λ (k : 
 nothing_known b q h =
     let stored = map (λ (k : Known). k.path) b.store in
     let both = sym (among_append (output_names b) stored q) ∙ h in
-    let site = no_site b q (left_none (among (output_names b) q) (among stored q) both) in
-    let entry = not_stored b.store q (right_none (among (output_names b) q) (among stored q) both) in
+    let site = no_site b q (or_parts (among (output_names b) q) (among stored q) both).0 in
+    let entry = not_stored b.store q (or_parts (among (output_names b) q) (among stored q) both).1 in
     ap (settled (restored_now b q)) (ap (λ (s : Option Site). row_at b.entries s (entry_of b.store q)) site ∙ entry)
 
 pub known_is : (b : Base) (q : Path) → entry_of (known_now b) q ≡ settled_now b q
@@ -121,10 +114,10 @@ nothing_seen b q h =
     let seen = map (λ (s : Sight). s.path) b.seen in
     let later = texts_of (keys b.later) in
     let both = sym (among_append (output_names b) (later ++ seen) q) ∙ h in
-    let rest = sym (among_append later seen q) ∙ right_none (among (output_names b) q) (among (later ++ seen) q) both in
-    let site = no_site b q (left_none (among (output_names b) q) (among (later ++ seen) q) both) in
-    let late : get_by_text b.later q ≡ None = no_key b.later.entries q (left_none (among later q) (among seen q) rest) in
-    let sight = not_seen b.seen q (right_none (among later q) (among seen q) rest) in
+    let rest = sym (among_append later seen q) ∙ (or_parts (among (output_names b) q) (among (later ++ seen) q) both).1 in
+    let site = no_site b q (or_parts (among (output_names b) q) (among (later ++ seen) q) both).0 in
+    let late : get_by_text b.later q ≡ None = no_key b.later.entries q (or_parts (among later q) (among seen q) rest).0 in
+    let sight = not_seen b.seen q (or_parts (among later q) (among seen q) rest).1 in
     ap (λ (s : Option Site). own_sight q (row_at b.sights s (seen_before b q))) site
     ∙ ap (λ (s : Option Sight). own_sight q (option_or s (sight_at b.seen q))) late
     ∙ ap (own_sight q) sight

@@ -8,7 +8,8 @@ use Rattle.std.specs.Cmp.Lexicographic.{slice_cmp}
 use Rattle.std.specs.Ordering.{nat_cmp}
 use Rattle.std.specs.String.{string_cmp}
 use Rattle.std.specs.List.{flat_map}
-use Rattle.std.proofs.lemmas.List.{take_more, take_all}
+use Rattle.std.proofs.lemmas.List.{take_all}
+use Rattle.smk_world.proofs.Devices.{next}
 use Rattle.smk_base.proofs.Places.{place_itself}
 use Rattle.smk_base.proofs.Under.{or_first, or_second}
 use Rattle.smk_world.specs.declared.recipe.Out.{Out}
@@ -47,13 +48,10 @@ flat_append f (y ∷ xs) x = ap (λ (ps : List Path). f y ++ ps) (flat_append f 
     again [] ys zs = refl
     again (a ∷ xs) ys zs = ap (λ (ps : List Path). a ∷ ps) (again xs ys zs)
 
-taken : {A : Type 0} (xs : List A) (i : ℕ) (x : A) → i < length xs → x ≡ get_or xs i x → take (i + 1) xs ≡ take i xs ++ x ∷ []
-taken xs i x lt at = take_more xs i x lt ∙ ap (λ y. take i xs ++ y ∷ []) (sym at)
-
 pub added_next : {A : Type 0} (f : A → List Path) (xs : List A) (i : ℕ) (x : A) (init now new : Texts) → i < length xs → x ≡ get_or xs i x
     → HasAdded init now (flat_map f (take i xs)) → HasAdded now new (f x) → HasAdded init new (flat_map f (take (i + 1) xs))
 added_next f xs i x init now new lt at a b =
-    added_more init now new (flat_map f (take i xs)) (f x) (flat_map f (take (i + 1) xs)) (ap (flat_map f) (taken xs i x lt at) ∙ flat_append f (take i xs) x) a b
+    added_more init now new (flat_map f (take i xs)) (f x) (flat_map f (take (i + 1) xs)) (ap (flat_map f) (next xs i x lt at) ∙ flat_append f (take i xs) x) a b
 
 pub added_all : {A : Type 0} (f : A → List Path) (xs : List A) (i : ℕ) (init now : Texts) → length xs ≤ i → HasAdded init now (flat_map f (take i xs)) → HasAdded init now (flat_map f xs)
 added_all {A = A} f xs i init now le a = subst (λ (ys : List A). HasAdded init now (flat_map f ys)) (take_all i xs le) a
@@ -67,7 +65,7 @@ outs_append (o ∷ outs) out = ap (λ (ps : List Path). o.path ∷ ps) (outs_app
 pub out_next : (outs : List Out) (i : ℕ) (out : Out) (init now new : Texts) → i < length outs → out ≡ get_or outs i out
     → HasAdded init now (paths_of (take i outs)) → HasAdded now new (out.path ∷ []) → HasAdded init new (paths_of (take (i + 1) outs))
 out_next outs i out init now new lt at a b =
-    added_more init now new (paths_of (take i outs)) (out.path ∷ []) (paths_of (take (i + 1) outs)) (ap paths_of (taken outs i out lt at) ∙ outs_append (take i outs) out) a b
+    added_more init now new (paths_of (take i outs)) (out.path ∷ []) (paths_of (take (i + 1) outs)) (ap paths_of (next outs i out lt at) ∙ outs_append (take i outs) out) a b
 
 pub outs_all : (outs : List Out) (i : ℕ) (init now : Texts) → length outs ≤ i → HasAdded init now (paths_of (take i outs)) → HasAdded init now (paths_of outs)
 outs_all outs i init now le a = subst (λ (os : List Out). HasAdded init now (paths_of os)) (take_all i outs le) a

@@ -1,5 +1,5 @@
 -- What is seen, as the image of the folder has it.
-use Rattle.std.proofs.Common.{◌≡◌, ◌≢◌, inl, inr, ℕ, suc, ◌+◌, length, drop, arith, Bool, true, false, ◌&&◌, ◌||◌, not, cond, List, [], ◌∷◌, ◌++◌, map, filter, refl, sym, ap, subst, ◌∙◌, Option, Some, None, bytes_eq}
+use Rattle.std.proofs.Common.{◌≡◌, ◌≢◌, inl, inr, ℕ, arith, Bool, true, false, ◌&&◌, ◌||◌, not, cond, List, [], ◌∷◌, ◌++◌, map, filter, refl, sym, ap, subst, ◌∙◌, Option, Some, None, bytes_eq}
 use Rattle.std.specs.Prelude.{is_some, if◌then◌else◌}
 use Rattle.std.specs.List.{list_any, find, flat_map}
 use Rattle.smk_base.specs.Path.{is_path, is_under, is_at_or_under, own_folder}
@@ -7,13 +7,11 @@ use Rattle.smk_base.proofs.Apart.{path_outside, outside-own}
 use Rattle.smk_base.proofs.Places.{and_first, and_second, same_place, same_flipped}
 use Rattle.smk_base.proofs.Under.{never_both, false_unless, or_cases, or_first, or_second, both_true, under_folder, rest_under, under_further, at_itself, at_when_under}
 use Rattle.smk_world.specs.declared.event.Node.{Node}
-use Rattle.smk_world.specs.declared.event.Node.TheVariants.{Regular, Directory}
-use Rattle.smk_world.specs.declared.event.NodeState.{NodeState}
-use Rattle.smk_world.specs.declared.event.NodeState.TheVariants.{Owned, Known}
+use Rattle.smk_world.specs.declared.event.NodeState.TheVariants.{Owned}
 use Rattle.smk_world.specs.declared.recipe.Out.{Out}
 use Rattle.smk_world.specs.declared.recipe.OutItem.{OutItem}
 use Rattle.smk_world.specs.World.{World, IsFormed, is_named, reading, reads_folder}
-use Rattle.smk_world.specs.Calls.{in_folder, Stands, stat_of}
+use Rattle.smk_world.specs.Calls.{in_folder, stat_of}
 use Rattle.smk_world.specs.Folders.{IsTree}
 use Rattle.smk_world.specs.Trees.{Path, Each, IsIn, is_path_text, is_text, below, outs_of}
 use Rattle.smk_record.specs.declared.record.Member.{Member}
@@ -30,7 +28,7 @@ use Rattle.smk_store_members.specs.Members.IsFound.{Inside, Deeper}
 use Rattle.smk_store.specs.Unowned.{IsUnownedUnder}
 use Rattle.smk_store_members.proofs.Lists.{each_both, each_more, each_unmap}
 use Rattle.smk_store_members.proofs.Trees.{some_stands, stands_some, tree_found}
-use Rattle.smk_store_members.proofs.Under.{same_members}
+use Rattle.smk_store_members.proofs.Under.{same_members, folder_read, below_in, found_stands}
 use Rattle.smk_plan.specs.declared.seen.Sight.{Sight}
 use Rattle.smk_plan.specs.States.{test_some}
 use Rattle.smk_plan.specs.Sights.{is_tellable, is_guarded, members_seen, sight_of, IsSeenAs, IsSourceSeen, IsSeenOf}
@@ -75,19 +73,6 @@ each_back P (x ∷ xs) ys h = each_back P xs ys h.1
 
 -- ## One place
 
-folder_read : (s : NodeState) → reads_folder s ≡ is_directory (reading s)
-folder_read Owned = refl
-folder_read (Known None besides) = refl
-folder_read (Known (Some Directory) besides) = refl
-folder_read (Known (Some (Regular bytes time read_only)) besides) = refl
-
-below_in : (p name : Path) → below p (in_folder p name) ≡ name
-below_in [] name = refl
-below_in (b ∷ p) name = ap (λ n. drop n (b ∷ p ++ 47 ∷ name)) (more (length p)) ∙ below_in p name
-  where
-    more : (n : ℕ) → suc n + 1 ≡ suc (n + 1)
-    more n = grind arith
-
 below_under : (p q : Path) → is_under q p ≡ true → in_folder p (below p q) ≡ q
 below_under p q under =
     let r = rest_under q p under in
@@ -96,10 +81,6 @@ below_under p q under =
 found_inside : (nodes : Nodes) (p q : Path) → IsFound nodes p q → is_under q p ≡ true
 found_inside nodes p q (Inside name is st) = under_folder p name
 found_inside nodes p q (Deeper folder name before reads is st) = under_further (in_folder folder name) folder p (under_folder folder name) (found_inside nodes p folder before)
-
-found_stands : (nodes : Nodes) (p q : Path) → IsFound nodes p q → Stands (nodes q)
-found_stands nodes p q (Inside name is st) = st
-found_stands nodes p q (Deeper folder name before reads is st) = st
 
 module _ (read : List ℕ → Option Record) (w : World) (formed : IsFormed w) (tree : IsTree w) where
   abbrev image : Image

@@ -8,6 +8,7 @@ use Rattle.std.proofs.lemmas.List.Elements.{All-contains, All-weaker, All-map, A
 use Rattle.std.proofs.lemmas.List.Folds.{list_any-append}
 use Rattle.std.proofs.lemmas.Str.{IsUtf8-append, IsUtf8-from_ascii}
 use Rattle.std.proofs.lemmas.Str.Ascii.{IsAscii-cons, IsAscii-nil}
+use Rattle.std.proofs.lemmas.Bool.{or_parts}
 use Rattle.smk_base.specs.Path.{is_path_byte, are_path_bytes, is_under, is_at_or_under}
 use Rattle.smk_base.proofs.Places.{and_first, and_second}
 use Rattle.smk_base.proofs.Under.{never_both, false_of_not, both_true, under_folder, rest_under, at_itself, at_when_under, at_or_under_cases, at_or_under_further}
@@ -64,10 +65,6 @@ guard_plain (Known (Some Directory) besides) h k = never_both false h refl
 abbrev has_feed : Path → Bool
 has_feed t = list_any (λ (b : ℕ). b == 10) t
 
-none_first : (a b : Bool) → (a || b) ≡ false → a ≡ false
-none_first true b h = h
-none_first false b h = refl
-
 none_second : (a b : Bool) → (a || b) ≡ false → b ≡ false
 none_second true b h = absurd (never_both true refl h)
 none_second false b h = h
@@ -116,8 +113,7 @@ text_name_in folder name q h at =
           let r = rest_under q (in_folder folder name) under in
           name_text folder name
           (utf8_before (in_folder folder name) r.0 (subst IsUtf8 r.1 (tellable_utf8 q h)))
-          (none_first (has_feed (in_folder folder name)) (has_feed (47 ∷ r.0))
-          (sym (list_any-append (λ (b : ℕ). b == 10) (in_folder folder name) (47 ∷ r.0)) ∙ sym (ap has_feed r.1) ∙ tellable_line q h))
+          (or_parts (has_feed (in_folder folder name)) (has_feed (47 ∷ r.0)) (sym (list_any-append (λ (b : ℕ). b == 10) (in_folder folder name) (47 ∷ r.0)) ∙ sym (ap has_feed r.1) ∙ tellable_line q h)).0
     ]
 
 -- ## The names in a folder

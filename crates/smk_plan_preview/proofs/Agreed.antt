@@ -1,7 +1,8 @@
 -- The jobs that were derived, with what is told of them, agree with the folder.
-use Rattle.std.proofs.Common.{◌≡◌, ℕ, suc, Bool, true, false, ◌&&◌, filter, List, [], ◌∷◌, ◌++◌, map, length, refl, sym, ap, ◌∙◌, Option, Some, None, bytes_eq}
+use Rattle.std.proofs.Common.{◌≡◌, ℕ, Bool, true, false, ◌&&◌, filter, List, [], ◌++◌, map, length, refl, sym, ap, ◌∙◌, Option, Some, None, bytes_eq}
 use Rattle.std.specs.Prelude.{is_some, nat_le, if◌then◌else◌}
 use Rattle.std.specs.List.{AllByRecursion, flat_map}
+use Rattle.std.proofs.lemmas.List.{length-map}
 use Rattle.smk_base.proofs.Places.{and_first, and_second, same_place}
 use Rattle.smk_base.specs.Place.{record_place}
 use Rattle.smk_world.specs.declared.event.Node.{Node}
@@ -32,8 +33,8 @@ use Rattle.smk_plan_states.specs.Served.{AreServed}
 use Rattle.smk_plan_table.specs.Plans.{Agree}
 use Rattle.smk_plan_preview.specs.Rounds.{IsSighted, AreReady}
 use Rattle.smk_plan_preview.proofs.Derivations.{chain_derived}
-use Rattle.smk_plan_preview.proofs.Reached.{WantsSame, targets_told as targets_same, chosen_told, none_first, none_second}
-use Rattle.smk_chain_sight.proofs.Agree.{all_weaker}
+use Rattle.smk_plan_preview.proofs.Reached.{WantsSame, targets_told as targets_same, chosen_told}
+use Rattle.smk_chain_sight.proofs.Agree.{all_weaker, none_first, none_second}
 use Rattle.smk_plan_preview.proofs.Links.{inputs_told, targets_told, reads_told}
 use Rattle.smk_chain.proofs.Inputs.{each_recursive}
 use Rattle.smk_plan_preview.proofs.Made.{linked_made}
@@ -162,12 +163,8 @@ module _ (flow : Flow) (targets : List Path) (L : Listings) (image : Image) (sou
         asked = targets_told flow (told_by sources) L targets made links image known_targets;
       }
 
-mapped : {A B : Type 0} (f : A → B) (xs : List A) → length (map f xs) ≡ length xs
-mapped f [] = refl
-mapped f (x ∷ xs) = ap suc (mapped f xs)
-
 -- there is a list of those before it for each job
 pub befores_each : (flow : Flow) (S : Sources) (L : Listings) (targets : List Path) (made : Jobs) → made.jobs ≡ jobs flow S L targets → AreLinked flow S L targets made → length made.befores ≡ length made.jobs
 befores_each flow S L targets made are links =
-    ap length links.befores ∙ mapped (befores_of flow S L (chosen flow S L targets)) (chosen flow S L targets)
-    ∙ sym (mapped (job flow L) (chosen flow S L targets)) ∙ sym (ap length are)
+    ap length links.befores ∙ length-map (chosen flow S L targets) (befores_of flow S L (chosen flow S L targets))
+    ∙ sym (length-map (chosen flow S L targets) (job flow L)) ∙ sym (ap length are)

@@ -1,5 +1,5 @@
 -- Plans, one after another.
-use Rattle.std.proofs.Common.{◌≡◌, ◌⊎◌, inl, inr, ◌≢◌, ℕ, true, false, List, [], ◌∷◌, ◌++◌, refl, sym, ap, ap₂, subst, ◌∙◌, Option, Some, None, Result, Ok, Err}
+use Rattle.std.proofs.Common.{◌≡◌, ◌⊎◌, inl, inr, ◌≢◌, ℕ, true, List, [], ◌∷◌, ◌++◌, refl, sym, ap, ap₂, subst, ◌∙◌, Option, Some, None, Result, Ok, Err, true≢false}
 use Rattle.std.specs.List.{flat_map, zip}
 use Rattle.smk_world.specs.Trees.{Path}
 use Rattle.smk_flow.specs.declared.job.Job.{Job}
@@ -35,16 +35,13 @@ use Rattle.smk_plan_preview.specs.Rounds.{AreReady, Sights, IsSighted, Derives, 
 use Rattle.smk_plan_preview.specs.Steps.{IsPlanRefused}
 use Rattle.smk_plan_preview.proofs.Commands.{commands_fine, commands_refused}
 
-true_false : true ≡ false → ⊥
-true_false e = cc
-
 -- ## A plan that is refused
 
 pub plan_refused : (flow : Flow) (image : Image) (settings : Settings) (jobs : Jobs) (f : PlanFault) (g : Fault) → (g ≡ fault_in flow f) ⊎ (g ≡ fault.OutOfMemory) → (f ≢ refused.OutOfMemory → IsRefused image settings [] jobs f)
     → is_told g ≡ true → IsPlanRefused flow image settings jobs g
-plan_refused flow image settings jobs f g (inr memory) h told = absurd (true_false (sym told ∙ ap is_told memory))
+plan_refused flow image settings jobs f g (inr memory) h told = absurd (true≢false (sym told ∙ ap is_told memory))
 plan_refused flow image settings jobs f g (inl is) h told =
-    let r = h (λ memory. true_false (sym told ∙ ap is_told (is ∙ ap (fault_in flow) memory))) in
+    let r = h (λ memory. true≢false (sym told ∙ ap is_told (is ∙ ap (fault_in flow) memory))) in
     record {
       states = r.states;
       table = r.table;
@@ -94,7 +91,7 @@ module _ (read : List ℕ → Option Record) (flow : Flow) (settings : Settings)
   -- a command is refused
   pub command_refused : (jobs : Jobs) (told : Told) (f : Fault) → (f ≡ fault.OutOfMemory) ⊎ (command_fault flow settings.cores (zip jobs.jobs told.states) ≡ Some f)
       → AreReady flow settings.targets jobs.lists image jobs → HasMade image settings [] jobs told → is_told f ≡ true → ChainRefuses rules image nothing_done jobs.lists f
-  command_refused jobs told f (inl memory) ready made is = absurd (true_false (sym is ∙ ap is_told memory))
+  command_refused jobs told f (inl memory) ready made is = absurd (true≢false (sym is ∙ ap is_told memory))
   command_refused jobs told f (inr bad) ready made is =
       let u = made.unrefused rules refl in
       let plan = with_states jobs told.states in

@@ -1,7 +1,8 @@
 -- What is told of sources, and what is derived by it.
-use Rattle.std.proofs.Common.{◌≡◌, ◌<◌, ℕ, true, false, List, [], ◌∷◌, ◌++◌, length, refl, sym, ap, subst, ◌∙◌, Option, Some, None, Result, Ok, Err}
+use Rattle.std.proofs.Common.{◌≡◌, ◌<◌, ℕ, true, List, [], ◌∷◌, ◌++◌, length, refl, sym, ap, subst, ◌∙◌, Option, Some, Result, Ok, Err, true≢false}
 use Rattle.std.specs.Prelude.{IfOk, IfErr}
 use Rattle.std.proofs.lemmas.Bool.{le-ltb, lt-ltb}
+use Rattle.std.proofs.lemmas.Option.{same_Some, none-some}
 use Rattle.smk_world.specs.World.{World}
 use Rattle.smk_world.specs.Devices.{Device, WhereTold}
 use Rattle.smk_world.specs.Trees.{Path}
@@ -26,9 +27,6 @@ use Rattle.smk_drive.specs.Refusals.{IsFault}
 use Rattle.smk_plan_preview.specs.Faults.{is_told, as_call, of_sight, of_chain}
 use Rattle.smk_plan_preview.specs.Rounds.{HasTooMany, IsSighted, Sights, IsRefusedFirst}
 
-true_false : true ≡ false → ⊥
-true_false e = cc
-
 -- where no child owns a place, what it owns is covered
 none_covered : (w : World) (store : List Entry) → NoneOwned w → IsOwnedCovered w store
 none_covered w store none = λ q path owned. absurd (none q owned)
@@ -49,30 +47,24 @@ sights flow targets L d store (Ok sources) s is told many w at none read st =
 sights flow targets L d store (Err (sight.TooManyPaths n)) s is told many w at none read st =
     let m = many n refl in
     subst (λ v. Sights flow targets L (seen read w) v) (sym is) (λ h. record { count = n; is = refl; found = m.0; many = m.1 w at (none_covered w store none) read st })
-sights flow targets L d store (Err sight.Device) s is told many w at none read st = subst (λ v. Sights flow targets L (seen read w) v) (sym is) (λ h. absurd (true_false (sym h)))
-sights flow targets L d store (Err sight.OutOfMemory) s is told many w at none read st = subst (λ v. Sights flow targets L (seen read w) v) (sym is) (λ h. absurd (true_false (sym h)))
+sights flow targets L d store (Err sight.Device) s is told many w at none read st = subst (λ v. Sights flow targets L (seen read w) v) (sym is) (λ h. absurd (true≢false (sym h)))
+sights flow targets L d store (Err sight.OutOfMemory) s is told many w at none read st = subst (λ v. Sights flow targets L (seen read w) v) (sym is) (λ h. absurd (true≢false (sym h)))
 
 -- ## Refusals
 
-same_some : {A : Type 0} (x y : A) → Some x ≡ Some y → x ≡ y
-same_some x y e = cc
-
-none_some : {A : Type 0} (y : A) → None ≡ Some y → ⊥
-none_some y e = cc
-
 fault_told : (flow : Flow) (r : Refusal) (e : ChainFault) → told_refusal flow r ≡ Some e → IsFault flow r (of_chain e)
-fault_told flow TooManyPaths e h = absurd (none_some e h)
-fault_told flow (Deep p) e h = ap of_chain (sym (same_some _ e h))
-fault_told flow (NoRule p) e h = ap of_chain (sym (same_some _ e h))
-fault_told flow (NoInput p rule wanted) e h = ap of_chain (sym (same_some _ e h))
-fault_told flow (TwoJobs p a b) e h = ap of_chain (sym (same_some _ e h))
-fault_told flow (MissingMember p) e h = ap of_chain (sym (same_some _ e h))
-fault_told flow (NoCommand rule) e h = ap of_chain (sym (same_some _ e h))
-fault_told flow (Clash p other) e h = ap of_chain (sym (same_some _ e h))
+fault_told flow TooManyPaths e h = absurd (none-some e h)
+fault_told flow (Deep p) e h = ap of_chain (sym (same_Some _ e h))
+fault_told flow (NoRule p) e h = ap of_chain (sym (same_Some _ e h))
+fault_told flow (NoInput p rule wanted) e h = ap of_chain (sym (same_Some _ e h))
+fault_told flow (TwoJobs p a b) e h = ap of_chain (sym (same_Some _ e h))
+fault_told flow (MissingMember p) e h = ap of_chain (sym (same_Some _ e h))
+fault_told flow (NoCommand rule) e h = ap of_chain (sym (same_Some _ e h))
+fault_told flow (Clash p other) e h = ap of_chain (sym (same_Some _ e h))
 
 -- where this is told first, the derivation is refused with it
 first_refused : (flow : Flow) (rs : List Refusal) (js : List Job) (e : ChainFault) → first_told flow rs ≡ Some e → (r : Refusal) × (outcome rs js ≡ Refused r) × IsFault flow r (of_chain e)
-first_refused flow [] js e h = absurd (none_some e h)
+first_refused flow [] js e h = absurd (none-some e h)
 first_refused flow (r ∷ rs) js e h = (r, refl, fault_told flow r e h)
 
 -- where there aren't too many paths, the derivation is that of the jobs
@@ -94,7 +86,7 @@ pub chain_refused : (flow : Flow) (targets : List Path) (L : Listings) (image : 
     → TellsFirst flow (job_refusals flow (told_by sources) image L targets) e → is_told (of_chain e) ≡ true → IsRefusedFirst flow targets L image (of_chain e)
 chain_refused flow targets L image sources e sighted tells told =
     let r = first_refused flow (job_refusals flow (told_by sources) image L targets) (jobs flow (told_by sources) L targets) e
-    (tells (λ memory. true_false (sym told ∙ ap (λ (x : ChainFault). is_told (of_chain x)) memory))) in
+    (tells (λ memory. true≢false (sym told ∙ ap (λ (x : ChainFault). is_told (of_chain x)) memory))) in
     record { refusal = r.0; first = small_derivation flow image L targets sighted.few ∙ sym sighted.same ∙ r.1; is = r.2 }
 
 pub chain_derived : (flow : Flow) (targets : List Path) (L : Listings) (image : Image) (sources : Told) (js : List Job) → IsSighted flow targets L image sources

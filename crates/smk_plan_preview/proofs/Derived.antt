@@ -1,5 +1,5 @@
 -- What is derived, as an answer of a preview.
-use Rattle.std.proofs.Common.{◌≡◌, true, false, List, [], refl, sym, ap, subst, ◌∙◌, Result, Ok, Err}
+use Rattle.std.proofs.Common.{◌≡◌, true, false, List, [], refl, sym, ap, subst, ◌∙◌, Result, Ok, Err, true≢false}
 use Rattle.std.specs.Prelude.{IfOk, IfErr}
 use Rattle.smk_world.specs.Trees.{Path}
 use Rattle.smk_flow.specs.Flows.{Flow}
@@ -24,9 +24,6 @@ use Rattle.smk_plan_preview.specs.Fitness.{AreFit}
 use Rattle.smk_plan_preview.specs.Rounds.{IsSighted, Derives}
 use Rattle.smk_plan_preview.proofs.Derivations.{chain_refused}
 use Rattle.smk_plan_preview.proofs.Agreed.{ready_of, befores_each}
-
-true_false : true ≡ false → ⊥
-true_false e = cc
 
 quiet_fault : (e : ChainFault) → is_device (of_chain e) ≡ false
 quiet_fault (chain.NoRule p) = refl
@@ -82,4 +79,4 @@ pub memory_sink : (f : Fault) → f ≡ fault.OutOfMemory → is_sink f ≡ fals
 memory_sink f is = ap is_sink is
 
 pub memory_untold : (f : Fault) (P : Type 0) → f ≡ fault.OutOfMemory → is_told f ≡ true → P
-memory_untold f P is told = absurd (true_false (sym told ∙ ap is_told is))
+memory_untold f P is told = absurd (true≢false (sym told ∙ ap is_told is))

@@ -2,6 +2,7 @@
 use Rattle.std.proofs.Common.{◌≡◌, true, List, [], ◌∷◌, ◌++◌, map, sym, subst}
 use Rattle.std.specs.Prelude.{is_some}
 use Rattle.std.specs.List.{AllByRecursion}
+use Rattle.smk_plan_table.proofs.Linked.{source_unmade, source_told}
 use Rattle.smk_world.specs.World.{in_paths}
 use Rattle.smk_world.specs.Trees.{Path, Each, among}
 use Rattle.smk_pattern.specs.Shapes.{Text}
@@ -15,7 +16,7 @@ use Rattle.smk_chain.proofs.Inputs.{all_front, all_back, each_append, each_recur
 use Rattle.smk_chain_walk.specs.Links.{AreLinked, maker_told, number_for}
 use Rattle.smk_plan.specs.States.{gathers_from}
 use Rattle.smk_plan_facts.specs.Facts.{TellSources, told_sources}
-use Rattle.smk_plan_preview.proofs.Telling.{no_number, none_made, source_told, told_none}
+use Rattle.smk_plan_preview.proofs.Telling.{no_number, told_none}
 use Rattle.smk_plan_table.specs.Plans.{TellTargets}
 
 -- ## What is told of sources is so
@@ -32,7 +33,7 @@ module _ (flow : Flow) (S : Sources) (L : Listings) (targets : List Path) (made 
   told w some known = λ is.
       source_told made.makers w
       (told_none (maker_told made.makers w) (number_for flow S L (chosen flow S L targets) w) some (links.right w)
-      (no_number (chosen flow S L targets) (maker (choose flow S w)) (none_made flow S w (known is))))
+      (no_number (chosen flow S L targets) (maker (choose flow S w)) (source_unmade flow S w (known is))))
 
   each_told : (ws : List Text) → AllByRecursion (λ (w : Text). is_some (maker_told made.makers w) ≡ true) ws → AllByRecursion IsKnown ws → AllByRecursion IsTold ws
   each_told [] h k = tt

@@ -1,6 +1,7 @@
 -- Looks, by answers of the parts and of a preview.
-use Rattle.std.proofs.Common.{◌≡◌, ◌≢◌, ℕ, Bool, true, false, List, [], ◌∷◌, map, refl, sym, ap, ap₂, subst, ◌∙◌, Option, Some, None, Result, Ok, Err}
+use Rattle.std.proofs.Common.{◌≡◌, ◌≢◌, ℕ, Bool, true, false, List, [], ◌∷◌, map, refl, sym, ap, ap₂, subst, ◌∙◌, Option, Some, None, Result, Ok, Err, true≢false}
 use Rattle.std.specs.Prelude.{IsSome, is_some, IsErrAnd, IfOk, IfErr}
+use Rattle.std.proofs.lemmas.Option.{same_Some}
 use Rattle.smk_world.specs.declared.event.Call.{Call}
 use Rattle.smk_world.specs.declared.event.Call.TheVariants.{Looked, ReadFile, ReadFolder, Written, Created, Removed, MadeParents, Settled, Protected, Started, Waited}
 use Rattle.smk_world.specs.declared.event.Change.{Change}
@@ -36,9 +37,6 @@ use Rattle.smk_plan_look.specs.Seeing.{look_failed, AreSeenUnowned}
 use Rattle.smk_plan_look.proofs.Images.{seen_of}
 use Rattle.smk_report.specs.Faults.{of_store}
 use Rattle.smk_plan_preview.specs.Faults.{device_failed, is_told, is_device, is_sink, as_call, of_sight, of_look}
-
-true_false : true ≡ false → ⊥
-true_false e = cc
 
 -- ## Answers
 
@@ -91,25 +89,22 @@ look_names act w (ReadFile p limit (Ok f)) left names h lets = empty_names left 
 look_names act w (ReadFile p limit (Err e)) left names h lets = empty_names left names lets
 look_names act w (ReadFolder p (Ok l)) left names h lets = empty_names left names lets.0
 look_names act w (ReadFolder p (Err e)) left names h lets = empty_names left names lets
-look_names act w (Written p bytes r) left names h lets = absurd (true_false (sym h))
-look_names act w (Created p r) left names h lets = absurd (true_false (sym h))
-look_names act w (Removed p r) left names h lets = absurd (true_false (sym h))
-look_names act w (MadeParents p r) left names h lets = absurd (true_false (sym h))
-look_names act w (Settled ps r) left names h lets = absurd (true_false (sym h))
-look_names act w (Protected p r) left names h lets = absurd (true_false (sym h))
-look_names act w (Started recipe logs command r) left names h lets = absurd (true_false (sym h))
-look_names act w (Waited r) left names h lets = absurd (true_false (sym h))
+look_names act w (Written p bytes r) left names h lets = absurd (true≢false (sym h))
+look_names act w (Created p r) left names h lets = absurd (true≢false (sym h))
+look_names act w (Removed p r) left names h lets = absurd (true≢false (sym h))
+look_names act w (MadeParents p r) left names h lets = absurd (true≢false (sym h))
+look_names act w (Settled ps r) left names h lets = absurd (true≢false (sym h))
+look_names act w (Protected p r) left names h lets = absurd (true≢false (sym h))
+look_names act w (Started recipe logs command r) left names h lets = absurd (true≢false (sym h))
+look_names act w (Waited r) left names h lets = absurd (true≢false (sym h))
 
 looks_names : (act : Act) (f : Bool) (w : World) (es : List Event) → Follows act w es → AreLooks f es → (run w es).names ≡ w.names
 looks_names act f w [] follows h = refl
 looks_names act f w (e ∷ []) follows h = look_names act w e.call e.left w.names h.0 follows.0.lets
 looks_names act f w (e ∷ (g ∷ es)) follows h = looks_names act f (after w e) (g ∷ es) follows.1 h.2 ∙ look_names act w e.call e.left w.names h.0 follows.0.lets
 
-same_some : {A : Type 0} (x y : A) → Some x ≡ Some y → x ≡ y
-same_some x y e = cc
-
 pub some_of : {A : Type 0} (o : Option A) → IsSome o → (x : A) × (o ≡ Some x)
-some_of None h = absurd (true_false (sym h))
+some_of None h = absurd (true≢false (sym h))
 some_of (Some x) h = (x, refl)
 
 -- nothing has come or gone
@@ -124,7 +119,7 @@ looks_leave act f w es follows h = record { nodes = looks_nodes f w es h; names 
 pub moved : {act : Act} {a b : Device} {f : Bool} (w v : World) → HasLooked act a b f → a.world ≡ Some w → b.world ≡ Some v → IsSameFolder w v
 moved {act} {f = f} w v looked at told =
     let d = looked.acted.did v told in
-    let same : d.0 ≡ w = same_some d.0 w (sym d.1 ∙ at) in
+    let same : d.0 ≡ w = same_Some d.0 w (sym d.1 ∙ at) in
     let left = looks_leave act f d.0 d.2.0 d.2.1 d.2.2 in
     record {
       nodes = ap (λ (u : World). u.nodes) d.2.3 ∙ left.nodes ∙ ap (λ (u : World). u.nodes) same;
@@ -164,9 +159,6 @@ failed_on r s x is h = ap device_failed is ∙ sym (ap device_failed (err_is s x
 
 pub sink_as : {A B : Type 0} (r : Result A Fault) (s : Result B Fault) (x : Fault) → r ≡ Err x → IsErrAnd s (λ y. y ≡ x) → IfErr r (λ f. is_sink f ≡ false) → IfErr s (λ f. is_sink f ≡ false)
 sink_as r s x is h sink = subst (λ v. IfErr v (λ f. is_sink f ≡ false)) (sym (err_is s x h)) (subst (λ v. IfErr v (λ f. is_sink f ≡ false)) is sink)
-
-pub is_not : (b : Bool) → b ≡ false → b ≡ true → ⊥
-is_not b e h = true_false (sym h ∙ e)
 
 -- what stands at the outputs and the sources is seen
 pub look_told : (d : Device) (jobs : Jobs) (r : Result (List Sight) LookFault) (s : Result (List Sight) Fault) → s ≡ as_call of_look r

@@ -1,44 +1,25 @@
 -- The job of a number that is told makes the path.
-use Rattle.std.proofs.Common.{◌≡◌, ◌⊎◌, inl, inr, ℕ, suc, Bool, true, false, cond, List, [], ◌∷◌, map, flat_map, Option, Some, None, refl, sym, ap, subst, ◌∙◌, bytes_eq}
-use Rattle.std.specs.Prelude.{if◌then◌else◌, is_some, option_map}
+use Rattle.std.proofs.Common.{◌≡◌, inl, inr, ℕ, suc, Bool, true, false, cond, List, [], ◌∷◌, map, flat_map, Option, Some, None, refl, sym, ap, ◌∙◌, bytes_eq}
+use Rattle.std.specs.Prelude.{if◌then◌else◌, option_map}
 use Rattle.std.specs.List.{find}
-use Rattle.smk_base.specs.Path.{is_under}
+use Rattle.smk_laws_plan.proofs.PlanOne.{job_makes}
 use Rattle.smk_base.proofs.Places.{place_itself, same_place}
-use Rattle.smk_base.proofs.Under.{or_first, or_second}
-use Rattle.smk_world.specs.World.{folders_above, out_paths}
-use Rattle.smk_world.specs.Trees.{Path, Each, folders_of}
+use Rattle.smk_world.specs.Trees.{Path, Each}
 use Rattle.smk_flow.specs.declared.job.Job.{Job}
-use Rattle.smk_flow.specs.Flows.{Candidate, Flow, makes_folder}
-use Rattle.smk_pattern.specs.Bound.{BoundFills}
-use Rattle.smk_pattern.proofs.Names.{numbered_all}
+use Rattle.smk_flow.specs.Flows.{Candidate, Flow}
 use Rattle.smk_choose.specs.Choose.{Choice, Source, Make, Nothing, Ambiguous, Sources, choose, maker}
 use Rattle.smk_choose.specs.Told.{making}
 use Rattle.smk_chain.specs.declared.jobs.Maker.{Maker}
-use Rattle.smk_chain.specs.Derive.{Listings, chosen, distinct, job, jobs, recipe, same_candidate, walk}
+use Rattle.smk_chain.specs.Derive.{Listings, chosen, distinct, job, jobs, same_candidate, walk}
 use Rattle.smk_chain_walk.specs.Links.{AreOnce, maker_told, number_for}
 use Rattle.smk_chain_walk.specs.Numbers.{is_job, number_in, place_of}
 use Rattle.smk_plan.specs.States.{makes}
 use Rattle.smk_plan.specs.Sights.{job_at}
-use Rattle.smk_laws_plan.proofs.CurrentChosen.{Origin, folder_made, origin, output_in}
-use Rattle.smk_laws_plan.proofs.CurrentFills.{bound_fills_from}
-use Rattle.smk_laws_plan.proofs.CurrentLists.{In, distinct_in, find_some, flat_in}
-use Rattle.smk_laws_plan.proofs.CurrentPaths.{in_among}
+use Rattle.smk_laws_plan.proofs.CurrentLists.{In, distinct_in, flat_in}
 use Rattle.smk_laws_plan.proofs.CurrentWalked.{chosen_same, walked_chosen}
 use Rattle.smk_plan_facts.specs.Facts.{IsMade}
 use Rattle.smk_plan_facts.proofs.Tests.{each_of, none_some, some_same}
 use Rattle.smk_plan_preview.specs.Links.{LinkedAreMade}
-
--- ## A chosen job makes its path
-
-chosen_makes : (flow : Flow) (sources : Sources) (L : Listings) (q : Path) (c : Candidate) → choose flow sources q ≡ Make c → makes (job flow L c) q ≡ true
-chosen_makes flow sources L q c e = let o = origin flow q c sources e in go o o.at_or_above
-  where
-    fills : BoundFills
-    fills = bound_fills_from numbered_all
-
-    go : (o : Origin flow q c) → (q ≡ o.place) ⊎ (is_under q o.place ≡ true) × In o.place (folders_above q) × (makes_folder o.out ≡ true) → makes (job flow L c) q ≡ true
-    go o (inl s) = or_first _ _ (in_among (out_paths (recipe flow L c)) q (subst (λ w. In w (out_paths (recipe flow L c))) (sym s) (output_in flow L c fills o.place o.out o.is_out o.binds)))
-    go o (inr u) = or_second _ _ (let r = find_some (is_under q) (folders_of (recipe flow L c)) o.place (folder_made flow L c fills o.place o.out o.is_out o.binds u.2) u.0 in ap is_some r.1)
 
 -- ## The job of a number
 
@@ -81,7 +62,7 @@ module _ (flow : Flow) (sources : Sources) (L : Listings) (targets : List Path) 
           let t = flat_in (walk flow sources L 200) targets a.at (distinct_in same_candidate all a.at a.one) in
           let p = walked_chosen flow sources L 200 t.0 a.at t.2 in
           let same = chosen_same flow sources L p.0 q a.at c p.1 is a.same in
-          ap (λ (k : Job). makes k q) (some_same j (job flow L a.at) (sym at ∙ a.there) ∙ ap (job flow L) same) ∙ chosen_makes flow sources L q c is
+          ap (λ (k : Job). makes k q) (some_same j (job flow L a.at) (sym at ∙ a.there) ∙ ap (job flow L) same) ∙ job_makes flow sources L q c is
 
       go : (o : Choice) → choose flow sources q ≡ o → number_in (chosen flow sources L targets) (maker o) ≡ Some n → makes j q ≡ true
       go Source is k = absurd (none_some n k)

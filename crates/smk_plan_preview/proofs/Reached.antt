@@ -1,61 +1,26 @@
 -- Where two tell the same on the reach of some targets, they tell the same of all that the chosen jobs want.
-use Rattle.std.proofs.Common.{◌≡◌, ℕ, zero, suc, Bool, true, false, cond, not, List, [], ◌∷◌, ◌++◌, filter, refl, sym, ap, ap₂, subst, ◌∙◌, Option, Some, None}
+use Rattle.std.proofs.Common.{◌≡◌, ℕ, zero, suc, Bool, true, false, cond, not, List, [], ◌∷◌, ◌++◌, filter, refl, sym, ap, subst, ◌∙◌, Option, Some, None}
 use Rattle.std.specs.List.{AllByRecursion, flat_map}
+use Rattle.smk_choose.proofs.Listed.{all_append}
 use Rattle.smk_base.specs.Path.{is_path}
 use Rattle.smk_world.specs.Trees.{Path}
 use Rattle.smk_pattern.specs.Shapes.{Text}
 use Rattle.smk_flow.specs.Flows.{Flow, Candidate}
-use Rattle.smk_choose.specs.Choose.{Sources, Choice, Source, choose, maker, Make, Nothing, Ambiguous, candidates}
+use Rattle.smk_choose.specs.Choose.{Sources, choose, maker, candidates}
 use Rattle.smk_choose.proofs.Picked.{chosen_candidate, chosen_no_source}
 use Rattle.smk_chain.specs.Derive.{Listings, wants, distinct, walk, Refusal, NoInput, refused_at, refused, same_candidate, chosen}
 use Rattle.smk_chain_sight.specs.Sight.{SameOnReach}
-use Rattle.smk_chain_sight.proofs.Agree.{all_weaker, Good, targets_good, walk_same, all_refused_same}
+use Rattle.smk_chain_sight.proofs.Agree.{all_weaker, Good, targets_good, walk_same, all_refused_same, all_filtered, all_flat, flat_same, maker_is, never_cons, none_second, none_each}
 
 -- ## Lists
-
-all_first : {A : Type 0} (P : A → Type 0) (xs ys : List A) → AllByRecursion P (xs ++ ys) → AllByRecursion P xs
-all_first P [] ys all = tt
-all_first P (x ∷ xs) ys all = (all.0, all_first P xs ys all.1)
-
-all_second : {A : Type 0} (P : A → Type 0) (xs ys : List A) → AllByRecursion P (xs ++ ys) → AllByRecursion P ys
-all_second P [] ys all = all
-all_second P (x ∷ xs) ys all = all_second P xs ys all.1
-
-all_both : {A : Type 0} (P : A → Type 0) (xs ys : List A) → AllByRecursion P xs → AllByRecursion P ys → AllByRecursion P (xs ++ ys)
-all_both P [] ys a b = b
-all_both P (x ∷ xs) ys a b = (a.0, all_both P xs ys a.1 b)
 
 all_and : {A : Type 0} (P Q R : A → Type 0) → ((x : A) → P x → Q x → R x) → (xs : List A) → AllByRecursion P xs → AllByRecursion Q xs → AllByRecursion R xs
 all_and P Q R more [] a b = tt
 all_and P Q R more (x ∷ xs) a b = (more x a.0 b.0, all_and P Q R more xs a.1 b.1)
 
-all_flat : {A B : Type 0} (P : B → Type 0) (f : A → List B) (xs : List A) → AllByRecursion P (flat_map f xs) → AllByRecursion (λ x. AllByRecursion P (f x)) xs
-all_flat P f [] all = tt
-all_flat P f (x ∷ xs) all = (all_first P (f x) (flat_map f xs) all, all_flat P f xs (all_second P (f x) (flat_map f xs) all))
-
 flat_all : {A B : Type 0} (P : B → Type 0) (f : A → List B) (xs : List A) → AllByRecursion (λ x. AllByRecursion P (f x)) xs → AllByRecursion P (flat_map f xs)
 flat_all P f [] all = tt
-flat_all P f (x ∷ xs) all = all_both P (f x) (flat_map f xs) all.0 (flat_all P f xs all.1)
-
-flat_same : {A B : Type 0} (f g : A → List B) (xs : List A) → AllByRecursion (λ x. f x ≡ g x) xs → flat_map f xs ≡ flat_map g xs
-flat_same f g [] all = refl
-flat_same f g (x ∷ xs) all = ap₂ ◌++◌ all.0 (flat_same f g xs all.1)
-
--- what holds of those that pass holds of each that passes
-all_passing : {A : Type 0} (p : A → Bool) (P : A → Type 0) (xs : List A) → AllByRecursion P (filter p xs) → AllByRecursion (λ x. p x ≡ true → P x) xs
-all_passing p P [] all = tt
-all_passing p P (x ∷ xs) all = (λ t. here (p x) all t, all_passing p P xs (rest (p x) all))
-  where
-    here : (b : Bool) → AllByRecursion P (cond b (x ∷ filter p xs) (filter p xs)) → b ≡ true → P x
-    here true h e = h.0
-    here false h e = absurd (wrong e)
-      where
-        wrong : false ≡ true → ⊥
-        wrong q = cc
-
-    rest : (b : Bool) → AllByRecursion P (cond b (x ∷ filter p xs) (filter p xs)) → AllByRecursion P (filter p xs)
-    rest true h = h.1
-    rest false h = h
+flat_all P f (x ∷ xs) all = all_append P (f x) (flat_map f xs) all.0 (flat_all P f xs all.1)
 
 all_kept : {A : Type 0} (p : A → Bool) (P : A → Type 0) (xs : List A) → AllByRecursion P xs → AllByRecursion P (filter p xs)
 all_kept p P [] all = tt
@@ -69,40 +34,7 @@ all_distinct : {A : Type 0} (same : A → A → Bool) (P : A → Type 0) (xs : L
 all_distinct same P [] all = tt
 all_distinct same P (x ∷ xs) all = (all.0, all_kept (λ y. not (same x y)) P (distinct same xs) (all_distinct same P xs all.1))
 
-never_cons : {A : Type 0} (x : A) (xs : List A) → x ∷ xs ≡ [] → ⊥
-never_cons x xs e = cc
-
-pub none_first : {A : Type 0} (xs ys : List A) → xs ++ ys ≡ [] → xs ≡ []
-none_first [] ys e = refl
-none_first (x ∷ xs) ys e = absurd (never_cons x (xs ++ ys) e)
-
-pub none_second : {A : Type 0} (xs ys : List A) → xs ++ ys ≡ [] → ys ≡ []
-none_second [] ys e = e
-none_second (x ∷ xs) ys e = absurd (never_cons x (xs ++ ys) e)
-
-none_each : {A B : Type 0} (f : A → List B) (xs : List A) → flat_map f xs ≡ [] → AllByRecursion (λ x. f x ≡ []) xs
-none_each f [] e = tt
-none_each f (x ∷ xs) e = (none_first (f x) (flat_map f xs) e, none_each f xs (none_second (f x) (flat_map f xs) e))
-
 -- ## What a chosen job wants
-
-maker_is : (ch : Choice) (c : Candidate) → maker ch ≡ Some c → ch ≡ Make c
-maker_is Source c e = absurd (wrong c e)
-  where
-    wrong : (c : Candidate) → None ≡ Some c → ⊥
-    wrong c q = cc
-maker_is (Make d) c e = ap Make (got d c e)
-  where
-    got : (d c : Candidate) → Some d ≡ Some c → d ≡ c
-    got d c q = cc
-maker_is (Nothing l) c e = absurd (wrong c e)
-  where
-    wrong : (c : Candidate) → None ≡ Some c → ⊥
-    wrong c q = cc
-maker_is (Ambiguous a b) c e = absurd (wrong c e)
-  where
-    wrong : (c : Candidate) → None ≡ Some c → ⊥
-    wrong c q = cc
 
 -- n more than k
 abbrev over : ℕ → ℕ → ℕ
@@ -128,7 +60,7 @@ module _ (flow : Flow) (S T : Sources) (L : Listings) where
       let made = maker_is (choose flow S p) c e in
       chosen_candidate flow S p c (λ (d : Candidate). AllByRecursion (λ (w : Text). is_path w ≡ true → Good flow S T L k w) (wants flow L d))
       (all_flat (λ (w : Text). is_path w ≡ true → Good flow S T L k w) (wants flow L) (candidates flow S p)
-      (all_passing is_path (Good flow S T L k) (flat_map (wants flow L) (candidates flow S p)) (g.1 (chosen_no_source flow S p c made)))) made
+      (all_filtered is_path (Good flow S T L k) (flat_map (wants flow L) (candidates flow S p)) (g.1 (chosen_no_source flow S p c made)))) made
 
   -- what is refused of one want
   abbrev refused_want : ℕ → Path → Candidate → Text → List Refusal
@@ -159,7 +91,7 @@ module _ (flow : Flow) (S T : Sources) (L : Listings) where
       go None e again fine = tt
       go (Some c) e again fine =
           let wanted = chosen_good (over n k) p c g e in
-          all_both WantsSame (flat_map (walk flow S L n) (wants flow L c)) (c ∷ [])
+          all_append WantsSame (flat_map (walk flow S L n) (wants flow L c)) (c ∷ [])
           (flat_all WantsSame (walk flow S L n) (wants flow L c)
           (all_and (λ (w : Text). is_path w ≡ true → Good flow S T L (over n k) w) (λ w. refused_want (suc n) p c w ≡ []) (λ w. AllByRecursion WantsSame (walk flow S L n w))
           (λ w h none. let f = want_fine (is_path w) (refused flow S L (suc n) w) p c.rule w none in again w (h f.0) f.1)

@@ -2,6 +2,7 @@
 use Rattle.std.proofs.Common.{◌≡◌, ◌⊎◌, inl, inr, ℕ, false, List, [], ◌∷◌, refl, sym, ap, subst, ◌∙◌, Option, Some, None, Result, Ok, Err}
 use Rattle.std.specs.Prelude.{IfOk, IfErr}
 use Rattle.std.specs.List.{zip}
+use Rattle.std.proofs.lemmas.Option.{none-some}
 use Rattle.smk_flow.specs.Flows.{Flow}
 use Rattle.smk_record.specs.declared.record.Record.{Record}
 use Rattle.smk_store.specs.Images.{Image}
@@ -26,22 +27,19 @@ use Rattle.smk_plan_preview.proofs.Chains.{round_made, command_refused, planned_
 
 -- ## Faults of commands
 
-no_fault : (f : Fault) → None ≡ Some f → ⊥
-no_fault f e = cc
-
 at_quiet : (rule : Text) (m : Option Text) (n : Option ℕ) (f : Fault) → fault_at rule m n ≡ Some f → (is_device f ≡ false) × (is_sink f ≡ false)
 at_quiet rule (Some word) n f k = let same : fault.UnknownField rule word ≡ f = cc in (sym (ap is_device same), sym (ap is_sink same))
 at_quiet rule None (Some bytes) f k = let same : fault.TooLong rule bytes ≡ f = cc in (sym (ap is_device same), sym (ap is_sink same))
-at_quiet rule None None f k = absurd (no_fault f k)
+at_quiet rule None None f k = absurd (none-some f k)
 
 fault_quiet : (s : State) (rule : Text) (m : Option Text) (n : Option ℕ) (f : Fault) → fault_in s rule m n ≡ Some f → (is_device f ≡ false) × (is_sink f ≡ false)
-fault_quiet Open rule m n f h = absurd (no_fault f h)
+fault_quiet Open rule m n f h = absurd (none-some f h)
 fault_quiet (Dirty reasons) rule m n f h = at_quiet rule m n f h
 fault_quiet Restore rule m n f h = at_quiet rule m n f h
 fault_quiet Clean rule m n f h = at_quiet rule m None f h
 
 commands_quiet : (flow : Flow) (cores : ℕ) (es : List (Job × State)) (f : Fault) → command_fault flow cores es ≡ Some f → (is_device f ≡ false) × (is_sink f ≡ false)
-commands_quiet flow cores [] f h = absurd (no_fault f h)
+commands_quiet flow cores [] f h = absurd (none-some f h)
 commands_quiet flow cores (e ∷ es) f h = go (state_fault flow cores e.0 e.1) refl (commands_quiet flow cores es f)
   where
     go : (o : Option Fault) → state_fault flow cores e.0 e.1 ≡ o → (command_fault flow cores es ≡ Some f → (is_device f ≡ false) × (is_sink f ≡ false)) → (is_device f ≡ false) × (is_sink f ≡ false)

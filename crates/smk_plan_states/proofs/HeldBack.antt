@@ -3,6 +3,7 @@ use Rattle.std.proofs.Common.{◌≡◌, Bool, true, false, not, cond, ◌&&◌,
 use Rattle.smk_plan_states.specs.Keys.{at_key, has_key}
 use Rattle.std.specs.BTreeSet.{contains_text}
 use Rattle.std.specs.List.{list_any}
+use Rattle.std.proofs.Math.Bool.{or_comm}
 use Rattle.smk_world.specs.World.{out_paths}
 use Rattle.smk_world.specs.Trees.{Path, first as first_of}
 use Rattle.smk_flow.specs.declared.job.Job.{Job}
@@ -47,12 +48,6 @@ held_state (Some s) b rs restores read = refl
 held_state None true rs restores read = refl
 held_state None false (r ∷ rs) restores read = refl
 held_state None false [] restores read = held_plain restores read
-
-turned : (a b : Bool) → (a || b) ≡ (b || a)
-turned true true = refl
-turned true false = refl
-turned false true = refl
-turned false false = refl
 
 -- ## Lists
 
@@ -105,7 +100,7 @@ module _
       any_same (needed_told parts ss) (needs image settings progress jobs ss) (gone_outputs image j) (λ p i. needed_is p) in
       let wanted : (list_any (needed_told parts ss) (gone_outputs image j) || is_kept_in paths (parts_of image j)) ≡ is_to_restore image settings progress (with_states jobs ss) j =
       (λ i. n i || k i)
-      ∙ turned (list_any (needs image settings progress jobs ss) (gone_outputs image j)) (is_kept image settings progress (with_states jobs ss) j)
+      ∙ or_comm (list_any (needs image settings progress jobs ss) (gone_outputs image j)) (is_kept image settings progress (with_states jobs ss) j)
       ∙ sym (restores_from image settings progress jobs ss j own) in
       let read : is_in_use_told used (parts_of image j) ≡ is_read_now image settings progress (with_states jobs ss) j =
       read_is image settings progress jobs ss asked served.apart served.reads used used_is j here in

@@ -2,6 +2,7 @@
 use Rattle.std.proofs.Common.{◌≡◌, ◌⊎◌, Bool, true, false, not, cond, ◌&&◌, ◌||◌, List, [], ◌∷◌, ◌++◌, map, filter, flat_map, find, zip, refl, sym, ap, subst, inl, inr, ◌∙◌, Option, Some, None, option_map, is_some, is_none}
 use Rattle.std.specs.List.{list_any}
 use Rattle.std.specs.Option.{option_and_then}
+use Rattle.std.proofs.Math.Bool.{and-true, and-or_distrib_left}
 use Rattle.smk_base.specs.Path.{is_under, overlaps}
 use Rattle.smk_base.proofs.Under.{never_under_itself}
 use Rattle.smk_world.specs.declared.recipe.Kind.{Kind}
@@ -26,7 +27,7 @@ use Rattle.smk_laws_plan.proofs.CurrentPaths.{among_in, in_among, touch_overlaps
 use Rattle.smk_laws_plan.proofs.CurrentApart.{Apart, JobsApart, maker_found, apart_same, own_apart}
 use Rattle.smk_laws_plan.proofs.CurrentChosen.{paths_are, folders_paths}
 use Rattle.smk_laws_plan.proofs.PlanStates.{any_same, table_open, table_dirty}
-use Rattle.smk_plan_states.proofs.Tests.{and_true, and_or, any_or, any_map, any_filter, among_once}
+use Rattle.smk_plan_states.proofs.Tests.{any_or, any_map, any_filter, among_once}
 
 -- ## Outputs of a job that lie apart
 
@@ -230,7 +231,7 @@ module _ (image : Image) (settings : Settings) (progress : Progress) (J : Jobs) 
       reads p n =
           let r = any_in (λ (e : Job × State). among (in_paths e.0.recipe) p && is_to_run e.1) (zip J.jobs ss) n in
           any_from (λ (e : Job × State). among (in_paths e.0.recipe) p && true) (zip J.jobs ss) r.0 r.1
-          (and_true (among (in_paths r.0.0.recipe) p) ∙ Rattle.smk_laws_plan.proofs.CurrentLists.and_left (among (in_paths r.0.0.recipe) p) (is_to_run r.0.1) r.2)
+          (and-true (among (in_paths r.0.0.recipe) p) ∙ Rattle.smk_laws_plan.proofs.CurrentLists.and_left (among (in_paths r.0.0.recipe) p) (is_to_run r.0.1) r.2)
 
       restores : is_to_restore image settings progress plan j ≡ is_kept image settings progress plan j
       restores =
@@ -243,7 +244,7 @@ module _ (image : Image) (settings : Settings) (progress : Progress) (J : Jobs) 
       is_to_restore image settings progress plan j ≡ (is_kept image settings progress plan j || list_any needs (gone_outputs image j))
   restores_from j apart =
       any_same _ (λ p. (not (is_whole image p (kind_in j.recipe p)) && is_always_wanted image settings progress plan j p) || (not (is_whole image p (kind_in j.recipe p)) && needs p)) (out_paths j.recipe)
-      (λ p i. ap (λ b. not (is_whole image p (kind_in j.recipe p)) && b) (wanted_is j p) ∙ and_or (not (is_whole image p (kind_in j.recipe p))) (is_always_wanted image settings progress plan j p) (needs p))
+      (λ p i. ap (λ b. not (is_whole image p (kind_in j.recipe p)) && b) (wanted_is j p) ∙ and-or_distrib_left (not (is_whole image p (kind_in j.recipe p))) (is_always_wanted image settings progress plan j p) (needs p))
       ∙ any_or (λ p. not (is_whole image p (kind_in j.recipe p)) && is_always_wanted image settings progress plan j p) (λ p. not (is_whole image p (kind_in j.recipe p)) && needs p) (out_paths j.recipe)
       ∙ ap (λ b. is_kept image settings progress plan j || b) (gone_tests j apart image needs)
 

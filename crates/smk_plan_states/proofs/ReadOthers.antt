@@ -3,6 +3,8 @@ use Rattle.std.proofs.Common.{◌≡◌, ℕ, zero, suc, Bool, true, false, not,
 use Rattle.std.specs.Prelude.{bytes_eq}
 use Rattle.std.specs.List.{list_any, slice_get}
 use Rattle.std.specs.Option.{option_and_then}
+use Rattle.std.proofs.Math.Bool.{and-true, and-false}
+use Rattle.std.specs.Cmp.{both_ways}
 use Rattle.smk_base.proofs.Places.{same_place, place_itself}
 use Rattle.smk_world.specs.World.{in_paths, out_paths}
 use Rattle.smk_world.specs.Trees.{Path, among, first}
@@ -24,7 +26,7 @@ use Rattle.smk_laws_plan.proofs.CurrentLists.{In, in_left, find_in, find_some, n
 use Rattle.smk_laws_plan.proofs.CurrentPaths.{in_among}
 use Rattle.smk_laws_plan.proofs.CurrentApart.{JobsApart, maker_found, makes_above}
 use Rattle.smk_laws_plan.proofs.PlanStates.{any_same}
-use Rattle.smk_plan_states.proofs.Tests.{same_test, any_never, and_true, and_false}
+use Rattle.smk_plan_states.proofs.Tests.{any_never}
 use Rattle.smk_plan_states.proofs.Apart.{each_in, jobs_apart_from}
 use Rattle.smk_plan_states.proofs.Meaning.{found_with}
 use Rattle.smk_plan_states.proofs.Told.{IsReadOf, told_below, read_of}
@@ -110,7 +112,7 @@ module _ (js : List Job) (apart : JobsApart js) (j : Job) (here : In j js) where
           go2 true m =
               let same : i ≡ j = some_inj i j (sym f ∙ found_one js j q apart here m) in
               absurd (none_some (first (out_paths i.recipe)) p n (ap (λ (x : Job). first (out_paths x.recipe)) same ∙ e))
-      one i f (Some x) n = same_test (bytes_eq p x) (makes j q) forth back
+      one i f (Some x) n = both_ways (bytes_eq p x) (makes j q) forth back
         where
           forth : bytes_eq p x ≡ true → makes j q ≡ true
           forth b =
@@ -131,15 +133,15 @@ module _ (js : List Job) (apart : JobsApart js) (j : Job) (here : In j js) where
 
 -- being another one than the reader
 other_split : (reader : Parts) (p : Path) (o : Option Path) → test_some (is_other reader p) o ≡ (not (bytes_eq p (or_empty (first reader.outputs))) && test_some (λ x. bytes_eq p x) o)
-other_split reader p None = sym (and_false (not (bytes_eq p (or_empty (first reader.outputs)))))
+other_split reader p None = sym (and-false (not (bytes_eq p (or_empty (first reader.outputs)))))
 other_split reader p (Some x) = go (bytes_eq p x) refl
   where
     own : Path
     own = or_empty (first reader.outputs)
 
     go : (b : Bool) → bytes_eq p x ≡ b → (b && not (bytes_eq x (or_empty (first reader.outputs)))) ≡ (not (bytes_eq p (or_empty (first reader.outputs))) && b)
-    go false e = sym (and_false (not (bytes_eq p (or_empty (first reader.outputs)))))
-    go true e = ap (λ y. not (bytes_eq y (or_empty (first reader.outputs)))) (sym (same_place p x e)) ∙ sym (and_true (not (bytes_eq p (or_empty (first reader.outputs)))))
+    go false e = sym (and-false (not (bytes_eq p (or_empty (first reader.outputs)))))
+    go true e = ap (λ y. not (bytes_eq y (or_empty (first reader.outputs)))) (sym (same_place p x e)) ∙ sym (and-true (not (bytes_eq p (or_empty (first reader.outputs)))))
 
 module _
     (image : Image) (settings : Settings) (progress : Progress) (J : Jobs) (ss : List State) (targets : List Path)
@@ -177,8 +179,8 @@ module _
         never k =
             ap (λ b. is_some (kept k) && (not (bytes_eq (job_path j) (job_path k)) && b))
             (any_same (makes j) (λ q. false) (in_paths k.recipe) (λ q i. unnamed J.jobs apart j here e q) ∙ any_never (in_paths k.recipe))
-            ∙ ap (λ b. is_some (kept k) && b) (and_false (not (bytes_eq (job_path j) (job_path k))))
-            ∙ and_false (is_some (kept k))
+            ∙ ap (λ b. is_some (kept k) && b) (and-false (not (bytes_eq (job_path j) (job_path k))))
+            ∙ and-false (is_some (kept k))
     by_name (Some p) e =
         told p
         ∙ any_zipped (is_used_by (site_at image J) (map (parts_of image) J.jobs) p) (parts_of image) kept J.jobs

@@ -2,6 +2,7 @@
 use Rattle.std.proofs.Common.{◌≡◌, ℕ, zero, suc, length, arith, Bool, true, false, cond, ◌&&◌, List, [], ◌∷◌, ◌++◌, map, flat_map, find, zip, refl, sym, ap, inl, inr, ◌∙◌, Option, Some, None, option_map, is_some}
 use Rattle.std.specs.List.{slice_get}
 use Rattle.std.specs.Option.{option_and_then}
+use Rattle.std.proofs.Math.Bool.{and-false}
 use Rattle.smk_base.specs.Path.{is_under, overlaps}
 use Rattle.smk_world.specs.World.{in_paths, out_paths}
 use Rattle.smk_world.specs.Trees.{Path, among, folder_over, folders_of}
@@ -32,7 +33,6 @@ use Rattle.smk_laws_plan.proofs.CurrentRecipes.{map_same}
 use Rattle.smk_plan_states.proofs.Apart.{each_in, jobs_apart_from}
 use Rattle.smk_plan_states.proofs.Meaning.{directory_whole}
 use Rattle.smk_plan_states.proofs.Told.{IsReadOf, IsTold, told_below, told_some, read_of}
-use Rattle.smk_plan_states.proofs.Tests.{and_false}
 
 -- ## Makers by number
 
@@ -121,7 +121,7 @@ module _
     where
       go : (o : Option Job) → by q ≡ o → (test_some is_clean (state_at ss s.job) && test_some (stands_whole image q) o) ≡ ready q
       go None e =
-          and_false (test_some is_clean (state_at ss s.job))
+          and-false (test_some is_clean (state_at ss s.job))
           ∙ sym (ap (test_some (λ (e : Job × State). is_clean e.1 && stands_whole image q e.0)) (none_first (maker_of P q) (first_found J.jobs ss q each ∙ e)))
       go (Some j) e = sym (ready_at q s.job j (sym t.maker ∙ e) (find_in (λ j. makes j q) J.jobs j e).1)
 

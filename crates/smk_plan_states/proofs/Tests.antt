@@ -2,39 +2,17 @@
 use Rattle.std.proofs.Common.{◌≡◌, ◌∙◌, Bool, true, false, not, cond, ◌&&◌, ◌||◌, List, [], ◌∷◌, ◌++◌, map, filter, flat_map, refl, sym, ap, Option, Some, is_some}
 use Rattle.std.specs.Prelude.{bytes_eq}
 use Rattle.std.specs.List.{list_any}
-use Rattle.std.proofs.lemmas.List.Folds.{list_any-append}
 use Rattle.smk_base.proofs.Places.{same_place}
 use Rattle.smk_world.specs.Trees.{Path, among}
 use Rattle.smk_chain.specs.Derive.{distinct}
 
 -- ## Booleans
 
-pub and_true : (b : Bool) → (b && true) ≡ b
-and_true true = refl
-and_true false = refl
-
-pub and_false : (b : Bool) → (b && false) ≡ false
-and_false true = refl
-and_false false = refl
-
-pub or_false : (b : Bool) → (b || false) ≡ b
-or_false true = refl
-or_false false = refl
-
 pub or_swap : (a b c d : Bool) → ((a || b) || (c || d)) ≡ ((a || c) || (b || d))
 or_swap true b c d = refl
 or_swap false true true d = refl
 or_swap false true false d = refl
 or_swap false false c d = refl
-
-pub and_or : (n a b : Bool) → (n && (a || b)) ≡ ((n && a) || (n && b))
-and_or true a b = refl
-and_or false a b = refl
-
-pub same_test : (a b : Bool) → (a ≡ true → b ≡ true) → (b ≡ true → a ≡ true) → a ≡ b
-same_test true b h k = sym (h refl)
-same_test false true h k = k refl
-same_test false false h k = refl
 
 pub some_by : {X : Type 0} (b : Bool) (x : X) (o : Option X) → is_some (cond b (Some x) o) ≡ (b || is_some o)
 some_by true x o = refl
@@ -45,10 +23,6 @@ some_by false x o = refl
 pub any_or : {A : Type 0} (f g : A → Bool) (xs : List A) → list_any (λ x. f x || g x) xs ≡ (list_any f xs || list_any g xs)
 any_or f g [] = refl
 any_or f g (x ∷ xs) = ap (λ b. (f x || g x) || b) (any_or f g xs) ∙ or_swap (f x) (g x) (list_any f xs) (list_any g xs)
-
-pub any_flat : {A B : Type 0} (f : B → Bool) (D : A → List B) (xs : List A) → list_any f (flat_map D xs) ≡ list_any (λ x. list_any f (D x)) xs
-any_flat f D [] = refl
-any_flat f D (x ∷ xs) = list_any-append f (D x) (flat_map D xs) ∙ ap (λ b. list_any f (D x) || b) (any_flat f D xs)
 
 pub any_map : {A B : Type 0} (f : B → Bool) (g : A → B) (xs : List A) → list_any f (map g xs) ≡ list_any (λ x. f (g x)) xs
 any_map f g [] = refl

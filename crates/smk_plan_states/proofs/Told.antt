@@ -4,6 +4,8 @@ use Rattle.std.specs.Prelude.{bytes_eq}
 use Rattle.std.specs.List.{list_any, slice_get}
 use Rattle.std.specs.Option.{option_and_then}
 use Rattle.std.proofs.lemmas.List.Folds.{list_any-append}
+use Rattle.std.proofs.Math.Bool.{and-true, or-false}
+use Rattle.smk_choose.proofs.Preferred.{any_flat}
 use Rattle.smk_base.proofs.Places.{same_place, same_flipped}
 use Rattle.smk_world.specs.declared.recipe.Kind.TheVariants.{Folder}
 use Rattle.smk_world.specs.World.{in_paths, out_paths}
@@ -33,7 +35,7 @@ use Rattle.smk_laws_plan.proofs.CurrentLists.{In, none_some, in_left, in_right, 
 use Rattle.smk_laws_plan.proofs.CurrentApart.{Apart, JobsApart}
 use Rattle.smk_laws_plan.proofs.PlanStates.{any_same, any_zip}
 use Rattle.smk_laws_plan.proofs.CurrentRecipes.{flat_same}
-use Rattle.smk_plan_states.proofs.Tests.{or_false, any_or, any_flat, and_true, among_once}
+use Rattle.smk_plan_states.proofs.Tests.{any_or, among_once}
 use Rattle.smk_plan_states.proofs.Apart.{each_in}
 use Rattle.smk_plan_states.proofs.Meaning.{final, first, opens_alike, dirties_alike, fed_alike, maker_is, directory_is, fed_over, fed_gathered, over_at_hand, gone_tests}
 
@@ -216,7 +218,7 @@ module _
       where
         used : (q : Path) → list_any (λ (j : Job). among (in_paths j.recipe) q) J.jobs ≡ is_input P (λ e. true) q
         used q =
-            any_same (λ (j : Job). among (in_paths j.recipe) q) (λ (j : Job). among (in_paths j.recipe) q && true) J.jobs (λ j i. sym (and_true (among (in_paths j.recipe) q)))
+            any_same (λ (j : Job). among (in_paths j.recipe) q) (λ (j : Job). among (in_paths j.recipe) q && true) J.jobs (λ j i. sym (and-true (among (in_paths j.recipe) q)))
             ∙ sym (any_zip late (λ (e : Job × State). among (in_paths e.0.recipe) q && true) J.jobs)
             ∙ ap (λ (xs : List State). list_any (λ (e : Job × State). among (in_paths e.0.recipe) q && true) (zip J.jobs xs)) (sym solved)
 
@@ -251,7 +253,7 @@ module _
           folder j m (Some f) e =
               ap (λ s. not (is_clean s && is_whole image f Folder)) (fed_alike image settings progress J ss j (fed_over image settings progress J ss solved k j q f here i m e))
               ∙ ap not (sym (over_at_hand image settings progress J ss solved apart j q f m e))
-              ∙ sym (or_false (away f))
+              ∙ sym (or-false (away f))
 
           job : (o : Option Job) → by q ≡ o → test_some (λ (d : Directory). not (test_some is_clean (option_map early o) && d.whole)) (over_of image q o) ≡ list_any away (none_or_one (option_and_then (λ (j : Job). folder_over j.recipe q) o))
           job None m = refl

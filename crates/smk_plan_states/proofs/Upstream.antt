@@ -1,8 +1,8 @@
 -- Inputs whose job is Dirty, each once.
-use Rattle.std.proofs.Common.{◌≡◌, ◌∙◌, ℕ, zero, suc, arith, ◌+◌, ◌<◌, length, get_or, drop, add-one, Bool, true, false, not, cond, ◌&&◌, ◌||◌, List, [], ◌∷◌, ◌++◌, map, filter, refl, sym, ap, append_assoc}
+use Rattle.std.proofs.Common.{◌≡◌, ◌∙◌, ℕ, suc, arith, ◌+◌, ◌<◌, length, get_or, drop, add-one, Bool, true, false, not, cond, ◌&&◌, ◌||◌, List, [], ◌∷◌, ◌++◌, map, filter, refl, sym, ap, append_assoc}
 use Rattle.std.specs.Prelude.{bytes_eq, if◌then◌else◌}
 use Rattle.std.proofs.Math.Seq.{drop-cons}
-use Rattle.std.proofs.lemmas.List.{length-map}
+use Rattle.std.proofs.lemmas.List.{length-map, get_or-map}
 use Rattle.smk_base.proofs.Places.{same_place, same_flipped}
 use Rattle.smk_world.specs.Trees.{Path}
 use Rattle.smk_chain.specs.Derive.{distinct}
@@ -92,12 +92,6 @@ module _ (dirty seen later : Path → Bool) (x : Path) (fresh : Bool) (is_fresh 
       ∙ ap (λ ps. found ++ filter left (distinct bytes_eq ps)) (sym next)
       ∙ before
 
--- what stands in a place of a list that is made element by element
-pub made_at : {A B : Type 0} (f : A → B) (xs : List A) (i : ℕ) (d : A) (e : B) → i < length xs → get_or (map f xs) i e ≡ f (get_or xs i d)
-made_at f [] i d e lt = absurd (omega arith)
-made_at f (x ∷ xs) zero d e lt = refl
-made_at f (x ∷ xs) (suc i) d e lt = made_at f xs i d e (omega arith)
-
 -- one more of the directories that are awaited
 pub new_step :
     (listed seen later ready : Path → Bool) (waits : List Wait) (paths : List Path) (i : ℕ) (wait : Wait) (fresh : Bool) (found new : List Path) →
@@ -111,7 +105,7 @@ new_step listed seen later ready waits paths i wait fresh found new e lt is told
     let x = wait.path in
     let size : length waits ≡ length paths = ap length e ∙ length-map paths _ in
     let lt' : i < length paths = omega arith in
-    let same = is ∙ ap (λ ws. get_or ws i wait) e ∙ made_at (λ (d : Path). to_wait d) paths i x wait lt' in
+    let same = is ∙ ap (λ ws. get_or ws i wait) e ∙ get_or-map (λ (d : Path). to_wait d) paths i x wait lt' in
     let path : x ≡ get_or paths i x = ap (λ (w : Wait). w.path) same in
     let flag : wait.ready ≡ ready x = ap (λ (w : Wait). w.ready) same ∙ ap ready (sym path) in
     new_more (λ d. ready d && not (listed d)) seen later x fresh (told ∙ ap (λ r. (r && not (listed x)) && not (seen x)) flag) after found new paths i lt' path made whole before

@@ -2,6 +2,8 @@
 use Rattle.std.proofs.Common.{◌≡◌, Bool, true, List, [], ◌++◌, map, Option, Some, None, sym, ap, subst, ◌∙◌}
 use Rattle.std.specs.Prelude.{◌&&◌, is_none}
 use Rattle.std.specs.List.{filter}
+use Rattle.smk_plan_facts.proofs.Tests.{each_of}
+use Rattle.smk_choose.proofs.Listed.{map_map, map_same}
 use Rattle.smk_world.specs.World.{in_paths, out_paths}
 use Rattle.smk_world.specs.Trees.{Path, among, first}
 use Rattle.smk_flow.specs.declared.job.Job.{Job}
@@ -22,11 +24,9 @@ use Rattle.smk_plan.specs.declared.seen.Sight.{Sight}
 use Rattle.smk_plan.specs.States.{Plan, Progress, HasStates, is_forced, is_ready, is_current, awaited, files_listed, new_listings}
 use Rattle.smk_drive.specs.Moments.{Rules}
 use Rattle.smk_plan_facts.specs.Facts.{having_run, facts_of, told_sources}
-use Rattle.smk_plan_facts.proofs.Tests.{map_twice}
 use Rattle.smk_plan_states.specs.Judged.{with_states, reasons_now, AreJudged}
 use Rattle.smk_plan_table.specs.Parts.{is_source_in, each_or, listing_in, refusals_in}
 use Rattle.smk_plan_table.specs.Plans.{Agree, idle_at, at_rest, HasMadeAt, IsUnrefused, IsRefusedAt}
-use Rattle.smk_plan_table.proofs.Lists.{each_turn, map_same}
 use Rattle.smk_plan_table.proofs.Refused.{refused_first, unrefused_all}
 use Rattle.smk_plan_table.proofs.Idle.{now_alone}
 use Rattle.smk_plan_table.proofs.Told.{source_same, each_or_same, files_same, zip_same}
@@ -84,9 +84,9 @@ module _ (image : Image) (settings : Settings) (ran : List Path) (jobs : Jobs) w
   judged facts reasons forced running f r o n =
       record {
         reasons =
-            r ∙ ap (map reasons_of) f ∙ map_twice reasons_of (facts_of image settings ran (with_states jobs [])) jobs.jobs
+            r ∙ ap (map reasons_of) f ∙ map_map reasons_of (facts_of image settings ran (with_states jobs [])) jobs.jobs
             ∙ map_same (λ j. reasons_of (facts_of image settings ran (with_states jobs []) j)) (reasons_now image settings (having_run ran) jobs) reasons_same jobs.jobs;
-        forced = o ∙ ap (map (λ (x : JobFacts). x.forced)) f ∙ map_twice (λ (x : JobFacts). x.forced) (facts_of image settings ran (with_states jobs [])) jobs.jobs;
+        forced = o ∙ ap (map (λ (x : JobFacts). x.forced)) f ∙ map_map (λ (x : JobFacts). x.forced) (facts_of image settings ran (with_states jobs [])) jobs.jobs;
         running = n;
       }
 
@@ -98,7 +98,7 @@ module _ (image : Image) (settings : Settings) (progress : Progress) (jobs : Job
   current_same ready current r c =
       c ∙ ap (each_or (is_source_in jobs.makers store seen) settings.targets) r
       ∙ each_or_same (is_source_in jobs.makers store seen) (is_source image) (is_ready image settings progress plan) settings.targets
-      (each_turn (λ t. is_source image t ≡ true → among (told_sources jobs.makers) t ≡ true) (λ t. is_source_in jobs.makers store seen t ≡ is_source image t)
+      (each_of (λ t. is_source image t ≡ true → among (told_sources jobs.makers) t ≡ true) (λ t. is_source_in jobs.makers store seen t ≡ is_source image t)
       (λ t told. source_same image jobs.makers store seen t agree.stored agree.sighted.sources told) settings.targets agree.asked)
 
   pub known_same : (folders : List Path) (known : Listings) →

@@ -3,6 +3,7 @@ use Rattle.std.proofs.Common.{◌≡◌, Bool, true, false, not, cond, ◌&&◌,
 use Rattle.std.specs.Prelude.{if◌then◌else◌, bytes_eq, is_none}
 use Rattle.std.specs.List.{list_any}
 use Rattle.std.specs.Option.{option_and_then}
+use Rattle.std.proofs.Math.Bool.{and-true}
 use Rattle.smk_world.specs.World.{in_paths, out_paths}
 use Rattle.smk_world.specs.Trees.{Path}
 use Rattle.smk_flow.specs.declared.job.Job.{Job}
@@ -16,7 +17,7 @@ use Rattle.smk_pick.specs.declared.settings.Settings.{Settings}
 use Rattle.smk_plan.specs.States.{Progress, job_path, is_forced, kept_state, is_restored}
 use Rattle.smk_plan_facts.specs.Facts.{having_run}
 use Rattle.smk_plan_states.specs.Judged.{with_states, reasons_alone, reasons_now}
-use Rattle.smk_plan_states.proofs.Tests.{and_true, any_never}
+use Rattle.smk_plan_states.proofs.Tests.{any_never}
 use Rattle.smk_plan_table.specs.Parts.{idle_in}
 use Rattle.smk_plan_table.specs.Plans.{runs_at, idle_at}
 
@@ -54,7 +55,7 @@ module _ (image : Image) (settings : Settings) (progress : Progress) (all : Jobs
 
 module _ (image : Image) (settings : Settings) (ran : List Path) (jobs : Jobs) where
   marks : (h : Path) → is_marked_but image (is_restored image settings (having_run ran) (with_states jobs [])) h ≡ image.marked h
-  marks h = ap (λ b. image.marked h && not b) (any_never jobs.jobs) ∙ and_true (image.marked h)
+  marks h = ap (λ b. image.marked h && not b) (any_never jobs.jobs) ∙ and-true (image.marked h)
 
   -- every mark counts
   pub now_alone : (j : Job) → reasons_alone image settings (having_run ran) jobs j ≡ reasons_now image settings (having_run ran) jobs j

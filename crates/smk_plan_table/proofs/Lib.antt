@@ -1,6 +1,6 @@
 mod Lists
 mod Refused
-mod Told
+pub mod Told
 mod Idle
 mod Assembled
 pub mod Linked

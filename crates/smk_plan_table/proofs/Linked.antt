@@ -2,6 +2,7 @@
 use Rattle.std.proofs.Common.{◌≡◌, ℕ, Bool, true, false, cond, ◌||◌, List, [], ◌∷◌, map, Option, Some, None, refl, sym, ap, ◌∙◌, bytes_eq}
 use Rattle.std.specs.Prelude.{option_map, is_none, is_some}
 use Rattle.std.specs.List.{filter, find, enumerate_from, AllByRecursion}
+use Rattle.std.proofs.Math.Bool.{or-true}
 use Rattle.smk_base.proofs.Places.{same_place, place_itself}
 use Rattle.smk_world.specs.Trees.{Path, Each, among}
 use Rattle.smk_flow.specs.Flows.{Flow}
@@ -24,16 +25,12 @@ chosen_by flow S p b =
     ]
 
 -- nothing makes a source
-source_unmade : (flow : Flow) (S : Sources) (p : Path) → S.is p ≡ true → maker (choose flow S p) ≡ None
+pub source_unmade : (flow : Flow) (S : Sources) (p : Path) → S.is p ≡ true → maker (choose flow S p) ≡ None
 source_unmade flow S p e = ap (λ b. maker (chosen_by flow S p b)) e
 
 told_some : (n : Option ℕ) (o : Option (Option ℕ)) → is_some o ≡ true → ((k : Option ℕ) → o ≡ Some k → k ≡ n) → o ≡ Some n
 told_some n None h right = absurd cc
 told_some n (Some k) h right = ap Some (right k refl)
-
-or_true : (b : Bool) → (b || true) ≡ true
-or_true true = refl
-or_true false = refl
 
 job_none : (o : Option ℕ) → Some o ≡ Some None → o ≡ None
 job_none None e = refl
@@ -51,7 +48,7 @@ source_told (m ∷ makers) t e = go (source_told makers t) (bytes_eq m.path t) r
     rest = filter (λ (x : Maker). is_none x.job) makers
 
     later : (b : Bool) → among (map (λ (x : Maker). x.path) rest) t ≡ true → paths_among m rest t b ≡ true
-    later true h = ap (λ b. bytes_eq t m.path || b) h ∙ or_true (bytes_eq t m.path)
+    later true h = ap (λ b. bytes_eq t m.path || b) h ∙ or-true (bytes_eq t m.path)
     later false h = h
 
     go : (maker_told makers t ≡ Some None → among (told_sources makers) t ≡ true) → (b : Bool) → bytes_eq m.path t ≡ b → among (told_sources (m ∷ makers)) t ≡ true

@@ -21,10 +21,6 @@ module _ {A : Type 0} where
   each_back P [] ys h = h
   each_back P (x ∷ xs) ys h = each_back P xs ys h.1
 
-  pub each_turn : (P Q : A → Type 0) → ((x : A) → P x → Q x) → (xs : List A) → Each P xs → Each Q xs
-  each_turn P Q h [] k = tt
-  each_turn P Q h (x ∷ xs) k = (h x k.0, each_turn P Q h xs k.1)
-
   -- tests that tell the same of each let the same pass
   pub filter_same : (f g : A → Bool) (xs : List A) → Each (λ x. f x ≡ g x) xs → filter f xs ≡ filter g xs
   filter_same f g [] h = refl
@@ -43,27 +39,11 @@ module _ {A : Type 0} where
   none_there [] e = refl
   none_there (x ∷ xs) e = absurd cc
 
-  pub empty_front : (xs ys : List A) → xs ++ ys ≡ [] → xs ≡ []
-  empty_front [] ys e = refl
-  empty_front (x ∷ xs) ys e = absurd cc
-
-  pub empty_back : (xs ys : List A) → xs ++ ys ≡ [] → ys ≡ []
-  empty_back [] ys e = e
-  empty_back (x ∷ xs) ys e = absurd cc
-
 one_tested : {A B : Type 0} (f : A → B) (x : A) (xs : List A) (b : Bool) → (if b then f x ∷ [] else []) ++ map f xs ≡ map f (cond b (x ∷ xs) xs)
 one_tested f x xs true = refl
 one_tested f x xs false = refl
 
 module _ {A B : Type 0} where
-  pub map_same : (f g : A → B) → ((x : A) → f x ≡ g x) → (xs : List A) → map f xs ≡ map g xs
-  map_same f g h [] = refl
-  map_same f g h (x ∷ xs) = ap (λ y. y ∷ map f xs) (h x) ∙ ap (λ ys. g x ∷ ys) (map_same f g h xs)
-
-  pub each_mapped : (Q : B → Type 0) (f : A → B) (xs : List A) → Each (λ x. Q (f x)) xs → Each Q (map f xs)
-  each_mapped Q f [] h = tt
-  each_mapped Q f (x ∷ xs) h = (h.0, each_mapped Q f xs h.1)
-
   pub each_flat : (P : A → Type 0) (Q : B → Type 0) (f : A → List B) → ((x : A) → P x → Each Q (f x)) → (xs : List A) → Each P xs → Each Q (flat_map f xs)
   each_flat P Q f h [] k = tt
   each_flat P Q f h (x ∷ xs) k = each_join Q (f x) (flat_map f xs) (h x k.0) (each_flat P Q f h xs k.1)

@@ -3,6 +3,9 @@ use Rattle.std.proofs.Common.{◌≡◌, Bool, true, false, cond, ◌||◌, List
 use Rattle.std.specs.Prelude.{if◌then◌else◌, zip, nat_lt}
 use Rattle.std.specs.List.{filter, flat_map}
 use Rattle.std.proofs.lemmas.List.{map-append}
+use Rattle.smk_plan_facts.proofs.Tests.{each_of, each_map}
+use Rattle.smk_chain_walk.proofs.Depths.{front_nil, back_nil}
+use Rattle.smk_choose.proofs.Listed.{map_map}
 use Rattle.smk_base.specs.declared.tree.Amount.{Amount}
 use Rattle.smk_world.specs.declared.recipe.Out.{Out}
 use Rattle.smk_world.specs.declared.recipe.OutItem.{OutItem}
@@ -29,8 +32,7 @@ use Rattle.smk_drive.specs.Moments.{Rules}
 use Rattle.smk_drive.specs.Refusals.{unless_empty, incomplete, guarded, above_limit, is_ahead, ahead, of_command, refused_of}
 use Rattle.smk_plan_table.specs.Parts.{is_marked_in, is_guarded_in, is_before, before_in, unless_none, marked_in, guarded_in, above_by, above_of, above_in, all_above, paths_in, outputs_of, refusals_in}
 use Rattle.smk_plan_table.specs.Plans.{idle_at, IsUnrefused, fault_in}
-use Rattle.smk_plan_table.proofs.Lists.{each_join, each_front, each_back, filter_same, behind, none_there, empty_front, empty_back, each_mapped, each_flat, each_turn, map_flat, tested}
-use Rattle.smk_plan_facts.proofs.Tests.{map_twice}
+use Rattle.smk_plan_table.proofs.Lists.{each_join, each_front, each_back, filter_same, behind, none_there, each_flat, map_flat, tested}
 
 -- ## Outputs
 
@@ -38,7 +40,7 @@ of_items : (Q : Path → Type 0) (items : List OutItem) → Each (λ (o : Out). 
 of_items Q [] h = tt
 of_items Q (i ∷ items) h =
     each_join Q (map (λ (o : Out). o.path) i.outs) (paths_in items)
-    (each_mapped Q (λ (o : Out). o.path) i.outs (each_front (λ (o : Out). Q o.path) i.outs (flat_map (λ (i : OutItem). i.outs) items) h))
+    (each_map Q (λ (o : Out). o.path) i.outs (each_front (λ (o : Out). Q o.path) i.outs (flat_map (λ (i : OutItem). i.outs) items) h))
     (of_items Q items (each_back (λ (o : Out). Q o.path) i.outs (flat_map (λ (i : OutItem). i.outs) items) h))
 
 -- what holds of the outputs of each job holds of all outputs
@@ -129,12 +131,12 @@ module _ (rules : Rules) (image : Image) (progress : Progress) (plan : Plan) whe
   guards_same : (seen : List Sight) (front : List Job) → Each (λ (j : Job). Each (λ (o : Out). IsSeenAs image seen o.path) (outs_of j.recipe)) front →
       map (fault_in rules.flow) (guarded_in seen front) ≡ map fault.Protected (filter (is_guarded image) (outputs_of front))
   guards_same seen front h =
-      map_twice (fault_in rules.flow) refused.Protected (filter (is_guarded_in seen) (outputs_of front))
+      map_map (fault_in rules.flow) refused.Protected (filter (is_guarded_in seen) (outputs_of front))
       ∙ ap (map fault.Protected) (filter_same (is_guarded_in seen) (is_guarded image) (outputs_of front)
       (of_outputs (λ p. is_guarded_in seen p ≡ is_guarded image p) front
-      (each_turn (λ (j : Job). Each (λ (o : Out). IsSeenAs image seen o.path) (outs_of j.recipe))
+      (each_of (λ (j : Job). Each (λ (o : Out). IsSeenAs image seen o.path) (outs_of j.recipe))
       (λ (j : Job). Each (λ (o : Out). is_guarded_in seen o.path ≡ is_guarded image o.path) (outs_of j.recipe))
-      (λ (j : Job). each_turn (λ (o : Out). IsSeenAs image seen o.path) (λ (o : Out). is_guarded_in seen o.path ≡ is_guarded image o.path)
+      (λ (j : Job). each_of (λ (o : Out). IsSeenAs image seen o.path) (λ (o : Out). is_guarded_in seen o.path ≡ is_guarded image o.path)
       (λ (o : Out). guarded_same image seen o.path) (outs_of j.recipe))
       front h)))
 
@@ -192,5 +194,5 @@ module _ (rules : Rules) (image : Image) (progress : Progress) (plan : Plan) whe
       let C = flat_map (above_limit rules image progress plan) (ahead rules image progress plan) in
       let empty : A ++ (B ++ C) ≡ [] =
       sym (refusals_same store seen s h) ∙ ap (map (fault_in rules.flow)) (none_there (refusals_in store seen rules.settings progress.begun (idle_at progress plan.jobs) plan.jobs plan.states) e) in
-      let later = empty_back A (B ++ C) empty in
-      record { complete = empty_front A (B ++ C) empty; unguarded = empty_front B C later; within = empty_back B C later }
+      let later = back_nil A (B ++ C) empty in
+      record { complete = front_nil A (B ++ C) empty; unguarded = front_nil B C later; within = back_nil B C later }

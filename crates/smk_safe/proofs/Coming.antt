@@ -41,7 +41,7 @@ use Rattle.smk_made.specs.Running.{IsOrderly, LeavesAlone, AreArranged, IsMade, 
 use Rattle.smk_run.proofs.Calls.{each_first}
 use Rattle.smk_made.proofs.Disjoint.{flipped}
 use Rattle.smk_made.proofs.Kept.{apart_differ, differ_first}
-use Rattle.smk_made.proofs.Running.{done_turns_leave}
+use Rattle.smk_made.proofs.Running.{done_turns_leave, orderly_each}
 use Rattle.smk_made.proofs.Sparing.{IsOffTurn, turns_kept}
 use Rattle.smk_safe.specs.Turning.{IsAtRest, opened, MayComeNext, AllAreFound}
 use Rattle.smk_safe.specs.Ready.{IsThere, FromSource, FromTurn, FromRest, stamp_of, IsRecordedSo, draws, greatest_after, HasItsSerial, IsReady}
@@ -117,10 +117,6 @@ in_own t p i = first (out_paths t.job.recipe) i
     first [] k = absurd k
     first (x ∷ ps) (inl e) = inl e
     first (x ∷ ps) (inr k) = inr (first ps k)
-
-pub orderly_each : (ts : List Turn) → AreArranged ts → Each IsOrderly ts
-orderly_each [] h = tt
-orderly_each (t ∷ ts) h = (h.0, orderly_each ts h.3)
 
 -- what a later turn owns none of the earlier ones makes
 own_not_made : (t : Turn) (p : Path) (ts : List Turn) → IsIn (owned t) p → Each (λ (u : Turn). LeavesAlone u t) ts → NoneMakes p ts

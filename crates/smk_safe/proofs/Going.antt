@@ -1,6 +1,7 @@
 -- Turns that are ready are a run of the protocol.
 use Rattle.std.proofs.Common.{◌≡◌, inl, inr, ℕ, true, List, [], ◌∷◌, ◌++◌, refl, ap, sym, subst, ◌∙◌, append_assoc, IsTrue}
 use Rattle.std.proofs.lemmas.List.{append-nil}
+use Rattle.smk_run.proofs.Running.{turns_next, done_closed}
 use Rattle.smk_world.specs.declared.event.Event.{Event}
 use Rattle.smk_world.specs.declared.event.Child.{Child}
 use Rattle.smk_world.specs.World.{World, Throughout, run, out_paths}
@@ -18,7 +19,7 @@ use Rattle.smk_laws_protocol.proofs.MidwayHolds.{holds_midway}
 use Rattle.smk_laws_protocol.proofs.ProtocolHolds.{protocol_law}
 use Rattle.smk_laws_job.specs.Laws.{IsRecordable}
 use Rattle.smk_run.specs.Stamps.{Serials}
-use Rattle.smk_run.specs.Turns.{Course, Unbegun, Unstarted, Unclosed, Closed, Turn, IsTurn, AreTurns, is_begun, is_closed, is_done}
+use Rattle.smk_run.specs.Turns.{Course, Unbegun, Unstarted, Unclosed, Closed, Turn, AreTurns, is_begun, is_closed, is_done}
 use Rattle.smk_made.specs.Leaving.{owned, AreInputsApart}
 use Rattle.smk_made.specs.Running.{IsOrderly, LeavesAlone, AreArranged}
 use Rattle.smk_run.proofs.Calls.{each_append, each_first}
@@ -44,23 +45,6 @@ alone_before (x ∷ xs) t ys h = (each_in (LeavesAlone x) (xs ++ t ∷ ys) t h.2
 arranged_here : (xs : List Turn) (t : Turn) (ys : List Turn) → AreArranged (xs ++ t ∷ ys) → IsOrderly t × AreInputsApart t
 arranged_here [] t ys h = (h.0, h.1)
 arranged_here (x ∷ xs) t ys h = arranged_here xs t ys h.3
-
-turns_append : (made : Serials) (ts : List Turn) (t : Turn) (w : World) (es first : List Event) → AreTurns made ts w es → IsTurn made t (run w es) first → AreTurns made (ts ++ t ∷ []) w (es ++ first)
-turns_append made [] t w es first none is =
-    subst (λ l. AreTurns made (t ∷ []) w (l ++ first)) (sym none) (first, [], sym (append-nil first), subst (λ l. IsTurn made t (run w l) first) none is, refl)
-turns_append made (u ∷ ts) t w es first (f, more, e, one, next) is = (
-  f,
-  more ++ first,
-  ap (λ l. l ++ first) e ∙ append_assoc f more first,
-  one,
-  turns_append made ts t (run w f) more first next (subst (λ v. IsTurn made t v first) (ap (run w) e ∙ run_append w f more) is),
-)
-
-pub done_closed : (c : Course) → is_done c ≡ true → is_closed c ≡ true
-done_closed Unbegun h = h
-done_closed Unstarted h = h
-done_closed Unclosed h = h
-done_closed (Closed ending) h = refl
 
 pub done_begun : (c : Course) → is_done c ≡ true → is_begun c ≡ true
 done_begun Unbegun h = h
@@ -186,7 +170,7 @@ module _ (o : Outside) (entry : World) (H : Versions) (top : ℕ) (sound : Sound
                 paths = each_append (λ (u : Turn). Each (λ p. IsTrue (is_path_text p)) (out_paths u.job.recipe)) before (t ∷ []) h.paths (out_first t ready_here.paths, tt);
                 records = each_append (λ (u : Turn). Each (IsRecordable (opened u [])) (out_paths u.job.recipe)) before (t ∷ []) h.records (ready_here.records (done_begun t.course done), tt);
                 follows = follows_append o.act start es first h.follows split.0;
-                turns = turns_append made before t start es first h.turns is;
+                turns = turns_next made before t start es first h.turns is;
                 runs = subst (λ l. Runs o (at_entry o top) entry l s1) same_events (subst (λ x. Runs o (at_entry o top) entry ((before_all ++ es) ++ first) x) end_is runs_one);
                 at_rest = rest_with s top_now h.at_rest;
                 serial = refl;

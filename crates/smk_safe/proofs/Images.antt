@@ -1,7 +1,8 @@
 -- What two worlds' images have in common.
-use Rattle.std.proofs.Common.{◌≡◌, inl, inr, ℕ, Bool, true, false, ◌&&◌, cond, List, [], ◌∷◌, refl, ap, sym, subst, ◌∙◌, Option, Some, None}
+use Rattle.std.proofs.Common.{◌≡◌, ℕ, Bool, true, false, ◌&&◌, List, [], ◌∷◌, refl, ap, sym, subst, ◌∙◌, Option, Some, None}
 use Rattle.std.specs.Prelude.{is_some, option_map, reverse, if◌then◌else◌}
 use Rattle.std.specs.List.{find}
+use Rattle.smk_laws_protocol.proofs.Holders.{found_same}
 use lib.Pointwise.{pointwise}
 use Rattle.smk_base.specs.Path.{is_at_or_under}
 use Rattle.smk_base.specs.Place.{record_place, mark_place}
@@ -9,9 +10,9 @@ use Rattle.smk_base.proofs.Places.{place_itself}
 use Rattle.smk_base.proofs.Under.{at_itself, at_when_under, both_true}
 use Rattle.smk_world.specs.declared.recipe.Kind.{Kind}
 use Rattle.smk_world.specs.declared.recipe.Kind.TheVariants.{Plain, Folder as FolderKind}
-use Rattle.smk_world.specs.World.{World, IsFormed, Leaves, MayLeave, reading, reads, folders_above}
-use Rattle.smk_world.specs.Trees.{Path, IsIn, is_path_text}
-use Rattle.smk_world.proofs.Names.{reads_there, reads_rising}
+use Rattle.smk_world.specs.World.{World, IsFormed, reading, reads, folders_above}
+use Rattle.smk_world.specs.Trees.{Path, is_path_text}
+use Rattle.smk_world.proofs.Names.{reads_may_stay}
 use Rattle.smk_record.specs.declared.record.Member.{Member}
 use Rattle.smk_record.specs.declared.record.Record.{Record}
 use Rattle.smk_record.specs.Records.{core, members_of, same_flag, same_member}
@@ -21,7 +22,6 @@ use Rattle.smk_store.specs.Soundness.{Outside, SoundWorld, SameSources, told}
 use Rattle.smk_store.specs.Trust.{Versions, holder, is_folder_record}
 use Rattle.smk_laws_protocol.specs.Protocol.{now}
 use Rattle.smk_laws_protocol.specs.Midway.{HasSafeImages}
-use Rattle.smk_laws_protocol.proofs.Marking.{reads_stay}
 use Rattle.smk_laws_protocol.proofs.TextFolders.{folder_above}
 use Rattle.smk_laws_plan.proofs.CurrentLists.{find_in}
 use Rattle.smk_laws_plan.proofs.CurrentMeaning.{source_file, source_reads}
@@ -55,16 +55,11 @@ module _ (read : List ℕ → Option Record) (w v : World) where
 
 -- ## Whose record speaks for a path
 
-find_same : (f g : Path → Bool) (xs : List Path) → ((x : Path) → IsIn xs x → f x ≡ g x) → find f xs ≡ find g xs
-find_same f g [] h = refl
-find_same f g (x ∷ xs) h =
-    ap (λ b. cond b (Some x) (find f xs)) (h x (inl refl)) ∙ ap (λ (r : Option Path). cond (g x) (Some x) r) (find_same f g xs (λ y i. h y (inr i)))
-
 pub holder_same : (i j : Image) (p : Path) → ((f : Path) → is_at_or_under p f ≡ true → core_at j f ≡ core_at i f) → holder j p ≡ holder i p
 holder_same i j p same =
     ap (λ (c : Option Record). if is_some c then Some p else find (λ f. is_folder_record f (core_at j f)) (reverse (folders_above p))) (same p (at_itself p))
     ∙ ap (λ (r : Option Path). if is_some (core_at i p) then Some p else r)
-    (find_same (λ f. is_folder_record f (core_at j f)) (λ f. is_folder_record f (core_at i f)) (reverse (folders_above p))
+    (found_same (λ f. is_folder_record f (core_at j f)) (λ f. is_folder_record f (core_at i f)) (reverse (folders_above p))
     (λ f k. ap (is_folder_record f) (same f (at_when_under p f (folder_above p f k)))))
 
 pub holder_over : (i : Image) (p h : Path) → holder i p ≡ Some h → is_at_or_under p h ≡ true
@@ -85,7 +80,7 @@ holder_own i p r e = ap (λ (c : Option Record). if is_some c then Some p else f
 
 -- ## Members
 
-flag_itself : (b : Bool) → same_flag b b ≡ true
+pub flag_itself : (b : Bool) → same_flag b b ≡ true
 flag_itself true = refl
 flag_itself false = refl
 
@@ -134,16 +129,9 @@ same_back a b h = λ p. sym (h p)
 pub same_then : (a b c : Image) → SameSources a b → SameSources b c → SameSources a c
 same_then a b c h k = λ p. k p ∙ h p
 
--- a crash may leave the world as it reads
-leaves_now : (w : World) → IsFormed w → Leaves w (reads w)
-leaves_now w formed = record {
-  each = λ q. subst (MayLeave (w.nodes q)) (sym (reads_there w q formed)) (reads_stay (w.nodes q));
-  rising = reads_rising w formed;
-}
-
 -- the sources of a world in which no child runs are those of the entry
 pub sources_now : (o : Outside) (entry w : World) (H : Versions) → SoundWorld o w H → HasSafeImages o entry w H → SameSources (now o entry) (now o w)
 sources_now o entry w H sound safe =
     let nodes = reads w in
-    let leaves = leaves_now w sound.formed in
+    let leaves = reads_may_stay w sound.formed in
     same_then (now o entry) (image_of o.read nodes) (now o w) (safe nodes leaves).1 (same_back (now o w) (image_of o.read nodes) (sound.same_sources nodes leaves))

@@ -1,6 +1,7 @@
 -- Runs of the protocol one after another, and looks as such a run.
 use Rattle.std.proofs.Common.{◌≡◌, inl, inr, true, false, ◌||◌, List, [], ◌∷◌, ◌++◌, refl, ap, sym, subst, ◌∙◌, IsTrue, Ok, Err, true≢false}
 use Rattle.std.specs.Prelude.{filter}
+use Rattle.smk_laws_job.proofs.FinishRuns.{look_ok}
 use Rattle.smk_world.specs.declared.event.Call.{Call}
 use Rattle.smk_world.specs.declared.event.Call.TheVariants.{Looked, ReadFile, ReadFolder, Written, Created, Removed, MadeParents, Settled, Protected, Started, Waited}
 use Rattle.smk_world.specs.declared.event.Change.{Change}
@@ -62,19 +63,6 @@ look_by o (Settled ps r) h = absurd h
 look_by o (Protected p r) h = absurd h
 look_by o (Started recipe logs command r) h = absurd h
 look_by o (Waited r) h = absurd h
-
-look_ok : (o : Outside) (c : Call) → IsLook o c → IsLook o (as_ok c)
-look_ok o (Looked p r) h = tt
-look_ok o (ReadFile p limit r) h = tt
-look_ok o (ReadFolder p r) h = tt
-look_ok o (Written p bytes r) h = absurd h
-look_ok o (Created p r) h = absurd h
-look_ok o (Removed p r) h = absurd h
-look_ok o (MadeParents p r) h = absurd h
-look_ok o (Settled ps r) h = absurd h
-look_ok o (Protected p r) h = absurd h
-look_ok o (Started recipe logs command r) h = absurd h
-look_ok o (Waited r) h = absurd h
 
 abbrev pub AreLooks : Outside → List Event → Type 0
 AreLooks o es = Each (λ (e : Event). IsLook o e.call) es

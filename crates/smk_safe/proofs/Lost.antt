@@ -1,18 +1,17 @@
 -- A job that failed leaves nothing of its outputs, their records and marks.
-use Rattle.std.proofs.Common.{◌≡◌, ◌⊎◌, inl, inr, ℕ, Bool, true, false, List, [], ◌∷◌, ◌++◌, map, refl, ap, sym, subst, ◌∙◌, None, Ok, append_assoc, IsTrue, true≢false}
+use Rattle.std.proofs.Common.{◌≡◌, inl, inr, ℕ, true, false, List, [], ◌∷◌, ◌++◌, map, refl, ap, sym, subst, ◌∙◌, None, Ok, append_assoc, IsTrue, true≢false}
+use Rattle.smk_made.proofs.Running.{record_marks}
 use Rattle.smk_base.specs.Path.{is_path, is_at_or_under}
 use Rattle.smk_base.specs.Place.{record_place, mark_place}
 use Rattle.smk_base.proofs.Under.{or_cases, or_first, or_second, at_itself}
 use Rattle.smk_world.specs.declared.event.Change.{Change}
 use Rattle.smk_world.specs.declared.event.Ended.{Ended}
 use Rattle.smk_world.specs.declared.event.Event.{Event}
-use Rattle.smk_world.specs.declared.event.NodeState.{NodeState}
-use Rattle.smk_world.specs.declared.event.NodeState.TheVariants.{Owned, Known}
 use Rattle.smk_world.specs.World.{World, after, run, is_within, in_paths, out_paths, firmly}
-use Rattle.smk_world.specs.Calls.{Reads, started_numbers}
+use Rattle.smk_world.specs.Calls.{started_numbers}
 use Rattle.smk_world.specs.Runs.{Follows}
 use Rattle.smk_world.specs.Requests.{Request, HasDone}
-use Rattle.smk_world.specs.Requests.Request.{Look, ReadUpTo, ListFolder, Write, Create, Remove, MakeParents, Settle, Protect, Start, Wait}
+use Rattle.smk_world.specs.Requests.Request.{Settle}
 use Rattle.smk_world.specs.Trees.{Path, Act, Each, IsIn, outs_of}
 use Rattle.smk_world.proofs.Runs.{run_append}
 use Rattle.smk_world.proofs.Owners.{numbered_after, numbered_run, owned_after, owned_run}
@@ -23,9 +22,9 @@ use Rattle.smk_job.specs.declared.fault.CloseFault.{CloseFault}
 use Rattle.smk_job.specs.declared.fault.CloseFault.TheVariants as fault
 use Rattle.smk_job.specs.Jobs.{begin_requests, abandon_requests, drop_all_requests, lose_requests}
 use Rattle.smk_job.specs.Sights.{IsAbandoned}
-use Rattle.smk_job.proofs.Children.{AreFiles, is_crew, files_append, remove_files, drop_files}
+use Rattle.smk_job.proofs.Children.{is_crew, remove_files, drop_files}
 use Rattle.smk_job.proofs.Launching.{before_start, before_files}
-use Rattle.smk_job.proofs.Single.{touches, KeepsOff, Reaches, done_reaches, step_keeps, IsKnown, step_known, removed, settled_firm, firmly_none}
+use Rattle.smk_job.proofs.Single.{Reaches, done_reaches, settled_firm, firmly_none}
 use Rattle.smk_job.proofs.Firmly.{reaches_split, reaches_keeps}
 use Rattle.smk_run.specs.declared.ending.Ending.{Ending}
 use Rattle.smk_run.specs.declared.ending.Ending.TheVariants.{Good, Status, NoOutput, WrongKind, BadMember}
@@ -33,62 +32,16 @@ use Rattle.smk_run.specs.Stamps.{Serials, AreStamped}
 use Rattle.smk_run.specs.Closings.{wait_event, HasWaited, HasSettled}
 use Rattle.smk_run.specs.Turns.{Course, Unbegun, Unstarted, Unclosed, Closed, Turn, found, as_underway, HasGone, HasBegunAnd, HasStampedAnd, IsTurnBy, is_closed, is_done}
 use Rattle.smk_made.specs.Leaving.{MayCome}
-use Rattle.smk_made.proofs.Keeping.{bothers}
 use Rattle.smk_run.proofs.Calls.{EachCall}
 use Rattle.smk_run.proofs.Calls.{each_first, OfLooks, stamped_each, wrong_each}
 use Rattle.smk_made.proofs.Done.{follows_split, idle_known}
-use Rattle.smk_made.proofs.Kept.{IsAllKnown, all_known, within_outside}
-use Rattle.smk_made.proofs.Sparing.{Spared, else_apart, marks_else, spared_unmark}
+use Rattle.smk_made.proofs.Kept.{IsAllKnown, all_known, within_outside, keeps_off, still_none, all_removed, unmark_files}
+use Rattle.smk_made.proofs.Sparing.{else_apart, marks_else, spared_unmark}
 use Rattle.smk_run.proofs.Telling.{files_children, started_after}
 use Rattle.smk_made.proofs.Starting.{has_ended}
 use Rattle.smk_safe.specs.Lost.{IsLost, FailedTurnLeaves}
-use Rattle.smk_safe.proofs.Off.{record_marks}
-
-bool_cases : (b : Bool) → (b ≡ true) ⊎ (b ≡ false)
-bool_cases true = inl refl
-bool_cases false = inr refl
-
--- ## Calls that touch nothing at a place
-
-off_one : (r : Request) (q : Path) → is_crew r ≡ false → bothers true r q ≡ false → touches r q ≡ false
-off_one (Look p) q k h = refl
-off_one (ReadUpTo p limit) q k h = refl
-off_one (ListFolder p) q k h = refl
-off_one (Write p bytes) q k h = h
-off_one (Create p) q k h = h
-off_one (Remove p) q k h = h
-off_one (MakeParents p) q k h = h
-off_one (Settle ps) q k h = h
-off_one (Protect p) q k h = h
-off_one (Start recipe logs command) q k h = absurd (true≢false k)
-off_one Wait q k h = absurd (true≢false k)
-
-off_all : (rs : List Request) (q : Path) → AreFiles rs → Spared true q rs → KeepsOff rs q
-off_all [] q k h = tt
-off_all (r ∷ rs) q k h = (off_one r q k.0 h.0, off_all rs q k.1 h.1)
-
-unmark_files : (ps logs : List Path) → AreFiles (unmark_requests (places_of ps logs))
-unmark_files ps logs = files_append (remove_each (map mark_place ps)) (Settle (map mark_place ps) ∷ []) (remove_files (map mark_place ps)) (refl, tt)
 
 -- ## What is removed
-
-known_none : (s : NodeState) → Reads None s → IsKnown s
-known_none Owned h = absurd h
-known_none (Known now besides) h = tt
-
-still_none : (act : Act) (ps : List Path) (w v : World) (q : Path) → Reaches act (remove_each ps) w v → Reads None (w.nodes q) → Reads None (v.nodes q)
-still_none act [] w v q h none = subst (λ (x : World). Reads None (x.nodes q)) (sym h) none
-still_none act (p ∷ ps) w v q (u, st, more) none = still_none act ps u v q more (elim (bool_cases (is_at_or_under q p)) [
-  | inl at ↦ removed act p w u q st at (known_none (w.nodes q) none)
-  | inr off ↦ subst (Reads None) (sym (step_keeps act (Remove p) w u q st off)) none
-])
-
-all_removed : (act : Act) (ps : List Path) (w v : World) (q : Path) → Reaches act (remove_each ps) w v → IsAllKnown w → is_within q ps ≡ true → Reads None (v.nodes q)
-all_removed act [] w v q h known within = absurd (true≢false (sym within))
-all_removed act (p ∷ ps) w v q (u, st, more) known within = elim (or_cases (is_at_or_under q p) (is_within q ps) within) [
-  | inl at ↦ still_none act ps u v q more (removed act p w u q st at (known q))
-  | inr later ↦ all_removed act ps u v q more (λ x. step_known act (Remove p) w u x st refl (known x)) later
-]
 
 within_first : (q : Path) (ps qs : List Path) → is_within q ps ≡ true → is_within q (ps ++ qs) ≡ true
 within_first q [] qs h = absurd (true≢false (sym h))
@@ -145,10 +98,10 @@ lost_one act outs logs w es paths known follows done p i =
       output = λ q at.
           let within = within_at p q outs i at in
           let out = within_outside q outs paths within in
-          reaches_keeps act unmark b v q parts.2 (off_all unmark q (unmark_files outs logs) (spared_unmark true outs logs q (marks_else true outs q out))) ∙ out_gone q within;
+          reaches_keeps act unmark b v q parts.2 (keeps_off unmark q (unmark_files outs logs) (spared_unmark true outs logs q (marks_else true outs q out))) ∙ out_gone q within;
       record_gone =
           reaches_keeps act unmark b v (record_place p) parts.2
-          (off_all unmark (record_place p) (unmark_files outs logs) (spared_unmark true outs logs (record_place p) (else_apart true marks (record_place p) (record_marks p outs))))
+          (keeps_off unmark (record_place p) (unmark_files outs logs) (spared_unmark true outs logs (record_place p) (else_apart true marks (record_place p) (record_marks p outs))))
           ∙ gone act records dropping a b (record_place p) firsts.2 known_a (within_map record_place p outs i) (within_second (record_place p) outs records (within_map record_place p outs i));
       mark_gone = gone act marks marks b v (mark_place p) parts.2 known_b (within_map mark_place p outs i) (within_map mark_place p outs i);
     }

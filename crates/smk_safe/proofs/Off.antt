@@ -1,18 +1,20 @@
 -- Records and marks of paths that a turn doesn't make are left alone by it.
-use Rattle.std.proofs.Common.{◌≡◌, ◌⊎◌, inl, inr, Bool, true, false, List, [], ◌∷◌, ◌++◌, map, refl, ap, sym, ◌∙◌, bytes_eq, IsTrue, true≢false}
+use Rattle.std.proofs.Common.{◌≡◌, ◌⊎◌, inl, inr, Bool, true, false, List, [], ◌∷◌, map, refl, ap, sym, ◌∙◌, bytes_eq, true≢false}
 use Rattle.std.specs.List.{list_any}
-use Rattle.smk_base.specs.Path.{is_path, own_folder, is_at_or_under, overlaps}
+use Rattle.std.proofs.lemmas.Bool.{or_parts}
+use Rattle.smk_made.proofs.Running.{users_apart, record_marks, record_notes, mark_records, mark_notes}
+use Rattle.smk_laws_job.proofs.Abandoning.{in_first}
+use Rattle.smk_base.specs.Path.{own_folder, is_at_or_under, overlaps}
 use Rattle.smk_base.specs.Place.{record_place, mark_place, note_place}
 use Rattle.smk_base.proofs.Places.{place_itself}
 use Rattle.smk_base.proofs.Under.{false_unless, never_both}
-use Rattle.smk_base.proofs.Apart.{IsApart, apart_flipped, path-own, record-record, record-mark, record-note, mark-mark, mark-note, note-note}
+use Rattle.smk_base.proofs.Apart.{IsApart, record-record, record-note, mark-mark, mark-note, note-note}
 use Rattle.smk_world.specs.World.{out_paths, is_named}
 use Rattle.smk_world.specs.Trees.{Path, IsIn, Each, among}
 use Rattle.smk_run.specs.Turns.{Turn}
 use Rattle.smk_laws_plan.proofs.CurrentPaths.{among_in}
 use Rattle.smk_made.specs.Leaving.{owned}
 use Rattle.smk_made.specs.Running.{IsOrderly}
-use Rattle.smk_made.proofs.Keeping.{or_false}
 use Rattle.smk_made.proofs.Sparing.{else_apart, IsOffTurn, off_overlap}
 use Rattle.smk_laws_protocol.proofs.Basics.{none_of}
 
@@ -23,12 +25,8 @@ makes q t = among (out_paths t.job.recipe) q
 named_differ : (q : Path) (ps : List Path) → is_named q ps ≡ false → Each (λ p. p ≡ q → ⊥) ps
 named_differ q [] h = tt
 named_differ q (p ∷ ps) h =
-    let both = or_false (bytes_eq q p) (is_named q ps) h in
+    let both = or_parts (bytes_eq q p) (is_named q ps) h in
     (λ e. true≢false (sym (place_itself p) ∙ ap (λ x. bytes_eq x p) e ∙ both.0), named_differ q ps both.1)
-
-users_apart : (x : Path) → is_at_or_under x own_folder ≡ true → (ps : List Path) → Each (λ p. IsTrue (is_path p)) ps → Each (λ p. IsApart p x) ps
-users_apart x own [] h = tt
-users_apart x own (p ∷ ps) h = (path-own p x h.0 own, users_apart x own ps h.1)
 
 records_apart : (q : Path) (ps : List Path) → Each (λ p. p ≡ q → ⊥) ps → Each (λ m. IsApart m (record_place q)) (map record_place ps)
 records_apart q [] h = tt
@@ -37,22 +35,6 @@ records_apart q (p ∷ ps) h = (record-record p q h.0, records_apart q ps h.1)
 marks_apart : (q : Path) (ps : List Path) → Each (λ p. p ≡ q → ⊥) ps → Each (λ m. IsApart m (mark_place q)) (map mark_place ps)
 marks_apart q [] h = tt
 marks_apart q (p ∷ ps) h = (mark-mark p q h.0, marks_apart q ps h.1)
-
-pub record_marks : (q : Path) (ps : List Path) → Each (λ m. IsApart m (record_place q)) (map mark_place ps)
-record_marks q [] = tt
-record_marks q (p ∷ ps) = (apart_flipped (record_place q) (mark_place p) (record-mark q p), record_marks q ps)
-
-record_notes : (q : Path) (ps : List Path) → Each (λ m. IsApart m (record_place q)) (map note_place ps)
-record_notes q [] = tt
-record_notes q (p ∷ ps) = (apart_flipped (record_place q) (note_place p) (record-note q p), record_notes q ps)
-
-mark_records : (q : Path) (ps : List Path) → Each (λ m. IsApart m (mark_place q)) (map record_place ps)
-mark_records q [] = tt
-mark_records q (p ∷ ps) = (record-mark p q, mark_records q ps)
-
-mark_notes : (q : Path) (ps : List Path) → Each (λ m. IsApart m (mark_place q)) (map note_place ps)
-mark_notes q [] = tt
-mark_notes q (p ∷ ps) = (apart_flipped (mark_place q) (note_place p) (mark-note q p), mark_notes q ps)
 
 record_off : (q : Path) (t : Turn) → IsOrderly t → makes q t ≡ false → IsOffTurn true (record_place q) t
 record_off q t orderly none =
@@ -136,11 +118,6 @@ AreClearOf p ts = Each (λ (t : Turn). list_any (overlaps p) (owned t) ≡ false
 pub users_off : (p q : Path) (ts : List Turn) → is_at_or_under p own_folder ≡ false → is_at_or_under q p ≡ true → AreClearOf p ts → Each (IsOffTurn true q) ts
 users_off p q [] out at clear = tt
 users_off p q (t ∷ ts) out at clear = (off_overlap t p q out clear.0 at, users_off p q ts out at clear.1)
-
-in_first : (ps qs : List Path) (p : Path) → IsIn ps p → IsIn (ps ++ qs) p
-in_first [] qs p i = absurd i
-in_first (x ∷ ps) qs p (inl e) = inl e
-in_first (x ∷ ps) qs p (inr i) = inr (in_first ps qs p i)
 
 -- what overlaps the path is none that they make
 pub clear_none : (p f : Path) (ts : List Turn) → overlaps p f ≡ true → AreClearOf p ts → NoneMakes f ts

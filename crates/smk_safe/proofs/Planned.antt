@@ -1,8 +1,9 @@
 -- Turns of the jobs that a plan has to run are ready.
-use Rattle.std.proofs.Common.{◌≡◌, ◌≢◌, ◌⊎◌, inl, inr, ℕ, suc, ◌≤◌, Bool, true, false, ◌&&◌, ◌||◌, not, cond, List, [], ◌∷◌, ◌++◌, map, zip, filter, flat_map, find, length, refl, ap, sym, subst, ◌∙◌, arith, Option, Some, None, IsTrue, true≢false}
+use Rattle.std.proofs.Common.{◌≡◌, ◌≢◌, inl, inr, ℕ, suc, ◌≤◌, Bool, true, false, ◌&&◌, ◌||◌, not, cond, List, [], ◌∷◌, ◌++◌, map, zip, filter, flat_map, find, length, refl, ap, sym, subst, ◌∙◌, arith, Option, Some, None, IsTrue, true≢false}
 use Rattle.std.specs.Prelude.{nat_lt, is_none, is_some, bytes_eq, if◌then◌else◌}
 use Rattle.std.specs.List.{list_any, list_all}
 use Rattle.std.specs.Option.{option_and_then}
+use Rattle.std.proofs.lemmas.Bool.{cases_Bool}
 use Rattle.smk_base.specs.Path.{is_path, own_folder, is_under, is_at_or_under, overlaps}
 use Rattle.smk_base.proofs.Places.{same_place, place_itself}
 use Rattle.smk_base.proofs.Apart.{path_outside}
@@ -69,10 +70,6 @@ use Rattle.smk_made.proofs.Disjoint.{flipped, places, spots_places}
 use Rattle.smk_safe.specs.Ready.{IsThere, FromSource, FromTurn, FromRest, stamp_of, IsRecordedSo, draws, greatest_after, HasItsSerial, IsReady, AreReadyFrom}
 use Rattle.smk_safe.specs.Planned.{KeepsSerial, AreTurnsOf, TellsSerials, IsPlain, IsFit, PlannedTurnsAreReady}
 use Rattle.smk_safe.proofs.Images.{holder_own}
-
-bool_cases : (b : Bool) → (b ≡ true) ⊎ (b ≡ false)
-bool_cases true = inl refl
-bool_cases false = inr refl
 
 -- ## Words on states
 
@@ -215,7 +212,7 @@ not_and true b h k = refl
 not_and false b h k = absurd (true≢false (sym h ∙ k))
 
 overlaps_back : (p q : Path) → overlaps p q ≡ true → overlaps q p ≡ true
-overlaps_back p q h = elim (bool_cases (overlaps q p)) [ inl e ↦ e | inr e ↦ absurd (never_both (overlaps p q) h (flipped q p e)) ]
+overlaps_back p q h = elim (cases_Bool (overlaps q p)) [ inl e ↦ e | inr e ↦ absurd (never_both (overlaps p q) h (flipped q p e)) ]
 
 pub once_paths : (ps : List Path) (p : Path) → IsIn ps p → IsIn (distinct bytes_eq ps) p
 once_paths ps p h = let d = in_distinct bytes_eq place_itself same_trans ps p h in subst (λ z. IsIn (distinct bytes_eq ps) z) (same_place d.0 p d.2) d.1
@@ -498,7 +495,7 @@ module _ (o : Outside) (w : World) (flow : Flow) (settings : Settings) (plan : P
             let k = h.0 in
             let known = have k h.1 in
             let out = made_of k q known.0 h.2 in
-            elim (bool_cases (is_to_run (st k))) [
+            elim (cases_Bool (is_to_run (st k))) [
               | inl run ↦
                   let t = known.1 run in
                   let in_t : IsIn (out_paths (t.0).job.recipe) q = subst (λ (z : Job). IsIn (out_paths z.recipe) q) (sym t.2) out in
@@ -539,7 +536,7 @@ module _ (o : Outside) (w : World) (flow : Flow) (settings : Settings) (plan : P
             record {
               stamp = Made hk.r.made;
               here = stamp_made k q hk;
-              given = ap (λ m. stamp_of m (source_at image q)) (elim (bool_cases (is_to_run (st k))) [
+              given = ap (λ m. stamp_of m (source_at image q)) (elim (cases_Bool (is_to_run (st k))) [
                 | inl run ↦
                     let t = known.1 run in
                     let in_t : IsIn (out_paths (t.0).job.recipe) q = subst (λ (z : Job). IsIn (out_paths z.recipe) q) (sym t.2) out in

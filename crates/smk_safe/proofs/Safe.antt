@@ -1,12 +1,11 @@
 -- A run of turns that are ready is safe.
-use Rattle.std.proofs.Common.{◌≡◌, ℕ, Bool, true, false, ◌||◌, ◌&&◌, List, [], ◌∷◌, ◌++◌, refl, ap, sym, subst, ◌∙◌, append_assoc, Ok}
-use Rattle.std.specs.Prelude.{if◌then◌else◌}
+use Rattle.std.proofs.Common.{◌≡◌, ℕ, true, ◌||◌, ◌&&◌, List, [], ◌∷◌, ◌++◌, refl, ap, sym, subst, ◌∙◌, append_assoc, Ok}
+use Rattle.smk_laws_job.proofs.Still.{firm_reads}
 use Rattle.smk_world.specs.declared.event.Call.{Call}
 use Rattle.smk_world.specs.declared.event.Call.TheVariants.{Settled}
 use Rattle.smk_world.specs.declared.event.Event.{Event}
 use Rattle.smk_world.specs.declared.event.NodeState.{NodeState}
-use Rattle.smk_world.specs.declared.event.NodeState.TheVariants.{Owned, Known}
-use Rattle.smk_world.specs.World.{World, Throughout, after, run, reading, firm, settled, node_after, names_after, children_after, is_within, is_above, reads_folder}
+use Rattle.smk_world.specs.World.{World, Throughout, after, run, reading, settled, node_after, names_after, children_after, is_within, is_above, reads_folder}
 use Rattle.smk_world.specs.Calls.{Lets}
 use Rattle.smk_world.specs.Runs.{Follows}
 use Rattle.smk_world.specs.Trees.{Path, Each}
@@ -27,11 +26,6 @@ use Rattle.smk_safe.proofs.Joining.{throughout_later, AreLooks, look_all, looks_
 use Rattle.smk_safe.proofs.Going.{sound_at_rest, safe_here, ready_turns_are_run}
 
 -- ## What was found is settled
-
-firm_reads : (b : Bool) (s : NodeState) → reading (if b then firm s else s) ≡ reading s
-firm_reads true Owned = refl
-firm_reads true (Known n besides) = refl
-firm_reads false s = refl
 
 settled_reads : (ps : List Path) (q : Path) (s : NodeState) → reading (settled ps q s) ≡ reading s
 settled_reads ps q s = firm_reads (is_within q ps || (is_above q ps && reads_folder s)) s

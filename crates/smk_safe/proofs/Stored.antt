@@ -1,8 +1,9 @@
 -- What a loaded store tells a run.
-use Rattle.std.proofs.Common.{◌≡◌, inl, inr, ℕ, suc, ◌≤◌, max, Bool, true, false, List, [], ◌∷◌, ◌++◌, refl, ap, sym, subst, ◌∙◌, arith, bytes_eq, flat_map, Some, None}
+use Rattle.std.proofs.Common.{◌≡◌, inl, inr, ℕ, suc, ◌≤◌, max, Bool, true, false, List, [], ◌∷◌, refl, ap, sym, subst, ◌∙◌, arith, bytes_eq, flat_map, Some, None}
 use Rattle.std.specs.Prelude.{nat_lt, if◌then◌else◌, option_map}
 use Rattle.std.specs.List.{fold}
 use Rattle.std.proofs.Math.Nat.{le-max_left, le-max_right}
+use Rattle.smk_laws_job.proofs.Abandoning.{in_first, in_second}
 use Rattle.smk_base.specs.Place.{mark_place, note_place}
 use Rattle.smk_base.proofs.Places.{same_place}
 use Rattle.smk_base.proofs.Under.{or_first, or_second}
@@ -55,7 +56,7 @@ module _ (image : Image) (store : List Known) (is : IsStoreOf image store) where
   known_entry : (p : Path) → is_known image p ≡ true → (k : Known) × IsIn store k × (k.path ≡ p) × (k.entry ≡ entry_at image p)
   known_entry p known = found_in store p (entry_at image p) (is.entries p ∙ ap (λ b. if b then Some (entry_at image p) else None) known)
 
-kept_stands : (k : Kept) (r : Record) → option_map core (readable k) ≡ Some r → stands k ≡ true
+pub kept_stands : (k : Kept) (r : Record) → option_map core (readable k) ≡ Some r → stands k ≡ true
 kept_stands Absent r h = cc
 kept_stands Unreadable r h = cc
 kept_stands (Held s) r h = refl
@@ -89,15 +90,6 @@ next_serial_is_above o w store first is next = (greatest_serial store, above (na
     above false e = cc
 
 -- ## Marks and notes
-
-in_first : (ps qs : List Path) (p : Path) → IsIn ps p → IsIn (ps ++ qs) p
-in_first [] qs p i = absurd i
-in_first (x ∷ ps) qs p (inl e) = inl e
-in_first (x ∷ ps) qs p (inr i) = inr (in_first ps qs p i)
-
-in_second : (ps qs : List Path) (p : Path) → IsIn qs p → IsIn (ps ++ qs) p
-in_second [] qs p i = i
-in_second (x ∷ ps) qs p i = inr (in_second ps qs p i)
 
 mark_sign : (k : Known) → k.entry.marked ≡ true → IsIn (signs_of k) (mark_place k.path)
 mark_sign k h =

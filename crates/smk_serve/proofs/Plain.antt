@@ -1,7 +1,8 @@
 -- Rules all of whose forms are built make plain files and gather nothing.
-use Rattle.std.proofs.Common.{◌≡◌, ℕ, ◌+◌, Bool, true, false, List, [], ◌∷◌, ◌++◌, map, inl, inr, refl, ap, subst, ◌∙◌, Option, Some, None}
+use Rattle.std.proofs.Common.{◌≡◌, ℕ, ◌+◌, Bool, true, false, List, [], ◌∷◌, ◌++◌, map, inl, inr, refl, ap, subst, ◌∙◌, Option, Some, None, sym}
 use Rattle.std.specs.Prelude.{if◌then◌else◌, codes, is_some}
 use Rattle.std.specs.List.{enumerate_from, list_any}
+use Rattle.std.proofs.lemmas.Option.{none-some}
 use Rattle.smk_world.specs.declared.recipe.Kind.TheVariants.{Plain, Folder as FolderKind}
 use Rattle.smk_world.specs.declared.recipe.Out.{Out}
 use Rattle.smk_world.specs.declared.recipe.OutItem.{OutItem}
@@ -20,16 +21,13 @@ use Rattle.smk_chain.specs.Derive.{Listings, recipe}
 use Rattle.smk_cli_entry.specs.Forms.{flag_form, inputs_form, item_form, or_else, outputs_form, unbuilt, unbuilt_in}
 use Rattle.smk_laws_plan.proofs.CurrentLists.{flat_in, map_in}
 
-pub some_none : {A : Type 0} (x : A) → Some x ≡ None → ⊥
-some_none x e = cc
-
 pub each_from : {A : Type 0} (P : A → Type 0) (xs : List A) → ((x : A) → IsIn xs x → P x) → Each P xs
 each_from P [] f = tt
 each_from P (x ∷ xs) f = (f x (inl refl), each_from P xs (λ y i. f y (inr i)))
 
 pub neither : {A : Type 0} (a b : Option A) → or_else a b ≡ None → (a ≡ None) × (b ≡ None)
 neither None b e = (refl, e)
-neither (Some x) b e = absurd (some_none x e)
+neither (Some x) b e = absurd (none-some x (sym e))
 
 -- ## Rules
 
@@ -44,7 +42,7 @@ built_part (x ∷ parts) part h (inl e) = ap unbuilt_in e ∙ (neither (unbuilt_
 built_part (x ∷ parts) part h (inr i) = built_part parts part (neither (unbuilt_in x) (unbuilt parts) h).1 i
 
 by_checkpoint : (b : Bool) (rest : Option Text) → (if b then Some (codes "checkpoint") else rest) ≡ None → rest ≡ None
-by_checkpoint true rest h = absurd (some_none _ h)
+by_checkpoint true rest h = absurd (none-some _ (sym h))
 by_checkpoint false rest h = h
 
 pub built_forms : (part : RulePart) → unbuilt_in part ≡ None → (outputs_form part.outputs ≡ None) × (inputs_form part.inputs ≡ None)
@@ -54,7 +52,7 @@ built_forms part h = neither (outputs_form part.outputs) (inputs_form part.input
 
 pub no_flags : (flags : List Flag) → flag_form flags ≡ None → flags ≡ []
 no_flags [] h = refl
-no_flags (f ∷ flags) h = absurd (some_none _ h)
+no_flags (f ∷ flags) h = absurd (none-some _ (sym h))
 
 pub item_plain : (os : List FlaggedText) (o : FlaggedText) → item_form os ≡ None → IsIn os o → flag_form o.flags ≡ None
 item_plain [] o h i = absurd i
@@ -89,4 +87,4 @@ no_gathers flow limits binding n (i ∷ inputs) h = go i.gather h (λ k. no_gath
         → (inputs_form inputs ≡ None → gathers_from flow limits binding (n + 1) inputs ≡ [])
         → gather_at flow limits binding n o ++ gathers_from flow limits binding (n + 1) inputs ≡ []
     go None k more = more k
-    go (Some g) k more = absurd (some_none _ k)
+    go (Some g) k more = absurd (none-some _ (sym k))

@@ -1,13 +1,13 @@
 -- Runs by a plan end well where each target has a clean value.
 use Rattle.std.proofs.Common.{◌≡◌, ◌⊎◌, inl, inr, ℕ, suc, Bool, true, false, not, List, [], ◌∷◌, ◌++◌, zip, refl, ap, sym, subst, ◌∙◌, Option, None, Ok, Err, Result, true≢false}
 use Rattle.std.proofs.lemmas.List.{append-nil, append_assoc}
+use Rattle.smk_run.proofs.Running.{done_closed, none_failed}
 use Rattle.smk_world.specs.declared.event.Event.{Event}
 use Rattle.smk_world.proofs.Runs.{run_append}
 use Rattle.smk_world.specs.World.{World, in_paths, run}
 use Rattle.smk_world.specs.Runs.{Follows}
 use Rattle.smk_world.specs.Trees.{Path, Each}
 use Rattle.smk_flow.specs.declared.job.Job.{Job}
-use Rattle.smk_flow.specs.Flows.{Flow}
 use Rattle.smk_store.specs.Images.{seen}
 use Rattle.smk_chain.specs.Mean.{setting_of}
 use Rattle.smk_trigger.specs.declared.reason.State.{State}
@@ -18,17 +18,16 @@ use Rattle.smk_job.specs.Jobs.{too_long}
 use Rattle.smk_job.specs.Sights.{reads_file}
 use Rattle.smk_plan.specs.declared.duty.Duty.{Duty}
 use Rattle.smk_plan.specs.declared.duty.Duty.TheVariants as duty
-use Rattle.smk_run.specs.declared.ending.Ending.TheVariants.{Good, Status, NoOutput, WrongKind, BadMember}
 use Rattle.smk_run.specs.declared.stop.Stop.{Stop}
 use Rattle.smk_run.specs.declared.stop.Stop.TheVariants as stop
 use Rattle.smk_run.specs.declared.tally.Tally.{Tally}
 use Rattle.smk_plan.specs.Duties.{AreFor, rests}
 use Rattle.smk_run.specs.Duties.{Due, due, due_from, serial_of, unless_rest}
 use Rattle.smk_run.specs.Reports.{IsAnswer, stop_fault, named}
-use Rattle.smk_run.specs.Runs.{AreInOrder, IsLooked, IsOutcome, IsStopped, course_failure, first_failure, or_later}
+use Rattle.smk_run.specs.Runs.{AreInOrder, IsLooked, IsOutcome, IsStopped}
 use Rattle.smk_run.specs.Stamps.{Serials}
 use Rattle.smk_run.specs.Statuses.{AreGiven}
-use Rattle.smk_run.specs.Turns.{Course, Closed, Turn, Unbegun, Unclosed, Unstarted, AreTurns, IsTurn, found, is_closed, is_done}
+use Rattle.smk_run.specs.Turns.{Turn, Unbegun, AreTurns, IsTurn, found, is_closed, is_done}
 use Rattle.smk_made.specs.Clean.{IsCleanIn}
 use Rattle.smk_made.specs.Running.{AreArranged}
 use Rattle.smk_made.proofs.Done.{follows_split}
@@ -107,26 +106,6 @@ done_before cores (d ∷ dues) (u ∷ before) t h = (go h.3, done_before cores d
     go (inl e) = absurd (more before e)
     go (inr e) = e
 
-done_closed : (c : Course) → is_done c ≡ true → is_closed c ≡ true
-done_closed Unbegun h = absurd (true≢false (sym h))
-done_closed Unstarted h = absurd (true≢false (sym h))
-done_closed Unclosed h = absurd (true≢false (sym h))
-done_closed (Closed ending) h = refl
-
-none_failed : (flow : Flow) (job : Job) (c : Course) → is_done c ≡ true → course_failure flow job c ≡ None
-none_failed flow job Unbegun h = absurd (true≢false (sym h))
-none_failed flow job Unstarted h = absurd (true≢false (sym h))
-none_failed flow job Unclosed h = absurd (true≢false (sym h))
-none_failed flow job (Closed Good) h = refl
-none_failed flow job (Closed (Status n)) h = absurd (true≢false (sym h))
-none_failed flow job (Closed (NoOutput p)) h = absurd (true≢false (sym h))
-none_failed flow job (Closed (WrongKind p)) h = absurd (true≢false (sym h))
-none_failed flow job (Closed (BadMember p)) h = absurd (true≢false (sym h))
-
-no_failure : (flow : Flow) (ts : List Turn) → Each (λ (t : Turn). is_done t.course ≡ true) ts → first_failure flow ts ≡ None
-no_failure flow [] h = refl
-no_failure flow (t ∷ ts) h = ap (λ o. or_later o (first_failure flow ts)) (none_failed flow t.job t.course h.0) ∙ no_failure flow ts h.1
-
 -- the events of the turns, and those of the last one
 turns_split :
     (made : Serials) (before : List Turn) (t : Turn) (w : World) (es : List Event) → AreTurns made (before ++ t ∷ []) w es →
@@ -191,7 +170,7 @@ runs_are_complete flow o has_fields w v H settings plan cores first duties turns
     go (Ok tally) h =
         let done =
         fed_turns_succeed (setting_of flow o.act has_fields (seen o.read w)) made fed.0 turns v es none owners clean fed.2 arranged fed.3 follows given are h.1.closed in
-        h.1.first ∙ no_failure flow turns done
+        h.1.first ∙ none_failed flow turns done
     go (Err f) (inl memory) = subst MayBreakOff (sym memory.1) NoMemory
     go (Err f) (inr (inl serials)) = subst MayBreakOff (sym serials.1.is) NoSerial
     go (Err f) (inr (inr h)) = stopped f h

@@ -1,10 +1,12 @@
 -- Turns that are fed by clean values succeed one after another.
-use Rattle.std.proofs.Common.{◌≡◌, inl, inr, ℕ, true, false, not, ◌&&◌, ◌||◌, List, [], ◌∷◌, ◌++◌, refl, ap, sym, subst, ◌∙◌, Option, Some, None, IsTrue, Bool, true≢false}
+use Rattle.std.proofs.Common.{◌≡◌, inl, inr, ℕ, true, false, not, ◌&&◌, List, [], ◌∷◌, ◌++◌, refl, ap, sym, subst, ◌∙◌, Option, Some, None, IsTrue, true≢false}
 use Rattle.std.specs.Prelude.{map, bytes_eq, if◌then◌else◌, ◌==◌}
 use Rattle.std.specs.List.{list_any, AllZip}
-use Rattle.std.specs.Option.{option_and_then}
-use Rattle.std.proofs.lemmas.Bool.{eq-eqb}
-use Rattle.smk_base.specs.Path.{is_path, is_under, overlaps}
+use Rattle.std.proofs.lemmas.Bool.{eq-eqb, and_parts, not-true}
+use Rattle.smk_job.proofs.Lists.{each_in}
+use Rattle.smk_made.proofs.Clean.{apart_first, none_in, picked, passed}
+use Rattle.smk_chain.proofs.Inputs.{each_append}
+use Rattle.smk_base.specs.Path.{is_path, overlaps}
 use Rattle.smk_base.specs.declared.tree.Tree.{Tree}
 use Rattle.smk_base.specs.declared.tree.Tree.TheVariants.{File, Folder}
 use Rattle.smk_base.proofs.Under.{at_itself}
@@ -17,7 +19,7 @@ use Rattle.smk_world.specs.declared.recipe.Out.{Out}
 use Rattle.smk_world.specs.World.{World, run, in_paths, out_paths}
 use Rattle.smk_world.specs.Calls.{ContentsAre, HasOwners, MaybeTreeAt, OutputsAre, TreeAt, are_apart, HoldsBytes}
 use Rattle.smk_world.specs.Runs.{Follows}
-use Rattle.smk_world.specs.Trees.{Path, Each, IsIn, all_of, are_good, below, file_in, is_good, outs_of, part_at, tree_among, tree_given, value_at}
+use Rattle.smk_world.specs.Trees.{Path, Each, IsIn, all_of, are_good, is_good, outs_of, tree_among, tree_given, value_at}
 use Rattle.smk_world.proofs.Runs.{run_append}
 use Rattle.smk_flow.specs.declared.job.Job.{Job}
 use Rattle.smk_choose.specs.Choose.{choose, Make}
@@ -29,7 +31,6 @@ use Rattle.smk_run.specs.Turns.{Turn, AreTurns, IsTurn, is_closed, is_done}
 use Rattle.smk_made.specs.Leaving.{owned, MayCome}
 use Rattle.smk_made.specs.Clean.{IsCleanIn}
 use Rattle.smk_made.specs.Running.{AreArranged, IsOrderly, LeavesAlone}
-use Rattle.smk_made.proofs.Keeping.{or_false, none_of}
 use Rattle.smk_made.proofs.Sparing.{off_overlap, turn_kept}
 use Rattle.smk_made.proofs.Done.{done_turn_leaves, follows_split}
 use Rattle.smk_laws_plan.proofs.CurrentLists.{some_inj}
@@ -40,48 +41,16 @@ use Rattle.smk_succeed.proofs.Succeeding.{good_jobs_can_succeed, told_split, tur
 
 -- ## Lists
 
-each_in : {A : Type 0} (P : A → Type 0) (xs : List A) (x : A) → Each P xs → IsIn xs x → P x
-each_in P [] x h i = absurd i
-each_in P (y ∷ ys) x h (inl e) = subst P (sym e) h.0
-each_in P (y ∷ ys) x h (inr i) = each_in P ys x h.1 i
-
 each_map : {A : Type 0} (P Q : A → Type 0) → ((x : A) → P x → Q x) → (xs : List A) → Each P xs → Each Q xs
 each_map P Q f [] h = tt
 each_map P Q f (x ∷ xs) h = (f x h.0, each_map P Q f xs h.1)
-
-each_both : {A : Type 0} (P : A → Type 0) (xs ys : List A) → Each P xs → Each P ys → Each P (xs ++ ys)
-each_both P [] ys h k = k
-each_both P (x ∷ xs) ys h k = (h.0, each_both P xs ys h.1 k)
 
 in_first : {A : Type 0} (xs ys : List A) (x : A) → IsIn xs x → IsIn (xs ++ ys) x
 in_first [] ys x h = absurd h
 in_first (y ∷ xs) ys x (inl e) = inl e
 in_first (y ∷ xs) ys x (inr h) = inr (in_first xs ys x h)
 
-and_parts : (a b : Bool) → (a && b) ≡ true → (a ≡ true) × (b ≡ true)
-and_parts true b h = (refl, h)
-and_parts false b h = absurd (true≢false (sym h))
-
-of_not : (b : Bool) → not b ≡ true → b ≡ false
-of_not true h = absurd (true≢false (sym h))
-of_not false h = refl
-
 -- ## The tree at one output
-
-none_in : (p q : Path) (ps : List Path) → list_any (overlaps p) ps ≡ false → IsIn ps q → overlaps p q ≡ false
-none_in p q [] h i = absurd i
-none_in p q (x ∷ ps) h (inl e) = ap (overlaps p) e ∙ (or_false (overlaps p x) (list_any (overlaps p) ps) h).0
-none_in p q (x ∷ ps) h (inr i) = none_in p q ps (or_false (overlaps p x) (list_any (overlaps p) ps) h).1 i
-
-picked : (o p : Path) (t rest : Option Tree) → bytes_eq o p ≡ true → (if bytes_eq o p || is_under p o then option_and_then (part_at o p) t else rest) ≡ t
-picked o p None rest h = ap (λ b. if b || is_under p o then None else rest) h
-picked o p (Some t) rest h = ap (λ b. if b || is_under p o then (if b then Some t else file_in t (below o p)) else rest) h
-
-passed : (o p : Path) (t rest : Option Tree) → overlaps o p ≡ false → (if bytes_eq o p || is_under p o then option_and_then (part_at o p) t else rest) ≡ rest
-passed o p t rest h =
-    let one = or_false (bytes_eq o p) (is_under o p || is_under p o) h in
-    let two = or_false (is_under o p) (is_under p o) one.1 in
-    ap (λ b. if b then option_and_then (part_at o p) t else rest) (none_of (bytes_eq o p) (is_under p o) one.0 two.1)
 
 plain_good : (p : Path) (kind : Kind) (t : Option Tree) → kind ≡ Plain → is_good p kind t ≡ true → (held : List ℕ) × (t ≡ Some (File held))
 plain_good p FolderKind t e h = cc
@@ -115,19 +84,8 @@ made_file v (out ∷ outs) (t ∷ trees) p apart plain good (inr i) h =
     record {
       held = later.held;
       holds = later.holds;
-      is = passed out.path p t (tree_among outs trees p) (none_in out.path p ps (of_not (list_any (overlaps out.path) ps) both.0) i) ∙ later.is;
+      is = passed out.path p t (tree_among outs trees p) (none_in out.path p ps (not-true (list_any (overlaps out.path) ps) both.0) i) ∙ later.is;
     }
-
-apart_first : (ps qs : List Path) → are_apart (ps ++ qs) ≡ true → are_apart ps ≡ true
-apart_first [] qs h = refl
-apart_first (p ∷ ps) qs h =
-    let both = and_parts (not (list_any (overlaps p) (ps ++ qs))) (are_apart (ps ++ qs)) h in
-    let one = ap not (none_first ps (of_not (list_any (overlaps p) (ps ++ qs)) both.0)) in
-    let more = apart_first ps qs both.1 in λ i. one i && more i
-  where
-    none_first : (xs : List Path) → list_any (overlaps p) (xs ++ qs) ≡ false → list_any (overlaps p) xs ≡ false
-    none_first [] k = refl
-    none_first (x ∷ xs) k = let b = or_false (overlaps p x) (list_any (overlaps p) (xs ++ qs)) k in none_of (overlaps p x) (list_any (overlaps p) xs) b.0 (none_first xs b.1)
 
 -- ## One turn
 
@@ -243,8 +201,8 @@ module _ (S : Setting) where
           record {
             none_runs = left.none_runs;
             owners = left.owners;
-            clean = each_both (IsCleanIn S 200 (run w es)) held new_held still new;
-            alone = each_both (IsLeftAlone ts) held new_held old_alone new_alone;
+            clean = each_append (IsCleanIn S 200 (run w es)) held new_held still new;
+            alone = each_append (IsLeftAlone ts) held new_held old_alone new_alone;
             arranged = h.arranged.3;
             feeds = h.feeds.2.2;
           },

@@ -2,11 +2,12 @@
 use Rattle.std.proofs.Common.{◌≡◌, ◌⊎◌, inl, inr, ℕ, zero, suc, ◌≤◌, arith, Bool, true, false, not, cond, ◌&&◌, ◌||◌, List, [], ◌∷◌, ◌++◌, map, filter, flat_map, find, zip, refl, ap, sym, subst, ◌∙◌, Option, Some, None, is_some, is_none, true≢false, IsTrue}
 use Rattle.std.specs.Prelude.{bytes_eq}
 use Rattle.std.specs.List.{list_any}
+use Rattle.smk_made.proofs.Disjoint.{flipped}
+use Rattle.smk_laws_complete.proofs.Calm.{filter_empty}
 use Rattle.smk_base.specs.Path.{is_path, own_folder, is_at_or_under, is_under, overlaps}
 use Rattle.smk_base.specs.declared.tree.Tree.{Tree}
 use Rattle.smk_base.specs.declared.tree.Tree.TheVariants.{File}
 use Rattle.smk_base.proofs.Apart.{path_outside}
-use Rattle.smk_base.proofs.Places.{same_flipped}
 use Rattle.smk_world.specs.declared.event.Node.TheVariants.{Regular, Directory}
 use Rattle.smk_world.specs.declared.event.NodeState.{NodeState}
 use Rattle.smk_world.specs.declared.event.NodeState.TheVariants.{Owned, Known}
@@ -42,7 +43,7 @@ use Rattle.smk_made.specs.Leaving.{owned}
 use Rattle.smk_made.specs.Clean.{IsCleanIn}
 use Rattle.smk_made.specs.Running.{AreArranged, LeavesAlone}
 use Rattle.smk_laws_plan.specs.Current.{IsComplete, HasValidRecords}
-use Rattle.smk_laws_plan.proofs.CurrentLists.{In, all_in, any_in, and_both, and_left, and_right, any_from, any_none, both, clash_of, filter_in, find_in, flat_in, in_either, in_filter, in_flat, in_left, in_map, in_right, map_in, none_some, not_true, or_cases, or_first, or_left, or_right, or_second, some_inj, in_zip, zip_in}
+use Rattle.smk_laws_plan.proofs.CurrentLists.{In, all_in, any_in, and_both, and_left, and_right, any_from, any_none, both, clash_of, filter_in, find_in, flat_in, in_either, in_filter, in_flat, in_left, in_map, in_right, map_in, none_some, not_true, or_cases, or_first, or_second, some_inj, in_zip, zip_in}
 use Rattle.smk_laws_plan.proofs.CurrentPaths.{among_in, in_among, touch_overlaps}
 use Rattle.smk_laws_plan.proofs.CurrentReach.{choice_known, reached_own, reached_zero}
 use Rattle.smk_laws_plan.proofs.CurrentApart.{Spot, SpotsApart, maker_found, output_spot, spots_append, spots_apart}
@@ -80,18 +81,6 @@ none_of : {A : Type 0} (test : A → Bool) (xs : List A) → ((x : A) → In x x
 none_of test [] f = refl
 none_of test (x ∷ xs) f = let a = f x (inl refl) in let b = none_of test xs (λ y i. f y (inr i)) in λ i. a i || b i
 
-filter_none : {A : Type 0} (test : A → Bool) (xs : List A) → ((x : A) → In x xs → test x ≡ false) → filter test xs ≡ []
-filter_none test [] f = refl
-filter_none test (x ∷ xs) f = ap (λ b. cond b (x ∷ filter test xs) (filter test xs)) (f x (inl refl)) ∙ filter_none test xs (λ y i. f y (inr i))
-
-flip : (p q : Path) → overlaps p q ≡ false → overlaps q p ≡ false
-flip p q h =
-    let a = same_flipped q p ∙ or_left (bytes_eq p q) (is_under p q || is_under q p) h in
-    let b = or_right (bytes_eq p q) (is_under p q || is_under q p) h in
-    let c = or_right (is_under p q) (is_under q p) b in
-    let d = or_left (is_under p q) (is_under q p) b in
-    λ i. a i || (c i || d i)
-
 -- ## Jobs
 
 clean_else : (s : State) → is_open s ≡ false → is_to_run s ≡ false → is_clean s ≡ true
@@ -107,7 +96,7 @@ not_folder FolderKind e = cc
 no_folders : (r : Recipe) → Each (λ (out : Out). out.kind ≡ Plain) (outs_of r) → folders_of r ≡ []
 no_folders r plain =
     ap (map (λ (out : Out). out.path))
-    (filter_none (λ (out : Out). is_folder_kind out.kind) (outs_of r) (λ out i. not_folder out.kind (each_in (λ (out : Out). out.kind ≡ Plain) (outs_of r) out plain i)))
+    (filter_empty (λ (out : Out). is_folder_kind out.kind) (outs_of r) (λ out i. not_folder out.kind (each_in (λ (out : Out). out.kind ≡ Plain) (outs_of r) out plain i)))
 
 -- what two jobs make and log, if they lie apart
 two_apart :
@@ -123,7 +112,7 @@ two_apart (x ∷ js) h j k ij ik s r is ir =
         (In j js → In k js → (j ≡ k) ⊎ (overlaps r.0 s.0 ≡ false)) → (j ≡ k) ⊎ (overlaps r.0 s.0 ≡ false)
     go (inl a) (inl b) apart ih = inl (a ∙ sym b)
     go (inl a) (inr b) apart ih = inr (apart s r (subst (λ z. In s (spots z)) a is) (in_flat spots js k r b ir))
-    go (inr a) (inl b) apart ih = inr (flip s.0 r.0 (apart r s (subst (λ z. In r (spots z)) b ir) (in_flat spots js j s a is)))
+    go (inr a) (inl b) apart ih = inr (flipped s.0 r.0 (apart r s (subst (λ z. In r (spots z)) b ir) (in_flat spots js j s a is)))
     go (inr a) (inr b) apart ih = ih a b
 
 -- each output and log is a spot
@@ -146,7 +135,7 @@ spots_are_apart [] h = refl
 spots_are_apart (s ∷ ss) h =
     let none =
     none_of (overlaps s.0) (map (λ (s : Spot). s.0) ss) (λ p i.
-    let t = map_in (λ (s : Spot). s.0) ss p i in subst (λ q. overlaps s.0 q ≡ false) (sym t.2) (flip t.0.0 s.0 (h.0 t.0 t.1))) in
+    let t = map_in (λ (s : Spot). s.0) ss p i in subst (λ q. overlaps s.0 q ≡ false) (sym t.2) (flipped t.0.0 s.0 (h.0 t.0 t.1))) in
     and_both (not (list_any (overlaps s.0) (map (λ (s : Spot). s.0) ss))) _ (ap not none) (spots_are_apart ss h.1)
 
 -- the outputs of a job are its candidate's
@@ -379,7 +368,7 @@ module _
 
   -- no job makes or logs what overlaps a source
   source_apart : (p : Path) → is_source image p ≡ true → (j : Job) (q : Path) → In j plan.jobs → In q (owned_paths j.recipe j.logs) → overlaps p q ≡ false
-  source_apart p is j q i k = flip q p (go (overlaps q p) refl)
+  source_apart p is j q i k = flipped q p (go (overlaps q p) refl)
     where
       c : (c : Candidate) × In c (chosen flow (sources_of image) L settings.targets) × (j ≡ job flow L c)
       c = candidate j i
@@ -632,7 +621,7 @@ module _
   input_clear p seen before k js of_seen cross ik inn run (inl h) = none_of (overlaps p) (owned_paths k.recipe k.logs) (λ q m. h.apart k q inn run m)
   input_clear p seen before k js of_seen cross ik inn run (inr (u, b, m)) =
       none_of (overlaps p) (owned_paths k.recipe k.logs) (λ q i.
-      let s = owned_spot k q i in flip q p (cross u.job k (p, true) (q, s.0) (of_seen u b) ik (output_spot u.job p m) s.1))
+      let s = owned_spot k q i in flipped q p (cross u.job k (p, true) (q, s.0) (of_seen u b) ik (output_spot u.job p m) s.1))
 
   input_path : (p : Path) (before : List Turn) → ((u : Turn) → In u before → In u.job plan.jobs) → IsHeld p ⊎ ((u : Turn) × In u before × In p (out_paths u.job.recipe)) → is_path p ≡ true
   input_path p before of_plan (inl h) = h.path
@@ -687,7 +676,7 @@ module _
                   own = each_from (λ p. list_any (overlaps p) (owned u) ≡ false) (owned t) (λ p k.
                       let s = owned_spot j p (own p k) in
                       none_of (overlaps p) (owned u) (λ q m.
-                      let v = owned_spot u.job q m in flip q p (parts.2 (p, s.0) (q, v.0) s.1 (in_flat spots js u.job (q, v.0) r.0 v.1))));
+                      let v = owned_spot u.job q m in flipped q p (parts.2 (p, s.0) (q, v.0) s.1 (in_flat spots js u.job (q, v.0) r.0 v.1))));
                 }),
             later,
           )

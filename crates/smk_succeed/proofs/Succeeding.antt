@@ -1,9 +1,8 @@
 -- A job is done whose command makes all its outputs, if it is closed.
-use Rattle.std.proofs.Common.{◌≡◌, inl, inr, ℕ, Bool, true, false, ◌&&◌, List, [], ◌∷◌, ◌++◌, refl, ap, sym, subst, ◌∙◌, Option, Some, None, Ok, true≢false}
+use Rattle.std.proofs.Common.{◌≡◌, inl, inr, ℕ, Bool, true, false, List, [], ◌∷◌, ◌++◌, refl, ap, sym, subst, ◌∙◌, Option, Some, None, Ok, true≢false}
 use Rattle.std.specs.Prelude.{◌≢◌, ◌==◌, map, if◌then◌else◌, nat_eq}
-use Rattle.std.proofs.lemmas.Bool.{eq-eqb, eqb-true}
-use Rattle.std.specs.List.{list_any, AllZip}
-use Rattle.smk_base.specs.Path.{own_folder, is_at_or_under, overlaps}
+use Rattle.std.proofs.lemmas.Bool.{eq-eqb, eqb-true, and_parts}
+use Rattle.std.specs.List.{AllZip}
 use Rattle.smk_base.specs.declared.tree.Tree.{Tree}
 use Rattle.smk_base.specs.declared.tree.Tree.TheVariants.{File, Folder}
 use Rattle.smk_world.specs.declared.event.Call.TheVariants.{Waited}
@@ -36,21 +35,15 @@ use Rattle.smk_run.specs.Closings.{IsClosedBy, wait_event}
 use Rattle.smk_run.specs.Stamps.{Serials, AreStamped}
 use Rattle.smk_run.specs.Statuses.{AreGiven, IsGiven}
 use Rattle.smk_run.specs.Turns.{Course, Unbegun, Unstarted, Unclosed, Closed, Turn, as_underway, found, HasGone, HasStampedAnd, IsTurnBy, is_closed, is_done, is_good as ended_well}
-use Rattle.smk_made.specs.Leaving.{owned, AreInputsApart, MayCome}
-use Rattle.smk_made.proofs.Keeping.{Spares, AreAside, run_kept}
-use Rattle.smk_run.proofs.Calls.{OfLooks, done_each, stamped_each}
-use Rattle.smk_made.proofs.Sparing.{IsOffTurn, spared_begin, spared_looks, off_overlap}
-use Rattle.smk_made.proofs.TreeMoves.{StaysUnder, stays_same, contents_moved}
+use Rattle.smk_made.specs.Leaving.{AreInputsApart, MayCome}
+use Rattle.smk_run.proofs.Calls.{OfLooks, stamped_each}
+use Rattle.smk_made.proofs.TreeMoves.{contents_moved}
 use Rattle.smk_run.proofs.Telling.{files_children, started_after}
 use Rattle.smk_made.proofs.Starting.{HasEnded, has_ended}
-use Rattle.smk_made.proofs.Done.{follows_split}
+use Rattle.smk_made.proofs.Done.{follows_split, begun_kept, inputs_stay}
 use Rattle.smk_succeed.specs.Succeeding.{CanSucceed, GoodJobsCanSucceed, TurnsSucceed}
 
 -- ## What a good output is seen as
-
-and_parts : (a b : Bool) → (a && b) ≡ true → (a ≡ true) × (b ≡ true)
-and_parts true b h = (refl, h)
-and_parts false b h = absurd (true≢false (sym h))
 
 pub holds_file : (s : NodeState) (held : List ℕ) → HoldsBytes held s → reads_file s ≡ true
 holds_file Owned held h = absurd h
@@ -116,26 +109,6 @@ one_numbered child other n h = go (nat_eq child.number n) h
     go : (b : Bool) → (if b then Some child else None) ≡ Some other → child ≡ other
     go true k = cc
     go false k = cc
-
--- the inputs are as they were before the turn
-begun_kept :
-    (made : Serials) (t : Turn) (w : World) (seen first : List Event) (q : Path) → w.children ≡ [] →
-    AreStamped made (in_paths t.job.recipe) (found t.looked) seen → HasDone (begin_requests t.job.recipe t.job.logs t.command) first → (run w seen).children ≡ [] →
-    IsOffTurn true q t → (run (run w seen) first).nodes q ≡ w.nodes q
-begun_kept made t w seen first q none stamped begun still h =
-    run_kept true q (run w seen) first
-    (done_each (Spares true q) (begin_requests t.job.recipe t.job.logs t.command) first (spared_begin true t.job.recipe t.job.logs t.command q h) begun)
-    (subst (AreAside q) (sym still) tt)
-    ∙ run_kept true q w seen (stamped_each (Spares true q) (spared_looks true q) made (in_paths t.job.recipe) (found t.looked) seen stamped) (subst (AreAside q) (sym none) tt)
-
-inputs_stay :
-    (t : Turn) (w u : World) → ((q : Path) → IsOffTurn true q t → u.nodes q ≡ w.nodes q) → (ps : List Path) →
-    Each (λ p. (is_at_or_under p own_folder ≡ false) × (list_any (overlaps p) (owned t) ≡ false)) ps → Each (StaysUnder w u) ps
-inputs_stay t w u same [] h = tt
-inputs_stay t w u same (p ∷ ps) h = (
-  (λ q at. stays_same (w.nodes q) (u.nodes q) (same q (off_overlap t p q h.0.0 h.0.1 at))),
-  inputs_stay t w u same ps h.1,
-)
 
 crewless : OfLooks (λ (r : Request). is_crew r ≡ false)
 crewless = record { look = λ p. refl; listed = λ p. refl }

@@ -1,6 +1,7 @@
 -- Jobs of a workflow all of whose forms are built make plain files and gather nothing.
 use Rattle.std.proofs.Common.{◌≡◌, true, false, List, [], ◌∷◌, flat_map, inl, inr, refl, ap, sym, subst, ◌∙◌, Option, Some, None}
 use Rattle.std.specs.Prelude.{if◌then◌else◌, codes, is_some}
+use Rattle.std.proofs.lemmas.Option.{none-some}
 use Rattle.smk_world.specs.declared.recipe.Kind.TheVariants.{Plain}
 use Rattle.smk_world.specs.declared.recipe.Out.{Out}
 use Rattle.smk_world.specs.Trees.{Path, Each, IsIn, outs_of}
@@ -17,7 +18,7 @@ use Rattle.smk_laws_history.proofs.CurrentLaw.{last_is}
 use Rattle.smk_laws_plan.proofs.CurrentLists.{distinct_in, flat_in, map_in}
 use Rattle.smk_laws_plan.proofs.CurrentReach.{outcome_derived}
 use Rattle.smk_laws_plan.proofs.CurrentWalked.{walked_chosen}
-use Rattle.smk_serve.proofs.Plain.{some_none, each_from, numbered_in, built_part, built_forms, plain_outs, no_gathers}
+use Rattle.smk_serve.proofs.Plain.{each_from, numbered_in, built_part, built_forms, plain_outs, no_gathers}
 use Rattle.smk_whole.specs.Built.{BuiltFlowsGatherAlone, BuiltPlansArePlain}
 
 -- ## Plans
@@ -63,7 +64,7 @@ ungathered (x ∷ inputs) i h k = go x.gather refl h k (λ a b. ungathered input
         (inputs_form inputs ≡ None → IsIn inputs i → is_some i.gather ≡ false) → is_some i.gather ≡ false
     go None e a (inl s) later = ap (λ (y : InPart). is_some y.gather) s ∙ ap is_some e
     go None e a (inr k) later = later a k
-    go (Some g) e a k later = absurd (some_none _ a)
+    go (Some g) e a k later = absurd (none-some _ (sym a))
 
 pub built_flows_gather_alone : BuiltFlowsGatherAlone
 built_flows_gather_alone flow built part i p k gathers =

@@ -1,9 +1,10 @@
 use Rattle.std.proofs.Common.{sym, subst}
+use Rattle.std.proofs.lemmas.Bool.{both_ways}
 use Rattle.smk_world.proofs.Devices.{looked_nothing, looked_as, looked_then}
 use Rattle.smk_store.specs.Loading.{IsStoreOf}
 use Rattle.smk_store.specs.Images.{seen}
 use Rattle.smk_plan_preview.specs.Rounds as spec
-use Rattle.smk_plan_preview.proofs.Looked.{failed_on, kept, seen_moved, sink_as, is_not, memory_quiet, none_still}
+use Rattle.smk_plan_preview.proofs.Looked.{failed_on, kept, seen_moved, sink_as, memory_quiet, none_still}
 use Rattle.smk_plan_preview.proofs.Chains.{leads_begun, leads_next, last_round, chain_refused, round_ok}
 use Rattle.smk_plan_preview.proofs.chaining.chain_by.Goals as goal
 
@@ -48,7 +49,7 @@ loop-preserved g c =
           let u = kept w c.loop.invariant.looked at in
           let image = seen_moved read w u.0 u.2 in
           leads_next read c.args.ground.now.flow.now c.args.ground.now.settings.now (seen read w) c.loop.lists _ c.in_ok-found.found c.in_ok-found.ensures.lists c.in_ok-add_listings.ensures.ok
-          (λ none. is_not c.is_empty.result c.if-is_empty.false (c.is_empty.ensures.1 none))
+          (λ none. both_ways c.is_empty.result c.if-is_empty.false (c.is_empty.ensures.1 none))
           (round_ok read c.args.ground.now.flow.now c.args.ground.now.settings.now (seen read w) c.loop.lists c.make_round.result c.in_ok-found.found c.in_ok-found.was
           (subst (λ i. spec.HasRound read c.args.ground.now.flow.now c.args.ground.now.settings.now i c.loop.lists c.make_round.result) image
           (c.make_round.ensures.told u.0 u.1 (none_still w u.0 u.2.nodes none) read (subst (λ i. IsStoreOf i c.args.ground.now.store.now) (sym image) st))))

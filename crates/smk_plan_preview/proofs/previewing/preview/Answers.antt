@@ -1,4 +1,4 @@
-use Rattle.std.proofs.Common.{◌≡◌, true, false, ap, sym, subst, ◌∙◌}
+use Rattle.std.proofs.Common.{ap, sym, subst, ◌∙◌, true≢false}
 use Rattle.smk_world.proofs.Devices.{looked_as, looked_then}
 use Rattle.smk_store.specs.Loading.{IsStoreOf}
 use Rattle.smk_plan_preview.specs.Faults.{device_failed}
@@ -6,14 +6,11 @@ use Rattle.smk_plan_preview.specs.Previewing.{HasPreviewed}
 use Rattle.smk_plan_preview.proofs.Looked.{kept, seen_moved, none_still}
 use Rattle.smk_plan_preview.proofs.previewing.preview.Goals as goal
 
-never : true ≡ false → ⊥
-never e = cc
-
 pub returns-in-Err-clause-looked : goal.returns-in-Err-clause-looked
 returns-in-Err-clause-looked g c = looked_as (ap device_failed c.in-Err.is) c.stored.ensures.looked
 
 pub returns-in-Err-clause-told : goal.returns-in-Err-clause-told
-returns-in-Err-clause-told g c = λ w at none read reads told. absurd (never (sym told ∙ c.in-Err.ensures.untold))
+returns-in-Err-clause-told g c = λ w at none read reads told. absurd (true≢false (sym told ∙ c.in-Err.ensures.untold))
 
 pub returns-in-Ok-clause-looked : goal.returns-in-Ok-clause-looked
 returns-in-Ok-clause-looked g c = looked_then c.in-Ok.ensures.looked c.preview_stored.ensures.looked

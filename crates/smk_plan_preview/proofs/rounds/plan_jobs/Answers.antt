@@ -1,18 +1,15 @@
-use Rattle.std.proofs.Common.{◌≡◌, true, false, ap, sym, ◌∙◌}
+use Rattle.std.proofs.Common.{ap, sym, ◌∙◌, true≢false}
 use Rattle.smk_world.proofs.Devices.{looked_as}
 use Rattle.smk_store.specs.Images.{seen}
 use Rattle.smk_plan_preview.specs.Faults.{device_failed}
 use Rattle.smk_plan_preview.proofs.Agreed.{agree_of}
 use Rattle.smk_plan_preview.proofs.rounds.plan_jobs.Goals as goal
 
-never : true ≡ false → ⊥
-never e = cc
-
 pub returns-in-Err-clause-looked : goal.returns-in-Err-clause-looked
 returns-in-Err-clause-looked g c = looked_as (ap device_failed c.in-Err.is) c.looked.ensures.looked
 
 pub returns-in-Err-clause-told : goal.returns-in-Err-clause-told
-returns-in-Err-clause-told g c = λ w at none read st ready told. absurd (never (sym told ∙ c.in-Err.ensures.untold))
+returns-in-Err-clause-told g c = λ w at none read st ready told. absurd (true≢false (sym told ∙ c.in-Err.ensures.untold))
 
 pub returns-in-Ok-clause-looked : goal.returns-in-Ok-clause-looked
 returns-in-Ok-clause-looked g c = looked_as (sym c.plan_seen.ensures.no_device) c.in-Ok.ensures.looked

@@ -1,6 +1,7 @@
 use Rattle.std.proofs.Common.{◌≡◌, ◌<◌, false, length, Some, None, sym, ap, subst, ◌∙◌}
 use Rattle.std.specs.List.{slice_get}
 use Rattle.std.specs.BTreeSet.{contains_text}
+use Rattle.std.proofs.lemmas.Option.{slice_get_within}
 use Rattle.smk_world.specs.Trees.{outs_of}
 use Rattle.smk_plan_live.specs.declared.base.Base.{Base}
 use Rattle.smk_plan_live.specs.declared.phase.Phase.TheVariants.{Running, Closed}
@@ -8,7 +9,6 @@ use Rattle.smk_plan_live.specs.Now.{known_now, seen_now}
 use Rattle.smk_plan_live.specs.Same.{renewed_from}
 use Rattle.smk_plan_live.specs.Carried.{turned, filled}
 use Rattle.smk_plan_live.specs.Lives.{IsLive, IsSettled, IsRefusedNow}
-use Rattle.smk_plan_live.proofs.Changed.{got_below}
 use Rattle.smk_plan_live.proofs.Installed.{got, turned_back, filled_back, closed_settled, installed}
 use Rattle.smk_plan_live.proofs.live.LivePlan.close.Goals as goal
 
@@ -67,7 +67,7 @@ returns-in-Ok-clause-live g c =
     let is = c.fill-earlier.ensures.now ∙ ap (filled n row saw) c.turn-before.ensures.now in
     let b = c.fill-earlier.new.self in
     let x = c.in-Ok.next in
-    let below : n < length p.base.jobs.jobs = subst (λ m. n < m) c.requires.live.sound.phases (got_below p.base.phases n Running c.requires.running) in
+    let below : n < length p.base.jobs.jobs = subst (λ m. n < m) c.requires.live.sound.phases (slice_get_within p.base.phases n Running c.requires.running) in
     let r = got p.base.jobs.jobs n below in
     let settled : IsSettled p.settings b p.facts.items p.reasons.items x.facts.items =
     subst (λ l. IsSettled p.settings b p.facts.items p.reasons.items l)
