@@ -4,9 +4,11 @@ ghost use Rattle.std.specs.Prelude.{◌≡◌, IfOk};
 ghost use Rattle.smk_eval_values.specs.Values.{Tells};
 ghost use Rattle.smk_eval_rules.specs.Rules as spec;
 
+use crate::commands::with_places;
 use crate::directive::{Directive, directive_of};
-use crate::items::{GREATEST, inputs, limits, logs, outputs, params, resources};
+use crate::items::{GREATEST, each_item, resources};
 use crate::limits::with_globals;
+use crate::logs::{Logs, NamedRule, logs};
 use crate::one::{one_number, one_text, one_truth};
 use crate::resources::Resources;
 use smk_base::{List, OutOfMemory, Pair, PathText};
@@ -21,10 +23,10 @@ fn begun(
     form: &RuleForm,
     file: &PathText,
     line: u64,
-) -> Result<RulePart, OutOfMemory>
-    ensures { IfOk result (λ part. part ≡ spec.begun form.now file.now line) }
+) -> Result<NamedRule, OutOfMemory>
+    ensures { IfOk result (λ rule. rule ≡ spec.begun form.now file.now line) }
 {
-    Ok(RulePart {
+    let part = RulePart {
         name: form.name.copy(alloc)?,
         checkpoint: form.checkpoint,
         inputs: List::new(alloc),
@@ -40,86 +42,100 @@ fn begun(
         command: None,
         file: file.copy(alloc)?,
         line,
+    };
+    Ok(NamedRule {
+        part,
+        logs: List::new(alloc),
     })
 }
 
-// The resources of a directive, in the rule.
-fn with_resources(part: RulePart, resources: Resources) -> RulePart
-    ensures { result ≡ record part { amounts = resources.amounts; words = resources.words } }
+// The logs of a directive, in the rule.
+fn with_logs(rule: NamedRule, logs: Logs) -> NamedRule
+    ensures { result ≡ spec.with_logs rule logs }
 {
-    let mut part = part;
-    part.amounts = resources.amounts;
-    part.words = resources.words;
-    part
+    let mut rule = rule;
+    rule.part.logs = logs.texts;
+    rule.logs = logs.items;
+    rule
+}
+
+// The resources of a directive, in the rule.
+fn with_resources(rule: NamedRule, resources: Resources) -> NamedRule
+    ensures { result ≡ spec.with_resources rule resources }
+{
+    let mut rule = rule;
+    rule.part.amounts = resources.amounts;
+    rule.part.words = resources.words;
+    rule
 }
 
 // The rule with what the directive says.
 fn with_directive<S: Scope>(
     alloc: Global,
-    part: RulePart,
+    rule: NamedRule,
     form: &DirectiveForm,
     scope: &S,
-) -> Result<RulePart, ValueFault>
-    ensures { Tells result (spec.with_directive (S.seen scope.now) part form.now) }
+) -> Result<NamedRule, ValueFault>
+    ensures { Tells result (spec.with_directive (S.seen scope.now) rule form.now) }
 {
-    let mut part = part;
+    let mut rule = rule;
     let items = form.items.as_slice();
     let word = &form.word;
     match directive_of(word.as_str()) {
         Directive::Input => {
-            part.inputs = inputs(alloc, items, scope, word)?;
-            Ok(part)
+            rule.part.inputs = each_item(alloc, items, scope, word)?;
+            Ok(rule)
         }
         Directive::Output => {
-            part.outputs = outputs(alloc, items, scope, word)?;
-            Ok(part)
+            rule.part.outputs = each_item(alloc, items, scope, word)?;
+            Ok(rule)
         }
         Directive::Params => {
-            part.params = params(alloc, items, scope, word)?;
-            Ok(part)
+            rule.part.params = each_item(alloc, items, scope, word)?;
+            Ok(rule)
         }
         Directive::Log => {
-            part.logs = logs(alloc, items, scope, word)?;
-            Ok(part)
+            let logs = logs(alloc, items, scope, word)?;
+            Ok(with_logs(rule, logs))
         }
         Directive::Threads => {
-            part.threads = one_number(alloc, items, scope, word, 1, 4096)?;
-            Ok(part)
+            rule.part.threads = one_number(alloc, items, scope, word, 1, 4096)?;
+            Ok(rule)
         }
         Directive::Priority => {
-            part.priority = one_number(alloc, items, scope, word, 0, GREATEST)?;
-            Ok(part)
+            rule.part.priority = one_number(alloc, items, scope, word, 0, GREATEST)?;
+            Ok(rule)
         }
         Directive::Resources => {
             let resources = resources(alloc, items, scope, word)?;
-            Ok(with_resources(part, resources))
+            Ok(with_resources(rule, resources))
         }
         Directive::Limits => {
-            part.limits = limits(alloc, items, scope, word)?;
-            Ok(part)
+            rule.part.limits = each_item(alloc, items, scope, word)?;
+            Ok(rule)
         }
         Directive::Shell => {
-            part.command = Some(one_text(alloc, items, scope, word)?);
-            Ok(part)
+            rule.part.command = Some(one_text(alloc, items, scope, word)?);
+            Ok(rule)
         }
         Directive::DefaultTarget => {
-            part.default_target = one_truth(alloc, items, scope, word)?;
-            Ok(part)
+            rule.part.default_target = one_truth(alloc, items, scope, word)?;
+            Ok(rule)
         }
-        Directive::Ignored => Ok(part),
+        Directive::Ignored => Ok(rule),
     }
 }
 
 // The rule with what these directives say, in order.
 fn with_directives<S: Scope>(
     alloc: Global,
-    part: RulePart,
+    rule: NamedRule,
     forms: &[DirectiveForm],
     scope: &S,
-) -> Result<RulePart, ValueFault>
-    ensures { Tells result (spec.with_directives (S.seen scope.now) part forms.now) }
+) -> Result<NamedRule, ValueFault>
+    ensures { Tells result (spec.with_directives (S.seen scope.now) rule forms.now) }
 {
-    let mut made = part;
+    let mut made = rule;
     for form in forms {
         match with_directive(alloc, made, form, scope) {
             Ok(now) => made = now,
@@ -131,7 +147,8 @@ fn with_directives<S: Scope>(
 
 /// The rule that its form makes in a scope, its directives evaluated in the order in which they stand; `file` is the file that it stands
 /// in, `line` the first line of its statement, and `globals` are the constraints of the whole file, which hold for all names but
-/// those of the rule's own. A rule has 1 thread and the priority 0 where it doesn't say otherwise.
+/// those of the rule's own. A rule has 1 thread and the priority 0 where it doesn't say otherwise. In its command a field `{log.NAME}`,
+/// where an item of its logs has this name, stands as the fields `{log[K]}` of the places of the item's texts, with a space between.
 ///
 /// The fault is the first one, of a value or of what doesn't stand there: a value of another kind than the directive has or out of its
 /// limits, a flag outside `output`, more than one item or a named one in a directive of one value, an item without a name where
@@ -147,7 +164,8 @@ pub fn rule_part<S: Scope>(
 ) -> Result<RulePart, ValueFault>
     ensures { Tells result (spec.rule_of (S.seen scope.now) globals.now form.now file.now line) }
 {
-    let part = begun(alloc, form, file, line)?;
-    let part = with_directives(alloc, part, form.directives.as_slice(), scope)?;
+    let rule = begun(alloc, form, file, line)?;
+    let rule = with_directives(alloc, rule, form.directives.as_slice(), scope)?;
+    let part = with_places(alloc, rule)?;
     Ok(with_globals(alloc, part, globals)?)
 }
