@@ -102,7 +102,8 @@ fn push_command(text: &mut String, items: &[LogItem], command: &str) -> Result<(
         }
         let at = &rest[plain..];
         let (symbol, after) = symbol_in(at);
-        if !push_symbol(text, items, &symbol)? {
+        let is_closed = push_symbol(text, items, &symbol)?;
+        if !is_closed {
             text.push_str(at)?;
             return Ok(());
         }
@@ -133,12 +134,19 @@ fn placed_command(
     }
 }
 
+// The rule, its command with places for these items.
+fn with_command(alloc: Global, part: RulePart, items: &[LogItem]) -> Result<RulePart, OutOfMemory>
+    ensures { IfOk result (λ now. now ≡ record part { command = option_map (spec.placed items.now) part.command }) }
+{
+    let mut part = part;
+    part.command = placed_command(alloc, items, part.command)?;
+    Ok(part)
+}
+
 /// The rule, its command with places for the items of logs that it names. `OutOfMemory` where there is no memory for it.
 pub(crate) fn with_places(alloc: Global, rule: NamedRule) -> Result<RulePart, OutOfMemory>
     ensures { IfOk result (λ part. part ≡ spec.with_places rule) }
 {
     let NamedRule { part, logs } = rule;
-    let mut part = part;
-    part.command = placed_command(alloc, logs.as_slice(), part.command)?;
-    Ok(part)
+    with_command(alloc, part, logs.as_slice())
 }

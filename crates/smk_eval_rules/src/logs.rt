@@ -126,7 +126,7 @@ fn no_logs(alloc: Global) -> Logs
 }
 
 /// The logs.
-pub(crate) fn logs<S: Scope>(
+pub(crate) fn all_logs<S: Scope>(
     alloc: Global,
     items: &[ItemForm],
     scope: &S,

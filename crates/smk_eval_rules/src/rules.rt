@@ -8,7 +8,7 @@ use crate::commands::with_places;
 use crate::directive::{Directive, directive_of};
 use crate::items::{GREATEST, each_item, resources};
 use crate::limits::with_globals;
-use crate::logs::{Logs, NamedRule, logs};
+use crate::logs::{Logs, NamedRule, all_logs};
 use crate::one::{one_number, one_text, one_truth};
 use crate::resources::Resources;
 use smk_base::{List, OutOfMemory, Pair, PathText};
@@ -18,15 +18,15 @@ use smk_parse_tree::{DirectiveForm, RuleForm};
 use std::alloc::Global;
 
 // What a rule has before its directives.
-fn begun(
+fn begun_part(
     alloc: Global,
     form: &RuleForm,
     file: &PathText,
     line: u64,
-) -> Result<NamedRule, OutOfMemory>
-    ensures { IfOk result (λ rule. rule ≡ spec.begun form.now file.now line) }
+) -> Result<RulePart, OutOfMemory>
+    ensures { IfOk result (λ part. part ≡ spec.begun_part form.now file.now line) }
 {
-    let part = RulePart {
+    Ok(RulePart {
         name: form.name.copy(alloc)?,
         checkpoint: form.checkpoint,
         inputs: List::new(alloc),
@@ -42,31 +42,98 @@ fn begun(
         command: None,
         file: file.copy(alloc)?,
         line,
-    };
+    })
+}
+
+// The same, with no item of logs.
+fn begun(
+    alloc: Global,
+    form: &RuleForm,
+    file: &PathText,
+    line: u64,
+) -> Result<NamedRule, OutOfMemory>
+    ensures { IfOk result (λ rule. rule ≡ spec.begun form.now file.now line) }
+{
+    let part = begun_part(alloc, form, file, line)?;
     Ok(NamedRule {
         part,
         logs: List::new(alloc),
     })
 }
 
-// The logs of a directive, in the rule.
-fn with_logs(rule: NamedRule, logs: Logs) -> NamedRule
-    ensures { result ≡ spec.with_logs rule logs }
+// The resources of a directive, in the rule.
+fn with_resources(part: RulePart, resources: Resources) -> RulePart
+    ensures { result ≡ record part { amounts = resources.amounts; words = resources.words } }
 {
-    let mut rule = rule;
-    rule.part.logs = logs.texts;
-    rule.logs = logs.items;
-    rule
+    let mut part = part;
+    part.amounts = resources.amounts;
+    part.words = resources.words;
+    part
 }
 
-// The resources of a directive, in the rule.
-fn with_resources(rule: NamedRule, resources: Resources) -> NamedRule
-    ensures { result ≡ spec.with_resources rule resources }
+// The rule with what the directive says, which isn't `log`.
+fn with_other<S: Scope>(
+    alloc: Global,
+    part: RulePart,
+    form: &DirectiveForm,
+    scope: &S,
+) -> Result<RulePart, ValueFault>
+    ensures { Tells result (spec.with_other (S.seen scope.now) part form.now) }
 {
-    let mut rule = rule;
-    rule.part.amounts = resources.amounts;
-    rule.part.words = resources.words;
-    rule
+    let mut part = part;
+    let items = form.items.as_slice();
+    let word = &form.word;
+    match directive_of(word.as_str()) {
+        Directive::Input => {
+            part.inputs = each_item(alloc, items, scope, word)?;
+            Ok(part)
+        }
+        Directive::Output => {
+            part.outputs = each_item(alloc, items, scope, word)?;
+            Ok(part)
+        }
+        Directive::Params => {
+            part.params = each_item(alloc, items, scope, word)?;
+            Ok(part)
+        }
+        Directive::Threads => {
+            part.threads = one_number(alloc, items, scope, word, 1, 4096)?;
+            Ok(part)
+        }
+        Directive::Priority => {
+            part.priority = one_number(alloc, items, scope, word, 0, GREATEST)?;
+            Ok(part)
+        }
+        Directive::Resources => {
+            let resources = resources(alloc, items, scope, word)?;
+            Ok(with_resources(part, resources))
+        }
+        Directive::Limits => {
+            part.limits = each_item(alloc, items, scope, word)?;
+            Ok(part)
+        }
+        Directive::Shell => {
+            part.command = Some(one_text(alloc, items, scope, word)?);
+            Ok(part)
+        }
+        Directive::DefaultTarget => {
+            part.default_target = one_truth(alloc, items, scope, word)?;
+            Ok(part)
+        }
+        Directive::Ignored => Ok(part),
+    }
+}
+
+// The logs of a directive, in the rule.
+fn with_logs(part: RulePart, logs: Logs) -> NamedRule
+    ensures { result ≡ spec.with_logs part logs }
+{
+    let mut part = part;
+    part.logs = logs.texts;
+    NamedRule {
+        part,
+        logs: logs.items,
+    }
 }
 
 // The rule with what the directive says.
@@ -78,51 +145,13 @@ fn with_directive<S: Scope>(
 ) -> Result<NamedRule, ValueFault>
     ensures { Tells result (spec.with_directive (S.seen scope.now) rule form.now) }
 {
-    let mut rule = rule;
-    let items = form.items.as_slice();
-    let word = &form.word;
-    match directive_of(word.as_str()) {
-        Directive::Input => {
-            rule.part.inputs = each_item(alloc, items, scope, word)?;
-            Ok(rule)
-        }
-        Directive::Output => {
-            rule.part.outputs = each_item(alloc, items, scope, word)?;
-            Ok(rule)
-        }
-        Directive::Params => {
-            rule.part.params = each_item(alloc, items, scope, word)?;
-            Ok(rule)
-        }
-        Directive::Log => {
-            let logs = logs(alloc, items, scope, word)?;
-            Ok(with_logs(rule, logs))
-        }
-        Directive::Threads => {
-            rule.part.threads = one_number(alloc, items, scope, word, 1, 4096)?;
-            Ok(rule)
-        }
-        Directive::Priority => {
-            rule.part.priority = one_number(alloc, items, scope, word, 0, GREATEST)?;
-            Ok(rule)
-        }
-        Directive::Resources => {
-            let resources = resources(alloc, items, scope, word)?;
-            Ok(with_resources(rule, resources))
-        }
-        Directive::Limits => {
-            rule.part.limits = each_item(alloc, items, scope, word)?;
-            Ok(rule)
-        }
-        Directive::Shell => {
-            rule.part.command = Some(one_text(alloc, items, scope, word)?);
-            Ok(rule)
-        }
-        Directive::DefaultTarget => {
-            rule.part.default_target = one_truth(alloc, items, scope, word)?;
-            Ok(rule)
-        }
-        Directive::Ignored => Ok(rule),
+    let NamedRule { part, logs } = rule;
+    if form.word.as_str() == "log" {
+        let logs = all_logs(alloc, form.items.as_slice(), scope, &form.word)?;
+        Ok(with_logs(part, logs))
+    } else {
+        let part = with_other(alloc, part, form, scope)?;
+        Ok(NamedRule { part, logs })
     }
 }
 

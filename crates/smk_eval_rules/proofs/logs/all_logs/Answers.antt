@@ -3,7 +3,7 @@ use Rattle.smk_eval_values.specs.Values.{Tells}
 use Rattle.smk_eval_values.specs.Expressions.{Named, each, named_in}
 use Rattle.smk_eval_rules.specs.declared.logs.Logs.{Logs}
 use Rattle.smk_eval_rules.specs.Logs.{with_log}
-use Rattle.smk_eval_rules.proofs.logs.logs.Goals as goal
+use Rattle.smk_eval_rules.proofs.logs.all_logs.Goals as goal
 
 pub returns : goal.returns
 returns g c =
