@@ -13,7 +13,8 @@ Usage:
   smk --version                       print the version
 
 A target is a path, or the name of a rule, which stands for the rule's outputs or, where it has none, for its
-inputs. Without a target the rule with `default_target: True` is made, else the first rule.
+inputs. Without a target the rule with `default_target: True` is made, else the first rule of the workflow's file
+itself.
 
 Options:
   -c, --cores N             tell a command of at most N threads, 1 to 4096; jobs run one after another

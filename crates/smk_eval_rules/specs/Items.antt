@@ -117,7 +117,7 @@ output word name (IsGathered g) = bad word
 abbrev pub param : List ℕ → List ℕ → Value → Result Values ValueFault
 param word name v = and_then (list_items word v) (λ ts. Ok (record { name = name; values = ts }))
 
--- Logs: texts and lists. Their names aren't kept.
+-- Logs: texts and lists.
 abbrev pub log : List ℕ → Value → Result (List (List ℕ)) ValueFault
 log word v = or_refused word v (texts_of v)
 
@@ -156,9 +156,6 @@ added made r = and_then r (λ x. Ok (made ++ x ∷ []))
 -- each item is one more
 abbrev pub each_item : {X : Type 0} → (List ℕ → Value → Result X ValueFault) → List Named → Result (List X) ValueFault
 each_item make = each (λ (i : Named). i.value) (λ made i v. added made (make i.name v)) []
-
-abbrev pub all_logs : List ℕ → List Named → Result (List (List ℕ)) ValueFault
-all_logs word = each (λ (i : Named). i.value) (λ made i v. and_then (log word v) (λ ts. Ok (made ++ ts))) []
 
 abbrev pub all_resources : List ℕ → List Named → Result Resources ValueFault
 all_resources word = each (λ (i : Named). i.value) (λ made i v. with_resource word made i.name v) (record { amounts = []; words = [] })

@@ -1,4 +1,4 @@
-//! Directives by their words.
+//! Directives by their words, but for `log`.
 
 ghost use Rattle.std.specs.Prelude.{◌≡◌};
 ghost use Rattle.smk_eval_rules.specs.Rules.{directive_of};
@@ -9,7 +9,6 @@ pub(crate) enum Directive {
     Input,
     Output,
     Params,
-    Log,
     Threads,
     Priority,
     Resources,
@@ -29,7 +28,6 @@ pub(crate) fn directive_of(word: &str) -> Directive
         "input" => Directive::Input,
         "output" => Directive::Output,
         "params" => Directive::Params,
-        "log" => Directive::Log,
         "threads" => Directive::Threads,
         "priority" => Directive::Priority,
         "resources" => Directive::Resources,

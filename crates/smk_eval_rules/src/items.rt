@@ -9,7 +9,7 @@ ghost use Rattle.smk_flow.specs.declared.rule.Flag.{Flag};
 ghost use Rattle.smk_eval_rules.specs.Items as spec;
 
 use crate::resources::Resources;
-use crate::values::{number_in, refused, text, texts, within};
+use crate::values::{number_in, refused, text, within};
 use smk_base::{Amount, List, OutOfMemory, Pair, Text, one};
 use smk_eval_values::{Scope, Value, ValueFault, bad_flag, list_items, value_of};
 use smk_flow::{Flag, FlaggedText, GatherPart, InPart, OutPart};
@@ -19,6 +19,16 @@ use std::alloc::Global;
 
 /// The greatest priority, and the greatest amount of a resource.
 pub(crate) const GREATEST: u64 = 4_294_967_296;
+
+/// What one item of a directive is.
+pub(crate) trait Item: Drop {
+    /// What the item of a name and value is in the definitions, in a directive of this word.
+    ghost meant: { List ℕ → List ℕ → Value → Result Self ValueFault };
+
+    /// The item of this name and value.
+    fn of_value(alloc: Global, word: &str, name: &Text, value: Value) -> Result<Self, ValueFault>
+        ensures { Tells result (meant word.now name.now value) };
+}
 
 /// What the items of a directive make, one item after the other.
 pub(crate) trait Takes: Drop {
@@ -30,8 +40,26 @@ pub(crate) trait Takes: Drop {
         ensures { Tells result (taken word.now self name.now value) };
 }
 
-// What is made so far, with what these items add, in order. The fault is that of the first item that has one.
-fn with_items<S: Scope, T: Takes>(
+impl<I: Item> Takes for List<I> {
+    ghost use Rattle.smk_eval_rules.specs.Items.{added};
+
+    ghost taken = { λ word made name v. added made (I.meant word name v) };
+
+    fn take(
+        self,
+        alloc: Global,
+        word: &Text,
+        name: &Text,
+        value: Value,
+    ) -> Result<List<I>, ValueFault> {
+        let mut made = self;
+        made.push(I::of_value(alloc, word.as_str(), name, value)?)?;
+        Ok(made)
+    }
+}
+
+/// What is made so far, with what these items add, in order. The fault is that of the first item that has one.
+pub(crate) fn with_items<S: Scope, T: Takes>(
     alloc: Global,
     begun: T,
     items: &[ItemForm],
@@ -49,49 +77,39 @@ fn with_items<S: Scope, T: Takes>(
     Ok(made)
 }
 
-// An item of inputs.
-fn input(alloc: Global, word: &str, name: &Text, value: Value) -> Result<InPart, ValueFault>
-    ensures { Tells result (spec.input word.now name.now value) }
-{
-    match value {
-        Value::Word(text) => Ok(InPart {
-            name: name.copy(alloc)?,
-            texts: one(alloc, text)?,
-            gather: None,
-        }),
-        Value::Many(texts) => Ok(InPart {
-            name: name.copy(alloc)?,
-            texts,
-            gather: None,
-        }),
-        Value::Gathered(gathered) => Ok(InPart {
-            name: name.copy(alloc)?,
-            texts: List::new(alloc),
-            gather: Some(GatherPart {
-                checkpoint: gathered.checkpoint,
-                listed: gathered.listed,
-                wanted: gathered.wanted,
-            }),
-        }),
-        other => Err(refused(alloc, word, &other)),
-    }
-}
+impl Item for InPart {
+    ghost use Rattle.smk_eval_rules.specs.Items.{input};
 
-impl Takes for List<InPart> {
-    ghost use Rattle.smk_eval_rules.specs.Items.{added, input};
+    ghost meant = { input };
 
-    ghost taken = { λ word made name v. added made (input word name v) };
-
-    fn take(
-        self,
+    fn of_value(
         alloc: Global,
-        word: &Text,
+        word: &str,
         name: &Text,
         value: Value,
-    ) -> Result<List<InPart>, ValueFault> {
-        let mut made = self;
-        made.push(input(alloc, word.as_str(), name, value)?)?;
-        Ok(made)
+    ) -> Result<InPart, ValueFault> {
+        match value {
+            Value::Word(text) => Ok(InPart {
+                name: name.copy(alloc)?,
+                texts: one(alloc, text)?,
+                gather: None,
+            }),
+            Value::Many(texts) => Ok(InPart {
+                name: name.copy(alloc)?,
+                texts,
+                gather: None,
+            }),
+            Value::Gathered(gathered) => Ok(InPart {
+                name: name.copy(alloc)?,
+                texts: List::new(alloc),
+                gather: Some(GatherPart {
+                    checkpoint: gathered.checkpoint,
+                    listed: gathered.listed,
+                    wanted: gathered.wanted,
+                }),
+            }),
+            other => Err(refused(alloc, word, &other)),
+        }
     }
 }
 
@@ -150,119 +168,66 @@ fn flagged(
     })
 }
 
-// An item of outputs.
-fn output(alloc: Global, word: &str, name: &Text, value: Value) -> Result<OutPart, ValueFault>
-    ensures { Tells result (spec.output word.now name.now value) }
-{
-    match value {
-        Value::Word(text) => Ok(flagged(alloc, name, [].as_slice(), one(alloc, text)?.as_slice())?),
-        Value::Many(texts) => Ok(flagged(alloc, name, [].as_slice(), texts.as_slice())?),
-        Value::Flagged(inner) => {
-            let flags = flags_of(alloc, inner.flags.as_slice())?;
-            Ok(flagged(alloc, name, flags.as_slice(), inner.texts.as_slice())?)
+impl Item for OutPart {
+    ghost use Rattle.smk_eval_rules.specs.Items.{output};
+
+    ghost meant = { output };
+
+    fn of_value(
+        alloc: Global,
+        word: &str,
+        name: &Text,
+        value: Value,
+    ) -> Result<OutPart, ValueFault> {
+        match value {
+            Value::Word(text) => Ok(flagged(
+                alloc,
+                name,
+                [].as_slice(),
+                one(alloc, text)?.as_slice(),
+            )?),
+            Value::Many(texts) => Ok(flagged(alloc, name, [].as_slice(), texts.as_slice())?),
+            Value::Flagged(inner) => {
+                let flags = flags_of(alloc, inner.flags.as_slice())?;
+                Ok(flagged(alloc, name, flags.as_slice(), inner.texts.as_slice())?)
+            }
+            other => Err(refused(alloc, word, &other)),
         }
-        other => Err(refused(alloc, word, &other)),
     }
 }
 
-impl Takes for List<OutPart> {
-    ghost use Rattle.smk_eval_rules.specs.Items.{added, output};
+impl Item for Values {
+    ghost use Rattle.smk_eval_rules.specs.Items.{param};
 
-    ghost taken = { λ word made name v. added made (output word name v) };
+    ghost meant = { param };
 
-    fn take(
-        self,
+    fn of_value(
         alloc: Global,
-        word: &Text,
+        word: &str,
         name: &Text,
         value: Value,
-    ) -> Result<List<OutPart>, ValueFault> {
-        let mut made = self;
-        made.push(output(alloc, word.as_str(), name, value)?)?;
-        Ok(made)
-    }
-}
-
-impl Takes for List<Values> {
-    ghost use Rattle.smk_eval_rules.specs.Items.{added, param};
-
-    ghost taken = { λ word made name v. added made (param word name v) };
-
-    fn take(
-        self,
-        alloc: Global,
-        word: &Text,
-        name: &Text,
-        value: Value,
-    ) -> Result<List<Values>, ValueFault> {
-        let mut made = self;
-        made.push(Values {
+    ) -> Result<Values, ValueFault> {
+        Ok(Values {
             name: name.copy(alloc)?,
-            values: list_items(alloc, &value, word.as_str())?,
-        })?;
-        Ok(made)
+            values: list_items(alloc, &value, word)?,
+        })
     }
 }
 
-// The texts with more after them.
-fn joined(alloc: Global, texts: List<Text>, more: &[Text]) -> Result<List<Text>, OutOfMemory>
-    ensures { IfOk result (λ all. all ≡ texts ++ more.now) }
-{
-    let mut texts = texts;
-    for text in more {
-        texts.push(text.copy(alloc)?)?;
-    }
-    Ok(texts)
-}
+impl Item for Pair {
+    ghost use Rattle.smk_eval_rules.specs.Items.{limit};
 
-impl Takes for List<Text> {
-    ghost use Rattle.std.specs.Prelude.{Ok, ◌++◌};
-    ghost use Rattle.smk_eval_values.specs.Expressions.{and_then};
-    ghost use Rattle.smk_eval_rules.specs.Items.{log};
+    ghost meant = { limit };
 
-    ghost taken = { λ word made _ v. and_then (log word v) (λ ts. Ok (made ++ ts)) };
-
-    fn take(
-        self,
-        alloc: Global,
-        word: &Text,
-        _name: &Text,
-        value: Value,
-    ) -> Result<List<Text>, ValueFault> {
-        let more = texts(alloc, word.as_str(), value)?;
-        Ok(joined(alloc, self, more.as_slice())?)
-    }
-}
-
-// A constraint of a wildcard.
-fn limit(alloc: Global, word: &str, name: &Text, value: Value) -> Result<Pair, ValueFault>
-    ensures { Tells result (spec.limit word.now name.now value) }
-{
-    if name.as_str() == "" {
-        return Err(refused(alloc, word, &value));
-    }
-    let value = text(alloc, word, value)?;
-    Ok(Pair {
-        name: name.copy(alloc)?,
-        value,
-    })
-}
-
-impl Takes for List<Pair> {
-    ghost use Rattle.smk_eval_rules.specs.Items.{added, limit};
-
-    ghost taken = { λ word made name v. added made (limit word name v) };
-
-    fn take(
-        self,
-        alloc: Global,
-        word: &Text,
-        name: &Text,
-        value: Value,
-    ) -> Result<List<Pair>, ValueFault> {
-        let mut made = self;
-        made.push(limit(alloc, word.as_str(), name, value)?)?;
-        Ok(made)
+    fn of_value(alloc: Global, word: &str, name: &Text, value: Value) -> Result<Pair, ValueFault> {
+        if name.as_str() == "" {
+            return Err(refused(alloc, word, &value));
+        }
+        let value = text(alloc, word, value)?;
+        Ok(Pair {
+            name: name.copy(alloc)?,
+            value,
+        })
     }
 }
 
@@ -326,66 +291,6 @@ impl Takes for Resources {
     }
 }
 
-/// The items of inputs.
-pub(crate) fn inputs<S: Scope>(
-    alloc: Global,
-    items: &[ItemForm],
-    scope: &S,
-    word: &Text,
-) -> Result<List<InPart>, ValueFault>
-    ensures { Tells result (spec.each_item (spec.input word.now) (map (named_in word.now (S.seen scope.now)) items.now)) }
-{
-    with_items(alloc, List::new(alloc), items, scope, word)
-}
-
-/// The items of outputs.
-pub(crate) fn outputs<S: Scope>(
-    alloc: Global,
-    items: &[ItemForm],
-    scope: &S,
-    word: &Text,
-) -> Result<List<OutPart>, ValueFault>
-    ensures { Tells result (spec.each_item (spec.output word.now) (map (named_in word.now (S.seen scope.now)) items.now)) }
-{
-    with_items(alloc, List::new(alloc), items, scope, word)
-}
-
-/// The items of params.
-pub(crate) fn params<S: Scope>(
-    alloc: Global,
-    items: &[ItemForm],
-    scope: &S,
-    word: &Text,
-) -> Result<List<Values>, ValueFault>
-    ensures { Tells result (spec.each_item (spec.param word.now) (map (named_in word.now (S.seen scope.now)) items.now)) }
-{
-    with_items(alloc, List::new(alloc), items, scope, word)
-}
-
-/// The texts of logs.
-pub(crate) fn logs<S: Scope>(
-    alloc: Global,
-    items: &[ItemForm],
-    scope: &S,
-    word: &Text,
-) -> Result<List<Text>, ValueFault>
-    ensures { Tells result (spec.all_logs word.now (map (named_in word.now (S.seen scope.now)) items.now)) }
-{
-    with_items(alloc, List::new(alloc), items, scope, word)
-}
-
-/// The constraints of wildcards.
-pub(crate) fn limits<S: Scope>(
-    alloc: Global,
-    items: &[ItemForm],
-    scope: &S,
-    word: &Text,
-) -> Result<List<Pair>, ValueFault>
-    ensures { Tells result (spec.each_item (spec.limit word.now) (map (named_in word.now (S.seen scope.now)) items.now)) }
-{
-    with_items(alloc, List::new(alloc), items, scope, word)
-}
-
 // No resources.
 fn no_resources(alloc: Global) -> Resources
     ensures { result ≡ record { amounts = []; words = [] } }
@@ -394,6 +299,18 @@ fn no_resources(alloc: Global) -> Resources
         amounts: List::new(alloc),
         words: List::new(alloc),
     }
+}
+
+/// The items of a directive of this word, each as one.
+pub(crate) fn each_item<S: Scope, I: Item>(
+    alloc: Global,
+    items: &[ItemForm],
+    scope: &S,
+    word: &Text,
+) -> Result<List<I>, ValueFault>
+    ensures { Tells result (spec.each_item (I.meant word.now) (map (named_in word.now (S.seen scope.now)) items.now)) }
+{
+    with_items(alloc, List::new(alloc), items, scope, word)
 }
 
 /// The resources.

@@ -7,7 +7,7 @@ ghost use Rattle.smk_base.specs.declared.tree.Pair.{Pair};
 ghost use Rattle.smk_eval_rules.specs.Kept.{holds, all_lent};
 ghost use Rattle.smk_eval_rules.specs.Rules as spec;
 
-use crate::items::limits;
+use crate::items::each_item;
 use smk_base::{Copied, List, OutOfMemory, Pair, Text};
 use smk_eval_values::{Scope, ValueFault};
 use smk_flow::RulePart;
@@ -26,7 +26,7 @@ pub fn global_limits<S: Scope>(
     ensures { Tells result (spec.global_limits (S.seen scope.now) items.now) }
 {
     let word = Text::of(alloc, "wildcard_constraints")?;
-    limits(alloc, items, scope, &word)
+    each_item(alloc, items, scope, &word)
 }
 
 // The constraints by their names.

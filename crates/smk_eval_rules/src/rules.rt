@@ -4,9 +4,11 @@ ghost use Rattle.std.specs.Prelude.{◌≡◌, IfOk};
 ghost use Rattle.smk_eval_values.specs.Values.{Tells};
 ghost use Rattle.smk_eval_rules.specs.Rules as spec;
 
+use crate::commands::with_places;
 use crate::directive::{Directive, directive_of};
-use crate::items::{GREATEST, inputs, limits, logs, outputs, params, resources};
+use crate::items::{GREATEST, each_item, resources};
 use crate::limits::with_globals;
+use crate::logs::{Logs, NamedRule, all_logs};
 use crate::one::{one_number, one_text, one_truth};
 use crate::resources::Resources;
 use smk_base::{List, OutOfMemory, Pair, PathText};
@@ -16,13 +18,13 @@ use smk_parse_tree::{DirectiveForm, RuleForm};
 use std::alloc::Global;
 
 // What a rule has before its directives.
-fn begun(
+fn begun_part(
     alloc: Global,
     form: &RuleForm,
     file: &PathText,
     line: u64,
 ) -> Result<RulePart, OutOfMemory>
-    ensures { IfOk result (λ part. part ≡ spec.begun form.now file.now line) }
+    ensures { IfOk result (λ part. part ≡ spec.begun_part form.now file.now line) }
 {
     Ok(RulePart {
         name: form.name.copy(alloc)?,
@@ -43,6 +45,22 @@ fn begun(
     })
 }
 
+// The same, with no item of logs.
+fn begun(
+    alloc: Global,
+    form: &RuleForm,
+    file: &PathText,
+    line: u64,
+) -> Result<NamedRule, OutOfMemory>
+    ensures { IfOk result (λ rule. rule ≡ spec.begun form.now file.now line) }
+{
+    let part = begun_part(alloc, form, file, line)?;
+    Ok(NamedRule {
+        part,
+        logs: List::new(alloc),
+    })
+}
+
 // The resources of a directive, in the rule.
 fn with_resources(part: RulePart, resources: Resources) -> RulePart
     ensures { result ≡ record part { amounts = resources.amounts; words = resources.words } }
@@ -53,33 +71,29 @@ fn with_resources(part: RulePart, resources: Resources) -> RulePart
     part
 }
 
-// The rule with what the directive says.
-fn with_directive<S: Scope>(
+// The rule with what the directive says, which isn't `log`.
+fn with_other<S: Scope>(
     alloc: Global,
     part: RulePart,
     form: &DirectiveForm,
     scope: &S,
 ) -> Result<RulePart, ValueFault>
-    ensures { Tells result (spec.with_directive (S.seen scope.now) part form.now) }
+    ensures { Tells result (spec.with_other (S.seen scope.now) part form.now) }
 {
     let mut part = part;
     let items = form.items.as_slice();
     let word = &form.word;
     match directive_of(word.as_str()) {
         Directive::Input => {
-            part.inputs = inputs(alloc, items, scope, word)?;
+            part.inputs = each_item(alloc, items, scope, word)?;
             Ok(part)
         }
         Directive::Output => {
-            part.outputs = outputs(alloc, items, scope, word)?;
+            part.outputs = each_item(alloc, items, scope, word)?;
             Ok(part)
         }
         Directive::Params => {
-            part.params = params(alloc, items, scope, word)?;
-            Ok(part)
-        }
-        Directive::Log => {
-            part.logs = logs(alloc, items, scope, word)?;
+            part.params = each_item(alloc, items, scope, word)?;
             Ok(part)
         }
         Directive::Threads => {
@@ -95,7 +109,7 @@ fn with_directive<S: Scope>(
             Ok(with_resources(part, resources))
         }
         Directive::Limits => {
-            part.limits = limits(alloc, items, scope, word)?;
+            part.limits = each_item(alloc, items, scope, word)?;
             Ok(part)
         }
         Directive::Shell => {
@@ -110,16 +124,47 @@ fn with_directive<S: Scope>(
     }
 }
 
+// The logs of a directive, in the rule.
+fn with_logs(part: RulePart, logs: Logs) -> NamedRule
+    ensures { result ≡ spec.with_logs part logs }
+{
+    let mut part = part;
+    part.logs = logs.texts;
+    NamedRule {
+        part,
+        logs: logs.items,
+    }
+}
+
+// The rule with what the directive says.
+fn with_directive<S: Scope>(
+    alloc: Global,
+    rule: NamedRule,
+    form: &DirectiveForm,
+    scope: &S,
+) -> Result<NamedRule, ValueFault>
+    ensures { Tells result (spec.with_directive (S.seen scope.now) rule form.now) }
+{
+    let NamedRule { part, logs } = rule;
+    if form.word.as_str() == "log" {
+        let logs = all_logs(alloc, form.items.as_slice(), scope, &form.word)?;
+        Ok(with_logs(part, logs))
+    } else {
+        let part = with_other(alloc, part, form, scope)?;
+        Ok(NamedRule { part, logs })
+    }
+}
+
 // The rule with what these directives say, in order.
 fn with_directives<S: Scope>(
     alloc: Global,
-    part: RulePart,
+    rule: NamedRule,
     forms: &[DirectiveForm],
     scope: &S,
-) -> Result<RulePart, ValueFault>
-    ensures { Tells result (spec.with_directives (S.seen scope.now) part forms.now) }
+) -> Result<NamedRule, ValueFault>
+    ensures { Tells result (spec.with_directives (S.seen scope.now) rule forms.now) }
 {
-    let mut made = part;
+    let mut made = rule;
     for form in forms {
         match with_directive(alloc, made, form, scope) {
             Ok(now) => made = now,
@@ -131,7 +176,8 @@ fn with_directives<S: Scope>(
 
 /// The rule that its form makes in a scope, its directives evaluated in the order in which they stand; `file` is the file that it stands
 /// in, `line` the first line of its statement, and `globals` are the constraints of the whole file, which hold for all names but
-/// those of the rule's own. A rule has 1 thread and the priority 0 where it doesn't say otherwise.
+/// those of the rule's own. A rule has 1 thread and the priority 0 where it doesn't say otherwise. In its command a field `{log.NAME}`,
+/// where an item of its logs has this name, stands as the fields `{log[K]}` of the places of the item's texts, with a space between.
 ///
 /// The fault is the first one, of a value or of what doesn't stand there: a value of another kind than the directive has or out of its
 /// limits, a flag outside `output`, more than one item or a named one in a directive of one value, an item without a name where
@@ -147,7 +193,8 @@ pub fn rule_part<S: Scope>(
 ) -> Result<RulePart, ValueFault>
     ensures { Tells result (spec.rule_of (S.seen scope.now) globals.now form.now file.now line) }
 {
-    let part = begun(alloc, form, file, line)?;
-    let part = with_directives(alloc, part, form.directives.as_slice(), scope)?;
+    let rule = begun(alloc, form, file, line)?;
+    let rule = with_directives(alloc, rule, form.directives.as_slice(), scope)?;
+    let part = with_places(alloc, rule)?;
     Ok(with_globals(alloc, part, globals)?)
 }

@@ -5,9 +5,9 @@ use Rattle.std.specs.List.{find}
 use Rattle.std.proofs.lemmas.List.{drop_all}
 use Rattle.std.proofs.lemmas.Option.{none-some}
 use Rattle.smk_flow.specs.declared.job.Job.{Job}
-use Rattle.smk_format.specs.Templates.{Text, Symbol, Plain, written, symbols, first_brace}
+use Rattle.smk_template.specs.Templates.{Text, Symbol, Plain, written, symbols, first_brace}
 use Rattle.smk_format.specs.Commands.{has_value, first_missing, symbol_text, filled}
-use Rattle.smk_format.proofs.Read.{symbols_before}
+use Rattle.smk_template.proofs.Read.{symbols_before}
 
 -- bytes that stand for themselves
 pub filled_plain : (job : Job) (n : ℕ) (t : Text) (ss : List Symbol) → filled job n (map Plain t ++ ss) ≡ t ++ filled job n ss

@@ -1,5 +1,4 @@
 pub mod Digits
-pub mod Read
 pub mod Filled
 mod Rows
 pub mod Numbered

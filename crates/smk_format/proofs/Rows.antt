@@ -3,7 +3,7 @@ use Rattle.std.proofs.Common.{◌≡◌, ℕ, List, [], ◌∷◌, ◌++◌, Opt
 use Rattle.std.specs.Fmt.{digits}
 use Rattle.smk_world.specs.declared.recipe.Kind.TheVariants.{Plain}
 use Rattle.smk_flow.specs.declared.job.Job.{Job}
-use Rattle.smk_format.specs.Templates.{Text}
+use Rattle.smk_template.specs.Templates.{Text}
 use Rattle.smk_format.specs.Fields.{values_by, place_in, place_of}
 use Rattle.smk_format.specs.Commands.{missing, command, excess}
 

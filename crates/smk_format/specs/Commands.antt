@@ -2,7 +2,7 @@
 use Rattle.std.specs.Prelude.{ℕ, Bool, true, false, ◌||◌, ◌==◌, not, nat_lt, List, [], ◌∷◌, length, Option, Some, None, option_map, is_some, decimal, codes, if◌then◌else◌}
 use Rattle.std.specs.List.{find, flat_map, list_any, join_by}
 use Rattle.smk_flow.specs.declared.job.Job.{Job}
-use Rattle.smk_format.specs.Templates.{Text, Symbol, Plain, Field, Loose, symbols, written}
+use Rattle.smk_template.specs.Templates.{Text, Symbol, Plain, Field, Loose, symbols, written}
 use Rattle.smk_format.specs.Fields.{is_threads, values_of}
 
 -- whether it stands for something

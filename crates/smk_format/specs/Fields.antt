@@ -10,7 +10,7 @@ use Rattle.smk_world.specs.declared.recipe.Item.{Item}
 use Rattle.smk_world.specs.declared.recipe.OutItem.{OutItem}
 use Rattle.smk_world.specs.declared.recipe.Out.{Out}
 use Rattle.smk_flow.specs.declared.job.Job.{Job}
-use Rattle.smk_format.specs.Templates.{Text}
+use Rattle.smk_template.specs.Templates.{Text}
 
 -- ## What a job has under a name
 

@@ -1,21 +1,12 @@
 -- What the code's values are.
 use Rattle.std.specs.Prelude.{ℕ, List, [], ◌∷◌, Option, Some, None, decimal}
 use Rattle.smk_pattern.specs.Searching.{now_of}
-use Rattle.smk_format.specs.declared.reading.Symbol.{Symbol}
-use Rattle.smk_format.specs.declared.reading.Symbol.TheVariants as symbol
 use Rattle.smk_format.specs.declared.picks.Pick.{Pick}
 use Rattle.smk_format.specs.declared.picks.Pick.TheVariants as pick
 use Rattle.smk_format.specs.declared.items.Found.{Found}
 use Rattle.smk_format.specs.declared.items.Found.TheVariants as found
-use Rattle.smk_format.specs.Templates.{Text}
-use Rattle.smk_format.specs.Templates as template
+use Rattle.smk_template.specs.Templates.{Text}
 use Rattle.smk_format.specs.Fields as field
-
-abbrev pub symbol_of : Symbol → template.Symbol
-symbol_of symbol.Opening = template.Plain 123
-symbol_of symbol.Closing = template.Plain 125
-symbol_of (symbol.Field text) = template.Field text.now
-symbol_of (symbol.Loose text) = template.Loose text.now
 
 abbrev pub pick_of : Pick → field.Pick
 pick_of pick.All = field.All

@@ -1,4 +1,3 @@
-pub mod Templates
 pub mod Fields
 pub mod Commands
 pub mod Found

@@ -1,18 +1,18 @@
 //! The command of a job.
 
 ghost use Rattle.std.specs.Prelude.{◌≡◌, ◌++◌, ◌∷◌, [], ℕ, List, Option, Ok, Err, Some, None, IfOk, OnOk, string_bytes, true, is_some};
-ghost use Rattle.smk_format.specs.Templates.{Field, symbols, braced};
+ghost use Rattle.smk_template.specs.Templates.{Field, symbols, braced};
 ghost use Rattle.smk_format.specs.Fields as fields;
 ghost use Rattle.smk_format.specs.Commands as spec;
-ghost use Rattle.smk_format.specs.Found.{symbol_of};
+ghost use Rattle.smk_template.specs.Symbols.{symbol_of};
 ghost use Rattle.smk_format.specs.declared.fault.FormatFault.{FormatFault};
 
 use crate::fault::FormatFault;
 use crate::fields::{push_found, push_number, values_of};
 use crate::items::Found;
-use crate::reading::{Symbol, first_brace, symbol_in};
 use smk_base::{OutOfMemory, Text};
 use smk_flow::Job;
+use smk_template::{Symbol, first_brace, symbol_in};
 use std::alloc::{AllocError, Global};
 
 // The most bytes that a command may have.

@@ -10,7 +10,6 @@ mod items;
 mod making;
 mod names;
 mod picks;
-mod reading;
 
 pub use checking::check_commands;
 pub use fault::FormatFault;

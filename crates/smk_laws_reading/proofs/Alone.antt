@@ -17,8 +17,10 @@ use Rattle.smk_eval_values.specs.Expressions as values
 use Rattle.smk_flow.specs.declared.rule.InPart.{InPart}
 use Rattle.smk_flow.specs.declared.rule.RulePart.{RulePart}
 use Rattle.smk_flow.specs.Flows.{Flow}
-use Rattle.smk_eval_rules.specs.Items.{added, all_logs, all_resources, each_item, greatest, input, limit, one_number, one_text, one_truth, output, param, written}
-use Rattle.smk_eval_rules.specs.Rules.{begun, directive_of, rule_of, said, with_directive, with_directives, with_globals}
+use Rattle.smk_eval_rules.specs.declared.logs.NamedRule.{NamedRule}
+use Rattle.smk_eval_rules.specs.Logs.{all_logs, with_places}
+use Rattle.smk_eval_rules.specs.Items.{added, all_resources, each_item, greatest, input, limit, one_number, one_text, one_truth, output, param, written}
+use Rattle.smk_eval_rules.specs.Rules.{begun, directive_of, rule_of, said, with_directive, with_directives, with_globals, with_logs, with_other}
 use Rattle.smk_flaws.specs.declared.fault.EvalFault.{EvalFault}
 use Rattle.smk_flaws.specs.declared.fault.LoadFault.{LoadFault}
 use Rattle.smk_eval_files.specs.declared.files.ReadFile.{ReadFile}
@@ -132,25 +134,39 @@ module _ (w : List ℕ) (p q : RulePart) (items : List Named) (all : RuleIs p) w
       tested (λ d. said d w p items ≡ Ok q → RuleIs q) (bytes_eq w (codes "input")) inputs_alone
       (tested (λ d. said d w p items ≡ Ok q → RuleIs q) (bytes_eq w (codes "output")) (kept (each_item (output w) items) (λ x. record p { outputs = x }) p q (λ a. refl) all)
       (tested (λ d. said d w p items ≡ Ok q → RuleIs q) (bytes_eq w (codes "params")) (kept (each_item (param w) items) (λ x. record p { params = x }) p q (λ a. refl) all)
-      (tested (λ d. said d w p items ≡ Ok q → RuleIs q) (bytes_eq w (codes "log")) (kept (all_logs w items) (λ x. record p { logs = x }) p q (λ a. refl) all)
       (tested (λ d. said d w p items ≡ Ok q → RuleIs q) (bytes_eq w (codes "threads")) (kept (one_number w 1 4096 items) (λ x. record p { threads = x }) p q (λ a. refl) all)
       (tested (λ d. said d w p items ≡ Ok q → RuleIs q) (bytes_eq w (codes "priority")) (kept (one_number w 0 greatest items) (λ x. record p { priority = x }) p q (λ a. refl) all)
       (tested (λ d. said d w p items ≡ Ok q → RuleIs q) (bytes_eq w (codes "resources")) (kept (all_resources w items) (λ x. record p { amounts = x.amounts; words = x.words }) p q (λ a. refl) all)
       (tested (λ d. said d w p items ≡ Ok q → RuleIs q) (bytes_eq w (codes "wildcard_constraints")) (kept (each_item (limit w) items) (λ x. record p { limits = x }) p q (λ a. refl) all)
       (tested (λ d. said d w p items ≡ Ok q → RuleIs q) (bytes_eq w (codes "shell")) (kept (one_text w items) (λ x. record p { command = Some x }) p q (λ a. refl) all)
       (tested (λ d. said d w p items ≡ Ok q → RuleIs q) (bytes_eq w (codes "default_target")) (kept (one_truth w items) (λ x. record p { default_target = x }) p q (λ a. refl) all)
-      (λ h. subst RuleIs (ok_same p q h) all))))))))))
+      (λ h. subst RuleIs (ok_same p q h) all)))))))))
 
-directives_alone : (s : Scope) (p q : RulePart) (ds : List DirectiveForm) → RuleIs p → with_directives s p ds ≡ Ok q → RuleIs q
-directives_alone s p q [] all h = subst RuleIs (ok_same p q h) all
-directives_alone s p q (d ∷ ds) all h =
-    let r = then_ok (with_directive s p d) (λ now. with_directives s now ds) q h in
-    directives_alone s r.0 q ds (said_alone d.word p r.0 (map (named_in d.word s) d.items) all r.1) r.2
+abbrev NamedIs : NamedRule → Type 0
+NamedIs r = RuleIs r.part
+
+directive_alone : (s : Scope) (r q : NamedRule) (d : DirectiveForm) → NamedIs r → with_directive s r d ≡ Ok q → NamedIs q
+directive_alone s r q d all = tested (λ x. x ≡ Ok q → NamedIs q) (bytes_eq d.word (codes "log")) logs others
+  where
+    logs : values.and_then (all_logs d.word (map (named_in d.word s) d.items)) (λ x. Ok (with_logs r.part x)) ≡ Ok q → NamedIs q
+    logs h =
+        let x = then_ok (all_logs d.word (map (named_in d.word s) d.items)) (λ x. Ok (with_logs r.part x)) q h in
+        subst NamedIs (ok_same (with_logs r.part x.0) q x.2) all
+    others : values.and_then (with_other s r.part d) (λ p. Ok (record { part = p; logs = r.logs })) ≡ Ok q → NamedIs q
+    others h =
+        let x = then_ok (with_other s r.part d) (λ p. Ok (record { part = p; logs = r.logs })) q h in
+        subst NamedIs (ok_same (record { part = x.0; logs = r.logs }) q x.2) (said_alone d.word r.part x.0 (map (named_in d.word s) d.items) all x.1)
+
+directives_alone : (s : Scope) (r q : NamedRule) (ds : List DirectiveForm) → NamedIs r → with_directives s r ds ≡ Ok q → NamedIs q
+directives_alone s r q [] all h = subst NamedIs (ok_same r q h) all
+directives_alone s r q (d ∷ ds) all h =
+    let x = then_ok (with_directive s r d) (λ now. with_directives s now ds) q h in
+    directives_alone s x.0 q ds (directive_alone s r x.0 d all x.1) x.2
 
 rule_alone : (s : Scope) (globals : List Pair) (form : RuleForm) (file : List ℕ) (line : ℕ) (q : RulePart) → rule_of s globals form file line ≡ Ok q → RuleIs q
 rule_alone s globals form file line q h =
-    let r = then_ok (with_directives s (begun form file line) form.directives) (λ p. Ok (with_globals globals p)) q h in
-    subst RuleIs (ok_same (with_globals globals r.0) q r.2) (directives_alone s (begun form file line) r.0 form.directives (λ x i. absurd i) r.1)
+    let r = then_ok (with_directives s (begun form file line) form.directives) (λ r. Ok (with_globals globals (with_places r))) q h in
+    subst RuleIs (ok_same (with_globals globals (with_places r.0)) q r.2) (directives_alone s (begun form file line) r.0 form.directives (λ x i. absurd i) r.1)
 
 -- ## The default target
 

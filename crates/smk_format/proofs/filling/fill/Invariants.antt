@@ -1,7 +1,7 @@
 use Rattle.std.proofs.Common.{◌≡◌, ◌++◌, length, string_bytes}
 use denote.Shadow.{shadow}
 use denote.Text.{Utf8}
-use Rattle.smk_format.specs.Templates.{symbols}
+use Rattle.smk_template.specs.Templates.{symbols}
 use Rattle.smk_format.specs.Commands.{first_missing, filled}
 use Rattle.smk_format.proofs.filling.fill.Given as goal
 

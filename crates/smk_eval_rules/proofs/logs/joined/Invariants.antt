@@ -1,5 +1,5 @@
 use Rattle.std.proofs.Common.{◌≡◌, ◌++◌, take}
-use Rattle.smk_eval_rules.proofs.items.joined.Given as goal
+use Rattle.smk_eval_rules.proofs.logs.joined.Given as goal
 
 abbrev pub invariant-loop-text : goal.invariant-loop-text
 invariant-loop-text l = l.texts ≡ l.fn.texts ++ take l.text-index l.more

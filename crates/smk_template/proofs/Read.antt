@@ -2,7 +2,7 @@
 use Rattle.std.proofs.Common.{◌≡◌, ℕ, zero, suc, ◌+◌, ◌<◌, ◌≤◌, ◌==◌, ◌||◌, ◌&&◌, Bool, true, false, cond, List, [], ◌∷◌, ◌++◌, take, drop, map, length, get_or, refl, ap, sym, ◌∙◌, arith, append_assoc, append-nil, add-one}
 use Rattle.std.proofs.lemmas.Bool.Decides.{nat_tests}
 use Rattle.std.proofs.lemmas.Bool.{ne_eqb}
-use Rattle.smk_format.specs.Templates.{Text, Symbol, Plain, Field, Loose, is_brace, first_brace, is_closed, is_doubled, opened, opened_more, undoubled, undoubled_more, symbol_at, more_at, symbols_after, symbols}
+use Rattle.smk_template.specs.Templates.{Text, Symbol, Plain, Field, Loose, is_brace, first_brace, is_closed, is_doubled, opened, opened_more, undoubled, undoubled_more, symbol_at, more_at, symbols_after, symbols}
 
 pub symbols_skipped : (k : ℕ) (t : Text) → symbols_after k t ≡ symbols (drop k t)
 symbols_skipped zero t = refl
@@ -10,7 +10,7 @@ symbols_skipped (suc k) [] = refl
 symbols_skipped (suc k) (b ∷ t) = symbols_skipped k t
 
 -- a byte that is no brace stands for itself
-plain_first : (b : ℕ) (t : Text) → is_brace b ≡ false → symbols (b ∷ t) ≡ Plain b ∷ symbols t
+pub plain_first : (b : ℕ) (t : Text) → is_brace b ≡ false → symbols (b ∷ t) ≡ Plain b ∷ symbols t
 plain_first b t e = ap (λ (v : Bool). cond v (cond (is_doubled b t) (Plain b) (undoubled b t)) (Plain b) ∷ symbols_after (cond v (cond (is_doubled b t) 1 (undoubled_more b t)) 0) t) e
 
 before_step : (b : ℕ) (t : Text) (v : Bool) → is_brace b ≡ v → symbols t ≡ map Plain (take (first_brace t) t) ++ symbols (drop (first_brace t) t)

@@ -1,7 +1,7 @@
 use Rattle.std.proofs.Common.{◌≡◌, ◌<◌, List, ℕ, length, get_or, subst}
 use Rattle.std.proofs.lemmas.Str.{IsCharBoundary-after_ascii}
-use Rattle.smk_format.proofs.Read.{brace_small}
-use Rattle.smk_format.proofs.reading.symbol_in.Goals as goal
+use Rattle.smk_template.proofs.Read.{brace_small}
+use Rattle.smk_template.proofs.reading.symbol_in.Goals as goal
 
 pub range_from-after-requires : goal.range_from-after-requires
 range_from-after-requires c = λ _. IsCharBoundary-after_ascii c.args.text.now 0 c.utf8.text c.requires.some (brace_small _ c.requires.brace)

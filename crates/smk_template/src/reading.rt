@@ -1,12 +1,12 @@
 //! The symbols of a template.
 
 ghost use Rattle.std.specs.Prelude.{◌≡◌, ◌<◌, ◌≤◌, ◌∷◌, IsUtf8, length, slice_index, drop, true, false};
-ghost use Rattle.smk_format.specs.Templates as spec;
-ghost use Rattle.smk_format.specs.Found.{symbol_of};
+ghost use Rattle.smk_template.specs.Templates as spec;
+ghost use Rattle.smk_template.specs.Symbols.{symbol_of};
 
 /// What begins at a brace.
 #[derive(Drop)]
-pub(crate) enum Symbol<'t> {
+pub enum Symbol<'t> {
     /// One opening brace.
     Opening,
     /// One closing brace.
@@ -28,7 +28,7 @@ fn byte(text: &[u8], at: usize) -> u8
 }
 
 /// How many bytes stand before the first brace.
-pub(crate) fn first_brace(text: &[u8]) -> usize
+pub fn first_brace(text: &[u8]) -> usize
     ensures value { result ≡ spec.first_brace text.now }
     ensures within { result ≤ length text.now }
     ensures brace { result < length text.now → spec.is_brace (slice_index text.now result) ≡ true }
@@ -85,7 +85,7 @@ fn opened(text: &str) -> (Symbol<'_>, &str)
 }
 
 /// What begins at the brace in front, and what follows it.
-pub(crate) fn symbol_in(text: &str) -> (Symbol<'_>, &str)
+pub fn symbol_in(text: &str) -> (Symbol<'_>, &str)
     requires some { 0 < length text.now }
     requires brace { spec.is_brace (slice_index text.now 0) ≡ true }
     ensures read { spec.symbols text.now ≡ symbol_of result.0 ∷ spec.symbols result.1.now }

@@ -1,5 +1,6 @@
 -- What stands in the template of a command.
 use Rattle.std.specs.Prelude.{ℕ, zero, suc, Bool, ◌||◌, ◌==◌, List, [], ◌∷◌, ◌++◌, take, slice_index, if◌then◌else◌}
+use Rattle.std.specs.List.{flat_map}
 
 abbrev pub Text : Type 0
 Text = List ℕ
@@ -70,3 +71,13 @@ abbrev pub written : Symbol → Text
 written (Plain b) = b ∷ []
 written (Field field) = braced field
 written (Loose text) = text
+
+-- a symbol as it stands in a template
+abbrev pub spelled : Symbol → Text
+spelled (Plain b) = if is_brace b then b ∷ b ∷ [] else b ∷ []
+spelled (Field field) = braced field
+spelled (Loose text) = text
+
+-- the template of these symbols
+abbrev pub template_of : List Symbol → Text
+template_of = flat_map spelled
