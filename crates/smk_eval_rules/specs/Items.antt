@@ -1,7 +1,6 @@
 -- What the items of a directive stand for.
-use Rattle.std.specs.Prelude.{ℕ, Bool, true, false, List, [], ◌∷◌, ◌++◌, map, nat_le, ◌&&◌, codes, bytes_eq, if◌then◌else◌, Option, Some, None, Result, Ok, Err}
+use Rattle.std.specs.Prelude.{ℕ, Bool, List, [], ◌∷◌, ◌++◌, map, nat_le, ◌&&◌, codes, bytes_eq, if◌then◌else◌, Option, Some, None, Result, Ok, Err}
 use Rattle.smk_base.specs.declared.tree.Pair.{Pair}
-use Rattle.smk_base.specs.declared.tree.Amount.{Amount}
 use Rattle.smk_world.specs.declared.recipe.Values.{Values}
 use Rattle.smk_lex.specs.Pieces.{number_of}
 use Rattle.smk_eval_values.specs.declared.value.Value.{Value}
@@ -12,7 +11,6 @@ use Rattle.smk_eval_values.specs.Values.{first_flag, list_items}
 use Rattle.smk_eval_values.specs.Expressions.{Valued, Named, and_then, each}
 use Rattle.smk_flow.specs.declared.rule.InPart.{InPart}
 use Rattle.smk_flow.specs.declared.rule.OutPart.{OutPart}
-use Rattle.smk_flow.specs.declared.rule.FlaggedText.{FlaggedText}
 use Rattle.smk_flow.specs.declared.rule.Flag.{Flag}
 use Rattle.smk_flow.specs.declared.rule.Flag.TheVariants.{Temp, Protected, Folder}
 use Rattle.smk_eval_rules.specs.declared.resources.Resources.{Resources}

@@ -12,7 +12,6 @@ use Rattle.smk_eval_rules.specs.declared.directive.Directive.{Directive}
 use Rattle.smk_eval_rules.specs.declared.directive.Directive.TheVariants as is
 use Rattle.smk_eval_rules.specs.declared.logs.NamedRule.{NamedRule}
 use Rattle.smk_eval_rules.specs.declared.logs.Logs.{Logs}
-use Rattle.smk_eval_rules.specs.declared.resources.Resources.{Resources}
 use Rattle.smk_eval_rules.specs.Logs.{all_logs, with_places}
 use Rattle.smk_eval_rules.specs.Items.{each_item, input, output, param, limit, all_resources, one_number, one_text, one_truth, greatest}
 

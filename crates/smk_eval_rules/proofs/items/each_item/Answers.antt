@@ -1,5 +1,4 @@
-use Rattle.std.proofs.Common.{List, ℕ, ◌++◌, map, subst}
-use Rattle.std.specs.Prelude.{Ok}
+use Rattle.std.proofs.Common.{List, map, subst}
 use Rattle.smk_eval_values.specs.Values.{Tells}
 use Rattle.smk_eval_values.specs.Expressions.{Named, each, named_in}
 use Rattle.smk_eval_rules.specs.Items.{added}

@@ -1,7 +1,6 @@
-use Rattle.std.proofs.Common.{List, ℕ, ◌++◌, map, subst}
-use Rattle.std.specs.Prelude.{Ok}
+use Rattle.std.proofs.Common.{map, subst}
 use Rattle.smk_eval_values.specs.Values.{Tells}
-use Rattle.smk_eval_values.specs.Expressions.{Named, and_then, each, named_in}
+use Rattle.smk_eval_values.specs.Expressions.{Named, each, named_in}
 use Rattle.smk_eval_rules.specs.declared.resources.Resources.{Resources}
 use Rattle.smk_eval_rules.specs.Items.{with_resource}
 use Rattle.smk_eval_rules.proofs.items.resources.Goals as goal

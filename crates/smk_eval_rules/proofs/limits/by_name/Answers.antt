@@ -1,4 +1,4 @@
-use Rattle.std.proofs.Common.{◌≡◌, ◌<◌, length, arith}
+use Rattle.std.proofs.Common.{◌<◌, length, arith}
 use Rattle.std.proofs.lemmas.Map.Text.{btree_map_updates_str}
 use Rattle.smk_eval_rules.proofs.Kept.{kept_more}
 use Rattle.smk_eval_rules.proofs.limits.by_name.Goals as goal

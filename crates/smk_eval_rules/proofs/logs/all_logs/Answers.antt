@@ -1,4 +1,4 @@
-use Rattle.std.proofs.Common.{List, ℕ, map, subst}
+use Rattle.std.proofs.Common.{map, subst}
 use Rattle.smk_eval_values.specs.Values.{Tells}
 use Rattle.smk_eval_values.specs.Expressions.{Named, each, named_in}
 use Rattle.smk_eval_rules.specs.declared.logs.Logs.{Logs}
