@@ -1,5 +1,5 @@
 -- The commands of the jobs that are due, by the states of all jobs.
-use Rattle.std.proofs.Common.{◌≡◌, ℕ, suc, true, false, not, List, [], ◌∷◌, refl, sym, Option, Some, None}
+use Rattle.std.proofs.Common.{◌≡◌, ℕ, suc, false, not, List, [], ◌∷◌, refl, sym, Option, Some, None, true≢false}
 use Rattle.std.specs.List.{zip}
 use Rattle.smk_flow.specs.declared.job.Job.{Job}
 use Rattle.smk_flow.specs.Flows.{Flow}
@@ -18,15 +18,12 @@ both_none : (a b : Option Fault) → or_later a b ≡ None → (a ≡ None) × (
 both_none None b h = (refl, h)
 both_none (Some f) b h = cc
 
-true_false : true ≡ false → ⊥
-true_false e = cc
-
 -- a job that is to run has a good command
-good_one : (flow : Flow) (cores : ℕ) (job : Job) (state : State) → false ≡ not (is_to_run state) → state_fault flow cores job state ≡ None → job_fault flow cores job ≡ None
-good_one flow cores job Open h k = absurd (true_false (sym h))
+pub good_one : (flow : Flow) (cores : ℕ) (job : Job) (state : State) → false ≡ not (is_to_run state) → state_fault flow cores job state ≡ None → job_fault flow cores job ≡ None
+good_one flow cores job Open h k = absurd (true≢false (sym h))
 good_one flow cores job (Dirty reasons) h k = k
 good_one flow cores job ToRestore h k = k
-good_one flow cores job Clean h k = absurd (true_false (sym h))
+good_one flow cores job Clean h k = absurd (true≢false (sym h))
 
 good_from : (flow : Flow) (cores : ℕ) (serial : ℕ → Option ℕ) (n : ℕ) (jobs : List Job) (states : List State) (duties : List Duty)
     → command_fault flow cores (zip jobs states) ≡ None → AreFor states duties → AreGood flow cores (due_from serial n duties jobs)

@@ -1,9 +1,9 @@
 -- The job whose turn is next.
-use Rattle.std.proofs.Common.{◌≡◌, ◌⊎◌, ◌<◌, ◌≤◌, ◌+◌, ℕ, zero, suc, List, [], ◌∷◌, length, drop, refl, ap, sym, subst, ◌∙◌, inl, inr, Option, Some, None, arith}
-use Rattle.std.proofs.Math.ListN.{get_or}
-use Rattle.std.proofs.lemmas.List.{drop_more}
+use Rattle.std.proofs.Common.{◌≡◌, ◌⊎◌, ◌≤◌, ◌+◌, ℕ, zero, suc, List, [], ◌∷◌, length, drop, refl, ap, sym, subst, ◌∙◌, inl, inr, Option, Some, None, arith}
 use Rattle.std.specs.Prelude.{slice_get}
 use Rattle.std.specs.Option.{option_and_then}
+use Rattle.std.proofs.lemmas.Option.{same_Some}
+use Rattle.std.proofs.Math.Numerals.{add-one}
 use Rattle.smk_world.specs.Trees.{Each}
 use Rattle.smk_flow.specs.declared.job.Job.{Job}
 use Rattle.smk_plan.specs.declared.duty.Duty.{Duty}
@@ -11,9 +11,6 @@ use Rattle.smk_plan.specs.declared.duty.Duty.TheVariants.{Rest, Restore, Run}
 use Rattle.smk_run.specs.Duties.{Due, due_from, due_serial}
 
 -- ## Lists
-
-pub at_place : {A : Type 0} (xs : List A) (i : ℕ) (x : A) → i < length xs → x ≡ get_or xs i x → drop i xs ≡ x ∷ drop (i + 1) xs
-at_place xs i x lt e = drop_more xs i x lt ∙ ap (λ y. y ∷ drop (i + 1) xs) (sym e)
 
 -- nothing is left at the place, or this
 abbrev Left : {A : Type 0} → List A → ℕ → Type 0
@@ -61,9 +58,6 @@ all_before (x ∷ xs) (suc i) h = let less = all_before xs i h in omega (arith, 
 no_serial : (serial x : Option ℕ) → None ≡ Some x → ⊥
 no_serial serial x h = cc
 
-same_serial : (serial x : Option ℕ) → Some serial ≡ Some x → serial ≡ x
-same_serial serial x h = cc
-
 -- the job of this number rests, or nothing is told of it
 pub passed : (serial : ℕ → Option ℕ) (i : ℕ) (duties : List Duty) (jobs js : List Job) (job : Job)
     → option_and_then (due_serial (serial i)) (slice_get duties i) ≡ None → drop i jobs ≡ job ∷ js
@@ -92,11 +86,11 @@ comes serial i duties jobs js job x some at = ap (due_from serial i (drop i duti
     by (Restore made) is e =
         ap (λ (l : List Duty). due_from serial i l (job ∷ js)) e
         ∙ ap (λ (s : Option ℕ). record { job = job; serial = s } ∷ due_from serial (suc i) (drop (suc i) duties) js)
-        (same_serial (serial i) x (sym (ap (option_and_then (due_serial (serial i))) is) ∙ some))
+        (same_Some (serial i) x (sym (ap (option_and_then (due_serial (serial i))) is) ∙ some))
     by Run is e =
         ap (λ (l : List Duty). due_from serial i l (job ∷ js)) e
         ∙ ap (λ (s : Option ℕ). record { job = job; serial = s } ∷ due_from serial (suc i) (drop (suc i) duties) js)
-        (same_serial (serial i) x (sym (ap (option_and_then (due_serial (serial i))) is) ∙ some))
+        (same_Some (serial i) x (sym (ap (option_and_then (due_serial (serial i))) is) ∙ some))
 
     go : Left duties i → due_from serial i (drop i duties) (job ∷ js) ≡ record { job = job; serial = x } ∷ due_from serial (suc i) (drop (suc i) duties) js
     go (inl (gone, none_here, none_later)) = absurd (no_serial x x (sym (ap (option_and_then (due_serial (serial i))) gone) ∙ some))
@@ -111,9 +105,6 @@ due_left serial i duties jobs h = ap (due_from serial i (drop i duties)) (none_a
 
 -- ## The next one by the loop's number
 
-add_one : (n : ℕ) → n + 1 ≡ suc n
-add_one n = omega arith
-
 -- the jobs that are due from a number on are those that are left
 abbrev pub AreLeft : (ℕ → Option ℕ) → List Duty → List Job → ℕ → ℕ → Type 0
 AreLeft serial duties jobs done i = drop done (due_from serial 0 duties jobs) ≡ due_from serial i (drop i duties) (drop i jobs)
@@ -123,7 +114,7 @@ pub left_passed : (serial : ℕ → Option ℕ) (duties : List Duty) (jobs : Lis
     → AreLeft serial duties jobs done (i + 1)
 left_passed serial duties jobs done i job left none at =
     left ∙ passed serial i duties jobs (drop (i + 1) jobs) job none at
-    ∙ ap (λ k. due_from serial k (drop k duties) (drop (i + 1) jobs)) (sym (add_one i))
+    ∙ ap (λ k. due_from serial k (drop k duties) (drop (i + 1) jobs)) (sym (add-one i))
 
 -- what is due next, and what after it
 pub next_due : (serial : ℕ → Option ℕ) (duties : List Duty) (jobs : List Job) (done i : ℕ) (job : Job) (x : Option ℕ)
@@ -131,11 +122,11 @@ pub next_due : (serial : ℕ → Option ℕ) (duties : List Duty) (jobs : List J
     → drop done (due_from serial 0 duties jobs) ≡ record { job = job; serial = x } ∷ due_from serial (i + 1) (drop (i + 1) duties) (drop (i + 1) jobs)
 next_due serial duties jobs done i job x left some at =
     left ∙ comes serial i duties jobs (drop (i + 1) jobs) job x some at
-    ∙ ap (λ k. record { job = job; serial = x } ∷ due_from serial k (drop k duties) (drop (i + 1) jobs)) (sym (add_one i))
+    ∙ ap (λ k. record { job = job; serial = x } ∷ due_from serial k (drop k duties) (drop (i + 1) jobs)) (sym (add-one i))
 
 pub left_taken : (serial : ℕ → Option ℕ) (duties : List Duty) (jobs : List Job) (done i : ℕ) (due : Due)
     → drop done (due_from serial 0 duties jobs) ≡ due ∷ due_from serial (i + 1) (drop (i + 1) duties) (drop (i + 1) jobs)
     → AreLeft serial duties jobs (done + 1) (i + 1)
 left_taken serial duties jobs done i due h =
-    ap (λ k. drop k (due_from serial 0 duties jobs)) (add_one done)
+    ap (λ k. drop k (due_from serial 0 duties jobs)) (add-one done)
     ∙ drop_next (due_from serial 0 duties jobs) (due_from serial (i + 1) (drop (i + 1) duties) (drop (i + 1) jobs)) done due h

@@ -34,7 +34,7 @@ use Rattle.smk_run.proofs.Honest.{given_none, given_then}
 
 -- ## Events
 
-turns_next : (made : Serials) (ts : List Turn) (t : Turn) (w : World) (es fs : List Event) → AreTurns made ts w es → IsTurn made t (run w es) fs → AreTurns made (ts ++ t ∷ []) w (es ++ fs)
+pub turns_next : (made : Serials) (ts : List Turn) (t : Turn) (w : World) (es fs : List Event) → AreTurns made ts w es → IsTurn made t (run w es) fs → AreTurns made (ts ++ t ∷ []) w (es ++ fs)
 turns_next made [] t w es fs h k =
     (fs, [], ap (λ l. l ++ fs) h ∙ sym (append-nil fs), subst (λ l. IsTurn made t (run w l) fs) h k, refl)
 turns_next made (u ∷ ts) t w es fs (first, more, is, one, rest) k = (
@@ -149,7 +149,7 @@ so_far_next act flow cores dues rest due made count serial result a b c p q r n 
 none_some : (x : Option Fault) (f : Fault) → x ≡ None → x ≡ Some f → ⊥
 none_some x f h k = cc
 
-done_closed : (course : Course) → is_done course ≡ true → is_closed course ≡ true
+pub done_closed : (course : Course) → is_done course ≡ true → is_closed course ≡ true
 done_closed Unbegun h = cc
 done_closed Unstarted h = cc
 done_closed Unclosed h = cc
@@ -185,7 +185,7 @@ good_none name (NoOutput p) h = cc
 good_none name (WrongKind p) h = cc
 good_none name (BadMember p) h = cc
 
-done_none : (flow : Flow) (job : Job) (course : Course) → is_done course ≡ true → course_failure flow job course ≡ None
+pub done_none : (flow : Flow) (job : Job) (course : Course) → is_done course ≡ true → course_failure flow job course ≡ None
 done_none flow job Unbegun h = refl
 done_none flow job Unstarted h = refl
 done_none flow job Unclosed h = refl
@@ -195,7 +195,7 @@ or_none : (x : Option Fault) → or_later x None ≡ x
 or_none None = refl
 or_none (Some f) = refl
 
-none_failed : (flow : Flow) (ts : List Turn) → Each (λ (t : Turn). is_done t.course ≡ true) ts → first_failure flow ts ≡ None
+pub none_failed : (flow : Flow) (ts : List Turn) → Each (λ (t : Turn). is_done t.course ≡ true) ts → first_failure flow ts ≡ None
 none_failed flow [] h = refl
 none_failed flow (t ∷ ts) h = ap (λ x. or_later x (first_failure flow ts)) (done_none flow t.job t.course h.0) ∙ none_failed flow ts h.1
 

@@ -1,8 +1,10 @@
 -- The serials of jobs by their duties, and why each job that is due can have its turn.
-use Rattle.std.proofs.Common.{◌≡◌, ◌<◌, ◌≤◌, ◌+◌, ℕ, zero, suc, Bool, true, false, List, [], ◌∷◌, refl, ap, sym, subst, ◌∙◌, Option, Some, None, arith}
+use Rattle.std.proofs.Common.{◌≡◌, ◌<◌, ◌≤◌, ◌+◌, ℕ, zero, suc, Bool, true, false, List, [], ◌∷◌, refl, ap, sym, subst, ◌∙◌, Option, Some, None, arith, add-zero}
 use Rattle.std.specs.Prelude.{nat_lt, if◌then◌else◌, slice_get}
 use Rattle.std.specs.List.{AllZip}
 use Rattle.std.specs.Option.{option_and_then}
+use Rattle.std.proofs.lemmas.Option.{same_Some, none-some}
+use Rattle.std.proofs.Math.Nat.{zero-add}
 use Rattle.smk_world.specs.World.{in_paths}
 use Rattle.smk_world.specs.Trees.{Path, Each}
 use Rattle.smk_flow.specs.declared.job.Job.{Job}
@@ -24,41 +26,29 @@ drawn_more (Rest made) duties drawn n = refl
 drawn_more (Restore made) duties drawn n = refl
 drawn_more Run duties drawn n = omega arith
 
-no_more : (n : ℕ) → n + 0 ≡ n
-no_more n = omega arith
-
 serial_in_from : (first : Option ℕ) (drawn : ℕ) (duties : List Duty) (n : ℕ)
     → serial_in (serials_from first drawn duties) n ≡ option_and_then (serial_by (serial_at first (drawn + drawn_before duties n))) (slice_get duties n)
 serial_in_from first drawn [] n = refl
-serial_in_from first drawn (duty ∷ duties) zero = ap (λ k. serial_by (serial_at first k) duty) (sym (no_more drawn))
+serial_in_from first drawn (duty ∷ duties) zero = ap (λ k. serial_by (serial_at first k) duty) (sym (add-zero drawn))
 serial_in_from first drawn (duty ∷ duties) (suc n) =
     serial_in_from first (drawn_with drawn duty) duties n
     ∙ ap (λ k. option_and_then (serial_by (serial_at first k)) (slice_get duties n)) (drawn_more duty duties drawn n)
 
-none_more : (n : ℕ) → 0 + n ≡ n
-none_more n = omega arith
-
 serial_same : (first : Option ℕ) (duties : List Duty) (n : ℕ) → serial_in (serials_from first 0 duties) n ≡ serial_of first duties n
 serial_same first duties n =
     serial_in_from first 0 duties n
-    ∙ ap (λ k. option_and_then (serial_by (serial_at first k)) (slice_get duties n)) (none_more (drawn_before duties n))
+    ∙ ap (λ k. option_and_then (serial_by (serial_at first k)) (slice_get duties n)) (zero-add (drawn_before duties n))
 
 pub serials_same : (first : Option ℕ) (duties : List Duty) → serial_in (serials_from first 0 duties) ≡ serial_of first duties
 serials_same first duties = λ j. λ n. serial_same first duties n j
 
 -- ## A serial that is drawn is above those before it
 
-some_duty : (d e : Duty) → Some d ≡ Some e → d ≡ e
-some_duty d e h = cc
-
-none_duty : (e : Duty) → None ≡ Some e → ⊥
-none_duty e h = cc
-
 pub drawn_less : (duties : List Duty) (k n : ℕ) → k < n → slice_get duties k ≡ Some Run → drawn_before duties k < drawn_before duties n
-drawn_less [] k n lt is = absurd (none_duty Run is)
+drawn_less [] k n lt is = absurd (none-some Run is)
 drawn_less (duty ∷ duties) zero zero lt is = absurd (omega (arith, lt))
 drawn_less (duty ∷ duties) zero (suc n) lt is =
-    subst (λ (d : Duty). drawn_before (d ∷ duties) zero < drawn_before (d ∷ duties) (suc n)) (sym (some_duty duty Run is)) (omega arith)
+    subst (λ (d : Duty). drawn_before (d ∷ duties) zero < drawn_before (d ∷ duties) (suc n)) (sym (same_Some duty Run is)) (omega arith)
 drawn_less (duty ∷ duties) (suc k) zero lt is = absurd (omega (arith, lt))
 drawn_less (Rest made ∷ duties) (suc k) (suc n) lt is = drawn_less duties k n (omega (arith, lt)) is
 drawn_less (Restore made ∷ duties) (suc k) (suc n) lt is = drawn_less duties k n (omega (arith, lt)) is
@@ -90,9 +80,9 @@ old_one first duty job Run h = tt
 
 old_at : (first : Option ℕ) (duty : Path → Option Duty) (jobs : List Job) (duties : List Duty) (k : ℕ) (d : Duty)
     → AllZip (IsServable first duty) jobs duties → slice_get duties k ≡ Some d → IsOldDuty first d
-old_at first duty jobs [] k d h is = absurd (none_duty d is)
+old_at first duty jobs [] k d h is = absurd (none-some d is)
 old_at first duty [] (e ∷ duties) k d h is = absurd h
-old_at first duty (job ∷ jobs) (e ∷ duties) zero d h is = subst (IsOldDuty first) (some_duty e d is) (old_one first duty job e h.0)
+old_at first duty (job ∷ jobs) (e ∷ duties) zero d h is = subst (IsOldDuty first) (same_Some e d is) (old_one first duty job e h.0)
 old_at first duty (job ∷ jobs) (e ∷ duties) (suc k) d h is = old_at first duty jobs duties k d h.1 is
 
 -- ## What is read is below
@@ -139,14 +129,11 @@ record IsAbove (first : Option ℕ) (duties : List Duty) (makers : List Maker) (
   pub positive : (made : ℕ) → serial ≡ Some made → 1 ≤ made
   pub below : (made : ℕ) → serial ≡ Some made → Each (λ p. IsBelow made (serials makers first duties p)) (in_paths job.recipe)
 
-some_number : (a b : ℕ) → Some a ≡ Some b → a ≡ b
-some_number a b h = cc
-
 above_restored : (first : Option ℕ) (duties : List Duty) (makers : List Maker) (job : Job) (kept : ℕ) → IsServable first (duty_for makers duties) job (Restore kept)
     → IsAbove first duties makers job (Some kept)
 above_restored first duties makers job kept h = record {
-  positive = λ made e. subst (λ m. 1 ≤ m) (some_number kept made e) h.0;
-  below = λ made e. subst (λ m. Each (λ p. IsBelow m (serials makers first duties p)) (in_paths job.recipe)) (some_number kept made e) (all_kept first duties makers kept (in_paths job.recipe) h.2);
+  positive = λ made e. subst (λ m. 1 ≤ m) (same_Some kept made e) h.0;
+  below = λ made e. subst (λ m. Each (λ p. IsBelow m (serials makers first duties p)) (in_paths job.recipe)) (same_Some kept made e) (all_kept first duties makers kept (in_paths job.recipe) h.2);
 }
 
 above_drawn : (first : Option ℕ) (duties : List Duty) (makers : List Maker) (job : Job) (n : ℕ) → IsOld first 0 → ((k : ℕ) (d : Duty) → slice_get duties k ≡ Some d → IsOldDuty first d)
@@ -178,7 +165,7 @@ ready_from flow cores first makers all n (d ∷ duties) [] left old nought runna
 ready_from flow cores first makers all n (Rest kept ∷ duties) (job ∷ jobs) left old nought runnable servable good =
     ready_from flow cores first makers all (suc n) duties jobs (λ k. left (suc k) ∙ ap (slice_get all) (later_place n k)) old nought runnable.1 servable.1 good
 ready_from flow cores first makers all n (Restore kept ∷ duties) (job ∷ jobs) left old nought runnable servable good =
-    let is : Some (Restore kept) ≡ slice_get all n = left 0 ∙ ap (slice_get all) (no_more n) in
+    let is : Some (Restore kept) ≡ slice_get all n = left 0 ∙ ap (slice_get all) (add-zero n) in
     let above = subst (IsAbove first all makers job) (ap (option_and_then (serial_by (serial_at first (drawn_before all n)))) is) (above_restored first all makers job kept servable.0) in (
       record {
         makes = runnable.0.makes;
@@ -191,7 +178,7 @@ ready_from flow cores first makers all n (Restore kept ∷ duties) (job ∷ jobs
       ready_from flow cores first makers all (suc n) duties jobs (λ k. left (suc k) ∙ ap (slice_get all) (later_place n k)) old nought runnable.1 servable.1 good.1,
     )
 ready_from flow cores first makers all n (Run ∷ duties) (job ∷ jobs) left old nought runnable servable good =
-    let is : Some Run ≡ slice_get all n = left 0 ∙ ap (slice_get all) (no_more n) in
+    let is : Some Run ≡ slice_get all n = left 0 ∙ ap (slice_get all) (add-zero n) in
     let above = subst (IsAbove first all makers job) (ap (option_and_then (serial_by (serial_at first (drawn_before all n)))) is) (above_drawn first all makers job n nought old runnable.0.earlier) in (
       record {
         makes = runnable.0.makes;
@@ -208,5 +195,5 @@ pub all_ready : (flow : Flow) (cores : ℕ) (first : Option ℕ) (jobs : Jobs) (
     → IsOld first 0 → AreRunnable jobs → AreServable first jobs duties → AreGood flow cores (due first duties jobs.jobs)
     → Each (IsReady flow cores (serials jobs.makers first duties)) (due first duties jobs.jobs)
 all_ready flow cores first jobs duties nought runnable servable good =
-    ready_from flow cores first jobs.makers duties 0 duties jobs.jobs (λ k. ap (slice_get duties) (sym (none_more k)))
+    ready_from flow cores first jobs.makers duties 0 duties jobs.jobs (λ k. ap (slice_get duties) (sym (zero-add k)))
     (λ k d is. old_at first (duty_for jobs.makers duties) jobs.jobs duties k d servable.each is) nought runnable servable.each good

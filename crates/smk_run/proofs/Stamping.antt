@@ -12,7 +12,7 @@ use Rattle.smk_world.specs.Devices.{Device, HasCalled, HasActed}
 use Rattle.smk_world.specs.Requests.{Request, request, HasDone}
 use Rattle.smk_world.specs.Requests.Request.{Look}
 use Rattle.smk_world.specs.Trees.{Path, Act}
-use Rattle.smk_world.proofs.Devices.{acted_nothing, acted_call, acted_as, acted_then}
+use Rattle.smk_world.proofs.Devices.{acted_nothing, acted_call, acted_as, acted_then, done_append}
 use Rattle.smk_record.specs.declared.record.Stamp.{Stamp}
 use Rattle.smk_record.specs.declared.record.Stamp.TheVariants.{Time, Made}
 use Rattle.smk_job.specs.Jobs.{IsPart}
@@ -41,12 +41,6 @@ done_part rs [] h = tt
 done_part [] (e ∷ es) h = absurd h
 done_part (r ∷ rs) (e ∷ es) h = (h.0, inr (h.1, done_part rs es h.2))
 
-done_both : (rs qs : List Request) (es fs : List Event) → HasDone rs es → HasDone qs fs → HasDone (rs ++ qs) (es ++ fs)
-done_both [] qs [] fs h k = k
-done_both [] qs (e ∷ es) fs h k = absurd h
-done_both (r ∷ rs) qs [] fs h k = absurd h
-done_both (r ∷ rs) qs (e ∷ es) fs h k = (h.0, h.1, done_both rs qs es fs h.2 k)
-
 stamped_done : (m : Option ℕ) (p : Path) (s : Stamp) (es : List Event) → IsStamped m p s es → HasDone (look_at m p) es
 stamped_done (Some serial) p s es h = subst (λ l. HasDone [] l) (sym h.1) tt
 stamped_done None p s es h =
@@ -60,7 +54,7 @@ all_done made [] (s ∷ ss) es h = absurd h
 all_done made (p ∷ ps) [] es h = absurd h
 all_done made (p ∷ ps) (s ∷ ss) es (first, more, is, one, rest) =
     subst (λ l. HasDone (looks made (p ∷ ps)) l) (sym is)
-    (done_both (look_at (made p) p) (looks made ps) first more (stamped_done (made p) p s first one) (all_done made ps ss more rest))
+    (done_append (look_at (made p) p) (looks made ps) first more (stamped_done (made p) p s first one) (all_done made ps ss more rest))
 
 pub all_part : (made : Serials) (ps : List Path) (ss : List Stamp) (es : List Event) → AreStamped made ps ss es → IsPart (looks made ps) es
 all_part made ps ss es h = done_part (looks made ps) es (all_done made ps ss es h)

@@ -1,5 +1,5 @@
 -- A turn's own child, and the status that is told of it.
-use Rattle.std.proofs.Common.{◌≡◌, ◌≢◌, ℕ, true, false, List, [], ◌∷◌, ◌++◌, refl, ap, sym, subst, ◌∙◌, Some, None, Ok, Err, append_assoc, arith}
+use Rattle.std.proofs.Common.{◌≡◌, ◌≢◌, ℕ, true, false, List, [], ◌∷◌, ◌++◌, refl, ap, sym, subst, ◌∙◌, Some, None, Ok, Err, append_assoc, arith, true≢false}
 use Rattle.std.specs.Prelude.{if◌then◌else◌, nat_eq}
 use Rattle.std.proofs.lemmas.List.{append-nil}
 use Rattle.smk_base.specs.declared.tree.Tree.{Tree}
@@ -17,7 +17,7 @@ use Rattle.smk_world.specs.Trees.{Path, Act}
 use Rattle.smk_world.proofs.Runs.{run_append}
 use Rattle.smk_job.specs.Jobs.{Underway}
 use Rattle.smk_job.proofs.Children.{AreFiles, is_crew, children_by}
-use Rattle.smk_job.proofs.Launching.{before_start, before_files}
+use Rattle.smk_job.proofs.Launching.{before_start, before_files, number_none}
 use Rattle.smk_run.specs.declared.ending.Ending.{Ending}
 use Rattle.smk_run.specs.declared.ending.Ending.TheVariants.{Good, Status, NoOutput, WrongKind, BadMember}
 use Rattle.smk_run.specs.Closings.{wait_event, IsClosedBy}
@@ -27,28 +27,12 @@ use Rattle.smk_run.specs.Statuses.{IsGiven, AreGiven}
 use Rattle.smk_run.specs.Turns.{Course, Closed, Turn, found, as_underway, IsTurnBy, IsTurn}
 use Rattle.smk_run.proofs.Calls.{EachCall, OfLooks, stamped_each}
 
-true_false : true ≡ false → ⊥
-true_false e = cc
-
 -- ## Children
 
 -- calls that neither start a child nor wait for one
 pub files_children : (w : World) (es : List Event) → EachCall (λ (r : Request). is_crew r ≡ false) es → (run w es).children ≡ w.children
 files_children w [] h = refl
 files_children w (e ∷ es) h = files_children (after w e) es h.1 ∙ children_by e.call w.children h.0
-
-number_none : (call : Call) → is_crew (request call) ≡ false → started_number call ≡ []
-number_none (Looked p r) h = refl
-number_none (ReadFile p limit r) h = refl
-number_none (ReadFolder p r) h = refl
-number_none (Written p bytes r) h = refl
-number_none (Created p r) h = refl
-number_none (Removed p r) h = refl
-number_none (MadeParents p r) h = refl
-number_none (Settled ps r) h = refl
-number_none (Protected p r) h = refl
-number_none (Started recipe logs command r) h = absurd (true_false h)
-number_none (Waited r) h = refl
 
 -- the child that a start made
 start_by : (call : Call) (cs : List Child) (recipe : Recipe) (logs : List Path) (command : List ℕ) (number : ℕ)
@@ -58,7 +42,7 @@ start_by (Started r ls command2 (Ok n)) cs recipe logs command number is quiet e
     let equal : ls ≡ logs = cc in
     let as_told : n ≡ number = cc in
     λ i. cs ++ record { number = as_told i; recipe = same i; logs = equal i } ∷ []
-start_by (Started r ls command2 (Err e)) cs recipe logs command number is quiet told = absurd (true_false quiet)
+start_by (Started r ls command2 (Err e)) cs recipe logs command number is quiet told = absurd (true≢false quiet)
 start_by (Looked x r) cs recipe logs command number is quiet e = cc
 start_by (ReadFile x limit r) cs recipe logs command number is quiet e = cc
 start_by (ReadFolder x r) cs recipe logs command number is quiet e = cc

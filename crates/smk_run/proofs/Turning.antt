@@ -1,5 +1,6 @@
 -- From the calls and the lines of one job to its turn.
 use Rattle.std.proofs.Common.{◌≡◌, ◌⊎◌, ℕ, Bool, true, false, List, [], ◌++◌, refl, ap, sym, subst, ◌∙◌, inl, inr, Option, Some, None, Result, Ok, Err, true≢false}
+use Rattle.std.proofs.lemmas.Option.{none-some}
 use Rattle.smk_world.specs.declared.event.Event.{Event}
 use Rattle.smk_world.specs.declared.event.WorkFault.{WorkFault}
 use Rattle.smk_world.specs.declared.event.WorkFault.TheVariants.{Failed as FailedFault, OutOfMemory as MemoryFault}
@@ -67,12 +68,9 @@ cut_whole stop (inr e) = ap (λ s. is_whole {T = Ending} (Err s)) e
 
 -- ## A job that begins
 
-no_bytes : (bytes : ℕ) → None ≡ Some bytes → ⊥
-no_bytes bytes h = cc
-
 longer : (long : Option ℕ) (course : Course) (failed : Bool) (result : Result Ending Stop) → IsAnswer None course failed result → IsAnswer long course failed result
 longer long course failed (Ok ending) h = h
-longer long course failed (Err (TooLong bytes)) h = absurd (no_bytes bytes h.2)
+longer long course failed (Err (TooLong bytes)) h = absurd (none-some bytes h.2)
 longer long course failed (Err (Gone p)) h = h
 longer long course failed (Err DeviceStop) h = h
 longer long course failed (Err Output) h = h

@@ -1,8 +1,9 @@
 use Rattle.std.proofs.Common.{◌+◌, Ok, drop, refl, sym, ap, ◌∙◌, arith}
+use Rattle.smk_store.proofs.Seeing.{dropped}
 use Rattle.smk_run.specs.Stamps.{number_at}
 use Rattle.smk_run.specs.Duties.{Due, due_from, serial_in}
 use Rattle.smk_run.specs.Runs.{IsReady}
-use Rattle.smk_run.proofs.Coming.{at_place, each_at, all_before, due_left, left_passed, next_due, left_taken}
+use Rattle.smk_run.proofs.Coming.{each_at, all_before, due_left, left_passed, next_due, left_taken}
 use Rattle.smk_run.proofs.Running.{so_far_start, so_far_next, run_done, run_failed, run_stopped, run_serials, all_turns}
 use Rattle.smk_run.proofs.turns.run_all.Goals as goal
 
@@ -21,7 +22,7 @@ loop-number-preserved-in_default g c =
     let v = c.loop-number.invariant in
     record {
       so_far = v.so_far;
-      next = left_passed (serial_in c.args.serials.now) c.args.duties.now jobs c.loop-number.done i job v.next (sym c.due_at.ensures ∙ c.in_default.is) (at_place jobs i job c.loop-number-test.true c.index-jobs-number.is);
+      next = left_passed (serial_in c.args.serials.now) c.args.duties.now jobs c.loop-number.done i job v.next (sym c.due_at.ensures ∙ c.in_default.is) (dropped jobs i job c.loop-number-test.true c.index-jobs-number.is);
       few = omega (arith, v.few);
     }
 
@@ -35,7 +36,7 @@ returns-in_default-serial g c =
     let dues = due_from serial 0 duties jobs in
     let rest = due_from serial (i + 1) (drop (i + 1) duties) (drop (i + 1) jobs) in
     let due : Due = record { job = job; serial = c.in-Some.serial } in
-    let at = next_due serial duties jobs c.loop-number.done i job c.in-Some.serial c.loop-number.invariant.next (sym c.due_at.ensures ∙ c.in-Some.is) (at_place jobs i job c.loop-number-test.true c.index-jobs-number.is) in
+    let at = next_due serial duties jobs c.loop-number.done i job c.in-Some.serial c.loop-number.invariant.next (sym c.due_at.ensures ∙ c.in-Some.is) (dropped jobs i job c.loop-number-test.true c.index-jobs-number.is) in
     run_serials g.W.Files.act c.args.flow.now c.args.cores dues rest due (number_at c.args.made.now) c.loop-number.done _ _ _ _ at c.in_default-serial.is c.loop-number.invariant.so_far
 
 pub turn-requires : goal.turn-requires
@@ -48,7 +49,7 @@ turn-requires g c =
     let dues = due_from serial 0 duties jobs in
     let rest = due_from serial (i + 1) (drop (i + 1) duties) (drop (i + 1) jobs) in
     let due : Due = record { job = job; serial = c.in-Some.serial } in
-    let at = next_due serial duties jobs c.loop-number.done i job c.in-Some.serial c.loop-number.invariant.next (sym c.due_at.ensures ∙ c.in-Some.is) (at_place jobs i job c.loop-number-test.true c.index-jobs-number.is) in
+    let at = next_due serial duties jobs c.loop-number.done i job c.in-Some.serial c.loop-number.invariant.next (sym c.due_at.ensures ∙ c.in-Some.is) (dropped jobs i job c.loop-number-test.true c.index-jobs-number.is) in
     let ready : IsReady c.args.flow.now c.args.cores (number_at c.args.made.now) due
     = each_at (IsReady c.args.flow.now c.args.cores (number_at c.args.made.now)) dues rest c.loop-number.done due c.requires.ready at in
     record {
@@ -71,7 +72,7 @@ returns-in-Ok-Some g c =
     let dues = due_from serial 0 duties jobs in
     let rest = due_from serial (i + 1) (drop (i + 1) duties) (drop (i + 1) jobs) in
     let due : Due = record { job = job; serial = c.in-Some.serial } in
-    let at = next_due serial duties jobs c.loop-number.done i job c.in-Some.serial c.loop-number.invariant.next (sym c.due_at.ensures ∙ c.in-Some.is) (at_place jobs i job c.loop-number-test.true c.index-jobs-number.is) in
+    let at = next_due serial duties jobs c.loop-number.done i job c.in-Some.serial c.loop-number.invariant.next (sym c.due_at.ensures ∙ c.in-Some.is) (dropped jobs i job c.loop-number-test.true c.index-jobs-number.is) in
     run_failed g.W.Files.act c.args.flow.now c.args.cores dues rest due (number_at c.args.made.now) c.loop-number.done c.in-Some-serial.serial
     c.turn.result c.in-Ok-Some.fault c.ended.result _ _ _ _ _ _ (record { is = at; serial_is = c.in-Some-serial.is })
     (c.in-Ok-Some.is ∙ ap Ok c.in-Ok-Some.field-0-is)
@@ -88,7 +89,7 @@ returns-in-Err g c =
     let dues = due_from serial 0 duties jobs in
     let rest = due_from serial (i + 1) (drop (i + 1) duties) (drop (i + 1) jobs) in
     let due : Due = record { job = job; serial = c.in-Some.serial } in
-    let at = next_due serial duties jobs c.loop-number.done i job c.in-Some.serial c.loop-number.invariant.next (sym c.due_at.ensures ∙ c.in-Some.is) (at_place jobs i job c.loop-number-test.true c.index-jobs-number.is) in
+    let at = next_due serial duties jobs c.loop-number.done i job c.in-Some.serial c.loop-number.invariant.next (sym c.due_at.ensures ∙ c.in-Some.is) (dropped jobs i job c.loop-number-test.true c.index-jobs-number.is) in
     run_stopped g.W.Files.act c.args.flow.now c.args.cores dues rest due (number_at c.args.made.now) c.loop-number.done c.in-Some-serial.serial
     c.turn.result c.in-Err.fault _ _ _ _ _ _ (record { is = at; serial_is = c.in-Some-serial.is }) c.in-Err.is
     c.loop-number.invariant.so_far c.turn.ensures
@@ -103,7 +104,7 @@ loop-number-preserved g c =
     let dues = due_from serial 0 duties jobs in
     let rest = due_from serial (i + 1) (drop (i + 1) duties) (drop (i + 1) jobs) in
     let due : Due = record { job = job; serial = c.in-Some.serial } in
-    let at = next_due serial duties jobs c.loop-number.done i job c.in-Some.serial c.loop-number.invariant.next (sym c.due_at.ensures ∙ c.in-Some.is) (at_place jobs i job c.loop-number-test.true c.index-jobs-number.is) in
+    let at = next_due serial duties jobs c.loop-number.done i job c.in-Some.serial c.loop-number.invariant.next (sym c.due_at.ensures ∙ c.in-Some.is) (dropped jobs i job c.loop-number-test.true c.index-jobs-number.is) in
     record {
       so_far = so_far_next g.W.Files.act c.args.flow.now c.args.cores dues rest due (number_at c.args.made.now) c.loop-number.done c.in-Some-serial.serial
           c.turn.result _ _ _ _ _ _ (record { is = at; serial_is = c.in-Some-serial.is }) (c.in-Ok-None.is ∙ ap Ok c.in-Ok-None.field-0-is)
