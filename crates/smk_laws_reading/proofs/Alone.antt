@@ -152,6 +152,7 @@ directive_alone s r q d all = tested (λ x. x ≡ Ok q → NamedIs q) (bytes_eq 
     logs h =
         let x = then_ok (all_logs d.word (map (named_in d.word s) d.items)) (λ x. Ok (with_logs r.part x)) q h in
         subst NamedIs (ok_same (with_logs r.part x.0) q x.2) all
+
     others : values.and_then (with_other s r.part d) (λ p. Ok (record { part = p; logs = r.logs })) ≡ Ok q → NamedIs q
     others h =
         let x = then_ok (with_other s r.part d) (λ p. Ok (record { part = p; logs = r.logs })) q h in
