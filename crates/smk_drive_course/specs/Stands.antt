@@ -56,9 +56,14 @@ without_child image going status s =
 abbrev pub replanned : Option Plan → Stand → Stand
 replanned plan s = record s { from = lists s; plan = plan }
 
--- the fault came, where none has come before
+-- the first fault, where this one came after those
+abbrev pub first_fault : Option Fault → Fault → Option Fault
+first_fault None f = Some f
+first_fault (Some g) f = Some g
+
+-- the fault came
 abbrev pub halted_by : Fault → Stand → Stand
-halted_by f s = record s { halted = elim s.halted as (λ _. Option Fault) [ Some g ↦ Some g | None ↦ Some f ] }
+halted_by f s = record s { halted = first_fault s.halted f }
 
 -- a call of the device failed
 abbrev pub broken_by_device : Stand → Stand
