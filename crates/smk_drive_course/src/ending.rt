@@ -1,0 +1,17 @@
+use smk_base::List;
+use smk_report::Fault;
+
+/// How a run ended that came to its end, be it with jobs that failed.
+#[derive(Debug, Drop)]
+pub struct End {
+    /// How many jobs were started.
+    pub started: u64,
+    /// How many of them were closed with all their outputs good.
+    pub done: u64,
+    /// How many of them failed.
+    pub failed: u64,
+    /// The fault of the first job that failed.
+    pub first: Option<Fault>,
+    /// For each target whether it is current.
+    pub current: List<bool>,
+}
