@@ -37,6 +37,19 @@ fn push_output(text: &mut String, item: &OutPart) -> Result<(), AllocError> {
     text.push_str("\n")
 }
 
+/// Adds the lines of the logs and the command that is told of them, where there are logs.
+fn push_logs(text: &mut String, part: &RulePart) -> Result<(), AllocError> {
+    if part.logs.is_empty() {
+        return Ok(());
+    }
+    text.push_str("  log:")?;
+    push_texts(text, part.logs.as_slice())?;
+    match &part.command {
+        Some(command) => write!(text, "\n  command: {}\n", command.as_str()),
+        None => text.push_str("\n"),
+    }
+}
+
 /// Adds the lines of a rule.
 fn push_rule(text: &mut String, part: &RulePart) -> Result<(), AllocError> {
     write!(
@@ -67,7 +80,7 @@ fn push_rule(text: &mut String, part: &RulePart) -> Result<(), AllocError> {
             limit.value.as_str()
         )?;
     }
-    Ok(())
+    push_logs(text, part)
 }
 
 /// Adds the line of a clause.
