@@ -59,7 +59,7 @@ use Rattle.smk_cli_target.proofs.SparedWorlds.{HasNoChild, IsGone, IsOver, IsSpa
 
 -- ## Small facts
 
-above_in : (q : Path) (ps : List Path) → is_above q ps ≡ true → (r : Path) × IsIn ps r × (is_under r q ≡ true)
+pub above_in : (q : Path) (ps : List Path) → is_above q ps ≡ true → (r : Path) × IsIn ps r × (is_under r q ≡ true)
 above_in q [] h = absurd (true≢false (sym h))
 above_in q (p ∷ ps) h = go (or_cases (is_under p q) (is_above q ps) h) (above_in q ps)
   where
@@ -94,7 +94,7 @@ no_tree None entries h = refl
 no_tree (Some Directory) entries h = absurd (none_some (Some (Folder entries)) (Folder entries) h refl)
 no_tree (Some (Regular bytes time read_only)) entries h = absurd (none_some (Some (File bytes)) (File bytes) h refl)
 
-lock_in : (b : Bool) (q : Path) → IsIn (if b then [] else lock_place ∷ []) q → q ≡ lock_place
+pub lock_in : (b : Bool) (q : Path) → IsIn (if b then [] else lock_place ∷ []) q → q ≡ lock_place
 lock_in true q i = absurd i
 lock_in false q (inl e) = e
 lock_in false q (inr i) = absurd i
@@ -378,7 +378,7 @@ module _ (rules : Rules) (plan : Plan) (v : World) (begun : List Path) (end : Is
 
 -- ## A run after it
 
-moment_world : (rules : Rules) (entry : World) (events : List Event) (m : Moment) → IsMoment rules entry events m → m.world ≡ run entry events
+pub moment_world : (rules : Rules) (entry : World) (events : List Event) (m : Moment) → IsMoment rules entry events m → m.world ≡ run entry events
 moment_world rules entry _ _ (AtEntry plan force) = refl
 moment_world rules entry _ _ (AtRest events m e plan is rest force) =
     ap (λ u. after u e) (moment_world rules entry events m is) ∙ sym (run_append entry events (e ∷ []))
@@ -393,7 +393,7 @@ idle_so u bs alone =
       running = map (λ (b : Begun). (job_path b.job, b.state)) (none_kept (λ (b : Begun). runs u b.job) bs (λ b i. ap (λ cs. list_any (is_child_of b.job) cs) alone) n);
     }
 
-last_parts :
+pub last_parts :
     (flow : Flow) (image : Image) (settings : Settings) (progress : Progress) (L : Listings) (plan : Plan) → LastPlan flow image settings progress L plan →
     IsPlan flow image settings progress plan × (new_listings image settings progress plan ≡ [])
 last_parts flow image settings progress _ _ (Last p is done) = (is, done)
@@ -416,7 +416,7 @@ module _ (act : Act) (words : List Text) (w : RunWords) (rules : Rules) (entry :
   low : done.outcome.status ≤ 1
   low = below_one done.outcome.status done.done
 
-  is_done : IsDone rules entry log
+  pub is_done : IsDone rules entry log
   is_done = (done.has_text.of_run done.good low w rules done.asked done.goes_by).done done.done
 
   all_ended : exit.children ≡ []
@@ -433,7 +433,7 @@ module _ (act : Act) (words : List Text) (w : RunWords) (rules : Rules) (entry :
       (NoPath (λ paths nolock asked. not_both_asked paths nolock w (one_asked words (Forget paths nolock) (Run w) asked done.asked))) (λ h. inl refl)
 
   -- the exit is a good entry for the next call
-  good_exit : IsGoodEntry act exit
+  pub good_exit : IsGoodEntry act exit
   good_exit =
       record {
         versions = _;
@@ -449,7 +449,7 @@ module _ (act : Act) (words : List Text) (w : RunWords) (rules : Rules) (entry :
   world_is : is_done.last.world ≡ exit
   world_is = moment_world rules entry log is_done.last is_done.is_last
 
-  abbrev had_begun : List Path
+  abbrev pub had_begun : List Path
   had_begun = map (λ (b : Begun). job_path b.job) is_done.last.begun
 
   progress_is : progress_of exit is_done.last.begun ≡ idle had_begun
@@ -470,7 +470,7 @@ module _ (act : Act) (words : List Text) (w : RunWords) (rules : Rules) (entry :
       (λ (e : Job × State). IsTrue (is_spent (seen rules is_done.last.world) rules.settings (progress_of is_done.last.world is_done.last.begun) is_done.plan e p) → tree_now (seen rules is_done.last.world) p ≡ None)
       (staged is_done.plan) e (is_done.none_spent p) i))
 
-  at_end : IsAtEnd rules is_done.plan exit had_begun
+  pub at_end : IsAtEnd rules is_done.plan exit had_begun
   at_end =
       let parts = last_parts rules.flow (seen rules exit) rules.settings (idle had_begun) [] is_done.plan is_last in
       record {

@@ -14,15 +14,16 @@ use Rattle.smk_world.specs.Trees.{Path, IsIn}
 use Rattle.smk_pattern.specs.Reading.{fill}
 use Rattle.smk_flow.specs.declared.job.Job.{Job}
 use Rattle.smk_flow.specs.declared.rule.FlaggedText.{FlaggedText}
-use Rattle.smk_flow.specs.declared.rule.Flag.TheVariants.{Temp}
+use Rattle.smk_flow.specs.declared.rule.Flag.{Flag}
+use Rattle.smk_flow.specs.declared.rule.Flag.TheVariants.{Protected, Temp}
 use Rattle.smk_flow.specs.declared.rule.OutPart.{OutPart}
 use Rattle.smk_flow.specs.Flows.{Candidate, Flow, logs, outputs, outs}
-use Rattle.smk_flow.specs.Jobs.{filled_out, filled_outs, is_flagged}
+use Rattle.smk_flow.specs.Jobs.{filled_out, filled_outs, flagged, is_flagged}
 use Rattle.smk_store.specs.Images.{Image, holds_source}
 use Rattle.smk_chain.specs.Derive.{Derived, Listings, derivation, distinct, job, same_candidate, sources_of, spots, walk}
 use Rattle.smk_drive.specs.Moments.{places}
 use Rattle.smk_laws_plan.specs.Current.{IsComplete}
-use Rattle.smk_laws_plan.proofs.CurrentLists.{In, all_in, and_left, distinct_in, filter_in, flat_in, in_either, in_flat, in_left, in_map, in_right, map_in}
+use Rattle.smk_laws_plan.proofs.CurrentLists.{In, all_in, and_left, and_right, distinct_in, filter_in, flat_in, in_either, in_flat, in_left, in_map, in_right, map_in, not_true}
 use Rattle.smk_laws_plan.proofs.CurrentApart.{SpotsApart, output_spot, spots_apart}
 use Rattle.smk_laws_plan.proofs.CurrentChosen.{chosen_candidate}
 use Rattle.smk_laws_plan.proofs.CurrentWalked.{walked_chosen}
@@ -90,24 +91,38 @@ module _ (flow : Flow) (image : Image) (L : Listings) (targets : List Path) (js 
       and_left (is_path p) (not (holds_source image p))
       (all_in (λ q. is_path q && not (holds_source image q)) (outputs flow r.candidate ++ logs flow r.candidate) p r.free i)
 
+  -- no source lies at, under or above an output
+  pub out_holds_none : (k : Job) (p : Path) → IsIn js k → IsIn (out_paths k.recipe) p → holds_source image p ≡ false
+  out_holds_none k p ik o =
+      let r = of_rule k ik in
+      let i = in_left p (outputs flow r.candidate) (logs flow r.candidate) (output_of k p r o) in
+      not_true (holds_source image p)
+      (and_right (is_path p) (not (holds_source image p))
+      (all_in (λ q. is_path q && not (holds_source image q)) (outputs flow r.candidate ++ logs flow r.candidate) p r.free i))
+
   pub out_is_path : (k : Job) (p : Path) → IsIn js k → IsIn (out_paths k.recipe) p → is_path p ≡ true
   out_is_path k p ik o =
       let r = of_rule k ik in is_path_of k p r (in_left p (outputs flow r.candidate) (logs flow r.candidate) (output_of k p r o))
 
-  log_is_path : (k : Job) (p : Path) → IsIn js k → IsIn k.logs p → is_path p ≡ true
+  pub log_is_path : (k : Job) (p : Path) → IsIn js k → IsIn k.logs p → is_path p ≡ true
   log_is_path k p ik l =
       let r = of_rule k ik in
       is_path_of k p r (in_right p (outputs flow r.candidate) (logs flow r.candidate) (subst (λ (j : Job). IsIn j.logs p) r.is_job l))
 
-  -- what is temporary is an output
-  pub temp_is_out : (k : Job) (p : Path) → IsIn js k → IsIn k.temps p → IsIn (out_paths k.recipe) p
-  temp_is_out k p ik t =
-      let r = of_rule k ik in
+  -- what has a flag is an output
+  flagged_is_out : (flag : Flag) (k : Job) (p : Path) (r : IsOfRule k) → IsIn (flagged r.candidate.binding flag (outs r.candidate.part)) p → IsIn (out_paths k.recipe) p
+  flagged_is_out flag k p r i =
       let c = r.candidate in
       let text = λ (o : FlaggedText). fill c.binding o.text in
-      let o = map_in text (filter (is_flagged Temp) (outs c.part)) p (subst (λ (j : Job). IsIn j.temps p) r.is_job t) in
-      let made = subst (λ q. IsIn (outputs flow c) q) (sym o.2) (in_map text (outs c.part) o.0 (filter_in (is_flagged Temp) (outs c.part) o.0 o.1).0) in
+      let o = map_in text (filter (is_flagged flag) (outs c.part)) p i in
+      let made = subst (λ q. IsIn (outputs flow c) q) (sym o.2) (in_map text (outs c.part) o.0 (filter_in (is_flagged flag) (outs c.part) o.0 o.1).0) in
       subst (λ (j : Job). IsIn (out_paths j.recipe) p) (sym r.is_job) (subst (λ ps. IsIn ps p) (sym (outs_are c)) made)
+
+  pub temp_is_out : (k : Job) (p : Path) → IsIn js k → IsIn k.temps p → IsIn (out_paths k.recipe) p
+  temp_is_out k p ik t = let r = of_rule k ik in flagged_is_out Temp k p r (subst (λ (j : Job). IsIn j.temps p) r.is_job t)
+
+  pub guard_is_out : (k : Job) (p : Path) → IsIn js k → IsIn k.guards p → IsIn (out_paths k.recipe) p
+  guard_is_out k p ik g = let r = of_rule k ik in flagged_is_out Protected k p r (subst (λ (j : Job). IsIn j.guards p) r.is_job g)
 
   spot_is_path : (k : Job) (r : Path) (b : Bool) → IsIn js k → IsIn (spots k) (r, b) → is_path r ≡ true
   spot_is_path k r b ik s = go (in_either (r, b) (map output (out_paths k.recipe)) (map log k.logs) s)

@@ -36,7 +36,7 @@ use Rattle.smk_laws_plan.proofs.PlanStates.{any_same}
 
 -- ## Truth and lists
 
-both_ways : (a b : Bool) → (a ≡ true → b ≡ true) → (b ≡ true → a ≡ true) → a ≡ b
+pub both_ways : (a b : Bool) → (a ≡ true → b ≡ true) → (b ≡ true → a ≡ true) → a ≡ b
 both_ways true b h k = sym (h refl)
 both_ways false true h k = k refl
 both_ways false false h k = refl
@@ -73,7 +73,7 @@ named_source image complete q is =
     let f = source_file image q is in
     in_filter (is_source image) image.names q (among_in image.names q (complete.names q ∙ some_node (image.node q) f.0 f.1)) is
 
-holds_on : (a b : Image) → IsComplete b → ((q : Path) → is_source a q ≡ true → is_source b q ≡ true) → (p : Path) → holds_source a p ≡ true → holds_source b p ≡ true
+pub holds_on : (a b : Image) → IsComplete b → ((q : Path) → is_source a q ≡ true → is_source b q ≡ true) → (p : Path) → holds_source a p ≡ true → holds_source b p ≡ true
 holds_on a b complete same p h =
     let q = any_in (overlaps p) (sources a) h in
     any_from (overlaps p) (sources b) q.0 (named_source b complete q.0 (same q.0 (filter_in (is_source a) a.names q.0 q.1).1)) q.2
@@ -90,6 +90,53 @@ still_clear a b earlier (s ∷ ss) free clear =
     let free_here = none_kept (hinders b s) b.known (λ q i. free s q (inl refl)) in
     let rest = still_clear a b (earlier ++ s.0 ∷ []) ss (λ t q i. free t q (inr i)) later in
     λ n. map (Clash s.0) (none n ++ free_here n) ++ rest n
+
+-- ## A derivation
+
+-- Jobs are derived with the same sources, records, marks and notes as they were.
+module _ (flow : Flow) (L : Listings) (targets : List Path) (js : List Job) (i x : Image) (complete : IsComplete i) where
+  abbrev z : Image
+  z = record x { kept = i.kept; marked = i.marked; noted = i.noted }
+
+  module _ (sources_are : sources_of z ≡ sources_of i) (is : derivation flow i L targets ≡ Derived js) where
+    clear : clashes i [] (flat_map spots js) ≡ []
+    clear = derived_clear flow i L targets js complete is
+
+    none_hinders : (s : Path × Bool) (q : Path) → IsIn (flat_map spots js) s → hinders i s q ≡ false
+    none_hinders s q k = go (hinders i s q) refl
+      where
+        go : (b : Bool) → hinders i s q ≡ b → b ≡ false
+        go false e = refl
+        go true e = sym e ∙ spot_free i [] (flat_map spots js) clear s q k (among_in i.known q (complete.known q (known_hinders i s q e)))
+
+    same_hinders : (s : Path × Bool) (q : Path) → hinders z s q ≡ hinders i s q
+    same_hinders (p, true) q = refl
+    same_hinders (p, false) q = refl
+
+    jobs_are : jobs flow (sources_of i) L targets ≡ js
+    jobs_are = (derived flow i L targets js complete is).1
+
+    clear_there : clashes z [] (flat_map spots js) ≡ []
+    clear_there = still_clear i z [] (flat_map spots js) (λ s q k. same_hinders s q ∙ none_hinders s q k) clear
+
+    clashes_same : (ks : List Job) → ks ≡ js → clashes z [] (flat_map spots ks) ≡ clashes i [] (flat_map spots ks)
+    clashes_same ks e = subst (λ ls. clashes z [] (flat_map spots ls) ≡ clashes i [] (flat_map spots ls)) (sym e) (clear_there ∙ sym clear)
+
+    pub derived_again : derivation flow z L targets ≡ Derived js
+    derived_again =
+        ap (λ (S : Sources).
+        outcome
+        (refused_if (nat_lt 100000 (length (reach flow S L 400 targets))) TooManyPaths
+        ++ (map Deep (filter (is_deep flow S z L targets) targets)
+        ++ (flat_map (refused flow S L 201) targets ++ clashes z [] (flat_map spots (jobs flow S L targets)))))
+        (jobs flow S L targets)) sources_are
+        ∙ ap (λ c.
+        outcome
+        (refused_if (nat_lt 100000 (length (reach flow (sources_of i) L 400 targets))) TooManyPaths
+        ++ (map Deep (filter (is_deep flow (sources_of i) i L targets) targets)
+        ++ (flat_map (refused flow (sources_of i) L 201) targets ++ c)))
+        (jobs flow (sources_of i) L targets)) (clashes_same (jobs flow (sources_of i) L targets) jobs_are)
+        ∙ is
 
 -- ## The plan
 
@@ -133,47 +180,8 @@ module _ (flow : Flow) (settings : Settings) (plan : Plan) (i : Image) where
       sources_same : sources_of y ≡ sources_of i
       sources_same = λ n. record { is = λ p. source_same p n; holds = λ p. holds_same p n }
 
-      -- ## The jobs
-
-      clear : clashes i [] (flat_map spots plan.jobs) ≡ []
-      clear = derived_clear flow i plan.lists settings.targets plan.jobs complete is.derived
-
-      none_hinders : (s : Path × Bool) (q : Path) → IsIn (flat_map spots plan.jobs) s → hinders i s q ≡ false
-      none_hinders s q k = go (hinders i s q) refl
-        where
-          go : (b : Bool) → hinders i s q ≡ b → b ≡ false
-          go false e = refl
-          go true e =
-              sym e ∙ spot_free i [] (flat_map spots plan.jobs) clear s q k (among_in i.known q (complete.known q (known_hinders i s q e)))
-
-      same_hinders : (s : Path × Bool) (q : Path) → hinders y s q ≡ hinders i s q
-      same_hinders (p, true) q = refl
-      same_hinders (p, false) q = refl
-
-      jobs_are : jobs flow (sources_of i) plan.lists settings.targets ≡ plan.jobs
-      jobs_are = (derived flow i plan.lists settings.targets plan.jobs complete is.derived).1
-
-      clear_there : clashes y [] (flat_map spots plan.jobs) ≡ []
-      clear_there = still_clear i y [] (flat_map spots plan.jobs) (λ s q k. same_hinders s q ∙ none_hinders s q k) clear
-
-      clashes_same : (js : List Job) → js ≡ plan.jobs → clashes y [] (flat_map spots js) ≡ clashes i [] (flat_map spots js)
-      clashes_same js e = subst (λ ks. clashes y [] (flat_map spots ks) ≡ clashes i [] (flat_map spots ks)) (sym e) (clear_there ∙ sym clear)
-
       derived_same : derivation flow y plan.lists settings.targets ≡ Derived plan.jobs
-      derived_same =
-          ap (λ (S : Sources).
-          outcome
-          (refused_if (nat_lt 100000 (length (reach flow S plan.lists 400 settings.targets))) TooManyPaths
-          ++ (map Deep (filter (is_deep flow S y plan.lists settings.targets) settings.targets)
-          ++ (flat_map (refused flow S plan.lists 201) settings.targets ++ clashes y [] (flat_map spots (jobs flow S plan.lists settings.targets)))))
-          (jobs flow S plan.lists settings.targets)) sources_same
-          ∙ ap (λ c.
-          outcome
-          (refused_if (nat_lt 100000 (length (reach flow (sources_of i) plan.lists 400 settings.targets))) TooManyPaths
-          ++ (map Deep (filter (is_deep flow (sources_of i) i plan.lists settings.targets) settings.targets)
-          ++ (flat_map (refused flow (sources_of i) plan.lists 201) settings.targets ++ c)))
-          (jobs flow (sources_of i) plan.lists settings.targets)) (clashes_same (jobs flow (sources_of i) plan.lists settings.targets) jobs_are)
-          ∙ is.derived
+      derived_same = derived_again flow plan.lists settings.targets plan.jobs i x complete sources_same is.derived
 
       -- ## What is ready
 
