@@ -25,7 +25,7 @@ use Rattle.smk_cli_target.specs.Files.{rules_of}
 -- ## What is read
 
 -- the record of the copy
-abbrev copied : Record
+abbrev pub copied : Record
 copied =
     record {
       path = out;

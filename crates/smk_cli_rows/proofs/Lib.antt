@@ -8,3 +8,5 @@ pub mod DeviceEnd
 pub mod Confined
 pub mod ForgetRow
 pub mod BytesRow
+pub mod UnfinishedRow
+pub mod LeftRow

@@ -1,0 +1,24 @@
+//! What is to be done after an edit.
+#![tactic(auto)]
+
+ghost use Rattle.smk_laws_edit.specs.Edited.{AfterEditOnlyDownstream, FirstStartIsDownstream};
+ghost use Rattle.smk_laws_edit.specs.Unbegun.{UnbegunStay};
+
+/// After a run that meets the contract and ended with status 0, and an edit of one source that isn't read for the workflow, the plan of the
+/// next run or listing has nothing new. Each job that it calls Dirty leads by a chain of wants to the edited source, and each that it is to
+/// restore is read by a job that is to run: so nothing is to be done but what lies downstream of the edit, and what that reads.
+pub fn after_edit_only_downstream()
+    ensures { AfterEditOnlyDownstream }
+{}
+
+/// Until a child is started that plan stays in force, since the run changes nothing but its lock, folders above places of the plan, and the
+/// places of the job that begins. So the first child that a run starts after the edit is of a job that the plan has to run so.
+pub fn first_start_is_downstream()
+    ensures { FirstStartIsDownstream }
+{}
+
+/// At each moment of a run's log, and however much has been done by then, the record and the mark of a path are as they were at the entry, as
+/// long as no job that makes it has begun: so nothing makes a job Dirty by what concerns it alone but other stamps of its inputs.
+pub fn unbegun_stay()
+    ensures { UnbegunStay }
+{}
