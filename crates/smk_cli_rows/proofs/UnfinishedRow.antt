@@ -1,6 +1,6 @@
 -- A folder with the mark of an unfinished job, over an old record and a torn output: a good entry. A call that writes the mark anew, or takes it away and
 -- puts it anew, is refused: a crash may lose it, and then the record vouches for other bytes than stand there.
-use Rattle.std.proofs.Common.{◌≡◌, ◌⊎◌, ℕ, Bool, true, false, ◌&&◌, ◌||◌, not, List, [], ◌∷◌, ◌++◌, codes, length, map, filter, take, drop, bytes_eq, Option, Some, None, Ok, option_map, refl, sym, ap, subst, ◌∙◌, inl, inr, append-nil, true≢false}
+use Rattle.std.proofs.Common.{◌≡◌, ◌⊎◌, ℕ, Bool, true, false, ◌&&◌, ◌||◌, ◌==◌, not, List, [], ◌∷◌, ◌++◌, codes, length, map, filter, take, drop, bytes_eq, Option, Some, None, Ok, option_map, refl, sym, ap, subst, ◌∙◌, inl, inr, append-nil, true≢false, arith}
 use Rattle.std.specs.Prelude.{if◌then◌else◌, is_some, IsSome, nat_le}
 use Rattle.std.specs.Fmt.{digits}
 use Rattle.std.specs.List.{list_any}
@@ -25,16 +25,17 @@ use Rattle.smk_world.proofs.Folders.{happens, no_folder, no_node}
 use Rattle.smk_world.proofs.Stays.{left_at}
 use Rattle.smk_pattern.specs.Shapes.{Text}
 use Rattle.smk_record.specs.declared.record.Record.{Record}
-use Rattle.smk_record.specs.declared.record.Stamp.TheVariants.{Time}
+use Rattle.smk_record.specs.declared.record.Stamp.{Stamp}
+use Rattle.smk_record.specs.declared.record.Stamp.TheVariants.{Made, Time}
 use Rattle.smk_record.specs.Reading.{record_in}
-use Rattle.smk_record.specs.Records.{core, is_valid, members_of}
+use Rattle.smk_record.specs.Records.{core, is_valid, members_of, stamped}
 use Rattle.smk_record.specs.Spelling.{spelling}
 use Rattle.smk_store.specs.declared.store.Kept.{Kept}
 use Rattle.smk_store.specs.declared.store.Kept.TheVariants.{Absent, Held, Unreadable}
 use Rattle.smk_store.specs.Images.{Content, Image, content_of, core_at, file_at, for_path, image_by, image_of, is_covered, is_known, is_outside, is_source, kept_by, readable, record_at, seen, source_at, stands, tree_now}
 use Rattle.smk_store.specs.Safety.{with_sources}
 use Rattle.smk_store.specs.Soundness.{Sound, SoundWorld}
-use Rattle.smk_store.specs.Trust.{Versions, Vir, input_value, made_at, none_eased, vir, vouched}
+use Rattle.smk_store.specs.Trust.{Chain, Link, Versions, Vir, any_time, input_value, made_at, none_eased, vir, vouched}
 use Rattle.smk_flow.proofs.Examples.{commands}
 use Rattle.smk_drive.proofs.Turns.{event}
 use Rattle.smk_laws_protocol.specs.Midway.{IsTop, at_entry}
@@ -46,7 +47,6 @@ use Rattle.smk_laws_plan.proofs.CurrentLists.{in_filter, in_map, or_left}
 use Rattle.smk_laws_history.specs.Histories.{IsCall, IsListed, KeepsListed, ListsAll}
 use Rattle.smk_laws_history.proofs.Finite.{node_from}
 use Rattle.smk_laws_history.proofs.HistoryListedRuns.{run_is_call}
-use Rattle.smk_laws_history.proofs.Refused.{differ, hello_at, no_products, one_time}
 use Rattle.smk_laws_history.proofs.Same.{leaves_same}
 use Rattle.smk_laws_history.proofs.Steps.{sound_image}
 use Rattle.smk_words_reading.specs.declared.asked.Asked.TheVariants.{Forget, Run}
@@ -67,6 +67,28 @@ none_some x h = cc
 
 some_is : {A : Type 0} (x y : A) → Some x ≡ Some y → x ≡ y
 some_is x y h = cc
+
+-- ## What soundness says of the record
+
+-- a record none of whose inputs was a product hangs together
+no_products : (image : Image) (r : Record) → ((q : Path) (m : ℕ) → IsIn (stamped r) (q, Made m) → ⊥) → Chain image none_eased any_time r
+no_products image r none =
+    Link r (λ q m. q) (λ q m. r) (λ q t i. tt) (λ q m i. absurd (none q m i)) (λ q m i. absurd (none q m i))
+
+abbrev is_time : Path × Stamp → Bool
+is_time (q, Time t) = true
+is_time (q, Made m) = false
+
+one_time : (p : Path) (t : ℕ) (q : Path) (m : ℕ) → IsIn {A = Path × Stamp} ((p, Time t) ∷ []) (q, Made m) → ⊥
+one_time p t q m (inl e) = true≢false (sym (ap is_time e))
+one_time p t q m (inr i) = i
+
+-- the source had these bytes at its time
+abbrev hello_at : Versions
+hello_at p t = if bytes_eq p (codes "in.txt") && (t == 1000) then Some (codes "hello\n") else None
+
+differ : (t : Tree) → Some (File (codes "help\n")) ≡ Some t → Some (File (codes "hello\n")) ≡ Some t → ⊥
+differ t a b = grind arith
 
 -- ## The folder
 

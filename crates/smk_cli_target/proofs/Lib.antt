@@ -3,10 +3,10 @@ pub mod OneWorkflow
 mod FirstFault
 mod OneMet
 mod Called
-mod PlanStays
-mod PlanPlaces
-mod SparedWorlds
-mod NextRun
+pub mod PlanStays
+pub mod PlanPlaces
+pub mod SparedWorlds
+pub mod NextRun
 mod Enough
 mod Rows
 mod ClashRow
