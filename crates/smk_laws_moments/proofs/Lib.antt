@@ -9,3 +9,4 @@ pub mod StandsOf
 pub mod SpendingOf
 pub mod OwnSites
 pub mod OwnCalls
+pub mod ReplanningOf
