@@ -1,10 +1,10 @@
 -- What a run tells of what it has done: lines, counts and the fault of the first job that failed.
-use Rattle.std.specs.Prelude.{◌≡◌, ◌⊎◌, Bool, true, false, List, [], ◌∷◌, ◌++◌, map, filter, length, Option, Some, None, Result, Ok, Err}
+use Rattle.std.specs.Prelude.{◌≡◌, Bool, true, false, List, [], ◌∷◌, ◌++◌, map, filter, length, Option, Some, None, Result, Ok, Err}
 use Rattle.std.specs.List.{flat_map, list_any}
 use Rattle.smk_world.specs.Trees.{Path, first}
 use Rattle.smk_pattern.specs.Shapes.{Text}
 use Rattle.smk_flow.specs.Flows.{Flow}
-use Rattle.smk_report.specs.Lines.{Ending, Good, Status, NoOutput, WrongKind, BadMember, start_line, done_line, failed_line, target_line, summary_line}
+use Rattle.smk_report.specs.Lines.{Good, Status, NoOutput, WrongKind, BadMember, start_line, done_line, failed_line, target_line, summary_line}
 use Rattle.smk_report.specs.declared.fault.Fault.{Fault}
 use Rattle.smk_report.specs.declared.fault.Fault.TheVariants as fault
 use Rattle.smk_drive.specs.Moments.{Rules, Moment}

@@ -1,5 +1,5 @@
 -- The steps of a run, from one stand to the next.
-use Rattle.std.specs.Prelude.{◌≡◌, ◌≢◌, ◌⊎◌, ◌<◌, ◌^◌, ℕ, true, false, List, [], ◌∷◌, ◌++◌, map, Option, Some, None, Result, Ok, Err, IsTrue}
+use Rattle.std.specs.Prelude.{◌≡◌, ◌≢◌, ◌⊎◌, ◌<◌, ◌^◌, ℕ, true, false, List, [], ◌∷◌, ◌++◌, map, Some, None, Result, Ok, Err, IsTrue}
 use Rattle.smk_world.specs.declared.event.Change.{Change}
 use Rattle.smk_world.specs.declared.event.Ended.{Ended}
 use Rattle.smk_world.specs.declared.event.Event.{Event}

@@ -1,12 +1,11 @@
 -- A chain of plans goes on from the listings of its last plan; looks leave a stand clear; and the job that is to begin isn't refused.
-use Rattle.std.proofs.Common.{◌≡◌, ◌≢◌, ◌⊎◌, ◌<◌, ◌^◌, ℕ, arith, Bool, true, false, List, [], ◌∷◌, ◌++◌, map, flat_map, find, length, refl, sym, ap, subst, ◌∙◌, inl, inr, nat_lt, Option, Some, None, true≢false}
+use Rattle.std.proofs.Common.{◌≡◌, ◌≢◌, ◌⊎◌, ◌<◌, ◌^◌, ℕ, arith, Bool, true, false, List, [], ◌∷◌, ◌++◌, map, flat_map, find, length, refl, sym, ap, subst, ◌∙◌, inl, inr, nat_lt, Option, Some, None}
 use Rattle.std.specs.Prelude.{if◌then◌else◌}
 use Rattle.smk_world.specs.declared.event.Event.{Event}
 use Rattle.smk_world.specs.declared.recipe.Out.{Out}
 use Rattle.smk_world.specs.declared.recipe.OutItem.{OutItem}
-use Rattle.smk_world.specs.declared.recipe.Recipe.{Recipe}
 use Rattle.smk_world.specs.World.{World, out_paths, run}
-use Rattle.smk_world.specs.Trees.{Each, IsIn, Path, outs_of}
+use Rattle.smk_world.specs.Trees.{IsIn, outs_of}
 use Rattle.smk_flow.specs.declared.job.Job.{Job}
 use Rattle.smk_record.specs.declared.record.Stamp.{Stamp}
 use Rattle.smk_record.specs.Records.{record_of}
@@ -16,7 +15,7 @@ use Rattle.smk_chain.specs.Derive.{Listings}
 use Rattle.smk_trigger.specs.declared.reason.State.{State}
 use Rattle.smk_plan.specs.States.{IsPlan, Last, LastPlan, Plan, Progress, Then, new_listings, none_or_one}
 use Rattle.smk_report.specs.declared.fault.Fault.{Fault}
-use Rattle.smk_job.specs.Jobs.{bare_bytes, is_long, too_long}
+use Rattle.smk_job.specs.Jobs.{bare_bytes, is_long}
 use Rattle.smk_drive.specs.Moments.{Begun, IsInForce, Rules, begun_of, lists_of, progress_of, seen, serial_of}
 use Rattle.smk_drive.specs.Refusals.{ChainRefuses, NextRefuses, PlanRefuses, record_length, refused_of}
 use Rattle.smk_drive_target.specs.Refusals.{LongRecord, MomentRefuses, NoSerial, PlansAreRefused}

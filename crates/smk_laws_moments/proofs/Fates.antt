@@ -1,5 +1,5 @@
 -- What each step leaves of a stand: the first fault, whether the device failed, and which jobs have begun.
-use Rattle.std.proofs.Common.{◌≡◌, ◌≢◌, ◌⊎◌, ℕ, Bool, true, false, ◌||◌, List, [], ◌∷◌, ◌++◌, map, flat_map, refl, sym, ap, subst, ◌∙◌, inl, inr, Option, Some, None, Result, Ok, Err, append_assoc, append-nil, true≢false}
+use Rattle.std.proofs.Common.{◌≡◌, ◌≢◌, ℕ, Bool, true, false, List, [], ◌∷◌, ◌++◌, map, refl, sym, ap, ◌∙◌, Option, Some, None, Result, Ok, Err, append_assoc, append-nil, true≢false}
 use Rattle.std.specs.Prelude.{if◌then◌else◌}
 use Rattle.std.specs.List.{list_any}
 use Rattle.smk_world.specs.declared.event.Event.{Event}
@@ -17,7 +17,7 @@ use Rattle.smk_job.specs.Jobs.{Underway}
 use Rattle.smk_keep.specs.declared.fault.KeepFault.{KeepFault}
 use Rattle.smk_keep.specs.declared.fault.KeepFault.TheVariants.{Device, OutOfMemory}
 use Rattle.smk_drive.specs.Moments.{Begun, Rules, begun_of, ending, seen}
-use Rattle.smk_drive_course.specs.Stands.{AtRest, Between, GoesBy, GoesOn, IsClear, IsRefused, IsReplanned, LacksMemory, Stand, WasHalted, broken_by_device, ended_if, first_fault, halted_by, is_job_of, moment_of, with_job, without_child}
+use Rattle.smk_drive_course.specs.Stands.{AtRest, Between, GoesBy, GoesOn, IsRefused, IsReplanned, LacksMemory, Stand, WasHalted, broken_by_device, ended_if, first_fault, halted_by, is_job_of, moment_of, with_job, without_child}
 use Rattle.smk_drive_course.specs.Steps.{AreRemoved, Closed, Deed, GoesByAnswer, NoMore, OneMore, Started}
 use Rattle.smk_drive_course.specs.Breaks.{Begins, BeginsNot, BreaksOff, Closes, Done, FailsToWait, Halts, Leaves, Spends, SpendsNot, Step, Steps, Then, Waits}
 use Rattle.smk_drive_course.specs.Reports.{is_started}

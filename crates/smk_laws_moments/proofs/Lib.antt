@@ -1,8 +1,12 @@
 pub mod LooksLike
 pub mod ChainsOn
 pub mod Fates
+pub mod QuietCalls
 pub mod ChildrenOf
 pub mod WaitsOf
 pub mod Rests
 pub mod StandsOf
 pub mod SpendingOf
+pub mod OwnSites
+pub mod OwnCalls
+pub mod ReplanningOf

@@ -1,19 +1,15 @@
 -- Where spent outputs are removed, the stand after it is the moment.
-use Rattle.std.proofs.Common.{◌≡◌, ◌≢◌, ◌⊎◌, ℕ, Bool, true, false, ◌&&◌, ◌||◌, not, List, [], ◌∷◌, ◌++◌, map, refl, sym, ap, subst, ◌∙◌, inl, inr, Option, Some, None, Result, Ok, Err, IsTrue, append_assoc, append-nil, is_some, true≢false}
-use Rattle.std.specs.Prelude.{if◌then◌else◌, is_none}
-use Rattle.std.specs.List.{list_all, list_any}
+use Rattle.std.proofs.Common.{◌≡◌, ◌≢◌, Bool, true, false, ◌&&◌, not, List, [], ◌∷◌, ◌++◌, refl, sym, ap, subst, ◌∙◌, inl, Option, Some, None, Ok, Err, append_assoc, append-nil, true≢false}
+use Rattle.std.specs.Prelude.{if◌then◌else◌}
 use Rattle.smk_base.specs.Path.{is_at_or_under}
-use Rattle.smk_base.specs.Place.{mark_place}
 use Rattle.smk_world.specs.declared.event.Besides.TheVariants.{Anything, OneOf}
 use Rattle.smk_world.specs.declared.event.Call.{Call}
 use Rattle.smk_world.specs.declared.event.Call.TheVariants.{Looked, ReadFile, ReadFolder, Written, Created, Removed, MadeParents, Settled, Protected, Started, Waited}
 use Rattle.smk_world.specs.declared.event.Change.{Change}
 use Rattle.smk_world.specs.declared.event.Event.{Event}
-use Rattle.smk_world.specs.declared.event.Failed.{Failed}
-use Rattle.smk_world.specs.declared.event.Node.{Node}
 use Rattle.smk_world.specs.declared.event.NodeState.{NodeState}
 use Rattle.smk_world.specs.declared.event.NodeState.TheVariants.{Owned, Known}
-use Rattle.smk_world.specs.World.{World, IsFormed, after, firm, going, out_paths, run}
+use Rattle.smk_world.specs.World.{World, IsFormed, after, going, run}
 use Rattle.smk_world.specs.Calls.{Lets, failed}
 use Rattle.smk_world.specs.Requests.{HasDone, Request, request}
 use Rattle.smk_world.specs.Requests.Request.{Remove, Settle}
@@ -23,12 +19,12 @@ use Rattle.smk_flow.specs.declared.job.Job.{Job}
 use Rattle.smk_chain.specs.Derive.{Listings}
 use Rattle.smk_trigger.specs.declared.reason.State.{State}
 use Rattle.smk_plan.specs.States.{Plan}
-use Rattle.smk_drive.specs.Moments.{Rules, Moment, Begun, IsMoment, AtRest, Between, IsInForce, begins, begun_after, begun_of, is_closed, is_gone, is_rest, is_spent_now, lists_of, places, runs, staged_now, with_end}
+use Rattle.smk_drive.specs.Moments.{Rules, Moment, Begun, IsMoment, AtRest, Between, IsInForce, begins, begun_after, begun_of, is_gone, is_rest, is_spent_now, lists_of, staged_now, with_end}
 use Rattle.smk_drive_target.proofs.OneMoment.{one_moment}
 use Rattle.smk_drive_target.proofs.HasMoment.{has_moment}
 use Rattle.smk_drive_course.specs.Stands as stands
 use Rattle.smk_drive_course.specs.Stands.{GoesBy, GoesOn, IsRefused, IsReplanned, LacksMemory, Stand, WasHalted, lists, moment_of}
-use Rattle.smk_drive_course.specs.Steps.{AreRemoved, Deed, HasSpent, NoMore, OneMore}
+use Rattle.smk_drive_course.specs.Steps.{AreRemoved, NoMore, OneMore}
 use Rattle.smk_laws_moments.specs.Standing.{IsStandOf, SpendingIsMoment}
 use Rattle.smk_laws_moments.proofs.ChildrenOf.{run_more}
 use Rattle.smk_laws_moments.proofs.Rests.{rest_mono}

@@ -1,5 +1,5 @@
 -- The first stand is the moment at the entry and while the folder is opened, and looks leave what stands are moments.
-use Rattle.std.proofs.Common.{◌≡◌, ◌⊎◌, ℕ, Bool, true, false, ◌&&◌, ◌||◌, List, [], ◌∷◌, ◌++◌, map, filter, refl, sym, ap, subst, ◌∙◌, inl, inr, Option, Some, None, Result, Ok, Err, append_assoc, append-nil, true≢false}
+use Rattle.std.proofs.Common.{◌≡◌, ◌⊎◌, Bool, true, false, ◌&&◌, List, [], ◌∷◌, ◌++◌, map, filter, refl, sym, ap, subst, ◌∙◌, inl, inr, Option, Some, None, Result, Ok, Err, append_assoc, append-nil, true≢false}
 use Rattle.std.specs.Prelude.{if◌then◌else◌}
 use Rattle.std.specs.List.{list_any}
 use Rattle.smk_world.specs.declared.event.Call.{Call}
@@ -7,11 +7,10 @@ use Rattle.smk_world.specs.declared.event.Call.TheVariants.{Looked, ReadFile, Re
 use Rattle.smk_world.specs.declared.event.Change.{Change}
 use Rattle.smk_world.specs.declared.event.Event.{Event}
 use Rattle.smk_world.specs.declared.event.Failed.{Failed}
-use Rattle.smk_world.specs.declared.event.Node.{Node}
 use Rattle.smk_world.specs.declared.event.NodeState.{NodeState}
 use Rattle.smk_world.specs.declared.event.NodeState.TheVariants.{Owned, Known}
 use Rattle.smk_world.specs.declared.event.Besides.TheVariants.{Anything, OneOf}
-use Rattle.smk_world.specs.World.{World, IsFormed, after, firm, node_after, reading, run, settled}
+use Rattle.smk_world.specs.World.{World, IsFormed, after, firm, node_after, reading, run}
 use Rattle.smk_world.specs.Calls.{Lets}
 use Rattle.smk_world.specs.Devices.{AreLooks, is_look}
 use Rattle.smk_world.specs.Requests.{HasDone, IsCutShort, Request, request}
@@ -19,21 +18,18 @@ use Rattle.smk_world.specs.Requests.Request.{Settle}
 use Rattle.smk_world.specs.Runs.{Follows}
 use Rattle.smk_world.specs.Trees.{Act, Path}
 use Rattle.smk_flow.specs.declared.job.Job.{Job}
-use Rattle.smk_store.specs.Images.{Image, image_by}
+use Rattle.smk_store.specs.Images.{image_by}
 use Rattle.smk_chain.specs.Derive.{Listings}
 use Rattle.smk_trigger.specs.declared.reason.State.{State}
 use Rattle.smk_plan.specs.States.{LastPlan, Plan}
 use Rattle.smk_keep.specs.declared.fault.KeepFault.{KeepFault}
-use Rattle.smk_keep.specs.declared.fault.KeepFault.TheVariants.{Device, OutOfMemory}
-use Rattle.smk_report.specs.declared.fault.Fault.{Fault}
 use Rattle.smk_drive.specs.Moments.{Rules, Moment, Begun, IsMoment, AtEntry, AtRest, Between, IsInForce, begins, begun_after, begun_of, is_gone, is_rest, lists_of, places, progress_of, seen, staged_now, with_end}
 use Rattle.smk_drive_target.specs.Moments.{IsStill}
-use Rattle.smk_drive_target.specs.Refusals.{RunRefuses}
 use Rattle.smk_drive_target.proofs.OneMoment.{one_moment}
 use Rattle.smk_drive_target.proofs.HasMoment.{has_moment}
 use Rattle.smk_drive_target.proofs.Looks.{looks_keep_moments}
 use Rattle.smk_drive_target.proofs.Fronts.{front_same, none_last}
-use Rattle.smk_drive_course.specs.Stands.{IsPlanned, Refuses, Stand, first_stand, lists, moment_of}
+use Rattle.smk_drive_course.specs.Stands.{IsPlanned, Stand, first_stand, lists, moment_of}
 use Rattle.smk_drive_course.specs.Driven.{IsOpening, LacksMemory, LoadingFails, LooksFail, Opens, SettlingFails}
 use Rattle.smk_laws_moments.specs.Standing.{FirstIsMoment, IsStandOf, LooksKeepStands, RefusedAtEntry}
 use Rattle.smk_laws_moments.proofs.LooksLike.{looks_leave_none}

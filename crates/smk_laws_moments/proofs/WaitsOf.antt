@@ -1,5 +1,5 @@
 -- At each wait of a run a child runs.
-use Rattle.std.proofs.Common.{◌≡◌, ◌≢◌, ◌⊎◌, ℕ, Bool, true, false, List, [], ◌∷◌, ◌++◌, map, refl, sym, ap, subst, ◌∙◌, inl, inr, Result, Ok, Err, IsTrue, true≢false}
+use Rattle.std.proofs.Common.{◌≡◌, ◌≢◌, ℕ, true, false, List, [], ◌∷◌, ◌++◌, map, refl, sym, subst, ◌∙◌, inl, Ok, Err, true≢false}
 use Rattle.smk_world.specs.declared.event.Call.{Call}
 use Rattle.smk_world.specs.declared.event.Call.TheVariants.{Looked, ReadFile, ReadFolder, Written, Created, Removed, MadeParents, Settled, Protected, Started as StartedCall, Waited}
 use Rattle.smk_world.specs.declared.event.Event.{Event}
@@ -19,7 +19,8 @@ use Rattle.smk_drive_course.specs.Stands.{Stand}
 use Rattle.smk_drive_course.specs.Steps.{Deed}
 use Rattle.smk_drive_course.specs.Breaks.{Begins, BeginsNot, BreaksOff, Closes, Done, FailsToWait, Halts, Leaves, Spends, SpendsNot, Step, Steps, Then, Waits}
 use Rattle.smk_laws_moments.specs.Courses.{HasChildren, WaitsForChildren, child_of}
-use Rattle.smk_laws_moments.proofs.ChildrenOf.{IsQuiet, at_start, begin_quiet, calls_more, closing_quiet, opening_quiet, spending_quiet, step_children, tended_quiet, unspent_quiet}
+use Rattle.smk_laws_moments.proofs.QuietCalls.{IsQuiet, calls_more, closing_quiet, tended_quiet}
+use Rattle.smk_laws_moments.proofs.ChildrenOf.{at_start, begin_quiet, opening_quiet, spending_quiet, step_children, unspent_quiet}
 
 -- it is no wait
 abbrev IsNoWait : Request → Type 0

@@ -1,5 +1,5 @@
 -- Chains of plans at a stand, and what is refused there.
-use Rattle.std.specs.Prelude.{◌≡◌, ℕ, Bool, List, ◌++◌}
+use Rattle.std.specs.Prelude.{ℕ, Bool, List, ◌++◌}
 use Rattle.smk_world.specs.declared.event.Event.{Event}
 use Rattle.smk_world.specs.World.{World, run}
 use Rattle.smk_world.specs.Devices.{AreLooks}

@@ -1,3 +1,4 @@
 pub mod Chains
 pub mod Courses
 pub mod Standing
+pub mod Owning

@@ -1,16 +1,16 @@
 -- Stands of a run and the moments of its log.
-use Rattle.std.specs.Prelude.{◌≡◌, ◌⊎◌, Bool, List, [], ◌++◌, Option, Result}
+use Rattle.std.specs.Prelude.{◌≡◌, ◌⊎◌, Bool, List, [], ◌∷◌, ◌++◌, Option, Result}
 use Rattle.smk_world.specs.declared.event.Event.{Event}
-use Rattle.smk_world.specs.World.{World, IsFormed, run}
+use Rattle.smk_world.specs.World.{World, IsFormed, after, run}
 use Rattle.smk_world.specs.Devices.{AreLooks}
 use Rattle.smk_world.specs.Runs.{Follows}
 use Rattle.smk_world.specs.Trees.{Act}
 use Rattle.smk_plan.specs.States.{Plan}
 use Rattle.smk_keep.specs.declared.fault.KeepFault.{KeepFault}
 use Rattle.smk_report.specs.declared.fault.Fault.{Fault}
-use Rattle.smk_drive.specs.Moments.{IsMoment, Moment, Rules}
+use Rattle.smk_drive.specs.Moments.{IsMoment, Moment, Rules, begun_after}
 use Rattle.smk_drive_target.specs.Refusals.{RunRefuses}
-use Rattle.smk_drive_course.specs.Stands.{IsPlanned, Refuses, Stand, first_stand, lists}
+use Rattle.smk_drive_course.specs.Stands.{IsPlanned, IsReplanned, Refuses, Stand, first_stand, lists}
 use Rattle.smk_drive_course.specs.Steps.{Deed, HasSpent}
 use Rattle.smk_drive_course.specs.Driven.{IsOpening}
 
@@ -51,3 +51,19 @@ SpendingIsMoment =
     IsFormed entry →
     HasSpent rules entry s (run entry before) before es deeds t →
     Follows act (run entry before) es → IsMoment rules entry before m → IsStandOf s m → IsMoment rules entry (before ++ es) n → IsStandOf t n
+
+-- After this event of the moment of a stand the jobs of another stand have begun, which has the same plan and listings.
+pub record HasBegunAs (rules : Rules) (entry : World) (m : Moment) (e : Event) (s u : Stand) : Type 0 where
+  pub begun : begun_after rules entry m e ≡ u.begun
+  pub plan : u.plan ≡ s.plan
+  pub since : u.from ≡ s.from
+  pub listed : lists u ≡ lists s
+
+-- Where the plan of that stand is made anew then, what comes of it is the stand of the moment after the event.
+abbrev pub ReplanningIsMoment : Type 0
+ReplanningIsMoment =
+    (rules : Rules) (entry : World) (before : List Event) (e : Event) (s u t : Stand) (m n : Moment) →
+    IsFormed entry →
+    IsMoment rules entry before m →
+    IsStandOf s m →
+    HasBegunAs rules entry m e s u → IsReplanned rules u (after m.world e) t → IsMoment rules entry (before ++ e ∷ []) n → IsStandOf t n

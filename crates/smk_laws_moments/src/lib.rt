@@ -3,7 +3,8 @@
 
 ghost use Rattle.smk_laws_moments.specs.Chains.{ChainGoesOn, ClearGoesOn, ClearStays, NextIsUnrefused};
 ghost use Rattle.smk_laws_moments.specs.Courses.{AllAreWaited, BrokenIsHalted, ChildrenAreOfStand, FirstFaultStays, StartsAreTold, WaitsForChildren};
-ghost use Rattle.smk_laws_moments.specs.Standing.{FirstIsMoment, LooksKeepStands, RefusedAtEntry, SpendingIsMoment};
+ghost use Rattle.smk_laws_moments.specs.Owning.{OwnCallsBeginNone, OwnCallsKeepBegun};
+ghost use Rattle.smk_laws_moments.specs.Standing.{FirstIsMoment, LooksKeepStands, RefusedAtEntry, ReplanningIsMoment, SpendingIsMoment};
 
 /// A stand at which no plan is refused stays one while the folder is only looked at, and once its chain of plans begins with the listings of them all: a
 /// plan that is refused from there on is refused from the start of the chain on.
@@ -40,4 +41,16 @@ pub fn stands_are_moments()
     ensures looks { LooksKeepStands }
     ensures spending { SpendingIsMoment }
     ensures refused { RefusedAtEntry }
+{}
+
+/// With a call of one job of a plan no other job of it begins; so, once that one has begun, the same have begun after the call.
+pub fn calls_are_own()
+    ensures none { OwnCallsBeginNone }
+    ensures keep { OwnCallsKeepBegun }
+{}
+
+/// Where the plan of a stand is made anew after one event, as when a job has begun or is closed, what comes of it is the stand of the moment after that
+/// event.
+pub fn replanning_is_moment()
+    ensures { ReplanningIsMoment }
 {}

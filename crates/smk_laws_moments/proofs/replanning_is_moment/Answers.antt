@@ -1,0 +1,5 @@
+use Rattle.smk_laws_moments.proofs.ReplanningOf.{replanning_is_moment}
+use Rattle.smk_laws_moments.proofs.replanning_is_moment.Goals as goal
+
+pub returns : goal.returns
+returns c = replanning_is_moment
