@@ -53,7 +53,7 @@ use Rattle.smk_cli_target.specs.Files.{outside}
 use Rattle.smk_cli_target.specs.Ends.{IsDone, IsGoodEntry}
 use Rattle.smk_cli_target.specs.Clauses.{NoPath}
 use Rattle.smk_cli_target.specs.Thrift.{HasDone, NextRunStartsNone}
-use Rattle.smk_cli_target.proofs.PlanStays.{IsAlike, chain_again, idle, last_stays, none_kept, plan_stays}
+use Rattle.smk_cli_target.proofs.PlanStays.{IsAlike, and_never, chain_again, idle, last_stays, none_kept, plan_stays}
 use Rattle.smk_cli_target.proofs.PlanPlaces.{at_lock, out_is_path, place_of, temp_is_out}
 use Rattle.smk_cli_target.proofs.SparedWorlds.{HasNoChild, IsGone, IsOver, IsSpared, MayChange, PlacesHere, files_same, inside_same, kept_same, marked_same, noted_same, same_children, spared_on, whole_is}
 
@@ -80,13 +80,9 @@ zip_second (a ∷ xs) [] x y h = absurd h
 zip_second {A = A} {B = B} (a ∷ xs) (b ∷ ys) x y (inl e) = inl (ap (λ (p : A × B). p.1) e)
 zip_second (a ∷ xs) (b ∷ ys) x y (inr h) = inr (zip_second xs ys x y h)
 
-never_any : {A : Type 0} (xs : List A) → list_any (λ x. false) xs ≡ false
+pub never_any : {A : Type 0} (xs : List A) → list_any (λ x. false) xs ≡ false
 never_any [] = refl
 never_any (x ∷ xs) = never_any xs
-
-and_never : (b : Bool) → (b && false) ≡ false
-and_never true = refl
-and_never false = refl
 
 -- where no tree stands nothing does
 no_tree : (n : Option Node) (entries : List TreeEntry) → (if is_directory n then Some (Folder entries) else option_map File (bytes_of n)) ≡ None → n ≡ None

@@ -41,7 +41,7 @@ both_ways true b h k = sym (h refl)
 both_ways false true h k = k refl
 both_ways false false h k = refl
 
-and_never : (b : Bool) → (b && false) ≡ false
+pub and_never : (b : Bool) → (b && false) ≡ false
 and_never true = refl
 and_never false = refl
 

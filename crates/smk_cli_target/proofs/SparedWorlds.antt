@@ -31,7 +31,7 @@ use Rattle.smk_cli_target.proofs.PlanPlaces.{Place, none_under_mark, none_under_
 
 -- ## One place
 
-firm_reads : (s : NodeState) → reading (firm s) ≡ reading s
+pub firm_reads : (s : NodeState) → reading (firm s) ≡ reading s
 firm_reads Owned = refl
 firm_reads (Known now besides) = refl
 
