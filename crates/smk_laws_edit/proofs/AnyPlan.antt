@@ -1,26 +1,26 @@
 -- What a plan says of its jobs where none has begun: who makes a path, what a Clean job has not, and what becomes known.
 use Rattle.std.specs.Prelude.{is_none, if◌then◌else◌}
-use Rattle.smk_flow.specs.Flows.{Flow}
+use Rattle.std.proofs.Common.{◌≡◌, ◌⊎◌, Bool, true, false, ◌&&◌, not, List, [], ◌∷◌, ◌++◌, filter, find, flat_map, zip, refl, sym, ap, subst, ◌∙◌, inl, inr, bytes_eq, Option, Some, None, true≢false}
 use Rattle.smk_base.proofs.Places.{same_place}
+use Rattle.smk_world.specs.Trees.{Path, IsIn, folder_over}
+use Rattle.smk_flow.specs.Flows.{Flow}
+use Rattle.smk_flow.specs.declared.job.Job.{Job}
+use Rattle.smk_store.specs.Images.{Image}
+use Rattle.smk_chain.specs.Derive.{Listings, listing}
+use Rattle.smk_chain.specs.declared.jobs.Known.{Known}
+use Rattle.smk_pick.specs.declared.settings.Settings.{Settings}
+use Rattle.smk_trigger.specs.JobStates.{is_clean}
+use Rattle.smk_trigger.specs.declared.reason.Reason.{Reason}
+use Rattle.smk_trigger.specs.declared.reason.State.TheVariants.{Open}
+use Rattle.smk_trigger.specs.declared.reason.State.{State}
+use Rattle.smk_plan.specs.States.{AreListed, IsPlan, Last, LastPlan, Plan, Then, awaited, by_reasons, directory_over, files_listed, is_open_now, is_read_now, is_ready, is_to_restore, maker_of, makes, new_listings, none_or_one, nothing_done, reasons, staged, state_of}
 use Rattle.smk_laws_plan.specs.Current.{IsComplete}
 use Rattle.smk_laws_plan.proofs.CurrentApart.{maker_found}
-use Rattle.smk_chain.specs.declared.jobs.Known.{Known}
-use Rattle.smk_store.specs.Images.{Image}
-use Rattle.smk_laws_history.proofs.CurrentLaw.{listing_either}
-use Rattle.smk_trigger.specs.JobStates.{is_clean}
-use Rattle.smk_trigger.specs.declared.reason.State.{State}
+use Rattle.smk_laws_plan.proofs.CurrentChosen.{mapped}
 use Rattle.smk_laws_plan.proofs.CurrentLists.{In, and_left, filter_in, find_in, flat_in, in_left, in_zip, map_in, zip_in}
 use Rattle.smk_laws_plan.proofs.PlanOne.{derived_apart, pair_first}
-use Rattle.smk_laws_plan.proofs.CurrentChosen.{mapped}
-use Rattle.smk_flow.specs.declared.job.Job.{Job}
+use Rattle.smk_laws_history.proofs.CurrentLaw.{listing_either}
 use Rattle.smk_cli_target.proofs.NextRun.{never_any}
-use Rattle.smk_chain.specs.Derive.{Listings, listing}
-use Rattle.smk_world.specs.Trees.{Path, IsIn, folder_over}
-use Rattle.smk_trigger.specs.declared.reason.Reason.{Reason}
-use Rattle.smk_pick.specs.declared.settings.Settings.{Settings}
-use Rattle.smk_trigger.specs.declared.reason.State.TheVariants.{Open}
-use Rattle.std.proofs.Common.{◌≡◌, ◌⊎◌, Bool, true, false, ◌&&◌, not, List, [], ◌∷◌, ◌++◌, filter, find, flat_map, zip, refl, sym, ap, subst, ◌∙◌, inl, inr, bytes_eq, Option, Some, None, true≢false}
-use Rattle.smk_plan.specs.States.{AreListed, IsPlan, Last, LastPlan, Plan, Then, awaited, by_reasons, directory_over, files_listed, is_open_now, is_read_now, is_ready, is_to_restore, maker_of, makes, new_listings, none_or_one, nothing_done, reasons, staged, state_of}
 
 table_clean : (o : Bool) (rs : List Reason) (b : Bool) → is_clean (if o then Open else by_reasons rs b) ≡ true → (o ≡ false) × (rs ≡ []) × (b ≡ false)
 table_clean true rs b h = absurd (true≢false (sym h))

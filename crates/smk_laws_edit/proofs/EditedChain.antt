@@ -1,36 +1,36 @@
 -- The chain of plans of an image in which one source has changed, beside a plan of the image before by which all jobs were Clean: what becomes known was known,
 -- and a job that isn't Open is a job of that plan.
-use Rattle.smk_laws_plan.proofs.CurrentChosen.{folders_paths}
-use Rattle.smk_world.specs.declared.recipe.Kind.TheVariants.{Folder as FolderKind}
 use Rattle.std.specs.Prelude.{is_none, if◌then◌else◌}
-use Rattle.smk_laws_protocol.proofs.Basics.{each_in}
-use Rattle.smk_laws_edit.proofs.AnyPlan.{clean_parts, found_maker, maker_is, new_is, one_maker, over_from, over_parts}
-use Rattle.smk_flow.specs.Flows.{Flow}
-use Rattle.smk_laws_plan.proofs.CurrentMeaning.{contains_from, in_from}
-use Rattle.smk_laws_plan.specs.Current.{IsComplete}
 use Rattle.std.proofs.Common.{◌≡◌, ◌⊎◌, Bool, true, false, ◌&&◌, List, [], ◌∷◌, ◌++◌, map, filter, find, flat_map, refl, sym, ap, subst, ◌∙◌, inl, inr, bytes_eq, Option, Some, None, option_map, IsTrue, is_some, true≢false}
+use Rattle.smk_base.specs.Path.{is_under}
 use Rattle.smk_base.proofs.Places.{place_itself, same_place}
+use Rattle.smk_world.specs.Trees.{Each, Path, IsIn, among, folder_over, folders_of, kind_in}
+use Rattle.smk_world.specs.World.{in_paths, out_paths}
+use Rattle.smk_world.specs.declared.recipe.Kind.TheVariants.{Folder as FolderKind}
+use Rattle.smk_world.specs.declared.recipe.Kind.{Kind}
+use Rattle.smk_flow.specs.Flows.{Flow}
+use Rattle.smk_flow.specs.declared.job.Job.{Job}
+use Rattle.smk_store.specs.Images.{Image, file_at, is_source, is_whole}
+use Rattle.smk_chain.specs.Derive.{Derived, Listings, derivation, listing, sources_of}
 use Rattle.smk_chain.specs.declared.jobs.Known.{Known}
 use Rattle.smk_pick.specs.declared.settings.Force.TheVariants.{No}
-use Rattle.smk_laws_plan.proofs.CurrentLists.{In, and_left, and_right, distinct_in, filter_nil, find_in, flat_in, in_distinct, in_either, in_flat, in_left, in_map, in_right, map_nil, or_cases, or_first}
-use Rattle.smk_laws_history.proofs.CurrentLaw.{listing_either}
-use Rattle.smk_world.specs.declared.recipe.Kind.{Kind}
-use Rattle.smk_world.specs.Trees.{Each, Path, IsIn, among, folder_over, folders_of, kind_in}
-use Rattle.smk_trigger.specs.JobStates.{is_clean}
-use Rattle.smk_laws_plan.proofs.CurrentApart.{same_trans}
-use Rattle.smk_plan.specs.States.{AreListed, IsPlan, Plan, awaited, awaits, directory_over, files_listed, gathers_from, is_open_now, is_ready, is_to_restore, is_whole_by, maker_of, makes, new_listings, nothing_done, reasons, stands_whole, state_of, test_some}
-use Rattle.smk_trigger.specs.declared.reason.State.{State}
-use Rattle.smk_world.specs.World.{in_paths, out_paths}
-use Rattle.smk_laws_edit.proofs.SameLists.{derivation_is}
-use Rattle.smk_flow.specs.declared.job.Job.{Job}
-use Rattle.smk_laws_plan.proofs.CurrentPaths.{among_in, in_among}
-use Rattle.smk_laws_history.proofs.MoreListings.{keeps_unopened, listing_still}
-use Rattle.smk_chain.specs.Derive.{Derived, Listings, derivation, listing, sources_of}
-use Rattle.smk_trigger.specs.declared.reason.State.TheVariants.{Clean, Open}
-use Rattle.smk_base.specs.Path.{is_under}
-use Rattle.smk_laws_edit.proofs.Grown.{GoesOn, goes_on}
-use Rattle.smk_store.specs.Images.{Image, file_at, is_source, is_whole}
 use Rattle.smk_pick.specs.declared.settings.Settings.{Settings}
+use Rattle.smk_trigger.specs.JobStates.{is_clean}
+use Rattle.smk_trigger.specs.declared.reason.State.TheVariants.{Clean, Open}
+use Rattle.smk_trigger.specs.declared.reason.State.{State}
+use Rattle.smk_plan.specs.States.{AreListed, IsPlan, Plan, awaited, awaits, directory_over, files_listed, gathers_from, is_open_now, is_ready, is_to_restore, is_whole_by, maker_of, makes, new_listings, nothing_done, reasons, stands_whole, state_of, test_some}
+use Rattle.smk_laws_plan.specs.Current.{IsComplete}
+use Rattle.smk_laws_plan.proofs.CurrentApart.{same_trans}
+use Rattle.smk_laws_plan.proofs.CurrentChosen.{folders_paths}
+use Rattle.smk_laws_plan.proofs.CurrentLists.{In, and_left, and_right, distinct_in, filter_nil, find_in, flat_in, in_distinct, in_either, in_flat, in_left, in_map, in_right, map_nil, or_cases, or_first}
+use Rattle.smk_laws_plan.proofs.CurrentMeaning.{contains_from, in_from}
+use Rattle.smk_laws_plan.proofs.CurrentPaths.{among_in, in_among}
+use Rattle.smk_laws_protocol.proofs.Basics.{each_in}
+use Rattle.smk_laws_history.proofs.CurrentLaw.{listing_either}
+use Rattle.smk_laws_history.proofs.MoreListings.{keeps_unopened, listing_still}
+use Rattle.smk_laws_edit.proofs.AnyPlan.{clean_parts, found_maker, maker_is, new_is, one_maker, over_from, over_parts}
+use Rattle.smk_laws_edit.proofs.Grown.{GoesOn, goes_on}
+use Rattle.smk_laws_edit.proofs.SameLists.{derivation_is}
 
 -- listings that answer nothing for a directory leave it to those behind
 listing_behind : (A B : Listings) (f : Path) → listing A f ≡ None → listing (A ++ B) f ≡ listing B f

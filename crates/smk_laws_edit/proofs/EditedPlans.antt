@@ -1,40 +1,40 @@
 -- The plan of an image in which one source has changed, beside a plan of the image before by which all jobs were Clean.
-use Rattle.smk_trigger.specs.Reasons.{own_reasons, when}
-use Rattle.smk_flow.specs.Flows.{Flow}
-use Rattle.smk_pick.specs.declared.settings.Force.{Force}
-use Rattle.smk_base.proofs.Places.{same_place}
-use Rattle.std.specs.Prelude.{if◌then◌else◌}
-use Rattle.smk_pick.specs.declared.settings.Force.TheVariants.{No}
-use Rattle.smk_plan.specs.States.{IsPlan, Last, LastPlan, Plan, Then, awaited, by_force, by_reasons, gathers_from, is_input, is_open_now, is_read_now, is_restored, is_temporary, is_to_restore, is_wanted_back, job_path, made_by, maker_of, makes, makes_awaited, new_listings, nothing_done, reasons, staged, state_of, test_some}
-use Rattle.smk_cli_target.proofs.PlanStays.{none_kept}
-use Rattle.smk_pattern.specs.Reading.{or_empty}
-use Rattle.std.specs.Option.{option_and_then}
-use Rattle.smk_laws_edit.specs.Edited.{IsRead, IsReadBack, IsToRunFor, LeadsThere, PlansDownstream}
-use Rattle.smk_trigger.specs.declared.reason.State.{State}
-use Rattle.smk_laws_edit.proofs.AnyPlan.{found_maker, of_state, one_maker, to_staged}
-use Rattle.smk_laws_edit.proofs.Grown.{GoesOn}
-use Rattle.smk_world.specs.World.{in_paths, out_paths}
-use Rattle.smk_store.specs.Trust.{holder, is_marked_but, stamp_now_but, time_stamp, unmarked_stamp_but}
 use Rattle.std.specs.List.{list_any}
-use Rattle.smk_trigger.specs.declared.reason.State.TheVariants.{Clean, Dirty, Open}
+use Rattle.std.specs.Option.{option_and_then}
+use Rattle.std.specs.Prelude.{if◌then◌else◌}
+use Rattle.std.proofs.Common.{◌≡◌, ◌⊎◌, Bool, true, false, ◌&&◌, ◌||◌, not, List, [], ◌∷◌, ◌++◌, map, refl, sym, ap, subst, ◌∙◌, inl, inr, bytes_eq, Option, Some, None, true≢false}
+use Rattle.smk_base.proofs.Places.{same_place}
 use Rattle.smk_world.specs.Trees.{Path, among, first, kind_in}
-use Rattle.smk_laws_plan.proofs.CurrentLists.{In, and_left, and_right, any_from, any_in, any_none, clash_of, distinct_in, in_left, append_nil_left, or_cases, or_first, or_left, or_right}
+use Rattle.smk_world.specs.World.{in_paths, out_paths}
+use Rattle.smk_pattern.specs.Reading.{or_empty}
+use Rattle.smk_flow.specs.Flows.{Flow}
 use Rattle.smk_flow.specs.declared.job.Job.{Job}
-use Rattle.smk_trigger.specs.JobStates.{is_dirty, is_restore, is_to_run}
-use Rattle.smk_laws_plan.proofs.CurrentPaths.{among_in, in_among}
-use Rattle.smk_cli_target.proofs.NextRun.{never_any}
-use Rattle.smk_chain.specs.Derive.{Listings, distinct}
-use Rattle.smk_cli_target.specs.Thrift.{LeadsTo, Through, Wants, is_job_of}
-use Rattle.smk_laws_plan.proofs.PlanOrder.{InOrder, Served}
 use Rattle.smk_record.specs.declared.record.Stamp.{Stamp}
-use Rattle.smk_trigger.specs.declared.reason.Reason.{Reason}
-use Rattle.smk_trigger.specs.declared.reason.Reason.TheVariants.{Forced, Upstream}
+use Rattle.smk_store.specs.Images.{Image, is_whole}
+use Rattle.smk_store.specs.Trust.{holder, is_marked_but, stamp_now_but, time_stamp, unmarked_stamp_but}
+use Rattle.smk_chain.specs.Derive.{Listings, distinct}
+use Rattle.smk_pick.specs.declared.settings.Force.TheVariants.{No}
+use Rattle.smk_pick.specs.declared.settings.Force.{Force}
 use Rattle.smk_pick.specs.declared.settings.Settings.{Settings}
-use Rattle.smk_laws_edit.proofs.EditedChain.{IsEdited, IsPart, WasDone, awaited_before, calm, grown, part_on, was_there}
+use Rattle.smk_trigger.specs.JobStates.{is_dirty, is_restore, is_to_run}
+use Rattle.smk_trigger.specs.Reasons.{own_reasons, when}
+use Rattle.smk_trigger.specs.declared.reason.Reason.TheVariants.{Forced, Upstream}
+use Rattle.smk_trigger.specs.declared.reason.Reason.{Reason}
+use Rattle.smk_trigger.specs.declared.reason.State.TheVariants.{Clean, Dirty, Open}
+use Rattle.smk_trigger.specs.declared.reason.State.{State}
+use Rattle.smk_plan.specs.States.{IsPlan, Last, LastPlan, Plan, Then, awaited, by_force, by_reasons, gathers_from, is_input, is_open_now, is_read_now, is_restored, is_temporary, is_to_restore, is_wanted_back, job_path, made_by, maker_of, makes, makes_awaited, new_listings, nothing_done, reasons, staged, state_of, test_some}
+use Rattle.smk_laws_plan.proofs.CurrentLists.{In, and_left, and_right, any_from, any_in, any_none, clash_of, distinct_in, in_left, append_nil_left, or_cases, or_first, or_left, or_right}
+use Rattle.smk_laws_plan.proofs.CurrentPaths.{among_in, in_among}
 use Rattle.smk_laws_plan.proofs.CurrentRecipes.{map_same}
 use Rattle.smk_laws_plan.proofs.PlanOne.{derived_order}
-use Rattle.smk_store.specs.Images.{Image, is_whole}
-use Rattle.std.proofs.Common.{◌≡◌, ◌⊎◌, Bool, true, false, ◌&&◌, ◌||◌, not, List, [], ◌∷◌, ◌++◌, map, refl, sym, ap, subst, ◌∙◌, inl, inr, bytes_eq, Option, Some, None, true≢false}
+use Rattle.smk_laws_plan.proofs.PlanOrder.{InOrder, Served}
+use Rattle.smk_cli_target.specs.Thrift.{LeadsTo, Through, Wants, is_job_of}
+use Rattle.smk_cli_target.proofs.NextRun.{never_any}
+use Rattle.smk_cli_target.proofs.PlanStays.{none_kept}
+use Rattle.smk_laws_edit.specs.Edited.{IsRead, IsReadBack, IsToRunFor, IsDownstream, PlansDownstream}
+use Rattle.smk_laws_edit.proofs.AnyPlan.{found_maker, of_state, one_maker, to_staged}
+use Rattle.smk_laws_edit.proofs.EditedChain.{IsEdited, IsPart, WasDone, awaited_before, calm, grown, part_on, was_there}
+use Rattle.smk_laws_edit.proofs.Grown.{GoesOn}
 
 table_dirty : (o : Bool) (rs : List Reason) (b : Bool) → is_dirty (if o then Open else by_reasons rs b) ≡ true → (o ≡ false) × (rs ≡ [] → ⊥)
 table_dirty true rs b h = absurd (true≢false (sym h))
@@ -295,7 +295,7 @@ module _ (flow : Flow) (settings : Settings) (i : Image) (before : Plan) (p : Pa
           }
         where
           by : (e : Job × State) → In e.0 now.jobs × (e.1 ≡ stage e.0) → (is_dirty e.1 ≡ true) ⊎ (is_restore e.1 ≡ true) → IsToRunFor p now e
-          by e s (inl d) = LeadsThere d (dirty_leads e.0 s.0 (subst (λ z. is_dirty z ≡ true) s.1 d))
+          by e s (inl d) = IsDownstream d (dirty_leads e.0 s.0 (subst (λ z. is_dirty z ≡ true) s.1 d))
           by e s (inr r) = IsReadBack r (restore_read e.0 s.0 (subst (λ z. is_restore z ≡ true) s.1 r))
 
     -- along the chain of plans

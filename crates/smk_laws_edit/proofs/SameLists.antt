@@ -1,7 +1,7 @@
 -- Of its listings a derivation sees only what they answer: with listings that answer alike it is the same.
-use Rattle.std.proofs.Common.{◌≡◌, ℕ, zero, suc, true, false, ◌&&◌, not, List, [], ◌∷◌, ◌++◌, ◌+◌, ◌==◌, map, max, filter, flat_map, length, refl, ap, ◌∙◌, bytes_eq, Option, Some, None, is_some}
-use Rattle.std.specs.Prelude.{is_none, nat_lt, if◌then◌else◌}
 use Rattle.std.specs.List.{fold}
+use Rattle.std.specs.Prelude.{is_none, nat_lt, if◌then◌else◌}
+use Rattle.std.proofs.Common.{◌≡◌, ℕ, zero, suc, true, false, ◌&&◌, not, List, [], ◌∷◌, ◌++◌, ◌+◌, ◌==◌, map, max, filter, flat_map, length, refl, ap, ◌∙◌, bytes_eq, Option, Some, None, is_some}
 use Rattle.smk_base.specs.Path.{is_path}
 use Rattle.smk_world.specs.Calls.{in_folder}
 use Rattle.smk_world.specs.Trees.{Path, among, folder_over}

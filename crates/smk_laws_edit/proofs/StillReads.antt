@@ -1,18 +1,18 @@
 -- Where a call changes nothing the same reads after it.
-use Rattle.smk_world.specs.World.{World, firm, going, is_above, is_within, loose, node_after, owned_by, owned_paths, reading, reads_folder, reads_nothing, standing, with_flag, with_folder}
-use Rattle.smk_world.specs.declared.event.Call.{Call}
-use Rattle.smk_base.specs.Path.{is_at_or_under, is_under}
-use Rattle.smk_world.specs.declared.event.Change.{Change}
-use Rattle.smk_cli_target.proofs.SparedWorlds.{firm_reads}
-use Rattle.smk_world.specs.Calls.{Lets, MayRemain}
 use Rattle.std.specs.Prelude.{if◌then◌else◌}
-use Rattle.smk_world.specs.declared.event.NodeState.TheVariants.{Known, Owned}
-use Rattle.smk_drive.specs.Moments.{changes_at}
-use Rattle.smk_world.specs.Trees.{Act, Path}
-use Rattle.smk_world.specs.declared.event.Node.{Node}
-use Rattle.smk_world.specs.declared.event.Call.TheVariants.{Created, Looked, MadeParents, Protected, ReadFile, ReadFolder, Removed, Settled, Started, Waited, Written}
-use Rattle.smk_world.specs.declared.event.NodeState.{NodeState}
 use Rattle.std.proofs.Common.{◌≡◌, Bool, true, false, ◌&&◌, ◌||◌, not, List, refl, sym, ap, inl, inr, bytes_eq, Option, Some, None, Ok, Err, is_some, true≢false}
+use Rattle.smk_base.specs.Path.{is_at_or_under, is_under}
+use Rattle.smk_world.specs.Calls.{Lets, MayRemain}
+use Rattle.smk_world.specs.Trees.{Act, Path}
+use Rattle.smk_world.specs.World.{World, firm, going, is_above, is_within, loose, node_after, owned_by, owned_paths, reading, reads_folder, reads_nothing, standing, with_flag, with_folder}
+use Rattle.smk_world.specs.declared.event.Call.TheVariants.{Created, Looked, MadeParents, Protected, ReadFile, ReadFolder, Removed, Settled, Started, Waited, Written}
+use Rattle.smk_world.specs.declared.event.Call.{Call}
+use Rattle.smk_world.specs.declared.event.Change.{Change}
+use Rattle.smk_world.specs.declared.event.Node.{Node}
+use Rattle.smk_world.specs.declared.event.NodeState.TheVariants.{Known, Owned}
+use Rattle.smk_world.specs.declared.event.NodeState.{NodeState}
+use Rattle.smk_drive.specs.Moments.{changes_at}
+use Rattle.smk_cli_target.proofs.SparedWorlds.{firm_reads}
 
 unless_so : (b : Bool) (s t : NodeState) → b ≡ false → reading (if b then t else s) ≡ reading s
 unless_so true s t h = absurd (true≢false h)

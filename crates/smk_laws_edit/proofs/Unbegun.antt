@@ -1,38 +1,38 @@
 -- An event of a lawful log changes the record and the mark of a path only where a job that makes it has begun.
-use Rattle.smk_store.specs.declared.store.Kept.TheVariants.{Absent}
-use Rattle.smk_drive_target.specs.Lawful.{IsLawfulEvent, open_places, planned_places}
-use Rattle.smk_base.proofs.Under.{at_itself, never_both}
-use Rattle.smk_world.specs.declared.event.Child.{Child}
-use Rattle.smk_world.specs.Runs.{Follows}
-use Rattle.std.specs.Prelude.{if◌then◌else◌, nat_eq}
-use Rattle.smk_world.specs.World.{World, IsFormed, after, is_above, is_within, out_paths, reading, run}
-use Rattle.smk_plan.specs.States.{Plan, is_spent, is_temporary, staged, test_some}
-use Rattle.smk_base.proofs.Places.{place_itself, same_place}
-use Rattle.smk_world.specs.Trees.{Act, IsIn, Path, among, is_path_text}
-use Rattle.smk_world.specs.declared.event.Call.{Call}
-use Rattle.smk_laws_history.proofs.CurrentComplete.{seen_is_complete}
-use Rattle.smk_base.specs.Path.{is_at_or_under, is_path, is_under}
-use Rattle.smk_drive_target.specs.Moments.{AtEachEvent}
-use Rattle.smk_trigger.specs.declared.reason.State.{State}
-use Rattle.smk_base.specs.Place.{lock_place, mark_place, note_place, record_place}
 use Rattle.std.specs.List.{list_any}
-use Rattle.smk_cli_target.proofs.NextRun.{above_in, last_parts, lock_in, moment_world}
-use Rattle.smk_world.specs.declared.event.Event.{Event}
-use Rattle.smk_flow.specs.declared.job.Job.{Job}
-use Rattle.smk_laws_plan.proofs.CurrentPaths.{among_in, in_among}
-use Rattle.smk_cli_target.proofs.PlanPlaces.{guard_is_out, log_is_path, out_is_path, temp_is_out}
-use Rattle.smk_drive.specs.Lawful.{lock_places, makes_folders, protects}
-use Rattle.smk_laws_edit.specs.Unbegun.{UnbegunStay, is_output_of}
-use Rattle.smk_drive.specs.Moments.{AtEntry, AtRest, Begun, Between, IsInForce, IsMoment, Moment, Rules, begins, begun_after, begun_of, changes_at, ending, is_child_of, is_closed, is_closed_well, is_spent_removal, places, progress_of, seen, staged_now, with_end}
-use Rattle.smk_store.specs.Images.{kept_by}
-use Rattle.smk_laws_edit.proofs.StillReads.{still_reads}
-use Rattle.smk_laws_plan.proofs.CurrentLists.{and_left, and_right, any_from, any_in, clash_of, filter_in, flat_in, in_either, in_left, in_map, in_right, map_in, or_cases, zip_first}
+use Rattle.std.specs.Prelude.{if◌then◌else◌, nat_eq}
 use Rattle.std.proofs.Common.{◌≡◌, ◌⊎◌, Bool, true, false, ◌&&◌, ◌||◌, not, List, [], ◌∷◌, ◌++◌, map, filter, refl, sym, ap, subst, ◌∙◌, inl, inr, bytes_eq, Option, Some, None, Ok, Err, append_assoc, is_some, true≢false}
-use Rattle.smk_world.specs.Calls.{Lets}
+use Rattle.smk_base.specs.Path.{is_at_or_under, is_path, is_under}
+use Rattle.smk_base.specs.Place.{lock_place, mark_place, note_place, record_place}
 use Rattle.smk_base.proofs.Apart.{mark-lock, mark-mark, mark-note, mark_under_mark, path-mark, path-record, record-lock, record-mark, record-note, record-record, record_under_record}
-use Rattle.smk_chain.specs.Derive.{Listings}
-use Rattle.smk_world.proofs.Names.{formed_after}
+use Rattle.smk_base.proofs.Places.{place_itself, same_place}
+use Rattle.smk_base.proofs.Under.{at_itself, never_both}
+use Rattle.smk_world.specs.Calls.{Lets}
+use Rattle.smk_world.specs.Runs.{Follows}
+use Rattle.smk_world.specs.Trees.{Act, IsIn, Path, among, is_path_text}
+use Rattle.smk_world.specs.World.{World, IsFormed, after, is_above, is_within, out_paths, reading, run}
 use Rattle.smk_world.specs.declared.event.Call.TheVariants.{Created, Looked, MadeParents, Protected, ReadFile, ReadFolder, Removed, Settled, Started, Waited, Written}
+use Rattle.smk_world.specs.declared.event.Call.{Call}
+use Rattle.smk_world.specs.declared.event.Child.{Child}
+use Rattle.smk_world.specs.declared.event.Event.{Event}
+use Rattle.smk_world.proofs.Names.{formed_after}
+use Rattle.smk_flow.specs.declared.job.Job.{Job}
+use Rattle.smk_store.specs.Images.{kept_by}
+use Rattle.smk_store.specs.declared.store.Kept.TheVariants.{Absent}
+use Rattle.smk_chain.specs.Derive.{Listings}
+use Rattle.smk_trigger.specs.declared.reason.State.{State}
+use Rattle.smk_plan.specs.States.{Plan, is_spent, is_temporary, staged, test_some}
+use Rattle.smk_laws_plan.proofs.CurrentLists.{and_left, and_right, any_from, any_in, clash_of, filter_in, flat_in, in_either, in_left, in_map, in_right, map_in, or_cases, zip_first}
+use Rattle.smk_laws_plan.proofs.CurrentPaths.{among_in, in_among}
+use Rattle.smk_drive.specs.Lawful.{lock_places, makes_folders, protects}
+use Rattle.smk_drive.specs.Moments.{AtEntry, AtRest, Begun, Between, IsInForce, IsMoment, Moment, Rules, begins, begun_after, begun_of, changes_at, ending, is_child_of, is_closed, is_closed_well, is_spent_removal, places, progress_of, seen, staged_now, with_end}
+use Rattle.smk_laws_history.proofs.CurrentComplete.{seen_is_complete}
+use Rattle.smk_drive_target.specs.Lawful.{IsLawfulEvent, open_places, planned_places}
+use Rattle.smk_drive_target.specs.Moments.{AtEachEvent}
+use Rattle.smk_cli_target.proofs.NextRun.{above_in, last_parts, lock_in, moment_world}
+use Rattle.smk_cli_target.proofs.PlanPlaces.{guard_is_out, log_is_path, out_is_path, temp_is_out}
+use Rattle.smk_laws_edit.specs.Unbegun.{UnbegunStay, is_output_of}
+use Rattle.smk_laws_edit.proofs.StillReads.{still_reads}
 
 -- ## Places of jobs
 

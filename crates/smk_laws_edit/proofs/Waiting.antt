@@ -1,37 +1,36 @@
 -- Until a child is started the plan of the entry stays in force; so the first one is of a job that is to run by that plan.
-use Rattle.smk_plan.specs.States.{IsPlan, Last, LastPlan, Plan, new_listings, none_or_one, nothing_done, staged}
-use Rattle.smk_laws_protocol.proofs.Basics.{each_in}
-use Rattle.smk_world.specs.Trees.{Act, IsIn, Path, among}
-use Rattle.smk_world.specs.Runs.{Follows}
-use Rattle.smk_cli_target.proofs.PlanStays.{IsAlike, last_stays, plan_stays}
-use Rattle.smk_laws_plan.specs.Current.{IsComplete}
-use Rattle.smk_laws_plan.proofs.CurrentLists.{and_left, and_right, filter_in, find_in, flat_in, in_either, map_in, or_cases, or_left, or_right, zip_first}
-use Rattle.smk_drive.specs.Lawful.{fit_together, lock_places, makes_folders, protects, running_jobs}
-use Rattle.smk_world.specs.World.{World, IsFormed, after, is_above, is_within, run}
-use Rattle.smk_pick.specs.declared.settings.Force.TheVariants.{No}
-use Rattle.smk_laws_edit.proofs.Quiet.{HasNoWait, IsStartCall, no_rest, same_ends, some_begun, still_alone, unstarted_on}
-use Rattle.smk_laws_plan.proofs.CurrentPaths.{among_in}
-use Rattle.smk_world.specs.declared.event.Call.{Call}
-use Rattle.smk_laws_history.proofs.CurrentComplete.{seen_is_complete}
-use Rattle.smk_drive.specs.Moments.{AtEntry, AtRest, Begun, Between, IsMoment, Moment, Rules, begins, begun_after, begun_of, changes_at, is_closed, is_rest, is_spent_now, is_spent_removal, places, progress_of, runs, seen, with_end}
-use Rattle.smk_trigger.specs.JobStates.{is_to_run}
-use Rattle.smk_drive_target.specs.Lawful.{BeginsWell, ChangesWell, IsLawfulEvent, MayBegin, StartsWell, WaitsWell, is_free_to_start, may_start, open_places, planned_places}
-use Rattle.smk_cli_target.proofs.PlanStays.{and_never}
-use Rattle.smk_trigger.specs.declared.reason.State.{State}
-use Rattle.smk_drive_target.proofs.OneMoment.{one_moment}
-use Rattle.smk_cli_target.proofs.PlanPlaces.{at_lock, place_of}
-use Rattle.smk_world.specs.declared.event.Event.{Event}
-use Rattle.smk_drive_target.specs.Keeping.{Spends, has_start, is_start}
-use Rattle.smk_flow.specs.declared.job.Job.{Job}
-use Rattle.smk_world.specs.declared.event.Call.TheVariants.{Created, Looked, MadeParents, Protected, ReadFile, ReadFolder, Removed, Settled, Started, Waited, Written}
-use Rattle.smk_drive_target.specs.Moments.{AtEachEvent, starts}
 use Rattle.std.proofs.Common.{◌≡◌, ◌⊎◌, Bool, true, false, ◌&&◌, ◌||◌, not, List, [], ◌∷◌, ◌++◌, map, filter, flat_map, refl, sym, ap, subst, ◌∙◌, inl, inr, Some, None, IsTrue, append_assoc, append-nil, bytes_eq, true≢false}
-use Rattle.smk_cli_target.proofs.NextRun.{above_in, lock_in}
-use Rattle.smk_cli_target.proofs.SparedWorlds.{HasNoChild, IsOver, IsSpared, MayChange, PlacesHere, files_same, kept_same, marked_same, noted_same, spared_on, whole_is}
 use Rattle.smk_base.specs.Path.{is_under}
 use Rattle.smk_world.specs.Calls.{Lets}
+use Rattle.smk_world.specs.Runs.{Follows}
+use Rattle.smk_world.specs.Trees.{Act, IsIn, Path, among}
+use Rattle.smk_world.specs.World.{World, IsFormed, after, is_above, is_within, run}
+use Rattle.smk_world.specs.declared.event.Call.TheVariants.{Created, Looked, MadeParents, Protected, ReadFile, ReadFolder, Removed, Settled, Started, Waited, Written}
+use Rattle.smk_world.specs.declared.event.Call.{Call}
+use Rattle.smk_world.specs.declared.event.Event.{Event}
 use Rattle.smk_world.proofs.Names.{formed_after}
+use Rattle.smk_flow.specs.declared.job.Job.{Job}
 use Rattle.smk_chain.specs.Derive.{Listings}
+use Rattle.smk_pick.specs.declared.settings.Force.TheVariants.{No}
+use Rattle.smk_trigger.specs.JobStates.{is_to_run}
+use Rattle.smk_trigger.specs.declared.reason.State.{State}
+use Rattle.smk_plan.specs.States.{IsPlan, Last, LastPlan, Plan, new_listings, none_or_one, nothing_done, staged}
+use Rattle.smk_laws_plan.specs.Current.{IsComplete}
+use Rattle.smk_laws_plan.proofs.CurrentLists.{and_left, and_right, filter_in, find_in, flat_in, in_either, map_in, or_cases, or_left, or_right, zip_first}
+use Rattle.smk_laws_plan.proofs.CurrentPaths.{among_in}
+use Rattle.smk_drive.specs.Lawful.{fit_together, lock_places, makes_folders, protects, running_jobs}
+use Rattle.smk_drive.specs.Moments.{AtEntry, AtRest, Begun, Between, IsMoment, Moment, Rules, begins, begun_after, begun_of, changes_at, is_closed, is_rest, is_spent_now, is_spent_removal, places, progress_of, runs, seen, with_end}
+use Rattle.smk_laws_protocol.proofs.Basics.{each_in}
+use Rattle.smk_laws_history.proofs.CurrentComplete.{seen_is_complete}
+use Rattle.smk_drive_target.specs.Keeping.{Spends, has_start, is_start}
+use Rattle.smk_drive_target.specs.Lawful.{BeginsWell, ChangesWell, IsLawfulEvent, MayBegin, StartsWell, WaitsWell, is_free_to_start, may_start, open_places, planned_places}
+use Rattle.smk_drive_target.specs.Moments.{AtEachEvent, starts}
+use Rattle.smk_drive_target.proofs.OneMoment.{one_moment}
+use Rattle.smk_cli_target.proofs.NextRun.{above_in, lock_in}
+use Rattle.smk_cli_target.proofs.PlanPlaces.{at_lock, place_of}
+use Rattle.smk_cli_target.proofs.PlanStays.{IsAlike, last_stays, plan_stays, and_never}
+use Rattle.smk_cli_target.proofs.SparedWorlds.{HasNoChild, IsOver, IsSpared, MayChange, PlacesHere, files_same, kept_same, marked_same, noted_same, spared_on, whole_is}
+use Rattle.smk_laws_edit.proofs.Quiet.{HasNoWait, IsStartCall, no_rest, same_ends, some_begun, still_alone, unstarted_on}
 
 -- ## The entry
 
