@@ -1,5 +1,5 @@
 -- A run that begins an unfinished job again leaves its mark where it stands, makes the output anew, and closes the job: it keeps what a call has to keep.
-use Rattle.std.proofs.Common.{◌≡◌, Bool, true, false, ◌&&◌, ◌||◌, List, [], ◌∷◌, codes, map, take, bytes_eq, Option, Some, None, Ok, option_map, refl, sym, ap, subst, ◌∙◌, ◌⊎◌, inl, inr, append-nil, true≢false}
+use Rattle.std.proofs.Common.{◌≡◌, Bool, true, false, ◌&&◌, ◌||◌, List, [], ◌∷◌, codes, take, bytes_eq, Option, Some, None, Ok, option_map, refl, sym, ap, subst, ◌∙◌, ◌⊎◌, inl, inr, append-nil, true≢false}
 use Rattle.std.specs.Prelude.{if◌then◌else◌, is_some, IsSome}
 use Rattle.std.specs.List.{list_any}
 use Rattle.smk_base.specs.Path.{overlaps}
@@ -14,7 +14,7 @@ use Rattle.smk_world.specs.declared.event.Change.{Change}
 use Rattle.smk_world.specs.declared.event.Event.{Event}
 use Rattle.smk_world.specs.declared.event.Node.{Node}
 use Rattle.smk_world.specs.declared.event.Node.TheVariants.{Directory, Regular}
-use Rattle.smk_world.specs.World.{World, after, firm, firmly, is_above, is_within, node_in, owned_by, places_in, reading, reads_folder, run}
+use Rattle.smk_world.specs.World.{World, firm, firmly, is_above, is_within, node_in, owned_by, places_in, reading, reads_folder, run}
 use Rattle.smk_world.specs.Calls.{ContentsAre, Happens, OutputsAre}
 use Rattle.smk_world.specs.Folders.{CanHold}
 use Rattle.smk_world.specs.Runs.{Follows}
@@ -23,7 +23,6 @@ use Rattle.smk_world.specs.Devices.{Device}
 use Rattle.smk_world.proofs.Folders.{happens, no_node}
 use Rattle.smk_world.proofs.Stays.{left_at}
 use Rattle.smk_pattern.specs.Shapes.{Text}
-use Rattle.smk_record.specs.declared.record.Record.{Record}
 use Rattle.smk_record.specs.declared.record.Stamp.TheVariants.{Time}
 use Rattle.smk_record.specs.Reading.{record_in}
 use Rattle.smk_record.specs.Records.{core, members_of}
@@ -34,17 +33,17 @@ use Rattle.smk_store.specs.Safety.{KeepsSound}
 use Rattle.smk_flow.proofs.Examples.{commands}
 use Rattle.smk_drive.proofs.Turns.{event}
 use Rattle.smk_laws_protocol.specs.Midway.{IsTop, at_entry}
-use Rattle.smk_laws_protocol.specs.Protocol.{AllMade, AllMarked, AllUnmarked, AllWritten, Begin, Close, Done, Ended, Firm, Go, HasAllMarks, MakeRoom, Marked, Marking, MayBegin, Next, OpenJob, Phase, Recorded, Running, RunState, Runs, Start, Steady, Unmark, Wait, Write, now}
+use Rattle.smk_laws_protocol.specs.Protocol.{AllMade, AllMarked, AllUnmarked, AllWritten, Begin, Close, Done, Ended, Firm, Go, HasAllMarks, MakeRoom, Marked, Marking, MayBegin, Next, OpenJob, Phase, Recorded, Running, RunState, Runs, Start, Steady, Unmark, Wait, Write}
 use Rattle.smk_laws_protocol.proofs.Above.{held_by}
 use Rattle.smk_laws_protocol.proofs.OneJob.{removed_absent}
 use Rattle.smk_laws_protocol.proofs.Reading.{in_of}
-use Rattle.smk_laws_history.specs.Histories.{IsCall, KeepsListed}
+use Rattle.smk_laws_history.specs.Histories.{IsCall}
 use Rattle.smk_laws_history.proofs.HistoryListedRuns.{run_is_call}
 use Rattle.smk_words_reading.specs.declared.asked.Asked.TheVariants.{Run}
 use Rattle.smk_words_reading.specs.declared.asked.RunWords.{RunWords}
 use Rattle.smk_words_reading.specs.Asks.{IsAsked}
-use Rattle.smk_drive_rows.proofs.CopyRow.{in_txt, out}
-use Rattle.smk_cli_target.specs.Clauses.{AreToForget, KeepsGood}
+use Rattle.smk_drive_rows.proofs.CopyRow.{out}
+use Rattle.smk_cli_target.specs.Clauses.{KeepsGood}
 use Rattle.smk_cli_target.specs.Files.{outside}
 use Rattle.smk_cli_rows.proofs.BytesRow.{copied}
 use Rattle.smk_cli_rows.proofs.UnfinishedRow.{all_marked, entry, entry_tree, forgets_none, held_there, here, mark_here, nodes, no_note, record_here, source_here}

@@ -1,52 +1,41 @@
 -- A folder with the mark of an unfinished job, over an old record and a torn output: a good entry. A call that writes the mark anew, or takes it away and
 -- puts it anew, is refused: a crash may lose it, and then the record vouches for other bytes than stand there.
-use Rattle.std.proofs.Common.{◌≡◌, ◌⊎◌, ℕ, Bool, true, false, ◌&&◌, ◌||◌, ◌==◌, not, List, [], ◌∷◌, ◌++◌, codes, length, map, filter, take, drop, bytes_eq, Option, Some, None, Ok, option_map, refl, sym, ap, subst, ◌∙◌, inl, inr, append-nil, true≢false, arith}
+use Rattle.std.proofs.Common.{◌≡◌, ◌⊎◌, ℕ, Bool, true, false, ◌&&◌, ◌||◌, ◌==◌, not, List, [], ◌∷◌, ◌++◌, codes, length, filter, take, drop, bytes_eq, Option, Some, None, Ok, option_map, refl, sym, ap, subst, ◌∙◌, inl, inr, true≢false, arith}
 use Rattle.std.specs.Prelude.{if◌then◌else◌, is_some, IsSome, nat_le}
 use Rattle.std.specs.Fmt.{digits}
-use Rattle.std.specs.List.{list_any}
-use Rattle.smk_base.specs.Path.{is_at_or_under, is_under, overlaps}
+use Rattle.smk_base.specs.Path.{is_at_or_under, is_under}
 use Rattle.smk_base.specs.Place.{mark_place, marks_folder, note_place, record_place, records_folder}
 use Rattle.smk_base.specs.declared.tree.Tree.{Tree}
-use Rattle.smk_base.specs.declared.tree.Tree.TheVariants.{File, Folder}
+use Rattle.smk_base.specs.declared.tree.Tree.TheVariants.{File}
 use Rattle.smk_base.proofs.Apart.{mark-mark, same_record}
 use Rattle.smk_base.proofs.Places.{and_first, and_second, place_itself, same_place}
 use Rattle.smk_base.proofs.Under.{or_second}
-use Rattle.smk_world.specs.declared.event.Change.{Change}
 use Rattle.smk_world.specs.declared.event.Event.{Event}
 use Rattle.smk_world.specs.declared.event.Node.{Node}
 use Rattle.smk_world.specs.declared.event.Node.TheVariants.{Directory, Regular}
-use Rattle.smk_world.specs.declared.event.Call.TheVariants.{Created, Removed, Settled, Started, Waited, Written}
-use Rattle.smk_world.specs.World.{World, Nodes, IsFormed, Leaves, MayLeave, after, firmly, going, loose, node_in, owned_by, places_in, reading, run, settled, standing, world_of}
-use Rattle.smk_world.specs.Calls.{ContentsAre, Happens, OutputsAre}
+use Rattle.smk_world.specs.declared.event.Call.TheVariants.{Created, Removed, Written}
+use Rattle.smk_world.specs.World.{World, Nodes, IsFormed, Leaves, MayLeave, after, firmly, going, loose, node_in, places_in, reading, run, standing, world_of}
 use Rattle.smk_world.specs.Folders.{CanHold, IsTree}
-use Rattle.smk_world.specs.Runs.{Follows}
 use Rattle.smk_world.specs.Trees.{Path, IsIn, is_path_text}
-use Rattle.smk_world.proofs.Folders.{happens, no_folder, no_node}
-use Rattle.smk_world.proofs.Stays.{left_at}
+use Rattle.smk_world.proofs.Folders.{no_node}
 use Rattle.smk_pattern.specs.Shapes.{Text}
 use Rattle.smk_record.specs.declared.record.Record.{Record}
 use Rattle.smk_record.specs.declared.record.Stamp.{Stamp}
 use Rattle.smk_record.specs.declared.record.Stamp.TheVariants.{Made, Time}
 use Rattle.smk_record.specs.Reading.{record_in}
-use Rattle.smk_record.specs.Records.{core, is_valid, members_of, stamped}
+use Rattle.smk_record.specs.Records.{core, stamped}
 use Rattle.smk_record.specs.Spelling.{spelling}
-use Rattle.smk_store.specs.declared.store.Kept.{Kept}
 use Rattle.smk_store.specs.declared.store.Kept.TheVariants.{Absent, Held, Unreadable}
-use Rattle.smk_store.specs.Images.{Content, Image, content_of, core_at, file_at, for_path, image_by, image_of, is_covered, is_known, is_outside, is_source, kept_by, readable, record_at, seen, source_at, stands, tree_now}
+use Rattle.smk_store.specs.Images.{Content, Image, content_of, core_at, file_at, for_path, image_of, is_covered, is_known, is_outside, is_source, kept_by, readable, seen, source_at, stands}
 use Rattle.smk_store.specs.Safety.{with_sources}
 use Rattle.smk_store.specs.Soundness.{Sound, SoundWorld}
 use Rattle.smk_store.specs.Trust.{Chain, Link, Versions, Vir, any_time, input_value, made_at, none_eased, vir, vouched}
 use Rattle.smk_flow.proofs.Examples.{commands}
 use Rattle.smk_drive.proofs.Turns.{event}
-use Rattle.smk_laws_protocol.specs.Midway.{IsTop, at_entry}
-use Rattle.smk_laws_protocol.specs.Protocol.{AllMade, AllMarked, AllUnmarked, AllWritten, Begin, Close, Done, Ended, Firm, Go, HasAllMarks, MakeRoom, Mark, Marked, Marking, MayBegin, Next, OpenJob, Phase, Recorded, Running, RunState, Runs, Start, Steady, Unmark, Wait, Write, now}
 use Rattle.smk_laws_protocol.proofs.Above.{held_by}
-use Rattle.smk_laws_protocol.proofs.OneJob.{removed_absent}
-use Rattle.smk_laws_protocol.proofs.Reading.{in_of}
 use Rattle.smk_laws_plan.proofs.CurrentLists.{in_filter, in_map, or_left}
-use Rattle.smk_laws_history.specs.Histories.{IsCall, IsListed, KeepsListed, ListsAll}
+use Rattle.smk_laws_history.specs.Histories.{ListsAll}
 use Rattle.smk_laws_history.proofs.Finite.{node_from}
-use Rattle.smk_laws_history.proofs.HistoryListedRuns.{run_is_call}
 use Rattle.smk_laws_history.proofs.Same.{leaves_same}
 use Rattle.smk_laws_history.proofs.Steps.{sound_image}
 use Rattle.smk_words_reading.specs.declared.asked.Asked.TheVariants.{Forget, Run}
@@ -57,7 +46,7 @@ use Rattle.smk_world.specs.Devices.{Device, Sunk}
 use Rattle.smk_drive_rows.proofs.Events.{formed_of}
 use Rattle.smk_drive_rows.proofs.CopyRow.{in_txt, out}
 use Rattle.smk_cli_target.specs.declared.ending.Outcome.{Outcome}
-use Rattle.smk_cli_target.specs.Clauses.{AreToForget, HasLog, KeepsGood, NoPath, TheirPaths}
+use Rattle.smk_cli_target.specs.Clauses.{AreToForget, HasLog, NoPath, TheirPaths}
 use Rattle.smk_cli_target.specs.Ends.{IsGoodEntry}
 use Rattle.smk_cli_target.specs.Files.{outside}
 use Rattle.smk_cli_rows.proofs.BytesRow.{copied, is_read}

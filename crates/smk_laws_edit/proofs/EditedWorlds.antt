@@ -1,51 +1,48 @@
 -- A folder after an edit of one of its sources: what stands elsewhere, and all that is known, is as it was. So the plan after a run that is done has
 -- nothing to do but for the edited source.
-use Rattle.std.proofs.Common.{◌≡◌, ◌⊎◌, ℕ, Bool, true, false, ◌&&◌, ◌||◌, not, List, [], ◌∷◌, refl, sym, ap, subst, ◌∙◌, inl, inr, bytes_eq, Option, Some, None, IsTrue, is_some, true≢false}
 use Rattle.std.specs.Prelude.{IsSome, if◌then◌else◌}
+use Rattle.std.proofs.Common.{◌≡◌, ◌⊎◌, ℕ, Bool, true, false, ◌&&◌, ◌||◌, not, List, [], ◌∷◌, refl, sym, ap, subst, ◌∙◌, inl, inr, bytes_eq, Option, Some, None, IsTrue, is_some, true≢false}
 use Rattle.smk_base.specs.Path.{is_at_or_under, is_path, is_under, overlaps, own_folder}
 use Rattle.smk_base.proofs.Apart.{path_outside}
 use Rattle.smk_base.proofs.Places.{place_itself, same_place}
 use Rattle.smk_base.proofs.Under.{at_or_under_cases, overlaps_over}
-use Rattle.smk_world.specs.declared.event.Node.{Node}
-use Rattle.smk_world.specs.declared.event.Node.TheVariants.{Directory, Regular}
-use Rattle.smk_world.specs.declared.event.NodeState.{NodeState}
-use Rattle.smk_world.specs.declared.event.Event.{Event}
-use Rattle.smk_world.specs.declared.recipe.Kind.{Kind}
 use Rattle.smk_world.specs.Folders.{IsTree}
+use Rattle.smk_world.specs.Trees.{Each, IsIn, Path, is_path_text, is_text}
 use Rattle.smk_world.specs.World.{World, IsFormed, firmly, folders_above, out_paths, reading, run}
-use Rattle.smk_world.specs.Trees.{Act, Each, IsIn, Path, is_path_text, is_text}
+use Rattle.smk_world.specs.declared.event.Node.TheVariants.{Directory, Regular}
+use Rattle.smk_world.specs.declared.event.Node.{Node}
+use Rattle.smk_world.specs.declared.event.NodeState.{NodeState}
+use Rattle.smk_world.specs.declared.recipe.Kind.{Kind}
 use Rattle.smk_world.proofs.Names.{adds_rising, not_added_any, or_false}
-use Rattle.smk_pattern.specs.Shapes.{Text}
-use Rattle.smk_flow.specs.declared.job.Job.{Job}
 use Rattle.smk_flow.specs.Flows.{Flow}
-use Rattle.smk_record.specs.declared.record.Record.{Record}
+use Rattle.smk_flow.specs.declared.job.Job.{Job}
 use Rattle.smk_record.specs.Reading.{record_in}
-use Rattle.smk_store.specs.Images.{Image, content_of, file_at, holds_source, is_covered, is_file, is_outside, is_source, is_whole, sources}
+use Rattle.smk_record.specs.declared.record.Record.{Record}
 use Rattle.smk_store.specs.Images as images
-use Rattle.smk_chain.specs.Derive.{Derived, Listings, derivation, listing, sources_of}
-use Rattle.smk_trigger.specs.declared.reason.State.{State}
-use Rattle.smk_trigger.specs.JobStates.{is_clean}
+use Rattle.smk_store.specs.Images.{Image, content_of, file_at, holds_source, is_covered, is_file, is_outside, is_source, is_whole, sources}
+use Rattle.smk_chain.specs.Derive.{sources_of}
 use Rattle.smk_pick.specs.declared.settings.Settings.{Settings}
+use Rattle.smk_trigger.specs.JobStates.{is_clean}
+use Rattle.smk_trigger.specs.declared.reason.State.{State}
 use Rattle.smk_plan.specs.States.{IsPlan, LastPlan, Plan, new_listings, nothing_done}
-use Rattle.smk_drive.specs.Moments.{Rules}
 use Rattle.smk_laws_plan.specs.Current.{IsComplete}
 use Rattle.smk_laws_plan.proofs.CurrentLists.{and_left, and_right, any_none, clash_of, in_filter}
-use Rattle.smk_laws_plan.proofs.CurrentPaths.{among_in}
 use Rattle.smk_laws_plan.proofs.CurrentMeaning.{source_file}
+use Rattle.smk_laws_plan.proofs.CurrentPaths.{among_in}
 use Rattle.smk_laws_plan.proofs.PlanOne.{one_last_plan}
 use Rattle.smk_laws_plan.proofs.PlanOrder.{some_node}
+use Rattle.smk_drive.specs.Moments.{Rules}
 use Rattle.smk_laws_history.specs.Histories.{edited}
 use Rattle.smk_laws_history.proofs.CurrentComplete.{seen_is_complete}
 use Rattle.smk_laws_history.proofs.HistoryPlaces.{kept_same, marked_same, node_same, noted_same, whole_same}
-use Rattle.smk_words_reading.specs.declared.asked.RunWords.{RunWords}
-use Rattle.smk_cli_target.specs.Clauses.{IsPlanOf}
 use Rattle.smk_cli_target.specs.Files.{seen}
-use Rattle.smk_cli_target.specs.Thrift.{HasDone}
 use Rattle.smk_cli_target.proofs.NextRun.{IsAtEnd, at_end, had_begun, is_done, last_parts}
 use Rattle.smk_cli_target.proofs.PlanPlaces.{out_holds_none}
 use Rattle.smk_cli_target.proofs.PlanStays.{both_ways, chain_again, derived_again, holds_on}
 use Rattle.smk_laws_edit.specs.Edited.{AfterEditOnlyDownstream, PlansDownstream}
-use Rattle.smk_laws_edit.proofs.EditedPlans.{IsEdited, WasDone, chain_downstream, chain_listed}
+use Rattle.smk_laws_edit.proofs.AnyPlan.{chain_listed}
+use Rattle.smk_laws_edit.proofs.EditedChain.{IsEdited, WasDone}
+use Rattle.smk_laws_edit.proofs.EditedPlans.{chain_downstream}
 
 none_some : {A : Type 0} (x : A) → None ≡ Some x → ⊥
 none_some x h = cc

@@ -1,16 +1,15 @@
 -- With more listings a job of a plan goes on, with all the inputs that it had.
-use Rattle.std.proofs.Common.{◌≡◌, List, [], ◌∷◌, ◌++◌, map, filter_map, flat_map, refl, sym, ap, subst, Option, Some, None, option_map}
-use Rattle.smk_world.specs.declared.recipe.Item.{Item}
-use Rattle.smk_world.specs.World.{in_paths, out_paths}
+use Rattle.std.proofs.Common.{◌≡◌, List, ◌++◌, filter_map, flat_map, refl, sym, ap, subst, Option, Some, None, option_map}
 use Rattle.smk_world.specs.Trees.{Path}
-use Rattle.smk_pattern.specs.Shapes.{Text}
-use Rattle.smk_pattern.specs.Reading.{fill}
+use Rattle.smk_world.specs.World.{in_paths, out_paths}
+use Rattle.smk_world.specs.declared.recipe.Item.{Item}
 use Rattle.smk_pattern.specs.Bound.{binding_of}
-use Rattle.smk_flow.specs.declared.rule.InPart.{InPart}
-use Rattle.smk_flow.specs.declared.rule.GatherPart.{GatherPart}
-use Rattle.smk_flow.specs.declared.job.Job.{Job}
+use Rattle.smk_pattern.specs.Reading.{fill}
+use Rattle.smk_pattern.specs.Shapes.{Text}
 use Rattle.smk_flow.specs.Flows.{Candidate, Flow, folder_from}
-use Rattle.smk_choose.specs.Choose.{Sources}
+use Rattle.smk_flow.specs.declared.job.Job.{Job}
+use Rattle.smk_flow.specs.declared.rule.GatherPart.{GatherPart}
+use Rattle.smk_flow.specs.declared.rule.InPart.{InPart}
 use Rattle.smk_store.specs.Images.{Image}
 use Rattle.smk_chain.specs.Derive.{Derived, Listings, derivation, distinct, gathered, item_paths, items, job, listing, or_none, recipe, same_candidate, sources_of, walk}
 use Rattle.smk_pick.specs.declared.settings.Settings.{Settings}

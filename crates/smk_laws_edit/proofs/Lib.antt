@@ -1,6 +1,11 @@
 pub mod SameLists
 pub mod Grown
+pub mod AnyPlan
+pub mod EditedChain
 pub mod EditedPlans
 pub mod EditedWorlds
+pub mod Quiet
+pub mod Waiting
 pub mod FirstStart
+pub mod StillReads
 pub mod Unbegun

@@ -1,11 +1,10 @@
 -- Of its listings a derivation sees only what they answer: with listings that answer alike it is the same.
-use Rattle.std.proofs.Common.{◌≡◌, ℕ, zero, suc, Bool, true, false, ◌&&◌, not, List, [], ◌∷◌, ◌++◌, ◌+◌, ◌==◌, map, max, filter, flat_map, length, refl, ap, ◌∙◌, bytes_eq, Option, Some, None, is_some}
-use Rattle.std.specs.Prelude.{is_none, nat_lt, if◌then◌else◌}
 use Rattle.std.specs.List.{fold}
+use Rattle.std.specs.Prelude.{is_none, nat_lt, if◌then◌else◌}
+use Rattle.std.proofs.Common.{◌≡◌, ℕ, zero, suc, true, false, ◌&&◌, not, List, [], ◌∷◌, ◌++◌, ◌+◌, ◌==◌, map, max, filter, flat_map, length, refl, ap, ◌∙◌, bytes_eq, Option, Some, None, is_some}
 use Rattle.smk_base.specs.Path.{is_path}
 use Rattle.smk_world.specs.Calls.{in_folder}
 use Rattle.smk_world.specs.Trees.{Path, among, folder_over}
-use Rattle.smk_flow.specs.declared.job.Job.{Job}
 use Rattle.smk_flow.specs.Flows.{Candidate, Flow}
 use Rattle.smk_choose.specs.Choose.{Ambiguous, Choice, Make, Nothing, Source, Sources, candidates, choose, maker}
 use Rattle.smk_store.specs.Images.{Image}

@@ -1,109 +1,38 @@
 -- An event of a lawful log changes the record and the mark of a path only where a job that makes it has begun.
-use Rattle.std.proofs.Common.{◌≡◌, ◌⊎◌, Bool, true, false, ◌&&◌, ◌||◌, not, List, [], ◌∷◌, ◌++◌, map, filter, flat_map, refl, sym, ap, subst, ◌∙◌, inl, inr, bytes_eq, Option, Some, None, Ok, Err, IsTrue, append_assoc, is_some, true≢false}
-use Rattle.std.specs.Prelude.{if◌then◌else◌, nat_eq}
 use Rattle.std.specs.List.{list_any}
+use Rattle.std.specs.Prelude.{if◌then◌else◌, nat_eq}
+use Rattle.std.proofs.Common.{◌≡◌, ◌⊎◌, Bool, true, false, ◌&&◌, ◌||◌, not, List, [], ◌∷◌, ◌++◌, map, filter, refl, sym, ap, subst, ◌∙◌, inl, inr, bytes_eq, Option, Some, None, Ok, Err, append_assoc, is_some, true≢false}
 use Rattle.smk_base.specs.Path.{is_at_or_under, is_path, is_under}
 use Rattle.smk_base.specs.Place.{lock_place, mark_place, note_place, record_place}
 use Rattle.smk_base.proofs.Apart.{mark-lock, mark-mark, mark-note, mark_under_mark, path-mark, path-record, record-lock, record-mark, record-note, record-record, record_under_record}
 use Rattle.smk_base.proofs.Places.{place_itself, same_place}
 use Rattle.smk_base.proofs.Under.{at_itself, never_both}
-use Rattle.smk_world.specs.declared.event.Call.{Call}
+use Rattle.smk_world.specs.Calls.{Lets}
+use Rattle.smk_world.specs.Runs.{Follows}
+use Rattle.smk_world.specs.Trees.{Act, IsIn, Path, among, is_path_text}
+use Rattle.smk_world.specs.World.{World, IsFormed, after, is_above, is_within, out_paths, reading, run}
 use Rattle.smk_world.specs.declared.event.Call.TheVariants.{Created, Looked, MadeParents, Protected, ReadFile, ReadFolder, Removed, Settled, Started, Waited, Written}
-use Rattle.smk_world.specs.declared.event.Change.{Change}
+use Rattle.smk_world.specs.declared.event.Call.{Call}
 use Rattle.smk_world.specs.declared.event.Child.{Child}
 use Rattle.smk_world.specs.declared.event.Event.{Event}
-use Rattle.smk_world.specs.declared.event.Node.{Node}
-use Rattle.smk_world.specs.declared.event.NodeState.{NodeState}
-use Rattle.smk_world.specs.declared.event.NodeState.TheVariants.{Known, Owned}
-use Rattle.smk_world.specs.Calls.{Lets, MayRemain}
-use Rattle.smk_world.specs.Runs.{Follows}
-use Rattle.smk_world.specs.World.{World, IsFormed, after, firm, going, is_above, is_within, loose, node_after, out_paths, owned_by, owned_paths, reading, reads_folder, reads_nothing, run, standing, with_flag, with_folder}
-use Rattle.smk_world.specs.Trees.{Act, Each, IsIn, Path, among, is_path_text}
 use Rattle.smk_world.proofs.Names.{formed_after}
 use Rattle.smk_flow.specs.declared.job.Job.{Job}
-use Rattle.smk_flow.specs.Flows.{Flow}
-use Rattle.smk_store.specs.declared.store.Kept.TheVariants.{Absent}
 use Rattle.smk_store.specs.Images.{kept_by}
-use Rattle.smk_chain.specs.Derive.{Derived, Listings, derivation}
+use Rattle.smk_store.specs.declared.store.Kept.TheVariants.{Absent}
+use Rattle.smk_chain.specs.Derive.{Listings}
 use Rattle.smk_trigger.specs.declared.reason.State.{State}
 use Rattle.smk_plan.specs.States.{Plan, is_spent, is_temporary, staged, test_some}
-use Rattle.smk_drive.specs.Moments.{AtEntry, AtRest, Begun, Between, IsInForce, IsMoment, Moment, Rules, begins, begun_after, begun_of, changes_at, ending, is_child_of, is_closed, is_closed_well, is_spent_removal, places, progress_of, seen, staged_now, with_end}
+use Rattle.smk_laws_plan.proofs.CurrentLists.{and_left, and_right, any_from, any_in, clash_of, filter_in, flat_in, in_either, in_left, in_map, in_right, map_in, or_cases, zip_first}
+use Rattle.smk_laws_plan.proofs.CurrentPaths.{among_in, in_among}
 use Rattle.smk_drive.specs.Lawful.{lock_places, makes_folders, protects}
+use Rattle.smk_drive.specs.Moments.{AtEntry, AtRest, Begun, Between, IsInForce, IsMoment, Moment, Rules, begins, begun_after, begun_of, changes_at, ending, is_child_of, is_closed, is_closed_well, is_spent_removal, places, progress_of, seen, staged_now, with_end}
+use Rattle.smk_laws_history.proofs.CurrentComplete.{seen_is_complete}
 use Rattle.smk_drive_target.specs.Lawful.{IsLawfulEvent, open_places, planned_places}
 use Rattle.smk_drive_target.specs.Moments.{AtEachEvent}
-use Rattle.smk_laws_plan.specs.Current.{IsComplete}
-use Rattle.smk_laws_plan.proofs.CurrentLists.{and_left, and_right, any_from, any_in, clash_of, filter_in, flat_in, in_either, in_filter, in_left, in_map, in_right, map_in, or_cases, zip_first}
-use Rattle.smk_laws_plan.proofs.CurrentPaths.{among_in, in_among}
-use Rattle.smk_laws_history.proofs.CurrentComplete.{seen_is_complete}
 use Rattle.smk_cli_target.proofs.NextRun.{above_in, last_parts, lock_in, moment_world}
 use Rattle.smk_cli_target.proofs.PlanPlaces.{guard_is_out, log_is_path, out_is_path, temp_is_out}
 use Rattle.smk_laws_edit.specs.Unbegun.{UnbegunStay, is_output_of}
-
--- ## What reads where nothing changes
-
-firm_reads : (s : NodeState) → reading (firm s) ≡ reading s
-firm_reads Owned = refl
-firm_reads (Known now besides) = refl
-
-unless_so : (b : Bool) (s t : NodeState) → b ≡ false → reading (if b then t else s) ≡ reading s
-unless_so true s t h = absurd (true≢false h)
-unless_so false s t h = refl
-
-settled_so : (b : Bool) (s : NodeState) → reading (if b then firm s else s) ≡ reading s
-settled_so true s = firm_reads s
-settled_so false s = refl
-
-created_so : (s : NodeState) (b : Bool) (n : Option Node) → (reads_nothing s && (b && is_some n)) ≡ false → reading (if reads_nothing s && b then loose n s else s) ≡ reading s
-created_so Owned b n h = refl
-created_so (Known (Some m) besides) b n h = refl
-created_so (Known None besides) false n h = refl
-created_so (Known None besides) true None h = refl
-created_so (Known None besides) true (Some m) h = absurd (true≢false h)
-
-removed_so : (s : NodeState) (b : Bool) (n : Option Node) → (b ≡ true → MayRemain n s) → (b && not (reads_nothing s)) ≡ false → reading (if b then going n s else s) ≡ reading s
-removed_so s false n may h = refl
-removed_so Owned true n may h = absurd (true≢false h)
-removed_so (Known (Some m) besides) true n may h = absurd (true≢false h)
-removed_so (Known None besides) true n may h = go (may refl)
-  where
-    go : MayRemain n (Known None besides) → reading (going n (Known None besides)) ≡ None
-    go (inl none) = none
-    go (inr same) = sym same
-
-made_so : (s : NodeState) (b : Bool) → (b && reads_nothing s) ≡ false → reading (if b then with_folder s else s) ≡ reading s
-made_so s false h = refl
-made_so Owned true h = refl
-made_so (Known (Some m) besides) true h = refl
-made_so (Known None besides) true h = absurd (true≢false h)
-
-turned : (some under none : Bool) → (under && (none && some)) ≡ false → ((some && under) && none) ≡ false
-turned true true true h = absurd (true≢false h)
-turned true true false h = refl
-turned true false none h = refl
-turned false under none h = refl
-
-still_reads :
-    (act : Act) (w : World) (left : List Change) (q : Path) (c : Call) → Lets act w c left → changes_at c w left q ≡ false →
-    reading (node_after c left w.children q (w.nodes q)) ≡ reading (w.nodes q)
-still_reads act w left q (Looked p r) lets h = refl
-still_reads act w left q (ReadFile p limit r) lets h = refl
-still_reads act w left q (ReadFolder p r) lets h = refl
-still_reads act w left q (Written p bytes r) lets h = unless_so (bytes_eq q p) (w.nodes q) (loose (standing left q) (w.nodes q)) h
-still_reads act w left q (Created p (Ok made)) lets h = unless_so (made && bytes_eq q p) (w.nodes q) (loose (standing left q) (w.nodes q)) h
-still_reads act w left q (Created p (Err e)) lets h = created_so (w.nodes q) (bytes_eq q p) (standing left q) h
-still_reads act w left q (Removed p (Ok u)) lets h = removed_so (w.nodes q) (is_at_or_under q p) (standing left q) (λ b. inl (ap (λ l. standing l q) lets)) h
-still_reads act w left q (Removed p (Err e)) lets h = removed_so (w.nodes q) (is_at_or_under q p) (standing left q) (λ b. lets q b) h
-still_reads act w left q (MadeParents p (Ok u)) lets h = made_so (w.nodes q) (is_under p q) h
-still_reads act w left q (MadeParents p (Err e)) lets h =
-    made_so (w.nodes q) (is_some (standing left q) && is_under p q) (turned (is_some (standing left q)) (is_under p q) (reads_nothing (w.nodes q)) h)
-still_reads act w left q (Settled ps (Ok u)) lets h = settled_so (is_within q ps || (is_above q ps && reads_folder (w.nodes q))) (w.nodes q)
-still_reads act w left q (Settled ps (Err e)) lets h = refl
-still_reads act w left q (Protected p (Ok u)) lets h = unless_so (bytes_eq q p) (w.nodes q) (with_flag (w.nodes q)) h
-still_reads act w left q (Protected p (Err e)) lets h = unless_so (bytes_eq q p) (w.nodes q) (going (standing left q) (with_flag (w.nodes q))) h
-still_reads act w left q (Started recipe logs command (Ok n)) lets h = unless_so (is_within q (owned_paths recipe logs)) (w.nodes q) Owned h
-still_reads act w left q (Started recipe logs command (Err e)) lets h = refl
-still_reads act w left q (Waited (Ok ended)) lets h = unless_so (is_within q (owned_by ended.number w.children)) (w.nodes q) _ h
-still_reads act w left q (Waited (Err e)) lets h = refl
+use Rattle.smk_laws_edit.proofs.StillReads.{still_reads}
 
 -- ## Places of jobs
 

@@ -21,7 +21,7 @@ use Rattle.smk_cli_target.specs.Ends.{IsGoodEntry}
 use Rattle.smk_cli_target.specs.Files.{GoesBy, seen}
 use Rattle.smk_cli_target.specs.Headline.{IsMet}
 use Rattle.smk_cli_target.specs.Clauses.{IsPlanOf}
-use Rattle.smk_cli_target.specs.Thrift.{HasDone, LeadsTo, is_job_of}
+use Rattle.smk_cli_target.specs.Thrift.{HasDone, LeadsTo, MayStartAfter, is_job_of}
 
 -- a job that is to run reads what it makes
 abbrev pub IsRead : Plan → Job → Type 0
@@ -30,7 +30,7 @@ IsRead plan j = (e : Job × State) × (q : Path) × IsIn (staged plan) e × IsTr
 -- Why a job is to run by the plan after an edit of the source p: it is Dirty and leads there, or a Restore that such a job, or one on the
 -- way to it, reads.
 pub data IsToRunFor (p : Path) (plan : Plan) (e : Job × State) : Type 0 where
-  LeadsThere : IsTrue (is_dirty e.1) → LeadsTo plan.jobs p e.0 → IsToRunFor p plan e
+  IsDownstream : IsTrue (is_dirty e.1) → LeadsTo plan.jobs p e.0 → IsToRunFor p plan e
   IsReadBack : IsTrue (is_restore e.1) → IsRead plan e.0 → IsToRunFor p plan e
 
 -- What the plan after an edit of p has to do, by the plan before: no job is new, and each that is to run is so for p.
@@ -50,7 +50,7 @@ AfterEditOnlyDownstream =
     IsPlanOf rules (edited (run entry log) p (Regular bytes time read_only)) now → PlansDownstream p before now
 
 -- So the run that follows begins with it: where that is the plan of its entry, its first child is started of a job of that plan that is to run
--- so, while it is in force.
+-- so, while it is in force. Such a job may be started after the edit.
 abbrev pub FirstStartIsDownstream : Type 0
 FirstStartIsDownstream =
     (act : Act) (words : List Text) (w : RunWords) (rules : Rules) (entry : World) (log again : List Event) (before now : Plan) (p : Path)
@@ -66,4 +66,4 @@ FirstStartIsDownstream =
     (b : Begun) →
     has_start m.events ≡ false →
     IsIn (begun_after rules (edited (run entry log) p (Regular bytes time read_only)) m e) b →
-    IsTrue (starts b.job e.call) → (m.plan ≡ Some now) × IsIn (staged now) (b.job, b.state) × IsToRunFor p now (b.job, b.state))
+    IsTrue (starts b.job e.call) → (m.plan ≡ Some now) × IsIn (staged now) (b.job, b.state) × IsToRunFor p now (b.job, b.state) × MayStartAfter p before now b)
