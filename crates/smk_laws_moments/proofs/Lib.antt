@@ -10,3 +10,4 @@ pub mod SpendingOf
 pub mod OwnSites
 pub mod OwnCalls
 pub mod ReplanningOf
+pub mod RestsBetween

@@ -2,3 +2,4 @@ pub mod Chains
 pub mod Courses
 pub mod Standing
 pub mod Owning
+pub mod Between

@@ -1,6 +1,7 @@
 //! Laws of a run's course: what holds at each of its stands, of each run that is one by the definitions.
 #![tactic(auto)]
 
+ghost use Rattle.smk_laws_moments.specs.Between.{BetweenRestsIsMoment};
 ghost use Rattle.smk_laws_moments.specs.Chains.{ChainGoesOn, ClearGoesOn, ClearStays, NextIsUnrefused};
 ghost use Rattle.smk_laws_moments.specs.Courses.{AllAreWaited, BrokenIsHalted, ChildrenAreOfStand, FirstFaultStays, StartsAreTold, WaitsForChildren};
 ghost use Rattle.smk_laws_moments.specs.Owning.{OwnCallsBeginNone, OwnCallsKeepBegun};
@@ -50,7 +51,8 @@ pub fn calls_are_own()
 {}
 
 /// Where the plan of a stand is made anew after one event, as when a job has begun or is closed, what comes of it is the stand of the moment after that
-/// event.
+/// event. Calls of one job that has begun, between two rests, leave what stands are moments.
 pub fn replanning_is_moment()
-    ensures { ReplanningIsMoment }
+    ensures anew { ReplanningIsMoment }
+    ensures between { BetweenRestsIsMoment }
 {}
