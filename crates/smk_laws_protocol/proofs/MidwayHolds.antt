@@ -9,10 +9,10 @@ use Rattle.smk_world.specs.Calls.{started_numbers}
 use Rattle.smk_world.specs.Trees.{Path, Each, kind_in}
 use Rattle.smk_world.proofs.Owners.{AreNumbered, numbered_run}
 use Rattle.smk_record.specs.declared.record.Stamp.{Stamp}
-use Rattle.smk_record.specs.declared.record.Stamp.TheVariants.{Time, Made}
+use Rattle.smk_record.specs.declared.record.Stamp.TheVariants.{Time, Sum, Made}
 use Rattle.smk_store.specs.Images.{Image, Content, content_of, image_of, is_file, seen, source_at as image_source_at}
 use Rattle.smk_store.specs.Soundness.{Outside}
-use Rattle.smk_store.specs.Trust.{Versions}
+use Rattle.smk_store.specs.Trust.{Versions, content_stamp}
 use Rattle.smk_laws_protocol.specs.Protocol.{OpenJob, Phase, Marking, Marked, Running, Ended, Firm, Recorded, Dropping, Dropped, RunState, outputs, begun_with, eased, IsAtHand as ImageAtHand}
 use Rattle.smk_laws_protocol.specs.Midway.{HoldsMidway, IsTop as ImageTop, Images as ImageImages, Fits as ImageFits, InPhase as ImageInPhase, Midway as ImageMidway, AllStrangers, AreStrangers, IsKnown as ImageKnown, IsGone as ImageGone, has_firm_marks, is_marking, is_made}
 use Rattle.smk_laws_protocol.proofs.View.{View, view, file_of, is_source, Sound}
@@ -64,7 +64,10 @@ made_same o Dropped = refl
 at_hand_from : (o : Outside) (i : Image) (x : Path × Stamp) → IsAtHand o (view i) x → ImageAtHand o i x
 at_hand_from o i (q, Time t) h =
     let c = flagless_some (image_source_at i q) h.0 (source_at_is i q ∙ h.1) in
-    inl (record { source = c.0; stands = c.1; same = itself c.0.time t (ap (λ (f : Content). f.time) c.2 ∙ h.2) })
+    inl (record { source = c.0; stands = c.1; same = sym (ap content_stamp c.2 ∙ h.2) })
+at_hand_from o i (q, Sum t d) h =
+    let c = flagless_some (image_source_at i q) h.0 (source_at_is i q ∙ h.1) in
+    inl (record { source = c.0; stands = c.1; same = sym (ap content_stamp c.2 ∙ h.2) })
 at_hand_from o i (q, Made m) h =
     inr (record {
       speaker = h.0;
@@ -174,5 +177,5 @@ module _ (o : Outside) (entry : World) (H : Versions) (s : RunState) (w : World)
       }
 
 pub holds_midway : HoldsMidway
-holds_midway o entry H top es s sound is follows runs =
-    midway_from o entry H s (run entry es) (reached o entry H sound top es s is follows runs) (numbered_run o.act entry es follows (numbered_alone entry sound.no_child))
+holds_midway o entry H top es s differ sound is follows runs =
+    midway_from o entry H s (run entry es) (reached o entry H differ sound top es s is follows runs) (numbered_run o.act entry es follows (numbered_alone entry sound.no_child))

@@ -7,11 +7,11 @@ use Rattle.smk_base.specs.declared.tree.Tree.{Tree}
 use Rattle.smk_world.specs.Trees.{Path, Act, part_at, is_path_text}
 use Rattle.smk_world.specs.World.{folders_above}
 use Rattle.smk_record.specs.declared.record.Stamp.{Stamp}
-use Rattle.smk_record.specs.declared.record.Stamp.TheVariants.{Time, Made}
+use Rattle.smk_record.specs.declared.record.Stamp.TheVariants.{Time, Sum, Made}
 use Rattle.smk_record.specs.declared.record.Record.{Record}
 use Rattle.smk_record.specs.Records.{core, agrees}
 use Rattle.smk_store.specs.Images.{Image, Content, content_of, core_at, record_at, is_folder, file_at, stands, is_source as image_source, source_at as image_source_at, is_whole as image_whole}
-use Rattle.smk_store.specs.Trust.{Versions, Eased, any_time, made_stamp, made_at, vouched, Chain as ImageChain, Link as ImageLink, Vir, vir as image_vir, input_value as image_input, holder as image_holder}
+use Rattle.smk_store.specs.Trust.{Versions, Eased, any_source, made_stamp, made_at, vouched, Chain as ImageChain, Link as ImageLink, Vir, vir as image_vir, input_value as image_input, holder as image_holder}
 use Rattle.smk_store.specs.Soundness.{Sound as ImageSound}
 use Rattle.smk_base.specs.Path.{overlaps}
 use Rattle.smk_world.specs.declared.event.Node.{Node}
@@ -59,15 +59,15 @@ source_is i q =
     ∙ and_group (is_path_text q) (is_some ((view i).file q)) (not (is_covered (view i) q))
 
 module _ (i : Image) (e : Eased) where
-  pub chain_to : (r : Record) → ImageChain i e any_time r → Chain (view i) e r
-  chain_to _ (ImageLink r place by times speaks chains) =
+  pub chain_to : (r : Record) → ImageChain i e any_source r → Chain (view i) e r
+  chain_to _ (ImageLink r place by sources speaks chains) =
       Link r place by
       (λ q m k. (record { no_source = sym (source_is i q) ∙ (speaks q m k).0.no_source; holder = (speaks q m k).0.holder; clear = (speaks q m k).0.clear }, equal (by q m).made m (speaks q m k).1))
       (λ q m k. chain_to (by q m) (chains q m k))
 
-  pub chain_from : (r : Record) → Chain (view i) e r → ImageChain i e any_time r
+  pub chain_from : (r : Record) → Chain (view i) e r → ImageChain i e any_source r
   chain_from _ (Link r place by speaks chains) =
-      ImageLink r place by (λ q t k. tt)
+      ImageLink r place by (λ q s k is. tt)
       (λ q m k. (record { no_source = source_is i q ∙ (speaks q m k).0.no_source; holder = (speaks q m k).0.holder; clear = (speaks q m k).0.clear }, itself (by q m).made m (speaks q m k).1))
       (λ q m k. chain_from (by q m) (chains q m k))
 
@@ -78,6 +78,7 @@ module _ (i : Image) (act : Act) (H : Versions) where
 
   input_is : (V V' : Path → Option Tree) → ((p : Path) → V p ≡ V' p) → (x : Path × Stamp) → image_input i H V x ≡ input_value (view i) H V' x
   input_is V V' same (q, Time t) = refl
+  input_is V V' same (q, Sum t d) = refl
   input_is V V' same (q, Made m) = λ k. option_and_then (λ h. if agrees_is m (core_at i h) k then option_and_then (part_at h q) (same h k) else None) (image_holder i q)
 
   -- what a record vouches for is the same
