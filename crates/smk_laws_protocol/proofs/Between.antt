@@ -21,7 +21,7 @@ use Rattle.smk_record.specs.Records.{stamped, serials}
 use Rattle.smk_store.specs.Trust.{Versions, Eased, none_eased}
 use Rattle.smk_laws_protocol.proofs.View.{View, Clear, Sound, source_at, is_source}
 use Rattle.smk_laws_protocol.proofs.Views.{EachImage}
-use Rattle.smk_laws_protocol.proofs.Like.{IsLike}
+use Rattle.smk_laws_protocol.proofs.Like.{AreLike}
 use Rattle.smk_base.specs.Place.{mark_place, note_place}
 use Rattle.smk_store.specs.Soundness.{Outside}
 use Rattle.smk_world.specs.Calls.{any_overlap, are_apart}
@@ -106,9 +106,9 @@ module _ (o : Outside) where
   abbrev pub IsKept : View → OpenJob → Type 0
   IsKept now j = (p : Path) (r : Record) → kept_at j.kept p ≡ Some r → (now.record_at p ≡ Some r) ⊎ (now.record_at p ≡ Some (record_of j p))
 
-  -- the two vouch for the same
+  -- the two vouch for the same, and the versions have the sources of both
   abbrev pub VouchesLike : Versions → OpenJob → Type 0
-  VouchesLike H j = (p : Path) (r : Record) → kept_at j.kept p ≡ Some r → IsLike H r (record_of j p)
+  VouchesLike H j = (p : Path) (r : Record) → kept_at j.kept p ≡ Some r → AreLike H r (record_of j p)
 
   -- what counts and overlaps the job's paths is an output of its
   abbrev pub HasNoClash : Eased → OpenJob → View → Type 0

@@ -33,7 +33,7 @@ use Rattle.smk_laws_protocol.proofs.Own.{Falls, Mixed, own_value}
 use Rattle.smk_laws_protocol.proofs.Events.{same_source}
 use Rattle.smk_base.proofs.Places.{place_itself}
 use Rattle.smk_laws_protocol.proofs.Basics.{each_in}
-use Rattle.smk_laws_protocol.proofs.Versions.{time_is}
+use Rattle.smk_store.proofs.Versions.{time_is}
 
 -- none of the engine's places lies at or under a path
 pub record Outside_paths : Type 0 where

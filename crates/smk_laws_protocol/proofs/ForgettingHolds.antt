@@ -40,7 +40,7 @@ use Rattle.smk_laws_protocol.proofs.Lessened.{put, Less}
 use Rattle.smk_laws_protocol.proofs.Naming.{IsImage, each_image, now_image}
 use Rattle.smk_laws_protocol.proofs.Quiet.{quiet_call}
 use Rattle.smk_laws_protocol.proofs.Removing.{filled, now_filled, place_other, record_less, note_less, mark_less}
-use Rattle.smk_laws_protocol.proofs.SoundViews.{sound_from, source_is, source_at_is, flagless, flagless_some, file_is}
+use Rattle.smk_laws_protocol.proofs.SoundViews.{sound_from, has_none, source_is, source_at_is, flagless, flagless_some, file_is}
 use Rattle.smk_laws_protocol.proofs.SoundWorlds.{world_to, world_from, source_from, now_is}
 use Rattle.smk_laws_protocol.proofs.Settled.{firm_is}
 use Rattle.smk_laws_protocol.proofs.Stays.{in_left}
@@ -365,7 +365,7 @@ module _ (o : Outside) (entry : World) (H : Versions) (paths : List Path) where
 
   safe_image : (es : List Event) (i : Image) → Safe o entry H (IsForgotten paths es) (view i) → ImageSound o.act (with_sources H i) i none_eased × SourcesOf (seen o.read entry) (forgotten_so_far paths es) i
   safe_image es i safe =
-      (sound_from i o.act (with_sources H i) none_eased (subst (λ V. Sound o.act V (view i) none_eased) (put_view i) safe.sound) safe.nested, λ p. go p (safe.sources p))
+      (sound_from i o.act (with_sources H i) none_eased (subst (λ V. Sound o.act V (view i) none_eased) (put_view i) safe.sound) (has_none (with_sources H i)) safe.nested, λ p. go p (safe.sources p))
     where
       go : (p : Path) → (source_at (view i) p ≡ source_at (now o entry) p) ⊎ (IsForgotten paths es p × (is_source (view i) p ≡ true)) → (option_map told (image_source_at i p) ≡ option_map told (image_source_at (seen o.read entry) p)) ⊎ (IsTrue (is_within p (forgotten_so_far paths es)) × (image_source_at i p ≡ file_at i p))
       go p (inl e) = inl (source_from (seen o.read entry) i p (e ∙ ap (λ v. source_at v p) (sym (now_is o entry H))))

@@ -21,7 +21,7 @@ use Rattle.smk_store.specs.Trust.{Versions, none_eased, vouched}
 use Rattle.smk_laws_protocol.proofs.View.{kind_in, View, Clear, Speaks, Chain, Link, Sound, holder, is_known, is_covered, is_source, source_at, is_whole, input_value, vir}
 use Rattle.smk_laws_protocol.proofs.Between.{HasNoNested}
 use Rattle.smk_laws_protocol.proofs.Basics.{by_test, clash, none_some, some_of, any_by}
-use Rattle.smk_laws_protocol.proofs.Versions.{version_on}
+use Rattle.smk_store.proofs.Versions.{version_on}
 use Rattle.smk_laws_protocol.proofs.Chains.{Passes, map_same, chain_on, vir_on, value_of_product}
 use Rattle.smk_laws_protocol.proofs.Crux.{whole_on}
 use Rattle.smk_laws_protocol.proofs.Holders.{HasBefore, holder_stays, by_option}

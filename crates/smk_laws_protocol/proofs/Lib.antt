@@ -82,7 +82,7 @@ pub mod Unmarking
 pub mod Unowned
 pub mod Untouched
 pub mod Valid
-pub mod Versions
+pub mod Hand
 pub mod View
 pub mod ViewLaws
 pub mod Views

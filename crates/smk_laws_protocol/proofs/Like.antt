@@ -3,31 +3,22 @@ use Rattle.std.proofs.Common.{◌≡◌, ◌⊎◌, ℕ, zero, suc, Bool, true, 
 use Rattle.std.specs.Prelude.{◌||◌, ◌==◌, ◌++◌, bytes_eq, IsTrue, zip, if◌then◌else◌}
 use Rattle.std.specs.List.{AllZip, flat_map}
 use Rattle.std.specs.Option.{option_map, option_and_then}
-use Rattle.smk_base.specs.Digests.{digest}
-use Rattle.smk_base.specs.declared.sum.Sum.{Sum as Digest}
 use Rattle.smk_base.specs.declared.tree.Tree.{Tree}
 use Rattle.smk_base.specs.declared.tree.Tree.TheVariants.{File}
-use Rattle.smk_base.proofs.Places.{same_place}
-use Rattle.smk_base.proofs.Under.{or_cases}
 use Rattle.smk_world.specs.World.{in_paths}
 use Rattle.smk_world.specs.Trees.{Path, Act, IsIn, all_of, value_at, part_at}
 use Rattle.smk_record.specs.declared.record.Stamp.{Stamp}
 use Rattle.smk_record.specs.declared.record.Stamp.TheVariants.{Time, Sum, Made}
 use Rattle.smk_record.specs.declared.record.Record.{Record}
 use Rattle.smk_record.specs.Records.{agree, stamped, serial_in, serials}
-use Rattle.smk_store.specs.Trust.{Versions, HasVersion, SumsDiffer, Eased, vouched, sum_of}
+use Rattle.smk_store.specs.Trust.{Versions, HasVersion, SumsDiffer, Eased, vouched}
+use Rattle.smk_store.proofs.Versions.{agreed, serial_agreed, what_input}
 use Rattle.smk_laws_protocol.specs.Protocol.{IsAgain}
 use Rattle.smk_laws_protocol.proofs.View.{View, Speaks, Chain, Link, holder, has_made, input_value, vir}
 use Rattle.smk_laws_protocol.proofs.Basics.{clash, some_same}
 use Rattle.smk_laws_protocol.proofs.Chains.{map_same, value_of_product}
 
 -- ## What an input was
-
--- of a source its content, of a product its serial
-abbrev pub what_input : (ℕ → Option (List ℕ)) → Stamp → Option (List ℕ) ⊎ ℕ
-what_input h (Time t) = inl (h t)
-what_input h (Sum t d) = inl (h t)
-what_input h (Made m) = inr m
 
 abbrev pub input_by : Versions → Path × Stamp → Path × (Option (List ℕ) ⊎ ℕ)
 input_by H (q, s) = (q, what_input (H q) s)
@@ -166,35 +157,7 @@ vir_like act H v v' e e' on (suc n) p r s at at' like chain =
 
 -- ## A record that is written in the place of one that was found
 
-num_same : (a b : ℕ) → (a == b) ≡ true → a ≡ b
-num_same a b h = grind arith
-
-false_true : {A : Type 0} → false ≡ true → A
-false_true h = clash false h refl
-
-same_digest : (d c : Digest) → bytes_eq d.0 c.0 ≡ true → d ≡ c
-same_digest d c h = ap digest (same_place d.0 c.0 h)
-
--- stamps that agree are of the same content or serial
-agreed :
-    (H : Versions) → SumsDiffer H → (q : Path) (a b : Stamp) → agree a b ≡ true → HasVersion H q a → HasVersion H q b → what_input (H q) a ≡ what_input (H q) b
-agreed H differ q (Time t) (Time u) same ha hb = ap (λ n. inl (H q n)) (num_same t u same)
-agreed H differ q (Time t) (Sum u c) same ha hb = ap (λ n. inl (H q n)) (num_same t u same)
-agreed H differ q (Time t) (Made n) same ha hb = false_true same
-agreed H differ q (Sum t d) (Time u) same ha hb = ap (λ n. inl (H q n)) (num_same t u same)
-agreed H differ q (Sum t d) (Sum u c) same ha hb =
-    elim (or_cases (t == u) (bytes_eq d.0 c.0) same) [
-      | inl time ↦ ap (λ n. inl (H q n)) (num_same t u time)
-      | inr sums ↦
-          let bytes : ha.0 ≡ hb.0 = differ q q t u ha.0 hb.0 ha.1 hb.1 (ha.2 ∙ same_digest d c sums ∙ sym hb.2) in
-          ap inl (ha.1 ∙ ap (λ x. Some x) bytes ∙ sym hb.1)
-    ]
-agreed H differ q (Sum t d) (Made n) same ha hb = false_true same
-agreed H differ q (Made m) (Time u) same ha hb = false_true same
-agreed H differ q (Made m) (Sum u c) same ha hb = false_true same
-agreed H differ q (Made m) (Made n) same ha hb = ap inr (num_same m n same)
-
-abbrev HasVersions : Versions → List (Path × Stamp) → Type 0
+abbrev pub HasVersions : Versions → List (Path × Stamp) → Type 0
 HasVersions H xs = (q : Path) (s : Stamp) → IsIn xs (q, s) → HasVersion H q s
 
 inputs_agreed :
@@ -207,22 +170,17 @@ inputs_agreed H differ (p ∷ ps) (s ∷ ss) [] all hs ht = absurd all
 inputs_agreed H differ (p ∷ ps) (s ∷ ss) (t ∷ ts) all hs ht =
     λ k. (p, agreed H differ p s t all.0 (hs p s (inl refl)) (ht p t (inl refl)) k) ∷ inputs_agreed H differ ps ss ts all.1 (λ q x i. hs q x (inr i)) (λ q x i. ht q x (inr i)) k
 
-serial_agreed : (a b : Stamp) → agree a b ≡ true → serial_in a ≡ serial_in b
-serial_agreed (Time t) (Time u) same = refl
-serial_agreed (Time t) (Sum u c) same = refl
-serial_agreed (Time t) (Made n) same = false_true same
-serial_agreed (Sum t d) (Time u) same = refl
-serial_agreed (Sum t d) (Sum u c) same = refl
-serial_agreed (Sum t d) (Made n) same = false_true same
-serial_agreed (Made m) (Time u) same = false_true same
-serial_agreed (Made m) (Sum u c) same = false_true same
-serial_agreed (Made m) (Made n) same = ap (λ x. x ∷ []) (num_same m n same)
-
 serials_agreed : (ss ts : List Stamp) → AllZip (λ (a b : Stamp). IsTrue (agree a b)) ss ts → flat_map serial_in ss ≡ flat_map serial_in ts
 serials_agreed [] [] all = refl
 serials_agreed [] (t ∷ ts) all = absurd all
 serials_agreed (s ∷ ss) [] all = absurd all
 serials_agreed (s ∷ ss) (t ∷ ts) all = λ k. serial_agreed s t all.0 k ++ serials_agreed ss ts all.1 k
+
+-- Two records vouch for the same, and the versions have each source as either tells of it.
+pub record AreLike (H : Versions) (r s : Record) : Type 0 where
+  pub like : IsLike H r s
+  pub had : HasVersions H (stamped r)
+  pub has : HasVersions H (stamped s)
 
 -- A record that is found, and the one that is written in its place, vouch for the same, where no two different contents have the same SHA-256.
 pub like_again :

@@ -4,6 +4,7 @@ use Rattle.std.specs.Prelude.{is_some, IsSome, if◌then◌else◌}
 use Rattle.std.specs.List.{list_any}
 use Rattle.smk_record.specs.declared.record.Record.{Record}
 use Rattle.smk_record.specs.declared.record.Stamp.TheVariants.{Made}
+use Rattle.smk_record.specs.Records.{stamped}
 use Rattle.smk_world.specs.Trees.{Path, IsIn, Each}
 use Rattle.smk_base.specs.Path.{overlaps}
 use Rattle.smk_laws_protocol.specs.Protocol.{kept_at, IsAgain, IsEased, OpenJob, Marking, RunState, own, outputs, record_of, begun_with, is_running, eased_by}
@@ -22,14 +23,14 @@ use Rattle.smk_laws_protocol.proofs.Events.{same_source}
 use Rattle.smk_laws_protocol.proofs.Holders.{holder_over}
 use Rattle.smk_laws_protocol.proofs.Jobs.{at_phase}
 use Rattle.smk_laws_protocol.proofs.Naming.{IsImage, each_image, of_images, now_image}
-use Rattle.smk_laws_protocol.proofs.Like.{IsLike, like_again}
+use Rattle.smk_laws_protocol.proofs.Like.{AreLike, HasVersions, like_again}
 use Rattle.smk_laws_protocol.proofs.Numbers.{numbered_in}
 use Rattle.smk_laws_protocol.proofs.OwnHolds.{over_overlaps}
 use Rattle.smk_laws_protocol.proofs.OwnPhase.{in_marking}
 use Rattle.smk_base.proofs.Places.{place_itself}
 use Rattle.smk_laws_protocol.proofs.Stays.{in_left, in_zip}
 use Rattle.smk_laws_protocol.proofs.Texts.{Texts}
-use Rattle.smk_laws_protocol.proofs.Versions.{hand_recorded}
+use Rattle.smk_laws_protocol.proofs.Hand.{hand_recorded}
 use Rattle.smk_laws_protocol.proofs.MarksNow.{Looked, has_by_record, some_by, above_top, up, at_most, marked_now, now_image_marks, now_view, now_marked, now_kept}
 
 module _
@@ -219,14 +220,22 @@ module _
   now_sound : Sound o.act H (now o w) e
   now_sound = each_image o.read w (λ v. Sound o.act H v e) m.images.sound w.names (reads w) here
 
-  -- it vouches for the same as what is written in its place
+  -- it vouches for the same as what is written in its place, and the versions have the sources of both
   kept_like : VouchesLike o H j
   kept_like p r at =
       let k = found_at p r at in
-      subst (λ x. IsLike H x (record_of j p)) k.1
-      (like_again H differ k.0.found (record_of j p) k.0.again
-      (λ q s i. now_sound.has_recorded p k.0.found q s k.0.stands k.0.unmarked i)
-      (λ q s i. hand_recorded o H (now o w) now_sound.has_sources q s (each_in (IsAtHand o (now o w)) (begun_with j) (q, s) may.at_hand i)))
+      subst (λ x. AreLike H x (record_of j p)) k.1
+      (record {
+        like = like_again H differ k.0.found (record_of j p) k.0.again (had p k.0) has;
+        had = had p k.0;
+        has = has;
+      })
+    where
+      had : (p : Path) (k : IsKept o w j p) → HasVersions H (stamped k.found)
+      had p k q s i = now_sound.has_recorded p k.found q s k.stands k.unmarked i
+
+      has : HasVersions H (begun_with j)
+      has q s i = hand_recorded o H (now o w) now_sound.has_sources q s (each_in (IsAtHand o (now o w)) (begun_with j) (q, s) may.at_hand i)
 
   fits_own : Fits o entry e' top w j
   fits_own =

@@ -24,7 +24,7 @@ use Rattle.smk_base.specs.Place.{record_place}
 use Rattle.smk_store.specs.Soundness.{Outside}
 use Rattle.smk_laws_protocol.specs.Protocol.{OpenJob, RunState, own, outputs, begun_with, record_of, eased_by}
 use Rattle.smk_laws_protocol.proofs.Rows.{now, IsAtHand}
-use Rattle.smk_laws_protocol.proofs.Versions.{hand_recorded}
+use Rattle.smk_laws_protocol.proofs.Hand.{hand_recorded}
 use Rattle.smk_laws_protocol.proofs.Between.{Midway, Fits, InPhase, VouchesLike, HasNoNew, HasNoNested, HoldsGiven}
 use Rattle.smk_laws_protocol.proofs.Apart.{free_of, free_to}
 use Rattle.smk_laws_protocol.proofs.Basics.{each_in, in_split, in_here, any_by, clash, none_some, some_same}
@@ -123,7 +123,7 @@ module _
   eased_now h r k = go ((each_in (InPhase o w) (js ++ j ∷ ks) k.0 m.phases k.1).kept k.2 h k.3.found k.3.kept)
     where
       like : IsLike H k.3.found (record_of k.0 h)
-      like = each_in (VouchesLike o H) (js ++ j ∷ ks) k.0 m.like k.1 h k.3.found k.3.kept
+      like = (each_in (VouchesLike o H) (js ++ j ∷ ks) k.0 m.like k.1 h k.3.found k.3.kept).like
 
       to_found : (r ≡ k.3.found) ⊎ (r ≡ record_of k.0 h) → IsLike H r k.3.found
       to_found (inl is) = like_of H r k.3.found is

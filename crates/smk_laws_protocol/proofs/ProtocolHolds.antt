@@ -21,7 +21,7 @@ use Rattle.smk_laws_protocol.proofs.EveryImage.{to_lists}
 use Rattle.smk_laws_protocol.proofs.Keeping.{keeps, texts_of}
 use Rattle.smk_laws_protocol.proofs.Law.{entry_midway, safe_images, at_end}
 use Rattle.smk_laws_protocol.proofs.Reading.{in_of}
-use Rattle.smk_laws_protocol.proofs.SoundViews.{sound_from}
+use Rattle.smk_laws_protocol.proofs.SoundViews.{sound_from, has_none}
 use Rattle.smk_laws_protocol.proofs.SoundWorlds.{world_to, world_from, sources_from, now_is, now_seen}
 use Rattle.smk_laws_protocol.proofs.StepViews.{step_to}
 use Rattle.smk_laws_protocol.proofs.TextFacts.{text_laws}
@@ -56,7 +56,7 @@ module _ (o : Outside) (entry : World) (H : Versions) (differ : SumsDiffer H) wh
   safe_here : (s : RunState) (w : World) → Midway o entry H s w → HasSafeImages o entry w H
   safe_here s w m nodes leaves =
       let here = to_lists o.read w m.images.formed (λ v. Sound o.act H v none_eased × HasSources o (now o entry) v × HasNoNested o v) (safe_images o entry H s w m) nodes leaves in (
-        sound_from (image_of o.read nodes) o.act H none_eased here.0 here.2,
+        sound_from (image_of o.read nodes) o.act H none_eased here.0 (has_none H) here.2,
         sources_from o (seen o.read entry) (image_of o.read nodes) (now_seen o entry H (HasSources o) (image_of o.read nodes) here.1),
       )
 

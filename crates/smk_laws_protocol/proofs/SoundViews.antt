@@ -1,17 +1,17 @@
 -- An image is sound where its view is, and the other way round.
-use Rattle.std.proofs.Common.{◌≡◌, ℕ, zero, suc, Bool, true, false, refl, sym, ap, subst, ◌∙◌, arith, Option, Some, None}
+use Rattle.std.proofs.Common.{◌≡◌, ◌⊎◌, ℕ, zero, suc, Bool, true, false, refl, sym, ap, subst, inl, inr, ◌∙◌, arith, Option, Some, None}
 use Rattle.std.specs.Prelude.{◌==◌, ◌&&◌, ◌||◌, not, IsTrue, IsSome, is_some, option_map, if◌then◌else◌}
 use Rattle.std.specs.List.{list_any}
 use Rattle.std.specs.Option.{option_and_then}
 use Rattle.smk_base.specs.declared.tree.Tree.{Tree}
-use Rattle.smk_world.specs.Trees.{Path, Act, part_at, is_path_text}
+use Rattle.smk_world.specs.Trees.{Path, Act, IsIn, part_at, is_path_text}
 use Rattle.smk_world.specs.World.{folders_above}
 use Rattle.smk_record.specs.declared.record.Stamp.{Stamp}
 use Rattle.smk_record.specs.declared.record.Stamp.TheVariants.{Time, Sum, Made}
 use Rattle.smk_record.specs.declared.record.Record.{Record}
-use Rattle.smk_record.specs.Records.{core, agrees}
+use Rattle.smk_record.specs.Records.{core, agrees, stamped}
 use Rattle.smk_store.specs.Images.{Image, Content, content_of, core_at, record_at, is_folder, file_at, stands, is_source as image_source, source_at as image_source_at, is_whole as image_whole}
-use Rattle.smk_store.specs.Trust.{Versions, Eased, any_source, made_stamp, made_at, vouched, Chain as ImageChain, Link as ImageLink, Vir, vir as image_vir, input_value as image_input, holder as image_holder}
+use Rattle.smk_store.specs.Trust.{Versions, HasVersion, Eased, none_eased, any_source, made_stamp, made_at, vouched, Chain as ImageChain, Link as ImageLink, Vir, vir as image_vir, input_value as image_input, holder as image_holder}
 use Rattle.smk_store.specs.Soundness.{Sound as ImageSound}
 use Rattle.smk_base.specs.Path.{overlaps}
 use Rattle.smk_world.specs.declared.event.Node.{Node}
@@ -126,20 +126,31 @@ sound_to i act H e sound =
       has_sources = λ p f is.
           let c = flagless_some (image_source_at i p) f (source_at_is i p ∙ is) in
           subst (λ (g : Content). H p g.time ≡ Some g.bytes) c.2 (sound.has_sources p c.0 c.1);
-      has_recorded = sound.has_recorded;
+      has_recorded = λ p r q s at unmarked i. sound.has_recorded p r q s (at, inl unmarked) i;
       holds = λ p r at unmarked chain whole.
           let h = sound.holds p r at unmarked (chain_from i e r chain) (whole_to i p r (kind_in r p) at whole) in
           (h.0, h.1, sym (depth i act H p r at) ∙ h.2);
     }
 
--- and no two records overlap
-pub sound_from : (i : Image) (act : Act) (H : Versions) (e : Eased) → Sound act H (view i) e → ((p q : Path) → IsSome (core_at i p) → IsSome (core_at i q) → IsTrue (overlaps p q) → p ≡ q) → ImageSound act H i e
-sound_from i act H e sound nested =
+-- the versions have each source as records tell of it that count though a mark is there
+abbrev pub HasEased : Versions → Eased → Type 0
+HasEased H e = (p : Path) (r : Record) (q : Path) (s : Stamp) → e p r → IsIn (stamped r) (q, s) → HasVersion H q s
+
+pub has_none : (H : Versions) → HasEased H none_eased
+has_none H p r q s never i = absurd never
+
+-- where the versions have what is told of sources under marks that don't count, and no two records overlap
+pub sound_from : (i : Image) (act : Act) (H : Versions) (e : Eased) → Sound act H (view i) e → HasEased H e → ((p q : Path) → IsSome (core_at i p) → IsSome (core_at i q) → IsTrue (overlaps p q) → p ≡ q) → ImageSound act H i e
+sound_from i act H e sound told nested =
     record {
       has_sources = λ p f is. sound.has_sources p (flagless f) (sym (source_at_is i p) ∙ ap (option_map flagless) is);
-      has_recorded = sound.has_recorded;
+      has_recorded = λ p r q s clear i. recorded p r q s clear.0 i clear.1;
       holds = λ p r at unmarked chain whole.
           let h = sound.holds p r at unmarked (chain_to i e r chain) (whole_from i p (kind_in r p) whole) in
           (h.0, h.1, depth i act H p r at ∙ h.2);
       none_nested = nested;
     }
+  where
+    recorded : (p : Path) (r : Record) (q : Path) (s : Stamp) → core_at i p ≡ Some r → IsIn (stamped r) (q, s) → (i.marked p ≡ false) ⊎ e p r → HasVersion H q s
+    recorded p r q s at k (inl unmarked) = sound.has_recorded p r q s at unmarked k
+    recorded p r q s at k (inr eased) = told p r q s eased k

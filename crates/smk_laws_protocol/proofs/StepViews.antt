@@ -24,7 +24,7 @@ use Rattle.smk_laws_protocol.proofs.Rows.{now, IsApart, IsAtHand, MayBegin, HasS
 use Rattle.smk_laws_protocol.proofs.Basics.{each_on, clash}
 use Rattle.smk_laws_protocol.proofs.Bridge.{view_is}
 use Rattle.smk_laws_protocol.proofs.SoundViews.{source_is, source_at_is, flagless, some_file, whole_from, equal}
-use Rattle.smk_laws_protocol.proofs.Versions.{content_of_source}
+use Rattle.smk_store.proofs.Versions.{content_of_source}
 use Rattle.smk_laws_protocol.proofs.Views.{reads}
 
 outside_path : (p : Path) → IsTrue (is_path_text p) → IsTrue (is_outside p)

@@ -9,7 +9,7 @@ use Rattle.smk_record.specs.declared.record.Stamp.{Stamp}
 use Rattle.smk_record.specs.declared.record.Record.{Record}
 use Rattle.smk_record.specs.Records.{stamped}
 use Rattle.smk_store.specs.Images.{Content, Image, image_of, seen, stands, source_at, core_at, record_at, is_whole, tree_now}
-use Rattle.smk_store.specs.Trust.{Eased, none_eased, Chain, any_source, Versions, HasVersion, Vir}
+use Rattle.smk_store.specs.Trust.{Eased, none_eased, Clear, Chain, any_source, Versions, HasVersion, Vir}
 
 -- a tree stands at p, and it is what the record of p vouches for
 abbrev pub Holds : Act → Versions → Image → Path → Type 0
@@ -19,10 +19,10 @@ Holds act H image p = (tree : Tree) × (tree_now image p ≡ Some tree) × (Vir 
 pub record Sound (act : Act) (H : Versions) (image : Image) (eased : Eased) : Type 0 where
   -- H has each source as it is
   pub has_sources : (p : Path) (f : Content) → source_at image p ≡ Some f → H p f.time ≡ Some f.bytes
-  -- and each source as an unmarked record tells of it, by its time and SHA-256
+  -- and each source as a record that counts tells of it, by its time and SHA-256
   pub has_recorded :
       (p : Path) (r : Record) (q : Path) (s : Stamp) →
-      core_at image p ≡ Some r → image.marked p ≡ false → IsIn (stamped r) (q, s) → HasVersion H q s
+      Clear image eased p r → IsIn (stamped r) (q, s) → HasVersion H q s
   -- each whole output whose unmarked record hangs together holds what its record vouches for
   pub holds :
       (p : Path) (r : Record) →
