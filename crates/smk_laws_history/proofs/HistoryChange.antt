@@ -179,9 +179,12 @@ module _ (o : Outside) (w w' : World) (H : Versions) (touched : Path → Bool) (
         }
 
   module _ (fit : IsFit o.read w w' touched there)
-      (later : (p : Path) (r : Record) (q : Path) (f : Content) → core_at (seen o.read w) p ≡ Some r → IsIn (stamped r) (q, Time f.time) → touched q ≡ true → there q ≡ Some f → ⊥) where
-    same_time : (p : Path) (r : Record) (q : Path) (t : ℕ) → core_at (seen o.read w) p ≡ Some r → IsIn (stamped r) (q, Time t) → next q t ≡ H q t
-    same_time p r q t at i = go (touched q) refl
+      (later :
+      (p : Path) (r : Record) (q : Path) (s : Stamp) (f : Content) →
+      core_at (seen o.read w) p ≡ Some r → IsIn (stamped r) (q, s) → source_time s ≡ Some f.time → touched q ≡ true → there q ≡ Some f → ⊥) where
+    same_time :
+        (p : Path) (r : Record) (q : Path) (s : Stamp) (t : ℕ) → core_at (seen o.read w) p ≡ Some r → IsIn (stamped r) (q, s) → source_time s ≡ Some t → next q t ≡ H q t
+    same_time p r q s t at i time = go (touched q) refl
       where
         untouched : (c : Option Content) → source_at (seen o.read w) q ≡ c → or_put (H q t) t c ≡ H q t
         untouched None e = refl
@@ -189,7 +192,7 @@ module _ (o : Outside) (w w' : World) (H : Versions) (touched : Path → Bool) (
 
         at_touched : touched q ≡ true → (c : Option Content) → there q ≡ c → or_put (H q t) t c ≡ H q t
         at_touched h None e = refl
-        at_touched h (Some f) e = put_same (H q t) t f (λ s. absurd (later p r q f at (subst (λ u. IsIn (stamped r) (q, Time u)) (sym s) i) h e))
+        at_touched h (Some f) e = put_same (H q t) t f (λ same. absurd (later p r q s f at i (time ∙ ap (λ n. Some n) (sym same)) h e))
 
         go : (b : Bool) → touched q ≡ b → or_put (H q t) t (source_at (seen o.read w') q) ≡ H q t
         go true e = ap (or_put (H q t) t) (fit.sources q e) ∙ at_touched e (there q) refl
@@ -200,8 +203,7 @@ module _ (o : Outside) (w w' : World) (H : Versions) (touched : Path → Bool) (
       sound_pair : Sound o.act H (seen o.read v) none_eased → Sound o.act next (seen o.read v') none_eased
       sound_pair s =
           sound_from o.act H next (seen o.read v) (seen o.read v') (kept_on v v' pair) (marked_on v v' pair) (noted_on v v' pair)
-          (λ p r q t at unmarked i. same_time p r q t (known p r at unmarked) i)
-          (λ q t h. put_grows (H q t) t (source_at (seen o.read w') q) h) s
+          (λ p r q s t at unmarked i time. same_time p r q s t (known p r at unmarked) i time) s
           (record {
             has_sources = λ q f e. put_told (H q f.time) f (source_at (seen o.read w') q) (ap (option_map told) (sym e) ∙ sources q);
             whole = fits.whole;

@@ -77,13 +77,17 @@ module _ (nodes : Nodes) (H : Versions) where
   marked_sound sources is =
       record {
         has_sources = sources;
-        has_recorded = λ p r q t at unmarked i. absurd (marked p r at unmarked);
+        has_recorded = λ p r q s clear i. absurd (counts p r clear.0 clear.1);
         holds = λ p r at unmarked chain whole. absurd (marked p r at unmarked);
         none_nested = λ p q a b over. nested p q (core_at here p) refl a (core_at here q) refl b;
       }
     where
       marked : (p : Path) (r : Record) → core_at here p ≡ Some r → here.marked p ≡ false → ⊥
       marked p r at unmarked = true≢false (sym is ∙ subst (λ z. here.marked z ≡ false) (record_path nodes p r at) unmarked)
+
+      counts : (p : Path) (r : Record) → core_at here p ≡ Some r → (here.marked p ≡ false) ⊎ none_eased p r → ⊥
+      counts p r at (inl unmarked) = marked p r at unmarked
+      counts p r at (inr never) = never
 
       nested : (p q : Path) (a : Option Record) → core_at here p ≡ a → IsSome a → (b : Option Record) → core_at here q ≡ b → IsSome b → p ≡ q
       nested p q None e h b f k = absurd (true≢false (sym h))

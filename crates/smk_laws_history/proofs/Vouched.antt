@@ -60,7 +60,7 @@ reads_same = refl
 
 -- ## Stamps
 
-pub source_stamp : stamp_now all_clustered (codes "samples/a.txt") ≡ Some (Time 1)
+pub source_stamp : stamp_now all_clustered (codes "samples/a.txt") ≡ Some (Sum 1 (sum_of (codes "x")))
 source_stamp = refl
 
 pub product_stamp : stamp_now all_clustered (codes "post/a/2.txt") ≡ Some (Made 3)

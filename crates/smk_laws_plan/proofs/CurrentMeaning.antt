@@ -107,7 +107,7 @@ pub record Spoken (image : Image) (e : Eased) (q : Path) (m : ℕ) : Type 0 wher
 
 pub chain_make : (image : Image) (e : Eased) (r : Record) → ((q : Path) (m : ℕ) → In (q, Made m) (stamped r) → Spoken image e q m) → Chain image e any_source r
 chain_make image e r h =
-    Link r (λ q m. or_here (holder image q)) (λ q m. record_or r (core_at image (or_here (holder image q)))) (λ q t i. tt)
+    Link r (λ q m. or_here (holder image q)) (λ q m. record_or r (core_at image (or_here (holder image q)))) (λ q s i k. tt)
     (λ q m i. let s = h q m i in
     let place = found q s.place s.speaks.holder in
     let same = read q s.place s.by place s.speaks.clear.0 in (

@@ -85,7 +85,7 @@ plain_record r h plain =
     let seven = and_right (list_all is_path_text (out_paths r.recipe)) _ six in
     nil r.members
     (go (among (folders_of r.recipe) r.path) plain
-    (and_left (cond (among (folders_of r.recipe) r.path) (are_valid_members r.path r.members) (are_none r.members)) true seven))
+    (and_left (cond (among (folders_of r.recipe) r.path) (are_valid_members r.path r.members) (are_none r.members)) _ seven))
   where
     nil : (ms : List Member) → are_none ms ≡ true → ms ≡ []
     nil [] k = refl
