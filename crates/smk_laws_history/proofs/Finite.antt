@@ -13,7 +13,7 @@ use Rattle.smk_record.specs.declared.record.Record.{Record}
 use Rattle.smk_record.specs.Records.{core, stamped}
 use Rattle.smk_store.specs.declared.store.Kept.TheVariants.{Held}
 use Rattle.smk_store.specs.Images.{Image, Content, content_of, readable, is_source, source_at, core_at, is_whole}
-use Rattle.smk_store.specs.Trust.{Versions, none_eased}
+use Rattle.smk_store.specs.Trust.{Versions, HasVersion, none_eased}
 use Rattle.smk_store.specs.Soundness.{Sound, Holds}
 use Rattle.smk_chain.proofs.Folders.{image_with, kept_in}
 

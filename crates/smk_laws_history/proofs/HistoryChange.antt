@@ -1,5 +1,5 @@
 -- A change of some places that leaves them firm: from a sound world to a sound world.
-use Rattle.std.proofs.Common.{◌≡◌, ℕ, Bool, true, false, cond, ◌||◌, List, [], refl, sym, ap, subst, inl, inr, ◌∙◌, Option, Some, None, IsTrue, IsSome}
+use Rattle.std.proofs.Common.{◌≡◌, ℕ, Bool, true, false, cond, ◌||◌, List, [], refl, sym, ap, subst, inl, inr, ◌∙◌, Option, Some, None, IsTrue}
 use Rattle.std.specs.Prelude.{option_map, if◌then◌else◌, ◌==◌}
 use Rattle.std.proofs.lemmas.Bool.{eq-eqb, eqb-true}
 use Rattle.smk_base.specs.Path.{own_folder, is_at_or_under}
@@ -9,9 +9,9 @@ use Rattle.smk_world.specs.World.{World, Nodes, node_in, places_in, IsFormed, Le
 use Rattle.smk_world.specs.Calls.{owned_now}
 use Rattle.smk_world.specs.Trees.{Path, IsIn, kind_in}
 use Rattle.smk_world.proofs.Names.{adds_rising, not_added_any, reads_rising, reads_there, reads_may_stay, formed_image}
-use Rattle.smk_record.specs.declared.record.Stamp.TheVariants.{Time}
+use Rattle.smk_record.specs.declared.record.Stamp.{Stamp}
 use Rattle.smk_record.specs.declared.record.Record.{Record}
-use Rattle.smk_record.specs.Records.{stamped, core}
+use Rattle.smk_record.specs.Records.{source_time, stamped, core}
 use Rattle.smk_store.specs.Images.{Content, image_of, seen, stands, readable, source_at, record_at, core_at, is_whole, tree_now}
 use Rattle.smk_store.specs.Trust.{Versions, none_eased}
 use Rattle.smk_store.specs.Soundness.{Outside, Sound, SoundWorld, EachImage, SameSources, told}
@@ -92,14 +92,6 @@ put_same had t f h = go (f.time == t) refl
     go : (b : Bool) → (f.time == t) ≡ b → cond b (Some f.bytes) had ≡ had
     go true e = sym (h (eqb-true f.time t e))
     go false e = refl
-
-put_grows : (had : Option (List ℕ)) (t : ℕ) (c : Option Content) → IsSome had → IsSome (or_put had t c)
-put_grows had t None h = h
-put_grows had t (Some f) h = go (f.time == t)
-  where
-    go : (b : Bool) → IsSome (cond b (Some f.bytes) had)
-    go true = refl
-    go false = h
 
 put_told : (had : Option (List ℕ)) (f : Content) (c : Option Content) → option_map told (Some f) ≡ option_map told c → or_put had f.time c ≡ Some f.bytes
 put_told had f None e = absurd (none_some (told f) (sym e))
