@@ -91,11 +91,14 @@ fn sum_of(digits: &[u8]) -> Result<Sum, Stop>
 }
 
 /// The SHA-256 at the front, which a line end follows.
-#[tactic(auto, unfolding(crate::specs::Reading::sum_in))]
+#[tactic(auto, using(crate::proofs::Digits::short_sum), unfolding(crate::specs::Reading::sum_in))]
 pub(crate) fn sum(bytes: &[u8]) -> Result<(Sum, &[u8]), Stop>
     ensures { Gives (λ x. (x.0, x.1.now)) result (sum_in bytes.now) }
 {
-    let (digits, after) = bytes.split_at(bytes.len().min(64));
+    if bytes.len() < 64 {
+        return Err(Stop::Unread);
+    }
+    let (digits, after) = bytes.split_at(64);
     let rest = after_byte(b'\n', after)?;
     Ok((sum_of(digits)?, rest))
 }

@@ -104,14 +104,23 @@ fn are_earlier(made: u64, stamps: &[Stamp]) -> bool
     true
 }
 
+// Whether a record of the format may have the stamp.
+fn is_in_format(format: u8, stamp: &Stamp) -> bool
+    ensures { result ≡ is_in_format format stamp.now }
+{
+    match stamp {
+        Stamp::Sum(..) => format == 2,
+        _ => true,
+    }
+}
+
 // Whether a record of the format may have the stamps.
 fn are_in_format(format: u8, stamps: &[Stamp]) -> bool
     ensures { result ≡ list_all (is_in_format format) stamps.now }
 {
     for stamp in stamps {
-        match stamp {
-            Stamp::Sum(..) if format != 2 => return false,
-            _ => {}
+        if !is_in_format(format, stamp) {
+            return false;
         }
     }
     true
