@@ -48,12 +48,12 @@ use Rattle.smk_safe.proofs.Turning.{recordable_as}
 
 -- ## Small facts
 
-content_there : (b : Bool) (n : Option Node) (f : Content) → content_of (if b then n else None) ≡ Some f → content_of n ≡ Some f
+pub content_there : (b : Bool) (n : Option Node) (f : Content) → content_of (if b then n else None) ≡ Some f → content_of n ≡ Some f
 content_there true n f h = h
 content_there false n f h = cc
 
 -- files with the same bytes and times have the same stamp
-same_stamps : (f g : Content) → f.bytes ≡ g.bytes → f.time ≡ g.time → content_stamp f ≡ content_stamp g
+pub same_stamps : (f g : Content) → f.bytes ≡ g.bytes → f.time ≡ g.time → content_stamp f ≡ content_stamp g
 same_stamps f g bytes time = λ i. if is_summed (bytes i) then Sum (time i) (sum_of (bytes i)) else Time (time i)
 
 pub core_path : (read : List ℕ → Option Record) (w : World) (h : Path) (r : Record) → core_at (seen read w) h ≡ Some r → is_path_text h ≡ true
