@@ -14,7 +14,7 @@ use Rattle.smk_world.specs.declared.event.Node.TheVariants.{Regular}
 use Rattle.smk_world.specs.declared.recipe.Kind.{Kind}
 use Rattle.smk_world.specs.declared.recipe.Kind.TheVariants.{Plain, Folder}
 use Rattle.smk_world.specs.declared.recipe.Out.{Out}
-use Rattle.smk_world.specs.World.{World, run, firmly, in_paths, out_paths}
+use Rattle.smk_world.specs.World.{World, reading, run, firmly, in_paths, out_paths}
 use Rattle.smk_world.specs.Calls.{HasOwners}
 use Rattle.smk_world.specs.Runs.{Follows}
 use Rattle.smk_world.proofs.Runs.{run_append}
