@@ -17,3 +17,4 @@ pub mod Serving
 pub mod Makers
 pub mod Choosing
 pub mod Telling
+pub mod Digested

@@ -1,5 +1,6 @@
 -- The stamps of a job's inputs, with the digests of its sources.
 use Rattle.std.specs.Prelude.{◌≡◌, ◌⊎◌, ℕ, Bool, false, List, [], ◌∷◌, ◌++◌, Option, Some, None, Result, Ok, Err}
+use Rattle.std.specs.List.{flat_map}
 use Rattle.smk_base.specs.declared.sum.Sum.{Sum as Digest}
 use Rattle.smk_world.specs.declared.event.Event.{Event}
 use Rattle.smk_world.specs.Devices.{AreLooks}
@@ -23,6 +24,27 @@ with_sum sum s = s
 abbrev pub IsDigested : World → Option ℕ → Path → Stamp → Stamp → Type 0
 IsDigested w (Some serial) p seen s = s ≡ seen
 IsDigested w None p seen s = (sum : Option Digest) × IsSum w p sum × (s ≡ with_sum sum seen)
+
+-- a source, by the serial that is known of the path
+abbrev pub source_in : Option ℕ → Path → List Path
+source_in (Some serial) p = []
+source_in None p = p ∷ []
+
+-- the sources among these paths
+abbrev pub sources_among : Serials → List Path → List Path
+sources_among made paths = flat_map (λ p. source_in (made p) p) paths
+
+-- the stamp of an input before what follows from the digests that are left
+abbrev pub summed_as : Option ℕ → Stamp → List (Option Digest) → (List (Option Digest) → List Stamp) → List Stamp
+summed_as (Some serial) s sums more = s ∷ more sums
+summed_as None s [] more = s ∷ more []
+summed_as None s (sum ∷ sums) more = with_sum sum s ∷ more sums
+
+-- the stamps with the digests, of which there is one for each source, in order
+abbrev pub summed : Serials → List Path → List Stamp → List (Option Digest) → List Stamp
+summed made [] seen sums = []
+summed made (p ∷ paths) [] sums = []
+summed made (p ∷ paths) (s ∷ seen) sums = summed_as (made p) s sums (summed made paths seen)
 
 -- so for each of them, in order
 abbrev pub AreDigested : World → Serials → List Path → List Stamp → List Stamp → Type 0
