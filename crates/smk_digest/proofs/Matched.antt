@@ -15,7 +15,7 @@ use Rattle.smk_world.specs.World.{World, reading}
 use Rattle.smk_world.specs.Calls.{found_of, device_failed}
 use Rattle.smk_world.specs.Trees.{Path}
 use Rattle.smk_digest.specs.declared.fault.SumFault.{SumFault}
-use Rattle.smk_digest.specs.Digests.{AreContents, AreSums, IsContent, content_in, held, not_too_many, sum_in, sum_fault, sum_failed}
+use Rattle.smk_digest.specs.Digests.{AreContents, AreSums, IsContent, content_in, held, sum_in, sum_fault, sum_failed}
 use Rattle.smk_store.specs.Trust.{sum_of}
 
 -- what is the function's of each is the function's of all

@@ -27,9 +27,9 @@ use Rattle.smk_record.specs.Spelling.{spelling}
 use Rattle.smk_flow.specs.Flows.{Flow}
 use Rattle.smk_store.specs.declared.store.Kept.{Kept}
 use Rattle.smk_store.specs.declared.store.Kept.TheVariants.{Absent, Unreadable, Held}
-use Rattle.smk_store.specs.Images.{Content, Image, content_of, core_at, is_source, is_whole, readable, source_at}
+use Rattle.smk_store.specs.Images.{Image, content_of, core_at, is_source, is_whole, readable, source_at}
 use Rattle.smk_store.specs.Soundness.{Outside}
-use Rattle.smk_store.specs.Trust.{Versions, content_stamp, holder, made_stamp, source_stamp, stamp_now_but, unmarked_stamp_but}
+use Rattle.smk_store.specs.Trust.{Versions, holder, made_stamp, source_stamp, stamp_now_but, unmarked_stamp_but}
 use Rattle.smk_laws_protocol.specs.Protocol.{now}
 use Rattle.smk_laws_protocol.proofs.Basics.{each_in, each_on}
 use Rattle.smk_pick.specs.declared.settings.Settings.{Settings}

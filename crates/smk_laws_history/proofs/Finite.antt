@@ -1,5 +1,5 @@
 -- A folder after a copy is sound, by a finite check of its nodes and records.
-use Rattle.std.proofs.Common.{◌≡◌, ◌⊎◌, ℕ, Bool, true, false, cond, List, [], ◌∷◌, Option, Some, None, refl, sym, ap, subst, ◌∙◌, inl, inr, IsTrue, IsSome, bytes_eq}
+use Rattle.std.proofs.Common.{◌≡◌, ◌⊎◌, Bool, true, false, cond, List, [], ◌∷◌, Option, Some, None, refl, sym, ap, subst, ◌∙◌, inl, inr, IsTrue, IsSome, bytes_eq}
 use Rattle.std.specs.Prelude.{option_map}
 use Rattle.smk_base.specs.Path.{overlaps}
 use Rattle.smk_base.proofs.Places.{same_place}
@@ -8,7 +8,6 @@ use Rattle.smk_world.specs.declared.event.Node.TheVariants.{Regular, Directory}
 use Rattle.smk_world.specs.World.{Nodes, node_in}
 use Rattle.smk_world.specs.Trees.{Path, Act, IsIn, Each, kind_in}
 use Rattle.smk_record.specs.declared.record.Stamp.{Stamp}
-use Rattle.smk_record.specs.declared.record.Stamp.TheVariants.{Time, Made}
 use Rattle.smk_record.specs.declared.record.Record.{Record}
 use Rattle.smk_record.specs.Records.{core, stamped}
 use Rattle.smk_store.specs.declared.store.Kept.TheVariants.{Held}
