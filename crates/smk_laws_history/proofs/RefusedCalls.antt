@@ -1,5 +1,5 @@
 -- Logs in a wrong order don't keep what a call has to keep: from a sound world they lead to one that isn't.
-use Rattle.std.proofs.Common.{◌≡◌, inl, inr, ap, true≢false, sym, subst, ◌∙◌}
+use Rattle.std.proofs.Common.{◌≡◌, ◌⊎◌, inl, inr, ap, true≢false, sym, subst, ◌∙◌}
 use Rattle.std.specs.Prelude.{Bool, true, false, [], codes, Option, Some, None, IsSome, refl, bytes_eq, length, nat_le, option_map, ◌&&◌, if◌then◌else◌}
 use Rattle.std.specs.List.Sorted.{IsStrictlySortedBy}
 use Rattle.smk_base.specs.Place.{record_place}

@@ -304,5 +304,5 @@ forgetting_safe o store paths p result w es own text stored free follows did =
     by : (answer : Result Bool StoreFault) (stage : Stage) → LeavesAt answer stage → KeepsSound o w es paths (is_resting stage) → KeepsSound o w es paths (is_at_rest answer)
     by (Ok known) stage e k = subst (λ x. KeepsSound o w es paths (is_resting x)) e k
     by (Err (StampSeen q)) stage e k = subst (λ x. KeepsSound o w es paths (is_resting x)) e k
-    by (Err Device) stage e k = record { safe = k.safe; sound_at_exit = λ H sound end. absurd (true_false (sym end)) }
+    by (Err Device) stage e k = record { safe = k.safe; sound_at_exit = λ H differ sound end. absurd (true_false (sym end)) }
     by (Err OutOfMemory) stage e k = subst (λ x. KeepsSound o w es paths (is_resting x)) e k

@@ -86,8 +86,8 @@ kept_finds at [] p r i h = absurd i
 kept_finds at (x ∷ ps) p r i h = go (bytes_eq x p) refl (at x) refl i (λ k. kept_finds at ps p r k h)
   where
     further : (b : Bool) → bytes_eq x p ≡ b → b ≡ false → IsIn (x ∷ ps) p → IsIn ps p
-    further b e no (inl same) = absurd (true≢false (sym (place_itself x) ∙ ap (bytes_eq x) (sym same) ∙ e ∙ no))
-    further b e no (inr k) = k
+    further b e none_here (inl same) = absurd (true≢false (sym (place_itself x) ∙ ap (bytes_eq x) (sym same) ∙ e ∙ none_here))
+    further b e none_here (inr k) = k
 
     go :
         (b : Bool) → bytes_eq x p ≡ b → (o : Option Record) → at x ≡ o → IsIn (x ∷ ps) p →

@@ -24,7 +24,7 @@ use Rattle.smk_record.specs.declared.record.Record.{Record}
 use Rattle.smk_record.specs.Spelling.{ReadsRecords}
 use Rattle.smk_store.specs.Images.{Image, stands, is_source, core_at, seen}
 use Rattle.smk_store.specs.Soundness.{Outside}
-use Rattle.smk_laws_protocol.specs.Protocol.{OpenJob, Phase, RunState, Running, Ended as EndedPhase, MayBegin, HasSerial, IsKept, IsAtHand, Runs, Done, Next, Step, Go, FailWait, Wait, outputs, own, begun_with, record_of, now}
+use Rattle.smk_laws_protocol.specs.Protocol.{OpenJob, Phase, RunState, Running, Ended as EndedPhase, MayBegin, HasSerial, IsKept, IsAtHand, Runs, Done, Next, Step, Go, FailWait, Wait, outputs, own, begun_with, now}
 use Rattle.smk_laws_protocol.proofs.Basics.{each_on}
 use Rattle.smk_laws_protocol.proofs.ProtocolHolds.{numbered_alone}
 use Rattle.smk_job.specs.Jobs.{ReadUsers, begin_requests, abandon_requests, finish_requests}
@@ -75,9 +75,11 @@ serial_as o s w v j top e (inr (some, kept, is)) = inr (
   some,
   each_on (IsKept o w j) (IsKept o v j)
       (λ p k. record {
-        stands = subst (λ (i : Image). core_at i p ≡ Some (record_of j p)) (sym e) k.stands;
-        unmarked = subst (λ (i : Image). i.marked p ≡ false) (sym e) k.unmarked;
         found = k.found;
+        stands = subst (λ (i : Image). core_at i p ≡ Some k.found) (sym e) k.stands;
+        unmarked = subst (λ (i : Image). i.marked p ≡ false) (sym e) k.unmarked;
+        kept = k.kept;
+        again = k.again;
       }) (outputs j) kept,
   is,
 )
