@@ -23,7 +23,7 @@ use Rattle.smk_store.specs.Images.{Image, core_at, is_covered, is_file, is_known
 use Rattle.smk_store.specs.Loading.{IsStoreOf}
 use Rattle.smk_store.specs.Serials.{all_serials, greatest_serial, next_serial, unmarked_serials}
 use Rattle.smk_store.specs.Stores.{Known, entry_of}
-use Rattle.smk_store.specs.Trust.{holder, is_folder_record, made_stamp, stamp_now, time_stamp, unmarked_stamp}
+use Rattle.smk_store.specs.Trust.{holder, is_folder_record, made_stamp, stamp_now, source_stamp, unmarked_stamp}
 use Rattle.smk_trigger.specs.declared.reason.Reason.{Reason}
 use Rattle.smk_trigger.specs.declared.reason.Reason.TheVariants.{New, Marked, BadRecord, Code, Params, Inputs, Updated}
 use Rattle.smk_trigger.specs.Reasons.{all_same, changes, has_bad_record, held, is_absent, is_unreadable, is_updated, lacks_record, once, same_code, same_inputs, same_item, same_job, same_params, when}
@@ -375,7 +375,7 @@ module _ (image : Image) where
   -- the stamp now of what a kept record speaks for
   pub stamp_spoken : (q h : Path) (m : ℕ) → holder image q ≡ Some h → IsKept image m h → stamp_now image q ≡ Some (Made m)
   stamp_spoken q h m e kept =
-      ap (λ b. if b then time_stamp (source_at image q) else option_and_then (unmarked_stamp image) (holder image q)) (no_source q (spoken_covered q h e))
+      ap (λ b. if b then source_stamp (source_at image q) else option_and_then (unmarked_stamp image) (holder image q)) (no_source q (spoken_covered q h e))
       ∙ ap (option_and_then (unmarked_stamp image)) e
       ∙ ap (λ b. if b then None else made_stamp (core_at image h)) kept.2
       ∙ ap (λ (o : Option Record). made_stamp (option_map core o)) kept.1

@@ -128,16 +128,16 @@ module _ (image : Image) (store : List Known) (sights : List Sight) (is : IsStor
 
   -- an output that is seen as it stands
   whole_is : (p : Path) (kind : Kind) → IsSeenAs image sights p → is_whole_in store sights p kind ≡ is_whole image p kind
-  whole_is p Plain seen = ap (test_some (is_whole_sight (readable (kept_of (entry_of store p))) Plain)) seen ∙ file_by (image.node p)
+  whole_is p Plain seen = ap (test_some (is_whole_sight (readable (kept_of (entry_of store p))) Plain)) seen.1 ∙ file_by (image.node p)
   whole_is p FolderKind seen =
-      ap (test_some (is_whole_sight (readable (kept_of (entry_of store p))) FolderKind)) seen
+      ap (test_some (is_whole_sight (readable (kept_of (entry_of store p))) FolderKind)) seen.1
       ∙ ap (λ k. is_whole_sight (readable k) FolderKind (sight_of image p)) (kept_is image store is p)
       ∙ folder_by (image.node p) (record_at image p) p (members_under image p) (owned p)
 
   -- a file in a directory
   member_is : NamesAll image → (f q : Path) → IsSeenAs image sights f → is_under q f ≡ true → is_member_in sights q (directory_in store sights f) ≡ (is_whole image f FolderKind && is_file image q)
   member_is all f q seen under =
-      ap₂ (λ w ms. w && is_file_member ms (below f q)) (whole_is f FolderKind seen) (ap (λ (o : Option Sight). or_no_members (option_and_then (λ (s : Sight). s.members) o)) seen)
+      ap₂ (λ w ms. w && is_file_member ms (below f q)) (whole_is f FolderKind seen) (ap (λ (o : Option Sight). or_no_members (option_and_then (λ (s : Sight). s.members) o)) seen.1)
       ∙ go (is_whole image f FolderKind) refl
     where
       go : (b : Bool) → is_whole image f FolderKind ≡ b → (b && is_file_member (or_no_members (members_seen image f)) (below f q)) ≡ (b && is_file image q)
@@ -147,12 +147,12 @@ module _ (image : Image) (store : List Known) (sights : List Sight) (is : IsStor
           ∙ file_among image all f q under
 
   plain_is : (q : Path) → IsSeenAs image sights q → is_plain_in sights q ≡ is_file image q
-  plain_is q seen = ap (test_some (λ (s : Sight). is_file_stat s.stat)) seen ∙ file_by (image.node q)
+  plain_is q seen = ap (test_some (λ (s : Sight). is_file_stat s.stat)) seen.1 ∙ file_by (image.node q)
 
   -- the members that were seen of a directory rise
   sorted_is : (f : Path) → IsSeenAs image sights f → IsSorted sights (directory_in store sights f)
   sorted_is f seen = λ whole.
-      ap (λ (o : Option Sight). are_rising (member_names (or_no_members (option_and_then (λ (s : Sight). s.members) o)))) seen
+      ap (λ (o : Option Sight). are_rising (member_names (or_no_members (option_and_then (λ (s : Sight). s.members) o)))) seen.1
       ∙ listed_rise f (members_under image f) (is_folder image f) (are_valid_members f (members_under image f)) refl
 
 -- ## Directories of a job

@@ -132,7 +132,7 @@ nothing_taken act flow made job command serial a p none = record {
     course = Unbegun;
     failed = false;
     answer = refl;
-    ran = ended_nothing act (IsTurn made (turn_of job command serial (Err OutOfMemory) Unbegun)) a none (λ w. tt);
+    ran = ended_nothing act (IsTurn made (turn_of job command serial (Err OutOfMemory) Unbegun)) a none (λ w. inl tt);
     given = given_none act a;
     text = no_text false p;
     fits = λ e. absurd (true≢false (sym e));
@@ -298,7 +298,7 @@ no_turn act flow made job command serial a p by_paths none = record {
   made_is = refl;
   answer = inl (refl, refl);
   fits = record { makes = by_paths.makes; paths = by_paths.paths; records = λ e. absurd (true≢false (sym e)); short = λ e. absurd (true≢false (sym e)) };
-  ran = ended_nothing act (IsTurn made (turn_of job command serial (Err OutOfMemory) Unbegun)) a none (λ w. tt);
+  ran = ended_nothing act (IsTurn made (turn_of job command serial (Err OutOfMemory) Unbegun)) a none (λ w. inl tt);
   given = given_none act a;
   text = no_text false p;
 }
