@@ -36,7 +36,7 @@ pair_is q t x s h =
 holds : (q : Path) (t : ℕ) (s : Stamp) (r : Record) → IsIn (stamped r) (q, s) → source_time s ≡ Some t → holds_time q t r ≡ true
 holds q t s r i time =
     any_in (λ (e : Path × Stamp). bytes_eq e.0 q && is_time (source_time e.1) t) (stamped r) (q, s) i
-        (both_true (bytes_eq q q) (is_time (source_time s) t) (place_itself q) (ap (λ (o : Option ℕ). is_time o t) time ∙ eq-eqb t t refl))
+    (both_true (bytes_eq q q) (is_time (source_time s) t) (place_itself q) (ap (λ (o : Option ℕ). is_time o t) time ∙ eq-eqb t t refl))
 
 -- a stamp of the source with this time
 record HasTime (inputs : List (Path × Stamp)) (q : Path) (t : ℕ) : Type 0 where
