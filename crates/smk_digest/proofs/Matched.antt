@@ -1,8 +1,8 @@
 -- One content, and one digest, for each path in order.
-use Rattle.std.proofs.Common.{◌≡◌, ◌≢◌, ℕ, ◌+◌, ◌<◌, ◌≤◌, Bool, true, false, List, [], ◌∷◌, ◌++◌, map, length, take, get_or, Option, Some, None, Err, refl, sym, ap, subst, ◌∙◌}
+use Rattle.std.proofs.Common.{◌≡◌, ◌≢◌, ℕ, ◌+◌, ◌<◌, ◌≤◌, Bool, true, false, List, [], ◌∷◌, ◌++◌, map, length, take, drop, get_or, Option, Some, None, Err, refl, sym, ap, subst, ◌∙◌, ◌==◌, eqb-true, suc}
 use Rattle.std.specs.Prelude.{option_map, if◌then◌else◌, nat_le}
 use Rattle.std.specs.List.{AllZip}
-use Rattle.std.proofs.lemmas.List.{take_more, take_all}
+use Rattle.std.proofs.lemmas.List.{take_more, take_all, take-append-drop}
 use Rattle.smk_base.specs.declared.sum.Sum.{Sum as Digest}
 use Rattle.smk_world.specs.declared.event.Found.TheVariants.{TooBig, Held}
 use Rattle.smk_world.specs.declared.event.Node.{Node}
@@ -66,6 +66,17 @@ pub sums_added : (w v : World) (now later : List Path) (sums more : List (Option
 sums_added w v now later sums more same here rest =
     let first : AreSums w now sums = subst (λ (n : Path → NodeState). AllZip (λ p s. n p ≢ Owned → s ≡ sum_in (reading (n p))) now sums) same here in
     joined (λ p s. w.nodes p ≢ Owned → s ≡ sum_in (reading (w.nodes p))) now later sums more first rest
+
+pub both_parts : {X : Type 0} (n : ℕ) (xs front back : List X) → front ≡ take n xs → back ≡ drop n xs → front ++ back ≡ xs
+both_parts n xs front back first last = ap (λ l. l ++ back) first ∙ ap (λ l. take n xs ++ l) last ∙ take-append-drop n xs
+
+-- of no path there is no digest
+pub sums_done : (w : World) (ps : List Path) (empty : Bool) → empty ≡ (length ps == 0) → empty ≡ true → AreSums w ps []
+sums_done w [] empty is none = tt
+sums_done w (p ∷ ps) empty is none = absurd (never (eqb-true (suc (length ps)) 0 (sym is ∙ none)))
+  where
+    never : suc (length ps) ≡ 0 → ⊥
+    never e = cc
 
 -- the same fault
 pub failed_as : (T U : Type 0) (fault : WorkFault) (f : SumFault) → f ≡ sum_fault fault → device_failed {T = T} (Err fault) ≡ sum_failed {T = U} (Err f)

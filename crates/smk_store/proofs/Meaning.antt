@@ -38,10 +38,10 @@ in_either (y ∷ xs) ys x (inr h) = by (in_either xs ys x h)
     by (inr k) = inr k
 
 -- among the inputs, with a stamp of its time
-record IsNamed (inputs : List (Path × Stamp)) (s : Source) : Type 0 where
-  stamp : Stamp
-  held : IsIn inputs (s.path, stamp)
-  same : source_time stamp ≡ Some s.time
+pub record IsNamed (inputs : List (Path × Stamp)) (s : Source) : Type 0 where
+  pub stamp : Stamp
+  pub held : IsIn inputs (s.path, stamp)
+  pub same : source_time stamp ≡ Some s.time
 
 abbrev IsOf : Path → List (Path × Stamp) → Source → Type 0
 IsOf p inputs s = (is_at_or_under s.path p ≡ true) × IsNamed inputs s

@@ -135,3 +135,21 @@ one_update f g found new paths stamps i p now o lt is_p lt' is_now is_o left mad
     ∙ ap (λ l. l ++ updates_in (without p f) (zip (drop (suc i) paths) (drop (suc i) stamps))) (made ∙ ap (λ x. found ++ update_of x p now) is_o)
     ∙ append_assoc found (update_of (f p) p now) (updates_in (without p f) (zip (drop (suc i) paths) (drop (suc i) stamps)))
     ∙ ap (λ l. found ++ updates_in f l) (sym next) ∙ before
+
+or_assoc : (a b c : Bool) → ((a || b) || c) ≡ (a || (b || c))
+or_assoc true b c = refl
+or_assoc false b c = refl
+
+-- of the next input a stamp is added
+pub one_recorded : (f g : Path → Option Recorded) (paths : List Path) (stamps : List Stamp) (i : ℕ) (p : Path) (s : Stamp)
+    → i < length paths → p ≡ get_or paths i p → i < length stamps → s ≡ get_or stamps i s
+    → ((q : Path) (now : Stamp) → differs (g q) now ≡ (differs (f q) now || is_other q now (p, s))) → (whole : List (Path × Stamp))
+    → ((q : Path) (now : Stamp) → (differs (f q) now || list_any (is_other q now) (zip (drop i paths) (drop i stamps))) ≡ list_any (is_other q now) whole)
+    → (q : Path) (now : Stamp) → (differs (g q) now || list_any (is_other q now) (zip (drop (i + 1) paths) (drop (i + 1) stamps))) ≡ list_any (is_other q now) whole
+one_recorded f g paths stamps i p s lt is_p lt' is_s added whole before q now =
+    let next : zip (drop i paths) (drop i stamps) ≡ (p, s) ∷ zip (drop (suc i) paths) (drop (suc i) stamps) =
+    ap (λ l. zip l (drop i stamps)) (drop-cons paths i p lt ∙ ap (λ x. x ∷ drop (suc i) paths) (sym is_p)) ∙ ap (zip (p ∷ drop (suc i) paths)) (drop-cons stamps i s lt' ∙ ap (λ x. x ∷ drop (suc i) stamps) (sym is_s)) in
+    ap (λ n. differs (g q) now || list_any (is_other q now) (zip (drop n paths) (drop n stamps))) (add-one i)
+    ∙ ap (λ b. b || list_any (is_other q now) (zip (drop (suc i) paths) (drop (suc i) stamps))) (added q now)
+    ∙ or_assoc (differs (f q) now) (is_other q now (p, s)) (list_any (is_other q now) (zip (drop (suc i) paths) (drop (suc i) stamps)))
+    ∙ ap (λ l. differs (f q) now || list_any (is_other q now) l) (sym next) ∙ before q now
