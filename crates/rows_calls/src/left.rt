@@ -7,7 +7,7 @@ use smk_world_mem::MemWork;
 use std::alloc::Global;
 
 const RECORD: &str =
-    "SMK1\n7:out.txt\n1\n22:cat {input} > {output}\n0\n0\n1\n0:\n1\n6:in.txt\nT1000\n1\n0:\n1\nF7:out.txt\n0\n";
+    "SMK2\n7:out.txt\n1\n22:cat {input} > {output}\n0\n0\n1\n0:\n1\n6:in.txt\nS1000\n5891b5b522d5df086d0ff0b110fbd9d21bb4fc7163af34d08286a2e846f6be03\n1\n0:\n1\nF7:out.txt\n0\n";
 
 /// What is left of the job.
 #[derive(Clone, Copy, PartialEq, Eq)]

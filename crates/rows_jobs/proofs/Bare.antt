@@ -18,8 +18,11 @@ stamped_at kept bare = eqb-true (length kept.stamps) (length (in_paths kept.reci
 
 valid_at : (kept : Record) → IsBare kept → Each (λ p. is_valid (record_of p kept.made kept.recipe kept.stamps []) ≡ true) (out_paths kept.recipe)
 valid_at kept bare =
-    subst (λ ps. Each (λ p. is_valid (record_of p kept.made kept.recipe kept.stamps []) ≡ true) ps) (sym bare.outs)
-    (subst (λ ms. is_valid (record_of kept.path kept.made kept.recipe kept.stamps ms) ≡ true) bare.none bare.valid, tt)
+    subst (λ ps. Each (λ p. is_valid (record_of p kept.made kept.recipe kept.stamps []) ≡ true) ps) (sym bare.outs) (
+      subst (λ ms. is_valid (record_of kept.path kept.made kept.recipe kept.stamps ms) ≡ true) bare.none
+          (subst (λ n. is_valid (record kept { format = n }) ≡ true) bare.format bare.valid),
+      tt,
+    )
 
 -- there is a stamp for each input
 pub each_stamped : (kept : Record) (recipe : Recipe) (stamps : List Stamp) → IsBare kept → recipe ≡ kept.recipe → stamps ≡ kept.stamps
@@ -47,4 +50,4 @@ some_run numbers (m ∷ old) n e none = cc
 -- the record that was made of these parts
 pub bare_of : (kept : Record) (path : Path) (made : ℕ) (recipe : Recipe) (stamps : List Stamp) (members : List Member)
     → is_valid (record_of path made recipe stamps members) ≡ true → kept ≡ record_of path made recipe stamps members → members ≡ [] → out_paths recipe ≡ path ∷ [] → IsBare kept
-bare_of kept path made recipe stamps members good is none outs = subst IsBare (sym is) (record { valid = good; none = none; outs = outs })
+bare_of kept path made recipe stamps members good is none outs = subst IsBare (sym is) (record { valid = good; format = refl; none = none; outs = outs })

@@ -1,9 +1,11 @@
 //! Keeps plans of some jobs and one that reads what they make; begins and closes the first job, and prints how often the judge was asked, how often of the
 //! closed job and of the reader, how many jobs have to run before, meanwhile, after and once the jobs came anew, and what is told of the first job's output.
+//! Then prints what is told of a job whose source was touched or edited since its record was written.
 #![tactic(auto)]
 
 mod counting;
 mod flow;
+mod touched;
 
 ghost use Rattle.std.specs.Prelude.{◌≡◌, ◌++◌, length, map, Some, IfOk, OnOk};
 ghost use Rattle.std.specs.List.{slice_get, flat_map};
@@ -23,7 +25,7 @@ use smk_plan_look::look;
 use smk_record::{Record, Stamp};
 use smk_store::{Entry, Kept, Store, load};
 use smk_trigger::State;
-use smk_world::{Out, OutItem, Recipe, Stat};
+use smk_world::{Failed, Out, OutItem, Recipe, Stat};
 use smk_world_mem::MemWork;
 use std::alloc::{AllocError, Global};
 use std::io;
@@ -38,12 +40,20 @@ enum RowFault {
     Plan,
     Phase,
     Record,
+    Device,
+    Running,
     OutOfMemory,
 }
 
 impl From<OutOfMemory> for RowFault {
     fn from(_: OutOfMemory) -> Self {
         RowFault::OutOfMemory
+    }
+}
+
+impl From<Failed> for RowFault {
+    fn from(_: Failed) -> Self {
+        RowFault::Device
     }
 }
 
@@ -105,6 +115,7 @@ fn sight_of(alloc: Global, path: &PathText) -> Result<Sight, OutOfMemory>
         },
         members: None,
         guarded: false,
+        sum: None,
     })
 }
 
@@ -169,11 +180,16 @@ fn first_came(alloc: Global, jobs: &[Job]) -> Result<Came, RowFault>
 }
 
 // The store and what is seen of the jobs' outputs.
-fn looked(alloc: Global, work: &mut MemWork, jobs: &Jobs) -> Result<(Store, Seen), RowFault> {
+fn looked<Rt: Threads + Sync>(
+    rt: &Rt,
+    alloc: Global,
+    work: &mut MemWork,
+    jobs: &Jobs,
+) -> Result<(Store, Seen), RowFault> {
     let Ok(store) = load(alloc, work) else {
         return Err(RowFault::Load);
     };
-    let Ok(seen) = look(alloc, work, jobs) else {
+    let Ok(seen) = look(rt, alloc, work, jobs, &store) else {
         return Err(RowFault::Look);
     };
     Ok((store, seen))
@@ -202,7 +218,7 @@ fn planned<Rt: Threads + Sync>(rt: &Rt, alloc: Global, count: u32) -> Result<Liv
 {
     let mut work = workspace(alloc, count)?;
     let jobs = jobs_of(alloc, count)?;
-    let (store, seen) = looked(alloc, &mut work, &jobs)?;
+    let (store, seen) = looked(rt, alloc, &mut work, &jobs)?;
     made(rt, alloc, jobs, store, seen)
 }
 
@@ -324,5 +340,7 @@ fn main(rt: HostRuntime) -> io::Result<()> {
         let text = line(&rt, alloc, count)?;
         println!(rt; "{text}")?;
     }
+    let text = touched::lines(&rt, alloc)?;
+    print!(rt; "{text}")?;
     Ok(())
 }

@@ -6,6 +6,7 @@ mod picking;
 mod reading;
 mod records;
 
+use rows_lines::push_title;
 use std::alloc::{AllocError, Global};
 use std::io;
 use std::thread::Threads;
@@ -15,6 +16,7 @@ fn rows<Rt: Threads + Sync>(rt: &Rt, alloc: Global) -> Result<String, AllocError
     let mut text = String::new(alloc);
     reading::push_rows(alloc, &mut text)?;
     records::push_rows(alloc, &mut text)?;
+    push_title(&mut text, "jobs")?;
     picking::push_rows(alloc, &mut text)?;
     judging::push_rows(rt, alloc, &mut text)?;
     Ok(text)

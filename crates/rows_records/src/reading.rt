@@ -5,9 +5,13 @@ use smk_base::OutOfMemory;
 use smk_record::{read, write};
 use std::alloc::{AllocError, Global};
 
-/// The record of a file that was made from one input.
-pub const RECORD: &[u8] =
+/// The record of a file that was made from one input, in the first format.
+pub const FIRST: &[u8] =
     b"SMK1\n7:out.txt\n1\n22:cat {input} > {output}\n0\n0\n1\n0:\n1\n6:in.txt\nT1000\n1\n0:\n1\nF7:out.txt\n0\n";
+
+/// The same in the second format, with the SHA-256 of the input.
+pub const SECOND: &[u8] =
+    b"SMK2\n7:out.txt\n1\n22:cat {input} > {output}\n0\n0\n1\n0:\n1\n6:in.txt\nS1000\n5891b5b522d5df086d0ff0b110fbd9d21bb4fc7163af34d08286a2e846f6be03\n1\n0:\n1\nF7:out.txt\n0\n";
 
 /// What some bytes read as.
 #[derive(Clone, Copy)]
@@ -49,9 +53,9 @@ fn count(counts: &mut Counts, reading: Reading) {
 }
 
 // What the record reads as where the byte there is another one.
-fn changed(alloc: Global, at: usize, byte: u8) -> Result<Reading, OutOfMemory> {
+fn changed(alloc: Global, record: &[u8], at: usize, byte: u8) -> Result<Reading, OutOfMemory> {
     let mut bytes = Vec::new(alloc);
-    bytes.extend_from_slice(RECORD)?;
+    bytes.extend_from_slice(record)?;
     if let Some(place) = bytes.get_mut(at) {
         *place = byte;
     }
@@ -59,25 +63,31 @@ fn changed(alloc: Global, at: usize, byte: u8) -> Result<Reading, OutOfMemory> {
 }
 
 // Counts the records with another byte there.
-fn count_at(alloc: Global, counts: &mut Counts, at: usize, here: u8) -> Result<(), OutOfMemory> {
+fn count_at(
+    alloc: Global,
+    counts: &mut Counts,
+    record: &[u8],
+    at: usize,
+    here: u8,
+) -> Result<(), OutOfMemory> {
     for byte in 0..=255 {
         if byte != here {
-            count(counts, changed(alloc, at, byte)?);
+            count(counts, changed(alloc, record, at, byte)?);
         }
     }
     Ok(())
 }
 
-fn count_changed(alloc: Global, counts: &mut Counts) -> Result<(), OutOfMemory> {
-    for (at, here) in RECORD.iter().enumerate() {
-        count_at(alloc, counts, at, *here)?;
+fn count_changed(alloc: Global, counts: &mut Counts, record: &[u8]) -> Result<(), OutOfMemory> {
+    for (at, here) in record.iter().enumerate() {
+        count_at(alloc, counts, record, at, *here)?;
     }
     Ok(())
 }
 
-fn count_cut(alloc: Global, counts: &mut Counts) -> Result<(), OutOfMemory> {
-    for len in 0..RECORD.len() {
-        count(counts, what_reads(alloc, &RECORD[..len])?);
+fn count_cut(alloc: Global, counts: &mut Counts, record: &[u8]) -> Result<(), OutOfMemory> {
+    for len in 0..record.len() {
+        count(counts, what_reads(alloc, &record[..len])?);
     }
     Ok(())
 }
@@ -101,15 +111,15 @@ fn told(alloc: Global, counts: Counts) -> Result<String, Trouble> {
     )?)
 }
 
-fn told_of_changed(alloc: Global) -> Result<String, Trouble> {
+fn told_of_changed(alloc: Global, record: &[u8]) -> Result<String, Trouble> {
     let mut counts = none();
-    count_changed(alloc, &mut counts)?;
+    count_changed(alloc, &mut counts, record)?;
     told(alloc, counts)
 }
 
-fn told_of_cut(alloc: Global) -> Result<String, Trouble> {
+fn told_of_cut(alloc: Global, record: &[u8]) -> Result<String, Trouble> {
     let mut counts = none();
-    count_cut(alloc, &mut counts)?;
+    count_cut(alloc, &mut counts, record)?;
     told(alloc, counts)
 }
 
@@ -117,8 +127,22 @@ fn told_of_cut(alloc: Global) -> Result<String, Trouble> {
 pub fn push_rows(alloc: Global, text: &mut String) -> Result<(), AllocError> {
     push_case(
         text,
-        "a record with one byte changed",
-        &told_of_changed(alloc),
+        "a record of format 1 with one byte changed",
+        &told_of_changed(alloc, FIRST),
     )?;
-    push_case(text, "a record cut short", &told_of_cut(alloc))
+    push_case(
+        text,
+        "a record of format 2 with one byte changed",
+        &told_of_changed(alloc, SECOND),
+    )?;
+    push_case(
+        text,
+        "a record of format 1 cut short",
+        &told_of_cut(alloc, FIRST),
+    )?;
+    push_case(
+        text,
+        "a record of format 2 cut short",
+        &told_of_cut(alloc, SECOND),
+    )
 }

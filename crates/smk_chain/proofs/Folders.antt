@@ -47,7 +47,7 @@ fresh nodes = image_with nodes [] []
 
 -- the record of a job's output
 abbrev pub record_of : Job → Path → ℕ → List Stamp → List Member → Record
-record_of j p made stamps members = record { path = p; made = made; recipe = j.recipe; stamps = stamps; members = members }
+record_of j p made stamps members = record { format = 2; path = p; made = made; recipe = j.recipe; stamps = stamps; members = members }
 
 abbrev pub all_records : Job → List Path → ℕ → List Stamp → List Member → List Record
 all_records j [] made stamps members = []

@@ -84,6 +84,6 @@ module _ (o : Outside) (words : RunWords) (w v : World) (formed : IsFormed v) (l
       none_made asked told plans answer worked.carried.firm new p q worked.carried.settled worked.carried.goes_on
 
 pub next_takes_no_turn : RunLeavesAllClean → NextCallTakesNoTurn
-next_takes_no_turn exit o H words told again w v old new next_old next_new p q next_p next_q at end next_at reads sound served none same next =
-    let well = ended_well exit o H words told w v old new p q at end reads sound served none in
+next_takes_no_turn exit o H words told again w v old new next_old next_new p q next_p next_q at end next_at reads differ sound served none same next =
+    let well = ended_well exit o H words told w v old new p q at end reads differ sound served none in
     none_went o words w v well.formed well.none_left same next.answer next_old next_new next_p next_q next.serves

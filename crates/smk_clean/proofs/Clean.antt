@@ -17,7 +17,7 @@ use Rattle.smk_store.specs.Serials.{greatest_serial, next_serial}
 use Rattle.smk_store.specs.Soundness.{Outside, SoundWorld, SameSources}
 use Rattle.smk_store.specs.Faults.{store_failed}
 use Rattle.smk_store.specs.Steadying.{HasTried, steady_requests}
-use Rattle.smk_store.specs.Trust.{Versions}
+use Rattle.smk_store.specs.Trust.{Versions, SumsDiffer}
 use Rattle.smk_pick.specs.declared.settings.Force.{Force}
 use Rattle.smk_pick.specs.declared.settings.Force.TheVariants.{No, Targets, All}
 use Rattle.smk_pick.specs.declared.settings.Settings.{Settings}
@@ -164,7 +164,7 @@ pub record HasEndedWell (o : Outside) (words : RunWords) (w v : World) : Type 0 
   pub none_left : HasNoneLeft o words w v
   pub formed : IsFormed v
 
-module _ (o : Outside) (H : Versions) (w : World) (sound : SoundWorld o w H) (reads : ReadsRecords o.read) (words : RunWords) (asked : Asked) (told : Previewed)
+module _ (o : Outside) (H : Versions) (w : World) (differ : SumsDiffer H) (sound : SoundWorld o w H) (reads : ReadsRecords o.read) (words : RunWords) (asked : Asked) (told : Previewed)
     (to_serve : IsToServe o.read true words w asked told) where
   abbrev pub plan : Plan
   plan = plan_of told
@@ -193,7 +193,7 @@ module _ (o : Outside) (H : Versions) (w : World) (sound : SoundWorld o w H) (re
       (ap length planned.states ∙ length-map plan.jobs (state_of (seen o.read w) settings nothing_done plan)) to_serve.plan.unrefused
 
   module _ (v : World) (duties : List Duty) (ts : List Turn) (meant : AreWhatIsMeant told.jobs told.plan.states told.store duties) (fit : Each IsFit ts)
-      (r : IsTurnRun o H w sound reads words asked told to_serve v duties ts) where
+      (r : IsTurnRun o H w differ sound reads words asked told to_serve v duties ts) where
     abbrev pub ran : IsDueRun o w H asked.flow settings plan ts r.es
     ran = record {
       makers = told.jobs.makers;
@@ -201,6 +201,7 @@ module _ (o : Outside) (H : Versions) (w : World) (sound : SoundWorld o w H) (re
       cores = words.cores;
       top = top;
       reads = reads;
+      differ = differ;
       sound = sound;
       is_top = is_top o w told.store to_serve.plan.stored;
       planned = planned;
@@ -217,7 +218,7 @@ module _ (o : Outside) (H : Versions) (w : World) (sound : SoundWorld o w H) (re
     end = run w r.es
 
     safe : IsSafeRun o w H top ts r.es
-    safe = turns_safe o H w sound reads words asked told to_serve v duties ts meant fit r
+    safe = turns_safe o H w differ sound reads words asked told to_serve v duties ts meant fit r
 
     module _ (exit : RunLeavesAllClean) (free : words.force ≡ No) (all : HaveAllTurns (due (next_serial told.store) duties told.jobs.jobs) ts) where
       all_is : length ts ≡ length (due (Some (suc top)) duties plan.jobs)
@@ -254,7 +255,7 @@ module _ (o : Outside) (H : Versions) (w : World) (sound : SoundWorld o w H) (re
             targets = each_from (IsClean (setting_in o w asked.flow) (seen o.read end)) asked.targets
                 (λ p i.
                 let c =
-                current_means_clean_in_worlds asked.flow o (λ j. is_none (missing j)) end H settings nothing_done plan.lists (all_clean plan) sound_end
+                current_means_clean_in_worlds asked.flow o (λ j. is_none (missing j)) end H settings nothing_done plan.lists (all_clean plan) sound_end differ
                 (λ j f files there shut gathered told_so. absurd (subst (λ fs. IsIn fs f) (none_gathered j (in_from plan.jobs j there)) (in_from (gathers_from j) f gathered)))
                 last refl (λ j there shut. fields j (in_from plan.jobs j there)) p (contains_from asked.targets p i) (each_in (λ q. is_current (seen o.read end) settings nothing_done (all_clean plan) q ≡ true) asked.targets p (clean.current []) i) in
                 (c.0, c.1, same_values asked.flow o.act (λ j. is_none (missing j)) (seen o.read w) (seen o.read end) (seen_is_complete o.read w sound.formed) (seen_is_complete o.read end sound_end.formed) sources_stay p ∙ c.2));
@@ -273,8 +274,8 @@ module _ (o : Outside) (H : Versions) (w : World) (sound : SoundWorld o w H) (re
     goes_clean u v old looked firm new p q r bad at ends looking settling (NoMemory t is same unput) = absurd (ok_err u fault.OutOfMemory is)
     goes_clean u v old looked firm new p q r bad at ends looking settling (Made t duties for meant made) =
         let d = made.ran.did v ends in
-        let start = started o H w sound d.0 old looked firm (HasTried (steady_requests told.store) (Ok t)) bad at looking settling d.1 in
-        let run_is = turns_run o H w sound reads words asked told to_serve t d.0 v duties made.turns d.2.0 start made.in_order d.2.1 d.2.2 d.2.3 in
+        let start = started o H w differ sound d.0 old looked firm (HasTried (steady_requests told.store) (Ok t)) bad at looking settling d.1 in
+        let run_is = turns_run o H w differ sound reads words asked told to_serve t d.0 v duties made.turns d.2.0 start made.in_order d.2.1 d.2.2 d.2.3 in
         let fit = all_fit made.turns made.fits in
         let all = all_turns u asked.flow (due (next_serial told.store) duties told.jobs.jobs) made.turns made.failed made.ended made.answer made.concluded in
         subst (HasEndedWell o words w) (sym run_is.is) (record {
@@ -283,7 +284,7 @@ module _ (o : Outside) (H : Versions) (w : World) (sound : SoundWorld o w H) (re
           formed = (sound_end v duties made.turns meant fit run_is exit free all).formed;
         })
 
-module _ (exit : RunLeavesAllClean) (o : Outside) (H : Versions) (w : World) (sound : SoundWorld o w H) (reads : ReadsRecords o.read) (words : RunWords) (free : words.force ≡ No) where
+module _ (exit : RunLeavesAllClean) (o : Outside) (H : Versions) (w : World) (differ : SumsDiffer H) (sound : SoundWorld o w H) (reads : ReadsRecords o.read) (words : RunWords) (free : words.force ≡ No) where
   went_clean :
       (u : Unit {0}) (answer : Answer) (v : World) (old new : Device) (p q : Sunk) → old.world ≡ Some w → new.world ≡ Some v → answer ≡ Ok u →
       (h : Went o.act words.cores answer (IsRefusal o.read true words w) (IsToServe o.read true words w) old new p q) →
@@ -292,20 +293,20 @@ module _ (exit : RunLeavesAllClean) (o : Outside) (H : Versions) (w : World) (so
   went_clean u (Ok t) v old new p q at ends e (Refused f is why looked) = absurd (ok_err t f is)
   went_clean u (Ok t) v old new p q at ends e (Stopped f is want looked) = absurd (ok_err t f is)
   went_clean u (Ok t) v old new p q at ends e (Worked asked told plans worked) =
-      goes_clean o H w sound reads words asked told plans exit free t v old worked.looked worked.carried.firm new p q worked.carried.settled (store_failed worked.carried.settled) at ends
+      goes_clean o H w differ sound reads words asked told plans exit free t v old worked.looked worked.carried.firm new p q worked.carried.settled (store_failed worked.carried.settled) at ends
       worked.looking worked.carried.settling worked.carried.goes_on
 
 module _ (exit : RunLeavesAllClean) where
   -- by what a run leaves
   pub ended_well :
       (o : Outside) (H : Versions) (words : RunWords) (told : Option Fault) (w v : World) (old new : Device) (p q : Sunk) → old.world ≡ Some w → new.world ≡ Some v →
-      ReadsRecords o.read → SoundWorld o w H → HasServed o.act o.read (Asks words) w told old new p q → told ≡ None → HasEndedWell o words w v
-  ended_well o H words told w v old new p q at ends reads sound served none =
+      ReadsRecords o.read → SumsDiffer H → SoundWorld o w H → HasServed o.act o.read (Asks words) w told old new p q → told ≡ None → HasEndedWell o words w v
+  ended_well o H words told w v old new p q at ends reads differ sound served none =
       let a = no_fault served.answer told served.told_is none in
-      went_clean exit o H w sound reads words (none_forced words served.built) a.0 served.answer v old new p q at ends a.1 served.serves
+      went_clean exit o H w differ sound reads words (none_forced words served.built) a.0 served.answer v old new p q at ends a.1 served.serves
 
   pub call_is_clean : CallIsClean
-  call_is_clean o H words told w v old new p q at ends reads sound served none = (ended_well o H words told w v old new p q at ends reads sound served none).clean
+  call_is_clean o H words told w v old new p q at ends reads differ sound served none = (ended_well o H words told w v old new p q at ends reads differ sound served none).clean
 
   pub call_leaves_none : CallLeavesNone
-  call_leaves_none o H words told w v old new p q at ends reads sound served none = (ended_well o H words told w v old new p q at ends reads sound served none).none_left
+  call_leaves_none o H words told w v old new p q at ends reads differ sound served none = (ended_well o H words told w v old new p q at ends reads differ sound served none).none_left

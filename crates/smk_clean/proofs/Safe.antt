@@ -27,7 +27,7 @@ use Rattle.smk_store.specs.Soundness.{Outside, SoundWorld}
 use Rattle.smk_store.specs.Faults.{store_failed}
 use Rattle.smk_store.specs.Steadying.{HasTried, all_signs, steady_requests}
 use Rattle.smk_store.specs.Stores.{Known}
-use Rattle.smk_store.specs.Trust.{Versions}
+use Rattle.smk_store.specs.Trust.{Versions, SumsDiffer}
 use Rattle.smk_laws_protocol.specs.Protocol.{RunState, Runs, Done, Next, Aside, Besides, Settle as SettleMove, Fail, as_ok, now, runs}
 use Rattle.smk_laws_protocol.specs.Midway.{IsTop, at_entry}
 use Rattle.smk_laws_protocol.proofs.ProtocolHolds.{protocol_law}
@@ -103,7 +103,7 @@ looks_are o bad (e ∷ (f ∷ es)) h = (look_of o e.call h.0, looks_are o bad (f
 
 -- ## A run of the protocol is safe
 
-module _ (o : Outside) (H : Versions) (w : World) (sound : SoundWorld o w H) where
+module _ (o : Outside) (H : Versions) (w : World) (differ : SumsDiffer H) (sound : SoundWorld o w H) where
   -- the events led to this world, and are safe; and where the answer is no fault the world is sound
   abbrev Safely : Answer → World → Type 0
   Safely answer v = (es : List Event) × Follows o.act w es × (v ≡ run w es) × IsSafeCall o w H es × ((u : Unit {0}) → answer ≡ Ok u → SoundWorld o v H)
@@ -113,8 +113,8 @@ module _ (o : Outside) (H : Versions) (w : World) (sound : SoundWorld o w H) whe
     follows_protocol = (top, bound, (s, ran));
     throughout = λ events rest split.
         let part = front o (at_entry o top) s w events rest (subst (λ l. Runs o (at_entry o top) w l s) split ran) in
-        safe_here o w H top sound bound events part.0 (follows_split o.act w events rest (subst (Follows o.act w) split follows)).0 part.1;
-    at_end = (protocol_law o w H sound).at_exit top es s bound follows ran;
+        safe_here o w H top differ sound bound events part.0 (follows_split o.act w events rest (subst (Follows o.act w) split follows)).0 part.1;
+    at_end = (protocol_law o w H differ sound).at_exit top es s bound follows ran;
   }
 
   -- ## Looks, and the settling of what was found
@@ -249,7 +249,7 @@ module _ (o : Outside) (H : Versions) (w : World) (sound : SoundWorld o w H) whe
 
     pub turns_safe : (v : World) (duties : List Duty) (ts : List Turn) → AreWhatIsMeant told.jobs told.plan.states told.store duties → Each IsFit ts → (r : IsTurnRun v duties ts) → IsSafeRun o w H top ts r.es
     turns_safe v duties ts meant fit r =
-        due_run_is_safe o w H asked.flow (settings_of asked words) (plan_of told) told.jobs.makers duties words.cores top ts r.es reads sound
+        due_run_is_safe o w H asked.flow (settings_of asked words) (plan_of told) told.jobs.makers duties words.cores top ts r.es reads differ sound
         (is_top o w told.store to_serve.plan.stored)
         (is_plan o.read w sound.formed asked built words told to_serve.plan)
         (all_plain o.read w sound.formed asked built words told to_serve.plan)
@@ -317,6 +317,6 @@ no_fault (Err f) told (inr e) none = absurd (wrong (sym e.1 ∙ none))
     wrong x = cc
 
 pub call_is_safe : CallIsSafe
-call_is_safe o H request told w v old new p q at end reads sound served =
-    let s = serves_safe o H w sound reads request served.answer v old new p q at end served.serves in
+call_is_safe o H request told w v old new p q at end reads differ sound served =
+    let s = serves_safe o H w differ sound reads request served.answer v old new p q at end served.serves in
     (s.0, s.1, s.2, s.3, λ none. let a = no_fault served.answer told served.told_is none in s.4 a.0 a.1)

@@ -9,7 +9,7 @@ use Rattle.smk_store.specs.declared.fault.StoreFault.{StoreFault}
 use Rattle.smk_store.specs.Images.{seen}
 use Rattle.smk_store.specs.Soundness.{Outside, SoundWorld}
 use Rattle.smk_store.specs.Stores.{Known}
-use Rattle.smk_store.specs.Trust.{Versions}
+use Rattle.smk_store.specs.Trust.{Versions, SumsDiffer}
 use Rattle.smk_chain.specs.declared.jobs.Jobs.{Jobs}
 use Rattle.smk_trigger.specs.declared.reason.State.{State}
 use Rattle.smk_trigger.specs.declared.reason.State.TheVariants.{Clean}
@@ -47,6 +47,7 @@ CallLeavesNone =
     old.world ≡ Some w →
     new.world ≡ Some v →
     ReadsRecords o.read →
+    SumsDiffer H →
     SoundWorld o w H →
     HasServed o.act o.read (Run words) w told old new out_old out_new → told ≡ None → HasNoneLeft o words w v
 
@@ -80,6 +81,7 @@ NextCallTakesNoTurn =
     new.world ≡ Some v →
     next_old.world ≡ Some v →
     ReadsRecords o.read →
+    SumsDiffer H →
     SoundWorld o w H →
     HasServed o.act o.read (Run words) w told old new out_old out_new →
     told ≡ None →

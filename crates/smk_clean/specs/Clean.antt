@@ -6,7 +6,7 @@ use Rattle.smk_world.specs.Trees.{Each}
 use Rattle.smk_record.specs.Spelling.{ReadsRecords}
 use Rattle.smk_store.specs.Images.{seen}
 use Rattle.smk_store.specs.Soundness.{Outside, SoundWorld, SameSources}
-use Rattle.smk_store.specs.Trust.{Versions}
+use Rattle.smk_store.specs.Trust.{Versions, SumsDiffer}
 use Rattle.smk_flow.specs.Flows.{Flow}
 use Rattle.smk_format.specs.Commands as format
 use Rattle.smk_chain.specs.Mean.{Setting, setting_of}
@@ -37,5 +37,6 @@ CallIsClean =
     old.world ≡ Some w →
     new.world ≡ Some v →
     ReadsRecords o.read →
+    SumsDiffer H →
     SoundWorld o w H →
     HasServed o.act o.read (Run words) w told old new out_old out_new → told ≡ None → HasMadeClean o words w v

@@ -6,7 +6,7 @@ use Rattle.smk_world.specs.Devices.{Device, Sunk}
 use Rattle.smk_world.specs.Runs.{Follows}
 use Rattle.smk_record.specs.Spelling.{ReadsRecords}
 use Rattle.smk_store.specs.Soundness.{Outside, SoundWorld}
-use Rattle.smk_store.specs.Trust.{Versions}
+use Rattle.smk_store.specs.Trust.{Versions, SumsDiffer}
 use Rattle.smk_laws_protocol.specs.Protocol.{RunState, Runs}
 use Rattle.smk_laws_protocol.specs.Midway.{HasSafeImages, IsTop, at_entry}
 use Rattle.smk_report.specs.declared.fault.Fault.{Fault}
@@ -28,6 +28,7 @@ CallIsSafe =
     old.world ≡ Some w →
     new.world ≡ Some v →
     ReadsRecords o.read →
+    SumsDiffer H →
     SoundWorld o w H →
     HasServed o.act o.read request w told old new out_old out_new →
     (es : List Event) × Follows o.act w es × (v ≡ run w es) × IsSafeCall o w H es × (told ≡ None → SoundWorld o v H)

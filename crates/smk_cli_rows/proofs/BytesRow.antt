@@ -8,7 +8,7 @@ use Rattle.smk_world.specs.World.{World, Nodes, IsFormed, world_of}
 use Rattle.smk_world.specs.declared.recipe.Kind.TheVariants.{Plain}
 use Rattle.smk_record.specs.declared.record.Record.{Record}
 use Rattle.smk_record.specs.declared.record.Stamp.TheVariants.{Time}
-use Rattle.smk_record.specs.Reading.{fields_in, number_in, number_of, path_in, record_in, text_in, text_of}
+use Rattle.smk_record.specs.Reading.{fields_in, format_in, number_in, number_of, path_in, record_in, text_in, text_of}
 use Rattle.smk_record.specs.Spelling.{spelling}
 use Rattle.smk_record.proofs.Exact.{none_is_prefix, reads_records}
 use Rattle.smk_pick.specs.declared.settings.Force.TheVariants.{No}
@@ -28,6 +28,7 @@ use Rattle.smk_cli_target.specs.Files.{rules_of}
 abbrev pub copied : Record
 copied =
     record {
+      format = 1;
       path = out;
       made = 1;
       recipe = record {
@@ -73,7 +74,7 @@ abbrev second : List ℕ
 second = codes "SMK1\n07:out.txt\n1\n22:cat {input} > {output}\n0\n0\n1\n0:\n1\n6:in.txt\nT1000\n1\n0:\n1\nF7:out.txt\n0\n"
 
 pub second_unread : record_in second ≡ None
-unfolding record_in fields_in path_in text_in number_in number_of text_of
+unfolding record_in fields_in format_in path_in text_in number_in number_of text_of
 second_unread = refl
 
 -- ## A folder with it
@@ -111,5 +112,5 @@ rules = rules_of copy words
 
 -- the job is called Clean by such a record
 pub passes_over : Lawful rules entry [] 0 → ⊥
-unfolding record_in fields_in path_in text_in number_in number_of text_of
+unfolding record_in fields_in format_in path_in text_in number_in number_of text_of
 passes_over l = not_empty _ _ (l.nothing_left_at_the_end (omega arith) (first_moment rules entry) (first_is rules entry formed refl) refl)

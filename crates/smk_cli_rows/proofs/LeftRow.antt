@@ -1,6 +1,7 @@
 -- A run that begins an unfinished job again leaves its mark where it stands, makes the output anew, and closes the job: it keeps what a call has to keep.
-use Rattle.std.proofs.Common.{◌≡◌, Bool, true, false, ◌&&◌, ◌||◌, List, [], ◌∷◌, codes, take, bytes_eq, Option, Some, None, Ok, option_map, refl, sym, ap, subst, ◌∙◌, ◌⊎◌, inl, inr, append-nil, true≢false}
-use Rattle.std.specs.Prelude.{if◌then◌else◌, is_some, IsSome}
+use Rattle.std.proofs.Common.{◌≡◌, ◌<◌, ◌^◌, ℕ, Bool, true, false, ◌&&◌, ◌||◌, List, [], ◌∷◌, codes, length, take, bytes_eq, Option, Some, None, Ok, option_map, refl, sym, ap, subst, ◌∙◌, ◌⊎◌, inl, inr, append-nil, true≢false, arith}
+use Rattle.std.specs.Prelude.{if◌then◌else◌, is_some, nat_le, IsSome}
+use Rattle.std.specs.Fmt.{digits}
 use Rattle.std.specs.List.{list_any}
 use Rattle.smk_base.specs.Path.{overlaps}
 use Rattle.smk_base.specs.Place.{mark_place, note_place, record_place}
@@ -23,13 +24,19 @@ use Rattle.smk_world.specs.Devices.{Device}
 use Rattle.smk_world.proofs.Folders.{happens, no_node}
 use Rattle.smk_world.proofs.Stays.{left_at}
 use Rattle.smk_pattern.specs.Shapes.{Text}
-use Rattle.smk_record.specs.declared.record.Stamp.TheVariants.{Time}
+use Rattle.sha2.specs.Sha256.{compress, digest_bytes, first_words, hash_after, rounds, schedule, sha256}
+use Rattle.hex.specs.Hex.{encode_with}
+use Rattle.smk_base.specs.Digests.{digest}
+use Rattle.smk_record.specs.declared.record.Record.{Record}
+use Rattle.smk_record.specs.declared.record.Stamp.TheVariants.{Sum}
 use Rattle.smk_record.specs.Reading.{record_in}
+use Rattle.smk_record.proofs.Exact.{reads_records}
 use Rattle.smk_record.specs.Records.{core, members_of}
 use Rattle.smk_record.specs.Spelling.{spelling}
-use Rattle.smk_store.specs.declared.store.Kept.TheVariants.{Absent}
-use Rattle.smk_store.specs.Images.{Image, image_by, is_source, kept_by, readable, seen, stands}
+use Rattle.smk_store.specs.declared.store.Kept.TheVariants.{Absent, Held, Unreadable}
+use Rattle.smk_store.specs.Images.{Image, for_path, image_by, is_source, kept_by, readable, seen, stands}
 use Rattle.smk_store.specs.Safety.{KeepsSound}
+use Rattle.smk_store.specs.Trust.{content_stamp}
 use Rattle.smk_flow.proofs.Examples.{commands}
 use Rattle.smk_drive.proofs.Turns.{event}
 use Rattle.smk_laws_protocol.specs.Midway.{IsTop, at_entry}
@@ -46,14 +53,46 @@ use Rattle.smk_drive_rows.proofs.CopyRow.{out}
 use Rattle.smk_cli_target.specs.Clauses.{KeepsGood}
 use Rattle.smk_cli_target.specs.Files.{outside}
 use Rattle.smk_cli_rows.proofs.BytesRow.{copied}
-use Rattle.smk_cli_rows.proofs.UnfinishedRow.{all_marked, entry, entry_tree, forgets_none, held_there, here, mark_here, nodes, no_note, record_here, source_here}
+use Rattle.smk_cli_rows.proofs.UnfinishedRow.{all_marked, entry, entry_tree, forgets_none, here, mark_here, nodes, no_note, record_here, source_here}
+
+-- ## The record that is written
+
+abbrev hello_bytes : List ℕ
+hello_bytes =
+    0x58 ∷ 0x91 ∷ 0xB5 ∷ 0xB5 ∷ 0x22 ∷ 0xD5 ∷ 0xDF ∷ 0x08 ∷ 0x6D ∷ 0x0F ∷ 0xF0 ∷ 0xB1 ∷ 0x10 ∷ 0xFB ∷ 0xD9 ∷ 0xD2 ∷
+    0x1B ∷ 0xB4 ∷ 0xFC ∷ 0x71 ∷ 0x63 ∷ 0xAF ∷ 0x34 ∷ 0xD0 ∷ 0x82 ∷ 0x86 ∷ 0xA2 ∷ 0xE8 ∷ 0x46 ∷ 0xF6 ∷ 0xBE ∷ 0x03 ∷ []
+
+-- the SHA-256 of the source
+hello_sum : sha256 (codes "hello\n") ≡ hello_bytes
+unfolding first_words schedule rounds compress hash_after digest_bytes sha256
+hello_sum = refl
+
+hello_stamp : Sum 1000 (digest hello_bytes) ≡ content_stamp (record { bytes = codes "hello\n"; time = 1000; read_only = false })
+hello_stamp = ap (λ bytes. Sum 1000 (digest bytes)) (sym hello_sum)
+
+abbrev written : Record
+written = record copied { format = 2; stamps = Sum 1000 (digest hello_bytes) ∷ [] }
+
+written_short : length (spelling written) < 2 ^ 64
+unfolding digits encode_with
+written_short = omega arith
+
+written_small : nat_le (length (spelling written)) 33554432 ≡ true
+unfolding digits encode_with
+written_small = refl
+
+written_read : record_in (spelling written) ≡ Some written
+written_read = (reads_records (spelling written) written written_short).1 (refl, refl)
+
+written_there : (time : ℕ) (read_only : Bool) → kept_by record_in out (Some (Regular (spelling written) time read_only)) ≡ Held written
+written_there time read_only = λ n. if written_small n then for_path out (written_read n) else Unreadable
 
 -- ## The log
 
 abbrev leaving : Call → Path → Node → Event
 leaving call p n = event call (record { place = p; node = n } ∷ [])
 
--- the marks that were found are made firm; the job finds its own, makes its output, and writes the record that stood there
+-- the marks that were found are made firm; the job finds its own, makes its output, and writes its record over the one that stood there
 abbrev pub log : List Event
 log =
     event (Settled (mark_place out ∷ []) (Ok tt)) []
@@ -63,7 +102,7 @@ log =
     ∷ event (Started copied.recipe [] (codes "cat in.txt > out.txt") (Ok 7)) []
     ∷ leaving (Waited (Ok (record { number = 7; status = 0 }))) out (Regular (codes "hello\n") 1003 false)
     ∷ event (Settled (out ∷ []) (Ok tt)) []
-    ∷ leaving (Written (record_place out) (spelling copied) (Ok tt)) (record_place out) (Regular (spelling copied) 1004 false)
+    ∷ leaving (Written (record_place out) (spelling written) (Ok tt)) (record_place out) (Regular (spelling written) 1004 false)
     ∷ event (Settled (record_place out ∷ []) (Ok tt)) []
     ∷ event (Removed (mark_place out) (Ok tt)) []
     ∷ event (Settled (mark_place out ∷ []) (Ok tt)) []
@@ -72,7 +111,7 @@ log =
 -- ## It goes along the protocol
 
 abbrev job : Phase → OpenJob
-job phase = record { recipe = copied.recipe; logs = []; stamps = Time 1000 ∷ []; serial = 1; kept = []; phase = phase }
+job phase = record { recipe = copied.recipe; logs = []; stamps = Sum 1000 (digest hello_bytes) ∷ []; serial = 1; kept = []; phase = phase }
 
 abbrev with_job : Phase → RunState
 with_job phase = record { jobs = job phase ∷ []; top = 1; steady = true; faulted = false }
@@ -125,7 +164,7 @@ may_begin =
       from_inputs = refl;
       no_source = subst (λ (i : Image). (q : Path) → is_source i q ≡ true → list_any (overlaps q) (out ∷ []) ≡ false) same_seen one_source;
       no_clash = subst (λ (i : Image). (q : Path) → (stands (i.kept q) || i.marked q) ≡ true → list_any (overlaps q) (out ∷ []) ≡ true → IsIn (out ∷ []) q) same_seen (λ q h over. one_known q h);
-      at_hand = (inl (record { source = record { bytes = codes "hello\n"; time = 1000; read_only = false }; stands = refl; same = refl }), tt);
+      at_hand = (inl (record { source = record { bytes = codes "hello\n"; time = 1000; read_only = false }; stands = refl; same = hello_stamp }), tt);
       each_stamped = refl;
       kept_own = λ p r h. absurd (none_some r h);
     }
@@ -139,9 +178,9 @@ runs =
     (Next _ (with_job (Running 7)) _ _ _ _ (Go _ [] [] (job Marked) (Running 7) refl (inl refl) (Start (codes "cat in.txt > out.txt") 7 refl))
     (Next _ (with_job (Ended 0)) _ _ _ _ (Go _ [] [] (job (Running 7)) (Ended 0) refl (inl refl) (Wait 7 0 refl))
     (Next _ (with_job Firm) _ _ _ _ (Go _ [] [] (job (Ended 0)) Firm refl (inl refl) (AllMade (out ∷ []) refl (refl, tt) (refl, tt)))
-    (Next _ (with_job Firm) _ _ _ _ (Go _ [] [] (job Firm) Firm refl (inl refl) (Write out (spelling copied) refl (inl refl) held_there))
+    (Next _ (with_job Firm) _ _ _ _ (Go _ [] [] (job Firm) Firm refl (inl refl) (Write out (spelling written) refl (inl refl) written_there))
     (Next _ (with_job Recorded) _ _ _ _ (Go _ [] [] (job Firm) Recorded refl (inl refl)
-    (AllWritten (record_place out ∷ []) refl ((ap (λ k. option_map core (readable k)) (held_there 1004 false), ap (λ k. members_of (readable k)) (held_there 1004 false)), tt) (refl, tt)))
+    (AllWritten (record_place out ∷ []) refl ((ap (λ k. option_map core (readable k)) (written_there 1004 false), ap (λ k. members_of (readable k)) (written_there 1004 false)), tt) (refl, tt)))
     (Next _ (with_job Recorded) _ _ _ _ (Go _ [] [] (job Recorded) Recorded refl (inl refl) (Unmark out (inl refl) (inl refl)))
     (Next _ at_end _ _ _ _ (Close _ [] [] (job Recorded) refl refl (AllUnmarked (mark_place out ∷ []) (inl refl) (removed_absent (run entry (take 9 log)) (mark_place out), tt) (refl, tt)))
     (Done _ _)))))))))))
@@ -195,9 +234,9 @@ h5 =
 h6 : Happens commands (run entry (take 6 log)) (event (Settled (out ∷ []) (Ok tt)) [])
 h6 = happens commands (run entry (take 6 log)) (Settled (out ∷ []) (Ok tt)) [] h5.tree refl tt
 
-h7 : Happens commands (run entry (take 7 log)) (leaving (Written (record_place out) (spelling copied) (Ok tt)) (record_place out) (Regular (spelling copied) 1004 false))
+h7 : Happens commands (run entry (take 7 log)) (leaving (Written (record_place out) (spelling written) (Ok tt)) (record_place out) (Regular (spelling written) 1004 false))
 h7 =
-    happens commands (run entry (take 7 log)) (Written (record_place out) (spelling copied) (Ok tt)) (record { place = record_place out; node = Regular (spelling copied) 1004 false } ∷ []) h6.tree
+    happens commands (run entry (take 7 log)) (Written (record_place out) (spelling written) (Ok tt)) (record { place = record_place out; node = Regular (spelling written) 1004 false } ∷ []) h6.tree
     (1004, false, refl) (λ some. held_by (λ x. reading ((run entry (take 7 log)).nodes x)) (record_place out) (refl, (refl, (refl, tt))) refl, λ folder. absurd (no folder))
   where
     no : Some (Regular (spelling copied) 1002 false) ≡ Some Directory → ⊥
@@ -228,6 +267,6 @@ is_call = run_is_call (outside commands) entry 0 log at_end no_serial follows ru
 pub leaves_mark : (words : List Text) (w : RunWords) (old new : Device) → IsAsked words (Run w) → KeepsGood commands words old new entry log
 leaves_mark words w old new asked good paths to_the_end forgets h = (
   subst (λ ps. KeepsSound (outside commands) entry log ps to_the_end) (sym (forgets_none words w paths asked forgets))
-      (record { safe = is_call.sound.safe; sound_at_exit = λ H s t alone. is_call.sound.sound_at_exit H s refl alone }),
-  record { throughout = is_call.listed.throughout; at_exit = λ H s l t alone. is_call.listed.at_exit H s l refl alone },
+      (record { safe = is_call.sound.safe; sound_at_exit = λ H d s t alone. is_call.sound.sound_at_exit H d s refl alone }),
+  record { throughout = is_call.listed.throughout; at_exit = λ H d s l t alone. is_call.listed.at_exit H d s l refl alone },
 )

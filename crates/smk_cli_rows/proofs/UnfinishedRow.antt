@@ -21,7 +21,7 @@ use Rattle.smk_world.proofs.Folders.{no_node}
 use Rattle.smk_pattern.specs.Shapes.{Text}
 use Rattle.smk_record.specs.declared.record.Record.{Record}
 use Rattle.smk_record.specs.declared.record.Stamp.{Stamp}
-use Rattle.smk_record.specs.declared.record.Stamp.TheVariants.{Made, Time}
+use Rattle.smk_record.specs.declared.record.Stamp.TheVariants.{Made, Sum, Time}
 use Rattle.smk_record.specs.Reading.{record_in}
 use Rattle.smk_record.specs.Records.{core, stamped}
 use Rattle.smk_record.specs.Spelling.{spelling}
@@ -29,7 +29,7 @@ use Rattle.smk_store.specs.declared.store.Kept.TheVariants.{Absent, Held, Unread
 use Rattle.smk_store.specs.Images.{Content, Image, content_of, core_at, file_at, for_path, image_of, is_covered, is_known, is_outside, is_source, kept_by, readable, seen, source_at, stands}
 use Rattle.smk_store.specs.Safety.{with_sources}
 use Rattle.smk_store.specs.Soundness.{Sound, SoundWorld}
-use Rattle.smk_store.specs.Trust.{Chain, Link, Versions, Vir, any_time, input_value, made_at, none_eased, vir, vouched}
+use Rattle.smk_store.specs.Trust.{Chain, Link, SumsDiffer, Versions, Vir, any_source, input_value, made_at, none_eased, vir, vouched}
 use Rattle.smk_flow.proofs.Examples.{commands}
 use Rattle.smk_drive.proofs.Turns.{event}
 use Rattle.smk_laws_protocol.proofs.Above.{held_by}
@@ -60,12 +60,13 @@ some_is x y h = cc
 -- ## What soundness says of the record
 
 -- a record none of whose inputs was a product hangs together
-no_products : (image : Image) (r : Record) → ((q : Path) (m : ℕ) → IsIn (stamped r) (q, Made m) → ⊥) → Chain image none_eased any_time r
+no_products : (image : Image) (r : Record) → ((q : Path) (m : ℕ) → IsIn (stamped r) (q, Made m) → ⊥) → Chain image none_eased any_source r
 no_products image r none =
-    Link r (λ q m. q) (λ q m. r) (λ q t i. tt) (λ q m i. absurd (none q m i)) (λ q m i. absurd (none q m i))
+    Link r (λ q m. q) (λ q m. r) (λ q s i of_source. tt) (λ q m i. absurd (none q m i)) (λ q m i. absurd (none q m i))
 
 abbrev is_time : Path × Stamp → Bool
 is_time (q, Time t) = true
+is_time (q, Sum t d) = false
 is_time (q, Made m) = false
 
 one_time : (p : Path) (t : ℕ) (q : Path) (m : ℕ) → IsIn {A = Path × Stamp} ((p, Time t) ∷ []) (q, Made m) → ⊥
@@ -75,6 +76,15 @@ one_time p t q m (inr i) = i
 -- the source had these bytes at its time
 abbrev hello_at : Versions
 hello_at p t = if bytes_eq p (codes "in.txt") && (t == 1000) then Some (codes "hello\n") else None
+
+-- one content has no other with its SHA-256
+pub hello_differs : SumsDiffer hello_at
+hello_differs p q t u a b had has same =
+    sym (one_content (bytes_eq p (codes "in.txt") && (t == 1000)) a had) ∙ one_content (bytes_eq q (codes "in.txt") && (u == 1000)) b has
+  where
+    one_content : (c : Bool) (x : List ℕ) → (if c then Some (codes "hello\n") else None) ≡ Some x → codes "hello\n" ≡ x
+    one_content true x h = some_is (codes "hello\n") x h
+    one_content false x h = absurd (none_some x h)
 
 differ : (t : Tree) → Some (File (codes "help\n")) ≡ Some t → Some (File (codes "hello\n")) ≡ Some t → ⊥
 differ t a b = grind arith
@@ -207,11 +217,15 @@ one_record p q None e h b f k = absurd (true≢false (sym h))
 one_record p q (Some r) e h None f k = absurd (true≢false (sym k))
 one_record p q (Some r) e h (Some s) f k = record_of p r e ∙ sym (record_of q s f)
 
+unmarked : {b : Bool} → (b ≡ false) ⊎ ⊥ → b ≡ false
+unmarked (inl e) = e
+unmarked (inr e) = absurd e
+
 sound_here : Sound commands hello_at here none_eased
 sound_here =
     record {
       has_sources = sources_hold;
-      has_recorded = λ p r q t at unmarked i. absurd (all_marked p r at unmarked);
+      has_recorded = λ p r q s clear i. absurd (all_marked p r clear.0 (unmarked clear.1));
       holds = λ p r at unmarked chain whole. absurd (all_marked p r at unmarked);
       none_nested = λ p q a b over. one_record p q (core_at here p) refl a (core_at here q) refl b;
     }
@@ -254,6 +268,7 @@ pub good_entry : IsGoodEntry commands entry
 good_entry =
     record {
       versions = hello_at;
+      differ = hello_differs;
       sound = sound_world;
       tree = entry_tree;
       listed = record { now = all_listed; after_crash = λ left leaves. subst (λ ns. ListsAll (image_of record_in ns)) (sym (leaves_same nodes left formed.rising leaves)) all_listed };
@@ -300,7 +315,7 @@ module _ (words : List Text) (w : RunWords) (asked : IsAsked words (Run w)) (out
   loses_mark : (log events rest : List Event) → log ≡ events ++ rest → Leaves (run entry events) torn → HasLog commands words outcome old new out_old out_new entry log → ⊥
   loses_mark log events rest split leaves has =
       let kept = has.crashes good_entry [] false (NoPath (λ paths nolock is. other (one_asked words (Forget paths nolock) (Run w) is asked))) (λ h. absurd (true≢false (sym h))) in
-      torn_refused ((kept.0.safe hello_at sound_world events rest split torn leaves).0)
+      torn_refused ((kept.0.safe hello_at hello_differs sound_world events rest split torn leaves).0)
     where
       other : {paths : List Path} {nolock : Bool} → Forget paths nolock ≡ Run w → ⊥
       other h = cc

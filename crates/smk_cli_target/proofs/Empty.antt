@@ -106,7 +106,7 @@ put_same :
 put_same H p t g true e h = let same : g.time ≡ t = grind arith in rw (← same) (sym h)
 put_same H p t g false e h = refl
 
-over_same :
+pub over_same :
     (H : Versions) (p : Path) (t : ℕ) (f : Option Content) →
     ((g : Content) → f ≡ Some g → H p g.time ≡ Some g.bytes) → or_put (H p t) t f ≡ H p t
 over_same H p t None h = refl
@@ -135,15 +135,15 @@ safe_at_start o w paths H sound events rest h = at_events events (no_front event
 pub kept_at_start : (o : Outside) (w : World) (paths : List Path) (to_the_end : Bool) → KeepsSound o w [] paths to_the_end
 kept_at_start o w paths to_the_end =
     record {
-      safe = λ H sound. safe_at_start o w paths H sound;
-      sound_at_exit = λ H sound is alone. subst (λ K. SoundWorld o w K) (sym (same_versions o H (seen o.read w) sound.now)) sound;
+      safe = λ H differ sound. safe_at_start o w paths H sound;
+      sound_at_exit = λ H differ sound is alone. subst (λ K. SoundWorld o w K) (sym (same_versions o H (seen o.read w) sound.now)) sound;
     }
 
 pub listed_at_start : (o : Outside) (w : World) (to_the_end : Bool) → KeepsListed o w [] to_the_end
 listed_at_start o w to_the_end =
     record {
-      throughout = λ H sound listed events rest h. at_events listed events (no_front events rest h);
-      at_exit = λ H sound listed is alone. listed.now;
+      throughout = λ H differ sound listed events rest h. at_events listed events (no_front events rest h);
+      at_exit = λ H differ sound listed is alone. listed.now;
     }
   where
     at_events : IsListed o w → (es : List Event) → es ≡ [] → EachImage o.read (run w es) ListsAll

@@ -10,7 +10,7 @@ use Rattle.smk_pattern.specs.Shapes.{Text}
 use Rattle.smk_store.specs.Trust.{Versions}
 use Rattle.smk_laws_history.specs.Histories.{History, IsCall}
 use Rattle.smk_laws_history.specs.Histories as histories
-use Rattle.smk_laws_history.proofs.HistoryLaw.{every_world_sound, every_world_tree, every_world_listed}
+use Rattle.smk_laws_history.proofs.HistoryLaw.{every_world_sound, every_world_tree, every_world_listed, fewer_differ, on_left, versions_differ}
 use Rattle.smk_drive.specs.Moments.{Rules, Moment}
 use Rattle.smk_drive.specs.Lawful.{IsSafeInput}
 use Rattle.smk_drive_target.specs.Lawful.{StartsWell}
@@ -22,15 +22,16 @@ use Rattle.smk_cli_target.specs.Files.{outside}
 use Rattle.smk_cli_target.specs.Ends.{IsGoodEntry, CurrentIsClean}
 use Rattle.smk_cli_target.specs.Refusing.{IsNamed}
 use Rattle.smk_cli_target.specs.Clauses.{IsSteady, IsDoneUnless}
-use Rattle.smk_cli_target.specs.Headline.{Begin, Edit, Remove, Call as CallCame, Crash, CameIsHistory, CameIsGood, Headline, IsMet, IsStopped, StartsOnFinished}
+use Rattle.smk_cli_target.specs.Headline.{Came, Begin, Edit, Remove, Call as CallCame, Crash, HasHeld, SumsDifferIn, CameIsHistory, CameIsGood, Headline, IsMet, IsStopped, StartsOnFinished}
 
-good_in : (act : Act) (w : World) (H : Versions) → History (outside act) w H → IsGoodEntry act w
-good_in act w H h =
+good_in : (act : Act) (w : World) (H : Versions) (past : History (outside act) w H) → histories.SumsDifferIn (outside act) w H past → IsGoodEntry act w
+good_in act w H past differ =
     record {
       versions = H;
-      sound = every_world_sound (outside act) w H h;
-      tree = every_world_tree (outside act) w H h;
-      listed = every_world_listed (outside act) w H h;
+      differ = versions_differ (outside act) w H past differ;
+      sound = every_world_sound (outside act) w H past differ;
+      tree = every_world_tree (outside act) w H past;
+      listed = every_world_listed (outside act) w H past differ;
     }
 
 -- a call that meets the contract is one of a history
@@ -42,23 +43,41 @@ is_call :
 is_call act words outcome old new out_old out_new w log good met to_the_end whole =
     let kept = met.has_log.crashes good met.paths to_the_end met.to_forget whole in record { follows = met.follows; sound = kept.0; listed = kept.1 }
 
+-- the history, in which sources had what they had so
+past_of :
+    (act : Act) (w : World) (H : Versions) (came : Came act w H) → SumsDifferIn act w H came →
+    (past : History (outside act) w H) × ((a : List ℕ) → histories.HasHeld (outside act) w H past a → HasHeld act w H came a)
+past_of act _ _ (Begin v new) differ = (histories.Begin v new, λ a h. h)
+past_of act _ _ (Edit v K p bytes time read_only came can later now left) differ =
+    let before = past_of act v K came (λ a b had has same. differ a b (inl had) (inl has) same) in
+    (histories.Go v _ K before.0 (histories.Edit p bytes time read_only can later now left), λ a. on_left (before.1 a))
+past_of act _ _ (Remove v K p came outer) differ =
+    let before = past_of act v K came (λ a b had has same. differ a b (inl had) (inl has) same) in
+    (histories.Go v _ K before.0 (histories.Remove p outer), λ a. on_left (before.1 a))
+past_of act _ _ (CallCame v K words outcome old new out_old out_new log came met whole alone) differ =
+    let earlier : SumsDifferIn act v K came = λ a b had has same. differ a b (inl had) (inl has) same in
+    let before = past_of act v K came earlier in
+    let good = good_in act v K before.0 (fewer_differ (histories.HasHeld (outside act) v K before.0) (HasHeld act v K came) before.1 earlier) in (
+      histories.Go v _ K before.0
+          (histories.Call log met.paths (is_call act words outcome old new out_old out_new v log good met true (λ h. whole)) alone),
+      λ a. on_left (before.1 a),
+    )
+past_of act _ _ (Crash v K words outcome old new out_old out_new log events rest nodes came met split left) differ =
+    let earlier : SumsDifferIn act v K came = λ a b had has same. differ a b (inl had) (inl has) same in
+    let before = past_of act v K came earlier in
+    let good = good_in act v K before.0 (fewer_differ (histories.HasHeld (outside act) v K before.0) (HasHeld act v K came) before.1 earlier) in (
+      histories.Go v _ K before.0
+          (histories.Crash log events rest met.paths false nodes
+          (is_call act words outcome old new out_old out_new v log good met false (λ h. absurd (true≢false (sym h)))) split left),
+      λ a. on_left (before.1 a),
+    )
+
 pub came_is_history : CameIsHistory
-came_is_history act w H (Begin v new) = histories.Begin v new
-came_is_history act w H (Edit v K p bytes time read_only came can later now left) =
-    histories.Go v _ K (came_is_history act v K came) (histories.Edit p bytes time read_only can later now left)
-came_is_history act w H (Remove v K p came outer) = histories.Go v _ K (came_is_history act v K came) (histories.Remove p outer)
-came_is_history act w H (CallCame v K words outcome old new out_old out_new log came met whole alone) =
-    let before = came_is_history act v K came in
-    histories.Go v _ K before
-    (histories.Call log met.paths (is_call act words outcome old new out_old out_new v log (good_in act v K before) met true (λ h. whole)) alone)
-came_is_history act w H (Crash v K words outcome old new out_old out_new log events rest nodes came met split left) =
-    let before = came_is_history act v K came in
-    histories.Go v _ K before
-    (histories.Crash log events rest met.paths false nodes
-    (is_call act words outcome old new out_old out_new v log (good_in act v K before) met false (λ h. absurd (true≢false (sym h)))) split left)
+came_is_history act w H came differ =
+    let h = past_of act w H came differ in (h.0, fewer_differ (histories.HasHeld (outside act) w H h.0) (HasHeld act w H came) h.1 differ)
 
 pub came_is_good : CameIsGood
-came_is_good act w H came = good_in act w H (came_is_history act w H came)
+came_is_good act w H came differ = let h = came_is_history act w H came differ in good_in act w H h.0 h.1
 
 -- ## The headline
 
@@ -84,7 +103,7 @@ starts_finished rules entry m e (Started recipe logs command r) s = subst (λ x.
 starts_finished rules entry m e (Waited r) s = tt
 
 pub headline : Headline
-headline act w H words outcome old new out_old out_new log text came met has asked rules is by =
+headline act w H words outcome old new out_old out_new log text came differ met has asked rules is by =
     record {
       current = current (one_or_more outcome.status);
       finished = λ events e rest m h at.
@@ -93,7 +112,7 @@ headline act w H words outcome old new out_old out_new log text came met has ask
     }
   where
     good : IsGoodEntry act w
-    good = came_is_good act w H came
+    good = came_is_good act w H came differ
 
     current : (outcome.status ≤ 1) ⊎ (2 ≤ outcome.status) → CurrentIsClean act rules (run w log) text
     current (inl h) = (has.of_run good h asked rules is by).clean

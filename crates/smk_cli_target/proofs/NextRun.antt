@@ -3,6 +3,7 @@
 use Rattle.std.proofs.Common.{◌≡◌, ◌⊎◌, ◌≤◌, ℕ, Bool, true, false, ◌&&◌, ◌||◌, not, List, [], ◌∷◌, ◌++◌, map, filter, flat_map, zip, refl, sym, ap, subst, ◌∙◌, inl, inr, arith, bytes_eq, IsTrue, IsSome, Option, Some, None, Err, option_map, append_assoc, append-nil, true≢false}
 use Rattle.std.specs.Prelude.{is_none, if◌then◌else◌}
 use Rattle.std.specs.List.{list_all, list_any}
+use Rattle.std.proofs.lemmas.Option.{none-some, same_Some}
 use Rattle.smk_base.specs.Path.{is_at_or_under, is_under}
 use Rattle.smk_base.specs.Place.{lock_place}
 use Rattle.smk_base.specs.declared.tree.Tree.TheVariants.{File, Folder}
@@ -16,18 +17,21 @@ use Rattle.smk_world.specs.declared.event.Call.TheVariants.{Removed, Protected, 
 use Rattle.smk_world.specs.declared.event.Event.{Event}
 use Rattle.smk_world.specs.Folders.{IsTree}
 use Rattle.smk_world.specs.Runs.{Follows}
-use Rattle.smk_world.specs.World.{World, IsFormed, after, in_paths, is_above, is_within, out_paths, reading, run}
+use Rattle.smk_world.specs.World.{World, IsFormed, after, in_paths, is_above, is_within, out_paths, reading, reads, run}
 use Rattle.smk_world.specs.Calls.{Lets, failed}
 use Rattle.smk_world.specs.Trees.{Path, Act, Each, IsIn, among}
 use Rattle.smk_world.specs.Trees.{first as first_reason}
-use Rattle.smk_world.proofs.Names.{formed_after}
+use Rattle.smk_world.proofs.Names.{formed_after, reads_may_stay}
 use Rattle.smk_world.proofs.Folders.{tree_run}
 use Rattle.smk_world.proofs.Runs.{run_append}
 use Rattle.smk_pattern.specs.Shapes.{Text}
 use Rattle.smk_flow.specs.declared.job.Job.{Job}
 use Rattle.smk_flow.specs.Flows.{Flow}
-use Rattle.smk_store.specs.Images.{Image, bytes_of, is_directory, is_outside, tree_now}
-use Rattle.smk_store.specs.Safety.{KeepsSound}
+use Rattle.smk_record.specs.Reading.{record_in}
+use Rattle.smk_store.specs.Images.{Content, Image, bytes_of, file_at, image_of, is_directory, is_outside, source_at, tree_now}
+use Rattle.smk_store.specs.Safety.{KeepsSound, with_sources}
+use Rattle.smk_store.specs.Soundness.{SoundWorld, told}
+use Rattle.smk_store.specs.Trust.{Versions}
 use Rattle.smk_chain.specs.Derive.{Listings}
 use Rattle.smk_trigger.specs.declared.reason.State.{State}
 use Rattle.smk_trigger.specs.declared.reason.State.TheVariants.{Open, Dirty, Restore, Clean}
@@ -50,9 +54,11 @@ use Rattle.smk_words_reading.specs.declared.asked.Asked.TheVariants.{Run, Forget
 use Rattle.smk_words_reading.specs.declared.asked.RunWords.{RunWords}
 use Rattle.smk_words_reading.proofs.Whole.{one_asked}
 use Rattle.smk_cli_target.specs.Files.{outside}
+use Rattle.smk_cli_target.specs.Files as files
 use Rattle.smk_cli_target.specs.Ends.{IsDone, IsGoodEntry}
 use Rattle.smk_cli_target.specs.Clauses.{NoPath}
 use Rattle.smk_cli_target.specs.Thrift.{HasDone, NextRunStartsNone}
+use Rattle.smk_cli_target.proofs.Empty.{over_same}
 use Rattle.smk_cli_target.proofs.PlanStays.{IsAlike, and_never, chain_again, idle, last_stays, none_kept, plan_stays}
 use Rattle.smk_cli_target.proofs.PlanPlaces.{at_lock, out_is_path, place_of, temp_is_out}
 use Rattle.smk_cli_target.proofs.SparedWorlds.{HasNoChild, IsGone, IsOver, IsSpared, MayChange, PlacesHere, files_same, inside_same, kept_same, marked_same, noted_same, same_children, spared_on, whole_is}
@@ -85,7 +91,7 @@ never_any [] = refl
 never_any (x ∷ xs) = never_any xs
 
 -- where no tree stands nothing does
-no_tree : (n : Option Node) (entries : List TreeEntry) → (if is_directory n then Some (Folder entries) else option_map File (bytes_of n)) ≡ None → n ≡ None
+pub no_tree : (n : Option Node) (entries : List TreeEntry) → (if is_directory n then Some (Folder entries) else option_map File (bytes_of n)) ≡ None → n ≡ None
 no_tree None entries h = refl
 no_tree (Some Directory) entries h = absurd (none_some (Some (Folder entries)) (Folder entries) h refl)
 no_tree (Some (Regular bytes time read_only)) entries h = absurd (none_some (Some (File bytes)) (File bytes) h refl)
@@ -112,7 +118,7 @@ pub record IsAtEnd (rules : Rules) (plan : Plan) (v : World) (begun : List Path)
       IsIn (staged plan) e → is_spent (seen rules v) rules.settings (idle begun) plan e p ≡ true → tree_now (seen rules v) p ≡ None
 
 module _ (rules : Rules) (plan : Plan) (v : World) (begun : List Path) (end : IsAtEnd rules plan v begun) where
-  complete : IsComplete (seen rules v)
+  pub complete : IsComplete (seen rules v)
   complete = seen_is_complete rules.read v end.formed
 
   abbrev IsSparedHere : World → Type 0
@@ -151,7 +157,7 @@ module _ (rules : Rules) (plan : Plan) (v : World) (begun : List Path) (end : Is
       all_from (λ j. not (is_held_back (seen rules w) rules.settings nothing_done plan j)) plan.jobs (λ j i. ap not (not_held (seen rules w) rules.settings [] j))
       ∙ sym (all_from (λ j. not (is_held_back (seen rules v) rules.settings (idle begun) plan j)) plan.jobs (λ j i. ap not (not_held (seen rules v) rules.settings begun j)))
 
-  spent_same : (w : World) (e : Job × State) (p : Path) → is_spent (seen rules w) rules.settings nothing_done plan e p ≡ is_spent (seen rules v) rules.settings (idle begun) plan e p
+  pub spent_same : (w : World) (e : Job × State) (p : Path) → is_spent (seen rules w) rules.settings nothing_done plan e p ≡ is_spent (seen rules v) rules.settings (idle begun) plan e p
   spent_same w e p =
       λ n.
       is_temporary (seen rules v) rules.settings (idle begun) plan e.0 p
@@ -320,13 +326,13 @@ module _ (rules : Rules) (plan : Plan) (v : World) (begun : List Path) (end : Is
   not_started c alone = refl
 
   -- the moment after these events: no job has begun, and the plan is in force
-  record IsSoFar (events : List Event) (from : Listings) (w : World) : Type 0 where
+  pub record IsSoFar (events : List Event) (from : Listings) (w : World) : Type 0 where
     pub is : IsMoment rules v events (moment events from w)
     pub formed : IsFormed w
     pub spared : IsSparedHere w
     pub alone : w.children ≡ []
 
-  at_start : IsSoFar [] [] v
+  pub at_start : IsSoFar [] [] v
   at_start =
       record {
         is = AtEntry (Some plan) (chain_again rules.flow rules.settings (seen rules v) begun complete end.unforced [] plan end.is_last);
@@ -363,7 +369,7 @@ module _ (rules : Rules) (plan : Plan) (v : World) (begun : List Path) (end : Is
         not_started e.call alone,
       )
 
-  none_started :
+  pub none_started :
       (act : Act) (again : List Event) → AtEachEvent rules v again (IsLawfulEvent rules v) →
       (log events : List Event) (from : Listings) (w : World) → IsSoFar events from w → again ≡ events ++ log → Follows act w log → has_start log ≡ false
   none_started act again lawful [] events from w far split follows = refl
@@ -405,6 +411,21 @@ not_both_asked paths nolock w h = cc
 below_one : (n : ℕ) → n ≡ 0 → n ≤ 1
 below_one n h = omega arith
 
+-- where no path is forgotten the sources are those of the entry
+none_forgotten :
+    (entry image : Image) (p : Path) →
+    (option_map told (source_at image p) ≡ option_map told (source_at entry p)) ⊎ (IsTrue (is_within p []) × (source_at image p ≡ file_at image p)) →
+    option_map told (source_at image p) ≡ option_map told (source_at entry p)
+none_forgotten entry image p (inl same) = same
+none_forgotten entry image p (inr (there, file)) = absurd (true≢false (sym there))
+
+-- the versions have a source that stood before
+told_before :
+    (H : Versions) (p : Path) (g : Content) (c : Option Content) → option_map told c ≡ Some (told g) →
+    ((f : Content) → c ≡ Some f → H p f.time ≡ Some f.bytes) → H p g.time ≡ Some g.bytes
+told_before H p g None same has = absurd (none-some (told g) same)
+told_before H p g (Some f) same has = subst (λ (x : List ℕ × ℕ). H p x.1 ≡ Some x.0) (same_Some (told f) (told g) same) (has f refl)
+
 module _ (act : Act) (words : List Text) (w : RunWords) (rules : Rules) (entry : World) (log : List Event) (done : HasDone act words w rules entry log) where
   abbrev exit : World
   exit = run entry log
@@ -428,17 +449,37 @@ module _ (act : Act) (words : List Text) (w : RunWords) (rules : Rules) (entry :
       done.met.has_log.crashes done.good [] true
       (NoPath (λ paths nolock asked. not_both_asked paths nolock w (one_asked words (Forget paths nolock) (Run w) asked done.asked))) (λ h. inl refl)
 
+  abbrev H : Versions
+  H = done.good.versions
+
+  sound_exit : SoundWorld (outside act) exit (with_sources H (files.seen exit))
+  sound_exit = keeps.0.sound_at_exit H done.good.differ done.good.sound refl all_ended
+
+  -- each source of the exit is one of the entry
+  same_told : (p : Path) → option_map told (source_at (files.seen exit) p) ≡ option_map told (source_at (files.seen entry) p)
+  same_told p =
+      let leaves = reads_may_stay exit sound_exit.formed in
+      let left = keeps.0.safe H done.good.differ done.good.sound log [] (sym (append-nil log)) (reads exit) leaves in
+      sym (sound_exit.same_sources (reads exit) leaves p) ∙ none_forgotten (files.seen entry) (image_of record_in (reads exit)) p (left.1 p)
+
+  -- so nothing is put to the versions
+  stay : (p : Path) (t : ℕ) → with_sources H (files.seen exit) p t ≡ H p t
+  stay p t =
+      over_same H p t (source_at (files.seen exit) p) (λ g is.
+      told_before H p g (source_at (files.seen entry) p) (sym (same_told p) ∙ ap (option_map told) is) (λ f was. done.good.sound.now.has_sources p f was))
+
   -- the exit is a good entry for the next call
   pub good_exit : IsGoodEntry act exit
   good_exit =
       record {
-        versions = _;
-        sound = keeps.0.sound_at_exit done.good.versions done.good.sound refl all_ended;
+        versions = with_sources H (files.seen exit);
+        differ = λ p q t u a b had has. done.good.differ p q t u a b (sym (stay p t) ∙ had) (sym (stay q u) ∙ has);
+        sound = sound_exit;
         tree = tree_run act entry log done.good.tree done.met.follows;
         listed =
             record {
-              now = keeps.1.at_exit done.good.versions done.good.sound done.good.listed refl all_ended;
-              after_crash = keeps.1.throughout done.good.versions done.good.sound done.good.listed log [] (sym (append-nil log));
+              now = keeps.1.at_exit H done.good.differ done.good.sound done.good.listed refl all_ended;
+              after_crash = keeps.1.throughout H done.good.differ done.good.sound done.good.listed log [] (sym (append-nil log));
             };
       }
 

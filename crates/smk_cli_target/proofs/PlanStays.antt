@@ -12,7 +12,7 @@ use Rattle.smk_flow.specs.declared.job.Job.{Job}
 use Rattle.smk_flow.specs.Flows.{Flow}
 use Rattle.smk_choose.specs.Choose.{Sources}
 use Rattle.smk_store.specs.Images.{Image, file_at, source_at, is_source, is_known, is_covered, is_whole, sources, stands, holds_source}
-use Rattle.smk_store.specs.Trust.{holder, is_marked_but, stamp_now_but, time_stamp, unmarked_stamp_but}
+use Rattle.smk_store.specs.Trust.{holder, is_marked_but, stamp_now_but, source_stamp, unmarked_stamp_but}
 use Rattle.smk_chain.specs.Derive.{Listings, Clash, Deep, Derived, TooManyPaths, clashes, derivation, distinct, hinders, is_deep, jobs, listing, outcome, reach, refused, refused_if, sources_of, spots}
 use Rattle.smk_trigger.specs.declared.reason.Reason.TheVariants.{Upstream, Forced}
 use Rattle.smk_trigger.specs.declared.reason.State.{State}
@@ -221,7 +221,7 @@ module _ (flow : Flow) (settings : Settings) (plan : Plan) (i : Image) where
           || (list_any (λ d. ready_same d n && is_none (listing plan.lists d)) (gathers_from k) || list_any (made_by plan is_open) (in_paths k.recipe))
 
       stamp_same : (left : Path → Bool) (q : Path) → stamp_now_but y left q ≡ stamp_now_but i left q
-      stamp_same left q = λ n. if source_same q n then time_stamp (source_at_same q n) else option_and_then (unmarked_stamp_but i left) (holder i q)
+      stamp_same left q = λ n. if source_same q n then source_stamp (source_at_same q n) else option_and_then (unmarked_stamp_but i left) (holder i q)
 
       never_forced : (a b : Bool) → (a && by_force settings.force b) ≡ false
       never_forced a b = ap (λ (f : Force). a && by_force f b) unforced ∙ and_never a

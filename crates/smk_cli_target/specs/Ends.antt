@@ -14,7 +14,7 @@ use Rattle.smk_flow.specs.declared.job.Job.{Job}
 use Rattle.smk_flow.specs.Flows.{rule_name}
 use Rattle.smk_store.specs.Images.{tree_now}
 use Rattle.smk_store.specs.Images as images
-use Rattle.smk_store.specs.Trust.{Versions}
+use Rattle.smk_store.specs.Trust.{Versions, SumsDiffer}
 use Rattle.smk_store.specs.Soundness.{SoundWorld}
 use Rattle.smk_laws_history.specs.Histories.{IsListed}
 use Rattle.smk_chain.specs.Mean.{clean_value}
@@ -36,10 +36,11 @@ use Rattle.smk_cli_target.specs.Files.{GoesBy, outside, seen, setting_at}
 
 -- ## A call
 
--- What a call may begin with: a folder that is sound for some versions of its sources, a tree, and has no more in its directories than
--- their records list.
+-- What a call may begin with: a folder that is sound for some versions of its sources, of which no two different contents have the same
+-- SHA-256; a tree; and it has no more in its directories than their records list.
 pub record IsGoodEntry (act : Act) (w : World) : Type 0 where
   pub versions : Versions
+  pub differ : SumsDiffer versions
   pub sound : SoundWorld (outside act) w versions
   pub tree : IsTree w
   pub listed : IsListed (outside act) w

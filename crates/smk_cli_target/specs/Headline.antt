@@ -15,7 +15,8 @@ use Rattle.smk_store.specs.Images.{is_source}
 use Rattle.smk_store.specs.Trust.{Versions}
 use Rattle.smk_store.specs.Soundness.{EachImage}
 use Rattle.smk_store.specs.Safety.{with_sources}
-use Rattle.smk_laws_history.specs.Histories.{History, IsNew, IsLater, can_stand, edited, removed, no_versions}
+use Rattle.smk_laws_history.specs.Histories as histories
+use Rattle.smk_laws_history.specs.Histories.{History, DifferInSums, IsHeld, IsNew, IsLater, can_stand, edited, removed, no_versions}
 use Rattle.smk_report.specs.declared.fault.Fault.{Fault}
 use Rattle.smk_report.specs.Lines.{target_line}
 use Rattle.smk_drive.specs.Moments.{Rules, Moment}
@@ -93,12 +94,29 @@ pub data Came (act : Act) : World → Versions → Type 0 where
       IsMet act words outcome old new out_old out_new w log →
       log ≡ events ++ rest → IsLeft (run w events) nodes → Came act (world_of nodes) (with_sources H (seen (world_of nodes)))
 
--- it is one of a history, and a good entry for the next call
-abbrev pub CameIsHistory : Type 0
-CameIsHistory = (act : Act) (w : World) (H : Versions) → Came act w H → History (outside act) w H
+-- a source had these bytes in one of its worlds
+abbrev pub HasHeld : (act : Act) (w : World) (H : Versions) → Came act w H → List ℕ → Type 0
+HasHeld act _ _ (Begin w new) a = IsHeld (seen w) a
+HasHeld act _ _ (Edit w H p bytes time read_only came can later now left) a =
+    HasHeld act w H came a ⊎ IsHeld (seen (edited w p (Regular bytes time read_only))) a
+HasHeld act _ _ (Remove w H p came outer) a = HasHeld act w H came a ⊎ IsHeld (seen (removed w p)) a
+HasHeld act _ _ (Call w H words outcome old new out_old out_new log came met whole alone) a = HasHeld act w H came a ⊎ IsHeld (seen (run w log)) a
+HasHeld act _ _ (Crash w H words outcome old new out_old out_new log events rest nodes came met split left) a =
+    HasHeld act w H came a ⊎ IsHeld (seen (world_of nodes)) a
 
+-- No two different contents that sources had in its worlds have the same SHA-256: the one premise on SHA-256.
+abbrev pub SumsDifferIn : (act : Act) (w : World) (H : Versions) → Came act w H → Type 0
+SumsDifferIn act w H came = DifferInSums (HasHeld act w H came)
+
+-- it is one of a history in which these contents differ likewise
+abbrev pub CameIsHistory : Type 0
+CameIsHistory =
+    (act : Act) (w : World) (H : Versions) (came : Came act w H) →
+    SumsDifferIn act w H came → (past : History (outside act) w H) × histories.SumsDifferIn (outside act) w H past
+
+-- and a good entry for the next call
 abbrev pub CameIsGood : Type 0
-CameIsGood = (act : Act) (w : World) (H : Versions) → Came act w H → IsGoodEntry act w
+CameIsGood = (act : Act) (w : World) (H : Versions) (came : Came act w H) → SumsDifferIn act w H came → IsGoodEntry act w
 
 -- what a child is started on is finished: a source, or whole and trusted, without a mark, and no running child owns it
 abbrev pub StartsOnFinished : Rules → Moment → EventCall → Type 0
@@ -120,10 +138,12 @@ pub record RunGives (act : Act) (rules : Rules) (outcome : Outcome) (old new : D
       AreSteady old new out_old out_new →
       HasCleanTargets act rules entry → Each (λ p. HasLine text (target_line true p)) rules.settings.targets ⊎ IsStopped rules outcome entry log
 
--- After any list of calls, edits of sources and of the workflow, failed jobs and crashes at any moment, this is so of a run.
+-- After any list of calls, edits of sources and of the workflow, failed jobs and crashes at any moment this is so of a run, if no two different
+-- contents that sources had meanwhile have the same SHA-256.
 abbrev pub Headline : Type 0
 Headline =
     (act : Act) (w : World) (H : Versions) (words : List Text) (outcome : Outcome) (old new : Device) (out_old out_new : Sunk) (log : List Event) (text : Text) →
-    Came act w H →
+    (came : Came act w H) →
+    SumsDifferIn act w H came →
     IsMet act words outcome old new out_old out_new w log →
     HasText act words outcome w log text → AsRun words w (λ rules. RunGives act rules outcome old new out_old out_new w log text)

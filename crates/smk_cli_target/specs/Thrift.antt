@@ -1,5 +1,5 @@
 -- What a second run starts: statements on two calls that meet the contract, one after the other.
-use Rattle.std.specs.Prelude.{◌≡◌, ◌⊎◌, ℕ, Bool, false, List, ◌++◌, IsTrue, Some}
+use Rattle.std.specs.Prelude.{◌≡◌, ◌⊎◌, ℕ, Bool, true, false, List, ◌++◌, IsTrue, Some}
 use Rattle.std.specs.List.{list_any}
 use Rattle.smk_world.specs.declared.event.Node.TheVariants.{Regular}
 use Rattle.smk_world.specs.declared.event.Event.{Event}
@@ -8,7 +8,11 @@ use Rattle.smk_world.specs.Devices.{Device, Sunk}
 use Rattle.smk_world.specs.Trees.{Path, Act, IsIn, among}
 use Rattle.smk_pattern.specs.Shapes.{Text}
 use Rattle.smk_flow.specs.declared.job.Job.{Job}
-use Rattle.smk_store.specs.Images.{is_source}
+use Rattle.smk_record.specs.declared.record.Record.{Record}
+use Rattle.smk_record.specs.declared.record.Stamp.TheVariants.{Time}
+use Rattle.smk_record.specs.Records.{stamped}
+use Rattle.smk_store.specs.Images.{Content, Image, core_at, is_source, source_at}
+use Rattle.smk_store.specs.Trust.{is_summed}
 use Rattle.smk_laws_history.specs.Histories.{IsLater, edited}
 use Rattle.smk_trigger.specs.declared.reason.State.{State}
 use Rattle.smk_trigger.specs.JobStates.{is_clean, is_restore}
@@ -23,7 +27,7 @@ use Rattle.smk_words_reading.specs.declared.asked.RunWords.{RunWords}
 use Rattle.smk_words_reading.specs.Asks.{IsAsked}
 use Rattle.smk_cli_target.specs.Files.{GoesBy, seen}
 use Rattle.smk_cli_target.specs.Ends.{IsGoodEntry}
-use Rattle.smk_cli_target.specs.Clauses.{HasText}
+use Rattle.smk_cli_target.specs.Clauses.{HasText, IsPlanOf}
 use Rattle.smk_cli_target.specs.Headline.{IsMet}
 
 -- A run of these words, without force, that ended with status 0, and the text that it put.
@@ -49,6 +53,44 @@ NextRunStartsNone =
     (outcome : Outcome) (old new : Device) (out_old out_new : Sunk) →
     HasDone act words w rules entry log →
     GoesBy w (run entry log) rules → IsMet act words outcome old new out_old out_new (run entry log) again → has_start again ≡ false
+
+-- ## After sources were touched
+
+-- A source of at most 1,048,576 bytes stood there; now it stands there with the same bytes, whatever its time.
+pub record IsTouchedAt (before after : Image) (p : Path) : Type 0 where
+  pub source : Content
+  pub time : ℕ
+  pub stood : source_at before p ≡ Some source
+  pub small : is_summed source.bytes ≡ true
+  pub stands : after.node p ≡ Some (Regular source.bytes time source.read_only)
+
+-- All stands as it did, but for times of such sources.
+pub record IsTouched (before after : Image) : Type 0 where
+  pub nodes : (p : Path) → (after.node p ≡ before.node p) ⊎ IsTouchedAt before after p
+  pub names : after.names ≡ before.names
+  pub kept : after.kept ≡ before.kept
+  pub marked : after.marked ≡ before.marked
+  pub noted : after.noted ≡ before.noted
+
+-- No record of an output of the plan tells of such a source by its time alone. A run writes none that does, and one of format 1 always does.
+abbrev pub TellSums : Image → Plan → Type 0
+TellSums image plan =
+    (j : Job) (o : Path) (r : Record) (q : Path) (t : ℕ) (f : Content) →
+    IsIn plan.jobs j →
+    IsIn (out_paths j.recipe) o →
+    core_at image o ≡ Some r → IsIn (stamped r) (q, Time t) → source_at image q ≡ Some f → is_summed f.bytes ≡ false
+
+-- After a run of these words, without force, that ended with status 0, and with records that tell each small source by its SHA-256, sources may
+-- be touched: where the files still say the same, a second run with the same words starts no child, however it ends.
+abbrev pub TouchedStartsNone : Type 0
+TouchedStartsNone =
+    (act : Act) (words : List Text) (w : RunWords) (rules : Rules) (entry : World) (log again : List Event) (plan : Plan) (v : World)
+    (outcome : Outcome) (old new : Device) (out_old out_new : Sunk) →
+    HasDone act words w rules entry log →
+    IsPlanOf rules (run entry log) plan →
+    TellSums (seen (run entry log)) plan →
+    IsTouched (seen (run entry log)) (seen v) →
+    IsGoodEntry act v → GoesBy w v rules → IsMet act words outcome old new out_old out_new v again → has_start again ≡ false
 
 -- ## After an edit
 

@@ -9,7 +9,8 @@ use Rattle.smk_world.specs.declared.event.Call.TheVariants.{Created, Removed, Ma
 use Rattle.smk_world.specs.World.{World, world_of}
 use Rattle.smk_world.specs.Trees.{Path}
 use Rattle.smk_flow.specs.declared.job.Job.{Job}
-use Rattle.smk_record.specs.declared.record.Stamp.TheVariants.{Time}
+use Rattle.smk_record.specs.declared.record.Stamp.TheVariants.{Sum}
+use Rattle.smk_store.specs.Trust.{sum_of}
 use Rattle.smk_drive.specs.Moments.{Rules, Moment, Begun, is_changed}
 use Rattle.smk_drive.specs.Lawful.{is_allowed, may_start}
 use Rattle.smk_flow.proofs.Examples.{copy}
@@ -45,7 +46,7 @@ one_may_start = refl
 pub draws_one : map (λ (b : Begun). b.serial) begun.begun ≡ 1 ∷ []
 draws_one = refl
 
-pub has_stamps : map (λ (b : Begun). b.stamps) begun.begun ≡ (Some (Time 1000) ∷ []) ∷ []
+pub has_stamps : map (λ (b : Begun). b.stamps) begun.begun ≡ (Some (Sum 1000 (sum_of (codes "hello\n"))) ∷ []) ∷ []
 has_stamps = refl
 
 -- what each event changes among these places it may change

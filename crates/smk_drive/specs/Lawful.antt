@@ -156,6 +156,7 @@ module _ (rules : Rules) where
   abbrev pub record_for : Moment → Begun → Out → Record
   record_for m b o =
       record {
+        format = 2;
         path = o.path;
         made = b.serial;
         recipe = b.job.recipe;

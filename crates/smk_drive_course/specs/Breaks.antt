@@ -7,6 +7,7 @@ use Rattle.smk_world.specs.declared.event.Event.{Event}
 use Rattle.smk_world.specs.declared.event.Failed.{Failed}
 use Rattle.smk_world.specs.World.{World, after, run}
 use Rattle.smk_world.specs.Calls.{failed}
+use Rattle.smk_world.specs.Devices.{AreLooks}
 use Rattle.smk_world.specs.Requests.{IsCutShort, request}
 use Rattle.smk_world.specs.Requests.Request.{Remove, Settle}
 use Rattle.smk_world.specs.Trees.{Path}
@@ -20,7 +21,7 @@ use Rattle.smk_job.specs.declared.fault.CloseFault.TheVariants as close
 use Rattle.smk_run.specs.Closings.{wait_event}
 use Rattle.smk_drive.specs.Moments.{Rules, is_spent_now, seen}
 use Rattle.smk_drive_course.specs.Stands.{Stand, IsClear, NoneLeft, broken_by_device, halted_by, moment_of, without_child}
-use Rattle.smk_drive_course.specs.Steps.{AreRemoved, Deed, HasBegun, HasClosed, HasHalted, HasSpent, IsToBegin, IsWaitFor, MaySpend, calls_of}
+use Rattle.smk_drive_course.specs.Steps.{AreRemoved, Deed, HasBegun, HasClosed, HasHalted, HasSpent, IsNext, IsToBegin, IsWaitFor, MaySpend, calls_of}
 
 module _ (rules : Rules) (entry : World) where
   -- ## Steps that break off
@@ -56,13 +57,25 @@ module _ (rules : Rules) (entry : World) where
     pub deeds_are : deeds ≡ []
     pub leaves : t ≡ broken_by_device (without_child (seen rules (after w (wait_event ended left))) going ended.status s)
 
-  -- A call failed as the job that is next was to begin.
+  -- A call failed as sources among the inputs of the job that is next were read.
+  pub record HasNotRead (s : Stand) (w : World) (before es : List Event) (deeds : List Deed) (t : Stand) : Type 0 where
+    pub job : Job × State
+    pub next : IsNext rules s w before job
+    pub reads : AreLooks true es
+    pub deeds_are : deeds ≡ []
+    pub leaves : t ≡ broken_by_device s
+
+  -- A call failed as the job that is next was to begin, once these had been read.
   pub record HasNotBegun (s : Stand) (w : World) (before es : List Event) (deeds : List Deed) (t : Stand) : Type 0 where
     pub job : Job × State
     pub made : ℕ
     pub stamps : List Stamp
+    pub reads : List Event
+    pub beginning : List Event
     pub to_begin : IsToBegin rules entry s w before job made stamps
-    pub calls : IsCutShort (calls_of rules job.0) es
+    pub events : es ≡ reads ++ beginning
+    pub only_read : AreLooks false reads
+    pub calls : IsCutShort (calls_of rules job.0) beginning
     pub deeds_are : deeds ≡ []
     pub leaves : t ≡ broken_by_device s
 
@@ -112,6 +125,7 @@ module _ (rules : Rules) (entry : World) where
     Halts : HasHalted rules entry s w before es deeds t → Step s w before es deeds t
     Leaves : HasLeft s w before es deeds t → Step s w before es deeds t
     BreaksOff : HasBrokenOff s w before es deeds t → Step s w before es deeds t
+    ReadsNot : HasNotRead s w before es deeds t → Step s w before es deeds t
     BeginsNot : HasNotBegun s w before es deeds t → Step s w before es deeds t
     SpendsNot : HasNotSpent s w before es deeds t → Step s w before es deeds t
     Waits : HasWaited s w before es deeds t → Step s w before es deeds t

@@ -66,6 +66,12 @@ module _ (rules : Rules) where
   abbrev pub calls_of : Job → List Request
   calls_of j = begin_requests j.recipe j.logs (rules.command j (threads_in rules.settings.cores j.threads))
 
+  -- The job that is next, at a stand where no plan is refused.
+  pub record IsNext (s : Stand) (w : World) (before : List Event) (e : Job × State) : Type 0 where
+    pub clear : IsClear rules s w before
+    pub first : first_of (may_start rules (moment_of s w before)) ≡ Some e
+    pub going_on : IsTrue (goes_on rules (moment_of s w before))
+
   -- outputs may be spent now: once a job has begun, or where none is to start
   abbrev pub MaySpend : Stand → World → List Event → Type 0
   MaySpend s w before = (s.begun ≢ []) ⊎ (may_start rules (moment_of s w before) ≡ [])
@@ -88,12 +94,10 @@ module _ (rules : Rules) (entry : World) where
   GoesByAnswer (Err OutOfMemory) s w events t = t ≡ halted_by fault.OutOfMemory s
   GoesByAnswer (Err Device) s w events t = t ≡ broken_by_device s
 
-  -- The job that is to begin next, at a stand where no plan is refused; its records are to have this serial, which has 64 bits, and the stamps that its
-  -- inputs have now, and can be written.
+  -- It is to begin; its records are to have this serial, which has 64 bits, and the stamps that its inputs have now, sources with their SHA-256, and can be
+  -- written.
   pub record IsToBegin (s : Stand) (w : World) (before : List Event) (e : Job × State) (made : ℕ) (stamps : List Stamp) : Type 0 where
-    pub clear : IsClear rules s w before
-    pub first : first_of (may_start rules (moment_of s w before)) ≡ Some e
-    pub going_on : IsTrue (goes_on rules (moment_of s w before))
+    pub next : IsNext rules s w before e
     pub serial : made ≡ (begun_of rules entry (moment_of s w before) e).serial
     pub stamped : map Some stamps ≡ (begun_of rules entry (moment_of s w before) e).stamps
     pub fits : made < 2 ^ 64
@@ -102,15 +106,19 @@ module _ (rules : Rules) (entry : World) where
 
   -- ## Steps
 
-  -- A job begins, and its child runs.
+  -- A job begins, once the sources among its inputs have been read, and its child runs.
   pub record HasBegun (s : Stand) (w : World) (before es : List Event) (deeds : List Deed) (t : Stand) : Type 0 where
     pub job : Job × State
     pub going : Underway
+    pub reads : List Event
+    pub beginning : List Event
     pub next : Stand
     pub is : going ≡ underway job.0.recipe job.0.logs going.stamps going.made going.number
     pub to_begin : IsToBegin s w before job going.made going.stamps
-    pub calls : HasDone (calls_of rules job.0) es
-    pub started : started_numbers es ≡ going.number ∷ []
+    pub events : es ≡ reads ++ beginning
+    pub only_read : AreLooks false reads
+    pub calls : HasDone (calls_of rules job.0) beginning
+    pub started : started_numbers beginning ≡ going.number ∷ []
     pub deeds_are : deeds ≡ Started job.0 ∷ []
     pub replanned : IsReplanned rules (with_job (begun_of rules entry (moment_of s w before) job) going s) (run w es) next
     pub goes_by : GoesBy rules entry next (run w es) (before ++ es) t
@@ -152,10 +160,10 @@ module _ (rules : Rules) (entry : World) where
     pub deeds_are : deeds ≡ []
     pub goes_by : GoesBy rules entry last (run w removing) (before ++ removing) t
 
-  -- No job begins any more: the job that is next is refused, or the sink failed, or memory is wanting.
+  -- No job begins any more: the job that is next is refused, or the sink failed, or memory is wanting. Sources may have been read for it.
   pub record HasHalted (s : Stand) (w : World) (before es : List Event) (deeds : List Deed) (t : Stand) : Type 0 where
     pub why : Fault
     pub cause : ((s.halted ≡ None) × Refuses rules entry s w before why) ⊎ ((why ≡ fault.Output) ⊎ (why ≡ fault.OutOfMemory))
-    pub nothing : es ≡ []
+    pub only_read : AreLooks false es
     pub deeds_are : deeds ≡ []
     pub leaves : t ≡ halted_by why s

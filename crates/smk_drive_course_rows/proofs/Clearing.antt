@@ -1,5 +1,5 @@
 -- Stands whose plans are computed: the plan is that of the moment, and no plan is refused.
-use Rattle.std.proofs.Common.{◌≡◌, Bool, true, false, List, [], ◌∷◌, ◌++◌, Option, None, refl, sym, subst, IsTrue}
+use Rattle.std.proofs.Common.{◌≡◌, true, List, None, subst}
 use Rattle.smk_world.specs.declared.event.Event.{Event}
 use Rattle.smk_world.specs.World.{World, IsFormed}
 use Rattle.smk_drive.specs.Moments.{Rules, IsInForce, is_rest}

@@ -1,19 +1,26 @@
--- Two jobs side by side: the first one fails while the other runs, which is done; the run ends there.
-use Rattle.std.proofs.Common.{◌≡◌, ℕ, zero, suc, Bool, true, false, List, [], ◌∷◌, ◌++◌, codes, bytes_eq, find, Option, Some, None, Ok, refl, inl, inr, arith, is_some, sym, ap, ◌∙◌, true≢false}
+-- Two jobs side by side: the first one fails while the other runs, which is done; the run ends there. Their source is read before each begins, and its
+-- SHA-256 stands in their stamps.
+use Rattle.std.proofs.Common.{◌≡◌, ℕ, zero, suc, Bool, true, false, List, [], ◌∷◌, ◌++◌, codes, bytes_eq, find, map, Option, Some, None, Ok, refl, inl, inr, arith, is_some, sym, ap, ◌∙◌, true≢false}
 use Rattle.std.specs.Prelude.{if◌then◌else◌}
 use Rattle.std.specs.Fmt.{digits}
+use Rattle.hex.specs.Hex.{encode_with}
+use Rattle.sha2.specs.Sha256.{compress, digest_bytes, first_words, hash_after, rounds, schedule, sha256}
+use Rattle.smk_base.specs.declared.sum.Sum.{Sum as Digest}
 use Rattle.smk_world.specs.declared.event.Event.{Event}
+use Rattle.smk_world.specs.declared.event.Found.TheVariants.{Held}
 use Rattle.smk_world.specs.declared.event.Stat.TheVariants.{File}
-use Rattle.smk_world.specs.declared.event.Call.TheVariants.{Looked, Settled}
+use Rattle.smk_world.specs.declared.event.Call.TheVariants.{Looked, ReadFile, Settled}
 use Rattle.smk_world.specs.declared.recipe.Recipe.{Recipe}
 use Rattle.smk_world.specs.World.{World, IsFormed, after, run}
 use Rattle.smk_world.specs.Requests.{AreQuiet}
 use Rattle.smk_world.proofs.Names.{formed_run}
 use Rattle.smk_flow.specs.declared.job.Job.{Job}
 use Rattle.smk_record.specs.declared.record.Record.{Record}
-use Rattle.smk_record.specs.declared.record.Stamp.TheVariants.{Time}
+use Rattle.smk_record.specs.declared.record.Stamp.{Stamp}
+use Rattle.smk_record.specs.declared.record.Stamp.TheVariants.{Sum}
 use Rattle.smk_record.specs.Spelling.{spelling}
 use Rattle.smk_store.specs.Images.{Image}
+use Rattle.smk_store.specs.Trust.{sum_of}
 use Rattle.smk_trigger.specs.declared.reason.State.{State}
 use Rattle.smk_trigger.specs.declared.reason.State.TheVariants.{Open}
 use Rattle.smk_pick.specs.declared.settings.Settings.{Settings}
@@ -28,7 +35,7 @@ use Rattle.smk_chain.proofs.Folders.{recorded}
 use Rattle.smk_drive.proofs.Turns.{event, put}
 use Rattle.smk_drive_rows.proofs.Chains.{chain}
 use Rattle.smk_drive_rows.proofs.Events.{rules_by, marking, start, ends, recording, unmarking, losing}
-use Rattle.smk_drive_rows.proofs.CopyRow.{entry, formed}
+use Rattle.smk_drive_rows.proofs.CopyRow.{entry, formed, in_txt}
 use Rattle.smk_drive_rows.proofs.PairRow.{a, b, flow, settings, the_jobs}
 use Rattle.smk_drive_course.specs.declared.ending.End.{End}
 use Rattle.smk_drive_course.specs.Stands.{Stand, GoesOn, ended_if, first_stand, is_job_of, moment_of, with_job, without_child}
@@ -39,12 +46,30 @@ use Rattle.smk_drive_course_rows.proofs.Clearing.{anew, is_anew, Computes, is_cl
 
 -- ## What the run goes by
 
+-- the SHA-256 of the source
+abbrev hello : Digest
+hello =
+    record {
+      0 = 0x58 ∷ 0x91 ∷ 0xB5 ∷ 0xB5 ∷ 0x22 ∷ 0xD5 ∷ 0xDF ∷ 0x08 ∷ 0x6D ∷ 0x0F ∷ 0xF0 ∷ 0xB1 ∷ 0x10 ∷ 0xFB ∷ 0xD9 ∷ 0xD2 ∷ 0x1B ∷ 0xB4 ∷ 0xFC ∷ 0x71 ∷ 0x63 ∷ 0xAF ∷ 0x34 ∷ 0xD0 ∷ 0x82 ∷ 0x86 ∷ 0xA2 ∷ 0xE8 ∷ 0x46 ∷ 0xF6 ∷ 0xBE ∷ 0x03 ∷ [];
+    }
+
+is_hello : hello ≡ sum_of (codes "hello\n")
+unfolding first_words schedule rounds compress hash_after digest_bytes sha256
+is_hello = refl
+
+-- the stamps of each job: that of the source
+abbrev stamps : List Stamp
+stamps = Sum 1000 hello ∷ []
+
+stamps_now : map Some stamps ≡ Some (Sum 1000 (sum_of (codes "hello\n"))) ∷ []
+stamps_now = ap (λ d. Some (Sum 1000 d) ∷ []) is_hello
+
 -- the two jobs have two cores, and records are read as they are spelled
 abbrev reads : List Record → List ℕ → Option Record
 reads table bytes = find (λ (r : Record). bytes_eq (spelling r) bytes) table
 
 abbrev records : List Record
-records = recorded the_jobs ((1, Time 1000 ∷ [], []) ∷ (2, Time 1000 ∷ [], []) ∷ [])
+records = recorded the_jobs ((1, stamps, []) ∷ (2, stamps, []) ∷ [])
 
 abbrev both : Settings
 both = record (settings false) { cores = 2 }
@@ -73,7 +98,7 @@ abbrev begun_at : Stand → World → List Event → Begun
 begun_at s w events = begun_of rules entry (moment_of s w events) (next_at s w events)
 
 abbrev going : ℕ → Job → Underway
-going number j = underway j.recipe j.logs (Time 1000 ∷ []) number number
+going number j = underway j.recipe j.logs stamps number number
 
 -- ## Its course
 
@@ -87,12 +112,16 @@ opened = run entry opening
 abbrev start_stand : Stand
 start_stand = first_stand (chain rules entry [] 3 [])
 
+-- the source is read
+abbrev reading : List Event
+reading = event (ReadFile in_txt 1048576 (Ok (Held (codes "hello\n")))) [] ∷ []
+
 -- the first job begins
 abbrev job_a : Job × State
 job_a = next_at start_stand opened opening
 
 abbrev begins_a : List Event
-begins_a = marking a ++ start 1 job_a.0 ∷ []
+begins_a = reading ++ (marking a ++ start 1 job_a.0 ∷ [])
 
 abbrev pub until_a : List Event
 until_a = opening ++ begins_a
@@ -108,7 +137,7 @@ abbrev job_b : Job × State
 job_b = next_at stand_a world_a until_a
 
 abbrev begins_b : List Event
-begins_b = marking b ++ start 2 job_b.0 ∷ []
+begins_b = reading ++ (marking b ++ start 2 job_b.0 ∷ [])
 
 abbrev until_b : List Event
 until_b = until_a ++ begins_b
@@ -143,7 +172,7 @@ abbrev looks_b : List Event
 looks_b = event (Looked b (Ok (File 9 false))) [] ∷ []
 
 abbrev closes_b : List Event
-closes_b = wait_b ∷ (looks_b ++ (recording b (bare_bytes 2 job_b.0.recipe (Time 1000 ∷ []) b) ++ unmarking b))
+closes_b = wait_b ∷ (looks_b ++ (recording b (bare_bytes 2 job_b.0.recipe stamps b) ++ unmarking b))
 
 abbrev world_done : World
 world_done = run world_lost closes_b
@@ -211,27 +240,33 @@ at_lost : Computes rules stand_lost world_lost
 at_lost = record { unhalted = refl; at_rest = refl; settled = refl; planned = refl; free = refl }
 
 at_done : Computes rules stand_done world_done
-unfolding digits
+unfolding digits encode_with
 at_done = record { unhalted = refl; at_rest = refl; settled = refl; planned = refl; free = refl }
 
 a_begins : HasBegun rules entry start_stand opened opening begins_a (Started job_a.0 ∷ []) stand_a
-unfolding digits
+unfolding digits encode_with
 a_begins =
     record {
       job = job_a;
       going = going 1 job_a.0;
+      reads = reading;
+      beginning = marking a ++ start 1 job_a.0 ∷ [];
       next = stand_a;
       is = refl;
       to_begin = record {
-        clear = is_clear rules start_stand opened opening formed_opened at_opened;
-        first = is_next (first_of (may_start rules (moment_of start_stand opened opening))) refl;
-        going_on = refl;
+        next = record {
+          clear = is_clear rules start_stand opened opening formed_opened at_opened;
+          first = is_next (first_of (may_start rules (moment_of start_stand opened opening))) refl;
+          going_on = refl;
+        };
         serial = refl;
-        stamped = refl;
+        stamped = stamps_now;
         fits = omega arith;
         writable = record { valid = (refl, tt); writable = (refl, tt) };
         short = refl;
       };
+      events = refl;
+      only_read = (refl, refl);
       calls = (refl, refl, (refl, refl, (refl, refl, (refl, refl, (refl, refl, (refl, refl, tt))))));
       started = refl;
       deeds_are = refl;
@@ -240,23 +275,29 @@ a_begins =
     }
 
 b_begins : HasBegun rules entry stand_a world_a until_a begins_b (Started job_b.0 ∷ []) stand_b
-unfolding digits
+unfolding digits encode_with
 b_begins =
     record {
       job = job_b;
       going = going 2 job_b.0;
+      reads = reading;
+      beginning = marking b ++ start 2 job_b.0 ∷ [];
       next = stand_b;
       is = refl;
       to_begin = record {
-        clear = is_clear rules stand_a world_a until_a formed_a at_a;
-        first = is_next (first_of (may_start rules (moment_of stand_a world_a until_a))) refl;
-        going_on = refl;
+        next = record {
+          clear = is_clear rules stand_a world_a until_a formed_a at_a;
+          first = is_next (first_of (may_start rules (moment_of stand_a world_a until_a))) refl;
+          going_on = refl;
+        };
         serial = refl;
-        stamped = refl;
+        stamped = stamps_now;
         fits = omega arith;
         writable = record { valid = (refl, tt); writable = (refl, tt) };
         short = refl;
       };
+      events = refl;
+      only_read = (refl, refl);
       calls = (refl, refl, (refl, refl, (refl, refl, (refl, refl, (refl, refl, (refl, refl, tt))))));
       started = refl;
       deeds_are = refl;
@@ -265,7 +306,7 @@ b_begins =
     }
 
 a_fails : HasClosed rules entry stand_b world_b until_b closes_a (Closed job_a.0 (StatusEnding 1) ∷ []) stand_lost
-unfolding digits
+unfolding digits encode_with
 a_fails =
     record {
       going = going 1 job_a.0;
@@ -304,14 +345,14 @@ quiet_b zero d low = refl
 quiet_b (suc k) d low = absurd (omega (arith, low))
 
 b_is_done : HasClosed rules entry stand_lost world_lost until_lost closes_b (Closed job_b.0 GoodEnding ∷ []) stand_done
-unfolding digits
+unfolding digits encode_with
 b_is_done =
     record {
       going = going 2 job_b.0;
       begun = then_b;
       ended = record { number = 2; status = 0 };
       left = put b (codes "hello\n") ∷ [];
-      closing = looks_b ++ (recording b (bare_bytes 2 job_b.0.recipe (Time 1000 ∷ []) b) ++ unmarking b);
+      closing = looks_b ++ (recording b (bare_bytes 2 job_b.0.recipe stamps b) ++ unmarking b);
       tending = [];
       how = Good;
       answer = Ok tt;
@@ -330,7 +371,7 @@ b_is_done =
           [] ∷ [],
           record {
             looks = looks_b;
-            rest = recording b (bare_bytes 2 job_b.0.recipe (Time 1000 ∷ []) b) ++ unmarking b;
+            rest = recording b (bare_bytes 2 job_b.0.recipe stamps b) ++ unmarking b;
             events = refl;
             seen = (looks_b, [], refl, (refl, tt), quiet_b, (refl, refl), refl);
             done = (refl, refl, (refl, refl, (refl, refl, (refl, refl, (refl, refl, (refl, refl, tt))))));
@@ -357,7 +398,7 @@ its_steps =
     (Done stand_done world_done log))))
 
 pub is_run : IsRun rules (Some told) (Ok told) deeds entry log
-unfolding digits
+unfolding digits encode_with
 is_run =
     record {
       opening = opening;

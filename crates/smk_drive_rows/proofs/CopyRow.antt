@@ -1,6 +1,8 @@
 -- A run that copies a file, held against every clause; and wrong runs of the same folder, each refused by one.
 use Rattle.std.proofs.Common.{◌≡◌, ℕ, false, List, [], ◌∷◌, ◌++◌, codes, Some, None, Ok, Err, refl, sym, subst, inl, true≢false, arith}
 use Rattle.std.specs.Fmt.{digits}
+use Rattle.hex.specs.Hex.{encode_with}
+use Rattle.sha2.specs.Sha256.{digest_bytes, sha256}
 use Rattle.smk_world.specs.declared.event.Node.TheVariants.{Regular}
 use Rattle.smk_world.specs.declared.event.Event.{Event}
 use Rattle.smk_world.specs.declared.event.Failed.{Failed}
@@ -11,10 +13,13 @@ use Rattle.smk_world.specs.Calls.{IsFirmlyMarked}
 use Rattle.smk_world.specs.Trees.{Path, Each}
 use Rattle.smk_pattern.specs.Shapes.{Text}
 use Rattle.smk_flow.specs.declared.job.Job.{Job}
+use Rattle.smk_record.specs.declared.record.Record.{Record}
+use Rattle.smk_record.specs.declared.record.Stamp.TheVariants.{Sum}
+use Rattle.smk_store.specs.Trust.{sum_of}
 use Rattle.smk_drive.specs.Moments.{Rules, Moment, Begun, runs}
 use Rattle.smk_flow.proofs.Examples.{copy}
-use Rattle.smk_chain.proofs.Folders.{jobs_in}
-use Rattle.smk_plan.proofs.Plans.{out_txt, copy_records, before_copy}
+use Rattle.smk_chain.proofs.Folders.{jobs_in, recorded}
+use Rattle.smk_plan.proofs.Plans.{out_txt, before_copy}
 use Rattle.smk_drive.proofs.Turns.{reader, event, put}
 use Rattle.smk_report.specs.declared.fault.Fault.{Fault}
 use Rattle.smk_drive_target.specs.Lawful.{Lawful}
@@ -45,11 +50,15 @@ entry = world_of nodes
 pub formed : IsFormed entry
 formed = formed_of nodes refl
 
-abbrev pub rules : Rules
-rules = rules_by copy out_txt (reader copy_records)
-
 abbrev pub the_jobs : List Job
 the_jobs = jobs_in copy before_copy [] (out ∷ [])
+
+-- the record that the run writes
+abbrev pub records : List Record
+records = recorded the_jobs ((1, Sum 1000 (sum_of (codes "hello\n")) ∷ [], []) ∷ [])
+
+abbrev pub rules : Rules
+rules = rules_by copy out_txt (reader records)
 
 abbrev pub log : List Event
 log = of_job the_jobs 0 (doing 1 out (codes "hello\n"))
@@ -73,7 +82,7 @@ kept : Keeps rules entry log
 kept = record { late = refl; settled = tt; protected = refl }
 
 pub is_good : IsGood rules entry log 0
-unfolding digits
+unfolding digits encode_with digest_bytes sha256
 is_good = good rules entry log 0 formed is_checked refl kept
 
 abbrev pub its_text : Text
@@ -87,7 +96,7 @@ its_report = is_report rules entry formed log settled its_text refl
 
 -- no refusal is met: in the midst of the job its own mark stands, but that is no rest
 pub refuses_nothing : (f : Fault) → RunRefuses rules entry log f → ⊥
-unfolding digits
+unfolding digits encode_with digest_bytes sha256
 refuses_nothing f r = never_refused rules entry formed log settled refl refl f r
 
 -- ## Wrong runs

@@ -2,6 +2,8 @@
 use Rattle.std.proofs.Common.{◌≡◌, ◌⊎◌, ℕ, true, false, not, List, [], ◌∷◌, ◌++◌, codes, take, drop, Err, refl, sym, subst, inl, inr, IsTrue, true≢false}
 use Rattle.std.specs.Fmt.{digits}
 use Rattle.std.specs.List.{list_all}
+use Rattle.hex.specs.Hex.{encode_with}
+use Rattle.sha2.specs.Sha256.{digest_bytes, sha256}
 use Rattle.smk_world.specs.declared.event.Event.{Event}
 use Rattle.smk_world.specs.declared.event.Failed.{Failed}
 use Rattle.smk_world.specs.declared.event.Call.TheVariants.{Looked, Settled}
@@ -78,7 +80,7 @@ kept : (failed : Failed) → Keeps rules entry (log failed)
 kept failed = record { late = refl; settled = tt; protected = refl }
 
 pub is_good : (failed : Failed) → IsGood rules entry (log failed) 4
-unfolding digits
+unfolding digits encode_with digest_bytes sha256
 is_good failed = good rules entry (log failed) 4 formed (is_checked failed) refl (kept failed)
 
 -- it tells of the starts alone

@@ -1,12 +1,15 @@
 -- The file that was copied is edited, and copied again: the second run has the next serial and the new stamp.
 use Rattle.std.proofs.Common.{false, ℕ, List, [], ◌∷◌, ◌++◌, codes, refl, inl}
 use Rattle.std.specs.Fmt.{digits}
+use Rattle.hex.specs.Hex.{encode_with}
+use Rattle.sha2.specs.Sha256.{digest_bytes, sha256}
 use Rattle.smk_base.specs.Place.{record_place}
 use Rattle.smk_world.specs.declared.event.Node.TheVariants.{Regular, Directory}
 use Rattle.smk_world.specs.declared.event.Event.{Event}
 use Rattle.smk_world.specs.World.{World, Nodes, IsFormed, world_of}
 use Rattle.smk_record.specs.declared.record.Record.{Record}
-use Rattle.smk_record.specs.declared.record.Stamp.TheVariants.{Time}
+use Rattle.smk_record.specs.declared.record.Stamp.TheVariants.{Sum, Time}
+use Rattle.smk_store.specs.Trust.{sum_of}
 use Rattle.smk_drive.specs.Moments.{Rules}
 use Rattle.smk_flow.proofs.Examples.{copy}
 use Rattle.smk_chain.proofs.Folders.{recorded}
@@ -47,7 +50,7 @@ named bytes (r ∷ rs) = (bytes, r) ∷ named bytes rs
 abbrev pub table : List (List ℕ × Record)
 table =
     named (codes "first") (recorded the_jobs ((1, Time 1000 ∷ [], []) ∷ []))
-    ++ named (codes "second") (recorded the_jobs ((2, Time 2000 ∷ [], []) ∷ []))
+    ++ named (codes "second") (recorded the_jobs ((2, Sum 2000 (sum_of (codes "bye\n")) ∷ [], []) ∷ []))
 
 abbrev pub rules : Rules
 rules = rules_by copy out_txt (reader_of table)
@@ -62,7 +65,7 @@ kept : Keeps rules entry log
 kept = record { late = refl; settled = tt; protected = refl }
 
 pub is_good : IsGood rules entry log 0
-unfolding digits
+unfolding digits encode_with digest_bytes sha256
 is_good =
     good rules entry log 0 formed
     (record {

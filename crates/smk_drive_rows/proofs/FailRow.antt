@@ -1,6 +1,8 @@
 -- A run whose one job fails, held against every clause; and the same run with its report or its log turned.
 use Rattle.std.proofs.Common.{ℕ, List, [], ◌∷◌, ◌++◌, codes, refl, sym, inl, true≢false}
 use Rattle.std.specs.Fmt.{digits}
+use Rattle.hex.specs.Hex.{encode_with}
+use Rattle.sha2.specs.Sha256.{digest_bytes, sha256}
 use Rattle.smk_world.specs.declared.event.Event.{Event}
 use Rattle.smk_pattern.specs.Shapes.{Text}
 use Rattle.smk_flow.specs.declared.job.Job.{Job}
@@ -54,7 +56,7 @@ kept : Keeps rules entry log
 kept = record { late = refl; settled = tt; protected = refl }
 
 pub is_good : IsGood rules entry log 1
-unfolding digits
+unfolding digits encode_with digest_bytes sha256
 is_good = good rules entry log 1 formed is_checked refl kept
 
 abbrev pub its_text : Text

@@ -1,6 +1,8 @@
 -- A checkpoint is closed, the plan grows by what it lists, and all is made.
 use Rattle.std.proofs.Common.{◌≡◌, false, List, [], ◌∷◌, ◌++◌, map, codes, refl, inl, inr}
 use Rattle.std.specs.Fmt.{digits}
+use Rattle.hex.specs.Hex.{encode_with}
+use Rattle.sha2.specs.Sha256.{digest_bytes, sha256}
 use Rattle.smk_world.specs.declared.event.Node.TheVariants.{Regular, Directory}
 use Rattle.smk_world.specs.declared.event.Event.{Event}
 use Rattle.smk_world.specs.declared.event.Change.{Change}
@@ -8,7 +10,9 @@ use Rattle.smk_world.specs.World.{World, Nodes, IsFormed, world_of}
 use Rattle.smk_world.specs.Trees.{Path}
 use Rattle.smk_flow.specs.declared.job.Job.{Job}
 use Rattle.smk_record.specs.declared.record.Record.{Record}
-use Rattle.smk_record.specs.declared.record.Stamp.TheVariants.{Time, Made}
+use Rattle.smk_record.specs.declared.record.Stamp.{Stamp}
+use Rattle.smk_record.specs.declared.record.Stamp.TheVariants.{Sum, Made}
+use Rattle.smk_store.specs.Trust.{sum_of}
 use Rattle.smk_chain.specs.Derive.{Listings}
 use Rattle.smk_plan.specs.States.{job_path}
 use Rattle.smk_drive.specs.Moments.{Rules}
@@ -45,11 +49,12 @@ the_jobs = jobs_in clusters (fresh nodes) known aggregated.targets
 pub their_order : map job_path the_jobs ≡ folder ∷ codes "post/a/1.txt" ∷ codes "aggregated/a.txt" ∷ []
 their_order = refl
 
-abbrev pub records : List Record
-records = recorded the_jobs ((1, Time 1 ∷ [], a_member (codes "1.txt") ∷ []) ∷ (2, Made 1 ∷ [], []) ∷ (3, Made 2 ∷ [], []) ∷ [])
+-- the records, of which the first one has this stamp of the sample
+abbrev pub records : Stamp → List Record
+records sample = recorded the_jobs ((1, sample ∷ [], a_member (codes "1.txt") ∷ []) ∷ (2, Made 1 ∷ [], []) ∷ (3, Made 2 ∷ [], []) ∷ [])
 
 abbrev pub rules : Rules
-rules = rules_by clusters aggregated (reader records)
+rules = rules_by clusters aggregated (reader (records (Sum 1 (sum_of (codes "x\n")))))
 
 abbrev pub listing : List Change
 listing = record { place = folder; node = Directory } ∷ put (codes "clustering/a/1.txt") (codes "x\n") ∷ []
@@ -83,7 +88,7 @@ kept : Keeps rules entry log
 kept = record { late = refl; settled = tt; protected = refl }
 
 pub is_good : IsGood rules entry log 0
-unfolding digits
+unfolding digits encode_with digest_bytes sha256
 is_good = good rules entry log 0 formed is_checked refl kept
 
 pub its_report : IsRunText rules entry log (lines_of

@@ -1,6 +1,8 @@
 -- A checkpoint is closed, and what it lists calls for a file that no rule makes, while another job runs: that one is closed, and nothing begins.
 use Rattle.std.proofs.Common.{◌≡◌, ℕ, true, false, List, [], ◌∷◌, ◌++◌, map, codes, take, drop, refl, sym, inl, inr, true≢false}
 use Rattle.std.specs.Fmt.{digits}
+use Rattle.hex.specs.Hex.{encode_with}
+use Rattle.sha2.specs.Sha256.{digest_bytes, sha256}
 use Rattle.smk_base.specs.Place.{mark_place}
 use Rattle.smk_world.specs.declared.event.Node.TheVariants.{Directory}
 use Rattle.smk_world.specs.declared.event.Event.{Event}
@@ -10,7 +12,8 @@ use Rattle.smk_flow.specs.declared.job.Job.{Job}
 use Rattle.smk_flow.specs.declared.rule.Flag.TheVariants.{Folder}
 use Rattle.smk_flow.specs.Flows.{Flow}
 use Rattle.smk_record.specs.declared.record.Record.{Record}
-use Rattle.smk_record.specs.declared.record.Stamp.TheVariants.{Time}
+use Rattle.smk_record.specs.declared.record.Stamp.TheVariants.{Sum}
+use Rattle.smk_store.specs.Trust.{sum_of}
 use Rattle.smk_plan.specs.States.{job_path}
 use Rattle.smk_report.specs.declared.fault.Fault.{Fault}
 use Rattle.smk_report.specs.declared.fault.Fault.TheVariants as fault
@@ -53,7 +56,9 @@ pub their_order : map job_path the_jobs ≡ d ∷ codes "g.txt" ∷ out ∷ []
 their_order = refl
 
 abbrev pub records : List Record
-records = recorded the_jobs ((1, Time 1000 ∷ [], a_member (codes "1.txt") ∷ []) ∷ (9, [], []) ∷ (2, Time 1000 ∷ [], []) ∷ [])
+records =
+    recorded the_jobs
+    ((1, Sum 1000 (sum_of (codes "hello\n")) ∷ [], a_member (codes "1.txt") ∷ []) ∷ (9, [], []) ∷ (2, Sum 1000 (sum_of (codes "hello\n")) ∷ [], []) ∷ [])
 
 abbrev pub rules : Rules
 rules = rules_by flow (record (with_targets targets) { cores = 2 }) (reader records)
@@ -95,7 +100,7 @@ kept : Keeps rules entry log
 kept = record { late = refl; settled = tt; protected = refl }
 
 pub is_good : IsGood rules entry log 3
-unfolding digits
+unfolding digits encode_with digest_bytes sha256
 is_good = good rules entry log 3 formed is_checked refl kept
 
 -- ## What is refused
@@ -107,7 +112,7 @@ abbrev refusal : Fault
 refusal = fault.NoRule (codes "y/1.txt")
 
 pub is_refused : RunRefuses rules entry log refusal
-unfolding digits
+unfolding digits encode_with digest_bytes sha256
 is_refused =
     record {
       events = until_refused;

@@ -1,12 +1,15 @@
 -- Two jobs on one core, of which the first fails: the run ends there, or goes on with the other where it is told to keep going.
 use Rattle.std.proofs.Common.{ℕ, Bool, true, false, List, [], ◌∷◌, ◌++◌, codes, take, refl, sym, inl, inr, true≢false, arith}
 use Rattle.std.specs.Fmt.{digits}
+use Rattle.hex.specs.Hex.{encode_with}
+use Rattle.sha2.specs.Sha256.{digest_bytes, sha256}
 use Rattle.smk_world.specs.declared.event.Event.{Event}
 use Rattle.smk_world.specs.Trees.{Path}
 use Rattle.smk_flow.specs.declared.job.Job.{Job}
 use Rattle.smk_flow.specs.Flows.{Flow}
 use Rattle.smk_record.specs.declared.record.Record.{Record}
-use Rattle.smk_record.specs.declared.record.Stamp.TheVariants.{Time}
+use Rattle.smk_record.specs.declared.record.Stamp.TheVariants.{Sum}
+use Rattle.smk_store.specs.Trust.{sum_of}
 use Rattle.smk_pick.specs.declared.settings.Settings.{Settings}
 use Rattle.smk_drive.specs.Moments.{Rules}
 use Rattle.smk_flow.proofs.Examples.{rule, input, output, flow_of, cat}
@@ -41,7 +44,9 @@ the_jobs = jobs_in flow before_copy [] (a ∷ b ∷ [])
 
 -- the second job draws the second serial, if the first one drew one
 abbrev pub records : List Record
-records = recorded the_jobs ((1, Time 1000 ∷ [], []) ∷ (2, Time 1000 ∷ [], []) ∷ [])
+records =
+    recorded the_jobs
+    ((1, Sum 1000 (sum_of (codes "hello\n")) ∷ [], []) ∷ (2, Sum 1000 (sum_of (codes "hello\n")) ∷ [], []) ∷ [])
 
 abbrev pub settings : Bool → Settings
 settings keep_going = record (with_targets (a ∷ b ∷ [])) { keep_going = keep_going }
@@ -77,7 +82,7 @@ kept : Keeps (rules false) entry failing
 kept = record { late = refl; settled = tt; protected = refl }
 
 pub is_good : IsGood (rules false) entry failing 1
-unfolding digits
+unfolding digits encode_with digest_bytes sha256
 is_good = good (rules false) entry failing 1 formed is_checked refl kept
 
 pub its_report : IsRunText (rules false) entry failing (lines_of
@@ -116,7 +121,7 @@ going_kept : Keeps (rules true) entry log
 going_kept = record { late = refl; settled = tt; protected = refl }
 
 pub going_good : IsGood (rules true) entry log 1
-unfolding digits
+unfolding digits encode_with digest_bytes sha256
 going_good = good (rules true) entry log 1 formed going_checked refl going_kept
 
 pub going_report : IsRunText (rules true) entry log (lines_of

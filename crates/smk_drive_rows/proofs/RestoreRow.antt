@@ -1,6 +1,8 @@
 -- A lost output is wanted back while a child reads the other output of its job: that child is waited for, and then both are made again.
 use Rattle.std.proofs.Common.{◌≡◌, ℕ, true, false, List, [], ◌∷◌, ◌++◌, map, codes, take, drop, Some, None, Ok, refl, inl, inr}
 use Rattle.std.specs.Fmt.{digits}
+use Rattle.hex.specs.Hex.{encode_with}
+use Rattle.sha2.specs.Sha256.{digest_bytes, sha256}
 use Rattle.smk_base.specs.Place.{mark_place, record_place}
 use Rattle.smk_world.specs.declared.event.Node.TheVariants.{Regular, Directory}
 use Rattle.smk_world.specs.declared.event.Event.{Event}
@@ -12,7 +14,8 @@ use Rattle.smk_flow.specs.declared.job.Job.{Job}
 use Rattle.smk_flow.specs.declared.rule.Flag.TheVariants.{Folder}
 use Rattle.smk_flow.specs.Flows.{Flow}
 use Rattle.smk_record.specs.declared.record.Record.{Record}
-use Rattle.smk_record.specs.declared.record.Stamp.TheVariants.{Time, Made}
+use Rattle.smk_record.specs.declared.record.Stamp.TheVariants.{Sum, Made}
+use Rattle.smk_store.specs.Trust.{sum_of}
 use Rattle.smk_chain.specs.Derive.{Listings}
 use Rattle.smk_plan.specs.States.{job_path}
 use Rattle.smk_drive.specs.Moments.{Rules}
@@ -44,7 +47,7 @@ abbrev pub flow : Flow
 flow =
     flow_of
     (rule true (codes "c") (input (codes "in.txt") ∷ []) (output (Folder ∷ []) d) split
-    ∷ record (rule false (codes "pair") (input (codes "p.txt") ∷ []) (output [] o1) tee) {
+    ∷ record (rule false (codes "pair") [] (output [] o1) tee) {
       outputs = record { name = []; outs = record { text = o1; flags = [] } ∷ record { text = o2; flags = [] } ∷ [] } ∷ [];
     }
     ∷ rule false (codes "x") (input o1 ∷ []) (output [] x) cat
@@ -58,7 +61,6 @@ nodes =
     ∷ (record_place o2, Regular o2 1 false)
     ∷ (codes "in.txt", Regular (codes "a\nb\n") 1 false)
     ∷ (o1, Regular (codes "b\n") 2 false)
-    ∷ (codes "p.txt", Regular (codes "b\n") 1 false)
     ∷ []
 
 abbrev pub entry : World
@@ -75,7 +77,7 @@ abbrev pub known : Listings
 known = record { folder = d; files = codes "2.txt" ∷ [] } ∷ []
 
 abbrev sources : Nodes
-sources = (codes "in.txt", Regular (codes "a\nb\n") 1 false) ∷ (codes "p.txt", Regular (codes "b\n") 1 false) ∷ []
+sources = (codes "in.txt", Regular (codes "a\nb\n") 1 false) ∷ []
 
 abbrev pub the_jobs : List Job
 the_jobs = jobs_in flow (fresh sources) known targets
@@ -86,7 +88,11 @@ their_order = refl
 abbrev pub records : List Record
 records =
     recorded the_jobs
-    ((1, Time 1 ∷ [], []) ∷ (2, Made 1 ∷ [], []) ∷ (3, Time 1 ∷ [], a_member (codes "2.txt") ∷ []) ∷ (4, Made 1 ∷ [], []) ∷ [])
+    ((1, [], [])
+    ∷ (2, Made 1 ∷ [], [])
+    ∷ (3, Sum 1 (sum_of (codes "a\nb\n")) ∷ [], a_member (codes "2.txt") ∷ [])
+    ∷ (4, Made 1 ∷ [], [])
+    ∷ [])
 
 abbrev pub rules : Rules
 rules = rules_by flow (record (with_targets targets) { cores = 2 }) (reader records)
@@ -154,7 +160,7 @@ kept : Keeps rules entry log
 kept = record { late = refl; settled = tt; protected = refl }
 
 pub is_good : IsGood rules entry log 5
-unfolding digits
+unfolding digits encode_with digest_bytes sha256
 is_good = good rules entry log 5 formed is_checked refl kept
 
 pub its_front : IsFront rules entry log (lines_of

@@ -6,10 +6,10 @@ use Rattle.smk_world.specs.Calls.{owned_now}
 use Rattle.smk_world.specs.Trees.{Path, IsIn, kind_in}
 use Rattle.smk_record.specs.declared.record.Record.{Record}
 use Rattle.smk_record.specs.declared.record.Stamp.{Stamp}
-use Rattle.smk_record.specs.declared.record.Stamp.TheVariants.{Time, Made}
-use Rattle.smk_record.specs.Records.{agrees, stamped}
+use Rattle.smk_record.specs.declared.record.Stamp.TheVariants.{Time, Sum, Made}
+use Rattle.smk_record.specs.Records.{agrees, is_of_source, stamped}
 use Rattle.smk_store.specs.Images.{Image, is_source, is_file, is_whole, core_at}
-use Rattle.smk_store.specs.Trust.{Eased, Speaks, Chain, Link, holder, same_time, stamp_now}
+use Rattle.smk_store.specs.Trust.{Eased, Speaks, Chain, Link, holder, same_source, stamp_now}
 use Rattle.smk_drive.specs.Moments.{Rules, Moment, seen}
 use Rattle.smk_drive.specs.Lawful.{IsSafeInput, IsSafeProduct, eased}
 use Rattle.smk_drive_rows.proofs.Truth.{and_left, and_right, so_false, each_true, at_each}
@@ -35,6 +35,7 @@ module _ (image : Image) where
 
   abbrev link_ok : (Record → Bool) → Path × Stamp → Bool
   link_ok deeper (q, Time t) = agrees (Time t) (stamp_now image q)
+  link_ok deeper (q, Sum t d) = agrees (Sum t d) (stamp_now image q)
   link_ok deeper (q, Made m) = not (is_source image q) && product_ok deeper m (holder image q)
 
   -- each input of the record is as it was, through at most n records
@@ -81,10 +82,15 @@ module _ (image : Image) where
     link_at : (deeper : Record → Bool) (r : Record) (e : Path × Stamp) → list_all (link_ok deeper) (stamped r) ≡ true → IsIn (stamped r) e → link_ok deeper e ≡ true
     link_at deeper r e t is = at_each (λ x. link_ok deeper x ≡ true) (stamped r) e (each_true (link_ok deeper) (λ x. link_ok deeper x ≡ true) (λ x h. h) (stamped r) t) is
 
-    pub chained : (n : ℕ) (r : Record) → is_chained n r ≡ true → Chain image eased (same_time image) r
+    link_source : (deeper : Record → Bool) (q : Path) (s : Stamp) → link_ok deeper (q, s) ≡ true → is_of_source s ≡ true → same_source image q s
+    link_source deeper q (Time t) ok source = ok
+    link_source deeper q (Sum t d) ok source = ok
+    link_source deeper q (Made m) ok source = absurd (true≢false (sym source))
+
+    pub chained : (n : ℕ) (r : Record) → is_chained n r ≡ true → Chain image eased (same_source image) r
     chained zero r t = absurd (true≢false (sym t))
     chained (suc n) r t =
-        Link r (λ q m. speaker q) (λ q m. spoken r q) (λ q time is. link_at (is_chained n) r (q, Time time) t is)
+        Link r (λ q m. speaker q) (λ q m. spoken r q) (λ q s is source. link_source (is_chained n) q s (link_at (is_chained n) r (q, s) t is) source)
         (λ q m is. let good = good_link r (is_chained n) q m (link_at (is_chained n) r (q, Made m) t is) in (good.0, good.1))
         (λ q m is. let good = good_link r (is_chained n) q m (link_at (is_chained n) r (q, Made m) t is) in chained n (spoken r q) good.2)
 

@@ -1,5 +1,5 @@
--- The sample of a checkpoint was edited after a whole run: the checkpoint is Dirty, and what gathers from it Open. No job begins on the listing of
--- the run before.
+-- The sample of a checkpoint was edited after a whole run, whose record tells its time alone: the checkpoint is Dirty, and what gathers from it Open.
+-- No job begins on the listing of the run before.
 use Rattle.std.proofs.Common.{◌≡◌, ℕ, Bool, true, false, List, [], ◌∷◌, map, codes, drop, Option, Some, None, refl, sym, ap, true≢false}
 use Rattle.smk_base.specs.Place.{mark_place, record_place}
 use Rattle.smk_world.specs.declared.event.Node.TheVariants.{Regular, Directory}
@@ -7,14 +7,18 @@ use Rattle.smk_world.specs.declared.event.Event.{Event}
 use Rattle.smk_world.specs.World.{World, Nodes, IsFormed, world_of}
 use Rattle.smk_world.specs.Trees.{Path}
 use Rattle.smk_flow.specs.declared.job.Job.{Job}
+use Rattle.smk_record.specs.declared.record.Stamp.TheVariants.{Time}
 use Rattle.smk_trigger.specs.declared.reason.State.{State}
 use Rattle.smk_trigger.specs.JobStates.{is_dirty, is_open}
-use Rattle.smk_drive.specs.Moments.{Moment, staged_now}
+use Rattle.smk_flow.proofs.Examples.{clusters}
+use Rattle.smk_plan.proofs.Plans.{aggregated as its_targets}
+use Rattle.smk_drive.proofs.Turns.{reader}
+use Rattle.smk_drive.specs.Moments.{Moment, Rules, staged_now}
 use Rattle.smk_plan.specs.States.{job_path}
 use Rattle.smk_drive_target.specs.Lawful.{Lawful}
 use Rattle.smk_drive_rows.proofs.Logs.{IsSettled, first_moment, first_is}
-use Rattle.smk_drive_rows.proofs.Events.{formed_of, marking}
-use Rattle.smk_drive_rows.proofs.GrowRow.{folder, rules}
+use Rattle.smk_drive_rows.proofs.Events.{formed_of, marking, rules_by}
+use Rattle.smk_drive_rows.proofs.GrowRow.{folder, records}
 
 abbrev post : Path
 post = codes "post/a/1.txt"
@@ -40,6 +44,9 @@ entry = world_of nodes
 
 formed : IsFormed entry
 formed = formed_of nodes refl
+
+abbrev rules : Rules
+rules = rules_by clusters its_targets (reader (records (Time 1)))
 
 settled : IsSettled rules entry []
 settled = record { start = refl; rests = tt }

@@ -1,6 +1,8 @@
 -- A temporary file is made, read by a job, and taken away; and a run that takes it away too early.
 use Rattle.std.proofs.Common.{◌≡◌, ◌⊎◌, ℕ, true, false, List, [], ◌∷◌, ◌++◌, map, codes, Ok, refl, sym, subst, inl, inr, true≢false}
 use Rattle.std.specs.Fmt.{digits}
+use Rattle.hex.specs.Hex.{encode_with}
+use Rattle.sha2.specs.Sha256.{digest_bytes, sha256}
 use Rattle.smk_base.specs.Path.{is_under}
 use Rattle.smk_base.proofs.Under.{at_or_under_cases, rest_under}
 use Rattle.smk_world.specs.declared.event.Node.TheVariants.{Regular}
@@ -10,7 +12,8 @@ use Rattle.smk_world.specs.World.{World, Nodes, IsFormed, world_of, run, firmly,
 use Rattle.smk_world.specs.Trees.{Path}
 use Rattle.smk_flow.specs.declared.job.Job.{Job}
 use Rattle.smk_record.specs.declared.record.Record.{Record}
-use Rattle.smk_record.specs.declared.record.Stamp.TheVariants.{Time, Made}
+use Rattle.smk_record.specs.declared.record.Stamp.TheVariants.{Sum, Made}
+use Rattle.smk_store.specs.Trust.{sum_of}
 use Rattle.smk_plan.specs.States.{job_path}
 use Rattle.smk_drive.specs.Moments.{Rules}
 use Rattle.smk_flow.proofs.Examples.{temporary_with, cat}
@@ -48,7 +51,7 @@ pub their_order : map job_path the_jobs ≡ t ∷ u ∷ []
 their_order = refl
 
 abbrev pub records : List Record
-records = recorded the_jobs ((1, Time 1 ∷ [], []) ∷ (2, Made 1 ∷ [], []) ∷ [])
+records = recorded the_jobs ((1, Sum 1 (sum_of (codes "q")) ∷ [], []) ∷ (2, Made 1 ∷ [], []) ∷ [])
 
 abbrev pub rules : Rules
 rules = rules_by (temporary_with cat) (with_targets (u ∷ [])) (reader records)
@@ -92,7 +95,7 @@ kept : Keeps rules entry log
 kept = record { late = refl; settled = ((λ spent. gone_for_good), tt); protected = refl }
 
 pub is_good : IsGood rules entry log 0
-unfolding digits
+unfolding digits encode_with digest_bytes sha256
 is_good = good rules entry log 0 formed is_checked refl kept
 
 pub its_report : IsRunText rules entry log (lines_of

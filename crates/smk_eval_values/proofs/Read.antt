@@ -5,7 +5,8 @@ use Rattle.std.proofs.lemmas.Bool.Decides.{nat_tests}
 use Rattle.std.proofs.lemmas.List.{drop_all}
 use Rattle.std.proofs.lemmas.Bool.{or_parts}
 use Rattle.smk_eval_values.specs.declared.reading.Piece.{Piece}
-use Rattle.smk_eval_values.specs.Letters.{Letter, plain, name, is_brace, is_closed, closed_len, letter_by, more_by, letters_after, letters, name_len, first_brace, piece_letters, letters_of}
+use Rattle.smk_template.specs.Templates.{is_brace, first_brace}
+use Rattle.smk_eval_values.specs.Letters.{Letter, plain, name, is_closed, closed_len, letter_by, more_by, letters_after, letters, name_len, piece_letters, letters_of}
 
 pub letters_push : (ps : List Piece) (p : Piece) → letters_of (ps ++ p ∷ []) ≡ letters_of ps ++ piece_letters p
 letters_push ps p = flat_map-append piece_letters ps (p ∷ []) ∙ ap (λ ls. letters_of ps ++ ls) (append-nil (piece_letters p))

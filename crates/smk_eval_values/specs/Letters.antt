@@ -4,6 +4,7 @@ use Rattle.std.specs.List.{list_any, find, flat_map}
 use Rattle.std.specs.Str.{bytes_eq}
 use Rattle.std.specs.Int.{is_in_range}
 use Rattle.smk_base.specs.declared.tree.Pair.{Pair}
+use Rattle.smk_template.specs.Templates.{is_brace}
 use Rattle.smk_eval_values.specs.declared.reading.Piece.{Piece}
 use Rattle.smk_eval_values.specs.declared.reading.Piece.TheVariants.{Plain, Name}
 
@@ -11,9 +12,6 @@ use Rattle.smk_eval_values.specs.declared.reading.Piece.TheVariants.{Plain, Name
 pub data Letter : Type 0 where
   plain : ℕ → Letter
   name : List ℕ → Letter
-
-abbrev pub is_brace : ℕ → Bool
-is_brace b = (b == 123) || (b == 125)
 
 abbrev pub begins_name : ℕ → Bool
 begins_name b = is_in_range 65 90 b || (is_in_range 97 122 b || (b == 95))
@@ -91,11 +89,6 @@ abbrev pub stands : List Letter → List ℕ → Bool
 stands ls n = list_any (is_name n) ls
 
 -- ## Pieces
-
--- how many bytes stand before the first brace
-abbrev pub first_brace : List ℕ → ℕ
-first_brace [] = 0
-first_brace (b ∷ t) = if is_brace b then 0 else suc (first_brace t)
 
 abbrev pub piece_letters : Piece → List Letter
 piece_letters (Plain t) = map plain t

@@ -1,9 +1,11 @@
 //! The pieces of a pattern.
 
 ghost use Rattle.std.specs.Prelude.{◌≡◌, ◌<◌, ◌≤◌, ◌∷◌, ◌++◌, [], IfOk, OnOk, IsUtf8, length, map, slice_index, true, false};
+ghost use Rattle.smk_template.specs.Templates.{is_brace};
 ghost use Rattle.smk_eval_values.specs.Letters as spec;
 
 use smk_base::{List, OutOfMemory, Text};
+use smk_template::first_brace;
 use std::alloc::Global;
 
 /// A piece of a pattern.
@@ -50,20 +52,6 @@ fn byte(text: &[u8], at: usize) -> u8
     }
 }
 
-// How many bytes stand before the first brace.
-fn first_brace(text: &[u8]) -> usize
-    ensures value { result ≡ spec.first_brace text.now }
-    ensures within { result ≤ length text.now }
-    ensures brace { result < length text.now → spec.is_brace (slice_index text.now result) ≡ true }
-{
-    for (i, byte) in text.iter().enumerate() {
-        if *byte == b'{' || *byte == b'}' {
-            return i;
-        }
-    }
-    text.len()
-}
-
 // How many bytes of a name stand after the brace, where a brace closes it; otherwise 0.
 fn closed_len(brace: u8, after: &[u8]) -> usize
     ensures value { result ≡ spec.closed_len brace after.now }
@@ -80,7 +68,7 @@ fn closed_len(brace: u8, after: &[u8]) -> usize
 
 // Whether the same brace follows the brace.
 fn is_doubled(brace: u8, after: &[u8]) -> bool
-    requires { spec.is_brace brace ≡ true }
+    requires { is_brace brace ≡ true }
     ensures value { result ≡ spec.is_doubled brace after.now }
     ensures within { result ≡ true → 0 < length after.now }
     ensures ascii { result ≡ true → slice_index after.now 0 < 128 }
@@ -114,7 +102,7 @@ fn push_symbol<'t>(
     text: &'t str,
 ) -> Result<&'t str, OutOfMemory>
     requires some { 0 < length text.now }
-    requires brace { spec.is_brace (slice_index text.now 0) ≡ true }
+    requires brace { is_brace (slice_index text.now 0) ≡ true }
     ensures read { IfOk result (λ rest. spec.letters_of pieces.new ++ spec.letters rest.now ≡ spec.letters_of pieces.old ++ spec.letters text.now) }
     ensures shorter { IfOk result (λ rest. length rest.now < length text.now) }
     ensures utf8 { IfOk result (λ rest. IsUtf8 rest.now) }

@@ -13,13 +13,13 @@ use Rattle.smk_world.specs.declared.recipe.Kind.TheVariants.{Plain}
 use Rattle.smk_world.specs.World.{World, run, in_paths, out_paths}
 use Rattle.smk_world.specs.Trees.{Path, Each, IsIn, among, folder_over, kind_in}
 use Rattle.smk_record.specs.declared.record.Stamp.{Stamp}
-use Rattle.smk_record.specs.declared.record.Stamp.TheVariants.{Time, Made}
+use Rattle.smk_record.specs.declared.record.Stamp.TheVariants.{Made}
 use Rattle.smk_record.specs.Records.{core, record_of}
 use Rattle.smk_flow.specs.declared.job.Job.{Job}
 use Rattle.smk_flow.specs.Flows.{Flow}
 use Rattle.smk_store.specs.Images.{Content, Image, content_of, is_source, is_whole, source_at}
 use Rattle.smk_store.specs.Soundness.{Outside}
-use Rattle.smk_store.specs.Trust.{Versions, holder, is_marked_but, stamp_now_but, time_stamp, unmarked_stamp_but}
+use Rattle.smk_store.specs.Trust.{Versions, content_stamp, holder, is_marked_but, source_stamp, stamp_now_but, unmarked_stamp_but}
 use Rattle.smk_chain.specs.Derive.{distinct}
 use Rattle.smk_laws_protocol.specs.Protocol.{now}
 use Rattle.smk_laws_protocol.proofs.Basics.{each_in, each_of, none_of, some_of}
@@ -40,6 +40,7 @@ use Rattle.smk_run.specs.Stamps.{Serials}
 use Rattle.smk_run.specs.Turns.{Turn, found, is_closed, is_done}
 use Rattle.smk_made.specs.Leaving.{owned}
 use Rattle.smk_safe.specs.Planned.{AreTurnsOf, IsPlain, KeepsSerial, TellsSerials}
+use Rattle.smk_safe.proofs.Coming.{same_stamps}
 use Rattle.smk_safe.proofs.Images.{source_of_both}
 use Rattle.smk_safe.proofs.Off.{NoneMakes}
 use Rattle.smk_safe.proofs.Planned as by_plan
@@ -159,9 +160,9 @@ module _ (o : Outside) (entry : World) (H : Versions) (flow : Flow) (settings : 
   abbrev own_then : Job → List Reason
   own_then j = own_reasons j.recipe (map before.kept (out_paths j.recipe)) (map (is_marked_but before left_then) (out_paths j.recipe)) (map (paired (λ q. stamp_now_but before left_then q)) (in_paths j.recipe))
 
-  stamp_source : (image : Image) (left_out : Path → Bool) (q : Path) (c : Content) → is_source image q ≡ true → source_at image q ≡ Some c → stamp_now_but image left_out q ≡ Some (Time c.time)
+  stamp_source : (image : Image) (left_out : Path → Bool) (q : Path) (c : Content) → is_source image q ≡ true → source_at image q ≡ Some c → stamp_now_but image left_out q ≡ Some (content_stamp c)
   stamp_source image left_out q c is at =
-      ap (λ b. if b then time_stamp (source_at image q) else option_and_then (unmarked_stamp_but image left_out) (holder image q)) is ∙ ap time_stamp at
+      ap (λ b. if b then source_stamp (source_at image q) else option_and_then (unmarked_stamp_but image left_out) (holder image q)) is ∙ ap source_stamp at
 
   -- a product of a job that isn't Dirty has the serial that it had
   product_now : (k : Job) (q : Path) → IsIn plan.jobs k → is_dirty (st k) ≡ false → IsIn (out_paths k.recipe) q → (h : by_plan.HasRecord o entry flow settings plan made ran.top ts ran.sound.formed ran.is_top ran.planned ran.plain ran.fit tells k q) → HasDone k
@@ -182,7 +183,7 @@ module _ (o : Outside) (entry : World) (H : Versions) (flow : Flow) (settings : 
   input_same j q ij calm has iq = elim (maker_cases q) [
     | inr none ↦
         let both = source_of_both before after_run q (at_exit.sources_stay o entry H flow settings plan ts es ran closed) (by_plan.source_read o entry flow settings plan made ran.top ts ran.sound.formed ran.is_top ran.planned ran.plain ran.fit tells j q ij iq none) in
-        stamp_source after_run left_now q both.second both.is_second both.at_second ∙ ap (λ n. Some (Time n)) both.time
+        stamp_source after_run left_now q both.second both.is_second both.at_second ∙ ap Some (same_stamps both.second both.first both.bytes both.time)
         ∙ sym (stamp_source before left_then q both.first (by_plan.source_read o entry flow settings plan made ran.top ts ran.sound.formed ran.is_top ran.planned ran.plain ran.fit tells j q ij iq none) both.at_first)
     | inl h ↦
         let k = h.0 in
@@ -251,7 +252,7 @@ module _ (o : Outside) (entry : World) (H : Versions) (flow : Flow) (settings : 
       own_none t.made t.job.recipe (found t.looked) (λ q. stamp_now_but after_run left_now q) (λ q s i. stamp_found t q s it done have i)
       (map after_run.kept (out_paths t.job.recipe)) (map (is_marked_but after_run left_now) (out_paths t.job.recipe))
       (each_mapped (HoldsOne t.made t.job.recipe (found t.looked)) after_run.kept (out_paths t.job.recipe) (λ p ip.
-      (record_of p t.made t.job.recipe (found t.looked) [], (is_done_so.left_by o entry H flow settings plan ts es ran closed t p it done ip).kept, record { serial = refl; of_recipe = refl; with_stamps = refl })))
+      (record_of p t.made t.job.recipe (found t.looked) [], (is_done_so.left_by o entry H flow settings plan ts es ran closed t p it done ip).kept, record { serial = refl; of_recipe = refl; with_stamps = refl; in_format = refl })))
       (each_mapped (λ b. b ≡ false) (is_marked_but after_run left_now) (out_paths t.job.recipe) (λ p ip. ap (λ b. b && not (left_now p)) (is_done_so.left_by o entry H flow settings plan ts es ran closed t p it done ip).unmarked))
 
   -- where this is so of the job and of those that make what it reads, it has no reasons of its own

@@ -15,8 +15,8 @@ use Rattle.smk_world.specs.declared.recipe.Recipe.{Recipe}
 use Rattle.smk_world.specs.declared.recipe.Values.{Values}
 use Rattle.smk_record.specs.declared.record.Record.{Record}
 use Rattle.smk_record.specs.declared.record.Stamp.{Stamp}
-use Rattle.smk_record.specs.declared.record.Stamp.TheVariants.{Time, Made}
-use Rattle.smk_record.specs.Records.{agrees, same_pair, same_stamp}
+use Rattle.smk_record.specs.declared.record.Stamp.TheVariants.{Time, Sum, Made}
+use Rattle.smk_record.specs.Records.{agree, agrees, same_pair, same_stamp}
 use Rattle.smk_store.specs.declared.store.Kept.{Kept}
 use Rattle.smk_store.specs.declared.store.Kept.TheVariants.{Held}
 use Rattle.smk_laws_protocol.proofs.Basics.{none_by}
@@ -48,7 +48,13 @@ out_item_self x = both_true (bytes_eq x.name x.name) _ (place_itself x.name) (po
 
 stamp_self : (x : Stamp) → same_stamp x x ≡ true
 stamp_self (Time t) = itself t t refl
+stamp_self (Sum t d) = both_true (t == t) (bytes_eq d.0 d.0) (itself t t refl) (place_itself d.0)
 stamp_self (Made m) = itself m m refl
+
+agree_self : (x : Stamp) → agree x x ≡ true
+agree_self (Time t) = itself t t refl
+agree_self (Sum t d) = ap (λ b. b || bytes_eq d.0 d.0) (itself t t refl)
+agree_self (Made m) = itself m m refl
 
 code_self : (r : Recipe) → same_code r r ≡ true
 code_self r = both_true (bytes_eq r.template r.template) _ (place_itself r.template) (pointwise_self same_out_item out_item_self r.outputs)
@@ -66,20 +72,21 @@ once_within [] x h = absurd h
 once_within (e ∷ es) x (inl p) = inl p
 once_within (e ∷ es) x (inr h) = inr (once_within es x ((filter_in (λ (d : Path × Option Stamp). not (bytes_eq e.0 d.0)) (once es) x h).0))
 
--- the record has this serial, recipe and stamps
+-- the record has this serial, recipe and stamps, in the format that is written
 pub record IsAs (made : ℕ) (recipe : Recipe) (stamps : List Stamp) (r : Record) : Type 0 where
   pub serial : r.made ≡ made
   pub of_recipe : r.recipe ≡ recipe
   pub with_stamps : r.stamps ≡ stamps
+  pub in_format : r.format ≡ 2
 
 module _ (made : ℕ) (recipe : Recipe) (stamps : List Stamp) where
   alike : (a b : Record) → IsAs made recipe stamps a → IsAs made recipe stamps b → same_job a b ≡ true
   alike a b h k =
-      (λ i. (h.serial i == k.serial i) && (same_recipe (h.of_recipe i) (k.of_recipe i) && pointwise same_stamp (h.with_stamps i) (k.with_stamps i)))
+      (λ i. (h.serial i == k.serial i) && (same_recipe (h.of_recipe i) (k.of_recipe i) && (pointwise same_stamp (h.with_stamps i) (k.with_stamps i) && h.in_format i == k.in_format i)))
       ∙ both_true (made == made) _ (itself made made refl)
       (both_true (same_recipe recipe recipe) _
       (both_true (same_code recipe recipe) _ (code_self recipe) (both_true (same_params recipe recipe) _ (params_self recipe) (inputs_self recipe)))
-      (pointwise_self same_stamp stamp_self stamps))
+      (both_true (pointwise same_stamp stamps stamps) _ (pointwise_self same_stamp stamp_self stamps) refl))
 
   all_alike : (r : Record) (rs : List Record) → IsAs made recipe stamps r → Each (IsAs made recipe stamps) rs → list_all (same_job r) rs ≡ true
   all_alike r [] h k = refl
@@ -122,8 +129,8 @@ module _ (made : ℕ) (recipe : Recipe) (stamps : List Stamp) where
     not_updated : (es : List (Path × Stamp)) (q : Path) → ((e : Path × Stamp) → IsIn es e → now e.0 ≡ Some e.1) → is_updated es (q, now q) ≡ false
     not_updated es q h = go (now q) refl
       where
-        agree : (s x : Stamp) → Some x ≡ Some s → agrees s (Some x) ≡ true
-        agree s x e = subst (λ (y : Stamp). same_stamp s y ≡ true) (sym (same e)) (stamp_self s)
+        still : (s x : Stamp) → Some x ≡ Some s → agrees s (Some x) ≡ true
+        still s x e = subst (λ (y : Stamp). agree s y ≡ true) (sym (same e)) (agree_self s)
           where
             same : Some x ≡ Some s → x ≡ s
             same k = cc
@@ -133,7 +140,7 @@ module _ (made : ℕ) (recipe : Recipe) (stamps : List Stamp) where
           where
             by : (b : Bool) → bytes_eq e.0 q ≡ b → (b && not (agrees e.1 (Some x))) ≡ false
             by false k = refl
-            by true k = ap not (agree e.1 x (sym is ∙ ap now (sym (same_place e.0 q k)) ∙ h e i))
+            by true k = ap not (still e.1 x (sym is ∙ ap now (sym (same_place e.0 q k)) ∙ h e i))
 
         go : (n : Option Stamp) → now q ≡ n → is_updated es (q, n) ≡ false
         go None is = refl

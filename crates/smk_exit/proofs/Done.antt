@@ -11,26 +11,25 @@ use Rattle.smk_base.proofs.Places.{and_first}
 use Rattle.smk_base.proofs.Under.{at_itself, overlaps_at}
 use Rattle.smk_world.specs.declared.event.Event.{Event}
 use Rattle.smk_world.specs.declared.event.Node.TheVariants.{Regular}
-use Rattle.smk_world.specs.declared.event.Stat.TheVariants.{File}
 use Rattle.smk_world.specs.declared.recipe.Kind.{Kind}
 use Rattle.smk_world.specs.declared.recipe.Kind.TheVariants.{Plain, Folder}
 use Rattle.smk_world.specs.declared.recipe.Out.{Out}
-use Rattle.smk_world.specs.World.{World, run, firmly, in_paths, out_paths}
-use Rattle.smk_world.specs.Calls.{HasOwners, StatIs}
+use Rattle.smk_world.specs.World.{World, reading, run, firmly, in_paths, out_paths}
+use Rattle.smk_world.specs.Calls.{HasOwners}
 use Rattle.smk_world.specs.Runs.{Follows}
 use Rattle.smk_world.proofs.Runs.{run_append}
 use Rattle.smk_world.specs.Trees.{Path, Act, Each, IsIn, among, folders_of, is_folder_kind, is_path_text, is_text, outs_of}
 use Rattle.smk_record.specs.declared.record.Record.{Record}
 use Rattle.smk_record.specs.declared.record.Stamp.{Stamp}
-use Rattle.smk_record.specs.declared.record.Stamp.TheVariants.{Time, Made}
+use Rattle.smk_record.specs.declared.record.Stamp.TheVariants.{Made}
 use Rattle.smk_record.specs.Records.{core, record_of}
 use Rattle.smk_record.specs.Spelling.{spelling}
 use Rattle.smk_flow.specs.Flows.{Flow}
 use Rattle.smk_store.specs.declared.store.Kept.{Kept}
 use Rattle.smk_store.specs.declared.store.Kept.TheVariants.{Absent, Unreadable, Held}
-use Rattle.smk_store.specs.Images.{Image, core_at, is_source, is_whole, readable, source_at}
+use Rattle.smk_store.specs.Images.{Image, content_of, core_at, is_source, is_whole, readable, source_at}
 use Rattle.smk_store.specs.Soundness.{Outside}
-use Rattle.smk_store.specs.Trust.{Versions, holder, made_stamp, stamp_now_but, time_stamp, unmarked_stamp_but}
+use Rattle.smk_store.specs.Trust.{Versions, holder, made_stamp, source_stamp, stamp_now_but, unmarked_stamp_but}
 use Rattle.smk_laws_protocol.specs.Protocol.{now}
 use Rattle.smk_laws_protocol.proofs.Basics.{each_in, each_on}
 use Rattle.smk_pick.specs.declared.settings.Settings.{Settings}
@@ -52,7 +51,7 @@ use Rattle.smk_made.proofs.Sparing.{IsOffTurn, turn_kept, turns_kept}
 use Rattle.smk_safe.specs.Planned.{IsPlain, IsFit}
 use Rattle.smk_safe.specs.Turning.{opened}
 use Rattle.smk_safe.specs.Ready.{AreDoneButLast}
-use Rattle.smk_safe.proofs.Coming.{content_time}
+use Rattle.smk_safe.proofs.Coming.{content_there}
 use Rattle.smk_safe.proofs.Going.{done_begun, out_first}
 use Rattle.smk_safe.proofs.Images.{holder_own, source_of_both}
 use Rattle.smk_safe.proofs.Off.{AreClearOf, clear_none, marks_off, records_off, users_off}
@@ -69,7 +68,7 @@ pub stamp_held : (image : Image) (left_out : Path → Bool) (p : Path) (r : Reco
 stamp_held image left_out p r kept unmarked =
     let core_is : core_at image p ≡ Some (core r) = ap (λ (k : Kept). option_map core (readable k)) kept in
     let speaks = holder_own image p (core r) core_is in
-    ap (λ b. if b then time_stamp (source_at image p) else option_and_then (unmarked_stamp_but image left_out) (holder image p)) (held_no_source image p p speaks)
+    ap (λ b. if b then source_stamp (source_at image p) else option_and_then (unmarked_stamp_but image left_out) (holder image p)) (held_no_source image p p speaks)
     ∙ ap (option_and_then (unmarked_stamp_but image left_out)) speaks
     ∙ ap (λ b. if b && not (left_out p) then None else made_stamp (core_at image p)) unmarked
     ∙ ap made_stamp core_is
@@ -251,7 +250,7 @@ module _ (o : Outside) (entry : World) (H : Versions) (flow : Flow) (settings : 
       let w = was t i done in
       subst (λ x. IsTold w.then_world x q s) is (told_at w.then_world made (in_paths t.job.recipe) (found t.looked) q s w.told k)
 
-  -- a source the time that it has at the exit
+  -- a source the stamp that it has at the exit
   pub told_source : (left_out : Path → Bool) (t : Turn) (q : Path) (s : Stamp) → IsIn ts t → is_done t.course ≡ true → IsIn (zip (in_paths t.job.recipe) (found t.looked)) (q, s) → made q ≡ None → is_source before q ≡ true → AreClearOf q ts
       → stamp_now_but after_run left_out q ≡ Some s
   told_source left_out t q s i done k none source clear =
@@ -259,8 +258,8 @@ module _ (o : Outside) (entry : World) (H : Versions) (flow : Flow) (settings : 
       let told : IsTold w.then_world None q s = subst (λ x. IsTold w.then_world x q s) none (told_at w.then_world made (in_paths t.job.recipe) (found t.looked) q s w.told k) in
       let path = and_first (is_path q) (is_text q) (and_first (is_path_text q) _ source) in
       let off = users_off q q ts (path_outside q path) (at_itself q) clear in
-      let stat = subst (λ n. StatIs (File told.0 told.1) n) (w.same q off ∙ sym (at_exit.stays o entry H flow settings plan ts es ran q off)) told.3 in
       let both = source_of_both before after_run q (at_exit.sources_stay o entry H flow settings plan ts es ran closed) source in
       let f = source_file after_run q both.is_second in
-      let time = content_time ((run entry es).nodes q) _ f.0 told.0 told.1 f.1 stat in
-      source_stamp_but after_run left_out q f.0 both.is_second f.1 ∙ ap (λ n. Some (Time n)) time ∙ sym (ap Some told.2)
+      let there : content_of (reading ((run entry es).nodes q)) ≡ Some f.0 = content_there _ (reading ((run entry es).nodes q)) f.0 f.1 in
+      let stands = subst (λ n. content_of (reading n) ≡ Some f.0) (sym (w.same q off ∙ sym (at_exit.stays o entry H flow settings plan ts es ran q off))) there in
+      source_stamp_but after_run left_out q f.0 both.is_second f.1 ∙ sym (ap Some (told f.0 stands))

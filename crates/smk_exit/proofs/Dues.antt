@@ -299,7 +299,7 @@ throughout_all P h w [] = h w
 throughout_all P h w (e ∷ es) = (h w, throughout_all P h (after w e) es)
 
 pub due_run_is_safe : DueRunIsSafe
-due_run_is_safe o entry H flow settings plan makers duties cores top ts es reads sound is_top is_plan plain meant tells in_order fit follows runs =
+due_run_is_safe o entry H flow settings plan makers duties cores top ts es reads differ sound is_top is_plan plain meant tells in_order fit follows runs =
     let made = serials makers (Some (suc top)) duties in
     let ready = due_turns_are_ready o entry flow settings plan makers duties cores top ts sound.formed is_top is_plan plain meant tells in_order fit in
     let plain_turn : (t : Turn) → IsIn ts t → folders_of t.job.recipe ≡ [] =
@@ -308,4 +308,4 @@ due_run_is_safe o entry H flow settings plan makers duties cores top ts es reads
     no_folders t.job (each_in IsPlain plan.jobs t.job plain (get_in plan.jobs at.0 t.job at.1)) in
     let found : (v : World) → AllAreFound ts v =
     λ v. each_of (λ (t : Turn). Each (AllIsFound v.nodes) (folders_of t.job.recipe)) ts (λ t i. subst (Each (AllIsFound v.nodes)) (sym (plain_turn t i)) tt) in
-    run_is_safe o entry H top made ts es reads sound is_top ready (done_but_last cores (due (Some (suc top)) duties plan.jobs) ts in_order) (throughout_all (AllAreFound ts) found entry es) follows runs
+    run_is_safe o entry H top made ts es reads differ sound is_top ready (done_but_last cores (due (Some (suc top)) duties plan.jobs) ts in_order) (throughout_all (AllAreFound ts) found entry es) follows runs

@@ -91,7 +91,7 @@ module _ (o : Outside) (entry : World) (H : Versions) (flow : Flow) (settings : 
 
   pub safe : IsSafeRun o entry H ran.top ts es
   safe =
-      due_run_is_safe o entry H flow settings plan ran.makers ran.duties ran.cores ran.top ts es ran.reads ran.sound ran.is_top ran.planned ran.plain ran.meant ran.told ran.in_order ran.fit ran.follows
+      due_run_is_safe o entry H flow settings plan ran.makers ran.duties ran.cores ran.top ts es ran.reads ran.differ ran.sound ran.is_top ran.planned ran.plain ran.meant ran.told ran.in_order ran.fit ran.follows
       ran.is_run
 
   -- each turn is of a job of the plan
@@ -108,12 +108,12 @@ module _ (o : Outside) (entry : World) (H : Versions) (flow : Flow) (settings : 
 
   abbrev pub Started : Type 0
   Started =
-      HasStarted o entry H ran.top made ts es ran.reads ran.sound ran.is_top ready (done_but_last ran.cores (due (Some (suc ran.top)) ran.duties plan.jobs) ts ran.in_order)
+      HasStarted o entry H ran.top made ts es ran.reads ran.differ ran.sound ran.is_top ready (done_but_last ran.cores (due (Some (suc ran.top)) ran.duties plan.jobs) ts ran.in_order)
       (throughout_all (AllAreFound ts) all_found entry es) ran.follows ran.is_run
 
   pub started : Started
   started =
-      has_started o entry H ran.top made ts es ran.reads ran.sound ran.is_top ready (done_but_last ran.cores (due (Some (suc ran.top)) ran.duties plan.jobs) ts ran.in_order)
+      has_started o entry H ran.top made ts es ran.reads ran.differ ran.sound ran.is_top ready (done_but_last ran.cores (due (Some (suc ran.top)) ran.duties plan.jobs) ts ran.in_order)
       (throughout_all (AllAreFound ts) all_found entry es) ran.follows ran.is_run
 
   -- ## What stays

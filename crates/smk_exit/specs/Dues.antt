@@ -8,7 +8,7 @@ use Rattle.smk_flow.specs.declared.job.Job.{Job}
 use Rattle.smk_flow.specs.Flows.{Flow}
 use Rattle.smk_record.specs.Spelling.{ReadsRecords}
 use Rattle.smk_store.specs.Soundness.{Outside, SoundWorld}
-use Rattle.smk_store.specs.Trust.{Versions}
+use Rattle.smk_store.specs.Trust.{Versions, SumsDiffer}
 use Rattle.smk_laws_protocol.specs.Protocol.{now}
 use Rattle.smk_laws_protocol.specs.Midway.{IsTop}
 use Rattle.smk_chain.specs.declared.jobs.Maker.{Maker}
@@ -49,6 +49,7 @@ abbrev pub DueRunIsSafe : Type 0
 DueRunIsSafe =
     (o : Outside) (entry : World) (H : Versions) (flow : Flow) (settings : Settings) (plan : Plan) (makers : List Maker) (duties : List Duty) (cores top : ℕ) (ts : List Turn) (es : List Event) →
     ReadsRecords o.read →
+    SumsDiffer H →
     SoundWorld o entry H →
     IsTop o entry top →
     IsPlan flow (now o entry) settings nothing_done plan →

@@ -9,7 +9,7 @@ use Rattle.smk_flow.specs.declared.job.Job.{Job}
 use Rattle.smk_flow.specs.Flows.{Flow}
 use Rattle.smk_store.specs.Images.{Image}
 use Rattle.smk_store.specs.Soundness.{Outside, SoundWorld}
-use Rattle.smk_store.specs.Trust.{Versions}
+use Rattle.smk_store.specs.Trust.{Versions, SumsDiffer}
 use Rattle.smk_chain.specs.declared.jobs.Maker.{Maker}
 use Rattle.smk_chain.specs.Derive.{Derived, derivation}
 use Rattle.smk_laws_protocol.specs.Protocol.{now}
@@ -31,7 +31,7 @@ use Rattle.smk_exit.specs.Dues.{TellsMakers}
 
 -- ## The run
 
--- A run from a sound folder, of the jobs that are due by a plan of it where nothing was done yet: looks, the settling of the marks and notes that were found, and the turns.
+-- A run from a folder that is sound for versions of which no two different contents have the same SHA-256, of the jobs that are due by a plan of it where nothing was done yet: looks, the settling of the marks and notes that were found, and the turns.
 -- The jobs gather nothing and make plain files.
 pub record IsDueRun (o : Outside) (entry : World) (H : Versions) (flow : Flow) (settings : Settings) (plan : Plan) (ts : List Turn) (es : List Event) : Type 0 where
   pub makers : List Maker
@@ -39,6 +39,7 @@ pub record IsDueRun (o : Outside) (entry : World) (H : Versions) (flow : Flow) (
   pub cores : ℕ
   pub top : ℕ
   pub reads : ReadsRecords o.read
+  pub differ : SumsDiffer H
   pub sound : SoundWorld o entry H
   pub is_top : IsTop o entry top
   pub planned : IsPlan flow (now o entry) settings nothing_done plan

@@ -1,6 +1,6 @@
 -- Looks at outputs with directories among them, one after the other.
 use Rattle.std.proofs.Common.{◌≡◌, inl, inr, ℕ, zero, suc, ◌+◌, ◌<◌, ◌≤◌, ◌==◌, Bool, true, false, List, [], ◌∷◌, ◌++◌, map, length, take, drop, get_or, refl, sym, ap, subst, ◌∙◌, arith, append_assoc, length-append, filter, bytes_eq, Option, Some, None, Result, Ok, Err}
-use Rattle.std.specs.Prelude.{IsErrAnd, if◌then◌else◌, nat_le}
+use Rattle.std.specs.Prelude.{IsErrAnd, ◌&&◌, if◌then◌else◌, nat_le}
 use Rattle.std.specs.List.{list_all}
 use Rattle.std.proofs.lemmas.List.{append-nil, take_all}
 use Rattle.std.proofs.lemmas.List.Elements.{All-nil, All-cons}
@@ -31,7 +31,7 @@ use Rattle.smk_world.specs.Requests.Request.{Look, ReadUpTo, ListFolder, Write, 
 use Rattle.smk_world.specs.Trees.{Path, Act, Each, among, folders_of, outs_of, is_folder_kind, is_path_text}
 use Rattle.smk_world.proofs.Devices.{acted_nothing, acted_call, acted_then, acted_as, looks_append, looks_nodes}
 use Rattle.smk_record.specs.declared.record.Member.{Member}
-use Rattle.smk_record.specs.Records.{record_of, is_valid, are_valid_members, are_none, is_earlier, are_rising}
+use Rattle.smk_record.specs.Records.{record_of, is_valid, are_valid_members, are_none, is_earlier, is_format, is_in_format, are_rising}
 use Rattle.smk_store_members.specs.declared.listed.Listed.{Listed}
 use Rattle.smk_store_members.specs.declared.listed.Listed.TheVariants.{Members, BadMember}
 use Rattle.smk_store_members.specs.Members.{IsOpenFolder, IsListed}
@@ -52,16 +52,17 @@ use Rattle.smk_job.proofs.Outs.{paths_same}
 
 -- ## Records with members
 
-pub last_true : (bs : List Bool) (b c : Bool) → list_all (λ (x : Bool). x) (bs ++ b ∷ []) ≡ true → c ≡ true → list_all (λ (x : Bool). x) (bs ++ c ∷ []) ≡ true
-last_true [] b c h k = both_true c true k refl
-last_true (x ∷ bs) b c h k = both_true x (list_all (λ (x : Bool). x) (bs ++ c ∷ [])) (and_first x (list_all (λ (x : Bool). x) (bs ++ b ∷ [])) h)
-    (last_true bs b c (and_second x (list_all (λ (x : Bool). x) (bs ++ b ∷ [])) h) k)
+-- another test in place of the last but one
+other_true : (bs : List Bool) (b c d : Bool) → list_all (λ (x : Bool). x) (bs ++ b ∷ d ∷ []) ≡ true → c ≡ true → list_all (λ (x : Bool). x) (bs ++ c ∷ d ∷ []) ≡ true
+other_true [] b c d h k = both_true c (d && true) k (and_second b (d && true) h)
+other_true (x ∷ bs) b c d h k = both_true x (list_all (λ (x : Bool). x) (bs ++ c ∷ d ∷ [])) (and_first x (list_all (λ (x : Bool). x) (bs ++ b ∷ d ∷ [])) h)
+    (other_true bs b c d (and_second x (list_all (λ (x : Bool). x) (bs ++ b ∷ d ∷ [])) h) k)
 
 -- a record without members is valid, and these are members: then so is the record with them
 pub valid_with : (k : Core) (p : Path) (members : List Member) → among (folders_of k.recipe) p ≡ true → is_valid (record_of p k.made k.recipe k.stamps []) ≡ true → are_valid_members p members ≡ true
     → is_valid (record_of p k.made k.recipe k.stamps members) ≡ true
 valid_with k p members folder valid good =
-    last_true
+    other_true
     ((length k.stamps == length (in_paths k.recipe))
     ∷ among (out_paths k.recipe) p
     ∷ nat_le 1 k.made
@@ -72,6 +73,7 @@ valid_with k p members folder valid good =
     ∷ [])
     (if among (folders_of k.recipe) p then are_valid_members p [] else are_none [])
     (if among (folders_of k.recipe) p then are_valid_members p members else are_none members)
+    (is_format 2 && list_all (is_in_format 2) k.stamps)
     valid
     (ap (λ (b : Bool). if b then are_valid_members p members else are_none members) folder ∙ good)
 

@@ -46,7 +46,14 @@ but_same done v w ks same h =
 
 seen_same : (ks : List Known) (v w : World) (p q : Path) → v.nodes ≡ w.nodes → IsSeen ks w p q → IsSeen ks v p q
 seen_same ks v w p q same h =
-    record { under = h.under; file = h.file; stands = ap (λ (ns : Path → NodeState). content_of (reading (ns q))) same ∙ h.stands; held = h.held }
+    record {
+      under = h.under;
+      file = h.file;
+      stands = ap (λ (ns : Path → NodeState). content_of (reading (ns q))) same ∙ h.stands;
+      stamp = h.stamp;
+      held = h.held;
+      same = h.same;
+    }
 
 unseen_same : (ks : List Known) (v w : World) (p : Path) → v.nodes ≡ w.nodes → AreUnseen ks v p → AreUnseen ks w p
 unseen_same ks v w p same h = λ q k. h q (seen_same ks v w p q same k)
@@ -120,7 +127,7 @@ module _ (act : Act) (w : World) (p : Path) (es : List Event) (follows : Follows
       }
 
   unseen_less : (gone : List Path) (ks : List Known) → AreUnseen ks w p → AreUnseen (without gone ks) w p
-  unseen_less gone ks h = λ q k. h q (record { under = k.under; file = k.file; stands = k.stands; held = inputs_left gone ks _ k.held })
+  unseen_less gone ks h = λ q k. h q (record { under = k.under; file = k.file; stands = k.stands; stamp = k.stamp; held = inputs_left gone ks _ k.held; same = k.same })
 
   forgotten_less : (gone : List Path) (ks : List Known) (r : Result Bool StoreFault) → is_stamp r ≡ false → HasForgotten ks p r w es → HasForgotten (without gone ks) p r w es
   forgotten_less gone ks (Ok k) h (unseen, later) = (unseen_less gone ks unseen, later)

@@ -1,14 +1,13 @@
 -- Times that were seen before: which paths are refused, each in its turn; and what is told of those that aren't.
-use Rattle.std.specs.Prelude.{ℕ, Bool, false, ◌&&◌, ◌||◌, not, List, [], ◌∷◌, ◌++◌, filter, bytes_eq, if◌then◌else◌, Option, Some, None}
+use Rattle.std.specs.Prelude.{ℕ, Bool, false, ◌&&◌, ◌||◌, not, List, [], ◌∷◌, ◌++◌, filter, ◌==◌, bytes_eq, if◌then◌else◌, Option, Some, None}
 use Rattle.std.specs.List.{list_any}
 use Rattle.smk_base.specs.Path.{is_at_or_under}
 use Rattle.smk_world.specs.World.{World}
 use Rattle.smk_world.specs.Trees.{Path, among}
 use Rattle.smk_record.specs.declared.record.Record.{Record}
 use Rattle.smk_record.specs.declared.record.Stamp.{Stamp}
-use Rattle.smk_record.specs.declared.record.Stamp.TheVariants.{Time}
 use Rattle.smk_record.specs.Reading.{record_in}
-use Rattle.smk_record.specs.Records.{same_stamp, stamped}
+use Rattle.smk_record.specs.Records.{source_time, stamped}
 use Rattle.smk_store.specs.declared.store.Kept.TheVariants.{Absent}
 use Rattle.smk_store.specs.Images.{Image, Content, file_at, core_at, is_known}
 use Rattle.smk_store.specs.Images as images
@@ -28,9 +27,13 @@ abbrev test_some : {A : Type 0} → (A → Bool) → Option A → Bool
 test_some test None = false
 test_some test (Some x) = test x
 
--- the record holds this time as the stamp of that source
+abbrev pub is_time : Option ℕ → ℕ → Bool
+is_time None t = false
+is_time (Some u) t = u == t
+
+-- the record holds this time of that source
 abbrev pub holds_time : Path → ℕ → Record → Bool
-holds_time q t r = list_any (λ (e : Path × Stamp). bytes_eq e.0 q && same_stamp e.1 (Time t)) (stamped r)
+holds_time q t r = list_any (λ (e : Path × Stamp). bytes_eq e.0 q && is_time (source_time e.1) t) (stamped r)
 
 -- a record that reads holds it
 abbrev pub is_time_held : Image → Path → ℕ → Bool

@@ -1,5 +1,5 @@
 -- A folder that came by calls is one of a history; so the laws of the call hold of the next call, with no premise on the folder.
-use Rattle.std.proofs.Common.{◌≡◌, true, List, [], ◌++◌, refl, sym, subst, ◌∙◌, Option, Some, None, Bool, false, not, ◌∷◌, ap, Result, Ok, Err, true≢false, ℕ}
+use Rattle.std.proofs.Common.{◌≡◌, ◌⊎◌, inl, inr, true, List, [], ◌++◌, refl, sym, subst, ◌∙◌, Option, Some, None, Bool, false, not, ◌∷◌, ap, Result, Ok, Err, true≢false, ℕ}
 use Rattle.std.proofs.lemmas.Option.{same_Some}
 use Rattle.smk_world.specs.declared.event.Event.{Event}
 use Rattle.smk_world.specs.World.{World, run, is_within}
@@ -9,10 +9,10 @@ use Rattle.smk_record.specs.Reading.{record_in}
 use Rattle.smk_record.proofs.Exact.{reads_records}
 use Rattle.smk_store.specs.Safety.{with_sources}
 use Rattle.smk_store.specs.Soundness.{Outside, SoundWorld}
-use Rattle.smk_store.specs.Trust.{Versions}
+use Rattle.smk_store.specs.Trust.{Versions, SumsDiffer}
 use Rattle.smk_laws_history.specs.Histories as histories
-use Rattle.smk_laws_history.specs.Histories.{History, IsCall}
-use Rattle.smk_laws_history.proofs.HistoryLaw.{every_world_sound}
+use Rattle.smk_laws_history.specs.Histories.{History, DifferInSums, IsCall, IsHeld}
+use Rattle.smk_laws_history.proofs.HistoryLaw.{every_world_sound, fewer_differ, on_left, versions_differ}
 use Rattle.smk_laws_history.proofs.HistoryListedRuns.{run_is_call}
 use Rattle.smk_report.specs.declared.fault.Fault.{Fault}
 use Rattle.smk_words_reading.specs.declared.asked.Asked.{Asked as Request}
@@ -41,7 +41,7 @@ use Rattle.smk_clean.proofs.Safe.{call_is_safe}
 use Rattle.smk_clean.proofs.Clean.{call_is_clean, call_leaves_none, none_forced}
 use Rattle.smk_whole.proofs.Calling.{call_is_complete}
 use Rattle.smk_whole.proofs.Working.{same_events}
-use Rattle.smk_laws_call.specs.Headline.{IsCalled, IsKeptCall, Came, Begin, Edit, Remove, Call, Keep, Crash, CrashKeeping, CameIsHistory, CameIsSound, Headline}
+use Rattle.smk_laws_call.specs.Headline.{IsCalled, IsKeptCall, Came, Begin, Edit, Remove, Call, Keep, Crash, CrashKeeping, HasHeld, SumsDifferIn, CameIsHistory, CameIsSound, Headline}
 use Rattle.smk_laws_call.specs.Started.{StartsOnFinished}
 use Rattle.smk_laws_call.proofs.Started.{runs_start_on_finished}
 use Rattle.smk_laws_call.proofs.Telling.{went_tells}
@@ -52,17 +52,17 @@ module _ (act : Act) where
 
   -- the events of a call in a sound folder keep it safe
   safe :
-      (w v : World) (H : Versions) (request : Request) (told : Option Fault) → SoundWorld o w H → IsCalled o request told w v →
+      (w v : World) (H : Versions) (request : Request) (told : Option Fault) → SumsDiffer H → SoundWorld o w H → IsCalled o request told w v →
       (es : List Event) × Follows o.act w es × (v ≡ run w es) × IsSafeCall o w H es × (told ≡ None → SoundWorld o v H)
-  safe w v H request told sound called =
-      call_is_safe o H request told w v called.old called.new called.out_old called.out_new called.begins called.ends reads_records sound called.served
+  safe w v H request told differ sound called =
+      call_is_safe o H request told w v called.old called.new called.out_old called.out_new called.begins called.ends reads_records differ sound called.served
 
   -- so it is a call that may stand in a history
   is_call :
-      (w v : World) (H : Versions) (request : Request) (told : Option Fault) → SoundWorld o w H → IsCalled o request told w v →
+      (w v : World) (H : Versions) (request : Request) (told : Option Fault) → SumsDiffer H → SoundWorld o w H → IsCalled o request told w v →
       (es : List Event) × (v ≡ run w es) × IsCall o w es [] true
-  is_call w v H request told sound called =
-      let s = safe w v H request told sound called in
+  is_call w v H request told differ sound called =
+      let s = safe w v H request told differ sound called in
       let p = s.3.follows_protocol in (s.0, s.2, run_is_call o w p.0 s.0 p.2.0 p.1 s.1 p.2.1)
 
   -- ## The lock, and what is known of paths
@@ -145,58 +145,91 @@ module _ (act : Act) where
             whole = λ quiet. ends.2 (quiet_call (Rose called.old.faults called.new.faults) (forgetting.is_device did.result) did.acted.cause.rose quiet);
           }
 
-  came : (w : World) (H : Versions) → Came act w H → History o w H
-  came w H (Begin v new) = histories.Begin v new
-  came w H (Edit v K p bytes time read_only before can later now left) =
-      histories.Go v _ K (came v K before) (histories.Edit p bytes time read_only can later now left)
-  came w H (Remove v K p before outer) = histories.Go v _ K (came v K before) (histories.Remove p outer)
-  came w H (Call v u K request told before called alone) =
-      let past = came v K before in
-      let call = is_call v u K request told (every_world_sound o v K past) called in
-      subst (λ (x : World). History o x (with_sources K (seen x))) (sym call.1)
-      (histories.Go v (run v call.0) K past (histories.Call call.0 [] call.2 (subst (λ (x : World). x.children ≡ []) call.1 alone)))
-  came w H (Keep v u K request told before called quiet alone) =
-      let past = came v K before in
-      let f = forgetting_of v u K request told (every_world_sound o v K past) called in
+  -- ## The history
+
+  -- a history, in which sources had no more than this
+  abbrev IsPast : World → Versions → (List ℕ → Type 0) → Type 0
+  IsPast w H Had = (past : History o w H) × ((a : List ℕ) → histories.HasHeld o w H past a → Had a)
+
+  differs_in : (w : World) (H : Versions) (Had : List ℕ → Type 0) → DifferInSums Had → (past : IsPast w H Had) → histories.SumsDifferIn o w H past.0
+  differs_in w H Had differ past = fewer_differ (histories.HasHeld o w H past.0) Had past.1 differ
+
+  sound_in : (w : World) (H : Versions) (Had : List ℕ → Type 0) → DifferInSums Had → IsPast w H Had → SumsDiffer H × SoundWorld o w H
+  sound_in w H Had differ past =
+      let apart = differs_in w H Had differ past in (versions_differ o w H past.0 apart, every_world_sound o w H past.0 apart)
+
+  past_of : (w : World) (H : Versions) (came : Came act w H) → SumsDifferIn act w H came → IsPast w H (HasHeld act w H came)
+  past_of _ _ (Begin v new) differ = (histories.Begin v new, λ a h. h)
+  past_of _ _ (Edit v K p bytes time read_only came can later now left) differ =
+      let before = past_of v K came (λ a b had has. differ a b (inl had) (inl has)) in
+      (histories.Go v _ K before.0 (histories.Edit p bytes time read_only can later now left), λ a. on_left (before.1 a))
+  past_of _ _ (Remove v K p came outer) differ =
+      let before = past_of v K came (λ a b had has. differ a b (inl had) (inl has)) in
+      (histories.Go v _ K before.0 (histories.Remove p outer), λ a. on_left (before.1 a))
+  past_of _ _ (Call v u K request told came called alone) differ =
+      let earlier : SumsDifferIn act v K came = λ a b had has. differ a b (inl had) (inl has) in
+      let before = past_of v K came earlier in
+      let sound = sound_in v K (HasHeld act v K came) earlier before in
+      let call = is_call v u K request told sound.0 sound.1 called in
+      subst (λ (x : World). IsPast x (with_sources K (seen x)) (λ a. HasHeld act v K came a ⊎ IsHeld (seen x) a)) (sym call.1) (
+        histories.Go v (run v call.0) K before.0 (histories.Call call.0 [] call.2 (subst (λ (x : World). x.children ≡ []) call.1 alone)),
+        λ a. on_left (before.1 a),
+      )
+  past_of _ _ (Keep v u K request told came called quiet alone) differ =
+      let earlier : SumsDifferIn act v K came = λ a b had has. differ a b (inl had) (inl has) in
+      let before = past_of v K came earlier in
+      let sound = sound_in v K (HasHeld act v K came) earlier before in
+      let f = forgetting_of v u K request told sound.1 called in
       let call = forgetting_is_call o v f.paths f.log f.stage f.follows f.forgets in
-      subst (λ (x : World). History o x (with_sources K (seen x))) (sym f.is)
-      (histories.Go v (run v f.log) K past
-      (histories.Call f.log f.paths (subst (IsCall o v f.log f.paths) (ap is_resting (f.whole quiet)) call) (subst (λ (x : World). x.children ≡ []) f.is alone)))
-  came w H (Crash v u K request told log events rest nodes before called is split left) =
-      let past = came v K before in
-      let call = is_call v u K request told (every_world_sound o v K past) called in
-      let same = same_events v log call.0 (sym is ∙ call.1) in
-      histories.Go v _ K past
-      (histories.Crash log events rest [] true nodes (subst (λ es. IsCall o v es [] true) (sym same) call.2) split left)
-  came w H (CrashKeeping v u K request told log events rest nodes before called is split left) =
-      let past = came v K before in
-      let f = forgetting_of v u K request told (every_world_sound o v K past) called in
+      subst (λ (x : World). IsPast x (with_sources K (seen x)) (λ a. HasHeld act v K came a ⊎ IsHeld (seen x) a)) (sym f.is) (
+        histories.Go v (run v f.log) K before.0
+            (histories.Call f.log f.paths (subst (IsCall o v f.log f.paths) (ap is_resting (f.whole quiet)) call) (subst (λ (x : World). x.children ≡ []) f.is alone)),
+        λ a. on_left (before.1 a),
+      )
+  past_of _ _ (Crash v u K request told log events rest nodes came called is split left) differ =
+      let earlier : SumsDifferIn act v K came = λ a b had has. differ a b (inl had) (inl has) in
+      let before = past_of v K came earlier in
+      let sound = sound_in v K (HasHeld act v K came) earlier before in
+      let call = is_call v u K request told sound.0 sound.1 called in
+      let same = same_events v log call.0 (sym is ∙ call.1) in (
+        histories.Go v _ K before.0
+            (histories.Crash log events rest [] true nodes (subst (λ es. IsCall o v es [] true) (sym same) call.2) split left),
+        λ a. on_left (before.1 a),
+      )
+  past_of _ _ (CrashKeeping v u K request told log events rest nodes came called is split left) differ =
+      let earlier : SumsDifferIn act v K came = λ a b had has. differ a b (inl had) (inl has) in
+      let before = past_of v K came earlier in
+      let sound = sound_in v K (HasHeld act v K came) earlier before in
+      let f = forgetting_of v u K request told sound.1 called in
       let call = forgetting_is_call o v f.paths f.log f.stage f.follows f.forgets in
-      let same = same_events v log f.log (sym is ∙ f.is) in
-      histories.Go v _ K past
-      (histories.Crash log events rest f.paths (is_resting f.stage) nodes (subst (λ es. IsCall o v es f.paths (is_resting f.stage)) (sym same) call) split left)
+      let same = same_events v log f.log (sym is ∙ f.is) in (
+        histories.Go v _ K before.0
+            (histories.Crash log events rest f.paths (is_resting f.stage) nodes (subst (λ es. IsCall o v es f.paths (is_resting f.stage)) (sym same) call) split left),
+        λ a. on_left (before.1 a),
+      )
 
 pub came_is_history : CameIsHistory
-came_is_history act w H before = came act w H before
+came_is_history act w H came differ =
+    let past = past_of act w H came differ in (past.0, differs_in act w H (HasHeld act w H came) differ past)
 
 pub came_is_sound : CameIsSound
-came_is_sound act w H before = every_world_sound (outside act) w H (came act w H before)
+came_is_sound act w H came differ = sound_in act w H (HasHeld act w H came) differ (past_of act w H came differ)
 
 pub headline : Headline
-headline act w v H words told before called =
+headline act w v H words told came differ called =
     record {
-      tells = went_tells (outside act) H w v sound reads_records words (none_forced words called.served.built) called.served.answer called.old called.new called.out_old called.out_new called.begins called.ends called.served.serves;
-      clean = call_is_clean run_leaves_all_clean (outside act) H words told w v called.old called.new called.out_old called.out_new called.begins called.ends reads_records sound called.served;
-      none_left = call_leaves_none run_leaves_all_clean (outside act) H words told w v called.old called.new called.out_old called.out_new called.begins called.ends reads_records sound called.served;
+      tells = went_tells (outside act) H w v sound.0 sound.1 reads_records words (none_forced words called.served.built) called.served.answer called.old called.new called.out_old called.out_new called.begins called.ends called.served.serves;
+      clean = call_is_clean run_leaves_all_clean (outside act) H words told w v called.old called.new called.out_old called.out_new called.begins called.ends reads_records sound.0 sound.1 called.served;
+      none_left = call_leaves_none run_leaves_all_clean (outside act) H words told w v called.old called.new called.out_old called.out_new called.begins called.ends reads_records sound.0 sound.1 called.served;
       finished = λ log is.
-          let s = safe act w v H (Run words) told sound called in
+          let s = safe act w v H (Run words) told sound.0 sound.1 called in
           let p = s.3.follows_protocol in
           let same = same_events w s.0 log (sym s.2 ∙ is) in
-          subst (StartsOnFinished (outside act) w) same (runs_start_on_finished (outside act) w H p.0 s.0 p.2.0 sound p.1 s.1 p.2.1);
+          subst (StartsOnFinished (outside act) w) same (runs_start_on_finished (outside act) w H p.0 s.0 p.2.0 sound.0 sound.1 p.1 s.1 p.2.1);
       complete = λ unrefused values never.
           call_is_complete act record_in words w v H told called.old called.new called.out_old called.out_new called.begins called.ends
-          (record { sound = sound; unrefused = unrefused; values = values }) never called.served;
+          (record { differ = sound.0; sound = sound.1; unrefused = unrefused; values = values }) never called.served;
     }
   where
-    sound : SoundWorld (outside act) w H
-    sound = came_is_sound act w H before
+    sound : SumsDiffer H × SoundWorld (outside act) w H
+    sound = came_is_sound act w H came differ

@@ -140,7 +140,7 @@ module _
   clean_later : (p : Path) → IsIn settings.targets p → is_current after_run settings nothing_done later p ≡ true → IsClean S after_run p
   clean_later p target current =
       let c =
-      current_means_clean_in_worlds flow o has_fields exit H settings nothing_done later.lists later sound_exit
+      current_means_clean_in_worlds flow o has_fields exit H settings nothing_done later.lists later sound_exit ran.differ
       (λ j f files there shut gathered told_so.
       absurd (subst (λ fs. IsIn fs f) (table.gathers_none later st_later is_later.states plain_later j (in_from later.jobs j there)) (in_from (gathers_from j) f gathered)))
       (Last later is_later none_new) refl (λ j there shut. fields j (subst (λ js. IsIn js j) jobs_same (in_from later.jobs j there))) p
@@ -204,7 +204,7 @@ module _
     rest_clean : IsClean S after_run p
     rest_clean =
         let c =
-        current_means_clean_in_worlds flow o has_fields entry H settings nothing_done [] plan ran.sound
+        current_means_clean_in_worlds flow o has_fields entry H settings nothing_done [] plan ran.sound ran.differ
         (λ j f files there shut_j gathered told_so.
         absurd (subst (λ fs. IsIn fs f) (table.gathers_none plan st ran.planned.states ran.plain j (in_from plan.jobs j there)) (in_from (gathers_from j) f gathered)))
         last refl (λ j there shut_j. fields j (in_from plan.jobs j there)) p (contains_from settings.targets p target) current_before in (

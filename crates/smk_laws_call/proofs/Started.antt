@@ -172,10 +172,10 @@ stamped_at P (p ∷ ps) (s ∷ ss) l h q (inl e) = (s, subst (λ x. P (x, s)) (s
 stamped_at P (p ∷ ps) (s ∷ ss) l h q (inr i) = stamped_at P ps ss (down (length ss) (length ps) l) h.1 q i
 
 pub runs_start_on_finished : RunsStartOnFinished
-runs_start_on_finished o entry H top log s sound is follows runs events rest e recipe logs command r split call =
+runs_start_on_finished o entry H top log s differ sound is follows runs events rest e recipe logs command r split call =
     let here = before_step o (at_entry o top) s entry events rest e (subst (λ es. Runs o (at_entry o top) entry es s) split runs) in
     let between =
-    holds_midway o entry H top events here.0 sound is (front_follows o entry events (e ∷ rest) (subst (Follows o.act entry) split follows)) here.1 in
+    holds_midway o entry H top events here.0 differ sound is (front_follows o entry events (e ∷ rest) (subst (Follows o.act entry) split follows)) here.1 in
     let job = for_job o recipe (run entry events) here.0 here.2.0 e here.2.1 (ap started_recipe call) in
     let fits = each_in (Fits o entry (eased here.0) here.0.top (run entry events)) here.0.jobs job.0 between.fits job.1 in
     subst (λ (x : Recipe). Each (IsFinished (seen o.read (run entry events))) (in_paths x)) job.2

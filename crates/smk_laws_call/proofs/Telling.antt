@@ -12,7 +12,7 @@ use Rattle.smk_store.specs.Images.{seen}
 use Rattle.smk_store.specs.Serials.{next_serial}
 use Rattle.smk_store.specs.Soundness.{Outside, SoundWorld}
 use Rattle.smk_store.specs.Steadying.{HasTried, steady_requests}
-use Rattle.smk_store.specs.Trust.{Versions}
+use Rattle.smk_store.specs.Trust.{Versions, SumsDiffer}
 use Rattle.smk_trigger.specs.declared.reason.State.{State}
 use Rattle.smk_trigger.specs.JobStates.{is_to_run}
 use Rattle.smk_pick.specs.declared.settings.Force.TheVariants.{No}
@@ -74,7 +74,7 @@ no_tally : Tally
 no_tally = record { started = 0; done = 0; failed = 0; first = None }
 
 module _
-    (o : Outside) (H : Versions) (w : World) (sound : SoundWorld o w H) (reads : ReadsRecords o.read) (words : RunWords) (free : words.force ≡ No)
+    (o : Outside) (H : Versions) (w : World) (differ : SumsDiffer H) (sound : SoundWorld o w H) (reads : ReadsRecords o.read) (words : RunWords) (free : words.force ≡ No)
     (asked : Asked) (told : Previewed) (to_serve : IsToServe o.read true words w asked told) where
   abbrev plan : Plan
   plan = plan_of told
@@ -86,24 +86,24 @@ module _
   st j = state_of (seen o.read w) settings nothing_done plan j
 
   planned : IsPlan asked.flow (seen o.read w) settings nothing_done plan
-  planned = clean.planned o H w sound reads words asked told to_serve
+  planned = clean.planned o H w differ sound reads words asked told to_serve
 
   plainly : Each IsPlain plan.jobs
-  plainly = clean.plainly o H w sound reads words asked told to_serve
+  plainly = clean.plainly o H w differ sound reads words asked told to_serve
 
   temps : Each (λ (j : Job). j.temps ≡ []) plan.jobs
   temps =
       no_temps asked.flow (seen o.read w) settings nothing_done plan (seen_is_complete o.read w sound.formed)
-      (clean.all_built o H w sound reads words asked told to_serve) planned
+      (clean.all_built o H w differ sound reads words asked told to_serve) planned
 
   -- ## Targets
 
   module _
       (v : World) (duties : List Duty) (ts : List Turn) (meant : AreWhatIsMeant told.jobs told.plan.states told.store duties) (fit : Each IsFit ts)
-      (r : IsTurnRun o H w sound reads words asked told to_serve v duties ts) (closed : Each (λ (t : Turn). is_closed t.course ≡ true) ts) (after : List Bool)
+      (r : IsTurnRun o H w differ sound reads words asked told to_serve v duties ts) (closed : Each (λ (t : Turn). is_closed t.course ≡ true) ts) (after : List Bool)
       (current : AreCurrent told.jobs.befores duties ts after) where
     abbrev ran : IsDueRun o w H asked.flow settings plan ts r.es
-    ran = clean.ran o H w sound reads words asked told to_serve v duties ts meant fit r
+    ran = clean.ran o H w differ sound reads words asked told to_serve v duties ts meant fit r
 
     abbrev RestsOrDone : Job → Type 0
     RestsOrDone k = (is_to_run (st k) ≡ false) ⊎ ((t : Turn) × IsIn ts t × (t.job ≡ k) × (is_done t.course ≡ true))
@@ -135,14 +135,14 @@ module _
     target_clean : (p : Path) → IsIn asked.targets p → is_current after (maker_in told.jobs.makers p) ≡ true → IsClean (setting_in o w asked.flow) (seen o.read v) p
     target_clean p target is =
         subst (λ (x : World). IsClean (setting_in o w asked.flow) (seen o.read x) p) (sym r.is)
-        (targets_clean o w H asked.flow settings plan ts r.es ran free temps closed (clean.fields o H w sound reads words asked told to_serve) to_serve.plan.last p target
+        (targets_clean o w H asked.flow settings plan ts r.es ran free temps closed (clean.fields o H w differ sound reads words asked told to_serve) to_serve.plan.last p target
         (rests_or_done p target is))
 
   -- ## The text
 
   tells_text :
       (v : World) (duties : List Duty) (ts : List Turn) (meant : AreWhatIsMeant told.jobs told.plan.states told.store duties) (fit : Each IsFit ts)
-      (r : IsTurnRun o H w sound reads words asked told to_serve v duties ts) (dues : List Due) (bad : Bool) (ended : Result Tally Fault) (answer : Answer) (text : Text) →
+      (r : IsTurnRun o H w differ sound reads words asked told to_serve v duties ts) (dues : List Due) (bad : Bool) (ended : Result Tally Fault) (answer : Answer) (text : Text) →
       IsRunOutcome asked.flow dues ts bad ended →
       IsText o.act asked.flow words.cores asked.targets told.jobs (next_serial told.store) duties ts ended answer text → Tells o words w v text
   tells_text v duties ts meant fit r dues bad (Err f) answer text outcome is =
@@ -171,8 +171,8 @@ module _
   goes_tells answer v old looked firm new p q settled bad at ends looking settling (NoMemory u is same unput) = put_nothing o words w v p q unput
   goes_tells answer v old looked firm new p q settled bad at ends looking settling (Made u duties for meant made) =
       let d = made.ran.did v ends in
-      let start = started o H w sound d.0 old looked firm (HasTried (steady_requests told.store) (Ok u)) bad at looking settling d.1 in
-      let run_is = turns_run o H w sound reads words asked told to_serve u d.0 v duties made.turns d.2.0 start made.in_order d.2.1 d.2.2 d.2.3 in
+      let start = started o H w differ sound d.0 old looked firm (HasTried (steady_requests told.store) (Ok u)) bad at looking settling d.1 in
+      let run_is = turns_run o H w differ sound reads words asked told to_serve u d.0 v duties made.turns d.2.0 start made.in_order d.2.1 d.2.2 d.2.3 in
       let fit = all_fit made.turns made.fits in
       λ now there.
       let x = made.text.told now there in (
@@ -186,11 +186,11 @@ module _
       )
 
 pub went_tells :
-    (o : Outside) (H : Versions) (w v : World) (sound : SoundWorld o w H) (reads : ReadsRecords o.read) (words : RunWords) (free : words.force ≡ No) (answer : Answer)
+    (o : Outside) (H : Versions) (w v : World) (differ : SumsDiffer H) (sound : SoundWorld o w H) (reads : ReadsRecords o.read) (words : RunWords) (free : words.force ≡ No) (answer : Answer)
     (old new : Device) (p q : Sunk) → old.world ≡ Some w → new.world ≡ Some v →
     Went o.act words.cores answer (IsRefusal o.read true words w) (IsToServe o.read true words w) old new p q → HasPutSo p q (Tells o words w v)
-went_tells o H w v sound reads words free answer old new p q at ends (Refused f is why looked) = put_nothing o words w v p q looked.unput
-went_tells o H w v sound reads words free answer old new p q at ends (Stopped f is want looked) = put_nothing o words w v p q looked.unput
-went_tells o H w v sound reads words free answer old new p q at ends (Worked asked told plans worked) =
-    goes_tells o H w sound reads words free asked told plans answer v old worked.looked worked.carried.firm new p q worked.carried.settled
+went_tells o H w v differ sound reads words free answer old new p q at ends (Refused f is why looked) = put_nothing o words w v p q looked.unput
+went_tells o H w v differ sound reads words free answer old new p q at ends (Stopped f is want looked) = put_nothing o words w v p q looked.unput
+went_tells o H w v differ sound reads words free answer old new p q at ends (Worked asked told plans worked) =
+    goes_tells o H w differ sound reads words free asked told plans answer v old worked.looked worked.carried.firm new p q worked.carried.settled
     (store_failed worked.carried.settled) at ends worked.looking worked.carried.settling worked.carried.goes_on

@@ -1,5 +1,5 @@
 -- What a run of the program gives, whatever has come before.
-use Rattle.std.specs.Prelude.{◌≡◌, ℕ, Bool, true, false, List, [], ◌++◌, Option, Some, None, Ok, IsTrue}
+use Rattle.std.specs.Prelude.{◌≡◌, ◌⊎◌, ℕ, Bool, true, false, List, [], ◌++◌, Option, Some, None, Ok, IsTrue}
 use Rattle.smk_base.specs.Path.{own_folder, is_at_or_under}
 use Rattle.smk_world.specs.declared.event.Node.TheVariants.{Regular}
 use Rattle.smk_world.specs.declared.event.Event.{Event}
@@ -10,10 +10,11 @@ use Rattle.smk_world.specs.Folders.{IsLeft}
 use Rattle.smk_world.specs.Trees.{Path, Act, Each, is_path_text}
 use Rattle.smk_record.specs.Reading.{record_in}
 use Rattle.smk_store.specs.Images.{is_source}
-use Rattle.smk_store.specs.Trust.{Versions}
+use Rattle.smk_store.specs.Trust.{Versions, SumsDiffer}
 use Rattle.smk_store.specs.Soundness.{Outside, EachImage, SoundWorld}
 use Rattle.smk_store.specs.Safety.{with_sources}
-use Rattle.smk_laws_history.specs.Histories.{History, IsNew, IsLater, can_stand, edited, removed, no_versions}
+use Rattle.smk_laws_history.specs.Histories as histories
+use Rattle.smk_laws_history.specs.Histories.{History, DifferInSums, IsHeld, IsNew, IsLater, can_stand, edited, removed, no_versions}
 use Rattle.smk_laws_complete.specs.Derived.{AllHaveValues}
 use Rattle.smk_report.specs.declared.fault.Fault.{Fault}
 use Rattle.smk_words_reading.specs.declared.asked.Asked.{Asked as Request}
@@ -91,12 +92,30 @@ pub data Came (act : Act) : World → Versions → Type 0 where
       v ≡ run w log →
       log ≡ events ++ rest → IsLeft (run w events) nodes → Came act (world_of nodes) (with_sources H (seen (world_of nodes)))
 
--- It is a folder of a history, and so it is sound for its versions.
+-- a source had these bytes in one of its worlds
+abbrev pub HasHeld : (act : Act) (w : World) (H : Versions) → Came act w H → List ℕ → Type 0
+HasHeld act _ _ (Begin w new) a = IsHeld (seen w) a
+HasHeld act _ _ (Edit w H p bytes time read_only came can later now left) a =
+    HasHeld act w H came a ⊎ IsHeld (seen (edited w p (Regular bytes time read_only))) a
+HasHeld act _ _ (Remove w H p came outer) a = HasHeld act w H came a ⊎ IsHeld (seen (removed w p)) a
+HasHeld act _ _ (Call w v H request told came called alone) a = HasHeld act w H came a ⊎ IsHeld (seen v) a
+HasHeld act _ _ (Keep w v H request told came called quiet alone) a = HasHeld act w H came a ⊎ IsHeld (seen v) a
+HasHeld act _ _ (Crash w v H request told log events rest nodes came called is split left) a = HasHeld act w H came a ⊎ IsHeld (seen (world_of nodes)) a
+HasHeld act _ _ (CrashKeeping w v H request told log events rest nodes came called is split left) a =
+    HasHeld act w H came a ⊎ IsHeld (seen (world_of nodes)) a
+
+-- No two different contents that sources had in its worlds have the same SHA-256: the one premise on SHA-256.
+abbrev pub SumsDifferIn : (act : Act) (w : World) (H : Versions) → Came act w H → Type 0
+SumsDifferIn act w H came = DifferInSums (HasHeld act w H came)
+
+-- It is a folder of a history in which these contents differ likewise, and so it is sound for its versions.
 abbrev pub CameIsHistory : Type 0
-CameIsHistory = (act : Act) (w : World) (H : Versions) → Came act w H → History (outside act) w H
+CameIsHistory =
+    (act : Act) (w : World) (H : Versions) (came : Came act w H) →
+    SumsDifferIn act w H came → (past : History (outside act) w H) × histories.SumsDifferIn (outside act) w H past
 
 abbrev pub CameIsSound : Type 0
-CameIsSound = (act : Act) (w : World) (H : Versions) → Came act w H → SoundWorld (outside act) w H
+CameIsSound = (act : Act) (w : World) (H : Versions) (came : Came act w H) → SumsDifferIn act w H came → SumsDiffer H × SoundWorld (outside act) w H
 
 -- What is so of a run.
 pub record RunGives (o : Outside) (words : RunWords) (told : Option Fault) (w v : World) (called : IsCalled o (Run words) told w v) : Type 0 where
@@ -113,8 +132,10 @@ pub record RunGives (o : Outside) (words : RunWords) (told : Option Fault) (w v 
       ((asked : Asked) → IsAskedIn true words w.nodes (Ok asked) → AllHaveValues (setting_in o.act o.read asked w) asked.targets) →
       (Rose called.old.faults called.new.faults → ⊥) → MayTell o.read true words w told
 
--- After any list of calls, edits of sources and of the workflow, failed jobs, removals and crashes, this is so of a run.
+-- After any list of calls, edits of sources and of the workflow, failed jobs, removals and crashes this is so of a run, if no two different
+-- contents that sources had meanwhile have the same SHA-256.
 abbrev pub Headline : Type 0
 Headline =
     (act : Act) (w v : World) (H : Versions) (words : RunWords) (told : Option Fault) →
-    Came act w H → (called : IsCalled (outside act) (Run words) told w v) → RunGives (outside act) words told w v called
+    (came : Came act w H) →
+    SumsDifferIn act w H came → (called : IsCalled (outside act) (Run words) told w v) → RunGives (outside act) words told w v called

@@ -9,7 +9,7 @@ use Rattle.smk_world.specs.Runs.{Follows}
 use Rattle.smk_world.specs.Trees.{Path, Each, kind_in}
 use Rattle.smk_record.specs.declared.record.Record.{Record}
 use Rattle.smk_store.specs.Images.{Image, seen, is_file, is_source, is_whole}
-use Rattle.smk_store.specs.Trust.{Versions, Speaks, none_eased}
+use Rattle.smk_store.specs.Trust.{Versions, SumsDiffer, Speaks, none_eased}
 use Rattle.smk_store.specs.Soundness.{Outside, SoundWorld}
 use Rattle.smk_laws_protocol.specs.Protocol.{RunState, Runs}
 use Rattle.smk_laws_protocol.specs.Midway.{IsTop, at_entry}
@@ -27,8 +27,8 @@ StartsOnFinished o w log =
     (events rest : List Event) (e : Event) (recipe : Recipe) (logs : List Path) (command : List ℕ) (r : Result ℕ Failed) →
     log ≡ events ++ e ∷ rest → e.call ≡ Started recipe logs command r → Each (IsFinished (seen o.read (run w events))) (in_paths recipe)
 
--- So it is of a run of the protocol from a sound folder.
+-- So it is of a run of the protocol from a folder that is sound for versions of which no two different contents have the same SHA-256.
 abbrev pub RunsStartOnFinished : Type 0
 RunsStartOnFinished =
     (o : Outside) (entry : World) (H : Versions) (top : ℕ) (log : List Event) (s : RunState) →
-    SoundWorld o entry H → IsTop o entry top → Follows o.act entry log → Runs o (at_entry o top) entry log s → StartsOnFinished o entry log
+    SumsDiffer H → SoundWorld o entry H → IsTop o entry top → Follows o.act entry log → Runs o (at_entry o top) entry log s → StartsOnFinished o entry log

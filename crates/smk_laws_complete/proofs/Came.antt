@@ -13,7 +13,7 @@ use Rattle.smk_flow.specs.declared.job.Job.{Job}
 use Rattle.smk_flow.specs.Flows.{Flow, Candidate, gathered_folders}
 use Rattle.smk_choose.specs.Choose.{choose, Source, Make}
 use Rattle.smk_store.specs.Images.{Image, is_source}
-use Rattle.smk_store.specs.Trust.{Versions, none_eased}
+use Rattle.smk_store.specs.Trust.{Versions, SumsDiffer, none_eased}
 use Rattle.smk_store.specs.Soundness.{Sound}
 use Rattle.smk_chain.specs.declared.jobs.Known.{Known}
 use Rattle.smk_chain.specs.Derive.{Listings, chosen, clashes, job, jobs, listing, recipe, sources_of, spots, walk}
@@ -208,12 +208,13 @@ module _
 
   -- ## Along the chain
 
-  module _ (valid : HasValidRecords image) (sound : Sound act H image none_eased) (alone : GathersAlone flow) (values : AllHaveValues S settings.targets) where
+  module _ (valid : HasValidRecords image) (differ : SumsDiffer H) (sound : Sound act H image none_eased) (alone : GathersAlone flow) (values : AllHaveValues S settings.targets) where
     -- a plan of the chain is one in whose image all is sound, with the right listings
     pub plan_rested : (plan : Plan) → IsPlan flow image settings progress plan → AllCame plan.lists → Rested flow act has_fields image H settings progress plan
     plan_rested plan is all =
         record {
           sound = sound_none image (is_restored image settings progress plan) (none_restored image settings progress plan idle) act H sound;
+          differ = differ;
           planned = planned;
           lists = λ j f files i shut g known. inl (all f files known).listed;
           fields = λ j i shut. fields j (in_from plan.jobs j i) shut;

@@ -9,7 +9,7 @@ use Rattle.smk_pattern.proofs.Names.{numbered_all}
 use Rattle.smk_flow.specs.declared.job.Job.{Job}
 use Rattle.smk_flow.specs.Flows.{rule_name}
 use Rattle.smk_store.specs.Images.{Image}
-use Rattle.smk_store.specs.Trust.{Versions, none_eased}
+use Rattle.smk_store.specs.Trust.{Versions, SumsDiffer, none_eased}
 use Rattle.smk_store.specs.Soundness.{Sound}
 use Rattle.smk_chain.specs.Derive.{Derived, Listings, Refusal, Refused, TooManyPaths, clashes, derivation, jobs, outcome, reach, refused_if, sources_of, spots}
 use Rattle.smk_chain.specs.Mean.{setting_of}
@@ -153,7 +153,7 @@ none_of (Some word) h = absurd (true≢false (sym h))
 
 module _
     (rules : Rules) (act : Act) (image : Image) (H : Versions) (progress : Progress) (f : Fault)
-    (alone : GathersAlone rules.flow) (complete : IsComplete image) (valid : HasValidRecords image) (sound : Sound act H image none_eased)
+    (alone : GathersAlone rules.flow) (complete : IsComplete image) (valid : HasValidRecords image) (differ : SumsDiffer H) (sound : Sound act H image none_eased)
     (idle : progress.running ≡ []) (values : AllHaveValues (setting_of rules.flow act (λ j. is_none (rules.missing j)) image) rules.settings.targets) where
   abbrev has_fields : Job → Bool
   has_fields j = is_none (rules.missing j)
@@ -182,7 +182,7 @@ module _
   known plan is came e h shut =
       let z = zip_in (state_of image rules.settings progress plan) plan.jobs e (subst (λ ss. In e (zip plan.jobs ss)) is.states h) in
       let rest =
-      plan_rested rules.flow act has_fields image H rules.settings progress (bound_fills_from numbered_all) complete idle valid sound alone values plan is came in
+      plan_rested rules.flow act has_fields image H rules.settings progress (bound_fills_from numbered_all) complete idle valid differ sound alone values plan is came in
       let state = subst (λ s. is_open s ≡ false) z.1 shut in
       let table =
       subst (λ o. is_open (while_running o (cond (is_open_now image rules.settings progress plan e.0) Open (by_reasons (reasons image rules.settings progress plan e.0) (is_to_restore image rules.settings progress plan e.0 && not (is_read_now image rules.settings progress plan e.0))))) ≡ false)
@@ -196,10 +196,10 @@ module _
       plan_stops rules image progress plan f (known plan is came) (subst (In f) (sym e) (inl refl))
   chain_stops L came comes (NextRefuses plan fault is none more later) =
       chain_stops (plan.lists ++ new_listings image rules.settings progress plan)
-      (next_came rules.flow act has_fields image H rules.settings progress (bound_fills_from numbered_all) complete idle valid sound alone values plan is came)
+      (next_came rules.flow act has_fields image H rules.settings progress (bound_fills_from numbered_all) complete idle valid differ sound alone values plan is came)
       (λ M to. comes M (Onward plan M is none more to)) later
 
 pub clean_targets_are_planned : CleanTargetsArePlanned
-clean_targets_are_planned rules act image H progress f alone complete valid sound idle values refuses =
-    chain_stops rules act image H progress f alone complete valid sound idle values []
-    (none_came rules.flow act (λ j. is_none (rules.missing j)) image H rules.settings progress (bound_fills_from numbered_all) complete idle valid sound alone values) (λ M to. to) refuses
+clean_targets_are_planned rules act image H progress f alone complete valid differ sound idle values refuses =
+    chain_stops rules act image H progress f alone complete valid differ sound idle values []
+    (none_came rules.flow act (λ j. is_none (rules.missing j)) image H rules.settings progress (bound_fills_from numbered_all) complete idle valid differ sound alone values) (λ M to. to) refuses

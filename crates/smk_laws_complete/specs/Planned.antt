@@ -5,7 +5,7 @@ use Rattle.smk_pattern.specs.Shapes.{Text}
 use Rattle.smk_flow.specs.declared.job.Job.{Job}
 use Rattle.smk_flow.specs.Flows.{Flow}
 use Rattle.smk_store.specs.Images.{Image}
-use Rattle.smk_store.specs.Trust.{Versions, none_eased}
+use Rattle.smk_store.specs.Trust.{Versions, SumsDiffer, none_eased}
 use Rattle.smk_store.specs.Soundness.{Sound}
 use Rattle.smk_chain.specs.Derive.{Listings}
 use Rattle.smk_chain.specs.Mean.{setting_of}
@@ -31,7 +31,7 @@ pub data MayStop (rules : Rules) (image : Image) (progress : Progress) : Fault �
   AboveLimit : (rule : Text) (path : Path) (name : Text) (asked bound : ℕ) → MayStop rules image progress (fault.AboveLimit rule path name asked bound)
   TooLong : (rule : Text) (bytes : ℕ) → MayStop rules image progress (fault.TooLong rule bytes)
 
--- In a sound image, while no child runs, nothing else is refused of the chain of plans that begins from no listing, where each target has a
+-- In an image that is sound for versions of which no two different contents have the same SHA-256, while no child runs, nothing else is refused of the chain of plans that begins from no listing, where each target has a
 -- clean value: listings that become known are right.
 abbrev pub CleanTargetsArePlanned : Type 0
 CleanTargetsArePlanned =
@@ -39,6 +39,7 @@ CleanTargetsArePlanned =
     GathersAlone rules.flow →
     IsComplete image →
     HasValidRecords image →
+    SumsDiffer H →
     Sound act H image none_eased →
     progress.running ≡ [] →
     AllHaveValues (setting_of rules.flow act (λ j. is_none (rules.missing j)) image) rules.settings.targets →

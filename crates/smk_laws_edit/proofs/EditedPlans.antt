@@ -11,7 +11,7 @@ use Rattle.smk_flow.specs.Flows.{Flow}
 use Rattle.smk_flow.specs.declared.job.Job.{Job}
 use Rattle.smk_record.specs.declared.record.Stamp.{Stamp}
 use Rattle.smk_store.specs.Images.{Image, is_whole}
-use Rattle.smk_store.specs.Trust.{holder, is_marked_but, stamp_now_but, time_stamp, unmarked_stamp_but}
+use Rattle.smk_store.specs.Trust.{holder, is_marked_but, stamp_now_but, source_stamp, unmarked_stamp_but}
 use Rattle.smk_chain.specs.Derive.{Listings, distinct}
 use Rattle.smk_pick.specs.declared.settings.Force.TheVariants.{No}
 use Rattle.smk_pick.specs.declared.settings.Force.{Force}
@@ -94,7 +94,7 @@ module _ (flow : Flow) (settings : Settings) (i : Image) (before : Plan) (p : Pa
 
       stamp_same : (left : Path → Bool) (q : Path) → bytes_eq q p ≡ false → stamp_now_but y left q ≡ stamp_now_but i left q
       stamp_same left q other =
-          λ n. if edited.known q n then time_stamp (if edited.known q n then edited.others q other n else None) else option_and_then (unmarked_stamp_but i left) (holder i q)
+          λ n. if edited.known q n then source_stamp (if edited.known q n then edited.others q other n else None) else option_and_then (unmarked_stamp_but i left) (holder i q)
 
       abbrev stamped : Image → (Path → Bool) → Path → Path × Option Stamp
       stamped image left q = (q, stamp_now_but image left q)

@@ -9,3 +9,5 @@ pub mod Waiting
 pub mod FirstStart
 pub mod StillReads
 pub mod Unbegun
+pub mod TouchedPlans
+pub mod Touched

@@ -1,6 +1,7 @@
-//! What is to be done after an edit.
+//! What is to be done after an edit, or after sources were touched.
 #![tactic(auto)]
 
+ghost use Rattle.smk_cli_target.specs.Thrift.{TouchedStartsNone};
 ghost use Rattle.smk_laws_edit.specs.Edited.{AfterEditOnlyDownstream, FirstStartIsDownstream};
 ghost use Rattle.smk_laws_edit.specs.Unbegun.{UnbegunStay};
 
@@ -21,4 +22,11 @@ pub fn first_start_is_downstream()
 /// long as no job that makes it has begun: so nothing makes a job Dirty by what concerns it alone but other stamps of its inputs.
 pub fn unbegun_stay()
     ensures { UnbegunStay }
+{}
+
+/// A touched source starts nothing. After a run that meets the contract and ended with status 0, sources of at most 1,048,576 bytes may get other
+/// times with the bytes that they have: a call with the same words that meets the contract starts no child, however it ends, where each record of
+/// an output tells such a source by its SHA-256, as runs write them. For the plan is the same, and by it every job is Clean.
+pub fn touched_starts_none()
+    ensures { TouchedStartsNone }
 {}

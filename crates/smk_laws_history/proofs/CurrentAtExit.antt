@@ -22,7 +22,7 @@ use Rattle.smk_drive.specs.Moments.{Rules, Moment, Begun, IsMoment, AtEntry, AtR
 use Rattle.smk_drive.specs.Refusals.{ChainRefuses, PlanRefuses, NextRefuses, refused_of, incomplete, guarded, above_limit, ahead, of_command}
 use Rattle.smk_world.specs.World.{reading}
 use Rattle.smk_world.specs.Trees.{Act}
-use Rattle.smk_store.specs.Trust.{Versions}
+use Rattle.smk_store.specs.Trust.{Versions, SumsDiffer}
 use Rattle.smk_store.specs.Soundness.{SoundWorld}
 use Rattle.smk_chain.specs.Mean.{setting_of}
 use Rattle.smk_drive.specs.Refusals.{PlansRefuse}
@@ -104,11 +104,11 @@ unrefused rules image progress L plan (Then p last is more rest) none =
 -- what the law asks, at a rest
 last_fields :
     (act : Act) (rules : Rules) (entry : World) (log : List Event) (m : Moment) (H : Versions) (plan : Plan) → IsMoment rules entry log m →
-    IsTrue (is_rest m.world m.begun) → m.plan ≡ Some plan → SoundWorld (record { read = rules.read; act = act }) m.world H →
+    IsTrue (is_rest m.world m.begun) → m.plan ≡ Some plan → SoundWorld (record { read = rules.read; act = act }) m.world H → SumsDiffer H →
     ((f : Fault) → ¬ PlansRefuse rules m f) →
     GathersRight (setting_of rules.flow act (λ j. is_none (rules.missing j)) (seen rules m.world)) (seen rules m.world) rules.settings (progress_of m.world m.begun) plan m.from →
     SoundPlan rules.flow act (λ j. is_none (rules.missing j)) (seen rules m.world) H rules.settings (progress_of m.world m.begun) m.from plan
-last_fields act rules entry log m H plan moment at_rest planned sound none listed =
+last_fields act rules entry log m H plan moment at_rest planned sound differ none listed =
     let image = seen rules m.world in
     let progress = progress_of m.world m.begun in
     let last = subst (IsInForce rules m.world m.begun m.from) planned (in_force rules entry log m moment at_rest) in
@@ -116,6 +116,7 @@ last_fields act rules entry log m H plan moment at_rest planned sound none liste
     let is = last_is rules.flow image rules.settings progress m.from plan last in
     record {
       sound = sound_none image (is_restored image rules.settings progress plan) (none_restored image rules.settings progress plan rest) act H sound.now;
+      differ = differ;
       complete = seen_is_complete rules.read m.world sound.formed;
       valid = records_valid rules.read m.world.names (λ q. reading (m.world.nodes q));
       listed = listed;
@@ -124,6 +125,6 @@ last_fields act rules entry log m H plan moment at_rest planned sound none liste
     }
 
 pub current_at_exit_is_clean : CurrentAtExitIsClean
-current_at_exit_is_clean act rules entry log m H plan moment at_rest planned sound none listed p inn current =
+current_at_exit_is_clean act rules entry log m H plan moment at_rest planned sound differ none listed p inn current =
     current_means_clean rules.flow act (λ j. is_none (rules.missing j)) (seen rules m.world) H rules.settings (progress_of m.world m.begun) m.from plan
-    (last_fields act rules entry log m H plan moment at_rest planned sound none listed) p inn current
+    (last_fields act rules entry log m H plan moment at_rest planned sound differ none listed) p inn current

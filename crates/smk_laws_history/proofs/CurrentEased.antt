@@ -7,7 +7,7 @@ use Rattle.smk_world.specs.Trees.{Path, Act, among}
 use Rattle.smk_record.specs.declared.record.Record.{Record}
 use Rattle.smk_flow.specs.declared.job.Job.{Job}
 use Rattle.smk_store.specs.Images.{Image}
-use Rattle.smk_store.specs.Trust.{Versions, none_eased, any_time, Clear, Chain, Link}
+use Rattle.smk_store.specs.Trust.{Versions, none_eased, any_source, Clear, Chain, Link}
 use Rattle.smk_store.specs.Soundness.{Sound}
 use Rattle.smk_trigger.specs.declared.reason.State.{State}
 use Rattle.smk_trigger.specs.JobStates.{is_restore}
@@ -32,7 +32,7 @@ module _ (image : Image) (left_out : Path → Bool) (none : (h : Path) → left_
   clear_none h r (reads, inl m) = (reads, inl m)
   clear_none h r (reads, inr e) = absurd (clash_of (left_out h) e.0 (none h))
 
-  chain_none : (r : Record) → Chain image (eased_by image left_out) any_time r → Chain image none_eased any_time r
+  chain_none : (r : Record) → Chain image (eased_by image left_out) any_source r → Chain image none_eased any_source r
   chain_none r (Link s place by times speaks chains) =
       Link s place by times
       (λ q m i. let k = speaks q m i in
@@ -43,7 +43,7 @@ module _ (image : Image) (left_out : Path → Bool) (none : (h : Path) → left_
   sound_none act H sound =
       record {
         has_sources = sound.has_sources;
-        has_recorded = sound.has_recorded;
+        has_recorded = λ p r q s clear i. sound.has_recorded p r q s (clear_none p r clear) i;
         holds = λ p r reads unmarked chain whole. sound.holds p r reads unmarked (chain_none r chain) whole;
         none_nested = sound.none_nested;
       }

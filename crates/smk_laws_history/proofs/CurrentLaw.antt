@@ -76,6 +76,7 @@ pub rested :
 rested flow act has_fields image H settings progress L plan rest =
     record {
       sound = rest.sound;
+      differ = rest.differ;
       planned = record {
         complete = rest.complete;
         valid = rest.valid;
@@ -97,11 +98,12 @@ current_means_clean flow act has_fields image H settings progress L plan rest p 
     (rested flow act has_fields image H settings progress L plan rest) p inn current
 
 pub current_means_clean_in_worlds : CurrentMeansCleanInWorlds
-current_means_clean_in_worlds flow o has_fields w H settings progress L plan sound listed last rest fields p inn current =
+current_means_clean_in_worlds flow o has_fields w H settings progress L plan sound differ listed last rest fields p inn current =
     current_means_clean flow o.act has_fields (seen o.read w) H settings progress L plan (record {
       sound =
           sound_none (seen o.read w) (is_restored (seen o.read w) settings progress plan) (none_restored (seen o.read w) settings progress plan rest)
           o.act H sound.now;
+      differ = differ;
       complete = seen_is_complete o.read w sound.formed;
       valid = records_valid o.read w.names (λ q. reading (w.nodes q));
       listed = listed;

@@ -13,15 +13,16 @@ use Rattle.smk_world.specs.World.{in_paths, out_paths, is_within, reading}
 use Rattle.smk_world.specs.Calls.{owned_now}
 use Rattle.smk_world.specs.Trees.{Path, Act, among, folders_of, kind_in}
 use Rattle.smk_record.specs.declared.record.Stamp.{Stamp}
-use Rattle.smk_record.specs.declared.record.Stamp.TheVariants.{Time, Made}
+use Rattle.smk_record.specs.declared.record.Stamp.TheVariants.{Made}
 use Rattle.smk_record.specs.declared.record.Record.{Record}
-use Rattle.smk_record.specs.Records.{agrees, stamped, core}
+use Rattle.smk_record.specs.Records.{agrees, is_of_source, stamped, core}
 use Rattle.smk_pattern.specs.Bound.{BoundFills}
 use Rattle.smk_flow.specs.declared.job.Job.{Job}
 use Rattle.smk_flow.specs.Flows.{Flow, Candidate}
 use Rattle.smk_choose.specs.Choose.{Source, Make, choose}
 use Rattle.smk_store.specs.Images.{Image, is_file, is_source, is_whole, core_at}
-use Rattle.smk_store.specs.Trust.{Eased, Versions, any_time, same_time, holder, is_marked_but, made_stamp, Clear, Speaks, Chain, Link, Trusted}
+use Rattle.smk_store.specs.Trust.{Eased, Versions, any_source, same_source, holder, is_marked_but, made_stamp, content_stamp, Clear, Speaks, Chain, Link, Trusted}
+use Rattle.smk_store.proofs.Versions.{made_source, serial_same, source_made}
 use Rattle.smk_chain.specs.Derive.{job, recipe, walk, sources_of, spots}
 use Rattle.smk_pick.specs.declared.settings.Settings.{Settings}
 use Rattle.smk_plan.specs.States.{Plan, Progress, gathers_from, is_ready, is_current, is_restored, is_whole_by, stands_whole, IsPlan, state_of, by_table, kept_state, while_running, test_some, job_path}
@@ -33,7 +34,7 @@ use Rattle.smk_laws_plan.proofs.CurrentReach.{reached_zero, reached_step, choice
 use Rattle.smk_laws_plan.proofs.CurrentChosen.{chosen_viable}
 use Rattle.smk_laws_plan.proofs.CurrentFills.{bound_fills_from}
 use Rattle.smk_pattern.proofs.Names.{numbered_all}
-use Rattle.smk_laws_plan.proofs.CurrentMeaning.{in_from, source_chosen, source_file, source_stamp, source_stamp_but, time_made, made_inj, contains_from}
+use Rattle.smk_laws_plan.proofs.CurrentMeaning.{in_from, source_chosen, source_file, source_stamp, source_stamp_but, contains_from}
 use Rattle.smk_laws_plan.proofs.CurrentRecipes.{inputs_wanted}
 use Rattle.smk_laws_plan.proofs.CurrentProducts.{Planned, ReachedHere, Quiet, Product, quiet_product, quiet_input, ready_quiet, ready_whole, ready_parts, own_outputs, member_over, not_restored, core_reads, in_plan_here, maker_clean}
 use Rattle.smk_laws_history.proofs.CurrentLaw.{last_is}
@@ -50,16 +51,16 @@ use Rattle.smk_trigger.specs.JobStates.{is_clean, is_restore}
 -- ## Chains
 
 -- a chain whose sources are as recorded is a chain
-loosen : (image : Image) (e : Eased) (r : Record) → Chain image e (same_time image) r → Chain image e any_time r
+loosen : (image : Image) (e : Eased) (r : Record) → Chain image e (same_source image) r → Chain image e any_source r
 loosen image e r (Link s place by times speaks chains) =
-    Link s place by (λ q t i. tt) speaks (λ q m i. loosen image e (by q m) (chains q m i))
+    Link s place by (λ q s i k. tt) speaks (λ q m i. loosen image e (by q m) (chains q m i))
 
 pub trusted_holds : TrustedHolds
 trusted_holds act H image restored sound p r trusted unmarked reads whole =
     let same : trusted.0 ≡ r = some_inj trusted.0 r (sym trusted.1.0 ∙ reads) in
     sound.holds p r reads unmarked
     (loosen image (eased_by image (among restored)) r
-    (subst (Chain image (eased_by image (among restored)) (same_time image)) same trusted.2)) whole
+    (subst (Chain image (eased_by image (among restored)) (same_source image)) same trusted.2)) whole
 
 module _ (image : Image) (e : Eased) where
   abbrev or_here : Option Path → Path
@@ -76,11 +77,11 @@ module _ (image : Image) (e : Eased) where
     by : Record
     speaks : Speaks image e q place by
     serial : m ≡ by.made
-    chain : Chain image e (same_time image) by
+    chain : Chain image e (same_source image) by
 
   chain_make :
-      (r : Record) → ((q : Path) (t : ℕ) → In (q, Time t) (stamped r) → same_time image q t) →
-      ((q : Path) (m : ℕ) → In (q, Made m) (stamped r) → Spoken q m) → Chain image e (same_time image) r
+      (r : Record) → ((q : Path) (s : Stamp) → In (q, s) (stamped r) → is_of_source s ≡ true → same_source image q s) →
+      ((q : Path) (m : ℕ) → In (q, Made m) (stamped r) → Spoken q m) → Chain image e (same_source image) r
   chain_make r times h =
       Link r (λ q m. or_here (holder image q)) (λ q m. record_or r (core_at image (or_here (holder image q)))) times
       (λ q m i. let s = h q m i in
@@ -90,7 +91,7 @@ module _ (image : Image) (e : Eased) where
         subst (λ (w : Record). agrees (Made m) (made_stamp (Some w)) ≡ true) same (eq-eqb m s.by.made s.serial),
       ))
       (λ q m i. let s = h q m i in
-      subst (Chain image e (same_time image)) (read q s.place s.by (found q s.place s.speaks.holder) s.speaks.clear.0) s.chain)
+      subst (Chain image e (same_source image)) (read q s.place s.by (found q s.place s.speaks.holder) s.speaks.clear.0) s.chain)
     where
       found : (q p : Path) → holder image q ≡ Some p → p ≡ or_here (holder image q)
       found q p f = sym (ap or_here f)
@@ -139,26 +140,26 @@ module _
       go true x false y z = absurd (true≢false z)
 
   abbrev TrustedBefore : ℕ → Type 0
-  TrustedBefore n = (q : Path) (c : Candidate) (h : Path) (r : Record) → comes n q → product c q h r → quiet c → Chain image e (same_time image) (core r)
+  TrustedBefore n = (q : Path) (c : Candidate) (h : Path) (r : Record) → comes n q → product c q h r → quiet c → Chain image e (same_source image) (core r)
 
-  same_times :
+  same_now :
       (n : ℕ) (p : Path) (c : Candidate) (h : Path) (r : Record) → comes (suc n) p → product c p h r → quiet c →
-      (q : Path) (t : ℕ) → In (q, Time t) (stamped r) → same_time image q t
-  same_times n p c h r reached made calm q t k =
-      let here = input_here n p c h r q (Time t) reached made k in
+      (q : Path) (s : Stamp) → In (q, s) (stamped r) → is_of_source s ≡ true → same_source image q s
+  same_now n p c h r reached made calm q s k source =
+      let here = input_here n p c h r q s reached made k in
       go here.0 here.1 (choice_known flow (sources_of image) plan.lists n q here.1.calm)
     where
-      go : In q (in_paths (recipe flow plan.lists c)) → comes n q → (choose flow (sources_of image) q ≡ Source) ⊎ ((d : Candidate) × (choose flow (sources_of image) q ≡ Make d)) → same_time image q t
-      go inn below (inl s) =
-          let is = source_chosen flow (sources_of image) q s in
+      go : In q (in_paths (recipe flow plan.lists c)) → comes n q → (choose flow (sources_of image) q ≡ Source) ⊎ ((d : Candidate) × (choose flow (sources_of image) q ≡ Make d)) → same_source image q s
+      go inn below (inl x) =
+          let is = source_chosen flow (sources_of image) q x in
           let f = source_file image q is in
           let now = source_stamp image q f.0 is f.1 in
-          let same = made.agrees q (Time t) (Time f.0.time) k (source_stamp_but image left_out q f.0 is f.1) in
-          subst (λ o. agrees (Time t) o ≡ true) (sym now) (subst (λ s. agrees s (Some (Time f.0.time)) ≡ true) (sym same) (eq-eqb f.0.time f.0.time refl))
+          let same = made.agrees q s (content_stamp f.0) k (source_stamp_but image left_out q f.0 is f.1) in
+          subst (λ o. agrees s o ≡ true) (sym now) same
       go inn below (inr d) =
           let quiet_d = quiet_input flow act has_fields image H settings progress plan fills rest n p c q d.0 reached made.chosen calm inn d.1 in
           let from = quiet_product flow act has_fields image H settings progress plan fills rest n q d.0 below d.1 quiet_d in
-          absurd (time_made t from.1.made (made.agrees q (Time t) (Made from.1.made) k from.2.stamp))
+          absurd (source_made s from.1.made source (made.agrees q s (Made from.1.made) k from.2.stamp))
 
   spoken :
       (n : ℕ) → TrustedBefore n → (p : Path) (c : Candidate) (h : Path) (r : Record) → comes (suc n) p → product c p h r → quiet c →
@@ -171,7 +172,7 @@ module _
       go inn below (inl x) =
           let is = source_chosen flow (sources_of image) q x in
           let f = source_file image q is in
-          absurd (time_made f.0.time s (sym (made.agrees q (Made s) (Time f.0.time) k (source_stamp_but image left_out q f.0 is f.1))))
+          absurd (made_source s f.0 (made.agrees q (Made s) (content_stamp f.0) k (source_stamp_but image left_out q f.0 is f.1)))
       go inn below (inr d) =
           let quiet_d = quiet_input flow act has_fields image H settings progress plan fills rest n p c q d.0 reached made.chosen calm inn d.1 in
           let from = quiet_product flow act has_fields image H settings progress plan fills rest n q d.0 below d.1 quiet_d in
@@ -184,14 +185,14 @@ module _
               holder = product.holds;
               clear = cleared from.0 (core from.1) (core_reads image from.0 from.1 product.reads) product.unmarked;
             };
-            serial = made_inj s from.1.made (made.agrees q (Made s) (Made from.1.made) k product.stamp);
+            serial = serial_same s from.1.made (made.agrees q (Made s) (Made from.1.made) k product.stamp);
             chain = ih q d.0 from.0 from.1 below product quiet_d;
           }
 
   trusted_at : (n : ℕ) → TrustedBefore n
   trusted_at zero q c h r reached made calm = absurd (reached_zero flow (sources_of image) plan.lists walked q c reached made.chosen)
   trusted_at (suc n) q c h r reached made calm =
-      chain_make image e (core r) (same_times n q c h r reached made calm) (spoken n (trusted_at n) q c h r reached made calm)
+      chain_make image e (core r) (same_now n q c h r reached made calm) (spoken n (trusted_at n) q c h r reached made calm)
 
   -- ## Inputs
 

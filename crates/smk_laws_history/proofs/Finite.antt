@@ -1,5 +1,5 @@
 -- A folder after a copy is sound, by a finite check of its nodes and records.
-use Rattle.std.proofs.Common.{◌≡◌, ◌⊎◌, ℕ, Bool, true, false, cond, List, [], ◌∷◌, Option, Some, None, refl, sym, ap, subst, ◌∙◌, inl, inr, IsTrue, IsSome, bytes_eq}
+use Rattle.std.proofs.Common.{◌≡◌, ◌⊎◌, Bool, true, false, cond, List, [], ◌∷◌, Option, Some, None, refl, sym, ap, subst, ◌∙◌, inl, inr, IsTrue, IsSome, bytes_eq}
 use Rattle.std.specs.Prelude.{option_map}
 use Rattle.smk_base.specs.Path.{overlaps}
 use Rattle.smk_base.proofs.Places.{same_place}
@@ -8,12 +8,11 @@ use Rattle.smk_world.specs.declared.event.Node.TheVariants.{Regular, Directory}
 use Rattle.smk_world.specs.World.{Nodes, node_in}
 use Rattle.smk_world.specs.Trees.{Path, Act, IsIn, Each, kind_in}
 use Rattle.smk_record.specs.declared.record.Stamp.{Stamp}
-use Rattle.smk_record.specs.declared.record.Stamp.TheVariants.{Time, Made}
 use Rattle.smk_record.specs.declared.record.Record.{Record}
 use Rattle.smk_record.specs.Records.{core, stamped}
 use Rattle.smk_store.specs.declared.store.Kept.TheVariants.{Held}
 use Rattle.smk_store.specs.Images.{Image, Content, content_of, readable, is_source, source_at, core_at, is_whole}
-use Rattle.smk_store.specs.Trust.{Versions, none_eased}
+use Rattle.smk_store.specs.Trust.{Versions, HasVersion, none_eased}
 use Rattle.smk_store.specs.Soundness.{Sound, Holds}
 use Rattle.smk_chain.proofs.Folders.{image_with, kept_in}
 
@@ -76,8 +75,7 @@ module _ (act : Act) (H : Versions) (nodes : Nodes) (records : List Record) wher
   NodeHolds (p, Regular bytes time read_only) = IsTrue (is_source here p) → H p time ≡ Some bytes
 
   abbrev StampHolds : Path × Stamp → Type 0
-  StampHolds (q, Time t) = IsSome (H q t)
-  StampHolds (q, Made m) = Unit {0}
+  StampHolds (q, s) = HasVersion H q s
 
   abbrev IsAlone : Record → Record → Type 0
   IsAlone r s = IsTrue (overlaps r.path s.path) → r.path ≡ s.path
@@ -97,11 +95,11 @@ module _ (act : Act) (H : Versions) (nodes : Nodes) (records : List Record) wher
       go false is k = none_some f k
 
   stamp_holds :
-      Each RecordHolds records → (p : Path) (r : Record) (q : Path) (t : ℕ) → core_at here p ≡ Some r → IsIn (stamped r) (q, Time t) → IsSome (H q t)
-  stamp_holds all p r q t h k =
+      Each RecordHolds records → (p : Path) (r : Record) (q : Path) (s : Stamp) → core_at here p ≡ Some r → IsIn (stamped r) (q, s) → HasVersion H q s
+  stamp_holds all p r q s h k =
       let from = record_from records p r h in
       let each : Each StampHolds (stamped r) = subst (λ (x : Record). Each StampHolds (stamped x)) from.3 (each_in RecordHolds records all from.0 from.1).stamps in
-      each_in StampHolds (stamped r) each (q, Time t) k
+      each_in StampHolds (stamped r) each (q, s) k
 
   value_holds :
       Each RecordHolds records → (p : Path) (r : Record) → core_at here p ≡ Some r → IsTrue (is_whole here p (kind_in r.recipe p)) → Holds act H here p
@@ -132,7 +130,7 @@ module _ (act : Act) (H : Versions) (nodes : Nodes) (records : List Record) wher
   sound_by nodes_hold records_hold =
       record {
         has_sources = source_holds nodes_hold;
-        has_recorded = λ p r q t h unmarked k. stamp_holds records_hold p r q t h k;
+        has_recorded = λ p r q s clear k. stamp_holds records_hold p r q s clear.0 k;
         holds = λ p r h unmarked chain whole. value_holds records_hold p r h whole;
         none_nested = alone_holds records_hold;
       }

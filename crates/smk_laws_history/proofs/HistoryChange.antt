@@ -1,5 +1,5 @@
 -- A change of some places that leaves them firm: from a sound world to a sound world.
-use Rattle.std.proofs.Common.{◌≡◌, ℕ, Bool, true, false, cond, ◌||◌, List, [], refl, sym, ap, subst, inl, inr, ◌∙◌, Option, Some, None, IsTrue, IsSome}
+use Rattle.std.proofs.Common.{◌≡◌, ℕ, Bool, true, false, cond, ◌||◌, List, [], refl, sym, ap, subst, inl, inr, ◌∙◌, Option, Some, None, IsTrue}
 use Rattle.std.specs.Prelude.{option_map, if◌then◌else◌, ◌==◌}
 use Rattle.std.proofs.lemmas.Bool.{eq-eqb, eqb-true}
 use Rattle.smk_base.specs.Path.{own_folder, is_at_or_under}
@@ -9,9 +9,9 @@ use Rattle.smk_world.specs.World.{World, Nodes, node_in, places_in, IsFormed, Le
 use Rattle.smk_world.specs.Calls.{owned_now}
 use Rattle.smk_world.specs.Trees.{Path, IsIn, kind_in}
 use Rattle.smk_world.proofs.Names.{adds_rising, not_added_any, reads_rising, reads_there, reads_may_stay, formed_image}
-use Rattle.smk_record.specs.declared.record.Stamp.TheVariants.{Time}
+use Rattle.smk_record.specs.declared.record.Stamp.{Stamp}
 use Rattle.smk_record.specs.declared.record.Record.{Record}
-use Rattle.smk_record.specs.Records.{stamped, core}
+use Rattle.smk_record.specs.Records.{source_time, stamped, core}
 use Rattle.smk_store.specs.Images.{Content, image_of, seen, stands, readable, source_at, record_at, core_at, is_whole, tree_now}
 use Rattle.smk_store.specs.Trust.{Versions, none_eased}
 use Rattle.smk_store.specs.Soundness.{Outside, Sound, SoundWorld, EachImage, SameSources, told}
@@ -93,14 +93,6 @@ put_same had t f h = go (f.time == t) refl
     go true e = sym (h (eqb-true f.time t e))
     go false e = refl
 
-put_grows : (had : Option (List ℕ)) (t : ℕ) (c : Option Content) → IsSome had → IsSome (or_put had t c)
-put_grows had t None h = h
-put_grows had t (Some f) h = go (f.time == t)
-  where
-    go : (b : Bool) → IsSome (cond b (Some f.bytes) had)
-    go true = refl
-    go false = h
-
 put_told : (had : Option (List ℕ)) (f : Content) (c : Option Content) → option_map told (Some f) ≡ option_map told c → or_put had f.time c ≡ Some f.bytes
 put_told had f None e = absurd (none_some (told f) (sym e))
 put_told had f (Some g) e =
@@ -179,9 +171,12 @@ module _ (o : Outside) (w w' : World) (H : Versions) (touched : Path → Bool) (
         }
 
   module _ (fit : IsFit o.read w w' touched there)
-      (later : (p : Path) (r : Record) (q : Path) (f : Content) → core_at (seen o.read w) p ≡ Some r → IsIn (stamped r) (q, Time f.time) → touched q ≡ true → there q ≡ Some f → ⊥) where
-    same_time : (p : Path) (r : Record) (q : Path) (t : ℕ) → core_at (seen o.read w) p ≡ Some r → IsIn (stamped r) (q, Time t) → next q t ≡ H q t
-    same_time p r q t at i = go (touched q) refl
+      (later :
+      (p : Path) (r : Record) (q : Path) (s : Stamp) (f : Content) →
+      core_at (seen o.read w) p ≡ Some r → IsIn (stamped r) (q, s) → source_time s ≡ Some f.time → touched q ≡ true → there q ≡ Some f → ⊥) where
+    same_time :
+        (p : Path) (r : Record) (q : Path) (s : Stamp) (t : ℕ) → core_at (seen o.read w) p ≡ Some r → IsIn (stamped r) (q, s) → source_time s ≡ Some t → next q t ≡ H q t
+    same_time p r q s t at i time = go (touched q) refl
       where
         untouched : (c : Option Content) → source_at (seen o.read w) q ≡ c → or_put (H q t) t c ≡ H q t
         untouched None e = refl
@@ -189,7 +184,7 @@ module _ (o : Outside) (w w' : World) (H : Versions) (touched : Path → Bool) (
 
         at_touched : touched q ≡ true → (c : Option Content) → there q ≡ c → or_put (H q t) t c ≡ H q t
         at_touched h None e = refl
-        at_touched h (Some f) e = put_same (H q t) t f (λ s. absurd (later p r q f at (subst (λ u. IsIn (stamped r) (q, Time u)) (sym s) i) h e))
+        at_touched h (Some f) e = put_same (H q t) t f (λ same. absurd (later p r q s f at i (time ∙ ap (λ n. Some n) (sym same)) h e))
 
         go : (b : Bool) → touched q ≡ b → or_put (H q t) t (source_at (seen o.read w') q) ≡ H q t
         go true e = ap (or_put (H q t) t) (fit.sources q e) ∙ at_touched e (there q) refl
@@ -200,8 +195,7 @@ module _ (o : Outside) (w w' : World) (H : Versions) (touched : Path → Bool) (
       sound_pair : Sound o.act H (seen o.read v) none_eased → Sound o.act next (seen o.read v') none_eased
       sound_pair s =
           sound_from o.act H next (seen o.read v) (seen o.read v') (kept_on v v' pair) (marked_on v v' pair) (noted_on v v' pair)
-          (λ p r q t at unmarked i. same_time p r q t (known p r at unmarked) i)
-          (λ q t h. put_grows (H q t) t (source_at (seen o.read w') q) h) s
+          (λ p r q s t at unmarked i time. same_time p r q s t (known p r at unmarked) i time) s
           (record {
             has_sources = λ q f e. put_told (H q f.time) f (source_at (seen o.read w') q) (ap (option_map told) (sym e) ∙ sources q);
             whole = fits.whole;

@@ -10,9 +10,9 @@ use Rattle.smk_world.specs.declared.event.NodeState.{NodeState}
 use Rattle.smk_world.specs.World.{World, IsFormed, reading, is_named, folders_above, firmly, world_of}
 use Rattle.smk_world.specs.Trees.{Path, IsIn, kind_in, is_path_text, is_text}
 use Rattle.smk_world.proofs.Names.{adds_rising, not_added_any, not_above, or_false}
-use Rattle.smk_record.specs.declared.record.Stamp.TheVariants.{Time}
+use Rattle.smk_record.specs.declared.record.Stamp.{Stamp}
 use Rattle.smk_record.specs.declared.record.Record.{Record}
-use Rattle.smk_record.specs.Records.{stamped, core}
+use Rattle.smk_record.specs.Records.{source_time, stamped, core}
 use Rattle.smk_store.specs.declared.store.Kept.{Kept}
 use Rattle.smk_store.specs.declared.store.Kept.TheVariants.{Absent, Unreadable, Held}
 use Rattle.smk_store.specs.Images.{Content, content_of, seen, stands, readable, is_outside, is_directory, is_known, is_covered, is_file, is_source, source_at, file_at, record_at, core_at}
@@ -189,8 +189,10 @@ module _ (o : Outside) (w : World) (p : Path) (bytes : List ℕ) (time : ℕ) (r
         time_there true f h = ap (λ (c : Content). c.time) (some_is file f h)
         time_there false f h = absurd (none_some f h)
 
-        is_later : (d : Path) (r : Record) (q : Path) (f : Content) → core_at (seen o.read w) d ≡ Some r → IsIn (stamped r) (q, Time f.time) → touched p file q ≡ true → there p file q ≡ Some f → ⊥
-        is_later d r q f at i h e = never f.time (later.than_records d r q f.time at i) (time_there (bytes_eq q p) f e)
+        is_later :
+            (d : Path) (r : Record) (q : Path) (s : Stamp) (f : Content) → core_at (seen o.read w) d ≡ Some r →
+            IsIn (stamped r) (q, s) → source_time s ≡ Some f.time → touched p file q ≡ true → there p file q ≡ Some f → ⊥
+        is_later d r q s f at i when h e = never f.time (later.than_records d r q s f.time at i when) (time_there (bytes_eq q p) f e)
 
     pub edit_lists : IsListed o w → IsListed o after
     edit_lists all =

@@ -20,7 +20,7 @@ use Rattle.smk_store.specs.Soundness.{SoundWorld}
 use Rattle.smk_store.specs.Safety.{with_sources}
 use Rattle.smk_laws_protocol.specs.Midway.{IsTop}
 use Rattle.smk_laws_protocol.proofs.OneJob.{outside, recipe, entry_tree, follows, runs}
-use Rattle.smk_laws_history.specs.Histories.{IsNew, IsCall, removed, no_versions, History, Begin, Go, Call as WholeCall, Crash, Remove}
+use Rattle.smk_laws_history.specs.Histories.{IsNew, IsCall, SumsDifferIn, removed, no_versions, History, Begin, Go, Call as WholeCall, Crash, Remove}
 use Rattle.smk_laws_history.proofs.HistoryLaw.{every_world_sound}
 use Rattle.smk_laws_history.proofs.HistoryListedRuns.{run_is_call}
 use Rattle.smk_laws_history.proofs.HistoryNew.{no_core}
@@ -101,6 +101,8 @@ copy_taken_away = Go copied _ _ (Go entry copied first (Begin entry entry_new) (
 pub cut_off : (nodes : Nodes) → IsLeft (run entry until_ended) nodes → History outside (world_of nodes) (with_sources first (seen outside.read (world_of nodes)))
 cut_off nodes left = Go entry (world_of nodes) first (Begin entry entry_new) (Crash log until_ended to_the_close [] true nodes copying refl left)
 
--- so the folder is sound in the end
-pub taken_away_sound : SoundWorld outside (removed copied (codes "out.txt")) (with_sources (with_sources first (seen outside.read copied)) (seen outside.read (removed copied (codes "out.txt"))))
+-- so the folder is sound in the end, when no two different contents of its sources have the same SHA-256
+pub taken_away_sound :
+    SumsDifferIn outside _ _ copy_taken_away →
+    SoundWorld outside (removed copied (codes "out.txt")) (with_sources (with_sources first (seen outside.read copied)) (seen outside.read (removed copied (codes "out.txt"))))
 taken_away_sound = every_world_sound outside _ _ copy_taken_away

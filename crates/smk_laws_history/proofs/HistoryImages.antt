@@ -1,5 +1,5 @@
 -- Soundness goes from an image to one with the same records, marks and notes, where whole outputs are as they were.
-use Rattle.std.proofs.Common.{◌≡◌, ◌⊎◌, ℕ, zero, suc, Bool, true, false, not, ◌&&◌, refl, sym, ap, subst, inl, inr, ◌∙◌, Option, Some, None, find, true≢false, IsTrue, IsSome}
+use Rattle.std.proofs.Common.{◌≡◌, ◌⊎◌, ℕ, zero, suc, Bool, true, false, not, ◌&&◌, refl, sym, ap, subst, inl, inr, ◌∙◌, Option, Some, None, find, true≢false, IsTrue}
 use Rattle.std.specs.Prelude.{reverse, option_map, if◌then◌else◌, is_some}
 use Rattle.std.specs.Option.{option_and_then}
 use Rattle.smk_base.specs.declared.tree.Tree.{Tree}
@@ -7,14 +7,15 @@ use Rattle.smk_base.specs.declared.tree.Tree.TheVariants.{File}
 use Rattle.smk_world.specs.World.{folders_above}
 use Rattle.smk_world.specs.Trees.{Path, Act, IsIn, kind_in, all_of, value_at, part_at}
 use Rattle.smk_record.specs.declared.record.Stamp.{Stamp}
-use Rattle.smk_record.specs.declared.record.Stamp.TheVariants.{Time, Made}
+use Rattle.smk_record.specs.declared.record.Stamp.TheVariants.{Time, Sum, Made}
 use Rattle.smk_record.specs.declared.record.Record.{Record}
-use Rattle.smk_record.specs.Records.{agrees, stamped, core}
+use Rattle.smk_record.specs.Records.{agrees, source_time, stamped, core}
 use Rattle.smk_store.specs.declared.store.Kept.{Kept}
 use Rattle.smk_store.specs.declared.store.Kept.TheVariants.{Absent, Unreadable, Held}
 use Rattle.smk_store.specs.Images.{Image, Content, stands, readable, is_known, is_covered, is_source, is_file, source_at, core_at, is_whole, tree_now}
-use Rattle.smk_store.specs.Trust.{Versions, none_eased, is_folder_record, holder, made_stamp, Speaks, Chain, Link, any_time, vouched, input_value, vir, made_at}
+use Rattle.smk_store.specs.Trust.{Versions, none_eased, is_folder_record, holder, made_stamp, Speaks, Chain, Link, any_source, vouched, input_value, vir, made_at}
 use Rattle.smk_store.specs.Soundness.{Sound}
+use Rattle.smk_store.proofs.Versions.{version_on}
 use Rattle.smk_laws_plan.proofs.CurrentLists.{or_left, or_right, and_right, not_true, any_none, find_in, clash_of}
 use Rattle.smk_laws_plan.proofs.CurrentPaths.{among_in}
 use Rattle.smk_laws_protocol.proofs.Chains.{map_same}
@@ -53,7 +54,9 @@ module _ (i : Image) where
 module _ (act : Act) (H H' : Versions) (i : Image) where
   -- what unmarked records tell of sources is the same in both versions
   abbrev pub SameTimes : Type 0
-  SameTimes = (p : Path) (r : Record) (q : Path) (t : ℕ) → core_at i p ≡ Some r → i.marked p ≡ false → IsIn (stamped r) (q, Time t) → H' q t ≡ H q t
+  SameTimes =
+      (p : Path) (r : Record) (q : Path) (s : Stamp) (t : ℕ) →
+      core_at i p ≡ Some r → i.marked p ≡ false → IsIn (stamped r) (q, s) → source_time s ≡ Some t → H' q t ≡ H q t
 
   -- The second image has its sources in the second versions; and of what is whole in it the first has the same.
   pub record IsFrom (y : Image) : Type 0 where
@@ -69,7 +72,7 @@ module _ (act : Act) (H H' : Versions) (i : Image) where
     speaks_back : (q h : Path) (r : Record) → Speaks then_image none_eased q h r → Speaks i none_eased q h r
     speaks_back q h r s = record { no_source = held_no_source i q h s.holder; holder = s.holder; clear = s.clear }
 
-    chain_back : (r : Record) → Chain then_image none_eased any_time r → Chain i none_eased any_time r
+    chain_back : (r : Record) → Chain then_image none_eased any_source r → Chain i none_eased any_source r
     chain_back _ (Link r place by times speaks chains) =
         Link r place by times (λ q m k. (speaks_back q (place q m) (by q m) (speaks q m k).0, (speaks q m k).1)) (λ q m k. chain_back (by q m) (chains q m k))
 
@@ -86,16 +89,17 @@ module _ (act : Act) (H H' : Versions) (i : Image) where
 
     -- the values of a record's inputs, where those of the records that speak for them are the same
     inputs_same : SameTimes → (n : ℕ) →
-        ((p : Path) (r : Record) → core_at i p ≡ Some r → i.marked p ≡ false → Chain i none_eased any_time r → vir then_image act H' n p ≡ vir i act H n p) →
-        (p : Path) (r : Record) → core_at i p ≡ Some r → i.marked p ≡ false → Chain i none_eased any_time r → (z : Path × Stamp) → IsIn (stamped r) z →
+        ((p : Path) (r : Record) → core_at i p ≡ Some r → i.marked p ≡ false → Chain i none_eased any_source r → vir then_image act H' n p ≡ vir i act H n p) →
+        (p : Path) (r : Record) → core_at i p ≡ Some r → i.marked p ≡ false → Chain i none_eased any_source r → (z : Path × Stamp) → IsIn (stamped r) z →
         input_value then_image H' (vir then_image act H' n) z ≡ input_value i H (vir i act H n) z
-    inputs_same times n ih p r at unmarked chain (q, Time t) k = ap (option_map File) (times p r q t at unmarked k)
+    inputs_same times n ih p r at unmarked chain (q, Time t) k = ap (option_map File) (times p r q (Time t) t at unmarked k refl)
+    inputs_same times n ih p r at unmarked chain (q, Sum t d) k = ap (option_map File) (times p r q (Sum t d) t at unmarked k refl)
     inputs_same times n ih p _ at unmarked (Link r place by all speaks chains) (q, Made m) k =
         let say = (speaks q m k).0 in
         made_of m q (vir i act H n) (vir then_image act H' n) (place q m)
         (ih (place q m) (by q m) say.clear.0 (unmarked_of (place q m) (by q m) say.clear.1) (chains q m k)) say.holder
 
-    vir_same : SameTimes → (n : ℕ) (p : Path) (r : Record) → core_at i p ≡ Some r → i.marked p ≡ false → Chain i none_eased any_time r → vir then_image act H' n p ≡ vir i act H n p
+    vir_same : SameTimes → (n : ℕ) (p : Path) (r : Record) → core_at i p ≡ Some r → i.marked p ≡ false → Chain i none_eased any_source r → vir then_image act H' n p ≡ vir i act H n p
     vir_same times zero p r at unmarked chain = refl
     vir_same times (suc n) p r at unmarked chain =
         ap (vouched act p (input_value then_image H' (vir then_image act H' n))) at
@@ -103,11 +107,12 @@ module _ (act : Act) (H H' : Versions) (i : Image) where
         (map_same (input_value then_image H' (vir then_image act H' n)) (input_value i H (vir i act H n)) (stamped r) (inputs_same times n (vir_same times n) p r at unmarked chain))
         ∙ sym (ap (vouched act p (input_value i H (vir i act H n))) at)
 
-    keeps : SameTimes → ((q : Path) (t : ℕ) → IsSome (H q t) → IsSome (H' q t)) → Sound act H i none_eased → IsFrom then_image → Sound act H' then_image none_eased
-    keeps times grown sound from =
+    keeps : SameTimes → Sound act H i none_eased → IsFrom then_image → Sound act H' then_image none_eased
+    keeps times sound from =
         record {
           has_sources = from.has_sources;
-          has_recorded = λ p r q t at unmarked k. grown q t (sound.has_recorded p r q t at unmarked k);
+          has_recorded = λ p r q s clear k.
+              version_on H H' q s (λ t time. sym (times p r q s t clear.0 (unmarked_of p r clear.1) k time)) (sound.has_recorded p r q s clear k);
           holds = λ p r at unmarked chain whole.
               let back = from.whole p r at unmarked whole in
               let before = chain_back r chain in
@@ -117,7 +122,7 @@ module _ (act : Act) (H H' : Versions) (i : Image) where
         }
 
   pub sound_from :
-      (y : Image) → i.kept ≡ y.kept → i.marked ≡ y.marked → i.noted ≡ y.noted → SameTimes → ((q : Path) (t : ℕ) → IsSome (H q t) → IsSome (H' q t)) →
+      (y : Image) → i.kept ≡ y.kept → i.marked ≡ y.marked → i.noted ≡ y.noted → SameTimes →
       Sound act H i none_eased → IsFrom y → Sound act H' y none_eased
-  sound_from y kept marked noted times grown sound =
-      subst (λ (z : Image). IsFrom z → Sound act H' z none_eased) (λ j. record y { kept = kept j; marked = marked j; noted = noted j }) (keeps y times grown sound)
+  sound_from y kept marked noted times sound =
+      subst (λ (z : Image). IsFrom z → Sound act H' z none_eased) (λ j. record y { kept = kept j; marked = marked j; noted = noted j }) (keeps y times sound)

@@ -300,9 +300,9 @@ forgetting_is_call o entry paths log s follows all =
       follows = follows;
       sound = forgetting_keeps_sound o entry paths log s follows all;
       listed = record {
-        throughout = λ H sound listed events rest split.
+        throughout = λ H differ sound listed events rest split.
             let part = front o paths Resting s entry events rest (subst (λ es. ForgetsAll o paths Resting entry es s) split all) in
             (lists_after o entry H paths events part.0 sound listed (front_follows o entry events rest (subst (Follows o.act entry) split follows)) part.1).after_crash;
-        at_exit = λ H sound listed resting alone. (lists_after o entry H paths log s sound listed follows all).now;
+        at_exit = λ H differ sound listed resting alone. (lists_after o entry H paths log s sound listed follows all).now;
       };
     }

@@ -11,7 +11,7 @@ use Rattle.smk_world.specs.Runs.{Follows}
 use Rattle.smk_world.specs.Trees.{IsIn}
 use Rattle.smk_world.proofs.Owners.{AreNumbered, numbered_after, numbered_image}
 use Rattle.smk_store.specs.Images.{image_of, seen}
-use Rattle.smk_store.specs.Trust.{Versions}
+use Rattle.smk_store.specs.Trust.{Versions, SumsDiffer}
 use Rattle.smk_store.specs.Soundness.{Outside, SoundWorld}
 use Rattle.smk_laws_protocol.specs.Protocol.{OpenJob, RunState, Marking, Runs, Done, Next, IsFirst, mark_places, as_ok}
 use Rattle.smk_laws_protocol.specs.Midway.{IsTop as ImageTop, at_entry}
@@ -76,7 +76,7 @@ who_failed : (o : Outside) (s : RunState) (w : World) (c : Call) → IsTrue (fai
 who_failed o s w c f (inl a) = inl (aside_failed o s w c f a)
 who_failed o s w c f (inr (k, i, a)) = inr (k, i, allows_failed o k c f a)
 
-module _ (o : Outside) (texts : Texts o.read) (entry : World) (H : Versions) where
+module _ (o : Outside) (texts : Texts o.read) (entry : World) (H : Versions) (differ : SumsDiffer H) where
   -- the state in which the call is allowed
   record Allowed (w : World) (c : Call) : Type 0 where
     state : RunState
@@ -89,7 +89,7 @@ module _ (o : Outside) (texts : Texts o.read) (entry : World) (H : Versions) whe
   allowed s w m e s' (Begin _ j top nf steady may serial h first) =
       record {
         state = record s { jobs = j ∷ s.jobs; top = top };
-        midway = opened o texts entry H s w j top m steady may serial h;
+        midway = opened o texts entry H s w j top m steady may serial h differ;
         who = inr (j, inl refl, first_allows o j e.call h first);
       }
   allowed s w m e s' (Go _ js ks j phase jobs may moves) =
@@ -103,7 +103,7 @@ module _ (o : Outside) (texts : Texts o.read) (entry : World) (H : Versions) whe
 
 -- ## Along a run
 
-module _ (o : Outside) (entry : World) (H : Versions) where
+module _ (o : Outside) (entry : World) (H : Versions) (differ : SumsDiffer H) where
   abbrev texts : Texts o.read
   texts = texts_of text_laws o.read
 
@@ -116,10 +116,10 @@ module _ (o : Outside) (entry : World) (H : Versions) where
   along s end w (e ∷ es) kept numbered follows (Next _ mid _ _ _ _ step runs) =
       let by = step_to o w s e mid step in
       let lets = answers o entry H s w kept.midway numbered e.call e.left (step_unowned o entry H s w kept.midway e mid by) follows.0.lets in
-      let by_whom = allowed o texts entry H s w kept.midway e mid by in
+      let by_whom = allowed o texts entry H differ s w kept.midway e mid by in
       along mid end (after w e) es
       (record {
-        midway = keeps o texts entry H s mid w e kept.midway lets by;
+        midway = keeps o texts entry H differ s mid w e kept.midway lets by;
         listed = listed_after o texts by_whom.state w (open_of o entry H by_whom.state w by_whom.midway) kept.listed e.call e.left lets by_whom.who;
       })
       (numbered_after o.act w e follows.0.lets numbered) follows.1 runs
@@ -167,9 +167,9 @@ run_is_call o entry top log s is follows runs =
       follows = follows;
       sound = keeps_sound o entry top log s is follows runs;
       listed = record {
-        throughout = λ H sound listed events rest split.
+        throughout = λ H differ sound listed events rest split.
             let part = front o (at_entry o top) s entry events rest (subst (λ es. Runs o (at_entry o top) entry es s) split runs) in
-            (lists_after o entry H sound listed top events part.0 is (front_follows o entry events rest (subst (Follows o.act entry) split follows)) part.1).after_crash;
-        at_exit = λ H sound listed to_the_end alone. (lists_after o entry H sound listed top log s is follows runs).now;
+            (lists_after o entry H differ sound listed top events part.0 is (front_follows o entry events rest (subst (Follows o.act entry) split follows)) part.1).after_crash;
+        at_exit = λ H differ sound listed to_the_end alone. (lists_after o entry H differ sound listed top log s is follows runs).now;
       };
     }

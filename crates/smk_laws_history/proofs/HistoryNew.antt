@@ -47,7 +47,7 @@ module _ (o : Outside) (w : World) (new : IsNew w) where
   sound_by names =
       record {
         has_sources = versions names;
-        has_recorded = λ p r q t at unmarked i. absurd (none_some r (sym (no_core names p) ∙ at));
+        has_recorded = λ p r q s clear i. absurd (none_some r (sym (no_core names p) ∙ clear.0));
         holds = λ p r at unmarked chain whole. absurd (none_some r (sym (no_core names p) ∙ at));
         none_nested = λ p q is also over. absurd (true≢false (sym (sym (ap is_some (no_core names p)) ∙ is)));
       }

@@ -236,7 +236,7 @@ module _ (o : Outside) (w : World) (p : Path) (H : Versions) (sound : SoundWorld
   remove_keeps =
       sound_change o w after H (touched p) (node p) (there p) sound change
       (fit p o.read w after pair (kept_pair w after pair) outside all.now)
-      (λ d r q f at i h e. none_some f e)
+      (λ d r q s f at i when h e. none_some f e)
       (λ nodes leaves.
       fit p o.read (world_of (old nodes leaves)) (world_of nodes) (images nodes leaves) (kept_pair (world_of (old nodes leaves)) (world_of nodes) (images nodes leaves)) outside (lists_old nodes leaves))
 

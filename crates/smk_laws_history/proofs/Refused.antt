@@ -13,11 +13,11 @@ use Rattle.smk_world.specs.declared.event.Besides.TheVariants.{Anything}
 use Rattle.smk_world.specs.World.{World, Nodes, Leaves, MayLeave, firmly, node_in}
 use Rattle.smk_world.specs.Trees.{Path, IsIn}
 use Rattle.smk_record.specs.declared.record.Stamp.{Stamp}
-use Rattle.smk_record.specs.declared.record.Stamp.TheVariants.{Time, Made}
+use Rattle.smk_record.specs.declared.record.Stamp.TheVariants.{Time, Sum, Made}
 use Rattle.smk_record.specs.declared.record.Record.{Record}
 use Rattle.smk_record.specs.Records.{stamped}
 use Rattle.smk_store.specs.Images.{Image, image_of}
-use Rattle.smk_store.specs.Trust.{none_eased, Chain, Link, any_time, Versions, Vir}
+use Rattle.smk_store.specs.Trust.{none_eased, Chain, Link, any_source, Versions, Vir}
 use Rattle.smk_store.specs.Soundness.{Outside, Sound, SoundWorld}
 use Rattle.smk_flow.proofs.Examples.{commands}
 use Rattle.smk_chain.proofs.Folders.{file, image_with}
@@ -25,12 +25,13 @@ use Rattle.smk_plan.proofs.Plans.{after_copy, copy_records}
 
 -- a record none of whose inputs was a product hangs together
 pub no_products :
-    (image : Image) (r : Record) → ((q : Path) (m : ℕ) → IsIn (stamped r) (q, Made m) → ⊥) → Chain image none_eased any_time r
+    (image : Image) (r : Record) → ((q : Path) (m : ℕ) → IsIn (stamped r) (q, Made m) → ⊥) → Chain image none_eased any_source r
 no_products image r none =
-    Link r (λ q m. q) (λ q m. r) (λ q t i. tt) (λ q m i. absurd (none q m i)) (λ q m i. absurd (none q m i))
+    Link r (λ q m. q) (λ q m. r) (λ q s i k. tt) (λ q m i. absurd (none q m i)) (λ q m i. absurd (none q m i))
 
 abbrev pub is_time : Path × Stamp → Bool
 is_time (q, Time t) = true
+is_time (q, Sum t d) = true
 is_time (q, Made m) = false
 
 pub one_time : (p : Path) (t : ℕ) (q : Path) (m : ℕ) → IsIn {A = Path × Stamp} ((p, Time t) ∷ []) (q, Made m) → ⊥
@@ -72,7 +73,7 @@ none_is : IsSome {T = List ℕ} None → ⊥
 none_is h = grind arith
 
 pub no_version_refused : Sound commands no_versions source_gone none_eased → ⊥
-no_version_refused sound = none_is (sound.has_recorded (codes "out.txt") _ (codes "in.txt") 1000 refl refl (inl refl))
+no_version_refused sound = none_is (sound.has_recorded (codes "out.txt") _ (codes "in.txt") (Time 1000) (refl, inl refl) (inl refl))
 
 -- ## Two records
 

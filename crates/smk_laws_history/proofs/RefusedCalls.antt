@@ -1,6 +1,6 @@
 -- Logs in a wrong order don't keep what a call has to keep: from a sound world they lead to one that isn't.
-use Rattle.std.proofs.Common.{◌≡◌, inl, inr, ap, true≢false, sym, subst, ◌∙◌}
-use Rattle.std.specs.Prelude.{Bool, true, false, [], codes, Option, Some, None, IsSome, refl, bytes_eq, length, nat_le, option_map, ◌&&◌, if◌then◌else◌}
+use Rattle.std.proofs.Common.{◌≡◌, ◌⊎◌, inl, inr, ap, true≢false, sym, subst, ◌∙◌}
+use Rattle.std.specs.Prelude.{ℕ, Bool, true, false, List, [], codes, Option, Some, None, IsSome, refl, bytes_eq, length, nat_le, option_map, ◌&&◌, ◌==◌, if◌then◌else◌}
 use Rattle.std.specs.List.Sorted.{IsStrictlySortedBy}
 use Rattle.smk_base.specs.Place.{record_place}
 use Rattle.smk_base.proofs.Places.{same_place}
@@ -12,7 +12,7 @@ use Rattle.smk_record.specs.declared.record.Record.{Record}
 use Rattle.smk_record.specs.Records.{core, is_valid}
 use Rattle.smk_store.specs.declared.store.Kept.TheVariants.{Absent, Unreadable, Held}
 use Rattle.smk_store.specs.Images.{Image, Content, content_of, image_of, is_outside, is_source, source_at, core_at, readable, for_path, kept_by}
-use Rattle.smk_store.specs.Trust.{none_eased, Versions}
+use Rattle.smk_store.specs.Trust.{none_eased, SumsDiffer, Versions}
 use Rattle.smk_store.specs.Soundness.{Sound}
 use Rattle.smk_store.specs.Safety.{KeepsSound}
 use Rattle.smk_flow.proofs.Examples.{commands}
@@ -77,13 +77,17 @@ module _ (nodes : Nodes) (H : Versions) where
   marked_sound sources is =
       record {
         has_sources = sources;
-        has_recorded = λ p r q t at unmarked i. absurd (marked p r at unmarked);
+        has_recorded = λ p r q s clear i. absurd (counts p r clear.0 clear.1);
         holds = λ p r at unmarked chain whole. absurd (marked p r at unmarked);
         none_nested = λ p q a b over. nested p q (core_at here p) refl a (core_at here q) refl b;
       }
     where
       marked : (p : Path) (r : Record) → core_at here p ≡ Some r → here.marked p ≡ false → ⊥
       marked p r at unmarked = true≢false (sym is ∙ subst (λ z. here.marked z ≡ false) (record_path nodes p r at) unmarked)
+
+      counts : (p : Path) (r : Record) → core_at here p ≡ Some r → (here.marked p ≡ false) ⊎ none_eased p r → ⊥
+      counts p r at (inl unmarked) = marked p r at unmarked
+      counts p r at (inr never) = never
 
       nested : (p q : Path) (a : Option Record) → core_at here p ≡ a → IsSome a → (b : Option Record) → core_at here q ≡ b → IsSome b → p ≡ q
       nested p q None e h b f k = absurd (true≢false (sym h))
@@ -137,13 +141,23 @@ recording_rises : IsRising (places_in recording)
 unfolding IsStrictlySortedBy
 recording_rises = ((refl, (refl, tt)), ((refl, tt), (tt, tt)))
 
+-- the versions have one content alone
+one_content : (a b : Bool) (x y : List ℕ) → (if a then Some (codes "hello\n") else None) ≡ Some x → (if b then Some (codes "hello\n") else None) ≡ Some y → x ≡ y
+one_content true true x y h k = some_is x y (sym h ∙ k)
+one_content false b x y h k = absurd (none_some x h)
+one_content true false x y h k = absurd (none_some y k)
+
+hello_differs : SumsDiffer hello_at
+hello_differs p q t u x y h k same =
+    one_content (bytes_eq p (codes "in.txt") && (t == 1000)) (bytes_eq q (codes "in.txt") && (u == 1000)) x y h k
+
 -- ## Logs that aren't calls
 
 -- the record was to be settled first
 pub record_unsettled_no_call : (to_the_end : Bool) → KeepsSound outside (world_of recording) unmarked_early [] to_the_end → ⊥
 record_unsettled_no_call to_the_end keeps =
     let sound = sound_image outside recording hello_at recording_rises (marked_sound recording hello_at recording_sources refl) in
-    elim ((keeps.safe hello_at sound unmarked_early [] refl no_record leaves_no_record).1 (codes "out.txt")) [
+    elim ((keeps.safe hello_at hello_differs sound unmarked_early [] refl no_record leaves_no_record).1 (codes "out.txt")) [
       | inl e ↦ some_is_none _ e
       | inr e ↦ true≢false (sym e.0)
     ]
@@ -153,6 +167,6 @@ pub anew_no_call : (to_the_end : Bool) → KeepsSound outside (world_of unfinish
 anew_no_call to_the_end keeps =
     let sound = sound_image outside unfinished hello_at unfinished_rises (marked_sound unfinished hello_at unfinished_sources refl) in
     let image = image_of outside.read torn in
-    let after = (keeps.safe hello_at sound marked_anew [] refl torn leaves_torn_anew).0 in
+    let after = (keeps.safe hello_at hello_differs sound marked_anew [] refl torn leaves_torn_anew).0 in
     let h = after.holds (codes "out.txt") _ refl refl (no_products image _ (one_time (codes "in.txt") 1000)) refl in
     differ h.0 h.1 h.2

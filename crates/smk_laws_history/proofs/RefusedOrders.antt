@@ -22,7 +22,7 @@ use Rattle.smk_record.specs.declared.record.Stamp.TheVariants.{Time, Made}
 use Rattle.smk_record.specs.declared.record.Record.{Record}
 use Rattle.smk_record.specs.Records.{agrees, stamped}
 use Rattle.smk_store.specs.Images.{Image, image_of}
-use Rattle.smk_store.specs.Trust.{none_eased, made_stamp, Speaks, Chain, Link, any_time, Versions}
+use Rattle.smk_store.specs.Trust.{none_eased, made_stamp, Speaks, Chain, Link, any_source, Versions}
 use Rattle.smk_store.specs.Soundness.{Sound, SoundWorld}
 use Rattle.smk_flow.proofs.Examples.{commands}
 use Rattle.smk_chain.proofs.Folders.{file, image_with, recorded}
@@ -224,9 +224,9 @@ edited_source p t = if bytes_eq p (codes "s") then (if t == 1 then Some (codes "
 -- a record with one product input hangs together where that product's record speaks, agrees and hangs together
 one_product :
     (image : Image) (r s : Record) (p : Path) (n : ℕ) → stamped r ≡ (p, Made n) ∷ [] → Speaks image none_eased p p s → IsTrue (agrees (Made n) (made_stamp (Some s))) →
-    Chain image none_eased any_time s → Chain image none_eased any_time r
+    Chain image none_eased any_source s → Chain image none_eased any_source r
 one_product image r s p n only speaks same chain =
-    Link r (λ q m. p) (λ q m. s) (λ q t i. tt) (λ q m i. by q m (subst (λ l. IsIn l (q, Made m)) only i)) (λ q m i. chain)
+    Link r (λ q m. p) (λ q m. s) (λ q s i k. tt) (λ q m i. by q m (subst (λ l. IsIn l (q, Made m)) only i)) (λ q m i. chain)
   where
     by : (q : Path) (m : ℕ) → IsIn {A = Path × Stamp} ((p, Made n) ∷ []) (q, Made m) → Speaks image none_eased q p s × IsTrue (agrees (Made m) (made_stamp (Some s)))
     by q m (inl e) = (subst (λ z. Speaks image none_eased z p s) (sym (ap (λ (x : Path × Stamp). x.0) e)) speaks, subst (λ z. IsTrue (agrees z (made_stamp (Some s)))) (sym (ap (λ (x : Path × Stamp). x.1) e)) same)

@@ -7,7 +7,7 @@ use Rattle.smk_world.proofs.Names.{formed_image}
 use Rattle.smk_world.proofs.Owners.{owned_image}
 use Rattle.smk_world.specs.Trees.{Path}
 use Rattle.smk_store.specs.Images.{image_of, seen}
-use Rattle.smk_store.specs.Trust.{Versions, none_eased}
+use Rattle.smk_store.specs.Trust.{Versions, SumsDiffer, none_eased}
 use Rattle.smk_store.specs.Soundness.{Outside, Sound, SoundWorld, SameSources, NoNewRecord, HasKnown}
 use Rattle.smk_store.specs.Safety.{KeepsSound, with_sources}
 use Rattle.smk_laws_history.proofs.Same.{leaves_same}
@@ -30,13 +30,13 @@ sound_image o nodes H rising sound =
 -- a crash after some events of a call
 pub crash_keeps :
     (o : Outside) (w : World) (H : Versions) (log events rest : List Event) (paths : List Path) (to_the_end : Bool) (nodes : Nodes) →
-    SoundWorld o w H → KeepsSound o w log paths to_the_end → log ≡ events ++ rest → Leaves (run w events) nodes →
+    SumsDiffer H → SoundWorld o w H → KeepsSound o w log paths to_the_end → log ≡ events ++ rest → Leaves (run w events) nodes →
     SoundWorld o (world_of nodes) (with_sources H (seen o.read (world_of nodes)))
-crash_keeps o w H log events rest paths to_the_end nodes sound call split leaves =
-    sound_image o nodes (with_sources H (image_of o.read nodes)) leaves.rising ((call.safe H sound events rest split nodes leaves).0)
+crash_keeps o w H log events rest paths to_the_end nodes differ sound call split leaves =
+    sound_image o nodes (with_sources H (image_of o.read nodes)) leaves.rising ((call.safe H differ sound events rest split nodes leaves).0)
 
 -- a whole call
 pub call_keeps :
     (o : Outside) (w : World) (H : Versions) (log : List Event) (paths : List Path) →
-    SoundWorld o w H → KeepsSound o w log paths true → (run w log).children ≡ [] → SoundWorld o (run w log) (with_sources H (seen o.read (run w log)))
-call_keeps o w H log paths sound call alone = call.sound_at_exit H sound refl alone
+    SumsDiffer H → SoundWorld o w H → KeepsSound o w log paths true → (run w log).children ≡ [] → SoundWorld o (run w log) (with_sources H (seen o.read (run w log)))
+call_keeps o w H log paths differ sound call alone = call.sound_at_exit H differ sound refl alone

@@ -4,11 +4,11 @@ use Rattle.smk_base.specs.Place.{record_place, mark_place, note_place, lock_plac
 use Rattle.smk_base.specs.declared.tree.Tree.TheVariants.{File}
 use Rattle.smk_world.specs.declared.event.Node.TheVariants.{Regular, Directory}
 use Rattle.smk_world.specs.World.{Nodes, world_of}
-use Rattle.smk_record.specs.declared.record.Stamp.TheVariants.{Time, Made}
+use Rattle.smk_record.specs.declared.record.Stamp.TheVariants.{Sum, Made}
 use Rattle.smk_record.specs.declared.record.Record.{Record}
 use Rattle.smk_store.specs.declared.store.Kept.TheVariants.{Absent, Unreadable}
 use Rattle.smk_store.specs.Images.{Image, image_of, seen, sources, is_covered, holds_source, is_whole_member, tree_now}
-use Rattle.smk_store.specs.Trust.{Versions, Vir, stamp_now}
+use Rattle.smk_store.specs.Trust.{Versions, Vir, stamp_now, sum_of}
 use Rattle.smk_flow.proofs.Examples.{commands}
 use Rattle.smk_chain.proofs.Folders.{image_with, file}
 use Rattle.smk_plan.proofs.Plans.{all_clustered, member_gone, copy_records}
@@ -60,7 +60,7 @@ reads_same = refl
 
 -- ## Stamps
 
-pub source_stamp : stamp_now all_clustered (codes "samples/a.txt") ≡ Some (Time 1)
+pub source_stamp : stamp_now all_clustered (codes "samples/a.txt") ≡ Some (Sum 1 (sum_of (codes "x\ny\nz\n")))
 source_stamp = refl
 
 pub product_stamp : stamp_now all_clustered (codes "post/a/2.txt") ≡ Some (Made 3)

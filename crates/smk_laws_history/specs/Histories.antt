@@ -1,5 +1,5 @@
 -- Histories: worlds that follow one another by calls, edits, removals and crashes.
-use Rattle.std.specs.Prelude.{◌≡◌, ◌<◌, ℕ, Bool, true, false, ◌&&◌, not, List, [], ◌∷◌, ◌++◌, bytes_eq, if◌then◌else◌, Option, Some, None, IsTrue}
+use Rattle.std.specs.Prelude.{◌≡◌, ◌⊎◌, ◌<◌, ℕ, Bool, true, false, ◌&&◌, not, List, [], ◌∷◌, ◌++◌, bytes_eq, if◌then◌else◌, Option, Some, None, IsTrue}
 use Rattle.std.specs.List.{list_all, filter}
 use Rattle.smk_base.specs.Path.{own_folder, is_under, is_at_or_under}
 use Rattle.smk_world.specs.declared.event.Node.{Node}
@@ -9,12 +9,12 @@ use Rattle.smk_world.specs.World.{World, Nodes, IsFormed, reading, run, world_of
 use Rattle.smk_world.specs.Folders.{IsTree, IsLeft}
 use Rattle.smk_world.specs.Runs.{Follows}
 use Rattle.smk_world.specs.Trees.{Path, IsIn, is_folder_kind, kind_in}
-use Rattle.smk_record.specs.declared.record.Stamp.TheVariants.{Time}
+use Rattle.smk_record.specs.declared.record.Stamp.{Stamp}
 use Rattle.smk_record.specs.declared.record.Member.{Member}
 use Rattle.smk_record.specs.declared.record.Record.{Record}
-use Rattle.smk_record.specs.Records.{stamped}
-use Rattle.smk_store.specs.Images.{Image, Content, seen, file_at, is_file, is_folder, is_source, core_at, record_at, members_under}
-use Rattle.smk_store.specs.Trust.{Versions}
+use Rattle.smk_record.specs.Records.{source_time, stamped}
+use Rattle.smk_store.specs.Images.{Image, Content, seen, source_at, file_at, is_file, is_folder, is_source, core_at, record_at, members_under}
+use Rattle.smk_store.specs.Trust.{Versions, SumsDiffer, sum_of}
 use Rattle.smk_store.specs.Soundness.{Outside, EachImage, SoundWorld}
 use Rattle.smk_store.specs.Safety.{KeepsSound, with_sources}
 use Rattle.smk_laws_protocol.specs.Protocol.{RunState, Runs}
@@ -36,13 +36,13 @@ pub record IsListed (o : Outside) (w : World) : Type 0 where
   pub now : ListsAll (seen o.read w)
   pub after_crash : EachImage o.read w ListsAll
 
--- What a call keeps of this, from a sound world: after every prefix of its log it is so in whatever a crash leaves; and, where the
--- flag says so, in the world at its end, if no child is left.
+-- What a call keeps of this, from a world that is sound for versions of which no two different contents have the same SHA-256: after every
+-- prefix of its log it is so in whatever a crash leaves; and, where the flag says so, in the world at its end, if no child is left.
 pub record KeepsListed (o : Outside) (entry : World) (log : List Event) (to_the_end : Bool) : Type 0 where
   pub throughout :
-      (H : Versions) → SoundWorld o entry H → IsListed o entry → (events rest : List Event) → log ≡ events ++ rest → EachImage o.read (run entry events) ListsAll
+      (H : Versions) → SumsDiffer H → SoundWorld o entry H → IsListed o entry → (events rest : List Event) → log ≡ events ++ rest → EachImage o.read (run entry events) ListsAll
   pub at_exit :
-      (H : Versions) → SoundWorld o entry H → IsListed o entry → IsTrue to_the_end → (run entry log).children ≡ [] → ListsAll (seen o.read (run entry log))
+      (H : Versions) → SumsDiffer H → SoundWorld o entry H → IsListed o entry → IsTrue to_the_end → (run entry log).children ≡ [] → ListsAll (seen o.read (run entry log))
 
 -- ## Worlds that follow one another
 
@@ -74,7 +74,7 @@ removed w p =
 pub record IsLater (image : Image) (time : ℕ) : Type 0 where
   pub than_files : (p : Path) (f : Content) → file_at image p ≡ Some f → f.time < time
   pub than_records :
-      (p : Path) (r : Record) (q : Path) (t : ℕ) → core_at image p ≡ Some r → IsIn (stamped r) (q, Time t) → t < time
+      (p : Path) (r : Record) (q : Path) (s : Stamp) (t : ℕ) → core_at image p ≡ Some r → IsIn (stamped r) (q, s) → source_time s ≡ Some t → t < time
 
 -- no folder stands there, and no file above
 abbrev pub can_stand : Image → Path → Bool
@@ -112,9 +112,30 @@ pub data History (o : Outside) : World → Versions → Type 0 where
   Begin : (w : World) → IsNew w → History o w (with_sources no_versions (seen o.read w))
   Go : (w next : World) (H : Versions) → History o w H → Step o w next → History o next (with_sources H (seen o.read next))
 
--- Every world of every history is sound for its versions.
+-- a source has these bytes
+abbrev pub IsHeld : Image → List ℕ → Type 0
+IsHeld image bytes = (p : Path) × (f : Content) × (source_at image p ≡ Some f) × (f.bytes ≡ bytes)
+
+-- a source had these bytes in one of the worlds
+abbrev pub HasHeld : (o : Outside) (w : World) (H : Versions) → History o w H → List ℕ → Type 0
+HasHeld o _ _ (Begin w new) bytes = IsHeld (seen o.read w) bytes
+HasHeld o _ _ (Go w next H past step) bytes = HasHeld o w H past bytes ⊎ IsHeld (seen o.read next) bytes
+
+-- no two different of these contents have the same SHA-256
+abbrev pub DifferInSums : (List ℕ → Type 0) → Type 0
+DifferInSums Had = (a b : List ℕ) → Had a → Had b → sum_of a ≡ sum_of b → a ≡ b
+
+-- No two different contents that sources had in the history have the same SHA-256.
+abbrev pub SumsDifferIn : (o : Outside) (w : World) (H : Versions) → History o w H → Type 0
+SumsDifferIn o w H past = DifferInSums (HasHeld o w H past)
+
+-- So of its versions no two different contents have the same SHA-256.
+abbrev pub VersionsDiffer : Type 0
+VersionsDiffer = (o : Outside) (w : World) (H : Versions) (past : History o w H) → SumsDifferIn o w H past → SumsDiffer H
+
+-- Every world of every history in which no two different contents of sources have the same SHA-256 is sound for its versions.
 abbrev pub HistoryLaw : Type 0
-HistoryLaw = (o : Outside) (w : World) (H : Versions) → History o w H → SoundWorld o w H
+HistoryLaw = (o : Outside) (w : World) (H : Versions) (past : History o w H) → SumsDifferIn o w H past → SoundWorld o w H
 
 -- It is a tree: what stands has a name, and stands in folders.
 abbrev pub HistoryIsTree : Type 0
@@ -122,7 +143,7 @@ HistoryIsTree = (o : Outside) (w : World) (H : Versions) → History o w H → I
 
 -- And its directories have no more than their records list.
 abbrev pub HistoryIsListed : Type 0
-HistoryIsListed = (o : Outside) (w : World) (H : Versions) → History o w H → IsListed o w
+HistoryIsListed = (o : Outside) (w : World) (H : Versions) (past : History o w H) → SumsDifferIn o w H past → IsListed o w
 
 -- A run of the protocol is a call that stands in a history.
 abbrev pub RunIsCall : Type 0

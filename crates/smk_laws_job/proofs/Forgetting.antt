@@ -22,7 +22,6 @@ use Rattle.smk_world.specs.Requests.Request.{Remove, Settle}
 use Rattle.smk_world.specs.Trees.{Path, IsIn, among, is_path_text}
 use Rattle.smk_world.proofs.Devices.{looks_nodes}
 use Rattle.smk_record.specs.declared.record.Stamp.{Stamp}
-use Rattle.smk_record.specs.declared.record.Stamp.TheVariants.{Time}
 use Rattle.smk_record.specs.declared.record.Record.{Record}
 use Rattle.smk_record.specs.Records.{core, stamped}
 use Rattle.smk_store.specs.declared.fault.StoreFault.{StoreFault}
@@ -97,7 +96,7 @@ outside_file false n f h = absurd (none_some h)
     none_some e = cc
 
 unseen_now : (o : Outside) (w : World) (ks : List Known) (p : Path) → IsStoreOf (seen o.read w) ks → AreUnseen ks w p → IsUnseen (now o w) p
-unseen_now o w ks p store unseen q x r f at under file named =
+unseen_now o w ks p store unseen q x r f at under file s named time =
     let image = seen o.read w in
     let reads = core_reads (image.kept q) r at in
     let known : is_known image q ≡ true = or_first (stands (image.kept q)) (image.marked q || image.noted q) reads.0 in
@@ -107,7 +106,9 @@ unseen_now o w ks p store unseen q x r f at under file named =
       under = under;
       file = f;
       stands = outside_file (is_outside x) (reading (w.nodes x)) f file;
-      held = known_in ks q (entry_at image q) (x, Time f.time) entry (subst (λ l. IsIn l (x, Time f.time)) (sym reads.1) named);
+      stamp = s;
+      held = known_in ks q (entry_at image q) (x, s) entry (subst (λ l. IsIn l (x, s)) (sym reads.1) named);
+      same = time;
     })
 
 -- ## All around is firm
@@ -300,5 +301,5 @@ forgetting_safe o store paths p result w es own text stored free follows did =
     by : (answer : Result Bool StoreFault) (stage : Stage) → LeavesAt answer stage → KeepsSound o w es paths (is_resting stage) → KeepsSound o w es paths (is_at_rest answer)
     by (Ok known) stage e k = subst (λ x. KeepsSound o w es paths (is_resting x)) e k
     by (Err (StampSeen q)) stage e k = subst (λ x. KeepsSound o w es paths (is_resting x)) e k
-    by (Err Device) stage e k = record { safe = k.safe; sound_at_exit = λ H sound end. absurd (true≢false (sym end)) }
+    by (Err Device) stage e k = record { safe = k.safe; sound_at_exit = λ H differ sound end. absurd (true≢false (sym end)) }
     by (Err OutOfMemory) stage e k = subst (λ x. KeepsSound o w es paths (is_resting x)) e k

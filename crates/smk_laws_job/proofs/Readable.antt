@@ -5,7 +5,6 @@ use Rattle.std.specs.List.{list_all, flat_map}
 use Rattle.std.proofs.lemmas.Bool.{leb-true, le-leb}
 use Rattle.std.proofs.lemmas.Fmt.{length-decimal-le}
 use Rattle.std.proofs.lemmas.List.Concat.{flat_map-cons}
-use Rattle.smk_job.proofs.Viewing.{last_true}
 use Rattle.smk_base.specs.Path.{is_path}
 use Rattle.smk_base.specs.declared.tree.Pair.{Pair}
 use Rattle.smk_base.proofs.Places.{and_first, and_second, place_itself}
@@ -18,7 +17,7 @@ use Rattle.smk_world.specs.Trees.{Path, Each, among, folders_of, are_members, is
 use Rattle.smk_record.specs.declared.record.Stamp.{Stamp}
 use Rattle.smk_record.specs.declared.record.Member.{Member}
 use Rattle.smk_record.specs.declared.record.Record.{Record}
-use Rattle.smk_record.specs.Records.{record_of, is_valid, is_earlier, are_rising, are_none, are_valid_members}
+use Rattle.smk_record.specs.Records.{record_of, is_valid, is_earlier, are_rising, are_none, are_valid_members, is_format, is_in_format}
 use Rattle.smk_record.specs.Spelling.{num, text, letter, member, list, head, spelling, is_writable, ReadsRecords}
 use Rattle.smk_store.specs.declared.store.Kept.TheVariants.{Unreadable, Held}
 use Rattle.smk_store.specs.Images.{kept_by, for_path}
@@ -85,7 +84,14 @@ short_with p made recipe stamps ms few long =
 
 -- ## Validity
 
--- all that is asked of a record but of its members
+-- another test in place of the last but one
+other_true : (bs : List Bool) (x y z : Bool) → list_all (λ (b : Bool). b) (bs ++ x ∷ z ∷ []) ≡ true → y ≡ true → list_all (λ (b : Bool). b) (bs ++ y ∷ z ∷ []) ≡ true
+other_true [] x y z h k = both_true y (z && true) k (and_second x (z && true) h)
+other_true (b ∷ bs) x y z h k =
+    both_true b (list_all (λ (a : Bool). a) (bs ++ y ∷ z ∷ [])) (and_first b (list_all (λ (a : Bool). a) (bs ++ x ∷ z ∷ [])) h)
+    (other_true bs x y z (and_second b (list_all (λ (a : Bool). a) (bs ++ x ∷ z ∷ [])) h) k)
+
+-- all that is asked of a record but of its members and its format
 abbrev tests : Record → List Bool
 tests r =
     (length r.stamps == length (in_paths r.recipe))
@@ -104,15 +110,15 @@ AreFor recipe p ms = (if among (folders_of recipe) p then are_valid_members p ms
 valid_with : (p : Path) (made : ℕ) (recipe : Recipe) (stamps : List Stamp) (ms : List Member)
     → is_valid (record_of p made recipe stamps []) ≡ true → AreFor recipe p ms → is_valid (record_of p made recipe stamps ms) ≡ true
 valid_with p made recipe stamps ms valid for =
-    last_true (tests (record_of p made recipe stamps [])) (if among (folders_of recipe) p then are_valid_members p [] else true)
-    (if among (folders_of recipe) p then are_valid_members p ms else are_none ms) valid for
+    other_true (tests (record_of p made recipe stamps [])) (if among (folders_of recipe) p then are_valid_members p [] else true)
+    (if among (folders_of recipe) p then are_valid_members p ms else are_none ms) (is_format 2 && list_all (is_in_format 2) stamps) valid for
 
 -- the outputs of a valid record's recipe are paths
 pub outputs_paths : (r : Record) → is_valid r ≡ true → list_all is_path_text (out_paths r.recipe) ≡ true
 outputs_paths r valid =
     seventh (length r.stamps == length (in_paths r.recipe)) (among (out_paths r.recipe) r.path) (nat_le 1 r.made) (list_all (is_earlier r.made) r.stamps)
     (are_rising (map (λ (w : Pair). w.name) r.recipe.wildcards)) (list_all is_path_text (in_paths r.recipe)) (list_all is_path_text (out_paths r.recipe))
-    ((if among (folders_of r.recipe) r.path then are_valid_members r.path r.members else are_none r.members) ∷ []) valid
+    ((if among (folders_of r.recipe) r.path then are_valid_members r.path r.members else are_none r.members) ∷ (is_format r.format && list_all (is_in_format r.format) r.stamps) ∷ []) valid
   where
     seventh : (a b c d e f g : Bool) (rest : List Bool) → list_all (λ (x : Bool). x) (a ∷ b ∷ c ∷ d ∷ e ∷ f ∷ g ∷ rest) ≡ true → g ≡ true
     seventh a b c d e f g rest h = and_first g _ (and_second f _ (and_second e _ (and_second d _ (and_second c _ (and_second b _ (and_second a _ h))))))

@@ -39,7 +39,7 @@ kept_so o w log paths ok ends follows = by ok ends.2 (forgetting_keeps_sound o w
   where
     by : (ok : Bool) → (ok ≡ true → ends.0 ≡ Resting) → KeepsSound o w log paths (is_resting ends.0) → KeepsSound o w log paths ok
     by true rest k = subst (λ s. KeepsSound o w log paths (is_resting s)) (rest refl) k
-    by false rest k = record { safe = k.safe; sound_at_exit = λ H sound end. absurd (true≢false (sym end)) }
+    by false rest k = record { safe = k.safe; sound_at_exit = λ H differ sound end. absurd (true≢false (sym end)) }
 
 -- ## The lock
 

@@ -170,12 +170,12 @@ module _ (rules : Rules) (entry : World) (s : Stand) (w : World) (events : List 
       (subst (λ n. 1048576 < n) (same_length o) long)
 
   unrefused : (f : Fault) → MomentRefuses rules entry (moment_of s w events) f → ⊥
-  unrefused f (PlansAreRefused g rest refused) = x.clear.unrefused g refused
+  unrefused f (PlansAreRefused g rest refused) = x.next.clear.unrefused g refused
   unrefused f (NoSerial k rest next full) =
-      let same = some_same k e (sym next.first ∙ x.first) in
+      let same = some_same k e (sym next.first ∙ x.next.first) in
       not_full made (2 ^ 64) (x.serial ∙ subst (λ (z : Job × State). serial_of rules entry (moment_of s w events) z.0 z.1 ≡ 2 ^ 64) same full) x.fits
   unrefused f (LongRecord k o before after rest next low split none long) =
-      let same = some_same k e (sym next.first ∙ x.first) in
+      let same = some_same k e (sym next.first ∙ x.next.first) in
       too_long_none o (subst (λ os. IsIn os o) (sym (subst (λ (z : Job × State). outs_of z.0.recipe ≡ before ++ o ∷ after) same split)) (in_midst o before after))
       (subst (λ (z : Job × State). 1048576 < record_length rules (moment_of s w events) (begun_of rules entry (moment_of s w events) z) o) same long)
 

@@ -27,7 +27,7 @@ use Rattle.smk_drive.specs.Lawful.{is_failed_wait}
 use Rattle.smk_drive_course.specs.declared.ending.End.{End as TheEnd}
 use Rattle.smk_drive_course.specs.Stands.{IsClear, Stand, moment_of, without_child}
 use Rattle.smk_drive_course.specs.Steps.{AreRemoved, Deed, HasSpent, NoMore, OneMore}
-use Rattle.smk_drive_course.specs.Breaks.{Begins, BeginsNot, BreaksOff, Closes, Done, FailsToWait, Halts, HasNotSpent, Leaves, Spends, SpendsNot, Step, Steps, Then, Waits}
+use Rattle.smk_drive_course.specs.Breaks.{Begins, BeginsNot, BreaksOff, Closes, Done, FailsToWait, Halts, HasNotSpent, Leaves, ReadsNot, Spends, SpendsNot, Step, Steps, Then, Waits}
 use Rattle.smk_drive_course.specs.Driven.{IsOpening, IsRun, LacksMemory, LoadingFails, LooksFail as OpeningLooksFail, Opens, SettlingFails}
 use Rattle.smk_laws_moments.specs.Courses.{AllAreWaited, ChildrenAreOfStand, HasChildren, child_of}
 use Rattle.smk_laws_moments.proofs.Fates.{IsKept, answer_kept, begun_stand, broken_kept, ended_stand, goes_kept, halted_kept, kept_then, removed_kept, replanned_kept}
@@ -171,6 +171,13 @@ quiet_behind : (w : World) (es fs all : List Event) (cs : List Child) → all �
 quiet_behind w es fs all cs split here quiet =
     ap (λ xs. (run w xs).children) split ∙ (ap (λ (v : World). v.children) (run_more w es fs) ∙ (quiet_run (run w es) fs quiet ∙ here))
 
+-- with quiet events, and others behind them
+behind_quiet :
+    (w : World) (reads rest all : List Event) (cs : List Child) → all ≡ reads ++ rest → EachCall IsQuiet reads → ((v : World) → v.children ≡ w.children → (run v rest).children ≡ cs) →
+    (run w all).children ≡ cs
+behind_quiet w reads rest all cs split quiet behind =
+    ap (λ xs. (run w xs).children) split ∙ (ap (λ (v : World). v.children) (run_more w reads rest) ∙ behind (run w reads) (quiet_run w reads quiet))
+
 map_more : (gs : List Underway) (g : Underway) → map child_of (gs ++ g ∷ []) ≡ map child_of gs ++ child_of g ∷ []
 map_more [] g = refl
 map_more (x ∷ gs) g = ap (λ cs. child_of x ∷ cs) (map_more gs g)
@@ -222,8 +229,10 @@ module _ (rules : Rules) (entry : World) where
       let kept = kept_then u h.next t (replanned_kept rules u h.next _ h.replanned) (goes_kept rules entry h.next t _ _ h.goes_by) in
       let j = h.job.0 in
       left_to u t (run w es) kept
-      (starts_after w (mark_requests (places_of (out_paths j.recipe) j.logs) ++ clear_requests (out_paths j.recipe) (owned_paths j.recipe j.logs)) es j.recipe j.logs _ h.going.number
+      (behind_quiet w h.reads h.beginning es (w.children ++ child_with h.going.number j.recipe j.logs ∷ []) h.events (looks_quiet false h.reads h.only_read) (λ v same.
+      starts_after v (mark_requests (places_of (out_paths j.recipe) j.logs) ++ clear_requests (out_paths j.recipe) (owned_paths j.recipe j.logs)) h.beginning j.recipe j.logs _ h.going.number
       (begin_quiet j.recipe j.logs) h.calls h.started
+      ∙ ap (λ cs. cs ++ child_with h.going.number j.recipe j.logs ∷ []) same)
       ∙ (ap (λ cs. cs ++ child_with h.going.number j.recipe j.logs ∷ []) was
       ∙ (ap (λ (g : Underway). map child_of s.runs ++ child_of g ∷ []) (sym h.is) ∙ sym (map_more s.runs h.going))))
   step_children s t w before es deeds (Closes h) was =
@@ -234,17 +243,21 @@ module _ (rules : Rules) (entry : World) where
   step_children s t w before es deeds (Spends h) was =
       quietly s t w es (kept_then s h.last t (removed_kept rules entry s h.last w before h.paths h.removing h.removed) (goes_kept rules entry h.last t _ _ h.goes_by))
       (spending_quiet s t w before es deeds h) was
-  step_children s t w before es deeds (Halts h) was = quietly s t w es (halted_kept s t h.why h.leaves) (subst (EachCall IsQuiet) (sym h.nothing) tt) was
+  step_children s t w before es deeds (Halts h) was = quietly s t w es (halted_kept s t h.why h.leaves) (looks_quiet false es h.only_read) was
   step_children s t w before es deeds (Leaves h) was =
       after_wait (seen rules (after w (wait_event h.ended h.left))) s t w h.going h.ended h.left h.looks es h.waited.number h.events
       (settled_each IsQuiet h.going (closing_quiet h.going) (Err MemoryFault) h.ended.status (after w (wait_event h.ended h.left)) h.looks (h.good, h.unclosed)) (halted_kept (ended_stand rules entry s w h.going h.ended h.left) t fault.OutOfMemory h.leaves) was
   step_children s t w before es deeds (BreaksOff h) was =
       after_wait (seen rules (after w (wait_event h.ended h.left))) s t w h.going h.ended h.left h.rest es h.waited.number h.events
       (settled_each IsQuiet h.going (closing_quiet h.going) (Err FailedFault) h.ended.status (after w (wait_event h.ended h.left)) h.rest h.unclosed) (broken_kept (ended_stand rules entry s w h.going h.ended h.left) t h.leaves) was
+  step_children s t w before es deeds (ReadsNot h) was = quietly s t w es (broken_kept s t h.leaves) (looks_quiet true es h.reads) was
   step_children s t w before es deeds (BeginsNot h) was =
       let j = h.job.0 in
       left_to s t (run w es) (broken_kept s t h.leaves)
-      (starts_none w (mark_requests (places_of (out_paths j.recipe) j.logs) ++ clear_requests (out_paths j.recipe) (owned_paths j.recipe j.logs)) es j.recipe j.logs _ (begin_quiet j.recipe j.logs) h.calls
+      (behind_quiet w h.reads h.beginning es w.children h.events (looks_quiet false h.reads h.only_read) (λ v same.
+      starts_none v (mark_requests (places_of (out_paths j.recipe) j.logs) ++ clear_requests (out_paths j.recipe) (owned_paths j.recipe j.logs)) h.beginning j.recipe j.logs _
+      (begin_quiet j.recipe j.logs) h.calls
+      ∙ same)
       ∙ was)
   step_children s t w before es deeds (SpendsNot h) was =
       quietly s t w es (kept_then s h.last t (removed_kept rules entry s h.last w before h.paths h.removing h.removed) (broken_kept h.last t h.leaves))

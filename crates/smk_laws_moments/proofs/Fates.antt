@@ -19,7 +19,7 @@ use Rattle.smk_keep.specs.declared.fault.KeepFault.TheVariants.{Device, OutOfMem
 use Rattle.smk_drive.specs.Moments.{Begun, Rules, begun_of, ending, seen}
 use Rattle.smk_drive_course.specs.Stands.{AtRest, Between, GoesBy, GoesOn, IsRefused, IsReplanned, LacksMemory, Stand, WasHalted, broken_by_device, ended_if, first_fault, halted_by, is_job_of, moment_of, with_job, without_child}
 use Rattle.smk_drive_course.specs.Steps.{AreRemoved, Closed, Deed, GoesByAnswer, NoMore, OneMore, Started}
-use Rattle.smk_drive_course.specs.Breaks.{Begins, BeginsNot, BreaksOff, Closes, Done, FailsToWait, Halts, Leaves, Spends, SpendsNot, Step, Steps, Then, Waits}
+use Rattle.smk_drive_course.specs.Breaks.{Begins, BeginsNot, BreaksOff, Closes, Done, FailsToWait, Halts, Leaves, ReadsNot, Spends, SpendsNot, Step, Steps, Then, Waits}
 use Rattle.smk_drive_course.specs.Reports.{is_started}
 use Rattle.smk_laws_moments.specs.Courses.{BrokenIsHalted, FirstFaultStays, IsHaltedIfBroken, StartsAreTold, begun_jobs, started_job, started_jobs}
 
@@ -169,6 +169,7 @@ module _ (rules : Rules) (entry : World) where
   step_fate s t w before es deeds (Halts h) = halted_fate s t h.why h.leaves
   step_fate s t w before es deeds (Leaves h) = let u = ended_stand s w h.going h.ended h.left in from_like s u t refl refl (halted_fate u t fault.OutOfMemory h.leaves)
   step_fate s t w before es deeds (BreaksOff h) = let u = ended_stand s w h.going h.ended h.left in from_like s u t refl refl (broken_fate u t h.leaves)
+  step_fate s t w before es deeds (ReadsNot h) = broken_fate s t h.leaves
   step_fate s t w before es deeds (BeginsNot h) = broken_fate s t h.leaves
   step_fate s t w before es deeds (SpendsNot h) =
       let same = removed_fate s h.last w before h.paths h.removing h.removed in from_like s h.last t same.0 same.1 (broken_fate h.last t h.leaves)
@@ -180,12 +181,13 @@ module _ (rules : Rules) (entry : World) where
   none_started deeds more same none = ap (list_any is_started) same ∙ none
 
   step_starts : (s t : Stand) (w : World) (before es : List Event) (deeds : List Deed) (f : Fault) → Step rules entry s w before es deeds t → s.halted ≡ Some f → list_any is_started deeds ≡ false
-  step_starts s t w before es deeds f (Begins h) was = absurd (none_some f (sym h.to_begin.clear.unhalted ∙ was))
+  step_starts s t w before es deeds f (Begins h) was = absurd (none_some f (sym h.to_begin.next.clear.unhalted ∙ was))
   step_starts s t w before es deeds f (Closes h) was = none_started deeds _ h.deeds_are refl
   step_starts s t w before es deeds f (Spends h) was = none_started deeds [] h.deeds_are refl
   step_starts s t w before es deeds f (Halts h) was = none_started deeds [] h.deeds_are refl
   step_starts s t w before es deeds f (Leaves h) was = none_started deeds [] h.deeds_are refl
   step_starts s t w before es deeds f (BreaksOff h) was = none_started deeds [] h.deeds_are refl
+  step_starts s t w before es deeds f (ReadsNot h) was = none_started deeds [] h.deeds_are refl
   step_starts s t w before es deeds f (BeginsNot h) was = none_started deeds [] h.deeds_are refl
   step_starts s t w before es deeds f (SpendsNot h) was = none_started deeds [] h.deeds_are refl
   step_starts s t w before es deeds f (Waits h) was = none_started deeds [] h.deeds_are refl
@@ -231,6 +233,7 @@ module _ (rules : Rules) (entry : World) where
       begun_same s (ended_stand s w h.going h.ended h.left) t deeds (jobs_kept (seen rules (after w (wait_event h.ended h.left))) h.going h.ended.status s.begun) (halted_kept (ended_stand s w h.going h.ended h.left) t fault.OutOfMemory h.leaves) (ap started_jobs h.deeds_are)
   step_told s t w before es deeds (BreaksOff h) =
       begun_same s (ended_stand s w h.going h.ended h.left) t deeds (jobs_kept (seen rules (after w (wait_event h.ended h.left))) h.going h.ended.status s.begun) (broken_kept (ended_stand s w h.going h.ended h.left) t h.leaves) (ap started_jobs h.deeds_are)
+  step_told s t w before es deeds (ReadsNot h) = begun_same s s t deeds refl (broken_kept s t h.leaves) (ap started_jobs h.deeds_are)
   step_told s t w before es deeds (BeginsNot h) = begun_same s s t deeds refl (broken_kept s t h.leaves) (ap started_jobs h.deeds_are)
   step_told s t w before es deeds (SpendsNot h) =
       begun_same s s t deeds refl (kept_then s h.last t (removed_kept s h.last w before h.paths h.removing h.removed) (broken_kept h.last t h.leaves)) (ap started_jobs h.deeds_are)

@@ -138,7 +138,7 @@ protect_quiet ps = more (protect_each ps) (Settle ps ∷ []) (protects_quiet ps)
 
 pub closing_quiet : (j : Underway) → OfClosing IsQuiet j
 closing_quiet j =
-    record { looks = record { look = λ p. tt; listed = λ p. tt }; finish = finish_quiet j; abandon = abandon_quiet j }
+    record { looks = record { look = λ p. tt; read = λ p limit. tt; listed = λ p. tt }; finish = finish_quiet j; abandon = abandon_quiet j }
 
 guards_quiet : (guards : List Path) (es : List Event) → HasGuarded guards es → EachCall IsQuiet es
 guards_quiet [] es h = subst (EachCall IsQuiet) (sym h) tt

@@ -1,9 +1,8 @@
 -- Where the plan of a stand is made anew after one event, the stand is that of the moment after it.
-use Rattle.std.proofs.Common.{◌≡◌, ◌⊎◌, refl, true, false, List, [], ◌∷◌, ◌++◌, sym, ap, subst, ◌∙◌, inl, inr, Option}
+use Rattle.std.proofs.Common.{◌≡◌, ◌⊎◌, refl, true, false, List, [], ◌∷◌, ◌++◌, sym, ap, subst, ◌∙◌, inl, inr}
 use Rattle.smk_world.specs.declared.event.Event.{Event}
-use Rattle.smk_world.specs.World.{World, IsFormed, after}
+use Rattle.smk_world.specs.World.{World, after}
 use Rattle.smk_chain.specs.Derive.{Listings}
-use Rattle.smk_plan.specs.States.{Plan}
 use Rattle.smk_drive.specs.Moments.{Rules, Moment, Begun, IsMoment, AtRest, Between, IsInForce, begun_after, is_rest, lists_of}
 use Rattle.smk_drive_target.proofs.OneMoment.{one_moment}
 use Rattle.smk_drive_course.specs.Stands as stands

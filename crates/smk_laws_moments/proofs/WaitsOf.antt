@@ -1,11 +1,12 @@
 -- At each wait of a run a child runs.
-use Rattle.std.proofs.Common.{◌≡◌, ◌≢◌, ℕ, true, false, List, [], ◌∷◌, ◌++◌, map, refl, sym, subst, ◌∙◌, inl, Ok, Err, true≢false}
+use Rattle.std.proofs.Common.{◌≡◌, ◌≢◌, ℕ, Bool, true, false, List, [], ◌∷◌, ◌++◌, map, refl, sym, subst, ◌∙◌, inl, Ok, Err, true≢false}
 use Rattle.smk_world.specs.declared.event.Call.{Call}
 use Rattle.smk_world.specs.declared.event.Call.TheVariants.{Looked, ReadFile, ReadFolder, Written, Created, Removed, MadeParents, Settled, Protected, Started as StartedCall, Waited}
 use Rattle.smk_world.specs.declared.event.Event.{Event}
 use Rattle.smk_world.specs.declared.event.WorkFault.TheVariants.{Failed as FailedFault, OutOfMemory as MemoryFault}
 use Rattle.smk_world.specs.declared.recipe.Recipe.{Recipe}
 use Rattle.smk_world.specs.World.{World, after, out_paths, owned_paths, run}
+use Rattle.smk_world.specs.Devices.{AreLooks}
 use Rattle.smk_world.specs.Requests.{Request, request}
 use Rattle.smk_world.specs.Requests.Request.{Look, ReadUpTo, ListFolder, Write, Create, Remove, MakeParents, Settle, Protect, Start, Wait}
 use Rattle.smk_world.specs.Trees.{Each, IsIn, Path}
@@ -17,9 +18,9 @@ use Rattle.smk_drive.specs.Moments.{Rules}
 use Rattle.smk_drive.specs.Lawful.{is_wait}
 use Rattle.smk_drive_course.specs.Stands.{Stand}
 use Rattle.smk_drive_course.specs.Steps.{Deed}
-use Rattle.smk_drive_course.specs.Breaks.{Begins, BeginsNot, BreaksOff, Closes, Done, FailsToWait, Halts, Leaves, Spends, SpendsNot, Step, Steps, Then, Waits}
+use Rattle.smk_drive_course.specs.Breaks.{Begins, BeginsNot, BreaksOff, Closes, Done, FailsToWait, Halts, Leaves, ReadsNot, Spends, SpendsNot, Step, Steps, Then, Waits}
 use Rattle.smk_laws_moments.specs.Courses.{HasChildren, WaitsForChildren, child_of}
-use Rattle.smk_laws_moments.proofs.QuietCalls.{IsQuiet, calls_more, closing_quiet, tended_quiet}
+use Rattle.smk_laws_moments.proofs.QuietCalls.{IsQuiet, calls_more, closing_quiet, looks_quiet, tended_quiet}
 use Rattle.smk_laws_moments.proofs.ChildrenOf.{at_start, begin_quiet, opening_quiet, spending_quiet, step_children, unspent_quiet}
 
 -- it is no wait
@@ -110,21 +111,29 @@ waits_first : (s : Stand) (w : World) (g : Underway) (e : Event) (behind es : Li
 waits_first s w g e behind es ran was events quiet =
     subst (WaitsAt w) (sym events) ((λ k none. none_of s.runs g ran (sym was ∙ none)), quiet_calm (after w e) behind quiet)
 
+-- looks, and then no wait
+reads_first : (w : World) (reads rest es : List Event) (failure : Bool) → es ≡ reads ++ rest → AreLooks failure reads → EachCall IsNoWait rest → WaitsAt w es
+reads_first w reads rest es failure events looks none =
+    subst (WaitsAt w) (sym events) (waits_more w reads rest (quiet_calm w reads (looks_quiet failure reads looks)) (calm (run w reads) rest none))
+
 module _ (rules : Rules) (entry : World) where
   step_waits : (s t : Stand) (w : World) (before es : List Event) (deeds : List Deed) → Step rules entry s w before es deeds t → HasChildren s w → WaitsAt w es
-  step_waits s t w before es deeds (Begins h) was = calm w es (done_each IsNoWait _ es (begin_no_wait h.job.0.recipe h.job.0.logs _) h.calls)
+  step_waits s t w before es deeds (Begins h) was =
+      reads_first w h.reads h.beginning es false h.events h.only_read (done_each IsNoWait _ h.beginning (begin_no_wait h.job.0.recipe h.job.0.logs _) h.calls)
   step_waits s t w before es deeds (Closes h) was =
       waits_first s w h.going (wait_event h.ended h.left) (h.closing ++ h.tending) es h.waited.ran was h.events
       (calls_more h.closing h.tending (settled_each IsQuiet h.going (closing_quiet h.going) (Ok h.how) h.ended.status (after w (wait_event h.ended h.left)) h.closing h.closed) (tended_quiet _ h.answer h.tending h.tended))
   step_waits s t w before es deeds (Spends h) was = quiet_calm w es (spending_quiet rules entry s t w before es deeds h)
-  step_waits s t w before es deeds (Halts h) was = subst (WaitsAt w) (sym h.nothing) tt
+  step_waits s t w before es deeds (Halts h) was = quiet_calm w es (looks_quiet false es h.only_read)
   step_waits s t w before es deeds (Leaves h) was =
       waits_first s w h.going (wait_event h.ended h.left) h.looks es h.waited.ran was h.events
       (settled_each IsQuiet h.going (closing_quiet h.going) (Err MemoryFault) h.ended.status (after w (wait_event h.ended h.left)) h.looks (h.good, h.unclosed))
   step_waits s t w before es deeds (BreaksOff h) was =
       waits_first s w h.going (wait_event h.ended h.left) h.rest es h.waited.ran was h.events
       (settled_each IsQuiet h.going (closing_quiet h.going) (Err FailedFault) h.ended.status (after w (wait_event h.ended h.left)) h.rest h.unclosed)
-  step_waits s t w before es deeds (BeginsNot h) was = calm w es (cut_each IsNoWait _ es (begin_no_wait h.job.0.recipe h.job.0.logs _) h.calls)
+  step_waits s t w before es deeds (ReadsNot h) was = quiet_calm w es (looks_quiet true es h.reads)
+  step_waits s t w before es deeds (BeginsNot h) was =
+      reads_first w h.reads h.beginning es false h.events h.only_read (cut_each IsNoWait _ h.beginning (begin_no_wait h.job.0.recipe h.job.0.logs _) h.calls)
   step_waits s t w before es deeds (SpendsNot h) was = quiet_calm w es (unspent_quiet rules entry s t w before es deeds h)
   step_waits s t w before es deeds (Waits h) was = waits_first s w h.going (wait_event h.ended h.left) [] es h.waited.ran was h.events tt
   step_waits s t w before es deeds (FailsToWait h) was =

@@ -8,7 +8,7 @@ use Rattle.smk_base.specs.Path.{is_path}
 use Rattle.smk_world.specs.World.{in_paths, out_paths}
 use Rattle.smk_world.specs.Trees.{Path, Act, all_of, files_of, part_at, value_at, is_path_text}
 use Rattle.smk_record.specs.declared.record.Stamp.{Stamp}
-use Rattle.smk_record.specs.declared.record.Stamp.TheVariants.{Time, Made}
+use Rattle.smk_record.specs.declared.record.Stamp.TheVariants.{Made}
 use Rattle.smk_record.specs.declared.record.Record.{Record}
 use Rattle.smk_record.specs.Records.{agrees, stamped, core}
 use Rattle.smk_pattern.specs.Bound.{BoundFills}
@@ -16,7 +16,8 @@ use Rattle.smk_flow.specs.declared.job.Job.{Job}
 use Rattle.smk_flow.specs.Flows.{Flow, Candidate, gathered_folders}
 use Rattle.smk_choose.specs.Choose.{Sources, Choice, choose, choice, Source, Make, Lack, viable, leader, lack_of_first, candidates}
 use Rattle.smk_store.specs.Images.{Image, Content, source_at, file_at, is_file, is_source, core_at, tree_now}
-use Rattle.smk_store.specs.Trust.{Versions, holder, stamp_now, time_stamp, made_stamp, unmarked_stamp, is_marked_but, unmarked_stamp_but, stamp_now_but, made_at, Eased, Clear, any_time, Speaks, Chain, Link, vir, Vir, input_value}
+use Rattle.smk_store.specs.Trust.{Versions, holder, stamp_now, content_stamp, source_stamp as stamp_of, made_stamp, unmarked_stamp, is_marked_but, unmarked_stamp_but, stamp_now_but, made_at, Eased, Clear, any_source, Speaks, Chain, Link, vir, Vir, input_value}
+use Rattle.smk_store.proofs.Versions.{agreeing, is_serial, made_source, serial_same, source_value}
 use Rattle.smk_chain.specs.Derive.{Listings, listing, or_none, job, recipe, wants, walk, sources_of}
 use Rattle.smk_chain.specs.Mean.{Setting, setting_of, mean, listings_of, is_runnable}
 use Rattle.smk_pick.specs.declared.settings.Settings.{Settings}
@@ -77,14 +78,14 @@ source_reads image p f h e = ap (λ b. cond b (file_at image p) None) h ∙ e
 
 pub source_stamp_but :
     (image : Image) (left_out : Path → Bool) (p : Path) (f : Content) → is_source image p ≡ true → file_at image p ≡ Some f →
-    stamp_now_but image left_out p ≡ Some (Time f.time)
+    stamp_now_but image left_out p ≡ Some (content_stamp f)
 source_stamp_but image left_out p f h e =
-    ap (λ b. cond b (time_stamp (source_at image p)) (option_and_then (unmarked_stamp_but image left_out) (holder image p))) h
-    ∙ ap time_stamp (source_reads image p f h e)
+    ap (λ b. cond b (stamp_of (source_at image p)) (option_and_then (unmarked_stamp_but image left_out) (holder image p))) h
+    ∙ ap stamp_of (source_reads image p f h e)
 
-pub source_stamp : (image : Image) (p : Path) (f : Content) → is_source image p ≡ true → file_at image p ≡ Some f → stamp_now image p ≡ Some (Time f.time)
+pub source_stamp : (image : Image) (p : Path) (f : Content) → is_source image p ≡ true → file_at image p ≡ Some f → stamp_now image p ≡ Some (content_stamp f)
 source_stamp image p f h e =
-    ap (λ b. cond b (time_stamp (source_at image p)) (option_and_then (unmarked_stamp image) (holder image p))) h ∙ ap time_stamp (source_reads image p f h e)
+    ap (λ b. cond b (stamp_of (source_at image p)) (option_and_then (unmarked_stamp image) (holder image p))) h ∙ ap stamp_of (source_reads image p f h e)
 
 -- ## Chains
 
@@ -102,11 +103,11 @@ pub record Spoken (image : Image) (e : Eased) (q : Path) (m : ℕ) : Type 0 wher
   pub by : Record
   pub speaks : Speaks image e q place by
   pub serial : m ≡ by.made
-  pub chain : Chain image e any_time by
+  pub chain : Chain image e any_source by
 
-pub chain_make : (image : Image) (e : Eased) (r : Record) → ((q : Path) (m : ℕ) → In (q, Made m) (stamped r) → Spoken image e q m) → Chain image e any_time r
+pub chain_make : (image : Image) (e : Eased) (r : Record) → ((q : Path) (m : ℕ) → In (q, Made m) (stamped r) → Spoken image e q m) → Chain image e any_source r
 chain_make image e r h =
-    Link r (λ q m. or_here (holder image q)) (λ q m. record_or r (core_at image (or_here (holder image q)))) (λ q t i. tt)
+    Link r (λ q m. or_here (holder image q)) (λ q m. record_or r (core_at image (or_here (holder image q)))) (λ q s i k. tt)
     (λ q m i. let s = h q m i in
     let place = found q s.place s.speaks.holder in
     let same = read q s.place s.by place s.speaks.clear.0 in (
@@ -114,19 +115,13 @@ chain_make image e r h =
       subst (λ (w : Record). agrees (Made m) (made_stamp (Some w)) ≡ true) same (eq-eqb m s.by.made s.serial),
     ))
     (λ q m i. let s = h q m i in
-    subst (Chain image e any_time) (read q s.place s.by (found q s.place s.speaks.holder) s.speaks.clear.0) s.chain)
+    subst (Chain image e any_source) (read q s.place s.by (found q s.place s.speaks.holder) s.speaks.clear.0) s.chain)
   where
     found : (q p : Path) → holder image q ≡ Some p → p ≡ or_here (holder image q)
     found q p f = sym (ap or_here f)
 
     read : (q p : Path) (s : Record) → p ≡ or_here (holder image q) → core_at image p ≡ Some s → s ≡ record_or r (core_at image (or_here (holder image q)))
     read q p s f g = sym (ap (record_or r) g) ∙ ap (λ w. record_or r (core_at image w)) f
-
-pub time_made : (t m : ℕ) → Time t ≡ Made m → ⊥
-time_made t m h = grind arith
-
-pub made_inj : (a b : ℕ) → Made a ≡ Made b → a ≡ b
-made_inj a b h = cc
 
 module _
     (flow : Flow) (act : Act) (has_fields : Job → Bool) (image : Image) (H : Versions) (settings : Settings) (progress : Progress)
@@ -181,7 +176,7 @@ module _
       (inn, reached_step flow (sources_of image) plan.lists all_walked n p c q reached made.chosen (inputs_wanted flow c plan.lists q inn))
 
   abbrev ChainedBefore : ℕ → Type 0
-  ChainedBefore n = (q : Path) (c : Candidate) (h : Path) (r : Record) → Comes n q → Made_by c q h r → IsQuiet c → Chain image E any_time (core r)
+  ChainedBefore n = (q : Path) (c : Candidate) (h : Path) (r : Record) → Comes n q → Made_by c q h r → IsQuiet c → Chain image E any_source (core r)
 
   spoken_input :
       (n : ℕ) → ChainedBefore n → (p : Path) (c : Candidate) (h : Path) (r : Record) →
@@ -194,7 +189,7 @@ module _
       go inn comes (inl e) =
           let is = source_chosen flow (sources_of image) q e in
           let f = source_file image q is in
-          absurd (time_made f.0.time s (sym (made.agrees q (Made s) (Time f.0.time) k (source_stamp_but image (restored flow act has_fields image H settings progress plan) q f.0 is f.1))))
+          absurd (made_source s f.0 (made.agrees q (Made s) (content_stamp f.0) k (source_stamp_but image (restored flow act has_fields image H settings progress plan) q f.0 is f.1)))
       go inn comes (inr d) =
           let calm = quiet_input flow act has_fields image H settings progress plan fills rest.planned n p c q d.0 reached made.chosen quiet inn d.1 in
           let from = quiet_product flow act has_fields image H settings progress plan fills rest.planned n q d.0 comes d.1 calm in
@@ -207,7 +202,7 @@ module _
               holder = product.holds;
               clear = cleared from.0 (core from.1) (core_reads image from.0 from.1 product.reads) product.unmarked;
             };
-            serial = made_inj s from.1.made (made.agrees q (Made s) (Made from.1.made) k product.stamp);
+            serial = serial_same s from.1.made (made.agrees q (Made s) (Made from.1.made) k product.stamp);
             chain = ih q d.0 from.0 from.1 comes product calm;
           }
 
@@ -255,14 +250,16 @@ module _
       go i comes (inl e) =
           let is = source_chosen flow (sources_of image) q e in
           let f = source_file image q is in
-          let same = made.agrees q s (Time f.0.time) inn (source_stamp_but image (restored flow act has_fields image H settings progress plan) q f.0 is f.1) in
-          let had = subst (λ s. input_value image H (vir image act H k) (q, s) ≡ Some x) same v in
-          source_means n q f.0 is f.1 ∙ sym (ap (option_map File) (rest.sound.has_sources q f.0 (source_reads image q f.0 is f.1))) ∙ had
+          let now = rest.sound.has_sources q f.0 (source_reads image q f.0 is f.1) in
+          let same = made.agrees q s (content_stamp f.0) inn (source_stamp_but image (restored flow act has_fields image H settings progress plan) q f.0 is f.1) in
+          let has = rest.sound.has_recorded h (core r) q s (cleared h (core r) (core_reads image h r made.reads) made.unmarked) inn in
+          let then = agreeing H rest.differ q s f.0 now has same in
+          source_means n q f.0 is f.1 ∙ sym (source_value image H (vir image act H k) q s then.0 f.0.bytes then.1 then.2) ∙ v
       go i comes (inr d) =
           let calm = quiet_input flow act has_fields image H settings progress plan fills rest.planned n p c q d.0 reached made.chosen quiet i d.1 in
           let from = quiet_product flow act has_fields image H settings progress plan fills rest.planned n q d.0 comes d.1 calm in
           let product = from.2 in
-          let same = made.agrees q s (Made from.1.made) inn product.stamp in
+          let same = is_serial s from.1.made (made.agrees q s (Made from.1.made) inn product.stamp) in
           let had = subst (λ s. input_value image H (vir image act H k) (q, s) ≡ Some x) same v in
           let t = product_value k q from.0 from.1.made x product.holds had in
           ih q d.0 from.0 from.1 comes product calm k t.0 x t.1 t.2

@@ -16,7 +16,7 @@ use Rattle.smk_world.specs.Trees.{Path, Act, among, below, files_of, file_in, fo
 use Rattle.smk_record.specs.declared.record.Stamp.{Stamp}
 use Rattle.smk_record.specs.declared.record.Stamp.TheVariants.{Made}
 use Rattle.smk_record.specs.declared.record.Record.{Record}
-use Rattle.smk_record.specs.Records.{stamped, members_of, core, is_valid, is_earlier, are_rising, are_valid_members, are_none}
+use Rattle.smk_record.specs.Records.{agree, stamped, members_of, core, is_valid, is_earlier, are_rising, are_valid_members, are_none}
 use Rattle.smk_record.specs.declared.record.Member.{Member}
 use Rattle.smk_base.specs.declared.tree.Pair.{Pair}
 use Rattle.smk_pattern.specs.Bound.{BoundFills}
@@ -24,7 +24,7 @@ use Rattle.smk_flow.specs.declared.job.Job.{Job}
 use Rattle.smk_flow.specs.Flows.{Flow, Candidate, gathered_folders, makes_folder}
 use Rattle.smk_choose.specs.Choose.{Sources, choose, Make}
 use Rattle.smk_store.specs.Images.{Image, Content, content_of, is_directory, stands, file_at, is_file, is_folder, names_under, members_under, entry_under, tree_now, record_at, core_at, is_whole, is_known, is_covered, is_source, source_at}
-use Rattle.smk_store.specs.Trust.{Versions, holder, is_folder_record, made_stamp, is_marked_but, unmarked_stamp_but, stamp_now_but, time_stamp}
+use Rattle.smk_store.specs.Trust.{Versions, SumsDiffer, holder, is_folder_record, made_stamp, is_marked_but, unmarked_stamp_but, stamp_now_but, source_stamp}
 use Rattle.smk_store.specs.Soundness.{Sound}
 use Rattle.smk_chain.specs.Derive.{listing, job, jobs, recipe, walk, refusals, clashes, spots, is_deep, distinct, sources_of, Deep, Refusal, refused_if, refused, reach, TooManyPaths}
 use Rattle.smk_trigger.specs.declared.reason.Reason.{Reason}
@@ -85,7 +85,7 @@ plain_record r h plain =
     let seven = and_right (list_all is_path_text (out_paths r.recipe)) _ six in
     nil r.members
     (go (among (folders_of r.recipe) r.path) plain
-    (and_left (cond (among (folders_of r.recipe) r.path) (are_valid_members r.path r.members) (are_none r.members)) true seven))
+    (and_left (cond (among (folders_of r.recipe) r.path) (are_valid_members r.path r.members) (are_none r.members)) _ seven))
   where
     nil : (ms : List Member) → are_none ms ≡ true → ms ≡ []
     nil [] k = refl
@@ -104,10 +104,12 @@ pub record Planned (flow : Flow) (image : Image) (settings : Settings) (progress
   pub valid : HasValidRecords image
   pub derived : IsPlan flow image settings progress plan
 
--- A plan in an image that is sound, the marks of running Restores left out, whose listings are right where they count.
+-- A plan in an image that is sound, the marks of running Restores left out, whose listings are right where they count; no two different
+-- contents of sources have the same SHA-256.
 pub record Rested
     (flow : Flow) (act : Act) (has_fields : Job → Bool) (image : Image) (H : Versions) (settings : Settings) (progress : Progress) (plan : Plan) : Type 0 where
   pub sound : Sound act H image (eased_by image (is_restored image settings progress plan))
+  pub differ : SumsDiffer H
   pub planned : Planned flow image settings progress plan
   pub lists :
       (j : Job) (f : Path) (files : List Path) → In j plan.jobs → is_open_now image settings progress plan j ≡ false → In f (gathers_from j) →
@@ -149,7 +151,7 @@ module _
     pub same : r.recipe ≡ recipe flow plan.lists c
     pub unmarked : is_marked_but image restored h ≡ false
     pub stamp : stamp_now_but image restored q ≡ Some (Made r.made)
-    pub agrees : (p : Path) (s now : Stamp) → In (p, s) (stamped r) → stamp_now_but image restored p ≡ Some now → s ≡ now
+    pub agrees : (p : Path) (s now : Stamp) → In (p, s) (stamped r) → stamp_now_but image restored p ≡ Some now → agree s now ≡ true
     pub part :
         (v : Option (List Tree)) (t x : Tree) →
         value_at act r.recipe h v ≡ Some t → part_at h q t ≡ Some x → value_at act r.recipe q v ≡ Some x
@@ -357,7 +359,7 @@ module _
     output_record :
         (c : Candidate) (h : Path) → Quiet c → In h (out_paths (recipe flow plan.lists c)) →
         (r : Record) × (record_at image h ≡ Some r) × (r.recipe ≡ recipe flow plan.lists c) × (is_marked_but image restored h ≡ false)
-        × ((p : Path) (s now : Stamp) → In (p, s) (stamped r) → stamp_now_but image restored p ≡ Some now → s ≡ now)
+        × ((p : Path) (s now : Stamp) → In (p, s) (stamped r) → stamp_now_but image restored p ≡ Some now → agree s now ≡ true)
     output_record c h quiet i =
         let calm =
         own_calm (recipe flow plan.lists c) (map image.kept (out_paths (recipe flow plan.lists c))) (map (is_marked_but image restored) (out_paths (recipe flow plan.lists c)))
@@ -413,7 +415,7 @@ module _
         (q h : Path) (r : Record) → is_source image q ≡ false → holder image q ≡ Some h → record_at image h ≡ Some r → is_marked_but image restored h ≡ false →
         stamp_now_but image restored q ≡ Some (Made r.made)
     stamp_is q h r source holds reads unmarked =
-        ap (λ b. cond b (time_stamp (source_at image q)) (option_and_then (unmarked_stamp_but image restored) (holder image q))) source
+        ap (λ b. cond b (source_stamp (source_at image q)) (option_and_then (unmarked_stamp_but image restored) (holder image q))) source
         ∙ ap (option_and_then (unmarked_stamp_but image restored)) holds
         ∙ ap (λ b. cond b None (made_stamp (core_at image h))) unmarked
         ∙ ap made_stamp (core_reads image h r reads)

@@ -5,11 +5,12 @@ use Rattle.std.specs.List.{list_any}
 use lib.Pointwise.{pointwise}
 use Rattle.smk_laws_plan.proofs.CurrentLists.{In, both, in_filter, filter_in, map_in, and_left, and_right, not_false, or_left, or_right, cons_nil, append_nil_left, append_nil_right, map_nil, filter_nil, any_none, all_in, in_map, in_flat}
 use Rattle.smk_base.proofs.Places.{place_itself, same_place}
+use Rattle.smk_base.specs.Digests.{digest}
 use Rattle.smk_base.specs.declared.tree.Pair.{Pair}
-use Rattle.smk_record.specs.Records.{agrees, same_flag, same_pair, same_stamp, stamped}
+use Rattle.smk_record.specs.Records.{agree, agrees, same_flag, same_pair, same_stamp, stamped}
 use Rattle.smk_record.specs.declared.record.Record.{Record}
 use Rattle.smk_record.specs.declared.record.Stamp.{Stamp}
-use Rattle.smk_record.specs.declared.record.Stamp.TheVariants.{Made, Time}
+use Rattle.smk_record.specs.declared.record.Stamp.TheVariants.{Made, Sum, Time}
 use Rattle.smk_store.specs.Images.{Image, readable, record_at}
 use Rattle.smk_store.specs.declared.store.Kept.{Kept}
 use Rattle.smk_store.specs.declared.store.Kept.TheVariants.{Absent, Held, Unreadable}
@@ -79,18 +80,27 @@ recipes_same a b c p n =
 
 pub stamp_same : (a b : Stamp) → same_stamp a b ≡ true → a ≡ b
 stamp_same (Time t) (Time u) h = ap Time (eqb-true t u h)
+stamp_same (Time t) (Sum u c) h = absurd (true≢false (sym h))
 stamp_same (Time t) (Made m) h = absurd (true≢false (sym h))
+stamp_same (Sum t d) (Time u) h = absurd (true≢false (sym h))
+stamp_same (Sum t d) (Sum u c) h =
+    let time = eqb-true t u (and_left (eqb t u) (bytes_eq d.0 c.0) h) in
+    let sum = same_place d.0 c.0 (and_right (eqb t u) (bytes_eq d.0 c.0) h) in
+    λ i. Sum (time i) (digest (sum i))
+stamp_same (Sum t d) (Made m) h = absurd (true≢false (sym h))
 stamp_same (Made m) (Time t) h = absurd (true≢false (sym h))
+stamp_same (Made m) (Sum t d) h = absurd (true≢false (sym h))
 stamp_same (Made m) (Made n) h = ap Made (eqb-true m n h)
 
 -- the records of one job have one recipe and one list of stamps
 job_parts : (a b : Record) → same_job a b ≡ true → (b.recipe ≡ a.recipe) × (b.stamps ≡ a.stamps)
 job_parts a b h =
-    let later = and_right (eqb a.made b.made) (same_recipe a.recipe b.recipe && pointwise same_stamp a.stamps b.stamps) h in
-    let r = and_left (same_recipe a.recipe b.recipe) (pointwise same_stamp a.stamps b.stamps) later in
+    let later = and_right (eqb a.made b.made) (same_recipe a.recipe b.recipe && (pointwise same_stamp a.stamps b.stamps && eqb a.format b.format)) h in
+    let r = and_left (same_recipe a.recipe b.recipe) (pointwise same_stamp a.stamps b.stamps && eqb a.format b.format) later in
+    let last = and_right (same_recipe a.recipe b.recipe) (pointwise same_stamp a.stamps b.stamps && eqb a.format b.format) later in
     let pi = and_right (same_code a.recipe b.recipe) (same_params a.recipe b.recipe && same_inputs a.recipe b.recipe) r in (
       sym (recipes_same a.recipe b.recipe (and_left (same_code a.recipe b.recipe) _ r) (and_left (same_params a.recipe b.recipe) _ pi) (and_right (same_params a.recipe b.recipe) _ pi)),
-      sym (pointwise_same same_stamp stamp_same a.stamps b.stamps (and_right (same_recipe a.recipe b.recipe) _ later)),
+      sym (pointwise_same same_stamp stamp_same a.stamps b.stamps (and_left (pointwise same_stamp a.stamps b.stamps) (eqb a.format b.format) last)),
     )
 
 pub when_nil : (b : Bool) (r : Reason) → when b r ≡ [] → b ≡ false
@@ -110,7 +120,7 @@ in_once (e ∷ es) x (inr h) = let r = in_once es x h in go r.0 r.1 r.2 (both (b
     go y h k (inl t) = (e, inl refl, subst (λ w. bytes_eq e.0 w ≡ true) (same_place y.0 x.0 k) t)
     go y h k (inr t) = (y, inr (in_filter (λ (d : Path × Option Stamp). not (bytes_eq e.0 d.0)) (once es) y h (ap not t)), k)
 
-once_within : (es : List (Path × Option Stamp)) (x : Path × Option Stamp) → In x (once es) → In x es
+pub once_within : (es : List (Path × Option Stamp)) (x : Path × Option Stamp) → In x (once es) → In x es
 once_within [] x h = absurd h
 once_within (e ∷ es) x (inl p) = inl p
 once_within (e ∷ es) x (inr h) = inr (once_within es x ((filter_in (λ (d : Path × Option Stamp). not (bytes_eq e.0 d.0)) (once es) x h).0))
@@ -151,10 +161,10 @@ module _ (recipe : Recipe) (ks : List Kept) (marked : List Bool) (now : List (Pa
       go false true x y k = absurd (true≢false y)
       go false false x y k = k
 
-  -- a record that a calm job has agrees with the recipe, and each of its stamps with the stamp now
+  -- a record that a calm job has is of the recipe, and each of its stamps agrees with the stamp now
   pub record Agrees (r : Record) : Type 0 where
     pub same : r.recipe ≡ recipe
-    pub steady : (q : Path) (s t : Stamp) → In (q, Some t) (once now) → In (q, s) (stamped r) → s ≡ t
+    pub steady : (q : Path) (s t : Stamp) → In (q, Some t) (once now) → In (q, s) (stamped r) → agree s t ≡ true
 
   unchanged_agrees : (r : Record) → changes recipe now r ≡ [] → Agrees r
   unchanged_agrees r h =
@@ -170,7 +180,7 @@ module _ (recipe : Recipe) (ks : List Kept) (marked : List Bool) (now : List (Pa
         steady = λ q s t i k.
             let never = filter_nil (is_updated (stamped r)) (once now) (q, Some t) updated i in
             let here = any_none (λ (e : Path × Stamp). bytes_eq e.0 q && not (agrees e.1 (Some t))) (stamped r) (q, s) never k in
-            stamp_same s t (not_false (same_stamp s t) (second (bytes_eq q q) (not (same_stamp s t)) (place_itself q) here));
+            not_false (agree s t) (second (bytes_eq q q) (not (agree s t)) (place_itself q) here);
       }
     where
       second : (a b : Bool) → a ≡ true → (a && b) ≡ false → b ≡ false

@@ -8,7 +8,7 @@ use Rattle.smk_record.specs.Records.{is_valid}
 use Rattle.smk_flow.specs.declared.job.Job.{Job}
 use Rattle.smk_flow.specs.Flows.{Flow}
 use Rattle.smk_store.specs.Images.{Image, record_at, core_at, is_known, tree_now, seen}
-use Rattle.smk_store.specs.Trust.{Eased, Versions}
+use Rattle.smk_store.specs.Trust.{Eased, Versions, SumsDiffer}
 use Rattle.smk_store.specs.Soundness.{Outside, Sound, SoundWorld, SameSources}
 use Rattle.smk_chain.specs.Derive.{Listings, listing}
 use Rattle.smk_chain.specs.Mean.{Setting, setting_of, clean_value}
@@ -45,12 +45,14 @@ GathersRight S image settings progress plan L =
 abbrev pub eased_by : Image → (Path → Bool) → Eased
 eased_by image left_out p r = IsTrue (left_out p) × (core_at image p ≡ Some r)
 
--- The last plan of a chain in an image that is sound, where the marks of jobs that run as a Restore are left out. The listings with
--- which the chain began are right where they count; and of each job that isn't Open every field of the command has a value.
+-- The last plan of a chain in an image that is sound, where the marks of jobs that run as a Restore are left out, for versions of which no
+-- two different contents have the same SHA-256. The listings with which the chain began are right where they count; and of each job that
+-- isn't Open every field of the command has a value.
 pub record SoundPlan
     (flow : Flow) (act : Act) (has_fields : Job → Bool) (image : Image) (H : Versions) (settings : Settings) (progress : Progress)
     (L : Listings) (plan : Plan) : Type 0 where
   pub sound : Sound act H image (eased_by image (is_restored image settings progress plan))
+  pub differ : SumsDiffer H
   pub complete : IsComplete image
   pub valid : HasValidRecords image
   pub listed : GathersRight (setting_of flow act has_fields image) image settings progress plan L
@@ -110,6 +112,7 @@ CurrentMeansCleanInWorlds =
     (flow : Flow) (o : Outside) (has_fields : Job → Bool) (w : World) (H : Versions) (settings : Settings) (progress : Progress)
     (L : Listings) (plan : Plan) →
     SoundWorld o w H →
+    SumsDiffer H →
     GathersRight (setting_of flow o.act has_fields (seen o.read w)) (seen o.read w) settings progress plan L →
     LastPlan flow (seen o.read w) settings progress L plan →
     progress.running ≡ [] →

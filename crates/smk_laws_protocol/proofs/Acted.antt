@@ -11,7 +11,7 @@ use Rattle.smk_world.specs.declared.recipe.Kind.TheVariants.{Plain, Folder as Fo
 use Rattle.smk_world.specs.declared.event.Node.{Node}
 use Rattle.smk_world.specs.declared.event.Node.TheVariants.{Regular, Directory}
 use Rattle.smk_record.specs.declared.record.Stamp.{Stamp}
-use Rattle.smk_record.specs.declared.record.Stamp.TheVariants.{Time, Made}
+use Rattle.smk_record.specs.declared.record.Stamp.TheVariants.{Time, Sum, Made}
 use Rattle.smk_base.specs.declared.tree.Tree.{Tree}
 use Rattle.smk_base.specs.declared.tree.Tree.TheVariants.{File}
 use Rattle.smk_world.specs.Trees.{Path, outs_of, all_of, value_at, is_good, are_good, file_in, IsIn, tree_among, part_at, below}
@@ -55,6 +55,7 @@ some_by x a h = rw h refl
 
 pub hand_has_tree : (o : Outside) (w : World) (q : Path) (s : Stamp) → IsAtHand o (now o w) (q, s) → is_some ((now o w).tree q) ≡ true
 hand_has_tree o w q (Time t) hand = file_has_tree o w q (some_by ((now o w).file q) hand.0 (source_file (now o w) q hand.0 hand.1))
+hand_has_tree o w q (Sum t d) hand = file_has_tree o w q (some_by ((now o w).file q) hand.0 (source_file (now o w) q hand.0 hand.1))
 hand_has_tree o w q (Made m) hand = go hand.2.3
   where
     go : (q ≡ hand.0) ⊎ IsTrue (is_some ((now o w).file q)) → is_some ((now o w).tree q) ≡ true

@@ -7,7 +7,7 @@ use Rattle.smk_store.specs.Trust.{Versions, Eased}
 use Rattle.smk_world.specs.World.{World, is_within}
 use Rattle.smk_store.specs.Soundness.{Outside}
 use Rattle.smk_laws_protocol.specs.Protocol.{Phase, Running, OpenJob, RunState, own, eased_by, is_running}
-use Rattle.smk_laws_protocol.proofs.Between.{Fits, InPhase, Midway, IsOfJob, HasOwners, Pairwise}
+use Rattle.smk_laws_protocol.proofs.Between.{Fits, InPhase, VouchesLike, Midway, IsOfJob, HasOwners, Pairwise}
 use Rattle.smk_laws_protocol.proofs.Basics.{each_in, each_of, in_split, in_rest, in_here, clash}
 use Rattle.smk_laws_protocol.proofs.Change.{Change, IsOwner}
 use Rattle.smk_laws_protocol.proofs.Numbers.{record_numbers}
@@ -97,11 +97,16 @@ module _
         images = images_change o laws naming entry H j e (eased_by ts) s.top s.steady w w' m.images.formed owner_here change m.images;
         fits = each_of (Fits o entry (eased_by ts) s.top w') ts (λ k i. fits_there k (left.each k i));
         phases = each_of (InPhase o w') ts (λ k i. phases k i (left.each k i));
+        like = each_of (VouchesLike o H) ts (λ k i. like k (left.each k i));
         apart = pairs;
         children = of_jobs;
         owned = owners;
       }
     where
+      like : (k : OpenJob) → IsIn (js ++ ks) k ⊎ (k ≡ at_phase j phase) → VouchesLike o H k
+      like k (inl h) = each_in (VouchesLike o H) (js ++ j ∷ ks) k m.like (in_rest js ks j k h)
+      like k (inr h) = subst (λ x. VouchesLike o H x) (sym h) (each_in (VouchesLike o H) (js ++ j ∷ ks) j m.like (in_here js ks j))
+
       phases : (k : OpenJob) → IsIn ts k → IsIn (js ++ ks) k ⊎ (k ≡ at_phase j phase) → InPhase o w' k
       phases k i (inl h) = phase_there child k h
       phases k i (inr h) = subst (λ x. InPhase o w' x) (sym h) (in_phase (subst (λ x. IsIn ts x) h i))

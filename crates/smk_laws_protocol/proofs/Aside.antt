@@ -18,7 +18,7 @@ use Rattle.smk_world.specs.World.{World, IsFormed, MayLeave, after, reading, rea
 use Rattle.smk_base.specs.Place.{mark_place, record_place, note_place, lock_place}
 use Rattle.smk_store.specs.Soundness.{Outside}
 use Rattle.smk_laws_protocol.specs.Protocol.{OpenJob, Phase, Marking, RunState, eased, eased_by, runs, is_running, IsLook, IsLock}
-use Rattle.smk_laws_protocol.proofs.Between.{Midway, Fits, InPhase, IsOfJob, HasNoClash, IsUnnamed, IsUnused, IsBounded}
+use Rattle.smk_laws_protocol.proofs.Between.{Midway, Fits, InPhase, VouchesLike, IsOfJob, HasNoClash, IsUnnamed, IsUnused, IsBounded}
 use Rattle.smk_laws_protocol.proofs.Along.{IsQuiet}
 use Rattle.smk_laws_protocol.proofs.Basics.{each_in, each_of, each_on, in_filter, filter_in, by_test, clash, pick_none}
 use Rattle.smk_laws_protocol.proofs.Calls.{event}
@@ -83,6 +83,7 @@ idle o laws entry H s w m =
       fits = each_of (Fits o entry (eased_by (filter (runs o) s.jobs)) s.top w) (filter (runs o) s.jobs) (λ k i.
           fits_less o entry (eased s) (eased_by (filter (runs o) s.jobs)) s.top w k fewer (each_in (Fits o entry (eased s) s.top w) s.jobs k m.fits (in_filter (runs o) s.jobs k i).0));
       phases = each_of (InPhase o w) (filter (runs o) s.jobs) (λ k i. each_in (InPhase o w) s.jobs k m.phases (in_filter (runs o) s.jobs k i).0);
+      like = each_of (VouchesLike o H) (filter (runs o) s.jobs) (λ k i. each_in (VouchesLike o H) s.jobs k m.like (in_filter (runs o) s.jobs k i).0);
       apart = pairs_filter o laws (runs o) s.jobs m.apart;
       children = each_on (IsOfJob o s.jobs) (IsOfJob o (filter (runs o) s.jobs)) of_job w.children m.children;
       owned = λ q h. let k = m.owned q h in (k.0, filter_in (runs o) s.jobs k.0 k.1 k.2, k.2, k.3);
@@ -108,6 +109,7 @@ module _ (o : Outside) (texts : Texts o.read) (entry : World) (H : Versions) (s 
             phase_change o texts.overlap texts.naming entry H d k (eased s) (eased s) w w' m.images.formed change (others k i).1
             (λ p r at. ((each_in (Fits o entry (eased s) s.top w) s.jobs k m.fits i).kept_own p r at).0)
             (λ n h. subst (λ cs. (c : Child) × IsIn cs c × (c.number ≡ n)) (sym quiet.children) (p.child n h)) p);
+        like = m.like;
         apart = m.apart;
         children = subst (λ cs. Each (IsOfJob o s.jobs) cs) (sym quiet.children) m.children;
         owned = λ q h. m.owned q (quiet.owned q h);

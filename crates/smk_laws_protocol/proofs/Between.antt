@@ -16,11 +16,12 @@ use Rattle.smk_world.specs.Trees.{Path, is_path_text, outs_of, all_of, value_at,
 use Rattle.smk_store.specs.Images.{is_outside}
 use Rattle.smk_base.specs.Path.{overlaps, is_at_or_under}
 use Rattle.smk_world.specs.World.{folders_above, in_paths, World, IsFormed, protected, reading, firmly, reads_nothing, standing, is_within, after}
-use Rattle.smk_laws_protocol.specs.Protocol.{kept_at, Phase, Marking, Running, Ended, Firm, Recorded, Dropped, OpenJob, RunState, outputs, own, eased, begun_with, record_of, listed_of, keeps, is_running}
+use Rattle.smk_laws_protocol.specs.Protocol.{kept_at, IsAgain, Phase, Marking, Running, Ended, Firm, Recorded, Dropped, OpenJob, RunState, outputs, own, eased, begun_with, record_of, listed_of, keeps, is_running}
 use Rattle.smk_record.specs.Records.{stamped, serials}
 use Rattle.smk_store.specs.Trust.{Versions, Eased, none_eased}
 use Rattle.smk_laws_protocol.proofs.View.{View, Clear, Sound, source_at, is_source}
 use Rattle.smk_laws_protocol.proofs.Views.{EachImage}
+use Rattle.smk_laws_protocol.proofs.Like.{AreLike}
 use Rattle.smk_base.specs.Place.{mark_place, note_place}
 use Rattle.smk_store.specs.Soundness.{Outside}
 use Rattle.smk_world.specs.Calls.{any_overlap, are_apart}
@@ -101,8 +102,13 @@ module _ (o : Outside) where
       (trees : List Tree) → trees_at now (in_paths j.recipe) ≡ map Some trees →
       ((o.act j.recipe trees).status ≡ 0) × ((o.act j.recipe trees).outputs ≡ trees_at now (outputs j))
 
+  -- where a Restore found a record it stands, or the one that is written in its place
   abbrev pub IsKept : View → OpenJob → Type 0
-  IsKept now j = (p : Path) (r : Record) → kept_at j.kept p ≡ Some r → now.record_at p ≡ Some r
+  IsKept now j = (p : Path) (r : Record) → kept_at j.kept p ≡ Some r → (now.record_at p ≡ Some r) ⊎ (now.record_at p ≡ Some (record_of j p))
+
+  -- the two vouch for the same, and the versions have the sources of both
+  abbrev pub VouchesLike : Versions → OpenJob → Type 0
+  VouchesLike H j = (p : Path) (r : Record) → kept_at j.kept p ≡ Some r → AreLike H r (record_of j p)
 
   -- what counts and overlaps the job's paths is an output of its
   abbrev pub HasNoClash : Eased → OpenJob → View → Type 0
@@ -163,9 +169,9 @@ module _ (o : Outside) where
     pub from_inputs : any_overlap (own j) (in_paths j.recipe) ≡ false
     pub no_source : (q : Path) → is_source (now o entry) q ≡ true → list_any (overlaps q) (own j) ≡ false
     pub each_stamped : length j.stamps ≡ length (in_paths j.recipe)
-    pub kept_own : (p : Path) (r : Record) → kept_at j.kept p ≡ Some r → IsIn (outputs j) p × (r ≡ record_of j p)
-    -- a Restore has found the record of each output
-    pub kept_all : (j.kept ≡ [] → ⊥) → (p : Path) → IsIn (outputs j) p → kept_at j.kept p ≡ Some (record_of j p)
+    pub kept_own : (p : Path) (r : Record) → kept_at j.kept p ≡ Some r → IsIn (outputs j) p × IsAgain r (record_of j p)
+    -- a Restore has found a record of each output
+    pub kept_all : (j.kept ≡ [] → ⊥) → (p : Path) → IsIn (outputs j) p → IsSome (kept_at j.kept p)
     pub no_record_clash : EachImage o.read w (HasNoRecordClash j)
     pub no_clash : EachImage o.read w (HasNoClash e j)
     pub unnamed : j.kept ≡ [] → EachImage o.read w (IsUnnamed e j)
@@ -218,6 +224,7 @@ module _ (o : Outside) where
     pub images : Images entry H (eased s) s.top s.steady w
     pub fits : Each (Fits entry (eased s) s.top w) s.jobs
     pub phases : Each (InPhase w) s.jobs
+    pub like : Each (VouchesLike H) s.jobs
     pub apart : Pairwise s.jobs
     -- each child is that of an open job
     pub children : Each (IsOfJob s.jobs) w.children

@@ -4,7 +4,7 @@ use Rattle.std.specs.Prelude.{◌==◌, if◌then◌else◌}
 use Rattle.std.specs.Option.{option_and_then}
 use Rattle.smk_base.specs.declared.tree.Tree.{Tree}
 use Rattle.smk_record.specs.declared.record.Stamp.{Stamp}
-use Rattle.smk_record.specs.declared.record.Stamp.TheVariants.{Time, Made}
+use Rattle.smk_record.specs.declared.record.Stamp.TheVariants.{Time, Sum, Made}
 use Rattle.smk_record.specs.declared.record.Record.{Record}
 use Rattle.smk_world.specs.Trees.{Path, Act, all_of, value_at, part_at, IsIn}
 use Rattle.smk_store.specs.Trust.{Versions, Eased, vouched}
@@ -60,6 +60,7 @@ pub inputs_for :
     ((h : Path) (s : Record) → Q s → Chain v e s → v.record_at h ≡ Some s → v'.record_at h ≡ Some s → V h ≡ V' h) →
     (x : Path × Stamp) → IsIn (stamped r) x → input_value v H V x ≡ input_value v' H V' x
 inputs_for Q H v v' e e' V V' on r ok chain same (q, Time t) i = refl
+inputs_for Q H v v' e e' V V' on r ok chain same (q, Sum t d) i = refl
 inputs_for Q H v v' e e' V V' on _ ok (Link r place by speaks chains) same (q, Made m) i =
     let s = (speaks q m i).0 in
     let k = on r ok q m i (place q m) (by q m) s (speaks q m i).1 in

@@ -17,7 +17,7 @@ use Rattle.smk_laws_protocol.proofs.Rows.{now}
 use Rattle.smk_world.specs.Calls.{are_apart}
 use Rattle.smk_laws_protocol.proofs.Between.{HasSources, HasNoNew, HasNoRecordClash}
 use Rattle.smk_record.specs.Records.{serials}
-use Rattle.smk_laws_protocol.proofs.Moves.{SameAt}
+use Rattle.smk_laws_protocol.proofs.Moves.{SameAt, Counted}
 use Rattle.smk_laws_protocol.proofs.Naming.{IsImage, IsWide}
 
 pub record SameRecord (v v' : View) (x : Path) : Type 0 where
@@ -38,18 +38,18 @@ pub record Differs (j : OpenJob) (v v' : View) : Type 0 where
   pub records : (x : Path) → (IsIn (outputs j) x → ⊥) → SameRecord v v' x
   pub marks : (x : Path) → (IsIn (outputs j) x → ⊥) → v'.marked x ≡ v.marked x
 
--- what counts now counted before, or is the job's own new record
-abbrev pub Counts : OpenJob → View → Eased → View → Eased → Type 0
-Counts j v e v' e' = (q : Path) (r : Record) → Clear v' e' q r → Clear v e q r ⊎ IsIn (outputs j) q × (r ≡ record_of j q)
+-- Where a record counts now, one that vouches for the same counted before; or it is the job's own new record.
+abbrev pub Counts : Versions → OpenJob → View → Eased → View → Eased → Type 0
+Counts H j v e v' e' = (q : Path) (r : Record) → Clear v' e' q r → Counted H v e q r ⊎ IsIn (outputs j) q × (r ≡ record_of j q)
 
 pub record Change (o : Outside) (entry : World) (H : Versions) (j : OpenJob) (e e' : Eased) (w w' : World) : Type 0 where
   pub formed : IsFormed w'
   pub before : Nodes → Nodes
   pub image : (names : List Path) (g : Nodes) → IsWide w w' names g → IsImage w names (before g)
   pub differs : (names : List Path) (g : Nodes) → IsWide w w' names g → Differs j (view_of o.read names (before g)) (view_of o.read names g)
-  pub counts : (names : List Path) (g : Nodes) → IsWide w w' names g → Counts j (view_of o.read names (before g)) e (view_of o.read names g) e'
+  pub counts : (names : List Path) (g : Nodes) → IsWide w w' names g → Counts H j (view_of o.read names (before g)) e (view_of o.read names g) e'
   pub differs_now : Differs j (now o w) (now o w')
-  pub counts_now : Counts j (now o w) none_eased (now o w') none_eased
+  pub counts_now : Counts H j (now o w) none_eased (now o w') none_eased
   pub known_own : (names : List Path) (g : Nodes) → IsWide w w' names g → (q : Path) → IsIn (outputs j) q → (view_of o.read names g).has_record q ≡ true → ((now o w').has_record q || (now o w').marked q) ≡ true
   pub no_new : EachImage o.read w' (HasNoNew o (now o w'))
   pub sound : EachImage o.read w' (λ v. Sound o.act H v e')

@@ -11,19 +11,20 @@ use Rattle.smk_base.specs.declared.tree.Tree.{Tree}
 use Rattle.smk_base.specs.declared.tree.Tree.TheVariants.{File}
 use Rattle.smk_world.specs.declared.recipe.Kind.{Kind}
 use Rattle.smk_world.specs.declared.recipe.Kind.TheVariants.{Plain, Folder as FolderKind}
-use Rattle.smk_record.specs.declared.record.Stamp.TheVariants.{Time, Made}
+use Rattle.smk_record.specs.declared.record.Stamp.TheVariants.{Time, Sum, Made}
 use Rattle.smk_world.specs.Trees.{Path, among, value_at, all_of, part_at, IsIn, Each, is_path_text}
 use Rattle.smk_store.specs.Images.{is_outside, Content, is_directory}
 use Rattle.smk_laws_protocol.specs.Protocol.{OpenJob, record_of, begun_with}
 use Rattle.smk_world.specs.World.{in_paths, World, MayLeave, IsFormed, IsRising}
 use Rattle.smk_store.specs.Trust.{Versions, Eased, none_eased}
 use Rattle.smk_laws_protocol.proofs.View.{kind_in, View, Sound, source_at, is_source, Chain, Speaks, Holds, is_whole, input_value, vir, holder, file_of}
-use Rattle.smk_record.specs.Records.{same_member}
+use Rattle.smk_record.specs.declared.record.Stamp.{Stamp}
+use Rattle.smk_record.specs.Records.{same_member, is_of_source, source_time}
 use Rattle.smk_laws_protocol.proofs.Views.{Nodes, HasNames, reads, Leaves, view_of, view_by, path_node}
 use Rattle.smk_base.specs.Place.{mark_place, record_place, note_place}
 use Rattle.smk_base.specs.Path.{is_at_or_under}
 use Rattle.smk_store.specs.Soundness.{Outside}
-use Rattle.smk_laws_protocol.proofs.Rows.{now, IsAtHand}
+use Rattle.smk_laws_protocol.proofs.Rows.{now, IsAtHand, IsSourceOf}
 use Rattle.smk_laws_protocol.proofs.Between.{Images, Fits, HoldsGiven}
 use Rattle.smk_laws_protocol.proofs.Moves.{with_nodes}
 use Rattle.smk_laws_protocol.proofs.Places.{over, over_other}
@@ -32,6 +33,7 @@ use Rattle.smk_laws_protocol.proofs.Own.{Falls, Mixed, own_value}
 use Rattle.smk_laws_protocol.proofs.Events.{same_source}
 use Rattle.smk_base.proofs.Places.{place_itself}
 use Rattle.smk_laws_protocol.proofs.Basics.{each_in}
+use Rattle.smk_store.proofs.Versions.{time_is}
 
 -- none of the engine's places lies at or under a path
 pub record Outside_paths : Type 0 where
@@ -164,11 +166,16 @@ module _
   now_sound : Sound o.act H (now o w) e
   now_sound = m.sound w.names (reads w) m.formed.rising (all_named _ m.formed) (all_named _ m.formed) (λ q. reads_stay (w.nodes q))
 
-  source_value :
-      (q : Path) (t n : ℕ) → IsAtHand o (now o w) (q, Time t) → input_value here H (vir here o.act H n) (q, Time t) ≡ (now o w).tree q
-  source_value q t n hand =
-      ap (option_map File) (subst (λ u. H q u ≡ Some hand.0.bytes) hand.2 (now_sound.has_sources q hand.0 hand.1))
+  source_tree : (q : Path) (s : Stamp) (t : ℕ) → source_time s ≡ Some t → IsSourceOf o (now o w) q s → option_map File (H q t) ≡ (now o w).tree q
+  source_tree q s t time hand =
+      ap (option_map File) (subst (λ u. H q u ≡ Some hand.0.bytes) (time_is hand.0 s t hand.2 time) (now_sound.has_sources q hand.0 hand.1))
       ∙ sym (file_tree (path_node (reads w) q) hand.0 _ (source_file (now o w) q hand.0 hand.1))
+
+  source_value :
+      (q : Path) (s : Stamp) (n : ℕ) → is_of_source s ≡ true → IsAtHand o (now o w) (q, s) → input_value here H (vir here o.act H n) (q, s) ≡ (now o w).tree q
+  source_value q (Time t) n is hand = source_tree q (Time t) t refl hand
+  source_value q (Sum t d) n is hand = source_tree q (Sum t d) t refl hand
+  source_value q (Made m) n is hand = absurd (no_truth is)
 
   product :
       (q h : Path) (n : ℕ) (r : Record) → IsIn (begun_with j) (q, Made n) → Speaks here e q h r → r.made ≡ n →
@@ -238,7 +245,7 @@ module _
       Each (IsAtHand o (now o w)) (begun_with j) → HoldsGiven o (now o w) j here p → Holds here o.act H p (record_of j p)
   own_holds p at chain hands given =
       own_value o.act H here e falls p (record_of j p) (λ q. (now o w).tree q) given.0 at chain
-      (λ q t i. source_value q t j.serial (each_in (IsAtHand o (now o w)) (begun_with j) (q, Time t) hands i))
+      (λ q s i is. source_value q s j.serial is (each_in (IsAtHand o (now o w)) (begun_with j) (q, s) hands i))
       (λ q n h r i speaks same. product q h n r i speaks same (each_in (IsAtHand o (now o w)) (begun_with j) (q, Made n) hands i))
       (ap (λ xs. value_at o.act j.recipe p (all_of xs)) (firsts (λ q. (now o w).tree q) (in_paths j.recipe) j.stamps fits.each_stamped) ∙ given.1)
       given.2

@@ -28,7 +28,7 @@ ease_sound act H v marks e e' same fewer eased sound =
     sound_on act H (record v { marked = marks }) v e e' sound
     (λ q. ap (λ b. if b then v.file q else None) (same q))
     (λ q h r s. record { no_source = sym (same q) ∙ s.no_source; holder = s.holder; clear = (s.clear.0, clear h r s.clear.1) })
-    (λ q r x t is c i. sound.has_recorded q r x t is (fewer q c) i)
+    (λ q r x s is c i. sound.has_recorded q r x s is (fewer q c) i)
     (λ q r is c chain whole. (is, sound.holds q r is (fewer q c) chain (whole_on r q (kind_in r q) whole)))
   where
     whole_on : (r : Record) (q : Path) (k : Kind) → IsTrue (is_whole v q k) → IsTrue (is_whole (record v { marked = marks }) q k)

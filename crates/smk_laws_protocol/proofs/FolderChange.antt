@@ -197,7 +197,7 @@ module _
         tree = f.1;
       }
 
-  pub pair : (names : List Path) (g : Nodes) → IsWide w w' names g → Pair j e e' (view_of o.read names (turn.before g)) (view_of o.read names g)
+  pub pair : (names : List Path) (g : Nodes) → IsWide w w' names g → Pair H j e e' (view_of o.read names (turn.before g)) (view_of o.read names g)
   pair names g k =
       record {
         differs = record {
@@ -209,8 +209,8 @@ module _
           };
           marks = λ x f. sym (ap (λ (v : View). v.marked x) (view_is names g));
         };
-        counts = subst (λ v. Counts j (view_of o.read names (turn.before g)) e v e') (view_is names g) (fewer_counts j (view_of o.read names (turn.before g)) e e' fewer);
-        none_counts = subst (λ v. Counts j (view_of o.read names (turn.before g)) none_eased v none_eased) (view_is names g) (fewer_counts j (view_of o.read names (turn.before g)) none_eased none_eased (λ p r h. h));
+        counts = subst (λ v. Counts H j (view_of o.read names (turn.before g)) e v e') (view_is names g) (fewer_counts H j (view_of o.read names (turn.before g)) e e' fewer);
+        none_counts = subst (λ v. Counts H j (view_of o.read names (turn.before g)) none_eased v none_eased) (view_is names g) (fewer_counts H j (view_of o.read names (turn.before g)) none_eased none_eased (λ p r h. h));
       }
 
   abbrev SameNew : View → View → Type 0

@@ -17,9 +17,9 @@ use Rattle.smk_world.specs.World.{World, after, run, reading, standing, is_withi
 use Rattle.smk_world.specs.Calls.{Lets as WorldLets}
 use Rattle.smk_world.specs.Runs.{Follows as WorldFollows}
 use Rattle.smk_world.specs.Trees.{Path, IsIn, among}
-use Rattle.smk_record.specs.declared.record.Stamp.TheVariants.{Time}
+use Rattle.smk_record.specs.declared.record.Stamp.{Stamp}
 use Rattle.smk_record.specs.declared.record.Record.{Record}
-use Rattle.smk_record.specs.Records.{core, stamped}
+use Rattle.smk_record.specs.Records.{core, source_time, stamped}
 use Rattle.smk_store.specs.Images.{Image, Content, image_of, seen, file_at, source_at as image_source_at}
 use Rattle.smk_store.specs.Safety.{or_put, with_sources, forgets, forgotten_so_far, SourcesOf}
 use Rattle.smk_store.specs.Soundness.{Outside, told, Sound as ImageSound, SoundWorld as ImageSoundWorld}
@@ -40,7 +40,7 @@ use Rattle.smk_laws_protocol.proofs.Lessened.{put, Less}
 use Rattle.smk_laws_protocol.proofs.Naming.{IsImage, each_image, now_image}
 use Rattle.smk_laws_protocol.proofs.Quiet.{quiet_call}
 use Rattle.smk_laws_protocol.proofs.Removing.{filled, now_filled, place_other, record_less, note_less, mark_less}
-use Rattle.smk_laws_protocol.proofs.SoundViews.{sound_from, source_is, source_at_is, flagless, flagless_some, file_is}
+use Rattle.smk_laws_protocol.proofs.SoundViews.{sound_from, has_none, source_is, source_at_is, flagless, flagless_some, file_is}
 use Rattle.smk_laws_protocol.proofs.SoundWorlds.{world_to, world_from, source_from, now_is}
 use Rattle.smk_laws_protocol.proofs.Settled.{firm_is}
 use Rattle.smk_laws_protocol.proofs.Stays.{in_left}
@@ -260,12 +260,12 @@ module _ (o : Outside) (entry : World) (H : Versions) (paths : List Path) where
       (less w.names g (subst (λ f. IsImage w w.names f) (sym (now_filled o w m)) i))
 
   -- no record that reads names a file there by its time, of the view
-  unseen_view : (w : World) (p : Path) → IsUnseen (image_now o w) p → (q x : Path) (r : Record) (f : Content) → (now o w).record_at q ≡ Some r → is_at_or_under x p ≡ true → (now o w).file x ≡ Some f → IsIn (stamped r) (x, Time f.time) → ⊥
-  unseen_view w p unseen q x r f at under file named =
+  unseen_view : (w : World) (p : Path) → IsUnseen (image_now o w) p → (q x : Path) (r : Record) (f : Content) → (now o w).record_at q ≡ Some r → is_at_or_under x p ≡ true → (now o w).file x ≡ Some f → (s : Stamp) → IsIn (stamped r) (x, s) → source_time s ≡ Some f.time → ⊥
+  unseen_view w p unseen q x r f at under file s named time =
       let i = image_now o w in
       let c = flagless_some (file_at i x) f (file_is (i.node x) ∙ subst (λ (v : View). v.file x ≡ Some f) (sym (now_is o w H)) file) in
       unseen q x r c.0 (subst (λ (v : View). v.record_at q ≡ Some r) (sym (now_is o w H)) at) under c.1
-      (subst (λ (y : Content). IsIn (stamped r) (x, Time y.time)) (sym c.2) named)
+      s named (time ∙ ap (λ (y : Content). Some y.time) (sym c.2))
 
   module _ (W V : Path → Type 0) (more : (q : Path) → W q → V q) (w : World) where
     removed_step :
@@ -303,7 +303,7 @@ module _ (o : Outside) (entry : World) (H : Versions) (paths : List Path) where
         (let w' = after w (event (Settled ps (Ok tt)) e.left) in
         let a = settled_alike o w h.world.formed ps (Ok tt) e.left in (
           held_first o entry H V p w'
-              (subst (λ (n : View). (q x : Path) (r : Record) (f : Content) → n.record_at q ≡ Some r → is_at_or_under x p ≡ true → n.file x ≡ Some f → IsIn (stamped r) (x, Time f.time) → ⊥) (sym a.now_same) (unseen_view w p unseen))
+              (subst (λ (n : View). (q x : Path) (r : Record) (f : Content) → n.record_at q ≡ Some r → is_at_or_under x p ≡ true → n.file x ≡ Some f → (s : Stamp) → IsIn (stamped r) (x, s) → source_time s ≡ Some f.time → ⊥) (sym a.now_same) (unseen_view w p unseen))
               (subst (λ x. IsFirmAround (after w (event x e.left)) p) is firm) (rest_alike o entry H W V more w w' a h),
           i,
         ))
@@ -365,7 +365,7 @@ module _ (o : Outside) (entry : World) (H : Versions) (paths : List Path) where
 
   safe_image : (es : List Event) (i : Image) → Safe o entry H (IsForgotten paths es) (view i) → ImageSound o.act (with_sources H i) i none_eased × SourcesOf (seen o.read entry) (forgotten_so_far paths es) i
   safe_image es i safe =
-      (sound_from i o.act (with_sources H i) none_eased (subst (λ V. Sound o.act V (view i) none_eased) (put_view i) safe.sound) safe.nested, λ p. go p (safe.sources p))
+      (sound_from i o.act (with_sources H i) none_eased (subst (λ V. Sound o.act V (view i) none_eased) (put_view i) safe.sound) (has_none (with_sources H i)) safe.nested, λ p. go p (safe.sources p))
     where
       go : (p : Path) → (source_at (view i) p ≡ source_at (now o entry) p) ⊎ (IsForgotten paths es p × (is_source (view i) p ≡ true)) → (option_map told (image_source_at i p) ≡ option_map told (image_source_at (seen o.read entry) p)) ⊎ (IsTrue (is_within p (forgotten_so_far paths es)) × (image_source_at i p ≡ file_at i p))
       go p (inl e) = inl (source_from (seen o.read entry) i p (e ∙ ap (λ v. source_at v p) (sym (now_is o entry H))))
@@ -408,10 +408,10 @@ front_follows o w (e ∷ es) rest follows = (follows.0, front_follows o (after w
 pub forgetting_keeps_sound : ForgettingKeepsSound
 forgetting_keeps_sound o entry paths log s follows all =
     record {
-      safe = λ H sound events rest split nodes leaves.
+      safe = λ H differ sound events rest split nodes leaves.
           let part = front o paths Resting s entry events rest (subst (λ es. ForgetsAll o paths Resting entry es s) split all) in
           let h = reached o entry H paths sound events part.0 (front_follows o entry events rest (subst (WorldFollows o.act entry) split follows)) part.1 in
           let k = open_of o entry H paths part.0 (IsForgotten paths events) (run entry events) h in
           safe_image o entry H paths events (image_of o.read nodes) (to_lists o.read (run entry events) k.formed (Safe o entry H (IsForgotten paths events)) k.safe nodes leaves);
-      sound_at_exit = λ H sound resting alone. at_exit o entry H paths s (IsForgotten paths log) (run entry log) resting (reached o entry H paths sound log s follows all);
+      sound_at_exit = λ H differ sound resting alone. at_exit o entry H paths s (IsForgotten paths log) (run entry log) resting (reached o entry H paths sound log s follows all);
     }

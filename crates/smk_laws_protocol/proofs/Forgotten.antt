@@ -13,9 +13,9 @@ use Rattle.smk_world.specs.declared.event.Node.{Node}
 use Rattle.smk_world.specs.declared.event.NodeState.TheVariants.{Owned}
 use Rattle.smk_world.specs.World.{World, IsFormed, IsRising, MayLeave, after, firmly, folders_above, reading, standing}
 use Rattle.smk_world.specs.Trees.{Path, IsIn, is_path_text}
-use Rattle.smk_record.specs.declared.record.Stamp.TheVariants.{Time}
+use Rattle.smk_record.specs.declared.record.Stamp.{Stamp}
 use Rattle.smk_record.specs.declared.record.Record.{Record}
-use Rattle.smk_record.specs.Records.{core, stamped}
+use Rattle.smk_record.specs.Records.{core, source_time, stamped}
 use Rattle.smk_store.specs.Images.{Content, is_outside}
 use Rattle.smk_store.specs.Safety.{or_put}
 use Rattle.smk_store.specs.Soundness.{Outside}
@@ -255,7 +255,7 @@ module _ (o : Outside) (entry : World) (H : Versions) where
 
   pub held_first :
       (W : Path → Type 0) (p : Path) (w : World) →
-      ((q x : Path) (r : Record) (f : Content) → (now o w).record_at q ≡ Some r → is_at_or_under x p ≡ true → (now o w).file x ≡ Some f → IsIn (stamped r) (x, Time f.time) → ⊥) →
+      ((q x : Path) (r : Record) (f : Content) → (now o w).record_at q ≡ Some r → is_at_or_under x p ≡ true → (now o w).file x ≡ Some f → (s : Stamp) → IsIn (stamped r) (x, s) → source_time s ≡ Some f.time → ⊥) →
       IsFirmAround w p → Rest W w → Held W p w
   held_first W p w unseen firm rest =
       record {

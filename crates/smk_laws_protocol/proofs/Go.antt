@@ -19,6 +19,7 @@ use Rattle.smk_base.specs.Path.{is_under, overlaps, is_at_or_under}
 use Rattle.smk_world.specs.World.{in_paths, World, IsFormed, MayLeave, after, owned_by, reading, loose, standing}
 use Rattle.smk_store.specs.Trust.{Versions, Eased}
 use Rattle.smk_laws_protocol.proofs.View.{View}
+use Rattle.smk_record.specs.declared.record.Record.{Record}
 use Rattle.smk_record.specs.Records.{core}
 use Rattle.smk_laws_protocol.proofs.Views.{EachImage, HasNames, reads, view_of, read_at}
 use Rattle.smk_base.specs.Place.{mark_place, record_place, note_place}
@@ -101,8 +102,14 @@ module _
   record_stays : (c : Call) → Allows o j c → HasNoRecords o texts w j fits.paths owned c → (x : Path) → (now o (then_ c)).record_at x ≡ (now o w).record_at x
   record_stays c a none x = record_same o w (then_ c) x (untouched_same w (record_place x) c left (record_untouched o texts w j fits.paths owned c a none x)).reads_same
 
+  kept_by :
+      (v : View) (p : Path) (r : Record) → v.record_at p ≡ (now o w).record_at p →
+      ((now o w).record_at p ≡ Some r) ⊎ ((now o w).record_at p ≡ Some (record_of j p)) → (v.record_at p ≡ Some r) ⊎ (v.record_at p ≡ Some (record_of j p))
+  kept_by v p r same (inl is) = inl (same ∙ is)
+  kept_by v p r same (inr is) = inr (same ∙ is)
+
   pub kept_on : (c : Call) → Allows o j c → HasNoRecords o texts w j fits.paths owned c → keeps j.phase ≡ true → IsKept o (now o (then_ c)) j
-  kept_on c a none h p r at = record_stays c a none p ∙ phase.kept h p r at
+  kept_on c a none h p r at = kept_by (now o (then_ c)) p r (record_stays c a none p) (phase.kept h p r at)
 
   -- ---- a row
 
@@ -223,9 +230,8 @@ module _
     kept_written : keeps j.phase ≡ true → IsKept o (now o (then_ writing)) j
     kept_written h x r at =
         by_test (bytes_eq x p)
-        (λ k. subst (λ y. (now o (then_ writing)).record_at y ≡ Some r) (sym (same_place x p k))
-        (new_reads ∙ ap Some (sym ((fits.kept_own x r at).1 ∙ ap (record_of j) (same_place x p k)))))
-        (λ k. record_same o w (then_ writing) x (ap reading (node_same (record_place x) (texts.records.record_record p x k))) ∙ phase.kept h x r at)
+        (λ k. inr (subst (λ y. (now o (then_ writing)).record_at y ≡ Some (record_of j y)) (sym (same_place x p k)) new_reads))
+        (λ k. kept_by (now o (then_ writing)) x r (record_same o w (then_ writing) x (ap reading (node_same (record_place x) (texts.records.record_record p x k)))) (phase.kept h x r at))
 
     made_written : Allows o j writing → is_made o j.phase ≡ true → EachImage o.read (then_ writing) (λ v. Each (HoldsGiven o (now o (then_ writing)) j v) (outputs j))
     made_written a h =

@@ -3,7 +3,7 @@ use Rattle.std.proofs.Common.{◌≡◌, ◌⊎◌, Bool, true, false, List, [],
 use Rattle.std.specs.Prelude.{bytes_eq, IsSome, if◌then◌else◌, find, reverse}
 use Rattle.smk_record.specs.declared.record.Record.{Record}
 use Rattle.smk_record.specs.declared.record.Member.{Member}
-use Rattle.smk_world.specs.Trees.{Path, IsIn}
+use Rattle.smk_world.specs.Trees.{Path, IsIn, among, folders_of}
 use Rattle.smk_base.specs.Path.{overlaps}
 use Rattle.smk_world.specs.World.{folders_above}
 use Rattle.smk_store.specs.Trust.{is_folder_record, Eased, none_eased}
@@ -65,21 +65,25 @@ holder_over v q h is =
     (λ r at. inl (some_same (sym is ∙ own_holder v q r at)))
     (λ at. inr (found_in (λ f. is_folder_record f (v.record_at f)) (reverse (folders_above q)) h (sym (far_holder v q at) ∙ is)))
 
-is_some_of : {A : Type 0} (a : A) (x : Option A) → x ≡ Some a → IsSome x
+pub is_some_of : {A : Type 0} (a : A) (x : Option A) → x ≡ Some a → IsSome x
 is_some_of a x h = rw h refl
 
 pub one_holder :
     (o : Outside) → FolderLaws → (now v : View) (e : Eased) → HasNoNested o now →
-    (q h g : Path) (r s : Record) → Speaks v e q h r → now.record_at h ≡ Some r → Speaks now none_eased q g s → h ≡ g
+    (q h g : Path) (r s : Record) → Speaks v e q h r → IsSome (now.record_at h) → Speaks now none_eased q g s → h ≡ g
 one_holder o laws now v e nested q h g r s speaks there speaks' =
-    nested h g (is_some_of r (now.record_at h) there) (is_some_of s (now.record_at g) speaks'.clear.0)
+    nested h g there (is_some_of s (now.record_at g) speaks'.clear.0)
     (laws.nested q h g (holder_over v q h speaks.holder) (holder_over now q g speaks'.holder))
+
+-- a record with the same recipe read there
+abbrev pub HasBefore : View → Path → Record → Type 0
+HasBefore v p r = (s : Record) × (v.record_at p ≡ Some s) × (s.recipe ≡ r.recipe)
 
 -- Another record at a path that none that counts overlaps, or at least not before: what spoke still does.
 module _
     (laws : FolderLaws) (v : View) (p : Path) (has : Path → Bool) (at : Path → Option Record) (listed : Path → List Member) (e : Eased)
     (at_same : (q : Path) → bytes_eq q p ≡ false → at q ≡ v.record_at q)
-    (alone : (h : Path) (r : Record) → Clear (with_record v has at listed) e h r → overlaps h p ≡ true → (h ≡ p) × (v.record_at p ≡ Some r)) where
+    (alone : (h : Path) (r : Record) → Clear (with_record v has at listed) e h r → overlaps h p ≡ true → (h ≡ p) × HasBefore v p r) where
   pub holder_stays : (q h : Path) (r : Record) → holder (with_record v has at listed) q ≡ Some h → Clear (with_record v has at listed) e h r → holder v q ≡ Some h
   holder_stays q h r is clear = by_option (at q) near far
     where
@@ -89,7 +93,7 @@ module _
           (λ same.
           let e1 = some_same (sym (own_holder (with_record v has at listed) q s k) ∙ is) in
           let there = alone h r clear (laws.nested q h p (inl (sym e1)) (inl (sym (same_place q p same)))) in
-          own_holder v q r (subst (λ x. v.record_at x ≡ Some r) (sym (same_place q p same)) there.1) ∙ ap Some e1)
+          own_holder v q there.1.0 (subst (λ x. v.record_at x ≡ Some there.1.0) (sym (same_place q p same)) there.1.1) ∙ ap Some e1)
           (λ other. own_holder v q s (sym (at_same q other) ∙ k) ∙ sym (own_holder (with_record v has at listed) q s k) ∙ is)
 
       far : at q ≡ None → holder v q ≡ Some h
@@ -112,6 +116,6 @@ module _
               here : bytes_eq x p ≡ true → is_folder_record x (v.record_at x) ≡ is_folder_record x (at x)
               here same =
                   let there = alone h r clear (laws.nested q h p (inr found) (inr (subst (λ y. IsIn (reverse (folders_above q)) y) (same_place x p same) i))) in
-                  ap (is_folder_record x)
-                  (subst (λ y. v.record_at y ≡ Some r) (sym (same_place x p same)) there.1
-                  ∙ sym (subst (λ y. at y ≡ Some r) (there.0 ∙ sym (same_place x p same)) clear.0))
+                  ap (is_folder_record x) (subst (λ y. v.record_at y ≡ Some there.1.0) (sym (same_place x p same)) there.1.1)
+                  ∙ ap (λ c. among (folders_of c) x) there.1.2
+                  ∙ sym (ap (is_folder_record x) (subst (λ y. at y ≡ Some r) (there.0 ∙ sym (same_place x p same)) clear.0))

@@ -15,6 +15,7 @@ use Rattle.smk_laws_protocol.proofs.Rows.{now}
 use Rattle.smk_laws_protocol.proofs.Between.{Images, IsBounded, IsTop, HasNoNested, HasNoRecordClash, HasKnown}
 use Rattle.smk_laws_protocol.proofs.Basics.{any_by}
 use Rattle.smk_laws_protocol.proofs.Change.{Change, IsOwner}
+use Rattle.smk_laws_protocol.proofs.Moves.{Counted}
 use Rattle.smk_laws_protocol.proofs.Naming.{NamesLaws, IsWide, each_image, of_wide}
 use Rattle.smk_laws_protocol.proofs.Texts.{OverlapLaws}
 use Rattle.smk_laws_protocol.proofs.Apart.{apart_same}
@@ -23,8 +24,8 @@ use Rattle.smk_laws_protocol.proofs.Stays.{in_left, own_or_not}
 module _
     (o : Outside) (laws : OverlapLaws) (naming : NamesLaws o.read) (entry : World) (H : Versions) (j : OpenJob) (e e' : Eased) (top : ℕ) (steady : Bool) (w w' : World) (formed : IsFormed w)
     (fits : IsOwner o top w j) (change : Change o entry H j e e' w w') where
-  bounded_by : (v : View) → IsBounded o e top v → (q : Path) (r : Record) (n : ℕ) → IsIn (serials r) n → Clear v e q r ⊎ IsIn (outputs j) q × (r ≡ record_of j q) → n ≤ top
-  bounded_by v b q r n i (inl c) = b q r n c i
+  bounded_by : (v : View) → IsBounded o e top v → (q : Path) (r : Record) (n : ℕ) → IsIn (serials r) n → Counted H v e q r ⊎ IsIn (outputs j) q × (r ≡ record_of j q) → n ≤ top
+  bounded_by v b q r n i (inl c) = b q c.0 n c.1 (subst (λ ns. IsIn ns n) c.2.serials i)
   bounded_by v b q r n i (inr m) = fits.numbers_low q n (subst (λ s. IsIn (serials s) n) m.1 i)
 
   nested : EachImage o.read w (HasNoNested o) → EachImage o.read w' (HasNoNested o)
@@ -62,9 +63,12 @@ module _
   top_on : IsTop o w top → IsTop o w' top
   top_on is p r n at unmarked i = go (change.counts_now p r (at, inl unmarked))
     where
-      go : Clear (now o w) none_eased p r ⊎ IsIn (outputs j) p × (r ≡ record_of j p) → n ≤ top
-      go (inl (c, inl m)) = is p r n c m i
-      go (inl (c, inr m)) = absurd m
+      counted : (s : Record) → Clear (now o w) none_eased p s → IsIn (serials s) n → n ≤ top
+      counted s (at, inl m) i = is p s n at m i
+      counted s (at, inr m) i = absurd m
+
+      go : Counted H (now o w) none_eased p r ⊎ IsIn (outputs j) p × (r ≡ record_of j p) → n ≤ top
+      go (inl c) = counted c.0 c.1 (subst (λ ns. IsIn ns n) c.2.serials i)
       go (inr m) = fits.numbers_low p n (subst (λ s. IsIn (serials s) n) m.1 i)
 
   pub images_change : Images o entry H e top steady w → Images o entry H e' top steady w'

@@ -1,11 +1,11 @@
 -- The open jobs of a state: apart in pairs, also where one is taken out or changes its phase, and where those that run are kept.
-use Rattle.std.proofs.Common.{◌≡◌, ◌⊎◌, ℕ, Bool, true, false, List, [], ◌∷◌, ◌++◌, refl, sym, subst, inl, inr, Some}
+use Rattle.std.proofs.Common.{◌≡◌, ◌⊎◌, ℕ, Bool, true, false, List, [], ◌∷◌, ◌++◌, refl, sym, subst, inl, inr}
 use Rattle.std.specs.Prelude.{filter, if◌then◌else◌}
 use Rattle.std.specs.List.{list_any}
 use Rattle.smk_record.specs.declared.record.Record.{Record}
 use Rattle.smk_world.specs.Trees.{Path, IsIn}
 use Rattle.smk_base.specs.Path.{overlaps}
-use Rattle.smk_laws_protocol.specs.Protocol.{kept_at, Phase, Running, OpenJob, own, outputs, keeps, eased_by}
+use Rattle.smk_laws_protocol.specs.Protocol.{Phase, Running, OpenJob, own, outputs, keeps, IsEased, eased_by}
 use Rattle.smk_world.specs.World.{in_paths, World}
 use Rattle.smk_store.specs.Trust.{Eased}
 use Rattle.smk_store.specs.Soundness.{Outside}
@@ -104,6 +104,9 @@ eased_fewer xs ys fewer p r h = (h.0, fewer h.0 h.1, h.2, h.3)
 pub eased_phase : (js ks : List OpenJob) (j : OpenJob) (phase : Phase) → (keeps phase ≡ true → keeps j.phase ≡ true) → (in_old : (k : OpenJob) → IsIn (js ++ ks) k → IsIn (js ++ j ∷ ks) k) → IsIn (js ++ j ∷ ks) j → (p : Path) (r : Record) → eased_by (js ++ at_phase j phase ∷ ks) p r → eased_by (js ++ j ∷ ks) p r
 eased_phase js ks j phase less in_old here p r h = go h.0 h.2 h.3 (in_split js ks (at_phase j phase) h.0 h.1)
   where
-    go : (k : OpenJob) → keeps k.phase ≡ true → kept_at k.kept p ≡ Some r → (k ≡ at_phase j phase) ⊎ IsIn (js ++ ks) k → eased_by (js ++ j ∷ ks) p r
-    go k is at (inl e) = (j, here, less (subst (λ (x : OpenJob). keeps x.phase ≡ true) e is), subst (λ (x : OpenJob). kept_at x.kept p ≡ Some r) e at)
+    in_phase : IsEased (at_phase j phase) p r → IsEased j p r
+    in_phase x = record { found = x.found; kept = x.kept; is = x.is }
+
+    go : (k : OpenJob) → keeps k.phase ≡ true → IsEased k p r → (k ≡ at_phase j phase) ⊎ IsIn (js ++ ks) k → eased_by (js ++ j ∷ ks) p r
+    go k is at (inl e) = (j, here, less (subst (λ (x : OpenJob). keeps x.phase ≡ true) e is), in_phase (subst (λ x. IsEased x p r) e at))
     go k is at (inr i) = (k, in_old k i, is, at)

@@ -8,7 +8,7 @@ use Rattle.smk_world.specs.declared.event.Event.{Event}
 use Rattle.smk_record.specs.declared.record.Record.{Record}
 use Rattle.smk_world.specs.Trees.{Path}
 use Rattle.smk_world.specs.World.{in_paths, World, after}
-use Rattle.smk_store.specs.Trust.{Versions}
+use Rattle.smk_store.specs.Trust.{Versions, SumsDiffer}
 use Rattle.smk_world.specs.Calls.{failed, any_overlap}
 use Rattle.smk_base.specs.Place.{lock_place}
 use Rattle.smk_store.specs.Soundness.{Outside}
@@ -171,7 +171,7 @@ first_allows o j (Written p bytes r) h i = absurd i
 first_allows o j (Started recipe logs command r) h i = absurd i
 first_allows o j (Waited r) h i = absurd i
 
-module _ (o : Outside) (texts : Texts o.read) (entry : World) (H : Versions) where
+module _ (o : Outside) (texts : Texts o.read) (entry : World) (H : Versions) (differ : SumsDiffer H) where
   aside_row : (s : RunState) (w : World) (c : Call) (left : List LeftNode) → Midway o entry H s w → Lets o w (event c left) c → AsideAllows o s w c → Midway o entry H s (after w (event c left))
   aside_row s w (Looked p r) left m lets a = look_keeps o texts entry H s w m (Looked p r) left tt
   aside_row s w (ReadFile p limit r) left m lets a = look_keeps o texts entry H s w m (ReadFile p limit r) left tt
@@ -230,7 +230,7 @@ module _ (o : Outside) (texts : Texts o.read) (entry : World) (H : Versions) whe
   fails s w c left m lets f ev s' is (Steady _ ps nf none settles all) = aside_fails s w c left m lets f (subst (AsideAllows o s w) is (subst (AsideAllows o s w) (sym settles) tt))
   fails s w c left m lets f ev s' is (Begin _ j top nf steady may serial h first) =
       subst (λ (b : Bool). Midway o entry H (record s { jobs = if b then j ∷ filter (runs o) s.jobs else filter (runs o) s.jobs; top = top; faulted = true }) (after w (event c left))) (ap is_running h)
-      (job_fails (record s { jobs = j ∷ s.jobs; top = top }) [] s.jobs j w c left refl (opened o texts entry H s w j top m steady may serial h) lets f
+      (job_fails (record s { jobs = j ∷ s.jobs; top = top }) [] s.jobs j w c left refl (opened o texts entry H s w j top m steady may serial h differ) lets f
       (subst (Allows o j) is (first_allows o j ev.call h first)) (ap is_running h))
   fails s w c left m lets f ev s' is (Go _ js ks j phase jobs may moves) = by_wait (not_running o w j ev.call phase moves)
     where
@@ -246,7 +246,7 @@ module _ (o : Outside) (texts : Texts o.read) (entry : World) (H : Versions) whe
   pub keeps : Keeps o entry H
   keeps s s' w e m lets (Aside _ nf b) = aside_row s w e.call e.left m lets (aside_allows o s w e.call b)
   keeps s s' w e m lets (Steady _ ps nf none settles all) = steadied o texts entry H s w m e.call e.left ps none settles all
-  keeps s s' w e m lets (Begin _ j top nf steady may serial h first) = begins s w e.call e.left j top (opened o texts entry H s w j top m steady may serial h) lets h first
+  keeps s s' w e m lets (Begin _ j top nf steady may serial h first) = begins s w e.call e.left j top (opened o texts entry H s w j top m steady may serial h differ) lets h first
   keeps s s' w e m lets (Go _ js ks j phase jobs may moves) = every_row o texts entry H s js ks j w (at_jobs s w (js ++ j ∷ ks) jobs m) e.left e.call phase lets moves
   keeps s s' w e m lets (Close _ js ks j jobs nf h) = closes s js ks j w e.call e.left (at_jobs s w (js ++ j ∷ ks) jobs m) lets h
   keeps s s' w e m lets (Fail _ s2 f step) = fails s w e.call e.left m lets f (record e { call = as_ok e.call }) s2 refl step

@@ -23,7 +23,7 @@ pub sound_less :
 sound_less act H v e e' fewer sound =
     sound_on act H v v e e' sound (λ q. refl)
     (λ q h r s. record { no_source = s.no_source; holder = s.holder; clear = (s.clear.0, clear h r s.clear.1) })
-    (λ q r x t is clear i. sound.has_recorded q r x t is clear i)
+    (λ q r x s is clear i. sound.has_recorded q r x s is clear i)
     (λ q r is clear chain whole. (is, sound.holds q r is clear chain whole))
   where
     clear : (h : Path) (r : Record) → (v.marked h ≡ false) ⊎ (e' h r) → (v.marked h ≡ false) ⊎ (e h r)
@@ -66,6 +66,7 @@ module _ (o : Outside) (entry : World) (H : Versions) where
         };
         fits = tt;
         phases = tt;
+        like = tt;
         apart = tt;
         children = subst (λ cs. Each (IsOfJob o []) cs) (sym sound.no_child) tt;
         owned = λ q h. absurd (sound.no_owned q h);

@@ -11,9 +11,9 @@ use Rattle.smk_world.specs.declared.recipe.Kind.{Kind}
 use Rattle.smk_world.specs.World.{folders_above}
 use Rattle.smk_world.specs.Trees.{Path, Act, IsIn, among, is_path_text, all_of, value_at, part_at}
 use Rattle.smk_record.specs.declared.record.Stamp.{Stamp}
-use Rattle.smk_record.specs.declared.record.Stamp.TheVariants.{Time, Made}
+use Rattle.smk_record.specs.declared.record.Stamp.TheVariants.{Time, Sum, Made}
 use Rattle.smk_record.specs.declared.record.Record.{Record}
-use Rattle.smk_record.specs.Records.{stamped}
+use Rattle.smk_record.specs.Records.{stamped, source_time}
 use Rattle.smk_store.specs.Images.{Content}
 use Rattle.smk_store.specs.Safety.{or_put}
 use Rattle.smk_store.specs.Soundness.{Outside}
@@ -21,9 +21,10 @@ use Rattle.smk_store.specs.Trust.{Versions, none_eased, vouched}
 use Rattle.smk_laws_protocol.proofs.View.{kind_in, View, Clear, Speaks, Chain, Link, Sound, holder, is_known, is_covered, is_source, source_at, is_whole, input_value, vir}
 use Rattle.smk_laws_protocol.proofs.Between.{HasNoNested}
 use Rattle.smk_laws_protocol.proofs.Basics.{by_test, clash, none_some, some_of, any_by}
+use Rattle.smk_store.proofs.Versions.{version_on}
 use Rattle.smk_laws_protocol.proofs.Chains.{Passes, map_same, chain_on, vir_on, value_of_product}
 use Rattle.smk_laws_protocol.proofs.Crux.{whole_on}
-use Rattle.smk_laws_protocol.proofs.Holders.{holder_stays, by_option}
+use Rattle.smk_laws_protocol.proofs.Holders.{HasBefore, holder_stays, by_option}
 use Rattle.smk_laws_protocol.proofs.TextFacts.{text_laws}
 use Rattle.smk_laws_protocol.proofs.TextFolders.{folders_are, among_by}
 
@@ -51,7 +52,7 @@ pub record Less (p : Path) (v0 v1 : View) : Type 0 where
 abbrev pub Unseen : Path → View → Type 0
 Unseen p v =
     (q x : Path) (r : Record) (f : Content) →
-    v.record_at q ≡ Some r → v.marked q ≡ false → is_at_or_under x p ≡ true → v.file x ≡ Some f → IsIn (stamped r) (x, Time f.time) → ⊥
+    v.record_at q ≡ Some r → v.marked q ≡ false → is_at_or_under x p ≡ true → v.file x ≡ Some f → (s : Stamp) → IsIn (stamped r) (x, s) → source_time s ≡ Some f.time → ⊥
 
 -- ---- tests
 
@@ -101,7 +102,7 @@ unmarked_of v h r (at, inl m) = (h, at, m)
 unmarked_of v h r (at, inr m) = absurd m
 
 vir_put :
-    (v : View) (act : Act) (H V : Versions) → ((r : Record) → Unmarked v r → (x : Path) (t : ℕ) → IsIn (stamped r) (x, Time t) → H x t ≡ V x t) →
+    (v : View) (act : Act) (H V : Versions) → ((r : Record) → Unmarked v r → (x : Path) (s : Stamp) (t : ℕ) → IsIn (stamped r) (x, s) → source_time s ≡ Some t → H x t ≡ V x t) →
     (n : ℕ) (p : Path) (r : Record) → v.record_at p ≡ Some r → Unmarked v r → Chain v none_eased r → vir v act H n p ≡ vir v act V n p
 vir_put v act H V agree zero p r at ok chain = refl
 vir_put v act H V agree (suc n) p r at ok (Link _ place by speaks chains) =
@@ -112,7 +113,8 @@ vir_put v act H V agree (suc n) p r at ok (Link _ place by speaks chains) =
     inputs :
         ((h : Path) (s : Record) → v.record_at h ≡ Some s → Unmarked v s → Chain v none_eased s → vir v act H n h ≡ vir v act V n h) →
         (x : Path × Stamp) → IsIn (stamped r) x → input_value v H (vir v act H n) x ≡ input_value v V (vir v act V n) x
-    inputs ih (q, Time t) i = ap (option_map File) (agree r ok q t i)
+    inputs ih (q, Time t) i = ap (option_map File) (agree r ok q (Time t) t i refl)
+    inputs ih (q, Sum t d) i = ap (option_map File) (agree r ok q (Sum t d) t i refl)
     inputs ih (q, Made m) i =
         let s = (speaks q m i).0 in
         value_of_product v H (vir v act H n) q (place q m) m (by q m) s.holder s.clear.0 (speaks q m i).1
@@ -235,10 +237,10 @@ module _ (p : Path) (v0 v1 : View) (less : Less p v0 v1) where
         some_is : {A : Type 0} (x : Option A) (a : A) → x ≡ Some a → IsSome x
         some_is x a e = rw e refl
 
-        alone : (s : Record) → v0.record_at p ≡ Some s → (x : Path) (c : Record) → (v1.record_at x ≡ Some c) × ((v0.marked x ≡ false) ⊎ ⊥) → overlaps x p ≡ true → (x ≡ p) × (v0.record_at p ≡ Some c)
+        alone : (s : Record) → v0.record_at p ≡ Some s → (x : Path) (c : Record) → (v1.record_at x ≡ Some c) × ((v0.marked x ≡ false) ⊎ ⊥) → overlaps x p ≡ true → (x ≡ p) × HasBefore v0 p c
         alone s there x c clear over =
             let same = nested x p (some_is (v0.record_at x) c (record_before x c clear.0)) (some_is (v0.record_at p) s there) over in
-            (same, subst (λ y. v0.record_at y ≡ Some c) same (record_before x c clear.0))
+            (same, (c, subst (λ y. v0.record_at y ≡ Some c) same (record_before x c clear.0), refl))
 
         same_all : v0.record_at p ≡ None → v1.record_at ≡ v0.record_at
         same_all none k x = by_test (bytes_eq x p) (λ e. here x (same_place x p e) (less.records x)) (λ other. (same_record x other).at) k
@@ -266,12 +268,12 @@ module _ (p : Path) (v0 v1 : View) (less : Less p v0 v1) where
 
     module _ (act : Act) (H : Versions) (unseen : Unseen p v0) (sound : Sound act (put H v0) v0 none_eased) where
       -- what a record of the second view names of a source has the same bytes in both
-      agree : (r : Record) → Unmarked v1 r → (x : Path) (t : ℕ) → IsIn (stamped r) (x, Time t) → put H v1 x t ≡ put H v0 x t
-      agree r ok x t i = go (sources_less x)
+      agree : (r : Record) → Unmarked v1 r → (x : Path) (s : Stamp) (t : ℕ) → IsIn (stamped r) (x, s) → source_time s ≡ Some t → put H v1 x t ≡ put H v0 x t
+      agree r ok x s t i time = go (sources_less x)
         where
           named : (f : Content) → is_at_or_under x p ≡ true → v1.file x ≡ Some f → f.time ≡ t → ⊥
           named f under file same =
-              unseen ok.0 x r f (record_before ok.0 r ok.1) (unmarked_before ok.0 r ok.1 ok.2) under (sym (less.file x) ∙ file) (subst (λ y. IsIn (stamped r) (x, Time y)) (sym same) i)
+              unseen ok.0 x r f (record_before ok.0 r ok.1) (unmarked_before ok.0 r ok.1 ok.2) under (sym (less.file x) ∙ file) s i (time ∙ ap (λ n. Some n) (sym same))
 
           other : (y : Option Content) → v1.file x ≡ y → is_at_or_under x p ≡ true → or_put (H x t) t y ≡ H x t
           other None e under = refl
@@ -288,8 +290,8 @@ module _ (p : Path) (v0 v1 : View) (less : Less p v0 v1) where
       less_sound =
           record {
             has_sources = λ q f is. ap (or_put (H q f.time) f.time) is ∙ ap (λ (b : Bool). if b then Some f.bytes else H q f.time) (itself f.time);
-            has_recorded = λ q r x t at unmarked i.
-                subst (λ (y : Option (List ℕ)). IsSome y) (sym (agree r (q, at, unmarked) x t i)) (sound.has_recorded q r x t (record_before q r at) (unmarked_before q r at unmarked) i);
+            has_recorded = λ q r x s at unmarked i.
+                version_on (put H v0) (put H v1) x s (λ t time. sym (agree r (q, at, unmarked) x s t i time)) (sound.has_recorded q r x s (record_before q r at) (unmarked_before q r at unmarked) i);
             holds = λ q r at unmarked chain whole.
                 let h = sound.holds q r (record_before q r at) (unmarked_before q r at unmarked) (chain_on v1 v0 none_eased none_eased passes r chain) (whole_before q (kind_in r q) r at whole) in (
                   h.0,

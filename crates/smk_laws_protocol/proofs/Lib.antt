@@ -31,6 +31,7 @@ pub mod Jobs
 pub mod Keeping
 pub mod Law
 pub mod Lessened
+pub mod Like
 pub mod MarkChange
 pub mod Marking
 pub mod MarksNow
@@ -81,6 +82,7 @@ pub mod Unmarking
 pub mod Unowned
 pub mod Untouched
 pub mod Valid
+pub mod Hand
 pub mod View
 pub mod ViewLaws
 pub mod Views

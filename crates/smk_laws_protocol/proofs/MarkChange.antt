@@ -19,6 +19,7 @@ use Rattle.smk_laws_protocol.proofs.Basics.{by_test, clash}
 use Rattle.smk_laws_protocol.proofs.Change.{Change, Differs}
 use Rattle.smk_laws_protocol.proofs.Events.{CoversOverlaps, made_safe}
 use Rattle.smk_laws_protocol.proofs.Law.{sound_less}
+use Rattle.smk_laws_protocol.proofs.Like.{like_self}
 use Rattle.smk_laws_protocol.proofs.Marking.{MayMark}
 use Rattle.smk_laws_protocol.proofs.Naming.{each_image, of_wide}
 use Rattle.smk_laws_protocol.proofs.Places.{with_marked, back_view}
@@ -70,12 +71,12 @@ marked_differs j v p b i =
     elsewhere x f true h = absurd (f (subst (λ y. IsIn (outputs j) y) (sym (same_place x p h)) i))
     elsewhere x f false h = refl
 
-pub marked_pair : (j : OpenJob) (e e' : Eased) → ((p : Path) (r : Record) → e' p r → e p r) → (v : View) (p : Path) (b : Bool) → IsIn (outputs j) p → v.marked p ≡ false → Pair j e e' v (with_marked v p b)
-marked_pair j e e' fewer v p b i none =
+pub marked_pair : (H : Versions) (j : OpenJob) (e e' : Eased) → ((p : Path) (r : Record) → e' p r → e p r) → (v : View) (p : Path) (b : Bool) → IsIn (outputs j) p → v.marked p ≡ false → Pair H j e e' v (with_marked v p b)
+marked_pair H j e e' fewer v p b i none =
     record {
       differs = marked_differs j v p b i;
-      counts = λ q r c. inl (c.0, less e e' fewer q r c.1);
-      none_counts = λ q r c. inl (c.0, less none_eased none_eased (λ p r h. h) q r c.1);
+      counts = λ q r c. inl (r, (c.0, less e e' fewer q r c.1), like_self H r);
+      none_counts = λ q r c. inl (r, (c.0, less none_eased none_eased (λ p r h. h) q r c.1), like_self H r);
     }
   where
     less : (e e' : Eased) → ((p : Path) (r : Record) → e' p r → e p r) → (q : Path) (r : Record) → ((if bytes_eq q p then b else v.marked q) ≡ false) ⊎ e' q r → (v.marked q ≡ false) ⊎ e q r
@@ -101,8 +102,8 @@ module _
           ∙ nothing_reads (w.nodes (mark_place p)) made.nothing
       go false = refl
 
-  pair : (names : List Path) (g : Nodes) → Pair j e e' (view_of o.read names (turn.before g)) (view_of o.read names g)
-  pair names g = subst (Pair j e e' (view_of o.read names (turn.before g))) (view_is names g) (marked_pair j e e' fewer (view_of o.read names (turn.before g)) p (is_some (place_node g mark_place p)) i (unmarked names g))
+  pair : (names : List Path) (g : Nodes) → Pair H j e e' (view_of o.read names (turn.before g)) (view_of o.read names g)
+  pair names g = subst (Pair H j e e' (view_of o.read names (turn.before g))) (view_is names g) (marked_pair H j e e' fewer (view_of o.read names (turn.before g)) p (is_some (place_node g mark_place p)) i (unmarked names g))
 
   -- the records that read are the same
   abbrev SameNew : View → View → Type 0

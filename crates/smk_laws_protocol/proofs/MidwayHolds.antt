@@ -6,24 +6,27 @@ use Rattle.smk_world.specs.declared.event.Node.{Node}
 use Rattle.smk_world.specs.declared.event.Node.TheVariants.{Regular, Directory}
 use Rattle.smk_world.specs.World.{World, run}
 use Rattle.smk_world.specs.Calls.{started_numbers}
-use Rattle.smk_world.specs.Trees.{Path, Each, kind_in}
+use Rattle.smk_world.specs.Trees.{Path, IsIn, Each, kind_in}
 use Rattle.smk_world.proofs.Owners.{AreNumbered, numbered_run}
 use Rattle.smk_record.specs.declared.record.Stamp.{Stamp}
-use Rattle.smk_record.specs.declared.record.Stamp.TheVariants.{Time, Made}
+use Rattle.smk_record.specs.declared.record.Stamp.TheVariants.{Time, Sum, Made}
+use Rattle.smk_record.specs.declared.record.Record.{Record}
+use Rattle.smk_record.specs.Records.{stamped}
 use Rattle.smk_store.specs.Images.{Image, Content, content_of, image_of, is_file, seen, source_at as image_source_at}
 use Rattle.smk_store.specs.Soundness.{Outside}
-use Rattle.smk_store.specs.Trust.{Versions}
-use Rattle.smk_laws_protocol.specs.Protocol.{OpenJob, Phase, Marking, Marked, Running, Ended, Firm, Recorded, Dropping, Dropped, RunState, outputs, begun_with, eased, IsAtHand as ImageAtHand}
+use Rattle.smk_store.specs.Trust.{Versions, HasVersion, content_stamp}
+use Rattle.smk_laws_protocol.specs.Protocol.{OpenJob, Phase, Marking, Marked, Running, Ended, Firm, Recorded, Dropping, Dropped, RunState, outputs, begun_with, record_of, eased, IsAtHand as ImageAtHand}
 use Rattle.smk_laws_protocol.specs.Midway.{HoldsMidway, IsTop as ImageTop, Images as ImageImages, Fits as ImageFits, InPhase as ImageInPhase, Midway as ImageMidway, AllStrangers, AreStrangers, IsKnown as ImageKnown, IsGone as ImageGone, has_firm_marks, is_marking, is_made}
 use Rattle.smk_laws_protocol.proofs.View.{View, view, file_of, is_source, Sound}
 use Rattle.smk_laws_protocol.proofs.Rows.{now, IsAtHand}
 use Rattle.smk_laws_protocol.proofs.Between as views
-use Rattle.smk_laws_protocol.proofs.Between.{Midway, Fits, InPhase, AreApart, Pairwise, HasSources, HasNoNew, HasKnown, HasNoNested, HasNoClash, HasNoRecordClash, IsUnnamed, IsUnused, IsBounded, IsKept, IsActed, HoldsGiven, IsKnown, IsGone, AreGone}
-use Rattle.smk_laws_protocol.proofs.Basics.{each_on, each_of}
+use Rattle.smk_laws_protocol.proofs.Between.{Midway, Fits, InPhase, AreApart, Pairwise, HasSources, HasNoNew, HasKnown, HasNoNested, HasNoClash, HasNoRecordClash, IsUnnamed, IsUnused, IsBounded, IsKept, IsActed, HoldsGiven, IsKnown, IsGone, AreGone, VouchesLike}
+use Rattle.smk_laws_protocol.proofs.Basics.{each_in, each_on, each_of}
 use Rattle.smk_laws_protocol.proofs.EveryImage.{to_lists}
 use Rattle.smk_laws_protocol.proofs.Answers.{has_number}
+use Rattle.smk_laws_protocol.proofs.Like.{AreLike}
 use Rattle.smk_laws_protocol.proofs.ProtocolHolds.{reached, numbered_alone}
-use Rattle.smk_laws_protocol.proofs.SoundViews.{sound_from, source_is, source_at_is, flagless_some, some_file, whole_to, itself}
+use Rattle.smk_laws_protocol.proofs.SoundViews.{HasEased, sound_from, source_is, source_at_is, flagless_some, some_file, whole_to, itself}
 use Rattle.smk_laws_protocol.proofs.SoundWorlds.{now_is, now_seen, no_new_from, sources_from}
 use Rattle.smk_laws_protocol.proofs.TextFacts.{text_laws}
 
@@ -64,7 +67,10 @@ made_same o Dropped = refl
 at_hand_from : (o : Outside) (i : Image) (x : Path × Stamp) → IsAtHand o (view i) x → ImageAtHand o i x
 at_hand_from o i (q, Time t) h =
     let c = flagless_some (image_source_at i q) h.0 (source_at_is i q ∙ h.1) in
-    inl (record { source = c.0; stands = c.1; same = itself c.0.time t (ap (λ (f : Content). f.time) c.2 ∙ h.2) })
+    inl (record { source = c.0; stands = c.1; same = sym (ap content_stamp c.2 ∙ h.2) })
+at_hand_from o i (q, Sum t d) h =
+    let c = flagless_some (image_source_at i q) h.0 (source_at_is i q ∙ h.1) in
+    inl (record { source = c.0; stands = c.1; same = sym (ap content_stamp c.2 ∙ h.2) })
 at_hand_from o i (q, Made m) h =
     inr (record {
       speaker = h.0;
@@ -103,7 +109,7 @@ module _ (o : Outside) (entry : World) (H : Versions) (s : RunState) (w : World)
       record {
         formed = m.images.formed;
         sound = λ nodes leaves.
-            sound_from (image_of o.read nodes) o.act H (eased s) (to_lists o.read w m.images.formed (λ v. Sound o.act H v (eased s)) m.images.sound nodes leaves)
+            sound_from (image_of o.read nodes) o.act H (eased s) (to_lists o.read w m.images.formed (λ v. Sound o.act H v (eased s)) m.images.sound nodes leaves) has_eased
             (to_lists o.read w m.images.formed (HasNoNested o) m.images.no_nested nodes leaves);
         sources = λ nodes leaves.
             sources_from o (seen o.read entry) (image_of o.read nodes)
@@ -119,6 +125,17 @@ module _ (o : Outside) (entry : World) (H : Versions) (s : RunState) (w : World)
       top_from : views.IsTop o w s.top → ImageTop o w s.top
       top_from is p r n (at, inl unmarked) i = is p r n (subst (λ (v : View). v.record_at p ≡ Some r) (now_is o w H) at) (subst (λ (v : View). v.marked p ≡ false) (now_is o w H) unmarked) i
       top_from is p r n (at, inr never) i = absurd never
+
+      -- a Restore has looked at the record that it found, and has at hand what it writes in its place
+      has_eased : HasEased H (eased s)
+      has_eased p r q x e i = go e.3.is
+        where
+          alike : AreLike H e.3.found (record_of e.0 p)
+          alike = each_in (VouchesLike o H) s.jobs e.0 m.like e.1 p e.3.found e.3.kept
+
+          go : (r ≡ e.3.found) ⊎ (r ≡ record_of e.0 p) → HasVersion H q x
+          go (inl is) = alike.had q x (subst (λ (y : Record). IsIn (stamped y) (q, x)) is i)
+          go (inr is) = alike.has q x (subst (λ (y : Record). IsIn (stamped y) (q, x)) is i)
 
   fits_from : (j : OpenJob) → Fits o entry (eased s) s.top w j → ImageFits o entry (eased s) s.top w j
   fits_from j f =
@@ -174,5 +191,5 @@ module _ (o : Outside) (entry : World) (H : Versions) (s : RunState) (w : World)
       }
 
 pub holds_midway : HoldsMidway
-holds_midway o entry H top es s sound is follows runs =
-    midway_from o entry H s (run entry es) (reached o entry H sound top es s is follows runs) (numbered_run o.act entry es follows (numbered_alone entry sound.no_child))
+holds_midway o entry H top es s differ sound is follows runs =
+    midway_from o entry H s (run entry es) (reached o entry H differ sound top es s is follows runs) (numbered_run o.act entry es follows (numbered_alone entry sound.no_child))

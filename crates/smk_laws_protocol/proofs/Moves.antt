@@ -4,7 +4,8 @@ use Rattle.std.specs.Prelude.{bytes_eq, if◌then◌else◌, ◌&&◌, ◌||◌,
 use Rattle.std.specs.List.{list_any}
 use lib.Pointwise.{pointwise}
 use Rattle.smk_base.specs.declared.tree.Tree.{Tree}
-use Rattle.smk_record.specs.declared.record.Stamp.TheVariants.{Time, Made}
+use Rattle.smk_record.specs.declared.record.Stamp.{Stamp}
+use Rattle.smk_record.specs.declared.record.Stamp.TheVariants.{Made}
 use Rattle.smk_record.specs.declared.record.Record.{Record}
 use Rattle.smk_record.specs.declared.record.Member.{Member}
 use Rattle.smk_world.specs.declared.recipe.Kind.{Kind}
@@ -12,11 +13,12 @@ use Rattle.smk_world.specs.declared.recipe.Kind.TheVariants.{Plain, Folder as Di
 use Rattle.smk_world.specs.Trees.{Path, Act, IsIn, is_path_text}
 use Rattle.smk_store.specs.Images.{Content}
 use Rattle.smk_world.specs.World.{folders_above}
-use Rattle.smk_store.specs.Trust.{Versions, Eased}
+use Rattle.smk_store.specs.Trust.{Versions, HasVersion, Eased}
 use Rattle.smk_record.specs.Records.{stamped, same_member}
 use Rattle.smk_laws_protocol.proofs.View.{kind_in, View, Chain, Clear, holder, is_source, source_at, is_known, is_covered, is_whole, Holds, Sound, vir}
 use Rattle.smk_base.proofs.Places.{same_place}
 use Rattle.smk_laws_protocol.proofs.Chains.{Passes, PassesFor, Any, for_any, chain_on, vir_on, chain_for, vir_for}
+use Rattle.smk_laws_protocol.proofs.Like.{IsLike, PassesLike, like_self, chain_like, vir_like}
 
 by_bool : {A : Type 0} (b : Bool) → (b ≡ true → A) → (b ≡ false → A) → A
 by_bool true f g = f refl
@@ -88,7 +90,7 @@ module _ (v : View) (p : Path) (no_source : (q : Path) → is_source v q ≡ tru
   mark_sound act H e sound =
       record {
         has_sources = λ q f is. sound.has_sources q f (sym (mark_source_at q) ∙ is);
-        has_recorded = λ q r x t is clear i. sound.has_recorded q r x t is (or_left (v.marked q) (bytes_eq q p) clear) i;
+        has_recorded = λ q r x s is clear i. sound.has_recorded q r x s is (or_left (v.marked q) (bytes_eq q p) clear) i;
         holds = λ q r is clear chain whole.
             hold q r is (sound.holds q r is (or_left (v.marked q) (bytes_eq q p) clear) (chain_on (with_mark v p) v e e (mark_passes e) r chain) whole) chain;
       }
@@ -109,7 +111,7 @@ pub sound_for :
     ((q : Path) → source_at v' q ≡ source_at v q) →
     PassesFor Q v' e' v e →
     ((q : Path) (r : Record) → v'.record_at q ≡ Some r → v'.marked q ≡ false → Q r) →
-    ((q : Path) (r : Record) (x : Path) (t : ℕ) → v'.record_at q ≡ Some r → v'.marked q ≡ false → IsIn (stamped r) (x, Time t) → IsSome (H x t)) →
+    ((q : Path) (r : Record) (x : Path) (s : Stamp) → v'.record_at q ≡ Some r → v'.marked q ≡ false → IsIn (stamped r) (x, s) → HasVersion H x s) →
     ((q : Path) (r : Record) → v'.record_at q ≡ Some r → v'.marked q ≡ false → Chain v e r → IsTrue (is_whole v' q (kind_in r q)) → HoldsBy v' v act H q r) →
     Sound act H v' e'
 sound_for Q act H v v' e e' sound sources passes ok recorded each =
@@ -128,11 +130,35 @@ pub sound_on :
     Sound act H v e →
     ((q : Path) → source_at v' q ≡ source_at v q) →
     Passes v' e' v e →
-    ((q : Path) (r : Record) (x : Path) (t : ℕ) → v'.record_at q ≡ Some r → v'.marked q ≡ false → IsIn (stamped r) (x, Time t) → IsSome (H x t)) →
+    ((q : Path) (r : Record) (x : Path) (s : Stamp) → v'.record_at q ≡ Some r → v'.marked q ≡ false → IsIn (stamped r) (x, s) → HasVersion H x s) →
     ((q : Path) (r : Record) → v'.record_at q ≡ Some r → v'.marked q ≡ false → Chain v e r → IsTrue (is_whole v' q (kind_in r q)) → HoldsBy v' v act H q r) →
     Sound act H v' e'
 sound_on act H v v' e e' sound sources passes recorded each =
     sound_for Any act H v v' e e' sound sources (for_any v' v e' e passes) (λ q r is clear. tt) recorded each
+
+-- the same where what speaks in the one speaks in the other by a record that vouches for the same
+pub sound_like :
+    (act : Act) (H : Versions) (v v' : View) (e e' : Eased) →
+    Sound act H v e →
+    ((q : Path) → source_at v' q ≡ source_at v q) →
+    PassesLike H v' e' v e →
+    ((q : Path) (r : Record) (x : Path) (s : Stamp) → v'.record_at q ≡ Some r → v'.marked q ≡ false → IsIn (stamped r) (x, s) → HasVersion H x s) →
+    ((q : Path) (r : Record) → v'.record_at q ≡ Some r → v'.marked q ≡ false → Chain v e r → IsTrue (is_whole v' q (kind_in r q)) → HoldsBy v' v act H q r) →
+    Sound act H v' e'
+sound_like act H v v' e e' sound sources passes recorded each =
+    record {
+      has_sources = λ q f is. sound.has_sources q f (sym (sources q) ∙ is);
+      has_recorded = recorded;
+      holds = λ q r is clear chain whole.
+          hold q r is chain (each q r is clear (chain_like H v' v e' e passes r r (like_self H r) chain) whole);
+    }
+  where
+    hold : (q : Path) (r : Record) → v'.record_at q ≡ Some r → Chain v' e' r → HoldsBy v' v act H q r → Holds v' act H q r
+    hold q r is chain b = (b.1.0, b.1.1, vir_like act H v' v e' e passes (suc r.made) q r r is b.0 (like_self H r) chain ∙ b.1.2)
+
+-- a record that counts there and vouches for the same
+abbrev pub Counted : Versions → View → Eased → Path → Record → Type 0
+Counted H v e q r = (s : Record) × Clear v e q s × IsLike H r s
 
 -- ---- another record at a marked path
 
@@ -140,12 +166,12 @@ abbrev pub with_record : View → (Path → Bool) → (Path → Option Record) �
 with_record v has at listed = record v { has_record = has; record_at = at; listed = listed }
 
 module _
-    (v : View) (p : Path) (has : Path → Bool) (at : Path → Option Record) (listed : Path → List Member) (e e' : Eased) (marked : v.marked p ≡ true)
+    (H : Versions) (v : View) (p : Path) (has : Path → Bool) (at : Path → Option Record) (listed : Path → List Member) (e e' : Eased) (marked : v.marked p ≡ true)
     (has_same : (q : Path) → bytes_eq q p ≡ false → has q ≡ v.has_record q)
     (at_same : (q : Path) → bytes_eq q p ≡ false → at q ≡ v.record_at q)
     (list_same : (q : Path) → bytes_eq q p ≡ false → listed q ≡ v.listed q)
     (fewer : (q : Path) (r : Record) → e' q r → e q r)
-    (kept : (r : Record) → e' p r → v.record_at p ≡ Some r)
+    (kept : (r : Record) → e' p r → (s : Record) × (v.record_at p ≡ Some s) × e p s × IsLike H r s)
     (holder_stays : (q h : Path) (r : Record) → holder (with_record v has at listed) q ≡ Some h → Clear (with_record v has at listed) e' h r → holder v q ≡ Some h) where
   known_record : (q : Path) → is_known (with_record v has at listed) q ≡ is_known v q
   known_record q = by_bool (bytes_eq q p) here (λ k. ap (λ b. b || v.marked q || v.noted q) (has_same q k))
@@ -156,25 +182,27 @@ module _
   pub record_source : (q : Path) → is_source (with_record v has at listed) q ≡ is_source v q
   record_source q = λ i. is_path_text q && is_some (v.file q) && not (known_record q i || list_any (λ f. known_record f i) (folders_above q))
 
-  record_clear : (q : Path) (r : Record) → Clear (with_record v has at listed) e' q r → Clear v e q r
-  record_clear q r c = by_bool (bytes_eq q p) (here c.1) (λ k. (sym (at_same q k) ∙ c.0, other c.1))
+  pub record_clear : (q : Path) (r : Record) → Clear (with_record v has at listed) e' q r → Counted H v e q r
+  record_clear q r c = by_bool (bytes_eq q p) (here c.1) (λ k. (r, (sym (at_same q k) ∙ c.0, other c.1), like_self H r))
     where
       other : (v.marked q ≡ false) ⊎ (e' q r) → (v.marked q ≡ false) ⊎ (e q r)
       other (inl k) = inl k
       other (inr k) = inr (fewer q r k)
 
-      here : (v.marked q ≡ false) ⊎ (e' q r) → bytes_eq q p ≡ true → Clear v e q r
-      here (inl c) k = absurd (true_false (v.marked q) (subst (λ x. v.marked x ≡ true) (sym (same_place q p k)) marked) c)
-      here (inr c) k =
-          (subst (λ x. v.record_at x ≡ Some r) (sym (same_place q p k)) (kept r (subst (λ x. e' x r) (same_place q p k) c)), inr (fewer q r c))
+      at_p : (s : Record) × (v.record_at p ≡ Some s) × e p s × IsLike H r s → Counted H v e p r
+      at_p k = (k.0, (k.1, inr k.2), k.3)
 
-  record_passes : Passes (with_record v has at listed) e' v e
+      here : (v.marked q ≡ false) ⊎ (e' q r) → bytes_eq q p ≡ true → Counted H v e q r
+      here (inl c) k = absurd (true_false (v.marked q) (subst (λ x. v.marked x ≡ true) (sym (same_place q p k)) marked) c)
+      here (inr c) k = subst (λ x. Counted H v e x r) (sym (same_place q p k)) (at_p (kept r (subst (λ x. e' x r) (same_place q p k) c)))
+
+  record_passes : PassesLike H (with_record v has at listed) e' v e
   record_passes q h r s =
-      record {
-        no_source = sym (record_source q) ∙ s.no_source;
-        holder = holder_stays q h r s.holder s.clear;
-        clear = record_clear h r s.clear;
-      }
+      let c = record_clear h r s.clear in (
+        c.0,
+        record { no_source = sym (record_source q) ∙ s.no_source; holder = holder_stays q h r s.holder s.clear; clear = c.1 },
+        c.2,
+      )
 
   here_not : (q : Path) → v.marked q ≡ false → bytes_eq q p ≡ false
   here_not q k =
@@ -183,12 +211,12 @@ module _
       (λ s. s)
 
   -- 4. a record is written, or removed, under a mark
-  pub record_sound : (act : Act) (H : Versions) → Sound act H v e → Sound act H (with_record v has at listed) e'
-  record_sound act H sound =
-      sound_on act H v (with_record v has at listed) e e' sound
+  pub record_sound : (act : Act) → Sound act H v e → Sound act H (with_record v has at listed) e'
+  record_sound act sound =
+      sound_like act H v (with_record v has at listed) e e' sound
       (λ q. ap (λ b. if b then v.file q else None) (record_source q))
       record_passes
-      (λ q r x t is clear i. sound.has_recorded q r x t (sym (at_same q (here_not q clear)) ∙ is) clear i)
+      (λ q r x s is clear i. sound.has_recorded q r x s (sym (at_same q (here_not q clear)) ∙ is) clear i)
       (λ q r is clear chain whole.
       let at_v = sym (at_same q (here_not q clear)) ∙ is in
       (at_v, sound.holds q r at_v clear chain (whole_on q (kind_in r q) (list_same q (here_not q clear)) whole)))
@@ -238,17 +266,17 @@ module _ (v : View) (p : Path) (e : Eased) where
     -- 5. the mark of a Restore is removed: its users are chained again
     pub eased_sound :
         (act : Act) (H : Versions) → e p r0 → Sound act H v e →
-        ((x : Path) (t : ℕ) → IsIn (stamped r0) (x, Time t) → IsSome (H x t)) →
+        ((x : Path) (s : Stamp) → IsIn (stamped r0) (x, s) → HasVersion H x s) →
         (Chain v e r0 → IsTrue (is_whole v p (kind_in r0 p)) → Holds v act H p r0) →
         Sound act H (without_mark v p) e
     eased_sound act H kept sound recorded own =
         sound_on act H v (without_mark v p) e e sound
         (λ q. ap (λ b. if b then v.file q else None) (less_source q))
         (eased_passes kept)
-        (λ q r x t is clear i.
+        (λ q r x s is clear i.
         by_bool (bytes_eq q p)
-        (λ k. recorded x t (subst (λ s. IsIn (stamped s) (x, Time t)) (sym (same q r k is)) i))
-        (λ k. sound.has_recorded q r x t is (still q k clear) i))
+        (λ k. recorded x s (subst (λ (y : Record). IsIn (stamped y) (x, s)) (sym (same q r k is)) i))
+        (λ k. sound.has_recorded q r x s is (still q k clear) i))
         (λ q r is clear chain whole.
         by_bool (bytes_eq q p)
         (λ k. (is, here q r k is chain (whole_on r q (kind_in r q) whole)))
@@ -295,7 +323,7 @@ module _ (v : View) (p : Path) (e : Eased) where
 
       pub fresh_sound :
           (act : Act) (H : Versions) → Sound act H v e →
-          ((x : Path) (t : ℕ) → IsIn (stamped r0) (x, Time t) → IsSome (H x t)) →
+          ((x : Path) (s : Stamp) → IsIn (stamped r0) (x, s) → HasVersion H x s) →
           (Chain v e r0 → IsTrue (is_whole v p (kind_in r0 p)) → Holds v act H p r0) →
           Sound act H (without_mark v p) e
       fresh_sound act H sound recorded own =
@@ -303,10 +331,10 @@ module _ (v : View) (p : Path) (e : Eased) where
           (λ q. ap (λ b. if b then v.file q else None) (less_source q))
           fresh_passes
           (λ q r is clear x i. nobody q r x (is, inl clear) i)
-          (λ q r x t is clear i.
+          (λ q r x s is clear i.
           by_bool (bytes_eq q p)
-          (λ k. recorded x t (subst (λ s. IsIn (stamped s) (x, Time t)) (sym (same q r k is)) i))
-          (λ k. sound.has_recorded q r x t is (still q k clear) i))
+          (λ k. recorded x s (subst (λ (y : Record). IsIn (stamped y) (x, s)) (sym (same q r k is)) i))
+          (λ k. sound.has_recorded q r x s is (still q k clear) i))
           (λ q r is clear chain whole.
           by_bool (bytes_eq q p)
           (λ k. (is, here q r k is chain (whole_on r q (kind_in r q) whole)))
@@ -388,7 +416,7 @@ module _
       sound_on act H v (without_mark v p) e e sound
       (λ q. ap (λ b. if b then v.file q else None) (dropped_source q))
       dropped_passes
-      (λ q r x t is clear i. sound.has_recorded q r x t is (clear_less q r is clear) i)
+      (λ q r x s is clear i. sound.has_recorded q r x s is (clear_less q r is clear) i)
       (λ q r is clear chain whole. (is, sound.holds q r is (clear_less q r is clear) chain (whole_on r q (kind_in r q) whole)))
     where
       whole_on : (r : Record) (q : Path) (k : Kind) → IsTrue (is_whole (without_mark v p) q k) → IsTrue (is_whole v q k)
@@ -454,7 +482,7 @@ module _
   node_sound act H sound =
       sound_on act H v (with_nodes v file folder members tree) e e sound node_source_at
       (λ q h r s. record { no_source = sym (node_source q) ∙ s.no_source; holder = s.holder; clear = s.clear })
-      (λ q r x t is clear i. sound.has_recorded q r x t is clear i)
+      (λ q r x s is clear i. sound.has_recorded q r x s is clear i)
       (λ q r is clear chain whole. hold q r is (sound.holds q r is clear chain (whole_on r q (kind_in r q) (same q r is clear) whole)) (same q r is clear))
     where
       whole_on : (r : Record) (q : Path) (k : Kind) → SameAt v (with_nodes v file folder members tree) q → IsTrue (is_whole (with_nodes v file folder members tree) q k) → IsTrue (is_whole v q k)

@@ -99,7 +99,7 @@ module _ (v : View) (notes : Path → Bool) (p : Path) (more : (q : Path) → by
   noted_sound act H e e' fewer sound =
       sound_on act H v (with_notes v notes) e e' sound noted_source_at
       (λ q h r s. record { no_source = sym (noted_source q) ∙ s.no_source; holder = s.holder; clear = (s.clear.0, clear h r s.clear.1) })
-      (λ q r x t is c i. sound.has_recorded q r x t is c i)
+      (λ q r x s is c i. sound.has_recorded q r x s is c i)
       (λ q r is c chain whole. (is, sound.holds q r is c chain (whole_on r q (kind_in r q) whole)))
     where
       whole_on : (r : Record) (q : Path) (k : Kind) → IsTrue (is_whole (with_notes v notes) q k) → IsTrue (is_whole v q k)
@@ -147,14 +147,14 @@ module _
           go true e = over_other g (reads w) (note_place p) q (texts.notes.note_path p q e)
           go false e = refl
 
-  pair : (names : List Path) (g : Nodes) → Pair j e e' (view_of o.read names (turn.before g)) (view_of o.read names g)
+  pair : (names : List Path) (g : Nodes) → Pair H j e e' (view_of o.read names (turn.before g)) (view_of o.read names g)
   pair names g =
-      subst (Pair j e e' (view_of o.read names (turn.before g))) (view_is names g)
+      subst (Pair H j e e' (view_of o.read names (turn.before g))) (view_is names g)
       (let v = view_of o.read names (turn.before g) in
       record {
         differs = record { nodes = λ x f. record { file = refl; folder = refl; members = refl; tree = refl }; records = λ x f. record { has = refl; at = refl; listed = refl }; marks = λ x f. refl };
-        counts = fewer_counts j v e e' fewer;
-        none_counts = fewer_counts j v none_eased none_eased (λ p r h. h);
+        counts = fewer_counts H j v e e' fewer;
+        none_counts = fewer_counts H j v none_eased none_eased (λ p r h. h);
       })
 
   more : (names : List Path) (g : Nodes) (q : Path) → bytes_eq q p ≡ false → is_some (place_node g note_place q) ≡ (view_of o.read names (turn.before g)).noted q

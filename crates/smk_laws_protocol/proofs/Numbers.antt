@@ -2,7 +2,7 @@
 use Rattle.std.proofs.Common.{◌≡◌, ◌≤◌, ℕ, suc, List, [], ◌∷◌, zip, length, sym, subst, inl, inr, arith}
 use Rattle.std.specs.Prelude.{flat_map}
 use Rattle.smk_record.specs.declared.record.Stamp.{Stamp}
-use Rattle.smk_record.specs.declared.record.Stamp.TheVariants.{Time, Made}
+use Rattle.smk_record.specs.declared.record.Stamp.TheVariants.{Time, Sum, Made}
 use Rattle.smk_world.specs.Trees.{Path, IsIn}
 use Rattle.smk_world.specs.World.{in_paths}
 use Rattle.smk_record.specs.Records.{serials, serial_in}
@@ -21,6 +21,10 @@ number_of (p ∷ ps) (Time t ∷ ss) n h i = let r = number_of ps ss n (down (le
   where
     down : (a b : ℕ) → suc a ≡ suc b → a ≡ b
     down a b h = grind arith
+number_of (p ∷ ps) (Sum t d ∷ ss) n h i = let r = number_of ps ss n (down (length ss) (length ps) h) i in (r.0, inr r.1)
+  where
+    down : (a b : ℕ) → suc a ≡ suc b → a ≡ b
+    down a b h = grind arith
 number_of (p ∷ ps) (Made m ∷ ss) n h (inl e) = (p, inl (λ i. (p, Made (e i))))
 number_of (p ∷ ps) (Made m ∷ ss) n h (inr i) = let r = number_of ps ss n (down (length ss) (length ps) h) i in (r.0, inr r.1)
   where
@@ -36,6 +40,11 @@ numbered_in (p ∷ ps) (Time t ∷ ss) q n (inl e) = absurd (no (λ i. (e i).1))
     no : Made n ≡ Time t → ⊥
     no h = grind arith
 numbered_in (p ∷ ps) (Time t ∷ ss) q n (inr i) = numbered_in ps ss q n i
+numbered_in (p ∷ ps) (Sum t d ∷ ss) q n (inl e) = absurd (no (λ i. (e i).1))
+  where
+    no : Made n ≡ Sum t d → ⊥
+    no h = grind arith
+numbered_in (p ∷ ps) (Sum t d ∷ ss) q n (inr i) = numbered_in ps ss q n i
 numbered_in (p ∷ ps) (Made m ∷ ss) q n (inl e) = inl (same (λ i. (e i).1))
   where
     same : Made n ≡ Made m → n ≡ m

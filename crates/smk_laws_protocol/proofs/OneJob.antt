@@ -26,13 +26,15 @@ use Rattle.smk_world.specs.Runs.{Follows}
 use Rattle.smk_world.specs.Trees.{Path, is_path_text}
 use Rattle.smk_world.proofs.Folders.{happens, no_node, no_folder}
 use Rattle.smk_world.proofs.Stays.{left_at}
-use Rattle.smk_record.specs.declared.record.Stamp.TheVariants.{Time}
+use Rattle.smk_record.specs.declared.record.Stamp.{Stamp}
+use Rattle.smk_record.specs.declared.record.Stamp.TheVariants.{Sum}
 use Rattle.smk_record.specs.declared.record.Record.{Record}
 use Rattle.smk_record.specs.Records.{core}
 use Rattle.smk_store.specs.declared.store.Kept.TheVariants.{Absent}
 use Rattle.smk_store.specs.Images.{content_of, is_covered, is_outside, is_source, readable, stands}
 use Rattle.smk_store.specs.Soundness.{Outside}
 use Rattle.smk_store.specs.Safety.{KeepsSound}
+use Rattle.smk_store.specs.Trust.{sum_of}
 use Rattle.smk_laws_protocol.specs.Protocol.{Phase, Marking, Marked, Running, Ended, Firm, Recorded, OpenJob, RunState, IsAbsent, now, MayBegin, HasAllMarks, MakeFolders, Mark, AllMarked, Start, Wait, AllMade, Write, AllWritten, Unmark, AllUnmarked, Steady, Begin, Go, Close, Runs, Done, Next}
 use Rattle.smk_laws_protocol.specs.Midway.{at_entry, IsTop}
 use Rattle.smk_laws_protocol.proofs.Above.{held_by, made_by}
@@ -56,11 +58,15 @@ recipe =
       outputs = record { name = []; outs = record { path = to; kind = Plain } ∷ [] } ∷ [];
     }
 
+-- that of the file to copy
+abbrev pub stamp : Stamp
+stamp = Sum 1000 (sum_of (codes "hello\n"))
+
 abbrev job : Phase → OpenJob
-job phase = record { recipe = recipe; logs = []; stamps = Time 1000 ∷ []; serial = 1; kept = []; phase = phase }
+job phase = record { recipe = recipe; logs = []; stamps = stamp ∷ []; serial = 1; kept = []; phase = phase }
 
 abbrev pub copy_record : Record
-copy_record = record { path = to; made = 1; recipe = recipe; stamps = Time 1000 ∷ []; members = [] }
+copy_record = record { format = 2; path = to; made = 1; recipe = recipe; stamps = stamp ∷ []; members = [] }
 
 -- one text is the record, and a command copies its inputs
 abbrev pub outside : Outside

@@ -17,7 +17,6 @@ use Rattle.smk_world.specs.Runs.{Follows}
 use Rattle.smk_world.specs.Trees.{Path, IsIn, is_path_text}
 use Rattle.smk_world.proofs.Folders.{happens, no_node}
 use Rattle.smk_record.specs.declared.record.Stamp.{Stamp}
-use Rattle.smk_record.specs.declared.record.Stamp.TheVariants.{Time}
 use Rattle.smk_record.specs.declared.record.Record.{Record}
 use Rattle.smk_record.specs.Records.{core, stamped, is_valid}
 use Rattle.smk_store.specs.declared.store.Kept.TheVariants.{Absent, Unreadable, Held}
@@ -28,7 +27,7 @@ use Rattle.smk_laws_protocol.specs.Forgetting.{Resting, Unrecording, Unmarking, 
 use Rattle.smk_laws_protocol.proofs.Above.{held_by}
 use Rattle.smk_laws_protocol.proofs.Basics.{by_test, clash, none_some, some_same}
 use Rattle.smk_laws_protocol.proofs.ForgettingHolds.{forgetting_keeps_sound, settling_is_enough}
-use Rattle.smk_laws_protocol.proofs.OneJob.{from, to, outside, call, copy_record, going_none, removed_absent}
+use Rattle.smk_laws_protocol.proofs.OneJob.{from, to, outside, call, stamp, copy_record, going_none, removed_absent}
 use Rattle.smk_laws_protocol.proofs.Settling.{either, firm_reads}
 use Rattle.smk_base.proofs.Places.{same_place}
 use Rattle.smk_base.proofs.Under.{no_slash_under}
@@ -70,9 +69,9 @@ only_record q r h = go (is_path_text q) (bytes_eq (record_place q) (record_place
 
 -- it names another file
 unseen : IsUnseen (now outside entry) to
-unseen q x r f at under file named = go (subst (λ s. IsIn (stamped s) (x, Time f.time)) (sym (only_record q r at)) named)
+unseen q x r f at under file s named time = go (subst (λ y. IsIn (stamped y) (x, s)) (sym (only_record q r at)) named)
   where
-    go : (◌≡◌ {A = Path × Stamp} (x, Time f.time) (from, Time 1000)) ⊎ ⊥ → ⊥
+    go : (◌≡◌ {A = Path × Stamp} (x, s) (from, stamp)) ⊎ ⊥ → ⊥
     go (inl e) = clash (is_at_or_under from to) (subst (λ y. is_at_or_under y to ≡ true) (ap (λ (p : Path × Stamp). p.0) e) under) refl
     go (inr k) = k
 

@@ -1,20 +1,21 @@
 -- A job begins: in the same world, with its serial and the records that it has found, what holds between events holds of it too.
 use Rattle.std.proofs.Common.{◌≡◌, ◌⊎◌, ◌≤◌, ℕ, suc, Bool, true, false, List, [], ◌∷◌, refl, sym, ap, subst, inl, inr, ◌∙◌, Some}
-use Rattle.std.specs.Prelude.{is_some, if◌then◌else◌}
+use Rattle.std.specs.Prelude.{is_some, IsSome, if◌then◌else◌}
 use Rattle.std.specs.List.{list_any}
 use Rattle.smk_record.specs.declared.record.Record.{Record}
 use Rattle.smk_record.specs.declared.record.Stamp.TheVariants.{Made}
+use Rattle.smk_record.specs.Records.{stamped}
 use Rattle.smk_world.specs.Trees.{Path, IsIn, Each}
 use Rattle.smk_base.specs.Path.{overlaps}
-use Rattle.smk_laws_protocol.specs.Protocol.{kept_at, OpenJob, Marking, RunState, own, outputs, record_of, begun_with, is_running, eased_by}
+use Rattle.smk_laws_protocol.specs.Protocol.{kept_at, IsAgain, IsEased, OpenJob, Marking, RunState, own, outputs, record_of, begun_with, is_running, eased_by}
 use Rattle.smk_world.specs.World.{in_paths, World}
-use Rattle.smk_store.specs.Trust.{Versions, Eased, none_eased}
+use Rattle.smk_store.specs.Trust.{Versions, SumsDiffer, Eased, none_eased}
 use Rattle.smk_laws_protocol.proofs.View.{Clear, Sound, is_source}
 use Rattle.smk_laws_protocol.proofs.Views.{Nodes, EachImage, reads, view_of, place_node}
 use Rattle.smk_base.specs.Place.{mark_place, record_place}
 use Rattle.smk_store.specs.Soundness.{Outside}
 use Rattle.smk_laws_protocol.proofs.Rows.{IsApart, now, IsAtHand, IsKept, HasSerial, MayBegin}
-use Rattle.smk_laws_protocol.proofs.Between.{IsKept as KeptNow, Midway, Fits, InPhase, AreApart, IsOfJob, HasSources, HasNoNew, HasNoClash, HasNoRecordClash, HasKnown, IsBounded, IsUnnamed, IsUnused}
+use Rattle.smk_laws_protocol.proofs.Between.{IsKept as KeptNow, VouchesLike, Midway, Fits, InPhase, AreApart, IsOfJob, HasSources, HasNoNew, HasNoClash, HasNoRecordClash, HasKnown, IsBounded, IsUnnamed, IsUnused}
 use Rattle.smk_laws_protocol.proofs.Apart.{free_of}
 use Rattle.smk_laws_protocol.proofs.Basics.{each_in, each_of, each_on, any_by, clash, none_some, some_same}
 use Rattle.smk_laws_protocol.proofs.Easing.{ease_sound}
@@ -22,17 +23,20 @@ use Rattle.smk_laws_protocol.proofs.Events.{same_source}
 use Rattle.smk_laws_protocol.proofs.Holders.{holder_over}
 use Rattle.smk_laws_protocol.proofs.Jobs.{at_phase}
 use Rattle.smk_laws_protocol.proofs.Naming.{IsImage, each_image, of_images, now_image}
+use Rattle.smk_laws_protocol.proofs.Like.{AreLike, HasVersions, like_again}
 use Rattle.smk_laws_protocol.proofs.Numbers.{numbered_in}
 use Rattle.smk_laws_protocol.proofs.OwnHolds.{over_overlaps}
 use Rattle.smk_laws_protocol.proofs.OwnPhase.{in_marking}
 use Rattle.smk_base.proofs.Places.{place_itself}
 use Rattle.smk_laws_protocol.proofs.Stays.{in_left, in_zip}
 use Rattle.smk_laws_protocol.proofs.Texts.{Texts}
+use Rattle.smk_laws_protocol.proofs.Hand.{hand_recorded}
 use Rattle.smk_laws_protocol.proofs.MarksNow.{Looked, has_by_record, some_by, above_top, up, at_most, marked_now, now_image_marks, now_view, now_marked, now_kept}
 
 module _
     (o : Outside) (texts : Texts o.read) (entry : World) (H : Versions) (s : RunState) (w : World) (j : OpenJob) (top : ℕ)
-    (m : Midway o entry H s w) (steady : s.steady ≡ true) (may : MayBegin o s w j) (serial : HasSerial o s w j top) (begins : j.phase ≡ Marking) where
+    (m : Midway o entry H s w) (steady : s.steady ≡ true) (may : MayBegin o s w j) (serial : HasSerial o s w j top) (begins : j.phase ≡ Marking)
+    (differ : SumsDiffer H) where
   abbrev e : Eased
   e = eased_by s.jobs
 
@@ -52,7 +56,7 @@ module _
           record { nodes = f; image = i; marks = (view_of o.read names f).marked; is = refl; fewer = λ q h. h; eased = λ q r h. go q r h h.1 }
         where
           go : (q : Path) (r : Record) → (h : e' q r) → (h.0 ≡ j) ⊎ IsIn s.jobs h.0 → e q r ⊎ ((view_of o.read names f).marked q ≡ false)
-          go q r h (inl is) = none_some (kept_at [] q) refl (subst (λ l. kept_at l q ≡ Some r) none (subst (λ (x : OpenJob). kept_at x.kept q ≡ Some r) is h.3))
+          go q r h (inl is) = let a = subst (λ x. IsEased x q r) is h.3 in none_some (kept_at [] q) refl (subst (λ l. kept_at l q ≡ Some a.found) none a.kept)
           go q r h (inr k) = inl (h.0, k, h.2, h.3)
       by_serial (inr (some, kept, b)) =
           record {
@@ -60,14 +64,15 @@ module _
             image = now_image_marks o texts w (outputs j) names f i;
             marks = λ q. is_some (place_node (marked_now o texts w (outputs j) names f i) mark_place q);
             is = now_view o texts w (outputs j) names f i;
-            fewer = λ q h. now_kept o texts w (outputs j) names f i q (λ q k. (each_in (IsKept o w j) (outputs j) q kept k).1) h;
+            fewer = λ q h. now_kept o texts w (outputs j) names f i q (λ q k. (each_in (IsKept o w j) (outputs j) q kept k).unmarked) h;
             eased = λ q r h. go q r h h.1;
           }
         where
           go : (q : Path) (r : Record) → (h : e' q r) → (h.0 ≡ j) ⊎ IsIn s.jobs h.0 → e q r ⊎ (is_some (place_node (marked_now o texts w (outputs j) names f i) mark_place q) ≡ false)
           go q r h (inl is) =
-              let k = may.kept_own q r (subst (λ (x : OpenJob). kept_at x.kept q ≡ Some r) is h.3) in
-              inr (now_marked o texts w (outputs j) names f i q k ∙ (each_in (IsKept o w j) (outputs j) q kept k).1)
+              let a = subst (λ x. IsEased x q r) is h.3 in
+              let k = may.kept_own q a.found a.kept in
+              inr (now_marked o texts w (outputs j) names f i q k ∙ (each_in (IsKept o w j) (outputs j) q kept k).unmarked)
           go q r h (inr k) = inl (h.0, k, h.2, h.3)
 
   -- what counts counted there
@@ -152,7 +157,7 @@ module _
     where
       go : HasSerial o s w j top → j.serial ≤ top
       go (inl k) = at_most j.serial top (k.1 ∙ sym k.2)
-      go (inr k) = let r = restored k.0 k.1 in low j.serial (made_low r.0 (record_of j r.0) (r.2.0, inl r.2.1))
+      go (inr k) = let r = restored k.0 k.1 in low j.serial (subst (λ n. n ≤ s.top) r.2.again.made (made_low r.0 r.2.found (r.2.stands, inl r.2.unmarked)))
 
   -- ---- the other jobs
 
@@ -181,25 +186,56 @@ module _
 
   -- ---- the job itself
 
-  -- what counts in an image reads now, or is one of a Restore's
-  reads_now : (names : List Path) (f : Nodes) → IsImage w names f → (q : Path) (r : Record) → Clear (view_of o.read names f) e q r → (now o w).record_at q ≡ Some r
+  -- where a record counts in an image one reads now
+  reads_now : (names : List Path) (f : Nodes) → IsImage w names f → (q : Path) (r : Record) → Clear (view_of o.read names f) e q r → IsSome ((now o w).record_at q)
   reads_now names f i q r c = go c.1
     where
-      go : ((view_of o.read names f).marked q ≡ false) ⊎ e q r → (now o w).record_at q ≡ Some r
-      go (inl k) = (each_image o.read w (HasNoNew o (now o w)) m.images.no_new names f i q r c.0 k).0
-      go (inr k) = (each_in (InPhase o w) s.jobs k.0 m.phases k.1).kept k.2 q r k.3
+      either : (a b : Record) → ((now o w).record_at q ≡ Some a) ⊎ ((now o w).record_at q ≡ Some b) → IsSome ((now o w).record_at q)
+      either a b (inl is) = some_by ((now o w).record_at q) a is
+      either a b (inr is) = some_by ((now o w).record_at q) b is
+
+      go : ((view_of o.read names f).marked q ≡ false) ⊎ e q r → IsSome ((now o w).record_at q)
+      go (inl k) = some_by ((now o w).record_at q) r (each_image o.read w (HasNoNew o (now o w)) m.images.no_new names f i q r c.0 k).0
+      go (inr k) = either k.3.found (record_of k.0 q) ((each_in (InPhase o w) s.jobs k.0 m.phases k.1).kept k.2 q k.3.found k.3.kept)
 
   record_clash : EachImage o.read w (HasNoRecordClash o j)
   record_clash =
       of_images o.read w (HasNoRecordClash o j)
       (λ names f i q is over. may.no_clash q (each_image o.read w (HasKnown o (now o w)) m.images.known names f i q (has_by_record o.read q (place_node f record_place q) is)) over)
 
-  kept_record : (p : Path) (r : Record) → kept_at j.kept p ≡ Some r → IsIn (outputs j) p × (r ≡ record_of j p)
-  kept_record p r at = (may.kept_own p r at, go serial)
+  -- what a Restore has found at an output
+  found_at : (p : Path) (r : Record) → kept_at j.kept p ≡ Some r → (k : IsKept o w j p) × (k.found ≡ r)
+  found_at p r at = go serial
     where
-      go : HasSerial o s w j top → r ≡ record_of j p
+      there : (k : IsKept o w j p) → (k : IsKept o w j p) × (k.found ≡ r)
+      there k = (k, some_same (sym k.kept ∙ at))
+
+      go : HasSerial o s w j top → (k : IsKept o w j p) × (k.found ≡ r)
       go (inl k) = none_some (kept_at [] p) refl (subst (λ l. kept_at l p ≡ Some r) k.0 at)
-      go (inr k) = some_same (sym at ∙ (each_in (IsKept o w j) (outputs j) p k.1 (may.kept_own p r at)).2)
+      go (inr k) = there (each_in (IsKept o w j) (outputs j) p k.1 (may.kept_own p r at))
+
+  kept_record : (p : Path) (r : Record) → kept_at j.kept p ≡ Some r → IsIn (outputs j) p × IsAgain r (record_of j p)
+  kept_record p r at = let k = found_at p r at in (may.kept_own p r at, subst (λ x. IsAgain x (record_of j p)) k.1 k.0.again)
+
+  now_sound : Sound o.act H (now o w) e
+  now_sound = each_image o.read w (λ v. Sound o.act H v e) m.images.sound w.names (reads w) here
+
+  -- it vouches for the same as what is written in its place, and the versions have the sources of both
+  kept_like : VouchesLike o H j
+  kept_like p r at =
+      let k = found_at p r at in
+      subst (λ x. AreLike H x (record_of j p)) k.1
+      (record {
+        like = like_again H differ k.0.found (record_of j p) k.0.again (had p k.0) has;
+        had = had p k.0;
+        has = has;
+      })
+    where
+      had : (p : Path) (k : IsKept o w j p) → HasVersions H (stamped k.found)
+      had p k q s i = now_sound.has_recorded p k.found q s k.stands k.unmarked i
+
+      has : HasVersions H (begun_with j)
+      has q s i = hand_recorded o H (now o w) now_sound.has_sources q s (each_in (IsAtHand o (now o w)) (begun_with j) (q, s) may.at_hand i)
 
   fits_own : Fits o entry e' top w j
   fits_own =
@@ -214,7 +250,7 @@ module _
         kept_all = λ some p i. kept_all some p i serial;
         no_record_clash = record_clash;
         no_clash = of_images o.read w (HasNoClash o e' j) (λ names f i q r c over.
-            each_image o.read w (HasNoRecordClash o j) record_clash w.names (reads w) here q (some_by ((now o w).record_at q) r (reads_now names (look names f i).nodes (look names f i).image q r (clear_there names f i q r c))) over);
+            each_image o.read w (HasNoRecordClash o j) record_clash w.names (reads w) here q (reads_now names (look names f i).nodes (look names f i).image q r (clear_there names f i q r c)) over);
         unnamed = λ none. of_images o.read w (IsUnnamed o e' j) (λ names f i q x r c named.
             fresh none j.serial (bounded_there names f i q r j.serial (clear_there names f i q r c) (inr (numbered_in (in_paths r.recipe) r.stamps x j.serial named))) refl);
         unused = λ none. of_images o.read w (IsUnused o e' j) (λ names f i q r c same.
@@ -224,16 +260,12 @@ module _
         at_hand = may.at_hand;
       }
     where
-      kept_all : (j.kept ≡ [] → ⊥) → (p : Path) → IsIn (outputs j) p → HasSerial o s w j top → kept_at j.kept p ≡ Some (record_of j p)
+      kept_all : (j.kept ≡ [] → ⊥) → (p : Path) → IsIn (outputs j) p → HasSerial o s w j top → IsSome (kept_at j.kept p)
       kept_all some p i (inl k) = absurd (some k.0)
-      kept_all some p i (inr k) = (each_in (IsKept o w j) (outputs j) p k.1 i).2
+      kept_all some p i (inr k) = let x = each_in (IsKept o w j) (outputs j) p k.1 i in some_by (kept_at j.kept p) x.found x.kept
 
   kept_now : KeptNow o (now o w) j
-  kept_now p r at = go serial
-    where
-      go : HasSerial o s w j top → (now o w).record_at p ≡ Some r
-      go (inl k) = none_some (kept_at [] p) refl (subst (λ l. kept_at l p ≡ Some r) k.0 at)
-      go (inr k) = (each_in (IsKept o w j) (outputs j) p k.1 (may.kept_own p r at)).0 ∙ ap Some (sym ((kept_record p r at).1))
+  kept_now p r at = let k = found_at p r at in inl (k.0.stands ∙ ap (λ x. Some x) k.1)
 
   phase_own : InPhase o w j
   phase_own = subst (λ x. InPhase o w (at_phase j x)) (sym begins) (in_marking o w j kept_now)
@@ -261,7 +293,7 @@ module _
       serials fits apart none same (inl h) = above_top k.serial s.top fits.numbered.0 (sym same ∙ h.1)
       serials fits apart none same (inr h) =
           let r = restored h.0 h.1 in
-          not_both k apart r.0 r.1 (unused_now k fits none r.0 (record_of j r.0) (r.2.0, inl r.2.1) same)
+          not_both k apart r.0 r.1 (unused_now k fits none r.0 r.2.found (r.2.stands, inl r.2.unmarked) (r.2.again.made ∙ same))
 
       hand_clash : Fits o entry e s.top w k → IsApart j k → k.kept ≡ [] → (q : Path) → IsIn (begun_with j) (q, Made k.serial) → ⊥
       hand_clash fits apart none q named =
@@ -286,6 +318,7 @@ module _
         };
         fits = (fits_own, each_on (Fits o entry e s.top w) (Fits o entry e' top w) fits_other s.jobs m.fits);
         phases = (phase_own, m.phases);
+        like = (kept_like, m.like);
         apart = (each_of (AreApart o j) s.jobs apart_from, m.apart);
         children = each_on (IsOfJob o s.jobs) (IsOfJob o (j ∷ s.jobs)) (λ c k. (k.0, inr k.1, k.2, k.3, k.4)) w.children m.children;
         owned = λ q h. let k = m.owned q h in (k.0, inr k.1, k.2, k.3);

@@ -1,16 +1,16 @@
 -- The crux: what a job's outputs hold as its marks go is what its record vouches for, in each image in which it is chained.
-use Rattle.std.proofs.Common.{◌≡◌, ◌<◌, ℕ, zero, suc, Bool, false, List, map, refl, sym, ap, arith, ◌∙◌, Option, Some}
+use Rattle.std.proofs.Common.{◌≡◌, ◌<◌, ℕ, zero, suc, Bool, true, false, List, map, refl, sym, ap, arith, ◌∙◌, Option, Some}
 use Rattle.std.specs.Prelude.{IsTrue}
 use Rattle.std.specs.Option.{option_and_then}
 use Rattle.smk_base.specs.declared.tree.Tree.{Tree}
 use Rattle.smk_record.specs.declared.record.Member.{Member}
 use Rattle.smk_record.specs.declared.record.Stamp.{Stamp}
-use Rattle.smk_record.specs.declared.record.Stamp.TheVariants.{Time, Made}
+use Rattle.smk_record.specs.declared.record.Stamp.TheVariants.{Time, Sum, Made}
 use Rattle.smk_record.specs.declared.record.Record.{Record}
 use Rattle.smk_world.specs.Trees.{Path, Act, all_of, value_at, part_at, IsIn}
 use Rattle.smk_store.specs.Images.{Content}
 use Rattle.smk_store.specs.Trust.{Versions, Eased, vouched}
-use Rattle.smk_record.specs.Records.{stamped}
+use Rattle.smk_record.specs.Records.{is_of_source, stamped}
 use Rattle.smk_laws_protocol.proofs.View.{kind_in, View, Speaks, Chain, Link, Holds, Sound, is_source, is_whole, input_value, vir}
 use Rattle.smk_laws_protocol.proofs.Chains.{Passes, chain_on, map_same, value_of_product}
 use Rattle.smk_laws_protocol.proofs.Moves.{with_nodes}
@@ -31,6 +31,7 @@ inputs_deep :
     ((q : Path) (m : ℕ) (h : Path) (s : Record) → IsIn (stamped r) (q, Made m) → s.made ≡ m → Chain v e s → v.record_at h ≡ Some s → V h ≡ V' h) →
     (x : Path × Stamp) → IsIn (stamped r) x → input_value v H V x ≡ input_value v H V' x
 inputs_deep H v e V V' r chain same (q, Time t) i = refl
+inputs_deep H v e V V' r chain same (q, Sum t d) i = refl
 inputs_deep H v e V V' _ (Link r place by speaks chains) same (q, Made m) i =
     let s = (speaks q m i).0 in
     value_of_product v H V q (place q m) m (by q m) s.holder s.clear.0 (speaks q m i).1
@@ -91,7 +92,7 @@ module _ (act : Act) (H : Versions) (v : View) (e : Eased) (falls : (h : Path) (
   pub own_value :
       (p : Path) (r : Record) (content : Path → Option Tree) (tree : Tree) →
       v.record_at p ≡ Some r → Chain v e r →
-      ((q : Path) (t : ℕ) → IsIn (stamped r) (q, Time t) → input_value v H (vir v act H r.made) (q, Time t) ≡ content q) →
+      ((q : Path) (s : Stamp) → IsIn (stamped r) (q, s) → is_of_source s ≡ true → input_value v H (vir v act H r.made) (q, s) ≡ content q) →
       ((q : Path) (m : ℕ) (h : Path) (s : Record) → IsIn (stamped r) (q, Made m) → Speaks v e q h s → s.made ≡ m → Mixed q h s (content q)) →
       value_at act r.recipe p (all_of (map (λ (x : Path × Stamp). content x.0) (stamped r))) ≡ Some tree →
       v.tree p ≡ Some tree → Holds v act H p r
@@ -105,10 +106,11 @@ module _ (act : Act) (H : Versions) (v : View) (e : Eased) (falls : (h : Path) (
     where
       each :
           (r : Record) → Chain v e r → Falls r →
-          ((q : Path) (t : ℕ) → IsIn (stamped r) (q, Time t) → input_value v H (vir v act H r.made) (q, Time t) ≡ content q) →
+          ((q : Path) (s : Stamp) → IsIn (stamped r) (q, s) → is_of_source s ≡ true → input_value v H (vir v act H r.made) (q, s) ≡ content q) →
           ((q : Path) (m : ℕ) (h : Path) (s : Record) → IsIn (stamped r) (q, Made m) → Speaks v e q h s → s.made ≡ m → Mixed q h s (content q)) →
           (x : Path × Stamp) → IsIn (stamped r) x → input_value v H (vir v act H r.made) x ≡ content x.0
-      each r chain falls sources products (q, Time t) i = sources q t i
+      each r chain falls sources products (q, Time t) i = sources q (Time t) i refl
+      each r chain falls sources products (q, Sum t d) i = sources q (Sum t d) i refl
       each _ (Link r place by speaks chains) falls sources products (q, Made m) i =
           let h = place q m in
           let s = by q m in

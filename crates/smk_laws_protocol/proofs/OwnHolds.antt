@@ -12,11 +12,11 @@ use Rattle.smk_record.specs.declared.record.Record.{Record}
 use Rattle.smk_world.specs.declared.event.Node.{Node}
 use Rattle.smk_base.specs.declared.tree.Tree.{Tree}
 use Rattle.smk_world.specs.declared.recipe.Kind.TheVariants.{Plain, Folder as FolderKind}
-use Rattle.smk_record.specs.declared.record.Stamp.TheVariants.{Time, Made}
+use Rattle.smk_record.specs.declared.record.Stamp.TheVariants.{Time, Sum, Made}
 use Rattle.smk_world.specs.Trees.{Path, among, folders_of, part_at, IsIn}
 use Rattle.smk_base.specs.Path.{overlaps}
 use Rattle.smk_world.specs.World.{folders_above, in_paths, World, out_paths}
-use Rattle.smk_store.specs.Trust.{Versions, is_folder_record, Eased, none_eased}
+use Rattle.smk_store.specs.Trust.{Versions, HasVersion, is_folder_record, Eased, none_eased}
 use Rattle.smk_record.specs.Records.{stamped, same_member, core, is_earlier, is_valid}
 use Rattle.smk_laws_protocol.proofs.View.{kind_in, View, Sound, Chain, Holds, Speaks, Clear, holder, is_whole}
 use Rattle.smk_laws_protocol.proofs.Views.{Nodes, reads, view_of, read_at, place_node}
@@ -24,12 +24,14 @@ use Rattle.smk_base.specs.Place.{record_place}
 use Rattle.smk_store.specs.Soundness.{Outside}
 use Rattle.smk_laws_protocol.specs.Protocol.{OpenJob, RunState, own, outputs, begun_with, record_of, eased_by}
 use Rattle.smk_laws_protocol.proofs.Rows.{now, IsAtHand}
-use Rattle.smk_laws_protocol.proofs.Between.{Midway, Fits, InPhase, HasNoNew, HasNoNested, HoldsGiven}
+use Rattle.smk_laws_protocol.proofs.Hand.{hand_recorded}
+use Rattle.smk_laws_protocol.proofs.Between.{Midway, Fits, InPhase, VouchesLike, HasNoNew, HasNoNested, HoldsGiven}
 use Rattle.smk_laws_protocol.proofs.Apart.{free_of, free_to}
 use Rattle.smk_laws_protocol.proofs.Basics.{each_in, in_split, in_here, any_by, clash, none_some, some_same}
 use Rattle.smk_laws_protocol.proofs.Crux.{own_holds}
-use Rattle.smk_laws_protocol.proofs.Holders.{one_holder, holder_over, found_test, IsOver, own_holder, far_holder, by_option}
+use Rattle.smk_laws_protocol.proofs.Holders.{is_some_of, one_holder, holder_over, found_test, IsOver, own_holder, far_holder, by_option}
 use Rattle.smk_laws_protocol.proofs.Jobs.{pair_apart}
+use Rattle.smk_laws_protocol.proofs.Like.{IsLike, like_of, like_swap, like_then}
 use Rattle.smk_laws_protocol.proofs.Naming.{IsImage, each_image, now_image}
 use Rattle.smk_laws_protocol.proofs.Own.{Falls}
 use Rattle.smk_base.proofs.Places.{place_itself}
@@ -55,6 +57,10 @@ each_earlier made (p ∷ ps) (s ∷ ss) q m h (inl e) = below s (ap (λ (x : Pat
       where
         no : (m t : ℕ) → Made m ≡ Time t → ⊥
         no m t e = cc
+    below (Sum t d) e k = absurd (no e)
+      where
+        no : Made m ≡ Sum t d → ⊥
+        no e = cc
     below (Made n) e k = subst (λ x. x < made) (same n m e) (less n made k)
       where
         same : (n m : ℕ) → Made m ≡ Made n → n ≡ m
@@ -112,9 +118,25 @@ module _
   fits : Fits o entry e s.top w j
   fits = each_in (Fits o entry e s.top w) (js ++ j ∷ ks) j m.fits (in_here js ks j)
 
-  -- what an open Restore found reads now
-  pub eased_now : (h : Path) (r : Record) → e h r → (now o w).record_at h ≡ Some r
-  eased_now h r k = (each_in (InPhase o w) (js ++ j ∷ ks) k.0 m.phases k.1).kept k.2 h r k.3
+  -- where an open Restore found a record, one that vouches for the same reads now
+  pub eased_now : (h : Path) (r : Record) → e h r → (s : Record) × ((now o w).record_at h ≡ Some s) × e h s × IsLike H r s
+  eased_now h r k = go ((each_in (InPhase o w) (js ++ j ∷ ks) k.0 m.phases k.1).kept k.2 h k.3.found k.3.kept)
+    where
+      like : IsLike H k.3.found (record_of k.0 h)
+      like = (each_in (VouchesLike o H) (js ++ j ∷ ks) k.0 m.like k.1 h k.3.found k.3.kept).like
+
+      to_found : (r ≡ k.3.found) ⊎ (r ≡ record_of k.0 h) → IsLike H r k.3.found
+      to_found (inl is) = like_of H r k.3.found is
+      to_found (inr is) = like_then H r (record_of k.0 h) k.3.found (like_of H r (record_of k.0 h) is) (like_swap H k.3.found (record_of k.0 h) like)
+
+      eased : (s : Record) → (s ≡ k.3.found) ⊎ (s ≡ record_of k.0 h) → e h s
+      eased s is = (k.0, k.1, k.2, record { found = k.3.found; kept = k.3.kept; is = is })
+
+      go :
+          ((now o w).record_at h ≡ Some k.3.found) ⊎ ((now o w).record_at h ≡ Some (record_of k.0 h)) →
+          (s : Record) × ((now o w).record_at h ≡ Some s) × e h s × IsLike H r s
+      go (inl at) = (k.3.found, at, eased k.3.found (inl refl), to_found k.3.is)
+      go (inr at) = (record_of k.0 h, at, eased (record_of k.0 h) (inr refl), like_then H r k.3.found (record_of k.0 h) (to_found k.3.is) like)
 
   input_free : (x : OpenJob) → (x ≡ j) ⊎ IsIn (js ++ ks) x → (q : Path) → IsIn (in_paths j.recipe) q → list_any (overlaps q) (own x) ≡ false
   input_free x (inl k) q i = subst (λ y. list_any (overlaps q) (own y) ≡ false) (sym k) (free_to texts.overlap (own j) (in_paths j.recipe) q fits.from_inputs i)
@@ -125,7 +147,7 @@ module _
 
   not_eased : (q h : Path) (n : ℕ) (r : Record) → IsIn (begun_with j) (q, Made n) → holder (now o w) q ≡ Some h → e h r → ⊥
   not_eased q h n r i is k =
-      let out = ((each_in (Fits o entry e s.top w) (js ++ j ∷ ks) k.0 m.fits k.1).kept_own h r k.3).0 in
+      let out = ((each_in (Fits o entry e s.top w) (js ++ j ∷ ks) k.0 m.fits k.1).kept_own h k.3.found k.3.kept).0 in
       clash (list_any (overlaps q) (own k.0))
       (any_by (overlaps q) (own k.0) h (in_left (outputs k.0) k.0.logs h out) (over_overlaps texts.overlap q h (holder_over (now o w) q h is)))
       (input_free k.0 (in_split js ks j k.0 k.1) q (in_inputs q n i))
@@ -146,12 +168,12 @@ module _
     abbrev here : View
     here = view_of o.read names f
 
-    there : (q h : Path) (r : Record) → Clear here e h r → (now o w).record_at h ≡ Some r
+    there : (q h : Path) (r : Record) → Clear here e h r → IsSome ((now o w).record_at h)
     there q h r c = go c.1
       where
-        go : (here.marked h ≡ false) ⊎ e h r → (now o w).record_at h ≡ Some r
-        go (inl k) = (each_image o.read w (HasNoNew o (now o w)) m.images.no_new names f i h r c.0 k).0
-        go (inr k) = eased_now h r k
+        go : (here.marked h ≡ false) ⊎ e h r → IsSome ((now o w).record_at h)
+        go (inl k) = is_some_of r ((now o w).record_at h) (each_image o.read w (HasNoNew o (now o w)) m.images.no_new names f i h r c.0 k).0
+        go (inr k) = let s = eased_now h r k in is_some_of s.0 ((now o w).record_at h) s.1
 
     one : (q h h0 : Path) (r r0 : Record) → Speaks here e q h r → Speaks (now o w) none_eased q h0 r0 → h ≡ h0
     one q h h0 r r0 a b = one_holder o texts.holders (now o w) here e (each_image o.read w (HasNoNested o) m.images.no_nested w.names (reads w) (now_image w m.images.formed)) q h h0 r r0 a (there q h r a.clear) b
@@ -163,11 +185,8 @@ module _
         (λ h r is. reads_fall o h (place_node f record_place h) r is) one p at chain fits.at_hand given
 
   -- the sources that the job was made of are in H
-  pub recorded : (p x : Path) (t : ℕ) → IsIn (stamped (record_of j p)) (x, Time t) → IsSome (H x t)
-  recorded p x t i =
-      let hand = each_in (IsAtHand o (now o w)) (begun_with j) (x, Time t) fits.at_hand i in
-      let sound = each_image o.read w (λ v. Sound o.act H v e) m.images.sound w.names (reads w) (now_image w m.images.formed) in
-      subst (λ u. IsSome (H x u)) hand.2 (some (H x hand.0.time) hand.0.bytes (sound.has_sources x hand.0 hand.1))
-    where
-      some : (y : Option (List ℕ)) (b : List ℕ) → y ≡ Some b → IsSome y
-      some y b h = rw h refl
+  now_sound : Sound o.act H (now o w) e
+  now_sound = each_image o.read w (λ v. Sound o.act H v e) m.images.sound w.names (reads w) (now_image w m.images.formed)
+
+  pub recorded : (p x : Path) (s : Stamp) → IsIn (stamped (record_of j p)) (x, s) → HasVersion H x s
+  recorded p x s i = hand_recorded o H (now o w) now_sound.has_sources x s (each_in (IsAtHand o (now o w)) (begun_with j) (x, s) fits.at_hand i)

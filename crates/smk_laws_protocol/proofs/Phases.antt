@@ -1,11 +1,11 @@
 -- What holds of an open job by its phase stays, as the event of another job changes the world.
-use Rattle.std.proofs.Common.{◌≡◌, ℕ, true, false, List, sym, ap, ◌∙◌, Some}
+use Rattle.std.proofs.Common.{◌≡◌, ◌⊎◌, ℕ, true, false, List, sym, ap, inl, inr, ◌∙◌, Some}
 use Rattle.std.specs.List.{list_any}
 use Rattle.smk_world.specs.declared.event.Child.{Child}
 use Rattle.smk_record.specs.declared.record.Record.{Record}
 use Rattle.smk_world.specs.Trees.{Path, value_at, all_of, IsIn, Each}
 use Rattle.smk_base.specs.Path.{overlaps}
-use Rattle.smk_laws_protocol.specs.Protocol.{kept_at, Running, OpenJob, own, outputs, listed_of}
+use Rattle.smk_laws_protocol.specs.Protocol.{kept_at, Running, OpenJob, own, outputs, record_of, listed_of}
 use Rattle.smk_world.specs.World.{in_paths, World, IsFormed}
 use Rattle.smk_store.specs.Trust.{Versions, Eased}
 use Rattle.smk_laws_protocol.proofs.View.{View}
@@ -81,7 +81,16 @@ module _
     (o : Outside) (laws : OverlapLaws) (naming : NamesLaws o.read) (entry : World) (H : Versions) (j k : OpenJob) (e e' : Eased) (w w' : World) (formed : IsFormed w)
     (change : Change o entry H j e e' w w') (other : IsOther j k) where
   kept_on : ((p : Path) (r : Record) → kept_at k.kept p ≡ Some r → IsIn (outputs k) p) → IsKept o (now o w) k → IsKept o (now o w') k
-  kept_on own_kept kept p r at = (change.differs_now.records p (not_output o laws j k other p (in_left (outputs k) k.logs p (own_kept p r at)))).at ∙ kept p r at
+  kept_on own_kept kept p r at = go (kept p r at)
+    where
+      same : (now o w').record_at p ≡ (now o w).record_at p
+      same = (change.differs_now.records p (not_output o laws j k other p (in_left (outputs k) k.logs p (own_kept p r at)))).at
+
+      go :
+          ((now o w).record_at p ≡ Some r) ⊎ ((now o w).record_at p ≡ Some (record_of k p)) →
+          ((now o w').record_at p ≡ Some r) ⊎ ((now o w').record_at p ≡ Some (record_of k p))
+      go (inl is) = inl (same ∙ is)
+      go (inr is) = inr (same ∙ is)
 
   pub phase_change :
       ((p : Path) (r : Record) → kept_at k.kept p ≡ Some r → IsIn (outputs k) p) →

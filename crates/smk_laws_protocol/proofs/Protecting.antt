@@ -66,7 +66,7 @@ module _ (v : View) (file : Path → Option Content) (some : (q : Path) → is_s
   refiled_sound act H e sound =
       sound_on act H v refiled e e sound refiled_source
       (λ q h r s. record { no_source = sym (refiled_is q) ∙ s.no_source; holder = s.holder; clear = s.clear })
-      (λ q r t x at c k. sound.has_recorded q r t x at c k)
+      (λ q r x s at c k. sound.has_recorded q r x s at c k)
       (λ q r at c chain whole. (at, sound.holds q r at c chain (refiled_whole q (kind_in r q) whole)))
 
 -- at p what might have stood before may stand, with the flag or without, or nothing

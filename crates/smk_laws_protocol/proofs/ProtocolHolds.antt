@@ -8,7 +8,7 @@ use Rattle.smk_world.specs.Runs.{Follows as WorldFollows}
 use Rattle.smk_world.proofs.Owners.{AreNumbered, numbered_after, numbered_image}
 use Rattle.smk_store.specs.Images.{Image, Content, image_of, seen, source_at}
 use Rattle.smk_store.specs.Safety.{or_put, with_sources}
-use Rattle.smk_store.specs.Trust.{Versions, none_eased}
+use Rattle.smk_store.specs.Trust.{Versions, SumsDiffer, none_eased}
 use Rattle.smk_store.specs.Soundness.{Outside, Sound as ImageSound, SoundWorld as ImageSoundWorld}
 use Rattle.smk_laws_protocol.specs.Protocol.{RunState, Runs, Done, Next}
 use Rattle.smk_laws_protocol.specs.Midway.{ProtocolLaw, ProtocolKeepsSound, IsSafe, HasSafeImages, IsTop as ImageTop, at_entry}
@@ -21,7 +21,7 @@ use Rattle.smk_laws_protocol.proofs.EveryImage.{to_lists}
 use Rattle.smk_laws_protocol.proofs.Keeping.{keeps, texts_of}
 use Rattle.smk_laws_protocol.proofs.Law.{entry_midway, safe_images, at_end}
 use Rattle.smk_laws_protocol.proofs.Reading.{in_of}
-use Rattle.smk_laws_protocol.proofs.SoundViews.{sound_from}
+use Rattle.smk_laws_protocol.proofs.SoundViews.{sound_from, has_none}
 use Rattle.smk_laws_protocol.proofs.SoundWorlds.{world_to, world_from, sources_from, now_is, now_seen}
 use Rattle.smk_laws_protocol.proofs.StepViews.{step_to}
 use Rattle.smk_laws_protocol.proofs.TextFacts.{text_laws}
@@ -35,7 +35,7 @@ numbered_alone w none =
       started = λ n h. absurd (in_of (numbers []) n (subst (λ cs. Contains (numbers cs) n) none h));
     }
 
-module _ (o : Outside) (entry : World) (H : Versions) where
+module _ (o : Outside) (entry : World) (H : Versions) (differ : SumsDiffer H) where
   along :
       (s end : RunState) (w : World) (es : List Event) →
       Midway o entry H s w → AreNumbered w → WorldFollows o.act w es → Runs o s w es end → Midway o entry H end (run w es)
@@ -43,7 +43,7 @@ module _ (o : Outside) (entry : World) (H : Versions) where
   along s end w (e ∷ es) m numbered follows (Next _ mid _ _ _ _ step runs) =
       let by = step_to o w s e mid step in
       let lets = answers o entry H s w m numbered e.call e.left (step_unowned o entry H s w m e mid by) follows.0.lets in
-      along mid end (after w e) es (keeps o (texts_of text_laws o.read) entry H s mid w e m lets by) (numbered_after o.act w e follows.0.lets numbered) follows.1 runs
+      along mid end (after w e) es (keeps o (texts_of text_laws o.read) entry H differ s mid w e m lets by) (numbered_after o.act w e follows.0.lets numbered) follows.1 runs
 
   top_to : (w : World) (top : ℕ) → ImageTop o w top → IsTop o w top
   top_to w top is p r n at unmarked i =
@@ -56,7 +56,7 @@ module _ (o : Outside) (entry : World) (H : Versions) where
   safe_here : (s : RunState) (w : World) → Midway o entry H s w → HasSafeImages o entry w H
   safe_here s w m nodes leaves =
       let here = to_lists o.read w m.images.formed (λ v. Sound o.act H v none_eased × HasSources o (now o entry) v × HasNoNested o v) (safe_images o entry H s w m) nodes leaves in (
-        sound_from (image_of o.read nodes) o.act H none_eased here.0 here.2,
+        sound_from (image_of o.read nodes) o.act H none_eased here.0 (has_none H) here.2,
         sources_from o (seen o.read entry) (image_of o.read nodes) (now_seen o entry H (HasSources o) (image_of o.read nodes) here.1),
       )
 
@@ -92,15 +92,15 @@ same_versions o H i sound k p t = put (source_at i p) (sound.has_sources p) k
 pub keeps_sound : ProtocolKeepsSound
 keeps_sound o entry top log s is follows runs =
     record {
-      safe = λ H sound events rest split nodes leaves.
+      safe = λ H differ sound events rest split nodes leaves.
           let runs' = front o (at_entry o top) s entry events rest (subst (λ es. Runs o (at_entry o top) entry es s) split runs) in
-          let safe = (is_safe o entry H sound).throughout top events runs'.0 is (front_follows o entry events rest (subst (WorldFollows o.act entry) split follows)) runs'.1 nodes leaves in
+          let safe = (is_safe o entry H differ sound).throughout top events runs'.0 is (front_follows o entry events rest (subst (WorldFollows o.act entry) split follows)) runs'.1 nodes leaves in
           (subst (λ V. ImageSound o.act V (image_of o.read nodes) none_eased) (sym (same_versions o H (image_of o.read nodes) safe.0)) safe.0, λ p. inl (safe.1 p));
-      sound_at_exit = λ H sound to_the_end alone.
-          let end = (is_safe o entry H sound).at_exit top log s is follows runs alone in
+      sound_at_exit = λ H differ sound to_the_end alone.
+          let end = (is_safe o entry H differ sound).at_exit top log s is follows runs alone in
           subst (ImageSoundWorld o (run entry log)) (sym (same_versions o H (seen o.read (run entry log)) end.now)) end;
     }
 
 -- The protocol keeps every crash image sound.
 pub protocol_law : ProtocolLaw
-protocol_law o entry H sound = is_safe o entry H sound
+protocol_law o entry H differ sound = is_safe o entry H differ sound

@@ -20,8 +20,9 @@ use Rattle.smk_laws_protocol.proofs.Apart.{apart_same}
 use Rattle.smk_laws_protocol.proofs.Basics.{any_by, by_test, clash}
 use Rattle.smk_laws_protocol.proofs.Change.{Change, Differs}
 use Rattle.smk_laws_protocol.proofs.Guarded.{IsGuarded}
-use Rattle.smk_laws_protocol.proofs.Holders.{holder_stays}
-use Rattle.smk_laws_protocol.proofs.Moves.{with_record}
+use Rattle.smk_laws_protocol.proofs.Holders.{HasBefore, holder_stays}
+use Rattle.smk_laws_protocol.proofs.Like.{IsLike, like_self}
+use Rattle.smk_laws_protocol.proofs.Moves.{with_record, Counted}
 use Rattle.smk_laws_protocol.proofs.Naming.{IsWide, each_image, of_wide, now_image}
 use Rattle.smk_laws_protocol.proofs.Places.{over}
 use Rattle.smk_laws_protocol.proofs.Records.{after_view, after_is, place_same, record_safe}
@@ -30,28 +31,31 @@ use Rattle.smk_laws_protocol.proofs.Stays.{in_left}
 use Rattle.smk_laws_protocol.proofs.Texts.{Texts}
 use Rattle.smk_laws_protocol.proofs.Turns.{Turn, turn_within, Pair, each_pair_change, of_pair}
 
--- what counts beside another record at a marked path counted before
+-- where what counts is beside another record at a marked path, what vouches for the same counted before
 pub record_counts :
-    (v : View) (p : Path) (has : Path → Bool) (at : Path → Option Record) (listed : Path → List Member) (e e' : Eased) →
+    (H : Versions) (v : View) (p : Path) (has : Path → Bool) (at : Path → Option Record) (listed : Path → List Member) (e e' : Eased) →
     v.marked p ≡ true → ((q : Path) → bytes_eq q p ≡ false → at q ≡ v.record_at q) →
-    ((q : Path) (r : Record) → e' q r → e q r) → ((r : Record) → e' p r → v.record_at p ≡ Some r) →
-    (q : Path) (r : Record) → Clear (with_record v has at listed) e' q r → Clear v e q r
-record_counts v p has at listed e e' marked at_same fewer kept q r c = by_test (bytes_eq q p) (here c.1) (λ k. (sym (at_same q k) ∙ c.0, other c.1))
+    ((q : Path) (r : Record) → e' q r → e q r) → ((r : Record) → e' p r → (s : Record) × (v.record_at p ≡ Some s) × e p s × IsLike H r s) →
+    (q : Path) (r : Record) → Clear (with_record v has at listed) e' q r → Counted H v e q r
+record_counts H v p has at listed e e' marked at_same fewer kept q r c = by_test (bytes_eq q p) (here c.1) (λ k. (r, (sym (at_same q k) ∙ c.0, other c.1), like_self H r))
   where
     other : (v.marked q ≡ false) ⊎ e' q r → (v.marked q ≡ false) ⊎ e q r
     other (inl k) = inl k
     other (inr k) = inr (fewer q r k)
 
-    here : (v.marked q ≡ false) ⊎ e' q r → bytes_eq q p ≡ true → Clear v e q r
+    at_p : (s : Record) × (v.record_at p ≡ Some s) × e p s × IsLike H r s → Counted H v e p r
+    at_p k = (k.0, (k.1, inr k.2), k.3)
+
+    here : (v.marked q ≡ false) ⊎ e' q r → bytes_eq q p ≡ true → Counted H v e q r
     here (inl k) h = clash (v.marked q) (subst (λ x. v.marked x ≡ true) (sym (same_place q p h)) marked) k
-    here (inr k) h = (subst (λ x. v.record_at x ≡ Some r) (sym (same_place q p h)) (kept r (subst (λ x. e' x r) (same_place q p h) k)), inr (fewer q r k))
+    here (inr k) h = subst (λ x. Counted H v e x r) (sym (same_place q p h)) (at_p (kept r (subst (λ x. e' x r) (same_place q p h) k)))
 
 module _
     (o : Outside) (texts : Texts o.read) (entry : World) (H : Versions) (j : OpenJob) (e e' : Eased) (top : ℕ) (steady : Bool) (w w' : World)
     (m : Images o entry H e top steady w) (fits : Fits o entry e top w j) (fewer : (p : Path) (r : Record) → e' p r → e p r)
     (formed : IsFormed w') (covered : HasNames w'.names (reads w))
     (guarded : EachImage o.read w (IsGuarded j)) (p : Path) (i : IsIn (outputs j) p)
-    (kept_now : (r : Record) → e' p r → (now o w).record_at p ≡ Some r)
+    (kept_now : (r : Record) → e' p r → (s : Record) × ((now o w).record_at p ≡ Some s) × e p s × IsLike H r s)
     (others : (q : Path) → is_at_or_under q (record_place p) ≡ false → w'.nodes q ≡ w.nodes q) where
   abbrev turn : Turn w w'
   turn = turn_within w w' formed covered (λ q. is_at_or_under q (record_place p)) others
@@ -74,20 +78,22 @@ module _
   at_self : (x : Path) → is_at_or_under x x ≡ true
   at_self x = rw (place_itself x) refl
 
-  kept_before : (names : List Path) (g : Nodes) (r : Record) → e' p r → (view_of o.read names (turn.before g)).record_at p ≡ Some r
-  kept_before names g r h = ap (λ n. option_map core (read_at o.read p (if is_path_text p then n else None))) here ∙ kept_now r h
+  kept_before : (names : List Path) (g : Nodes) (r : Record) → e' p r → (s : Record) × ((view_of o.read names (turn.before g)).record_at p ≡ Some s) × e p s × IsLike H r s
+  kept_before names g r h =
+      let k = kept_now r h in
+      (k.0, ap (λ n. option_map core (read_at o.read p (if is_path_text p then n else None))) here ∙ k.1, k.2, k.3)
     where
       here : turn.before g (record_place p) ≡ reads w (record_place p)
       here = ap (λ (b : Bool). if b then reads w (record_place p) else g (record_place p)) (at_self (record_place p))
 
-  counts : (names : List Path) (g : Nodes) → IsWide w w' names g → (q : Path) (r : Record) → Clear (seen names g) e' q r → Clear (view_of o.read names (turn.before g)) e q r
+  counts : (names : List Path) (g : Nodes) → IsWide w w' names g → (q : Path) (r : Record) → Clear (seen names g) e' q r → Counted H (view_of o.read names (turn.before g)) e q r
   counts names g k =
-      record_counts (view_of o.read names (turn.before g)) p (seen names g).has_record (seen names g).record_at (seen names g).listed e e'
+      record_counts H (view_of o.read names (turn.before g)) p (seen names g).has_record (seen names g).record_at (seen names g).listed e e'
       ((guard names g k).marks p i) (at_same names g) fewer (kept_before names g)
 
-  none_counts : (names : List Path) (g : Nodes) → IsWide w w' names g → (q : Path) (r : Record) → Clear (seen names g) none_eased q r → Clear (view_of o.read names (turn.before g)) none_eased q r
+  none_counts : (names : List Path) (g : Nodes) → IsWide w w' names g → (q : Path) (r : Record) → Clear (seen names g) none_eased q r → Counted H (view_of o.read names (turn.before g)) none_eased q r
   none_counts names g k =
-      record_counts (view_of o.read names (turn.before g)) p (seen names g).has_record (seen names g).record_at (seen names g).listed none_eased none_eased
+      record_counts H (view_of o.read names (turn.before g)) p (seen names g).has_record (seen names g).record_at (seen names g).listed none_eased none_eased
       ((guard names g k).marks p i) (at_same names g) (λ q r h. h) (λ r h. absurd h)
 
   other : (x : Path) → (IsIn (outputs j) x → ⊥) → bytes_eq x p ≡ false
@@ -105,19 +111,19 @@ module _
         marks = λ x f. refl;
       }
 
-  pair : (names : List Path) (g : Nodes) → IsWide w w' names g → Pair j e e' (view_of o.read names (turn.before g)) (view_of o.read names g)
+  pair : (names : List Path) (g : Nodes) → IsWide w w' names g → Pair H j e e' (view_of o.read names (turn.before g)) (view_of o.read names g)
   pair names g k =
-      subst (Pair j e e' (view_of o.read names (turn.before g))) (view_is names g)
+      subst (Pair H j e e' (view_of o.read names (turn.before g))) (view_is names g)
       (record { differs = seen_differs names g; counts = λ q r c. inl (counts names g k q r c); none_counts = λ q r c. inl (none_counts names g k q r c) })
 
   -- no other record that counts overlaps the output's
-  alone : (names : List Path) (g : Nodes) → IsWide w w' names g → (h : Path) (r : Record) → Clear (seen names g) e' h r → overlaps h p ≡ true → (h ≡ p) × ((view_of o.read names (turn.before g)).record_at p ≡ Some r)
+  alone : (names : List Path) (g : Nodes) → IsWide w w' names g → (h : Path) (r : Record) → Clear (seen names g) e' h r → overlaps h p ≡ true → (h ≡ p) × HasBefore (view_of o.read names (turn.before g)) p r
   alone names g k h r c over =
       let before = counts names g k h r c in
       let p_own = in_left (outputs j) j.logs p i in
-      let h_out = each_image o.read w (HasNoClash o e j) fits.no_clash names (turn.before g) (turn.image names g k) h r before (any_by (overlaps h) (own j) p p_own over) in
+      let h_out = each_image o.read w (HasNoClash o e j) fits.no_clash names (turn.before g) (turn.image names g k) h before.0 before.1 (any_by (overlaps h) (own j) p p_own over) in
       let same = apart_same texts.overlap (own j) h p fits.apart (in_left (outputs j) j.logs h h_out) p_own over in
-      (same, subst (λ x. (view_of o.read names (turn.before g)).record_at x ≡ Some r) same before.0)
+      (same, (before.0, subst (λ x. (view_of o.read names (turn.before g)).record_at x ≡ Some before.0) same before.1.0, sym before.2.recipe))
 
   safe : EachImage o.read w' (λ v. Sound o.act H v e' × HasSources o (now o entry) v)
   safe =

@@ -16,6 +16,7 @@ use Rattle.smk_base.specs.Place.{mark_place, record_place, note_place}
 use Rattle.smk_store.specs.Soundness.{Outside}
 use Rattle.smk_laws_protocol.proofs.Rows.{now}
 use Rattle.smk_laws_protocol.proofs.Between.{HasSources}
+use Rattle.smk_laws_protocol.proofs.Like.{IsLike}
 use Rattle.smk_laws_protocol.proofs.Moves.{with_record, record_sound, record_source}
 use Rattle.smk_laws_protocol.proofs.Places.{over, over_other}
 use Rattle.smk_laws_protocol.proofs.Marking.{reads_stay}
@@ -72,18 +73,18 @@ module _ (o : Outside) (laws : RecordLaws) (entry : World) (H : Versions) (e e' 
       EachImage o.read w (λ v. Sound o.act H v e) → EachImage o.read w (HasSources o (now o entry)) →
       EachImage o.read w (λ v. v.marked p ≡ true) →
       ((q : Path) (r : Record) → e' q r → e q r) →
-      -- where its record is still kept for a Restore, it reads so
-      ((names : List Path) (g : Nodes) (r : Record) → e' p r → (view_of o.read names (before g)).record_at p ≡ Some r) →
+      -- where its record is still kept for a Restore, one that vouches for the same reads
+      ((names : List Path) (g : Nodes) (r : Record) → e' p r → (s : Record) × ((view_of o.read names (before g)).record_at p ≡ Some s) × e p s × IsLike H r s) →
       (names : List Path) (g : Nodes) → IsRising names → HasNames names g → HasNames names (reads w) → Leaves w' g →
       -- no other record speaks for what it spoke for
       ((q h : Path) (r : Record) → holder (after_view names g) q ≡ Some h → Clear (after_view names g) e' h r → holder (view_of o.read names (before g)) q ≡ Some h) →
       Sound o.act H (view_of o.read names g) e' × HasSources o (now o entry) (view_of o.read names g)
   record_safe sound sources marked fewer kept names g rising complete covered leaves holders = (
     subst (λ v. Sound o.act H v e') (after_is names g)
-        (record_sound v p has at list e e' mark has_same at_same list_same fewer (kept names g) holders o.act H
+        (record_sound H v p has at list e e' mark has_same at_same list_same fewer (kept names g) holders o.act
         (sound names (before g) rising (before_names names g complete covered) covered (before_leaves g leaves))),
     λ q. subst (λ (u : View). source_at u q ≡ source_at (now o entry) q) (after_is names g)
-        (ap (λ b. if b then (view_of o.read names (before g)).file q else None) (record_source v p has at list e e' mark has_same at_same list_same fewer (kept names g) holders q)
+        (ap (λ b. if b then (view_of o.read names (before g)).file q else None) (record_source H v p has at list e e' mark has_same at_same list_same fewer (kept names g) holders q)
         ∙ sources names (before g) rising (before_names names g complete covered) covered (before_leaves g leaves) q),
   )
     where

@@ -4,7 +4,7 @@ use Rattle.std.specs.List.{list_any}
 use Rattle.smk_world.specs.declared.recipe.Out.{Out}
 use Rattle.smk_record.specs.declared.record.Member.{Member}
 use Rattle.smk_record.specs.declared.record.Stamp.{Stamp}
-use Rattle.smk_record.specs.declared.record.Stamp.TheVariants.{Time, Made}
+use Rattle.smk_record.specs.declared.record.Stamp.TheVariants.{Time, Sum, Made}
 use Rattle.smk_record.specs.declared.record.Record.{Record}
 use Rattle.smk_world.specs.declared.event.Call.{Call}
 use Rattle.smk_world.specs.declared.event.Call.TheVariants.{Written, Created, Removed, MadeParents, Settled, Protected, Started, Waited}
@@ -13,10 +13,10 @@ use Rattle.smk_world.specs.declared.event.Failed.{Failed}
 use Rattle.smk_world.specs.Trees.{Path, among, outs_of, is_good, is_path_text, IsIn, Each}
 use Rattle.smk_store.specs.Images.{is_outside, Content}
 use Rattle.smk_base.specs.Path.{overlaps}
-use Rattle.smk_laws_protocol.specs.Protocol.{Phase, Marking, Marked, Running, Ended, Firm, Recorded, Dropping, Dropped, OpenJob, RunState, kept_at, outputs, own, mark_places, record_places, begun_with, record_of, listed_of, IsThere, IsAbsent, AreAmong, IsRecordOf, as_ok, IsLook, IsLock, IsFirst, runs, MayGo}
+use Rattle.smk_laws_protocol.specs.Protocol.{IsAgain, Phase, Marking, Marked, Running, Ended, Firm, Recorded, Dropping, Dropped, OpenJob, RunState, kept_at, outputs, own, mark_places, record_places, begun_with, record_of, listed_of, IsThere, IsAbsent, AreAmong, IsRecordOf, as_ok, IsLook, IsLock, IsFirst, runs, MayGo}
 use Rattle.smk_world.specs.World.{in_paths, World, after}
 use Rattle.smk_laws_protocol.proofs.View.{kind_in, View, Speaks, is_source, source_at, is_whole}
-use Rattle.smk_store.specs.Trust.{none_eased}
+use Rattle.smk_store.specs.Trust.{none_eased, content_stamp}
 use Rattle.smk_base.specs.Place.{mark_place, record_place, note_place}
 use Rattle.smk_world.specs.Calls.{failed, any_overlap, are_apart}
 use Rattle.smk_store.specs.Soundness.{Outside}
@@ -33,9 +33,14 @@ module _ (o : Outside) where
   abbrev pub now : World → View
   now w = view_of o.read w.names (reads w)
 
-  -- a source with this time; or whole, or a file in what is whole, with this serial in an unmarked record
+  -- a source with this stamp
+  abbrev pub IsSourceOf : View → Path → Stamp → Type 0
+  IsSourceOf v q s = (f : Content) × (source_at v q ≡ Some f) × (content_stamp f ≡ s)
+
+  -- a source with this stamp; or whole, or a file in what is whole, with this serial in an unmarked record
   abbrev pub IsAtHand : View → Path × Stamp → Type 0
-  IsAtHand v (q, Time t) = (f : Content) × (source_at v q ≡ Some f) × (f.time ≡ t)
+  IsAtHand v (q, Time t) = IsSourceOf v q (Time t)
+  IsAtHand v (q, Sum t d) = IsSourceOf v q (Sum t d)
   IsAtHand v (q, Made m) =
       (h : Path) × (r : Record) × (Speaks v none_eased q h r × (r.made ≡ m)
       × IsTrue (is_whole v h (kind_in r h)) × ((q ≡ h) ⊎ IsTrue (is_some (v.file q))))
@@ -54,9 +59,13 @@ module _ (o : Outside) where
     pub each_stamped : length j.stamps ≡ length (in_paths j.recipe)
     pub kept_own : (p : Path) (r : Record) → kept_at j.kept p ≡ Some r → IsIn (outputs j) p
 
-  -- its serial is the next one; or it is a Restore, and has that of its unmarked records, which stay as they are
-  abbrev pub IsKept : World → OpenJob → Path → Type 0
-  IsKept w j p = ((now w).record_at p ≡ Some (record_of j p)) × ((now w).marked p ≡ false) × (kept_at j.kept p ≡ Some (record_of j p))
+  -- its serial is the next one; or it is a Restore, and has that of its unmarked records, in the place of which it writes such again
+  pub record IsKept (w : World) (j : OpenJob) (p : Path) : Type 0 where
+    pub found : Record
+    pub stands : (now w).record_at p ≡ Some found
+    pub unmarked : (now w).marked p ≡ false
+    pub kept : kept_at j.kept p ≡ Some found
+    pub again : IsAgain found (record_of j p)
 
   abbrev pub HasSerial : RunState → World → OpenJob → ℕ → Type 0
   HasSerial s w j top =

@@ -292,7 +292,7 @@ module _
   sound_shrunk =
       sound_on o.act H before u e e sound_before source_at_same
       (λ q h r s. record { no_source = sym (source_same q) ∙ s.no_source; holder = s.holder; clear = s.clear })
-      (λ q r y t at clear k. sound_before.has_recorded q r y t at clear k)
+      (λ q r y s at clear k. sound_before.has_recorded q r y s at clear k)
       (λ q r at clear chain whole. each q r at clear (sound_before.holds q r at clear chain) whole)
     where
       each : (q : Path) (r : Record) → before.record_at q ≡ Some r → before.marked q ≡ false → (IsTrue (is_whole before q (kind_in r q)) → Holds before o.act H q r) → IsTrue (is_whole u q (kind_in r q)) → HoldsBy u before o.act H q r

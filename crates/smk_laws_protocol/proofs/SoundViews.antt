@@ -1,17 +1,17 @@
 -- An image is sound where its view is, and the other way round.
-use Rattle.std.proofs.Common.{◌≡◌, ℕ, zero, suc, Bool, true, false, refl, sym, ap, subst, ◌∙◌, arith, Option, Some, None}
+use Rattle.std.proofs.Common.{◌≡◌, ◌⊎◌, ℕ, zero, suc, Bool, true, false, refl, sym, ap, subst, inl, inr, ◌∙◌, arith, Option, Some, None}
 use Rattle.std.specs.Prelude.{◌==◌, ◌&&◌, ◌||◌, not, IsTrue, IsSome, is_some, option_map, if◌then◌else◌}
 use Rattle.std.specs.List.{list_any}
 use Rattle.std.specs.Option.{option_and_then}
 use Rattle.smk_base.specs.declared.tree.Tree.{Tree}
-use Rattle.smk_world.specs.Trees.{Path, Act, part_at, is_path_text}
+use Rattle.smk_world.specs.Trees.{Path, Act, IsIn, part_at, is_path_text}
 use Rattle.smk_world.specs.World.{folders_above}
 use Rattle.smk_record.specs.declared.record.Stamp.{Stamp}
-use Rattle.smk_record.specs.declared.record.Stamp.TheVariants.{Time, Made}
+use Rattle.smk_record.specs.declared.record.Stamp.TheVariants.{Time, Sum, Made}
 use Rattle.smk_record.specs.declared.record.Record.{Record}
-use Rattle.smk_record.specs.Records.{core, agrees}
+use Rattle.smk_record.specs.Records.{core, agrees, stamped}
 use Rattle.smk_store.specs.Images.{Image, Content, content_of, core_at, record_at, is_folder, file_at, stands, is_source as image_source, source_at as image_source_at, is_whole as image_whole}
-use Rattle.smk_store.specs.Trust.{Versions, Eased, any_time, made_stamp, made_at, vouched, Chain as ImageChain, Link as ImageLink, Vir, vir as image_vir, input_value as image_input, holder as image_holder}
+use Rattle.smk_store.specs.Trust.{Versions, HasVersion, Eased, none_eased, any_source, made_stamp, made_at, vouched, Chain as ImageChain, Link as ImageLink, Vir, vir as image_vir, input_value as image_input, holder as image_holder}
 use Rattle.smk_store.specs.Soundness.{Sound as ImageSound}
 use Rattle.smk_base.specs.Path.{overlaps}
 use Rattle.smk_world.specs.declared.event.Node.{Node}
@@ -59,15 +59,15 @@ source_is i q =
     ∙ and_group (is_path_text q) (is_some ((view i).file q)) (not (is_covered (view i) q))
 
 module _ (i : Image) (e : Eased) where
-  pub chain_to : (r : Record) → ImageChain i e any_time r → Chain (view i) e r
-  chain_to _ (ImageLink r place by times speaks chains) =
+  pub chain_to : (r : Record) → ImageChain i e any_source r → Chain (view i) e r
+  chain_to _ (ImageLink r place by sources speaks chains) =
       Link r place by
       (λ q m k. (record { no_source = sym (source_is i q) ∙ (speaks q m k).0.no_source; holder = (speaks q m k).0.holder; clear = (speaks q m k).0.clear }, equal (by q m).made m (speaks q m k).1))
       (λ q m k. chain_to (by q m) (chains q m k))
 
-  pub chain_from : (r : Record) → Chain (view i) e r → ImageChain i e any_time r
+  pub chain_from : (r : Record) → Chain (view i) e r → ImageChain i e any_source r
   chain_from _ (Link r place by speaks chains) =
-      ImageLink r place by (λ q t k. tt)
+      ImageLink r place by (λ q s k is. tt)
       (λ q m k. (record { no_source = source_is i q ∙ (speaks q m k).0.no_source; holder = (speaks q m k).0.holder; clear = (speaks q m k).0.clear }, itself (by q m).made m (speaks q m k).1))
       (λ q m k. chain_from (by q m) (chains q m k))
 
@@ -78,6 +78,7 @@ module _ (i : Image) (act : Act) (H : Versions) where
 
   input_is : (V V' : Path → Option Tree) → ((p : Path) → V p ≡ V' p) → (x : Path × Stamp) → image_input i H V x ≡ input_value (view i) H V' x
   input_is V V' same (q, Time t) = refl
+  input_is V V' same (q, Sum t d) = refl
   input_is V V' same (q, Made m) = λ k. option_and_then (λ h. if agrees_is m (core_at i h) k then option_and_then (part_at h q) (same h k) else None) (image_holder i q)
 
   -- what a record vouches for is the same
@@ -125,20 +126,31 @@ sound_to i act H e sound =
       has_sources = λ p f is.
           let c = flagless_some (image_source_at i p) f (source_at_is i p ∙ is) in
           subst (λ (g : Content). H p g.time ≡ Some g.bytes) c.2 (sound.has_sources p c.0 c.1);
-      has_recorded = sound.has_recorded;
+      has_recorded = λ p r q s at unmarked i. sound.has_recorded p r q s (at, inl unmarked) i;
       holds = λ p r at unmarked chain whole.
           let h = sound.holds p r at unmarked (chain_from i e r chain) (whole_to i p r (kind_in r p) at whole) in
           (h.0, h.1, sym (depth i act H p r at) ∙ h.2);
     }
 
--- and no two records overlap
-pub sound_from : (i : Image) (act : Act) (H : Versions) (e : Eased) → Sound act H (view i) e → ((p q : Path) → IsSome (core_at i p) → IsSome (core_at i q) → IsTrue (overlaps p q) → p ≡ q) → ImageSound act H i e
-sound_from i act H e sound nested =
+-- the versions have each source as records tell of it that count though a mark is there
+abbrev pub HasEased : Versions → Eased → Type 0
+HasEased H e = (p : Path) (r : Record) (q : Path) (s : Stamp) → e p r → IsIn (stamped r) (q, s) → HasVersion H q s
+
+pub has_none : (H : Versions) → HasEased H none_eased
+has_none H p r q s never i = absurd never
+
+-- where the versions have what is told of sources under marks that don't count, and no two records overlap
+pub sound_from : (i : Image) (act : Act) (H : Versions) (e : Eased) → Sound act H (view i) e → HasEased H e → ((p q : Path) → IsSome (core_at i p) → IsSome (core_at i q) → IsTrue (overlaps p q) → p ≡ q) → ImageSound act H i e
+sound_from i act H e sound told nested =
     record {
       has_sources = λ p f is. sound.has_sources p (flagless f) (sym (source_at_is i p) ∙ ap (option_map flagless) is);
-      has_recorded = sound.has_recorded;
+      has_recorded = λ p r q s clear i. recorded p r q s clear.0 i clear.1;
       holds = λ p r at unmarked chain whole.
           let h = sound.holds p r at unmarked (chain_to i e r chain) (whole_from i p (kind_in r p) whole) in
           (h.0, h.1, depth i act H p r at ∙ h.2);
       none_nested = nested;
     }
+  where
+    recorded : (p : Path) (r : Record) (q : Path) (s : Stamp) → core_at i p ≡ Some r → IsIn (stamped r) (q, s) → (i.marked p ≡ false) ⊎ e p r → HasVersion H q s
+    recorded p r q s at k (inl unmarked) = sound.has_recorded p r q s at unmarked k
+    recorded p r q s at k (inr eased) = told p r q s eased k

@@ -17,7 +17,7 @@ use Rattle.smk_laws_protocol.proofs.Basics.{clash, none_some, some_same}
 use Rattle.smk_laws_protocol.proofs.Bridge.{view_is}
 use Rattle.smk_laws_protocol.proofs.EveryImage.{to_lists, from_lists}
 use Rattle.smk_laws_protocol.proofs.Naming.{each_image, now_image}
-use Rattle.smk_laws_protocol.proofs.SoundViews.{sound_to, sound_from, source_at_is, flagless}
+use Rattle.smk_laws_protocol.proofs.SoundViews.{sound_to, sound_from, has_none, source_at_is, flagless}
 
 -- ---- the same sources
 
@@ -96,10 +96,10 @@ module _ (o : Outside) (w : World) (H : Versions) where
   world_from s =
       record {
         formed = s.formed;
-        now = sound_from (seen o.read w) o.act H none_eased (subst (λ v. Sound o.act H v none_eased) (sym now_is) s.now_sound)
+        now = sound_from (seen o.read w) o.act H none_eased (subst (λ v. Sound o.act H v none_eased) (sym now_is) s.now_sound) (has_none H)
             (subst (HasNoNested o) (sym now_is) (each_image o.read w (HasNoNested o) s.no_nested w.names (reads w) (now_image w s.formed)));
         after_crash = λ nodes leaves.
-            sound_from (image_of o.read nodes) o.act H none_eased (to_lists o.read w s.formed (λ v. Sound o.act H v none_eased) s.after_crash nodes leaves)
+            sound_from (image_of o.read nodes) o.act H none_eased (to_lists o.read w s.formed (λ v. Sound o.act H v none_eased) s.after_crash nodes leaves) (has_none H)
             (to_lists o.read w s.formed (HasNoNested o) s.no_nested nodes leaves);
         same_sources = λ nodes leaves.
             sources_from o (seen o.read w) (image_of o.read nodes)

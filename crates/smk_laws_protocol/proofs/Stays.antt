@@ -3,13 +3,13 @@ use Rattle.std.proofs.Common.{◌≡◌, ◌⊎◌, ℕ, true, false, List, [], 
 use Rattle.std.specs.Prelude.{bytes_eq, IsTrue, IsSome, is_some, if◌then◌else◌, find, reverse}
 use Rattle.std.specs.List.{list_any}
 use Rattle.smk_record.specs.declared.record.Stamp.{Stamp}
-use Rattle.smk_record.specs.declared.record.Stamp.TheVariants.{Time, Made}
+use Rattle.smk_record.specs.declared.record.Stamp.TheVariants.{Time, Sum, Made}
 use Rattle.smk_record.specs.declared.record.Record.{Record}
 use Rattle.smk_world.specs.Trees.{Path, among, IsIn}
 use Rattle.smk_base.specs.Path.{overlaps}
 use Rattle.smk_world.specs.World.{folders_above, in_paths, World, IsFormed}
 use Rattle.smk_store.specs.Trust.{Versions, is_folder_record, Eased}
-use Rattle.smk_laws_protocol.proofs.View.{kind_in, View, Clear, holder, is_source, source_at, is_whole}
+use Rattle.smk_laws_protocol.proofs.View.{kind_in, View, holder, is_source, source_at, is_whole}
 use Rattle.smk_record.specs.Records.{stamped}
 use Rattle.smk_laws_protocol.proofs.Views.{Nodes, EachImage, reads, view_of}
 use Rattle.smk_store.specs.Soundness.{Outside}
@@ -21,6 +21,8 @@ use Rattle.smk_laws_protocol.proofs.Holders.{holder_over, found_same, IsOver}
 use Rattle.smk_laws_protocol.proofs.Crux.{whole_on}
 use Rattle.smk_laws_protocol.proofs.Events.{same_source}
 use Rattle.smk_laws_protocol.proofs.Change.{Change, Differs, IsOwner}
+use Rattle.smk_laws_protocol.proofs.Like.{like_named}
+use Rattle.smk_laws_protocol.proofs.Moves.{Counted}
 use Rattle.smk_laws_protocol.proofs.Naming.{NamesLaws, IsWide, each_image, of_wide, now_image}
 use Rattle.smk_base.proofs.Places.{place_itself}
 use Rattle.smk_laws_protocol.proofs.Texts.{OverlapLaws}
@@ -118,6 +120,7 @@ module _
 
   hand : (x : Path × Stamp) → IsIn (begun_with k) x → IsAtHand o (now o w) x → IsAtHand o (now o w') x
   hand (q, Time t) i h = (h.0, sources_same q ∙ h.1, h.2)
+  hand (q, Sum t d) i h = (h.0, sources_same q ∙ h.1, h.2)
   hand (q, Made m) i h =
       hand_made laws j (now o w) (now o w') change.differs_now q (meets.inputs q (in_zip (in_paths k.recipe) k.stamps q (Made m) i)) o m
       (each_image o.read w (HasNoRecordClash o j) fits_own.no_record_clash w.names (reads w) (now_image w formed)) (same_source (now o w') (now o w) sources_same q) h
@@ -151,18 +154,19 @@ module _
 
       clashes :
           (names : List Path) (g : Nodes) (i : IsWide w w' names g) (q : Path) (r : Record) → list_any (overlaps q) (own k) ≡ true →
-          Clear (view_of o.read names (change.before g)) e q r ⊎ IsIn (outputs j) q × (r ≡ record_of j q) → IsIn (outputs k) q
-      clashes names g i q r over (inl c) = each_image o.read w (HasNoClash o e k) fits.no_clash names (change.before g) (change.image names g i) q r c over
+          Counted H (view_of o.read names (change.before g)) e q r ⊎ IsIn (outputs j) q × (r ≡ record_of j q) → IsIn (outputs k) q
+      clashes names g i q r over (inl c) = each_image o.read w (HasNoClash o e k) fits.no_clash names (change.before g) (change.image names g i) q c.0 c.1 over
       clashes names g i q r over (inr m) = meets.clash q m.0 over
 
       names_not :
           k.kept ≡ [] → (names : List Path) (g : Nodes) (i : IsWide w w' names g) (q x : Path) (r : Record) → IsIn (stamped r) (x, Made k.serial) →
-          Clear (view_of o.read names (change.before g)) e q r ⊎ IsIn (outputs j) q × (r ≡ record_of j q) → ⊥
-      names_not h names g i q x r named (inl c) = each_image o.read w (IsUnnamed o e k) (fits.unnamed h) names (change.before g) (change.image names g i) q x r c named
+          Counted H (view_of o.read names (change.before g)) e q r ⊎ IsIn (outputs j) q × (r ≡ record_of j q) → ⊥
+      names_not h names g i q x r named (inl c) =
+          each_image o.read w (IsUnnamed o e k) (fits.unnamed h) names (change.before g) (change.image names g i) q x c.0 c.1 (like_named H r c.0 c.2 x k.serial named)
       names_not h names g i q x r named (inr m) = meets.unnamed h x (subst (λ s. IsIn (stamped s) (x, Made k.serial)) m.1 named)
 
       uses_not :
           k.kept ≡ [] → (names : List Path) (g : Nodes) (i : IsWide w w' names g) (q : Path) (r : Record) → r.made ≡ k.serial →
-          Clear (view_of o.read names (change.before g)) e q r ⊎ IsIn (outputs j) q × (r ≡ record_of j q) → IsIn (outputs k) q
-      uses_not h names g i q r same (inl c) = each_image o.read w (IsUnused o e k) (fits.unused h) names (change.before g) (change.image names g i) q r c same
+          Counted H (view_of o.read names (change.before g)) e q r ⊎ IsIn (outputs j) q × (r ≡ record_of j q) → IsIn (outputs k) q
+      uses_not h names g i q r same (inl c) = each_image o.read w (IsUnused o e k) (fits.unused h) names (change.before g) (change.image names g i) q c.0 c.1 (sym c.2.made ∙ same)
       uses_not h names g i q r same (inr m) = meets.unused h (sym (ap (λ (s : Record). s.made) m.1) ∙ same) q m.0

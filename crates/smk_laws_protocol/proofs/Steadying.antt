@@ -86,6 +86,7 @@ module _ (o : Outside) (texts : Texts o.read) (entry : World) (H : Versions) (s 
         };
         fits = settled.fits;
         phases = settled.phases;
+        like = settled.like;
         apart = settled.apart;
         children = settled.children;
         owned = settled.owned;

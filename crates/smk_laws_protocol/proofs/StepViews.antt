@@ -11,10 +11,12 @@ use Rattle.smk_world.specs.World.{World}
 use Rattle.smk_world.specs.Trees.{Path, IsIn, is_path_text, is_text, is_good, outs_of, kind_in}
 use Rattle.smk_record.specs.declared.record.Member.{Member}
 use Rattle.smk_record.specs.declared.record.Stamp.{Stamp}
-use Rattle.smk_record.specs.declared.record.Stamp.TheVariants.{Time, Made}
+use Rattle.smk_record.specs.declared.record.Stamp.TheVariants.{Time, Sum, Made}
 use Rattle.smk_record.specs.declared.record.Record.{Record}
+use Rattle.smk_record.specs.Records.{is_of_source}
 use Rattle.smk_store.specs.Images.{Image, is_outside, is_file, seen}
 use Rattle.smk_store.specs.Soundness.{Outside}
+use Rattle.smk_store.specs.Trust.{content_stamp}
 use Rattle.smk_laws_protocol.specs.Protocol.{OpenJob, Phase, RunState, outputs, own, record_of, listed_of, as_ok, begun_with, IsApart as ImageApart, IsAtHand as ImageAtHand, MayBegin as ImageMayBegin, IsKept as ImageKept, HasSerial as ImageSerial, IsGood as ImageGood, IsWritten as ImageWritten, IsRecordOf, Moves as ImageMoves, MakeFolders, Mark, AllMarked, MakeRoom, Start, Wait, AllMade, Write, AllWritten, Drop, AllDropped, Unmark, Closes as ImageCloses, AllUnmarked, IsFree as ImageFree, HasAllMarks as ImageAllMarks, Besides as ImageBesides, Look, Lock, Settle, Spend, Protect, Step as ImageStep, Aside, Steady, Begin, Go, Close, Fail, FailWait}
 use Rattle.smk_laws_protocol.proofs.View.{View, view, is_source}
 use Rattle.smk_laws_protocol.proofs.Rows as rows
@@ -22,6 +24,7 @@ use Rattle.smk_laws_protocol.proofs.Rows.{now, IsApart, IsAtHand, MayBegin, HasS
 use Rattle.smk_laws_protocol.proofs.Basics.{each_on, clash}
 use Rattle.smk_laws_protocol.proofs.Bridge.{view_is}
 use Rattle.smk_laws_protocol.proofs.SoundViews.{source_is, source_at_is, flagless, some_file, whole_from, equal}
+use Rattle.smk_store.proofs.Versions.{content_of_source}
 use Rattle.smk_laws_protocol.proofs.Views.{reads}
 
 outside_path : (p : Path) → IsTrue (is_path_text p) → IsTrue (is_outside p)
@@ -30,9 +33,11 @@ outside_path p h = ap not (path_outside p (and_first (is_path p) (is_text p) h))
 -- ---- inputs that are at hand
 
 at_hand : (o : Outside) (i : Image) (x : Path × Stamp) → ImageAtHand o i x → IsAtHand o (view i) x
-at_hand o i (q, Time t) (inl h) = (flagless h.source, sym (source_at_is i q) ∙ ap (option_map flagless) h.stands, equal h.source.time t h.same)
+at_hand o i (q, Time t) (inl h) = (flagless h.source, sym (source_at_is i q) ∙ ap (option_map flagless) h.stands, sym h.same)
 at_hand o i (q, Time t) (inr h) = clash false h.same refl
-at_hand o i (q, Made m) (inl h) = clash false h.same refl
+at_hand o i (q, Sum t d) (inl h) = (flagless h.source, sym (source_at_is i q) ∙ ap (option_map flagless) h.stands, sym h.same)
+at_hand o i (q, Sum t d) (inr h) = clash false h.same refl
+at_hand o i (q, Made m) (inl h) = clash (is_of_source (content_stamp h.source)) (content_of_source h.source) (sym (ap is_of_source h.same))
 at_hand o i (q, Made m) (inr h) = (
   h.speaker,
   h.by,
@@ -58,7 +63,13 @@ module _ (o : Outside) (w : World) where
 
   kept_to : (j : OpenJob) (p : Path) → ImageKept o w j p → IsKept o w j p
   kept_to j p h =
-      (subst (λ (v : View). v.record_at p ≡ Some (record_of j p)) now_is h.stands, subst (λ (v : View). v.marked p ≡ false) now_is h.unmarked, h.found)
+      record {
+        found = h.found;
+        stands = subst (λ (v : View). v.record_at p ≡ Some h.found) now_is h.stands;
+        unmarked = subst (λ (v : View). v.marked p ≡ false) now_is h.unmarked;
+        kept = h.kept;
+        again = h.again;
+      }
 
   begin_to : (s : RunState) (j : OpenJob) → ImageMayBegin o s w j → MayBegin o s w j
   begin_to s j h =

@@ -17,6 +17,7 @@ use Rattle.smk_laws_protocol.proofs.Between.{Images, HasNoNew, HasKnown, HasSour
 use Rattle.smk_laws_protocol.proofs.Change.{Change, Counts, Differs}
 use Rattle.smk_laws_protocol.proofs.Moves.{SameAt}
 use Rattle.smk_laws_protocol.proofs.Law.{sound_less}
+use Rattle.smk_laws_protocol.proofs.Like.{like_self}
 use Rattle.smk_laws_protocol.proofs.Marking.{reads_stay}
 use Rattle.smk_laws_protocol.proofs.Naming.{NamesLaws, IsImage, IsWide, each_image, of_wide, now_image}
 
@@ -70,14 +71,14 @@ module _ (o : Outside) (naming : NamesLaws o.read) (w w' : World) (formed : IsFo
   of_pair P each = subst (λ v. P v (now o w')) now_before (each w'.names (reads w') wide_now)
 
 -- what is asked of a pair of images
-pub record Pair (j : OpenJob) (e e' : Eased) (v v' : View) : Type 0 where
+pub record Pair (H : Versions) (j : OpenJob) (e e' : Eased) (v v' : View) : Type 0 where
   pub differs : Differs j v v'
-  pub counts : Counts j v e v' e'
-  pub none_counts : Counts j v none_eased v' none_eased
+  pub counts : Counts H j v e v' e'
+  pub none_counts : Counts H j v none_eased v' none_eased
 
 pub pair_change :
     (o : Outside) (naming : NamesLaws o.read) (entry : World) (H : Versions) (j : OpenJob) (e e' : Eased) (w w' : World) (formed : IsFormed w) (turn : Turn w w') →
-    ((names : List Path) (g : Nodes) → IsWide w w' names g → Pair j e e' (view_of o.read names (turn.before g)) (view_of o.read names g)) →
+    ((names : List Path) (g : Nodes) → IsWide w w' names g → Pair H j e e' (view_of o.read names (turn.before g)) (view_of o.read names g)) →
     ((names : List Path) (g : Nodes) → IsWide w w' names g → (q : Path) → IsIn (outputs j) q → (view_of o.read names g).has_record q ≡ true → ((now o w').has_record q || (now o w').marked q) ≡ true) →
     EachImage o.read w' (HasNoNew o (now o w')) → EachImage o.read w' (λ v. Sound o.act H v e') → EachImage o.read w' (HasSources o (now o entry)) →
     ((x : Path) → (IsIn (outputs j) x → ⊥) → (n : Option Node) → w.nodes (mark_place x) ≡ firmly n → w'.nodes (mark_place x) ≡ firmly n) →
@@ -90,7 +91,7 @@ pair_change o naming entry H j e e' w w' formed turn pairs known_own no_new soun
       differs = λ names g i. (pairs names g i).differs;
       counts = λ names g i. (pairs names g i).counts;
       differs_now = of_pair o naming w w' formed turn (Differs j) (λ names g i. (pairs names g i).differs);
-      counts_now = of_pair o naming w w' formed turn (λ v v'. Counts j v none_eased v' none_eased) (λ names g i. (pairs names g i).none_counts);
+      counts_now = of_pair o naming w w' formed turn (λ v v'. Counts H j v none_eased v' none_eased) (λ names g i. (pairs names g i).none_counts);
       known_own = known_own;
       no_new = no_new;
       sound = sound;
@@ -101,7 +102,7 @@ pair_change o naming entry H j e e' w w' formed turn pairs known_own no_new soun
 
 pub each_pair_change :
     (o : Outside) (naming : NamesLaws o.read) (entry : World) (H : Versions) (j : OpenJob) (e e' : Eased) (w w' : World) (formed : IsFormed w) (turn : Turn w w') →
-    ((names : List Path) (g : Nodes) → IsWide w w' names g → Pair j e e' (view_of o.read names (turn.before g)) (view_of o.read names g)) →
+    ((names : List Path) (g : Nodes) → IsWide w w' names g → Pair H j e e' (view_of o.read names (turn.before g)) (view_of o.read names g)) →
     ((names : List Path) (g : Nodes) → IsWide w w' names g → (q : Path) → IsIn (outputs j) q → (view_of o.read names g).has_record q ≡ true → ((now o w').has_record q || (now o w').marked q) ≡ true) →
     EachImage o.read w' (HasNoNew o (now o w')) → EachImage o.read w' (λ v. Sound o.act H v e') → EachImage o.read w' (HasSources o (now o entry)) →
     ((x : Path) → (IsIn (outputs j) x → ⊥) → w'.nodes (mark_place x) ≡ w.nodes (mark_place x)) →
@@ -133,16 +134,16 @@ same_at v x = record { file = refl; folder = refl; members = refl; tree = refl }
 pub same_differs : (j : OpenJob) (v : View) → Differs j v v
 same_differs j v = record { nodes = λ x f. same_at v x; records = λ x f. record { has = refl; at = refl; listed = refl }; marks = λ x f. refl }
 
-pub fewer_counts : (j : OpenJob) (v : View) (e e' : Eased) → ((p : Path) (r : Record) → e' p r → e p r) → Counts j v e v e'
-fewer_counts j v e e' fewer q r c = inl (c.0, go c.1)
+pub fewer_counts : (H : Versions) (j : OpenJob) (v : View) (e e' : Eased) → ((p : Path) (r : Record) → e' p r → e p r) → Counts H j v e v e'
+fewer_counts H j v e e' fewer q r c = inl (r, (c.0, go c.1), like_self H r)
   where
     go : (v.marked q ≡ false) ⊎ e' q r → (v.marked q ≡ false) ⊎ e q r
     go (inl m) = inl m
     go (inr m) = inr (fewer q r m)
 
-pub same_pair : (j : OpenJob) (e e' : Eased) (v v' : View) → ((p : Path) (r : Record) → e' p r → e p r) → v ≡ v' → Pair j e e' v v'
-same_pair j e e' v v' fewer is =
-    subst (Pair j e e' v) is (record { differs = same_differs j v; counts = fewer_counts j v e e' fewer; none_counts = fewer_counts j v none_eased none_eased (λ p r h. h) })
+pub same_pair : (H : Versions) (j : OpenJob) (e e' : Eased) (v v' : View) → ((p : Path) (r : Record) → e' p r → e p r) → v ≡ v' → Pair H j e e' v v'
+same_pair H j e e' v v' fewer is =
+    subst (Pair H j e e' v) is (record { differs = same_differs j v; counts = fewer_counts H j v e e' fewer; none_counts = fewer_counts H j v none_eased none_eased (λ p r h. h) })
 
 -- an event that leaves all views as they were
 pub same_change :
@@ -152,7 +153,7 @@ pub same_change :
     ((x : Path) (n : Option Node) → w.nodes (mark_place x) ≡ firmly n → w'.nodes (mark_place x) ≡ firmly n) → ((x : Path) (n : Option Node) → w.nodes (note_place x) ≡ firmly n → w'.nodes (note_place x) ≡ firmly n) → Change o entry H j e e' w w'
 same_change o naming entry H j e e' top steady w w' turn m fewer same marks notes =
     pair_change o naming entry H j e e' w w' m.formed turn
-    (λ names g i. same_pair j e e' (view_of o.read names (turn.before g)) (view_of o.read names g) fewer (same names g i))
+    (λ names g i. same_pair H j e e' (view_of o.read names (turn.before g)) (view_of o.read names g) fewer (same names g i))
     (λ names g i q k is. subst (λ n. (n.has_record q || n.marked q) ≡ true) same_now (each_image o.read w (HasKnown o (now o w)) m.known names (turn.before g) (turn.image names g i) q (ap (λ (v : View). v.has_record q) (same names g i) ∙ is)))
     (subst (λ n. EachImage o.read w' (HasNoNew o n)) same_now (on (HasNoNew o (now o w)) m.no_new))
     (on (λ v. Sound o.act H v e') (λ names f rising complete covered leaves. sound_less o.act H (view_of o.read names f) e e' fewer (m.sound names f rising complete covered leaves)))

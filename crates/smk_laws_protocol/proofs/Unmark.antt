@@ -3,9 +3,10 @@ use Rattle.std.proofs.Common.{◌≡◌, ◌⊎◌, ◌<◌, ℕ, Bool, true, fa
 use Rattle.std.specs.Prelude.{bytes_eq, IsSome, if◌then◌else◌, ◌&&◌, not}
 use Rattle.smk_world.specs.declared.event.Node.{Node}
 use Rattle.smk_record.specs.declared.record.Record.{Record}
-use Rattle.smk_record.specs.declared.record.Stamp.TheVariants.{Time, Made}
+use Rattle.smk_record.specs.declared.record.Stamp.{Stamp}
+use Rattle.smk_record.specs.declared.record.Stamp.TheVariants.{Made}
 use Rattle.smk_world.specs.Trees.{is_path_text, Path, IsIn}
-use Rattle.smk_store.specs.Trust.{Versions, Eased}
+use Rattle.smk_store.specs.Trust.{Versions, HasVersion, Eased}
 use Rattle.smk_record.specs.Records.{stamped}
 use Rattle.smk_laws_protocol.proofs.View.{View, Clear, Sound, Chain, Holds}
 use Rattle.smk_laws_protocol.proofs.Views.{EachImage, HasNames, reads, Leaves, view_of}
@@ -33,7 +34,7 @@ module _
     (o : Outside) (laws : PlaceLaws) (entry : World) (H : Versions) (e : Eased) (w w' : World) (j : OpenJob) (p : Path)
     (falls : Falls (record_of j p))
     -- the sources that it was made of are in H
-    (recorded : (x : Path) (t : ℕ) → IsIn (stamped (record_of j p)) (x, Time t) → IsSome (H x t)) where
+    (recorded : (x : Path) (s : Stamp) → IsIn (stamped (record_of j p)) (x, s) → HasVersion H x s) where
   abbrev SoundBy : View → Type 0
   SoundBy v = Sound o.act H v e × HasSources o (now o entry) v
 

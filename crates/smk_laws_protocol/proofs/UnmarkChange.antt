@@ -4,7 +4,7 @@ use Rattle.std.specs.Prelude.{bytes_eq, is_some, if◌then◌else◌, ◌||◌}
 use Rattle.smk_record.specs.declared.record.Record.{Record}
 use Rattle.smk_world.specs.Trees.{Path, IsIn}
 use Rattle.smk_store.specs.Trust.{Versions, Eased, none_eased}
-use Rattle.smk_laws_protocol.proofs.View.{View, Clear, Sound}
+use Rattle.smk_laws_protocol.proofs.View.{View, Sound}
 use Rattle.smk_laws_protocol.proofs.Views.{Nodes, EachImage, HasNames, reads, view_of, place_node}
 use Rattle.smk_world.specs.World.{World, IsFormed}
 use Rattle.smk_base.specs.Path.{is_at_or_under}
@@ -16,6 +16,8 @@ use Rattle.smk_laws_protocol.proofs.Between.{Images, HasNoNew, HasKnown, HasSour
 use Rattle.smk_laws_protocol.proofs.Basics.{by_test}
 use Rattle.smk_laws_protocol.proofs.Change.{Change, Counts}
 use Rattle.smk_laws_protocol.proofs.Law.{sound_less}
+use Rattle.smk_laws_protocol.proofs.Like.{like_self}
+use Rattle.smk_laws_protocol.proofs.Moves.{Counted}
 use Rattle.smk_laws_protocol.proofs.MarkChange.{marked_differs}
 use Rattle.smk_laws_protocol.proofs.Naming.{IsWide, each_image, of_wide}
 use Rattle.smk_laws_protocol.proofs.Places.{with_marked, back_view}
@@ -25,15 +27,15 @@ use Rattle.smk_laws_protocol.proofs.Turns.{Turn, turn_within, Pair, each_pair_ch
 
 -- what counts with a mark less, or with it, counted before, or is the job's own record
 unmarked_counts :
-    (j : OpenJob) (e e' : Eased) → ((p : Path) (r : Record) → e' p r → e p r) → (v : View) (p : Path) (b : Bool) → IsIn (outputs j) p →
-    ((r : Record) → v.record_at p ≡ Some r → r ≡ record_of j p) → Counts j v e (with_marked v p b) e'
-unmarked_counts j e e' fewer v p b i own_record q r c = go (bytes_eq q p) refl c.1
+    (H : Versions) (j : OpenJob) (e e' : Eased) → ((p : Path) (r : Record) → e' p r → e p r) → (v : View) (p : Path) (b : Bool) → IsIn (outputs j) p →
+    ((r : Record) → v.record_at p ≡ Some r → r ≡ record_of j p) → Counts H j v e (with_marked v p b) e'
+unmarked_counts H j e e' fewer v p b i own_record q r c = go (bytes_eq q p) refl c.1
   where
-    go : (x : Bool) → bytes_eq q p ≡ x → ((if x then b else v.marked q) ≡ false) ⊎ e' q r → Clear v e q r ⊎ IsIn (outputs j) q × (r ≡ record_of j q)
+    go : (x : Bool) → bytes_eq q p ≡ x → ((if x then b else v.marked q) ≡ false) ⊎ e' q r → Counted H v e q r ⊎ IsIn (outputs j) q × (r ≡ record_of j q)
     go true h k =
         inr (subst (λ y. IsIn (outputs j) y × (r ≡ record_of j y)) (sym (same_place q p h)) (i, own_record r (subst (λ y. v.record_at y ≡ Some r) (same_place q p h) c.0)))
-    go false h (inl k) = inl (c.0, inl k)
-    go false h (inr k) = inl (c.0, inr (fewer q r k))
+    go false h (inl k) = inl (r, (c.0, inl k), like_self H r)
+    go false h (inr k) = inl (r, (c.0, inr (fewer q r k)), like_self H r)
 
 module _
     (o : Outside) (texts : Texts o.read) (entry : World) (H : Versions) (j : OpenJob) (e e' : Eased) (top : ℕ) (steady : Bool) (w w' : World)
@@ -55,14 +57,14 @@ module _
   own_before names g k =
       each_image o.read w (λ v. (r : Record) → v.record_at p ≡ Some r → (r ≡ record_of j p) × ((now o w).record_at p ≡ Some r) × ((now o w).listed p ≡ v.listed p)) own_record names (turn.before g) (turn.image names g k)
 
-  pair : (names : List Path) (g : Nodes) → IsWide w w' names g → Pair j e e' (view_of o.read names (turn.before g)) (view_of o.read names g)
+  pair : (names : List Path) (g : Nodes) → IsWide w w' names g → Pair H j e e' (view_of o.read names (turn.before g)) (view_of o.read names g)
   pair names g k =
       let v = view_of o.read names (turn.before g) in
-      subst (Pair j e e' v) (view_is names g)
+      subst (Pair H j e e' v) (view_is names g)
       (record {
         differs = marked_differs j v p (is_some (place_node g mark_place p)) i;
-        counts = unmarked_counts j e e' fewer v p (is_some (place_node g mark_place p)) i (λ r at. (own_before names g k r at).0);
-        none_counts = unmarked_counts j none_eased none_eased (λ p r h. h) v p (is_some (place_node g mark_place p)) i (λ r at. (own_before names g k r at).0);
+        counts = unmarked_counts H j e e' fewer v p (is_some (place_node g mark_place p)) i (λ r at. (own_before names g k r at).0);
+        none_counts = unmarked_counts H j none_eased none_eased (λ p r h. h) v p (is_some (place_node g mark_place p)) i (λ r at. (own_before names g k r at).0);
       })
 
   abbrev SameNew : View → View → Type 0

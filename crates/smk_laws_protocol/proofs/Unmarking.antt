@@ -1,7 +1,7 @@
 -- The mark of an output is removed, by a job whose records are firm or one of which nothing is left: the change.
 use Rattle.smk_laws_protocol.proofs.Stays.{in_left}
-use Rattle.std.proofs.Common.{◌≡◌, Bool, true, false, List, [], ◌∷◌, ◌++◌, refl, sym, ap, subst, arith, ◌∙◌, Some, None}
-use Rattle.std.specs.Prelude.{bytes_eq, ◌||◌, if◌then◌else◌, IsTrue}
+use Rattle.std.proofs.Common.{◌≡◌, Bool, true, false, List, [], ◌∷◌, ◌++◌, refl, sym, ap, subst, inr, arith, ◌∙◌, Option, Some, None}
+use Rattle.std.specs.Prelude.{bytes_eq, ◌||◌, if◌then◌else◌, IsTrue, IsSome}
 use Rattle.smk_record.specs.declared.record.Record.{Record}
 use Rattle.smk_world.specs.declared.event.Node.{Node}
 use Rattle.smk_world.specs.Trees.{Path, IsIn, Each, is_path_text}
@@ -13,7 +13,7 @@ use Rattle.smk_laws_protocol.proofs.Views.{Nodes, EachImage, HasNames, reads, vi
 use Rattle.smk_world.specs.World.{World, IsFormed, reading}
 use Rattle.smk_base.specs.Place.{mark_place, record_place, note_place}
 use Rattle.smk_store.specs.Soundness.{Outside}
-use Rattle.smk_laws_protocol.specs.Protocol.{OpenJob, Recorded, Dropped, RunState, outputs, record_of, keeps, eased_by, own}
+use Rattle.smk_laws_protocol.specs.Protocol.{kept_at, OpenJob, Recorded, Dropped, RunState, outputs, record_of, keeps, eased_by, own}
 use Rattle.smk_laws_protocol.proofs.Rows.{now}
 use Rattle.smk_laws_protocol.proofs.Between.{Midway, Fits, InPhase, IsKnown, IsGone, is_made, HasSources, HoldsGiven}
 use Rattle.smk_laws_protocol.proofs.Basics.{each_in, in_here, by_test, clash, none_some, some_same}
@@ -34,6 +34,10 @@ no_under a b h = grind arith
 
 not_under : (a b : Bool) → a ≡ false → b ≡ false → (a || b) ≡ false
 not_under a b h k = grind arith
+
+the_value : {A : Type 0} (x : Option A) → IsSome x → (a : A) × (x ≡ Some a)
+the_value None h = clash false h refl
+the_value (Some a) h = (a, refl)
 
 no_cons : {A : Type 0} {x : A} {xs : List A} → x ∷ xs ≡ [] → ⊥
 no_cons h = grind arith
@@ -135,7 +139,7 @@ module _
         un = record { stands = stands; others = others }
 
         restored : (j.kept ≡ [] → ⊥) → e p (record_of j p)
-        restored kept = (j, in_here js ks j, ap keeps recorded_now, fits.kept_all kept p i)
+        restored kept = let r = the_value (kept_at j.kept p) (fits.kept_all kept p i) in (j, in_here js ks j, ap keeps recorded_now, record { found = r.0; kept = r.1; is = inr refl })
 
         by_kept : (kept : List (Path × Record)) → j.kept ≡ kept → Change o entry H j e e' w w'
         by_kept [] h =

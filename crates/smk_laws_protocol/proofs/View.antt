@@ -1,6 +1,6 @@
 -- An image as functions of a path, and trust over it: which record speaks for a path, chains of records, what a record vouches for.
 -- The marks that count are a parameter: while a Restore is open, the marks of its outputs don't, as long as its record stands.
-use Rattle.std.specs.Prelude.{◌≡◌, ◌⊎◌, ℕ, zero, suc, Bool, false, ◌&&◌, ◌||◌, not, List, find, reverse, ◌==◌, if◌then◌else◌, Option, Some, None, option_map, is_some, IsTrue, IsSome}
+use Rattle.std.specs.Prelude.{◌≡◌, ◌⊎◌, ℕ, zero, suc, Bool, false, ◌&&◌, ◌||◌, not, List, find, reverse, ◌==◌, if◌then◌else◌, Option, Some, None, option_map, is_some, IsTrue}
 use Rattle.std.specs.List.{list_any}
 use Rattle.std.specs.Option.{option_and_then}
 use lib.Pointwise.{pointwise}
@@ -12,12 +12,12 @@ use Rattle.smk_world.specs.declared.recipe.Kind.{Kind}
 use Rattle.smk_world.specs.declared.recipe.Kind.TheVariants.{Plain, Folder as Directory}
 use Rattle.smk_record.specs.declared.record.Member.{Member}
 use Rattle.smk_record.specs.declared.record.Stamp.{Stamp}
-use Rattle.smk_record.specs.declared.record.Stamp.TheVariants.{Time, Made}
+use Rattle.smk_record.specs.declared.record.Stamp.TheVariants.{Time, Sum, Made}
 use Rattle.smk_record.specs.declared.record.Record.{Record}
 use Rattle.smk_world.specs.Trees.{Path, IsIn, is_path_text, kind_in as kind_by, Act, part_at}
 use Rattle.smk_store.specs.Images.{Image, Content, is_folder, members_under, tree_now, stands, core_at, record_at}
 use Rattle.smk_world.specs.World.{folders_above}
-use Rattle.smk_store.specs.Trust.{is_folder_record, Versions, Eased, vouched}
+use Rattle.smk_store.specs.Trust.{is_folder_record, Versions, HasVersion, Eased, vouched}
 use Rattle.smk_record.specs.Records.{stamped, same_member, members_of}
 
 -- the file as far as it counts: its bytes and its time, with the flag off
@@ -101,6 +101,7 @@ has_made m (Some r) = r.made == m
 -- the content that an input had by its recorded stamp, by V of the record that speaks for it
 abbrev pub input_value : View → Versions → (Path → Option Tree) → Path × Stamp → Option Tree
 input_value v H V (q, Time t) = option_map File (H q t)
+input_value v H V (q, Sum t d) = option_map File (H q t)
 input_value v H V (q, Made m) =
     option_and_then (λ h. if has_made m (v.record_at h) then option_and_then (part_at h q) (V h) else None) (holder v q)
 
@@ -118,8 +119,8 @@ Holds v act H p r = (tree : Tree) × (v.tree p ≡ Some tree) × (vir v act H (s
 pub record Sound (act : Act) (H : Versions) (v : View) (eased : Eased) : Type 0 where
   pub has_sources : (p : Path) (f : Content) → source_at v p ≡ Some f → H p f.time ≡ Some f.bytes
   pub has_recorded :
-      (p : Path) (r : Record) (q : Path) (t : ℕ) →
-      v.record_at p ≡ Some r → v.marked p ≡ false → IsIn (stamped r) (q, Time t) → IsSome (H q t)
+      (p : Path) (r : Record) (q : Path) (s : Stamp) →
+      v.record_at p ≡ Some r → v.marked p ≡ false → IsIn (stamped r) (q, s) → HasVersion H q s
   pub holds :
       (p : Path) (r : Record) →
       v.record_at p ≡ Some r → v.marked p ≡ false → Chain v eased r → IsTrue (is_whole v p (kind_in r p)) → Holds v act H p r

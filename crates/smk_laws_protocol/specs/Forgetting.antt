@@ -11,9 +11,9 @@ use Rattle.smk_world.specs.World.{World, after, firmly}
 use Rattle.smk_world.specs.Calls.{failed}
 use Rattle.smk_world.specs.Runs.{Follows}
 use Rattle.smk_world.specs.Trees.{Path, IsIn, among, is_path_text}
-use Rattle.smk_record.specs.declared.record.Stamp.TheVariants.{Time}
+use Rattle.smk_record.specs.declared.record.Stamp.{Stamp}
 use Rattle.smk_record.specs.declared.record.Record.{Record}
-use Rattle.smk_record.specs.Records.{stamped}
+use Rattle.smk_record.specs.Records.{stamped, source_time}
 use Rattle.smk_store.specs.Images.{Image, Content, file_at, core_at}
 use Rattle.smk_store.specs.Safety.{KeepsSound}
 use Rattle.smk_store.specs.Soundness.{Outside}
@@ -34,7 +34,8 @@ is_resting stage = false
 abbrev pub IsUnseen : Image → Path → Type 0
 IsUnseen image p =
     (q x : Path) (r : Record) (f : Content) →
-    core_at image q ≡ Some r → is_at_or_under x p ≡ true → file_at image x ≡ Some f → IsIn (stamped r) (x, Time f.time) → ⊥
+    core_at image q ≡ Some r →
+    is_at_or_under x p ≡ true → file_at image x ≡ Some f → (s : Stamp) → IsIn (stamped r) (x, s) → source_time s ≡ Some f.time → ⊥
 
 -- a crash leaves there just what reads
 abbrev pub IsFirm : World → Path → Type 0

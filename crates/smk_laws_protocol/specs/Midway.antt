@@ -1,5 +1,5 @@
 -- What holds between the events of a run, and the law: after every prefix each crash image is sound.
-use Rattle.std.specs.Prelude.{◌≡◌, ◌≤◌, ℕ, Bool, true, false, List, [], ◌∷◌, map, length, Option, Some, None, IsTrue, IsSome, Contains}
+use Rattle.std.specs.Prelude.{◌≡◌, ◌⊎◌, ◌≤◌, ℕ, Bool, true, false, List, [], ◌∷◌, map, length, Option, Some, None, IsTrue, IsSome, Contains}
 use Rattle.std.specs.List.{list_any}
 use Rattle.smk_base.specs.Path.{is_at_or_under, overlaps}
 use Rattle.smk_base.specs.Place.{mark_place, note_place}
@@ -16,10 +16,10 @@ use Rattle.smk_record.specs.declared.record.Stamp.TheVariants.{Made}
 use Rattle.smk_record.specs.declared.record.Record.{Record}
 use Rattle.smk_record.specs.Records.{stamped, serials, members_of}
 use Rattle.smk_store.specs.Images.{Image, stands, is_source, file_at, core_at, record_at, members_under, tree_now}
-use Rattle.smk_store.specs.Trust.{Eased, none_eased, Clear, Versions}
+use Rattle.smk_store.specs.Trust.{Eased, none_eased, Clear, Versions, SumsDiffer}
 use Rattle.smk_store.specs.Safety.{KeepsSound}
 use Rattle.smk_store.specs.Soundness.{Outside, Sound, SoundWorld, EachImage, SameSources, NoNewRecord, HasKnown}
-use Rattle.smk_laws_protocol.specs.Protocol.{Phase, Marking, Running, Ended, Firm, Recorded, Dropped, OpenJob, RunState, outputs, own, eased, begun_with, record_of, listed_of, kept_at, keeps, is_running, IsApart, IsAtHand, now, Runs}
+use Rattle.smk_laws_protocol.specs.Protocol.{Phase, Marking, Running, Ended, Firm, Recorded, Dropped, OpenJob, RunState, outputs, own, eased, begun_with, record_of, listed_of, kept_at, keeps, is_running, IsAgain, IsApart, IsAtHand, now, Runs}
 
 -- ## Words on phases
 
@@ -95,9 +95,10 @@ abbrev pub AllStrangers : List OpenJob → Type 0
 AllStrangers [] = Unit {0}
 AllStrangers (j ∷ js) = Each (AreStrangers j) js × AllStrangers js
 
--- the records that a Restore found stand as they were
+-- where a Restore found a record it stands, or the one that is written in its place
 abbrev pub IsKeptIn : Image → OpenJob → Type 0
-IsKeptIn here j = (p : Path) (r : Record) → kept_at j.kept p ≡ Some r → core_at here p ≡ Some r
+IsKeptIn here j =
+    (p : Path) (r : Record) → kept_at j.kept p ≡ Some r → (core_at here p ≡ Some r) ⊎ (core_at here p ≡ Some (record_of j p))
 
 abbrev pub IsBounded : Eased → ℕ → Image → Type 0
 IsBounded e top image = (p : Path) (r : Record) (n : ℕ) → Clear image e p r → IsIn (serials r) n → n ≤ top
@@ -153,9 +154,9 @@ module _ (o : Outside) where
     pub from_inputs : any_overlap (own j) (in_paths j.recipe) ≡ false
     pub no_source : (q : Path) → is_source (now o entry) q ≡ true → list_any (overlaps q) (own j) ≡ false
     pub each_stamped : length j.stamps ≡ length (in_paths j.recipe)
-    -- a Restore has found the record of each of its outputs, and no other
-    pub kept_own : (p : Path) (r : Record) → kept_at j.kept p ≡ Some r → IsIn (outputs j) p × (r ≡ record_of j p)
-    pub kept_all : (j.kept ≡ [] → ⊥) → (p : Path) → IsIn (outputs j) p → kept_at j.kept p ≡ Some (record_of j p)
+    -- a Restore has found a record of each of its outputs, and no other
+    pub kept_own : (p : Path) (r : Record) → kept_at j.kept p ≡ Some r → IsIn (outputs j) p × IsAgain r (record_of j p)
+    pub kept_all : (j.kept ≡ [] → ⊥) → (p : Path) → IsIn (outputs j) p → IsSome (kept_at j.kept p)
     pub no_record_clash : EachImage o.read w (HasNoRecordClash j)
     pub no_clash : EachImage o.read w (HasNoClash e j)
     pub unnamed : j.kept ≡ [] → EachImage o.read w (IsUnnamed e j)
@@ -206,15 +207,15 @@ module _ (o : Outside) where
         IsTop entry top →
         Follows o.act entry es → Runs o (at_entry top) entry es s → (run entry es).children ≡ [] → SoundWorld o (run entry es) H
 
--- The protocol keeps every crash image sound.
+-- The protocol keeps every crash image sound, where no two different contents of sources have the same SHA-256.
 abbrev pub ProtocolLaw : Type 0
-ProtocolLaw = (o : Outside) (entry : World) (H : Versions) → SoundWorld o entry H → IsSafe o entry H
+ProtocolLaw = (o : Outside) (entry : World) (H : Versions) → SumsDiffer H → SoundWorld o entry H → IsSafe o entry H
 
 -- What holds between two events holds after every prefix of a run.
 abbrev pub HoldsMidway : Type 0
 HoldsMidway =
     (o : Outside) (entry : World) (H : Versions) (top : ℕ) (es : List Event) (s : RunState) →
-    SoundWorld o entry H → IsTop o entry top → Follows o.act entry es → Runs o (at_entry o top) entry es s → Midway o entry H s (run entry es)
+    SumsDiffer H → SoundWorld o entry H → IsTop o entry top → Follows o.act entry es → Runs o (at_entry o top) entry es s → Midway o entry H s (run entry es)
 
 -- So a log that follows the protocol keeps what a call has to keep, to its end, and forgets no path.
 abbrev pub ProtocolKeepsSound : Type 0

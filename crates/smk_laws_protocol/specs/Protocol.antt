@@ -1,6 +1,6 @@
 -- The protocol of a run: which events may come, by the phases of the jobs that are open. It keeps every crash image sound.
 use Rattle.std.specs.Prelude.{◌≡◌, ◌⊎◌, ℕ, suc, Bool, true, false, ◌||◌, List, [], ◌∷◌, ◌++◌, map, filter, zip, length, bytes_eq, if◌then◌else◌, Option, Some, None, Ok, Err, IsTrue, IsSome}
-use Rattle.std.specs.List.{list_any}
+use Rattle.std.specs.List.{list_any, AllZip}
 use Rattle.smk_base.specs.Path.{is_at_or_under, overlaps}
 use Rattle.smk_base.specs.Place.{record_place, mark_place, note_place, lock_place}
 use Rattle.smk_world.specs.declared.recipe.Recipe.{Recipe}
@@ -16,10 +16,10 @@ use Rattle.smk_world.specs.Trees.{Path, IsIn, Each, is_path_text, among, outs_of
 use Rattle.smk_record.specs.declared.record.Stamp.{Stamp}
 use Rattle.smk_record.specs.declared.record.Member.{Member}
 use Rattle.smk_record.specs.declared.record.Record.{Record}
-use Rattle.smk_record.specs.Records.{members_of, agrees}
+use Rattle.smk_record.specs.Records.{members_of, agree, agrees}
 use Rattle.smk_store.specs.declared.store.Kept.TheVariants.{Held}
 use Rattle.smk_store.specs.Images.{Image, Content, seen, stands, is_file, is_source, source_at, core_at, record_at, members_under, tree_now, is_whole, kept_by}
-use Rattle.smk_store.specs.Trust.{Eased, none_eased, Speaks, time_stamp, made_stamp}
+use Rattle.smk_store.specs.Trust.{Eased, none_eased, Speaks, content_stamp, made_stamp}
 use Rattle.smk_store.specs.Soundness.{Outside}
 
 -- ## Open jobs
@@ -75,7 +75,7 @@ begun_with j = zip (in_paths j.recipe) j.stamps
 
 -- the record of an output, but for its members
 abbrev pub record_of : OpenJob → Path → Record
-record_of j p = record { path = p; made = j.serial; recipe = j.recipe; stamps = j.stamps; members = [] }
+record_of j p = record { format = 2; path = p; made = j.serial; recipe = j.recipe; stamps = j.stamps; members = [] }
 
 -- the members that belong in it
 abbrev pub listed_of : OpenJob → Path → List Member → List Member
@@ -87,12 +87,27 @@ keeps Dropping = false
 keeps Dropped = false
 keeps phase = true
 
--- the record that an open Restore found at the path, until it is dropped
+-- the record that a Restore found at the path, or the one that it writes in its place
+pub record IsEased (j : OpenJob) (p : Path) (r : Record) : Type 0 where
+  pub found : Record
+  pub kept : kept_at j.kept p ≡ Some found
+  pub is : (r ≡ found) ⊎ (r ≡ record_of j p)
+
+-- such a record of an open Restore, until it is dropped
 abbrev pub eased_by : List OpenJob → Eased
-eased_by js p r = (j : OpenJob) × IsIn js j × (keeps j.phase ≡ true) × (kept_at j.kept p ≡ Some r)
+eased_by js p r = (j : OpenJob) × IsIn js j × (keeps j.phase ≡ true) × IsEased j p r
 
 abbrev pub eased : RunState → Eased
 eased s = eased_by s.jobs
+
+-- A record that was found, and the one that is written in its place: of the same job, with the same serial and recipe, and where an input has
+-- a stamp now with which the recorded one agrees.
+pub record IsAgain (found written : Record) : Type 0 where
+  pub path : found.path ≡ written.path
+  pub made : found.made ≡ written.made
+  pub recipe : found.recipe ≡ written.recipe
+  pub members : found.members ≡ written.members
+  pub stamps : AllZip (λ (recorded now : Stamp). IsTrue (agree recorded now)) found.stamps written.stamps
 
 -- nothing of the one job overlaps what the other owns or reads
 pub record IsApart (j k : OpenJob) : Type 0 where
@@ -133,11 +148,11 @@ module _ (o : Outside) where
   abbrev pub now : World → Image
   now w = seen o.read w
 
-  -- a source with which the stamp agrees
+  -- a source that has this stamp now
   pub record IsSourceAt (image : Image) (q : Path) (s : Stamp) : Type 0 where
     pub source : Content
     pub stands : source_at image q ≡ Some source
-    pub same : IsTrue (agrees s (time_stamp (Some source)))
+    pub same : s ≡ content_stamp source
 
   -- A whole output, or a file in one that is a directory; its record has no mark, and the stamp agrees with the record's serial.
   -- Whether the record hangs together isn't asked: the invariant is the same for one that doesn't.
@@ -166,11 +181,13 @@ module _ (o : Outside) where
     pub each_stamped : length j.stamps ≡ length (in_paths j.recipe)
     pub kept_own : (p : Path) (r : Record) → kept_at j.kept p ≡ Some r → IsIn (outputs j) p
 
-  -- the unmarked record that a Restore finds is the one that it will write again
+  -- in the place of the unmarked record that a Restore finds it will write one of the same job
   pub record IsKept (w : World) (j : OpenJob) (p : Path) : Type 0 where
-    pub stands : core_at (now w) p ≡ Some (record_of j p)
+    pub found : Record
+    pub stands : core_at (now w) p ≡ Some found
     pub unmarked : (now w).marked p ≡ false
-    pub found : kept_at j.kept p ≡ Some (record_of j p)
+    pub kept : kept_at j.kept p ≡ Some found
+    pub again : IsAgain found (record_of j p)
 
   -- Its serial is the next one; or it is a Restore, and keeps that of its records.
   abbrev pub HasSerial : RunState → World → OpenJob → ℕ → Type 0

@@ -13,8 +13,7 @@ use Rattle.smk_world.specs.Trees.{Path, IsIn, among}
 use Rattle.smk_world.specs.World.{World, reading}
 use Rattle.smk_record.specs.declared.record.Record.{Record}
 use Rattle.smk_record.specs.declared.record.Stamp.{Stamp}
-use Rattle.smk_record.specs.declared.record.Stamp.TheVariants.{Time, Made}
-use Rattle.smk_record.specs.Records.{are_rising, core, same_stamp, stamped}
+use Rattle.smk_record.specs.Records.{are_rising, core, source_time, stamped}
 use Rattle.smk_record.proofs.Rising.{Above, less_itself, rising_rest, rising_first}
 use Rattle.smk_store.specs.declared.store.Entry.{Entry}
 use Rattle.smk_store.specs.declared.store.Kept.{Kept}
@@ -23,28 +22,36 @@ use Rattle.smk_store.specs.Forgetting.{AreUnseen, IsSeen, IsFirstSeen, all_input
 use Rattle.smk_store.specs.Images.{Image, Content, content_of, file_at, is_known, is_outside, readable, stands}
 use Rattle.smk_store.specs.Loading.{IsStoreOf, entry_at, entry_in}
 use Rattle.smk_store.specs.Stores.{Known, entry_of}
-use Rattle.smk_keep_forget.specs.Seen.{holds_time, is_time_held, seen, seen_before}
+use Rattle.smk_keep_forget.specs.Seen.{holds_time, is_time, is_time_held, seen, seen_before}
 use Rattle.smk_laws_stamps.proofs.Filters.{any_in, in_any, in_among, none_left, first_left, Rises}
 
 -- ## A record
 
-pair_is : (e : Path × Stamp) (q : Path) (t : ℕ) → (bytes_eq e.0 q && same_stamp e.1 (Time t)) ≡ true → (q, Time t) ≡ e
-pair_is (a, Time u) q t h =
-    let name : a ≡ q = same_place a q (and_first (bytes_eq a q) (u == t) h) in
-    let time : u ≡ t = eqb-true u t (and_second (bytes_eq a q) (u == t) h) in
-    sym (ap (λ x. stamp_at x u) name ∙ ap (λ n. stamp_at q n) time)
-  where
-    stamp_at : Path → ℕ → Path × Stamp
-    stamp_at x n = (x, Time n)
-pair_is (a, Made m) q t h = absurd (true≢false (sym (and_second (bytes_eq a q) false h)))
+time_is : (o : Option ℕ) (t : ℕ) → is_time o t ≡ true → o ≡ Some t
+time_is None t h = absurd (true≢false (sym h))
+time_is (Some u) t h = ap Some (eqb-true u t h)
 
-holds : (q : Path) (t : ℕ) (r : Record) → IsIn (stamped r) (q, Time t) → holds_time q t r ≡ true
-holds q t r i = any_in (λ (e : Path × Stamp). bytes_eq e.0 q && same_stamp e.1 (Time t)) (stamped r) (q, Time t) i (both_true (bytes_eq q q) (t == t) (place_itself q) (eq-eqb t t refl))
+pair_is : (q : Path) (t : ℕ) (x : Path) (s : Stamp) → (bytes_eq x q && is_time (source_time s) t) ≡ true → (x ≡ q) × (source_time s ≡ Some t)
+pair_is q t x s h =
+    (same_place x q (and_first (bytes_eq x q) (is_time (source_time s) t) h), time_is (source_time s) t (and_second (bytes_eq x q) (is_time (source_time s) t) h))
 
-held : (q : Path) (t : ℕ) (r : Record) → holds_time q t r ≡ true → IsIn (stamped r) (q, Time t)
+holds : (q : Path) (t : ℕ) (s : Stamp) (r : Record) → IsIn (stamped r) (q, s) → source_time s ≡ Some t → holds_time q t r ≡ true
+holds q t s r i time =
+    any_in (λ (e : Path × Stamp). bytes_eq e.0 q && is_time (source_time e.1) t) (stamped r) (q, s) i
+    (both_true (bytes_eq q q) (is_time (source_time s) t) (place_itself q) (ap (λ (o : Option ℕ). is_time o t) time ∙ eq-eqb t t refl))
+
+-- a stamp of the source with this time
+record HasTime (inputs : List (Path × Stamp)) (q : Path) (t : ℕ) : Type 0 where
+  stamp : Stamp
+  held : IsIn inputs (q, stamp)
+  time : source_time stamp ≡ Some t
+
+held : (q : Path) (t : ℕ) (r : Record) → holds_time q t r ≡ true → HasTime (stamped r) q t
 held q t r h =
-    let k = in_any (λ (e : Path × Stamp). bytes_eq e.0 q && same_stamp e.1 (Time t)) (stamped r) h in
-    subst (IsIn (stamped r)) (sym (pair_is k.0 q t k.2)) k.1
+    let k = in_any (λ (e : Path × Stamp). bytes_eq e.0 q && is_time (source_time e.1) t) (stamped r) h in
+    let e = k.0 in
+    let is = pair_is q t e.0 e.1 k.2 in
+    record { stamp = e.1; held = subst (λ x. IsIn (stamped r) (x, e.1)) is.0 k.1; time = is.1 }
 
 -- ## What is kept of a path
 
@@ -56,12 +63,12 @@ test f (Some r) = f r
 abbrev holds_at : Path → ℕ → Kept → Bool
 holds_at q t kept = test (holds_time q t) (option_map core (readable kept))
 
-kept_holds : (q : Path) (t : ℕ) (kept : Kept) → IsIn (inputs_of (readable kept)) (q, Time t) → holds_at q t kept ≡ true
-kept_holds q t Absent i = absurd i
-kept_holds q t Unreadable i = absurd i
-kept_holds q t (Held r) i = holds q t (core r) i
+kept_holds : (q : Path) (t : ℕ) (s : Stamp) (kept : Kept) → IsIn (inputs_of (readable kept)) (q, s) → source_time s ≡ Some t → holds_at q t kept ≡ true
+kept_holds q t s Absent i time = absurd i
+kept_holds q t s Unreadable i time = absurd i
+kept_holds q t s (Held r) i time = holds q t s (core r) i time
 
-kept_held : (q : Path) (t : ℕ) (kept : Kept) → holds_at q t kept ≡ true → (stands kept ≡ true) × IsIn (inputs_of (readable kept)) (q, Time t)
+kept_held : (q : Path) (t : ℕ) (kept : Kept) → holds_at q t kept ≡ true → (stands kept ≡ true) × HasTime (inputs_of (readable kept)) q t
 kept_held q t Absent h = absurd (true≢false (sym h))
 kept_held q t Unreadable h = absurd (true≢false (sym h))
 kept_held q t (Held r) h = (refl, held q t (core r) h)
@@ -159,7 +166,9 @@ module _ (v : World) (image : Image) (like : IsLike v image) (ks : List Known) (
         under = under;
         file = f;
         stands = file_there q f file;
-        held = in_store ks x.0 (entry_at (seen v) x.0) (q, Time f.time) (store.entries x.0 ∙ entry_there (seen v) x.0 k.0) k.1;
+        stamp = k.1.stamp;
+        held = in_store ks x.0 (entry_at (seen v) x.0) (q, k.1.stamp) (store.entries x.0 ∙ entry_there (seen v) x.0 k.0) k.1.held;
+        same = k.1.time;
       }
 
   -- a name is left where a file of that name is there whose time is held
@@ -183,9 +192,9 @@ module _ (v : World) (image : Image) (like : IsLike v image) (ks : List Known) (
       → is_outside q ≡ true → are_rising (paths_of ks) ≡ true → IsFirstSeen ks v p q → (rest : List Path) × (seen_before image p ≡ q ∷ rest)
   first_before q names g are rise there out rising first =
       let file = first.seen.file in
-      let o = of_store ks (q, Time file.time) rising first.seen.held in
+      let o = of_store ks (q, first.seen.stamp) rising first.seen.held in
       let kept : image.kept o.path ≡ o.entry.kept = like.kept o.path ∙ entry_kept (is_known (seen v) o.path) (seen v) o.path o.entry (sym (store.entries o.path) ∙ o.at) in
-      let holding : holds_at q file.time (image.kept o.path) ≡ true = ap (holds_at q file.time) kept ∙ kept_holds q file.time o.entry.kept o.held in
+      let holding : holds_at q file.time (image.kept o.path) ≡ true = ap (holds_at q file.time) kept ∙ kept_holds q file.time first.seen.stamp o.entry.kept o.held first.seen.same in
       let listed = like.listed o.path (kept_held q file.time (image.kept o.path) holding).0 in
       let timely : is_time_held image q file.time ≡ true = any_in (λ x. holds_at q file.time (image.kept x)) image.known o.path (in_among image.known o.path listed) holding in
       let at : file_at image q ≡ Some file = ap content_of (like.node q) ∙ ap (λ b. content_of (if b then reading (v.nodes q) else None)) out ∙ first.seen.stands in

@@ -11,7 +11,7 @@ use Rattle.smk_run.specs.declared.ending.Ending.{Ending}
 use Rattle.smk_run.specs.Stamps.{Serials}
 use Rattle.smk_run.specs.Closings.{HasWaited, HasSettled, HasClosed}
 use Rattle.smk_run.specs.Turns.{Course, Unbegun, Unstarted, Unclosed, Closed, Turn, found, as_underway, HasBegunAnd, HasGoneOn, HasGone, HasStampedAnd, IsTurnBy, IsTurn}
-use Rattle.smk_run.proofs.Calls.{EachCall, OfLooks, OfClosing, each_then, done_each, cut_each, stamped_each, has_stamped_each, settled_each}
+use Rattle.smk_run.proofs.Calls.{EachCall, OfLooks, OfClosing, each_then, done_each, cut_each, digested_each, has_inputs_each, settled_each}
 
 waited_each : (P : Request → Type 0) (j : Underway) (wait : P Wait) (all : OfClosing P j) (r : Result Ending WorkFault) (w : World) (es : List Event) → HasWaited j.number (HasSettled j r) w es → EachCall P es
 waited_each P j wait all r w es h = subst (EachCall P) (sym h.events) (wait, settled_each P j all r h.ended.status _ h.rest h.then_did)
@@ -49,11 +49,11 @@ gone_each P t all (Closed ending) w es h = begun_each P t all (Closed ending) w 
 
 stamped_and_each : (P : Request → Type 0) (made : Serials) (t : Turn) (all : OfTurn P t) (c : Course) (w : World) (es : List Event) → HasStampedAnd made t (HasGone t c) w es → EachCall P es
 stamped_and_each P made t all c w es h =
-    each_then P es h.seen h.rest h.events (stamped_each P all.looks made (in_paths t.job.recipe) (found t.looked) h.seen h.stamped)
+    each_then P es h.seen h.rest h.events (digested_each P all.looks made (in_paths t.job.recipe) (found t.looked) w h.seen h.stamped)
     (gone_each P t all c (run w h.seen) h.rest h.then_did)
 
 turn_by_each : (P : Request → Type 0) (made : Serials) (t : Turn) (all : OfTurn P t) (c : Course) (w : World) (es : List Event) → IsTurnBy made t c w es → EachCall P es
-turn_by_each P made t all Unbegun w es h = has_stamped_each P all.looks made (in_paths t.job.recipe) t.looked w es h
+turn_by_each P made t all Unbegun w es h = has_inputs_each P all.looks made (in_paths t.job.recipe) t.looked w es h
 turn_by_each P made t all Unstarted w es h = stamped_and_each P made t all Unstarted w es h
 turn_by_each P made t all Unclosed w es h = stamped_and_each P made t all Unclosed w es h
 turn_by_each P made t all (Closed ending) w es h = stamped_and_each P made t all (Closed ending) w es h

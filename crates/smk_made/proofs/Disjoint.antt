@@ -1,5 +1,5 @@
 -- Where nothing clashes, what the jobs make and log lies apart.
-use Rattle.std.proofs.Common.{◌≡◌, Bool, true, false, ◌&&◌, ◌||◌, List, [], ◌∷◌, ◌++◌, map, refl, ap, ◌∙◌}
+use Rattle.std.proofs.Common.{◌≡◌, Bool, true, false, List, [], ◌∷◌, ◌++◌, map, refl, ap, ◌∙◌}
 use Rattle.smk_base.specs.Path.{overlaps}
 use Rattle.smk_base.proofs.Under.{never_both}
 use Rattle.smk_base.proofs.Apart.{apart_unless}

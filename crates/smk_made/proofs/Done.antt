@@ -26,12 +26,13 @@ use Rattle.smk_job.proofs.Launching.{before_start, before_files}
 use Rattle.smk_job.proofs.Outs.{paths_same}
 use Rattle.smk_job.proofs.Single.{IsKnown}
 use Rattle.smk_run.specs.declared.ending.Ending.TheVariants.{Good, Status, NoOutput, WrongKind, BadMember}
-use Rattle.smk_run.specs.Stamps.{Serials, AreStamped}
+use Rattle.smk_run.specs.Digesting.{HasDigested}
+use Rattle.smk_run.specs.Stamps.{Serials}
 use Rattle.smk_run.specs.Closings.{wait_event}
 use Rattle.smk_run.specs.Turns.{Course, Unbegun, Unstarted, Unclosed, Closed, Turn, found, as_underway, HasGone, HasStampedAnd, IsTurnBy, is_done}
 use Rattle.smk_made.specs.Leaving.{owned, MayCome, IsFirm, IsRecorded, HasLeft, DoneTurnLeaves}
 use Rattle.smk_made.proofs.Keeping.{Spares, AreAside, run_kept}
-use Rattle.smk_run.proofs.Calls.{each_first, OfLooks, done_each, seen_each, stamped_each}
+use Rattle.smk_run.proofs.Calls.{each_first, OfLooks, done_each, seen_each, digested_each}
 use Rattle.smk_made.proofs.Sparing.{IsOffTurn, spared_begin, spared_looks, off_overlap}
 use Rattle.smk_made.proofs.Kept.{IsAllKnown, AllFirm, has_kept, keep_files, apart_differ, differ_first}
 use Rattle.smk_made.proofs.TreeMoves.{StaysUnder, stays_same, stays_firm, contents_moved, outputs_moved, IsMadeFirm, kind_firm}
@@ -50,7 +51,7 @@ pub record HasParts (made : Serials) (t : Turn) (w : World) (es : List Event) : 
   pub left : List Change
   pub members : List (List Member)
   pub events : es ≡ seen ++ (first ++ (wait_event ended left ∷ (looks ++ last)))
-  pub stamped : AreStamped made (in_paths t.job.recipe) (found t.looked) seen
+  pub stamped : HasDigested made (in_paths t.job.recipe) (found t.looked) w seen
   pub begun : HasDone (begin_requests t.job.recipe t.job.logs t.command) first
   pub started : started_numbers first ≡ number ∷ []
   pub good : ended.status ≡ 0
@@ -123,13 +124,13 @@ idle_known w none owners = λ q. known_else (w.nodes q) (λ e. true≢false (sym
 -- ## The inputs are as they were
 
 pub begun_kept : (made : Serials) (t : Turn) (w : World) (seen first : List Event) (q : Path) → w.children ≡ []
-    → AreStamped made (in_paths t.job.recipe) (found t.looked) seen → HasDone (begin_requests t.job.recipe t.job.logs t.command) first → (run w seen).children ≡ []
+    → HasDigested made (in_paths t.job.recipe) (found t.looked) w seen → HasDone (begin_requests t.job.recipe t.job.logs t.command) first → (run w seen).children ≡ []
     → IsOffTurn true q t → (run (run w seen) first).nodes q ≡ w.nodes q
 begun_kept made t w seen first q none stamped begun still h =
     run_kept true q (run w seen) first
     (done_each (Spares true q) (begin_requests t.job.recipe t.job.logs t.command) first (spared_begin true t.job.recipe t.job.logs t.command q h) begun)
     (subst (AreAside q) (sym still) tt)
-    ∙ run_kept true q w seen (stamped_each (Spares true q) (spared_looks true q) made (in_paths t.job.recipe) (found t.looked) seen stamped) (subst (AreAside q) (sym none) tt)
+    ∙ run_kept true q w seen (digested_each (Spares true q) (spared_looks true q) made (in_paths t.job.recipe) (found t.looked) w seen stamped) (subst (AreAside q) (sym none) tt)
 
 pub inputs_stay : (t : Turn) (w u : World) → ((q : Path) → IsOffTurn true q t → u.nodes q ≡ w.nodes q)
     → (ps : List Path) → Each (λ p. (is_at_or_under p own_folder ≡ false) × (list_any (overlaps p) (owned t) ≡ false)) ps → Each (StaysUnder w u) ps
@@ -183,13 +184,13 @@ all_recorded t number w v (out ∷ outs) (m ∷ members) looks (first, more, e, 
 -- ## All of it
 
 crewless : OfLooks (λ (r : Request). is_crew r ≡ false)
-crewless = record { look = λ p. refl; listed = λ p. refl }
+crewless = record { look = λ p. refl; read = λ p limit. refl; listed = λ p. refl }
 
 left_by : (act : Act) (made : Serials) (t : Turn) (w : World) (seen first looks last : List Event) (number : ℕ) (ended : Ended) (left : List Change) (members : List (List Member))
     → MayCome t w
     → Follows act w seen → Follows act (run w seen) first → Lets act (run (run w seen) first) (Waited (Ok ended)) left
     → Follows act (after (run (run w seen) first) (wait_event ended left)) looks → Follows act (run (after (run (run w seen) first) (wait_event ended left)) looks) last
-    → AreStamped made (in_paths t.job.recipe) (found t.looked) seen → HasDone (begin_requests t.job.recipe t.job.logs t.command) first → started_numbers first ≡ number ∷ [] → ended.status ≡ 0
+    → HasDigested made (in_paths t.job.recipe) (found t.looked) w seen → HasDone (begin_requests t.job.recipe t.job.logs t.command) first → started_numbers first ≡ number ∷ [] → ended.status ≡ 0
     → AreSeen (after (run (run w seen) first) (wait_event ended left)).nodes (outs_of t.job.recipe) members looks
     → HasDone (finish_requests (as_underway t number) members) last
     → HasLeft act t w (run (run (after (run (run w seen) first) (wait_event ended left)) looks) last)
@@ -202,7 +203,7 @@ left_by act made t w seen first looks last number ended left members may f1 f2 l
     let v1 = run v0 looks in
     let v = run v1 last in
     let bytes = bytes_with (as_underway t number) outs members in
-    let none1 : w1.children ≡ [] = files_children w seen (stamped_each (λ (r : Request). is_crew r ≡ false) crewless made (in_paths recipe) (found t.looked) seen stamped) ∙ may.none_runs in
+    let none1 : w1.children ≡ [] = files_children w seen (digested_each (λ (r : Request). is_crew r ≡ false) crewless made (in_paths recipe) (found t.looked) w seen stamped) ∙ may.none_runs in
     let runs = started_after (before_start recipe t.job.logs) recipe t.job.logs t.command number w1 first (before_files recipe t.job.logs) begun started ∙ ap (λ cs. cs ++ record { number = number; recipe = recipe; logs = t.job.logs } ∷ []) none1 in
     let end : HasEnded act recipe ended u v0 = has_ended act recipe t.job.logs number u ended left runs lets in
     let none2 : v1.children ≡ [] = files_children v0 looks (seen_each (λ (r : Request). is_crew r ≡ false) crewless v0.nodes (outs_of recipe) members looks outputs) ∙ end.children in

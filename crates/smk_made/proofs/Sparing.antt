@@ -185,7 +185,7 @@ spared_lose exactly recipe logs q h =
 -- ## A turn
 
 pub spared_looks : (exactly : Bool) (q : Path) → OfLooks (Spares exactly q)
-spared_looks exactly q = record { look = λ p. refl; listed = λ p. refl }
+spared_looks exactly q = record { look = λ p. refl; read = λ p limit. refl; listed = λ p. refl }
 
 pub spared_closing : (exactly : Bool) (j : Underway) (q : Path) → IsOff exactly j.recipe j.logs q → OfClosing (Spares exactly q) j
 spared_closing exactly j q h = record {

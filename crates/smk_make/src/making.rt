@@ -26,6 +26,7 @@ use smk_run::{Agenda, Tally, run_jobs};
 use smk_store::steady;
 use smk_world::{Crew, Sink};
 use std::alloc::Global;
+use std::thread::Threads;
 
 // The answer of a run that came to its end.
 fn answer(tally: Tally) -> Result<(), Fault>
@@ -85,7 +86,8 @@ fn conclude<O: Sink>(
 }
 
 // Runs the jobs by these duties, and reports them and the targets.
-fn run<W: Crew, O: Sink>(
+fn run<W: Crew, O: Sink, Rt: Threads + Sync>(
+    rt: &Rt,
     alloc: Global,
     flow: &Workflow,
     targets: &List<PathText>,
@@ -104,14 +106,15 @@ fn run<W: Crew, O: Sink>(
     requires good { AreGood flow.now cores (due agenda.now.first agenda.now.duties jobs.now.jobs) }
     ensures { HasMade W.act flow.now cores targets.now jobs.now agenda.now.first agenda.now.duties result (W.device work.old) (W.device work.new) (O.sunk out.old) (O.sunk out.new) }
 {
-    match run_jobs(alloc, flow, jobs, agenda, cores, work, out) {
+    match run_jobs(rt, alloc, flow, jobs, agenda, cores, work, out) {
         Err(fault) => Err(fault),
         Ok(tally) => conclude(alloc, targets, jobs, &agenda.duties, tally, out),
     }
 }
 
 // Finds the duties, and runs the jobs by them.
-fn serve<W: Crew, O: Sink>(
+fn serve<W: Crew, O: Sink, Rt: Threads + Sync>(
+    rt: &Rt,
     alloc: Global,
     flow: &Workflow,
     targets: &List<PathText>,
@@ -130,7 +133,9 @@ fn serve<W: Crew, O: Sink>(
         return Err(Fault::OutOfMemory);
     };
     let agenda = Agenda { duties, first };
-    run(alloc, flow, targets, plan.jobs, &agenda, cores, work, out)
+    run(
+        rt, alloc, flow, targets, plan.jobs, &agenda, cores, work, out,
+    )
 }
 
 /// Makes what was planned: makes firm what was found of earlier runs, runs the jobs that are Dirty or to be restored, one after another in plan order, and
@@ -142,7 +147,8 @@ fn serve<W: Crew, O: Sink>(
 ///
 /// No child runs before. The jobs can be run and come after those that they need, there is a state for each, and the commands of those that are to run have
 /// no fault.
-pub fn make<W: Crew, O: Sink>(
+pub fn make<W: Crew, O: Sink, Rt: Threads + Sync>(
+    rt: &Rt,
     alloc: Global,
     flow: &Workflow,
     targets: &List<PathText>,
@@ -158,6 +164,6 @@ pub fn make<W: Crew, O: Sink>(
 {
     match steady(alloc, work, plan.store) {
         Err(fault) => Err(Fault::from(fault)),
-        Ok(()) => serve(alloc, flow, targets, plan, cores, work, out),
+        Ok(()) => serve(rt, alloc, flow, targets, plan, cores, work, out),
     }
 }

@@ -3,6 +3,7 @@ use Rattle.std.specs.Prelude.{◌≡◌, ℕ, zero, suc, Bool, true, ◌&&◌, n
 use Rattle.std.specs.List.{find, list_any}
 use Rattle.std.specs.Option.{option_and_then}
 use Rattle.smk_base.specs.Path.{is_at_or_under}
+use Rattle.smk_base.specs.declared.sum.Sum.{Sum as Digest}
 use Rattle.smk_world.specs.declared.recipe.Out.{Out}
 use Rattle.smk_world.specs.Calls.{stat_of}
 use Rattle.smk_world.specs.Trees.{Path, Each, outs_of, is_text}
@@ -10,6 +11,7 @@ use Rattle.smk_record.specs.declared.record.Member.{Member}
 use Rattle.smk_record.specs.Records.{are_rising, are_valid_members}
 use Rattle.smk_flow.specs.declared.job.Job.{Job}
 use Rattle.smk_store.specs.Images.{Image, Content, file_at, is_folder, is_whole, members_under}
+use Rattle.smk_store.specs.Trust.{is_summed, sum_of}
 use Rattle.smk_chain.specs.declared.jobs.Jobs.{Jobs}
 use Rattle.smk_chain.specs.declared.jobs.Maker.{Maker}
 use Rattle.smk_plan.specs.declared.seen.Sight.{Sight}
@@ -40,13 +42,20 @@ abbrev pub members_seen : Image → Path → Option (List Member)
 members_seen image p =
     if is_folder image p && are_valid_members p (members_under image p) then Some (members_under image p) else None
 
--- what is seen at a path
+-- what is seen at a path, without a digest
 abbrev pub sight_of : Image → Path → Sight
 sight_of image p =
-    record { path = p; stat = stat_of (image.node p); members = members_seen image p; guarded = is_guarded image p }
+    record { path = p; stat = stat_of (image.node p); members = members_seen image p; guarded = is_guarded image p; sum = None }
 
+-- the digest, if any, is the SHA-256 of the file at the path
+abbrev pub HasSum : Image → Path → Option Digest → Type 0
+HasSum image p None = Unit {0}
+HasSum image p (Some d) = (f : Content) × (file_at image p ≡ Some f) × (is_summed f.bytes ≡ true) × (sum_of f.bytes ≡ d)
+
+-- a sight tells what stands at the path, with a digest or without one
 abbrev pub IsSeenAs : Image → List Sight → Path → Type 0
-IsSeenAs image sights p = sight_at sights p ≡ Some (sight_of image p)
+IsSeenAs image sights p =
+    (d : Option Digest) × (sight_at sights p ≡ Some (record (sight_of image p) { sum = d })) × HasSum image p d
 
 -- a source among the makers is seen as it stands
 abbrev pub IsSourceSeen : Image → List Sight → Maker → Type 0

@@ -1,7 +1,7 @@
 ghost use Rattle.std.specs.Prelude.{◌≡◌, map, option_map};
 ghost use Rattle.smk_plan.specs.Sights.{AreRising, sight_at};
 
-use smk_base::{List, PathText};
+use smk_base::{List, PathText, Sum};
 use smk_record::Member;
 use smk_world::Stat;
 use std::marker::Model;
@@ -15,6 +15,8 @@ pub struct Sight {
     pub members: Option<List<Member>>,
     /// A read-only file stands at the path or under it.
     pub guarded: bool,
+    /// The SHA-256 of the file, where it was taken.
+    pub sum: Option<Sum>,
 }
 
 /// What stands at each output and each source of some jobs, by rising paths. Contracts see the list of sights.

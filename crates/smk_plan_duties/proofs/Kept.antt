@@ -14,8 +14,8 @@ use Rattle.smk_world.specs.World.{folders_above, in_paths, out_paths}
 use Rattle.smk_world.specs.Trees.{Path, Each, IsIn, among, folders_of, is_path_text}
 use Rattle.smk_record.specs.declared.record.Record.{Record}
 use Rattle.smk_record.specs.declared.record.Stamp.{Stamp}
-use Rattle.smk_record.specs.declared.record.Stamp.TheVariants.{Time, Made}
-use Rattle.smk_record.specs.Records.{agrees, are_none, are_rising, are_valid_members, core, is_earlier, is_valid, serials, stamped}
+use Rattle.smk_record.specs.declared.record.Stamp.TheVariants.{Time, Sum, Made}
+use Rattle.smk_record.specs.Records.{agrees, are_none, are_rising, are_valid_members, core, is_earlier, is_format, is_in_format, is_valid, serials, stamped}
 use Rattle.smk_store.specs.declared.store.Entry.{Entry}
 use Rattle.smk_store.specs.declared.store.Kept.{Kept}
 use Rattle.smk_store.specs.declared.store.Kept.TheVariants.{Absent, Unreadable, Held}
@@ -23,7 +23,7 @@ use Rattle.smk_store.specs.Images.{Image, core_at, is_covered, is_file, is_known
 use Rattle.smk_store.specs.Loading.{IsStoreOf}
 use Rattle.smk_store.specs.Serials.{all_serials, greatest_serial, next_serial, unmarked_serials}
 use Rattle.smk_store.specs.Stores.{Known, entry_of}
-use Rattle.smk_store.specs.Trust.{holder, is_folder_record, made_stamp, stamp_now, time_stamp, unmarked_stamp}
+use Rattle.smk_store.specs.Trust.{holder, is_folder_record, made_stamp, stamp_now, source_stamp, unmarked_stamp}
 use Rattle.smk_trigger.specs.declared.reason.Reason.{Reason}
 use Rattle.smk_trigger.specs.declared.reason.Reason.TheVariants.{New, Marked, BadRecord, Code, Params, Inputs, Updated}
 use Rattle.smk_trigger.specs.Reasons.{all_same, changes, has_bad_record, held, is_absent, is_unreadable, is_updated, lacks_record, once, same_code, same_inputs, same_item, same_job, same_params, when}
@@ -198,17 +198,17 @@ module _ (image : Image) (store : List Known) (is : IsStoreOf image store) where
 
 -- ## Valid records
 
-valid_by : (a b c d e f g h : Bool) → list_all (λ (v : Bool). v) (a ∷ b ∷ c ∷ d ∷ e ∷ f ∷ g ∷ h ∷ []) ≡ true → (a ≡ true) × (c ≡ true) × (d ≡ true)
-valid_by true b true true e f g h k = (refl, refl, refl)
-valid_by true b true false e f g h k = grind arith
-valid_by true b false d e f g h k = grind arith
-valid_by false b c d e f g h k = grind arith
+valid_by : (a b c d e f g h i : Bool) → list_all (λ (v : Bool). v) (a ∷ b ∷ c ∷ d ∷ e ∷ f ∷ g ∷ h ∷ i ∷ []) ≡ true → (a ≡ true) × (c ≡ true) × (d ≡ true)
+valid_by true b true true e f g h i k = (refl, refl, refl)
+valid_by true b true false e f g h i k = grind arith
+valid_by true b false d e f g h i k = grind arith
+valid_by false b c d e f g h i k = grind arith
 
 valid_parts : (r : Record) → is_valid r ≡ true → (length r.stamps ≡ length (in_paths r.recipe)) × (nat_le 1 r.made ≡ true) × (list_all (is_earlier r.made) r.stamps ≡ true)
 valid_parts r h =
     let parts = valid_by (length r.stamps == length (in_paths r.recipe)) (among (out_paths r.recipe) r.path) (nat_le 1 r.made) (list_all (is_earlier r.made) r.stamps)
     (are_rising (map (λ w. w.name) r.recipe.wildcards)) (list_all is_path_text (in_paths r.recipe)) (list_all is_path_text (out_paths r.recipe))
-    (if among (folders_of r.recipe) r.path then are_valid_members r.path r.members else are_none r.members) h in
+    (if among (folders_of r.recipe) r.path then are_valid_members r.path r.members else are_none r.members) (is_format r.format && list_all (is_in_format r.format) r.stamps) h in
     (eqb-true (length r.stamps) (length (in_paths r.recipe)) parts.0, parts.1, parts.2)
 
 -- ## Inputs that haven't changed
@@ -253,6 +253,7 @@ once_has g (p ∷ ps) q at = go (bytes_eq q p) refl at (once_has g ps q)
 -- a serial that agrees with the recorded stamp is below that of the record
 made_below : (s : Stamp) (kept made : ℕ) → agrees s (Some (Made kept)) ≡ true → is_earlier made s ≡ true → nat_lt kept made ≡ true
 made_below (Time t) kept made h k = absurd (never_both false h refl)
+made_below (Sum t d) kept made h k = absurd (never_both false h refl)
 made_below (Made m) kept made h k = subst (λ (x : ℕ). nat_lt x made ≡ true) (eqb-true m kept h) k
 
 stamp_below : (ps : List Path) (ss : List Stamp) (q : Path) (kept made : ℕ) → length ss ≡ length ps → among ps q ≡ true → is_updated (zip ps ss) (q, Some (Made kept)) ≡ false → list_all (is_earlier made) ss ≡ true → nat_lt kept made ≡ true
@@ -362,7 +363,7 @@ module _ (image : Image) where
   -- the stamp now of what a kept record speaks for
   pub stamp_spoken : (q h : Path) (m : ℕ) → holder image q ≡ Some h → IsKept image m h → stamp_now image q ≡ Some (Made m)
   stamp_spoken q h m e kept =
-      ap (λ b. if b then time_stamp (source_at image q) else option_and_then (unmarked_stamp image) (holder image q)) (no_source q (spoken_covered q h e))
+      ap (λ b. if b then source_stamp (source_at image q) else option_and_then (unmarked_stamp image) (holder image q)) (no_source q (spoken_covered q h e))
       ∙ ap (option_and_then (unmarked_stamp image)) e
       ∙ ap (λ b. if b then None else made_stamp (core_at image h)) kept.2
       ∙ ap (λ (o : Option Record). made_stamp (option_map core o)) kept.1

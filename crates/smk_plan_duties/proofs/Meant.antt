@@ -30,7 +30,7 @@ use Rattle.smk_plan.specs.States.{Plan, by_reasons, is_open_now, made_by, makes,
 use Rattle.smk_plan.specs.Sights.{job_at}
 use Rattle.smk_plan_facts.specs.Facts.{having_run, facts_of, own_of}
 use Rattle.smk_plan_facts.proofs.Tests.{each_among, each_found, each_of, each_two, find_passes}
-use Rattle.smk_plan_facts.proofs.Reasoned.{facts_reason}
+use Rattle.smk_plan_facts.proofs.Reasoned.{exact_reason}
 use Rattle.smk_plan_states.specs.Judged.{with_states}
 use Rattle.smk_plan_states.specs.Served.{IsBelow, IsToldOf, ReadEarlier}
 use Rattle.smk_plan.specs.declared.duty.Duty.{Duty}
@@ -183,7 +183,7 @@ module _ (image : Image) (settings : Settings) (ran : List Path) (J : Jobs) (ask
   quiet_is : (j : Job) → (out_paths j.recipe ≡ [] → ⊥) → quiet (f j) ≡ true → IsQuiet image j × (is_open_now image settings (having_run ran) plan j ≡ false) × (filter (made_by plan is_dirty) (distinct bytes_eq (in_paths j.recipe)) ≡ [])
   quiet_is j some h =
       let table = settled (is_open_now image settings (having_run ran) plan j) (reasons image settings (having_run ran) plan j) _ h in
-      let parts = nil_both (own_of (facts_of image settings ran plan j)) _ (sym (facts_reason image settings ran plan j) ∙ table.1) in
+      let parts = nil_both (own_of (facts_of image settings ran plan j)) _ (sym (exact_reason image settings ran plan j) ∙ table.1) in
       let others = nil_both (map Upstream (filter (made_by plan is_dirty) (distinct bytes_eq (in_paths j.recipe)))) _ parts.1 in
       let own = split_parts _ _ _ _ parts.0 in
       (quiet_by image j (out_paths j.recipe) refl some own.0 own.2 own.1 own.3, table.0, map_nil Upstream (filter (made_by plan is_dirty) (distinct bytes_eq (in_paths j.recipe))) others.0)

@@ -1,7 +1,7 @@
 -- The facts of jobs by a store and sights are those of the image, and what forces a job is told by sets.
-use Rattle.std.proofs.Common.{◌≡◌, Bool, true, false, cond, ◌&&◌, ◌||◌, not, List, [], ◌∷◌, ◌++◌, map, Some, refl, sym, ap, ap₂, ◌∙◌, bytes_eq, arith}
+use Rattle.std.proofs.Common.{◌≡◌, Bool, true, false, cond, ◌&&◌, ◌||◌, not, List, [], ◌∷◌, ◌++◌, map, Some, refl, sym, ap, ap₂, subst, ◌∙◌, bytes_eq, arith}
 use Rattle.std.specs.Prelude.{is_some}
-use Rattle.std.specs.List.{list_any, list_all, find, filter, flat_map}
+use Rattle.std.specs.List.{list_any, list_all, find, filter, flat_map, AllZip}
 use Rattle.std.proofs.lemmas.List.{map-append}
 use Rattle.smk_choose.proofs.Listed.{map_map, map_same}
 use Rattle.smk_base.specs.Path.{is_under}
@@ -15,18 +15,18 @@ use Rattle.smk_flow.specs.declared.job.Job.{Job}
 use Rattle.smk_store.specs.Images.{Image, is_source}
 use Rattle.smk_store.specs.Loading.{IsStoreOf}
 use Rattle.smk_store.specs.Stores.{Known, entry_of}
-use Rattle.smk_store.specs.Trust.{stamp_now}
 use Rattle.smk_chain.specs.declared.jobs.Jobs.{Jobs}
 use Rattle.smk_chain.specs.declared.jobs.Maker.{Maker}
 use Rattle.smk_pick.specs.declared.settings.Settings.{Settings}
 use Rattle.smk_plan.specs.declared.seen.Sight.{Sight}
 use Rattle.smk_plan.specs.States.{Plan, job_path, by_force, makes}
 use Rattle.smk_plan.specs.Sights.{IsSeenOf, IsSeenAs}
+use Rattle.smk_plan.specs.Summed.{records_by, AreSummed, IsSummed}
 use Rattle.smk_plan_facts.specs.declared.forced.Forcing.{Forcing}
-use Rattle.smk_plan_facts.specs.Facts.{facts_of, told_sources, HasOwnRecords, TellSources}
+use Rattle.smk_plan_facts.specs.Facts.{told_sources, AreFactsOf, HasOwnRecords, IsToldAs, TellSources}
 use Rattle.smk_plan_facts.specs.Laws.{FactsAreSo}
 use Rattle.smk_plan_facts.specs.Telling.{kept_of, mark_of, copied, stamp_in, facts_in, forced_by, forced_in, has_path_texts, is_aimed, aims_at, Tells}
-use Rattle.smk_plan_facts.proofs.Tests.{map_each, each_two, each_tested, paths_of_outs}
+use Rattle.smk_plan_facts.proofs.Tests.{each_two, each_tested, paths_of_outs}
 use Rattle.smk_plan_facts.proofs.Outs.{any_items}
 use Rattle.smk_plan_facts.proofs.Stamped.{mark_is, copy_is, stamp_told, source_seen}
 
@@ -46,6 +46,10 @@ items_of_paths f (item ∷ inputs) =
 
 -- ## Facts
 
+zip_each : {A B : Type 0} (R : A → B → Type 0) (f : A → B) (xs : List A) → Each (λ x. R x (f x)) xs → AllZip R xs (map f xs)
+zip_each R f [] h = tt
+zip_each R f (x ∷ xs) h = (h.0, zip_each R f xs h.1)
+
 module _ (image : Image) (store : List Known) (sights : List Sight) (makers : List Maker) (settings : Settings) (ran : List Path) (plan : Plan) where
   abbrev told : Path → Bool
   told q = among (told_sources makers) q
@@ -53,15 +57,16 @@ module _ (image : Image) (store : List Known) (sights : List Sight) (makers : Li
   abbrev IsTold : Path → Type 0
   IsTold q = is_source image q ≡ true → told q ≡ true
 
-  job_is : (j : Job) → IsStoreOf image store → HasOwnRecords image → ((q : Path) → told q ≡ true → IsSeenAs image sights q) → Each IsTold (in_paths j.recipe) → has_path_texts j ≡ true →
-      facts_in store sights told (forced_by settings ran) j ≡ facts_of image settings ran plan j
-  job_is j is own seen sources texts = λ i.
+  job_is : (j : Job) → IsStoreOf image store → HasOwnRecords image → ((q : Path) → told q ≡ true → IsSeenAs image sights q) → Each IsTold (in_paths j.recipe) →
+      Each (IsSummed image sights j) (in_paths j.recipe) → has_path_texts j ≡ true →
+      AreFactsOf image settings ran plan j (facts_in store sights told (forced_by settings ran) j)
+  job_is j is own seen sources summed texts =
       record {
-        recipe = j.recipe;
-        kept = kept_same i;
-        marked = marks_same i;
-        stamps = stamps_same i;
-        forced = forced_by settings ran j;
+        recipe = refl;
+        kept = kept_same;
+        marked = marks_same;
+        stamps = stamps_as;
+        forced = refl;
       }
     where
       kept_same : flat_map (λ (item : OutItem). map (λ (o : Out). copied (kept_of (entry_of store o.path))) item.outs) j.recipe.outputs ≡ map image.kept (out_paths j.recipe)
@@ -74,27 +79,35 @@ module _ (image : Image) (store : List Known) (sights : List Sight) (makers : Li
           items_of_outs (λ p. mark_of (entry_of store p)) j.recipe.outputs
           ∙ map_same (λ p. mark_of (entry_of store p)) image.marked (mark_is image store is) (out_paths j.recipe)
 
-      stamps_same : flat_map (λ (item : Item). map (stamp_in store sights told) item.paths) j.recipe.inputs ≡ map (stamp_now image) (in_paths j.recipe)
-      stamps_same =
-          items_of_paths (stamp_in store sights told) j.recipe.inputs
-          ∙ map_each (stamp_in store sights told) (stamp_now image) (in_paths j.recipe)
-          (each_two (λ q. is_path_text q ≡ true) IsTold (λ q. stamp_in store sights told q ≡ stamp_now image q)
-          (λ q text source. stamp_told image store sights (told_sources makers) q is text (seen q) source)
-          (in_paths j.recipe) (each_tested is_path_text (in_paths j.recipe) texts) sources)
+      stamps_as : AllZip (IsToldAs image (records_by image.kept j)) (in_paths j.recipe) (flat_map (λ (item : Item). map (stamp_in store sights told) item.paths) j.recipe.inputs)
+      stamps_as =
+          subst (AllZip (IsToldAs image (records_by image.kept j)) (in_paths j.recipe)) (sym (items_of_paths (stamp_in store sights told) j.recipe.inputs))
+          (zip_each (IsToldAs image (records_by image.kept j)) (stamp_in store sights told) (in_paths j.recipe)
+          (each_two (λ q. is_path_text q ≡ true) (λ q. IsTold q × IsSummed image sights j q) (λ q. IsToldAs image (records_by image.kept j) q (stamp_in store sights told q))
+          (λ q text at. stamp_told image store sights (told_sources makers) (records_by image.kept j) q is text (seen q) at.0 at.1)
+          (in_paths j.recipe) (each_tested is_path_text (in_paths j.recipe) texts)
+          (each_two IsTold (IsSummed image sights j) (λ q. IsTold q × IsSummed image sights j q) (λ q source sum. (source, sum)) (in_paths j.recipe) sources summed)))
 
 -- the facts of all jobs
 pub facts_are : (image : Image) (store : List Known) (sights : List Sight) (made : Jobs) (settings : Settings) (ran : List Path) (plan : Plan) →
-    IsStoreOf image store → IsSeenOf image made sights → HasOwnRecords image → TellSources image made → list_all has_path_texts made.jobs ≡ true →
-    map (facts_in store sights (among (told_sources made.makers)) (forced_by settings ran)) made.jobs ≡ map (facts_of image settings ran plan) made.jobs
-facts_are image store sights made settings ran plan is seen own sources texts =
-    map_each (facts_in store sights (among (told_sources made.makers)) (forced_by settings ran)) (facts_of image settings ran plan) made.jobs
-    (each_two (λ (j : Job). Each (IsTold image store sights made.makers settings ran plan) (in_paths j.recipe)) (λ (j : Job). has_path_texts j ≡ true)
-    (λ (j : Job). facts_in store sights (among (told_sources made.makers)) (forced_by settings ran) j ≡ facts_of image settings ran plan j)
-    (λ j told text. job_is image store sights made.makers settings ran plan j is own (λ q at. source_seen image sights made.makers q seen.sources at) told text)
-    made.jobs sources (each_tested has_path_texts made.jobs texts))
+    IsStoreOf image store → IsSeenOf image made sights → AreSummed image made sights → HasOwnRecords image → TellSources image made → list_all has_path_texts made.jobs ≡ true →
+    AllZip (AreFactsOf image settings ran plan) made.jobs (map (facts_in store sights (among (told_sources made.makers)) (forced_by settings ran)) made.jobs)
+facts_are image store sights made settings ran plan is seen summed own sources texts =
+    zip_each (AreFactsOf image settings ran plan) (facts_in store sights (among (told_sources made.makers)) (forced_by settings ran)) made.jobs
+    (each_two IsReady (λ (j : Job). has_path_texts j ≡ true)
+    (λ (j : Job). AreFactsOf image settings ran plan j (facts_in store sights (among (told_sources made.makers)) (forced_by settings ran) j))
+    (λ j ready text. job_is image store sights made.makers settings ran plan j is own (λ q at. source_seen image sights made.makers q seen.sources at) ready.0 ready.1 text)
+    made.jobs
+    (each_two (λ (j : Job). Each (IsTold image store sights made.makers settings ran plan) (in_paths j.recipe)) (λ (j : Job). Each (IsSummed image sights j) (in_paths j.recipe))
+    IsReady (λ j source sum. (source, sum)) made.jobs sources summed)
+    (each_tested has_path_texts made.jobs texts))
+  where
+    -- each input is told of as a source where it is one, and was digested where that is needed
+    IsReady : Job → Type 0
+    IsReady j = Each (IsTold image store sights made.makers settings ran plan) (in_paths j.recipe) × Each (IsSummed image sights j) (in_paths j.recipe)
 
 pub facts_so : FactsAreSo
-facts_so image settings ran plan made known seen is at own sources texts = facts_are image known seen made settings ran plan is at own sources texts
+facts_so image settings ran plan made known seen is at summed own sources texts = facts_are image known seen made settings ran plan is at summed own sources texts
 
 -- ## What forces a job
 

@@ -20,7 +20,7 @@ use Rattle.smk_world.specs.Calls.{stat_of}
 use Rattle.smk_world.specs.Trees.{Path, Each, among, below, outs_of, folders_of, folder_over, kind_in, is_folder_kind, are_members, is_path_text}
 use Rattle.smk_record.specs.declared.record.Member.{Member}
 use Rattle.smk_record.specs.declared.record.Record.{Record}
-use Rattle.smk_record.specs.Records.{are_none, are_rising, are_valid_members, is_earlier, is_valid, members_of, same_flag, same_member}
+use Rattle.smk_record.specs.Records.{are_none, are_rising, are_valid_members, is_earlier, is_format, is_in_format, is_valid, members_of, same_flag, same_member}
 use Rattle.smk_flow.specs.declared.job.Job.{Job}
 use Rattle.smk_store.specs.Images.{Image, content_of, is_directory, is_file, is_folder, is_whole, members_under, readable, record_at}
 use Rattle.smk_store.specs.Loading.{IsStoreOf}
@@ -59,9 +59,9 @@ all_equal (x ∷ xs) [] h = absurd (never_both false h refl)
 all_equal (x ∷ xs) (y ∷ ys) h = λ i.
     equal_members x y (and_first (same_member x y) (pointwise same_member xs ys) h) i ∷ all_equal xs ys (and_second (same_member x y) (pointwise same_member xs ys) h) i
 
-last_true : (a b c d e f g h : Bool) → list_all (λ (v : Bool). v) (a ∷ b ∷ c ∷ d ∷ e ∷ f ∷ g ∷ h ∷ []) ≡ true → h ≡ true
-last_true a b c d e f g true k = refl
-last_true a b c d e f g false k = grind arith
+eighth_true : (a b c d e f g h i : Bool) → list_all (λ (v : Bool). v) (a ∷ b ∷ c ∷ d ∷ e ∷ f ∷ g ∷ h ∷ i ∷ []) ≡ true → h ≡ true
+eighth_true a b c d e f g true i k = refl
+eighth_true a b c d e f g false i k = grind arith
 
 none_left : (ms : List Member) → are_none ms ≡ true → ms ≡ []
 none_left [] h = refl
@@ -78,9 +78,9 @@ members_by p ms false h = ap (are_valid_members p) (none_left ms h) ∙ no_membe
 valid_members : (r : Record) → is_valid r ≡ true → are_valid_members r.path r.members ≡ true
 valid_members r h =
     members_by r.path r.members (among (folders_of r.recipe) r.path)
-    (last_true (length r.stamps == length (in_paths r.recipe)) (among (out_paths r.recipe) r.path) (nat_le 1 r.made) (list_all (is_earlier r.made) r.stamps) (are_rising (map (λ w. w.name) r.recipe.wildcards))
+    (eighth_true (length r.stamps == length (in_paths r.recipe)) (among (out_paths r.recipe) r.path) (nat_le 1 r.made) (list_all (is_earlier r.made) r.stamps) (are_rising (map (λ w. w.name) r.recipe.wildcards))
     (list_all is_path_text (in_paths r.recipe)) (list_all is_path_text (out_paths r.recipe))
-    (if among (folders_of r.recipe) r.path then are_valid_members r.path r.members else are_none r.members) h)
+    (if among (folders_of r.recipe) r.path then are_valid_members r.path r.members else are_none r.members) (is_format r.format && list_all (is_in_format r.format) r.stamps) h)
 
 -- valid members rise
 rise_by : (p : Path) (ms : List Member) → are_valid_members p ms ≡ true → are_rising (member_names ms) ≡ true
@@ -128,16 +128,16 @@ module _ (image : Image) (store : List Known) (sights : List Sight) (is : IsStor
 
   -- an output that is seen as it stands
   whole_is : (p : Path) (kind : Kind) → IsSeenAs image sights p → is_whole_in store sights p kind ≡ is_whole image p kind
-  whole_is p Plain seen = ap (test_some (is_whole_sight (readable (kept_of (entry_of store p))) Plain)) seen ∙ file_by (image.node p)
+  whole_is p Plain seen = ap (test_some (is_whole_sight (readable (kept_of (entry_of store p))) Plain)) seen.1 ∙ file_by (image.node p)
   whole_is p FolderKind seen =
-      ap (test_some (is_whole_sight (readable (kept_of (entry_of store p))) FolderKind)) seen
+      ap (test_some (is_whole_sight (readable (kept_of (entry_of store p))) FolderKind)) seen.1
       ∙ ap (λ k. is_whole_sight (readable k) FolderKind (sight_of image p)) (kept_is image store is p)
       ∙ folder_by (image.node p) (record_at image p) p (members_under image p) (owned p)
 
   -- a file in a directory
   member_is : NamesAll image → (f q : Path) → IsSeenAs image sights f → is_under q f ≡ true → is_member_in sights q (directory_in store sights f) ≡ (is_whole image f FolderKind && is_file image q)
   member_is all f q seen under =
-      ap₂ (λ w ms. w && is_file_member ms (below f q)) (whole_is f FolderKind seen) (ap (λ (o : Option Sight). or_no_members (option_and_then (λ (s : Sight). s.members) o)) seen)
+      ap₂ (λ w ms. w && is_file_member ms (below f q)) (whole_is f FolderKind seen) (ap (λ (o : Option Sight). or_no_members (option_and_then (λ (s : Sight). s.members) o)) seen.1)
       ∙ go (is_whole image f FolderKind) refl
     where
       go : (b : Bool) → is_whole image f FolderKind ≡ b → (b && is_file_member (or_no_members (members_seen image f)) (below f q)) ≡ (b && is_file image q)
@@ -147,12 +147,12 @@ module _ (image : Image) (store : List Known) (sights : List Sight) (is : IsStor
           ∙ file_among image all f q under
 
   plain_is : (q : Path) → IsSeenAs image sights q → is_plain_in sights q ≡ is_file image q
-  plain_is q seen = ap (test_some (λ (s : Sight). is_file_stat s.stat)) seen ∙ file_by (image.node q)
+  plain_is q seen = ap (test_some (λ (s : Sight). is_file_stat s.stat)) seen.1 ∙ file_by (image.node q)
 
   -- the members that were seen of a directory rise
   sorted_is : (f : Path) → IsSeenAs image sights f → IsSorted sights (directory_in store sights f)
   sorted_is f seen = λ whole.
-      ap (λ (o : Option Sight). are_rising (member_names (or_no_members (option_and_then (λ (s : Sight). s.members) o)))) seen
+      ap (λ (o : Option Sight). are_rising (member_names (or_no_members (option_and_then (λ (s : Sight). s.members) o)))) seen.1
       ∙ listed_rise f (members_under image f) (is_folder image f) (are_valid_members f (members_under image f)) refl
 
 -- ## Directories of a job

@@ -1,10 +1,11 @@
 -- What a store and sights tell of jobs, with no word of an image: stamps, facts, what forces a job, and what is whole.
 use Rattle.std.specs.Prelude.{◌≡◌, ℕ, zero, suc, Bool, true, false, ◌&&◌, ◌||◌, not, List, [], ◌∷◌, map, bytes_eq, if◌then◌else◌, Option, Some, None, is_some}
 use Rattle.std.specs.List.{list_any, list_all, find, flat_map}
-use Rattle.std.specs.Option.{option_and_then}
+use Rattle.std.specs.Option.{option_and_then, option_or}
 use Rattle.std.specs.BTreeSet.{contains_text}
 use lib.Pointwise.{pointwise}
 use Rattle.smk_base.specs.Path.{is_under}
+use Rattle.smk_base.specs.declared.sum.Sum.{Sum as Digest}
 use Rattle.smk_world.specs.declared.event.Stat.{Stat}
 use Rattle.smk_world.specs.declared.event.Stat.TheVariants.{Nothing, File, Folder}
 use Rattle.smk_world.specs.declared.recipe.Kind.{Kind}
@@ -17,7 +18,7 @@ use Rattle.smk_world.specs.Trees.{Path, among, below, is_folder_kind, is_path_te
 use Rattle.smk_record.specs.declared.record.Member.{Member}
 use Rattle.smk_record.specs.declared.record.Record.{Record}
 use Rattle.smk_record.specs.declared.record.Stamp.{Stamp}
-use Rattle.smk_record.specs.declared.record.Stamp.TheVariants.{Time}
+use Rattle.smk_record.specs.declared.record.Stamp.TheVariants.{Time, Sum}
 use Rattle.smk_record.specs.Records.{is_valid, same_member, are_rising}
 use Rattle.smk_flow.specs.declared.job.Job.{Job}
 use Rattle.smk_store.specs.declared.store.Entry.{Entry}
@@ -88,27 +89,28 @@ abbrev pub product_in : List Known → Path → Option Stamp
 product_in store p =
     if is_some (readable (kept_of (entry_of store p))) then stamp_by (entry_of store p) else nearest store None (folders_above p)
 
--- the time of a file
-abbrev pub time_by : Stat → Option ℕ
-time_by Nothing = None
-time_by (File time read_only) = Some time
-time_by Folder = None
+-- the stamp of a source of this time, with its digest where that was taken
+abbrev pub stamp_with : ℕ → Option Digest → Stamp
+stamp_with t None = Time t
+stamp_with t (Some d) = Sum t d
 
-abbrev pub time_seen : Option Sight → Option ℕ
-time_seen None = None
-time_seen (Some s) = time_by s.stat
+-- the stamp of a file
+abbrev pub file_stamp : Stat → Option Digest → Option Stamp
+file_stamp Nothing sum = None
+file_stamp (File time read_only) sum = Some (stamp_with time sum)
+file_stamp Folder sum = None
 
--- the time of a path that is told to be a source, where it is one
-abbrev pub time_in : List Known → List Sight → Bool → Path → Option ℕ
-time_in store sights told p = if told && not (is_covered_in store p) then time_seen (sight_at sights p) else None
+abbrev pub stamp_seen : Option Sight → Option Stamp
+stamp_seen None = None
+stamp_seen (Some s) = file_stamp s.stat s.sum
 
-abbrev pub time_or : Option ℕ → Option Stamp → Option Stamp
-time_or None stamp = stamp
-time_or (Some t) stamp = Some (Time t)
+-- the stamp of a path that is told to be a source, where it is one
+abbrev pub source_in : List Known → List Sight → Bool → Path → Option Stamp
+source_in store sights told p = if told && not (is_covered_in store p) then stamp_seen (sight_at sights p) else None
 
 -- the stamp now, where these paths are told to be sources
 abbrev pub stamp_in : List Known → List Sight → (Path → Bool) → Path → Option Stamp
-stamp_in store sights told p = time_or (time_in store sights (told p) p) (product_in store p)
+stamp_in store sights told p = option_or (source_in store sights (told p) p) (product_in store p)
 
 -- ## What forces a job
 

@@ -60,7 +60,7 @@ fn record_again(alloc: Global, held: &Record) -> Result<Kept, OutOfMemory>
     let recipe = held.recipe().copied(alloc)?;
     let stamps = stamps_again(alloc, held.stamps().as_slice())?;
     let members = members_again(alloc, held.members().as_slice())?;
-    Ok(kept_by(Record::new(path, held.made(), recipe, stamps, members)))
+    Ok(kept_by(Record::of(held.format(), path, held.made(), recipe, stamps, members)))
 }
 
 /// A copy of what is kept; a record only where it is valid. `OutOfMemory` where there is no memory for it.

@@ -1,14 +1,15 @@
 //! The facts of jobs.
 
 ghost use Rattle.std.specs.Prelude.{◌≡◌, ◌++◌, map, IfOk, OnOk, true};
-ghost use Rattle.std.specs.List.{flat_map, list_all};
+ghost use Rattle.std.specs.List.{flat_map, list_all, AllZip};
 ghost use Rattle.std.specs.BTreeSet.{contains_text};
 ghost use Rattle.smk_world.specs.Trees.{among, is_path_text};
 ghost use Rattle.smk_store.specs.Images.{Image};
 ghost use Rattle.smk_store.specs.Loading.{IsStoreOf};
 ghost use Rattle.smk_plan.specs.Sights.{IsSeenOf};
 ghost use Rattle.smk_plan.specs.States.{Plan};
-ghost use Rattle.smk_plan_facts.specs.Facts.{facts_of, told_sources, HasOwnRecords, TellSources};
+ghost use Rattle.smk_plan.specs.Summed.{AreSummed};
+ghost use Rattle.smk_plan_facts.specs.Facts.{told_sources, AreFactsOf, HasOwnRecords, TellSources};
 ghost use Rattle.smk_plan_facts.specs.Telling.{copied_at, facts_in, forced_by, forced_in, has_path_texts, marked_at, stamp_in};
 
 use crate::copies::copy_at;
@@ -242,7 +243,9 @@ pub fn forced_of(alloc: Global, facts: &[JobFacts]) -> Result<List<bool>, OutOfM
 /// with the first outputs `ran` have begun in this run and none runs. `OutOfMemory` where there is no memory for them.
 ///
 /// The store and what is seen of the outputs and sources are those of one image of the folder, whose records are valid and their paths' own; and the makers of
-/// the jobs tell of each source among the inputs. The time is near linear in the number of outputs, inputs, makers and targets, and in the length of the records.
+/// the jobs tell of each source among the inputs. A source was seen with its SHA-256 where a record of the job has it with one and another time, if it is small
+/// enough for that: else its time alone is told, from which the same reasons follow. The time is near linear in the number of outputs, inputs, makers and
+/// targets, and in the length of the records.
 pub fn facts(
     alloc: Global,
     jobs: &Jobs,
@@ -251,8 +254,8 @@ pub fn facts(
     settings: &Settings,
     ran: &List<PathText>,
 ) -> Result<List<JobFacts>, OutOfMemory>
-    ensures { IfOk result (λ found. (image : Image) (plan : Plan) → IsStoreOf image store.now → IsSeenOf image jobs.now seen.now → HasOwnRecords image
-        → TellSources image jobs.now → found ≡ map (facts_of image settings.now ran.now plan) jobs.now.jobs) }
+    ensures { IfOk result (λ found. (image : Image) (plan : Plan) → IsStoreOf image store.now → IsSeenOf image jobs.now seen.now → AreSummed image jobs.now seen.now
+        → HasOwnRecords image → TellSources image jobs.now → AllZip (AreFactsOf image settings.now ran.now plan) jobs.now.jobs found) }
 {
     facts_told(alloc, jobs, &Loaded { store, seen }, settings, ran)
 }

@@ -8,10 +8,10 @@ ghost use Rattle.smk_world.specs.Trees.{Path, among};
 ghost use Rattle.smk_store.specs.Stores.{entry_of};
 ghost use Rattle.smk_store.specs.Trust.{is_folder_record, made_stamp};
 ghost use Rattle.smk_plan_facts.specs.Facts.{told_sources};
-ghost use Rattle.smk_plan_facts.specs.Telling.{is_directory_at, makes_directory_at, nearer, nearest, product_in, stamp_in, time_by, time_in, time_seen};
+ghost use Rattle.smk_plan_facts.specs.Telling.{is_directory_at, makes_directory_at, nearer, nearest, product_in, file_stamp, source_in, stamp_in, stamp_seen, stamp_with};
 
 use crate::known::{is_marked, record_at};
-use smk_base::{List, OutOfMemory, PathText};
+use smk_base::{List, OutOfMemory, PathText, Sum};
 use smk_chain::Maker;
 use smk_chain::sets::put;
 use smk_choose::folders_above;
@@ -148,35 +148,45 @@ fn product_stamp<T: Told>(
     stamp_above(alloc, told, path)
 }
 
-// The time of a file.
-fn time_of(stat: Stat) -> Option<u64>
-    ensures { result ≡ time_by stat }
+// The stamp of a source of this time, with its digest where that was taken.
+fn stamp_with(time: u64, sum: Option<Sum>) -> Stamp
+    ensures { result ≡ stamp_with time sum }
+{
+    match sum {
+        None => Stamp::Time(time),
+        Some(sum) => Stamp::Sum(time, sum),
+    }
+}
+
+// The stamp of a file.
+fn file_stamp(stat: Stat, sum: Option<Sum>) -> Option<Stamp>
+    ensures { result ≡ file_stamp stat sum }
 {
     match stat {
         Stat::Nothing => None,
-        Stat::File { time, .. } => Some(time),
+        Stat::File { time, .. } => Some(stamp_with(time, sum)),
         Stat::Folder => None,
     }
 }
 
-// The time of the file that was seen.
-fn time_seen(sight: Option<&Sight>) -> Option<u64>
-    ensures { result ≡ time_seen (option_map (λ s. s.now) sight.entry) }
+// The stamp of the file that was seen.
+fn stamp_seen(sight: Option<&Sight>) -> Option<Stamp>
+    ensures { result ≡ stamp_seen (option_map (λ s. s.now) sight.entry) }
 {
     match sight {
         None => None,
-        Some(sight) => time_of(sight.stat),
+        Some(sight) => file_stamp(sight.stat, sight.sum),
     }
 }
 
-// The time of the path, where it is listed as a source and is one.
-fn source_time<T: Told>(
+// The stamp of the path, where it is listed as a source and is one.
+fn source_stamp<T: Told>(
     alloc: Global,
     told: &T,
     listed: bool,
     path: &PathText,
-) -> Result<Option<u64>, OutOfMemory>
-    ensures { IfOk result (λ time. time ≡ time_in (T.known told.now) (T.seen told.now) listed path.now) }
+) -> Result<Option<Stamp>, OutOfMemory>
+    ensures { IfOk result (λ stamp. stamp ≡ source_in (T.known told.now) (T.seen told.now) listed path.now) }
 {
     if !listed {
         return Ok(None);
@@ -185,10 +195,11 @@ fn source_time<T: Told>(
     if covered {
         return Ok(None);
     }
-    Ok(time_seen(told.sight(path)))
+    Ok(stamp_seen(told.sight(path)))
 }
 
-/// The stamp of the path now, where these are the paths that no job makes: of a source its time, of a product the serial of the record that speaks for it.
+/// The stamp of the path now, where these are the paths that no job makes: of a source its time, with its SHA-256 where that was taken as the path was seen; of
+/// a product the serial of the record that speaks for it.
 /// `OutOfMemory` where there is no memory to tell it. The time is that of a few questions to who tells what is known, and one for each folder above a product
 /// that has no record of its own.
 pub fn stamp_now<T: Told>(
@@ -199,9 +210,9 @@ pub fn stamp_now<T: Told>(
 ) -> Result<Option<Stamp>, OutOfMemory>
     ensures { IfOk result (λ stamp. stamp ≡ stamp_in (T.known told.now) (T.seen told.now) (contains_text sources.now) path.now) }
 {
-    let time = source_time(alloc, told, sources.contains(path.as_str()), path)?;
-    match time {
-        Some(time) => Ok(Some(Stamp::Time(time))),
+    let source = source_stamp(alloc, told, sources.contains(path.as_str()), path)?;
+    match source {
+        Some(stamp) => Ok(Some(stamp)),
         None => product_stamp(alloc, told, path),
     }
 }

@@ -1,16 +1,16 @@
 -- What the facts of jobs tell of them at any moment, where no path has a mark that doesn't count.
 use Rattle.std.proofs.Common.{◌≡◌, Bool, true, false, not, ◌&&◌, List, [], ◌++◌, map, Option, None, refl, sym, ap, ◌∙◌}
 use Rattle.std.specs.Prelude.{if◌then◌else◌}
+use Rattle.std.specs.List.{AllZip}
 use Rattle.std.specs.Option.{option_and_then}
 use Rattle.std.proofs.Math.Bool.{and-true, and-false}
-use Rattle.smk_choose.proofs.Listed.{map_map}
 use Rattle.smk_plan_table.proofs.Told.{zip_same}
 use Rattle.smk_world.specs.World.{in_paths, out_paths}
 use Rattle.smk_world.specs.Trees.{Path}
 use Rattle.smk_record.specs.declared.record.Stamp.{Stamp}
 use Rattle.smk_flow.specs.declared.job.Job.{Job}
 use Rattle.smk_store.specs.Images.{Image, core_at, is_source, source_at}
-use Rattle.smk_store.specs.Trust.{holder, is_marked_but, made_stamp, stamp_now, stamp_now_but, time_stamp}
+use Rattle.smk_store.specs.Trust.{holder, is_marked_but, made_stamp, stamp_now, stamp_now_but, source_stamp}
 use Rattle.smk_chain.specs.declared.jobs.Jobs.{Jobs}
 use Rattle.smk_trigger.specs.declared.facts.JobFacts.{JobFacts}
 use Rattle.smk_trigger.specs.declared.reason.Reason.{Reason}
@@ -18,7 +18,8 @@ use Rattle.smk_trigger.specs.declared.reason.Reason.TheVariants.{Forced}
 use Rattle.smk_trigger.specs.Reasons.{own_reasons, when, reasons_of}
 use Rattle.smk_pick.specs.declared.settings.Settings.{Settings}
 use Rattle.smk_plan.specs.States.{Progress, is_forced, is_restored}
-use Rattle.smk_plan_facts.specs.Facts.{facts_of}
+use Rattle.smk_plan_facts.specs.Facts.{facts_of, AreFactsOf}
+use Rattle.smk_plan_facts.proofs.Reasoned.{all_reasons_as, all_forced_as}
 use Rattle.smk_plan_states.specs.Judged.{with_states, reasons_now}
 
 -- ## Marks that don't count
@@ -33,7 +34,7 @@ module _ (image : Image) (left_out : Path → Bool) (none : (q : Path) → left_
 
   pub stamp_same : (q : Path) → stamp_now_but image left_out q ≡ stamp_now image q
   stamp_same q = λ i.
-      if is_source image q then time_stamp (source_at image q)
+      if is_source image q then source_stamp (source_at image q)
       else option_and_then (λ h. if mark_same h i then None else made_stamp (core_at image h)) (holder image q)
 
 -- ## Reasons and force
@@ -61,12 +62,11 @@ module _
       (map (λ q. (q, stamp_same image restored none q i)) (in_paths j.recipe)))
 
   -- The reasons by the facts of jobs are those of this moment.
-  pub reasons_are : (facts : List JobFacts) → facts ≡ map facts_then jobs.jobs → map reasons_of facts ≡ map (reasons_now image settings progress jobs) jobs.jobs
-  reasons_are facts are =
-      ap (map reasons_of) are ∙ map_map reasons_of facts_then jobs.jobs ∙ (λ i. map (λ j. reasons_same j i) jobs.jobs)
+  pub reasons_are : (facts : List JobFacts) → AllZip (AreFactsOf image settings progress.begun (with_states jobs [])) jobs.jobs facts → map reasons_of facts ≡ map (reasons_now image settings progress jobs) jobs.jobs
+  reasons_are facts are = all_reasons_as image settings progress.begun (with_states jobs []) jobs.jobs facts are ∙ (λ i. map (λ j. reasons_same j i) jobs.jobs)
 
   -- The facts tell which jobs are forced at this moment.
   pub forced_are :
-      (facts : List JobFacts) → facts ≡ map facts_then jobs.jobs →
+      (facts : List JobFacts) → AllZip (AreFactsOf image settings progress.begun (with_states jobs [])) jobs.jobs facts →
       map (λ (f : JobFacts). f.forced) facts ≡ map (is_forced image settings progress (with_states jobs [])) jobs.jobs
-  forced_are facts are = ap (map (λ (f : JobFacts). f.forced)) are ∙ map_map (λ (f : JobFacts). f.forced) facts_then jobs.jobs
+  forced_are facts are = all_forced_as image settings progress.begun (with_states jobs []) jobs.jobs facts are

@@ -5,7 +5,7 @@ use Rattle.std.specs.List.{list_any, slice_get}
 use Rattle.std.specs.BTreeMap.{get_by_text}
 use Rattle.std.proofs.Math.Bool.{and-true}
 use Rattle.smk_world.specs.declared.recipe.Out.{Out}
-use Rattle.smk_world.specs.World.{folders_above}
+use Rattle.smk_world.specs.World.{folders_above, in_paths}
 use Rattle.smk_world.specs.Trees.{Path, Each, outs_of}
 use Rattle.smk_flow.specs.declared.job.Job.{Job}
 use Rattle.smk_store.specs.Images.{Image, is_known, stands}
@@ -17,6 +17,7 @@ use Rattle.smk_pick.specs.declared.settings.Settings.{Settings}
 use Rattle.smk_plan.specs.declared.fault.PlanFault.{PlanFault}
 use Rattle.smk_plan.specs.declared.seen.Sight.{Sight}
 use Rattle.smk_plan.specs.Sights.{IsSeenOf, IsSeenAs, IsSourceSeen, sight_at}
+use Rattle.smk_plan.specs.Summed.{AreSummed, IsSummed}
 use Rattle.smk_plan.specs.States.{test_some}
 use Rattle.smk_plan_facts.specs.Facts.{having_run}
 use Rattle.smk_plan_facts.proofs.Tests.{each_of}
@@ -98,9 +99,14 @@ module _ (b : Base) (jobs : Jobs) (store : List Known) (seen : List Sight) (f : 
       subst (λ (js : Jobs). IsSeenOf image js (seen_now b)) (sym f.now)
       (record {
         outputs = each_of (λ (j : Job). Each (λ (o : Out). IsSeenAs image seen o.path) (outs_of j.recipe)) (λ (j : Job). Each (λ (o : Out). IsSeenAs image (seen_now b) o.path) (outs_of j.recipe))
-            (λ j. each_of (λ (o : Out). IsSeenAs image seen o.path) (λ (o : Out). IsSeenAs image (seen_now b) o.path) (λ o e. sight_first o.path ∙ e) (outs_of j.recipe)) jobs.jobs h.outputs;
-        sources = each_of (IsSourceSeen image seen) (IsSourceSeen image (seen_now b)) (λ m g none. sight_first m.path ∙ g none) jobs.makers h.sources;
+            (λ j. each_of (λ (o : Out). IsSeenAs image seen o.path) (λ (o : Out). IsSeenAs image (seen_now b) o.path) (λ o e. (e.0, sight_first o.path ∙ e.1, e.2)) (outs_of j.recipe)) jobs.jobs h.outputs;
+        sources = each_of (IsSourceSeen image seen) (IsSourceSeen image (seen_now b)) (λ m g none. let e = g none in (e.0, sight_first m.path ∙ e.1, e.2)) jobs.makers h.sources;
       })
+
+  summed_so : AreSummed image jobs seen → AreSummed image jobs (seen_now b)
+  summed_so h =
+      each_of (λ (j : Job). Each (IsSummed image seen j) (in_paths j.recipe)) (λ (j : Job). Each (IsSummed image (seen_now b) j) (in_paths j.recipe))
+      (λ j. each_of (IsSummed image seen j) (IsSummed image (seen_now b) j) (λ q told source at small needs. ap (test_some (λ (s : Sight). is_some s.sum)) (sight_first q) ∙ told source at small needs) (in_paths j.recipe)) jobs.jobs h
 
   -- what agrees with the store and with what was seen agrees with the plan that begins
   pub agrees_first : (settings : Settings) → Agree image jobs store seen settings.targets → IsAgreed image settings b
@@ -111,6 +117,7 @@ module _ (b : Base) (jobs : Jobs) (store : List Known) (seen : List Sight) (f : 
         recorded = a.recorded;
         stored = stored_so a.stored;
         sighted = subst (λ (js : Jobs). IsSeenOf image js (seen_now b)) f.now (seen_so a.sighted);
+        summed = summed_so a.summed;
         served = a.served;
         made = a.made;
         read = a.read;

@@ -1,7 +1,7 @@
 -- What the jobs are judged by at any moment.
-use Rattle.std.proofs.Common.{◌≡◌, Bool, true, false, cond, List, [], ◌∷◌, map, Option, Some, option_map, refl, ◌∙◌}
+use Rattle.std.proofs.Common.{◌≡◌, Bool, true, false, cond, List, [], ◌∷◌, map, Option, Some, option_map, refl, sym, subst, ◌∙◌}
 use Rattle.std.specs.Prelude.{bytes_eq}
-use Rattle.std.specs.List.{find}
+use Rattle.std.specs.List.{AllZip, find}
 use Rattle.smk_world.specs.Trees.{Path}
 use Rattle.smk_flow.specs.declared.job.Job.{Job}
 use Rattle.smk_store.specs.Images.{Image}
@@ -12,7 +12,7 @@ use Rattle.smk_pick.specs.declared.settings.Settings.{Settings}
 use Rattle.smk_plan.specs.declared.wholes.Wholes.{Wholes}
 use Rattle.smk_plan.specs.Sights.{wholes_of}
 use Rattle.smk_plan.specs.States.{job_path, kept_state}
-use Rattle.smk_plan_facts.specs.Facts.{facts_of}
+use Rattle.smk_plan_facts.specs.Facts.{AreFactsOf}
 use Rattle.smk_plan_facts.specs.Laws.{FactsAreSo, WholesAreSo}
 use Rattle.smk_plan_states.specs.Judged.{AreJudged, with_states}
 use Rattle.smk_plan_live.specs.declared.base.Base.{Base}
@@ -53,9 +53,9 @@ module _ (facts_law : FactsAreSo) (wholes_law : WholesAreSo) (b : Base) (setting
       (running : List (Option State)) → running ≡ map (λ (j : Job). named_state (children_in b.jobs.jobs b.began) (job_path j)) b.jobs.jobs →
       AreJudged (judging_of image settings b) b.jobs (record { reasons = reasons; forced = forced; running = running })
   judged_now facts reasons forced judged running runs =
-      let are : facts ≡ map (facts_of image settings (begun_in b.jobs.jobs b.phases) (with_states b.jobs [])) b.jobs.jobs =
-      judged.facts_are agree.served
-      ∙ facts_law image settings (begun_in b.jobs.jobs b.phases) (with_states b.jobs []) b.jobs (known_now b) (seen_now b) agree.stored agree.sighted agree.recorded agree.read judged.texts
+      let are : AllZip (AreFactsOf image settings (begun_in b.jobs.jobs b.phases) (with_states b.jobs [])) b.jobs.jobs facts =
+      subst (AllZip (AreFactsOf image settings (begun_in b.jobs.jobs b.phases) (with_states b.jobs [])) b.jobs.jobs) (sym (judged.facts_are agree.served))
+      (facts_law image settings (begun_in b.jobs.jobs b.phases) (with_states b.jobs []) b.jobs (known_now b) (seen_now b) agree.stored agree.sighted agree.summed agree.recorded agree.read judged.texts)
       in let none = unmarked b judged.sound image settings agree in
       record {
         reasons = judged.told ∙ reasons_are image settings (progress_of b) b.jobs none facts are;

@@ -2,6 +2,7 @@
 use Rattle.std.proofs.Common.{◌≡◌, ℕ, zero, suc, ◌+◌, ◌<◌, Bool, true, false, not, ◌&&◌, ◌||◌, ◌==◌, List, [], ◌∷◌, ◌++◌, map, length, drop, Option, Some, None, refl, sym, ap, ap₂, subst, ◌∙◌, arith, inl, inr, bytes_eq}
 use Rattle.std.specs.Prelude.{if◌then◌else◌, is_some, ◌⊎◌}
 use Rattle.std.specs.List.{list_any, flat_map}
+use Rattle.std.specs.Option.{option_or}
 use Rattle.std.proofs.lemmas.List.{drop_more, map-append}
 use Rattle.std.proofs.Math.ListN.{get_or}
 use Rattle.std.proofs.lemmas.Bool.{eqb-true, eqb-false, eq-eqb, or_parts}
@@ -27,7 +28,7 @@ use Rattle.smk_store.specs.Stores.{Known, entry_of}
 use Rattle.smk_trigger.specs.declared.facts.JobFacts.{JobFacts}
 use Rattle.smk_plan.specs.declared.seen.Sight.{Sight}
 use Rattle.smk_plan.specs.Sights.{job_at}
-use Rattle.smk_plan_facts.specs.Telling.{kept_of, mark_of, copied, copied_at, marked_at, stamp_by, nearer, nearest, time_or, time_seen, stamp_in, facts_in}
+use Rattle.smk_plan_facts.specs.Telling.{kept_of, mark_of, copied, copied_at, marked_at, stamp_by, nearer, nearest, stamp_seen, stamp_in, facts_in}
 use Rattle.smk_plan_facts.proofs.Tests.{map_each}
 use Rattle.smk_plan_states.specs.Served.{AreApart, outputs_of}
 use Rattle.smk_plan_live.specs.Same.{paths_in, is_over, is_user, AreSameBut, or_old, merged, restamp, restamped, user_facts, renewed_of, renewed_from, renewed}
@@ -170,7 +171,7 @@ module _ (outs : List Out) (old new : List Known) (saw sees : List Sight) (same 
       let covered = any_same (q ∷ folders_above q) (entry, above) in
       let near = nearest_same (folders_above q) None above in
       λ i.
-      time_or (if told q && not (covered i) then time_seen (sight i) else None)
+      option_or (if told q && not (covered i) then stamp_seen (sight i) else None)
       (if is_some (readable (kept_of (entry i))) then stamp_by (entry i) else near i)
 
   each_stamp : (ps : List Path) → Each (λ q. is_over outs q ≡ false) ps → Each (λ q. stamp_in new sees told q ≡ stamp_in old saw told q) ps

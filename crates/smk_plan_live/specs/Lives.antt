@@ -38,8 +38,8 @@ abbrev pub facts_now : Settings → Base → List JobFacts
 facts_now settings b =
     map (facts_in (known_now b) (seen_now b) (among (told_sources b.jobs.makers)) (forced_by settings (begun_in b.jobs.jobs b.phases))) b.jobs.jobs
 
--- The image has what is known and was seen now. A mark of what is being restored isn't known, so the image has none there: it stands for a folder without
--- those marks.
+-- The image has what is known and was seen now, and each source of which a record needs the digest was seen with it. A mark of what is being restored isn't
+-- known, so the image has none there: it stands for a folder without those marks.
 abbrev pub IsAgreed : Image → Settings → Base → Type 0
 IsAgreed image settings b = Agree image b.jobs (known_now b) (seen_now b) settings.targets
 

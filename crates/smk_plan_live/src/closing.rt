@@ -113,6 +113,8 @@ impl LivePlan {
     /// The judge is asked once about the closed job and once about each job that reads at or under an output of it, and about no other. The plan is told anew of all
     /// jobs, and what is whole too, so the time is linear in the jobs and what they read and make.
     ///
+    /// A source that these entries have with a SHA-256 and another time than it was seen with counts as updated until a sight with its digest comes.
+    ///
     /// The faults are those of a plan of that moment: the first thing that is refused of it, or `OutOfMemory` where there is no memory for all this. After any of
     /// them nothing is changed.
     pub fn closed<J: Judge>(

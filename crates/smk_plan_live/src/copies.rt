@@ -57,6 +57,7 @@ pub(crate) fn sight_again(alloc: Global, sight: &Sight) -> Result<Sight, OutOfMe
         stat: sight.stat,
         members: members_if_any(alloc, &sight.members)?,
         guarded: sight.guarded,
+        sum: sight.sum,
     })
 }
 

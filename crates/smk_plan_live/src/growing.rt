@@ -87,6 +87,10 @@ impl LivePlan {
     /// old one is Open: it has come as far as the old one had, and runs as that did. The store was loaded anew, and counts for the outputs of jobs that are new and
     /// for paths that aren't outputs; what is fresh are sights of the outputs of new jobs, and of sources that have none yet.
     ///
+    /// A fresh sight takes the place of the one that came before. So there is also one, with its digest as `look` takes it, of each source input of a new or changed
+    /// job that a record has with a SHA-256 and another time, where the sight that came last has no digest. A source of which that is left out counts as updated, and
+    /// the contract tells nothing of the folder then.
+    ///
     /// All jobs are judged anew, in several threads where there are many. The faults are those of a plan of that moment: the first thing that is refused of it, or
     /// `OutOfMemory` where there is no memory for all this. After any of them nothing is changed.
     pub fn grow<Rt: Threads + Sync>(

@@ -186,7 +186,8 @@ impl LivePlan {
     /// The plan of these jobs, none of which has begun, to be kept.
     ///
     /// The faults are those of a plan: the first thing that is refused of it, or `OutOfMemory` where there is no memory for it. What the store has, what was
-    /// seen and what the makers of the jobs tell is so in one image of the folder.
+    /// seen and what the makers of the jobs tell is so in one image of the folder; and each source input that a record of its job has with a SHA-256 and another
+    /// time was seen with its digest, where it is small enough for one.
     pub fn new<Rt: Threads + Sync>(
         rt: &Rt,
         alloc: Global,

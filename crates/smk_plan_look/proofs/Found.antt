@@ -9,7 +9,10 @@ use Rattle.smk_store.specs.Unowned.{IsUnownedUnder}
 use Rattle.smk_store_members.proofs.Lists.{each_both}
 use Rattle.smk_plan.specs.declared.seen.Sight.{Sight}
 use Rattle.smk_plan.specs.declared.fault.LookFault.{LookFault}
-use Rattle.smk_plan_look.specs.Seeing.{IsSightOf, are_paths, look_fault, look_failed}
+use Rattle.smk_digest.specs.declared.fault.SumFault.{SumFault}
+use Rattle.smk_digest.specs.declared.fault.SumFault.TheVariants.{Device as NoDevice, OutOfMemory as NoSpace}
+use Rattle.smk_digest.specs.Digests.{sum_failed}
+use Rattle.smk_plan_look.specs.Seeing.{IsSightOf, are_paths, look_fault, look_failed, work_fault}
 
 paths_append : (sights : List Sight) (s : Sight) → are_paths (sights ++ s ∷ []) ≡ are_paths sights ++ s.path ∷ []
 paths_append [] s = refl
@@ -35,3 +38,7 @@ sight_pushed a b sights new s path pushed is same told each =
 pub failed_as : (T U : Type 0) (fault : WorkFault) (f : LookFault) → f ≡ look_fault fault → device_failed {T = T} (Err fault) ≡ look_failed {T = U} (Err f)
 failed_as T U Failed f is = sym (ap (λ (x : LookFault). look_failed {T = U} (Err x)) is)
 failed_as T U OutOfMemory f is = sym (ap (λ (x : LookFault). look_failed {T = U} (Err x)) is)
+
+pub sum_failed_as : (T U : Type 0) (fault : SumFault) (f : WorkFault) → f ≡ work_fault fault → sum_failed {T = T} (Err fault) ≡ device_failed {T = U} (Err f)
+sum_failed_as T U NoDevice f is = sym (ap (λ (x : WorkFault). device_failed {T = U} (Err x)) is)
+sum_failed_as T U NoSpace f is = sym (ap (λ (x : WorkFault). device_failed {T = U} (Err x)) is)

@@ -1,41 +1,55 @@
 -- What is seen, as the image of the folder has it.
-use Rattle.std.proofs.Common.{◌≡◌, ◌≢◌, inl, inr, ℕ, arith, Bool, true, false, ◌&&◌, ◌||◌, not, cond, List, [], ◌∷◌, ◌++◌, map, filter, refl, sym, ap, subst, ◌∙◌, Option, Some, None, bytes_eq}
-use Rattle.std.specs.Prelude.{is_some, if◌then◌else◌}
-use Rattle.std.specs.List.{list_any, find, flat_map}
+use Rattle.std.proofs.Common.{◌≡◌, ◌≢◌, inl, inr, ℕ, Bool, true, false, ◌&&◌, ◌||◌, not, cond, List, [], ◌∷◌, ◌++◌, map, filter, refl, sym, ap, subst, ◌∙◌, Option, Some, None, bytes_eq}
+use Rattle.std.specs.Prelude.{is_some, is_none, if◌then◌else◌, option_map}
+use Rattle.std.specs.List.{AllZip, list_any, find, flat_map}
+use Rattle.std.specs.Option.{option_and_then}
 use Rattle.smk_base.specs.Path.{is_path, is_under, is_at_or_under, own_folder}
 use Rattle.smk_base.proofs.Apart.{path_outside, outside-own}
 use Rattle.smk_base.proofs.Places.{and_first, and_second, same_place, same_flipped}
 use Rattle.smk_base.proofs.Under.{never_both, false_unless, or_cases, or_first, or_second, both_true, under_folder, rest_under, under_further, at_itself, at_when_under}
+use Rattle.smk_base.specs.declared.sum.Sum.{Sum as Digest}
 use Rattle.smk_world.specs.declared.event.Node.{Node}
+use Rattle.smk_world.specs.declared.event.Node.TheVariants.{Regular, Directory}
 use Rattle.smk_world.specs.declared.event.NodeState.TheVariants.{Owned}
 use Rattle.smk_world.specs.declared.recipe.Out.{Out}
 use Rattle.smk_world.specs.declared.recipe.OutItem.{OutItem}
-use Rattle.smk_world.specs.World.{World, IsFormed, is_named, reading, reads_folder}
+use Rattle.smk_world.specs.World.{World, IsFormed, in_paths, is_named, reading, reads_folder}
 use Rattle.smk_world.specs.Calls.{in_folder, stat_of}
+use Rattle.smk_world.specs.Devices.{Device}
 use Rattle.smk_world.specs.Folders.{IsTree}
-use Rattle.smk_world.specs.Trees.{Path, Each, IsIn, is_path_text, is_text, below, outs_of}
+use Rattle.smk_world.specs.Trees.{Path, Each, IsIn, among, is_path_text, is_text, below, outs_of}
 use Rattle.smk_record.specs.declared.record.Member.{Member}
 use Rattle.smk_record.specs.declared.record.Record.{Record}
 use Rattle.smk_record.specs.Records.{are_valid_members}
 use Rattle.smk_flow.specs.declared.job.Job.{Job}
-use Rattle.smk_store.specs.Images.{Image, Content, content_of, is_directory, is_folder, is_outside, names_under, members_under, seen}
+use Rattle.smk_store.specs.declared.store.Kept.{Kept}
+use Rattle.smk_store.specs.Images.{Image, Content, content_of, file_at, is_covered, is_directory, is_folder, is_outside, is_source, names_under, members_under, seen}
+use Rattle.smk_store.specs.Loading.{IsStoreOf}
+use Rattle.smk_store.specs.Stores.{Known, is_covered_in}
+use Rattle.smk_store.specs.Trust.{is_summed, sum_of}
 use Rattle.smk_store.specs.Walking.{texts_of}
 use Rattle.smk_store.proofs.Loads.{named_filter, contains_named}
+use Rattle.smk_digest.specs.Digests.{AreSums, IsSum, sum_in}
 use Rattle.smk_chain.specs.declared.jobs.Jobs.{Jobs}
 use Rattle.smk_chain.specs.declared.jobs.Maker.{Maker}
 use Rattle.smk_store_members.specs.Members.{Nodes, IsFound, member_places, IsThere, AreMembers}
 use Rattle.smk_store_members.specs.Members.IsFound.{Inside, Deeper}
 use Rattle.smk_store.specs.Unowned.{IsUnownedUnder}
-use Rattle.smk_store_members.proofs.Lists.{each_both, each_more, each_unmap}
+use Rattle.smk_store_members.proofs.Lists.{each_both, each_more, each_unmap, each_zip}
 use Rattle.smk_store_members.proofs.Trees.{some_stands, stands_some, tree_found}
 use Rattle.smk_store_members.proofs.Under.{same_members, folder_read, below_in, found_stands}
 use Rattle.smk_plan.specs.declared.seen.Sight.{Sight}
 use Rattle.smk_plan.specs.States.{test_some}
-use Rattle.smk_plan.specs.Sights.{is_tellable, is_guarded, members_seen, sight_of, IsSeenAs, IsSourceSeen, IsSeenOf}
+use Rattle.smk_plan.specs.Sights.{is_tellable, is_guarded, members_seen, sight_at, sight_of, HasSum, IsSeenAs, IsSourceSeen, IsSeenOf}
+use Rattle.smk_plan.specs.Summed.{needs_sum, kept_in, records_by, is_seen_summed, IsSummed, AreSummed}
 use Rattle.smk_plan_look.specs.Gathering.{Texts, IsHeld, item_paths, job_paths, source_path, unless_made, wanted}
-use Rattle.smk_plan_look.specs.Seeing.{TellsGuard, IsListedAs, IsSightOf, IsSeenUnowned, AreSeenUnowned, are_paths}
+use Rattle.smk_plan_look.specs.Needs.{AreSpared, asks_for, is_needed, needs_digest, time_by, time_seen}
+use Rattle.smk_plan_look.specs.Putting.{HavePut, paths_where, put_sums}
+use Rattle.smk_plan_look.specs.Seeing.{TellsGuard, IsListedAs, IsPlain, ArePlain, IsSightOf, IsSeenUnowned, AreSeenUnowned, IsSummedUnowned, AreSummedUnowned, are_paths}
 use Rattle.smk_plan_look.proofs.Waiting.{guard_some}
 use Rattle.smk_plan_look.proofs.Found.{TellsUnowned}
+use Rattle.smk_plan_look.proofs.Placed.{IsPut, put_at, put_spared, put_time}
+use Rattle.smk_plan_look.proofs.Stored.{any_in, each_in, file_time, kept_same, named_in, some_sum, source_file, source_is}
 
 -- ## Lists
 
@@ -204,7 +218,7 @@ module _ (read : List ℕ → Option Record) (w : World) (formed : IsFormed w) (
       let stat : s.stat ≡ stat_of (image.node p) = h.stat ∙ sym (ap stat_of (node_is p p path (at_itself p))) in
       let members : s.members ≡ members_seen image p = members_are p s path h (reads_folder (w.nodes p)) refl in
       let guarded : s.guarded ≡ is_guarded image p = guarded_is p s.guarded path h.guarded in
-      λ i. record { path = h.path i; stat = stat i; members = members i; guarded = guarded i }
+      λ i. record { path = h.path i; stat = stat i; members = members i; guarded = guarded i; sum = h.unsummed i }
 
   -- what was seen, where no child owns the path or anything under it
   abbrev IsAsSeen : Sight → Type 0
@@ -214,11 +228,15 @@ module _ (read : List ℕ → Option Record) (w : World) (formed : IsFormed w) (
   sights_are [] paths h = tt
   sights_are (s ∷ sights) paths h = (λ free. sight_is s.path s (and_first (is_path s.path) (is_text s.path) paths.0) (h.0 free), sights_are sights paths.1 h.1)
 
-  seen_at : (sights : List Sight) (q : Path) → is_named q (are_paths sights) ≡ true → Each IsAsSeen sights → IsSeenUnowned w image sights q
+  -- it was, there
+  abbrev IsSeenThere : List Sight → Path → Type 0
+  IsSeenThere sights q = IsUnownedUnder w.nodes q → sight_at sights q ≡ Some (sight_of image q)
+
+  seen_at : (sights : List Sight) (q : Path) → is_named q (are_paths sights) ≡ true → Each IsAsSeen sights → IsSeenThere sights q
   seen_at [] q h are free = absurd (never_both false h refl)
   seen_at (s ∷ sights) q h are free = go (bytes_eq s.path q) refl (λ k. seen_at sights q k are.1 free)
     where
-      go : (b : Bool) → bytes_eq s.path q ≡ b → (is_named q (are_paths sights) ≡ true → IsSeenAs image sights q) → find (λ (x : Sight). bytes_eq x.path q) (s ∷ sights) ≡ Some (sight_of image q)
+      go : (b : Bool) → bytes_eq s.path q ≡ b → (is_named q (are_paths sights) ≡ true → sight_at sights q ≡ Some (sight_of image q)) → find (λ (x : Sight). bytes_eq x.path q) (s ∷ sights) ≡ Some (sight_of image q)
       go true e again =
           ap (λ (b : Bool). cond b (Some s) (find (λ (x : Sight). bytes_eq x.path q) sights)) e
           ∙ ap Some (are.0 (subst (IsUnownedUnder w.nodes) (sym (same_place s.path q e)) free) ∙ ap (sight_of image) (same_place s.path q e))
@@ -249,24 +267,141 @@ module _ (read : List ℕ → Option Record) (w : World) (formed : IsFormed w) (
     sources_seen P ms (each_back P (source_path m) (flat_map source_path ms) h),
   )
 
-  held_seen : (paths : Texts) (sights : List Sight) → are_paths sights ≡ filter is_path_text (texts_of paths.keys) → Each IsAsSeen sights → (q : Path) → IsHeld paths q → IsSeenUnowned w image sights q
+  held_seen : (paths : Texts) (sights : List Sight) → are_paths sights ≡ filter is_path_text (texts_of paths.keys) → Each IsAsSeen sights → (q : Path) → IsHeld paths q → IsPlain w image sights q
   held_seen paths sights all are q held =
-      seen_at sights q
-      (ap (is_named q) all ∙ named_filter is_path_text q (texts_of paths.keys)
-      ∙ both_true (is_path_text q) (is_named q (texts_of paths.keys)) held.0 (sym (contains_named q paths.keys) ∙ held.1)) are
+      record {
+        path = held.0;
+        seen = seen_at sights q
+            (ap (is_named q) all ∙ named_filter is_path_text q (texts_of paths.keys)
+            ∙ both_true (is_path_text q) (is_named q (texts_of paths.keys)) held.0 (sym (contains_named q paths.keys) ∙ held.1)) are;
+      }
 
   path_texts : (ts : List Path) → Each (λ (p : Path). is_path_text p ≡ true) (filter is_path_text ts)
   path_texts ts = each_more (λ (p : Path). (is_path_text p ≡ true) × Unit {0}) (λ (p : Path). is_path_text p ≡ true) (λ p h. h.0) (filter is_path_text ts) (each_kept is_path_text (λ p. Unit {0}) ts (units ts))
 
-  pub all_seen : (jobs : Jobs) (paths : Texts) (sights : List Sight) → Each (IsHeld paths) (wanted jobs) → are_paths sights ≡ filter is_path_text (texts_of paths.keys) → Each (TellsUnowned w.nodes) sights
-      → AreSeenUnowned w image jobs sights
-  all_seen jobs paths sights held all told =
+  pub all_plain : (jobs : Jobs) (paths : Texts) (sights : List Sight) → Each (IsHeld paths) (wanted jobs) → are_paths sights ≡ filter is_path_text (texts_of paths.keys) → Each (TellsUnowned w.nodes) sights
+      → ArePlain w image jobs sights
+  all_plain jobs paths sights held all told =
       let are = sights_are sights (subst (Each (λ (p : Path). is_path_text p ≡ true)) (sym all) (path_texts (texts_of paths.keys))) told in
-      let each : Each (IsSeenUnowned w image sights) (wanted jobs) = each_more (IsHeld paths) (IsSeenUnowned w image sights) (held_seen paths sights all are) (wanted jobs) held in
-      record {
-        outputs = jobs_seen (IsSeenUnowned w image sights) jobs.jobs (each_front (IsSeenUnowned w image sights) (flat_map job_paths jobs.jobs) (flat_map source_path jobs.makers) each);
-        sources = sources_seen (IsSeenUnowned w image sights) jobs.makers (each_back (IsSeenUnowned w image sights) (flat_map job_paths jobs.jobs) (flat_map source_path jobs.makers) each);
-      }
+      each_more (IsHeld paths) (IsPlain w image sights) (held_seen paths sights all are) (wanted jobs) held
+
+  -- ## Digests
+
+  -- the digest, if any, is that of the file
+  abbrev HasDigest : Option Node → Option Digest → Type 0
+  HasDigest n None = Unit {0}
+  HasDigest n (Some d) = (f : Content) × (content_of n ≡ Some f) × (is_summed f.bytes ≡ true) × (sum_of f.bytes ≡ d)
+
+  node_digest : (n : Option Node) → HasDigest n (sum_in n)
+  node_digest None = tt
+  node_digest (Some Directory) = tt
+  node_digest (Some (Regular bytes time read_only)) = go (is_summed bytes) refl
+    where
+      go : (b : Bool) → is_summed bytes ≡ b → HasDigest (Some (Regular bytes time read_only)) (option_map sum_of (if b then Some bytes else None))
+      go true e = (record { bytes = bytes; time = time; read_only = read_only }, refl, e, refl)
+      go false e = tt
+
+  has_sum : (q : Path) (d : Option Digest) → HasDigest (image.node q) d → HasSum image q d
+  has_sum q None h = tt
+  has_sum q (Some d) h = h
+
+  module _ (needed : Path → Bool) (before : List Sight) (ds : List (Option Digest)) (sums : AreSums w (paths_where needed before) ds) where
+    abbrev with_them : List Sight
+    with_them = put_sums needed before ds
+
+    put_in : (q : Path) → IsPlain w image before q → IsUnownedUnder w.nodes q → IsPut needed (IsSum w) (sight_of image q) q (sight_at with_them q)
+    put_in q plain free = put_at needed (IsSum w) before ds q (sight_of image q) sums (plain.seen free)
+
+    -- the digest of the file, as it stands in the image
+    sum_is : (q : Path) (d : Option Digest) → IsPlain w image before q → IsUnownedUnder w.nodes q → IsSum w q d → d ≡ sum_in (image.node q)
+    sum_is q d plain free is = is (free q (at_itself q)) ∙ sym (ap sum_in (node_is q q (and_first (is_path q) (is_text q) plain.path) (at_itself q)))
+
+    summed_seen : (q : Path) → IsPlain w image before q → IsSeenUnowned w image with_them q
+    summed_seen q plain free =
+        let p = put_in q plain free in
+        (p.sum, p.seen, go (needed q) refl p)
+      where
+        go : (b : Bool) → needed q ≡ b → (p : IsPut needed (IsSum w) (sight_of image q) q (sight_at with_them q)) → HasSum image q p.sum
+        go true e p = has_sum q p.sum (subst (HasDigest (image.node q)) (sym (sum_is q p.sum plain free (p.right e))) (node_digest (image.node q)))
+        go false e p = subst (HasSum image q) (sym (p.none e)) tt
+
+    pub all_seen : (jobs : Jobs) → ArePlain w image jobs before → AreSeenUnowned w image jobs with_them
+    all_seen jobs plain =
+        let each : Each (IsSeenUnowned w image with_them) (wanted jobs) = each_more (IsPlain w image before) (IsSeenUnowned w image with_them) summed_seen (wanted jobs) plain in
+        record {
+          outputs = jobs_seen (IsSeenUnowned w image with_them) jobs.jobs (each_front (IsSeenUnowned w image with_them) (flat_map job_paths jobs.jobs) (flat_map source_path jobs.makers) each);
+          sources = sources_seen (IsSeenUnowned w image with_them) jobs.makers (each_back (IsSeenUnowned w image with_them) (flat_map job_paths jobs.jobs) (flat_map source_path jobs.makers) each);
+        }
+
+    -- a file with a digest, where one is needed
+    summed_at : (q : Path) (f : Content) → IsPlain w image before q → IsUnownedUnder w.nodes q → file_at image q ≡ Some f → is_summed f.bytes ≡ true → needed q ≡ true → is_seen_summed with_them q ≡ true
+    summed_at q f plain free file small need =
+        let p = put_in q plain free in
+        ap (test_some (λ (s : Sight). is_some s.sum)) p.seen ∙ ap is_some (sum_is q p.sum plain free (p.right need)) ∙ some_sum (image.node q) f file small
+
+  -- ## Sources
+
+  -- the paths of these that no job makes
+  abbrev told_of : List Maker → List Path
+  told_of ms = map (λ (m : Maker). m.path) (filter (λ (m : Maker). is_none m.job) ms)
+
+  told_plain : (sights : List Sight) (ms : List Maker) (q : Path) → Each (IsPlain w image sights) (flat_map source_path ms) → is_named q (told_of ms) ≡ true → IsPlain w image sights q
+  told_plain sights [] q each h = absurd (never_both false h refl)
+  told_plain sights (m ∷ ms) q each h = go m.job each h (λ more k. told_plain sights ms q more k)
+    where
+      go : (o : Option ℕ) → Each (IsPlain w image sights) (unless_made m.path o ++ flat_map source_path ms)
+          → is_named q (map (λ (x : Maker). x.path) (cond (is_none o) (m ∷ filter (λ (x : Maker). is_none x.job) ms) (filter (λ (x : Maker). is_none x.job) ms))) ≡ true
+          → (Each (IsPlain w image sights) (flat_map source_path ms) → is_named q (told_of ms) ≡ true → IsPlain w image sights q) → IsPlain w image sights q
+      go None all k more =
+          elim (or_cases (bytes_eq q m.path) (is_named q (told_of ms)) k) [
+            | inl here ↦ subst (IsPlain w image sights) (sym (same_place q m.path here)) all.0
+            | inr there ↦ more all.1 there
+          ]
+      go (Some n) all k more = more all k
+
+  pub all_summed : (known : List Known) (jobs : Jobs) (before : List Sight) (ds : List (Option Digest)) → AreSums w (paths_where (needs_digest known jobs before) before) ds → IsStoreOf image known → ArePlain w image jobs before
+      → AreSummedUnowned w image jobs (put_sums (needs_digest known jobs before) before ds)
+  all_summed known jobs before ds sums stored plain =
+      each_in (λ (j : Job). Each (IsSummedUnowned w image jobs (put_sums (needs_digest known jobs before) before ds) j) (in_paths j.recipe)) jobs.jobs
+      (λ j here. each_in (IsSummedUnowned w image jobs (put_sums (needs_digest known jobs before) before ds) j) (in_paths j.recipe) (λ q at. input_summed j here q at))
+    where
+      needed_at : (j : Job) → IsIn jobs.jobs j → (q : Path) → IsIn (in_paths j.recipe) q → (f : Content) → IsPlain w image before q → IsUnownedUnder w.nodes q → file_at image q ≡ Some f → is_covered image q ≡ false
+          → needs_sum (records_by image.kept j) q f.time ≡ true → needs_digest known jobs before q ≡ true
+      needed_at j here q at f plain free file apart need =
+          let time : time_seen before q ≡ Some f.time = ap (option_and_then (λ (s : Sight). time_by s.stat)) (plain.seen free) ∙ file_time (image.node q) f file in
+          ap (test_some (is_needed known jobs q)) time
+          ∙ both_true (not (is_covered_in known q)) (list_any (asks_for known q f.time) jobs.jobs) (ap not (stored.covered q ∙ apart))
+          (any_in (asks_for known q f.time) jobs.jobs j here
+          (both_true (among (in_paths j.recipe) q) (needs_sum (records_by (kept_in known) j) q f.time) (named_in q (in_paths j.recipe) at)
+          (ap (λ (kept : Path → Kept). needs_sum (records_by kept j) q f.time) (λ i. λ p. kept_same image known stored p i) ∙ need)))
+
+      input_summed : (j : Job) → IsIn jobs.jobs j → (q : Path) → IsIn (in_paths j.recipe) q → IsSummedUnowned w image jobs (put_sums (needs_digest known jobs before) before ds) j q
+      input_summed j here q at free told f source small need =
+          let p = told_plain before jobs.makers q (each_back (IsPlain w image before) (flat_map job_paths jobs.jobs) (flat_map source_path jobs.makers) plain) told in
+          let s = source_file image q f source in
+          summed_at (needs_digest known jobs before) before ds sums q f p free s.0 small (needed_at j here q at f p free s.0 s.1 need)
+
+-- ## After the digests were put
+
+same_sums : (w v : World) (ps : List Path) (ds : List (Option Digest)) → v.nodes ≡ w.nodes → AreSums v ps ds → AreSums w ps ds
+same_sums w v ps ds same sums = subst (λ (n : Nodes). AllZip (λ p s. n p ≢ Owned → s ≡ sum_in (reading (n p))) ps ds) same sums
+
+pub seen_after : (read : List ℕ → Option Record) (w v : World) → IsFormed w → IsTree w → v.nodes ≡ w.nodes → (d : Device) → d.world ≡ Some v → (needed : Path → Bool) (jobs : Jobs) (before after : List Sight)
+    → HavePut d needed before after → ArePlain w (seen read w) jobs before → AreSeenUnowned w (seen read w) jobs after
+seen_after read w v formed tree same d at needed jobs before after put plain =
+    subst (AreSeenUnowned w (seen read w) jobs) (sym put.put)
+    (all_seen read w formed tree needed before put.sums (same_sums w v (paths_where needed before) put.sums same (put.told v at)) jobs plain)
+
+pub summed_after : (read : List ℕ → Option Record) (w v : World) → IsFormed w → IsTree w → v.nodes ≡ w.nodes → (d : Device) → d.world ≡ Some v → (known : List Known) (jobs : Jobs) (before after : List Sight)
+    → HavePut d (needs_digest known jobs before) before after → ArePlain w (seen read w) jobs before → IsStoreOf (seen read w) known → AreSummedUnowned w (seen read w) jobs after
+summed_after read w v formed tree same d at known jobs before after put plain stored =
+    subst (AreSummedUnowned w (seen read w) jobs) (sym put.put)
+    (all_summed read w formed tree known jobs before put.sums (same_sums w v (paths_where (needs_digest known jobs before) before) put.sums same (put.told v at)) stored plain)
+
+pub spared_after : (d : Device) (known : List Known) (jobs : Jobs) (before after : List Sight) → HavePut d (needs_digest known jobs before) before after → AreSpared known jobs after
+spared_after d known jobs before after put = λ q summed.
+    ap (test_some (is_needed known jobs q)) (ap (λ (sights : List Sight). time_seen sights q) put.put ∙ put_time (needs_digest known jobs before) before put.sums q)
+    ∙ put_spared (needs_digest known jobs before) before put.sums q (sym (ap (λ (sights : List Sight). is_seen_summed sights q) put.put) ∙ summed)
 
 -- where no child owns a place, all is seen
 pub seen_of : (w : World) (image : Image) (jobs : Jobs) (sights : List Sight) → ((q : Path) → w.nodes q ≢ Owned) → AreSeenUnowned w image jobs sights → IsSeenOf image jobs sights
@@ -276,3 +411,14 @@ seen_of w image jobs sights none seen =
           (λ j h. each_more (λ (o : Out). IsSeenUnowned w image sights o.path) (λ (o : Out). IsSeenAs image sights o.path) (λ o t. t (λ q at. none q)) (outs_of j.recipe) h) jobs.jobs seen.outputs;
       sources = each_more (λ (m : Maker). m.job ≡ None → IsSeenUnowned w image sights m.path) (IsSourceSeen image sights) (λ m h none_made. h none_made (λ q at. none q)) jobs.makers seen.sources;
     }
+
+-- where no child owns a place, and each input that is a source is told as one, all digests that are needed are seen
+pub summed_of : (w : World) (image : Image) (jobs : Jobs) (sights : List Sight) → ((q : Path) → w.nodes q ≢ Owned)
+    → Each (λ (j : Job). Each (λ (q : Path). is_source image q ≡ true → among (map (λ (m : Maker). m.path) (filter (λ (m : Maker). is_none m.job) jobs.makers)) q ≡ true) (in_paths j.recipe)) jobs.jobs
+    → AreSummedUnowned w image jobs sights → AreSummed image jobs sights
+summed_of w image jobs sights none tells summed =
+    each_zip (λ (j : Job). Each (λ (q : Path). is_source image q ≡ true → among (map (λ (m : Maker). m.path) (filter (λ (m : Maker). is_none m.job) jobs.makers)) q ≡ true) (in_paths j.recipe))
+    (λ (j : Job). Each (IsSummedUnowned w image jobs sights j) (in_paths j.recipe)) (λ (j : Job). Each (IsSummed image sights j) (in_paths j.recipe))
+    (λ j tell sum. each_zip (λ (q : Path). is_source image q ≡ true → among (map (λ (m : Maker). m.path) (filter (λ (m : Maker). is_none m.job) jobs.makers)) q ≡ true)
+    (IsSummedUnowned w image jobs sights j) (IsSummed image sights j) (λ q told unowned f source small need. unowned (λ r at. none r) (told (source_is image q f source)) f source small need) (in_paths j.recipe) tell sum)
+    jobs.jobs tells summed

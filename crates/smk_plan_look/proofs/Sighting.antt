@@ -51,13 +51,14 @@ sight_still a b p s same h = subst (λ (n : Nodes). IsSightOf n p s) same h
 -- a folder, with what is under it
 pub folder_seen : (w v : World) → v.nodes ≡ w.nodes → (p place : Path) (stat : Stat) (members : Option (List Member)) (guarded : Bool) → IsUnownedUnder w.nodes p → place ≡ p → is_path_text p ≡ true → reads_folder (w.nodes p) ≡ true → stat ≡ stat_of (reading (w.nodes p))
     → IsListedAs w.nodes p members → (IsUnownedUnder v.nodes place → reads_folder (v.nodes place) ≡ true → is_tellable place ≡ true → TellsGuard v.nodes place guarded)
-    → IsSightOf w.nodes p (record { path = p; stat = stat; members = members; guarded = guarded })
+    → IsSightOf w.nodes p (record { path = p; stat = stat; members = members; guarded = guarded; sum = None })
 folder_seen w v same p place stat members guarded free at path reads is listed told =
     record {
       path = refl;
       stat = is;
       folder = λ h. listed;
       plain = λ h. absurd (never_both (reads_folder (w.nodes p)) reads h);
+      unsummed = refl;
       guarded = subst (λ (n : Nodes). TellsGuard n p guarded) same
           (subst (λ (q : Path). TellsGuard v.nodes q guarded) at
           (told (subst (IsUnownedUnder v.nodes) (sym at) (unowned_still w.nodes v.nodes p same free)) (ap (λ (q : Path). reads_folder (v.nodes q)) at ∙ ap (λ (n : Nodes). reads_folder (n p)) same ∙ reads) (ap is_tellable at ∙ path_tellable p path)));
@@ -65,7 +66,7 @@ folder_seen w v same p place stat members guarded free at path reads is listed t
 
 -- anything else: nothing is under it
 pub plain_seen : (w : World) → IsTree w → (p : Path) (stat : Stat) (guarded : Bool) → is_path_text p ≡ true → stat ≡ stat_of (reading (w.nodes p)) → is_folder_stat stat ≡ false → guarded ≡ is_read_only stat
-    → IsSightOf w.nodes p (record { path = p; stat = stat; members = None; guarded = guarded })
+    → IsSightOf w.nodes p (record { path = p; stat = stat; members = None; guarded = guarded; sum = None })
 plain_seen w tree p stat guarded path is plain told =
     let no_folder : reads_folder (w.nodes p) ≡ false = sym (folder_stat (w.nodes p)) ∙ sym (ap is_folder_stat is) ∙ plain in
     let flagged : guarded ≡ flag (reading (w.nodes p)) = told ∙ ap is_read_only is ∙ read_only_same (reading (w.nodes p)) in
@@ -74,6 +75,7 @@ plain_seen w tree p stat guarded path is plain told =
       stat = is;
       folder = λ h. absurd (never_both (reads_folder (w.nodes p)) h no_folder);
       plain = λ h. refl;
+      unsummed = refl;
       guarded = record {
         some = λ e. record { place = p; inside = at_itself p; guards = record { tellable = path_tellable p path; read_only = sym flagged ∙ e } };
         none = λ e h.

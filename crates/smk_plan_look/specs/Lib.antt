@@ -1,3 +1,5 @@
 pub mod Gathering
 pub mod Seeing
 pub mod Guards
+pub mod Needs
+pub mod Putting

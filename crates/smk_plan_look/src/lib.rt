@@ -3,7 +3,9 @@
 
 mod guards;
 mod looking;
+mod needs;
 mod paths;
 mod sights;
+mod summing;
 
 pub use looking::look;

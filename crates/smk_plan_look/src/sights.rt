@@ -71,10 +71,11 @@ fn folder_at<W: Files>(
         stat,
         members,
         guarded,
+        sum: None,
     })
 }
 
-/// What is seen of the path.
+/// What is seen of the path, without a digest.
 pub(crate) fn sight_at<W: Files>(
     alloc: Global,
     work: &mut W,
@@ -95,5 +96,6 @@ pub(crate) fn sight_at<W: Files>(
         stat,
         members: None,
         guarded: is_read_only(stat),
+        sum: None,
     })
 }

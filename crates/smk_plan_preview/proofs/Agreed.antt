@@ -26,6 +26,7 @@ use Rattle.smk_chain.specs.Derive as derive
 use Rattle.smk_chain_derive.specs.Clashes.{ListsKnown}
 use Rattle.smk_chain_walk.specs.Links.{AreLinked, befores_of}
 use Rattle.smk_plan.specs.Sights.{IsSeenOf}
+use Rattle.smk_plan.specs.Summed.{AreSummed}
 use Rattle.smk_plan.specs.declared.seen.Sight.{Sight}
 use Rattle.smk_store.specs.Stores.{Known as Entry}
 use Rattle.smk_plan_facts.specs.Facts.{NamesAll, HasOwnRecords}
@@ -108,13 +109,14 @@ own_records read w p r h = by (is_path_text p) h
     by false k = absurd (wrong k)
 
 pub agree_of : (read : List ℕ → Option Record) (w : World) (flow : Flow) (targets : List Path) (L : Listings) (made : Jobs) (store : List Entry) (sights : List Sight) → IsFormed w → IsStoreOf (seen read w) store → IsSeenOf (seen read w) made sights
-    → AreReady flow targets L (seen read w) made → Agree (seen read w) made store sights targets
-agree_of read w flow targets L made store sights formed stored sighted ready =
+    → AreSummed (seen read w) made sights → AreReady flow targets L (seen read w) made → Agree (seen read w) made store sights targets
+agree_of read w flow targets L made store sights formed stored sighted summed ready =
     record {
       named = names_all read w formed;
       recorded = own_records read w;
       stored = stored;
       sighted = sighted;
+      summed = summed;
       served = ready.served;
       made = ready.built;
       read = ready.read;

@@ -33,8 +33,10 @@ use Rattle.smk_plan.specs.declared.fault.LookFault.{LookFault}
 use Rattle.smk_plan.specs.declared.fault.LookFault.TheVariants as look
 use Rattle.smk_plan.specs.declared.seen.Sight.{Sight}
 use Rattle.smk_plan.specs.Sights.{IsSeenOf}
-use Rattle.smk_plan_look.specs.Seeing.{look_failed, AreSeenUnowned}
-use Rattle.smk_plan_look.proofs.Images.{seen_of}
+use Rattle.smk_plan.specs.Summed.{AreSummed}
+use Rattle.smk_plan_look.specs.Seeing.{look_failed, AreSeenUnowned, AreSummedUnowned}
+use Rattle.smk_plan_look.proofs.Images.{seen_of, summed_of}
+use Rattle.smk_plan_facts.specs.Facts.{TellSources}
 use Rattle.smk_report.specs.Faults.{of_store}
 use Rattle.smk_plan_preview.specs.Faults.{device_failed, is_told, is_device, is_sink, as_call, of_sight, of_look}
 
@@ -169,6 +171,16 @@ look_told d jobs (Ok sights) s is h =
     (λ w at none read. seen_of w (seen read w) jobs sights none (h w at read))
 look_told d jobs (Err f) s is h =
     subst (λ v. IfOk v (λ sights. WhereTold d (λ w. NoneOwned w → (read : List ℕ → Option Record) → IsSeenOf (seen read w) jobs sights))) (sym is) h
+
+-- and the digests are told without which the records can't be judged
+pub look_summed : (d : Device) (jobs : Jobs) (store : List Known) (r : Result (List Sight) LookFault) (s : Result (List Sight) Fault) → s ≡ as_call of_look r
+    → IfOk r (λ sights. WhereTold d (λ w. (read : List ℕ → Option Record) → IsStoreOf (seen read w) store → AreSummedUnowned w (seen read w) jobs sights))
+    → IfOk s (λ sights. WhereTold d (λ w. NoneOwned w → (read : List ℕ → Option Record) → IsStoreOf (seen read w) store → TellSources (seen read w) jobs → AreSummed (seen read w) jobs sights))
+look_summed d jobs store (Ok sights) s is h =
+    subst (λ v. IfOk v (λ sights. WhereTold d (λ w. NoneOwned w → (read : List ℕ → Option Record) → IsStoreOf (seen read w) store → TellSources (seen read w) jobs → AreSummed (seen read w) jobs sights))) (sym is)
+    (λ w at none read stored told. summed_of w (seen read w) jobs sights none told (h w at read stored))
+look_summed d jobs store (Err f) s is h =
+    subst (λ v. IfOk v (λ sights. WhereTold d (λ w. NoneOwned w → (read : List ℕ → Option Record) → IsStoreOf (seen read w) store → TellSources (seen read w) jobs → AreSummed (seen read w) jobs sights))) (sym is) h
 
 pub memory_quiet : {A B : Type 0} (r : Result A Fault) (s : Result B Fault) (x : Fault) → r ≡ Err x → IsErrAnd s (λ y. y ≡ x) → IfErr r (λ f. f ≡ fault.OutOfMemory) → device_failed s ≡ false
 memory_quiet r s x is h memory = ap device_failed (err_is s x h) ∙ ap is_device (subst (λ v. IfErr v (λ f. f ≡ fault.OutOfMemory)) is memory)

@@ -10,7 +10,8 @@ ghost use Rattle.smk_store.specs.Unowned.{NoneOwned};
 ghost use Rattle.smk_choose.specs.Index.{AreReadings};
 ghost use Rattle.smk_chain_derive.specs.Clashes.{ListsKnown};
 ghost use Rattle.smk_plan.specs.Sights.{IsSeenOf};
-ghost use Rattle.smk_plan_facts.specs.Facts.{NamesAll};
+ghost use Rattle.smk_plan.specs.Summed.{AreSummed};
+ghost use Rattle.smk_plan_facts.specs.Facts.{NamesAll, TellSources};
 ghost use Rattle.smk_report.specs.Faults.{of_store};
 ghost use Rattle.smk_plan_preview.specs.Faults as faults;
 ghost use Rattle.smk_plan_preview.specs.Faults.{as_call, device_failed, is_told, is_sink};
@@ -31,6 +32,7 @@ use smk_report::Fault;
 use smk_store::{Store, StoreFault, load};
 use smk_world::Files;
 use std::alloc::Global;
+use std::thread::Threads;
 
 #[tactic(auto, using(crate::proofs::Sinks::store_no_sink))]
 fn of_load(loaded: Result<Store, StoreFault>) -> Result<Store, Fault>
@@ -151,14 +153,22 @@ fn of_seen(seen: Result<Seen, LookFault>) -> Result<Seen, Fault>
     }
 }
 
-/// What stands at the outputs and the sources of the jobs.
-pub(crate) fn looked<W: Files>(alloc: Global, work: &mut W, jobs: &Jobs) -> Result<Seen, Fault>
+/// What stands at the outputs and the sources of the jobs, with the digests of the sources without which the records of the store can't be judged.
+pub(crate) fn looked<W: Files, Rt: Threads + Sync>(
+    rt: &Rt,
+    alloc: Global,
+    work: &mut W,
+    jobs: &Jobs,
+    store: &Store,
+) -> Result<Seen, Fault>
     ensures looked { HasLooked W.act (W.device work.old) (W.device work.new) (device_failed result) }
     ensures no_sink { IfErr result (λ f. is_sink f ≡ false) }
     ensures told { IfOk result (λ sights. WhereTold (W.device work.old) (λ w. NoneOwned w
         → (read : Items ℕ → Option RecordValue) → IsSeenOf (seen read w) jobs.now sights)) }
+    ensures summed { IfOk result (λ sights. WhereTold (W.device work.old) (λ w. NoneOwned w → (read : Items ℕ → Option RecordValue) → IsStoreOf (seen read w) store.now
+        → TellSources (seen read w) jobs.now → AreSummed (seen read w) jobs.now sights)) }
     ensures untold { IfErr result (λ f. is_told f ≡ false) }
 {
-    let found = look(alloc, work, jobs);
+    let found = look(rt, alloc, work, jobs, store);
     of_seen(found)
 }

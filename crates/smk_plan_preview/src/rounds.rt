@@ -130,7 +130,7 @@ fn plan_jobs<W: Files, Rt: Threads + Sync>(
     ensures told { WhereTold (W.device work.old) (λ w. NoneOwned w → (read : Items ℕ → Option RecordValue) → IsStoreOf (seen read w) store.now
         → spec.AreReady flow.now settings.now.targets jobs.lists (seen read w) jobs → spec.HasRound read flow.now settings.now (seen read w) jobs.lists result) }
 {
-    match looked(alloc, work, &jobs) {
+    match looked(rt, alloc, work, &jobs, store) {
         Ok(seen) => plan_seen(rt, alloc, flow, settings, store, jobs, &seen),
         Err(fault) => Err(fault),
     }

@@ -1,9 +1,10 @@
 -- The parts of a plan, put together.
 use Rattle.std.proofs.Common.{◌≡◌, Bool, true, List, [], ◌++◌, map, Option, Some, None, sym, ap, subst, ◌∙◌}
 use Rattle.std.specs.Prelude.{◌&&◌, is_none}
-use Rattle.std.specs.List.{filter}
+use Rattle.std.specs.List.{filter, AllZip}
+use Rattle.smk_plan_facts.proofs.Reasoned.{all_reasons_as, all_forced_as}
 use Rattle.smk_plan_facts.proofs.Tests.{each_of}
-use Rattle.smk_choose.proofs.Listed.{map_map, map_same}
+use Rattle.smk_choose.proofs.Listed.{map_same}
 use Rattle.smk_world.specs.World.{in_paths, out_paths}
 use Rattle.smk_world.specs.Trees.{Path, among, first}
 use Rattle.smk_flow.specs.declared.job.Job.{Job}
@@ -23,7 +24,7 @@ use Rattle.smk_plan.specs.declared.plan.Plan.{Plan as Told}
 use Rattle.smk_plan.specs.declared.seen.Sight.{Sight}
 use Rattle.smk_plan.specs.States.{Plan, Progress, HasStates, is_forced, is_ready, is_current, awaited, files_listed, new_listings}
 use Rattle.smk_drive.specs.Moments.{Rules}
-use Rattle.smk_plan_facts.specs.Facts.{having_run, facts_of, told_sources}
+use Rattle.smk_plan_facts.specs.Facts.{having_run, facts_of, told_sources, AreFactsOf}
 use Rattle.smk_plan_states.specs.Judged.{with_states, reasons_now, AreJudged}
 use Rattle.smk_plan_table.specs.Parts.{is_source_in, each_or, listing_in, refusals_in}
 use Rattle.smk_plan_table.specs.Plans.{Agree, idle_at, at_rest, HasMadeAt, IsUnrefused, IsRefusedAt}
@@ -79,14 +80,14 @@ module _ (image : Image) (settings : Settings) (ran : List Path) (jobs : Jobs) w
       ∙ now_alone image settings ran jobs j
 
   pub judged : (facts : List JobFacts) (reasons : List (List Reason)) (forced : List Bool) (running : List (Option State)) →
-      facts ≡ map (facts_of image settings ran (with_states jobs [])) jobs.jobs → reasons ≡ map reasons_of facts → forced ≡ map (λ (f : JobFacts). f.forced) facts →
+      AllZip (AreFactsOf image settings ran (with_states jobs [])) jobs.jobs facts → reasons ≡ map reasons_of facts → forced ≡ map (λ (f : JobFacts). f.forced) facts →
       running ≡ map (λ j. None) jobs.jobs → AreJudged (at_rest image settings ran) jobs (record { reasons = reasons; forced = forced; running = running })
   judged facts reasons forced running f r o n =
       record {
         reasons =
-            r ∙ ap (map reasons_of) f ∙ map_map reasons_of (facts_of image settings ran (with_states jobs [])) jobs.jobs
+            r ∙ all_reasons_as image settings ran (with_states jobs []) jobs.jobs facts f
             ∙ map_same (λ j. reasons_of (facts_of image settings ran (with_states jobs []) j)) (reasons_now image settings (having_run ran) jobs) reasons_same jobs.jobs;
-        forced = o ∙ ap (map (λ (x : JobFacts). x.forced)) f ∙ map_map (λ (x : JobFacts). x.forced) (facts_of image settings ran (with_states jobs [])) jobs.jobs;
+        forced = o ∙ all_forced_as image settings ran (with_states jobs []) jobs.jobs facts f;
         running = n;
       }
 

@@ -8,7 +8,7 @@ use Rattle.smk_world.specs.World.{in_paths, out_paths}
 use Rattle.smk_world.specs.Trees.{Path}
 use Rattle.smk_flow.specs.declared.job.Job.{Job}
 use Rattle.smk_store.specs.Images.{Image, is_source, source_at, core_at}
-use Rattle.smk_store.specs.Trust.{is_marked_but, holder, made_stamp, time_stamp}
+use Rattle.smk_store.specs.Trust.{is_marked_but, holder, made_stamp, source_stamp}
 use Rattle.smk_chain.specs.declared.jobs.Jobs.{Jobs}
 use Rattle.smk_trigger.specs.declared.reason.Reason.TheVariants.{Forced}
 use Rattle.smk_trigger.specs.declared.reason.State.{State}
@@ -62,5 +62,5 @@ module _ (image : Image) (settings : Settings) (ran : List Path) (jobs : Jobs) w
   now_alone j =
       sym
       (λ i. own_reasons j.recipe (map image.kept (out_paths j.recipe)) (map (λ h. marks h i) (out_paths j.recipe))
-      (map (λ q. (q, cond (is_source image q) (time_stamp (source_at image q)) (option_and_then (λ h. cond (marks h i) None (made_stamp (core_at image h))) (holder image q)))) (in_paths j.recipe))
+      (map (λ q. (q, cond (is_source image q) (source_stamp (source_at image q)) (option_and_then (λ h. cond (marks h i) None (made_stamp (core_at image h))) (holder image q)))) (in_paths j.recipe))
       ++ when (is_forced image settings (having_run ran) (with_states jobs []) j) Forced)

@@ -77,7 +77,7 @@ each_path Q h [] = tt
 each_path Q h (p ∷ ps) = (h p, each_path Q h ps)
 
 guarded_same : (image : Image) (seen : List Sight) (p : Path) → IsSeenAs image seen p → is_guarded_in seen p ≡ is_guarded image p
-guarded_same image seen p e = ap (test_some (λ (s : Sight). s.guarded)) e
+guarded_same image seen p e = ap (test_some (λ (s : Sight). s.guarded)) e.1
 
 -- ## Jobs that are ahead
 

@@ -37,7 +37,7 @@ source_same image makers store seen t s h told = go (among (told_sources makers)
     go true e =
         let sight : IsSeenAs image seen t = source_seen image seen makers t h e in
         ap (λ b. b && (is_path_text t && (is_file_in seen t && not (is_covered_in store t)))) e
-        ∙ ap (λ o. is_path_text t && (test_some (λ (x : Sight). is_file_stat x.stat) o && not (is_covered_in store t))) sight
+        ∙ ap (λ o. is_path_text t && (test_some (λ (x : Sight). is_file_stat x.stat) o && not (is_covered_in store t))) sight.1
         ∙ ap (λ b. is_path_text t && (b && not (is_covered_in store t))) (file_by (image.node t))
         ∙ ap (λ b. is_path_text t && (is_some (content_of (image.node t)) && not b)) (s.covered t)
     go false e =

@@ -16,6 +16,7 @@ use Rattle.smk_plan.specs.declared.fault.PlanFault.{PlanFault}
 use Rattle.smk_plan.specs.declared.fault.PlanFault.TheVariants as refused
 use Rattle.smk_plan.specs.declared.seen.Sight.{Sight}
 use Rattle.smk_plan.specs.Sights.{IsSeenOf}
+use Rattle.smk_plan.specs.Summed.{AreSummed}
 use Rattle.smk_plan.specs.States.{Plan, Progress, job_path, is_current, new_listings}
 use Rattle.smk_report.specs.declared.fault.Fault.{Fault}
 use Rattle.smk_report.specs.declared.fault.Fault.TheVariants as fault
@@ -34,12 +35,13 @@ use Rattle.smk_plan_states.specs.Tables.{IsTableAt}
 abbrev pub TellTargets : Image → Jobs → List Path → Type 0
 TellTargets image jobs targets = Each (λ t. is_source image t ≡ true → among (told_sources jobs.makers) t ≡ true) targets
 
--- The store, what was seen, and what is told of what makes each path are as the image has it.
+-- The store, what was seen, and what is told of what makes each path are as the image has it; and each source whose SHA-256 is needed was seen with it.
 pub record Agree (image : Image) (jobs : Jobs) (store : List Known) (seen : List Sight) (targets : List Path) : Type 0 where
   pub named : NamesAll image
   pub recorded : HasOwnRecords image
   pub stored : IsStoreOf image store
   pub sighted : IsSeenOf image jobs seen
+  pub summed : AreSummed image jobs seen
   pub served : AreServed jobs targets
   pub made : AreMade jobs
   -- each input, and each target, that is a source is told of as one

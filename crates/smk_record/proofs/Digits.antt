@@ -1,6 +1,6 @@
 -- What a text and a number are, against the library's words.
-use Rattle.std.proofs.Common.{◌≡◌, inl, inr, ℕ, suc, ◌<◌, ◌^◌, Bool, true, false, ◌&&◌, cond, List, [], ◌∷◌, length, take, drop, Option, Some, None, Err, refl, sym, ap, subst, ◌∙◌}
-use Rattle.std.specs.Prelude.{nat_lt}
+use Rattle.std.proofs.Common.{◌≡◌, inl, inr, ℕ, suc, ◌<◌, ◌^◌, Bool, true, false, ◌&&◌, cond, List, [], ◌∷◌, length, take, drop, Option, Some, None, Err, refl, sym, ap, subst, ◌∙◌, arith}
+use Rattle.std.specs.Prelude.{◌/◌, ◌%◌, nat_lt, slice_index}
 use Rattle.std.specs.List.{list_all}
 use Rattle.std.specs.Str.{IsUtf8, is_utf8, IsAscii, all_ascii_digits}
 use Rattle.std.specs.Str.Parse.{ParsesUnsigned, digits_value}
@@ -9,10 +9,12 @@ use Rattle.std.proofs.lemmas.Str.Ascii.{IsAscii-cons, IsAscii-nil}
 use Rattle.std.proofs.lemmas.Str.Parse.{IsNumeralModel, numerals_by_value, tells_all_ascii_digits, parse_digits}
 use Rattle.std.proofs.lemmas.Fmt.{IsAscii-from_digits}
 use Rattle.std.proofs.lemmas.Bool.{ltb-true}
+use Rattle.std.proofs.lemmas.List.{drop_all}
 use Rattle.smk_base.proofs.Places.{and_first, and_second}
 use Rattle.smk_base.proofs.Under.{or_second, or_cases, false_unless, both_true}
 use Rattle.smk_world.specs.Trees.{is_text}
-use Rattle.smk_record.specs.Reading.{digits_len, is_digit, is_numeral, number_of, after_byte, text_of}
+use Rattle.hex.specs.Hex.{encode_lower, encode_with, lower_digits}
+use Rattle.smk_record.specs.Reading.{◌>>=◌, digits_len, is_digit, is_numeral, number_of, after_byte, sum_in, sum_of, text_of}
 
 pub all_below : (t : List ℕ) → list_all (λ b. nat_lt b 128) t ≡ true → IsAscii t
 all_below [] h = IsAscii-nil
@@ -30,6 +32,26 @@ utf8_is_text t u = or_second (list_all (λ b. nat_lt b 128) t) (is_utf8 t) (is_u
 
 pub not_text : (t : List ℕ) → (IsUtf8 t → ⊥) → is_text t ≡ false
 not_text t no_utf8 = false_unless (is_text t) (λ h. no_utf8 (text_is_utf8 t h))
+
+-- ---- SHA-256 in digits
+
+low_digits : IsAscii lower_digits
+low_digits = all_below lower_digits refl
+
+hex_ascii : (bytes : List ℕ) → IsAscii (encode_lower bytes)
+unfolding encode_with
+hex_ascii [] = IsAscii-nil
+hex_ascii (b ∷ bytes) =
+    IsAscii-cons (slice_index lower_digits (b / 16)) (slice_index lower_digits (b % 16) ∷ encode_lower bytes) (low_digits (b / 16))
+    (IsAscii-cons (slice_index lower_digits (b % 16)) (encode_lower bytes) (low_digits (b % 16)) (hex_ascii bytes))
+
+pub hex_utf8 : (bytes : List ℕ) → IsUtf8 (encode_lower bytes)
+hex_utf8 bytes = IsUtf8-from_ascii (encode_lower bytes) (hex_ascii bytes)
+
+-- fewer than 64 bytes spell no SHA-256
+pub short_sum : (bytes : List ℕ) → length bytes < 64 → sum_in bytes ≡ None
+unfolding sum_in
+short_sum bytes h = ap (λ rest. after_byte 10 rest >>= λ rest. sum_of (take 64 bytes) >>= λ s. Some (s, rest)) (drop_all 64 bytes (omega (arith, h)))
 
 -- ---- digits
 

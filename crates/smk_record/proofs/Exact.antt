@@ -21,12 +21,12 @@ use Rattle.smk_world.specs.Trees.{Each, Path, among, folders_of, is_text, is_pat
 use Rattle.smk_record.specs.declared.record.Stamp.{Stamp}
 use Rattle.smk_record.specs.declared.record.Member.{Member}
 use Rattle.smk_record.specs.declared.record.Record.{Record}
-use Rattle.smk_record.specs.Records.{is_valid, is_earlier, are_rising, are_valid_members, are_none}
-use Rattle.smk_record.specs.Spelling.{num, text, list, member, pair, values, out_item, number, spelling, texts, is_writable, IsReadAs, ReadsRecords}
+use Rattle.smk_record.specs.Records.{is_valid, is_earlier, is_format, is_in_format, are_rising, are_valid_members, are_none}
+use Rattle.smk_record.specs.Spelling.{num, text, list, member, pair, values, out_item, spelling, texts, is_writable_stamp, is_writable, IsReadAs, ReadsRecords}
 use Rattle.smk_record.specs.Apart.{BeginWithOne, NoneIsPrefix}
-use Rattle.smk_record.specs.Reading.{◌>>=◌, number_in, path_in, both_in, list_in, paired, recipe_in, fields_in, member_in, after_front, record_in}
-use Rattle.smk_record.proofs.Inverts.{Inverts, bind_some, if_some, if_true, some_is, shorter, IsText, IsPathText, path_inverts, both_inverts, list_inverts, member_inverts}
-use Rattle.smk_record.proofs.Fields.{IsSmall, InputsFit, IsGoodItem, PairFits, ValuesFit, OutFits, OutItemFits, MemberFits, RecipeFits, recipe_text, recipe_inverts, num_inverts, paired_inverts, inputs_text}
+use Rattle.smk_record.specs.Reading.{◌>>=◌, number_in, path_in, both_in, list_in, paired, recipe_in, format_in, fields_in, member_in, after_front, record_in}
+use Rattle.smk_record.proofs.Inverts.{Inverts, bind_some, if_some, if_true, some_is, shorter, IsText, IsPathText, StampFits, num_inverts, format_inverts, path_inverts, both_inverts, list_inverts, member_inverts}
+use Rattle.smk_record.proofs.Fields.{InputsFit, IsGoodItem, PairFits, ValuesFit, OutFits, OutItemFits, MemberFits, RecipeFits, recipe_text, recipe_inverts, paired_inverts, inputs_text}
 
 -- ---- the fields of a record
 
@@ -39,26 +39,39 @@ RestFits x = (x.0 < 2 ^ 64) × (RecipeFits x.1.0 × Each MemberFits x.1.1)
 abbrev rest_of : Record → ℕ × ((Recipe × List Stamp) × List Member)
 rest_of r = (r.made, ((r.recipe, r.stamps), r.members))
 
+abbrev with_path : Record → Path × (ℕ × ((Recipe × List Stamp) × List Member))
+with_path r = (r.path, rest_of r)
+
+abbrev with_path_text : Path × (ℕ × ((Recipe × List Stamp) × List Member)) → List ℕ
+with_path_text x = text x.0 ++ rest_text x.1
+
+abbrev WithPathFits : Path × (ℕ × ((Recipe × List Stamp) × List Member)) → Type 0
+WithPathFits x = IsPathText x.0 × RestFits x.1
+
 abbrev fields_text : Record → List ℕ
-fields_text r = text r.path ++ rest_text (rest_of r)
+fields_text r = num r.format ++ with_path_text (with_path r)
+
+abbrev IsFormat : ℕ → Type 0
+IsFormat n = is_format n ≡ true
 
 abbrev FieldsFit : Record → Type 0
-FieldsFit r = IsPathText r.path × RestFits (rest_of r)
+FieldsFit r = IsFormat r.format × WithPathFits (with_path r)
 
 fields_inverts : Inverts fields_text FieldsFit fields_in
 unfolding fields_in
 fields_inverts =
-    both_inverts (λ path x. record { path = path; made = x.0; recipe = x.1.0.0; stamps = x.1.0.1; members = x.1.1 }) (λ r. r.path) rest_of
-    text IsPathText path_in rest_text RestFits (both_in paired (number_in 10) (both_in paired recipe_in (list_in member_in))) (λ a b. refl) (λ a b. refl) (λ c. refl) path_inverts
+    both_inverts (λ format x. record { format = format; path = x.0; made = x.1.0; recipe = x.1.1.0.0; stamps = x.1.1.0.1; members = x.1.1.1 }) (λ r. r.format) with_path
+    num IsFormat format_in with_path_text WithPathFits (both_in paired path_in (both_in paired (number_in 10) (both_in paired recipe_in (list_in member_in)))) (λ a b. refl) (λ a b. refl) (λ c. refl) format_inverts
+    (paired_inverts text IsPathText path_in rest_text RestFits (both_in paired (number_in 10) (both_in paired recipe_in (list_in member_in))) path_inverts
     (paired_inverts num (λ n. n < 2 ^ 64) (number_in 10) (λ x. recipe_text x.0 ++ list member x.1) (λ x. RecipeFits x.0 × Each MemberFits x.1) (both_in paired recipe_in (list_in member_in)) num_inverts
-    (paired_inverts recipe_text RecipeFits recipe_in (list member) (Each MemberFits) (list_in member_in) recipe_inverts (list_inverts member MemberFits member_in member_inverts)))
+    (paired_inverts recipe_text RecipeFits recipe_in (list member) (Each MemberFits) (list_in member_in) recipe_inverts (list_inverts member MemberFits member_in member_inverts))))
 
-regrouped : (s a b t w p i o m : List ℕ) → (s ++ (a ++ (b ++ (t ++ (w ++ (p ++ (i ++ o))))))) ++ m ≡ s ++ (a ++ (b ++ ((t ++ (w ++ (p ++ (i ++ o)))) ++ m)))
-regrouped s a b t w p i o m = simp append_assoc
+regrouped : (s f a b t w p i o m : List ℕ) → ((s ++ f) ++ (a ++ (b ++ (t ++ (w ++ (p ++ (i ++ o))))))) ++ m ≡ s ++ (f ++ (a ++ (b ++ ((t ++ (w ++ (p ++ (i ++ o)))) ++ m))))
+regrouped s f a b t w p i o m = simp append_assoc
 
-spelled : (r : Record) → spelling r ≡ codes "SMK1\n" ++ fields_text r
+spelled : (r : Record) → spelling r ≡ codes "SMK" ++ fields_text r
 spelled r =
-    regrouped (codes "SMK1\n") (text r.path) (num r.made) (text r.recipe.template) (list pair r.recipe.wildcards) (list values r.recipe.params) (inputs_text (r.recipe.inputs, r.stamps)) (list out_item r.recipe.outputs) (list member r.members)
+    regrouped (codes "SMK") (num r.format) (text r.path) (num r.made) (text r.recipe.template) (list pair r.recipe.wildcards) (list values r.recipe.params) (inputs_text (r.recipe.inputs, r.stamps)) (list out_item r.recipe.outputs) (list member r.members)
 
 front_found : (front bytes rest : List ℕ) → after_front front bytes ≡ Some rest → bytes ≡ front ++ rest
 front_found [] bytes rest e = some_is bytes rest e
@@ -171,7 +184,7 @@ lt_of n h = grind arith
 
 fits_writable : (r : Record) → FieldsFit r → is_writable r ≡ true
 fits_writable r h =
-    let recipe = h.1.1.0 in
+    let recipe = h.1.1.1.0 in
     let parts = recipe.1 in
     let texts_are : list_all is_text (texts r.recipe) ≡ true = fit_texts r.recipe (record {
       template = recipe.0;
@@ -180,8 +193,8 @@ fits_writable r h =
       inputs = each_turned IsGoodItem (λ (i : Item). IsText i.name) r.recipe.inputs (λ i k. k.0) parts.1.1.0.items;
       outputs = each_turned OutItemFits (λ (o : OutItem). IsText o.name) r.recipe.outputs (λ o k. k.0) parts.1.1.1;
     }) in
-    let stamps_are : list_all (λ (s : Stamp). nat_lt (number s) (2 ^ 64)) r.stamps ≡ true = all_of (λ (s : Stamp). nat_lt (number s) (2 ^ 64)) r.stamps (each_turned IsSmall (λ (s : Stamp). nat_lt (number s) (2 ^ 64) ≡ true) r.stamps (λ s k. lt_of (number s) k) parts.1.1.0.stamps) in
-    both_true (list_all is_text (texts r.recipe)) _ texts_are (both_true (nat_lt r.made (2 ^ 64)) _ (lt_of r.made h.1.0) stamps_are)
+    let stamps_are : list_all is_writable_stamp r.stamps ≡ true = all_of is_writable_stamp r.stamps parts.1.1.0.stamps in
+    both_true (list_all is_text (texts r.recipe)) _ texts_are (both_true (nat_lt r.made (2 ^ 64)) _ (lt_of r.made h.1.1.0) stamps_are)
 
 -- what validity gives
 record ValidParts (r : Record) : Type 0 where
@@ -190,6 +203,7 @@ record ValidParts (r : Record) : Type 0 where
   inputs : list_all is_path_text (in_paths r.recipe) ≡ true
   outputs : list_all is_path_text (out_paths r.recipe) ≡ true
   members : cond (among (folders_of r.recipe) r.path) (are_valid_members r.path r.members) (are_none r.members) ≡ true
+  format : is_format r.format ≡ true
 
 valid_parts : (r : Record) → is_valid r ≡ true → ValidParts r
 valid_parts r h =
@@ -200,12 +214,14 @@ valid_parts r h =
     let b5 = and_second (are_rising (map (λ (w : Pair). w.name) r.recipe.wildcards)) _ b4 in
     let b6 = and_second (list_all is_path_text (in_paths r.recipe)) _ b5 in
     let b7 = and_second (list_all is_path_text (out_paths r.recipe)) _ b6 in
+    let b8 = and_second (cond (among (folders_of r.recipe) r.path) (are_valid_members r.path r.members) (are_none r.members)) _ b7 in
     record {
       count = eqb-true _ _ (and_first (eqb (length r.stamps) (length (in_paths r.recipe))) _ h);
       listed = and_first (among (out_paths r.recipe) r.path) _ b1;
       inputs = and_first (list_all is_path_text (in_paths r.recipe)) _ b5;
       outputs = and_first (list_all is_path_text (out_paths r.recipe)) _ b6;
-      members = and_first (cond (among (folders_of r.recipe) r.path) (are_valid_members r.path r.members) (are_none r.members)) true b7;
+      members = and_first (cond (among (folders_of r.recipe) r.path) (are_valid_members r.path r.members) (are_none r.members)) _ b7;
+      format = and_first (is_format r.format) _ (and_first (is_format r.format && list_all (is_in_format r.format) r.stamps) true b8);
     }
 
 named_passes : (p : Path → Bool) (ps : List Path) (q : Path) → list_all p ps ≡ true → is_named q ps ≡ true → p q ≡ true
@@ -235,7 +251,7 @@ fits_of r h k =
     let v = valid_parts r h in
     let t = texts_fit r.recipe (and_first (list_all is_text (texts r.recipe)) _ k) in
     let k1 = and_second (list_all is_text (texts r.recipe)) _ k in
-    let small : Each IsSmall r.stamps = each_turned (λ (s : Stamp). nat_lt (number s) (2 ^ 64) ≡ true) IsSmall r.stamps (λ s e. ltb-true _ _ e) (each_of (λ (s : Stamp). nat_lt (number s) (2 ^ 64)) r.stamps (and_second (nat_lt r.made (2 ^ 64)) _ k1)) in
+    let small : Each StampFits r.stamps = each_of is_writable_stamp r.stamps (and_second (nat_lt r.made (2 ^ 64)) _ k1) in
     let item_paths_fit : Each (λ (i : Item). Each IsPathText i.paths) r.recipe.inputs = each_turned (λ (i : Item). list_all is_path_text i.paths ≡ true) (λ (i : Item). Each IsPathText i.paths) r.recipe.inputs (λ i e. each_of is_path_text i.paths e) (flat_each item_paths is_path_text r.recipe.inputs v.inputs) in
     let outs_fit : Each (λ (o : OutItem). Each OutFits o.outs) r.recipe.outputs = each_turned (λ (o : OutItem). list_all is_path_text (item_outs o) ≡ true) (λ (o : OutItem). Each OutFits o.outs) r.recipe.outputs
     (λ o e. each_turned (λ (x : Out). is_path_text x.path ≡ true) OutFits o.outs (λ x g. (tt, g)) (each_of (λ (x : Out). is_path_text x.path) o.outs (sym (list_all-map is_path_text (λ (x : Out). x.path) o.outs) ∙ e))) (flat_each item_outs is_path_text r.recipe.outputs v.outputs) in
@@ -244,12 +260,15 @@ fits_of r h k =
       stamps = small;
       count = v.count;
     } in (
-      named_passes is_path_text (out_paths r.recipe) r.path v.outputs v.listed,
+      v.format,
       (
-        ltb-true _ _ (and_first (nat_lt r.made (2 ^ 64)) _ k1),
+        named_passes is_path_text (out_paths r.recipe) r.path v.outputs v.listed,
         (
-          (t.template, (t.wildcards, (t.params, (inputs_are, each_both (λ (o : OutItem). IsText o.name) (λ (o : OutItem). Each OutFits o.outs) r.recipe.outputs t.outputs outs_fit)))),
-          members_by r.path r.members (among (folders_of r.recipe) r.path) v.members,
+          ltb-true _ _ (and_first (nat_lt r.made (2 ^ 64)) _ k1),
+          (
+            (t.template, (t.wildcards, (t.params, (inputs_are, each_both (λ (o : OutItem). IsText o.name) (λ (o : OutItem). Each OutFits o.outs) r.recipe.outputs t.outputs outs_fit)))),
+            members_by r.path r.members (among (folders_of r.recipe) r.path) v.members,
+          ),
         ),
       ),
     )
@@ -262,13 +281,13 @@ whole_end rest h = nil_from_length rest (eqb-true _ _ h)
 record_found : (bytes : List ℕ) (r : Record) → record_in bytes ≡ Some r → (bytes ≡ spelling r) × IsTrue (is_valid r && is_writable r)
 unfolding record_in
 record_found bytes r e =
-    let a = bind_some (after_front (codes "SMK1\n") bytes) (λ fields. fields_in fields >>= λ found. cond (eqb (length found.1) 0 && is_valid found.0) (Some found.0) None) r e in
+    let a = bind_some (after_front (codes "SMK") bytes) (λ fields. fields_in fields >>= λ found. cond (eqb (length found.1) 0 && is_valid found.0) (Some found.0) None) r e in
     let b = bind_some (fields_in a.0) (λ found. cond (eqb (length found.1) 0 && is_valid found.0) (Some found.0) None) r a.2 in
     let kept = b.0.0 in
     let g = if_some (eqb (length b.0.1) 0 && is_valid kept) kept r b.2 in
     let nothing : b.0.1 ≡ [] = whole_end b.0.1 (and_first (eqb (length b.0.1) 0) (is_valid kept) g.0) in
     let f = fields_inverts.found a.0 kept b.0.1 b.1 in
-    let whole : bytes ≡ spelling kept = front_found (codes "SMK1\n") bytes a.0 a.1 ∙ ap (λ t. codes "SMK1\n" ++ t) (f.0 ∙ ap (λ t. fields_text kept ++ t) nothing ∙ append-nil (fields_text kept)) ∙ sym (spelled kept) in
+    let whole : bytes ≡ spelling kept = front_found (codes "SMK") bytes a.0 a.1 ∙ ap (λ t. codes "SMK" ++ t) (f.0 ∙ ap (λ t. fields_text kept ++ t) nothing ∙ append-nil (fields_text kept)) ∙ sym (spelled kept) in
     let good : (is_valid kept && is_writable kept) ≡ true = both_true (is_valid kept) (is_writable kept) (and_second (eqb (length b.0.1) 0) (is_valid kept) g.0) (fits_writable kept f.1) in
     subst (λ x. (bytes ≡ spelling x) × IsTrue (is_valid x && is_writable x)) g.1 (whole, good)
 
@@ -280,9 +299,9 @@ unfolding record_in
 record_again r lt h =
     let valid = and_first (is_valid r) (is_writable r) h in
     let fits = fits_of r valid (and_second (is_valid r) (is_writable r) h) in
-    let lt2 : length (fields_text r ++ []) < 2 ^ 64 = omega (arith, lt, ap length (spelled r), length-append (codes "SMK1\n") (fields_text r), length-append (fields_text r) []) in
+    let lt2 : length (fields_text r ++ []) < 2 ^ 64 = omega (arith, lt, ap length (spelled r), length-append (codes "SMK") (fields_text r), length-append (fields_text r) []) in
     let read : fields_in (fields_text r) ≡ Some (r, []) = ap fields_in (sym (append-nil (fields_text r))) ∙ fields_inverts.again r [] fits lt2 in
-    ap record_in (spelled r) ∙ ap record_by (front_again (codes "SMK1\n") (fields_text r)) ∙ rw read (if_true (is_valid r) r valid)
+    ap record_in (spelled r) ∙ ap record_by (front_again (codes "SMK") (fields_text r)) ∙ rw read (if_true (is_valid r) r valid)
 
 pub reads_records : ReadsRecords record_in
 reads_records bytes r lt =
@@ -294,13 +313,13 @@ read_as bytes found lt e = subst (IsReadAs bytes) e (λ r. reads_records bytes r
 -- ---- what bytes begin with
 
 -- the record with which the bytes begin is read, whatever follows it
-begins : (bytes rest : List ℕ) (r : Record) → length bytes < 2 ^ 64 → IsTrue (is_valid r && is_writable r) → bytes ≡ spelling r ++ rest → (after_front (codes "SMK1\n") bytes >>= fields_in) ≡ Some (r, rest)
+begins : (bytes rest : List ℕ) (r : Record) → length bytes < 2 ^ 64 → IsTrue (is_valid r && is_writable r) → bytes ≡ spelling r ++ rest → (after_front (codes "SMK") bytes >>= fields_in) ≡ Some (r, rest)
 begins bytes rest r lt h e =
-    let whole : bytes ≡ codes "SMK1\n" ++ (fields_text r ++ rest) = e ∙ ap (λ t. t ++ rest) (spelled r) ∙ append_assoc (codes "SMK1\n") (fields_text r) rest in
+    let whole : bytes ≡ codes "SMK" ++ (fields_text r ++ rest) = e ∙ ap (λ t. t ++ rest) (spelled r) ∙ append_assoc (codes "SMK") (fields_text r) rest in
     let fits = fits_of r (and_first (is_valid r) (is_writable r) h) (and_second (is_valid r) (is_writable r) h) in
-    let lt2 = shorter (codes "SMK1\n") (fields_text r ++ rest) (2 ^ 64) (subst (λ t. length t < 2 ^ 64) whole lt) in
-    ap (λ t. after_front (codes "SMK1\n") t >>= fields_in) whole
-    ∙ ap (λ o. o >>= fields_in) (front_again (codes "SMK1\n") (fields_text r ++ rest))
+    let lt2 = shorter (codes "SMK") (fields_text r ++ rest) (2 ^ 64) (subst (λ t. length t < 2 ^ 64) whole lt) in
+    ap (λ t. after_front (codes "SMK") t >>= fields_in) whole
+    ∙ ap (λ o. o >>= fields_in) (front_again (codes "SMK") (fields_text r ++ rest))
     ∙ fields_inverts.again r rest fits lt2
 
 pub begin_with_one : BeginWithOne

@@ -13,9 +13,9 @@ use Rattle.smk_world.specs.declared.recipe.Recipe.{Recipe}
 use Rattle.smk_world.specs.Trees.{Each, Path}
 use Rattle.smk_record.specs.declared.record.Stamp.{Stamp}
 use Rattle.smk_record.specs.declared.record.Member.{Member}
-use Rattle.smk_record.specs.Spelling.{num, text, list, stamp, number, stamped_paths, items, pair, values, out_item}
+use Rattle.smk_record.specs.Spelling.{num, text, list, stamp, stamped_paths, items, pair, values, out_item}
 use Rattle.smk_record.specs.Reading.{◌>>=◌, Reader, Taken, number_in, text_in, path_in, both_in, some_in, list_in, each_in, stamp_in, stamped_in, alone, all, item_in, inputs_in, paired, recipe_in, pair_in, values_in, out_item_in}
-use Rattle.smk_record.proofs.Inverts.{Inverts, bind_some, some_is, shorter, IsText, IsPathText, number_found, num_again, some_found, some_again, some_long, text_inverts, path_inverts, stamp_inverts, both_inverts, list_inverts, pair_inverts, values_inverts, out_item_inverts}
+use Rattle.smk_record.proofs.Inverts.{Inverts, bind_some, some_is, shorter, IsText, IsPathText, number_found, num_again, some_found, some_again, some_long, text_inverts, path_inverts, StampFits, stamp_inverts, both_inverts, list_inverts, pair_inverts, values_inverts, out_item_inverts}
 
 -- ---- many values with stamps
 
@@ -62,18 +62,15 @@ each_again {A} {B} stamps spell P one i zs rest h lt = each_is stamps one (lengt
 
 -- ---- an item
 
-abbrev pub IsSmall : Stamp → Type 0
-IsSmall s = number s < 2 ^ 64
-
 abbrev stamped_text : Path × Stamp → List ℕ
 stamped_text z = text z.0 ++ stamp z.1
 
 abbrev StampedFits : Path × Stamp → Type 0
-StampedFits z = IsPathText z.0 × IsSmall z.1
+StampedFits z = IsPathText z.0 × StampFits z.1
 
 stamped_inverts : Inverts stamped_text StampedFits stamped_in
 unfolding stamped_in
-stamped_inverts = both_inverts (λ path s. (path, s)) (λ z. z.0) (λ z. z.1) text IsPathText path_in stamp IsSmall stamp_in (λ a b. refl) (λ a b. refl) (λ c. refl) path_inverts stamp_inverts
+stamped_inverts = both_inverts (λ path s. (path, s)) (λ z. z.0) (λ z. z.1) text IsPathText path_in stamp StampFits stamp_in (λ a b. refl) (λ a b. refl) (λ c. refl) path_inverts stamp_inverts
 
 -- the paths and their stamps, as they are spelled
 stamped_flat : (zs : List (Path × Stamp)) → stamped_paths (firsts zs) (stamps_in alone zs) ≡ flat_map stamped_text zs
@@ -88,15 +85,15 @@ paths_fit : (zs : List (Path × Stamp)) → Each StampedFits zs → Each IsPathT
 paths_fit [] h = tt
 paths_fit (z ∷ zs) h = (h.0.0, paths_fit zs h.1)
 
-stamps_fit : (zs : List (Path × Stamp)) → Each StampedFits zs → Each IsSmall (stamps_in alone zs)
+stamps_fit : (zs : List (Path × Stamp)) → Each StampedFits zs → Each StampFits (stamps_in alone zs)
 stamps_fit [] h = tt
-stamps_fit (z ∷ zs) h = subst (Each IsSmall) (sym (flat_map-cons (λ (y : Path × Stamp). alone y.1) z zs)) (h.0.1, stamps_fit zs h.1)
+stamps_fit (z ∷ zs) h = subst (Each StampFits) (sym (flat_map-cons (λ (y : Path × Stamp). alone y.1) z zs)) (h.0.1, stamps_fit zs h.1)
 
 as_many : (zs : List (Path × Stamp)) → length (stamps_in alone zs) ≡ length (firsts zs)
 as_many [] = refl
 as_many (z ∷ zs) = ap length (flat_map-cons (λ (y : Path × Stamp). alone y.1) z zs) ∙ ap suc (as_many zs)
 
-zip_fits : (ps : List Path) (ss : List Stamp) → Each IsPathText ps → Each IsSmall ss → Each StampedFits (zip ps ss)
+zip_fits : (ps : List Path) (ss : List Stamp) → Each IsPathText ps → Each StampFits ss → Each StampedFits (zip ps ss)
 zip_fits [] ss h k = tt
 zip_fits (p ∷ ps) [] h k = tt
 zip_fits (p ∷ ps) (s ∷ ss) h k = ((h.0, k.0), zip_fits ps ss h.1 k.1)
@@ -123,7 +120,7 @@ item_text x = text x.0.name ++ (num (length x.0.paths) ++ stamped_paths x.0.path
 pub record ItemFits (x : Item × List Stamp) : Type 0 where
   pub name : IsText x.0.name
   pub paths : Each IsPathText x.0.paths
-  pub stamps : Each IsSmall x.1
+  pub stamps : Each StampFits x.1
   pub each : length x.1 ≡ length x.0.paths
 
 abbrev made_item : List ℕ → List Path × List Stamp → List ℕ → Taken (Item × List Stamp)
@@ -156,7 +153,7 @@ item_found bytes x rest e =
     let fits : ItemFits made.0 = record {
       name = one.1;
       paths = subst (Each IsPathText) f.1 (paths_fit zs f.5);
-      stamps = subst (Each IsSmall) f.2 (stamps_fit zs f.5);
+      stamps = subst (Each StampFits) f.2 (stamps_fit zs f.5);
       each = ap length (sym f.2) ∙ as_many zs ∙ ap length f.1;
     } in
     subst (λ (y : (Item × List Stamp) × List ℕ). (bytes ≡ item_text y.0 ++ y.1) × ItemFits y.0) (some_is made (x, rest) c.2) (whole, fits)
@@ -217,7 +214,7 @@ IsGoodItem i = IsText i.name × Each IsPathText i.paths
 
 pub record InputsFit (x : List Item × List Stamp) : Type 0 where
   pub items : Each IsGoodItem x.0
-  pub stamps : Each IsSmall x.1
+  pub stamps : Each StampFits x.1
   pub count : length x.1 ≡ length (paths_in x.0)
 
 each_append : {A : Type 0} (P : A → Type 0) (xs ys : List A) → Each P xs → Each P ys → Each P (xs ++ ys)
@@ -238,9 +235,9 @@ good_items : (zs : List (Item × List Stamp)) → Each ItemFits zs → Each IsGo
 good_items [] h = tt
 good_items (z ∷ zs) h = ((h.0.name, h.0.paths), good_items zs h.1)
 
-small_stamps : (zs : List (Item × List Stamp)) → Each ItemFits zs → Each IsSmall (stamps_in all zs)
+small_stamps : (zs : List (Item × List Stamp)) → Each ItemFits zs → Each StampFits (stamps_in all zs)
 small_stamps [] h = tt
-small_stamps (z ∷ zs) h = subst (Each IsSmall) (sym (flat_map-cons (λ (y : Item × List Stamp). all y.1) z zs)) (each_append IsSmall z.1 (stamps_in all zs) h.0.stamps (small_stamps zs h.1))
+small_stamps (z ∷ zs) h = subst (Each StampFits) (sym (flat_map-cons (λ (y : Item × List Stamp). all y.1) z zs)) (each_append StampFits z.1 (stamps_in all zs) h.0.stamps (small_stamps zs h.1))
 
 count_stamps : (zs : List (Item × List Stamp)) → Each ItemFits zs → length (stamps_in all zs) ≡ length (paths_in (firsts zs))
 count_stamps [] h = refl
@@ -274,12 +271,12 @@ split_stamps (i ∷ is) ss e =
     ∙ ap (λ t. take (length i.paths) ss ++ t) (split_stamps is (drop (length i.paths) ss) (omega (arith, length-drop (length i.paths) ss, paths_count i is, e)))
     ∙ take-append-drop (length i.paths) ss
 
-split_fits : (is : List Item) (ss : List Stamp) → Each IsGoodItem is → Each IsSmall ss → length ss ≡ length (paths_in is) → Each ItemFits (split is ss)
+split_fits : (is : List Item) (ss : List Stamp) → Each IsGoodItem is → Each StampFits ss → length ss ≡ length (paths_in is) → Each ItemFits (split is ss)
 unfolding split
 split_fits [] ss h k e = tt
 split_fits (i ∷ is) ss h k e = (
-  record { name = h.0.0; paths = h.0.1; stamps = each_front IsSmall (length i.paths) ss k; each = omega (arith, length-take (length i.paths) ss, paths_count i is, e) },
-  split_fits is (drop (length i.paths) ss) h.1 (each_back IsSmall (length i.paths) ss k) (omega (arith, length-drop (length i.paths) ss, paths_count i is, e)),
+  record { name = h.0.0; paths = h.0.1; stamps = each_front StampFits (length i.paths) ss k; each = omega (arith, length-take (length i.paths) ss, paths_count i is, e) },
+  split_fits is (drop (length i.paths) ss) h.1 (each_back StampFits (length i.paths) ss k) (omega (arith, length-drop (length i.paths) ss, paths_count i is, e)),
 )
 
 abbrev pub inputs_text : List Item × List Stamp → List ℕ
@@ -297,7 +294,7 @@ inputs_found bytes x rest e =
       one.0 ∙ sym (append_assoc (decimal a.0.0) (10 ∷ []) a.0.1) ∙ ap (λ k. num k ++ a.0.1) count ∙ ap (λ t. num (length x.0) ++ t) (f.3 ∙ ap (λ t. t ++ rest) flat) ∙ sym (append_assoc (num (length x.0)) (items x.0 x.1) rest),
       record {
         items = subst (Each IsGoodItem) f.1 (good_items zs f.5);
-        stamps = subst (Each IsSmall) f.2 (small_stamps zs f.5);
+        stamps = subst (Each StampFits) f.2 (small_stamps zs f.5);
         count = ap length (sym f.2) ∙ count_stamps zs f.5 ∙ ap (λ is. length (paths_in is)) f.1;
       },
     )
@@ -325,13 +322,6 @@ inputs_inverts : Inverts inputs_text InputsFit inputs_in
 inputs_inverts = record { found = inputs_found; again = inputs_again; some = λ x. omega (arith, length-append (num (length x.0)) (items x.0 x.1), length-append (decimal (length x.0)) (10 ∷ [])) }
 
 -- ---- recipes and records
-
-pub num_inverts : Inverts num (λ n. n < 2 ^ 64) (number_in 10)
-num_inverts = record {
-  found = λ bytes n rest e. (let f = number_found 10 bytes n rest e in (f.0 ∙ sym (append_assoc (decimal n) (10 ∷ []) rest), f.1));
-  again = λ n rest h lt. num_again n rest h;
-  some = λ n. omega (arith, length-append (decimal n) (10 ∷ []));
-}
 
 abbrev first_of : {A B : Type 0} → A × B → A
 first_of x = x.0

@@ -1,24 +1,30 @@
 -- What is read is what is spelled, and what is spelled is read again.
-use Rattle.std.proofs.Common.{◌≡◌, inl, inr, ℕ, zero, suc, ◌+◌, ◌<◌, ◌≤◌, ◌^◌, Bool, true, false, ◌&&◌, cond, eqb, List, [], ◌∷◌, ◌++◌, length, take, drop, get_or, Option, Some, None, refl, sym, ap, subst, ◌∙◌, append_assoc, arith, length-append}
-use Rattle.std.specs.Prelude.{not, nat_lt, decimal}
-use Rattle.std.specs.List.{flat_map}
+use Rattle.std.proofs.Common.{◌≡◌, inl, inr, ℕ, zero, suc, ◌+◌, ◌<◌, ◌≤◌, ◌^◌, Bool, true, false, ◌&&◌, cond, eqb, List, [], ◌∷◌, ◌++◌, length, take, drop, get_or, Option, Some, None, Result, Ok, Err, ◌*◌, refl, sym, ap, subst, ◌∙◌, append_assoc, arith, length-append}
+use Rattle.std.specs.Prelude.{not, nat_lt, decimal, bytes_eq}
+use Rattle.std.specs.List.{flat_map, list_all}
 use Rattle.std.specs.Str.{all_ascii_digits}
 use Rattle.std.specs.Str.Parse.{digits_value}
 use Rattle.std.proofs.lemmas.Bool.{cases_lt, ltb-true, eqb-true}
 use Rattle.std.proofs.lemmas.List.{take_at, drop_at, take-append-drop, length-take, length-drop}
 use Rattle.std.proofs.lemmas.List.Concat.{flat_map-cons}
 use Rattle.std.proofs.lemmas.Fmt.{digits_decimal, digits_value-decimal, decimal-digits_value, first_decimal, decimal_digit, decimal_nonempty}
-use Rattle.smk_base.proofs.Places.{and_first, and_second}
-use Rattle.smk_base.proofs.Under.{both_true}
+use Rattle.smk_base.proofs.Places.{and_first, and_second, same_place, place_itself}
+use Rattle.smk_base.proofs.Under.{both_true, or_cases}
 use Rattle.smk_base.specs.Path.{is_path}
+use Rattle.smk_base.specs.Digests.{digest}
+use Rattle.smk_base.specs.declared.sum.Sum.{Sum as Digest}
 use Rattle.smk_world.specs.declared.recipe.Kind.{Kind}
 use Rattle.smk_world.specs.declared.recipe.Kind.TheVariants.{Plain, Folder}
 use Rattle.smk_world.specs.declared.recipe.Out.{Out}
 use Rattle.smk_world.specs.Trees.{Each, is_text, is_path_text, is_folder_kind}
+use Rattle.hex.specs.Hex.{decode_sized, encode_lower, lower_digits, IsBytes}
+use Rattle.hex.specs.declared.error.FromHexError.{FromHexError}
+use Rattle.hex.proofs.HexLemmas.{length-encode_with, decode_of-encode_lower, decode_of-ok, decode_sized-ok, decode_sized-twice}
+use Rattle.smk_record.specs.Records.{is_format}
 use Rattle.smk_record.specs.declared.record.Stamp.{Stamp}
-use Rattle.smk_record.specs.declared.record.Stamp.TheVariants.{Time, Made}
-use Rattle.smk_record.specs.Spelling.{num, text, list, letter, stamp, number, pair, values, out, out_item, member}
-use Rattle.smk_record.specs.Reading.{◌>>=◌, Reader, Taken, digits_len, is_digit, is_numeral, number_of, after_byte, number_in, text_of, text_in, path_in, both_in, some_in, list_in, flag_in, stamp_in, kind_of, pair_in, values_in, out_in, out_item_in, member_in}
+use Rattle.smk_record.specs.declared.record.Stamp.TheVariants.{Time, Sum, Made}
+use Rattle.smk_record.specs.Spelling.{num, text, list, letter, sum, stamp, is_sum, is_writable_stamp, pair, values, out, out_item, member}
+use Rattle.smk_record.specs.Reading.{◌>>=◌, Reader, Taken, digits_len, is_digit, is_numeral, number_of, after_byte, number_in, text_of, text_in, path_in, both_in, some_in, list_in, flag_in, spelled_by, sum_of, sum_in, summed_in, stamp_in, format_in, paired, kind_of, pair_in, values_in, out_in, out_item_in, member_in}
 use Rattle.smk_record.proofs.Digits.{own, front_digits}
 
 pub record Inverts {A : Type 0} (spell : A → List ℕ) (Fits : A → Type 0) (read : Reader A) : Type 0 where
@@ -280,8 +286,132 @@ letter_some false = omega arith
 pub flag_inverts : Inverts letter (λ folder. Unit {0}) flag_in
 flag_inverts = record { found = λ bytes folder rest e. (flag_found bytes folder rest e, tt); again = λ folder rest h lt. flag_again folder rest; some = letter_some }
 
+-- its spelling is read as the stamp
+abbrev pub StampFits : Stamp → Type 0
+StampFits s = is_writable_stamp s ≡ true
+
+below_of : (n k : ℕ) → n < k → nat_lt n k ≡ true
+below_of n k h = grind arith
+
+abbrev is_byte : ℕ → Bool
+is_byte b = nat_lt b 256
+
+bytes_all : (xs : List ℕ) → IsBytes xs → list_all is_byte xs ≡ true
+bytes_all [] h = refl
+bytes_all (b ∷ xs) h = both_true (is_byte b) (list_all is_byte xs) (below_of b 256 (h 0)) (bytes_all xs (λ i. h (suc i)))
+
+all_bytes : (xs : List ℕ) → list_all is_byte xs ≡ true → IsBytes xs
+all_bytes [] h i = omega arith
+all_bytes (b ∷ xs) h zero = ltb-true _ _ (and_first (is_byte b) (list_all is_byte xs) h)
+all_bytes (b ∷ xs) h (suc i) = all_bytes xs (and_second (is_byte b) (list_all is_byte xs) h) i
+
+decoded_fits : (ds bytes : List ℕ) → decode_sized ds 32 ≡ Ok bytes → is_sum bytes ≡ true
+decoded_fits ds bytes d =
+    let len : length ds ≡ 2 * 32 = decode_sized-ok ds 32 bytes d in
+    let ok = decode_of-ok ds bytes (sym (decode_sized-twice ds 32 len) ∙ d) in
+    let long : length bytes ≡ 32 = omega (arith, len, ok.2) in
+    both_true (eqb (length bytes) 32) (list_all is_byte bytes) (rw long refl) (bytes_all bytes ok.3)
+
+sum_of_found : (ds : List ℕ) (s : Digest) → sum_of ds ≡ Some s → (encode_lower s.0 ≡ ds) × (is_sum s.0 ≡ true)
+unfolding sum_of
+sum_of_found ds s e = go (decode_sized ds 32) refl e
+  where
+    go : (r : Result (List ℕ) FromHexError) → decode_sized ds 32 ≡ r → spelled_by ds r ≡ Some s → (encode_lower s.0 ≡ ds) × (is_sum s.0 ≡ true)
+    go (Ok bytes) d h =
+        let g = if_some (bytes_eq (encode_lower bytes) ds) (digest bytes) s h in
+        subst (λ (x : Digest). (encode_lower x.0 ≡ ds) × (is_sum x.0 ≡ true)) g.1 (same_place (encode_lower bytes) ds g.0, decoded_fits ds bytes d)
+    go (Err x) d h = absurd cc
+
+digits_long : (s : List ℕ) → is_sum s ≡ true → length (encode_lower s) ≡ 64
+digits_long s h =
+    let len : length s ≡ 32 = eqb-true (length s) 32 (and_first (eqb (length s) 32) (list_all is_byte s) h) in
+    omega (arith, length-encode_with lower_digits s, len)
+
+sum_of_again : (s : List ℕ) → is_sum s ≡ true → sum_of (encode_lower s) ≡ Some (digest s)
+unfolding sum_of
+sum_of_again s h =
+    let bytes = all_bytes s (and_second (eqb (length s) 32) (list_all is_byte s) h) in
+    let decoded : decode_sized (encode_lower s) 32 ≡ Ok s = decode_sized-twice (encode_lower s) 32 (omega (arith, digits_long s h)) ∙ decode_of-encode_lower s bytes in
+    ap (spelled_by (encode_lower s)) decoded ∙ if_true (bytes_eq (encode_lower s) (encode_lower s)) (digest s) (place_itself (encode_lower s))
+
+abbrev sum_then : List ℕ → Option Digest → Taken Digest
+sum_then rest o = o >>= λ d. Some (d, rest)
+
+abbrev sum_before : List ℕ → List ℕ → Taken Digest
+sum_before front back = after_byte 10 back >>= λ rest. sum_then rest (sum_of front)
+
+sum_inverts : Inverts sum (λ (s : Digest). is_sum s.0 ≡ true) sum_in
+unfolding sum_in
+sum_inverts = record {
+  found = λ bytes s rest e.
+      let a = bind_some (after_byte 10 (drop 64 bytes)) (λ r. sum_of (take 64 bytes) >>= λ d. Some (d, r)) (s, rest) e in
+      let b = bind_some (sum_of (take 64 bytes)) (λ d. Some (d, a.0)) (s, rest) a.2 in
+      let back : drop 64 bytes ≡ 10 ∷ a.0 = byte_found 10 _ a.0 a.1 in
+      let f = sum_of_found (take 64 bytes) b.0 b.1 in
+      let whole : bytes ≡ sum b.0 ++ a.0 = sym (take-append-drop 64 bytes) ∙ ap (λ r. take 64 bytes ++ r) back ∙ ap (λ ds. ds ++ 10 ∷ a.0) (sym f.0) ∙ sym (append_assoc (encode_lower b.0.0) (10 ∷ []) a.0) in
+      subst (λ (q : Digest × List ℕ). (bytes ≡ sum q.0 ++ q.1) × (is_sum q.0.0 ≡ true)) (some_is (b.0, a.0) (s, rest) b.2) (whole, f.1);
+  again = λ s rest h lt.
+      let ds = encode_lower s.0 in
+      let front : take 64 (ds ++ 10 ∷ rest) ≡ ds = take_at ds (10 ∷ rest) 64 (digits_long s.0 h) in
+      let back : drop 64 (ds ++ 10 ∷ rest) ≡ 10 ∷ rest = drop_at ds (10 ∷ rest) 64 (digits_long s.0 h) in
+      ap sum_in (append_assoc ds (10 ∷ []) rest)
+      ∙ ap (λ b. sum_before (take 64 (ds ++ 10 ∷ rest)) b) back
+      ∙ ap (λ f. sum_before f (10 ∷ rest)) front
+      ∙ ap (λ o. o >>= λ r. sum_then r (sum_of ds)) (byte_again 10 rest)
+      ∙ ap (sum_then rest) (sum_of_again s.0 h);
+  some = λ s. omega (arith, length-append (encode_lower s.0) (10 ∷ []));
+}
+
+abbrev time_in : ℕ × Digest → ℕ
+time_in x = x.0
+
+abbrev digest_in : ℕ × Digest → Digest
+digest_in x = x.1
+
+pub num_again : (n : ℕ) (rest : List ℕ) → n < 2 ^ 64 → number_in 10 (num n ++ rest) ≡ Some (n, rest)
+num_again n rest h = ap (number_in 10) (append_assoc (decimal n) (10 ∷ []) rest) ∙ number_again 10 n rest refl h
+
+pub num_inverts : Inverts num (λ n. n < 2 ^ 64) (number_in 10)
+num_inverts = record {
+  found = λ bytes n rest e. (let f = number_found 10 bytes n rest e in (f.0 ∙ sym (append_assoc (decimal n) (10 ∷ []) rest), f.1));
+  again = λ n rest h lt. num_again n rest h;
+  some = λ n. omega (arith, length-append (decimal n) (10 ∷ []));
+}
+
+format_small : (n : ℕ) → is_format n ≡ true → n < 2 ^ 64
+format_small n h =
+    elim (or_cases (eqb n 1) (eqb n 2) h) [
+      | inl one ↦ let e : n ≡ 1 = eqb-true n 1 one in omega (arith, e)
+      | inr two ↦ let e : n ≡ 2 = eqb-true n 2 two in omega (arith, e)
+    ]
+
+pub format_inverts : Inverts num (λ n. is_format n ≡ true) format_in
+unfolding format_in
+format_inverts = record {
+  found = λ bytes n rest e.
+      let a = bind_some (number_in 10 bytes) (λ x. cond (is_format x.0) (Some x) None) (n, rest) e in
+      let g = if_some (is_format a.0.0) a.0 (n, rest) a.2 in
+      let first = num_inverts.found bytes a.0.0 a.0.1 a.1 in
+      subst (λ (q : ℕ × List ℕ). (bytes ≡ num q.0 ++ q.1) × (is_format q.0 ≡ true)) g.1 (first.0, g.0);
+  again = λ n rest h lt. rw (num_again n rest (format_small n h)) (if_true (is_format n) (n, rest) h);
+  some = num_inverts.some;
+}
+
+abbrev SummedFits : ℕ × Digest → Type 0
+SummedFits x = (x.0 < 2 ^ 64) × (is_sum x.1.0 ≡ true)
+
+summed_inverts : Inverts (λ (x : ℕ × Digest). num x.0 ++ sum x.1) SummedFits summed_in
+unfolding summed_in
+summed_inverts = both_inverts {C = ℕ × Digest} paired time_in digest_in num (λ n. n < 2 ^ 64) (number_in 10) sum (λ (s : Digest). is_sum s.0 ≡ true) sum_in (λ a b. refl) (λ a b. refl) (λ c. refl) num_inverts sum_inverts
+
 abbrev stamp_with : (ℕ → Stamp) → ℕ × List ℕ → Taken Stamp
 stamp_with make n = Some (make n.0, n.1)
+
+abbrev summed_stamp : (ℕ × Digest) × List ℕ → Taken Stamp
+summed_stamp x = Some (Sum x.0.0 x.0.1, x.1)
+
+abbrev IsSpelled : List ℕ → Stamp → List ℕ → Type 0
+IsSpelled bytes s rest = (bytes ≡ stamp s ++ rest) × StampFits s
 
 timed : (bytes : List ℕ) (make : ℕ → Stamp) (s : Stamp) (rest : List ℕ) → (number_in 10 bytes >>= stamp_with make) ≡ Some (s, rest) → (n : ℕ) × (bytes ≡ num n ++ rest) × (n < 2 ^ 64) × (make n ≡ s)
 timed bytes make s rest e =
@@ -293,39 +423,52 @@ timed bytes make s rest e =
 
 made_by : (b : ℕ) (bytes : List ℕ) (s : Stamp) (rest : List ℕ) (t : Bool) → eqb b 77 ≡ t
     → cond t (number_in 10 bytes >>= stamp_with Made) None ≡ Some (s, rest)
-    → (b ∷ bytes ≡ stamp s ++ rest) × (number s < 2 ^ 64)
+    → IsSpelled (b ∷ bytes) s rest
 made_by b bytes s rest true e h =
     let t = timed bytes Made s rest h in
-    subst (λ x. (b ∷ bytes ≡ stamp x ++ rest) × (number x < 2 ^ 64)) t.3 (ap (λ x. x ∷ bytes) (byte_is b 77 e) ∙ ap (λ x. 77 ∷ x) t.1, t.2)
+    subst (λ x. IsSpelled (b ∷ bytes) x rest) t.3 (ap (λ x. x ∷ bytes) (byte_is b 77 e) ∙ ap (λ x. 77 ∷ x) t.1, below_of t.0 (2 ^ 64) t.2)
 made_by b bytes s rest false e h = absurd cc
 
+summed_by : (b : ℕ) (bytes : List ℕ) (s : Stamp) (rest : List ℕ) (t : Bool) → eqb b 83 ≡ t
+    → cond t (summed_in bytes >>= summed_stamp) (cond (eqb b 77) (number_in 10 bytes >>= stamp_with Made) None) ≡ Some (s, rest)
+    → IsSpelled (b ∷ bytes) s rest
+summed_by b bytes s rest true e h =
+    let a = bind_some (summed_in bytes) summed_stamp (s, rest) h in
+    let f = summed_inverts.found bytes a.0.0 a.0.1 a.1 in
+    let whole : b ∷ bytes ≡ stamp (Sum a.0.0.0 a.0.0.1) ++ a.0.1 = ap (λ x. x ∷ bytes) (byte_is b 83 e) ∙ ap (λ x. 83 ∷ x) f.0 in
+    let fits : StampFits (Sum a.0.0.0 a.0.0.1) = both_true (nat_lt a.0.0.0 (2 ^ 64)) (is_sum a.0.0.1.0) (below_of a.0.0.0 (2 ^ 64) f.1.0) f.1.1 in
+    subst (λ (q : Stamp × List ℕ). IsSpelled (b ∷ bytes) q.0 q.1) (some_is (Sum a.0.0.0 a.0.0.1, a.0.1) (s, rest) a.2) (whole, fits)
+summed_by b bytes s rest false e h = made_by b bytes s rest (eqb b 77) refl h
+
 stamp_by : (b : ℕ) (bytes : List ℕ) (s : Stamp) (rest : List ℕ) (t : Bool) → eqb b 84 ≡ t
-    → cond t (number_in 10 bytes >>= stamp_with Time) (cond (eqb b 77) (number_in 10 bytes >>= stamp_with Made) None) ≡ Some (s, rest)
-    → (b ∷ bytes ≡ stamp s ++ rest) × (number s < 2 ^ 64)
+    → cond t (number_in 10 bytes >>= stamp_with Time) (cond (eqb b 83) (summed_in bytes >>= summed_stamp) (cond (eqb b 77) (number_in 10 bytes >>= stamp_with Made) None)) ≡ Some (s, rest)
+    → IsSpelled (b ∷ bytes) s rest
 stamp_by b bytes s rest true e h =
     let t = timed bytes Time s rest h in
-    subst (λ x. (b ∷ bytes ≡ stamp x ++ rest) × (number x < 2 ^ 64)) t.3 (ap (λ x. x ∷ bytes) (byte_is b 84 e) ∙ ap (λ x. 84 ∷ x) t.1, t.2)
-stamp_by b bytes s rest false e h = made_by b bytes s rest (eqb b 77) refl h
+    subst (λ x. IsSpelled (b ∷ bytes) x rest) t.3 (ap (λ x. x ∷ bytes) (byte_is b 84 e) ∙ ap (λ x. 84 ∷ x) t.1, below_of t.0 (2 ^ 64) t.2)
+stamp_by b bytes s rest false e h = summed_by b bytes s rest (eqb b 83) refl h
 
-stamp_found : (bytes : List ℕ) (s : Stamp) (rest : List ℕ) → stamp_in bytes ≡ Some (s, rest) → (bytes ≡ stamp s ++ rest) × (number s < 2 ^ 64)
+stamp_found : (bytes : List ℕ) (s : Stamp) (rest : List ℕ) → stamp_in bytes ≡ Some (s, rest) → IsSpelled bytes s rest
 unfolding stamp_in
 stamp_found [] s rest e = absurd cc
 stamp_found (b ∷ bytes) s rest e = stamp_by b bytes s rest (eqb b 84) refl e
 
-pub num_again : (n : ℕ) (rest : List ℕ) → n < 2 ^ 64 → number_in 10 (num n ++ rest) ≡ Some (n, rest)
-num_again n rest h = ap (number_in 10) (append_assoc (decimal n) (10 ∷ []) rest) ∙ number_again 10 n rest refl h
-
-stamp_again : (s : Stamp) (rest : List ℕ) → number s < 2 ^ 64 → stamp_in (stamp s ++ rest) ≡ Some (s, rest)
+stamp_again : (s : Stamp) (rest : List ℕ) → StampFits s → length (stamp s ++ rest) < 2 ^ 64 → stamp_in (stamp s ++ rest) ≡ Some (s, rest)
 unfolding stamp_in
-stamp_again (Time t) rest h = rw (num_again t rest h) refl
-stamp_again (Made m) rest h = rw (num_again m rest h) refl
+stamp_again (Time t) rest h lt = rw (num_again t rest (ltb-true _ _ h)) refl
+stamp_again (Sum t s) rest h lt =
+    let fits : SummedFits (t, s) = (ltb-true _ _ (and_first (nat_lt t (2 ^ 64)) (is_sum s.0) h), and_second (nat_lt t (2 ^ 64)) (is_sum s.0) h) in
+    let lt2 : length ((num t ++ sum s) ++ rest) < 2 ^ 64 = shorter (83 ∷ []) ((num t ++ sum s) ++ rest) (2 ^ 64) lt in
+    ap (λ o. o >>= summed_stamp) (summed_inverts.again (t, s) rest fits lt2)
+stamp_again (Made m) rest h lt = rw (num_again m rest (ltb-true _ _ h)) refl
 
 stamp_some : (s : Stamp) → 0 < length (stamp s)
 stamp_some (Time t) = omega arith
+stamp_some (Sum t s) = omega arith
 stamp_some (Made m) = omega arith
 
-pub stamp_inverts : Inverts stamp (λ s. number s < 2 ^ 64) stamp_in
-stamp_inverts = record { found = stamp_found; again = λ s rest h lt. stamp_again s rest h; some = stamp_some }
+pub stamp_inverts : Inverts stamp StampFits stamp_in
+stamp_inverts = record { found = stamp_found; again = stamp_again; some = stamp_some }
 
 -- ---- values of two parts
 

@@ -1,9 +1,13 @@
 -- Reading the values that the front of some bytes spells, each with the bytes after it.
-use Rattle.std.specs.Prelude.{◌≡◌, ℕ, zero, suc, Bool, true, false, ◌&&◌, not, List, [], ◌∷◌, ◌++◌, length, take, drop, codes, ◌==◌, ◌^◌, nat_lt, nat_le, if◌then◌else◌, Option, Some, None, Result, Ok, Err}
+use Rattle.std.specs.Prelude.{◌≡◌, ℕ, zero, suc, Bool, true, false, ◌&&◌, not, List, [], ◌∷◌, ◌++◌, length, take, drop, codes, ◌==◌, ◌^◌, nat_lt, nat_le, bytes_eq, if◌then◌else◌, Option, Some, None, Result, Ok, Err}
 use Rattle.std.specs.Option.{option_and_then}
 use Rattle.std.specs.Str.Parse.{digits_value}
+use Rattle.hex.specs.Hex.{decode_sized, encode_lower}
+use Rattle.hex.specs.declared.error.FromHexError.{FromHexError}
 use Rattle.smk_base.specs.Path.{is_path}
+use Rattle.smk_base.specs.declared.sum.Sum.{Sum as Digest}
 use Rattle.smk_base.specs.declared.tree.Pair.{Pair}
+use Rattle.smk_base.specs.Digests.{digest}
 use Rattle.smk_world.specs.declared.recipe.Kind.{Kind}
 use Rattle.smk_world.specs.declared.recipe.Kind.TheVariants.{Plain, Folder}
 use Rattle.smk_world.specs.declared.recipe.Values.{Values}
@@ -13,12 +17,12 @@ use Rattle.smk_world.specs.declared.recipe.Out.{Out}
 use Rattle.smk_world.specs.declared.recipe.Recipe.{Recipe}
 use Rattle.smk_world.specs.Trees.{Path, is_text}
 use Rattle.smk_record.specs.declared.record.Stamp.{Stamp}
-use Rattle.smk_record.specs.declared.record.Stamp.TheVariants.{Time, Made}
+use Rattle.smk_record.specs.declared.record.Stamp.TheVariants.{Time, Sum, Made}
 use Rattle.smk_record.specs.declared.record.Member.{Member}
 use Rattle.smk_record.specs.declared.record.Record.{Record}
 use Rattle.smk_record.specs.declared.stop.Stop.{Stop}
 use Rattle.smk_record.specs.declared.stop.Stop.TheVariants.{Unread, OutOfMemory}
-use Rattle.smk_record.specs.Records.{is_valid}
+use Rattle.smk_record.specs.Records.{is_valid, is_format}
 
 infixl 10 ◌>>=◌
 abbrev pub ◌>>=◌ : {A B : Type 0} → Option A → (A → Option B) → Option B
@@ -98,6 +102,9 @@ both_in make first second bytes = do
   b ← second a.1
   Some (make a.0 b.0, b.1)
 
+abbrev pub paired : {A B : Type 0} → A → B → A × B
+paired a b = (a, b)
+
 -- so many values, one after the other
 unfoldable pub some_in : {A : Type 0} → Reader A → ℕ → Reader (List A)
 some_in one zero bytes = Some ([], bytes)
@@ -117,10 +124,33 @@ abbrev pub flag_in : Reader Bool
 flag_in [] = None
 flag_in (b ∷ bytes) = if b == 68 then Some (true, bytes) else if b == 70 then Some (false, bytes) else None
 
+-- the digest of the bytes, where these are the lower-case digits that spell it
+abbrev pub spelled_by : List ℕ → Result (List ℕ) FromHexError → Option Digest
+spelled_by digits (Ok bytes) = if bytes_eq (encode_lower bytes) digits then Some (digest bytes) else None
+spelled_by digits (Err e) = None
+
+-- the digest that lower-case digits spell
+unfoldable pub sum_of : List ℕ → Option Digest
+sum_of digits = spelled_by digits (decode_sized digits 32)
+
+-- 64 digits, and a line end
+unfoldable pub sum_in : Reader Digest
+sum_in bytes = do
+  rest ← after_byte 10 (drop 64 bytes)
+  s ← sum_of (take 64 bytes)
+  Some (s, rest)
+
+-- a time, and a SHA-256
+unfoldable pub summed_in : Reader (ℕ × Digest)
+summed_in = both_in paired (number_in 10) sum_in
+
 unfoldable pub stamp_in : Reader Stamp
 stamp_in [] = None
 stamp_in (b ∷ bytes) =
-    if b == 84 then (number_in 10 bytes >>= λ n. Some (Time n.0, n.1)) else if b == 77 then (number_in 10 bytes >>= λ n. Some (Made n.0, n.1)) else None
+    if b == 84 then (number_in 10 bytes >>= λ n. Some (Time n.0, n.1))
+    else if b == 83 then (summed_in bytes >>= λ x. Some (Sum x.0.0 x.0.1, x.1))
+    else if b == 77 then (number_in 10 bytes >>= λ n. Some (Made n.0, n.1))
+    else None
 
 abbrev pub kind_of : Bool → Kind
 kind_of true = Folder
@@ -176,20 +206,23 @@ inputs_in bytes = do
   n ← number_in 10 bytes
   each_in all item_in n.0 n.1
 
-abbrev pub paired : {A B : Type 0} → A → B → A × B
-paired a b = (a, b)
-
 -- a recipe, and the stamps of its inputs
 unfoldable pub recipe_in : Reader (Recipe × List Stamp)
 recipe_in =
     both_in (λ template x. (record { template = template; wildcards = x.0; params = x.1.0; inputs = x.1.1.0.0; outputs = x.1.1.1 }, x.1.1.0.1)) text_in
     (both_in paired (list_in pair_in) (both_in paired (list_in values_in) (both_in paired inputs_in (list_in out_item_in))))
 
--- what follows the first line
+-- the number of a format, and a line end
+unfoldable pub format_in : Reader ℕ
+format_in bytes = do
+  n ← number_in 10 bytes
+  if is_format n.0 then Some n else None
+
+-- what follows the front
 unfoldable pub fields_in : Reader Record
 fields_in =
-    both_in (λ path x. record { path = path; made = x.0; recipe = x.1.0.0; stamps = x.1.0.1; members = x.1.1 }) path_in
-    (both_in paired (number_in 10) (both_in paired recipe_in (list_in member_in)))
+    both_in (λ format x. record { format = format; path = x.0; made = x.1.0; recipe = x.1.1.0.0; stamps = x.1.1.0.1; members = x.1.1.1 }) format_in
+    (both_in paired path_in (both_in paired (number_in 10) (both_in paired recipe_in (list_in member_in))))
 
 -- what follows the front
 abbrev pub after_front : List ℕ → List ℕ → Option (List ℕ)
@@ -200,6 +233,6 @@ after_front (c ∷ front) (b ∷ bytes) = if b == c then after_front front bytes
 -- a valid record, where these are all its bytes
 unfoldable pub record_in : List ℕ → Option Record
 record_in bytes = do
-  fields ← after_front (codes "SMK1\n") bytes
+  fields ← after_front (codes "SMK") bytes
   found ← fields_in fields
   if length found.1 == 0 && is_valid found.0 then Some found.0 else None

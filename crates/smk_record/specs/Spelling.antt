@@ -1,6 +1,8 @@
 -- How a record is written, to the byte.
-use Rattle.std.specs.Prelude.{◌≡◌, ◌↔◌, ℕ, Bool, ◌&&◌, List, [], ◌∷◌, ◌++◌, map, length, drop, decimal, codes, if◌then◌else◌, ◌^◌, ◌<◌, nat_lt, Option, Some, IsTrue}
+use Rattle.std.specs.Prelude.{◌≡◌, ◌↔◌, ℕ, Bool, ◌&&◌, List, [], ◌∷◌, ◌++◌, map, length, drop, decimal, ◌==◌, codes, if◌then◌else◌, ◌^◌, ◌<◌, nat_lt, Option, Some, IsTrue}
 use Rattle.std.specs.List.{list_all, flat_map}
+use Rattle.hex.specs.Hex.{encode_lower}
+use Rattle.smk_base.specs.declared.sum.Sum.{Sum as Digest}
 use Rattle.smk_base.specs.declared.tree.Pair.{Pair}
 use Rattle.smk_world.specs.declared.recipe.Values.{Values}
 use Rattle.smk_world.specs.declared.recipe.Item.{Item}
@@ -9,7 +11,7 @@ use Rattle.smk_world.specs.declared.recipe.Out.{Out}
 use Rattle.smk_world.specs.declared.recipe.Recipe.{Recipe}
 use Rattle.smk_world.specs.Trees.{Path, is_text, is_folder_kind}
 use Rattle.smk_record.specs.declared.record.Stamp.{Stamp}
-use Rattle.smk_record.specs.declared.record.Stamp.TheVariants.{Time, Made}
+use Rattle.smk_record.specs.declared.record.Stamp.TheVariants.{Time, Sum, Made}
 use Rattle.smk_record.specs.declared.record.Member.{Member}
 use Rattle.smk_record.specs.declared.record.Record.{Record}
 use Rattle.smk_record.specs.Records.{is_valid}
@@ -32,8 +34,13 @@ pair p = text p.name ++ text p.value
 abbrev pub values : Values → List ℕ
 values v = text v.name ++ list text v.values
 
+-- a SHA-256 in lower-case digits, and a line end
+abbrev pub sum : Digest → List ℕ
+sum s = encode_lower s.0 ++ 10 ∷ []
+
 abbrev pub stamp : Stamp → List ℕ
 stamp (Time t) = codes "T" ++ num t
+stamp (Sum t s) = (codes "S" ++ num t) ++ sum s
 stamp (Made m) = codes "M" ++ num m
 
 -- each path with its stamp; the stamps that are left
@@ -60,10 +67,14 @@ out_item o = text o.name ++ list out o.outs
 abbrev pub member : Member → List ℕ
 member m = letter m.folder ++ text m.name
 
+-- the line that names the format
+abbrev pub first_line : ℕ → List ℕ
+first_line format = codes "SMK" ++ num format
+
 -- all but the members
 abbrev pub head : Record → List ℕ
 head r =
-    codes "SMK1\n"
+    first_line r.format
     ++ (text r.path
     ++ (num r.made
     ++ (text r.recipe.template
@@ -86,14 +97,19 @@ texts recipe =
     ++ (flat_map (λ (v : Values). v.name ∷ v.values) recipe.params
     ++ (map (λ (i : Item). i.name) recipe.inputs ++ map (λ (o : OutItem). o.name) recipe.outputs)))
 
--- the number of a stamp
-abbrev pub number : Stamp → ℕ
-number (Time t) = t
-number (Made m) = m
+-- 32 bytes
+abbrev pub is_sum : List ℕ → Bool
+is_sum bytes = length bytes == 32 && list_all (λ b. nat_lt b 256) bytes
 
--- Its texts are UTF-8, and its numbers have at most 64 bits: so is every record that is ever written.
+-- its number has at most 64 bits, and its SHA-256 is 32 bytes
+abbrev pub is_writable_stamp : Stamp → Bool
+is_writable_stamp (Time t) = nat_lt t (2 ^ 64)
+is_writable_stamp (Sum t s) = nat_lt t (2 ^ 64) && is_sum s.0
+is_writable_stamp (Made m) = nat_lt m (2 ^ 64)
+
+-- Its texts are UTF-8, its numbers have at most 64 bits, and each SHA-256 is 32 bytes: so is every record that is ever written.
 abbrev pub is_writable : Record → Bool
-is_writable r = list_all is_text (texts r.recipe) && (nat_lt r.made (2 ^ 64) && list_all (λ s. nat_lt (number s) (2 ^ 64)) r.stamps)
+is_writable r = list_all is_text (texts r.recipe) && (nat_lt r.made (2 ^ 64) && list_all is_writable_stamp r.stamps)
 
 -- What a reader of records finds in these bytes: the valid record that they spell, and nothing where they spell none.
 abbrev pub IsReadAs : List ℕ → Option Record → Type 0

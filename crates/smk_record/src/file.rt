@@ -2,8 +2,8 @@
 
 ghost use Rattle.std.specs.Prelude.{◌≡◌, ◌↔◌, ◌^◌, ◌<◌, ◌&&◌, ◌++◌, length, IfOk, OnOk, IsTrue, string_bytes, Some};
 ghost use Rattle.smk_record.specs.Records.{is_valid};
-ghost use Rattle.smk_record.specs.Spelling.{spelling, head, list, member, IsReadAs};
-ghost use Rattle.smk_record.specs.Reading.{Gives, recipe_in, fields_in, record_in, after_front};
+ghost use Rattle.smk_record.specs.Spelling.{spelling, first_line, head, list, member, IsReadAs};
+ghost use Rattle.smk_record.specs.Reading.{Gives, recipe_in, format_in, fields_in, record_in, after_front};
 
 use crate::bytes::number;
 use crate::inputs::{inputs, push_inputs};
@@ -52,11 +52,18 @@ fn after_front<'a>(front: &[u8], bytes: &'a [u8]) -> Result<&'a [u8], Stop>
     Ok(rest)
 }
 
+// Adds the line that names the format.
+fn push_first_line(text: &mut String, format: u8) -> Result<(), AllocError>
+    ensures { OnOk result (string_bytes text.new ≡ string_bytes text.old ++ first_line format) }
+{
+    writeln!(text, "SMK{format}")
+}
+
 // Adds all but the members.
 fn push_head(text: &mut String, kept: &Record) -> Result<(), AllocError>
     ensures { OnOk result (string_bytes text.new ≡ string_bytes text.old ++ head kept.now) }
 {
-    text.push_str("SMK1\n")?;
+    push_first_line(text, kept.format)?;
     kept.path.push_to(text)?;
     push_number(text, kept.made)?;
     kept.recipe.template.push_to(text)?;
@@ -76,16 +83,31 @@ pub fn write(alloc: Global, kept: &Record) -> Result<Bytes, OutOfMemory>
     Bytes::of(alloc, text.as_bytes())
 }
 
-// The record whose fields follow the first line, valid or not.
+// A format that is read.
+#[tactic(auto, unfolding(crate::specs::Reading::format_in))]
+fn format(bytes: &[u8]) -> Result<(u8, &[u8]), Stop>
+    ensures { Gives (λ x. (x.0, x.1.now)) result (format_in bytes.now) }
+{
+    let (number, rest) = number(b'\n', bytes)?;
+    match number {
+        1 => Ok((1, rest)),
+        2 => Ok((2, rest)),
+        _ => Err(Stop::Unread),
+    }
+}
+
+// The record of which these are the fields, valid or not.
 #[tactic(auto, unfolding(crate::specs::Reading::fields_in))]
 fn fields(alloc: Global, bytes: &[u8]) -> Result<(Record, &[u8]), Stop>
     ensures { Gives (λ x. (x.0, x.1.now)) result (fields_in bytes.now) }
 {
-    let (path, rest) = Spelled::read(alloc, bytes)?;
+    let (format, rest) = format(bytes)?;
+    let (path, rest) = Spelled::read(alloc, rest)?;
     let (made, rest) = number(b'\n', rest)?;
     let ((recipe, stamps), rest) = recipe(alloc, rest)?;
     let (members, rest) = Spelled::read(alloc, rest)?;
     let kept = Record {
+        format,
         path,
         made,
         recipe,
@@ -100,7 +122,7 @@ fn fields(alloc: Global, bytes: &[u8]) -> Result<(Record, &[u8]), Stop>
 fn record(alloc: Global, bytes: &[u8]) -> Result<Record, Stop>
     ensures { Gives (λ kept. kept) result (record_in bytes.now) }
 {
-    let rest = after_front(b"SMK1\n", bytes)?;
+    let rest = after_front(b"SMK", bytes)?;
     let (kept, rest) = fields(alloc, rest)?;
     if rest.is_empty() && kept.is_valid() {
         Ok(kept)

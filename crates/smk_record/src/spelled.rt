@@ -1,15 +1,16 @@
 //! Values that have one spelling, and are read from it again.
 
 ghost use Rattle.std.specs.Prelude.{◌≡◌, ◌++◌, ℕ, List as Items, Option, OnOk, string_bytes};
-ghost use Rattle.smk_record.specs.Spelling.{text as text_spelling, num, list as list_spelling, pair, values, stamp, out, out_item, member, letter};
-ghost use Rattle.smk_record.specs.Reading.{Gives, text_in, path_in, some_in, list_in, flag_in, stamp_in, pair_in, values_in, out_in, out_item_in, member_in};
+ghost use Rattle.smk_record.specs.Spelling.{text as text_spelling, num, sum as sum_spelling, list as list_spelling, pair, values, stamp, out, out_item, member, letter};
+ghost use Rattle.smk_record.specs.Reading.{Gives, text_in, path_in, some_in, list_in, flag_in, summed_in, stamp_in, pair_in, values_in, out_in, out_item_in, member_in};
 
-use crate::bytes::{number, text};
+use crate::bytes::{digits_of, number, sum, text};
 use crate::record::{Member, Stamp};
 use crate::stop::Stop;
-use smk_base::{List, Pair, PathFault, PathText, Text};
+use smk_base::{List, Pair, PathFault, PathText, Sum, Text};
 use smk_world::{Kind, Out, OutItem, Values};
 use std::alloc::{AllocError, Global};
+use std::str;
 
 /// A value with one spelling.
 pub(crate) trait Spelled: Drop {
@@ -116,6 +117,27 @@ impl Spelled for Values {
     }
 }
 
+// Adds the SHA-256 and a line end.
+fn push_sum(text: &mut String, sum: &Sum) -> Result<(), AllocError>
+    ensures { OnOk result (string_bytes text.new ≡ string_bytes text.old ++ sum_spelling sum.now) }
+{
+    let digits = digits_of(sum);
+    match str::from_utf8(&digits) {
+        Ok(word) => writeln!(text, "{word}"),
+        Err(_) => unreachable!(),
+    }
+}
+
+// A time, and the SHA-256 after it.
+#[tactic(auto, unfolding(crate::specs::Reading::summed_in))]
+fn summed(bytes: &[u8]) -> Result<((u64, Sum), &[u8]), Stop>
+    ensures { Gives (λ x. (x.0, x.1.now)) result (summed_in bytes.now) }
+{
+    let (time, rest) = number(b'\n', bytes)?;
+    let (sum, rest) = sum(rest)?;
+    Ok(((time, sum), rest))
+}
+
 impl Spelled for Stamp {
     ghost spells = { stamp };
 
@@ -128,6 +150,10 @@ impl Spelled for Stamp {
                 let (time, rest) = number(b'\n', rest)?;
                 Ok((Stamp::Time(time), rest))
             }
+            [b'S', rest @ ..] => {
+                let ((time, sum), rest) = summed(rest)?;
+                Ok((Stamp::Sum(time, sum), rest))
+            }
             [b'M', rest @ ..] => {
                 let (serial, rest) = number(b'\n', rest)?;
                 Ok((Stamp::Made(serial), rest))
@@ -139,6 +165,10 @@ impl Spelled for Stamp {
     fn push_to(&self, text: &mut String) -> Result<(), AllocError> {
         match self {
             Stamp::Time(time) => writeln!(text, "T{time}"),
+            Stamp::Sum(time, sum) => {
+                writeln!(text, "S{time}")?;
+                push_sum(text, sum)
+            }
             Stamp::Made(serial) => writeln!(text, "M{serial}"),
         }
     }

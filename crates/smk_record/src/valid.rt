@@ -7,7 +7,7 @@ ghost use Rattle.std.specs.Ordering.{nat_cmp};
 ghost use Rattle.smk_base.specs.Path.{is_path};
 ghost use Rattle.smk_world.specs.World.{is_named, in_paths, out_paths, folders_above};
 ghost use Rattle.smk_world.specs.Trees.{among, folders_of, is_path_text, are_members, is_folder_kind};
-ghost use Rattle.smk_record.specs.Records.{is_valid, is_earlier, are_rising, is_member_folder, are_valid_members, are_none};
+ghost use Rattle.smk_record.specs.Records.{is_valid, is_earlier, is_format, is_in_format, are_rising, is_member_folder, are_valid_members, are_none};
 
 use crate::record::{Member, Stamp};
 use smk_base::{List, Pair, PathText};
@@ -104,6 +104,35 @@ fn are_earlier(made: u64, stamps: &[Stamp]) -> bool
     true
 }
 
+// Whether a record of the format may have the stamp.
+fn is_in_format(format: u8, stamp: &Stamp) -> bool
+    ensures { result ≡ is_in_format format stamp.now }
+{
+    match stamp {
+        Stamp::Sum(..) => format == 2,
+        _ => true,
+    }
+}
+
+// Whether a record of the format may have the stamps.
+fn are_in_format(format: u8, stamps: &[Stamp]) -> bool
+    ensures { result ≡ list_all (is_in_format format) stamps.now }
+{
+    for stamp in stamps {
+        if !is_in_format(format, stamp) {
+            return false;
+        }
+    }
+    true
+}
+
+// Whether records of the format are read.
+fn is_format(format: u8) -> bool
+    ensures { result ≡ is_format format }
+{
+    format == 1 || format == 2
+}
+
 // Whether the names rise in byte order.
 fn wildcards_rise(wildcards: &[Pair]) -> bool
     ensures { result ≡ are_rising (map (λ w. w.name) wildcards.now) }
@@ -198,13 +227,14 @@ fn are_valid_members(path: &PathText, members: &[Member]) -> bool
 
 /// Whether a record of these parts is valid.
 pub(crate) fn is_valid(
+    format: u8,
     path: &PathText,
     made: u64,
     recipe: &Recipe,
     stamps: &[Stamp],
     members: &[Member],
 ) -> bool
-    ensures { result ≡ is_valid (record { path = path.now; made = made; recipe = recipe.now; stamps = stamps.now; members = members.now }) }
+    ensures { result ≡ is_valid (record { format = format; path = path.now; made = made; recipe = recipe.now; stamps = stamps.now; members = members.now }) }
 {
     has_each_stamp(recipe.inputs.as_slice(), stamps)
         && has_output(recipe.outputs.as_slice(), path.as_str())
@@ -212,6 +242,8 @@ pub(crate) fn is_valid(
         && are_earlier(made, stamps)
         && wildcards_rise(recipe.wildcards.as_slice())
         && may_have(path, recipe.outputs.as_slice(), members)
+        && is_format(format)
+        && are_in_format(format, stamps)
 }
 
 // Whether the output at the path may have the members.

@@ -1,11 +1,13 @@
 -- What holds of all calls of a part of a turn, where it holds of those of its parts.
-use Rattle.std.proofs.Common.{◌≡◌, inl, inr, ℕ, List, [], ◌∷◌, ◌++◌, ap, sym, subst, Option, Some, None, Result, Ok, Err}
+use Rattle.std.proofs.Common.{◌≡◌, ◌⊎◌, inl, inr, ℕ, Bool, true, false, true≢false, List, [], ◌∷◌, ◌++◌, ap, sym, subst, Option, Some, None, Result, Ok, Err}
 use Rattle.smk_world.specs.declared.event.Call.{Call}
+use Rattle.smk_world.specs.declared.event.Call.TheVariants.{Looked, ReadFile, ReadFolder, Written, Created, Removed, MadeParents, Settled, Protected, Started, Waited}
 use Rattle.smk_world.specs.declared.event.Event.{Event}
 use Rattle.smk_world.specs.declared.event.WorkFault.{WorkFault}
 use Rattle.smk_world.specs.declared.event.WorkFault.TheVariants.{Failed as FailedFault, OutOfMemory as MemoryFault}
 use Rattle.smk_world.specs.declared.recipe.Out.{Out}
 use Rattle.smk_world.specs.World.{World}
+use Rattle.smk_world.specs.Devices.{AreLooks as AreReads, is_look}
 use Rattle.smk_world.specs.Requests.{Request, request, HasDone, IsCutShort}
 use Rattle.smk_world.specs.Requests.Request.{Look, ReadUpTo, ListFolder, Write, Create, Remove, MakeParents, Settle, Protect, Start, Wait}
 use Rattle.smk_world.specs.Trees.{Path, Each, outs_of}
@@ -20,7 +22,8 @@ use Rattle.smk_run.specs.declared.stop.Stop.{Stop}
 use Rattle.smk_run.specs.declared.stop.Stop.TheVariants as stop
 use Rattle.smk_run.specs.declared.ending.Ending.{Ending}
 use Rattle.smk_run.specs.declared.ending.Ending.TheVariants.{Good, Status, NoOutput, WrongKind, BadMember}
-use Rattle.smk_run.specs.Stamps.{Serials, look_at, looks, IsStamped, AreStamped, HasStamped}
+use Rattle.smk_run.specs.Digesting.{HasDigested, HasReadPart, HasInputs}
+use Rattle.smk_run.specs.Stamps.{Serials, look_at, looks, IsStamped, AreStamped}
 use Rattle.smk_run.specs.Closings.{HasSettled}
 
 -- so of each call
@@ -64,9 +67,10 @@ part_each P (r ∷ rs) (e ∷ es) h k = elim k.1 [
 
 -- ## Looks
 
--- looks and listings are so
+-- looks, reads and listings are so
 pub record OfLooks (P : Request → Type 0) : Type 0 where
   pub look : (p : Path) → P (Look p)
+  pub read : (p : Path) (limit : ℕ) → P (ReadUpTo p limit)
   pub listed : (p : Path) → P (ListFolder p)
 
 listing_is : (P : Request → Type 0) (all : OfLooks P) (out : Out) (r : Request) → IsListing out r → P r
@@ -138,13 +142,40 @@ stamped_each P all made (p ∷ ps) [] es h = absurd h
 stamped_each P all made (p ∷ ps) (s ∷ stamps) es (first, more, e, one, next) =
     each_then P es first more e (stamp_each P all (made p) p s first one) (stamped_each P all made ps stamps more next)
 
-pub has_stamped_each : (P : Request → Type 0) (all : OfLooks P) (made : Serials) (ps : List Path) (r : Result (List Stamp) Stop) (w : World) (es : List Event) → HasStamped made ps r w es → EachCall P es
-has_stamped_each P all made ps (Ok stamps) w es h = stamped_each P all made ps stamps es h
-has_stamped_each P all made ps (Err (stop.Gone p)) w es h = part_each P (looks made ps) es (inputs_each P all made ps) h.0
-has_stamped_each P all made ps (Err (stop.TooLong n)) w es h = part_each P (looks made ps) es (inputs_each P all made ps) h
-has_stamped_each P all made ps (Err stop.Device) w es h = part_each P (looks made ps) es (inputs_each P all made ps) h
-has_stamped_each P all made ps (Err stop.Output) w es h = part_each P (looks made ps) es (inputs_each P all made ps) h
-has_stamped_each P all made ps (Err stop.OutOfMemory) w es h = part_each P (looks made ps) es (inputs_each P all made ps) h
+-- ## Reads of sources
+
+read_is : (P : Request → Type 0) (all : OfLooks P) (c : Call) → is_look c ≡ true → P (request c)
+read_is P all (Looked p r) h = all.look p
+read_is P all (ReadFile p limit r) h = all.read p limit
+read_is P all (ReadFolder p r) h = all.listed p
+read_is P all (Written p bytes r) h = absurd (true≢false (sym h))
+read_is P all (Created p r) h = absurd (true≢false (sym h))
+read_is P all (Removed p r) h = absurd (true≢false (sym h))
+read_is P all (MadeParents p r) h = absurd (true≢false (sym h))
+read_is P all (Settled ps r) h = absurd (true≢false (sym h))
+read_is P all (Protected p r) h = absurd (true≢false (sym h))
+read_is P all (Started recipe logs command r) h = absurd (true≢false (sym h))
+read_is P all (Waited r) h = absurd (true≢false (sym h))
+
+reads_each : (P : Request → Type 0) (all : OfLooks P) (failure : Bool) (es : List Event) → AreReads failure es → EachCall P es
+reads_each P all failure [] h = tt
+reads_each P all failure (e ∷ []) h = (read_is P all e.call h.0, tt)
+reads_each P all failure (e ∷ (f ∷ es)) h = (read_is P all e.call h.0, reads_each P all failure (f ∷ es) h.2)
+
+pub digested_each : (P : Request → Type 0) (all : OfLooks P) (made : Serials) (ps : List Path) (ss : List Stamp) (w : World) (es : List Event) → HasDigested made ps ss w es → EachCall P es
+digested_each P all made ps ss w es h = each_then P es h.looks h.reads h.events (stamped_each P all made ps h.seen h.looks h.stamped) (reads_each P all false h.reads h.only_read)
+
+part_read_each : (P : Request → Type 0) (all : OfLooks P) (made : Serials) (ps : List Path) (es : List Event) → IsPart (looks made ps) es ⊎ HasReadPart made ps es → EachCall P es
+part_read_each P all made ps es (inl h) = part_each P (looks made ps) es (inputs_each P all made ps) h
+part_read_each P all made ps es (inr h) = each_then P es h.looks h.reads h.events (stamped_each P all made ps h.seen h.looks h.stamped) (reads_each P all h.failure h.reads h.only_read)
+
+pub has_inputs_each : (P : Request → Type 0) (all : OfLooks P) (made : Serials) (ps : List Path) (r : Result (List Stamp) Stop) (w : World) (es : List Event) → HasInputs made ps r w es → EachCall P es
+has_inputs_each P all made ps (Ok stamps) w es h = digested_each P all made ps stamps w es h
+has_inputs_each P all made ps (Err (stop.Gone p)) w es h = part_each P (looks made ps) es (inputs_each P all made ps) h.0
+has_inputs_each P all made ps (Err (stop.TooLong n)) w es h = part_read_each P all made ps es h
+has_inputs_each P all made ps (Err stop.Device) w es h = part_read_each P all made ps es h
+has_inputs_each P all made ps (Err stop.Output) w es h = part_read_each P all made ps es h
+has_inputs_each P all made ps (Err stop.OutOfMemory) w es h = part_read_each P all made ps es h
 
 -- ## The closing
 

@@ -26,9 +26,10 @@ use Rattle.smk_job.specs.Jobs.{Underway, HasBegun, parents_each, clear_requests,
 use Rattle.smk_run.specs.declared.ending.Ending.{Ending}
 use Rattle.smk_run.specs.declared.stop.Stop.{Stop}
 use Rattle.smk_run.specs.Closings.{wait_event, HasSettled}
-use Rattle.smk_run.specs.Stamps.{Serials, HasStamped}
+use Rattle.smk_run.specs.Digesting.{HasInputs}
+use Rattle.smk_run.specs.Stamps.{Serials}
 use Rattle.smk_run.specs.Statuses.{IsGiven, AreGiven, HasGiven}
-use Rattle.smk_run.proofs.Calls.{EachCall, OfLooks, OfClosing, each_append, done_each, cut_each, has_stamped_each, settled_each}
+use Rattle.smk_run.proofs.Calls.{EachCall, OfLooks, OfClosing, each_append, done_each, cut_each, has_inputs_each, settled_each}
 use Rattle.smk_run.proofs.Closes.{did_first}
 use Rattle.smk_run.proofs.Ends.{did_as}
 use Rattle.smk_run.proofs.Rising.{rose_earlier, rose_later}
@@ -148,7 +149,7 @@ quiet_lose outs logs =
     (quiet_unmark outs logs)
 
 quiet_looks : OfLooks IsQuiet
-quiet_looks = record { look = λ p. tt; listed = λ p. tt }
+quiet_looks = record { look = λ p. tt; read = λ p limit. tt; listed = λ p. tt }
 
 quiet_closing : (j : Underway) → OfClosing IsQuiet j
 quiet_closing j = record {
@@ -164,10 +165,10 @@ pub given_none : (act : Act) (a : Device) → HasGiven act a a
 given_none act a = λ w e. (w, e, ([], tt, tt, refl))
 
 -- looks at inputs
-pub stamped_given : (act : Act) (made : Serials) (ps : List Path) (r : Result (List Stamp) Stop) (a b : Device) → Did act a.world b.world (HasStamped made ps r) → HasGiven act a b
+pub stamped_given : (act : Act) (made : Serials) (ps : List Path) (r : Result (List Stamp) Stop) (a b : Device) → Did act a.world b.world (HasInputs made ps r) → HasGiven act a b
 stamped_given act made ps r a b h =
-    did_as act (HasStamped made ps r) (AreGiven act (Rose a.faults b.faults)) a.world b.world h
-    (λ w es f. quiet_given act (Rose a.faults b.faults) w es (has_stamped_each IsQuiet quiet_looks made ps r w es f))
+    did_as act (HasInputs made ps r) (AreGiven act (Rose a.faults b.faults)) a.world b.world h
+    (λ w es f. quiet_given act (Rose a.faults b.faults) w es (has_inputs_each IsQuiet quiet_looks made ps r w es f))
 
 begun_quiet : (recipe : Recipe) (logs : List Path) (command : List ℕ) (r : Result Underway BeginFault) (w : World) (es : List Event) → HasBegun recipe logs command r w es → EachCall IsQuiet es
 begun_quiet recipe logs command (Ok going) w es h = done_each IsQuiet (begin_requests recipe logs command) es (quiet_begin recipe logs command) h.0

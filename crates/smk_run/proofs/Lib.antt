@@ -17,3 +17,5 @@ pub mod Serving
 pub mod Makers
 pub mod Choosing
 pub mod Telling
+pub mod Digested
+pub mod Inputs

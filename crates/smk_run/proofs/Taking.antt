@@ -20,7 +20,8 @@ use Rattle.smk_report.specs.declared.fault.Fault.TheVariants as fault
 use Rattle.smk_run.specs.declared.ending.Ending.{Ending}
 use Rattle.smk_run.specs.declared.stop.Stop.{Stop}
 use Rattle.smk_run.specs.declared.stop.Stop.TheVariants.{TooLong, Gone, Device as DeviceStop, Output, OutOfMemory}
-use Rattle.smk_run.specs.Stamps.{Serials, AreStamped, HasStamped, is_of_look}
+use Rattle.smk_run.specs.Digesting.{HasDigested, HasInputs}
+use Rattle.smk_run.specs.Stamps.{Serials, is_of_look}
 use Rattle.smk_run.specs.Turns.{Course, Unbegun, Unstarted, Unclosed, Closed, IsTurn, found, as_gone}
 use Rattle.smk_run.specs.Reports as one
 use Rattle.smk_run.specs.Reports.{named, course_text, IsReport, HasReported, HasTurned, IsAnswer, failure, stop_fault, is_refusal}
@@ -33,9 +34,9 @@ use Rattle.smk_run.proofs.Honest.{given_none, given_then, stamped_given}
 -- ## The stamps, and then the job
 
 gone_turn : (made : Serials) (job : Job) (command : Text) (serial : ℕ) (stamps : List Stamp) (course : Course) (w : World) (es fs : List Event)
-    → AreStamped made (in_paths job.recipe) stamps es → as_gone job command serial stamps course (run w es) fs → IsTurn made (turn_of job command serial (Ok stamps) course) w (es ++ fs)
+    → HasDigested made (in_paths job.recipe) stamps w es → as_gone job command serial stamps course (run w es) fs → IsTurn made (turn_of job command serial (Ok stamps) course) w (es ++ fs)
 gone_turn made job command serial stamps Unbegun w es fs h k =
-    subst (λ l. AreStamped made (in_paths job.recipe) stamps (es ++ l)) (sym k) (subst (λ l. AreStamped made (in_paths job.recipe) stamps l) (sym (append-nil es)) h)
+    subst (λ l. HasDigested made (in_paths job.recipe) stamps w (es ++ l)) (sym k) (subst (λ l. HasDigested made (in_paths job.recipe) stamps w l) (sym (append-nil es)) h)
 gone_turn made job command serial stamps Unstarted w es fs h k = record { seen = es; rest = fs; events = refl; stamped = h; then_did = k }
 gone_turn made job command serial stamps Unclosed w es fs h k = record { seen = es; rest = fs; events = refl; stamped = h; then_did = k }
 gone_turn made job command serial stamps (Closed ending) w es fs h k = record { seen = es; rest = fs; events = refl; stamped = h; then_did = k }
@@ -50,13 +51,13 @@ found_why stamps (Err OutOfMemory) never = tt
 
 pub taken : (act : Act) (flow : Flow) (made : Serials) (job : Job) (command : Text) (serial : ℕ) (paths : List Path) (stamps : List Stamp) (r : Result (List Stamp) Stop) (result : Result Ending Stop)
     (a b c : Device) (p q : Sunk)
-    → paths ≡ in_paths job.recipe → r ≡ Ok stamps → HasActed act (HasStamped made paths r) a b (one.is_device r) → ((x : Path) → result ≡ Err (Gone x) → ⊥)
+    → paths ≡ in_paths job.recipe → r ≡ Ok stamps → HasActed act (HasInputs made paths r) a b (one.is_device r) → ((x : Path) → result ≡ Err (Gone x) → ⊥)
     → AreWritable serial job.recipe stamps
     → HasTurned act (as_gone job command serial stamps) (named flow job) (too_long serial job.recipe stamps) result b c p q
     → HasTaken act flow made job command serial result a c p q
 taken act flow made job command serial paths stamps r result a b c p q at ok seen never writable h =
-    let looked : HasActed act (HasStamped made (in_paths job.recipe) (Ok stamps)) a b false
-    = subst (λ l. HasActed act (HasStamped made l (Ok stamps)) a b false) at (subst (λ x. HasActed act (HasStamped made paths x) a b (one.is_device x)) ok seen) in
+    let looked : HasActed act (HasInputs made (in_paths job.recipe) (Ok stamps)) a b false
+    = subst (λ l. HasActed act (HasInputs made l (Ok stamps)) a b false) at (subst (λ x. HasActed act (HasInputs made paths x) a b (one.is_device x)) ok seen) in
     record {
       looked = Ok stamps;
       why = found_why stamps result never;
@@ -64,7 +65,7 @@ taken act flow made job command serial paths stamps r result a b c p q at ok see
         course = h.course;
         failed = h.failed;
         answer = h.answer;
-        ran = acted_ended act (HasStamped made (in_paths job.recipe) (Ok stamps)) (as_gone job command serial stamps h.course) (IsTurn made (turn_of job command serial (Ok stamps) h.course)) a b c h.failed
+        ran = acted_ended act (HasInputs made (in_paths job.recipe) (Ok stamps)) (as_gone job command serial stamps h.course) (IsTurn made (turn_of job command serial (Ok stamps) h.course)) a b c h.failed
             (λ w es fs follows f follows2 g. gone_turn made job command serial stamps h.course w es fs f g) looked h.ran;
         given = given_then act a b c looked.cause.later h.ran.cause.later (stamped_given act made (in_paths job.recipe) (Ok stamps) a b looked.did) h.given;
         text = h.text;
@@ -96,11 +97,11 @@ look_text OutOfMemory h = refl
 
 -- there are no stamps
 pub not_taken : (act : Act) (flow : Flow) (made : Serials) (job : Job) (command : Text) (serial : ℕ) (paths : List Path) (stop : Stop) (r : Result (List Stamp) Stop) (a b : Device) (p : Sunk)
-    → paths ≡ in_paths job.recipe → r ≡ Err stop → is_of_look stop ≡ true → HasActed act (HasStamped made paths r) a b (one.is_device r) → a.running ≡ []
+    → paths ≡ in_paths job.recipe → r ≡ Err stop → is_of_look stop ≡ true → HasActed act (HasInputs made paths r) a b (one.is_device r) → a.running ≡ []
     → HasTaken act flow made job command serial (Err stop) a b p p
 not_taken act flow made job command serial paths stop r a b p at is kind seen none =
-    let looked : HasActed act (HasStamped made (in_paths job.recipe) (Err stop)) a b (one.is_device {T = List Stamp} (Err stop))
-    = subst (λ l. HasActed act (HasStamped made l (Err stop)) a b (one.is_device {T = List Stamp} (Err stop))) at (subst (λ x. HasActed act (HasStamped made paths x) a b (one.is_device x)) is seen) in
+    let looked : HasActed act (HasInputs made (in_paths job.recipe) (Err stop)) a b (one.is_device {T = List Stamp} (Err stop))
+    = subst (λ l. HasActed act (HasInputs made l (Err stop)) a b (one.is_device {T = List Stamp} (Err stop))) at (subst (λ x. HasActed act (HasInputs made paths x) a b (one.is_device x)) is seen) in
     record {
       looked = Err stop;
       why = look_why stop kind;
@@ -116,10 +117,10 @@ not_taken act flow made job command serial paths stop r a b p at is kind seen no
       records = λ e. absurd (true≢false (sym e));
     }
   where
-    as_turn : HasEnded act (HasStamped made (in_paths job.recipe) (Err stop)) a b (one.is_device {T = List Stamp} (Err stop))
+    as_turn : HasEnded act (HasInputs made (in_paths job.recipe) (Err stop)) a b (one.is_device {T = List Stamp} (Err stop))
         → HasEnded act (IsTurn made (turn_of job command serial (Err stop) Unbegun)) a b (one.is_device {T = List Stamp} (Err stop))
     as_turn h =
-        ended_as act (HasStamped made (in_paths job.recipe) (Err stop)) (IsTurn made (turn_of job command serial (Err stop) Unbegun)) a b
+        ended_as act (HasInputs made (in_paths job.recipe) (Err stop)) (IsTurn made (turn_of job command serial (Err stop) Unbegun)) a b
         (one.is_device {T = List Stamp} (Err stop)) (one.is_device {T = List Stamp} (Err stop)) refl (λ w es f. f) h
 
 -- nothing was done
@@ -131,7 +132,7 @@ nothing_taken act flow made job command serial a p none = record {
     course = Unbegun;
     failed = false;
     answer = refl;
-    ran = ended_nothing act (IsTurn made (turn_of job command serial (Err OutOfMemory) Unbegun)) a none (λ w. tt);
+    ran = ended_nothing act (IsTurn made (turn_of job command serial (Err OutOfMemory) Unbegun)) a none (λ w. inl tt);
     given = given_none act a;
     text = no_text false p;
     fits = λ e. absurd (true≢false (sym e));
@@ -297,7 +298,7 @@ no_turn act flow made job command serial a p by_paths none = record {
   made_is = refl;
   answer = inl (refl, refl);
   fits = record { makes = by_paths.makes; paths = by_paths.paths; records = λ e. absurd (true≢false (sym e)); short = λ e. absurd (true≢false (sym e)) };
-  ran = ended_nothing act (IsTurn made (turn_of job command serial (Err OutOfMemory) Unbegun)) a none (λ w. tt);
+  ran = ended_nothing act (IsTurn made (turn_of job command serial (Err OutOfMemory) Unbegun)) a none (λ w. inl tt);
   given = given_none act a;
   text = no_text false p;
 }

@@ -25,7 +25,7 @@ use Rattle.smk_run.specs.Laws.{status_of, HasStatus}
 use Rattle.smk_run.specs.Stamps.{Serials}
 use Rattle.smk_run.specs.Statuses.{IsGiven, AreGiven}
 use Rattle.smk_run.specs.Turns.{Course, Closed, Turn, found, as_underway, IsTurnBy, IsTurn}
-use Rattle.smk_run.proofs.Calls.{EachCall, OfLooks, stamped_each}
+use Rattle.smk_run.proofs.Calls.{EachCall, OfLooks, digested_each}
 
 -- ## Children
 
@@ -84,7 +84,7 @@ same_number : (n : ℕ) → nat_eq n n ≡ true
 same_number n = grind arith
 
 crewless : OfLooks (λ (r : Request). is_crew r ≡ false)
-crewless = record { look = λ p. refl; listed = λ p. refl }
+crewless = record { look = λ p. refl; read = λ p limit. refl; listed = λ p. refl }
 
 -- what stands at the inputs of the one child that runs gives its status
 one_given : (act : Act) (A : Type 0) (u : World) (recipe : Recipe) (logs : List Path) (number status : ℕ) (ended : Ended)
@@ -109,7 +109,7 @@ turn_tells act A made t ending w es none h given =
     let split : es ≡ front ++ e ∷ waited.rest
     = h.events ∙ ap (λ l. seen ++ l) (begun.events ∙ ap (λ l. begun.first ++ l) waited.events) ∙ sym (append_assoc seen begun.first (e ∷ waited.rest)) in
     let status = closed_status (as_underway t begun.number) ending (waited.ended).status (after (run (run w seen) begun.first) e) waited.rest waited.then_did in
-    let idle : (run w seen).children ≡ [] = files_children w seen (stamped_each (λ (r : Request). is_crew r ≡ false) crewless made (in_paths t.job.recipe) (found t.looked) seen h.stamped) ∙ none in
+    let idle : (run w seen).children ≡ [] = files_children w seen (digested_each (λ (r : Request). is_crew r ≡ false) crewless made (in_paths t.job.recipe) (found t.looked) w seen h.stamped) ∙ none in
     let runs : (run (run w seen) begun.first).children ≡ record { number = begun.number; recipe = t.job.recipe; logs = t.job.logs } ∷ []
     = started_after (before_start t.job.recipe t.job.logs) t.job.recipe t.job.logs t.command begun.number (run w seen) begun.first (before_files t.job.recipe t.job.logs) begun.begun begun.started
     ∙ ap (λ cs. cs ++ record { number = begun.number; recipe = t.job.recipe; logs = t.job.logs } ∷ []) idle in

@@ -8,7 +8,8 @@ use Rattle.smk_world.specs.declared.recipe.Recipe.{Recipe}
 use Rattle.smk_world.specs.World.{in_paths, out_paths}
 use Rattle.smk_world.specs.Trees.{Path, Each, IsIn, among, folders_of, is_path_text, is_text}
 use Rattle.smk_record.specs.declared.record.Stamp.{Stamp}
-use Rattle.smk_record.specs.Records.{is_valid, record_of, is_earlier, are_rising, are_valid_members, are_none}
+use Rattle.smk_record.specs.declared.record.Stamp.TheVariants.{Time, Sum, Made}
+use Rattle.smk_record.specs.Records.{is_valid, record_of, is_earlier, is_format, is_in_format, are_rising, are_valid_members, are_none}
 use Rattle.smk_record.specs.Spelling.{texts, is_writable}
 use Rattle.smk_run.specs.Stamps.{is_small}
 use Rattle.smk_job.proofs.Lists.{among_by}
@@ -19,6 +20,13 @@ and_true a b h k = ap (λ x. x && b) h ∙ k
 no_members : (b : Bool) (p : Path) → (if b then are_valid_members p [] else are_none []) ≡ true
 no_members true p = refl
 no_members false p = refl
+
+-- format 2 may have any stamp
+each_in_two : (stamps : List Stamp) → list_all (is_in_format 2) stamps ≡ true
+each_in_two [] = refl
+each_in_two (Time t ∷ ss) = each_in_two ss
+each_in_two (Sum t d ∷ ss) = each_in_two ss
+each_in_two (Made m ∷ ss) = each_in_two ss
 
 each_by : (P : Path → Type 0) (ps : List Path) → ((p : Path) → IsIn ps p → P p) → Each P ps
 each_by P [] h = tt
@@ -36,7 +44,8 @@ valid_one made recipe stamps p each positive earlier rising ins outs one =
     (and_true (are_rising (map (λ (w : Pair). w.name) recipe.wildcards)) _ rising
     (and_true (list_all is_path_text (in_paths recipe)) _ ins
     (and_true (list_all is_path_text (out_paths recipe)) _ outs
-    (and_true (if among (folders_of recipe) p then are_valid_members p [] else are_none []) true (no_members (among (folders_of recipe) p) p) refl)))))))
+    (and_true (if among (folders_of recipe) p then are_valid_members p [] else are_none []) _ (no_members (among (folders_of recipe) p) p)
+    (and_true (is_format 2 && list_all (is_in_format 2) stamps) true (each_in_two stamps) refl))))))))
 
 -- the records of all outputs
 pub valid_each : (made : ℕ) (recipe : Recipe) (stamps : List Stamp)

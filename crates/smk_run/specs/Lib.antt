@@ -1,4 +1,5 @@
 pub mod Stamps
+pub mod Digesting
 pub mod Duties
 pub mod Closings
 pub mod Statuses

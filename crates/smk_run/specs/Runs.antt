@@ -81,7 +81,7 @@ pub record AreWritable (made : ℕ) (recipe : Recipe) (stamps : List Stamp) : Ty
   pub valid : Each (λ p. is_valid (record_of p made recipe stamps []) ≡ true) (out_paths recipe)
   pub writable : Each (λ p. is_writable (record_of p made recipe stamps []) ≡ true) (out_paths recipe)
 
--- The job of the turn has an output, and its outputs and logs are paths in UTF-8. Where anything was done but looks, the records of its outputs without members
+-- The job of the turn has an output, and its outputs and logs are paths in UTF-8. Where anything was done but looks and reads, the records of its outputs without members
 -- are valid, can be written, and aren't too long.
 pub record Fits (t : Turn) : Type 0 where
   pub makes : out_paths t.job.recipe ≡ [] → ⊥

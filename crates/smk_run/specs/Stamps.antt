@@ -1,5 +1,5 @@
 -- The stamps of a job's inputs as its turn comes.
-use Rattle.std.specs.Prelude.{◌≡◌, ◌⊎◌, ◌<◌, ◌^◌, ℕ, Bool, true, false, List, [], ◌∷◌, ◌++◌, Option, Some, None, Result, Ok, Err, String, nat_lt}
+use Rattle.std.specs.Prelude.{◌≡◌, ◌⊎◌, ◌<◌, ℕ, Bool, true, false, List, [], ◌∷◌, ◌++◌, Option, Some, None, Result, Ok, Err, String}
 use Rattle.std.specs.Global.{Global}
 use Rattle.std.specs.BTreeMap.{BTreeMap, get_by_text}
 use Rattle.std.specs.Option.{option_and_then}
@@ -14,7 +14,7 @@ use Rattle.smk_world.specs.Trees.{Path}
 use Rattle.smk_world.specs.World.{World}
 use Rattle.smk_record.specs.declared.record.Stamp.{Stamp}
 use Rattle.smk_record.specs.declared.record.Stamp.TheVariants.{Time, Made}
-use Rattle.smk_record.specs.Spelling.{number}
+use Rattle.smk_record.specs.Spelling.{is_writable_stamp}
 use Rattle.smk_job.specs.Jobs.{IsPart}
 use Rattle.smk_run.specs.declared.stop.Stop.{Stop}
 use Rattle.smk_run.specs.declared.stop.Stop.TheVariants.{TooLong, Gone, Device, Output, OutOfMemory}
@@ -111,9 +111,9 @@ abbrev pub IsBelow : ℕ → Option ℕ → Type 0
 IsBelow made None = Unit {0}
 IsBelow made (Some serial) = serial < made
 
--- its number has at most 64 bits
+-- its number has at most 64 bits, and its SHA-256 32 bytes
 abbrev pub is_small : Stamp → Bool
-is_small stamp = nat_lt (number stamp) (2 ^ 64)
+is_small stamp = is_writable_stamp stamp
 
 -- ## Numbers by path
 

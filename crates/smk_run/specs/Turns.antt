@@ -15,12 +15,13 @@ use Rattle.smk_run.specs.declared.stop.Stop.{Stop}
 use Rattle.smk_run.specs.declared.stop.Stop.TheVariants as stop
 use Rattle.smk_run.specs.declared.ending.Ending.{Ending}
 use Rattle.smk_run.specs.declared.ending.Ending.TheVariants.{Good, Status, NoOutput, WrongKind, BadMember}
-use Rattle.smk_run.specs.Stamps.{Serials, AreStamped, HasStamped}
+use Rattle.smk_run.specs.Digesting.{HasDigested, HasInputs}
+use Rattle.smk_run.specs.Stamps.{Serials}
 use Rattle.smk_run.specs.Closings.{HasClosed}
 
 -- How far the turn of a job came.
 pub data Course : Type 0 where
-  -- nothing was done but looks at inputs
+  -- nothing was done but looks at inputs and reads of sources
   Unbegun : Course
   -- a call failed before the command was started
   Unstarted : Course
@@ -34,7 +35,7 @@ abbrev pub found : Result (List Stamp) Stop → List Stamp
 found (Ok stamps) = stamps
 found (Err stop) = []
 
--- A job whose turn came: the text of its command, its serial, and what the looks at its inputs gave, which is their stamps or why there are none.
+-- A job whose turn came: the text of its command, its serial, and what the looks at its inputs and the reads of sources gave, which is their stamps or why there are none.
 pub record Turn : Type 0 where
   pub job : Job
   pub command : List ℕ
@@ -75,11 +76,11 @@ pub record HasStampedAnd (made : Serials) (t : Turn) (P : World → List Event �
   pub seen : List Event
   pub rest : List Event
   pub events : es ≡ seen ++ rest
-  pub stamped : AreStamped made (in_paths t.job.recipe) (found t.looked) seen
+  pub stamped : HasDigested made (in_paths t.job.recipe) (found t.looked) w seen
   pub then_did : P (run w seen) rest
 
 abbrev pub IsTurnBy : Serials → Turn → Course → World → List Event → Type 0
-IsTurnBy made t Unbegun w es = HasStamped made (in_paths t.job.recipe) t.looked w es
+IsTurnBy made t Unbegun w es = HasInputs made (in_paths t.job.recipe) t.looked w es
 IsTurnBy made t Unstarted w es = HasStampedAnd made t (HasGone t Unstarted) w es
 IsTurnBy made t Unclosed w es = HasStampedAnd made t (HasGone t Unclosed) w es
 IsTurnBy made t (Closed ending) w es = HasStampedAnd made t (HasGone t (Closed ending)) w es
@@ -114,7 +115,7 @@ is_closed Unstarted = false
 is_closed Unclosed = false
 is_closed (Closed ending) = true
 
--- something was done besides looks at inputs
+-- something was done besides looks at inputs and reads of sources
 abbrev pub is_begun : Course → Bool
 is_begun Unbegun = false
 is_begun Unstarted = true

@@ -11,6 +11,7 @@ mod one;
 mod serials;
 mod stamps;
 mod stop;
+mod summing;
 mod tally;
 mod turns;
 mod whole;

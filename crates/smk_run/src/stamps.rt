@@ -17,8 +17,8 @@ use smk_world::{Failed, Files, Item, Out, OutItem, Recipe, Stat};
 use std::alloc::Global;
 use std::collections::BTreeMap;
 
-// The serial of the product at the path.
-fn serial_at(serials: &BTreeMap<String, Option<u64>>, path: &PathText) -> Option<u64>
+/// The serial of the product at the path.
+pub(crate) fn serial_at(serials: &BTreeMap<String, Option<u64>>, path: &PathText) -> Option<u64>
     ensures { result ≡ number_at serials.now path.now }
 {
     match serials.get(path.as_str()) {

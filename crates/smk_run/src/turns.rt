@@ -14,7 +14,8 @@ ghost use Rattle.smk_run.specs.Runs.{HasTaken, HasHadTurn, HasRun, IsReady, comm
 use crate::faults::{failure, stopped};
 use crate::one::run_one;
 use crate::serials::serial_in;
-use crate::stamps::{input_paths, see_outputs, see_paths, stamps_of};
+use crate::stamps::{input_paths, see_outputs, see_paths};
+use crate::summing::inputs_of;
 use crate::wording::see_texts;
 use crate::{Ending, Stop, Tally};
 use smk_base::OutOfMemory;
@@ -26,9 +27,11 @@ use smk_report::Fault;
 use smk_world::{Crew, Files, Sink};
 use std::alloc::Global;
 use std::collections::BTreeMap;
+use std::thread::Threads;
 
-// Takes the turn of a job, which has the serial `made`: finds the stamps of its inputs, and runs it.
-fn take<W: Crew, O: Sink>(
+// Takes the turn of a job, which has the serial `made`: finds the stamps of its inputs, with the digests of its sources, and runs it.
+fn take<W: Crew, O: Sink, Rt: Threads + Sync>(
+    rt: &Rt,
     alloc: Global,
     flow: &Workflow,
     serials: &BTreeMap<String, Option<u64>>,
@@ -52,14 +55,15 @@ fn take<W: Crew, O: Sink>(
     see_paths(paths.as_slice());
     see_outputs(job.recipe.outputs.as_slice());
     see_texts(&job.recipe);
-    match stamps_of(alloc, serials, made, paths.as_slice(), work) {
+    match inputs_of(rt, alloc, serials, made, paths.as_slice(), work) {
         Ok(stamps) => run_one(alloc, flow, job, &stamps, made, command, work, out),
         Err(stop) => Err(stop),
     }
 }
 
 // Takes the turn of a job. The answer is the fault of a job that failed.
-fn turn<W: Crew, O: Sink>(
+fn turn<W: Crew, O: Sink, Rt: Threads + Sync>(
+    rt: &Rt,
     alloc: Global,
     flow: &Workflow,
     serials: &BTreeMap<String, Option<u64>>,
@@ -87,7 +91,17 @@ fn turn<W: Crew, O: Sink>(
     let Ok(command) = command_of(alloc, flow, cores, job) else {
         return Err(Fault::OutOfMemory);
     };
-    match take(alloc, flow, serials, made, job, command.as_str(), work, out) {
+    match take(
+        rt,
+        alloc,
+        flow,
+        serials,
+        made,
+        job,
+        command.as_str(),
+        work,
+        out,
+    ) {
         Ok(ending) => match failure(alloc, rule, path, ending) {
             Ok(first) => Ok(first),
             Err(OutOfMemory) => Err(Fault::OutOfMemory),
@@ -127,7 +141,8 @@ fn due_at(duties: &[Duty], serials: &[Option<u64>], number: usize) -> Option<Opt
 }
 
 /// Runs the jobs that don't rest, in order, where all jobs have these serials and the products those of `made`.
-pub(crate) fn run_all<W: Crew, O: Sink>(
+pub(crate) fn run_all<W: Crew, O: Sink, Rt: Threads + Sync>(
+    rt: &Rt,
     alloc: Global,
     flow: &Workflow,
     made: &BTreeMap<String, Option<u64>>,
@@ -150,7 +165,7 @@ pub(crate) fn run_all<W: Crew, O: Sink>(
         let Some(serial) = serial else {
             return Err(Fault::Serials);
         };
-        match turn(alloc, flow, made, serial, cores, job, work, out) {
+        match turn(rt, alloc, flow, made, serial, cores, job, work, out) {
             Ok(None) => done += 1,
             Ok(Some(fault)) => return Ok(ended(done, 1, Some(fault))),
             Err(fault) => return Err(fault),

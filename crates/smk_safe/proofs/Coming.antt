@@ -9,28 +9,23 @@ use Rattle.smk_base.proofs.Under.{at_itself, false_unless, never_both, overlaps_
 use Rattle.smk_base.proofs.Apart.{path_outside}
 use Rattle.smk_world.specs.declared.event.Event.{Event}
 use Rattle.smk_world.specs.declared.event.Node.{Node}
-use Rattle.smk_world.specs.declared.event.Node.TheVariants.{Regular, Directory}
-use Rattle.smk_world.specs.declared.event.NodeState.{NodeState}
-use Rattle.smk_world.specs.declared.event.NodeState.TheVariants.{Owned, Known}
-use Rattle.smk_world.specs.declared.event.Stat.TheVariants.{File}
 use Rattle.smk_world.specs.World.{World, run, reading, in_paths, out_paths}
-use Rattle.smk_world.specs.Calls.{HasOwners, StatIs, any_overlap}
+use Rattle.smk_world.specs.Calls.{HasOwners, any_overlap}
 use Rattle.smk_world.specs.Runs.{Follows}
 use Rattle.smk_world.specs.Trees.{Path, Each, IsIn, is_path_text, is_text, folders_of, kind_in}
 use Rattle.smk_record.specs.declared.record.Record.{Record}
 use Rattle.smk_record.specs.declared.record.Stamp.{Stamp}
-use Rattle.smk_record.specs.declared.record.Stamp.TheVariants.{Time, Made as MadeStamp}
-use Rattle.smk_record.specs.Records.{agrees, core, record_of as made_record}
+use Rattle.smk_record.specs.declared.record.Stamp.TheVariants.{Time, Sum, Made as MadeStamp}
+use Rattle.smk_record.specs.Records.{core}
 use Rattle.smk_record.specs.Spelling.{ReadsRecords}
 use Rattle.smk_store.specs.declared.store.Kept.TheVariants.{Absent}
 use Rattle.smk_store.specs.Images.{Content, content_of, readable, kept_by, stands, file_at, core_at, is_source, source_at, seen}
 use Rattle.smk_store.specs.Soundness.{Outside, SoundWorld, SameSources}
-use Rattle.smk_store.specs.Trust.{Versions, holder, time_stamp}
+use Rattle.smk_store.specs.Trust.{Versions, content_stamp, holder, is_summed, source_stamp, sum_of}
 use Rattle.smk_store_members.specs.Members.{AllIsFound}
-use Rattle.smk_laws_protocol.specs.Protocol.{RunState, Marking, MayBegin, HasSerial, IsKept, IsApart, IsSourceAt, IsProductAt, IsAtHand, kept_at, record_of, now}
+use Rattle.smk_laws_protocol.specs.Protocol.{RunState, Marking, MayBegin, HasSerial, IsKept, IsApart, IsSourceAt, IsProductAt, IsAtHand, kept_at, now}
 use Rattle.smk_laws_protocol.specs.Midway.{HasSafeImages}
 use Rattle.smk_laws_protocol.proofs.Basics.{each_in, each_of, none_of, none_by}
-use Rattle.smk_laws_protocol.proofs.SoundViews.{itself}
 use Rattle.smk_laws_job.specs.Laws.{IsRecordable}
 use Rattle.smk_laws_history.proofs.HistoryImages.{held_no_source}
 use Rattle.smk_laws_plan.proofs.CurrentPaths.{among_in}
@@ -53,18 +48,13 @@ use Rattle.smk_safe.proofs.Turning.{recordable_as}
 
 -- ## Small facts
 
-pub content_time : (n : NodeState) (b : Bool) (f : Content) (time : ℕ) (read_only : Bool) → content_of (if b then reading n else None) ≡ Some f → StatIs (File time read_only) n → f.time ≡ time
-content_time n false f time read_only h is = cc
-content_time Owned true f time read_only h is = cc
-content_time (Known None besides) true f time read_only h is = cc
-content_time (Known (Some Directory) besides) true f time read_only h is = cc
-content_time (Known (Some (Regular bytes t flag)) besides) true f time read_only h is = sym (ap (λ (c : Content). c.time) (same_content h)) ∙ same_time is
-  where
-    same_content : {c d : Content} → Some c ≡ Some d → c ≡ d
-    same_content e = cc
+pub content_there : (b : Bool) (n : Option Node) (f : Content) → content_of (if b then n else None) ≡ Some f → content_of n ≡ Some f
+content_there true n f h = h
+content_there false n f h = cc
 
-    same_time : {a b : ℕ} {x y : Bool} → File a x ≡ File b y → b ≡ a
-    same_time e = cc
+-- files with the same bytes and times have the same stamp
+pub same_stamps : (f g : Content) → f.bytes ≡ g.bytes → f.time ≡ g.time → content_stamp f ≡ content_stamp g
+same_stamps f g bytes time = λ i. if is_summed (bytes i) then Sum (time i) (sum_of (bytes i)) else Time (time i)
 
 pub core_path : (read : List ℕ → Option Record) (w : World) (h : Path) (r : Record) → core_at (seen read w) h ≡ Some r → is_path_text h ≡ true
 core_path read w h r e = go (is_path_text h) refl e
@@ -73,40 +63,48 @@ core_path read w h r e = go (is_path_text h) refl e
     go true k x = refl
     go false k x = cc
 
-map_some : {A : Type 0} (xs ys : List A) → map Some xs ≡ map Some ys → xs ≡ ys
-map_some [] [] h = refl
-map_some [] (y ∷ ys) h = cc
-map_some (x ∷ xs) [] h = cc
-map_some {A} (x ∷ xs) (y ∷ ys) h = λ i. first h i ∷ map_some xs ys (rest h) i
-  where
-    first : Some x ∷ map Some xs ≡ Some y ∷ map Some ys → x ≡ y
-    first e = cc
-
-    rest : Some x ∷ map Some xs ≡ Some y ∷ map Some ys → map Some xs ≡ map Some ys
-    rest e = cc
-
 -- ## The records that a Restore finds
 
-abbrev pub kept_by_draw : Bool → Turn → List (Path × Record)
-kept_by_draw true t = []
-kept_by_draw false t = map (λ p. (p, record_of (opened t []) p)) (out_paths t.job.recipe)
+abbrev with_found : Path → Option Record → List (Path × Record) → List (Path × Record)
+with_found p None kept = kept
+with_found p (Some r) kept = (p, r) ∷ kept
 
-kept_finds : (f : Path → Record) (ps : List Path) (p : Path) → IsIn ps p → kept_at (map (λ q. (q, f q)) ps) p ≡ Some (f p)
-kept_finds f [] p i = absurd i
-kept_finds f (x ∷ ps) p i = go (bytes_eq x p) refl i (kept_finds f ps p)
-  where
-    go : (b : Bool) → bytes_eq x p ≡ b → IsIn (x ∷ ps) p → (IsIn ps p → kept_at (map (λ q. (q, f q)) ps) p ≡ Some (f p)) → (if b then Some (f x) else kept_at (map (λ q. (q, f q)) ps) p) ≡ Some (f p)
-    go true e k again = ap (λ q. Some (f q)) (same_place x p e)
-    go false e (inl same) again = absurd (true≢false (sym (place_itself x) ∙ ap (bytes_eq x) (sym same) ∙ e))
-    go false e (inr k) again = again k
+-- the records that stand at these paths
+abbrev found_at : (Path → Option Record) → List Path → List (Path × Record)
+found_at at [] = []
+found_at at (p ∷ ps) = with_found p (at p) (found_at at ps)
 
-kept_among : (f : Path → Record) (ps : List Path) (p : Path) (r : Record) → kept_at (map (λ q. (q, f q)) ps) p ≡ Some r → IsIn ps p
-kept_among f [] p r h = cc
-kept_among f (x ∷ ps) p r h = go (bytes_eq x p) refl h (kept_among f ps p r)
+abbrev pub kept_by_draw : (Path → Option Record) → Bool → Turn → List (Path × Record)
+kept_by_draw at true t = []
+kept_by_draw at false t = found_at at (out_paths t.job.recipe)
+
+none_is : {r : Record} → None ≡ Some r → ⊥
+none_is e = cc
+
+kept_finds : (at : Path → Option Record) (ps : List Path) (p : Path) (r : Record) → IsIn ps p → at p ≡ Some r → kept_at (found_at at ps) p ≡ Some r
+kept_finds at [] p r i h = absurd i
+kept_finds at (x ∷ ps) p r i h = go (bytes_eq x p) refl (at x) refl i (λ k. kept_finds at ps p r k h)
   where
-    go : (b : Bool) → bytes_eq x p ≡ b → (if b then Some (f x) else kept_at (map (λ q. (q, f q)) ps) p) ≡ Some r → (kept_at (map (λ q. (q, f q)) ps) p ≡ Some r → IsIn ps p) → IsIn (x ∷ ps) p
-    go true e k again = inl (sym (same_place x p e))
-    go false e k again = inr (again k)
+    further : (b : Bool) → bytes_eq x p ≡ b → b ≡ false → IsIn (x ∷ ps) p → IsIn ps p
+    further b e none_here (inl same) = absurd (true≢false (sym (place_itself x) ∙ ap (bytes_eq x) (sym same) ∙ e ∙ none_here))
+    further b e none_here (inr k) = k
+
+    go :
+        (b : Bool) → bytes_eq x p ≡ b → (o : Option Record) → at x ≡ o → IsIn (x ∷ ps) p →
+        (IsIn ps p → kept_at (found_at at ps) p ≡ Some r) → kept_at (with_found x o (found_at at ps)) p ≡ Some r
+    go true e None none k again = absurd (none_is (sym none ∙ ap at (same_place x p e) ∙ h))
+    go false e None none k again = again (further false e refl k)
+    go true e (Some y) there k again = ap (λ b. if b then Some y else kept_at (found_at at ps) p) e ∙ sym there ∙ ap at (same_place x p e) ∙ h
+    go false e (Some y) there k again = ap (λ b. if b then Some y else kept_at (found_at at ps) p) e ∙ again (further false e refl k)
+
+kept_among : (at : Path → Option Record) (ps : List Path) (p : Path) (r : Record) → kept_at (found_at at ps) p ≡ Some r → IsIn ps p
+kept_among at [] p r h = cc
+kept_among at (x ∷ ps) p r h = go (bytes_eq x p) refl (at x) h (kept_among at ps p r)
+  where
+    go : (b : Bool) → bytes_eq x p ≡ b → (o : Option Record) → kept_at (with_found x o (found_at at ps)) p ≡ Some r → (kept_at (found_at at ps) p ≡ Some r → IsIn ps p) → IsIn (x ∷ ps) p
+    go b e None k again = inr (again k)
+    go true e (Some y) k again = inl (sym (same_place x p e))
+    go false e (Some y) k again = inr (again (sym (ap (λ b. if b then Some y else kept_at (found_at at ps) p) e) ∙ k))
 
 -- ## Turns that don't overlap
 
@@ -155,6 +153,10 @@ module _ (o : Outside) (made : Serials) (entry start : World) (H : Versions) (be
   abbrev w : World
   w = run start es
 
+  -- the records that stood at the start
+  abbrev stood : Path → Option Record
+  stood p = core_at (now o start) p
+
   all_made : HasMade o.act before w
   all_made = done_turns_leave o.act made before start es m.none_runs m.owners m.arranged m.follows m.turns m.done
 
@@ -175,14 +177,10 @@ module _ (o : Outside) (made : Serials) (entry start : World) (H : Versions) (be
   -- ## Inputs
 
   source_hand : (p : Path) (s : Stamp) → is_source (now o start) p ≡ true → IsTold w None p s → IsSourceAt o (now o w) p s
-  source_hand p s is (time, read_only, stamp, stat) =
+  source_hand p s is told =
       let both = source_of_both (now o start) (now o w) p sources is in
       let file : file_at (now o w) p ≡ Some both.second = sym (ap (λ b. if b then file_at (now o w) p else None) both.is_second) ∙ both.at_second in
-      record {
-        source = both.second;
-        stands = both.at_second;
-        same = subst (λ (x : Stamp). IsTrue (agrees x (time_stamp (Some both.second)))) (sym stamp) (itself both.second.time time (content_time (w.nodes p) _ both.second time read_only file stat));
-      }
+      record { source = both.second; stands = both.at_second; same = told both.second (content_there _ (reading (w.nodes p)) both.second file) }
 
   made_hand : (u : Turn) (p : Path) → IsIn before u → IsIn (out_paths u.job.recipe) p → IsProductAt o (now o w) p (MadeStamp u.made)
   made_hand u p i k =
@@ -241,8 +239,8 @@ module _ (o : Outside) (made : Serials) (entry start : World) (H : Versions) (be
         let both = source_of_both (now o start) (now o w) p sources is in
         let told_none = subst (λ x. IsTold w x p s) none told in
         let file : file_at (now o w) p ≡ Some both.second = sym (ap (λ b. if b then file_at (now o w) p else None) both.is_second) ∙ both.at_second in
-        let time = content_time (w.nodes p) _ both.second told_none.0 told_none.1 file told_none.3 in
-        ap Some told_none.2 ∙ ap (λ t. Some (Time t)) (sym time ∙ both.time) ∙ sym (ap time_stamp both.at_first) ∙ ap (λ x. stamp_of x (source_at (now o start) p)) (sym none)
+        let stamp = told_none both.second (content_there _ (reading (w.nodes p)) both.second file) in
+        ap Some (stamp ∙ same_stamps both.second both.first both.bytes both.time) ∙ sym (ap source_stamp both.at_first) ∙ ap (λ x. stamp_of x (source_at (now o start) p)) (sym none)
     stamp_there p s told (FromTurn u i k e) = ap Some (subst (λ x. IsTold w x p s) e told) ∙ ap (λ x. stamp_of x (source_at (now o start) p)) (sym e)
     stamp_there p s told (FromRest n product e clear) = ap Some (subst (λ x. IsTold w x p s) e told) ∙ ap (λ x. stamp_of x (source_at (now o start) p)) (sym e)
 
@@ -268,11 +266,11 @@ module _ (o : Outside) (made : Serials) (entry start : World) (H : Versions) (be
             (sym ((λ i. stands (kept_same o.read start w q (record_stays q none) i) || marked_at o.read start w q (mark_stays q none) i)) ∙ known) over
       ]
 
-      may_begin : (s : RunState) → s.jobs ≡ [] → (drawn : Bool) → AreTold w made (in_paths t.job.recipe) (found t.looked) → MayBegin o s w (opened t (kept_by_draw drawn t))
+      may_begin : (s : RunState) → s.jobs ≡ [] → (drawn : Bool) → AreTold w made (in_paths t.job.recipe) (found t.looked) → MayBegin o s w (opened t (kept_by_draw stood drawn t))
       may_begin s none drawn told = record {
         paths = ready.paths;
         apart = orderly.apart;
-        from_open = subst (Each (IsApart (opened t (kept_by_draw drawn t)))) (sym none) tt;
+        from_open = subst (Each (IsApart (opened t (kept_by_draw stood drawn t)))) (sym none) tt;
         from_inputs = inputs_from (owned t) (in_paths t.job.recipe) apart;
         no_source = no_source;
         no_clash = no_clash;
@@ -281,43 +279,47 @@ module _ (o : Outside) (made : Serials) (entry start : World) (H : Versions) (be
         kept_own = own drawn;
       }
         where
-          own : (b : Bool) (p : Path) (r : Record) → kept_at (kept_by_draw b t) p ≡ Some r → IsIn (out_paths t.job.recipe) p
+          own : (b : Bool) (p : Path) (r : Record) → kept_at (kept_by_draw stood b t) p ≡ Some r → IsIn (out_paths t.job.recipe) p
           own true p r h = cc
-          own false p r h = kept_among (record_of (opened t [])) (out_paths t.job.recipe) p r h
+          own false p r h = kept_among stood (out_paths t.job.recipe) p r h
 
-      kept_record : (p : Path) → AreTold w made (in_paths t.job.recipe) (found t.looked) → IsIn (out_paths t.job.recipe) p → IsRecordedSo (now o start) made t p → IsKept o w (opened t (kept_by_draw false t)) p
+      kept_record : (p : Path) → AreTold w made (in_paths t.job.recipe) (found t.looked) → IsIn (out_paths t.job.recipe) p → IsRecordedSo (now o start) made t p → IsKept o w (opened t (kept_by_draw stood false t)) p
       kept_record p told i h =
           let none = own_not_made t p before (in_own t p i) alone in
-          let stamps = map_some h.stamps (found t.looked) (h.same ∙ sym (stamps_there (in_paths t.job.recipe) (found t.looked) told ready.inputs)) in
           record {
-            stands = core_same o.read start w p (record_stays p none) ∙ h.stands ∙ ap (λ ss. Some (made_record p t.made t.job.recipe ss [])) stamps;
+            found = h.found;
+            stands = core_same o.read start w p (record_stays p none) ∙ h.stands;
             unmarked = marked_at o.read start w p (mark_stays p none) ∙ h.unmarked;
-            found = kept_finds (record_of (opened t [])) (out_paths t.job.recipe) p i;
+            kept = kept_finds stood (out_paths t.job.recipe) p h.found i h.stands;
+            again = h.again (found t.looked) (stamps_there (in_paths t.job.recipe) (found t.looked) told ready.inputs);
           }
 
-      some_kept : (kept_by_draw false t) ≡ [] → ⊥
-      some_kept h = go (out_paths t.job.recipe) ready.makes h
+      some_kept : Each (IsRecordedSo (now o start) made t) (out_paths t.job.recipe) → kept_by_draw stood false t ≡ [] → ⊥
+      some_kept each h = go (out_paths t.job.recipe) ready.makes each h
         where
-          go : (ps : List Path) → ps ≢ [] → map {B = Path × Record} (λ p. (p, record_of (opened t []) p)) ps ≡ [] → ⊥
-          go [] some k = some refl
-          go (p ∷ ps) some k = cc
+          go : (ps : List Path) → ps ≢ [] → Each (IsRecordedSo (now o start) made t) ps → found_at stood ps ≡ [] → ⊥
+          go [] some all k = some refl
+          go (p ∷ ps) some all k = not_none (sym (ap (λ r. with_found p r (found_at stood ps)) (all.0).stands) ∙ k)
+            where
+              not_none : {x : Path × Record} {xs : List (Path × Record)} → x ∷ xs ≡ [] → ⊥
+              not_none e = cc
 
       has_serial : (s : RunState) (top greatest : ℕ) (drawn : Bool) → draws top t ≡ drawn → s.top ≡ greatest → HasItsSerial (now o start) made top greatest t
-          → AreTold w made (in_paths t.job.recipe) (found t.looked) → HasSerial o s w (opened t (kept_by_draw drawn t)) (greatest_after top greatest t)
+          → AreTold w made (in_paths t.job.recipe) (found t.looked) → HasSerial o s w (opened t (kept_by_draw stood drawn t)) (greatest_after top greatest t)
       has_serial s top greatest true is at serial told =
           let next : t.made ≡ suc s.top = serial.drawn is ∙ ap suc (sym at) in
           inl (refl, next, ap (λ b. if b then t.made else greatest) is ∙ next)
       has_serial s top greatest false is at serial told =
           inr (
-            some_kept,
-            each_of (IsKept o w (opened t (kept_by_draw false t))) (out_paths t.job.recipe)
+            some_kept (serial.kept is),
+            each_of (IsKept o w (opened t (kept_by_draw stood false t))) (out_paths t.job.recipe)
                 (λ p i. kept_record p told i (each_in (IsRecordedSo (now o start) made t) (out_paths t.job.recipe) p (serial.kept is) i)),
             ap (λ b. if b then t.made else greatest) is ∙ sym at,
           )
 
       pub may_come : (s : RunState) (top greatest : ℕ) → IsAtRest s → s.top ≡ greatest → HasItsSerial (now o start) made top greatest t
           → (is_begun t.course ≡ true → AreTold w made (in_paths t.job.recipe) (found t.looked))
-          → MayComeNext o s w t (kept_by_draw (draws top t) t) (greatest_after top greatest t)
+          → MayComeNext o s w t (kept_by_draw stood (draws top t) t) (greatest_after top greatest t)
       may_come s top greatest at_rest at serial told = record {
         formed = m.now_sound.formed;
         none_runs = all_made.none_runs;
@@ -325,5 +327,5 @@ module _ (o : Outside) (made : Serials) (entry start : World) (H : Versions) (be
         makes = ready.makes;
         begins = λ begun. may_begin s at_rest.none_open (draws top t) (told begun);
         serial = λ begun. has_serial s top greatest (draws top t) refl at serial (told begun);
-        records = λ begun. recordable_as t [] (kept_by_draw (draws top t) t) Marking (out_paths t.job.recipe) (ready.records begun);
+        records = λ begun. recordable_as t [] (kept_by_draw stood (draws top t) t) Marking (out_paths t.job.recipe) (ready.records begun);
       }

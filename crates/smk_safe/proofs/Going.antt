@@ -11,7 +11,8 @@ use Rattle.smk_store_members.specs.Members.{AllIsFound}
 use Rattle.smk_world.proofs.Runs.{run_append, follows_append, throughout_start}
 use Rattle.smk_record.specs.Spelling.{ReadsRecords}
 use Rattle.smk_store.specs.Soundness.{Outside, SoundWorld}
-use Rattle.smk_store.specs.Trust.{Versions}
+use Rattle.smk_store.specs.Images.{core_at}
+use Rattle.smk_store.specs.Trust.{Versions, SumsDiffer}
 use Rattle.smk_laws_protocol.specs.Protocol.{RunState, Runs, now}
 use Rattle.smk_laws_protocol.specs.Midway.{IsTop, at_entry, HasSafeImages, IsOfJob}
 use Rattle.smk_laws_protocol.proofs.Basics.{each_in, in_here}
@@ -68,17 +69,17 @@ out_first t h = each_first (λ p. IsTrue (is_path_text p)) (out_paths t.job.reci
 
 -- ## At rest
 
-module _ (o : Outside) (entry : World) (H : Versions) (top : ℕ) (sound : SoundWorld o entry H) (is_top : IsTop o entry top) where
+module _ (o : Outside) (entry : World) (H : Versions) (top : ℕ) (differ : SumsDiffer H) (sound : SoundWorld o entry H) (is_top : IsTop o entry top) where
   -- where no job is open no child runs
   pub idle_at_rest : (es : List Event) (s : RunState) → Follows o.act entry es → Runs o (at_entry o top) entry es s → IsAtRest s → (run entry es).children ≡ []
   idle_at_rest es s follows runs rest =
-      no_children (run entry es).children (subst (λ js. Each (IsOfJob js) (run entry es).children) rest.none_open (holds_midway o entry H top es s sound is_top follows runs).children)
+      no_children (run entry es).children (subst (λ js. Each (IsOfJob js) (run entry es).children) rest.none_open (holds_midway o entry H top es s differ sound is_top follows runs).children)
 
   pub sound_at_rest : (es : List Event) (s : RunState) → Follows o.act entry es → Runs o (at_entry o top) entry es s → IsAtRest s → SoundWorld o (run entry es) H
-  sound_at_rest es s follows runs rest = (protocol_law o entry H sound).at_exit top es s is_top follows runs (idle_at_rest es s follows runs rest)
+  sound_at_rest es s follows runs rest = (protocol_law o entry H differ sound).at_exit top es s is_top follows runs (idle_at_rest es s follows runs rest)
 
   pub safe_here : (es : List Event) (s : RunState) → Follows o.act entry es → Runs o (at_entry o top) entry es s → HasSafeImages o entry (run entry es) H
-  safe_here es s follows runs = (protocol_law o entry H sound).throughout top es s is_top follows runs
+  safe_here es s follows runs = (protocol_law o entry H differ sound).throughout top es s is_top follows runs
 
   -- ## One turn after another
 
@@ -143,7 +144,7 @@ module _ (o : Outside) (entry : World) (H : Versions) (top : ℕ) (sound : Sound
         let here = arranged_here before t ts all_arranged in
         let ready_here = subst (λ l. IsReady o (now o start) made before l t) h.split ready.0 in
         let top_now = greatest_after top greatest t in
-        let kept = kept_by_draw (draws top t) t in
+        let kept = kept_by_draw (core_at (now o start)) (draws top t) t in
         let may =
         may_come o made entry start H before es reads m (t ∷ ts) t ready_here here.0 here.1 (alone_before before t ts all_arranged) s top greatest h.at_rest h.serial ready.1
         (λ begun. turn_told o made t t.course w first begun is split.0) in
@@ -189,9 +190,9 @@ module _ (o : Outside) (entry : World) (H : Versions) (top : ℕ) (sound : Sound
         ]
 
 pub ready_turns_are_run : ReadyTurnsAreRun
-ready_turns_are_run o entry H top before s made ts es reads sound is_top follows_before runs_before rest serial none ready last found follows turns =
+ready_turns_are_run o entry H top before s made ts es reads differ sound is_top follows_before runs_before rest serial none ready last found follows turns =
     let r =
-    go o entry H top sound is_top made ts before reads ready.arranged follows_before s runs_before rest ts [] [] es s top
+    go o entry H top differ sound is_top made ts before reads ready.arranged follows_before s runs_before rest ts [] [] es s top
     (record {
       split = refl;
       done = tt;

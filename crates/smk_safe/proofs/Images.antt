@@ -90,15 +90,12 @@ members_agree (m ∷ ms) = both_true (same_member m m) (pointwise same_member ms
 
 -- ## Sources
 
-told_some : (x : Option Content) (f : Content) → option_map told x ≡ Some (told f) → (g : Content) × (x ≡ Some g) × (g.time ≡ f.time)
+told_some : (x : Option Content) (f : Content) → option_map told x ≡ Some (told f) → (g : Content) × (x ≡ Some g) × (g.bytes ≡ f.bytes) × (g.time ≡ f.time)
 told_some None f h = cc
-told_some (Some g) f h = (g, refl, some_time (told g) (told f) h)
+told_some (Some g) f h = (g, refl, ap (λ (x : List ℕ × ℕ). x.0) (some_pair (told g) (told f) h), ap (λ (x : List ℕ × ℕ). x.1) (some_pair (told g) (told f) h))
   where
-    some_time : (a b : List ℕ × ℕ) → Some a ≡ Some b → a.1 ≡ b.1
-    some_time a b e = ap (λ (x : List ℕ × ℕ). x.1) (some_pair a b e)
-      where
-        some_pair : (a b : List ℕ × ℕ) → Some a ≡ Some b → a ≡ b
-        some_pair a b e = cc
+    some_pair : (a b : List ℕ × ℕ) → Some a ≡ Some b → a ≡ b
+    some_pair a b e = cc
 
 source_is : (i : Image) (p : Path) (g : Content) → source_at i p ≡ Some g → is_source i p ≡ true
 source_is i p g h = go (is_source i p) refl h
@@ -107,13 +104,14 @@ source_is i p g h = go (is_source i p) refl h
     go true e k = refl
     go false e k = cc
 
--- a source of both images, with the same time
+-- a source of both images, with the same bytes and time
 pub record IsSourceOfBoth (a b : Image) (p : Path) : Type 0 where
   pub first : Content
   pub second : Content
   pub at_first : source_at a p ≡ Some first
   pub at_second : source_at b p ≡ Some second
   pub is_second : is_source b p ≡ true
+  pub bytes : second.bytes ≡ first.bytes
   pub time : second.time ≡ first.time
 
 pub source_of_both : (a b : Image) (p : Path) → SameSources a b → is_source a p ≡ true → IsSourceOfBoth a b p
@@ -121,7 +119,7 @@ source_of_both a b p same is =
     let f = source_file a p is in
     let here = source_reads a p f.0 is f.1 in
     let g = told_some (source_at b p) f.0 (same p ∙ ap (option_map told) here) in
-    record { first = f.0; second = g.0; at_first = here; at_second = g.1; is_second = source_is b p g.0 g.1; time = g.2 }
+    record { first = f.0; second = g.0; at_first = here; at_second = g.1; is_second = source_is b p g.0 g.1; bytes = g.2; time = g.3 }
 
 pub same_back : (a b : Image) → SameSources a b → SameSources b a
 same_back a b h = λ p. sym (h p)

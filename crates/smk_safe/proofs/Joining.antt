@@ -1,5 +1,5 @@
 -- Runs of the protocol one after another, and looks as such a run.
-use Rattle.std.proofs.Common.{◌≡◌, inl, inr, true, false, ◌||◌, List, [], ◌∷◌, ◌++◌, refl, ap, sym, subst, ◌∙◌, IsTrue, Ok, Err, true≢false}
+use Rattle.std.proofs.Common.{◌≡◌, inl, inr, Bool, true, false, ◌||◌, List, [], ◌∷◌, ◌++◌, refl, ap, sym, subst, ◌∙◌, IsTrue, Ok, Err, true≢false}
 use Rattle.std.specs.Prelude.{filter}
 use Rattle.smk_laws_job.proofs.FinishRuns.{look_ok}
 use Rattle.smk_world.specs.declared.event.Call.{Call}
@@ -9,9 +9,10 @@ use Rattle.smk_world.specs.declared.event.Child.{Child}
 use Rattle.smk_world.specs.declared.event.Event.{Event}
 use Rattle.smk_world.specs.World.{World, Throughout, after, run, reading, node_after, names_after, children_after}
 use Rattle.smk_world.specs.Calls.{Lets, failed}
+use Rattle.smk_world.specs.Devices.{AreLooks as AreReads, is_look}
 use Rattle.smk_world.specs.Runs.{Follows}
 use Rattle.smk_world.specs.Requests.{Request, request}
-use Rattle.smk_world.specs.Requests.Request.{Look, ListFolder}
+use Rattle.smk_world.specs.Requests.Request.{Look, ReadUpTo, ListFolder}
 use Rattle.smk_world.specs.Trees.{Path, Act, Each}
 use Rattle.smk_store.specs.Images.{image_by}
 use Rattle.smk_store.specs.Soundness.{Outside}
@@ -42,14 +43,15 @@ throughout_on P Q f w (e ∷ es) h = (f w h.0, throughout_on P Q f (after w e) e
 
 -- ## Looks
 
--- a look at a place, or in a folder
+-- a look at a place, a read of a file, or a look in a folder
 abbrev pub IsLooking : Request → Type 0
 IsLooking (Look p) = Unit {0}
+IsLooking (ReadUpTo p limit) = Unit {0}
 IsLooking (ListFolder p) = Unit {0}
 IsLooking r = ⊥
 
 pub lookings : OfLooks IsLooking
-lookings = record { look = λ p. tt; listed = λ p. tt }
+lookings = record { look = λ p. tt; read = λ p limit. tt; listed = λ p. tt }
 
 pub look_by : (o : Outside) (c : Call) → IsLooking (request c) → IsLook o c
 look_by o (Looked p r) h = tt
@@ -63,6 +65,20 @@ look_by o (Settled ps r) h = absurd h
 look_by o (Protected p r) h = absurd h
 look_by o (Started recipe logs command r) h = absurd h
 look_by o (Waited r) h = absurd h
+
+-- a look, a read or a listing
+read_look : (o : Outside) (c : Call) → is_look c ≡ true → IsLook o c
+read_look o (Looked p r) h = tt
+read_look o (ReadFile p limit r) h = tt
+read_look o (ReadFolder p r) h = tt
+read_look o (Written p bytes r) h = absurd (true≢false (sym h))
+read_look o (Created p r) h = absurd (true≢false (sym h))
+read_look o (Removed p r) h = absurd (true≢false (sym h))
+read_look o (MadeParents p r) h = absurd (true≢false (sym h))
+read_look o (Settled ps r) h = absurd (true≢false (sym h))
+read_look o (Protected p r) h = absurd (true≢false (sym h))
+read_look o (Started recipe logs command r) h = absurd (true≢false (sym h))
+read_look o (Waited r) h = absurd (true≢false (sym h))
 
 abbrev pub AreLooks : Outside → List Event → Type 0
 AreLooks o es = Each (λ (e : Event). IsLook o e.call) es
@@ -98,6 +114,17 @@ look_part o s calm (r ∷ rs) w (e ∷ es) each (is, inr (quiet, more)) =
     let look = look_by o e.call (subst IsLooking (sym is) each.0) in
     let rest = look_part o s calm rs (after w e) es each.1 more in
     (rest.0, Next s s rest.0 w e es (Aside e calm (LookMove e.call look)) rest.1, λ f. rest.2 (sym (ap (λ b. b || has_failure es) quiet) ∙ f))
+
+-- looks of which the last may have failed
+pub read_part : (o : Outside) (s : RunState) → s.faulted ≡ false → (failure : Bool) (w : World) (es : List Event) → AreReads failure es
+    → (end : RunState) × Runs o s w es end × (has_failure es ≡ true → end.faulted ≡ true)
+read_part o s calm failure w [] h = (s, Done s w, λ f. absurd (true≢false (sym f)))
+read_part o s calm true w (e ∷ []) h = (blinded o s, look_fails o s w e calm (read_look o e.call h.0) h.1, λ f. refl)
+read_part o s calm false w (e ∷ []) h =
+    (s, Next s s s w e [] (Aside e calm (LookMove e.call (read_look o e.call h.0))) (Done s (after w e)), λ f. absurd (true≢false (sym f ∙ ap (λ b. b || false) h.1)))
+read_part o s calm failure w (e ∷ (f ∷ es)) h =
+    let rest = read_part o s calm failure (after w e) (f ∷ es) h.2 in
+    (rest.0, Next s s rest.0 w e (f ∷ es) (Aside e calm (LookMove e.call (read_look o e.call h.0))) rest.1, λ bad. rest.2 (sym (ap (λ b. b || has_failure (f ∷ es)) h.1) ∙ bad))
 
 -- ## Looks change nothing
 

@@ -28,12 +28,13 @@ use Rattle.smk_job.proofs.Single.{Reaches, done_reaches, settled_firm, firmly_no
 use Rattle.smk_job.proofs.Firmly.{reaches_split, reaches_keeps}
 use Rattle.smk_run.specs.declared.ending.Ending.{Ending}
 use Rattle.smk_run.specs.declared.ending.Ending.TheVariants.{Good, Status, NoOutput, WrongKind, BadMember}
-use Rattle.smk_run.specs.Stamps.{Serials, AreStamped}
+use Rattle.smk_run.specs.Digesting.{HasDigested}
+use Rattle.smk_run.specs.Stamps.{Serials}
 use Rattle.smk_run.specs.Closings.{wait_event, HasWaited, HasSettled}
 use Rattle.smk_run.specs.Turns.{Course, Unbegun, Unstarted, Unclosed, Closed, Turn, found, as_underway, HasGone, HasBegunAnd, HasStampedAnd, IsTurnBy, is_closed, is_done}
 use Rattle.smk_made.specs.Leaving.{MayCome}
 use Rattle.smk_run.proofs.Calls.{EachCall}
-use Rattle.smk_run.proofs.Calls.{each_first, OfLooks, stamped_each, wrong_each}
+use Rattle.smk_run.proofs.Calls.{each_first, OfLooks, digested_each, wrong_each}
 use Rattle.smk_made.proofs.Done.{follows_split, idle_known}
 use Rattle.smk_made.proofs.Kept.{IsAllKnown, all_known, within_outside, keeps_off, still_none, all_removed, unmark_files}
 use Rattle.smk_made.proofs.Sparing.{else_apart, marks_else, spared_unmark}
@@ -109,7 +110,7 @@ lost_one act outs logs w es paths known follows done p i =
 -- ## The turn
 
 crewless : OfLooks (λ (r : Request). is_crew r ≡ false)
-crewless = record { look = λ p. refl; listed = λ p. refl }
+crewless = record { look = λ p. refl; read = λ p limit. refl; listed = λ p. refl }
 
 -- The events of the turn end with all calls that abandon its job, in a world in which nothing is owned.
 record EndsLost (act : Act) (t : Turn) (w : World) (es : List Event) : Type 0 where
@@ -191,8 +192,8 @@ module _ (act : Act) (made : Serials) (t : Turn) (w : World) (may : MayCome t w)
         then_did = record { ended = c.ended; left = c.left; rest = c.rest; events = c.events; is_it = c.is_it; then_did = g b.number c.ended.status _ c.rest c.then_did };
       }
 
-  quiet_looks : (es : List Event) → AreStamped made (in_paths t.job.recipe) (found t.looked) es → EachCall (λ (r : Request). is_crew r ≡ false) es
-  quiet_looks es h = stamped_each (λ (r : Request). is_crew r ≡ false) crewless made (in_paths t.job.recipe) (found t.looked) es h
+  quiet_looks : (es : List Event) → HasDigested made (in_paths t.job.recipe) (found t.looked) w es → EachCall (λ (r : Request). is_crew r ≡ false) es
+  quiet_looks es h = digested_each (λ (r : Request). is_crew r ≡ false) crewless made (in_paths t.job.recipe) (found t.looked) w es h
 
   closed_lost : (c : Ending) (es : List Event) → Follows act w es → is_done (Closed c) ≡ false → HasStampedAnd made t (HasGone t (Closed c)) w es → EndsLost act t w es
   closed_lost Good es follows not_done h = absurd (true≢false not_done)

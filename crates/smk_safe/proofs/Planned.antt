@@ -1,7 +1,8 @@
 -- Turns of the jobs that a plan has to run are ready.
 use Rattle.std.proofs.Common.{◌≡◌, ◌≢◌, inl, inr, ℕ, suc, ◌≤◌, Bool, true, false, ◌&&◌, ◌||◌, not, cond, List, [], ◌∷◌, ◌++◌, map, zip, filter, flat_map, find, length, refl, ap, sym, subst, ◌∙◌, arith, Option, Some, None, IsTrue, true≢false}
 use Rattle.std.specs.Prelude.{nat_lt, is_none, is_some, bytes_eq, if◌then◌else◌}
-use Rattle.std.specs.List.{list_any, list_all}
+use Rattle.std.specs.List.{AllZip, list_any, list_all}
+use Rattle.std.proofs.lemmas.Option.{same_Some}
 use Rattle.std.specs.Option.{option_and_then}
 use Rattle.std.proofs.lemmas.Bool.{cases_Bool}
 use Rattle.smk_base.specs.Path.{is_path, own_folder, is_under, is_at_or_under, overlaps}
@@ -17,8 +18,8 @@ use Rattle.smk_world.specs.Calls.{are_apart}
 use Rattle.smk_world.specs.Trees.{Path, Each, IsIn, among, outs_of, folders_of, folder_over, is_folder_kind, is_path_text, kind_in}
 use Rattle.smk_record.specs.declared.record.Record.{Record}
 use Rattle.smk_record.specs.declared.record.Stamp.{Stamp}
-use Rattle.smk_record.specs.declared.record.Stamp.TheVariants.{Time, Made}
-use Rattle.smk_record.specs.Records.{core, stamped}
+use Rattle.smk_record.specs.declared.record.Stamp.TheVariants.{Made}
+use Rattle.smk_record.specs.Records.{agree, core, stamped}
 use Rattle.smk_pattern.specs.Reading.{fill}
 use Rattle.smk_pattern.proofs.Names.{numbered_all}
 use Rattle.smk_flow.specs.declared.job.Job.{Job}
@@ -29,7 +30,7 @@ use Rattle.smk_flow.specs.Flows.{Flow, Candidate, logs, outputs, outs}
 use Rattle.smk_flow.specs.Jobs.{filled_out, filled_outs}
 use Rattle.smk_store.specs.Images.{Image, stands, is_source, is_whole, source_at, sources, record_at, core_at, holds_source}
 use Rattle.smk_store.specs.Soundness.{Outside}
-use Rattle.smk_store.specs.Trust.{holder, made_stamp, is_marked_but, unmarked_stamp_but, stamp_now_but, time_stamp}
+use Rattle.smk_store.specs.Trust.{holder, made_stamp, is_marked_but, unmarked_stamp_but, stamp_now_but, content_stamp, source_stamp}
 use Rattle.smk_choose.specs.Choose.{choose, Make}
 use Rattle.smk_chain.specs.Derive.{Listings, listing, distinct, hinders, has_record_or_mark, job, recipe, same_candidate, sources_of, spots, walk}
 use Rattle.smk_laws_protocol.specs.Protocol.{IsProductAt, now}
@@ -112,11 +113,23 @@ each_map P f [] x h i = absurd i
 each_map P f (y ∷ xs) x h (inl e) = subst (λ z. P (f z)) (sym e) h.0
 each_map P f (y ∷ xs) x h (inr i) = each_map P f xs x h.1 i
 
-pub stamps_as : (g : Path → Option Stamp) (ps : List Path) (ss : List Stamp) → length ss ≡ length ps → ((q : Path) (s : Stamp) → IsIn (zip ps ss) (q, s) → Some s ≡ g q) → map Some ss ≡ map g ps
-stamps_as g [] [] e h = refl
-stamps_as g [] (s ∷ ss) e h = absurd (omega (arith, e))
-stamps_as g (p ∷ ps) [] e h = absurd (omega (arith, e))
-stamps_as g (p ∷ ps) (s ∷ ss) e h = λ i. h p s (inl refl) i ∷ stamps_as g ps ss (omega (arith, e)) (λ q t k. h q t (inr k)) i
+-- where each recorded stamp agrees with what its input has now, they agree with the stamps of now one by one
+stamps_agree :
+    (g : Path → Option Stamp) (ps : List Path) (ss xs : List Stamp) → length ss ≡ length ps → map Some xs ≡ map g ps →
+    ((q : Path) (s x : Stamp) → IsIn (zip ps ss) (q, s) → g q ≡ Some x → agree s x ≡ true) → AllZip (λ (recorded now : Stamp). IsTrue (agree recorded now)) ss xs
+stamps_agree g [] [] [] e now h = tt
+stamps_agree g [] [] (x ∷ xs) e now h = cc
+stamps_agree g [] (s ∷ ss) xs e now h = absurd (omega (arith, e))
+stamps_agree g (p ∷ ps) [] xs e now h = absurd (omega (arith, e))
+stamps_agree g (p ∷ ps) (s ∷ ss) [] e now h = cc
+stamps_agree g (p ∷ ps) (s ∷ ss) (x ∷ xs) e now h =
+    (h p s x (inl refl) (sym (first now)), stamps_agree g ps ss xs (omega (arith, e)) (rest now) (λ q t y k. h q t y (inr k)))
+  where
+    first : Some x ∷ map Some xs ≡ g p ∷ map g ps → Some x ≡ g p
+    first k = cc
+
+    rest : Some x ∷ map Some xs ≡ g p ∷ map g ps → map Some xs ≡ map g ps
+    rest k = cc
 
 -- ## Plain jobs
 
@@ -354,7 +367,7 @@ module _ (o : Outside) (w : World) (flow : Flow) (settings : Settings) (plan : P
     pub reads : record_at image p ≡ Some r
     pub same : r.recipe ≡ k.recipe
     pub unmarked : image.marked p ≡ false
-    pub steady : (q : Path) (s x : Stamp) → IsIn (in_paths k.recipe) q → stamp_now_but image left q ≡ Some x → IsIn (stamped r) (q, s) → s ≡ x
+    pub steady : (q : Path) (s x : Stamp) → IsIn (in_paths k.recipe) q → stamp_now_but image left q ≡ Some x → IsIn (stamped r) (q, s) → agree s x ≡ true
 
   pub has_record : (k : Job) (p : Path) → IsIn plan.jobs k → is_dirty (st k) ≡ false → IsIn (out_paths k.recipe) p → HasRecord k p
   has_record k p i dirty ip =
@@ -398,7 +411,7 @@ module _ (o : Outside) (w : World) (flow : Flow) (settings : Settings) (plan : P
   stamp_made k p h =
       let reads = core_is k p h in
       let speaks = holder_own image p (core h.r) reads in
-      ap (λ b. if b then time_stamp (source_at image p) else option_and_then (unmarked_stamp_but image left) (holder image p)) (held_no_source image p p speaks)
+      ap (λ b. if b then source_stamp (source_at image p) else option_and_then (unmarked_stamp_but image left) (holder image p)) (held_no_source image p p speaks)
       ∙ ap (option_and_then (unmarked_stamp_but image left)) speaks
       ∙ ap (λ b. if b && not (left p) then None else made_stamp (core_at image p)) h.unmarked
       ∙ ap made_stamp reads
@@ -520,9 +533,9 @@ module _ (o : Outside) (w : World) (flow : Flow) (settings : Settings) (plan : P
             let is = source_read j q ij iq none in
             let f = source_file image q is in
             record {
-              stamp = Time f.0.time;
+              stamp = content_stamp f.0;
               here = source_stamp_but image left q f.0 is f.1;
-              given = ap (λ m. stamp_of m (source_at image q)) (tells.source q (j, ij, iq) (no_maker o w flow settings plan formed is_plan plain q none)) ∙ ap time_stamp (source_reads image q f.0 is f.1);
+              given = ap (λ m. stamp_of m (source_at image q)) (tells.source q (j, ij, iq) (no_maker o w flow settings plan formed is_plan plain q none)) ∙ ap source_stamp (source_reads image q f.0 is f.1);
             }
         | inr h ↦
             let k = h.0 in
@@ -557,13 +570,21 @@ module _ (o : Outside) (w : World) (flow : Flow) (settings : Settings) (plan : P
           let own = valid.0 in
           let same = h.same in
           record {
-            stamps = h.r.stamps;
-            stands = core_is t.job p h ∙ (λ n. Some (record { path = own n; made = sym serial n; recipe = same n; stamps = h.r.stamps; members = [] }));
+            found = core h.r;
+            stands = core_is t.job p h;
             unmarked = h.unmarked;
-            same = stamps_as (λ q. stamp_of (made q) (source_at image q)) (in_paths t.job.recipe) h.r.stamps (each_stamped h.r valid.1 ∙ ap (λ (x : Recipe). length (in_paths x)) same)
-                (λ q s k.
-                let x = input_stamp t.job q i calm served (zip_first (in_paths t.job.recipe) h.r.stamps q s k) in
-                ap Some (h.steady q s x.stamp (zip_first (in_paths t.job.recipe) h.r.stamps q s k) x.here (subst (λ (r : Recipe). IsIn (zip (in_paths r) h.r.stamps) (q, s)) (sym same) k)) ∙ sym x.given);
+            again = λ stamps now. record {
+              path = own;
+              made = sym serial;
+              recipe = same;
+              members = refl;
+              stamps = stamps_agree (λ q. stamp_of (made q) (source_at image q)) (in_paths t.job.recipe) h.r.stamps stamps (each_stamped h.r valid.1 ∙ ap (λ (x : Recipe). length (in_paths x)) same) now
+                  (λ q s x k given.
+                  let here = zip_first (in_paths t.job.recipe) h.r.stamps q s k in
+                  let y = input_stamp t.job q i calm served here in
+                  subst (λ z. agree s z ≡ true) (same_Some y.stamp x (sym y.given ∙ given))
+                  (h.steady q s y.stamp here y.here (subst (λ (r : Recipe). IsIn (zip (in_paths r) h.r.stamps) (q, s)) (sym same) k)));
+            };
           }
 
       ready_turn : (t : Turn) → IsIn all t → IsOfPlan t → Served plan.jobs seen t.job → IsReady o image made before all t

@@ -5,12 +5,15 @@ use Rattle.smk_world.specs.declared.event.Event.{Event}
 use Rattle.smk_world.specs.declared.event.Call.{Call}
 use Rattle.smk_world.specs.declared.recipe.Out.{Out}
 use Rattle.smk_world.specs.Calls.{failed}
+use Rattle.smk_world.specs.Devices.{AreLooks}
+use Rattle.smk_world.specs.World.{World}
 use Rattle.smk_world.specs.Requests.{Request, HasDone, AreQuiet}
 use Rattle.smk_world.specs.Trees.{Path}
 use Rattle.smk_record.specs.declared.record.Stamp.{Stamp}
 use Rattle.smk_record.specs.declared.record.Member.{Member}
 use Rattle.smk_job.specs.declared.fault.CloseFault.{CloseFault}
 use Rattle.smk_job.specs.Sights.{Nodes, AreSeen, IsSeenWrong, AreLookedAt}
+use Rattle.smk_run.specs.Digesting.{HasDigested}
 use Rattle.smk_run.specs.Stamps.{Serials, IsStamped, AreStamped}
 use Rattle.smk_safe.specs.Turning.{has_failure}
 
@@ -41,6 +44,15 @@ stamped_quiet made [] [] es h = subst IsQuiet (sym h) refl
 stamped_quiet made [] (s ∷ ss) es h = absurd h
 stamped_quiet made (p ∷ ps) [] es h = absurd h
 stamped_quiet made (p ∷ ps) (s ∷ ss) es (first, more, e, one, next) = quiet_then es first more e (stamp_quiet (made p) p s first one) (stamped_quiet made ps ss more next)
+
+-- where none of them failed
+pub reads_quiet : (es : List Event) → AreLooks false es → IsQuiet es
+reads_quiet [] h = refl
+reads_quiet (e ∷ []) h = ap (λ b. b || false) h.1
+reads_quiet (e ∷ (f ∷ es)) h = ap (λ b. b || has_failure (f ∷ es)) h.1 ∙ reads_quiet (f ∷ es) h.2
+
+pub digested_quiet : (made : Serials) (ps : List Path) (ss : List Stamp) (w : World) (es : List Event) → HasDigested made ps ss w es → IsQuiet es
+digested_quiet made ps ss w es h = quiet_then es h.looks h.reads h.events (stamped_quiet made ps h.seen h.looks h.stamped) (reads_quiet h.reads h.only_read)
 
 pub seen_quiet : (nodes : Nodes) (outs : List Out) (ms : List (List Member)) (es : List Event) → AreSeen nodes outs ms es → IsQuiet es
 seen_quiet nodes [] [] es h = subst IsQuiet (sym h) refl

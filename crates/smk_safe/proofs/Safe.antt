@@ -13,7 +13,7 @@ use Rattle.smk_world.proofs.Runs.{run_append}
 use Rattle.smk_record.specs.Spelling.{ReadsRecords}
 use Rattle.smk_store.specs.Images.{Image, image_by}
 use Rattle.smk_store.specs.Soundness.{Outside, SoundWorld}
-use Rattle.smk_store.specs.Trust.{Versions}
+use Rattle.smk_store.specs.Trust.{Versions, SumsDiffer}
 use Rattle.smk_laws_protocol.specs.Protocol.{RunState, Runs, Done, Next, Steady, HasAllMarks, now}
 use Rattle.smk_laws_protocol.specs.Midway.{IsTop, at_entry}
 use Rattle.smk_run.specs.Stamps.{Serials}
@@ -66,7 +66,7 @@ front o s end w (e ∷ es) rest (Next _ mid _ _ _ _ step runs) = let f = front o
 -- ## All of it
 
 module _ (o : Outside) (entry : World) (H : Versions) (top : ℕ) (made : Serials) (ts : List Turn) (es : List Event)
-    (reads : ReadsRecords o.read) (sound : SoundWorld o entry H) (is_top : IsTop o entry top) (ready : AreReady o (now o entry) made top ts) (last : AreDoneButLast ts)
+    (reads : ReadsRecords o.read) (differ : SumsDiffer H) (sound : SoundWorld o entry H) (is_top : IsTop o entry top) (ready : AreReady o (now o entry) made top ts) (last : AreDoneButLast ts)
     (found : Throughout entry es (AllAreFound ts)) (follows : Follows o.act entry es) (h : IsRunOf o made ts entry es) where
   abbrev before : List Event
   before = h.looks ++ h.settling ∷ []
@@ -86,7 +86,7 @@ module _ (o : Outside) (entry : World) (H : Versions) (top : ℕ) (made : Serial
       let alone : (run entry before).children ≡ [] = ap (λ (x : World). x.children) end_before ∙ settled_children v h.settling h.places h.settles ∙ same.children ∙ sound.no_child in
       let runs = steadied o top entry h.looks h.settling h.places h.only_look h.settles (subst (λ (i : Image). HasAllMarks o i h.places) (sym looked) h.all_marks) in
       let r =
-      ready_turns_are_run o entry H top before (steady_state o top) made ts h.turns reads sound is_top split.0 runs (at_rest o top) refl alone
+      ready_turns_are_run o entry H top before (steady_state o top) made ts h.turns reads differ sound is_top split.0 runs (at_rest o top) refl alone
       (subst (λ (i : Image). AreReady o i made top ts) (sym seen) ready) last
       (throughout_later (AllAreFound ts) entry before h.turns (subst (λ l. Throughout entry l (AllAreFound ts)) events_are found)) split.1 h.have_turns in
       (r.0, subst (λ l. Runs o (at_entry o top) entry l r.0) (sym events_are) r.1, r.2)
@@ -114,7 +114,7 @@ module _ (o : Outside) (entry : World) (H : Versions) (top : ℕ) (made : Serial
         start = run entry before;
         seen = ap (now o) end_before ∙ settled_now o v h.settling h.places h.settles first.1.0.lets ∙ looked;
         alone = ap (λ (x : World). x.children) end_before ∙ settled_children v h.settling h.places h.settles ∙ same.children ∙ sound.no_child;
-        sound_then = sound_at_rest o entry H top sound is_top before (steady_state o top) split.0 runs (at_rest o top);
+        sound_then = sound_at_rest o entry H top differ sound is_top before (steady_state o top) split.0 runs (at_rest o top);
         follows_on = split.1;
         turns_on = h.have_turns;
         at_end = ap (run entry) events_are ∙ run_append entry before h.turns;
@@ -127,9 +127,9 @@ module _ (o : Outside) (entry : World) (H : Versions) (top : ℕ) (made : Serial
         follows_protocol = (r.0, r.1);
         throughout = λ events rest split.
             let part = front o (at_entry o top) r.0 entry events rest (subst (λ l. Runs o (at_entry o top) entry l r.0) split r.1) in
-            safe_here o entry H top sound is_top events part.0 (follows_split o.act entry events rest (subst (Follows o.act entry) split follows)).0 part.1;
-        at_end = λ closed. sound_at_rest o entry H top sound is_top es r.0 follows r.1 (r.2 closed);
+            safe_here o entry H top differ sound is_top events part.0 (follows_split o.act entry events rest (subst (Follows o.act entry) split follows)).0 part.1;
+        at_end = λ closed. sound_at_rest o entry H top differ sound is_top es r.0 follows r.1 (r.2 closed);
       }
 
 pub run_is_safe : RunIsSafe
-run_is_safe o entry H top made ts es reads sound is_top ready last found follows h = safe_run o entry H top made ts es reads sound is_top ready last found follows h
+run_is_safe o entry H top made ts es reads differ sound is_top ready last found follows h = safe_run o entry H top made ts es reads differ sound is_top ready last found follows h

@@ -1,5 +1,5 @@
 -- A turn is a run of the protocol, and so are turns one after another.
-use Rattle.std.proofs.Common.{◌≡◌, ◌≢◌, inl, inr, ℕ, true, false, ◌||◌, List, [], ◌∷◌, ◌++◌, refl, ap, sym, subst, ◌∙◌, Option, Some, None, Result, Ok, Err, true≢false}
+use Rattle.std.proofs.Common.{◌≡◌, ◌≢◌, ◌⊎◌, inl, inr, ℕ, true, false, ◌||◌, List, [], ◌∷◌, ◌++◌, refl, ap, sym, subst, ◌∙◌, Option, Some, None, Result, Ok, Err, true≢false}
 use Rattle.std.specs.List.{list_any}
 use Rattle.std.proofs.lemmas.List.{append-nil}
 use Rattle.std.proofs.lemmas.List.Folds.{list_any-append}
@@ -24,7 +24,7 @@ use Rattle.smk_record.specs.declared.record.Record.{Record}
 use Rattle.smk_record.specs.Spelling.{ReadsRecords}
 use Rattle.smk_store.specs.Images.{Image, stands, is_source, core_at, seen}
 use Rattle.smk_store.specs.Soundness.{Outside}
-use Rattle.smk_laws_protocol.specs.Protocol.{OpenJob, Phase, RunState, Running, Ended as EndedPhase, MayBegin, HasSerial, IsKept, IsAtHand, Runs, Done, Next, Step, Go, FailWait, Wait, outputs, own, begun_with, record_of, now}
+use Rattle.smk_laws_protocol.specs.Protocol.{OpenJob, Phase, RunState, Running, Ended as EndedPhase, MayBegin, HasSerial, IsKept, IsAtHand, Runs, Done, Next, Step, Go, FailWait, Wait, outputs, own, begun_with, now}
 use Rattle.smk_laws_protocol.proofs.Basics.{each_on}
 use Rattle.smk_laws_protocol.proofs.ProtocolHolds.{numbered_alone}
 use Rattle.smk_job.specs.Jobs.{ReadUsers, begin_requests, abandon_requests, finish_requests}
@@ -42,17 +42,17 @@ use Rattle.smk_run.specs.declared.ending.Ending.TheVariants.{Good, Status, NoOut
 use Rattle.smk_run.specs.declared.stop.Stop.{Stop}
 use Rattle.smk_run.specs.declared.stop.Stop.TheVariants as stop
 use Rattle.smk_record.specs.declared.record.Stamp.{Stamp}
-use Rattle.smk_run.proofs.Stamping.{all_part}
-use Rattle.smk_run.specs.Stamps.{Serials, look_at, looks, HasStamped}
+use Rattle.smk_run.specs.Digesting.{HasReadPart, HasInputs}
+use Rattle.smk_run.specs.Stamps.{Serials, look_at, looks}
 use Rattle.smk_run.specs.Closings.{wait_event, HasSettled}
 use Rattle.smk_run.specs.Turns.{Course, Unbegun, Unstarted, Unclosed, Closed, Turn, found, as_underway, HasGoneOn, HasGone, HasStampedAnd, IsTurnBy, is_begun, is_closed}
-use Rattle.smk_run.proofs.Calls.{each_append, stamped_each}
+use Rattle.smk_run.proofs.Calls.{each_append, digested_each, stamped_each}
 use Rattle.smk_made.proofs.Done.{follows_split}
 use Rattle.smk_run.proofs.Telling.{started_after}
 use Rattle.smk_made.proofs.Starting.{has_ended}
 use Rattle.smk_safe.specs.Turning.{IsAtRest, opened, MayComeNext, AllAreFound, has_failure, TurnIsRun, ComeInTurn, TurnsAreRun}
-use Rattle.smk_safe.proofs.Joining.{runs_then, throughout_later, throughout_first, throughout_on, IsLooking, lookings, AreLooks, looks_by, look_all, look_part, looks_same, now_same}
-use Rattle.smk_safe.proofs.Quiet.{IsQuiet, quiet_then, done_quiet, stamped_quiet, seen_quiet, wrong_quiet, looked_quiet}
+use Rattle.smk_safe.proofs.Joining.{runs_then, throughout_later, throughout_first, throughout_on, IsLooking, lookings, AreLooks, looks_by, look_all, look_part, read_part, looks_same, now_same}
+use Rattle.smk_safe.proofs.Quiet.{IsQuiet, quiet_then, done_quiet, digested_quiet, stamped_quiet, seen_quiet, wrong_quiet, looked_quiet}
 
 -- ## In a world that reads the same
 
@@ -75,9 +75,11 @@ serial_as o s w v j top e (inr (some, kept, is)) = inr (
   some,
   each_on (IsKept o w j) (IsKept o v j)
       (λ p k. record {
-        stands = subst (λ (i : Image). core_at i p ≡ Some (record_of j p)) (sym e) k.stands;
-        unmarked = subst (λ (i : Image). i.marked p ≡ false) (sym e) k.unmarked;
         found = k.found;
+        stands = subst (λ (i : Image). core_at i p ≡ Some k.found) (sym e) k.stands;
+        unmarked = subst (λ (i : Image). i.marked p ≡ false) (sym e) k.unmarked;
+        kept = k.kept;
+        again = k.again;
       }) (outputs j) kept,
   is,
 )
@@ -295,7 +297,7 @@ module _ (o : Outside) (s : RunState) (t : Turn) (kept : List (Path × Record)) 
       → Throughout w es (AllAreFound (t ∷ [])) → Follows o.act w es → HasStampedAnd made t (HasGone t c) w es
       → (end : RunState) × Runs o s w es end × (is_closed c ≡ true → end ≡ record s { top = top }) × (has_failure es ≡ true → end.faulted ≡ true)
   begun_turn made c w es begun set all follows h =
-      let looks = looks_by o h.seen (stamped_each IsLooking lookings made (in_paths t.job.recipe) (found t.looked) h.seen h.stamped) in
+      let looks = looks_by o h.seen (digested_each IsLooking lookings made (in_paths t.job.recipe) (found t.looked) w h.seen h.stamped) in
       let f = subst (Follows o.act w) h.events follows in
       let split = follows_split o.act w h.seen h.rest f in
       let later = throughout_later (AllAreFound (t ∷ [])) w h.seen h.rest (subst (λ l. Throughout w l (AllAreFound (t ∷ []))) h.events all) in
@@ -303,20 +305,45 @@ module _ (o : Outside) (s : RunState) (t : Turn) (kept : List (Path × Record)) 
         r.0,
         subst (λ l. Runs o s w l r.0) (sym h.events) (look_all o s r.0 h.rest rest.calm w h.seen looks r.1),
         r.2,
-        λ bad. r.3 (later_bad es h.seen h.rest h.events (stamped_quiet made (in_paths t.job.recipe) (found t.looked) h.seen h.stamped) bad),
+        λ bad. r.3 (later_bad es h.seen h.rest h.events (digested_quiet made (in_paths t.job.recipe) (found t.looked) w h.seen h.stamped) bad),
       )
 
-  looked_only : (made : Serials) (r : Result (List Stamp) Stop) (w : World) (es : List Event) → HasStamped made (in_paths t.job.recipe) r w es
-      → (end : RunState) × Runs o s w es end × (has_failure es ≡ true → end.faulted ≡ true)
-  looked_only made r w es h = look_part o s rest.calm (looks made (in_paths t.job.recipe)) w es (all_looking made (in_paths t.job.recipe)) (as_part r h)
+  -- what only looks lead to
+  abbrev LeadsOn : World → List Event → Type 0
+  LeadsOn w es = (end : RunState) × Runs o s w es end × (has_failure es ≡ true → end.faulted ≡ true)
+
+  looked_only : (made : Serials) (r : Result (List Stamp) Stop) (w : World) (es : List Event) → HasInputs made (in_paths t.job.recipe) r w es → LeadsOn w es
+  looked_only made r w es h = by r h
     where
-      as_part : (x : Result (List Stamp) Stop) → HasStamped made (in_paths t.job.recipe) x w es → IsPart (looks made (in_paths t.job.recipe)) es
-      as_part (Ok stamps) k = all_part made (in_paths t.job.recipe) stamps es k
-      as_part (Err (stop.Gone p)) k = k.0
-      as_part (Err (stop.TooLong n)) k = k
-      as_part (Err stop.Device) k = k
-      as_part (Err stop.Output) k = k
-      as_part (Err stop.OutOfMemory) k = k
+      part : IsPart (looks made (in_paths t.job.recipe)) es → LeadsOn w es
+      part k = look_part o s rest.calm (looks made (in_paths t.job.recipe)) w es (all_looking made (in_paths t.job.recipe)) k
+
+      -- all inputs were looked at, and then sources were read
+      read_after : (first more : List Event) → es ≡ first ++ more → AreLooks o first → has_failure first ≡ false → LeadsOn (run w first) more → LeadsOn w es
+      read_after first more e only quiet then = (
+        then.0,
+        subst (λ l. Runs o s w l then.0) (sym e) (look_all o s then.0 more rest.calm w first only then.1),
+        λ bad. then.2 (later_bad es first more e quiet bad),
+      )
+
+      some_read : HasReadPart made (in_paths t.job.recipe) es → LeadsOn w es
+      some_read k =
+          read_after k.looks k.reads k.events (looks_by o k.looks (stamped_each IsLooking lookings made (in_paths t.job.recipe) k.seen k.looks k.stamped))
+          (stamped_quiet made (in_paths t.job.recipe) k.seen k.looks k.stamped) (read_part o s rest.calm k.failure (run w k.looks) k.reads k.only_read)
+
+      either : IsPart (looks made (in_paths t.job.recipe)) es ⊎ HasReadPart made (in_paths t.job.recipe) es → LeadsOn w es
+      either (inl k) = part k
+      either (inr k) = some_read k
+
+      by : (x : Result (List Stamp) Stop) → HasInputs made (in_paths t.job.recipe) x w es → LeadsOn w es
+      by (Ok stamps) k =
+          read_after k.looks k.reads k.events (looks_by o k.looks (stamped_each IsLooking lookings made (in_paths t.job.recipe) k.seen k.looks k.stamped))
+          (stamped_quiet made (in_paths t.job.recipe) k.seen k.looks k.stamped) (read_part o s rest.calm false (run w k.looks) k.reads k.only_read)
+      by (Err (stop.Gone p)) k = part k.0
+      by (Err (stop.TooLong n)) k = either k
+      by (Err stop.Device) k = either k
+      by (Err stop.Output) k = either k
+      by (Err stop.OutOfMemory) k = either k
 
   set_from : (c : Course) (w : World) → t.course ≡ c → MayComeNext o s w t kept top → is_begun c ≡ true
       → (v : World) (seen : List Event) → v ≡ run w seen → AreLooks o seen → Follows o.act w seen → IsSet o s t kept top v

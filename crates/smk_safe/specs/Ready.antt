@@ -4,13 +4,14 @@ use Rattle.std.specs.List.{list_any}
 use Rattle.smk_base.specs.Path.{overlaps}
 use Rattle.smk_world.specs.World.{in_paths, out_paths}
 use Rattle.smk_world.specs.Trees.{Path, IsIn, Each, is_path_text}
+use Rattle.smk_record.specs.declared.record.Record.{Record}
 use Rattle.smk_record.specs.declared.record.Stamp.{Stamp}
 use Rattle.smk_record.specs.declared.record.Stamp.TheVariants.{Made}
 use Rattle.smk_record.specs.Records.{record_of}
 use Rattle.smk_store.specs.Images.{Content, Image, stands, is_source, source_at, core_at}
 use Rattle.smk_store.specs.Soundness.{Outside}
-use Rattle.smk_store.specs.Trust.{time_stamp}
-use Rattle.smk_laws_protocol.specs.Protocol.{IsProductAt}
+use Rattle.smk_store.specs.Trust.{source_stamp}
+use Rattle.smk_laws_protocol.specs.Protocol.{IsAgain, IsProductAt}
 use Rattle.smk_run.specs.Stamps.{Serials}
 use Rattle.smk_run.specs.Turns.{Turn, is_begun, is_done}
 use Rattle.smk_laws_job.specs.Laws.{IsRecordable}
@@ -32,17 +33,21 @@ pub data IsThere (o : Outside) (image : Image) (made : Serials) (before all : Li
 
 -- ## Serials
 
--- the stamp of an input as the image has it: of a product its serial, of a source its time
+-- the stamp of an input as the image has it: of a product its serial, of a source its time and SHA-256
 abbrev pub stamp_of : Option ℕ → Option Content → Option Stamp
 stamp_of (Some serial) source = Some (Made serial)
-stamp_of None source = time_stamp source
+stamp_of None source = source_stamp source
 
--- Of an output that is restored the record stands, unmarked, with the job's serial and recipe and the stamps that its inputs have.
+-- these are the stamps of the job's inputs as the image has them
+abbrev pub AreStampsOf : Image → Serials → Turn → List Stamp → Type 0
+AreStampsOf image made t stamps = map Some stamps ≡ map (λ q. stamp_of (made q) (source_at image q)) (in_paths t.job.recipe)
+
+-- Of an output that is restored an unmarked record stands, in whose place the job's record with the stamps of now may be written again.
 pub record IsRecordedSo (image : Image) (made : Serials) (t : Turn) (p : Path) : Type 0 where
-  pub stamps : List Stamp
-  pub stands : core_at image p ≡ Some (record_of p t.made t.job.recipe stamps [])
+  pub found : Record
+  pub stands : core_at image p ≡ Some found
   pub unmarked : image.marked p ≡ false
-  pub same : map Some stamps ≡ map (λ q. stamp_of (made q) (source_at image q)) (in_paths t.job.recipe)
+  pub again : (stamps : List Stamp) → AreStampsOf image made t stamps → IsAgain found (record_of p t.made t.job.recipe stamps [])
 
 -- the turn draws its serial, which is above those of the folder
 abbrev pub draws : ℕ → Turn → Bool

@@ -7,7 +7,7 @@ use Rattle.smk_world.specs.Runs.{Follows}
 use Rattle.smk_world.specs.Trees.{Path, Each}
 use Rattle.smk_record.specs.Spelling.{ReadsRecords}
 use Rattle.smk_store.specs.Soundness.{Outside, SoundWorld}
-use Rattle.smk_store.specs.Trust.{Versions}
+use Rattle.smk_store.specs.Trust.{Versions, SumsDiffer}
 use Rattle.smk_laws_protocol.specs.Protocol.{RunState, Runs, HasAllMarks, IsLook, now}
 use Rattle.smk_laws_protocol.specs.Midway.{IsTop, at_entry, HasSafeImages}
 use Rattle.smk_run.specs.Stamps.{Serials}
@@ -15,11 +15,12 @@ use Rattle.smk_run.specs.Turns.{Turn, AreTurns, is_closed}
 use Rattle.smk_safe.specs.Turning.{IsAtRest, AllAreFound}
 use Rattle.smk_safe.specs.Ready.{AreReady, AreDoneButLast}
 
--- Turns that are ready, after a run of the protocol that came to rest, are a run of the protocol with it; to rest, where all jobs were closed.
+-- Where no two different contents of sources have the same SHA-256: turns that are ready, after a run of the protocol that came to rest, are a run of the protocol with it; to rest, where all jobs were closed.
 abbrev pub ReadyTurnsAreRun : Type 0
 ReadyTurnsAreRun =
     (o : Outside) (entry : World) (H : Versions) (top : ℕ) (before : List Event) (s : RunState) (made : Serials) (ts : List Turn) (es : List Event) →
     ReadsRecords o.read →
+    SumsDiffer H →
     SoundWorld o entry H →
     IsTop o entry top →
     Follows o.act entry before →
@@ -53,11 +54,13 @@ pub record IsSafeRun (o : Outside) (entry : World) (H : Versions) (top : ℕ) (t
   pub throughout : (events rest : List Event) → es ≡ events ++ rest → HasSafeImages o entry (run entry events) H
   pub at_end : Each (λ (t : Turn). is_closed t.course ≡ true) ts → SoundWorld o (run entry es) H
 
--- A run of turns that are ready, by the folder as it was at the entry, is safe.
+-- A run of turns that are ready, by the folder as it was at the entry, is safe, where no two different contents of sources have the same
+-- SHA-256.
 abbrev pub RunIsSafe : Type 0
 RunIsSafe =
     (o : Outside) (entry : World) (H : Versions) (top : ℕ) (made : Serials) (ts : List Turn) (es : List Event) →
     ReadsRecords o.read →
+    SumsDiffer H →
     SoundWorld o entry H →
     IsTop o entry top →
     AreReady o (now o entry) made top ts →

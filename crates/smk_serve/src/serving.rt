@@ -84,6 +84,7 @@ pub fn make_targets<W: Crew, O: Sink, Rt: Threads + Sync>(
                 store: &plan.store,
             };
             make(
+                rt,
                 alloc,
                 &asked.flow,
                 &asked.targets,

@@ -13,3 +13,4 @@ pub mod Earliest
 pub mod Meaning
 pub mod Forgets
 pub mod Loads
+pub mod Versions

@@ -13,9 +13,8 @@ use Rattle.smk_world.specs.Requests.{Request, HasDone, IsCutShort}
 use Rattle.smk_world.specs.Requests.Request.{Remove, Settle}
 use Rattle.smk_world.specs.Trees.{Path, IsIn}
 use Rattle.smk_record.specs.declared.record.Stamp.{Stamp}
-use Rattle.smk_record.specs.declared.record.Stamp.TheVariants.{Time}
 use Rattle.smk_record.specs.declared.record.Record.{Record}
-use Rattle.smk_record.specs.Records.{stamped}
+use Rattle.smk_record.specs.Records.{stamped, source_time}
 use Rattle.smk_store.specs.declared.fault.StoreFault.{StoreFault}
 use Rattle.smk_store.specs.declared.fault.StoreFault.TheVariants.{StampSeen, Device, OutOfMemory}
 use Rattle.smk_store.specs.Images.{Content, content_of, readable}
@@ -37,7 +36,9 @@ pub record IsSeen (ks : List Known) (w : World) (p q : Path) : Type 0 where
   pub under : is_at_or_under q p ≡ true
   pub file : Content
   pub stands : content_of (reading (w.nodes q)) ≡ Some file
-  pub held : IsIn (all_inputs ks) (q, Time file.time)
+  pub stamp : Stamp
+  pub held : IsIn (all_inputs ks) (q, stamp)
+  pub same : source_time stamp ≡ Some file.time
 
 -- the first of these files, in byte order
 pub record IsFirstSeen (ks : List Known) (w : World) (p q : Path) : Type 0 where

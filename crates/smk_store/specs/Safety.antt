@@ -9,7 +9,7 @@ use Rattle.smk_world.specs.declared.event.Event.{Event}
 use Rattle.smk_world.specs.World.{World, run, is_within}
 use Rattle.smk_world.specs.Trees.{Path}
 use Rattle.smk_store.specs.Images.{Content, Image, seen, source_at, file_at}
-use Rattle.smk_store.specs.Trust.{Versions, none_eased}
+use Rattle.smk_store.specs.Trust.{Versions, SumsDiffer, none_eased}
 use Rattle.smk_store.specs.Soundness.{Outside, Sound, SoundWorld, EachImage, told}
 
 abbrev pub or_put : Option (List ℕ) → ℕ → Option Content → Option (List ℕ)
@@ -46,12 +46,13 @@ module _ (o : Outside) where
       EachImage o.read (run entry events) (λ i.
       Sound o.act (with_sources H i) i none_eased × SourcesOf (seen o.read entry) (forgotten_so_far paths events) i)
 
-  -- What a call keeps, by its entry, its log and the paths that it forgets; where the flag says so, the world at its end is sound
-  -- too, if no child is left.
+  -- What a call keeps, by its entry, its log and the paths that it forgets, for versions of which no two different contents have the
+  -- same SHA-256; where the flag says so, the world at its end is sound too, if no child is left.
   pub record KeepsSound (entry : World) (log : List Event) (paths : List Path) (to_the_end : Bool) : Type 0 where
-    pub safe : (H : Versions) → SoundWorld o entry H → SafeThroughout entry log paths H
+    pub safe : (H : Versions) → SumsDiffer H → SoundWorld o entry H → SafeThroughout entry log paths H
     pub sound_at_exit :
         (H : Versions) →
+        SumsDiffer H →
         SoundWorld o entry H →
         IsTrue to_the_end →
         (run entry log).children ≡ [] → SoundWorld o (run entry log) (with_sources H (seen o.read (run entry log)))

@@ -5,11 +5,11 @@ use Rattle.smk_base.specs.declared.tree.Tree.{Tree}
 use Rattle.smk_world.specs.World.{World, Nodes, IsFormed, Leaves}
 use Rattle.smk_world.specs.Calls.{HasOwners}
 use Rattle.smk_world.specs.Trees.{Path, Act, IsIn, kind_in}
-use Rattle.smk_record.specs.declared.record.Stamp.TheVariants.{Time}
+use Rattle.smk_record.specs.declared.record.Stamp.{Stamp}
 use Rattle.smk_record.specs.declared.record.Record.{Record}
 use Rattle.smk_record.specs.Records.{stamped}
 use Rattle.smk_store.specs.Images.{Content, Image, image_of, seen, stands, source_at, core_at, record_at, is_whole, tree_now}
-use Rattle.smk_store.specs.Trust.{Eased, none_eased, Chain, any_time, Versions, Vir}
+use Rattle.smk_store.specs.Trust.{Eased, none_eased, Clear, Chain, any_source, Versions, HasVersion, Vir}
 
 -- a tree stands at p, and it is what the record of p vouches for
 abbrev pub Holds : Act → Versions → Image → Path → Type 0
@@ -19,15 +19,15 @@ Holds act H image p = (tree : Tree) × (tree_now image p ≡ Some tree) × (Vir 
 pub record Sound (act : Act) (H : Versions) (image : Image) (eased : Eased) : Type 0 where
   -- H has each source as it is
   pub has_sources : (p : Path) (f : Content) → source_at image p ≡ Some f → H p f.time ≡ Some f.bytes
-  -- and each source at each time that an unmarked record tells
+  -- and each source as a record that counts tells of it, by its time and SHA-256
   pub has_recorded :
-      (p : Path) (r : Record) (q : Path) (t : ℕ) →
-      core_at image p ≡ Some r → image.marked p ≡ false → IsIn (stamped r) (q, Time t) → IsSome (H q t)
+      (p : Path) (r : Record) (q : Path) (s : Stamp) →
+      Clear image eased p r → IsIn (stamped r) (q, s) → HasVersion H q s
   -- each whole output whose unmarked record hangs together holds what its record vouches for
   pub holds :
       (p : Path) (r : Record) →
       core_at image p ≡ Some r →
-      image.marked p ≡ false → Chain image eased any_time r → IsTrue (is_whole image p (kind_in r.recipe p)) → Holds act H image p
+      image.marked p ≡ false → Chain image eased any_source r → IsTrue (is_whole image p (kind_in r.recipe p)) → Holds act H image p
   -- no two records overlap, so that at most one speaks for a path
   pub none_nested : (p q : Path) → IsSome (core_at image p) → IsSome (core_at image q) → IsTrue (overlaps p q) → p ≡ q
 

@@ -11,18 +11,21 @@ use Rattle.smk_world.specs.World.{World, reading}
 use Rattle.smk_world.specs.Calls.{stat_of}
 use Rattle.smk_world.specs.Trees.{Path}
 use Rattle.smk_record.specs.declared.record.Stamp.{Stamp}
-use Rattle.smk_record.specs.declared.record.Stamp.TheVariants.{Time, Made}
-use Rattle.smk_record.specs.Records.{is_less}
+use Rattle.smk_record.specs.Records.{is_less, source_time}
 use Rattle.smk_store.specs.declared.sources.Source.{Source}
 use Rattle.smk_store.specs.declared.store.Entry.{Entry}
 use Rattle.smk_store.specs.Forgetting.{inputs_of}
 use Rattle.smk_store.specs.Images.{readable}
 use Rattle.smk_store.specs.Stores.{Known}
 
+-- the source q with this time, where it is at or under the path p
+abbrev pub source_by : Path → Path → Option ℕ → List Source
+source_by p q (Some t) = if is_at_or_under q p then record { path = q; time = t } ∷ [] else []
+source_by p q None = []
+
 -- an input that was a source, with its time, where it is at or under the path p
 abbrev pub source_of : Path → Path × Stamp → List Source
-source_of p (q, Time t) = if is_at_or_under q p then record { path = q; time = t } ∷ [] else []
-source_of p (q, Made m) = []
+source_of p (q, s) = source_by p q (source_time s)
 
 abbrev pub sources_of : Path → List (Path × Stamp) → List Source
 sources_of p inputs = flat_map (source_of p) inputs

@@ -1,15 +1,18 @@
 -- Stamps, chains of records, and what a record vouches for.
-use Rattle.std.specs.Prelude.{◌≡◌, ◌⊎◌, ℕ, zero, suc, Bool, false, ◌&&◌, not, List, map, reverse, if◌then◌else◌, Option, Some, None, option_map, is_some, IsTrue}
+use Rattle.std.specs.Prelude.{◌≡◌, ◌⊎◌, ℕ, zero, suc, Bool, true, false, ◌&&◌, not, List, map, length, nat_le, reverse, if◌then◌else◌, Option, Some, None, option_map, is_some, IsTrue, IsSome}
 use Rattle.std.specs.List.{find}
 use Rattle.std.specs.Option.{option_and_then}
+use Rattle.sha2.specs.Sha256.{sha256}
+use Rattle.smk_base.specs.Digests.{digest}
+use Rattle.smk_base.specs.declared.sum.Sum.{Sum as Digest}
 use Rattle.smk_base.specs.declared.tree.Tree.{Tree}
 use Rattle.smk_base.specs.declared.tree.Tree.TheVariants.{File}
 use Rattle.smk_world.specs.World.{folders_above}
 use Rattle.smk_world.specs.Trees.{Path, Act, IsIn, among, all_of, folders_of, part_at, value_at}
 use Rattle.smk_record.specs.declared.record.Stamp.{Stamp}
-use Rattle.smk_record.specs.declared.record.Stamp.TheVariants.{Time, Made}
+use Rattle.smk_record.specs.declared.record.Stamp.TheVariants.{Time, Sum, Made}
 use Rattle.smk_record.specs.declared.record.Record.{Record}
-use Rattle.smk_record.specs.Records.{agrees, stamped}
+use Rattle.smk_record.specs.Records.{agrees, is_of_source, stamped}
 use Rattle.smk_store.specs.Images.{Content, Image, source_at, is_source, core_at}
 
 -- ## Stamps
@@ -32,13 +35,26 @@ made_stamp r = option_map (λ (s : Record). Made s.made) r
 abbrev pub unmarked_stamp : Image → Path → Option Stamp
 unmarked_stamp image h = if image.marked h then None else made_stamp (core_at image h)
 
-abbrev pub time_stamp : Option Content → Option Stamp
-time_stamp f = option_map (λ (c : Content). Time c.time) f
+-- the SHA-256 is taken of contents of at most so many bytes
+abbrev pub is_summed : List ℕ → Bool
+is_summed bytes = nat_le (length bytes) 1048576
 
--- The stamp now: of a source its time; of another path the serial of the record that speaks for it, if that has no mark.
+-- the SHA-256 of a content
+abbrev pub sum_of : List ℕ → Digest
+sum_of bytes = digest (sha256 bytes)
+
+-- the stamp of a source: its time, with its SHA-256 where that is taken
+abbrev pub content_stamp : Content → Stamp
+content_stamp c = if is_summed c.bytes then Sum c.time (sum_of c.bytes) else Time c.time
+
+abbrev pub source_stamp : Option Content → Option Stamp
+source_stamp f = option_map content_stamp f
+
+-- The stamp now: of a source its time, with its SHA-256 where that is taken; of another path the serial of the record that speaks for
+-- it, if that has no mark.
 abbrev pub stamp_now : Image → Path → Option Stamp
 stamp_now image p =
-    if is_source image p then time_stamp (source_at image p) else option_and_then (unmarked_stamp image) (holder image p)
+    if is_source image p then source_stamp (source_at image p) else option_and_then (unmarked_stamp image) (holder image p)
 
 -- a mark stands there, and it counts: the marks of some paths are left out
 abbrev pub is_marked_but : Image → (Path → Bool) → Path → Bool
@@ -50,7 +66,7 @@ unmarked_stamp_but image left_out h = if is_marked_but image left_out h then Non
 -- the stamp now, where the marks of some paths don't count
 abbrev pub stamp_now_but : Image → (Path → Bool) → Path → Option Stamp
 stamp_now_but image left_out p =
-    if is_source image p then time_stamp (source_at image p) else option_and_then (unmarked_stamp_but image left_out) (holder image p)
+    if is_source image p then source_stamp (source_at image p) else option_and_then (unmarked_stamp_but image left_out) (holder image p)
 
 -- ## Chains
 
@@ -73,31 +89,31 @@ pub record Speaks (image : Image) (eased : Eased) (q h : Path) (r : Record) : Ty
   pub clear : Clear image eased h r
 
 -- A record hangs together: for each input that was a product a record speaks now whose serial agrees with the recorded stamp,
--- and that record hangs together likewise; and `Agrees` holds of each input that was a source, with its recorded time.
-pub data Chain (image : Image) (eased : Eased) (Agrees : Path → ℕ → Type 0) : Record → Type 0 where
+-- and that record hangs together likewise; and `Agrees` holds of each input that was a source, with its recorded stamp.
+pub data Chain (image : Image) (eased : Eased) (Agrees : Path → Stamp → Type 0) : Record → Type 0 where
   Link :
       (r : Record) (place : Path → ℕ → Path) (by : Path → ℕ → Record) →
-      ((q : Path) (t : ℕ) → IsIn (stamped r) (q, Time t) → Agrees q t) →
+      ((q : Path) (s : Stamp) → IsIn (stamped r) (q, s) → is_of_source s ≡ true → Agrees q s) →
       ((q : Path) (m : ℕ) →
       IsIn (stamped r) (q, Made m) → Speaks image eased q (place q m) (by q m) × IsTrue (agrees (Made m) (made_stamp (Some (by q m))))) →
       ((q : Path) (m : ℕ) → IsIn (stamped r) (q, Made m) → Chain image eased Agrees (by q m)) →
       Chain image eased Agrees r
 
 -- nothing is asked of the source
-abbrev pub any_time : Path → ℕ → Type 0
-any_time q t = Unit {0}
+abbrev pub any_source : Path → Stamp → Type 0
+any_source q s = Unit {0}
 
--- the stamp now agrees with the recorded time
-abbrev pub same_time : Image → Path → ℕ → Type 0
-same_time image q t = IsTrue (agrees (Time t) (stamp_now image q))
+-- the stamp now agrees with the recorded one
+abbrev pub same_source : Image → Path → Stamp → Type 0
+same_source image q s = IsTrue (agrees s (stamp_now image q))
 
 -- A path is chained where its record reads, no mark counts there, and the record hangs together.
 abbrev pub Chained : Image → Eased → Path → Type 0
-Chained image eased p = (r : Record) × Clear image eased p r × Chain image eased any_time r
+Chained image eased p = (r : Record) × Clear image eased p r × Chain image eased any_source r
 
 -- A path is trusted where it is chained, and along the whole chain each source is as it was recorded.
 abbrev pub Trusted : Image → Eased → Path → Type 0
-Trusted image eased p = (r : Record) × Clear image eased p r × Chain image eased (same_time image) r
+Trusted image eased p = (r : Record) × Clear image eased p r × Chain image eased (same_source image) r
 
 -- ## What a record vouches for
 
@@ -105,9 +121,21 @@ Trusted image eased p = (r : Record) × Clear image eased p r × Chain image eas
 abbrev pub Versions : Type 0
 Versions = Path → ℕ → Option (List ℕ)
 
+-- No two different contents among the versions have the same SHA-256, be they of one source or of several.
+abbrev pub SumsDiffer : Versions → Type 0
+SumsDiffer H =
+    (p q : Path) (t u : ℕ) (a b : List ℕ) → H p t ≡ Some a → H q u ≡ Some b → sum_of a ≡ sum_of b → a ≡ b
+
+-- The versions have the source as it was recorded: at its time, and with its SHA-256 where that was recorded.
+abbrev pub HasVersion : Versions → Path → Stamp → Type 0
+HasVersion H q (Time t) = IsSome (H q t)
+HasVersion H q (Sum t s) = (bytes : List ℕ) × (H q t ≡ Some bytes) × (sum_of bytes ≡ s)
+HasVersion H q (Made m) = Unit {0}
+
 -- the content that an input had by its recorded stamp, by V of the record that speaks for it
 abbrev pub input_value : Image → Versions → (Path → Option Tree) → Path × Stamp → Option Tree
 input_value image H V (q, Time t) = option_map File (H q t)
+input_value image H V (q, Sum t s) = option_map File (H q t)
 input_value image H V (q, Made m) =
     option_and_then (λ h. if agrees (Made m) (made_stamp (core_at image h)) then option_and_then (part_at h q) (V h) else None) (holder image q)
 

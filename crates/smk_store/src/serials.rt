@@ -14,6 +14,7 @@ fn raised_by_stamp(greatest: u64, stamp: &Stamp) -> u64
 {
     match stamp {
         Stamp::Time(_) => greatest,
+        Stamp::Sum(..) => greatest,
         Stamp::Made(serial) => greatest.max(*serial),
     }
 }

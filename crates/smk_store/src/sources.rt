@@ -3,7 +3,7 @@
 ghost use Rattle.std.specs.Prelude.{◌≡◌, ◌≢◌, ◌∷◌, ◌++◌, ℕ, List as Items, Some, IfOk, OnOk};
 ghost use Rattle.std.specs.List.{flat_map, zip};
 ghost use Rattle.smk_base.specs.Path.{is_at_or_under};
-ghost use Rattle.smk_record.specs.Records.{stamped};
+ghost use Rattle.smk_record.specs.Records.{stamped, source_time};
 ghost use Rattle.smk_world.specs.declared.event.NodeState.TheVariants.{Owned};
 ghost use Rattle.smk_world.specs.Calls.{device_failed};
 ghost use Rattle.smk_world.specs.Devices.{WhereTold, HasLooked};
@@ -31,6 +31,17 @@ fn is_within(path: &PathText, folder: &PathText) -> bool
     path.as_str() == folder.as_str() || path.is_under(folder)
 }
 
+// The time of what was stamped, where that was a source.
+fn time_of(stamp: Stamp) -> Option<u64>
+    ensures { result ≡ source_time stamp }
+{
+    match stamp {
+        Stamp::Time(time) => Some(time),
+        Stamp::Sum(time, _) => Some(time),
+        Stamp::Made(_) => None,
+    }
+}
+
 // Adds the input, where it was a source and is at or under the path p.
 fn push_source(
     alloc: Global,
@@ -41,15 +52,15 @@ fn push_source(
 ) -> Result<(), OutOfMemory>
     ensures { OnOk result (found.new ≡ found.old ++ source_of p.now (path.now, stamp)) }
 {
-    match stamp {
-        Stamp::Time(time) => {
+    match time_of(stamp) {
+        Some(time) => {
             if is_within(path, p) {
                 let path = path.copy(alloc)?;
                 found.push(Source { path, time })?;
             }
             Ok(())
         }
-        Stamp::Made(_) => Ok(()),
+        None => Ok(()),
     }
 }
 

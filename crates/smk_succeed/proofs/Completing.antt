@@ -122,17 +122,17 @@ turns_split made (u ∷ before) t w es (first, more, e, is, later) =
     )
 
 pub runs_are_complete : RunsAreComplete
-runs_are_complete flow o has_fields w v H settings plan cores first duties turns failed ended made es sound last alone values plain keeps none owners fit order outcome follows given are =
+runs_are_complete flow o has_fields w v H settings plan cores first duties turns failed ended made es differ sound last alone values plain keeps none owners fit order outcome follows given are =
     go ended outcome
   where
     run_of_plan : AreRunOf (zip plan.jobs plan.states) turns
     run_of_plan = are_run_of cores (serial_of first duties) 0 plan.jobs plan.states duties turns fit order
 
     fed : (held : List Path) × Each (IsCleanIn (setting_of flow o.act has_fields (seen o.read w)) 200 w) held × Each (IsLeftAlone turns) held × AreFed (setting_of flow o.act has_fields (seen o.read w)) held turns
-    fed = planned_turns_are_fed flow o has_fields w H settings plan turns sound last alone values plain run_of_plan
+    fed = planned_turns_are_fed flow o has_fields w H settings plan turns differ sound last alone values plain run_of_plan
 
     arranged : AreArranged turns
-    arranged = planned_turns_are_arranged flow o has_fields w H settings plan turns sound last alone values plain run_of_plan
+    arranged = planned_turns_are_arranged flow o has_fields w H settings plan turns differ sound last alone values plain run_of_plan
 
     clean : Each (IsCleanIn (setting_of flow o.act has_fields (seen o.read w)) 200 v) fed.0
     clean =

@@ -16,7 +16,8 @@ use Rattle.smk_record.specs.declared.record.Stamp.{Stamp}
 use Rattle.smk_job.specs.Jobs.{IsPart}
 use Rattle.smk_job.specs.Sights.{reads_file}
 use Rattle.smk_run.specs.declared.stop.Stop.{Stop}
-use Rattle.smk_run.specs.Stamps.{EndsGone, HasStamped, Serials, is_file, look_at, looks}
+use Rattle.smk_run.specs.Digesting.{HasInputs}
+use Rattle.smk_run.specs.Stamps.{EndsGone, Serials, is_file, look_at, looks}
 use Rattle.smk_run.specs.Turns.{Course, IsTurnBy}
 use Rattle.smk_run.proofs.Calls.{EachCall}
 use Rattle.smk_made.proofs.Keeping.{Spares, AreAside, run_kept}
@@ -94,6 +95,6 @@ never_gone act made ps w es p none files follows part (before, e, is, (stat, cal
 
 pub inputs_are_found : InputsAreFound
 inputs_are_found act made t w es p none files follows is course looked =
-    let stamped : HasStamped made (in_paths t.job.recipe) t.looked w es = subst (λ (c : Course). IsTurnBy made t c w es) course is in
-    let gone = subst (λ (r : Result (List Stamp) Stop). HasStamped made (in_paths t.job.recipe) r w es) looked stamped in
+    let stamped : HasInputs made (in_paths t.job.recipe) t.looked w es = subst (λ (c : Course). IsTurnBy made t c w es) course is in
+    let gone = subst (λ (r : Result (List Stamp) Stop). HasInputs made (in_paths t.job.recipe) r w es) looked stamped in
     never_gone act made (in_paths t.job.recipe) w es p none files follows gone.0 gone.1

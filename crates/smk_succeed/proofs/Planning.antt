@@ -28,7 +28,7 @@ use Rattle.smk_flow.specs.declared.job.Gather.{Gather}
 use Rattle.smk_flow.specs.Flows.{Flow, Candidate, gathered_folders, logs, outputs, outs}
 use Rattle.smk_choose.specs.Choose.{Sources, choose, Source, Make}
 use Rattle.smk_store.specs.Images.{Image, Content, content_of, file_at, holds_source, is_file, is_outside, is_source, is_whole, is_covered, seen, sources, tree_now}
-use Rattle.smk_store.specs.Trust.{Versions}
+use Rattle.smk_store.specs.Trust.{Versions, SumsDiffer}
 use Rattle.smk_store.specs.Soundness.{Outside, SoundWorld}
 use Rattle.smk_chain.specs.Derive.{Listings, chosen, clashes, job, jobs, listing, recipe, sources_of, spots, walk}
 use Rattle.smk_chain.specs.Mean.{Setting, clean_value, setting_of}
@@ -171,7 +171,7 @@ held_bytes (Known (Some (Regular bytes time read_only)) besides) true f h = ap (
 
 module _
     (flow : Flow) (o : Outside) (has_fields : Job → Bool) (w : World) (H : Versions) (settings : Settings) (plan : Plan)
-    (sound : SoundWorld o w H) (last : LastPlan flow (seen o.read w) settings nothing_done [] plan) (alone : GathersAlone flow)
+    (differ : SumsDiffer H) (sound : SoundWorld o w H) (last : LastPlan flow (seen o.read w) settings nothing_done [] plan) (alone : GathersAlone flow)
     (values : AllHaveValues (setting_of flow o.act has_fields (seen o.read w)) settings.targets) (plain : IsPlainPlan plan) where
   abbrev image : Image
   image = seen o.read w
@@ -195,19 +195,19 @@ module _
   last_came K p (Last q is done) came = (is, came)
   last_came K p (Then q r is more rest) came =
       last_came (q.lists ++ new_listings image settings nothing_done q) r rest
-      (next_came flow o.act has_fields image H settings nothing_done (bound_fills_from numbered_all) complete refl valid sound.now alone values q is came)
+      (next_came flow o.act has_fields image H settings nothing_done (bound_fills_from numbered_all) complete refl valid differ sound.now alone values q is came)
 
   abbrev known : IsPlan flow image settings nothing_done plan × Came plan.lists
   known =
       last_came [] plan last
-      (none_came flow o.act has_fields image H settings nothing_done (bound_fills_from numbered_all) complete refl valid sound.now alone values)
+      (none_came flow o.act has_fields image H settings nothing_done (bound_fills_from numbered_all) complete refl valid differ sound.now alone values)
 
   abbrev planned : Planned flow image settings nothing_done plan
   planned = record { complete = complete; valid = valid; derived = known.0 }
 
   abbrev rest : Rested flow o.act has_fields image H settings nothing_done plan
   rest =
-      plan_rested flow o.act has_fields image H settings nothing_done (bound_fills_from numbered_all) complete refl valid sound.now alone values plan known.0
+      plan_rested flow o.act has_fields image H settings nothing_done (bound_fills_from numbered_all) complete refl valid differ sound.now alone values plan known.0
       known.1
 
   abbrev Here : ℕ → Path → Type 0
@@ -863,15 +863,15 @@ module _
         (λ u p i k m. absurd i) (λ u i. absurd i) each_comes
 
 pub planned_turns_are_fed : PlannedTurnsAreFed
-planned_turns_are_fed flow o has_fields w H settings plan ts sound last alone values plain are = (
-  held flow o has_fields w H settings plan sound last alone values plain ts are,
-  each_from (IsCleanIn (setting_of flow o.act has_fields (seen o.read w)) 200 w) (held flow o has_fields w H settings plan sound last alone values plain ts are)
-      (λ p i. held_clean flow o has_fields w H settings plan sound last alone values plain ts are p i),
-  each_from (IsLeftAlone ts) (held flow o has_fields w H settings plan sound last alone values plain ts are)
-      (λ p i. held_alone flow o has_fields w H settings plan sound last alone values plain ts are p i),
-  all_fed flow o has_fields w H settings plan sound last alone values plain ts are,
+planned_turns_are_fed flow o has_fields w H settings plan ts differ sound last alone values plain are = (
+  held flow o has_fields w H settings plan differ sound last alone values plain ts are,
+  each_from (IsCleanIn (setting_of flow o.act has_fields (seen o.read w)) 200 w) (held flow o has_fields w H settings plan differ sound last alone values plain ts are)
+      (λ p i. held_clean flow o has_fields w H settings plan differ sound last alone values plain ts are p i),
+  each_from (IsLeftAlone ts) (held flow o has_fields w H settings plan differ sound last alone values plain ts are)
+      (λ p i. held_alone flow o has_fields w H settings plan differ sound last alone values plain ts are p i),
+  all_fed flow o has_fields w H settings plan differ sound last alone values plain ts are,
 )
 
 pub planned_turns_are_arranged : PlannedTurnsAreArranged
-planned_turns_are_arranged flow o has_fields w H settings plan ts sound last alone values plain are =
-    all_arranged flow o has_fields w H settings plan sound last alone values plain ts are
+planned_turns_are_arranged flow o has_fields w H settings plan ts differ sound last alone values plain are =
+    all_arranged flow o has_fields w H settings plan differ sound last alone values plain ts are

@@ -32,11 +32,12 @@ use Rattle.smk_job.proofs.Outs.{paths_same}
 use Rattle.smk_run.specs.declared.ending.Ending.{Ending}
 use Rattle.smk_run.specs.declared.ending.Ending.TheVariants.{Good, Status, NoOutput, WrongKind, BadMember}
 use Rattle.smk_run.specs.Closings.{IsClosedBy, wait_event}
-use Rattle.smk_run.specs.Stamps.{Serials, AreStamped}
+use Rattle.smk_run.specs.Digesting.{HasDigested}
+use Rattle.smk_run.specs.Stamps.{Serials}
 use Rattle.smk_run.specs.Statuses.{AreGiven, IsGiven}
 use Rattle.smk_run.specs.Turns.{Course, Unbegun, Unstarted, Unclosed, Closed, Turn, as_underway, found, HasGone, HasStampedAnd, IsTurnBy, is_closed, is_done, is_good as ended_well}
 use Rattle.smk_made.specs.Leaving.{AreInputsApart, MayCome}
-use Rattle.smk_run.proofs.Calls.{OfLooks, stamped_each}
+use Rattle.smk_run.proofs.Calls.{OfLooks, digested_each}
 use Rattle.smk_made.proofs.TreeMoves.{contents_moved}
 use Rattle.smk_run.proofs.Telling.{files_children, started_after}
 use Rattle.smk_made.proofs.Starting.{HasEnded, has_ended}
@@ -111,7 +112,7 @@ one_numbered child other n h = go (nat_eq child.number n) h
     go false k = cc
 
 crewless : OfLooks (λ (r : Request). is_crew r ≡ false)
-crewless = record { look = λ p. refl; listed = λ p. refl }
+crewless = record { look = λ p. refl; read = λ p limit. refl; listed = λ p. refl }
 
 -- How the command ended: with status 0, and its outputs are files.
 record EndedWell (t : Turn) (status : ℕ) (v : World) : Type 0 where
@@ -122,14 +123,14 @@ ended_so :
     (act : Act) (made : Serials) (t : Turn) (trees : List Tree) (w : World) (seen first : List Event) (number : ℕ) (ended : Ended) (left : List Change) →
     CanSucceed act t trees → MayCome t w → AreInputsApart t → ContentsAre w t.job.recipe trees →
     Lets act (run (run w seen) first) (Waited (Ok ended)) left → IsGiven act ⊥ (run (run w seen) first) (Waited (Ok ended)) →
-    AreStamped made (in_paths t.job.recipe) (found t.looked) seen → HasDone (begin_requests t.job.recipe t.job.logs t.command) first →
+    HasDigested made (in_paths t.job.recipe) (found t.looked) w seen → HasDone (begin_requests t.job.recipe t.job.logs t.command) first →
     started_numbers first ≡ number ∷ [] → EndedWell t ended.status (after (run (run w seen) first) (wait_event ended left))
 ended_so act made t trees w seen first number ended left can may apart contents lets told stamped begun started =
     let recipe = t.job.recipe in
     let w1 = run w seen in
     let u = run w1 first in
     let child : Child = record { number = number; recipe = recipe; logs = t.job.logs } in
-    let none1 : w1.children ≡ [] = files_children w seen (stamped_each (λ (r : Request). is_crew r ≡ false) crewless made (in_paths recipe) (found t.looked) seen stamped) ∙ may.none_runs in
+    let none1 : w1.children ≡ [] = files_children w seen (digested_each (λ (r : Request). is_crew r ≡ false) crewless made (in_paths recipe) (found t.looked) w seen stamped) ∙ may.none_runs in
     let runs : u.children ≡ child ∷ [] =
     started_after (before_start recipe t.job.logs) recipe t.job.logs t.command number w1 first (before_files recipe t.job.logs) begun started ∙ ap (λ cs. cs ++ child ∷ []) none1 in
     let there =

@@ -9,7 +9,7 @@ use Rattle.smk_pattern.specs.Shapes.{Text}
 use Rattle.smk_flow.specs.declared.job.Job.{Job}
 use Rattle.smk_flow.specs.Flows.{Flow}
 use Rattle.smk_store.specs.Images.{seen}
-use Rattle.smk_store.specs.Trust.{Versions}
+use Rattle.smk_store.specs.Trust.{Versions, SumsDiffer}
 use Rattle.smk_store.specs.Soundness.{Outside, SoundWorld}
 use Rattle.smk_chain.specs.Mean.{setting_of}
 use Rattle.smk_pick.specs.declared.settings.Settings.{Settings}
@@ -50,6 +50,7 @@ abbrev pub RunsAreComplete : Type 0
 RunsAreComplete =
     (flow : Flow) (o : Outside) (has_fields : Job → Bool) (w v : World) (H : Versions) (settings : Settings) (plan : Plan) (cores : ℕ)
     (first : Option ℕ) (duties : List Duty) (turns : List Turn) (failed : Bool) (ended : Result Tally Fault) (made : Serials) (es : List Event) →
+    SumsDiffer H →
     SoundWorld o w H →
     LastPlan flow (seen o.read w) settings nothing_done [] plan →
     GathersAlone flow →

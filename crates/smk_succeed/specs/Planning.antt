@@ -7,7 +7,7 @@ use Rattle.smk_world.specs.Trees.{Path, Each, outs_of}
 use Rattle.smk_flow.specs.declared.job.Job.{Job}
 use Rattle.smk_flow.specs.Flows.{Flow}
 use Rattle.smk_store.specs.Images.{seen}
-use Rattle.smk_store.specs.Trust.{Versions}
+use Rattle.smk_store.specs.Trust.{Versions, SumsDiffer}
 use Rattle.smk_store.specs.Soundness.{Outside, SoundWorld}
 use Rattle.smk_chain.specs.Mean.{setting_of}
 use Rattle.smk_trigger.specs.declared.reason.State.{State}
@@ -40,6 +40,7 @@ AreRunOf ((j, Clean) ∷ es) (t ∷ ts) = AreRunOf es (t ∷ ts)
 abbrev pub PlannedTurnsAreFed : Type 0
 PlannedTurnsAreFed =
     (flow : Flow) (o : Outside) (has_fields : Job → Bool) (w : World) (H : Versions) (settings : Settings) (plan : Plan) (ts : List Turn) →
+    SumsDiffer H →
     SoundWorld o w H →
     LastPlan flow (seen o.read w) settings nothing_done [] plan →
     GathersAlone flow →
@@ -55,6 +56,7 @@ PlannedTurnsAreFed =
 abbrev pub PlannedTurnsAreArranged : Type 0
 PlannedTurnsAreArranged =
     (flow : Flow) (o : Outside) (has_fields : Job → Bool) (w : World) (H : Versions) (settings : Settings) (plan : Plan) (ts : List Turn) →
+    SumsDiffer H →
     SoundWorld o w H →
     LastPlan flow (seen o.read w) settings nothing_done [] plan →
     GathersAlone flow →

@@ -2,14 +2,12 @@
 use Rattle.std.proofs.Common.{◌≡◌, ℕ, suc, ◌+◌, ◌<◌, length, get_or, drop, add-one, append_assoc, Bool, true, false, cond, ◌&&◌, ◌||◌, not, List, [], ◌∷◌, ◌++◌, map, Option, Some, None, refl, sym, ap, ◌∙◌, bytes_eq}
 use Rattle.std.specs.Prelude.{if◌then◌else◌}
 use Rattle.std.specs.List.{list_any, filter, zip}
-use Rattle.std.proofs.lemmas.Bool.{eqb-true, eq-eqb}
+use Rattle.std.proofs.lemmas.List.Folds.{list_any-append}
 use Rattle.std.proofs.Math.Seq.{drop-cons}
 use Rattle.smk_base.proofs.Places.{same_place}
-use Rattle.smk_base.proofs.Under.{never_both}
 use Rattle.smk_world.specs.Trees.{Path}
 use Rattle.smk_record.specs.declared.record.Stamp.{Stamp}
-use Rattle.smk_record.specs.declared.record.Stamp.TheVariants.{Time, Made}
-use Rattle.smk_record.specs.Records.{same_stamp}
+use Rattle.smk_record.specs.Records.{agree}
 use Rattle.smk_trigger.specs.declared.reason.Reason.{Reason}
 use Rattle.smk_trigger.specs.declared.reason.Reason.TheVariants.{Updated}
 use Rattle.smk_trigger.specs.declared.updates.Recorded.{Recorded}
@@ -19,37 +17,17 @@ use Rattle.smk_trigger.specs.Updates.{joined, differs, disagrees, is_other, upda
 
 -- ## One more stamp
 
-stamps_equal : (s t : Stamp) → same_stamp s t ≡ true → s ≡ t
-stamps_equal (Time t) (Time u) h = ap Time (eqb-true t u h)
-stamps_equal (Time t) (Made m) h = absurd (never_both false h refl)
-stamps_equal (Made m) (Time t) h = absurd (never_both false h refl)
-stamps_equal (Made m) (Made n) h = ap Made (eqb-true m n h)
+abbrev other_than : Stamp → Stamp → Bool
+other_than now s = not (agree s now)
 
-stamp_itself : (s : Stamp) → same_stamp s s ≡ true
-stamp_itself (Time t) = eq-eqb t t refl
-stamp_itself (Made m) = eq-eqb m m refl
+or_none : (b : Bool) → (b || false) ≡ b
+or_none true = refl
+or_none false = refl
 
-twice : (b : Bool) → b ≡ (b || b)
-twice true = refl
-twice false = refl
-
-one_of_two : (s t now : Stamp) → same_stamp t s ≡ false → true ≡ (not (same_stamp t now) || not (same_stamp s now))
-one_of_two s t now apart = go (same_stamp t now) (same_stamp s now) refl refl
-  where
-    go : (a b : Bool) → same_stamp t now ≡ a → same_stamp s now ≡ b → true ≡ (not (same_stamp t now) || not (same_stamp s now))
-    go false b ea eb = sym (ap (λ v. not v || not (same_stamp s now)) ea)
-    go true false ea eb = sym (ap (λ v. not v || not (same_stamp s now)) ea ∙ ap not eb)
-    go true true ea eb =
-        absurd (never_both (same_stamp s s) (stamp_itself s) (ap (λ x. same_stamp x s) (stamps_equal s now eb ∙ sym (stamps_equal t now ea)) ∙ apart))
-
-pub joined_differs : (o : Option Recorded) (s now : Stamp) → differs (Some (joined o s)) now ≡ (differs o now || not (same_stamp s now))
+pub joined_differs : (o : Option Recorded) (s now : Stamp) → differs (Some (joined o s)) now ≡ (differs o now || not (agree s now))
 joined_differs None s now = refl
-joined_differs (Some Several) s now = refl
-joined_differs (Some (One t)) s now = go (same_stamp t s) refl
-  where
-    go : (b : Bool) → same_stamp t s ≡ b → differs (Some (if b then One t else Several)) now ≡ (not (same_stamp t now) || not (same_stamp s now))
-    go true e = twice (not (same_stamp t now)) ∙ ap (λ x. not (same_stamp t now) || not (same_stamp x now)) (stamps_equal t s e)
-    go false e = one_of_two s t now e
+joined_differs (Some (One t)) s now = ap (λ b. other_than now t || b) (or_none (other_than now s))
+joined_differs (Some (Several ss)) s now = list_any-append (other_than now) ss (s ∷ []) ∙ ap (λ b. list_any (other_than now) ss || b) (or_none (other_than now s))
 
 -- ## Each path once
 
@@ -123,14 +101,20 @@ if_cond false s t = refl
 pub one_taken : (key path q : Path) (o : Option Recorded) → key ≡ path → cond (bytes_eq key q) None o ≡ if bytes_eq path q then None else o
 one_taken key path q o same = if_cond (bytes_eq key q) None o ∙ ap (λ p. if bytes_eq p q then None else o) same
 
-added_there : (b : Bool) (j : Recorded) (o : Option Recorded) (s now : Stamp) → (b ≡ true → differs (Some j) now ≡ (differs o now || not (same_stamp s now)))
-    → differs (cond b (Some j) o) now ≡ (differs o now || (b && not (same_stamp s now)))
+added_there : (b : Bool) (j : Recorded) (o : Option Recorded) (s now : Stamp) → (b ≡ true → differs (Some j) now ≡ (differs o now || not (agree s now)))
+    → differs (cond b (Some j) o) now ≡ (differs o now || (b && not (agree s now)))
 added_there true j o s now here = here refl
-added_there false j o s now here = or_none (differs o now)
-  where
-    or_none : (v : Bool) → v ≡ (v || false)
-    or_none true = refl
-    or_none false = refl
+added_there false j o s now here = sym (or_none (differs o now))
+
+taken_back : (b : Bool) (j : Recorded) (o : Option Recorded) → cond b (Some j) (if b then None else o) ≡ cond b (Some j) o
+taken_back true j o = refl
+taken_back false j o = refl
+
+-- what was recorded of the path is taken out, and put back with one more stamp
+pub put_back : (f h g : Path → Option Recorded) (path key : Path) (j : Recorded) → key ≡ path → ((q : Path) → h q ≡ if bytes_eq path q then None else f q)
+    → ((q : Path) → g q ≡ cond (bytes_eq key q) (Some j) (h q)) → (q : Path) → g q ≡ cond (bytes_eq key q) (Some j) (f q)
+put_back f h g path key j same left new q =
+    new q ∙ ap (cond (bytes_eq key q) (Some j)) (left q ∙ ap (λ p. if bytes_eq p q then None else f q) (sym same)) ∙ taken_back (bytes_eq key q) j (f q)
 
 pub one_added : (f g : Path → Option Recorded) (path key : Path) (s : Stamp) (o : Option Recorded) (j : Recorded) → key ≡ path → o ≡ f path → j ≡ joined o s
     → ((q : Path) → g q ≡ cond (bytes_eq key q) (Some j) (f q)) → (q : Path) (now : Stamp) → differs (g q) now ≡ (differs (f q) now || is_other q now (path, s))
@@ -151,3 +135,21 @@ one_update f g found new paths stamps i p now o lt is_p lt' is_now is_o left mad
     ∙ ap (λ l. l ++ updates_in (without p f) (zip (drop (suc i) paths) (drop (suc i) stamps))) (made ∙ ap (λ x. found ++ update_of x p now) is_o)
     ∙ append_assoc found (update_of (f p) p now) (updates_in (without p f) (zip (drop (suc i) paths) (drop (suc i) stamps)))
     ∙ ap (λ l. found ++ updates_in f l) (sym next) ∙ before
+
+or_assoc : (a b c : Bool) → ((a || b) || c) ≡ (a || (b || c))
+or_assoc true b c = refl
+or_assoc false b c = refl
+
+-- of the next input a stamp is added
+pub one_recorded : (f g : Path → Option Recorded) (paths : List Path) (stamps : List Stamp) (i : ℕ) (p : Path) (s : Stamp)
+    → i < length paths → p ≡ get_or paths i p → i < length stamps → s ≡ get_or stamps i s
+    → ((q : Path) (now : Stamp) → differs (g q) now ≡ (differs (f q) now || is_other q now (p, s))) → (whole : List (Path × Stamp))
+    → ((q : Path) (now : Stamp) → (differs (f q) now || list_any (is_other q now) (zip (drop i paths) (drop i stamps))) ≡ list_any (is_other q now) whole)
+    → (q : Path) (now : Stamp) → (differs (g q) now || list_any (is_other q now) (zip (drop (i + 1) paths) (drop (i + 1) stamps))) ≡ list_any (is_other q now) whole
+one_recorded f g paths stamps i p s lt is_p lt' is_s added whole before q now =
+    let next : zip (drop i paths) (drop i stamps) ≡ (p, s) ∷ zip (drop (suc i) paths) (drop (suc i) stamps) =
+    ap (λ l. zip l (drop i stamps)) (drop-cons paths i p lt ∙ ap (λ x. x ∷ drop (suc i) paths) (sym is_p)) ∙ ap (zip (p ∷ drop (suc i) paths)) (drop-cons stamps i s lt' ∙ ap (λ x. x ∷ drop (suc i) stamps) (sym is_s)) in
+    ap (λ n. differs (g q) now || list_any (is_other q now) (zip (drop n paths) (drop n stamps))) (add-one i)
+    ∙ ap (λ b. b || list_any (is_other q now) (zip (drop (suc i) paths) (drop (suc i) stamps))) (added q now)
+    ∙ or_assoc (differs (f q) now) (is_other q now (p, s)) (list_any (is_other q now) (zip (drop (suc i) paths) (drop (suc i) stamps)))
+    ∙ ap (λ l. differs (f q) now || list_any (is_other q now) l) (sym next) ∙ before q now

@@ -49,7 +49,8 @@ same_recipe a b = same_code a b && (same_params a b && same_inputs a b)
 
 -- two records of one job: they differ in path and members alone
 abbrev pub same_job : Record → Record → Bool
-same_job a b = a.made == b.made && (same_recipe a.recipe b.recipe && pointwise same_stamp a.stamps b.stamps)
+same_job a b =
+    a.made == b.made && (same_recipe a.recipe b.recipe && (pointwise same_stamp a.stamps b.stamps && a.format == b.format))
 
 -- ## Reasons
 

@@ -15,7 +15,7 @@ pub enum Reason {
     Params,
     /// The inputs differ, or their order or names.
     Inputs,
-    /// This input has another stamp than the recorded one.
+    /// This input has a stamp with which the recorded one doesn't agree.
     Updated(PathText),
     /// The job of this input has to run.
     Upstream(PathText),

@@ -149,4 +149,5 @@ pub(crate) fn is_same_job(earlier: &Record, other: &Record) -> bool
     earlier.made() == other.made()
         && is_same_recipe(earlier.recipe(), other.recipe())
         && are_same(earlier.stamps().as_slice(), other.stamps().as_slice())
+        && earlier.format() == other.format()
 }

@@ -1,52 +1,47 @@
-//! Which inputs have other stamps than the recorded ones.
+//! Which inputs have stamps with which the recorded ones don't agree.
 
-ghost use Rattle.std.specs.Prelude.{◌≡◌, ◌++◌, ℕ, Bool, ◌||◌, List as Items, IfOk, OnOk, None, map, filter, bytes_eq, if◌then◌else◌};
+ghost use Rattle.std.specs.Prelude.{◌≡◌, ◌++◌, ℕ, Bool, ◌||◌, not, List as Items, IfOk, OnOk, None, map, filter, bytes_eq, if◌then◌else◌};
 ghost use Rattle.std.specs.BTreeMap.{get_by_text};
 ghost use Rattle.std.specs.List.{list_any, flat_map, zip};
 ghost use Rattle.smk_world.specs.Trees.{Path};
-ghost use Rattle.smk_record.specs.Records.{stamped};
+ghost use Rattle.smk_record.specs.Records.{agree, stamped};
 ghost use Rattle.smk_record.specs.declared.record.Stamp.{Stamp as StampValue};
 ghost use Rattle.smk_trigger.specs.Reasons.{is_updated, once};
 ghost use Rattle.smk_trigger.specs.Updates.{joined, differs, disagrees, is_other, update_of, updates_in};
 
 use crate::Reason;
-use smk_base::{List, OutOfMemory, PathText};
-use smk_record::{Record, Stamp, same_stamp};
+use smk_base::{List, OutOfMemory, PathText, one};
+use smk_record::{Record, Stamp, agrees};
 use smk_world::Item;
 use std::alloc::Global;
 use std::collections::BTreeMap;
 
 /// The stamps that are recorded of an input.
-#[derive(Clone, Copy, Debug, PartialEq, Eq)]
+#[derive(Debug, Drop)]
 pub(crate) enum Recorded {
-    /// This one, be it more than once.
+    /// This one alone.
     One(Stamp),
-    /// Several that differ.
-    Several,
+    /// These, since the input is recorded several times.
+    Several(List<Stamp>),
 }
 
 // One more stamp is recorded.
-fn joined(earlier: Option<Recorded>, stamp: Stamp) -> Recorded
-    ensures { result ≡ joined earlier stamp }
+fn joined(alloc: Global, earlier: Option<Recorded>, stamp: Stamp) -> Result<Recorded, OutOfMemory>
+    ensures { IfOk result (λ stamps. stamps ≡ joined earlier stamp) }
 {
     match earlier {
-        None => Recorded::One(stamp),
+        None => Ok(Recorded::One(stamp)),
         Some(Recorded::One(other)) => {
-            if same_stamp(&other, &stamp) {
-                Recorded::One(other)
-            } else {
-                Recorded::Several
-            }
+            let mut stamps = one(alloc, other)?;
+            stamps.push(stamp)?;
+            Ok(Recorded::Several(stamps))
         }
-        Some(Recorded::Several) => Recorded::Several,
+        Some(Recorded::Several(earlier)) => {
+            let mut stamps = earlier;
+            stamps.push(stamp)?;
+            Ok(Recorded::Several(stamps))
+        }
     }
-}
-
-// What is recorded of the path.
-fn stamps_of(recorded: &BTreeMap<String, Recorded>, path: &PathText) -> Option<Recorded>
-    ensures { result ≡ get_by_text recorded.now path.now }
-{
-    recorded.get(path.as_str()).copied()
 }
 
 // Adds the stamp of the input.
@@ -59,7 +54,8 @@ fn add(
     ensures { OnOk result ((q : Path) → (now : StampValue) → differs (get_by_text recorded.new q) now
         ≡ (differs (get_by_text recorded.old q) now || is_other q now (path.now, stamp))) }
 {
-    let stamps = joined(stamps_of(recorded, path), stamp);
+    let earlier = take(recorded, path);
+    let stamps = joined(alloc, earlier, stamp)?;
     let key = String::from_str(alloc, path.as_str())?;
     recorded.insert(key, stamps)?;
     Ok(())
@@ -107,15 +103,15 @@ fn push_paths(
     Ok(())
 }
 
-// Adds the input, where its stamp now is another one than those recorded.
+// Adds the input, where a recorded stamp doesn't agree with its stamp now.
 fn push_update(
     alloc: Global,
     found: &mut List<Reason>,
-    recorded: Option<Recorded>,
+    recorded: &Option<Recorded>,
     path: &PathText,
     now: Option<Stamp>,
 ) -> Result<(), OutOfMemory>
-    ensures { OnOk result (found.new ≡ found.old ++ update_of recorded path.now now) }
+    ensures { OnOk result (found.new ≡ found.old ++ update_of recorded.now path.now now) }
 {
     if !disagrees(recorded, now) {
         return Ok(());
@@ -124,15 +120,27 @@ fn push_update(
     Ok(())
 }
 
-// Whether a recorded stamp is another one than the stamp now, where there is one.
-fn disagrees(recorded: Option<Recorded>, now: Option<Stamp>) -> bool
-    ensures { result ≡ disagrees recorded now }
+// Whether one of the stamps doesn't agree with the stamp now.
+fn is_any_other(stamps: &[Stamp], now: &Stamp) -> bool
+    ensures { result ≡ list_any (λ s. not (agree s now.now)) stamps.now }
+{
+    for stamp in stamps {
+        if !agrees(stamp, now) {
+            return true;
+        }
+    }
+    false
+}
+
+// Whether a recorded stamp doesn't agree with the stamp now, where there is one.
+fn disagrees(recorded: &Option<Recorded>, now: Option<Stamp>) -> bool
+    ensures { result ≡ disagrees recorded.now now }
 {
     match (recorded, now) {
         (_, None) => false,
         (None, Some(_)) => false,
-        (Some(Recorded::One(stamp)), Some(now)) => !same_stamp(&stamp, &now),
-        (Some(Recorded::Several), Some(_)) => true,
+        (Some(Recorded::One(stamp)), Some(now)) => !agrees(stamp, &now),
+        (Some(Recorded::Several(stamps)), Some(now)) => is_any_other(stamps.as_slice(), &now),
     }
 }
 
@@ -153,7 +161,7 @@ fn recorded_in(alloc: Global, earlier: &Record) -> Result<BTreeMap<String, Recor
     Ok(recorded)
 }
 
-// Adds the inputs with other stamps now than the recorded ones, each once.
+// Adds the inputs with whose stamps now the recorded ones don't agree, each once.
 fn push_all(
     alloc: Global,
     found: &mut List<Reason>,
@@ -168,12 +176,12 @@ fn push_all(
             return Ok(());
         };
         let earlier = take(recorded, path);
-        push_update(alloc, found, earlier, path, *now)?;
+        push_update(alloc, found, &earlier, path, *now)?;
     }
     Ok(())
 }
 
-/// Adds the inputs with other stamps now than those of the record, each once, in order.
+/// Adds the inputs with whose stamps now those of the record don't agree, each once, in order.
 pub(crate) fn push_updates(
     alloc: Global,
     found: &mut List<Reason>,

@@ -61,7 +61,7 @@ refused_tells :
 refused_tells act read run words w H f clean (OfWorkflow fails) = absurd (clean.unrefused f fails)
 refused_tells act read run words w H f clean (OfPlan asked is refused) =
     PlanRefused asked f is
-    (refused_plans_may_stop act read asked words w H f (record { sound = clean.sound; alone = gathers_alone run words w.nodes asked is; values = clean.values asked is }) refused)
+    (refused_plans_may_stop act read asked words w H f (record { differ = clean.differ; sound = clean.sound; alone = gathers_alone run words w.nodes asked is; values = clean.values asked is }) refused)
 
 pub call_is_complete : CallIsComplete
 call_is_complete act read words w v H told old new out_old out_new at end clean never served =
@@ -78,7 +78,7 @@ call_is_complete act read words w v H told old new out_old out_new at end clean 
         let is = planned.is_asked in
         ended read true words w served.answer
         (work_is_complete act read asked told words w v H served.answer old new out_old out_new at end
-        (record { sound = clean.sound; alone = gathers_alone true words w.nodes asked is; values = clean.values asked is }) planned.plan
+        (record { differ = clean.differ; sound = clean.sound; alone = gathers_alone true words w.nodes asked is; values = clean.values asked is }) planned.plan
         (λ plan last. built_plans_are_plain asked.flow _ _ _ _ plan (asked_built words w.nodes asked is) last) never worked)
 
 pub listing_is_complete : ListingIsComplete

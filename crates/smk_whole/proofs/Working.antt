@@ -63,7 +63,7 @@ use Rattle.smk_whole.specs.Complete.{EndsComplete, IsCleanAsked, IsCompleteAnswe
 pub refused_plans_may_stop : RefusedPlansMayStop
 refused_plans_may_stop act read asked words w H f clean refused =
     clean_targets_are_planned (rules_for read asked.flow (settings_of asked words)) act (seen read w) H nothing_done f clean.alone
-    (seen_is_complete read w clean.sound.formed) (records_valid read w.names (λ q. reading (w.nodes q))) clean.sound.now refl clean.values refused
+    (seen_is_complete read w clean.sound.formed) (records_valid read w.names (λ q. reading (w.nodes q))) clean.differ clean.sound.now refl clean.values refused
 
 -- ## The events of two sayings on one call
 
@@ -238,7 +238,7 @@ module _
       let still = started y d.1 u settling in
       let ends =
       runs_are_complete asked.flow (record { read = read; act = act }) (λ j. is_none (missing j)) w y H (settings_of asked words) (plan_of told) words.cores (next_serial told.store) duties made.turns
-      made.failed made.ended (serials told.jobs.makers (next_serial told.store) duties) d.2.0 clean.sound planned.last clean.alone clean.values (plain (plan_of told) planned.last)
+      made.failed made.ended (serials told.jobs.makers (next_serial told.store) duties) d.2.0 clean.differ clean.sound planned.last clean.alone clean.values (plain (plan_of told) planned.last)
       still.files still.none_runs still.owners fit made.in_order made.answer d.2.1 given d.2.2 in
       concluded made.ended result ends made.concluded
 

@@ -6,7 +6,7 @@ use Rattle.smk_world.specs.Devices.{Device, Sunk}
 use Rattle.smk_world.specs.Trees.{Act}
 use Rattle.smk_record.specs.declared.record.Record.{Record}
 use Rattle.smk_store.specs.Images.{seen}
-use Rattle.smk_store.specs.Trust.{Versions}
+use Rattle.smk_store.specs.Trust.{Versions, SumsDiffer}
 use Rattle.smk_store.specs.Soundness.{SoundWorld}
 use Rattle.smk_plan.specs.States.{nothing_done}
 use Rattle.smk_report.specs.declared.fault.Fault.{Fault}
@@ -22,9 +22,10 @@ use Rattle.smk_laws_complete.specs.Planned.{MayStop}
 use Rattle.smk_succeed.specs.Completing.{MayBreakOff}
 use Rattle.smk_whole.specs.Complete.{setting_in}
 
--- The world is sound, the words ask for something, by files that read and with no form that is refused, and each target that they ask for has a
+-- The world is sound, no two different contents of its versions have the same SHA-256, the words ask for something, by files that read and with no form that is refused, and each target that they ask for has a
 -- clean value.
 pub record IsCleanCall (act : Act) (read : List ℕ → Option Record) (run : Bool) (words : RunWords) (w : World) (H : Versions) : Type 0 where
+  pub differ : SumsDiffer H
   pub sound : SoundWorld (record { read = read; act = act }) w H
   pub unrefused : (f : Fault) → FailsToAsk run words w.nodes f → ⊥
   pub values : (asked : Asked) → IsAskedIn run words w.nodes (Ok asked) → AllHaveValues (setting_in act read asked w) asked.targets

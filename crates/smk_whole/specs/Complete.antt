@@ -7,7 +7,7 @@ use Rattle.smk_world.specs.Trees.{Act}
 use Rattle.smk_format.specs.Commands.{missing}
 use Rattle.smk_record.specs.declared.record.Record.{Record}
 use Rattle.smk_store.specs.Images.{seen}
-use Rattle.smk_store.specs.Trust.{Versions}
+use Rattle.smk_store.specs.Trust.{Versions, SumsDiffer}
 use Rattle.smk_store.specs.Soundness.{SoundWorld}
 use Rattle.smk_chain.specs.Mean.{Setting, setting_of}
 use Rattle.smk_plan.specs.States.{Plan, LastPlan, nothing_done}
@@ -26,8 +26,9 @@ use Rattle.smk_succeed.specs.Planning.{IsPlainPlan}
 abbrev pub setting_in : Act → (List ℕ → Option Record) → Asked → World → Setting
 setting_in act read asked w = setting_of asked.flow act (λ j. is_none (missing j)) (seen read w)
 
--- What is asked has clean values, by the sources of a sound world.
+-- What is asked has clean values, by the sources of a world that is sound for versions of which no two different contents have the same SHA-256.
 pub record IsCleanAsked (act : Act) (read : List ℕ → Option Record) (asked : Asked) (w : World) (H : Versions) : Type 0 where
+  pub differ : SumsDiffer H
   pub sound : SoundWorld (record { read = read; act = act }) w H
   pub alone : GathersAlone asked.flow
   pub values : AllHaveValues (setting_in act read asked w) asked.targets

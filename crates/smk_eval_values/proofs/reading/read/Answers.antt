@@ -1,5 +1,6 @@
 use Rattle.std.proofs.Common.{◌≡◌, ◌-◌, ℕ, take, ap, ◌∙◌, arith}
-use Rattle.smk_eval_values.specs.Letters.{letters, letters_of, first_brace}
+use Rattle.smk_template.specs.Templates.{first_brace}
+use Rattle.smk_eval_values.specs.Letters.{letters, letters_of}
 use Rattle.smk_eval_values.proofs.Read.{read_last, read_more}
 use Rattle.smk_eval_values.proofs.reading.read.Goals as goal
 

@@ -13,7 +13,7 @@ returns-in-Err g c =
     }
 
 pub serve-requires : goal.serve-requires
-serve-requires g c = record { none_runs = c.steady.ensures.acted.running ∙ c.requires.none_runs; fit = c.requires.fit }
+serve-requires g c = (c.type_bounds.sync-Rt, (c.steady.ensures.acted.running ∙ c.requires.none_runs, c.requires.fit))
 
 pub returns-in-Ok : goal.returns-in-Ok
 returns-in-Ok g c =

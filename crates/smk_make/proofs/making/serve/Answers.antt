@@ -9,16 +9,16 @@ pub returns-in_default : goal.returns-in_default
 returns-in_default g c = NoMemory tt refl refl refl
 
 pub run-requires-clause-runnable : goal.run-requires-clause-runnable
-run-requires-clause-runnable g c = c.requires.fit.runnable
+run-requires-clause-runnable g c = λ κs within. c.requires.fit.runnable
 
 pub run-requires-clause-lower : goal.run-requires-clause-lower
-run-requires-clause-lower g c = c.requires.fit.lower
+run-requires-clause-lower g c = λ κs within. c.requires.fit.lower
 
 pub run-requires-clause-each : goal.run-requires-clause-each
-run-requires-clause-each g c = same_length c.args.plan.now.states.now c.in-Ok.duties c.in-Ok.ensures.states ∙ c.requires.fit.states ∙ sym c.requires.fit.befores
+run-requires-clause-each g c = λ κs within. same_length c.args.plan.now.states.now c.in-Ok.duties c.in-Ok.ensures.states ∙ c.requires.fit.states ∙ sym c.requires.fit.befores
 
 pub run-requires-clause-good : goal.run-requires-clause-good
-run-requires-clause-good g c =
+run-requires-clause-good g c = λ κs within.
     good_dues c.args.flow.now c.args.cores (serial_of c.next_serial-first.result c.in-Ok.duties) c.args.plan.now.states.now c.in-Ok.duties c.args.plan.now.jobs.now.jobs c.in-Ok.ensures.states c.requires.fit.commands
 
 pub returns : goal.returns

@@ -1,5 +1,4 @@
 use Rattle.std.proofs.Common.{◌∙◌}
-use Rattle.smk_record.specs.Records.{record_of}
 use Rattle.smk_plan_facts.proofs.Copied.{held_again}
 use Rattle.smk_plan_facts.proofs.copies.record_again.Goals as goal
 
@@ -10,4 +9,6 @@ returns c =
     let stamps = c.in_ok-stamps.ensures ∙ c.as_slice.ensures ∙ c.stamps.ensures in
     let members = c.in_ok-members.ensures ∙ c.as_slice-2.ensures ∙ c.members.ensures in
     c.kept_by.ensures
-    ∙ held_again c.new.result c.args.held.now _ (λ i. record_of (path i) (c.made.ensures i) (recipe i) (stamps i) (members i)) c.new.ensures.valid c.new.ensures.value
+    ∙ held_again c.of.result c.args.held.now _
+    (λ i. record { format = c.format.ensures i; path = path i; made = c.made.ensures i; recipe = recipe i; stamps = stamps i; members = members i })
+    c.of.ensures.valid c.of.ensures.value

@@ -6,4 +6,4 @@ use Rattle.smk_plan_look.proofs.Found.{failed_as}
 use Rattle.smk_plan_look.proofs.looking.look.Goals as goal
 
 pub returns-in-Err-clause-looked : goal.returns-in-Err-clause-looked
-returns-in-Err-clause-looked g c = looked_as (ap device_failed c.in-Err.is ∙ failed_as Seen Seen c.in-Err.fault _ c.fault_of.ensures) c.seen_of.ensures.looked
+returns-in-Err-clause-looked g c = looked_as (ap device_failed c.in-Err.is ∙ failed_as Seen Seen c.in-Err.fault _ c.fault_of.ensures) c.look_at.ensures.looked

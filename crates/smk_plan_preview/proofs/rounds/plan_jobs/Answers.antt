@@ -17,4 +17,5 @@ returns-in-Ok-clause-looked g c = looked_as (sym c.plan_seen.ensures.no_device) 
 pub returns-in-Ok-clause-told : goal.returns-in-Ok-clause-told
 returns-in-Ok-clause-told g c = λ w at none read st ready.
     c.plan_seen.ensures.told (seen read w)
-    (agree_of read w c.args.flow.now c.args.settings.now.targets _ c.args.jobs c.args.store.now c.in-Ok.seen ((g.met.W.Files.sound _).formed w at) st (c.in-Ok.ensures.told w at none read) ready) ready read
+    (agree_of read w c.args.flow.now c.args.settings.now.targets _ c.args.jobs c.args.store.now c.in-Ok.seen ((g.met.W.Files.sound _).formed w at) st (c.in-Ok.ensures.told w at none read)
+    (c.in-Ok.ensures.summed w at none read st ready.read) ready) ready read

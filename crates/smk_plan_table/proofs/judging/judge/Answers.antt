@@ -8,7 +8,7 @@ pub returns-clause-judged : goal.returns-clause-judged
 returns-clause-judged g c = λ image agree.
     judged image c.args.settings.now c.args.ran.now c.args.jobs.now
     c.in_ok-facts.facts c.in_ok-reasons.reasons c.in_ok-forced.forced c.in_ok-running.running
-    (c.in_ok-facts.ensures image (with_states c.args.jobs.now []) agree.stored agree.sighted agree.recorded agree.read)
+    (c.in_ok-facts.ensures image (with_states c.args.jobs.now []) agree.stored agree.sighted agree.summed agree.recorded agree.read)
     c.in_ok-reasons.ensures (c.in_ok-forced.ensures ∙ ap (map (λ (f : JobFacts). f.forced)) c.as_slice.ensures)
     (c.in_ok-running.ensures ∙ ap (map (λ j. None)) c.as_slice-2.ensures)
 

@@ -52,15 +52,10 @@ turn-requires g c =
     let at = next_due serial duties jobs c.loop-number.done i job c.in-Some.serial c.loop-number.invariant.next (sym c.due_at.ensures ∙ c.in-Some.is) (dropped jobs i job c.loop-number-test.true c.index-jobs-number.is) in
     let ready : IsReady c.args.flow.now c.args.cores (number_at c.args.made.now) due
     = each_at (IsReady c.args.flow.now c.args.cores (number_at c.args.made.now)) dues rest c.loop-number.done due c.requires.ready at in
-    record {
-      none_runs = c.loop-number.invariant.so_far.ran.idle refl;
-      below = ready.below c.in-Some-serial.serial c.in-Some-serial.is;
-      positive = ready.positive c.in-Some-serial.serial c.in-Some-serial.is;
-      makes = ready.makes;
-      apart = ready.apart;
-      wildcards = ready.wildcards;
-      good = ready.good;
-    }
+    let none = c.loop-number.invariant.so_far.ran.idle refl in
+    let below = ready.below c.in-Some-serial.serial c.in-Some-serial.is in
+    let positive = ready.positive c.in-Some-serial.serial c.in-Some-serial.is in
+    (c.type_bounds.sync-Rt, (none, (below, (positive, (ready.makes, (ready.apart, (ready.wildcards, ready.good)))))))
 
 pub returns-in-Ok-Some : goal.returns-in-Ok-Some
 returns-in-Ok-Some g c =

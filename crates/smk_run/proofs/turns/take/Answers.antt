@@ -17,24 +17,24 @@ pub run_one-requires-clause-valid : goal.run_one-requires-clause-valid
 run_one-requires-clause-valid g c =
     let recipe = c.args.job.now.recipe in
     let at = c.in-Ok.ensures ∙ ap (λ (xs : List Item). flat_map (λ (item : Item). item.paths) xs) c.as_slice.ensures in
-    valid_each c.args.made recipe c.in-Ok-stamps_of.stamps (c.in-Ok-stamps_of.ensures.each ∙ ap length (c.as_slice-4.ensures ∙ at)) c.requires.positive c.in-Ok-stamps_of.ensures.earlier c.requires.wildcards
+    valid_each c.args.made recipe c.in-Ok-inputs_of.stamps (c.in-Ok-inputs_of.ensures.each ∙ ap length (c.as_slice-4.ensures ∙ at)) c.requires.positive c.in-Ok-inputs_of.ensures.earlier c.requires.wildcards
     (subst (λ ps. list_all is_path_text ps ≡ true) (c.as_slice-2.ensures ∙ at) c.see_paths.ensures)
     (subst (λ (items : List OutItem). list_all is_path_text (flat_map (λ (item : OutItem). map (λ (out : Out). out.path) item.outs) items) ≡ true) c.as_slice-3.ensures c.see_outputs.ensures)
 
-pub returns-in-Ok-stamps_of : goal.returns-in-Ok-stamps_of
-returns-in-Ok-stamps_of g c =
+pub returns-in-Ok-inputs_of : goal.returns-in-Ok-inputs_of
+returns-in-Ok-inputs_of g c =
     let at = c.in-Ok.ensures ∙ ap (λ (xs : List Item). flat_map (λ (item : Item). item.paths) xs) c.as_slice.ensures in
-    taken g.W.Files.act c.args.flow.now (number_at c.args.serials.now) c.args.job.now c.args.command.now c.args.made c.as_slice-4.result.now c.in-Ok-stamps_of.stamps c.stamps_of.result c.run_one.result
-    _ _ _ _ _ (c.as_slice-4.ensures ∙ at) c.in-Ok-stamps_of.is c.stamps_of.ensures.acted c.run_one.ensures.never
+    taken g.W.Files.act c.args.flow.now (number_at c.args.serials.now) c.args.job.now c.args.command.now c.args.made c.as_slice-4.result.now c.in-Ok-inputs_of.stamps c.inputs_of.result c.run_one.result
+    _ _ _ _ _ (c.as_slice-4.ensures ∙ at) c.in-Ok-inputs_of.is c.inputs_of.ensures.acted c.run_one.ensures.never
     (record {
-      valid = valid_each c.args.made c.args.job.now.recipe c.in-Ok-stamps_of.stamps (c.in-Ok-stamps_of.ensures.each ∙ ap length (c.as_slice-4.ensures ∙ at)) c.requires.positive c.in-Ok-stamps_of.ensures.earlier c.requires.wildcards
+      valid = valid_each c.args.made c.args.job.now.recipe c.in-Ok-inputs_of.stamps (c.in-Ok-inputs_of.ensures.each ∙ ap length (c.as_slice-4.ensures ∙ at)) c.requires.positive c.in-Ok-inputs_of.ensures.earlier c.requires.wildcards
           (subst (λ ps. list_all is_path_text ps ≡ true) (c.as_slice-2.ensures ∙ at) c.see_paths.ensures)
           (subst (λ (items : List OutItem). list_all is_path_text (flat_map (λ (item : OutItem). map (λ (out : Out). out.path) item.outs) items) ≡ true) c.as_slice-3.ensures c.see_outputs.ensures);
-      writable = writable_each c.args.made c.args.job.now.recipe c.in-Ok-stamps_of.stamps c.ranges.made.fits c.in-Ok-stamps_of.ensures.small c.see_texts.ensures;
+      writable = writable_each c.args.made c.args.job.now.recipe c.in-Ok-inputs_of.stamps c.ranges.made.fits c.in-Ok-inputs_of.ensures.small c.see_texts.ensures;
     }) c.run_one.ensures.run
 
 pub returns : goal.returns
 returns g c =
     let at = c.in-Ok.ensures ∙ ap (λ (xs : List Item). flat_map (λ (item : Item). item.paths) xs) c.as_slice.ensures in
-    not_taken g.W.Files.act c.args.flow.now (number_at c.args.serials.now) c.args.job.now c.args.command.now c.args.made c.as_slice-4.result.now c.in-Err.stop c.stamps_of.result
-    _ _ _ (c.as_slice-4.ensures ∙ at) c.in-Err.is c.in-Err.ensures.kind c.stamps_of.ensures.acted c.requires.none_runs
+    not_taken g.W.Files.act c.args.flow.now (number_at c.args.serials.now) c.args.job.now c.args.command.now c.args.made c.as_slice-4.result.now c.in-Err.stop c.inputs_of.result
+    _ _ _ (c.as_slice-4.ensures ∙ at) c.in-Err.is c.in-Err.ensures.kind c.inputs_of.ensures.acted c.requires.none_runs

@@ -23,6 +23,7 @@ run_all-requires-clause-ready g c =
     let first = c.args.agenda.now.first in
     let dues = dues_same c.as_slice-4.result.now first c.as_slice.result.now c.as_slice-5.result.now duties c.as_slice-6.result.now jobs.jobs (c.as_slice-4.ensures ∙ c.in-Ok.ensures) c.as_slice.ensures c.as_slice-5.ensures c.as_slice-6.ensures in
     let made = made_same c.in-Ok-made_by.made c.as_slice-2.result.now jobs.makers c.as_slice-3.result.now first c.as_slice.result.now duties c.as_slice-2.ensures (c.as_slice-3.ensures ∙ c.in-Ok.ensures) c.as_slice.ensures c.in-Ok-made_by.ensures in
+    λ κs within.
     subst (λ m. Each (IsReady flow c.args.cores m) (due_from (serial_in c.as_slice-4.result.now) 0 c.as_slice-5.result.now c.as_slice-6.result.now)) (sym made)
     (subst (λ l. Each (IsReady flow c.args.cores (serials jobs.makers first duties)) l) (sym dues)
     (all_ready flow c.args.cores first jobs duties c.requires.positive c.requires.runnable c.requires.servable c.requires.good))

@@ -5,7 +5,7 @@ use Rattle.smk_serve.proofs.Went.{only_looked, refused_or_stopped}
 use Rattle.smk_serve.proofs.serving.make_targets.Goals as goal
 
 pub make-requires : goal.make-requires
-make-requires g c = record { none_runs = c.in-Ok.ensures.looked.acted.running ∙ c.requires.none_runs; fit = c.in-Ok.ensures.fit }
+make-requires g c = (c.type_bounds.sync-Rt, (c.in-Ok.ensures.looked.acted.running ∙ c.requires.none_runs, c.in-Ok.ensures.fit))
 
 pub returns-in-Err-clause-ended : goal.returns-in-Err-clause-ended
 returns-in-Err-clause-ended g c = early c.in-Err.fault _ c.in-Err.ensures.looked c.requires.none_runs c.in-Err.ensures.no_sink

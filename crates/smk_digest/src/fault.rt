@@ -1,0 +1,7 @@
+/// Why files have no digests.
+#[derive(Clone, Copy, Debug, PartialEq, Eq)]
+pub enum SumFault {
+    /// A call of the device failed.
+    Device,
+    OutOfMemory,
+}

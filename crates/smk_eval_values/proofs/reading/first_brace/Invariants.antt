@@ -1,6 +1,0 @@
-use Rattle.std.proofs.Common.{◌≡◌, ◌+◌, drop}
-use Rattle.smk_eval_values.specs.Letters.{first_brace}
-use Rattle.smk_eval_values.proofs.reading.first_brace.Given as goal
-
-abbrev pub invariant-loop-i : goal.invariant-loop-i
-invariant-loop-i l = first_brace l.text ≡ l.i + first_brace (drop l.i l.text)
