@@ -22,12 +22,13 @@ fn numbered(alloc: Global, folder: &str, number: u32) -> Result<PathText, OutOfM
     path_of(alloc, text.as_str())
 }
 
-// A job of this command, with these inputs and this output.
+// A job of this command, with these inputs, this output and these temporary outputs.
 fn job_of(
     alloc: Global,
     template: &str,
     inputs: List<PathText>,
     output: PathText,
+    temps: List<PathText>,
 ) -> Result<Job, OutOfMemory> {
     let input = Item {
         name: Text::of(alloc, "")?,
@@ -59,7 +60,7 @@ fn job_of(
         amounts: List::new(alloc),
         words: List::new(alloc),
         priority: 0,
-        temps: List::new(alloc),
+        temps,
         guards: List::new(alloc),
     })
 }
@@ -69,11 +70,30 @@ fn template_of(number: u32) -> &'static str {
     if number == 1 { "first" } else { "other" }
 }
 
+// The path, where what the jobs make is temporary; and else none.
+fn temps_of(
+    alloc: Global,
+    path: &PathText,
+    temporary: bool,
+) -> Result<List<PathText>, OutOfMemory> {
+    if temporary {
+        return one(alloc, path.copy(alloc)?);
+    }
+    Ok(List::new(alloc))
+}
+
 // The job of the number.
-fn part(alloc: Global, number: u32) -> Result<Job, OutOfMemory> {
+fn part(alloc: Global, number: u32, temporary: bool) -> Result<Job, OutOfMemory> {
     let input = numbered(alloc, "s", number)?;
     let output = numbered(alloc, "m", number)?;
-    job_of(alloc, template_of(number), one(alloc, input)?, output)
+    let temps = temps_of(alloc, &output, temporary)?;
+    job_of(
+        alloc,
+        template_of(number),
+        one(alloc, input)?,
+        output,
+        temps,
+    )
 }
 
 // The job that reads what the others make.
@@ -82,14 +102,15 @@ fn total(alloc: Global, count: u32) -> Result<Job, OutOfMemory> {
     for number in 0..count {
         inputs.push(numbered(alloc, "m", number.saturating_add(1))?)?;
     }
-    job_of(alloc, "total", inputs, path_of(alloc, "total.txt")?)
+    let output = path_of(alloc, "total.txt")?;
+    job_of(alloc, "total", inputs, output, List::new(alloc))
 }
 
 // The jobs in plan order.
-fn all_jobs(alloc: Global, count: u32) -> Result<List<Job>, OutOfMemory> {
+fn all_jobs(alloc: Global, count: u32, temporary: bool) -> Result<List<Job>, OutOfMemory> {
     let mut jobs = List::new(alloc);
     for number in 0..count {
-        jobs.push(part(alloc, number.saturating_add(1))?)?;
+        jobs.push(part(alloc, number.saturating_add(1), temporary)?)?;
     }
     jobs.push(total(alloc, count)?)?;
     Ok(jobs)
@@ -127,10 +148,10 @@ fn befores(alloc: Global, count: u32) -> Result<List<List<u32>>, OutOfMemory> {
     Ok(befores)
 }
 
-/// So many jobs, and the one that reads what they make.
-pub fn jobs_of(alloc: Global, count: u32) -> Result<Jobs, OutOfMemory> {
+/// So many jobs, and the one that reads what they make, which is temporary or not.
+pub fn jobs_of(alloc: Global, count: u32, temporary: bool) -> Result<Jobs, OutOfMemory> {
     Ok(Jobs {
-        jobs: all_jobs(alloc, count)?,
+        jobs: all_jobs(alloc, count, temporary)?,
         befores: befores(alloc, count)?,
         makers: makers(alloc, count)?,
         lists: List::new(alloc),

@@ -1,10 +1,12 @@
 //! Keeps plans of some jobs and one that reads what they make; begins and closes the first job, and prints how often the judge was asked, how often of the
 //! closed job and of the reader, how many jobs have to run before, meanwhile, after and once the jobs came anew, and what is told of the first job's output.
-//! Then prints what is told of a job whose source was touched or edited since its record was written.
+//! Then prints what is told of a job whose source was touched or edited since its record was written; and what is told while a child runs, and once an output
+//! was removed.
 #![tactic(auto)]
 
 mod counting;
 mod flow;
+mod moments;
 mod touched;
 
 ghost use Rattle.std.specs.Prelude.{◌≡◌, ◌++◌, length, map, Some, IfOk, OnOk};
@@ -217,7 +219,7 @@ fn planned<Rt: Threads + Sync>(rt: &Rt, alloc: Global, count: u32) -> Result<Liv
     ensures { IfOk result IsLive }
 {
     let mut work = workspace(alloc, count)?;
-    let jobs = jobs_of(alloc, count)?;
+    let jobs = jobs_of(alloc, count, false)?;
     let (store, seen) = looked(rt, alloc, &mut work, &jobs)?;
     made(rt, alloc, jobs, store, seen)
 }
@@ -265,7 +267,7 @@ fn grow<Rt: Threads + Sync>(
     let Ok(store) = load(alloc, &mut work) else {
         return Err(RowFault::Load);
     };
-    let jobs = jobs_of(alloc, count)?;
+    let jobs = jobs_of(alloc, count, false)?;
     match live.grow(rt, alloc, jobs, store, Seen::of(List::new(alloc))) {
         Err(_) => Err(RowFault::Plan),
         Ok(()) => Ok(()),
@@ -341,6 +343,8 @@ fn main(rt: HostRuntime) -> io::Result<()> {
         println!(rt; "{text}")?;
     }
     let text = touched::lines(&rt, alloc)?;
+    print!(rt; "{text}")?;
+    let text = moments::lines(&rt, alloc)?;
     print!(rt; "{text}")?;
     Ok(())
 }

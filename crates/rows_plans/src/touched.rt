@@ -39,9 +39,14 @@ fn put(work: &mut MemWork, place: &Place, bytes: &[u8]) -> Result<(), RowFault> 
     Ok(())
 }
 
-// Writes the record of the first job's output.
-fn put_record(alloc: Global, work: &mut MemWork, record: &str) -> Result<(), RowFault> {
-    let place = Place::record_of(alloc, &path_of(alloc, "m/1.txt")?)?;
+/// Writes the record of the output.
+pub(crate) fn put_record(
+    alloc: Global,
+    work: &mut MemWork,
+    output: &str,
+    record: &str,
+) -> Result<(), RowFault> {
+    let place = Place::record_of(alloc, &path_of(alloc, output)?)?;
     work.make_parents(&place)?;
     put(work, &place, record.as_bytes())
 }
@@ -56,7 +61,7 @@ fn prepare(
 ) -> Result<(), RowFault> {
     work.place(&path_of(alloc, "s/1.txt")?, bytes.as_bytes(), time)?;
     work.place(&path_of(alloc, "m/1.txt")?, b"1", 1)?;
-    put_record(alloc, work, record)
+    put_record(alloc, work, "m/1.txt", record)
 }
 
 // The kept plan of the first job and the one that reads what it makes.
@@ -65,7 +70,7 @@ fn planned<Rt: Threads + Sync>(
     alloc: Global,
     work: &mut MemWork,
 ) -> Result<LivePlan, RowFault> {
-    let jobs = jobs_of(alloc, 1)?;
+    let jobs = jobs_of(alloc, 1, false)?;
     let (store, seen) = looked(rt, alloc, work, &jobs)?;
     made(rt, alloc, jobs, store, seen)
 }

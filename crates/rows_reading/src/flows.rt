@@ -2,7 +2,9 @@
 
 use rows_lines::{Trouble, push_row, push_title};
 use smk_base::{List, OutOfMemory, PathText, Text, one};
-use smk_flow::{FlaggedText, InPart, OutPart, RulePart, Workflow, targets};
+use smk_flow::{FlaggedText, InPart, OutPart, RulePart, Workflow};
+use smk_flow_build::build;
+use smk_flow_jobs::targets;
 use std::alloc::{AllocError, Global};
 
 /// An item of inputs of one text.
@@ -57,7 +59,7 @@ fn parts(alloc: Global) -> Result<List<RulePart>, Trouble> {
 
 /// The workflow of two rules.
 fn two_rules(alloc: Global) -> Result<Workflow, Trouble> {
-    match Workflow::build(alloc, parts(alloc)?, List::new(alloc)) {
+    match build(alloc, parts(alloc)?, List::new(alloc)) {
         Ok(flow) => Ok(flow),
         Err(_) => Err(Trouble::NoValue),
     }

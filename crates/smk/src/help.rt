@@ -24,7 +24,7 @@ Options:
   -C, --config KEY=VALUE    set KEY of the configuration to this text; the last VALUE of a KEY counts
       --resources NAME=N    refuse a job that asks for more than N of the resource NAME
       --rerun-incomplete    run jobs again that were left unfinished; else a plan with such jobs is refused
-      --nolock              neither heed nor take the lock: of --cleanup-metadata; no run does that yet
+      --nolock              neither heed nor take the lock: of a run and of --cleanup-metadata
   -k, --keep-going          go on after a failed job: with -n alone, where it changes nothing
   -f, --force               run the jobs that make the targets again: with -n alone
   -F, --forceall            run all jobs again: with -n alone
@@ -41,7 +41,7 @@ Status:
   0  all is made, or listed
   1  a job failed
   2  the words are refused
-  3  the workflow, a target, the plan or a job is refused
+  3  the workflow, a target, the plan or a job is refused, or the lock stands
   4  the folder, its disk or a child process couldn't be used
   5  there is no memory
   6  the report couldn't be written

@@ -17,8 +17,8 @@ use crate::parts::part_at;
 use smk_base::OutOfMemory;
 use smk_chain::Listings;
 use smk_choose::Making;
-use smk_flow::jobs::job;
 use smk_flow::{Job, JobFault, RulePart, Workflow};
+use smk_flow_jobs::job;
 use smk_world::Recipe;
 use std::alloc::Global;
 

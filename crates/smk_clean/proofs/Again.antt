@@ -26,11 +26,13 @@ use Rattle.smk_make.specs.Making.{GoesOn, NotFirm, NoMemory, Made}
 use Rattle.smk_plan_preview.specs.declared.previewing.Previewed.{Previewed}
 use Rattle.smk_plan_preview.specs.Previewing.{plan_of}
 use Rattle.smk_serve.specs.Serving.{Went, Refused, Stopped, Worked, settings_of}
-use Rattle.smk_cli.specs.Whole.{IsRefusal, IsToServe}
+use Rattle.smk_cli.specs.Locking.{Stood, Taken, Unmade, Untaken}
+use Rattle.smk_cli.specs.Whole.{HasRun, Heeded, IsRefusal, IsToServe, Unasked, Unheeded}
 use Rattle.smk_exit.specs.Exit.{RunLeavesAllClean}
-use Rattle.smk_clean.specs.Again.{HasNoneLeft, NextCallTakesNoTurn, turns_made, turns_went}
+use Rattle.smk_clean.specs.Again.{HasNoneLeft, NextCallTakesNoTurn, turns_made, turns_ran, turns_went}
 use Rattle.smk_clean.proofs.Asking.{asked_same}
-use Rattle.smk_clean.proofs.Clean.{ended_well}
+use Rattle.smk_clean.proofs.Clean.{ended_well, none_left}
+use Rattle.smk_clean.proofs.Locked.{locked_same, served_before}
 
 -- where all jobs are Clean, none is due
 none_due : (f : ℕ → Option ℕ) (number : ℕ) (jobs all : List Job) (states : List State) (duties : List Duty) → states ≡ map (λ (j : Job). Clean) all → AreFor states duties → due_from f number duties jobs ≡ []
@@ -58,32 +60,44 @@ states_same a b e = ap (λ (p : Plan). p.states) e
 module _ (o : Outside) (words : RunWords) (w v : World) (formed : IsFormed v) (left : HasNoneLeft o words w v)
     (same : (asked : Asked) → IsAskedIn true words w.nodes (Ok asked) → IsAskedIn true words v.nodes (Ok asked)) where
   -- the plan that is made again is the one that was left
-  plan_again : (asked : Asked) (told : Previewed) → IsToServe o.read true words v asked told → plan_of told ≡ left.plan
+  plan_again : (asked : Asked) (told : Previewed) → IsToServe o.read true words v v asked told → plan_of told ≡ left.plan
   plan_again asked told serve =
       let is : asked ≡ left.asked = asked_same true words v.nodes asked left.asked serve.is_asked (same left.asked left.is_asked) in
       one_last_plan left.asked.flow (seen o.read v) (settings_of left.asked words) nothing_done [] (plan_of told) left.plan (seen_is_complete o.read v formed)
       (subst (λ (a : Asked). LastPlan a.flow (seen o.read v) (settings_of a words) nothing_done [] (plan_of told)) is serve.plan.last) (left.last [])
 
-  clean_again : (asked : Asked) (told : Previewed) → IsToServe o.read true words v asked told → told.plan.states ≡ map (λ (j : Job). Clean) left.plan.jobs
+  clean_again : (asked : Asked) (told : Previewed) → IsToServe o.read true words v v asked told → told.plan.states ≡ map (λ (j : Job). Clean) left.plan.jobs
   clean_again asked told serve = states_same (plan_of told) left.plan (plan_again asked told serve) ∙ left.clean
 
   none_made :
-      (asked : Asked) (told : Previewed) → IsToServe o.read true words v asked told → (answer : Result (Unit {0}) Fault) (old new : Device) (p q : Sunk)
+      (asked : Asked) (told : Previewed) → IsToServe o.read true words v v asked told → (answer : Result (Unit {0}) Fault) (old new : Device) (p q : Sunk)
       (settled : Result (Unit {0}) StoreFault) (g : GoesOn o.act asked.flow words.cores asked.targets told.jobs told.plan.states told.store answer old new p q settled) → turns_made g ≡ []
   none_made asked told serve answer old new p q settled (NotFirm f is unchanged unput) = refl
   none_made asked told serve answer old new p q settled (NoMemory u is unchanged unput) = refl
   none_made asked told serve answer old new p q settled (Made u duties for meant made) =
       no_turns words.cores (due (next_serial told.store) duties told.jobs.jobs) made.turns (none_due _ 0 told.jobs.jobs left.plan.jobs told.plan.states duties (clean_again asked told serve) for) made.in_order
 
+  -- also under the lock, in a folder that is the same but for it
   none_went :
+      (u : World) → ((asked : Asked) (told : Previewed) → IsToServe o.read true words v u asked told → IsToServe o.read true words v v asked told) →
       (answer : Result (Unit {0}) Fault) (old new : Device) (p q : Sunk)
-      (h : Went o.act words.cores answer (IsRefusal o.read true words v) (IsToServe o.read true words v) old new p q) → turns_went h ≡ []
-  none_went answer old new p q (Refused f is why looked) = refl
-  none_went answer old new p q (Stopped f is want looked) = refl
-  none_went answer old new p q (Worked asked told plans worked) =
-      none_made asked told plans answer worked.carried.firm new p q worked.carried.settled worked.carried.goes_on
+      (h : Went o.act words.cores answer (IsRefusal o.read true words v u) (IsToServe o.read true words v u) old new p q) → turns_went h ≡ []
+  none_went u back answer old new p q (Refused f is why looked) = refl
+  none_went u back answer old new p q (Stopped f is want looked) = refl
+  none_went u back answer old new p q (Worked asked told plans worked) =
+      none_made asked told (back asked told plans) answer worked.carried.firm new p q worked.carried.settled worked.carried.goes_on
+
+  none_ran : (answer : Result (Unit {0}) Fault) (old new : Device) (p q : Sunk) (h : HasRun o.act o.read words v answer old new p q) → turns_ran h ≡ []
+  none_ran answer old new p q (Unheeded free went) = none_went v (λ asked told serve. serve) answer old new p q went
+  none_ran answer old new p q (Unasked f heeds is why looked) = refl
+  none_ran answer old new p q (Heeded x looked heeds after at looking (Unmade is unchanged unput)) = refl
+  none_ran answer old new p q (Heeded x looked heeds after at looking (Stood is stands tried unput)) = refl
+  none_ran answer old new p q (Heeded x looked heeds after at looking (Untaken e is tried unput)) = refl
+  none_ran answer old new p q (Heeded x looked heeds after at looking (Taken u locked once at_u taken ran)) =
+      none_went u (λ asked told serve. served_before o.read true words v u asked told
+      (locked_same o.act o.read v x u formed after once) serve) ran.ran locked ran.left p q ran.went
 
 pub next_takes_no_turn : RunLeavesAllClean → NextCallTakesNoTurn
 next_takes_no_turn exit o H words told again w v old new next_old next_new p q next_p next_q at end next_at reads differ sound served none same next =
     let well = ended_well exit o H words told w v old new p q at end reads differ sound served none in
-    none_went o words w v well.formed well.none_left same next.answer next_old next_new next_p next_q next.serves
+    none_ran o words w v well.formed (none_left exit o words w v well) same next.answer next_old next_new next_p next_q next.serves

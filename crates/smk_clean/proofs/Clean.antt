@@ -5,7 +5,8 @@ use Rattle.std.proofs.lemmas.Option.{none-some}
 use Rattle.smk_chain_walk.proofs.Depths.{front_nil, back_nil}
 use Rattle.smk_world.specs.World.{World, IsFormed, run}
 use Rattle.smk_world.specs.Devices.{Device, Sunk, HasActed, HasLooked}
-use Rattle.smk_world.specs.Trees.{Each, IsIn}
+use Rattle.smk_world.specs.Trees.{Path, Each, IsIn}
+use Rattle.smk_world.proofs.Names.{formed_run}
 use Rattle.smk_flow.specs.declared.job.Job.{Job}
 use Rattle.smk_flow.specs.declared.job.Gather.{Gather}
 use Rattle.smk_flow.specs.Flows.{Flow, rule_name}
@@ -22,9 +23,11 @@ use Rattle.smk_pick.specs.declared.settings.Force.{Force}
 use Rattle.smk_pick.specs.declared.settings.Force.TheVariants.{No, Targets, All}
 use Rattle.smk_pick.specs.declared.settings.Settings.{Settings}
 use Rattle.smk_trigger.specs.declared.reason.State.{State}
+use Rattle.smk_trigger.specs.declared.reason.State.TheVariants.{Clean as CleanState}
 use Rattle.smk_trigger.specs.JobStates.{is_open}
 use Rattle.smk_plan.specs.States.{Plan, IsPlan, LastPlan, Last, gathers_from, is_current, nothing_done, staged, state_of}
 use Rattle.smk_laws_protocol.proofs.Basics.{each_in}
+use Rattle.smk_chain.specs.Mean.{Setting, setting_of}
 use Rattle.smk_laws_plan.specs.Current.{IsClean}
 use Rattle.smk_laws_plan.proofs.CurrentLists.{and_right}
 use Rattle.smk_laws_history.proofs.CurrentComplete.{seen_is_complete}
@@ -47,6 +50,7 @@ use Rattle.smk_run.specs.Turns.{Course, Unbegun, Unstarted, Unclosed, Closed, Tu
 use Rattle.smk_words_reading.specs.declared.asked.RunWords.{RunWords}
 use Rattle.smk_words_reading.specs.declared.asked.Asked.TheVariants.{Run as Asks}
 use Rattle.smk_cli_entry.specs.declared.asking.Asked.{Asked}
+use Rattle.smk_cli_entry.specs.Entry.{IsAskedIn}
 use Rattle.smk_cli_entry.specs.Forms.{unbuilt}
 use Rattle.smk_make.specs.Closing.{verdict_of}
 use Rattle.smk_report.specs.Faults.{of_store}
@@ -55,16 +59,20 @@ use Rattle.smk_plan_preview.specs.declared.previewing.Previewed.{Previewed}
 use Rattle.smk_plan_preview.specs.Previewing.{plan_of, rules_for}
 use Rattle.smk_serve.specs.Serving.{Went, Refused, Stopped, Worked, settings_of}
 use Rattle.smk_cli.specs.Words.{forces_none, is_built}
-use Rattle.smk_cli.specs.Whole.{HasServed, IsRefusal, IsToServe}
+use Rattle.smk_cli.specs.Locking.{HasHeeded, Stood, Taken, Unmade, Untaken}
+use Rattle.smk_cli.specs.Whole.{HasRun, HasServed, Heeded, IsRefusal, IsToServe, Unasked, Unheeded}
+use Rattle.smk_laws_lock.specs.Heeding.{IsSameButLock}
+use Rattle.smk_laws_lock.proofs.Heeding.{last_plans_heed_no_lock, lock_changes_itself_alone, on_both, same_back}
 use Rattle.smk_safe.specs.Planned.{IsPlain, IsFit}
 use Rattle.smk_safe.specs.Safe.{IsSafeRun}
 use Rattle.smk_safe.proofs.Images.{sources_now}
 use Rattle.smk_safe.proofs.Planned.{all_shut}
 use Rattle.smk_safe.proofs.Stored.{is_top}
 use Rattle.smk_exit.specs.Exit.{RunLeavesAllClean, IsAllClean, IsDueRun, all_clean, begun_so}
-use Rattle.smk_clean.specs.Clean.{HasMadeClean, CallIsClean, setting_in}
+use Rattle.smk_clean.specs.Clean.{CallIsClean, setting_in}
 use Rattle.smk_clean.specs.Again.{HasNoneLeft, CallLeavesNone}
 use Rattle.smk_clean.proofs.Chained.{lists_stay, none_new}
+use Rattle.smk_clean.proofs.Locked.{IsUnderLock, under_lock}
 use Rattle.smk_clean.proofs.Firsts.{firsts_same}
 use Rattle.smk_clean.proofs.Fit.{all_fit}
 use Rattle.smk_clean.proofs.Meant.{all_plain, asked_built, duties_meant, is_plan, makers_told}
@@ -158,14 +166,50 @@ none_forced words built = no_force words.force (and_right (not words.keep_going)
 
 -- ## The exit
 
--- what is so after status 0
-pub record HasEndedWell (o : Outside) (words : RunWords) (w v : World) : Type 0 where
-  pub clean : HasMadeClean o words w v
-  pub none_left : HasNoneLeft o words w v
+-- What is so after status 0, of the words as they ask in the folder of the entry, by the folder by which the plan was made.
+pub record HasEndedWell (o : Outside) (words : RunWords) (entry w v : World) : Type 0 where
+  pub asked : Asked
+  pub is_asked : IsAskedIn true words entry.nodes (Ok asked)
+  pub targets : Each (IsClean (setting_in o w asked.flow) (seen o.read v)) asked.targets
+  pub sources : SameSources (seen o.read w) (seen o.read v)
+  pub plan : Plan
+  pub last : (begun : List Path) → LastPlan asked.flow (seen o.read v) (settings_of asked words) (begun_so begun) [] plan
+  pub clean : plan.states ≡ map (λ (j : Job). CleanState) plan.jobs
+  pub current : (begun : List Path) → Each (λ p. is_current (seen o.read v) (settings_of asked words) (begun_so begun) plan p ≡ true) asked.targets
   pub formed : IsFormed v
 
-module _ (o : Outside) (H : Versions) (w : World) (differ : SumsDiffer H) (sound : SoundWorld o w H) (reads : ReadsRecords o.read) (words : RunWords) (asked : Asked) (told : Previewed)
-    (to_serve : IsToServe o.read true words w asked told) where
+-- the same by folders that are the same but for the lock
+moved_end :
+    (o : Outside) (words : RunWords) (entry w u v x : World) → IsSameButLock (seen o.read w) (seen o.read u) → IsSameButLock (seen o.read v)
+    (seen o.read x) → IsFormed x →
+    HasEndedWell o words entry u v → HasEndedWell o words entry w x
+moved_end o words entry w u v x before after formed h = record {
+  asked = h.asked;
+  is_asked = h.is_asked;
+  targets = on_both (λ (i : Image). Each (IsClean (set i) (seen o.read x)) h.asked.targets) (λ i l k. k) (seen o.read u) (seen o.read w) back
+      (on_both (λ (i : Image). Each (IsClean (set (seen o.read u)) i) h.asked.targets) (λ i l k. k) (seen o.read v) (seen o.read x) after h.targets);
+  sources = on_both (λ (i : Image). SameSources i (seen o.read x)) (λ i l k. k) (seen o.read u) (seen o.read w) back
+      (on_both (λ (i : Image). SameSources (seen o.read u) i) (λ i l k. k) (seen o.read v) (seen o.read x) after h.sources);
+  plan = h.plan;
+  last = λ begun. last_plans_heed_no_lock h.asked.flow (settings_of h.asked words) (begun_so begun) [] h.plan (seen o.read v) (seen o.read x) after
+      (h.last begun);
+  clean = h.clean;
+  current = λ begun.
+      on_both (λ (i : Image). Each (λ p. is_current i (settings_of h.asked words) (begun_so begun) h.plan p ≡ true) h.asked.targets) (λ i l k. k)
+      (seen o.read v) (seen o.read x) after
+      (h.current begun);
+  formed = formed;
+}
+  where
+    back : IsSameButLock (seen o.read u) (seen o.read w)
+    back = same_back (seen o.read w) (seen o.read u) before
+
+    set : Image → Setting
+    set i = setting_of h.asked.flow o.act (λ j. is_none (missing j)) i
+
+module _ (o : Outside) (H : Versions) (w : World) (differ : SumsDiffer H) (sound : SoundWorld o w H) (reads : ReadsRecords o.read) (words : RunWords)
+    (entry : World) (asked : Asked)
+    (told : Previewed) (to_serve : IsToServe o.read true words entry w asked told) where
   abbrev pub plan : Plan
   plan = plan_of told
 
@@ -179,7 +223,7 @@ module _ (o : Outside) (H : Versions) (w : World) (differ : SumsDiffer H) (sound
   top = greatest_serial told.store
 
   pub all_built : unbuilt asked.flow.rules ≡ None
-  all_built = asked_built words w.nodes asked to_serve.is_asked
+  all_built = asked_built words entry.nodes asked to_serve.is_asked
 
   pub planned : IsPlan asked.flow (seen o.read w) settings nothing_done plan
   planned = is_plan o.read w sound.formed asked all_built words told to_serve.plan
@@ -193,7 +237,7 @@ module _ (o : Outside) (H : Versions) (w : World) (differ : SumsDiffer H) (sound
       (ap length planned.states ∙ length-map plan.jobs (state_of (seen o.read w) settings nothing_done plan)) to_serve.plan.unrefused
 
   module _ (v : World) (duties : List Duty) (ts : List Turn) (meant : AreWhatIsMeant told.jobs told.plan.states told.store duties) (fit : Each IsFit ts)
-      (r : IsTurnRun o H w differ sound reads words asked told to_serve v duties ts) where
+      (r : IsTurnRun o H w differ sound reads words entry asked told to_serve v duties ts) where
     abbrev pub ran : IsDueRun o w H asked.flow settings plan ts r.es
     ran = record {
       makers = told.jobs.makers;
@@ -218,7 +262,7 @@ module _ (o : Outside) (H : Versions) (w : World) (differ : SumsDiffer H) (sound
     end = run w r.es
 
     safe : IsSafeRun o w H top ts r.es
-    safe = turns_safe o H w differ sound reads words asked told to_serve v duties ts meant fit r
+    safe = turns_safe o H w differ sound reads words entry asked told to_serve v duties ts meant fit r
 
     module _ (exit : RunLeavesAllClean) (free : words.force ≡ No) (all : HaveAllTurns (due (next_serial told.store) duties told.jobs.jobs) ts) where
       all_is : length ts ≡ length (due (Some (suc top)) duties plan.jobs)
@@ -233,20 +277,9 @@ module _ (o : Outside) (H : Versions) (w : World) (differ : SumsDiffer H) (sound
       clean : IsAllClean asked.flow (seen o.read end) settings plan
       clean = exit o w H asked.flow settings plan ts r.es ran free (record { all = all_is; done = all.done })
 
-      none_left : HasNoneLeft o words w end
-      none_left =
+      ended : HasEndedWell o words entry w end
+      ended =
           let same : plan.lists ≡ [] = lists_stay o w sound.formed rules all_built [] plan to_serve.plan.last in
-          record {
-            asked = asked;
-            is_asked = to_serve.is_asked;
-            plan = all_clean plan;
-            last = λ begun. subst (λ L. LastPlan asked.flow (seen o.read end) settings (begun_so begun) L (all_clean plan)) same (clean.last begun);
-            clean = refl;
-            current = clean.current;
-          }
-
-      made_clean : HasMadeClean o words w end
-      made_clean =
           let last : LastPlan asked.flow (seen o.read end) settings nothing_done plan.lists (all_clean plan) =
           Last (all_clean plan) (clean.planned []) (none_new o end sound_end.formed rules all_built (all_clean plan) (clean.planned [])) in
           record {
@@ -260,6 +293,11 @@ module _ (o : Outside) (H : Versions) (w : World) (differ : SumsDiffer H) (sound
                 last refl (λ j there shut. fields j (in_from plan.jobs j there)) p (contains_from asked.targets p i) (each_in (λ q. is_current (seen o.read end) settings nothing_done (all_clean plan) q ≡ true) asked.targets p (clean.current []) i) in
                 (c.0, c.1, same_values asked.flow o.act (λ j. is_none (missing j)) (seen o.read w) (seen o.read end) (seen_is_complete o.read w sound.formed) (seen_is_complete o.read end sound_end.formed) sources_stay p ∙ c.2));
             sources = sources_stay;
+            plan = all_clean plan;
+            last = λ begun. subst (λ L. LastPlan asked.flow (seen o.read end) settings (begun_so begun) L (all_clean plan)) same (clean.last begun);
+            clean = refl;
+            current = clean.current;
+            formed = sound_end.formed;
           }
         where
           none_gathered : (j : Job) → IsIn plan.jobs j → gathers_from j ≡ []
@@ -269,44 +307,80 @@ module _ (o : Outside) (H : Versions) (w : World) (differ : SumsDiffer H) (sound
     goes_clean :
         (u : Unit {0}) (v : World) (old looked firm new : Device) (p q : Sunk) (r : Result (Unit {0}) StoreFault) (bad : Bool) → old.world ≡ Some w → new.world ≡ Some v →
         HasLooked o.act old looked false → HasActed o.act (HasTried (steady_requests told.store) r) looked firm bad →
-        (g : GoesOn o.act asked.flow words.cores asked.targets told.jobs told.plan.states told.store (Ok u) firm new p q r) → HasEndedWell o words w v
+        (g : GoesOn o.act asked.flow words.cores asked.targets told.jobs told.plan.states told.store (Ok u) firm new p q r) → HasEndedWell o words entry w v
     goes_clean u v old looked firm new p q r bad at ends looking settling (NotFirm f is same unput) = absurd (ok_err u (of_store f) is)
     goes_clean u v old looked firm new p q r bad at ends looking settling (NoMemory t is same unput) = absurd (ok_err u fault.OutOfMemory is)
     goes_clean u v old looked firm new p q r bad at ends looking settling (Made t duties for meant made) =
         let d = made.ran.did v ends in
         let start = started o H w differ sound d.0 old looked firm (HasTried (steady_requests told.store) (Ok t)) bad at looking settling d.1 in
-        let run_is = turns_run o H w differ sound reads words asked told to_serve t d.0 v duties made.turns d.2.0 start made.in_order d.2.1 d.2.2 d.2.3 in
+        let run_is = turns_run o H w differ sound reads words entry asked told to_serve t d.0 v duties made.turns d.2.0 start made.in_order d.2.1 d.2.2 d.2.3 in
         let fit = all_fit made.turns made.fits in
         let all = all_turns u asked.flow (due (next_serial told.store) duties told.jobs.jobs) made.turns made.failed made.ended made.answer made.concluded in
-        subst (HasEndedWell o words w) (sym run_is.is) (record {
-          clean = made_clean v duties made.turns meant fit run_is exit free all;
-          none_left = none_left v duties made.turns meant fit run_is exit free all;
-          formed = (sound_end v duties made.turns meant fit run_is exit free all).formed;
-        })
+        subst (HasEndedWell o words entry w) (sym run_is.is) (ended v duties made.turns meant fit run_is exit free all)
 
-module _ (exit : RunLeavesAllClean) (o : Outside) (H : Versions) (w : World) (differ : SumsDiffer H) (sound : SoundWorld o w H) (reads : ReadsRecords o.read) (words : RunWords) (free : words.force ≡ No) where
+module _ (exit : RunLeavesAllClean) (o : Outside) (H : Versions) (w : World) (differ : SumsDiffer H) (sound : SoundWorld o w H) (reads : ReadsRecords o.read)
+    (words : RunWords) (free : words.force ≡ No) where
   went_clean :
-      (u : Unit {0}) (answer : Answer) (v : World) (old new : Device) (p q : Sunk) → old.world ≡ Some w → new.world ≡ Some v → answer ≡ Ok u →
-      (h : Went o.act words.cores answer (IsRefusal o.read true words w) (IsToServe o.read true words w) old new p q) →
-      HasEndedWell o words w v
-  went_clean u (Err g) v old new p q at ends e h = absurd (ok_err u g (sym e))
-  went_clean u (Ok t) v old new p q at ends e (Refused f is why looked) = absurd (ok_err t f is)
-  went_clean u (Ok t) v old new p q at ends e (Stopped f is want looked) = absurd (ok_err t f is)
-  went_clean u (Ok t) v old new p q at ends e (Worked asked told plans worked) =
-      goes_clean o H w differ sound reads words asked told plans exit free t v old worked.looked worked.carried.firm new p q worked.carried.settled (store_failed worked.carried.settled) at ends
+      (u : Unit {0}) (entry : World) (answer : Answer) (v : World) (old new : Device) (p q : Sunk) → old.world ≡ Some w → new.world ≡ Some v → answer ≡ Ok u →
+      (h : Went o.act words.cores answer (IsRefusal o.read true words entry w) (IsToServe o.read true words entry w) old new p q) →
+      HasEndedWell o words entry w v
+  went_clean u entry (Err g) v old new p q at ends e h = absurd (ok_err u g (sym e))
+  went_clean u entry (Ok t) v old new p q at ends e (Refused f is why looked) = absurd (ok_err t f is)
+  went_clean u entry (Ok t) v old new p q at ends e (Stopped f is want looked) = absurd (ok_err t f is)
+  went_clean u entry (Ok t) v old new p q at ends e (Worked asked told plans worked) =
+      goes_clean o H w differ sound reads words entry asked told plans exit free t v old worked.looked worked.carried.firm new p q worked.carried.settled
+      (store_failed worked.carried.settled) at ends
       worked.looking worked.carried.settling worked.carried.goes_on
+
+module _ (exit : RunLeavesAllClean) (o : Outside) (H : Versions) (w : World) (differ : SumsDiffer H) (sound : SoundWorld o w H) (reads : ReadsRecords o.read)
+    (words : RunWords) (free : words.force ≡ No) where
+  -- under the lock
+  locked_clean : (u : Unit {0}) (answer : Answer) (x : World) (new : Device) (p q : Sunk) → answer ≡ Ok u →
+      IsUnderLock o H w differ sound words answer new p q x → HasEndedWell o words w w x
+  locked_clean u answer x new p q e k =
+      let ended = went_clean exit o H k.start differ k.sound_then reads words free tt w k.ran k.last k.locked k.left p q k.at_start k.at_last
+      (k.well u e) k.went in
+      let formed : IsFormed x = subst IsFormed (sym k.end_is) (formed_run k.last k.release ended.formed) in
+      moved_end o words w w k.start k.last x k.same_start (lock_changes_itself_alone o.read k.last x ended.formed formed k.only) formed ended
+
+  ran_clean :
+      (u : Unit {0}) (answer : Answer) (x : World) (old new : Device) (p q : Sunk) → old.world ≡ Some w → new.world ≡ Some x → answer ≡ Ok u →
+      HasRun o.act o.read words w answer old new p q →
+      HasEndedWell o words w w x
+  ran_clean u answer x old new p q at ends e
+      (Unheeded heeds_none went) = went_clean exit o H w differ sound reads words free u w answer x old new p q at ends e went
+  ran_clean u answer x old new p q at ends e (Unasked f heeds is why looked) = absurd (ok_err u f (sym e ∙ is))
+  ran_clean u answer x old new p q at ends e (Heeded v looked heeds after at_v looking heeded) = go heeded
+    where
+      go : HasHeeded o.act words.cores answer (IsRefusal o.read true words w) (IsToServe o.read true words w) v looked new p q → HasEndedWell o words w w x
+      go (Unmade is same unput) = absurd (ok_err u fault.OutOfMemory (sym e ∙ is))
+      go (Stood is stands tried unput) = absurd (ok_err u fault.Locked (sym e ∙ is))
+      go (Untaken y is tried unput) = absurd (ok_err u fault.Device (sym e ∙ is))
+      go (Taken start locked once at_start taken ran) =
+          locked_clean u answer x new p q e
+          (under_lock o H w differ sound words answer old looked locked new p q v start x at ends after looking at_v once at_start taken ran)
 
 module _ (exit : RunLeavesAllClean) where
   -- by what a run leaves
   pub ended_well :
       (o : Outside) (H : Versions) (words : RunWords) (told : Option Fault) (w v : World) (old new : Device) (p q : Sunk) → old.world ≡ Some w → new.world ≡ Some v →
-      ReadsRecords o.read → SumsDiffer H → SoundWorld o w H → HasServed o.act o.read (Asks words) w told old new p q → told ≡ None → HasEndedWell o words w v
+      ReadsRecords o.read → SumsDiffer H → SoundWorld o w H → HasServed o.act o.read (Asks words) w told old new p q → told ≡ None → HasEndedWell o words w w v
   ended_well o H words told w v old new p q at ends reads differ sound served none =
       let a = no_fault served.answer told served.told_is none in
-      went_clean exit o H w differ sound reads words (none_forced words served.built) a.0 served.answer v old new p q at ends a.1 served.serves
+      ran_clean exit o H w differ sound reads words (none_forced words served.built) a.0 served.answer v old new p q at ends a.1 served.serves
+
+  pub none_left : (o : Outside) (words : RunWords) (w v : World) → HasEndedWell o words w w v → HasNoneLeft o words w v
+  none_left o words w v h = record { asked = h.asked; is_asked = h.is_asked; plan = h.plan; last = h.last; clean = h.clean; current = h.current }
 
   pub call_is_clean : CallIsClean
-  call_is_clean o H words told w v old new p q at ends reads differ sound served none = (ended_well o H words told w v old new p q at ends reads differ sound served none).clean
+  call_is_clean o H words told w v old new p q at ends reads differ sound served none =
+      let h = ended_well o H words told w v old new p q at ends reads differ sound served none in record {
+        asked = h.asked;
+        is_asked = h.is_asked;
+        targets = h.targets;
+        sources = h.sources;
+      }
 
   pub call_leaves_none : CallLeavesNone
-  call_leaves_none o H words told w v old new p q at ends reads differ sound served none = (ended_well o H words told w v old new p q at ends reads differ sound served none).none_left
+  call_leaves_none o H words told w v old new p q at ends reads differ sound served none = none_left o words w v
+      (ended_well o H words told w v old new p q at ends reads differ sound served none)

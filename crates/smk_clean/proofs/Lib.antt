@@ -4,6 +4,9 @@ pub mod Firsts
 pub mod Meant
 pub mod Fit
 pub mod Safe
+pub mod Locked
+pub mod Serving
+pub mod Leaving
 pub mod Asking
 pub mod Chained
 pub mod Standing

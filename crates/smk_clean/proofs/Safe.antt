@@ -1,4 +1,4 @@
--- A call is safe.
+-- A run is safe, once it is known what is asked.
 use Rattle.std.proofs.Common.{◌≡◌, inl, inr, ℕ, suc, Bool, true, false, List, [], ◌∷◌, ◌++◌, flat_map, fold, max, refl, ap, sym, subst, ◌∙◌, append_assoc, Option, Some, None, filter, Result, Ok, Err}
 use Rattle.std.specs.Option.{option_and_then}
 use Rattle.std.proofs.lemmas.List.{append-nil}
@@ -44,11 +44,9 @@ use Rattle.smk_run.specs.Runs.{AreInOrder, IsOutcome as IsRunOutcome}
 use Rattle.smk_run.specs.Stamps.{Serials}
 use Rattle.smk_run.specs.Turns.{Turn, AreTurns, is_closed}
 use Rattle.smk_made.proofs.Done.{follows_split}
-use Rattle.smk_words_reading.specs.declared.asked.Asked.{Asked as Asking}
-use Rattle.smk_words_reading.specs.declared.asked.Asked.TheVariants.{Run, Preview, Unlock, Forget, Generate}
 use Rattle.smk_words_reading.specs.declared.asked.RunWords.{RunWords}
 use Rattle.smk_cli_entry.specs.declared.asking.Asked.{Asked}
-use Rattle.smk_cli_entry.specs.Faults.{device_failed, is_device}
+use Rattle.smk_cli_entry.specs.Faults.{is_device}
 use Rattle.smk_cli_entry.specs.Forms.{unbuilt}
 use Rattle.smk_report.specs.Faults.{of_store}
 use Rattle.smk_make.specs.Making.{AreWhatIsMeant, Concludes, GoesOn, NotFirm, NoMemory, Made}
@@ -57,7 +55,8 @@ use Rattle.smk_plan_preview.specs.Previewing.{plan_of}
 use Rattle.smk_serve.specs.Ends.{fault_of}
 use Rattle.smk_serve.specs.Serving.{Went, Refused, Stopped, Worked, settings_of}
 use Rattle.smk_cli.specs.Lines.{IsOutcome}
-use Rattle.smk_cli.specs.Whole.{IsRefusal, IsToServe, Serves}
+use Rattle.smk_cli.specs.Whole.{IsRefusal, IsToServe}
+use Rattle.smk_laws_lock.specs.Parts.{One}
 use Rattle.smk_safe.specs.Planned.{IsFit}
 use Rattle.smk_safe.specs.Safe.{IsRunOf, IsSafeRun}
 use Rattle.smk_safe.proofs.Going.{safe_here}
@@ -65,7 +64,7 @@ use Rattle.smk_safe.proofs.Joining.{AreLooks, look_all, looks_same}
 use Rattle.smk_safe.proofs.Safe.{front}
 use Rattle.smk_safe.proofs.Stored.{fold_holds, is_top, signs_are_all, kept_stands}
 use Rattle.smk_exit.proofs.Dues.{due_run_is_safe}
-use Rattle.smk_clean.specs.Safe.{CallIsSafe, IsSafeCall}
+use Rattle.smk_clean.specs.Safe.{IsSafeCall}
 use Rattle.smk_clean.proofs.Firsts.{firsts_same}
 use Rattle.smk_clean.proofs.Fit.{all_fit}
 use Rattle.smk_clean.proofs.Meant.{all_plain, asked_built, duties_meant, is_plan, makers_told}
@@ -96,7 +95,7 @@ bounded o w formed = (fold max 0 (flat_map named image.known), above)
 
 -- ## Calls
 
-looks_are : (o : Outside) (bad : Bool) (es : List Event) → OnlyLooks bad es → AreLooks o es
+pub looks_are : (o : Outside) (bad : Bool) (es : List Event) → OnlyLooks bad es → AreLooks o es
 looks_are o bad [] h = tt
 looks_are o bad (e ∷ []) h = (look_of o e.call h.0, tt)
 looks_are o bad (e ∷ (f ∷ es)) h = (look_of o e.call h.0, looks_are o bad (f ∷ es) h.2)
@@ -105,12 +104,12 @@ looks_are o bad (e ∷ (f ∷ es)) h = (look_of o e.call h.0, looks_are o bad (f
 
 module _ (o : Outside) (H : Versions) (w : World) (differ : SumsDiffer H) (sound : SoundWorld o w H) where
   -- the events led to this world, and are safe; and where the answer is no fault the world is sound
-  abbrev Safely : Answer → World → Type 0
+  abbrev pub Safely : Answer → World → Type 0
   Safely answer v = (es : List Event) × Follows o.act w es × (v ≡ run w es) × IsSafeCall o w H es × ((u : Unit {0}) → answer ≡ Ok u → SoundWorld o v H)
 
   safe_by : (top : ℕ) (es : List Event) (s : RunState) → IsTop o w top → Follows o.act w es → Runs o (at_entry o top) w es s → IsSafeCall o w H es
   safe_by top es s bound follows ran = record {
-    follows_protocol = (top, bound, (s, ran));
+    follows_protocol = One w es (top, bound, (s, ran));
     throughout = λ events rest split.
         let part = front o (at_entry o top) s w events rest (subst (λ l. Runs o (at_entry o top) w l s) split ran) in
         safe_here o w H top differ sound bound events part.0 (follows_split o.act w events rest (subst (Follows o.act w) split follows)).0 part.1;
@@ -125,7 +124,8 @@ module _ (o : Outside) (H : Versions) (w : World) (differ : SumsDiffer H) (sound
       (look_all o (at_entry o top) (at_entry o top) [] refl w es only (Done (at_entry o top) (run w es)))
 
   -- only looks
-  looked_safe : (answer : Answer) (v : World) (old new : Device) (bad : Bool) → old.world ≡ Some w → new.world ≡ Some v → HasLooked o.act old new bad → Safely answer v
+  pub looked_safe : (answer : Answer) (v : World) (old new : Device) (bad : Bool) → old.world ≡ Some w → new.world ≡ Some v → HasLooked o.act old new bad →
+      Safely answer v
   looked_safe answer v old new bad at end looked =
       let d = looked.acted.did v end in
       let here = same_Some w d.0 (sym at ∙ d.1) in
@@ -199,7 +199,8 @@ module _ (o : Outside) (H : Versions) (w : World) (differ : SumsDiffer H) (sound
 
   -- ## The turns
 
-  module _ (reads : ReadsRecords o.read) (words : RunWords) (asked : Asked) (told : Previewed) (to_serve : IsToServe o.read true words w asked told) where
+  module _ (reads : ReadsRecords o.read) (words : RunWords) (entry : World) (asked : Asked) (told : Previewed)
+      (to_serve : IsToServe o.read true words entry w asked told) where
     abbrev top : ℕ
     top = greatest_serial told.store
 
@@ -212,7 +213,7 @@ module _ (o : Outside) (H : Versions) (w : World) (differ : SumsDiffer H) (sound
       pub is_run : IsRunOf o (serials told.jobs.makers (Some (suc top)) duties) ts w es
 
     abbrev pub built : unbuilt asked.flow.rules ≡ None
-    built = asked_built words w.nodes asked to_serve.is_asked
+    built = asked_built words entry.nodes asked to_serve.is_asked
 
     pub turns_run :
         (u : Unit {0}) (x v : World) (duties : List Duty) (ts : List Turn) (gs : List Event) → HasStarted x (HasTried (steady_requests told.store) (Ok u)) →
@@ -286,23 +287,16 @@ module _ (o : Outside) (H : Versions) (w : World) (differ : SumsDiffer H) (sound
               (safe.at_end (all_closed k asked.flow (due (next_serial told.store) duties told.jobs.jobs) made.turns made.failed made.ended made.answer (subst (Concludes made.ended) e made.concluded))),
         )
 
-  went_safe :
-      (reads : ReadsRecords o.read) (words : RunWords) (answer : Answer) (v : World) (old new : Device) (p q : Sunk) → old.world ≡ Some w → new.world ≡ Some v →
-      (h : Went o.act words.cores answer (IsRefusal o.read true words w) (IsToServe o.read true words w) old new p q) → Safely answer v
-  went_safe reads words answer v old new p q at end (Refused f is why looked) = looked_safe answer v old new (is_device f) at end looked.looked
-  went_safe reads words answer v old new p q at end (Stopped f is want looked) = looked_safe answer v old new (is_device f) at end looked.looked
-  went_safe reads words answer v old new p q at end (Worked asked told plans worked) =
-      goes_safe reads words asked told plans answer v old worked.looked worked.carried.firm new p q worked.carried.settled (store_failed worked.carried.settled) at end
+  pub went_safe :
+      (reads : ReadsRecords o.read) (words : RunWords) (entry : World) (answer : Answer) (v : World) (old new : Device)
+      (p q : Sunk) → old.world ≡ Some w → new.world ≡ Some v →
+      (h : Went o.act words.cores answer (IsRefusal o.read true words entry w) (IsToServe o.read true words entry w) old new p q) → Safely answer v
+  went_safe reads words entry answer v old new p q at end (Refused f is why looked) = looked_safe answer v old new (is_device f) at end looked.looked
+  went_safe reads words entry answer v old new p q at end (Stopped f is want looked) = looked_safe answer v old new (is_device f) at end looked.looked
+  went_safe reads words entry answer v old new p q at end (Worked asked told plans worked) =
+      goes_safe reads words entry asked told plans answer v old worked.looked worked.carried.firm new p q worked.carried.settled
+      (store_failed worked.carried.settled) at end
       worked.looking worked.carried.settling worked.carried.goes_on
-
-  serves_safe :
-      (reads : ReadsRecords o.read) (request : Asking) (answer : Answer) (v : World) (old new : Device) (p q : Sunk) → old.world ≡ Some w → new.world ≡ Some v →
-      (h : Serves o.act o.read w answer old new p q request) → Safely answer v
-  serves_safe reads (Run words) answer v old new p q at end h = went_safe reads words answer v old new p q at end h
-  serves_safe reads (Preview words) answer v old new p q at end h = looked_safe answer v old new (device_failed answer) at end h.0
-  serves_safe reads Unlock answer v old new p q at end h = absurd h
-  serves_safe reads (Forget paths nolock) answer v old new p q at end h = absurd h
-  serves_safe reads (Generate seed size) answer v old new p q at end h = absurd h
 
 -- the call has no fault only where the answer is none
 pub no_fault : (answer : Answer) (told : Option Fault) → IsOutcome (fault_of answer) told → told ≡ None → (u : Unit {0}) × (answer ≡ Ok u)
@@ -315,8 +309,3 @@ no_fault (Err f) told (inr e) none = absurd (wrong (sym e.1 ∙ none))
   where
     wrong : Some fault.OutOfMemory ≡ None → ⊥
     wrong x = cc
-
-pub call_is_safe : CallIsSafe
-call_is_safe o H request told w v old new p q at end reads differ sound served =
-    let s = serves_safe o H w differ sound reads request served.answer v old new p q at end served.serves in
-    (s.0, s.1, s.2, s.3, λ none. let a = no_fault served.answer told served.told_is none in s.4 a.0 a.1)

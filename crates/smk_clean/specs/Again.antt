@@ -4,6 +4,7 @@ use Rattle.smk_world.specs.World.{World}
 use Rattle.smk_world.specs.Devices.{Device, Sunk}
 use Rattle.smk_world.specs.Trees.{Path, Act, Each}
 use Rattle.smk_flow.specs.Flows.{Flow}
+use Rattle.smk_record.specs.declared.record.Record.{Record}
 use Rattle.smk_record.specs.Spelling.{ReadsRecords}
 use Rattle.smk_store.specs.declared.fault.StoreFault.{StoreFault}
 use Rattle.smk_store.specs.Images.{seen}
@@ -23,7 +24,8 @@ use Rattle.smk_cli_entry.specs.Entry.{IsAskedIn}
 use Rattle.smk_make.specs.Making.{GoesOn, NotFirm, NoMemory, Made}
 use Rattle.smk_plan_preview.specs.declared.previewing.Previewed.{Previewed}
 use Rattle.smk_serve.specs.Serving.{Went, Refused, Stopped, Worked, settings_of}
-use Rattle.smk_cli.specs.Whole.{HasServed}
+use Rattle.smk_cli.specs.Locking.{HasHeeded, Unmade, Stood, Untaken, Taken}
+use Rattle.smk_cli.specs.Whole.{HasRun, Unheeded, Unasked, Heeded, HasServed}
 use Rattle.smk_exit.specs.Exit.{begun_so}
 
 -- ## The plan of the exit
@@ -62,7 +64,7 @@ turns_made (NotFirm f is same unput) = []
 turns_made (NoMemory u is same unput) = []
 turns_made (Made u duties for meant made) = made.turns
 
--- the turns of a run
+-- the turns of a run once it is known what is asked, and of a whole one
 abbrev pub turns_went :
     {act : Act} {cores : ℕ} {result : Result (Unit {0}) Fault} {refuses : Fault → Type 0} {plans : Asked → Previewed → Type 0} {old new : Device}
     {out_old out_new : Sunk} →
@@ -70,6 +72,22 @@ abbrev pub turns_went :
 turns_went (Refused f is why looked) = []
 turns_went (Stopped f is want looked) = []
 turns_went (Worked asked told plans worked) = turns_made worked.carried.goes_on
+
+abbrev pub turns_heeded :
+    {act : Act} {cores : ℕ} {answer : Result (Unit {0}) Fault} {refuses : World → Fault → Type 0} {plans : World → Asked → Previewed → Type 0} {w : World}
+    {old new : Device} {out_old out_new : Sunk} →
+    HasHeeded act cores answer refuses plans w old new out_old out_new → List Turn
+turns_heeded (Unmade is same unput) = []
+turns_heeded (Stood is stands tried unput) = []
+turns_heeded (Untaken e is tried unput) = []
+turns_heeded (Taken v locked once at taken ran) = turns_went ran.went
+
+abbrev pub turns_ran :
+    {act : Act} {read : List ℕ → Option Record} {words : RunWords} {w : World} {answer : Result (Unit {0}) Fault} {old new : Device} {out_old out_new : Sunk} →
+    HasRun act read words w answer old new out_old out_new → List Turn
+turns_ran (Unheeded free went) = turns_went went
+turns_ran (Unasked f heeds is why looked) = []
+turns_ran (Heeded v looked heeds after at looking heeded) = turns_heeded heeded
 
 -- After a run that ended without a fault, in a sound folder, a run with the same words takes no turn: in the folder that the first one left, where they ask for the same of
 -- the workflow in it.
@@ -86,4 +104,4 @@ NextCallTakesNoTurn =
     HasServed o.act o.read (Run words) w told old new out_old out_new →
     told ≡ None →
     ((asked : Asked) → IsAskedIn true words w.nodes (Ok asked) → IsAskedIn true words v.nodes (Ok asked)) →
-    (next : HasServed o.act o.read (Run words) v again next_old next_new next_out_old next_out_new) → turns_went next.serves ≡ []
+    (next : HasServed o.act o.read (Run words) v again next_old next_new next_out_old next_out_new) → turns_ran next.serves ≡ []

@@ -2,3 +2,4 @@ pub mod Safe
 pub mod Standing
 pub mod Clean
 pub mod Again
+pub mod Locking

@@ -1,5 +1,5 @@
 -- A call is safe: whatever a crash leaves of it is sound, and has the sources of the entry.
-use Rattle.std.specs.Prelude.{◌≡◌, ℕ, List, [], ◌++◌, Option, Some, None}
+use Rattle.std.specs.Prelude.{◌≡◌, List, [], ◌++◌, Option, Some, None}
 use Rattle.smk_world.specs.declared.event.Event.{Event}
 use Rattle.smk_world.specs.World.{World, run}
 use Rattle.smk_world.specs.Devices.{Device, Sunk}
@@ -7,17 +7,17 @@ use Rattle.smk_world.specs.Runs.{Follows}
 use Rattle.smk_record.specs.Spelling.{ReadsRecords}
 use Rattle.smk_store.specs.Soundness.{Outside, SoundWorld}
 use Rattle.smk_store.specs.Trust.{Versions, SumsDiffer}
-use Rattle.smk_laws_protocol.specs.Protocol.{RunState, Runs}
-use Rattle.smk_laws_protocol.specs.Midway.{HasSafeImages, IsTop, at_entry}
+use Rattle.smk_laws_protocol.specs.Midway.{HasSafeImages}
 use Rattle.smk_report.specs.declared.fault.Fault.{Fault}
 use Rattle.smk_words_reading.specs.declared.asked.Asked.{Asked as Request}
 use Rattle.smk_cli.specs.Whole.{HasServed}
+use Rattle.smk_laws_lock.specs.Parts.{AreRuns}
 
 -- The events of a call keep the folder safe: after every prefix of them whatever a crash leaves is sound, and has the sources of the entry; and where no child is
 -- left, the folder is sound at the end.
 pub record IsSafeCall (o : Outside) (entry : World) (H : Versions) (es : List Event) : Type 0 where
-  -- they follow the protocol of runs
-  pub follows_protocol : (top : ℕ) × IsTop o entry top × ((s : RunState) × Runs o (at_entry o top) entry es s)
+  -- they are runs of the protocol one after another: of a run that heeds the lock first that it is taken, and at the end that it is released
+  pub follows_protocol : AreRuns o entry es
   pub throughout : (events rest : List Event) → es ≡ events ++ rest → HasSafeImages o entry (run entry events) H
   pub at_end : (run entry es).children ≡ [] → SoundWorld o (run entry es) H
 

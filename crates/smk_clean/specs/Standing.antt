@@ -1,9 +1,11 @@
 -- A refusal stands: what is refused isn't run.
-use Rattle.std.specs.Prelude.{◌≡◌, ◌⊎◌, ℕ, Bool, true, List, Option, Some, Ok}
-use Rattle.smk_world.specs.World.{World, IsFormed}
-use Rattle.smk_world.specs.Devices.{Device, Sunk}
+use Rattle.std.specs.Prelude.{◌≡◌, ◌⊎◌, ℕ, Bool, true, false, List, [], ◌∷◌, Option, Some, Ok, IsSome}
+use Rattle.smk_base.specs.Place.{lock_place}
+use Rattle.smk_world.specs.World.{World, IsFormed, reading, run}
+use Rattle.smk_world.specs.Devices.{Device, Sunk, HasActed}
 use Rattle.smk_world.specs.Trees.{Act}
 use Rattle.smk_record.specs.declared.record.Record.{Record}
+use Rattle.smk_keep_lock.specs.Changing.{ChangesOnly}
 use Rattle.smk_report.specs.declared.fault.Fault.{Fault}
 use Rattle.smk_report.specs.declared.fault.Fault.TheVariants as fault
 use Rattle.smk_words_reading.specs.declared.asked.RunWords.{RunWords}
@@ -17,14 +19,26 @@ use Rattle.smk_cli.specs.Whole.{HasServed, IsRefusal}
 abbrev pub IsSameFault : Fault → Fault → Type 0
 IsSameFault f g = (f ≡ g) ⊎ ((m : ℕ) × (n : ℕ) × (f ≡ fault.TooManyPaths m) × (g ≡ fault.TooManyPaths n))
 
--- The call ends with a fault, of the device, of memory, or such a one; and nothing is done but looks, and nothing is put.
-pub record HasStood (act : Act) (Why : Fault → Type 0) (told : Option Fault) (old new : Device) (out_old out_new : Sunk) : Type 0 where
+-- The lock stands, and is heeded.
+abbrev pub IsLockedOut : RunWords → World → Fault → Type 0
+IsLockedOut words w f = (f ≡ fault.Locked) × (words.nolock ≡ false) × IsSome (reading (w.nodes lock_place))
+
+-- Nothing is done but looks; or, where the lock is heeded, no child is started and nothing is changed but the lock and folders above it. And nothing is put.
+pub data HasLeftAll (act : Act) (nolock : Bool) (old new : Device) (out_old out_new : Sunk) : Type 0 where
+  OnlyLooked : (failed : Bool) → HasOnlyLooked act old new failed out_old out_new → HasLeftAll act nolock old new out_old out_new
+  OnlyLocked :
+      (failed : Bool) →
+      nolock ≡ false →
+      HasActed act (λ w es. ChangesOnly (lock_place ∷ []) (lock_place ∷ []) w (run w es)) old new failed →
+      out_new ≡ out_old → HasLeftAll act nolock old new out_old out_new
+
+-- The call ends with a fault: of the device, of memory, for the lock, or such a one; and nothing is done but looks, and calls on the lock.
+pub record HasStood (act : Act) (words : RunWords) (w : World) (Why : Fault → Type 0) (told : Option Fault) (old new : Device)
+    (out_old out_new : Sunk) : Type 0 where
   pub fault : Fault
   pub told_is : told ≡ Some fault
-  pub why : IsWant fault ⊎ Why fault
-  -- a look failed
-  pub failed : Bool
-  pub looked : HasOnlyLooked act old new failed out_old out_new
+  pub why : IsWant fault ⊎ IsLockedOut words w fault ⊎ Why fault
+  pub left : HasLeftAll act words.nolock old new out_old out_new
 
 -- What a run refuses isn't run: where something is refused of what is asked, the call ends with a refusal.
 abbrev pub RefusalStands : Type 0
@@ -32,8 +46,8 @@ RefusalStands =
     (act : Act) (read : List ℕ → Option Record) (words : RunWords) (f : Fault) (w : World) (told : Option Fault) (old new : Device)
     (out_old out_new : Sunk) →
     IsFormed w →
-    IsRefusal read true words w f →
-    HasServed act read (Run words) w told old new out_old out_new → HasStood act (IsRefusal read true words w) told old new out_old out_new
+    IsRefusal read true words w w f →
+    HasServed act read (Run words) w told old new out_old out_new → HasStood act words w (IsRefusal read true words w w) told old new out_old out_new
 
 -- Where the plan for what is asked is refused, the call ends with that refusal.
 abbrev pub PlanRefusalStands : Type 0
@@ -43,4 +57,4 @@ PlanRefusalStands =
     IsFormed w →
     IsAskedIn true words w.nodes (Ok asked) →
     IsRefusedPlan read asked words w f →
-    HasServed act read (Run words) w told old new out_old out_new → HasStood act (IsSameFault f) told old new out_old out_new
+    HasServed act read (Run words) w told old new out_old out_new → HasStood act words w (IsSameFault f) told old new out_old out_new

@@ -3,6 +3,7 @@
 
 ghost use Rattle.smk_clean.specs.Again.{CallLeavesNone, NextCallTakesNoTurn};
 ghost use Rattle.smk_clean.specs.Clean.{CallIsClean};
+ghost use Rattle.smk_clean.specs.Locking.{LockIsLeft};
 ghost use Rattle.smk_clean.specs.Safe.{CallIsSafe};
 ghost use Rattle.smk_clean.specs.Standing.{PlanRefusalStands, RefusalStands};
 
@@ -12,8 +13,10 @@ pub fn calls_are_safe()
     ensures { CallIsSafe }
 {}
 
-/// Laws of refusals. Where something is refused of what is asked to be run, nothing is done but looks and nothing is put, and the call ends with a refusal, or with
-/// a fault of the device or of memory; and where the plan is refused, with that refusal.
+/// Laws of refusals. Where something is refused of what is asked to be run, nothing is done but looks, or under the lock nothing is changed but it, no child is
+/// started and nothing is put; and the call ends with a refusal, for the lock, or with a fault of the device or of memory; and where the plan is refused,
+/// with that
+/// refusal.
 pub fn refusals_stand()
     ensures stands { RefusalStands }
     ensures plan { PlanRefusalStands }
@@ -30,4 +33,9 @@ pub fn calls_are_clean()
 pub fn calls_leave_none()
     ensures clean { CallLeavesNone }
     ensures again { NextCallTakesNoTurn }
+{}
+
+/// The law that a run which heeds the lock leaves it as it was, however it ends, unless the count of the device's faults rose.
+pub fn lock_is_left()
+    ensures { LockIsLeft }
 {}

@@ -1,5 +1,5 @@
 -- What the whole call does for what the words ask.
-use Rattle.std.specs.Prelude.{◌≡◌, ℕ, Bool, true, false, List, Option, Result, Ok}
+use Rattle.std.specs.Prelude.{◌≡◌, ◌⊎◌, ℕ, Bool, true, false, List, Option, Some, Result, Ok, Err}
 use Rattle.smk_world.specs.World.{World}
 use Rattle.smk_world.specs.Devices.{Device, Sunk, HasLooked}
 use Rattle.smk_world.specs.Trees.{Act}
@@ -10,32 +10,56 @@ use Rattle.smk_words_reading.specs.declared.asked.Asked.TheVariants.{Run, Previe
 use Rattle.smk_words_reading.specs.declared.asked.RunWords.{RunWords}
 use Rattle.smk_cli_entry.specs.declared.asking.Asked.{Asked}
 use Rattle.smk_cli_entry.specs.Entry.{IsAskedIn, FailsToAsk}
-use Rattle.smk_cli_entry.specs.Faults.{device_failed}
+use Rattle.smk_cli_entry.specs.Faults.{device_failed, is_device}
 use Rattle.smk_plan_preview.specs.declared.previewing.Previewed.{Previewed}
-use Rattle.smk_serve.specs.Serving.{IsRefusedPlan, IsPlanFor, HasListed, Went}
+use Rattle.smk_serve.specs.Serving.{IsRefusedPlan, IsPlanFor, IsWant, HasListed, HasOnlyLooked, Went}
 use Rattle.smk_serve.specs.Ends.{fault_of}
 use Rattle.smk_cli.specs.Lines.{IsOutcome}
+use Rattle.smk_cli.specs.Locking.{IsAfterLooks, HasHeeded}
 use Rattle.smk_cli.specs.Words.{is_built}
 
-module _ (read : List ℕ → Option Record) (run : Bool) (words : RunWords) (w : World) where
-  -- The first refusal of a run, or else of a listing: of reading the workflow, of a form that no run can do yet, of a word that is no target, or of
-  -- the plan for what is asked.
+module _ (read : List ℕ → Option Record) (run : Bool) (words : RunWords) (entry w : World) where
+  -- The first refusal of a run, or else of a listing: of reading the workflow as it stands at the entry, of a form that no run can do yet, of a word that
+  -- is no target, or of the plan for what is asked, in the folder as it stands then.
   pub data IsRefusal (f : Fault) : Type 0 where
-    OfWorkflow : FailsToAsk run words w.nodes f → IsRefusal f
-    OfPlan : (asked : Asked) → IsAskedIn run words w.nodes (Ok asked) → IsRefusedPlan read asked words w f → IsRefusal f
+    OfWorkflow : FailsToAsk run words entry.nodes f → IsRefusal f
+    OfPlan : (asked : Asked) → IsAskedIn run words entry.nodes (Ok asked) → IsRefusedPlan read asked words w f → IsRefusal f
 
   -- Nothing is refused: this is asked of the workflow, and this is the plan for it.
   pub record IsToServe (asked : Asked) (told : Previewed) : Type 0 where
-    pub is_asked : IsAskedIn run words w.nodes (Ok asked)
+    pub is_asked : IsAskedIn run words entry.nodes (Ok asked)
     pub plan : IsPlanFor read asked words w told
 
--- What is done for a request that is about what is made: a run, or a listing that leaves all as it stands.
+-- How a run is served from this folder: under the lock, which is tried once it is known what is asked, unless none is heeded.
+pub data HasRun
+    (act : Act) (read : List ℕ → Option Record) (words : RunWords) (w : World) (answer : Result (Unit {0}) Fault) (old new : Device) (out_old out_new : Sunk) :
+    Type 0 where
+  Unheeded :
+      words.nolock ≡ true →
+      Went act words.cores answer (IsRefusal read true words w w) (IsToServe read true words w w) old new out_old out_new →
+      HasRun act read words w answer old new out_old out_new
+  -- the workflow or a target is refused; or a call of the device failed, or memory was wanting, before that was known
+  Unasked :
+      (f : Fault) →
+      words.nolock ≡ false →
+      answer ≡ Err f →
+      IsWant f ⊎ FailsToAsk true words w.nodes f →
+      HasOnlyLooked act old new (is_device f) out_old out_new → HasRun act read words w answer old new out_old out_new
+  Heeded :
+      (v : World) (looked : Device) →
+      words.nolock ≡ false →
+      IsAfterLooks act w v →
+      looked.world ≡ Some v →
+      HasLooked act old looked false →
+      HasHeeded act words.cores answer (IsRefusal read true words w) (IsToServe read true words w) v looked new out_old out_new →
+      HasRun act read words w answer old new out_old out_new
+
+-- What is done for a request that is about what is made: a run, or a listing that leaves all as it stands and heeds no lock.
 abbrev pub Serves : Act → (List ℕ → Option Record) → World → Result (Unit {0}) Fault → Device → Device → Sunk → Sunk → Request → Type 0
-Serves act read w answer old new out_old out_new (Run words) =
-    Went act words.cores answer (IsRefusal read true words w) (IsToServe read true words w) old new out_old out_new
+Serves act read w answer old new out_old out_new (Run words) = HasRun act read words w answer old new out_old out_new
 Serves act read w answer old new out_old out_new (Preview words) =
     HasLooked act old new (device_failed answer)
-    × HasListed (IsRefusal read false words w) (IsToServe read false words w) out_old out_new answer
+    × HasListed (IsRefusal read false words w w) (IsToServe read false words w w) out_old out_new answer
 Serves act read w answer old new out_old out_new Unlock = ⊥
 Serves act read w answer old new out_old out_new (Forget paths nolock) = ⊥
 Serves act read w answer old new out_old out_new (Generate seed size) = ⊥

@@ -3,6 +3,7 @@
 
 mod keys;
 mod outcome;
+mod running;
 mod top;
 
 pub use outcome::Outcome;

@@ -10,20 +10,21 @@ ghost use Rattle.smk_words_reading.specs.declared.asked.Asked.{Asked as Request}
 ghost use Rattle.smk_words_reading.specs.Asks.{IsAsked};
 ghost use Rattle.smk_cli_entry.specs.Faults.{device_failed};
 ghost use Rattle.smk_serve.specs.Ends.{EndsAs, EndsWith, fault_of};
-ghost use Rattle.smk_serve.specs.Serving.{HasListed, Went};
+ghost use Rattle.smk_serve.specs.Serving.{HasListed};
 ghost use Rattle.smk_cli.specs.Words as spec;
 ghost use Rattle.smk_cli.specs.Words.{RefusesWords};
 ghost use Rattle.smk_cli.specs.Lines.{IsOutcome, HasToldFault};
-ghost use Rattle.smk_cli.specs.Whole.{IsRefusal, IsToServe, Serves, HasServed};
+ghost use Rattle.smk_cli.specs.Whole.{IsRefusal, IsToServe, HasRun, Serves, HasServed};
 ghost use Rattle.smk_cli.specs.Keys.{Keeps, HasKept};
 
 use crate::keys::{serve_forget, serve_unlock};
 use crate::outcome::Outcome;
+use crate::running::make_asked;
 use smk_base::OutOfMemory;
 use smk_cli_entry::ask;
 use smk_report::{Fault, fault_line};
 use smk_run::write_out;
-use smk_serve::{list_plan, make_targets};
+use smk_serve::list_plan;
 use smk_words_reading::{Asked, Force, RunWords, WordsFault, read_words};
 use smk_world::{Crew, Files, Sink};
 use std::alloc::Global;
@@ -39,13 +40,12 @@ fn serve_run<W: Crew, O: Sink, Rt: Threads + Sync>(
 ) -> Result<(), Fault>
     requires none_runs { (W.device work.old).running ≡ [] }
     ensures ended { EndsAs result (W.device work.old) (W.device work.new) (O.sunk out.old) (O.sunk out.new) }
-    ensures went { WhereTold (W.device work.old) (λ w. (read : Items ℕ → Option RecordValue) → ReadsRecords read
-        → Went W.act words.now.cores result (IsRefusal read true words.now w) (IsToServe read true words.now w)
-        (W.device work.old) (W.device work.new) (O.sunk out.old) (O.sunk out.new)) }
+    ensures ran { WhereTold (W.device work.old) (λ w. (read : Items ℕ → Option RecordValue) → ReadsRecords read
+        → HasRun W.act read words.now w result (W.device work.old) (W.device work.new) (O.sunk out.old) (O.sunk out.new)) }
 {
     match ask(alloc, true, work, words) {
         Err(fault) => Err(fault),
-        Ok(asked) => make_targets(rt, alloc, &asked, words, work, out),
+        Ok(asked) => make_asked(rt, alloc, &asked, words, work, out),
     }
 }
 
@@ -61,7 +61,7 @@ fn serve_listing<W: Files, O: Sink, Rt: Threads + Sync>(
     ensures ended { EndsAs result (W.device work.old) (W.device work.new) (O.sunk out.old) (O.sunk out.new) }
     ensures looked { HasLooked W.act (W.device work.old) (W.device work.new) (device_failed result) }
     ensures listed { WhereTold (W.device work.old) (λ w. (read : Items ℕ → Option RecordValue) → ReadsRecords read
-        → HasListed (IsRefusal read false words.now w) (IsToServe read false words.now w) (O.sunk out.old) (O.sunk out.new) result) }
+        → HasListed (IsRefusal read false words.now w w) (IsToServe read false words.now w w) (O.sunk out.old) (O.sunk out.new) result) }
 {
     match ask(alloc, false, work, words) {
         Err(fault) => Err(fault),
@@ -180,11 +180,14 @@ fn tell<O: Sink>(alloc: Global, answer: Result<(), Fault>, err: &mut O) -> Outco
     }
 }
 
-/// Does what the words ask by a workflow of the working folder. For a run: makes the targets, by running the jobs that its plan has to be run or restored, one
-/// after another, and reports them and the targets to `out`. For a listing: tells the jobs of the plan to `out`, and changes nothing. Or removes the lock,
+/// Does what the words ask by a workflow of the working folder. For a run: takes the lock, unless the words heed none; makes the targets, by running the jobs
+/// that its plan has to be run or restored, one after another, and reports them and the targets to `out`; and releases the lock, unless the device failed.
+/// For a
+/// listing: tells the jobs of the plan to `out`, and changes nothing. Or removes the lock,
 /// or what is kept of paths, and tells so. The line of a fault goes to `err`.
 ///
-/// The status is 0 where all is done, 1 where a job failed, 2 where the words are refused, 3 where the workflow, a target, the plan or a job is refused, 4 where
+/// The status is 0 where all is done, 1 where a job failed, 2 where the words are refused, 3 where the workflow, a target, the plan or a job is refused, or
+/// the lock stands, 4 where
 /// the device failed, 5 where memory is wanting, 6 where `out` failed.
 pub fn smk<W: Crew, O: Sink, Rt: Threads + Sync>(
     rt: &Rt,
@@ -202,7 +205,8 @@ pub fn smk<W: Crew, O: Sink, Rt: Threads + Sync>(
     ensures unread { (f : FaultValue) → RefusesWords (map string_bytes words.now) f
         → ((result.fault ≡ Some f) ⊎ (result.fault ≡ Some Fault.OutOfMemory)) × (work.new ≡ work.old) × (out.new ≡ out.old) }
 
-    // a run or a listing is served, where it is built: it is refused, and nothing is done; or what its plan has to be run is run, in order; or the plan is listed
+    // a run or a listing is served, where it is built: it is refused, and nothing is done; or what its plan has to be run is run, in order, under the lock,
+    // unless none is heeded; or the plan is listed
     ensures serves { (request : Request) → IsAsked (map string_bytes words.now) request → spec.is_built request ≡ true → spec.is_to_make request ≡ true
         → WhereTold (W.device work.old) (λ w. (read : Items ℕ → Option RecordValue) → ReadsRecords read
         → HasServed W.act read request w result.fault (W.device work.old) (W.device work.new) (O.sunk out.old) (O.sunk out.new)) }

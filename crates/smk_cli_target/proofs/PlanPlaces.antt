@@ -31,11 +31,11 @@ use Rattle.smk_laws_plan.proofs.PlanOne.{derived, derived_clear}
 
 -- ## What a rule makes
 
-paths_filled : (b : List Pair) (outs : List FlaggedText) → map (λ (o : Out). o.path) (map (filled_out b) outs) ≡ map (λ (o : FlaggedText). fill b o.text) outs
+pub paths_filled : (b : List Pair) (outs : List FlaggedText) → map (λ (o : Out). o.path) (map (filled_out b) outs) ≡ map (λ (o : FlaggedText). fill b o.text) outs
 paths_filled b [] = refl
 paths_filled b (o ∷ outs) = ap (λ ps. fill b o.text ∷ ps) (paths_filled b outs)
 
-items_filled :
+pub items_filled :
     (b : List Pair) (items : List OutPart) →
     flat_map (λ (i : OutItem). map (λ (o : Out). o.path) i.outs) (map (filled_outs b) items)
     ≡ map (λ (o : FlaggedText). fill b o.text) (flat_map (λ (o : OutPart). o.outs) items)

@@ -11,7 +11,7 @@ use Rattle.smk_world.specs.declared.recipe.Kind.TheVariants.{Folder as FolderKin
 use Rattle.smk_flow.specs.declared.job.Job.{Job}
 use Rattle.smk_flow.specs.Flows.{Flow}
 use Rattle.smk_choose.specs.Choose.{Sources}
-use Rattle.smk_store.specs.Images.{Image, file_at, source_at, is_source, is_known, is_covered, is_whole, sources, stands, holds_source}
+use Rattle.smk_store.specs.Images.{Image, file_at, source_at, is_file, is_source, is_known, is_covered, is_whole, sources, stands, holds_source}
 use Rattle.smk_store.specs.Trust.{holder, is_marked_but, stamp_now_but, source_stamp, unmarked_stamp_but}
 use Rattle.smk_chain.specs.Derive.{Listings, Clash, Deep, Derived, TooManyPaths, clashes, derivation, distinct, hinders, is_deep, jobs, listing, outcome, reach, refused, refused_if, sources_of, spots}
 use Rattle.smk_trigger.specs.declared.reason.Reason.TheVariants.{Upstream, Forced}
@@ -22,7 +22,7 @@ use Rattle.smk_trigger.specs.Reasons.{own_reasons, when}
 use Rattle.smk_pick.specs.declared.settings.Force.{Force}
 use Rattle.smk_pick.specs.declared.settings.Force.TheVariants.{No}
 use Rattle.smk_pick.specs.declared.settings.Settings.{Settings}
-use Rattle.smk_plan.specs.States.{HasStates, IsPlan, Last, LastPlan, Plan, Progress, Then, awaited, awaits, by_force, by_reasons, files_listed, gathers_from, is_forced, is_open_now, is_read_now, is_ready, is_restored, is_to_restore, is_wanted_back, is_whole_by, job_path, made_by, maker_of, makes, new_listings, nothing_done, reasons, staged, stands_whole, state_of, test_some}
+use Rattle.smk_plan.specs.States.{HasStates, IsPlan, Last, LastPlan, Plan, Progress, Then, awaited, awaits, by_force, by_reasons, files_listed, gathers_from, is_forced, is_open_now, is_read_now, is_ready, is_restored, is_to_restore, is_wanted_back, is_whole_by, job_path, kept_state, made_by, maker_of, makes, new_listings, nothing_done, reasons, staged, stands_whole, state_of, test_some, while_running}
 use Rattle.smk_laws_plan.specs.Current.{IsComplete}
 use Rattle.smk_laws_plan.proofs.CurrentLists.{and_right, any_from, any_in, append_nil_left, append_nil_right, filter_in, find_in, in_filter, map_nil, or_cases, zip_first}
 use Rattle.smk_laws_plan.proofs.CurrentPaths.{among_in}
@@ -148,37 +148,47 @@ stands_by image q k o = is_whole_by image q (kind_in k.recipe q) o
 abbrev ready_by : Image → Path → Option (Job × State) → Bool
 ready_by image q m = test_some (λ (e : Job × State). is_clean e.1 && stands_whole image q e.0) m
 
+-- the jobs with these first outputs have begun, and these run
+abbrev pub doing : List (Path × State) → List Path → Progress
+doing running begun = record { begun = begun; running = running }
+
 -- the jobs with these first outputs have begun, and no child runs
 abbrev pub idle : List Path → Progress
-idle begun = record { begun = begun; running = [] }
+idle begun = doing [] begun
 
 module _ (flow : Flow) (settings : Settings) (plan : Plan) (i : Image) where
-  -- What another image has as this one.
-  pub record IsAlike (x : Image) : Type 0 where
+  -- What another image has as this one: files, the stamps of sources, and what is whole of what these jobs make.
+  pub record IsLike (x : Image) : Type 0 where
     pub complete : IsComplete x
-    pub files : (p : Path) → file_at x p ≡ file_at i p
+    pub file : (p : Path) → is_file x p ≡ is_file i p
+    pub source : (p : Path) → is_source x p ≡ is_source i p
+    pub stamp : (p : Path) → source_stamp (source_at x p) ≡ source_stamp (source_at i p)
     pub whole : (k : Job) (p : Path) (kind : Kind) → IsIn plan.jobs k → IsIn (out_paths k.recipe) p → is_whole x p kind ≡ is_whole i p kind
 
-  module _ (complete : IsComplete i) (unforced : settings.force ≡ No) (begun : List Path) (is : IsPlan flow i settings (idle begun) plan) (x : Image) where
+  -- Which jobs run is the same, and force tells the same of which have begun.
+  module _
+      (complete : IsComplete i) (running : List (Path × State)) (begun since : List Path)
+      (forced_same : (k : Job) → is_forced i settings (doing running since) plan k ≡ is_forced i settings (doing running begun) plan k)
+      (is : IsPlan flow i settings (doing running begun) plan) (x : Image) where
+    abbrev was : Progress
+    was = doing running begun
+
+    abbrev now : Progress
+    now = doing running since
+
     abbrev y : Image
     y = record x { kept = i.kept; marked = i.marked; noted = i.noted }
 
-    module _ (alike : IsAlike y) where
+    module _ (like : IsLike y) where
       -- ## Sources
-
-      source_same : (p : Path) → is_source y p ≡ is_source i p
-      source_same p = ap (λ f. is_path_text p && (is_some f && not (is_covered i p))) (alike.files p)
-
-      source_at_same : (p : Path) → source_at y p ≡ source_at i p
-      source_at_same p = λ n. if source_same p n then alike.files p n else None
 
       holds_same : (p : Path) → holds_source y p ≡ holds_source i p
       holds_same p =
-          both_ways (holds_source y p) (holds_source i p) (holds_on y i complete (λ q h. sym (source_same q) ∙ h) p)
-          (holds_on i y alike.complete (λ q h. source_same q ∙ h) p)
+          both_ways (holds_source y p) (holds_source i p) (holds_on y i complete (λ q h. sym (like.source q) ∙ h) p)
+          (holds_on i y like.complete (λ q h. like.source q ∙ h) p)
 
       sources_same : sources_of y ≡ sources_of i
-      sources_same = λ n. record { is = λ p. source_same p n; holds = λ p. holds_same p n }
+      sources_same = λ n. record { is = λ p. like.source p n; holds = λ p. holds_same p n }
 
       derived_same : derivation flow y plan.lists settings.targets ≡ Derived plan.jobs
       derived_same = derived_again flow plan.lists settings.targets plan.jobs i x complete sources_same is.derived
@@ -197,13 +207,13 @@ module _ (flow : Flow) (settings : Settings) (plan : Plan) (i : Image) where
 
           go : (o : Option Path) → folder_over k.recipe q ≡ o → stands_whole y q k ≡ stands_whole i q k
           go None e =
-              ap (stands_by y q k) e ∙ (alike.whole k q (kind_in k.recipe q) ik (out None e refl) ∙ sym (ap (stands_by i q k) e))
+              ap (stands_by y q k) e ∙ (like.whole k q (kind_in k.recipe q) ik (out None e refl) ∙ sym (ap (stands_by i q k) e))
           go (Some d) e =
               let found = find_in (is_under q) (folders_of k.recipe) d e in
-              let whole = alike.whole k d FolderKind ik (folders_paths k.recipe d found.0) in
-              ap (stands_by y q k) e ∙ ((λ n. whole n && is_some (alike.files q n)) ∙ sym (ap (stands_by i q k) e))
+              let whole = like.whole k d FolderKind ik (folders_paths k.recipe d found.0) in
+              ap (stands_by y q k) e ∙ ((λ n. whole n && like.file q n) ∙ sym (ap (stands_by i q k) e))
 
-      ready_same : (q : Path) → is_ready y settings nothing_done plan q ≡ is_ready i settings (idle begun) plan q
+      ready_same : (q : Path) → is_ready y settings now plan q ≡ is_ready i settings was plan q
       ready_same q = go (maker_of plan q) refl
         where
           go : (m : Option (Job × State)) → maker_of plan q ≡ m → ready_by y q m ≡ ready_by i q m
@@ -214,69 +224,122 @@ module _ (flow : Flow) (settings : Settings) (plan : Plan) (i : Image) where
 
       -- ## The table of states
 
-      open_same : (k : Job) → is_open_now y settings nothing_done plan k ≡ is_open_now i settings (idle begun) plan k
+      open_same : (k : Job) → is_open_now y settings now plan k ≡ is_open_now i settings was plan k
       open_same k =
           λ n.
           list_any (λ d. not (is_none (maker_of plan d) || ready_same d n)) (awaits plan k)
           || (list_any (λ d. ready_same d n && is_none (listing plan.lists d)) (gathers_from k) || list_any (made_by plan is_open) (in_paths k.recipe))
 
       stamp_same : (left : Path → Bool) (q : Path) → stamp_now_but y left q ≡ stamp_now_but i left q
-      stamp_same left q = λ n. if source_same q n then source_stamp (source_at_same q n) else option_and_then (unmarked_stamp_but i left) (holder i q)
-
-      never_forced : (a b : Bool) → (a && by_force settings.force b) ≡ false
-      never_forced a b = ap (λ (f : Force). a && by_force f b) unforced ∙ and_never a
-
-      forced_same : (k : Job) → is_forced y settings nothing_done plan k ≡ is_forced i settings (idle begun) plan k
-      forced_same k =
-          never_forced (not (among [] (job_path k))) (list_any (makes k) settings.targets)
-          ∙ sym (never_forced (not (among begun (job_path k))) (list_any (makes k) settings.targets))
+      stamp_same left q = λ n. if like.source q n then like.stamp q n else option_and_then (unmarked_stamp_but i left) (holder i q)
 
       abbrev left_out : Path → Bool
-      left_out p = is_restored i settings (idle begun) plan p
+      left_out p = is_restored i settings was plan p
 
-      reasons_same : (k : Job) → reasons y settings nothing_done plan k ≡ reasons i settings (idle begun) plan k
+      reasons_same : (k : Job) → reasons y settings now plan k ≡ reasons i settings was plan k
       reasons_same k =
           λ n.
           own_reasons k.recipe (map i.kept (out_paths k.recipe)) (map (is_marked_but i left_out) (out_paths k.recipe))
           (map (λ q. (q, stamp_same left_out q n)) (in_paths k.recipe))
           ++ (map Upstream (filter (made_by plan is_dirty) (distinct bytes_eq (in_paths k.recipe))) ++ when (forced_same k n) Forced)
 
-      restore_same : (k : Job) → IsIn plan.jobs k → is_to_restore y settings nothing_done plan k ≡ is_to_restore i settings (idle begun) plan k
+      restore_same : (k : Job) → IsIn plan.jobs k → is_to_restore y settings now plan k ≡ is_to_restore i settings was plan k
       restore_same k ik =
-          any_same (λ p. not (is_whole y p (kind_in k.recipe p)) && is_wanted_back y settings nothing_done plan k p)
-          (λ p. not (is_whole i p (kind_in k.recipe p)) && is_wanted_back i settings (idle begun) plan k p) (out_paths k.recipe)
-          (λ p o. ap (λ b. not b && is_wanted_back i settings (idle begun) plan k p) (alike.whole k p (kind_in k.recipe p) ik o))
+          any_same (λ p. not (is_whole y p (kind_in k.recipe p)) && is_wanted_back y settings now plan k p)
+          (λ p. not (is_whole i p (kind_in k.recipe p)) && is_wanted_back i settings was plan k p) (out_paths k.recipe)
+          (λ p o. ap (λ b. not b && is_wanted_back i settings was plan k p) (like.whole k p (kind_in k.recipe p) ik o))
 
-      state_same : (k : Job) → IsIn plan.jobs k → state_of y settings nothing_done plan k ≡ state_of i settings (idle begun) plan k
+      state_same : (k : Job) → IsIn plan.jobs k → state_of y settings now plan k ≡ state_of i settings was plan k
       state_same k ik =
-          λ n. if open_same k n then Open else by_reasons (reasons_same k n) (restore_same k ik n && not (is_read_now i settings (idle begun) plan k))
+          λ n.
+          while_running (kept_state i settings was plan k)
+          (if open_same k n then Open else by_reasons (reasons_same k n) (restore_same k ik n && not (is_read_now i settings was plan k)))
 
-      states_same : HasStates y settings nothing_done plan
+      states_same : HasStates y settings now plan
       states_same =
           is.states
-          ∙ map_same (state_of i settings (idle begun) plan) (state_of y settings nothing_done plan) plan.jobs (λ k ik. sym (state_same k ik))
+          ∙ map_same (state_of i settings was plan) (state_of y settings now plan) plan.jobs (λ k ik. sym (state_same k ik))
 
-      none_new : new_listings i settings (idle begun) plan ≡ [] → new_listings y settings nothing_done plan ≡ []
-      none_new last =
-          let before = map_nil _ (filter (λ d. is_ready i settings (idle begun) plan d && is_none (listing plan.lists d)) (awaited i settings (idle begun) plan)) last in
-          let now = (λ n. filter (λ d. ready_same d n && is_none (listing plan.lists d)) (awaited i settings (idle begun) plan)) ∙ before in
-          λ n. map (λ d. record { folder = d; files = files_listed i d }) (now n)
+      listings_same : new_listings y settings now plan ≡ new_listings i settings was plan
+      listings_same =
+          λ n.
+          map (λ d. record { folder = d; files = files_listed i d })
+          (filter (λ d. ready_same d n && is_none (listing plan.lists d)) (awaited i settings was plan))
 
-      stays : IsPlan flow y settings nothing_done plan
+      stays : IsPlan flow y settings now plan
       stays = record { derived = derived_same; states = states_same }
+
+    -- it is the plan of that image too, and the same becomes known there
+    pub plan_like : i.kept ≡ x.kept → i.marked ≡ x.marked → i.noted ≡ x.noted → IsLike x → IsPlan flow x settings now plan
+    plan_like kept marked noted =
+        subst (λ (z : Image). IsLike z → IsPlan flow z settings now plan) (λ n. record x { kept = kept n; marked = marked n; noted = noted n }) stays
+
+    pub listings_like : i.kept ≡ x.kept → i.marked ≡ x.marked → i.noted ≡ x.noted → IsLike x → new_listings x settings now plan ≡ new_listings i settings was plan
+    listings_like kept marked noted =
+        subst (λ (z : Image). IsLike z → new_listings z settings now plan ≡ new_listings i settings was plan)
+        (λ n. record x { kept = kept n; marked = marked n; noted = noted n }) listings_same
+
+  -- ## At rest, and unforced
+
+  -- What another image has as this one, where all files are the same.
+  pub record IsAlike (x : Image) : Type 0 where
+    pub complete : IsComplete x
+    pub files : (p : Path) → file_at x p ≡ file_at i p
+    pub whole : (k : Job) (p : Path) (kind : Kind) → IsIn plan.jobs k → IsIn (out_paths k.recipe) p → is_whole x p kind ≡ is_whole i p kind
+
+  module _ (x : Image) where
+    abbrev so : Image
+    so = record x { kept = i.kept; marked = i.marked; noted = i.noted }
+
+    same_files : IsAlike so → IsLike so
+    same_files alike =
+        let source : (p : Path) → is_source so p ≡ is_source i p = λ p. ap (λ f. is_path_text p && (is_some f && not (is_covered i p))) (alike.files p) in
+        record {
+          complete = alike.complete;
+          file = λ p. ap is_some (alike.files p);
+          source = source;
+          stamp = λ p n. source_stamp (if source p n then alike.files p n else None);
+          whole = alike.whole;
+        }
+
+    pub is_like : i.kept ≡ x.kept → i.marked ≡ x.marked → i.noted ≡ x.noted → IsAlike x → IsLike x
+    is_like kept marked noted = subst (λ (v : Image). IsAlike v → IsLike v) (λ n. record x { kept = kept n; marked = marked n; noted = noted n }) same_files
+
+  module _ (complete : IsComplete i) (unforced : settings.force ≡ No) (begun : List Path) (is : IsPlan flow i settings (idle begun) plan) (x : Image) where
+    never_forced : (a b : Bool) → (a && by_force settings.force b) ≡ false
+    never_forced a b = ap (λ (f : Force). a && by_force f b) unforced ∙ and_never a
+
+    none_forced : (k : Job) → is_forced i settings nothing_done plan k ≡ is_forced i settings (idle begun) plan k
+    none_forced k =
+        never_forced (not (among [] (job_path k))) (list_any (makes k) settings.targets)
+        ∙ sym (never_forced (not (among begun (job_path k))) (list_any (makes k) settings.targets))
 
     -- it is the plan of that image too, whichever jobs have begun;
     pub plan_stays : i.kept ≡ x.kept → i.marked ≡ x.marked → i.noted ≡ x.noted → IsAlike x → IsPlan flow x settings nothing_done plan
-    plan_stays kept marked noted =
-        subst (λ (z : Image). IsAlike z → IsPlan flow z settings nothing_done plan) (λ n. record x { kept = kept n; marked = marked n; noted = noted n }) stays
+    plan_stays kept marked noted alike = plan_like complete [] begun [] none_forced is x kept marked noted (is_like x kept marked noted alike)
 
     -- and where it was the last one it is
     pub last_stays :
         i.kept ≡ x.kept → i.marked ≡ x.marked → i.noted ≡ x.noted → new_listings i settings (idle begun) plan ≡ [] → IsAlike x →
         new_listings x settings nothing_done plan ≡ []
-    last_stays kept marked noted last =
-        subst (λ (z : Image). IsAlike z → new_listings z settings nothing_done plan ≡ []) (λ n. record x { kept = kept n; marked = marked n; noted = noted n })
-        (λ alike. none_new alike last)
+    last_stays kept marked noted last alike =
+        listings_like complete [] begun [] none_forced is x kept marked noted (is_like x kept marked noted alike) ∙ last
+
+-- Images that are like one another have the same chains of plans, while the same jobs run and have begun.
+pub chain_like :
+    (flow : Flow) (settings : Settings) (progress : Progress) (i x : Image) → IsComplete i → i.kept ≡ x.kept → i.marked ≡ x.marked → i.noted ≡ x.noted →
+    ((plan : Plan) → IsLike flow settings plan i x) →
+    (L : Listings) (plan : Plan) → LastPlan flow i settings progress L plan → LastPlan flow x settings progress L plan
+chain_like flow settings progress i x complete kept marked noted like _ _ (Last p is done) =
+    Last p (plan_like flow settings p i complete progress.running progress.begun progress.begun (λ k. refl) is x kept marked noted (like p))
+    (listings_like flow settings p i complete progress.running progress.begun progress.begun (λ k. refl) is x kept marked noted (like p) ∙ done)
+chain_like flow settings progress i x complete kept marked noted like _ _ (Then p last is more rest) =
+    let same : new_listings x settings progress p ≡ new_listings i settings progress p =
+    listings_like flow settings p i complete progress.running progress.begun progress.begun (λ k. refl) is x kept marked noted (like p) in
+    Then p last (plan_like flow settings p i complete progress.running progress.begun progress.begun (λ k. refl) is x kept marked noted (like p))
+    (λ none. more (sym same ∙ none))
+    (subst (λ (new : Listings). LastPlan flow x settings progress (p.lists ++ new) last) (sym same)
+    (chain_like flow settings progress i x complete kept marked noted like (p.lists ++ new_listings i settings progress p) last rest))
 
 -- Which jobs have begun tells on no plan of a chain.
 pub chain_again :

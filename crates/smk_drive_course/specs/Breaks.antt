@@ -21,7 +21,7 @@ use Rattle.smk_job.specs.declared.fault.CloseFault.TheVariants as close
 use Rattle.smk_run.specs.Closings.{wait_event}
 use Rattle.smk_drive.specs.Moments.{Rules, is_spent_now, seen}
 use Rattle.smk_drive_course.specs.Stands.{Stand, IsClear, NoneLeft, broken_by_device, halted_by, moment_of, without_child}
-use Rattle.smk_drive_course.specs.Steps.{AreRemoved, Deed, HasBegun, HasClosed, HasHalted, HasSpent, IsNext, IsToBegin, IsWaitFor, MaySpend, calls_of}
+use Rattle.smk_drive_course.specs.Steps.{AreRemoved, Deed, HasBegun, HasClosed, HasHalted, HasSpent, IsAsListed, IsNext, IsToBegin, IsWaitFor, MaySpend, calls_of}
 
 module _ (rules : Rules) (entry : World) where
   -- ## Steps that break off
@@ -91,8 +91,9 @@ module _ (rules : Rules) (entry : World) where
     pub fails : failed failing.call ≡ true
     pub called :
         ((p : Path) × (request failing.call ≡ Remove p) × IsClear rules last (run w removing) (before ++ removing)
-        × IsTrue (is_spent_now rules (moment_of last (run w removing) (before ++ removing)) p))
-        ⊎ (request failing.call ≡ Settle paths)
+        × IsTrue (is_spent_now rules (moment_of last (run w removing) (before ++ removing)) p)
+        × IsAsListed (seen rules (run w removing)) p)
+        ⊎ ((request failing.call ≡ Settle paths) × (paths ≢ []))
     pub deeds_are : deeds ≡ []
     pub leaves : t ≡ broken_by_device last
 

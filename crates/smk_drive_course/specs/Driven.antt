@@ -1,12 +1,14 @@
 -- What a run has done when it ends.
 use Rattle.std.specs.Prelude.{◌≡◌, ◌⊎◌, ℕ, Bool, true, false, List, [], ◌∷◌, ◌++◌, Option, Some, None, Result, Ok, Err, IsTrue, is_ok}
 use Rattle.std.specs.List.{list_all}
+use Rattle.smk_base.specs.Place.{mark_place, note_place}
 use Rattle.smk_world.specs.declared.event.Event.{Event}
 use Rattle.smk_world.specs.World.{World, run}
 use Rattle.smk_world.specs.Devices.{Device, Sunk, HasEnded, AreLooks}
 use Rattle.smk_world.specs.Requests.{HasDone, IsCutShort}
 use Rattle.smk_world.specs.Requests.Request.{Settle}
-use Rattle.smk_world.specs.Trees.{Act, IsIn}
+use Rattle.smk_world.specs.Trees.{Act, IsIn, Path, among}
+use Rattle.smk_store.specs.Images.{Image}
 use Rattle.smk_trigger.specs.JobStates.{is_clean}
 use Rattle.smk_plan.specs.States.{Plan, none_or_one}
 use Rattle.smk_keep.specs.declared.fault.KeepFault.{KeepFault}
@@ -15,7 +17,7 @@ use Rattle.smk_report.specs.declared.fault.Fault.{Fault}
 use Rattle.smk_report.specs.declared.fault.Fault.TheVariants as fault
 use Rattle.smk_run.specs.Reports.{HasReported}
 use Rattle.smk_run.specs.Statuses.{HasGiven}
-use Rattle.smk_drive.specs.Moments.{Rules}
+use Rattle.smk_drive.specs.Moments.{Rules, seen}
 use Rattle.smk_drive.specs.Lawful.{is_failed_wait}
 use Rattle.smk_drive_course.specs.declared.ending.End.{End}
 use Rattle.smk_drive_course.specs.Stands.{Stand, IsPlanned, NoneLeft, first_stand, moment_of}
@@ -23,20 +25,30 @@ use Rattle.smk_drive_course.specs.Steps.{Deed, GoesByAnswer}
 use Rattle.smk_drive_course.specs.Breaks.{Steps}
 use Rattle.smk_drive_course.specs.Reports.{IsReport, IsTold, is_device, may_lose}
 
--- A run begins: the folder is looked at, what was found of earlier runs is made firm, and the folder is looked at; or a call fails in this, or memory
--- is wanting.
-pub data IsOpening : Result (Unit {0}) KeepFault → List Event → Type 0 where
+-- every mark and note that stands is among these places
+pub record HasSigns (image : Image) (places : List Path) : Type 0 where
+  pub marks : (p : Path) → image.marked p ≡ true → IsTrue (among places (mark_place p))
+  pub notes : (p : Path) → image.noted p ≡ true → IsTrue (among places (note_place p))
+
+-- A run begins in this world: the folder is looked at, the marks and notes of earlier runs are made firm, and the folder is looked at; or a call fails in
+-- this, or memory is wanting.
+pub data IsOpening (rules : Rules) (w : World) : Result (Unit {0}) KeepFault → List Event → Type 0 where
   Opens :
-      (loading settling looks : List Event) (places : List (List ℕ)) →
-      AreLooks false loading → HasDone (Settle places ∷ []) settling → AreLooks false looks → IsOpening (Ok tt) (loading ++ (settling ++ looks))
-  LacksMemory : (loading : List Event) → AreLooks false loading → IsOpening (Err OutOfMemory) loading
-  LoadingFails : (loading : List Event) → AreLooks true loading → IsOpening (Err DeviceFault) loading
+      (loading settling looks : List Event) (places : List Path) →
+      AreLooks false loading →
+      HasSigns (seen rules w) places →
+      HasDone (Settle places ∷ []) settling → AreLooks false looks → IsOpening rules w (Ok tt) (loading ++ (settling ++ looks))
+  LacksMemory : (loading : List Event) → AreLooks false loading → IsOpening rules w (Err OutOfMemory) loading
+  LoadingFails : (loading : List Event) → AreLooks true loading → IsOpening rules w (Err DeviceFault) loading
   SettlingFails :
-      (loading settling : List Event) (places : List (List ℕ)) →
-      AreLooks false loading → IsCutShort (Settle places ∷ []) settling → IsOpening (Err DeviceFault) (loading ++ settling)
+      (loading settling : List Event) (places : List Path) →
+      AreLooks false loading →
+      HasSigns (seen rules w) places → IsCutShort (Settle places ∷ []) settling → IsOpening rules w (Err DeviceFault) (loading ++ settling)
   LooksFail :
-      (loading settling looks : List Event) (places : List (List ℕ)) →
-      AreLooks false loading → HasDone (Settle places ∷ []) settling → AreLooks true looks → IsOpening (Err DeviceFault) (loading ++ (settling ++ looks))
+      (loading settling looks : List Event) (places : List Path) →
+      AreLooks false loading →
+      HasSigns (seen rules w) places →
+      HasDone (Settle places ∷ []) settling → AreLooks true looks → IsOpening rules w (Err DeviceFault) (loading ++ (settling ++ looks))
 
 -- all jobs of the plan are Clean
 abbrev pub are_clean : Option Plan → Bool
@@ -67,7 +79,7 @@ pub record IsRun (rules : Rules) (told : Option End) (result : Result End Fault)
   pub start : Stand
   pub last : Stand
   pub events : es ≡ opening ++ rest
-  pub opens : IsOpening opened opening
+  pub opens : IsOpening rules w opened opening
   pub planned : IsPlanned rules (first_stand plan) w
   pub goes_by : GoesByAnswer rules w opened (first_stand plan) w [] start
   pub steps : Steps rules w start (run w opening) opening rest deeds last

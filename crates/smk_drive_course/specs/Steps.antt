@@ -8,9 +8,12 @@ use Rattle.smk_world.specs.Calls.{started_numbers}
 use Rattle.smk_world.specs.Devices.{AreLooks}
 use Rattle.smk_world.specs.Requests.{Request, HasDone, IsCutShort}
 use Rattle.smk_world.specs.Requests.Request.{Remove, Settle}
-use Rattle.smk_world.specs.Trees.{Path, IsIn}
+use Rattle.smk_world.specs.Trees.{Path, IsIn, Each, is_path_text}
 use Rattle.smk_flow.specs.declared.job.Job.{Job}
+use Rattle.smk_record.specs.declared.record.Member.{Member}
 use Rattle.smk_record.specs.declared.record.Stamp.{Stamp}
+use Rattle.smk_record.specs.Records.{members_of}
+use Rattle.smk_store.specs.Images.{Image, members_under, record_at}
 use Rattle.smk_trigger.specs.declared.reason.State.{State}
 use Rattle.smk_pick.specs.Rooms.{threads_in}
 use Rattle.smk_report.specs.Lines.{Ending}
@@ -61,6 +64,10 @@ pub data IsTended (guards : List Path) : Result (Unit {0}) KeepFault → List Ev
   GuardingFails : (guarding : List Event) → IsCutShort (protect_requests guards) guarding → IsTended guards (Err Device) guarding
   LooksFail : (guarding looks : List Event) → HasGuarded guards guarding → AreLooks true looks → IsTended guards (Err Device) (guarding ++ looks)
 
+-- all that is under the path is listed in its record
+abbrev pub IsAsListed : Image → Path → Type 0
+IsAsListed image p = (m : Member) → IsIn (members_under image p) m → IsIn (members_of (record_at image p)) m
+
 module _ (rules : Rules) where
   -- the calls with which a job begins
   abbrev pub calls_of : Job → List Request
@@ -76,13 +83,15 @@ module _ (rules : Rules) where
   abbrev pub MaySpend : Stand → World → List Event → Type 0
   MaySpend s w before = (s.begun ≢ []) ⊎ (may_start rules (moment_of s w before) ≡ [])
 
-  -- Outputs are removed, each while it is spent by the plan in force, which is made anew after each; and no plan is refused meanwhile.
+  -- Outputs are removed, each while it is spent by the plan in force, and nothing is under it but what its record lists. The plan is made anew after each, and
+  -- none is refused meanwhile.
   pub data AreRemoved : Stand → World → List Event → List Path → List Event → Stand → Type 0 where
     NoMore : (s : Stand) (w : World) (before : List Event) → AreRemoved s w before [] [] s
     OneMore :
         (s t u : Stand) (w : World) (before : List Event) (p : Path) (paths : List Path) (e : Event) (es : List Event) →
         IsClear rules s w before →
         IsTrue (is_spent_now rules (moment_of s w before) p) →
+        IsAsListed (seen rules w) p →
         HasDone (Remove p ∷ []) (e ∷ []) →
         IsReplanned rules s (after w e) t →
         AreRemoved t (after w e) (before ++ e ∷ []) paths es u → AreRemoved s w before (p ∷ paths) (e ∷ es) u
@@ -94,10 +103,11 @@ module _ (rules : Rules) (entry : World) where
   GoesByAnswer (Err OutOfMemory) s w events t = t ≡ halted_by fault.OutOfMemory s
   GoesByAnswer (Err Device) s w events t = t ≡ broken_by_device s
 
-  -- It is to begin; its records are to have this serial, which has 64 bits, and the stamps that its inputs have now, sources with their SHA-256, and can be
-  -- written.
+  -- It is to begin; its logs are paths; its records are to have this serial, which has 64 bits, and the stamps that its inputs have now, sources with their
+  -- SHA-256, and can be written.
   pub record IsToBegin (s : Stand) (w : World) (before : List Event) (e : Job × State) (made : ℕ) (stamps : List Stamp) : Type 0 where
     pub next : IsNext rules s w before e
+    pub logged : Each (λ p. IsTrue (is_path_text p)) e.0.logs
     pub serial : made ≡ (begun_of rules entry (moment_of s w before) e).serial
     pub stamped : map Some stamps ≡ (begun_of rules entry (moment_of s w before) e).stamps
     pub fits : made < 2 ^ 64
@@ -160,10 +170,12 @@ module _ (rules : Rules) (entry : World) where
     pub deeds_are : deeds ≡ []
     pub goes_by : GoesBy rules entry last (run w removing) (before ++ removing) t
 
-  -- No job begins any more: the job that is next is refused, or the sink failed, or memory is wanting. Sources may have been read for it.
+  -- No job begins any more: the job that is next is refused, or the sink failed, or memory is wanting. Sources may have been read for it, unless a call has
+  -- failed.
   pub record HasHalted (s : Stand) (w : World) (before es : List Event) (deeds : List Deed) (t : Stand) : Type 0 where
     pub why : Fault
     pub cause : ((s.halted ≡ None) × Refuses rules entry s w before why) ⊎ ((why ≡ fault.Output) ⊎ (why ≡ fault.OutOfMemory))
     pub only_read : AreLooks false es
+    pub quiet : s.broken ≡ true → es ≡ []
     pub deeds_are : deeds ≡ []
     pub leaves : t ≡ halted_by why s

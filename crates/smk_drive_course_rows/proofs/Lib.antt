@@ -1,3 +1,4 @@
 pub mod Clearing
 pub mod SideRow
 pub mod WrongSteps
+pub mod WrongOpening

@@ -1,6 +1,6 @@
 -- Two jobs side by side: the first one fails while the other runs, which is done; the run ends there. Their source is read before each begins, and its
 -- SHA-256 stands in their stamps.
-use Rattle.std.proofs.Common.{◌≡◌, ℕ, zero, suc, Bool, true, false, List, [], ◌∷◌, ◌++◌, codes, bytes_eq, find, map, Option, Some, None, Ok, refl, inl, inr, arith, is_some, sym, ap, ◌∙◌, true≢false}
+use Rattle.std.proofs.Common.{◌≡◌, ℕ, zero, suc, Bool, true, false, ◌&&◌, List, [], ◌∷◌, ◌++◌, codes, bytes_eq, find, map, Option, Some, None, Ok, refl, inl, inr, arith, is_some, sym, ap, ◌∙◌, true≢false}
 use Rattle.std.specs.Prelude.{if◌then◌else◌}
 use Rattle.std.specs.Fmt.{digits}
 use Rattle.hex.specs.Hex.{encode_with}
@@ -13,6 +13,7 @@ use Rattle.smk_world.specs.declared.event.Call.TheVariants.{Looked, ReadFile, Se
 use Rattle.smk_world.specs.declared.recipe.Recipe.{Recipe}
 use Rattle.smk_world.specs.World.{World, IsFormed, after, run}
 use Rattle.smk_world.specs.Requests.{AreQuiet}
+use Rattle.smk_world.specs.Trees.{is_path_text}
 use Rattle.smk_world.proofs.Names.{formed_run}
 use Rattle.smk_flow.specs.declared.job.Job.{Job}
 use Rattle.smk_record.specs.declared.record.Record.{Record}
@@ -41,7 +42,7 @@ use Rattle.smk_drive_course.specs.declared.ending.End.{End}
 use Rattle.smk_drive_course.specs.Stands.{Stand, GoesOn, ended_if, first_stand, is_job_of, moment_of, with_job, without_child}
 use Rattle.smk_drive_course.specs.Steps.{Closed, Deed, HasBegun, HasClosed, Started, Tended}
 use Rattle.smk_drive_course.specs.Breaks.{Begins, Closes, Done, Steps, Then}
-use Rattle.smk_drive_course.specs.Driven.{IsRun, Opens}
+use Rattle.smk_drive_course.specs.Driven.{HasSigns, IsRun, Opens}
 use Rattle.smk_drive_course_rows.proofs.Clearing.{anew, is_anew, Computes, is_clear}
 
 -- ## What the run goes by
@@ -259,6 +260,7 @@ a_begins =
           first = is_next (first_of (may_start rules (moment_of start_stand opened opening))) refl;
           going_on = refl;
         };
+        logged = tt;
         serial = refl;
         stamped = stamps_now;
         fits = omega arith;
@@ -290,6 +292,7 @@ b_begins =
           first = is_next (first_of (may_start rules (moment_of stand_a world_a until_a))) refl;
           going_on = refl;
         };
+        logged = tt;
         serial = refl;
         stamped = stamps_now;
         fits = omega arith;
@@ -397,6 +400,14 @@ its_steps =
     (Then stand_lost stand_done stand_done world_lost until_lost closes_b [] (Closed job_b.0 GoodEnding ∷ []) [] (Closes b_is_done)
     (Done stand_done world_done log))))
 
+never : (b : Bool) → (b && false) ≡ true → ⊥
+never true h = true≢false (sym h)
+never false h = true≢false (sym h)
+
+-- no mark stands at the entry, and no note
+no_signs : HasSigns (seen rules entry) []
+no_signs = record { marks = λ p h. absurd (never (is_path_text p) h); notes = λ p h. absurd (never (is_path_text p) h) }
+
 pub is_run : IsRun rules (Some told) (Ok told) deeds entry log
 unfolding digits encode_with
 is_run =
@@ -408,7 +419,7 @@ is_run =
       start = start_stand;
       last = stand_done;
       events = refl;
-      opens = Opens [] opening [] [] refl (refl, refl, tt) refl;
+      opens = Opens [] opening [] [] refl no_signs (refl, refl, tt) refl;
       planned = (is_clear rules start_stand entry [] formed at_entry).planned;
       goes_by = GoesOn (is_clear rules start_stand entry [] formed at_entry);
       steps = its_steps;

@@ -12,11 +12,11 @@ use Rattle.smk_world.specs.Requests.Request.{ListFolder, Look, MakeParents, Read
 use Rattle.smk_world.specs.Trees.{Path}
 use Rattle.smk_store.specs.Steps.{make_each}
 use Rattle.smk_run.specs.Closings.{wait_event}
-use Rattle.smk_drive.specs.Moments.{is_spent_now}
+use Rattle.smk_drive.specs.Moments.{is_spent_now, seen}
 use Rattle.smk_drive_rows.proofs.Truth.{head_same, not_empty}
 use Rattle.smk_drive_rows.proofs.CopyRow.{entry}
 use Rattle.smk_drive_course.specs.Stands.{Stand, IsClear, moment_of}
-use Rattle.smk_drive_course.specs.Steps.{AreRemoved, Deed, NoMore, OneMore, calls_of}
+use Rattle.smk_drive_course.specs.Steps.{AreRemoved, Deed, IsAsListed, NoMore, OneMore, calls_of}
 use Rattle.smk_drive_course.specs.Breaks.{Begins, BeginsNot, BreaksOff, Closes, FailsToWait, Halts, Leaves, ReadsNot, Spends, SpendsNot, Step, Waits}
 use Rattle.smk_drive_course_rows.proofs.SideRow.{rules, stand_a, until_a, world_a}
 
@@ -85,21 +85,21 @@ removal_first :
     (s t : Stand) (w : World) (before : List Event) (paths : List Path) (removing later more : List Event) (d : Event) →
     AreRemoved rules s w before paths removing t → paths ≢ [] → CallsWait d → d ∷ more ≡ removing ++ later → ⊥
 removal_first s t w before paths removing later more d (NoMore s1 w1 before1) some wait h = some refl
-removal_first s t w before paths removing later more d (OneMore s1 t1 u1 w1 before1 p ps e es clear spent done planned rest) some wait h =
+removal_first s t w before paths removing later more d (OneMore s1 t1 u1 w1 before1 p ps e es clear spent listed done planned rest) some wait h =
     removes_waits p (waits_on d e wait (head_same d e more (es ++ later) h) ∙ done.0)
 
 failing_first :
     (s t : Stand) (w : World) (before : List Event) (paths : List Path) (removing more : List Event) (d failing : Event) →
     AreRemoved rules s w before paths removing t → CallsWait d → (CallsWait failing → ⊥) → d ∷ more ≡ removing ++ failing ∷ [] → ⊥
 failing_first s t w before paths removing more d failing (NoMore s1 w1 before1) wait other h = other (waits_on d failing wait (head_same d failing more [] h))
-failing_first s t w before paths removing more d failing (OneMore s1 t1 u1 w1 before1 p ps e es clear spent done planned rest) wait other h =
+failing_first s t w before paths removing more d failing (OneMore s1 t1 u1 w1 before1 p ps e es clear spent listed done planned rest) wait other h =
     removes_waits p (waits_on d e wait (head_same d e more (es ++ failing ∷ []) h) ∙ done.0)
 
 removes_or_settles :
-    (P Q : Path → Type 0) (paths : List Path) (e : Event) →
-    ((p : Path) × (request e.call ≡ Remove p) × P p × Q p) ⊎ (request e.call ≡ Settle paths) → CallsWait e → ⊥
-removes_or_settles P Q paths e (inl x) w = removes_waits x.0 (w ∙ x.1)
-removes_or_settles P Q paths e (inr x) w = settles_waits paths (w ∙ x)
+    (P Q R : Path → Type 0) (S : Type 0) (paths : List Path) (e : Event) →
+    ((p : Path) × (request e.call ≡ Remove p) × P p × Q p × R p) ⊎ ((request e.call ≡ Settle paths) × S) → CallsWait e → ⊥
+removes_or_settles P Q R S paths e (inl x) w = removes_waits x.0 (w ∙ x.1)
+removes_or_settles P Q R S paths e (inr x) w = settles_waits paths (w ∙ x.0)
 
 -- Where one of the two has begun and the other may start, no step begins with a wait.
 pub waits_early :
@@ -119,6 +119,6 @@ waits_early ended left more deeds t (BeginsNot h) =
     (λ same. marks_cut _ _ _ (wait_event ended left) more refl (subst (λ es. IsCutShort (calls_of rules h.job.0) es) (sym same) h.calls)) h.events
 waits_early ended left more deeds t (SpendsNot h) =
     failing_first stand_a h.last world_a until_a h.paths h.removing more (wait_event ended left) h.failing h.removed refl (removes_or_settles (λ p. IsClear rules h.last (run world_a h.removing) (until_a ++ h.removing))
-    (λ p. IsTrue (is_spent_now rules (moment_of h.last (run world_a h.removing) (until_a ++ h.removing)) p)) h.paths h.failing h.called) h.events
+    (λ p. IsTrue (is_spent_now rules (moment_of h.last (run world_a h.removing) (until_a ++ h.removing)) p)) (IsAsListed (seen rules (run world_a h.removing))) (h.paths ≢ []) h.paths h.failing h.called) h.events
 waits_early ended left more deeds t (Waits h) = true≢false (sym h.broken)
 waits_early ended left more deeds t (FailsToWait h) = not_empty _ _ (h.none_left refl refl)

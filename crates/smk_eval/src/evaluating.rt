@@ -23,6 +23,7 @@ use smk_eval_rules::{global_limits, rule_part};
 use smk_eval_values::value_of;
 use smk_flaws::{EvalFault, LoadFault};
 use smk_flow::Workflow;
+use smk_flow_build::build;
 use smk_parse_tree::{Expr, Form, ItemForm, RuleForm};
 use std::alloc::Global;
 
@@ -179,7 +180,7 @@ fn checked(alloc: Global, said: Said) -> Result<Workflow, EvalFault>
     ensures ok { IfOk result (λ flow. (flow ≡ record { rules = said.rules; orders = said.orders }) × IsWorkflow said.rules said.orders) }
     ensures fault { IfErr result (λ f. f ≢ EvalFault.OutOfMemory → (g : FlowFault) × IsFault said.rules said.orders g × (f ≡ of_flow g)) }
 {
-    Ok(Workflow::build(alloc, said.rules, said.orders)?)
+    Ok(build(alloc, said.rules, said.orders)?)
 }
 
 /// The workflow that the files say, with this configuration. The first file is the one to begin with; after it come the files of its

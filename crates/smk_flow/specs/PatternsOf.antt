@@ -3,7 +3,7 @@ use Rattle.std.specs.Prelude.{◌≡◌, List, [], map}
 use Rattle.smk_pattern.specs.Reading.{shape_of}
 use Rattle.smk_flow.specs.declared.rule.RulePart.{RulePart}
 use Rattle.smk_flow.specs.declared.rule.Clause.{Clause}
-use Rattle.smk_flow.specs.declared.reading.Patterns.{Patterns}
+use Rattle.smk_flow.specs.declared.workflow.Patterns.{Patterns}
 use Rattle.smk_flow.specs.declared.workflow.Rule.{Rule}
 use Rattle.smk_flow.specs.Checks.{out_texts, IsWorkflow}
 

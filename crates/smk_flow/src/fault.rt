@@ -1,4 +1,5 @@
-use smk_base::Text;
+use smk_base::{OutOfMemory, Text};
+use std::alloc::AllocFailed;
 
 /// Why rules make no workflow. A rule's file and line are those of its statement.
 #[derive(Debug, Drop)]
@@ -69,4 +70,70 @@ pub enum TargetFault {
     /// This word is neither a rule nor a path, or names a rule that has wildcards, or one that has a command and no outputs.
     BadTarget(Text),
     OutOfMemory,
+}
+
+impl From<OutOfMemory> for FlowFault {
+    ghost use Rattle.std.specs.Prelude.{◌≡◌};
+    ghost use Rattle.smk_flow.specs.declared.fault.FlowFault.{FlowFault};
+
+    ghost from_gives = { λ _ fault. fault ≡ FlowFault.OutOfMemory };
+
+    fn from(_: OutOfMemory) -> FlowFault {
+        FlowFault::OutOfMemory
+    }
+}
+
+impl<T: Drop> From<AllocFailed<T>> for FlowFault {
+    ghost use Rattle.std.specs.Prelude.{◌≡◌};
+    ghost use Rattle.smk_flow.specs.declared.fault.FlowFault.{FlowFault};
+
+    ghost from_gives = { λ _ fault. fault ≡ FlowFault.OutOfMemory };
+
+    fn from(_: AllocFailed<T>) -> FlowFault {
+        FlowFault::OutOfMemory
+    }
+}
+
+impl From<OutOfMemory> for JobFault {
+    ghost use Rattle.std.specs.Prelude.{◌≡◌};
+    ghost use Rattle.smk_flow.specs.declared.fault.JobFault.{JobFault};
+
+    ghost from_gives = { λ _ fault. fault ≡ JobFault.OutOfMemory };
+
+    fn from(_: OutOfMemory) -> JobFault {
+        JobFault::OutOfMemory
+    }
+}
+
+impl<T: Drop> From<AllocFailed<T>> for JobFault {
+    ghost use Rattle.std.specs.Prelude.{◌≡◌};
+    ghost use Rattle.smk_flow.specs.declared.fault.JobFault.{JobFault};
+
+    ghost from_gives = { λ _ fault. fault ≡ JobFault.OutOfMemory };
+
+    fn from(_: AllocFailed<T>) -> JobFault {
+        JobFault::OutOfMemory
+    }
+}
+
+impl From<OutOfMemory> for TargetFault {
+    ghost use Rattle.std.specs.Prelude.{◌≡◌};
+    ghost use Rattle.smk_flow.specs.declared.fault.TargetFault.{TargetFault};
+
+    ghost from_gives = { λ _ fault. fault ≡ TargetFault.OutOfMemory };
+
+    fn from(_: OutOfMemory) -> TargetFault {
+        TargetFault::OutOfMemory
+    }
+}
+
+impl<T: Drop> From<AllocFailed<T>> for TargetFault {
+    ghost use Rattle.std.specs.Prelude.{◌≡◌};
+    ghost use Rattle.smk_flow.specs.declared.fault.TargetFault.{TargetFault};
+
+    ghost from_gives = { λ _ fault. fault ≡ TargetFault.OutOfMemory };
+
+    fn from(_: AllocFailed<T>) -> TargetFault {
+        TargetFault::OutOfMemory
+    }
 }

@@ -1,57 +1,27 @@
-//! The names in texts.
+//! The names in texts, and what is one.
 
-ghost use Rattle.std.specs.Prelude.{◌≡◌, ◌++◌, IfOk, OnOk};
+ghost use Rattle.std.specs.Prelude.{◌≡◌, ◌||◌, IfOk};
 ghost use Rattle.std.specs.List.{list_all};
+ghost use Rattle.std.specs.Int.{is_in_range};
+ghost use Rattle.smk_pattern.specs.Grammar.{is_letter, is_name};
 ghost use Rattle.smk_pattern.specs.Searching.{now_of};
-ghost use Rattle.smk_flow.specs.Checks.{has, names_of, are_same, wildcards_of, are_all_same, unknown_in};
+ghost use Rattle.smk_flow.specs.Checks.{names_of, wildcards_of, wildcards};
 
+use crate::rule::RulePart;
+use crate::texts::out_texts;
 use smk_base::OutOfMemory;
 use smk_pattern::wildcard_names;
 use std::alloc::Global;
 
-// Whether the name is one of these.
-pub(crate) fn has(names: &[&str], name: &str) -> bool
-    ensures { result ≡ has (now_of names.now) name.now }
-{
-    for other in names {
-        if name == *other {
-            return true;
-        }
-    }
-    false
-}
-
-// Whether each of the others is one of the names.
-fn has_all(names: &[&str], others: &[&str]) -> bool
-    ensures { result ≡ list_all (has (now_of names.now)) (now_of others.now) }
-{
-    for other in others {
-        if !has(names, other) {
-            return false;
-        }
-    }
-    true
-}
-
-// Whether they are the same names. They are few, so each is looked for among all.
-fn are_same(a: &[&str], b: &[&str]) -> bool
-    ensures { result ≡ are_same (now_of a.now) (now_of b.now) }
-{
-    has_all(b, a) && has_all(a, b)
-}
-
-// The names in a text.
-pub(crate) fn names_of(alloc: Global, text: &str) -> Result<Vec<&str>, OutOfMemory>
+/// The names that stand in a text, each once; none where its braces aren't balanced. `OutOfMemory` where there is no memory for them.
+pub fn names_of(alloc: Global, text: &str) -> Result<Vec<&str>, OutOfMemory>
     ensures { IfOk result (λ names. now_of names.items ≡ names_of text.now) }
 {
     wildcard_names(alloc, text)
 }
 
-// The names in the first of these texts.
-pub(crate) fn wildcards_of<'p>(
-    alloc: Global,
-    texts: &[&'p str],
-) -> Result<Vec<&'p str>, OutOfMemory>
+/// The names in the first of these texts. `OutOfMemory` where there is no memory for them.
+pub fn wildcards_of<'p>(alloc: Global, texts: &[&'p str]) -> Result<Vec<&'p str>, OutOfMemory>
     ensures { IfOk result (λ names. now_of names.items ≡ wildcards_of (now_of texts.now)) }
 {
     match texts {
@@ -60,32 +30,46 @@ pub(crate) fn wildcards_of<'p>(
     }
 }
 
-// Whether the texts all have the same names.
-pub(crate) fn are_all_same(alloc: Global, texts: &[&str]) -> Result<bool, OutOfMemory>
-    ensures { IfOk result (λ same. same ≡ are_all_same (now_of texts.now)) }
+/// The wildcards of the rule: those of its first output. `OutOfMemory` where there is no memory for them.
+pub fn wildcards(alloc: Global, part: &RulePart) -> Result<Vec<&str>, OutOfMemory>
+    ensures { IfOk result (λ names. now_of names.items ≡ wildcards part.now) }
 {
-    let first = wildcards_of(alloc, texts)?;
-    for text in texts {
-        let names = names_of(alloc, text)?;
-        if !are_same(&first, &names) {
-            return Ok(false);
-        }
-    }
-    Ok(true)
+    let texts = out_texts(alloc, part)?;
+    wildcards_of(alloc, &texts)
 }
 
-// Adds those of these names that aren't known.
-pub(crate) fn add_unknown<'p>(
-    found: &mut Vec<&'p str>,
-    known: &[&str],
-    names: &[&'p str],
-) -> Result<(), OutOfMemory>
-    ensures { OnOk result (now_of found.new.items ≡ now_of found.old.items ++ unknown_in (now_of known.now) (now_of names.now)) }
+// Whether the byte may begin a name.
+fn is_letter(byte: u8) -> bool
+    ensures { result ≡ is_letter byte }
 {
-    for name in names {
-        if !has(known, name) {
-            found.push(name)?;
+    (b'A'..=b'Z').contains(&byte) || (b'a'..=b'z').contains(&byte) || byte == b'_'
+}
+
+// Whether the byte may stand in a name.
+fn is_name_byte(byte: u8) -> bool
+    ensures { result ≡ (is_letter byte || is_in_range 48 57 byte) }
+{
+    is_letter(byte) || (b'0'..=b'9').contains(&byte)
+}
+
+// Whether each byte may stand in a name.
+fn are_name_bytes(bytes: &[u8]) -> bool
+    ensures { result ≡ list_all (λ c. is_letter c || is_in_range 0x30 0x39 c) bytes.now }
+{
+    for byte in bytes {
+        if !is_name_byte(*byte) {
+            return false;
         }
     }
-    Ok(())
+    true
+}
+
+/// Whether the text can be the name of a wildcard. It takes no memory.
+pub fn is_name(text: &str) -> bool
+    ensures { result ≡ is_name text.now }
+{
+    match text.as_bytes() {
+        [] => false,
+        [first, later @ ..] => is_letter(*first) && are_name_bytes(later),
+    }
 }

@@ -11,8 +11,8 @@ use crate::rule::{FlaggedText, RulePart};
 use smk_base::{OutOfMemory, Text};
 use std::alloc::Global;
 
-// Adds these texts.
-pub(crate) fn add_texts<'p>(found: &mut Vec<&'p str>, texts: &'p [Text]) -> Result<(), OutOfMemory>
+/// Adds these texts behind those that were found. `OutOfMemory` where there is no memory for them.
+pub fn add_texts<'p>(found: &mut Vec<&'p str>, texts: &'p [Text]) -> Result<(), OutOfMemory>
     ensures { OnOk result (now_of found.new.items ≡ now_of found.old.items ++ texts.now) }
 {
     for text in texts {
@@ -31,8 +31,8 @@ fn add_outs<'p>(found: &mut Vec<&'p str>, outs: &'p [FlaggedText]) -> Result<(),
     Ok(())
 }
 
-// The texts of the outputs.
-pub(crate) fn out_texts(alloc: Global, part: &RulePart) -> Result<Vec<&str>, OutOfMemory>
+/// The texts of the rule's outputs, in order. `OutOfMemory` where there is no memory for them.
+pub fn out_texts(alloc: Global, part: &RulePart) -> Result<Vec<&str>, OutOfMemory>
     ensures { IfOk result (λ texts. now_of texts.items ≡ out_texts part.now) }
 {
     let mut found = Vec::new(alloc);
@@ -40,16 +40,6 @@ pub(crate) fn out_texts(alloc: Global, part: &RulePart) -> Result<Vec<&str>, Out
         add_outs(&mut found, item.outs.as_slice())?;
     }
     Ok(found)
-}
-
-// Adds these texts.
-pub(crate) fn add_names<'p>(found: &mut Vec<&'p str>, names: &[&'p str]) -> Result<(), OutOfMemory>
-    ensures { OnOk result (now_of found.new.items ≡ now_of found.old.items ++ now_of names.now) }
-{
-    for name in names {
-        found.push(name)?;
-    }
-    Ok(())
 }
 
 // Adds these outputs.
@@ -65,8 +55,8 @@ fn lend_outs<'p>(
     Ok(())
 }
 
-// The outputs in order.
-pub(crate) fn outs(alloc: Global, part: &RulePart) -> Result<Vec<&FlaggedText>, OutOfMemory>
+/// The rule's outputs, in order. `OutOfMemory` where there is no memory for them.
+pub fn outs(alloc: Global, part: &RulePart) -> Result<Vec<&FlaggedText>, OutOfMemory>
     ensures { IfOk result (λ found. all_lent found.items ≡ outs part.now) }
 {
     let mut found = Vec::new(alloc);

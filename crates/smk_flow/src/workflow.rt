@@ -1,21 +1,24 @@
 //! Checked workflows.
 
-ghost use Rattle.std.specs.Prelude.{◌≡◌, ◌≢◌, ◌<◌, [], length, map, reverse, IfOk, IfErr, OnOk};
-ghost use Rattle.smk_flow.specs.declared.fault.FlowFault.{FlowFault};
-ghost use Rattle.smk_flow.specs.Checks.{AllPass, IsWorkflow, IsFault};
+ghost use Rattle.std.specs.Prelude.{◌≡◌, ◌<◌, [], length, map, reverse, IfOk};
+ghost use Rattle.smk_flow.specs.Checks.{AllPass, IsWorkflow};
 ghost use Rattle.smk_flow.specs.Flows.{number_of};
 ghost use Rattle.smk_flow.specs.Numbers.{AreNames, parts_of};
 ghost use Rattle.smk_flow.specs.PatternsOf.{patterns_of, rule_of};
 
-use crate::checks::check;
-use crate::fault::FlowFault;
-use crate::reading::Patterns;
 use crate::{Clause, RulePart};
 use indexmap::IndexSet;
 use smk_base::{List, OutOfMemory};
 use smk_pattern::Pattern;
 use std::alloc::Global;
 use std::marker::Model;
+
+/// The patterns of a rule's outputs and of its logs, in order.
+#[derive(Debug, Drop)]
+pub struct Patterns {
+    pub outputs: List<Pattern>,
+    pub logs: List<Pattern>,
+}
 
 /// A rule with the patterns of its outputs and of its logs, in order.
 #[derive(Debug, Drop)]
@@ -101,30 +104,25 @@ fn rule_names(alloc: Global, rules: &[Rule]) -> Result<IndexSet<String>, OutOfMe
 }
 
 impl Workflow {
-    /// The workflow of these rules and clauses, in order. Exactly where they make none, the fault is the first thing that is wrong with
-    /// them: rules in order, each by its name, its texts, its wildcards and its flags, and then the clauses. `OutOfMemory` where
+    /// The workflow of these rules, whose patterns these are, and of these clauses, in order. They pass all checks. `OutOfMemory` where
     /// there is no memory for it, which is also the answer where the rules are 2^32 or more.
-    pub fn build(
+    pub fn checked(
         alloc: Global,
         parts: List<RulePart>,
+        patterns: List<Patterns>,
         orders: List<Clause>,
-    ) -> Result<Workflow, FlowFault>
-        ensures ok { IfOk result (λ flow. flow ≡ record { rules = parts; orders = orders }) }
-        ensures is { OnOk result (IsWorkflow parts orders) }
-        ensures fault { IfErr result (λ f. f ≢ FlowFault.OutOfMemory → IsFault parts orders f) }
+    ) -> Result<Workflow, OutOfMemory>
+        requires workflow { IsWorkflow parts orders }
+        requires patterns { patterns ≡ map patterns_of parts }
+        ensures { IfOk result (λ flow. flow ≡ record { rules = parts; orders = orders }) }
     {
-        match check(alloc, parts.as_slice(), orders.as_slice()) {
-            Err(fault) => Err(fault),
-            Ok(patterns) => {
-                let rules = turned(alloc, paired(alloc, parts, patterns)?)?;
-                let names = rule_names(alloc, rules.as_slice())?;
-                Ok(Workflow {
-                    rules,
-                    orders,
-                    names,
-                })
-            }
-        }
+        let rules = turned(alloc, paired(alloc, parts, patterns)?)?;
+        let names = rule_names(alloc, rules.as_slice())?;
+        Ok(Workflow {
+            rules,
+            orders,
+            names,
+        })
     }
 
     /// The rules in order, lent, each with the patterns of its texts. A rule's number is its place, from 0. With the clauses they pass all

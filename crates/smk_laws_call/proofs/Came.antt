@@ -1,5 +1,5 @@
 -- A folder that came by calls is one of a history; so the laws of the call hold of the next call, with no premise on the folder.
-use Rattle.std.proofs.Common.{◌≡◌, ◌⊎◌, inl, inr, true, List, [], ◌++◌, refl, sym, subst, ◌∙◌, Option, Some, None, Bool, false, not, ◌∷◌, ap, Result, Ok, Err, true≢false, ℕ}
+use Rattle.std.proofs.Common.{◌≡◌, ◌⊎◌, inl, true, List, [], refl, sym, subst, ◌∙◌, Option, Some, None, Bool, false, not, ◌∷◌, ap, Result, Ok, Err, true≢false, ℕ}
 use Rattle.std.proofs.lemmas.Option.{same_Some}
 use Rattle.smk_world.specs.declared.event.Event.{Event}
 use Rattle.smk_world.specs.World.{World, run, is_within}
@@ -13,16 +13,16 @@ use Rattle.smk_store.specs.Trust.{Versions, SumsDiffer}
 use Rattle.smk_laws_history.specs.Histories as histories
 use Rattle.smk_laws_history.specs.Histories.{History, DifferInSums, IsCall, IsHeld}
 use Rattle.smk_laws_history.proofs.HistoryLaw.{every_world_sound, fewer_differ, on_left, versions_differ}
-use Rattle.smk_laws_history.proofs.HistoryListedRuns.{run_is_call}
+use Rattle.smk_laws_lock.proofs.Parts.{parts_are_call}
 use Rattle.smk_report.specs.declared.fault.Fault.{Fault}
 use Rattle.smk_words_reading.specs.declared.asked.Asked.{Asked as Request}
-use Rattle.smk_words_reading.specs.declared.asked.Asked.TheVariants.{Run, Unlock, Forget}
+use Rattle.smk_words_reading.specs.declared.asked.Asked.TheVariants.{Run, Forget}
 use Rattle.smk_world.specs.Calls.{Rose, owned_now}
-use Rattle.smk_world.specs.Devices.{Device, Sunk}
+use Rattle.smk_world.specs.Devices.{Device}
 use Rattle.smk_world.specs.Requests.Request.{Remove as RemoveRequest, Settle}
 use Rattle.smk_base.specs.Place.{lock_place}
 use Rattle.smk_store.specs.Unowned.{NoneOwned}
-use Rattle.smk_laws_protocol.specs.Forgetting.{Stage, Resting, Stopped, ForgetsAll, Done, is_resting}
+use Rattle.smk_laws_protocol.specs.Forgetting.{Stage, Resting, ForgetsAll, Done, is_resting}
 use Rattle.smk_laws_history.proofs.HistoryListedForgetting.{forgetting_is_call}
 use Rattle.smk_keep_lock.specs.declared.fault.UnlockFault.{UnlockFault}
 use Rattle.smk_keep_lock.specs.declared.fault.UnlockFault.TheVariants as unlock
@@ -37,14 +37,14 @@ use Rattle.smk_laws_keys.proofs.Safe.{cleaned_runs}
 use Rattle.smk_cli.specs.Keys.{Keeps, NoMemory, Unlocks, Forgets}
 use Rattle.smk_exit.proofs.Clean.{run_leaves_all_clean}
 use Rattle.smk_clean.specs.Safe.{IsSafeCall}
-use Rattle.smk_clean.proofs.Safe.{call_is_safe}
+use Rattle.smk_clean.proofs.Serving.{call_is_safe}
 use Rattle.smk_clean.proofs.Clean.{call_is_clean, call_leaves_none, none_forced}
 use Rattle.smk_whole.proofs.Calling.{call_is_complete}
 use Rattle.smk_whole.proofs.Working.{same_events}
 use Rattle.smk_laws_call.specs.Headline.{IsCalled, IsKeptCall, Came, Begin, Edit, Remove, Call, Keep, Crash, CrashKeeping, HasHeld, SumsDifferIn, CameIsHistory, CameIsSound, Headline}
 use Rattle.smk_laws_call.specs.Started.{StartsOnFinished}
-use Rattle.smk_laws_call.proofs.Started.{runs_start_on_finished}
-use Rattle.smk_laws_call.proofs.Telling.{went_tells}
+use Rattle.smk_laws_call.proofs.Started.{parts_start_on_finished}
+use Rattle.smk_laws_call.proofs.Telling.{ran_tells}
 
 module _ (act : Act) where
   abbrev o : Outside
@@ -62,8 +62,7 @@ module _ (act : Act) where
       (w v : World) (H : Versions) (request : Request) (told : Option Fault) → SumsDiffer H → SoundWorld o w H → IsCalled o request told w v →
       (es : List Event) × (v ≡ run w es) × IsCall o w es [] true
   is_call w v H request told differ sound called =
-      let s = safe w v H request told differ sound called in
-      let p = s.3.follows_protocol in (s.0, s.2, run_is_call o w p.0 s.0 p.2.0 p.1 s.1 p.2.1)
+      let s = safe w v H request told differ sound called in (s.0, s.2, parts_are_call o w s.0 s.1 s.3.follows_protocol)
 
   -- ## The lock, and what is known of paths
 
@@ -218,14 +217,14 @@ came_is_sound act w H came differ = sound_in act w H (HasHeld act w H came) diff
 pub headline : Headline
 headline act w v H words told came differ called =
     record {
-      tells = went_tells (outside act) H w v sound.0 sound.1 reads_records words (none_forced words called.served.built) called.served.answer called.old called.new called.out_old called.out_new called.begins called.ends called.served.serves;
+      tells = ran_tells (outside act) H w v sound.0 sound.1 reads_records words (none_forced words called.served.built) called.served.answer
+          called.old called.new called.out_old called.out_new called.begins called.ends called.served.serves;
       clean = call_is_clean run_leaves_all_clean (outside act) H words told w v called.old called.new called.out_old called.out_new called.begins called.ends reads_records sound.0 sound.1 called.served;
       none_left = call_leaves_none run_leaves_all_clean (outside act) H words told w v called.old called.new called.out_old called.out_new called.begins called.ends reads_records sound.0 sound.1 called.served;
       finished = λ log is.
           let s = safe act w v H (Run words) told sound.0 sound.1 called in
-          let p = s.3.follows_protocol in
           let same = same_events w s.0 log (sym s.2 ∙ is) in
-          subst (StartsOnFinished (outside act) w) same (runs_start_on_finished (outside act) w H p.0 s.0 p.2.0 sound.0 sound.1 p.1 s.1 p.2.1);
+          subst (StartsOnFinished (outside act) w) same (parts_start_on_finished (outside act) w H s.0 sound.0 sound.1 s.1 s.3.follows_protocol);
       complete = λ unrefused values never.
           call_is_complete act record_in words w v H told called.old called.new called.out_old called.out_new called.begins called.ends
           (record { differ = sound.0; sound = sound.1; unrefused = unrefused; values = values }) never called.served;

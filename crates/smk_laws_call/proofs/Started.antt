@@ -1,5 +1,5 @@
 -- A child is started for an open job, and what an open job reads is at hand.
-use Rattle.std.proofs.Common.{◌≡◌, ◌⊎◌, ℕ, zero, suc, Bool, true, false, cond, List, [], ◌∷◌, ◌++◌, zip, length, refl, sym, ap, subst, inl, inr, ◌∙◌, Option, Some, None, Result, Ok, true≢false}
+use Rattle.std.proofs.Common.{◌≡◌, ℕ, zero, suc, Bool, true, false, cond, List, [], ◌∷◌, ◌++◌, zip, length, refl, sym, ap, subst, inl, inr, ◌∙◌, Option, Some, None}
 use Rattle.std.proofs.lemmas.Option.{same_Some}
 use Rattle.smk_world.specs.declared.recipe.Recipe.{Recipe}
 use Rattle.smk_world.specs.declared.event.Call.{Call}
@@ -11,11 +11,16 @@ use Rattle.smk_world.specs.Trees.{Path, Each, IsIn}
 use Rattle.smk_record.specs.declared.record.Stamp.{Stamp}
 use Rattle.smk_store.specs.Images.{Image, Content, file_at, is_source, seen}
 use Rattle.smk_store.specs.Soundness.{Outside}
-use Rattle.smk_laws_protocol.specs.Protocol.{OpenJob, RunState, Phase, Moves, MakeFolders, Mark, AllMarked, MakeRoom, Start, Wait, AllMade, Write, AllWritten, Drop, AllDropped, Unmark, Closes, AllUnmarked, Besides, Look, Lock, Settle, Spend, Protect, IsAtHand, IsFirst, IsLock, IsLook, Step, Aside, Steady, Begin, Go, Close, Fail, FailWait, Runs, Done, Next, as_ok, begun_with, eased}
+use Rattle.smk_laws_protocol.specs.Protocol.{OpenJob, RunState, Phase, Moves, MakeFolders, Mark, AllMarked, MakeRoom, Start, Wait, AllMade, Write, AllWritten, Drop, AllDropped, Unmark, Closes, AllUnmarked, Besides, Look, Lock, Settle, Spend, Protect, IsAtHand, IsFirst, IsLock, IsLook, Step, Aside, Steady, Begin, Go, Close, Fail, FailWait, Runs, Done, Next, as_ok, eased}
 use Rattle.smk_laws_protocol.specs.Midway.{Fits, at_entry}
 use Rattle.smk_laws_protocol.proofs.Basics.{each_in, each_of}
 use Rattle.smk_laws_protocol.proofs.MidwayHolds.{holds_midway}
-use Rattle.smk_laws_call.specs.Started.{IsFinished, ASource, AnOutput, RunsStartOnFinished}
+use Rattle.smk_store.specs.Soundness.{SoundWorld}
+use Rattle.smk_store.specs.Trust.{Versions, SumsDiffer}
+use Rattle.smk_world.proofs.Runs.{run_append}
+use Rattle.smk_laws_lock.specs.Parts.{AreRuns, One, Then}
+use Rattle.smk_laws_lock.proofs.Parts.{follows_after, parts_are_safe, split_before}
+use Rattle.smk_laws_call.specs.Started.{IsFinished, ASource, AnOutput, RunsStartOnFinished, StartsOnFinished}
 
 -- ## The state before an event
 
@@ -172,7 +177,7 @@ stamped_at P (p ∷ ps) (s ∷ ss) l h q (inl e) = (s, subst (λ x. P (x, s)) (s
 stamped_at P (p ∷ ps) (s ∷ ss) l h q (inr i) = stamped_at P ps ss (down (length ss) (length ps) l) h.1 q i
 
 pub runs_start_on_finished : RunsStartOnFinished
-runs_start_on_finished o entry H top log s differ sound is follows runs events rest e recipe logs command r split call =
+runs_start_on_finished o entry H top log s differ sound is follows runs events rest e recipe logs text r split call =
     let here = before_step o (at_entry o top) s entry events rest e (subst (λ es. Runs o (at_entry o top) entry es s) split runs) in
     let between =
     holds_midway o entry H top events here.0 differ sound is (front_follows o entry events (e ∷ rest) (subst (Follows o.act entry) split follows)) here.1 in
@@ -183,3 +188,20 @@ runs_start_on_finished o entry H top log s differ sound is follows runs events r
     let stamp =
     stamped_at (IsAtHand o (seen o.read (run entry events))) (in_paths job.0.recipe) job.0.stamps fits.each_stamped fits.at_hand q i in
     finished o (seen o.read (run entry events)) q stamp.0 stamp.1))
+
+-- so along runs of the protocol one after another
+pub parts_start_on_finished :
+    (o : Outside) (entry : World) (H : Versions) (log : List Event) → SumsDiffer H → SoundWorld o entry H → Follows o.act entry log → AreRuns o entry log →
+    StartsOnFinished o entry log
+parts_start_on_finished o entry H log differ sound follows (One _ _ (top, is, (s, runs))) events rest e recipe logs text r split call =
+    runs_start_on_finished o entry H top log s differ sound is follows runs events rest e recipe logs text r split call
+parts_start_on_finished o entry H log differ sound follows (Then _ es fs _ (top, is, (s, runs)) alone more both) events rest e recipe logs text r split call =
+    let follows_both : Follows o.act entry (es ++ fs) = subst (Follows o.act entry) both follows in
+    let first = front_follows o entry es fs follows_both in
+    let mid = (parts_are_safe o entry H es differ sound first (One entry es (top, is, (s, runs)))).at_end alone in
+    elim (split_before es fs events rest e (sym both ∙ split)) [
+      | inl k ↦ runs_start_on_finished o entry H top es s differ sound is first runs events k.0 e recipe logs text r k.1 call
+      | inr k ↦
+          subst (λ (v : World). Each (IsFinished (seen o.read v)) (in_paths recipe)) (sym (ap (run entry) k.1 ∙ run_append entry es k.0))
+          (parts_start_on_finished o (run entry es) H fs differ mid (follows_after o entry es fs follows_both) more k.0 rest e recipe logs text r k.2 call)
+    ]

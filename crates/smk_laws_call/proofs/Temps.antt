@@ -1,5 +1,5 @@
 -- The jobs of a workflow all of whose forms a run can do make nothing temporary.
-use Rattle.std.proofs.Common.{◌≡◌, Bool, true, false, List, [], ◌∷◌, ap, sym, subst, ◌∙◌, refl, inl, inr, map, filter, flat_map, None}
+use Rattle.std.proofs.Common.{◌≡◌, Bool, false, List, [], ◌∷◌, ap, sym, subst, ◌∙◌, refl, inl, inr, map, filter, flat_map, None}
 use Rattle.std.specs.Prelude.{if◌then◌else◌}
 use Rattle.std.specs.List.{list_any}
 use Rattle.smk_world.specs.Trees.{Path, Each, IsIn}
@@ -9,7 +9,7 @@ use Rattle.smk_flow.specs.declared.rule.OutPart.{OutPart}
 use Rattle.smk_flow.specs.declared.rule.FlaggedText.{FlaggedText}
 use Rattle.smk_flow.specs.declared.rule.Flag.{Flag}
 use Rattle.smk_flow.specs.declared.rule.Flag.TheVariants.{Temp}
-use Rattle.smk_flow.specs.Flows.{Flow, Candidate, is_temp, outs}
+use Rattle.smk_flow.specs.Flows.{Flow, Candidate, is_temp}
 use Rattle.smk_flow.specs.Jobs.{flagged, is_flagged}
 use Rattle.smk_pattern.specs.Reading.{fill}
 use Rattle.smk_choose.specs.Choose.{Sources, choose, Make}

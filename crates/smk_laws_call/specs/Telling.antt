@@ -1,5 +1,5 @@
 -- What a run tells of its targets.
-use Rattle.std.specs.Prelude.{◌≡◌, Bool, true, List, [], ◌++◌, Option, Some, Ok}
+use Rattle.std.specs.Prelude.{◌≡◌, Bool, true, List, [], ◌++◌, Some, Ok}
 use Rattle.smk_world.specs.World.{World}
 use Rattle.smk_world.specs.Devices.{Sunk}
 use Rattle.smk_world.specs.Trees.{Path, IsIn}

@@ -9,7 +9,7 @@ use Rattle.smk_flow.specs.Flows.{Flow, Candidate}
 use Rattle.smk_choose.specs.Choose.{Source, Make, choose}
 use Rattle.smk_store.specs.Images.{Image, Content, file_at, is_source, source_at, sources, holds_source}
 use Rattle.smk_store.specs.Trust.{Versions}
-use Rattle.smk_store.specs.Soundness.{told}
+use Rattle.smk_store.specs.Soundness.{SameSources, told}
 use Rattle.smk_chain.specs.Derive.{job, walk, wants, distinct, same_candidate, sources_of}
 use Rattle.smk_chain.specs.Mean.{setting_of, clean_value}
 use Rattle.smk_pick.specs.declared.settings.Settings.{Settings}
@@ -132,19 +132,19 @@ bytes_told : (o : Option Content) → option_map (λ (f : Content). f.bytes) o �
 bytes_told None = refl
 bytes_told (Some f) = refl
 
-pub same_values : SameValues
-same_values flow act has_fields a b in_a in_b same p =
+-- complete images with the same sources have the same paths as sources, and the same paths hold one
+pub sources_alike : (a b : Image) → IsComplete a → IsComplete b → SameSources a b → sources_of a ≡ sources_of b
+sources_alike a b in_a in_b same =
     let is : (p : Path) → is_source a p ≡ is_source b p = λ p. source_by a p ∙ (ap is_some (sym (same p)) ∙ sym (source_by b p)) in
     let holds : (p : Path) → holds_source a p ≡ holds_source b p =
     λ p. same_bool (holds_source a p) (holds_source b p) (held_too a b in_b is p) (held_too b a in_a (λ p. sym (is p)) p) in
+    λ i. record { is = λ p. is p i; holds = λ p. holds p i }
+
+pub same_values : SameValues
+same_values flow act has_fields a b in_a in_b same p =
+    let srcs : sources_of a ≡ sources_of b = sources_alike a b in_a in_b same in
     let bytes : (p : Path) → option_map (λ (f : Content). f.bytes) (source_at a p) ≡ option_map (λ (f : Content). f.bytes) (source_at b p) =
     λ p. bytes_told (source_at a p) ∙ (ap (option_map (λ (t : List ℕ × ℕ). t.0)) (sym (same p)) ∙ sym (bytes_told (source_at b p))) in
     let settings : setting_of flow act has_fields a ≡ setting_of flow act has_fields b =
-    λ i. record {
-      flow = flow;
-      act = act;
-      has_fields = has_fields;
-      sources = record { is = λ p. is p i; holds = λ p. holds p i };
-      bytes = λ p. bytes p i;
-    } in
+    λ i. record { flow = flow; act = act; has_fields = has_fields; sources = srcs i; bytes = λ p. bytes p i } in
     ap (λ S. clean_value S p) settings

@@ -140,7 +140,7 @@ module _ (flow : Flow) (srcs : Sources) (L M : Listings) where
       go (Make d) e k ih = parts d e (in_either c (flat_map (walk flow srcs L n) (wants flow L d)) (d ∷ []) k) ih
 
 -- no record stands at a source
-source_files : (image : Image) (f : Path) → is_source image f ≡ true → files_listed image f ≡ []
+pub source_files : (image : Image) (f : Path) → is_source image f ≡ true → files_listed image f ≡ []
 source_files image f h = ap (λ o. map (λ (m : Member). m.name) (filter (λ (m : Member). not m.folder) (members_of o))) (unread (image.kept f) unkept)
   where
     unkept : stands (image.kept f) ≡ false

@@ -23,7 +23,7 @@ use Rattle.smk_job.specs.Jobs.{parents_each}
 use Rattle.smk_laws_job.specs.Laws.{BeginningRuns}
 use Rattle.smk_job.proofs.Single.{IsKnown, Stepped, step_known, created}
 use Rattle.smk_job.proofs.Firmly.{stands_parents, stands_created}
-use Rattle.smk_job.proofs.Launching.{known_marking}
+use Rattle.smk_laws_job.proofs.Owned.{known_marking}
 use Rattle.smk_laws_job.proofs.Abandoning.{removed_call, settled_call}
 use Rattle.smk_job.proofs.Lists.{among_by}
 
@@ -216,14 +216,14 @@ regrouped a b c d e =
     append_assoc (a ++ b ∷ []) (c ++ d) (e ∷ []) ∙ append_assoc a (b ∷ []) ((c ++ d) ++ e ∷ []) ∙ ap (λ t. a ++ (b ∷ t)) (append_assoc c d (e ∷ []))
 
 pub beginning_runs : BeginningRuns
-beginning_runs o s j top number command w es calm steady may serial marking some owners users follows done told =
+beginning_runs o s j top number command w es calm steady may serial marking some none_owned follows done told =
     let outs = outputs j in
     let all = mark_places j in
     let owned = own j in
     let start : Request = Start j.recipe j.logs command in
     let end : RunState = record s { jobs = (record j { phase = Running number }) ∷ s.jobs; top = top } in
     begins o s j top number calm all w es (Settle all ∷ (remove_each outs ++ (parents_each owned ++ start ∷ []))) end steady may serial marking (some_marks outs j.logs some) (λ p i. i)
-    (λ p i. each_in (λ q. IsKnown (w.nodes q)) all p (known_marking w j.recipe j.logs owners users) i)
+    (λ p i. each_in (λ q. IsKnown (w.nodes q)) all p (known_marking w outs j.logs none_owned) i)
     (follows, subst (λ rs. HasDone rs es) (regrouped (make_each all) (Settle all) (remove_each outs) (parents_each owned) start) done, told)
     (λ v fs stood comes.
     marks_settled o s j top number calm v fs (remove_each outs ++ (parents_each owned ++ start ∷ [])) end (λ p i. stood p (inl i)) comes

@@ -9,7 +9,7 @@ use Rattle.smk_base.specs.declared.tree.Tree.{Tree}
 use Rattle.smk_base.specs.declared.tree.Tree.TheVariants.{File, Folder}
 use Rattle.smk_base.specs.declared.tree.TreeEntry.{TreeEntry}
 use Rattle.smk_base.proofs.Places.{and_first, and_second}
-use Rattle.smk_base.proofs.Apart.{path_outside, path-record}
+use Rattle.smk_base.proofs.Apart.{path_outside}
 use Rattle.smk_world.specs.declared.event.Node.TheVariants.{Regular, Directory}
 use Rattle.smk_world.specs.declared.event.NodeState.{NodeState}
 use Rattle.smk_world.specs.declared.event.NodeState.TheVariants.{Owned, Known}
@@ -25,31 +25,32 @@ use Rattle.smk_world.specs.declared.recipe.Recipe.{Recipe}
 use Rattle.smk_world.specs.World.{World, IsFormed, after, run, reading, reads_folder, node_after}
 use Rattle.smk_world.specs.Calls.{Acted}
 use Rattle.smk_world.specs.Runs.{Follows}
-use Rattle.smk_world.specs.Requests.{Request, request, Carries}
+use Rattle.smk_world.specs.Requests.{Request, request, HasDone, Carries}
 use Rattle.smk_world.specs.Requests.Request.{Look, Settle}
-use Rattle.smk_world.specs.Trees.{Path, Each, IsIn, among, is_good, is_path_text, is_text, are_members, below, outs_of, folders_of, is_folder_kind}
+use Rattle.smk_world.specs.Trees.{Path, Act, Each, IsIn, among, is_good, is_path_text, is_text, are_members, below, outs_of, folders_of, is_folder_kind}
 use Rattle.smk_world.proofs.Names.{formed_run}
+use Rattle.smk_world.proofs.Runs.{run_append}
 use Rattle.smk_record.specs.declared.record.Member.{Member}
 use Rattle.smk_record.specs.Records.{are_valid_members, are_none}
 use Rattle.smk_store.specs.Images.{Image, is_directory, is_folder, bytes_of, members_under, entry_under, names_under, tree_now}
 use Rattle.smk_store.specs.Soundness.{Outside}
-use Rattle.smk_store.specs.Steps.{write_each, remove_each}
-use Rattle.smk_laws_protocol.specs.Protocol.{OpenJob, RunState, Phase, Ended, Runs, Done, Next, Aside, Fail, Look as LookMove, outputs, record_places, listed_of, record_of, as_ok, now, runs, is_running, IsLook, IsGood}
+use Rattle.smk_store.specs.Steps.{write_each, remove_each, places_of, unmark_requests}
+use Rattle.smk_laws_protocol.specs.Protocol.{OpenJob, RunState, Phase, Ended, Recorded, Runs, Done, Next, Aside, Fail, Look as LookMove, outputs, record_places, listed_of, record_of, as_ok, now, runs, is_running, IsLook, IsGood}
 use Rattle.smk_laws_protocol.proofs.Basics.{each_of, each_in, filter_in, in_filter, in_among}
 use Rattle.smk_laws_protocol.proofs.Calls.{in_map}
 use Rattle.smk_store_members.specs.Members.{AreMembers, AllIsFound}
 use Rattle.smk_job.specs.Jobs.{bytes_with, finish_requests, abandon_requests}
 use Rattle.smk_job.specs.declared.fault.CloseFault.{CloseFault}
-use Rattle.smk_job.specs.Sights.{IsSeenWrong, Nodes, reads_file, IsOfKind, IsListing, AreLooks, AreSeen, IsBlind, AreLookedAt, EndsFailed, HasSeen}
+use Rattle.smk_job.specs.Sights.{IsSeenWrong, Nodes, reads_file, IsOfKind, IsListing, AreLooks, AreSeen, IsBlind, AreLookedAt, EndsFailed, HasSeen, IsDone}
 use Rattle.smk_laws_job.specs.Laws.{MayFinish, IsRecordable, as_underway, stopped, FinishingRuns, FinishingPartsRun, LookingRuns, LosingRuns, AbandoningRuns}
-use Rattle.smk_job.proofs.Single.{IsKnown}
-use Rattle.smk_job.proofs.Firmly.{known_own}
+use Rattle.smk_job.proofs.Single.{IsKnown, done_reaches}
+use Rattle.smk_laws_job.proofs.Owned.{known_own}
 use Rattle.smk_job.proofs.Outs.{paths_same}
 use Rattle.smk_job.proofs.Lists.{among_by}
 use Rattle.smk_laws_job.proofs.Abandoning as abandoning
 use Rattle.smk_laws_job.proofs.Readable.{AreFor, read_back, outputs_paths}
-use Rattle.smk_laws_job.proofs.Still.{IsStill, still_itself, still_members}
-use Rattle.smk_laws_job.proofs.Onward.{AreListed, full_of, halted, without, keeps_all, loses_all}
+use Rattle.smk_laws_job.proofs.Still.{IsStill, still_itself, still_members, still_reaches, stays_puts}
+use Rattle.smk_laws_job.proofs.Onward.{AreListed, full_of, halted, without, keeps_all, keeps_records, loses_all}
 
 -- ## Looks
 
@@ -193,7 +194,7 @@ kinds_of nodes [] (m ∷ ms) es h = absurd h
 kinds_of nodes (out ∷ outs) [] es h = absurd h
 kinds_of nodes (out ∷ outs) (m ∷ ms) es (first, more, e, l, q, k, rest) = (k, kinds_of nodes outs ms more rest)
 
-abbrev HasKind : Nodes → Out → Type 0
+abbrev pub HasKind : Nodes → Out → Type 0
 HasKind nodes out = (m : List Member) × IsOfKind nodes out.path out.kind m
 
 each_kind : (nodes : Nodes) (outs : List Out) (ms : List (List Member)) → AreOfKind nodes outs ms → Each (HasKind nodes) outs
@@ -241,7 +242,7 @@ good_folder o w out members kind path folder valid same =
 
 -- ## Which outputs are directories
 
-folder_among : (outs : List Out) (out : Out) → IsIn outs out → is_folder_kind out.kind ≡ true
+pub folder_among : (outs : List Out) (out : Out) → IsIn outs out → is_folder_kind out.kind ≡ true
     → IsIn (map (λ (x : Out). x.path) (filter (λ (x : Out). is_folder_kind x.kind) outs)) out.path
 folder_among outs out i kind = mapped (filter (λ (x : Out). is_folder_kind x.kind) outs) (filter_in (λ (x : Out). is_folder_kind x.kind) outs out i kind)
   where
@@ -263,7 +264,7 @@ file_or_folder (Known None besides) h k = true≢false (sym h)
 file_or_folder (Known (Some Directory) besides) h k = true≢false (sym h)
 file_or_folder (Known (Some (Regular bytes time read_only)) besides) h k = true≢false (sym k)
 
-out_path : (outs : List Out) (p : Path) → IsIn (map (λ (x : Out). x.path) outs) p → (out : Out) × IsIn outs out × (p ≡ out.path)
+pub out_path : (outs : List Out) (p : Path) → IsIn (map (λ (x : Out). x.path) outs) p → (out : Out) × IsIn outs out × (p ≡ out.path)
 out_path outs p i = in_map (λ (x : Out). x.path) outs p i
 
 path_in : (outs : List Out) (out : Out) → IsIn outs out → IsIn (map (λ (x : Out). x.path) outs) out.path
@@ -414,9 +415,33 @@ module _ (o : Outside) (j : OpenJob) (number : ℕ) (w : World) (may : MayFinish
           λ i. full_of j (λ q. here i) out.path ∷ each_same os xs (λ y k. own y (inr k)) h.1 i
 
   known : (p : Path) → IsIn (outputs j) p → IsKnown (u.nodes (record_place p))
-  known p i = subst (λ ns. IsKnown (ns (record_place p))) (sym same) (known_own w (record_place p) may.owners may.users (λ x h. path-record x p h))
+  known p i = subst (λ ns. IsKnown (ns (record_place p))) (sym same) (known_own w (record_place p) may.own_folder refl)
 
 -- ## All that `finish` does
+
+-- calls one list after the other, and what was done of each
+done_parts : (rs qs : List Request) (es : List Event) → HasDone (rs ++ qs) es → (first : List Event) × (last : List Event) × (es ≡ first ++ last) × HasDone rs first × HasDone qs last
+done_parts [] qs es h = ([], es, refl, tt, h)
+done_parts (r ∷ rs) qs [] h = absurd h
+done_parts (r ∷ rs) qs (e ∷ es) h = let p = done_parts rs qs es h.2 in (e ∷ p.0, p.1, ap (λ l. e ∷ l) p.2, (h.0, h.1, p.3), p.4)
+
+follows_front : (act : Act) (es fs : List Event) (w : World) → Follows act w (es ++ fs) → Follows act w es
+follows_front act [] fs w h = tt
+follows_front act (e ∷ es) fs w h = (h.0, follows_front act es fs (after w e) h.1)
+
+-- The events up to where the records of the job are firm, which are a run of the protocol; and those that remove its marks.
+pub record IsRecording (o : Outside) (s : RunState) (js ks : List OpenJob) (j : OpenJob) (w : World) (es : List Event) : Type 0 where
+  pub first : List Event
+  pub last : List Event
+  pub events : es ≡ first ++ last
+  pub runs : Runs o s w first (record s { jobs = js ++ (record j { phase = Recorded }) ∷ ks })
+  pub unmarked : HasDone (unmark_requests (places_of (outputs j) j.logs)) last
+  -- the world as the outputs were looked at, of which all that is outside of the engine's folder stays; with what was found
+  pub seen : World
+  pub still : IsStill seen (run w first)
+  pub members : Path → List Member
+  pub listed : AreListed o j seen members
+  pub kinds : Each (HasKind seen.nodes) (outs_of j.recipe)
 
 -- the state, in terms of the job
 in_phase : (s : RunState) (js ks : List OpenJob) (j : OpenJob) (phase : Phase) → s.jobs ≡ js ++ j ∷ ks → j.phase ≡ phase → s ≡ record s { jobs = js ++ (record j { phase = phase }) ∷ ks }
@@ -449,6 +474,37 @@ module _ (o : Outside) (s : RunState) (js ks : List OpenJob) (j : OpenJob) (numb
       (subst (λ x. Runs o x v seen.rest goal) (sym begun)
       (keeps_all o ok goal s js ks j calm halts v L (listed o j number w may ms seen.looks seen.seen) seen.rest still (good o j number w may ms seen.looks seen.seen)
       (known o j number w may ms seen.looks seen.seen) done (follows_rest o.act seen.looks seen.rest w (subst (Follows o.act w) seen.events follows)) carries)))
+
+  -- the same up to where the records are firm; what is left are the calls that remove the marks
+  pub recording : MayFinish o w j → Follows o.act w es → IsDone (as_underway j number) w es → IsRecording o s js ks j w es
+  recording may follows (ms, seen) =
+      let ps = outputs j in
+      let L = members_at o j number w may ms seen.looks seen.seen in
+      let v = run w seen.looks in
+      let still = still_itself v (formed o j number w may ms seen.looks seen.seen) in
+      let parts = done_parts (Settle ps ∷ (write_each (map record_place ps) (map (full_of j L) ps) ++ Settle (record_places j) ∷ [])) (unmark_requests (places_of ps j.logs)) seen.rest
+      (subst (λ bs. HasDone ((Settle ps ∷ (write_each (map record_place ps) bs ++ Settle (record_places j) ∷ [])) ++ unmark_requests (places_of ps j.logs)) seen.rest)
+      (bytes_same o j number w may ms seen.looks seen.seen) seen.done) in
+      let goal : RunState = record s { jobs = js ++ (record j { phase = Recorded }) ∷ ks } in
+      record {
+        first = seen.looks ++ parts.0;
+        last = parts.1;
+        events = seen.events ∙ ap (λ l. seen.looks ++ l) parts.2 ∙ sym (append_assoc seen.looks parts.0 parts.1);
+        runs = look_all o s calm seen.looks w parts.0 goal (looks_of o w.nodes (outs_of j.recipe) ms seen.looks seen.seen)
+            (subst (λ x. Runs o x v parts.0 goal) (sym begun)
+            (keeps_records o true goal s js ks j calm (λ e. absurd (true≢false e)) v L (listed o j number w may ms seen.looks seen.seen) parts.0 still (good o j number w may ms seen.looks seen.seen)
+            (known o j number w may ms seen.looks seen.seen) (λ e. refl)
+            (follows_front o.act parts.0 parts.1 v (subst (Follows o.act v) parts.2 (follows_rest o.act seen.looks seen.rest w (subst (Follows o.act w) seen.events follows)))) parts.3));
+        unmarked = parts.4;
+        seen = v;
+        still = subst (IsStill v) (sym (run_append w seen.looks parts.0))
+            (still_reaches o.act (Settle ps ∷ (write_each (map record_place ps) (map (full_of j L) ps) ++ Settle (record_places j) ∷ [])) v v (run v parts.0) (stays_puts ps (full_of j L))
+            (done_reaches o.act (Settle ps ∷ (write_each (map record_place ps) (map (full_of j L) ps) ++ Settle (record_places j) ∷ [])) v parts.0
+            (follows_front o.act parts.0 parts.1 v (subst (Follows o.act v) parts.2 (follows_rest o.act seen.looks seen.rest w (subst (Follows o.act w) seen.events follows)))) parts.3) still);
+        members = L;
+        listed = listed o j number w may ms seen.looks seen.seen;
+        kinds = each_kind v.nodes (outs_of j.recipe) ms (kinds o j number w may ms seen.looks seen.seen);
+      }
 
   losing : (ok : Bool) (goal : RunState) → (ok ≡ false → halted o s js ks ≡ goal) → (ok ≡ true → record s { jobs = js ++ ks } ≡ goal)
       → Follows o.act w es → (fault : CloseFault) → HasSeen (IsSeenWrong w.nodes (outs_of j.recipe) fault) (Carries (abandon_requests (as_underway j number)) ok) es → Runs o s w es goal

@@ -1,5 +1,5 @@
 -- What `forget` does of a path is a run of the protocol of forgetting.
-use Rattle.std.proofs.Common.{◌≡◌, ◌⊎◌, inl, inr, Bool, true, false, ◌&&◌, ◌||◌, List, [], ◌∷◌, ◌++◌, refl, sym, ap, subst, ◌∙◌, append-nil, bytes_eq, Option, Some, None, Result, Ok, Err, true≢false}
+use Rattle.std.proofs.Common.{◌≡◌, inl, inr, Bool, true, false, ◌&&◌, ◌||◌, List, [], ◌∷◌, ◌++◌, refl, sym, ap, subst, ◌∙◌, append-nil, bytes_eq, Option, Some, None, Result, Ok, Err, true≢false}
 use Rattle.std.specs.Prelude.{All, IsTrue, option_map, if◌then◌else◌}
 use Rattle.std.proofs.lemmas.List.Elements.{All-nil, All-cons, All-head, All-tail}
 use Rattle.std.proofs.lemmas.List.Concat.{flat_map-cons}

@@ -1,3 +1,4 @@
+pub mod Owned
 pub mod Abandoning
 pub mod Beginning
 pub mod Parts
@@ -6,4 +7,5 @@ pub mod Called
 pub mod Readable
 pub mod Still
 pub mod Onward
+pub mod Finished
 pub mod Forgetting

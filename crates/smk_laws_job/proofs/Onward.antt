@@ -300,6 +300,25 @@ module _ (o : Outside) (ok : Bool) (goal s : RunState) (js ks : List OpenJob) (j
       records_settled x gs closes_with still2 (λ p i. held p (inl i)) follows2 carries2
       (λ y hs follows3 carries3. closing o ok goal s js ks j calm halts Recorded (inl refl) y hs done follows3 carries3)))
 
+  over : (good : Bool) (st : RunState) (v : World) (fs : List Event) → (good ≡ true → st ≡ goal) → Carries [] good fs → Runs o st v fs goal
+  over true st v [] there rest = subst (λ x. Runs o st v [] x) (there refl) (Done st v)
+  over true st v (f ∷ fs) there rest = absurd rest
+  over false st v fs there rest = absurd rest
+
+  -- all calls of `finish` after the looks, up to where the records are firm
+  pub keeps_records : (es : List Event) → IsStill u u → Each (IsGood o u) (outs_of j.recipe) → ((p : Path) → IsIn (outputs j) p → IsKnown (u.nodes (record_place p)))
+      → (ok ≡ true → at_phase o ok goal s js ks j calm halts Recorded ≡ goal) → Follows o.act u es
+      → Carries (Settle (outputs j) ∷ (write_each (map record_place (outputs j)) (map (full_of j L) (outputs j)) ++ Settle (record_places j) ∷ [])) ok es
+      → Goes o ok goal s js ks j calm halts (Ended 0) u es
+  keeps_records es still good known there follows carries =
+      makes_firm o ok goal s js ks j calm halts u es (write_each (map record_place (outputs j)) (map (full_of j L) (outputs j)) ++ Settle (record_places j) ∷ []) good follows carries
+      (λ v fs st follows1 carries1.
+      writes (outputs j) v fs (Settle (record_places j) ∷ []) (still_settled o.act (outputs j) u u v st still) (λ p i. i)
+      (λ p i. step_known o.act (Settle (outputs j)) u v (record_place p) st refl (known p i)) follows1 carries1
+      (λ x gs still2 held follows2 carries2.
+      records_settled x gs [] still2 (λ p i. held p (inl i)) follows2 carries2
+      (λ y hs follows3 carries3. over ok (at_phase o ok goal s js ks j calm halts Recorded) y hs there carries3)))
+
 -- all calls of `abandon`
 pub loses_all : (o : Outside) (ok : Bool) (goal s : RunState) (js ks : List OpenJob) (j : OpenJob) (calm : s.faulted ≡ false) (halts : ok ≡ false → halted o s js ks ≡ goal)
     (status : ℕ) (w : World) (es : List Event) → (outputs j ≡ [] → ⊥) → (ok ≡ true → record s { jobs = js ++ ks } ≡ goal) → Follows o.act w es

@@ -10,7 +10,7 @@ use Rattle.smk_world.specs.declared.event.Call.{Call}
 use Rattle.smk_world.specs.declared.event.Call.TheVariants.{Created, Removed, MadeParents, Settled, Started}
 use Rattle.smk_world.specs.declared.event.Event.{Event}
 use Rattle.smk_world.specs.World.{World, after}
-use Rattle.smk_world.specs.Calls.{HasOwners, Lets, Stands, failed}
+use Rattle.smk_world.specs.Calls.{Lets, Stands, failed}
 use Rattle.smk_world.specs.Runs.{Follows}
 use Rattle.smk_world.specs.Requests.{Request, request, HasDone, IsCutShort, Carries}
 use Rattle.smk_world.specs.Requests.Request.{Create, MakeParents, Remove, Settle, Start}
@@ -19,14 +19,14 @@ use Rattle.smk_store.specs.Soundness.{Outside}
 use Rattle.smk_store.specs.Steps.{make_each, remove_each}
 use Rattle.smk_laws_protocol.specs.Protocol.{OpenJob, RunState, Phase, Marking, Marked, Running, Ended, Dropping, Dropped, Runs, Done, Next, Step, Begin, Go, Close, Fail, Moves, MakeFolders, Mark, AllMarked, MakeRoom, Start as StartMove, Drop, AllDropped, Unmark, Closes, AllUnmarked, outputs, own, mark_places, record_places, as_ok, IsThere, IsAbsent, IsFirst, MayBegin, HasSerial, runs, is_running}
 use Rattle.smk_laws_protocol.proofs.Basics.{each_of, each_in}
-use Rattle.smk_job.specs.Jobs.{ReadUsers, parents_each, begin_requests, abandon_requests}
+use Rattle.smk_job.specs.Jobs.{parents_each, begin_requests, abandon_requests}
 use Rattle.smk_job.specs.Jobs.{IsPart}
-use Rattle.smk_laws_job.specs.Laws.{as_underway, stopped, BeginningPartsRun, BeginningFails, AbandoningPartsRun, AbandoningFails}
+use Rattle.smk_laws_job.specs.Laws.{HasOwnFolder, as_underway, stopped, BeginningPartsRun, BeginningFails, AbandoningPartsRun, AbandoningFails}
 use Rattle.smk_laws_job.proofs.Called.{as_parents, as_created, as_removed, as_settled, as_started}
 use Rattle.smk_laws_job.proofs.Onward.{halted, without}
 use Rattle.smk_job.proofs.Single.{IsKnown, step_known, created}
 use Rattle.smk_job.proofs.Firmly.{stands_parents, stands_created}
-use Rattle.smk_job.proofs.Launching.{known_marking}
+use Rattle.smk_laws_job.proofs.Owned.{known_marking}
 use Rattle.smk_laws_job.proofs.Abandoning.{removed_call, settled_call, in_first, in_second, in_map, absent_now, absent_still, in_either}
 use Rattle.smk_job.proofs.Lists.{among_by}
 use Rattle.smk_laws_job.proofs.Abandoning as abandoning
@@ -285,14 +285,14 @@ abandoning_fails o s js ks j number status w es at calm ended some follows cut =
     subst (λ x. Runs o s w es x) (r.2 (cut_fails (abandon_requests (as_underway j number)) es cut)) r.1
 
 beginning_ends : (o : Outside) (s : RunState) (j : OpenJob) (top : ℕ) (command : List ℕ) (w : World) (es : List Event)
-    → s.faulted ≡ false → s.steady ≡ true → MayBegin o s w j → HasSerial o s w j top → j.phase ≡ Marking → outputs j ≢ [] → HasOwners w → ReadUsers w
+    → s.faulted ≡ false → s.steady ≡ true → MayBegin o s w j → HasSerial o s w j top → j.phase ≡ Marking → outputs j ≢ [] → HasOwnFolder w
     → Follows o.act w es → IsPart (begin_requests j.recipe j.logs command) es → Ends o (record (stopped o s) { top = top }) s w es
-beginning_ends o s j top command w es calm steady may serial marking some owners users follows part =
+beginning_ends o s j top command w es calm steady may serial marking some none_owned follows part =
     let outs = outputs j in
     let all = mark_places j in
     let start : Request = Start j.recipe j.logs command in
     first all (some_marks outs j.logs some) (λ p i. i)
-    (λ p i. each_in (λ q. IsKnown (w.nodes q)) all p (known_marking w j.recipe j.logs owners users) i)
+    (λ p i. each_in (λ q. IsKnown (w.nodes q)) all p (known_marking w outs j.logs none_owned) i)
     (subst (λ rs. IsPart rs es) (beginning.regrouped (make_each all) (Settle all) (remove_each outs) (parents_each (own j)) start) part)
     (λ v fs stood follows1 part1.
     marks_settled o goal begun [] s.jobs j calm refl v fs (remove_each outs ++ (parents_each (own j) ++ start ∷ [])) (λ p i. stood p (inl i)) follows1 part1
@@ -341,11 +341,11 @@ beginning_ends o s j top command w es calm steady may serial marking some owners
         ])))))
 
 pub beginning_parts : BeginningPartsRun
-beginning_parts o s j top command w es calm steady may serial marking some owners users follows part =
-    let r = beginning_ends o s j top command w es calm steady may serial marking some owners users follows part in
+beginning_parts o s j top command w es calm steady may serial marking some none_owned follows part =
+    let r = beginning_ends o s j top command w es calm steady may serial marking some none_owned follows part in
     (r.0, r.1)
 
 pub beginning_fails : BeginningFails
-beginning_fails o s j top command w es calm steady may serial marking some owners users follows cut =
-    let r = beginning_ends o s j top command w es calm steady may serial marking some owners users follows (cut_part (begin_requests j.recipe j.logs command) es cut) in
+beginning_fails o s j top command w es calm steady may serial marking some none_owned follows cut =
+    let r = beginning_ends o s j top command w es calm steady may serial marking some none_owned follows (cut_part (begin_requests j.recipe j.logs command) es cut) in
     subst (λ x. Runs o s w es x) (r.2 (cut_fails (begin_requests j.recipe j.logs command) es cut)) r.1

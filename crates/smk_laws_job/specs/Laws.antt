@@ -1,9 +1,11 @@
 -- The calls of a job as a run of the protocol.
 use Rattle.std.specs.Prelude.{◌≡◌, ◌≢◌, ◌⊎◌, ℕ, Bool, true, false, List, [], ◌∷◌, ◌++◌, filter, length, Result, Ok, Err}
+use Rattle.smk_base.specs.Path.{is_at_or_under, own_folder}
 use Rattle.smk_world.specs.declared.event.Event.{Event}
+use Rattle.smk_world.specs.declared.event.NodeState.TheVariants.{Owned}
 use Rattle.smk_world.specs.declared.recipe.Out.{Out}
 use Rattle.smk_world.specs.World.{World, IsFormed}
-use Rattle.smk_world.specs.Calls.{HasOwners, started_numbers}
+use Rattle.smk_world.specs.Calls.{started_numbers}
 use Rattle.smk_world.specs.Runs.{Follows}
 use Rattle.smk_world.specs.Requests.{Request, HasDone, IsCutShort, Carries}
 use Rattle.smk_world.specs.Trees.{Path, IsIn, Each, folders_of, is_path_text}
@@ -23,11 +25,15 @@ use Rattle.smk_laws_protocol.specs.Protocol.{OpenJob, RunState, Marking, Running
 use Rattle.smk_store_members.specs.Members.{AllIsFound}
 use Rattle.smk_job.specs.declared.fault.CloseFault.{CloseFault}
 use Rattle.smk_job.specs.Sights.{IsDone, IsAbandoned, IsUnclosed, AreLookedAt}
-use Rattle.smk_job.specs.Jobs.{IsPart, Underway, underway, bare_bytes, is_long, ReadUsers, begin_requests, abandon_requests}
+use Rattle.smk_job.specs.Jobs.{IsPart, Underway, underway, bare_bytes, is_long, begin_requests, abandon_requests}
 
 -- an open job whose child has this number, as `begin` answers it
 abbrev pub as_underway : OpenJob → ℕ → Underway
 as_underway j number = underway j.recipe j.logs j.stamps j.serial number
+
+-- no child owns a place in the engine's own folder
+abbrev pub HasOwnFolder : World → Type 0
+HasOwnFolder w = (q : Path) → is_at_or_under q own_folder ≡ true → w.nodes q ≡ Owned → ⊥
 
 -- What `begin` and `abandon` carry out is a part of their calls.
 abbrev pub CarriedIsPart : Type 0
@@ -43,8 +49,7 @@ BeginningRuns =
     HasSerial o s w j top →
     j.phase ≡ Marking →
     outputs j ≢ [] →
-    HasOwners w →
-    ReadUsers w →
+    HasOwnFolder w →
     Follows o.act w es →
     HasDone (begin_requests j.recipe j.logs command) es →
     started_numbers es ≡ number ∷ [] → Runs o s w es (record s { jobs = (record j { phase = Running number }) ∷ s.jobs; top = top })
@@ -59,8 +64,7 @@ BeginningPartsRun =
     HasSerial o s w j top →
     j.phase ≡ Marking →
     outputs j ≢ [] →
-    HasOwners w →
-    ReadUsers w → Follows o.act w es → IsPart (begin_requests j.recipe j.logs command) es → (end : RunState) × Runs o s w es end
+    HasOwnFolder w → Follows o.act w es → IsPart (begin_requests j.recipe j.logs command) es → (end : RunState) × Runs o s w es end
 
 -- All calls of `abandon`, of an open job whose child has ended, are a run of the protocol that closes it.
 abbrev pub AbandoningRuns : Type 0
@@ -86,15 +90,14 @@ pub record IsRecordable (j : OpenJob) (p : Path) : Type 0 where
   pub writable : is_writable (record_of j p) ≡ true
   pub short : is_long (length (bare_bytes j.serial j.recipe j.stamps p)) ≡ false
 
--- A job may be finished where records read as they are written, those of the job can be written, and all that stands under its
--- directories can be found.
+-- A job may be finished where records read as they are written, those of the job can be written, all that stands under its directories can be
+-- found, and no child owns a place in the engine's folder.
 pub record MayFinish (o : Outside) (w : World) (j : OpenJob) : Type 0 where
   pub reads : ReadsRecords o.read
   pub records : Each (IsRecordable j) (outputs j)
   pub found : Each (AllIsFound w.nodes) (folders_of j.recipe)
   pub formed : IsFormed w
-  pub owners : HasOwners w
-  pub users : ReadUsers w
+  pub own_folder : HasOwnFolder w
 
 -- All that `finish` does where it is done, of an open job whose child has ended with status 0, is a run of the protocol that closes it.
 abbrev pub FinishingRuns : Type 0
@@ -138,7 +141,7 @@ BeginningFails =
     HasSerial o s w j top →
     j.phase ≡ Marking →
     outputs j ≢ [] →
-    HasOwners w → ReadUsers w → Follows o.act w es → IsCutShort (begin_requests j.recipe j.logs command) es → Runs o s w es (record (stopped o s) { top = top })
+    HasOwnFolder w → Follows o.act w es → IsCutShort (begin_requests j.recipe j.logs command) es → Runs o s w es (record (stopped o s) { top = top })
 
 -- What `abandon` does up to a call that failed is a run that ends faulted.
 abbrev pub AbandoningFails : Type 0

@@ -26,7 +26,7 @@ use Rattle.smk_drive.specs.Moments.{Rules, is_spent_now, seen}
 use Rattle.smk_drive.specs.Lawful.{is_failed_wait}
 use Rattle.smk_drive_course.specs.declared.ending.End.{End as TheEnd}
 use Rattle.smk_drive_course.specs.Stands.{IsClear, Stand, moment_of, without_child}
-use Rattle.smk_drive_course.specs.Steps.{AreRemoved, Deed, HasSpent, NoMore, OneMore}
+use Rattle.smk_drive_course.specs.Steps.{AreRemoved, Deed, HasSpent, IsAsListed, NoMore, OneMore}
 use Rattle.smk_drive_course.specs.Breaks.{Begins, BeginsNot, BreaksOff, Closes, Done, FailsToWait, Halts, HasNotSpent, Leaves, ReadsNot, Spends, SpendsNot, Step, Steps, Then, Waits}
 use Rattle.smk_drive_course.specs.Driven.{IsOpening, IsRun, LacksMemory, LoadingFails, LooksFail as OpeningLooksFail, Opens, SettlingFails}
 use Rattle.smk_laws_moments.specs.Courses.{AllAreWaited, ChildrenAreOfStand, HasChildren, child_of}
@@ -185,12 +185,14 @@ map_more (x ∷ gs) g = ap (λ cs. child_of x ∷ cs) (map_more gs g)
 module _ (rules : Rules) (entry : World) where
   removed_quiet : (s t : Stand) (w : World) (before : List Event) (paths : List Path) (es : List Event) → AreRemoved rules s w before paths es t → EachCall IsQuiet es
   removed_quiet s t w before paths es (NoMore s1 w1 before1) = tt
-  removed_quiet s t w before paths es (OneMore s1 t1 u1 w1 before1 p ps e es1 clear spent done plans rest) =
+  removed_quiet s t w before paths es (OneMore s1 t1 u1 w1 before1 p ps e es1 clear spent listed done plans rest) =
       (subst IsQuiet (sym done.0) tt, removed_quiet t1 u1 _ _ ps es1 rest)
 
-  failing_quiet : (P Q : Path → Type 0) (paths : List Path) (e : Event) → ((p : Path) × (request e.call ≡ Remove p) × P p × Q p) ⊎ (request e.call ≡ Settle paths) → IsQuiet (request e.call)
-  failing_quiet P Q paths e (inl x) = subst IsQuiet (sym x.1) tt
-  failing_quiet P Q paths e (inr x) = subst IsQuiet (sym x) tt
+  failing_quiet :
+      (P Q R : Path → Type 0) (S : Type 0) (paths : List Path) (e : Event) → ((p : Path) × (request e.call ≡ Remove p) × P p × Q p × R p) ⊎ ((request e.call ≡ Settle paths) × S) →
+      IsQuiet (request e.call)
+  failing_quiet P Q R S paths e (inl x) = subst IsQuiet (sym x.1) tt
+  failing_quiet P Q R S paths e (inr x) = subst IsQuiet (sym x.0) tt
 
   pub spending_quiet : (s t : Stand) (w : World) (before es : List Event) (deeds : List Deed) → HasSpent rules entry s w before es deeds t → EachCall IsQuiet es
   spending_quiet s t w before es deeds h =
@@ -202,7 +204,8 @@ module _ (rules : Rules) (entry : World) where
       subst (EachCall IsQuiet) (sym h.events)
       (calls_more h.removing (h.failing ∷ []) (removed_quiet s h.last w before h.paths h.removing h.removed) (
         failing_quiet (λ p. IsClear rules h.last (run w h.removing) (before ++ h.removing))
-            (λ p. IsTrue (is_spent_now rules (moment_of h.last (run w h.removing) (before ++ h.removing)) p)) h.paths h.failing h.called,
+            (λ p. IsTrue (is_spent_now rules (moment_of h.last (run w h.removing) (before ++ h.removing)) p)) (IsAsListed (seen rules (run w h.removing))) (h.paths ≢ []) h.paths h.failing
+            h.called,
         tt,
       ))
 
@@ -279,22 +282,22 @@ children_are_of_stand rules entry s t w before es deeds steps was = steps_childr
 
 -- ## A run
 
-pub opening_quiet : (opened : Result (Unit {0}) KeepFault) (es : List Event) → IsOpening opened es → EachCall IsQuiet es
-opening_quiet opened es (Opens loading settling looks ps loaded settled looked) =
+pub opening_quiet : (rules : Rules) (entry : World) (opened : Result (Unit {0}) KeepFault) (es : List Event) → IsOpening rules entry opened es → EachCall IsQuiet es
+opening_quiet rules entry opened es (Opens loading settling looks ps loaded signs settled looked) =
     calls_more loading (settling ++ looks) (looks_quiet false loading loaded)
     (calls_more settling looks (done_each IsQuiet (Settle ps ∷ []) settling (tt, tt) settled) (looks_quiet false looks looked))
-opening_quiet opened es (LacksMemory loading loaded) = looks_quiet false loading loaded
-opening_quiet opened es (LoadingFails loading loaded) = looks_quiet true loading loaded
-opening_quiet opened es (SettlingFails loading settling ps loaded cut) =
+opening_quiet rules entry opened es (LacksMemory loading loaded) = looks_quiet false loading loaded
+opening_quiet rules entry opened es (LoadingFails loading loaded) = looks_quiet true loading loaded
+opening_quiet rules entry opened es (SettlingFails loading settling ps loaded signs cut) =
     calls_more loading settling (looks_quiet false loading loaded) (cut_each IsQuiet (Settle ps ∷ []) settling (tt, tt) cut)
-opening_quiet opened es (OpeningLooksFail loading settling looks ps loaded settled looked) =
+opening_quiet rules entry opened es (OpeningLooksFail loading settling looks ps loaded signs settled looked) =
     calls_more loading (settling ++ looks) (looks_quiet false loading loaded)
     (calls_more settling looks (done_each IsQuiet (Settle ps ∷ []) settling (tt, tt) settled) (looks_quiet true looks looked))
 
 module _ (rules : Rules) (told : Option TheEnd) (result : Result TheEnd Fault) (deeds : List Deed) (entry : World) (log : List Event) (r : IsRun rules told result deeds entry log) (none : entry.children ≡ []) where
   pub at_start : HasChildren r.start (run entry r.opening)
   at_start =
-      quiet_run entry r.opening (opening_quiet r.opened r.opening r.opens)
+      quiet_run entry r.opening (opening_quiet rules entry r.opened r.opening r.opens)
       ∙ (none ∙ ap (λ gs. map child_of gs) (sym (answer_kept rules entry r.opened _ r.start entry [] r.goes_by).runs))
 
   at_end : HasChildren r.last (run entry log)

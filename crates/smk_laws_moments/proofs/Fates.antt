@@ -141,12 +141,12 @@ module _ (rules : Rules) (entry : World) where
 
   pub removed_kept : (s t : Stand) (w : World) (before : List Event) (paths : List Path) (es : List Event) → AreRemoved rules s w before paths es t → IsKept s t
   removed_kept s t w before paths es (NoMore s1 w1 before1) = record { begun = refl; runs = refl }
-  removed_kept s t w before paths es (OneMore s1 t1 u1 w1 before1 p ps e es1 clear spent done plans rest) =
+  removed_kept s t w before paths es (OneMore s1 t1 u1 w1 before1 p ps e es1 clear spent listed done plans rest) =
       kept_then s1 t1 u1 (replanned_kept rules s1 t1 _ plans) (removed_kept t1 u1 _ _ ps es1 rest)
 
   removed_fate : (s t : Stand) (w : World) (before : List Event) (paths : List Path) (es : List Event) → AreRemoved rules s w before paths es t → (t.halted ≡ s.halted) × (t.broken ≡ s.broken)
   removed_fate s t w before paths es (NoMore s1 w1 before1) = (refl, refl)
-  removed_fate s t w before paths es (OneMore s1 t1 u1 w1 before1 p ps e es1 clear spent done plans rest) =
+  removed_fate s t w before paths es (OneMore s1 t1 u1 w1 before1 p ps e es1 clear spent listed done plans rest) =
       let here = replanned_fate rules s1 t1 _ plans in
       let later = removed_fate t1 u1 _ _ ps es1 rest in (later.0 ∙ here.0, later.1 ∙ here.1)
 

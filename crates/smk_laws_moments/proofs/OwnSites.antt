@@ -120,12 +120,12 @@ site_of k r i = go (in_either r (places k) k.logs i)
 
 module _ (flow : Flow) (image : Image) (L : Listings) (targets : List Path) (js : List Job) (complete : IsComplete image) (is : derivation flow image L targets ≡ Derived js) where
   -- it is the job of a rule whose outputs and logs are paths
-  record IsOfRule (k : Job) : Type 0 where
+  pub record IsOfRule (k : Job) : Type 0 where
     pub candidate : Candidate
     pub is_job : k ≡ job flow L candidate
     pub free : list_all (λ q. is_path q && not (holds_source image q)) (outputs flow candidate ++ logs flow candidate) ≡ true
 
-  of_rule : (k : Job) → IsIn js k → IsOfRule k
+  pub of_rule : (k : Job) → IsIn js k → IsOfRule k
   of_rule k ik =
       let all = flat_map (walk flow (sources_of image) L 200) targets in
       let c = map_in (job flow L) (distinct same_candidate all) k (subst (λ xs. IsIn xs k) (sym (derived flow image L targets js complete is).1) ik) in
@@ -133,7 +133,7 @@ module _ (flow : Flow) (image : Image) (L : Listings) (targets : List Path) (js 
       let q = walked_chosen flow (sources_of image) L 200 w.0 c.0 w.2 in
       record { candidate = c.0; is_job = c.2; free = (chosen_candidate flow (sources_of image) q.0 c.0 q.1).1 }
 
-  outs_are : (c : Candidate) → out_paths (job flow L c).recipe ≡ outputs flow c
+  pub outs_are : (c : Candidate) → out_paths (job flow L c).recipe ≡ outputs flow c
   outs_are c = items_filled c.binding c.part.outputs
 
   output_of : (k : Job) (p : Path) (r : IsOfRule k) → IsIn (out_paths k.recipe) p → IsIn (outputs flow r.candidate) p

@@ -140,7 +140,7 @@ module _ (rules : Rules) (entry : World) (formed : IsFormed entry) where
       Follows act w es → At s before → is_rest w s.begun ≡ true → AtRested t (before ++ es)
   all_removed act s t w before paths es (NoMore s1 w1 before1) worlds follows at rest =
       subst (AtRested s1) (sym (append-nil before1)) (at, ap (λ (v : World). is_rest v s1.begun) (sym worlds) ∙ rest)
-  all_removed act s t w before paths es (OneMore s1 t1 u1 w1 before1 p ps e es1 clear spent done plans later) worlds follows at rest =
+  all_removed act s t w before paths es (OneMore s1 t1 u1 w1 before1 p ps e es1 clear spent listed done plans later) worlds follows at rest =
       let same = is_removal act w1 e.call e.left p done.0 done.1 follows.0.lets in
       let here =
       step_removed act s1 t1 before1 p e same at (ap (λ (v : World). is_rest v s1.begun) (sym worlds) ∙ rest)
@@ -158,7 +158,7 @@ module _ (rules : Rules) (entry : World) (formed : IsFormed entry) where
 
   first_rest : (s t : Stand) (w : World) (before : List Event) (paths : List Path) (es : List Event) → AreRemoved rules s w before paths es t → paths ≢ [] → is_rest w s.begun ≡ true
   first_rest s t w before paths es (NoMore s1 w1 before1) some = absurd (some refl)
-  first_rest s t w before paths es (OneMore s1 t1 u1 w1 before1 p ps e es1 clear spent done plans later) some = clear.at_rest
+  first_rest s t w before paths es (OneMore s1 t1 u1 w1 before1 p ps e es1 clear spent listed done plans later) some = clear.at_rest
 
   settled_at :
       (act : Act) (s : Stand) (before settling : List Event) (ps : List Path) → HasDone (Settle ps ∷ []) settling → Follows act (run entry before) settling → AtRested s before → At s (before ++ settling)

@@ -281,12 +281,12 @@ module _ (rules : Rules) where
           let first = first_follows act entry loading (e ∷ []) follows in
           then_settle act plan loading e ps cut.0 first.1.0.lets (then_looks act false plan [] loading loaded first.0 there)
 
-      opened_stand : (act : Act) (plan : Option Plan) (opened : Result (Unit {0}) KeepFault) (es : List Event) → IsOpening opened es → Follows act entry es → There plan [] → There plan es
-      opened_stand act plan opened es (Opens loading settles looks ps loaded done looked) follows there = with_settling act false plan loading settles looks ps loaded done looked follows there
+      opened_stand : (act : Act) (plan : Option Plan) (opened : Result (Unit {0}) KeepFault) (es : List Event) → IsOpening rules entry opened es → Follows act entry es → There plan [] → There plan es
+      opened_stand act plan opened es (Opens loading settles looks ps loaded signs done looked) follows there = with_settling act false plan loading settles looks ps loaded done looked follows there
       opened_stand act plan opened es (LacksMemory loading loaded) follows there = then_looks act false plan [] loading loaded follows there
       opened_stand act plan opened es (LoadingFails loading loaded) follows there = then_looks act true plan [] loading loaded follows there
-      opened_stand act plan opened es (SettlingFails loading settles ps loaded cut) follows there = cut_settling act plan loading settles ps loaded cut follows there
-      opened_stand act plan opened es (LooksFail loading settles looks ps loaded done looked) follows there = with_settling act true plan loading settles looks ps loaded done looked follows there
+      opened_stand act plan opened es (SettlingFails loading settles ps loaded signs cut) follows there = cut_settling act plan loading settles ps loaded cut follows there
+      opened_stand act plan opened es (LooksFail loading settles looks ps loaded signs done looked) follows there = with_settling act true plan loading settles looks ps loaded done looked follows there
 
 pub first_is_moment : FirstIsMoment
 first_is_moment act rules entry plan opened es m formed planned opens follows is =

@@ -149,5 +149,5 @@ pub waits_for_children : WaitsForChildren
 waits_for_children rules told result deeds entry log r none events e rest split k =
     at_split entry events e rest
     (subst (WaitsAt entry) (sym r.events ∙ split)
-    (waits_more entry r.opening r.rest (quiet_calm entry r.opening (opening_quiet r.opened r.opening r.opens))
+    (waits_more entry r.opening r.rest (quiet_calm entry r.opening (opening_quiet rules entry r.opened r.opening r.opens))
     (steps_waits rules entry r.start r.last (run entry r.opening) r.opening r.rest deeds r.steps (at_start rules told result deeds entry log r none)))) k

@@ -28,7 +28,7 @@ FirstIsMoment =
     (act : Act) (rules : Rules) (entry : World) (plan : Option Plan) (opened : Result (Unit {0}) KeepFault) (es : List Event) (m : Moment) →
     IsFormed entry →
     IsPlanned rules (first_stand plan) entry →
-    IsOpening opened es → Follows act entry es → IsMoment rules entry es m → IsStandOf (first_stand plan) m
+    IsOpening rules entry opened es → Follows act entry es → IsMoment rules entry es m → IsStandOf (first_stand plan) m
 
 -- Looks leave it.
 abbrev pub LooksKeepStands : Type 0

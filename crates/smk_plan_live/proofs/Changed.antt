@@ -1,5 +1,5 @@
--- What stays where a job begins or is closed.
-use Rattle.std.proofs.Common.{◌≡◌, ℕ, zero, suc, Bool, true, false, ◌&&◌, ◌||◌, not, List, [], ◌∷◌, ◌++◌, length, Option, Some, None, is_some, refl, sym, ap, ap₂, subst, ◌∙◌, bytes_eq, arith}
+-- What stays where a job begins or is closed, or an output is removed.
+use Rattle.std.proofs.Common.{◌≡◌, ℕ, zero, suc, Bool, true, false, ◌&&◌, ◌||◌, not, List, [], ◌∷◌, ◌++◌, length, Option, Some, None, is_some, refl, sym, ap, ap₂, subst, ◌∙◌, bytes_eq}
 use Rattle.std.specs.Prelude.{if◌then◌else◌, slice_set, slice_index_or}
 use Rattle.std.specs.List.{list_any, slice_get}
 use Rattle.std.specs.BTreeMap.{get_by_text}
@@ -27,10 +27,11 @@ use Rattle.smk_plan_live.specs.declared.sites.Site.{Site}
 use Rattle.smk_plan_live.specs.declared.phase.Phase.{Phase}
 use Rattle.smk_plan_live.specs.declared.phase.Phase.TheVariants.{Running, Closed}
 use Rattle.smk_plan_live.specs.Phases.{has_begun, begun_in}
-use Rattle.smk_plan_live.specs.Now.{joined, row_by, row_at, entry_now, own_sight, seen_before, restores_at, settled, known_now, seen_now}
+use Rattle.smk_plan_live.specs.Now.{joined, row_by, row_at, own_sight, seen_before, restores_at, settled, known_now, seen_now}
 use Rattle.smk_plan_live.specs.Same.{AreSameBut, merged, renewed_from, renewed}
 use Rattle.smk_plan_live.specs.Lives.{IsSound, facts_now}
-use Rattle.smk_plan_live.specs.Carried.{has_name, turned, filled}
+use Rattle.smk_plan_live.specs.Carried.{has_name, turned, filled, advanced, sighted}
+use Rattle.smk_plan_live.specs.Steps.{renewed_at}
 use Rattle.smk_plan_live.proofs.Same.{renewed_are}
 use Rattle.smk_plan_live.proofs.Tables.{same_bytes, known_is, seen_is}
 use Rattle.smk_plan_live.proofs.Restoring.{at_same, outs_are, site_has, one_name}
@@ -47,7 +48,7 @@ set_back [] n x y e = refl
 set_back (z ∷ xs) zero x y e = ap (λ w. w ∷ xs) e
 set_back (z ∷ xs) (suc n) x y e = ap (λ ys. z ∷ ys) (set_back xs n x y e)
 
-get_other : {A : Type 0} (xs : List A) (n m : ℕ) (x : A) → (m ≡ n → ⊥) → slice_get (slice_set xs n x) m ≡ slice_get xs m
+pub get_other : {A : Type 0} (xs : List A) (n m : ℕ) (x : A) → (m ≡ n → ⊥) → slice_get (slice_set xs n x) m ≡ slice_get xs m
 get_other [] n m x other = refl
 get_other (y ∷ xs) zero zero x other = absurd (other refl)
 get_other (y ∷ xs) zero (suc m) x other = refl
@@ -68,7 +69,9 @@ module _ (b : Base) (sound : IsSound b) (n : ℕ) (j : Job) (at : slice_get b.jo
       in_it : (k : Job) → Some k ≡ Some j → (p : Path) → among (out_paths k.recipe) p ≡ true → among (out_paths j.recipe) p ≡ true
       in_it k e p h = let same_job : k ≡ j = cc in subst (λ (x : Job). among (out_paths x.recipe) p ≡ true) same_job h
 
-  by_site : {A : Type 0} (q : Path) → among (out_paths j.recipe) q ≡ false → (f g : Option Site → A) → f None ≡ g None → ((s : Site) → (s.job ≡ n → ⊥) → f (Some s) ≡ g (Some s)) → f (get_by_text b.sites q) ≡ g (get_by_text b.sites q)
+  by_site :
+      {A : Type 0} (q : Path) → among (out_paths j.recipe) q ≡ false → (f g : Option Site → A) → f None ≡ g None →
+      ((s : Site) → (s.job ≡ n → ⊥) → f (Some s) ≡ g (Some s)) → f (get_by_text b.sites q) ≡ g (get_by_text b.sites q)
   by_site q out f g none some = go (get_by_text b.sites q) refl
     where
       go : (o : Option Site) → get_by_text b.sites q ≡ o → f o ≡ g o
@@ -76,13 +79,16 @@ module _ (b : Base) (sound : IsSound b) (n : ℕ) (j : Job) (at : slice_get b.jo
       go (Some s) e = some s (elsewhere q out s e)
 
   rows_same :
-      {A : Type 0} (q : Path) → among (out_paths j.recipe) q ≡ false → (rows : List (Option (List (Option A)))) (row : Option (List (Option A))) (before : Option A) →
+      {A : Type 0} (q : Path) → among (out_paths j.recipe) q ≡ false →
+      (rows : List (Option (List (Option A)))) (row : Option (List (Option A))) (before : Option A) →
       row_at (slice_set rows n row) (get_by_text b.sites q) before ≡ row_at rows (get_by_text b.sites q) before
   rows_same q out rows row before =
       by_site q out (λ o. row_at (slice_set rows n row) o before) (λ o. row_at rows o before) refl
       (λ s other. ap (λ r. row_by (joined r) s.place before) (get_other rows n s.job row other))
 
-  restores_same : (q : Path) → among (out_paths j.recipe) q ≡ false → (state : Option State) → restores_at (slice_set b.began n state) (get_by_text b.sites q) ≡ restores_at b.began (get_by_text b.sites q)
+  restores_same :
+      (q : Path) → among (out_paths j.recipe) q ≡ false → (state : Option State) → restores_at (slice_set b.began n state) (get_by_text b.sites q)
+      ≡ restores_at b.began (get_by_text b.sites q)
   restores_same q out state =
       by_site q out (restores_at (slice_set b.began n state)) (restores_at b.began) refl
       (λ s other. ap (λ r. test_some is_restore (joined r)) (get_other b.began n s.job state other))
@@ -90,15 +96,6 @@ module _ (b : Base) (sound : IsSound b) (n : ℕ) (j : Job) (at : slice_get b.jo
   -- the job has turned, and maybe new rows came
   abbrev pub next_base : Phase → Option State → Option (List (Option Entry)) → Option (List (Option Sight)) → Base
   next_base phase state row sights = filled n row sights (turned n phase state b)
-
-  pub turned_but : (phase : Phase) (state : Option State) → AreSameBut (outs_of j.recipe) (known_now b) (known_now (turned n phase state b)) (seen_now b) (seen_now (turned n phase state b))
-  turned_but phase state =
-      record {
-        known = λ q out.
-            let away = ap (λ ps. among ps q) (outs_are j.recipe) ∙ out in
-            known_is (turned n phase state b) q ∙ ap (λ r. settled r (entry_now b q)) (restores_same q away state) ∙ sym (known_is b q);
-        seen = λ q out. seen_is (turned n phase state b) q ∙ sym (seen_is b q);
-      }
 
   pub filled_but :
       (phase : Phase) (state : Option State) (row : Option (List (Option Entry))) (sights : Option (List (Option Sight))) →
@@ -113,6 +110,18 @@ module _ (b : Base) (sound : IsSound b) (n : ℕ) (j : Job) (at : slice_get b.jo
         seen = λ q out.
             let away = ap (λ ps. among ps q) (outs_are j.recipe) ∙ out in
             seen_is (next_base phase state row sights) q ∙ ap (own_sight q) (rows_same q away b.sights sights (seen_before b q)) ∙ sym (seen_is b q);
+      }
+
+  -- this was seen of the outputs of the job
+  pub sighted_but :
+      (sights : Option (List (Option Sight))) →
+      AreSameBut (outs_of j.recipe) (known_now b) (known_now (sighted n sights b)) (seen_now b) (seen_now (sighted n sights b))
+  sighted_but sights =
+      record {
+        known = λ q out. refl;
+        seen = λ q out.
+            let away = ap (λ ps. among ps q) (outs_are j.recipe) ∙ out in
+            seen_is (sighted n sights b) q ∙ ap (own_sight q) (rows_same q away b.sights sights (seen_before b q)) ∙ sym (seen_is b q);
       }
 
 -- ## What is sound stays so
@@ -130,12 +139,26 @@ turned_sound b sound n phase state =
       sources = sound.sources;
     }
 
-pub filled_sound : (b : Base) → IsSound b → (n : ℕ) (row : Option (List (Option Entry))) (sights : Option (List (Option Sight))) → IsSound (filled n row sights b)
+pub filled_sound :
+    (b : Base) → IsSound b → (n : ℕ) (row : Option (List (Option Entry))) (sights : Option (List (Option Sight))) → IsSound (filled n row sights b)
 filled_sound b sound n row sights =
     record {
       phases = sound.phases;
       began = sound.began;
       entries = set_length b.entries n row ∙ sound.entries;
+      sights = set_length b.sights n sights ∙ sound.sights;
+      sited = sound.sited;
+      unnamed = sound.unnamed;
+      came = sound.came;
+      sources = sound.sources;
+    }
+
+pub sighted_sound : (b : Base) → IsSound b → (n : ℕ) (sights : Option (List (Option Sight))) → IsSound (sighted n sights b)
+sighted_sound b sound n sights =
+    record {
+      phases = sound.phases;
+      began = sound.began;
+      entries = sound.entries;
       sights = set_length b.sights n sights ∙ sound.sights;
       sited = sound.sited;
       unnamed = sound.unnamed;
@@ -149,7 +172,8 @@ abbrev name_if : Bool → Job → List Path
 name_if b j = if b then job_path j ∷ [] else []
 
 -- a job that began before is closed
-pub closed_begun : (jobs : List Job) (phases : List Phase) (n : ℕ) → slice_get phases n ≡ Some Running → begun_in jobs (slice_set phases n Closed) ≡ begun_in jobs phases
+pub closed_begun :
+    (jobs : List Job) (phases : List Phase) (n : ℕ) → slice_get phases n ≡ Some Running → begun_in jobs (slice_set phases n Closed) ≡ begun_in jobs phases
 closed_begun [] phases n at = refl
 closed_begun (j ∷ jobs) [] n at = refl
 closed_begun (j ∷ jobs) (p ∷ phases) zero at =
@@ -165,7 +189,8 @@ begun_other (k ∷ jobs) [] n j q at other phase = refl
 begun_other (k ∷ jobs) (p ∷ phases) zero j q at other phase =
     let is : k ≡ j = cc in
     let away : bytes_eq q (job_path k) ≡ false = ap (λ (x : Job). bytes_eq q (job_path x)) is ∙ other in
-    among_append (name_if (has_begun phase) k) (begun_in jobs phases) q ∙ ap (λ b. b || among (begun_in jobs phases) q) (gone (has_begun phase) away ∙ sym (gone (has_begun p) away))
+    among_append (name_if (has_begun phase) k) (begun_in jobs phases) q
+    ∙ ap (λ b. b || among (begun_in jobs phases) q) (gone (has_begun phase) away ∙ sym (gone (has_begun p) away))
     ∙ sym (among_append (name_if (has_begun p) k) (begun_in jobs phases) q)
   where
     gone : (b : Bool) → bytes_eq q (job_path k) ≡ false → among (name_if b k) q ≡ false
@@ -178,7 +203,8 @@ begun_other (k ∷ jobs) (p ∷ phases) (suc n) j q at other phase =
 
 -- the job that has begun is among them
 pub begun_here :
-    (jobs : List Job) (phases : List Phase) (n : ℕ) (j : Job) (phase : Phase) → slice_get jobs n ≡ Some j → slice_get phases n ≡ Some phase → has_begun phase ≡ true →
+    (jobs : List Job) (phases : List Phase) (n : ℕ) (j : Job) (phase : Phase) → slice_get jobs n ≡ Some j → slice_get phases n ≡ Some phase → has_begun phase
+    ≡ true →
     among (begun_in jobs phases) (job_path j) ≡ true
 begun_here [] phases n j phase at here begun = absurd cc
 begun_here (k ∷ jobs) [] n j phase at here begun = absurd cc
@@ -207,31 +233,33 @@ named_in : (ps : List Path) → is_some (first ps) ≡ true → among ps (or_emp
 named_in [] h = absurd (never_both false h refl)
 named_in (p ∷ ps) h = ap (λ b. b || among ps p) (same_bytes p)
 
-module _ (settings : Settings) (b : Base) (sound : IsSound b) (n : ℕ) (j : Job) (at : slice_get b.jobs.jobs n ≡ Some j) (facts : List JobFacts) (served : AreServed b.jobs settings.targets) (were : facts ≡ facts_now settings b) where
+module _
+    (settings : Settings) (b : Base) (sound : IsSound b) (n : ℕ) (j : Job) (at : slice_get b.jobs.jobs n ≡ Some j) (facts : List JobFacts)
+    (served : AreServed b.jobs settings.targets) (were : facts ≡ facts_now settings b) where
   abbrev told : Path → Bool
   told = among (told_sources b.jobs.makers)
 
   -- by the set of sources that is kept
   by_set :
-      (known : List Known) (seen : List Sight) →
-      merged facts (renewed_from known seen (contains_text b.sources) false (outs_of j.recipe) n 0 b.jobs.jobs facts)
-      ≡ renewed known seen told false (outs_of j.recipe) n b.jobs.jobs facts
-  by_set known seen = λ i. merged facts (renewed_from known seen (λ q. sound.sources q i) false (outs_of j.recipe) n 0 b.jobs.jobs facts)
+      (flag : Bool) (known : List Known) (seen : List Sight) →
+      merged facts (renewed_from known seen (contains_text b.sources) flag (outs_of j.recipe) n 0 b.jobs.jobs facts)
+      ≡ renewed known seen told flag (outs_of j.recipe) n b.jobs.jobs facts
+  by_set flag known seen = λ i. merged facts (renewed_from known seen (λ q. sound.sources q i) flag (outs_of j.recipe) n 0 b.jobs.jobs facts)
 
   not_forced : (ran : List Path) → among ran (job_path j) ≡ true → forced_by settings ran j ≡ false
   not_forced ran h = ap (λ x. not x && by_force settings.force (list_any (makes j) settings.targets)) h
 
   -- once the job has begun
   pub begun_facts :
-      has_name j ≡ true → (before : Phase) → slice_get b.phases n ≡ Some before → (state : State) →
-      merged facts
-      (renewed_from (known_now (turned n Running (Some state) b)) (seen_now (turned n Running (Some state) b)) (contains_text b.sources) false (outs_of j.recipe) n 0 b.jobs.jobs facts)
-      ≡ facts_now settings (turned n Running (Some state) b)
-  begun_facts named before was state =
-      let new : Base = turned n Running (Some state) b in
-      by_set (known_now new) (seen_now new)
-      ∙ renewed_are (known_now b) (known_now new) (seen_now b) (seen_now new) told (forced_by settings (begun_in b.jobs.jobs b.phases)) (forced_by settings (begun_in b.jobs.jobs new.phases)) false
-      n j b.jobs.jobs facts (turned_but b sound n j at Running (Some state)) (sym (at_same b.jobs.jobs n) ∙ at) served.apart
+      has_name j ≡ true → (before : Phase) → slice_get b.phases n ≡ Some before → (state : State) (row : List (Option Entry)) (sights : List (Option Sight)) →
+      merged facts (renewed_at (advanced n Running (Some state) row sights b) n false j facts)
+      ≡ facts_now settings (advanced n Running (Some state) row sights b)
+  begun_facts named before was state row sights =
+      let new : Base = advanced n Running (Some state) row sights b in
+      by_set false (known_now new) (seen_now new)
+      ∙ renewed_are (known_now b) (known_now new) (seen_now b) (seen_now new) told (forced_by settings (begun_in b.jobs.jobs b.phases))
+      (forced_by settings (begun_in b.jobs.jobs new.phases)) false
+      n j b.jobs.jobs facts (filled_but b sound n j at Running (Some state) (Some row) (Some sights)) (sym (at_same b.jobs.jobs n) ∙ at) served.apart
       (not_forced (begun_in b.jobs.jobs new.phases) (begun_here b.jobs.jobs new.phases n j Running at (set_here b.phases n Running before was) refl))
       (λ m k other here. ap (λ x. not x && by_force settings.force (list_any (makes k) settings.targets))
       (begun_other b.jobs.jobs b.phases n j (job_path k) at
@@ -242,17 +270,26 @@ module _ (settings : Settings) (b : Base) (sound : IsSound b) (n : ℕ) (j : Job
 
   -- once it is closed
   pub closed_facts :
-      slice_get b.phases n ≡ Some Running → (row : Option (List (Option Entry))) (sights : Option (List (Option Sight))) →
-      merged facts
-      (renewed_from (known_now (filled n row sights (turned n Closed None b))) (seen_now (filled n row sights (turned n Closed None b))) (contains_text b.sources) false (outs_of j.recipe) n 0
-      b.jobs.jobs facts)
-      ≡ facts_now settings (filled n row sights (turned n Closed None b))
+      slice_get b.phases n ≡ Some Running → (row : List (Option Entry)) (sights : List (Option Sight)) →
+      merged facts (renewed_at (advanced n Closed None row sights b) n false j facts) ≡ facts_now settings (advanced n Closed None row sights b)
   closed_facts runs row sights =
-      let new : Base = filled n row sights (turned n Closed None b) in
+      let new : Base = advanced n Closed None row sights b in
       let same : begun_in b.jobs.jobs new.phases ≡ begun_in b.jobs.jobs b.phases = closed_begun b.jobs.jobs b.phases n runs in
-      by_set (known_now new) (seen_now new)
-      ∙ renewed_are (known_now b) (known_now new) (seen_now b) (seen_now new) told (forced_by settings (begun_in b.jobs.jobs b.phases)) (forced_by settings (begun_in b.jobs.jobs new.phases)) false
-      n j b.jobs.jobs facts (filled_but b sound n j at Closed None row sights) (sym (at_same b.jobs.jobs n) ∙ at) served.apart
+      by_set false (known_now new) (seen_now new)
+      ∙ renewed_are (known_now b) (known_now new) (seen_now b) (seen_now new) told (forced_by settings (begun_in b.jobs.jobs b.phases))
+      (forced_by settings (begun_in b.jobs.jobs new.phases)) false
+      n j b.jobs.jobs facts (filled_but b sound n j at Closed None (Some row) (Some sights)) (sym (at_same b.jobs.jobs n) ∙ at) served.apart
       (ap (λ ran. forced_by settings ran j) same ∙ not_forced (begun_in b.jobs.jobs b.phases) (begun_here b.jobs.jobs b.phases n j Running at runs refl))
       (λ m k other here. ap (λ ran. forced_by settings ran k) same)
       were
+
+  -- once something else is seen at its outputs
+  pub sighted_facts :
+      (flag : Bool) → forced_by settings (begun_in b.jobs.jobs b.phases) j ≡ flag → (sights : Option (List (Option Sight))) →
+      merged facts (renewed_at (sighted n sights b) n flag j facts) ≡ facts_now settings (sighted n sights b)
+  sighted_facts flag force sights =
+      let new : Base = sighted n sights b in
+      by_set flag (known_now new) (seen_now new)
+      ∙ renewed_are (known_now b) (known_now new) (seen_now b) (seen_now new) told (forced_by settings (begun_in b.jobs.jobs b.phases))
+      (forced_by settings (begun_in b.jobs.jobs b.phases)) flag
+      n j b.jobs.jobs facts (sighted_but b sound n j at sights) (sym (at_same b.jobs.jobs n) ∙ at) served.apart force (λ m k other here. refl) were

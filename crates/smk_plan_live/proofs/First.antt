@@ -18,7 +18,7 @@ use Rattle.smk_plan.specs.declared.fault.PlanFault.{PlanFault}
 use Rattle.smk_plan.specs.declared.seen.Sight.{Sight}
 use Rattle.smk_plan.specs.Sights.{IsSeenOf, IsSeenAs, IsSourceSeen, sight_at}
 use Rattle.smk_plan.specs.Summed.{AreSummed, IsSummed}
-use Rattle.smk_plan.specs.States.{test_some}
+use Rattle.smk_plan.specs.States.{Progress, test_some}
 use Rattle.smk_plan_facts.specs.Facts.{having_run}
 use Rattle.smk_plan_facts.proofs.Tests.{each_of}
 use Rattle.smk_plan_table.specs.Plans.{Agree, IsRefused, IsRefusedAt}
@@ -29,6 +29,7 @@ use Rattle.smk_plan_live.specs.Phases.{begun_in, children_in, named}
 use Rattle.smk_plan_live.specs.Now.{joined, row_by, row_at, entry_now, own_sight, seen_before, restores_at, restored_now, settled, known_now, seen_now}
 use Rattle.smk_plan_live.specs.Lives.{IsAgreed, IsRefusedNow, progress_of}
 use Rattle.smk_plan_live.specs.Changes.{IsFirst}
+use Rattle.smk_plan_live.proofs.Resting.{agrees_at_rest}
 use Rattle.smk_plan_live.proofs.Tables.{known_is, seen_is, own_seen}
 
 -- ## Rows of nothing
@@ -108,10 +109,16 @@ module _ (b : Base) (jobs : Jobs) (store : List Known) (seen : List Sight) (f : 
       each_of (λ (j : Job). Each (IsSummed image seen j) (in_paths j.recipe)) (λ (j : Job). Each (IsSummed image (seen_now b) j) (in_paths j.recipe))
       (λ j. each_of (IsSummed image seen j) (IsSummed image (seen_now b) j) (λ q told source at small needs. ap (test_some (λ (s : Sight). is_some s.sum)) (sight_first q) ∙ told source at small needs) (in_paths j.recipe)) jobs.jobs h
 
+  idle : progress_of b ≡ having_run []
+  idle =
+      (λ i. record { begun = begun_in (f.now i).jobs (f.phases i); running = map named (children_in (f.now i).jobs (f.began i)) })
+      ∙ (λ i. record { begun = none_begun jobs.jobs i; running = map named (none_run jobs.jobs i) })
+
   -- what agrees with the store and with what was seen agrees with the plan that begins
   pub agrees_first : (settings : Settings) → Agree image jobs store seen settings.targets → IsAgreed image settings b
   agrees_first settings a =
-      subst (λ (js : Jobs). Agree image js (known_now b) (seen_now b) settings.targets) (sym f.now)
+      agrees_at_rest image settings (progress_of b) b.jobs (known_now b) (seen_now b) (ap (λ (p : Progress). p.running) idle)
+      (subst (λ (js : Jobs). Agree image js (known_now b) (seen_now b) settings.targets) (sym f.now)
       (record {
         named = a.named;
         recorded = a.recorded;
@@ -122,12 +129,7 @@ module _ (b : Base) (jobs : Jobs) (store : List Known) (seen : List Sight) (f : 
         made = a.made;
         read = a.read;
         asked = a.asked;
-      })
-
-  idle : progress_of b ≡ having_run []
-  idle =
-      (λ i. record { begun = begun_in (f.now i).jobs (f.phases i); running = map named (children_in (f.now i).jobs (f.began i)) })
-      ∙ (λ i. record { begun = none_begun jobs.jobs i; running = map named (none_run jobs.jobs i) })
+      }))
 
   -- and what is refused of it is refused where none has begun
   pub refused_first : (settings : Settings) (fault : PlanFault) → IsRefusedNow settings b fault → Agree image jobs store seen settings.targets → IsRefused image settings [] jobs fault

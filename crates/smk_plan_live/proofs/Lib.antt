@@ -3,8 +3,11 @@ pub mod Merged
 pub mod Same
 pub mod Bridge
 pub mod Restoring
+pub mod Counted
+pub mod Resting
 pub mod Changed
 pub mod First
 pub mod Judging
 pub mod Grown
 pub mod Installed
+pub mod Effects

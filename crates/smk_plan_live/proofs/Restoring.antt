@@ -1,10 +1,9 @@
--- Of what is being restored no mark is known.
-use Rattle.std.proofs.Common.{◌≡◌, ◌⊎◌, inl, inr, ℕ, zero, suc, ◌+◌, Bool, true, false, cond, ◌&&◌, ◌||◌, not, ◌==◌, List, [], ◌∷◌, ◌++◌, map, Option, Some, None, option_map, refl, sym, ap, subst, ◌∙◌, bytes_eq, arith}
+-- Where outputs stand, and which of them are being restored.
+use Rattle.std.proofs.Common.{◌≡◌, ◌⊎◌, inl, inr, ℕ, zero, suc, ◌+◌, Bool, true, false, cond, ◌&&◌, ◌||◌, ◌==◌, List, [], ◌∷◌, ◌++◌, map, Option, Some, None, option_map, refl, sym, ap, subst, ◌∙◌, bytes_eq, arith}
 use Rattle.std.specs.Prelude.{if◌then◌else◌}
 use Rattle.std.specs.List.{find, list_any, slice_get}
-use Rattle.std.proofs.lemmas.Bool.{eqb-true, eqb-false, or_right, or_parts}
+use Rattle.std.proofs.lemmas.Bool.{eqb-true, eqb-false, or_right}
 use Rattle.std.proofs.lemmas.Option.{same_Some, none-some}
-use Rattle.std.proofs.Math.Bool.{and-false}
 use Rattle.std.proofs.Math.Nat.{zero-add}
 use Rattle.smk_base.proofs.Places.{same_place, and_first, and_second}
 use Rattle.smk_base.proofs.Under.{never_both, false_unless}
@@ -15,9 +14,7 @@ use Rattle.smk_world.specs.World.{out_paths}
 use Rattle.smk_world.specs.Trees.{Path, among, first, outs_of}
 use Rattle.smk_pattern.specs.Reading.{or_empty}
 use Rattle.smk_flow.specs.declared.job.Job.{Job}
-use Rattle.smk_store.specs.declared.store.Entry.{Entry}
-use Rattle.smk_store.specs.Images.{Image, stands, is_known}
-use Rattle.smk_store.specs.Loading.{entry_at, entry_in}
+use Rattle.smk_store.specs.Images.{Image}
 use Rattle.smk_trigger.specs.declared.reason.State.{State}
 use Rattle.smk_trigger.specs.JobStates.{is_restore}
 use Rattle.smk_pick.specs.declared.settings.Settings.{Settings}
@@ -30,11 +27,11 @@ use Rattle.smk_plan_live.specs.declared.sites.Site.{Site}
 use Rattle.smk_plan_live.specs.declared.children.Child.{Child}
 use Rattle.smk_plan_live.specs.Phases.{named, child_in, children_in, running_in}
 use Rattle.smk_plan_live.specs.Sites.{site_outs, site_in}
-use Rattle.smk_plan_live.specs.Now.{joined, entry_now, restored_now, restores_at, settled}
+use Rattle.smk_plan_live.specs.Now.{joined, restored_now, restores_at}
 use Rattle.smk_plan_live.specs.Same.{paths_in}
-use Rattle.smk_plan_live.specs.Lives.{IsSound, IsAgreed, progress_of}
+use Rattle.smk_plan_live.specs.Lives.{IsSound, progress_of}
 use Rattle.smk_plan_live.proofs.Same.{map_parts, outputs_apart}
-use Rattle.smk_plan_live.proofs.Tables.{same_bytes, flipped, known_is, mark_left}
+use Rattle.smk_plan_live.proofs.Tables.{same_bytes, flipped}
 
 -- ## Lists and numbers
 
@@ -50,7 +47,7 @@ same_number m n h = go (m == n) refl
     go true e = eqb-true m n e
     go false e = absurd (h (eqb-false m n e))
 
-any_at : {A : Type 0} (test : A → Bool) (xs : List A) → list_any test xs ≡ true → (m : ℕ) × (x : A) × (slice_get xs m ≡ Some x) × (test x ≡ true)
+pub any_at : {A : Type 0} (test : A → Bool) (xs : List A) → list_any test xs ≡ true → (m : ℕ) × (x : A) × (slice_get xs m ≡ Some x) × (test x ≡ true)
 any_at {A = A} test [] h = absurd (never_both false h refl)
 any_at {A = A} test (x ∷ xs) h = go (test x) refl h (any_at test xs)
   where
@@ -177,7 +174,7 @@ first_or [] = inl refl
 first_or (p ∷ ps) = inr (ap (λ b. b || among ps p) (same_bytes p))
 
 module _ (b : Base) (sound : IsSound b) (apart : AreApart (outputs_of b.jobs.jobs)) where
-  one_job :
+  pub one_job :
       (m n : ℕ) (j k : Job) (q : Path) → slice_get b.jobs.jobs m ≡ Some j → slice_get b.jobs.jobs n ≡ Some k → among (out_paths j.recipe) q ≡ true →
       among (out_paths k.recipe) q ≡ true → m ≡ n
   one_job m n j k q at bt h g =
@@ -205,7 +202,7 @@ module _ (b : Base) (sound : IsSound b) (apart : AreApart (outputs_of b.jobs.job
       go (inl none) = absurd (never_empty m j at (subst (λ p. among (out_paths j.recipe) p ≡ true) (sym same ∙ none) own))
       go (inr named) = one_job i m k j (job_path j) here at (subst (λ p. among (out_paths k.recipe) p ≡ true) same named) own
 
-  restored_so : (image : Image) (settings : Settings) (q : Path) → is_restored image settings (progress_of b) (with_states b.jobs []) q ≡ true → restored_now b q ≡ true
+  pub restored_so : (image : Image) (settings : Settings) (q : Path) → is_restored image settings (progress_of b) (with_states b.jobs []) q ≡ true → restored_now b q ≡ true
   restored_so image settings q h =
       let r = any_at (λ j. test_some is_restore (kept_state image settings (progress_of b) (with_states b.jobs []) j) && among (out_paths j.recipe) q) b.jobs.jobs h in
       of r.0 r.1 r.2 (and_first _ _ r.3) (and_second _ _ r.3)
@@ -219,22 +216,3 @@ module _ (b : Base) (sound : IsSound b) (apart : AreApart (outputs_of b.jobs.job
           let same : (t.0).job ≡ m = s.2 ∙ zero-add (s.0) ∙ one_job (s.0) m (s.1) j q s.3 at s.4 has in
           ap (restores_at b.began) (sound.sited q ∙ t.1) ∙ ap (λ n. test_some is_restore (joined (slice_get b.began n))) same
           ∙ ap (test_some is_restore) (sym (kept_at b.jobs.jobs b.began m j at (one_name m j q at has))) ∙ runs
-
--- ## No mark is known there
-
-no_mark : (e : Option Entry) (restored : Bool) → restored ≡ true → test_some (λ (x : Entry). x.marked) (settled restored e) ≡ false
-no_mark None restored is = refl
-no_mark (Some x) restored is = sym (mark_left restored x) ∙ ap (λ b. x.marked && not b) is ∙ and-false x.marked
-
-mark_known : (image : Image) (q : Path) (e : Option Entry) (restored : Bool) → restored ≡ true → settled restored e ≡ entry_in image q → image.marked q ≡ false
-mark_known image q e restored is same = go (is_known image q) refl
-  where
-    go : (b : Bool) → is_known image q ≡ b → image.marked q ≡ false
-    go true k = sym (ap (test_some (λ (x : Entry). x.marked)) (same ∙ ap (λ b. if b then Some (entry_at image q) else None) k)) ∙ no_mark e restored is
-    go false k = (or_parts (image.marked q) (image.noted q) (or_parts (stands (image.kept q)) (image.marked q || image.noted q) k).1).0
-
-pub unmarked :
-    (b : Base) → IsSound b → (image : Image) (settings : Settings) → IsAgreed image settings b → (q : Path) →
-    is_restored image settings (progress_of b) (with_states b.jobs []) q ≡ true → image.marked q ≡ false
-unmarked b sound image settings agree q h =
-    mark_known image q (entry_now b q) (restored_now b q) (restored_so b sound agree.served.apart image settings q h) (sym (known_is b q) ∙ agree.stored.entries q)

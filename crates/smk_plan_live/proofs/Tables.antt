@@ -1,5 +1,5 @@
 -- What is known and was seen now, by a function of paths and as lists.
-use Rattle.std.proofs.Common.{◌≡◌, Bool, true, false, cond, not, ◌&&◌, ◌||◌, List, [], ◌∷◌, ◌++◌, map, Option, Some, None, is_some, refl, sym, ap, ◌∙◌, string_bytes, bytes_eq}
+use Rattle.std.proofs.Common.{◌≡◌, Bool, true, false, cond, not, ◌&&◌, ◌||◌, List, [], ◌∷◌, ◌++◌, map, Option, Some, None, is_some, refl, sym, ap, subst, ◌∙◌, string_bytes, bytes_eq}
 use Rattle.std.specs.Prelude.{if◌then◌else◌, String}
 use Rattle.std.specs.Global.{Global}
 use Rattle.std.specs.List.{list_any}
@@ -10,6 +10,7 @@ use Rattle.std.specs.BTreeMap.{get_by_text, keys}
 use Rattle.std.specs.Map.{lookup, keys_of}
 use Rattle.std.proofs.lemmas.Map.Text.{is_eq-slice_cmp}
 use Rattle.std.proofs.lemmas.Bool.{or_parts}
+use Rattle.std.proofs.lemmas.Option.{same_Some, none-some}
 use Rattle.smk_base.specs.Path.{is_path}
 use Rattle.smk_base.proofs.Places.{same_place}
 use Rattle.smk_world.specs.World.{folders_above}
@@ -23,7 +24,7 @@ use Rattle.smk_plan.specs.Sights.{sight_at}
 use Rattle.smk_plan.specs.States.{test_some}
 use Rattle.smk_plan_live.specs.declared.base.Base.{Base}
 use Rattle.smk_plan_live.specs.declared.sites.Site.{Site}
-use Rattle.smk_plan_live.specs.Now.{row_at, own_sight, seen_before, sight_now, is_left, settled, settled_now, restored_now, known_one, known_table, seen_one, seen_table, output_names, known_now, seen_now}
+use Rattle.smk_plan_live.specs.Now.{row_at, own_sight, seen_before, sight_now, entry_now, is_left, settled, settled_now, restored_now, known_one, known_table, seen_one, seen_table, output_names, known_now, seen_now}
 use Rattle.smk_plan_states.proofs.Tests.{among_append}
 
 -- ## Texts
@@ -170,3 +171,18 @@ own_seen (s ∷ ss) q = go (bytes_eq s.path q) refl (own_seen ss q)
         own_sight q (if b then Some s else sight_at ss q) ≡ (if b then Some s else sight_at ss q)
     go true e more = ap (λ (b : Bool). if b then Some s else None) e
     go false e more = more
+
+-- something is left of each entry that is known now
+left_some : (restored : Bool) (o : Option Entry) (e : Entry) → settled restored o ≡ Some e → (stands e.kept || (e.marked || e.noted)) ≡ true
+left_some restored None e h = absurd (none-some e h)
+left_some restored (Some x) e h = go (is_left restored x) refl h
+  where
+    left : Entry
+    left = record { kept = x.kept; marked = x.marked && not restored; noted = x.noted }
+
+    go : (b : Bool) → is_left restored x ≡ b → (if b then Some left else None) ≡ Some e → (stands e.kept || (e.marked || e.noted)) ≡ true
+    go true k is = subst (λ (y : Entry). (stands y.kept || (y.marked || y.noted)) ≡ true) (same_Some left e is) k
+    go false k is = absurd (none-some e is)
+
+pub left_now : (b : Base) (q : Path) (e : Entry) → entry_of (known_now b) q ≡ Some e → (stands e.kept || (e.marked || e.noted)) ≡ true
+left_now b q e h = left_some (restored_now b q) (entry_now b q) e (sym (known_is b q) ∙ h)

@@ -1,19 +1,21 @@
 -- What changes as a job begins or is closed, and what jobs keep as new ones come.
-use Rattle.std.specs.Prelude.{ℕ, Bool, is_some, ◌==◌, List, map, slice_set, if◌then◌else◌, Option, Some, None, option_map}
+use Rattle.std.specs.Prelude.{ℕ, Bool, true, false, bytes_eq, is_some, ◌==◌, List, map, slice_set, if◌then◌else◌, Option, Some, None, option_map}
 use Rattle.std.specs.List.{slice_get}
 use Rattle.std.specs.Option.{option_and_then, option_or}
 use Rattle.std.specs.BTreeMap.{get_by_text}
-use Rattle.smk_world.specs.Trees.{first}
+use Rattle.smk_world.specs.declared.event.Stat.TheVariants.{Nothing}
+use Rattle.smk_world.specs.Trees.{Path, first}
 use Rattle.smk_world.specs.World.{out_paths}
 use Rattle.smk_flow.specs.declared.job.Job.{Job}
 use Rattle.smk_store.specs.declared.store.Entry.{Entry}
+use Rattle.smk_store.specs.declared.store.Kept.TheVariants.{Absent}
 use Rattle.smk_trigger.specs.declared.reason.State.{State}
 use Rattle.smk_plan.specs.declared.seen.Sight.{Sight}
 use Rattle.smk_plan_facts.specs.Telling.{copied}
 use Rattle.smk_plan_live.specs.declared.base.Base.{Base}
 use Rattle.smk_plan_live.specs.declared.sites.Site.{Site}
 use Rattle.smk_plan_live.specs.declared.phase.Phase.{Phase}
-use Rattle.smk_plan_live.specs.declared.phase.Phase.TheVariants.{Waiting}
+use Rattle.smk_plan_live.specs.declared.phase.Phase.TheVariants.{Waiting, Running}
 use Rattle.smk_plan_live.specs.Now.{joined, entry_now, sight_now}
 
 -- ## A job begins or is closed
@@ -34,6 +36,58 @@ turned n phase state b = record b { phases = slice_set b.phases n phase; began =
 -- this is what is known and was seen of the outputs of the job of the number n
 abbrev pub filled : ℕ → Option (List (Option Entry)) → Option (List (Option Sight)) → Base → Base
 filled n row sights b = record b { entries = slice_set b.entries n row; sights = slice_set b.sights n sights }
+
+-- The same together.
+abbrev pub advanced : ℕ → Phase → Option State → List (Option Entry) → List (Option Sight) → Base → Base
+advanced n phase state row sights b = filled n (Some row) (Some sights) (turned n phase state b)
+
+-- ## What stands at outputs
+
+-- what is known of an output once its job has begun: what was known, and a mark
+abbrev pub marked_entry : Option Entry → Entry
+marked_entry None = record { kept = Absent; marked = true; noted = false }
+marked_entry (Some e) = record { kept = copied e.kept; marked = true; noted = e.noted }
+
+-- nothing is seen at the path
+abbrev pub nothing_at : Path → Sight
+nothing_at q = record { path = q; stat = Nothing; members = None; guarded = false; sum = None }
+
+abbrev pub begun_entry : Base → Path → Option Entry
+begun_entry b q = Some (marked_entry (entry_now b q))
+
+abbrev pub gone_sight : Path → Option Sight
+gone_sight q = Some (nothing_at q)
+
+-- of the outputs of a job that begins
+abbrev pub begun_entries : Base → Job → List (Option Entry)
+begun_entries b j = map (begun_entry b) (out_paths j.recipe)
+
+abbrev pub gone_sights : Job → List (Option Sight)
+gone_sights j = map gone_sight (out_paths j.recipe)
+
+-- The job, whose number is n, has begun with this state: its outputs are marked, and nothing stands at them.
+abbrev pub begun : ℕ → State → Job → Base → Base
+begun n state j b = advanced n Running (Some state) (begun_entries b j) (gone_sights j) b
+
+-- what is seen at a path once another one was removed, or this one
+abbrev pub sight_but : Base → Path → Path → Option Sight
+sight_but b gone q = if bytes_eq q gone then gone_sight q else sight_now b q
+
+-- of the outputs of the job of the number n
+abbrev pub sights_but : Base → Path → ℕ → Option (List (Option Sight))
+sights_but b gone n = option_map (λ (j : Job). map (sight_but b gone) (out_paths j.recipe)) (slice_get b.jobs.jobs n)
+
+-- this was seen of the outputs of the job of the number n
+abbrev pub sighted : ℕ → Option (List (Option Sight)) → Base → Base
+sighted n sights b = record b { sights = slice_set b.sights n sights }
+
+abbrev pub spent_at : Option Site → Path → Base → Base
+spent_at None gone b = b
+spent_at (Some s) gone b = sighted s.job (sights_but b gone s.job) b
+
+-- The output was removed: nothing stands there.
+abbrev pub spent : Path → Base → Base
+spent gone b = spent_at (get_by_text b.sites gone) gone b
 
 -- ## New jobs come
 

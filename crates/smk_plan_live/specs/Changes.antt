@@ -14,9 +14,9 @@ use Rattle.smk_plan.specs.declared.seen.Sight.{Sight}
 use Rattle.smk_plan.specs.Sights.{sight_at}
 use Rattle.smk_plan_live.specs.declared.base.Base.{Base}
 use Rattle.smk_plan_live.specs.declared.live.LivePlan.{LivePlan}
-use Rattle.smk_plan_live.specs.declared.phase.Phase.TheVariants.{Waiting, Running, Closed}
+use Rattle.smk_plan_live.specs.declared.phase.Phase.TheVariants.{Waiting, Closed}
 use Rattle.smk_plan_live.specs.Now.{seen_before}
-use Rattle.smk_plan_live.specs.Carried.{turned, filled, phase_from, began_from, entries_from, sights_from, with_seen}
+use Rattle.smk_plan_live.specs.Carried.{advanced, begun, spent, phase_from, began_from, entries_from, sights_from, with_seen}
 use Rattle.smk_plan_live.specs.Lives.{IsRefusedNow}
 
 -- ## None has begun
@@ -31,19 +31,32 @@ pub record IsFirst (jobs : Jobs) (store : List Known) (seen : List Sight) (b : B
   pub phases : b.phases ≡ map (λ (j : Job). Waiting) jobs.jobs
   pub began : b.began ≡ map (λ (j : Job). None) jobs.jobs
 
--- ## A job begins or is closed
+-- ## A job begins or is closed, an output is removed
 
--- The job, whose number is n, has begun with the state that it had; nothing else has changed.
+-- The job, whose number is n, has begun with the state that it had: its outputs are marked, and nothing stands at them. Nothing else has changed.
 pub record HasBegun (n : ℕ) (old new : LivePlan) : Type 0 where
   pub settings : new.settings ≡ old.settings
   pub state : State
   pub had : slice_get old.plan.states n ≡ Some state
-  pub base : new.base ≡ turned n Running (Some state) old.base
+  pub job : Job
+  pub is : slice_get old.base.jobs.jobs n ≡ Some job
+  pub base : new.base ≡ begun n state job old.base
+
+-- The job of the number n would begin, with the state that it has, and that plan is refused.
+abbrev pub IsRefusedBegun : ℕ → LivePlan → PlanFault → Type 0
+IsRefusedBegun n old fault =
+    (state : State) → slice_get old.plan.states n ≡ Some state →
+    (j : Job) → slice_get old.base.jobs.jobs n ≡ Some j → IsRefusedNow old.settings (begun n state j old.base) fault
 
 -- The job, whose number is n, was closed with these entries and sights; nothing else has changed.
 pub record HasClosed (n : ℕ) (entries : List Entry) (sights : List Sight) (old new : LivePlan) : Type 0 where
   pub settings : new.settings ≡ old.settings
-  pub base : new.base ≡ filled n (Some (map Some entries)) (Some (map Some sights)) (turned n Closed None old.base)
+  pub base : new.base ≡ advanced n Closed None (map Some entries) (map Some sights) old.base
+
+-- The output was removed: nothing stands there; nothing else has changed.
+pub record HasSpent (gone : Path) (old new : LivePlan) : Type 0 where
+  pub settings : new.settings ≡ old.settings
+  pub base : new.base ≡ spent gone old.base
 
 -- ## New jobs come
 

@@ -3,6 +3,8 @@ pub mod Sites
 pub mod Now
 pub mod Same
 pub mod Carried
+pub mod Agreeing
 pub mod Lives
 pub mod Changes
 pub mod Steps
+pub mod Effects

@@ -17,9 +17,10 @@ use Rattle.smk_plan_facts.specs.Facts.{told_sources}
 use Rattle.smk_plan_facts.specs.Telling.{facts_in, forced_by, has_path_texts, IsSorted, directories_of, wholes_in}
 use Rattle.smk_plan_states.specs.Served.{AreServed}
 use Rattle.smk_plan_states.specs.Judged.{Judging, any_held_back}
-use Rattle.smk_plan_table.specs.Plans.{Agree, HasMadeAt, IsRefusedAt}
+use Rattle.smk_plan_table.specs.Plans.{HasMadeAt, IsRefusedAt}
 use Rattle.smk_plan_live.specs.declared.base.Base.{Base}
 use Rattle.smk_plan_live.specs.declared.live.LivePlan.{LivePlan}
+use Rattle.smk_plan_live.specs.Agreeing.{AgreesNow}
 use Rattle.smk_plan_live.specs.Phases.{begun_in, progress_in}
 use Rattle.smk_plan_live.specs.Sites.{site_in}
 use Rattle.smk_plan_live.specs.Same.{merged}
@@ -38,10 +39,9 @@ abbrev pub facts_now : Settings → Base → List JobFacts
 facts_now settings b =
     map (facts_in (known_now b) (seen_now b) (among (told_sources b.jobs.makers)) (forced_by settings (begun_in b.jobs.jobs b.phases))) b.jobs.jobs
 
--- The image has what is known and was seen now, and each source of which a record needs the digest was seen with it. A mark of what is being restored isn't
--- known, so the image has none there: it stands for a folder without those marks.
+-- The folder has what is known and was seen now, while the children of the jobs that have begun and aren't closed run.
 abbrev pub IsAgreed : Image → Settings → Base → Type 0
-IsAgreed image settings b = Agree image b.jobs (known_now b) (seen_now b) settings.targets
+IsAgreed image settings b = AgreesNow image settings (progress_of b) b.jobs (known_now b) (seen_now b)
 
 -- the states, the current targets and the known listings are those of the definitions, and so it is told whether a job is held back
 pub record IsTold (settings : Settings) (b : Base) (told : Told) (held : Bool) (image : Image) : Type 0 where

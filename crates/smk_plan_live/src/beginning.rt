@@ -1,95 +1,146 @@
 //! How a job begins.
 
-ghost use Rattle.std.specs.Prelude.{◌≡◌, ◌≢◌, ◌<◌, length, slice_index_or, true, Some, OnOk, OnErr, IfErr};
+ghost use Rattle.std.specs.Prelude.{◌≡◌, ◌≢◌, ◌<◌, length, map, option_map, Some, IfOk, OnOk, OnErr, IfErr};
 ghost use Rattle.std.specs.List.{slice_get};
-ghost use Rattle.smk_plan.specs.States.{test_some};
-ghost use Rattle.smk_trigger.specs.declared.reason.State.{State as StateValue};
-ghost use Rattle.smk_plan_live.specs.Lives.{IsLive, IsRefusedNow};
-ghost use Rattle.smk_plan_live.specs.Carried.{has_name, turned};
-ghost use Rattle.smk_plan_live.specs.Changes.{HasBegun};
+ghost use Rattle.smk_plan_live.specs.Lives.{IsLive};
+ghost use Rattle.smk_plan_live.specs.Carried.{has_name, marked_entry, begun_entry, gone_sight, nothing_at, begun_entries, gone_sights};
+ghost use Rattle.smk_plan_live.specs.Changes.{HasBegun, IsRefusedBegun};
+ghost use Rattle.smk_plan_live.specs.Steps.{IsStart};
 
 use crate::base::Base;
 use crate::children::state_again;
-use crate::next::next_of;
+use crate::now::entry_now;
+use crate::outs::out_paths_in;
+use crate::rows::Rows;
+use crate::slots::Slots;
 use crate::{LivePlan, Phase};
+use smk_base::{OutOfMemory, PathText};
 use smk_chain::first_output;
 use smk_flow::Job;
-use smk_plan::PlanFault;
+use smk_plan::{PlanFault, Sight};
+use smk_plan_facts::kept_again;
+use smk_store::{Entry, Kept};
 use smk_trigger::{Plain, State};
+use smk_world::Stat;
 use std::alloc::Global;
 
-// The state of the number.
-fn state_at(states: &[State], number: usize) -> &State
-    requires { number < length states.now }
-    ensures { slice_get states.now number ≡ Some result.now }
+// The entry with a mark; a record only where it is valid.
+fn marked_entry(alloc: Global, entry: Option<&Entry>) -> Result<Entry, OutOfMemory>
+    ensures { IfOk result (λ marked. marked ≡ marked_entry (option_map (λ e. e.now) entry.entry)) }
 {
-    &states[number]
-}
-
-// Whether the job of the number has an output.
-fn has_output(jobs: &[Job], number: usize) -> bool
-    ensures { result ≡ test_some has_name (slice_get jobs.now number) }
-{
-    match jobs.get(number) {
-        None => false,
-        Some(job) => first_output(job).is_some(),
+    match entry {
+        None => Ok(Entry {
+            kept: Kept::Absent,
+            marked: true,
+            noted: false,
+        }),
+        Some(entry) => Ok(Entry {
+            kept: kept_again(alloc, &entry.kept)?,
+            marked: true,
+            noted: entry.noted,
+        }),
     }
 }
 
-impl Base {
-    /// The job of the number has come so far, and runs with this state at its beginning, or doesn't run. It gives what it was before.
-    pub(crate) fn turn(
-        &mut self,
-        number: usize,
-        phase: Phase,
-        state: Option<State>,
-    ) -> (Phase, Option<State>)
-        requires phase { number < length self.old.phases }
-        requires state { number < length self.old.began }
-        ensures now { self.new ≡ turned number phase state self.old }
-        ensures phase { result.0 ≡ slice_index_or self.old.phases number result.0 }
-        ensures state { result.1 ≡ slice_index_or self.old.began number result.1 }
-    {
-        let before = self.phases.swap(number, phase);
-        let was = self.began.swap(number, state);
-        (before, was)
+// What is known of each of the outputs once their job has begun.
+fn begun_entries(
+    alloc: Global,
+    base: &Base,
+    paths: &[PathText],
+) -> Result<Vec<Option<Entry>>, OutOfMemory>
+    ensures { IfOk result (λ row. row.items ≡ map (begun_entry base.now) paths.now) }
+{
+    let mut row = Vec::new(alloc);
+    for path in paths {
+        let entry = marked_entry(alloc, entry_now(base, path))?;
+        row.push(Some(entry))?;
     }
+    Ok(row)
+}
+
+/// Nothing is seen at the path.
+pub(crate) fn nothing_at(alloc: Global, path: &PathText) -> Result<Sight, OutOfMemory>
+    ensures { IfOk result (λ sight. sight ≡ nothing_at path.now) }
+{
+    Ok(Sight {
+        path: path.copy(alloc)?,
+        stat: Stat::Nothing,
+        members: None,
+        guarded: false,
+        sum: None,
+    })
+}
+
+// Nothing is seen at each of the paths.
+fn gone_sights(alloc: Global, paths: &[PathText]) -> Result<Vec<Option<Sight>>, OutOfMemory>
+    ensures { IfOk result (λ row. row.items ≡ map gone_sight paths.now) }
+{
+    let mut row = Vec::new(alloc);
+    for path in paths {
+        let sight = nothing_at(alloc, path)?;
+        row.push(Some(sight))?;
+    }
+    Ok(row)
+}
+
+// What is known and seen of the outputs of the job once it has begun.
+fn begun_rows(alloc: Global, base: &Base, job: &Job) -> Result<Rows, OutOfMemory>
+    ensures entries { IfOk result (λ rows. rows.entries ≡ begun_entries base.now job.now) }
+    ensures sights { IfOk result (λ rows. rows.sights ≡ gone_sights job.now) }
+{
+    let paths = out_paths_in(alloc, job.recipe.outputs.as_slice())?;
+    let entries = begun_entries(alloc, base, paths.as_slice())?;
+    let sights = gone_sights(alloc, paths.as_slice())?;
+    Ok(Rows {
+        entries: Slots::of(entries),
+        sights: Slots::of(sights),
+    })
+}
+
+// A job that begins: the state that it has, and what is known and seen of its outputs from then on.
+#[derive(Drop)]
+pub(crate) struct Start {
+    pub(crate) state: State,
+    pub(crate) rows: Rows,
+}
+
+// The element of the number.
+fn element<T>(elements: &[T], number: usize) -> &T
+    requires { number < length elements.now }
+    ensures { slice_get elements.now number ≡ Some result.now }
+{
+    &elements[number]
+}
+
+// Whether the job has an output to be named by.
+fn has_name(job: &Job) -> bool
+    ensures { result ≡ has_name job.now }
+{
+    first_output(job).is_some()
+}
+
+// How the job of the number begins, where these are the states.
+fn start_of(
+    alloc: Global,
+    base: &Base,
+    states: &[State],
+    number: usize,
+) -> Result<Start, OutOfMemory>
+    requires job { number < length base.now.jobs.jobs }
+    requires state { number < length states.now }
+    ensures { IfOk result (IsStart base.now states.now number) }
+{
+    let job = element(base.jobs.jobs.as_slice(), number);
+    if !has_name(job) {
+        return Err(OutOfMemory);
+    }
+    let state = state_again(alloc, element(states, number))?;
+    let rows = begun_rows(alloc, base, job)?;
+    Ok(Start { state, rows })
 }
 
 impl LivePlan {
-    // The job of the number has begun with this state.
-    fn begin(&mut self, alloc: Global, number: usize, state: State) -> Result<(), PlanFault>
-        requires live { IsLive self.old }
-        requires waiting { slice_get self.old.base.phases number ≡ Some Phase.Waiting }
-        requires named { test_some has_name (slice_get self.old.base.jobs.jobs number) ≡ true }
-        requires had { slice_get self.old.plan.states number ≡ Some state }
-        ensures live { IsLive self.new }
-        ensures ok { OnOk result (HasBegun number self.old self.new) }
-        ensures err { OnErr result (self.new ≡ self.old) }
-        ensures refused { IfErr result (λ fault. fault ≢ PlanFault.OutOfMemory → IsRefusedNow self.old.settings (turned number Phase.Running (Some state) self.old.base) fault) }
-    {
-        let (before, was) = self.base.turn(number, Phase::Running, Some(state));
-        match next_of(
-            alloc,
-            number,
-            &self.base,
-            &self.settings,
-            self.facts.as_slice(),
-            self.reasons.as_slice(),
-            &Plain,
-        ) {
-            Err(fault) => {
-                self.base.turn(number, before, was);
-                Err(fault)
-            }
-            Ok(next) => {
-                self.install(next);
-                Ok(())
-            }
-        }
-    }
-
-    /// The job has begun: its child runs, with the state that the job has.
+    /// The job has begun: its child runs, with the state that the job has. From now on its outputs are marked, and nothing stands at them.
     ///
     /// Facts and reasons are told anew of it and of the jobs that read what it makes; the plan is told anew of all jobs, and what is whole too, so the time is linear
     /// in the jobs and what they read and make. No judge is asked but the plain one.
@@ -102,16 +153,15 @@ impl LivePlan {
         ensures live { IsLive self.new }
         ensures ok { OnOk result (HasBegun job self.old self.new) }
         ensures err { OnErr result (self.new ≡ self.old) }
-        ensures refused { IfErr result (λ fault. fault ≢ PlanFault.OutOfMemory → (state : StateValue) → slice_get self.old.plan.states job ≡ Some state
-            → IsRefusedNow self.old.settings (turned job Phase.Running (Some state) self.old.base) fault) }
+        ensures refused { IfErr result (λ fault. fault ≢ PlanFault.OutOfMemory → IsRefusedBegun job self.old fault) }
     {
         let number = job as usize;
-        if !has_output(self.base.jobs.jobs.as_slice(), number) {
-            return Err(PlanFault::OutOfMemory);
-        }
-        match state_again(alloc, state_at(self.plan.states.as_slice(), number)) {
+        match start_of(alloc, &self.base, self.plan.states.as_slice(), number) {
             Err(_) => Err(PlanFault::OutOfMemory),
-            Ok(state) => self.begin(alloc, number, state),
+            Ok(start) => {
+                let Start { state, rows } = start;
+                self.advance(alloc, number, Phase::Running, Some(state), rows, &Plain)
+            }
         }
     }
 }

@@ -14,7 +14,7 @@ use smk_chain::Jobs;
 use smk_pick::Settings;
 use smk_plan::{Plan, Sight};
 use smk_store::Entry;
-use smk_trigger::{JobFacts, Reason};
+use smk_trigger::{JobFacts, Reason, State};
 
 /// A plan that is kept while jobs begin and are closed and new ones come, with what each of its jobs is judged by and what the judge said of it.
 #[derive(Drop)]
@@ -29,7 +29,8 @@ pub struct LivePlan {
 }
 
 impl LivePlan {
-    ghost use Rattle.smk_plan_live.specs.Lives.{IsLive, IsAgreed, judging_of};
+    ghost use Rattle.smk_plan_live.specs.Lives.{IsLive, IsAgreed, facts_now, judging_of};
+    ghost use Rattle.smk_plan_states.specs.Served.{AreServed};
     ghost use Rattle.smk_plan_live.specs.Now.{output_entry, sight_now};
 
     /// The plan of this moment: the states of the jobs, which targets are current, and the listings that have become known. It takes no memory.
@@ -46,6 +47,43 @@ impl LivePlan {
         ensures { result.now ≡ self.now.base.jobs }
     {
         &self.base.jobs
+    }
+
+    /// What is known and was seen of paths now, as it is told to those who judge the jobs. It takes no memory.
+    pub fn told(&self) -> &Base
+        ensures { result.now ≡ self.now.base }
+    {
+        &self.base
+    }
+
+    /// What the job is judged by now. None where there is no job of this number. It takes no memory.
+    pub fn facts(&self, job: u32) -> Option<&JobFacts>
+        ensures value { option_map (λ f. f.now) result ≡ slice_get self.now.facts.items job }
+        ensures now { IsLive self.now → AreServed self.now.base.jobs self.now.settings.targets
+            → option_map (λ f. f.now) result ≡ slice_get (facts_now self.now.settings self.now.base) job }
+    {
+        self.facts.as_slice().get(job as usize)
+    }
+
+    /// How far each job has come, in plan order. It takes no memory.
+    pub fn phases(&self) -> &[Phase]
+        ensures { result.now ≡ self.now.base.phases }
+    {
+        self.base.phases.as_slice()
+    }
+
+    /// For each job, in plan order, the state that it had when it began, if its child runs. It takes no memory.
+    pub fn ran_from(&self) -> &[Option<State>]
+        ensures { result.now ≡ self.now.base.began }
+    {
+        self.base.began.as_slice()
+    }
+
+    /// What is asked of the run. It takes no memory.
+    pub fn settings(&self) -> &Settings
+        ensures { result.now ≡ self.now.settings }
+    {
+        &self.settings
     }
 
     /// How far the job has come. None where there is no job of this number. It takes no memory.

@@ -141,11 +141,12 @@ fn job_at(jobs: &[Job], number: usize) -> &Job
     &jobs[number]
 }
 
-// What is new of the facts and reasons, once what is known and seen has changed at the outputs of the job of the number alone, which has begun. The judge is asked
-// about the new facts, once about each.
+// What is new of the facts and reasons, once what is known and seen has changed at the outputs of the job of the number alone, which is forced or not. The
+// judge is asked about the new facts, once about each.
 fn news_of<J: Judge>(
     alloc: Global,
     number: usize,
+    forced: bool,
     base: &Base,
     facts: &[JobFacts],
     reasons: &[List<Reason>],
@@ -153,14 +154,14 @@ fn news_of<J: Judge>(
 ) -> Result<News, OutOfMemory>
     requires { number < length base.now.jobs.jobs }
     ensures facts { IfOk result (λ news. (j : JobValue) → slice_get base.now.jobs.jobs number ≡ Some j
-        → news.facts.items ≡ renewed_at base.now number j facts.now) }
+        → news.facts.items ≡ renewed_at base.now number forced j facts.now) }
     ensures reasons { IfOk result (λ news. news.reasons.items ≡ map (option_map reasons_of) news.facts.items) }
     ensures own { IfOk result (λ news. news.own ≡ merged reasons.now news.reasons.items) }
     ensures forced { IfOk result (λ news. news.forced ≡ map (λ f. f.forced) (merged facts.now news.facts.items)) }
 {
     let jobs = base.jobs.jobs.as_slice();
     let job = job_at(jobs, number);
-    let fresh = renewed_facts(alloc, number, job, jobs, facts, base, &base.sources)?;
+    let fresh = renewed_facts(alloc, number, forced, job, jobs, facts, base, &base.sources)?;
     let judged = judge_each(alloc, judge, fresh.as_slice())?;
     let own = merged_reasons(alloc, reasons, judged.as_slice())?;
     let forced = merged_forced(alloc, facts, fresh.as_slice())?;
@@ -198,11 +199,12 @@ fn next_by(alloc: Global, base: &Base, settings: &Settings, news: News) -> Resul
     }
 }
 
-/// What is new once what is known and seen has changed at the outputs of the job of the number alone, which has begun. The judge is asked about the new facts, once
-/// about each.
+/// What is new once what is known and seen has changed at the outputs of the job of the number alone, which is forced or not. The judge is asked about the new
+/// facts, once about each.
 pub(crate) fn next_of<J: Judge>(
     alloc: Global,
     number: usize,
+    forced: bool,
     base: &Base,
     settings: &Settings,
     facts: &[JobFacts],
@@ -210,11 +212,11 @@ pub(crate) fn next_of<J: Judge>(
     judge: &J,
 ) -> Result<Next, PlanFault>
     requires { number < length base.now.jobs.jobs }
-    ensures next { IfOk result (IsNext settings.now base.now number facts.now reasons.now) }
-    ensures refused { IfErr result (λ fault. fault ≢ PlanFault.OutOfMemory → IsSettledAt settings.now base.now number facts.now reasons.now
+    ensures next { IfOk result (IsNext settings.now base.now number forced facts.now reasons.now) }
+    ensures refused { IfErr result (λ fault. fault ≢ PlanFault.OutOfMemory → IsSettledAt settings.now base.now number forced facts.now reasons.now
         → IsRefusedNow settings.now base.now fault) }
 {
-    match news_of(alloc, number, base, facts, reasons, judge) {
+    match news_of(alloc, number, forced, base, facts, reasons, judge) {
         Err(_) => Err(PlanFault::OutOfMemory),
         Ok(news) => next_by(alloc, base, settings, news),
     }

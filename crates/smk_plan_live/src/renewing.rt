@@ -238,26 +238,28 @@ fn all_renewed<T: Told>(
 
 /// The new facts of the job of this number, whose outputs they are, and of those that read at or under one of its outputs; None for each other job.
 ///
-/// These are all facts that change where what is known and seen has changed at these outputs alone, and the job isn't forced any more. The time is linear in the
-/// number of inputs of all jobs, times that of the outputs; nothing is looked up but for the facts that are told anew. `OutOfMemory` where there is no memory for
-/// them.
+/// These are all facts that change where what is known and seen has changed at these outputs alone, and maybe whether the job is forced. The time is linear in
+/// the number of inputs of all jobs, times that of the outputs; nothing is looked up but for the facts that are told anew. `OutOfMemory` where there is no
+/// memory for them.
 pub(crate) fn renewed_facts<T: Told>(
     alloc: Global,
     number: usize,
+    forced: bool,
     job: &Job,
     jobs: &[Job],
     facts: &[JobFacts],
     told: &T,
     sources: &BTreeSet<String>,
 ) -> Result<Vec<Option<JobFacts>>, OutOfMemory>
-    ensures { IfOk result (λ found. found.items ≡ renewed_from (T.known told.now) (T.seen told.now) (contains_text sources.now) false (outs_of job.now.recipe) number 0 jobs.now facts.now) }
+    ensures { IfOk result (λ found. found.items
+        ≡ renewed_from (T.known told.now) (T.seen told.now) (contains_text sources.now) forced (outs_of job.now.recipe) number 0 jobs.now facts.now) }
 {
     let outs = outs_in(alloc, job.recipe.outputs.as_slice())?;
     all_renewed(
         alloc,
         told,
         sources,
-        false,
+        forced,
         outs.as_slice(),
         number,
         jobs,

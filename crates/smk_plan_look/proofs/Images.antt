@@ -213,7 +213,7 @@ module _ (read : List ℕ → Option Record) (w : World) (formed : IsFormed w) (
 
   -- ## Sights
 
-  sight_is : (p : Path) (s : Sight) → is_path p ≡ true → IsSightOf w.nodes p s → s ≡ sight_of image p
+  pub sight_is : (p : Path) (s : Sight) → is_path p ≡ true → IsSightOf w.nodes p s → s ≡ sight_of image p
   sight_is p s path h =
       let stat : s.stat ≡ stat_of (image.node p) = h.stat ∙ sym (ap stat_of (node_is p p path (at_itself p))) in
       let members : s.members ≡ members_seen image p = members_are p s path h (reads_folder (w.nodes p)) refl in

@@ -9,3 +9,4 @@ mod sights;
 mod summing;
 
 pub use looking::look;
+pub use sights::sight_at;

@@ -75,12 +75,11 @@ fn folder_at<W: Files>(
     })
 }
 
-/// What is seen of the path, without a digest.
-pub(crate) fn sight_at<W: Files>(
-    alloc: Global,
-    work: &mut W,
-    path: PathText,
-) -> Result<Sight, WorkFault>
+/// What is seen of the path, without a digest: what stands there; of a folder all that is under it, where a record may have it; and whether a read-only file stands
+/// there or under it. Nothing is changed.
+///
+/// `WorkFault::Failed` where a call of the device failed, `WorkFault::OutOfMemory` where there is no memory for what is found.
+pub fn sight_at<W: Files>(alloc: Global, work: &mut W, path: PathText) -> Result<Sight, WorkFault>
     ensures looked { HasLooked W.act (W.device work.old) (W.device work.new) (device_failed result) }
     ensures path { IfOk result (λ s. s.path ≡ path) }
     ensures told { IfOk result (λ s. WhereTold (W.device work.old) (λ w. IsUnownedUnder w.nodes path → is_path_text path ≡ true → IsSightOf w.nodes path s)) }

@@ -150,45 +150,6 @@ fn job_ended(alloc: Global, rule: &Text, path: &PathText, code: u32) -> Result<S
     format!(in alloc; "job failed: {rule} {path}: status {code}")
 }
 
-// The words on a job whose command didn't leave the output.
-fn no_output(
-    alloc: Global,
-    rule: &Text,
-    path: &PathText,
-    missing: &PathText,
-) -> Result<String, AllocError>
-    ensures { IfOk result (λ text. string_bytes text ≡ fault_words (Fault.NoOutput rule.now path.now missing.now)) }
-{
-    let (rule, path, missing) = (rule.as_str(), path.as_str(), missing.as_str());
-    format!(in alloc; "job failed: {rule} {path}: no output {missing}")
-}
-
-// The words on a job whose command left an output of the other kind.
-fn wrong_kind(
-    alloc: Global,
-    rule: &Text,
-    path: &PathText,
-    wrong: &PathText,
-) -> Result<String, AllocError>
-    ensures { IfOk result (λ text. string_bytes text ≡ fault_words (Fault.WrongKind rule.now path.now wrong.now)) }
-{
-    let (rule, path, wrong) = (rule.as_str(), path.as_str(), wrong.as_str());
-    format!(in alloc; "job failed: {rule} {path}: wrong kind {wrong}")
-}
-
-// The words on a job whose command left a directory beyond the limits.
-fn bad_member(
-    alloc: Global,
-    rule: &Text,
-    path: &PathText,
-    bad: &PathText,
-) -> Result<String, AllocError>
-    ensures { IfOk result (λ text. string_bytes text ≡ fault_words (Fault.BadMember rule.now path.now bad.now)) }
-{
-    let (rule, path, bad) = (rule.as_str(), path.as_str(), bad.as_str());
-    format!(in alloc; "job failed: {rule} {path}: bad member {bad}")
-}
-
 // What is said of a file that isn't read.
 fn file_words(alloc: Global, flaw: &FileFlaw) -> Result<String, AllocError>
     ensures { IfOk result (λ text. string_bytes text ≡ file_words flaw.now) }
@@ -382,9 +343,39 @@ fn fault_words(alloc: Global, fault: &Fault) -> Result<String, AllocError>
             rule,
             path,
             missing,
-        } => no_output(alloc, rule, path, missing),
-        Fault::WrongKind { rule, path, wrong } => wrong_kind(alloc, rule, path, wrong),
-        Fault::BadMember { rule, path, bad } => bad_member(alloc, rule, path, bad),
+        } => {
+            of_three(
+                alloc,
+                "job failed: ",
+                rule.as_str(),
+                " ",
+                path.as_str(),
+                ": no output ",
+                missing.as_str(),
+            )
+        }
+        Fault::WrongKind { rule, path, wrong } => {
+            of_three(
+                alloc,
+                "job failed: ",
+                rule.as_str(),
+                " ",
+                path.as_str(),
+                ": wrong kind ",
+                wrong.as_str(),
+            )
+        }
+        Fault::BadMember { rule, path, bad } => {
+            of_three(
+                alloc,
+                "job failed: ",
+                rule.as_str(),
+                " ",
+                path.as_str(),
+                ": bad member ",
+                bad.as_str(),
+            )
+        }
     }
 }
 

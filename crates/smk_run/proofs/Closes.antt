@@ -89,7 +89,8 @@ did_closed act j r ended a b c is_it now settled =
       then_did = subst (λ l. HasSettled j r ended.status (run w l) fs) f.1 g;
     }))
 
-none_left : (ended : Ended) (n : ℕ) (ns : List ℕ) → ended.number ≡ n → ns ≡ n ∷ [] → without_number ended.number ns ≡ []
+-- no child is left
+pub none_left : (ended : Ended) (n : ℕ) (ns : List ℕ) → ended.number ≡ n → ns ≡ n ∷ [] → without_number ended.number ns ≡ []
 none_left ended n ns same one = ap (λ l. without_number ended.number l) one ∙ ap (λ b. cond (not b) (n ∷ []) []) (eq-eqb n ended.number (sym same))
 
 -- the child ended, and then its job was settled

@@ -2,7 +2,8 @@
 
 ghost use Rattle.std.specs.Prelude.{◌≡◌, ◌∷◌, []};
 ghost use Rattle.smk_world.specs.Calls.{device_failed};
-ghost use Rattle.smk_world.specs.Devices.{HasActed, HasEnded};
+ghost use Rattle.smk_world.specs.Devices.{HasActed, HasEnded, WhereTold};
+ghost use Rattle.smk_job.specs.Jobs.{LetsClose};
 ghost use Rattle.smk_run.specs.Statuses.{HasGiven};
 ghost use Rattle.smk_run.specs.Closings.{HasSettled, HasClosed, ending_of};
 
@@ -25,14 +26,19 @@ fn ending_of(closed: Result<(), CloseFault>) -> Result<Ending, WorkFault>
     }
 }
 
-// Finishes a job whose child ended with status 0, and abandons it after another one.
-fn settle<W: Crew>(
+/// Closes the job, whose child ended with this status: finishes it after status 0, and abandons it after another one. The answer is how the job ended.
+///
+/// `WorkFault::Failed`: a call of the device failed, and none came after it. `WorkFault::OutOfMemory`: there is no memory for what is under a directory output;
+/// then nothing was changed, and the marks stay.
+///
+/// Where the world is told, no running child owns or reads an output.
+pub fn close_job<W: Crew>(
     alloc: Global,
     work: &mut W,
     going: Going,
     status: u32,
 ) -> Result<Ending, WorkFault>
-    requires none_runs { (W.device work.old).running ≡ [] }
+    requires room { WhereTold (W.device work.old) (λ w. LetsClose w going.recipe) }
     ensures { HasActed W.act (HasSettled going result status) (W.device work.old) (W.device work.new) (device_failed result) }
 {
     if status == 0 {
@@ -55,5 +61,5 @@ pub(crate) fn close<W: Crew>(alloc: Global, work: &mut W, going: Going) -> Resul
     let Ok(ended) = work.wait() else {
         return Err(WorkFault::Failed);
     };
-    settle(alloc, work, going, ended.status)
+    close_job(alloc, work, going, ended.status)
 }

@@ -18,8 +18,8 @@ fn name_of(alloc: Global, rule: &str, path: &PathText) -> Result<(Text, PathText
     Ok((Text::of(alloc, rule)?, path.copy(alloc)?))
 }
 
-/// The fault of a job of this rule with this first output, where it failed.
-pub(crate) fn failure(
+/// The fault of a job of this rule with this first output, where it failed; none where it is done. `OutOfMemory` where there is no memory for its names.
+pub fn failure(
     alloc: Global,
     rule: &str,
     path: &PathText,

@@ -34,8 +34,8 @@ fn status_text(alloc: Global, status: u32) -> Result<String, AllocError>
     format!(in alloc; ": status {status}")
 }
 
-// The line of a job's end.
-fn end_line(
+/// The line of the end of a job of this rule with this first output that ended so. `OutOfMemory` where there is no memory for it.
+pub fn end_line(
     alloc: Global,
     rule: &str,
     path: &PathText,

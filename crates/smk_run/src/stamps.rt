@@ -41,8 +41,8 @@ fn push_paths(
     Ok(())
 }
 
-/// The paths of these inputs, in order.
-pub(crate) fn input_paths(alloc: Global, inputs: &[Item]) -> Result<List<PathText>, OutOfMemory>
+/// The paths of these inputs, in order. `OutOfMemory` where there is no memory for them.
+pub fn input_paths(alloc: Global, inputs: &[Item]) -> Result<List<PathText>, OutOfMemory>
     ensures { IfOk result (λ found. found ≡ flat_map (λ item. item.paths) inputs.now) }
 {
     let mut found = List::new(alloc);

@@ -60,8 +60,8 @@ fn see_bytes(bytes: &[u8])
     }
 }
 
-// Goes over the digest, which tells that it has 32 bytes.
-fn see_digest(sum: &Sum)
+/// Goes over the digest, which tells that it has 32 bytes.
+pub fn see_digest(sum: &Sum)
     ensures { is_sum sum.now.0 ≡ true }
 {
     see_bytes(sum.0.as_slice());
@@ -77,8 +77,8 @@ fn see_sum(sum: &Option<Sum>)
     }
 }
 
-// Goes over the digests.
-fn see_sums(sums: &[Option<Sum>])
+/// Goes over the digests, which tells that each of them has 32 bytes.
+pub fn see_sums(sums: &[Option<Sum>])
     ensures { list_all is_whole_sum sums.now ≡ true }
 {
     for sum in sums {
@@ -112,8 +112,8 @@ fn sums_after(serial: Option<u64>, sums: &[Option<Sum>]) -> &[Option<Sum>]
     }
 }
 
-// The stamp with the digest, where one was taken.
-fn with_sum(sum: Option<Sum>, stamp: Stamp) -> Stamp
+/// The stamp with the digest, where one was taken.
+pub fn with_sum(sum: Option<Sum>, stamp: Stamp) -> Stamp
     ensures { result ≡ with_sum sum stamp }
 {
     match sum {

@@ -2,9 +2,11 @@
 
 ghost use Rattle.std.specs.Prelude.{◌≡◌, ◌∷◌, [], map, true};
 ghost use Rattle.std.specs.List.{flat_map, list_all};
-ghost use Rattle.smk_world.specs.Trees.{is_text};
+ghost use Rattle.smk_world.specs.World.{in_paths, out_paths};
+ghost use Rattle.smk_world.specs.Trees.{is_path_text, is_text};
 ghost use Rattle.smk_record.specs.Spelling.{texts};
 
+use crate::stamps::{see_outputs, see_paths};
 use smk_base::{Pair, Text};
 use smk_world::{Item, OutItem, Recipe, Values};
 
@@ -70,4 +72,24 @@ pub(crate) fn see_texts(recipe: &Recipe)
     see_params(recipe.params.as_slice());
     see_input_names(recipe.inputs.as_slice());
     see_output_names(recipe.outputs.as_slice());
+}
+
+// Goes over the paths of the inputs.
+fn see_inputs(inputs: &[Item])
+    ensures { list_all is_path_text (flat_map (λ item. item.paths) inputs.now) ≡ true }
+{
+    for item in inputs {
+        see_paths(item.paths.as_slice());
+    }
+}
+
+/// Goes over the texts of the recipe, which tells that they are UTF-8, and those of its inputs and outputs paths.
+pub fn see_recipe(recipe: &Recipe)
+    ensures inputs { list_all is_path_text (in_paths recipe.now) ≡ true }
+    ensures outputs { list_all is_path_text (out_paths recipe.now) ≡ true }
+    ensures texts { list_all is_text (texts recipe.now) ≡ true }
+{
+    see_inputs(recipe.inputs.as_slice());
+    see_outputs(recipe.outputs.as_slice());
+    see_texts(recipe);
 }

@@ -67,7 +67,7 @@ look_by o (Started recipe logs command r) h = absurd h
 look_by o (Waited r) h = absurd h
 
 -- a look, a read or a listing
-read_look : (o : Outside) (c : Call) → is_look c ≡ true → IsLook o c
+pub read_look : (o : Outside) (c : Call) → is_look c ≡ true → IsLook o c
 read_look o (Looked p r) h = tt
 read_look o (ReadFile p limit r) h = tt
 read_look o (ReadFolder p r) h = tt

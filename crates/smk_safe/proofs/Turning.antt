@@ -3,7 +3,7 @@ use Rattle.std.proofs.Common.{◌≡◌, ◌≢◌, ◌⊎◌, inl, inr, ℕ, tr
 use Rattle.std.specs.List.{list_any}
 use Rattle.std.proofs.lemmas.List.{append-nil}
 use Rattle.std.proofs.lemmas.List.Folds.{list_any-append}
-use Rattle.smk_base.specs.Path.{is_path, overlaps}
+use Rattle.smk_base.specs.Path.{overlaps}
 use Rattle.smk_world.specs.declared.event.Call.TheVariants.{Waited}
 use Rattle.smk_world.specs.declared.event.Change.{Change}
 use Rattle.smk_world.specs.declared.event.Child.{Child}
@@ -12,8 +12,8 @@ use Rattle.smk_world.specs.declared.event.Event.{Event}
 use Rattle.smk_world.specs.declared.event.Failed.{Failed}
 use Rattle.smk_world.specs.declared.event.WorkFault.{WorkFault}
 use Rattle.smk_world.specs.declared.event.WorkFault.TheVariants.{Failed as FailedFault, OutOfMemory as MemoryFault}
-use Rattle.smk_world.specs.World.{World, IsFormed, Throughout, after, run, in_paths, out_paths}
-use Rattle.smk_world.specs.Calls.{HasOwners, used_now, started_numbers, failed}
+use Rattle.smk_world.specs.World.{World, IsFormed, Throughout, after, run, in_paths, is_within, out_paths}
+use Rattle.smk_world.specs.Calls.{HasOwners, owned_now, started_numbers, failed}
 use Rattle.smk_world.specs.Runs.{Follows}
 use Rattle.smk_world.specs.Requests.{HasDone}
 use Rattle.smk_world.specs.Trees.{Path, Each, IsIn, outs_of}
@@ -27,11 +27,11 @@ use Rattle.smk_store.specs.Soundness.{Outside}
 use Rattle.smk_laws_protocol.specs.Protocol.{OpenJob, Phase, RunState, Running, Ended as EndedPhase, MayBegin, HasSerial, IsKept, IsAtHand, Runs, Done, Next, Step, Go, FailWait, Wait, outputs, own, begun_with, now}
 use Rattle.smk_laws_protocol.proofs.Basics.{each_on}
 use Rattle.smk_laws_protocol.proofs.ProtocolHolds.{numbered_alone}
-use Rattle.smk_job.specs.Jobs.{ReadUsers, begin_requests, abandon_requests, finish_requests}
+use Rattle.smk_job.specs.Jobs.{begin_requests, abandon_requests, finish_requests}
 use Rattle.smk_job.specs.declared.fault.CloseFault.{CloseFault}
 use Rattle.smk_job.specs.declared.fault.CloseFault.TheVariants as fault
 use Rattle.smk_job.specs.Jobs.{IsPart}
-use Rattle.smk_laws_job.specs.Laws.{IsRecordable, MayFinish, stopped}
+use Rattle.smk_laws_job.specs.Laws.{HasOwnFolder, IsRecordable, MayFinish, stopped}
 use Rattle.smk_job.specs.Sights.{IsAbandoned}
 use Rattle.smk_laws_job.proofs.Beginning.{beginning_runs}
 use Rattle.smk_laws_job.proofs.FinishRuns.{finishing_runs, finishing_parts, looking_runs, losing_runs, abandoning_runs}
@@ -56,7 +56,7 @@ use Rattle.smk_safe.proofs.Quiet.{IsQuiet, quiet_then, done_quiet, digested_quie
 
 -- ## In a world that reads the same
 
-begin_as : (o : Outside) (s : RunState) (w v : World) (j : OpenJob) → now o v ≡ now o w → MayBegin o s w j → MayBegin o s v j
+pub begin_as : (o : Outside) (s : RunState) (w v : World) (j : OpenJob) → now o v ≡ now o w → MayBegin o s w j → MayBegin o s v j
 begin_as o s w v j e h = record {
   paths = h.paths;
   apart = h.apart;
@@ -69,7 +69,7 @@ begin_as o s w v j e h = record {
   kept_own = h.kept_own;
 }
 
-serial_as : (o : Outside) (s : RunState) (w v : World) (j : OpenJob) (top : ℕ) → now o v ≡ now o w → HasSerial o s w j top → HasSerial o s v j top
+pub serial_as : (o : Outside) (s : RunState) (w v : World) (j : OpenJob) (top : ℕ) → now o v ≡ now o w → HasSerial o s w j top → HasSerial o s v j top
 serial_as o s w v j top e (inl h) = inl h
 serial_as o s w v j top e (inr (some, kept, is)) = inr (
   some,
@@ -84,8 +84,9 @@ serial_as o s w v j top e (inr (some, kept, is)) = inr (
   is,
 )
 
-no_users : (w : World) → w.children ≡ [] → ReadUsers w
-no_users w none = subst (λ cs. Each (λ p. is_path p ≡ true) (used_now cs)) (sym none) tt
+-- where no child runs none owns a place in the engine's folder
+none_owned : (w : World) → w.children ≡ [] → HasOwners w → HasOwnFolder w
+none_owned w none owners q at is = true≢false (sym (owners q is) ∙ ap (λ cs. is_within q (owned_now cs)) none)
 
 looking_one : (m : Option ℕ) (p : Path) → Each IsLooking (look_at m p)
 looking_one (Some serial) p = tt
@@ -216,7 +217,7 @@ module _ (o : Outside) (s : RunState) (t : Turn) (kept : List (Path × Record)) 
   begun_run : (number : ℕ) (w : World) (first : List Event) → IsSet o s t kept top w → Follows o.act w first
       → HasDone (begin_requests t.job.recipe t.job.logs t.command) first → started_numbers first ≡ number ∷ [] → Runs o s w first (running s t kept top number)
   begun_run number w first set follows done started =
-      beginning_runs o s (opened t kept) top number t.command w first rest.calm rest.steady set.may set.serial refl makes set.owners (no_users w set.none_runs) follows done started
+      beginning_runs o s (opened t kept) top number t.command w first rest.calm rest.steady set.may set.serial refl makes (none_owned w set.none_runs set.owners) follows done started
 
   -- as the job may be finished
   finish_from : (number : ℕ) (w : World) (first : List Event) (after_it : List Event) → IsSet o s t kept top w → Follows o.act w (first ++ after_it)
@@ -241,8 +242,7 @@ module _ (o : Outside) (s : RunState) (t : Turn) (kept : List (Path × Record)) 
         records = recordable_as t kept kept (EndedPhase ended.status) (out_paths t.job.recipe) set.records;
         found = (throughout_start (AllAreFound (t ∷ [])) v later (subst (λ l. Throughout u l (AllAreFound (t ∷ []))) events found_all).1).0;
         formed = formed_after u wait (formed_run w first set.formed);
-        owners = owned_after u wait numbered_u owners_u;
-        users = no_users v alone;
+        own_folder = none_owned v alone (owned_after u wait numbered_u owners_u);
       }
 
   gone_run : (c : Course) (w : World) (es : List Event) → is_begun c ≡ true → IsSet o s t kept top w → Throughout w es (AllAreFound (t ∷ [])) → Follows o.act w es → HasGone t c w es
@@ -250,7 +250,7 @@ module _ (o : Outside) (s : RunState) (t : Turn) (kept : List (Path × Record)) 
   gone_run Unbegun w es begun set all follows h = absurd (true≢false (sym begun))
   gone_run Unstarted w es begun set all follows h = (
     record (stopped o s) { top = top },
-    beginning_fails o s (opened t kept) top t.command w es rest.calm rest.steady set.may set.serial refl makes set.owners (no_users w set.none_runs) follows h,
+    beginning_fails o s (opened t kept) top t.command w es rest.calm rest.steady set.may set.serial refl makes (none_owned w set.none_runs set.owners) follows h,
     λ closed. absurd (true≢false (sym closed)),
     λ bad. refl,
   )

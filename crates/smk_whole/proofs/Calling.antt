@@ -1,9 +1,23 @@
 -- What a call tells where each target has a clean value.
-use Rattle.std.proofs.Common.{◌≡◌, ◌⊎◌, inl, inr, ℕ, Bool, true, false, List, refl, sym, subst, Option, Some, None, Ok, Err, Result, option_map}
-use Rattle.smk_world.specs.World.{World}
-use Rattle.smk_world.specs.Trees.{Act}
+use native.Mathlib.Omega.{arith}
+use Rattle.std.proofs.Common.{◌≡◌, ◌⊎◌, ◌≤◌, inl, inr, ℕ, Bool, true, false, List, ap, refl, sym, subst, ◌∙◌, Option, Some, None, Ok, Err, Result, option_map, is_none}
+use Rattle.std.specs.Prelude.{IsSome, is_err}
+use Rattle.smk_base.specs.Place.{lock_place}
+use Rattle.smk_world.specs.declared.event.Failed.{Failed}
+use Rattle.smk_world.specs.declared.event.NodeState.{NodeState}
+use Rattle.smk_world.specs.World.{World, reading}
+use Rattle.smk_world.specs.Calls.{Rose}
+use Rattle.smk_world.specs.Devices.{Device, Sunk, HasActed}
+use Rattle.smk_world.specs.Trees.{Path, Act}
+use Rattle.smk_world.proofs.Devices.{looks_nodes}
 use Rattle.smk_record.specs.declared.record.Record.{Record}
+use Rattle.smk_store.specs.Images.{Image, seen}
+use Rattle.smk_store.specs.Soundness.{Outside, SoundWorld}
 use Rattle.smk_store.specs.Trust.{Versions}
+use Rattle.smk_chain.specs.Mean.{setting_of}
+use Rattle.smk_format.specs.Commands.{missing}
+use Rattle.smk_keep_lock.specs.Locking.{HasReleased}
+use Rattle.smk_run.proofs.Rising.{rose_earlier}
 use Rattle.smk_words_reading.specs.declared.asked.RunWords.{RunWords}
 use Rattle.smk_report.specs.declared.fault.Fault.{Fault}
 use Rattle.smk_report.specs.declared.fault.Fault.TheVariants as fault
@@ -15,11 +29,16 @@ use Rattle.smk_serve.specs.Serving.Went.{Refused, Stopped, Worked}
 use Rattle.smk_serve.specs.Serving.HasListed.{Listed, NotListed}
 use Rattle.smk_serve.specs.Ends.{fault_of}
 use Rattle.smk_cli.specs.Lines.{IsOutcome}
-use Rattle.smk_cli.specs.Whole.{IsRefusal, IsToServe, OfPlan, OfWorkflow}
+use Rattle.smk_cli.specs.Locking.{HasHeeded, HasRunLocked, IsClosed, LockGoes, LockStays, Stood, Taken, Unmade, Untaken, with_release}
+use Rattle.smk_cli.specs.Whole.{HasRun, Heeded, IsRefusal, IsToServe, OfPlan, OfWorkflow, Unasked, Unheeded}
 use Rattle.smk_succeed.specs.Completing.{NoMemory as OfMemory}
-use Rattle.smk_laws_complete.specs.Derived.{GathersAlone}
-use Rattle.smk_whole.specs.Complete.{EndsComplete}
-use Rattle.smk_whole.specs.Calls.{AllIsWell, BrokenOff, CallIsComplete, IsCleanCall, ListingIsComplete, MayTell, PlanRefused}
+use Rattle.smk_laws_complete.specs.Derived.{AllHaveValues, GathersAlone}
+use Rattle.smk_laws_lock.specs.Heeding.{IsSameButLock}
+use Rattle.smk_laws_lock.proofs.Heeding.{on_both}
+use Rattle.smk_clean.proofs.Leaving.{faults_later}
+use Rattle.smk_clean.proofs.Locked.{locked_same, refused_before, start_sound}
+use Rattle.smk_whole.specs.Complete.{EndsComplete, setting_in}
+use Rattle.smk_whole.specs.Calls.{AllIsWell, BrokenOff, CallIsComplete, IsCleanCall, ListingIsComplete, LockedOut, MayTell, PlanRefused}
 use Rattle.smk_whole.proofs.Plain.{built_plans_are_plain}
 use Rattle.smk_serve.proofs.Plain.{neither}
 use Rattle.smk_eval_files.specs.Looks.{Nodes}
@@ -57,36 +76,99 @@ ended read run words w (Err f) h = BrokenOff f h
 -- a refusal is one of the plan
 refused_tells :
     (act : Act) (read : List ℕ → Option Record) (run : Bool) (words : RunWords) (w : World) (H : Versions) (f : Fault) →
-    IsCleanCall act read run words w H → IsRefusal read run words w f → MayTell read run words w (Some f)
+    IsCleanCall act read run words w H → IsRefusal read run words w w f → MayTell read run words w (Some f)
 refused_tells act read run words w H f clean (OfWorkflow fails) = absurd (clean.unrefused f fails)
 refused_tells act read run words w H f clean (OfPlan asked is refused) =
     PlanRefused asked f is
     (refused_plans_may_stop act read asked words w H f (record { differ = clean.differ; sound = clean.sound; alone = gathers_alone run words w.nodes asked is; values = clean.values asked is }) refused)
 
+module _ (act : Act) (read : List ℕ → Option Record) (words : RunWords) (w : World) (H : Versions) (clean : IsCleanCall act read true words w H) where
+  abbrev May : Option Fault → Type 0
+  May told = MayTell read true words w told
+
+  abbrev outside : Outside
+  outside = record { read = read; act = act }
+
+  -- in a folder that is the same but for the lock targets have the same values
+  same_values : (u : World) (asked : Asked) → IsSameButLock (seen read w) (seen read u) → AllHaveValues (setting_in act read asked w) asked.targets →
+      AllHaveValues (setting_in act read asked u) asked.targets
+  same_values u asked same h = on_both (λ (i : Image). AllHaveValues (setting_of asked.flow act (λ j. is_none (missing j)) i) asked.targets) (λ i l k. k)
+      (seen read w) (seen read u) same h
+
+  -- a run by what was asked of the folder, in that one or in one that is the same but for the lock
+  went_tells :
+      (u v : World) (old new : Device) (p q : Sunk) (answer : Result (Unit {0}) Fault) → old.world ≡ Some u → new.world ≡ Some v → SoundWorld outside u H →
+      IsSameButLock (seen read w) (seen read u) →
+      (Rose old.faults new.faults → ⊥) → Went act words.cores answer (IsRefusal read true words w u) (IsToServe read true words w u) old new p q → May
+      (fault_of answer)
+  went_tells u v old new p q answer at end sound same never (Refused f e refused kept) =
+      subst (λ r. May (fault_of r)) (sym e) (refused_tells act read true words w H f clean (refused_before read true words w u f same refused))
+  went_tells u v old new p q answer at end sound same never (Stopped f e want kept) = subst (λ r. May (fault_of r)) (sym e) (BrokenOff f (want_stops f want))
+  went_tells u v old new p q answer at end sound same never (Worked asked told planned worked) =
+      let is = planned.is_asked in
+      ended read true words w answer
+      (work_is_complete act read asked told words u v H answer old new p q at end
+      (record {
+        differ = clean.differ;
+        sound = sound;
+        alone = gathers_alone true words w.nodes asked is;
+        values = same_values u asked same (clean.values asked is);
+      }) planned.plan
+      (λ plan last. built_plans_are_plain asked.flow _ _ _ _ plan (asked_built words w.nodes asked is) last) never worked)
+
+  module _ (v : World) (old new : Device) (p q : Sunk) (answer : Result (Unit {0}) Fault) (at : old.world ≡ Some w) (end : new.world ≡ Some v)
+      (never : Rose old.faults new.faults → ⊥) where
+    -- the run under the lock
+    closed_tells :
+        (u : World) (locked : Device) → locked.world ≡ Some u → SoundWorld outside u H → IsSameButLock (seen read w)
+        (seen read u) → old.faults ≤ locked.faults →
+        (ran : HasRunLocked act words.cores answer (IsRefusal read true words w u) (IsToServe read true words w u) locked new p q) → May (fault_of answer)
+    closed_tells u locked at_u sound same le ran = go ran.closed
+      where
+        go : IsClosed act ran.ran answer locked ran.left new → May (fault_of answer)
+        go (LockStays rose is unchanged) =
+            absurd (never (rose_earlier old.faults locked.faults new.faults le (subst (λ (d : Device). Rose locked.faults d.faults) (sym unchanged) rose)))
+        go (LockGoes r still none goes is) = by r goes is
+          where
+            by : (r : Result (Unit {0}) Failed) → HasActed act (HasReleased r) ran.left new (is_err r) → answer ≡ with_release r ran.ran → May (fault_of answer)
+            by (Ok t) goes is =
+                let d = goes.did v end in
+                subst (λ r. May (fault_of r)) (sym is) (went_tells u d.0 locked ran.left p q ran.ran at_u d.1 sound same still ran.went)
+            by (Err e) goes is =
+                let later = faults_later act words.cores ran.ran (IsRefusal read true words w u) (IsToServe read true words w u) locked ran.left p q ran.went in
+                absurd (never (rose_earlier old.faults ran.left.faults new.faults (omega (arith, le, later)) (goes.cause.rose refl)))
+
+    ran_tells : HasRun act read words w answer old new p q → May (fault_of answer)
+    ran_tells (Unheeded free went) = went_tells w v old new p q answer at end clean.sound refl never went
+    ran_tells (Unasked f heeds e (inl want) looked) = subst (λ r. May (fault_of r)) (sym e) (BrokenOff f (want_stops f want))
+    ran_tells (Unasked f heeds e (inr fails) looked) = absurd (clean.unrefused f fails)
+    ran_tells (Heeded x looked heeds after at_x looking heeded) = go heeded
+      where
+        nodes : reading (x.nodes lock_place) ≡ reading (w.nodes lock_place)
+        nodes =
+            ap (λ (y : World). reading (y.nodes lock_place)) after.is
+            ∙ ap (λ (n : Path → NodeState). reading (n lock_place)) (looks_nodes false w after.looks after.only_looks)
+
+        go : HasHeeded act words.cores answer (IsRefusal read true words w) (IsToServe read true words w) x looked new p q → May (fault_of answer)
+        go (Unmade is unchanged unput) = subst (λ r. May (fault_of r)) (sym is) (BrokenOff fault.OutOfMemory OfMemory)
+        go (Stood is stands tried unput) = subst (λ r. May (fault_of r)) (sym is) (LockedOut refl heeds (subst IsSome nodes stands))
+        go (Untaken e is tried unput) = absurd (never (rose_earlier old.faults looked.faults new.faults looking.acted.cause.later (tried.cause.rose refl)))
+        go (Taken u locked once at_u taken ran) =
+            closed_tells u locked at_u
+            (start_sound outside H w clean.differ clean.sound words answer old looked locked new p q x u v at end after looking at_x once at_u taken)
+            (locked_same act read w x u clean.sound.formed after once) (omega (arith, looking.acted.cause.later, taken.cause.later)) ran
+
 pub call_is_complete : CallIsComplete
 call_is_complete act read words w v H told old new out_old out_new at end clean never served =
-    told_of read true words w served.answer told (go served.serves) served.told_is
-  where
-    go :
-        Went act words.cores served.answer (IsRefusal read true words w) (IsToServe read true words w) old new out_old out_new →
-        MayTell read true words w (fault_of served.answer)
-    go (Refused f e refused kept) =
-        subst (λ r. MayTell read true words w (fault_of r)) (sym e) (refused_tells act read true words w H f clean refused)
-    go (Stopped f e want kept) =
-        subst (λ r. MayTell read true words w (fault_of r)) (sym e) (BrokenOff f (want_stops f want))
-    go (Worked asked told planned worked) =
-        let is = planned.is_asked in
-        ended read true words w served.answer
-        (work_is_complete act read asked told words w v H served.answer old new out_old out_new at end
-        (record { differ = clean.differ; sound = clean.sound; alone = gathers_alone true words w.nodes asked is; values = clean.values asked is }) planned.plan
-        (λ plan last. built_plans_are_plain asked.flow _ _ _ _ plan (asked_built words w.nodes asked is) last) never worked)
+    told_of read true words w served.answer told
+    (ran_tells act read words w H clean v old new out_old out_new served.answer at end never served.serves) served.told_is
 
 pub listing_is_complete : ListingIsComplete
 listing_is_complete act read words w H told old new out_old out_new clean served =
     told_of read false words w served.answer told (go served.answer served.serves.1) served.told_is
   where
     go :
-        (r : Result (Unit {0}) Fault) → HasListed (IsRefusal read false words w) (IsToServe read false words w) out_old out_new r →
+        (r : Result (Unit {0}) Fault) → HasListed (IsRefusal read false words w w) (IsToServe read false words w w) out_old out_new r →
         MayTell read false words w (fault_of r)
     go r (NotListed f refused unput) = refused_tells act read false words w H f clean refused
     go r (HasListed.Stopped f want unput) = BrokenOff f (want_stops f want)

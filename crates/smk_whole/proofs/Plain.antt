@@ -10,7 +10,7 @@ use Rattle.smk_flow.specs.declared.rule.GatherPart.{GatherPart}
 use Rattle.smk_flow.specs.declared.job.Job.{Job}
 use Rattle.smk_flow.specs.Flows.{Flow, Candidate, gathers}
 use Rattle.smk_choose.specs.Choose.{Sources, choose, Make}
-use Rattle.smk_chain.specs.Derive.{distinct, job, jobs, recipe, refusals, same_candidate, sources_of, walk}
+use Rattle.smk_chain.specs.Derive.{distinct, job, jobs, refusals, same_candidate, sources_of, walk}
 use Rattle.smk_plan.specs.States.{IsPlan}
 use Rattle.smk_cli_entry.specs.Forms.{inputs_form, outputs_form}
 use Rattle.smk_laws_plan.proofs.CurrentChosen.{origin}

@@ -1,6 +1,7 @@
 -- What a call may tell where each target has a clean value.
-use Rattle.std.specs.Prelude.{◌≡◌, ℕ, Bool, true, false, List, Option, Some, None, Ok}
-use Rattle.smk_world.specs.World.{World}
+use Rattle.std.specs.Prelude.{◌≡◌, ℕ, Bool, true, false, List, Option, Some, None, Ok, IsSome}
+use Rattle.smk_base.specs.Place.{lock_place}
+use Rattle.smk_world.specs.World.{World, reading}
 use Rattle.smk_world.specs.Calls.{Rose}
 use Rattle.smk_world.specs.Devices.{Device, Sunk}
 use Rattle.smk_world.specs.Trees.{Act}
@@ -10,6 +11,7 @@ use Rattle.smk_store.specs.Trust.{Versions, SumsDiffer}
 use Rattle.smk_store.specs.Soundness.{SoundWorld}
 use Rattle.smk_plan.specs.States.{nothing_done}
 use Rattle.smk_report.specs.declared.fault.Fault.{Fault}
+use Rattle.smk_report.specs.declared.fault.Fault.TheVariants as fault
 use Rattle.smk_words_reading.specs.declared.asked.RunWords.{RunWords}
 use Rattle.smk_words_reading.specs.declared.asked.Asked.TheVariants.{Run, Preview}
 use Rattle.smk_cli_entry.specs.declared.asking.Asked.{Asked}
@@ -31,7 +33,7 @@ pub record IsCleanCall (act : Act) (read : List ℕ → Option Record) (run : Bo
   pub values : (asked : Asked) → IsAskedIn run words w.nodes (Ok asked) → AllHaveValues (setting_in act read asked w) asked.targets
 
 -- What is told then: that all is well; that the call broke off, for want of memory, of the device, of the sink, of a serial, or with a record that is too
--- long; or that its plan was refused for how the folder stands or for what clashes.
+-- long; that its plan was refused for how the folder stands or for what clashes; or that the lock stands.
 pub data MayTell (read : List ℕ → Option Record) (run : Bool) (words : RunWords) (w : World) : Option Fault → Type 0 where
   AllIsWell : MayTell read run words w None
   BrokenOff : (f : Fault) → MayBreakOff f → MayTell read run words w (Some f)
@@ -39,6 +41,8 @@ pub data MayTell (read : List ℕ → Option Record) (run : Bool) (words : RunWo
       (asked : Asked) (f : Fault) →
       IsAskedIn run words w.nodes (Ok asked) →
       MayStop (rules_for read asked.flow (settings_of asked words)) (seen read w) nothing_done f → MayTell read run words w (Some f)
+  -- the lock stands, and a run heeds it
+  LockedOut : run ≡ true → words.nolock ≡ false → IsSome (reading (w.nodes lock_place)) → MayTell read run words w (Some fault.Locked)
 
 -- A call for a run tells nothing else, where the world is told at its end and no count of faults of the device rose.
 abbrev pub CallIsComplete : Type 0

@@ -10,7 +10,7 @@ pub returns-in-Run-clause-serves : goal.returns-in-Run-clause-serves
 returns-in-Run-clause-serves g c = λ makes w at read reads.
     subst
     (λ r. Serves g.W.Files.act read w c.serve_run.result (g.W.Files.device c.args.work.now) (g.W.Files.device c.serve_run.new.work) (g.O.Sink.sunk c.args.out.now) (g.O.Sink.sunk c.serve_run.new.out) r)
-    (sym c.in-Run.is) (c.serve_run.ensures.went w at read reads)
+    (sym c.in-Run.is) (c.serve_run.ensures.ran w at read reads)
 
 pub returns-in-Preview-clause-ended : goal.returns-in-Preview-clause-ended
 returns-in-Preview-clause-ended g c = c.serve_listing.ensures.ended.ends

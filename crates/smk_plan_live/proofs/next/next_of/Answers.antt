@@ -21,7 +21,7 @@ returns-in-Ok-clause-next g c =
     (λ (next : Next). length next.plan.states ≡ length b.jobs.jobs)
     (λ (next : Next). length next.plan.current ≡ length settings.targets)
     (λ (next : Next). (now : List JobFacts) → AreJudgedBy settings b now n.own n.forced → IsNow settings b next.plan next.held)
-    (IsNext settings b c.args.number facts reasons)
+    (IsNext settings b c.args.number c.args.forced facts reasons)
     (λ next same each targets told.
     record {
       facts = λ j at. (λ i. (same.0 i).items) ∙ c.in-Ok.ensures.facts j at;

@@ -1,0 +1,14 @@
+mod Lists
+mod Owners
+mod AtHand
+mod ReadFrom
+mod Named
+mod Freed
+mod Firsts
+mod Rooms
+mod Chosen
+mod Awaiting
+mod Spent
+mod Overs
+mod Listed
+mod Zips

@@ -1,0 +1,5 @@
+pub mod Picking
+pub mod Told
+pub mod Grounds
+pub mod Spending
+pub mod Uses

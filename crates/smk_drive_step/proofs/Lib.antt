@@ -1,0 +1,4 @@
+mod Stamped
+mod Begun
+mod Placed
+mod Known

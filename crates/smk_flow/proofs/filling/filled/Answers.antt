@@ -1,5 +1,0 @@
-use Rattle.smk_flow.proofs.FilledTexts.{fills}
-use Rattle.smk_flow.proofs.filling.filled.Goals as goal
-
-pub returns-in-Ok : goal.returns-in-Ok
-returns-in-Ok c = fills c.in_ok-pattern.pattern c.new.result c.args.text.now c.in-Ok.made c.args.binding.now c.in_ok-pattern.ensures c.in-Ok.ensures.ok

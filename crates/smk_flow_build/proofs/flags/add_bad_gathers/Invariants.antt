@@ -1,0 +1,13 @@
+use Rattle.std.proofs.Common.{◌≡◌, ◌++◌, take}
+use Rattle.std.specs.List.{flat_map}
+use Rattle.smk_pattern.specs.Searching.{now_of}
+use Rattle.smk_flow.specs.declared.rule.InPart.{InPart}
+use Rattle.smk_flow.specs.Named.{rule_at}
+use Rattle.smk_flow.specs.Checks.{bad_gather, or_nothing}
+use Rattle.smk_flow_build.proofs.flags.add_bad_gathers.Given as goal
+
+abbrev pub invariant-loop-item : goal.invariant-loop-item
+invariant-loop-item l =
+    now_of l.found.items
+    ≡ now_of l.initial.found.items
+    ++ flat_map (bad_gather (rule_at l.above) l.part) (flat_map (λ (i : InPart). or_nothing i.gather) (take l.item-index l.part.inputs))

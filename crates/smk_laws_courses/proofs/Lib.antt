@@ -1,0 +1,15 @@
+pub mod Signs
+pub mod Requests
+pub mod Onward
+pub mod OneBegins
+pub mod SparedPlans
+pub mod Beginning
+pub mod BeginningOf
+pub mod DerivedJobs
+pub mod Numbers
+pub mod Flags
+pub mod Waiting
+pub mod Tending
+pub mod ClosingOf
+pub mod GoingOn
+pub mod AllStands

@@ -1,0 +1,7 @@
+pub mod Changing
+pub mod Agreeing
+pub mod Progressing
+pub mod InForce
+pub mod Places
+pub mod Deriving
+pub mod Leaving

@@ -1,0 +1,16 @@
+pub mod Pairs
+pub mod StandStates
+pub mod Coming
+pub mod Looking
+pub mod Closing
+pub mod Tending
+pub mod Waited
+pub mod Flagged
+pub mod Begun
+pub mod Spent
+pub mod Spending
+pub mod Opening
+pub mod Greatest
+pub mod StepsOn
+pub mod Whole
+pub mod Laws

@@ -1,0 +1,3 @@
+pub mod Heeding
+pub mod Moves
+pub mod Parts

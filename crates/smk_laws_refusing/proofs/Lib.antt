@@ -1,0 +1,2 @@
+pub mod AsMoments
+pub mod Refusing

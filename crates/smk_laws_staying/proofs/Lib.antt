@@ -1,0 +1,4 @@
+pub mod Listed
+pub mod Gathered
+pub mod StandsOn
+pub mod Planned
