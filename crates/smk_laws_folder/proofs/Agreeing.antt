@@ -20,22 +20,20 @@ use Rattle.smk_store.specs.Images.{Image, readable}
 use Rattle.smk_store.specs.Stores.{entry_of}
 use Rattle.smk_trigger.specs.declared.reason.State.{State}
 use Rattle.smk_trigger.specs.JobStates.{is_restore}
-use Rattle.smk_pick.specs.declared.settings.Settings.{Settings}
 use Rattle.smk_plan.specs.declared.seen.Sight.{Sight}
-use Rattle.smk_plan.specs.Sights.{sight_at, sight_of}
+use Rattle.smk_plan.specs.Sights.{sight_of}
 use Rattle.smk_plan.specs.States.{is_restored, test_some}
 use Rattle.smk_plan_facts.specs.Telling.{copied, kept_of, mark_of}
 use Rattle.smk_plan_states.specs.Judged.{with_states}
 use Rattle.smk_plan_states.specs.Served.{AreApart, outputs_of}
 use Rattle.smk_plan_live.specs.declared.base.Base.{Base}
 use Rattle.smk_plan_live.specs.declared.sites.Site.{Site}
-use Rattle.smk_plan_live.specs.declared.phase.Phase.{Phase}
 use Rattle.smk_plan_live.specs.declared.phase.Phase.TheVariants.{Running, Closed}
 use Rattle.smk_plan_live.specs.Agreeing.{note_of}
-use Rattle.smk_plan_live.specs.Carried.{advanced, begun, begun_entries, filled, gone_sights, spent, spent_at, turned}
+use Rattle.smk_plan_live.specs.Carried.{advanced, begun, begun_entries, gone_sights, spent_at, turned}
 use Rattle.smk_plan_live.specs.Effects.{IsBegunAt, IsClosedAt, IsOfOutputs, IsSpentOf}
 use Rattle.smk_plan_live.specs.Lives.{IsAgreed, IsSound, progress_of}
-use Rattle.smk_plan_live.specs.Now.{joined, known_now, restored_now, restores_at, seen_now}
+use Rattle.smk_plan_live.specs.Now.{joined, known_now, restores_at, seen_now}
 use Rattle.smk_plan_live.specs.Same.{paths_in}
 use Rattle.smk_plan_live.specs.Sites.{site_in}
 use Rattle.smk_plan_live.specs.Steps.{AreOfOutputs}
@@ -43,10 +41,8 @@ use Rattle.smk_plan_live.proofs.Changed.{filled_sound, get_other, turned_sound}
 use Rattle.smk_plan_live.proofs.Effects.{begun_tells, closed_tells, restored_tells, spent_tells}
 use Rattle.smk_plan_live.proofs.Installed.{mapped_at}
 use Rattle.smk_plan_live.proofs.Restoring.{one_job, outs_are, site_found, site_has}
-use Rattle.smk_drive_outcome.specs.declared.outcome.Outcome.{Outcome}
-use Rattle.smk_drive_outcome.specs.Outcomes.{AreOutcomes, unmarked_entry}
-use Rattle.smk_laws_folder.specs.Changing.{DiffersAt}
-use Rattle.smk_laws_folder.specs.Agreeing.{BeginAgrees, CloseAgrees, IsBegunOutput, IsSpentOutput, SpendAgrees}
+use Rattle.smk_drive_outcome.specs.Outcomes.{unmarked_entry}
+use Rattle.smk_laws_folder.specs.Agreeing.{BeginAgrees, CloseAgrees, SpendAgrees}
 use Rattle.smk_laws_folder.proofs.Carrying.{IsToldAt, agrees_after}
 
 pub set_at : {A : Type 0} (xs : List A) (n : ℕ) (x : A) → n < length xs → slice_get (slice_set xs n x) n ≡ Some x

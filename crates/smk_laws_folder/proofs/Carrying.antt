@@ -11,17 +11,16 @@ use Rattle.smk_world.specs.World.{in_paths, folders_above}
 use Rattle.smk_world.specs.Trees.{Path, Each, IsIn, among, is_path_text, outs_of}
 use Rattle.smk_flow.specs.declared.job.Job.{Job}
 use Rattle.smk_store.specs.declared.store.Entry.{Entry}
-use Rattle.smk_store.specs.declared.store.Kept.{Kept}
-use Rattle.smk_store.specs.Images.{Image, Content, file_at, is_covered, is_file, is_known, is_source, source_at, stands}
+use Rattle.smk_store.specs.Images.{Image, file_at, is_covered, is_file, is_known, is_source, stands}
 use Rattle.smk_store.specs.Stores.{Known, entry_of, is_covered_in}
-use Rattle.smk_store.specs.Trust.{is_marked_but, is_summed}
+use Rattle.smk_store.specs.Trust.{is_marked_but}
 use Rattle.smk_chain.specs.declared.jobs.Jobs.{Jobs}
 use Rattle.smk_chain.specs.declared.jobs.Maker.{Maker}
 use Rattle.smk_pick.specs.declared.settings.Settings.{Settings}
 use Rattle.smk_plan.specs.declared.seen.Sight.{Sight}
 use Rattle.smk_plan.specs.Sights.{HasSum, IsSeenAs, IsSourceSeen, sight_at, sight_of}
 use Rattle.smk_plan.specs.States.{Progress, is_restored, test_some}
-use Rattle.smk_plan.specs.Summed.{IsSummed, is_seen_summed, needs_sum, records_by}
+use Rattle.smk_plan.specs.Summed.{IsSummed, is_seen_summed}
 use Rattle.smk_plan_facts.specs.Facts.{told_sources}
 use Rattle.smk_plan_facts.specs.Telling.{kept_of, mark_of}
 use Rattle.smk_plan_facts.proofs.Tests.{each_among, each_two, none_some}

@@ -1,26 +1,25 @@
 -- The plan that is kept is the last of its chain, and no plan of the chain is refused.
-use Rattle.std.proofs.Common.{◌≡◌, zero, suc, Bool, not, ◌&&◌, List, [], ◌∷◌, ◌++◌, map, filter, flat_map, length, Option, Some, None, refl, sym, ap, subst, ◌∙◌, bytes_eq, cond, is_some, arith}
-use Rattle.std.specs.Prelude.{◌||◌, ℕ, true, false, if◌then◌else◌, option_map}
+use Rattle.std.proofs.Common.{◌≡◌, zero, suc, Bool, not, ◌&&◌, List, [], ◌∷◌, ◌++◌, map, filter, flat_map, length, Some, refl, sym, ap, subst, ◌∙◌, bytes_eq, cond, is_some, arith}
+use Rattle.std.specs.Prelude.{◌||◌, true, false, if◌then◌else◌, option_map}
 use Rattle.std.specs.List.{find, list_any}
 use Rattle.smk_world.specs.World.{out_paths}
 use Rattle.smk_world.specs.Trees.{Path}
 use Rattle.smk_flow.specs.declared.job.Job.{Job}
 use Rattle.smk_store.specs.Images.{Image}
-use Rattle.smk_chain.specs.Derive.{Derivation, Derived, Listings, Refusal, Refused, derivation}
+use Rattle.smk_chain.specs.Derive.{Derived, Listings, Refusal, Refused, derivation}
 use Rattle.smk_trigger.specs.declared.reason.State.{State}
 use Rattle.smk_trigger.specs.JobStates.{is_to_run}
 use Rattle.smk_laws_plan.specs.Current.{IsComplete}
 use Rattle.smk_laws_plan.proofs.PlanOne.{one_plan}
 use Rattle.smk_plan.specs.Sights.{is_guarded}
 use Rattle.smk_plan.specs.States.{IsPlan, Last, LastPlan, Plan, Progress, job_path, new_listings, staged}
-use Rattle.smk_plan_states.specs.Judged.{with_states}
 use Rattle.smk_plan_table.specs.Plans.{HasMadeAt, IsUnrefused}
 use Rattle.smk_plan_live.specs.declared.live.LivePlan.{LivePlan}
-use Rattle.smk_plan_live.specs.Lives.{IsAgreed, IsLive, judging_of, progress_of}
+use Rattle.smk_plan_live.specs.Lives.{judging_of, progress_of}
 use Rattle.smk_report.specs.declared.fault.Fault.{Fault}
 use Rattle.smk_report.specs.declared.fault.Fault.TheVariants as fault
 use Rattle.smk_drive.specs.Moments.{Rules}
-use Rattle.smk_drive.specs.Refusals.{ChainRefuses, DerivationRefuses, NextRefuses, PlanRefuses, above_limit, ahead, guarded, incomplete, is_running, of_command, refused_of, unless_empty}
+use Rattle.smk_drive.specs.Refusals.{ChainRefuses, DerivationRefuses, NextRefuses, PlanRefuses, above_limit, ahead, guarded, incomplete, is_running, refused_of, unless_empty}
 use Rattle.smk_laws_folder.specs.InForce.{HasCommands, IsKeptFor, KeptIsLast, KeptIsUnrefused, kept_plan}
 use Rattle.smk_laws_folder.specs.Progressing.{IsAlike, state_in}
 use Rattle.smk_laws_folder.proofs.PlansAlike.{plans_alike, plan_same}

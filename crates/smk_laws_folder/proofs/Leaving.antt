@@ -1,5 +1,5 @@
 -- What the calls of one job leave as it was.
-use Rattle.std.proofs.Common.{◌≡◌, ◌⊎◌, inl, inr, Bool, true, false, ◌&&◌, ◌||◌, List, [], ◌∷◌, ◌++◌, map, Ok, Err, is_some, refl, sym, ap, subst, ◌∙◌, bytes_eq}
+use Rattle.std.proofs.Common.{◌≡◌, inl, inr, Bool, true, false, ◌&&◌, ◌||◌, List, [], ◌∷◌, ◌++◌, map, Ok, Err, is_some, refl, ap, ◌∙◌, bytes_eq}
 use Rattle.std.specs.Prelude.{if◌then◌else◌}
 use Rattle.std.proofs.lemmas.Bool.{or_parts}
 use Rattle.smk_base.specs.Path.{is_at_or_under, is_under, overlaps}
@@ -13,11 +13,10 @@ use Rattle.smk_world.specs.declared.event.NodeState.{NodeState}
 use Rattle.smk_world.specs.declared.event.NodeState.TheVariants.{Owned, Known}
 use Rattle.smk_world.specs.declared.event.Besides.TheVariants.{Anything}
 use Rattle.smk_world.specs.Trees.{Each, IsIn, Path}
-use Rattle.smk_world.specs.World.{World, after, firm, going, is_above, is_within, loose, node_after, out_paths, owned_by, owned_paths, reading, reads_folder, reads_nothing, run, settled, standing, with_flag, with_folder}
+use Rattle.smk_world.specs.World.{World, after, firm, going, is_above, is_within, loose, node_after, out_paths, owned_by, owned_paths, reading, reads_folder, reads_nothing, run, standing, with_flag, with_folder}
 use Rattle.smk_flow.specs.declared.job.Job.{Job}
 use Rattle.smk_laws_moments.specs.Owning.{IsOwnCall, sites}
 use Rattle.smk_laws_folder.specs.Leaving.{AreOwnCalls, OwnCallsLeave}
-use Rattle.smk_laws_folder.specs.Places.{IsSameUnder}
 
 -- ## Lists of places
 

@@ -1,21 +1,19 @@
 -- How images differ, by what stands in places of two worlds.
-use Rattle.std.proofs.Common.{◌≡◌, ◌⊎◌, inl, inr, ℕ, Bool, true, false, ◌&&◌, List, [], ◌∷◌, Option, Some, None, is_some, refl, sym, ap, subst, ◌∙◌, bytes_eq}
-use Rattle.std.specs.Prelude.{if◌then◌else◌, ◌||◌}
+use Rattle.std.proofs.Common.{◌≡◌, ◌⊎◌, inl, inr, Bool, true, false, ◌&&◌, List, [], ◌∷◌, Option, Some, None, is_some, refl, sym, ap, subst, ◌∙◌, bytes_eq}
+use Rattle.std.specs.Prelude.{if◌then◌else◌}
 use Rattle.std.specs.List.{list_any}
 use Rattle.smk_base.specs.Path.{is_at_or_under}
 use Rattle.smk_base.specs.Place.{note_place}
 use Rattle.smk_base.proofs.Places.{and_first, and_second, same_place}
 use Rattle.smk_base.proofs.Under.{at_itself, both_true, never_both, or_cases, or_first, or_second}
-use Rattle.smk_world.specs.declared.event.Event.{Event}
 use Rattle.smk_world.specs.declared.event.Node.{Node}
 use Rattle.smk_world.specs.Calls.{stat_of}
 use Rattle.smk_world.specs.Trees.{Path, among, is_path_text}
-use Rattle.smk_world.specs.World.{IsFormed, World, reading, run}
-use Rattle.smk_record.specs.declared.record.Record.{Record}
+use Rattle.smk_world.specs.World.{reading}
 use Rattle.smk_record.specs.Records.{are_valid_members}
 use Rattle.smk_store.specs.declared.store.Kept.TheVariants.{Absent}
 use Rattle.smk_store.specs.Images.{Content, Image, content_of, file_at, image_by, is_directory, is_outside, kept_by, members_under, seen}
-use Rattle.smk_plan.specs.Sights.{is_guarded, is_tellable, sight_of}
+use Rattle.smk_plan.specs.Sights.{is_guarded, is_tellable}
 use Rattle.smk_plan.specs.States.{test_some}
 use Rattle.smk_plan_facts.specs.Facts.{NamesAll}
 use Rattle.smk_plan_live.specs.Lives.{IsAgreed}
@@ -23,8 +21,7 @@ use Rattle.smk_plan_live.proofs.Restoring.{any_at}
 use Rattle.smk_plan_preview.proofs.Agreed.{names_all, own_records}
 use Rattle.smk_laws_history.proofs.HistoryPlaces.{members_same}
 use Rattle.smk_laws_moments.proofs.LooksLike.{like_looks}
-use Rattle.smk_laws_folder.specs.Changing.{LooksSame}
-use Rattle.smk_laws_folder.specs.Places.{DiffersByPlaces, IsSameUnder, LooksAgree, SameIsSeen}
+use Rattle.smk_laws_folder.specs.Places.{DiffersByPlaces, LooksAgree, SameIsSeen}
 use Rattle.smk_laws_folder.proofs.Carrying.{same_tests}
 
 -- ## Read-only files

@@ -1,21 +1,20 @@
 -- The last plan of a chain is the same in whatever order the jobs are named that have begun and run.
-use Rattle.std.proofs.Common.{◌≡◌, Bool, not, ◌&&◌, List, ◌++◌, map, filter, Option, ap, ◌∙◌, bytes_eq, is_some}
+use Rattle.std.proofs.Common.{◌≡◌, not, ◌&&◌, ◌++◌, map, filter, ◌∙◌, bytes_eq, is_some}
 use Rattle.std.specs.Prelude.{if◌then◌else◌}
 use Rattle.std.specs.List.{list_any}
 use Rattle.smk_world.specs.World.{in_paths, out_paths}
-use Rattle.smk_world.specs.Trees.{Path, among}
+use Rattle.smk_world.specs.Trees.{among}
 use Rattle.smk_flow.specs.declared.job.Job.{Job}
 use Rattle.smk_flow.specs.Flows.{Flow}
 use Rattle.smk_store.specs.Images.{Image}
 use Rattle.smk_store.specs.Trust.{is_marked_but, stamp_now_but}
 use Rattle.smk_chain.specs.Derive.{distinct}
 use Rattle.smk_trigger.specs.declared.reason.Reason.TheVariants.{Upstream, Forced}
-use Rattle.smk_trigger.specs.declared.reason.State.{State}
 use Rattle.smk_trigger.specs.declared.reason.State.TheVariants.{Open}
 use Rattle.smk_trigger.specs.JobStates.{is_dirty, is_restore}
 use Rattle.smk_trigger.specs.Reasons.{own_reasons, when}
 use Rattle.smk_pick.specs.declared.settings.Settings.{Settings}
-use Rattle.smk_plan.specs.States.{IsPlan, Last, LastPlan, Plan, Progress, Then, by_force, by_reasons, is_forced, is_open_now, is_read_now, is_restored, is_to_restore, job_path, made_by, makes, reasons, state_of, test_some, while_running}
+use Rattle.smk_plan.specs.States.{IsPlan, Last, Plan, Progress, Then, by_force, by_reasons, is_forced, is_open_now, is_read_now, is_restored, is_to_restore, job_path, made_by, makes, reasons, state_of, test_some, while_running}
 use Rattle.smk_laws_folder.specs.Progressing.{IsAlike, PlansAlike}
 
 module _ (image : Image) (settings : Settings) (p q : Progress) (alike : IsAlike p q) (plan : Plan) where

@@ -1,27 +1,27 @@
 -- What a kept plan has begun and runs follows a run.
-use Rattle.std.proofs.Common.{◌≡◌, ℕ, zero, suc, ◌<◌, Bool, true, false, not, ◌&&◌, ◌||◌, List, [], ◌∷◌, ◌++◌, map, length, Option, Some, None, refl, sym, ap, ap₂, subst, ◌∙◌, bytes_eq, cond, arith}
-use Rattle.std.specs.Prelude.{if◌then◌else◌, slice_set, option_map, is_some, is_none, filter}
-use Rattle.std.specs.List.{find, list_any, slice_get}
+use Rattle.std.proofs.Common.{◌≡◌, ℕ, zero, suc, ◌<◌, Bool, true, false, ◌||◌, List, [], ◌∷◌, ◌++◌, map, length, Option, Some, None, refl, sym, ap, subst, ◌∙◌, bytes_eq, cond, arith}
+use Rattle.std.specs.Prelude.{if◌then◌else◌, slice_set, option_map, is_some}
+use Rattle.std.specs.List.{find, slice_get}
 use Rattle.std.proofs.lemmas.Option.{same_Some, none-some, slice_get_within}
-use Rattle.smk_base.proofs.Places.{place_itself, same_place, same_flipped}
+use Rattle.smk_base.proofs.Places.{place_itself, same_place}
 use Rattle.smk_base.proofs.Under.{never_both}
 use Rattle.smk_world.specs.World.{out_paths}
 use Rattle.smk_world.specs.Trees.{Path, among, first}
 use Rattle.smk_pattern.specs.Reading.{or_empty}
 use Rattle.smk_flow.specs.declared.job.Job.{Job}
 use Rattle.smk_trigger.specs.declared.reason.State.{State}
-use Rattle.smk_plan.specs.States.{Progress, job_path}
+use Rattle.smk_plan.specs.States.{job_path}
 use Rattle.smk_plan_states.specs.Served.{AreApart, outputs_of}
 use Rattle.smk_plan_states.proofs.Tests.{among_append}
 use Rattle.smk_plan_live.specs.declared.base.Base.{Base}
 use Rattle.smk_plan_live.specs.declared.phase.Phase.{Phase}
 use Rattle.smk_plan_live.specs.declared.phase.Phase.TheVariants.{Running, Closed}
 use Rattle.smk_plan_live.specs.Carried.{has_name}
-use Rattle.smk_plan_live.specs.Lives.{IsSound, progress_of}
+use Rattle.smk_plan_live.specs.Lives.{IsSound}
 use Rattle.smk_plan_live.specs.Now.{joined}
 use Rattle.smk_plan_live.specs.Phases.{begun_in, child_in, children_in, has_begun, named, running_in}
 use Rattle.smk_plan_live.proofs.Restoring.{kept_at, named_later, one_name}
-use Rattle.smk_laws_folder.specs.Progressing.{BeginsAlike, ClosesAlike, IsAlike, state_in}
+use Rattle.smk_laws_folder.specs.Progressing.{BeginsAlike, ClosesAlike, state_in}
 use Rattle.smk_laws_folder.proofs.Carrying.{by_test}
 use Rattle.smk_laws_folder.proofs.Agreeing.{set_at}
 

@@ -1,5 +1,5 @@
 -- A plan that is kept agrees with the folder after each step of a run, where it agreed before.
-use Rattle.std.specs.Prelude.{◌≡◌, ℕ, true, false, List, [], ◌∷◌, map, Some, None}
+use Rattle.std.specs.Prelude.{◌≡◌, ℕ, true, false, [], ◌∷◌, map, Some, None}
 use Rattle.std.specs.List.{slice_get}
 use Rattle.smk_world.specs.World.{out_paths}
 use Rattle.smk_world.specs.Trees.{Path, among}

@@ -1,5 +1,5 @@
 -- How an image differs from one before, where one job has begun or was closed, or an output was removed.
-use Rattle.std.specs.Prelude.{◌≡◌, Bool, true, false, List, ◌∷◌, Some}
+use Rattle.std.specs.Prelude.{◌≡◌, true, false, List, ◌∷◌, Some}
 use Rattle.std.specs.List.{list_any}
 use Rattle.smk_world.specs.World.{in_paths, folders_above}
 use Rattle.smk_world.specs.Trees.{Path, Each, IsIn, among, outs_of}

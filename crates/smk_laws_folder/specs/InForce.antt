@@ -1,5 +1,5 @@
 -- The plan that is kept is the one in force, where it agrees with the folder and nothing has become known since.
-use Rattle.std.specs.Prelude.{◌≡◌, List, [], Option, Some, None}
+use Rattle.std.specs.Prelude.{◌≡◌, []}
 use Rattle.std.specs.List.{flat_map}
 use Rattle.smk_flow.specs.declared.job.Job.{Job}
 use Rattle.smk_store.specs.Images.{Image}

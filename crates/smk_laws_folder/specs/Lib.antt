@@ -5,3 +5,4 @@ pub mod InForce
 pub mod Places
 pub mod Deriving
 pub mod Leaving
+pub mod Off

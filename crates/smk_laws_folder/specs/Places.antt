@@ -1,5 +1,5 @@
 -- How images differ, by what stands in places of two worlds.
-use Rattle.std.specs.Prelude.{◌≡◌, ℕ, Bool, true, false, List, Option, is_some}
+use Rattle.std.specs.Prelude.{◌≡◌, ℕ, true, false, List, Option, is_some}
 use Rattle.smk_base.specs.Path.{is_at_or_under}
 use Rattle.smk_base.specs.Place.{mark_place, note_place, record_place}
 use Rattle.smk_world.specs.declared.event.Event.{Event}

@@ -1,5 +1,5 @@
 -- How far a run is tells the same in whatever order its jobs are named; and what a kept plan has begun and runs follows a run.
-use Rattle.std.specs.Prelude.{◌≡◌, ℕ, true, ◌||◌, Bool, List, map, bytes_eq, if◌then◌else◌, Option, Some, None, option_map}
+use Rattle.std.specs.Prelude.{◌≡◌, ℕ, true, ◌||◌, List, bytes_eq, if◌then◌else◌, Option, Some, None, option_map}
 use Rattle.std.specs.List.{find, slice_get}
 use Rattle.smk_world.specs.Trees.{Path, among}
 use Rattle.smk_flow.specs.declared.job.Job.{Job}
@@ -13,7 +13,7 @@ use Rattle.smk_plan.specs.declared.seen.Sight.{Sight}
 use Rattle.smk_plan.specs.States.{LastPlan, Plan, Progress, job_path}
 use Rattle.smk_plan_states.specs.Served.{AreApart, outputs_of}
 use Rattle.smk_plan_live.specs.declared.base.Base.{Base}
-use Rattle.smk_plan_live.specs.declared.phase.Phase.TheVariants.{Closed, Running}
+use Rattle.smk_plan_live.specs.declared.phase.Phase.TheVariants.{Closed}
 use Rattle.smk_plan_live.specs.Carried.{advanced, begun, has_name}
 use Rattle.smk_plan_live.specs.Lives.{IsSound, progress_of}
 use Rattle.smk_plan_live.specs.Phases.{has_begun}

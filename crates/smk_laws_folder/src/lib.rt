@@ -5,6 +5,7 @@ ghost use Rattle.smk_laws_folder.specs.Agreeing.{BeginAgrees, CloseAgrees, Spend
 ghost use Rattle.smk_laws_folder.specs.Deriving.{DerivationGoesOn};
 ghost use Rattle.smk_laws_folder.specs.InForce.{KeptIsLast, KeptIsUnrefused};
 ghost use Rattle.smk_laws_folder.specs.Leaving.{OwnCallsLeave};
+ghost use Rattle.smk_laws_folder.specs.Off.{PathsAreOff, SignsAreOff};
 ghost use Rattle.smk_laws_folder.specs.Places.{DiffersByPlaces, LooksAgree, SameIsSeen};
 ghost use Rattle.smk_laws_folder.specs.Progressing.{BeginsAlike, ClosesAlike, PlansAlike};
 
@@ -47,4 +48,11 @@ pub fn derivations_go_on()
 /// The calls with which one job begins, ends or is closed leave all else as it stands.
 pub fn own_calls_leave()
     ensures { OwnCallsLeave }
+{}
+
+/// A user's path that is apart from a job's outputs and logs is off all its places, and so are the mark and the record of each path that
+/// is none of its outputs.
+pub fn others_are_off()
+    ensures paths { PathsAreOff }
+    ensures signs { SignsAreOff }
 {}

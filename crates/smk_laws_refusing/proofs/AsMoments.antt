@@ -19,7 +19,7 @@ use Rattle.smk_laws_moments.proofs.LooksLike.{IsLike, like_looks}
 use Rattle.smk_laws_moments.proofs.StandsOf.{looks_keep_stands, world_is}
 use Rattle.smk_laws_refusing.specs.Refusing.{BeginsOnceLooked, BeginsWhereNoneRefuses, ClearRefusesAsMoment, LooksKeepRefusals, NoneLeftNoneRefuses}
 
-events_are : (rules : Rules) (entry : World) (events : List Event) (m : Moment) → IsMoment rules entry events m → m.events ≡ events
+pub events_are : (rules : Rules) (entry : World) (events : List Event) (m : Moment) → IsMoment rules entry events m → m.events ≡ events
 events_are rules entry events m (AtEntry plan force) = refl
 events_are rules entry events m (AtRest before earlier e plan is rest force) = refl
 events_are rules entry events m (Between before earlier e is rest) = refl

@@ -1,2 +1,4 @@
 pub mod AsMoments
+pub mod AtRests
+pub mod Clear
 pub mod Refusing

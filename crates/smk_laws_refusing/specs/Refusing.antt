@@ -1,5 +1,5 @@
 -- Where something is refused in a run, and how the run ends then.
-use Rattle.std.specs.Prelude.{◌≡◌, ◌⊎◌, ◌||◌, ℕ, Bool, false, not, List, [], ◌++◌, Option, Some, None, Result, Err, IsTrue}
+use Rattle.std.specs.Prelude.{◌≡◌, ◌⊎◌, ◌||◌, ℕ, Bool, false, not, List, [], ◌∷◌, ◌++◌, Option, Some, None, Result, Err, IsTrue}
 use Rattle.smk_world.specs.declared.event.Event.{Event}
 use Rattle.smk_world.specs.World.{World, IsFormed, run}
 use Rattle.smk_world.specs.Devices.{AreLooks}
@@ -15,7 +15,7 @@ use Rattle.smk_drive.specs.Moments.{IsMoment, Moment, Rules, progress_of, seen}
 use Rattle.smk_drive.specs.Refusals.{ChainRefuses}
 use Rattle.smk_drive_target.specs.Refusals.{MomentRefuses, RunRefuses}
 use Rattle.smk_drive_course.specs.declared.ending.End.{End}
-use Rattle.smk_drive_course.specs.Stands.{IsClear, IsPlanned, NoneLeft, Refuses, Stand, first_stand, halted_by}
+use Rattle.smk_drive_course.specs.Stands.{IsClear, IsPlanned, IsReplanned, NoneLeft, Refuses, Stand, first_stand, halted_by, lists}
 use Rattle.smk_drive_course.specs.Steps.{Deed, GoesByAnswer, IsToBegin}
 use Rattle.smk_drive_course.specs.Breaks.{Step, Steps}
 use Rattle.smk_drive_course.specs.Driven.{IsAnswer, IsRun}
@@ -52,6 +52,18 @@ NoneLeftNoneRefuses =
     IsMoment rules entry before m →
     IsStandOf s m → IsClear rules s (run entry before) before → NoneLeft rules s (run entry before) before → ¬ MomentRefuses rules entry m f
 
+-- Where the plan of a stand was made anew after an event at a rest, as when a job has begun or is closed, or an output was removed, what is refused at the
+-- stand that comes about is refused at the moment after that event.
+abbrev pub AnewRefusesAsMoment : Type 0
+AnewRefusesAsMoment =
+    (rules : Rules) (entry : World) (before : List Event) (e : Event) (u t : Stand) (m n : Moment) (f : Fault) →
+    IsFormed entry →
+    IsMoment rules entry before m →
+    m.lists ≡ lists u →
+    IsReplanned rules u (run entry (before ++ e ∷ [])) t →
+    IsMoment rules entry (before ++ e ∷ []) n →
+    IsStandOf t n → Refuses rules entry t (run entry (before ++ e ∷ [])) (before ++ e ∷ []) f → MomentRefuses rules entry n f
+
 -- Looks leave what a stand refuses.
 abbrev pub LooksKeepRefusals : Type 0
 LooksKeepRefusals =
@@ -72,6 +84,21 @@ BeginsOnceLooked =
     IsMoment rules entry before m →
     IsStandOf s m →
     IsMoment rules entry (before ++ looks) n → IsToBegin rules entry s (run entry before) before e made stamps → ¬ MomentRefuses rules entry n f
+
+-- No plan was refused at this stand as it came about, after some of these events.
+pub record WasClear (rules : Rules) (entry : World) (s : Stand) (events : List Event) : Type 0 where
+  pub front : List Event
+  pub rest : List Event
+  pub split : events ≡ front ++ rest
+  pub clear : IsClear rules s (run entry front) front
+
+-- So it is at each stand of a run at which no fault has come.
+abbrev pub UnhaltedWasClear : Type 0
+UnhaltedWasClear =
+    (rules : Rules) (entry : World) (plan : Option Plan) (opened : Result (Unit {0}) KeepFault) (opening es : List Event) (start t : Stand)
+    (deeds : List Deed) →
+    GoesByAnswer rules entry opened (first_stand plan) entry [] start →
+    Steps rules entry start (run entry opening) opening es deeds t → t.halted ≡ None → WasClear rules entry t (opening ++ es)
 
 -- ## How a run ends
 

@@ -1,22 +1,26 @@
 //! Laws of a run's course: what is refused in it, and how it ends then.
 #![tactic(auto)]
 
-ghost use Rattle.smk_laws_refusing.specs.Refusing.{BeginsOnceLooked, BeginsWhereNoneRefuses, ClearRefusesAsMoment, FirstFaultEnds};
-ghost use Rattle.smk_laws_refusing.specs.Refusing.{LooksKeepRefusals, NoneLeftNoneRefuses, RefusalIsMet, RefusedAtEntryEnds};
+ghost use Rattle.smk_laws_refusing.specs.Refusing.{AnewRefusesAsMoment, BeginsOnceLooked, BeginsWhereNoneRefuses, ClearRefusesAsMoment, FirstFaultEnds};
+ghost use Rattle.smk_laws_refusing.specs.Refusing.{LooksKeepRefusals, NoneLeftNoneRefuses, RefusalIsMet, RefusedAtEntryEnds, UnhaltedWasClear};
 
-/// What is refused at a clear stand is refused at the moment of the log that it is, and the other way round. Nothing is refused where a job is to begin, nor
+/// What is refused at a clear stand is refused at the moment of the log that it is, and the other way round; so is what is refused at a stand as it comes
+/// about. Nothing is refused where a job is to begin, nor
 /// where nothing is left that may start; and looks leave what is refused.
 pub fn stands_refuse_as_moments()
     ensures same { ClearRefusesAsMoment }
+    ensures anew { AnewRefusesAsMoment }
     ensures begins { BeginsWhereNoneRefuses }
     ensures looks { LooksKeepRefusals }
     ensures looked { BeginsOnceLooked }
     ensures none_left { NoneLeftNoneRefuses }
 {}
 
-/// A run that ends with a refusal has met it, at its entry or in a step; one in which a fault has come ends with the first one; and where the plans of the
-/// entry are refused, it ends with the refusal of its log, or with a fault of the device, the sink or memory.
+/// Where no fault has come, no plan was refused as the stand came about. A run that ends with a refusal has met it, at its entry or in a step; one in which a
+/// fault has come ends with the first one; and where the plans of the entry are refused, it ends with the refusal of its log, or with a fault of the device,
+/// the sink or memory.
 pub fn refusals_end_runs()
+    ensures clear { UnhaltedWasClear }
     ensures met { RefusalIsMet }
     ensures first { FirstFaultEnds }
     ensures entry { RefusedAtEntryEnds }

@@ -1,8 +1,10 @@
 -- The lines of a log: one text, which further events add to; and which events make none.
-use Rattle.std.proofs.Common.{◌≡◌, Bool, true, false, ◌&&◌, not, List, [], ◌∷◌, ◌++◌, map, filter, refl, sym, ap, subst, ◌∙◌, Ok, Err, append_assoc, append-nil, true≢false}
+use Rattle.std.proofs.Common.{◌≡◌, Bool, true, false, ◌&&◌, not, List, [], ◌∷◌, ◌++◌, map, filter, refl, sym, ap, subst, ◌∙◌, Ok, Err, append_assoc}
+use Rattle.std.proofs.Common.{append-nil, true≢false}
 use Rattle.std.specs.List.{flat_map}
 use Rattle.smk_world.specs.declared.event.Call.{Call}
-use Rattle.smk_world.specs.declared.event.Call.TheVariants.{Looked, ReadFile, ReadFolder, Written, Created, Removed, MadeParents, Settled, Protected, Started, Waited}
+use Rattle.smk_world.specs.declared.event.Call.TheVariants.{Looked, ReadFile, ReadFolder, Written, Created, Removed, MadeParents, Settled, Protected, Started}
+use Rattle.smk_world.specs.declared.event.Call.TheVariants.{Waited}
 use Rattle.smk_world.specs.declared.event.Event.{Event}
 use Rattle.smk_world.specs.World.{World, IsFormed, run}
 use Rattle.smk_world.specs.Calls.{failed}
@@ -56,13 +58,16 @@ module _ (rules : Rules) (entry : World) where
   -- ## Events without lines
 
   -- an event between these moments that adds nothing
-  quiet : (events : List Event) (text : Text) (e : Event) (m n : Moment) → IsMoment rules entry events m → IsMoment rules entry (events ++ e ∷ []) n → added m n e ≡ [] → HasLines rules entry events text → HasLines rules entry (events ++ e ∷ []) text
+  pub quiet :
+      (events : List Event) (text : Text) (e : Event) (m n : Moment) → IsMoment rules entry events m → IsMoment rules entry (events ++ e ∷ []) n →
+      added m n e ≡ [] → HasLines rules entry events text → HasLines rules entry (events ++ e ∷ []) text
   quiet events text e m n ism isn none lines =
       subst (HasLines rules entry (events ++ e ∷ [])) (ap (λ more. text ++ more) none ∙ append-nil text) (AndThen events text e m n lines ism isn)
 
   -- where no job has begun no start makes a line, and no close
   none_starts : (n : Moment) (call : Call) → n.begun ≡ [] → start_lines rules n call ≡ []
-  none_starts n (Started recipe logs command (Ok number)) h = ap (λ (bs : List Begun). start_lines rules (record n { begun = bs }) (Started recipe logs command (Ok number))) h
+  none_starts n (Started recipe logs command (Ok number)) h =
+      ap (λ (bs : List Begun). start_lines rules (record n { begun = bs }) (Started recipe logs command (Ok number))) h
   none_starts n (Started recipe logs command (Err e)) h = refl
   none_starts n (Looked p r) h = refl
   none_starts n (ReadFile p limit r) h = refl
@@ -76,9 +81,10 @@ module _ (rules : Rules) (entry : World) where
   none_starts n (Waited r) h = refl
 
   none_closes : (m n : Moment) → n.begun ≡ [] → close_lines rules m n ≡ []
-  none_closes m n h = ap (λ (bs : List Begun). flat_map (close_line rules n.world) (filter (λ (b : Begun). is_closed n.world b && not (is_closed m.world b)) bs)) h
+  none_closes m n h =
+      ap (λ (bs : List Begun). flat_map (close_line rules n.world) (filter (λ (b : Begun). is_closed n.world b && not (is_closed m.world b)) bs)) h
 
-  both_none : (a b : Text) → a ≡ [] → b ≡ [] → a ++ b ≡ []
+  pub both_none : (a b : Text) → a ≡ [] → b ≡ [] → a ++ b ≡ []
   both_none a b h k = ap (λ x. x ++ b) h ∙ k
 
   front_none : {A : Type 0} {B : Type 0} (f : A → B) (xs : List A) (ys : List B) → map f xs ++ ys ≡ [] → xs ≡ []
@@ -116,7 +122,7 @@ module _ (rules : Rules) (entry : World) where
   no_other true = refl
   no_other false = refl
 
-  none_pass : {A : Type 0} (f : A → Bool) → ((x : A) → f x ≡ false) → (xs : List A) → filter f xs ≡ []
+  pub none_pass : {A : Type 0} (f : A → Bool) → ((x : A) → f x ≡ false) → (xs : List A) → filter f xs ≡ []
   none_pass f none [] = refl
   none_pass f none (x ∷ xs) = rw (none x) (none_pass f none xs)
 
@@ -142,7 +148,8 @@ module _ (rules : Rules) (entry : World) where
         (same_closed m.0 n.0 (ap (λ (w : World). w.nodes) at_m ∙ (like.1 ∙ ap (λ (w : World). w.nodes) (sym at_n))))) lines
 
     looks_quiet :
-        (failure : Bool) (before looks : List Event) (text : Text) → AreLooks failure looks → Follows act (run entry before) looks → HasLines rules entry before text →
+        (failure : Bool) (before looks : List Event) (text : Text) → AreLooks failure looks → Follows act
+        (run entry before) looks → HasLines rules entry before text →
         HasLines rules entry (before ++ looks) text
     looks_quiet failure before [] text are follows lines = subst (λ xs. HasLines rules entry xs text) (sym (append-nil before)) lines
     looks_quiet failure before (e ∷ []) text are follows lines = look_quiet before e text are.0 follows lines
@@ -166,4 +173,5 @@ opening_tells_nothing act rules entry plan opened es formed planned opens follow
     none_told rules entry es m.0 m.1 (first_is_moment act rules entry plan opened es m.0 formed planned opens follows m.1).begun
 
 pub looks_tell_nothing : LooksTellNothing
-looks_tell_nothing act rules entry before looks failure text formed are follows lines = looks_quiet rules entry formed act failure before looks text are follows lines
+looks_tell_nothing act rules entry before looks failure text formed are follows lines =
+    looks_quiet rules entry formed act failure before looks text are follows lines

@@ -1,5 +1,6 @@
 -- The report of what a run has done is that of its log, or a front of it.
-use Rattle.std.proofs.Common.{◌≡◌, ◌⊎◌, suc, Bool, false, List, [], ◌∷◌, ◌++◌, map, filter, length, codes, refl, sym, ap, subst, ◌∙◌, inl, inr, Option, Some, None, Ok, Err, append_assoc, append-nil, true≢false}
+use Rattle.std.proofs.Common.{◌≡◌, ◌⊎◌, suc, Bool, false, List, [], ◌∷◌, ◌++◌, map, filter, length, codes, refl, sym, ap, subst, ◌∙◌, inl, inr, Option, Some}
+use Rattle.std.proofs.Common.{None, Ok, Err, append_assoc, append-nil, true≢false}
 use Rattle.std.specs.List.{flat_map, list_any}
 use Rattle.smk_world.specs.declared.event.Event.{Event}
 use Rattle.smk_world.specs.World.{World}
@@ -21,7 +22,8 @@ use Rattle.smk_drive_course.specs.Steps.{Closed, Deed, Started}
 use Rattle.smk_drive_course.specs.Reports.{IsFrontFor, closing_lines, deed_line, is_started, lines_of, target_lines}
 use Rattle.smk_laws_moments.specs.Courses.{begun_jobs, started_job, started_jobs}
 use Rattle.smk_laws_moments.proofs.Fates.{answer_kept, starts_are_told}
-use Rattle.smk_laws_reporting.specs.Reporting.{DoneIsRunText, EachBegunIsStarted, FaultHasLines, FrontHasStarts, RefusalHasStarts, ReportIsFront, TellsEnd, ToldOfMoment}
+use Rattle.smk_laws_reporting.specs.Reporting.{DoneIsRunText, EachBegunIsStarted, FaultHasLines, FrontHasStarts, RefusalHasStarts, ReportIsFront, TellsEnd}
+use Rattle.smk_laws_reporting.specs.Reporting.{ToldOfMoment}
 use Rattle.smk_laws_reporting.proofs.Lines.{lines_go_on, one_text}
 
 -- ## Counts
@@ -92,7 +94,8 @@ done_is_run_text rules entry log deeds end text lines ends is =
 
 lines_more : (flow : Flow) (deeds more : List Deed) → lines_of flow (deeds ++ more) ≡ lines_of flow deeds ++ lines_of flow more
 lines_more flow [] more = refl
-lines_more flow (d ∷ deeds) more = ap (λ t. deed_line flow d ++ t) (lines_more flow deeds more) ∙ sym (append_assoc (deed_line flow d) (lines_of flow deeds) (lines_of flow more))
+lines_more flow (d ∷ deeds) more =
+    ap (λ t. deed_line flow d ++ t) (lines_more flow deeds more) ∙ sym (append_assoc (deed_line flow d) (lines_of flow deeds) (lines_of flow more))
 
 -- what is a front of all lines and the closing ones
 whole_of :
@@ -107,7 +110,15 @@ whole_of flow deeds f closing text h =
 
 pub report_is_front : ReportIsFront
 report_is_front rules entry log deeds None (Ok end) text lines ends is =
-    inl (lines_of rules.flow deeds, lines, ([], sym (ap (λ t. t ++ []) is ∙ (append-nil (lines_of rules.flow deeds ++ []) ∙ append-nil (lines_of rules.flow deeds)))))
+    inl (
+      lines_of rules.flow deeds,
+      lines,
+      (
+        [],
+        sym (ap (λ t. t ++ []) is ∙ (append-nil (lines_of rules.flow deeds ++ [])
+            ∙ append-nil (lines_of rules.flow deeds))),
+      ),
+    )
 report_is_front rules entry log deeds (Some told) (Ok end) text lines ends is =
     inr (text, done_is_run_text rules entry log deeds told text lines (ends told refl) is, ([], sym (append-nil text)))
 report_is_front rules entry log deeds None (Err f) text lines ends is =
@@ -162,7 +173,8 @@ module _ (flow : Flow) where
   start_in (Started k ∷ deeds) more j (inl same) = (
     [],
     lines_of flow deeds ++ more,
-    append_assoc (start_line (named_job flow k)) (lines_of flow deeds) more ∙ ap (λ x. start_line (named_job flow x) ++ (lines_of flow deeds ++ more)) (sym same),
+    append_assoc (start_line (named_job flow k)) (lines_of flow deeds) more
+        ∙ ap (λ x. start_line (named_job flow x) ++ (lines_of flow deeds ++ more)) (sym same),
     inl refl,
   )
   start_in (Started k ∷ deeds) more j (inr later) =
@@ -179,12 +191,14 @@ none_started (Closed j e ∷ deeds) h = none_started deeds h
 
 starts_more : (deeds more : List Deed) → started_jobs (deeds ++ more) ≡ started_jobs deeds ++ started_jobs more
 starts_more [] more = refl
-starts_more (d ∷ deeds) more = ap (λ js. started_job d ++ js) (starts_more deeds more) ∙ sym (append_assoc (started_job d) (started_jobs deeds) (started_jobs more))
+starts_more (d ∷ deeds) more =
+    ap (λ js. started_job d ++ js) (starts_more deeds more) ∙ sym (append_assoc (started_job d) (started_jobs deeds) (started_jobs more))
 
 pub front_has_starts : FrontHasStarts
 front_has_starts flow deeds f closing text j keeps h i =
     let jobs : started_jobs deeds ≡ started_jobs h.before =
-    ap started_jobs h.split ∙ (starts_more h.before h.later ∙ (ap (λ js. started_jobs h.before ++ js) (none_started h.later (h.has_starts keeps)) ∙ append-nil (started_jobs h.before))) in
+    ap started_jobs h.split ∙ (starts_more h.before h.later ∙ (ap (λ js. started_jobs h.before ++ js) (none_started h.later (h.has_starts keeps))
+    ∙ append-nil (started_jobs h.before))) in
     subst (λ t. HasLine t (start_line (named_job flow j))) (sym h.text_is) (start_in flow h.before h.more j (subst (λ js. IsIn js j) jobs i))
 
 each_so : {A : Type 0} (P Q : A → Type 0) → ((x : A) → P x → Q x) → (xs : List A) → Each P xs → Each Q xs

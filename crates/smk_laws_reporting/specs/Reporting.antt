@@ -1,10 +1,12 @@
 -- The report of a run by what it has done, and by its log.
-use Rattle.std.specs.Prelude.{◌≡◌, Bool, true, false, List, [], ◌++◌, filter, length, Option, Some, Result, Ok}
+use Rattle.std.specs.Prelude.{◌≡◌, Bool, true, false, List, [], ◌∷◌, ◌++◌, filter, length, Option, Some, Result, Ok}
+use Rattle.smk_base.specs.Place.{mark_place}
 use Rattle.smk_world.specs.declared.event.Event.{Event}
 use Rattle.smk_world.specs.World.{World, IsFormed, run}
+use Rattle.smk_world.specs.Calls.{started_number}
 use Rattle.smk_world.specs.Devices.{AreLooks}
 use Rattle.smk_world.specs.Runs.{Follows}
-use Rattle.smk_world.specs.Trees.{Act, Each, IsIn}
+use Rattle.smk_world.specs.Trees.{Act, Each, IsIn, Path}
 use Rattle.smk_pattern.specs.Shapes.{Text}
 use Rattle.smk_flow.specs.declared.job.Job.{Job}
 use Rattle.smk_flow.specs.Flows.{Flow}
@@ -12,13 +14,14 @@ use Rattle.smk_keep.specs.declared.fault.KeepFault.{KeepFault}
 use Rattle.smk_plan.specs.States.{Plan}
 use Rattle.smk_report.specs.Lines.{start_line}
 use Rattle.smk_report.specs.declared.fault.Fault.{Fault}
-use Rattle.smk_drive.specs.Moments.{Begun, IsMoment, Moment, Rules, is_closed_badly, is_closed_well}
+use Rattle.smk_drive.specs.Moments.{Begun, IsMoment, Moment, Rules, is_closed_badly, is_closed_well, is_gone}
 use Rattle.smk_drive.specs.Reports.{HasLines, named_job}
 use Rattle.smk_drive_target.specs.Moments.{started}
 use Rattle.smk_drive_target.specs.Reports.{HasLine, HasLinesBefore, HasStarts, IsFront, IsRunText}
 use Rattle.smk_drive_course.specs.declared.ending.End.{End}
 use Rattle.smk_drive_course.specs.Stands.{IsPlanned, Stand, first_stand, moment_of}
-use Rattle.smk_drive_course.specs.Steps.{Deed}
+use Rattle.smk_drive_course.specs.Steps.{Deed, HasHalted}
+use Rattle.smk_drive_course.specs.Breaks.{HasFailedToWait, HasLeft, HasNotRead, HasWaited}
 use Rattle.smk_drive_course.specs.Driven.{IsOpening, IsRun}
 use Rattle.smk_drive_course.specs.Reports.{IsFrontFor, IsReport, IsTold, failures, is_device, is_done, is_started, lines_of, may_lose}
 use Rattle.smk_laws_moments.specs.Courses.{started_jobs}
@@ -52,6 +55,45 @@ LooksTellNothing =
     (act : Act) (rules : Rules) (entry : World) (before looks : List Event) (failure : Bool) (text : Text) →
     IsFormed entry →
     AreLooks failure looks → Follows act (run entry before) looks → HasLines rules entry before text → HasLines rules entry (before ++ looks) text
+
+-- no mark of the one world is gone in the other
+abbrev pub KeepsEachMark : World → World → Type 0
+KeepsEachMark w v = (p : Path) → is_gone (w.nodes (mark_place p)) ≡ false → is_gone (v.nodes (mark_place p)) ≡ false
+
+-- An event that starts no child, and with which no mark goes, makes no line.
+abbrev pub KeptMarksTellNothing : Type 0
+KeptMarksTellNothing =
+    (rules : Rules) (entry : World) (before : List Event) (e : Event) (text : Text) →
+    IsFormed entry →
+    started_number e.call ≡ [] →
+    KeepsEachMark (run entry before) (run entry (before ++ e ∷ [])) → HasLines rules entry before text → HasLines rules entry (before ++ e ∷ []) text
+
+-- ## Steps
+
+-- What such a step does makes just the lines that are told of it.
+abbrev pub IsToldOf : (Rules → World → Stand → World → List Event → List Event → List Deed → Stand → Type 0) → Type 0
+IsToldOf P =
+    (rules : Rules) (entry : World) (s t : Stand) (before es : List Event) (deeds : List Deed) (text : Text) →
+    IsFormed entry →
+    P rules entry s (run entry before) before es deeds t →
+    HasLines rules entry before text → HasLines rules entry (before ++ es) (text ++ lines_of rules.flow deeds)
+
+-- So it is where no job begins any more, or a call fails as sources are read;
+abbrev pub HaltingIsTold : Type 0
+HaltingIsTold = IsToldOf HasHalted
+
+abbrev pub ReadingIsTold : Type 0
+ReadingIsTold = IsToldOf HasNotRead
+
+-- where a job is left for want of memory; and where children are waited for after a call has failed, or a wait fails.
+abbrev pub LeavingIsTold : Type 0
+LeavingIsTold = IsToldOf HasLeft
+
+abbrev pub WaitingIsTold : Type 0
+WaitingIsTold = IsToldOf HasWaited
+
+abbrev pub FailedWaitIsTold : Type 0
+FailedWaitIsTold = IsToldOf HasFailedToWait
 
 -- ## Reports of what was done
 

@@ -1,5 +1,5 @@
 -- The children in their places are those that run.
-use Rattle.std.proofs.Common.{◌≡◌, ◌≢◌, ◌⊎◌, ℕ, Bool, true, false, not, List, [], ◌∷◌, ◌++◌, filter, refl, sym, ap, subst, ◌∙◌, inl, inr, eqb-true, eq-eqb, nat_eq, Option, Some, None, true≢false}
+use Rattle.std.proofs.Common.{◌≡◌, ◌⊎◌, ℕ, Bool, true, false, not, List, [], ◌∷◌, ◌++◌, refl, sym, ap, subst, ◌∙◌, inl, inr, eqb-true, eq-eqb, nat_eq, Option, Some, None, true≢false}
 use Rattle.std.specs.Prelude.{is_none}
 use Rattle.std.specs.List.{list_all}
 use Rattle.smk_world.specs.Trees.{IsIn}
@@ -8,8 +8,8 @@ use Rattle.smk_laws_protocol.proofs.Basics.{filter_in, in_filter, in_here, in_re
 use Rattle.smk_laws_protocol.proofs.Guarded.{in_either}
 use Rattle.smk_laws_protocol.proofs.Stays.{in_left, in_right}
 use Rattle.smk_drive_step.specs.declared.children.Child.{Child}
-use Rattle.smk_drive_step.specs.Crews.{IsPutFor, going_in, goings}
-use Rattle.smk_laws_turns.specs.Hubs.{AreApart, IsCrew}
+use Rattle.smk_drive_step.specs.Crews.{goings}
+use Rattle.smk_laws_turns.specs.Hubs.{AreApart}
 use Rattle.smk_laws_turns.specs.Turning.{CrewGrows, CrewIsBusy, CrewIsIdle, CrewShrinks}
 
 -- those before a free place, and those after it
@@ -24,7 +24,9 @@ around_taken (None ∷ ps) after c = around_taken ps after c
 around_taken (Some d ∷ ps) after c = ap (λ gs. d.going ∷ gs) (around_taken ps after c)
 
 -- one more, with a number that none has
-apart_more : (xs ys : List Underway) (g : Underway) → AreApart (xs ++ ys) → ((k : Underway) → IsIn (xs ++ ys) k → k.number ≡ g.number → ⊥) → AreApart (xs ++ g ∷ ys)
+apart_more :
+    (xs ys : List Underway) (g : Underway) →
+    AreApart (xs ++ ys) → ((k : Underway) → IsIn (xs ++ ys) k → k.number ≡ g.number → ⊥) → AreApart (xs ++ g ∷ ys)
 apart_more [] ys g apart fresh = (fresh, apart)
 apart_more (x ∷ xs) ys g apart fresh = (λ k i. other k (in_split xs ys g k i), apart_more xs ys g apart.1 (λ k i. fresh k (inr i)))
   where
@@ -33,7 +35,9 @@ apart_more (x ∷ xs) ys g apart fresh = (λ k i. other k (in_split xs ys g k i)
     other k (inr i) = apart.0 k i
 
 -- one less; none of the others has its number
-apart_less : (xs ys : List Underway) (g : Underway) → AreApart (xs ++ g ∷ ys) → AreApart (xs ++ ys) × ((k : Underway) → IsIn (xs ++ ys) k → k.number ≡ g.number → ⊥)
+apart_less :
+    (xs ys : List Underway) (g : Underway) →
+    AreApart (xs ++ g ∷ ys) → AreApart (xs ++ ys) × ((k : Underway) → IsIn (xs ++ ys) k → k.number ≡ g.number → ⊥)
 apart_less [] ys g apart = (apart.1, apart.0)
 apart_less (x ∷ xs) ys g apart = with_one (apart_less xs ys g apart.1)
   where
@@ -70,7 +74,8 @@ crew_grows were are runs c crew put fresh =
         goings were ≡ goings put.before ++ goings put.after → (g : Underway) →
         IsIn runs g ⊎ IsIn (c.going ∷ []) g → IsIn (goings put.before ++ c.going ∷ goings put.after) g
     there was g (inl i) = in_rest (goings put.before) (goings put.after) c.going g (subst (λ gs. IsIn gs g) was (crew.placed g i))
-    there was g (inr (inl e)) = subst (λ x. IsIn (goings put.before ++ c.going ∷ goings put.after) x) (sym e) (in_here (goings put.before) (goings put.after) c.going)
+    there was g (inr (inl e)) =
+        subst (λ x. IsIn (goings put.before ++ c.going ∷ goings put.after) x) (sym e) (in_here (goings put.before) (goings put.after) c.going)
     there was g (inr (inr i)) = absurd i
 
 unlike : (m n : ℕ) → (m ≡ n → ⊥) → not (nat_eq m n) ≡ true

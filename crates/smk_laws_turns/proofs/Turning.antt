@@ -1,15 +1,12 @@
 -- What each step of a run makes of what the run keeps.
-use Rattle.std.proofs.Common.{◌≡◌, ◌≢◌, ◌⊎◌, ◌+◌, ℕ, Bool, true, false, ◌||◌, not, List, [], ◌∷◌, ◌++◌, map, filter, length, refl, arith, sym, ap, subst, ◌∙◌, inl, inr, nat_eq, Option, Some, None, Result, Ok, Err, IsTrue, true≢false}
-use Rattle.std.specs.Prelude.{if◌then◌else◌, is_none}
-use Rattle.std.specs.List.{list_all, slice_get}
+use Rattle.std.proofs.Common.{◌≡◌, ◌≢◌, ◌⊎◌, ◌+◌, ℕ, Bool, true, false, ◌||◌, not, List, [], ◌∷◌, ◌++◌, map, filter, length, refl, arith, sym, ap, subst, ◌∙◌, inl, inr, nat_eq, Option, Some, None}
+use Rattle.std.specs.Prelude.{if◌then◌else◌}
 use Rattle.std.proofs.Math.Bool.{or-false, or-true}
 use Rattle.std.proofs.lemmas.List.{append_assoc, append-nil}
 use Rattle.smk_world.specs.declared.event.Change.{Change}
 use Rattle.smk_world.specs.declared.event.Ended.{Ended}
 use Rattle.smk_world.specs.declared.event.Event.{Event}
-use Rattle.smk_world.specs.declared.event.Failed.{Failed}
 use Rattle.smk_world.specs.World.{World, after, run}
-use Rattle.smk_world.specs.Devices.{AreLooks}
 use Rattle.smk_world.specs.Trees.{IsIn, Path, first}
 use Rattle.smk_flow.specs.declared.job.Job.{Job}
 use Rattle.smk_flow.specs.Flows.{Flow}
@@ -19,26 +16,22 @@ use Rattle.smk_chain.specs.Derive.{Derived, derivation}
 use Rattle.smk_report.specs.declared.fault.Fault.{Fault}
 use Rattle.smk_report.specs.declared.fault.Fault.TheVariants as fault
 use Rattle.smk_job.specs.Jobs.{Underway}
-use Rattle.smk_keep.specs.declared.fault.KeepFault.{KeepFault}
-use Rattle.smk_keep.specs.declared.fault.KeepFault.TheVariants.{Device, OutOfMemory}
 use Rattle.smk_run.specs.declared.tally.Tally.{Tally}
 use Rattle.smk_run.specs.Closings.{wait_event}
 use Rattle.smk_drive.specs.Moments.{Begun, Rules, begun_of, ending, seen}
-use Rattle.smk_drive.specs.Lawful.{ask_of}
 use Rattle.smk_drive_step.specs.declared.children.Child.{Child}
-use Rattle.smk_drive_step.specs.Crews.{IsPutFor, goings, halted_by, is_device, or_later}
+use Rattle.smk_drive_step.specs.Crews.{IsPutFor, goings, is_device, or_later}
 use Rattle.smk_drive_course.specs.Stands.{AtRest, Between, GoesBy, GoesOn, IsRefused, IsReplanned, LacksMemory, NoneLeft, Refuses, Stand, WasHalted, ended_if, first_fault, is_job_of, moment_of, with_job, without_child}
 use Rattle.smk_drive_course.specs.Stands as stands
-use Rattle.smk_drive_course.specs.Steps.{AreRemoved, Closed, Deed, GoesByAnswer, HasBegun, HasClosed, HasSpent, IsWaitFor, NoMore, OneMore, Started}
-use Rattle.smk_drive_course.specs.Breaks.{Begins, BeginsNot, BreaksOff, Closes, Done, FailsToWait, Halts, HasBrokenOff, HasLeft, HasNotBegun, HasNotRead, HasNotSpent, Leaves, ReadsNot, Spends, SpendsNot, Step, Then, Waits}
+use Rattle.smk_drive_course.specs.Steps.{AreRemoved, Deed, IsWaitFor, NoMore, OneMore, Started}
+use Rattle.smk_drive_course.specs.Breaks.{Begins, BeginsNot, BreaksOff, Closes, Done, FailsToWait, Halts, Leaves, ReadsNot, Spends, SpendsNot, Step, Then, Waits}
 use Rattle.smk_drive_course.specs.Reports.{deed_faults, failures, is_done, is_started}
-use Rattle.smk_laws_protocol.proofs.Basics.{in_here, in_rest, in_split}
-use Rattle.smk_laws_protocol.proofs.Guarded.{in_either}
+use Rattle.smk_laws_protocol.proofs.Basics.{in_rest, in_split}
 use Rattle.smk_laws_protocol.proofs.Stays.{in_left, in_right}
 use Rattle.smk_laws_moments.specs.Courses.{HasChildren}
 use Rattle.smk_laws_moments.proofs.ChildrenOf.{children_are_of_stand}
-use Rattle.smk_laws_moments.proofs.Fates.{IsKept as HasSameJobs, answer_kept, broken_is_halted, goes_kept, kept_then, removed_kept, replanned_kept}
-use Rattle.smk_laws_turns.specs.Hubs.{AreChildrenOf, IsAt, IsChildOf, IsCountOf, IsCrew, IsKept, Parts}
+use Rattle.smk_laws_moments.proofs.Fates.{answer_kept, broken_is_halted, first_fault_stays, goes_kept, kept_then, removed_kept, replanned_kept}
+use Rattle.smk_laws_turns.specs.Hubs.{AreChildrenOf, IsAt, IsChildOf, IsCountOf, IsCrew, Parts}
 use Rattle.smk_laws_turns.specs.Turning.{BeginningBreaks, BeginningLeads, ClosingBreaks, ClosingLeads, FailedWaitLeads, HaltLeads, HasLed, LeavingLeads, ReadingBreaks, SpendingBreaks, SpendingLeads, TellsOf, WaitLeads, faulted}
 use Rattle.smk_laws_turns.proofs.Crew.{crew_busy, crew_grows, crew_shrinks}
 
@@ -69,7 +62,9 @@ in_map f (y ∷ xs) x (inr i) = inr (in_map f xs x i)
 -- a child that is left in its place when another was taken away
 left_in : (were are : List (Option Child)) (c d : Child) → IsPutFor (Some c) None were are → IsIn are (Some d) → IsIn were (Some d)
 left_in were are c d taken i =
-    subst (λ ps. IsIn ps (Some d)) (sym taken.were_so) (in_rest taken.before taken.after (Some c) (Some d) (other (in_split taken.before taken.after None (Some d) (subst (λ ps. IsIn ps (Some d)) taken.are_so i))))
+    subst (λ ps. IsIn ps (Some d)) (sym taken.were_so)
+    (in_rest taken.before taken.after (Some c) (Some d)
+    (other (in_split taken.before taken.after None (Some d) (subst (λ ps. IsIn ps (Some d)) taken.are_so i))))
   where
     never : Some d ≡ None → ⊥
     never h = cc
@@ -108,7 +103,8 @@ theirs_more :
     (jobs : List Job) (begun : List Begun) (b : Begun) (were are : List (Option Child)) (c : Child) →
     AreChildrenOf jobs begun were →
     IsPutFor None (Some c) were are → IsChildOf jobs (begun ++ b ∷ []) c → AreChildrenOf jobs (begun ++ b ∷ []) are
-theirs_more jobs begun b were are c theirs put own = λ d i. go d (in_split put.before put.after (Some c) (Some d) (subst (λ ps. IsIn ps (Some d)) put.are_so i))
+theirs_more jobs begun b were are c theirs put own = λ d i.
+    go d (in_split put.before put.after (Some c) (Some d) (subst (λ ps. IsIn ps (Some d)) put.are_so i))
   where
     one : (d : Child) → Some d ≡ Some c → d ≡ c
     one d e = cc
@@ -160,7 +156,10 @@ filter_ends : {A : Type 0} (f : A → Bool) (xs ys : List A) → filter f (xs ++
 filter_ends f [] ys = refl
 filter_ends f (x ∷ xs) ys = go (f x) (filter_ends f xs ys)
   where
-    go : (b : Bool) → filter f (xs ++ ys) ≡ filter f xs ++ filter f ys → (if b then x ∷ filter f (xs ++ ys) else filter f (xs ++ ys)) ≡ (if b then x ∷ filter f xs else filter f xs) ++ filter f ys
+    go :
+        (b : Bool) → filter f (xs ++ ys) ≡ filter f xs ++ filter f ys →
+        (if b then x ∷ filter f (xs ++ ys) else filter f (xs ++ ys))
+        ≡ (if b then x ∷ filter f xs else filter f xs) ++ filter f ys
     go true h = ap (λ zs. x ∷ zs) h
     go false h = h
 
@@ -194,6 +193,18 @@ module _ (rules : Rules) (entry : World) where
       subst (λ fs. HasChildren t (run w fs)) (append-nil es)
       (children_are_of_stand rules entry s t w before (es ++ []) (more ++ []) (Then s t t w before es [] more [] step (Done t (run w es) (before ++ es))) h)
 
+  step_unhalted :
+      (s t : Stand) (w : World) (before es : List Event) (more : List Deed) →
+      Step rules entry s w before es more t → t.halted ≡ None → s.halted ≡ None
+  step_unhalted s t w before es more step none = go s.halted refl
+    where
+      go : (o : Option Fault) → s.halted ≡ o → s.halted ≡ None
+      go None e = e
+      go (Some f) e =
+          some_none f
+          (sym (first_fault_stays rules entry s t w before (es ++ []) (more ++ [])
+          (Then s t t w before es [] more [] step (Done t (run w es) (before ++ es))) f e).0 ∙ none)
+
   step_broken :
       (s t : Stand) (w : World) (before es : List Event) (more : List Deed) →
       Step rules entry s w before es more t → (s.broken ≡ true → s.halted ≢ None) → t.broken ≡ true → t.halted ≢ None
@@ -209,7 +220,7 @@ module _ (rules : Rules) (entry : World) where
         TellsOf rules entry h s w before deeds k (run w es) (before ++ es) t →
         IsCrew k.places t.runs →
         AreChildrenOf h.live.base.jobs.jobs t.begun k.places →
-        IsCountOf rules.flow (deeds ++ more) k.tally → HasLed rules entry k s w before es deeds more
+        (t.halted ≡ None → IsCountOf rules.flow (deeds ++ more) k.tally) → HasLed rules entry k s w before es deeds more
     led k t es more at step tells crew theirs counted =
         record {
           stand = t;
@@ -219,7 +230,8 @@ module _ (rules : Rules) (entry : World) where
                 live = tells.live;
                 settings = tells.settings ∙ at.settings;
                 derived =
-                    subst (λ (jobs : Jobs). derivation rules.flow (seen rules entry) jobs.lists rules.settings.targets ≡ Derived jobs.jobs) (sym tells.jobs) at.derived;
+                    subst (λ (jobs : Jobs). derivation rules.flow (seen rules entry) jobs.lists rules.settings.targets ≡ Derived jobs.jobs)
+                    (sym tells.jobs) at.derived;
                 crew = crew;
                 children = step_children s t w before es more step at.children;
                 theirs = subst (λ (jobs : Jobs). AreChildrenOf jobs.jobs t.begun k.places) (sym tells.jobs) theirs;
@@ -231,8 +243,11 @@ module _ (rules : Rules) (entry : World) where
               };
         }
 
-    none_more : IsCountOf rules.flow deeds h.tally → IsCountOf rules.flow (deeds ++ []) h.tally
-    none_more counted = subst (λ ds. IsCountOf rules.flow ds h.tally) (sym (append-nil deeds)) counted
+    same_count :
+        (t : Stand) (es : List Event) →
+        IsAt rules entry h s w before deeds → Step rules entry s w before es [] t → t.halted ≡ None → IsCountOf rules.flow (deeds ++ []) h.tally
+    same_count t es at step none =
+        subst (λ ds. IsCountOf rules.flow ds h.tally) (sym (append-nil deeds)) (at.counted (step_unhalted s t w before es [] step none))
 
     -- the same where this fault came, at a stand with the faults of this one
     told_fault :
@@ -246,7 +261,9 @@ module _ (rules : Rules) (entry : World) where
           settings = refl;
           jobs = refl;
           halted = first_is h.halt.fault u.halted f (at.halted ∙ sym halted) ∙ sym (ap (λ (x : Stand). x.halted) is);
-          waits = ap (λ b. h.halt.only_waits || b) other ∙ (or-false h.halt.only_waits ∙ (at.waits ∙ (sym broken ∙ sym (ap (λ (x : Stand). x.broken) is))));
+          waits =
+              ap (λ b. h.halt.only_waits || b) other
+              ∙ (or-false h.halt.only_waits ∙ (at.waits ∙ (sym broken ∙ sym (ap (λ (x : Stand). x.broken) is))));
           kept = λ none. has_fault u.halted f (sym (ap (λ (x : Stand). x.halted) is) ∙ none);
         }
 
@@ -268,19 +285,25 @@ module _ (rules : Rules) (entry : World) where
     pub halt_leads : HaltLeads rules entry h s w before deeds
     halt_leads es f at cause other looks quiet =
         let step = Halts (record { why = f; cause = cause; only_read = looks; quiet = quiet; deeds_are = refl; leaves = refl }) in
-        led (faulted f h) (stands.halted_by f s) es [] at step (told_fault f h.places (stands.halted_by f s) s (run w es) (before ++ es) at refl refl other refl) at.crew at.theirs (none_more at.counted)
+        led (faulted f h) (stands.halted_by f s) es [] at step
+        (told_fault f h.places (stands.halted_by f s) s (run w es) (before ++ es) at refl refl other refl) at.crew at.theirs (same_count _ _ at step)
 
     pub failed_wait_leads : FailedWaitLeads rules entry h s w before deeds
     failed_wait_leads e at some none_left =
-        let step = FailsToWait (record { e = e; ran = crew_busy h.places s.runs at.crew some; none_left = none_left; events = refl; deeds_are = refl; leaves = refl }) in
-        led (faulted fault.Device h) (stands.broken_by_device s) _ [] at step (told_broken h.places (stands.broken_by_device s) s _ _ at refl refl) at.crew at.theirs (none_more at.counted)
+        let step =
+        FailsToWait
+        (record { e = e; ran = crew_busy h.places s.runs at.crew some; none_left = none_left; events = refl; deeds_are = refl; leaves = refl }) in
+        led (faulted fault.Device h) (stands.broken_by_device s) _ [] at step
+        (told_broken h.places (stands.broken_by_device s) s _ _ at refl refl) at.crew at.theirs (same_count _ _ at step)
 
     pub wait_leads : WaitLeads rules entry h s w before deeds
     wait_leads are c ended left at only taken number =
         let t : Stand = without_child (seen rules (after w (wait_event ended left))) c.going ended.status s in
         let broken : s.broken ≡ true = sym at.waits ∙ only in
         let waited : IsWaitFor c.going ended s = record { ran = at.crew.run c.going (was_in h.places are c taken); number = number } in
-        let step = Waits (record { going = c.going; ended = ended; left = left; broken = broken; waited = waited; events = refl; deeds_are = refl; leaves = refl }) in
+        let step =
+        Waits
+        (record { going = c.going; ended = ended; left = left; broken = broken; waited = waited; events = refl; deeds_are = refl; leaves = refl }) in
         led (record h { places = are }) t (wait_event ended left ∷ []) [] at step
         (record {
           live = at.live;
@@ -291,28 +314,31 @@ module _ (rules : Rules) (entry : World) where
           kept = λ none. absurd (at.faulted broken none);
         })
         (crew_shrinks h.places are s.runs c at.crew taken)
-        (theirs_left h.live.base.jobs.jobs s.begun h.places are c (seen rules (after w (wait_event ended left))) c.going ended.status at.theirs taken) (none_more at.counted)
+        (theirs_left h.live.base.jobs.jobs s.begun h.places are c (seen rules (after w (wait_event ended left))) c.going ended.status at.theirs taken)
+        (same_count _ _ at step)
 
     pub reading_breaks : ReadingBreaks rules entry h s w before deeds
     reading_breaks es t at breaks =
         led (faulted fault.Device h) (stands.broken_by_device s) es [] at
         (ReadsNot (record { job = breaks.job; next = breaks.next; reads = breaks.reads; deeds_are = refl; leaves = refl }))
-        (told_broken h.places (stands.broken_by_device s) s _ _ at refl refl) at.crew at.theirs (none_more at.counted)
+        (told_broken h.places (stands.broken_by_device s) s _ _ at refl refl) at.crew at.theirs (same_count _ _ at (ReadsNot (record { job = breaks.job; next = breaks.next; reads = breaks.reads; deeds_are = refl; leaves = refl })))
 
     pub beginning_breaks : BeginningBreaks rules entry h s w before deeds
     beginning_breaks es t at breaks =
         led (faulted fault.Device h) t es [] at (BeginsNot breaks) (told_broken h.places t s _ _ at refl breaks.leaves)
         (subst (λ (x : Stand). IsCrew h.places x.runs) (sym breaks.leaves) at.crew)
-        (subst (λ (x : Stand). AreChildrenOf h.live.base.jobs.jobs x.begun h.places) (sym breaks.leaves) at.theirs) (none_more at.counted)
+        (subst (λ (x : Stand). AreChildrenOf h.live.base.jobs.jobs x.begun h.places) (sym breaks.leaves) at.theirs) (same_count _ _ at (BeginsNot breaks))
 
     pub spending_breaks : SpendingBreaks rules entry h s w before deeds
     spending_breaks es t at breaks =
         let same = removed_kept rules entry s breaks.last w before breaks.paths breaks.removing breaks.removed in
-        let kept = kept_then s breaks.last t same (record { begun = ap (λ (x : Stand). x.begun) breaks.leaves; runs = ap (λ (x : Stand). x.runs) breaks.leaves }) in
+        let kept =
+        kept_then s breaks.last t same
+        (record { begun = ap (λ (x : Stand). x.begun) breaks.leaves; runs = ap (λ (x : Stand). x.runs) breaks.leaves }) in
         let faults = removed_faults rules s breaks.last w before breaks.paths breaks.removing breaks.removed in
         led (faulted fault.Device h) t es [] at (SpendsNot breaks) (told_broken h.places t breaks.last _ _ at faults.0 breaks.leaves)
         (subst (IsCrew h.places) (sym kept.runs) at.crew)
-        (subst (λ bs. AreChildrenOf h.live.base.jobs.jobs bs h.places) (sym kept.begun) at.theirs) (none_more at.counted)
+        (subst (λ bs. AreChildrenOf h.live.base.jobs.jobs bs h.places) (sym kept.begun) at.theirs) (same_count _ _ at (SpendsNot breaks))
 
     -- once a child was taken from its place, where it was waited for
     module _ (are : List (Option Child)) (c : Child) (ended : Ended) (left : List Change) (going : Underway) (t : Stand) where
@@ -338,7 +364,7 @@ module _ (rules : Rules) (entry : World) where
         led (faulted fault.OutOfMemory (record h { places = are })) t es [] at (Leaves left)
         (told_fault fault.OutOfMemory are t u _ _ at refl refl refl left.leaves)
         (crew_taken are c left.ended left.left left.going t at taken is (ap (λ (x : Stand). x.runs) left.leaves))
-        (theirs_taken are c left.ended left.left left.going t at taken (ap (λ (x : Stand). x.begun) left.leaves)) (none_more at.counted)
+        (theirs_taken are c left.ended left.left left.going t at taken (ap (λ (x : Stand). x.begun) left.leaves)) (same_count _ _ at (Leaves left))
 
     pub closing_breaks : ClosingBreaks rules entry h s w before deeds
     closing_breaks are c es t at taken off is =
@@ -346,12 +372,14 @@ module _ (rules : Rules) (entry : World) where
         led (faulted fault.Device (record h { places = are })) t es [] at (BreaksOff off)
         (told_broken are t u _ _ at refl off.leaves)
         (crew_taken are c off.ended off.left off.going t at taken is (ap (λ (x : Stand). x.runs) off.leaves))
-        (theirs_taken are c off.ended off.left off.going t at taken (ap (λ (x : Stand). x.begun) off.leaves)) (none_more at.counted)
+        (theirs_taken are c off.ended off.left off.going t at taken (ap (λ (x : Stand). x.begun) off.leaves)) (same_count _ _ at (BreaksOff off))
 
     pub closing_leads : ClosingLeads rules entry h s w before deeds
     closing_leads k c es more t at closed is taken counted tells =
         let u : Stand = without_child (seen rules (after w (wait_event closed.ended closed.left))) closed.going closed.ended.status s in
-        let kept = kept_then u closed.next t (replanned_kept rules u closed.next _ closed.replanned) (answer_kept rules entry closed.answer closed.next t _ _ closed.goes_by) in
+        let kept =
+        kept_then u closed.next t (replanned_kept rules u closed.next _ closed.replanned)
+        (answer_kept rules entry closed.answer closed.next t _ _ closed.goes_by) in
         led k t es more at (Closes closed) tells
         (crew_taken k.places c closed.ended closed.left closed.going t at taken is kept.runs)
         (theirs_taken k.places c closed.ended closed.left closed.going t at taken kept.begun) counted
@@ -359,12 +387,13 @@ module _ (rules : Rules) (entry : World) where
     pub spending_leads : SpendingLeads rules entry h s w before deeds
     spending_leads k es t at spent places tally tells =
         let kept =
-        kept_then s spent.last t (removed_kept rules entry s spent.last w before spent.paths spent.removing spent.removed) (goes_kept rules entry spent.last t _ _ spent.goes_by) in
+        kept_then s spent.last t (removed_kept rules entry s spent.last w before spent.paths spent.removing spent.removed)
+        (goes_kept rules entry spent.last t _ _ spent.goes_by) in
         led k t es [] at (Spends spent) tells
         (subst (λ ps. IsCrew ps t.runs) (sym places) (subst (IsCrew h.places) (sym kept.runs) at.crew))
         (subst (AreChildrenOf h.live.base.jobs.jobs t.begun) (sym places)
         (subst (λ bs. AreChildrenOf h.live.base.jobs.jobs bs h.places) (sym kept.begun) at.theirs))
-        (subst (IsCountOf rules.flow (deeds ++ [])) (sym tally) (none_more at.counted))
+        (λ none. subst (IsCountOf rules.flow (deeds ++ [])) (sym tally) (same_count t es at (Spends spent) none))
 
     pub beginning_leads : BeginningLeads rules entry h s w before deeds
     beginning_leads k c j es t at begun is own number ask fresh put tally tells =
@@ -386,4 +415,5 @@ module _ (rules : Rules) (entry : World) where
           has_begun = in_right s.begun (b ∷ []) b (inl refl);
           is_job = sym own;
         })))
-        (subst (IsCountOf rules.flow (deeds ++ Started j ∷ [])) (sym tally) (started_more rules.flow deeds j h.tally at.counted))
+        (λ none. subst (IsCountOf rules.flow (deeds ++ Started j ∷ [])) (sym tally)
+        (started_more rules.flow deeds j h.tally (at.counted begun.to_begin.next.clear.unhalted)))

@@ -21,6 +21,7 @@ use Rattle.smk_plan_live.specs.Lives.{IsAgreed, IsLive, progress_of}
 use Rattle.smk_drive.specs.Moments.{Rules, Begun, draws, greatest, seen}
 use Rattle.smk_drive.specs.Moments as moments
 use Rattle.smk_drive.specs.Lawful.{ask_of, running_jobs}
+use Rattle.smk_drive_pick.specs.Picking.{AreAlike}
 use Rattle.smk_drive_step.specs.declared.children.Child.{Child}
 use Rattle.smk_drive_step.specs.declared.halt.Halt.{Halt}
 use Rattle.smk_pick.specs.declared.room.Ask.{Ask}
@@ -100,7 +101,8 @@ AreRunning live places = (c : Child) → IsIn places (Some c) → slice_get live
 -- refused; the next serial is above the entry's greatest by as many as were drawn; and the room holds what the running jobs ask for.
 pub record IsKept (rules : Rules) (entry : World) (h : Parts) (s : Stand) (w : World) (before : List Event) : Type 0 where
   pub agrees : IsAgreed (seen rules w) rules.settings h.live.base
-  pub progressed : progress_of h.live.base ≡ moments.progress_of w s.begun
+  -- what has begun and runs, by their names
+  pub progressed : AreAlike (moments.progress_of w s.begun) (progress_of h.live.base)
   pub plan : s.plan ≡ Some (plan_of h.live)
   pub none_known : h.live.plan.known ≡ []
   pub serial : h.next ≡ if_fits (greatest rules (seen rules entry) + (1 + length (filter (draws rules) s.begun)))
@@ -120,7 +122,7 @@ pub record IsAt (rules : Rules) (entry : World) (h : Parts) (s : Stand) (w : Wor
   pub theirs : AreChildrenOf h.live.base.jobs.jobs s.begun h.places
   pub halted : h.halt.fault ≡ s.halted
   pub waits : h.halt.only_waits ≡ s.broken
-  pub counted : IsCountOf rules.flow deeds h.tally
+  pub counted : s.halted ≡ None → IsCountOf rules.flow deeds h.tally
   pub faulted : s.broken ≡ true → s.halted ≢ None
   pub kept : s.halted ≡ None → IsKept rules entry h s w before
 

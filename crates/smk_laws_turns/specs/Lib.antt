@@ -1,2 +1,3 @@
 pub mod Hubs
 pub mod Turning
+pub mod Going

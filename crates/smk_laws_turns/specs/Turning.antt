@@ -1,5 +1,5 @@
 -- What each step of a run makes of what the run keeps.
-use Rattle.std.specs.Prelude.{◌≡◌, ◌≢◌, ◌⊎◌, ◌+◌, ℕ, true, false, Bool, List, [], ◌∷◌, ◌++◌, not, filter, is_none, nat_eq, length, Option, Some, None, Err, IsTrue}
+use Rattle.std.specs.Prelude.{◌≡◌, ◌≢◌, ◌⊎◌, ◌+◌, true, false, List, [], ◌∷◌, ◌++◌, not, filter, is_none, nat_eq, Option, Some, None, Err}
 use Rattle.std.specs.List.{list_all, slice_get}
 use Rattle.smk_world.specs.declared.event.Call.TheVariants.{Waited}
 use Rattle.smk_world.specs.declared.event.Change.{Change}
@@ -13,19 +13,16 @@ use Rattle.smk_flow.specs.declared.job.Job.{Job}
 use Rattle.smk_report.specs.declared.fault.Fault.{Fault}
 use Rattle.smk_report.specs.declared.fault.Fault.TheVariants as fault
 use Rattle.smk_job.specs.Jobs.{Underway}
-use Rattle.smk_run.specs.declared.tally.Tally.{Tally}
 use Rattle.smk_run.specs.Closings.{wait_event}
-use Rattle.smk_plan_live.specs.declared.live.LivePlan.{LivePlan}
 use Rattle.smk_plan_live.specs.Lives.{IsLive}
 use Rattle.smk_drive.specs.Moments.{Rules}
 use Rattle.smk_drive.specs.Lawful.{ask_of}
 use Rattle.smk_drive_step.specs.declared.children.Child.{Child}
-use Rattle.smk_drive_step.specs.Crews.{IsPutFor, goings, halted_by, is_device}
+use Rattle.smk_drive_step.specs.Crews.{IsPutFor, halted_by, is_device}
 use Rattle.smk_drive_course.specs.Stands.{NoneLeft, Refuses, Stand}
-use Rattle.smk_drive_course.specs.Stands as stands
-use Rattle.smk_drive_course.specs.Steps.{Deed, HasBegun, HasClosed, HasSpent, Started, Closed}
+use Rattle.smk_drive_course.specs.Steps.{Deed, HasBegun, HasClosed, HasSpent, Started}
 use Rattle.smk_drive_course.specs.Breaks.{HasBrokenOff, HasLeft, HasNotBegun, HasNotRead, HasNotSpent, Step}
-use Rattle.smk_laws_turns.specs.Hubs.{AreChildrenOf, IsAt, IsChildOf, IsCountOf, IsCrew, IsKept, Parts}
+use Rattle.smk_laws_turns.specs.Hubs.{IsAt, IsCountOf, IsCrew, IsKept, Parts}
 
 -- ## Children
 
@@ -157,7 +154,7 @@ module _ (rules : Rules) (entry : World) (h : Parts) (s : Stand) (w : World) (be
       (closed : HasClosed rules entry s w before es more t) →
       closed.going ≡ c.going →
       IsPutFor (Some c) None h.places k.places →
-      IsCountOf rules.flow (deeds ++ more) k.tally → TellsOf k (run w es) (before ++ es) t → HasLed rules entry k s w before es deeds more
+      (t.halted ≡ None → IsCountOf rules.flow (deeds ++ more) k.tally) → TellsOf k (run w es) (before ++ es) t → HasLed rules entry k s w before es deeds more
 
   -- Outputs that are spent were removed.
   abbrev pub SpendingLeads : Type 0

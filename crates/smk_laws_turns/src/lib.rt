@@ -1,13 +1,7 @@
 //! Laws of what a run keeps: what each of its steps makes of it.
 #![tactic(auto)]
 
-ghost use Rattle.std.specs.Prelude.{List};
-ghost use Rattle.smk_world.specs.declared.event.Event.{Event};
-ghost use Rattle.smk_world.specs.World.{World};
-ghost use Rattle.smk_drive.specs.Moments.{Rules};
-ghost use Rattle.smk_drive_course.specs.Stands.{Stand};
-ghost use Rattle.smk_drive_course.specs.Steps.{Deed};
-ghost use Rattle.smk_laws_turns.specs.Hubs.{Parts};
+ghost use Rattle.smk_laws_turns.specs.Going.{GoesOnFrom, RestsThere};
 ghost use Rattle.smk_laws_turns.specs.Turning.{BeginningBreaks, BeginningLeads, ClosingBreaks, ClosingLeads, CrewGrows, CrewIsBusy, CrewIsIdle, CrewShrinks};
 ghost use Rattle.smk_laws_turns.specs.Turning.{FailedWaitLeads, HaltLeads, LeavingLeads, OfParts, ReadingBreaks, SpendingBreaks, SpendingLeads, WaitLeads};
 
@@ -38,4 +32,10 @@ pub fn steps_lead_on()
     ensures begins { OfParts BeginningLeads }
     ensures closes { OfParts ClosingLeads }
     ensures spends { OfParts SpendingLeads }
+{}
+
+/// Steps that follow on one another lead on as one does.
+pub fn runs_go_on()
+    ensures rests { RestsThere }
+    ensures more { GoesOnFrom }
 {}
