@@ -107,7 +107,7 @@ fn is_built(request: &Asked) -> bool
     ensures { result ≡ spec.is_built request.now }
 {
     match request {
-        Asked::Run(words) => !words.keep_going && forces_none(words.force),
+        Asked::Run(_) => true,
         Asked::Preview(_) | Asked::Unlock | Asked::Forget { .. } => true,
         Asked::Generate { .. } => false,
     }

@@ -25,7 +25,10 @@ fn flag_form(flags: &[Flag]) -> Option<&'static str>
 {
     match flags {
         [] => None,
-        [flag, ..] => Some(flag_word(*flag)),
+        [flag, ..] => match flag {
+            Flag::Folder => Some(flag_word(*flag)),
+            Flag::Temp | Flag::Protected => None,
+        },
     }
 }
 

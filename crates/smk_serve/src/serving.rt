@@ -75,25 +75,15 @@ pub fn make_targets<W: Crew, O: Sink, Rt: Threads + Sync>(
         → Went W.act words.now.cores result (IsRefusedPlan read asked.now words.now w) (IsServed read asked.now words.now w)
         (W.device work.old) (W.device work.new) (O.sunk out.old) (O.sunk out.new)) }
 {
-    match plan_for(rt, alloc, asked, words, work) {
+    let Ok(settings) = settings_of(alloc, asked, words) else {
+        return Err(Fault::OutOfMemory);
+    };
+    match smk_drive_loop::drive(rt, alloc, &asked.flow, &settings, work, out) {
         Err(fault) => Err(fault),
-        Ok(plan) => {
-            let planned = Planned {
-                jobs: &plan.jobs,
-                states: &plan.plan.states,
-                store: &plan.store,
-            };
-            make(
-                rt,
-                alloc,
-                &asked.flow,
-                &asked.targets,
-                &planned,
-                words.cores,
-                work,
-                out,
-            )
-        }
+        Ok(end) => match end.first {
+            Some(fault) => Err(fault),
+            None => Ok(()),
+        },
     }
 }
 
