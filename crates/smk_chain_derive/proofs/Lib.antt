@@ -2,7 +2,7 @@ pub mod Refused
 mod Lookups
 mod Firsts
 mod Spots
-mod Stored
+pub mod Stored
 pub mod Seen
 mod Lists
 mod Spaced

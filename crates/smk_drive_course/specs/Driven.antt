@@ -106,4 +106,8 @@ pub record HasDriven (act : Act) (rules : Rules) (result : Result End Fault) (ol
   pub quiet : is_ok result ≡ true → failure ≡ false
   pub ran : HasEnded act (IsRun rules told result deeds) old new failure
   pub given : HasGiven act old new
-  pub text : HasReported (IsReport rules deeds told result) out_old out_new (is_output result)
+  -- the sink failed, be it after another fault
+  pub lost : Bool
+  pub loses : is_output result ≡ true → lost ≡ true
+  pub whole : is_ok result ≡ true → lost ≡ false
+  pub text : HasReported (IsReport rules deeds told result) out_old out_new lost

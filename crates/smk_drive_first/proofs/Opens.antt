@@ -31,7 +31,6 @@ use Rattle.smk_store.specs.declared.store.Entry.{Entry}
 use Rattle.smk_store.specs.Faults.{store_failed}
 use Rattle.smk_store.specs.Images.{Image, image_by, is_known, seen, stands}
 use Rattle.smk_store.specs.Loading.{IsStoreOf, entry_at}
-use Rattle.smk_store.specs.Serials.{next_serial}
 use Rattle.smk_store.specs.Steadying.{HasTried, all_signs, signs_of, steady_requests}
 use Rattle.smk_store.specs.Stores.{Known, entry_of}
 use Rattle.smk_store.specs.Unowned.{NoneOwned}
@@ -51,7 +50,7 @@ use Rattle.smk_plan_preview.specs.Faults.{device_failed, is_device, is_sink, is_
 use Rattle.smk_plan_preview.proofs.Looked.{looks_leave, none_still, seen_moved}
 use Rattle.smk_drive_first.specs.declared.opening.Opened.{Opened}
 use Rattle.smk_drive_first.specs.Keeping.{HasKeptLast, IsFresh}
-use Rattle.smk_drive_first.specs.Opening.{AreRules, GoesOn, HasOpened, HasStopped, IsOutcome, live_of}
+use Rattle.smk_drive_first.specs.Opening.{AreRules, GoesOn, HasOpened, HasStopped, IsOutcome, live_of, IsNextBy}
 use Rattle.smk_drive_first.specs.Opening.GoesOn.{Plans, IsCut, IsShort}
 use Rattle.smk_drive_first.specs.Opening.HasStopped.{IsRefused, CallFails, NoMemory}
 
@@ -266,7 +265,7 @@ module _ (read : List ℕ → Option Record) (flow : Flow) (settings : Settings)
         go _ AMemory are k = NoMemory (Ok tt) (inl refl) (opens false refl are)
 
     outcome_by :
-        (s : Result Opened Fault) (fs : List Event) → IfErr s (λ f. is_sink f ≡ false) → IfOk s (λ (o : Opened). IsFresh settings o.live) → IfOk s (λ (o : Opened). o.next ≡ next_serial store) →
+        (s : Result Opened Fault) (fs : List Event) → IfErr s (λ f. is_sink f ≡ false) → IfOk s (λ (o : Opened). IsFresh settings o.live) → IfOk s (λ (o : Opened). IsNextBy store o.next) →
         GoesOn read flow settings (seen read w) store s fs → IsOutcome (rules_by n) w (loading ++ fs) s
     outcome_by (Ok o) _ quiet fresh next (Plans _ settling looks done looked kept) = (
       Opens loading settling looks (all_signs store) loaded signs done looked,
@@ -274,7 +273,7 @@ module _ (read : List ℕ → Option Record) (flow : Flow) (settings : Settings)
         fresh = fresh;
         agrees = kept.agrees;
         clear = record { unhalted = refl; at_rest = refl; planned = kept.chain.last; unrefused = λ f refused. kept.unrefused f (relocked n true (seen read w) [] f refused) };
-        next = record { store = store; stored = stored; is = next };
+        next = record { store = store; stored = stored; by = next };
       },
     )
     outcome_by (Err f) _ quiet fresh next (Plans _ settling looks done looked kept) = refused_so f (loading ++ (settling ++ looks)) settling looks refl quiet done looked kept
@@ -297,7 +296,7 @@ module _ (act : Act) (flow : Flow) (settings : Settings) where
   pub opened_so :
       (a b c : Device) (store : List Known) (s : Result Opened Fault) → HasLooked act a b false → WhereTold a (Stores store) →
       HasActed act (λ w es. NoneOwned w → (read : List ℕ → Option Record) → ReadsRecords read → GoesOn read flow settings (seen read w) store s es) b c (device_failed s) →
-      IfErr s (λ f. is_sink f ≡ false) → IfOk s (λ (o : Opened). IsFresh settings o.live) → IfOk s (λ (o : Opened). o.next ≡ next_serial store) → HasOpened act flow settings s a c
+      IfErr s (λ f. is_sink f ≡ false) → IfOk s (λ (o : Opened). IsFresh settings o.live) → IfOk s (λ (o : Opened). IsNextBy store o.next) → HasOpened act flow settings s a c
   opened_so a b c store s looked stored goes quiet fresh next =
       record {
         acted = acted_then act (λ w es. AreLooks false es × Stores store w) (Goes act flow settings store s)

@@ -1,11 +1,12 @@
 -- How a run opens.
-use Rattle.std.specs.Prelude.{◌≡◌, ◌⊎◌, ◌++◌, ℕ, List, [], Option, Some, Result, Ok, Err}
+use Rattle.std.specs.Prelude.{◌≡◌, ◌⊎◌, ◌++◌, ℕ, true, List, [], map, Option, Some, Result, Ok, Err}
 use Rattle.smk_world.specs.declared.event.Event.{Event}
 use Rattle.smk_world.specs.World.{World}
 use Rattle.smk_world.specs.Devices.{Device, HasActed, AreLooks}
 use Rattle.smk_world.specs.Requests.{HasDone, IsCutShort}
 use Rattle.smk_world.specs.Trees.{Act}
 use Rattle.smk_record.specs.declared.record.Record.{Record}
+use Rattle.smk_record.specs.Records.{are_rising}
 use Rattle.smk_record.specs.Spelling.{ReadsRecords}
 use Rattle.smk_flow.specs.Flows.{Flow}
 use Rattle.smk_format.specs.Commands.{missing, command}
@@ -38,11 +39,16 @@ pub record AreRules (flow : Flow) (settings : Settings) (rules : Rules) : Type 0
   pub fields : rules.missing ≡ missing
   pub texts : rules.command ≡ command
 
--- the serial that is drawn first is the next one by the store that the image has, where that has 64 bits
+-- the serial that is drawn first is the next one by this store, in which each path is told once
+pub record IsNextBy (store : List Known) (next : Option ℕ) : Type 0 where
+  pub is : next ≡ next_serial store
+  pub rising : are_rising (map (λ (k : Known). k.path) store) ≡ true
+
+-- It is the next one by the store that the image has, where that has 64 bits.
 pub record IsNextSerial (image : images.Image) (next : Option ℕ) : Type 0 where
   pub store : List Known
   pub stored : IsStoreOf image store
-  pub is : next ≡ next_serial store
+  pub by : IsNextBy store next
 
 -- In a world in which the run begins: the kept plan is in force and none of its chain is refused, it agrees with the folder, and none of its jobs has begun; and the
 -- serial that is drawn first is the next one above all that unmarked records name.

@@ -5,11 +5,10 @@ ghost use Rattle.smk_world.specs.Devices.{HasActed, HasLooked, WhereTold};
 ghost use Rattle.smk_record.specs.declared.record.Record.{Record as RecordValue};
 ghost use Rattle.smk_record.specs.Spelling.{ReadsRecords};
 ghost use Rattle.smk_store.specs.Images.{seen};
-ghost use Rattle.smk_store.specs.Serials.{next_serial};
 ghost use Rattle.smk_store.specs.Unowned.{NoneOwned};
 ghost use Rattle.smk_plan_preview.specs.Faults.{device_failed, is_sink};
 ghost use Rattle.smk_drive_first.specs.Keeping.{HasKeptLast, IsFresh};
-ghost use Rattle.smk_drive_first.specs.Opening.{HasOpened, GoesOn, live_of};
+ghost use Rattle.smk_drive_first.specs.Opening.{HasOpened, GoesOn, IsNextBy, live_of};
 
 use crate::chaining::chain;
 use crate::finding::stored;
@@ -41,10 +40,12 @@ fn open_firm<W: Files, Rt: Threads + Sync>(
     ensures looked { HasLooked W.act (W.device work.old) (W.device work.new) (device_failed result) }
     ensures no_sink { IfErr result (λ f. is_sink f ≡ false) }
     ensures fresh { IfOk result (λ o. IsFresh settings.now o.live) }
-    ensures next { IfOk result (λ o. o.next ≡ next_serial store.now) }
+    ensures next { IfOk result (λ o. IsNextBy store.now o.next) }
     ensures told { WhereTold (W.device work.old) (λ w. NoneOwned w → (read : Items ℕ → Option RecordValue) → ReadsRecords read
         → HasKeptLast read flow.now settings.now (seen read w) (live_of result)) }
 {
+    // The call tells that each path is there once.
+    let _paths = store.paths();
     match chain(rt, alloc, flow, settings, work) {
         Ok(live) => Ok(Opened {
             live,
@@ -68,7 +69,7 @@ fn open_stored<W: Files, Rt: Threads + Sync>(
         → GoesOn read flow.now settings.now (seen read w) store.now result es) (W.device work.old) (W.device work.new) (device_failed result) }
     ensures no_sink { IfErr result (λ f. is_sink f ≡ false) }
     ensures fresh { IfOk result (λ o. IsFresh settings.now o.live) }
-    ensures next { IfOk result (λ o. o.next ≡ next_serial store.now) }
+    ensures next { IfOk result (λ o. IsNextBy store.now o.next) }
 {
     match steady(alloc, work, store) {
         Ok(()) => open_firm(rt, alloc, flow, settings, store, work),
@@ -93,6 +94,7 @@ pub fn open<W: Files, Rt: Threads + Sync>(
 ) -> Result<Opened, Fault>
     ensures opened { HasOpened W.act flow.now settings.now result (W.device work.old) (W.device work.new) }
     ensures no_sink { IfErr result (λ f. is_sink f ≡ false) }
+    ensures fresh { IfOk result (λ o. IsFresh settings.now o.live) }
 {
     match stored(alloc, work) {
         Ok(store) => open_stored(rt, alloc, flow, settings, &store, work),

@@ -27,7 +27,7 @@ passes_there : (test : Option Child → Bool) (xs : List (Option Child)) (i : �
 passes_there test xs i x found is = ap test (is ∙ same_there xs i x None found.within) ∙ found.passes
 
 -- what was in a free place is nothing
-was_free : (xs : List (Option Child)) (i : ℕ) (x : Option Child) → IsFoundAt is_none xs i → x ≡ slice_index_or xs i x → x ≡ None
+pub was_free : (xs : List (Option Child)) (i : ℕ) (x : Option Child) → IsFoundAt is_none xs i → x ≡ slice_index_or xs i x → x ≡ None
 was_free xs i None found is = refl
 was_free xs i (Some c) found is = absurd (never_both (is_none (Some c)) (passes_there is_none xs i (Some c) found is) refl)
 

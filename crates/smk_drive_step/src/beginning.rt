@@ -1,6 +1,6 @@
 //! A job begins, once the sources among its inputs have been read.
 
-ghost use Rattle.std.specs.Prelude.{◌≡◌, ◌≤◌, IsTrue, length, map, true};
+ghost use Rattle.std.specs.Prelude.{◌≡◌, ◌≤◌, Contains, IfOk, IsTrue, length, map, true};
 ghost use Rattle.std.specs.List.{list_all};
 ghost use Rattle.smk_base.specs.declared.tree.Pair.{Pair};
 ghost use Rattle.smk_world.specs.Devices.{WhereTold};
@@ -65,6 +65,7 @@ pub fn begin_job<W: Crew, Rt: Threads + Sync>(
     requires room { WhereTold (W.device work.old) (λ w. LetsBegin w job.now.recipe job.now.logs) }
     ensures taken { HasStarted W.act (HasTakenUp job.now known.now made command.now result) (begun_child result) (W.device work.old) (W.device work.new)
         (begin_failed result) }
+    ensures fresh { IfOk result (λ going. ¬ (Contains (W.device work.old).running going.number)) }
 
     // Its logs are paths in UTF-8.
     ensures logged { Each (λ p. IsTrue (is_path_text p)) job.now.logs }

@@ -1,6 +1,6 @@
 //! The children of a run.
 
-ghost use Rattle.std.specs.Prelude.{◌≡◌, ◌<◌, ℕ, Option, Some, None, IfOk, IfSome, MatchOption, is_none, length, replicate, false, slice_index_or, slice_set};
+ghost use Rattle.std.specs.Prelude.{◌≡◌, ◌<◌, ℕ, Option, Some, None, IfOk, IfSome, MatchOption, is_none, length, replicate, false, true, slice_index_or, slice_set};
 ghost use Rattle.std.specs.List.{list_all, list_any};
 ghost use Rattle.smk_job.specs.Jobs.{Underway};
 ghost use Rattle.smk_world.specs.Trees.{IsIn};
@@ -116,7 +116,8 @@ impl Children {
 
     /// Puts the child into a place that is free. It takes no memory. The child comes back where there is none.
     pub fn put(&mut self, child: Child) -> Option<Child>
-        ensures { MatchOption result (IsPutFor None (Some child) self.old.places.items self.new.places.items) (λ back. (back ≡ child) × (self.new ≡ self.old)) }
+        ensures put { MatchOption result (IsPutFor None (Some child) self.old.places.items self.new.places.items) (λ back. (back ≡ child) × (self.new ≡ self.old)) }
+        ensures room { list_any is_none self.old.places.items ≡ true → result ≡ None }
     {
         match free_place(self.places.as_slice()) {
             Some(at) => swap(&mut self.places, at, Some(child)),

@@ -1,6 +1,6 @@
 -- Marked and with room made, a job's command may be started; and what the start answers.
 use Rattle.std.proofs.Common.{◌≡◌, ℕ, true, false, List, [], ◌∷◌, ◌++◌, map, refl, sym, ap, subst, ◌∙◌, All, Result, Ok, Err, true≢false}
-use Rattle.std.specs.Prelude.{is_err}
+use Rattle.std.specs.Prelude.{IfOk, is_err}
 use Rattle.std.proofs.lemmas.List.{append-nil}
 use Rattle.std.proofs.lemmas.List.Elements.{All-nil, All-cons}
 use Rattle.smk_base.specs.Path.{is_path}
@@ -132,6 +132,11 @@ pub not_launched : (act : Act) (recipe : Recipe) (logs : List Path) (command : L
 not_launched act recipe logs command (Ok n) a b failed h = absurd (true≢false (sym failed))
 not_launched act recipe logs command (Err e) a b failed h =
     started_acted act (HasLaunched recipe logs command (Err e)) a b true (carried_cut (Start recipe logs command ∷ []) h).acted
+
+-- where none was started nothing is said of its number
+pub not_started : (P : ℕ → Type 0) (r : Result ℕ Failed) → is_err r ≡ true → IfOk r P
+not_started P (Ok n) failed = absurd (true≢false (sym failed))
+not_started P (Err e) failed = tt
 
 pub then_started : (act : Act) (recipe : Recipe) (logs : List Path) (command : List ℕ) (r : Result ℕ Failed) (a b c : Device)
     → HasCarried act (before_start recipe logs) a b false → HasCalled act b c (Started recipe logs command r) → HasStarted act (HasLaunched recipe logs command r) (started_child r) a c (is_err r)

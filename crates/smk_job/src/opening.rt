@@ -1,6 +1,6 @@
 //! A job begins.
 
-ghost use Rattle.std.specs.Prelude.{◌≡◌, ◌≢◌, ◌++◌, [], length, true, IfErr, is_err};
+ghost use Rattle.std.specs.Prelude.{◌≡◌, ◌≢◌, ◌++◌, [], length, true, Contains, IfOk, IfErr, is_err};
 ghost use Rattle.smk_base.specs.Path.{is_path};
 ghost use Rattle.smk_world.specs.World.{in_paths, out_paths, owned_paths};
 ghost use Rattle.smk_world.specs.Devices.{WhereTold, HasCarried};
@@ -44,14 +44,15 @@ fn launch<W: Crew>(
     requires own { owned.now ≡ owned_paths recipe.now logs.now }
     requires paths { Each (λ p. is_path p ≡ true) (owned_paths recipe.now logs.now) }
     requires room { WhereTold (W.device work.old) (λ w. LetsBegin w recipe.now logs.now) }
-    ensures { HasStarted W.act (HasLaunched recipe.now logs.now command.now result) (started_child result) (W.device work.old) (W.device work.new) (is_err result) }
+    ensures launched { HasStarted W.act (HasLaunched recipe.now logs.now command.now result) (started_child result) (W.device work.old) (W.device work.new) (is_err result) }
+    ensures fresh { IfOk result (λ number. ¬ (Contains (W.device work.old).running number)) }
 {
     prepare(work, places, owned)?;
     work.start(recipe, logs, command)
 }
 
 /// Begins the job: makes its marks and notes and makes them firm, removes what stands at its outputs, makes the folders of its
-/// outputs and logs, and starts the command. Its records will have these stamps of its inputs and this serial.
+/// outputs and logs, and starts the command. Its records will have these stamps of its inputs and this serial. No running child has its number.
 ///
 /// `TooLong` exactly where a record without members would have more than 1,048,576 bytes, with the bytes of the first output's that
 /// would; `OutOfMemory` where there is no memory for what the job needs until it is closed. Then no call was made. `Device`: a call
@@ -72,6 +73,7 @@ pub fn begin<W: Crew>(
     requires room { WhereTold (W.device work.old) (λ w. LetsBegin w job.now.recipe job.now.logs) }
     ensures begun { HasStarted W.act (HasBegun job.now.recipe job.now.logs command.now result) (begun_child result) (W.device work.old) (W.device work.new) (begin_failed result) }
     ensures answer { IsBegunFor job.now.recipe job.now.logs stamps.now made result }
+    ensures fresh { IfOk result (λ going. ¬ (Contains (W.device work.old).running going.number)) }
     ensures untouched { IfErr result (λ fault. fault ≢ BeginFault.Device → work.new ≡ work.old) }
 {
     let (ready, owned) = reserve(alloc, job, stamps, made)?;

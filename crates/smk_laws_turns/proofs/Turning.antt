@@ -3,16 +3,18 @@ use Rattle.std.proofs.Common.{◌≡◌, ◌≢◌, ◌⊎◌, ◌+◌, ℕ, Boo
 use Rattle.std.specs.Prelude.{if◌then◌else◌}
 use Rattle.std.proofs.Math.Bool.{or-false, or-true}
 use Rattle.std.proofs.lemmas.List.{append_assoc, append-nil}
+use Rattle.std.proofs.lemmas.Grind.{flat_map-append}
 use Rattle.smk_world.specs.declared.event.Change.{Change}
 use Rattle.smk_world.specs.declared.event.Ended.{Ended}
 use Rattle.smk_world.specs.declared.event.Event.{Event}
 use Rattle.smk_world.specs.World.{World, after, run}
-use Rattle.smk_world.specs.Trees.{IsIn, Path, first}
+use Rattle.smk_world.specs.Trees.{IsIn, Path, among, first}
 use Rattle.smk_flow.specs.declared.job.Job.{Job}
 use Rattle.smk_flow.specs.Flows.{Flow}
-use Rattle.smk_store.specs.Images.{Image}
+use Rattle.smk_store.specs.Images.{Image, is_source}
 use Rattle.smk_chain.specs.declared.jobs.Jobs.{Jobs}
 use Rattle.smk_chain.specs.Derive.{Derived, derivation}
+use Rattle.smk_plan_facts.specs.Facts.{told_sources}
 use Rattle.smk_report.specs.declared.fault.Fault.{Fault}
 use Rattle.smk_report.specs.declared.fault.Fault.TheVariants as fault
 use Rattle.smk_job.specs.Jobs.{Underway}
@@ -26,12 +28,13 @@ use Rattle.smk_drive_course.specs.Stands as stands
 use Rattle.smk_drive_course.specs.Steps.{AreRemoved, Deed, IsWaitFor, NoMore, OneMore, Started}
 use Rattle.smk_drive_course.specs.Breaks.{Begins, BeginsNot, BreaksOff, Closes, Done, FailsToWait, Halts, Leaves, ReadsNot, Spends, SpendsNot, Step, Then, Waits}
 use Rattle.smk_drive_course.specs.Reports.{deed_faults, failures, is_done, is_started}
+use Rattle.smk_exit.proofs.Dues.{get_in}
 use Rattle.smk_laws_protocol.proofs.Basics.{in_rest, in_split}
 use Rattle.smk_laws_protocol.proofs.Stays.{in_left, in_right}
-use Rattle.smk_laws_moments.specs.Courses.{HasChildren}
+use Rattle.smk_laws_moments.specs.Courses.{HasChildren, begun_jobs, started_job, started_jobs}
 use Rattle.smk_laws_moments.proofs.ChildrenOf.{children_are_of_stand}
-use Rattle.smk_laws_moments.proofs.Fates.{answer_kept, broken_is_halted, first_fault_stays, goes_kept, kept_then, removed_kept, replanned_kept}
-use Rattle.smk_laws_turns.specs.Hubs.{AreChildrenOf, IsAt, IsChildOf, IsCountOf, IsCrew, Parts}
+use Rattle.smk_laws_moments.proofs.Fates.{answer_kept, broken_is_halted, first_fault_stays, goes_kept, kept_then, removed_kept, replanned_kept, starts_are_told}
+use Rattle.smk_laws_turns.specs.Hubs.{AreChildrenOf, AreSpaced, IsAt, IsChildOf, IsCountOf, IsCrew, IsHome, IsOurs, IsRecordable, Parts}
 use Rattle.smk_laws_turns.specs.Turning.{BeginningBreaks, BeginningLeads, ClosingBreaks, ClosingLeads, FailedWaitLeads, HaltLeads, HasLed, LeavingLeads, ReadingBreaks, SpendingBreaks, SpendingLeads, TellsOf, WaitLeads, faulted}
 use Rattle.smk_laws_turns.proofs.Crew.{crew_busy, crew_grows, crew_shrinks}
 
@@ -51,6 +54,9 @@ some_none f h = absurd (go h)
 has_fault : {A : Type 0} (o : Option Fault) (f : Fault) → first_fault o f ≡ None → A
 has_fault None f h = some_none f h
 has_fault (Some g) f h = some_none g h
+
+never : true ≡ false → ⊥
+never h = cc
 
 -- ## Children
 
@@ -183,6 +189,73 @@ started_more flow deeds j tally counted =
       first_one = counted.first_one ∙ ap first (sym same);
     }
 
+-- ## Jobs of the plan
+
+still_planned : (jobs : List Job) (begun : List Begun) → ((b : Begun) → IsIn begun b → IsIn jobs b.job) → (j : Job) → IsIn (map (λ (b : Begun). b.job) begun) j → IsIn jobs j
+still_planned jobs [] planned j i = absurd i
+still_planned jobs (b ∷ bs) planned j (inl e) = subst (IsIn jobs) (sym e) (planned b (inl refl))
+still_planned jobs (b ∷ bs) planned j (inr i) = still_planned jobs bs (λ c k. planned c (inr k)) j i
+
+-- a job that had begun, or that has begun now
+begun_planned :
+    (jobs old new : List Job) (j : Job) →
+    ((k : Job) → IsIn old k → IsIn jobs k) → ((k : Job) → IsIn new k → IsIn jobs k) → IsIn (old ++ new) j → IsIn jobs j
+begun_planned jobs [] new j were are i = are j i
+begun_planned jobs (x ∷ old) new j were are (inl e) = subst (IsIn jobs) (sym e) (were x (inl refl))
+begun_planned jobs (x ∷ old) new j were are (inr i) = begun_planned jobs old new j (λ k o. were k (inr o)) are i
+
+-- just this one
+only : (jobs : List Job) (j : Job) → IsIn jobs j → (k : Job) → IsIn (j ∷ []) k → IsIn jobs k
+only jobs j i k (inl e) = subst (IsIn jobs) (sym e) i
+only jobs j i k (inr i2) = absurd i2
+
+-- ## What children need
+
+-- what runs is spaced, and its records can be written
+record AreAllowed (rules : Rules) (entry : World) (runs : List Underway) : Type 0 where
+  spaced : AreSpaced runs
+  underway : (g : Underway) → IsIn runs g → IsRecordable (seen rules entry) g
+
+allowed_at :
+    (rules : Rules) (entry : World) (h : Parts) (s : Stand) (w : World) (before : List Event) (deeds : List Deed) →
+    IsAt rules entry h s w before deeds → AreAllowed rules entry s.runs
+allowed_at rules entry h s w before deeds at = record { spaced = at.spaced; underway = at.underway }
+
+in_filter : {A : Type 0} (f : A → Bool) (xs : List A) (x : A) → IsIn (filter f xs) x → IsIn xs x
+in_filter f [] x i = absurd i
+in_filter f (y ∷ xs) x i = go (f y) (λ k. in_filter f xs x k) i
+  where
+    go : (b : Bool) → (IsIn (filter f xs) x → IsIn xs x) → IsIn (if b then y ∷ filter f xs else filter f xs) x → IsIn (y ∷ xs) x
+    go true later (inl e) = inl e
+    go true later (inr k) = inr (later k)
+    go false later k = inr (later k)
+
+allowed_left : (rules : Rules) (entry : World) (f : Underway → Bool) (runs : List Underway) → AreAllowed rules entry runs → AreAllowed rules entry (filter f runs)
+allowed_left rules entry f runs allowed =
+    record {
+      spaced = λ g k i j other. allowed.spaced g k (in_filter f runs g i) (in_filter f runs k j) other;
+      underway = λ g i. allowed.underway g (in_filter f runs g i);
+    }
+
+allowed_more :
+    (rules : Rules) (entry : World) (runs : List Underway) (c : Underway) →
+    AreAllowed rules entry runs → AreSpaced (runs ++ c ∷ []) → IsRecordable (seen rules entry) c → AreAllowed rules entry (runs ++ c ∷ [])
+allowed_more rules entry runs c allowed spaced recordable = record { spaced = spaced; underway = λ g i. go g (in_ends runs g i) }
+  where
+    in_ends : (xs : List Underway) (g : Underway) → IsIn (xs ++ c ∷ []) g → IsIn xs g ⊎ (g ≡ c)
+    in_ends [] g (inl e) = inr e
+    in_ends [] g (inr i) = absurd i
+    in_ends (x ∷ xs) g (inl e) = inl (inl e)
+    in_ends (x ∷ xs) g (inr i) = later (in_ends xs g i)
+      where
+        later : IsIn xs g ⊎ (g ≡ c) → IsIn (x ∷ xs) g ⊎ (g ≡ c)
+        later (inl k) = inl (inr k)
+        later (inr e) = inr e
+
+    go : (g : Underway) → IsIn runs g ⊎ (g ≡ c) → IsRecordable (seen rules entry) g
+    go g (inl i) = allowed.underway g i
+    go g (inr e) = subst (IsRecordable (seen rules entry)) (sym e) recordable
+
 -- ## Steps
 
 module _ (rules : Rules) (entry : World) where
@@ -211,6 +284,14 @@ module _ (rules : Rules) (entry : World) where
   step_broken s t w before es more step h =
       broken_is_halted rules entry s t w before (es ++ []) (more ++ []) (Then s t t w before es [] more [] step (Done t (run w es) (before ++ es))) h
 
+  step_starts :
+      (s t : Stand) (w : World) (before es : List Event) (more : List Deed) →
+      Step rules entry s w before es more t → begun_jobs t ≡ begun_jobs s ++ started_jobs more
+  step_starts s t w before es more step =
+      subst (λ ds. begun_jobs t ≡ begun_jobs s ++ started_jobs ds) (append-nil more)
+      (starts_are_told rules entry s t w before (es ++ []) (more ++ [])
+      (Then s t t w before es [] more [] step (Done t (run w es) (before ++ es))))
+
   module _ (h : Parts) (s : Stand) (w : World) (before : List Event) (deeds : List Deed) where
     -- what is kept where the step leads
     led :
@@ -218,10 +299,12 @@ module _ (rules : Rules) (entry : World) where
         IsAt rules entry h s w before deeds →
         Step rules entry s w before es more t →
         TellsOf rules entry h s w before deeds k (run w es) (before ++ es) t →
+        ((j : Job) → IsIn (started_jobs more) j → IsIn h.live.base.jobs.jobs j) →
         IsCrew k.places t.runs →
+        AreAllowed rules entry t.runs →
         AreChildrenOf h.live.base.jobs.jobs t.begun k.places →
         (t.halted ≡ None → IsCountOf rules.flow (deeds ++ more) k.tally) → HasLed rules entry k s w before es deeds more
-    led k t es more at step tells crew theirs counted =
+    led k t es more at step tells ours crew allowed theirs counted =
         record {
           stand = t;
           step = step;
@@ -232,11 +315,25 @@ module _ (rules : Rules) (entry : World) where
                 derived =
                     subst (λ (jobs : Jobs). derivation rules.flow (seen rules entry) jobs.lists rules.settings.targets ≡ Derived jobs.jobs)
                     (sym tells.jobs) at.derived;
+                home = tells.home;
+                ours = λ whole. subst (λ (jobs : Jobs). IsOurs rules entry jobs.jobs (run w es)) (sym tells.jobs) (tells.ours whole);
+                sourced =
+                    subst (λ (jobs : Jobs). (p : Path) → among (told_sources jobs.makers) p ≡ true → is_source (seen rules entry) p ≡ true)
+                    (sym tells.jobs) at.sourced;
+                planned = λ b i.
+                    subst (λ (jobs : Jobs). IsIn jobs.jobs b.job) (sym tells.jobs)
+                    (begun_planned h.live.base.jobs.jobs (begun_jobs s) (started_jobs more) b.job (still_planned h.live.base.jobs.jobs s.begun at.planned) ours
+                    (subst (λ js. IsIn js b.job) (step_starts s t w before es more step) (in_map (λ (x : Begun). x.job) t.begun b i)));
                 crew = crew;
+                spaced = allowed.spaced;
+                underway = allowed.underway;
                 children = step_children s t w before es more step at.children;
                 theirs = subst (λ (jobs : Jobs). AreChildrenOf jobs.jobs t.begun k.places) (sym tells.jobs) theirs;
                 halted = tells.halted;
                 waits = tells.waits;
+                starts =
+                    step_starts s t w before es more step
+                    ∙ (ap (λ js. js ++ started_jobs more) at.starts ∙ sym (flat_map-append started_job deeds more));
                 counted = counted;
                 faulted = step_broken s t w before es more step at.faulted;
                 kept = tells.kept;
@@ -253,13 +350,15 @@ module _ (rules : Rules) (entry : World) where
     told_fault :
         (f : Fault) (places : List (Option Child)) (t u : Stand) (w1 : World) (events : List Event) →
         IsAt rules entry h s w before deeds →
-        u.halted ≡ s.halted → u.broken ≡ s.broken → is_device f ≡ false → t ≡ stands.halted_by f u →
+        u.halted ≡ s.halted → u.broken ≡ s.broken → is_device f ≡ false → t ≡ stands.halted_by f u → IsHome entry w1 → (s.broken ≡ false → IsOurs rules entry h.live.base.jobs.jobs w1) →
         TellsOf rules entry h s w before deeds (faulted f (record h { places = places })) w1 events t
-    told_fault f places t u w1 events at halted broken other is =
+    told_fault f places t u w1 events at halted broken other is home ours =
         record {
           live = at.live;
           settings = refl;
           jobs = refl;
+          home = home;
+          ours = λ whole. ours (sym broken ∙ (sym (ap (λ (x : Stand). x.broken) is) ∙ whole));
           halted = first_is h.halt.fault u.halted f (at.halted ∙ sym halted) ∙ sym (ap (λ (x : Stand). x.halted) is);
           waits =
               ap (λ b. h.halt.only_waits || b) other
@@ -270,34 +369,36 @@ module _ (rules : Rules) (entry : World) where
     told_broken :
         (places : List (Option Child)) (t u : Stand) (w1 : World) (events : List Event) →
         IsAt rules entry h s w before deeds →
-        u.halted ≡ s.halted → t ≡ stands.broken_by_device u →
+        u.halted ≡ s.halted → t ≡ stands.broken_by_device u → IsHome entry w1 →
         TellsOf rules entry h s w before deeds (faulted fault.Device (record h { places = places })) w1 events t
-    told_broken places t u w1 events at halted is =
+    told_broken places t u w1 events at halted is home =
         record {
           live = at.live;
           settings = refl;
           jobs = refl;
+          home = home;
+          ours = λ whole. absurd (never (sym (ap (λ (x : Stand). x.broken) is) ∙ whole));
           halted = first_is h.halt.fault u.halted fault.Device (at.halted ∙ sym halted) ∙ sym (ap (λ (x : Stand). x.halted) is);
           waits = or-true h.halt.only_waits ∙ sym (ap (λ (x : Stand). x.broken) is);
           kept = λ none. has_fault u.halted fault.Device (sym (ap (λ (x : Stand). x.halted) is) ∙ none);
         }
 
     pub halt_leads : HaltLeads rules entry h s w before deeds
-    halt_leads es f at cause other looks quiet =
+    halt_leads es f at cause other looks quiet home ours =
         let step = Halts (record { why = f; cause = cause; only_read = looks; quiet = quiet; deeds_are = refl; leaves = refl }) in
         led (faulted f h) (stands.halted_by f s) es [] at step
-        (told_fault f h.places (stands.halted_by f s) s (run w es) (before ++ es) at refl refl other refl) at.crew at.theirs (same_count _ _ at step)
+        (told_fault f h.places (stands.halted_by f s) s (run w es) (before ++ es) at refl refl other refl home ours) (λ j i. absurd i) at.crew (allowed_at rules entry h s w before deeds at) at.theirs (same_count _ _ at step)
 
     pub failed_wait_leads : FailedWaitLeads rules entry h s w before deeds
-    failed_wait_leads e at some none_left =
+    failed_wait_leads e at some none_left home =
         let step =
         FailsToWait
         (record { e = e; ran = crew_busy h.places s.runs at.crew some; none_left = none_left; events = refl; deeds_are = refl; leaves = refl }) in
         led (faulted fault.Device h) (stands.broken_by_device s) _ [] at step
-        (told_broken h.places (stands.broken_by_device s) s _ _ at refl refl) at.crew at.theirs (same_count _ _ at step)
+        (told_broken h.places (stands.broken_by_device s) s _ _ at refl refl home) (λ j i. absurd i) at.crew (allowed_at rules entry h s w before deeds at) at.theirs (same_count _ _ at step)
 
     pub wait_leads : WaitLeads rules entry h s w before deeds
-    wait_leads are c ended left at only taken number =
+    wait_leads are c ended left at only taken number home =
         let t : Stand = without_child (seen rules (after w (wait_event ended left))) c.going ended.status s in
         let broken : s.broken ≡ true = sym at.waits ∙ only in
         let waited : IsWaitFor c.going ended s = record { ran = at.crew.run c.going (was_in h.places are c taken); number = number } in
@@ -309,35 +410,41 @@ module _ (rules : Rules) (entry : World) where
           live = at.live;
           settings = refl;
           jobs = refl;
+          home = home;
+          ours = λ whole. absurd (never (sym broken ∙ whole));
           halted = at.halted;
           waits = at.waits;
           kept = λ none. absurd (at.faulted broken none);
         })
+        (λ j i. absurd i)
         (crew_shrinks h.places are s.runs c at.crew taken)
+        (allowed_left rules entry (λ (r : Underway). not (nat_eq r.number c.going.number)) s.runs (allowed_at rules entry h s w before deeds at))
         (theirs_left h.live.base.jobs.jobs s.begun h.places are c (seen rules (after w (wait_event ended left))) c.going ended.status at.theirs taken)
         (same_count _ _ at step)
 
     pub reading_breaks : ReadingBreaks rules entry h s w before deeds
-    reading_breaks es t at breaks =
+    reading_breaks es t at breaks home =
         led (faulted fault.Device h) (stands.broken_by_device s) es [] at
         (ReadsNot (record { job = breaks.job; next = breaks.next; reads = breaks.reads; deeds_are = refl; leaves = refl }))
-        (told_broken h.places (stands.broken_by_device s) s _ _ at refl refl) at.crew at.theirs (same_count _ _ at (ReadsNot (record { job = breaks.job; next = breaks.next; reads = breaks.reads; deeds_are = refl; leaves = refl })))
+        (told_broken h.places (stands.broken_by_device s) s _ _ at refl refl home) (λ j i. absurd i) at.crew (allowed_at rules entry h s w before deeds at) at.theirs (same_count _ _ at (ReadsNot (record { job = breaks.job; next = breaks.next; reads = breaks.reads; deeds_are = refl; leaves = refl })))
 
     pub beginning_breaks : BeginningBreaks rules entry h s w before deeds
-    beginning_breaks es t at breaks =
-        led (faulted fault.Device h) t es [] at (BeginsNot breaks) (told_broken h.places t s _ _ at refl breaks.leaves)
+    beginning_breaks es t at breaks home =
+        led (faulted fault.Device h) t es [] at (BeginsNot breaks) (told_broken h.places t s _ _ at refl breaks.leaves home) (λ j i. absurd i)
         (subst (λ (x : Stand). IsCrew h.places x.runs) (sym breaks.leaves) at.crew)
+        (subst (λ (x : Stand). AreAllowed rules entry x.runs) (sym breaks.leaves) (allowed_at rules entry h s w before deeds at))
         (subst (λ (x : Stand). AreChildrenOf h.live.base.jobs.jobs x.begun h.places) (sym breaks.leaves) at.theirs) (same_count _ _ at (BeginsNot breaks))
 
     pub spending_breaks : SpendingBreaks rules entry h s w before deeds
-    spending_breaks es t at breaks =
+    spending_breaks es t at breaks home =
         let same = removed_kept rules entry s breaks.last w before breaks.paths breaks.removing breaks.removed in
         let kept =
         kept_then s breaks.last t same
         (record { begun = ap (λ (x : Stand). x.begun) breaks.leaves; runs = ap (λ (x : Stand). x.runs) breaks.leaves }) in
         let faults = removed_faults rules s breaks.last w before breaks.paths breaks.removing breaks.removed in
-        led (faulted fault.Device h) t es [] at (SpendsNot breaks) (told_broken h.places t breaks.last _ _ at faults.0 breaks.leaves)
+        led (faulted fault.Device h) t es [] at (SpendsNot breaks) (told_broken h.places t breaks.last _ _ at faults.0 breaks.leaves home) (λ j i. absurd i)
         (subst (IsCrew h.places) (sym kept.runs) at.crew)
+        (subst (AreAllowed rules entry) (sym kept.runs) (allowed_at rules entry h s w before deeds at))
         (subst (λ bs. AreChildrenOf h.live.base.jobs.jobs bs h.places) (sym kept.begun) at.theirs) (same_count _ _ at (SpendsNot breaks))
 
     -- once a child was taken from its place, where it was waited for
@@ -350,6 +457,13 @@ module _ (rules : Rules) (entry : World) where
           (subst (λ (g : Underway). IsCrew are (filter (λ (r : Underway). not (nat_eq r.number g.number)) s.runs)) (sym is)
           (crew_shrinks h.places are s.runs c at.crew taken))
 
+      allowed_taken :
+          IsAt rules entry h s w before deeds →
+          t.runs ≡ (without_child (seen rules (after w (wait_event ended left))) going ended.status s).runs → AreAllowed rules entry t.runs
+      allowed_taken at runs =
+          subst (AreAllowed rules entry) (sym runs)
+          (allowed_left rules entry (λ (r : Underway). not (nat_eq r.number going.number)) s.runs (allowed_at rules entry h s w before deeds at))
+
       theirs_taken :
           IsAt rules entry h s w before deeds → IsPutFor (Some c) None h.places are →
           t.begun ≡ (without_child (seen rules (after w (wait_event ended left))) going ended.status s).begun →
@@ -359,19 +473,23 @@ module _ (rules : Rules) (entry : World) where
           (theirs_left h.live.base.jobs.jobs s.begun h.places are c (seen rules (after w (wait_event ended left))) going ended.status at.theirs taken)
 
     pub leaving_leads : LeavingLeads rules entry h s w before deeds
-    leaving_leads are c es t at taken left is =
+    leaving_leads are c es t at taken left is home ours =
         let u : Stand = without_child (seen rules (after w (wait_event left.ended left.left))) left.going left.ended.status s in
         led (faulted fault.OutOfMemory (record h { places = are })) t es [] at (Leaves left)
-        (told_fault fault.OutOfMemory are t u _ _ at refl refl refl left.leaves)
+        (told_fault fault.OutOfMemory are t u _ _ at refl refl refl left.leaves home (λ whole. ours))
+        (λ j i. absurd i)
         (crew_taken are c left.ended left.left left.going t at taken is (ap (λ (x : Stand). x.runs) left.leaves))
+        (allowed_taken are c left.ended left.left left.going t at (ap (λ (x : Stand). x.runs) left.leaves))
         (theirs_taken are c left.ended left.left left.going t at taken (ap (λ (x : Stand). x.begun) left.leaves)) (same_count _ _ at (Leaves left))
 
     pub closing_breaks : ClosingBreaks rules entry h s w before deeds
-    closing_breaks are c es t at taken off is =
+    closing_breaks are c es t at taken off is home =
         let u : Stand = without_child (seen rules (after w (wait_event off.ended off.left))) off.going off.ended.status s in
         led (faulted fault.Device (record h { places = are })) t es [] at (BreaksOff off)
-        (told_broken are t u _ _ at refl off.leaves)
+        (told_broken are t u _ _ at refl off.leaves home)
+        (λ j i. absurd i)
         (crew_taken are c off.ended off.left off.going t at taken is (ap (λ (x : Stand). x.runs) off.leaves))
+        (allowed_taken are c off.ended off.left off.going t at (ap (λ (x : Stand). x.runs) off.leaves))
         (theirs_taken are c off.ended off.left off.going t at taken (ap (λ (x : Stand). x.begun) off.leaves)) (same_count _ _ at (BreaksOff off))
 
     pub closing_leads : ClosingLeads rules entry h s w before deeds
@@ -381,7 +499,9 @@ module _ (rules : Rules) (entry : World) where
         kept_then u closed.next t (replanned_kept rules u closed.next _ closed.replanned)
         (answer_kept rules entry closed.answer closed.next t _ _ closed.goes_by) in
         led k t es more at (Closes closed) tells
+        (λ j i. absurd (subst (λ ds. IsIn (started_jobs ds) j) closed.deeds_are i))
         (crew_taken k.places c closed.ended closed.left closed.going t at taken is kept.runs)
+        (allowed_taken k.places c closed.ended closed.left closed.going t at kept.runs)
         (theirs_taken k.places c closed.ended closed.left closed.going t at taken kept.begun) counted
 
     pub spending_leads : SpendingLeads rules entry h s w before deeds
@@ -389,20 +509,24 @@ module _ (rules : Rules) (entry : World) where
         let kept =
         kept_then s spent.last t (removed_kept rules entry s spent.last w before spent.paths spent.removing spent.removed)
         (goes_kept rules entry spent.last t _ _ spent.goes_by) in
-        led k t es [] at (Spends spent) tells
+        led k t es [] at (Spends spent) tells (λ j i. absurd i)
         (subst (λ ps. IsCrew ps t.runs) (sym places) (subst (IsCrew h.places) (sym kept.runs) at.crew))
+        (subst (AreAllowed rules entry) (sym kept.runs) (allowed_at rules entry h s w before deeds at))
         (subst (AreChildrenOf h.live.base.jobs.jobs t.begun) (sym places)
         (subst (λ bs. AreChildrenOf h.live.base.jobs.jobs bs h.places) (sym kept.begun) at.theirs))
         (λ none. subst (IsCountOf rules.flow (deeds ++ [])) (sym tally) (same_count t es at (Spends spent) none))
 
     pub beginning_leads : BeginningLeads rules entry h s w before deeds
-    beginning_leads k c j es t at begun is own number ask fresh put tally tells =
+    beginning_leads k c j es t at begun is own number ask fresh put tally spaced recordable tells =
         let b : Begun = begun_of rules entry (moment_of s w before) begun.job in
         let u : Stand = with_job b begun.going s in
         let kept = kept_then u begun.next t (replanned_kept rules u begun.next _ begun.replanned) (goes_kept rules entry begun.next t _ _ begun.goes_by) in
         let grown = crew_grows h.places k.places s.runs c at.crew put fresh in
-        led k t es (Started j ∷ []) at (Begins begun) tells
+        led k t es (Started j ∷ []) at (Begins begun) tells (only h.live.base.jobs.jobs j (get_in h.live.base.jobs.jobs c.job j number))
         (subst (IsCrew k.places) (sym kept.runs) (subst (λ (g : Underway). IsCrew k.places (s.runs ++ g ∷ [])) is grown))
+        (subst (AreAllowed rules entry) (sym kept.runs)
+        (subst (λ (g : Underway). AreAllowed rules entry (s.runs ++ g ∷ [])) is
+        (allowed_more rules entry s.runs c.going (allowed_at rules entry h s w before deeds at) spaced recordable)))
         (subst (λ bs. AreChildrenOf h.live.base.jobs.jobs bs k.places) (sym kept.begun)
         (theirs_more h.live.base.jobs.jobs s.begun b h.places k.places c at.theirs put
         (record {

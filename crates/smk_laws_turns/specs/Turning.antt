@@ -15,14 +15,14 @@ use Rattle.smk_report.specs.declared.fault.Fault.TheVariants as fault
 use Rattle.smk_job.specs.Jobs.{Underway}
 use Rattle.smk_run.specs.Closings.{wait_event}
 use Rattle.smk_plan_live.specs.Lives.{IsLive}
-use Rattle.smk_drive.specs.Moments.{Rules}
+use Rattle.smk_drive.specs.Moments.{Rules, seen}
 use Rattle.smk_drive.specs.Lawful.{ask_of}
 use Rattle.smk_drive_step.specs.declared.children.Child.{Child}
 use Rattle.smk_drive_step.specs.Crews.{IsPutFor, halted_by, is_device}
 use Rattle.smk_drive_course.specs.Stands.{NoneLeft, Refuses, Stand}
 use Rattle.smk_drive_course.specs.Steps.{Deed, HasBegun, HasClosed, HasSpent, Started}
 use Rattle.smk_drive_course.specs.Breaks.{HasBrokenOff, HasLeft, HasNotBegun, HasNotRead, HasNotSpent, Step}
-use Rattle.smk_laws_turns.specs.Hubs.{IsAt, IsCountOf, IsCrew, IsKept, Parts}
+use Rattle.smk_laws_turns.specs.Hubs.{AreSpaced, IsAt, IsCountOf, IsCrew, IsHome, IsKept, IsOurs, IsRecordable, Parts}
 
 -- ## Children
 
@@ -67,7 +67,9 @@ module _ (rules : Rules) (entry : World) (h : Parts) (s : Stand) (w : World) (be
       (es : List Event) (f : Fault) →
       IsAt rules entry h s w before deeds →
       ((s.halted ≡ None) × Refuses rules entry s w before f) ⊎ ((f ≡ fault.Output) ⊎ (f ≡ fault.OutOfMemory)) →
-      is_device f ≡ false → AreLooks false es → (s.broken ≡ true → es ≡ []) → HasLed rules entry (faulted f h) s w before es deeds []
+      is_device f ≡ false → AreLooks false es → (s.broken ≡ true → es ≡ []) →
+      IsHome entry (run w es) →
+      (s.broken ≡ false → IsOurs rules entry h.live.base.jobs.jobs (run w es)) → HasLed rules entry (faulted f h) s w before es deeds []
 
   -- A wait failed, where nothing was left that might have begun.
   abbrev pub FailedWaitLeads : Type 0
@@ -76,6 +78,7 @@ module _ (rules : Rules) (entry : World) (h : Parts) (s : Stand) (w : World) (be
       IsAt rules entry h s w before deeds →
       list_all is_none h.places ≡ false →
       (s.halted ≡ None → NoneLeft rules s w before) →
+      IsHome entry (run w (record { call = Waited (Err e); left = [] } ∷ [])) →
       HasLed rules entry (faulted fault.Device h) s w before (record { call = Waited (Err e); left = [] } ∷ []) deeds []
 
   -- After a call of the device has failed a child was waited for, and taken from its place.
@@ -86,23 +89,27 @@ module _ (rules : Rules) (entry : World) (h : Parts) (s : Stand) (w : World) (be
       h.halt.only_waits ≡ true →
       IsPutFor (Some c) None h.places are →
       ended.number ≡ c.going.number →
+      IsHome entry (run w (wait_event ended left ∷ [])) →
       HasLed rules entry (record h { places = are }) s w before (wait_event ended left ∷ []) deeds []
 
   -- A call failed as sources were read for the job that is next, as it was to begin, or as spent outputs were removed.
   abbrev pub ReadingBreaks : Type 0
   ReadingBreaks =
       (es : List Event) (t : Stand) →
-      IsAt rules entry h s w before deeds → HasNotRead rules entry s w before es [] t → HasLed rules entry (faulted fault.Device h) s w before es deeds []
+      IsAt rules entry h s w before deeds → HasNotRead rules entry s w before es [] t →
+      IsHome entry (run w es) → HasLed rules entry (faulted fault.Device h) s w before es deeds []
 
   abbrev pub BeginningBreaks : Type 0
   BeginningBreaks =
       (es : List Event) (t : Stand) →
-      IsAt rules entry h s w before deeds → HasNotBegun rules entry s w before es [] t → HasLed rules entry (faulted fault.Device h) s w before es deeds []
+      IsAt rules entry h s w before deeds → HasNotBegun rules entry s w before es [] t →
+      IsHome entry (run w es) → HasLed rules entry (faulted fault.Device h) s w before es deeds []
 
   abbrev pub SpendingBreaks : Type 0
   SpendingBreaks =
       (es : List Event) (t : Stand) →
-      IsAt rules entry h s w before deeds → HasNotSpent rules entry s w before es [] t → HasLed rules entry (faulted fault.Device h) s w before es deeds []
+      IsAt rules entry h s w before deeds → HasNotSpent rules entry s w before es [] t →
+      IsHome entry (run w es) → HasLed rules entry (faulted fault.Device h) s w before es deeds []
 
   -- A child was waited for and taken from its place, and there was no memory to close its job.
   abbrev pub LeavingLeads : Type 0
@@ -111,7 +118,8 @@ module _ (rules : Rules) (entry : World) (h : Parts) (s : Stand) (w : World) (be
       IsAt rules entry h s w before deeds →
       IsPutFor (Some c) None h.places are →
       (left : HasLeft rules entry s w before es [] t) →
-      left.going ≡ c.going → HasLed rules entry (faulted fault.OutOfMemory (record h { places = are })) s w before es deeds []
+      left.going ≡ c.going →
+      IsHome entry (run w es) → IsOurs rules entry h.live.base.jobs.jobs (run w es) → HasLed rules entry (faulted fault.OutOfMemory (record h { places = are })) s w before es deeds []
 
   -- A child was waited for and taken from its place, and a call failed as its job was closed.
   abbrev pub ClosingBreaks : Type 0
@@ -120,13 +128,15 @@ module _ (rules : Rules) (entry : World) (h : Parts) (s : Stand) (w : World) (be
       IsAt rules entry h s w before deeds →
       IsPutFor (Some c) None h.places are →
       (off : HasBrokenOff rules entry s w before es [] t) →
-      off.going ≡ c.going → HasLed rules entry (faulted fault.Device (record h { places = are })) s w before es deeds []
+      off.going ≡ c.going → IsHome entry (run w es) → HasLed rules entry (faulted fault.Device (record h { places = are })) s w before es deeds []
 
   -- What is kept once a step has led to this stand tells its faults; and as long as none has come, all that is so then.
   pub record TellsOf (k : Parts) (w1 : World) (events : List Event) (t : Stand) : Type 0 where
     pub live : IsLive k.live
     pub settings : k.live.settings ≡ h.live.settings
     pub jobs : k.live.base.jobs ≡ h.live.base.jobs
+    pub home : IsHome entry w1
+    pub ours : t.broken ≡ false → IsOurs rules entry h.live.base.jobs.jobs w1
     pub halted : k.halt.fault ≡ t.halted
     pub waits : k.halt.only_waits ≡ t.broken
     pub kept : t.halted ≡ None → IsKept rules entry k t w1 events
@@ -144,6 +154,7 @@ module _ (rules : Rules) (entry : World) (h : Parts) (s : Stand) (w : World) (be
       ((g : Underway) → IsIn s.runs g → ¬ (g.number ≡ c.going.number)) →
       IsPutFor None (Some c) h.places k.places →
       k.tally ≡ (record h.tally { started = h.tally.started + 1 }) →
+      AreSpaced (s.runs ++ c.going ∷ []) → IsRecordable (seen rules entry) c.going →
       TellsOf k (run w es) (before ++ es) t → HasLed rules entry k s w before es deeds (Started j ∷ [])
 
   -- A child was waited for and taken from its place, and its job closed and counted.

@@ -1,0 +1,8 @@
+//! Outputs that are spent are removed.
+#![tactic(auto)]
+
+mod finding;
+mod rounds;
+mod sweeping;
+
+pub use sweeping::sweep;

@@ -1,0 +1,4 @@
+pub mod Fitting
+pub mod Noting
+pub mod Begins
+pub mod Turns

@@ -1,0 +1,15 @@
+pub mod Calls
+pub mod JobPaths
+pub mod Ours
+pub mod SourceOrMade
+pub mod Differing
+pub mod BeginCalls
+pub mod BeginWorld
+pub mod Unseen
+pub mod BegunFor
+pub mod Children
+pub mod Begun
+pub mod Settling
+pub mod SpentOutput
+pub mod Spent
+pub mod Spending

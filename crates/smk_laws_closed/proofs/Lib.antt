@@ -1,0 +1,17 @@
+pub mod Calls
+pub mod Touched
+pub mod Effects
+pub mod Recorded
+pub mod Leaving
+pub mod Closing
+pub mod Waiting
+pub mod Aside
+pub mod Ended
+pub mod ClosedFor
+pub mod Guards
+pub mod Guarding
+pub mod Ending
+pub mod Left
+pub mod Bare
+pub mod Bridge
+pub mod Before

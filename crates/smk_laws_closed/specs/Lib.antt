@@ -1,0 +1,3 @@
+pub mod Writable
+pub mod Closed
+pub mod Guarded

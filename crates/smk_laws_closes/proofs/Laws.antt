@@ -1,0 +1,13 @@
+-- Laws of other crates that are taken for granted here.
+use Rattle.smk_laws_turns.specs.Turning.{OfParts}
+use Rattle.smk_laws_rest.specs.Resting.{AnyIsReplanned, RestGoesBy}
+use Rattle.smk_laws_closed.specs.Closed.{CloseDiffers, LeftOurs, TendDiffers}
+use Rattle.smk_laws_closed.specs.Guarded.{PlanBeforeGuarding}
+
+pub record Laws : Type 0 where
+  pub rest_goes_by : RestGoesBy
+  pub any_is_replanned : AnyIsReplanned
+  pub close_differs : OfParts CloseDiffers
+  pub tend_differs : OfParts TendDiffers
+  pub left_ours : OfParts LeftOurs
+  pub plan_before_guarding : PlanBeforeGuarding

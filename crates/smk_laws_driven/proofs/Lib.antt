@@ -1,0 +1,16 @@
+pub mod Safe
+pub mod Mild
+pub mod Lasting
+pub mod Fields
+pub mod Ending
+pub mod Unlisted
+pub mod Unforced
+pub mod Leaving
+pub mod Ended
+pub mod OwnCalls
+pub mod SoundNow
+pub mod Restored
+pub mod Fed
+pub mod Waiting
+pub mod Stepping
+pub mod Succeeding

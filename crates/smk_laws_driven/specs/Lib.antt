@@ -1,0 +1,3 @@
+pub mod Driven
+pub mod Ended
+pub mod Succeeding

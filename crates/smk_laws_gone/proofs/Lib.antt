@@ -1,0 +1,12 @@
+pub mod Going
+pub mod Faults
+pub mod Unopened
+pub mod Telling
+pub mod Whole
+pub mod Standing
+pub mod Firsts
+pub mod Nexts
+pub mod Sources
+pub mod Stepping
+pub mod Concluding
+pub mod Entering

@@ -1,0 +1,5 @@
+pub mod Gone
+pub mod Whole
+pub mod Standing
+pub mod Sources
+pub mod Stepping
