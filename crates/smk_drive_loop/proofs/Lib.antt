@@ -1,0 +1,2 @@
+pub mod TargetLines
+pub mod Steps

@@ -1,0 +1,10 @@
+use Rattle.std.proofs.Common.{refl, sym, ◌∙◌}
+use Rattle.smk_drive_hub.specs.Keeping.{parts_of}
+use Rattle.smk_laws_gone.proofs.Concluding.{faulted_so}
+use Rattle.smk_drive_loop.proofs.driving.conclude.Goals as goal
+
+pub returns-in-Some : goal.returns-in-Some
+returns-in-Some g c = faulted_so c.args.settings.now.targets (parts_of c.args.hub) c.in-Some.fault _ c.in-Some.ensures
+
+pub returns-in-None : goal.returns-in-None
+returns-in-None g c = c.report.ensures (parts_of c.args.hub) refl refl c.in-None.ensures
