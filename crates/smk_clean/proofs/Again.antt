@@ -1,5 +1,5 @@
 -- A run again takes no turn.
-use Rattle.std.proofs.Common.{◌≡◌, ℕ, suc, true, List, [], ◌∷◌, map, refl, ap, subst, ◌∙◌, Option, Result, Ok}
+use Rattle.std.proofs.Common.{◌≡◌, ℕ, suc, true, false, List, [], ◌∷◌, map, refl, ap, sym, subst, ◌∙◌, Option, Result, Ok, true≢false}
 use Rattle.smk_world.specs.World.{World, IsFormed}
 use Rattle.smk_world.specs.Devices.{Device, Sunk}
 use Rattle.smk_flow.specs.declared.job.Job.{Job}
@@ -25,13 +25,15 @@ use Rattle.smk_cli_entry.specs.Entry.{IsAskedIn}
 use Rattle.smk_make.specs.Making.{GoesOn, NotFirm, NoMemory, Made}
 use Rattle.smk_plan_preview.specs.declared.previewing.Previewed.{Previewed}
 use Rattle.smk_plan_preview.specs.Previewing.{plan_of}
-use Rattle.smk_serve.specs.Serving.{Went, Refused, Stopped, Worked, settings_of}
+use Rattle.smk_serve.specs.OneByOne.{is_one_by_one}
+use Rattle.smk_serve.specs.Serving.{Went, Refused, Stopped, Worked, Drove, settings_of}
 use Rattle.smk_cli.specs.Locking.{Stood, Taken, Unmade, Untaken}
-use Rattle.smk_cli.specs.Whole.{HasRun, Heeded, IsRefusal, IsToServe, Unasked, Unheeded}
+use Rattle.smk_cli.specs.Whole.{AsksFor, HasRun, Heeded, IsRefusal, IsToServe, Unasked, Unheeded}
 use Rattle.smk_exit.specs.Exit.{RunLeavesAllClean}
-use Rattle.smk_clean.specs.Again.{HasNoneLeft, NextCallTakesNoTurn, turns_made, turns_ran, turns_went}
+use Rattle.smk_clean.specs.Again.{HasNoneLeft, NextCallTakesNoTurn, is_driven, turns_made, turns_ran, turns_went, was_driven}
 use Rattle.smk_clean.proofs.Asking.{asked_same}
-use Rattle.smk_clean.proofs.Clean.{ended_well, none_left}
+use Rattle.smk_clean.proofs.Clean.{none_forced}
+use Rattle.smk_clean.proofs.Ending.{DrivenEnds, ended_well, none_left}
 use Rattle.smk_clean.proofs.Locked.{locked_same, served_before}
 
 -- where all jobs are Clean, none is due
@@ -80,24 +82,31 @@ module _ (o : Outside) (words : RunWords) (w v : World) (formed : IsFormed v) (l
   -- also under the lock, in a folder that is the same but for it
   none_went :
       (u : World) → ((asked : Asked) (told : Previewed) → IsToServe o.read true words v u asked told → IsToServe o.read true words v v asked told) →
-      (answer : Result (Unit {0}) Fault) (old new : Device) (p q : Sunk)
-      (h : Went o.act words.cores answer (IsRefusal o.read true words v u) (IsToServe o.read true words v u) old new p q) → turns_went h ≡ []
-  none_went u back answer old new p q (Refused f is why looked) = refl
-  none_went u back answer old new p q (Stopped f is want looked) = refl
-  none_went u back answer old new p q (Worked asked told plans worked) =
-      none_made asked told (back asked told plans) answer worked.carried.firm new p q worked.carried.settled worked.carried.goes_on
+      is_one_by_one words ≡ true → (answer : Result (Unit {0}) Fault) (old new : Device) (p q : Sunk)
+      (h : Went o.act words answer (IsRefusal o.read true words v u) (AsksFor words v) (IsToServe o.read true words v u) old new p q) →
+      (turns_went h ≡ []) × (was_driven h ≡ false)
+  none_went u back by_turns answer old new p q (Refused f is why looked) = (refl, refl)
+  none_went u back by_turns answer old new p q (Stopped f is want looked) = (refl, refl)
+  none_went u back by_turns answer old new p q (Worked asked told one plans worked) =
+      (none_made asked told (back asked told plans) answer worked.carried.firm new p q worked.carried.settled worked.carried.goes_on, refl)
+  none_went u back by_turns answer old new p q (Drove asked apart is drove) = absurd (true≢false (sym by_turns ∙ apart))
 
-  none_ran : (answer : Result (Unit {0}) Fault) (old new : Device) (p q : Sunk) (h : HasRun o.act o.read words v answer old new p q) → turns_ran h ≡ []
-  none_ran answer old new p q (Unheeded free went) = none_went v (λ asked told serve. serve) answer old new p q went
-  none_ran answer old new p q (Unasked f heeds is why looked) = refl
-  none_ran answer old new p q (Heeded x looked heeds after at looking (Unmade is unchanged unput)) = refl
-  none_ran answer old new p q (Heeded x looked heeds after at looking (Stood is stands tried unput)) = refl
-  none_ran answer old new p q (Heeded x looked heeds after at looking (Untaken e is tried unput)) = refl
-  none_ran answer old new p q (Heeded x looked heeds after at looking (Taken u locked once at_u taken ran)) =
+  none_ran :
+      is_one_by_one words ≡ true → (answer : Result (Unit {0}) Fault) (old new : Device) (p q : Sunk) (h : HasRun o.act o.read words v answer old new p q) →
+      (turns_ran h ≡ []) × (is_driven h ≡ false)
+  none_ran by_turns answer old new p q (Unheeded free went) = none_went v (λ asked told serve. serve) by_turns answer old new p q went
+  none_ran by_turns answer old new p q (Unasked f heeds is why looked) = (refl, refl)
+  none_ran by_turns answer old new p q (Heeded x looked heeds after at looking (Unmade is unchanged unput)) = (refl, refl)
+  none_ran by_turns answer old new p q (Heeded x looked heeds after at looking (Stood is stands tried unput)) = (refl, refl)
+  none_ran by_turns answer old new p q (Heeded x looked heeds after at looking (Untaken e is tried unput)) = (refl, refl)
+  none_ran by_turns answer old new p q (Heeded x looked heeds after at looking (Taken u locked once at_u taken ran)) =
       none_went u (λ asked told serve. served_before o.read true words v u asked told
-      (locked_same o.act o.read v x u formed after once) serve) ran.ran locked ran.left p q ran.went
+      (locked_same o.act o.read v x u formed after once) serve) by_turns ran.ran locked ran.left p q ran.went
 
-pub next_takes_no_turn : RunLeavesAllClean → NextCallTakesNoTurn
-next_takes_no_turn exit o H words told again w v old new next_old next_new p q next_p next_q at end next_at reads differ sound served none same next =
-    let well = ended_well exit o H words told w v old new p q at end reads differ sound served none in
-    none_ran o words w v well.formed (none_left exit o words w v well) same next.answer next_old next_new next_p next_q next.serves
+pub next_takes_no_turn : RunLeavesAllClean → DrivenEnds → NextCallTakesNoTurn
+next_takes_no_turn exit drives o H words told again w v old new next_old next_new p q next_p next_q at end next_at reads differ sound by_turns served none same
+    next =
+    let well = ended_well exit drives o H words told w v old new p q at end reads differ sound served none in
+    let free = none_forced words by_turns in
+    let left = none_left exit drives o words w v free well in
+    none_ran o words w v well.formed left same by_turns next.answer next_old next_new next_p next_q next.serves

@@ -4,6 +4,7 @@ pub mod Firsts
 pub mod Meant
 pub mod Fit
 pub mod Safe
+pub mod Driving
 pub mod Locked
 pub mod Serving
 pub mod Leaving
@@ -11,4 +12,6 @@ pub mod Asking
 pub mod Chained
 pub mod Standing
 pub mod Clean
+pub mod Ending
+pub mod Ended
 pub mod Again

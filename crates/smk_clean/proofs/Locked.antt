@@ -31,7 +31,7 @@ use Rattle.smk_plan_preview.specs.Previewing.{rules_for}
 use Rattle.smk_cli_entry.specs.declared.asking.Asked.{Asked}
 use Rattle.smk_serve.specs.Serving.{Went, settings_of}
 use Rattle.smk_cli.specs.Locking.{HasRunLocked, IsAfterLooks, IsClosed, IsOnceLocked, LockGoes, LockStays, with_release}
-use Rattle.smk_cli.specs.Whole.{IsRefusal, IsToServe, OfPlan, OfWorkflow}
+use Rattle.smk_cli.specs.Whole.{AsksFor, IsRefusal, IsToServe, OfPlan, OfWorkflow}
 use Rattle.smk_safe.proofs.Joining.{AreLooks, look_all}
 use Rattle.smk_laws_lock.specs.Heeding.{IsSameButLock}
 use Rattle.smk_laws_lock.specs.Parts.{IsRun, OnLock, One}
@@ -141,7 +141,7 @@ module _ (o : Outside) (H : Versions) (w : World) (differ : SumsDiffer H) (sound
     pub at_start : locked.world ≡ Some start
     pub ran : Answer
     pub left : Device
-    pub went : Went o.act words.cores ran (IsRefusal o.read true words w start) (IsToServe o.read true words w start) locked left p q
+    pub went : Went o.act words ran (IsRefusal o.read true words w start) (AsksFor words w) (IsToServe o.read true words w start) locked left p q
     pub last : World
     pub at_last : left.world ≡ Some last
     pub release : List Event
@@ -186,7 +186,7 @@ module _ (o : Outside) (H : Versions) (w : World) (differ : SumsDiffer H) (sound
         ((parts_are_safe o w H front differ sound follows_front (One w front front_run)).at_end (subst (λ (x : World). x.children ≡ []) start_is alone))
 
     pub under_lock :
-        (ran : HasRunLocked o.act words.cores answer (IsRefusal o.read true words w start) (IsToServe o.read true words w start) locked new p q) →
+        (ran : HasRunLocked o.act words answer (IsRefusal o.read true words w start) (AsksFor words w) (IsToServe o.read true words w start) locked new p q) →
         IsUnderLock new p q end
     under_lock ran = go ran.closed
       where

@@ -1,5 +1,5 @@
 -- A refusal stands.
-use Rattle.std.proofs.Common.{◌≡◌, ◌⊎◌, inl, inr, ℕ, Bool, true, false, List, [], ◌∷◌, ◌++◌, refl, ap, sym, subst, ◌∙◌, Option, Result, Ok, Err}
+use Rattle.std.proofs.Common.{◌≡◌, ◌⊎◌, inl, inr, ℕ, Bool, true, false, List, [], ◌∷◌, ◌++◌, refl, ap, sym, subst, ◌∙◌, Option, Result, Ok, Err, true≢false}
 use Rattle.std.specs.Prelude.{IsSome, is_err}
 use Rattle.smk_base.specs.Place.{lock_place}
 use Rattle.smk_world.specs.declared.event.Event.{Event}
@@ -24,11 +24,12 @@ use Rattle.smk_cli_entry.specs.Entry.{IsAskedIn}
 use Rattle.smk_cli_entry.specs.Faults.{is_device}
 use Rattle.smk_plan_preview.specs.declared.previewing.Previewed.{Previewed}
 use Rattle.smk_plan_preview.specs.Previewing.{plan_of, rules_for}
-use Rattle.smk_serve.specs.Serving.{IsRefusedPlan, IsWant, Went, Refused, Stopped, Worked, settings_of}
+use Rattle.smk_serve.specs.OneByOne.{is_one_by_one}
+use Rattle.smk_serve.specs.Serving.{IsRefusedPlan, IsWant, Went, Refused, Stopped, Worked, Drove, settings_of}
 use Rattle.smk_serve.specs.Ends.{fault_of}
 use Rattle.smk_cli.specs.Lines.{IsOutcome}
 use Rattle.smk_cli.specs.Locking.{IsClosed, LockGoes, LockStays, Stood, Taken, Unmade, Untaken, with_release}
-use Rattle.smk_cli.specs.Whole.{HasRun, Heeded, IsRefusal, OfWorkflow, OfPlan, IsToServe, Unasked, Unheeded}
+use Rattle.smk_cli.specs.Whole.{AsksFor, HasRun, Heeded, IsRefusal, OfWorkflow, OfPlan, IsToServe, Unasked, Unheeded}
 use Rattle.smk_laws_lock.specs.Heeding.{IsSameButLock}
 use Rattle.smk_clean.specs.Standing.{IsLockedOut, IsSameFault, HasLeftAll, HasStood, OnlyLocked, OnlyLooked, RefusalStands, PlanRefusalStands}
 use Rattle.smk_clean.proofs.Locked.{locked_same, only_wider, refused_before, served_before}
@@ -106,7 +107,7 @@ module _ (act : Act) (read : List ℕ → Option Record) (words : RunWords) (w :
       one_refusal outside w formed (rules_for read asked.flow (settings_of asked words)) (asked_built words w.nodes asked is) [] [] f g refused
       (subst (λ a. IsRefusedPlan read a words w g) same refuses) refl
 
-  module _ (f : Fault) (refusal : IsRefusal read true words w w f) (Why : Fault → Type 0) (why : (g : Fault) → IsRefusal read true words w w g → Why g)
+  module _ (f : Fault) (refusal : IsRefusal read true words w w f) (by_turns : is_one_by_one words ≡ true) (Why : Fault → Type 0) (why : (g : Fault) → IsRefusal read true words w w g → Why g)
       (answer : Result (Unit {0}) Fault) (told : Option Fault) (outcome : IsOutcome (fault_of answer) told) (old new : Device) (p q : Sunk) where
     abbrev Stands : Type 0
     Stands = HasStood act words w Why told old new p q
@@ -118,20 +119,22 @@ module _ (act : Act) (read : List ℕ → Option Record) (words : RunWords) (w :
     locked_stands :
         (heeds : words.nolock ≡ false) (u : World) (locked : Device) → IsSameButLock (seen read w) (seen read u) → HasActed act OnlyLock old locked false →
         (ran : Result (Unit {0}) Fault) (left : Device) → IsClosed act ran answer locked left new →
-        Went act words.cores ran (IsRefusal read true words w u) (IsToServe read true words w u) locked left p q → Stands
+        Went act words ran (IsRefusal read true words w u) (AsksFor words w) (IsToServe read true words w u) locked left p q → Stands
     locked_stands heeds u locked same first ran left closed (Refused g is refuses looked) =
         let c = closed_only answer ran g old locked left new is first (is_device g) looked.looked closed in
         stands_with g c.0 (inr (inr (why g (refused_before read true words w u g same refuses)))) (OnlyLocked c.1.0 heeds c.1.1 looked.unput)
     locked_stands heeds u locked same first ran left closed (Stopped g is want looked) =
         let c = closed_only answer ran g old locked left new is first (is_device g) looked.looked closed in
         stands_with g c.0 (inl want) (OnlyLocked c.1.0 heeds c.1.1 looked.unput)
-    locked_stands heeds u locked same first ran left closed (Worked asked previewed serve worked) =
+    locked_stands heeds u locked same first ran left closed (Worked asked previewed one serve worked) =
         absurd (not_to_serve f asked previewed refusal (served_before read true words w u asked previewed same serve))
+    locked_stands heeds u locked same first ran left closed (Drove asked apart asks drove) = absurd (true≢false (sym by_turns ∙ apart))
 
     stands : HasRun act read words w answer old new p q → Stands
     stands (Unheeded free (Refused g is refuses looked)) = stands_with g is (inr (inr (why g refuses))) (OnlyLooked (is_device g) looked)
     stands (Unheeded free (Stopped g is want looked)) = stands_with g is (inl want) (OnlyLooked (is_device g) looked)
-    stands (Unheeded free (Worked asked previewed serve worked)) = absurd (not_to_serve f asked previewed refusal serve)
+    stands (Unheeded free (Worked asked previewed one serve worked)) = absurd (not_to_serve f asked previewed refusal serve)
+    stands (Unheeded free (Drove asked apart asks drove)) = absurd (true≢false (sym by_turns ∙ apart))
     stands (Unasked g heeds is (inl want) looked) = stands_with g is (inl want) (OnlyLooked (is_device g) looked)
     stands (Unasked g heeds is (inr fails) looked) = stands_with g is (inr (inr (why g (OfWorkflow fails)))) (OnlyLooked (is_device g) looked)
     stands (Heeded v looked heeds after at_v looking (Unmade is unchanged unput)) =
@@ -150,10 +153,11 @@ module _ (act : Act) (read : List ℕ → Option Record) (words : RunWords) (w :
         (only_both (only_looks looking) (only_taken taken)) ran.ran ran.left ran.closed ran.went
 
 pub refusal_stands : RefusalStands
-refusal_stands act read words f w told old new p q formed refusal served =
-    stands act read words w formed f refusal (IsRefusal read true words w w) (λ g h. h) served.answer told served.told_is old new p q served.serves
+refusal_stands act read words f w told old new p q formed refusal by_turns served =
+    stands act read words w formed f refusal by_turns (IsRefusal read true words w w) (λ g h. h) served.answer told served.told_is old new p q served.serves
 
 pub plan_refusal_stands : PlanRefusalStands
-plan_refusal_stands act read words asked f w told old new p q formed is refused served =
-    stands act read words w formed f (OfPlan asked is refused) (IsSameFault f) (λ g h. only_one act read words w formed f g asked is refused h) served.answer told served.told_is
-    old new p q served.serves
+plan_refusal_stands act read words asked f w told old new p q formed is refused one served =
+    stands act read words w formed f (OfPlan asked is refused)
+    one (IsSameFault f)
+    (λ g h. only_one act read words w formed f g asked is refused h) served.answer told served.told_is old new p q served.serves

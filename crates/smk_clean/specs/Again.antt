@@ -1,5 +1,5 @@
--- What a run leaves to be done that ends with status 0: nothing.
-use Rattle.std.specs.Prelude.{◌≡◌, ℕ, true, List, [], map, Option, Some, None, Result, Ok}
+-- What a run leaves to be done that forces no job and ends with status 0: nothing.
+use Rattle.std.specs.Prelude.{◌≡◌, ℕ, Bool, true, false, List, [], map, Option, Some, None, Result, Ok}
 use Rattle.smk_world.specs.World.{World}
 use Rattle.smk_world.specs.Devices.{Device, Sunk}
 use Rattle.smk_world.specs.Trees.{Path, Act, Each}
@@ -14,6 +14,7 @@ use Rattle.smk_store.specs.Trust.{Versions, SumsDiffer}
 use Rattle.smk_chain.specs.declared.jobs.Jobs.{Jobs}
 use Rattle.smk_trigger.specs.declared.reason.State.{State}
 use Rattle.smk_trigger.specs.declared.reason.State.TheVariants.{Clean}
+use Rattle.smk_pick.specs.declared.settings.Force.TheVariants.{No}
 use Rattle.smk_plan.specs.States.{Plan, LastPlan, is_current}
 use Rattle.smk_report.specs.declared.fault.Fault.{Fault}
 use Rattle.smk_run.specs.Turns.{Turn}
@@ -23,7 +24,8 @@ use Rattle.smk_cli_entry.specs.declared.asking.Asked.{Asked}
 use Rattle.smk_cli_entry.specs.Entry.{IsAskedIn}
 use Rattle.smk_make.specs.Making.{GoesOn, NotFirm, NoMemory, Made}
 use Rattle.smk_plan_preview.specs.declared.previewing.Previewed.{Previewed}
-use Rattle.smk_serve.specs.Serving.{Went, Refused, Stopped, Worked, settings_of}
+use Rattle.smk_serve.specs.OneByOne.{is_one_by_one}
+use Rattle.smk_serve.specs.Serving.{Went, Refused, Stopped, Worked, Drove, settings_of}
 use Rattle.smk_cli.specs.Locking.{HasHeeded, Unmade, Stood, Untaken, Taken}
 use Rattle.smk_cli.specs.Whole.{HasRun, Unheeded, Unasked, Heeded, HasServed}
 use Rattle.smk_exit.specs.Exit.{begun_so}
@@ -42,7 +44,7 @@ pub record HasNoneLeft (o : Outside) (words : RunWords) (w v : World) : Type 0 w
       (begun : List Path) →
       Each (λ p. is_current (seen o.read v) (settings_of asked words) (begun_so begun) plan p ≡ true) asked.targets
 
--- A run that ends without a fault, in a sound folder.
+-- A run that forces no job and ends without a fault, in a sound folder.
 abbrev pub CallLeavesNone : Type 0
 CallLeavesNone =
     (o : Outside) (H : Versions) (words : RunWords) (told : Option Fault) (w v : World) (old new : Device) (out_old out_new : Sunk) →
@@ -51,7 +53,7 @@ CallLeavesNone =
     ReadsRecords o.read →
     SumsDiffer H →
     SoundWorld o w H →
-    HasServed o.act o.read (Run words) w told old new out_old out_new → told ≡ None → HasNoneLeft o words w v
+    words.force ≡ No → HasServed o.act o.read (Run words) w told old new out_old out_new → told ≡ None → HasNoneLeft o words w v
 
 -- ## A run again
 
@@ -64,19 +66,20 @@ turns_made (NotFirm f is same unput) = []
 turns_made (NoMemory u is same unput) = []
 turns_made (Made u duties for meant made) = made.turns
 
--- the turns of a run once it is known what is asked, and of a whole one
+-- The turns of a run once it is known what is asked, and of a whole one. A run that is driven goes by no turns.
 abbrev pub turns_went :
-    {act : Act} {cores : ℕ} {result : Result (Unit {0}) Fault} {refuses : Fault → Type 0} {plans : Asked → Previewed → Type 0} {old new : Device}
-    {out_old out_new : Sunk} →
-    Went act cores result refuses plans old new out_old out_new → List Turn
+    {act : Act} {words : RunWords} {result : Result (Unit {0}) Fault} {refuses : Fault → Type 0} {asks : Asked → Type 0}
+    {plans : Asked → Previewed → Type 0} {old new : Device} {out_old out_new : Sunk} →
+    Went act words result refuses asks plans old new out_old out_new → List Turn
 turns_went (Refused f is why looked) = []
 turns_went (Stopped f is want looked) = []
-turns_went (Worked asked told plans worked) = turns_made worked.carried.goes_on
+turns_went (Worked asked told one plans worked) = turns_made worked.carried.goes_on
+turns_went (Drove asked apart is drove) = []
 
 abbrev pub turns_heeded :
-    {act : Act} {cores : ℕ} {answer : Result (Unit {0}) Fault} {refuses : World → Fault → Type 0} {plans : World → Asked → Previewed → Type 0} {w : World}
-    {old new : Device} {out_old out_new : Sunk} →
-    HasHeeded act cores answer refuses plans w old new out_old out_new → List Turn
+    {act : Act} {words : RunWords} {answer : Result (Unit {0}) Fault} {refuses : World → Fault → Type 0} {asks : Asked → Type 0}
+    {plans : World → Asked → Previewed → Type 0} {w : World} {old new : Device} {out_old out_new : Sunk} →
+    HasHeeded act words answer refuses asks plans w old new out_old out_new → List Turn
 turns_heeded (Unmade is same unput) = []
 turns_heeded (Stood is stands tried unput) = []
 turns_heeded (Untaken e is tried unput) = []
@@ -89,8 +92,34 @@ turns_ran (Unheeded free went) = turns_went went
 turns_ran (Unasked f heeds is why looked) = []
 turns_ran (Heeded v looked heeds after at looking heeded) = turns_heeded heeded
 
--- After a run that ended without a fault, in a sound folder, a run with the same words takes no turn: in the folder that the first one left, where they ask for the same of
--- the workflow in it.
+-- whether a run was driven, once it is known what is asked, and as a whole one
+abbrev pub was_driven :
+    {act : Act} {words : RunWords} {result : Result (Unit {0}) Fault} {refuses : Fault → Type 0} {asks : Asked → Type 0}
+    {plans : Asked → Previewed → Type 0} {old new : Device} {out_old out_new : Sunk} →
+    Went act words result refuses asks plans old new out_old out_new → Bool
+was_driven (Refused f is why looked) = false
+was_driven (Stopped f is want looked) = false
+was_driven (Worked asked told one plans worked) = false
+was_driven (Drove asked apart is drove) = true
+
+abbrev pub is_heeding_driven :
+    {act : Act} {words : RunWords} {answer : Result (Unit {0}) Fault} {refuses : World → Fault → Type 0} {asks : Asked → Type 0}
+    {plans : World → Asked → Previewed → Type 0} {w : World} {old new : Device} {out_old out_new : Sunk} →
+    HasHeeded act words answer refuses asks plans w old new out_old out_new → Bool
+is_heeding_driven (Unmade is same unput) = false
+is_heeding_driven (Stood is stands tried unput) = false
+is_heeding_driven (Untaken e is tried unput) = false
+is_heeding_driven (Taken v locked once at taken ran) = was_driven ran.went
+
+abbrev pub is_driven :
+    {act : Act} {read : List ℕ → Option Record} {words : RunWords} {w : World} {answer : Result (Unit {0}) Fault} {old new : Device} {out_old out_new : Sunk} →
+    HasRun act read words w answer old new out_old out_new → Bool
+is_driven (Unheeded free went) = was_driven went
+is_driven (Unasked f heeds is why looked) = false
+is_driven (Heeded v looked heeds after at looking heeded) = is_heeding_driven heeded
+
+-- After a run that made its jobs one after another and ended without a fault, in a sound folder, a run with the same words takes no turn, and isn't driven: in
+-- the folder that the first one left, where they ask for the same of the workflow in it.
 abbrev pub NextCallTakesNoTurn : Type 0
 NextCallTakesNoTurn =
     (o : Outside) (H : Versions) (words : RunWords) (told again : Option Fault) (w v : World) (old new next_old next_new : Device)
@@ -101,7 +130,9 @@ NextCallTakesNoTurn =
     ReadsRecords o.read →
     SumsDiffer H →
     SoundWorld o w H →
+    is_one_by_one words ≡ true →
     HasServed o.act o.read (Run words) w told old new out_old out_new →
     told ≡ None →
     ((asked : Asked) → IsAskedIn true words w.nodes (Ok asked) → IsAskedIn true words v.nodes (Ok asked)) →
-    (next : HasServed o.act o.read (Run words) v again next_old next_new next_out_old next_out_new) → turns_ran next.serves ≡ []
+    (next : HasServed o.act o.read (Run words) v again next_old next_new next_out_old next_out_new) →
+    (turns_ran next.serves ≡ []) × (is_driven next.serves ≡ false)

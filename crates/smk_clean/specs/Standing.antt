@@ -1,4 +1,4 @@
--- A refusal stands: what is refused isn't run.
+-- A refusal stands: what is refused isn't run. So it is of runs that make their jobs one after another; one that is driven finds for itself what is refused.
 use Rattle.std.specs.Prelude.{◌≡◌, ◌⊎◌, ℕ, Bool, true, false, List, [], ◌∷◌, Option, Some, Ok, IsSome}
 use Rattle.smk_base.specs.Place.{lock_place}
 use Rattle.smk_world.specs.World.{World, IsFormed, reading, run}
@@ -12,6 +12,7 @@ use Rattle.smk_words_reading.specs.declared.asked.RunWords.{RunWords}
 use Rattle.smk_words_reading.specs.declared.asked.Asked.TheVariants.{Run}
 use Rattle.smk_cli_entry.specs.declared.asking.Asked.{Asked}
 use Rattle.smk_cli_entry.specs.Entry.{IsAskedIn}
+use Rattle.smk_serve.specs.OneByOne.{is_one_by_one}
 use Rattle.smk_serve.specs.Serving.{HasOnlyLooked, IsRefusedPlan, IsWant}
 use Rattle.smk_cli.specs.Whole.{HasServed, IsRefusal}
 
@@ -40,16 +41,17 @@ pub record HasStood (act : Act) (words : RunWords) (w : World) (Why : Fault → 
   pub why : IsWant fault ⊎ IsLockedOut words w fault ⊎ Why fault
   pub left : HasLeftAll act words.nolock old new out_old out_new
 
--- What a run refuses isn't run: where something is refused of what is asked, the call ends with a refusal.
+-- What a run refuses isn't run: where its jobs would be made one after another, and something is refused of what is asked, the call ends with a refusal.
 abbrev pub RefusalStands : Type 0
 RefusalStands =
     (act : Act) (read : List ℕ → Option Record) (words : RunWords) (f : Fault) (w : World) (told : Option Fault) (old new : Device)
     (out_old out_new : Sunk) →
     IsFormed w →
     IsRefusal read true words w w f →
+    is_one_by_one words ≡ true →
     HasServed act read (Run words) w told old new out_old out_new → HasStood act words w (IsRefusal read true words w w) told old new out_old out_new
 
--- Where the plan for what is asked is refused, the call ends with that refusal.
+-- Where the plan for what is asked is refused, and its jobs would be made one after another, the call ends with that refusal.
 abbrev pub PlanRefusalStands : Type 0
 PlanRefusalStands =
     (act : Act) (read : List ℕ → Option Record) (words : RunWords) (asked : Asked) (f : Fault) (w : World) (told : Option Fault) (old new : Device)
@@ -57,4 +59,5 @@ PlanRefusalStands =
     IsFormed w →
     IsAskedIn true words w.nodes (Ok asked) →
     IsRefusedPlan read asked words w f →
+    is_one_by_one words ≡ true →
     HasServed act read (Run words) w told old new out_old out_new → HasStood act words w (IsSameFault f) told old new out_old out_new

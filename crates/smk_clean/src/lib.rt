@@ -7,13 +7,13 @@ ghost use Rattle.smk_clean.specs.Locking.{LockIsLeft};
 ghost use Rattle.smk_clean.specs.Safe.{CallIsSafe};
 ghost use Rattle.smk_clean.specs.Standing.{PlanRefusalStands, RefusalStands};
 
-/// The law of a whole call in a sound folder, whatever is asked and however it ends: after every prefix of its events whatever a crash leaves is sound and
+/// The law of a whole call in a sound folder, whatever is asked, be its jobs made one after another or driven, and however it ends: after every prefix of its events whatever a crash leaves is sound and
 /// has the sources of the entry; and where it ends without a fault, or no child is left, the folder is sound.
 pub fn calls_are_safe()
     ensures { CallIsSafe }
 {}
 
-/// Laws of refusals. Where something is refused of what is asked to be run, nothing is done but looks, or under the lock nothing is changed but it, no child is
+/// Laws of refusals, of a run that makes its jobs one after another. Where something is refused of what is asked to be run, nothing is done but looks, or under the lock nothing is changed but it, no child is
 /// started and nothing is put; and the call ends with a refusal, for the lock, or with a fault of the device or of memory; and where the plan is refused,
 /// with that
 /// refusal.
@@ -22,14 +22,15 @@ pub fn refusals_stand()
     ensures plan { PlanRefusalStands }
 {}
 
-/// The law of a run that ends without a fault, in a sound folder: each target is at the end what a clean run from the sources of the entry makes of it, and the sources are
+/// The law of a run that ends without a fault, in a sound folder, be its jobs made one after another or driven: each target is at the end what a clean run from the sources of the entry makes of it, and the sources are
 /// as they were.
 pub fn calls_are_clean()
     ensures { CallIsClean }
 {}
 
-/// Laws of what is left to do after a run that ends without a fault, in a sound folder. The last plan for the same words has each job Clean and each target current, whichever
-/// jobs have begun. And a run with the same words, in the folder that was left, takes no turn, where the words ask for the same of the workflow in it.
+/// Laws of what is left to do after a run that ends without a fault, in a sound folder. Where it forced no job the last plan for the same words has each
+/// job Clean and each target current, whichever jobs have begun. And after one that made its jobs one after another a run with the same words, in the folder
+/// that was left, takes no turn and isn't driven, where the words ask for the same of the workflow in it.
 pub fn calls_leave_none()
     ensures clean { CallLeavesNone }
     ensures again { NextCallTakesNoTurn }

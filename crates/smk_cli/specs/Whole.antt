@@ -30,13 +30,17 @@ module _ (read : List ℕ → Option Record) (run : Bool) (words : RunWords) (en
     pub is_asked : IsAskedIn run words entry.nodes (Ok asked)
     pub plan : IsPlanFor read asked words w told
 
+-- this is what the words ask of the workflow as it stands in this folder, for a run
+abbrev pub AsksFor : RunWords → World → Asked → Type 0
+AsksFor words entry asked = IsAskedIn true words entry.nodes (Ok asked)
+
 -- How a run is served from this folder: under the lock, which is tried once it is known what is asked, unless none is heeded.
 pub data HasRun
     (act : Act) (read : List ℕ → Option Record) (words : RunWords) (w : World) (answer : Result (Unit {0}) Fault) (old new : Device) (out_old out_new : Sunk) :
     Type 0 where
   Unheeded :
       words.nolock ≡ true →
-      Went act words.cores answer (IsRefusal read true words w w) (IsToServe read true words w w) old new out_old out_new →
+      Went act words answer (IsRefusal read true words w w) (AsksFor words w) (IsToServe read true words w w) old new out_old out_new →
       HasRun act read words w answer old new out_old out_new
   -- the workflow or a target is refused; or a call of the device failed, or memory was wanting, before that was known
   Unasked :
@@ -51,7 +55,7 @@ pub data HasRun
       IsAfterLooks act w v →
       looked.world ≡ Some v →
       HasLooked act old looked false →
-      HasHeeded act words.cores answer (IsRefusal read true words w) (IsToServe read true words w) v looked new out_old out_new →
+      HasHeeded act words answer (IsRefusal read true words w) (AsksFor words w) (IsToServe read true words w) v looked new out_old out_new →
       HasRun act read words w answer old new out_old out_new
 
 -- What is done for a request that is about what is made: a run, or a listing that leaves all as it stands and heeds no lock.

@@ -1,7 +1,5 @@
 -- What is done for words today, and which words are refused.
-use Rattle.std.specs.Prelude.{◌≡◌, ◌&&◌, not, Bool, true, false, List}
-use Rattle.smk_pick.specs.declared.settings.Force.{Force}
-use Rattle.smk_pick.specs.declared.settings.Force.TheVariants.{No, Targets, All}
+use Rattle.std.specs.Prelude.{◌≡◌, Bool, true, false, List}
 use Rattle.smk_words_reading.specs.declared.asked.Asked.{Asked as Request}
 use Rattle.smk_words_reading.specs.declared.asked.Asked.TheVariants.{Run, Preview, Unlock, Forget, Generate}
 use Rattle.smk_words_reading.specs.Words.{Text}
@@ -9,15 +7,9 @@ use Rattle.smk_words_reading.specs.Asks.{IsAsked, LacksCores, AreUnread}
 use Rattle.smk_report.specs.declared.fault.Fault.{Fault}
 use Rattle.smk_report.specs.declared.fault.Fault.TheVariants as fault
 
-abbrev pub forces_none : Force → Bool
-forces_none No = true
-forces_none Targets = false
-forces_none All = false
-
--- What is built of all that words ask: runs that force no job and end with the first job that fails; listings; that the lock goes; and that what is
--- kept of paths goes.
+-- What is built of all that words ask: runs; listings; that the lock goes; and that what is kept of paths goes.
 abbrev pub is_built : Request → Bool
-is_built (Run words) = not words.keep_going && forces_none words.force
+is_built (Run words) = true
 is_built (Preview words) = true
 is_built Unlock = true
 is_built (Forget paths nolock) = true

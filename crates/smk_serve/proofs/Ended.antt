@@ -1,7 +1,7 @@
 -- Ends of calls, one after another.
 use native.Mathlib.Omega.{arith}
-use Rattle.std.proofs.Common.{◌≡◌, ◌⊎◌, ◌≤◌, ℕ, Bool, true, false, List, [], inl, inr, refl, sym, ap, ◌∙◌, Option, Result, Ok, Err, true≢false}
-use Rattle.std.specs.Prelude.{IsSome, IfErr}
+use Rattle.std.proofs.Common.{◌≡◌, ◌⊎◌, ◌≤◌, ℕ, Bool, true, false, List, [], inl, inr, refl, sym, ap, ◌∙◌, Result, Ok, Err, true≢false}
+use Rattle.std.specs.Prelude.{IsSome, IfErr, is_ok}
 use Rattle.smk_world.specs.Calls.{HasCause, Rose}
 use Rattle.smk_world.specs.Devices.{Device, Sunk, HasLooked}
 use Rattle.smk_world.specs.Trees.{Path, Act}
@@ -10,7 +10,6 @@ use Rattle.smk_chain.specs.declared.jobs.Jobs.{Jobs}
 use Rattle.smk_store.specs.Stores.{Known}
 use Rattle.smk_trigger.specs.declared.reason.State.{State}
 use Rattle.smk_report.specs.declared.fault.Fault.{Fault}
-use Rattle.smk_report.specs.declared.fault.Fault.TheVariants as fault
 use Rattle.smk_report.specs.Lines.{Text}
 use Rattle.smk_cli_entry.specs.Faults.{is_device, is_sink, device_failed}
 use Rattle.smk_run.specs.Reports.{HasReported}
@@ -18,7 +17,7 @@ use Rattle.smk_run.specs.Runs as run
 use Rattle.smk_run.proofs.Rising.{rose_earlier}
 use Rattle.smk_make.specs.Making.{HasCarriedOut}
 use Rattle.smk_make.proofs.Ends.{carried_children, carried_stays, carried_cause, carried_output, carried_quiet}
-use Rattle.smk_serve.specs.Ends.{EndsWith, EndsAs, fault_of, of_device, of_sink}
+use Rattle.smk_serve.specs.Ends.{EndsAs, fault_of, of_device, of_sink}
 use Rattle.smk_serve.specs.Listing.{IsFault}
 use Rattle.smk_serve.proofs.SameKinds.{device_as, output_as}
 
@@ -42,6 +41,11 @@ unless_rose P a b c le (inr r) = inr (rose_earlier a b c le r)
 looked_stays : {act : Act} {a b : Device} (f : Bool) → HasLooked act a b f → (IsSome a.world → IsSome b.world) ⊎ Rose a.faults b.faults
 looked_stays true h = inr (h.acted.cause.rose refl)
 looked_stays false h = inl (h.acted.stays refl)
+
+-- what is well has no fault of the sink
+ok_quiet : {T : Type 0} (r : Result T Fault) → is_ok r ≡ true → of_sink (fault_of r) ≡ false
+ok_quiet (Ok t) e = refl
+ok_quiet (Err f) e = absurd (true≢false (sym e))
 
 -- a fault of a step that looks, and puts nothing
 pub early : {act : Act} {a b : Device} (f : Fault) (p : Sunk) → HasLooked act a b (is_device f) → a.running ≡ [] → is_sink f ≡ false → EndsAs (Err f) a b p p
@@ -83,7 +87,7 @@ made_end act flow cores targets jobs states stored r a b p q none h = record {
     children = carried_children act flow cores targets jobs states stored r a b p q h none;
     stays = carried_stays act flow cores targets jobs states stored r a b p q h;
   };
-  quiet = λ e. carried_quiet act flow cores targets jobs states stored r a b p q h (output_as r ∙ e);
+  quiet = λ e. carried_quiet act flow cores targets jobs states stored r a b p q h (output_as r ∙ ok_quiet r e);
 }
 
 -- a listing's fault isn't the device's
@@ -101,5 +105,5 @@ put_end {act} {a} {b} {p} {q} P r faults looked none told = record {
     children = inl (looked.acted.running ∙ none);
     stays = inl (looked.acted.stays refl);
   };
-  quiet = λ e. told.quiet (output_as r ∙ e);
+  quiet = λ e. told.quiet (output_as r ∙ ok_quiet r e);
 }

@@ -1,6 +1,7 @@
 pub mod SameKinds
 pub mod PreviewKinds
 pub mod Ended
+pub mod Driving
 pub mod Went
 pub mod Making
 pub mod ListingKinds

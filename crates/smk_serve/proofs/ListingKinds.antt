@@ -1,5 +1,5 @@
 -- Faults of putting a listing.
-use Rattle.std.proofs.Common.{◌≡◌, ◌⊎◌, subst, Result, Ok, Err}
+use Rattle.std.proofs.Common.{◌≡◌, ◌⊎◌, subst, Result, Err}
 use Rattle.std.specs.Prelude.{IfErr}
 use Rattle.smk_report.specs.declared.fault.Fault.{Fault}
 use Rattle.smk_report.specs.declared.fault.Fault.TheVariants as fault

@@ -1,8 +1,7 @@
 -- Kinds of faults, by their statuses.
-use Rattle.std.proofs.Common.{◌≡◌, ◌==◌, not, refl, sym, Result, Ok, Err}
+use Rattle.std.proofs.Common.{◌≡◌, refl, Result, Ok, Err}
 use Rattle.smk_report.specs.declared.fault.Fault.{Fault}
 use Rattle.smk_report.specs.declared.fault.Fault.TheVariants as fault
-use Rattle.smk_report.specs.Faults.{fault_status}
 use Rattle.smk_run.specs.Runs as run
 use Rattle.smk_cli_entry.specs.Faults.{is_device, is_sink}
 use Rattle.smk_serve.specs.Ends.{fault_of, of_device, of_sink}

@@ -1,14 +1,15 @@
 -- What was done, by what its parts did.
-use Rattle.std.proofs.Common.{◌≡◌, ℕ, Bool, true, false, inl, inr, refl, Result, Ok, Err, true≢false}
+use Rattle.std.proofs.Common.{◌≡◌, Bool, true, false, inl, inr, refl, Result, Err, true≢false}
 use Rattle.smk_world.specs.Devices.{Device, Sunk, HasLooked}
 use Rattle.smk_world.specs.Trees.{Act}
-use Rattle.smk_world.proofs.Devices.{looked_then}
+use Rattle.smk_world.proofs.Devices.{looked_nothing, looked_then}
 use Rattle.smk_report.specs.declared.fault.Fault.{Fault}
 use Rattle.smk_report.specs.declared.fault.Fault.TheVariants as fault
+use Rattle.smk_words_reading.specs.declared.asked.RunWords.{RunWords}
 use Rattle.smk_cli_entry.specs.declared.asking.Asked.{Asked}
 use Rattle.smk_cli_entry.specs.Faults.{is_told, is_device, is_sink}
 use Rattle.smk_plan_preview.specs.declared.previewing.Previewed.{Previewed}
-use Rattle.smk_serve.specs.Serving.{IsWant, HasOnlyLooked, HasWorked, Went, Refused, Stopped, Worked, HasListed, NotListed, Listed}
+use Rattle.smk_serve.specs.Serving.{IsWant, HasOnlyLooked, HasWorked, Went, Refused, Stopped, Worked, Drove, HasListed, NotListed, Listed}
 use Rattle.smk_serve.specs.Serving as listing
 
 -- ## Kinds of faults
@@ -29,13 +30,21 @@ only_looked p h = record { looked = h; unput = refl }
 -- ## All of it
 
 -- a fault of what only looks: a refusal, or want
-pub refused_or_stopped : (act : Act) (cores : ℕ) (Refuses : Fault → Type 0) (Plans : Asked → Previewed → Type 0) (f : Fault) (old new : Device) (p q : Sunk)
-    → is_sink f ≡ false → (is_told f ≡ true → Refuses f) → HasOnlyLooked act old new (is_device f) p q → Went act cores (Err f) Refuses Plans old new p q
-refused_or_stopped act cores Refuses Plans f old new p q unsunk why looked = by_kind (is_told f) refl
+pub refused_or_stopped :
+    (act : Act) (words : RunWords) (Refuses : Fault → Type 0) (Asks : Asked → Type 0) (Plans : Asked → Previewed → Type 0) (f : Fault)
+    (old new : Device) (p q : Sunk) →
+    is_sink f ≡ false → (is_told f ≡ true → Refuses f) → HasOnlyLooked act old new (is_device f) p q → Went act words (Err f) Refuses Asks Plans old new p q
+refused_or_stopped act words Refuses Asks Plans f old new p q unsunk why looked = by_kind (is_told f) refl
   where
-    by_kind : (b : Bool) → is_told f ≡ b → Went act cores (Err f) Refuses Plans old new p q
+    by_kind : (b : Bool) → is_told f ≡ b → Went act words (Err f) Refuses Asks Plans old new p q
     by_kind true e = Refused f refl (why e) looked
     by_kind false e = Stopped f refl (wanting f e unsunk) looked
+
+-- there was no memory for the settings
+pub no_settings :
+    (act : Act) (words : RunWords) (Refuses : Fault → Type 0) (Asks : Asked → Type 0) (Plans : Asked → Previewed → Type 0) (d : Device) (p : Sunk) →
+    Went act words (Err fault.OutOfMemory) Refuses Asks Plans d d p p
+no_settings act words Refuses Asks Plans d p = Stopped fault.OutOfMemory refl (inr refl) (only_looked p (looked_nothing act d))
 
 pub refused_or_stopped_listing : (Refuses : Fault → Type 0) (Plans : Asked → Previewed → Type 0) (f : Fault) (p : Sunk) → is_sink f ≡ false → (is_told f ≡ true → Refuses f) → HasListed Refuses Plans p p (Err f)
 refused_or_stopped_listing Refuses Plans f p unsunk why = by_kind (is_told f) refl
@@ -49,13 +58,27 @@ only_later : (act : Act) (a b c : Device) (f : Bool) (p q : Sunk) → HasLooked 
 only_later act a b c f p q first second = record { looked = looked_then first second.looked; unput = second.unput }
 
 -- a run after looks
-pub went_later : (act : Act) (cores : ℕ) (result : Result (Unit {0}) Fault) (Refuses Narrow : Fault → Type 0) (Plans Fewer : Asked → Previewed → Type 0) (old mid new : Device) (p q : Sunk)
-    → HasLooked act old mid false → ((f : Fault) → Narrow f → Refuses f) → ((asked : Asked) (told : Previewed) → Fewer asked told → Plans asked told)
-    → Went act cores result Narrow Fewer mid new p q → Went act cores result Refuses Plans old new p q
-went_later act cores result Refuses Narrow Plans Fewer old mid new p q first why what (Refused f is refused looked) = Refused f is (why f refused) (only_later act old mid new (is_device f) p q first looked)
-went_later act cores result Refuses Narrow Plans Fewer old mid new p q first why what (Stopped f is want looked) = Stopped f is want (only_later act old mid new (is_device f) p q first looked)
-went_later act cores result Refuses Narrow Plans Fewer old mid new p q first why what (Worked asked told plans worked) =
-    Worked asked told (what asked told plans) (record { looked = worked.looked; looking = looked_then first worked.looking; carried = worked.carried })
+pub went_later :
+    (act : Act) (words : RunWords) (result : Result (Unit {0}) Fault) (Refuses Narrow : Fault → Type 0) (Asks Few : Asked → Type 0)
+    (Plans Fewer : Asked → Previewed → Type 0) (old mid new : Device) (p q : Sunk) →
+    HasLooked act old mid false → ((f : Fault) → Narrow f → Refuses f) → ((asked : Asked) → Few asked → Asks asked) →
+    ((asked : Asked) (told : Previewed) → Fewer asked told → Plans asked told) →
+    Went act words result Narrow Few Fewer mid new p q → Went act words result Refuses Asks Plans old new p q
+went_later act words result Refuses Narrow Asks Few Plans Fewer old mid new p q first why asks what (Refused f is refused looked) =
+    Refused f is (why f refused) (only_later act old mid new (is_device f) p q first looked)
+went_later act words result Refuses Narrow Asks Few Plans Fewer old mid new p q first why asks what (Stopped f is want looked) =
+    Stopped f is want (only_later act old mid new (is_device f) p q first looked)
+went_later act words result Refuses Narrow Asks Few Plans Fewer old mid new p q first why asks what (Worked asked told one plans worked) =
+    Worked asked told one (what asked told plans) (record { looked = worked.looked; looking = looked_then first worked.looking; carried = worked.carried })
+went_later act words result Refuses Narrow Asks Few Plans Fewer old mid new p q first why asks what (Drove asked apart is drove) =
+    Drove asked apart (asks asked is)
+    (record {
+      looked = drove.looked;
+      looking = looked_then first drove.looking;
+      driven = drove.driven;
+      answers = drove.answers;
+      drove = drove.drove;
+    })
 
 -- a listing by what is wider
 pub listed_wider : (result : Result (Unit {0}) Fault) (Refuses Narrow : Fault → Type 0) (Plans Fewer : Asked → Previewed → Type 0) (p q : Sunk) → ((f : Fault) → Narrow f → Refuses f) → ((asked : Asked) (told : Previewed) → Fewer asked told → Plans asked told)

@@ -1,5 +1,5 @@
 -- How a call ends: what is left of the world and the children, and of the counts.
-use Rattle.std.specs.Prelude.{◌≡◌, ◌⊎◌, Bool, false, [], Option, Some, None, Result, Ok, Err, IsSome}
+use Rattle.std.specs.Prelude.{◌≡◌, ◌⊎◌, Bool, true, false, [], Option, Some, None, Result, Ok, Err, IsSome, is_ok}
 use Rattle.smk_world.specs.Calls.{HasCause, Rose}
 use Rattle.smk_world.specs.Devices.{Device, Sunk}
 use Rattle.smk_report.specs.declared.fault.Fault.{Fault}
@@ -28,7 +28,7 @@ pub record EndsWith (fault : Option Fault) (old new : Device) (out_old out_new :
   pub children : (new.running ≡ []) ⊎ Rose old.faults new.faults
   pub stays : (IsSome old.world → IsSome new.world) ⊎ Rose old.faults new.faults
 
--- So ended what answers this; and unless its fault is of the sink, no put failed.
+-- So ended what answers this; and unless it has a fault, no put failed.
 pub record EndsAs (result : Result (Unit {0}) Fault) (old new : Device) (out_old out_new : Sunk) : Type 0 where
   pub ends : EndsWith (fault_of result) old new out_old out_new
-  pub quiet : of_sink (fault_of result) ≡ false → out_new.faults ≡ out_old.faults
+  pub quiet : is_ok result ≡ true → out_new.faults ≡ out_old.faults

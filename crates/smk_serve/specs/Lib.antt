@@ -1,3 +1,4 @@
 pub mod Ends
+pub mod OneByOne
 pub mod Serving
 pub mod Listing

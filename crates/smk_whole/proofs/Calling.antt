@@ -1,6 +1,6 @@
 -- What a call tells where each target has a clean value.
 use native.Mathlib.Omega.{arith}
-use Rattle.std.proofs.Common.{◌≡◌, ◌⊎◌, ◌≤◌, inl, inr, ℕ, Bool, true, false, List, ap, refl, sym, subst, ◌∙◌, Option, Some, None, Ok, Err, Result, option_map, is_none}
+use Rattle.std.proofs.Common.{◌≡◌, ◌⊎◌, ◌≤◌, inl, inr, ℕ, Bool, true, false, List, ap, refl, sym, subst, ◌∙◌, Option, Some, None, Ok, Err, Result, option_map, is_none, true≢false}
 use Rattle.std.specs.Prelude.{IsSome, is_err}
 use Rattle.smk_base.specs.Place.{lock_place}
 use Rattle.smk_world.specs.declared.event.Failed.{Failed}
@@ -24,13 +24,14 @@ use Rattle.smk_report.specs.declared.fault.Fault.TheVariants as fault
 use Rattle.smk_cli_entry.specs.declared.asking.Asked.{Asked}
 use Rattle.smk_cli_entry.specs.Entry.{IsAskedIn}
 use Rattle.smk_cli_entry.specs.Forms.{not_built, unbuilt}
+use Rattle.smk_serve.specs.OneByOne.{is_one_by_one}
 use Rattle.smk_serve.specs.Serving.{HasListed, Went}
-use Rattle.smk_serve.specs.Serving.Went.{Refused, Stopped, Worked}
+use Rattle.smk_serve.specs.Serving.Went.{Drove, Refused, Stopped, Worked}
 use Rattle.smk_serve.specs.Serving.HasListed.{Listed, NotListed}
 use Rattle.smk_serve.specs.Ends.{fault_of}
 use Rattle.smk_cli.specs.Lines.{IsOutcome}
 use Rattle.smk_cli.specs.Locking.{HasHeeded, HasRunLocked, IsClosed, LockGoes, LockStays, Stood, Taken, Unmade, Untaken, with_release}
-use Rattle.smk_cli.specs.Whole.{HasRun, Heeded, IsRefusal, IsToServe, OfPlan, OfWorkflow, Unasked, Unheeded}
+use Rattle.smk_cli.specs.Whole.{AsksFor, HasRun, Heeded, IsRefusal, IsToServe, OfPlan, OfWorkflow, Unasked, Unheeded}
 use Rattle.smk_succeed.specs.Completing.{NoMemory as OfMemory}
 use Rattle.smk_laws_complete.specs.Derived.{AllHaveValues, GathersAlone}
 use Rattle.smk_laws_lock.specs.Heeding.{IsSameButLock}
@@ -97,14 +98,16 @@ module _ (act : Act) (read : List ℕ → Option Record) (words : RunWords) (w :
 
   -- a run by what was asked of the folder, in that one or in one that is the same but for the lock
   went_tells :
-      (u v : World) (old new : Device) (p q : Sunk) (answer : Result (Unit {0}) Fault) → old.world ≡ Some u → new.world ≡ Some v → SoundWorld outside u H →
+      (u v : World) (old new : Device) (p q : Sunk) (answer : Result (Unit {0}) Fault) → is_one_by_one words ≡ true → old.world ≡ Some u → new.world ≡ Some v → SoundWorld outside u H →
       IsSameButLock (seen read w) (seen read u) →
-      (Rose old.faults new.faults → ⊥) → Went act words.cores answer (IsRefusal read true words w u) (IsToServe read true words w u) old new p q → May
+      (Rose old.faults new.faults → ⊥) → Went act words answer (IsRefusal read true words w u) (AsksFor words w) (IsToServe read true words w u) old new p q → May
       (fault_of answer)
-  went_tells u v old new p q answer at end sound same never (Refused f e refused kept) =
+  went_tells u v old new p q answer by_turns at end sound same never (Refused f e refused kept) =
       subst (λ r. May (fault_of r)) (sym e) (refused_tells act read true words w H f clean (refused_before read true words w u f same refused))
-  went_tells u v old new p q answer at end sound same never (Stopped f e want kept) = subst (λ r. May (fault_of r)) (sym e) (BrokenOff f (want_stops f want))
-  went_tells u v old new p q answer at end sound same never (Worked asked told planned worked) =
+  went_tells u v old new p q answer by_turns at end sound same never (Drove asked apart asks drove) =
+      absurd (true≢false (sym by_turns ∙ apart))
+  went_tells u v old new p q answer by_turns at end sound same never (Stopped f e want kept) = subst (λ r. May (fault_of r)) (sym e) (BrokenOff f (want_stops f want))
+  went_tells u v old new p q answer by_turns at end sound same never (Worked asked told one planned worked) =
       let is = planned.is_asked in
       ended read true words w answer
       (work_is_complete act read asked told words u v H answer old new p q at end
@@ -116,13 +119,13 @@ module _ (act : Act) (read : List ℕ → Option Record) (words : RunWords) (w :
       }) planned.plan
       (λ plan last. built_plans_are_plain asked.flow _ _ _ _ plan (asked_built words w.nodes asked is) last) never worked)
 
-  module _ (v : World) (old new : Device) (p q : Sunk) (answer : Result (Unit {0}) Fault) (at : old.world ≡ Some w) (end : new.world ≡ Some v)
+  module _ (v : World) (old new : Device) (p q : Sunk) (answer : Result (Unit {0}) Fault) (by_turns : is_one_by_one words ≡ true) (at : old.world ≡ Some w) (end : new.world ≡ Some v)
       (never : Rose old.faults new.faults → ⊥) where
     -- the run under the lock
     closed_tells :
         (u : World) (locked : Device) → locked.world ≡ Some u → SoundWorld outside u H → IsSameButLock (seen read w)
         (seen read u) → old.faults ≤ locked.faults →
-        (ran : HasRunLocked act words.cores answer (IsRefusal read true words w u) (IsToServe read true words w u) locked new p q) → May (fault_of answer)
+        (ran : HasRunLocked act words answer (IsRefusal read true words w u) (AsksFor words w) (IsToServe read true words w u) locked new p q) → May (fault_of answer)
     closed_tells u locked at_u sound same le ran = go ran.closed
       where
         go : IsClosed act ran.ran answer locked ran.left new → May (fault_of answer)
@@ -133,13 +136,13 @@ module _ (act : Act) (read : List ℕ → Option Record) (words : RunWords) (w :
             by : (r : Result (Unit {0}) Failed) → HasActed act (HasReleased r) ran.left new (is_err r) → answer ≡ with_release r ran.ran → May (fault_of answer)
             by (Ok t) goes is =
                 let d = goes.did v end in
-                subst (λ r. May (fault_of r)) (sym is) (went_tells u d.0 locked ran.left p q ran.ran at_u d.1 sound same still ran.went)
+                subst (λ r. May (fault_of r)) (sym is) (went_tells u d.0 locked ran.left p q ran.ran by_turns at_u d.1 sound same still ran.went)
             by (Err e) goes is =
-                let later = faults_later act words.cores ran.ran (IsRefusal read true words w u) (IsToServe read true words w u) locked ran.left p q ran.went in
+                let later = faults_later act words ran.ran (IsRefusal read true words w u) (AsksFor words w) (IsToServe read true words w u) locked ran.left p q ran.went in
                 absurd (never (rose_earlier old.faults ran.left.faults new.faults (omega (arith, le, later)) (goes.cause.rose refl)))
 
     ran_tells : HasRun act read words w answer old new p q → May (fault_of answer)
-    ran_tells (Unheeded free went) = went_tells w v old new p q answer at end clean.sound refl never went
+    ran_tells (Unheeded free went) = went_tells w v old new p q answer by_turns at end clean.sound refl never went
     ran_tells (Unasked f heeds e (inl want) looked) = subst (λ r. May (fault_of r)) (sym e) (BrokenOff f (want_stops f want))
     ran_tells (Unasked f heeds e (inr fails) looked) = absurd (clean.unrefused f fails)
     ran_tells (Heeded x looked heeds after at_x looking heeded) = go heeded
@@ -149,7 +152,7 @@ module _ (act : Act) (read : List ℕ → Option Record) (words : RunWords) (w :
             ap (λ (y : World). reading (y.nodes lock_place)) after.is
             ∙ ap (λ (n : Path → NodeState). reading (n lock_place)) (looks_nodes false w after.looks after.only_looks)
 
-        go : HasHeeded act words.cores answer (IsRefusal read true words w) (IsToServe read true words w) x looked new p q → May (fault_of answer)
+        go : HasHeeded act words answer (IsRefusal read true words w) (AsksFor words w) (IsToServe read true words w) x looked new p q → May (fault_of answer)
         go (Unmade is unchanged unput) = subst (λ r. May (fault_of r)) (sym is) (BrokenOff fault.OutOfMemory OfMemory)
         go (Stood is stands tried unput) = subst (λ r. May (fault_of r)) (sym is) (LockedOut refl heeds (subst IsSome nodes stands))
         go (Untaken e is tried unput) = absurd (never (rose_earlier old.faults looked.faults new.faults looking.acted.cause.later (tried.cause.rose refl)))
@@ -159,9 +162,9 @@ module _ (act : Act) (read : List ℕ → Option Record) (words : RunWords) (w :
             (locked_same act read w x u clean.sound.formed after once) (omega (arith, looking.acted.cause.later, taken.cause.later)) ran
 
 pub call_is_complete : CallIsComplete
-call_is_complete act read words w v H told old new out_old out_new at end clean never served =
+call_is_complete act read words w v H told old new out_old out_new at end clean by_turns never served =
     told_of read true words w served.answer told
-    (ran_tells act read words w H clean v old new out_old out_new served.answer at end never served.serves) served.told_is
+    (ran_tells act read words w H clean v old new out_old out_new served.answer by_turns at end never served.serves) served.told_is
 
 pub listing_is_complete : ListingIsComplete
 listing_is_complete act read words w H told old new out_old out_new clean served =

@@ -17,6 +17,7 @@ use Rattle.smk_words_reading.specs.declared.asked.Asked.TheVariants.{Run, Previe
 use Rattle.smk_cli_entry.specs.declared.asking.Asked.{Asked}
 use Rattle.smk_cli_entry.specs.Entry.{FailsToAsk, IsAskedIn}
 use Rattle.smk_plan_preview.specs.Previewing.{rules_for}
+use Rattle.smk_serve.specs.OneByOne.{is_one_by_one}
 use Rattle.smk_serve.specs.Serving.{settings_of}
 use Rattle.smk_cli.specs.Whole.{HasServed}
 use Rattle.smk_laws_complete.specs.Derived.{AllHaveValues}
@@ -44,7 +45,7 @@ pub data MayTell (read : List ℕ → Option Record) (run : Bool) (words : RunWo
   -- the lock stands, and a run heeds it
   LockedOut : run ≡ true → words.nolock ≡ false → IsSome (reading (w.nodes lock_place)) → MayTell read run words w (Some fault.Locked)
 
--- A call for a run tells nothing else, where the world is told at its end and no count of faults of the device rose.
+-- A call for a run that makes its jobs one after another tells nothing else, where the world is told at its end and no count of faults of the device rose.
 abbrev pub CallIsComplete : Type 0
 CallIsComplete =
     (act : Act) (read : List ℕ → Option Record) (words : RunWords) (w v : World) (H : Versions) (told : Option Fault)
@@ -52,6 +53,7 @@ CallIsComplete =
     old.world ≡ Some w →
     new.world ≡ Some v →
     IsCleanCall act read true words w H →
+    is_one_by_one words ≡ true →
     (Rose old.faults new.faults → ⊥) →
     HasServed act read (Run words) w told old new out_old out_new → MayTell read true words w told
 

@@ -1,5 +1,5 @@
 -- How a call ends where each target has a clean value.
-use Rattle.std.specs.Prelude.{◌≡◌, ◌⊎◌, ℕ, List, [], Option, Some, Result, Ok, Err, is_none}
+use Rattle.std.specs.Prelude.{◌≡◌, ◌⊎◌, ℕ, true, List, [], Option, Some, Result, Ok, Err, is_none}
 use Rattle.smk_world.specs.World.{World}
 use Rattle.smk_world.specs.Calls.{Rose}
 use Rattle.smk_world.specs.Devices.{Device, Sunk}
@@ -16,7 +16,8 @@ use Rattle.smk_report.specs.declared.fault.Fault.{Fault}
 use Rattle.smk_cli_entry.specs.declared.asking.Asked.{Asked}
 use Rattle.smk_plan_preview.specs.declared.previewing.Previewed.{Previewed}
 use Rattle.smk_plan_preview.specs.Previewing.{rules_for}
-use Rattle.smk_serve.specs.Serving.{HasListed, HasWorked, IsPlanFor, IsRefusedPlan, IsServed, Went, settings_of}
+use Rattle.smk_serve.specs.OneByOne.{is_one_by_one}
+use Rattle.smk_serve.specs.Serving.{HasListed, HasWorked, IsPlanFor, IsRefusedPlan, IsServed, IsThat, Went, settings_of}
 use Rattle.smk_laws_complete.specs.Derived.{AllHaveValues, GathersAlone}
 use Rattle.smk_laws_complete.specs.Planned.{MayStop}
 use Rattle.smk_succeed.specs.Completing.{MayBreakOff}
@@ -65,7 +66,7 @@ abbrev pub IsCompleteAnswer : (List ℕ → Option Record) → Asked → RunWord
 IsCompleteAnswer read asked words w (Ok u) = Unit {0}
 IsCompleteAnswer read asked words w (Err f) = MayStop (rules_for read asked.flow (settings_of asked words)) (seen read w) nothing_done f ⊎ MayBreakOff f
 
--- So a run for what is asked ends.
+-- So a run for what is asked ends that is made one job after another.
 abbrev pub ServedRunsAreComplete : Type 0
 ServedRunsAreComplete =
     (act : Act) (read : List ℕ → Option Record) (asked : Asked) (words : RunWords) (w v : World) (H : Versions) (result : Result (Unit {0}) Fault)
@@ -74,8 +75,10 @@ ServedRunsAreComplete =
     new.world ≡ Some v →
     IsCleanAsked act read asked w H →
     ((plan : Plan) → LastPlan asked.flow (seen read w) (settings_of asked words) nothing_done [] plan → IsPlainPlan plan) →
+    is_one_by_one words ≡ true →
     (Rose old.faults new.faults → ⊥) →
-    Went act words.cores result (IsRefusedPlan read asked words w) (IsServed read asked words w) old new out_old out_new → IsCompleteAnswer read asked words w result
+    Went act words result (IsRefusedPlan read asked words w) (IsThat asked) (IsServed read asked words w) old new out_old out_new →
+    IsCompleteAnswer read asked words w result
 
 -- And so does a listing.
 abbrev pub ServedListingsAreComplete : Type 0

@@ -20,9 +20,9 @@ pub fn built_is_plain()
     ensures flows { BuiltFlowsGatherAlone }
 {}
 
-/// The law of completeness: from a sound folder, for words that ask for something of files that read, where no form is refused and each target has a
-/// clean value, and no count of faults rises, a call tells that all is well, or one of few faults: want of memory, no serial, a record that is too long, or
-/// a refusal of the plan for how the folder stands or for what clashes.
+/// The law of completeness: from a sound folder, for words that ask for something of files that read, that is made one job after another or listed, where no
+/// form is refused and each target has a clean value, and no count of faults rises, a call tells that all is well, or one of few faults: want of memory, no
+/// serial, a record that is too long, or a refusal of the plan for how the folder stands or for what clashes.
 pub fn calls_are_complete()
     ensures call { CallIsComplete }
     ensures listing { ListingIsComplete }

@@ -1,0 +1,3 @@
+pub mod TargetLines
+pub mod Steps
+pub mod Ends

@@ -1,0 +1,64 @@
+use Rattle.std.proofs.Common.{inr, true, false, sym, subst, ◌∙◌, arith}
+use Rattle.smk_drive_hub.specs.Keeping.{parts_of}
+use Rattle.smk_laws_gone.specs.Standing.{taken}
+use Rattle.smk_laws_gone.specs.Whole.{IsThrough}
+use Rattle.smk_laws_gone.proofs.Going.{goes_further, goes_nowhere}
+use Rattle.smk_laws_gone.proofs.Standing.{ready_on}
+use Rattle.smk_laws_gone.proofs.Stepping.{for_less, held_is_through, unwaited_is_through}
+use Rattle.smk_drive_loop.proofs.Steps.{goes_and_waits, held_gone, less_taken, one_less}
+use Rattle.smk_drive_loop.proofs.looping.drain.Goals as goal
+
+pub children-init : goal.children-init
+children-init g c =
+    record {
+      gone = goes_nowhere g.W.Files.act c.args.ground.flow.now c.args.ground.settings.now (parts_of c.args.hub.now) (g.W.Files.device c.args.work.now) (g.O.Sink.sunk c.args.out.now) c.requires.ready.live;
+      within = c.requires.within;
+    }
+
+pub drain_one-requires-clause-ready : goal.drain_one-requires-clause-ready
+drain_one-requires-clause-ready g c =
+    ready_on g.W.Files.act c.args.ground.flow.now c.args.ground.settings.now (parts_of c.args.hub.now) (parts_of c.children.hub) false (g.W.Files.device c.args.work.now) (g.W.Files.device c.children.work) (g.O.Sink.sunk c.args.out.now) (g.O.Sink.sunk c.children.out) c.requires.ready
+    c.children.invariant.gone
+
+pub drain_one-requires-clause-some : goal.drain_one-requires-clause-some
+drain_one-requires-clause-some g c = sym c.is_idle.ensures ∙ c.children-test.true
+
+pub children-preserved : goal.children-preserved
+children-preserved g c =
+    record {
+      gone =
+          goes_and_waits g.W.Files.act c.args.ground.flow.now c.args.ground.settings.now (parts_of c.args.hub.now) (parts_of c.children.hub) (parts_of c.drain_one.new.hub) c.drain_one.result true _ _ _ _ _ _
+          c.children.invariant.gone c.drain_one.ensures.gone c.if-not-drain_one.false;
+      within =
+          for_less 9223372036854775808 (parts_of c.children.hub) (parts_of c.drain_one.new.hub) c.children.invariant.within c.drain_one.ensures.counts
+          (less_taken c.children.hub.children.places.items c.drain_one.new.hub.children.places.items c.drain_one.result c.if-not-drain_one.false
+          c.drain_one.ensures.less);
+    }
+
+pub children-smaller : goal.children-smaller
+children-smaller g c =
+    one_less (taken c.children.hub.children.places.items) (taken c.drain_one.new.hub.children.places.items)
+    (less_taken c.children.hub.children.places.items c.drain_one.new.hub.children.places.items c.drain_one.result c.if-not-drain_one.false
+    c.drain_one.ensures.less)
+
+pub returns-then-not-drain_one-clause-gone : goal.returns-then-not-drain_one-clause-gone
+returns-then-not-drain_one-clause-gone g c =
+    goes_and_waits g.W.Files.act c.args.ground.flow.now c.args.ground.settings.now (parts_of c.args.hub.now) (parts_of c.children.hub) (parts_of c.drain_one.new.hub) c.drain_one.result false _ _ _ _ _ _ c.children.invariant.gone
+    c.drain_one.ensures.gone c.if-not-drain_one.true
+
+pub returns-then-not-drain_one-clause-through : goal.returns-then-not-drain_one-clause-through
+returns-then-not-drain_one-clause-through g c =
+    unwaited_is_through g.W.Files.act c.args.ground.flow.now c.args.ground.settings.now (parts_of c.args.hub.now) (parts_of c.drain_one.new.hub) (g.W.Files.device c.args.work.now) (g.W.Files.device c.drain_one.new.work) (g.O.Sink.sunk c.args.out.now) (g.O.Sink.sunk c.drain_one.new.out) c.requires.ready
+    (goes_and_waits g.W.Files.act c.args.ground.flow.now c.args.ground.settings.now (parts_of c.args.hub.now) (parts_of c.children.hub) (parts_of c.drain_one.new.hub) c.drain_one.result false _ _ _ _ _ _ c.children.invariant.gone
+    c.drain_one.ensures.gone c.if-not-drain_one.true)
+
+pub returns-clause-gone : goal.returns-clause-gone
+returns-clause-gone g c =
+    goes_further g.W.Files.act c.args.ground.flow.now c.args.ground.settings.now (parts_of c.args.hub.now) (parts_of c.children.hub) (parts_of c.set.new.self) false false _ _ _ _ _ _ c.children.invariant.gone
+    (held_gone g.W.Files.act c.args.ground.flow.now c.args.ground.settings.now (parts_of c.children.hub) (parts_of c.set.new.self) _ _ (inr c.set.ensures) c.children.invariant.gone.alive)
+
+pub returns-clause-through : goal.returns-clause-through
+returns-clause-through g c =
+    subst (λ x. IsThrough c.args.ground.flow.now c.args.ground.settings.now x false (g.W.Files.device c.children.work)) (sym c.set.ensures)
+    (held_is_through c.args.ground.flow.now c.args.ground.settings.now (parts_of c.children.hub) (g.W.Files.device c.children.work)
+    (sym c.is_idle.ensures ∙ c.children-test.false))
