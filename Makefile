@@ -1,6 +1,6 @@
 # make            proves and builds the program, crates/smk/out/smk: long where nothing is proved yet, seconds where all is
 # make demo       shows examples/mapping running: by the proved program where it is built, else by the sources without proof
-# make install    copies the program to $(PREFIX)/bin
+# make install    copies the program to $(PREFIX)/bin, its manual page and completions for bash and zsh below $(PREFIX)/share
 # make test       everything that decides what lands
 # make edits      the must-fail edits that the gate leaves out: all, or those of NAMES="NAME .."
 
@@ -19,6 +19,9 @@ demo:
 install: program
 	install -d $(DESTDIR)$(PREFIX)/bin
 	install -m 755 crates/smk/out/smk $(DESTDIR)$(PREFIX)/bin/smk
+	install -D -m 644 man/smk.1 $(DESTDIR)$(PREFIX)/share/man/man1/smk.1
+	install -D -m 644 completion/smk.bash $(DESTDIR)$(PREFIX)/share/bash-completion/completions/smk
+	install -D -m 644 completion/_smk $(DESTDIR)$(PREFIX)/share/zsh/site-functions/_smk
 
 test:
 	bash .ci/run

@@ -17,25 +17,25 @@ inputs. Without a target the rule with `default_target: True` is made, else the 
 itself.
 
 Options:
-  -c, --cores N             tell a command of at most N threads, 1 to 4096; jobs run one after another
+  -c, --cores N             run jobs side by side on at most N cores, 1 to 4096
   -n, --dry-run             list the jobs of a run; with -c N those of a run with N cores, else with one
   -s, --snakefile FILE      read the workflow from FILE, and not from the first that is there of Snakefile,
                             snakefile, workflow/Snakefile and workflow/snakefile
   -C, --config KEY=VALUE    set KEY of the configuration to this text; the last VALUE of a KEY counts
-      --resources NAME=N    refuse a job that asks for more than N of the resource NAME
+      --resources NAME=N    use at most N of the resource NAME at a time; a job that asks for more is refused
       --rerun-incomplete    run jobs again that were left unfinished; else a plan with such jobs is refused
       --nolock              neither heed nor take the lock: of a run and of --cleanup-metadata
-  -k, --keep-going          go on after a failed job: with -n alone, where it changes nothing
-  -f, --force               run the jobs that make the targets again: with -n alone
-  -F, --forceall            run all jobs again: with -n alone
+  -k, --keep-going          go on after a failed job with those that need nothing of it
+  -f, --force               run the jobs that make the targets again
+  -F, --forceall            run all jobs again
   --                        all words that follow are targets
 
 A value is the next word, or it stands behind `=`, as in --cores=4, or at once behind the letter, as in -c4. Letters
 can be joined, as in -nF. --config and --resources can be repeated, --resources with another NAME; all others stand
 once.
 
-Not built yet, and refused: -k, -f and -F without -n; --generate SEED:SIZE; a run of a workflow with checkpoints,
-directory, temp or protected outputs, which -n lists.
+Not built yet, and refused: --generate SEED:SIZE; a run of a workflow with checkpoints or directory outputs, which -n
+lists.
 
 Status:
   0  all is made, or listed

@@ -1,12 +1,11 @@
 -- A run that ends without a fault leaves clean values.
-use Rattle.std.proofs.Common.{not, ◌≡◌, inl, inr, ℕ, suc, Bool, true, false, List, [], ◌∷◌, ◌++◌, flat_map, map, zip, length, arith, refl, ap, sym, subst, ◌∙◌, Option, Some, None, Result, Ok, Err, is_none, if◌then◌else◌, true≢false}
+use Rattle.std.proofs.Common.{◌≡◌, inl, inr, ℕ, suc, Bool, true, false, List, [], ◌∷◌, ◌++◌, flat_map, map, zip, length, arith, refl, ap, sym, subst, ◌∙◌, Option, Some, None, Result, Ok, Err, is_none, if◌then◌else◌, true≢false}
 use Rattle.std.proofs.lemmas.List.{append-nil, length-map}
 use Rattle.std.proofs.lemmas.Option.{none-some}
 use Rattle.smk_chain_walk.proofs.Depths.{front_nil, back_nil}
 use Rattle.smk_world.specs.World.{World, IsFormed, run}
 use Rattle.smk_world.specs.Devices.{Device, Sunk, HasActed, HasLooked}
 use Rattle.smk_world.specs.Trees.{Path, Each, IsIn}
-use Rattle.smk_world.proofs.Names.{formed_run}
 use Rattle.smk_flow.specs.declared.job.Job.{Job}
 use Rattle.smk_flow.specs.declared.job.Gather.{Gather}
 use Rattle.smk_flow.specs.Flows.{Flow, rule_name}
@@ -16,11 +15,9 @@ use Rattle.smk_store.specs.declared.fault.StoreFault.{StoreFault}
 use Rattle.smk_store.specs.Images.{Image, seen}
 use Rattle.smk_store.specs.Serials.{greatest_serial, next_serial}
 use Rattle.smk_store.specs.Soundness.{Outside, SoundWorld, SameSources}
-use Rattle.smk_store.specs.Faults.{store_failed}
 use Rattle.smk_store.specs.Steadying.{HasTried, steady_requests}
 use Rattle.smk_store.specs.Trust.{Versions, SumsDiffer}
-use Rattle.smk_pick.specs.declared.settings.Force.{Force}
-use Rattle.smk_pick.specs.declared.settings.Force.TheVariants.{No, Targets, All}
+use Rattle.smk_pick.specs.declared.settings.Force.TheVariants.{No}
 use Rattle.smk_pick.specs.declared.settings.Settings.{Settings}
 use Rattle.smk_trigger.specs.declared.reason.State.{State}
 use Rattle.smk_trigger.specs.declared.reason.State.TheVariants.{Clean as CleanState}
@@ -29,7 +26,6 @@ use Rattle.smk_plan.specs.States.{Plan, IsPlan, LastPlan, Last, gathers_from, is
 use Rattle.smk_laws_protocol.proofs.Basics.{each_in}
 use Rattle.smk_chain.specs.Mean.{Setting, setting_of}
 use Rattle.smk_laws_plan.specs.Current.{IsClean}
-use Rattle.smk_laws_plan.proofs.CurrentLists.{and_right}
 use Rattle.smk_laws_history.proofs.CurrentComplete.{seen_is_complete}
 use Rattle.smk_laws_plan.proofs.CurrentMeaning.{contains_from, in_from}
 use Rattle.smk_laws_history.proofs.CurrentLaw.{current_means_clean_in_worlds}
@@ -48,7 +44,6 @@ use Rattle.smk_run.specs.Reports.{failure, named}
 use Rattle.smk_run.specs.Runs.{IsOutcome as IsRunOutcome, course_failure, first_failure, or_later}
 use Rattle.smk_run.specs.Turns.{Course, Unbegun, Unstarted, Unclosed, Closed, Turn, is_closed, is_done}
 use Rattle.smk_words_reading.specs.declared.asked.RunWords.{RunWords}
-use Rattle.smk_words_reading.specs.declared.asked.Asked.TheVariants.{Run as Asks}
 use Rattle.smk_cli_entry.specs.declared.asking.Asked.{Asked}
 use Rattle.smk_cli_entry.specs.Entry.{IsAskedIn}
 use Rattle.smk_cli_entry.specs.Forms.{unbuilt}
@@ -57,27 +52,23 @@ use Rattle.smk_report.specs.Faults.{of_store}
 use Rattle.smk_make.specs.Making.{AreWhatIsMeant, Concludes, GoesOn, NotFirm, NoMemory, Made}
 use Rattle.smk_plan_preview.specs.declared.previewing.Previewed.{Previewed}
 use Rattle.smk_plan_preview.specs.Previewing.{plan_of, rules_for}
-use Rattle.smk_serve.specs.Serving.{Went, Refused, Stopped, Worked, settings_of}
-use Rattle.smk_cli.specs.Words.{forces_none, is_built}
-use Rattle.smk_cli.specs.Locking.{HasHeeded, Stood, Taken, Unmade, Untaken}
-use Rattle.smk_cli.specs.Whole.{HasRun, HasServed, Heeded, IsRefusal, IsToServe, Unasked, Unheeded}
+use Rattle.smk_cli_calls.specs.Serving.{settings_of}
+use Rattle.smk_cli_calls.specs.Whole.{IsToServe}
 use Rattle.smk_laws_lock.specs.Heeding.{IsSameButLock}
-use Rattle.smk_laws_lock.proofs.Heeding.{last_plans_heed_no_lock, lock_changes_itself_alone, on_both, same_back}
+use Rattle.smk_laws_lock.proofs.Heeding.{last_plans_heed_no_lock, on_both, same_back}
 use Rattle.smk_safe.specs.Planned.{IsPlain, IsFit}
 use Rattle.smk_safe.specs.Safe.{IsSafeRun}
 use Rattle.smk_safe.proofs.Images.{sources_now}
 use Rattle.smk_safe.proofs.Planned.{all_shut}
 use Rattle.smk_safe.proofs.Stored.{is_top}
 use Rattle.smk_exit.specs.Exit.{RunLeavesAllClean, IsAllClean, IsDueRun, all_clean, begun_so}
-use Rattle.smk_clean.specs.Clean.{CallIsClean, setting_in}
-use Rattle.smk_clean.specs.Again.{HasNoneLeft, CallLeavesNone}
+use Rattle.smk_clean.specs.Clean.{setting_in}
 use Rattle.smk_clean.proofs.Chained.{lists_stay, none_new}
-use Rattle.smk_clean.proofs.Locked.{IsUnderLock, under_lock}
 use Rattle.smk_clean.proofs.Firsts.{firsts_same}
 use Rattle.smk_clean.proofs.Fit.{all_fit}
 use Rattle.smk_clean.proofs.Meant.{all_plain, asked_built, duties_meant, is_plan, makers_told}
-use Rattle.smk_serve.proofs.Plain.{each_from}
-use Rattle.smk_clean.proofs.Safe.{Answer, IsTurnRun, no_fault, ok_err, started, turns_run, turns_safe}
+use Rattle.smk_cli_calls.proofs.Plain.{each_from}
+use Rattle.smk_clean.proofs.Safe.{Answer, IsTurnRun, ok_err, started, turns_run, turns_safe}
 
 -- ## Turns without a failure
 
@@ -104,7 +95,7 @@ all_good flow (t ∷ ts) closed e =
     let both = both_none (course_failure flow t.job t.course) (first_failure flow ts) e in
     (done_by flow t.job t.course closed.0 both.0, all_good flow ts closed.1 both.1)
 
-no_first : (o : Option Fault) (u : Unit {0}) → ◌≡◌ {A = Answer} (Ok u) (verdict_of o) → o ≡ None
+pub no_first : (o : Option Fault) (u : Unit {0}) → ◌≡◌ {A = Answer} (Ok u) (verdict_of o) → o ≡ None
 no_first None u e = refl
 no_first (Some f) u e = absurd (ok_err u f e)
 
@@ -153,18 +144,14 @@ fields_there rules image plan same shut each none j i =
         some_fault : {f : Fault} {rest : List Fault} → f ∷ rest ≡ [] → ⊥
         some_fault e = cc
 
--- ## What is built
-
-no_force : (force : Force) → forces_none force ≡ true → force ≡ No
-no_force No e = refl
-no_force Targets e = absurd (true≢false (sym e))
-no_force All e = absurd (true≢false (sym e))
-
--- a run that is built forces no job
-pub none_forced : (words : RunWords) → is_built (Asks words) ≡ true → words.force ≡ No
-none_forced words built = no_force words.force (and_right (not words.keep_going) (forces_none words.force) built)
-
 -- ## The exit
+
+-- what is left to do for what is asked: nothing
+pub record LeavesNothing (o : Outside) (words : RunWords) (asked : Asked) (v : World) : Type 0 where
+  pub plan : Plan
+  pub last : (begun : List Path) → LastPlan asked.flow (seen o.read v) (settings_of asked words) (begun_so begun) [] plan
+  pub clean : plan.states ≡ map (λ (j : Job). CleanState) plan.jobs
+  pub current : (begun : List Path) → Each (λ p. is_current (seen o.read v) (settings_of asked words) (begun_so begun) plan p ≡ true) asked.targets
 
 -- What is so after status 0, of the words as they ask in the folder of the entry, by the folder by which the plan was made.
 pub record HasEndedWell (o : Outside) (words : RunWords) (entry w v : World) : Type 0 where
@@ -172,14 +159,24 @@ pub record HasEndedWell (o : Outside) (words : RunWords) (entry w v : World) : T
   pub is_asked : IsAskedIn true words entry.nodes (Ok asked)
   pub targets : Each (IsClean (setting_in o w asked.flow) (seen o.read v)) asked.targets
   pub sources : SameSources (seen o.read w) (seen o.read v)
-  pub plan : Plan
-  pub last : (begun : List Path) → LastPlan asked.flow (seen o.read v) (settings_of asked words) (begun_so begun) [] plan
-  pub clean : plan.states ≡ map (λ (j : Job). CleanState) plan.jobs
-  pub current : (begun : List Path) → Each (λ p. is_current (seen o.read v) (settings_of asked words) (begun_so begun) plan p ≡ true) asked.targets
+  pub left : words.force ≡ No → LeavesNothing o words asked v
   pub formed : IsFormed v
 
 -- the same by folders that are the same but for the lock
-moved_end :
+moved_left :
+    (o : Outside) (words : RunWords) (asked : Asked) (v x : World) → IsSameButLock (seen o.read v) (seen o.read x) → LeavesNothing o words asked v →
+    LeavesNothing o words asked x
+moved_left o words asked v x after h = record {
+  plan = h.plan;
+  last = λ begun. last_plans_heed_no_lock asked.flow (settings_of asked words) (begun_so begun) [] h.plan (seen o.read v) (seen o.read x) after (h.last begun);
+  clean = h.clean;
+  current = λ begun.
+      on_both (λ (i : Image). Each (λ p. is_current i (settings_of asked words) (begun_so begun) h.plan p ≡ true) asked.targets) (λ i l k. k)
+      (seen o.read v) (seen o.read x) after
+      (h.current begun);
+}
+
+pub moved_end :
     (o : Outside) (words : RunWords) (entry w u v x : World) → IsSameButLock (seen o.read w) (seen o.read u) → IsSameButLock (seen o.read v)
     (seen o.read x) → IsFormed x →
     HasEndedWell o words entry u v → HasEndedWell o words entry w x
@@ -190,14 +187,7 @@ moved_end o words entry w u v x before after formed h = record {
       (on_both (λ (i : Image). Each (IsClean (set (seen o.read u)) i) h.asked.targets) (λ i l k. k) (seen o.read v) (seen o.read x) after h.targets);
   sources = on_both (λ (i : Image). SameSources i (seen o.read x)) (λ i l k. k) (seen o.read u) (seen o.read w) back
       (on_both (λ (i : Image). SameSources (seen o.read u) i) (λ i l k. k) (seen o.read v) (seen o.read x) after h.sources);
-  plan = h.plan;
-  last = λ begun. last_plans_heed_no_lock h.asked.flow (settings_of h.asked words) (begun_so begun) [] h.plan (seen o.read v) (seen o.read x) after
-      (h.last begun);
-  clean = h.clean;
-  current = λ begun.
-      on_both (λ (i : Image). Each (λ p. is_current i (settings_of h.asked words) (begun_so begun) h.plan p ≡ true) h.asked.targets) (λ i l k. k)
-      (seen o.read v) (seen o.read x) after
-      (h.current begun);
+  left = λ free. moved_left o words h.asked v x after (h.left free);
   formed = formed;
 }
   where
@@ -293,10 +283,12 @@ module _ (o : Outside) (H : Versions) (w : World) (differ : SumsDiffer H) (sound
                 last refl (λ j there shut. fields j (in_from plan.jobs j there)) p (contains_from asked.targets p i) (each_in (λ q. is_current (seen o.read end) settings nothing_done (all_clean plan) q ≡ true) asked.targets p (clean.current []) i) in
                 (c.0, c.1, same_values asked.flow o.act (λ j. is_none (missing j)) (seen o.read w) (seen o.read end) (seen_is_complete o.read w sound.formed) (seen_is_complete o.read end sound_end.formed) sources_stay p ∙ c.2));
             sources = sources_stay;
-            plan = all_clean plan;
-            last = λ begun. subst (λ L. LastPlan asked.flow (seen o.read end) settings (begun_so begun) L (all_clean plan)) same (clean.last begun);
-            clean = refl;
-            current = clean.current;
+            left = λ unforced. record {
+              plan = all_clean plan;
+              last = λ begun. subst (λ L. LastPlan asked.flow (seen o.read end) settings (begun_so begun) L (all_clean plan)) same (clean.last begun);
+              clean = refl;
+              current = clean.current;
+            };
             formed = sound_end.formed;
           }
         where
@@ -304,7 +296,7 @@ module _ (o : Outside) (H : Versions) (w : World) (differ : SumsDiffer H) (sound
           none_gathered j i = ap (map (λ (g : Gather). g.folder)) (each_in IsPlain plan.jobs j plainly i).gathers_none
 
   module _ (exit : RunLeavesAllClean) (free : words.force ≡ No) where
-    goes_clean :
+    pub goes_clean :
         (u : Unit {0}) (v : World) (old looked firm new : Device) (p q : Sunk) (r : Result (Unit {0}) StoreFault) (bad : Bool) → old.world ≡ Some w → new.world ≡ Some v →
         HasLooked o.act old looked false → HasActed o.act (HasTried (steady_requests told.store) r) looked firm bad →
         (g : GoesOn o.act asked.flow words.cores asked.targets told.jobs told.plan.states told.store (Ok u) firm new p q r) → HasEndedWell o words entry w v
@@ -317,70 +309,3 @@ module _ (o : Outside) (H : Versions) (w : World) (differ : SumsDiffer H) (sound
         let fit = all_fit made.turns made.fits in
         let all = all_turns u asked.flow (due (next_serial told.store) duties told.jobs.jobs) made.turns made.failed made.ended made.answer made.concluded in
         subst (HasEndedWell o words entry w) (sym run_is.is) (ended v duties made.turns meant fit run_is exit free all)
-
-module _ (exit : RunLeavesAllClean) (o : Outside) (H : Versions) (w : World) (differ : SumsDiffer H) (sound : SoundWorld o w H) (reads : ReadsRecords o.read)
-    (words : RunWords) (free : words.force ≡ No) where
-  went_clean :
-      (u : Unit {0}) (entry : World) (answer : Answer) (v : World) (old new : Device) (p q : Sunk) → old.world ≡ Some w → new.world ≡ Some v → answer ≡ Ok u →
-      (h : Went o.act words.cores answer (IsRefusal o.read true words entry w) (IsToServe o.read true words entry w) old new p q) →
-      HasEndedWell o words entry w v
-  went_clean u entry (Err g) v old new p q at ends e h = absurd (ok_err u g (sym e))
-  went_clean u entry (Ok t) v old new p q at ends e (Refused f is why looked) = absurd (ok_err t f is)
-  went_clean u entry (Ok t) v old new p q at ends e (Stopped f is want looked) = absurd (ok_err t f is)
-  went_clean u entry (Ok t) v old new p q at ends e (Worked asked told plans worked) =
-      goes_clean o H w differ sound reads words entry asked told plans exit free t v old worked.looked worked.carried.firm new p q worked.carried.settled
-      (store_failed worked.carried.settled) at ends
-      worked.looking worked.carried.settling worked.carried.goes_on
-
-module _ (exit : RunLeavesAllClean) (o : Outside) (H : Versions) (w : World) (differ : SumsDiffer H) (sound : SoundWorld o w H) (reads : ReadsRecords o.read)
-    (words : RunWords) (free : words.force ≡ No) where
-  -- under the lock
-  locked_clean : (u : Unit {0}) (answer : Answer) (x : World) (new : Device) (p q : Sunk) → answer ≡ Ok u →
-      IsUnderLock o H w differ sound words answer new p q x → HasEndedWell o words w w x
-  locked_clean u answer x new p q e k =
-      let ended = went_clean exit o H k.start differ k.sound_then reads words free tt w k.ran k.last k.locked k.left p q k.at_start k.at_last
-      (k.well u e) k.went in
-      let formed : IsFormed x = subst IsFormed (sym k.end_is) (formed_run k.last k.release ended.formed) in
-      moved_end o words w w k.start k.last x k.same_start (lock_changes_itself_alone o.read k.last x ended.formed formed k.only) formed ended
-
-  ran_clean :
-      (u : Unit {0}) (answer : Answer) (x : World) (old new : Device) (p q : Sunk) → old.world ≡ Some w → new.world ≡ Some x → answer ≡ Ok u →
-      HasRun o.act o.read words w answer old new p q →
-      HasEndedWell o words w w x
-  ran_clean u answer x old new p q at ends e
-      (Unheeded heeds_none went) = went_clean exit o H w differ sound reads words free u w answer x old new p q at ends e went
-  ran_clean u answer x old new p q at ends e (Unasked f heeds is why looked) = absurd (ok_err u f (sym e ∙ is))
-  ran_clean u answer x old new p q at ends e (Heeded v looked heeds after at_v looking heeded) = go heeded
-    where
-      go : HasHeeded o.act words.cores answer (IsRefusal o.read true words w) (IsToServe o.read true words w) v looked new p q → HasEndedWell o words w w x
-      go (Unmade is same unput) = absurd (ok_err u fault.OutOfMemory (sym e ∙ is))
-      go (Stood is stands tried unput) = absurd (ok_err u fault.Locked (sym e ∙ is))
-      go (Untaken y is tried unput) = absurd (ok_err u fault.Device (sym e ∙ is))
-      go (Taken start locked once at_start taken ran) =
-          locked_clean u answer x new p q e
-          (under_lock o H w differ sound words answer old looked locked new p q v start x at ends after looking at_v once at_start taken ran)
-
-module _ (exit : RunLeavesAllClean) where
-  -- by what a run leaves
-  pub ended_well :
-      (o : Outside) (H : Versions) (words : RunWords) (told : Option Fault) (w v : World) (old new : Device) (p q : Sunk) → old.world ≡ Some w → new.world ≡ Some v →
-      ReadsRecords o.read → SumsDiffer H → SoundWorld o w H → HasServed o.act o.read (Asks words) w told old new p q → told ≡ None → HasEndedWell o words w w v
-  ended_well o H words told w v old new p q at ends reads differ sound served none =
-      let a = no_fault served.answer told served.told_is none in
-      ran_clean exit o H w differ sound reads words (none_forced words served.built) a.0 served.answer v old new p q at ends a.1 served.serves
-
-  pub none_left : (o : Outside) (words : RunWords) (w v : World) → HasEndedWell o words w w v → HasNoneLeft o words w v
-  none_left o words w v h = record { asked = h.asked; is_asked = h.is_asked; plan = h.plan; last = h.last; clean = h.clean; current = h.current }
-
-  pub call_is_clean : CallIsClean
-  call_is_clean o H words told w v old new p q at ends reads differ sound served none =
-      let h = ended_well o H words told w v old new p q at ends reads differ sound served none in record {
-        asked = h.asked;
-        is_asked = h.is_asked;
-        targets = h.targets;
-        sources = h.sources;
-      }
-
-  pub call_leaves_none : CallLeavesNone
-  call_leaves_none o H words told w v old new p q at ends reads differ sound served none = none_left o words w v
-      (ended_well o H words told w v old new p q at ends reads differ sound served none)

@@ -13,16 +13,20 @@ use Rattle.smk_world.specs.Devices.{Device, Sunk, HasActed, HasLooked}
 use Rattle.smk_world.specs.Trees.{Path, Act}
 use Rattle.smk_world.proofs.Devices.{looks_nodes}
 use Rattle.smk_record.specs.declared.record.Record.{Record}
+use Rattle.smk_record.specs.Reading.{record_in}
+use Rattle.smk_record.proofs.Exact.{reads_records}
 use Rattle.smk_keep_lock.specs.Locking.{HasReleased}
 use Rattle.smk_report.specs.declared.fault.Fault.{Fault}
 use Rattle.smk_run.proofs.Rising.{rose_earlier}
 use Rattle.smk_words_reading.specs.declared.asked.RunWords.{RunWords}
-use Rattle.smk_serve.specs.Serving.{Went, Refused, Stopped, Worked}
+use Rattle.smk_cli_calls.specs.Serving.{Went, Refused, Stopped, Worked, Drove, settings_of}
+use Rattle.smk_cli_calls.proofs.Driving.{rules_are}
 use Rattle.smk_make.proofs.Ends.{carried_cause}
 use Rattle.smk_cli_entry.specs.declared.asking.Asked.{Asked}
 use Rattle.smk_plan_preview.specs.declared.previewing.Previewed.{Previewed}
-use Rattle.smk_cli.specs.Locking.{HasRunLocked, IsClosed, LockGoes, LockStays, Stood, Taken, Unmade, Untaken}
-use Rattle.smk_cli.specs.Whole.{HasRun, Heeded, IsRefusal, IsToServe, Unasked, Unheeded}
+use Rattle.smk_plan_preview.specs.Previewing.{rules_for}
+use Rattle.smk_cli_calls.specs.Locking.{HasRunLocked, IsClosed, LockGoes, LockStays, Stood, Taken, Unmade, Untaken}
+use Rattle.smk_cli_calls.specs.Whole.{AsksFor, HasRun, Heeded, IsRefusal, IsToServe, Unasked, Unheeded}
 use Rattle.smk_clean.specs.Locking.{LockIsLeft}
 
 -- what stands at the lock
@@ -37,13 +41,20 @@ looked_lock {f = f} w v looked at end =
 
 -- the count of faults doesn't fall in a run
 pub faults_later :
-    (act : Act) (cores : ℕ) (r : Result (Unit {0}) Fault) (Refuses : Fault → Type 0) (Plans : Asked → Previewed → Type 0) (old new : Device) (p q : Sunk) →
-    Went act cores r Refuses Plans old new p q → old.faults ≤ new.faults
-faults_later act cores r Refuses Plans old new p q (Refused f e refused kept) = kept.looked.acted.cause.later
-faults_later act cores r Refuses Plans old new p q (Stopped f e want kept) = kept.looked.acted.cause.later
-faults_later act cores r Refuses Plans old new p q (Worked asked told planned worked) =
+    (act : Act) (words : RunWords) (r : Result (Unit {0}) Fault) (Refuses : Fault → Type 0) (Asks : Asked → Type 0) (Plans : Asked → Previewed → Type 0)
+    (old new : Device) (p q : Sunk) → Went act words r Refuses Asks Plans old new p q → old.faults ≤ new.faults
+faults_later act words r Refuses Asks Plans old new p q (Refused f e refused kept) = kept.looked.acted.cause.later
+faults_later act words r Refuses Asks Plans old new p q (Stopped f e want kept) = kept.looked.acted.cause.later
+faults_later act words r Refuses Asks Plans old new p q (Worked asked told one planned worked) =
     let first = worked.looking.acted.cause.later in
-    let second = (carried_cause act asked.flow cores asked.targets told.jobs told.plan.states told.store r worked.looked new p q worked.carried).later in
+    let second =
+    (carried_cause act asked.flow words.cores asked.targets told.jobs told.plan.states told.store r worked.looked new p q worked.carried).later in
+    omega (arith, first, second)
+faults_later act words r Refuses Asks Plans old new p q (Drove asked apart is drove) =
+    let settings = settings_of asked words in
+    let run = drove.drove (rules_for record_in asked.flow settings) (rules_are record_in reads_records asked.flow settings) in
+    let first = drove.looking.acted.cause.later in
+    let second = run.ran.cause.later in
     omega (arith, first, second)
 
 module _ (act : Act) (read : List ℕ → Option Record) (words : RunWords) (w v : World) (answer : Result (Unit {0}) Fault) (old new : Device) (p q : Sunk)
@@ -51,13 +62,13 @@ module _ (act : Act) (read : List ℕ → Option Record) (words : RunWords) (w v
     (heeds : words.nolock ≡ false) (never : ¬ (Rose old.faults new.faults)) where
   -- after a run under the lock there is none
   gone :
-      (u : World) (locked : Device) → old.faults ≤ locked.faults → (ran : HasRunLocked act words.cores answer (IsRefusal read true words w u)
+      (u : World) (locked : Device) → old.faults ≤ locked.faults → (ran : HasRunLocked act words answer (IsRefusal read true words w u) (AsksFor words w)
       (IsToServe read true words w u) locked new p q) →
       at_lock v ≡ None
   gone u locked le ran = go ran.closed
     where
       later : locked.faults ≤ ran.left.faults
-      later = faults_later act words.cores ran.ran (IsRefusal read true words w u) (IsToServe read true words w u) locked ran.left p q ran.went
+      later = faults_later act words ran.ran (IsRefusal read true words w u) (AsksFor words w) (IsToServe read true words w u) locked ran.left p q ran.went
 
       by : (r : Result (Unit {0}) Failed) → HasActed act (HasReleased r) ran.left new (is_err r) → at_lock v ≡ None
       by (Ok t) goes = let d = goes.did v end in ap at_lock d.2.3 ∙ d.2.2.gone refl

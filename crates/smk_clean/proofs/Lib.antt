@@ -4,11 +4,17 @@ pub mod Firsts
 pub mod Meant
 pub mod Fit
 pub mod Safe
+pub mod Driving
 pub mod Locked
+pub mod AtLock
+pub mod Undriven
 pub mod Serving
 pub mod Leaving
 pub mod Asking
 pub mod Chained
 pub mod Standing
 pub mod Clean
+pub mod Ending
+pub mod Ended
+pub mod Unstarted
 pub mod Again

@@ -21,7 +21,7 @@ use Rattle.smk_keep_lock.specs.Changing.{ChangesOnly}
 use Rattle.smk_keep_lock.specs.Locking.{HasTaken, HasReleased}
 use Rattle.smk_keep_lock.proofs.Staying.{stays_itself}
 use Rattle.smk_laws_protocol.specs.Midway.{at_entry}
-use Rattle.smk_plan_preview.proofs.Looked.{looks_leave, seen_moved}
+use Rattle.smk_plan_preview.proofs.LookedAt.{looks_leave, seen_moved}
 use Rattle.smk_words_reading.specs.declared.asked.RunWords.{RunWords}
 use Rattle.smk_report.specs.declared.fault.Fault.{Fault}
 use Rattle.smk_report.specs.declared.fault.Fault.TheVariants as fault
@@ -29,9 +29,9 @@ use Rattle.smk_plan.specs.States.{nothing_done}
 use Rattle.smk_plan_preview.specs.declared.previewing.Previewed.{Previewed}
 use Rattle.smk_plan_preview.specs.Previewing.{rules_for}
 use Rattle.smk_cli_entry.specs.declared.asking.Asked.{Asked}
-use Rattle.smk_serve.specs.Serving.{Went, settings_of}
-use Rattle.smk_cli.specs.Locking.{HasRunLocked, IsAfterLooks, IsClosed, IsOnceLocked, LockGoes, LockStays, with_release}
-use Rattle.smk_cli.specs.Whole.{IsRefusal, IsToServe, OfPlan, OfWorkflow}
+use Rattle.smk_cli_calls.specs.Serving.{Went, settings_of}
+use Rattle.smk_cli_calls.specs.Locking.{HasRunLocked, IsAfterLooks, IsClosed, IsOnceLocked, LockGoes, LockStays, with_release}
+use Rattle.smk_cli_calls.specs.Whole.{AsksFor, IsRefusal, IsToServe, OfPlan, OfWorkflow}
 use Rattle.smk_safe.proofs.Joining.{AreLooks, look_all}
 use Rattle.smk_laws_lock.specs.Heeding.{IsSameButLock}
 use Rattle.smk_laws_lock.specs.Parts.{IsRun, OnLock, One}
@@ -49,7 +49,7 @@ pub record AreCalls (es : List Event) : Type 0 where
   pub on_lock : Each OnLock requests
   pub carried : Carries requests ok es
 
-taking_calls : (r : Result Bool Failed) (w : World) (es : List Event) → HasLocked r w es → AreCalls es
+pub taking_calls : (r : Result Bool Failed) (w : World) (es : List Event) → HasLocked r w es → AreCalls es
 taking_calls (Ok true) w es h = record {
   requests = MakeParents lock_place ∷ Create lock_place ∷ Settle (lock_place ∷ []) ∷ [];
   ok = true;
@@ -64,7 +64,7 @@ taking_calls (Err x) w es h = record {
   carried = h;
 }
 
-releasing_calls : (r : Result (Unit {0}) Failed) (w : World) (es : List Event) → HasReleased r w es → AreCalls es
+pub releasing_calls : (r : Result (Unit {0}) Failed) (w : World) (es : List Event) → HasReleased r w es → AreCalls es
 releasing_calls (Ok u) w es h = record {
   requests = Remove lock_place ∷ Settle (lock_place ∷ []) ∷ [];
   ok = true;
@@ -141,7 +141,7 @@ module _ (o : Outside) (H : Versions) (w : World) (differ : SumsDiffer H) (sound
     pub at_start : locked.world ≡ Some start
     pub ran : Answer
     pub left : Device
-    pub went : Went o.act words.cores ran (IsRefusal o.read true words w start) (IsToServe o.read true words w start) locked left p q
+    pub went : Went o.act words ran (IsRefusal o.read true words w start) (AsksFor words w) (IsToServe o.read true words w start) locked left p q
     pub last : World
     pub at_last : left.world ≡ Some last
     pub release : List Event
@@ -186,7 +186,7 @@ module _ (o : Outside) (H : Versions) (w : World) (differ : SumsDiffer H) (sound
         ((parts_are_safe o w H front differ sound follows_front (One w front front_run)).at_end (subst (λ (x : World). x.children ≡ []) start_is alone))
 
     pub under_lock :
-        (ran : HasRunLocked o.act words.cores answer (IsRefusal o.read true words w start) (IsToServe o.read true words w start) locked new p q) →
+        (ran : HasRunLocked o.act words answer (IsRefusal o.read true words w start) (AsksFor words w) (IsToServe o.read true words w start) locked new p q) →
         IsUnderLock new p q end
     under_lock ran = go ran.closed
       where

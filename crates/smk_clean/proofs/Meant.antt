@@ -29,13 +29,13 @@ use Rattle.smk_cli_entry.specs.Entry.{IsAskedIn}
 use Rattle.smk_cli_entry.specs.Forms.{not_built, unbuilt}
 use Rattle.smk_plan_preview.specs.declared.previewing.Previewed.{Previewed}
 use Rattle.smk_plan_preview.specs.Previewing.{plan_of}
-use Rattle.smk_serve.specs.Serving.{IsPlanFor, settings_of}
+use Rattle.smk_cli_calls.specs.Serving.{IsPlanFor, settings_of}
 use Rattle.smk_safe.specs.Planned.{IsPlain}
 use Rattle.smk_safe.proofs.Images.{holder_own}
 use Rattle.smk_safe.proofs.Planned.{plain_makes}
 use Rattle.smk_exit.specs.Dues.{TellsMakers}
 use Rattle.smk_plan_preview.proofs.Agreed.{own_records}
-use Rattle.smk_serve.proofs.Plain.{each_from, neither}
+use Rattle.smk_cli_calls.proofs.Plain.{each_from, neither}
 use Rattle.smk_clean.proofs.Plain.{planned_plain}
 use Rattle.smk_clean.proofs.Told.{tells_makers}
 

@@ -16,7 +16,7 @@ use Rattle.smk_laws_plan.specs.Current.{IsComplete}
 use Rattle.smk_laws_plan.proofs.CurrentLists.{distinct_in, flat_in, map_in}
 use Rattle.smk_laws_plan.proofs.CurrentWalked.{walked_chosen}
 use Rattle.smk_laws_plan.proofs.PlanOne.{derived}
-use Rattle.smk_serve.proofs.Plain.{built_forms, built_part, each_from, no_gathers, numbered_in, plain_outs}
+use Rattle.smk_cli_calls.proofs.Plain.{built_forms, built_part, each_from, no_gathers, numbered_in, plain_outs}
 use Rattle.smk_safe.specs.Planned.{IsPlain}
 
 -- ## Chosen jobs

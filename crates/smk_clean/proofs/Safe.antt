@@ -24,7 +24,6 @@ use Rattle.smk_store.specs.declared.fault.StoreFault.TheVariants.{StampSeen, Dev
 use Rattle.smk_store.specs.Images.{Image, core_at, stands}
 use Rattle.smk_store.specs.Serials.{all_serials, greatest_serial, next_serial}
 use Rattle.smk_store.specs.Soundness.{Outside, SoundWorld}
-use Rattle.smk_store.specs.Faults.{store_failed}
 use Rattle.smk_store.specs.Steadying.{HasTried, all_signs, steady_requests}
 use Rattle.smk_store.specs.Stores.{Known}
 use Rattle.smk_store.specs.Trust.{Versions, SumsDiffer}
@@ -46,16 +45,15 @@ use Rattle.smk_run.specs.Turns.{Turn, AreTurns, is_closed}
 use Rattle.smk_made.proofs.Done.{follows_split}
 use Rattle.smk_words_reading.specs.declared.asked.RunWords.{RunWords}
 use Rattle.smk_cli_entry.specs.declared.asking.Asked.{Asked}
-use Rattle.smk_cli_entry.specs.Faults.{is_device}
 use Rattle.smk_cli_entry.specs.Forms.{unbuilt}
 use Rattle.smk_report.specs.Faults.{of_store}
 use Rattle.smk_make.specs.Making.{AreWhatIsMeant, Concludes, GoesOn, NotFirm, NoMemory, Made}
 use Rattle.smk_plan_preview.specs.declared.previewing.Previewed.{Previewed}
 use Rattle.smk_plan_preview.specs.Previewing.{plan_of}
-use Rattle.smk_serve.specs.Ends.{fault_of}
-use Rattle.smk_serve.specs.Serving.{Went, Refused, Stopped, Worked, settings_of}
-use Rattle.smk_cli.specs.Lines.{IsOutcome}
-use Rattle.smk_cli.specs.Whole.{IsRefusal, IsToServe}
+use Rattle.smk_cli_calls.specs.Ends.{fault_of}
+use Rattle.smk_cli_calls.specs.Serving.{settings_of}
+use Rattle.smk_cli_calls.specs.Lines.{IsOutcome}
+use Rattle.smk_cli_calls.specs.Whole.{IsToServe}
 use Rattle.smk_laws_lock.specs.Parts.{One}
 use Rattle.smk_safe.specs.Planned.{IsFit}
 use Rattle.smk_safe.specs.Safe.{IsRunOf, IsSafeRun}
@@ -264,7 +262,7 @@ module _ (o : Outside) (H : Versions) (w : World) (differ : SumsDiffer H) (sound
     all_closed u flow dues ts bad (Ok tally) outcome concluded = outcome.1.closed
     all_closed u flow dues ts bad (Err f) outcome concluded = absurd (ok_err u f concluded)
 
-    goes_safe :
+    pub goes_safe :
         (answer : Answer) (v : World) (old looked firm new : Device) (p q : Sunk) (r : Result (Unit {0}) StoreFault) (bad : Bool) → old.world ≡ Some w → new.world ≡ Some v →
         HasLooked o.act old looked false → HasActed o.act (HasTried (steady_requests told.store) r) looked firm bad →
         (g : GoesOn o.act asked.flow words.cores asked.targets told.jobs told.plan.states told.store answer firm new p q r) → Safely answer v
@@ -286,17 +284,6 @@ module _ (o : Outside) (H : Versions) (w : World) (differ : SumsDiffer H) (sound
           λ k e. subst (λ y. SoundWorld o y H) (sym r.is)
               (safe.at_end (all_closed k asked.flow (due (next_serial told.store) duties told.jobs.jobs) made.turns made.failed made.ended made.answer (subst (Concludes made.ended) e made.concluded))),
         )
-
-  pub went_safe :
-      (reads : ReadsRecords o.read) (words : RunWords) (entry : World) (answer : Answer) (v : World) (old new : Device)
-      (p q : Sunk) → old.world ≡ Some w → new.world ≡ Some v →
-      (h : Went o.act words.cores answer (IsRefusal o.read true words entry w) (IsToServe o.read true words entry w) old new p q) → Safely answer v
-  went_safe reads words entry answer v old new p q at end (Refused f is why looked) = looked_safe answer v old new (is_device f) at end looked.looked
-  went_safe reads words entry answer v old new p q at end (Stopped f is want looked) = looked_safe answer v old new (is_device f) at end looked.looked
-  went_safe reads words entry answer v old new p q at end (Worked asked told plans worked) =
-      goes_safe reads words entry asked told plans answer v old worked.looked worked.carried.firm new p q worked.carried.settled
-      (store_failed worked.carried.settled) at end
-      worked.looking worked.carried.settling worked.carried.goes_on
 
 -- the call has no fault only where the answer is none
 pub no_fault : (answer : Answer) (told : Option Fault) → IsOutcome (fault_of answer) told → told ≡ None → (u : Unit {0}) × (answer ≡ Ok u)

@@ -1,7 +1,6 @@
 -- A call is safe, whatever is asked.
-use Rattle.std.proofs.Common.{◌≡◌, inl, inr, Bool, true, false, List, [], ◌++◌, refl, ap, sym, subst, ◌∙◌, Some, Result, Ok, Err}
+use Rattle.std.proofs.Common.{◌≡◌, inl, inr, Bool, true, false, [], ◌++◌, refl, ap, sym, subst, ◌∙◌, Some, Result, Ok, Err}
 use Rattle.std.proofs.lemmas.Option.{same_Some}
-use Rattle.smk_world.specs.declared.event.Event.{Event}
 use Rattle.smk_world.specs.declared.event.Failed.{Failed}
 use Rattle.smk_world.specs.World.{World, IsFormed, run}
 use Rattle.smk_world.specs.Devices.{Device, Sunk, HasActed}
@@ -18,29 +17,18 @@ use Rattle.smk_words_reading.specs.declared.asked.Asked.{Asked as Asking}
 use Rattle.smk_words_reading.specs.declared.asked.Asked.TheVariants.{Run, Preview, Unlock, Forget, Generate}
 use Rattle.smk_words_reading.specs.declared.asked.RunWords.{RunWords}
 use Rattle.smk_cli_entry.specs.Faults.{device_failed, is_device}
-use Rattle.smk_cli.specs.Locking.{HasHeeded, IsAfterLooks, Stood, Taken, Unmade, Untaken}
-use Rattle.smk_cli.specs.Whole.{HasRun, Heeded, IsRefusal, IsToServe, Serves, Unasked, Unheeded}
+use Rattle.smk_cli_calls.specs.Locking.{HasHeeded, IsAfterLooks, Stood, Taken, Unmade, Untaken}
+use Rattle.smk_cli_calls.specs.Whole.{AsksFor, HasRun, Heeded, IsRefusal, IsToServe, Serves, Unasked, Unheeded}
 use Rattle.smk_laws_lock.specs.Parts.{AreRuns, IsRun, One, Then}
-use Rattle.smk_laws_lock.proofs.Parts.{parts_are_safe, runs_append}
+use Rattle.smk_laws_lock.proofs.Parts.{runs_append}
 use Rattle.smk_clean.specs.Safe.{CallIsSafe}
 use Rattle.smk_clean.proofs.Locked.{IsUnderLock, taking_run, under_lock}
-use Rattle.smk_clean.proofs.Safe.{Answer, Safely, looked_safe, no_fault, ok_err, went_safe}
+use Rattle.smk_clean.proofs.Safe.{Answer, Safely, looked_safe, no_fault, ok_err}
+use Rattle.smk_clean.proofs.Driving.{safe_parts, went_safe}
 
 module _ (o : Outside) (H : Versions) (w : World) (differ : SumsDiffer H) (sound : SoundWorld o w H) where
   abbrev SafelySo : Answer → World → Type 0
   SafelySo answer v = Safely o H w differ sound answer v
-
-  -- events that are runs of the protocol
-  safe_parts : (answer : Answer) (v : World) (es : List Event) → Follows o.act w es → v ≡ run w es → AreRuns o w es →
-      ((u : Unit {0}) → answer ≡ Ok u → v.children ≡ []) → SafelySo answer v
-  safe_parts answer v es follows is runs alone =
-      let k = parts_are_safe o w H es differ sound follows runs in (
-        es,
-        follows,
-        is,
-        record { follows_protocol = runs; throughout = k.throughout; at_end = k.at_end },
-        λ u e. subst (λ x. SoundWorld o x H) (sym is) (k.at_end (subst (λ (x : World). x.children ≡ []) is (alone u e))),
-      )
 
   -- ## The lock isn't taken
 
@@ -53,7 +41,7 @@ module _ (o : Outside) (H : Versions) (w : World) (differ : SumsDiffer H) (sound
       let d = tried.did x end in
       let here : d.0 ≡ run w after.looks = same_Some d.0 v (sym d.1 ∙ at_v) ∙ after.is in
       let es = after.looks ++ d.2.0 in
-      safe_parts answer x es (follows_append o.act w after.looks d.2.0 after.follows (subst (λ y. Follows o.act y d.2.0) here d.2.1))
+      safe_parts o H w differ sound answer x es (follows_append o.act w after.looks d.2.0 after.follows (subst (λ y. Follows o.act y d.2.0) here d.2.1))
       (d.2.3 ∙ ap (λ y. run y d.2.0) here ∙ sym (run_append w after.looks d.2.0))
       (One w es (taking_run o r w after.looks d.2.0 sound.formed after.only_looks (subst (λ y. HasTaken r y d.2.0) here d.2.2)))
       (λ u e. absurd (ok_err u f (sym e ∙ is)))
@@ -73,13 +61,13 @@ module _ (o : Outside) (H : Versions) (w : World) (differ : SumsDiffer H) (sound
       elim k.released [
         | inl none ↦
             let is : x ≡ k.last = k.end_is ∙ ap (run k.last) none in
-            safe_parts answer x es follows (is ∙ there) runs
+            safe_parts o H w differ sound answer x es follows (is ∙ there) runs
             (λ u e. subst (λ (y : World). y.children ≡ []) (sym is) (inner.4 tt (k.well u e)).no_child)
         | inr (alone, after, release) ↦
             let formed : IsFormed k.last = subst IsFormed (sym there) (formed_run w es sound.formed) in
             let last = release formed in
             let quiet : (run w es).children ≡ [] = subst (λ (y : World). y.children ≡ []) there alone in
-            safe_parts answer x (es ++ k.release) (follows_append o.act w es k.release follows (subst (λ y. Follows o.act y k.release) there k.follows_release))
+            safe_parts o H w differ sound answer x (es ++ k.release) (follows_append o.act w es k.release follows (subst (λ y. Follows o.act y k.release) there k.follows_release))
             (k.end_is ∙ ap (λ y. run y k.release) there ∙ sym (run_append w es k.release))
             (runs_append o w es k.release runs quiet (One (run w es) k.release (subst (λ y. IsRun o y k.release) there last)))
             (λ u e. after)
@@ -94,7 +82,7 @@ module _ (o : Outside) (H : Versions) (w : World) (differ : SumsDiffer H) (sound
       (is_device f) at end looked.looked
   ran_safe reads words answer x old new p q at end (Heeded v looked heeds after at_v looking heeded) = go heeded
     where
-      go : HasHeeded o.act words.cores answer (IsRefusal o.read true words w) (IsToServe o.read true words w) v looked new p q → SafelySo answer x
+      go : HasHeeded o.act words answer (IsRefusal o.read true words w) (AsksFor words w) (IsToServe o.read true words w) v looked new p q → SafelySo answer x
       go (Unmade is same unput) = looked_safe o H w differ sound answer x old looked false at (sym (ap (λ (d : Device). d.world) same) ∙ end) looking
       go (Stood is stands tried unput) = tried_safe fault.Locked (Ok false) answer v x looked new false is after at_v end tried
       go (Untaken e is tried unput) = tried_safe fault.Device (Err e) answer v x looked new true is after at_v end tried

@@ -9,7 +9,7 @@ use Rattle.smk_record.specs.declared.record.Record.{Record}
 use Rattle.smk_report.specs.declared.fault.Fault.{Fault}
 use Rattle.smk_words_reading.specs.declared.asked.RunWords.{RunWords}
 use Rattle.smk_words_reading.specs.declared.asked.Asked.TheVariants.{Run}
-use Rattle.smk_cli.specs.Whole.{HasServed}
+use Rattle.smk_cli_calls.specs.Whole.{HasServed}
 
 -- A run that heeds the lock leaves it as it was, whatever is asked and however it ends, unless the count of the device's faults rose.
 abbrev pub LockIsLeft : Type 0

@@ -16,7 +16,7 @@ use Rattle.smk_keep_forget.specs.Answers.{of_forget}
 use Rattle.smk_keep_forget.specs.Answers as forgetting
 use Rattle.smk_report.specs.declared.fault.Fault.{Fault}
 use Rattle.smk_plan_preview.specs.Faults.{as_call}
-use Rattle.smk_serve.specs.Ends.{EndsWith, fault_of, of_device, of_sink}
+use Rattle.smk_cli_calls.specs.Ends.{EndsWith, fault_of, of_device, of_sink}
 
 -- ## Kinds of faults
 

@@ -1,7 +1,7 @@
 -- What is done under the lock, by what its parts did.
 use native.Mathlib.Omega.{arith}
-use Rattle.std.proofs.Common.{◌≡◌, ◌⊎◌, ◌≤◌, ℕ, Bool, true, false, List, [], ◌∷◌, inl, inr, refl, sym, ap, subst, ◌∙◌, Some, Result, Ok, Err}
-use Rattle.std.specs.Prelude.{IsSome, is_err}
+use Rattle.std.proofs.Common.{◌≡◌, ◌⊎◌, ◌≤◌, Bool, true, false, List, [], ◌∷◌, inl, inr, refl, sym, ap, subst, ◌∙◌, Some, Result, Ok, Err, true≢false}
+use Rattle.std.specs.Prelude.{IsSome, is_err, is_ok}
 use Rattle.smk_base.specs.Place.{lock_place}
 use Rattle.smk_world.specs.declared.event.Child.{Child}
 use Rattle.smk_world.specs.declared.event.Event.{Event}
@@ -15,38 +15,45 @@ use Rattle.smk_keep_forget.proofs.Going.{acted_at}
 use Rattle.smk_report.specs.declared.fault.Fault.{Fault}
 use Rattle.smk_report.specs.declared.fault.Fault.TheVariants as fault
 use Rattle.smk_run.proofs.Rising.{rose_earlier}
+use Rattle.smk_words_reading.specs.declared.asked.RunWords.{RunWords}
 use Rattle.smk_cli_entry.specs.declared.asking.Asked.{Asked}
 use Rattle.smk_plan_preview.specs.declared.previewing.Previewed.{Previewed}
 use Rattle.smk_cli_entry.specs.Faults.{is_device, is_sink}
-use Rattle.smk_serve.proofs.Ended.{no_cause}
-use Rattle.smk_serve.specs.Ends.{EndsAs, fault_of, of_device, of_sink}
-use Rattle.smk_serve.specs.Serving.{Went, Refused, Stopped, Worked}
-use Rattle.smk_cli.specs.Locking.{HasHeeded, IsAfterLooks, IsOnceLocked, Stood, Taken, Unmade, Untaken, with_release}
+use Rattle.smk_cli_calls.proofs.Ended.{no_cause}
+use Rattle.smk_cli_calls.specs.Ends.{EndsAs, fault_of, of_device, of_sink}
+use Rattle.smk_cli_calls.specs.Serving.{Went, Refused, Stopped, Worked, Drove}
+use Rattle.smk_cli_calls.specs.Locking.{HasHeeded, IsAfterLooks, IsOnceLocked, Stood, Taken, Unmade, Untaken, with_release}
 
 -- ## By what is wider
 
-pub went_wider : (act : Act) (cores : ℕ) (result : Result (Unit {0}) Fault) (Refuses Narrow : Fault → Type 0) (Plans Fewer : Asked → Previewed → Type 0)
-    (old new : Device) (p q : Sunk)
-    → ((f : Fault) → Narrow f → Refuses f) → ((asked : Asked) (told : Previewed) → Fewer asked told → Plans asked told)
-    → Went act cores result Narrow Fewer old new p q → Went act cores result Refuses Plans old new p q
-went_wider act cores result Refuses Narrow Plans Fewer old new p q why what (Refused f is refused looked) = Refused f is (why f refused) looked
-went_wider act cores result Refuses Narrow Plans Fewer old new p q why what (Stopped f is want looked) = Stopped f is want looked
-went_wider act cores result Refuses Narrow Plans Fewer old new p q why what (Worked asked told plans worked) = Worked asked told (what asked told plans) worked
+pub went_wider :
+    (act : Act) (words : RunWords) (result : Result (Unit {0}) Fault) (Refuses Narrow : Fault → Type 0) (Asks Few : Asked → Type 0)
+    (Plans Fewer : Asked → Previewed → Type 0) (old new : Device) (p q : Sunk) →
+    ((f : Fault) → Narrow f → Refuses f) → ((asked : Asked) → Few asked → Asks asked) →
+    ((asked : Asked) (told : Previewed) → Fewer asked told → Plans asked told) →
+    Went act words result Narrow Few Fewer old new p q → Went act words result Refuses Asks Plans old new p q
+went_wider act words result Refuses Narrow Asks Few Plans Fewer old new p q why asks what (Refused f is refused looked) = Refused f is (why f refused) looked
+went_wider act words result Refuses Narrow Asks Few Plans Fewer old new p q why asks what (Stopped f is want looked) = Stopped f is want looked
+went_wider act words result Refuses Narrow Asks Few Plans Fewer old new p q why asks what (Worked asked told one plans worked) =
+    Worked asked told one (what asked told plans) worked
+went_wider act words result Refuses Narrow Asks Few Plans Fewer old new p q why asks what (Drove asked apart is drove) =
+    Drove asked apart (asks asked is) drove
 
 pub heeded_wider :
-    (act : Act) (cores : ℕ) (answer : Result (Unit {0}) Fault) (Refuses Narrow : World → Fault → Type 0) (Plans Fewer : World → Asked → Previewed → Type 0)
-    (w : World) (old new : Device) (p q : Sunk) →
-    ((v : World) (f : Fault) → Narrow v f → Refuses v f) → ((v : World) (asked : Asked) (told : Previewed) → Fewer v asked told → Plans v asked told) →
-    HasHeeded act cores answer Narrow Fewer w old new p q → HasHeeded act cores answer Refuses Plans w old new p q
-heeded_wider act cores answer Refuses Narrow Plans Fewer w old new p q why what (Unmade is same unput) = Unmade is same unput
-heeded_wider act cores answer Refuses Narrow Plans Fewer w old new p q why what (Stood is stands tried unput) = Stood is stands tried unput
-heeded_wider act cores answer Refuses Narrow Plans Fewer w old new p q why what (Untaken e is tried unput) = Untaken e is tried unput
-heeded_wider act cores answer Refuses Narrow Plans Fewer w old new p q why what (Taken v locked once at taken ran) =
+    (act : Act) (words : RunWords) (answer : Result (Unit {0}) Fault) (Refuses Narrow : World → Fault → Type 0) (Asks Few : Asked → Type 0)
+    (Plans Fewer : World → Asked → Previewed → Type 0) (w : World) (old new : Device) (p q : Sunk) →
+    ((v : World) (f : Fault) → Narrow v f → Refuses v f) → ((asked : Asked) → Few asked → Asks asked) →
+    ((v : World) (asked : Asked) (told : Previewed) → Fewer v asked told → Plans v asked told) →
+    HasHeeded act words answer Narrow Few Fewer w old new p q → HasHeeded act words answer Refuses Asks Plans w old new p q
+heeded_wider act words answer Refuses Narrow Asks Few Plans Fewer w old new p q why asks what (Unmade is same unput) = Unmade is same unput
+heeded_wider act words answer Refuses Narrow Asks Few Plans Fewer w old new p q why asks what (Stood is stands tried unput) = Stood is stands tried unput
+heeded_wider act words answer Refuses Narrow Asks Few Plans Fewer w old new p q why asks what (Untaken e is tried unput) = Untaken e is tried unput
+heeded_wider act words answer Refuses Narrow Asks Few Plans Fewer w old new p q why asks what (Taken v locked once at taken ran) =
     Taken v locked once at taken
     (record {
       ran = ran.ran;
       left = ran.left;
-      went = went_wider act cores ran.ran (Refuses v) (Narrow v) (Plans v) (Fewer v) locked ran.left p q (why v) (what v) ran.went;
+      went = went_wider act words ran.ran (Refuses v) (Narrow v) Asks Few (Plans v) (Fewer v) locked ran.left p q (why v) asks (what v) ran.went;
       closed = ran.closed;
     })
 
@@ -178,7 +185,7 @@ module _ (act : Act) (ran : Result (Unit {0}) Fault) (locked left new : Device) 
             children = inl idle;
             stays = inl (λ some. h.stays refl (stays_told some));
           };
-          quiet = λ e. ended.quiet (ap (λ y. of_sink (fault_of y)) (sym is) ∙ e);
+          quiet = λ e. ended.quiet (ap is_ok (sym is) ∙ e);
         }
         by (Err e) (Ok u) is h = record {
           ends = record {
@@ -187,7 +194,7 @@ module _ (act : Act) (ran : Result (Unit {0}) Fault) (locked left new : Device) 
             children = inl idle;
             stays = inr (rose_so (h.cause.rose refl));
           };
-          quiet = λ k. ended.quiet (ap (λ y. of_sink (fault_of y)) (sym is));
+          quiet = λ k. absurd (true≢false (sym k));
         }
         by (Err e) (Err f) is h = record {
           ends = record {
@@ -196,5 +203,5 @@ module _ (act : Act) (ran : Result (Unit {0}) Fault) (locked left new : Device) 
             children = inl idle;
             stays = inr (rose_so (h.cause.rose refl));
           };
-          quiet = λ k. ended.quiet (ap (λ y. of_sink (fault_of y)) (sym is) ∙ k);
+          quiet = λ k. absurd (true≢false (sym k));
         }

@@ -3,9 +3,9 @@ use Rattle.std.proofs.Common.{◌≡◌, ◌⊎◌, false, inl, inr, refl, sym, 
 use Rattle.smk_world.specs.Devices.{Device, Sunk}
 use Rattle.smk_report.specs.declared.fault.Fault.{Fault}
 use Rattle.smk_report.specs.declared.fault.Fault.TheVariants as fault
-use Rattle.smk_serve.specs.Ends.{EndsWith, fault_of}
-use Rattle.smk_serve.proofs.Ended.{no_cause}
-use Rattle.smk_cli.specs.Lines.{IsOutcome}
+use Rattle.smk_cli_calls.specs.Ends.{EndsWith, fault_of}
+use Rattle.smk_cli_calls.proofs.Ended.{no_cause}
+use Rattle.smk_cli_calls.specs.Lines.{IsOutcome}
 
 -- an end with this fault is one with that of the outcome
 pub ends_as : (answer told : Option Fault) (a b : Device) (p q : Sunk) → IsOutcome answer told → EndsWith answer a b p q → EndsWith told a b p q

@@ -10,7 +10,7 @@ use Rattle.smk_report.specs.declared.fault.Fault.TheVariants as fault
 use Rattle.smk_report.specs.Faults.{fault_text}
 use Rattle.smk_run.specs.Reports.{IsReport}
 use Rattle.smk_run.proofs.Texts.{reported_put, reported_as, reported_nothing}
-use Rattle.smk_cli.specs.Lines.{IsFaultLine, HasToldFault}
+use Rattle.smk_cli_calls.specs.Lines.{IsFaultLine, HasToldFault}
 
 line_as : (f : Fault) (line : Text) (r : Result (Unit {0}) Failed) (text : Text) → line ≡ fault_text f → IsReport (is_ok r) line text → IsFaultLine (Some f) (is_err r) text
 line_as f line (Ok u) text is whole = (([], sym (whole ∙ is) ∙ sym (append-nil text)), inl (whole ∙ is))

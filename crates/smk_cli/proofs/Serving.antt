@@ -17,14 +17,14 @@ use Rattle.smk_cli_entry.specs.Entry.{IsAskedIn, FailsToAsk}
 use Rattle.smk_cli_entry.specs.Faults.{is_device, is_sink, is_told}
 use Rattle.smk_plan_preview.specs.declared.previewing.Previewed.{Previewed}
 use Rattle.smk_plan_preview.specs.Previewing.{rules_for, IsPreviewed}
-use Rattle.smk_serve.specs.Serving.{HasOnlyLooked, IsWant, IsRefusedPlan, IsServed, settings_of, Went, Refused, Stopped, Worked}
-use Rattle.smk_serve.specs.Serving as serving
-use Rattle.smk_serve.proofs.Went.{only_looked, refused_or_stopped, went_later}
-use Rattle.smk_cli.specs.Words.{is_to_make}
-use Rattle.smk_cli.specs.Locking.{HasHeeded}
-use Rattle.smk_cli.specs.Whole.{Serves, HasRun, Unheeded, Unasked, Heeded, IsRefusal, OfPlan, OfWorkflow, IsToServe}
+use Rattle.smk_cli_calls.specs.Serving.{HasOnlyLooked, IsWant, IsRefusedPlan, IsServed, IsThat, settings_of, Went, Refused, Stopped, Worked, Drove}
+use Rattle.smk_cli_calls.specs.Serving as serving
+use Rattle.smk_cli_calls.proofs.Went.{only_looked, refused_or_stopped, went_later}
+use Rattle.smk_cli_calls.specs.Words.{is_to_make}
+use Rattle.smk_cli_calls.specs.Locking.{HasHeeded}
+use Rattle.smk_cli_calls.specs.Whole.{AsksFor, Serves, HasRun, Unheeded, Unasked, Heeded, IsRefusal, OfPlan, OfWorkflow, IsToServe}
 use Rattle.smk_cli.proofs.Locking.{after_looks, heeded_wider}
-use Rattle.smk_plan_preview.proofs.Looked.{IsSameFolder, kept, seen_moved}
+use Rattle.smk_plan_preview.proofs.LookedAt.{IsSameFolder, kept, seen_moved}
 
 -- before anything was looked at memory was wanting
 pub stopped : (act : Act) (read : List ℕ → Option Record) (w : World) (f : Fault) (request : Request) (a : Device) (p : Sunk) → is_to_make request ≡ true → IsWant f → is_device f ≡ false → Serves act read w (Err f) a a p p request
@@ -66,26 +66,28 @@ unasked_run act read words w f old new p q unsunk why looked = go words.nolock r
     same_fault : (g : Fault) → ◌≡◌ {A = Result (Unit {0}) Fault} (Err f) (Err g) → g ≡ f
     same_fault g e = cc
 
-    kind : Went act words.cores (Err f) (FailsToAsk true words w.nodes) (λ asked told. ⊥) old new p q → IsWant f ⊎ FailsToAsk true words w.nodes f
+    kind :
+        Went act words (Err f) (FailsToAsk true words w.nodes) (λ asked. ⊥) (λ asked told. ⊥) old new p q → IsWant f ⊎ FailsToAsk true words w.nodes f
     kind (Refused g is fails k) = inr (subst (FailsToAsk true words w.nodes) (same_fault g is) fails)
     kind (Stopped g is want k) = inl (subst IsWant (same_fault g is) want)
-    kind (Worked asked told none k) = absurd none
+    kind (Worked asked told one none k) = absurd none
+    kind (Drove asked apart none k) = absurd none
 
     go : (b : Bool) → words.nolock ≡ b → HasRun act read words w (Err f) old new p q
     go true e =
         Unheeded e
-        (refused_or_stopped act words.cores (IsRefusal read true words w w) (IsToServe read true words w w) f old new p q unsunk
+        (refused_or_stopped act words (IsRefusal read true words w w) (AsksFor words w) (IsToServe read true words w w) f old new p q unsunk
         (λ told. OfWorkflow (why told)) looked)
     go false e = Unasked f e refl (kind
-        (refused_or_stopped act words.cores (FailsToAsk true words w.nodes) (λ asked told. ⊥) f old new p q unsunk why looked)) looked
+        (refused_or_stopped act words (FailsToAsk true words w.nodes) (λ asked. ⊥) (λ asked told. ⊥) f old new p q unsunk why looked)) looked
 
 -- a run of what is asked, under the lock or not
 pub run_of :
     (act : Act) (read : List ℕ → Option Record) (words : RunWords) (w : World) (asked : Asked) (answer : Result (Unit {0}) Fault) (old mid new : Device)
     (p q : Sunk) → HasLooked act old mid false → old.world ≡ Some w →
     IsAskedIn true words w.nodes (Ok asked) →
-    (words.nolock ≡ true → WhereTold mid (λ v. Went act words.cores answer (IsRefusedPlan read asked words v) (IsServed read asked words v) mid new p q)) →
-    (words.nolock ≡ false → WhereTold mid (λ v. HasHeeded act words.cores answer (IsRefusedPlan read asked words) (IsServed read asked words) v mid new p q)) →
+    (words.nolock ≡ true → WhereTold mid (λ v. Went act words answer (IsRefusedPlan read asked words v) (IsThat asked) (IsServed read asked words v) mid new p q)) →
+    (words.nolock ≡ false → WhereTold mid (λ v. HasHeeded act words answer (IsRefusedPlan read asked words) (IsThat asked) (IsServed read asked words) v mid new p q)) →
     HasRun act read words w answer old new p q
 run_of act read words w asked answer old mid new p q looked at is_asked unheeded heeded = go words.nolock refl
   where
@@ -95,18 +97,21 @@ run_of act read words w asked answer old mid new p q looked at is_asked unheeded
       plan = subst (λ x. IsPreviewed read x.flow (settings_of x words) (seen read u) told) (sym h.0) h.1;
     }
 
+    asks_for : (served : Asked) → IsThat asked served → AsksFor words w served
+    asks_for served same = subst (AsksFor words w) (sym same) is_asked
+
     go : (b : Bool) → words.nolock ≡ b → HasRun act read words w answer old new p q
     go true e =
         let v = kept w looked at in
         Unheeded e
-        (went_later act words.cores answer (IsRefusal read true words w w) (IsRefusedPlan read asked words v.0) (IsToServe read true words w w)
-        (IsServed read asked words v.0) old mid new p q looked
-        (λ f refused. plan_refused read true words w v.0 asked f v.2 is_asked refused)
+        (went_later act words answer (IsRefusal read true words w w) (IsRefusedPlan read asked words v.0) (AsksFor words w) (IsThat asked)
+        (IsToServe read true words w w) (IsServed read asked words v.0) old mid new p q looked
+        (λ f refused. plan_refused read true words w v.0 asked f v.2 is_asked refused) asks_for
         (λ served told h. plan_served read true words w v.0 asked served told v.2 is_asked h)
         (unheeded e v.0 v.1))
     go false e =
         let v = after_looks w looked at in
         Heeded v.0 mid e v.2 v.1 looked
-        (heeded_wider act words.cores answer (IsRefusal read true words w) (IsRefusedPlan read asked words) (IsToServe read true words w)
-        (IsServed read asked words) v.0 mid new p q
-        (λ u f refused. OfPlan asked is_asked refused) (λ u served told h. locked_served u served told h) (heeded e v.0 v.1))
+        (heeded_wider act words answer (IsRefusal read true words w) (IsRefusedPlan read asked words) (AsksFor words w) (IsThat asked)
+        (IsToServe read true words w) (IsServed read asked words) v.0 mid new p q
+        (λ u f refused. OfPlan asked is_asked refused) asks_for (λ u served told h. locked_served u served told h) (heeded e v.0 v.1))

@@ -8,7 +8,7 @@ use Rattle.smk_words_reading.proofs.Whole.{one_asked, none_asked_without_cores}
 use Rattle.smk_report.specs.declared.fault.Fault.{Fault}
 use Rattle.smk_report.specs.declared.fault.Fault.TheVariants as fault
 use Rattle.smk_cli_entry.specs.Faults.{is_device, is_sink}
-use Rattle.smk_cli.specs.Words.{RefusesWords, Unread, WithoutCores, NotBuilt, is_built}
+use Rattle.smk_cli_calls.specs.Words.{RefusesWords, Unread, WithoutCores, NotBuilt, is_built}
 
 -- what is built isn't refused
 pub built_unrefused : (words : List Text) (f : Fault) (request : Request) → IsAsked words request → is_built request ≡ true → RefusesWords words f → ⊥

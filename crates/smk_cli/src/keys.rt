@@ -5,8 +5,8 @@ ghost use Rattle.smk_world.specs.Devices.{WhereTold};
 ghost use Rattle.smk_keep_lock.specs.Unlocking.{of_unlock};
 ghost use Rattle.smk_keep_forget.specs.Answers.{of_forget};
 ghost use Rattle.smk_plan_preview.specs.Faults.{as_call};
-ghost use Rattle.smk_serve.specs.Ends.{EndsWith, fault_of};
-ghost use Rattle.smk_cli.specs.Keys.{DidUnlock, DidForget};
+ghost use Rattle.smk_cli_calls.specs.Ends.{EndsWith, fault_of};
+ghost use Rattle.smk_cli_calls.specs.Keys.{DidUnlock, DidForget};
 
 use smk_base::{List, PathText};
 use smk_keep_forget::{ForgetFault, forget_paths};

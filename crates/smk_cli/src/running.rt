@@ -7,10 +7,10 @@ ghost use Rattle.smk_world.specs.Devices.{WhereTold, HasActed};
 ghost use Rattle.smk_keep_lock.specs.Locking.{HasReleased};
 ghost use Rattle.smk_record.specs.Spelling.{ReadsRecords};
 ghost use Rattle.smk_record.specs.declared.record.Record.{Record as RecordValue};
-ghost use Rattle.smk_serve.specs.Ends.{EndsAs};
-ghost use Rattle.smk_serve.specs.Serving.{IsRefusedPlan, IsServed, Went};
-ghost use Rattle.smk_cli.specs.Locking as spec;
-ghost use Rattle.smk_cli.specs.Locking.{HasHeeded, HasRunLocked};
+ghost use Rattle.smk_cli_calls.specs.Ends.{EndsAs};
+ghost use Rattle.smk_cli_calls.specs.Serving.{IsRefusedPlan, IsServed, IsThat, Went};
+ghost use Rattle.smk_cli_calls.specs.Locking as spec;
+ghost use Rattle.smk_cli_calls.specs.Locking.{HasHeeded, HasRunLocked};
 
 use smk_cli_entry::Asked;
 use smk_keep_lock::Lock;
@@ -65,7 +65,7 @@ fn make_locked<W: Crew, O: Sink, Rt: Threads + Sync>(
     requires none_runs { (W.device work.old).running ≡ [] }
     ensures ended { EndsAs result (W.device work.old) (W.device work.new) (O.sunk out.old) (O.sunk out.new) }
     ensures went { WhereTold (W.device work.old) (λ w. (read : Items ℕ → Option RecordValue) → ReadsRecords read
-        → HasRunLocked W.act words.now.cores result (IsRefusedPlan read asked.now words.now w) (IsServed read asked.now words.now w)
+        → HasRunLocked W.act words.now result (IsRefusedPlan read asked.now words.now w) (IsThat asked.now) (IsServed read asked.now words.now w)
         (W.device work.old) (W.device work.new) (O.sunk out.old) (O.sunk out.new)) }
 {
     let before = work.faults();
@@ -88,7 +88,7 @@ fn make_heeding<W: Crew, O: Sink, Rt: Threads + Sync>(
     requires none_runs { (W.device work.old).running ≡ [] }
     ensures ended { EndsAs result (W.device work.old) (W.device work.new) (O.sunk out.old) (O.sunk out.new) }
     ensures heeded { WhereTold (W.device work.old) (λ w. (read : Items ℕ → Option RecordValue) → ReadsRecords read
-        → HasHeeded W.act words.now.cores result (IsRefusedPlan read asked.now words.now) (IsServed read asked.now words.now) w
+        → HasHeeded W.act words.now result (IsRefusedPlan read asked.now words.now) (IsThat asked.now) (IsServed read asked.now words.now) w
         (W.device work.old) (W.device work.new) (O.sunk out.old) (O.sunk out.new)) }
 {
     let Ok(lock) = Lock::new(alloc) else {
@@ -121,10 +121,10 @@ pub(crate) fn make_asked<W: Crew, O: Sink, Rt: Threads + Sync>(
     requires none_runs { (W.device work.old).running ≡ [] }
     ensures ended { EndsAs result (W.device work.old) (W.device work.new) (O.sunk out.old) (O.sunk out.new) }
     ensures unheeded { words.now.nolock ≡ true → WhereTold (W.device work.old) (λ w. (read : Items ℕ → Option RecordValue) → ReadsRecords read
-        → Went W.act words.now.cores result (IsRefusedPlan read asked.now words.now w) (IsServed read asked.now words.now w)
+        → Went W.act words.now result (IsRefusedPlan read asked.now words.now w) (IsThat asked.now) (IsServed read asked.now words.now w)
         (W.device work.old) (W.device work.new) (O.sunk out.old) (O.sunk out.new)) }
     ensures heeded { words.now.nolock ≡ false → WhereTold (W.device work.old) (λ w. (read : Items ℕ → Option RecordValue) → ReadsRecords read
-        → HasHeeded W.act words.now.cores result (IsRefusedPlan read asked.now words.now) (IsServed read asked.now words.now) w
+        → HasHeeded W.act words.now result (IsRefusedPlan read asked.now words.now) (IsThat asked.now) (IsServed read asked.now words.now) w
         (W.device work.old) (W.device work.new) (O.sunk out.old) (O.sunk out.new)) }
 {
     if words.nolock {

@@ -9,13 +9,13 @@ ghost use Rattle.smk_report.specs.Faults as report;
 ghost use Rattle.smk_words_reading.specs.declared.asked.Asked.{Asked as Request};
 ghost use Rattle.smk_words_reading.specs.Asks.{IsAsked};
 ghost use Rattle.smk_cli_entry.specs.Faults.{device_failed};
-ghost use Rattle.smk_serve.specs.Ends.{EndsAs, EndsWith, fault_of};
-ghost use Rattle.smk_serve.specs.Serving.{HasListed};
-ghost use Rattle.smk_cli.specs.Words as spec;
-ghost use Rattle.smk_cli.specs.Words.{RefusesWords};
-ghost use Rattle.smk_cli.specs.Lines.{IsOutcome, HasToldFault};
-ghost use Rattle.smk_cli.specs.Whole.{IsRefusal, IsToServe, HasRun, Serves, HasServed};
-ghost use Rattle.smk_cli.specs.Keys.{Keeps, HasKept};
+ghost use Rattle.smk_cli_calls.specs.Ends.{EndsAs, EndsWith, fault_of};
+ghost use Rattle.smk_cli_calls.specs.Serving.{HasListed};
+ghost use Rattle.smk_cli_calls.specs.Words as spec;
+ghost use Rattle.smk_cli_calls.specs.Words.{RefusesWords};
+ghost use Rattle.smk_cli_calls.specs.Lines.{IsOutcome, HasToldFault};
+ghost use Rattle.smk_cli_calls.specs.Whole.{IsRefusal, IsToServe, HasRun, Serves, HasServed};
+ghost use Rattle.smk_cli_calls.specs.Keys.{Keeps, HasKept};
 
 use crate::keys::{serve_forget, serve_unlock};
 use crate::outcome::Outcome;
@@ -25,7 +25,7 @@ use smk_cli_entry::ask;
 use smk_report::{Fault, fault_line};
 use smk_run::write_out;
 use smk_serve::list_plan;
-use smk_words_reading::{Asked, Force, RunWords, WordsFault, read_words};
+use smk_words_reading::{Asked, RunWords, WordsFault, read_words};
 use smk_world::{Crew, Files, Sink};
 use std::alloc::Global;
 use std::thread::Threads;
@@ -93,22 +93,12 @@ fn serve_request<W: Crew, O: Sink, Rt: Threads + Sync>(
     }
 }
 
-fn forces_none(force: Force) -> bool
-    ensures { result ≡ spec.forces_none force }
-{
-    match force {
-        Force::No => true,
-        Force::Targets | Force::All => false,
-    }
-}
-
-// Whether it is built: a run that forces no job and ends with the first job that fails, a listing, or a command on what is kept.
+// Whether it is built: a run, a listing, or a command on what is kept.
 fn is_built(request: &Asked) -> bool
     ensures { result ≡ spec.is_built request.now }
 {
     match request {
-        Asked::Run(words) => !words.keep_going && forces_none(words.force),
-        Asked::Preview(_) | Asked::Unlock | Asked::Forget { .. } => true,
+        Asked::Run(_) | Asked::Preview(_) | Asked::Unlock | Asked::Forget { .. } => true,
         Asked::Generate { .. } => false,
     }
 }
@@ -181,10 +171,10 @@ fn tell<O: Sink>(alloc: Global, answer: Result<(), Fault>, err: &mut O) -> Outco
 }
 
 /// Does what the words ask by a workflow of the working folder. For a run: takes the lock, unless the words heed none; makes the targets, by running the jobs
-/// that its plan has to be run or restored, one after another, and reports them and the targets to `out`; and releases the lock, unless the device failed.
-/// For a
-/// listing: tells the jobs of the plan to `out`, and changes nothing. Or removes the lock,
-/// or what is kept of paths, and tells so. The line of a fault goes to `err`.
+/// that its plan has to be run or restored, and reports them and the targets to `out`; and releases the lock, unless the device failed. The jobs are run one
+/// after another where the words ask for one core, the first job that fails ends the run and none is forced; else they are begun side by side, by a plan that is
+/// kept. For a listing: tells the jobs of the plan to `out`, and changes nothing. Or removes the lock, or what
+/// is kept of paths, and tells so. The line of a fault goes to `err`.
 ///
 /// The status is 0 where all is done, 1 where a job failed, 2 where the words are refused, 3 where the workflow, a target, the plan or a job is refused, or
 /// the lock stands, 4 where
@@ -205,8 +195,8 @@ pub fn smk<W: Crew, O: Sink, Rt: Threads + Sync>(
     ensures unread { (f : FaultValue) → RefusesWords (map string_bytes words.now) f
         → ((result.fault ≡ Some f) ⊎ (result.fault ≡ Some Fault.OutOfMemory)) × (work.new ≡ work.old) × (out.new ≡ out.old) }
 
-    // a run or a listing is served, where it is built: it is refused, and nothing is done; or what its plan has to be run is run, in order, under the lock,
-    // unless none is heeded; or the plan is listed
+    // a run or a listing is served: it is refused, and nothing is done; or what its plan has to be run is run, in order, or it is driven, under the lock, unless
+    // none is heeded; or the plan is listed
     ensures serves { (request : Request) → IsAsked (map string_bytes words.now) request → spec.is_built request ≡ true → spec.is_to_make request ≡ true
         → WhereTold (W.device work.old) (λ w. (read : Items ℕ → Option RecordValue) → ReadsRecords read
         → HasServed W.act read request w result.fault (W.device work.old) (W.device work.new) (O.sunk out.old) (O.sunk out.new)) }

@@ -18,16 +18,16 @@ abbrev pub or_else : {A : Type 0} → Option A → Option A → Option A
 or_else None rest = rest
 or_else (Some word) rest = Some word
 
-abbrev pub flag_word : Flag → Text
-flag_word Temp = codes "temp"
-flag_word Protected = codes "protected"
-flag_word Folder = codes "directory"
+abbrev pub flag_word : Flag → Option Text
+flag_word Temp = None
+flag_word Protected = None
+flag_word Folder = Some (codes "directory")
 
 abbrev pub flag_form : List Flag → Option Text
 flag_form [] = None
-flag_form (f ∷ more) = Some (flag_word f)
+flag_form (f ∷ more) = or_else (flag_word f) (flag_form more)
 
--- the first flag of an item's outputs
+-- the first of an item's outputs
 abbrev pub item_form : List FlaggedText → Option Text
 item_form [] = None
 item_form (o ∷ more) = or_else (flag_form o.flags) (item_form more)
@@ -40,7 +40,7 @@ abbrev pub inputs_form : List InPart → Option Text
 inputs_form [] = None
 inputs_form (i ∷ more) = if is_some i.gather then Some (codes "from_checkpoint") else inputs_form more
 
--- the first in a rule: that it is a checkpoint, then the flags of its outputs, then what it gathers
+-- the first in a rule: that it is a checkpoint, then that an output is a directory, then what it gathers
 abbrev pub unbuilt_in : RulePart → Option Text
 unbuilt_in part = if part.checkpoint then Some (codes "checkpoint") else or_else (outputs_form part.outputs) (inputs_form part.inputs)
 

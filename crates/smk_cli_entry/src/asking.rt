@@ -105,7 +105,7 @@ fn asked_in(
 /// and paths. Nothing in the folder changes. No child may run.
 ///
 /// The faults come in this order: those of `read_workflow`; for a run `Unsupported` with line 1 of the workflow's file and the first form that no run can
-/// do yet, a word of `checkpoint`, `temp`, `protected`, `directory` and `from_checkpoint`; `BadTarget` with the first word that is no target.
+/// do yet, a word of `checkpoint`, `directory` and `from_checkpoint`; `BadTarget` with the first word that is no target.
 /// `Device` comes where the device failed, `OutOfMemory` where there is no memory for the workflow and its targets.
 pub fn ask<W: Files>(
     alloc: Global,

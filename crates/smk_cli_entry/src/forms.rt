@@ -10,26 +10,27 @@ use smk_flow::{Flag, FlaggedText, InPart, OutPart, Rule, RulePart};
 use smk_report::Fault;
 use std::alloc::Global;
 
-fn flag_word(flag: Flag) -> &'static str
-    ensures { result.now ≡ spec.flag_word flag }
+fn flag_word(flag: Flag) -> Option<&'static str>
+    ensures { option_map (λ w. w.now) result ≡ spec.flag_word flag }
 {
     match flag {
-        Flag::Temp => "temp",
-        Flag::Protected => "protected",
-        Flag::Folder => "directory",
+        Flag::Temp | Flag::Protected => None,
+        Flag::Folder => Some("directory"),
     }
 }
 
 fn flag_form(flags: &[Flag]) -> Option<&'static str>
     ensures { option_map (λ w. w.now) result ≡ spec.flag_form flags.now }
 {
-    match flags {
-        [] => None,
-        [flag, ..] => Some(flag_word(*flag)),
+    for flag in flags {
+        if let Some(word) = flag_word(*flag) {
+            return Some(word);
+        }
     }
+    None
 }
 
-// The first flag of an item's outputs.
+// The first of an item's outputs.
 fn item_form(outs: &[FlaggedText]) -> Option<&'static str>
     ensures { option_map (λ w. w.now) result ≡ spec.item_form outs.now }
 {

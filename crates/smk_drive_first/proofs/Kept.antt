@@ -30,7 +30,7 @@ use Rattle.smk_plan_preview.specs.Rounds.{AreReady, IsRound, Leads}
 use Rattle.smk_plan_preview.specs.Steps.{Plans}
 use Rattle.smk_plan_preview.proofs.Rounded.{check_quiet, checked_told, planned_told}
 use Rattle.smk_plan_preview.proofs.Chains.{last_round, leads_next, round_refused}
-use Rattle.smk_plan_preview.proofs.Looked.{err_is}
+use Rattle.smk_plan_preview.proofs.LookedAt.{err_is}
 use Rattle.smk_plan_live.specs.declared.base.Base.{Base}
 use Rattle.smk_plan_live.specs.declared.live.LivePlan.{LivePlan}
 use Rattle.smk_plan_live.specs.declared.phase.Phase.TheVariants.{Waiting}

@@ -47,7 +47,7 @@ use Rattle.smk_drive.specs.Refusals.ChainRefuses.{DerivationRefuses, PlanRefuses
 use Rattle.smk_drive_target.specs.Refusals.MomentRefuses.{PlansAreRefused}
 use Rattle.smk_drive_course.specs.Driven.{HasSigns, IsOpening, LacksMemory, LoadingFails, LooksFail, Opens, SettlingFails}
 use Rattle.smk_plan_preview.specs.Faults.{device_failed, is_device, is_sink, is_told}
-use Rattle.smk_plan_preview.proofs.Looked.{looks_leave, none_still, seen_moved}
+use Rattle.smk_plan_preview.proofs.LookedAt.{looks_leave, none_still, seen_moved}
 use Rattle.smk_drive_first.specs.declared.opening.Opened.{Opened}
 use Rattle.smk_drive_first.specs.Keeping.{HasKeptLast, IsFresh}
 use Rattle.smk_drive_first.specs.Opening.{AreRules, GoesOn, HasOpened, HasStopped, IsOutcome, live_of, IsNextBy}

@@ -10,13 +10,13 @@ ghost use Rattle.smk_choose.specs.Index.{AreReadings};
 ghost use Rattle.smk_plan_preview.specs.Faults.{device_failed, is_sink};
 ghost use Rattle.smk_drive_first.specs.Keeping.{HasKeptLast, IsFresh};
 
-use crate::listing::add_listings;
 use crate::rounds::{Ground, make_round};
 use smk_base::List;
 use smk_choose::Readings;
 use smk_flow::Workflow;
 use smk_pick::Settings;
 use smk_plan_live::LivePlan;
+use smk_plan_preview::add_listings;
 use smk_report::Fault;
 use smk_world::Files;
 use std::alloc::Global;

@@ -2,9 +2,6 @@
 #![tactic(auto)]
 
 mod chaining;
-mod faults;
-mod finding;
-mod listing;
 mod opening;
 mod rounds;
 

@@ -11,10 +11,10 @@ ghost use Rattle.smk_drive_first.specs.Keeping.{HasKeptLast, IsFresh};
 ghost use Rattle.smk_drive_first.specs.Opening.{HasOpened, GoesOn, IsNextBy, live_of};
 
 use crate::chaining::chain;
-use crate::finding::stored;
 use smk_flow::Workflow;
 use smk_pick::Settings;
 use smk_plan_live::LivePlan;
+use smk_plan_preview::stored;
 use smk_report::Fault;
 use smk_store::{Store, steady};
 use smk_world::Files;

@@ -17,8 +17,6 @@ ghost use Rattle.smk_plan_preview.specs.Faults.{device_failed, is_sink};
 ghost use Rattle.smk_plan_preview.specs.Rounds.{AreReady, IsSighted};
 ghost use Rattle.smk_drive_first.specs.Keeping.{HasBegun, HasKept, IsFresh};
 
-use crate::faults::of_plan;
-use crate::finding::{derived, looked, sighted, stored};
 use smk_base::{Copied, OutOfMemory};
 use smk_chain::{Jobs, Listings};
 use smk_choose::{Readings, Sources};
@@ -27,6 +25,7 @@ use smk_format::check_commands;
 use smk_pick::Settings;
 use smk_plan::Seen;
 use smk_plan_live::LivePlan;
+use smk_plan_preview::{derived, looked, of_plan, sighted, stored};
 use smk_report::Fault;
 use smk_store::Store;
 use smk_world::Files;

@@ -2,48 +2,21 @@
 
 ghost use Rattle.std.specs.Prelude.{◌≡◌, ◌≢◌, ◌⊎◌, [], false, map, None, Some, zip, IfErr, IfOk, OnOk};
 ghost use Rattle.smk_report.specs.declared.fault.Fault.TheVariants as fault;
-ghost use Rattle.smk_plan_table.specs.Plans.{fault_in};
 ghost use Rattle.smk_plan_live.specs.declared.base.Base.{Base};
 ghost use Rattle.smk_plan_live.specs.Lives.{IsLive, IsRefusedNow};
 ghost use Rattle.smk_drive_step.specs.Crews.{is_device};
 ghost use Rattle.smk_laws_rest.specs.Resting.{IsAnswerOf, IsTold, looked_as, refused_command};
 
-use smk_base::{List, OutOfMemory, Text};
+use smk_base::{List, OutOfMemory};
 use smk_flow::Workflow;
-use smk_format::{check_commands, rule_name};
+use smk_format::check_commands;
 use smk_pick::Settings;
 use smk_plan::PlanFault;
 use smk_plan_live::{LivePlan, Phase};
+use smk_plan_preview::of_plan;
 use smk_report::Fault;
 use smk_trigger::State;
 use std::alloc::Global;
-
-/// The fault of a plan, which names the rule. `OutOfMemory` where there is no memory for its name.
-pub fn of_plan(alloc: Global, flow: &Workflow, refusal: PlanFault) -> Fault
-    ensures { (result ≡ fault_in flow.now refusal) ⊎ (result ≡ fault.OutOfMemory) }
-{
-    match refusal {
-        PlanFault::Incomplete { paths } => Fault::Incomplete { paths },
-        PlanFault::Protected { path } => Fault::Protected { path },
-        PlanFault::AboveLimit {
-            rule,
-            path,
-            name,
-            asked,
-            bound,
-        } => match Text::of(alloc, rule_name(flow, rule)) {
-            Ok(rule) => Fault::AboveLimit {
-                rule,
-                path,
-                name,
-                asked,
-                bound,
-            },
-            Err(OutOfMemory) => Fault::OutOfMemory,
-        },
-        PlanFault::OutOfMemory => Fault::OutOfMemory,
-    }
-}
 
 // The state by which the command of a job is looked at that has come so far.
 fn looked_as(state: &State, phase: Phase) -> State

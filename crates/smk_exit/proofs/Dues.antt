@@ -24,7 +24,7 @@ use Rattle.smk_pick.specs.declared.settings.Settings.{Settings}
 use Rattle.smk_plan.specs.States.{Plan, IsPlan, nothing_done, makes, staged, state_of}
 use Rattle.smk_laws_plan.proofs.CurrentApart.{JobsApart}
 use Rattle.smk_laws_history.proofs.CurrentComplete.{seen_is_complete}
-use Rattle.smk_laws_plan.proofs.CurrentLists.{find_in, zip_in}
+use Rattle.smk_laws_plan.proofs.CurrentLists.{find_in, get_in, zip_in}
 use Rattle.smk_laws_plan.proofs.CurrentPaths.{in_among}
 use Rattle.smk_laws_plan.proofs.PlanOne.{derived_apart}
 use Rattle.smk_plan.specs.declared.duty.Duty.{Duty}
@@ -55,14 +55,6 @@ take_at (z ∷ xs) ys = ap (λ l. z ∷ l) (take_at xs ys)
 length_more : {A : Type 0} (xs : List A) (x : A) → length (xs ++ x ∷ []) ≡ suc (length xs)
 length_more [] x = refl
 length_more (z ∷ xs) x = ap suc (length_more xs x)
-
-pub get_in : {A : Type 0} (xs : List A) (n : ℕ) (x : A) → slice_get xs n ≡ Some x → IsIn xs x
-get_in [] n x h = cc
-get_in (z ∷ xs) zero x h = inl (same h)
-  where
-    same : Some z ≡ Some x → x ≡ z
-    same e = cc
-get_in (z ∷ xs) (suc n) x h = inr (get_in xs n x h)
 
 zip_get : {A B : Type 0} (xs : List A) (ys : List B) (n : ℕ) (e : A × B) → slice_get (zip xs ys) n ≡ Some e → slice_get xs n ≡ Some e.0
 zip_get [] ys n e h = cc

@@ -22,7 +22,7 @@ use Rattle.smk_plan.specs.States.{Plan}
 use Rattle.smk_laws_plan.specs.Current.{IsComplete}
 use Rattle.smk_laws_plan.proofs.CurrentApart.{SpotsApart, spot_free, spots_apart}
 use Rattle.smk_laws_history.proofs.CurrentComplete.{seen_is_complete}
-use Rattle.smk_laws_plan.proofs.CurrentLists.{in_flat, or_left, or_right}
+use Rattle.smk_laws_plan.proofs.CurrentLists.{get_in, in_flat, or_left, or_right}
 use Rattle.smk_laws_plan.proofs.CurrentPaths.{among_in}
 use Rattle.smk_laws_plan.proofs.PlanOne.{derived_clear}
 use Rattle.smk_run.specs.Duties.{serials, due}
@@ -39,7 +39,7 @@ use Rattle.smk_safe.proofs.Images.{kept_at, marked_at, node_at, sources_now}
 use Rattle.smk_safe.proofs.Off.{NoneMakes, NoneLogs, AreClearOf, records_off, marks_off, notes_off, users_off, made_or_none, logged_or_none}
 use Rattle.smk_safe.proofs.Planned.{no_folders, output_in_spots, log_in_spots}
 use Rattle.smk_safe.proofs.Safe.{HasStarted, has_started}
-use Rattle.smk_exit.proofs.Dues.{turn_at, get_in, due_turns_are_ready, due_run_is_safe, done_but_last, throughout_all}
+use Rattle.smk_exit.proofs.Dues.{turn_at, due_turns_are_ready, due_run_is_safe, done_but_last, throughout_all}
 use Rattle.smk_exit.specs.Exit.{IsDueRun, SameDerivation}
 use Rattle.smk_exit.proofs.Same.{IsFree, same_derivation}
 

@@ -31,8 +31,8 @@ use Rattle.smk_laws_folder.proofs.Agreeing.{begin_agrees}
 use Rattle.smk_laws_folder.proofs.Deriving.{derivation_goes_on}
 use Rattle.smk_laws_folder.proofs.Progressing.{begins_alike}
 use Rattle.smk_laws_turns.specs.Hubs.{IsAt, IsHome, IsKept, Parts, child_of}
-use Rattle.smk_laws_room.proofs.Homes.{home_stays}
-use Rattle.smk_laws_begun.specs.Begun.{BeginDiffers, IsBegunFor}
+use Rattle.smk_laws_changes.proofs.Homes.{home_stays}
+use Rattle.smk_laws_changes.specs.Begun.{BeginDiffers, IsBegunFor}
 use Rattle.smk_laws_rest.specs.Resting.{IsResting}
 use Rattle.smk_laws_begins.specs.Fitting.{IsFit}
 use Rattle.smk_laws_begins.specs.Begins.{MayTake}
@@ -40,7 +40,7 @@ use Rattle.smk_laws_begins.proofs.Beside.{is_started, new_runs, other_name, stil
 use Rattle.smk_laws_begins.proofs.Picked.{kept, unhalted}
 use Rattle.smk_laws_begins.proofs.Resting.{rest_more}
 use Rattle.smk_laws_begins.proofs.ToBegin.{IsTaken, planned, to_begin}
-use Rattle.smk_laws_begins.proofs.Told.{in_at}
+use Rattle.smk_laws_plan.proofs.CurrentLists.{get_in}
 
 module _ (begin_differs : BeginDiffers) (act : Act) (rules : Rules) (entry : World) (h : Parts) (s : Stand) (w : World) (before : List Event) (deeds : List Deed) (number : ℕ)
     (at : IsAt rules entry h s w before deeds) (may : MayTake rules.settings h number)
@@ -135,7 +135,7 @@ module _ (begin_differs : BeginDiffers) (act : Act) (rules : Rules) (entry : Wor
           formed = home.formed;
           unhalted = unhalted rules entry h s w before deeds number at may;
           at_rest =
-              rest_more w w1 base.jobs.jobs apart j (in_at base.jobs.jobs number j fit.is) differs.still_gone s.begun new at.planned other same_run its_run
+              rest_more w w1 base.jobs.jobs apart j (get_in base.jobs.jobs number j fit.is) differs.still_gone s.begun new at.planned other same_run its_run
               x.next.clear.at_rest;
           listed = ap (λ o. lists_of o s.from) kept_at.plan;
           agrees = agrees_now;

@@ -16,6 +16,7 @@ use Rattle.smk_plan_facts.specs.Telling.{has_path_texts}
 use Rattle.smk_plan_facts.proofs.FactsTold.{facts_so}
 use Rattle.smk_plan_states.specs.Judged.{with_states}
 use Rattle.smk_plan_table.specs.Plans.{Agree}
+use Rattle.smk_laws_plan.proofs.CurrentLists.{get_in}
 use Rattle.smk_laws_protocol.proofs.Basics.{each_in, each_of}
 use Rattle.smk_plan_live.specs.declared.base.Base.{Base}
 use Rattle.smk_plan_live.specs.Agreeing.{AreTold}
@@ -33,11 +34,6 @@ zip_get R [] (b ∷ ys) n x y all h k = absurd all
 zip_get R (a ∷ xs) [] n x y all h k = absurd all
 zip_get R (a ∷ xs) (b ∷ ys) zero x y all h k = subst (λ z. R x z) (same_Some b y k) (subst (λ z. R z b) (same_Some a x h) all.0)
 zip_get R (a ∷ xs) (b ∷ ys) (suc n) x y all h k = zip_get R xs ys n x y all.1 h k
-
-pub in_at : {A : Type 0} (xs : List A) (n : ℕ) (x : A) → slice_get xs n ≡ Some x → IsIn xs x
-in_at [] n x h = cc
-in_at (y ∷ xs) zero x h = inl (sym (same_Some y x h))
-in_at (y ∷ xs) (suc n) x h = inr (in_at xs n x h)
 
 -- ## What is told counts
 
@@ -63,7 +59,7 @@ module _ (image : Image) (settings : Settings) (b : Base) (agreed : IsAgreed ima
 
   pub counts : (n : ℕ) (j : Job) → slice_get b.jobs.jobs n ≡ Some j → Each (CountsAs image counted) (in_paths j.recipe)
   counts n j is =
-      let told = each_in (λ (k : Job). AreTold image b.jobs known (in_paths k.recipe)) b.jobs.jobs j agreed.read (in_at b.jobs.jobs n j is) in
+      let told = each_in (λ (k : Job). AreTold image b.jobs known (in_paths k.recipe)) b.jobs.jobs j agreed.read (get_in b.jobs.jobs n j is) in
       each_of (CountsAs image counted) (in_paths j.recipe)
       (λ q i. counts_at q (source_same image settings (kept_progress b) b.jobs known (seen_now b) agreed (left_now b) q
       (each_in _ (in_paths j.recipe) q told i)))

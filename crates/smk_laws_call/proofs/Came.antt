@@ -34,11 +34,13 @@ use Rattle.smk_keep_forget.specs.Cleaning.{HasCleaned}
 use Rattle.smk_laws_keys.specs.Keys.{outside}
 use Rattle.smk_laws_keys.proofs.Moves.{EndsAt, lock_moves}
 use Rattle.smk_laws_keys.proofs.Safe.{cleaned_runs}
-use Rattle.smk_cli.specs.Keys.{Keeps, NoMemory, Unlocks, Forgets}
+use Rattle.smk_cli_calls.specs.Keys.{Keeps, NoMemory, Unlocks, Forgets}
 use Rattle.smk_exit.proofs.Clean.{run_leaves_all_clean}
 use Rattle.smk_clean.specs.Safe.{IsSafeCall}
 use Rattle.smk_clean.proofs.Serving.{call_is_safe}
-use Rattle.smk_clean.proofs.Clean.{call_is_clean, call_leaves_none, none_forced}
+use Rattle.smk_clean.proofs.Ended.{drives_end}
+use Rattle.smk_clean.proofs.Ending.{call_is_clean, call_leaves_none}
+use Rattle.smk_clean.proofs.Again.{next_starts_nothing}
 use Rattle.smk_whole.proofs.Calling.{call_is_complete}
 use Rattle.smk_whole.proofs.Working.{same_events}
 use Rattle.smk_laws_call.specs.Headline.{IsCalled, IsKeptCall, Came, Begin, Edit, Remove, Call, Keep, Crash, CrashKeeping, HasHeld, SumsDifferIn, CameIsHistory, CameIsSound, Headline}
@@ -217,17 +219,22 @@ came_is_sound act w H came differ = sound_in act w H (HasHeld act w H came) diff
 pub headline : Headline
 headline act w v H words told came differ called =
     record {
-      tells = ran_tells (outside act) H w v sound.0 sound.1 reads_records words (none_forced words called.served.built) called.served.answer
+      tells = ran_tells (outside act) H w v sound.0 sound.1 reads_records words called.served.answer
           called.old called.new called.out_old called.out_new called.begins called.ends called.served.serves;
-      clean = call_is_clean run_leaves_all_clean (outside act) H words told w v called.old called.new called.out_old called.out_new called.begins called.ends reads_records sound.0 sound.1 called.served;
-      none_left = call_leaves_none run_leaves_all_clean (outside act) H words told w v called.old called.new called.out_old called.out_new called.begins called.ends reads_records sound.0 sound.1 called.served;
+      clean = call_is_clean run_leaves_all_clean drives_end (outside act) H words told w v called.old called.new called.out_old called.out_new called.begins called.ends reads_records sound.0 sound.1 called.served;
+      none_left = λ free.
+          call_leaves_none run_leaves_all_clean drives_end (outside act) H words told w v called.old called.new called.out_old called.out_new called.begins
+          called.ends reads_records sound.0 sound.1 free called.served;
+      starts_nothing = λ free none same again x next.
+          next_starts_nothing run_leaves_all_clean drives_end (outside act) H words told again w v called.old called.new next.old next.new called.out_old
+          called.out_new next.out_old next.out_new called.begins called.ends next.begins reads_records sound.0 sound.1 free called.served none same next.served;
       finished = λ log is.
           let s = safe act w v H (Run words) told sound.0 sound.1 called in
           let same = same_events w s.0 log (sym s.2 ∙ is) in
           subst (StartsOnFinished (outside act) w) same (parts_start_on_finished (outside act) w H s.0 sound.0 sound.1 s.1 s.3.follows_protocol);
-      complete = λ unrefused values never.
+      complete = λ kept unrefused values never.
           call_is_complete act record_in words w v H told called.old called.new called.out_old called.out_new called.begins called.ends
-          (record { differ = sound.0; sound = sound.1; unrefused = unrefused; values = values }) never called.served;
+          reads_records (record { differ = sound.0; sound = sound.1; unrefused = unrefused; values = values }) kept never called.served;
     }
   where
     sound : SumsDiffer H × SoundWorld (outside act) w H

@@ -1,6 +1,6 @@
 pub mod Started
 pub mod Exit
-pub mod Temps
 pub mod Turns
+pub mod Driven
 pub mod Telling
 pub mod Came

@@ -1,5 +1,5 @@
 -- What a run puts, and that what it calls current is clean.
-use Rattle.std.proofs.Common.{◌≡◌, ◌⊎◌, ℕ, suc, Bool, true, false, List, [], ◌++◌, refl, ap, sym, subst, ◌∙◌, inl, inr, append_assoc, append-nil, Some, None, Result, Ok, Err, is_none, true≢false}
+use Rattle.std.proofs.Common.{◌≡◌, ◌⊎◌, ℕ, suc, Bool, true, false, List, [], ◌++◌, refl, ap, sym, subst, ◌∙◌, inl, inr, append_assoc, append-nil, zip, Some, None, Result, Ok, Err, is_none, true≢false}
 use Rattle.std.specs.Prelude.{slice_get, get_or, is_some}
 use Rattle.smk_world.specs.World.{World, IsFormed, out_paths}
 use Rattle.smk_world.proofs.Names.{formed_run}
@@ -38,28 +38,31 @@ use Rattle.smk_make.specs.Closing.{counts_line, is_current, lines_by}
 use Rattle.smk_make.specs.Making.{AreWhatIsMeant, GoesOn, NotFirm, NoMemory, Made, IsText}
 use Rattle.smk_plan_preview.specs.declared.previewing.Previewed.{Previewed}
 use Rattle.smk_plan_preview.specs.Previewing.{plan_of}
-use Rattle.smk_serve.specs.Serving.{Went, Refused, Stopped, Worked, settings_of}
+use Rattle.smk_cli_calls.specs.OneByOne.{is_one_by_one}
+use Rattle.smk_cli_calls.proofs.OneByOne.{none_forced}
+use Rattle.smk_cli_calls.specs.Serving.{Went, Refused, Stopped, Worked, Drove, settings_of}
 use Rattle.smk_cli_entry.specs.Entry.{IsAskedIn}
-use Rattle.smk_cli.specs.Locking.{HasHeeded, Stood, Taken, Unmade, Untaken}
-use Rattle.smk_cli.specs.Whole.{HasRun, Heeded, IsRefusal, IsToServe, Unasked, Unheeded}
+use Rattle.smk_cli_calls.specs.Locking.{HasHeeded, Stood, Taken, Unmade, Untaken}
+use Rattle.smk_cli_calls.specs.Whole.{AsksFor, HasRun, Heeded, IsRefusal, IsToServe, Unasked, Unheeded}
 use Rattle.smk_laws_lock.specs.Heeding.{IsSameButLock}
 use Rattle.smk_laws_lock.proofs.Heeding.{lock_changes_itself_alone, on_both, same_back}
 use Rattle.smk_safe.specs.Planned.{IsFit, IsPlain}
 use Rattle.smk_safe.proofs.Planned as by_plan
 use Rattle.smk_exit.specs.Exit.{IsDueRun}
-use Rattle.smk_exit.proofs.Dues.{get_in}
-use Rattle.smk_laws_plan.proofs.CurrentLists.{or_first}
+use Rattle.smk_laws_plan.proofs.CurrentLists.{get_in, or_first}
 use Rattle.smk_laws_plan.proofs.CurrentPaths.{in_among}
 use Rattle.smk_laws_history.proofs.CurrentComplete.{seen_is_complete}
 use Rattle.smk_clean.specs.Clean.{setting_in}
 use Rattle.smk_clean.proofs.Clean as clean
 use Rattle.smk_clean.proofs.Fit.{all_fit}
 use Rattle.smk_clean.proofs.Locked.{IsUnderLock, under_lock}
-use Rattle.smk_clean.proofs.Safe.{Answer, IsTurnRun, started, turns_run, went_safe}
+use Rattle.smk_clean.proofs.Driving.{went_safe}
+use Rattle.smk_clean.proofs.Safe.{Answer, IsTurnRun, started, turns_run}
 use Rattle.smk_clean.proofs.Told as told_of
-use Rattle.smk_laws_call.specs.Telling.{Tells, Nothing, Lines, HasPutSo}
+use Rattle.smk_laws_call.specs.Telling.{Tells, Nothing, Lines, DrivenLines, HasPutSo}
+use Rattle.smk_laws_call.proofs.Driven.{DroveTells, drove_tells}
 use Rattle.smk_laws_call.proofs.Exit.{targets_clean}
-use Rattle.smk_laws_call.proofs.Temps.{no_temps}
+use Rattle.smk_whole.proofs.Temps.{no_temps, one_by_one_has_no_temps}
 use Rattle.smk_laws_call.proofs.Turns.{done_turn, has_turn}
 
 -- ## Fronts
@@ -82,17 +85,21 @@ data TellsBy (o : Outside) (words : RunWords) (entry w v : World) (text : Text) 
       IsAskedIn true words entry.nodes (Ok asked) →
       IsFront text (report_of asked.flow turns ++ (lines_by current asked.targets ++ counts_line tally)) →
       ((p : Path) → IsIn asked.targets p → current p ≡ true → IsClean (setting_in o w asked.flow) (seen o.read v) p) → TellsBy o words entry w v text
+  DrivenBy : (asked : Asked) → AsksFor words entry asked → DroveTells o asked w v text → TellsBy o words entry w v text
 
 -- nothing was put
 put_nothing : (o : Outside) (words : RunWords) (entry w v : World) (p q : Sunk) → q ≡ p → HasPutSo p q (TellsBy o words entry w v)
 put_nothing o words entry w v p q same now there = (now, sym (ap (λ (x : Sunk). x.put) same) ∙ there, ([], NothingBy refl, sym (append-nil now)))
 
+put_as : (p q : Sunk) (P Q : Text → Type 0) → ((text : Text) → P text → Q text) → HasPutSo p q P → HasPutSo p q Q
+put_as p q P Q more h now there = let x = h now there in (x.0, x.1, (x.2.0, more x.2.0 x.2.1, x.2.2))
+
 no_tally : Tally
 no_tally = record { started = 0; done = 0; failed = 0; first = None }
 
 module _
-    (o : Outside) (H : Versions) (w : World) (differ : SumsDiffer H) (sound : SoundWorld o w H) (reads : ReadsRecords o.read) (words : RunWords) (free : words.force ≡ No)
-    (entry : World) (asked : Asked) (told : Previewed) (to_serve : IsToServe o.read true words entry w asked told) where
+    (o : Outside) (H : Versions) (w : World) (differ : SumsDiffer H) (sound : SoundWorld o w H) (reads : ReadsRecords o.read) (words : RunWords)
+    (entry : World) (asked : Asked) (told : Previewed) (to_serve : IsToServe o.read true words entry w asked told) (one : is_one_by_one asked.flow words ≡ true) where
   abbrev plan : Plan
   plan = plan_of told
 
@@ -111,7 +118,10 @@ module _
   temps : Each (λ (j : Job). j.temps ≡ []) plan.jobs
   temps =
       no_temps asked.flow (seen o.read w) settings nothing_done plan (seen_is_complete o.read w sound.formed)
-      (clean.all_built o H w differ sound reads words entry asked told to_serve) planned
+      (one_by_one_has_no_temps asked.flow words one) planned
+
+  free : words.force ≡ No
+  free = none_forced asked.flow words one
 
   -- ## Targets
 
@@ -208,24 +218,25 @@ module _
 
 went_tells :
     (o : Outside) (H : Versions) (entry w v : World) (differ : SumsDiffer H) (sound : SoundWorld o w H) (reads : ReadsRecords o.read) (words : RunWords)
-    (free : words.force ≡ No) (answer : Answer)
+    (answer : Answer)
     (old new : Device) (p q : Sunk) → old.world ≡ Some w → new.world ≡ Some v →
-    Went o.act words.cores answer (IsRefusal o.read true words entry w) (IsToServe o.read true words entry w) old new p q → HasPutSo p q
+    Went o.act words answer (IsRefusal o.read true words entry w) (AsksFor words entry) (IsToServe o.read true words entry w) old new p q → HasPutSo p q
     (TellsBy o words entry w v)
-went_tells o H entry w v differ sound reads words free answer old new p q at ends (Refused f is why looked) = put_nothing o words entry w v p q looked.unput
-went_tells o H entry w v differ sound reads words free answer old new p q at ends (Stopped f is want looked) = put_nothing o words entry w v p q looked.unput
-went_tells o H entry w v differ sound reads words free answer old new p q at ends (Worked asked told plans worked) =
-    goes_tells o H w differ sound reads words free entry asked told plans answer v old worked.looked worked.carried.firm new p q worked.carried.settled
+went_tells o H entry w v differ sound reads words answer old new p q at ends (Refused f is why looked) = put_nothing o words entry w v p q looked.unput
+went_tells o H entry w v differ sound reads words answer old new p q at ends (Drove asked apart asks drove) =
+    put_as p q (DroveTells o asked w v) (TellsBy o words entry w v) (λ text h. DrivenBy asked asks h)
+    (drove_tells o H w differ sound reads words entry asked asks answer v old new p q at ends drove)
+went_tells o H entry w v differ sound reads words answer old new p q at ends (Stopped f is want looked) = put_nothing o words entry w v p q looked.unput
+went_tells o H entry w v differ sound reads words answer old new p q at ends (Worked asked told one plans worked) =
+    goes_tells o H w differ sound reads words entry asked told plans one answer v old worked.looked worked.carried.firm new p q worked.carried.settled
     (store_failed worked.carried.settled) at ends worked.looking worked.carried.settling worked.carried.goes_on
 
 -- ## Under the lock
 
-put_as : (p q : Sunk) (P Q : Text → Type 0) → ((text : Text) → P text → Q text) → HasPutSo p q P → HasPutSo p q Q
-put_as p q P Q more h now there = let x = h now there in (x.0, x.1, (x.2.0, more x.2.0 x.2.1, x.2.2))
-
 tells_so : (o : Outside) (words : RunWords) (w v : World) (text : Text) → TellsBy o words w w v text → Tells o words w v text
 tells_so o words w v text (NothingBy none) = Nothing none
 tells_so o words w v text (LinesBy asked turns current tally is front clean) = Lines asked turns current tally is front clean
+tells_so o words w v text (DrivenBy asked asks h) = DrivenLines asked h.deeds h.told asks h.front h.targets
 
 -- what is told by folders that are the same but for the lock
 tells_moved :
@@ -233,6 +244,22 @@ tells_moved :
     (seen o.read x) → TellsBy o words entry u v text →
     TellsBy o words entry w x text
 tells_moved o words entry w u v x text before after (NothingBy none) = NothingBy none
+tells_moved o words entry w u v x text before after (DrivenBy asked asks h) =
+    DrivenBy asked asks
+    (record {
+      deeds = h.deeds;
+      told = h.told;
+      front = h.front;
+      targets = λ end told_is.
+          on_both
+          (λ (i : Image).
+          Each (λ (y : Path × Bool). y.1 ≡ true → IsClean (setting_of asked.flow o.act (λ j. is_none (missing j)) i) (seen o.read x) y.0)
+          (zip asked.targets end.current))
+          (λ i l k. k) (seen o.read u) (seen o.read w) (same_back (seen o.read w) (seen o.read u) before)
+          (on_both
+          (λ (i : Image). Each (λ (y : Path × Bool). y.1 ≡ true → IsClean (setting_in o u asked.flow) i y.0) (zip asked.targets end.current))
+          (λ i l k. k) (seen o.read v) (seen o.read x) after (h.targets end told_is));
+    })
 tells_moved o words entry w u v x text before after (LinesBy asked turns current tally is front clean) =
     LinesBy asked turns current tally is front
     (λ p i c.
@@ -241,7 +268,7 @@ tells_moved o words entry w u v x text before after (LinesBy asked turns current
     (on_both (λ (i : Image). IsClean (setting_in o u asked.flow) i p) (λ i l k. k) (seen o.read v) (seen o.read x) after (clean p i c)))
 
 module _ (o : Outside) (H : Versions) (w v : World) (differ : SumsDiffer H) (sound : SoundWorld o w H) (reads : ReadsRecords o.read) (words : RunWords)
-    (free : words.force ≡ No) (answer : Answer) where
+    (answer : Answer) where
   locked_tells : (new : Device) (p q : Sunk) → IsUnderLock o H w differ sound words answer new p q v → HasPutSo p q (TellsBy o words w w v)
   locked_tells new p q k =
       let inner = went_safe o H k.start differ k.sound_then reads words w k.ran k.last k.locked k.left p q k.at_start k.at_last k.went in
@@ -249,15 +276,15 @@ module _ (o : Outside) (H : Versions) (w v : World) (differ : SumsDiffer H) (sou
       let formed_v : IsFormed v = subst IsFormed (sym k.end_is) (formed_run k.last k.release formed) in
       put_as p q (TellsBy o words w k.start k.last) (TellsBy o words w w v)
       (λ text h. tells_moved o words w w k.start k.last v text k.same_start (lock_changes_itself_alone o.read k.last v formed formed_v k.only) h)
-      (went_tells o H w k.start k.last differ k.sound_then reads words free k.ran k.locked k.left p q k.at_start k.at_last k.went)
+      (went_tells o H w k.start k.last differ k.sound_then reads words k.ran k.locked k.left p q k.at_start k.at_last k.went)
 
   run_tells : (old new : Device) (p q : Sunk) → old.world ≡ Some w → new.world ≡ Some v → HasRun o.act o.read words w answer old new p q →
       HasPutSo p q (TellsBy o words w w v)
-  run_tells old new p q at end (Unheeded heeds_none went) = went_tells o H w w v differ sound reads words free answer old new p q at end went
+  run_tells old new p q at end (Unheeded heeds_none went) = went_tells o H w w v differ sound reads words answer old new p q at end went
   run_tells old new p q at end (Unasked f heeds is why looked) = put_nothing o words w w v p q looked.unput
   run_tells old new p q at end (Heeded x looked heeds after at_x looking heeded) = go heeded
     where
-      go : HasHeeded o.act words.cores answer (IsRefusal o.read true words w) (IsToServe o.read true words w) x looked new p q →
+      go : HasHeeded o.act words answer (IsRefusal o.read true words w) (AsksFor words w) (IsToServe o.read true words w) x looked new p q →
           HasPutSo p q (TellsBy o words w w v)
       go (Unmade is unchanged unput) = put_nothing o words w w v p q unput
       go (Stood is stands tried unput) = put_nothing o words w w v p q unput
@@ -267,9 +294,9 @@ module _ (o : Outside) (H : Versions) (w v : World) (differ : SumsDiffer H) (sou
 
 pub ran_tells :
     (o : Outside) (H : Versions) (w v : World) (differ : SumsDiffer H) (sound : SoundWorld o w H) (reads : ReadsRecords o.read) (words : RunWords)
-    (free : words.force ≡ No) (answer : Answer)
+    (answer : Answer)
     (old new : Device) (p q : Sunk) → old.world ≡ Some w → new.world ≡ Some v → HasRun o.act o.read words w answer old new p q → HasPutSo p q
     (Tells o words w v)
-ran_tells o H w v differ sound reads words free answer old new p q at end ran =
+ran_tells o H w v differ sound reads words answer old new p q at end ran =
     put_as p q (TellsBy o words w w v) (Tells o words w v) (tells_so o words w v)
-    (run_tells o H w v differ sound reads words free answer old new p q at end ran)
+    (run_tells o H w v differ sound reads words answer old new p q at end ran)

@@ -16,6 +16,7 @@ use Rattle.smk_store.specs.Safety.{with_sources}
 use Rattle.smk_laws_history.specs.Histories as histories
 use Rattle.smk_laws_history.specs.Histories.{History, DifferInSums, IsHeld, IsNew, IsLater, can_stand, edited, removed, no_versions}
 use Rattle.smk_laws_complete.specs.Derived.{AllHaveValues}
+use Rattle.smk_pick.specs.declared.settings.Force.TheVariants.{No}
 use Rattle.smk_report.specs.declared.fault.Fault.{Fault}
 use Rattle.smk_words_reading.specs.declared.asked.Asked.{Asked as Request}
 use Rattle.smk_words_reading.specs.declared.asked.Asked.TheVariants.{Run, Forget}
@@ -24,12 +25,13 @@ use Rattle.smk_cli_entry.specs.declared.asking.Asked.{Asked}
 use Rattle.smk_cli_entry.specs.Entry.{FailsToAsk, IsAskedIn}
 use Rattle.smk_keep_forget.specs.Seen.{seen}
 use Rattle.smk_laws_keys.specs.Keys.{outside}
-use Rattle.smk_cli.specs.Keys.{HasKept}
-use Rattle.smk_cli.specs.Whole.{HasServed}
-use Rattle.smk_clean.specs.Again.{HasNoneLeft}
+use Rattle.smk_cli_calls.specs.Keys.{HasKept}
+use Rattle.smk_cli_calls.specs.Whole.{HasServed}
+use Rattle.smk_clean.specs.Again.{HasNoneLeft, StartsNothing}
 use Rattle.smk_clean.specs.Clean.{HasMadeClean}
 use Rattle.smk_whole.specs.Calls.{MayTell}
 use Rattle.smk_whole.specs.Complete.{setting_in}
+use Rattle.smk_whole.specs.Temps.{AsksForNoTemps}
 use Rattle.smk_laws_call.specs.Started.{StartsOnFinished}
 use Rattle.smk_laws_call.specs.Telling.{HasPutSo, Tells}
 
@@ -121,13 +123,22 @@ CameIsSound = (act : Act) (w : World) (H : Versions) (came : Came act w H) → S
 pub record RunGives (o : Outside) (words : RunWords) (told : Option Fault) (w v : World) (called : IsCalled o (Run words) told w v) : Type 0 where
   -- what it calls current holds what a clean run from the sources makes of it, however the run ended
   pub tells : HasPutSo called.out_old called.out_new (Tells o words w v)
-  -- with status 0 each target holds what a clean run from the sources makes of it, and nothing is left to do
+  -- with status 0 each target holds what a clean run from the sources makes of it, and where no job was forced nothing is left to do; be its jobs made one
+  -- after another or driven
   pub clean : told ≡ None → HasMadeClean o words w v
-  pub none_left : told ≡ None → HasNoneLeft o words w v
-  -- no job was started on an output of an unfinished job
+  pub none_left : words.force ≡ No → told ≡ None → HasNoneLeft o words w v
+  -- so a run with the same words starts nothing in the folder that is left, where they ask for the same of the workflow in it
+  pub starts_nothing :
+      words.force ≡ No →
+      told ≡ None →
+      ((asked : Asked) → IsAskedIn true words w.nodes (Ok asked) → IsAskedIn true words v.nodes (Ok asked)) →
+      (again : Option Fault) (x : World) (next : IsCalled o (Run words) again v x) → StartsNothing next.served.serves
+  -- no job was started on an output of an unfinished job, be they made one after another or driven
   pub finished : (log : List Event) → v ≡ run w log → StartsOnFinished o w log
-  -- where the words aren't refused, a clean run gives each target and no call of the device failed, all is well, or it is told why not
+  -- where no output is temporary, the words aren't refused, a clean run gives each target and no call of the device failed, all is well, or it is told why not;
+  -- be its jobs made one after another or driven
   pub complete :
+      AsksForNoTemps words w →
       ((f : Fault) → FailsToAsk true words w.nodes f → ⊥) →
       ((asked : Asked) → IsAskedIn true words w.nodes (Ok asked) → AllHaveValues (setting_in o.act o.read asked w) asked.targets) →
       (Rose called.old.faults called.new.faults → ⊥) → MayTell o.read true words w told

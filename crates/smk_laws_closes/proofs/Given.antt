@@ -1,8 +1,8 @@
 -- The laws of other crates that are used here.
 use Rattle.smk_laws_rest.proofs.Answered.{rest_goes_by}
 use Rattle.smk_laws_rest.proofs.Rests.{any_is_replanned}
-use Rattle.smk_laws_closed.proofs.Before.{plan_before_guarding}
-use Rattle.smk_laws_closed.proofs.Left.{close_differs, left_ours, tend_differs}
+use Rattle.smk_laws_changes.proofs.Before.{plan_before_guarding}
+use Rattle.smk_laws_changes.proofs.Left.{close_differs, left_ours, tend_differs}
 use Rattle.smk_laws_closes.proofs.Laws.{Laws}
 
 pub laws : Laws

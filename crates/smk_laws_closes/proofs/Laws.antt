@@ -1,8 +1,8 @@
 -- Laws of other crates that are taken for granted here.
 use Rattle.smk_laws_turns.specs.Turning.{OfParts}
 use Rattle.smk_laws_rest.specs.Resting.{AnyIsReplanned, RestGoesBy}
-use Rattle.smk_laws_closed.specs.Closed.{CloseDiffers, LeftOurs, TendDiffers}
-use Rattle.smk_laws_closed.specs.Guarded.{PlanBeforeGuarding}
+use Rattle.smk_laws_changes.specs.Closed.{CloseDiffers, LeftOurs, TendDiffers}
+use Rattle.smk_laws_changes.specs.Guarded.{PlanBeforeGuarding}
 
 pub record Laws : Type 0 where
   pub rest_goes_by : RestGoesBy

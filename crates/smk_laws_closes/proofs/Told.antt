@@ -32,7 +32,7 @@ use Rattle.smk_laws_folder.proofs.Progressing.{closes_alike}
 use Rattle.smk_laws_turns.specs.Hubs.{IsKept, plan_of}
 use Rattle.smk_laws_rest.specs.Resting as rest
 use Rattle.smk_laws_rest.specs.Resting.{HasGoneBy, IsAnswerOf, IsResting, fault_of}
-use Rattle.smk_laws_closed.specs.Guarded.{IsFirstRefused}
+use Rattle.smk_laws_changes.specs.Guarded.{IsFirstRefused}
 use Rattle.smk_laws_closes.specs.Endings.{told_end}
 use Rattle.smk_laws_closes.specs.Learning.{IsOutcomeIn, IsSamePlan, closed_base}
 use Rattle.smk_laws_closes.proofs.Around.{with_end}

@@ -37,7 +37,7 @@ use Rattle.smk_laws_protocol.proofs.Basics.{in_here, in_rest, in_split}
 use Rattle.smk_laws_turns.specs.Hubs.{Parts, asks_in}
 use Rattle.smk_laws_turns.specs.Turning.{faulted}
 use Rattle.smk_laws_turns.proofs.Turning.{failed_wait_leads}
-use Rattle.smk_laws_room.proofs.Homes.{home_stays}
+use Rattle.smk_laws_changes.proofs.Homes.{home_stays}
 use Rattle.smk_drive_hub.specs.Turned.{AreSeated, HasFailedWait, HasTurned, IsSteady, LeadOn, TellsOn, WhereUnhalted}
 use Rattle.smk_laws_closes.specs.Closes.{HasClosedFor, taken}
 use Rattle.smk_laws_closes.specs.Turns.{HasFollowed, TellsEnd}

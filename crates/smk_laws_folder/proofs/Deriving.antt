@@ -14,7 +14,8 @@ use Rattle.smk_laws_plan.proofs.CurrentApart.{SpotsApart, spot_free, spots_apart
 use Rattle.smk_laws_plan.proofs.CurrentPaths.{among_in}
 use Rattle.smk_laws_plan.proofs.PlanOne.{derived_clear}
 use Rattle.smk_exit.proofs.Same.{same_derivation}
-use Rattle.smk_laws_folder.specs.Deriving.{DerivationGoesOn, HasOwnSigns}
+use Rattle.smk_laws_folder.specs.Deriving.{DerivationGoesOn}
+use Rattle.smk_laws_plan.specs.Signs.{HasOwnSigns}
 
 -- ## Spots that lie apart
 

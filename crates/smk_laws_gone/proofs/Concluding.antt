@@ -13,7 +13,7 @@ use Rattle.smk_run.specs.Runs as runs
 use Rattle.smk_run.proofs.Texts.{reported_nothing}
 use Rattle.smk_drive_course.specs.declared.ending.End.{End}
 use Rattle.smk_laws_turns.specs.Hubs.{Parts}
-use Rattle.smk_laws_loop.specs.Ended.{IsAllMade, IsEndOf}
+use Rattle.smk_laws_gone.specs.Ended.{IsAllMade, IsEndOf}
 use Rattle.smk_laws_gone.specs.Whole.{Faulted, HasConcluded, IsClosing, Told, Unput, Untold, closing_for}
 use Rattle.smk_laws_gone.proofs.Faults.{is_the_output}
 

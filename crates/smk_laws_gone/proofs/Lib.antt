@@ -1,3 +1,8 @@
+pub mod Serial
+pub mod Reach
+pub mod Opened
+pub mod Begun
+pub mod Ended
 pub mod Going
 pub mod Faults
 pub mod Unopened

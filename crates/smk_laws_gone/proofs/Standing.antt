@@ -17,7 +17,7 @@ use Rattle.smk_drive_course.specs.Steps.{Deed}
 use Rattle.smk_drive_first.specs.Opening.{AreRules}
 use Rattle.smk_laws_turns.specs.Hubs.{IsAt, Parts, plan_of}
 use Rattle.smk_drive_hub.specs.Turned.{LeadOn, Somewhere}
-use Rattle.smk_laws_loop.specs.Opened.{OpenedIsAt}
+use Rattle.smk_laws_gone.specs.Opened.{OpenedIsAt}
 use Rattle.smk_laws_gone.specs.Whole.{HasEntered}
 use Rattle.smk_laws_gone.specs.Standing.{OneLessTaken, OneMoreTaken, ReadyAtStart, ReadyOn, SomeTaken, taken}
 use Rattle.smk_laws_gone.proofs.Unopened.{childless, none_owned}

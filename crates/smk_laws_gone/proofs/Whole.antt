@@ -29,8 +29,8 @@ use Rattle.smk_drive_first.specs.Opening.{AreRules}
 use Rattle.smk_laws_turns.specs.Hubs.{IsAt, Parts, asks_in, plan_of}
 use Rattle.smk_laws_turns.proofs.Crew.{crew_idle}
 use Rattle.smk_drive_hub.specs.Turned.{AreSeated, HasFailedWait, IsSteady, IsToldSoFar, LeadOn, TellsOn, numbers_in}
-use Rattle.smk_laws_loop.specs.Ended.{EndsWell}
-use Rattle.smk_laws_loop.specs.Opened.{OpenedIsAt}
+use Rattle.smk_laws_gone.specs.Ended.{EndsWell}
+use Rattle.smk_laws_gone.specs.Opened.{OpenedIsAt}
 use Rattle.smk_laws_gone.specs.Gone.{HasGone}
 use Rattle.smk_laws_gone.specs.Whole.{Faulted, HasBegunRun, HasConcluded, HasEntered, IsClosing, IsConclusion, IsNew, IsThrough, Told, Unput, Untold, WholeRun}
 use Rattle.smk_laws_gone.proofs.Faults.{is_the_device, loses_no_device}

@@ -1,3 +1,5 @@
+pub mod Opened
+pub mod Ended
 pub mod Gone
 pub mod Whole
 pub mod Standing

@@ -15,7 +15,7 @@ use Rattle.smk_drive_course.specs.Stands.{NoneLeft}
 use Rattle.smk_drive_course.specs.Steps.{MaySpend}
 use Rattle.smk_laws_turns.specs.Hubs.{Parts}
 use Rattle.smk_drive_hub.specs.Turned.{AreSeated, IsSteady, Somewhere, WhereUnhalted}
-use Rattle.smk_laws_loop.specs.Opened.{OpenedIsAt}
+use Rattle.smk_laws_gone.specs.Opened.{OpenedIsAt}
 use Rattle.smk_laws_gone.specs.Gone.{HasGone}
 use Rattle.smk_laws_gone.specs.Whole.{HasBegunRun}
 

@@ -24,8 +24,8 @@ use Rattle.smk_drive_first.specs.Opening.{AreRules, HasStopped, IsOpened}
 use Rattle.smk_laws_turns.specs.Hubs.{Parts}
 use Rattle.smk_drive_hub.specs.Keeping.{IsAtStart}
 use Rattle.smk_drive_hub.specs.Turned.{WhereUnhalted}
-use Rattle.smk_laws_loop.specs.Ended.{EndsWell, IsAllMade, IsEndOf}
-use Rattle.smk_laws_loop.specs.Opened.{AreSourcesAt, OpenedIsAt}
+use Rattle.smk_laws_gone.specs.Ended.{EndsWell, IsAllMade, IsEndOf}
+use Rattle.smk_laws_gone.specs.Opened.{AreSourcesAt, OpenedIsAt}
 use Rattle.smk_laws_gone.specs.Gone.{HasGone}
 
 -- ## As it begins

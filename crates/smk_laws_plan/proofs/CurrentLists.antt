@@ -1,6 +1,7 @@
 -- Membership, and what tests, filters and look-ups say of members.
-use Rattle.std.proofs.Common.{◌≡◌, ◌⊎◌, Bool, true, false, not, ◌&&◌, ◌||◌, cond, List, [], ◌∷◌, ◌++◌, map, refl, sym, ap, subst, inl, inr, ◌∙◌, arith, Option, Some, None, filter, flat_map, filter_map, find, zip, true≢false}
+use Rattle.std.proofs.Common.{◌≡◌, ◌⊎◌, ℕ, zero, suc, Bool, true, false, not, ◌&&◌, ◌||◌, cond, List, [], ◌∷◌, ◌++◌, map, refl, sym, ap, subst, inl, inr, ◌∙◌, arith, Option, Some, None, filter, flat_map, filter_map, find, zip, true≢false}
 use Rattle.std.specs.List.{list_any, list_all, cons_option}
+use Rattle.std.specs.Prelude.{slice_get}
 pub use Rattle.std.proofs.lemmas.Bool.{or_cases, and_from as and_both, or_left as or_first, or_right as or_second, cases_Bool as both}
 pub use Rattle.std.proofs.lemmas.Option.{same_Some as some_inj}
 use Rattle.smk_chain.specs.Derive.{distinct}
@@ -8,6 +9,16 @@ use Rattle.smk_world.specs.Trees.{IsIn}
 
 abbrev pub In : {A : Type 0} → A → List A → Type 0
 In x xs = IsIn xs x
+
+-- ## Places in a list
+
+pub get_in : {A : Type 0} (xs : List A) (n : ℕ) (x : A) → slice_get xs n ≡ Some x → IsIn xs x
+get_in [] n x h = cc
+get_in (z ∷ xs) zero x h = inl (same h)
+  where
+    same : Some z ≡ Some x → x ≡ z
+    same e = cc
+get_in (z ∷ xs) (suc n) x h = inr (get_in xs n x h)
 
 -- ## Booleans
 

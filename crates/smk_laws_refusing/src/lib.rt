@@ -1,6 +1,7 @@
 //! Laws of a run's course: what is refused in it, and how it ends then.
 #![tactic(auto)]
 
+ghost use Rattle.smk_laws_refusing.specs.Leaving.{RefusedAtEntryFails, RefusedAtEntryLeavesAll};
 ghost use Rattle.smk_laws_refusing.specs.Refusing.{AnewRefusesAsMoment, BeginsOnceLooked, BeginsWhereNoneRefuses, ClearRefusesAsMoment, FirstFaultEnds};
 ghost use Rattle.smk_laws_refusing.specs.Refusing.{LooksKeepRefusals, NoneLeftNoneRefuses, RefusalIsMet, RefusedAtEntryEnds, UnhaltedWasClear};
 
@@ -24,4 +25,11 @@ pub fn refusals_end_runs()
     ensures met { RefusalIsMet }
     ensures first { FirstFaultEnds }
     ensures entry { RefusedAtEntryEnds }
+{}
+
+/// Where the plans of its entry are refused a run ends with such a refusal, or with a fault of the device or of memory. It leaves all as it stands: no child is
+/// started, the same reads at each place, and nothing is put.
+pub fn refused_runs_leave_all()
+    ensures fails { RefusedAtEntryFails }
+    ensures leaves { RefusedAtEntryLeavesAll }
 {}

@@ -12,7 +12,7 @@ use Rattle.smk_drive.specs.Lawful.{ask_of, running_jobs}
 use Rattle.smk_drive.specs.Moments.{Begun, Rules, runs, seen}
 use Rattle.smk_drive_pick.specs.Picking.{AreAlike}
 use Rattle.smk_drive_course.specs.Stands.{Stand, moment_of}
-use Rattle.smk_laws_folder.specs.Deriving.{HasOwnSigns}
+use Rattle.smk_laws_plan.specs.Signs.{HasOwnSigns}
 use Rattle.smk_laws_turns.specs.Hubs.{IsKept, IsOurs, IsSigned, Parts, asks_in}
 use Rattle.smk_laws_spends.proofs.Firmly.{ReadsAlike, clear_on, progress_same, runs_same}
 

@@ -38,10 +38,10 @@ use Rattle.smk_laws_pick.specs.Picked.{judging_at}
 use Rattle.smk_laws_pick.proofs.Judged.{judged_as_kept}
 use Rattle.smk_laws_pick.proofs.Picked.{spent_as_kept}
 use Rattle.smk_laws_protocol.proofs.Basics.{each_in}
-use Rattle.smk_laws_room.proofs.Homes.{home_stays}
-use Rattle.smk_laws_begun.specs.Begun.{IsSpentFor}
-use Rattle.smk_laws_begun.proofs.Spending.{spend_differs}
-use Rattle.smk_laws_begun.proofs.SpentOutput.{spent_output}
+use Rattle.smk_laws_changes.proofs.Homes.{home_stays}
+use Rattle.smk_laws_changes.specs.Begun.{IsSpentFor}
+use Rattle.smk_laws_changes.proofs.Spending.{spend_differs}
+use Rattle.smk_laws_changes.proofs.SpentOutput.{spent_output}
 use Rattle.smk_laws_turns.specs.Hubs.{IsAt, IsHome, IsKept, Parts, plan_of}
 use Rattle.smk_laws_rest.specs.Resting.{HasGoneBy, IsAnswerOf, IsResting}
 use Rattle.smk_laws_rest.proofs.Answered.{rest_goes_by}

@@ -28,7 +28,7 @@ use Rattle.smk_drive_course.specs.Stands as stands
 use Rattle.smk_drive_course.specs.Steps.{AreRemoved, Deed, IsWaitFor, NoMore, OneMore, Started}
 use Rattle.smk_drive_course.specs.Breaks.{Begins, BeginsNot, BreaksOff, Closes, Done, FailsToWait, Halts, Leaves, ReadsNot, Spends, SpendsNot, Step, Then, Waits}
 use Rattle.smk_drive_course.specs.Reports.{deed_faults, failures, is_done, is_started}
-use Rattle.smk_exit.proofs.Dues.{get_in}
+use Rattle.smk_laws_plan.proofs.CurrentLists.{get_in}
 use Rattle.smk_laws_protocol.proofs.Basics.{in_rest, in_split}
 use Rattle.smk_laws_protocol.proofs.Stays.{in_left, in_right}
 use Rattle.smk_laws_moments.specs.Courses.{HasChildren, begun_jobs, started_job, started_jobs}

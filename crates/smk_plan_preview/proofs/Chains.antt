@@ -29,7 +29,7 @@ use Rattle.smk_plan_preview.specs.Faults.{is_told}
 use Rattle.smk_plan_preview.specs.Previewing.{rules_for}
 use Rattle.smk_choose.specs.declared.sources.Sources.{Sources}
 use Rattle.std.specs.Prelude.{IsErrAnd}
-use Rattle.smk_plan_preview.proofs.Looked.{err_is}
+use Rattle.smk_plan_preview.proofs.LookedAt.{err_is}
 use Rattle.smk_plan_preview.proofs.Derivations.{many_refused}
 use Rattle.smk_plan_preview.specs.Rounds.{AreReady, Sights, IsSighted, Derives, IsRefusedFirst, plan_in, IsRound, HasRound, Leads, IsLast, HasChain}
 use Rattle.smk_plan_preview.specs.Steps.{IsPlanRefused}

@@ -1,11 +1,11 @@
 pub mod Sinks
-pub mod Looked
+pub mod LookedAt
 pub mod Derivations
 pub mod Reached
 pub mod Agreed
 pub mod Links
 pub mod Served
-pub mod Derived
+pub mod DerivedJobs
 pub mod Copies
 pub mod Commands
 pub mod Chains

@@ -51,7 +51,7 @@ pub fn of_chain(fault: ChainFault) -> Fault
 }
 
 /// The fault of a plan, which names the rule. `OutOfMemory` where there is no memory for its name.
-pub(crate) fn of_plan(alloc: Global, flow: &Workflow, refusal: PlanFault) -> Fault
+pub fn of_plan(alloc: Global, flow: &Workflow, refusal: PlanFault) -> Fault
     ensures is { (result ≡ fault_in flow.now refusal) ⊎ (result ≡ fault.OutOfMemory) }
     ensures no_device { spec.is_device result ≡ false }
     ensures no_sink { spec.is_sink result ≡ false }

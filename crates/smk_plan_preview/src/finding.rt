@@ -43,7 +43,7 @@ fn of_load(loaded: Result<Store, StoreFault>) -> Result<Store, Fault>
 }
 
 /// The store as it stands.
-pub(crate) fn stored<W: Files>(alloc: Global, work: &mut W) -> Result<Store, Fault>
+pub fn stored<W: Files>(alloc: Global, work: &mut W) -> Result<Store, Fault>
     ensures looked { HasLooked W.act (W.device work.old) (W.device work.new) (device_failed result) }
     ensures no_sink { IfErr result (λ f. is_sink f ≡ false) }
     ensures told { IfOk result (λ store. WhereTold (W.device work.old) (λ w. NoneOwned w
@@ -66,7 +66,7 @@ fn of_sources(sighted: Result<Sources, SightFault>) -> Result<Sources, Fault>
 }
 
 /// The sources among all that could be wanted for the targets.
-pub(crate) fn sighted<W: Files>(
+pub fn sighted<W: Files>(
     alloc: Global,
     flow: &Workflow,
     readings: &Readings,
@@ -119,7 +119,7 @@ fn derived_with(
 }
 
 /// The jobs that the targets call for with these listings, by what is told of sources.
-pub(crate) fn derived(
+pub fn derived(
     alloc: Global,
     flow: &Workflow,
     readings: &Readings,
@@ -154,7 +154,7 @@ fn of_seen(seen: Result<Seen, LookFault>) -> Result<Seen, Fault>
 }
 
 /// What stands at the outputs and the sources of the jobs, with the digests of the sources without which the records of the store can't be judged.
-pub(crate) fn looked<W: Files, Rt: Threads + Sync>(
+pub fn looked<W: Files, Rt: Threads + Sync>(
     rt: &Rt,
     alloc: Global,
     work: &mut W,

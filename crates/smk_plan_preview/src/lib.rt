@@ -10,7 +10,9 @@ mod listing;
 mod previewing;
 mod rounds;
 
-pub use faults::{of_chain, of_look, of_sight};
+pub use faults::{of_chain, of_look, of_plan, of_sight};
+pub use finding::{derived, looked, sighted, stored};
+pub use listing::add_listings;
 pub use previewing::{Previewed, preview};
 
 /// Laws of links, which give what `facts` and `wholes` ask of the jobs that are derived for some targets. The makers tell of each source among their inputs. And a

@@ -28,11 +28,7 @@ fn append(alloc: Global, lists: &mut Listings, more: &[Known]) -> Result<(), Out
 }
 
 /// Adds copies of these listings.
-pub(crate) fn add_listings(
-    alloc: Global,
-    lists: &mut Listings,
-    more: &Listings,
-) -> Result<(), Fault>
+pub fn add_listings(alloc: Global, lists: &mut Listings, more: &Listings) -> Result<(), Fault>
     ensures ok { OnOk result (lists.new ≡ lists.old ++ more.now) }
     ensures fault { IfErr result (λ f. f ≡ fault.OutOfMemory) }
 {

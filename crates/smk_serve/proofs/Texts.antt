@@ -9,7 +9,7 @@ use Rattle.smk_trigger.specs.declared.reason.State.{State}
 use Rattle.smk_chain.specs.Derive.{Listings}
 use Rattle.smk_report.specs.Lines.{Named, state_line, plan_line}
 use Rattle.smk_drive.specs.Reports.{named_job, listing_text}
-use Rattle.smk_serve.specs.Listing.{job_line}
+use Rattle.smk_cli_calls.specs.Listing.{job_line}
 
 named_lines : (flow : Flow) (es : List (Job × State)) → flat_map state_line (map (λ (e : Job × State). (named_job flow e.0, e.1)) es) ≡ flat_map (job_line flow) es
 named_lines flow [] = refl

@@ -2,6 +2,7 @@
 #![tactic(auto)]
 
 mod listing;
+mod marks;
 mod serving;
 
 pub use listing::put_listing;

@@ -7,7 +7,7 @@ ghost use Rattle.smk_world.specs.World.{out_paths};
 ghost use Rattle.smk_drive.specs.Reports.{listing_text};
 ghost use Rattle.smk_run.specs.Reports.{HasReported, IsReport};
 ghost use Rattle.smk_run.specs.Runs.{is_output};
-ghost use Rattle.smk_serve.specs.Listing.{job_line, IsFault};
+ghost use Rattle.smk_cli_calls.specs.Listing.{job_line, IsFault};
 
 use smk_base::{List, OutOfMemory};
 use smk_chain::{Jobs, first_output};

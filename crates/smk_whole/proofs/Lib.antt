@@ -1,3 +1,5 @@
+pub mod Temps
+pub mod Drove
 pub mod Working
 pub mod Plain
 pub mod Calling

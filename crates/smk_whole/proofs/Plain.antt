@@ -18,7 +18,7 @@ use Rattle.smk_laws_history.proofs.CurrentLaw.{last_is}
 use Rattle.smk_laws_plan.proofs.CurrentLists.{distinct_in, flat_in, map_in}
 use Rattle.smk_laws_plan.proofs.CurrentReach.{outcome_derived}
 use Rattle.smk_laws_plan.proofs.CurrentWalked.{walked_chosen}
-use Rattle.smk_serve.proofs.Plain.{each_from, numbered_in, built_part, built_forms, plain_outs, no_gathers}
+use Rattle.smk_cli_calls.proofs.Plain.{each_from, numbered_in, built_part, built_forms, plain_outs, no_gathers}
 use Rattle.smk_whole.specs.Built.{BuiltFlowsGatherAlone, BuiltPlansArePlain}
 
 -- ## Plans

@@ -52,13 +52,15 @@ use Rattle.smk_store.specs.declared.fault.StoreFault.{StoreFault}
 use Rattle.smk_store.specs.declared.fault.StoreFault.TheVariants as store
 use Rattle.smk_store.specs.Faults.{store_failed}
 use Rattle.smk_store.specs.Steadying.{HasTried, all_signs, steady_requests}
-use Rattle.smk_serve.specs.Serving.{HasListed, HasWorked, IsPlanFor, IsWant, settings_of}
-use Rattle.smk_serve.specs.Serving.Went.{Refused, Stopped, Worked}
-use Rattle.smk_serve.specs.Serving.HasListed.{Listed, NotListed}
+use Rattle.smk_cli_calls.specs.Serving.{HasListed, HasWorked, IsPlanFor, IsWant, WasDriven, settings_of}
+use Rattle.smk_cli_calls.specs.Serving.Went.{Drove, Refused, Stopped, Worked}
+use Rattle.smk_cli_calls.specs.Serving.HasListed.{Listed, NotListed}
 use Rattle.smk_succeed.specs.Completing.{EndsWell, KeepsFiles, MayBreakOff, NoMemory as OfMemory, DeviceFailed, SinkFailed}
 use Rattle.smk_succeed.specs.Planning.{IsPlainPlan}
 use Rattle.smk_succeed.proofs.Completing.{runs_are_complete}
 use Rattle.smk_whole.specs.Complete.{EndsComplete, IsCleanAsked, IsCompleteAnswer, RefusedPlansMayStop, ServedListingsAreComplete, ServedRunsAreComplete, WorkIsComplete}
+use Rattle.smk_whole.proofs.Drove.{drove_is_complete}
+use Rattle.smk_whole.proofs.Plain.{built_plans_are_plain}
 
 pub refused_plans_may_stop : RefusedPlansMayStop
 refused_plans_may_stop act read asked words w H f clean refused =
@@ -276,13 +278,17 @@ completes read asked words w (Ok u) h = tt
 completes read asked words w (Err f) h = inr h
 
 pub served_runs_are_complete : ServedRunsAreComplete
-served_runs_are_complete act read asked words w v H result old new out_old out_new at end clean plain never (Refused f e refused kept) =
+served_runs_are_complete act read asked words w v H result old new out_old out_new at end reads clean built temps never (Refused f e refused kept) =
     subst (IsCompleteAnswer read asked words w) (sym e) (inl (refused_plans_may_stop act read asked words w H f clean refused))
-served_runs_are_complete act read asked words w v H result old new out_old out_new at end clean plain never (Stopped f e want kept) =
+served_runs_are_complete act read asked words w v H result old new out_old out_new at end reads clean built temps never (Stopped f e want kept) =
     subst (IsCompleteAnswer read asked words w) (sym e) (inr (want_stops f want))
-served_runs_are_complete act read asked words w v H result old new out_old out_new at end clean plain never (Worked served told (same, planned) worked) =
+served_runs_are_complete act read asked words w v H result old new out_old out_new at end reads clean built temps never (Drove served apart same drove) =
+    drove_is_complete act read asked words w v H result old new out_old out_new at end reads clean built temps never
+    (subst (λ (a : Asked). WasDriven act words result a old new out_old out_new) same drove)
+served_runs_are_complete act read asked words w v H result old new out_old out_new at end reads clean built temps never (Worked served told also (same, planned) worked) =
     completes read asked words w result
-    (work_is_complete act read asked told words w v H result old new out_old out_new at end clean planned plain never
+    (work_is_complete act read asked told words w v H result old new out_old out_new at end clean planned
+    (λ plan last. built_plans_are_plain asked.flow _ _ _ _ plan built last) never
     (subst (λ (a : Asked). HasWorked act words.cores result a told old new out_old out_new) same worked))
 
 pub served_listings_are_complete : ServedListingsAreComplete

@@ -1,3 +1,4 @@
 pub mod Complete
 pub mod Built
 pub mod Calls
+pub mod Temps

@@ -1,6 +1,7 @@
 use Rattle.smk_exit.proofs.Clean.{run_leaves_all_clean}
-use Rattle.smk_clean.proofs.Clean.{call_is_clean}
+use Rattle.smk_clean.proofs.Ended.{drives_end}
+use Rattle.smk_clean.proofs.Ending.{call_is_clean}
 use Rattle.smk_clean.proofs.calls_are_clean.Goals as goal
 
 pub returns : goal.returns
-returns c = call_is_clean run_leaves_all_clean
+returns c = call_is_clean run_leaves_all_clean drives_end

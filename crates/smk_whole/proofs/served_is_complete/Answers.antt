@@ -1,3 +1,4 @@
+use Rattle.smk_whole.proofs.Drove.{drove_is_complete}
 use Rattle.smk_whole.proofs.Working.{refused_plans_may_stop, served_listings_are_complete, served_runs_are_complete, work_is_complete}
 use Rattle.smk_whole.proofs.served_is_complete.Goals as goal
 
@@ -6,6 +7,7 @@ returns c =
     record {
       refused = refused_plans_may_stop;
       worked = work_is_complete;
+      drove = drove_is_complete;
       run = served_runs_are_complete;
       listing = served_listings_are_complete;
     }

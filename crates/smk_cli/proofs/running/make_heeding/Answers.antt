@@ -2,7 +2,7 @@ use Rattle.std.proofs.Common.{false, refl, subst, Ok}
 use Rattle.smk_world.specs.Devices.{HasActed}
 use Rattle.smk_keep_lock.specs.Locking.{HasTaken}
 use Rattle.smk_report.specs.declared.fault.Fault.TheVariants as fault
-use Rattle.smk_cli.specs.Locking.{Stood, Taken, Unmade, Untaken}
+use Rattle.smk_cli_calls.specs.Locking.{Stood, Taken, Unmade, Untaken}
 use Rattle.smk_cli.proofs.Locking.{acted_last, acted_on, lock_stands, once_locked, unmade_end}
 use Rattle.smk_cli.proofs.running.make_heeding.Goals as goal
 

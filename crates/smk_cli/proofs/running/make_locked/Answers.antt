@@ -1,7 +1,7 @@
 use Rattle.std.proofs.Common.{refl, sym, subst, ◌∙◌}
 use Rattle.smk_world.specs.Calls.{Rose}
-use Rattle.smk_serve.specs.Ends.{EndsAs}
-use Rattle.smk_cli.specs.Locking.{LockGoes, LockStays}
+use Rattle.smk_cli_calls.specs.Ends.{EndsAs}
+use Rattle.smk_cli_calls.specs.Locking.{LockGoes, LockStays}
 use Rattle.smk_cli.proofs.Locking.{left_idle, none_numbered, released_end}
 use Rattle.smk_cli.proofs.running.make_locked.Goals as goal
 

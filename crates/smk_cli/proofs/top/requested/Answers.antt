@@ -1,6 +1,6 @@
 use Rattle.std.proofs.Common.{ap, inr, Err}
 use Rattle.std.specs.Prelude.{map, string_bytes}
-use Rattle.smk_cli.specs.Words.{Unread, WithoutCores}
+use Rattle.smk_cli_calls.specs.Words.{Unread, WithoutCores}
 use Rattle.smk_cli.proofs.Words.{early_unbuilt}
 use Rattle.smk_cli.proofs.top.requested.Goals as goal
 

@@ -2,10 +2,10 @@ use Rattle.std.proofs.Common.{refl, sym, ap, subst, inr, ◌∙◌, Err}
 use Rattle.std.specs.Prelude.{map, string_bytes}
 use Rattle.smk_world.proofs.Devices.{looked_as, looked_nothing}
 use Rattle.smk_words_reading.proofs.Whole.{one_asked}
-use Rattle.smk_serve.proofs.Ended.{early}
-use Rattle.smk_cli.specs.Words.{is_to_make}
-use Rattle.smk_cli.specs.Whole.{Serves}
-use Rattle.smk_cli.specs.Keys.{Keeps, NoMemory}
+use Rattle.smk_cli_calls.proofs.Ended.{early}
+use Rattle.smk_cli_calls.specs.Words.{is_to_make}
+use Rattle.smk_cli_calls.specs.Whole.{Serves}
+use Rattle.smk_cli_calls.specs.Keys.{Keeps, NoMemory}
 use Rattle.smk_cli.proofs.Serving.{stopped}
 use Rattle.smk_cli.proofs.Words.{built_unrefused, early_calm, early_quiet, early_refusal, early_want}
 use Rattle.smk_cli.proofs.top.serve.Goals as goal

@@ -1,10 +1,10 @@
 use Rattle.std.proofs.Common.{false}
 use Rattle.smk_world.proofs.Devices.{looked_then}
-use Rattle.smk_serve.specs.Serving.{IsRefusedPlan, IsServed}
-use Rattle.smk_serve.proofs.Ended.{early, later_on}
-use Rattle.smk_serve.proofs.Went.{refused_or_stopped_listing, listed_wider}
-use Rattle.smk_plan_preview.proofs.Looked.{kept}
-use Rattle.smk_cli.specs.Whole.{IsRefusal, IsToServe, OfWorkflow}
+use Rattle.smk_cli_calls.specs.Serving.{IsRefusedPlan, IsServed}
+use Rattle.smk_cli_calls.proofs.Ended.{early, later_on}
+use Rattle.smk_cli_calls.proofs.Went.{refused_or_stopped_listing, listed_wider}
+use Rattle.smk_plan_preview.proofs.LookedAt.{kept}
+use Rattle.smk_cli_calls.specs.Whole.{IsRefusal, IsToServe, OfWorkflow}
 use Rattle.smk_cli.proofs.Serving.{plan_refused, plan_served}
 use Rattle.smk_cli.proofs.top.serve_listing.Goals as goal
 

@@ -1,6 +1,6 @@
 use Rattle.std.proofs.Common.{sym, subst}
-use Rattle.smk_cli.specs.Whole.{Serves}
-use Rattle.smk_cli.specs.Keys.{Keeps, Unlocks, Forgets}
+use Rattle.smk_cli_calls.specs.Whole.{Serves}
+use Rattle.smk_cli_calls.specs.Keys.{Keeps, Unlocks, Forgets}
 use Rattle.smk_cli.proofs.top.serve_request.Goals as goal
 
 pub returns-in-Run-clause-ended : goal.returns-in-Run-clause-ended

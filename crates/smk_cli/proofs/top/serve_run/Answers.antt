@@ -1,5 +1,5 @@
-use Rattle.smk_serve.proofs.Ended.{early, later_on}
-use Rattle.smk_serve.proofs.Went.{only_looked}
+use Rattle.smk_cli_calls.proofs.Ended.{early, later_on}
+use Rattle.smk_cli_calls.proofs.Went.{only_looked}
 use Rattle.smk_cli.proofs.Serving.{run_of, unasked_run}
 use Rattle.smk_cli.proofs.top.serve_run.Goals as goal
 

@@ -1,4 +1,4 @@
-use Rattle.smk_serve.specs.Ends.{fault_of}
+use Rattle.smk_cli_calls.specs.Ends.{fault_of}
 use Rattle.smk_cli.proofs.Outcomes.{ends_as, outcome_refused}
 use Rattle.smk_cli.proofs.top.smk.Goals as goal
 

@@ -1,5 +1,5 @@
 use Rattle.std.proofs.Common.{◌∙◌, subst, sym}
-use Rattle.smk_cli.specs.Lines.{HasToldFault}
+use Rattle.smk_cli_calls.specs.Lines.{HasToldFault}
 use Rattle.smk_cli.proofs.Putting.{told_line, told_none}
 use Rattle.smk_cli.proofs.top.tell.Goals as goal
 

@@ -4,7 +4,7 @@ use Rattle.smk_world.proofs.Devices.{looked_nothing, looked_as, looked_then}
 use Rattle.smk_store.specs.Images.{seen}
 use Rattle.smk_laws_history.proofs.CurrentComplete.{seen_is_complete}
 use Rattle.smk_plan.specs.declared.plan.Plan.{Plan as Told}
-use Rattle.smk_plan_preview.proofs.Looked.{failed_on, kept, seen_moved, sink_as, memory_quiet, none_still}
+use Rattle.smk_plan_preview.proofs.LookedAt.{failed_on, kept, seen_moved, sink_as, memory_quiet, none_still}
 use Rattle.smk_drive_first.specs.Keeping.{HasKept}
 use Rattle.smk_drive_first.proofs.Kept.{handed_on, kept_last, memory_last, memory_no_sink, reaches_begun, reaches_next}
 use Rattle.smk_drive_first.proofs.chaining.chain_by.Goals as goal

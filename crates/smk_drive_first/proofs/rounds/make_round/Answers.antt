@@ -3,7 +3,7 @@ use Rattle.smk_world.proofs.Devices.{looked_as, looked_then}
 use Rattle.smk_store.specs.Images.{seen}
 use Rattle.smk_store.specs.Loading.{IsStoreOf}
 use Rattle.smk_plan_preview.specs.Faults.{device_failed}
-use Rattle.smk_plan_preview.proofs.Looked.{kept, seen_moved, none_still}
+use Rattle.smk_plan_preview.proofs.LookedAt.{kept, seen_moved, none_still}
 use Rattle.smk_drive_first.specs.Keeping.{HasKept}
 use Rattle.smk_drive_first.proofs.Kept.{kept_not}
 use Rattle.smk_drive_first.proofs.rounds.make_round.Goals as goal

@@ -12,5 +12,5 @@ returns-in-Ok-clause-quiet c = checked_quiet c.args.flow.now c.args.settings.now
 
 pub returns-in-Err-clause-answer : goal.returns-in-Err-clause-answer
 returns-in-Err-clause-answer c = λ base told refusals.
-    answer_refused c.args.flow.now c.args.settings.now base c.args.live.now c.in-Err.refusal c.of_plan.result c.of_plan.ensures
+    answer_refused c.args.flow.now c.args.settings.now base c.args.live.now c.in-Err.refusal c.of_plan.result c.of_plan.ensures.is
     (subst (λ (t : Result (Unit {0}) PlanFault). IfErr t (λ refusal. refusal ≢ refused.OutOfMemory → IsRefusedNow c.args.settings.now base refusal)) c.in-Err.is refusals)

@@ -4,7 +4,7 @@ use Rattle.smk_world.proofs.Devices.{looked_nothing, looked_as, looked_then}
 use Rattle.smk_store.specs.Loading.{IsStoreOf}
 use Rattle.smk_store.specs.Images.{seen}
 use Rattle.smk_plan_preview.specs.Rounds as spec
-use Rattle.smk_plan_preview.proofs.Looked.{failed_on, kept, seen_moved, sink_as, memory_quiet, none_still}
+use Rattle.smk_plan_preview.proofs.LookedAt.{failed_on, kept, seen_moved, sink_as, memory_quiet, none_still}
 use Rattle.smk_plan_preview.proofs.Chains.{leads_begun, leads_next, last_round, chain_refused, round_ok}
 use Rattle.smk_plan_preview.proofs.chaining.chain_by.Goals as goal
 

@@ -1,4 +1,4 @@
-use Rattle.smk_plan_preview.proofs.Derived.{lists_as, derives_as, memory_quiet, memory_sink, memory_untold}
+use Rattle.smk_plan_preview.proofs.DerivedJobs.{lists_as, derives_as, memory_quiet, memory_sink, memory_untold}
 use Rattle.smk_plan_preview.proofs.finding.derived.Goals as goal
 
 pub returns-in-Ok-clause-lists : goal.returns-in-Ok-clause-lists

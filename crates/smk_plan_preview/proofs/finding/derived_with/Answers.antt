@@ -1,5 +1,5 @@
 use Rattle.std.proofs.lemmas.Result.{IfOk-weaker}
-use Rattle.smk_plan_preview.proofs.Derived.{chain_quiet, chain_lists, chain_fit, chain_told}
+use Rattle.smk_plan_preview.proofs.DerivedJobs.{chain_quiet, chain_lists, chain_fit, chain_told}
 use Rattle.smk_plan_preview.proofs.finding.derived_with.Goals as goal
 
 pub returns-clause-no_device : goal.returns-clause-no_device

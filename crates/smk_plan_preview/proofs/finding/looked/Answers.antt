@@ -1,5 +1,5 @@
 use Rattle.smk_world.proofs.Devices.{looked_as}
-use Rattle.smk_plan_preview.proofs.Looked.{look_same, look_untold, look_told, look_summed}
+use Rattle.smk_plan_preview.proofs.LookedAt.{look_same, look_untold, look_told, look_summed}
 use Rattle.smk_plan_preview.proofs.finding.looked.Goals as goal
 
 pub returns-clause-looked : goal.returns-clause-looked

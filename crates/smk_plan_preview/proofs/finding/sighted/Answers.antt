@@ -1,5 +1,5 @@
 use Rattle.smk_world.proofs.Devices.{looked_as}
-use Rattle.smk_plan_preview.proofs.Looked.{sight_same}
+use Rattle.smk_plan_preview.proofs.LookedAt.{sight_same}
 use Rattle.smk_plan_preview.proofs.Derivations.{sights}
 use Rattle.smk_plan_preview.proofs.finding.sighted.Goals as goal
 

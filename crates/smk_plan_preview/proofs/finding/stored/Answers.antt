@@ -1,5 +1,5 @@
 use Rattle.smk_world.proofs.Devices.{looked_as}
-use Rattle.smk_plan_preview.proofs.Looked.{store_same, store_untold, store_told}
+use Rattle.smk_plan_preview.proofs.LookedAt.{store_same, store_untold, store_told}
 use Rattle.smk_plan_preview.proofs.finding.stored.Goals as goal
 
 pub returns-clause-looked : goal.returns-clause-looked

@@ -3,7 +3,7 @@ use Rattle.smk_world.proofs.Devices.{looked_as, looked_then}
 use Rattle.smk_store.specs.Loading.{IsStoreOf}
 use Rattle.smk_plan_preview.specs.Faults.{device_failed}
 use Rattle.smk_plan_preview.specs.Previewing.{HasPreviewed}
-use Rattle.smk_plan_preview.proofs.Looked.{kept, seen_moved, none_still}
+use Rattle.smk_plan_preview.proofs.LookedAt.{kept, seen_moved, none_still}
 use Rattle.smk_plan_preview.proofs.previewing.preview.Goals as goal
 
 pub returns-in-Err-clause-looked : goal.returns-in-Err-clause-looked

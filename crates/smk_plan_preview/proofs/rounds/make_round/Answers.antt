@@ -5,7 +5,7 @@ use Rattle.smk_store.specs.Images.{seen}
 use Rattle.smk_chain_derive.proofs.Seen.{seen_lists_known}
 use Rattle.smk_plan_preview.specs.Faults.{device_failed}
 use Rattle.smk_plan_preview.specs.Rounds as spec
-use Rattle.smk_plan_preview.proofs.Looked.{kept, seen_moved, none_still}
+use Rattle.smk_plan_preview.proofs.LookedAt.{kept, seen_moved, none_still}
 use Rattle.smk_plan_preview.proofs.Chains.{sight_told, sighted_ok}
 use Rattle.smk_plan_preview.proofs.rounds.make_round.Goals as goal
 

@@ -4,7 +4,7 @@ use Rattle.std.specs.List.{flat_map}
 use Rattle.smk_flow.specs.declared.job.Job.{Job}
 use Rattle.smk_pattern.specs.Shapes.{Text}
 use Rattle.smk_trigger.specs.declared.reason.State.{State}
-use Rattle.smk_serve.specs.Listing.{job_line}
+use Rattle.smk_cli_calls.specs.Listing.{job_line}
 use Rattle.smk_serve.proofs.Texts.{listing_is}
 use Rattle.smk_serve.proofs.listing.listing_text.Goals as goal
 

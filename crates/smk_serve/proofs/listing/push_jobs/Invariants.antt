@@ -1,7 +1,7 @@
 use Rattle.std.proofs.Common.{◌≡◌, ◌++◌, drop, string_bytes}
 use Rattle.std.specs.Prelude.{zip}
 use Rattle.std.specs.List.{flat_map}
-use Rattle.smk_serve.specs.Listing.{job_line}
+use Rattle.smk_cli_calls.specs.Listing.{job_line}
 use Rattle.smk_serve.proofs.listing.push_jobs.Given as goal
 
 abbrev pub invariant-loop-number : goal.invariant-loop-number

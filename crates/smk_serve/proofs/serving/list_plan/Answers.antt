@@ -4,11 +4,11 @@ use Rattle.smk_plan.specs.Duties.{maker_in}
 use Rattle.smk_run.specs.Reports.{IsReport}
 use Rattle.smk_drive.specs.Reports.{listing_text}
 use Rattle.smk_plan_preview.specs.Previewing.{plan_of}
-use Rattle.smk_serve.specs.Serving.{IsRefusedPlan, IsServed, Listed}
+use Rattle.smk_cli_calls.specs.Serving.{IsRefusedPlan, IsServed, Listed}
 use Rattle.smk_serve.proofs.Making.{all_make}
 use Rattle.smk_serve.proofs.ListingKinds.{listing_faults}
-use Rattle.smk_serve.proofs.Ended.{early, put_end, listing_calm}
-use Rattle.smk_serve.proofs.Went.{refused_or_stopped_listing}
+use Rattle.smk_cli_calls.proofs.Ended.{early, put_end, listing_calm}
+use Rattle.smk_cli_calls.proofs.Went.{refused_or_stopped_listing}
 use Rattle.smk_serve.proofs.serving.list_plan.Goals as goal
 
 pub returns-in-Err-clause-ended : goal.returns-in-Err-clause-ended

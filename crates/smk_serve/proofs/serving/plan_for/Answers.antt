@@ -3,7 +3,7 @@ use Rattle.smk_world.proofs.Devices.{looked_as, looked_nothing}
 use Rattle.smk_store.specs.Images.{seen}
 use Rattle.smk_store.proofs.Idle.{none_owned}
 use Rattle.smk_plan_preview.specs.Previewing.{HasPreviewed}
-use Rattle.smk_serve.specs.Serving.{settings_of}
+use Rattle.smk_cli_calls.specs.Serving.{settings_of}
 use Rattle.smk_serve.proofs.PreviewKinds.{device_same, fit_by}
 use Rattle.smk_serve.proofs.serving.plan_for.Goals as goal
 

@@ -1,0 +1,9 @@
+pub mod Ends
+pub mod OneByOne
+pub mod Serving
+pub mod Lines
+pub mod Words
+pub mod Locking
+pub mod Keys
+pub mod Whole
+pub mod Listing

@@ -1,0 +1,3 @@
+pub mod TargetLines
+pub mod Makers
+pub mod Ends

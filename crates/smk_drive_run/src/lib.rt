@@ -1,0 +1,10 @@
+//! A whole run: jobs side by side, by a plan that is kept.
+#![tactic(auto)]
+
+mod driving;
+mod ending;
+mod entering;
+mod sources;
+
+pub use driving::drive;
+pub use smk_drive_course::End;

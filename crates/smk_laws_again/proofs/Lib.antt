@@ -1,0 +1,5 @@
+pub mod Unwanted
+pub mod Removing
+pub mod Idle
+pub mod Unstarted
+pub mod Quiet

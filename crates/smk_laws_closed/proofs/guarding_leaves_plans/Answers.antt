@@ -1,5 +1,0 @@
-use Rattle.smk_laws_closed.proofs.Before.{plan_before_guarding}
-use Rattle.smk_laws_closed.proofs.guarding_leaves_plans.Goals as goal
-
-pub returns : goal.returns
-returns c = plan_before_guarding

@@ -1,3 +1,0 @@
-pub mod Writable
-pub mod Closed
-pub mod Guarded

@@ -1,0 +1,9 @@
+pub mod Stopping
+pub mod Refused
+pub mod Signed
+pub mod Own
+pub mod Faulted
+pub mod Opening
+pub mod Onward
+pub mod Whole
+pub mod Complete
