@@ -6,3 +6,4 @@ mod making;
 mod texts;
 
 pub use making::{Made, generate};
+pub use texts::source_path;

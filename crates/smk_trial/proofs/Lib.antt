@@ -1,0 +1,3 @@
+mod Five
+mod Words
+mod Runs

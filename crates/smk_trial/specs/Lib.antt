@@ -1,0 +1,5 @@
+pub mod Editing
+pub mod Running
+pub mod Trying
+pub mod Lines
+pub mod Telling
