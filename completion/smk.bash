@@ -1,7 +1,7 @@
 # Completion of smk for bash: options, rules of the workflow, and files.
 
 _smk_options='-c --cores -n --dry-run -s --snakefile -C --config --resources --rerun-incomplete --nolock -k --keep-going -f --force -F
-  --forceall -- --unlock --cleanup-metadata --generate --help --version'
+  --forceall -- --unlock --cleanup-metadata --help --version'
 
 # The names of the rules that stand in the workflow's file itself.
 _smk_rules() {
@@ -38,7 +38,7 @@ _smk() {
       mapfile -t COMPREPLY < <(compgen -W "1 $(nproc 2>/dev/null)" -- "$word")
       return
       ;;
-    -C | --config | --resources | --generate) return ;;
+    -C | --config | --resources) return ;;
   esac
   case $word in
     -*)

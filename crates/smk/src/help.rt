@@ -9,7 +9,6 @@ Usage:
   smk -n [OPTION ..] [TARGET ..]      list what a run would do and why, and change nothing
   smk --unlock                        remove the lock, whoever left it
   smk --cleanup-metadata PATH         forget what is kept of PATH, which is a source then; may be repeated
-  smk --generate SEED:SIZE            try the program on a workflow of SIZE samples that is made in memory
   smk --help                          print this page
   smk --version                       print the version
 
@@ -35,9 +34,8 @@ A value is the next word, or it stands behind `=`, as in --cores=4, or at once b
 can be joined, as in -nF. --config and --resources can be repeated, --resources with another NAME; all others stand
 once.
 
-SEED is 0 to 4294967295, and SIZE 1 to 2000. The folder is left alone, and the time grows with the square of SIZE.
-
-Not built yet, and refused: a run of a workflow with checkpoints or directory outputs, which -n lists.
+Not built yet, and refused: --generate SEED:SIZE; a run of a workflow with checkpoints or directory outputs, which -n
+lists.
 
 Status:
   0  all is made, or listed

@@ -4,7 +4,7 @@
 mod help;
 
 use help::HELP;
-use smk_trial::{Fault, OutOfMemory, asked_generating, serve_generating, smk, tell_fault};
+use smk_cli::smk;
 use smk_world_real::{RealSink, RealWork};
 use std::alloc::{AllocError, Global};
 use std::io::ErrorKind;
@@ -40,19 +40,9 @@ fn main(rt: HostRuntime) -> ExitCode {
             _ => {}
         }
     }
+    let mut work = RealWork::new(alloc, &rt);
     let mut output = RealSink::output(rt.stdout());
     let mut errors = RealSink::errors(rt.stderr());
-    match asked_generating(alloc, words.as_slice()) {
-        Ok(Some(asked)) => {
-            let status = serve_generating(&rt, alloc, asked, &mut output, &mut errors);
-            return ExitCode::from(status);
-        }
-        Ok(None) => {}
-        Err(OutOfMemory) => {
-            return ExitCode::from(tell_fault(alloc, &Fault::OutOfMemory, &mut errors));
-        }
-    }
-    let mut work = RealWork::new(alloc, &rt);
     let outcome = smk(
         &rt,
         alloc,

@@ -6,4 +6,3 @@ mod making;
 mod texts;
 
 pub use making::{Made, generate};
-pub use texts::source_path;

@@ -31,6 +31,7 @@ use Rattle.smk_clean.specs.Again.{HasNoneLeft, StartsNothing}
 use Rattle.smk_clean.specs.Clean.{HasMadeClean}
 use Rattle.smk_whole.specs.Calls.{MayTell}
 use Rattle.smk_whole.specs.Complete.{setting_in}
+use Rattle.smk_whole.specs.Temps.{AsksForNoTemps}
 use Rattle.smk_laws_call.specs.Started.{StartsOnFinished}
 use Rattle.smk_laws_call.specs.Telling.{HasPutSo, Tells}
 
@@ -134,9 +135,10 @@ pub record RunGives (o : Outside) (words : RunWords) (told : Option Fault) (w v 
       (again : Option Fault) (x : World) (next : IsCalled o (Run words) again v x) → StartsNothing next.served.serves
   -- no job was started on an output of an unfinished job, be they made one after another or driven
   pub finished : (log : List Event) → v ≡ run w log → StartsOnFinished o w log
-  -- where the words aren't refused, a clean run gives each target and no call of the device failed, all is well, or it is told why not; be its jobs made one
-  -- after another or driven, and outputs temporary or not
+  -- where no output is temporary, the words aren't refused, a clean run gives each target and no call of the device failed, all is well, or it is told why not;
+  -- be its jobs made one after another or driven
   pub complete :
+      AsksForNoTemps words w →
       ((f : Fault) → FailsToAsk true words w.nodes f → ⊥) →
       ((asked : Asked) → IsAskedIn true words w.nodes (Ok asked) → AllHaveValues (setting_in o.act o.read asked w) asked.targets) →
       (Rose called.old.faults called.new.faults → ⊥) → MayTell o.read true words w told

@@ -12,6 +12,5 @@ pub mod SoundNow
 pub mod Restored
 pub mod Fed
 pub mod Waiting
-pub mod Spending
 pub mod Stepping
 pub mod Succeeding

@@ -1,7 +1,7 @@
 -- Each step of a run in which no fault comes keeps what running children read at its clean values; and no job fails in it.
-use Rattle.std.proofs.Common.{◌≡◌, ◌≢◌, ◌⊎◌, inl, inr, ℕ, suc, zero, Bool, true, false, not, List, [], ◌∷◌, ◌++◌, map, refl, sym, ap, subst, ◌∙◌, Some, Ok, IsTrue, is_none, arith, true≢false}
+use Rattle.std.proofs.Common.{◌≡◌, ◌≢◌, ◌⊎◌, inl, inr, ℕ, suc, zero, Bool, true, false, not, List, [], ◌∷◌, ◌++◌, map, refl, sym, ap, subst, ◌∙◌, Option, Some, None, Ok, IsTrue, is_none, arith, true≢false}
 use Rattle.std.specs.Prelude.{length, nat_eq, nat_le, ◌==◌, if◌then◌else◌}
-use Rattle.std.specs.List.{filter_map, list_all}
+use Rattle.std.specs.List.{filter_map, list_all, list_any}
 use Rattle.smk_base.specs.declared.tree.Pair.{Pair}
 use Rattle.smk_base.specs.Path.{is_path}
 use Rattle.smk_world.specs.declared.event.Call.TheVariants.{Waited}
@@ -23,13 +23,15 @@ use Rattle.smk_store.specs.Soundness.{Outside, SameSources, SoundWorld}
 use Rattle.smk_store.specs.Trust.{SumsDiffer, Versions}
 use Rattle.smk_chain.specs.Derive.{chosen, job, recipe, sources_of}
 use Rattle.smk_chain.specs.Mean.{Setting, clean_value, setting_of}
-use Rattle.smk_plan.specs.States.{Plan, is_restored, job_path}
+use Rattle.smk_trigger.specs.declared.reason.State.{State}
+use Rattle.smk_plan.specs.States.{Plan, is_restored, is_spent, is_temporary, job_path, staged, test_some}
 use Rattle.smk_job.specs.Jobs.{Underway}
 use Rattle.smk_laws_plan.specs.Current.{eased_by}
-use Rattle.smk_laws_plan.proofs.CurrentLists.{all_in, and_left, and_right, in_either, in_left, in_map, map_in, not_true}
+use Rattle.smk_laws_plan.proofs.CurrentLists.{all_in, and_left, and_right, in_either, in_left, in_map, map_in, not_true, zip_first}
 use Rattle.smk_laws_plan.proofs.CurrentPaths.{in_among}
 use Rattle.smk_laws_plan.proofs.CurrentProducts.{Planned}
 use Rattle.smk_laws_history.proofs.CurrentComplete.{seen_is_complete}
+use Rattle.smk_laws_history.proofs.CurrentLaw.{last_is}
 use Rattle.smk_laws_history.proofs.HistoryPlaces.{tree_same}
 use Rattle.smk_laws_history.proofs.Valid.{records_valid}
 use Rattle.smk_laws_complete.specs.Derived.{AllHaveValues, GathersAlone, IsGoodJob}
@@ -37,7 +39,7 @@ use Rattle.smk_laws_complete.proofs.Calm.{no_listing_is_right}
 use Rattle.smk_laws_complete.proofs.Goods.{derived_jobs_are_good}
 use Rattle.smk_laws_protocol.specs.Protocol.{IsApart, OpenJob, Running, eased, own}
 use Rattle.smk_laws_protocol.specs.Midway.{AllStrangers, Fits, IsTop, Midway}
-use Rattle.smk_laws_protocol.proofs.Basics.{each_in, each_of, in_filter, in_split}
+use Rattle.smk_laws_protocol.proofs.Basics.{each_in, each_of, in_filter, in_split, some_of}
 use Rattle.smk_laws_protocol.proofs.Between as views
 use Rattle.smk_laws_protocol.proofs.MidwayHolds.{holds_midway}
 use Rattle.smk_laws_protocol.proofs.ProtocolHolds.{reached}
@@ -48,10 +50,10 @@ use Rattle.smk_run.specs.Closings.{wait_event}
 use Rattle.smk_run.specs.Runs.{AreWritable}
 use Rattle.smk_run.specs.Statuses.{AreGiven, IsGiven}
 use Rattle.smk_safe.specs.Planned.{IsPlain}
-use Rattle.smk_drive.specs.Moments.{Begun, Rules, begun_of, ending, fault_of, or_good, progress_of, seen}
+use Rattle.smk_drive.specs.Moments.{Begun, IsInForce, Rules, begun_of, ending, fault_of, or_good, progress_of, seen}
 use Rattle.smk_drive_course.specs.Reports.{failures}
 use Rattle.smk_drive_course.specs.Stands.{Stand, ended_if, is_job_of, moment_of}
-use Rattle.smk_drive_course.specs.Steps.{Closed, Deed, HasBegun, HasClosed, HasSpent, guards_of}
+use Rattle.smk_drive_course.specs.Steps.{AreRemoved, Closed, Deed, HasBegun, HasClosed, HasSpent, NoMore, OneMore, guards_of}
 use Rattle.smk_drive_open.specs.Opened.{AreStillPlanned, IsOpen, beginning, found_by, opened}
 use Rattle.smk_laws_starting.specs.Starting.{MayOpen, top_with}
 use Rattle.smk_laws_moments.specs.Courses.{HasChildren}
@@ -63,13 +65,12 @@ use Rattle.smk_laws_starting.proofs.Next.{IsStarting, starting}
 use Rattle.smk_laws_starting.proofs.Starting.{startable_may_begin}
 use Rattle.smk_laws_following.specs.Following.{IsReached}
 use Rattle.smk_laws_following.proofs.Pairs.{aside, parted}
-use Rattle.smk_laws_following.proofs.StandStates.{IsLater}
 use Rattle.smk_laws_driven.specs.Ended.{PlansArePlain}
+use Rattle.smk_laws_driven.specs.Succeeding.{NoneTemporary}
 use Rattle.smk_laws_driven.proofs.Fed.{next_fed}
 use Rattle.smk_laws_driven.proofs.OwnCalls.{begin_own, close_own, looks_own, own_leaves, own_more, tend_own}
 use Rattle.smk_laws_driven.proofs.Restored.{IsOnce, eased_so}
 use Rattle.smk_laws_driven.proofs.SoundNow.{sound_fewer, sound_now}
-use Rattle.smk_laws_driven.proofs.Spending.{reads_stay, spent_later}
 use Rattle.smk_laws_driven.proofs.Unlisted.{HasNoLists}
 use Rattle.smk_laws_driven.proofs.Waiting.{ends_well, owned_is}
 
@@ -125,7 +126,7 @@ guards_inside j (run_ending.BadMember q) p i = absurd i
 
 module _ (act : Act) (rules : Rules) (entry : World) (H : Versions) (top : ℕ) (differ : SumsDiffer H)
     (sound : SoundWorld (record { read = rules.read; act = act }) entry H) (is_top : IsTop (record { read = rules.read; act = act }) entry top)
-    (plain : PlansArePlain rules) (alone : GathersAlone rules.flow)
+    (plain : PlansArePlain rules) (temps : NoneTemporary rules) (alone : GathersAlone rules.flow)
     (values : AllHaveValues (setting_of rules.flow act (λ j. is_none (rules.missing j)) (seen rules entry)) rules.settings.targets)
     (first_plain : Each IsPlain (derived_by rules entry [])) (rose : Type 0) (never : ¬ rose) where
   abbrev pub o : Outside
@@ -400,27 +401,30 @@ module _ (act : Act) (rules : Rules) (entry : World) (H : Versions) (top : ℕ) 
       pub closed_fed : HasChildren t (run w es) → HasNoLists t → IsFed t (run w es)
       closed_fed children lists = record { fed = fed_others; once = once_ended; children = children; lists = lists }
 
-    -- ## Spent outputs are removed
+  -- ## Nothing is removed
 
-    module _ (es : List Event) (deeds : List Deed) (t : Stand) (h : HasSpent rules entry s w before es deeds t) (follows : Follows o.act w es) where
-      later : IsLater s t
-      later = spent_later act rules entry H top differ sound is_top before s at es deeds t h follows
+  none_removed :
+      (s t : Stand) (w : World) (before : List Event) (paths : List Path) (es : List Event) → IsFormed w → AreRemoved rules s w before paths es t → paths ≢ [] → ⊥
+  none_removed s t w before paths es is_formed (NoMore s1 w1 before1) some = some refl
+  none_removed s t w before paths es is_formed (OneMore s1 t1 u1 w1 before1 p ps e es1 clear spent listed done plans rest) some = go s1.plan refl spent
+    where
+      go :
+          (plan : Option Plan) → s1.plan ≡ plan →
+          test_some
+          (λ (plan : Plan). list_any
+          (λ (e : Job × State). is_spent (seen rules w1) rules.settings (progress_of w1 s1.begun) plan e p)
+          (staged plan)) plan
+          ≡ true → ⊥
+      go None is h = true≢false (sym h)
+      go (Some plan) is h =
+          let last = subst (IsInForce rules w1 s1.begun s1.from) is clear.planned in
+          let is_plan = last_is rules.flow (seen rules w1) rules.settings (progress_of w1 s1.begun) s1.from plan last in
+          let none = temps (seen rules w1) (progress_of w1 s1.begun) plan (seen_is_complete rules.read w1 is_formed) is_plan in
+          let x = some_of (λ (e : Job × State). is_spent (seen rules w1) rules.settings (progress_of w1 s1.begun) plan e p) (staged plan) h in
+          let j = zip_first plan.jobs plan.states (x.0).0 (x.0).1 x.1 in
+          true≢false
+          (sym (and_left (among (x.0).0.temps p) _ (and_left (is_temporary (seen rules w1) rules.settings (progress_of w1 s1.begun) plan (x.0).0 p) _ x.2))
+          ∙ ap (λ ts. among ts p) (each_in (λ (j : Job). j.temps ≡ []) plan.jobs (x.0).0 none j))
 
-      fed_yet : (g : Underway) → IsIn s.runs g → Each (λ q. tree_now (seen rules (run w es)) q ≡ clean_value S q) (in_paths g.recipe)
-      fed_yet g i =
-          each_of (λ q. tree_now (seen rules (run w es)) q ≡ clean_value S q) (in_paths g.recipe) (λ q iq.
-          tree_same rules.read w (run w es) formed (formed_run w es formed) q
-          (reads_stay act rules entry H top differ sound is_top before s at es deeds t h follows g i q iq)
-          ∙ each_in (λ q. tree_now (seen rules w) q ≡ clean_value S q) (in_paths g.recipe) q (fed.fed g i) iq)
-
-      pub spent_fed : HasChildren t (run w es) → HasNoLists t → IsFed t (run w es)
-      spent_fed children lists =
-          record {
-            fed = λ g i. fed_yet g (subst (λ gs. IsIn gs g) later.runs i);
-            once = λ a b ia ib named. fed.once a b (subst (λ bs. IsIn bs a) later.begun ia) (subst (λ bs. IsIn bs b) later.begun ib) named;
-            children = children;
-            lists = lists;
-          }
-
-      pub spent_faults : failures rules.flow deeds ≡ []
-      spent_faults = ap (failures rules.flow) h.deeds_are
+  pub none_spent : (before : List Event) (s t : Stand) (es : List Event) (deeds : List Deed) → HasSpent rules entry s (run entry before) before es deeds t → ⊥
+  none_spent before s t es deeds h = none_removed s h.last (run entry before) before h.paths h.removing (formed_run entry before sound.formed) h.removed h.some

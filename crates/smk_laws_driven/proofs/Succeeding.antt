@@ -41,7 +41,7 @@ use Rattle.smk_laws_following.proofs.Greatest.{greatest_is_top}
 use Rattle.smk_laws_following.proofs.Laws.{steps_follow}
 use Rattle.smk_laws_following.proofs.Opening.{opening_leads}
 use Rattle.smk_laws_driven.specs.Ended.{PlansArePlain}
-use Rattle.smk_laws_driven.specs.Succeeding.{DrivenSucceeds}
+use Rattle.smk_laws_driven.specs.Succeeding.{DrivenSucceeds, NoneTemporary}
 use Rattle.smk_laws_driven.proofs.Lasting.{answer_broken, answer_clear, step_broken, unhalted_step}
 use Rattle.smk_laws_driven.proofs.Leaving.{clear_plan}
 use Rattle.smk_laws_driven.proofs.Safe.{led}
@@ -81,7 +81,8 @@ none_in : {A : Type 0} (xs : List A) (x : A) → xs ≡ [] → IsIn xs x → ⊥
 none_in xs x none i = subst (λ ys. IsIn ys x) none i
 
 module _ (act : Act) (rules : Rules) (entry : World) (H : Versions) (reads : ReadsRecords rules.read) (differ : SumsDiffer H)
-    (sound : SoundWorld (record { read = rules.read; act = act }) entry H) (plain : PlansArePlain rules) (alone : GathersAlone rules.flow)
+    (sound : SoundWorld (record { read = rules.read; act = act }) entry H) (plain : PlansArePlain rules) (temps : NoneTemporary rules)
+    (alone : GathersAlone rules.flow)
     (values : AllHaveValues (setting_of rules.flow act (λ j. is_none (rules.missing j)) (seen rules entry)) rules.settings.targets) (rose : Type 0) (never : ¬ rose) where
   abbrev o : Outside
   o = record { read = rules.read; act = act }
@@ -97,7 +98,7 @@ module _ (act : Act) (rules : Rules) (entry : World) (H : Versions) (reads : Rea
 
   module _ (first_plain : Each IsPlain (derived_by rules entry [])) where
     abbrev Fed : Stand → World → Type 0
-    Fed s w = stepping.IsFed act rules entry H top differ sound is_top plain alone values first_plain rose never s w
+    Fed s w = stepping.IsFed act rules entry H top differ sound is_top plain temps alone values first_plain rose never s w
 
     -- ## One step
 
@@ -127,20 +128,16 @@ module _ (act : Act) (rules : Rules) (entry : World) (H : Versions) (reads : Rea
       next_fed : Fed t (run w es) × (failures rules.flow deeds ≡ [])
       next_fed = elim (unhalted_step act rules entry s t w before es deeds step was none) [
         | inl h ↦ (
-          stepping.begun_fed act rules entry H top differ sound is_top plain alone values first_plain rose never before s at fed es deeds t h next_children
-              next_lists,
-          stepping.begun_faults act rules entry H top differ sound is_top plain alone values first_plain rose never before s at fed es deeds t h,
+          stepping.begun_fed act rules entry H top differ sound is_top plain temps alone values first_plain rose never before s at fed es deeds t h next_children next_lists,
+          stepping.begun_faults act rules entry H top differ sound is_top plain temps alone values first_plain rose never before s at fed es deeds t h,
         )
         | inr (inl h) ↦ (
-          stepping.closed_fed act rules entry H top differ sound is_top plain alone values first_plain rose never before s at fed es deeds t h follows given
+          stepping.closed_fed act rules entry H top differ sound is_top plain temps alone values first_plain rose never before s at fed es deeds t h follows given
               next_children next_lists,
-          stepping.closed_faults act rules entry H top differ sound is_top plain alone values first_plain rose never before s at fed es deeds t h follows given,
+          stepping.closed_faults act rules entry H top differ sound is_top plain temps alone values first_plain rose never before s at fed es deeds t h follows given,
         )
-        | inr (inr h) ↦ (
-          stepping.spent_fed act rules entry H top differ sound is_top plain alone values first_plain rose never before s at fed es deeds t h follows
-              next_children next_lists,
-          stepping.spent_faults act rules entry H top differ sound is_top plain alone values first_plain rose never before s at fed es deeds t h follows,
-        )
+        | inr (inr h) ↦ absurd
+            (stepping.none_spent act rules entry H top differ sound is_top plain temps alone values first_plain rose never before s t es deeds h)
       ]
 
     -- ## All steps
@@ -237,7 +234,7 @@ module _ (act : Act) (rules : Rules) (entry : World) (H : Versions) (reads : Rea
         (answer_broken act rules entry r.opened (first_stand r.plan) r.start entry [] r.goes_by refl) well.unhalted)
 
 pub driven_succeeds : DrivenSucceeds
-driven_succeeds o rules H end w v old new p q at at_v reader reads differ sound plain alone values never h =
+driven_succeeds o rules H end w v old new p q at at_v reader reads differ sound plain temps alone values never h =
     let to : record { read = rules.read; act = o.act } ≡ o = λ i. record { read = reader i; act = o.act } in
     let l = led o rules H (Ok end) w v old new p q at at_v reader reads differ sound h in
     let g = h.given v at_v in
@@ -246,7 +243,7 @@ driven_succeeds o rules H end w v old new p q at at_v reader reads differ sound 
     let given : AreGiven o.act (Rose old.faults new.faults) w l.events =
     subst (AreGiven o.act (Rose old.faults new.faults) w) (sym same)
     (subst (λ x. AreGiven o.act (Rose old.faults new.faults) x g.2.0) here g.2.2) in
-    none_failed o.act rules w H (subst ReadsRecords (sym reader) reads) differ (subst (λ x. SoundWorld x w H) (sym to) sound) plain alone
+    none_failed o.act rules w H (subst ReadsRecords (sym reader) reads) differ (subst (λ x. SoundWorld x w H) (sym to) sound) plain temps alone
     (subst (λ (read : List ℕ → Option Record). AllHaveValues (setting_of rules.flow o.act (λ j. is_none (rules.missing j)) (images.seen read w)) rules.settings.targets)
     (sym reader) values)
     (Rose old.faults new.faults) never h.told end h.deeds l.events l.ran l.follows given

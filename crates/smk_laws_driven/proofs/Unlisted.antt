@@ -80,7 +80,7 @@ module _ (rules : Rules) (plain : PlansArePlain rules) (entry : World) where
   answer_lists (Err OutOfMemory) s t w events h none = no_lists s t (same_by s t _ h refl refl) none
   answer_lists (Err Device) s t w events h none = no_lists s t (same_by s t _ h refl refl) none
 
-  pub removed_lists :
+  removed_lists :
       (s t : Stand) (w : World) (before : List Event) (paths : List Path) (es : List Event) → AreRemoved rules s w before paths es t → IsFormed w → HasNoLists s →
       HasNoLists t
   removed_lists s t w before paths es (NoMore s1 w1 before1) formed none = none

@@ -1,19 +1,30 @@
 -- Where each target has a clean value no job fails.
-use Rattle.std.specs.Prelude.{◌≡◌, None, Some, Ok}
+use Rattle.std.specs.Prelude.{◌≡◌, [], None, Some, Ok}
 use Rattle.smk_world.specs.Calls.{Rose}
 use Rattle.smk_world.specs.Devices.{Device, Sunk}
 use Rattle.smk_world.specs.World.{World}
+use Rattle.smk_world.specs.Trees.{Each}
+use Rattle.smk_flow.specs.declared.job.Job.{Job}
 use Rattle.smk_record.specs.Spelling.{ReadsRecords}
+use Rattle.smk_store.specs.Images.{Image}
 use Rattle.smk_store.specs.Soundness.{Outside, SoundWorld}
 use Rattle.smk_store.specs.Trust.{SumsDiffer, Versions}
+use Rattle.smk_plan.specs.States.{IsPlan, Plan, Progress}
+use Rattle.smk_laws_plan.specs.Current.{IsComplete}
 use Rattle.smk_laws_complete.specs.Derived.{AllHaveValues, GathersAlone}
 use Rattle.smk_drive.specs.Moments.{Rules}
 use Rattle.smk_drive_course.specs.declared.ending.End.{End}
 use Rattle.smk_drive_course.specs.Driven.{HasDriven}
 use Rattle.smk_laws_driven.specs.Ended.{PlansArePlain, setting_in}
 
--- A run from a folder that is sound for versions of which no two different contents have the same SHA-256, of jobs that make plain files and gather nothing:
--- where each target has a clean value, and no count of faults rose, it has no failed job when it comes to its end, also where spent outputs were removed.
+-- no output of a job of a plan by these rules is temporary
+abbrev pub NoneTemporary : Rules → Type 0
+NoneTemporary rules =
+    (image : Image) (progress : Progress) (plan : Plan) →
+    IsComplete image → IsPlan rules.flow image rules.settings progress plan → Each (λ (j : Job). j.temps ≡ []) plan.jobs
+
+-- A run from a folder that is sound for versions of which no two different contents have the same SHA-256, of jobs that make plain files, gather nothing and
+-- remove none: where each target has a clean value, and no count of faults rose, it has no failed job when it comes to its end.
 abbrev pub DrivenSucceeds : Type 0
 DrivenSucceeds =
     (o : Outside) (rules : Rules) (H : Versions) (end : End) (w v : World) (old new : Device) (out_old out_new : Sunk) →
@@ -24,6 +35,7 @@ DrivenSucceeds =
     SumsDiffer H →
     SoundWorld o w H →
     PlansArePlain rules →
+    NoneTemporary rules →
     GathersAlone rules.flow →
     AllHaveValues (setting_in o rules w) rules.settings.targets →
     ¬ (Rose old.faults new.faults) → HasDriven o.act rules (Ok end) old new out_old out_new → end.first ≡ None

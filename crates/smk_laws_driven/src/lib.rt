@@ -21,8 +21,8 @@ pub fn driven_ends_well()
     ensures leaves { DrivenLeavesNone }
 {}
 
-/// A run from a sound folder that came to its end, of jobs that make plain files and gather nothing: where each target has a clean value, and no
-/// count of faults rose, no job failed, also where spent outputs were removed.
+/// A run from a sound folder that came to its end, of jobs that make plain files, gather nothing and remove none: where each target has a clean
+/// value, and no count of faults rose, no job failed.
 pub fn driven_succeeds()
     ensures { DrivenSucceeds }
 {}

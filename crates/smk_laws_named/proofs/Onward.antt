@@ -1,7 +1,5 @@
 -- Which fault comes first in the steps of a run.
 use Rattle.std.proofs.Common.{◌≡◌, ◌⊎◌, inl, inr, ℕ, List, [], ◌∷◌, ◌++◌, refl, sym, ap, subst, ◌∙◌, Option, Some, None, append_assoc, append-nil, is_none}
-use Rattle.smk_base.specs.Place.{mark_place, note_place, record_place}
-use Rattle.smk_base.proofs.Apart.{path-mark, path-note, path-record}
 use Rattle.smk_world.specs.declared.event.Event.{Event}
 use Rattle.smk_world.specs.World.{World, IsFormed, run}
 use Rattle.smk_world.specs.Runs.{Follows}
@@ -23,7 +21,7 @@ use Rattle.smk_report.specs.declared.fault.Fault.TheVariants as fault
 use Rattle.smk_safe.specs.Planned.{IsPlain}
 use Rattle.smk_drive.specs.Moments.{Rules, lists_of, progress_of, seen}
 use Rattle.smk_drive_course.specs.Stands.{Refuses, Stand, moment_of}
-use Rattle.smk_drive_course.specs.Steps.{AreRemoved, Deed, HasBegun, HasClosed, HasSpent, NoMore, OneMore}
+use Rattle.smk_drive_course.specs.Steps.{AreRemoved, Deed, HasBegun, HasClosed, NoMore, OneMore}
 use Rattle.smk_drive_course.specs.Breaks.{Begins, BeginsNot, BreaksOff, Closes, Done, FailsToWait, Halts, Leaves, ReadsNot, Spends, SpendsNot, Step, Steps, Then, Waits}
 use Rattle.smk_laws_moments.proofs.ChildrenOf.{run_more}
 use Rattle.smk_laws_moments.proofs.Fates.{first_fault_stays}
@@ -33,18 +31,19 @@ use Rattle.smk_laws_courses.proofs.AllStands.{protocol_keeps}
 use Rattle.smk_laws_following.specs.Following.{IsGiven, IsReached}
 use Rattle.smk_laws_following.proofs.Laws.{steps_follow}
 use Rattle.smk_laws_driven.specs.Ended.{PlansArePlain}
+use Rattle.smk_laws_driven.specs.Succeeding.{NoneTemporary}
 use Rattle.smk_laws_driven.proofs.Lasting.{unhalted_step}
-use Rattle.smk_laws_driven.proofs.Spending.{IsLeft, aside_stays, removed_leave, spent_leaves}
-use Rattle.smk_laws_driven.proofs.Unlisted.{HasNoLists, removed_lists, step_lists}
+use Rattle.smk_laws_driven.proofs.Stepping.{none_spent}
+use Rattle.smk_laws_driven.proofs.Unlisted.{HasNoLists, step_lists}
 use Rattle.smk_laws_named.specs.Named.{IsNamed}
 use Rattle.smk_laws_named.proofs.Faulted.{by_device, by_memory, by_sink, answer_named, goes_named, halted_is, none_some, replanned_from, replanned_halted, same_fault}
 use Rattle.smk_laws_named.proofs.Own.{begin_calls, closed_calls, closed_in, closed_job, closing_calls}
 use Rattle.smk_laws_named.proofs.Refused.{its_jobs, moment_named}
-use Rattle.smk_laws_named.proofs.Signed.{signs_kept, signs_stay}
+use Rattle.smk_laws_named.proofs.Signed.{signs_kept}
 
 module _ (act : Act) (rules : Rules) (entry : World) (H : Versions) (top : ℕ) (reads : ReadsRecords rules.read) (differ : SumsDiffer H)
     (sound : SoundWorld (record { read = rules.read; act = act }) entry H) (is_top : IsTop (record { read = rules.read; act = act }) entry top)
-    (plain : PlansArePlain rules) (alone : GathersAlone rules.flow)
+    (plain : PlansArePlain rules) (temps : NoneTemporary rules) (alone : GathersAlone rules.flow)
     (values : AllHaveValues (setting_of rules.flow act (λ j. is_none (rules.missing j)) (seen rules entry)) rules.settings.targets)
     (plainly : Each IsPlain (derived_by rules entry []))
     (derives : derivation rules.flow (seen rules entry) [] rules.settings.targets ≡ Derived (derived_by rules entry [])) where
@@ -153,7 +152,7 @@ module _ (act : Act) (rules : Rules) (entry : World) (H : Versions) (top : ℕ) 
           (refusal h.next closing h.tending f h.events ours_then
           (replanned_from rules _ h.next (run w closing) h.replanned ours.lists.before ours.lists.now))
 
-    -- ## Spent outputs are removed
+    -- ## Any step
 
     removed_halted :
         (s1 t1 : Stand) (w1 : World) (before1 : List Event) (paths : List Path) (es1 : List Event) → AreRemoved rules s1 w1 before1 paths es1 t1 →
@@ -162,31 +161,11 @@ module _ (act : Act) (rules : Rules) (entry : World) (H : Versions) (top : ℕ) 
     removed_halted s1 t1 w1 before1 paths es1 (OneMore s2 t2 u2 w2 before2 p ps e es2 clear spent listed done plans rest) =
         removed_halted t2 u2 _ _ ps es2 rest ∙ replanned_halted rules s2 t2 _ plans
 
-    module _ (h : HasSpent rules entry s (run entry before) before es deeds t) where
-      -- where no more has gone than is spent signs stay
-      left_ours : (v : World) → IsLeft act rules entry H top differ sound is_top before s ours.at es deeds t h follows v → Ours v
-      left_ours v left =
-          let stays = aside_stays act rules entry H top differ sound is_top before s ours.at es deeds t h follows v left in
-          signs_stay rules (seen rules entry) (derived_by rules entry []) w v (λ q. stays (mark_place q) (λ p path. path-mark p q path))
-          (λ q. stays (note_place q) (λ p path. path-note p q path)) (λ q. stays (record_place q) (λ p path. path-record p q path)) ours.signs
-
-      spent_ours : Ours (run w es)
-      spent_ours = left_ours (run w es) (spent_leaves act rules entry H top differ sound is_top before s ours.at es deeds t h follows)
-
-      spent_named : (f : Fault) → t.halted ≡ Some f → IsNamed rules entry f
-      spent_named f came =
-          goes_named rules entry h.last t (run w h.removing) (before ++ h.removing) f h.goes_by
-          (removed_halted s h.last w before h.paths h.removing h.removed ∙ none) came
-          (refusal h.last h.removing h.settling f h.events
-          (left_ours (run w h.removing) (removed_leave act rules entry H top differ sound is_top before s ours.at es deeds t h follows))
-          (removed_lists rules plain entry s h.last w before h.paths h.removing h.removed formed ours.lists).before)
-
-    -- ## Any step
-
     step_named : Step rules entry s (run entry before) before es deeds t → (f : Fault) → t.halted ≡ Some f → IsNamed rules entry f
     step_named (Begins h) f came = begun_named h f came
     step_named (Closes h) f came = closed_named h f came
-    step_named (Spends h) f came = spent_named h f came
+    step_named (Spends h) f came =
+        absurd (none_spent act rules entry H top differ sound is_top plain temps alone values plainly ⊥ (λ x. x) before s t es deeds h)
     step_named (Halts h) f came = go h.cause
       where
         why : h.why ≡ f
@@ -217,7 +196,7 @@ module _ (act : Act) (rules : Rules) (entry : World) (H : Versions) (top : ℕ) 
           signs = subst Ours (sym (run_more entry before es)) (elim (unhalted_step act rules entry s t w before es deeds step ours.at.is_state.halted still) [
             | inl h ↦ begun_ours h
             | inr (inl h) ↦ closed_ours h
-            | inr (inr h) ↦ spent_ours h
+            | inr (inr h) ↦ absurd (none_spent act rules entry H top differ sound is_top plain temps alone values plainly ⊥ (λ x. x) before s t es deeds h)
           ]);
         }
 

@@ -1,11 +1,11 @@
--- The calls of one job leave no signs but its own; and removals leave none but those that stood.
+-- The calls of one job leave no signs but its own.
 use Rattle.std.proofs.Common.{◌≡◌, inr, false, List, [], sym, ap, ◌∙◌, ◌&&◌, ◌||◌, Option, is_some}
 use Rattle.std.specs.Prelude.{if◌then◌else◌}
 use Rattle.smk_base.specs.Place.{mark_place, note_place, record_place}
 use Rattle.smk_base.proofs.Under.{at_itself}
 use Rattle.smk_world.specs.declared.event.Event.{Event}
 use Rattle.smk_world.specs.declared.event.Node.{Node}
-use Rattle.smk_world.specs.World.{World, out_paths, reading, run}
+use Rattle.smk_world.specs.World.{World, out_paths, run}
 use Rattle.smk_world.specs.Trees.{IsIn, Path, among, is_path_text}
 use Rattle.smk_flow.specs.declared.job.Job.{Job}
 use Rattle.smk_store.specs.Images.{Image, kept_by, stands}
@@ -50,21 +50,3 @@ module _ (rules : Rules) (first : Image) (js : List Job) (complete : IsComplete 
         signs = λ q h. by_test (among (out_paths j.recipe) q) (λ t. inr (output_spot js j q ij (among_in (out_paths j.recipe) q t)))
             (λ f. signs.signs q (sym (sign_same q f) ∙ h));
       }
-
--- Where notes, marks and records read as before there are no other signs.
-pub signs_stay :
-    (rules : Rules) (first : Image) (js : List Job) (w v : World) →
-    ((q : Path) → reading (v.nodes (mark_place q)) ≡ reading (w.nodes (mark_place q))) →
-    ((q : Path) → reading (v.nodes (note_place q)) ≡ reading (w.nodes (note_place q))) →
-    ((q : Path) → reading (v.nodes (record_place q)) ≡ reading (w.nodes (record_place q))) →
-    HasOwnSigns first (seen rules w) js → HasOwnSigns first (seen rules v) js
-signs_stay rules first js w v marks notes records signs =
-    record {
-      notes = λ q h. signs.notes q (sym (ap (λ (n : Option Node). is_path_text q && is_some n) (notes q)) ∙ h);
-      signs = λ q h.
-          let mark = marks q in
-          let kept = records q in
-          let same : has_record_or_mark (seen rules v) q ≡ has_record_or_mark (seen rules w) q =
-          λ i. stands (if is_path_text q then kept_by rules.read q (kept i) else Absent) || (is_path_text q && is_some (mark i)) in
-          signs.signs q (sym same ∙ h);
-    }

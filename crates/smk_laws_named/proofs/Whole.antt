@@ -38,6 +38,7 @@ use Rattle.smk_laws_following.specs.Following.{GuardsAreOutputs, IsReached}
 use Rattle.smk_laws_following.proofs.Greatest.{greatest_is_top}
 use Rattle.smk_laws_following.proofs.Opening.{opening_leads}
 use Rattle.smk_laws_driven.specs.Ended.{PlansArePlain}
+use Rattle.smk_laws_driven.specs.Succeeding.{NoneTemporary}
 use Rattle.smk_laws_driven.proofs.Lasting.{answer_clear}
 use Rattle.smk_laws_driven.proofs.Leaving.{clear_plan}
 use Rattle.smk_laws_driven.proofs.Safe.{led}
@@ -48,7 +49,8 @@ use Rattle.smk_laws_named.proofs.Opening.{opened_same}
 use Rattle.smk_laws_named.proofs.Onward.{all_named}
 
 module _ (act : Act) (rules : Rules) (entry : World) (H : Versions) (reads : ReadsRecords rules.read) (differ : SumsDiffer H)
-    (sound : SoundWorld (record { read = rules.read; act = act }) entry H) (plain : PlansArePlain rules) (alone : GathersAlone rules.flow)
+    (sound : SoundWorld (record { read = rules.read; act = act }) entry H) (plain : PlansArePlain rules) (temps : NoneTemporary rules)
+    (alone : GathersAlone rules.flow)
     (values : AllHaveValues (setting_of rules.flow act (λ j. is_none (rules.missing j)) (seen rules entry)) rules.settings.targets)
     (told : Option End) (f : Fault) (deeds : List Deed) (log : List Event)
     (r : IsRun rules told (Err f) deeds entry log) (follows : Follows act entry log) where
@@ -145,7 +147,7 @@ module _ (act : Act) (rules : Rules) (entry : World) (H : Versions) (reads : Rea
 
     later_named : r.last.halted ≡ Some f → IsNamed rules entry f
     later_named came =
-        all_named act rules entry H top reads differ sound is_top plain alone values plainly derives r.start r.last (run entry r.opening) r.opening r.rest
+        all_named act rules entry H top reads differ sound is_top plain temps alone values plainly derives r.start r.last (run entry r.opening) r.opening r.rest
         deeds f r.steps refl (record { at = start_reached; lists = start_no_lists; signs = start_ours }) unhalted parts.1 came
 
   -- ## All of it
@@ -169,10 +171,10 @@ module _ (act : Act) (rules : Rules) (entry : World) (H : Versions) (reads : Rea
       go (Some end) (lost, well) = inr (lost_breaks_off f lost)
 
 pub driven_faults_are_named : DrivenFaultsAreNamed
-driven_faults_are_named o rules H f w v old new p q at at_v reader reads differ sound plain alone values h =
+driven_faults_are_named o rules H f w v old new p q at at_v reader reads differ sound plain temps alone values h =
     let to : record { read = rules.read; act = o.act } ≡ o = λ i. record { read = reader i; act = o.act } in
     let l = led o rules H (Err f) w v old new p q at at_v reader reads differ sound h in
-    run_named o.act rules w H (subst ReadsRecords (sym reader) reads) differ (subst (λ x. SoundWorld x w H) (sym to) sound) plain alone
+    run_named o.act rules w H (subst ReadsRecords (sym reader) reads) differ (subst (λ x. SoundWorld x w H) (sym to) sound) plain temps alone
     (subst
     (λ (read : List ℕ → Option Record). AllHaveValues (setting_of rules.flow o.act (λ j. is_none (rules.missing j)) (images.seen read w)) rules.settings.targets)
     (sym reader) values) h.told f h.deeds l.events l.ran l.follows

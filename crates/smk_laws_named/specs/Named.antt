@@ -15,6 +15,7 @@ use Rattle.smk_drive_course.specs.declared.ending.End.{End}
 use Rattle.smk_drive_course.specs.Driven.{HasDriven}
 use Rattle.smk_succeed.specs.Completing.{MayBreakOff}
 use Rattle.smk_laws_driven.specs.Ended.{PlansArePlain, setting_in}
+use Rattle.smk_laws_driven.specs.Succeeding.{NoneTemporary}
 
 -- The run may be refused so, at its entry or later: for too many paths; for what clashes by the plans of its entry; or for how the folder stands, or what the
 -- call allows. Or it broke off.
@@ -26,8 +27,8 @@ abbrev pub EndsNamed : Rules → World → Result End Fault → Type 0
 EndsNamed rules w (Ok end) = end.first ≡ None
 EndsNamed rules w (Err f) = IsNamed rules w f
 
--- A run from a folder that is sound for versions of which no two different contents have the same SHA-256, of jobs that make plain files and gather nothing,
--- where each target has a clean value: a fault with which it ends is such a one, also where spent outputs were removed.
+-- A run from a folder that is sound for versions of which no two different contents have the same SHA-256, of jobs that make plain files, gather nothing and
+-- remove none, where each target has a clean value: a fault with which it ends is such a one.
 abbrev pub DrivenFaultsAreNamed : Type 0
 DrivenFaultsAreNamed =
     (o : Outside) (rules : Rules) (H : Versions) (f : Fault) (w v : World) (old new : Device) (out_old out_new : Sunk) →
@@ -38,6 +39,7 @@ DrivenFaultsAreNamed =
     SumsDiffer H →
     SoundWorld o w H →
     PlansArePlain rules →
+    NoneTemporary rules →
     GathersAlone rules.flow →
     AllHaveValues (setting_in o rules w) rules.settings.targets → HasDriven o.act rules (Err f) old new out_old out_new → IsNamed rules w f
 
@@ -52,6 +54,7 @@ DrivenIsComplete =
     SumsDiffer H →
     SoundWorld o w H →
     PlansArePlain rules →
+    NoneTemporary rules →
     GathersAlone rules.flow →
     AllHaveValues (setting_in o rules w) rules.settings.targets →
     ¬ (Rose old.faults new.faults) → HasDriven o.act rules result old new out_old out_new → EndsNamed rules w result

@@ -3,9 +3,9 @@
 
 ghost use Rattle.smk_laws_named.specs.Named.{DrivenFaultsAreNamed, DrivenIsComplete};
 
-/// A run from a sound folder, of jobs that make plain files and gather nothing, where each target has a clean value: it ends with no fault but want of
-/// memory, one of the device or of the sink, a serial that is missing, a record that is too long, or a refusal for too many paths, for what clashes at
-/// its entry, for how the folder stands, or for what the call allows; also where spent outputs were removed.
+/// A run from a sound folder, of jobs that make plain files, gather nothing and remove none, where each target has a clean value: it ends with no
+/// fault but want of memory, one of the device or of the sink, a serial that is missing, a record that is too long, or a refusal for too many paths, for
+/// what clashes at its entry, for how the folder stands, or for what the call allows.
 pub fn driven_faults_are_named()
     ensures { DrivenFaultsAreNamed }
 {}

@@ -45,6 +45,7 @@ use Rattle.smk_laws_lock.proofs.Heeding.{on_both, refusals_heed_no_lock, same_ba
 use Rattle.smk_clean.proofs.Leaving.{faults_later}
 use Rattle.smk_clean.proofs.Locked.{locked_same, refused_before, start_sound}
 use Rattle.smk_whole.specs.Complete.{EndsComplete, IsCleanAsked, IsCompleteAnswer, setting_in}
+use Rattle.smk_whole.specs.Temps.{AsksForNoTemps}
 use Rattle.smk_whole.proofs.Drove.{drove_is_complete}
 use Rattle.smk_whole.specs.Calls.{AllIsWell, BrokenOff, CallIsComplete, IsCleanCall, ListingIsComplete, LockedOut, MayTell, PlanRefused}
 use Rattle.smk_whole.proofs.Plain.{built_plans_are_plain}
@@ -150,26 +151,26 @@ module _ (act : Act) (read : List ℕ → Option Record) (words : RunWords) (w :
 
   -- a run by what was asked of the folder, in that one or in one that is the same but for the lock
   went_tells :
-      (u v : World) (old new : Device) (p q : Sunk) (answer : Result (Unit {0}) Fault) → old.world ≡ Some u →
+      (u v : World) (old new : Device) (p q : Sunk) (answer : Result (Unit {0}) Fault) → AsksForNoTemps words w → old.world ≡ Some u →
       new.world ≡ Some v → SoundWorld outside u H →
       IsSameButLock (seen read w) (seen read u) →
       (Rose old.faults new.faults → ⊥) → Went act words answer (IsRefusal read true words w u) (AsksFor words w) (IsToServe read true words w u) old new p q → May
       (fault_of answer)
-  went_tells u v old new p q answer at end sound same never (Refused f e refused looked) =
+  went_tells u v old new p q answer kept at end sound same never (Refused f e refused looked) =
       subst (λ r. May (fault_of r)) (sym e) (refused_tells act read true words w H f clean (refused_before read true words w u f same refused))
-  went_tells u v old new p q answer at end sound same never (Drove asked apart asks drove) =
+  went_tells u v old new p q answer kept at end sound same never (Drove asked apart asks drove) =
       answered asked u asks same answer
       (drove_is_complete act read asked words u v H answer old new p q at end reads (clean_then u asked asks sound same) (asked_built words w.nodes asked asks)
-      never drove)
-  went_tells u v old new p q answer at end sound same never (Stopped f e want looked) = subst (λ r. May (fault_of r)) (sym e) (BrokenOff f (want_stops f want))
-  went_tells u v old new p q answer at end sound same never (Worked asked told one planned worked) =
+      (kept asked asks) never drove)
+  went_tells u v old new p q answer kept at end sound same never (Stopped f e want looked) = subst (λ r. May (fault_of r)) (sym e) (BrokenOff f (want_stops f want))
+  went_tells u v old new p q answer kept at end sound same never (Worked asked told one planned worked) =
       let is = planned.is_asked in
       ended read true words w answer
       (work_is_complete act read asked told words u v H answer old new p q at end
       (clean_then u asked is sound same) planned.plan
       (λ plan last. built_plans_are_plain asked.flow _ _ _ _ plan (asked_built words w.nodes asked is) last) never worked)
 
-  module _ (v : World) (old new : Device) (p q : Sunk) (answer : Result (Unit {0}) Fault)
+  module _ (v : World) (old new : Device) (p q : Sunk) (answer : Result (Unit {0}) Fault) (kept : AsksForNoTemps words w)
       (at : old.world ≡ Some w) (end : new.world ≡ Some v)
       (never : Rose old.faults new.faults → ⊥) where
     -- the run under the lock
@@ -187,13 +188,13 @@ module _ (act : Act) (read : List ℕ → Option Record) (words : RunWords) (w :
             by : (r : Result (Unit {0}) Failed) → HasActed act (HasReleased r) ran.left new (is_err r) → answer ≡ with_release r ran.ran → May (fault_of answer)
             by (Ok t) goes is =
                 let d = goes.did v end in
-                subst (λ r. May (fault_of r)) (sym is) (went_tells u d.0 locked ran.left p q ran.ran at_u d.1 sound same still ran.went)
+                subst (λ r. May (fault_of r)) (sym is) (went_tells u d.0 locked ran.left p q ran.ran kept at_u d.1 sound same still ran.went)
             by (Err e) goes is =
                 let later = faults_later act words ran.ran (IsRefusal read true words w u) (AsksFor words w) (IsToServe read true words w u) locked ran.left p q ran.went in
                 absurd (never (rose_earlier old.faults ran.left.faults new.faults (omega (arith, le, later)) (goes.cause.rose refl)))
 
     ran_tells : HasRun act read words w answer old new p q → May (fault_of answer)
-    ran_tells (Unheeded free went) = went_tells w v old new p q answer at end clean.sound refl never went
+    ran_tells (Unheeded free went) = went_tells w v old new p q answer kept at end clean.sound refl never went
     ran_tells (Unasked f heeds e (inl want) looked) = subst (λ r. May (fault_of r)) (sym e) (BrokenOff f (want_stops f want))
     ran_tells (Unasked f heeds e (inr fails) looked) = absurd (clean.unrefused f fails)
     ran_tells (Heeded x looked heeds after at_x looking heeded) = go heeded
@@ -213,9 +214,9 @@ module _ (act : Act) (read : List ℕ → Option Record) (words : RunWords) (w :
             (locked_same act read w x u clean.sound.formed after once) (omega (arith, looking.acted.cause.later, taken.cause.later)) ran
 
 pub call_is_complete : CallIsComplete
-call_is_complete act read words w v H told old new out_old out_new at end reads clean never served =
+call_is_complete act read words w v H told old new out_old out_new at end reads clean kept never served =
     told_of read true words w served.answer told
-    (ran_tells act read words w H reads clean v old new out_old out_new served.answer at end never served.serves) served.told_is
+    (ran_tells act read words w H reads clean v old new out_old out_new served.answer kept at end never served.serves) served.told_is
 
 pub listing_is_complete : ListingIsComplete
 listing_is_complete act read words w H told old new out_old out_new clean served =

@@ -28,16 +28,19 @@ use Rattle.smk_cli_calls.specs.Serving.{WasDriven, answer_of, settings_of}
 use Rattle.smk_cli_calls.proofs.Driving.{rules_are}
 use Rattle.smk_succeed.specs.Completing.{NoMemory}
 use Rattle.smk_laws_driven.specs.Ended.{PlansArePlain}
+use Rattle.smk_laws_driven.specs.Succeeding.{NoneTemporary}
 use Rattle.smk_laws_named.specs.Named.{EndsNamed}
 use Rattle.smk_laws_named.proofs.Complete.{driven_is_complete}
 use Rattle.smk_clean.proofs.Plain.{planned_plain}
 use Rattle.smk_clean.proofs.Safe.{looked_safe}
 use Rattle.smk_whole.specs.Complete.{DroveIsComplete, IsCleanAsked, IsCompleteAnswer}
+use Rattle.smk_whole.specs.Temps.{has_temps}
+use Rattle.smk_whole.proofs.Temps.{no_temps}
 
 module _
     (act : Act) (read : List ℕ → Option Record) (asked : Asked) (words : RunWords) (w v : World) (H : Versions) (result : Result (Unit {0}) Fault)
     (old new : Device) (out_old out_new : Sunk) (at : old.world ≡ Some w) (end : new.world ≡ Some v) (reads : ReadsRecords read)
-    (clean : IsCleanAsked act read asked w H) (built : unbuilt asked.flow.rules ≡ None)
+    (clean : IsCleanAsked act read asked w H) (built : unbuilt asked.flow.rules ≡ None) (temps : has_temps asked.flow.rules ≡ false)
     (never : Rose old.faults new.faults → ⊥) (was : WasDriven act words result asked old new out_old out_new) where
   abbrev o : Outside
   o = record { read = read; act = act }
@@ -47,6 +50,9 @@ module _
 
   plain : PlansArePlain rules
   plain image progress plan complete is = planned_plain asked.flow image (settings_of asked words) progress plan complete built is
+
+  none_temporary : NoneTemporary rules
+  none_temporary image progress plan complete is = no_temps asked.flow image (settings_of asked words) progress plan complete temps is
 
   -- the world once it was looked at
   abbrev x : World
@@ -64,7 +70,7 @@ module _
   ends : EndsNamed rules x was.driven
   ends =
       driven_is_complete o rules H was.driven x v was.looked new out_old out_new (kept w was.looking at).1 end refl reads clean.differ sound_then plain
-      clean.alone values_then
+      none_temporary clean.alone values_then
       (λ rose. never (rose_earlier old.faults was.looked.faults new.faults was.looking.acted.cause.later rose))
       (was.drove rules (rules_are read reads asked.flow (settings_of asked words)))
 
@@ -80,5 +86,5 @@ module _
   ]
 
 pub drove_is_complete : DroveIsComplete
-drove_is_complete act read asked words w v H result old new out_old out_new at end reads clean built never was =
-    complete act read asked words w v H result old new out_old out_new at end reads clean built never was
+drove_is_complete act read asked words w v H result old new out_old out_new at end reads clean built temps never was =
+    complete act read asked words w v H result old new out_old out_new at end reads clean built temps never was

@@ -278,15 +278,14 @@ completes read asked words w (Ok u) h = tt
 completes read asked words w (Err f) h = inr h
 
 pub served_runs_are_complete : ServedRunsAreComplete
-served_runs_are_complete act read asked words w v H result old new out_old out_new at end reads clean built never (Refused f e refused kept) =
+served_runs_are_complete act read asked words w v H result old new out_old out_new at end reads clean built temps never (Refused f e refused kept) =
     subst (IsCompleteAnswer read asked words w) (sym e) (inl (refused_plans_may_stop act read asked words w H f clean refused))
-served_runs_are_complete act read asked words w v H result old new out_old out_new at end reads clean built never (Stopped f e want kept) =
+served_runs_are_complete act read asked words w v H result old new out_old out_new at end reads clean built temps never (Stopped f e want kept) =
     subst (IsCompleteAnswer read asked words w) (sym e) (inr (want_stops f want))
-served_runs_are_complete act read asked words w v H result old new out_old out_new at end reads clean built never (Drove served apart same drove) =
-    drove_is_complete act read asked words w v H result old new out_old out_new at end reads clean built never
+served_runs_are_complete act read asked words w v H result old new out_old out_new at end reads clean built temps never (Drove served apart same drove) =
+    drove_is_complete act read asked words w v H result old new out_old out_new at end reads clean built temps never
     (subst (λ (a : Asked). WasDriven act words result a old new out_old out_new) same drove)
-served_runs_are_complete act read asked words w v H result old new out_old out_new at end reads clean built never
-    (Worked served told also (same, planned) worked) =
+served_runs_are_complete act read asked words w v H result old new out_old out_new at end reads clean built temps never (Worked served told also (same, planned) worked) =
     completes read asked words w result
     (work_is_complete act read asked told words w v H result old new out_old out_new at end clean planned
     (λ plan last. built_plans_are_plain asked.flow _ _ _ _ plan built last) never

@@ -24,6 +24,7 @@ use Rattle.smk_laws_complete.specs.Derived.{AllHaveValues}
 use Rattle.smk_laws_complete.specs.Planned.{MayStop}
 use Rattle.smk_succeed.specs.Completing.{MayBreakOff}
 use Rattle.smk_whole.specs.Complete.{setting_in}
+use Rattle.smk_whole.specs.Temps.{AsksForNoTemps}
 
 -- The world is sound, no two different contents of its versions have the same SHA-256, the words ask for something, by files that read and with no form that is refused, and each target that they ask for has a
 -- clean value.
@@ -45,8 +46,8 @@ pub data MayTell (read : List ℕ → Option Record) (run : Bool) (words : RunWo
   -- the lock stands, and a run heeds it
   LockedOut : run ≡ true → words.nolock ≡ false → IsSome (reading (w.nodes lock_place)) → MayTell read run words w (Some fault.Locked)
 
--- A call for a run tells nothing else, be its jobs made one after another or driven, and be outputs temporary or not, where the world is told at its end and no
--- count of faults of the device rose.
+-- A call for a run of a workflow no output of which is temporary tells nothing else, be its jobs made one after another or driven, where the world is told at
+-- its end and no count of faults of the device rose.
 abbrev pub CallIsComplete : Type 0
 CallIsComplete =
     (act : Act) (read : List ℕ → Option Record) (words : RunWords) (w v : World) (H : Versions) (told : Option Fault)
@@ -55,6 +56,7 @@ CallIsComplete =
     new.world ≡ Some v →
     ReadsRecords read →
     IsCleanCall act read true words w H →
+    AsksForNoTemps words w →
     (Rose old.faults new.faults → ⊥) →
     HasServed act read (Run words) w told old new out_old out_new → MayTell read true words w told
 

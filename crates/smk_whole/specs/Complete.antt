@@ -1,5 +1,5 @@
 -- How a call ends where each target has a clean value.
-use Rattle.std.specs.Prelude.{◌≡◌, ◌⊎◌, ℕ, List, [], Option, Some, None, Result, Ok, Err, is_none}
+use Rattle.std.specs.Prelude.{◌≡◌, ◌⊎◌, ℕ, false, List, [], Option, Some, None, Result, Ok, Err, is_none}
 use Rattle.smk_world.specs.World.{World}
 use Rattle.smk_world.specs.Calls.{Rose}
 use Rattle.smk_world.specs.Devices.{Device, Sunk}
@@ -23,6 +23,7 @@ use Rattle.smk_laws_complete.specs.Derived.{AllHaveValues, GathersAlone}
 use Rattle.smk_laws_complete.specs.Planned.{MayStop}
 use Rattle.smk_succeed.specs.Completing.{MayBreakOff}
 use Rattle.smk_succeed.specs.Planning.{IsPlainPlan}
+use Rattle.smk_whole.specs.Temps.{has_temps}
 
 -- the setting that the sources of a world give to what is asked
 abbrev pub setting_in : Act → (List ℕ → Option Record) → Asked → World → Setting
@@ -67,7 +68,7 @@ abbrev pub IsCompleteAnswer : (List ℕ → Option Record) → Asked → RunWord
 IsCompleteAnswer read asked words w (Ok u) = Unit {0}
 IsCompleteAnswer read asked words w (Err f) = MayStop (rules_for read asked.flow (settings_of asked words)) (seen read w) nothing_done f ⊎ MayBreakOff f
 
--- So a run ends that is driven, of a workflow all of whose forms are built, be outputs temporary or not.
+-- So a run ends that is driven, of a workflow all of whose forms are built, where no output is temporary.
 abbrev pub DroveIsComplete : Type 0
 DroveIsComplete =
     (act : Act) (read : List ℕ → Option Record) (asked : Asked) (words : RunWords) (w v : World) (H : Versions) (result : Result (Unit {0}) Fault)
@@ -77,6 +78,7 @@ DroveIsComplete =
     ReadsRecords read →
     IsCleanAsked act read asked w H →
     unbuilt asked.flow.rules ≡ None →
+    has_temps asked.flow.rules ≡ false →
     (Rose old.faults new.faults → ⊥) → WasDriven act words result asked old new out_old out_new → IsCompleteAnswer read asked words w result
 
 -- And so does each run for what is asked, be its jobs made one after another or driven.
@@ -89,6 +91,7 @@ ServedRunsAreComplete =
     ReadsRecords read →
     IsCleanAsked act read asked w H →
     unbuilt asked.flow.rules ≡ None →
+    has_temps asked.flow.rules ≡ false →
     (Rose old.faults new.faults → ⊥) →
     Went act words result (IsRefusedPlan read asked words w) (IsThat asked) (IsServed read asked words w) old new out_old out_new →
     IsCompleteAnswer read asked words w result

@@ -1,6 +1,7 @@
 -- Workflows no output of which is temporary.
 use Rattle.std.specs.Prelude.{◌≡◌, Bool, true, false, List, []}
 use Rattle.std.specs.List.{list_any}
+use Rattle.smk_world.specs.World.{World}
 use Rattle.smk_world.specs.Trees.{Each}
 use Rattle.smk_flow.specs.declared.job.Job.{Job}
 use Rattle.smk_flow.specs.declared.rule.RulePart.{RulePart}
@@ -12,7 +13,9 @@ use Rattle.smk_pick.specs.declared.settings.Settings.{Settings}
 use Rattle.smk_plan.specs.States.{IsPlan, Plan, Progress}
 use Rattle.smk_laws_plan.specs.Current.{IsComplete}
 use Rattle.smk_words_reading.specs.declared.asked.RunWords.{RunWords}
+use Rattle.smk_cli_entry.specs.declared.asking.Asked.{Asked}
 use Rattle.smk_cli_calls.specs.OneByOne.{is_one_by_one}
+use Rattle.smk_cli_calls.specs.Whole.{AsksFor}
 
 -- the output is temporary
 abbrev pub is_for_now : FlaggedText → Bool
@@ -28,13 +31,17 @@ part_has_temps part = list_any item_has_temps part.outputs
 abbrev pub has_temps : List RulePart → Bool
 has_temps parts = list_any part_has_temps parts
 
--- No job of a plan of a workflow of which no output is temporary makes something temporary;
+-- no output of the workflow that they ask for, if they ask for one, is temporary
+abbrev pub AsksForNoTemps : RunWords → World → Type 0
+AsksForNoTemps words w = (asked : Asked) → AsksFor words w asked → has_temps asked.flow.rules ≡ false
+
+-- Then no job of a plan makes something temporary;
 abbrev pub PlansHaveNoTemps : Type 0
 PlansHaveNoTemps =
     (flow : Flow) (image : Image) (settings : Settings) (progress : Progress) (plan : Plan) →
     IsComplete image →
     has_temps flow.rules ≡ false → IsPlan flow image settings progress plan → Each (λ (j : Job). j.temps ≡ []) plan.jobs
 
--- and each workflow whose jobs are made one after another is such a one.
+-- and so it is of each run that makes its jobs one after another.
 abbrev pub OneByOneHasNoTemps : Type 0
 OneByOneHasNoTemps = (flow : Flow) (words : RunWords) → is_one_by_one flow words ≡ true → has_temps flow.rules ≡ false

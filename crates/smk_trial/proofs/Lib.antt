@@ -1,3 +1,0 @@
-mod Five
-mod Words
-mod Runs

@@ -1,5 +1,0 @@
-pub mod Editing
-pub mod Running
-pub mod Trying
-pub mod Lines
-pub mod Telling
