@@ -16,6 +16,7 @@ use smk_base::{List, OutOfMemory};
 use smk_drive_course::End;
 use smk_drive_hub::{Ground, Hub};
 use smk_drive_loop::go_on;
+use smk_drive_step::Halt;
 use smk_flow::Workflow;
 use smk_pick::Settings;
 use smk_plan_live::LivePlan;
@@ -23,6 +24,7 @@ use smk_report::Fault;
 use smk_run::Tally;
 use smk_world::{Crew, Sink};
 use std::alloc::Global;
+use std::mem;
 use std::thread::Threads;
 
 // Whether no job has failed and not all is made. It can't be: then all jobs are Clean, and all targets current.
@@ -77,27 +79,41 @@ fn finish<O: Sink>(
     }
 }
 
+// What a run has counted, which it doesn't keep.
+fn take_tally(tally: &mut Tally) -> Tally
+    ensures { result ≡ tally.old }
+{
+    let nothing = Tally {
+        started: 0,
+        done: 0,
+        failed: 0,
+        first: None,
+    };
+    mem::replace(tally, nothing)
+}
+
+// The first fault of a run, which it doesn't keep.
+fn take_fault(halt: &mut Halt) -> Option<Fault>
+    ensures { result ≡ halt.old.fault }
+{
+    mem::replace(halt, Halt::none()).into_fault()
+}
+
 // Tells the end of a run, and answers.
 fn conclude<O: Sink>(
     alloc: Global,
     settings: &Settings,
-    hub: Hub,
+    hub: &mut Hub,
     out: &mut O,
 ) -> Result<End, Fault>
-    ensures { HasConcluded settings.now.targets (parts_of hub) result (O.sunk out.old) (O.sunk out.new) }
+    ensures { HasConcluded settings.now.targets (parts_of hub.old) result (O.sunk out.old) (O.sunk out.new) }
 {
-    let Hub {
-        live,
-        room: _room,
-        children: _children,
-        next: _,
-        tally,
-        halt,
-        lines: _lines,
-    } = hub;
-    match halt.into_fault() {
+    match take_fault(&mut hub.halt) {
         Some(fault) => Err(fault),
-        None => finish(alloc, settings, &live, tally, out),
+        None => {
+            let tally = take_tally(&mut hub.tally);
+            finish(alloc, settings, &hub.live, tally, out)
+        }
     }
 }
 
@@ -117,7 +133,10 @@ fn run<W: Crew, O: Sink, Rt: Threads + Sync>(
 {
     let mut hub = hub;
     let _waited = go_on(rt, alloc, ground, &mut hub, work, out);
-    conclude(alloc, ground.settings, hub, out)
+    let answer = conclude(alloc, ground.settings, &mut hub, out);
+    // By a call, since a drop that stands here is proved for each kind of fault that may be kept.
+    mem::drop(hub);
+    answer
 }
 
 /// Makes the targets of the settings: plans, and begins the jobs that the plan has to be run or restored, side by side as far as cores and bounds

@@ -10,5 +10,5 @@ returns g c =
       middle = g.O.Sink.sunk c.go_on-waited.new.out;
       gone = c.go_on-waited.ensures.gone;
       through = c.go_on-waited.ensures.through;
-      concluded = c.conclude.ensures;
+      concluded = c.conclude-answer.ensures;
     }
