@@ -3,12 +3,12 @@
 _smk_options='-c --cores -n --dry-run -s --snakefile -C --config --resources --rerun-incomplete --nolock -k --keep-going -f --force -F
   --forceall -- --unlock --cleanup-metadata --generate --help --version'
 
-# The names of the rules that stand in the workflow's file itself.
+# The names of the rules and checkpoints that stand in the workflow's file itself.
 _smk_rules() {
   local file
   for file in "$1" Snakefile snakefile workflow/Snakefile workflow/snakefile; do
     if [ -f "$file" ]; then
-      sed -n 's/^rule[[:space:]]\{1,\}\([A-Za-z_][A-Za-z0-9_]*\)[[:space:]]*:.*/\1/p' "$file"
+      sed -nE 's/^(rule|checkpoint)[[:space:]]+([A-Za-z_][A-Za-z0-9_]*)[[:space:]]*:.*/\2/p' "$file"
       return
     fi
   done

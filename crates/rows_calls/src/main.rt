@@ -1,6 +1,7 @@
 //! Runs the whole call over workspaces in memory, and prints how each ends: its status, what is left of the job, its report, and the line of its fault.
 #![tactic(auto)]
 
+mod commands;
 mod failing;
 mod later;
 mod left;
@@ -17,6 +18,7 @@ fn rows<Rt: Threads + Sync>(rt: &Rt, alloc: Global) -> Result<String, AllocError
     runs::push_rows(rt, alloc, &mut text)?;
     failing::push_rows(rt, alloc, &mut text)?;
     later::push_rows(rt, alloc, &mut text)?;
+    commands::push_rows(rt, alloc, &mut text)?;
     Ok(text)
 }
 

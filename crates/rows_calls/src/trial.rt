@@ -57,6 +57,25 @@ fn fill(alloc: Global, work: &mut MemWork, workflow: &str) -> Result<(), Trouble
     place(alloc, work, "in.txt", "hello\n", 1000)
 }
 
+/// An empty workspace and its sinks, where the child with this number is killed.
+pub fn set_up_killing(alloc: Global, child: Option<u64>) -> Result<Trial, Trouble> {
+    let killed = numbers(alloc, child)?;
+    let work = MemWork::new(
+        alloc,
+        Setup {
+            failing: List::new(alloc),
+            stop_after: None,
+            order: List::new(alloc),
+            killed,
+        },
+    );
+    Ok(Trial {
+        work,
+        out: MemSink::new(alloc, List::new(alloc)),
+        err: MemSink::new(alloc, List::new(alloc)),
+    })
+}
+
 /// An empty workspace and its sinks, where the call of the device and the one of the first sink with these numbers fail.
 pub fn set_up(
     alloc: Global,

@@ -37,8 +37,6 @@ once.
 
 SEED is 0 to 4294967295, and SIZE 1 to 2000. The folder is left alone, and the time grows with the square of SIZE.
 
-Not built yet, and refused: a run of a workflow with checkpoints or directory outputs, which -n lists.
-
 Status:
   0  all is made, or listed
   1  a job failed

@@ -1,5 +1,5 @@
 -- A run again starts nothing.
-use Rattle.std.proofs.Common.{◌≡◌, ℕ, suc, true, false, List, [], ◌∷◌, map, refl, ap, sym, subst, ◌∙◌, Option, Some, Result, Ok}
+use Rattle.std.proofs.Common.{◌≡◌, ℕ, suc, false, List, [], ◌∷◌, map, refl, ap, sym, subst, ◌∙◌, Option, Some, Result, Ok}
 use Rattle.std.specs.Prelude.{IsSome}
 use Rattle.std.proofs.lemmas.Option.{same_Some}
 use Rattle.smk_world.specs.World.{World, IsFormed, run}
@@ -77,19 +77,19 @@ states_same : (a b : Plan) → a ≡ b → a.states ≡ b.states
 states_same a b e = ap (λ (p : Plan). p.states) e
 
 module _ (o : Outside) (words : RunWords) (w v : World) (formed : IsFormed v) (left : HasNoneLeft o words w v)
-    (same : (asked : Asked) → IsAskedIn true words w.nodes (Ok asked) → IsAskedIn true words v.nodes (Ok asked)) where
+    (same : (asked : Asked) → IsAskedIn words w.nodes (Ok asked) → IsAskedIn words v.nodes (Ok asked)) where
   -- the plan that is made again is the one that was left
-  plan_again : (asked : Asked) (told : Previewed) → IsToServe o.read true words v v asked told → plan_of told ≡ left.plan
+  plan_again : (asked : Asked) (told : Previewed) → IsToServe o.read words v v asked told → plan_of told ≡ left.plan
   plan_again asked told serve =
-      let is : asked ≡ left.asked = asked_same true words v.nodes asked left.asked serve.is_asked (same left.asked left.is_asked) in
+      let is : asked ≡ left.asked = asked_same words v.nodes asked left.asked serve.is_asked (same left.asked left.is_asked) in
       one_last_plan left.asked.flow (seen o.read v) (settings_of left.asked words) nothing_done [] (plan_of told) left.plan (seen_is_complete o.read v formed)
       (subst (λ (a : Asked). LastPlan a.flow (seen o.read v) (settings_of a words) nothing_done [] (plan_of told)) is serve.plan.last) (left.last [])
 
-  clean_again : (asked : Asked) (told : Previewed) → IsToServe o.read true words v v asked told → told.plan.states ≡ map (λ (j : Job). Clean) left.plan.jobs
+  clean_again : (asked : Asked) (told : Previewed) → IsToServe o.read words v v asked told → told.plan.states ≡ map (λ (j : Job). Clean) left.plan.jobs
   clean_again asked told serve = states_same (plan_of told) left.plan (plan_again asked told serve) ∙ left.clean
 
   none_made :
-      (asked : Asked) (told : Previewed) → IsToServe o.read true words v v asked told → (answer : Result (Unit {0}) Fault) (old new : Device) (p q : Sunk)
+      (asked : Asked) (told : Previewed) → IsToServe o.read words v v asked told → (answer : Result (Unit {0}) Fault) (old new : Device) (p q : Sunk)
       (settled : Result (Unit {0}) StoreFault) (g : GoesOn o.act asked.flow words.cores asked.targets told.jobs told.plan.states told.store answer old new p q settled) → turns_made g ≡ []
   none_made asked told serve answer old new p q settled (NotFirm f is unchanged unput) = refl
   none_made asked told serve answer old new p q settled (NoMemory u is unchanged unput) = refl
@@ -103,7 +103,7 @@ module _ (o : Outside) (words : RunWords) (w v : World) (formed : IsFormed v) (l
     settings = settings_of asked words
 
     is_asked : left.asked ≡ asked
-    is_asked = asked_same true words v.nodes left.asked asked (same left.asked left.is_asked) is
+    is_asked = asked_same words v.nodes left.asked asked (same left.asked left.is_asked) is
 
     -- the plan that was left, in a folder that is the same but for the lock
     planned_at : (image : Image) → IsSameButLock (seen o.read v) image → LastPlan asked.flow image settings nothing_done [] left.plan
@@ -160,10 +160,10 @@ module _ (o : Outside) (words : RunWords) (w v : World) (formed : IsFormed v) (l
 
   -- A run in this folder, or under the lock in one that is the same but for it.
   module _ (reads : ReadsRecords o.read) (u : World) (formed_u : IsFormed u) (locked : IsSameButLock (seen o.read v) (seen o.read u))
-      (back : (asked : Asked) (told : Previewed) → IsToServe o.read true words v u asked told → IsToServe o.read true words v v asked told) where
+      (back : (asked : Asked) (told : Previewed) → IsToServe o.read words v u asked told → IsToServe o.read words v v asked told) where
     went_none :
         (answer : Result (Unit {0}) Fault) (old new : Device) (p q : Sunk) → old.world ≡ Some u →
-        (h : Went o.act words answer (IsRefusal o.read true words v u) (AsksFor words v) (IsToServe o.read true words v u) old new p q) →
+        (h : Went o.act words answer (IsRefusal o.read words v u) (AsksFor words v) (IsToServe o.read words v u) old new p q) →
         Starts o.act old new × (turns_went h ≡ []) × untold_went o.read h
     went_none answer old new p q at (Refused f is why looked) = (looks_start_none looked.looked, refl, tt)
     went_none answer old new p q at (Stopped f is want looked) = (looks_start_none looked.looked, refl, tt)
@@ -207,7 +207,7 @@ module _ (o : Outside) (words : RunWords) (w v : World) (formed : IsFormed v) (l
       let formed_u : IsFormed u = subst IsFormed (sym once.is) (formed_run x once.taking formed_x) in
       let as_locked = locked_same o.act o.read v x u formed after once in
       let none =
-      went_none reads u formed_u as_locked (λ asked told serve. served_before o.read true words v u asked told as_locked serve) ran.ran locked ran.left p q at_u
+      went_none reads u formed_u as_locked (λ asked told serve. served_before o.read words v u asked told as_locked serve) ran.ran locked ran.left p q at_u
       ran.went in
       record {
         no_child =
@@ -217,8 +217,8 @@ module _ (o : Outside) (words : RunWords) (w v : World) (formed : IsFormed v) (l
       }
 
 pub next_starts_nothing : RunLeavesAllClean → DrivenEnds → NextCallStartsNothing
-next_starts_nothing exit drives o H words told again w v old new next_old next_new p q next_p next_q at end next_at reads differ sound free served none same
+next_starts_nothing exit drives o H words told again w v old new next_old next_new p q next_p next_q at end next_at reads differ sound plainly free served none same
     next =
-    let well = ended_well exit drives o H words told w v old new p q at end reads differ sound served none in
+    let well = ended_well exit drives o H words told w v old new p q at end reads differ sound plainly served none in
     let left = none_left exit drives o words w v free well in
     starts_nothing o words w v well.formed left same reads next.answer next_old next_new next_p next_q next_at next.serves

@@ -1,5 +1,5 @@
 -- What is asked of a folder is one thing, and it isn't refused too.
-use Rattle.std.proofs.Common.{◌≡◌, ◌⊎◌, inl, inr, Bool, ap, sym, subst, ◌∙◌, Result, Ok, Err}
+use Rattle.std.proofs.Common.{◌≡◌, ◌⊎◌, inl, inr, ap, sym, subst, ◌∙◌, Result, Ok, Err}
 use Rattle.std.proofs.lemmas.Option.{none-some}
 use Rattle.smk_world.specs.Trees.{Path}
 use Rattle.smk_flow.specs.Flows.{Flow}
@@ -34,8 +34,8 @@ read_same words nodes r s a b =
     λ i. record { file = file i; flow = flow i }
 
 -- words ask for one thing
-pub asked_same : (run : Bool) (words : RunWords) (nodes : Nodes) (a b : Asked) → IsAskedIn run words nodes (Ok a) → IsAskedIn run words nodes (Ok b) → a ≡ b
-asked_same run words nodes a b h k =
+pub asked_same : (words : RunWords) (nodes : Nodes) (a b : Asked) → IsAskedIn words nodes (Ok a) → IsAskedIn words nodes (Ok b) → a ≡ b
+asked_same words nodes a b h k =
     let same : reading_of a ≡ reading_of b = read_same words nodes (reading_of a) (reading_of b) h.0 k.0 in
     let targets : a.targets ≡ b.targets = h.2 ∙ (ap (λ (r : Reading). all_paths r.flow (asked_words words.targets r)) same ∙ sym k.2) in
     λ i. record { file = (same i).file; flow = (same i).flow; targets = targets i }
@@ -48,11 +48,11 @@ flow_unrefused said flow e gives (inr k) =
     no_fault flow.rules flow.orders fails.1.0 gives.1 fails.1.1
 
 -- what is asked isn't refused
-pub asked_unrefused : (run : Bool) (words : RunWords) (nodes : Nodes) (f : Fault) (a : Asked) → FailsToAsk run words nodes f → IsAskedIn run words nodes (Ok a) → ⊥
-asked_unrefused run words nodes f a (inl (inl none)) h = file_none a.file f (sym h.0.0 ∙ none)
-asked_unrefused run words nodes f a (inl (inr (file, is, (e, told, gives, same)))) h =
+pub asked_unrefused : (words : RunWords) (nodes : Nodes) (f : Fault) (a : Asked) → FailsToAsk words nodes f → IsAskedIn words nodes (Ok a) → ⊥
+asked_unrefused words nodes f a (inl (inl none)) h = file_none a.file f (sym h.0.0 ∙ none)
+asked_unrefused words nodes f a (inl (inr (file, is, (e, told, gives, same)))) h =
     let here : a.file ≡ file = file_same a.file file (sym h.0.0 ∙ is) in
     flow_unrefused (loaded nodes file words.sets) a.flow e (subst (λ p. Gives (loaded nodes p words.sets) (Ok a.flow)) here h.0.1) (gives told)
-asked_unrefused run words nodes f a (inr (reading, is, refused)) h =
+asked_unrefused words nodes f a (inr (reading, is, refused)) h =
     let same : reading ≡ reading_of a = read_same words nodes reading (reading_of a) is h.0 in
-    none-some f (sym (ap (refused_word run words.targets) same ∙ h.1) ∙ refused)
+    none-some f (sym (ap (refused_word words.targets) same ∙ h.1) ∙ refused)

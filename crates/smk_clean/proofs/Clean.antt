@@ -46,7 +46,6 @@ use Rattle.smk_run.specs.Turns.{Course, Unbegun, Unstarted, Unclosed, Closed, Tu
 use Rattle.smk_words_reading.specs.declared.asked.RunWords.{RunWords}
 use Rattle.smk_cli_entry.specs.declared.asking.Asked.{Asked}
 use Rattle.smk_cli_entry.specs.Entry.{IsAskedIn}
-use Rattle.smk_cli_entry.specs.Forms.{unbuilt}
 use Rattle.smk_make.specs.Closing.{verdict_of}
 use Rattle.smk_report.specs.Faults.{of_store}
 use Rattle.smk_make.specs.Making.{AreWhatIsMeant, Concludes, GoesOn, NotFirm, NoMemory, Made}
@@ -66,7 +65,8 @@ use Rattle.smk_clean.specs.Clean.{setting_in}
 use Rattle.smk_clean.proofs.Chained.{lists_stay, none_new}
 use Rattle.smk_clean.proofs.Firsts.{firsts_same}
 use Rattle.smk_clean.proofs.Fit.{all_fit}
-use Rattle.smk_clean.proofs.Meant.{all_plain, asked_built, duties_meant, is_plan, makers_told}
+use Rattle.smk_clean.proofs.Meant.{all_plain, duties_meant, is_plan, makers_told}
+use Rattle.smk_cli_calls.specs.OneByOne.{IsPlainFlow}
 use Rattle.smk_cli_calls.proofs.Plain.{each_from}
 use Rattle.smk_clean.proofs.Safe.{Answer, IsTurnRun, ok_err, started, turns_run, turns_safe}
 
@@ -156,7 +156,7 @@ pub record LeavesNothing (o : Outside) (words : RunWords) (asked : Asked) (v : W
 -- What is so after status 0, of the words as they ask in the folder of the entry, by the folder by which the plan was made.
 pub record HasEndedWell (o : Outside) (words : RunWords) (entry w v : World) : Type 0 where
   pub asked : Asked
-  pub is_asked : IsAskedIn true words entry.nodes (Ok asked)
+  pub is_asked : IsAskedIn words entry.nodes (Ok asked)
   pub targets : Each (IsClean (setting_in o w asked.flow) (seen o.read v)) asked.targets
   pub sources : SameSources (seen o.read w) (seen o.read v)
   pub left : words.force ≡ No → LeavesNothing o words asked v
@@ -199,7 +199,7 @@ moved_end o words entry w u v x before after formed h = record {
 
 module _ (o : Outside) (H : Versions) (w : World) (differ : SumsDiffer H) (sound : SoundWorld o w H) (reads : ReadsRecords o.read) (words : RunWords)
     (entry : World) (asked : Asked)
-    (told : Previewed) (to_serve : IsToServe o.read true words entry w asked told) where
+    (told : Previewed) (to_serve : IsToServe o.read words entry w asked told) (plain : IsPlainFlow asked.flow) where
   abbrev pub plan : Plan
   plan = plan_of told
 
@@ -212,14 +212,11 @@ module _ (o : Outside) (H : Versions) (w : World) (differ : SumsDiffer H) (sound
   abbrev pub top : ℕ
   top = greatest_serial told.store
 
-  pub all_built : unbuilt asked.flow.rules ≡ None
-  all_built = asked_built words entry.nodes asked to_serve.is_asked
-
   pub planned : IsPlan asked.flow (seen o.read w) settings nothing_done plan
-  planned = is_plan o.read w sound.formed asked all_built words told to_serve.plan
+  planned = is_plan o.read w sound.formed asked plain words told to_serve.plan
 
   pub plainly : Each IsPlain plan.jobs
-  plainly = all_plain o.read w sound.formed asked all_built words told to_serve.plan
+  plainly = all_plain o.read w sound.formed asked plain words told to_serve.plan
 
   pub fields : (j : Job) → IsIn plan.jobs j → is_none (missing j) ≡ true
   fields =
@@ -227,7 +224,7 @@ module _ (o : Outside) (H : Versions) (w : World) (differ : SumsDiffer H) (sound
       (ap length planned.states ∙ length-map plan.jobs (state_of (seen o.read w) settings nothing_done plan)) to_serve.plan.unrefused
 
   module _ (v : World) (duties : List Duty) (ts : List Turn) (meant : AreWhatIsMeant told.jobs told.plan.states told.store duties) (fit : Each IsFit ts)
-      (r : IsTurnRun o H w differ sound reads words entry asked told to_serve v duties ts) where
+      (r : IsTurnRun o H w differ sound reads words entry asked told to_serve plain v duties ts) where
     abbrev pub ran : IsDueRun o w H asked.flow settings plan ts r.es
     ran = record {
       makers = told.jobs.makers;
@@ -240,8 +237,8 @@ module _ (o : Outside) (H : Versions) (w : World) (differ : SumsDiffer H) (sound
       is_top = is_top o w told.store to_serve.plan.stored;
       planned = planned;
       plain = plainly;
-      meant = duties_meant o.read w sound.formed asked all_built words told to_serve.plan duties meant;
-      told = makers_told o.read w sound.formed asked all_built words told to_serve.plan;
+      meant = duties_meant o.read w sound.formed asked plain words told to_serve.plan duties meant;
+      told = makers_told o.read w sound.formed asked plain words told to_serve.plan;
       in_order = r.in_order;
       fit = fit;
       follows = r.follows;
@@ -252,7 +249,7 @@ module _ (o : Outside) (H : Versions) (w : World) (differ : SumsDiffer H) (sound
     end = run w r.es
 
     safe : IsSafeRun o w H top ts r.es
-    safe = turns_safe o H w differ sound reads words entry asked told to_serve v duties ts meant fit r
+    safe = turns_safe o H w differ sound reads words entry asked told to_serve plain v duties ts meant fit r
 
     module _ (exit : RunLeavesAllClean) (free : words.force ≡ No) (all : HaveAllTurns (due (next_serial told.store) duties told.jobs.jobs) ts) where
       all_is : length ts ≡ length (due (Some (suc top)) duties plan.jobs)
@@ -269,9 +266,9 @@ module _ (o : Outside) (H : Versions) (w : World) (differ : SumsDiffer H) (sound
 
       ended : HasEndedWell o words entry w end
       ended =
-          let same : plan.lists ≡ [] = lists_stay o w sound.formed rules all_built [] plan to_serve.plan.last in
+          let same : plan.lists ≡ [] = lists_stay o w sound.formed rules plain [] plan to_serve.plan.last in
           let last : LastPlan asked.flow (seen o.read end) settings nothing_done plan.lists (all_clean plan) =
-          Last (all_clean plan) (clean.planned []) (none_new o end sound_end.formed rules all_built (all_clean plan) (clean.planned [])) in
+          Last (all_clean plan) (clean.planned []) (none_new o end sound_end.formed rules plain (all_clean plan) (clean.planned [])) in
           record {
             asked = asked;
             is_asked = to_serve.is_asked;
@@ -305,7 +302,7 @@ module _ (o : Outside) (H : Versions) (w : World) (differ : SumsDiffer H) (sound
     goes_clean u v old looked firm new p q r bad at ends looking settling (Made t duties for meant made) =
         let d = made.ran.did v ends in
         let start = started o H w differ sound d.0 old looked firm (HasTried (steady_requests told.store) (Ok t)) bad at looking settling d.1 in
-        let run_is = turns_run o H w differ sound reads words entry asked told to_serve t d.0 v duties made.turns d.2.0 start made.in_order d.2.1 d.2.2 d.2.3 in
+        let run_is = turns_run o H w differ sound reads words entry asked told to_serve plain t d.0 v duties made.turns d.2.0 start made.in_order d.2.1 d.2.2 d.2.3 in
         let fit = all_fit made.turns made.fits in
         let all = all_turns u asked.flow (due (next_serial told.store) duties told.jobs.jobs) made.turns made.failed made.ended made.answer made.concluded in
         subst (HasEndedWell o words entry w) (sym run_is.is) (ended v duties made.turns meant fit run_is exit free all)

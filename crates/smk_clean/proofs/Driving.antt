@@ -22,6 +22,7 @@ use Rattle.smk_cli_entry.specs.Faults.{is_device}
 use Rattle.smk_plan_preview.specs.Previewing.{rules_for}
 use Rattle.smk_cli_calls.specs.Serving.{Went, Refused, Stopped, Worked, Drove, WasDriven, answer_of, settings_of}
 use Rattle.smk_cli_calls.proofs.Driving.{rules_are}
+use Rattle.smk_cli_calls.proofs.OneByOne.{none_grow}
 use Rattle.smk_cli_calls.specs.Whole.{AsksFor, IsRefusal, IsToServe}
 use Rattle.smk_laws_lock.specs.Parts.{AreRuns, One}
 use Rattle.smk_laws_lock.proofs.Parts.{parts_are_safe, runs_append}
@@ -79,11 +80,11 @@ module _ (o : Outside) (H : Versions) (w : World) (differ : SumsDiffer H) (sound
     pub went_safe :
         (words : RunWords) (entry : World) (answer : Answer) (v : World) (old new : Device)
         (p q : Sunk) → old.world ≡ Some w → new.world ≡ Some v →
-        (h : Went o.act words answer (IsRefusal o.read true words entry w) (AsksFor words entry) (IsToServe o.read true words entry w) old new p q) → SafelySo answer v
+        (h : Went o.act words answer (IsRefusal o.read words entry w) (AsksFor words entry) (IsToServe o.read words entry w) old new p q) → SafelySo answer v
     went_safe words entry answer v old new p q at end (Refused f is why looked) = looked_safe o H w differ sound answer v old new (is_device f) at end looked.looked
     went_safe words entry answer v old new p q at end (Stopped f is want looked) = looked_safe o H w differ sound answer v old new (is_device f) at end looked.looked
     went_safe words entry answer v old new p q at end (Worked asked told one plans worked) =
-        goes_safe o H w differ sound reads words entry asked told plans answer v old worked.looked worked.carried.firm new p q worked.carried.settled
+        goes_safe o H w differ sound reads words entry asked told plans (none_grow asked.flow words one) answer v old worked.looked worked.carried.firm new p q worked.carried.settled
         (store_failed worked.carried.settled) at end
         worked.looking worked.carried.settling worked.carried.goes_on
     went_safe words entry answer v old new p q at end (Drove asked apart is drove) =

@@ -1,6 +1,6 @@
 -- The lock is left as it was.
 use native.Mathlib.Omega.{arith}
-use Rattle.std.proofs.Common.{◌≡◌, ◌≤◌, ℕ, Bool, true, false, List, refl, ap, sym, subst, ◌∙◌, Option, Some, None, Result, Ok, Err, true≢false}
+use Rattle.std.proofs.Common.{◌≡◌, ◌≤◌, ℕ, Bool, false, List, refl, ap, sym, subst, ◌∙◌, Option, Some, None, Result, Ok, Err, true≢false}
 use Rattle.std.specs.Prelude.{is_err}
 use Rattle.std.proofs.lemmas.Option.{same_Some}
 use Rattle.smk_base.specs.Place.{lock_place}
@@ -62,13 +62,13 @@ module _ (act : Act) (read : List ℕ → Option Record) (words : RunWords) (w v
     (heeds : words.nolock ≡ false) (never : ¬ (Rose old.faults new.faults)) where
   -- after a run under the lock there is none
   gone :
-      (u : World) (locked : Device) → old.faults ≤ locked.faults → (ran : HasRunLocked act words answer (IsRefusal read true words w u) (AsksFor words w)
-      (IsToServe read true words w u) locked new p q) →
+      (u : World) (locked : Device) → old.faults ≤ locked.faults → (ran : HasRunLocked act words answer (IsRefusal read words w u) (AsksFor words w)
+      (IsToServe read words w u) locked new p q) →
       at_lock v ≡ None
   gone u locked le ran = go ran.closed
     where
       later : locked.faults ≤ ran.left.faults
-      later = faults_later act words ran.ran (IsRefusal read true words w u) (AsksFor words w) (IsToServe read true words w u) locked ran.left p q ran.went
+      later = faults_later act words ran.ran (IsRefusal read words w u) (AsksFor words w) (IsToServe read words w u) locked ran.left p q ran.went
 
       by : (r : Result (Unit {0}) Failed) → HasActed act (HasReleased r) ran.left new (is_err r) → at_lock v ≡ None
       by (Ok t) goes = let d = goes.did v end in ap at_lock d.2.3 ∙ d.2.2.gone refl

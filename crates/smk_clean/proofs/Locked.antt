@@ -111,18 +111,18 @@ locked_same act read w v u formed after once =
     (lock_changes_itself_alone read v u formed_v formed_u only)
 
 -- so what is planned under the lock is planned for the folder before, and what is refused is refused of it
-pub served_before : (read : List ℕ → Option Record) (run : Bool) (words : RunWords) (w u : World) (asked : Asked) (told : Previewed) →
-    IsSameButLock (seen read w) (seen read u) → IsToServe read run words w u asked told
-    → IsToServe read run words w w asked told
-served_before read run words w u asked told same h = record {
+pub served_before : (read : List ℕ → Option Record) (words : RunWords) (w u : World) (asked : Asked) (told : Previewed) →
+    IsSameButLock (seen read w) (seen read u) → IsToServe read words w u asked told
+    → IsToServe read words w w asked told
+served_before read words w u asked told same h = record {
   is_asked = h.is_asked;
   plan = previews_heed_no_lock read asked.flow (settings_of asked words) told (seen read u) (seen read w) (same_back (seen read w) (seen read u) same) h.plan;
 }
 
-pub refused_before : (read : List ℕ → Option Record) (run : Bool) (words : RunWords) (w u : World) (f : Fault) → IsSameButLock (seen read w) (seen read u) →
-    IsRefusal read run words w u f → IsRefusal read run words w w f
-refused_before read run words w u f same (OfWorkflow fails) = OfWorkflow fails
-refused_before read run words w u f same (OfPlan asked is refuses) =
+pub refused_before : (read : List ℕ → Option Record) (words : RunWords) (w u : World) (f : Fault) → IsSameButLock (seen read w) (seen read u) →
+    IsRefusal read words w u f → IsRefusal read words w w f
+refused_before read words w u f same (OfWorkflow fails) = OfWorkflow fails
+refused_before read words w u f same (OfPlan asked is refuses) =
     OfPlan asked is (refusals_heed_no_lock (rules_for read asked.flow (settings_of asked words)) nothing_done [] f (seen read u) (seen read w)
     (same_back (seen read w) (seen read u) same) refuses)
 
@@ -141,7 +141,7 @@ module _ (o : Outside) (H : Versions) (w : World) (differ : SumsDiffer H) (sound
     pub at_start : locked.world ≡ Some start
     pub ran : Answer
     pub left : Device
-    pub went : Went o.act words ran (IsRefusal o.read true words w start) (AsksFor words w) (IsToServe o.read true words w start) locked left p q
+    pub went : Went o.act words ran (IsRefusal o.read words w start) (AsksFor words w) (IsToServe o.read words w start) locked left p q
     pub last : World
     pub at_last : left.world ≡ Some last
     pub release : List Event
@@ -186,7 +186,7 @@ module _ (o : Outside) (H : Versions) (w : World) (differ : SumsDiffer H) (sound
         ((parts_are_safe o w H front differ sound follows_front (One w front front_run)).at_end (subst (λ (x : World). x.children ≡ []) start_is alone))
 
     pub under_lock :
-        (ran : HasRunLocked o.act words answer (IsRefusal o.read true words w start) (AsksFor words w) (IsToServe o.read true words w start) locked new p q) →
+        (ran : HasRunLocked o.act words answer (IsRefusal o.read words w start) (AsksFor words w) (IsToServe o.read words w start) locked new p q) →
         IsUnderLock new p q end
     under_lock ran = go ran.closed
       where

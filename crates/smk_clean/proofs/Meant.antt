@@ -1,14 +1,12 @@
 -- What the plan for what is asked tells of its jobs.
-use Rattle.std.proofs.Common.{◌≡◌, ℕ, true, List, [], flat_map, refl, ap, sym, subst, ◌∙◌, Option, Some, None, option_map, is_some, Ok}
+use Rattle.std.proofs.Common.{◌≡◌, ℕ, true, List, [], flat_map, refl, ap, sym, subst, ◌∙◌, Option, Some, None, is_some}
 use Rattle.smk_laws_history.proofs.CurrentLaw.{last_is}
 use Rattle.smk_world.specs.World.{World, IsFormed, out_paths}
-use Rattle.smk_world.specs.Trees.{Path, Each, IsIn}
-use Rattle.smk_pattern.specs.Shapes.{Text}
+use Rattle.smk_world.specs.Trees.{Each, IsIn}
 use Rattle.smk_record.specs.declared.record.Record.{Record}
 use Rattle.smk_flow.specs.declared.job.Job.{Job}
 use Rattle.smk_flow.specs.Flows.{Flow}
 use Rattle.smk_words_reading.specs.declared.asked.RunWords.{RunWords}
-use Rattle.smk_eval_files.specs.Looks.{Nodes}
 use Rattle.smk_store.specs.Images.{Image, core_at, seen}
 use Rattle.smk_store.specs.Trust.{holder}
 use Rattle.smk_chain.specs.Derive.{distinct, job, same_candidate, sources_of, walk}
@@ -25,8 +23,6 @@ use Rattle.smk_plan.specs.declared.duty.Duty.{Duty}
 use Rattle.smk_plan_duties.specs.Meaning.{IsSpokenFor, AreMeant}
 use Rattle.smk_make.specs.Making.{AreWhatIsMeant}
 use Rattle.smk_cli_entry.specs.declared.asking.Asked.{Asked}
-use Rattle.smk_cli_entry.specs.Entry.{IsAskedIn}
-use Rattle.smk_cli_entry.specs.Forms.{not_built, unbuilt}
 use Rattle.smk_plan_preview.specs.declared.previewing.Previewed.{Previewed}
 use Rattle.smk_plan_preview.specs.Previewing.{plan_of}
 use Rattle.smk_cli_calls.specs.Serving.{IsPlanFor, settings_of}
@@ -35,7 +31,8 @@ use Rattle.smk_safe.proofs.Images.{holder_own}
 use Rattle.smk_safe.proofs.Planned.{plain_makes}
 use Rattle.smk_exit.specs.Dues.{TellsMakers}
 use Rattle.smk_plan_preview.proofs.Agreed.{own_records}
-use Rattle.smk_cli_calls.proofs.Plain.{each_from, neither}
+use Rattle.smk_cli_calls.specs.OneByOne.{IsPlainFlow}
+use Rattle.smk_cli_calls.proofs.Plain.{each_from}
 use Rattle.smk_clean.proofs.Plain.{planned_plain}
 use Rattle.smk_clean.proofs.Told.{tells_makers}
 
@@ -61,15 +58,7 @@ spoken image j plain q made each =
     own None e h = cc
     own (Some r) e h = holder_own image q r e
 
-no_form : (o : Option Text) (file : Path) → option_map (not_built file) o ≡ None → o ≡ None
-no_form None file h = refl
-no_form (Some word) file h = cc
-
--- all forms of a workflow by which something is to be run are built
-pub asked_built : (words : RunWords) (nodes : Nodes) (asked : Asked) → IsAskedIn true words nodes (Ok asked) → unbuilt asked.flow.rules ≡ None
-asked_built words nodes asked h = no_form (unbuilt asked.flow.rules) asked.file (neither (option_map (not_built asked.file) (unbuilt asked.flow.rules)) _ h.1).0
-
-module _ (read : List ℕ → Option Record) (w : World) (formed : IsFormed w) (asked : Asked) (built : unbuilt asked.flow.rules ≡ None) (words : RunWords) (told : Previewed) (is : IsPlanFor read asked words w told) where
+module _ (read : List ℕ → Option Record) (w : World) (formed : IsFormed w) (asked : Asked) (plain : IsPlainFlow asked.flow) (words : RunWords) (told : Previewed) (is : IsPlanFor read asked words w told) where
   abbrev image : Image
   image = seen read w
 
@@ -83,7 +72,7 @@ module _ (read : List ℕ → Option Record) (w : World) (formed : IsFormed w) (
   is_plan = last_is asked.flow image settings nothing_done [] plan is.last
 
   pub all_plain : Each IsPlain plan.jobs
-  all_plain = planned_plain asked.flow image settings nothing_done plan (seen_is_complete read w formed) built is_plan
+  all_plain = planned_plain asked.flow image settings nothing_done plan (seen_is_complete read w formed) plain is_plan
 
   pub makers_told : TellsMakers told.jobs.makers plan
   makers_told = tells_makers image settings told.jobs told.plan.states is_plan.states asked.targets is.served

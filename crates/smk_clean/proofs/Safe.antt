@@ -45,11 +45,11 @@ use Rattle.smk_run.specs.Turns.{Turn, AreTurns, is_closed}
 use Rattle.smk_made.proofs.Done.{follows_split}
 use Rattle.smk_words_reading.specs.declared.asked.RunWords.{RunWords}
 use Rattle.smk_cli_entry.specs.declared.asking.Asked.{Asked}
-use Rattle.smk_cli_entry.specs.Forms.{unbuilt}
 use Rattle.smk_report.specs.Faults.{of_store}
 use Rattle.smk_make.specs.Making.{AreWhatIsMeant, Concludes, GoesOn, NotFirm, NoMemory, Made}
 use Rattle.smk_plan_preview.specs.declared.previewing.Previewed.{Previewed}
 use Rattle.smk_plan_preview.specs.Previewing.{plan_of}
+use Rattle.smk_cli_calls.specs.OneByOne.{IsPlainFlow}
 use Rattle.smk_cli_calls.specs.Ends.{fault_of}
 use Rattle.smk_cli_calls.specs.Serving.{settings_of}
 use Rattle.smk_cli_calls.specs.Lines.{IsOutcome}
@@ -65,7 +65,7 @@ use Rattle.smk_exit.proofs.Dues.{due_run_is_safe}
 use Rattle.smk_clean.specs.Safe.{IsSafeCall}
 use Rattle.smk_clean.proofs.Firsts.{firsts_same}
 use Rattle.smk_clean.proofs.Fit.{all_fit}
-use Rattle.smk_clean.proofs.Meant.{all_plain, asked_built, duties_meant, is_plan, makers_told}
+use Rattle.smk_clean.proofs.Meant.{all_plain, duties_meant, is_plan, makers_told}
 
 abbrev pub Answer : Type 0
 Answer = Result (Unit {0}) Fault
@@ -198,7 +198,7 @@ module _ (o : Outside) (H : Versions) (w : World) (differ : SumsDiffer H) (sound
   -- ## The turns
 
   module _ (reads : ReadsRecords o.read) (words : RunWords) (entry : World) (asked : Asked) (told : Previewed)
-      (to_serve : IsToServe o.read true words entry w asked told) where
+      (to_serve : IsToServe o.read words entry w asked told) (plain : IsPlainFlow asked.flow) where
     abbrev top : ℕ
     top = greatest_serial told.store
 
@@ -209,9 +209,6 @@ module _ (o : Outside) (H : Versions) (w : World) (differ : SumsDiffer H) (sound
       pub is : v ≡ run w es
       pub in_order : AreInOrder words.cores (due (Some (suc top)) duties told.jobs.jobs) ts
       pub is_run : IsRunOf o (serials told.jobs.makers (Some (suc top)) duties) ts w es
-
-    abbrev pub built : unbuilt asked.flow.rules ≡ None
-    built = asked_built words entry.nodes asked to_serve.is_asked
 
     pub turns_run :
         (u : Unit {0}) (x v : World) (duties : List Duty) (ts : List Turn) (gs : List Event) → HasStarted x (HasTried (steady_requests told.store) (Ok u)) →
@@ -250,10 +247,10 @@ module _ (o : Outside) (H : Versions) (w : World) (differ : SumsDiffer H) (sound
     turns_safe v duties ts meant fit r =
         due_run_is_safe o w H asked.flow (settings_of asked words) (plan_of told) told.jobs.makers duties words.cores top ts r.es reads differ sound
         (is_top o w told.store to_serve.plan.stored)
-        (is_plan o.read w sound.formed asked built words told to_serve.plan)
-        (all_plain o.read w sound.formed asked built words told to_serve.plan)
-        (duties_meant o.read w sound.formed asked built words told to_serve.plan duties meant)
-        (makers_told o.read w sound.formed asked built words told to_serve.plan)
+        (is_plan o.read w sound.formed asked plain words told to_serve.plan)
+        (all_plain o.read w sound.formed asked plain words told to_serve.plan)
+        (duties_meant o.read w sound.formed asked plain words told to_serve.plan duties meant)
+        (makers_told o.read w sound.formed asked plain words told to_serve.plan)
         r.in_order fit r.follows r.is_run
 
     all_closed :

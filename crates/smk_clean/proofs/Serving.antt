@@ -82,7 +82,7 @@ module _ (o : Outside) (H : Versions) (w : World) (differ : SumsDiffer H) (sound
       (is_device f) at end looked.looked
   ran_safe reads words answer x old new p q at end (Heeded v looked heeds after at_v looking heeded) = go heeded
     where
-      go : HasHeeded o.act words answer (IsRefusal o.read true words w) (AsksFor words w) (IsToServe o.read true words w) v looked new p q → SafelySo answer x
+      go : HasHeeded o.act words answer (IsRefusal o.read words w) (AsksFor words w) (IsToServe o.read words w) v looked new p q → SafelySo answer x
       go (Unmade is same unput) = looked_safe o H w differ sound answer x old looked false at (sym (ap (λ (d : Device). d.world) same) ∙ end) looking
       go (Stood is stands tried unput) = tried_safe fault.Locked (Ok false) answer v x looked new false is after at_v end tried
       go (Untaken e is tried unput) = tried_safe fault.Device (Err e) answer v x looked new true is after at_v end tried

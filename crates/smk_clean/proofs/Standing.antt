@@ -20,6 +20,7 @@ use Rattle.smk_plan_preview.specs.declared.previewing.Previewed.{Previewed}
 use Rattle.smk_plan_preview.specs.Previewing.{plan_of, rules_for}
 use Rattle.smk_cli_calls.specs.OneByOne.{is_one_by_one}
 use Rattle.smk_cli_calls.specs.Serving.{IsRefusedPlan, IsWant, Went, Refused, Stopped, WasDriven, Worked, Drove, settings_of}
+use Rattle.smk_cli_calls.proofs.OneByOne.{none_grow}
 use Rattle.smk_cli_calls.specs.Ends.{fault_of}
 use Rattle.smk_cli_calls.specs.Lines.{IsOutcome}
 use Rattle.smk_cli_calls.specs.Locking.{IsClosed, LockGoes, LockStays, Stood, Taken, Unmade, Untaken, with_release}
@@ -33,7 +34,6 @@ use Rattle.smk_clean.proofs.Locked.{locked_same, refused_before, served_before}
 use Rattle.smk_clean.proofs.AtLock.{at_lock, looks_only, only_both, releasing_only, taking_only}
 use Rattle.smk_clean.proofs.Asking.{asked_same, asked_unrefused}
 use Rattle.smk_clean.proofs.Chained.{one_refusal, unrefused}
-use Rattle.smk_clean.proofs.Meant.{asked_built}
 use Rattle.smk_clean.proofs.Undriven.{closed_left, driven_left, failed_still, told_before}
 
 or_else : {A B C : Type 0} → (B → C) → A ⊎ B → A ⊎ C
@@ -69,28 +69,28 @@ module _ (act : Act) (read : List ℕ → Option Record) (words : RunWords) (w :
   outside = record { read = read; act = act }
 
   -- what is refused isn't what is to be run
-  not_to_serve : (f : Fault) (asked : Asked) (told : Previewed) → IsRefusal read true words w w f → IsToServe read true words w w asked told → ⊥
-  not_to_serve f asked told (OfWorkflow fails) serve = asked_unrefused true words w.nodes f asked fails serve.is_asked
-  not_to_serve f asked told (OfPlan other is refused) serve =
-      let same : other ≡ asked = asked_same true words w.nodes other asked is serve.is_asked in
-      unrefused outside w formed (rules_for read asked.flow (settings_of asked words)) (asked_built words w.nodes asked serve.is_asked) [] [] f (plan_of told)
+  not_to_serve : (f : Fault) (asked : Asked) (told : Previewed) → is_one_by_one asked.flow words ≡ true → IsRefusal read words w w f → IsToServe read words w w asked told → ⊥
+  not_to_serve f asked told one (OfWorkflow fails) serve = asked_unrefused words w.nodes f asked fails serve.is_asked
+  not_to_serve f asked told one (OfPlan other is refused) serve =
+      let same : other ≡ asked = asked_same words w.nodes other asked is serve.is_asked in
+      unrefused outside w formed (rules_for read asked.flow (settings_of asked words)) (none_grow asked.flow words one) [] [] f (plan_of told)
       (subst (λ a. IsRefusedPlan read a words w f) same refused) serve.plan.last refl serve.plan.unrefused
 
   -- what is refused of what is asked is its plan
-  plan_refused : (f : Fault) (asked : Asked) → AsksFor words w asked → IsRefusal read true words w w f → IsRefusedPlan read asked words w f
-  plan_refused f asked is (OfWorkflow fails) = absurd (asked_unrefused true words w.nodes f asked fails is)
+  plan_refused : (f : Fault) (asked : Asked) → AsksFor words w asked → IsRefusal read words w w f → IsRefusedPlan read asked words w f
+  plan_refused f asked is (OfWorkflow fails) = absurd (asked_unrefused words w.nodes f asked fails is)
   plan_refused f asked is (OfPlan other also refused) =
-      subst (λ a. IsRefusedPlan read a words w f) (asked_same true words w.nodes other asked also is) refused
+      subst (λ a. IsRefusedPlan read a words w f) (asked_same words w.nodes other asked also is) refused
 
   -- a refusal of a plan is the only one
   only_one :
       (f g : Fault) (asked : Asked) →
-      AsksFor words w asked → IsRefusedPlan read asked words w f → IsRefusal read true words w w g → IsSameFault f g
+      AsksFor words w asked → IsRefusedPlan read asked words w f → IsRefusal read words w w g → IsSameFault f g
   only_one f g asked is refused refusal =
-      one_refusal outside w formed (rules_for read asked.flow (settings_of asked words)) (asked_built words w.nodes asked is) [] [] f g refused
+      one_refusal outside w formed (rules_for read asked.flow (settings_of asked words)) [] [] f g refused
       (plan_refused g asked is refusal) refl
 
-  module _ (f : Fault) (refusal : IsRefusal read true words w w f) (Why : Fault → Type 0) (why : (g : Fault) → IsRefusal read true words w w g → Why g)
+  module _ (f : Fault) (refusal : IsRefusal read words w w f) (Why : Fault → Type 0) (why : (g : Fault) → IsRefusal read words w w g → Why g)
       (answer : Result (Unit {0}) Fault) (told : Option Fault) (outcome : IsOutcome (fault_of answer) told) (old new : Device)
       (followed : IsFollowed read words w old new) (p q : Sunk) where
     abbrev Stands : Type 0
@@ -132,21 +132,21 @@ module _ (act : Act) (read : List ℕ → Option Record) (words : RunWords) (w :
           stands_with k.fault c.0 (why_left asked k.fault is before)
           (OnlyOpened c.1.0 (asked, is, apart) (subst (λ b. HasEnded act (LeavesAllBut (lock_of b)) old new c.1.0) (sym heeds) c.1.1) k.unput)
 
-      locked_stands : Went act words ran (IsRefusal read true words w u) (AsksFor words w) (IsToServe read true words w u) locked left p q → Stands
+      locked_stands : Went act words ran (IsRefusal read words w u) (AsksFor words w) (IsToServe read words w u) locked left p q → Stands
       locked_stands (Refused g is refuses looked) =
           let c = closed_only act answer ran g old locked left new is first (is_device g) looked.looked closed in
-          stands_with g c.0 (inr (inr (why g (refused_before read true words w u g same refuses)))) (OnlyLocked c.1.0 heeds c.1.1 looked.unput)
+          stands_with g c.0 (inr (inr (why g (refused_before read words w u g same refuses)))) (OnlyLocked c.1.0 heeds c.1.1 looked.unput)
       locked_stands (Stopped g is want looked) =
           let c = closed_only act answer ran g old locked left new is first (is_device g) looked.looked closed in
           stands_with g c.0 (inl want) (OnlyLocked c.1.0 heeds c.1.1 looked.unput)
       locked_stands (Worked asked previewed one serve worked) =
-          absurd (not_to_serve f asked previewed refusal (served_before read true words w u asked previewed same serve))
+          absurd (not_to_serve f asked previewed one refusal (served_before read words w u asked previewed same serve))
       locked_stands (Drove asked apart asks drove) = locked_driven asked apart asks followed drove
 
     stands : HasRun act read words w answer old new p q → Stands
     stands (Unheeded free (Refused g is refuses looked)) = stands_with g is (inr (inr (why g refuses))) (OnlyLooked (is_device g) looked)
     stands (Unheeded free (Stopped g is want looked)) = stands_with g is (inl want) (OnlyLooked (is_device g) looked)
-    stands (Unheeded free (Worked asked previewed one serve worked)) = absurd (not_to_serve f asked previewed refusal serve)
+    stands (Unheeded free (Worked asked previewed one serve worked)) = absurd (not_to_serve f asked previewed one refusal serve)
     stands (Unheeded free (Drove asked apart asks drove)) = driven_stands asked free apart asks followed drove
     stands (Unasked g heeds is (inl want) looked) = stands_with g is (inl want) (OnlyLooked (is_device g) looked)
     stands (Unasked g heeds is (inr fails) looked) = stands_with g is (inr (inr (why g (OfWorkflow fails)))) (OnlyLooked (is_device g) looked)
@@ -167,7 +167,7 @@ module _ (act : Act) (read : List ℕ → Option Record) (words : RunWords) (w :
 
 pub refusal_stands : RefusalStands
 refusal_stands act read words f w told old new p q formed refusal followed served =
-    stands act read words w formed f refusal (IsRefusal read true words w w) (λ g h. h) served.answer told served.told_is old new followed p q served.serves
+    stands act read words w formed f refusal (IsRefusal read words w w) (λ g h. h) served.answer told served.told_is old new followed p q served.serves
 
 pub plan_refusal_stands : PlanRefusalStands
 plan_refusal_stands act read words asked f w told old new p q formed is refused followed served =

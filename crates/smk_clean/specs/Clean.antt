@@ -1,5 +1,5 @@
 -- What a run leaves that ends with status 0.
-use Rattle.std.specs.Prelude.{◌≡◌, true, Option, Some, None, Ok, is_none}
+use Rattle.std.specs.Prelude.{◌≡◌, Option, Some, None, Ok, is_none}
 use Rattle.smk_world.specs.World.{World}
 use Rattle.smk_world.specs.Devices.{Device, Sunk}
 use Rattle.smk_world.specs.Trees.{Each}
@@ -16,7 +16,7 @@ use Rattle.smk_words_reading.specs.declared.asked.RunWords.{RunWords}
 use Rattle.smk_words_reading.specs.declared.asked.Asked.TheVariants.{Run}
 use Rattle.smk_cli_entry.specs.declared.asking.Asked.{Asked}
 use Rattle.smk_cli_entry.specs.Entry.{IsAskedIn}
-use Rattle.smk_cli_calls.specs.Whole.{HasServed}
+use Rattle.smk_cli_calls.specs.Whole.{HasServed, IsAskedPlainly}
 
 -- what a clean run has of this flow, from the sources that stand in the folder
 abbrev pub setting_in : Outside → World → Flow → Setting
@@ -26,11 +26,11 @@ setting_in o w flow = setting_of flow o.act (λ j. is_none (format.missing j)) (
 -- they were.
 pub record HasMadeClean (o : Outside) (words : RunWords) (w v : World) : Type 0 where
   pub asked : Asked
-  pub is_asked : IsAskedIn true words w.nodes (Ok asked)
+  pub is_asked : IsAskedIn words w.nodes (Ok asked)
   pub targets : Each (IsClean (setting_in o w asked.flow) (seen o.read v)) asked.targets
   pub sources : SameSources (seen o.read w) (seen o.read v)
 
--- A run that ends without a fault, in a sound folder, be its jobs made one after another or driven.
+-- A run that ends without a fault, in a sound folder, where no plan of what is asked may grow; be its jobs made one after another or driven.
 abbrev pub CallIsClean : Type 0
 CallIsClean =
     (o : Outside) (H : Versions) (words : RunWords) (told : Option Fault) (w v : World) (old new : Device) (out_old out_new : Sunk) →
@@ -39,4 +39,5 @@ CallIsClean =
     ReadsRecords o.read →
     SumsDiffer H →
     SoundWorld o w H →
+    IsAskedPlainly words w →
     HasServed o.act o.read (Run words) w told old new out_old out_new → told ≡ None → HasMadeClean o words w v

@@ -66,9 +66,9 @@ RefusalStands =
     (act : Act) (read : List ℕ → Option Record) (words : RunWords) (f : Fault) (w : World) (told : Option Fault) (old new : Device)
     (out_old out_new : Sunk) →
     IsFormed w →
-    IsRefusal read true words w w f →
+    IsRefusal read words w w f →
     IsFollowed read words w old new →
-    HasServed act read (Run words) w told old new out_old out_new → HasStood act words w (IsRefusal read true words w w) told old new out_old out_new
+    HasServed act read (Run words) w told old new out_old out_new → HasStood act words w (IsRefusal read words w w) told old new out_old out_new
 
 -- Where the plan for what is asked is refused, the call ends with that refusal.
 abbrev pub PlanRefusalStands : Type 0
@@ -76,7 +76,7 @@ PlanRefusalStands =
     (act : Act) (read : List ℕ → Option Record) (words : RunWords) (asked : Asked) (f : Fault) (w : World) (told : Option Fault) (old new : Device)
     (out_old out_new : Sunk) →
     IsFormed w →
-    IsAskedIn true words w.nodes (Ok asked) →
+    IsAskedIn words w.nodes (Ok asked) →
     IsRefusedPlan read asked words w f →
     IsFollowed read words w old new →
     HasServed act read (Run words) w told old new out_old out_new → HasStood act words w (IsSameFault f) told old new out_old out_new

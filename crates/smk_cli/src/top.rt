@@ -43,7 +43,7 @@ fn serve_run<W: Crew, O: Sink, Rt: Threads + Sync>(
     ensures ran { WhereTold (W.device work.old) (λ w. (read : Items ℕ → Option RecordValue) → ReadsRecords read
         → HasRun W.act read words.now w result (W.device work.old) (W.device work.new) (O.sunk out.old) (O.sunk out.new)) }
 {
-    match ask(alloc, true, work, words) {
+    match ask(alloc, work, words) {
         Err(fault) => Err(fault),
         Ok(asked) => make_asked(rt, alloc, &asked, words, work, out),
     }
@@ -61,9 +61,9 @@ fn serve_listing<W: Files, O: Sink, Rt: Threads + Sync>(
     ensures ended { EndsAs result (W.device work.old) (W.device work.new) (O.sunk out.old) (O.sunk out.new) }
     ensures looked { HasLooked W.act (W.device work.old) (W.device work.new) (device_failed result) }
     ensures listed { WhereTold (W.device work.old) (λ w. (read : Items ℕ → Option RecordValue) → ReadsRecords read
-        → HasListed (IsRefusal read false words.now w w) (IsToServe read false words.now w w) (O.sunk out.old) (O.sunk out.new) result) }
+        → HasListed (IsRefusal read words.now w w) (IsToServe read words.now w w) (O.sunk out.old) (O.sunk out.new) result) }
 {
-    match ask(alloc, false, work, words) {
+    match ask(alloc, work, words) {
         Err(fault) => Err(fault),
         Ok(asked) => list_plan(rt, alloc, &asked, words, work, out),
     }

@@ -8,7 +8,7 @@ use Rattle.smk_world.specs.Trees.{Path}
 use Rattle.smk_eval_files.specs.Looks.{Nodes, at}
 use Rattle.smk_report.specs.declared.fault.Fault.{Fault}
 use Rattle.smk_cli_entry.specs.Faults.{Answers}
-use Rattle.smk_cli_entry.specs.Forms.{or_else}
+use Rattle.smk_cli_entry.specs.Names.{or_else}
 use Rattle.smk_cli_entry.specs.Names.{where_file, is_file, is_file_at, file_at, first_file}
 use Rattle.smk_cli_entry.proofs.Stats.{answers_then}
 

@@ -1,5 +1,5 @@
 -- What is read, and what is asked of it.
-use Rattle.std.proofs.Common.{◌≡◌, Bool, List, [], ◌∷◌, map, None, Result, Ok, Err, inr, refl, ap, sym, subst, ◌∙◌}
+use Rattle.std.proofs.Common.{◌≡◌, List, [], ◌∷◌, map, None, Result, Ok, Err, inr, refl, ap, sym, subst, ◌∙◌}
 use Rattle.smk_world.specs.Trees.{Path}
 use Rattle.smk_flow.specs.declared.rule.RulePart.{RulePart}
 use Rattle.smk_flow.specs.Numbers.{parts_of}
@@ -18,14 +18,14 @@ pub read_both : (words : RunWords) (nodes : Nodes) (file : Path) (r : Result Rea
 read_both words nodes file (Ok reading) h k = (h ∙ ap Ok (sym k.0), subst (λ (p : Path). Gives (loaded nodes p words.sets) (Ok reading.flow)) (sym k.0) k.1)
 read_both words nodes file (Err f) h k = λ told. inr (file, h, k told)
 
-pub asked_both : (run : Bool) (words : RunWords) (nodes : Nodes) (reading : Reading) (r : Result Asked Fault) → IsRead words nodes (Ok reading) → Asks run words.targets reading r → IsAskedIn run words nodes r
-asked_both run words nodes reading (Ok asked) h k =
+pub asked_both : (words : RunWords) (nodes : Nodes) (reading : Reading) (r : Result Asked Fault) → IsRead words nodes (Ok reading) → Asks words.targets reading r → IsAskedIn words nodes r
+asked_both words nodes reading (Ok asked) h k =
     let is = k.0 in (
       subst (λ (x : Reading). IsRead words nodes (Ok x)) (sym is) h,
-      subst (λ (x : Reading). refused_word run words.targets x ≡ None) (sym is) k.1,
+      subst (λ (x : Reading). refused_word words.targets x ≡ None) (sym is) k.1,
       k.2 ∙ ap (λ (x : Reading). all_paths x.flow (asked_words words.targets x)) (sym is),
     )
-asked_both run words nodes reading (Err f) h k = λ told. inr (reading, h, k told)
+asked_both words nodes reading (Err f) h k = λ told. inr (reading, h, k told)
 
 pub parts_again : (parts : List RulePart) → parts_of (map rule_of parts) ≡ parts
 parts_again [] = refl

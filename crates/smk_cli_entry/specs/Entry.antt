@@ -15,7 +15,6 @@ use Rattle.smk_report.specs.Faults.{of_load}
 use Rattle.smk_cli_entry.specs.declared.reading.Reading.{Reading}
 use Rattle.smk_cli_entry.specs.declared.asking.Asked.{Asked}
 use Rattle.smk_cli_entry.specs.Faults.{is_told}
-use Rattle.smk_cli_entry.specs.Forms.{unbuilt_for, not_built, or_else}
 use Rattle.smk_cli_entry.specs.Names.{file_of}
 
 -- The file's workflow, with what is set in its configuration, is refused so, as it reads in the folder.
@@ -48,28 +47,26 @@ Refuses refusal (Err f) = is_told f ≡ true → refusal ≡ Some f
 abbrev pub asked_words : List Text → Reading → List Text
 asked_words targets reading = words_of reading.flow targets
 
--- why nothing is to be made by a workflow that was read: a form that no run can do yet, or else a word that is no target
-abbrev pub refused_word : Bool → List Text → Reading → Option Fault
-refused_word run targets reading =
-    or_else (option_map (not_built reading.file) (unbuilt_for run reading.flow.rules)) (option_map BadTarget (first_bad reading.flow (asked_words targets reading)))
+-- why nothing is to be made by a workflow that was read: a word is no target
+abbrev pub refused_word : List Text → Reading → Option Fault
+refused_word targets reading = option_map BadTarget (first_bad reading.flow (asked_words targets reading))
 
 abbrev pub reading_of : Asked → Reading
 reading_of asked = record { file = asked.file; flow = asked.flow }
 
 -- What target words ask of a workflow that was read.
-abbrev pub Asks : Bool → List Text → Reading → Result Asked Fault → Type 0
-Asks run targets reading (Ok asked) = (reading_of asked ≡ reading) × (refused_word run targets reading ≡ None) × (asked.targets ≡ all_paths reading.flow (asked_words targets reading))
-Asks run targets reading (Err f) = is_told f ≡ true → refused_word run targets reading ≡ Some f
+abbrev pub Asks : List Text → Reading → Result Asked Fault → Type 0
+Asks targets reading (Ok asked) = (reading_of asked ≡ reading) × (refused_word targets reading ≡ None) × (asked.targets ≡ all_paths reading.flow (asked_words targets reading))
+Asks targets reading (Err f) = is_told f ≡ true → refused_word targets reading ≡ Some f
 
 -- All refusals before anything else is looked at: those of reading, and then those of what is read.
-abbrev pub FailsToAsk : Bool → RunWords → Nodes → Fault → Type 0
-FailsToAsk run words nodes f = FailsToRead words nodes f ⊎ ((reading : Reading) × IsRead words nodes (Ok reading) × (refused_word run words.targets reading ≡ Some f))
+abbrev pub FailsToAsk : RunWords → Nodes → Fault → Type 0
+FailsToAsk words nodes f = FailsToRead words nodes f ⊎ ((reading : Reading) × IsRead words nodes (Ok reading) × (refused_word words.targets reading ≡ Some f))
 
--- What the words ask of the workflow by which they ask, for a run or for a listing, or why they ask for nothing; unless the device failed or memory was
--- short.
-abbrev pub IsAskedIn : Bool → RunWords → Nodes → Result Asked Fault → Type 0
-IsAskedIn run words nodes (Ok asked) =
+-- What the words ask of the workflow by which they ask, or why they ask for nothing; unless the device failed or memory was short.
+abbrev pub IsAskedIn : RunWords → Nodes → Result Asked Fault → Type 0
+IsAskedIn words nodes (Ok asked) =
     IsRead words nodes (Ok (reading_of asked))
-    × (refused_word run words.targets (reading_of asked) ≡ None)
+    × (refused_word words.targets (reading_of asked) ≡ None)
     × (asked.targets ≡ all_paths asked.flow (asked_words words.targets (reading_of asked)))
-IsAskedIn run words nodes (Err f) = is_told f ≡ true → FailsToAsk run words nodes f
+IsAskedIn words nodes (Err f) = is_told f ≡ true → FailsToAsk words nodes f

@@ -1,4 +1,3 @@
 pub mod Faults
-pub mod Forms
 pub mod Names
 pub mod Entry

@@ -11,6 +11,11 @@ use Rattle.smk_flaws.specs.declared.flaw.Flaw.TheVariants as flaw
 use Rattle.smk_report.specs.declared.fault.Fault.{Fault}
 use Rattle.smk_report.specs.declared.fault.Fault.TheVariants.{Workflow}
 
+-- the first of two
+abbrev pub or_else : {A : Type 0} → Option A → Option A → Option A
+or_else None rest = rest
+or_else (Some first) rest = Some first
+
 abbrev pub is_file : Stat → Bool
 is_file Nothing = false
 is_file (File time read_only) = true

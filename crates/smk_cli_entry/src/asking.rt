@@ -4,10 +4,8 @@ ghost use Rattle.std.specs.Prelude.{◌≡◌, [], None, IfOk, IfErr, option_map
 ghost use Rattle.smk_world.specs.Devices.{WhereTold, HasLooked};
 ghost use Rattle.smk_flow.specs.Targets.{words_of, all_paths, first_bad};
 ghost use Rattle.smk_cli_entry.specs.Faults.{device_failed, is_sink};
-ghost use Rattle.smk_cli_entry.specs.Forms as forms;
 ghost use Rattle.smk_cli_entry.specs.Entry as spec;
 
-use crate::forms::{not_built, unbuilt};
 use crate::reading::{Reading, read_workflow};
 use smk_base::{List, PathText, Text};
 use smk_flow::{TargetFault, Workflow};
@@ -25,31 +23,6 @@ pub struct Asked {
     pub targets: List<PathText>,
 }
 
-// Refuses what no run can do yet.
-fn all_built(alloc: Global, reading: &Reading) -> Result<(), Fault>
-    ensures is { spec.Refuses (option_map (forms.not_built reading.now.file) (forms.unbuilt reading.now.flow.rules)) result }
-    ensures no_device { device_failed result ≡ false }
-    ensures no_sink { IfErr result (λ f. is_sink f ≡ false) }
-{
-    match unbuilt(reading.flow.rules().as_slice()) {
-        None => Ok(()),
-        Some(word) => Err(not_built(alloc, &reading.file, word)?),
-    }
-}
-
-// The same, for a run; a listing refuses none of it.
-fn built(alloc: Global, run: bool, reading: &Reading) -> Result<(), Fault>
-    ensures is { spec.Refuses (option_map (forms.not_built reading.now.file) (forms.unbuilt_for run reading.now.flow.rules)) result }
-    ensures no_device { device_failed result ≡ false }
-    ensures no_sink { IfErr result (λ f. is_sink f ≡ false) }
-{
-    if run {
-        all_built(alloc, reading)
-    } else {
-        Ok(())
-    }
-}
-
 // The paths that the words stand for.
 fn targets_of(alloc: Global, flow: &Workflow, words: &List<Text>) -> Result<List<PathText>, Fault>
     ensures is { spec.Refuses (option_map Fault.BadTarget (first_bad flow.now (words_of flow.now words.now))) result }
@@ -64,15 +37,9 @@ fn targets_of(alloc: Global, flow: &Workflow, words: &List<Text>) -> Result<List
     }
 }
 
-// What target words ask of a workflow in which no form is refused.
-fn asked_of(
-    alloc: Global,
-    run: bool,
-    reading: Reading,
-    targets: &List<Text>,
-) -> Result<Asked, Fault>
-    requires built { forms.unbuilt_for run reading.flow.rules ≡ None }
-    ensures is { spec.Asks run targets.now reading result }
+// What target words ask of a workflow that was read.
+fn asked_in(alloc: Global, reading: Reading, targets: &List<Text>) -> Result<Asked, Fault>
+    ensures is { spec.Asks targets.now reading result }
     ensures no_device { device_failed result ≡ false }
     ensures no_sink { IfErr result (λ f. is_sink f ≡ false) }
 {
@@ -84,42 +51,18 @@ fn asked_of(
     })
 }
 
-// What target words ask of a workflow that was read.
-fn asked_in(
-    alloc: Global,
-    run: bool,
-    reading: Reading,
-    targets: &List<Text>,
-) -> Result<Asked, Fault>
-    ensures is { spec.Asks run targets.now reading result }
-    ensures no_device { device_failed result ≡ false }
-    ensures no_sink { IfErr result (λ f. is_sink f ≡ false) }
-{
-    match built(alloc, run, &reading) {
-        Err(fault) => Err(fault),
-        Ok(()) => asked_of(alloc, run, reading, targets),
-    }
-}
-
-/// What the words ask of the workflow of the file that they name, or else of the folder's, for a run or else for a listing: its targets are rules' names
-/// and paths. Nothing in the folder changes. No child may run.
+/// What the words ask of the workflow of the file that they name, or else of the folder's: its targets are rules' names and paths. Nothing in the folder
+/// changes. No child may run.
 ///
-/// The faults come in this order: those of `read_workflow`; for a run `Unsupported` with line 1 of the workflow's file and the first form that no run can
-/// do yet, a word of `checkpoint`, `directory` and `from_checkpoint`; `BadTarget` with the first word that is no target.
-/// `Device` comes where the device failed, `OutOfMemory` where there is no memory for the workflow and its targets.
-pub fn ask<W: Files>(
-    alloc: Global,
-    run: bool,
-    work: &mut W,
-    words: &RunWords,
-) -> Result<Asked, Fault>
+/// The faults come in this order: those of `read_workflow`; `BadTarget` with the first word that is no target. `Device` comes where the device failed, `OutOfMemory` where there is no memory for the workflow and its targets.
+pub fn ask<W: Files>(alloc: Global, work: &mut W, words: &RunWords) -> Result<Asked, Fault>
     requires none_runs { (W.device work.old).running ≡ [] }
     ensures looked { HasLooked W.act (W.device work.old) (W.device work.new) (device_failed result) }
-    ensures told { WhereTold (W.device work.old) (λ w. spec.IsAskedIn run words.now w.nodes result) }
+    ensures told { WhereTold (W.device work.old) (λ w. spec.IsAskedIn words.now w.nodes result) }
     ensures no_sink { IfErr result (λ f. is_sink f ≡ false) }
 {
     match read_workflow(alloc, work, words) {
         Err(fault) => Err(fault),
-        Ok(reading) => asked_in(alloc, run, reading, &words.targets),
+        Ok(reading) => asked_in(alloc, reading, &words.targets),
     }
 }

@@ -2,7 +2,6 @@
 #![tactic(auto)]
 
 mod asking;
-mod forms;
 mod naming;
 mod reading;
 

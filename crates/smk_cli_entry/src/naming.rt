@@ -6,7 +6,7 @@ ghost use Rattle.smk_world.specs.Calls.{stat_of};
 ghost use Rattle.smk_world.specs.Devices.{WhereTold, HasLooked};
 ghost use Rattle.smk_eval_files.specs.Looks.{at};
 ghost use Rattle.smk_cli_entry.specs.Faults.{Answers, device_failed, is_sink};
-ghost use Rattle.smk_cli_entry.specs.Forms.{or_else};
+ghost use Rattle.smk_cli_entry.specs.Names.{or_else};
 ghost use Rattle.smk_cli_entry.specs.Names as spec;
 
 use smk_base::{OutOfMemory, PathFault, PathText, Place, Text};

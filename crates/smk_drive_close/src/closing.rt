@@ -1,4 +1,4 @@
-//! A child is waited for, and its job closed.
+//! A child is waited for, its job closed, and the plan grows.
 
 ghost use Rattle.std.specs.Prelude.{◌≡◌, ◌≢◌, ◌<◌, not, None, Some, IsSome, false, true, is_none, option_map};
 ghost use Rattle.std.specs.List.{list_all, slice_get};
@@ -6,10 +6,10 @@ ghost use Rattle.smk_job.specs.Jobs.{LetsClose};
 ghost use Rattle.smk_world.specs.Devices.{WhereTold};
 ghost use Rattle.smk_plan_live.specs.Lives.{IsLive};
 ghost use Rattle.smk_drive_course.specs.Stands.{NoneLeft};
-ghost use Rattle.smk_drive_step.specs.Crews.{IsPutFor};
 ghost use Rattle.smk_drive_step.specs.declared.children.Child.{Child as ChildValue};
 ghost use Rattle.smk_drive_hub.specs.Keeping.{parts_of};
-ghost use Rattle.smk_drive_hub.specs.Turned.{AreSeated, HasTurned, IsSteady, Somewhere, WhereUnhalted};
+ghost use Rattle.smk_laws_rest.specs.Resting.{refused_command};
+ghost use Rattle.smk_drive_hub.specs.Turned.{AreSeated, HasTurned, IsSteady, IsTakenFrom, Somewhere, WhereUnhalted};
 ghost use Rattle.smk_laws_closes.specs.Ending.{HasEndedSo};
 ghost use Rattle.smk_laws_closes.specs.Turns.{HasFollowed};
 
@@ -17,12 +17,14 @@ use crate::counts::is_good;
 use crate::ends::note_end;
 use crate::tending::{job_at, tend};
 use smk_base::Text;
+use smk_drive_grow::grow;
 use smk_drive_hub::{Ground, Hub};
 use smk_drive_step::{Child, work_fault};
 use smk_report::Fault;
 use smk_run::{Ending, close_job};
 use smk_world::{Crew, Sink};
 use std::alloc::Global;
+use std::thread::Threads;
 
 // The end of the job of the number, which was closed and ended so, is put and counted; its outputs are made read-only, and the plan is told.
 fn end<W: Crew, O: Sink>(
@@ -39,8 +41,9 @@ fn end<W: Crew, O: Sink>(
     requires known { IsSome (slice_get hub.old.live.base.jobs.jobs number) }
     requires done { hub.old.tally.done < 18446744073709551615 }
     requires failed { hub.old.tally.failed < 18446744073709551615 }
-    ensures { HasEndedSo W.act ground.entry.flow.now ground.entry.settings.now (parts_of hub.old) (parts_of hub.new) number done.now ending (W.device work.old)
+    ensures ended { HasEndedSo W.act ground.entry.flow.now ground.entry.settings.now (parts_of hub.old) (parts_of hub.new) number done.now ending (W.device work.old)
         (W.device work.new) (O.sunk out.old) (O.sunk out.new) }
+    ensures commands { hub.new.halt.fault ≡ None → refused_command ground.entry.flow.now ground.entry.settings.now hub.new.live ≡ None }
 {
     let good = is_good(&ending);
     let Some(job) = job_at(&hub.live, number) else {
@@ -84,8 +87,9 @@ fn close<W: Crew, O: Sink>(
     requires room { WhereTold (W.device work.old) (λ w. LetsClose w child.going.recipe) }
     requires done { hub.old.tally.done < 18446744073709551615 }
     requires failed { hub.old.tally.failed < 18446744073709551615 }
-    ensures { HasFollowed W.act ground.entry.flow.now ground.entry.settings.now (parts_of hub.old) (parts_of hub.new) child status (W.device work.old)
+    ensures followed { HasFollowed W.act ground.entry.flow.now ground.entry.settings.now (parts_of hub.old) (parts_of hub.new) child status (W.device work.old)
         (W.device work.new) (O.sunk out.old) (O.sunk out.new) }
+    ensures commands { hub.new.halt.fault ≡ None → refused_command ground.entry.flow.now ground.entry.settings.now hub.new.live ≡ None }
 {
     let Child {
         going,
@@ -103,9 +107,10 @@ fn close<W: Crew, O: Sink>(
     }
 }
 
-/// Waits for a child and closes its job, and goes by what that makes of the plan. After a fault of the device it only waits. False where the wait
-/// failed: then children are left behind.
-pub fn wait<W: Crew, O: Sink>(
+/// Waits for a child and closes its job, and goes by what that makes of the plan: where no fault has come it grows by the directories that have become known. After a
+/// fault of the device it only waits. False where the wait failed: then children are left behind.
+pub fn wait<W: Crew, O: Sink, Rt: Threads + Sync>(
+    rt: &Rt,
     alloc: Global,
     ground: Ground<'_>,
     hub: &mut Hub,
@@ -122,7 +127,7 @@ pub fn wait<W: Crew, O: Sink>(
     requires none_left { WhereTold (W.device work.old) (WhereUnhalted NoneLeft ground.flow.now ground.settings.now (parts_of hub.old)) }
     ensures turned { HasTurned W.act ground.entry.flow.now ground.entry.settings.now (parts_of hub.old) (parts_of hub.new) (not result) (W.device work.old)
         (W.device work.new) (O.sunk out.old) (O.sunk out.new) }
-    ensures less { result ≡ true → (c : ChildValue) × IsPutFor (Some c) None hub.old.children.places.items hub.new.children.places.items }
+    ensures less { result ≡ true → (c : ChildValue) × IsTakenFrom c hub.old.children.places.items hub.new.children.places.items }
 {
     let Ok(ended) = work.wait() else {
         hub.set(Fault::Device);
@@ -136,5 +141,9 @@ pub fn wait<W: Crew, O: Sink>(
         return true;
     }
     close(alloc, ground, hub, child, ended.status, work, out);
+    if !hub.halt.is_none() {
+        return true;
+    }
+    grow(rt, alloc, ground, hub, work);
     true
 }

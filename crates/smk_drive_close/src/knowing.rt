@@ -1,6 +1,6 @@
 //! The plan is told of the end of a job.
 
-ghost use Rattle.std.specs.Prelude.{◌≡◌, ◌≢◌, ◌⊎◌, IfErr, IfOk, Some, false, true};
+ghost use Rattle.std.specs.Prelude.{◌≡◌, ◌≢◌, ◌⊎◌, IfErr, IfOk, None, OnOk, Some, false, true};
 ghost use Rattle.std.specs.List.{slice_get};
 ghost use Rattle.smk_flow.specs.declared.job.Job.{Job as JobValue};
 ghost use Rattle.smk_world.specs.Calls.{HasOwners};
@@ -11,12 +11,12 @@ ghost use Rattle.smk_plan_live.specs.declared.phase.Phase.TheVariants.{Running};
 ghost use Rattle.smk_drive_course.specs.Driven.{device_failed};
 ghost use Rattle.smk_drive_outcome.specs.Outcomes.{AreForPaths};
 ghost use Rattle.smk_drive_step.specs.Crews.{is_device};
-ghost use Rattle.smk_laws_rest.specs.Resting.{IsAnswerOf};
+ghost use Rattle.smk_laws_rest.specs.Resting.{IsReplyOf, refused_command};
 ghost use Rattle.smk_laws_closes.specs.Learning.{HasLearntOf, IsOutcomeIn, IsSamePlan, closed_base};
 ghost use Rattle.smk_report.specs.declared.fault.Fault.TheVariants as fault;
 
 use crate::tending::job_at;
-use smk_drive_hub::answer_of;
+use smk_drive_hub::reply_of;
 use smk_drive_outcome::{Outcome, outcome_of};
 use smk_drive_step::work_fault;
 use smk_flow::{Job, Workflow};
@@ -62,14 +62,15 @@ fn tell(
     requires live { IsLive live.old }
     requires rows { (j : JobValue) → slice_get live.old.base.jobs.jobs number ≡ Some j → AreForPaths (out_paths j.recipe) outcome }
     ensures same { IsSamePlan live.old live.new }
-    ensures answer { live.old.settings ≡ settings.now → IsAnswerOf flow.now settings.now (closed_base number outcome live.old.base) live.new result }
+    ensures reply { live.old.settings ≡ settings.now → IsReplyOf flow.now settings.now (closed_base number outcome live.old.base) live.new result }
+    ensures commands { OnOk result (refused_command flow.now settings.now live.new ≡ None) }
     ensures other { IfErr result (λ f. (is_device f ≡ false) × (f ≢ fault.Output)) }
 {
     if !is_running(live, number) {
         return Err(Fault::OutOfMemory);
     }
     let told = live.closed(alloc, number, outcome.entries, outcome.sights, &Plain);
-    answer_of(alloc, flow, settings, live, told)
+    reply_of(alloc, flow, settings, live, told)
 }
 
 /// Goes by the end of the job of the number, if there is one: the plan is told of it, and what stands at its outputs.
@@ -85,6 +86,7 @@ pub(crate) fn learn<W: Files>(
 ) -> Result<(), Fault>
     requires live { IsLive live.old }
     ensures same { IsSamePlan live.old live.new }
+    ensures commands { OnOk result (refused_command flow.now settings.now live.new ≡ None) }
     ensures acted { HasActed W.act (HasLearntOf flow.now settings.now number live.old live.new result) (W.device work.old) (W.device work.new) (device_failed result) }
     ensures other { IfErr result (λ f. f ≢ fault.Output) }
 {

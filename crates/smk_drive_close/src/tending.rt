@@ -1,6 +1,6 @@
 //! What follows on the closing of a job: its outputs are made read-only, and the plan is told.
 
-ghost use Rattle.std.specs.Prelude.{◌≡◌, ◌≢◌, IfErr, option_map};
+ghost use Rattle.std.specs.Prelude.{◌≡◌, ◌≢◌, IfErr, None, OnOk, option_map};
 ghost use Rattle.std.specs.List.{slice_get};
 ghost use Rattle.smk_world.specs.Devices.{HasActed};
 ghost use Rattle.smk_keep.specs.Keeping.{keep_failed};
@@ -8,6 +8,7 @@ ghost use Rattle.smk_plan_live.specs.Lives.{IsLive};
 ghost use Rattle.smk_report.specs.declared.fault.Fault.TheVariants as fault;
 ghost use Rattle.smk_drive_course.specs.Driven.{device_failed};
 ghost use Rattle.smk_drive_step.specs.Telling.{HasGuarded};
+ghost use Rattle.smk_laws_rest.specs.Resting.{refused_command};
 ghost use Rattle.smk_laws_closes.specs.Learning.{IsSamePlan};
 ghost use Rattle.smk_laws_closes.specs.Tending.{HasTendedOf, guards_if};
 
@@ -61,6 +62,7 @@ pub(crate) fn tend<W: Files>(
 ) -> Result<(), Fault>
     requires live { IsLive live.old }
     ensures same { IsSamePlan live.old live.new }
+    ensures commands { OnOk result (halt.now.fault ≡ None → refused_command flow.now settings.now live.new ≡ None) }
     ensures acted { HasActed W.act (HasTendedOf flow.now settings.now number good halt.now.fault live.old live.new result) (W.device work.old) (W.device work.new)
         (device_failed result) }
     ensures other { IfErr result (λ f. f ≢ fault.Output) }

@@ -24,7 +24,7 @@ use Rattle.smk_drive.specs.Lawful.{is_failed_wait}
 use Rattle.smk_drive.specs.Reports.{named_job}
 use Rattle.smk_drive_step.specs.declared.children.Child.{Child}
 use Rattle.smk_drive_step.specs.declared.halt.Halt.{Halt}
-use Rattle.smk_drive_step.specs.Crews.{goings}
+use Rattle.smk_drive_step.specs.Crews.{IsPutFor, goings}
 use Rattle.smk_drive_course.specs.Stands.{Stand}
 use Rattle.smk_drive_course.specs.Steps.{Deed}
 use Rattle.smk_drive_course.specs.Reports.{IsFrontFor, lines_of}
@@ -72,6 +72,12 @@ pub record AreSeated (places : List (Option Child)) (running : List ℕ) : Type 
   pub seated : (n : ℕ) → Contains running n → Contains (numbers_in places) n
   pub runs : (n : ℕ) → Contains (numbers_in places) n → Contains running n
   pub distinct : IsDistinct nat_eq (numbers_in places)
+
+-- The child was taken from its place, and the others are in theirs, maybe with other numbers of their jobs.
+pub record IsTakenFrom (c : Child) (were are : List (Option Child)) : Type 0 where
+  pub left : List (Option Child)
+  pub put : IsPutFor (Some c) None were left
+  pub goings : goings are ≡ goings left
 
 -- at most one more of each
 pub record IsBarelyMore (before now : Tally) : Type 0 where

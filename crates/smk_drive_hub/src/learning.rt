@@ -5,7 +5,7 @@ ghost use Rattle.smk_report.specs.declared.fault.Fault.TheVariants as fault;
 ghost use Rattle.smk_plan_live.specs.declared.base.Base.{Base};
 ghost use Rattle.smk_plan_live.specs.Lives.{IsLive, IsRefusedNow};
 ghost use Rattle.smk_drive_step.specs.Crews.{is_device};
-ghost use Rattle.smk_laws_rest.specs.Resting.{IsAnswerOf, IsTold, looked_as, refused_command};
+ghost use Rattle.smk_laws_rest.specs.Resting.{IsAnswerOf, IsReplyOf, IsTold, looked_as, refused_command};
 
 use smk_base::{List, OutOfMemory};
 use smk_flow::Workflow;
@@ -60,8 +60,40 @@ fn check_grown(live: &LivePlan) -> Result<(), Fault>
     }
 }
 
-/// Whether the plan may go on: nothing is refused of its commands, where those of jobs that have begun aren't looked at any more but for their fields; and no
-/// directory has become known. The fault is the first of the commands; or `OutOfMemory`, also where a directory has become known.
+// Whether nothing is refused of the commands of the plan's jobs.
+fn check_jobs(
+    alloc: Global,
+    flow: &Workflow,
+    settings: &Settings,
+    live: &LivePlan,
+) -> Result<(), Fault>
+    requires live { IsLive live.now }
+    ensures commands { OnOk result (refused_command flow.now settings.now live.now ≡ None) }
+    ensures err { IfErr result (λ f. (f ≡ fault.OutOfMemory) ⊎ (refused_command flow.now settings.now live.now ≡ Some f)) }
+{
+    let looked = looked_states(alloc, live.as_plan().states.as_slice(), live.phases())?;
+    check_commands(alloc, flow, settings.cores, &live.jobs().jobs, &looked)?;
+    Ok(())
+}
+
+/// Whether nothing is refused of the commands of the plan's jobs, where those of jobs that have begun aren't looked at any more but for their fields. The fault is the
+/// first that is; or `OutOfMemory`.
+pub fn check_texts(
+    alloc: Global,
+    flow: &Workflow,
+    settings: &Settings,
+    live: &LivePlan,
+) -> Result<(), Fault>
+    requires live { IsLive live.now }
+    ensures commands { OnOk result (refused_command flow.now settings.now live.now ≡ None) }
+    ensures err { IfErr result (λ f. (f ≡ fault.OutOfMemory) ⊎ (refused_command flow.now settings.now live.now ≡ Some f)) }
+    ensures quiet { IfErr result (λ f. (is_device f ≡ false) × (f ≢ fault.Output)) }
+{
+    check_jobs(alloc, flow, settings, live)
+}
+
+/// Whether the plan may go on: nothing is refused of its commands; and no directory has become known. The fault is the first of the commands; or `OutOfMemory`, also
+/// where a directory has become known.
 pub fn check_plan(
     alloc: Global,
     flow: &Workflow,
@@ -73,13 +105,12 @@ pub fn check_plan(
     ensures known { OnOk result (live.now.plan.known ≡ []) }
     ensures err { IfErr result (λ f. (f ≡ fault.OutOfMemory) ⊎ (refused_command flow.now settings.now live.now ≡ Some f)) }
 {
-    let looked = looked_states(alloc, live.as_plan().states.as_slice(), live.phases())?;
-    check_commands(alloc, flow, settings.cores, &live.jobs().jobs, &looked)?;
+    check_texts(alloc, flow, settings, live)?;
     check_grown(live)
 }
 
-/// What a run makes of what the kept plan answered as it was told of a beginning, of an end, or of an output that was removed: the fault of the plan; or the
-/// plan goes on, or a fault of its commands.
+/// What a run makes of what the kept plan answered as it was told of a beginning, or of an output that was removed: the fault of the plan; or the plan goes on, or a
+/// fault of its commands. No directory becomes known by these.
 pub fn answer_of(
     alloc: Global,
     flow: &Workflow,
@@ -94,6 +125,26 @@ pub fn answer_of(
 {
     match told {
         Ok(()) => check_plan(alloc, flow, settings, live),
+        Err(refusal) => Err(of_plan(alloc, flow, refusal)),
+    }
+}
+
+/// The same as it was told of an end: directories may have become known by that, so that the plan is to grow.
+pub fn reply_of(
+    alloc: Global,
+    flow: &Workflow,
+    settings: &Settings,
+    live: &LivePlan,
+    told: Result<(), PlanFault>,
+) -> Result<(), Fault>
+    requires live { IsLive live.now }
+    ensures quiet { IfErr result (λ f. (is_device f ≡ false) × (f ≢ fault.Output)) }
+    ensures commands { OnOk result (refused_command flow.now settings.now live.now ≡ None) }
+    ensures reply { (base : Base) → OnOk told (IsTold settings.now base live.now)
+        → IfErr told (λ refusal. refusal ≢ PlanFault.OutOfMemory → IsRefusedNow settings.now base refusal) → IsReplyOf flow.now settings.now base live.now result }
+{
+    match told {
+        Ok(()) => check_texts(alloc, flow, settings, live),
         Err(refusal) => Err(of_plan(alloc, flow, refusal)),
     }
 }

@@ -5,4 +5,4 @@ mod hub;
 mod learning;
 
 pub use hub::{Ground, Hub};
-pub use learning::{answer_of, check_plan};
+pub use learning::{answer_of, check_plan, check_texts, reply_of};

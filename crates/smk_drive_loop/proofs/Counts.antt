@@ -1,16 +1,14 @@
 -- Counts of a run, and places, as the loop goes on.
-use Rattle.std.proofs.Common.{◌≡◌, ◌<◌, ◌≤◌, ◌+◌, ℕ, zero, suc, Bool, true, List, arith, refl, sym, ap, subst, ◌∙◌, Option, Some, None}
+use Rattle.std.proofs.Common.{◌≡◌, ◌<◌, ◌≤◌, ◌+◌, ℕ, zero, suc, Bool, true, List, arith, refl, sym, ap, subst, ◌∙◌, Option}
 use Rattle.std.specs.Prelude.{is_none}
 use Rattle.std.specs.List.{list_all}
 use Rattle.smk_run.specs.declared.tally.Tally.{Tally}
 use Rattle.smk_drive_step.specs.declared.children.Child.{Child}
-use Rattle.smk_drive_step.specs.Crews.{IsPutFor}
 use Rattle.smk_laws_turns.specs.Hubs.{Parts}
-use Rattle.smk_drive_hub.specs.Turned.{IsBarelyMore}
+use Rattle.smk_drive_hub.specs.Turned.{IsBarelyMore, IsTakenFrom}
 use Rattle.smk_laws_gone.specs.Standing.{taken}
 use Rattle.smk_laws_gone.specs.Stepping.{IsFor, IsWithin}
-use Rattle.smk_laws_gone.proofs.Standing.{one_less_taken}
-use Rattle.smk_laws_gone.proofs.Stepping.{counts_from, within_for}
+use Rattle.smk_laws_gone.proofs.Stepping.{counts_from, taken_less, within_for}
 use Rattle.smk_drive_loop.specs.Keeping.{KeepsCounts}
 
 -- ## Limits
@@ -69,16 +67,16 @@ module _ {h k : Parts} (kept : KeepsCounts h k) where
   -- and a child is taken from its place after that
   pub kept_less :
       {are : List (Option Child)} {waited : Bool} →
-      (waited ≡ true → (c : Child) × IsPutFor (Some c) None k.places are) → waited ≡ true → (c : Child) × IsPutFor (Some c) None h.places are
-  kept_less {are} {waited} less = subst (λ ps. waited ≡ true → (c : Child) × IsPutFor (Some c) None ps are) kept.places less
+      (waited ≡ true → (c : Child) × IsTakenFrom c k.places are) → waited ≡ true → (c : Child) × IsTakenFrom c h.places are
+  kept_less {are} {waited} less = subst (λ ps. waited ≡ true → (c : Child) × IsTakenFrom c ps are) kept.places less
 
 -- ## Places
 
 -- a child was taken from its place
 pub less_taken :
     (were are : List (Option Child)) (waited : Bool) →
-    waited ≡ true → (waited ≡ true → (c : Child) × IsPutFor (Some c) None were are) → taken were ≡ taken are + 1
-less_taken were are waited is less = let c = less is in one_less_taken c.0 were are c.1
+    waited ≡ true → (waited ≡ true → (c : Child) × IsTakenFrom c were are) → taken were ≡ taken are + 1
+less_taken were are waited is less = let c = less is in taken_less c.0 were are c.1
 
 pub one_less : (a b : ℕ) → a ≡ b + 1 → b < a
 one_less a b is = omega (arith, is)

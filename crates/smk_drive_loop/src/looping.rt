@@ -4,10 +4,9 @@ ghost use Rattle.std.specs.Prelude.{◌≡◌, ◌≢◌, ◌⊎◌, ◌<◌, �
 ghost use Rattle.std.specs.List.{list_all};
 ghost use Rattle.smk_report.specs.declared.fault.Fault.TheVariants as fault;
 ghost use Rattle.smk_drive_step.specs.declared.children.Child.{Child as ChildValue};
-ghost use Rattle.smk_drive_step.specs.Crews.{IsPutFor};
 ghost use Rattle.smk_laws_turns.specs.Turning.{faulted};
 ghost use Rattle.smk_drive_hub.specs.Keeping.{parts_of};
-ghost use Rattle.smk_drive_hub.specs.Turned.{IsBarelyMore};
+ghost use Rattle.smk_drive_hub.specs.Turned.{IsBarelyMore, IsTakenFrom};
 ghost use Rattle.smk_laws_gone.specs.Gone.{HasGone};
 ghost use Rattle.smk_laws_gone.specs.Standing.{IsOver, IsReady, may_go_on, taken};
 ghost use Rattle.smk_laws_gone.specs.Stepping.{HasStepped, IsFor, IsWithin};
@@ -117,7 +116,8 @@ fn look_again<W: Crew, O: Sink, Rt: Threads + Sync>(
 }
 
 // Waits for a child, where no job begins. Outputs that are spent once its job was closed are removed.
-fn attend<W: Crew, O: Sink>(
+fn attend<W: Crew, O: Sink, Rt: Threads + Sync>(
+    rt: &Rt,
     alloc: Global,
     ground: Ground<'_>,
     hub: &mut Hub,
@@ -131,7 +131,7 @@ fn attend<W: Crew, O: Sink>(
     ensures { HasStepped W.act ground.entry.flow.now ground.entry.settings.now (parts_of hub.old) (parts_of hub.new) result
         (W.device work.old) (W.device work.new) (O.sunk out.old) (O.sunk out.new) }
 {
-    if !wait(alloc, ground, hub, work, out) {
+    if !wait(rt, alloc, ground, hub, work, out) {
         return Some(false);
     }
     spend_once_started(alloc, ground, hub, work);
@@ -156,7 +156,7 @@ fn rest<W: Crew, O: Sink, Rt: Threads + Sync>(
     if is_idle(hub) {
         return look_again(rt, alloc, ground, hub, work, out);
     }
-    attend(alloc, ground, hub, work, out)
+    attend(rt, alloc, ground, hub, work, out)
 }
 
 // One step of the loop: a job begins, or a child is waited for where none does. The answer is there once it is over: whether all children were waited for.
@@ -183,7 +183,8 @@ fn step<W: Crew, O: Sink, Rt: Threads + Sync>(
 }
 
 // Waits for a child, after a fault: memory is wanting.
-fn drain_one<W: Crew, O: Sink>(
+fn drain_one<W: Crew, O: Sink, Rt: Threads + Sync>(
+    rt: &Rt,
     alloc: Global,
     ground: Ground<'_>,
     hub: &mut Hub,
@@ -196,14 +197,15 @@ fn drain_one<W: Crew, O: Sink>(
     ensures gone { HasGone W.act ground.entry.flow.now ground.entry.settings.now (parts_of hub.old) (parts_of hub.new) (not result)
         (W.device work.old) (W.device work.new) (O.sunk out.old) (O.sunk out.new) }
     ensures counts { IsBarelyMore hub.old.tally hub.new.tally }
-    ensures less { result ≡ true → (c : ChildValue) × IsPutFor (Some c) None hub.old.children.places.items hub.new.children.places.items }
+    ensures less { result ≡ true → (c : ChildValue) × IsTakenFrom c hub.old.children.places.items hub.new.children.places.items }
 {
     hub.set(Fault::OutOfMemory);
-    wait(alloc, ground, hub, work, out)
+    wait(rt, alloc, ground, hub, work, out)
 }
 
 // Waits for all children, since memory is wanting for further steps.
-fn drain<W: Crew, O: Sink>(
+fn drain<W: Crew, O: Sink, Rt: Threads + Sync>(
+    rt: &Rt,
     alloc: Global,
     ground: Ground<'_>,
     hub: &mut Hub,
@@ -217,7 +219,7 @@ fn drain<W: Crew, O: Sink>(
     ensures through { IsThrough ground.entry.flow.now ground.entry.settings.now (parts_of hub.new) (not result) (W.device work.new) }
 {
     'children: while !is_idle(hub) {
-        if !drain_one(alloc, ground, hub, work, out) {
+        if !drain_one(rt, alloc, ground, hub, work, out) {
             return false;
         }
     }
@@ -245,5 +247,5 @@ pub fn go_on<W: Crew, O: Sink, Rt: Threads + Sync>(
             return waited;
         }
     }
-    drain(alloc, ground, hub, work, out)
+    drain(rt, alloc, ground, hub, work, out)
 }

@@ -2,3 +2,4 @@ mod Stamped
 mod Begun
 mod Placed
 mod Known
+mod Renumbered

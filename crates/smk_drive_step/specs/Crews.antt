@@ -1,5 +1,5 @@
 -- The children of a run in their places, and why no job begins any more.
-use Rattle.std.specs.Prelude.{◌≡◌, ◌<◌, ℕ, Bool, true, false, ◌||◌, List, [], ◌∷◌, ◌++◌, length, nat_eq, slice_index_or, Option, Some, None}
+use Rattle.std.specs.Prelude.{◌≡◌, ◌<◌, ℕ, Bool, true, false, ◌||◌, zero, suc, List, [], ◌∷◌, ◌++◌, length, nat_eq, slice_index_or, Option, Some, None, option_map}
 use Rattle.std.specs.List.{flat_map}
 use Rattle.smk_report.specs.declared.fault.Fault.{Fault}
 use Rattle.smk_report.specs.declared.fault.Fault.TheVariants as fault
@@ -33,6 +33,22 @@ pub record IsPutFor (old new : Option Child) (were are : List (Option Child)) : 
   pub after : List (Option Child)
   pub were_so : were ≡ before ++ old ∷ after
   pub are_so : are ≡ before ++ new ∷ after
+
+-- the child, whose job has this number
+abbrev pub with_job : ℕ → Child → Child
+with_job number c = record c { job = number }
+
+-- the element of the place is changed
+abbrev pub changed_at : {A : Type 0} → (A → A) → ℕ → List A → List A
+changed_at f n [] = []
+changed_at f zero (x ∷ xs) = f x ∷ xs
+changed_at f (suc n) (x ∷ xs) = x ∷ changed_at f n xs
+
+-- the children in these places, whose jobs have these numbers, by their places
+abbrev pub renumbered : List ℕ → List (Option Child) → List (Option Child)
+renumbered [] places = places
+renumbered (n ∷ numbers) [] = []
+renumbered (n ∷ numbers) (p ∷ places) = option_map (with_job n) p ∷ renumbered numbers places
 
 -- ## Faults
 

@@ -1,12 +1,12 @@
 //! The children of a run.
 
-ghost use Rattle.std.specs.Prelude.{◌≡◌, ◌<◌, ℕ, Option, Some, None, IfOk, IfSome, MatchOption, is_none, length, replicate, false, true, slice_index_or, slice_set};
+ghost use Rattle.std.specs.Prelude.{◌≡◌, ◌<◌, ℕ, Option, Some, None, IfOk, IfSome, MatchOption, is_none, length, option_map, replicate, false, true, slice_index_or, slice_set};
 ghost use Rattle.std.specs.List.{list_all, list_any};
 ghost use Rattle.smk_job.specs.Jobs.{Underway};
 ghost use Rattle.smk_world.specs.Trees.{IsIn};
-ghost use Rattle.smk_drive_step.specs.Crews.{IsFoundAt, IsPutFor, goings, is_numbered};
+ghost use Rattle.smk_drive_step.specs.Crews.{IsFoundAt, IsPutFor, changed_at, goings, is_numbered, renumbered, with_job};
 
-use smk_base::{OutOfMemory, Text};
+use smk_base::{List, OutOfMemory, Text};
 use smk_job::Going;
 use smk_pick::Ask;
 use std::alloc::Global;
@@ -88,6 +88,37 @@ fn swap(places: &mut Vec<Option<Child>>, at: usize, child: Option<Child>) -> Opt
     mem::replace(&mut places[at], child)
 }
 
+// Gives the job of the child, if there is one, this number.
+fn set_job(place: &mut Option<Child>, number: u32)
+    ensures { place.new ≡ option_map (with_job number) place.old }
+{
+    match place {
+        Some(child) => child.job = number,
+        None => {}
+    }
+}
+
+// The same in the place, if there is such a place.
+fn set_job_at(places: &mut Vec<Option<Child>>, at: usize, number: u32)
+    ensures { places.new.items ≡ changed_at (option_map (with_job number)) at places.old.items }
+{
+    if at < places.len() {
+        set_job(&mut places[at], number);
+    }
+}
+
+// The same in all places, by these numbers.
+#[tactic(auto, using(crate::proofs::Renumbered::renumbered_last))]
+fn set_jobs(places: &mut Vec<Option<Child>>, numbers: List<u32>)
+    ensures { places.new.items ≡ renumbered numbers places.old.items }
+{
+    let mut left = numbers;
+    'numbers: while let Some(number) = left.pop() {
+        let at = left.len();
+        set_job_at(places, at, number);
+    }
+}
+
 impl Children {
     /// So many places, all free. `OutOfMemory` where there is no memory for them.
     pub fn new(alloc: Global, count: u64) -> Result<Children, OutOfMemory>
@@ -112,6 +143,20 @@ impl Children {
         ensures { result ≡ list_all is_none self.now.places.items }
     {
         are_free(self.places.as_slice())
+    }
+
+    /// The places, each with its child, if there is one. It takes no memory.
+    pub fn as_slice(&self) -> &[Option<Child>]
+        ensures { result.now ≡ self.now.places.items }
+    {
+        self.places.as_slice()
+    }
+
+    /// Gives the jobs of the children new numbers: these, by their places. It takes no memory.
+    pub fn renumber(&mut self, numbers: List<u32>)
+        ensures { self.new.places.items ≡ renumbered numbers self.old.places.items }
+    {
+        set_jobs(&mut self.places, numbers);
     }
 
     /// Puts the child into a place that is free. It takes no memory. The child comes back where there is none.

@@ -38,7 +38,7 @@ use Rattle.smk_run.proofs.Calls.{EachCall}
 use Rattle.smk_laws_moments.proofs.ChildrenOf.{step_children}
 use Rattle.smk_laws_moments.proofs.QuietCalls.{IsQuiet, looks_quiet, quiet_number}
 use Rattle.smk_laws_turns.specs.Going.{HasGoneTo}
-use Rattle.smk_laws_turns.specs.Hubs.{IsAt, IsKept, IsRecordable, Parts, child_of}
+use Rattle.smk_laws_turns.specs.Hubs.{IsAt, IsKept, IsRecordable, Parts, child_of, plan_of}
 use Rattle.smk_laws_turns.specs.Turning.{HasLed}
 use Rattle.smk_laws_turns.proofs.Going.{goes_on_from, rests_there}
 use Rattle.smk_laws_turns.proofs.Turning.{beginning_leads}
@@ -53,6 +53,7 @@ use Rattle.smk_laws_begins.specs.Begins.{MayTake}
 use Rattle.smk_laws_begins.proofs.Began as began
 use Rattle.smk_laws_begins.proofs.Beside.{map_end}
 use Rattle.smk_laws_begins.proofs.Fresh.{number_in, number_is_new, stamps_are_timed}
+use Rattle.smk_laws_begins.proofs.Gathers.{next_is_listed}
 use Rattle.smk_laws_begins.proofs.Keeping.{kept_then}
 use Rattle.smk_laws_begins.proofs.ToBegin.{IsTaken}
 
@@ -180,7 +181,8 @@ module _ (begin_differs : BeginDiffers) (act : Act) (rules : Rules) (entry : Wor
         HasLed rules entry (record k { halt = q }) s w before es deeds (Started j ∷ [])
     led_with q next t replanned goes halted waits kept =
         beginning_leads rules entry h s w before deeds (record k { halt = q }) child j es t at (step next t replanned goes) going_is refl
-        (ap (slice_get h.live.base.jobs.jobs) number_is ∙ fit.is) asked
+        (ap (slice_get h.live.base.jobs.jobs) number_is ∙ fit.is)
+        (next_is_listed rules entry s w before (j, x.state) (plan_of h.live) at.home.found at.home.formed (at.ours unbroken).sources (at.kept none_came).plan x.next) asked
         (λ g i. subst (λ (c : Underway). ¬ (g.number ≡ c.number)) (sym going_is) (new_number g i)) noted.placed noted.counted
         (room_begun rules entry h s w before deeds (j, x.state) child.going at x.next
         (ap (λ (c : Underway). c.recipe) going_is ∙ same_recipe) (ap (λ (c : Underway). c.logs) going_is ∙ same_logs))

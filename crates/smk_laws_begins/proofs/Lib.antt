@@ -11,6 +11,7 @@ pub mod Began
 pub mod Places
 pub mod Keeping
 pub mod Fresh
+pub mod Gathers
 pub mod Leads
 pub mod Answered
 pub mod Unbegun

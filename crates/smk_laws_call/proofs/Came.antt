@@ -219,22 +219,25 @@ came_is_sound act w H came differ = sound_in act w H (HasHeld act w H came) diff
 pub headline : Headline
 headline act w v H words told came differ called =
     record {
-      tells = ran_tells (outside act) H w v sound.0 sound.1 reads_records words called.served.answer
-          called.old called.new called.out_old called.out_new called.begins called.ends called.served.serves;
-      clean = call_is_clean run_leaves_all_clean drives_end (outside act) H words told w v called.old called.new called.out_old called.out_new called.begins called.ends reads_records sound.0 sound.1 called.served;
-      none_left = λ free.
+      tells = λ plain.
+          ran_tells (outside act) H w v sound.0 sound.1 reads_records words called.served.answer called.old called.new called.out_old called.out_new
+          called.begins called.ends plain called.served.serves;
+      clean = λ plain.
+          call_is_clean run_leaves_all_clean drives_end (outside act) H words told w v called.old called.new called.out_old called.out_new called.begins
+          called.ends reads_records sound.0 sound.1 plain called.served;
+      none_left = λ plain free.
           call_leaves_none run_leaves_all_clean drives_end (outside act) H words told w v called.old called.new called.out_old called.out_new called.begins
-          called.ends reads_records sound.0 sound.1 free called.served;
-      starts_nothing = λ free none same again x next.
+          called.ends reads_records sound.0 sound.1 plain free called.served;
+      starts_nothing = λ plain free none same again x next.
           next_starts_nothing run_leaves_all_clean drives_end (outside act) H words told again w v called.old called.new next.old next.new called.out_old
-          called.out_new next.out_old next.out_new called.begins called.ends next.begins reads_records sound.0 sound.1 free called.served none same next.served;
+          called.out_new next.out_old next.out_new called.begins called.ends next.begins reads_records sound.0 sound.1 plain free called.served none same next.served;
       finished = λ log is.
           let s = safe act w v H (Run words) told sound.0 sound.1 called in
           let same = same_events w s.0 log (sym s.2 ∙ is) in
           subst (StartsOnFinished (outside act) w) same (parts_start_on_finished (outside act) w H s.0 sound.0 sound.1 s.1 s.3.follows_protocol);
-      complete = λ unrefused values never.
+      complete = λ plain unrefused values never.
           call_is_complete act record_in words w v H told called.old called.new called.out_old called.out_new called.begins called.ends
-          reads_records (record { differ = sound.0; sound = sound.1; unrefused = unrefused; values = values }) never called.served;
+          reads_records (record { differ = sound.0; sound = sound.1; unrefused = unrefused; values = values }) plain never called.served;
     }
   where
     sound : SumsDiffer H × SoundWorld (outside act) w H

@@ -27,11 +27,11 @@ use Rattle.smk_words_reading.specs.declared.asked.RunWords.{RunWords}
 use Rattle.smk_cli_entry.specs.declared.asking.Asked.{Asked}
 use Rattle.smk_plan_preview.specs.Previewing.{rules_for}
 use Rattle.smk_plan_preview.proofs.LookedAt.{kept, seen_moved}
+use Rattle.smk_cli_calls.specs.OneByOne.{IsPlainFlow}
 use Rattle.smk_cli_calls.specs.Serving.{WasDriven, settings_of}
 use Rattle.smk_cli_calls.proofs.Driving.{rules_are}
 use Rattle.smk_cli_calls.specs.Whole.{AsksFor}
 use Rattle.smk_clean.specs.Clean.{setting_in}
-use Rattle.smk_clean.proofs.Meant.{asked_built}
 use Rattle.smk_clean.proofs.Plain.{planned_plain}
 use Rattle.smk_clean.proofs.Safe.{Answer, looked_safe}
 use Rattle.smk_laws_call.specs.Telling.{HasPutSo, end_lines}
@@ -114,13 +114,13 @@ pub record DroveTells (o : Outside) (asked : Asked) (w v : World) (text : Text) 
       Each (λ (x : Path × Bool). x.1 ≡ true → IsClean (setting_in o w asked.flow) (seen o.read v) x.0) (zip asked.targets end.current)
 
 module _ (o : Outside) (H : Versions) (w : World) (differ : SumsDiffer H) (sound : SoundWorld o w H) (reads : ReadsRecords o.read) (words : RunWords)
-    (entry : World) (asked : Asked) (asks : AsksFor words entry asked) where
+    (entry : World) (asked : Asked) (asks : AsksFor words entry asked) (plain_flow : IsPlainFlow asked.flow) where
   abbrev rules : Rules
   rules = rules_for o.read asked.flow (settings_of asked words)
 
   plain : PlansArePlain rules
   plain image progress plan complete is =
-      planned_plain asked.flow image (settings_of asked words) progress plan complete (asked_built words entry.nodes asked asks) is
+      planned_plain asked.flow image (settings_of asked words) progress plan complete plain_flow is
 
   closing_same : (told : Option End) → closing_lines rules told ≡ end_lines asked.targets told
   closing_same None = refl

@@ -39,11 +39,11 @@ use Rattle.smk_make.specs.Making.{AreWhatIsMeant, GoesOn, NotFirm, NoMemory, Mad
 use Rattle.smk_plan_preview.specs.declared.previewing.Previewed.{Previewed}
 use Rattle.smk_plan_preview.specs.Previewing.{plan_of}
 use Rattle.smk_cli_calls.specs.OneByOne.{is_one_by_one}
-use Rattle.smk_cli_calls.proofs.OneByOne.{none_forced}
+use Rattle.smk_cli_calls.proofs.OneByOne.{none_forced, none_grow}
 use Rattle.smk_cli_calls.specs.Serving.{Went, Refused, Stopped, Worked, Drove, settings_of}
 use Rattle.smk_cli_entry.specs.Entry.{IsAskedIn}
 use Rattle.smk_cli_calls.specs.Locking.{HasHeeded, Stood, Taken, Unmade, Untaken}
-use Rattle.smk_cli_calls.specs.Whole.{AsksFor, HasRun, Heeded, IsRefusal, IsToServe, Unasked, Unheeded}
+use Rattle.smk_cli_calls.specs.Whole.{AsksFor, HasRun, Heeded, IsAskedPlainly, IsRefusal, IsToServe, Unasked, Unheeded}
 use Rattle.smk_laws_lock.specs.Heeding.{IsSameButLock}
 use Rattle.smk_laws_lock.proofs.Heeding.{lock_changes_itself_alone, on_both, same_back}
 use Rattle.smk_safe.specs.Planned.{IsFit, IsPlain}
@@ -82,7 +82,7 @@ data TellsBy (o : Outside) (words : RunWords) (entry w v : World) (text : Text) 
   NothingBy : text ≡ [] → TellsBy o words entry w v text
   LinesBy :
       (asked : Asked) (turns : List Turn) (current : Path → Bool) (tally : Tally) →
-      IsAskedIn true words entry.nodes (Ok asked) →
+      IsAskedIn words entry.nodes (Ok asked) →
       IsFront text (report_of asked.flow turns ++ (lines_by current asked.targets ++ counts_line tally)) →
       ((p : Path) → IsIn asked.targets p → current p ≡ true → IsClean (setting_in o w asked.flow) (seen o.read v) p) → TellsBy o words entry w v text
   DrivenBy : (asked : Asked) → AsksFor words entry asked → DroveTells o asked w v text → TellsBy o words entry w v text
@@ -99,7 +99,7 @@ no_tally = record { started = 0; done = 0; failed = 0; first = None }
 
 module _
     (o : Outside) (H : Versions) (w : World) (differ : SumsDiffer H) (sound : SoundWorld o w H) (reads : ReadsRecords o.read) (words : RunWords)
-    (entry : World) (asked : Asked) (told : Previewed) (to_serve : IsToServe o.read true words entry w asked told) (one : is_one_by_one asked.flow words ≡ true) where
+    (entry : World) (asked : Asked) (told : Previewed) (to_serve : IsToServe o.read words entry w asked told) (one : is_one_by_one asked.flow words ≡ true) where
   abbrev plan : Plan
   plan = plan_of told
 
@@ -110,10 +110,10 @@ module _
   st j = state_of (seen o.read w) settings nothing_done plan j
 
   planned : IsPlan asked.flow (seen o.read w) settings nothing_done plan
-  planned = clean.planned o H w differ sound reads words entry asked told to_serve
+  planned = clean.planned o H w differ sound reads words entry asked told to_serve (none_grow asked.flow words one)
 
   plainly : Each IsPlain plan.jobs
-  plainly = clean.plainly o H w differ sound reads words entry asked told to_serve
+  plainly = clean.plainly o H w differ sound reads words entry asked told to_serve (none_grow asked.flow words one)
 
   temps : Each (λ (j : Job). j.temps ≡ []) plan.jobs
   temps =
@@ -127,11 +127,11 @@ module _
 
   module _
       (v : World) (duties : List Duty) (ts : List Turn) (meant : AreWhatIsMeant told.jobs told.plan.states told.store duties) (fit : Each IsFit ts)
-      (r : IsTurnRun o H w differ sound reads words entry asked told to_serve v duties ts) (closed : Each (λ (t : Turn). is_closed t.course ≡ true) ts)
+      (r : IsTurnRun o H w differ sound reads words entry asked told to_serve (none_grow asked.flow words one) v duties ts) (closed : Each (λ (t : Turn). is_closed t.course ≡ true) ts)
       (after : List Bool)
       (current : AreCurrent told.jobs.befores duties ts after) where
     abbrev ran : IsDueRun o w H asked.flow settings plan ts r.es
-    ran = clean.ran o H w differ sound reads words entry asked told to_serve v duties ts meant fit r
+    ran = clean.ran o H w differ sound reads words entry asked told to_serve (none_grow asked.flow words one) v duties ts meant fit r
 
     abbrev RestsOrDone : Job → Type 0
     RestsOrDone k = (is_to_run (st k) ≡ false) ⊎ ((t : Turn) × IsIn ts t × (t.job ≡ k) × (is_done t.course ≡ true))
@@ -164,14 +164,14 @@ module _
     target_clean p target is =
         subst (λ (x : World). IsClean (setting_in o w asked.flow) (seen o.read x) p) (sym r.is)
         (targets_clean o w H asked.flow settings plan ts r.es ran free temps closed
-        (clean.fields o H w differ sound reads words entry asked told to_serve) to_serve.plan.last p target
+        (clean.fields o H w differ sound reads words entry asked told to_serve (none_grow asked.flow words one)) to_serve.plan.last p target
         (rests_or_done p target is))
 
   -- ## The text
 
   tells_text :
       (v : World) (duties : List Duty) (ts : List Turn) (meant : AreWhatIsMeant told.jobs told.plan.states told.store duties) (fit : Each IsFit ts)
-      (r : IsTurnRun o H w differ sound reads words entry asked told to_serve v duties ts) (dues : List Due) (bad : Bool) (ended : Result Tally Fault)
+      (r : IsTurnRun o H w differ sound reads words entry asked told to_serve (none_grow asked.flow words one) v duties ts) (dues : List Due) (bad : Bool) (ended : Result Tally Fault)
       (answer : Answer) (text : Text) →
       IsRunOutcome asked.flow dues ts bad ended →
       IsText o.act asked.flow words.cores asked.targets told.jobs (next_serial told.store) duties ts ended answer text → TellsBy o words entry w v text
@@ -203,7 +203,7 @@ module _
   goes_tells answer v old looked firm new p q settled bad at ends looking settling (Made u duties for meant made) =
       let d = made.ran.did v ends in
       let start = started o H w differ sound d.0 old looked firm (HasTried (steady_requests told.store) (Ok u)) bad at looking settling d.1 in
-      let run_is = turns_run o H w differ sound reads words entry asked told to_serve u d.0 v duties made.turns d.2.0 start made.in_order d.2.1 d.2.2 d.2.3 in
+      let run_is = turns_run o H w differ sound reads words entry asked told to_serve (none_grow asked.flow words one) u d.0 v duties made.turns d.2.0 start made.in_order d.2.1 d.2.2 d.2.3 in
       let fit = all_fit made.turns made.fits in
       λ now there.
       let x = made.text.told now there in (
@@ -219,15 +219,15 @@ module _
 went_tells :
     (o : Outside) (H : Versions) (entry w v : World) (differ : SumsDiffer H) (sound : SoundWorld o w H) (reads : ReadsRecords o.read) (words : RunWords)
     (answer : Answer)
-    (old new : Device) (p q : Sunk) → old.world ≡ Some w → new.world ≡ Some v →
-    Went o.act words answer (IsRefusal o.read true words entry w) (AsksFor words entry) (IsToServe o.read true words entry w) old new p q → HasPutSo p q
+    (old new : Device) (p q : Sunk) → old.world ≡ Some w → new.world ≡ Some v → IsAskedPlainly words entry →
+    Went o.act words answer (IsRefusal o.read words entry w) (AsksFor words entry) (IsToServe o.read words entry w) old new p q → HasPutSo p q
     (TellsBy o words entry w v)
-went_tells o H entry w v differ sound reads words answer old new p q at ends (Refused f is why looked) = put_nothing o words entry w v p q looked.unput
-went_tells o H entry w v differ sound reads words answer old new p q at ends (Drove asked apart asks drove) =
+went_tells o H entry w v differ sound reads words answer old new p q at ends plain (Refused f is why looked) = put_nothing o words entry w v p q looked.unput
+went_tells o H entry w v differ sound reads words answer old new p q at ends plain (Drove asked apart asks drove) =
     put_as p q (DroveTells o asked w v) (TellsBy o words entry w v) (λ text h. DrivenBy asked asks h)
-    (drove_tells o H w differ sound reads words entry asked asks answer v old new p q at ends drove)
-went_tells o H entry w v differ sound reads words answer old new p q at ends (Stopped f is want looked) = put_nothing o words entry w v p q looked.unput
-went_tells o H entry w v differ sound reads words answer old new p q at ends (Worked asked told one plans worked) =
+    (drove_tells o H w differ sound reads words entry asked asks (plain asked asks) answer v old new p q at ends drove)
+went_tells o H entry w v differ sound reads words answer old new p q at ends plain (Stopped f is want looked) = put_nothing o words entry w v p q looked.unput
+went_tells o H entry w v differ sound reads words answer old new p q at ends plain (Worked asked told one plans worked) =
     goes_tells o H w differ sound reads words entry asked told plans one answer v old worked.looked worked.carried.firm new p q worked.carried.settled
     (store_failed worked.carried.settled) at ends worked.looking worked.carried.settling worked.carried.goes_on
 
@@ -268,7 +268,7 @@ tells_moved o words entry w u v x text before after (LinesBy asked turns current
     (on_both (λ (i : Image). IsClean (setting_in o u asked.flow) i p) (λ i l k. k) (seen o.read v) (seen o.read x) after (clean p i c)))
 
 module _ (o : Outside) (H : Versions) (w v : World) (differ : SumsDiffer H) (sound : SoundWorld o w H) (reads : ReadsRecords o.read) (words : RunWords)
-    (answer : Answer) where
+    (answer : Answer) (plain : IsAskedPlainly words w) where
   locked_tells : (new : Device) (p q : Sunk) → IsUnderLock o H w differ sound words answer new p q v → HasPutSo p q (TellsBy o words w w v)
   locked_tells new p q k =
       let inner = went_safe o H k.start differ k.sound_then reads words w k.ran k.last k.locked k.left p q k.at_start k.at_last k.went in
@@ -276,15 +276,15 @@ module _ (o : Outside) (H : Versions) (w v : World) (differ : SumsDiffer H) (sou
       let formed_v : IsFormed v = subst IsFormed (sym k.end_is) (formed_run k.last k.release formed) in
       put_as p q (TellsBy o words w k.start k.last) (TellsBy o words w w v)
       (λ text h. tells_moved o words w w k.start k.last v text k.same_start (lock_changes_itself_alone o.read k.last v formed formed_v k.only) h)
-      (went_tells o H w k.start k.last differ k.sound_then reads words k.ran k.locked k.left p q k.at_start k.at_last k.went)
+      (went_tells o H w k.start k.last differ k.sound_then reads words k.ran k.locked k.left p q k.at_start k.at_last plain k.went)
 
   run_tells : (old new : Device) (p q : Sunk) → old.world ≡ Some w → new.world ≡ Some v → HasRun o.act o.read words w answer old new p q →
       HasPutSo p q (TellsBy o words w w v)
-  run_tells old new p q at end (Unheeded heeds_none went) = went_tells o H w w v differ sound reads words answer old new p q at end went
+  run_tells old new p q at end (Unheeded heeds_none went) = went_tells o H w w v differ sound reads words answer old new p q at end plain went
   run_tells old new p q at end (Unasked f heeds is why looked) = put_nothing o words w w v p q looked.unput
   run_tells old new p q at end (Heeded x looked heeds after at_x looking heeded) = go heeded
     where
-      go : HasHeeded o.act words answer (IsRefusal o.read true words w) (AsksFor words w) (IsToServe o.read true words w) x looked new p q →
+      go : HasHeeded o.act words answer (IsRefusal o.read words w) (AsksFor words w) (IsToServe o.read words w) x looked new p q →
           HasPutSo p q (TellsBy o words w w v)
       go (Unmade is unchanged unput) = put_nothing o words w w v p q unput
       go (Stood is stands tried unput) = put_nothing o words w w v p q unput
@@ -295,8 +295,9 @@ module _ (o : Outside) (H : Versions) (w v : World) (differ : SumsDiffer H) (sou
 pub ran_tells :
     (o : Outside) (H : Versions) (w v : World) (differ : SumsDiffer H) (sound : SoundWorld o w H) (reads : ReadsRecords o.read) (words : RunWords)
     (answer : Answer)
-    (old new : Device) (p q : Sunk) → old.world ≡ Some w → new.world ≡ Some v → HasRun o.act o.read words w answer old new p q → HasPutSo p q
-    (Tells o words w v)
-ran_tells o H w v differ sound reads words answer old new p q at end ran =
+    (old new : Device) (p q : Sunk) → old.world ≡ Some w → new.world ≡ Some v → IsAskedPlainly words w →
+    HasRun o.act o.read words w answer old new p q →
+    HasPutSo p q (Tells o words w v)
+ran_tells o H w v differ sound reads words answer old new p q at end plain ran =
     put_as p q (TellsBy o words w w v) (Tells o words w v) (tells_so o words w v)
-    (run_tells o H w v differ sound reads words answer old new p q at end ran)
+    (run_tells o H w v differ sound reads words answer plain old new p q at end ran)

@@ -26,7 +26,7 @@ use Rattle.smk_cli_entry.specs.Entry.{FailsToAsk, IsAskedIn}
 use Rattle.smk_keep_forget.specs.Seen.{seen}
 use Rattle.smk_laws_keys.specs.Keys.{outside}
 use Rattle.smk_cli_calls.specs.Keys.{HasKept}
-use Rattle.smk_cli_calls.specs.Whole.{HasServed}
+use Rattle.smk_cli_calls.specs.Whole.{HasServed, IsAskedPlainly}
 use Rattle.smk_clean.specs.Again.{HasNoneLeft, StartsNothing}
 use Rattle.smk_clean.specs.Clean.{HasMadeClean}
 use Rattle.smk_whole.specs.Calls.{MayTell}
@@ -118,27 +118,30 @@ CameIsHistory =
 abbrev pub CameIsSound : Type 0
 CameIsSound = (act : Act) (w : World) (H : Versions) (came : Came act w H) → SumsDifferIn act w H came → SumsDiffer H × SoundWorld (outside act) w H
 
--- What is so of a run.
+-- What is so of a run. All but `finished` is said of runs alone of what is asked plainly: no rule of the workflow is a checkpoint, makes a directory or gathers, so that
+-- no plan may grow.
 pub record RunGives (o : Outside) (words : RunWords) (told : Option Fault) (w v : World) (called : IsCalled o (Run words) told w v) : Type 0 where
   -- what it calls current holds what a clean run from the sources makes of it, however the run ended
-  pub tells : HasPutSo called.out_old called.out_new (Tells o words w v)
+  pub tells : IsAskedPlainly words w → HasPutSo called.out_old called.out_new (Tells o words w v)
   -- with status 0 each target holds what a clean run from the sources makes of it, and where no job was forced nothing is left to do; be its jobs made one
   -- after another or driven
-  pub clean : told ≡ None → HasMadeClean o words w v
-  pub none_left : words.force ≡ No → told ≡ None → HasNoneLeft o words w v
+  pub clean : IsAskedPlainly words w → told ≡ None → HasMadeClean o words w v
+  pub none_left : IsAskedPlainly words w → words.force ≡ No → told ≡ None → HasNoneLeft o words w v
   -- so a run with the same words starts nothing in the folder that is left, where they ask for the same of the workflow in it
   pub starts_nothing :
+      IsAskedPlainly words w →
       words.force ≡ No →
       told ≡ None →
-      ((asked : Asked) → IsAskedIn true words w.nodes (Ok asked) → IsAskedIn true words v.nodes (Ok asked)) →
+      ((asked : Asked) → IsAskedIn words w.nodes (Ok asked) → IsAskedIn words v.nodes (Ok asked)) →
       (again : Option Fault) (x : World) (next : IsCalled o (Run words) again v x) → StartsNothing next.served.serves
-  -- no job was started on an output of an unfinished job, be they made one after another or driven
+  -- no job was started on an output of an unfinished job, be they made one after another or driven, and whatever the workflow has
   pub finished : (log : List Event) → v ≡ run w log → StartsOnFinished o w log
   -- where the words aren't refused, a clean run gives each target and no call of the device failed, all is well, or it is told why not; be its jobs made one
   -- after another or driven, and outputs temporary or not
   pub complete :
-      ((f : Fault) → FailsToAsk true words w.nodes f → ⊥) →
-      ((asked : Asked) → IsAskedIn true words w.nodes (Ok asked) → AllHaveValues (setting_in o.act o.read asked w) asked.targets) →
+      IsAskedPlainly words w →
+      ((f : Fault) → FailsToAsk words w.nodes f → ⊥) →
+      ((asked : Asked) → IsAskedIn words w.nodes (Ok asked) → AllHaveValues (setting_in o.act o.read asked w) asked.targets) →
       (Rose called.old.faults called.new.faults → ⊥) → MayTell o.read true words w told
 
 -- After any list of calls, edits of sources and of the workflow, failed jobs, removals and crashes this is so of a run, if no two different

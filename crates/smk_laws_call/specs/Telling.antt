@@ -30,13 +30,13 @@ pub data Tells (o : Outside) (words : RunWords) (w v : World) (text : Text) : Ty
   Nothing : text ≡ [] → Tells o words w v text
   Lines :
       (asked : Asked) (turns : List Turn) (current : Path → Bool) (tally : Tally) →
-      IsAskedIn true words w.nodes (Ok asked) →
+      IsAskedIn words w.nodes (Ok asked) →
       IsFront text (report_of asked.flow turns ++ (lines_by current asked.targets ++ counts_line tally)) →
       ((p : Path) → IsIn asked.targets p → current p ≡ true → IsClean (setting_in o w asked.flow) (seen o.read v) p) → Tells o words w v text
   -- of a run that is driven
   DrivenLines :
       (asked : Asked) (deeds : List Deed) (told : Option End) →
-      IsAskedIn true words w.nodes (Ok asked) →
+      IsAskedIn words w.nodes (Ok asked) →
       IsFront text (lines_of asked.flow deeds ++ end_lines asked.targets told) →
       ((end : End) →
       told ≡ Some end →

@@ -1,23 +1,26 @@
 -- Plans go by what stands where, and not by which files are read-only.
-use Rattle.std.proofs.Common.{◌≡◌, ℕ, Bool, true, false, ◌&&◌, ◌||◌, not, List, map, filter, refl, sym, ap, ◌∙◌, Option, Some, None, option_map, is_some}
-use Rattle.std.specs.Prelude.{if◌then◌else◌}
+use Rattle.std.proofs.Common.{◌≡◌, ℕ, Bool, true, false, ◌&&◌, ◌||◌, not, List, [], ◌∷◌, ◌++◌, map, filter, flat_map, length, refl, sym, ap, ◌∙◌, Option, Some, None, option_map, is_some}
+use Rattle.std.specs.Prelude.{bytes_eq, if◌then◌else◌, nat_lt}
 use Rattle.std.specs.List.{list_any}
 use lib.Pointwise.{pointwise}
-use Rattle.smk_base.specs.Path.{is_under}
+use Rattle.smk_base.specs.Path.{is_under, overlaps}
 use Rattle.smk_base.specs.Place.{mark_place, note_place, record_place}
 use Rattle.smk_world.specs.declared.event.Node.{Node}
 use Rattle.smk_world.specs.declared.event.Node.TheVariants.{Directory, Regular}
 use Rattle.smk_world.specs.declared.recipe.Kind.{Kind}
 use Rattle.smk_world.specs.declared.recipe.Kind.TheVariants.{Plain, Folder}
 use Rattle.smk_world.specs.Trees.{Path, below, is_path_text}
-use Rattle.smk_world.specs.World.{World, IsFormed, folders_above, reading}
+use Rattle.smk_world.specs.World.{World, IsFormed, add_names, folders_above, reading}
 use Rattle.smk_flow.specs.Flows.{Flow}
+use Rattle.smk_choose.specs.Choose.{Sources}
 use Rattle.smk_record.specs.declared.record.Record.{Record}
 use Rattle.smk_record.specs.Records.{members_of, same_member}
 use Rattle.smk_store.specs.declared.store.Kept.TheVariants.{Absent}
 use Rattle.smk_store.specs.Images.{Image, content_of, file_at, is_directory, is_file, is_outside}
-use Rattle.smk_store.specs.Images.{is_source, is_whole, kept_by, readable, seen, source_at, stands}
+use Rattle.smk_store.specs.Images.{is_source, is_whole, kept_by, known_by, readable, seen, source_at, stands}
 use Rattle.smk_store.specs.Trust.{content_stamp, source_stamp}
+use Rattle.smk_chain.specs.Derive.{Clash, Deep, Listings, TooManyPaths, clashes, derivation, hinders}
+use Rattle.smk_chain.specs.Derive.{is_deep, jobs, outcome, reach, refused, refused_if, sources_of, spots}
 use Rattle.smk_pick.specs.declared.settings.Settings.{Settings}
 use Rattle.smk_plan.specs.States.{IsPlan, Plan, Progress, new_listings}
 use Rattle.smk_laws_history.proofs.CurrentComplete.{seen_is_complete}
@@ -134,3 +137,30 @@ module _
       listings_like flow settings plan i (seen_is_complete read w formed) progress.running progress.begun progress.begun (λ k. refl) is x (sym kept)
       (sym marked)
       (sym noted) (like flow settings plan)
+
+  -- and derivations are the same
+  pub sources_move : sources_of x ≡ sources_of i
+  sources_move = λ k. record { is = λ p. source p k; holds = λ p. list_any (overlaps p) (filter (λ q. source q k) (names_same k)) }
+
+  known_same : x.known ≡ i.known
+  known_same = λ k. add_names (flat_map known_by (filter (λ q. some q k) (names k))) []
+
+  hinders_same : (s : Path × Bool) (q : Path) → hinders x s q ≡ hinders i s q
+  hinders_same (p, true) q = λ k. overlaps p q && (noted k q || ((stands (kept k q) || marked k q) && not (bytes_eq p q)))
+  hinders_same (p, false) q = λ k. overlaps p q && ((stands (kept k q) || marked k q) || (noted k q && not (bytes_eq p q)))
+
+  clashes_same : (earlier : List Path) (ss : List (Path × Bool)) → clashes x earlier ss ≡ clashes i earlier ss
+  clashes_same earlier [] = refl
+  clashes_same earlier (s ∷ ss) =
+      λ k.
+      map (Clash s.0) (filter (overlaps s.0) earlier ++ filter (λ q. hinders_same s q k) (known_same k)) ++ clashes_same (earlier ++ s.0 ∷ []) ss k
+
+  pub derivation_moves : (flow : Flow) (L : Listings) (targets : List Path) → derivation flow x L targets ≡ derivation flow i L targets
+  derivation_moves flow L targets =
+      λ k.
+      outcome
+      (refused_if (nat_lt 100000 (length (reach flow (sources_move k) L 400 targets))) TooManyPaths
+      ++ (map Deep (filter (is_deep flow (sources_move k) x L targets) targets)
+      ++ (flat_map (refused flow (sources_move k) L 201) targets
+      ++ (ap (λ (S : Sources). clashes x [] (flat_map spots (jobs flow S L targets))) sources_move
+      ∙ clashes_same [] (flat_map spots (jobs flow (sources_of i) L targets))) k))) (jobs flow (sources_move k) L targets)

@@ -140,10 +140,10 @@ module _
         logged = λ p i. inl (or_second (stands (later.kept p)) (later.marked p || later.noted p) (or_second (later.marked p) (later.noted p) (noted_own p i)));
       }
 
-  still : SameSources first later × HasOwnSigns first later jobs.jobs
+  still : SameSources first later × HasOwnSigns first later jobs.jobs × HasOwnSigns later first jobs.jobs
   still =
       ours_go_on rules.flow first image later jobs.lists rules.settings.targets jobs.jobs outs j.logs complete from.derived
-      (λ p i. output_spot jobs.jobs j p ij i) (λ p i. log_spot jobs.jobs j p ij i) changes ours.sources ours.signs
+      (λ p i. output_spot jobs.jobs j p ij i) (λ p i. log_spot jobs.jobs j p ij i) changes ours.sources ours.signs ours.gone
 
   -- ## The children
 
@@ -184,6 +184,6 @@ module _
         differs = differs_of rules entry w v jobs j from ij formed (formed_run w es formed) still.0 leaves;
         outputs = hidden;
         logged = λ q i. noted_own q (among_in j.logs q i);
-        ours = record { sources = still.0; signs = still.1; signed = signed_now };
+        ours = record { sources = still.0; signs = still.1; gone = still.2; signed = signed_now };
         still_gone = λ q out h. ap is_gone (marks_same act j command w es follows done paths q out) ∙ h;
       }

@@ -1,6 +1,5 @@
 -- What the children of a run own are users' paths; and what looks leave.
-use Rattle.std.proofs.Common.{◌≡◌, ◌⊎◌, inl, inr, ℕ, zero, suc, true, List, [], ◌∷◌, Option, Some, None, refl, sym, ap, subst, ◌∙◌}
-use Rattle.std.specs.List.{slice_get}
+use Rattle.std.proofs.Common.{◌≡◌, ◌⊎◌, inl, inr, true, List, [], ◌∷◌, Option, Some, None, refl, sym, ap, subst, ◌∙◌}
 use Rattle.smk_base.specs.Path.{is_at_or_under, is_path}
 use Rattle.smk_base.proofs.Apart.{path-own}
 use Rattle.smk_base.proofs.Under.{never_both}
@@ -85,5 +84,6 @@ ours_stay rules entry w v jobs like ours =
     record {
       sources = subst (SameSources (seen rules entry)) seen_same ours.sources;
       signs = subst (λ x. HasOwnSigns (seen rules entry) x jobs) seen_same ours.signs;
+      gone = subst (λ x. HasOwnSigns x (seen rules entry) jobs) seen_same ours.gone;
       signed = λ c i. subst (λ x. IsSigned x c.recipe c.logs) seen_same (ours.signed c (subst (λ cs. IsIn cs c) (sym like.2) i));
     }

@@ -131,9 +131,9 @@ module _
           let both =
           ours_go_on rules.flow (seen rules entry) (seen rules w) (seen rules v) h.live.base.jobs.lists rules.settings.targets h.live.base.jobs.jobs outs j.logs
           (complete_entry rules entry h s w before deeds at) at.derived (λ p i. output_spot h.live.base.jobs.jobs j p its.of_plan i)
-          (λ p i. log_spot h.live.base.jobs.jobs j p its.of_plan i) changes ours.sources ours.signs
+          (λ p i. log_spot h.live.base.jobs.jobs j p its.of_plan i) changes ours.sources ours.signs ours.gone
           in
-          record { sources = both.0; signs = both.1; signed = others_signed }
+          record { sources = both.0; signs = both.1; gone = both.2; signed = others_signed }
 
     -- ## A job that was closed
 

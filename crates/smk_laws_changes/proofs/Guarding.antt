@@ -5,7 +5,6 @@ use Rattle.std.specs.Prelude.{if◌then◌else◌}
 use Rattle.smk_base.specs.Path.{is_at_or_under, is_path, overlaps}
 use Rattle.smk_base.specs.Place.{mark_place}
 use Rattle.smk_base.proofs.Apart.{IsApart, apart_unless, path-mark}
-use Rattle.smk_base.proofs.Places.{place_itself}
 use Rattle.smk_base.proofs.Under.{never_both}
 use Rattle.smk_world.specs.declared.event.Call.{Call}
 use Rattle.smk_world.specs.declared.event.Call.TheVariants.{Looked, ReadFile, ReadFolder, Written, Created}
@@ -20,7 +19,7 @@ use Rattle.smk_world.specs.Requests.{HasDone, Request, request}
 use Rattle.smk_world.specs.Requests.Request.{Look, ReadUpTo, ListFolder, Write, Create, Remove, MakeParents, Settle, Protect, Start, Wait}
 use Rattle.smk_world.specs.Runs.{Follows}
 use Rattle.smk_world.specs.Trees.{Act, Each, IsIn, Path}
-use Rattle.smk_world.specs.World.{World, IsFormed, add_names, after, firm, is_above, is_within, out_paths, owned_paths, reading, reads_folder, run, with_flag}
+use Rattle.smk_world.specs.World.{World, IsFormed, add_names, after, firm, is_above, is_within, out_paths, reading, reads_folder, run, with_flag}
 use Rattle.smk_world.proofs.Runs.{run_append}
 use Rattle.smk_flow.specs.declared.job.Job.{Job}
 use Rattle.smk_laws_plan.proofs.CurrentLists.{in_left}
@@ -29,16 +28,15 @@ use Rattle.smk_keep.specs.declared.fault.KeepFault.{KeepFault}
 use Rattle.smk_run.proofs.Calls.{EachCall, each_append}
 use Rattle.smk_plan.specs.declared.seen.Sight.{Sight}
 use Rattle.smk_plan.specs.Sights.{is_guarded}
-use Rattle.smk_plan.specs.States.{job_path}
 use Rattle.smk_drive.specs.Moments.{Rules, seen}
 use Rattle.smk_drive_course.specs.Stands.{Stand}
 use Rattle.smk_drive_course.specs.Steps.{Deed, GuardingFails, HasGuarded, IsTended, LooksFail, Tended, Unguarded}
+use Rattle.smk_laws_protocol.proofs.Basics.{each_in}
 use Rattle.smk_laws_moments.proofs.LooksLike.{like_looks}
 use Rattle.smk_laws_starting.proofs.Spots.{overlaps_above}
 use Rattle.smk_laws_folder.proofs.Places.{same_is_seen}
 use Rattle.smk_laws_turns.specs.Hubs.{IsAt, Parts}
-use Rattle.smk_laws_changes.proofs.Apart.{jobs_apart, owned_is_path}
-use Rattle.smk_laws_changes.proofs.Overlaps.{apart_at}
+use Rattle.smk_laws_changes.proofs.Apart.{owned_is_path}
 use Rattle.smk_laws_changes.specs.Guarded.{IsGuardedSince, bare_node}
 use Rattle.smk_laws_changes.proofs.ClosedCalls.{IsOf, all_keep}
 use Rattle.smk_laws_changes.proofs.Touched.{AreAmong}
@@ -151,24 +149,16 @@ module _
   user : (p : Path) → IsIn guards p → is_path p ≡ true
   user p i = owned_is_path rules entry h s w before deeds at k p ik (in_left p (out_paths k.recipe) k.logs (all p i))
 
-  other_outputs : (m : Job) (q : Path) → IsIn h.live.base.jobs.jobs m → bytes_eq (job_path k) (job_path m) ≡ false → IsIn (out_paths m.recipe) q →
-      is_guarded (seen rules (run v tending)) q ≡ is_guarded (seen rules v) q
-  other_outputs m q im differs iq =
+  others : (q : Path) → Each (λ p. overlaps p q ≡ false) (out_paths k.recipe) → is_guarded (seen rules (run v tending)) q ≡ is_guarded (seen rules v) q
+  others q off =
       ap (λ (sight : Sight). sight.guarded)
       (same_is_seen rules.read v (run v tending) q formed formed_now (λ r under. ap reading (all_keep guards r (λ g i. apart g r i under) v tending of))).sight
     where
-      off : (g : Path) → IsIn guards g → overlaps g q ≡ false
-      off g i =
-          apart_at (owned_paths k.recipe k.logs) (owned_paths m.recipe m.logs) g q
-          (jobs_apart rules entry h s w before deeds at k m ik im
-          (λ same_name. never_both (bytes_eq (job_path k) (job_path m))
-          (subst (λ p. bytes_eq (job_path k) p ≡ true) same_name (place_itself (job_path k))) differs))
-          (in_left g (out_paths k.recipe) k.logs (all g i)) (in_left q (out_paths m.recipe) m.logs iq)
-
       apart : (g r : Path) → IsIn guards g → is_at_or_under r q ≡ true → IsApart g r
-      apart g r i under = apart_unless g r (λ t. never_both (overlaps g q) (overlaps_above g r q under t) (off g i))
+      apart g r i under = apart_unless g r (λ t. never_both (overlaps g q) (overlaps_above g r q under t)
+          (each_in (λ p. overlaps p q ≡ false) (out_paths k.recipe) g off (all g i)))
 
-  pub guarded_since : IsGuardedSince rules h.live.base.jobs.jobs k v (run v tending)
+  pub guarded_since : IsGuardedSince rules k v (run v tending)
   guarded_since =
       record {
         formed = formed;
@@ -177,5 +167,5 @@ module _
         nodes = same.nodes;
         children = same.children;
         marks = λ q. all_keep guards (mark_place q) (λ g i. path-mark g q (user g i)) v tending of;
-        guarded = other_outputs;
+        guarded = others;
       }

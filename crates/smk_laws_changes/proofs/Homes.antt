@@ -98,6 +98,7 @@ ours_stay rules entry w v jobs same ours =
     record {
       sources = subst (SameSources (seen rules entry)) seen_same ours.sources;
       signs = subst (λ x. HasOwnSigns (seen rules entry) x jobs) seen_same ours.signs;
+      gone = subst (λ x. HasOwnSigns x (seen rules entry) jobs) seen_same ours.gone;
       signed = λ c i. subst (λ x. IsSigned x c.recipe c.logs) seen_same (ours.signed c (subst (λ cs. IsIn cs c) same.children i));
     }
 

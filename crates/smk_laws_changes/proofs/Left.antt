@@ -46,7 +46,7 @@ tend_differs rules entry h s w before deeds act going ended left closing tending
     let formed = formed_run w (wait_event ended left ∷ closing) at.home.formed in (
       closed_then rules entry h s w before deeds act at owners reads unbroken going ended left waited how k closing tending
           (λ p i. subst (λ r. IsIn (out_paths r) p) recipe (among_outs p i)) closed two.0 of,
-      subst (IsGuardedSince rules h.live.base.jobs.jobs k v) (sym (run_append since closing tending))
+      subst (IsGuardedSince rules k v) (sym (run_append since closing tending))
           (guarded_since rules entry h s w before deeds at k ik (guards_of k how) among_outs v tending of formed (formed_run v tending formed)
           (tended_same act v (guards_of k how) (Ok tt) tending tended refl two.1)),
     )

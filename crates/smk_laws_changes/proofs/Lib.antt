@@ -36,5 +36,6 @@ pub mod Guarding
 pub mod Ending
 pub mod Left
 pub mod Bare
+pub mod Stays
 pub mod Bridge
 pub mod Before

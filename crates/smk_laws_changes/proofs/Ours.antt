@@ -141,11 +141,34 @@ module _
         (either_or (stands (image.kept q)) (stands (later.kept q)) (image.marked q) (later.marked q) (sym (ap (λ (k : Kept). stands k) (changes.kept q f)))
         (sym (changes.marks q f)) ∙ h))
 
+  module _ (gone : HasOwnSigns image first jobs) where
+    note_then : (q : Path) → first.noted q ≡ true → (later.noted q ≡ true) ⊎ IsIn (flat_map spots jobs) (q, false)
+    note_then q h = by_test (among logs q) (λ t. inr (its_logs q (among_in logs q t))) (λ f. go f (gone.notes q h))
+      where
+        go : among logs q ≡ false → (image.noted q ≡ true) ⊎ IsIn (flat_map spots jobs) (q, false) → (later.noted q ≡ true) ⊎ IsIn (flat_map spots jobs) (q, false)
+        go f (inl n) = inl (changes.notes q f ∙ n)
+        go f (inr i) = inr i
+
+    sign_then : (q : Path) → has_record_or_mark first q ≡ true → (has_record_or_mark later q ≡ true) ⊎ IsIn (flat_map spots jobs) (q, true)
+    sign_then q h = by_test (among outs q) (λ t. inr (its_outs q (among_in outs q t))) (λ f. go f (gone.signs q h))
+      where
+        go :
+            among outs q ≡ false → (has_record_or_mark image q ≡ true) ⊎ IsIn (flat_map spots jobs) (q, true) →
+            (has_record_or_mark later q ≡ true) ⊎ IsIn (flat_map spots jobs) (q, true)
+        go f (inl s) =
+            inl (either_or (stands (later.kept q)) (stands (image.kept q)) (later.marked q) (image.marked q) (ap (λ (k : Kept). stands k) (changes.kept q f))
+            (changes.marks q f) ∙ s)
+        go f (inr i) = inr i
+
 pub ours_go_on : OursGoOn
-ours_go_on flow first image later lists targets jobs outs logs complete is its_outs its_logs changes same own = (
+ours_go_on flow first image later lists targets jobs outs logs complete is its_outs its_logs changes same own gone = (
   sources_now flow first image later lists targets jobs outs logs complete is its_outs its_logs changes same,
   record {
     notes = note_now flow first image later lists targets jobs outs logs complete is its_outs its_logs changes same own;
     signs = sign_now flow first image later lists targets jobs outs logs complete is its_outs its_logs changes same own;
+  },
+  record {
+    notes = note_then flow first image later lists targets jobs outs logs complete is its_outs its_logs changes same gone;
+    signs = sign_then flow first image later lists targets jobs outs logs complete is its_outs its_logs changes same gone;
   },
 )

@@ -217,10 +217,10 @@ module _
       (output_spot jobs.jobs its.job p its.member its.is_output)
   its_spot q (inr never) = absurd never
 
-  still : SameSources first later × HasOwnSigns first later jobs.jobs
+  still : SameSources first later × HasOwnSigns first later jobs.jobs × HasOwnSigns later first jobs.jobs
   still =
       ours_go_on rules.flow first image later jobs.lists rules.settings.targets jobs.jobs (p ∷ []) [] complete from.derived its_spot (λ q i. absurd i)
-      changes ours.sources ours.signs
+      changes ours.sources ours.signs ours.gone
 
   signed_now : (c : Child) → IsIn v.children c → IsSigned later c.recipe c.logs
   signed_now c i =
@@ -235,5 +235,5 @@ module _
         is_output = in_among (out_paths its.job.recipe) p its.is_output;
         differs = differs;
         output = record { hidden = record { kept = kept_same p; nothing = nothing_seen later p gone_node }; marked = marked_same p };
-        ours = record { sources = still.0; signs = still.1; signed = signed_now };
+        ours = record { sources = still.0; signs = still.1; gone = still.2; signed = signed_now };
       }

@@ -1,7 +1,6 @@
 -- The children that run are those of jobs of the plan that have begun.
-use Rattle.std.proofs.Common.{◌≡◌, ◌⊎◌, inl, inr, ℕ, zero, suc, true, List, [], ◌∷◌, refl, ap, sym, subst, ◌∙◌, Option, Some, None}
+use Rattle.std.proofs.Common.{◌≡◌, ◌⊎◌, inl, inr, true, List, [], ◌∷◌, refl, ap, sym, subst, ◌∙◌, Option, Some, None}
 use Rattle.std.specs.Prelude.{bytes_eq}
-use Rattle.std.specs.List.{slice_get}
 use lib.Pointwise.{pointwise}
 use Rattle.smk_base.specs.Path.{is_path}
 use Rattle.smk_base.proofs.Places.{place_itself}

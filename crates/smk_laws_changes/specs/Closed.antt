@@ -59,7 +59,7 @@ module _ (rules : Rules) (entry : World) (h : Parts) (s : Stand) (w : World) (be
       IsTended (guards_of j how) (Ok tt) tending →
       Follows act w ((wait_event ended left ∷ closing) ++ tending) →
       IsClosedFor rules entry h s w (run w ((wait_event ended left ∷ closing) ++ tending)) (out_paths going.recipe)
-      × IsGuardedSince rules h.live.base.jobs.jobs j
+      × IsGuardedSince rules j
       (run w (wait_event ended left ∷ closing)) (run w ((wait_event ended left ∷ closing) ++ tending))
 
   -- A child was waited for, and then its job's outputs were looked at alone: the marks stay.

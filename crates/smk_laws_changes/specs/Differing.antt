@@ -36,7 +36,7 @@ pub record ChangesAt (image later : Image) (outs logs : List Path) : Type 0 wher
   pub logged : (p : Path) → IsIn logs p → IsKnownOrGone later p
 
 -- So, where these are outputs and logs of jobs that were derived, the folder has the sources that the run found, as before, and of records, marks and notes
--- just those have come that are of those jobs.
+-- just those have come, and gone, that are of those jobs.
 abbrev pub OursGoOn : Type 0
 OursGoOn =
     (flow : Flow) (first image later : Image) (lists : Listings) (targets : List Path) (jobs : List Job) (outs logs : List Path) →
@@ -45,7 +45,8 @@ OursGoOn =
     ((p : Path) → IsIn outs p → IsIn (flat_map spots jobs) (p, true)) →
     ((p : Path) → IsIn logs p → IsIn (flat_map spots jobs) (p, false)) →
     ChangesAt image later outs logs →
-    SameSources first image → HasOwnSigns first image jobs → SameSources first later × HasOwnSigns first later jobs
+    SameSources first image →
+    HasOwnSigns first image jobs → HasOwnSigns image first jobs → SameSources first later × HasOwnSigns first later jobs × HasOwnSigns later first jobs
 
 -- ## The differences
 

@@ -1,5 +1,5 @@
 -- What faults make of why no job begins any more.
-use Rattle.std.proofs.Common.{◌≡◌, Bool, true, false, ◌||◌, refl, sym, ap, subst, ◌∙◌, Option, Some, None, Result, Ok, Err}
+use Rattle.std.proofs.Common.{◌≡◌, Bool, true, false, ◌||◌, refl, sym, ap, subst, ◌∙◌, inl, inr, Option, Some, None, Result, Ok, Err}
 use Rattle.std.proofs.Math.Bool.{or-false, or_assoc}
 use Rattle.smk_report.specs.declared.fault.Fault.{Fault}
 use Rattle.smk_report.specs.declared.fault.Fault.TheVariants as fault
@@ -9,6 +9,7 @@ use Rattle.smk_drive_step.specs.declared.halt.Halt.{Halt}
 use Rattle.smk_drive_step.specs.Crews.{halted_by, is_device, or_later}
 use Rattle.smk_laws_turns.specs.Hubs.{Parts}
 use Rattle.smk_drive_hub.specs.Keeping.{heeded}
+use Rattle.smk_laws_growing.specs.GrownIn.{IsHaltedOnce}
 use Rattle.smk_laws_closes.specs.Turns.{IsHaltedOn}
 
 pub device_is : (f : Fault) → reports.is_device f ≡ true → f ≡ fault.Device
@@ -65,3 +66,8 @@ on_then a b c f g x y =
 pub on_answer : (a : Result (Unit {0}) Fault) (h : Parts) → IsHaltedOn h.halt (heeded a h).halt (device_failed a)
 on_answer (Ok u) h = on_same h.halt
 on_answer (Err f) h = subst (IsHaltedOn h.halt (halted_by f h.halt)) (sym (same_device f)) (on_fault f h.halt)
+
+-- the same where a fault came at most once
+pub on_once : (a b : Halt) (f : Bool) → IsHaltedOnce a b f → IsHaltedOn a b f
+on_once a b f (inl h) = subst (λ x. IsHaltedOn a x f) (sym h.1) (subst (IsHaltedOn a a) (sym h.0) (on_same a))
+on_once a b f (inr h) = subst (λ x. IsHaltedOn a x f) (sym h.3) (subst (IsHaltedOn a (halted_by h.0 a)) h.1 (on_fault h.0 a))

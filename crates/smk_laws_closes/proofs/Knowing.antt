@@ -31,7 +31,7 @@ use Rattle.smk_drive_course.specs.Steps.{guards_of}
 use Rattle.smk_drive_outcome.specs.declared.outcome.Outcome.{Outcome}
 use Rattle.smk_drive_step.specs.Crews.{is_device}
 use Rattle.smk_drive_step.specs.Telling.{HasGuarded, keep_fault}
-use Rattle.smk_laws_rest.specs.Resting.{IsAnswerOf, IsTold}
+use Rattle.smk_laws_rest.specs.Resting.{IsReplyOf, IsTold}
 use Rattle.smk_laws_turns.specs.Hubs.{Parts}
 use Rattle.smk_laws_closes.specs.Closes.{GuardFails, HasTended, IsUnguarded, Learns, WasHalted}
 use Rattle.smk_laws_closes.specs.Learning.{HasLearnt, HasLearntOf, IsOutcomeIn, IsSamePlan, IsToldOf, LookFails, LooksShort, closed_base}
@@ -88,7 +88,7 @@ module _ (act : Act) (flow : Flow) (settings : Settings) (number : ℕ) (old : L
   pub learnt_told :
       (new : LivePlan) (job : Job) (o : Outcome) (answer : Result (Unit {0}) Fault) (a b : Device) →
       slice_get old.base.jobs.jobs number ≡ Some job → HasLooked act a b false → WhereTold a (IsOutcomeIn job o) →
-      (old.settings ≡ settings → IsAnswerOf flow settings (closed_base number o old.base) new answer) →
+      (old.settings ≡ settings → IsReplyOf flow settings (closed_base number o old.base) new answer) →
       IfErr answer (λ f. (is_device f ≡ false) × (f ≢ fault.Output)) → HasActed act (Learnt new answer) a b (device_failed answer)
   learnt_told new job o answer a b is looked told answers quiet =
       acted_as act (λ w es. AreLooks false es × IsOutcomeIn job o w) (Learnt new answer) a b false (device_failed answer) (sym (quiet_answer answer quiet))

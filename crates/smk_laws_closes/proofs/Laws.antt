@@ -1,8 +1,9 @@
 -- Laws of other crates that are taken for granted here.
-use Rattle.smk_laws_turns.specs.Turning.{OfParts}
+use Rattle.smk_laws_turns.specs.Turning.{GrowingLeads, OfParts}
 use Rattle.smk_laws_rest.specs.Resting.{AnyIsReplanned, RestGoesBy}
 use Rattle.smk_laws_changes.specs.Closed.{CloseDiffers, LeftOurs, TendDiffers}
 use Rattle.smk_laws_changes.specs.Guarded.{PlanBeforeGuarding}
+use Rattle.smk_laws_growing.specs.Onward.{GrowthGoesOn}
 
 pub record Laws : Type 0 where
   pub rest_goes_by : RestGoesBy
@@ -11,3 +12,5 @@ pub record Laws : Type 0 where
   pub tend_differs : OfParts TendDiffers
   pub left_ours : OfParts LeftOurs
   pub plan_before_guarding : PlanBeforeGuarding
+  pub growth_goes_on : GrowthGoesOn
+  pub growing_leads : OfParts GrowingLeads

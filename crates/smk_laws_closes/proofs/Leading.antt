@@ -45,7 +45,7 @@ told_of x = Closed x.job (told_end x.how) ∷ []
 abbrev pub all_events : Closing → List Event → List Event
 all_events x tending = (wait x ∷ x.closing) ++ tending
 
-no_fault : {A : Type 0} (o : Option Fault) (f : Fault) → first_fault o f ≡ None → A
+pub no_fault : {A : Type 0} (o : Option Fault) (f : Fault) → first_fault o f ≡ None → A
 no_fault None f h = absurd (never h)
   where
     never : Some f ≡ None → ⊥
@@ -55,7 +55,7 @@ no_fault (Some g) f h = absurd (never h)
     never : Some g ≡ None → ⊥
     never e = cc
 
-first_is : (a b : Option Fault) (f : Fault) → a ≡ b → Some (or_later a f) ≡ first_fault b f
+pub first_is : (a b : Option Fault) (f : Fault) → a ≡ b → Some (or_later a f) ≡ first_fault b f
 first_is None b f e = ap (λ o. first_fault o f) e
 first_is (Some g) b f e = ap (λ o. first_fault o f) e
 

@@ -8,9 +8,12 @@ pub mod Laws
 pub mod Basis
 pub mod Tended
 pub mod Counting
+pub mod Bridged
 pub mod Told
+pub mod Onward
 pub mod Next
 pub mod Leading
+pub mod Grown
 pub mod Answered
 pub mod Turns
 pub mod Halts

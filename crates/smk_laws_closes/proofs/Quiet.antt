@@ -1,11 +1,13 @@
 -- What is done once a child has ended starts none and waits for none.
-use Rattle.std.proofs.Common.{ℕ, List, [], ◌∷◌, ◌++◌, refl, sym, subst, Result, Ok, Err, append-nil}
+use Rattle.std.proofs.Common.{ℕ, Bool, true, false, List, [], ◌∷◌, ◌++◌, refl, sym, subst, Result, Ok, Err, append-nil}
 use Rattle.smk_world.specs.declared.event.Call.{Call}
 use Rattle.smk_world.specs.declared.event.Call.TheVariants.{Created, Looked, MadeParents, Protected, ReadFile, ReadFolder, Removed, Settled, Started, Waited, Written}
 use Rattle.smk_world.specs.declared.event.Event.{Event}
 use Rattle.smk_world.specs.declared.event.WorkFault.TheVariants as work
 use Rattle.smk_world.specs.Requests.{request}
-use Rattle.smk_world.specs.World.{World, after}
+use Rattle.smk_world.specs.World.{World, after, run}
+use Rattle.smk_world.specs.Devices.{AreLooks}
+use Rattle.smk_world.proofs.Devices.{looks_append}
 use Rattle.smk_world.specs.Trees.{Act}
 use Rattle.smk_flow.specs.Flows.{Flow}
 use Rattle.smk_flow.specs.declared.job.Job.{Job}
@@ -18,9 +20,11 @@ use Rattle.smk_run.specs.Statuses.{AreGiven, IsGiven}
 use Rattle.smk_run.proofs.Calls.{EachCall, settled_each}
 use Rattle.smk_drive_step.specs.declared.children.Child.{Child}
 use Rattle.smk_drive_course.specs.Steps.{Deed, GuardingFails, HasGuarded, LooksFail, Tended, guards_of}
-use Rattle.smk_laws_moments.proofs.QuietCalls.{IsQuiet, calls_more, closing_quiet, tended_quiet}
+use Rattle.smk_laws_moments.proofs.QuietCalls.{IsQuiet, calls_more, closing_quiet, looks_quiet, tended_quiet}
 use Rattle.smk_laws_turns.specs.Hubs.{Parts}
 use Rattle.smk_laws_closes.specs.Closes.{GuardFails, HasClosedFor, HasTended, IsCut, IsDone, IsLeft, IsNone, IsUnguarded, Learns, WasHalted}
+use Rattle.smk_laws_growing.specs.Growing.{Grows, HasGrownOn, IsBarred, IsRefused, IsWhole, LacksMemory}
+use Rattle.smk_laws_growing.specs.Growing as growing
 use Rattle.smk_laws_closes.specs.Learning.{HasLearnt, IsToldOf, LookFails, LooksShort}
 
 pub quiet_is_given : (act : Act) (A : Type 0) (w : World) (es : List Event) → EachCall IsQuiet es → AreGiven act A w es
@@ -70,3 +74,17 @@ closed_quiet flow settings h c status w es k deeds (IsDone k1 deeds1 d) =
     (calls_more d.closing d.tending (settled_each IsQuiet c.going (closing_quiet c.going) (Ok d.how) status w d.closing d.closed)
     (tending_quiet flow settings c.job d.job d.how d.noted _ d.new d.outcome d.tending d.tended))
 closed_quiet flow settings h c status w es k deeds (IsNone k1 deeds1 none quiet) = quiet
+
+-- as the plan grows the folder is looked at
+grown_looks :
+    (flow : Flow) (settings : Settings) (w : World) (h k : Parts) (es : List Event) → HasGrownOn flow settings w h k es → (failed : Bool) × AreLooks failed es
+grown_looks flow settings w h k es (IsWhole w1 h1 unrefused whole) = (false, refl)
+grown_looks flow settings w h k es (Grows w1 h1 m k1 looks more unrefused some looked by rest) =
+    let later = grown_looks flow settings (run w1 looks) m k1 more rest in (later.0, looks_append later.0 looks more looked later.1)
+grown_looks flow settings w h k es (IsRefused w1 h1 f looks other unrefused some looked by) = (false, looked)
+grown_looks flow settings w h k es (IsBarred w1 h1 f other refused) = (false, refl)
+grown_looks flow settings w h k es (growing.LookFails w1 h1 looks looked) = (true, looked)
+grown_looks flow settings w h k es (LacksMemory w1 h1 looks looked) = (false, looked)
+
+pub grown_quiet : (flow : Flow) (settings : Settings) (w : World) (h k : Parts) (es : List Event) → HasGrownOn flow settings w h k es → EachCall IsQuiet es
+grown_quiet flow settings w h k es grown = let looks = grown_looks flow settings w h k es grown in looks_quiet looks.0 es looks.1

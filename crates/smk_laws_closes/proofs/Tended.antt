@@ -56,7 +56,7 @@ module _ (l : Laws) (x : Closing) (guarding looks : List Event) (guards : HasGua
   pub tended_by : IsTended (guards_of x.job x.how) (Ok tt) (guarding ++ looks)
   tended_by = Tended guarding looks guards quiet
 
-  both : IsClosedFor x.rules x.entry x.h x.s x.w tended_world (out_paths x.c.going.recipe) × IsGuardedSince x.rules (jobs x) x.job (closed_world x) tended_world
+  both : IsClosedFor x.rules x.entry x.h x.s x.w tended_world (out_paths x.c.going.recipe) × IsGuardedSince x.rules x.job (closed_world x) tended_world
   both =
       l.tend_differs x.rules x.entry x.h x.s x.w x.before x.deeds x.act x.c.going x.ended x.left x.closing (guarding ++ looks) x.how x.job x.at x.owners x.reads
       x.unbroken (waited x) (of_plan x) (recipe x) x.closed tended_by follows
@@ -64,19 +64,19 @@ module _ (l : Laws) (x : Closing) (guarding looks : List Event) (guards : HasGua
   pub closed_for : IsClosedFor x.rules x.entry x.h x.s x.w tended_world (out_paths x.c.going.recipe)
   closed_for = both.0
 
-  pub guarded_since : IsGuardedSince x.rules (jobs x) x.job (closed_world x) tended_world
+  pub guarded_since : IsGuardedSince x.rules x.job (closed_world x) tended_world
   guarded_since = both.1
 
   pub tended_home : IsHome x.entry tended_world
   tended_home = home_stays x.act x.entry x.w ((wait x ∷ x.closing) ++ (guarding ++ looks)) follows x.at.home
 
-  world_is : tended_world ≡ run guarded_world looks
+  pub world_is : tended_world ≡ run guarded_world looks
   world_is = run_more x.w (wait x ∷ x.closing) (guarding ++ looks) ∙ run_more (closed_world x) guarding looks
 
   later : Follows x.act guarded_world looks
   later = (followed x.act (closed_world x) guarding looks (followed x.act x.w (wait x ∷ x.closing) (guarding ++ looks) follows).1).1
 
-  looked : IsLookedAt guarded_world (run guarded_world looks)
+  pub looked : IsLookedAt guarded_world (run guarded_world looks)
   looked = looks_leave_all x.act false guarded_world looks quiet later
 
   pub tended_children : tended_world.children ≡ (ended_world x).children

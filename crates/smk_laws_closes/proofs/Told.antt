@@ -1,15 +1,16 @@
--- The plan that is kept was told of the end of a job: it agrees with the folder, and the run goes by its answer.
-use Rattle.std.proofs.Common.{◌≡◌, ◌⊎◌, true, false, List, [], ◌∷◌, ◌++◌, map, refl, sym, ap, subst, ◌∙◌, inl, inr, Some, None, Result, Ok, Err, is_some, option_map}
+-- The plan that is kept was told of the end of a job: it agrees with the folder; and the run goes by what was refused, if something was.
+use Rattle.std.proofs.lemmas.Option.{same_Some}
+use Rattle.std.proofs.Common.{◌≡◌, ◌⊎◌, true, false, List, [], ◌∷◌, ◌++◌, map, refl, sym, ap, subst, ◌∙◌, inl, inr, Some, None, Err, is_some, option_map}
 use Rattle.smk_world.specs.declared.event.Event.{Event}
 use Rattle.smk_world.specs.Devices.{AreLooks}
 use Rattle.smk_world.specs.Runs.{Follows}
-use Rattle.smk_world.specs.Trees.{IsIn, Path, among, first}
+use Rattle.smk_world.specs.Trees.{Path, among, first}
 use Rattle.smk_world.specs.World.{World, out_paths}
 use Rattle.smk_flow.specs.declared.job.Job.{Job}
 use Rattle.smk_flow.specs.Flows.{Flow}
 use Rattle.smk_pick.specs.declared.settings.Settings.{Settings}
-use Rattle.smk_chain.specs.declared.jobs.Jobs.{Jobs}
-use Rattle.smk_plan.specs.States.{Plan, job_path}
+use Rattle.smk_chain.specs.Derive.{Listings}
+use Rattle.smk_plan.specs.States.{Plan}
 use Rattle.smk_plan_live.specs.declared.base.Base.{Base}
 use Rattle.smk_plan_live.specs.declared.live.LivePlan.{LivePlan}
 use Rattle.smk_plan_live.specs.Carried.{has_name}
@@ -17,30 +18,27 @@ use Rattle.smk_plan_live.specs.Lives.{IsAgreed, progress_of}
 use Rattle.smk_plan_live.specs.Phases.{has_begun}
 use Rattle.smk_report.specs.declared.fault.Fault.{Fault}
 use Rattle.smk_report.specs.declared.fault.Fault.TheVariants as fault
-use Rattle.smk_drive.specs.Moments.{Begun, seen}
+use Rattle.smk_drive.specs.Moments.{seen}
 use Rattle.smk_drive.specs.Moments as moments
+use Rattle.smk_drive.specs.Refusals.{ChainRefuses, PlanRefuses}
 use Rattle.smk_drive_outcome.specs.declared.outcome.Outcome.{Outcome}
 use Rattle.smk_drive_pick.specs.Picking.{AreAlike}
 use Rattle.smk_drive_course.specs.Stands.{GoesBy, IsReplanned, lists}
 use Rattle.smk_drive_course.specs.Steps.{HasGuarded, guards_of}
 use Rattle.smk_drive_first.specs.Opening.{AreRules}
-use Rattle.smk_laws_protocol.proofs.Basics.{in_here}
 use Rattle.smk_laws_folder.specs.Changing.{DiffersAt}
 use Rattle.smk_laws_folder.specs.Progressing.{IsAlike, IsEnded}
 use Rattle.smk_laws_folder.proofs.Agreeing.{close_agrees}
 use Rattle.smk_laws_folder.proofs.Progressing.{closes_alike}
-use Rattle.smk_laws_turns.specs.Hubs.{IsKept, plan_of}
-use Rattle.smk_laws_rest.specs.Resting as rest
-use Rattle.smk_laws_rest.specs.Resting.{HasGoneBy, IsAnswerOf, IsResting, fault_of}
-use Rattle.smk_laws_changes.specs.Guarded.{IsFirstRefused}
+use Rattle.smk_laws_turns.specs.Hubs.{IsKept}
+use Rattle.smk_laws_rest.specs.Resting.{HasGoneBy, IsFirstRefused, IsReplyOf, IsResting}
 use Rattle.smk_laws_closes.specs.Endings.{told_end}
-use Rattle.smk_laws_closes.specs.Learning.{IsOutcomeIn, IsSamePlan, closed_base}
-use Rattle.smk_laws_closes.proofs.Around.{with_end}
+use Rattle.smk_laws_closes.specs.Learning.{IsOutcomeIn, closed_base}
+use Rattle.smk_laws_closes.proofs.Bridged.{bridged, listed}
 use Rattle.smk_laws_closes.proofs.Basis.{Closing, begun_job, child_in, closed_world, its_begun, makes, recipe, wait, without}
-use Rattle.smk_laws_closes.proofs.Counting.{answered_ill}
 use Rattle.smk_laws_closes.proofs.Laws.{Laws}
 use Rattle.smk_laws_closes.proofs.Progress.{ends_progress}
-use Rattle.smk_laws_closes.proofs.Tended.{at_rest, closed_for, derived_now, guarded_since, guarded_world, outcomes, split, tended_home, tended_world}
+use Rattle.smk_laws_closes.proofs.Tended.{at_rest, closed_for, derived_now, guarded_world, outcomes, split, tended_home, tended_world}
 
 -- a job with an output has a name
 named_by : (ps : List Path) → ¬ (ps ≡ []) → is_some (first ps) ≡ true
@@ -48,10 +46,8 @@ named_by [] some = absurd (some refl)
 named_by (p ∷ ps) some = refl
 
 module _ (l : Laws) (x : Closing) (guarding looks : List Event) (guards : HasGuarded (guards_of x.job x.how) guarding) (quiet : AreLooks false looks)
-    (follows : Follows x.act x.w ((wait x ∷ x.closing) ++ (guarding ++ looks))) (unhalted : x.s.halted ≡ None) (flow : Flow) (settings : Settings)
-    (by : AreRules flow settings x.rules) (new : LivePlan) (o : Outcome) (answer : Result (Unit {0}) Fault) (same : IsSamePlan x.h.live new)
-    (outcome : IsOutcomeIn x.job o (guarded_world l x guarding looks guards quiet follows))
-    (answers : IsAnswerOf flow settings (closed_base x.c.job o x.h.live.base) new answer) where
+    (follows : Follows x.act x.w ((wait x ∷ x.closing) ++ (guarding ++ looks))) (unhalted : x.s.halted ≡ None) (o : Outcome)
+    (outcome : IsOutcomeIn x.job o (guarded_world l x guarding looks guards quiet follows)) where
   abbrev now : World
   now = tended_world l x guarding looks guards quiet follows
 
@@ -87,51 +83,44 @@ module _ (l : Laws) (x : Closing) (guarding looks : List Event) (guards : HasGua
   pub progressed_now : AreAlike (moments.progress_of now (without x).begun) (progress_of base)
   progressed_now = record { begun = alike_now.begun; running = alike_now.running }
 
-  pub listed : lists (without x) ≡ x.h.live.base.jobs.lists
-  listed = ap (λ p. moments.lists_of p x.s.from) kept.plan
-
   resting : IsResting x.rules now (without x) base
   resting =
       record {
         formed = (tended_home l x guarding looks guards quiet follows).formed;
         unhalted = unhalted;
         at_rest = at_rest l x guarding looks guards quiet follows unhalted;
-        listed = listed;
+        listed = listed l x guarding looks guards quiet follows unhalted;
         agrees = agrees_now;
         progressed = progressed_now;
         derived = derived_now l x guarding looks guards quiet follows;
       }
 
-  pub gone : HasGoneBy x.rules x.entry now (without x) events_now base new answer
-  gone = l.rest_goes_by x.rules x.entry now (without x) events_now flow settings base new answer by resting answers
+  -- ## This is refused, or memory was wanting
 
-  -- its job, with its end
-  abbrev ended_begun : Begun
-  ended_begun = with_end (its_begun x) (told_end x.how)
+  module _ (flow : Flow) (settings : Settings) (by : AreRules flow settings x.rules) (new : LivePlan) (f : Fault)
+      (answers : IsReplyOf flow settings (closed_base x.c.job o x.h.live.base) new (Err f)) where
+    pub gone : HasGoneBy x.rules x.entry now (without x) events_now base new (Err f)
+    gone = l.rest_goes_by x.rules x.entry now (without x) events_now flow settings base new (Err f) by resting answers
 
-  ended_in : IsIn (without x).begun ended_begun
-  ended_in =
-      let s = split l x guarding looks guards quiet follows unhalted in
-      subst (λ bs. IsIn bs ended_begun) (sym s.are) (in_here s.front s.back ended_begun)
+    planned_by : gone.to.halted ≡ None → (plan : Plan) × (gone.to.plan ≡ Some plan)
+    planned_by none = absurd (never (sym gone.halted ∙ none))
+      where
+        never : Some f ≡ None → ⊥
+        never h = cc
 
-  planned_by : (a : Result (Unit {0}) Fault) → answer ≡ a → gone.to.halted ≡ None → (plan : Plan) × (gone.to.plan ≡ Some plan) × (plan.lists ≡ lists (without x))
-  planned_by (Ok u) e none = (plan_of new, gone.plan e, ap (λ (b : Jobs). b.lists) same.jobs_stay ∙ sym listed)
-  planned_by (Err f) e none = absurd (never (sym (gone.halted ∙ ap fault_of e) ∙ none))
-    where
-      never : Some f ≡ None → ⊥
-      never h = cc
+    refused_by :
+        (g : Fault) → gone.to.halted ≡ Some g →
+        (g ≡ fault.OutOfMemory) ⊎ ChainRefuses x.rules (seen x.rules now) (moments.progress_of now (without x).begun) (lists (without x)) g
+    refused_by g halted = go (gone.refused g (ap Err (same_Some f g (sym gone.halted ∙ halted))))
+      where
+        go : (g ≡ fault.OutOfMemory) ⊎ IsFirstRefused x.rules now (without x).begun base.jobs g →
+            (g ≡ fault.OutOfMemory) ⊎ ChainRefuses x.rules (seen x.rules now) (moments.progress_of now (without x).begun) (lists (without x)) g
+        go (inl e) = inl e
+        go (inr r) =
+            inr
+            (subst (λ (ls : Listings). ChainRefuses x.rules (seen x.rules now) (moments.progress_of now (without x).begun) ls g)
+            (r.lists ∙ sym (listed l x guarding looks guards quiet follows unhalted)) (PlanRefuses r.plan g r.rest r.is r.first))
 
-  refused_by : (f : Fault) → gone.to.halted ≡ Some f → (f ≡ fault.OutOfMemory) ⊎ IsFirstRefused x.rules now (without x).begun x.h.live.base.jobs f
-  refused_by f halted = go (gone.refused f (answered_ill answer f (sym gone.halted ∙ halted)))
-    where
-      go : (f ≡ fault.OutOfMemory) ⊎ rest.IsFirstRefused x.rules now (without x).begun base.jobs f →
-          (f ≡ fault.OutOfMemory) ⊎ IsFirstRefused x.rules now (without x).begun x.h.live.base.jobs f
-      go (inl e) = inl e
-      go (inr r) = inr (record { plan = r.plan; lists = r.lists; is = r.is; rest = r.rest; first = r.first })
-
-  -- so it is right after the closing, too
-  pub bridged : IsReplanned x.rules (without x) (closed_world x) gone.next × GoesBy x.rules x.entry gone.next (closed_world x) (x.before ++ wait x ∷ x.closing) gone.to
-  bridged =
-      l.plan_before_guarding x.rules x.entry (closed_world x) now x.h.live.base.jobs x.job ended_begun (without x) gone.next gone.to
-      (x.before ++ wait x ∷ x.closing) events_now (guarded_since l x guarding looks guards quiet follows) ended_in (ap job_path (begun_job x)) unhalted listed
-      (derived_now l x guarding looks guards quiet follows) gone.replanned gone.goes_by (planned_by answer refl) refused_by
+    -- so it is right after the closing, too
+    pub refused_then : IsReplanned x.rules (without x) (closed_world x) gone.next × GoesBy x.rules x.entry gone.next (closed_world x) (x.before ++ wait x ∷ x.closing) gone.to
+    refused_then = bridged l x guarding looks guards quiet follows unhalted gone.next gone.to gone.replanned gone.goes_by planned_by refused_by

@@ -1,8 +1,8 @@
 -- What a turn did that waited for a child.
-use Rattle.std.proofs.Common.{◌≡◌, ◌≢◌, ◌⊎◌, ℕ, true, false, List, [], ◌∷◌, ◌++◌, map, refl, arith, sym, ap, subst, ◌∙◌, inl, inr, Option, Some, None, Ok, Err}
-use Rattle.std.proofs.Math.Bool.{or-false}
+use Rattle.std.proofs.Common.{◌≡◌, ◌≢◌, ◌⊎◌, ℕ, Bool, true, false, ◌||◌, nat_eq, List, [], ◌∷◌, ◌++◌, map, refl, arith, sym, ap, subst, ◌∙◌, inl, inr, Option, Some, None, Ok, Err}
+use Rattle.std.proofs.Math.Bool.{or-false, or-true}
 use Rattle.std.specs.Prelude.{Contains, is_none}
-use Rattle.std.specs.List.{list_all, slice_get}
+use Rattle.std.specs.List.{IsDistinct, list_all, slice_get}
 use Rattle.smk_base.specs.declared.tree.Amount.{Amount}
 use Rattle.smk_base.specs.declared.tree.Tree.{Tree}
 use Rattle.smk_world.specs.declared.event.Call.TheVariants.{Waited}
@@ -12,10 +12,11 @@ use Rattle.smk_world.specs.declared.event.Ended.{Ended}
 use Rattle.smk_world.specs.declared.event.Event.{Event}
 use Rattle.smk_world.specs.declared.event.Failed.{Failed}
 use Rattle.smk_world.specs.Calls.{ContentsAre, Happens, HasOwners, Rose}
-use Rattle.smk_world.specs.Devices.{Device, HasCalled, Sunk, WhereTold}
+use Rattle.smk_world.specs.Devices.{Device, HasActed, HasCalled, Sunk, WhereTold}
 use Rattle.smk_world.specs.Runs.{Did, Follows}
 use Rattle.smk_world.specs.Trees.{Act, IsIn}
-use Rattle.smk_world.specs.World.{after, child_numbered, run}
+use Rattle.smk_world.specs.World.{World, after, child_numbered, run}
+use Rattle.smk_world.proofs.Devices.{acted_then}
 use Rattle.smk_flow.specs.Flows.{Flow}
 use Rattle.smk_pick.specs.declared.room.Ask.{Ask}
 use Rattle.smk_pick.specs.declared.room.Room.{Room}
@@ -25,6 +26,7 @@ use Rattle.smk_report.specs.declared.fault.Fault.{Fault}
 use Rattle.smk_report.specs.declared.fault.Fault.TheVariants as fault
 use Rattle.smk_run.specs.Closings.{wait_event}
 use Rattle.smk_run.specs.Statuses.{HasGiven}
+use Rattle.smk_run.proofs.Calls.{EachCall}
 use Rattle.smk_run.proofs.Honest.{given_then, unwaited_given}
 use Rattle.smk_run.proofs.Rising.{rose_earlier}
 use Rattle.smk_run.proofs.Texts.{reported_as, reported_nothing}
@@ -33,24 +35,28 @@ use Rattle.smk_drive_step.specs.declared.children.Child.{Child}
 use Rattle.smk_drive_step.specs.Crews.{IsPutFor, goings, or_later}
 use Rattle.smk_job.specs.Jobs.{Underway}
 use Rattle.smk_drive_course.specs.Stands.{NoneLeft}
+use Rattle.smk_drive_course.specs.Steps.{Deed}
+use Rattle.smk_laws_moments.proofs.QuietCalls.{IsQuiet, calls_more}
 use Rattle.smk_laws_protocol.proofs.Basics.{in_here, in_rest, in_split}
 use Rattle.smk_laws_turns.specs.Hubs.{Parts, asks_in}
 use Rattle.smk_laws_turns.specs.Turning.{faulted}
 use Rattle.smk_laws_turns.proofs.Turning.{failed_wait_leads}
 use Rattle.smk_laws_changes.proofs.Homes.{home_stays}
-use Rattle.smk_drive_hub.specs.Turned.{AreSeated, HasFailedWait, HasTurned, IsSteady, LeadOn, TellsOn, WhereUnhalted}
+use Rattle.smk_laws_growing.specs.Growing.{HasGrownOn}
+use Rattle.smk_laws_growing.specs.GrownIn.{HasGrownIn, HaveLines, IsHaltedOnce}
+use Rattle.smk_drive_hub.specs.Turned.{AreSeated, IsBarelyMore, HasFailedWait, HasTurned, IsSteady, LeadOn, TellsOn, WhereUnhalted}
 use Rattle.smk_laws_closes.specs.Closes.{HasClosedFor, taken}
-use Rattle.smk_laws_closes.specs.Turns.{HasFollowed, TellsEnd}
+use Rattle.smk_laws_closes.specs.Turns.{HasFollowed, IsHaltedOn, TellsEnd}
 use Rattle.smk_report.specs.Lines.{Text}
 use Rattle.smk_laws_closes.proofs.Counting.{asks_are, asks_were}
 use Rattle.smk_laws_closes.proofs.EndLines.{tells_nothing}
-use Rattle.smk_laws_closes.proofs.Halts.{on_fault}
+use Rattle.smk_laws_closes.proofs.Halts.{on_fault, on_once}
 use Rattle.smk_laws_closes.proofs.Laws.{Laws}
-use Rattle.smk_laws_closes.proofs.Quiet.{closed_quiet, quiet_is_given}
+use Rattle.smk_laws_closes.proofs.Quiet.{closed_quiet, grown_quiet, quiet_is_given}
 use Rattle.smk_laws_closes.proofs.Seats.{none_in, only, seated_less}
 use Rattle.std.proofs.lemmas.List.Elements.{Contains-append_cases}
 use Rattle.smk_chain.specs.declared.jobs.Jobs.{Jobs}
-use Rattle.smk_laws_closes.proofs.Turns.{closed_leads, one_step, waited_leads}
+use Rattle.smk_laws_closes.proofs.Turns.{closed_leads, grown_on, one_step, waited_leads}
 
 never : {A : Type 0} → true ≡ false → A
 never h = absurd (go h)
@@ -102,7 +108,8 @@ module _ (flow : Flow) (settings : Settings) (h : Parts) (c : Child) (places : L
   module _ (l : Laws) (act : Act) (ended : Ended) (a b : Device) (owners : WhereTold a HasOwners) (steady : IsSteady flow settings h)
       (none_left : WhereTold a (WhereUnhalted NoneLeft flow settings h)) (number : ended.number ≡ c.going.number) (called : HasCalled act a b (Waited (Ok ended)))
       (other : IsOtherStatus act a b ended) (whole : h.halt.only_waits ≡ false) where
-    module _ (k : Parts) (d : Device) (p q : Sunk) (f : HasFollowed act flow settings (taken h places room) k c ended.status b d p q) where
+    module _ (k : Parts) (d : Device) (p q : Sunk) (f : HasFollowed act flow settings (taken h places room) k c ended.status b d p q)
+        (came : k.halt.fault ≢ None) where
       led : Did act a.world d.world (λ w es. LeadOn flow settings h k f.deeds w es × (false ≡ true → HasFailedWait es))
       led w1 e =
           let x = f.acted.did w1 e in
@@ -117,7 +124,7 @@ module _ (flow : Flow) (settings : Settings) (h : Parts) (c : Child) (places : L
               follows,
               (
                 closed_leads l act flow settings h c places room ended left w0 x.2.0 k f.deeds whole put (room_holds steady) (none_left w0 t.1) number (owners w0 t.1)
-                    (subst (λ v. HasClosedFor flow settings (taken h places room) c ended.status v x.2.0 k f.deeds) t.2.2 x.2.2) follows,
+                    (subst (λ v. HasClosedFor flow settings (taken h places room) c ended.status v x.2.0 k f.deeds) t.2.2 x.2.2) came follows,
                 λ e. never (sym e),
               ),
               x.2.3 ∙ ap (λ v. run v x.2.0) t.2.2,
@@ -169,6 +176,160 @@ module _ (flow : Flow) (settings : Settings) (h : Parts) (c : Child) (places : L
             outputs = f.outputs;
             text = reported_as (TellsEnd flow (taken h places room) k c f.deeds) (TellsOn flow h k f.deeds) p q f.lost f.lost refl tells_from f.text;
           }
+
+    -- ### and no fault has come, and the plan has grown
+
+    -- the closing, and then the looks by which the plan grew
+    record HasClosedAndGrown (m k : Parts) (deeds : List Deed) (v : World) (es : List Event) : Type 0 where
+      closing : List Event
+      looks : List Event
+      are : es ≡ closing ++ looks
+      closed : HasClosedFor flow settings (taken h places room) c ended.status v closing m deeds
+      grown : HasGrownOn flow settings (run v closing) m k looks
+
+    module _ (m k : Parts) (d z : Device) (p q : Sunk) (f : HasFollowed act flow settings (taken h places room) m c ended.status b d p q) (none : m.halt.fault ≡ None)
+        (g : HasGrownIn act flow settings m k d z) where
+      -- no call of the device failed as the job was closed
+      unfailed : f.failure ≡ false
+      unfailed = go f.failure refl
+        where
+          go : (x : Bool) → f.failure ≡ x → x ≡ false
+          go false e = refl
+          go true e =
+              absurd ((f.halts.sound steady.halt).some (f.halts.waits ∙ (ap (λ x. h.halt.only_waits || x) e ∙ or-true h.halt.only_waits)) none)
+
+      both : HasActed act (HasClosedAndGrown m k f.deeds) b z g.failure
+      both =
+          acted_then act (λ v es. HasClosedFor flow settings (taken h places room) c ended.status v es m f.deeds) (λ v es. HasGrownOn flow settings v m k es)
+          (HasClosedAndGrown m k f.deeds) b d z g.failure
+          (λ w es fs follows closed later grown. record { closing = es; looks = fs; are = refl; closed = closed; grown = grown })
+          (subst (HasActed act (λ v es. HasClosedFor flow settings (taken h places room) c ended.status v es m f.deeds) b d) unfailed f.acted) g.acted
+
+      halts_on : IsHaltedOn m.halt k.halt g.failure
+      halts_on = on_once m.halt k.halt g.failure g.halts
+
+      led_grown : Did act a.world z.world (λ w es. LeadOn flow settings h k f.deeds w es × (false ≡ true → HasFailedWait es))
+      led_grown w1 e =
+          let x = both.did w1 e in
+          let t = called.world.told x.0 x.1 in
+          let w0 = t.0 in
+          let left = t.2.0 in
+          let waiting : Event = wait_event ended left in
+          let follows : Follows act w0 (waiting ∷ x.2.0) = (t.2.1, subst (λ v. Follows act v x.2.0) t.2.2 x.2.1) in
+          let there : HasClosedAndGrown m k f.deeds (after w0 waiting) x.2.0 = subst (λ v. HasClosedAndGrown m k f.deeds v x.2.0) t.2.2 x.2.2 in (
+            w0,
+            t.1,
+            (
+              waiting ∷ x.2.0,
+              follows,
+              (
+                subst (λ es. LeadOn flow settings h k f.deeds w0 (waiting ∷ es)) (sym there.are)
+                    (grown_on l act flow settings h c places room ended left w0 there.closing there.looks m k f.deeds whole put (room_holds steady) (none_left w0 t.1) number
+                    (owners w0 t.1) there.closed none there.grown (subst (λ es. Follows act w0 (waiting ∷ es)) there.are follows)),
+                λ e. never (sym e),
+              ),
+              x.2.3 ∙ ap (λ v. run v x.2.0) t.2.2,
+            ),
+          )
+
+      grown_given : HasGiven act b z
+      grown_given w1 e =
+          let x = both.did w1 e in
+          let there = x.2.2 in (
+            x.0,
+            x.1,
+            (
+              x.2.0,
+              x.2.1,
+              quiet_is_given act (Rose b.faults z.faults) x.0 x.2.0
+                  (subst (EachCall IsQuiet) (sym there.are)
+                  (calls_more there.closing there.looks
+                  (closed_quiet flow settings (taken h places room) c ended.status x.0 there.closing m f.deeds there.closed)
+                  (grown_quiet flow settings (run x.0 there.closing) m k there.looks there.grown))),
+              x.2.3,
+            ),
+          )
+
+      same_room : k.room ≡ room
+      same_room = ap (λ (n : Parts). n.room) g.others ∙ f.room
+
+      same_telling : k.telling ≡ m.telling
+      same_telling = ap (λ (n : Parts). n.telling) g.others
+
+      lines_then : HaveLines flow m.live m.places
+      lines_then x i j is =
+          steady.lines x (still_there x (subst (λ ps. IsIn ps (Some x)) f.places i)) j
+          (ap (λ (b : Jobs). slice_get b.jobs x.job) (sym f.plan.jobs_stay) ∙ is)
+
+      steady_grown : IsSteady flow settings k
+      steady_grown =
+          record {
+            room =
+                subst (λ r. Holds settings.cores settings.bounds r (asks_in k.places)) (sym same_room)
+                (subst (Holds settings.cores settings.bounds room) (sym (g.asks ∙ ap asks_in f.places)) (room_holds steady));
+            halt = halts_on.sound (f.halts.sound steady.halt);
+            silent = λ quiet. absurd (f.missing steady.silent (sym same_telling ∙ quiet) none);
+            lines = g.lines lines_then;
+          }
+
+      grown_tells : (t : Text) → TellsEnd flow (taken h places room) m c f.deeds t → TellsOn flow h k f.deeds t
+      grown_tells t tells deeds before told =
+          let then = tells (steady.lines c was_there) steady.halt whole deeds before (record { all = told.all; front = told.front }) in
+          record {
+            all = λ on. then.all (sym same_telling ∙ on);
+            front = λ off. let x = then.front (sym same_telling ∙ off) in (x.0, halts_on.stays x.0 x.1, x.2);
+          }
+
+      same_tally : k.tally ≡ m.tally
+      same_tally = ap (λ (n : Parts). n.tally) g.others
+
+      grown_outputs : k.halt.fault ≡ Some fault.Output → (h.halt.fault ≡ Some fault.Output) ⊎ (f.lost ≡ true)
+      grown_outputs is = go g.halts
+        where
+          one_fault : (x y : Fault) → Some x ≡ Some y → x ≡ y
+          one_fault x y e = cc
+
+          go : IsHaltedOnce m.halt k.halt g.failure → (h.halt.fault ≡ Some fault.Output) ⊎ (f.lost ≡ true)
+          go (inl same) = f.outputs (ap (λ t. t.fault) (sym same.1) ∙ is)
+          go (inr by) =
+              absurd (by.2 (one_fault by.0 fault.Output (ap (λ o. Some (or_later o by.0)) (sym none) ∙ (ap (λ t. t.fault) (sym by.3) ∙ is))))
+
+      pub turned_grown : HasTurned act flow settings h k false a z p q
+      turned_grown =
+          record {
+            deeds = f.deeds;
+            failure = g.failure;
+            lost = f.lost;
+            led = led_grown;
+            given = given_then act a b z called.cause.later both.cause.later (wait_given act ended a b other called) grown_given;
+            stays = λ quiet some. both.stays quiet (called.world.stays some refl);
+            cause = record {
+              later = omega (arith, called.cause.later, both.cause.later);
+              rose = λ failure. rose_earlier a.faults b.faults z.faults called.cause.later (both.cause.rose failure);
+            };
+            fails = λ e. never (sym e);
+            waits =
+                halts_on.waits
+                ∙ ap (λ x. x || g.failure) (f.halts.waits ∙ (ap (λ x. h.halt.only_waits || x) unfailed ∙ or-false h.halt.only_waits));
+            steady = λ s. steady_grown;
+            alive = g.alive;
+            seats = λ seats.
+                record {
+                  seated = λ n has. subst (λ gs. Contains (map (λ (x : Underway). x.number) gs) n) (sym same_goings) ((left_seats seats).seated n has);
+                  runs = λ n has. (left_seats seats).runs n (subst (λ gs. Contains (map (λ (x : Underway). x.number) gs) n) same_goings has);
+                  distinct = subst (λ gs. IsDistinct nat_eq (map (λ (x : Underway). x.number) gs)) (sym same_goings) (left_seats seats).distinct;
+                };
+            counts = subst (IsBarelyMore h.tally) (sym same_tally) f.counts;
+            silent = λ e. same_telling ∙ f.silent e;
+            outputs = grown_outputs;
+            text = reported_as (TellsEnd flow (taken h places room) m c f.deeds) (TellsOn flow h k f.deeds) p q f.lost f.lost refl grown_tells f.text;
+          }
+        where
+          same_goings : goings k.places ≡ goings places
+          same_goings = g.goings ∙ ap goings f.places
+
+          left_seats : AreSeated h.places a.running → AreSeated places z.running
+          left_seats seats = subst (AreSeated places) (sym (both.running ∙ called.running)) (seated_less h.places places a.running c ended.number put number seats)
 
   -- ## It was only waited for
 

@@ -1,5 +1,5 @@
 -- What a run did once a child was waited for and taken from its place.
-use Rattle.std.specs.Prelude.{◌≡◌, ◌⊎◌, ◌+◌, ℕ, true, false, List, [], ◌∷◌, ◌++◌, Option, Some, None, Result, Ok, Err, IfErr}
+use Rattle.std.specs.Prelude.{◌≡◌, ◌≢◌, ◌⊎◌, ◌+◌, ℕ, true, false, List, [], ◌∷◌, ◌++◌, Option, Some, None, Result, Ok, Err, IfErr}
 use Rattle.std.specs.List.{slice_get}
 use Rattle.smk_world.specs.declared.event.Ended.{Ended}
 use Rattle.smk_world.specs.declared.event.Change.{Change}
@@ -35,6 +35,7 @@ use Rattle.smk_laws_turns.specs.Hubs.{Parts, asks_in}
 use Rattle.smk_laws_turns.specs.Turning.{faulted}
 use Rattle.smk_drive_hub.specs.Keeping.{heeded}
 use Rattle.smk_drive_hub.specs.Turned.{LeadOn, WhereUnhalted}
+use Rattle.smk_laws_growing.specs.Growing.{HasGrownOn}
 use Rattle.smk_laws_closes.specs.Endings.{told_end}
 use Rattle.smk_laws_closes.specs.Learning.{HasLearnt, IsSamePlan}
 
@@ -130,7 +131,7 @@ abbrev pub taken : Parts → List (Option Child) → Room → Parts
 taken h places room = record h { places = places; room = room }
 
 module _ (act : Act) (flow : Flow) (settings : Settings) (h : Parts) (c : Child) (places : List (Option Child)) (room : Room) where
-  -- A child was waited for and its job closed: that is a step, or more than one.
+  -- A child was waited for and its job closed, and some fault has come: that is a step, or more than one.
   abbrev pub ClosedLeads : Type 0
   ClosedLeads =
       (ended : Ended) (left : List Change) (w : World) (es : List Event) (k : Parts) (deeds : List Deed) →
@@ -141,7 +142,22 @@ module _ (act : Act) (flow : Flow) (settings : Settings) (h : Parts) (c : Child)
       ended.number ≡ c.going.number →
       HasOwners w →
       HasClosedFor flow settings (taken h places room) c ended.status (after w (wait_event ended left)) es k deeds →
-      Follows act w (wait_event ended left ∷ es) → LeadOn flow settings h k deeds w (wait_event ended left ∷ es)
+      k.halt.fault ≢ None → Follows act w (wait_event ended left ∷ es) → LeadOn flow settings h k deeds w (wait_event ended left ∷ es)
+
+  -- A child was waited for and its job closed, no fault has come, and the plan has grown by all that has become known: that is one step.
+  abbrev pub GrownLeads : Type 0
+  GrownLeads =
+      (ended : Ended) (left : List Change) (w : World) (es looks : List Event) (m k : Parts) (deeds : List Deed) →
+      h.halt.only_waits ≡ false →
+      IsPutFor (Some c) None h.places places →
+      Holds settings.cores settings.bounds room (asks_in places) →
+      WhereUnhalted NoneLeft flow settings h w →
+      ended.number ≡ c.going.number →
+      HasOwners w →
+      HasClosedFor flow settings (taken h places room) c ended.status (after w (wait_event ended left)) es m deeds →
+      m.halt.fault ≡ None →
+      HasGrownOn flow settings (run (after w (wait_event ended left)) es) m k looks →
+      Follows act w (wait_event ended left ∷ (es ++ looks)) → LeadOn flow settings h k deeds w (wait_event ended left ∷ (es ++ looks))
 
   -- After a call of the device has failed a child was waited for, and nothing else was done.
   abbrev pub WaitedLeads : Type 0

@@ -21,7 +21,7 @@ use Rattle.smk_plan_live.specs.Lives.{IsLive}
 use Rattle.smk_drive_step.specs.Crews.{is_device}
 use Rattle.smk_drive_outcome.specs.declared.outcome.Outcome.{Outcome}
 use Rattle.smk_drive_outcome.specs.Outcomes.{AreOutcomes, AreUnowned}
-use Rattle.smk_laws_rest.specs.Resting.{IsAnswerOf}
+use Rattle.smk_laws_rest.specs.Resting.{IsReplyOf}
 
 -- what is known and seen once the job of the number was closed, of whose outputs this is told
 abbrev pub closed_base : ℕ → Outcome → Base → Base
@@ -48,7 +48,7 @@ pub data HasLearnt (flow : Flow) (settings : Settings) (number : ℕ) (j : Job) 
       (o : Outcome) (answer : Result (Unit {0}) Fault) →
       AreLooks false looks →
       IsOutcomeIn j o w →
-      (old.settings ≡ settings → IsAnswerOf flow settings (closed_base number o old.base) new answer) →
+      (old.settings ≡ settings → IsReplyOf flow settings (closed_base number o old.base) new answer) →
       IfErr answer (λ f. is_device f ≡ false) →
       HasLearnt flow settings number j old new w looks answer
 

@@ -146,6 +146,7 @@ module _
       record {
         sources = subst (λ (i : Image). SameSources (seen rules entry) i) (sym same.0) (λ p. refl);
         signs = subst (λ (i : Image). HasOwnSigns (seen rules entry) i h.live.base.jobs.jobs) (sym same.0) (record { notes = λ q k. inl k; signs = λ q k. inl k });
+        gone = subst (λ (i : Image). HasOwnSigns i (seen rules entry) h.live.base.jobs.jobs) (sym same.0) (record { notes = λ q k. inl k; signs = λ q k. inl k });
         signed = λ c i. absurd (subst (λ cs. IsIn cs c) childless i);
       }
 
@@ -167,6 +168,7 @@ module _
         ours = λ whole. ours;
         sourced = subst (λ (l : LivePlan). AreSourcesAt rules entry l) (sym start.live_is) sourced;
         planned = λ b i. absurd i;
+        listed = λ b i. absurd i;
         crew = crew;
         spaced = λ g k i j other. absurd i;
         underway = λ g i. absurd i;

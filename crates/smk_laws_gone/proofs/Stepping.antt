@@ -1,5 +1,5 @@
 -- Steps of the loop of a run.
-use Rattle.std.proofs.Common.{◌≡◌, ◌⊎◌, inl, inr, ◌<◌, ◌≤◌, ◌+◌, ℕ, Bool, true, false, ◌||◌, not, arith, refl, sym, ap, subst, ◌∙◌, Option, Some, None, true≢false}
+use Rattle.std.proofs.Common.{◌≡◌, ◌⊎◌, inl, inr, ◌<◌, ◌≤◌, ◌+◌, ℕ, Bool, true, false, ◌||◌, not, List, length, arith, refl, sym, ap, subst, ◌∙◌, Option, Some, None, true≢false}
 use Rattle.std.specs.Prelude.{is_none}
 use Rattle.std.specs.List.{list_all}
 use Rattle.std.proofs.lemmas.Option.{none-some, same_Some}
@@ -14,7 +14,7 @@ use Rattle.smk_drive_step.specs.declared.children.Child.{Child}
 use Rattle.smk_drive_step.specs.Crews.{IsPutFor, or_later}
 use Rattle.smk_laws_turns.specs.Hubs.{Parts}
 use Rattle.smk_laws_turns.specs.Turning.{faulted}
-use Rattle.smk_drive_hub.specs.Turned.{HasTurned, IsBarelyMore}
+use Rattle.smk_drive_hub.specs.Turned.{HasTurned, IsBarelyMore, IsTakenFrom}
 use Rattle.smk_laws_gone.specs.Gone.{HasGone}
 use Rattle.smk_laws_gone.specs.Standing.{IsHalted, IsOver, IsReady, taken}
 use Rattle.smk_laws_gone.specs.Stepping.{HasStepped, IsFor, IsWithin, is_unwaited}
@@ -34,6 +34,10 @@ same_counts t u same =
 
 pub counts_from : (t u v : Tally) → u ≡ t → IsBarelyMore u v → IsBarelyMore t v
 counts_from t u v same more = subst (λ x. IsBarelyMore x v) same more
+
+-- a child was taken from its place, be the numbers of others new or not
+pub taken_less : (c : Child) (were are : List (Option Child)) → IsTakenFrom c were are → taken were ≡ taken are + 1
+taken_less c were are from = one_less_taken c were from.left from.put ∙ ap (λ gs. length gs + 1) (sym from.goings)
 
 -- within a limit, and one more
 pub within_more : (n : ℕ) (h k : Parts) → IsWithin n h → IsBarelyMore h.tally k.tally → taken k.places ≤ taken h.places + 1 → IsWithin (n + 1) k
@@ -96,14 +100,14 @@ module _ (act : Act) (flow : Flow) (settings : Settings) (h k : Parts) (a b : De
       (waited : Bool) →
       IsReady flow settings h a →
       HasTurned act flow settings h k (not waited) a b p q →
-      (waited ≡ true → (c : Child) × IsPutFor (Some c) None h.places k.places) →
+      (waited ≡ true → (c : Child) × IsTakenFrom c h.places k.places) →
       (over : Option Bool) → (waited ≡ true → over ≡ None) → (waited ≡ false → over ≡ Some false) → HasStepped act flow settings h k over a b p q
   waited_step true ready turned less over on off =
       subst (λ o. HasStepped act flow settings h k o a b p q) (sym (on refl))
       (record {
         gone = goes_once act flow settings h k false a b p q turned;
         counts = turned.counts;
-        places = λ e. (let c = less refl in fewer (one_less_taken c.0 h.places k.places c.1));
+        places = λ e. (let c = less refl in fewer (taken_less c.0 h.places k.places c.1));
         through = λ waited e. absurd (none-some waited e);
       })
     where

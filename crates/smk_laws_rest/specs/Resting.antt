@@ -69,6 +69,11 @@ pub data IsRefusalOf (flow : Flow) (settings : Settings) (base : Base) (live : L
   OfPlan : (refusal : PlanFault) → IsRefusedNow settings base refusal → f ≡ fault_in flow refusal → IsRefusalOf flow settings base live f
   OfCommand : IsTold settings base live → refused_command flow settings live ≡ Some f → IsRefusalOf flow settings base live f
 
+-- What is told of a plan that may grow: nothing is refused of it and of its commands; or this is refused, or memory is wanting.
+abbrev pub IsReplyOf : Flow → Settings → Base → LivePlan → Result (Unit {0}) Fault → Type 0
+IsReplyOf flow settings base live (Ok u) = IsTold settings base live × (refused_command flow settings live ≡ None)
+IsReplyOf flow settings base live (Err f) = (f ≡ fault.OutOfMemory) ⊎ IsRefusalOf flow settings base live f
+
 -- What is answered: the plan was told, nothing is refused of its commands, and no directory has become known; or this is refused, or memory is wanting.
 abbrev pub IsAnswerOf : Flow → Settings → Base → LivePlan → Result (Unit {0}) Fault → Type 0
 IsAnswerOf flow settings base live (Ok u) = IsTold settings base live × (refused_command flow settings live ≡ None) × (live.plan.known ≡ [])

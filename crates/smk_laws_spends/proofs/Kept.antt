@@ -47,6 +47,7 @@ ours_on rules entry w v jobs alike ours =
     record {
       sources = subst (SameSources (seen rules entry)) (sym alike.image) ours.sources;
       signs = subst (λ x. HasOwnSigns (seen rules entry) x jobs) (sym alike.image) ours.signs;
+      gone = subst (λ x. HasOwnSigns x (seen rules entry) jobs) (sym alike.image) ours.gone;
       signed = λ c i.
           subst (λ x. IsSigned x c.recipe c.logs) (sym alike.image) (ours.signed c (subst (λ cs. IsIn cs c) alike.children i));
     }

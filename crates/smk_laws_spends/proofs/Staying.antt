@@ -13,6 +13,7 @@ use Rattle.smk_drive.specs.Moments.{Begun, Rules, seen}
 use Rattle.smk_drive_step.specs.declared.children.Child.{Child}
 use Rattle.smk_drive_course.specs.Stands.{Stand}
 use Rattle.smk_drive_course.specs.Steps.{Deed}
+use Rattle.smk_laws_staying.specs.Staying.{IsListed}
 use Rattle.smk_laws_turns.specs.Hubs.{AreChildrenOf, AreSpaced, IsAt, IsCountOf, IsCrew, IsHome, IsKept, IsOurs, IsRecordable, Parts, child_of}
 
 -- what is so of the jobs of a run
@@ -20,6 +21,7 @@ record AreRunJobs (rules : Rules) (entry : World) (jobs : Jobs) (begun : List Be
   derived : derivation rules.flow (seen rules entry) jobs.lists rules.settings.targets ≡ Derived jobs.jobs
   sourced : (p : Path) → among (told_sources jobs.makers) p ≡ true → is_source (seen rules entry) p ≡ true
   planned : (b : Begun) → IsIn begun b → IsIn jobs.jobs b.job
+  listed : (b : Begun) → IsIn begun b → IsListed (seen rules entry) jobs.lists b.job
   theirs : AreChildrenOf jobs.jobs begun places
 
 -- what is so of the children of a run
@@ -55,7 +57,7 @@ module _ (rules : Rules) (entry : World) (k l : Parts) (s t : Stand) (w v : Worl
       subst (λ js. AreRunJobs rules entry js t.begun l.places) (sym on.jobs)
       (subst (λ bs. AreRunJobs rules entry k.live.base.jobs bs l.places) (sym on.begun)
       (subst (AreRunJobs rules entry k.live.base.jobs s.begun) (sym on.places)
-      (record { derived = at.derived; sourced = at.sourced; planned = at.planned; theirs = at.theirs }))) in
+      (record { derived = at.derived; sourced = at.sourced; planned = at.planned; listed = at.listed; theirs = at.theirs }))) in
       let children : AreRunChildren rules entry v t.runs l.places =
       subst (λ rs. AreRunChildren rules entry v rs l.places) (sym on.runs)
       (subst (AreRunChildren rules entry v s.runs) (sym on.places)
@@ -68,6 +70,7 @@ module _ (rules : Rules) (entry : World) (k l : Parts) (s t : Stand) (w v : Worl
         ours = λ whole. subst (λ (js : Jobs). IsOurs rules entry js.jobs v) (sym on.jobs) (ours whole);
         sourced = jobs.sourced;
         planned = jobs.planned;
+        listed = jobs.listed;
         crew = children.crew;
         spaced = children.spaced;
         underway = children.underway;

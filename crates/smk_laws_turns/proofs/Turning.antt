@@ -34,8 +34,9 @@ use Rattle.smk_laws_protocol.proofs.Stays.{in_left, in_right}
 use Rattle.smk_laws_moments.specs.Courses.{HasChildren, begun_jobs, started_job, started_jobs}
 use Rattle.smk_laws_moments.proofs.ChildrenOf.{children_are_of_stand}
 use Rattle.smk_laws_moments.proofs.Fates.{answer_kept, broken_is_halted, first_fault_stays, goes_kept, kept_then, removed_kept, replanned_kept, starts_are_told}
-use Rattle.smk_laws_turns.specs.Hubs.{AreChildrenOf, AreSpaced, IsAt, IsChildOf, IsCountOf, IsCrew, IsHome, IsOurs, IsRecordable, Parts}
-use Rattle.smk_laws_turns.specs.Turning.{BeginningBreaks, BeginningLeads, ClosingBreaks, ClosingLeads, FailedWaitLeads, HaltLeads, HasLed, LeavingLeads, ReadingBreaks, SpendingBreaks, SpendingLeads, TellsOf, WaitLeads, faulted}
+use Rattle.smk_laws_turns.specs.Hubs.{AreChildrenOf, AreSpaced, AreApart, IsAt, IsChildOf, IsCountOf, IsCrew, IsHome, IsOurs, IsRecordable, Parts}
+use Rattle.smk_laws_staying.specs.Staying.{IsListed}
+use Rattle.smk_laws_turns.specs.Turning.{BeginningBreaks, BeginningLeads, ClosingBreaks, ClosingLeads, FailedWaitLeads, GrowingLeads, HaltLeads, HasLed, LeavingLeads, ReadingBreaks, SpendingBreaks, SpendingLeads, TellsGrown, TellsOf, WaitLeads, faulted}
 use Rattle.smk_laws_turns.proofs.Crew.{crew_busy, crew_grows, crew_shrinks}
 
 -- ## Faults
@@ -191,23 +192,34 @@ started_more flow deeds j tally counted =
 
 -- ## Jobs of the plan
 
-still_planned : (jobs : List Job) (begun : List Begun) → ((b : Begun) → IsIn begun b → IsIn jobs b.job) → (j : Job) → IsIn (map (λ (b : Begun). b.job) begun) j → IsIn jobs j
-still_planned jobs [] planned j i = absurd i
-still_planned jobs (b ∷ bs) planned j (inl e) = subst (IsIn jobs) (sym e) (planned b (inl refl))
-still_planned jobs (b ∷ bs) planned j (inr i) = still_planned jobs bs (λ c k. planned c (inr k)) j i
+-- the job is one of the plan that is kept, and listed by its listings
+abbrev IsOwn : Image → Parts → Job → Type 0
+IsOwn image h j = IsIn h.live.base.jobs.jobs j × IsListed image h.live.base.jobs.lists j
+
+still_so : (P : Job → Type 0) (begun : List Begun) → ((b : Begun) → IsIn begun b → P b.job) → (j : Job) → IsIn (map (λ (b : Begun). b.job) begun) j → P j
+still_so P [] so j i = absurd i
+still_so P (b ∷ bs) so j (inl e) = subst P (sym e) (so b (inl refl))
+still_so P (b ∷ bs) so j (inr i) = still_so P bs (λ c k. so c (inr k)) j i
 
 -- a job that had begun, or that has begun now
-begun_planned :
-    (jobs old new : List Job) (j : Job) →
-    ((k : Job) → IsIn old k → IsIn jobs k) → ((k : Job) → IsIn new k → IsIn jobs k) → IsIn (old ++ new) j → IsIn jobs j
-begun_planned jobs [] new j were are i = are j i
-begun_planned jobs (x ∷ old) new j were are (inl e) = subst (IsIn jobs) (sym e) (were x (inl refl))
-begun_planned jobs (x ∷ old) new j were are (inr i) = begun_planned jobs old new j (λ k o. were k (inr o)) are i
+begun_so : (P : Job → Type 0) (old new : List Job) (j : Job) → ((k : Job) → IsIn old k → P k) → ((k : Job) → IsIn new k → P k) → IsIn (old ++ new) j → P j
+begun_so P [] new j were are i = are j i
+begun_so P (x ∷ old) new j were are (inl e) = subst P (sym e) (were x (inl refl))
+begun_so P (x ∷ old) new j were are (inr i) = begun_so P old new j (λ k o. were k (inr o)) are i
 
 -- just this one
-only : (jobs : List Job) (j : Job) → IsIn jobs j → (k : Job) → IsIn (j ∷ []) k → IsIn jobs k
-only jobs j i k (inl e) = subst (IsIn jobs) (sym e) i
-only jobs j i k (inr i2) = absurd i2
+only : (P : Job → Type 0) (j : Job) → P j → (k : Job) → IsIn (j ∷ []) k → P k
+only P j so k (inl e) = subst P (sym e) so
+only P j so k (inr i) = absurd i
+
+-- places with the same children
+crew_same : (were are : List (Option Child)) (runs : List Underway) → goings are ≡ goings were → IsCrew were runs → IsCrew are runs
+crew_same were are runs same crew =
+    record {
+      run = λ g i. crew.run g (subst (λ gs. IsIn gs g) same i);
+      placed = λ g i. subst (λ gs. IsIn gs g) (sym same) (crew.placed g i);
+      apart = subst AreApart (sym same) crew.apart;
+    }
 
 -- ## What children need
 
@@ -293,42 +305,33 @@ module _ (rules : Rules) (entry : World) where
       (Then s t t w before es [] more [] step (Done t (run w es) (before ++ es))))
 
   module _ (h : Parts) (s : Stand) (w : World) (before : List Event) (deeds : List Deed) where
-    -- what is kept where the step leads
-    led :
+    -- what is kept where the step leads, with jobs of its own
+    led_grown :
         (k : Parts) (t : Stand) (es : List Event) (more : List Deed) →
         IsAt rules entry h s w before deeds →
         Step rules entry s w before es more t →
-        TellsOf rules entry h s w before deeds k (run w es) (before ++ es) t →
-        ((j : Job) → IsIn (started_jobs more) j → IsIn h.live.base.jobs.jobs j) →
+        TellsGrown rules entry h s w before deeds k (run w es) (before ++ es) t →
         IsCrew k.places t.runs →
-        AreAllowed rules entry t.runs →
-        AreChildrenOf h.live.base.jobs.jobs t.begun k.places →
-        (t.halted ≡ None → IsCountOf rules.flow (deeds ++ more) k.tally) → HasLed rules entry k s w before es deeds more
-    led k t es more at step tells ours crew allowed theirs counted =
+        AreAllowed rules entry t.runs → (t.halted ≡ None → IsCountOf rules.flow (deeds ++ more) k.tally) → HasLed rules entry k s w before es deeds more
+    led_grown k t es more at step tells crew allowed counted =
         record {
           stand = t;
           step = step;
           at =
               record {
                 live = tells.live;
-                settings = tells.settings ∙ at.settings;
-                derived =
-                    subst (λ (jobs : Jobs). derivation rules.flow (seen rules entry) jobs.lists rules.settings.targets ≡ Derived jobs.jobs)
-                    (sym tells.jobs) at.derived;
+                settings = tells.settings;
+                derived = tells.derived;
                 home = tells.home;
-                ours = λ whole. subst (λ (jobs : Jobs). IsOurs rules entry jobs.jobs (run w es)) (sym tells.jobs) (tells.ours whole);
-                sourced =
-                    subst (λ (jobs : Jobs). (p : Path) → among (told_sources jobs.makers) p ≡ true → is_source (seen rules entry) p ≡ true)
-                    (sym tells.jobs) at.sourced;
-                planned = λ b i.
-                    subst (λ (jobs : Jobs). IsIn jobs.jobs b.job) (sym tells.jobs)
-                    (begun_planned h.live.base.jobs.jobs (begun_jobs s) (started_jobs more) b.job (still_planned h.live.base.jobs.jobs s.begun at.planned) ours
-                    (subst (λ js. IsIn js b.job) (step_starts s t w before es more step) (in_map (λ (x : Begun). x.job) t.begun b i)));
+                ours = tells.ours;
+                sourced = tells.sourced;
+                planned = tells.planned;
+                listed = tells.listed;
                 crew = crew;
                 spaced = allowed.spaced;
                 underway = allowed.underway;
                 children = step_children s t w before es more step at.children;
-                theirs = subst (λ (jobs : Jobs). AreChildrenOf jobs.jobs t.begun k.places) (sym tells.jobs) theirs;
+                theirs = tells.theirs;
                 halted = tells.halted;
                 waits = tells.waits;
                 starts =
@@ -339,6 +342,44 @@ module _ (rules : Rules) (entry : World) where
                 kept = tells.kept;
               };
         }
+
+    -- the same with the jobs that it had
+    led :
+        (k : Parts) (t : Stand) (es : List Event) (more : List Deed) →
+        IsAt rules entry h s w before deeds →
+        Step rules entry s w before es more t →
+        TellsOf rules entry h s w before deeds k (run w es) (before ++ es) t →
+        ((j : Job) → IsIn (started_jobs more) j → IsOwn (seen rules entry) h j) →
+        IsCrew k.places t.runs →
+        AreAllowed rules entry t.runs →
+        AreChildrenOf h.live.base.jobs.jobs t.begun k.places →
+        (t.halted ≡ None → IsCountOf rules.flow (deeds ++ more) k.tally) → HasLed rules entry k s w before es deeds more
+    led k t es more at step tells own crew allowed theirs counted =
+        led_grown k t es more at step
+        (record {
+          live = tells.live;
+          settings = tells.settings ∙ at.settings;
+          derived =
+              subst (λ (jobs : Jobs). derivation rules.flow (seen rules entry) jobs.lists rules.settings.targets ≡ Derived jobs.jobs)
+              (sym tells.jobs) at.derived;
+          home = tells.home;
+          ours = λ whole. subst (λ (jobs : Jobs). IsOurs rules entry jobs.jobs (run w es)) (sym tells.jobs) (tells.ours whole);
+          sourced =
+              subst (λ (jobs : Jobs). (p : Path) → among (told_sources jobs.makers) p ≡ true → is_source (seen rules entry) p ≡ true)
+              (sym tells.jobs) at.sourced;
+          planned = λ b i. subst (λ (jobs : Jobs). IsIn jobs.jobs b.job) (sym tells.jobs) (of_plan b i).0;
+          listed = λ b i. subst (λ (jobs : Jobs). IsListed (seen rules entry) jobs.lists b.job) (sym tells.jobs) (of_plan b i).1;
+          theirs = subst (λ (jobs : Jobs). AreChildrenOf jobs.jobs t.begun k.places) (sym tells.jobs) theirs;
+          halted = tells.halted;
+          waits = tells.waits;
+          kept = tells.kept;
+        }) crew allowed counted
+      where
+        of_plan : (b : Begun) → IsIn t.begun b → IsOwn (seen rules entry) h b.job
+        of_plan b i =
+            begun_so (IsOwn (seen rules entry) h) (begun_jobs s) (started_jobs more) b.job
+            (still_so (IsOwn (seen rules entry) h) s.begun (λ c k. (at.planned c k, at.listed c k))) own
+            (subst (λ js. IsIn js b.job) (step_starts s t w before es more step) (in_map (λ (x : Begun). x.job) t.begun b i))
 
     same_count :
         (t : Stand) (es : List Event) →
@@ -504,6 +545,16 @@ module _ (rules : Rules) (entry : World) where
         (allowed_taken k.places c closed.ended closed.left closed.going t at kept.runs)
         (theirs_taken k.places c closed.ended closed.left closed.going t at taken kept.begun) counted
 
+    pub growing_leads : GrowingLeads rules entry h s w before deeds
+    growing_leads k are c es more t at closed is taken same counted tells =
+        let u : Stand = without_child (seen rules (after w (wait_event closed.ended closed.left))) closed.going closed.ended.status s in
+        let kept =
+        kept_then u closed.next t (replanned_kept rules u closed.next _ closed.replanned)
+        (answer_kept rules entry closed.answer closed.next t _ _ closed.goes_by) in
+        led_grown k t es more at (Closes closed) tells
+        (crew_same are k.places t.runs same (crew_taken are c closed.ended closed.left closed.going t at taken is kept.runs))
+        (allowed_taken are c closed.ended closed.left closed.going t at kept.runs) counted
+
     pub spending_leads : SpendingLeads rules entry h s w before deeds
     spending_leads k es t at spent places tally tells =
         let kept =
@@ -517,12 +568,12 @@ module _ (rules : Rules) (entry : World) where
         (λ none. subst (IsCountOf rules.flow (deeds ++ [])) (sym tally) (same_count t es at (Spends spent) none))
 
     pub beginning_leads : BeginningLeads rules entry h s w before deeds
-    beginning_leads k c j es t at begun is own number ask fresh put tally spaced recordable tells =
+    beginning_leads k c j es t at begun is own number listed ask fresh put tally spaced recordable tells =
         let b : Begun = begun_of rules entry (moment_of s w before) begun.job in
         let u : Stand = with_job b begun.going s in
         let kept = kept_then u begun.next t (replanned_kept rules u begun.next _ begun.replanned) (goes_kept rules entry begun.next t _ _ begun.goes_by) in
         let grown = crew_grows h.places k.places s.runs c at.crew put fresh in
-        led k t es (Started j ∷ []) at (Begins begun) tells (only h.live.base.jobs.jobs j (get_in h.live.base.jobs.jobs c.job j number))
+        led k t es (Started j ∷ []) at (Begins begun) tells (only (IsOwn (seen rules entry) h) j (get_in h.live.base.jobs.jobs c.job j number, listed))
         (subst (IsCrew k.places) (sym kept.runs) (subst (λ (g : Underway). IsCrew k.places (s.runs ++ g ∷ [])) is grown))
         (subst (AreAllowed rules entry) (sym kept.runs)
         (subst (λ (g : Underway). AreAllowed rules entry (s.runs ++ g ∷ [])) is

@@ -39,6 +39,7 @@ use Rattle.smk_drive_course.specs.Steps.{Deed}
 use Rattle.smk_drive_course.specs.Reports.{failures, is_done, is_started}
 use Rattle.smk_laws_moments.specs.Courses.{begun_jobs, started_jobs}
 use Rattle.smk_laws_plan.specs.Signs.{HasOwnSigns}
+use Rattle.smk_laws_staying.specs.Staying.{IsListed}
 
 -- All that a run keeps: the plan, the room that is left, the children in their places, the serial that is drawn next, the counts, the first fault, if one
 -- came, and whether lines still go to the sink.
@@ -153,6 +154,8 @@ pub record IsSigned (image : Image) (recipe : Recipe) (logs : List Path) : Type 
 pub record IsOurs (rules : Rules) (entry : World) (jobs : List Job) (w : World) : Type 0 where
   pub sources : SameSources (seen rules entry) (seen rules w)
   pub signs : HasOwnSigns (seen rules entry) (seen rules w) jobs
+  -- and what has gone of them was theirs
+  pub gone : HasOwnSigns (seen rules w) (seen rules entry) jobs
   pub signed : (c : WorldChild) → IsIn w.children c → IsSigned (seen rules w) c.recipe c.logs
 
 -- what one of them owns overlaps nothing that another one owns or reads
@@ -178,6 +181,8 @@ pub record IsAt (rules : Rules) (entry : World) (h : Parts) (s : Stand) (w : Wor
   pub sourced : (p : Path) → among (told_sources h.live.base.jobs.makers) p ≡ true → is_source (seen rules entry) p ≡ true
   -- each job that has begun is one of the plan
   pub planned : (b : Begun) → IsIn s.begun b → IsIn h.live.base.jobs.jobs b.job
+  -- and each directory that it gathers from is a source, or has a listing
+  pub listed : (b : Begun) → IsIn s.begun b → IsListed (seen rules entry) h.live.base.jobs.lists b.job
   pub crew : IsCrew h.places s.runs
   pub spaced : AreSpaced s.runs
   pub underway : (g : Underway) → IsIn s.runs g → IsRecordable (seen rules entry) g

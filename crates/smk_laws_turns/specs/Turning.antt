@@ -8,21 +8,25 @@ use Rattle.smk_world.specs.declared.event.Event.{Event}
 use Rattle.smk_world.specs.declared.event.Failed.{Failed}
 use Rattle.smk_world.specs.World.{World, run}
 use Rattle.smk_world.specs.Devices.{AreLooks}
-use Rattle.smk_world.specs.Trees.{IsIn}
+use Rattle.smk_world.specs.Trees.{IsIn, Path, among}
 use Rattle.smk_flow.specs.declared.job.Job.{Job}
+use Rattle.smk_store.specs.Images.{is_source}
+use Rattle.smk_chain.specs.Derive.{Derived, derivation}
+use Rattle.smk_plan_facts.specs.Facts.{told_sources}
 use Rattle.smk_report.specs.declared.fault.Fault.{Fault}
 use Rattle.smk_report.specs.declared.fault.Fault.TheVariants as fault
 use Rattle.smk_job.specs.Jobs.{Underway}
 use Rattle.smk_run.specs.Closings.{wait_event}
 use Rattle.smk_plan_live.specs.Lives.{IsLive}
-use Rattle.smk_drive.specs.Moments.{Rules, seen}
+use Rattle.smk_drive.specs.Moments.{Begun, Rules, seen}
 use Rattle.smk_drive.specs.Lawful.{ask_of}
 use Rattle.smk_drive_step.specs.declared.children.Child.{Child}
-use Rattle.smk_drive_step.specs.Crews.{IsPutFor, halted_by, is_device}
+use Rattle.smk_drive_step.specs.Crews.{IsPutFor, goings, halted_by, is_device}
 use Rattle.smk_drive_course.specs.Stands.{NoneLeft, Refuses, Stand}
 use Rattle.smk_drive_course.specs.Steps.{Deed, HasBegun, HasClosed, HasSpent, Started}
 use Rattle.smk_drive_course.specs.Breaks.{HasBrokenOff, HasLeft, HasNotBegun, HasNotRead, HasNotSpent, Step}
-use Rattle.smk_laws_turns.specs.Hubs.{AreSpaced, IsAt, IsCountOf, IsCrew, IsHome, IsKept, IsOurs, IsRecordable, Parts}
+use Rattle.smk_laws_staying.specs.Staying.{IsListed}
+use Rattle.smk_laws_turns.specs.Hubs.{AreChildrenOf, AreSpaced, IsAt, IsCountOf, IsCrew, IsHome, IsKept, IsOurs, IsRecordable, Parts}
 
 -- ## Children
 
@@ -150,6 +154,7 @@ module _ (rules : Rules) (entry : World) (h : Parts) (s : Stand) (w : World) (be
       c.going ≡ begun.going →
       j ≡ begun.job.0 →
       slice_get h.live.base.jobs.jobs c.job ≡ Some j →
+      IsListed (seen rules entry) h.live.base.jobs.lists j →
       c.ask ≡ ask_of j →
       ((g : Underway) → IsIn s.runs g → ¬ (g.number ≡ c.going.number)) →
       IsPutFor None (Some c) h.places k.places →
@@ -166,6 +171,32 @@ module _ (rules : Rules) (entry : World) (h : Parts) (s : Stand) (w : World) (be
       closed.going ≡ c.going →
       IsPutFor (Some c) None h.places k.places →
       (t.halted ≡ None → IsCountOf rules.flow (deeds ++ more) k.tally) → TellsOf k (run w es) (before ++ es) t → HasLed rules entry k s w before es deeds more
+
+  -- The same where the plan may have grown besides: what is kept has its own jobs then, of which all is so that is kept of jobs, and its children have their numbers.
+  pub record TellsGrown (k : Parts) (w1 : World) (events : List Event) (t : Stand) : Type 0 where
+    pub live : IsLive k.live
+    pub settings : k.live.settings ≡ rules.settings
+    pub derived : derivation rules.flow (seen rules entry) k.live.base.jobs.lists rules.settings.targets ≡ Derived k.live.base.jobs.jobs
+    pub home : IsHome entry w1
+    pub ours : t.broken ≡ false → IsOurs rules entry k.live.base.jobs.jobs w1
+    pub sourced : (p : Path) → among (told_sources k.live.base.jobs.makers) p ≡ true → is_source (seen rules entry) p ≡ true
+    pub planned : (b : Begun) → IsIn t.begun b → IsIn k.live.base.jobs.jobs b.job
+    pub listed : (b : Begun) → IsIn t.begun b → IsListed (seen rules entry) k.live.base.jobs.lists b.job
+    pub theirs : AreChildrenOf k.live.base.jobs.jobs t.begun k.places
+    pub halted : k.halt.fault ≡ t.halted
+    pub waits : k.halt.only_waits ≡ t.broken
+    pub kept : t.halted ≡ None → IsKept rules entry k t w1 events
+
+  -- A child was waited for and taken from its place, its job closed and counted, and the plan has grown.
+  abbrev pub GrowingLeads : Type 0
+  GrowingLeads =
+      (k : Parts) (are : List (Option Child)) (c : Child) (es : List Event) (more : List Deed) (t : Stand) →
+      IsAt rules entry h s w before deeds →
+      (closed : HasClosed rules entry s w before es more t) →
+      closed.going ≡ c.going →
+      IsPutFor (Some c) None h.places are →
+      goings k.places ≡ goings are →
+      (t.halted ≡ None → IsCountOf rules.flow (deeds ++ more) k.tally) → TellsGrown k (run w es) (before ++ es) t → HasLed rules entry k s w before es deeds more
 
   -- Outputs that are spent were removed.
   abbrev pub SpendingLeads : Type 0

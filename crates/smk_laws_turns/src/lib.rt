@@ -2,7 +2,7 @@
 #![tactic(auto)]
 
 ghost use Rattle.smk_laws_turns.specs.Going.{GoesOnFrom, RestsThere};
-ghost use Rattle.smk_laws_turns.specs.Turning.{BeginningBreaks, BeginningLeads, ClosingBreaks, ClosingLeads, CrewGrows, CrewIsBusy, CrewIsIdle, CrewShrinks};
+ghost use Rattle.smk_laws_turns.specs.Turning.{BeginningBreaks, BeginningLeads, ClosingBreaks, ClosingLeads, CrewGrows, CrewIsBusy, CrewIsIdle, CrewShrinks, GrowingLeads};
 ghost use Rattle.smk_laws_turns.specs.Turning.{FailedWaitLeads, HaltLeads, LeavingLeads, OfParts, ReadingBreaks, SpendingBreaks, SpendingLeads, WaitLeads};
 
 /// The children in their places are those that run: as one is put, as one is taken away, and where none is there.
@@ -26,11 +26,12 @@ pub fn faults_lead_on()
     ensures unclosed { OfParts ClosingBreaks }
 {}
 
-/// A job begins, a child is waited for and its job closed, outputs that are spent are removed: then what the run keeps stands so, too, to the stand to which
+/// A job begins, a child is waited for and its job closed, by which the plan may grow, outputs that are spent are removed: then what the run keeps stands so, too, to the stand to which
 /// that step leads, as far as the plan that is kept tells of the folder.
 pub fn steps_lead_on()
     ensures begins { OfParts BeginningLeads }
     ensures closes { OfParts ClosingLeads }
+    ensures grows { OfParts GrowingLeads }
     ensures spends { OfParts SpendingLeads }
 {}
 

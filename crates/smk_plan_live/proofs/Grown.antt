@@ -1,15 +1,21 @@
 -- What was seen, as new jobs come.
-use Rattle.std.proofs.Common.{◌≡◌, Bool, true, false, ◌||◌, List, [], ◌∷◌, ◌++◌, map, Option, Some, None, refl, sym, ap, ◌∙◌, bytes_eq}
+use Rattle.std.proofs.Common.{◌≡◌, ◌≢◌, Bool, true, false, ◌||◌, List, [], ◌∷◌, ◌++◌, map, Option, Some, None, Result, Ok, Err, IfErr, refl, sym, ap, ◌∙◌, bytes_eq}
 use Rattle.std.specs.Prelude.{if◌then◌else◌}
 use Rattle.std.specs.Option.{option_or}
 use Rattle.std.proofs.lemmas.Bool.{or_parts}
 use Rattle.smk_base.proofs.Places.{same_place}
 use Rattle.smk_world.specs.Trees.{Path, among}
+use Rattle.smk_store.specs.Stores.{Known}
+use Rattle.smk_chain.specs.declared.jobs.Jobs.{Jobs}
+use Rattle.smk_pick.specs.declared.settings.Settings.{Settings}
+use Rattle.smk_plan.specs.declared.fault.PlanFault.{PlanFault}
+use Rattle.smk_plan.specs.declared.fault.PlanFault.TheVariants as fault
 use Rattle.smk_plan.specs.declared.seen.Sight.{Sight}
 use Rattle.smk_plan.specs.Sights.{sight_at}
 use Rattle.smk_plan_live.specs.declared.base.Base.{Base}
 use Rattle.smk_plan_live.specs.Carried.{told_upon, with_seen}
-use Rattle.smk_plan_live.specs.Lives.{IsSound}
+use Rattle.smk_plan_live.specs.Changes.{IsGrownBut, IsRefusedGrown}
+use Rattle.smk_plan_live.specs.Lives.{IsRefusedNow, IsSound}
 use Rattle.smk_plan_live.proofs.Tables.{flipped, not_seen}
 use Rattle.smk_plan_states.proofs.Tests.{among_append}
 
@@ -106,3 +112,13 @@ seen_sound b seen sound =
       came = sound.came;
       sources = sound.sources;
     }
+
+-- what is refused of a base that has grown is so of the jobs, the store and the fresh sights
+pub grown_refused :
+    (settings : Settings) (jobs : Jobs) (store : List Known) (fresh : List Sight) (old base : Base) (r : Result (Unit {0}) PlanFault) →
+    IsSound base → IsGrownBut jobs store fresh old base →
+    IfErr r (λ f. f ≢ fault.OutOfMemory → IsRefusedNow settings (with_seen old.seen base) f) →
+    IfErr r (λ f. f ≢ fault.OutOfMemory → IsRefusedGrown settings jobs store fresh old f)
+grown_refused settings jobs store fresh old base (Ok u) sound grown refused = refused
+grown_refused settings jobs store fresh old base (Err f) sound grown refused = λ other.
+    record { base = with_seen old.seen base; sound = seen_sound base old.seen sound; grown = grown; refused = refused other }

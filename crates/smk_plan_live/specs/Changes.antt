@@ -17,7 +17,7 @@ use Rattle.smk_plan_live.specs.declared.live.LivePlan.{LivePlan}
 use Rattle.smk_plan_live.specs.declared.phase.Phase.TheVariants.{Waiting, Closed}
 use Rattle.smk_plan_live.specs.Now.{seen_before}
 use Rattle.smk_plan_live.specs.Carried.{advanced, begun, spent, phase_from, began_from, entries_from, sights_from, with_seen}
-use Rattle.smk_plan_live.specs.Lives.{IsRefusedNow}
+use Rattle.smk_plan_live.specs.Lives.{IsRefusedNow, IsSound}
 
 -- ## None has begun
 
@@ -83,5 +83,6 @@ pub record HasGrown (jobs : Jobs) (store : List Known) (fresh : List Sight) (old
 -- so it would be, and that plan is refused
 pub record IsRefusedGrown (settings : Settings) (jobs : Jobs) (store : List Known) (fresh : List Sight) (old : Base) (fault : PlanFault) : Type 0 where
   pub base : Base
+  pub sound : IsSound base
   pub grown : IsGrown jobs store fresh old base
   pub refused : IsRefusedNow settings base fault

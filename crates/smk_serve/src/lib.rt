@@ -1,6 +1,7 @@
 //! What is asked of a workflow is done: its targets are made, or what a run would do is listed.
 #![tactic(auto)]
 
+mod growing;
 mod listing;
 mod marks;
 mod serving;

@@ -13,6 +13,7 @@ ghost use Rattle.smk_cli_calls.specs.OneByOne as one;
 ghost use Rattle.smk_cli_calls.specs.Serving as spec;
 ghost use Rattle.smk_cli_calls.specs.Serving.{IsPlanned, IsRefusedPlan, IsServed, IsThat, Went, HasListed};
 
+use crate::growing::grows;
 use crate::marks::{has_marks, has_priorities};
 use crate::put_listing;
 use smk_base::{Copied, OutOfMemory};
@@ -61,7 +62,8 @@ fn asks_one_by_one(words: &RunWords) -> bool
 fn is_one_by_one(asked: &Asked, words: &RunWords) -> bool
     ensures { result ≡ one.is_one_by_one asked.now.flow words.now }
 {
-    asks_one_by_one(words) && (!has_marks(&asked.flow) && !has_priorities(&asked.flow))
+    asks_one_by_one(words)
+        && (!has_marks(&asked.flow) && (!has_priorities(&asked.flow) && !grows(&asked.flow)))
 }
 
 // The plan for what is asked.
@@ -165,8 +167,8 @@ fn make_driven<W: Crew, O: Sink, Rt: Threads + Sync>(
 }
 
 /// Makes the targets of what is asked, by its words, and reports to `out`. Where the words ask for one core, the first job that fails ends the run and no job
-/// is forced, and no output of the workflow is temporary or protected, it plans, and runs what the plan has to be run or restored, one job after another. Else
-/// the run is driven: jobs are begun side by side, by a plan that is kept.
+/// is forced, and no rule of the workflow is a checkpoint, makes a directory, gathers or has a priority, and no output is temporary or protected, it plans, and runs
+/// what the plan has to be run or restored, one job after another. Else the run is driven: jobs are begun side by side, by a plan that is kept.
 ///
 /// The fault is the first refusal of a plan; or else that of the first job that failed, or why the run stopped: `Serials`, `TooLong`, `NoInput`, `Device`, `Output`,
 /// `OutOfMemory`. No child runs before.

@@ -1,6 +1,6 @@
 -- What a call tells where each target has a clean value.
 use native.Mathlib.Omega.{arith}
-use Rattle.std.proofs.Common.{◌≡◌, ◌⊎◌, ◌≤◌, inl, inr, ℕ, Bool, true, false, List, [], ◌++◌, ap, refl, sym, subst, ◌∙◌, Option, Some, None, Ok, Err, Result, option_map, is_none}
+use Rattle.std.proofs.Common.{◌≡◌, ◌⊎◌, ◌≤◌, inl, inr, ℕ, Bool, true, false, List, [], ◌++◌, ap, refl, sym, subst, ◌∙◌, Option, Some, Ok, Err, Result, is_none}
 use Rattle.std.specs.Prelude.{IsSome, is_err}
 use Rattle.smk_base.specs.Place.{lock_place}
 use Rattle.smk_world.specs.declared.event.Failed.{Failed}
@@ -30,14 +30,13 @@ use Rattle.smk_report.specs.declared.fault.Fault.{Fault}
 use Rattle.smk_report.specs.declared.fault.Fault.TheVariants as fault
 use Rattle.smk_cli_entry.specs.declared.asking.Asked.{Asked}
 use Rattle.smk_cli_entry.specs.Entry.{IsAskedIn}
-use Rattle.smk_cli_entry.specs.Forms.{not_built, unbuilt}
 use Rattle.smk_cli_calls.specs.Serving.{HasListed, Went, settings_of}
 use Rattle.smk_cli_calls.specs.Serving.Went.{Drove, Refused, Stopped, Worked}
 use Rattle.smk_cli_calls.specs.Serving.HasListed.{Listed, NotListed}
 use Rattle.smk_cli_calls.specs.Ends.{fault_of}
 use Rattle.smk_cli_calls.specs.Lines.{IsOutcome}
 use Rattle.smk_cli_calls.specs.Locking.{HasHeeded, HasRunLocked, IsClosed, LockGoes, LockStays, Stood, Taken, Unmade, Untaken, with_release}
-use Rattle.smk_cli_calls.specs.Whole.{AsksFor, HasRun, Heeded, IsRefusal, IsToServe, OfPlan, OfWorkflow, Unasked, Unheeded}
+use Rattle.smk_cli_calls.specs.Whole.{AsksFor, HasRun, Heeded, IsAskedPlainly, IsRefusal, IsToServe, OfPlan, OfWorkflow, Unasked, Unheeded}
 use Rattle.smk_succeed.specs.Completing.{NoMemory as OfMemory}
 use Rattle.smk_laws_complete.specs.Derived.{AllHaveValues, GathersAlone}
 use Rattle.smk_laws_lock.specs.Heeding.{IsSameButLock}
@@ -47,25 +46,17 @@ use Rattle.smk_clean.proofs.Locked.{locked_same, refused_before, start_sound}
 use Rattle.smk_whole.specs.Complete.{EndsComplete, IsCleanAsked, IsCompleteAnswer, setting_in}
 use Rattle.smk_whole.proofs.Drove.{drove_is_complete}
 use Rattle.smk_whole.specs.Calls.{AllIsWell, BrokenOff, CallIsComplete, IsCleanCall, ListingIsComplete, LockedOut, MayTell, PlanRefused}
-use Rattle.smk_whole.proofs.Plain.{built_plans_are_plain}
-use Rattle.smk_cli_calls.proofs.Plain.{neither}
+use Rattle.smk_whole.proofs.Plain.{plain_flows_plan_plainly}
+use Rattle.smk_cli_calls.proofs.OneByOne.{none_grow}
 use Rattle.smk_eval_files.specs.Looks.{Nodes}
 use Rattle.smk_laws_reading.proofs.Alone.{read_flows_gather_alone}
 use Rattle.smk_whole.proofs.Working.{listed_ends, refused_plans_may_stop, want_stops, work_is_complete}
 
 -- ## What is asked of a run
 
-none_mapped : {A B : Type 0} (f : A → B) (o : Option A) → option_map f o ≡ None → o ≡ None
-none_mapped f None h = refl
-none_mapped f (Some x) h = cc
-
--- all its forms are built
-asked_built : (words : RunWords) (nodes : Nodes) (asked : Asked) → IsAskedIn true words nodes (Ok asked) → unbuilt asked.flow.rules ≡ None
-asked_built words nodes asked h = none_mapped (not_built asked.file) (unbuilt asked.flow.rules) (neither _ _ h.1).0
-
 -- what is asked of a workflow that reads gathers alone
-gathers_alone : (run : Bool) (words : RunWords) (nodes : Nodes) (asked : Asked) → IsAskedIn run words nodes (Ok asked) → GathersAlone asked.flow
-gathers_alone run words nodes asked h = read_flows_gather_alone nodes asked.file words.sets asked.flow h.0.1
+gathers_alone : (words : RunWords) (nodes : Nodes) (asked : Asked) → IsAskedIn words nodes (Ok asked) → GathersAlone asked.flow
+gathers_alone words nodes asked h = read_flows_gather_alone nodes asked.file words.sets asked.flow h.0.1
 
 -- ## What is told of an answer
 
@@ -84,11 +75,11 @@ ended read run words w (Err f) h = BrokenOff f h
 -- a refusal is one of the plan
 refused_tells :
     (act : Act) (read : List ℕ → Option Record) (run : Bool) (words : RunWords) (w : World) (H : Versions) (f : Fault) →
-    IsCleanCall act read run words w H → IsRefusal read run words w w f → MayTell read run words w (Some f)
+    IsCleanCall act read words w H → IsRefusal read words w w f → MayTell read run words w (Some f)
 refused_tells act read run words w H f clean (OfWorkflow fails) = absurd (clean.unrefused f fails)
 refused_tells act read run words w H f clean (OfPlan asked is refused) =
     PlanRefused asked f is
-    (refused_plans_may_stop act read asked words w H f (record { differ = clean.differ; sound = clean.sound; alone = gathers_alone run words w.nodes asked is; values = clean.values asked is }) refused)
+    (refused_plans_may_stop act read asked words w H f (record { differ = clean.differ; sound = clean.sound; alone = gathers_alone words w.nodes asked is; values = clean.values asked is }) refused)
 
 -- a chain of plans that comes to a derivation that is refused is refused so
 clashing_refuses :
@@ -100,7 +91,7 @@ clashing_refuses rules image progress L M r f (Onward plan lists is none more re
     (clashing_refuses rules image progress (plan.lists ++ new_listings image rules.settings progress plan) lists r f rest e fault_is)
 
 module _ (act : Act) (read : List ℕ → Option Record) (words : RunWords) (w : World) (H : Versions) (reads : ReadsRecords read)
-    (clean : IsCleanCall act read true words w H) where
+    (clean : IsCleanCall act read words w H) (plainly : IsAskedPlainly words w) where
   abbrev May : Option Fault → Type 0
   May told = MayTell read true words w told
 
@@ -114,19 +105,19 @@ module _ (act : Act) (read : List ℕ → Option Record) (words : RunWords) (w :
       (seen read w) (seen read u) same h
 
   clean_then :
-      (u : World) (asked : Asked) → IsAskedIn true words w.nodes (Ok asked) → SoundWorld outside u H → IsSameButLock (seen read w) (seen read u) →
+      (u : World) (asked : Asked) → IsAskedIn words w.nodes (Ok asked) → SoundWorld outside u H → IsSameButLock (seen read w) (seen read u) →
       IsCleanAsked act read asked u H
   clean_then u asked is sound same =
       record {
         differ = clean.differ;
         sound = sound;
-        alone = gathers_alone true words w.nodes asked is;
+        alone = gathers_alone words w.nodes asked is;
         values = same_values u asked same (clean.values asked is);
       }
 
   -- what may stop the plans of one may stop those of the other
   stops_before :
-      (u : World) (asked : Asked) (f : Fault) → IsAskedIn true words w.nodes (Ok asked) → IsSameButLock (seen read w) (seen read u) →
+      (u : World) (asked : Asked) (f : Fault) → IsAskedIn words w.nodes (Ok asked) → IsSameButLock (seen read w) (seen read u) →
       MayStop (rules_for read asked.flow (settings_of asked words)) (seen read u) nothing_done f →
       MayStop (rules_for read asked.flow (settings_of asked words)) (seen read w) nothing_done f
   stops_before u asked f is same (TooMany count) = TooMany count
@@ -142,7 +133,7 @@ module _ (act : Act) (read : List ℕ → Option Record) (words : RunWords) (w :
   stops_before u asked f is same (TooLong rule bytes) = TooLong rule bytes
 
   answered :
-      (asked : Asked) (u : World) → IsAskedIn true words w.nodes (Ok asked) → IsSameButLock (seen read w) (seen read u) →
+      (asked : Asked) (u : World) → IsAskedIn words w.nodes (Ok asked) → IsSameButLock (seen read w) (seen read u) →
       (answer : Result (Unit {0}) Fault) → IsCompleteAnswer read asked words u answer → May (fault_of answer)
   answered asked u is same (Ok t) h = AllIsWell
   answered asked u is same (Err f) (inl may) = PlanRefused asked f is (stops_before u asked f is same may)
@@ -153,13 +144,13 @@ module _ (act : Act) (read : List ℕ → Option Record) (words : RunWords) (w :
       (u v : World) (old new : Device) (p q : Sunk) (answer : Result (Unit {0}) Fault) → old.world ≡ Some u →
       new.world ≡ Some v → SoundWorld outside u H →
       IsSameButLock (seen read w) (seen read u) →
-      (Rose old.faults new.faults → ⊥) → Went act words answer (IsRefusal read true words w u) (AsksFor words w) (IsToServe read true words w u) old new p q → May
+      (Rose old.faults new.faults → ⊥) → Went act words answer (IsRefusal read words w u) (AsksFor words w) (IsToServe read words w u) old new p q → May
       (fault_of answer)
   went_tells u v old new p q answer at end sound same never (Refused f e refused looked) =
-      subst (λ r. May (fault_of r)) (sym e) (refused_tells act read true words w H f clean (refused_before read true words w u f same refused))
+      subst (λ r. May (fault_of r)) (sym e) (refused_tells act read true words w H f clean (refused_before read words w u f same refused))
   went_tells u v old new p q answer at end sound same never (Drove asked apart asks drove) =
       answered asked u asks same answer
-      (drove_is_complete act read asked words u v H answer old new p q at end reads (clean_then u asked asks sound same) (asked_built words w.nodes asked asks)
+      (drove_is_complete act read asked words u v H answer old new p q at end reads (clean_then u asked asks sound same) (plainly asked asks)
       never drove)
   went_tells u v old new p q answer at end sound same never (Stopped f e want looked) = subst (λ r. May (fault_of r)) (sym e) (BrokenOff f (want_stops f want))
   went_tells u v old new p q answer at end sound same never (Worked asked told one planned worked) =
@@ -167,7 +158,7 @@ module _ (act : Act) (read : List ℕ → Option Record) (words : RunWords) (w :
       ended read true words w answer
       (work_is_complete act read asked told words u v H answer old new p q at end
       (clean_then u asked is sound same) planned.plan
-      (λ plan last. built_plans_are_plain asked.flow _ _ _ _ plan (asked_built words w.nodes asked is) last) never worked)
+      (λ plan last. plain_flows_plan_plainly asked.flow _ _ _ _ plan (none_grow asked.flow words one) last) never worked)
 
   module _ (v : World) (old new : Device) (p q : Sunk) (answer : Result (Unit {0}) Fault)
       (at : old.world ≡ Some w) (end : new.world ≡ Some v)
@@ -176,7 +167,7 @@ module _ (act : Act) (read : List ℕ → Option Record) (words : RunWords) (w :
     closed_tells :
         (u : World) (locked : Device) → locked.world ≡ Some u → SoundWorld outside u H → IsSameButLock (seen read w)
         (seen read u) → old.faults ≤ locked.faults →
-        (ran : HasRunLocked act words answer (IsRefusal read true words w u) (AsksFor words w) (IsToServe read true words w u) locked new p q) → May (fault_of answer)
+        (ran : HasRunLocked act words answer (IsRefusal read words w u) (AsksFor words w) (IsToServe read words w u) locked new p q) → May (fault_of answer)
     closed_tells u locked at_u sound same le ran = go ran.closed
       where
         go : IsClosed act ran.ran answer locked ran.left new → May (fault_of answer)
@@ -189,7 +180,7 @@ module _ (act : Act) (read : List ℕ → Option Record) (words : RunWords) (w :
                 let d = goes.did v end in
                 subst (λ r. May (fault_of r)) (sym is) (went_tells u d.0 locked ran.left p q ran.ran at_u d.1 sound same still ran.went)
             by (Err e) goes is =
-                let later = faults_later act words ran.ran (IsRefusal read true words w u) (AsksFor words w) (IsToServe read true words w u) locked ran.left p q ran.went in
+                let later = faults_later act words ran.ran (IsRefusal read words w u) (AsksFor words w) (IsToServe read words w u) locked ran.left p q ran.went in
                 absurd (never (rose_earlier old.faults ran.left.faults new.faults (omega (arith, le, later)) (goes.cause.rose refl)))
 
     ran_tells : HasRun act read words w answer old new p q → May (fault_of answer)
@@ -203,7 +194,7 @@ module _ (act : Act) (read : List ℕ → Option Record) (words : RunWords) (w :
             ap (λ (y : World). reading (y.nodes lock_place)) after.is
             ∙ ap (λ (n : Path → NodeState). reading (n lock_place)) (looks_nodes false w after.looks after.only_looks)
 
-        go : HasHeeded act words answer (IsRefusal read true words w) (AsksFor words w) (IsToServe read true words w) x looked new p q → May (fault_of answer)
+        go : HasHeeded act words answer (IsRefusal read words w) (AsksFor words w) (IsToServe read words w) x looked new p q → May (fault_of answer)
         go (Unmade is unchanged unput) = subst (λ r. May (fault_of r)) (sym is) (BrokenOff fault.OutOfMemory OfMemory)
         go (Stood is stands tried unput) = subst (λ r. May (fault_of r)) (sym is) (LockedOut refl heeds (subst IsSome nodes stands))
         go (Untaken e is tried unput) = absurd (never (rose_earlier old.faults looked.faults new.faults looking.acted.cause.later (tried.cause.rose refl)))
@@ -213,16 +204,16 @@ module _ (act : Act) (read : List ℕ → Option Record) (words : RunWords) (w :
             (locked_same act read w x u clean.sound.formed after once) (omega (arith, looking.acted.cause.later, taken.cause.later)) ran
 
 pub call_is_complete : CallIsComplete
-call_is_complete act read words w v H told old new out_old out_new at end reads clean never served =
+call_is_complete act read words w v H told old new out_old out_new at end reads clean plainly never served =
     told_of read true words w served.answer told
-    (ran_tells act read words w H reads clean v old new out_old out_new served.answer at end never served.serves) served.told_is
+    (ran_tells act read words w H reads clean plainly v old new out_old out_new served.answer at end never served.serves) served.told_is
 
 pub listing_is_complete : ListingIsComplete
 listing_is_complete act read words w H told old new out_old out_new clean served =
     told_of read false words w served.answer told (go served.answer served.serves.1) served.told_is
   where
     go :
-        (r : Result (Unit {0}) Fault) → HasListed (IsRefusal read false words w w) (IsToServe read false words w w) out_old out_new r →
+        (r : Result (Unit {0}) Fault) → HasListed (IsRefusal read words w w) (IsToServe read words w w) out_old out_new r →
         MayTell read false words w (fault_of r)
     go r (NotListed f refused unput) = refused_tells act read false words w H f clean refused
     go r (HasListed.Stopped f want unput) = BrokenOff f (want_stops f want)

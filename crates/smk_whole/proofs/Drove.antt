@@ -1,5 +1,5 @@
 -- A run that is driven ends well, or for a named reason, where each target has a clean value.
-use Rattle.std.proofs.Common.{◌≡◌, inl, inr, ℕ, false, List, refl, ap, sym, subst, Option, Some, None, Ok, Err, Result, is_none}
+use Rattle.std.proofs.Common.{◌≡◌, inl, inr, ℕ, false, List, refl, ap, sym, subst, Option, Some, Ok, Err, Result, is_none}
 use Rattle.smk_world.specs.World.{World}
 use Rattle.smk_world.specs.Calls.{Rose}
 use Rattle.smk_world.specs.Devices.{Device, Sunk}
@@ -23,7 +23,7 @@ use Rattle.smk_drive_course.specs.declared.ending.End.{End}
 use Rattle.smk_plan_preview.specs.Previewing.{rules_for}
 use Rattle.smk_plan_preview.proofs.LookedAt.{kept, seen_moved}
 use Rattle.smk_cli_entry.specs.declared.asking.Asked.{Asked}
-use Rattle.smk_cli_entry.specs.Forms.{unbuilt}
+use Rattle.smk_cli_calls.specs.OneByOne.{IsPlainFlow}
 use Rattle.smk_cli_calls.specs.Serving.{WasDriven, answer_of, settings_of}
 use Rattle.smk_cli_calls.proofs.Driving.{rules_are}
 use Rattle.smk_succeed.specs.Completing.{NoMemory}
@@ -37,7 +37,7 @@ use Rattle.smk_whole.specs.Complete.{DroveIsComplete, IsCleanAsked, IsCompleteAn
 module _
     (act : Act) (read : List ℕ → Option Record) (asked : Asked) (words : RunWords) (w v : World) (H : Versions) (result : Result (Unit {0}) Fault)
     (old new : Device) (out_old out_new : Sunk) (at : old.world ≡ Some w) (end : new.world ≡ Some v) (reads : ReadsRecords read)
-    (clean : IsCleanAsked act read asked w H) (built : unbuilt asked.flow.rules ≡ None)
+    (clean : IsCleanAsked act read asked w H) (plain_flow : IsPlainFlow asked.flow)
     (never : Rose old.faults new.faults → ⊥) (was : WasDriven act words result asked old new out_old out_new) where
   abbrev o : Outside
   o = record { read = read; act = act }
@@ -46,7 +46,7 @@ module _
   rules = rules_for read asked.flow (settings_of asked words)
 
   plain : PlansArePlain rules
-  plain image progress plan complete is = planned_plain asked.flow image (settings_of asked words) progress plan complete built is
+  plain image progress plan complete is = planned_plain asked.flow image (settings_of asked words) progress plan complete plain_flow is
 
   -- the world once it was looked at
   abbrev x : World
@@ -80,5 +80,5 @@ module _
   ]
 
 pub drove_is_complete : DroveIsComplete
-drove_is_complete act read asked words w v H result old new out_old out_new at end reads clean built never was =
-    complete act read asked words w v H result old new out_old out_new at end reads clean built never was
+drove_is_complete act read asked words w v H result old new out_old out_new at end reads clean plain_flow never was =
+    complete act read asked words w v H result old new out_old out_new at end reads clean plain_flow never was

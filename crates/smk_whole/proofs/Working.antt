@@ -60,7 +60,7 @@ use Rattle.smk_succeed.specs.Planning.{IsPlainPlan}
 use Rattle.smk_succeed.proofs.Completing.{runs_are_complete}
 use Rattle.smk_whole.specs.Complete.{EndsComplete, IsCleanAsked, IsCompleteAnswer, RefusedPlansMayStop, ServedListingsAreComplete, ServedRunsAreComplete, WorkIsComplete}
 use Rattle.smk_whole.proofs.Drove.{drove_is_complete}
-use Rattle.smk_whole.proofs.Plain.{built_plans_are_plain}
+use Rattle.smk_whole.proofs.Plain.{plain_flows_plan_plainly}
 
 pub refused_plans_may_stop : RefusedPlansMayStop
 refused_plans_may_stop act read asked words w H f clean refused =
@@ -278,18 +278,18 @@ completes read asked words w (Ok u) h = tt
 completes read asked words w (Err f) h = inr h
 
 pub served_runs_are_complete : ServedRunsAreComplete
-served_runs_are_complete act read asked words w v H result old new out_old out_new at end reads clean built never (Refused f e refused kept) =
+served_runs_are_complete act read asked words w v H result old new out_old out_new at end reads clean plain_flow never (Refused f e refused kept) =
     subst (IsCompleteAnswer read asked words w) (sym e) (inl (refused_plans_may_stop act read asked words w H f clean refused))
-served_runs_are_complete act read asked words w v H result old new out_old out_new at end reads clean built never (Stopped f e want kept) =
+served_runs_are_complete act read asked words w v H result old new out_old out_new at end reads clean plain_flow never (Stopped f e want kept) =
     subst (IsCompleteAnswer read asked words w) (sym e) (inr (want_stops f want))
-served_runs_are_complete act read asked words w v H result old new out_old out_new at end reads clean built never (Drove served apart same drove) =
-    drove_is_complete act read asked words w v H result old new out_old out_new at end reads clean built never
+served_runs_are_complete act read asked words w v H result old new out_old out_new at end reads clean plain_flow never (Drove served apart same drove) =
+    drove_is_complete act read asked words w v H result old new out_old out_new at end reads clean plain_flow never
     (subst (λ (a : Asked). WasDriven act words result a old new out_old out_new) same drove)
-served_runs_are_complete act read asked words w v H result old new out_old out_new at end reads clean built never
+served_runs_are_complete act read asked words w v H result old new out_old out_new at end reads clean plain_flow never
     (Worked served told also (same, planned) worked) =
     completes read asked words w result
     (work_is_complete act read asked told words w v H result old new out_old out_new at end clean planned
-    (λ plan last. built_plans_are_plain asked.flow _ _ _ _ plan built last) never
+    (λ plan last. plain_flows_plan_plainly asked.flow _ _ _ _ plan plain_flow last) never
     (subst (λ (a : Asked). HasWorked act words.cores result a told old new out_old out_new) same worked))
 
 pub served_listings_are_complete : ServedListingsAreComplete

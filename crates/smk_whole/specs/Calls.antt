@@ -19,19 +19,19 @@ use Rattle.smk_cli_entry.specs.declared.asking.Asked.{Asked}
 use Rattle.smk_cli_entry.specs.Entry.{FailsToAsk, IsAskedIn}
 use Rattle.smk_plan_preview.specs.Previewing.{rules_for}
 use Rattle.smk_cli_calls.specs.Serving.{settings_of}
-use Rattle.smk_cli_calls.specs.Whole.{HasServed}
+use Rattle.smk_cli_calls.specs.Whole.{HasServed, IsAskedPlainly}
 use Rattle.smk_laws_complete.specs.Derived.{AllHaveValues}
 use Rattle.smk_laws_complete.specs.Planned.{MayStop}
 use Rattle.smk_succeed.specs.Completing.{MayBreakOff}
 use Rattle.smk_whole.specs.Complete.{setting_in}
 
--- The world is sound, no two different contents of its versions have the same SHA-256, the words ask for something, by files that read and with no form that is refused, and each target that they ask for has a
--- clean value.
-pub record IsCleanCall (act : Act) (read : List ℕ → Option Record) (run : Bool) (words : RunWords) (w : World) (H : Versions) : Type 0 where
+-- The world is sound, no two different contents of its versions have the same SHA-256, the words ask for something, by files that read, and each target that
+-- they ask for has a clean value.
+pub record IsCleanCall (act : Act) (read : List ℕ → Option Record) (words : RunWords) (w : World) (H : Versions) : Type 0 where
   pub differ : SumsDiffer H
   pub sound : SoundWorld (record { read = read; act = act }) w H
-  pub unrefused : (f : Fault) → FailsToAsk run words w.nodes f → ⊥
-  pub values : (asked : Asked) → IsAskedIn run words w.nodes (Ok asked) → AllHaveValues (setting_in act read asked w) asked.targets
+  pub unrefused : (f : Fault) → FailsToAsk words w.nodes f → ⊥
+  pub values : (asked : Asked) → IsAskedIn words w.nodes (Ok asked) → AllHaveValues (setting_in act read asked w) asked.targets
 
 -- What is told then: that all is well; that the call broke off, for want of memory, of the device, of the sink, of a serial, or with a record that is too
 -- long; that its plan was refused for how the folder stands or for what clashes; or that the lock stands.
@@ -40,13 +40,13 @@ pub data MayTell (read : List ℕ → Option Record) (run : Bool) (words : RunWo
   BrokenOff : (f : Fault) → MayBreakOff f → MayTell read run words w (Some f)
   PlanRefused :
       (asked : Asked) (f : Fault) →
-      IsAskedIn run words w.nodes (Ok asked) →
+      IsAskedIn words w.nodes (Ok asked) →
       MayStop (rules_for read asked.flow (settings_of asked words)) (seen read w) nothing_done f → MayTell read run words w (Some f)
   -- the lock stands, and a run heeds it
   LockedOut : run ≡ true → words.nolock ≡ false → IsSome (reading (w.nodes lock_place)) → MayTell read run words w (Some fault.Locked)
 
--- A call for a run tells nothing else, be its jobs made one after another or driven, and be outputs temporary or not, where the world is told at its end and no
--- count of faults of the device rose.
+-- A call for a run tells nothing else where no plan of what is asked may grow, be its jobs made one after another or driven, and be outputs temporary or not,
+-- where the world is told at its end and no count of faults of the device rose.
 abbrev pub CallIsComplete : Type 0
 CallIsComplete =
     (act : Act) (read : List ℕ → Option Record) (words : RunWords) (w v : World) (H : Versions) (told : Option Fault)
@@ -54,7 +54,8 @@ CallIsComplete =
     old.world ≡ Some w →
     new.world ≡ Some v →
     ReadsRecords read →
-    IsCleanCall act read true words w H →
+    IsCleanCall act read words w H →
+    IsAskedPlainly words w →
     (Rose old.faults new.faults → ⊥) →
     HasServed act read (Run words) w told old new out_old out_new → MayTell read true words w told
 
@@ -63,5 +64,5 @@ abbrev pub ListingIsComplete : Type 0
 ListingIsComplete =
     (act : Act) (read : List ℕ → Option Record) (words : RunWords) (w : World) (H : Versions) (told : Option Fault)
     (old new : Device) (out_old out_new : Sunk) →
-    IsCleanCall act read false words w H →
+    IsCleanCall act read words w H →
     HasServed act read (Preview words) w told old new out_old out_new → MayTell read false words w told

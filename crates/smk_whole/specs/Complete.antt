@@ -1,5 +1,5 @@
 -- How a call ends where each target has a clean value.
-use Rattle.std.specs.Prelude.{◌≡◌, ◌⊎◌, ℕ, List, [], Option, Some, None, Result, Ok, Err, is_none}
+use Rattle.std.specs.Prelude.{◌≡◌, ◌⊎◌, ℕ, List, [], Option, Some, Result, Ok, Err, is_none}
 use Rattle.smk_world.specs.World.{World}
 use Rattle.smk_world.specs.Calls.{Rose}
 use Rattle.smk_world.specs.Devices.{Device, Sunk}
@@ -14,10 +14,10 @@ use Rattle.smk_plan.specs.States.{Plan, LastPlan, nothing_done}
 use Rattle.smk_words_reading.specs.declared.asked.RunWords.{RunWords}
 use Rattle.smk_report.specs.declared.fault.Fault.{Fault}
 use Rattle.smk_record.specs.Spelling.{ReadsRecords}
-use Rattle.smk_cli_entry.specs.Forms.{unbuilt}
 use Rattle.smk_cli_entry.specs.declared.asking.Asked.{Asked}
 use Rattle.smk_plan_preview.specs.declared.previewing.Previewed.{Previewed}
 use Rattle.smk_plan_preview.specs.Previewing.{rules_for}
+use Rattle.smk_cli_calls.specs.OneByOne.{IsPlainFlow}
 use Rattle.smk_cli_calls.specs.Serving.{HasListed, HasWorked, IsPlanFor, IsRefusedPlan, IsServed, IsThat, WasDriven, Went, settings_of}
 use Rattle.smk_laws_complete.specs.Derived.{AllHaveValues, GathersAlone}
 use Rattle.smk_laws_complete.specs.Planned.{MayStop}
@@ -67,7 +67,7 @@ abbrev pub IsCompleteAnswer : (List ℕ → Option Record) → Asked → RunWord
 IsCompleteAnswer read asked words w (Ok u) = Unit {0}
 IsCompleteAnswer read asked words w (Err f) = MayStop (rules_for read asked.flow (settings_of asked words)) (seen read w) nothing_done f ⊎ MayBreakOff f
 
--- So a run ends that is driven, of a workflow all of whose forms are built, be outputs temporary or not.
+-- So a run ends that is driven, of a workflow by which no plan may grow, be outputs temporary or not.
 abbrev pub DroveIsComplete : Type 0
 DroveIsComplete =
     (act : Act) (read : List ℕ → Option Record) (asked : Asked) (words : RunWords) (w v : World) (H : Versions) (result : Result (Unit {0}) Fault)
@@ -76,7 +76,7 @@ DroveIsComplete =
     new.world ≡ Some v →
     ReadsRecords read →
     IsCleanAsked act read asked w H →
-    unbuilt asked.flow.rules ≡ None →
+    IsPlainFlow asked.flow →
     (Rose old.faults new.faults → ⊥) → WasDriven act words result asked old new out_old out_new → IsCompleteAnswer read asked words w result
 
 -- And so does each run for what is asked, be its jobs made one after another or driven.
@@ -88,7 +88,7 @@ ServedRunsAreComplete =
     new.world ≡ Some v →
     ReadsRecords read →
     IsCleanAsked act read asked w H →
-    unbuilt asked.flow.rules ≡ None →
+    IsPlainFlow asked.flow →
     (Rose old.faults new.faults → ⊥) →
     Went act words result (IsRefusedPlan read asked words w) (IsThat asked) (IsServed read asked words w) old new out_old out_new →
     IsCompleteAnswer read asked words w result

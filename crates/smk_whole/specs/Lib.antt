@@ -1,4 +1,4 @@
 pub mod Complete
-pub mod Built
+pub mod Plain
 pub mod Calls
 pub mod Temps

@@ -1,7 +1,7 @@
 //! The law of completeness of the whole call.
 #![tactic(auto)]
 
-ghost use Rattle.smk_whole.specs.Built.{BuiltFlowsGatherAlone, BuiltPlansArePlain};
+ghost use Rattle.smk_whole.specs.Plain.{PlainFlowsGatherAlone, PlainFlowsPlanPlainly};
 ghost use Rattle.smk_whole.specs.Calls.{CallIsComplete, ListingIsComplete};
 ghost use Rattle.smk_whole.specs.Complete.{DroveIsComplete, RefusedPlansMayStop, ServedListingsAreComplete, ServedRunsAreComplete, WorkIsComplete};
 ghost use Rattle.smk_whole.specs.Temps.{OneByOneHasNoTemps, PlansHaveNoTemps};
@@ -17,10 +17,10 @@ pub fn served_is_complete()
     ensures listing { ServedListingsAreComplete }
 {}
 
-/// The jobs of a workflow all of whose forms a run can do gather nothing and make plain files.
-pub fn built_is_plain()
-    ensures plans { BuiltPlansArePlain }
-    ensures flows { BuiltFlowsGatherAlone }
+/// The jobs of a workflow by which no plan may grow gather nothing and make plain files.
+pub fn plain_flows_plan_plainly()
+    ensures plans { PlainFlowsPlanPlainly }
+    ensures flows { PlainFlowsGatherAlone }
 {}
 
 /// No job of a workflow without temporary outputs makes something temporary; and a workflow whose jobs are made one after another has no such output.
@@ -29,7 +29,7 @@ pub fn no_temps_are_planned()
     ensures one_by_one { OneByOneHasNoTemps }
 {}
 
-/// The law of completeness: from a sound folder, for words that ask for something of files that read, that is made or listed, where no form is refused and each
+/// The law of completeness: from a sound folder, for words that ask for something of files that read, that is listed, or made where no plan of it may grow, and where each
 /// target has a clean value, and no count of faults rises, a call tells that all is well, or one of few faults: want of memory, no serial, a record that is too
 /// long, or a refusal of the plan for how the folder stands or for what clashes.
 pub fn calls_are_complete()

@@ -1,4 +1,3 @@
-use Rattle.std.proofs.Common.{false}
 use Rattle.smk_world.proofs.Devices.{looked_then}
 use Rattle.smk_cli_calls.specs.Serving.{IsRefusedPlan, IsServed}
 use Rattle.smk_cli_calls.proofs.Ended.{early, later_on}
@@ -17,7 +16,7 @@ returns-in-Err-clause-looked g c = c.in-Err.ensures.looked
 pub returns-in-Err-clause-listed : goal.returns-in-Err-clause-listed
 returns-in-Err-clause-listed g c = λ w at read reads.
     let words = c.args.words.now in
-    refused_or_stopped_listing (IsRefusal read false words w w) (IsToServe read false words w w) c.in-Err.fault _ c.in-Err.ensures.no_sink
+    refused_or_stopped_listing (IsRefusal read words w w) (IsToServe read words w w) c.in-Err.fault _ c.in-Err.ensures.no_sink
     (λ told. OfWorkflow (c.in-Err.ensures.told w at told))
 
 pub returns-in-Ok-clause-ended : goal.returns-in-Ok-clause-ended
@@ -32,8 +31,8 @@ returns-in-Ok-clause-listed g c = λ w at read reads.
     let v = kept w c.in-Ok.ensures.looked at in
     let asked = c.in-Ok.asked in
     let is_asked = c.in-Ok.ensures.told w at in
-    listed_wider c.list_plan.result (IsRefusal read false words w w) (IsRefusedPlan read asked words v.0) (IsToServe read false words w w)
+    listed_wider c.list_plan.result (IsRefusal read words w w) (IsRefusedPlan read asked words v.0) (IsToServe read words w w)
     (IsServed read asked words v.0) _ _
-    (λ f refused. plan_refused read false words w v.0 asked f v.2 is_asked refused)
-    (λ served told h. plan_served read false words w v.0 asked served told v.2 is_asked h)
+    (λ f refused. plan_refused read words w v.0 asked f v.2 is_asked refused)
+    (λ served told h. plan_served read words w v.0 asked served told v.2 is_asked h)
     (c.list_plan.ensures.listed v.0 v.1 read reads)

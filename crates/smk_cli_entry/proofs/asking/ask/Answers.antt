@@ -11,4 +11,4 @@ returns-in-Ok-clause-looked g c = looked_as (sym c.asked_in.ensures.no_device) c
 
 pub returns-in-Ok-clause-told : goal.returns-in-Ok-clause-told
 returns-in-Ok-clause-told g c = λ w here.
-    asked_both c.args.run c.args.words.now w.nodes c.in-Ok.reading c.asked_in.result (c.in-Ok.ensures.told w here) c.asked_in.ensures.is
+    asked_both c.args.words.now w.nodes c.in-Ok.reading c.asked_in.result (c.in-Ok.ensures.told w here) c.asked_in.ensures.is

@@ -1,7 +1,7 @@
 use Rattle.std.proofs.Common.{Ok, ap, sym, subst}
 use Rattle.smk_world.proofs.Devices.{looked_nothing}
 use Rattle.smk_cli_entry.specs.Faults.{Answers}
-use Rattle.smk_cli_entry.specs.Forms.{or_else}
+use Rattle.smk_cli_entry.specs.Names.{or_else}
 use Rattle.smk_cli_entry.specs.Names.{file_at}
 use Rattle.smk_cli_entry.proofs.naming.earlier_or.Goals as goal
 

@@ -3,7 +3,7 @@ use Rattle.std.specs.Prelude.{codes}
 use Rattle.smk_world.proofs.Devices.{looked_then}
 use Rattle.smk_eval_files.proofs.Looking.{told_then}
 use Rattle.smk_cli_entry.specs.Faults.{Answers}
-use Rattle.smk_cli_entry.specs.Forms.{or_else}
+use Rattle.smk_cli_entry.specs.Names.{or_else}
 use Rattle.smk_cli_entry.specs.Names.{file_at, first_file, file_names}
 use Rattle.smk_cli_entry.proofs.Stats.{unread}
 use Rattle.smk_cli_entry.proofs.Firsts.{next_file}

@@ -1,10 +1,12 @@
-use Rattle.std.proofs.Common.{refl, subst, sym, true, ◌∙◌}
+use Rattle.std.proofs.Common.{ap, refl, subst, sym, true, ◌∙◌}
+use Rattle.smk_drive_step.specs.Crews.{goings}
 use Rattle.smk_laws_turns.specs.Hubs.{Parts}
 use Rattle.smk_drive_hub.specs.Keeping.{parts_of}
 use Rattle.smk_drive_hub.specs.Turned.{HasTurned}
 use Rattle.smk_laws_closes.proofs.Asking.{lets_close, some_running, used_in_place}
 use Rattle.smk_laws_closes.proofs.Given.{laws}
-use Rattle.smk_laws_closes.proofs.Turned.{always_found, only_waited, turned, unwaited}
+use Rattle.smk_laws_closes.proofs.Turned.{always_found, only_waited, turned, turned_grown, unwaited}
+use Rattle.smk_drive_close.proofs.Halting.{is_halted, is_unhalted, taken_from}
 use Rattle.smk_drive_close.proofs.closing.wait.Goals as goal
 
 pub wait-requires : goal.wait-requires
@@ -46,9 +48,43 @@ close-requires-clause-room g c =
     lets_close g.W.Files.act c.args.ground.flow.now c.args.ground.settings.now (parts_of c.args.hub.now) c.in-Some.child c.take.new.self.places.items
     c.in-Ok.ended _ _ c.requires.somewhere c.in-Some.ensures.some.1 (sym c.in-Some.ensures.some.0) c.in-Ok.ensures.called
 
-pub returns-clause-turned : goal.returns-clause-turned
-returns-clause-turned g c =
+pub returns-then-only_waits-clause-less : goal.returns-then-only_waits-clause-less
+returns-then-only_waits-clause-less g c = λ waited.
+    (c.in-Some.child, taken_from c.in-Some.child c.args.hub.now.children.places.items c.take.new.self.places.items _ c.in-Some.ensures.some.1 refl)
+
+pub returns-then-not-is_none-clause-turned : goal.returns-then-not-is_none-clause-turned
+returns-then-not-is_none-clause-turned g c =
     turned c.args.ground.flow.now c.args.ground.settings.now (parts_of c.args.hub.now) c.in-Some.child c.take.new.self.places.items c.give.new.self
     c.in-Some.ensures.some.1 c.give.ensures laws g.W.Files.act c.in-Ok.ended _ _ (g.met.W.Files.sound c.args.work.now).owned c.requires.steady
     c.requires.none_left (sym c.in-Some.ensures.some.0) c.in-Ok.ensures.called c.in-Ok.ensures.other_status
-    (sym c.only_waits.ensures ∙ c.if-only_waits.false) _ _ _ _ c.close.ensures
+    (sym c.only_waits.ensures ∙ c.if-only_waits.false) _ _ _ _ c.close.ensures.followed
+    (is_halted c.close.new.hub.halt.fault (sym c.is_none.ensures ∙ c.if-not-is_none.true))
+
+pub returns-then-not-is_none-clause-less : goal.returns-then-not-is_none-clause-less
+returns-then-not-is_none-clause-less g c = λ waited. (
+  c.in-Some.child,
+  taken_from c.in-Some.child c.args.hub.now.children.places.items c.take.new.self.places.items _ c.in-Some.ensures.some.1
+      (ap goings c.close.ensures.followed.places),
+)
+
+pub grow-requires-clause-live : goal.grow-requires-clause-live
+grow-requires-clause-live g c = λ κs within. c.close.ensures.followed.plan.alive
+
+pub grow-requires-clause-commands : goal.grow-requires-clause-commands
+grow-requires-clause-commands g c = λ κs within.
+    c.close.ensures.commands (is_unhalted c.close.new.hub.halt.fault (sym c.is_none.ensures ∙ c.if-not-is_none.false))
+
+pub returns-clause-turned : goal.returns-clause-turned
+returns-clause-turned g c =
+    turned_grown c.args.ground.flow.now c.args.ground.settings.now (parts_of c.args.hub.now) c.in-Some.child c.take.new.self.places.items c.give.new.self
+    c.in-Some.ensures.some.1 c.give.ensures laws g.W.Files.act c.in-Ok.ended _ _ (g.met.W.Files.sound c.args.work.now).owned c.requires.steady
+    c.requires.none_left (sym c.in-Some.ensures.some.0) c.in-Ok.ensures.called c.in-Ok.ensures.other_status
+    (sym c.only_waits.ensures ∙ c.if-only_waits.false) _ _ _ _ _ _ c.close.ensures.followed
+    (is_unhalted c.close.new.hub.halt.fault (sym c.is_none.ensures ∙ c.if-not-is_none.false)) c.grow.ensures
+
+pub returns-clause-less : goal.returns-clause-less
+returns-clause-less g c = λ waited. (
+  c.in-Some.child,
+  taken_from c.in-Some.child c.args.hub.now.children.places.items c.take.new.self.places.items _ c.in-Some.ensures.some.1
+      (c.grow.ensures.goings ∙ ap goings c.close.ensures.followed.places),
+)

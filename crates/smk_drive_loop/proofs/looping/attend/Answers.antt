@@ -8,13 +8,13 @@ use Rattle.smk_drive_loop.proofs.Steps.{steps_and_stays}
 use Rattle.smk_drive_loop.proofs.looping.attend.Goals as goal
 
 pub wait-requires-clause-none_left : goal.wait-requires-clause-none_left
-wait-requires-clause-none_left g c = λ w is. over_has_none_left c.args.ground.flow.now c.args.ground.settings.now (parts_of c.args.hub.now) w c.requires.over
+wait-requires-clause-none_left g c = λ κs within w is. over_has_none_left c.args.ground.flow.now c.args.ground.settings.now (parts_of c.args.hub.now) w c.requires.over
 
 pub wait-requires-clause-done : goal.wait-requires-clause-done
-wait-requires-clause-done g c = below_limit c.args.hub.now.tally.done 4611686018427387904 18446744073709551615 c.requires.within.done (omega arith)
+wait-requires-clause-done g c = λ κs within. below_limit c.args.hub.now.tally.done 4611686018427387904 18446744073709551615 c.requires.within.done (omega arith)
 
 pub wait-requires-clause-failed : goal.wait-requires-clause-failed
-wait-requires-clause-failed g c = below_limit c.args.hub.now.tally.failed 4611686018427387904 18446744073709551615 c.requires.within.failed (omega arith)
+wait-requires-clause-failed g c = λ κs within. below_limit c.args.hub.now.tally.failed 4611686018427387904 18446744073709551615 c.requires.within.failed (omega arith)
 
 pub spend_once_started-requires : goal.spend_once_started-requires
 spend_once_started-requires g c =

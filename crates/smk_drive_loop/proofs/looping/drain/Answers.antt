@@ -13,10 +13,10 @@ pub children-init : goal.children-init
 children-init g c = record { gone = goes_nowhere _ _ _ _ _ _ c.requires.ready.live; within = c.requires.within }
 
 pub drain_one-requires-clause-ready : goal.drain_one-requires-clause-ready
-drain_one-requires-clause-ready g c = ready_on _ _ _ _ _ _ _ _ _ _ c.requires.ready c.children.invariant.gone
+drain_one-requires-clause-ready g c = λ κs within. ready_on _ _ _ _ _ _ _ _ _ _ c.requires.ready c.children.invariant.gone
 
 pub drain_one-requires-clause-some : goal.drain_one-requires-clause-some
-drain_one-requires-clause-some g c = sym c.is_idle.ensures ∙ c.children-test.true
+drain_one-requires-clause-some g c = λ κs within. sym c.is_idle.ensures ∙ c.children-test.true
 
 pub children-preserved : goal.children-preserved
 children-preserved g c =

@@ -33,10 +33,10 @@ pub returns-in-Some-clause-through : goal.returns-in-Some-clause-through
 returns-in-Some-clause-through g c = c.step.ensures.through c.in-Some.waited c.in-Some.is
 
 pub drain-requires-clause-ready : goal.drain-requires-clause-ready
-drain-requires-clause-ready g c = ready_on _ _ _ _ _ _ _ _ _ _ c.requires.ready c.loop.invariant.gone
+drain-requires-clause-ready g c = λ κs within. ready_on _ _ _ _ _ _ _ _ _ _ c.requires.ready c.loop.invariant.gone
 
 pub drain-requires-clause-within : goal.drain-requires-clause-within
-drain-requires-clause-within g c =
+drain-requires-clause-within g c = λ κs within.
     for_all (parts_of c.loop.hub) (within_up c.loop.counter 4611686018427387904 (parts_of c.loop.hub) c.loop.auto.counter-end c.loop.invariant.within)
 
 pub returns-clause-gone : goal.returns-clause-gone

@@ -1,0 +1,5 @@
+mod Moved
+mod Faults
+mod Taken
+mod Onward
+mod Grown

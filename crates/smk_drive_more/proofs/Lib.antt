@@ -1,0 +1,4 @@
+mod Sinks
+mod Beside
+mod Told
+mod Sure

@@ -1,0 +1,14 @@
+pub mod Laws
+pub mod Seats
+pub mod Numbers
+pub mod More
+pub mod Makers
+pub mod Beside
+pub mod Chains
+pub mod Judged
+pub mod Further
+pub mod Rounds
+pub mod Looks
+pub mod Ends
+pub mod Grows
+pub mod Given

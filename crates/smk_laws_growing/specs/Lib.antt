@@ -1,0 +1,4 @@
+pub mod Moving
+pub mod Growing
+pub mod Onward
+pub mod GrownIn
