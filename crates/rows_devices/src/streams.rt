@@ -7,7 +7,7 @@ use std::alloc::{AllocError, Global};
 use std::io::{Stderr, Stdout};
 
 // Writes to both streams; how many calls failed.
-fn faults(output: &mut RealSink, errors: &mut RealSink) -> Result<u64, Trouble> {
+fn faults(output: &mut RealSink<'_>, errors: &mut RealSink<'_>) -> Result<u64, Trouble> {
     output.put(b"to standard output\n")?;
     output.flush()?;
     errors.put(b"to standard error \xff\n")?;
@@ -17,8 +17,8 @@ fn faults(output: &mut RealSink, errors: &mut RealSink) -> Result<u64, Trouble> 
 
 // What is told of the streams.
 fn told(alloc: Global, output: Stdout, errors: Stderr) -> Result<String, Trouble> {
-    let mut output = RealSink::output(output);
-    let mut errors = RealSink::errors(errors);
+    let mut output = RealSink::output(output, None);
+    let mut errors = RealSink::errors(errors, None);
     let faults = faults(&mut output, &mut errors)?;
     Ok(format!(in alloc; "{faults} calls failed")?)
 }

@@ -1,13 +1,21 @@
 //! The command `smk`: it makes the real devices, and ends with the status of the call on them.
 #![tactic(auto)]
 
+mod calling;
 mod help;
+mod missing;
+mod second;
+mod serving;
+mod unread;
 
 use help::HELP;
-use smk_trial::{Fault, OutOfMemory, asked_generating, serve_generating, smk, tell_fault};
-use smk_world_real::{RealSink, RealWork};
+use second::SEE_HELP;
+use serving::serve;
+use smk_base::OutOfMemory;
+use smk_trial::{Fault, asked_generating, serve_generating, tell_fault};
+use smk_world_real::RealSink;
 use std::alloc::{AllocError, Global};
-use std::io::ErrorKind;
+use std::io::{ErrorKind, IsTerminal};
 use std::process::ExitCode;
 use std::rt::Env;
 use std::{env, io};
@@ -30,6 +38,9 @@ fn main(rt: HostRuntime) -> ExitCode {
         }
         Err(_) => {
             let _ = rt.eprintln("smk: words not read");
+            if rt.stderr().is_terminal() {
+                let _ = rt.eprint(SEE_HELP);
+            }
             return ExitCode::from(BAD_WORDS);
         }
     };
@@ -40,28 +51,22 @@ fn main(rt: HostRuntime) -> ExitCode {
             _ => {}
         }
     }
-    let mut output = RealSink::output(rt.stdout());
-    let mut errors = RealSink::errors(rt.stderr());
     match asked_generating(alloc, words.as_slice()) {
         Ok(Some(asked)) => {
+            let mut output = RealSink::output(rt.stdout(), None);
+            let mut errors = RealSink::errors(rt.stderr(), None);
             let status = serve_generating(&rt, alloc, asked, &mut output, &mut errors);
-            return ExitCode::from(status);
+            ExitCode::from(status)
         }
-        Ok(None) => {}
+        Ok(None) => {
+            let (output, errors) = (rt.stdout(), rt.stderr());
+            ExitCode::from(serve(&rt, alloc, words.as_slice(), output, errors))
+        }
         Err(OutOfMemory) => {
-            return ExitCode::from(tell_fault(alloc, &Fault::OutOfMemory, &mut errors));
+            let mut errors = RealSink::errors(rt.stderr(), None);
+            ExitCode::from(tell_fault(alloc, &Fault::OutOfMemory, &mut errors))
         }
     }
-    let mut work = RealWork::new(alloc, &rt);
-    let outcome = smk(
-        &rt,
-        alloc,
-        words.as_slice(),
-        &mut work,
-        &mut output,
-        &mut errors,
-    );
-    ExitCode::from(outcome.status)
 }
 
 // The words after the program's name.

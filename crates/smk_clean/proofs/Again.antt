@@ -217,8 +217,8 @@ module _ (o : Outside) (words : RunWords) (w v : World) (formed : IsFormed v) (l
       }
 
 pub next_starts_nothing : RunLeavesAllClean → DrivenEnds → NextCallStartsNothing
-next_starts_nothing exit drives o H words told again w v old new next_old next_new p q next_p next_q at end next_at reads differ sound plainly free served none same
+next_starts_nothing exit drives o H words told again w v old new next_old next_new p q next_p next_q at end next_at reads differ sound free served none same
     next =
-    let well = ended_well exit drives o H words told w v old new p q at end reads differ sound plainly served none in
+    let well = ended_well exit drives o H words told w v old new p q at end reads differ sound served none in
     let left = none_left exit drives o words w v free well in
     starts_nothing o words w v well.formed left same reads next.answer next_old next_new next_p next_q next_at next.serves

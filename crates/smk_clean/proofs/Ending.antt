@@ -18,7 +18,7 @@ use Rattle.smk_report.specs.declared.fault.Fault.TheVariants as fault
 use Rattle.smk_drive.specs.Moments.{Rules}
 use Rattle.smk_drive_course.specs.declared.ending.End.{End}
 use Rattle.smk_drive_course.specs.Driven.{HasDriven}
-use Rattle.smk_laws_driven.specs.Ended.{DrivenIsClean, DrivenLeavesNone, DrivenTells, PlansArePlain}
+use Rattle.smk_laws_driven.specs.Ended.{DrivenIsClean, DrivenLeavesNone, DrivenTells}
 use Rattle.smk_words_reading.specs.declared.asked.RunWords.{RunWords}
 use Rattle.smk_words_reading.specs.declared.asked.Asked.TheVariants.{Run as Asks}
 use Rattle.smk_cli_entry.specs.declared.asking.Asked.{Asked}
@@ -26,10 +26,9 @@ use Rattle.smk_plan_preview.specs.Previewing.{rules_for}
 use Rattle.smk_plan_preview.proofs.LookedAt.{kept, seen_moved}
 use Rattle.smk_cli_calls.specs.Serving.{Went, Refused, Stopped, Worked, Drove, WasDriven, answer_of, settings_of}
 use Rattle.smk_cli_calls.proofs.Driving.{rules_are}
-use Rattle.smk_cli_calls.specs.OneByOne.{IsPlainFlow}
 use Rattle.smk_cli_calls.proofs.OneByOne.{none_forced, none_grow}
 use Rattle.smk_cli_calls.specs.Locking.{HasHeeded, Stood, Taken, Unmade, Untaken}
-use Rattle.smk_cli_calls.specs.Whole.{AsksFor, HasRun, HasServed, Heeded, IsAskedPlainly, IsRefusal, IsToServe, Unasked, Unheeded}
+use Rattle.smk_cli_calls.specs.Whole.{AsksFor, HasRun, HasServed, Heeded, IsRefusal, IsToServe, Unasked, Unheeded}
 use Rattle.smk_pick.specs.declared.settings.Force.TheVariants.{No}
 use Rattle.smk_laws_lock.proofs.Heeding.{lock_changes_itself_alone}
 use Rattle.smk_exit.specs.Exit.{RunLeavesAllClean}
@@ -38,7 +37,6 @@ use Rattle.smk_clean.specs.Clean.{CallIsClean}
 use Rattle.smk_clean.proofs.Clean.{HasEndedWell, goes_clean, moved_end, no_first}
 use Rattle.smk_clean.proofs.Driving.{driven_safely}
 use Rattle.smk_clean.proofs.Locked.{IsUnderLock, under_lock}
-use Rattle.smk_clean.proofs.Plain.{planned_plain}
 use Rattle.smk_clean.proofs.Safe.{Answer, looked_safe, no_fault, ok_err}
 
 -- ## A run that is driven
@@ -63,15 +61,12 @@ came_to_end (Err f) u (inr h) = absurd (ok_err u fault.OutOfMemory h)
 
 module _ (drives : DrivenEnds) (o : Outside) (H : Versions) (w : World) (differ : SumsDiffer H) (sound : SoundWorld o w H) (reads : ReadsRecords o.read)
     (words : RunWords) where
-  module _ (entry : World) (asked : Asked) (asks : AsksFor words entry asked) (plain_flow : IsPlainFlow asked.flow) where
+  module _ (entry : World) (asked : Asked) (asks : AsksFor words entry asked) where
     abbrev settings : Settings
     settings = settings_of asked words
 
     abbrev rules : Rules
     rules = rules_for o.read asked.flow settings
-
-    plain : PlansArePlain rules
-    plain image progress plan complete is = planned_plain asked.flow image settings progress plan complete plain_flow is
 
     drove_clean :
         (u : Unit {0}) (v : World) (old new : Device) (p q : Sunk) → old.world ≡ Some w → new.world ≡ Some v →
@@ -83,8 +78,8 @@ module _ (drives : DrivenEnds) (o : Outside) (H : Versions) (w : World) (differ 
         let came = came_to_end was.driven u was.answers in
         let ran : HasDriven o.act rules (Ok came.end) was.looked new p q =
         subst (λ r. HasDriven o.act rules r was.looked new p q) came.is (was.drove rules (rules_are o.read reads asked.flow settings)) in
-        let told = drives.tells o rules H came.end x v was.looked new p q k.1 ends refl reads differ sound_then plain ran in
-        let clean = drives.clean o rules H came.end x v was.looked new p q k.1 ends refl reads differ sound_then plain ran came.none_failed in
+        let told = drives.tells o rules H came.end x v was.looked new p q k.1 ends refl reads differ sound_then ran in
+        let clean = drives.clean o rules H came.end x v was.looked new p q k.1 ends refl reads differ sound_then ran came.none_failed in
         let safe = driven_safely o H w differ sound reads words asked (Ok u) v old new p q at ends was in
         record {
           asked = asked;
@@ -93,7 +88,7 @@ module _ (drives : DrivenEnds) (o : Outside) (H : Versions) (w : World) (differ 
               (seen_moved o.read w x k.2) clean;
           sources = subst (λ (i : Image). SameSources i (seen o.read v)) (seen_moved o.read w x k.2) told.sources;
           left = λ free.
-              let none = drives.none_left o rules H came.end x v was.looked new p q k.1 ends refl reads differ sound_then plain ran free came.none_failed in
+              let none = drives.none_left o rules H came.end x v was.looked new p q k.1 ends refl reads differ sound_then ran free came.none_failed in
               record { plan = none.plan; last = none.last; clean = none.clean; current = none.current };
           formed = (safe.4 u refl).formed;
         }
@@ -104,27 +99,26 @@ module _ (exit : RunLeavesAllClean) (drives : DrivenEnds) (o : Outside) (H : Ver
     (words : RunWords) where
   went_clean :
       (u : Unit {0}) (entry : World) (answer : Answer) (v : World) (old new : Device) (p q : Sunk) → old.world ≡ Some w → new.world ≡ Some v → answer ≡ Ok u →
-      IsAskedPlainly words entry →
       (h : Went o.act words answer (IsRefusal o.read words entry w) (AsksFor words entry) (IsToServe o.read words entry w) old new p q) →
       HasEndedWell o words entry w v
-  went_clean u entry (Err g) v old new p q at ends e plainly h = absurd (ok_err u g (sym e))
-  went_clean u entry (Ok t) v old new p q at ends e plainly (Refused f is why looked) = absurd (ok_err t f is)
-  went_clean u entry (Ok t) v old new p q at ends e plainly (Stopped f is want looked) = absurd (ok_err t f is)
-  went_clean u entry (Ok t) v old new p q at ends e plainly (Drove asked apart is drove) =
-      drove_clean drives o H w differ sound reads words entry asked is (plainly asked is) t v old new p q at ends drove
-  went_clean u entry (Ok t) v old new p q at ends e plainly (Worked asked told one plans worked) =
+  went_clean u entry (Err g) v old new p q at ends e h = absurd (ok_err u g (sym e))
+  went_clean u entry (Ok t) v old new p q at ends e (Refused f is why looked) = absurd (ok_err t f is)
+  went_clean u entry (Ok t) v old new p q at ends e (Stopped f is want looked) = absurd (ok_err t f is)
+  went_clean u entry (Ok t) v old new p q at ends e (Drove asked apart is drove) =
+      drove_clean drives o H w differ sound reads words entry asked is t v old new p q at ends drove
+  went_clean u entry (Ok t) v old new p q at ends e (Worked asked told one plans worked) =
       goes_clean o H w differ sound reads words entry asked told plans (none_grow asked.flow words one) exit (none_forced asked.flow words one) t v old worked.looked worked.carried.firm new p q worked.carried.settled
       (store_failed worked.carried.settled) at ends
       worked.looking worked.carried.settling worked.carried.goes_on
 
 module _ (exit : RunLeavesAllClean) (drives : DrivenEnds) (o : Outside) (H : Versions) (w : World) (differ : SumsDiffer H) (sound : SoundWorld o w H) (reads : ReadsRecords o.read)
-    (words : RunWords) (plainly : IsAskedPlainly words w) where
+    (words : RunWords) where
   -- under the lock
   locked_clean : (u : Unit {0}) (answer : Answer) (x : World) (new : Device) (p q : Sunk) → answer ≡ Ok u →
       IsUnderLock o H w differ sound words answer new p q x → HasEndedWell o words w w x
   locked_clean u answer x new p q e k =
       let ended = went_clean exit drives o H k.start differ k.sound_then reads words tt w k.ran k.last k.locked k.left p q k.at_start k.at_last
-      (k.well u e) plainly k.went in
+      (k.well u e) k.went in
       let formed : IsFormed x = subst IsFormed (sym k.end_is) (formed_run k.last k.release ended.formed) in
       moved_end o words w w k.start k.last x k.same_start (lock_changes_itself_alone o.read k.last x ended.formed formed k.only) formed ended
 
@@ -133,7 +127,7 @@ module _ (exit : RunLeavesAllClean) (drives : DrivenEnds) (o : Outside) (H : Ver
       HasRun o.act o.read words w answer old new p q →
       HasEndedWell o words w w x
   ran_clean u answer x old new p q at ends e
-      (Unheeded heeds_none went) = went_clean exit drives o H w differ sound reads words u w answer x old new p q at ends e plainly went
+      (Unheeded heeds_none went) = went_clean exit drives o H w differ sound reads words u w answer x old new p q at ends e went
   ran_clean u answer x old new p q at ends e (Unasked f heeds is why looked) = absurd (ok_err u f (sym e ∙ is))
   ran_clean u answer x old new p q at ends e (Heeded v looked heeds after at_v looking heeded) = go heeded
     where
@@ -149,19 +143,20 @@ module _ (exit : RunLeavesAllClean) (drives : DrivenEnds) where
   -- by what a run leaves
   pub ended_well :
       (o : Outside) (H : Versions) (words : RunWords) (told : Option Fault) (w v : World) (old new : Device) (p q : Sunk) → old.world ≡ Some w → new.world ≡ Some v →
-      ReadsRecords o.read → SumsDiffer H → SoundWorld o w H → IsAskedPlainly words w → HasServed o.act o.read (Asks words) w told old new p q → told ≡ None → HasEndedWell o words w w v
-  ended_well o H words told w v old new p q at ends reads differ sound plainly served none =
+      ReadsRecords o.read → SumsDiffer H → SoundWorld o w H → HasServed o.act o.read (Asks words) w told old new p q → told ≡ None → HasEndedWell o words w w v
+  ended_well o H words told w v old new p q at ends reads differ sound served none =
       let a = no_fault served.answer told served.told_is none in
-      ran_clean exit drives o H w differ sound reads words plainly a.0 served.answer v old new p q at ends a.1 served.serves
+      ran_clean exit drives o H w differ sound reads words a.0 served.answer v old new p q at ends a.1 served.serves
 
-  pub none_left : (o : Outside) (words : RunWords) (w v : World) → words.force ≡ No → HasEndedWell o words w w v → HasNoneLeft o words w v
+  pub none_left :
+      (o : Outside) (words : RunWords) (w v : World) → words.force ≡ No → HasEndedWell o words w w v → HasNoneLeft o words w v
   none_left o words w v free h =
       let left = h.left free in
       record { asked = h.asked; is_asked = h.is_asked; plan = left.plan; last = left.last; clean = left.clean; current = left.current }
 
   pub call_is_clean : CallIsClean
-  call_is_clean o H words told w v old new p q at ends reads differ sound plainly served none =
-      let h = ended_well o H words told w v old new p q at ends reads differ sound plainly served none in record {
+  call_is_clean o H words told w v old new p q at ends reads differ sound served none =
+      let h = ended_well o H words told w v old new p q at ends reads differ sound served none in record {
         asked = h.asked;
         is_asked = h.is_asked;
         targets = h.targets;
@@ -169,5 +164,5 @@ module _ (exit : RunLeavesAllClean) (drives : DrivenEnds) where
       }
 
   pub call_leaves_none : CallLeavesNone
-  call_leaves_none o H words told w v old new p q at ends reads differ sound plainly free served none = none_left o words w v free
-      (ended_well o H words told w v old new p q at ends reads differ sound plainly served none)
+  call_leaves_none o H words told w v old new p q at ends reads differ sound free served none = none_left o words w v free
+      (ended_well o H words told w v old new p q at ends reads differ sound served none)

@@ -30,7 +30,7 @@ use Rattle.smk_make.specs.Making.{GoesOn, NotFirm, NoMemory, Made}
 use Rattle.smk_plan_preview.specs.declared.previewing.Previewed.{Previewed}
 use Rattle.smk_cli_calls.specs.Serving.{Went, Refused, Stopped, Worked, Drove, settings_of}
 use Rattle.smk_cli_calls.specs.Locking.{HasHeeded, Unmade, Stood, Untaken, Taken}
-use Rattle.smk_cli_calls.specs.Whole.{AsksFor, HasRun, Unheeded, Unasked, Heeded, HasServed, IsAskedPlainly}
+use Rattle.smk_cli_calls.specs.Whole.{AsksFor, HasRun, Unheeded, Unasked, Heeded, HasServed}
 use Rattle.smk_exit.specs.Exit.{begun_so}
 
 -- ## The plan of the exit
@@ -47,7 +47,7 @@ pub record HasNoneLeft (o : Outside) (words : RunWords) (w v : World) : Type 0 w
       (begun : List Path) →
       Each (λ p. is_current (seen o.read v) (settings_of asked words) (begun_so begun) plan p ≡ true) asked.targets
 
--- A run that forces no job and ends without a fault, in a sound folder, where no plan of what is asked may grow.
+-- A run that forces no job and ends without a fault, in a sound folder, whatever the workflow has.
 abbrev pub CallLeavesNone : Type 0
 CallLeavesNone =
     (o : Outside) (H : Versions) (words : RunWords) (told : Option Fault) (w v : World) (old new : Device) (out_old out_new : Sunk) →
@@ -55,9 +55,7 @@ CallLeavesNone =
     new.world ≡ Some v →
     ReadsRecords o.read →
     SumsDiffer H →
-    SoundWorld o w H →
-    IsAskedPlainly words w →
-    words.force ≡ No → HasServed o.act o.read (Run words) w told old new out_old out_new → told ≡ None → HasNoneLeft o words w v
+    SoundWorld o w H → words.force ≡ No → HasServed o.act o.read (Run words) w told old new out_old out_new → told ≡ None → HasNoneLeft o words w v
 
 -- ## A run again
 
@@ -132,8 +130,8 @@ pub record StartsNothing
   pub no_turn : turns_ran ran ≡ []
   pub no_job : untold_ran ran
 
--- After a run that forced no job and ended without a fault, in a sound folder, where no plan of what is asked may grow, a run with the same words starts
--- nothing: in the folder that the first one left, where they ask for the same of the workflow in it.
+-- After a run that forced no job and ended without a fault, in a sound folder, whatever the workflow has, a run with the same words starts nothing: in the
+-- folder that the first one left, where they ask for the same of the workflow in it.
 abbrev pub NextCallStartsNothing : Type 0
 NextCallStartsNothing =
     (o : Outside) (H : Versions) (words : RunWords) (told again : Option Fault) (w v : World) (old new next_old next_new : Device)
@@ -144,7 +142,6 @@ NextCallStartsNothing =
     ReadsRecords o.read →
     SumsDiffer H →
     SoundWorld o w H →
-    IsAskedPlainly words w →
     words.force ≡ No →
     HasServed o.act o.read (Run words) w told old new out_old out_new →
     told ≡ None →

@@ -16,7 +16,7 @@ use Rattle.smk_words_reading.specs.declared.asked.RunWords.{RunWords}
 use Rattle.smk_words_reading.specs.declared.asked.Asked.TheVariants.{Run}
 use Rattle.smk_cli_entry.specs.declared.asking.Asked.{Asked}
 use Rattle.smk_cli_entry.specs.Entry.{IsAskedIn}
-use Rattle.smk_cli_calls.specs.Whole.{HasServed, IsAskedPlainly}
+use Rattle.smk_cli_calls.specs.Whole.{HasServed}
 
 -- what a clean run has of this flow, from the sources that stand in the folder
 abbrev pub setting_in : Outside → World → Flow → Setting
@@ -30,7 +30,7 @@ pub record HasMadeClean (o : Outside) (words : RunWords) (w v : World) : Type 0 
   pub targets : Each (IsClean (setting_in o w asked.flow) (seen o.read v)) asked.targets
   pub sources : SameSources (seen o.read w) (seen o.read v)
 
--- A run that ends without a fault, in a sound folder, where no plan of what is asked may grow; be its jobs made one after another or driven.
+-- A run that ends without a fault, in a sound folder, whatever the workflow has; be its jobs made one after another or driven.
 abbrev pub CallIsClean : Type 0
 CallIsClean =
     (o : Outside) (H : Versions) (words : RunWords) (told : Option Fault) (w v : World) (old new : Device) (out_old out_new : Sunk) →
@@ -39,5 +39,4 @@ CallIsClean =
     ReadsRecords o.read →
     SumsDiffer H →
     SoundWorld o w H →
-    IsAskedPlainly words w →
     HasServed o.act o.read (Run words) w told old new out_old out_new → told ≡ None → HasMadeClean o words w v

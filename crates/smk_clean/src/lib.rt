@@ -7,8 +7,8 @@ ghost use Rattle.smk_clean.specs.Locking.{LockIsLeft};
 ghost use Rattle.smk_clean.specs.Safe.{CallIsSafe};
 ghost use Rattle.smk_clean.specs.Standing.{PlanRefusalStands, RefusalStands};
 
-/// The law of a whole call in a sound folder, whatever is asked, be its jobs made one after another or driven, and however it ends: after every prefix of its events whatever a crash leaves is sound and
-/// has the sources of the entry; and where it ends without a fault, or no child is left, the folder is sound.
+/// The law of a whole call in a sound folder, whatever is asked, be its jobs made one after another or driven, and however it ends: after every prefix of its
+/// events whatever a crash leaves is sound and has the sources of the entry; and where it ends without a fault, or no child is left, the folder is sound.
 pub fn calls_are_safe()
     ensures { CallIsSafe }
 {}
@@ -22,15 +22,15 @@ pub fn refusals_stand()
     ensures plan { PlanRefusalStands }
 {}
 
-/// The law of a run that ends without a fault, in a sound folder, where no plan of what is asked may grow, be its jobs made one after another or driven: each target is at the end what a clean run from the sources of
-/// the entry makes of it, and the sources are as they were.
+/// The law of a run that ends without a fault, in a sound folder, whatever its workflow has, be its jobs made one after another or driven: each target is at
+/// the end what a clean run from the sources of the entry makes of it, and the sources are as they were.
 pub fn calls_are_clean()
     ensures { CallIsClean }
 {}
 
-/// Laws of what is left to do after a run that forced no job and ends without a fault, in a sound folder, where no plan of what is asked may grow, be its jobs made one after another or driven. The
-/// last plan for the same words has each job Clean and each target current, whichever jobs have begun. And a run with the same words, in the folder that was
-/// left, starts nothing, where the words ask for the same of the workflow in it: no child, no turn, and it tells of no job.
+/// Laws of what is left to do after a run that forced no job and ends without a fault, in a sound folder, whatever its workflow has, be its jobs made one after
+/// another or driven. The last plan for the same words has each job Clean and each target current, whichever jobs have begun. And a run with the same words,
+/// in the folder that was left, starts nothing, where the words ask for the same of the workflow in it: no child, no turn, and it tells of no job.
 pub fn calls_leave_none()
     ensures clean { CallLeavesNone }
     ensures again { NextCallStartsNothing }

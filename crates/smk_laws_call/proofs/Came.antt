@@ -219,18 +219,18 @@ came_is_sound act w H came differ = sound_in act w H (HasHeld act w H came) diff
 pub headline : Headline
 headline act w v H words told came differ called =
     record {
-      tells = λ plain.
+      tells =
           ran_tells (outside act) H w v sound.0 sound.1 reads_records words called.served.answer called.old called.new called.out_old called.out_new
-          called.begins called.ends plain called.served.serves;
-      clean = λ plain.
+          called.begins called.ends called.served.serves;
+      clean =
           call_is_clean run_leaves_all_clean drives_end (outside act) H words told w v called.old called.new called.out_old called.out_new called.begins
-          called.ends reads_records sound.0 sound.1 plain called.served;
-      none_left = λ plain free.
+          called.ends reads_records sound.0 sound.1 called.served;
+      none_left = λ free.
           call_leaves_none run_leaves_all_clean drives_end (outside act) H words told w v called.old called.new called.out_old called.out_new called.begins
-          called.ends reads_records sound.0 sound.1 plain free called.served;
-      starts_nothing = λ plain free none same again x next.
+          called.ends reads_records sound.0 sound.1 free called.served;
+      starts_nothing = λ free none same again x next.
           next_starts_nothing run_leaves_all_clean drives_end (outside act) H words told again w v called.old called.new next.old next.new called.out_old
-          called.out_new next.out_old next.out_new called.begins called.ends next.begins reads_records sound.0 sound.1 plain free called.served none same next.served;
+          called.out_new next.out_old next.out_new called.begins called.ends next.begins reads_records sound.0 sound.1 free called.served none same next.served;
       finished = λ log is.
           let s = safe act w v H (Run words) told sound.0 sound.1 called in
           let same = same_events w s.0 log (sym s.2 ∙ is) in

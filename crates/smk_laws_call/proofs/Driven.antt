@@ -1,7 +1,6 @@
 -- What a run puts that is driven, and that what it calls current is clean.
 use Rattle.std.proofs.Common.{◌≡◌, Bool, true, false, List, [], ◌∷◌, ◌++◌, zip, refl, ap, sym, subst, ◌∙◌, append_assoc, append-nil, Option, Some, None, Result, Ok, Err, is_none}
-use Rattle.smk_world.specs.declared.event.Event.{Event}
-use Rattle.smk_world.specs.World.{World, run}
+use Rattle.smk_world.specs.World.{World}
 use Rattle.smk_world.specs.Devices.{Device, Sunk}
 use Rattle.smk_world.specs.Trees.{Path, Each}
 use Rattle.smk_record.specs.Spelling.{ReadsRecords}
@@ -17,22 +16,18 @@ use Rattle.smk_report.specs.Lines.{Text}
 use Rattle.smk_run.specs.Reports.{IsFront}
 use Rattle.smk_drive.specs.Moments.{Rules}
 use Rattle.smk_drive_course.specs.declared.ending.End.{End}
-use Rattle.smk_drive_course.specs.Driven.{HasDriven, IsRun}
+use Rattle.smk_drive_course.specs.Driven.{HasDriven}
 use Rattle.smk_drive_course.specs.Reports.{IsReport, closing_lines, deed_line, lines_of}
 use Rattle.smk_drive_course.specs.Steps.{Deed}
-use Rattle.smk_laws_driven.specs.Ended.{HasToldWell, PlansArePlain}
-use Rattle.smk_laws_driven.proofs.Ending as ending
-use Rattle.smk_laws_driven.proofs.Safe as driven
+use Rattle.smk_laws_driven.proofs.Ended.{driven_tells_all}
 use Rattle.smk_words_reading.specs.declared.asked.RunWords.{RunWords}
 use Rattle.smk_cli_entry.specs.declared.asking.Asked.{Asked}
 use Rattle.smk_plan_preview.specs.Previewing.{rules_for}
 use Rattle.smk_plan_preview.proofs.LookedAt.{kept, seen_moved}
-use Rattle.smk_cli_calls.specs.OneByOne.{IsPlainFlow}
 use Rattle.smk_cli_calls.specs.Serving.{WasDriven, settings_of}
 use Rattle.smk_cli_calls.proofs.Driving.{rules_are}
 use Rattle.smk_cli_calls.specs.Whole.{AsksFor}
 use Rattle.smk_clean.specs.Clean.{setting_in}
-use Rattle.smk_clean.proofs.Plain.{planned_plain}
 use Rattle.smk_clean.proofs.Safe.{Answer, looked_safe}
 use Rattle.smk_laws_call.specs.Telling.{HasPutSo, end_lines}
 
@@ -57,50 +52,6 @@ report_front rules deeds told (Err f) text h = (
       ∙ (sym (append_assoc (lines_of rules.flow h.before) h.more h.rest) ∙ ap (λ t. t ++ h.rest) (sym h.text_is))))),
 )
 
--- ## Runs that came to tell how they ended
-
-same_end : (a b : End) → Some a ≡ Some b → b ≡ a
-same_end a b h = cc
-
--- as if the end that was told had been answered
-as_ended :
-    (rules : Rules) (end : End) (result : Result End Fault) (deeds : List Deed) (w : World) (es : List Event) → IsRun rules (Some end) result deeds w es →
-    IsRun rules (Some end) (Ok end) deeds w es
-as_ended rules end (Ok e) deeds w es r = subst (λ x. IsRun rules (Some end) (Ok x) deeds w es) (same_end end e r.answer.0) r
-as_ended rules end (Err f) deeds w es r =
-    record {
-      opening = r.opening;
-      rest = r.rest;
-      opened = r.opened;
-      plan = r.plan;
-      start = r.start;
-      last = r.last;
-      events = r.events;
-      opens = r.opens;
-      planned = r.planned;
-      goes_by = r.goes_by;
-      steps = r.steps;
-      waited = r.waited;
-      answer = (refl, r.answer.1);
-    }
-
--- what it told current is clean, whatever it answered
-told_well :
-    (o : Outside) (rules : Rules) (H : Versions) (result : Result End Fault) (end : End) (w v : World) (old new : Device) (p q : Sunk) →
-    old.world ≡ Some w → new.world ≡ Some v → rules.read ≡ o.read → ReadsRecords o.read → SumsDiffer H → SoundWorld o w H → PlansArePlain rules →
-    (h : HasDriven o.act rules result old new p q) → h.told ≡ Some end → HasToldWell o rules w v end
-told_well o rules H result end w v old new p q at ends reader reads differ sound plain h told_is =
-    let l = driven.led o rules H result w v old new p q at ends reader reads differ sound h in
-    let ran : IsRun rules (Some end) (Ok end) h.deeds w l.events =
-    as_ended rules end result h.deeds w l.events (subst (λ t. IsRun rules t result h.deeds w l.events) told_is l.ran) in
-    let alone : (run w l.events).children ≡ [] = driven.none_left rules (Some end) (Ok end) h.deeds w l.events ran sound.no_child refl in
-    let s = driven.safe o rules H result w v old new p q at ends reader reads differ sound h in
-    let same : run w l.events ≡ run w s.events = sym l.is ∙ s.is in
-    let sound_end : SoundWorld o (run w l.events) H =
-    subst (λ x. SoundWorld o x H) (sym same) (s.at_end (subst (λ (x : World). x.children ≡ []) same alone)) in
-    subst (λ x. HasToldWell o rules w x end) (sym l.is)
-    (ending.told_well o rules H w (Some end) end h.deeds l.events reader reads differ sound l.follows ran plain sound_end)
-
 -- ## What is put
 
 -- The text is a front of the lines of what was done and of how the run ended, if it came to tell that; and each target that it calls current there is clean.
@@ -114,13 +65,9 @@ pub record DroveTells (o : Outside) (asked : Asked) (w v : World) (text : Text) 
       Each (λ (x : Path × Bool). x.1 ≡ true → IsClean (setting_in o w asked.flow) (seen o.read v) x.0) (zip asked.targets end.current)
 
 module _ (o : Outside) (H : Versions) (w : World) (differ : SumsDiffer H) (sound : SoundWorld o w H) (reads : ReadsRecords o.read) (words : RunWords)
-    (entry : World) (asked : Asked) (asks : AsksFor words entry asked) (plain_flow : IsPlainFlow asked.flow) where
+    (entry : World) (asked : Asked) (asks : AsksFor words entry asked) where
   abbrev rules : Rules
   rules = rules_for o.read asked.flow (settings_of asked words)
-
-  plain : PlansArePlain rules
-  plain image progress plan complete is =
-      planned_plain asked.flow image (settings_of asked words) progress plan complete plain_flow is
 
   closing_same : (told : Option End) → closing_lines rules told ≡ end_lines asked.targets told
   closing_same None = refl
@@ -149,7 +96,7 @@ module _ (o : Outside) (H : Versions) (w : World) (differ : SumsDiffer H) (sound
                 Each (λ (y : Path × Bool). y.1 ≡ true → IsClean (setting_of asked.flow o.act (λ j. is_none (missing j)) i) (seen o.read v) y.0)
                 (zip asked.targets end.current))
                 (seen_moved o.read w x k.2)
-                (told_well o rules H was.driven end x v was.looked new p q k.1 ends refl reads differ sound_then plain h told_is).targets;
+                (driven_tells_all o rules H was.driven end x v was.looked new p q k.1 ends refl reads differ sound_then h told_is).targets;
           },
           t.2.2,
         ),

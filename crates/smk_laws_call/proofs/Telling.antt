@@ -43,7 +43,7 @@ use Rattle.smk_cli_calls.proofs.OneByOne.{none_forced, none_grow}
 use Rattle.smk_cli_calls.specs.Serving.{Went, Refused, Stopped, Worked, Drove, settings_of}
 use Rattle.smk_cli_entry.specs.Entry.{IsAskedIn}
 use Rattle.smk_cli_calls.specs.Locking.{HasHeeded, Stood, Taken, Unmade, Untaken}
-use Rattle.smk_cli_calls.specs.Whole.{AsksFor, HasRun, Heeded, IsAskedPlainly, IsRefusal, IsToServe, Unasked, Unheeded}
+use Rattle.smk_cli_calls.specs.Whole.{AsksFor, HasRun, Heeded, IsRefusal, IsToServe, Unasked, Unheeded}
 use Rattle.smk_laws_lock.specs.Heeding.{IsSameButLock}
 use Rattle.smk_laws_lock.proofs.Heeding.{lock_changes_itself_alone, on_both, same_back}
 use Rattle.smk_safe.specs.Planned.{IsFit, IsPlain}
@@ -219,15 +219,15 @@ module _
 went_tells :
     (o : Outside) (H : Versions) (entry w v : World) (differ : SumsDiffer H) (sound : SoundWorld o w H) (reads : ReadsRecords o.read) (words : RunWords)
     (answer : Answer)
-    (old new : Device) (p q : Sunk) → old.world ≡ Some w → new.world ≡ Some v → IsAskedPlainly words entry →
+    (old new : Device) (p q : Sunk) → old.world ≡ Some w → new.world ≡ Some v →
     Went o.act words answer (IsRefusal o.read words entry w) (AsksFor words entry) (IsToServe o.read words entry w) old new p q → HasPutSo p q
     (TellsBy o words entry w v)
-went_tells o H entry w v differ sound reads words answer old new p q at ends plain (Refused f is why looked) = put_nothing o words entry w v p q looked.unput
-went_tells o H entry w v differ sound reads words answer old new p q at ends plain (Drove asked apart asks drove) =
+went_tells o H entry w v differ sound reads words answer old new p q at ends (Refused f is why looked) = put_nothing o words entry w v p q looked.unput
+went_tells o H entry w v differ sound reads words answer old new p q at ends (Drove asked apart asks drove) =
     put_as p q (DroveTells o asked w v) (TellsBy o words entry w v) (λ text h. DrivenBy asked asks h)
-    (drove_tells o H w differ sound reads words entry asked asks (plain asked asks) answer v old new p q at ends drove)
-went_tells o H entry w v differ sound reads words answer old new p q at ends plain (Stopped f is want looked) = put_nothing o words entry w v p q looked.unput
-went_tells o H entry w v differ sound reads words answer old new p q at ends plain (Worked asked told one plans worked) =
+    (drove_tells o H w differ sound reads words entry asked asks answer v old new p q at ends drove)
+went_tells o H entry w v differ sound reads words answer old new p q at ends (Stopped f is want looked) = put_nothing o words entry w v p q looked.unput
+went_tells o H entry w v differ sound reads words answer old new p q at ends (Worked asked told one plans worked) =
     goes_tells o H w differ sound reads words entry asked told plans one answer v old worked.looked worked.carried.firm new p q worked.carried.settled
     (store_failed worked.carried.settled) at ends worked.looking worked.carried.settling worked.carried.goes_on
 
@@ -268,7 +268,7 @@ tells_moved o words entry w u v x text before after (LinesBy asked turns current
     (on_both (λ (i : Image). IsClean (setting_in o u asked.flow) i p) (λ i l k. k) (seen o.read v) (seen o.read x) after (clean p i c)))
 
 module _ (o : Outside) (H : Versions) (w v : World) (differ : SumsDiffer H) (sound : SoundWorld o w H) (reads : ReadsRecords o.read) (words : RunWords)
-    (answer : Answer) (plain : IsAskedPlainly words w) where
+    (answer : Answer) where
   locked_tells : (new : Device) (p q : Sunk) → IsUnderLock o H w differ sound words answer new p q v → HasPutSo p q (TellsBy o words w w v)
   locked_tells new p q k =
       let inner = went_safe o H k.start differ k.sound_then reads words w k.ran k.last k.locked k.left p q k.at_start k.at_last k.went in
@@ -276,11 +276,11 @@ module _ (o : Outside) (H : Versions) (w v : World) (differ : SumsDiffer H) (sou
       let formed_v : IsFormed v = subst IsFormed (sym k.end_is) (formed_run k.last k.release formed) in
       put_as p q (TellsBy o words w k.start k.last) (TellsBy o words w w v)
       (λ text h. tells_moved o words w w k.start k.last v text k.same_start (lock_changes_itself_alone o.read k.last v formed formed_v k.only) h)
-      (went_tells o H w k.start k.last differ k.sound_then reads words k.ran k.locked k.left p q k.at_start k.at_last plain k.went)
+      (went_tells o H w k.start k.last differ k.sound_then reads words k.ran k.locked k.left p q k.at_start k.at_last k.went)
 
   run_tells : (old new : Device) (p q : Sunk) → old.world ≡ Some w → new.world ≡ Some v → HasRun o.act o.read words w answer old new p q →
       HasPutSo p q (TellsBy o words w w v)
-  run_tells old new p q at end (Unheeded heeds_none went) = went_tells o H w w v differ sound reads words answer old new p q at end plain went
+  run_tells old new p q at end (Unheeded heeds_none went) = went_tells o H w w v differ sound reads words answer old new p q at end went
   run_tells old new p q at end (Unasked f heeds is why looked) = put_nothing o words w w v p q looked.unput
   run_tells old new p q at end (Heeded x looked heeds after at_x looking heeded) = go heeded
     where
@@ -295,9 +295,9 @@ module _ (o : Outside) (H : Versions) (w v : World) (differ : SumsDiffer H) (sou
 pub ran_tells :
     (o : Outside) (H : Versions) (w v : World) (differ : SumsDiffer H) (sound : SoundWorld o w H) (reads : ReadsRecords o.read) (words : RunWords)
     (answer : Answer)
-    (old new : Device) (p q : Sunk) → old.world ≡ Some w → new.world ≡ Some v → IsAskedPlainly words w →
+    (old new : Device) (p q : Sunk) → old.world ≡ Some w → new.world ≡ Some v →
     HasRun o.act o.read words w answer old new p q →
     HasPutSo p q (Tells o words w v)
-ran_tells o H w v differ sound reads words answer old new p q at end plain ran =
+ran_tells o H w v differ sound reads words answer old new p q at end ran =
     put_as p q (TellsBy o words w w v) (Tells o words w v) (tells_so o words w v)
-    (run_tells o H w v differ sound reads words answer plain old new p q at end ran)
+    (run_tells o H w v differ sound reads words answer old new p q at end ran)

@@ -118,23 +118,22 @@ CameIsHistory =
 abbrev pub CameIsSound : Type 0
 CameIsSound = (act : Act) (w : World) (H : Versions) (came : Came act w H) → SumsDifferIn act w H came → SumsDiffer H × SoundWorld (outside act) w H
 
--- What is so of a run. All but `finished` is said of runs alone of what is asked plainly: no rule of the workflow is a checkpoint, makes a directory or gathers, so that
--- no plan may grow.
+-- What is so of a run, whatever the workflow has. Only `complete` is said of what is asked plainly alone: no rule of the workflow is a checkpoint, makes a
+-- directory or gathers, so that no plan may grow.
 pub record RunGives (o : Outside) (words : RunWords) (told : Option Fault) (w v : World) (called : IsCalled o (Run words) told w v) : Type 0 where
   -- what it calls current holds what a clean run from the sources makes of it, however the run ended
-  pub tells : IsAskedPlainly words w → HasPutSo called.out_old called.out_new (Tells o words w v)
-  -- with status 0 each target holds what a clean run from the sources makes of it, and where no job was forced nothing is left to do; be its jobs made one
-  -- after another or driven
-  pub clean : IsAskedPlainly words w → told ≡ None → HasMadeClean o words w v
-  pub none_left : IsAskedPlainly words w → words.force ≡ No → told ≡ None → HasNoneLeft o words w v
+  pub tells : HasPutSo called.out_old called.out_new (Tells o words w v)
+  -- with status 0 each target holds what a clean run from the sources makes of it, be its jobs made one after another or driven
+  pub clean : told ≡ None → HasMadeClean o words w v
+  -- and where no job was forced nothing is left to do
+  pub none_left : words.force ≡ No → told ≡ None → HasNoneLeft o words w v
   -- so a run with the same words starts nothing in the folder that is left, where they ask for the same of the workflow in it
   pub starts_nothing :
-      IsAskedPlainly words w →
       words.force ≡ No →
       told ≡ None →
       ((asked : Asked) → IsAskedIn words w.nodes (Ok asked) → IsAskedIn words v.nodes (Ok asked)) →
       (again : Option Fault) (x : World) (next : IsCalled o (Run words) again v x) → StartsNothing next.served.serves
-  -- no job was started on an output of an unfinished job, be they made one after another or driven, and whatever the workflow has
+  -- no job was started on an output of an unfinished job, be they made one after another or driven
   pub finished : (log : List Event) → v ≡ run w log → StartsOnFinished o w log
   -- where the words aren't refused, a clean run gives each target and no call of the device failed, all is well, or it is told why not; be its jobs made one
   -- after another or driven, and outputs temporary or not

@@ -14,14 +14,14 @@ use Rattle.smk_drive.specs.Moments.{Rules}
 use Rattle.smk_drive_course.specs.declared.ending.End.{End}
 use Rattle.smk_pick.specs.declared.settings.Force.TheVariants.{No}
 use Rattle.smk_drive_course.specs.Driven.{HasDriven, HasEndedWell, IsAnswer, IsRun}
-use Rattle.smk_laws_driven.specs.Ended.{AllAreClean, DrivenIsClean, DrivenLeavesNone, DrivenTells, DrivenTellsAll, HasToldWell, LeavesNone, PlansArePlain}
+use Rattle.smk_laws_driven.specs.Ended.{AllAreClean, DrivenIsClean, DrivenLeavesNone, DrivenTells, DrivenTellsAll, HasToldWell, LeavesNone}
 use Rattle.smk_laws_driven.proofs.Ending as ending
 use Rattle.smk_laws_driven.proofs.Leaving as leaving
 use Rattle.smk_laws_driven.proofs.Safe.{HasLed, led, led_alone, none_left, safe}
 
 module _ (o : Outside) (rules : Rules) (H : Versions) (end : End) (w v : World) (old new : Device) (p q : Sunk) (at : old.world ≡ Some w)
     (at_v : new.world ≡ Some v) (reader : rules.read ≡ o.read) (reads : ReadsRecords o.read) (differ : SumsDiffer H) (sound : SoundWorld o w H)
-    (plain : PlansArePlain rules) (h : HasDriven o.act rules (Ok end) old new p q) where
+    (h : HasDriven o.act rules (Ok end) old new p q) where
   abbrev l : HasLed o rules H (Ok end) w v old new p q at at_v reader reads differ sound h
   l = led o rules H (Ok end) w v old new p q at at_v reader reads differ sound h
 
@@ -31,17 +31,17 @@ module _ (o : Outside) (rules : Rules) (H : Versions) (end : End) (w v : World) 
   tells : HasToldWell o rules w v end
   tells =
       subst (λ x. HasToldWell o rules w x end) (sym l.is)
-      (ending.told_well o rules H w h.told end h.deeds l.events reader reads differ sound l.follows l.ran plain at_end)
+      (ending.told_well o rules H w h.told end h.deeds l.events reader reads differ sound l.follows l.ran at_end)
 
   clean : end.first ≡ None → AllAreClean o rules w v end
   clean none =
       subst (λ x. AllAreClean o rules w x end) (sym l.is)
-      (ending.all_clean o rules H w h.told end h.deeds l.events reader reads differ sound l.follows l.ran plain at_end none)
+      (ending.all_clean o rules H w h.told end h.deeds l.events reader reads differ sound l.follows l.ran at_end none)
 
   leaves : rules.settings.force ≡ No → end.first ≡ None → LeavesNone o rules v
   leaves free none =
       subst (λ x. LeavesNone o rules x) (sym l.is)
-      (leaving.leaves_none o rules H w h.told end h.deeds l.events reader reads differ sound l.follows l.ran plain at_end free none)
+      (leaving.leaves_none o rules H w h.told end h.deeds l.events reader reads differ sound l.follows l.ran at_end free none)
 
 -- ## Whatever came as it was told
 
@@ -76,22 +76,22 @@ as_ended rules w log deeds told result end is r =
     }
 
 pub driven_tells_all : DrivenTellsAll
-driven_tells_all o rules H result end w v old new p q at at_v reader reads differ sound plain h is =
+driven_tells_all o rules H result end w v old new p q at at_v reader reads differ sound h is =
     let l = led o rules H result w v old new p q at at_v reader reads differ sound h in
     let alone = led_alone o rules H result w v old new p q at at_v reader reads differ sound h in
     let ran = as_ended rules w l.events h.deeds h.told result end is l.ran in
     let idle = none_left rules h.told (Ok end) h.deeds w l.events ran sound.no_child refl in
     subst (λ x. HasToldWell o rules w x end) (sym l.is)
-    (ending.told_well o rules H w h.told end h.deeds l.events reader reads differ sound l.follows ran plain (alone idle))
+    (ending.told_well o rules H w h.told end h.deeds l.events reader reads differ sound l.follows ran (alone idle))
 
 pub driven_tells : DrivenTells
-driven_tells o rules H end w v old new p q at at_v reader reads differ sound plain h =
-    tells o rules H end w v old new p q at at_v reader reads differ sound plain h
+driven_tells o rules H end w v old new p q at at_v reader reads differ sound h =
+    tells o rules H end w v old new p q at at_v reader reads differ sound h
 
 pub driven_is_clean : DrivenIsClean
-driven_is_clean o rules H end w v old new p q at at_v reader reads differ sound plain h =
-    clean o rules H end w v old new p q at at_v reader reads differ sound plain h
+driven_is_clean o rules H end w v old new p q at at_v reader reads differ sound h =
+    clean o rules H end w v old new p q at at_v reader reads differ sound h
 
 pub driven_leaves_none : DrivenLeavesNone
-driven_leaves_none o rules H end w v old new p q at at_v reader reads differ sound plain h =
-    leaves o rules H end w v old new p q at at_v reader reads differ sound plain h
+driven_leaves_none o rules H end w v old new p q at at_v reader reads differ sound h =
+    leaves o rules H end w v old new p q at at_v reader reads differ sound h

@@ -11,7 +11,7 @@ use Rattle.smk_made.proofs.Done.{follows_split}
 use Rattle.smk_run.specs.Closings.{wait_event}
 use Rattle.smk_report.specs.declared.fault.Fault.{Fault}
 use Rattle.smk_report.specs.declared.fault.Fault.TheVariants as fault
-use Rattle.smk_drive.specs.Moments.{Rules}
+use Rattle.smk_drive.specs.Moments.{IsInForce, Rules}
 use Rattle.smk_drive_course.specs.declared.ending.End.{End}
 use Rattle.smk_drive_course.specs.Stands.{GoesBy, GoesOn, IsClear, IsRefused, LacksMemory, Stand, WasHalted, broken_by_device, first_fault, first_stand, halted_by}
 use Rattle.smk_drive_course.specs.Steps.{Deed, GoesByAnswer, GuardingFails, HasBegun, HasClosed, HasSpent, IsTended, LooksFail, Tended, Unguarded}
@@ -20,7 +20,7 @@ use Rattle.smk_drive_course.specs.Driven.{IsOpening, IsRun, LacksMemory as Opens
 use Rattle.smk_laws_moments.specs.Courses.{IsHaltedIfBroken}
 use Rattle.smk_laws_moments.proofs.ChildrenOf.{run_more}
 use Rattle.smk_laws_moments.proofs.Fates.{broken_is_halted}
-use Rattle.smk_laws_driven.proofs.Mild.{AreMild, guards_mild, looks_mild, mild_more, settled_mild}
+use Rattle.smk_laws_driven.proofs.Mild.{AreMild, guards_mild, looks_mild, mild_force, mild_more, settled_mild}
 
 some_none : (f : Fault) → Some f ≡ None → ⊥
 some_none f h = cc
@@ -63,6 +63,12 @@ module _ (act : Act) (rules : Rules) (entry : World) where
     pub mild : AreMild since
     pub clear : IsClear rules t there events
 
+  -- so its plan is in force
+  pub clear_force : (t : Stand) (v : World) → WasClear t v → IsInForce rules v t.begun t.from t.plan
+  clear_force t v was =
+      subst (λ x. IsInForce rules x t.begun t.from t.plan) (sym was.is)
+      (mild_force act rules t.begun t.from t.plan was.there was.since was.formed was.mild was.follows was.clear.planned)
+
   -- right as it came about
   at_once : (t : Stand) (w v : World) (events : List Event) → v ≡ w → IsFormed w → IsClear rules t w events → WasClear t v
   at_once t w v events same formed clear =
@@ -93,7 +99,7 @@ module _ (act : Act) (rules : Rules) (entry : World) where
   tended_mild guards answer tending s t w events (GuardingFails guarding cut) goes none = absurd (broken_now s t goes none)
   tended_mild guards answer tending s t w events (LooksFail guarding looks guarded looked) goes none = absurd (broken_now s t goes none)
 
-  step_clear :
+  pub step_clear :
       (s t : Stand) (w : World) (before es : List Event) (deeds : List Deed) → Step rules entry s w before es deeds t → IsFormed w → Follows act w es →
       IsHaltedIfBroken s → t.halted ≡ None → WasClear t (run w es)
   step_clear s t w before es deeds (Begins h) formed follows was none =
@@ -176,7 +182,23 @@ module _ (act : Act) (rules : Rules) (entry : World) where
   opening_mild opened es s t events (SettlingFails loading settling places loaded signs cut) goes none = absurd (broken_now s t goes none)
   opening_mild opened es s t events (LooksNot loading settling looks places loaded signs settled looked) goes none = absurd (broken_now s t goes none)
 
-  -- So it is at the end of a run at which no fault has come.
+  -- So it is where a run starts, if no fault has come,
+  pub start_clear :
+      (told : Option End) (result : Result End Fault) (deeds : List Deed) (log : List Event) (r : IsRun rules told result deeds entry log) → IsFormed entry →
+      Follows act entry r.opening → r.start.halted ≡ None → WasClear r.start (run entry r.opening)
+  start_clear told result deeds log r formed follows unhalted =
+      record {
+        there = entry;
+        events = [];
+        since = r.opening;
+        is = refl;
+        formed = formed;
+        follows = follows;
+        mild = opening_mild r.opened r.opening (first_stand r.plan) r.start [] r.opens r.goes_by unhalted;
+        clear = answer_clear r.opened (first_stand r.plan) r.start entry [] r.goes_by unhalted;
+      }
+
+  -- and at the end of one at which none has come.
   pub run_clear :
       (told : Option End) (result : Result End Fault) (deeds : List Deed) (log : List Event) (r : IsRun rules told result deeds entry log) → IsFormed entry →
       Follows act entry log → r.last.halted ≡ None → WasClear r.last (run entry log)
@@ -184,14 +206,4 @@ module _ (act : Act) (rules : Rules) (entry : World) where
       let both = follows_split act entry r.opening r.rest (subst (Follows act entry) r.events follows) in
       subst (WasClear r.last) (sym (ap (run entry) r.events ∙ run_more entry r.opening r.rest))
       (all_clear r.start r.last (run entry r.opening) r.opening r.rest deeds r.steps (formed_run entry r.opening formed) both.1
-      (answer_broken r.opened (first_stand r.plan) r.start entry [] r.goes_by refl)
-      (λ unhalted. record {
-        there = entry;
-        events = [];
-        since = r.opening;
-        is = refl;
-        formed = formed;
-        follows = both.0;
-        mild = opening_mild r.opened r.opening (first_stand r.plan) r.start [] r.opens r.goes_by unhalted;
-        clear = answer_clear r.opened (first_stand r.plan) r.start entry [] r.goes_by unhalted;
-      }) none)
+      (answer_broken r.opened (first_stand r.plan) r.start entry [] r.goes_by refl) (start_clear told result deeds log r formed both.0) none)

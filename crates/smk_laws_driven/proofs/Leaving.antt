@@ -1,5 +1,5 @@
 -- A run in which no job failed and none is forced leaves nothing to do.
-use Rattle.std.proofs.Common.{◌≡◌, ℕ, Bool, true, false, ◌&&◌, List, [], refl, sym, ap, subst, ◌∙◌, Option, Some, None, Ok, inl, inr, IsTrue}
+use Rattle.std.proofs.Common.{◌≡◌, ℕ, Bool, true, false, ◌&&◌, List, [], ◌++◌, map, refl, sym, ap, subst, ◌∙◌, Option, Some, None, Ok, inl, inr, IsTrue}
 use Rattle.std.specs.List.{list_all}
 use Rattle.smk_world.specs.declared.event.Event.{Event}
 use Rattle.smk_world.specs.World.{World, IsFormed, run}
@@ -10,22 +10,28 @@ use Rattle.smk_record.specs.Spelling.{ReadsRecords}
 use Rattle.smk_store.specs.Images as images
 use Rattle.smk_store.specs.Soundness.{Outside, SoundWorld}
 use Rattle.smk_store.specs.Trust.{SumsDiffer, Versions}
+use Rattle.smk_flow.specs.declared.job.Job.{Job}
+use Rattle.smk_flow.specs.Flows.{Flow}
+use Rattle.smk_chain.specs.Derive.{Listings}
+use Rattle.smk_trigger.specs.declared.reason.State.TheVariants.{Clean}
 use Rattle.smk_trigger.specs.JobStates.{is_clean}
 use Rattle.smk_pick.specs.declared.settings.Force.TheVariants.{No}
-use Rattle.smk_plan.specs.States.{IsPlan, Last, LastPlan, Plan, Progress, is_current, state_of, test_some}
+use Rattle.smk_pick.specs.declared.settings.Settings.{Settings}
+use Rattle.smk_plan.specs.States.{IsPlan, Last, LastPlan, Plan, Progress, Then, is_current, new_listings, state_of, test_some}
 use Rattle.smk_laws_history.proofs.CurrentComplete.{seen_is_complete}
 use Rattle.smk_laws_complete.proofs.Chains.{chains_end}
 use Rattle.smk_laws_protocol.proofs.Basics.{each_of}
 use Rattle.smk_exit.specs.Exit.{begun_so}
+use Rattle.smk_laws_leaving.specs.Leaving.{IsDone, StaysDone}
+use Rattle.smk_laws_leaving.proofs.Leaving.{done_stays_done}
 use Rattle.smk_drive.specs.Moments.{IsInForce, Rules, progress_of, seen}
 use Rattle.smk_drive_course.specs.declared.ending.End.{End}
 use Rattle.smk_drive_course.specs.Stands.{IsClear, Stand}
 use Rattle.smk_drive_course.specs.Steps.{Deed}
 use Rattle.smk_drive_course.specs.Driven.{IsRun, are_clean}
-use Rattle.smk_laws_driven.specs.Ended.{LeavesNone, PlansArePlain}
+use Rattle.smk_laws_driven.specs.Ended.{LeavesNone}
 use Rattle.smk_laws_driven.proofs.Ending as ending
 use Rattle.smk_laws_driven.proofs.Unforced.{all_clean, plan_free}
-use Rattle.smk_laws_driven.proofs.Unlisted.{lists_stay, none_new, run_lists}
 
 -- at a clear stand a plan is in force
 pub clear_plan :
@@ -43,9 +49,18 @@ front_true : (a b : Bool) → (a && b) ≡ true → a ≡ true
 front_true true b h = refl
 front_true false b h = h
 
+-- a last plan is one whichever jobs have begun
+last_free :
+    (flow : Flow) (image : images.Image) (settings : Settings) → settings.force ≡ No → (a b : List Path) (L : Listings) (plan : Plan) →
+    LastPlan flow image settings (begun_so a) L plan → LastPlan flow image settings (begun_so b) L plan
+last_free flow image settings free a b _ _ (Last plan is none) = Last plan (plan_free image settings plan free flow a b is) none
+last_free flow image settings free a b _ _ (Then plan last is more rest) =
+    Then plan last (plan_free image settings plan free flow a b is) more
+    (last_free flow image settings free a b (plan.lists ++ new_listings image settings (begun_so a) plan) last rest)
+
 module _ (o : Outside) (rules : Rules) (H : Versions) (w : World) (told : Option End) (end : End) (deeds : List Deed) (log : List Event)
     (reader : rules.read ≡ o.read) (reads : ReadsRecords o.read) (differ : SumsDiffer H) (sound : SoundWorld o w H) (follows : Follows o.act w log)
-    (ran : IsRun rules told (Ok end) deeds w log) (plain : PlansArePlain rules) (at_end : SoundWorld o (run w log) H) (free : rules.settings.force ≡ No)
+    (ran : IsRun rules told (Ok end) deeds w log) (at_end : SoundWorld o (run w log) H) (free : rules.settings.force ≡ No)
     (none : end.first ≡ None) where
   abbrev v : World
   v = run w log
@@ -58,7 +73,7 @@ module _ (o : Outside) (rules : Rules) (H : Versions) (w : World) (told : Option
 
   in_force : (plan : Plan) × (ran.last.plan ≡ Some plan)
   in_force =
-      let clear = ending.clear o rules H w told end deeds log reader reads differ sound follows ran plain at_end in
+      let clear = ending.clear o rules H w told end deeds log reader reads differ sound follows ran at_end in
       clear_plan rules ran.last clear.there clear.events clear.formed clear.clear
 
   abbrev plan : Plan
@@ -69,23 +84,17 @@ module _ (o : Outside) (rules : Rules) (H : Versions) (w : World) (told : Option
 
   -- none of its jobs runs
   idle : progress_of v ran.last.begun ≡ begun_so begun
-  idle = let rests = ending.rests o rules H w told end deeds log reader reads differ sound follows ran plain at_end in λ i. record { begun = begun; running = rests i }
+  idle = let rests = ending.rests o rules H w told end deeds log reader reads differ sound follows ran at_end in λ i. record { begun = begun; running = rests i }
 
   planned : IsPlan rules.flow image rules.settings (begun_so begun) plan
   planned =
       subst (λ (p : Progress). IsPlan rules.flow image rules.settings p plan) idle
-      (ending.planned o rules H w told end deeds log reader reads differ sound follows ran plain at_end plan is)
-
-  lists : plan.lists ≡ []
-  lists =
-      lists_stay rules plain image (progress_of v ran.last.begun) ran.last.from plan (seen_is_complete o.read v at_end.formed)
-      (ending.last o rules H w told end deeds log reader reads differ sound follows ran plain at_end plan is)
-      ∙ (run_lists rules plain w told (Ok end) deeds log ran sound.formed).before
+      (ending.planned o rules H w told end deeds log reader reads differ sound follows ran at_end plan is)
 
   clean_states : list_all is_clean plan.states ≡ true
   clean_states =
-      let well = ending.well o rules H w told end deeds log reader reads differ sound follows ran plain at_end in
-      let failed = ending.none_failed o rules H w told end deeds log reader reads differ sound follows ran plain at_end none in
+      let well = ending.well o rules H w told end deeds log reader reads differ sound follows ran at_end in
+      let failed = ending.none_failed o rules H w told end deeds log reader reads differ sound follows ran at_end none in
       front_true (list_all is_clean plan.states) true (subst (λ p. IsTrue (are_clean p)) is (well.clean failed).0)
 
   current : (p : Path) → IsIn rules.settings.targets p → is_current image rules.settings (begun_so begun) plan p ≡ true
@@ -93,17 +102,34 @@ module _ (o : Outside) (rules : Rules) (H : Versions) (w : World) (told : Option
       subst (λ (read : List ℕ → Option Record). is_current (images.seen read v) rules.settings (begun_so begun) plan p ≡ true) reader
       (subst
       (λ x. test_some (λ (plan : Plan). is_current (seen rules v) rules.settings (progress_of v ran.last.begun) plan p) x ≡ true) is
-      (ending.all_current o rules H w told end deeds log reader reads differ sound follows ran plain at_end none p i))
+      (ending.all_current o rules H w told end deeds log reader reads differ sound follows ran at_end none p i))
+
+  clean : plan.states ≡ map (λ (j : Job). Clean) plan.jobs
+  clean =
+      planned.states ∙ all_clean (state_of image rules.settings (begun_so begun) plan) plan.jobs (ap (list_all is_clean) (sym planned.states) ∙ clean_states)
+
+  -- as if no job had begun
+  done : IsDone rules.flow image rules.settings ran.last.from plan
+  done =
+      record {
+        last = last_free rules.flow image rules.settings free begun [] ran.last.from plan
+            (subst (λ (p : Progress). LastPlan rules.flow image rules.settings p ran.last.from plan) idle
+            (ending.last o rules H w told end deeds log reader reads differ sound follows ran at_end plan is));
+        clean = clean;
+        listed = ending.awaited_recorded o rules H w told end deeds log reader reads differ sound follows ran at_end plan is;
+      }
+
+  -- so the chain that begins from no listing has nothing left either
+  stays : StaysDone rules.flow image rules.settings plan
+  stays = done_stays_done rules.flow image rules.settings ran.last.from plan (seen_is_complete o.read v at_end.formed) free done
 
   pub leaves_none : LeavesNone o rules v
   leaves_none =
       record {
-        plan = plan;
-        last = λ others.
-            let there = plan_free image rules.settings plan free rules.flow begun others planned in
-            subst (λ L. LastPlan rules.flow image rules.settings (begun_so others) L plan) lists
-            (Last plan there (none_new rules plain image (begun_so others) plan (seen_is_complete o.read v at_end.formed) there));
-        clean = planned.states
-            ∙ all_clean (state_of image rules.settings (begun_so begun) plan) plan.jobs (ap (list_all is_clean) (sym planned.states) ∙ clean_states);
-        current = λ others. each_of (λ p. is_current image rules.settings (begun_so others) plan p ≡ true) rules.settings.targets current;
+        plan = stays.next;
+        last = λ others. last_free rules.flow image rules.settings free [] others [] stays.next stays.last;
+        clean = stays.clean;
+        current = λ others.
+            each_of (λ p. is_current image rules.settings (begun_so others) stays.next p ≡ true) rules.settings.targets
+            (λ p i. stays.current p i (current p i));
       }

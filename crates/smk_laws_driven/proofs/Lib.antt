@@ -1,6 +1,7 @@
 pub mod Safe
 pub mod Mild
 pub mod Lasting
+pub mod Reaching
 pub mod Fields
 pub mod Ending
 pub mod Unlisted
@@ -10,6 +11,8 @@ pub mod Ended
 pub mod OwnCalls
 pub mod SoundNow
 pub mod Restored
+pub mod Once
+pub mod Listed
 pub mod Fed
 pub mod Waiting
 pub mod Spending

@@ -3,13 +3,13 @@ use Rattle.std.proofs.Common.{◌≡◌, ◌⊎◌, ℕ, List, sym, subst, inl, 
 use Rattle.smk_world.specs.declared.event.Event.{Event}
 use Rattle.smk_world.specs.World.{World, run}
 use Rattle.smk_world.specs.Runs.{Follows}
-use Rattle.smk_world.specs.Trees.{Act, IsIn, Path}
+use Rattle.smk_world.specs.Trees.{IsIn, Path}
 use Rattle.smk_record.specs.declared.record.Record.{Record}
 use Rattle.smk_record.specs.declared.record.Stamp.{Stamp}
 use Rattle.smk_record.specs.Records.{stamped}
-use Rattle.smk_store.specs.Images.{Image, seen}
+use Rattle.smk_store.specs.Images.{seen}
 use Rattle.smk_store.specs.Soundness.{Outside, Sound, SoundWorld}
-use Rattle.smk_store.specs.Trust.{Chain, Clear, Eased, HasVersion, Link, SumsDiffer, Versions, any_source}
+use Rattle.smk_store.specs.Trust.{HasVersion, SumsDiffer, Versions}
 use Rattle.smk_laws_protocol.specs.Protocol.{RunState, Runs, eased, record_of}
 use Rattle.smk_laws_protocol.specs.Midway.{IsTop, at_entry}
 use Rattle.smk_laws_protocol.proofs.Basics.{each_in}
@@ -21,6 +21,7 @@ use Rattle.smk_laws_protocol.proofs.SoundViews.{sound_from}
 use Rattle.smk_laws_protocol.proofs.SoundWorlds.{now_is}
 use Rattle.smk_laws_protocol.proofs.View.{Sound as ViewSound}
 use Rattle.smk_laws_protocol.proofs.Views.{reads}
+pub use Rattle.smk_laws_listed.proofs.Fewer.{sound_fewer}
 
 module _ (o : Outside) (entry : World) (H : Versions) (s : RunState) (w : World) (m : Midway o entry H s w) where
   -- a Restore has looked at the record that it found, and has at hand what it writes in its place
@@ -47,26 +48,3 @@ pub sound_now :
     Follows o.act entry es → Runs o (at_entry o top) entry es s → Sound o.act H (seen o.read (run entry es)) (eased s)
 sound_now o entry H top es s differ sound is_top follows runs =
     sound_here o entry H s (run entry es) (reached o entry H differ sound top es s is_top follows runs)
-
--- ## Fewer marks are left out
-
-module _ (image : Image) (fewer more : Eased) (sub : (p : Path) (r : Record) → fewer p r → more p r) where
-  clear_more : (p : Path) (r : Record) → Clear image fewer p r → Clear image more p r
-  clear_more p r (reads, inl m) = (reads, inl m)
-  clear_more p r (reads, inr e) = (reads, inr (sub p r e))
-
-  chain_more : (r : Record) → Chain image fewer any_source r → Chain image more any_source r
-  chain_more r (Link s place by times speaks chains) =
-      Link s place by times
-      (λ q m i. let k = speaks q m i in
-      (record { no_source = k.0.no_source; holder = k.0.holder; clear = clear_more (place q m) (by q m) k.0.clear }, k.1))
-      (λ q m i. chain_more (by q m) (chains q m i))
-
-  pub sound_fewer : (act : Act) (H : Versions) → Sound act H image more → Sound act H image fewer
-  sound_fewer act H sound =
-      record {
-        has_sources = sound.has_sources;
-        has_recorded = λ p r q s clear i. sound.has_recorded p r q s (clear_more p r clear) i;
-        holds = λ p r reads unmarked chain whole. sound.holds p r reads unmarked (chain_more r chain) whole;
-        none_nested = sound.none_nested;
-      }

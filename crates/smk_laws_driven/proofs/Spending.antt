@@ -118,7 +118,7 @@ module _ (act : Act) (rules : Rules) (entry : World) (H : Versions) (top : ℕ) 
           Aside e (at.is_state.faulted ∙ unbroken rules entry s at.state at.is_state clear.unhalted)
           (subst (Besides o at.state w) (sym (removed_call e.call p done.0 done.1)) (Spend p free.0 free.1))
 
-      one_reached : IsReached o rules entry top (events ++ e ∷ []) t
+      pub one_reached : IsReached o rules entry top (events ++ e ∷ []) t
       one_reached =
           let come = come_on o entry top events (e ∷ []) at.state at.state at.come follows (one_step o at.state at.state w e step) in
           let m : Midway o entry H at.state (after w e) =

@@ -1,5 +1,5 @@
 -- Each step of a run in which no fault comes keeps what running children read at its clean values; and no job fails in it.
-use Rattle.std.proofs.Common.{◌≡◌, ◌≢◌, ◌⊎◌, inl, inr, ℕ, suc, zero, Bool, true, false, not, List, [], ◌∷◌, ◌++◌, map, refl, sym, ap, subst, ◌∙◌, Some, Ok, IsTrue, is_none, arith, true≢false}
+use Rattle.std.proofs.Common.{◌≡◌, ◌≢◌, ◌⊎◌, inl, inr, ℕ, suc, zero, true, false, not, List, [], ◌∷◌, ◌++◌, map, refl, sym, ap, subst, ◌∙◌, Ok, IsTrue, is_none, arith, true≢false}
 use Rattle.std.specs.Prelude.{length, nat_eq, nat_le, ◌==◌, if◌then◌else◌}
 use Rattle.std.specs.List.{filter_map, list_all}
 use Rattle.smk_base.specs.declared.tree.Pair.{Pair}
@@ -23,11 +23,10 @@ use Rattle.smk_store.specs.Soundness.{Outside, SameSources, SoundWorld}
 use Rattle.smk_store.specs.Trust.{SumsDiffer, Versions}
 use Rattle.smk_chain.specs.Derive.{chosen, job, recipe, sources_of}
 use Rattle.smk_chain.specs.Mean.{Setting, clean_value, setting_of}
-use Rattle.smk_plan.specs.States.{Plan, is_restored, job_path}
+use Rattle.smk_plan.specs.States.{Plan, is_restored}
 use Rattle.smk_job.specs.Jobs.{Underway}
 use Rattle.smk_laws_plan.specs.Current.{eased_by}
-use Rattle.smk_laws_plan.proofs.CurrentLists.{all_in, and_left, and_right, in_either, in_left, in_map, map_in, not_true}
-use Rattle.smk_laws_plan.proofs.CurrentPaths.{in_among}
+use Rattle.smk_laws_plan.proofs.CurrentLists.{all_in, and_left, and_right, in_either, in_left, map_in, not_true}
 use Rattle.smk_laws_plan.proofs.CurrentProducts.{Planned}
 use Rattle.smk_laws_history.proofs.CurrentComplete.{seen_is_complete}
 use Rattle.smk_laws_history.proofs.HistoryPlaces.{tree_same}
@@ -50,12 +49,12 @@ use Rattle.smk_run.specs.Statuses.{AreGiven, IsGiven}
 use Rattle.smk_safe.specs.Planned.{IsPlain}
 use Rattle.smk_drive.specs.Moments.{Begun, Rules, begun_of, ending, fault_of, or_good, progress_of, seen}
 use Rattle.smk_drive_course.specs.Reports.{failures}
-use Rattle.smk_drive_course.specs.Stands.{Stand, ended_if, is_job_of, moment_of}
+use Rattle.smk_drive_course.specs.Stands.{Stand, moment_of}
 use Rattle.smk_drive_course.specs.Steps.{Closed, Deed, HasBegun, HasClosed, HasSpent, guards_of}
 use Rattle.smk_drive_open.specs.Opened.{AreStillPlanned, IsOpen, beginning, found_by, opened}
 use Rattle.smk_laws_starting.specs.Starting.{MayOpen, top_with}
 use Rattle.smk_laws_moments.specs.Courses.{HasChildren}
-use Rattle.smk_laws_moments.proofs.Fates.{IsKept, answer_kept, begun_stand, ended_stand, goes_kept, kept_then, replanned_kept}
+use Rattle.smk_laws_moments.proofs.Fates.{IsKept, begun_stand, ended_stand}
 use Rattle.smk_laws_folder.specs.Leaving.{AreOwnCalls}
 use Rattle.smk_laws_staying.specs.Staying.{IsDerivedStill, derived_by}
 use Rattle.smk_laws_staying.proofs.Planned.{derived_are_planned, midway_keeps_sources}
@@ -66,6 +65,7 @@ use Rattle.smk_laws_following.proofs.Pairs.{aside, parted}
 use Rattle.smk_laws_following.proofs.StandStates.{IsLater}
 use Rattle.smk_laws_driven.specs.Ended.{PlansArePlain}
 use Rattle.smk_laws_driven.proofs.Fed.{next_fed}
+use Rattle.smk_laws_driven.proofs.Once.{begun_kept, begun_once, ended_kept, ended_once, spent_once}
 use Rattle.smk_laws_driven.proofs.OwnCalls.{begin_own, close_own, looks_own, own_leaves, own_more, tend_own}
 use Rattle.smk_laws_driven.proofs.Restored.{IsOnce, eased_so}
 use Rattle.smk_laws_driven.proofs.SoundNow.{sound_fewer, sound_now}
@@ -106,13 +106,6 @@ same_number a b e = grind arith
 
 running_same : (m n : ℕ) → Running m ≡ Running n → m ≡ n
 running_same m n h = cc
-
-kept_job : (image : Image) (g : Underway) (status : ℕ) (b : Begun) → (ended_if image g status b).job ≡ b.job
-kept_job image g status b = go (is_job_of g b)
-  where
-    go : (c : Bool) → (if c then (record b { ended = Some (ending image b.job status) }) else b).job ≡ b.job
-    go true = refl
-    go false = refl
 
 guards_inside : (j : Job) (how : End) (p : Path) → IsIn (guards_of j how) p → IsIn j.guards p
 guards_inside j run_ending.Good p i = i
@@ -216,10 +209,7 @@ module _ (act : Act) (rules : Rules) (entry : World) (H : Versions) (top : ℕ) 
           (own_more j w h.reads h.beginning (looks_own j false w h.reads h.only_read) (begin_own j _ (run w h.reads) h.beginning h.calls))
 
       kept : IsKept (begun_stand rules entry s w before h.job h.going) t
-      kept =
-          kept_then (begun_stand rules entry s w before h.job h.going) h.next t
-          (replanned_kept rules (begun_stand rules entry s w before h.job h.going) h.next (run w es) h.replanned)
-          (goes_kept rules entry h.next t (run w es) (before ++ es) h.goes_by)
+      kept = begun_kept rules entry s t w before es deeds fed.once h
 
       fed_still : (g : Underway) → IsIn s.runs g → Each (λ q. tree_now (seen rules (run w es)) q ≡ clean_value S q) (in_paths g.recipe)
       fed_still g i = stays_fed j es g i its_calls (each_in (IsApart (beginning j h.going.made h.going.stamps (found_by (seen rules w) h.job))) at.state.jobs (job_of g i) may.begins.from_open (opens g i).is_open).not_read
@@ -232,31 +222,8 @@ module _ (act : Act) (rules : Rules) (entry : World) (H : Versions) (top : ℕ) 
           (read_paths h.going.made j.recipe h.going.stamps may.makes h.to_begin.writable q iq))
           ∙ each_in (λ q. tree_now (seen rules w) q ≡ clean_value S q) (in_paths j.recipe) q begins_fed iq)
 
-      once_begun : (a b : Begun) → IsIn t.begun a → IsIn t.begun b → job_path a.job ≡ job_path b.job → a ≡ b
-      once_begun a b ia ib named =
-          let new = begun_of rules entry (moment_of s w before) h.job in
-          go (in_either a s.begun (new ∷ []) (subst (λ bs. IsIn bs a) kept.begun ia)) (in_either b s.begun (new ∷ []) (subst (λ bs. IsIn bs b) kept.begun ib))
-        where
-          before_it : (x : Begun) → IsIn s.begun x → job_path x.job ≡ job_path j → ⊥
-          before_it x i e =
-              true≢false
-              (sym (in_among (map (λ (b : Begun). job_path b.job) s.begun) (job_path j)
-              (subst (IsIn (map (λ (b : Begun). job_path b.job) s.begun)) e (in_map (λ (b : Begun). job_path b.job) s.begun x i)))
-              ∙ next.unbegun)
-
-          go :
-              IsIn s.begun a ⊎ IsIn (begun_of rules entry (moment_of s w before) h.job ∷ []) a →
-              IsIn s.begun b ⊎ IsIn (begun_of rules entry (moment_of s w before) h.job ∷ []) b → a ≡ b
-          go (inl x) (inl y) = fed.once a b x y named
-          go (inl x) (inr (inl e)) = absurd (before_it a x (named ∙ ap (λ (z : Begun). job_path z.job) e))
-          go (inl x) (inr (inr none)) = absurd none
-          go (inr (inl e)) (inl y) = absurd (before_it b y (sym named ∙ ap (λ (z : Begun). job_path z.job) e))
-          go (inr (inl e)) (inr (inl f)) = e ∙ sym f
-          go (inr (inl e)) (inr (inr none)) = absurd none
-          go (inr (inr none)) k = absurd none
-
       pub begun_fed : HasChildren t (run w es) → HasNoLists t → IsFed t (run w es)
-      begun_fed children lists = record { fed = λ g i. go g (in_either g s.runs (h.going ∷ []) (subst (λ gs. IsIn gs g) kept.runs i)); once = once_begun; children = children; lists = lists }
+      begun_fed children lists = record { fed = λ g i. go g (in_either g s.runs (h.going ∷ []) (subst (λ gs. IsIn gs g) kept.runs i)); once = begun_once rules entry s t w before es deeds fed.once h; children = children; lists = lists }
         where
           go : (g : Underway) → IsIn s.runs g ⊎ IsIn (h.going ∷ []) g → Each (λ q. tree_now (seen rules (run w es)) q ≡ clean_value S q) (in_paths g.recipe)
           go g (inl i) = fed_still g i
@@ -362,11 +329,8 @@ module _ (act : Act) (rules : Rules) (entry : World) (H : Versions) (top : ℕ) 
           (wait_own, close_own k g out_are_paths its.recipe its.logs h.how h.ended.status (after w wait) (after w wait) h.closing h.closed)
           (tend_own k (guards_of h.begun.job h.how) h.answer (run w (wait ∷ h.closing)) h.tending guards_are h.tended))
 
-      ended_kept : IsKept (ended_stand rules entry s w g h.ended h.left) t
-      ended_kept =
-          kept_then (ended_stand rules entry s w g h.ended h.left) h.next t
-          (replanned_kept rules (ended_stand rules entry s w g h.ended h.left) h.next _ h.replanned)
-          (answer_kept rules entry h.answer h.next t _ _ h.goes_by)
+      kept_end : IsKept (ended_stand rules entry s w g h.ended h.left) t
+      kept_end = ended_kept rules entry s t w before es deeds fed.once h
 
       -- another child reads nothing of what it owns
       apart_from : (x : Underway) → (i : IsIn s.runs x) → nat_eq x.number g.number ≡ false → any_overlap (owned_paths k.recipe k.logs) (in_paths x.recipe) ≡ false
@@ -385,20 +349,11 @@ module _ (act : Act) (rules : Rules) (entry : World) (H : Versions) (top : ℕ) 
 
       fed_others : (x : Underway) → IsIn t.runs x → Each (λ q. tree_now (seen rules (run w es)) q ≡ clean_value S q) (in_paths x.recipe)
       fed_others x i =
-          let f = in_filter (λ (r : Underway). not (nat_eq r.number g.number)) s.runs x (subst (λ gs. IsIn gs x) ended_kept.runs i) in
+          let f = in_filter (λ (r : Underway). not (nat_eq r.number g.number)) s.runs x (subst (λ gs. IsIn gs x) kept_end.runs i) in
           stays_fed k es x f.0 its_closing (apart_from x f.0 (not_true (nat_eq x.number g.number) f.1))
 
-      once_ended : (a b : Begun) → IsIn t.begun a → IsIn t.begun b → job_path a.job ≡ job_path b.job → a ≡ b
-      once_ended a b ia ib named =
-          let f = ended_if (seen rules (after w wait)) g h.ended.status in
-          let x = map_in f s.begun a (subst (λ bs. IsIn bs a) ended_kept.begun ia) in
-          let y = map_in f s.begun b (subst (λ bs. IsIn bs b) ended_kept.begun ib) in
-          let path : (z c : Begun) → c ≡ f z → job_path c.job ≡ job_path z.job =
-          λ z c e. ap (λ (u : Begun). job_path u.job) e ∙ ap job_path (kept_job (seen rules (after w wait)) g h.ended.status z) in
-          x.2 ∙ (ap f (fed.once x.0 y.0 x.1 y.1 (sym (path x.0 a x.2) ∙ (named ∙ path y.0 b y.2))) ∙ sym y.2)
-
       pub closed_fed : HasChildren t (run w es) → HasNoLists t → IsFed t (run w es)
-      closed_fed children lists = record { fed = fed_others; once = once_ended; children = children; lists = lists }
+      closed_fed children lists = record { fed = fed_others; once = ended_once rules entry s t w before es deeds fed.once h; children = children; lists = lists }
 
     -- ## Spent outputs are removed
 
@@ -417,7 +372,7 @@ module _ (act : Act) (rules : Rules) (entry : World) (H : Versions) (top : ℕ) 
       spent_fed children lists =
           record {
             fed = λ g i. fed_yet g (subst (λ gs. IsIn gs g) later.runs i);
-            once = λ a b ia ib named. fed.once a b (subst (λ bs. IsIn bs a) later.begun ia) (subst (λ bs. IsIn bs b) later.begun ib) named;
+            once = spent_once rules entry s t w before es deeds fed.once h;
             children = children;
             lists = lists;
           }

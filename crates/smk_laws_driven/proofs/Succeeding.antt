@@ -1,5 +1,5 @@
 -- Where each target has a clean value no job fails in a run that comes to its end.
-use Rattle.std.proofs.Common.{◌≡◌, inl, inr, ℕ, List, [], ◌∷◌, ◌++◌, refl, sym, ap, subst, ◌∙◌, Option, Some, None, Ok, append_assoc, append-nil, is_none}
+use Rattle.std.proofs.Common.{◌≡◌, inl, inr, ℕ, List, [], ◌∷◌, ◌++◌, refl, sym, ap, subst, ◌∙◌, Option, None, Ok, append_assoc, append-nil, is_none}
 use Rattle.std.proofs.lemmas.Option.{same_Some}
 use Rattle.smk_world.specs.declared.event.Event.{Event}
 use Rattle.smk_world.specs.World.{World, after, run}
@@ -21,10 +21,9 @@ use Rattle.smk_laws_history.proofs.CurrentLaw.{last_is}
 use Rattle.smk_laws_complete.specs.Derived.{AllHaveValues, GathersAlone}
 use Rattle.smk_laws_protocol.specs.Midway.{IsTop}
 use Rattle.smk_made.proofs.Done.{follows_split}
-use Rattle.smk_report.specs.declared.fault.Fault.{Fault}
 use Rattle.smk_run.specs.Statuses.{AreGiven}
 use Rattle.smk_safe.specs.Planned.{IsPlain}
-use Rattle.smk_drive.specs.Moments.{IsInForce, Rules, greatest, progress_of, seen}
+use Rattle.smk_drive.specs.Moments.{IsInForce, Rules, progress_of, seen}
 use Rattle.smk_drive_course.specs.declared.ending.End.{End}
 use Rattle.smk_drive_course.specs.Reports.{deed_faults, failures}
 use Rattle.smk_drive_course.specs.Stands.{IsClear, Stand, first_stand}
@@ -32,18 +31,16 @@ use Rattle.smk_drive_course.specs.Steps.{Deed}
 use Rattle.smk_drive_course.specs.Breaks.{Done, Step, Steps, Then}
 use Rattle.smk_drive_course.specs.Driven.{HasEndedWell, IsRun}
 use Rattle.smk_laws_moments.specs.Courses.{HasChildren, IsHaltedIfBroken}
-use Rattle.smk_laws_moments.proofs.ChildrenOf.{at_start, children_are_of_stand, run_more}
-use Rattle.smk_laws_moments.proofs.Fates.{IsKept, answer_kept, first_fault_stays}
+use Rattle.smk_laws_moments.proofs.ChildrenOf.{at_start, run_more}
+use Rattle.smk_laws_moments.proofs.Fates.{IsKept}
 use Rattle.smk_laws_staying.specs.Staying.{derived_by}
-use Rattle.smk_laws_staying.proofs.StandsOn.{start_is_derived}
-use Rattle.smk_laws_following.specs.Following.{GuardsAreOutputs, IsGiven, IsReached}
-use Rattle.smk_laws_following.proofs.Greatest.{greatest_is_top}
-use Rattle.smk_laws_following.proofs.Laws.{steps_follow}
-use Rattle.smk_laws_following.proofs.Opening.{opening_leads}
+use Rattle.smk_laws_following.specs.Following.{IsReached}
 use Rattle.smk_laws_driven.specs.Ended.{PlansArePlain}
 use Rattle.smk_laws_driven.specs.Succeeding.{DrivenSucceeds}
 use Rattle.smk_laws_driven.proofs.Lasting.{answer_broken, answer_clear, step_broken, unhalted_step}
 use Rattle.smk_laws_driven.proofs.Leaving.{clear_plan}
+use Rattle.smk_laws_driven.proofs.Reaching as reaching
+use Rattle.smk_laws_driven.proofs.Reaching.{unhalted_before}
 use Rattle.smk_laws_driven.proofs.Safe.{led}
 use Rattle.smk_laws_driven.proofs.Stepping as stepping
 use Rattle.smk_laws_driven.proofs.Unlisted.{HasNoLists, lists_stay, start_lists, step_lists}
@@ -74,9 +71,6 @@ cancel (x ∷ xs) ys zs h = cancel xs ys zs (tail_of x (xs ++ ys) (xs ++ zs) h)
 same_events : (w : World) (es fs : List Event) → run w es ≡ run w fs → es ≡ fs
 same_events w es fs h = cancel w.log es fs (sym (run_log w es) ∙ (ap (λ (v : World). v.log) h ∙ run_log w fs))
 
-none_some : (f : Fault) → ◌≡◌ {A = Option Fault} None (Some f) → ⊥
-none_some f h = cc
-
 none_in : {A : Type 0} (xs : List A) (x : A) → xs ≡ [] → IsIn xs x → ⊥
 none_in xs x none i = subst (λ ys. IsIn ys x) none i
 
@@ -87,13 +81,10 @@ module _ (act : Act) (rules : Rules) (entry : World) (H : Versions) (reads : Rea
   o = record { read = rules.read; act = act }
 
   abbrev top : ℕ
-  top = greatest rules (seen rules entry)
+  top = reaching.top act rules entry H reads differ sound
 
   is_top : IsTop o entry top
-  is_top = greatest_is_top o rules entry refl sound.formed
-
-  given_here : IsGiven o rules entry H top
-  given_here = record { reader = refl; reads = reads; differ = differ; sound = sound; is_top = is_top }
+  is_top = reaching.is_top act rules entry H reads differ sound
 
   module _ (first_plain : Each IsPlain (derived_by rules entry [])) where
     abbrev Fed : Stand → World → Type 0
@@ -107,22 +98,11 @@ module _ (act : Act) (rules : Rules) (entry : World) (H : Versions) (reads : Rea
       abbrev w : World
       w = run entry before
 
-      alone_step : Steps rules entry s w before (es ++ []) (deeds ++ []) t
-      alone_step = Then s t t w before es [] deeds [] step (Done t (run w es) (before ++ es))
-
-      next_reached : IsReached o rules entry top (before ++ es) t
-      next_reached =
-          subst (λ xs. IsReached o rules entry top (before ++ xs) t) (append-nil es)
-          (steps_follow o rules entry H top before (es ++ []) s t (deeds ++ []) at given_here alone_step
-          (subst (Follows act w) (sym (append-nil es)) follows)).0
-
-      next_children : HasChildren t (run w es)
-      next_children =
-          subst (λ xs. HasChildren t (run w xs)) (append-nil es)
-          (children_are_of_stand rules entry s t w before (es ++ []) (deeds ++ []) alone_step fed.children)
-
       next_lists : HasNoLists t
       next_lists = step_lists rules plain entry s t w before es deeds step (formed_run entry before sound.formed) fed.lists
+
+      next_children : HasChildren t (run w es)
+      next_children = reaching.next_children act rules entry H reads differ sound before es s t deeds step fed.children
 
       next_fed : Fed t (run w es) × (failures rules.flow deeds ≡ [])
       next_fed = elim (unhalted_step act rules entry s t w before es deeds step was none) [
@@ -157,23 +137,15 @@ module _ (act : Act) (rules : Rules) (entry : World) (H : Versions) (reads : Rea
         let follows_here : Follows act (run entry before1) es1 = subst (λ v. Follows act v es1) world f.0 in
         let given_now : AreGiven act rose (run entry before1) es1 = subst (λ v. AreGiven act rose v es1) world g.0 in
         let fed_here : Fed s1 (run entry before1) = subst (Fed s1) world fed in
-        let calm : t1.halted ≡ None = unhalted t1 u1 (run w1 es1) (before1 ++ es1) fs more steps none in
+        let calm : t1.halted ≡ None = unhalted_before rules entry t1 u1 (run w1 es1) (before1 ++ es1) fs more steps none in
         let next = next_fed before1 es1 s1 t1 ds here at fed_here follows_here given_now was calm in
         let there : run w1 es1 ≡ run entry (before1 ++ es1) = ap (λ v. run v es1) world ∙ sym (run_more entry before1 es1) in
         let fed_next : Fed t1 (run w1 es1) = subst (λ v. Fed t1 (run v es1)) (sym world) next.0 in
         let rest =
         all_well t1 u1 (run w1 es1) (before1 ++ es1) fs more steps there
-        (next_reached before1 es1 s1 t1 ds here at fed_here follows_here given_now was calm) fed_next f.1 g.1
+        (reaching.next_reached act rules entry H reads differ sound before1 es1 s1 t1 ds here at follows_here) fed_next f.1 g.1
         (step_broken act rules entry s1 t1 w1 before1 es1 ds step was) none in
         failures_more rules.flow ds more ∙ (λ i. next.1 i ++ rest i)
-      where
-        unhalted :
-            (s t : Stand) (w : World) (before es : List Event) (deeds : List Deed) → Steps rules entry s w before es deeds t → t.halted ≡ None → s.halted ≡ None
-        unhalted s t w before es deeds steps none = go s.halted refl
-          where
-            go : (x : Option Fault) → s.halted ≡ x → s.halted ≡ None
-            go None e = e
-            go (Some f) e = absurd (none_some f (sym none ∙ (first_fault_stays rules entry s t w before es deeds steps f e).0))
 
   -- ## A run
 
@@ -183,30 +155,16 @@ module _ (act : Act) (rules : Rules) (entry : World) (H : Versions) (reads : Rea
     well = r.answer.1
 
     parts : Follows act entry r.opening × Follows act (run entry r.opening) r.rest
-    parts = follows_split act entry r.opening r.rest (subst (Follows act entry) r.events follows)
+    parts = reaching.parts act rules entry H reads differ sound told (Ok end) deeds log r follows
 
     start_unhalted : r.start.halted ≡ None
-    start_unhalted = go r.start.halted refl
-      where
-        go : (x : Option Fault) → r.start.halted ≡ x → r.start.halted ≡ None
-        go None e = e
-        go (Some f) e =
-            absurd
-            (none_some f (sym well.unhalted ∙ (first_fault_stays rules entry r.start r.last (run entry r.opening) r.opening r.rest deeds r.steps f e).0))
+    start_unhalted = reaching.start_unhalted act rules entry H reads differ sound told (Ok end) deeds log r follows well.unhalted
 
     start_kept : IsKept (first_stand r.plan) r.start
-    start_kept = answer_kept rules entry r.opened (first_stand r.plan) r.start entry [] r.goes_by
+    start_kept = reaching.start_kept act rules entry H reads differ sound told (Ok end) deeds log r follows
 
     start_reached : IsReached o rules entry top r.opening r.start
-    start_reached =
-        let led = opening_leads o rules entry refl r.plan r.opened r.opening r.start r.opens parts.0 r.goes_by in
-        record {
-          state = led.end;
-          come = record { follows = parts.0; runs = led.runs };
-          is_state = led.is_state;
-          derived = start_is_derived rules entry entry r.plan r.opened [] r.start sound.formed r.planned r.goes_by;
-          guards = subst (λ bs. GuardsAreOutputs (record r.start { begun = bs })) (sym start_kept.begun) tt;
-        }
+    start_reached = reaching.start_reached act rules entry H reads differ sound told (Ok end) deeds log r follows
 
     -- a plan was in force at the entry, without a listing
     first_plain : Each IsPlain (derived_by rules entry [])

@@ -43,9 +43,7 @@ OfEnded P =
     old.world ≡ Some w →
     new.world ≡ Some v →
     rules.read ≡ o.read →
-    ReadsRecords o.read →
-    SumsDiffer H →
-    SoundWorld o w H → PlansArePlain rules → HasDriven o.act rules (Ok end) old new out_old out_new → P o rules w v end
+    ReadsRecords o.read → SumsDiffer H → SoundWorld o w H → HasDriven o.act rules (Ok end) old new out_old out_new → P o rules w v end
 
 -- So it is of each run that came to its end, be a job failed or not.
 abbrev pub DrivenTells : Type 0
@@ -60,8 +58,7 @@ DrivenTellsAll =
     rules.read ≡ o.read →
     ReadsRecords o.read →
     SumsDiffer H →
-    SoundWorld o w H →
-    PlansArePlain rules → (h : HasDriven o.act rules result old new out_old out_new) → h.told ≡ Some end → HasToldWell o rules w v end
+    SoundWorld o w H → (h : HasDriven o.act rules result old new out_old out_new) → h.told ≡ Some end → HasToldWell o rules w v end
 
 -- each target is what a clean run from the sources of the first world makes of it
 abbrev pub AllAreClean : Outside → Rules → World → World → End → Type 0

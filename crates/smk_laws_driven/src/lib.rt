@@ -11,9 +11,9 @@ pub fn driven_is_safe()
     ensures { DrivenIsSafe }
 {}
 
-/// A run from a sound folder that came to its end, of jobs that gather nothing and make plain files: each target of which it told that it is
-/// current is what a clean run from the sources makes of it, also where the sink fails as that is told; so are all targets where no job failed; and where also none is forced, the last plan
-/// of the folder has each job Clean and each target current, so that a next run has nothing to do.
+/// A run from a sound folder that came to its end, of any workflow, with checkpoints and directories too: each target of which it told that it is
+/// current is what a clean run from the sources makes of it, also where the sink fails as that is told; so are all targets where no job failed.
+/// Where also none is forced, the last plan of the folder has each job Clean and each target current, so that a next run has nothing to do.
 pub fn driven_ends_well()
     ensures tells { DrivenTells }
     ensures tells_all { DrivenTellsAll }

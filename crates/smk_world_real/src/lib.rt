@@ -2,11 +2,15 @@
 #![tactic(auto)]
 
 mod children;
+mod failure;
 mod fault;
 mod files;
+mod progress;
 mod settle;
 mod sink;
 mod work;
 
+pub use failure::{CallKind, Failure};
+pub use progress::Progress;
 pub use sink::RealSink;
 pub use work::RealWork;
