@@ -1,10 +1,8 @@
 //! What the start and the end of children add.
-ghost use Rattle.std.specs.Prelude.{◌≡◌, ◌++◌, ◌∷◌, [], true, false, None, Some, ℕ, List as Items, IsErr, IfOk, OnOk, OnErr, if◌then◌else◌, not, nat_eq, map, ◌≢◌, is_some};
-ghost use Rattle.std.specs.List.{filter};
-ghost use Rattle.std.specs.Option.{option_map};
+ghost use Rattle.std.specs.Prelude.{◌≡◌, ◌++◌, ◌∷◌, [], true, false, None, Some, ℕ, List as Items, IsErr, IfOk, OnOk, OnErr, if◌then◌else◌, ◌≢◌, is_some};
 ghost use Rattle.smk_world.specs.declared.event.Call.TheVariants.{Started, Waited};
 ghost use Rattle.smk_world.specs.declared.event.Node.TheVariants.{Regular};
-ghost use Rattle.smk_world.specs.World.{children_after, is_within, is_named, standing, out_paths, in_paths, owned_paths, child_numbered};
+ghost use Rattle.smk_world.specs.World.{children_after, is_within, is_named, standing, in_paths, owned_paths, child_numbered};
 ghost use Rattle.smk_world.specs.Folders.{AreInFolders};
 ghost use Rattle.smk_world_nodes.specs.Nodes.{node_at};
 ghost use Rattle.smk_world_nodes.specs.Steps.{AllApart};
@@ -15,7 +13,8 @@ ghost use Rattle.smk_world_mem.specs.Adds.{AddsIf};
 use crate::calls::{add, add_standing};
 use crate::command::{command_of, has_log, status_of, text_of, time_with, written_of};
 use smk_base::{Bytes, Copied, List, OutOfMemory, PathText, Place, Text};
-use smk_world::{Call, Change, Child, Ended, Failed, Node, Out, Recipe};
+use smk_world::{Call, Change, Child, Ended, Failed, Node, Recipe};
+use smk_world_crash::{find, others, outputs};
 use smk_world_nodes::{Nodes, Step, new_file};
 use std::alloc::Global;
 
@@ -67,32 +66,6 @@ pub fn start(
     Ok(Ok(next))
 }
 
-// The children with other numbers.
-fn others(alloc: Global, children: &List<Child>, number: u64) -> Result<List<Child>, OutOfMemory>
-    ensures { IfOk result (λ left. left ≡ filter (λ c. not (nat_eq c.number number)) children.now) }
-{
-    let mut left = List::new(alloc);
-    for child in children.as_slice() {
-        if child.number != number {
-            left.push(Child {
-                number: child.number,
-                recipe: child.recipe.copied(alloc)?,
-                logs: child.logs.copied(alloc)?,
-            })?;
-        }
-    }
-    Ok(left)
-}
-
-fn push_outs(alloc: Global, paths: &mut List<PathText>, outs: &List<Out>) -> Result<(), OutOfMemory>
-    ensures { OnOk result (paths.new ≡ paths.old ++ map (λ out. out.path) outs.now) }
-{
-    for out in outs.as_slice() {
-        paths.push(out.path.copied(alloc)?)?;
-    }
-    Ok(())
-}
-
 fn push_paths(
     alloc: Global,
     paths: &mut List<PathText>,
@@ -104,17 +77,6 @@ fn push_paths(
         paths.push(path.copied(alloc)?)?;
     }
     Ok(())
-}
-
-// The paths of the outputs.
-fn outputs(alloc: Global, recipe: &Recipe) -> Result<List<PathText>, OutOfMemory>
-    ensures { IfOk result (λ paths. paths ≡ out_paths recipe.now) }
-{
-    let mut paths = List::new(alloc);
-    for item in recipe.outputs.as_slice() {
-        push_outs(alloc, &mut paths, &item.outs)?;
-    }
-    Ok(paths)
 }
 
 // The paths of the inputs.
@@ -254,20 +216,6 @@ fn end(
     nodes.remove_trees(alloc, outs.as_slice())?;
     nodes.remove_trees(alloc, child.logs.as_slice())?;
     leave(alloc, nodes, files, text.as_slice(), time, logs, now)
-}
-
-/// The child of this number.
-pub fn find(children: &[Child], number: u64) -> Option<&Child>
-    ensures { option_map (λ c. c.now) result ≡ child_numbered number children.now }
-{
-    let mut rest = children;
-    while let [child, more @ ..] = rest {
-        if child.number == number {
-            return Some(child);
-        }
-        rest = more;
-    }
-    None
 }
 
 /// The child that ends next: the first in this order that runs, or else the one that was started first.
