@@ -10,7 +10,7 @@ pub gone_on-requires : goal.gone_on-requires
 gone_on-requires c = λ is.
     elim c.if-self.branch [
       | then-self w ↦ c.in_ok-image.ensures.steps (sym w.told-is ∙ is)
-      | else-self w ↦ absurd (false≢true (sym w.if-self.false ∙ sym w.told-is ∙ is))
+      | else-self w ↦ absurd (false≢true (sym w.told-is ∙ is))
     ]
 
 pub returns-clause-world : goal.returns-clause-world
@@ -20,7 +20,7 @@ returns-clause-world c = λ v e.
     let same : c.if-self.told ≡ (old.told && image.whole)
     = elim c.if-self.branch [
       | then-self w ↦ w.told-is ∙ ap (λ b. b && image.whole) (sym w.if-self.true)
-      | else-self w ↦ w.told-is ∙ w.if-self.false ∙ ap (λ b. b && image.whole) (sym w.if-self.false)
+      | else-self w ↦ w.told-is ∙ ap (λ b. b && image.whole) (sym w.if-self.false)
     ] in
     crash_told c.args.choice old.told image.whole old.children old.next old.steps image.steps image.nodes old.orderly
     (λ q.
