@@ -26,7 +26,11 @@ _smk() {
   fi
   for ((number = 1; number < COMP_CWORD; number++)); do
     case ${COMP_WORDS[number]} in
-      -s | --snakefile) file=${COMP_WORDS[number + 1]} ;;
+      -s | --snakefile)
+        file=${COMP_WORDS[number + 1]}
+        [ "$file" != = ] || file=${COMP_WORDS[number + 2]-}
+        ;;
+      -s?*) file=${COMP_WORDS[number]#-s} ;;
     esac
   done
   case $before in

@@ -1,6 +1,6 @@
 //! What the commands of the workspace in memory do: a call with each of them, and what stands then at the outputs and the log of its job.
 
-use crate::trial::{Trial, call_by, set_up_killing};
+use crate::trial::{Trial, call_on, set_up_killing};
 use rows_lines::{Trouble, push_case};
 use smk_base::{PathText, Place};
 use smk_world::{Files, Stat};
@@ -43,33 +43,35 @@ fn push_place(
     Ok(())
 }
 
-// How a call with the command ends in this workspace.
+// How a call with the command on this input ends in this workspace.
 fn told_in<Rt: Threads + Sync>(
     rt: &Rt,
     alloc: Global,
     outputs: &str,
     command: &str,
+    input: &str,
     trial: &mut Trial,
 ) -> Result<String, Trouble> {
     let workflow = workflow_of(alloc, outputs, command)?;
-    let status = call_by(rt, alloc, workflow.as_str(), "out.txt", trial)?;
+    let status = call_on(rt, alloc, workflow.as_str(), input, "out", trial)?;
     let mut text = format!(in alloc; "status {status}")?;
-    for path in ["out.txt", "b.txt", "l"] {
+    for path in ["out", "out/1.txt", "out/2.txt", "out/3.txt", "b", "l"] {
         push_place(alloc, &mut text, trial, path)?;
     }
     Ok(text)
 }
 
-// How a call with the command ends, where the child with this number is killed.
+// How a call with the command on this input ends, where the child with this number is killed.
 fn told<Rt: Threads + Sync>(
     rt: &Rt,
     alloc: Global,
     outputs: &str,
     command: &str,
+    input: &str,
     killed: Option<u64>,
 ) -> Result<String, Trouble> {
     let mut trial = set_up_killing(alloc, killed)?;
-    told_in(rt, alloc, outputs, command, &mut trial)
+    told_in(rt, alloc, outputs, command, input, &mut trial)
 }
 
 /// Adds the lines of each command.
@@ -78,48 +80,112 @@ pub fn push_rows<Rt: Threads + Sync>(
     alloc: Global,
     text: &mut String,
 ) -> Result<(), AllocError> {
-    for (name, outputs, command, killed) in [
-        ("cat", "\"out.txt\"", "cat {input} > {output}", None),
+    for (name, outputs, command, input, killed) in [
+        ("cat", "\"out\"", "cat {input} > {output}", "hello\n", None),
         (
             "cat with a log",
-            "\"out.txt\"",
+            "\"out\"",
             "cat {input} > {output} 2> {log}",
+            "hello\n",
             None,
         ),
-        ("cp -p", "\"out.txt\"", "cp -p {input} {output}", None),
+        (
+            "cp -p",
+            "\"out\"",
+            "cp -p {input} {output}",
+            "hello\n",
+            None,
+        ),
         (
             "tee",
-            "\"out.txt\", \"b.txt\"",
+            "\"out\", \"b\"",
             "cat {input} | tee {output} > /dev/null",
+            "hello\n",
             None,
         ),
-        ("echo", "\"out.txt\"", "echo {params.text} > {output}", None),
+        (
+            "echo",
+            "\"out\"",
+            "echo {params.text} > {output}",
+            "hello\n",
+            None,
+        ),
+        (
+            "lines",
+            "directory(\"out\")",
+            "lines {input} {output}",
+            "one\n\nlast",
+            None,
+        ),
+        (
+            "lines of one line, with a log",
+            "directory(\"out\")",
+            "lines {input} {output} 2> {log}",
+            "hello\n",
+            None,
+        ),
+        (
+            "lines of nothing",
+            "directory(\"out\")",
+            "lines {input} {output}",
+            "",
+            None,
+        ),
+        (
+            "lines into a file",
+            "\"out\"",
+            "lines {input} {output}",
+            "hello\n",
+            None,
+        ),
         (
             "half with a log",
-            "\"out.txt\"",
+            "\"out\"",
             "half {input} > {output} 2> {log}",
+            "hello\n",
             None,
         ),
         (
             "fail with a log",
-            "\"out.txt\"",
+            "\"out\"",
             "fail {input} 2> {log}",
+            "hello\n",
             None,
         ),
         (
             "another command",
-            "\"out.txt\"",
+            "\"out\"",
             "sort {input} > {output}",
+            "hello\n",
+            None,
+        ),
+        (
+            "lines with another word",
+            "directory(\"out\")",
+            "lines {input} > {output}",
+            "hello\n",
             None,
         ),
         (
             "cat that is killed",
-            "\"out.txt\"",
+            "\"out\"",
             "cat {input} > {output}",
+            "hello\n",
+            Some(1),
+        ),
+        (
+            "lines that are killed",
+            "directory(\"out\")",
+            "lines {input} {output}",
+            "hello\n",
             Some(1),
         ),
     ] {
-        push_case(text, name, &told(rt, alloc, outputs, command, killed))?;
+        push_case(
+            text,
+            name,
+            &told(rt, alloc, outputs, command, input, killed),
+        )?;
     }
     Ok(())
 }

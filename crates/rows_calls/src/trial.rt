@@ -52,9 +52,9 @@ fn place(
 }
 
 // Writes the workflow file and the input by hand.
-fn fill(alloc: Global, work: &mut MemWork, workflow: &str) -> Result<(), Trouble> {
+fn fill(alloc: Global, work: &mut MemWork, workflow: &str, input: &str) -> Result<(), Trouble> {
     place(alloc, work, "Snakefile", workflow, 1)?;
-    place(alloc, work, "in.txt", "hello\n", 1000)
+    place(alloc, work, "in.txt", input, 1000)
 }
 
 /// An empty workspace and its sinks, where the child with this number is killed.
@@ -134,6 +134,19 @@ pub fn call<Rt: Threads + Sync>(
 }
 
 /// Writes the workflow and its input by hand, and calls for the target; the status.
+pub fn call_on<Rt: Threads + Sync>(
+    rt: &Rt,
+    alloc: Global,
+    workflow: &str,
+    input: &str,
+    target: &str,
+    trial: &mut Trial,
+) -> Result<u8, Trouble> {
+    fill(alloc, &mut trial.work, workflow, input)?;
+    call(rt, alloc, target, trial)
+}
+
+/// The same where the input is a line.
 pub fn call_by<Rt: Threads + Sync>(
     rt: &Rt,
     alloc: Global,
@@ -141,6 +154,5 @@ pub fn call_by<Rt: Threads + Sync>(
     target: &str,
     trial: &mut Trial,
 ) -> Result<u8, Trouble> {
-    fill(alloc, &mut trial.work, workflow)?;
-    call(rt, alloc, target, trial)
+    call_on(rt, alloc, workflow, "hello\n", target, trial)
 }

@@ -3,6 +3,7 @@
 #![tactic(auto)]
 
 mod children;
+mod crashes;
 mod digests;
 mod placing;
 mod setups;
@@ -15,13 +16,14 @@ use std::rt::Files as FileSystem;
 use std::thread::Threads;
 use std::time::Clock;
 
-/// The lines of the devices in memory, of the places of a job, of digests, and of children that run at the same time.
+/// The lines of the devices in memory and of crashes, of the places of a job, of digests, and of children that run at the same time.
 fn rows<R: FileSystem + Processes + Clock + Threads + Sync>(
     rt: &R,
     alloc: Global,
 ) -> Result<String, AllocError> {
     let mut text = String::new(alloc);
     setups::push_rows(alloc, &mut text)?;
+    crashes::push_rows(alloc, &mut text)?;
     placing::push_rows(alloc, &mut text)?;
     digests::push_rows(rt, alloc, &mut text)?;
     children::push_rows(rt, alloc, &mut text)?;

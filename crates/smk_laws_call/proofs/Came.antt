@@ -235,9 +235,9 @@ headline act w v H words told came differ called =
           let s = safe act w v H (Run words) told sound.0 sound.1 called in
           let same = same_events w s.0 log (sym s.2 ∙ is) in
           subst (StartsOnFinished (outside act) w) same (parts_start_on_finished (outside act) w H s.0 sound.0 sound.1 s.1 s.3.follows_protocol);
-      complete = λ plain unrefused values never.
+      complete = λ unrefused values never.
           call_is_complete act record_in words w v H told called.old called.new called.out_old called.out_new called.begins called.ends
-          reads_records (record { differ = sound.0; sound = sound.1; unrefused = unrefused; values = values }) plain never called.served;
+          reads_records (record { differ = sound.0; sound = sound.1; unrefused = unrefused; values = values }) never called.served;
     }
   where
     sound : SumsDiffer H × SoundWorld (outside act) w H

@@ -26,7 +26,7 @@ use Rattle.smk_cli_entry.specs.Entry.{FailsToAsk, IsAskedIn}
 use Rattle.smk_keep_forget.specs.Seen.{seen}
 use Rattle.smk_laws_keys.specs.Keys.{outside}
 use Rattle.smk_cli_calls.specs.Keys.{HasKept}
-use Rattle.smk_cli_calls.specs.Whole.{HasServed, IsAskedPlainly}
+use Rattle.smk_cli_calls.specs.Whole.{HasServed}
 use Rattle.smk_clean.specs.Again.{HasNoneLeft, StartsNothing}
 use Rattle.smk_clean.specs.Clean.{HasMadeClean}
 use Rattle.smk_whole.specs.Calls.{MayTell}
@@ -118,8 +118,7 @@ CameIsHistory =
 abbrev pub CameIsSound : Type 0
 CameIsSound = (act : Act) (w : World) (H : Versions) (came : Came act w H) → SumsDifferIn act w H came → SumsDiffer H × SoundWorld (outside act) w H
 
--- What is so of a run, whatever the workflow has. Only `complete` is said of what is asked plainly alone: no rule of the workflow is a checkpoint, makes a
--- directory or gathers, so that no plan may grow.
+-- What is so of a run, whatever the workflow has: checkpoints and directories too, by which plans grow.
 pub record RunGives (o : Outside) (words : RunWords) (told : Option Fault) (w v : World) (called : IsCalled o (Run words) told w v) : Type 0 where
   -- what it calls current holds what a clean run from the sources makes of it, however the run ended
   pub tells : HasPutSo called.out_old called.out_new (Tells o words w v)
@@ -138,10 +137,9 @@ pub record RunGives (o : Outside) (words : RunWords) (told : Option Fault) (w v 
   -- where the words aren't refused, a clean run gives each target and no call of the device failed, all is well, or it is told why not; be its jobs made one
   -- after another or driven, and outputs temporary or not
   pub complete :
-      IsAskedPlainly words w →
       ((f : Fault) → FailsToAsk words w.nodes f → ⊥) →
       ((asked : Asked) → IsAskedIn words w.nodes (Ok asked) → AllHaveValues (setting_in o.act o.read asked w) asked.targets) →
-      (Rose called.old.faults called.new.faults → ⊥) → MayTell o.read true words w told
+      (Rose called.old.faults called.new.faults → ⊥) → MayTell o.act o.read true words w told
 
 -- After any list of calls, edits of sources and of the workflow, failed jobs, removals and crashes this is so of a run, if no two different
 -- contents that sources had meanwhile have the same SHA-256.

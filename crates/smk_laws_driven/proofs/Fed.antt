@@ -1,5 +1,5 @@
 -- What the job that is next reads holds its clean values.
-use Rattle.std.proofs.Common.{◌≡◌, inl, inr, Bool, true, false, ◌||◌, cond, List, [], ◌∷◌, ◌++◌, map, flat_map, zip, refl, sym, ap, subst, ◌∙◌, Option, Some, None, is_none, true≢false}
+use Rattle.std.proofs.Common.{◌≡◌, inl, inr, Bool, true, false, ◌||◌, cond, List, [], ◌∷◌, ◌++◌, flat_map, zip, refl, sym, ap, subst, ◌∙◌, Option, Some, None, is_none, true≢false}
 use Rattle.smk_base.specs.declared.tree.Tree.{Tree}
 use Rattle.smk_world.specs.declared.event.Event.{Event}
 use Rattle.smk_world.specs.World.{World, IsFormed, in_paths, reading}
@@ -7,13 +7,12 @@ use Rattle.smk_world.specs.Trees.{Act, Each, IsIn, Path}
 use Rattle.smk_pattern.specs.Shapes.{Text}
 use Rattle.smk_pattern.proofs.Names.{numbered_all}
 use Rattle.smk_flow.specs.declared.job.Job.{Job}
-use Rattle.smk_flow.specs.declared.job.Gather.{Gather}
 use Rattle.smk_flow.specs.Flows.{rule_name}
 use Rattle.smk_store.specs.Images.{Image, is_source, tree_now}
 use Rattle.smk_store.specs.Soundness.{SameSources, Sound}
 use Rattle.smk_store.specs.Trust.{SumsDiffer, Versions}
 use Rattle.smk_chain.specs.Derive.{job, sources_of}
-use Rattle.smk_chain.specs.Mean.{clean_value, setting_of}
+use Rattle.smk_chain.specs.Mean.{Setting, clean_value, setting_of}
 use Rattle.smk_trigger.specs.declared.reason.Reason.{Reason}
 use Rattle.smk_trigger.specs.declared.reason.State.{State}
 use Rattle.smk_trigger.specs.declared.reason.State.TheVariants.{Open, Dirty, Restore, Clean}
@@ -30,16 +29,17 @@ use Rattle.smk_laws_plan.proofs.PlanOne.{job_makes}
 use Rattle.smk_laws_history.proofs.CurrentComplete.{seen_is_complete}
 use Rattle.smk_laws_history.proofs.CurrentReads.{reads_are_clean, same_values, wanted_comes}
 use Rattle.smk_laws_history.proofs.Valid.{records_valid}
-use Rattle.smk_laws_protocol.proofs.Basics.{each_in, each_of}
+use Rattle.smk_laws_protocol.proofs.Basics.{each_of}
 use Rattle.smk_report.specs.declared.fault.Fault.TheVariants as fault
-use Rattle.smk_safe.specs.Planned.{IsPlain}
 use Rattle.smk_drive.specs.Moments.{IsInForce, Rules, progress_of, seen}
 use Rattle.smk_drive.specs.Refusals.{above_limit, ahead, guarded, incomplete, of_command}
 use Rattle.smk_drive_course.specs.Stands.{IsClear, Stand}
 use Rattle.smk_laws_starting.proofs.Inputs.{maker_is, state_in}
 use Rattle.smk_laws_starting.proofs.Next.{IsStarting}
-use Rattle.smk_laws_driven.specs.Ended.{PlansArePlain}
+use Rattle.smk_laws_listed.specs.Listed.{AreMeant, all_known}
+use Rattle.smk_laws_listed.proofs.Meant.{begun_right}
 use Rattle.smk_laws_driven.proofs.Fields.{unrefused}
+use Rattle.smk_laws_driven.proofs.Listed.{same_setting}
 
 -- two options of which the first is there
 has_maker : (o : Option (Job × State)) (m : Job × State) (ready : Bool) → o ≡ Some m → (is_none o || ready) ≡ true → ready ≡ true
@@ -68,10 +68,11 @@ shut_state (Some Clean) false [] false h = refl
 shut_state (Some Clean) false (r ∷ rs) x h = refl
 
 module _ (act : Act) (rules : Rules) (entry w : World) (H : Versions) (before : List Event) (s : Stand) (plan : Plan) (differ : SumsDiffer H)
-    (formed : IsFormed w) (in_force : s.plan ≡ Some plan) (clear : IsClear rules s w before) (plain : PlansArePlain rules)
+    (formed : IsFormed w) (in_force : s.plan ≡ Some plan) (clear : IsClear rules s w before)
     (planned : Planned rules.flow (seen rules w) rules.settings (progress_of w s.begun) plan)
     (sound : Sound act H (seen rules w) (eased_by (seen rules w) (is_restored (seen rules w) rules.settings (progress_of w s.begun) plan)))
-    (entry_formed : IsFormed entry) (same : SameSources (seen rules entry) (seen rules w)) where
+    (entry_formed : IsFormed entry) (same : SameSources (seen rules entry) (seen rules w))
+    (meant : AreMeant (setting_of rules.flow act all_known (seen rules entry)) s.from rules.settings.targets) where
   abbrev image : Image
   image = seen rules w
 
@@ -83,12 +84,6 @@ module _ (act : Act) (rules : Rules) (entry w : World) (H : Versions) (before : 
 
   last : LastPlan rules.flow image rules.settings progress s.from plan
   last = subst (IsInForce rules w s.begun s.from) in_force clear.planned
-
-  plainly : Each IsPlain plan.jobs
-  plainly = plain image progress plan (seen_is_complete rules.read w formed) planned.derived
-
-  none_gathered : (j : Job) → IsIn plan.jobs j → gathers_from j ≡ []
-  none_gathered j i = ap (map (λ (g : Gather). g.folder)) (each_in IsPlain plan.jobs j plainly i).gathers_none
 
   told : (e : Job × State) (o : Option Text) → is_open e.1 ≡ false → of_command rules image progress plan e o ≡ [] → is_none o ≡ true
   told e None shut h = refl
@@ -110,6 +105,12 @@ module _ (act : Act) (rules : Rules) (entry w : World) (H : Versions) (before : 
       (flat_nil (λ (e : Job × State). of_command rules image progress plan e (rules.missing e.0)) (staged plan)
       (j, state_of image rules.settings progress plan j) three there)
 
+  meant_now : AreMeant (setting_of rules.flow act all_known image) s.from rules.settings.targets
+  meant_now =
+      subst (λ (X : Setting). AreMeant X s.from rules.settings.targets)
+      (same_setting rules.flow act all_known (seen rules entry) image (seen_is_complete rules.read entry entry_formed) (seen_is_complete rules.read w formed) same)
+      meant
+
   sound_plan : SoundPlan rules.flow act fields image H rules.settings progress s.from plan
   sound_plan =
       record {
@@ -117,8 +118,9 @@ module _ (act : Act) (rules : Rules) (entry w : World) (H : Versions) (before : 
         differ = differ;
         complete = seen_is_complete rules.read w formed;
         valid = records_valid rules.read w.names (λ q. reading (w.nodes q));
-        listed = λ j f files there shut gathered is. absurd
-            (subst (λ fs. IsIn fs f) (none_gathered j (in_from plan.jobs j there)) (in_from (gathers_from j) f gathered));
+        listed =
+            begun_right rules.flow act image H rules.settings progress (seen_is_complete rules.read w formed)
+            (records_valid rules.read w.names (λ q. reading (w.nodes q))) differ s.from plan last sound meant_now fields;
         last = last;
         fields = λ j there shut. fields_there j (in_from plan.jobs j there) shut;
       }

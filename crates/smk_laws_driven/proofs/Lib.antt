@@ -3,6 +3,7 @@ pub mod Mild
 pub mod Lasting
 pub mod Reaching
 pub mod Fields
+pub mod Good
 pub mod Ending
 pub mod Unlisted
 pub mod Unforced

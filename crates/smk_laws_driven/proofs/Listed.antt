@@ -209,7 +209,7 @@ module _ (act : Act) (rules : Rules) (entry : World) (H : Versions) (reads : Rea
     so_far : AreMeant S (lists s) targets
     so_far = all_meant before s at well (clear_force act rules entry s v clear)
 
-    next_well : IsListedWell t (run v es)
+    pub next_well : IsListedWell t (run v es)
     next_well = elim (unhalted_step act rules entry s t v before es deeds step was none) [
       | inl h ↦ record {
         once = begun_once rules entry s t v before es deeds well.once h;
@@ -258,25 +258,29 @@ module _ (act : Act) (rules : Rules) (entry : World) (H : Versions) (reads : Rea
       (subst (λ v. IsListedWell t1 (run v es1)) (sym world) next) (subst (λ v. WasClear act rules entry t1 (run v es1)) (sym world) clear_next) f.1
       (step_broken act rules entry s1 t1 w1 before1 es1 ds step was) none
 
+  -- Where a run starts no listing was known before.
+  pub start_well :
+      (told : Option End) (result : Result End Fault) (deeds : List Deed) (log : List Event) (r : IsRun rules told result deeds entry log) →
+      Follows act entry log → IsListedWell r.start (run entry r.opening)
+  start_well told result deeds log r follows =
+      let kept = start_kept act rules entry H reads differ sound told result deeds log r follows in
+      record {
+        once = λ a b i k same. absurd (none_in r.start.begun a kept.begun i);
+        children = at_start rules told result deeds entry log r sound.no_child;
+        meant = answer_meant r.opened (first_stand r.plan) r.start entry [] r.goes_by (λ f files e. absurd (unlisted files e));
+      }
+    where
+      unlisted : (files : List Path) → ◌≡◌ {A = Option (List Path)} None (Some files) → ⊥
+      unlisted files e = cc
+
   -- At the end of a run in which no fault came the listings of the plans before the last one are meant.
   pub run_meant :
       (told : Option End) (result : Result End Fault) (deeds : List Deed) (log : List Event) (r : IsRun rules told result deeds entry log) →
       Follows act entry log → r.last.halted ≡ None → AreMeant S r.last.from targets
   run_meant told result deeds log r follows none =
       let split = parts act rules entry H reads differ sound told result deeds log r follows in
-      let kept = start_kept act rules entry H reads differ sound told result deeds log r follows in
       let calm = start_unhalted act rules entry H reads differ sound told result deeds log r follows none in
       all_steps r.start r.last (run entry r.opening) r.opening r.rest deeds r.steps refl
-      (start_reached act rules entry H reads differ sound told result deeds log r follows)
-      (record {
-        once = λ a b i k same. absurd (none_in r.start.begun a kept.begun i);
-        children = at_start rules told result deeds entry log r sound.no_child;
-        meant =
-            answer_meant r.opened (first_stand r.plan) r.start entry [] r.goes_by
-            (λ f files e. absurd (unlisted files e));
-      })
+      (start_reached act rules entry H reads differ sound told result deeds log r follows) (start_well told result deeds log r follows)
       (start_clear act rules entry told result deeds log r sound.formed split.0 calm) split.1
       (answer_broken act rules entry r.opened (first_stand r.plan) r.start entry [] r.goes_by refl) none
-    where
-      unlisted : (files : List Path) → ◌≡◌ {A = Option (List Path)} None (Some files) → ⊥
-      unlisted files e = cc

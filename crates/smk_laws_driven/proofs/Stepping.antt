@@ -1,6 +1,6 @@
 -- Each step of a run in which no fault comes keeps what running children read at its clean values; and no job fails in it.
 use Rattle.std.proofs.Common.{◌≡◌, ◌≢◌, ◌⊎◌, inl, inr, ℕ, suc, zero, true, false, not, List, [], ◌∷◌, ◌++◌, map, refl, sym, ap, subst, ◌∙◌, Ok, IsTrue, is_none, arith, true≢false}
-use Rattle.std.specs.Prelude.{length, nat_eq, nat_le, ◌==◌, if◌then◌else◌}
+use Rattle.std.specs.Prelude.{length, nat_eq, nat_le, ◌==◌}
 use Rattle.std.specs.List.{filter_map, list_all}
 use Rattle.smk_base.specs.declared.tree.Pair.{Pair}
 use Rattle.smk_base.specs.Path.{is_path}
@@ -15,25 +15,24 @@ use Rattle.smk_world.specs.Trees.{Act, Each, IsIn, Path, among, first, is_path_t
 use Rattle.smk_world.proofs.Names.{formed_run}
 use Rattle.smk_record.specs.declared.record.Record.{Record}
 use Rattle.smk_record.specs.declared.record.Stamp.{Stamp}
+use Rattle.smk_record.specs.Spelling.{ReadsRecords}
 use Rattle.smk_record.specs.Records.{is_earlier, is_valid, record_of, are_rising}
 use Rattle.smk_flow.specs.declared.job.Job.{Job}
-use Rattle.smk_flow.specs.Flows.{Candidate, Flow, folders_of, gathered_folders}
+use Rattle.smk_flow.specs.Flows.{Candidate, Flow}
 use Rattle.smk_store.specs.Images.{Image, tree_now}
 use Rattle.smk_store.specs.Soundness.{Outside, SameSources, SoundWorld}
 use Rattle.smk_store.specs.Trust.{SumsDiffer, Versions}
-use Rattle.smk_chain.specs.Derive.{chosen, job, recipe, sources_of}
+use Rattle.smk_chain.specs.Derive.{chosen, job, recipe}
 use Rattle.smk_chain.specs.Mean.{Setting, clean_value, setting_of}
 use Rattle.smk_plan.specs.States.{Plan, is_restored}
 use Rattle.smk_job.specs.Jobs.{Underway}
 use Rattle.smk_laws_plan.specs.Current.{eased_by}
-use Rattle.smk_laws_plan.proofs.CurrentLists.{all_in, and_left, and_right, in_either, in_left, map_in, not_true}
+use Rattle.smk_laws_plan.proofs.CurrentLists.{all_in, and_left, and_right, in_either, in_left, not_true}
 use Rattle.smk_laws_plan.proofs.CurrentProducts.{Planned}
 use Rattle.smk_laws_history.proofs.CurrentComplete.{seen_is_complete}
 use Rattle.smk_laws_history.proofs.HistoryPlaces.{tree_same}
 use Rattle.smk_laws_history.proofs.Valid.{records_valid}
-use Rattle.smk_laws_complete.specs.Derived.{AllHaveValues, GathersAlone, IsGoodJob}
-use Rattle.smk_laws_complete.proofs.Calm.{no_listing_is_right}
-use Rattle.smk_laws_complete.proofs.Goods.{derived_jobs_are_good}
+use Rattle.smk_laws_complete.specs.Derived.{AllHaveValues, AreRight, GathersAlone, IsGoodJob}
 use Rattle.smk_laws_protocol.specs.Protocol.{IsApart, OpenJob, Running, eased, own}
 use Rattle.smk_laws_protocol.specs.Midway.{AllStrangers, Fits, IsTop, Midway}
 use Rattle.smk_laws_protocol.proofs.Basics.{each_in, each_of, in_filter, in_split}
@@ -46,31 +45,32 @@ use Rattle.smk_run.specs.declared.ending.Ending.TheVariants as run_ending
 use Rattle.smk_run.specs.Closings.{wait_event}
 use Rattle.smk_run.specs.Runs.{AreWritable}
 use Rattle.smk_run.specs.Statuses.{AreGiven, IsGiven}
-use Rattle.smk_safe.specs.Planned.{IsPlain}
 use Rattle.smk_drive.specs.Moments.{Begun, Rules, begun_of, ending, fault_of, or_good, progress_of, seen}
 use Rattle.smk_drive_course.specs.Reports.{failures}
-use Rattle.smk_drive_course.specs.Stands.{Stand, moment_of}
+use Rattle.smk_drive_course.specs.Stands.{Stand, lists, moment_of}
 use Rattle.smk_drive_course.specs.Steps.{Closed, Deed, HasBegun, HasClosed, HasSpent, guards_of}
 use Rattle.smk_drive_open.specs.Opened.{AreStillPlanned, IsOpen, beginning, found_by, opened}
 use Rattle.smk_laws_starting.specs.Starting.{MayOpen, top_with}
-use Rattle.smk_laws_moments.specs.Courses.{HasChildren}
 use Rattle.smk_laws_moments.proofs.Fates.{IsKept, begun_stand, ended_stand}
 use Rattle.smk_laws_folder.specs.Leaving.{AreOwnCalls}
-use Rattle.smk_laws_staying.specs.Staying.{IsDerivedStill, derived_by}
+use Rattle.smk_laws_staying.specs.Staying.{IsDerivedStill}
 use Rattle.smk_laws_staying.proofs.Planned.{derived_are_planned, midway_keeps_sources}
 use Rattle.smk_laws_starting.proofs.Next.{IsStarting, starting}
 use Rattle.smk_laws_starting.proofs.Starting.{startable_may_begin}
 use Rattle.smk_laws_following.specs.Following.{IsReached}
 use Rattle.smk_laws_following.proofs.Pairs.{aside, parted}
 use Rattle.smk_laws_following.proofs.StandStates.{IsLater}
-use Rattle.smk_laws_driven.specs.Ended.{PlansArePlain}
 use Rattle.smk_laws_driven.proofs.Fed.{next_fed}
-use Rattle.smk_laws_driven.proofs.Once.{begun_kept, begun_once, ended_kept, ended_once, spent_once}
+use Rattle.smk_laws_driven.proofs.Good as good
+use Rattle.smk_laws_driven.proofs.Good.{stand_right}
+use Rattle.smk_laws_driven.proofs.Lasting.{WasClear, clear_force}
+use Rattle.smk_laws_driven.proofs.Listed.{IsListedWell, all_meant}
+use Rattle.smk_laws_driven.proofs.Once.{begun_kept, ended_kept}
 use Rattle.smk_laws_driven.proofs.OwnCalls.{begin_own, close_own, looks_own, own_leaves, own_more, tend_own}
-use Rattle.smk_laws_driven.proofs.Restored.{IsOnce, eased_so}
+use Rattle.smk_laws_driven.proofs.Reaching as reaching
+use Rattle.smk_laws_driven.proofs.Restored.{eased_so}
 use Rattle.smk_laws_driven.proofs.SoundNow.{sound_fewer, sound_now}
 use Rattle.smk_laws_driven.proofs.Spending.{reads_stay, spent_later}
-use Rattle.smk_laws_driven.proofs.Unlisted.{HasNoLists}
 use Rattle.smk_laws_driven.proofs.Waiting.{ends_well, owned_is}
 
 -- ## Small facts
@@ -116,23 +116,30 @@ guards_inside j (run_ending.BadMember q) p i = absurd i
 
 -- ## One step
 
-module _ (act : Act) (rules : Rules) (entry : World) (H : Versions) (top : ℕ) (differ : SumsDiffer H)
-    (sound : SoundWorld (record { read = rules.read; act = act }) entry H) (is_top : IsTop (record { read = rules.read; act = act }) entry top)
-    (plain : PlansArePlain rules) (alone : GathersAlone rules.flow)
-    (values : AllHaveValues (setting_of rules.flow act (λ j. is_none (rules.missing j)) (seen rules entry)) rules.settings.targets)
-    (first_plain : Each IsPlain (derived_by rules entry [])) (rose : Type 0) (never : ¬ rose) where
+module _ (act : Act) (rules : Rules) (entry : World) (H : Versions) (reads : ReadsRecords rules.read) (differ : SumsDiffer H)
+    (sound : SoundWorld (record { read = rules.read; act = act }) entry H) (alone : GathersAlone rules.flow)
+    (values : AllHaveValues (setting_of rules.flow act (λ j. is_none (rules.missing j)) (seen rules entry)) rules.settings.targets) (rose : Type 0)
+    (never : ¬ rose) where
+  abbrev top : ℕ
+  top = reaching.top act rules entry H reads differ sound
+
+  is_top : IsTop (record { read = rules.read; act = act }) entry top
+  is_top = reaching.is_top act rules entry H reads differ sound
+
   abbrev pub o : Outside
   o = record { read = rules.read; act = act }
 
   abbrev pub S : Setting
   S = setting_of rules.flow act (λ j. is_none (rules.missing j)) (seen rules entry)
 
-  -- What holds at a stand: its children read what stands at its clean values; of jobs of one name just one has begun; and no listing is known.
+  abbrev WellListed : Stand → World → Type 0
+  WellListed s w = IsListedWell act rules entry H reads differ sound s w
+
+  -- What holds at a stand: its children read what stands at its clean values; its plan is in force; and the listings of the plans before are meant.
   pub record IsFed (s : Stand) (w : World) : Type 0 where
     pub fed : (g : Underway) → IsIn s.runs g → Each (λ q. tree_now (seen rules w) q ≡ clean_value S q) (in_paths g.recipe)
-    pub once : IsOnce s
-    pub children : HasChildren s w
-    pub lists : HasNoLists s
+    pub well : WellListed s w
+    pub clear : WasClear act rules entry s w
 
   module _ (before : List Event) (s : Stand) (at : IsReached o rules entry top before s) (fed : IsFed s (run entry before)) where
     abbrev w : World
@@ -149,6 +156,15 @@ module _ (act : Act) (rules : Rules) (entry : World) (H : Versions) (top : ℕ) 
 
     still : AreStillPlanned s
     still = derived_are_planned rules entry s sound.formed at.derived
+
+    same : SameSources (seen rules entry) (seen rules w)
+    same = midway_keeps_sources o rules entry H at.state w refl here
+
+    -- all listings so far are right
+    right : AreRight S (lists s) rules.settings.targets
+    right =
+        stand_right act rules entry sound.formed s w formed same fed.clear
+        (all_meant act rules entry H reads differ sound before s at fed.well (clear_force act rules entry s w fed.clear))
 
     opens : (g : Underway) → IsIn s.runs g → IsOpen s at.state.jobs g
     opens g i = each_in (IsOpen s at.state.jobs) s.runs g at.is_state.running i
@@ -189,16 +205,13 @@ module _ (act : Act) (rules : Rules) (entry : World) (H : Versions) (top : ℕ) 
             derived = next.is_plan;
           }
 
-      same : SameSources (seen rules entry) (seen rules w)
-      same = midway_keeps_sources o rules entry H at.state w refl here
-
       begins_fed : Each (λ q. tree_now (seen rules w) q ≡ clean_value S q) (in_paths j.recipe)
       begins_fed =
-          next_fed act rules entry w H before s plan differ formed next.in_force h.to_begin.next.clear plain planned
+          next_fed act rules entry w H before s plan differ formed next.in_force h.to_begin.next.clear planned
           (sound_fewer (seen rules w) (eased_by (seen rules w) (is_restored (seen rules w) rules.settings (progress_of w s.begun) plan)) (eased at.state)
-          (eased_so act rules entry w H s at.state plan here at.is_state still fed.children fed.once next.in_force planned) act H
+          (eased_so act rules entry w H s at.state plan here at.is_state still fed.well.children fed.well.once next.in_force planned) act H
           (sound_now o entry H top before at.state differ sound is_top at.come.follows at.come.runs))
-          sound.formed same h.job next refl
+          sound.formed same fed.well.meant h.job next refl
 
       may : MayOpen o at.state w h.job (found_by (seen rules w) h.job) h.going.made h.going.stamps (top_with rules entry s (begun_of rules entry (moment_of s w before) h.job))
       may = startable_may_begin o rules entry w H before s at.state h.job h.going.made h.going.stamps refl here at.is_state still h.to_begin
@@ -209,7 +222,7 @@ module _ (act : Act) (rules : Rules) (entry : World) (H : Versions) (top : ℕ) 
           (own_more j w h.reads h.beginning (looks_own j false w h.reads h.only_read) (begin_own j _ (run w h.reads) h.beginning h.calls))
 
       kept : IsKept (begun_stand rules entry s w before h.job h.going) t
-      kept = begun_kept rules entry s t w before es deeds fed.once h
+      kept = begun_kept rules entry s t w before es deeds fed.well.once h
 
       fed_still : (g : Underway) → IsIn s.runs g → Each (λ q. tree_now (seen rules (run w es)) q ≡ clean_value S q) (in_paths g.recipe)
       fed_still g i = stays_fed j es g i its_calls (each_in (IsApart (beginning j h.going.made h.going.stamps (found_by (seen rules w) h.job))) at.state.jobs (job_of g i) may.begins.from_open (opens g i).is_open).not_read
@@ -222,8 +235,8 @@ module _ (act : Act) (rules : Rules) (entry : World) (H : Versions) (top : ℕ) 
           (read_paths h.going.made j.recipe h.going.stamps may.makes h.to_begin.writable q iq))
           ∙ each_in (λ q. tree_now (seen rules w) q ≡ clean_value S q) (in_paths j.recipe) q begins_fed iq)
 
-      pub begun_fed : HasChildren t (run w es) → HasNoLists t → IsFed t (run w es)
-      begun_fed children lists = record { fed = λ g i. go g (in_either g s.runs (h.going ∷ []) (subst (λ gs. IsIn gs g) kept.runs i)); once = begun_once rules entry s t w before es deeds fed.once h; children = children; lists = lists }
+      pub begun_fed : WellListed t (run w es) → WasClear act rules entry t (run w es) → IsFed t (run w es)
+      begun_fed well clear = record { fed = λ g i. go g (in_either g s.runs (h.going ∷ []) (subst (λ gs. IsIn gs g) kept.runs i)); well = well; clear = clear }
         where
           go : (g : Underway) → IsIn s.runs g ⊎ IsIn (h.going ∷ []) g → Each (λ q. tree_now (seen rules (run w es)) q ≡ clean_value S q) (in_paths g.recipe)
           go g (inl i) = fed_still g i
@@ -265,32 +278,23 @@ module _ (act : Act) (rules : Rules) (entry : World) (H : Versions) (top : ℕ) 
       derived_here : IsDerivedStill rules entry s g
       derived_here = each_in (IsDerivedStill rules entry s) s.runs g at.derived.running h.waited.ran
 
-      chosen_here : IsIn (derived_by rules entry []) derived_here.begun.job
-      chosen_here = subst (λ L. IsIn (derived_by rules entry L) derived_here.begun.job) fed.lists.now derived_here.derived
+      by : (c : Candidate) × IsIn (chosen S.flow S.sources (lists s) rules.settings.targets) c × (derived_here.begun.job ≡ job S.flow (lists s) c)
+      by = good.by act rules entry sound.formed s right alone values g derived_here
 
-      by : (c : Candidate) × IsIn (chosen S.flow S.sources [] rules.settings.targets) c × (derived_here.begun.job ≡ job S.flow [] c)
-      by = map_in (job rules.flow []) (chosen rules.flow (sources_of (seen rules entry)) [] rules.settings.targets) derived_here.begun.job chosen_here
+      good_job : IsGoodJob S (lists s) by.0
+      unfolding by
+      good_job = good.good act rules entry sound.formed s right alone values g derived_here
 
-      none_gathered : gathered_folders S.flow by.0 ≡ []
-      none_gathered =
-          ap folders_of
-          (ap (λ (x : Job). x.gathers) (sym by.2) ∙ (each_in IsPlain (derived_by rules entry []) derived_here.begun.job first_plain chosen_here).gathers_none)
-
-      good : IsGoodJob S [] by.0
-      good =
-          derived_jobs_are_good S [] rules.settings.targets alone values (no_listing_is_right S rules.settings.targets) by.0 by.1
-          (λ f i. absurd (subst (λ fs. IsIn fs f) none_gathered i))
-
-      ends_so : ending (seen rules (after w wait)) (job S.flow [] by.0) h.ended.status ≡ Good
+      ends_so : ending (seen rules (after w wait)) (job S.flow (lists s) by.0) h.ended.status ≡ Good
       ends_so =
-          ends_well o entry w H at.state here there mine g.number its.is_open refl S refl [] by.0 good
+          ends_well o entry w H at.state here there mine g.number its.is_open refl S refl (lists s) by.0 good_job
           (ap (λ (x : Job). x.recipe) (sym by.2) ∙ derived_here.recipe) (fed.fed g h.waited.ran) rose h.ended h.left never h.waited.number lets given_wait
 
       pub closed_faults : failures rules.flow deeds ≡ []
       closed_faults =
           ap (failures rules.flow) h.deeds_are
           ∙ none_faulted rules.flow h.begun.job (ending (seen rules (after w wait)) h.begun.job h.ended.status)
-          (same_ending (seen rules (after w wait)) h.begun.job (job S.flow [] by.0) h.ended.status
+          (same_ending (seen rules (after w wait)) h.begun.job (job S.flow (lists s) by.0) h.ended.status
           (h.is_job.1 ∙ (sym derived_here.recipe ∙ ap (λ (x : Job). x.recipe) by.2))
           ∙ ends_so)
 
@@ -330,7 +334,7 @@ module _ (act : Act) (rules : Rules) (entry : World) (H : Versions) (top : ℕ) 
           (tend_own k (guards_of h.begun.job h.how) h.answer (run w (wait ∷ h.closing)) h.tending guards_are h.tended))
 
       kept_end : IsKept (ended_stand rules entry s w g h.ended h.left) t
-      kept_end = ended_kept rules entry s t w before es deeds fed.once h
+      kept_end = ended_kept rules entry s t w before es deeds fed.well.once h
 
       -- another child reads nothing of what it owns
       apart_from : (x : Underway) → (i : IsIn s.runs x) → nat_eq x.number g.number ≡ false → any_overlap (owned_paths k.recipe k.logs) (in_paths x.recipe) ≡ false
@@ -352,8 +356,8 @@ module _ (act : Act) (rules : Rules) (entry : World) (H : Versions) (top : ℕ) 
           let f = in_filter (λ (r : Underway). not (nat_eq r.number g.number)) s.runs x (subst (λ gs. IsIn gs x) kept_end.runs i) in
           stays_fed k es x f.0 its_closing (apart_from x f.0 (not_true (nat_eq x.number g.number) f.1))
 
-      pub closed_fed : HasChildren t (run w es) → HasNoLists t → IsFed t (run w es)
-      closed_fed children lists = record { fed = fed_others; once = ended_once rules entry s t w before es deeds fed.once h; children = children; lists = lists }
+      pub closed_fed : WellListed t (run w es) → WasClear act rules entry t (run w es) → IsFed t (run w es)
+      closed_fed well clear = record { fed = fed_others; well = well; clear = clear }
 
     -- ## Spent outputs are removed
 
@@ -368,13 +372,12 @@ module _ (act : Act) (rules : Rules) (entry : World) (H : Versions) (top : ℕ) 
           (reads_stay act rules entry H top differ sound is_top before s at es deeds t h follows g i q iq)
           ∙ each_in (λ q. tree_now (seen rules w) q ≡ clean_value S q) (in_paths g.recipe) q (fed.fed g i) iq)
 
-      pub spent_fed : HasChildren t (run w es) → HasNoLists t → IsFed t (run w es)
-      spent_fed children lists =
+      pub spent_fed : WellListed t (run w es) → WasClear act rules entry t (run w es) → IsFed t (run w es)
+      spent_fed well clear =
           record {
             fed = λ g i. fed_yet g (subst (λ gs. IsIn gs g) later.runs i);
-            once = spent_once rules entry s t w before es deeds fed.once h;
-            children = children;
-            lists = lists;
+            well = well;
+            clear = clear;
           }
 
       pub spent_faults : failures rules.flow deeds ≡ []

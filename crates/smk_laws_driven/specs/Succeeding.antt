@@ -10,9 +10,9 @@ use Rattle.smk_laws_complete.specs.Derived.{AllHaveValues, GathersAlone}
 use Rattle.smk_drive.specs.Moments.{Rules}
 use Rattle.smk_drive_course.specs.declared.ending.End.{End}
 use Rattle.smk_drive_course.specs.Driven.{HasDriven}
-use Rattle.smk_laws_driven.specs.Ended.{PlansArePlain, setting_in}
+use Rattle.smk_laws_driven.specs.Ended.{setting_in}
 
--- A run from a folder that is sound for versions of which no two different contents have the same SHA-256, of jobs that make plain files and gather nothing:
+-- A run from a folder that is sound for versions of which no two different contents have the same SHA-256, of any workflow, with checkpoints and directories too:
 -- where each target has a clean value, and no count of faults rose, it has no failed job when it comes to its end, also where spent outputs were removed.
 abbrev pub DrivenSucceeds : Type 0
 DrivenSucceeds =
@@ -23,7 +23,6 @@ DrivenSucceeds =
     ReadsRecords o.read →
     SumsDiffer H →
     SoundWorld o w H →
-    PlansArePlain rules →
     GathersAlone rules.flow →
     AllHaveValues (setting_in o rules w) rules.settings.targets →
     ¬ (Rose old.faults new.faults) → HasDriven o.act rules (Ok end) old new out_old out_new → end.first ≡ None

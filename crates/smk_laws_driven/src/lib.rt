@@ -21,7 +21,7 @@ pub fn driven_ends_well()
     ensures leaves { DrivenLeavesNone }
 {}
 
-/// A run from a sound folder that came to its end, of jobs that make plain files and gather nothing: where each target has a clean value, and no
+/// A run from a sound folder that came to its end, of any workflow, with checkpoints and directories too: where each target has a clean value, and no
 /// count of faults rose, no job failed, also where spent outputs were removed.
 pub fn driven_succeeds()
     ensures { DrivenSucceeds }

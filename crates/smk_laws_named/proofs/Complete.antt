@@ -6,6 +6,6 @@ use Rattle.smk_laws_named.proofs.Whole.{driven_faults_are_named}
 
 pub driven_is_complete : DrivenIsComplete
 driven_is_complete o rules H (Ok end) w v old new p q at at_v reader reads differ sound plain alone values never h =
-    driven_succeeds o rules H end w v old new p q at at_v reader reads differ sound plain alone values never h
+    driven_succeeds o rules H end w v old new p q at at_v reader reads differ sound alone values never h
 driven_is_complete o rules H (Err f) w v old new p q at at_v reader reads differ sound plain alone values never h =
     driven_faults_are_named o rules H f w v old new p q at at_v reader reads differ sound plain alone values h

@@ -1,5 +1,5 @@
 -- Which fault comes where a run goes by a stand at which none has come.
-use Rattle.std.proofs.Common.{◌≡◌, inr, List, [], refl, sym, ap, subst, ◌∙◌, Option, Some, None, Result, Ok, Err, IsTrue, true≢false}
+use Rattle.std.proofs.Common.{◌≡◌, List, [], refl, sym, ap, subst, ◌∙◌, Option, Some, None, Result, Ok, Err, IsTrue, true≢false}
 use Rattle.smk_world.specs.declared.event.Event.{Event}
 use Rattle.smk_world.specs.World.{World}
 use Rattle.smk_keep.specs.declared.fault.KeepFault.{KeepFault}
@@ -11,7 +11,6 @@ use Rattle.smk_drive.specs.Moments.{Rules}
 use Rattle.smk_drive_course.specs.Reports.{may_lose}
 use Rattle.smk_drive_course.specs.Stands.{AtRest, Between, GoesBy, GoesOn, IsRefused, IsReplanned, LacksMemory, Refuses, Stand, WasHalted, first_fault, lists}
 use Rattle.smk_drive_course.specs.Steps.{GoesByAnswer}
-use Rattle.smk_laws_named.specs.Named.{IsNamed}
 
 pub none_some : (f : Fault) → ◌≡◌ {A = Option Fault} None (Some f) → ⊥
 none_some f h = cc
@@ -67,22 +66,19 @@ replanned_from rules s t w (Between rest) before now = before
 
 -- ## Going by a stand
 
-module _ (rules : Rules) (entry : World) where
-  abbrev Named : Fault → Type 0
-  Named f = IsNamed rules entry f
+-- the fault by which a stand is halted at which none had come
+pub halted_is : (s t : Stand) (g f : Fault) → t.halted ≡ first_fault s.halted g → s.halted ≡ None → t.halted ≡ Some f → g ≡ f
+halted_is s t g f halts none came = first_is s.halted g f none (sym halts ∙ came)
 
+module _ (rules : Rules) (entry : World) (Named : Fault → Type 0) (breaks : (f : Fault) → MayBreakOff f → Named f) where
   pub by_memory : (f : Fault) → fault.OutOfMemory ≡ f → Named f
-  by_memory f e = inr (subst MayBreakOff e NoMemory)
+  by_memory f e = breaks f (subst MayBreakOff e NoMemory)
 
   pub by_device : (f : Fault) → fault.Device ≡ f → Named f
-  by_device f e = inr (subst MayBreakOff e DeviceFailed)
+  by_device f e = breaks f (subst MayBreakOff e DeviceFailed)
 
   pub by_sink : (f : Fault) → fault.Output ≡ f → Named f
-  by_sink f e = inr (subst MayBreakOff e SinkFailed)
-
-  -- the fault by which a stand is halted at which none had come
-  pub halted_is : (s t : Stand) (g f : Fault) → t.halted ≡ first_fault s.halted g → s.halted ≡ None → t.halted ≡ Some f → g ≡ f
-  halted_is s t g f halts none came = first_is s.halted g f none (sym halts ∙ came)
+  by_sink f e = breaks f (subst MayBreakOff e SinkFailed)
 
   pub goes_named :
       (s t : Stand) (w : World) (events : List Event) (f : Fault) → GoesBy rules entry s w events t → s.halted ≡ None → t.halted ≡ Some f →

@@ -7,3 +7,6 @@ pub mod Opening
 pub mod Onward
 pub mod Whole
 pub mod Complete
+pub mod Growing
+pub mod Grown
+pub mod GrownWhole

@@ -118,12 +118,14 @@ module _ (act : Act) (rules : Rules) (entry : World) (H : Versions) (top : ℕ) 
 
       begun_ours : Ours (run w es)
       begun_ours =
-          signs_kept rules (seen rules entry) (derived_by rules entry []) (seen_is_complete rules.read entry sound.formed) derives h.job.0 begun_in w es
+          signs_kept rules (seen rules entry) (seen rules entry) [] (derived_by rules entry []) (seen_is_complete rules.read entry sound.formed) derives
+          h.job.0 begun_in w es
           (begin_calls rules entry w s t before es deeds h) ours.signs
 
       begun_named : (f : Fault) → t.halted ≡ Some f → IsNamed rules entry f
       begun_named f came =
-          goes_named rules entry h.next t (run w es) (before ++ es) f h.goes_by (replanned_halted rules _ h.next (run w es) h.replanned ∙ none) came
+          goes_named rules entry (IsNamed rules entry) (λ g b. inr b) h.next t (run w es) (before ++ es) f h.goes_by
+          (replanned_halted rules _ h.next (run w es) h.replanned ∙ none) came
           (refusal h.next es [] f (sym (append-nil es)) begun_ours
           (replanned_from rules _ h.next (run w es) h.replanned ours.lists.before ours.lists.now))
 
@@ -133,22 +135,27 @@ module _ (act : Act) (rules : Rules) (entry : World) (H : Versions) (top : ℕ) 
       abbrev closing : List Event
       closing = wait_event h.ended h.left ∷ h.closing
 
-      its : IsIn (derived_by rules entry []) (closed_job act rules entry H top differ sound is_top before s ours.at ours.lists es deeds t h follows)
-      its = closed_in act rules entry H top differ sound is_top before s ours.at ours.lists es deeds t h follows
+      its : IsIn (derived_by rules entry []) (closed_job act rules entry H top differ sound is_top before s ours.at es deeds t h follows)
+      its =
+          subst
+          (λ L. IsIn (derived_by rules entry L) (closed_job act rules entry H top differ sound is_top before s ours.at es deeds t h follows))
+          ours.lists.now (closed_in act rules entry H top differ sound is_top before s ours.at es deeds t h follows)
 
       ours_then : Ours (run w closing)
       ours_then =
-          signs_kept rules (seen rules entry) (derived_by rules entry []) (seen_is_complete rules.read entry sound.formed) derives _ its w closing
-          (closing_calls act rules entry H top differ sound is_top before s ours.at ours.lists es deeds t h follows) ours.signs
+          signs_kept rules (seen rules entry) (seen rules entry) [] (derived_by rules entry []) (seen_is_complete rules.read entry sound.formed) derives
+          _ its w closing
+          (closing_calls act rules entry H top differ sound is_top before s ours.at es deeds t h follows) ours.signs
 
       closed_ours : Ours (run w es)
       closed_ours =
-          signs_kept rules (seen rules entry) (derived_by rules entry []) (seen_is_complete rules.read entry sound.formed) derives _ its w es
-          (closed_calls act rules entry H top differ sound is_top before s ours.at ours.lists es deeds t h follows) ours.signs
+          signs_kept rules (seen rules entry) (seen rules entry) [] (derived_by rules entry []) (seen_is_complete rules.read entry sound.formed) derives
+          _ its w es
+          (closed_calls act rules entry H top differ sound is_top before s ours.at es deeds t h follows) ours.signs
 
       closed_named : (f : Fault) → t.halted ≡ Some f → IsNamed rules entry f
       closed_named f came =
-          answer_named rules entry h.answer h.next t (run w closing) (before ++ closing) f h.goes_by
+          answer_named rules entry (IsNamed rules entry) (λ g b. inr b) h.answer h.next t (run w closing) (before ++ closing) f h.goes_by
           (replanned_halted rules _ h.next (run w closing) h.replanned ∙ none) came
           (refusal h.next closing h.tending f h.events ours_then
           (replanned_from rules _ h.next (run w closing) h.replanned ours.lists.before ours.lists.now))
@@ -175,7 +182,7 @@ module _ (act : Act) (rules : Rules) (entry : World) (H : Versions) (top : ℕ) 
 
       spent_named : (f : Fault) → t.halted ≡ Some f → IsNamed rules entry f
       spent_named f came =
-          goes_named rules entry h.last t (run w h.removing) (before ++ h.removing) f h.goes_by
+          goes_named rules entry (IsNamed rules entry) (λ g b. inr b) h.last t (run w h.removing) (before ++ h.removing) f h.goes_by
           (removed_halted s h.last w before h.paths h.removing h.removed ∙ none) came
           (refusal h.last h.removing h.settling f h.events
           (left_ours (run w h.removing) (removed_leave act rules entry H top differ sound is_top before s ours.at es deeds t h follows))
@@ -190,24 +197,34 @@ module _ (act : Act) (rules : Rules) (entry : World) (H : Versions) (top : ℕ) 
     step_named (Halts h) f came = go h.cause
       where
         why : h.why ≡ f
-        why = halted_is rules entry s t h.why f (ap (λ (x : Stand). x.halted) h.leaves) none came
+        why = halted_is s t h.why f (ap (λ (x : Stand). x.halted) h.leaves) none came
 
         go : ((s.halted ≡ None) × Refuses rules entry s w before h.why) ⊎ ((h.why ≡ fault.Output) ⊎ (h.why ≡ fault.OutOfMemory)) → IsNamed rules entry f
         go (inl (unhalted, refuses)) =
             moment_named act rules entry plain alone values sound.formed plainly derives (moment_of s w before) f formed sources_now ours.signs
             ours.lists.before (subst (Refuses rules entry s w before) why refuses)
-        go (inr (inl e)) = by_sink rules entry f (sym e ∙ why)
-        go (inr (inr e)) = by_memory rules entry f (sym e ∙ why)
-    step_named (Leaves h) f came = by_memory rules entry f (halted_is rules entry s t fault.OutOfMemory f (ap (λ (x : Stand). x.halted) h.leaves) none came)
-    step_named (BreaksOff h) f came = by_device rules entry f (halted_is rules entry s t fault.Device f (ap (λ (x : Stand). x.halted) h.leaves) none came)
-    step_named (ReadsNot h) f came = by_device rules entry f (halted_is rules entry s t fault.Device f (ap (λ (x : Stand). x.halted) h.leaves) none came)
-    step_named (BeginsNot h) f came = by_device rules entry f (halted_is rules entry s t fault.Device f (ap (λ (x : Stand). x.halted) h.leaves) none came)
+        go (inr (inl e)) = by_sink rules entry (IsNamed rules entry) (λ g b. inr b) f (sym e ∙ why)
+        go (inr (inr e)) = by_memory rules entry (IsNamed rules entry) (λ g b. inr b) f (sym e ∙ why)
+    step_named (Leaves h) f came =
+        by_memory rules entry (IsNamed rules entry) (λ g b. inr b) f
+        (halted_is s t fault.OutOfMemory f (ap (λ (x : Stand). x.halted) h.leaves) none came)
+    step_named (BreaksOff h) f came =
+        by_device rules entry (IsNamed rules entry) (λ g b. inr b) f
+        (halted_is s t fault.Device f (ap (λ (x : Stand). x.halted) h.leaves) none came)
+    step_named (ReadsNot h) f came =
+        by_device rules entry (IsNamed rules entry) (λ g b. inr b) f
+        (halted_is s t fault.Device f (ap (λ (x : Stand). x.halted) h.leaves) none came)
+    step_named (BeginsNot h) f came =
+        by_device rules entry (IsNamed rules entry) (λ g b. inr b) f
+        (halted_is s t fault.Device f (ap (λ (x : Stand). x.halted) h.leaves) none came)
     step_named (SpendsNot h) f came =
-        by_device rules entry f
-        (halted_is rules entry h.last t fault.Device f (ap (λ (x : Stand). x.halted) h.leaves)
+        by_device rules entry (IsNamed rules entry) (λ g b. inr b) f
+        (halted_is h.last t fault.Device f (ap (λ (x : Stand). x.halted) h.leaves)
         (removed_halted s h.last w before h.paths h.removing h.removed ∙ none) came)
     step_named (Waits h) f came = absurd (ours.at.is_state.halted h.broken none)
-    step_named (FailsToWait h) f came = by_device rules entry f (halted_is rules entry s t fault.Device f (ap (λ (x : Stand). x.halted) h.leaves) none came)
+    step_named (FailsToWait h) f came =
+        by_device rules entry (IsNamed rules entry) (λ g b. inr b) f
+        (halted_is s t fault.Device f (ap (λ (x : Stand). x.halted) h.leaves) none came)
 
     next_ours : t.halted ≡ None → IsOurs (before ++ es) t
     next_ours still =

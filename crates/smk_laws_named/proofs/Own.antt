@@ -1,5 +1,5 @@
 -- The calls of a step in which a job begins, or is closed, are that job's own; and it is derived.
-use Rattle.std.proofs.Common.{◌≡◌, ℕ, true, false, List, [], ◌∷◌, refl, sym, ap, subst, ◌∙◌, IsTrue}
+use Rattle.std.proofs.Common.{◌≡◌, ℕ, true, false, List, ◌∷◌, refl, sym, ap, subst, ◌∙◌, IsTrue}
 use Rattle.smk_base.specs.Path.{is_path}
 use Rattle.smk_world.specs.declared.event.Call.TheVariants.{Waited}
 use Rattle.smk_world.specs.declared.event.Event.{Event}
@@ -24,14 +24,13 @@ use Rattle.smk_run.specs.declared.ending.Ending.{Ending as End}
 use Rattle.smk_run.specs.declared.ending.Ending.TheVariants as run_ending
 use Rattle.smk_run.specs.Closings.{wait_event}
 use Rattle.smk_drive.specs.Moments.{Begun, Rules}
-use Rattle.smk_drive_course.specs.Stands.{Stand}
+use Rattle.smk_drive_course.specs.Stands.{Stand, lists}
 use Rattle.smk_drive_course.specs.Steps.{Deed, HasBegun, HasClosed, guards_of}
 use Rattle.smk_drive_open.specs.Opened.{IsOpen, opened}
 use Rattle.smk_laws_folder.specs.Leaving.{AreOwnCalls}
 use Rattle.smk_laws_staying.specs.Staying.{IsDerivedStill, derived_by}
 use Rattle.smk_laws_following.specs.Following.{IsReached}
 use Rattle.smk_laws_driven.proofs.OwnCalls.{begin_own, close_own, looks_own, own_more, tend_own}
-use Rattle.smk_laws_driven.proofs.Unlisted.{HasNoLists}
 use Rattle.smk_laws_driven.proofs.Waiting.{owned_is}
 
 guards_inside : (j : Job) (how : End) (p : Path) → IsIn (guards_of j how) p → IsIn j.guards p
@@ -50,7 +49,7 @@ begin_calls rules entry w s t before es deeds h =
 
 module _ (act : Act) (rules : Rules) (entry : World) (H : Versions) (top : ℕ) (differ : SumsDiffer H)
     (sound : SoundWorld (record { read = rules.read; act = act }) entry H) (is_top : IsTop (record { read = rules.read; act = act }) entry top)
-    (before : List Event) (s : Stand) (at : IsReached (record { read = rules.read; act = act }) rules entry top before s) (lists : HasNoLists s)
+    (before : List Event) (s : Stand) (at : IsReached (record { read = rules.read; act = act }) rules entry top before s)
     (es : List Event) (deeds : List Deed) (t : Stand) (h : HasClosed rules entry s (run entry before) before es deeds t)
     (follows : Follows act (run entry before) es) where
   abbrev o : Outside
@@ -90,8 +89,8 @@ module _ (act : Act) (rules : Rules) (entry : World) (H : Versions) (top : ℕ) 
   lets = (subst (Follows act w) h.events follows).0.lets
 
   -- the job is derived
-  pub closed_in : IsIn (derived_by rules entry []) closed_job
-  closed_in = subst (λ L. IsIn (derived_by rules entry L) closed_job) lists.now still.derived
+  pub closed_in : IsIn (derived_by rules entry (lists s)) closed_job
+  closed_in = still.derived
 
   owned_same : owned_paths mine.recipe mine.logs ≡ owned_paths closed_job.recipe closed_job.logs
   owned_same = λ i. owned_paths (sym still.recipe i) (sym still.logs i)

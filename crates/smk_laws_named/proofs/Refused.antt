@@ -85,7 +85,7 @@ module _ (act : Act) (rules : Rules) (entry : World) (plain : PlansArePlain rule
         (sym derives_now ∙ subst (λ M. derivation rules.flow (seen rules v) M rules.settings.targets ≡ Refused r) none e))
     chain_stops progress L f none (PlanRefuses plan g rest is e) =
         plan_stops rules (seen rules entry) nothing_done (seen rules v) progress plan f
-        (λ k i. field_known k.0 (subst (λ ks. IsIn ks k.0) (its_jobs progress plan is none) (zip_first plan.jobs plan.states k.0 k.1 i)))
+        (λ k i shut. field_known k.0 (subst (λ ks. IsIn ks k.0) (its_jobs progress plan is none) (zip_first plan.jobs plan.states k.0 k.1 i)))
         (subst (λ fs. IsIn fs f) (sym e) (inl refl))
     chain_stops progress L f none (NextRefuses plan g is clear more later) =
         absurd (more (none_new rules plain (seen rules v) progress plan (seen_is_complete rules.read v formed_now) is))

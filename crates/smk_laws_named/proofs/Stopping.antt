@@ -9,6 +9,7 @@ use Rattle.smk_flow.specs.declared.job.Job.{Job}
 use Rattle.smk_flow.specs.Flows.{rule_name}
 use Rattle.smk_store.specs.Images.{Image}
 use Rattle.smk_trigger.specs.declared.reason.State.{State}
+use Rattle.smk_trigger.specs.JobStates.{is_open}
 use Rattle.smk_pick.specs.Rooms.{amount, threads_in}
 use Rattle.smk_plan.specs.States.{Plan, Progress, job_path, staged}
 use Rattle.smk_plan.specs.Sights.{is_guarded}
@@ -69,8 +70,10 @@ module _ (rules : Rules) (first : Image) (since : Progress) where
         (filter (λ (b : Amount). nat_lt b.count (amount j.amounts b.name)) rules.settings.bounds) f h in
         subst May (sym r.2) (AboveLimit (rule_name rules.flow j.rule) (job_path j) r.0.name (amount j.amounts r.0.name) r.0.count)
 
-    commanded : (e : Job × State) (f : Fault) → rules.missing e.0 ≡ None → IsIn (of_command rules image progress plan e (rules.missing e.0)) f → May f
-    commanded e f known h = go (rules.missing e.0) known h
+    commanded :
+        (e : Job × State) (f : Fault) → (is_open e.1 ≡ false → rules.missing e.0 ≡ None) → IsIn (of_command rules image progress plan e (rules.missing e.0)) f →
+        May f
+    commanded e f known h = go (rules.missing e.0) refl h
       where
         text :
             (b : Bool) → IsIn (cond b (too_long (rule_name rules.flow e.0.rule) (rules.command e.0 (threads_in rules.settings.cores e.0.threads))) []) f →
@@ -78,8 +81,14 @@ module _ (rules : Rules) (first : Image) (since : Progress) where
         text true k = long (rule_name rules.flow e.0.rule) (rules.command e.0 (threads_in rules.settings.cores e.0.threads)) f k
         text false k = absurd k
 
-        go : (o : Option Text) → o ≡ None → IsIn (of_command rules image progress plan e o) f → May f
-        go (Some word) m k = absurd (none_some (Some word) word m refl)
+        unknown :
+            (b : Bool) (word : Text) → is_open e.1 ≡ b → rules.missing e.0 ≡ Some word →
+            IsIn (cond b [] (fault.UnknownField (rule_name rules.flow e.0.rule) word ∷ [])) f → May f
+        unknown true word s m k = absurd k
+        unknown false word s m k = absurd (none_some (rules.missing e.0) word (known s) m)
+
+        go : (o : Option Text) → rules.missing e.0 ≡ o → IsIn (of_command rules image progress plan e o) f → May f
+        go (Some word) m k = unknown (is_open e.1) word refl m k
         go None m k = text (is_ahead rules image progress plan e) k
 
     abbrev of_commands : List Fault
@@ -89,7 +98,9 @@ module _ (rules : Rules) (first : Image) (since : Progress) where
     of_limits = flat_map (above_limit rules image progress plan) (ahead rules image progress plan)
 
     -- Nothing is refused of it but for how the folder stands, or what the call allows.
-    pub plan_stops : (f : Fault) → ((e : Job × State) → IsIn (staged plan) e → rules.missing e.0 ≡ None) → IsIn (refused_of rules image progress plan) f → May f
+    pub plan_stops :
+        (f : Fault) → ((e : Job × State) → IsIn (staged plan) e → is_open e.1 ≡ false → rules.missing e.0 ≡ None) →
+        IsIn (refused_of rules image progress plan) f → May f
     plan_stops f known h = first_part (in_either f (incomplete rules image progress plan) _ h)
       where
         last : IsIn of_commands f → May f

@@ -81,7 +81,7 @@ module _ (act : Act) (rules : Rules) (entry : World) (H : Versions) (reads : Rea
 
   start_named : (g : Fault) → r.start.halted ≡ Some g → IsNamed rules entry g
   start_named g came =
-      answer_named rules entry r.opened (first_stand r.plan) r.start entry [] g r.goes_by refl came
+      answer_named rules entry (IsNamed rules entry) (λ h b. inr b) r.opened (first_stand r.plan) r.start entry [] g r.goes_by refl came
       (entry_refuses (moment_of (first_stand r.plan) entry []) g (chain_named g))
 
   -- ## From the start

@@ -36,16 +36,18 @@ use Rattle.smk_cli_calls.specs.Serving.HasListed.{Listed, NotListed}
 use Rattle.smk_cli_calls.specs.Ends.{fault_of}
 use Rattle.smk_cli_calls.specs.Lines.{IsOutcome}
 use Rattle.smk_cli_calls.specs.Locking.{HasHeeded, HasRunLocked, IsClosed, LockGoes, LockStays, Stood, Taken, Unmade, Untaken, with_release}
-use Rattle.smk_cli_calls.specs.Whole.{AsksFor, HasRun, Heeded, IsAskedPlainly, IsRefusal, IsToServe, OfPlan, OfWorkflow, Unasked, Unheeded}
+use Rattle.smk_cli_calls.specs.Whole.{AsksFor, HasRun, Heeded, IsRefusal, IsToServe, OfPlan, OfWorkflow, Unasked, Unheeded}
 use Rattle.smk_succeed.specs.Completing.{NoMemory as OfMemory}
 use Rattle.smk_laws_complete.specs.Derived.{AllHaveValues, GathersAlone}
 use Rattle.smk_laws_lock.specs.Heeding.{IsSameButLock}
 use Rattle.smk_laws_lock.proofs.Heeding.{on_both, refusals_heed_no_lock, same_back}
 use Rattle.smk_clean.proofs.Leaving.{faults_later}
 use Rattle.smk_clean.proofs.Locked.{locked_same, refused_before, start_sound}
-use Rattle.smk_whole.specs.Complete.{EndsComplete, IsCleanAsked, IsCompleteAnswer, setting_in}
+use Rattle.smk_whole.specs.Complete.{EndsComplete, IsCleanAsked, IsRunAnswer, setting_in}
 use Rattle.smk_whole.proofs.Drove.{drove_is_complete}
-use Rattle.smk_whole.specs.Calls.{AllIsWell, BrokenOff, CallIsComplete, IsCleanCall, ListingIsComplete, LockedOut, MayTell, PlanRefused}
+use Rattle.smk_laws_named.specs.Grown.{GrowsToClash}
+use Rattle.smk_whole.proofs.Grown.{grown_heeds_no_lock}
+use Rattle.smk_whole.specs.Calls.{AllIsWell, BrokenOff, CallIsComplete, GrewToClash, IsCleanCall, ListingIsComplete, LockedOut, MayTell, PlanRefused}
 use Rattle.smk_whole.proofs.Plain.{plain_flows_plan_plainly}
 use Rattle.smk_cli_calls.proofs.OneByOne.{none_grow}
 use Rattle.smk_eval_files.specs.Looks.{Nodes}
@@ -61,21 +63,21 @@ gathers_alone words nodes asked h = read_flows_gather_alone nodes asked.file wor
 -- ## What is told of an answer
 
 told_of :
-    (read : List ℕ → Option Record) (run : Bool) (words : RunWords) (w : World) (result : Result (Unit {0}) Fault) (told : Option Fault) →
-    MayTell read run words w (fault_of result) → IsOutcome (fault_of result) told → MayTell read run words w told
-told_of read run words w result told may (inl same) = subst (MayTell read run words w) (sym same) may
-told_of read run words w result told may (inr memory) = subst (MayTell read run words w) (sym memory.1) (BrokenOff fault.OutOfMemory OfMemory)
+    (act : Act) (read : List ℕ → Option Record) (run : Bool) (words : RunWords) (w : World) (result : Result (Unit {0}) Fault) (told : Option Fault) →
+    MayTell act read run words w (fault_of result) → IsOutcome (fault_of result) told → MayTell act read run words w told
+told_of act read run words w result told may (inl same) = subst (MayTell act read run words w) (sym same) may
+told_of act read run words w result told may (inr memory) = subst (MayTell act read run words w) (sym memory.1) (BrokenOff fault.OutOfMemory OfMemory)
 
 ended :
-    (read : List ℕ → Option Record) (run : Bool) (words : RunWords) (w : World) (result : Result (Unit {0}) Fault) → EndsComplete result →
-    MayTell read run words w (fault_of result)
-ended read run words w (Ok u) h = AllIsWell
-ended read run words w (Err f) h = BrokenOff f h
+    (act : Act) (read : List ℕ → Option Record) (run : Bool) (words : RunWords) (w : World) (result : Result (Unit {0}) Fault) → EndsComplete result →
+    MayTell act read run words w (fault_of result)
+ended act read run words w (Ok u) h = AllIsWell
+ended act read run words w (Err f) h = BrokenOff f h
 
 -- a refusal is one of the plan
 refused_tells :
     (act : Act) (read : List ℕ → Option Record) (run : Bool) (words : RunWords) (w : World) (H : Versions) (f : Fault) →
-    IsCleanCall act read words w H → IsRefusal read words w w f → MayTell read run words w (Some f)
+    IsCleanCall act read words w H → IsRefusal read words w w f → MayTell act read run words w (Some f)
 refused_tells act read run words w H f clean (OfWorkflow fails) = absurd (clean.unrefused f fails)
 refused_tells act read run words w H f clean (OfPlan asked is refused) =
     PlanRefused asked f is
@@ -91,9 +93,9 @@ clashing_refuses rules image progress L M r f (Onward plan lists is none more re
     (clashing_refuses rules image progress (plan.lists ++ new_listings image rules.settings progress plan) lists r f rest e fault_is)
 
 module _ (act : Act) (read : List ℕ → Option Record) (words : RunWords) (w : World) (H : Versions) (reads : ReadsRecords read)
-    (clean : IsCleanCall act read words w H) (plainly : IsAskedPlainly words w) where
+    (clean : IsCleanCall act read words w H) where
   abbrev May : Option Fault → Type 0
-  May told = MayTell read true words w told
+  May told = MayTell act read true words w told
 
   abbrev outside : Outside
   outside = record { read = read; act = act }
@@ -132,12 +134,22 @@ module _ (act : Act) (read : List ℕ → Option Record) (words : RunWords) (w :
   stops_before u asked f is same (AboveLimit rule path name asks bound) = AboveLimit rule path name asks bound
   stops_before u asked f is same (TooLong rule bytes) = TooLong rule bytes
 
+  -- and a clash to which the plans of one grow is one of the other
+  grown_before :
+      (u : World) (asked : Asked) (f : Fault) → IsSameButLock (seen read w) (seen read u) →
+      GrowsToClash act (rules_for read asked.flow (settings_of asked words)) (seen read u) f →
+      GrowsToClash act (rules_for read asked.flow (settings_of asked words)) (seen read w) f
+  grown_before u asked f same h =
+      grown_heeds_no_lock act (rules_for read asked.flow (settings_of asked words)) f (seen read u) (seen read w)
+      (same_back (seen read w) (seen read u) same) h
+
   answered :
       (asked : Asked) (u : World) → IsAskedIn words w.nodes (Ok asked) → IsSameButLock (seen read w) (seen read u) →
-      (answer : Result (Unit {0}) Fault) → IsCompleteAnswer read asked words u answer → May (fault_of answer)
+      (answer : Result (Unit {0}) Fault) → IsRunAnswer act read asked words u answer → May (fault_of answer)
   answered asked u is same (Ok t) h = AllIsWell
-  answered asked u is same (Err f) (inl may) = PlanRefused asked f is (stops_before u asked f is same may)
-  answered asked u is same (Err f) (inr off) = BrokenOff f off
+  answered asked u is same (Err f) (inl (inl may)) = PlanRefused asked f is (stops_before u asked f is same may)
+  answered asked u is same (Err f) (inl (inr off)) = BrokenOff f off
+  answered asked u is same (Err f) (inr (grow, clash)) = GrewToClash asked f refl is grow (grown_before u asked f same clash)
 
   -- a run by what was asked of the folder, in that one or in one that is the same but for the lock
   went_tells :
@@ -150,12 +162,11 @@ module _ (act : Act) (read : List ℕ → Option Record) (words : RunWords) (w :
       subst (λ r. May (fault_of r)) (sym e) (refused_tells act read true words w H f clean (refused_before read words w u f same refused))
   went_tells u v old new p q answer at end sound same never (Drove asked apart asks drove) =
       answered asked u asks same answer
-      (drove_is_complete act read asked words u v H answer old new p q at end reads (clean_then u asked asks sound same) (plainly asked asks)
-      never drove)
+      (drove_is_complete act read asked words u v H answer old new p q at end reads (clean_then u asked asks sound same) never drove)
   went_tells u v old new p q answer at end sound same never (Stopped f e want looked) = subst (λ r. May (fault_of r)) (sym e) (BrokenOff f (want_stops f want))
   went_tells u v old new p q answer at end sound same never (Worked asked told one planned worked) =
       let is = planned.is_asked in
-      ended read true words w answer
+      ended act read true words w answer
       (work_is_complete act read asked told words u v H answer old new p q at end
       (clean_then u asked is sound same) planned.plan
       (λ plan last. plain_flows_plan_plainly asked.flow _ _ _ _ plan (none_grow asked.flow words one) last) never worked)
@@ -204,20 +215,20 @@ module _ (act : Act) (read : List ℕ → Option Record) (words : RunWords) (w :
             (locked_same act read w x u clean.sound.formed after once) (omega (arith, looking.acted.cause.later, taken.cause.later)) ran
 
 pub call_is_complete : CallIsComplete
-call_is_complete act read words w v H told old new out_old out_new at end reads clean plainly never served =
-    told_of read true words w served.answer told
-    (ran_tells act read words w H reads clean plainly v old new out_old out_new served.answer at end never served.serves) served.told_is
+call_is_complete act read words w v H told old new out_old out_new at end reads clean never served =
+    told_of act read true words w served.answer told
+    (ran_tells act read words w H reads clean v old new out_old out_new served.answer at end never served.serves) served.told_is
 
 pub listing_is_complete : ListingIsComplete
 listing_is_complete act read words w H told old new out_old out_new clean served =
-    told_of read false words w served.answer told (go served.answer served.serves.1) served.told_is
+    told_of act read false words w served.answer told (go served.answer served.serves.1) served.told_is
   where
     go :
         (r : Result (Unit {0}) Fault) → HasListed (IsRefusal read words w w) (IsToServe read words w w) out_old out_new r →
-        MayTell read false words w (fault_of r)
+        MayTell act read false words w (fault_of r)
     go r (NotListed f refused unput) = refused_tells act read false words w H f clean refused
     go r (HasListed.Stopped f want unput) = BrokenOff f (want_stops f want)
     go r (Listed asked told x planned faults put) = listed x faults
       where
-        listed : (x : Result (Unit {0}) Fault) → ((f : Fault) → x ≡ Err f → (f ≡ fault.Output) ⊎ (f ≡ fault.OutOfMemory)) → MayTell read false words w (fault_of x)
-        listed x faults = ended read false words w x (listed_ends x faults)
+        listed : (x : Result (Unit {0}) Fault) → ((f : Fault) → x ≡ Err f → (f ≡ fault.Output) ⊎ (f ≡ fault.OutOfMemory)) → MayTell act read false words w (fault_of x)
+        listed x faults = ended act read false words w x (listed_ends x faults)

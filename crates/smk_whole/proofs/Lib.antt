@@ -1,3 +1,4 @@
+pub mod Grown
 pub mod Temps
 pub mod Drove
 pub mod Working

@@ -52,13 +52,15 @@ use Rattle.smk_store.specs.declared.fault.StoreFault.{StoreFault}
 use Rattle.smk_store.specs.declared.fault.StoreFault.TheVariants as store
 use Rattle.smk_store.specs.Faults.{store_failed}
 use Rattle.smk_store.specs.Steadying.{HasTried, all_signs, steady_requests}
+use Rattle.smk_cli_calls.specs.OneByOne.{is_one_by_one}
 use Rattle.smk_cli_calls.specs.Serving.{HasListed, HasWorked, IsPlanFor, IsWant, WasDriven, settings_of}
 use Rattle.smk_cli_calls.specs.Serving.Went.{Drove, Refused, Stopped, Worked}
 use Rattle.smk_cli_calls.specs.Serving.HasListed.{Listed, NotListed}
 use Rattle.smk_succeed.specs.Completing.{EndsWell, KeepsFiles, MayBreakOff, NoMemory as OfMemory, DeviceFailed, SinkFailed}
 use Rattle.smk_succeed.specs.Planning.{IsPlainPlan}
 use Rattle.smk_succeed.proofs.Completing.{runs_are_complete}
-use Rattle.smk_whole.specs.Complete.{EndsComplete, IsCleanAsked, IsCompleteAnswer, RefusedPlansMayStop, ServedListingsAreComplete, ServedRunsAreComplete, WorkIsComplete}
+use Rattle.smk_cli_calls.proofs.OneByOne.{none_grow}
+use Rattle.smk_whole.specs.Complete.{EndsComplete, IsCleanAsked, IsCompleteAnswer, IsRunAnswer, RefusedPlansMayStop, ServedListingsAreComplete, ServedRunsAreComplete, WorkIsComplete}
 use Rattle.smk_whole.proofs.Drove.{drove_is_complete}
 use Rattle.smk_whole.proofs.Plain.{plain_flows_plan_plainly}
 
@@ -277,20 +279,29 @@ completes :
 completes read asked words w (Ok u) h = tt
 completes read asked words w (Err f) h = inr h
 
+run_completes :
+    (act : Act) (read : List ℕ → Option Record) (asked : Asked) (words : RunWords) (w : World) (result : Result (Unit {0}) Fault) →
+    IsCompleteAnswer read asked words w result → IsRunAnswer act read asked words w result
+run_completes act read asked words w (Ok u) h = tt
+run_completes act read asked words w (Err f) h = inl h
+
 pub served_runs_are_complete : ServedRunsAreComplete
-served_runs_are_complete act read asked words w v H result old new out_old out_new at end reads clean plain_flow never (Refused f e refused kept) =
-    subst (IsCompleteAnswer read asked words w) (sym e) (inl (refused_plans_may_stop act read asked words w H f clean refused))
-served_runs_are_complete act read asked words w v H result old new out_old out_new at end reads clean plain_flow never (Stopped f e want kept) =
-    subst (IsCompleteAnswer read asked words w) (sym e) (inr (want_stops f want))
-served_runs_are_complete act read asked words w v H result old new out_old out_new at end reads clean plain_flow never (Drove served apart same drove) =
-    drove_is_complete act read asked words w v H result old new out_old out_new at end reads clean plain_flow never
+served_runs_are_complete act read asked words w v H result old new out_old out_new at end reads clean never (Refused f e refused kept) =
+    subst (IsRunAnswer act read asked words w) (sym e) (inl (inl (refused_plans_may_stop act read asked words w H f clean refused)))
+served_runs_are_complete act read asked words w v H result old new out_old out_new at end reads clean never (Stopped f e want kept) =
+    subst (IsRunAnswer act read asked words w) (sym e) (inl (inr (want_stops f want)))
+served_runs_are_complete act read asked words w v H result old new out_old out_new at end reads clean never (Drove served apart same drove) =
+    drove_is_complete act read asked words w v H result old new out_old out_new at end reads clean never
     (subst (λ (a : Asked). WasDriven act words result a old new out_old out_new) same drove)
-served_runs_are_complete act read asked words w v H result old new out_old out_new at end reads clean plain_flow never
+served_runs_are_complete act read asked words w v H result old new out_old out_new at end reads clean never
     (Worked served told also (same, planned) worked) =
-    completes read asked words w result
+    run_completes act read asked words w result
+    (completes read asked words w result
     (work_is_complete act read asked told words w v H result old new out_old out_new at end clean planned
-    (λ plan last. plain_flows_plan_plainly asked.flow _ _ _ _ plan plain_flow last) never
-    (subst (λ (a : Asked). HasWorked act words.cores result a told old new out_old out_new) same worked))
+    (λ plan last. plain_flows_plan_plainly asked.flow _ _ _ _ plan
+    (none_grow asked.flow words (subst (λ (a : Asked). is_one_by_one a.flow words ≡ true) same also)) last)
+    never
+    (subst (λ (a : Asked). HasWorked act words.cores result a told old new out_old out_new) same worked)))
 
 pub served_listings_are_complete : ServedListingsAreComplete
 served_listings_are_complete act read asked words w H result out_old out_new clean (NotListed f refused unput) =

@@ -18,10 +18,12 @@ use Rattle.smk_words_reading.specs.declared.asked.Asked.TheVariants.{Run, Previe
 use Rattle.smk_cli_entry.specs.declared.asking.Asked.{Asked}
 use Rattle.smk_cli_entry.specs.Entry.{FailsToAsk, IsAskedIn}
 use Rattle.smk_plan_preview.specs.Previewing.{rules_for}
+use Rattle.smk_cli_calls.specs.OneByOne.{grows}
 use Rattle.smk_cli_calls.specs.Serving.{settings_of}
-use Rattle.smk_cli_calls.specs.Whole.{HasServed, IsAskedPlainly}
+use Rattle.smk_cli_calls.specs.Whole.{HasServed}
 use Rattle.smk_laws_complete.specs.Derived.{AllHaveValues}
 use Rattle.smk_laws_complete.specs.Planned.{MayStop}
+use Rattle.smk_laws_named.specs.Grown.{GrowsToClash}
 use Rattle.smk_succeed.specs.Completing.{MayBreakOff}
 use Rattle.smk_whole.specs.Complete.{setting_in}
 
@@ -34,19 +36,26 @@ pub record IsCleanCall (act : Act) (read : List ℕ → Option Record) (words : 
   pub values : (asked : Asked) → IsAskedIn words w.nodes (Ok asked) → AllHaveValues (setting_in act read asked w) asked.targets
 
 -- What is told then: that all is well; that the call broke off, for want of memory, of the device, of the sink, of a serial, or with a record that is too
--- long; that its plan was refused for how the folder stands or for what clashes; or that the lock stands.
-pub data MayTell (read : List ℕ → Option Record) (run : Bool) (words : RunWords) (w : World) : Option Fault → Type 0 where
-  AllIsWell : MayTell read run words w None
-  BrokenOff : (f : Fault) → MayBreakOff f → MayTell read run words w (Some f)
+-- long; that its plan was refused for how the folder stands or for what clashes; that a run's plan grew to a clash; or that the lock stands.
+pub data MayTell (act : Act) (read : List ℕ → Option Record) (run : Bool) (words : RunWords) (w : World) : Option Fault → Type 0 where
+  AllIsWell : MayTell act read run words w None
+  BrokenOff : (f : Fault) → MayBreakOff f → MayTell act read run words w (Some f)
   PlanRefused :
       (asked : Asked) (f : Fault) →
       IsAskedIn words w.nodes (Ok asked) →
-      MayStop (rules_for read asked.flow (settings_of asked words)) (seen read w) nothing_done f → MayTell read run words w (Some f)
+      MayStop (rules_for read asked.flow (settings_of asked words)) (seen read w) nothing_done f → MayTell act read run words w (Some f)
+  -- a plan of a run may grow, and grows to a clash
+  GrewToClash :
+      (asked : Asked) (f : Fault) →
+      run ≡ true →
+      IsAskedIn words w.nodes (Ok asked) →
+      grows asked.flow.rules ≡ true →
+      GrowsToClash act (rules_for read asked.flow (settings_of asked words)) (seen read w) f → MayTell act read run words w (Some f)
   -- the lock stands, and a run heeds it
-  LockedOut : run ≡ true → words.nolock ≡ false → IsSome (reading (w.nodes lock_place)) → MayTell read run words w (Some fault.Locked)
+  LockedOut : run ≡ true → words.nolock ≡ false → IsSome (reading (w.nodes lock_place)) → MayTell act read run words w (Some fault.Locked)
 
--- A call for a run tells nothing else where no plan of what is asked may grow, be its jobs made one after another or driven, and be outputs temporary or not,
--- where the world is told at its end and no count of faults of the device rose.
+-- A call for a run tells nothing else, of any workflow, be its jobs made one after another or driven, and be outputs temporary or not, where the world is told
+-- at its end and no count of faults of the device rose.
 abbrev pub CallIsComplete : Type 0
 CallIsComplete =
     (act : Act) (read : List ℕ → Option Record) (words : RunWords) (w v : World) (H : Versions) (told : Option Fault)
@@ -55,9 +64,8 @@ CallIsComplete =
     new.world ≡ Some v →
     ReadsRecords read →
     IsCleanCall act read words w H →
-    IsAskedPlainly words w →
     (Rose old.faults new.faults → ⊥) →
-    HasServed act read (Run words) w told old new out_old out_new → MayTell read true words w told
+    HasServed act read (Run words) w told old new out_old out_new → MayTell act read true words w told
 
 -- Nor does a call for a listing.
 abbrev pub ListingIsComplete : Type 0
@@ -65,4 +73,4 @@ ListingIsComplete =
     (act : Act) (read : List ℕ → Option Record) (words : RunWords) (w : World) (H : Versions) (told : Option Fault)
     (old new : Device) (out_old out_new : Sunk) →
     IsCleanCall act read words w H →
-    HasServed act read (Preview words) w told old new out_old out_new → MayTell read false words w told
+    HasServed act read (Preview words) w told old new out_old out_new → MayTell act read false words w told

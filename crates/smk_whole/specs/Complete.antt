@@ -1,5 +1,5 @@
 -- How a call ends where each target has a clean value.
-use Rattle.std.specs.Prelude.{◌≡◌, ◌⊎◌, ℕ, List, [], Option, Some, Result, Ok, Err, is_none}
+use Rattle.std.specs.Prelude.{◌≡◌, ◌⊎◌, ℕ, true, List, [], Option, Some, Result, Ok, Err, is_none}
 use Rattle.smk_world.specs.World.{World}
 use Rattle.smk_world.specs.Calls.{Rose}
 use Rattle.smk_world.specs.Devices.{Device, Sunk}
@@ -17,10 +17,11 @@ use Rattle.smk_record.specs.Spelling.{ReadsRecords}
 use Rattle.smk_cli_entry.specs.declared.asking.Asked.{Asked}
 use Rattle.smk_plan_preview.specs.declared.previewing.Previewed.{Previewed}
 use Rattle.smk_plan_preview.specs.Previewing.{rules_for}
-use Rattle.smk_cli_calls.specs.OneByOne.{IsPlainFlow}
+use Rattle.smk_cli_calls.specs.OneByOne.{grows}
 use Rattle.smk_cli_calls.specs.Serving.{HasListed, HasWorked, IsPlanFor, IsRefusedPlan, IsServed, IsThat, WasDriven, Went, settings_of}
 use Rattle.smk_laws_complete.specs.Derived.{AllHaveValues, GathersAlone}
 use Rattle.smk_laws_complete.specs.Planned.{MayStop}
+use Rattle.smk_laws_named.specs.Grown.{GrowsToClash}
 use Rattle.smk_succeed.specs.Completing.{MayBreakOff}
 use Rattle.smk_succeed.specs.Planning.{IsPlainPlan}
 
@@ -67,7 +68,14 @@ abbrev pub IsCompleteAnswer : (List ℕ → Option Record) → Asked → RunWord
 IsCompleteAnswer read asked words w (Ok u) = Unit {0}
 IsCompleteAnswer read asked words w (Err f) = MayStop (rules_for read asked.flow (settings_of asked words)) (seen read w) nothing_done f ⊎ MayBreakOff f
 
--- So a run ends that is driven, of a workflow by which no plan may grow, be outputs temporary or not.
+-- So it is of a run; and of one whose plans may grow it may also be that they grow to a clash.
+abbrev pub IsRunAnswer : Act → (List ℕ → Option Record) → Asked → RunWords → World → Result (Unit {0}) Fault → Type 0
+IsRunAnswer act read asked words w (Ok u) = Unit {0}
+IsRunAnswer act read asked words w (Err f) =
+    IsCompleteAnswer read asked words w (Err f)
+    ⊎ ((grows asked.flow.rules ≡ true) × GrowsToClash act (rules_for read asked.flow (settings_of asked words)) (seen read w) f)
+
+-- So a run ends that is driven, of any workflow, with checkpoints and directories too, be outputs temporary or not.
 abbrev pub DroveIsComplete : Type 0
 DroveIsComplete =
     (act : Act) (read : List ℕ → Option Record) (asked : Asked) (words : RunWords) (w v : World) (H : Versions) (result : Result (Unit {0}) Fault)
@@ -76,8 +84,7 @@ DroveIsComplete =
     new.world ≡ Some v →
     ReadsRecords read →
     IsCleanAsked act read asked w H →
-    IsPlainFlow asked.flow →
-    (Rose old.faults new.faults → ⊥) → WasDriven act words result asked old new out_old out_new → IsCompleteAnswer read asked words w result
+    (Rose old.faults new.faults → ⊥) → WasDriven act words result asked old new out_old out_new → IsRunAnswer act read asked words w result
 
 -- And so does each run for what is asked, be its jobs made one after another or driven.
 abbrev pub ServedRunsAreComplete : Type 0
@@ -88,10 +95,9 @@ ServedRunsAreComplete =
     new.world ≡ Some v →
     ReadsRecords read →
     IsCleanAsked act read asked w H →
-    IsPlainFlow asked.flow →
     (Rose old.faults new.faults → ⊥) →
     Went act words result (IsRefusedPlan read asked words w) (IsThat asked) (IsServed read asked words w) old new out_old out_new →
-    IsCompleteAnswer read asked words w result
+    IsRunAnswer act read asked words w result
 
 -- And so does a listing.
 abbrev pub ServedListingsAreComplete : Type 0

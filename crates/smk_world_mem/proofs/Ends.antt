@@ -1,13 +1,15 @@
 -- What the end of a child leaves.
-use Rattle.std.proofs.Common.{◌≡◌, ℕ, Bool, true, false, ◌||◌, ◌&&◌, not, List, [], ◌∷◌, ◌++◌, map, refl, ap, sym, subst, ◌∙◌, Option, Some, None, Ok, Err, Result, bytes_eq, ◌⊎◌, inl, inr, true≢false}
-use Rattle.std.specs.Prelude.{if◌then◌else◌, IfOk}
+use Rattle.std.proofs.Common.{◌≡◌, ℕ, Bool, true, false, ◌||◌, not, List, [], ◌∷◌, ◌++◌, map, refl, ap, sym, subst, ◌∙◌, Option, Some, None, Ok, Err, Result, bytes_eq, ◌⊎◌, inl, inr, true≢false}
+use Rattle.std.specs.Prelude.{if◌then◌else◌, IfOk, Contains}
 use Rattle.std.specs.List.{AllZip, list_any}
 use Rattle.std.proofs.lemmas.Bool.{or_parts, or_left, or_right, not-true}
-use Rattle.std.proofs.Math.Bool.{or_assoc}
+use Rattle.std.proofs.lemmas.Map.Views.{Contains-from_any}
 use Rattle.smk_base.specs.Path.{is_under, is_at_or_under, overlaps}
 use Rattle.smk_base.proofs.Places.{place_itself, same_place, same_flipped, and_first, and_second}
+use Rattle.smk_base.proofs.Under.{under_folder, never_both, false_unless, at_itself, at_when_under, overlaps_above_both}
 use Rattle.smk_base.specs.declared.tree.Tree.{Tree}
 use Rattle.smk_base.specs.declared.tree.Tree.TheVariants.{File, Folder}
+use Rattle.smk_base.specs.declared.tree.TreeEntry.{TreeEntry}
 use Rattle.smk_world.specs.declared.event.Node.{Node}
 use Rattle.smk_world.specs.declared.event.Node.TheVariants.{Regular, Directory}
 use Rattle.smk_world.specs.declared.event.NodeState.{NodeState}
@@ -17,15 +19,18 @@ use Rattle.smk_world.specs.declared.event.Call.TheVariants.{Waited}
 use Rattle.smk_world.specs.declared.event.Change.{Change}
 use Rattle.smk_world.specs.declared.event.Child.{Child}
 use Rattle.smk_world.specs.declared.event.Ended.{Ended}
+use Rattle.smk_world.specs.declared.recipe.Recipe.{Recipe}
 use Rattle.smk_world.specs.World.{World, after, standing, is_within, is_named, out_paths, in_paths, owned_of, owned_by, owned_paths, child_numbered}
-use Rattle.smk_world.specs.Calls.{Lets, ContentsAre, OutputsAre, HoldsBytes, Reads, MaybeTreeAt, TreeAt, are_apart}
-use Rattle.smk_world_mem.specs.Act.{mem_act, acted, joined, command_of, command_named, without_log, has_log, status_of, written_of, first_of, text_of, time_with, first_time, bytes_of, joined_at, files_at, logs_of, left_by}
+use Rattle.smk_world.specs.Calls.{Lets, ContentsAre, OutputsAre, HoldsBytes, Reads, EntryIs, IsFolderOf, MaybeTreeAt, TreeAt, in_folder, are_apart}
+use Rattle.smk_world_mem.specs.Act.{mem_act, joined, command_of, command_named, without_log, has_log, status_of, written_of, filled_of, first_of, text_of, lines_of, line_entries, time_with, first_time, bytes_of, joined_at, files_at, line_files, folders_at, logs_of, or_then, left_of, left_by}
 use Rattle.smk_world_mem.specs.declared.command.Command.{Command}
-use Rattle.smk_world_mem.specs.declared.command.Command.TheVariants.{Cat, Keep, Tee, Echo, Half, Fail, Killed, Unknown}
+use Rattle.smk_world_mem.specs.declared.command.Command.TheVariants.{Cat, Keep, Tee, Echo, Lines, Half, Fail, Killed, Unknown}
+use Rattle.smk_world.proofs.Folders.{above_differs}
 use Rattle.smk_world_nodes.specs.Nodes.{node_at}
 use Rattle.smk_world_nodes.specs.Steps.{seen, AgreesWith}
 use Rattle.smk_world_nodes.specs.declared.nodes.Nodes.{Nodes}
 use Rattle.smk_world_nodes.proofs.Within.{within_both}
+use Rattle.smk_world_mem.proofs.Lined.{or_then_none, standing_both, AllInside, inside_none, inside_both, inside_files, inside_folders, node_of, bytes_named, lines_rise, lines_there, entries_named, not_named, named_any}
 
 pub with_ok : {T E : Type 0} (r : Result T E) (A B G : T → Type 0) → IfOk r A → IfOk r B → ((t : T) → A t → B t → G t) → IfOk r G
 with_ok (Ok t) A B G a b f = f t a b
@@ -83,6 +88,7 @@ written_named Cat q ps h = first_named q ps h
 written_named Keep q ps h = first_named q ps h
 written_named Tee q ps h = h
 written_named Echo q ps h = first_named q ps h
+written_named Lines q ps h = cc
 written_named Half q ps h = first_named q ps h
 written_named Fail q ps h = cc
 written_named Killed q ps h = first_named q ps h
@@ -95,56 +101,32 @@ logs_named template q logs h = go (has_log template) h
     go true k = k
     go false k = cc
 
-named_more : (q p : List ℕ) (ps : List (List ℕ)) → is_named q (ps ++ p ∷ []) ≡ (is_named q ps || bytes_eq q p)
-named_more q p [] = or_none (bytes_eq q p)
-  where
-    or_none : (b : Bool) → (b || false) ≡ b
-    or_none true = refl
-    or_none false = refl
-named_more q p (o ∷ ps) = ap (λ b. bytes_eq q o || b) (named_more q p ps) ∙ sym (or_assoc (bytes_eq q o) (is_named q ps) (bytes_eq q p))
+-- what it makes a folder of is the first of them, and it writes no file then
+filled_named : (c : Command) (q : List ℕ) (ps : List (List ℕ)) → is_named q (filled_of c ps) ≡ true → is_named q ps ≡ true
+filled_named Cat q ps h = cc
+filled_named Keep q ps h = cc
+filled_named Tee q ps h = cc
+filled_named Echo q ps h = cc
+filled_named Lines q ps h = first_named q ps h
+filled_named Half q ps h = cc
+filled_named Fail q ps h = cc
+filled_named Killed q ps h = cc
+filled_named Unknown q ps h = cc
 
--- one more of the places has the file
-pub one_more_file : (q p : List ℕ) (ps qs : List (List ℕ)) (file n0 n1 n2 : Option Node) → qs ≡ ps ++ p ∷ [] → n1 ≡ (if is_named q ps then file else n0) → n2 ≡ (if bytes_eq q p then file else n1) → n2 ≡ (if is_named q qs then file else n0)
-one_more_file q p ps qs file n0 n1 n2 more one two =
-    two ∙ ap (λ n. if bytes_eq q p then file else n) one ∙ go (is_named q ps) (bytes_eq q p)
-    ∙ ap (λ b. if b then file else n0) (sym (named_more q p ps)) ∙ ap (λ rs. if is_named q rs then file else n0) (sym more)
-  where
-    go : (s t : Bool) → (if t then file else (if s then file else n0)) ≡ (if s || t then file else n0)
-    go true true = refl
-    go true false = refl
-    go false true = refl
-    go false false = refl
-
-left_or_gone : (f l o w : Bool) (file log old : Option Node) → (f ≡ true → o ≡ true) → (l ≡ true → w ≡ true)
-    → (if f then file else (if l then log else (if w then None else (if o then None else old)))) ≡ (if o || w then (if f then file else (if l then log else None)) else old)
-left_or_gone true l true w file log old fo lw = refl
-left_or_gone true l false w file log old fo lw = absurd (true≢false (sym (fo refl)))
-left_or_gone false true true true file log old fo lw = refl
-left_or_gone false true false true file log old fo lw = refl
-left_or_gone false true o false file log old fo lw = absurd (true≢false (sym (lw refl)))
-left_or_gone false false true true file log old fo lw = refl
-left_or_gone false false true false file log old fo lw = refl
-left_or_gone false false false true file log old fo lw = refl
-left_or_gone false false false false file log old fo lw = refl
-
-pub end_nodes : (files wrote outs logs s1 s2 owned : List (List ℕ)) (text : List ℕ) (time now : ℕ) (left : List Change) (q : List ℕ) (n0 n1 n2 n3 : Option Node)
-    → left ≡ files_at files text time ++ files_at wrote [] now → s1 ≡ outs → s2 ≡ logs → owned ≡ outs ++ logs
-    → (is_named q files ≡ true → is_named q outs ≡ true) → (is_named q wrote ≡ true → is_named q logs ≡ true)
-    → n1 ≡ (if is_within q s1 then None else n0) → n2 ≡ (if is_within q s2 then None else n1)
-    → n3 ≡ (if is_named q files then Some (Regular text time false) else (if is_named q wrote then Some (Regular [] now false) else n2))
-    → n3 ≡ (if is_within q owned then standing left q else n0)
-end_nodes files wrote outs logs s1 s2 owned text time now left q n0 n1 n2 n3 is one two own of_outs of_logs first second third =
-    let F = Some (Regular text time false) in
-    let L = Some (Regular [] now false) in
-    third
-    ∙ ap (λ n. if is_named q files then F else (if is_named q wrote then L else n)) (second ∙ ap (λ n. if is_within q s2 then None else n) first)
-    ∙ ap (λ s. if is_named q files then F else (if is_named q wrote then L else (if is_within q s then None else (if is_within q s1 then None else n0)))) two
-    ∙ ap (λ s. if is_named q files then F else (if is_named q wrote then L else (if is_within q logs then None else (if is_within q s then None else n0)))) one
-    ∙ left_or_gone (is_named q files) (is_named q wrote) (is_within q outs) (is_within q logs) F L n0 (λ h. named_within q outs (of_outs h)) (λ h. named_within q logs (of_logs h))
-    ∙ ap (λ b. if b then (if is_named q files then F else (if is_named q wrote then L else None)) else n0) (sym (within_both q outs logs))
-    ∙ ap (λ o. if is_within q o then (if is_named q files then F else (if is_named q wrote then L else None)) else n0) (sym own)
-    ∙ ap (λ n. if is_within q owned then n else n0) (sym (standing_left files wrote text time now q))
-    ∙ ap (λ l. if is_within q owned then standing l q else n0) (sym is)
+-- what a child leaves stands where it owns the places
+pub left_inside : (c : Command) (recipe : Recipe) (logs : List (List ℕ)) (bytes : List ℕ) (time now : ℕ) → AllInside (owned_paths recipe logs) (left_of c recipe logs bytes time now)
+left_inside c recipe logs bytes time now =
+    let outs = out_paths recipe in
+    let owned = owned_paths recipe logs in
+    let out_within : (q : List ℕ) → is_named q outs ≡ true → is_within q owned ≡ true
+    = λ q h. within_both q outs logs ∙ or_left (is_within q outs) (is_within q logs) (named_within q outs h) in
+    let log_within : (q : List ℕ) → is_named q logs ≡ true → is_within q owned ≡ true
+    = λ q h. within_both q outs logs ∙ or_right (is_within q outs) (is_within q logs) (named_within q logs h) in
+    inside_both owned (folders_at (filled_of c outs) bytes now) _
+    (inside_folders owned (filled_of c outs) bytes now (λ q h. out_within q (filled_named c q outs h)))
+    (inside_both owned (files_at (written_of c outs) (text_of c recipe.params bytes) time) (files_at (logs_of recipe.template logs) [] now)
+    (inside_files owned (written_of c outs) (text_of c recipe.params bytes) time (λ q h. out_within q (written_named c q outs h)))
+    (inside_files owned (logs_of recipe.template logs) [] now (λ q h. log_within q (logs_named recipe.template q logs h))))
 
 seen_end : (b : Bool) (m new : Option Node) (s : NodeState) (l : Option Node) → new ≡ (if b then l else m) → seen m s ≡ m → seen new (if b then Known l Anything else s) ≡ new
 seen_end true m new s l h a = sym h
@@ -252,6 +234,7 @@ written_clear Cat ps logs apart p h = first_clear ps logs apart p h
 written_clear Keep ps logs apart p h = first_clear ps logs apart p h
 written_clear Tee ps logs apart p h = inl h
 written_clear Echo ps logs apart p h = first_clear ps logs apart p h
+written_clear Lines ps logs apart p h = inr (λ r under. refl)
 written_clear Half ps logs apart p h = first_clear ps logs apart p h
 written_clear Fail ps logs apart p h = inr (λ r under. refl)
 written_clear Killed ps logs apart p h = first_clear ps logs apart p h
@@ -288,6 +271,131 @@ module _ (w2 : World) (files wrote ps logs : List (List ℕ)) (text : List ℕ) 
       let first : is_named q ps ≡ true = among q (or_left (bytes_eq q q) (is_named q qs) (place_itself q)) in
       (one_out q first (clear q first) (apart q first), each_out qs (λ p h. among p (or_right (bytes_eq p q) (is_named p qs) h)) clear apart)
 
+-- what stands at an output, from the files that are written and the folders that are filled
+abbrev tree_there : List (List ℕ) → List (List ℕ) → List ℕ → List ℕ → List ℕ → Option Tree
+tree_there files filled text bytes p = if is_named p files then Some (File text) else (if is_named p filled then Some (Folder (line_entries 1 (lines_of bytes))) else None)
+
+-- a command makes files alone, or fills the first output alone
+files_or_lines : (c : Command) (ps : List (List ℕ)) → (filled_of c ps ≡ []) ⊎ ((written_of c ps ≡ []) × (filled_of c ps ≡ first_of ps))
+files_or_lines Cat ps = inl refl
+files_or_lines Keep ps = inl refl
+files_or_lines Tee ps = inl refl
+files_or_lines Echo ps = inl refl
+files_or_lines Lines ps = inr (refl, refl)
+files_or_lines Half ps = inl refl
+files_or_lines Fail ps = inl refl
+files_or_lines Killed ps = inl refl
+files_or_lines Unknown ps = inl refl
+
+-- ## Folders with lines
+
+-- what is at or under p, which is apart from o, isn't at or under o
+outside_first : (o p r : List ℕ) → overlaps o p ≡ false → is_at_or_under r p ≡ true → is_within r (o ∷ []) ≡ false
+outside_first o p r apart under = ap (λ b. b || false) (false_unless (is_at_or_under r o) (λ e. never_both (overlaps o p) (overlaps_above_both r o p e under) apart))
+
+module _ (w2 : World) (wrote : List (List ℕ)) (text bytes : List ℕ) (now : ℕ) where
+  -- what is left where o is filled
+  abbrev left_there : List ℕ → List Change
+  left_there o = folders_at (o ∷ []) bytes now ++ files_at wrote [] now
+
+  -- no log stands there
+  no_log : (o q : List ℕ) → is_named q wrote ≡ false → standing (left_there o) q ≡ standing (folders_at (o ∷ []) bytes now) q
+  no_log o q none =
+      standing_both (folders_at (o ∷ []) bytes now) (files_at wrote [] now) q
+      ∙ ap (or_then (standing (folders_at (o ∷ []) bytes now) q)) (standing_logs wrote [] now q ∙ ap (λ b. if b then Some (Regular [] now false) else None) none)
+      ∙ or_then_none (standing (folders_at (o ∷ []) bytes now) q)
+
+  -- the folder has its lines
+  line_left : (o name : List ℕ) → is_named (in_folder o name) wrote ≡ false → standing (left_there o) (in_folder o name) ≡ node_of now (bytes_named name (line_entries 1 (lines_of bytes)))
+  line_left o name none =
+      no_log o (in_folder o name) none
+      ∙ ap (λ b. if b then Some Directory else standing (line_files o 1 (lines_of bytes) now ++ []) (in_folder o name)) (above_differs (in_folder o name) o (under_folder o name))
+      ∙ ap (λ cs. standing cs (in_folder o name)) (no_more (line_files o 1 (lines_of bytes) now))
+      ∙ lines_there o 1 (lines_of bytes) now name
+
+  entry_is : (s : NodeState) (e : Option (List ℕ)) → s ≡ Known (node_of now (Some e)) Anything → EntryIs e s
+  entry_is s (Some held) is = subst (HoldsBytes held) (sym is) refl
+  entry_is s None is = subst (Reads (Some Directory)) (sym is) refl
+
+  module _ (o : List ℕ) (ps logs : List (List ℕ)) (apart : are_apart ((o ∷ ps) ++ logs) ≡ true)
+      (state : (r : List ℕ) → is_within r ((o ∷ ps) ++ logs) ≡ true → w2.nodes r ≡ Known (standing (left_there o) r) Anything)
+      (clear : (p : List ℕ) → is_named p (o ∷ ps) ≡ true → (r : List ℕ) → is_at_or_under r p ≡ true → is_named r wrote ≡ false) where
+    here : (p r : List ℕ) → is_named p (o ∷ ps) ≡ true → is_at_or_under r p ≡ true → w2.nodes r ≡ Known (standing (left_there o) r) Anything
+    here p r named under = state r (within_both r (o ∷ ps) logs ∙ or_left (is_within r (o ∷ ps)) (is_within r logs) (under_named r p (o ∷ ps) named under))
+
+    o_named : is_named o (o ∷ ps) ≡ true
+    o_named = or_left (bytes_eq o o) (is_named o ps) (place_itself o)
+
+    in_o : (name : List ℕ) → w2.nodes (in_folder o name) ≡ Known (node_of now (bytes_named name (line_entries 1 (lines_of bytes)))) Anything
+    in_o name =
+        let under : is_at_or_under (in_folder o name) o ≡ true = at_when_under (in_folder o name) o (under_folder o name) in
+        here o (in_folder o name) o_named under ∙ ap (λ n. Known n Anything) (line_left o name (clear o o_named (in_folder o name) under))
+
+    filled : IsFolderOf w2 o (line_entries 1 (lines_of bytes))
+    filled = record {
+      folder =
+          let at : is_at_or_under o o ≡ true = at_itself o in
+          subst (Reads (Some Directory)) (sym (here o o o_named at ∙ ap (λ n. Known n Anything) (no_log o o (clear o o_named o at)
+          ∙ ap (λ b. if b then Some Directory else standing (line_files o 1 (lines_of bytes) now ++ []) o) (place_itself o)))) refl;
+      sorted = lines_rise 1 (lines_of bytes);
+      stand = entries_named (λ e. EntryIs e.bytes (w2.nodes (in_folder o e.name))) (line_entries 1 (lines_of bytes)) (lines_rise 1 (lines_of bytes))
+          (λ e is. entry_is (w2.nodes (in_folder o e.name)) e.bytes (in_o e.name ∙ ap (λ n. Known (node_of now n) Anything) is));
+      all = λ name stands. there name stands (is_named name (map (λ (e : TreeEntry). e.name) (line_entries 1 (lines_of bytes)))) refl;
+    }
+      where
+        there : (name : List ℕ) → ¬ (Reads None (w2.nodes (in_folder o name))) → (b : Bool) → is_named name (map (λ (e : TreeEntry). e.name) (line_entries 1 (lines_of bytes))) ≡ b
+            → Contains (map (λ (e : TreeEntry). e.name) (line_entries 1 (lines_of bytes))) name
+        there name stands true e = Contains-from_any same_place name _ (sym (named_any name _) ∙ e)
+        there name stands false e = absurd (stands (subst (Reads None) (sym (in_o name ∙ ap (λ n. Known (node_of now n) Anything) (not_named name (line_entries 1 (lines_of bytes)) e))) refl))
+
+    nothing_at : (p : List ℕ) → is_named p (o ∷ ps) ≡ true → overlaps o p ≡ false → MaybeTreeAt w2 p None
+    nothing_at p named away = λ r under.
+        subst (Reads None) (sym (here p r named under ∙ ap (λ n. Known n Anything) (no_log o r (clear p named r under)
+        ∙ inside_none (o ∷ []) (folders_at (o ∷ []) bytes now) r (inside_folders (o ∷ []) (o ∷ []) bytes now (λ q h. named_within q (o ∷ []) h)) (outside_first o p r away under)))) refl
+
+    each_none : (qs : List (List ℕ)) → ((p : List ℕ) → is_named p qs ≡ true → (is_named p (o ∷ ps) ≡ true) × (overlaps o p ≡ false))
+        → AllZip (λ q t. MaybeTreeAt w2 q t) qs (map (tree_there [] (o ∷ []) text bytes) qs)
+    each_none [] among = tt
+    each_none (q ∷ qs) among =
+        let first = among q (or_left (bytes_eq q q) (is_named q qs) (place_itself q)) in
+        let other : bytes_eq q o ≡ false = same_flipped q o ∙ (or_parts (bytes_eq o q) _ first.1).0 in (
+          subst (λ b. MaybeTreeAt w2 q (if b || false then Some (Folder (line_entries 1 (lines_of bytes))) else None)) (sym other) (nothing_at q first.0 first.1),
+          each_none qs (λ p h. among p (or_right (bytes_eq p q) (is_named p qs) h)),
+        )
+
+    lines_first : AllZip (λ q t. MaybeTreeAt w2 q t) (o ∷ ps) (map (tree_there [] (o ∷ []) text bytes) (o ∷ ps))
+    lines_first = (
+      subst (λ b. MaybeTreeAt w2 o (if b || false then Some (Folder (line_entries 1 (lines_of bytes))) else None)) (sym (place_itself o)) filled,
+      each_none ps (λ p h. (
+        or_right (bytes_eq p o) (is_named p ps) h,
+        any_named (overlaps o) ps (any_front (overlaps o) ps logs (not-true _ (and_first (not (list_any (overlaps o) (ps ++ logs))) _ apart))) p h,
+      )),
+    )
+
+  lines_out : (ps logs : List (List ℕ)) → are_apart (ps ++ logs) ≡ true
+      → ((r : List ℕ) → is_within r (ps ++ logs) ≡ true → w2.nodes r ≡ Known (standing (folders_at (first_of ps) bytes now ++ files_at wrote [] now) r) Anything)
+      → ((p : List ℕ) → is_named p ps ≡ true → (r : List ℕ) → is_at_or_under r p ≡ true → is_named r wrote ≡ false)
+      → AllZip (λ q t. MaybeTreeAt w2 q t) ps (map (tree_there [] (first_of ps) text bytes) ps)
+  lines_out [] logs apart state clear = tt
+  lines_out (o ∷ ps) logs apart state clear = lines_first o ps logs apart state clear
+
+either_out : (w2 : World) (folders files wrote ps logs : List (List ℕ)) (text bytes : List ℕ) (time now : ℕ) → (folders ≡ []) ⊎ ((files ≡ []) × (folders ≡ first_of ps))
+    → are_apart (ps ++ logs) ≡ true → ((p : List ℕ) → is_named p ps ≡ true → IsClear files p)
+    → ((r : List ℕ) → is_within r (ps ++ logs) ≡ true → w2.nodes r ≡ Known (standing (folders_at folders bytes now ++ (files_at files text time ++ files_at wrote [] now)) r) Anything)
+    → ((p : List ℕ) → is_named p ps ≡ true → (r : List ℕ) → is_at_or_under r p ≡ true → is_named r wrote ≡ false)
+    → AllZip (λ q t. MaybeTreeAt w2 q t) ps (map (tree_there files folders text bytes) ps)
+either_out w2 folders files wrote ps logs text bytes time now (inl none) apart clear state away =
+    subst (λ fs. AllZip (λ q t. MaybeTreeAt w2 q t) ps (map (tree_there files fs text bytes) ps)) (sym none)
+    (each_out w2 files wrote ps logs text time now
+    (λ r h. state r h ∙ ap (λ fs. Known (standing (folders_at fs bytes now ++ (files_at files text time ++ files_at wrote [] now)) r) Anything) none ∙ ap (λ n. Known n Anything) (standing_left files wrote text time now r))
+    ps (λ p h. h) clear away)
+either_out w2 folders files wrote ps logs text bytes time now (inr is) apart clear state away =
+    subst (λ fs. AllZip (λ q t. MaybeTreeAt w2 q t) ps (map (tree_there fs folders text bytes) ps)) (sym is.0)
+    (subst (λ fs. AllZip (λ q t. MaybeTreeAt w2 q t) ps (map (tree_there [] fs text bytes) ps)) (sym is.1)
+    (lines_out w2 wrote text bytes now ps logs apart
+    (λ r h. state r h ∙ ap (λ fs. Known (standing (folders_at folders bytes now ++ (files_at fs text time ++ files_at wrote [] now)) r) Anything) is.0 ∙ ap (λ fs. Known (standing (folders_at fs bytes now ++ files_at wrote [] now) r) Anything) is.1)
+    away))
+
 abbrev n137 : ℕ
 n137 = 137
 
@@ -314,12 +422,10 @@ module _ (w : World) (c : Child) (ended : Ended) (child_is : child_numbered ende
           let w2 = after w (record { call = Waited (Ok ended); left = left }) in
           let command = command_named (without_log c.recipe.template) in
           let outs = out_paths c.recipe in
-          let files = written_of command outs in
-          let wrote = logs_of c.recipe.template c.logs in
-          let text = text_of command c.recipe.params (joined trees) in
+          let bytes = joined trees in
+          let text = text_of command c.recipe.params bytes in
           let time = time_with command (first_time nodes (in_paths c.recipe)) now in
-          let is : left ≡ files_at files text time ++ files_at wrote [] now
-          = left_is ∙ ap (λ x. files_at files (text_of command c.recipe.params x) time ++ files_at wrote [] now) (sym (joined_same nodes w (in_paths c.recipe) trees agrees contents)) in
-          each_out w2 files wrote outs c.logs text time now
-          (λ r h. ap (λ b. if b then Known (standing left r) Anything else w.nodes r) (ap (is_within r) owned_is ∙ h) ∙ ap (λ n. Known n Anything) (ap (λ l. standing l r) is ∙ standing_left files wrote text time now r))
-          outs (λ p h. h) (written_clear command outs c.logs apart) (λ p h r under. no_logs c.recipe.template c.logs r (none_named p c.logs r (apart_logs outs c.logs apart p h) under))
+          let is : left ≡ left_of command c.recipe c.logs bytes time now = left_is ∙ ap (λ x. left_of command c.recipe c.logs x time now) (sym (joined_same nodes w (in_paths c.recipe) trees agrees contents)) in
+          either_out w2 (filled_of command outs) (written_of command outs) (logs_of c.recipe.template c.logs) outs c.logs text bytes time now (files_or_lines command outs) apart (written_clear command outs c.logs apart)
+          (λ r h. ap (λ b. if b then Known (standing left r) Anything else w.nodes r) (ap (is_within r) owned_is ∙ h) ∙ ap (λ l. Known (standing l r) Anything) is)
+          (λ p h r under. no_logs c.recipe.template c.logs r (none_named p c.logs r (apart_logs outs c.logs apart p h) under))

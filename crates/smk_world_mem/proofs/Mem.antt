@@ -1,23 +1,18 @@
 -- What one more event makes of the workspace.
-use Rattle.std.proofs.Common.{◌≡◌, ◌+◌, ◌≤◌, Result, Ok, Err, length, ℕ, Bool, true, false, List, [], ◌∷◌, ◌++◌, refl, ap, sym, subst, ◌∙◌, Option, Some, None, bytes_eq, append_assoc}
+use Rattle.std.proofs.Common.{◌≡◌, ◌+◌, ◌≤◌, Result, Ok, Err, length, ℕ, Bool, true, false, List, [], ◌∷◌, ◌++◌, refl, ap, sym, subst, ◌∙◌, Some, append_assoc}
 use Rattle.std.proofs.lemmas.List.{append-nil}
-use Rattle.std.specs.Prelude.{if◌then◌else◌, IsErr, IsSome}
-use Rattle.std.specs.Option.{option_map}
+use Rattle.std.specs.Prelude.{IsErr, IsSome}
 use Rattle.std.proofs.lemmas.Option.{same_Some}
-use Rattle.smk_base.specs.Path.{is_under, is_at_or_under}
-use Rattle.smk_world.specs.declared.event.Node.{Node}
-use Rattle.smk_world.specs.declared.event.NodeState.{NodeState}
-use Rattle.smk_world.specs.declared.event.NodeState.TheVariants.{Owned, Known}
 use Rattle.smk_world.specs.declared.event.Call.{Call}
 use Rattle.smk_world.specs.declared.event.Child.{Child}
 use Rattle.smk_world.specs.declared.event.Event.{Event}
 use Rattle.smk_world.specs.declared.event.WorkFault.{WorkFault}
-use Rattle.smk_world.specs.World.{World, after, numbers, children_after, firmly, firm, with_folder}
+use Rattle.smk_world.specs.World.{World, after, numbers, children_after}
 use Rattle.smk_world.specs.Calls.{Happened, Rose, failed, device_failed, started_number, started_numbers, HasOwners}
 use Rattle.smk_world.specs.Devices.{HasCalled, keeps_children}
 use Rattle.smk_world.proofs.Devices.{still_children, still_running}
-use Rattle.smk_world_nodes.specs.Nodes.{node_at, or_folder}
-use Rattle.smk_world_nodes.specs.Steps.{seen, step_world, replay, empty_world, Agrees, told_world, Orderly, IsHeld, Rooted, AllBelow}
+use Rattle.smk_world_nodes.specs.Nodes.{node_at}
+use Rattle.smk_world_nodes.specs.Steps.{seen, replay, empty_world, Agrees, told_world, Orderly, IsHeld, Rooted, AllBelow}
 use Rattle.smk_world_mem.specs.Act.{mem_act}
 use Rattle.smk_world_mem.specs.Adds.{Adds, AddsIf}
 use Rattle.smk_world.specs.Folders.{AreInFolders, CanHold, IsTree}

@@ -1,7 +1,12 @@
 -- What the commands of the workspace do.
-use Rattle.std.specs.Prelude.{◌≡◌, ℕ, Bool, List, [], ◌∷◌, ◌++◌, ◌/◌, ◌-◌, take, map, length, Option, None, Some, if◌then◌else◌, bytes_eq, nat_eq, codes, unwrap_or, false}
+use Rattle.std.specs.Prelude.{◌≡◌, ℕ, Bool, List, [], ◌∷◌, ◌++◌, ◌/◌, ◌-◌, take, map, length, Option, None, Some, ◌+◌, ◌==◌, if◌then◌else◌, bytes_eq, nat_eq, codes, decimal, unwrap_or, false}
+use Rattle.std.specs.Cmp.Lexicographic.{slice_cmp}
+use Rattle.std.specs.Ordering.{nat_cmp}
+use Rattle.std.specs.declared.cmp.Ordering.{Ordering}
+use Rattle.std.specs.declared.cmp.Ordering.TheVariants.{Less, Equal, Greater}
 use Rattle.smk_base.specs.declared.tree.Tree.{Tree}
 use Rattle.smk_base.specs.declared.tree.Tree.TheVariants.{File, Folder}
+use Rattle.smk_base.specs.declared.tree.TreeEntry.{TreeEntry}
 use Rattle.smk_world.specs.declared.recipe.Recipe.{Recipe}
 use Rattle.smk_world.specs.declared.recipe.Values.{Values}
 use Rattle.std.specs.List.{flat_map, ends_with}
@@ -11,11 +16,11 @@ use Rattle.smk_world.specs.declared.event.Change.{Change}
 use Rattle.smk_world.specs.declared.event.Child.{Child}
 use Rattle.smk_world.specs.declared.event.Ended.{Ended}
 use Rattle.smk_world.specs.World.{out_paths, in_paths, is_named}
-use Rattle.smk_world.specs.Calls.{Acted}
+use Rattle.smk_world.specs.Calls.{Acted, in_folder}
 use Rattle.smk_world_nodes.specs.Nodes.{node_at}
 use Rattle.smk_world_nodes.specs.declared.nodes.Nodes.{Nodes}
 use Rattle.smk_world_mem.specs.declared.command.Command.{Command}
-use Rattle.smk_world_mem.specs.declared.command.Command.TheVariants.{Cat, Keep, Tee, Echo, Half, Fail, Killed, Unknown}
+use Rattle.smk_world_mem.specs.declared.command.Command.TheVariants.{Cat, Keep, Tee, Echo, Lines, Half, Fail, Killed, Unknown}
 
 -- ## Templates
 
@@ -33,8 +38,9 @@ command_named text =
     else (if bytes_eq text (codes "cp -p {input} {output}") then Keep
     else (if bytes_eq text (codes "cat {input} | tee {output} > /dev/null") then Tee
     else (if bytes_eq text (codes "echo {params.text} > {output}") then Echo
+    else (if bytes_eq text (codes "lines {input} {output}") then Lines
     else (if bytes_eq text (codes "half {input} > {output}") then Half
-    else (if bytes_eq text (codes "fail {input}") then Fail else Unknown)))))
+    else (if bytes_eq text (codes "fail {input}") then Fail else Unknown))))))
 
 -- what the template runs; a child that is killed counts as a command of its own
 abbrev pub command_of : Bool → List ℕ → Command
@@ -47,6 +53,7 @@ status_of Cat = 0
 status_of Keep = 0
 status_of Tee = 0
 status_of Echo = 0
+status_of Lines = 0
 status_of Half = 1
 status_of Fail = 1
 status_of Killed = 137
@@ -56,16 +63,29 @@ abbrev pub first_of : List (List ℕ) → List (List ℕ)
 first_of [] = []
 first_of (p ∷ ps) = p ∷ []
 
--- the outputs that the command writes
+-- the outputs that the command writes, as files
 abbrev pub written_of : Command → List (List ℕ) → List (List ℕ)
 written_of Cat outs = first_of outs
 written_of Keep outs = first_of outs
 written_of Tee outs = outs
 written_of Echo outs = first_of outs
+written_of Lines outs = []
 written_of Half outs = first_of outs
 written_of Fail outs = []
 written_of Killed outs = first_of outs
 written_of Unknown outs = []
+
+-- the outputs that it makes folders of
+abbrev pub filled_of : Command → List (List ℕ) → List (List ℕ)
+filled_of Cat outs = []
+filled_of Keep outs = []
+filled_of Tee outs = []
+filled_of Echo outs = []
+filled_of Lines outs = first_of outs
+filled_of Half outs = []
+filled_of Fail outs = []
+filled_of Killed outs = []
+filled_of Unknown outs = []
 
 -- the values of the first parameter with this name
 abbrev pub values_of : List ℕ → List Values → List (List ℕ)
@@ -91,10 +111,44 @@ text_of Cat params bytes = bytes
 text_of Keep params bytes = bytes
 text_of Tee params bytes = bytes
 text_of Echo params bytes = line_of params
+text_of Lines params bytes = []
 text_of Half params bytes = take (length bytes / 2) bytes
 text_of Fail params bytes = []
 text_of Killed params bytes = take (length bytes / 2) bytes
 text_of Unknown params bytes = []
+
+-- the line, unless it is empty
+abbrev pub last_line : List ℕ → List (List ℕ)
+last_line [] = []
+last_line (b ∷ line) = (b ∷ line) ∷ []
+
+-- the lines, without their ends, of which the first has begun
+abbrev pub lines_from : List ℕ → List ℕ → List (List ℕ)
+lines_from line [] = last_line line
+lines_from line (b ∷ bytes) = if b == 10 then line ∷ lines_from [] bytes else lines_from (line ++ b ∷ []) bytes
+
+-- the lines; what follows the last line end is one where it isn't empty
+abbrev pub lines_of : List ℕ → List (List ℕ)
+lines_of bytes = lines_from [] bytes
+
+-- what the file of the line with this number is called
+abbrev pub line_name : ℕ → List ℕ
+line_name number = decimal number ++ codes ".txt"
+
+abbrev pub entry_placed : Ordering → TreeEntry → TreeEntry → List TreeEntry → List TreeEntry → List TreeEntry
+entry_placed Less e f fs more = e ∷ (f ∷ fs)
+entry_placed Equal e f fs more = e ∷ fs
+entry_placed Greater e f fs more = f ∷ more
+
+-- the entries and this one, in byte order
+abbrev pub add_entry : TreeEntry → List TreeEntry → List TreeEntry
+add_entry e [] = e ∷ []
+add_entry e (f ∷ fs) = entry_placed (slice_cmp nat_cmp e.name f.name) e f fs (add_entry e fs)
+
+-- each line with a line end, by the name of its number
+abbrev pub line_entries : ℕ → List (List ℕ) → List TreeEntry
+line_entries number [] = []
+line_entries number (line ∷ lines) = add_entry (record { name = line_name number; bytes = Some (line ++ 10 ∷ []) }) (line_entries (number + 1) lines)
 
 -- the bytes of files, joined
 abbrev pub joined : List Tree → List ℕ
@@ -102,10 +156,16 @@ joined [] = []
 joined (File bytes ∷ trees) = bytes ++ joined trees
 joined (Folder entries ∷ trees) = joined trees
 
+-- what stands at an output then
+abbrev pub output_of : Command → List (List ℕ) → List Values → List ℕ → List ℕ → Option Tree
+output_of command outs params bytes p =
+    if is_named p (written_of command outs) then Some (File (text_of command params bytes))
+    else (if is_named p (filled_of command outs) then Some (Folder (line_entries 1 (lines_of bytes))) else None)
+
 abbrev pub acted : Command → Recipe → List Tree → Acted
 acted command recipe trees = record {
   status = status_of command;
-  outputs = map (λ p. if is_named p (written_of command (out_paths recipe)) then Some (File (text_of command recipe.params (joined trees))) else None) (out_paths recipe);
+  outputs = map (output_of command (out_paths recipe) recipe.params (joined trees)) (out_paths recipe);
 }
 
 abbrev pub mem_act : Recipe → List Tree → Acted
@@ -140,6 +200,7 @@ time_with Cat first now = now
 time_with Keep first now = unwrap_or first now
 time_with Tee first now = now
 time_with Echo first now = now
+time_with Lines first now = now
 time_with Half first now = now
 time_with Fail first now = now
 time_with Killed first now = now
@@ -152,13 +213,32 @@ logs_of template logs = if has_log template then logs else []
 abbrev pub files_at : List (List ℕ) → List ℕ → ℕ → List Change
 files_at ps bytes time = map (λ p. record { place = p; node = Regular bytes time false }) ps
 
+-- the files of the lines in the folder
+abbrev pub line_files : List ℕ → ℕ → List (List ℕ) → ℕ → List Change
+line_files folder number [] now = []
+line_files folder number (line ∷ lines) now =
+    record { place = in_folder folder (line_name number); node = Regular (line ++ 10 ∷ []) now false } ∷ line_files folder (number + 1) lines now
+
+-- the folders, and in each of them the lines
+abbrev pub folders_at : List (List ℕ) → List ℕ → ℕ → List Change
+folders_at [] bytes now = []
+folders_at (p ∷ ps) bytes now = record { place = p; node = Directory } ∷ (line_files p 1 (lines_of bytes) now ++ folders_at ps bytes now)
+
+-- the first, where there is one, and else the second
+abbrev pub or_then : Option Node → Option Node → Option Node
+or_then None m = m
+or_then (Some n) m = Some n
+
+-- what the command leaves, of these bytes
+abbrev pub left_of : Command → Recipe → List (List ℕ) → List ℕ → ℕ → ℕ → List Change
+left_of command recipe logs bytes time now =
+    folders_at (filled_of command (out_paths recipe)) bytes now
+    ++ (files_at (written_of command (out_paths recipe)) (text_of command recipe.params bytes) time ++ files_at (logs_of recipe.template logs) [] now)
+
 -- the nodes that the end of a child leaves
 abbrev pub left_by : Bool → Recipe → List (List ℕ) → Nodes → ℕ → List Change
 left_by killed recipe logs nodes now =
-    files_at (written_of (command_of killed recipe.template) (out_paths recipe))
-    (text_of (command_of killed recipe.template) recipe.params (joined_at nodes (in_paths recipe)))
-    (time_with (command_of killed recipe.template) (first_time nodes (in_paths recipe)) now)
-    ++ files_at (logs_of recipe.template logs) [] now
+    left_of (command_of killed recipe.template) recipe logs (joined_at nodes (in_paths recipe)) (time_with (command_of killed recipe.template) (first_time nodes (in_paths recipe)) now) now
 
 -- the child ended, killed or as its command does
 abbrev pub EndsAs : Bool → Ended → Option Child → Type 0

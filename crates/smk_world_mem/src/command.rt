@@ -1,6 +1,6 @@
 //! The commands of the workspace: which one a template names, its status, and what it writes.
 ghost use Rattle.std.specs.Prelude.{◌≡◌, ◌++◌, IfOk, bytes_eq, codes, OnOk};
-ghost use Rattle.smk_world_mem.specs.Act.{has_log, without_log, command_named, command_of, status_of, written_of, values_of, spaced, joined_words, line_of, text_of, time_with};
+ghost use Rattle.smk_world_mem.specs.Act.{has_log, without_log, command_named, command_of, status_of, written_of, filled_of, values_of, spaced, joined_words, line_of, text_of, time_with};
 
 use smk_base::{List, OutOfMemory, PathText, Text};
 use smk_world::Values;
@@ -17,6 +17,8 @@ pub enum Command {
     Tee,
     /// A line of the values of the parameter `text`.
     Echo,
+    /// A folder with a file for each line of the inputs.
+    Lines,
     /// The first half of the inputs, and a failure.
     Half,
     /// Nothing but a failure.
@@ -55,6 +57,8 @@ fn command_named(text: &[u8]) -> Command
         Command::Tee
     } else if text == b"echo {params.text} > {output}".as_slice() {
         Command::Echo
+    } else if text == b"lines {input} {output}".as_slice() {
+        Command::Lines
     } else if text == b"half {input} > {output}".as_slice() {
         Command::Half
     } else if text == b"fail {input}".as_slice() {
@@ -80,26 +84,46 @@ pub fn status_of(command: Command) -> u32
     ensures { result ≡ status_of command }
 {
     match command {
-        Command::Cat | Command::Keep | Command::Tee | Command::Echo => 0,
+        Command::Cat | Command::Keep | Command::Tee | Command::Echo | Command::Lines => 0,
         Command::Half | Command::Fail => 1,
         Command::Killed => 137,
         Command::Unknown => 127,
     }
 }
 
-/// The outputs that the command writes.
+/// The outputs that the command writes, as files.
 pub fn written_of(command: Command, outs: &[PathText]) -> &[PathText]
     ensures { result.now ≡ written_of command outs.now }
 {
     match command {
         Command::Tee => outs,
-        Command::Fail | Command::Unknown => &[],
+        Command::Lines | Command::Fail | Command::Unknown => &[],
         Command::Cat | Command::Keep | Command::Echo | Command::Half | Command::Killed => {
             match outs {
                 [_, ..] => &outs[..1],
                 [] => outs,
             }
         }
+    }
+}
+
+/// The outputs that the command makes folders of.
+pub fn filled_of(command: Command, outs: &[PathText]) -> &[PathText]
+    ensures { result.now ≡ filled_of command outs.now }
+{
+    match command {
+        Command::Lines => match outs {
+            [_, ..] => &outs[..1],
+            [] => outs,
+        },
+        Command::Cat
+        | Command::Keep
+        | Command::Tee
+        | Command::Echo
+        | Command::Half
+        | Command::Fail
+        | Command::Killed
+        | Command::Unknown => &[],
     }
 }
 
@@ -167,7 +191,7 @@ pub fn text_of(
             bytes.truncate(half);
             Ok(bytes)
         }
-        Command::Fail | Command::Unknown => Ok(Vec::new(alloc)),
+        Command::Lines | Command::Fail | Command::Unknown => Ok(Vec::new(alloc)),
     }
 }
 

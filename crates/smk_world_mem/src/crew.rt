@@ -1,21 +1,22 @@
 //! What the start and the end of children add.
-ghost use Rattle.std.specs.Prelude.{◌≡◌, ◌++◌, ◌∷◌, [], true, false, None, Some, ℕ, List as Items, IsErr, IfOk, OnOk, OnErr, if◌then◌else◌, not, nat_eq, map, ◌≢◌, is_some};
-ghost use Rattle.std.specs.List.{filter};
-ghost use Rattle.std.specs.Option.{option_map};
+ghost use Rattle.std.specs.Prelude.{◌≡◌, ◌++◌, ◌∷◌, [], true, false, None, ℕ, List as Items, IsErr, IfOk, OnOk, OnErr, if◌then◌else◌, ◌≢◌, is_some};
 ghost use Rattle.smk_world.specs.declared.event.Call.TheVariants.{Started, Waited};
-ghost use Rattle.smk_world.specs.declared.event.Node.TheVariants.{Regular};
-ghost use Rattle.smk_world.specs.World.{children_after, is_within, is_named, standing, out_paths, in_paths, owned_paths, child_numbered};
+ghost use Rattle.smk_world.specs.World.{children_after, is_within, standing, in_paths, owned_paths, child_numbered};
 ghost use Rattle.smk_world.specs.Folders.{AreInFolders};
 ghost use Rattle.smk_world_nodes.specs.Nodes.{node_at};
 ghost use Rattle.smk_world_nodes.specs.Steps.{AllApart};
 ghost use Rattle.smk_world_nodes.specs.declared.step.Step.TheVariants.{Happened};
-ghost use Rattle.smk_world_mem.specs.Act.{bytes_of, joined_at, first_time, files_at, logs_of, left_by, EndsAs};
+ghost use Rattle.smk_world_mem.specs.Act.{bytes_of, joined_at, first_time, files_at, logs_of, left_of, left_by, or_then, EndsAs};
 ghost use Rattle.smk_world_mem.specs.Adds.{AddsIf};
 
 use crate::calls::{add, add_standing};
-use crate::command::{command_of, has_log, status_of, text_of, time_with, written_of};
+use crate::command::{
+    Command, command_of, filled_of, has_log, status_of, text_of, time_with, written_of,
+};
+use crate::lines::push_folders;
 use smk_base::{Bytes, Copied, List, OutOfMemory, PathText, Place, Text};
-use smk_world::{Call, Change, Child, Ended, Failed, Node, Out, Recipe};
+use smk_world::{Call, Change, Child, Ended, Failed, Node, Recipe};
+use smk_world_crash::{copy_node, find, others, outputs};
 use smk_world_nodes::{Nodes, Step, new_file};
 use std::alloc::Global;
 
@@ -67,32 +68,6 @@ pub fn start(
     Ok(Ok(next))
 }
 
-// The children with other numbers.
-fn others(alloc: Global, children: &List<Child>, number: u64) -> Result<List<Child>, OutOfMemory>
-    ensures { IfOk result (λ left. left ≡ filter (λ c. not (nat_eq c.number number)) children.now) }
-{
-    let mut left = List::new(alloc);
-    for child in children.as_slice() {
-        if child.number != number {
-            left.push(Child {
-                number: child.number,
-                recipe: child.recipe.copied(alloc)?,
-                logs: child.logs.copied(alloc)?,
-            })?;
-        }
-    }
-    Ok(left)
-}
-
-fn push_outs(alloc: Global, paths: &mut List<PathText>, outs: &List<Out>) -> Result<(), OutOfMemory>
-    ensures { OnOk result (paths.new ≡ paths.old ++ map (λ out. out.path) outs.now) }
-{
-    for out in outs.as_slice() {
-        paths.push(out.path.copied(alloc)?)?;
-    }
-    Ok(())
-}
-
 fn push_paths(
     alloc: Global,
     paths: &mut List<PathText>,
@@ -104,17 +79,6 @@ fn push_paths(
         paths.push(path.copied(alloc)?)?;
     }
     Ok(())
-}
-
-// The paths of the outputs.
-fn outputs(alloc: Global, recipe: &Recipe) -> Result<List<PathText>, OutOfMemory>
-    ensures { IfOk result (λ paths. paths ≡ out_paths recipe.now) }
-{
-    let mut paths = List::new(alloc);
-    for item in recipe.outputs.as_slice() {
-        push_outs(alloc, &mut paths, &item.outs)?;
-    }
-    Ok(paths)
 }
 
 // The paths of the inputs.
@@ -161,26 +125,6 @@ fn first_time(nodes: &Nodes, paths: &[PathText]) -> Option<u64>
     }
 }
 
-// Writes the file at each of the paths.
-fn write_each(
-    alloc: Global,
-    nodes: &mut Nodes,
-    paths: &[PathText],
-    bytes: &[u8],
-    time: u64,
-) -> Result<(), OutOfMemory>
-    ensures { OnOk result ((q : Items ℕ) → node_at nodes.new q ≡ (if is_named q paths.now then Some (Regular bytes.now time false) else node_at nodes.old q)) }
-{
-    for path in paths {
-        nodes.set(
-            alloc,
-            path.as_str(),
-            new_file(Bytes::of(alloc, bytes)?, time),
-        )?;
-    }
-    Ok(())
-}
-
 // Lists the file at each of the paths.
 fn list_each(
     alloc: Global,
@@ -211,25 +155,63 @@ fn logs_of<'a>(template: &str, logs: &'a [PathText]) -> &'a [PathText]
     }
 }
 
-// The files that the end of the child leaves: what the command wrote, and its logs.
-fn leave(
+// What the command leaves, of these bytes.
+fn left_of(
     alloc: Global,
-    nodes: &mut Nodes,
-    files: &[PathText],
-    text: &[u8],
+    command: Command,
+    child: &Child,
+    bytes: Vec<u8>,
     time: u64,
-    logs: &[PathText],
     now: u64,
 ) -> Result<List<Change>, OutOfMemory>
-    ensures left { IfOk result (λ left. left ≡ files_at files.now text.now time ++ files_at logs.now [] now) }
-    ensures nodes { OnOk result ((q : Items ℕ) → node_at nodes.new q ≡ (if is_named q files.now then Some (Regular text.now time false) else (if is_named q logs.now then Some (Regular [] now false) else node_at nodes.old q))) }
+    ensures { IfOk result (λ left. left ≡ left_of command child.now.recipe child.now.logs bytes.items time now) }
 {
+    let outs = outputs(alloc, &child.recipe)?;
+    let logs = logs_of(child.recipe.template.as_str(), child.logs.as_slice());
+    let folders = filled_of(command, outs.as_slice());
+    let files = written_of(command, outs.as_slice());
     let mut left = List::new(alloc);
-    list_each(alloc, &mut left, files, text, time)?;
+    push_folders(alloc, &mut left, folders, bytes.as_slice(), now)?;
+    let text = text_of(alloc, command, &child.recipe.params, bytes)?;
+    list_each(alloc, &mut left, files, text.as_slice(), time)?;
     list_each(alloc, &mut left, logs, &[], now)?;
-    write_each(alloc, nodes, logs, &[], now)?;
-    write_each(alloc, nodes, files, text, time)?;
     Ok(left)
+}
+
+// Puts the node there, unless something is there.
+fn put_missing(alloc: Global, nodes: &mut Nodes, change: &Change) -> Result<(), OutOfMemory>
+    ensures { OnOk result ((q : Items ℕ) → node_at nodes.new q ≡ or_then (node_at nodes.old q) (standing (change.now ∷ []) q)) }
+{
+    if nodes.get(change.place.as_str()).is_none() {
+        nodes.set(
+            alloc,
+            change.place.as_str(),
+            copy_node(alloc, &change.node)?,
+        )?;
+    }
+    Ok(())
+}
+
+// Puts each of them, unless something is there.
+fn put_each(alloc: Global, nodes: &mut Nodes, left: &[Change]) -> Result<(), OutOfMemory>
+    ensures { OnOk result ((q : Items ℕ) → node_at nodes.new q ≡ or_then (node_at nodes.old q) (standing left.now q)) }
+{
+    let mut rest = left;
+    while let [change, more @ ..] = rest {
+        put_missing(alloc, nodes, change)?;
+        rest = more;
+    }
+    Ok(())
+}
+
+// Removes what the child owns.
+fn remove_owned(alloc: Global, nodes: &mut Nodes, child: &Child) -> Result<(), OutOfMemory>
+    ensures { OnOk result ((q : Items ℕ) → node_at nodes.new q ≡ (if is_within q (owned_paths child.now.recipe child.now.logs) then None else node_at nodes.old q)) }
+{
+    let outs = outputs(alloc, &child.recipe)?;
+    nodes.remove_trees(alloc, outs.as_slice())?;
+    nodes.remove_trees(alloc, child.logs.as_slice())?;
+    Ok(())
 }
 
 // What the end of the child leaves.
@@ -243,31 +225,14 @@ fn end(
     ensures left { IfOk result (λ left. left ≡ left_by killed child.now.recipe child.now.logs nodes.old now) }
     ensures nodes { IfOk result (λ left. (q : Items ℕ) → node_at nodes.new q ≡ (if is_within q (owned_paths child.now.recipe child.now.logs) then standing left q else node_at nodes.old q)) }
 {
-    let outs = outputs(alloc, &child.recipe)?;
     let ins = inputs(alloc, &child.recipe)?;
     let command = command_of(child.recipe.template.as_str(), killed);
     let bytes = joined(alloc, nodes, ins.as_slice())?;
-    let text = text_of(alloc, command, &child.recipe.params, bytes)?;
     let time = time_with(command, first_time(nodes, ins.as_slice()), now);
-    let files = written_of(command, outs.as_slice());
-    let logs = logs_of(child.recipe.template.as_str(), child.logs.as_slice());
-    nodes.remove_trees(alloc, outs.as_slice())?;
-    nodes.remove_trees(alloc, child.logs.as_slice())?;
-    leave(alloc, nodes, files, text.as_slice(), time, logs, now)
-}
-
-/// The child of this number.
-pub fn find(children: &[Child], number: u64) -> Option<&Child>
-    ensures { option_map (λ c. c.now) result ≡ child_numbered number children.now }
-{
-    let mut rest = children;
-    while let [child, more @ ..] = rest {
-        if child.number == number {
-            return Some(child);
-        }
-        rest = more;
-    }
-    None
+    let left = left_of(alloc, command, child, bytes, time, now)?;
+    remove_owned(alloc, nodes, child)?;
+    put_each(alloc, nodes, left.as_slice())?;
+    Ok(left)
 }
 
 /// The child that ends next: the first in this order that runs, or else the one that was started first.

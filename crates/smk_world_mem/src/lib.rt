@@ -5,6 +5,7 @@ mod answers;
 mod calls;
 mod command;
 mod crew;
+mod lines;
 mod sink;
 mod work;
 

@@ -12,6 +12,7 @@ use crate::answers::{bumped, is_failing};
 use crate::{calls, crew};
 use smk_base::{List, OutOfMemory, PathText, Place};
 use smk_world::{Child, Crew, Ended, Failed, Files, Found, Listing, Node, Recipe, Stat, WorkFault};
+use smk_world_crash::{Choice, Remains, left};
 use smk_world_nodes::{Nodes, Step, put_firmly, take_firmly};
 use std::alloc::Global;
 
@@ -61,7 +62,7 @@ fn tells_on(told: bool, nodes: &Nodes) -> bool
 }
 
 impl MemWork {
-    ghost use Rattle.std.specs.Prelude.{◌+◌, ◌-◌, ◌^◌, ◌<◌, ◌≤◌, ◌↔◌, IsTrue, OnOk, OnErr, Option, length, false};
+    ghost use Rattle.std.specs.Prelude.{◌+◌, ◌-◌, ◌^◌, ◌<◌, ◌≤◌, ◌↔◌, IsTrue, IfOk, OnOk, OnErr, Option, None, length, false};
     ghost use Rattle.std.specs.Option.{option_map};
     ghost use Rattle.smk_world.specs.declared.event.Node.{Node};
     ghost use Rattle.smk_world.specs.declared.event.Node.TheVariants.{Regular};
@@ -69,6 +70,7 @@ impl MemWork {
     ghost use Rattle.smk_world.specs.Calls.{Reads, started_numbers};
     ghost use Rattle.smk_world_nodes.specs.Steps.{step_world};
     ghost use Rattle.smk_world_nodes.specs.declared.step.Step.TheVariants.{Put, Gone};
+    ghost use Rattle.smk_world_crash.specs.Crash.{CrashOf, LeadTo};
     ghost use Rattle.smk_world_mem.specs.Setup.{failing_calls, killed_ends};
     ghost use Rattle.smk_world_mem.specs.Work.{world_in, faults_in, setup_in, running_in, IsAtRest, IsStepFrom, file_bytes};
 
@@ -125,6 +127,49 @@ impl MemWork {
             Ok(()) => self.told = tells_on(self.told, &self.nodes),
             Err(_) => self.told = false,
         }
+    }
+
+    // The workspace with what a crash has left, told or not.
+    fn gone_on(alloc: Global, image: Remains, told: bool, latest: u64) -> MemWork
+        requires { told ≡ true → LeadTo image.steps image.nodes }
+        ensures world { world_in result ≡ told_world told image.steps }
+        ensures faults { faults_in result ≡ 0 }
+        ensures setup { setup_in result ≡ record { failing = []; stop_after = None; order = []; killed = [] } }
+    {
+        MemWork {
+            alloc,
+            nodes: image.nodes,
+            steps: image.steps,
+            told,
+            faults: 0,
+            calls: 0,
+            failing: List::new(alloc),
+            stop_after: None,
+            order: List::new(alloc),
+            killed: List::new(alloc),
+            latest,
+            children: List::new(alloc),
+            next: 1,
+        }
+    }
+
+    /// What a crash may leave of the workspace now, as one that goes on: no child runs, each node is firm, no call has been made and none is to fail.
+    /// The choice says which of the images that it may leave (`Choice`): the least, what reads now, or a mixture that is made to do harm.
+    /// Where the image isn't a tree, or has a place that no user's path and no place of the engine's names, its world isn't told.
+    /// (Each step goes over all places, as each changing call of this device goes over all nodes: a crash costs about what the run before it did.)
+    pub fn crashed(&self, choice: Choice) -> Result<MemWork, OutOfMemory>
+        ensures world { IfOk result (λ crashed. (v : World) → world_in crashed ≡ Some v → CrashOf choice (world_in self.now) v) }
+        ensures faults { IfOk result (λ crashed. faults_in crashed ≡ 0) }
+        ensures setup { IfOk result (λ crashed. setup_in crashed ≡ record { failing = []; stop_after = None; order = []; killed = [] }) }
+    {
+        let image = left(
+            self.alloc,
+            choice,
+            self.children.as_slice(),
+            self.steps.as_slice(),
+        )?;
+        let told = self.told && image.whole;
+        Ok(MemWork::gone_on(self.alloc, image, told, self.latest))
     }
 
     /// The bytes of the file there. Of what a running child owns nothing is said.

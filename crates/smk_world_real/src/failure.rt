@@ -17,6 +17,8 @@ pub enum CallKind {
     Create,
     /// `Files::remove`
     Remove,
+    /// `Files::remove` of a lock that another run left
+    Unlock,
     /// `Files::make_parents`
     MakeParents,
     /// `Files::settle`
@@ -39,6 +41,7 @@ impl CallKind {
             CallKind::Write => "write",
             CallKind::Create => "create",
             CallKind::Remove => "remove",
+            CallKind::Unlock => "remove the lock before the end of",
             CallKind::MakeParents => "make the folders above",
             CallKind::Settle => "sync",
             CallKind::Protect => "write-protect",

@@ -5,6 +5,7 @@ mod children;
 mod failure;
 mod fault;
 mod files;
+mod outlived;
 mod progress;
 mod settle;
 mod sink;

@@ -1,4 +1,4 @@
-ghost use Rattle.std.specs.Prelude.{◌≡◌, ◌<◌, ◌↔◌, [], map, option_map, All, None, IsSome};
+ghost use Rattle.std.specs.Prelude.{◌≡◌, ◌<◌, ◌↔◌, ◌++◌, ◌∷◌, [], map, option_map, All, None, IsSome, OnOk, OnErr};
 ghost use Rattle.smk_world_real.specs.Act.{unknown_act};
 ghost use Rattle.smk_world_real.specs.Untold.{untold_sound};
 
@@ -6,7 +6,7 @@ use crate::children::Running;
 use crate::failure::{CallKind, Failure};
 use crate::fault::{Fault, Faults};
 use crate::settle::Firm;
-use crate::{children, files, settle};
+use crate::{children, files, outlived, settle};
 use smk_base::{List, PathText, Place};
 use smk_world::{Crew, Ended, Failed, Files, Found, Listing, Recipe, Stat, WorkFault};
 use std::alloc::Global;
@@ -14,6 +14,9 @@ use std::io::Error;
 use std::process::Processes;
 use std::rt::Files as FileSystem;
 use std::time::Clock;
+
+// The place of the lock.
+const LOCK: &str = ".snakemake/smk/lock";
 
 /// The working folder, and shells that run in it. It tells nothing of what files hold.
 #[derive(Drop)]
@@ -24,6 +27,8 @@ pub struct RealWork<R: FileSystem + Processes + Clock> {
     next: u64,
     faults: Faults,
     firm: Firm,
+    /// Whether the lock that stands is one that it made.
+    has_lock: bool,
     ghost older: { All (λ n. n < next) (map (λ c. c.number) children.items) },
 }
 
@@ -40,6 +45,7 @@ impl<R: FileSystem + Processes + Clock> RealWork<R> {
             next: 1,
             faults: Faults::none(),
             firm: Firm::new(alloc),
+            has_lock: false,
         }
     }
 
@@ -49,6 +55,30 @@ impl<R: FileSystem + Processes + Clock> RealWork<R> {
         ensures known { IsSome result ↔ (0 < self.now.faults.count) }
     {
         self.faults.first()
+    }
+}
+
+// Starts the command in a shell of this number, whose environment tells of the working folder.
+fn start<R: FileSystem + Processes>(
+    system: &R,
+    alloc: Global,
+    children: &mut Vec<Running<R::Started>>,
+    number: u64,
+    command: &str,
+) -> Result<(), Fault>
+    ensures ok { OnOk result (map (λ c. c.number) children.new.items ≡ map (λ c. c.number) children.old.items ++ number ∷ []) }
+    ensures err { OnErr result (map (λ c. c.number) children.new.items ≡ map (λ c. c.number) children.old.items) }
+{
+    let folder = outlived::folder_word(system, alloc)?;
+    children::start(system, alloc, children, number, folder.as_str(), command)
+}
+
+// Fails where the lock stands and a command goes on.
+fn check_lock<R: FileSystem + Clock>(system: &R, alloc: Global) -> Result<(), Fault> {
+    match files::stat(system, LOCK)? {
+        Stat::Nothing => Ok(()),
+        Stat::File { .. } => outlived::fail_while_one_goes_on(system, alloc),
+        Stat::Folder => outlived::fail_while_one_goes_on(system, alloc),
     }
 }
 
@@ -108,11 +138,20 @@ impl<R: FileSystem + Processes + Clock> Files for RealWork<R> {
 
     fn create_new(&mut self, p: &Place) -> Result<bool, Failed> {
         let answer = files::create_new(&self.system, p.as_str());
+        if p.as_str() == LOCK && matches!(answer, Ok(true)) {
+            self.has_lock = true;
+        }
         self.faults
             .counted(self.alloc, CallKind::Create, p.as_str(), answer)
     }
 
     fn remove(&mut self, p: &Place) -> Result<(), Failed> {
+        if p.as_str() == LOCK && !self.has_lock {
+            // A lock that another run left stays while a command of that run goes on.
+            let answer = check_lock(&self.system, self.alloc);
+            self.faults
+                .counted(self.alloc, CallKind::Unlock, p.as_str(), answer)?;
+        }
         let answer = files::remove(&self.system, self.alloc, p.as_str());
         self.faults
             .counted(self.alloc, CallKind::Remove, p.as_str(), answer)
@@ -154,7 +193,7 @@ impl<R: FileSystem + Processes + Clock> Crew for RealWork<R> {
                 .counted(self.alloc, CallKind::Start, path, Err(last));
         }
         let (system, children) = (&self.system, &mut self.children);
-        match children::start(system, self.alloc, children, number, command) {
+        match start(system, self.alloc, children, number, command) {
             Ok(()) => {
                 self.next = number + 1;
                 Ok(number)

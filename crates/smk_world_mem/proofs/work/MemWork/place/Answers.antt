@@ -1,5 +1,5 @@
 use Rattle.smk_world.specs.declared.event.Node.TheVariants.{Regular}
-use Rattle.std.proofs.Common.{rules, false}
+use Rattle.std.proofs.Common.{false}
 use Rattle.smk_world_nodes.specs.declared.step.Step.TheVariants.{Put}
 use Rattle.smk_world_nodes.proofs.Replay.{agrees_put, orderly_put, stepped_from, world_kept}
 use Rattle.smk_world_mem.proofs.Causes.{caused_step, log_put}

@@ -1,4 +1,3 @@
-use Rattle.std.proofs.Common.{rules}
 use Rattle.smk_world_nodes.specs.declared.step.Step.TheVariants.{Gone}
 use Rattle.smk_world_nodes.proofs.Replay.{agrees_gone, orderly_gone, stepped_from}
 use Rattle.smk_world_mem.proofs.Causes.{caused_step, log_gone}

@@ -1,4 +1,4 @@
-use Rattle.std.proofs.Common.{rules, refl}
+use Rattle.std.proofs.Common.{refl}
 use Rattle.smk_world_mem.proofs.Mem.{agrees_after, orderly_after, called_after, failed_err}
 use Rattle.smk_world_mem.proofs.Causes.{caused_files}
 use Rattle.smk_world_mem.proofs.work.MemWorkFiles.list.Goals as goal

@@ -1,5 +1,0 @@
-use Rattle.std.proofs.Common.{◌≡◌, ◌++◌, take, map}
-use Rattle.smk_world_mem.proofs.crew.push_outs.Given as goal
-
-abbrev pub invariant-loop-out : goal.invariant-loop-out
-invariant-loop-out l = l.paths ≡ l.fn.paths ++ map (λ out. out.path) (take l.out-index l.out-items)
